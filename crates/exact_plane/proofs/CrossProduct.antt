@@ -1,0 +1,45 @@
+-- The cross product of two small vectors fits 64 bits, and so does all on the way to it.
+use Rattle.std.proofs.Common.{◌≡◌, ◌∙◌, ◌<◌, ◌^◌, ℤ, ◌*ℤ◌, ◌-ℤ◌, arith, w64}
+use Rattle.std.proofs.lemmas.Int.{ints, to_z-of_z, unsigned_abs-mul}
+use Rattle.std.proofs.lemmas.Nat.{mul-lt}
+use Rattle.std.specs.Prelude.{FitsSigned, unsigned_abs}
+use Rattle.exact_plane.proofs.Registers.{read}
+use Rattle.plane.proofs.Determinants.{determinant_of_whole}
+
+module _ (a b : ℤ) (small_a : unsigned_abs a < 2 ^ 24) (small_b : unsigned_abs b < 2 ^ 24) where
+  -- the size of a product of small numbers
+  product_size : unsigned_abs (a *ℤ b) < 2 ^ 48
+  product_size = rw unsigned_abs-mul (mul-lt _ _ (2 ^ 24) (2 ^ 24) small_a small_b)
+
+  -- so it fits
+  pub product_fits : FitsSigned w64 (read a *ℤ read b)
+  product_fits =
+      let fits_a : FitsSigned w64 a = omega (arith, ints) in
+      let fits_b : FitsSigned w64 b = omega (arith, ints) in
+      simp to_z-of_z (omega (arith, ints, product_size))
+
+  -- and is computed as it is
+  product_read : read (read a *ℤ read b) ≡ a *ℤ b
+  product_read =
+      let fits_a : FitsSigned w64 a = omega (arith, ints) in
+      let fits_b : FitsSigned w64 b = omega (arith, ints) in
+      to_z-of_z w64 _ product_fits ∙ simp to_z-of_z
+
+module _ (a b c d : ℤ)
+    (small_a : unsigned_abs a < 2 ^ 24) (small_b : unsigned_abs b < 2 ^ 24) (small_c : unsigned_abs c < 2 ^ 24) (small_d : unsigned_abs d < 2 ^ 24) where
+  -- a difference of two such products fits
+  pub difference_fits : FitsSigned w64 (read (read a *ℤ read b) -ℤ read (read c *ℤ read d))
+  difference_fits =
+      let left = product_size a b small_a small_b in
+      let right = product_size c d small_c small_d in
+      rw (product_read a b small_a small_b, product_read c d small_c small_d) (omega (arith, ints))
+
+  -- and is computed as it is
+  pub difference_read : read (read (read a *ℤ read b) -ℤ read (read c *ℤ read d)) ≡ a *ℤ b -ℤ c *ℤ d
+  difference_read = to_z-of_z w64 _ difference_fits ∙ (λ i. product_read a b small_a small_b i -ℤ product_read c d small_c small_d i)
+
+-- all that the product of two vectors needs
+pub ruleset cross_product = (product_fits, difference_fits, difference_read)
+
+-- the cross product of the ways from a point to two others is the determinant of the three
+pub ruleset cross_is_determinant = (determinant_of_whole, to_z-of_z)

@@ -1,0 +1,47 @@
+-- A direction tells the sign that it comes from.
+use Rattle.std.proofs.Common.{◌≡◌, ◌≢◌, inl, inr, zero, suc, ℤ, pos, negsuc, ◌<ℤ◌, refl, sym, ap, ◌∙◌, arith}
+use Rattle.std.proofs.lemmas.Int.{ints}
+use Rattle.plane.proofs.OneSign.{OneSign}
+use Rattle.exact_plane.specs.Direction.{direction_of}
+use Rattle.exact_plane.specs.declared.direction.Direction.TheVariants.{Left, Right, Straight}
+
+-- straight is zero
+pub zero_of_straight : (z : ℤ) → direction_of z ≡ Straight → z ≡ pos 0
+zero_of_straight (pos zero) e = refl
+zero_of_straight (pos (suc n)) e = cc
+zero_of_straight (negsuc n) e = cc
+
+-- and zero is straight
+pub straight_of_zero : (z : ℤ) → z ≡ pos 0 → direction_of z ≡ Straight
+straight_of_zero z e = ap direction_of e
+
+-- two numbers of one direction have one sign, unless it is straight
+pub one_sign_of_direction : (x y : ℤ) → direction_of y ≡ direction_of x → direction_of x ≢ Straight → OneSign x y
+one_sign_of_direction (pos zero) y e turns = absurd (turns refl)
+one_sign_of_direction (pos (suc m)) (pos zero) e turns = cc
+one_sign_of_direction (pos (suc m)) (pos (suc n)) e turns = inl (omega (arith, ints), omega (arith, ints))
+one_sign_of_direction (pos (suc m)) (negsuc n) e turns = cc
+one_sign_of_direction (negsuc m) (pos zero) e turns = cc
+one_sign_of_direction (negsuc m) (pos (suc n)) e turns = cc
+one_sign_of_direction (negsuc m) (negsuc n) e turns = inr (omega (arith, ints), omega (arith, ints))
+
+-- a positive number is to the left
+left_of_positive : (z : ℤ) → pos 0 <ℤ z → direction_of z ≡ Left
+left_of_positive (pos zero) h = absurd (omega (arith, ints))
+left_of_positive (pos (suc n)) h = refl
+left_of_positive (negsuc n) h = absurd (omega (arith, ints))
+
+-- a negative one is to the right
+right_of_negative : (z : ℤ) → z <ℤ pos 0 → direction_of z ≡ Right
+right_of_negative (pos n) h = absurd (omega (arith, ints))
+right_of_negative (negsuc n) h = refl
+
+-- two numbers of one sign have one direction
+pub direction_of_one_sign : (x y : ℤ) → OneSign x y → direction_of y ≡ direction_of x
+direction_of_one_sign x y (inl h) = left_of_positive y h.1 ∙ sym (left_of_positive x h.0)
+direction_of_one_sign x y (inr h) = right_of_negative y h.1 ∙ sym (right_of_negative x h.0)
+
+-- zero is of no sign
+pub zero_has_no_sign : (x y : ℤ) → x ≡ pos 0 → ¬ (OneSign x y)
+zero_has_no_sign x y e (inl h) = omega (arith, ints, e, h.0)
+zero_has_no_sign x y e (inr h) = omega (arith, ints, e, h.0)

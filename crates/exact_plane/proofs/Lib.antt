@@ -1,0 +1,4 @@
+mod CrossProduct
+pub mod Directions
+mod Intervals
+mod Registers

@@ -1,0 +1,25 @@
+use Rattle.std.proofs.Common.{◌≡◌, ap, arith}
+use Rattle.std.proofs.lemmas.Int.{ints}
+use Rattle.plane.specs.Point.{IsInBounds, Point}
+use Rattle.exact_plane.proofs.Registers.{read}
+use Rattle.exact_plane.specs.declared.pt.Pt.TheInside.{Inside}
+use Rattle.exact_plane.proofs.pt.Pt.boxes_meet.Goals as goal
+
+-- the coordinates of a point, as they are read from its fields
+passes : (p : Inside) (q : Point) → IsInBounds (record { x = p.x; y = p.y }) → (record { x = p.x; y = p.y }) ≡ q → (read p.x ≡ q.x) × (read p.y ≡ q.y)
+passes p q bounds view_is =
+    let x : p.x ≡ q.x = ap (λ (p : Point). p.x) view_is in
+    let y : p.y ≡ q.y = ap (λ (p : Point). p.y) view_is in
+    let x_in_limit = bounds.x_in_limit in
+    let y_in_limit = bounds.y_in_limit in
+    (omega (arith, ints), omega (arith, ints))
+
+pub returns-then-intervals_meet : goal.returns-then-intervals_meet
+returns-then-intervals_meet c =
+    let s = passes c.self.inside c.args.self.now c.self.invariant c.self.view_is in
+    let b = passes c.b.inside c.args.b.now c.b.invariant c.b.view_is in
+    let x = passes c.c.inside c.args.c.now c.c.invariant c.c.view_is in
+    let y = passes c.d.inside c.args.d.now c.d.invariant c.d.view_is in
+    let in_x = rw (s.0, b.0, x.0, y.0) at c.intervals_meet.ensures in
+    let in_y = rw (s.1, b.1, x.1, y.1) at c.intervals_meet-then-intervals_meet.ensures in
+    (λ h. record { in_x = in_x.0 c.if-intervals_meet.true; in_y = in_y.0 h }, λ meet. in_y.1 meet.in_y)

@@ -1,0 +1,18 @@
+//! Exact predicates on points with whole-number coordinates. Each question about coordinates takes a step, and no
+//! coordinate leaves this crate but by `Pt::parts`.
+#![tactic(auto)]
+
+mod direction;
+mod memory;
+mod pt;
+mod segments;
+mod steps;
+#[cfg(test)]
+mod tests;
+mod vector;
+
+pub use direction::{Direction, turn};
+pub use memory::Memory;
+pub use pt::{COORDINATE_LIMIT, Pt, order};
+pub use segments::{meet_only_at, on_segment, segments_meet};
+pub use steps::Steps;

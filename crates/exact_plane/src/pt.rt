@@ -1,0 +1,103 @@
+ghost use Rattle.std.specs.Prelude.{◌≡◌, ◌+◌, ◌-ℤ◌, ◌↔◌, IsNone, IsSome, IsTrue, IfSome};
+ghost use Rattle.plane.specs.Box.{BoxesMeet, IntervalsMeet};
+ghost use Rattle.plane.specs.Order.{IsBefore};
+ghost use Rattle.plane.specs.Point.{IsInBounds, IsInLimit};
+
+use crate::steps::Steps;
+use crate::vector::Vector;
+use std::cmp::Ordering;
+use std::marker::Model;
+use std::sync::ledger::Ledger;
+
+/// The greatest size of a coordinate.
+pub const COORDINATE_LIMIT: i64 = 1_000_000;
+
+/// A point with whole-number coordinates, each from -1,000,000 to 1,000,000: x to the right, y upward. It is asked
+/// about only by calls that take a step.
+#[derive(Clone, Copy)]
+pub struct Pt {
+    x: i64,
+    y: i64,
+}
+
+impl Model for Pt {
+    ghost use Rattle.std.specs.Prelude.{ℤ};
+    ghost use Rattle.plane.specs.Point.{Point, IsInBounds};
+
+    ghost Value = { Point };
+
+    ghost view = { λ p. record { x = p.x; y = p.y } };
+
+    ghost invariant = { λ p. IsInBounds (record { x = p.x; y = p.y }) };
+
+    ghost inverse = { λ p. record { x = p.x; y = p.y } };
+}
+
+impl Pt {
+    /// The point, or `None` where a coordinate passes the limit. It takes no step.
+    pub fn of(x: i64, y: i64) -> Option<Pt>
+        ensures bounds { IsSome result ↔ (IsInLimit x × IsInLimit y) }
+        ensures point { IfSome result (λ p. p ≡ record { x = x; y = y }) }
+    {
+        if is_in_limit(x) && is_in_limit(y) {
+            Some(Pt { x, y })
+        } else {
+            None
+        }
+    }
+
+    /// The coordinates x and y. To hand them out is dear: it takes 64 steps.
+    pub fn parts<L: Ledger>(&self, steps: &mut Steps<L>) -> (i64, i64)
+        ensures x { result.0 ≡ self.now.x }
+        ensures y { result.1 ≡ self.now.y }
+        ensures bounds { IsInBounds self.now }
+        ensures steps { steps.new ≡ steps.old + 64 }
+    {
+        steps.add(64);
+        (self.x, self.y)
+    }
+}
+
+impl Pt {
+    // The way to another point.
+    pub(crate) fn to(&self, other: &Pt) -> Vector
+        ensures x { result.x ≡ other.now.x -ℤ self.now.x }
+        ensures y { result.y ≡ other.now.y -ℤ self.now.y }
+    {
+        Vector {
+            x: other.x - self.x,
+            y: other.y - self.y,
+        }
+    }
+
+    // Whether the bounding box with these two corners shares a point with that of the other two.
+    pub(crate) fn boxes_meet(&self, b: &Pt, c: &Pt, d: &Pt) -> bool
+        ensures { IsTrue result ↔ BoxesMeet self.now b.now c.now d.now }
+    {
+        intervals_meet(self.x, b.x, c.x, d.x) && intervals_meet(self.y, b.y, c.y, d.y)
+    }
+}
+
+// Whether the interval between two numbers shares a number with that between two others.
+fn intervals_meet(a: i64, b: i64, c: i64, d: i64) -> bool
+    ensures { IsTrue result ↔ IntervalsMeet a b c d }
+{
+    a.min(b) <= c.max(d) && c.min(d) <= a.max(b)
+}
+
+fn is_in_limit(z: i64) -> bool
+    ensures { IsTrue result ↔ IsInLimit z }
+{
+    -COORDINATE_LIMIT <= z && z <= COORDINATE_LIMIT
+}
+
+/// Compares x, then y. It takes one step.
+pub fn order<L: Ledger>(a: &Pt, b: &Pt, steps: &mut Steps<L>) -> Ordering
+    ensures less { (result ≡ Ordering.Less) ↔ IsBefore a.now b.now }
+    ensures equal { (result ≡ Ordering.Equal) ↔ (a.now ≡ b.now) }
+    ensures greater { (result ≡ Ordering.Greater) ↔ IsBefore b.now a.now }
+    ensures steps { steps.new ≡ steps.old + 1 }
+{
+    steps.tick();
+    a.x.cmp(&b.x).then(a.y.cmp(&b.y))
+}

@@ -1,0 +1,182 @@
+ghost use Rattle.std.specs.Prelude.{◌≡◌, ◌<◌};
+
+use crate::{Direction, Pt, Steps, meet_only_at, on_segment, order, segments_meet, turn};
+use std::cmp::Ordering;
+use std::marker::Brand;
+use std::process::Abort;
+use std::sync::ledger::{Blank, Ledger};
+
+const A: i64 = 1_000_000;
+
+type At = (i64, i64);
+
+#[rattlefmt::skip]
+const LIMITS: [(&str, i64, i64, bool); 10] = [
+    ("the origin", 0, 0, true),
+    ("a corner at the limit", A, A, true),
+    ("the opposite corner", -A, -A, true),
+    ("x one past the limit", A + 1, 0, false),
+    ("x one before the limit", -A - 1, 0, false),
+    ("y one past the limit", 0, A + 1, false),
+    ("y one before the limit", 0, -A - 1, false),
+    ("the greatest numbers", i64::MAX, i64::MAX, false),
+    ("the least x", i64::MIN, 0, false),
+    ("the least y", 0, i64::MIN, false),
+];
+
+#[test]
+fn limits(rt: HostRuntime) {
+    for (name, x, y, want) in LIMITS {
+        assert_eq!(rt; Pt::of(x, y).is_some(), want, "{name}");
+    }
+}
+
+#[test]
+fn predicates(rt: HostRuntime) {
+    all_tables::<Brand, _>(&rt, Blank::new(1));
+}
+
+// Every table, with a counter over a ledger that nobody else counts in.
+fn all_tables<L: Ledger, R: Abort>(rt: &R, blank: Blank)
+    requires name { blank.name ≡ L.name }
+    requires parts { blank.parts ≡ L.parts }
+    requires countable { 0 < blank.parts }
+{
+    let mut steps = Steps::<L>::new(blank);
+    coordinates(rt, &mut steps);
+    turns(rt, &mut steps);
+    orders(rt, &mut steps);
+    points_on_segments(rt, &mut steps);
+    common_ends(rt, &mut steps);
+    meetings(rt, &mut steps);
+}
+
+fn at<R: Abort>(rt: &R, (x, y): At) -> Pt {
+    Pt::of(x, y).expect(rt, "within the limit")
+}
+
+fn coordinates<L: Ledger, R: Abort>(rt: &R, steps: &mut Steps<L>) {
+    for (x, y) in [(3, -4), (A, -A), (-A, A)] {
+        assert_eq!(rt; at(rt, (x, y)).parts(steps), (x, y));
+    }
+}
+
+#[rattlefmt::skip]
+const TURNS: [(&str, At, At, At, Direction); 8] = [
+    ("upward", (0, 0), (2, 0), (2, 1), Direction::Left),
+    ("downward", (0, 0), (2, 0), (2, -1), Direction::Right),
+    ("back", (0, 0), (2, 2), (1, 1), Direction::Straight),
+    ("from one point", (3, 4), (3, 4), (5, 9), Direction::Straight),
+    ("on, where rounding bends", (0, 0), (10_000, 21_082), (30_000, 63_246), Direction::Straight),
+    ("the widest left", (-A, -A), (A, -A), (-A, A), Direction::Left),
+    ("the narrowest right", (-A, -A), (A, A), (A, A - 1), Direction::Right),
+    ("the longest line", (-A, -A), (0, 0), (A, A), Direction::Straight),
+];
+
+fn turns<L: Ledger, R: Abort>(rt: &R, steps: &mut Steps<L>) {
+    for (name, a, b, c, want) in TURNS {
+        assert_eq!(rt;
+            turn(&at(rt, a), &at(rt, b), &at(rt, c), steps),
+            want,
+            "{name}"
+        );
+    }
+}
+
+#[rattlefmt::skip]
+const ORDERS: [(&str, At, At, Ordering); 5] = [
+    ("farther left, and higher", (-A, A), (A, -A), Ordering::Less),
+    ("farther right, and lower", (1, -9), (-1, 9), Ordering::Greater),
+    ("below", (2, -1), (2, 3), Ordering::Less),
+    ("above", (5, 6), (5, -6), Ordering::Greater),
+    ("the same", (7, 7), (7, 7), Ordering::Equal),
+];
+
+fn orders<L: Ledger, R: Abort>(rt: &R, steps: &mut Steps<L>) {
+    for (name, a, b, want) in ORDERS {
+        assert_eq!(rt; order(&at(rt, a), &at(rt, b), steps), want, "{name}");
+    }
+}
+
+#[rattlefmt::skip]
+const POINTS_ON_SEGMENTS: [(&str, At, At, At, bool); 13] = [
+    ("the first end", (0, 0), (0, 0), (4, 2), true),
+    ("the last end", (4, 2), (0, 0), (4, 2), true),
+    ("inside", (2, 1), (0, 0), (4, 2), true),
+    ("inside, read backward", (2, 1), (4, 2), (0, 0), true),
+    ("inside, upright", (3, 0), (3, -5), (3, 5), true),
+    ("beyond the last end", (6, 3), (0, 0), (4, 2), false),
+    ("before the first end", (-2, -1), (0, 0), (4, 2), false),
+    ("above, upright", (3, 6), (3, -5), (3, 5), false),
+    ("beside", (2, 2), (0, 0), (4, 2), false),
+    ("beside the longest", (0, 1), (-A, -A), (A, A), false),
+    ("inside the longest", (0, 0), (-A, -A), (A, A), true),
+    ("a segment of one point", (5, 7), (5, 7), (5, 7), true),
+    ("above a segment of one point", (5, 8), (5, 7), (5, 7), false),
+];
+
+fn points_on_segments<L: Ledger, R: Abort>(rt: &R, steps: &mut Steps<L>) {
+    for (name, p, a, b, want) in POINTS_ON_SEGMENTS {
+        assert_eq!(rt;
+            on_segment(&at(rt, p), &at(rt, a), &at(rt, b), steps),
+            want,
+            "{name}"
+        );
+    }
+}
+
+#[rattlefmt::skip]
+const COMMON_ENDS: [(&str, At, At, At, bool); 10] = [
+    ("turning", (0, 0), (4, 0), (4, 3), true),
+    ("turning back beside the way", (-A, -A), (A, A), (-A, 1 - A), true),
+    ("going on", (0, 0), (2, 1), (4, 2), true),
+    ("folding back, and shorter", (0, 0), (4, 2), (2, 1), false),
+    ("folding back, and longer", (2, 1), (4, 2), (0, 0), false),
+    ("folding back to the start", (0, 0), (4, 2), (0, 0), false),
+    ("folding back by one step", (-A, -A), (A, A), (A - 1, A - 1), false),
+    ("no first way", (4, 2), (4, 2), (0, 0), true),
+    ("no second way", (0, 0), (4, 2), (4, 2), true),
+    ("no way at all", (4, 2), (4, 2), (4, 2), true),
+];
+
+fn common_ends<L: Ledger, R: Abort>(rt: &R, steps: &mut Steps<L>) {
+    for (name, a, b, c, want) in COMMON_ENDS {
+        assert_eq!(rt;
+            meet_only_at(&at(rt, a), &at(rt, b), &at(rt, c), steps),
+            want,
+            "{name}"
+        );
+    }
+}
+
+#[rattlefmt::skip]
+const MEETINGS: [(&str, At, At, At, At, bool); 18] = [
+    ("the longest diagonals", (-A, -A), (A, A), (-A, A), (A, -A), true),
+    ("crossing between whole points", (0, 0), (1, 1), (0, 1), (1, 0), true),
+    ("an end on the middle", (0, 0), (4, 0), (2, 0), (2, 3), true),
+    ("the middle on an end", (2, 0), (2, 3), (0, 0), (4, 0), true),
+    ("end to end, with a turn", (0, 0), (2, 1), (2, 1), (5, 0), true),
+    ("end to end, on one line", (0, 0), (2, 1), (2, 1), (4, 2), true),
+    ("overlapping on one line", (0, 0), (4, 2), (2, 1), (6, 3), true),
+    ("one within the other", (2, 1), (4, 2), (0, 0), (6, 3), true),
+    ("apart on one line", (0, 0), (2, 1), (4, 2), (6, 3), false),
+    ("parallel", (0, 0), (4, 2), (0, 1), (4, 3), false),
+    ("the second beside the first", (0, 0), (4, 4), (3, 1), (4, 0), false),
+    ("the first beside the second", (0, 0), (1, 1), (0, 3), (3, 0), false),
+    ("far apart", (0, 0), (1, 1), (5, 5), (6, 7), false),
+    ("one point on a segment", (2, 1), (2, 1), (0, 0), (4, 2), true),
+    ("one point beside a segment", (2, 2), (2, 2), (0, 0), (4, 2), false),
+    ("one point beyond a segment", (0, 0), (4, 2), (6, 3), (6, 3), false),
+    ("one point twice", (3, 3), (3, 3), (3, 3), (3, 3), true),
+    ("two points", (3, 3), (3, 3), (3, 4), (3, 4), false),
+];
+
+fn meetings<L: Ledger, R: Abort>(rt: &R, steps: &mut Steps<L>) {
+    for (name, a, b, c, d, want) in MEETINGS {
+        assert_eq!(rt;
+            segments_meet(&at(rt, a), &at(rt, b), &at(rt, c), &at(rt, d), steps),
+            want,
+            "{name}"
+        );
+    }
+}

@@ -1,0 +1,2 @@
+mod Output
+mod Steps

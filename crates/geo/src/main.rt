@@ -1,0 +1,33 @@
+//! Answers questions about a simple polygon: a script of commands on standard input, the answers on standard output.
+#![tactic(auto)]
+
+#[cfg(test)]
+mod tests;
+mod top;
+
+use geo_io::{StdSink, StdSource};
+use std::env;
+use std::io::ErrorKind;
+use std::process::ExitCode;
+use top::{RunFault, geo_main};
+
+fn main(rt: HostRuntime) -> ExitCode {
+    match env::args(&rt) {
+        Ok(args) => run(&rt, args),
+        Err(error) if error.kind() == ErrorKind::OutOfMemory => ExitCode::from(5),
+        Err(_) => ExitCode::from(6),
+    }
+}
+
+fn run(rt: &HostRuntime, args: env::Args) -> ExitCode {
+    let words = match args.skip(1).collect::<Vec<String>>(rt.alloc()) {
+        Ok(words) => words,
+        Err(_) => return ExitCode::from(5),
+    };
+    let mut source = StdSource::new(rt.stdin());
+    let mut sink = StdSink::new(rt.stdout());
+    match geo_main(rt.alloc(), &words, &mut source, &mut sink) {
+        Ok(()) => ExitCode::SUCCESS,
+        Err(fault) => ExitCode::from(fault.status()),
+    }
+}

@@ -1,0 +1,6 @@
+//! What a run holds between two records, and the answer to each command.
+#![tactic(auto)]
+
+mod session;
+
+pub use session::Session;

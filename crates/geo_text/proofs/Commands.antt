@@ -1,0 +1,70 @@
+-- Points and commands of a list of fields.
+use Rattle.std.proofs.Common.{◌≡◌, ◌≤◌, ◌+◌, ◌/◌, ◌%◌, ◌==◌, ℕ, Bool, true, false, if◌then◌else◌, Option, Some, None, Result, Err, List, [], ◌∷◌, length, drop, get_or, refl, arith}
+use Rattle.std.proofs.lemmas.Bool.Decides.{nat_tests}
+use Rattle.std.proofs.lemmas.List.{length-drop, nil_from_length}
+use Rattle.std.specs.List.{list_any}
+use Rattle.std.specs.Prelude.{IfOk, codes, nat_lt}
+use Rattle.std.specs.Str.{bytes_eq}
+use Rattle.plane.specs.Point.{Point}
+use Rattle.geo_text.specs.Reading.{IsWellSized, fixed_fault, later_words, list_fault, number_fault, point_of, points_of, reading_of, unless}
+use Rattle.geo_text.specs.declared.command.Bad.{Bad}
+use Rattle.geo_text.specs.declared.command.Bad.TheVariants as bad
+use Rattle.geo_text.specs.declared.command.Command.{Command}
+use Rattle.geo_text.specs.declared.command.Command.TheVariants as command
+
+-- each two fields are a point
+length-points_of : (fields : List (List ℕ)) → length (points_of fields) ≡ length fields / 2
+length-points_of [] = refl
+length-points_of (x ∷ []) = refl
+length-points_of (x ∷ y ∷ fields) = omega (arith, length-points_of fields)
+
+-- less than two fields are no point
+pub points_of_after : (fields : List (List ℕ)) (place : ℕ) → length fields ≤ place + 1 → points_of (drop place fields) ≡ []
+points_of_after fields place h = nil_from_length (points_of (drop place fields)) (omega (arith, length-points_of (drop place fields), length-drop place fields))
+
+-- a list that is not refused is neither too short nor too long
+in_bounds : (odd few many : Bool) (rest : Option Bad) → (if odd then Some bad.Fields else if few then Some bad.Few else if many then Some bad.Many else rest) ≡ None
+    → (few ≡ false) × (many ≡ false)
+in_bounds true few many rest e = cc
+in_bounds false true many rest e = cc
+in_bounds false false true rest e = cc
+in_bounds false false false rest e = (refl, refl)
+
+-- so it is well sized
+list_is_well_sized : (fields : List (List ℕ)) (fault : Option Bad) → list_fault 3 4096 fields ≡ fault → IfOk (unless fault (command.Polygon (points_of fields))) IsWellSized
+list_is_well_sized fields (Some fault) e = tt
+list_is_well_sized fields None e =
+    let (few, many) = in_bounds ((length fields % 2) == 1) (nat_lt (length fields) 6) (nat_lt 8192 (length fields)) (number_fault fields) e in
+    let count = length-points_of fields in
+    (grind (arith, nat_tests), grind (arith, nat_tests))
+
+-- a refusal or a command of one point
+point_is_well_sized : (fault : Option Bad) (point : Point) → IfOk (unless fault (command.Inside point)) IsWellSized
+point_is_well_sized (Some fault) point = tt
+point_is_well_sized None point = tt
+
+-- each command is well sized
+pub reading_is_well_sized : (fields : List (List ℕ)) → IfOk (reading_of fields) IsWellSized
+reading_is_well_sized [] = tt
+reading_is_well_sized (word ∷ fields) =
+    by_word (bytes_eq word (codes "polygon")) (bytes_eq word (codes "inside")) (list_any (λ later. bytes_eq later word) later_words)
+    (list_is_well_sized fields (list_fault 3 4096 fields) refl) (point_is_well_sized (fixed_fault 2 fields) (point_of fields))
+  where
+    by_word : (polygon inside later : Bool) → IfOk (unless (list_fault 3 4096 fields) (command.Polygon (points_of fields))) IsWellSized
+        → IfOk (unless (fixed_fault 2 fields) (command.Inside (point_of fields))) IsWellSized
+        → IfOk (if polygon then unless (list_fault 3 4096 fields) (command.Polygon (points_of fields))
+        else if inside then unless (fixed_fault 2 fields) (command.Inside (point_of fields)) else if later then Err bad.Later else Err bad.Word) IsWellSized
+    by_word true inside later h k = h
+    by_word false true later h k = k
+    by_word false false true h k = tt
+    by_word false false false h k = tt
+
+-- a record whose first field is no word that is answered, and a record with no field
+pub reading_of_other : (fields : List (List ℕ)) → bytes_eq (get_or fields 0 []) (codes "polygon") ≡ false → bytes_eq (get_or fields 0 []) (codes "inside") ≡ false
+    → reading_of fields ≡ Err (if list_any (λ later. bytes_eq later (get_or fields 0 [])) later_words then bad.Later else bad.Word)
+reading_of_other [] other another = refl
+reading_of_other (word ∷ fields) other another = rw (other, another) (by_later (list_any (λ later. bytes_eq later word) later_words))
+  where
+    by_later : (b : Bool) → ◌≡◌ {A = Result Command Bad} (if b then Err bad.Later else Err bad.Word) (Err (if b then bad.Later else bad.Word))
+    by_later true = refl
+    by_later false = refl

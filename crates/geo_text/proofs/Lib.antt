@@ -1,0 +1,6 @@
+mod CappedNumber
+mod Commands
+mod Faults
+mod FieldAt
+mod Fuel
+mod RecordsLeft

@@ -1,0 +1,6 @@
+pub mod Capped
+pub mod Number
+pub mod Reading
+pub mod Records
+pub mod Script
+pub mod Texts

@@ -1,0 +1,46 @@
+-- How a script lays out what is left of it. No public clause cites this module.
+use Rattle.std.specs.Prelude.{◌≡◌, ◌+◌, true, false, if◌then◌else◌, ℕ, List, [], ◌∷◌, length, map, Option, Some, None, Result}
+use Rattle.std.specs.Borrow.{Bor}
+use Rattle.csv.specs.Reading.{Ready, default_config, has_failed, is_flexible, reader_config, reader_state, reader_trim, records_from, source_of}
+use Rattle.csv.specs.declared.parser.State.{State}
+use Rattle.csv.specs.declared.reader.Reader.{Reader}
+use Rattle.csv.specs.declared.reader.Trim.TheVariants as trim
+use Rattle.geo_text.specs.Reading.{reading_of}
+use Rattle.geo_text.specs.Records.{Unread, without_blanks}
+use Rattle.geo_text.specs.declared.command.Bad.{Bad}
+use Rattle.geo_text.specs.declared.command.Command.{Command}
+use Rattle.geo_text.specs.declared.script.Script.TheInside.{Inside}
+
+-- the records of some bytes, where they are known, from a state of the reader
+abbrev pub records_after : State → Option (List ℕ) → List (List (List ℕ))
+records_after state None = []
+records_after state (Some bytes) = map (λ fields. map without_blanks fields) (records_from default_config (length bytes + 1) state bytes)
+
+-- the records that a reader over bytes has left
+abbrev pub records_left : Reader (Bor (List ℕ)) → List (List (List ℕ))
+records_left reader = records_after (reader_state reader) (source_of (λ s. Some s.now) reader)
+
+-- the next read of the reader is of a whole record
+pub record IsReading (reader : Reader (Bor (List ℕ))) : Type 0 where
+  pub plain : reader_config reader ≡ default_config
+  pub untrimmed : reader_trim reader ≡ trim.None
+  pub ready : Ready reader
+  pub flexible : is_flexible reader ≡ true
+  pub sound : has_failed reader ≡ false
+
+-- the next read took a record with these fields, and the reader reads on
+pub record TakesFields (old new : Reader (Bor (List ℕ))) (fields : List (List ℕ)) : Type 0 where
+  pub first : records_left old ≡ fields ∷ records_left new
+  pub reads_on : IsReading new
+
+-- the record that the next read took reads thus; `None` says that none was left
+abbrev pub TakesReading : Reader (Bor (List ℕ)) → Reader (Bor (List ℕ)) → Option (Result Command Bad) → Type 0
+TakesReading old new None = records_left old ≡ []
+TakesReading old new (Some reading) = (fields : List (List ℕ)) × TakesFields old new fields × (reading ≡ reading_of fields)
+
+-- a script that has neither failed nor come to its end reads on
+abbrev pub ReadsOn : Inside → Type 0
+ReadsOn script = script.failed ≡ false → script.ended ≡ false → IsReading script.reader
+
+abbrev pub unread : Inside → Unread
+unread script = record { left = if script.ended then [] else records_left script.reader; failed = script.failed }

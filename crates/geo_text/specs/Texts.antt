@@ -1,0 +1,24 @@
+-- The texts that answers are made of.
+use Rattle.std.specs.Prelude.{ℕ, List, ◌++◌, codes, decimal}
+use Rattle.geo_text.specs.declared.command.Bad.{Bad}
+use Rattle.geo_text.specs.declared.command.Bad.TheVariants as bad
+
+-- a comma and a number in decimal
+abbrev pub index_text : ℕ → List ℕ
+index_text n = codes "," ++ decimal n
+
+-- what is between `bad,` and the end of the line
+abbrev pub fault_text : Bad → List ℕ
+fault_text bad.Word = codes "word"
+fault_text bad.Fields = codes "fields"
+fault_text bad.Few = codes "few"
+fault_text bad.Many = codes "many"
+fault_text (bad.Number place) = codes "number" ++ index_text place
+fault_text (bad.Range place) = codes "range" ++ index_text place
+fault_text bad.NoPolygon = codes "no_polygon"
+fault_text (bad.Clash i j) = codes "clash" ++ index_text i ++ index_text j
+fault_text bad.Later = codes "later"
+
+-- the whole line of a refusal
+abbrev pub bad_text : Bad → List ℕ
+bad_text fault = codes "bad," ++ fault_text fault ++ codes "\n"

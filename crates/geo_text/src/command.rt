@@ -1,0 +1,35 @@
+use crate::points::Points;
+use exact_plane::Pt;
+
+/// What a record asks for.
+#[derive(Drop)]
+pub enum Command {
+    /// Take the polygon with these vertices, 3 to 4,096 of them.
+    Polygon(Points),
+    /// Say where this point lies in the polygon.
+    Inside(Pt),
+}
+
+/// Why a record is refused, in the order in which the refusals are looked for. Places are those of fields, and the
+/// first field after the command word has place 1.
+#[derive(Clone, Copy, Debug, PartialEq, Eq)]
+pub enum Bad {
+    /// Field 0 is no command word.
+    Word,
+    /// The word is known, and nothing answers it yet.
+    Later,
+    /// The count of fields is wrong for the word; for a list of points, it is odd.
+    Fields,
+    /// A list has fewer points than its command takes.
+    Few,
+    /// A list has more points than its command takes.
+    Many,
+    /// The field at this place is the first that is no whole number.
+    Number(u32),
+    /// Every field is a number, and the one at this place is the first that passes the coordinate limit.
+    Range(u32),
+    /// No polygon was accepted yet.
+    NoPolygon,
+    /// Edges i < j of the polygon, as it was given, clash, and no lesser pair does.
+    Clash(u32, u32),
+}

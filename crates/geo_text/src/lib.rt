@@ -1,0 +1,18 @@
+//! The records of a script as commands, and the texts of the answers.
+#![tactic(auto)]
+
+mod command;
+mod fields;
+mod number;
+mod points;
+mod put;
+mod reading;
+mod script;
+
+pub use command::{Bad, Command};
+pub use points::Points;
+pub use put::{put_bad, put_index, put_line_end, put_word};
+pub use script::Script;
+
+#[cfg(test)]
+mod tests;

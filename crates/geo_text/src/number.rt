@@ -1,0 +1,39 @@
+// Whole numbers in decimal, with any count of digits. (`parse` would call a number too great before it has seen all
+// its digits.)
+ghost use Rattle.std.specs.Prelude.{◌≡◌, min, pos, if◌then◌else◌};
+ghost use Rattle.std.specs.Str.Parse.{digits_value};
+ghost use Rattle.geo_text.specs.Number.{are_digits, is_number, number_of};
+ghost use Rattle.geo_text.specs.Capped.{capped};
+
+use exact_plane::COORDINATE_LIMIT;
+
+// Every size past the coordinate limit reads as this one.
+const TOO_GREAT: i64 = COORDINATE_LIMIT + 1;
+
+// The number that a field is, if it is one. A number past the coordinate limit reads as another past it.
+pub fn number(field: &[u8]) -> Option<i64>
+    ensures { result ≡ (if is_number field.now then Some (capped (number_of field.now)) else None) }
+{
+    match field {
+        [b'-', digits @ ..] => Some(-size(digits)?),
+        [b'+', digits @ ..] => size(digits),
+        digits => size(digits),
+    }
+}
+
+// The number that these digits are, at most `TOO_GREAT`.
+fn size(digits: &[u8]) -> Option<i64>
+    ensures { result ≡ (if are_digits digits.now then Some (pos (min (digits_value 10 digits.now) 1000001)) else None) }
+{
+    if digits.is_empty() {
+        return None;
+    }
+    let mut size = 0;
+    for digit in digits {
+        if !digit.is_ascii_digit() {
+            return None;
+        }
+        size = (10 * size + i64::from(*digit - b'0')).min(TOO_GREAT);
+    }
+    Some(size)
+}

@@ -1,0 +1,83 @@
+// What is written to an answer. After want of memory the answer is as it was.
+ghost use Rattle.std.specs.Prelude.{◌≡◌, ◌++◌, codes, length, take, OnOk, OnErr};
+ghost use Rattle.geo_text.specs.Texts.{bad_text, index_text};
+
+use crate::command::Bad;
+use exact_plane::Memory;
+use itoa::Buffer;
+
+/// Appends a word.
+pub fn put_word(out: &mut Vec<u8>, word: &str) -> Result<(), Memory>
+    ensures ok { OnOk result (out.new.items ≡ out.old.items ++ word.now) }
+    ensures err { OnErr result (out.new.items ≡ out.old.items) }
+{
+    out.extend_from_slice(word.as_bytes())?;
+    Ok(())
+}
+
+/// Appends a comma and a number.
+pub fn put_index(out: &mut Vec<u8>, index: u32) -> Result<(), Memory>
+    ensures ok { OnOk result (out.new.items ≡ out.old.items ++ index_text index) }
+    ensures err { OnErr result (out.new.items ≡ out.old.items) }
+{
+    let mut buffer = Buffer::new();
+    let digits = buffer.format(index).as_bytes();
+    out.reserve(1 + digits.len())?;
+    out.push(b',').unwrap();
+    out.extend_from_slice(digits).unwrap();
+    Ok(())
+}
+
+/// Appends the end of a line.
+pub fn put_line_end(out: &mut Vec<u8>) -> Result<(), Memory>
+    ensures ok { OnOk result (out.new.items ≡ out.old.items ++ codes "\n") }
+    ensures err { OnErr result (out.new.items ≡ out.old.items) }
+{
+    out.push(b'\n')?;
+    Ok(())
+}
+
+/// Appends the whole line of a refusal.
+pub fn put_bad(out: &mut Vec<u8>, bad: &Bad) -> Result<(), Memory>
+    ensures ok { OnOk result (out.new.items ≡ out.old.items ++ bad_text bad.now) }
+    ensures err { OnErr result (out.new.items ≡ out.old.items) }
+{
+    let start = out.len();
+    let put = put_line(out, bad);
+    if put.is_err() {
+        out.truncate(start);
+    }
+    put
+}
+
+// The same, but want of memory may leave the front of the line.
+fn put_line(out: &mut Vec<u8>, bad: &Bad) -> Result<(), Memory>
+    ensures ok { OnOk result (out.new.items ≡ out.old.items ++ bad_text bad.now) }
+    ensures err { OnErr result (take (length out.old.items) out.new.items ≡ out.old.items) }
+{
+    put_word(out, "bad,")?;
+    match bad {
+        Bad::Word => put_word(out, "word")?,
+        Bad::Later => put_word(out, "later")?,
+        Bad::Fields => put_word(out, "fields")?,
+        Bad::Few => put_word(out, "few")?,
+        Bad::Many => put_word(out, "many")?,
+        Bad::Number(place) => put_with(out, "number", *place)?,
+        Bad::Range(place) => put_with(out, "range", *place)?,
+        Bad::NoPolygon => put_word(out, "no_polygon")?,
+        Bad::Clash(i, j) => {
+            put_with(out, "clash", *i)?;
+            put_index(out, *j)?;
+        }
+    }
+    put_line_end(out)
+}
+
+// A word, and then a comma and a number.
+fn put_with(out: &mut Vec<u8>, word: &str, index: u32) -> Result<(), Memory>
+    ensures ok { OnOk result (out.new.items ≡ out.old.items ++ word.now ++ index_text index) }
+    ensures err { OnErr result (take (length out.old.items) out.new.items ≡ out.old.items) }
+{
+    put_word(out, word)?;
+    put_index(out, index)
+}

@@ -1,0 +1,2 @@
+mod CrossedEdges
+mod Odd

@@ -1,0 +1,15 @@
+pub mod Boxes
+pub mod Crossing
+pub mod Determinants
+pub mod KnownFigures
+pub mod MeetOnlyAt
+pub mod OnSegment
+pub mod OneLine
+pub mod OneSign
+pub mod Order
+pub mod Same
+pub mod Segments
+pub mod SegmentsMeet
+pub mod Vectors
+pub mod Weights
+pub mod Written

@@ -1,0 +1,15 @@
+-- The lexicographic order of whole-number points: x first, then y.
+use Rattle.std.specs.Prelude.{◌≡◌, ◌⊎◌, ◌<ℤ◌}
+use Rattle.plane.specs.Point.{Point}
+
+abbrev pub IsBefore : Point → Point → Type 0
+IsBefore p q = (p.x <ℤ q.x) ⊎ ((p.x ≡ q.x) × (p.y <ℤ q.y))
+
+-- p comes between a and b, or with one of them
+pub record IsBetween (a p b : Point) : Type 0 where
+  pub not_after : ¬ (IsBefore a p × IsBefore b p)
+  pub not_before : ¬ (IsBefore p a × IsBefore p b)
+
+-- p comes strictly after both of a and b, or strictly before both
+abbrev pub IsOutside : Point → Point → Point → Type 0
+IsOutside a p b = (IsBefore a p × IsBefore b p) ⊎ (IsBefore p a × IsBefore p b)

@@ -1,0 +1,5 @@
+mod AreaSoFar
+pub mod Oriented
+mod Reflex
+mod SharedPoints
+mod SweptArea

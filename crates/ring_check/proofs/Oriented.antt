@@ -1,0 +1,71 @@
+-- A ring that is kept counterclockwise, against the list that it was made of.
+use Rattle.std.proofs.Common.{◌≡◌, ◌∙◌, sym, ap, refl, ℕ, ◌+◌, ◌-◌, ◌<◌, ◌%◌, ◌↔◌, Bool, true, false, List, length, arith}
+use Rattle.std.specs.Prelude.{if◌then◌else◌}
+use Rattle.plane.specs.Point.{Point, Triple}
+use Rattle.rings.proofs.Turned.{length-turned_round, turned_round-turned_round, vertex-turned_round}
+use Rattle.rings.proofs.TurnedArea.{counterclockwise_turned}
+use Rattle.rings.proofs.TurnedInside.{in_turned_iff}
+use Rattle.rings.proofs.TurnedSimple.{simple_turned}
+use Rattle.rings.proofs.Vertices.{vertex_mod}
+use Rattle.rings.specs.Inside.{IsIn}
+use Rattle.rings.specs.Orientation.{is_clockwise, turned_round}
+use Rattle.rings.specs.Ring.{vertex}
+use Rattle.rings.specs.Simple.{IsSimple}
+use Rattle.ring_check.specs.Oriented.{given_of, oriented}
+
+-- ---- what is kept of a list
+
+-- a clockwise list becomes counterclockwise
+counterclockwise_kept : (points : List Point) (b : Bool) → is_clockwise points ≡ b
+    → is_clockwise (if b then turned_round points else points) ≡ false
+counterclockwise_kept points true way = counterclockwise_turned points way
+counterclockwise_kept points false way = way
+
+module _ (points : List Point) where
+  -- what holds of the list and of the list turned round holds of what is kept
+  holds_of_kept : (P : List Point → Type 0) → P (turned_round points) → P points → P (oriented points).corners
+  holds_of_kept P turned same =
+      elim (is_clockwise points) as (λ b. P (if b then turned_round points else points)) [ true ↦ turned | false ↦ same ]
+
+  -- it has as many points as the list
+  pub length-oriented : length (oriented points).corners ≡ length points
+  length-oriented = holds_of_kept (λ ring. length ring ≡ length points) (length-turned_round points) refl
+
+  -- it is simple where the list is
+  pub simple_oriented : IsSimple points → IsSimple (oriented points).corners
+  simple_oriented simple = holds_of_kept IsSimple (simple_turned points simple) simple
+
+  -- it is counterclockwise
+  pub counterclockwise_oriented : is_clockwise (oriented points).corners ≡ false
+  counterclockwise_oriented = counterclockwise_kept points (is_clockwise points) refl
+
+  -- the same points are in it
+  pub in_oriented : (p : Triple) → IsIn (oriented points).corners p ↔ IsIn points p
+  in_oriented p = holds_of_kept (λ ring. IsIn ring p ↔ IsIn points p) (in_turned_iff p points) (λ h. h, λ h. h)
+
+  -- and the list can be had back
+  pub given_of-oriented : given_of (oriented points) ≡ points
+  given_of-oriented =
+      elim (is_clockwise points) as (λ b. given_of (record { corners = if b then turned_round points else points; is_turned = b }) ≡ points) [
+        | true ↦ turned_round-turned_round points
+        | false ↦ refl
+      ]
+
+-- ---- numbers in a list that was turned round
+
+module _ (corners : List Point) (i : ℕ) (h : i < length corners) where
+  -- vertex i
+  pub turned_vertex : vertex (turned_round corners) ((length corners - i) % length corners) ≡ vertex corners i
+  turned_vertex =
+      ap (λ n. vertex (turned_round corners) ((length corners - i) % n)) (sym (length-turned_round corners))
+      ∙ vertex_mod (turned_round corners) (length corners - i)
+      ∙ vertex-turned_round corners (length corners - i) (omega arith)
+      ∙ ap (vertex corners) (omega arith)
+
+  -- the beginning of edge i
+  pub turned_begin : vertex (turned_round corners) (length corners - 1 - i) ≡ vertex corners (i + 1)
+  turned_begin = vertex-turned_round corners (length corners - 1 - i) (omega arith) ∙ ap (vertex corners) (omega arith)
+
+  -- and its end
+  pub turned_end : vertex (turned_round corners) (length corners - 1 - i + 1) ≡ vertex corners i
+  turned_end = vertex-turned_round corners (length corners - 1 - i + 1) (omega arith) ∙ ap (vertex corners) (omega arith)

@@ -1,0 +1,69 @@
+-- When two edges share a point other than the vertex where they follow one another.
+use Rattle.std.proofs.Common.{◌≡◌, ◌≢◌, ℕ, ◌+◌, ◌<◌, ◌≤◌, ◌↔◌, Bool, true, false, IsTrue, List, length, refl, subst, sym, arith}
+use Rattle.std.specs.Prelude.{not}
+use Rattle.plane.specs.Point.{Point, whole}
+use Rattle.plane.specs.Segment.{Meet, MeetElsewhere, MeetOnlyAt, On}
+use Rattle.rings.proofs.Vertices.{vertex_round}
+use Rattle.rings.specs.Ring.{vertex}
+use Rattle.rings.specs.Simple.{SharesPoint}
+
+module _ (ring : List Point) (three : 3 ≤ length ring) where
+  -- the vertex after edge j is the first, where edge j is the last
+  vertex_after_last : (j : ℕ) → j + 1 ≡ length ring → vertex ring (j + 1) ≡ vertex ring 0
+  vertex_after_last j last = rw last (vertex_round ring (omega arith))
+
+  -- edges that follow one another
+  pub shared_after : (i : ℕ) → MeetElsewhere (whole (vertex ring i)) (whole (vertex ring (i + 1))) (whole (vertex ring (i + 1 + 1))) → SharesPoint ring i (i + 1)
+  shared_after i meet = record {
+    point = meet.point;
+    rational = meet.rational;
+    on_first = meet.on_first;
+    on_second = meet.on_second;
+    not_between = λ _. meet.elsewhere;
+    not_round = λ first last _. omega arith;
+  }
+
+  pub apart_after : (i : ℕ) → MeetOnlyAt (whole (vertex ring i)) (whole (vertex ring (i + 1))) (whole (vertex ring (i + 1 + 1))) → ¬ (SharesPoint ring i (i + 1))
+  apart_after i only shared = shared.not_between (omega arith) (only shared.point shared.rational shared.on_first shared.on_second)
+
+  -- the last edge and the first
+  pub shared_round : (j : ℕ) → j + 1 ≡ length ring → 1 < j → MeetElsewhere (whole (vertex ring j)) (whole (vertex ring 0)) (whole (vertex ring 1)) → SharesPoint ring 0 j
+  shared_round j last apart meet = record {
+    point = meet.point;
+    rational = meet.rational;
+    on_first = meet.on_second;
+    on_second = subst (λ (v : Point). On meet.point (whole (vertex ring j)) (whole v)) (sym (vertex_after_last j last)) meet.on_first;
+    not_between = λ next _. omega arith;
+    not_round = λ _ _. meet.elsewhere;
+  }
+
+  pub apart_round : (j : ℕ) → j + 1 ≡ length ring → MeetOnlyAt (whole (vertex ring j)) (whole (vertex ring 0)) (whole (vertex ring 1)) → ¬ (SharesPoint ring 0 j)
+  apart_round j last only shared =
+      let on_last = subst (λ (v : Point). On shared.point (whole (vertex ring j)) (whole v)) (vertex_after_last j last) shared.on_second in
+      shared.not_round (omega arith) last (only shared.point shared.rational on_last shared.on_first)
+
+-- edges that are no neighbours
+pub shared_apart : (ring : List Point) (i j : ℕ) → j ≢ i + 1 → ¬ ((i ≡ 0) × (j + 1 ≡ length ring))
+    → Meet (whole (vertex ring i)) (whole (vertex ring (i + 1))) (whole (vertex ring j)) (whole (vertex ring (j + 1))) → SharesPoint ring i j
+shared_apart ring i j not_after not_round meet = record {
+  point = meet.point;
+  rational = meet.rational;
+  on_first = meet.on_first;
+  on_second = meet.on_second;
+  not_between = λ next _. not_after next;
+  not_round = λ first last _. not_round (first, last);
+}
+
+pub meet_of_shared : (ring : List Point) (i j : ℕ) → SharesPoint ring i j
+    → Meet (whole (vertex ring i)) (whole (vertex ring (i + 1))) (whole (vertex ring j)) (whole (vertex ring (j + 1)))
+meet_of_shared ring i j shared = record {
+  point = shared.point;
+  rational = shared.rational;
+  on_first = shared.on_first;
+  on_second = shared.on_second;
+}
+
+-- a test that fails exactly where there is such a point
+pub fails_where : {P : Type 0} (test : Bool) → (test ≡ false → P) → (test ≡ true → ¬ P) → IsTrue (not test) ↔ P
+fails_where true found absent = (λ h. absurd (cc h), λ p. absurd (absent refl p))
+fails_where false found absent = (λ _. found refl, λ _. refl)

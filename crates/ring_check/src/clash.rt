@@ -1,0 +1,90 @@
+ghost use Rattle.std.specs.Prelude.{◌≡◌, ◌<◌, ◌≤◌, ◌↔◌, ℕ, IsTrue, IfSome, IfNone, length};
+ghost use Rattle.rings.specs.Ring.{vertex};
+ghost use Rattle.rings.specs.Simple.{Clash, HasEqualEnds, IsLeastClash, IsSimple, SharesPoint};
+
+use exact_plane::{Pt, Steps, meet_only_at, order, segments_meet};
+use std::cmp::Ordering;
+use std::sync::ledger::Ledger;
+
+// The least pair of edges i < j that clash, in the order of i, then j.
+pub fn least_clash<L: Ledger>(points: &[Pt], steps: &mut Steps<L>) -> Option<(usize, usize)>
+    requires { 3 ≤ length points.now }
+    ensures least { IfSome result (λ pair. IsLeastClash points.now pair.0 pair.1) }
+    ensures simple { IfNone result (IsSimple points.now) }
+{
+    for i in 0..points.len() {
+        if let Some(j) = least_clash_with(points, i, steps) {
+            return Some((i, j));
+        }
+    }
+    None
+}
+
+// The least edge above i that clashes with edge i.
+fn least_clash_with<L: Ledger>(points: &[Pt], i: usize, steps: &mut Steps<L>) -> Option<usize>
+    requires three { 3 ≤ length points.now }
+    requires edge { i < length points.now }
+    ensures range { IfSome result (λ j. (i < j) × (j < length points.now)) }
+    ensures clash { IfSome result (λ j. Clash points.now i j) }
+    ensures least { IfSome result (λ j. (l : ℕ) → i < l → l < j → Clash points.now i l → ⊥) }
+    ensures none { IfNone result ((l : ℕ) → i < l → l < length points.now → Clash points.now i l → ⊥) }
+{
+    for j in i + 1..points.len() {
+        if edges_clash(points, i, j, steps) {
+            return Some(j);
+        }
+    }
+    None
+}
+
+// Whether edges i < j clash.
+fn edges_clash<L: Ledger>(points: &[Pt], i: usize, j: usize, steps: &mut Steps<L>) -> bool
+    requires three { 3 ≤ length points.now }
+    requires order { i < j }
+    requires edge { j < length points.now }
+    ensures { IsTrue result ↔ Clash points.now i j }
+{
+    if has_equal_ends(points, i, steps) || has_equal_ends(points, j, steps) {
+        return true;
+    }
+    share_point(points, i, j, steps)
+}
+
+// Whether edges i < j share a point other than the vertex where they follow one another.
+fn share_point<L: Ledger>(points: &[Pt], i: usize, j: usize, steps: &mut Steps<L>) -> bool
+    requires three { 3 ≤ length points.now }
+    requires order { i < j }
+    requires edge { j < length points.now }
+    ensures { IsTrue result ↔ SharesPoint points.now i j }
+{
+    let (a, b) = (corner(points, i), corner(points, i + 1));
+    let (c, d) = (corner(points, j), corner(points, j + 1));
+    if j == i + 1 {
+        return !meet_only_at(&a, &b, &d, steps);
+    }
+    if i == 0 && j + 1 == points.len() {
+        return !meet_only_at(&c, &a, &b, steps);
+    }
+    segments_meet(&a, &b, &c, &d, steps)
+}
+
+// Whether edge i has equal ends.
+fn has_equal_ends<L: Ledger>(points: &[Pt], i: usize, steps: &mut Steps<L>) -> bool
+    requires { i < length points.now }
+    ensures { IsTrue result ↔ HasEqualEnds points.now i }
+{
+    order(&corner(points, i), &corner(points, i + 1), steps) == Ordering::Equal
+}
+
+// Vertex i, counted round.
+fn corner(points: &[Pt], i: usize) -> Pt
+    requires some { 0 < length points.now }
+    requires range { i ≤ length points.now }
+    ensures { result ≡ vertex points.now i }
+{
+    if i < points.len() {
+        points[i]
+    } else {
+        points[0]
+    }
+}

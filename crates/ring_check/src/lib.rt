@@ -1,0 +1,12 @@
+//! Simple polygons: a list of points is accepted exactly if no two of its edges clash.
+#![tactic(auto)]
+
+mod clash;
+mod laws;
+mod orientation;
+mod ring;
+#[cfg(test)]
+mod tests;
+
+pub use laws::{crossing_parity, winding_across};
+pub use ring::{MAX_CORNERS, Ring, RingFault};

@@ -1,0 +1,153 @@
+ghost use Rattle.std.specs.Prelude.{◌≡◌, ◌+◌, ◌<◌, ◌≤◌, ◌↔◌, ℕ, IfOk, IsOk, IsTrue, Err, false, length, vec_len};
+ghost use Rattle.exact_plane.specs.Direction.{turn_of};
+ghost use Rattle.plane.specs.Point.{whole};
+ghost use Rattle.ring_check.specs.Oriented.{given_edge, given_index, given_of, oriented};
+ghost use Rattle.rings.specs.Orientation.{IsReflex, is_clockwise};
+ghost use Rattle.rings.specs.Ring.{vertex};
+ghost use Rattle.rings.specs.Simple.{IsLeastClash, IsSimple};
+
+use crate::clash::least_clash;
+use crate::orientation::turn_counterclockwise;
+use exact_plane::{Direction, Pt, Steps, turn};
+use std::marker::Model;
+use std::sync::ledger::Ledger;
+
+/// The most vertices of a ring.
+pub const MAX_CORNERS: usize = 4096;
+
+/// The vertices of a simple polygon in counterclockwise order, 3 to 4,096 of them. It is made of a list that may run
+/// either way: vertex 0 is the first of the list, and a clockwise list is read backward from there. Edge i goes from
+/// vertex i to the next, the last one back to vertex 0.
+#[derive(Drop)]
+pub struct Ring {
+    corners: Vec<Pt>,
+    is_turned: bool,
+}
+
+impl Model for Ring {
+    ghost use Rattle.std.specs.Prelude.{◌≡◌, ◌≤◌, false, vec_len};
+    ghost use Rattle.ring_check.specs.Oriented.{Oriented};
+    ghost use Rattle.rings.specs.Orientation.{is_clockwise};
+    ghost use Rattle.rings.specs.Simple.{IsSimple};
+
+    ghost Value = { Oriented };
+
+    ghost view = { λ ring. record { corners = ring.corners.items; is_turned = ring.is_turned } };
+
+    ghost invariant = { λ ring. (3 ≤ vec_len ring.corners) × (vec_len ring.corners ≤ 4096)
+        × IsSimple ring.corners.items × (is_clockwise ring.corners.items ≡ false) };
+}
+
+/// Why a list of points is no ring.
+#[derive(Clone, Copy, Debug, PartialEq, Eq)]
+pub enum RingFault {
+    /// There are fewer than 3 points.
+    Few,
+    /// There are more than 4,096 points.
+    Many,
+    /// Edges i < j of the list clash, and no lesser pair does.
+    Clash(u32, u32),
+}
+
+impl Ring {
+    /// The ring of this list. The list is dropped on a refusal.
+    pub fn of<L: Ledger>(mut points: Vec<Pt>, steps: &mut Steps<L>) -> Result<Ring, RingFault>
+        ensures ring { IfOk result (λ ring. ring ≡ oriented points.items) }
+        ensures accepted { IsOk result ↔ ((3 ≤ vec_len points) × (vec_len points ≤ 4096) × IsSimple points.items) }
+
+        ensures few { (result ≡ Err RingFault.Few) ↔ (vec_len points < 3) }
+        ensures many { (result ≡ Err RingFault.Many) ↔ (4096 < vec_len points) }
+        ensures clash { (i j : ℕ) → (result ≡ Err (RingFault.Clash i j))
+            ↔ ((3 ≤ vec_len points) × (vec_len points ≤ 4096) × IsLeastClash points.items i j) }
+    {
+        if points.len() < 3 {
+            return Err(RingFault::Few);
+        }
+        if points.len() > MAX_CORNERS {
+            return Err(RingFault::Many);
+        }
+        match least_clash(&points, steps) {
+            Some((i, j)) => Err(RingFault::Clash(i as u32, j as u32)),
+            None => {
+                let is_turned = turn_counterclockwise(&mut points, steps);
+                Ok(Ring {
+                    corners: points,
+                    is_turned,
+                })
+            }
+        }
+    }
+
+    /// How many vertices there are.
+    pub fn len(&self) -> u32
+        ensures number { result ≡ length self.now.corners }
+
+        // What holds of every ring.
+        ensures size { (3 ≤ length self.now.corners) × (length self.now.corners ≤ 4096) }
+        ensures simple { IsSimple self.now.corners }
+        ensures counterclockwise { is_clockwise self.now.corners ≡ false }
+    {
+        self.corners.len() as u32
+    }
+
+    /// Vertex `i`.
+    pub fn corner(&self, i: u32) -> Pt
+        requires { i < length self.now.corners }
+        ensures { result ≡ vertex self.now.corners i }
+    {
+        self.corners[i as usize]
+    }
+
+    /// Whether the list ran clockwise.
+    pub fn is_turned(&self) -> bool
+        ensures { result ≡ self.now.is_turned }
+    {
+        self.is_turned
+    }
+
+    /// The number of vertex `i` in the list.
+    pub fn given_index(&self, i: u32) -> u32
+        requires { i < length self.now.corners }
+        ensures number { result ≡ given_index self.now i }
+        ensures same { vertex (given_of self.now) result ≡ vertex self.now.corners i }
+    {
+        let n = self.len();
+        if self.is_turned { (n - i) % n } else { i }
+    }
+
+    /// The number of edge `i` in the list, which has it in the other direction where it was turned round.
+    pub fn given_edge(&self, i: u32) -> u32
+        requires { i < length self.now.corners }
+        ensures number { result ≡ given_edge self.now i }
+        ensures same { self.now.is_turned ≡ false → (vertex (given_of self.now) result ≡ vertex self.now.corners i)
+            × (vertex (given_of self.now) (result + 1) ≡ vertex self.now.corners (i + 1)) }
+        ensures turned { IsTrue self.now.is_turned → (vertex (given_of self.now) result ≡ vertex self.now.corners (i + 1))
+            × (vertex (given_of self.now) (result + 1) ≡ vertex self.now.corners i) }
+    {
+        if self.is_turned {
+            self.len() - 1 - i
+        } else {
+            i
+        }
+    }
+
+    /// Whether vertex `i` is reflex. It takes one step.
+    pub fn is_reflex<L: Ledger>(&self, i: u32, steps: &mut Steps<L>) -> bool
+        requires { i < length self.now.corners }
+        ensures reflex { IsTrue result ↔ IsReflex self.now.corners i }
+        ensures steps { steps.new ≡ steps.old + 1 }
+    {
+        let n = self.len();
+        let before = self.corner((i + n - 1) % n);
+        let after = self.corner((i + 1) % n);
+        turns_right(&before, &self.corner(i), &after, steps)
+    }
+}
+
+// Whether the turn from `a` over `b` to `c` is to the right. It takes one step.
+fn turns_right<L: Ledger>(a: &Pt, b: &Pt, c: &Pt, steps: &mut Steps<L>) -> bool
+    ensures right { IsTrue result ↔ (turn_of (whole a.now) (whole b.now) (whole c.now) ≡ Direction.Right) }
+    ensures steps { steps.new ≡ steps.old + 1 }
+{
+    turn(a, b, c, steps) == Direction::Right
+}

@@ -1,0 +1,87 @@
+ghost use Rattle.std.specs.Prelude.{◌≡◌, ◌<◌};
+
+use crate::{Ring, RingFault};
+use exact_plane::{Pt, Steps};
+use std::alloc::{AllocError, Global};
+use std::marker::Brand;
+use std::process::Abort;
+use std::sync::ledger::{Blank, Ledger};
+use std::test::Fail;
+
+type At = (i64, i64);
+
+const L_SHAPE: [At; 6] = [(0, 0), (4, 0), (4, 2), (2, 2), (2, 4), (0, 4)];
+
+const L_BACKWARD: [At; 6] = [(0, 4), (2, 4), (2, 2), (4, 2), (4, 0), (0, 0)];
+
+#[test]
+fn rings(rt: HostRuntime) -> Result<(), Fail> {
+    all_tables::<Brand, _>(&rt, rt.alloc(), Blank::new(1))?;
+    Ok(())
+}
+
+// Every table, with a counter over a ledger that nobody else counts in.
+fn all_tables<L: Ledger, R: Abort>(rt: &R, alloc: Global, blank: Blank) -> Result<(), AllocError>
+    requires name { blank.name ≡ L.name }
+    requires parts { blank.parts ≡ L.parts }
+    requires countable { 0 < blank.parts }
+{
+    let mut steps = Steps::<L>::new(blank);
+    accepted_or_refused(rt, alloc, &mut steps)?;
+    numbers(rt, alloc, &mut steps)
+}
+
+fn ring_of<L: Ledger, R: Abort>(
+    rt: &R,
+    alloc: Global,
+    list: &[At],
+    steps: &mut Steps<L>,
+) -> Result<Result<Ring, RingFault>, AllocError> {
+    let mut points = Vec::new(alloc);
+    for (x, y) in list {
+        points.push(Pt::of(*x, *y).expect(rt, "within the limit"))?;
+    }
+    Ok(Ring::of(points, steps))
+}
+
+// A ring is named by whether its list was turned round.
+#[rattlefmt::skip]
+fn accepted_or_refused<L: Ledger, R: Abort>(rt: &R, alloc: Global, steps: &mut Steps<L>) -> Result<(), AllocError> {
+    let cases: [(&str, &[At], Result<bool, RingFault>); 10] = [
+        ("an L", &L_SHAPE, Ok(false)),
+        ("an L, backward", &L_BACKWARD, Ok(true)),
+        ("a flat vertex", &[(0, 0), (2, 0), (4, 0), (0, 4)], Ok(false)),
+        ("a bow tie", &[(0, 0), (4, 4), (4, 0), (0, 4)], Err(RingFault::Clash(0, 2))),
+        ("a vertex on an edge", &[(0, 0), (4, 0), (4, 4), (2, 0)], Err(RingFault::Clash(0, 2))),
+        ("equal ends", &[(0, 0), (0, 0), (4, 0), (0, 4)], Err(RingFault::Clash(0, 1))),
+        ("the first point again at the end", &[(0, 0), (4, 0), (0, 4), (0, 0)], Err(RingFault::Clash(0, 2))),
+        ("three times one point", &[(1, 1), (1, 1), (1, 1)], Err(RingFault::Clash(0, 1))),
+        ("three points on a line", &[(0, 0), (2, 0), (4, 0)], Err(RingFault::Clash(0, 2))),
+        ("two points", &[(0, 0), (4, 0)], Err(RingFault::Few)),
+    ];
+    for (name, list, want) in cases {
+        let is_turned = ring_of(rt, alloc, list, steps)?.map(|ring| ring.is_turned());
+        assert_eq!(rt; is_turned, want, "{name}");
+    }
+    Ok(())
+}
+
+// The vertices as they are kept, the numbers of vertices and of edges in the list, and the reflex vertex.
+#[rattlefmt::skip]
+fn numbers<L: Ledger, R: Abort>(rt: &R, alloc: Global, steps: &mut Steps<L>) -> Result<(), AllocError> {
+    let cases = [
+        ("an L", L_SHAPE, L_SHAPE, [0, 1, 2, 3, 4, 5], [0, 1, 2, 3, 4, 5], 3),
+        ("an L, backward", L_BACKWARD, [(0, 4), (0, 0), (4, 0), (4, 2), (2, 2), (2, 4)], [0, 5, 4, 3, 2, 1], [5, 4, 3, 2, 1, 0], 4),
+    ];
+    for (name, list, kept, vertices, edges, reflex) in cases {
+        let ring = ring_of(rt, alloc, &list, steps)?.ok().expect(rt, "a ring");
+        assert_eq!(rt; ring.len(), 6, "{name}");
+        for i in 0..6 {
+            assert_eq!(rt; ring.corner(i).parts(steps), kept[i as usize], "{name}");
+            assert_eq!(rt; ring.given_index(i), vertices[i as usize], "{name}");
+            assert_eq!(rt; ring.given_edge(i), edges[i as usize], "{name}");
+            assert_eq!(rt; ring.is_reflex(i, steps), i == reflex, "{name}");
+        }
+    }
+    Ok(())
+}

@@ -1,0 +1,17 @@
+-- Segments that miss all edges of a list, or cross one.
+use Rattle.std.specs.Prelude.{List}
+use Rattle.plane.specs.Point.{IsPoint, Triple, whole}
+use Rattle.plane.specs.Segment.{On}
+use Rattle.plane.specs.Turn.{IsLeft, IsRight}
+use Rattle.rings.specs.Edge.{Edge, IsOnSome}
+
+-- no rational point on the segment from p to q is on an edge of the list
+abbrev pub Misses : Triple → Triple → List Edge → Type 0
+Misses p q es = (x : Triple) → IsPoint x → On x p q → IsOnSome es x → ⊥
+
+-- the segment from p to q crosses the edge from its left to its right, and not at an end of either
+pub record CrossesRight (p q : Triple) (e : Edge) : Type 0 where
+  pub starts_left : IsLeft (whole e.from) (whole e.to) p
+  pub ends_right : IsRight (whole e.from) (whole e.to) q
+  pub from_right : IsRight p q (whole e.from)
+  pub to_left : IsLeft p q (whole e.to)
