@@ -57,6 +57,11 @@ def polygon(points):
     return 'polygon,' + ','.join(f'{x},{y}' for x, y in points) + '\n'
 
 
+def places(count):
+    draw = random.Random(count)
+    return ''.join(f'inside,{draw.randint(-10**6, 10**6)},{draw.randint(-10**6, 10**6)}\n' for _ in range(count))
+
+
 def milliseconds(program, script):
     best = math.inf
     for _ in range(5):
@@ -75,6 +80,11 @@ def main():
             taken, answer = milliseconds(program, polygon(family(n)))
             times.append(f'{taken:10.1f}' if answer == f'polygon,{n}\n' else answer.strip().rjust(10))
         print(family.__name__.ljust(12) + ''.join(times))
+    times = []
+    for n in SIZES:
+        taken, _ = milliseconds(program, polygon(star(n)) + places(1000))
+        times.append(f'{taken:10.1f}')
+    print('1,000 places'.ljust(12) + ''.join(times))
     for name, record in (('polygons', polygon([(0, 0), (4, 0), (4, 2), (2, 2), (2, 4), (0, 4)])), ('words', 'frob,1\n')):
         taken, _ = milliseconds(program, record * (SCRIPT_BYTES // len(record)))
         print(f'script of 8 MiB, {name}: {taken:.0f} ms, {SCRIPT_BYTES / 1000 / taken:.0f} MB/s')

@@ -1,4 +1,4 @@
--- The turn of three points as a `Direction`.
+-- The turn of three points as a `Direction`. This project's own.
 use Rattle.std.specs.Prelude.{zero, suc, ℤ, pos, negsuc}
 use Rattle.exact_plane.specs.declared.direction.Direction.{Direction}
 use Rattle.exact_plane.specs.declared.direction.Direction.TheVariants.{Left, Right, Straight}

@@ -1,4 +1,4 @@
--- The fault of a run that a refusal below it stands for.
+-- The fault of a run that a refusal below it stands for. This project's own.
 use Rattle.std.specs.Prelude.{ℕ}
 use Rattle.geo_io.specs.declared.source.ReadEnd.{ReadEnd}
 use Rattle.geo_io.specs.declared.source.ReadEnd.TheVariants as end

@@ -1,5 +1,5 @@
 -- What a run without words leaves. `left` and `left'` are the bytes that the source has left at entry and at exit, and
--- `taken` and `taken'` those that the sink has taken, where they tell them.
+-- `taken` and `taken'` those that the sink has taken, where they tell them. This project's own.
 use Rattle.std.specs.Prelude.{◌≡◌, ℕ, ◌≤◌, List, ◌∷◌, ◌++◌, length, take, None, Option}
 use Rattle.std.specs.Io.KnownBytes.{Appends, Consumes, IsAtEnd}
 use Rattle.geo_session.specs.Answer.{IsReadingAnswer, State}

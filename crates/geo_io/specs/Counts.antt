@@ -1,4 +1,4 @@
--- Counts of calls and of faults.
+-- Counts of calls and of faults. This project's own.
 use Rattle.std.specs.Prelude.{◌≡◌, ℕ, ◌+◌, ◌-◌, ◌^◌, ◌<◌, ◌≤◌, ◌⊎◌, min}
 
 -- one more, up to the greatest `u64`

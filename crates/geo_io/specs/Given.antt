@@ -1,4 +1,4 @@
--- What a source gave and a sink took in a call.
+-- What a source gave and a sink took in a call. This project's own.
 use Rattle.std.specs.Prelude.{ℕ, ◌<◌, ◌≤◌, List, Option, length, take}
 use Rattle.std.specs.Io.KnownBytes.{Appends, Consumes}
 

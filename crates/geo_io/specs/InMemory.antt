@@ -1,4 +1,4 @@
--- What contracts see of a source and a sink in memory.
+-- What contracts see of a source and a sink in memory. This project's own.
 use Rattle.std.specs.Prelude.{ℕ, List}
 
 -- the bytes that are left, how many a call gives at most, the numbers of the calls that fail, and how many calls and

@@ -1,4 +1,4 @@
--- What each command answers, and the state that it leaves.
+-- What each command answers, and the state that it leaves. This project's own.
 use Rattle.std.specs.Prelude.{◌≡◌, ℕ, ◌⊎◌, ◌++◌, List, length, codes, Option, Some, None, Result, Ok, Err}
 use Rattle.geo_text.specs.Texts.{bad_text, index_text}
 use Rattle.geo_text.specs.declared.command.Bad.{Bad}

@@ -1,5 +1,5 @@
--- What is written for a whole script.
-use Rattle.std.specs.Prelude.{◌≡◌, ℕ, List, [], ◌∷◌, ◌++◌, take, None}
+-- What is written for a whole script. This project's own.
+use Rattle.std.specs.Prelude.{◌≡◌, ℕ, List, [], ◌∷◌, ◌++◌, None}
 use Rattle.geo_session.specs.Answer.{IsReadingAnswer, State}
 use Rattle.geo_text.specs.Reading.{reading_of}
 use Rattle.geo_text.specs.Records.{records_of}
@@ -17,10 +17,6 @@ pub record AnswersFirst (Rest : State → List ℕ → Type 0) (before : State) 
 abbrev pub AreAnswers : State → List (List (List ℕ)) → List ℕ → State → Type 0
 AreAnswers before [] text after = (text ≡ []) × (after ≡ before)
 AreAnswers before (fields ∷ records) text after = AnswersFirst (λ between rest. AreAnswers between records rest after) before fields text
-
--- the text is the answers to the first records of a script, as many as count, and leaves the state after
-abbrev pub AreFirstAnswers : List ℕ → ℕ → List ℕ → State → Type 0
-AreFirstAnswers bytes count text after = AreAnswers None (take count (records_of bytes)) text after
 
 -- the text is the whole output of a script
 pub record IsOutput (bytes text : List ℕ) : Type 0 where

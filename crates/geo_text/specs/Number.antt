@@ -1,4 +1,4 @@
--- Whole numbers as fields write them.
+-- Whole numbers as fields write them. This project's own.
 use Rattle.std.specs.Prelude.{ℕ, ℤ, Bool, false, List, [], ◌∷◌, nat_le, unsigned_abs}
 use Rattle.std.specs.List.{list_all}
 use Rattle.std.specs.Char.{is_ascii_digit}

@@ -1,4 +1,4 @@
--- The records of a script, as lists of fields.
+-- The records of a script, as lists of fields. This project's own, over the records of `csv`.
 use Rattle.std.specs.Prelude.{ℕ, Bool, ◌||◌, ◌==◌, if◌then◌else◌, List, [], ◌∷◌, map, reverse}
 use Rattle.csv.specs.Reading.{default_config, records, strip_bom}
 use Rattle.csv.specs.Records.{Row, fields_of}

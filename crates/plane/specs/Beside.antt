@@ -1,4 +1,4 @@
--- A segment that lies to one side of a line.
+-- A segment that lies to one side of a line. This project's own.
 use Rattle.std.specs.Prelude.{◌⊎◌}
 use Rattle.plane.specs.Point.{Point, whole}
 use Rattle.plane.specs.Turn.{IsLeft, IsRight}

@@ -1,4 +1,4 @@
--- The upright boxes round two segments.
+-- The upright boxes round two segments. The bounding boxes of the textbooks.
 use Rattle.std.specs.Prelude.{ℤ, ◌≤ℤ◌}
 use Rattle.std.specs.Int.{int_max, int_min}
 use Rattle.plane.specs.Point.{Point}

@@ -1,4 +1,4 @@
--- The lexicographic order of whole-number points: x first, then y.
+-- The lexicographic order of whole-number points: x first, then y. The textbooks' order for sweeps.
 use Rattle.std.specs.Prelude.{◌≡◌, ◌⊎◌, ◌<ℤ◌}
 use Rattle.plane.specs.Point.{Point}
 

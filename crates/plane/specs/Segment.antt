@@ -1,4 +1,4 @@
--- Segments and the rational points on them.
+-- Segments and the rational points on them: weighted means of the ends, as in the textbooks.
 use Rattle.std.specs.Prelude.{ℕ, pos, ◌≤◌, ◌-◌, ◌+ℤ◌, ◌*ℤ◌}
 use Rattle.plane.specs.Point.{IsPoint, IsSame, Triple}
 

@@ -1,4 +1,4 @@
--- Which way three points turn, by the sign of a determinant.
+-- Which way three points turn, by the sign of a determinant: the orientation test of Preparata and Shamos 1985.
 use Rattle.std.specs.Prelude.{◌≡◌, ℤ, pos, ◌+ℤ◌, ◌-ℤ◌, ◌*ℤ◌, ◌<ℤ◌}
 use Rattle.plane.specs.Point.{Triple}
 

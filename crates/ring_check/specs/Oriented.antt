@@ -1,4 +1,4 @@
--- A ring that is kept counterclockwise, and the list that it was made of.
+-- A ring that is kept counterclockwise, and the list that it was made of. This project's own.
 use Rattle.std.specs.Prelude.{ℕ, ◌-◌, ◌%◌, Bool, if◌then◌else◌, List, length}
 use Rattle.plane.specs.Point.{Point}
 use Rattle.rings.specs.Orientation.{is_clockwise, turned_round}

@@ -1,4 +1,4 @@
--- Segments that miss all edges of a list, or cross one.
+-- Segments that miss all edges of a list, or cross one. This project's own.
 use Rattle.std.specs.Prelude.{List}
 use Rattle.plane.specs.Point.{IsPoint, Triple, whole}
 use Rattle.plane.specs.Segment.{On}

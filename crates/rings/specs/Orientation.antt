@@ -1,4 +1,4 @@
--- Which way round a ring runs, and its reflex vertices.
+-- Which way round a ring runs, and its reflex vertices. By the shoelace formula of the textbooks.
 use Rattle.std.specs.Prelude.{ℕ, ◌+◌, ◌-◌, ℤ, pos, ◌+ℤ◌, ◌-ℤ◌, ◌*ℤ◌, ◌<ℤ◌, Bool, MatchBool, List, [], ◌∷◌, length, reverse}
 use Rattle.std.specs.Int.Signed.{lt_z}
 use Rattle.plane.specs.Point.{Point, whole}

@@ -1,4 +1,4 @@
--- Simple rings: no two edges clash.
+-- Simple rings: no two edges clash. The simple polygons of the textbooks; the order of clashes is this project's own.
 use Rattle.std.specs.Prelude.{◌≡◌, ℕ, ◌+◌, ◌<◌, ◌⊎◌, List, length}
 use Rattle.plane.specs.Point.{IsPoint, IsSame, Point, Triple, whole}
 use Rattle.rings.specs.Ring.{IsOnEdge, vertex}
