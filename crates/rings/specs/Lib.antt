@@ -1,6 +1,9 @@
 pub mod Across
+pub mod Bend
+pub mod Chain
 pub mod Edge
 pub mod Inside
 pub mod Orientation
 pub mod Ring
+pub mod Sees
 pub mod Simple
