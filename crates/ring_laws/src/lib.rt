@@ -1,0 +1,2 @@
+//! Laws of simple rings. There is no code here yet.
+#![tactic(auto)]
