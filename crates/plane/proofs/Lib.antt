@@ -3,10 +3,12 @@ pub mod Crossing
 pub mod Determinants
 pub mod KnownFigures
 pub mod MeetOnlyAt
+pub mod OnByOrder
 pub mod OnSegment
 pub mod OneLine
 pub mod OneSign
 pub mod Order
+pub mod Precedence
 pub mod Same
 pub mod Segments
 pub mod SegmentsMeet
