@@ -1,4 +1,6 @@
 pub mod Along
+pub mod BreakpointLaw
+pub mod Breakpoints
 pub mod ClosedLaw
 pub mod Combinations
 pub mod Crossings
