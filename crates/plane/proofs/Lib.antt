@@ -12,6 +12,7 @@ pub mod Precedence
 pub mod Same
 pub mod Segments
 pub mod SegmentsMeet
+pub mod SharedParts
 pub mod Vectors
 pub mod Weights
 pub mod Written

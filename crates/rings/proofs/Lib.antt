@@ -22,6 +22,7 @@ pub mod KnownFigures
 pub mod LeastClash
 pub mod Lengthwise
 pub mod Nearness
+pub mod Overlaps
 pub mod Parity
 pub mod Rising
 pub mod SamePoint
