@@ -55,7 +55,7 @@ balance_back k l m x w u v s t ex ew =
 
 module _ (p a b : Triple) (at_p : IsPoint p) (at_a : IsPoint a) (at_b : IsPoint b) (on : On p a b) where
   -- a point on a segment is not after both ends
-  not_after_both : ¬ (Precedes a p × Precedes b p)
+  pub not_after_both : ¬ (Precedes a p × Precedes b p)
   not_after_both h =
       let c = combination_of p a b at_p at_a at_b on in
       no_balance c.l c.m _ _ _ _ c.l_nonnegative c.m_nonnegative (weights_positive p a b c at_p)
@@ -64,7 +64,7 @@ module _ (p a b : Triple) (at_p : IsPoint p) (at_a : IsPoint a) (at_b : IsPoint 
       (forward a p h.0) (forward b p h.1)
 
   -- and not before both
-  not_before_both : ¬ (Precedes p a × Precedes p b)
+  pub not_before_both : ¬ (Precedes p a × Precedes p b)
   not_before_both h =
       let c = combination_of p a b at_p at_a at_b on in
       no_balance c.l c.m _ _ _ _ c.l_nonnegative c.m_nonnegative (weights_positive p a b c at_p)
