@@ -3,10 +3,9 @@ use Rattle.std.proofs.Common.{◌≡◌, [], ◌∷◌, refl, ◌∙◌, ℤ, po
 use Rattle.std.proofs.lemmas.Int.{ints}
 use Rattle.integer_algebra.proofs.Polynomial.{var, ◌⊕◌, ◌⊖◌, ◌⊗◌, same_value}
 use Rattle.integer_algebra.proofs.Signs.{factor_nonnegative, mul_nonnegative}
-use Rattle.plane.proofs.Vectors.{combination_of}
-use Rattle.plane.specs.Point.{IsPoint, Point, Triple}
+use Rattle.plane.proofs.Vectors.{IsCombination, combination_of, determinant_along}
+use Rattle.plane.specs.Point.{IsPoint, Point, Triple, whole}
 use Rattle.plane.specs.Segment.{On}
-use Rattle.ring_laws.proofs.Triangles.{height_along}
 use Rattle.ring_laws.specs.Triangle.{height_over}
 
 -- ---- heights along a way
@@ -26,9 +25,15 @@ mean_at_least k l m y Y f F g G hk hm e d h =
     let up = factor_nonnegative k (y *ℤ F -ℤ f *ℤ Y) hk (omega (arith, ints)) in
     omega (arith, ints, up)
 
+module _ (u w : Point) where
+  -- heights along a segment are weighted means
+  pub height_along : (x a b : Triple) (c : IsCombination x a b)
+      → c.k *ℤ height_over u w x ≡ c.l *ℤ height_over u w a +ℤ c.m *ℤ height_over u w b
+  height_along x a b c = determinant_along x a b c (whole w) (whole u)
+
 -- on the way to a point that is as high as x, each point is
 pub high_on_way : (u w : Point) (y x a : Triple) → IsPoint y → IsPoint x → IsPoint a → On y x a
     → (height_over u w x *ℤ a.W) ≤ℤ (height_over u w a *ℤ x.W) → (height_over u w x *ℤ y.W) ≤ℤ (height_over u w y *ℤ x.W)
 high_on_way u w y x a at_y at_x at_a on h =
     let c = combination_of y x a at_y at_x at_a on in
-    mean_at_least c.k c.l c.m _ y.W _ x.W _ a.W c.k_positive c.m_nonnegative (height_along u u w y x a c) c.in_W h
+    mean_at_least c.k c.l c.m _ y.W _ x.W _ a.W c.k_positive c.m_nonnegative (height_along u w y x a c) c.in_W h

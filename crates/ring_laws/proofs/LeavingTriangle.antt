@@ -12,7 +12,7 @@ use Rattle.plane.specs.Segment.{On}
 use Rattle.plane.specs.Turn.{IsRight, IsStraight, determinant}
 use Rattle.rings.proofs.Combinations.{on_nested}
 use Rattle.rings.proofs.SignSteps.{not_both, one_positive, opposite_positive, weak, zero_not_negative}
-use Rattle.ring_laws.proofs.Triangles.{height_along, in_triangle, not_negative, not_right_between}
+use Rattle.ring_laws.proofs.Triangles.{in_triangle, not_negative, not_right_between}
 use Rattle.ring_laws.specs.Triangle.{IsInTriangle, height_over}
 
 -- ---- numbers

@@ -1,3 +1,4 @@
 pub mod Heights
 pub mod LeavingTriangle
+pub mod SidesAtVertex
 pub mod Triangles

@@ -2,7 +2,7 @@
 use Rattle.std.proofs.Common.{◌≡◌, ◌⊎◌, inl, inr, ap, ℤ, pos, ◌+ℤ◌, ◌-ℤ◌, ◌*ℤ◌, neg_ℤ, ◌<ℤ◌, ◌≤ℤ◌, arith}
 use Rattle.std.proofs.lemmas.Int.{ints}
 use Rattle.integer_algebra.proofs.Laws.{neg-mul, zero-mul}
-use Rattle.integer_algebra.proofs.Signs.{is_negative, is_positive, is_zero, sign}
+use Rattle.integer_algebra.proofs.Signs.{is_negative, is_positive, is_zero, lt_or_le, sign}
 use Rattle.plane.proofs.Determinants.{areas_add, determinant_same_ends, determinant_same_first, determinant_same_last}
 use Rattle.plane.proofs.Determinants.{determinant_shift, determinant_shift_back, determinant_swap_first}
 use Rattle.plane.proofs.Determinants.{four_triples_in_W, four_triples_in_X, four_triples_in_Y}
@@ -164,7 +164,15 @@ module _ (u v w : Point) where
       (not_right_between (whole w) (whole u) x a b at_x at_a at_b (not_negative ha.not_right_of_third)
       (not_negative hb.not_right_of_third) on)
 
-  -- heights along a segment are weighted means
-  pub height_along : (x a b : Triple) (c : IsCombination x a b)
-      → c.k *ℤ height_over u w x ≡ c.l *ℤ height_over u w a +ℤ c.m *ℤ height_over u w b
-  height_along x a b c = determinant_along x a b c (whole w) (whole u)
+  -- a point is in the triangle or not
+  pub in_or_not : (x : Triple) → IsInTriangle u v w x ⊎ (¬ IsInTriangle u v w x)
+  in_or_not x = elim (lt_or_le (determinant (whole u) (whole v) x) (pos 0)) [
+    | inl h ↦ inr (λ i. i.not_right_of_first h)
+    | inr first ↦ elim (lt_or_le (determinant (whole v) (whole w) x) (pos 0)) [
+      | inl h ↦ inr (λ i. i.not_right_of_second h)
+      | inr second ↦ elim (lt_or_le (height_over u w x) (pos 0)) [
+        | inl h ↦ inr (λ i. i.not_right_of_third h)
+        | inr third ↦ inl (in_triangle x first second third)
+      ]
+    ]
+  ]
