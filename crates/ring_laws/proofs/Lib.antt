@@ -1,4 +1,5 @@
 pub mod Heights
 pub mod LeavingTriangle
+pub mod NoneEnters
 pub mod SidesAtVertex
 pub mod Triangles
