@@ -31,7 +31,7 @@ no_value : (z f g : ℤ) → pos 1 *ℤ z ≡ neg_ℤ g *ℤ f +ℤ f *ℤ g →
 no_value z f g e = omega (arith, ints, neg-mul g f, mul_comm g f)
 
 -- a mean of a number that is not negative and a positive one that has weight
-mean_rises : (k l m z f g : ℤ) → pos 0 <ℤ k → pos 0 ≤ℤ l → pos 0 <ℤ m → k *ℤ z ≡ l *ℤ f +ℤ m *ℤ g → pos 0 ≤ℤ f → pos 0 <ℤ g → pos 0 <ℤ z
+pub mean_rises : (k l m z f g : ℤ) → pos 0 <ℤ k → pos 0 ≤ℤ l → pos 0 <ℤ m → k *ℤ z ≡ l *ℤ f +ℤ m *ℤ g → pos 0 ≤ℤ f → pos 0 <ℤ g → pos 0 <ℤ z
 mean_rises k l m z f g hk hl hm e hf hg = factor_positive k z hk (omega (arith, ints, e, mul_nonnegative l f hl hf, mul_positive m g hm hg))
 
 -- ---- the way up to where a determinant is 0

@@ -2,7 +2,7 @@
 use Rattle.std.proofs.Common.{◌≡◌, ◌⊎◌, inl, inr, refl, sym, subst, ap, List, ℤ, pos, ◌+ℤ◌, ◌*ℤ◌, ◌<ℤ◌, ◌≤ℤ◌, arith}
 use Rattle.std.proofs.lemmas.Int.{ints}
 use Rattle.integer_algebra.proofs.Laws.{zero-mul}
-use Rattle.plane.proofs.Same.{whole_is_point}
+use Rattle.plane.proofs.Same.{same_whole, whole_is_point}
 use Rattle.plane.proofs.Segments.{on_first_end, on_last_end}
 use Rattle.plane.specs.Point.{IsPoint, IsSame, Point, Triple, whole}
 use Rattle.plane.specs.Segment.{On}
@@ -29,8 +29,18 @@ pub zero_at_same : (a b y : Triple) (c : Point) → IsSame y (whole c) → deter
 zero_at_same a b y c same none = no_number _ _ y.W none (determinant_same a b y (whole c) same)
 
 -- 0 is not positive
-not_positive : {z : ℤ} → z ≡ pos 0 → ¬ (pos 0 <ℤ z)
+pub not_positive : {z : ℤ} → z ≡ pos 0 → ¬ (pos 0 <ℤ z)
 not_positive e h = omega (arith, ints)
+
+-- an end of one edge that is on another is an end of that one
+pub end_of_other : (es : List Edge) → AreApart es → (f e : Edge) → HasEdge es f → HasEdge es e → (z : Point) → HasEnd f z → IsOn e (whole z)
+    → HasEnd e z
+end_of_other es apart f e has_f has_e z end on = elim (apart f e has_f has_e) [
+  | inl same ↦ subst (λ (g : Edge). HasEnd g z) same end
+  | inr meet ↦
+      let c = meet (whole z) (whole_is_point z) (end_is_on f z end) on in
+      subst (λ (p : Point). HasEnd e p) (sym (same_whole z c.end c.same)) c.of_second
+]
 
 module _ (es : List Edge) (apart : AreApart es) (u v w : Point)
     (first : HasEdge es (record { from = u; to = v })) (second : HasEdge es (record { from = v; to = w })) where
