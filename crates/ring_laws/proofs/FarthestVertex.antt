@@ -3,19 +3,19 @@ use Rattle.std.proofs.Common.{◌≡◌, ◌⊎◌, inl, inr, refl, sym, subst, 
 use Rattle.std.proofs.lemmas.Int.{ints}
 use Rattle.integer_algebra.proofs.Signs.{factor_positive, is_negative, is_positive, is_zero, lt_or_le, mul_positive, sign}
 use Rattle.plane.proofs.Determinants.{areas_add, determinant_same_ends, determinant_same_last, determinant_shift, determinant_swap_first}
-use Rattle.plane.proofs.Same.{same_sym, whole_is_point}
+use Rattle.plane.proofs.Same.{whole_is_point}
 use Rattle.plane.proofs.Segments.{combination_is_straight, on_same_point}
 use Rattle.plane.proofs.Vectors.{IsCombination, combination_of_ends, determinant_along}
 use Rattle.plane.proofs.Weights.{offset_along, offset_from_last}
 use Rattle.plane.specs.Point.{IsPoint, IsSame, Point, Triple, whole}
-use Rattle.plane.specs.Segment.{On}
-use Rattle.plane.specs.Turn.{IsLeft, determinant}
+use Rattle.plane.specs.Turn.{IsLeft}
 use Rattle.rings.proofs.Combinations.{same_without_first, same_without_last}
 use Rattle.rings.proofs.SignSteps.{mean_not_negative, mean_not_positive, not_both, not_both_positive, weak, zero_not_negative}
 use Rattle.rings.specs.Edge.{Edge}
 use Rattle.ring_laws.proofs.LeavingTriangle.{mean_rises}
 use Rattle.ring_laws.proofs.SidesAtVertex.{at_first, at_last, at_middle, end_of_other, not_positive, way_out}
-use Rattle.ring_laws.proofs.Triangles.{height_of_first, height_of_last, height_of_middle, in_or_not, left_of_first, left_of_second, not_negative}
+use Rattle.ring_laws.proofs.Triangles.{height_of_first, height_of_last, height_of_middle, in_or_not}
+use Rattle.ring_laws.proofs.Triangles.{left_of_first, left_of_second, not_negative}
 use Rattle.ring_laws.specs.Apart.{AreApart, HasEdge, HasEnd, IsCommonEnd, IsOn, MeetAtEnds}
 use Rattle.ring_laws.specs.Triangle.{IsInTriangle, height_over}
 
@@ -29,7 +29,8 @@ less_than_area a b c h d e f ha hb = omega (arith, ints)
 above_last : (k l m X W u s : ℤ) → k *ℤ X ≡ l *ℤ u +ℤ m *ℤ s → k *ℤ W ≡ l *ℤ pos 1 +ℤ m *ℤ pos 1 → pos 0 <ℤ k → pos 0 <ℤ l → s <ℤ u
     → pos 0 <ℤ (X -ℤ s *ℤ W)
 above_last k l m X W u s e f hk hl h =
-    factor_positive k (X -ℤ s *ℤ W) hk (omega (arith, ints, offset_from_last k l m X W u s e f, mul_positive l (u -ℤ s) hl (omega (arith, ints))))
+    let up = mul_positive l (u -ℤ s) hl (omega (arith, ints)) in
+    factor_positive k (X -ℤ s *ℤ W) hk (omega (arith, ints, offset_from_last k l m X W u s e f, up))
 
 -- where a mean is above a number, one of its two numbers is
 one_above : (k l m X W u s n : ℤ) → k *ℤ X ≡ l *ℤ u +ℤ m *ℤ s → k *ℤ W ≡ l *ℤ pos 1 +ℤ m *ℤ pos 1 → pos 0 <ℤ k → pos 0 ≤ℤ l → pos 0 ≤ℤ m

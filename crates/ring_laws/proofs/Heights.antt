@@ -1,12 +1,16 @@
--- Heights over a side of a triangle, along a way and among the ends of an edge.
-use Rattle.std.proofs.Common.{◌≡◌, [], ◌∷◌, refl, ◌∙◌, ℤ, pos, ◌+ℤ◌, ◌-ℤ◌, ◌*ℤ◌, ◌<ℤ◌, ◌≤ℤ◌, arith}
+-- Heights over a side of a triangle: along a way, and where a way out of the triangle is as high as its start.
+use Rattle.std.proofs.Common.{◌≡◌, ◌⊎◌, inl, inr, [], ◌∷◌, refl, ap, ◌∙◌, ℤ, pos, ◌+ℤ◌, ◌-ℤ◌, ◌*ℤ◌, ◌<ℤ◌, ◌≤ℤ◌, arith}
 use Rattle.std.proofs.lemmas.Int.{ints}
+use Rattle.integer_algebra.proofs.Laws.{zero-mul}
 use Rattle.integer_algebra.proofs.Polynomial.{var, ◌⊕◌, ◌⊖◌, ◌⊗◌, same_value}
-use Rattle.integer_algebra.proofs.Signs.{factor_nonnegative, mul_nonnegative}
+use Rattle.integer_algebra.proofs.Signs.{factor_nonnegative, mul_nonnegative, mul_positive}
 use Rattle.plane.proofs.Vectors.{IsCombination, combination_of, determinant_along}
 use Rattle.plane.specs.Point.{IsPoint, Point, Triple, whole}
 use Rattle.plane.specs.Segment.{On}
-use Rattle.ring_laws.specs.Triangle.{height_over}
+use Rattle.plane.specs.Turn.{IsLeft}
+use Rattle.ring_laws.proofs.LeavingTriangle.{leaving}
+use Rattle.ring_laws.proofs.Triangles.{on_first_side, on_second_side}
+use Rattle.ring_laws.specs.Triangle.{IsInTriangle, height_over}
 
 -- ---- heights along a way
 
@@ -37,3 +41,36 @@ pub high_on_way : (u w : Point) (y x a : Triple) → IsPoint y → IsPoint x →
 high_on_way u w y x a at_y at_x at_a on h =
     let c = combination_of y x a at_y at_x at_a on in
     mean_at_least c.k c.l c.m _ y.W _ x.W _ a.W c.k_positive c.m_nonnegative (height_along u w y x a c) c.in_W h
+
+-- no mean of a positive number is 0 and at least it, as fractions
+not_level : (f Y y F : ℤ) → pos 0 <ℤ f → pos 0 <ℤ Y → y ≡ pos 0 → ¬ ((f *ℤ Y) ≤ℤ (y *ℤ F))
+not_level f Y y F hf hY none h = omega (arith, ints, h, mul_positive f Y hf hY, ap (λ n. n *ℤ F) none, zero-mul F)
+
+-- a point of the triangle on the way from x to a, on the first or the second side, and as high as x
+pub record HighExit (u v w : Point) (x a : Triple) : Type 0 where
+  pub point : Triple
+  pub rational : IsPoint point
+  pub on_way : On point x a
+  pub inside : IsInTriangle u v w point
+  pub on_side : On point (whole u) (whole v) ⊎ On point (whole v) (whole w)
+  pub high : (height_over u w x *ℤ point.W) ≤ℤ (height_over u w point *ℤ x.W)
+
+-- from a point above the third side, a way to a point outside that is as high leaves the triangle by another side
+pub high_exit : (u v w : Point) → IsLeft (whole u) (whole v) (whole w) → (x a : Triple) → IsPoint x → IsPoint a
+    → IsInTriangle u v w x → ¬ IsInTriangle u v w a → pos 0 <ℤ height_over u w x
+    → (height_over u w x *ℤ a.W) ≤ℤ (height_over u w a *ℤ x.W) → HighExit u v w x a
+high_exit u v w left x a at_x at_a inside outside up high =
+    let y = leaving u v w x a at_x at_a outside inside in
+    let not_low = high_on_way u w y.point x a y.rational at_x at_a y.on_way high in
+    record {
+      point = y.point;
+      rational = y.rational;
+      on_way = y.on_way;
+      inside = y.inside;
+      on_side = elim y.side [
+        | inl straight ↦ inl (on_first_side u v w left y.point y.rational y.inside straight)
+        | inr (inl straight) ↦ inr (on_second_side u v w left y.point y.rational y.inside straight)
+        | inr (inr straight) ↦ absurd (not_level _ y.point.W _ x.W up y.rational straight not_low)
+      ];
+      high = not_low;
+    }

@@ -1,12 +1,10 @@
 -- A way out of a closed triangle: the point at which it leaves, and the side that this point is on.
-use Rattle.std.proofs.Common.{◌≡◌, ◌⊎◌, inl, inr, [], ◌∷◌, refl, sym, subst, ap, ◌∙◌, ℤ, pos, ◌+ℤ◌, ◌-ℤ◌, ◌*ℤ◌, neg_ℤ, ◌<ℤ◌, ◌≤ℤ◌, arith}
+use Rattle.std.proofs.Common.{◌≡◌, ◌⊎◌, inl, inr, refl, sym, subst, ◌∙◌, ℤ, pos, ◌+ℤ◌, ◌-ℤ◌, ◌*ℤ◌, neg_ℤ, ◌<ℤ◌, ◌≤ℤ◌, arith}
 use Rattle.std.proofs.lemmas.Int.{ints}
 use Rattle.integer_algebra.proofs.Laws.{mul_comm, neg-mul}
-use Rattle.integer_algebra.proofs.Polynomial.{var, ◌⊕◌, ◌⊖◌, ◌⊗◌, same_value}
-use Rattle.integer_algebra.proofs.Signs.{factor_nonnegative, factor_positive, mul_negative, mul_nonnegative, mul_positive, lt_or_le}
-use Rattle.plane.proofs.Same.{whole_is_point}
+use Rattle.integer_algebra.proofs.Signs.{factor_positive, mul_negative, mul_nonnegative, mul_positive, lt_or_le}
 use Rattle.plane.proofs.Segments.{on_first_end, on_last_end}
-use Rattle.plane.proofs.Vectors.{IsCombination, combination_of, determinant_along, on_of_combination}
+use Rattle.plane.proofs.Vectors.{IsCombination, determinant_along, on_of_combination}
 use Rattle.plane.specs.Point.{IsPoint, Point, Triple, whole}
 use Rattle.plane.specs.Segment.{On}
 use Rattle.plane.specs.Turn.{IsRight, IsStraight, determinant}
@@ -130,7 +128,9 @@ module _ (u v w : Point) where
           let p = clip (whole u) (whole v) x a at_x at_a (weak first) in
           let q = clip (whole v) (whole w) x p.point at_x p.rational (weak second) in
           let on_way = on_nested q.point x p.point x a q.rational at_x p.rational at_x at_a (on_first_end x a) p.on_way q.on_way in
-          let not_right = not_right_between (whole u) (whole v) q.point x p.point q.rational at_x p.rational (weak first) p.not_right q.on_way in
+          let not_right =
+          not_right_between (whole u) (whole v) q.point x p.point q.rational at_x p.rational (weak first) p.not_right q.on_way
+          in
           let not_low = not_right_between (whole w) (whole u) q.point x a q.rational at_x at_a low high on_way in
           let inside = in_triangle u v w q.point not_right q.not_right not_low in
           record {
@@ -151,7 +151,9 @@ module _ (u v w : Point) where
           right_too : (p : Clip (whole u) (whole v) x a) → IsRight (whole v) (whole w) p.point → IsRight (whole v) (whole w) a
           right_too p right = elim (lt_or_le (determinant (whole v) (whole w) a) (pos 0)) [
             | inl h ↦ h
-            | inr h ↦ absurd (not_both right (not_right_between (whole v) (whole w) p.point x a p.rational at_x at_a (weak second) h p.on_way))
+            | inr h ↦
+                absurd (not_both right
+                (not_right_between (whole v) (whole w) p.point x a p.rational at_x at_a (weak second) h p.on_way))
           ]
 
     -- in any case the way from a point of the triangle leaves it by some side

@@ -1,3 +1,4 @@
+pub mod EmptyTriangle
 pub mod FarthestVertex
 pub mod Heights
 pub mod LeavingTriangle

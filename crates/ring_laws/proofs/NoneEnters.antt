@@ -1,15 +1,16 @@
 -- No edge enters an empty triangle at a vertex: it meets the triangle at ends of the third side at most.
-use Rattle.std.proofs.Common.{◌≡◌, ◌⊎◌, inl, inr, refl, sym, subst, ap, ◌∙◌, List, ℤ, pos, ◌+ℤ◌, ◌*ℤ◌, ◌<ℤ◌, ◌≤ℤ◌, arith}
+use Rattle.std.proofs.Common.{◌≡◌, ◌⊎◌, inl, inr, refl, sym, subst, ap, List, ℤ, pos, ◌+ℤ◌, ◌*ℤ◌, ◌<ℤ◌, ◌≤ℤ◌, arith}
 use Rattle.std.proofs.lemmas.Int.{ints}
 use Rattle.integer_algebra.proofs.Laws.{mul-zero, zero-mul}
-use Rattle.integer_algebra.proofs.Signs.{factor_nonpositive, is_negative, is_positive, is_zero, lt_or_le, mul_negative, mul_nonnegative, mul_nonpositive, sign}
+use Rattle.integer_algebra.proofs.Signs.{factor_nonpositive, is_negative, is_positive, is_zero, lt_or_le, sign}
+use Rattle.integer_algebra.proofs.Signs.{mul_negative, mul_nonnegative, mul_nonpositive}
 use Rattle.plane.proofs.Determinants.{determinant_same_ends, determinant_same_last}
 use Rattle.plane.proofs.Same.{whole_is_point}
 use Rattle.plane.proofs.Segments.{on_reversed}
 use Rattle.plane.proofs.Vectors.{combination_of, determinant_along, weights_positive}
-use Rattle.plane.specs.Point.{IsPoint, IsSame, Point, Triple, whole}
+use Rattle.plane.specs.Point.{IsPoint, Point, Triple, whole}
 use Rattle.plane.specs.Segment.{On}
-use Rattle.plane.specs.Turn.{IsLeft, IsRight, determinant}
+use Rattle.plane.specs.Turn.{IsLeft, determinant}
 use Rattle.rings.proofs.SignSteps.{mean_negative, mean_not_positive, not_both, not_both_positive, weak, zero_not_positive}
 use Rattle.rings.specs.Edge.{Edge}
 use Rattle.ring_laws.proofs.SidesAtVertex.{at_first, at_last, at_middle, meets_first, meets_second, way_out}
@@ -32,19 +33,26 @@ below_not_positive : {z : ℤ} → z <ℤ pos 0 → z ≤ℤ pos 0
 below_not_positive h = omega (arith, ints)
 
 -- a negative number has no weight in a mean with 0 that is not negative
-weightless : (k l m z f g : ℤ) → pos 0 <ℤ k → pos 0 ≤ℤ l → f <ℤ pos 0 → g ≡ pos 0 → pos 0 ≤ℤ z → k *ℤ z ≡ l *ℤ f +ℤ m *ℤ g → ¬ (pos 0 <ℤ l)
-weightless k l m z f g hk hl hf hg hz e some = omega (arith, ints, e, mul_negative l f some hf, ap (λ n. m *ℤ n) hg, mul-zero m, mul_nonnegative k z (weak hk) hz)
+weightless : (k l m z f g : ℤ) → pos 0 <ℤ k → pos 0 ≤ℤ l → f <ℤ pos 0 → g ≡ pos 0 → pos 0 ≤ℤ z
+    → k *ℤ z ≡ l *ℤ f +ℤ m *ℤ g → ¬ (pos 0 <ℤ l)
+weightless k l m z f g hk hl hf hg hz e some =
+    let none = ap (λ n. m *ℤ n) hg in
+    omega (arith, ints, e, mul_negative l f some hf, none, mul-zero m, mul_nonnegative k z (weak hk) hz)
 
 -- a mean is not positive where one number has no weight and the other is not positive
-other_alone : (k l m z f g : ℤ) → pos 0 <ℤ k → l ≡ pos 0 → pos 0 ≤ℤ m → g ≤ℤ pos 0 → k *ℤ z ≡ l *ℤ f +ℤ m *ℤ g → z ≤ℤ pos 0
-other_alone k l m z f g hk none hm hg e = factor_nonpositive k z hk (omega (arith, ints, e, ap (λ n. n *ℤ f) none, zero-mul f, mul_nonpositive m g hm hg))
+other_alone : (k l m z f g : ℤ) → pos 0 <ℤ k → l ≡ pos 0 → pos 0 ≤ℤ m → g ≤ℤ pos 0
+    → k *ℤ z ≡ l *ℤ f +ℤ m *ℤ g → z ≤ℤ pos 0
+other_alone k l m z f g hk none hm hg e =
+    let nothing = ap (λ n. n *ℤ f) none in
+    factor_nonpositive k z hk (omega (arith, ints, e, nothing, zero-mul f, mul_nonpositive m g hm hg))
 
 -- ---- edges
 
 module _ (es : List Edge) (apart : AreApart es) (u v w : Point) (left : IsLeft (whole u) (whole v) (whole w))
     (first : HasEdge es (record { from = u; to = v })) (second : HasEdge es (record { from = v; to = w }))
     (at_v : (e : Edge) → HasEdge es e → HasEnd e v → (e ≡ record { from = u; to = v }) ⊎ (e ≡ record { from = v; to = w }))
-    (empty : (e : Edge) → HasEdge es e → (y : Point) → HasEnd e y → IsInTriangle u v w (whole y) → (y ≡ u) ⊎ (y ≡ v) ⊎ (y ≡ w))
+    (empty : (e : Edge) → HasEdge es e → (y : Point) → HasEnd e y → IsInTriangle u v w (whole y)
+    → (y ≡ u) ⊎ (y ≡ v) ⊎ (y ≡ w))
     (no_base : (e : Edge) → HasEdge es e → HasEnd e u → ¬ HasEnd e w) where
   module _ (e : Edge) (has : HasEdge es e) (off : ¬ HasEnd e v) (x : Triple) (at_x : IsPoint x) (on_edge : IsOn e x) where
     -- an end that is not below the third side is on its line, and an end of the side is on the edge before it
@@ -53,7 +61,8 @@ module _ (es : List Edge) (apart : AreApart es) (u v w : Point) (left : IsLeft (
       by_last : height_over u w (whole a) ≡ pos 0 → HasEnd e w → determinant (whole v) (whole w) (whole a) ≤ℤ pos 0 → Reach a
 
     -- x is strictly left of the sides at v
-    module _ (x_first : IsLeft (whole u) (whole v) x) (x_second : IsLeft (whole v) (whole w) x) (low : pos 0 ≤ℤ height_over u w x) where
+    module _ (x_first : IsLeft (whole u) (whole v) x) (x_second : IsLeft (whole v) (whole w) x)
+        (low : pos 0 ≤ℤ height_over u w x) where
       -- so it is where x is on the edge
       reach : (a : Point) → HasEnd e a → pos 0 ≤ℤ height_over u w (whole a) → Reach a
       reach a end high = elim (in_or_not u v w (whole a)) [
@@ -61,18 +70,21 @@ module _ (es : List Edge) (apart : AreApart es) (u v w : Point) (left : IsLeft (
           | inl same ↦ by_first
               (subst (λ (z : Point). height_over u w (whole z) ≡ pos 0) (sym same) (height_of_first u v w))
               (subst (λ (z : Point). HasEnd e z) same end)
-              (subst (λ (z : Point). determinant (whole u) (whole v) (whole z) ≤ℤ pos 0) (sym same) (zero_not_positive (determinant_same_ends (whole u) (whole v))))
+              (subst (λ (z : Point). determinant (whole u) (whole v) (whole z) ≤ℤ pos 0) (sym same)
+              (zero_not_positive (determinant_same_ends (whole u) (whole v))))
           | inr (inl same) ↦ absurd (off (subst (λ (z : Point). HasEnd e z) same end))
           | inr (inr same) ↦ by_last
               (subst (λ (z : Point). height_over u w (whole z) ≡ pos 0) (sym same) (height_of_last u v w))
               (subst (λ (z : Point). HasEnd e z) same end)
-              (subst (λ (z : Point). determinant (whole v) (whole w) (whole z) ≤ℤ pos 0) (sym same) (zero_not_positive (determinant_same_last (whole v) (whole w))))
+              (subst (λ (z : Point). determinant (whole v) (whole w) (whole z) ≤ℤ pos 0) (sym same)
+              (zero_not_positive (determinant_same_last (whole v) (whole w))))
         ]
-        | inr outside ↦ elim (way_out es apart u v w first second e has left x at_x on_edge x_first x_second low a end outside high) [
-          | at_middle h ↦ absurd (off h)
-          | at_first h right flat ↦ by_first (zero_between high flat) h (below_not_positive right)
-          | at_last h right flat ↦ by_last (zero_between high flat) h (below_not_positive right)
-        ]
+        | inr outside ↦ elim (way_out es apart u v w first second e has left x at_x on_edge x_first x_second low a end outside
+            high) [
+              | at_middle h ↦ absurd (off h)
+              | at_first h right flat ↦ by_first (zero_between high flat) h (below_not_positive right)
+              | at_last h right flat ↦ by_last (zero_between high flat) h (below_not_positive right)
+            ]
       ]
 
       -- no end is below the third side, where the other is q
@@ -83,11 +95,15 @@ module _ (es : List Edge) (apart : AreApart es) (u v w : Point) (left : IsLeft (
           let some = weights_positive x (whole p) (whole q) c at_x in
           let alone = λ (s t : Triple) (flat : height_over u w (whole q) ≡ pos 0) (h : determinant s t (whole q) ≤ℤ pos 0).
           other_alone c.k c.l c.m _ _ _ c.k_positive
-          (zero_between c.l_nonnegative (weightless c.k c.l c.m _ _ _ c.k_positive c.l_nonnegative below flat low (along (whole w) (whole u))))
+          (zero_between c.l_nonnegative
+          (weightless c.k c.l c.m _ _ _ c.k_positive c.l_nonnegative below flat low (along (whole w) (whole u))))
           c.m_nonnegative h (along s t)
           in
           elim (lt_or_le (height_over u w (whole q)) (pos 0)) [
-            | inl k ↦ not_both (mean_negative c.k c.l c.m _ _ _ c.k_positive c.l_nonnegative c.m_nonnegative (along (whole w) (whole u)) some below k) low
+            | inl k ↦
+                not_both
+                (mean_negative c.k c.l c.m _ _ _ c.k_positive c.l_nonnegative c.m_nonnegative (along (whole w) (whole u)) some
+                below k) low
             | inr high ↦ elim (reach q end high) [
               | by_first flat h beside ↦ not_both_positive x_first (alone (whole u) (whole v) flat beside)
               | by_last flat h beside ↦ not_both_positive x_second (alone (whole v) (whole w) flat beside)
@@ -120,19 +136,21 @@ module _ (es : List Edge) (apart : AreApart es) (u v w : Point) (left : IsLeft (
       ]
 
     -- an edge without the end v meets the triangle at ends of the third side
-    meets_at_base : IsInTriangle u v w x → IsCommonEnd e (record { from = u; to = w }) x
+    pub meets_at_base : IsInTriangle u v w x → IsCommonEnd e (record { from = u; to = w }) x
     meets_at_base inside = elim (sign (determinant (whole u) (whole v) x)) [
       | is_negative h ↦ absurd (inside.not_right_of_first h)
-      | is_zero straight ↦ elim (meets_first es apart u v w first second e has x at_x on_edge (on_first_side u v w left x at_x inside straight)) [
-        | inl h ↦ absurd (off h)
-        | inr h ↦ record { end = u; of_first = h.0; of_second = inl refl; same = h.1 }
-      ]
+      | is_zero straight ↦ elim (meets_first es apart u v w first second e has x at_x on_edge
+          (on_first_side u v w left x at_x inside straight)) [
+            | inl h ↦ absurd (off h)
+            | inr h ↦ record { end = u; of_first = h.0; of_second = inl refl; same = h.1 }
+          ]
       | is_positive x_first ↦ elim (sign (determinant (whole v) (whole w) x)) [
         | is_negative h ↦ absurd (inside.not_right_of_second h)
-        | is_zero straight ↦ elim (meets_second es apart u v w first second e has x at_x on_edge (on_second_side u v w left x at_x inside straight)) [
-          | inl h ↦ absurd (off h)
-          | inr h ↦ record { end = w; of_first = h.0; of_second = inr refl; same = h.1 }
-        ]
+        | is_zero straight ↦ elim (meets_second es apart u v w first second e has x at_x on_edge
+            (on_second_side u v w left x at_x inside straight)) [
+              | inl h ↦ absurd (off h)
+              | inr h ↦ record { end = w; of_first = h.0; of_second = inr refl; same = h.1 }
+            ]
         | is_positive x_second ↦ absurd (not_inner x_first x_second (not_negative inside.not_right_of_third))
       ]
     ]

@@ -1,5 +1,5 @@
 -- Edges that are apart, two of which are the sides of a triangle at one vertex: how another edge can meet these sides.
-use Rattle.std.proofs.Common.{◌≡◌, ◌⊎◌, inl, inr, refl, sym, subst, ap, List, ℤ, pos, ◌+ℤ◌, ◌*ℤ◌, ◌<ℤ◌, ◌≤ℤ◌, arith}
+use Rattle.std.proofs.Common.{◌≡◌, ◌⊎◌, inl, inr, sym, subst, ap, List, ℤ, pos, ◌*ℤ◌, ◌<ℤ◌, ◌≤ℤ◌, arith}
 use Rattle.std.proofs.lemmas.Int.{ints}
 use Rattle.integer_algebra.proofs.Laws.{zero-mul}
 use Rattle.plane.proofs.Same.{same_whole, whole_is_point}
@@ -10,9 +10,9 @@ use Rattle.plane.specs.Turn.{IsLeft, IsRight, determinant}
 use Rattle.rings.proofs.Combinations.{on_nested}
 use Rattle.rings.proofs.SamePoint.{determinant_same}
 use Rattle.rings.specs.Edge.{Edge}
-use Rattle.ring_laws.proofs.LeavingTriangle.{Exit, exit}
+use Rattle.ring_laws.proofs.LeavingTriangle.{exit}
 use Rattle.ring_laws.proofs.Triangles.{height_of_first, height_of_last, on_first_side, on_second_side}
-use Rattle.ring_laws.specs.Apart.{AreApart, HasEdge, HasEnd, IsOn, MeetAtEnds}
+use Rattle.ring_laws.specs.Apart.{AreApart, HasEdge, HasEnd, IsOn}
 use Rattle.ring_laws.specs.Triangle.{IsInTriangle, height_over}
 
 -- an end of an edge is on it
@@ -92,10 +92,14 @@ module _ (es : List Edge) (apart : AreApart es) (u v w : Point)
         elim z.side [
           | inl k ↦ elim (meets_first z.point z.rational on (on_first_side u v w left z.point z.rational z.inside k.0)) [
             | inl h ↦ at_middle h
-            | inr h ↦ at_first h.0 k.1 (λ up. not_positive (zero_at_same (whole w) (whole u) z.point u h.1 (height_of_first u v w)) (z.high up))
+            | inr h ↦
+                let flat = zero_at_same (whole w) (whole u) z.point u h.1 (height_of_first u v w) in
+                at_first h.0 k.1 (λ up. not_positive flat (z.high up))
           ]
           | inr k ↦ elim (meets_second z.point z.rational on (on_second_side u v w left z.point z.rational z.inside k.0)) [
             | inl h ↦ at_middle h
-            | inr h ↦ at_last h.0 k.1 (λ up. not_positive (zero_at_same (whole w) (whole u) z.point w h.1 (height_of_last u v w)) (z.high up))
+            | inr h ↦
+                let flat = zero_at_same (whole w) (whole u) z.point w h.1 (height_of_last u v w) in
+                at_last h.0 k.1 (λ up. not_positive flat (z.high up))
           ]
         ]

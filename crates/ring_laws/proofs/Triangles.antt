@@ -3,14 +3,14 @@ use Rattle.std.proofs.Common.{◌≡◌, ◌⊎◌, inl, inr, ap, ℤ, pos, ◌+
 use Rattle.std.proofs.lemmas.Int.{ints}
 use Rattle.integer_algebra.proofs.Laws.{neg-mul, zero-mul}
 use Rattle.integer_algebra.proofs.Signs.{is_negative, is_positive, is_zero, lt_or_le, sign}
-use Rattle.plane.proofs.Determinants.{areas_add, determinant_same_ends, determinant_same_first, determinant_same_last}
+use Rattle.plane.proofs.Determinants.{determinant_same_ends, determinant_same_last}
 use Rattle.plane.proofs.Determinants.{determinant_shift, determinant_shift_back, determinant_swap_first}
 use Rattle.plane.proofs.Determinants.{four_triples_in_W, four_triples_in_X, four_triples_in_Y}
 use Rattle.plane.proofs.Same.{whole_is_point}
 use Rattle.plane.proofs.Vectors.{IsCombination, combination_of, determinant_along, on_of_combination}
 use Rattle.plane.specs.Point.{IsPoint, Point, Triple, whole}
 use Rattle.plane.specs.Segment.{On}
-use Rattle.plane.specs.Turn.{IsLeft, IsRight, IsStraight, determinant}
+use Rattle.plane.specs.Turn.{IsLeft, IsStraight, determinant}
 use Rattle.rings.proofs.SignSteps.{mean_not_negative, weak, zero_not_negative}
 use Rattle.ring_laws.specs.Triangle.{IsInTriangle, height_over}
 
