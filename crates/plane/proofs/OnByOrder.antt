@@ -4,14 +4,13 @@ use Rattle.std.proofs.lemmas.Int.{ints}
 use Rattle.integer_algebra.proofs.Fractions.{fraction_le_lt_trans, fraction_lt_le_trans}
 use Rattle.integer_algebra.proofs.Polynomial.{var, ◌⊕◌, ◌⊖◌, ◌⊗◌, same_value}
 use Rattle.plane.proofs.Determinants.{determinant_same_ends, parts, straight_shift, straight_swap_last}
-use Rattle.plane.proofs.Precedence.{NotAfter, not_after_antisym, not_after_facts, not_after_of_same, not_after_or_precedes, not_after_trans, mediant_is_point, precedence}
+use Rattle.plane.proofs.Precedence.{NotAfter, not_after_antisym, not_after_facts, not_after_of_same, not_after_or_precedes, not_after_trans, precedence}
 use Rattle.plane.proofs.Precedence.{follows, precedes, same}
 use Rattle.plane.proofs.Same.{same_sym}
 use Rattle.plane.proofs.Segments.{combination_is_straight, on_first_end, on_same_point, zero_of}
 use Rattle.plane.proofs.Vectors.{IsCombination, combination_of, determinant_along, determinant_along_first, on_of_combination, weights_positive}
 use Rattle.plane.proofs.Weights.{Forward, no_balance}
 use Rattle.plane.proofs.Written.{determinant as det}
-use Rattle.plane.specs.Line.{mediant}
 use Rattle.plane.specs.Order.{Precedes}
 use Rattle.plane.specs.Point.{IsPoint, Triple}
 use Rattle.plane.specs.Segment.{On}
@@ -203,23 +202,3 @@ straight_on p q r a b at_p at_q at_r at_a at_b on_p on_q on_r =
     let last : IsStraight b q r =
     zero_of e.k e.l e.m _ _ _ e.k_positive (straight_shift a b q straight) (determinant_same_ends b q) (determinant_along r a b e b q) in
     zero_of c.k c.l c.m _ _ _ c.k_positive first last (determinant_along_first p a b c q r)
-
--- ---- mediants
-
--- one part of a mediant
-one_part : (x u : ℤ) → pos 1 *ℤ (x +ℤ u) ≡ pos 1 *ℤ x +ℤ pos 1 *ℤ u
-one_part x u = omega (arith, ints)
-
--- the mediant of two points is on the segment between them
-pub mediant_on : (p q : Triple) → IsPoint p → IsPoint q → On (mediant p q) p q
-mediant_on p q at_p at_q = on_of_combination (mediant p q) p q (mediant_is_point p q at_p at_q) at_p at_q (record {
-  k = pos 1;
-  l = pos 1;
-  m = pos 1;
-  k_positive = omega (arith, ints);
-  l_nonnegative = omega (arith, ints);
-  m_nonnegative = omega (arith, ints);
-  in_X = one_part p.X q.X;
-  in_Y = one_part p.Y q.Y;
-  in_W = one_part p.W q.W;
-})

@@ -1,7 +1,8 @@
 -- The law of breakpoints: a segment lies in a ring exactly if the mediants of its neighbouring breakpoints do.
 use Rattle.std.proofs.Common.{inl, inr, ℕ, ◌+◌, ◌<◌, ◌≤◌, List, length, arith}
 use Rattle.std.proofs.lemmas.Bool.{cases_lt}
-use Rattle.plane.proofs.OnByOrder.{mediant_on, on_from_order, on_not_after, on_not_before, straight_on}
+use Rattle.plane.proofs.Meeting.{mediant_on}
+use Rattle.plane.proofs.OnByOrder.{on_from_order, on_not_after, on_not_before, straight_on}
 use Rattle.plane.proofs.Precedence.{NotAfter, follows, mediant_follows, mediant_is_point, mediant_precedes, not_after_antisym}
 use Rattle.plane.proofs.Precedence.{not_after_facts, not_after_of_same, not_after_trans, precedence, precedes, same}
 use Rattle.plane.proofs.Same.{same_sym, same_trans, whole_is_point}
