@@ -6,8 +6,8 @@ mod crossing;
 mod position;
 mod product;
 mod segment;
-//#[cfg(test)]
-//mod tests;
+#[cfg(test)]
+mod tests;
 
 pub use position::{Position, place, place_hom};
 pub use segment::holds_segment;
