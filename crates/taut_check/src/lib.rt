@@ -1,0 +1,8 @@
+//! Whether a list of points is a taut chain of a ring, and if not, the first rule that it breaks.
+#![tactic(auto)]
+
+mod bend;
+mod chain;
+mod verdict;
+
+pub use verdict::{MAX_CHAIN, Verdict, check};
