@@ -3,6 +3,8 @@
 
 mod bend;
 mod chain;
+#[cfg(test)]
+mod tests;
 mod verdict;
 
 pub use verdict::{MAX_CHAIN, Verdict, check};
