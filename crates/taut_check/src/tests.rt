@@ -17,20 +17,24 @@ const L_BACKWARD: [At; 6] = [(0, 4), (2, 4), (2, 2), (4, 2), (4, 0), (0, 0)];
 
 #[test]
 fn verdicts(rt: HostRuntime) -> Result<(), Fail> {
-    for ring in [&L_SHAPE, &L_BACKWARD] {
-        verdicts_in::<Brand, _>(&rt, rt.alloc(), ring, Blank::new(1))?;
-    }
+    both_ways::<Brand, _>(&rt, rt.alloc(), Blank::new(1))?;
     Ok(())
 }
 
-// The list, and what it is in the L, whichever way round that was given.
-#[rattlefmt::skip]
-fn verdicts_in<L: Ledger, R: Abort>(rt: &R, alloc: Global, ring: &[At], blank: Blank) -> Result<(), Memory>
+// The table in the L, given either way round, with a counter over a ledger that nobody else counts in.
+fn both_ways<L: Ledger, R: Abort>(rt: &R, alloc: Global, blank: Blank) -> Result<(), Memory>
     requires name { blank.name ≡ L.name }
     requires parts { blank.parts ≡ L.parts }
     requires countable { 0 < blank.parts }
 {
     let mut steps = Steps::<L>::new(blank);
+    verdicts_in(rt, alloc, &L_SHAPE, &mut steps)?;
+    verdicts_in(rt, alloc, &L_BACKWARD, &mut steps)
+}
+
+// The list, and what it is in the L.
+#[rattlefmt::skip]
+fn verdicts_in<L: Ledger, R: Abort>(rt: &R, alloc: Global, ring: &[At], steps: &mut Steps<L>) -> Result<(), Memory> {
     let cases: [(&str, &[At], Verdict); 16] = [
         ("round the corner", &[(4, 1), (2, 2), (1, 4)], Verdict::Taut),
         ("along the walls of the corner", &[(4, 2), (2, 2), (2, 4)], Verdict::Taut),
@@ -50,7 +54,7 @@ fn verdicts_in<L: Ledger, R: Abort>(rt: &R, alloc: Global, ring: &[At], blank: B
         ("a turn away from both walls", &[(1, 0), (2, 2), (0, 1)], Verdict::WrongSide(1)),
     ];
     for (name, list, want) in cases {
-        assert_eq!(rt; judged(rt, alloc, ring, list, &mut steps)?, want, "{name}");
+        assert_eq!(rt; judged(rt, alloc, ring, list, steps)?, want, "{name}");
     }
     Ok(())
 }
