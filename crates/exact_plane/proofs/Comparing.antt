@@ -7,6 +7,7 @@ use Rattle.std.specs.Cmp.{int_ranks}
 use Rattle.std.specs.Ordering.{MatchOrdering, int_cmp, ordering_then}
 use Rattle.std.specs.declared.cmp.Ordering.{Ordering}
 use Rattle.exact_plane.proofs.Registers.{wide}
+use Rattle.exact_plane.proofs.WideProducts.{part_is}
 use Rattle.exact_plane.specs.Size.{IsSized}
 use Rattle.plane.specs.Order.{Precedes}
 use Rattle.plane.specs.Point.{IsSame, Triple}
@@ -68,21 +69,14 @@ compared_tells p q =
       greater = then_greater _ _ _ _;
     }
 
--- a part with the weight of another point, as it is computed
-part_of : (x w : ℤ) → unsigned_abs x < 2 ^ 75 → unsigned_abs w < 2 ^ 50 → wide x *ℤ wide w ≡ x *ℤ w
-part_of x w small_x small_w =
-    let fits_x : FitsSigned w128 x = omega (arith, ints) in
-    let fits_w : FitsSigned w128 w = omega (arith, ints) in
-    simp to_z-of_z
-
 -- so it is with the points that two values stand for
 pub comparison_tells : (P Q p q : Triple) (r s t : Ordering) → IsSized P → IsSized Q → P ≡ p → Q ≡ q
     → r ≡ int_cmp (wide P.X *ℤ wide Q.W) (wide Q.X *ℤ wide P.W) → s ≡ int_cmp (wide P.Y *ℤ wide Q.W) (wide Q.Y *ℤ wide P.W)
     → t ≡ ordering_then r s → TellsOrder t p q
 comparison_tells P Q p q r s t a b is_p is_q er es et =
     let first : r ≡ int_cmp (P.X *ℤ Q.W) (Q.X *ℤ P.W) =
-    er ∙ (λ i. int_cmp (part_of P.X Q.W a.X_small b.W_small i) (part_of Q.X P.W b.X_small a.W_small i)) in
+    er ∙ (λ i. int_cmp (part_is P.X Q.W a.X_small b.W_small i) (part_is Q.X P.W b.X_small a.W_small i)) in
     let second : s ≡ int_cmp (P.Y *ℤ Q.W) (Q.Y *ℤ P.W) =
-    es ∙ (λ i. int_cmp (part_of P.Y Q.W a.Y_small b.W_small i) (part_of Q.Y P.W b.Y_small a.W_small i)) in
+    es ∙ (λ i. int_cmp (part_is P.Y Q.W a.Y_small b.W_small i) (part_is Q.Y P.W b.Y_small a.W_small i)) in
     let is : t ≡ compared P Q = et ∙ (λ i. ordering_then (first i) (second i)) in
     subst (λ v. TellsOrder t p v) is_q (subst (λ u. TellsOrder t u Q) is_p (subst (λ o. TellsOrder o P Q) (sym is) (compared_tells P Q)))

@@ -1,5 +1,5 @@
 -- Sums of products of parts of rational points fit 128 bits, and so does all on the way to them.
-use Rattle.std.proofs.Common.{◌≡◌, ◌<◌, ◌*◌, ◌^◌, ℕ, ℤ, ◌+ℤ◌, ◌*ℤ◌, ◌-ℤ◌, arith, w64}
+use Rattle.std.proofs.Common.{◌≡◌, ◌∙◌, ◌<◌, ◌*◌, ◌^◌, ℕ, ℤ, ◌+ℤ◌, ◌*ℤ◌, ◌-ℤ◌, arith, w64}
 use Rattle.std.proofs.lemmas.Int.{ints, to_z-of_z, unsigned_abs-mul}
 use Rattle.std.proofs.lemmas.Nat.{mul-lt}
 use Rattle.std.specs.Prelude.{FitsSigned, unsigned_abs}
@@ -106,18 +106,17 @@ pub ruleset cross_offsets = (offsets_fit, offsets_read)
 
 module _ (x w : ℤ) (small_x : unsigned_abs x < 2 ^ 75) (small_w : unsigned_abs w < 2 ^ 50) where
   -- a part of a point with the weight of another
-  pub part_fits : FitsSigned w128 (wide x *ℤ wide w)
-  part_fits =
+  pub part_is : wide x *ℤ wide w ≡ x *ℤ w
+  part_is =
       let fits_x : FitsSigned w128 x = omega (arith, ints) in
       let fits_w : FitsSigned w128 w = omega (arith, ints) in
-      simp to_z-of_z (omega (arith, ints, product_size x w (2 ^ 75) (2 ^ 50) small_x small_w))
+      simp to_z-of_z
+
+  pub part_fits : FitsSigned w128 (wide x *ℤ wide w)
+  part_fits = rw part_is (omega (arith, ints, product_size x w (2 ^ 75) (2 ^ 50) small_x small_w))
 
   pub part_read : wide (wide x *ℤ wide w) ≡ x *ℤ w
-  part_read =
-      let fits_x : FitsSigned w128 x = omega (arith, ints) in
-      let fits_w : FitsSigned w128 w = omega (arith, ints) in
-      let fits_product : FitsSigned w128 (x *ℤ w) = omega (arith, ints, product_size x w (2 ^ 75) (2 ^ 50) small_x small_w) in
-      simp to_z-of_z
+  part_read = to_z-of_z w128 _ part_fits ∙ part_is
 
 -- all that it needs
 pub ruleset part_product = (part_fits, part_read)

@@ -1,5 +1,4 @@
-ghost use Rattle.std.specs.Prelude.{◌≡◌, ◌+◌, ◌+ℤ◌, ◌-ℤ◌, ◌*ℤ◌, ◌<ℤ◌, ◌<◌, ◌^◌, ◌↔◌, IsNone, IfSome, pos, unsigned_abs};
-ghost use Rattle.std.specs.Ordering.{int_cmp};
+ghost use Rattle.std.specs.Prelude.{◌≡◌, ◌+◌, ◌<ℤ◌, ◌<◌, ◌^◌, ◌↔◌, IsNone, IfSome, pos, unsigned_abs};
 ghost use Rattle.exact_plane.specs.Direction.{turn_of};
 ghost use Rattle.exact_plane.specs.Size.{IsNarrow, IsSized};
 ghost use Rattle.plane.specs.Line.{along, cross_product, mediant};
@@ -11,7 +10,7 @@ ghost use Rattle.plane.specs.Turn.{IsStraight};
 use crate::direction::Direction;
 use crate::pt::Pt;
 use crate::steps::Steps;
-use crate::vector::Vector;
+use crate::wide::{compare, cross_offsets, offset, weighted_sum};
 use std::cmp::Ordering;
 use std::marker::Model;
 use std::sync::ledger::Ledger;
@@ -99,6 +98,29 @@ impl Hom {
     }
 }
 
+/// The turn on the way from `a` over `b` to `p`. It takes one step.
+#[tactic(auto, using(crate::proofs::WideProducts::offsets_are_determinant))]
+pub fn turn_hom<L: Ledger>(a: &Pt, b: &Pt, p: &Hom, steps: &mut Steps<L>) -> Direction
+    ensures turn { result ≡ turn_of (whole a.now) (whole b.now) p.now }
+    ensures steps { steps.new ≡ steps.old + 1 }
+{
+    steps.tick();
+    let (x, y) = a.coordinates();
+    let (x, y) = (offset(p.x, x, p.w), offset(p.y, y, p.w));
+    Direction::of_sign(cross_offsets(a.to(b), x, y))
+}
+
+/// Compares X / W, then Y / W. It takes one step.
+pub fn order_hom<L: Ledger>(p: &Hom, q: &Hom, steps: &mut Steps<L>) -> Ordering
+    ensures less { (result ≡ Ordering.Less) ↔ Precedes p.now q.now }
+    ensures equal { (result ≡ Ordering.Equal) ↔ IsSame p.now q.now }
+    ensures greater { (result ≡ Ordering.Greater) ↔ Precedes q.now p.now }
+    ensures steps { steps.new ≡ steps.old + 1 }
+{
+    steps.tick();
+    compare(p.x, p.w, q.x, q.w).then(compare(p.y, p.w, q.y, q.w))
+}
+
 impl Hom {
     // The mediant of two narrow points.
     fn mediant(&self, other: &Hom) -> Hom
@@ -151,72 +173,27 @@ fn cross_product(a: &Pt, b: &Pt, c: &Pt, d: &Pt) -> i64
     a.to(b).cross(c.to(d))
 }
 
-// The sum of a coordinate and a difference of coordinates by their weights.
-#[tactic(auto, using(crate::proofs::WideProducts::weighted_sum))]
-fn weighted_sum(coordinate: i128, weight: i128, difference: i128, share: i128) -> i128
-    requires coordinate { unsigned_abs coordinate < 2 ^ 23 }
-    requires weight { unsigned_abs weight < 2 ^ 49 }
-    requires difference { unsigned_abs difference < 2 ^ 24 }
-    requires share { unsigned_abs share < 2 ^ 49 }
-    ensures value { result ≡ (coordinate *ℤ weight) +ℤ (difference *ℤ share) }
-    ensures small { unsigned_abs result < 2 ^ 74 }
-{
-    coordinate * weight + difference * share
-}
+#[cfg(test)]
+impl Hom {
+    // The point with these parts, or `None` where they are too large or W isn't positive.
+    pub(crate) fn of_parts(x: i128, y: i128, w: i128) -> Option<Hom> {
+        const LIMIT: i128 = 1 << 75;
+        if -LIMIT < x && x < LIMIT && -LIMIT < y && y < LIMIT && 0 < w && w < 1 << 50 {
+            Some(Hom { x, y, w })
+        } else {
+            None
+        }
+    }
 
-// How far a part of a rational point with this weight is past a coordinate, times the weight.
-#[tactic(auto, using(crate::proofs::WideProducts::offset))]
-fn offset(part: i128, coordinate: i128, weight: i128) -> i128
-    requires part { unsigned_abs part < 2 ^ 75 }
-    requires coordinate { unsigned_abs coordinate < 2 ^ 23 }
-    requires weight { unsigned_abs weight < 2 ^ 50 }
-    ensures value { result ≡ part -ℤ (coordinate *ℤ weight) }
-    ensures small { unsigned_abs result < 2 ^ 76 }
-{
-    part - coordinate * weight
-}
-
-// The cross product of a way and such offsets.
-#[tactic(auto, using(crate::proofs::WideProducts::cross_offsets))]
-fn cross_offsets(way: Vector, x: i128, y: i128) -> i128
-    requires x { unsigned_abs x < 2 ^ 76 }
-    requires y { unsigned_abs y < 2 ^ 76 }
-    ensures { result ≡ (way.x *ℤ y) -ℤ (way.y *ℤ x) }
-{
-    way.x as i128 * y - way.y as i128 * x
-}
-
-/// The turn on the way from `a` over `b` to `p`. It takes one step.
-#[tactic(auto, using(crate::proofs::WideProducts::offsets_are_determinant))]
-pub fn turn_hom<L: Ledger>(a: &Pt, b: &Pt, p: &Hom, steps: &mut Steps<L>) -> Direction
-    ensures turn { result ≡ turn_of (whole a.now) (whole b.now) p.now }
-    ensures steps { steps.new ≡ steps.old + 1 }
-{
-    steps.tick();
-    let (x, y) = a.coordinates();
-    let (x, y) = (offset(p.x, x, p.w), offset(p.y, y, p.w));
-    Direction::of_sign(cross_offsets(a.to(b), x, y))
-}
-
-/// Compares X / W, then Y / W. It takes one step.
-pub fn order_hom<L: Ledger>(p: &Hom, q: &Hom, steps: &mut Steps<L>) -> Ordering
-    ensures less { (result ≡ Ordering.Less) ↔ Precedes p.now q.now }
-    ensures equal { (result ≡ Ordering.Equal) ↔ IsSame p.now q.now }
-    ensures greater { (result ≡ Ordering.Greater) ↔ Precedes q.now p.now }
-    ensures steps { steps.new ≡ steps.old + 1 }
-{
-    steps.tick();
-    compare(p.x, p.w, q.x, q.w).then(compare(p.y, p.w, q.y, q.w))
-}
-
-// Compares two parts by what they are without their weights.
-#[tactic(auto, using(crate::proofs::WideProducts::part_product))]
-fn compare(part: i128, weight: i128, other: i128, other_weight: i128) -> Ordering
-    requires part { unsigned_abs part < 2 ^ 75 }
-    requires weight { unsigned_abs weight < 2 ^ 50 }
-    requires other { unsigned_abs other < 2 ^ 75 }
-    requires other_weight { unsigned_abs other_weight < 2 ^ 50 }
-    ensures { result ≡ int_cmp (part *ℤ other_weight) (other *ℤ weight) }
-{
-    (part * other_weight).cmp(&(other * weight))
+    // The same, but `None` also where the point is not narrow.
+    pub(crate) fn of_narrow_parts(x: i128, y: i128, w: i128) -> Option<Hom>
+        ensures { IfSome result IsNarrow }
+    {
+        const LIMIT: i128 = 1 << 74;
+        if -LIMIT < x && x < LIMIT && -LIMIT < y && y < LIMIT && 0 < w && w < 1 << 49 {
+            Some(Hom { x, y, w })
+        } else {
+            None
+        }
+    }
 }

@@ -12,6 +12,7 @@ mod steps;
 #[cfg(test)]
 mod tests;
 mod vector;
+mod wide;
 
 pub use cone::in_cone;
 pub use direction::{Direction, turn};
