@@ -11,7 +11,7 @@ use Rattle.rings.specs.Inside.{IsIn}
 use Rattle.rings.specs.Orientation.{is_clockwise, turned_round}
 use Rattle.rings.specs.Ring.{vertex}
 use Rattle.rings.specs.Simple.{IsSimple}
-use Rattle.ring_check.specs.Oriented.{given_of, oriented}
+use Rattle.ring_check.specs.Oriented.{IsMadeOfList, given_of, oriented}
 
 -- ---- what is kept of a list
 
@@ -50,6 +50,10 @@ module _ (points : List Point) where
         | true ↦ turned_round-turned_round points
         | false ↦ refl
       ]
+
+  -- so what is kept is made of it
+  pub made_oriented : IsMadeOfList (oriented points)
+  made_oriented = sym (ap oriented given_of-oriented)
 
 -- ---- numbers in a list that was turned round
 
