@@ -1,0 +1,3 @@
+pub mod DistinctPoints
+pub mod Members
+pub mod SimpleIsApart
