@@ -1,3 +1,5 @@
 pub mod DistinctPoints
 pub mod Members
+pub mod Pieces
+pub mod Rotated
 pub mod SimpleIsApart
