@@ -1,3 +1,4 @@
+pub mod Corner
 pub mod DistinctPoints
 pub mod Members
 pub mod Pieces

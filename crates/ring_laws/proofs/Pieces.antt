@@ -1,20 +1,20 @@
 -- A ring cut along a diagonal: its edges, winding numbers and area are those of the two pieces together.
-use Rattle.std.proofs.Common.{◌≡◌, ◌⊎◌, inl, inr, refl, sym, subst, ap, ◌∙◌, ◌+ℤ◌, List, [], ◌∷◌, ◌++◌, arith}
+use Rattle.std.proofs.Common.{◌≡◌, ◌⊎◌, inl, inr, sym, subst, ap, ◌∙◌, ◌+ℤ◌, List, [], ◌∷◌, ◌++◌, arith}
 use Rattle.std.proofs.lemmas.Int.{ints}
 use Rattle.std.proofs.lemmas.List.{append_assoc}
 use Rattle.plane.proofs.Segments.{on_reversed}
-use Rattle.plane.specs.Point.{IsPoint, Point, Triple, whole}
+use Rattle.plane.specs.Point.{Point, Triple, whole}
 use Rattle.rings.proofs.Crossings.{crossing_reversed, reversed}
 use Rattle.rings.proofs.Edges.{winding-append}
 use Rattle.rings.proofs.TurnedArea.{swept-append}
 use Rattle.rings.specs.Edge.{Edge, IsOnSome, edges_along, edges_of}
 use Rattle.rings.specs.Inside.{winding}
 use Rattle.rings.specs.Orientation.{doubled_area, swept}
-use Rattle.ring_laws.proofs.DistinctPoints.{AreDistinct, HasPoint, distinct_left, distinct_right, distinct_vertices, has_point_right, vertices_differ}
+use Rattle.ring_laws.proofs.DistinctPoints.{AreDistinct, distinct_left, distinct_right, distinct_vertices, has_point_right, vertices_differ}
 use Rattle.ring_laws.proofs.Members.{edge_with, has_edge_cases, has_edge_left, has_edge_right, has_edge_swapped, on_some_of}
 use Rattle.ring_laws.proofs.Rotated.{edges_along_append}
 use Rattle.ring_laws.proofs.SimpleIsApart.{meet_swapped}
-use Rattle.ring_laws.specs.Apart.{AreApart, HasEdge, IsApartRing, IsOn, MeetAtEnds}
+use Rattle.ring_laws.specs.Apart.{AreApart, HasEdge, IsApartRing, MeetAtEnds}
 
 -- ---- edges that are apart
 
@@ -124,7 +124,7 @@ module _ (v : Point) (ps : List Point) (z : Point) (qs : List Point) where
           let back : Edge = record { from = z; to = v } in
           let among = λ (e : Edge) (has : HasEdge chain e). subst (λ es. HasEdge es e) (sym edges_of_cut) (has_edge_left e chain (edges_along z qs v) has) in
           let more = apart_more back chain (apart_among chain (edges_of (v ∷ (ps ++ z ∷ qs))) among apart.apart)
-              (λ e has. meet_reversed e (record { from = v; to = z }) (meets e has)) in
+          (λ e has. meet_reversed e (record { from = v; to = z }) (meets e has)) in
           apart_among (edges_of (v ∷ (ps ++ z ∷ []))) (back ∷ chain)
           (λ e has. has_edge_swapped e chain (back ∷ []) (subst (λ es. HasEdge es e) edges_of_first has)) more;
     }

@@ -1,5 +1,5 @@
 -- A ring read from another vertex on: its edges, winding numbers and area are the same.
-use Rattle.std.proofs.Common.{◌≡◌, ◌⊎◌, inl, inr, refl, sym, subst, ap, ◌∙◌, ℕ, ◌+◌, ◌-◌, ◌%◌, ◌<◌, ◌≤◌, ℤ, ◌+ℤ◌, arith}
+use Rattle.std.proofs.Common.{◌≡◌, inl, inr, refl, sym, subst, ap, ◌∙◌, ℕ, ◌+◌, ◌-◌, ◌%◌, ◌<◌, ◌≤◌, arith}
 use Rattle.std.proofs.Common.{List, [], ◌∷◌, ◌++◌, length, get_or}
 use Rattle.std.proofs.Math.Nat.{add-mod_left}
 use Rattle.std.proofs.lemmas.Bool.{cases_lt}
@@ -16,7 +16,7 @@ use Rattle.rings.specs.Orientation.{doubled_area, swept, turn_at}
 use Rattle.rings.specs.Ring.{origin, vertex}
 use Rattle.ring_laws.proofs.DistinctPoints.{distinct_swapped, distinct_vertices, vertices_differ}
 use Rattle.ring_laws.proofs.Members.{has_edge_swapped, on_some_among}
-use Rattle.ring_laws.specs.Apart.{AreApart, HasEdge, IsApartRing}
+use Rattle.ring_laws.specs.Apart.{HasEdge, IsApartRing}
 
 -- ---- two lists of edges in both orders
 
@@ -122,7 +122,7 @@ module _ (ps qs : List Point) where
         ∙ sym (vertex_in_range (ps ++ qs) (length ps + j) origin (omega (arith, length-append ps qs)))
     | inr more ↦
         let sizes : (length ps + length qs ≡ length (ps ++ qs)) × (length qs + length ps ≡ length (qs ++ ps)) =
-            (sym (length-append ps qs), sym (length-append qs ps)) in
+        (sym (length-append ps qs), sym (length-append qs ps)) in
         let past : length ps + j ≡ length (ps ++ qs) + (j - length qs) = omega (arith, sizes.0) in
         get_or-append_right qs ps (length qs) j origin refl more
         ∙ sym (get_or_append_left ps qs origin (j - length qs) (omega (arith, sizes.1)))
@@ -135,9 +135,9 @@ module _ (ps qs : List Point) where
   turn_rotated some =
       let n : length (qs ++ ps) ≡ length (ps ++ qs) = length_rotated ps qs in
       let before : vertex (qs ++ ps) (0 + (length (qs ++ ps) - 1)) ≡ vertex (ps ++ qs) (length ps + (length (ps ++ qs) - 1)) =
-          vertex_rotated _ (omega arith) ∙ ap (vertex (ps ++ qs)) (omega arith) in
+      vertex_rotated _ (omega arith) ∙ ap (vertex (ps ++ qs)) (omega arith) in
       let at : vertex (qs ++ ps) 0 ≡ vertex (ps ++ qs) (length ps) =
-          vertex_rotated 0 (omega arith) ∙ ap (vertex (ps ++ qs)) (omega arith) in
+      vertex_rotated 0 (omega arith) ∙ ap (vertex (ps ++ qs)) (omega arith) in
       let after : vertex (qs ++ ps) (0 + 1) ≡ vertex (ps ++ qs) (length ps + 1) =
-          vertex_rotated (0 + 1) (omega arith) in
+      vertex_rotated (0 + 1) (omega arith) in
       λ i. determinant (whole (before i)) (whole (at i)) (whole (after i))
