@@ -3,9 +3,9 @@ use Rattle.std.proofs.Common.{◌≡◌, ◌⊎◌, inl, inr, refl, sym, subst, 
 use Rattle.std.proofs.Common.{List, [], ◌∷◌, ◌++◌, length, get_or}
 use Rattle.plane.specs.Point.{Point}
 use Rattle.rings.proofs.Vertices.{vertex_in_range}
-use Rattle.rings.specs.Edge.{Edge, edges_along}
+use Rattle.rings.specs.Edge.{Edge, edges_along, edges_of}
 use Rattle.rings.specs.Ring.{origin, vertex}
-use Rattle.ring_laws.specs.Apart.{HasEdge}
+use Rattle.ring_laws.specs.Apart.{HasEdge, HasEnd}
 
 -- p is one of the points
 abbrev pub HasPoint : List Point → Point → Type 0
@@ -120,3 +120,19 @@ ends_along e v [] last (inl h) = (inl (λ i. (h i).from), inl (λ i. (h i).to))
 ends_along e v [] last (inr h) = absurd h
 ends_along e v (w ∷ ws) last (inl h) = (inl (λ i. (h i).from), inl (λ i. (h i).to))
 ends_along e v (w ∷ ws) last (inr h) = let (from, to) = ends_along e w ws last h in (inr from, inr to)
+
+-- each end of an edge of a ring is one of its points
+pub end_of_ring : (e : Edge) (p v : Point) (vs : List Point) → HasEdge (edges_of (v ∷ vs)) e → HasEnd e p → HasPoint (v ∷ vs) p
+end_of_ring e p v vs has (inl is) = subst (HasPoint (v ∷ vs)) is (ends_along e v vs v has).0
+end_of_ring e p v vs has (inr is) = elim (has_point_cases p vs (v ∷ []) (subst (HasPoint (vs ++ v ∷ [])) is (ends_along e v vs v has).1)) [
+  | inl k ↦ inr k
+  | inr k ↦ elim k [ inl first ↦ inl first | inr none ↦ absurd none ]
+]
+
+-- at each of some points but the last an edge along them begins
+pub edge_from : (p v : Point) (ws : List Point) (last : Point) → HasPoint (v ∷ ws) p
+    → (e : Edge) × HasEdge (edges_along v ws last) e × (e.from ≡ p)
+edge_from p v [] last (inl is) = (record { from = v; to = last }, inl refl, is)
+edge_from p v [] last (inr none) = absurd none
+edge_from p v (w ∷ ws) last (inl is) = (record { from = v; to = w }, inl refl, is)
+edge_from p v (w ∷ ws) last (inr has) = let (e, in_list, is) = edge_from p w ws last has in (e, inr in_list, is)

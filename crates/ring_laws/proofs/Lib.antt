@@ -1,6 +1,9 @@
 pub mod Corner
 pub mod DistinctPoints
+pub mod Farthest
+pub mod LeastVertex
 pub mod Members
 pub mod Pieces
+pub mod PiecesMeet
 pub mod Rotated
 pub mod SimpleIsApart
