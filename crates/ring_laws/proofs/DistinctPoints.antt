@@ -1,7 +1,8 @@
 -- Lists of different points, by recursion on the list and by numbers.
 use Rattle.std.proofs.Common.{◌≡◌, ◌⊎◌, inl, inr, refl, sym, subst, ◌∙◌, ℕ, zero, suc, ◌<◌, arith}
-use Rattle.std.proofs.Common.{List, [], ◌∷◌, ◌++◌, length, get_or}
+use Rattle.std.proofs.Common.{List, [], ◌∷◌, ◌++◌, length, get_or, reverse}
 use Rattle.plane.specs.Point.{Point}
+use Rattle.rings.proofs.Turned.{reverse-cons}
 use Rattle.rings.proofs.Vertices.{vertex_in_range}
 use Rattle.rings.specs.Edge.{Edge, edges_along, edges_of}
 use Rattle.rings.specs.Ring.{origin, vertex}
@@ -36,6 +37,14 @@ module _ (p : Point) where
   has_point_cases [] qs h = inr h
   has_point_cases (r ∷ ps) qs (inl h) = inl (inl h)
   has_point_cases (r ∷ ps) qs (inr h) = elim (has_point_cases ps qs h) [ inl k ↦ inl (inr k) | inr k ↦ inr k ]
+
+-- the points in the other order are the same
+pub has_point_reverse : (p : Point) (ps : List Point) → HasPoint (reverse ps) p → HasPoint ps p
+has_point_reverse p [] h = h
+has_point_reverse p (r ∷ ps) h = elim (has_point_cases p (reverse ps) (r ∷ []) (subst (λ qs. HasPoint qs p) (reverse-cons r ps) h)) [
+  | inl k ↦ inr (has_point_reverse p ps k)
+  | inr k ↦ elim k [ inl e ↦ inl e | inr none ↦ absurd none ]
+]
 
 -- the points of two lists are different together where they are in each list, and no point is in both
 pub distinct_append : (ps qs : List Point) → AreDistinct ps → AreDistinct qs → ((p : Point) → HasPoint ps p → ¬ HasPoint qs p)

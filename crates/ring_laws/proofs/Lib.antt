@@ -1,9 +1,12 @@
 pub mod Corner
 pub mod DistinctPoints
 pub mod Farthest
+pub mod LeastTurn
 pub mod LeastVertex
 pub mod Members
+pub mod Mirrored
 pub mod Pieces
 pub mod PiecesMeet
 pub mod Rotated
+pub mod RunsOnce
 pub mod SimpleIsApart
