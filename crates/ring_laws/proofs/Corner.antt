@@ -97,20 +97,18 @@ module _ (v w : Point) (ms : List Point) (u : Point) where
     pub distinct_corner : AreDistinct (v ∷ w ∷ (ms ++ u ∷ []))
     distinct_corner = distinct_vertices (v ∷ w ∷ (ms ++ u ∷ [])) apart.distinct
 
-    -- only two edges have the end v
-    pub edges_at_corner : (e : Edge) → HasEdge (edges_of (v ∷ w ∷ (ms ++ u ∷ []))) e → HasEnd e v → (edge u v ≡ e) ⊎ (edge v w ≡ e)
-    edges_at_corner e has at = go (has_edge_corner e has)
-      where
-        other : HasEdge (edges_along w ms u) e → HasEnd e v → ⊥
-        other k (inl is) =
-            distinct_corner.0 (has_point_left v (w ∷ ms) (u ∷ []) (subst (HasPoint (w ∷ ms)) is (ends_along e w ms u k).0))
-        other k (inr is) =
-            distinct_corner.0 (inr (subst (HasPoint (ms ++ u ∷ [])) is (ends_along e w ms u k).1))
+    -- the other edges do not have the end v,
+    pub not_at_corner : (e : Edge) → HasEdge (edges_along w ms u) e → ¬ (HasEnd e v)
+    not_at_corner e has (inl is) =
+        distinct_corner.0 (has_point_left v (w ∷ ms) (u ∷ []) (subst (HasPoint (w ∷ ms)) is (ends_along e w ms u has).0))
+    not_at_corner e has (inr is) = distinct_corner.0 (inr (subst (HasPoint (ms ++ u ∷ [])) is (ends_along e w ms u has).1))
 
-        go : HasEdge (edge u v ∷ edge v w ∷ edges_along w ms u) e → (edge u v ≡ e) ⊎ (edge v w ≡ e)
-        go (inl k) = inl k
-        go (inr (inl k)) = inr k
-        go (inr (inr k)) = absurd (other k at)
+    -- so two edges have it
+    pub edges_at_corner : (e : Edge) → HasEdge (edges_of (v ∷ w ∷ (ms ++ u ∷ []))) e → HasEnd e v → (edge u v ≡ e) ⊎ (edge v w ≡ e)
+    edges_at_corner e has at = elim (has_edge_corner e has) [
+      | inl is ↦ inl is
+      | inr k ↦ elim k [ inl is ↦ inr is | inr other ↦ absurd (not_at_corner e other at) ]
+    ]
 
     -- the ring without v is apart if its other edges meet the new one at ends
     pub apart_rest : ((e : Edge) → HasEdge (edges_along w ms u) e → MeetAtEnds e (edge u w)) → IsApartRing (w ∷ (ms ++ u ∷ []))

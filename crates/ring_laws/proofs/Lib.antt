@@ -1,5 +1,7 @@
 pub mod Corner
 pub mod DistinctPoints
+pub mod EarStep
+pub mod EdgeLaws
 pub mod Farthest
 pub mod LeastTurn
 pub mod LeastVertex

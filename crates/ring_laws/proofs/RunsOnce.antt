@@ -9,7 +9,7 @@ use Rattle.plane.specs.Point.{IsPoint, Point, Triple, whole}
 use Rattle.plane.specs.Turn.{IsLeft, IsRight, determinant}
 use Rattle.rings.proofs.TurnedArea.{doubled_area-turned_round}
 use Rattle.rings.proofs.TurnedInside.{on_some_turned_iff}
-use Rattle.rings.specs.Edge.{IsOnSome, edges_of}
+use Rattle.rings.specs.Edge.{Edge, IsOnSome, edges_of}
 use Rattle.rings.specs.Inside.{winding}
 use Rattle.rings.specs.Orientation.{doubled_area, turn_at, turned_round}
 use Rattle.rings.specs.Ring.{vertex}
@@ -20,17 +20,19 @@ use Rattle.ring_laws.proofs.Mirrored.{apart_turned, turned_corner, winding_turne
 use Rattle.ring_laws.proofs.Rotated.{apart_rotated, area_rotated, length_rotated, on_some_rotated, turn_rotated, winding_rotated}
 use Rattle.ring_laws.specs.Apart.{IsApartRing}
 
+-- each winding number at a rational point on no edge is 0 or s
+abbrev pub WindsUpTo : ℤ → List Edge → Type 0
+WindsUpTo s es = (x : Triple) → IsPoint x → ¬ IsOnSome es x → (winding es x ≡ pos 0) ⊎ (winding es x ≡ s)
+
 -- the area is positive, and the winding number at a rational point on no edge is 0 or 1
 pub record RunsCounterclockwise (ring : List Point) : Type 0 where
   pub area : pos 0 <ℤ doubled_area ring
-  pub windings : (x : Triple) → IsPoint x → ¬ IsOnSome (edges_of ring) x
-      → (winding (edges_of ring) x ≡ pos 0) ⊎ (winding (edges_of ring) x ≡ pos 1)
+  pub windings : WindsUpTo (pos 1) (edges_of ring)
 
 -- the area is negative, and the winding number at a rational point on no edge is 0 or -1
 pub record RunsClockwise (ring : List Point) : Type 0 where
   pub area : doubled_area ring <ℤ pos 0
-  pub windings : (x : Triple) → IsPoint x → ¬ IsOnSome (edges_of ring) x
-      → (winding (edges_of ring) x ≡ pos 0) ⊎ (winding (edges_of ring) x ≡ negsuc 0)
+  pub windings : WindsUpTo (negsuc 0) (edges_of ring)
 
 -- the ring turns left at vertex i and runs counterclockwise, or turns right there and runs clockwise
 abbrev pub RunsAsItTurns : List Point → ℕ → Type 0

@@ -9,11 +9,11 @@ use Rattle.plane.proofs.Segments.{on_first_end}
 use Rattle.plane.specs.Point.{IsSame, Point, Triple, whole}
 use Rattle.rings.proofs.Indexing.{edge_at}
 use Rattle.rings.proofs.Vertices.{vertex_round}
-use Rattle.rings.specs.Edge.{Edge}
+use Rattle.rings.specs.Edge.{Edge, edges_of}
 use Rattle.rings.specs.Ring.{IsOnEdge, vertex}
 use Rattle.rings.specs.Simple.{IsSimple}
 use Rattle.ring_laws.proofs.Members.{edge_number, has_edge_at}
-use Rattle.ring_laws.specs.Apart.{HasEnd, IsApartRing, IsCommonEnd, MeetAtEnds}
+use Rattle.ring_laws.specs.Apart.{HasEdge, HasEnd, IsApartRing, IsCommonEnd, MeetAtEnds}
 
 -- ---- decisions
 
@@ -150,6 +150,12 @@ module _ (ring : List Point) (apart : IsApartRing ring) where
       go (inr e) (inr f) next first (inr not) = absurd (apart.distinct (i + 1) (j + 1) (omega arith) (omega arith) (e ∙ sym f))
       go (inr e) (inr f) next first (inl last) =
           absurd (apart.distinct 0 (i + 1) (omega arith) (omega arith) (sym (e ∙ sym f ∙ round ring j last)))
+
+  -- so no edge has equal ends
+  pub proper_edges : 1 < length ring → (e : Edge) → HasEdge (edges_of ring) e → ¬ (e.from ≡ e.to)
+  proper_edges some e has same =
+      let (i, within, is) = edge_number ring e has in
+      next_differs i some within ((λ k. (is k).from) ∙ same ∙ (λ k. (sym is k).to))
 
   -- such a ring is simple
   pub simple_of_apart : IsSimple ring
