@@ -61,7 +61,7 @@ module _ (v w : Point) (ms : List Point) (u : Point) where
   winding_corner x = ap (λ es. winding es x) edges_of_ring ∙ winding_swapped (edge v w ∷ edges_along w ms u) (edge u v ∷ []) x
 
   -- and with the area
-  area_corner : doubled_area (v ∷ w ∷ (ms ++ u ∷ [])) ≡ swept (edge u v ∷ edge v w ∷ edges_along w ms u)
+  pub area_corner : doubled_area (v ∷ w ∷ (ms ++ u ∷ [])) ≡ swept (edge u v ∷ edge v w ∷ edges_along w ms u)
   area_corner = ap swept edges_of_ring ∙ swept_swapped (edge v w ∷ edges_along w ms u) (edge u v ∷ [])
 
   -- ---- the ring without v, its new edge first

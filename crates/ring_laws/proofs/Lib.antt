@@ -1,8 +1,10 @@
 pub mod Corner
+pub mod CutStep
 pub mod DistinctPoints
 pub mod EarStep
 pub mod EdgeLaws
 pub mod Farthest
+pub mod FarthestEnd
 pub mod LeastTurn
 pub mod LeastVertex
 pub mod Members
@@ -12,3 +14,4 @@ pub mod PiecesMeet
 pub mod Rotated
 pub mod RunsOnce
 pub mod SimpleIsApart
+pub mod SimpleRings
