@@ -1,3 +1,4 @@
+pub mod BesideEdge
 pub mod Corner
 pub mod CutStep
 pub mod DistinctPoints
@@ -8,6 +9,7 @@ pub mod FarthestEnd
 pub mod LeastTurn
 pub mod LeastVertex
 pub mod Members
+pub mod Middle
 pub mod Mirrored
 pub mod Pieces
 pub mod PiecesMeet
