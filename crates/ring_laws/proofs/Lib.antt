@@ -6,11 +6,13 @@ pub mod EarStep
 pub mod EdgeLaws
 pub mod Farthest
 pub mod FarthestEnd
+pub mod InsideEdge
 pub mod LeastTurn
 pub mod LeastVertex
 pub mod Members
 pub mod Middle
 pub mod Mirrored
+pub mod NearEdge
 pub mod Pieces
 pub mod PiecesMeet
 pub mod Rotated
