@@ -15,6 +15,7 @@ pub mod Mirrored
 pub mod NearEdge
 pub mod Pieces
 pub mod PiecesMeet
+pub mod PiecesWind
 pub mod Rotated
 pub mod RunsOnce
 pub mod SimpleIsApart
