@@ -1,5 +1,8 @@
 pub mod BesideEdge
 pub mod Corner
+pub mod CutDiagonal
+pub mod CutDirection
+pub mod CutLaw
 pub mod CutStep
 pub mod DistinctPoints
 pub mod EarStep
