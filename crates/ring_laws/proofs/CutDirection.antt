@@ -7,11 +7,12 @@ use Rattle.plane.specs.Segment.{On}
 use Rattle.rings.proofs.Edges.{closed_edges_of}
 use Rattle.rings.specs.Edge.{Edge, IsOnSome, edges_along, edges_of}
 use Rattle.rings.specs.Inside.{IsIn}
+use Rattle.ring_laws.proofs.BesideDiagonal.{same_direction}
 use Rattle.ring_laws.proofs.Corner.{edge}
 use Rattle.ring_laws.proofs.Members.{edge_with, on_some_of}
 use Rattle.ring_laws.proofs.Pieces.{apart_first, apart_second, has_edge_of_first, winding_cut}
 use Rattle.ring_laws.proofs.PiecesMeet.{has_edge_back, has_edge_there}
-use Rattle.ring_laws.proofs.PiecesWind.{IsUnit, same_direction}
+use Rattle.ring_laws.proofs.PiecesWind.{IsUnit}
 use Rattle.ring_laws.proofs.RunsOnce.{WindsUpTo}
 use Rattle.ring_laws.specs.Apart.{HasEdge, IsApartRing, IsOn, MeetAtEnds}
 use Rattle.ring_laws.proofs.CutDiagonal.{inner_off, ends_differ, middle, middle_is_point, middle_not_first, middle_not_last, middle_on, some_back, some_there, wound}

@@ -1,3 +1,4 @@
+pub mod BesideDiagonal
 pub mod BesideEdge
 pub mod Corner
 pub mod CutDiagonal

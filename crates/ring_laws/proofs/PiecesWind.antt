@@ -1,5 +1,5 @@
 -- Lists of edges that wind up to once, of which one is made of two others: all three wind the same way, and nowhere twice.
-use Rattle.std.proofs.Common.{◌≡◌, ◌⊎◌, inl, inr, sym, subst, ap, ◌∙◌, ◌<◌, ℤ, pos, negsuc, ◌+ℤ◌, List, [], ◌∷◌, ◌++◌, length, arith}
+use Rattle.std.proofs.Common.{◌≡◌, ◌⊎◌, inl, inr, sym, subst, ap, ◌∙◌, ◌<◌, ℤ, pos, negsuc, ◌+ℤ◌, List, ◌∷◌, ◌++◌, length, arith}
 use Rattle.std.proofs.lemmas.Int.{ints}
 use Rattle.plane.proofs.Same.{whole_is_point}
 use Rattle.plane.proofs.Segments.{on_is_straight, on_last_end}
@@ -27,7 +27,7 @@ abbrev pub IsUpTo : ℤ → ℤ → Type 0
 IsUpTo s n = (n ≡ pos 0) ⊎ (n ≡ s)
 
 -- left and right of a diagonal: two numbers that make s on both sides, where the second falls by 1, are up to s
-same_units : (s t r c d f g : ℤ) → IsUnit s → IsUnit t → IsUnit r → s ≡ c +ℤ f → s ≡ d +ℤ g → f ≡ g +ℤ pos 1
+pub same_units : (s t r c d f g : ℤ) → IsUnit s → IsUnit t → IsUnit r → s ≡ c +ℤ f → s ≡ d +ℤ g → f ≡ g +ℤ pos 1
     → IsUpTo t c → IsUpTo t d → IsUpTo r f → IsUpTo r g → (t ≡ s) × (r ≡ s)
 same_units s t r c d f g hs ht hr left right falls hc hd hf hg = (grind (arith, ints), grind (arith, ints))
 
@@ -35,16 +35,21 @@ same_units s t r c d f g hs ht hr left right falls hc hd hf hg = (grind (arith, 
 no_units : (s l r c d : ℤ) → IsUnit s → l ≡ s +ℤ c → r ≡ s +ℤ d → l ≡ r +ℤ pos 1 → IsUpTo s l → IsUpTo s r → IsUpTo s c → IsUpTo s d → ⊥
 no_units s l r c d hs left right falls hl hr hc hd = grind (arith, ints)
 
+-- left and right of a diagonal: two numbers up to 1 that make n on both sides, where the second falls by 1, make 1
+pub both_up_to_one : (n c d f g : ℤ) → n ≡ c +ℤ f → n ≡ d +ℤ g → f ≡ g +ℤ pos 1
+    → IsUpTo (pos 1) c → IsUpTo (pos 1) d → IsUpTo (pos 1) f → IsUpTo (pos 1) g → n ≡ pos 1
+both_up_to_one n c d f g left right falls hc hd hf hg = grind (arith, ints)
+
 -- ---- a point beside an edge is not on it
 
 -- a point on an edge is not left of it,
-left_not_on : (e : Edge) (x : Triple) → IsPoint x → IsLeft (whole e.from) (whole e.to) x → ¬ IsOn e x
+pub left_not_on : (e : Edge) (x : Triple) → IsPoint x → IsLeft (whole e.from) (whole e.to) x → ¬ IsOn e x
 left_not_on e x at left on =
     let straight = on_is_straight x (whole e.from) (whole e.to) at (whole_is_point e.from) (whole_is_point e.to) on in
     omega (arith, ints, left, straight)
 
 -- nor right of it
-right_not_on : (e : Edge) (x : Triple) → IsPoint x → IsRight (whole e.from) (whole e.to) x → ¬ IsOn e x
+pub right_not_on : (e : Edge) (x : Triple) → IsPoint x → IsRight (whole e.from) (whole e.to) x → ¬ IsOn e x
 right_not_on e x at right on =
     let straight = on_is_straight x (whole e.from) (whole e.to) at (whole_is_point e.from) (whole_is_point e.to) on in
     omega (arith, ints, right, straight)
@@ -119,36 +124,3 @@ module _ (ring : List Point) (apart : IsApartRing ring) (some : 1 < length ring)
       (off_others ring apart e has near.point near.rational near.on near.not_first near.not_last)
       (near.misses near.point near.rational (on_last_end x near.point))
       (sym (winding_law x near.point at near.rational xs closed_xs near.misses) ∙ once)
-
--- ---- beside a diagonal
-
--- the edges es wind as fs and a diagonal d with the edges gs together, and once round a point x strictly inside the diagonal
-module _ (es fs gs : List Edge) (d : Edge) (sum : (x : Triple) → winding es x ≡ winding fs x +ℤ winding (d ∷ gs) x)
-    (closed_es : IsClosed es) (closed_gs : IsClosed (d ∷ gs)) (off_fs : (x : Triple) → ¬ IsOnSome es x → ¬ IsOn d x → ¬ IsOnSome fs x)
-    (among : (x : Triple) → IsOnSome gs x → IsOnSome es x) (proper : ¬ (d.from ≡ d.to)) (x : Triple) (at : IsPoint x) (on : IsOn d x)
-    (not_from : ¬ IsSame x (whole d.from)) (not_to : ¬ IsSame x (whole d.to)) (off : ¬ IsOnSome es x) where
-  -- then both parts wind in the same direction as es
-  pub same_direction : (s t r : ℤ) → IsUnit s → IsUnit t → IsUnit r → winding es x ≡ s → WindsUpTo t fs → WindsUpTo r (d ∷ gs) → (t ≡ s) × (r ≡ s)
-  same_direction s t r hs ht hr once winds_fs winds_gs =
-      same_units s t r (winding fs h.left) (winding fs h.right) (winding (d ∷ gs) h.left) (winding (d ∷ gs) h.right) hs ht hr
-      (sym once ∙ winding_law x h.left at h.left_rational es closed_es h.misses_left ∙ sum h.left)
-      (sym once ∙ winding_law x h.right at h.right_rational es closed_es h.misses_right ∙ sum h.right)
-      (winding_law_crossed h.left h.right h.left_rational h.right_rational [] gs d closed_gs (λ z at_z way none. none)
-      (λ z at_z way k. h.misses z at_z way (among z k)) h.crosses)
-      (winds_fs h.left h.left_rational (off_fs h.left left_off (left_not_on d h.left h.left_rational h.crosses.starts_left)))
-      (winds_fs h.right h.right_rational (off_fs h.right right_off (right_not_on d h.right h.right_rational h.crosses.ends_right)))
-      (winds_gs h.left h.left_rational (off_piece h.left left_off (left_not_on d h.left h.left_rational h.crosses.starts_left)))
-      (winds_gs h.right h.right_rational (off_piece h.right right_off (right_not_on d h.right h.right_rational h.crosses.ends_right)))
-    where
-      h : BesideEdge d x es
-      h = beside_edge d proper x at on not_from not_to es off
-
-      left_off : ¬ IsOnSome es h.left
-      left_off = h.misses_left h.left h.left_rational (on_last_end x h.left)
-
-      right_off : ¬ IsOnSome es h.right
-      right_off = h.misses_right h.right h.right_rational (on_last_end x h.right)
-
-      off_piece : (z : Triple) → ¬ IsOnSome es z → ¬ IsOn d z → ¬ IsOnSome (d ∷ gs) z
-      off_piece z not_es not_d (inl k) = not_d k
-      off_piece z not_es not_d (inr k) = not_es (among z k)
