@@ -52,6 +52,11 @@ sum_is s n a b unit sum h hb ea = grind (arith, ints)
 
 -- ---- the diagonal
 
+-- the segment from a to b meets the edges of the ring only at common ends, and it is in the ring
+pub record IsDiagonal (ring : List Point) (a b : Point) : Type 0 where
+  pub meets : (e : Edge) → HasEdge (edges_of ring) e → MeetAtEnds e (edge a b)
+  pub inside : (x : Triple) → IsPoint x → On x (whole a) (whole b) → IsIn ring x
+
 module _ (v : Point) (ps : List Point) (z : Point) (qs : List Point) (apart : IsApartRing (v ∷ (ps ++ z ∷ qs)))
     (meets : (e : Edge) → HasEdge (edges_of (v ∷ (ps ++ z ∷ qs))) e → MeetAtEnds e (edge v z)) where
   -- its ends differ

@@ -11,20 +11,19 @@ use Rattle.rings.proofs.InRing.{on_some_or_not}
 use Rattle.rings.specs.Edge.{Edge, IsOnSome, edges_along, edges_of}
 use Rattle.rings.specs.Inside.{IsIn}
 use Rattle.ring_laws.proofs.Corner.{edge}
-use Rattle.ring_laws.proofs.CutDiagonal.{in_if_wound, not_twice, one_is, sum_is, wound}
-use Rattle.ring_laws.proofs.CutDirection.{WindTogether, WindsOnce, off_first, off_second, on_back, wind_together}
+use Rattle.ring_laws.proofs.CutDiagonal.{IsDiagonal, in_if_wound, not_twice, one_is, sum_is, wound}
+use Rattle.ring_laws.proofs.CutDirection.{WindTogether, WindsOnce, wind_together}
 use Rattle.ring_laws.proofs.Members.{edge_with, on_some_of}
 use Rattle.ring_laws.proofs.Pieces.{edges_of_first, has_edge_of_first, on_some_cut, winding_cut}
-use Rattle.ring_laws.proofs.PiecesMeet.{has_edge_back, has_edge_there, meet_at_cut}
+use Rattle.ring_laws.proofs.PiecesMeet.{has_edge_back, has_edge_there, meet_at_cut, off_first, off_second, on_back}
 use Rattle.ring_laws.proofs.PiecesWind.{on_edge_not_wound}
-use Rattle.ring_laws.specs.Apart.{HasEdge, IsApartRing, IsOn, MeetAtEnds}
+use Rattle.ring_laws.specs.Apart.{IsApartRing, IsOn}
 
 module _ (winds_once : WindsOnce) (v : Point) (ps : List Point) (z : Point) (qs : List Point) (apart : IsApartRing (v ∷ (ps ++ z ∷ qs)))
-    (meets : (e : Edge) → HasEdge (edges_of (v ∷ (ps ++ z ∷ qs))) e → MeetAtEnds e (edge v z))
-    (inside : (x : Triple) → IsPoint x → On x (whole v) (whole z) → IsIn (v ∷ (ps ++ z ∷ qs)) x) where
+    (diagonal : IsDiagonal (v ∷ (ps ++ z ∷ qs)) v z) where
   -- the ring and its pieces wind in one direction
   together : WindTogether (v ∷ (ps ++ z ∷ qs)) (v ∷ (ps ++ z ∷ [])) (v ∷ z ∷ qs)
-  together = wind_together winds_once v ps z qs apart meets inside
+  together = wind_together winds_once v ps z qs apart diagonal
 
   -- its length is enough
   enough : 1 < length (v ∷ (ps ++ z ∷ qs))
@@ -59,13 +58,13 @@ module _ (winds_once : WindsOnce) (v : Point) (ps : List Point) (z : Point) (qs 
         let (e, has, on_e) = edge_with x (edges_of (v ∷ (ps ++ z ∷ []))) on in
         elim (has_edge_of_first v ps z qs e has) [
           | inl k ↦ inl (on_some_of x e (edges_of (v ∷ (ps ++ z ∷ qs))) k on_e)
-          | inr is ↦ inside x at (on_reversed x (whole z) (whole v) (subst (λ (d : Edge). IsOn d x) (sym is) on_e))
+          | inr is ↦ diagonal.inside x at (on_reversed x (whole z) (whole v) (subst (λ (d : Edge). IsOn d x) (sym is) on_e))
         ]
 
     -- and so is one on an edge of the second
     on_second_in : IsOnSome (edges_of (v ∷ z ∷ qs)) x → IsIn (v ∷ (ps ++ z ∷ qs)) x
-    on_second_in (inl on) = inside x at on
-    on_second_in (inr on) = inl (on_back winds_once v ps z qs apart meets inside x on)
+    on_second_in (inl on) = diagonal.inside x at on
+    on_second_in (inr on) = inl (on_back v ps z qs apart x on)
 
     -- off the edges of the pieces, a point in the first is in the ring,
     off_first_in : ¬ IsOnSome (edges_of (v ∷ (ps ++ z ∷ []))) x → ¬ IsOnSome (edges_of (v ∷ z ∷ qs)) x → IsIn (v ∷ (ps ++ z ∷ [])) x
@@ -115,7 +114,7 @@ module _ (winds_once : WindsOnce) (v : Point) (ps : List Point) (z : Point) (qs 
     first_cases : IsOnSome (edges_of (v ∷ (ps ++ z ∷ []))) x → IsOnSome (edges_along v ps z) x ⊎ On x (whole v) (whole z)
     first_cases on = elim (on_some_cases x (edges_along v ps z) (edge z v ∷ []) (subst (λ es. IsOnSome es x) (edges_of_first v ps z qs) on)) [
       | inl k ↦ inl k
-      | inr k ↦ elim k [ inl diagonal ↦ inr (on_reversed x (whole z) (whole v) diagonal) | inr none ↦ absurd none ]
+      | inr k ↦ elim k [ inl on_diagonal ↦ inr (on_reversed x (whole z) (whole v) on_diagonal) | inr none ↦ absurd none ]
     ]
 
     -- a point of both ways is on the diagonal, as v or z
@@ -135,7 +134,7 @@ module _ (winds_once : WindsOnce) (v : Point) (ps : List Point) (z : Point) (qs 
         let (e, has, on) = edge_with x (edges_along v ps z) there in
         on_edge_not_wound (v ∷ (ps ++ z ∷ qs)) apart enough w.s w.unit (edges_of (v ∷ z ∷ qs)) (edges_of (v ∷ (ps ++ z ∷ [])))
         (λ y. winding_cut v ps z qs y ∙ omega (arith, ints)) (closed_edges_of (v ∷ z ∷ qs)) w.whole_winds w.first_winds
-        (λ y off not. off_first winds_once v ps z qs apart meets inside y off (λ on_d. not (inl on_d)))
+        (λ y off not. off_first v ps z qs apart y off (λ on_d. not (inl on_d)))
         e (has_edge_there v ps z qs apart e has) x at on off_q (wound w.s (v ∷ z ∷ qs) w.second_winds x at off_q h)
 
   -- and so it is the other way round
@@ -146,7 +145,7 @@ module _ (winds_once : WindsOnce) (v : Point) (ps : List Point) (z : Point) (qs 
       let (e, has, on) = edge_with x (edges_along z qs v) back in
       on_edge_not_wound (v ∷ (ps ++ z ∷ qs)) apart enough w.s w.unit (edges_of (v ∷ (ps ++ z ∷ []))) (edges_of (v ∷ z ∷ qs))
       (winding_cut v ps z qs) (closed_edges_of (v ∷ (ps ++ z ∷ []))) w.whole_winds w.second_winds
-      (λ y off not. off_second winds_once v ps z qs apart meets inside y off
+      (λ y off not. off_second v ps z qs apart y off
       (λ on_d. not (subst (λ es. IsOnSome es y) (sym (edges_of_first v ps z qs))
       (on_some_right y (edges_along v ps z) (edge z v ∷ []) (inl (on_reversed y (whole v) (whole z) on_d))))))
       e (has_edge_back v ps z qs apart e has) x at on off_p (wound w.s (v ∷ (ps ++ z ∷ [])) w.first_winds x at off_p h)
@@ -157,12 +156,12 @@ module _ (winds_once : WindsOnce) (v : Point) (ps : List Point) (z : Point) (qs 
     where
       go : IsOnSome (edges_of (v ∷ (ps ++ z ∷ []))) x ⊎ (¬ IsOnSome (edges_of (v ∷ (ps ++ z ∷ []))) x)
           → IsOnSome (edges_of (v ∷ z ∷ qs)) x ⊎ (¬ IsOnSome (edges_of (v ∷ z ∷ qs)) x) → On x (whole v) (whole z)
-      go k (inl (inl diagonal)) = diagonal
+      go k (inl (inl on_diagonal)) = on_diagonal
       go (inr off_p) (inl (inr back)) = absurd (back_not_in_first x at back off_p in_p)
-      go (inl on) (inl (inr back)) = elim (first_cases x at on) [ inl there ↦ on_both_ways x at there back | inr diagonal ↦ diagonal ]
+      go (inl on) (inl (inr back)) = elim (first_cases x at on) [ inl there ↦ on_both_ways x at there back | inr on_diagonal ↦ on_diagonal ]
       go (inl on) (inr off_q) = elim (first_cases x at on) [
         | inl there ↦ absurd (there_not_in_second x at there off_q in_q)
-        | inr diagonal ↦ diagonal
+        | inr on_diagonal ↦ on_diagonal
       ]
       go (inr off_p) (inr off_q) =
           let w = together in

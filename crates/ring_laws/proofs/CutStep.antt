@@ -1,8 +1,7 @@
--- A ring that is cut into two pieces runs counterclockwise where both pieces do, and it runs round the diagonal.
+-- A ring that is cut into two pieces runs counterclockwise where both pieces do.
 use Rattle.std.proofs.Common.{◌≡◌, ◌⊎◌, inl, sym, subst, ap, ◌∙◌, pos, List, [], ◌∷◌, ◌++◌, arith}
 use Rattle.std.proofs.lemmas.Int.{ints}
-use Rattle.plane.specs.Point.{IsPoint, IsSame, Point, Triple, whole}
-use Rattle.plane.specs.Segment.{On}
+use Rattle.plane.specs.Point.{Point, Triple, whole}
 use Rattle.plane.specs.Turn.{IsLeft, IsRight}
 use Rattle.rings.proofs.Edges.{closed_edges_of}
 use Rattle.rings.specs.Edge.{Edge, IsClosed, IsOnSome, edges_along, edges_of}
@@ -33,12 +32,7 @@ module _ (v : Point) (ps : List Point) (z : Point) (qs : List Point) where
   winding_back_first x =
       winding_swapped (edges_along z qs v) (edges_along v ps z) x ∙ ap (λ es. winding es x) (sym (edges_of_cut v ps z qs))
 
-  -- with the same points on them
-  on_some_back_first : (x : Triple) → IsOnSome (edges_of (v ∷ (ps ++ z ∷ qs))) x → IsOnSome (edges_along z qs v ++ edges_along v ps z) x
-  on_some_back_first x on =
-      on_some_swapped (edges_along v ps z) (edges_along z qs v) x (subst (λ es. IsOnSome es x) (edges_of_cut v ps z qs) on)
-
-  -- and back
+  -- a point on them is on the ring
   on_some_ring : (x : Triple) → IsOnSome (edges_along z qs v ++ edges_along v ps z) x → IsOnSome (edges_of (v ∷ (ps ++ z ∷ qs))) x
   on_some_ring x on =
       subst (λ es. IsOnSome es x) (sym (edges_of_cut v ps z qs)) (on_some_swapped (edges_along z qs v) (edges_along v ps z) x on)
@@ -68,13 +62,5 @@ module _ (v : Point) (ps : List Point) (z : Point) (qs : List Point) where
           record {
             area = omega (arith, ints, first.area, second.area, area_cut v ps z qs);
             windings = λ x at off.
-                subst (λ n. (n ≡ pos 0) ⊎ (n ≡ pos 1)) (winding_back_first x) (both.0 x at (λ on. off (on_some_ring x on)));
+                subst (λ n. (n ≡ pos 0) ⊎ (n ≡ pos 1)) (winding_back_first x) (both x at (λ on. off (on_some_ring x on)));
           }
-
-      -- and the diagonal is inside, off all edges
-      pub diagonal_inside : (x : Triple) → IsPoint x → On x (whole v) (whole z) → ¬ IsSame x (whole v) → ¬ IsSame x (whole z)
-          → (¬ IsOnSome (edges_of (v ∷ (ps ++ z ∷ qs))) x) × (winding (edges_of (v ∷ (ps ++ z ∷ qs))) x ≡ pos 1)
-      diagonal_inside x at on not_v not_z =
-          let both = two_pieces v z qs ps two_ways u w has_u has_w left right second.windings (first_winds first.windings) in
-          let (off, once) = both.1 x at on not_v not_z in
-          (λ on_edge. off (on_some_back_first x on_edge), sym (winding_back_first x) ∙ once)

@@ -5,7 +5,6 @@ use Rattle.plane.specs.Segment.{On}
 use Rattle.plane.specs.Turn.{IsLeft, IsRight}
 use Rattle.rings.proofs.FarAway.{AllEnds}
 use Rattle.rings.specs.Edge.{Edge, IsClosed, IsOnSome, edges_along}
-use Rattle.rings.specs.Inside.{winding}
 use Rattle.ring_laws.proofs.Corner.{edge, triangle}
 use Rattle.ring_laws.proofs.DistinctPoints.{HasPoint}
 use Rattle.ring_laws.proofs.RunsOnce.{WindsUpTo}
@@ -81,11 +80,9 @@ pub record AreTwoWays (v z : Point) (ms ns : List Point) : Type 0 where
   pub first_off : (m : Point) → HasPoint ms m → ¬ IsOnSome (edge z v ∷ edges_along v ns z) (whole m)
   pub second_off : (n : Point) → HasPoint ns n → ¬ IsOnSome (edge v z ∷ edges_along z ms v) (whole n)
 
--- rings that run once round on both sides of a diagonal run so together, also round the diagonal
+-- rings that run once round on both sides of a diagonal run so together
 abbrev pub TwoPiecesWinding : Type 0
 TwoPiecesWinding = (v z : Point) (ms ns : List Point) → AreTwoWays v z ms ns
     → (u w : Point) → HasPoint ms u → HasPoint ns w → IsLeft (whole v) (whole z) (whole u) → IsRight (whole v) (whole z) (whole w)
     → WindsUpTo (pos 1) (edge v z ∷ edges_along z ms v) → WindsUpTo (pos 1) (edge z v ∷ edges_along v ns z)
     → WindsUpTo (pos 1) (edges_along z ms v ++ edges_along v ns z)
-    × ((x : Triple) → IsPoint x → On x (whole v) (whole z) → ¬ IsSame x (whole v) → ¬ IsSame x (whole z)
-    → (¬ IsOnSome (edges_along z ms v ++ edges_along v ns z) x) × (winding (edges_along z ms v ++ edges_along v ns z) x ≡ pos 1))

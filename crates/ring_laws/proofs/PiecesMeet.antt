@@ -4,9 +4,10 @@ use Rattle.plane.proofs.Same.{same_whole, whole_is_point}
 use Rattle.plane.proofs.Segments.{on_first_end, on_reversed}
 use Rattle.plane.specs.Point.{IsPoint, IsSame, Point, Triple, whole}
 use Rattle.rings.specs.Edge.{Edge, IsOnSome, edges_along, edges_of}
+use Rattle.ring_laws.proofs.Corner.{edge}
 use Rattle.ring_laws.proofs.DistinctPoints.{HasPoint, distinct_between, edge_from, ends_along, has_point_cases}
-use Rattle.ring_laws.proofs.Members.{edge_with, has_edge_left, has_edge_right}
-use Rattle.ring_laws.proofs.Pieces.{distinct_cut, distinct_second, edges_of_cut, meet_reversed}
+use Rattle.ring_laws.proofs.Members.{edge_with, on_some_of, has_edge_left, has_edge_right}
+use Rattle.ring_laws.proofs.Pieces.{distinct_cut, distinct_second, edges_of_cut, has_edge_of_first, meet_reversed}
 use Rattle.ring_laws.proofs.Rotated.{apart_rotated, has_edge_rotated}
 use Rattle.ring_laws.specs.Apart.{HasEdge, HasEnd, IsApartRing, IsCommonEnd, IsOn, MeetAtEnds}
 
@@ -35,6 +36,28 @@ module _ (v : Point) (ps : List Point) (z : Point) (qs : List Point) (apart : Is
   has_edge_back e h =
       subst (λ es. HasEdge es e) (sym (edges_of_cut v ps z qs)) (has_edge_right e (edges_along v ps z) (edges_along z qs v) h)
 
+  -- a point off the ring and the diagonal is off the first piece,
+  pub off_first : (x : Triple) → ¬ IsOnSome (edges_of (v ∷ (ps ++ z ∷ qs))) x → ¬ IsOn (edge v z) x → ¬ IsOnSome (edges_of (v ∷ (ps ++ z ∷ []))) x
+  off_first x off not on =
+      let (e, has, on_e) = edge_with x (edges_of (v ∷ (ps ++ z ∷ []))) on in
+      elim (has_edge_of_first v ps z qs e has) [
+        | inl k ↦ off (on_some_of x e (edges_of (v ∷ (ps ++ z ∷ qs))) k on_e)
+        | inr is ↦ not (on_reversed x (whole z) (whole v) (subst (λ (d : Edge). IsOn d x) (sym is) on_e))
+      ]
+
+  -- and off the second
+  pub off_second : (x : Triple) → ¬ IsOnSome (edges_of (v ∷ (ps ++ z ∷ qs))) x → ¬ IsOn (edge v z) x → ¬ IsOnSome (edges_of (v ∷ z ∷ qs)) x
+  off_second x off not (inl on) = not on
+  off_second x off not (inr on) =
+      let (e, has, on_e) = edge_with x (edges_along z qs v) on in
+      off (on_some_of x e (edges_of (v ∷ (ps ++ z ∷ qs))) (has_edge_back e has) on_e)
+
+  -- the edges back are edges of the ring
+  pub on_back : (x : Triple) → IsOnSome (edges_along z qs v) x → IsOnSome (edges_of (v ∷ (ps ++ z ∷ qs))) x
+  on_back x on =
+      let (e, has, on_e) = edge_with x (edges_along z qs v) on in
+      on_some_of x e (edges_of (v ∷ (ps ++ z ∷ qs))) (has_edge_back e has) on_e
+
   -- a point on an edge there and on an edge back is v or z
   pub meet_at_cut : (e f : Edge) → HasEdge (edges_along z qs v) e → HasEdge (edges_along v ps z) f
       → (x : Triple) → IsPoint x → IsOn e x → IsOn f x → IsSame x (whole v) ⊎ IsSame x (whole z)
@@ -55,9 +78,9 @@ module _ (v : Point) (ps : List Point) (z : Point) (qs : List Point) (apart : Is
         ]
       ]
 
-  module _ (meets : (e : Edge) → HasEdge (edges_of (v ∷ (ps ++ z ∷ qs))) e → MeetAtEnds e (record { from = v; to = z })) where
+  module _ (meets : (e : Edge) → HasEdge (edges_of (v ∷ (ps ++ z ∷ qs))) e → MeetAtEnds e (edge v z)) where
     -- no vertex on the way back is on an edge of the first piece
-    pub off_first_piece : (m : Point) → HasPoint qs m → ¬ IsOnSome (record { from = z; to = v } ∷ edges_along v ps z) (whole m)
+    pub off_first_piece : (m : Point) → HasPoint qs m → ¬ IsOnSome (edge z v ∷ edges_along v ps z) (whole m)
     off_first_piece m has on =
         let (e, has_e, is) = edge_from m z qs v (inr has) in
         let on_e : IsOn e (whole m) = subst (λ (p : Point). IsOn e (whole p)) is (on_first_end (whole e.from) (whole e.to)) in
@@ -82,8 +105,8 @@ module _ (v : Point) (ps : List Point) (z : Point) (qs : List Point) (apart : Is
 
 -- and no vertex on the way there is on an edge of the second piece
 module _ (v : Point) (ps : List Point) (z : Point) (qs : List Point) (apart : IsApartRing (v ∷ (ps ++ z ∷ qs)))
-    (meets : (e : Edge) → HasEdge (edges_of (v ∷ (ps ++ z ∷ qs))) e → MeetAtEnds e (record { from = v; to = z })) where
-  pub off_second_piece : (m : Point) → HasPoint ps m → ¬ IsOnSome (record { from = v; to = z } ∷ edges_along z qs v) (whole m)
+    (meets : (e : Edge) → HasEdge (edges_of (v ∷ (ps ++ z ∷ qs))) e → MeetAtEnds e (edge v z)) where
+  pub off_second_piece : (m : Point) → HasPoint ps m → ¬ IsOnSome (edge v z ∷ edges_along z qs v) (whole m)
   off_second_piece =
       off_first_piece z qs v ps (apart_rotated (v ∷ ps) (z ∷ qs) apart)
-      (λ e has. meet_reversed e (record { from = v; to = z }) (meets e (has_edge_rotated (z ∷ qs) (v ∷ ps) e has)))
+      (λ e has. meet_reversed e (edge v z) (meets e (has_edge_rotated (z ∷ qs) (v ∷ ps) e has)))
