@@ -5,6 +5,7 @@ pub mod CutDiagonal
 pub mod CutDirection
 pub mod CutLaw
 pub mod CutStep
+pub mod Diagonals
 pub mod DistinctPoints
 pub mod EarStep
 pub mod EdgeLaws
