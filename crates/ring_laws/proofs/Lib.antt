@@ -10,6 +10,7 @@ pub mod DistinctPoints
 pub mod EarStep
 pub mod EdgeLaws
 pub mod Farthest
+pub mod FarthestCut
 pub mod FarthestEnd
 pub mod InsideEdge
 pub mod LeastTurn
