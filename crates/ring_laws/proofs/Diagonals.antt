@@ -19,6 +19,7 @@ use Rattle.ring_laws.proofs.DistinctPoints.{HasPoint, edge_from, has_point_right
 use Rattle.ring_laws.proofs.Members.{has_edge_backward, has_edge_reverse, on_some_of}
 use Rattle.ring_laws.proofs.Pieces.{meet_reversed, winding_cut}
 use Rattle.ring_laws.proofs.PiecesMeet.{off_first, on_back}
+use Rattle.ring_laws.proofs.Rotated.{has_edge_rotated, in_rotated}
 use Rattle.ring_laws.proofs.RunsOnce.{WindsUpTo}
 use Rattle.ring_laws.proofs.SimpleIsApart.{meet_swapped, same_or_not}
 use Rattle.ring_laws.specs.Apart.{HasEdge, IsApartRing, IsOn, MeetAtEnds}
@@ -73,4 +74,11 @@ module _ (a b : Point) where
         (has_edge_reverse (reversed e) (backward (edges_of ring)) (has_edge_backward e (edges_of ring) has)) in
         meet_swapped (edge a b) e (meet_reversed (edge a b) (reversed e) (meet_swapped (reversed e) (edge a b) (d.meets (reversed e) turned)));
     inside = λ x at on. (in_turned_iff x ring).0 (d.inside x at on);
+  }
+
+  -- and one of the ring from another vertex on
+  pub diagonal_rotated : (ps qs : List Point) → IsDiagonal (qs ++ ps) a b → IsDiagonal (ps ++ qs) a b
+  diagonal_rotated ps qs d = record {
+    meets = λ e has. d.meets e (has_edge_rotated ps qs e has);
+    inside = λ x at on. in_rotated qs ps x (d.inside x at on);
   }

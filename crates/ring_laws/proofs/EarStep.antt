@@ -90,13 +90,20 @@ module _ (side_in_triangle : SideInTriangle) (none_enters : NoneEnters) (ear_win
             | inr is ↦ inr (subst (λ (p : Point). IsSame x (whole p)) (sym is) c.same)
           ]
 
-      -- so the ring runs counterclockwise
+      -- so the ring without v runs counterclockwise,
+      pub rest_counterclockwise : RunsCounterclockwise (w ∷ (m ∷ ks ++ u ∷ [])) ⊎ RunsClockwise (w ∷ (m ∷ ks ++ u ∷ []))
+          → RunsCounterclockwise (w ∷ (m ∷ ks ++ u ∷ []))
+      rest_counterclockwise (inl runs) = runs
+      rest_counterclockwise (inr runs) = let e = (add_ear (negsuc 0) (inr refl) runs.windings).0 in absurd (cc)
+
+      -- and so does the ring
       pub ear_counterclockwise : RunsCounterclockwise (w ∷ (m ∷ ks ++ u ∷ [])) ⊎ RunsClockwise (w ∷ (m ∷ ks ++ u ∷ []))
           → RunsCounterclockwise (v ∷ w ∷ (m ∷ ks ++ u ∷ []))
-      ear_counterclockwise (inl runs) = record {
-        area = omega (arith, ints, left, runs.area, area_ear v w (m ∷ ks) u);
-        windings = λ x at off.
-            subst (λ z. (z ≡ pos 0) ⊎ (z ≡ pos 1)) (sym (winding_corner v w (m ∷ ks) u x))
-            ((add_ear (pos 1) (inl refl) runs.windings).1 x at (λ on. off (on_some_corner v w (m ∷ ks) u x on)));
-      }
-      ear_counterclockwise (inr runs) = let e = (add_ear (negsuc 0) (inr refl) runs.windings).0 in absurd (cc)
+      ear_counterclockwise which =
+          let runs = rest_counterclockwise which in
+          record {
+            area = omega (arith, ints, left, runs.area, area_ear v w (m ∷ ks) u);
+            windings = λ x at off.
+                subst (λ z. (z ≡ pos 0) ⊎ (z ≡ pos 1)) (sym (winding_corner v w (m ∷ ks) u x))
+                ((add_ear (pos 1) (inl refl) runs.windings).1 x at (λ on. off (on_some_corner v w (m ∷ ks) u x on)));
+          }

@@ -4,6 +4,7 @@ pub mod Corner
 pub mod CutDiagonal
 pub mod CutDirection
 pub mod CutLaw
+pub mod CutRule
 pub mod CutStep
 pub mod Diagonals
 pub mod DistinctPoints

@@ -7,11 +7,11 @@ use Rattle.std.proofs.lemmas.Int.{ints}
 use Rattle.std.proofs.lemmas.List.{append-nil, get_or-append-add, get_or-append_right, get_or_append_left, length-append}
 use Rattle.plane.specs.Point.{Point, Triple, whole}
 use Rattle.plane.specs.Turn.{determinant}
-use Rattle.rings.proofs.Edges.{growth-append, winding-append}
+use Rattle.rings.proofs.Edges.{crossings-append, growth-append, winding-append}
 use Rattle.rings.proofs.TurnedArea.{swept-append}
 use Rattle.rings.proofs.Vertices.{vertex_in_range}
 use Rattle.rings.specs.Edge.{Edge, IsClosed, IsOnSome, edges_along, edges_of}
-use Rattle.rings.specs.Inside.{winding}
+use Rattle.rings.specs.Inside.{IsIn, crossings, winding}
 use Rattle.rings.specs.Orientation.{doubled_area, swept, turn_at}
 use Rattle.rings.specs.Ring.{origin, vertex}
 use Rattle.ring_laws.proofs.DistinctPoints.{distinct_swapped, distinct_vertices, vertices_differ}
@@ -28,6 +28,10 @@ module _ (es fs : List Edge) where
   -- the same area,
   pub swept_swapped : swept (es ++ fs) ≡ swept (fs ++ es)
   swept_swapped = omega (arith, ints, swept-append es fs, swept-append fs es)
+
+  -- the same number of crossings,
+  crossings_swapped : (x : Triple) → crossings (es ++ fs) x ≡ crossings (fs ++ es) x
+  crossings_swapped x = omega (arith, crossings-append x es fs, crossings-append x fs es)
 
   -- and the same points
   pub on_some_swapped : (x : Triple) → IsOnSome (es ++ fs) x → IsOnSome (fs ++ es) x
@@ -93,7 +97,18 @@ module _ (ps qs : List Point) where
       ∙ winding_swapped orders.second orders.first x
       ∙ ap (λ es. winding es x) (sym orders.are)
 
-  -- so is the area
+  -- so are the points in the ring
+  pub in_rotated : (x : Triple) → IsIn (ps ++ qs) x → IsIn (qs ++ ps) x
+  in_rotated x (inl on) = inl (on_some_rotated x on)
+  in_rotated x (inr odd) =
+      let orders = in_two_orders ps qs in
+      let same : crossings (edges_of (qs ++ ps)) x ≡ crossings (edges_of (ps ++ qs)) x =
+      ap (λ es. crossings es x) orders.rotated
+      ∙ crossings_swapped orders.second orders.first x
+      ∙ ap (λ es. crossings es x) (sym orders.are) in
+      inr (ap (λ n. n % 2) same ∙ odd)
+
+  -- and the area
   pub area_rotated : doubled_area (qs ++ ps) ≡ doubled_area (ps ++ qs)
   area_rotated =
       let orders = in_two_orders ps qs in
