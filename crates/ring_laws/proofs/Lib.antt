@@ -5,6 +5,7 @@ pub mod CutDiagonal
 pub mod CutDirection
 pub mod CutLaw
 pub mod CutRule
+pub mod CutRuleMirrored
 pub mod CutStep
 pub mod Diagonals
 pub mod DistinctPoints
