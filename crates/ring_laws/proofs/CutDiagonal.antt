@@ -89,11 +89,12 @@ module _ (v : Point) (ps : List Point) (z : Point) (qs : List Point) (apart : Is
   unfolding middle
   middle_on = toward_on (whole v) (whole z) (whole_is_point v) (whole_is_point z) 1
 
-  -- other than its ends
+  -- other than its first end,
   pub middle_not_first : ¬ IsSame middle (whole v)
   unfolding middle
   middle_not_first = toward_differs (whole v) (whole z) 1 (λ s. ends_differ (sym (same_whole z v s)))
 
+  -- and than its last
   pub middle_not_last : ¬ IsSame middle (whole z)
   unfolding middle
   middle_not_last = middle_differs (whole v) (whole z) (λ s. ends_differ (same_whole v z s))

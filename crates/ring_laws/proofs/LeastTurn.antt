@@ -31,16 +31,19 @@ module _ (v w : Point) (ms : List Point) (u : Point) where
       λ i. determinant (whole (last i)) (whole (first i)) (whole (second i))
 
   module _ (apart : IsApartRing (v ∷ w ∷ (ms ++ u ∷ []))) where
+    -- the vertices are different:
     differ : AreDistinct (v ∷ w ∷ (ms ++ u ∷ []))
     differ = distinct_corner v w ms u apart
 
-    -- u is none of v and w
+    -- u is not v,
     pub last_not_first : ¬ (u ≡ v)
     last_not_first e = differ.0 (inr (subst (HasPoint (ms ++ u ∷ [])) e (has_point_right u ms (u ∷ []) (inl refl))))
 
+    -- nor w,
     pub last_not_second : ¬ (u ≡ w)
     last_not_second e = differ.1.0 (subst (HasPoint (ms ++ u ∷ [])) e (has_point_right u ms (u ∷ []) (inl refl)))
 
+    -- and v is not w
     pub first_not_second : ¬ (v ≡ w)
     first_not_second e = differ.0 (inl (sym e))
 

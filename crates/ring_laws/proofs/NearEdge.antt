@@ -11,10 +11,11 @@ use Rattle.rings.proofs.Lengthwise.{along, square}
 use Rattle.rings.proofs.Nearness.{toward}
 use Rattle.ring_laws.proofs.Middle.{IsMiddle}
 
--- x moved to the left of a way with the run Q and the rise P, and to its right
+-- x moved to the left of a way with the run Q and the rise P
 abbrev pub left_side : Triple → ℤ → ℤ → Triple
 left_side x Q P = record { X = x.X -ℤ P *ℤ x.W; Y = x.Y +ℤ Q *ℤ x.W; W = x.W }
 
+-- and to its right
 abbrev pub right_side : Triple → ℤ → ℤ → Triple
 right_side x Q P = record { X = x.X +ℤ P *ℤ x.W; Y = x.Y -ℤ Q *ℤ x.W; W = x.W }
 
