@@ -1,4 +1,9 @@
+pub mod Comparing
+mod Cones
 mod CrossProduct
 pub mod Directions
 mod Intervals
-mod Registers
+mod Mediants
+mod Meetings
+pub mod Registers
+pub mod WideProducts
