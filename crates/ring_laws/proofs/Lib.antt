@@ -1,0 +1,3 @@
+pub mod AcrossEdge
+pub mod NearPairs
+pub mod Sides
