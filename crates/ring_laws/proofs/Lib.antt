@@ -1,3 +1,6 @@
 pub mod AcrossEdge
+pub mod Farthest
 pub mod NearPairs
 pub mod Sides
+pub mod TrianglePlaces
+pub mod TriangleWinding
