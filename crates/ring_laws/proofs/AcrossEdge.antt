@@ -17,7 +17,7 @@ use Rattle.rings.proofs.SignSteps.{turned_negative, turned_positive}
 use Rattle.rings.specs.Across.{CrossesRight, Misses}
 use Rattle.rings.specs.Edge.{Edge, IsClosed, IsOnSome}
 use Rattle.rings.specs.Inside.{winding}
-use Rattle.ring_laws.proofs.NearPairs.{misses_between, side_toward, turn_toward}
+use Rattle.ring_laws.proofs.NearPairs.{left_toward, misses_between, negative_at, positive_at, right_toward, turn_toward}
 use Rattle.ring_laws.proofs.Sides.{IsWithin, stays_left, stays_right}
 
 -- ---- numbers
@@ -57,13 +57,6 @@ off_line e h = omega (arith, ints)
 off_line_right : {x : ℤ} → x ≡ pos 0 → x <ℤ pos 0 → ⊥
 off_line_right e h = omega (arith, ints)
 
--- signs through an equation
-negative_at : {x y : ℤ} → x ≡ y → y <ℤ pos 0 → x <ℤ pos 0
-negative_at e h = omega (arith, ints)
-
-positive_at : {x y : ℤ} → x ≡ y → pos 0 <ℤ y → pos 0 <ℤ x
-positive_at e h = omega (arith, ints)
-
 -- ---- from one side of a segment to the other, past a point m within it
 
 module _ (m a b p q : Triple) (within : IsWithin m a b) (left : IsLeft a b p) (right : IsRight a b q) where
@@ -89,10 +82,6 @@ module _ (m a b p q : Triple) (within : IsWithin m a b) (left : IsLeft a b p) (r
 
 -- ---- the two sides of an edge
 
--- where one number is 0, a multiple of it and another is the other
-only_other : (n f g z : ℤ) → z ≡ n *ℤ f +ℤ g → f ≡ pos 0 → z ≡ g
-only_other n f g z e ef = omega (arith, ints, ap (λ x. n *ℤ x) ef, mul-zero n)
-
 module _ (e : Edge) (m p q : Triple) (at_m : IsPoint m) (at_p : IsPoint p) (at_q : IsPoint q)
     (within : IsWithin m (whole e.from) (whole e.to))
     (left : IsLeft (whole e.from) (whole e.to) p) (right : IsRight (whole e.from) (whole e.to) q) where
@@ -100,13 +89,13 @@ module _ (e : Edge) (m p q : Triple) (at_m : IsPoint m) (at_p : IsPoint p) (at_q
   near_left : (n : ℕ) → IsLeft (whole e.from) (whole e.to) (toward m p n)
   near_left n =
       let straight = combination_is_straight m (whole e.from) (whole e.to) within.combination in
-      positive_at (only_other (pos n) _ _ _ (side_toward (whole e.from) (whole e.to) m p n) straight) left
+      left_toward (whole e.from) (whole e.to) m p straight left n
 
   -- and one on the right is on the right
   near_right : (n : ℕ) → IsRight (whole e.from) (whole e.to) (toward m q n)
   near_right n =
       let straight = combination_is_straight m (whole e.from) (whole e.to) within.combination in
-      negative_at (only_other (pos n) _ _ _ (side_toward (whole e.from) (whole e.to) m q n) straight) right
+      right_toward (whole e.from) (whole e.to) m q straight right n
 
   -- the segment between two near points crosses the edge
   crosses_near : Eventually (λ n. CrossesRight (toward m p n) (toward m q n) e)

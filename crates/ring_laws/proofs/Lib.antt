@@ -1,6 +1,10 @@
 pub mod AcrossEdge
+pub mod EarBase
+pub mod EarSign
+pub mod EarWinding
 pub mod Farthest
 pub mod NearPairs
 pub mod Sides
+pub mod SomeEdge
 pub mod TrianglePlaces
 pub mod TriangleWinding

@@ -1,12 +1,14 @@
 -- Near a point, in two directions at once: what is apart from it is left behind, and turns keep their sides.
-use Rattle.std.proofs.Common.{◌≡◌, inl, inr, [], ◌∷◌, refl, ℕ, ◌+◌, List, pos, ◌+ℤ◌, ◌*ℤ◌, arith}
+use Rattle.std.proofs.Common.{◌≡◌, inl, inr, [], ◌∷◌, refl, ap, ℕ, ◌+◌, List, ℤ, pos, ◌+ℤ◌, ◌*ℤ◌, ◌<ℤ◌, arith}
+use Rattle.std.proofs.lemmas.Int.{ints}
+use Rattle.integer_algebra.proofs.Laws.{mul-zero}
 use Rattle.integer_algebra.proofs.Polynomial.{var, ◌⊕◌, ◌⊗◌, same_value}
 use Rattle.plane.proofs.Determinants.{parts}
 use Rattle.plane.proofs.Same.{whole_is_point}
 use Rattle.plane.proofs.Written.{determinant as det, written_determinant}
 use Rattle.plane.specs.Point.{IsPoint, Triple, whole}
 use Rattle.plane.specs.Segment.{Meet, On}
-use Rattle.plane.specs.Turn.{determinant}
+use Rattle.plane.specs.Turn.{IsLeft, IsRight, IsStraight, determinant}
 use Rattle.rings.proofs.Nearness.{Eventually, no_meet_across, positive_eventually, toward, toward_is_point}
 use Rattle.rings.proofs.Separation.{on_or_separated}
 use Rattle.rings.specs.Across.{Misses}
@@ -55,6 +57,27 @@ side_toward a b m c n =
     (written_determinant (var 0) (var 1) (var 2) (var 3) (var 4) (var 5)
     (var 12 ⊗ var 6 ⊕ var 9) (var 12 ⊗ var 7 ⊕ var 10) (var 12 ⊗ var 8 ⊕ var 11))
     (var 12 ⊗ det 0 1 2 ⊕ det 0 1 3) (parts (a ∷ b ∷ m ∷ c ∷ []) (pos n ∷ [])) refl
+
+-- where one number is 0, a multiple of it and another is the other
+only_other : (n f g z : ℤ) → z ≡ n *ℤ f +ℤ g → f ≡ pos 0 → z ≡ g
+only_other n f g z e ef = omega (arith, ints, ap (λ x. n *ℤ x) ef, mul-zero n)
+
+-- signs through an equation
+pub negative_at : {x y : ℤ} → x ≡ y → y <ℤ pos 0 → x <ℤ pos 0
+negative_at e h = omega (arith, ints)
+
+-- positive too
+pub positive_at : {x y : ℤ} → x ≡ y → pos 0 <ℤ y → pos 0 <ℤ x
+positive_at e h = omega (arith, ints)
+
+module _ (a b m c : Triple) (straight : IsStraight a b m) where
+  -- from a point on a line toward one left of it, a near point is left of it,
+  pub left_toward : IsLeft a b c → (n : ℕ) → IsLeft a b (toward m c n)
+  left_toward left n = positive_at (only_other (pos n) _ _ _ (side_toward a b m c n) straight) left
+
+  -- and toward one right of it, right
+  pub right_toward : IsRight a b c → (n : ℕ) → IsRight a b (toward m c n)
+  right_toward right n = negative_at (only_other (pos n) _ _ _ (side_toward a b m c n) straight) right
 
 -- the side of the line through two near points
 pub turn_toward : (m p q f : Triple) (n : ℕ)

@@ -1,11 +1,14 @@
 -- Points within a segment, and the side of a line on which a segment stays.
-use Rattle.std.proofs.Common.{◌≡◌, ℤ, pos, ◌<ℤ◌, ◌≤ℤ◌}
-use Rattle.integer_algebra.proofs.Signs.{is_negative, is_positive, is_zero, sign}
-use Rattle.plane.proofs.Vectors.{IsCombination, combination_of, determinant_along, weights_positive}
+use Rattle.std.proofs.Common.{◌≡◌, ap, ℤ, pos, ◌-ℤ◌, ◌*ℤ◌, ◌<ℤ◌, ◌≤ℤ◌, arith}
+use Rattle.std.proofs.lemmas.Int.{ints}
+use Rattle.integer_algebra.proofs.Laws.{mul_comm, zero-mul}
+use Rattle.integer_algebra.proofs.Signs.{factor_zero, is_negative, is_positive, is_zero, sign}
+use Rattle.plane.proofs.Vectors.{IsCombination, combination_of, determinant_along, determinant_is_linear, weights_positive}
 use Rattle.plane.specs.Point.{IsPoint, IsSame, Triple}
 use Rattle.plane.specs.Segment.{On}
-use Rattle.plane.specs.Turn.{IsLeft, IsRight}
-use Rattle.rings.proofs.Combinations.{same_without_first, same_without_last}
+use Rattle.plane.specs.Turn.{IsLeft, IsRight, IsStraight, determinant}
+use Rattle.rings.proofs.Combinations.{first_end_by, same_without_first, same_without_last}
+use Rattle.rings.proofs.SamePoint.{determinant_same}
 use Rattle.rings.proofs.SignSteps.{mean_negative, mean_positive, not_both}
 
 -- ---- points inside a segment
@@ -32,6 +35,11 @@ within_from x a b at_x at_a at_b on first last =
 
 -- ---- sides along a segment
 
+-- a number that a positive factor makes 0 is 0
+zero_by_weight : (f w g z : ℤ) → pos 0 <ℤ w → f *ℤ w ≡ g *ℤ z → g ≡ pos 0 → f ≡ pos 0
+zero_by_weight f w g z hw e eg =
+    factor_zero w f (λ n. omega (arith, ints)) (omega (arith, ints, mul_comm w f, ap (λ x. x *ℤ z) eg, zero-mul z))
+
 module _ (x p q : Triple) (at_x : IsPoint x) (at_p : IsPoint p) (at_q : IsPoint q) (on : On x p q) (a b : Triple) where
   -- between points left of a line all are left of it,
   pub stays_left : IsLeft a b p → IsLeft a b q → IsLeft a b x
@@ -46,3 +54,15 @@ module _ (x p q : Triple) (at_x : IsPoint x) (at_p : IsPoint p) (at_q : IsPoint 
       let c = combination_of x p q at_x at_p at_q on in
       mean_negative c.k c.l c.m _ _ _ c.k_positive c.l_nonnegative c.m_nonnegative (determinant_along x p q c a b)
       (weights_positive x p q c at_x) hp hq
+
+-- from a point on a line to one left of it, only the first end is not left of it
+pub first_end_on_line : (x p q a b : Triple) → IsPoint x → IsPoint p → IsPoint q → On x p q → IsStraight a b p → IsLeft a b q
+    → determinant a b x ≤ℤ pos 0 → IsSame x p
+first_end_on_line x p q a b at_x at_p at_q on straight left h =
+    first_end_by x p q (combination_of x p q at_x at_p at_q on) (a.Y *ℤ b.W -ℤ b.Y *ℤ a.W) (b.X *ℤ a.W -ℤ a.X *ℤ b.W)
+    (a.X *ℤ b.Y -ℤ b.X *ℤ a.Y) (rw (← determinant_is_linear a b p) straight)
+    (rw (← determinant_is_linear a b q) left) (rw (← determinant_is_linear a b x) h)
+
+-- a point that is the same as one on a line is on the line
+pub same_straight : (a b x y : Triple) → IsPoint y → IsSame x y → IsStraight a b y → IsStraight a b x
+same_straight a b x y at_y s straight = zero_by_weight _ _ _ _ at_y (determinant_same a b x y s) straight
