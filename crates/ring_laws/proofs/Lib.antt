@@ -1,9 +1,14 @@
 pub mod AcrossEdge
+pub mod BesideDiagonal
 pub mod EarBase
 pub mod EarSign
 pub mod EarWinding
 pub mod Farthest
+pub mod FarTargets
+pub mod Members
 pub mod NearPairs
+pub mod PieceConstants
+pub mod Pieces
 pub mod Sides
 pub mod SomeEdge
 pub mod TrianglePlaces
