@@ -40,7 +40,7 @@ opposite_side u v w =
     (u.x ∷ u.y ∷ v.x ∷ v.y ∷ w.x ∷ w.y ∷ []) refl
 
 -- the middle of the base
-abbrev middle : Point → Point → Triple
+abbrev pub middle : Point → Point → Triple
 middle u w = record { X = u.x +ℤ w.x; Y = u.y +ℤ w.y; W = pos 2 }
 
 -- it is within it
@@ -62,25 +62,25 @@ middle_within u w = record {
 }
 
 -- where the middle is the first end, the ends are equal,
-middle_first : (u w : Point) → IsSame (middle u w) (whole u) → u ≡ w
+pub middle_first : (u w : Point) → IsSame (middle u w) (whole u) → u ≡ w
 middle_first u w s =
     let ex = s.same_x in
     let ey = s.same_y in
     same_coordinates u w (omega (arith, ints)) (omega (arith, ints))
 
 -- and so they are where it is the last
-middle_last : (u w : Point) → IsSame (middle u w) (whole w) → u ≡ w
+pub middle_last : (u w : Point) → IsSame (middle u w) (whole w) → u ≡ w
 middle_last u w s =
     let ex = s.same_x in
     let ey = s.same_y in
     same_coordinates u w (omega (arith, ints)) (omega (arith, ints))
 
 -- the middle is a rational point
-middle_is_point : (u w : Point) → IsPoint (middle u w)
+pub middle_is_point : (u w : Point) → IsPoint (middle u w)
 middle_is_point u w = omega (arith, ints)
 
 -- it is on the base
-middle_on : (u w : Point) → On (middle u w) (whole u) (whole w)
+pub middle_on : (u w : Point) → On (middle u w) (whole u) (whole w)
 middle_on u w =
     on_of_combination (middle u w) (whole u) (whole w) (middle_is_point u w) (whole_is_point u) (whole_is_point w)
     (middle_within u w).combination

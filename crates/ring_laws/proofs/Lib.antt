@@ -8,8 +8,11 @@ pub mod FarTargets
 pub mod Members
 pub mod NearPairs
 pub mod PieceConstants
+pub mod PieceHits
 pub mod Pieces
 pub mod Sides
 pub mod SomeEdge
 pub mod TrianglePlaces
 pub mod TriangleWinding
+pub mod TwoPieces
+pub mod UnwoundChains
