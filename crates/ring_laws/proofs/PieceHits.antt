@@ -54,7 +54,7 @@ left_neither v z y left = record {
 }
 
 -- the middle of the diagonal is neither of its ends
-middle_neither : (v z : Point) → ¬ (v ≡ z) → IsNeither v z (middle v z)
+pub middle_neither : (v z : Point) → ¬ (v ≡ z) → IsNeither v z (middle v z)
 middle_neither v z differ =
     record { not_first = λ s. differ (middle_first v z s); not_last = λ s. differ (middle_last v z s) }
 

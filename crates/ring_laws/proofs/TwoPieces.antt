@@ -45,6 +45,15 @@ ends_on_ring v z ms ns = (
   on_some_left (whole z) (edges_along z ms v) (edges_along v ns z) (first_on_along z ms v),
 )
 
+-- a point on no edge of the ring is neither end of the diagonal
+pub off_neither : (v z : Point) (ms ns : List Point) (p : Triple) → ¬ (IsOnSome (both_chains v z ms ns) p) → IsNeither v z p
+off_neither v z ms ns p off =
+    let ends = ends_on_ring v z ms ns in
+    record {
+      not_first = λ s. off (on_some_same (whole v) p (whole_is_point v) (same_sym s) (both_chains v z ms ns) ends.0);
+      not_last = λ s. off (on_some_same (whole z) p (whole_is_point z) (same_sym s) (both_chains v z ms ns) ends.1);
+    }
+
 -- members a and b on the two sides of the diagonal
 module _ (v z : Point) (ms ns : List Point) (c : ArePieces v z ms ns) (a b : Point) (in_a : HasPoint (ms ++ ns) a)
     (in_b : HasPoint (ms ++ ns) b) (left : IsLeft (whole v) (whole z) (whole a)) (right : IsRight (whole v) (whole z) (whole b)) where
@@ -56,13 +65,6 @@ module _ (v z : Point) (ms ns : List Point) (c : ArePieces v z ms ns) (a b : Poi
       (off_ring v z ms ns c m at_m on neither, winding_on_diagonal v z ms ns c a b left right m at_m on neither)
 
   module _ (p : Triple) (at_p : IsPoint p) (off : ¬ (IsOnSome (both_chains v z ms ns) p)) where
-    -- a point on no edge of the ring is neither end of the diagonal
-    off_neither : IsNeither v z p
-    off_neither = record {
-      not_first = λ s. off (on_some_same (whole v) p (whole_is_point v) (same_sym s) (both_chains v z ms ns) (ends_on_ring v z ms ns).0);
-      not_last = λ s. off (on_some_same (whole z) p (whole_is_point z) (same_sym s) (both_chains v z ms ns) (ends_on_ring v z ms ns).1);
-    }
-
     -- where both pieces wind once round it, and it is not on the diagonal, the way far away misses the edges and the diagonal
     module _ (beside : ¬ (On p (whole v) (whole z))) (first : winding (edges_of (v ∷ z ∷ ms)) p ≡ pos 1)
         (second : winding (edges_of (z ∷ v ∷ ns)) p ≡ pos 1) where
@@ -114,10 +116,10 @@ module _ (v z : Point) (ms ns : List Point) (c : ArePieces v z ms ns) (a b : Poi
           ]
 
       -- but one far away, round which the first piece does not wind, has
-      not_both_once : ⊥
+      pub not_both_once : ⊥
       not_both_once =
           let one = edges_of (v ∷ z ∷ ms) in
-          let t = far_target p at_p v z (λ s. off_neither.not_first (same_sym s)) (λ s. off_neither.not_last (same_sym s)) one in
+          let t = far_target p at_p v z (λ s. (off_neither v z ms ns p off).not_first (same_sym s)) (λ s. (off_neither v z ms ns p off).not_last (same_sym s)) one in
           elim (first_hit_or_misses p t.point at_p t.rational all) [
             | inl h ↦ no_hit t.point t.rational t.avoids_first t.avoids_last h
             | inr misses ↦
@@ -143,6 +145,6 @@ module _ (v z : Point) (ms ns : List Point) (c : ArePieces v z ms ns) (a b : Poi
     -- so it does everywhere
     pub two_pieces_values : IsZeroOrOne (winding (both_chains v z ms ns) p)
     two_pieces_values = elim (on_or_separated p (whole v) (whole z) at_p (whole_is_point v) (whole_is_point z)) [
-      | inl on ↦ inr (diagonal_inside p at_p on off_neither.not_first off_neither.not_last).1
+      | inl on ↦ inr (diagonal_inside p at_p on (off_neither v z ms ns p off).not_first (off_neither v z ms ns p off).not_last).1
       | inr s ↦ values_beside (separated_not_on p (whole v) (whole z) at_p (whole_is_point v) (whole_is_point z) s)
     ]
