@@ -16,6 +16,7 @@ pub mod PieceConstants
 pub mod PieceHits
 pub mod PieceSides
 pub mod Pieces
+pub mod PiecesOfRing
 pub mod Sides
 pub mod SomeEdge
 pub mod TrianglePlaces
