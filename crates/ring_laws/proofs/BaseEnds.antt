@@ -55,7 +55,7 @@ module _ (u w : Point) (x : ℤ) (es : List Edge) (closed : IsClosed (edge u w �
       (sym (counted_below u.x x u.x (lt_or_le u.x x) hu) ∙ ex ∙ counted_below w.x x w.x (lt_or_le w.x x) hw)
       (sym (counted_below u.x x u.y (lt_or_le u.x x) hu) ∙ ey ∙ counted_below w.x x w.y (lt_or_le w.x x) hw)
 
-  -- and neither is without the other
+  -- u is not alone there,
   not_first_alone : u.x <ℤ x → x ≤ℤ w.x → ⊥
   not_first_alone hu hw =
       let e = same_value (λ a. pos 1) in
@@ -63,6 +63,7 @@ module _ (u w : Point) (x : ℤ) (es : List Edge) (closed : IsClosed (edge u w �
       let none = counted_above w.x x (pos 1) (lt_or_le w.x x) hw in
       omega (arith, ints, sym one ∙ e ∙ none)
 
+  -- nor is w
   not_last_alone : x ≤ℤ u.x → w.x <ℤ x → ⊥
   not_last_alone hu hw =
       let e = same_value (λ a. pos 1) in

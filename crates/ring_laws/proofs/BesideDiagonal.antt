@@ -75,13 +75,13 @@ pub right_is_left : (a b p : Triple) → IsRight a b p → IsLeft b a p
 right_is_left a b p h = turned_positive (determinant_swap_first a b p) h
 
 -- a point left of a line is not on a segment of it,
-pub left_off : (a b : Point) (p : Triple) → IsPoint p → IsLeft (whole a) (whole b) p → ¬ (On p (whole a) (whole b))
-left_off a b p at_p left on =
+pub left_not_on : (a b : Point) (p : Triple) → IsPoint p → IsLeft (whole a) (whole b) p → ¬ (On p (whole a) (whole b))
+left_not_on a b p at_p left on =
     not_both_positive left (zero_not_positive (on_is_straight p (whole a) (whole b) at_p (whole_is_point a) (whole_is_point b) on))
 
 -- nor is one right of it
-pub right_off : (a b : Point) (p : Triple) → IsPoint p → IsRight (whole a) (whole b) p → ¬ (On p (whole a) (whole b))
-right_off a b p at_p right on =
+pub right_not_on : (a b : Point) (p : Triple) → IsPoint p → IsRight (whole a) (whole b) p → ¬ (On p (whole a) (whole b))
+right_not_on a b p at_p right on =
     not_both right (zero_not_negative (on_is_straight p (whole a) (whole b) at_p (whole_is_point a) (whole_is_point b) on))
 
 -- what misses two lists misses the first,
@@ -128,9 +128,9 @@ module _ (v z : Point) (ms ns : List Point) (c : ArePieces v z ms ns) (m : Tripl
         let within = within_from m (whole v) (whole z) at_m (whole_is_point v) (whole_is_point z) on neither.not_first neither.not_last in
         let falls = across_edge (edge v z) m p q at_m at_p at_q within left right one (closed_edges_of (v ∷ z ∷ ms)) p_misses q_misses in
         let p_off : ¬ (IsOnSome (edges_of (v ∷ z ∷ ms)) p) =
-        λ h. elim h [ inl k ↦ left_off v z p at_p left k | inr k ↦ p_misses p at_p (on_last_end m p) k ] in
+        λ h. elim h [ inl k ↦ left_not_on v z p at_p left k | inr k ↦ p_misses p at_p (on_last_end m p) k ] in
         let q_off : ¬ (IsOnSome (edges_of (v ∷ z ∷ ms)) q) =
-        λ h. elim h [ inl k ↦ right_off v z q at_q right k | inr k ↦ q_misses q at_q (on_last_end m q) k ] in
+        λ h. elim h [ inl k ↦ right_not_on v z q at_q right k | inr k ↦ q_misses q at_q (on_last_end m q) k ] in
         let at_left = c.first_values p at_p p_off in
         let at_right = c.first_values q at_q q_off in
         (greater_is_one _ _ falls at_left at_right, smaller_is_zero _ _ falls at_left at_right)

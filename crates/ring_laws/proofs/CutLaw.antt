@@ -9,8 +9,9 @@ use Rattle.rings.proofs.Edges.{on_some_cases, on_some_left, on_some_right}
 use Rattle.rings.specs.Edge.{Edge, IsOnSome, edges_along, edges_of}
 use Rattle.rings.specs.Inside.{crossings, winding}
 use Rattle.ring_laws.proofs.BesideDiagonal.{both_chains, pieces_winding}
-use Rattle.ring_laws.proofs.CutValues.{odd_from_once, on_or_not, once_from_odd, one_piece, ring_values, some_or_none, unwound, unwound_not_odd, within_diagonal}
+use Rattle.ring_laws.proofs.CutValues.{odd_from_once, once_from_odd, one_piece, ring_values, some_or_none, unwound, unwound_not_odd, within_diagonal}
 use Rattle.ring_laws.proofs.Pieces.{ArePieces, IsNeither, IsZeroOrOne, chain_off_piece}
+use Rattle.ring_laws.proofs.Sides.{on_or_not}
 use Rattle.ring_laws.proofs.TwoPieces.{off_neither}
 
 -- ---- numbers
@@ -72,7 +73,7 @@ module _ (v z : Point) (ms ns : List Point) (c : ArePieces v z ms ns) (p : Tripl
   pub from_first : IsInEdges (edges_of (v ∷ z ∷ ms)) p → IsInEdges (both_chains v z ms ns) p
   from_first h = elim (some_or_none p at_p (both_chains v z ms ns)) [
     | inl k ↦ inl k
-    | inr off ↦ elim (on_or_not p v z at_p) [
+    | inr off ↦ elim (on_or_not p (whole v) (whole z) at_p (whole_is_point v) (whole_is_point z)) [
       | inl on ↦ diagonal_in on
       | inr beside ↦
           let first = first_once off beside h in
@@ -88,7 +89,7 @@ module _ (v z : Point) (ms ns : List Point) (c : ArePieces v z ms ns) (p : Tripl
       | inl j ↦ inl (inl (inr j))
       | inr j ↦ inr (inl (inr j))
     ]
-    | inr off ↦ elim (on_or_not p v z at_p) [
+    | inr off ↦ elim (on_or_not p (whole v) (whole z) at_p (whole_is_point v) (whole_is_point z)) [
       | inl on ↦ inl (inl (inl on))
       | inr beside ↦ elim h [
         | inl k ↦ absurd (off k)

@@ -2,6 +2,7 @@
 use Rattle.std.proofs.Common.{◌≡◌, ◌⊎◌, inl, inr, [], ◌∷◌, ◌++◌, refl, sym, subst, ap, ◌∙◌, ◌%◌, List, arith}
 use Rattle.std.specs.Prelude.{◌↔◌}
 use Rattle.plane.proofs.Segments.{on_reversed}
+use Rattle.plane.proofs.Same.{whole_is_point}
 use Rattle.plane.specs.Point.{IsPoint, Point, Triple, whole}
 use Rattle.plane.specs.Segment.{On}
 use Rattle.rings.proofs.Edges.{crossings-append, on_some_cases, on_some_left, on_some_right}
@@ -9,8 +10,9 @@ use Rattle.rings.specs.Edge.{Edge, IsOnSome, edges_along, edges_of}
 use Rattle.rings.specs.Inside.{IsIn, crossings, winding}
 use Rattle.ring_laws.proofs.BesideDiagonal.{both_chains}
 use Rattle.ring_laws.proofs.CutLaw.{IsInEdges, chain_in_second, diagonal_in, first_once, from_first, in_a_piece, second_once}
-use Rattle.ring_laws.proofs.CutValues.{on_or_not, one_piece, ring_values, some_or_none}
+use Rattle.ring_laws.proofs.CutValues.{one_piece, ring_values, some_or_none}
 use Rattle.ring_laws.proofs.Pieces.{ArePieces, IsZeroOrOne, swapped}
+use Rattle.ring_laws.proofs.Sides.{on_or_not}
 
 -- the edges along some points, by a point among them
 pub edges_along-cut : (a : Point) (bs : List Point) (d : Point) (ds : List Point) (last : Point)
@@ -65,7 +67,7 @@ module _ (v z : Point) (ms ns : List Point) (c : ArePieces v z ms ns) (p : Tripl
 
   -- and a point in both is on the diagonal
   pub cut_common : IsIn (v ∷ z ∷ ms) p → IsIn (z ∷ v ∷ ns) p → On p (whole v) (whole z)
-  cut_common first second = elim (on_or_not p v z at_p) [
+  cut_common first second = elim (on_or_not p (whole v) (whole z) at_p (whole_is_point v) (whole_is_point z)) [
     | inl on ↦ on
     | inr beside ↦ elim (some_or_none p at_p (both_chains v z ms ns)) [
       | inr off ↦

@@ -6,13 +6,13 @@ use Rattle.plane.specs.Point.{IsPoint, IsSame, Point, Triple, whole}
 use Rattle.plane.specs.Segment.{On}
 use Rattle.plane.specs.Turn.{IsRight}
 use Rattle.rings.proofs.Parity.{crossings_odd, winding_odd}
-use Rattle.rings.proofs.Separation.{on_or_separated, separated_not_on}
 use Rattle.rings.specs.Edge.{Edge, IsOnSome, edges_of}
 use Rattle.rings.specs.Inside.{crossings, winding}
 use Rattle.ring_laws.proofs.BesideDiagonal.{both_chains, left_is_right}
 use Rattle.ring_laws.proofs.Members.{has_point_left, has_point_right}
 use Rattle.ring_laws.proofs.PieceSides.{LeftMember, left_member, right_member}
 use Rattle.ring_laws.proofs.Pieces.{ArePieces, IsZeroOrOne}
+use Rattle.ring_laws.proofs.Sides.{on_or_not}
 use Rattle.ring_laws.proofs.TwoPieces.{diagonal_inside, not_both_once, two_pieces_values}
 use Rattle.ring_laws.proofs.UnwoundChains.{AreUnwound, chains_unwound}
 
@@ -36,19 +36,12 @@ module _ (es : List Edge) (p : Triple) where
   pub odd_from_once : winding es p ≡ pos 1 → crossings es p % 2 ≡ 1
   odd_from_once e = crossings_odd es p (pos 0) (e ∙ refl)
 
--- ---- on a segment, or some edge, or not
+-- ---- on some edge, or on none
 
--- a rational point is on a segment, or not
-pub on_or_not : (p : Triple) (a b : Point) → IsPoint p → On p (whole a) (whole b) ⊎ (¬ On p (whole a) (whole b))
-on_or_not p a b at_p = elim (on_or_separated p (whole a) (whole b) at_p (whole_is_point a) (whole_is_point b)) [
-  | inl on ↦ inl on
-  | inr s ↦ inr (separated_not_on p (whole a) (whole b) at_p (whole_is_point a) (whole_is_point b) s)
-]
-
--- it is on some edge of a list, or on none
+-- a rational point is on some edge of a list, or on none
 pub some_or_none : (p : Triple) → IsPoint p → (es : List Edge) → IsOnSome es p ⊎ (¬ IsOnSome es p)
 some_or_none p at_p [] = inr (λ h. h)
-some_or_none p at_p (e ∷ es) = elim (on_or_not p e.from e.to at_p) [
+some_or_none p at_p (e ∷ es) = elim (on_or_not p (whole e.from) (whole e.to) at_p (whole_is_point e.from) (whole_is_point e.to)) [
   | inl on ↦ inl (inl on)
   | inr n ↦ elim (some_or_none p at_p es) [ inl h ↦ inl (inr h) | inr m ↦ inr (λ k. elim k [ inl on ↦ n on | inr h ↦ m h ]) ]
 ]

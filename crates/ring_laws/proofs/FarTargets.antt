@@ -1,5 +1,5 @@
 -- From each rational point a way far away that avoids two other points.
-use Rattle.std.proofs.Common.{◌≡◌, ◌⊎◌, inl, inr, [], ◌∷◌, refl, ℕ, ◌+◌, ◌<◌, ◌≤◌, List, ℤ, pos, ◌+ℤ◌, ◌-ℤ◌, ◌*ℤ◌, neg_ℤ, ◌<ℤ◌, ◌≤ℤ◌, arith}
+use Rattle.std.proofs.Common.{◌≡◌, inl, inr, [], ◌∷◌, refl, ℕ, ◌+◌, ◌<◌, ◌≤◌, List, ℤ, pos, ◌+ℤ◌, ◌-ℤ◌, ◌*ℤ◌, neg_ℤ, ◌<ℤ◌, ◌≤ℤ◌, arith}
 use Rattle.std.proofs.lemmas.Int.{ints}
 use Rattle.std.specs.Prelude.{unsigned_abs}
 use Rattle.integer_algebra.proofs.Laws.{mul_comm, neg-mul}
@@ -14,9 +14,9 @@ use Rattle.plane.specs.Segment.{On}
 use Rattle.plane.specs.Turn.{determinant}
 use Rattle.rings.proofs.Combinations.{first_end_by}
 use Rattle.rings.proofs.FarAway.{AllEnds, none_crossed_above}
-use Rattle.rings.proofs.Separation.{on_or_separated, separated_not_on}
 use Rattle.rings.specs.Edge.{Edge}
 use Rattle.rings.specs.Inside.{winding}
+use Rattle.ring_laws.proofs.Sides.{on_or_not}
 
 -- ---- heights
 
@@ -90,13 +90,6 @@ module _ (p : Triple) (at_p : IsPoint p) (n : ℕ) (above : p.Y <ℤ (pos n *ℤ
       (height_itself p.X p.Y p.W) (height_target (pos i) p.Y p.W (pos n) above) (height_level a.x p.Y p.W a.y level)
 
 -- ---- a target that two points do not hide
-
--- a point is on a segment, or not
-on_or_not : (x a b : Triple) → IsPoint x → IsPoint a → IsPoint b → On x a b ⊎ (¬ (On x a b))
-on_or_not x a b at_x at_a at_b = elim (on_or_separated x a b at_x at_a at_b) [
-  | inl on ↦ inl on
-  | inr s ↦ inr (separated_not_on x a b at_x at_a at_b s)
-]
 
 -- the way from p to a far point, round which the edges do not wind, avoids v and z
 pub record FarTarget (p : Triple) (v z : Point) (es : List Edge) : Type 0 where

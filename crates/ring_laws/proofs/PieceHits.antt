@@ -16,7 +16,7 @@ use Rattle.rings.proofs.SignSteps.{not_both_positive, zero_not_positive}
 use Rattle.rings.specs.Across.{Misses}
 use Rattle.rings.specs.Edge.{Edge, IsOnSome, edges_along, edges_of}
 use Rattle.rings.specs.Inside.{winding}
-use Rattle.ring_laws.proofs.BesideDiagonal.{beside_left_toward, both_chains, left_off}
+use Rattle.ring_laws.proofs.BesideDiagonal.{beside_left_toward, both_chains, left_not_on}
 use Rattle.ring_laws.proofs.EarSign.{middle, middle_first, middle_is_point, middle_last, middle_on}
 use Rattle.ring_laws.proofs.Pieces.{ArePieces, IsNeither, chain_off_piece, neither_swapped, swapped}
 use Rattle.ring_laws.proofs.Sides.{same_straight, stays_left}
@@ -81,7 +81,7 @@ module _ (v z : Point) (ms ns : List Point) (c : ArePieces v z ms ns) (a b : Poi
         | inl on_one ↦
             let among : (x : Triple) → IsPoint x → On x s y → IsOnSome (edges_of (z ∷ v ∷ ns)) x → IsOnSome (both_chains v z ms ns) x =
             λ x at_x on k. elim k [
-              | inl d ↦ absurd (left_off v z x at_x (between x at_x on) (on_reversed x (whole z) (whole v) d))
+              | inl d ↦ absurd (left_not_on v z x at_x (between x at_x on) (on_reversed x (whole z) (whole v) d))
               | inr j ↦ on_some_right x one other j
             ] in
             let misses = misses_to_hit s (whole a) (both_chains v z ms ns) p.rational at_a h (edges_of (z ∷ v ∷ ns)) among
@@ -91,7 +91,7 @@ module _ (v z : Point) (ms ns : List Point) (c : ArePieces v z ms ns) (a b : Poi
         | inr on_other ↦
             let among : (x : Triple) → IsPoint x → On x s y → IsOnSome (edges_of (v ∷ z ∷ ms)) x → IsOnSome (both_chains v z ms ns) x =
             λ x at_x on k. elim k [
-              | inl d ↦ absurd (left_off v z x at_x (between x at_x on) d)
+              | inl d ↦ absurd (left_not_on v z x at_x (between x at_x on) d)
               | inr j ↦ on_some_left x one other j
             ] in
             let misses = misses_to_hit s (whole a) (both_chains v z ms ns) p.rational at_a h (edges_of (v ∷ z ∷ ms)) among

@@ -17,7 +17,7 @@ use Rattle.ring_laws.proofs.Farthest.{right_of_all}
 use Rattle.ring_laws.proofs.Members.{HasPoint, ends_along, greatest}
 use Rattle.ring_laws.proofs.NearPairs.{positive_at}
 use Rattle.ring_laws.proofs.PieceHits.{middle_neither}
-use Rattle.ring_laws.proofs.Pieces.{ArePieces, swapped}
+use Rattle.ring_laws.proofs.Pieces.{ArePieces, not_zero_and_one, swapped}
 
 -- ---- points beside a line
 
@@ -68,10 +68,6 @@ opposite_at f g d e h k = omega (arith, ints)
 -- 0 is not positive
 not_positive_zero : {z : ℤ} → z ≡ pos 0 → pos 0 <ℤ z → ⊥
 not_positive_zero e h = omega (arith, ints)
-
--- what is 0 is not 1
-not_zero_and_one : {n : ℤ} → n ≡ pos 0 → n ≡ pos 1 → ⊥
-not_zero_and_one e h = omega (arith, ints)
 
 -- the opposite of 0 is not negative
 opposite_zero : {d f : ℤ} → d ≡ neg_ℤ f → f ≡ pos 0 → pos 0 ≤ℤ d

@@ -1,6 +1,7 @@
 -- Two chains between the ends of a diagonal, which meet each other and the diagonal only there: each of them is on one side of
 -- the piece that the other makes with the diagonal.
-use Rattle.std.proofs.Common.{◌≡◌, ◌⊎◌, inl, inr, ◌∷◌, sym, subst, List, ℤ, pos}
+use Rattle.std.proofs.Common.{◌≡◌, ◌⊎◌, inl, inr, ◌∷◌, sym, subst, List, ℤ, pos, arith}
+use Rattle.std.proofs.lemmas.Int.{ints}
 use Rattle.plane.proofs.Same.{same_whole, whole_is_point}
 use Rattle.plane.proofs.Segments.{on_reversed, on_same_point}
 use Rattle.plane.specs.Point.{IsPoint, IsSame, Point, Triple, whole}
@@ -17,6 +18,10 @@ use Rattle.ring_laws.proofs.SomeEdge.{edge_at}
 -- a value is 0 or 1
 abbrev pub IsZeroOrOne : ℤ → Type 0
 IsZeroOrOne n = (n ≡ pos 0) ⊎ (n ≡ pos 1)
+
+-- no number is 0 and 1
+pub not_zero_and_one : {n : ℤ} → n ≡ pos 0 → n ≡ pos 1 → ⊥
+not_zero_and_one e h = omega (arith, ints)
 
 -- the diagonal goes from v to z, the first chain along ms back from z to v, and the second along ns from v to z: the pieces
 -- are edges_of (v ∷ z ∷ ms) and edges_of (z ∷ v ∷ ns)
@@ -69,17 +74,22 @@ end_between x y a b at_x at_y at_a at_b on_x on_y between = elim (on_total x y a
   | inr on ↦ inr (on_antisym y a x at_y at_a at_x (on_reversed y a x on) between)
 ]
 
+-- edges that meet the diagonal at ends share no other points with it
+pub meet_only_ends : (v z : Point) (es : List Edge) → ((e : Edge) → HasEdge es e → MeetAtEnds (edge v z) e) → (x : Triple)
+    → IsPoint x → IsOnSome es x → On x (whole v) (whole z) → IsSame x (whole v) ⊎ IsSame x (whole z)
+meet_only_ends v z es apart x at_x on_some on =
+    let r = edge_at es x on_some in
+    let k = apart r.edge r.member x at_x on r.on in
+    elim k.of_first [
+      | inl s ↦ inl (subst (λ (p : Point). IsSame x (whole p)) (sym s) k.same)
+      | inr s ↦ inr (subst (λ (p : Point). IsSame x (whole p)) (sym s) k.same)
+    ]
+
 module _ (v z : Point) (ms ns : List Point) (c : ArePieces v z ms ns) where
   -- the first chain meets the diagonal only at its ends,
   pub chain_on_diagonal : (x : Triple) → IsPoint x → IsOnSome (edges_along z ms v) x → On x (whole v) (whole z)
       → IsSame x (whole v) ⊎ IsSame x (whole z)
-  chain_on_diagonal x at_x h on =
-      let r = edge_at (edges_along z ms v) x h in
-      let k = c.first_apart r.edge r.member x at_x on r.on in
-      elim k.of_first [
-        | inl e ↦ inl (subst (λ (d : Point). IsSame x (whole d)) (sym e) k.same)
-        | inr e ↦ inr (subst (λ (d : Point). IsSame x (whole d)) (sym e) k.same)
-      ]
+  chain_on_diagonal = meet_only_ends v z (edges_along z ms v) c.first_apart
 
   -- and so the other piece
   pub chain_on_piece : (x : Triple) → IsPoint x → IsOnSome (edges_along z ms v) x → IsOnSome (edges_of (z ∷ v ∷ ns)) x

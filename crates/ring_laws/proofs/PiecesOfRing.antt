@@ -3,13 +3,12 @@ use Rattle.std.proofs.Common.{◌≡◌, ◌⊎◌, inl, inr, [], ◌∷◌, sym
 use Rattle.plane.proofs.Same.{same_whole, whole_is_point}
 use Rattle.plane.proofs.Segments.{on_reversed}
 use Rattle.plane.specs.Point.{IsPoint, IsSame, Point, Triple, whole}
-use Rattle.plane.specs.Segment.{On}
 use Rattle.rings.specs.Edge.{Edge, IsOnSome, edges_along, edges_of}
 use Rattle.rings.specs.Inside.{winding}
 use Rattle.ring_laws.specs.Apart.{HasEdge, HasEnd, MeetAtEnds}
 use Rattle.ring_laws.proofs.EarBase.{edge}
 use Rattle.ring_laws.proofs.Members.{HasPoint, member_on_along}
-use Rattle.ring_laws.proofs.Pieces.{ArePieces, IsZeroOrOne}
+use Rattle.ring_laws.proofs.Pieces.{ArePieces, IsZeroOrOne, meet_only_ends}
 use Rattle.ring_laws.proofs.SomeEdge.{edge_at}
 
 -- an edge along points begins at the first or at one between
@@ -97,17 +96,6 @@ module _ (v z : Point) (ms ns : List Point) (d : AreDistinct v z ms ns)
             (end_of_chain v ns z s.edge k.end s.member k.of_second)
       ]
 
-  -- a chain meets the diagonal only there
-  chain_meets : (es : List Edge) → ((e : Edge) → HasEdge es e → MeetAtEnds (edge v z) e) → (x : Triple) → IsPoint x → IsOnSome es x
-      → On x (whole v) (whole z) → IsSame x (whole v) ⊎ IsSame x (whole z)
-  chain_meets es apart x at_x on_some on =
-      let r = edge_at es x on_some in
-      let k = apart r.edge r.member x at_x on r.on in
-      elim k.of_first [
-        | inl s ↦ inl (subst (λ (p : Point). IsSame x (whole p)) (sym s) k.same)
-        | inr s ↦ inr (subst (λ (p : Point). IsSame x (whole p)) (sym s) k.same)
-      ]
-
   -- a point that is neither end of the diagonal is not the same as one
   not_an_end : (m : Point) → ¬ (v ≡ m) → ¬ (z ≡ m) → ¬ (IsSame (whole m) (whole v) ⊎ IsSame (whole m) (whole z))
   not_an_end m not_v not_z (inl s) = not_v (sym (same_whole m v s))
@@ -117,7 +105,7 @@ module _ (v z : Point) (ms ns : List Point) (d : AreDistinct v z ms ns)
   first_off : (m : Point) → HasPoint ms m → ¬ (IsOnSome (edges_of (z ∷ v ∷ ns)) (whole m))
   first_off m h (inl on) =
       not_an_end m (d.first_not_v m h) (d.first_not_z m h)
-      (chain_meets (edges_along z ms v) first (whole m) (whole_is_point m) (member_on_along z ms v m h)
+      (meet_only_ends v z (edges_along z ms v) first (whole m) (whole_is_point m) (member_on_along z ms v m h)
       (on_reversed (whole m) (whole z) (whole v) on))
   first_off m h (inr on) =
       not_an_end m (d.first_not_v m h) (d.first_not_z m h)
@@ -127,7 +115,7 @@ module _ (v z : Point) (ms ns : List Point) (d : AreDistinct v z ms ns)
   second_off : (n : Point) → HasPoint ns n → ¬ (IsOnSome (edges_of (v ∷ z ∷ ms)) (whole n))
   second_off n h (inl on) =
       not_an_end n (d.second_not_v n h) (d.second_not_z n h)
-      (chain_meets (edges_along v ns z) second (whole n) (whole_is_point n) (member_on_along v ns z n h) on)
+      (meet_only_ends v z (edges_along v ns z) second (whole n) (whole_is_point n) (member_on_along v ns z n h) on)
   second_off n h (inr on) =
       not_an_end n (d.second_not_v n h) (d.second_not_z n h)
       (chains_meet (whole n) (whole_is_point n) on (member_on_along v ns z n h))

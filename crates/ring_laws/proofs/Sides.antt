@@ -1,5 +1,5 @@
 -- Points within a segment, and the side of a line on which a segment stays.
-use Rattle.std.proofs.Common.{◌≡◌, ap, ℤ, pos, ◌-ℤ◌, ◌*ℤ◌, ◌<ℤ◌, ◌≤ℤ◌, arith}
+use Rattle.std.proofs.Common.{◌≡◌, ◌⊎◌, inl, inr, ap, ℤ, pos, ◌-ℤ◌, ◌*ℤ◌, ◌<ℤ◌, ◌≤ℤ◌, arith}
 use Rattle.std.proofs.lemmas.Int.{ints}
 use Rattle.integer_algebra.proofs.Laws.{mul_comm, zero-mul}
 use Rattle.integer_algebra.proofs.Signs.{factor_zero, is_negative, is_positive, is_zero, sign}
@@ -9,6 +9,7 @@ use Rattle.plane.specs.Segment.{On}
 use Rattle.plane.specs.Turn.{IsLeft, IsRight, IsStraight, determinant}
 use Rattle.rings.proofs.Combinations.{first_end_by, same_without_first, same_without_last}
 use Rattle.rings.proofs.SamePoint.{determinant_same}
+use Rattle.rings.proofs.Separation.{on_or_separated, separated_not_on}
 use Rattle.rings.proofs.SignSteps.{mean_negative, mean_positive, not_both}
 
 -- ---- points inside a segment
@@ -32,6 +33,13 @@ within_from x a b at_x at_a at_b on first last =
       first_weighs = some_weight c.l_nonnegative (λ e. last (same_without_first x a b c e));
       last_weighs = some_weight c.m_nonnegative (λ e. first (same_without_last x a b c e));
     }
+
+-- a point is on a segment, or not
+pub on_or_not : (x a b : Triple) → IsPoint x → IsPoint a → IsPoint b → On x a b ⊎ (¬ (On x a b))
+on_or_not x a b at_x at_a at_b = elim (on_or_separated x a b at_x at_a at_b) [
+  | inl on ↦ inl on
+  | inr s ↦ inr (separated_not_on x a b at_x at_a at_b s)
+]
 
 -- ---- sides along a segment
 

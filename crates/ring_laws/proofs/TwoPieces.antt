@@ -10,7 +10,6 @@ use Rattle.rings.proofs.ClosedLaw.{winding_law}
 use Rattle.rings.proofs.Edges.{closed_edges_of, on_some_cases, on_some_left, on_some_right}
 use Rattle.rings.proofs.FirstHit.{FirstHit, first_hit_or_misses}
 use Rattle.rings.proofs.SamePoint.{on_some_same}
-use Rattle.rings.proofs.Separation.{on_or_separated, separated_not_on}
 use Rattle.rings.specs.Edge.{Edge, IsOnSome, edges_along, edges_of}
 use Rattle.rings.specs.Inside.{winding}
 use Rattle.ring_laws.proofs.BesideDiagonal.{both_chains, both_closed, off_ring, pieces_winding, winding_on_diagonal}
@@ -18,16 +17,13 @@ use Rattle.ring_laws.proofs.EarBase.{edge}
 use Rattle.ring_laws.proofs.FarTargets.{far_target}
 use Rattle.ring_laws.proofs.Members.{HasPoint, first_on_along, last_on_along}
 use Rattle.ring_laws.proofs.PieceHits.{misses_to_hit}
-use Rattle.ring_laws.proofs.Pieces.{ArePieces, IsNeither, IsZeroOrOne, chain_off_piece, neither_swapped, swapped}
+use Rattle.ring_laws.proofs.Pieces.{ArePieces, IsNeither, IsZeroOrOne, chain_off_piece, neither_swapped, not_zero_and_one, swapped}
+use Rattle.ring_laws.proofs.Sides.{on_or_not}
 use Rattle.ring_laws.proofs.UnwoundChains.{chains_unwound}
 
 -- ---- numbers
 
--- no number is 0 and 1,
-zero_and_one : {n : ℤ} → n ≡ pos 0 → n ≡ pos 1 → ⊥
-zero_and_one e h = omega (arith, ints)
-
--- nor is 1 the sum of 1 and 1
+-- 1 is not the sum of 1 and 1
 one_and_two : (n a b : ℤ) → n ≡ a +ℤ b → a ≡ pos 1 → b ≡ pos 1 → n ≡ pos 1 → ⊥
 one_and_two n a b e h k l = omega (arith, ints)
 
@@ -105,13 +101,13 @@ module _ (v z : Point) (ms ns : List Point) (c : ArePieces v z ms ns) (a b : Poi
                   let misses = misses_to_hit p t all at_p at_t h other (λ x at_x on i. second_among x i)
                   (chain_off_piece v z ms ns c y at_y j neither) in
                   let stays = winding_law p y at_p at_y other (closed_edges_of (z ∷ v ∷ ns)) misses in
-                  zero_and_one (stays ∙ unwound.first.value y at_y j neither) second
+                  not_zero_and_one (stays ∙ unwound.first.value y at_y j neither) second
               | inr j ↦
                   let turned = neither_swapped v z y neither in
                   let misses = misses_to_hit p t all at_p at_t h one (λ x at_x on i. first_among x i)
                   (chain_off_piece z v ns ms (swapped v z ms ns c) y at_y j turned) in
                   let stays = winding_law p y at_p at_y one (closed_edges_of (v ∷ z ∷ ms)) misses in
-                  zero_and_one (stays ∙ unwound.second.value y at_y j turned) first
+                  not_zero_and_one (stays ∙ unwound.second.value y at_y j turned) first
             ]
           ]
 
@@ -125,7 +121,7 @@ module _ (v z : Point) (ms ns : List Point) (c : ArePieces v z ms ns) (a b : Poi
             | inr misses ↦
                 let stays = winding_law p t.point at_p t.rational one (closed_edges_of (v ∷ z ∷ ms))
                 (λ x at_x on k. misses x at_x on (first_among x k)) in
-                zero_and_one (stays ∙ t.not_round) first
+                not_zero_and_one (stays ∙ t.not_round) first
           ]
 
     -- beside the diagonal the ring winds round the point not at all or once
@@ -144,7 +140,7 @@ module _ (v z : Point) (ms ns : List Point) (c : ArePieces v z ms ns) (a b : Poi
 
     -- so it does everywhere
     pub two_pieces_values : IsZeroOrOne (winding (both_chains v z ms ns) p)
-    two_pieces_values = elim (on_or_separated p (whole v) (whole z) at_p (whole_is_point v) (whole_is_point z)) [
+    two_pieces_values = elim (on_or_not p (whole v) (whole z) at_p (whole_is_point v) (whole_is_point z)) [
       | inl on ↦ inr (diagonal_inside p at_p on (off_neither v z ms ns p off).not_first (off_neither v z ms ns p off).not_last).1
-      | inr s ↦ values_beside (separated_not_on p (whole v) (whole z) at_p (whole_is_point v) (whole_is_point z) s)
+      | inr beside ↦ values_beside beside
     ]

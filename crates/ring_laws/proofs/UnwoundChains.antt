@@ -14,7 +14,7 @@ use Rattle.ring_laws.proofs.Farthest.{farthest_right}
 use Rattle.ring_laws.proofs.Members.{HasPoint, ends_along, greatest_of, has_point_cases, has_point_left, has_point_right, member_on_along}
 use Rattle.ring_laws.proofs.PieceConstants.{chain_constant, member_neither}
 use Rattle.ring_laws.proofs.PieceHits.{LeftHit, left_hit, on_first_chain, on_second_chain}
-use Rattle.ring_laws.proofs.Pieces.{ArePieces, IsNeither, neither_swapped, swapped}
+use Rattle.ring_laws.proofs.Pieces.{ArePieces, IsNeither, neither_swapped, not_zero_and_one, swapped}
 
 -- the second piece does not wind round the first chain, but for its ends
 pub record IsUnwound (v z : Point) (ms ns : List Point) : Type 0 where
@@ -72,10 +72,6 @@ module _ (v z : Point) (ms ns : List Point) (c : ArePieces v z ms ns) where
       ]
 
 -- ---- both chains
-
--- no value is 0 and 1
-not_zero_and_one : {n : ℤ} → n ≡ pos 0 → n ≡ pos 1 → ⊥
-not_zero_and_one e h = omega (arith, ints)
 
 -- neither piece winds round the chain of the other
 pub record AreUnwound (v z : Point) (ms ns : List Point) : Type 0 where
