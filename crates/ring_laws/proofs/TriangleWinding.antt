@@ -1,5 +1,5 @@
 -- A counterclockwise triangle winds once round the points inside, and not round those outside.
-use Rattle.std.proofs.Common.{◌≡◌, inl, inr, [], ◌∷◌, refl, ap, List, ℤ, pos, ◌+ℤ◌, ◌-ℤ◌, ◌*ℤ◌, ◌<ℤ◌, ◌≤ℤ◌, arith}
+use Rattle.std.proofs.Common.{◌≡◌, ◌⊎◌, inl, inr, [], ◌∷◌, refl, ap, List, ℤ, pos, ◌+ℤ◌, ◌-ℤ◌, ◌*ℤ◌, ◌<ℤ◌, ◌≤ℤ◌, arith}
 use Rattle.std.proofs.lemmas.Int.{ints}
 use Rattle.integer_algebra.proofs.Polynomial.{var, ◌⊕◌, ◌⊖◌, ◌⊗◌, zero_value}
 use Rattle.integer_algebra.proofs.Signs.{factor_zero, lt_or_le, mul_nonpositive, mul_positive}
@@ -16,7 +16,7 @@ use Rattle.rings.specs.Edge.{Edge, IsClosed, IsOnSome, edges_of}
 use Rattle.rings.specs.Inside.{crossing, winding}
 use Rattle.ring_laws.specs.Triangle.{IsInTriangle}
 use Rattle.ring_laws.proofs.Farthest.{not_right_on, right_of_all}
-use Rattle.ring_laws.proofs.TrianglePlaces.{IsInside, IsOutside, Place, in_triangle_from, inside, next_left, last_left, on_border, outside, place_of, right_of_first, right_of_second, right_of_third}
+use Rattle.ring_laws.proofs.TrianglePlaces.{IsInside, IsOutside, Place, in_triangle_from, inside, next_left, last_left, on_border, on_first, on_second, on_third, outside, place_of, right_of_first, right_of_second, right_of_third}
 
 -- the sides of a triangle
 abbrev pub triangle : Point → Point → Point → List Edge
@@ -165,3 +165,14 @@ module _ (u v w : Point) (left : IsLeft (whole u) (whole v) (whole w)) where
         go (inside i) = absurd (n (in_triangle_from u v w p (weak i.left_of_first) (weak i.left_of_second) (weak i.left_of_third)))
         go (outside o) = winding_outside o
         go (on_border t s) = absurd (n t)
+
+    -- off its sides the triangle winds round a point not at all or once
+    pub triangle_values : ¬ (IsOnSome (triangle u v w) p) → (winding (triangle u v w) p ≡ pos 0) ⊎ (winding (triangle u v w) p ≡ pos 1)
+    triangle_values off = go (place_of u v w left p at_p)
+      where
+        go : Place u v w p → (winding (triangle u v w) p ≡ pos 0) ⊎ (winding (triangle u v w) p ≡ pos 1)
+        go (inside i) = inr (winding_inside u v w p at_p i)
+        go (outside o) = inl (winding_outside o)
+        go (on_border t (on_first on)) = absurd (off (inl on))
+        go (on_border t (on_second on)) = absurd (off (inr (inl on)))
+        go (on_border t (on_third on)) = absurd (off (inr (inr (inl on))))
