@@ -8,10 +8,10 @@ use Rattle.plane.specs.Turn.{IsRight}
 use Rattle.rings.proofs.Parity.{crossings_odd, winding_odd}
 use Rattle.rings.specs.Edge.{Edge, IsOnSome, edges_of}
 use Rattle.rings.specs.Inside.{crossings, winding}
-use Rattle.ring_laws.proofs.BesideDiagonal.{both_chains, left_is_right}
-use Rattle.ring_laws.proofs.Members.{has_point_left, has_point_right}
+use Rattle.ring_laws.proofs.BesideChains.{both_chains, left_is_right}
+use Rattle.ring_laws.proofs.PointLists.{has_point_left, has_point_right}
 use Rattle.ring_laws.proofs.PieceSides.{LeftMember, left_member, right_member}
-use Rattle.ring_laws.proofs.Pieces.{ArePieces, IsZeroOrOne}
+use Rattle.ring_laws.proofs.TwoChains.{ArePieces, IsZeroOrOne}
 use Rattle.ring_laws.proofs.Sides.{on_or_not}
 use Rattle.ring_laws.proofs.TwoPieces.{diagonal_inside, not_both_once, two_pieces_values}
 use Rattle.ring_laws.proofs.UnwoundChains.{AreUnwound, chains_unwound}

@@ -11,7 +11,7 @@ use Rattle.ring_laws.proofs.BaseEnds.{base_ends}
 use Rattle.ring_laws.proofs.EarBase.{base_differs, edge}
 use Rattle.ring_laws.proofs.EarSign.{sign_is_one}
 use Rattle.ring_laws.proofs.EarWinding.{ear_values}
-use Rattle.ring_laws.proofs.Pieces.{IsZeroOrOne}
+use Rattle.ring_laws.proofs.TwoChains.{IsZeroOrOne}
 use Rattle.ring_laws.proofs.SomeEdge.{on_each}
 
 -- the edges es close the base from u to w of the ear with the tip v; all their ends are as far to the right as v; none of them

@@ -12,8 +12,8 @@ use Rattle.rings.specs.Edge.{Edge, IsOnSome, edges_along, edges_of}
 use Rattle.rings.specs.Inside.{winding}
 use Rattle.ring_laws.specs.Apart.{HasEdge, IsOn}
 use Rattle.ring_laws.proofs.EarBase.{edge}
-use Rattle.ring_laws.proofs.Members.{HasPoint, first_on_along, last_on_along}
-use Rattle.ring_laws.proofs.Pieces.{ArePieces, IsNeither, chain_on_piece, not_between}
+use Rattle.ring_laws.proofs.PointLists.{HasPoint, first_on_along, last_on_along}
+use Rattle.ring_laws.proofs.TwoChains.{ArePieces, IsNeither, chain_on_piece, not_between}
 use Rattle.ring_laws.proofs.SomeEdge.{on_some_of}
 
 module _ (v z : Point) (ms ns : List Point) (c : ArePieces v z ms ns) where

@@ -16,9 +16,9 @@ use Rattle.rings.proofs.SignSteps.{not_both_positive, zero_not_positive}
 use Rattle.rings.specs.Across.{Misses}
 use Rattle.rings.specs.Edge.{Edge, IsOnSome, edges_along, edges_of}
 use Rattle.rings.specs.Inside.{winding}
-use Rattle.ring_laws.proofs.BesideDiagonal.{beside_left_toward, both_chains, left_not_on}
+use Rattle.ring_laws.proofs.BesideChains.{beside_left_toward, both_chains, left_not_on}
 use Rattle.ring_laws.proofs.EarSign.{middle, middle_first, middle_is_point, middle_last, middle_on}
-use Rattle.ring_laws.proofs.Pieces.{ArePieces, IsNeither, chain_off_piece, neither_swapped, swapped}
+use Rattle.ring_laws.proofs.TwoChains.{ArePieces, IsNeither, chain_off_piece, neither_swapped, swapped}
 use Rattle.ring_laws.proofs.Sides.{same_straight, stays_left}
 
 -- ---- the way to a first hit

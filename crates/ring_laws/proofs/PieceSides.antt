@@ -11,13 +11,13 @@ use Rattle.plane.specs.Point.{Point, whole}
 use Rattle.plane.specs.Turn.{IsLeft, determinant}
 use Rattle.rings.proofs.Edges.{closed_edges_of}
 use Rattle.rings.specs.Edge.{edges_of}
-use Rattle.ring_laws.proofs.BesideDiagonal.{beside_left_toward, left_is_right}
+use Rattle.ring_laws.proofs.BesideChains.{beside_left_toward, left_is_right}
 use Rattle.ring_laws.proofs.EarSign.{middle, middle_is_point, middle_on}
-use Rattle.ring_laws.proofs.Farthest.{right_of_all}
-use Rattle.ring_laws.proofs.Members.{HasPoint, ends_along, greatest}
+use Rattle.ring_laws.proofs.BeyondLine.{right_of_all}
+use Rattle.ring_laws.proofs.PointLists.{HasPoint, ends_along, greatest}
 use Rattle.ring_laws.proofs.NearPairs.{positive_at}
 use Rattle.ring_laws.proofs.PieceHits.{middle_neither}
-use Rattle.ring_laws.proofs.Pieces.{ArePieces, not_zero_and_one, swapped}
+use Rattle.ring_laws.proofs.TwoChains.{ArePieces, not_zero_and_one, swapped}
 
 -- ---- points beside a line
 

@@ -9,12 +9,12 @@ use Rattle.rings.proofs.Edges.{closed_edges_of, on_some_cases, on_some_left, on_
 use Rattle.rings.proofs.FarAway.{AllEnds, all_ends_map}
 use Rattle.rings.specs.Edge.{Edge, IsClosed, IsOnSome, edges_along, edges_of}
 use Rattle.rings.specs.Inside.{winding}
-use Rattle.ring_laws.proofs.BesideDiagonal.{both_chains, left_is_right, right_is_left}
-use Rattle.ring_laws.proofs.Farthest.{farthest_right}
-use Rattle.ring_laws.proofs.Members.{HasPoint, ends_along, greatest_of, has_point_cases, has_point_left, has_point_right, member_on_along}
+use Rattle.ring_laws.proofs.BesideChains.{both_chains, left_is_right, right_is_left}
+use Rattle.ring_laws.proofs.BeyondLine.{farthest_right}
+use Rattle.ring_laws.proofs.PointLists.{HasPoint, ends_along, greatest_of, has_point_cases, has_point_left, has_point_right, member_on_along}
 use Rattle.ring_laws.proofs.PieceConstants.{chain_constant, member_neither}
 use Rattle.ring_laws.proofs.PieceHits.{LeftHit, left_hit, on_first_chain, on_second_chain}
-use Rattle.ring_laws.proofs.Pieces.{ArePieces, IsNeither, neither_swapped, not_zero_and_one, swapped}
+use Rattle.ring_laws.proofs.TwoChains.{ArePieces, IsNeither, neither_swapped, not_zero_and_one, swapped}
 
 -- the second piece does not wind round the first chain, but for its ends
 pub record IsUnwound (v z : Point) (ms ns : List Point) : Type 0 where

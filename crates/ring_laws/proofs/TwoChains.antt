@@ -12,7 +12,7 @@ use Rattle.rings.specs.Edge.{Edge, IsOnSome, edges_along, edges_of}
 use Rattle.rings.specs.Inside.{winding}
 use Rattle.ring_laws.specs.Apart.{HasEdge, HasEnd, IsOn, MeetAtEnds}
 use Rattle.ring_laws.proofs.EarBase.{edge}
-use Rattle.ring_laws.proofs.Members.{HasPoint}
+use Rattle.ring_laws.proofs.PointLists.{HasPoint}
 use Rattle.ring_laws.proofs.SomeEdge.{edge_at}
 
 -- a value is 0 or 1
