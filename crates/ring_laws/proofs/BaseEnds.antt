@@ -6,7 +6,7 @@ use Rattle.plane.proofs.Order.{same_coordinates}
 use Rattle.plane.specs.Point.{Point}
 use Rattle.rings.proofs.FarAway.{AllEnds, all_ends_map}
 use Rattle.rings.specs.Edge.{Edge, IsClosed, growth}
-use Rattle.ring_laws.proofs.EarBase.{edge}
+use Rattle.ring_laws.specs.Apart.{edge}
 
 -- a value that counts only where a number is below another
 counted : {x y : ℤ} → (x <ℤ y) ⊎ (y ≤ℤ x) → ℤ → ℤ

@@ -16,10 +16,10 @@ use Rattle.rings.specs.Across.{Misses}
 use Rattle.rings.specs.Edge.{Edge, IsClosed, IsOnSome, edges_along, edges_of}
 use Rattle.rings.specs.Inside.{crossing, winding}
 use Rattle.ring_laws.proofs.AcrossEdge.{across_edge}
-use Rattle.ring_laws.proofs.EarBase.{edge}
 use Rattle.ring_laws.proofs.NearPairs.{left_toward, right_toward}
 use Rattle.ring_laws.proofs.TwoChains.{ArePieces, IsNeither, IsZeroOrOne, chain_on_diagonal, neither_swapped, swapped}
 use Rattle.ring_laws.proofs.Sides.{within_from}
+use Rattle.ring_laws.specs.Apart.{edge}
 
 -- ---- sums
 

@@ -13,11 +13,7 @@ use Rattle.ring_laws.proofs.DistinctPoints.{AreDistinct, HasPoint, distinct_vert
 use Rattle.ring_laws.proofs.Members.{has_edge_swapped}
 use Rattle.ring_laws.proofs.Pieces.{apart_among, apart_more}
 use Rattle.ring_laws.proofs.Rotated.{closed_swapped, edges_along_append, on_some_swapped, swept_swapped, winding_swapped}
-use Rattle.ring_laws.specs.Apart.{HasEdge, HasEnd, IsApartRing, MeetAtEnds}
-
--- the edge from one point to another
-abbrev pub edge : Point → Point → Edge
-edge p q = record { from = p; to = q }
+use Rattle.ring_laws.specs.Apart.{HasEdge, HasEnd, IsApartRing, MeetAtEnds, edge}
 
 -- the edges of a triangle
 abbrev pub triangle : Point → Point → Point → List Edge

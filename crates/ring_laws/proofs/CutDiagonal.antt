@@ -10,14 +10,14 @@ use Rattle.rings.proofs.Nearness.{toward, toward_differs, toward_is_point, towar
 use Rattle.rings.proofs.Parity.{winding_odd}
 use Rattle.rings.specs.Edge.{Edge, IsOnSome, edges_along, edges_of}
 use Rattle.rings.specs.Inside.{IsIn, winding}
-use Rattle.ring_laws.proofs.Corner.{edge}
 use Rattle.ring_laws.proofs.DistinctPoints.{has_point_right}
 use Rattle.ring_laws.proofs.InsideEdge.{middle_differs}
 use Rattle.ring_laws.proofs.Members.{edge_with, has_edge_right, on_some_of}
 use Rattle.ring_laws.proofs.Pieces.{distinct_cut, edges_of_first}
 use Rattle.ring_laws.proofs.PiecesWind.{IsUnit, IsUpTo}
-use Rattle.ring_laws.proofs.RunsOnce.{WindsUpTo}
-use Rattle.ring_laws.specs.Apart.{HasEdge, IsApartRing, IsCommonEnd, IsOn, MeetAtEnds}
+use Rattle.ring_laws.specs.Apart.{HasEdge, IsApartRing, IsCommonEnd, IsOn, MeetAtEnds, edge}
+use Rattle.ring_laws.specs.Diagonal.{IsDiagonal}
+use Rattle.ring_laws.specs.Winding.{WindsUpTo}
 
 -- ---- in a ring that winds up to once
 
@@ -51,11 +51,6 @@ pub sum_is : (s n a b : ℤ) → IsUnit s → n ≡ a +ℤ b → IsUpTo s n → 
 sum_is s n a b unit sum h hb ea = grind (arith, ints)
 
 -- ---- the diagonal
-
--- the segment from a to b meets the edges of the ring only at common ends, and it is in the ring
-pub record IsDiagonal (ring : List Point) (a b : Point) : Type 0 where
-  pub meets : (e : Edge) → HasEdge (edges_of ring) e → MeetAtEnds e (edge a b)
-  pub inside : (x : Triple) → IsPoint x → On x (whole a) (whole b) → IsIn ring x
 
 module _ (v : Point) (ps : List Point) (z : Point) (qs : List Point) (apart : IsApartRing (v ∷ (ps ++ z ∷ qs)))
     (meets : (e : Edge) → HasEdge (edges_of (v ∷ (ps ++ z ∷ qs))) e → MeetAtEnds e (edge v z)) where

@@ -5,13 +5,13 @@ use Rattle.plane.specs.Point.{Point}
 use Rattle.rings.proofs.Edges.{closed_edges_of}
 use Rattle.rings.specs.Edge.{edges_along, edges_of}
 use Rattle.ring_laws.proofs.BesideDiagonal.{same_direction}
-use Rattle.ring_laws.proofs.Corner.{edge}
 use Rattle.ring_laws.proofs.Pieces.{apart_first, apart_second, winding_cut}
 use Rattle.ring_laws.proofs.PiecesMeet.{has_edge_back, has_edge_there, off_first, on_back}
 use Rattle.ring_laws.proofs.PiecesWind.{IsUnit}
-use Rattle.ring_laws.proofs.RunsOnce.{WindsUpTo}
-use Rattle.ring_laws.specs.Apart.{IsApartRing}
-use Rattle.ring_laws.proofs.CutDiagonal.{IsDiagonal, inner_off, ends_differ, middle, middle_is_point, middle_not_first, middle_not_last, middle_on, some_back, some_there, wound}
+use Rattle.ring_laws.specs.Apart.{IsApartRing, edge}
+use Rattle.ring_laws.proofs.CutDiagonal.{inner_off, ends_differ, middle, middle_is_point, middle_not_first, middle_not_last, middle_on, some_back, some_there, wound}
+use Rattle.ring_laws.specs.Diagonal.{IsDiagonal}
+use Rattle.ring_laws.specs.Winding.{WindsUpTo}
 
 -- each ring of three vertices or more whose edges are apart winds up to once, one way or the other
 abbrev pub WindsOnce : Type 0

@@ -13,8 +13,7 @@ use Rattle.plane.specs.Segment.{On}
 use Rattle.plane.specs.Turn.{IsLeft, IsStraight, determinant}
 use Rattle.rings.proofs.Combinations.{same_without_last}
 use Rattle.rings.specs.Edge.{Edge, edges_along, edges_of}
-use Rattle.ring_laws.proofs.Corner.{edge, has_edge_corner}
-use Rattle.ring_laws.proofs.CutDiagonal.{IsDiagonal}
+use Rattle.ring_laws.proofs.Corner.{has_edge_corner}
 use Rattle.ring_laws.proofs.Diagonals.{cut_is_diagonal, diagonal_backward, diagonal_rotated}
 use Rattle.ring_laws.proofs.DistinctPoints.{HasPoint}
 use Rattle.ring_laws.proofs.EarStep.{apart_without, meets_base, rest_counterclockwise}
@@ -25,10 +24,11 @@ use Rattle.ring_laws.proofs.FarthestEnd.{InTriangle, height}
 use Rattle.ring_laws.proofs.LeastVertex.{NoneBefore, least_vertex}
 use Rattle.ring_laws.proofs.Pieces.{meet_reversed}
 use Rattle.ring_laws.proofs.Rotated.{apart_rotated, has_edge_rotated}
-use Rattle.ring_laws.proofs.RunsOnce.{RunsCounterclockwise}
 use Rattle.ring_laws.proofs.SimpleRings.{left_turn_law, winding_of_simple}
-use Rattle.ring_laws.specs.Apart.{HasEdge, IsApartRing, MeetAtEnds}
+use Rattle.ring_laws.specs.Apart.{HasEdge, IsApartRing, MeetAtEnds, edge}
+use Rattle.ring_laws.specs.Diagonal.{IsDiagonal}
 use Rattle.ring_laws.specs.Triangle.{IsInTriangle}
+use Rattle.ring_laws.specs.Winding.{RunsCounterclockwise}
 
 -- two segments from a in different directions meet at a alone
 only_corner : (a b c : Point) → ¬ IsStraight (whole a) (whole b) (whole c) → (x : Triple) → IsPoint x → On x (whole a) (whole b)

@@ -5,7 +5,6 @@ use Rattle.std.proofs.lemmas.List.{length-reverse, reverse-reverse}
 use Rattle.plane.proofs.Determinants.{determinant_swap_ends}
 use Rattle.plane.specs.Point.{Point, whole}
 use Rattle.plane.specs.Turn.{IsLeft, IsRight}
-use Rattle.ring_laws.proofs.CutDiagonal.{IsDiagonal}
 use Rattle.ring_laws.proofs.CutRule.{ear_diagonal, farthest_diagonal}
 use Rattle.ring_laws.proofs.Diagonals.{diagonal_backward, diagonal_turned}
 use Rattle.ring_laws.proofs.DistinctPoints.{HasPoint, has_point_cases, has_point_left, has_point_reverse, has_point_right}
@@ -15,6 +14,7 @@ use Rattle.ring_laws.proofs.FarthestEnd.{InTriangle, height}
 use Rattle.ring_laws.proofs.LeastVertex.{NoneBefore}
 use Rattle.ring_laws.proofs.Mirrored.{apart_turned, turned_corner}
 use Rattle.ring_laws.specs.Apart.{IsApartRing}
+use Rattle.ring_laws.specs.Diagonal.{IsDiagonal}
 
 -- the points of a list are those in the other order
 reversed_points : (p : Point) (ps : List Point) → HasPoint ps p → HasPoint (reverse ps) p

@@ -6,14 +6,13 @@ use Rattle.plane.specs.Turn.{IsLeft, IsRight}
 use Rattle.rings.proofs.Edges.{closed_edges_of}
 use Rattle.rings.specs.Edge.{Edge, IsClosed, IsOnSome, edges_along, edges_of}
 use Rattle.rings.specs.Inside.{winding}
-use Rattle.ring_laws.proofs.Corner.{edge}
 use Rattle.ring_laws.proofs.DistinctPoints.{HasPoint, has_point_right}
 use Rattle.ring_laws.proofs.EdgeLaws.{AreTwoWays, TwoPiecesWinding}
 use Rattle.ring_laws.proofs.Pieces.{area_cut, distinct_cut, edges_of_cut, edges_of_first}
 use Rattle.ring_laws.proofs.PiecesMeet.{has_edge_back, has_edge_there, meet_at_cut, off_first_piece, off_second_piece}
 use Rattle.ring_laws.proofs.Rotated.{closed_swapped, on_some_swapped, winding_swapped}
-use Rattle.ring_laws.proofs.RunsOnce.{RunsCounterclockwise, WindsUpTo}
-use Rattle.ring_laws.specs.Apart.{HasEdge, IsApartRing, MeetAtEnds}
+use Rattle.ring_laws.specs.Apart.{HasEdge, IsApartRing, MeetAtEnds, edge}
+use Rattle.ring_laws.specs.Winding.{RunsCounterclockwise, WindsUpTo}
 
 module _ (v : Point) (ps : List Point) (z : Point) (qs : List Point) where
   -- the first piece with the diagonal first

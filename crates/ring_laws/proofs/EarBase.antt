@@ -16,10 +16,7 @@ use Rattle.rings.specs.Inside.{winding}
 use Rattle.ring_laws.specs.Triangle.{IsInTriangle}
 use Rattle.ring_laws.proofs.Sides.{same_straight, stays_right}
 use Rattle.ring_laws.proofs.TrianglePlaces.{in_triangle_from, last_left, not_negative, not_right_between}
-
--- the edge from one point to another
-abbrev pub edge : Point → Point → Edge
-edge u w = record { from = u; to = w }
+use Rattle.ring_laws.specs.Apart.{edge}
 
 -- ---- the corners of a triangle
 

@@ -19,11 +19,12 @@ use Rattle.rings.specs.Edge.{Edge, IsClosed, IsOnSome}
 use Rattle.rings.specs.Inside.{winding}
 use Rattle.ring_laws.specs.Triangle.{IsInTriangle}
 use Rattle.ring_laws.proofs.AcrossEdge.{across_edge}
-use Rattle.ring_laws.proofs.EarBase.{base_differs, edge, on_others_straight, tip_in, tip_is_right, triangle_convex, winding_at_tip}
+use Rattle.ring_laws.proofs.EarBase.{base_differs, on_others_straight, tip_in, tip_is_right, triangle_convex, winding_at_tip}
 use Rattle.ring_laws.proofs.NearPairs.{left_toward, positive_at}
 use Rattle.ring_laws.proofs.Sides.{IsWithin, first_end_on_line}
 use Rattle.ring_laws.proofs.TrianglePlaces.{last_left}
 use Rattle.ring_laws.proofs.TriangleWinding.{on_sides_in}
+use Rattle.ring_laws.specs.Apart.{edge}
 
 -- ---- the other side of the base
 

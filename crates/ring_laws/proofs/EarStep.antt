@@ -7,14 +7,14 @@ use Rattle.plane.specs.Point.{IsPoint, IsSame, Point, Triple, whole}
 use Rattle.plane.specs.Turn.{IsLeft}
 use Rattle.rings.proofs.FarAway.{AllEnds}
 use Rattle.rings.specs.Edge.{Edge, edges_along, edges_of}
-use Rattle.ring_laws.proofs.Corner.{apart_rest, area_ear, closed_rest, edge, edges_at_corner, has_edge_of_corner, no_edge_across, not_at_corner, on_some_corner, on_some_rest, winding_corner, winding_rest}
+use Rattle.ring_laws.proofs.Corner.{apart_rest, area_ear, closed_rest, edges_at_corner, has_edge_of_corner, no_edge_across, not_at_corner, on_some_corner, on_some_rest, winding_corner, winding_rest}
 use Rattle.ring_laws.proofs.DistinctPoints.{HasPoint, end_of_ring, ends_along, has_point_cases, has_point_left}
 use Rattle.ring_laws.proofs.EdgeLaws.{EarWinding, IsCorner, NoneEnters, SideInTriangle}
 use Rattle.ring_laws.proofs.LeastVertex.{NoneBefore}
-use Rattle.ring_laws.proofs.RunsOnce.{RunsClockwise, RunsCounterclockwise, WindsUpTo}
 use Rattle.ring_laws.proofs.SimpleIsApart.{proper_edges}
-use Rattle.ring_laws.specs.Apart.{HasEdge, HasEnd, IsApartRing, IsCommonEnd, IsOn, MeetAtEnds}
+use Rattle.ring_laws.specs.Apart.{HasEdge, HasEnd, IsApartRing, IsCommonEnd, IsOn, MeetAtEnds, edge}
 use Rattle.ring_laws.specs.Triangle.{IsInTriangle}
+use Rattle.ring_laws.specs.Winding.{RunsClockwise, RunsCounterclockwise, WindsUpTo}
 
 -- what holds of both ends of each edge holds of all ends
 all_ends_from : (P : Point → Type 0) (es : List Edge) → ((e : Edge) → HasEdge es e → P e.from × P e.to) → AllEnds P es

@@ -15,11 +15,12 @@ use Rattle.rings.proofs.SignSteps.{not_both, turned_negative, weak, zero_not_neg
 use Rattle.rings.specs.Edge.{Edge, IsClosed, IsOnSome, growth}
 use Rattle.rings.specs.Inside.{crossing, winding}
 use Rattle.ring_laws.specs.Triangle.{IsInTriangle}
-use Rattle.ring_laws.proofs.EarBase.{edge, tip_in, tip_is_right, triangle_convex, winding_below}
+use Rattle.ring_laws.proofs.EarBase.{tip_in, tip_is_right, triangle_convex, winding_below}
 use Rattle.ring_laws.proofs.EarSign.{sign_is_one}
 use Rattle.ring_laws.proofs.NearPairs.{right_toward}
 use Rattle.ring_laws.proofs.TrianglePlaces.{IsInside, IsOutside, Place, in_triangle_from, inside, on_border, on_first, on_second, on_third, outside, outside_not_in, place_of}
 use Rattle.ring_laws.proofs.TriangleWinding.{on_sides_in, triangle, winding_inside, winding_outside}
+use Rattle.ring_laws.specs.Apart.{edge}
 
 -- ---- sums
 

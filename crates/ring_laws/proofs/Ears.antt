@@ -5,10 +5,10 @@ use Rattle.plane.specs.Turn.{IsLeft}
 use Rattle.rings.proofs.FarAway.{AllEnds}
 use Rattle.rings.specs.Edge.{Edge, IsClosed, IsOnSome}
 use Rattle.rings.specs.Inside.{winding}
-use Rattle.ring_laws.specs.Apart.{HasEdge, IsOn}
+use Rattle.ring_laws.specs.Apart.{HasEdge, IsOn, edge}
 use Rattle.ring_laws.specs.Triangle.{IsInTriangle}
 use Rattle.ring_laws.proofs.BaseEnds.{base_ends}
-use Rattle.ring_laws.proofs.EarBase.{base_differs, edge}
+use Rattle.ring_laws.proofs.EarBase.{base_differs}
 use Rattle.ring_laws.proofs.EarSign.{sign_is_one}
 use Rattle.ring_laws.proofs.EarWinding.{ear_values}
 use Rattle.ring_laws.proofs.TwoChains.{IsZeroOrOne}

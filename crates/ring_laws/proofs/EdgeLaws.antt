@@ -5,11 +5,11 @@ use Rattle.plane.specs.Segment.{On}
 use Rattle.plane.specs.Turn.{IsLeft, IsRight}
 use Rattle.rings.proofs.FarAway.{AllEnds}
 use Rattle.rings.specs.Edge.{Edge, IsClosed, IsOnSome, edges_along}
-use Rattle.ring_laws.proofs.Corner.{edge, triangle}
+use Rattle.ring_laws.proofs.Corner.{triangle}
 use Rattle.ring_laws.proofs.DistinctPoints.{HasPoint}
-use Rattle.ring_laws.proofs.RunsOnce.{WindsUpTo}
-use Rattle.ring_laws.specs.Apart.{AreApart, HasEdge, HasEnd, IsCommonEnd, IsOn, MeetAtEnds}
+use Rattle.ring_laws.specs.Apart.{AreApart, HasEdge, HasEnd, IsCommonEnd, IsOn, MeetAtEnds, edge}
 use Rattle.ring_laws.specs.Triangle.{IsInTriangle, height_over}
+use Rattle.ring_laws.specs.Winding.{WindsUpTo}
 
 -- edges that are apart, with a left turn at v from uv to vw, which are the only edges at v
 pub record IsCorner (es : List Edge) (u v w : Point) : Type 0 where

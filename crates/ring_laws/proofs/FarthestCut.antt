@@ -5,7 +5,6 @@ use Rattle.std.proofs.lemmas.List.{append_assoc, length-append}
 use Rattle.plane.specs.Point.{Point, whole}
 use Rattle.plane.specs.Turn.{IsLeft}
 use Rattle.rings.specs.Edge.{Edge, edges_of}
-use Rattle.ring_laws.proofs.Corner.{edge}
 use Rattle.ring_laws.proofs.DistinctPoints.{HasPoint, has_point_cases, has_point_left, has_point_right}
 use Rattle.ring_laws.proofs.EarStep.{is_corner}
 use Rattle.ring_laws.proofs.EdgeLaws.{FarthestIsBetween, FarthestIsDiagonal}
@@ -14,8 +13,9 @@ use Rattle.ring_laws.proofs.FarthestEnd.{InTriangle, height, is_farthest_end, sp
 use Rattle.ring_laws.proofs.LeastVertex.{NoneBefore}
 use Rattle.ring_laws.proofs.Pieces.{apart_first, apart_second}
 use Rattle.ring_laws.proofs.PiecesMeet.{has_edge_back, has_edge_there}
-use Rattle.ring_laws.proofs.RunsOnce.{LeftTurnLaw, RunsCounterclockwise}
-use Rattle.ring_laws.specs.Apart.{HasEdge, IsApartRing, MeetAtEnds}
+use Rattle.ring_laws.proofs.RunsOnce.{LeftTurnLaw}
+use Rattle.ring_laws.specs.Apart.{HasEdge, IsApartRing, MeetAtEnds, edge}
+use Rattle.ring_laws.specs.Winding.{RunsCounterclockwise}
 
 -- the vertices ms are cs, z and ds; the segment from v to z meets the edges at ends, and is strictly between those at v
 pub record IsCut (v w : Point) (ms : List Point) (u z : Point) (cs ds : List Point) : Type 0 where

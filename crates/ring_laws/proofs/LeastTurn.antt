@@ -12,10 +12,10 @@ use Rattle.plane.specs.Turn.{IsStraight, determinant}
 use Rattle.rings.proofs.Vertices.{vertex_in_range}
 use Rattle.rings.specs.Orientation.{turn_at}
 use Rattle.rings.specs.Ring.{origin, vertex}
-use Rattle.ring_laws.proofs.Corner.{distinct_corner, edge, has_edge_of_corner}
+use Rattle.ring_laws.proofs.Corner.{distinct_corner, has_edge_of_corner}
 use Rattle.ring_laws.proofs.DistinctPoints.{AreDistinct, HasPoint, has_point_right}
 use Rattle.ring_laws.proofs.LeastVertex.{NoneBefore}
-use Rattle.ring_laws.specs.Apart.{IsApartRing, IsCommonEnd}
+use Rattle.ring_laws.specs.Apart.{IsApartRing, IsCommonEnd, edge}
 
 module _ (v w : Point) (ms : List Point) (u : Point) where
   -- the turn at the first vertex is from the last one to the second

@@ -7,14 +7,11 @@ use Rattle.plane.specs.Point.{Point}
 use Rattle.rings.proofs.Vertices.{vertex_in_range}
 use Rattle.rings.specs.Ring.{origin, vertex}
 use Rattle.ring_laws.proofs.DistinctPoints.{HasPoint, has_point_number, number_of_point}
+use Rattle.ring_laws.specs.Winding.{IsLeastVertex}
 
 -- no point of the list is before v
 abbrev pub NoneBefore : List Point → Point → Type 0
 NoneBefore ps v = (p : Point) → HasPoint ps p → ¬ (IsBefore p v)
-
--- no vertex of the ring is before vertex i
-abbrev pub IsLeastVertex : List Point → ℕ → Type 0
-IsLeastVertex ring i = (j : ℕ) → j < length ring → ¬ (IsBefore (vertex ring j) (vertex ring i))
 
 -- a point that is before the least of some others is before all
 least_more : (p v : Point) (ps : List Point) → IsBefore p v → NoneBefore ps v → NoneBefore (p ∷ ps) p

@@ -10,8 +10,7 @@ use Rattle.rings.proofs.SamePoint.{on_some_same}
 use Rattle.rings.specs.Across.{Misses}
 use Rattle.rings.specs.Edge.{Edge, IsOnSome, edges_along, edges_of}
 use Rattle.rings.specs.Inside.{winding}
-use Rattle.ring_laws.specs.Apart.{HasEdge, IsOn}
-use Rattle.ring_laws.proofs.EarBase.{edge}
+use Rattle.ring_laws.specs.Apart.{HasEdge, IsOn, edge}
 use Rattle.ring_laws.proofs.PointLists.{HasPoint, first_on_along, last_on_along}
 use Rattle.ring_laws.proofs.TwoChains.{ArePieces, IsNeither, chain_on_piece, not_between}
 use Rattle.ring_laws.proofs.SomeEdge.{on_some_of}

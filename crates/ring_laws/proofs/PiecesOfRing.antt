@@ -5,8 +5,7 @@ use Rattle.plane.proofs.Segments.{on_reversed}
 use Rattle.plane.specs.Point.{IsPoint, IsSame, Point, Triple, whole}
 use Rattle.rings.specs.Edge.{Edge, IsOnSome, edges_along, edges_of}
 use Rattle.rings.specs.Inside.{winding}
-use Rattle.ring_laws.specs.Apart.{HasEdge, HasEnd, MeetAtEnds}
-use Rattle.ring_laws.proofs.EarBase.{edge}
+use Rattle.ring_laws.specs.Apart.{HasEdge, HasEnd, MeetAtEnds, edge}
 use Rattle.ring_laws.proofs.PointLists.{HasPoint, member_on_along}
 use Rattle.ring_laws.proofs.TwoChains.{ArePieces, IsZeroOrOne, meet_only_ends}
 use Rattle.ring_laws.proofs.SomeEdge.{edge_at}

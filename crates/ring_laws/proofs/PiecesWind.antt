@@ -12,9 +12,9 @@ use Rattle.rings.specs.Edge.{Edge, IsClosed, IsOnSome, edges_of}
 use Rattle.rings.specs.Inside.{winding}
 use Rattle.ring_laws.proofs.BesideEdge.{BesideEdge, beside_edge}
 use Rattle.ring_laws.proofs.InsideEdge.{InsideNear, inside_near, off_others, other_edges}
-use Rattle.ring_laws.proofs.RunsOnce.{WindsUpTo}
 use Rattle.ring_laws.proofs.SimpleIsApart.{proper_edges}
 use Rattle.ring_laws.specs.Apart.{HasEdge, IsApartRing, IsOn}
+use Rattle.ring_laws.specs.Winding.{WindsUpTo}
 
 -- ---- numbers
 

@@ -15,29 +15,11 @@ use Rattle.rings.specs.Orientation.{doubled_area, turn_at, turned_round}
 use Rattle.rings.specs.Ring.{vertex}
 use Rattle.ring_laws.proofs.DistinctPoints.{HasPoint, has_point_cases, has_point_left, has_point_reverse, has_point_right}
 use Rattle.ring_laws.proofs.LeastTurn.{turn_at_first, turn_not_straight}
-use Rattle.ring_laws.proofs.LeastVertex.{IsLeastVertex, NoneBefore, from_vertex, none_before_least}
+use Rattle.ring_laws.proofs.LeastVertex.{NoneBefore, from_vertex, none_before_least}
 use Rattle.ring_laws.proofs.Mirrored.{apart_turned, turned_corner, winding_turned}
 use Rattle.ring_laws.proofs.Rotated.{apart_rotated, area_rotated, length_rotated, on_some_rotated, turn_rotated, winding_rotated}
 use Rattle.ring_laws.specs.Apart.{IsApartRing}
-
--- each winding number at a rational point on no edge is 0 or s
-abbrev pub WindsUpTo : ℤ → List Edge → Type 0
-WindsUpTo s es = (x : Triple) → IsPoint x → ¬ IsOnSome es x → (winding es x ≡ pos 0) ⊎ (winding es x ≡ s)
-
--- the area is positive, and the winding number at a rational point on no edge is 0 or 1
-pub record RunsCounterclockwise (ring : List Point) : Type 0 where
-  pub area : pos 0 <ℤ doubled_area ring
-  pub windings : WindsUpTo (pos 1) (edges_of ring)
-
--- the area is negative, and the winding number at a rational point on no edge is 0 or -1
-pub record RunsClockwise (ring : List Point) : Type 0 where
-  pub area : doubled_area ring <ℤ pos 0
-  pub windings : WindsUpTo (negsuc 0) (edges_of ring)
-
--- the ring turns left at vertex i and runs counterclockwise, or turns right there and runs clockwise
-abbrev pub RunsAsItTurns : List Point → ℕ → Type 0
-RunsAsItTurns ring i =
-    ((pos 0 <ℤ turn_at ring i) × RunsCounterclockwise ring) ⊎ ((turn_at ring i <ℤ pos 0) × RunsClockwise ring)
+use Rattle.ring_laws.specs.Winding.{IsLeastVertex, RunsAsItTurns, RunsClockwise, RunsCounterclockwise, WindsUpTo}
 
 -- ---- from another vertex on, and the other way round
 

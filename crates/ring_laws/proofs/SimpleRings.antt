@@ -16,10 +16,11 @@ use Rattle.ring_laws.proofs.EdgeLaws.{EarWinding, FarthestIsBetween, FarthestIsD
 use Rattle.ring_laws.proofs.Farthest.{farthest_or_none}
 use Rattle.ring_laws.proofs.FarthestCut.{IsCut, apart_regrouped, farthest_cut, fewer_vertices, first_runs, ring_regrouped, second_runs}
 use Rattle.ring_laws.proofs.FarthestEnd.{InTriangle, height, in_triangle_or_not}
-use Rattle.ring_laws.proofs.LeastVertex.{IsLeastVertex, NoneBefore, least_vertex}
-use Rattle.ring_laws.proofs.RunsOnce.{LeftTurnLaw, RunsAsItTurns, RunsClockwise, RunsCounterclockwise, WindsUpTo, runs_as_it_turns}
+use Rattle.ring_laws.proofs.LeastVertex.{NoneBefore, least_vertex}
+use Rattle.ring_laws.proofs.RunsOnce.{LeftTurnLaw, runs_as_it_turns}
 use Rattle.ring_laws.proofs.SimpleIsApart.{apart_of_simple}
 use Rattle.ring_laws.specs.Apart.{IsApartRing}
+use Rattle.ring_laws.specs.Winding.{IsLeastVertex, RunsAsItTurns, RunsClockwise, RunsCounterclockwise, WindsUpTo}
 
 -- the laws of edges and triangles
 module _ (side_in_triangle : SideInTriangle) (none_enters : NoneEnters) (diagonal : FarthestIsDiagonal) (between : FarthestIsBetween)

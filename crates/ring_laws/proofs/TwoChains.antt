@@ -10,8 +10,7 @@ use Rattle.rings.proofs.Along.{on_antisym, on_total}
 use Rattle.rings.proofs.Combinations.{on_nested}
 use Rattle.rings.specs.Edge.{Edge, IsOnSome, edges_along, edges_of}
 use Rattle.rings.specs.Inside.{winding}
-use Rattle.ring_laws.specs.Apart.{HasEdge, HasEnd, IsOn, MeetAtEnds}
-use Rattle.ring_laws.proofs.EarBase.{edge}
+use Rattle.ring_laws.specs.Apart.{HasEdge, HasEnd, IsOn, MeetAtEnds, edge}
 use Rattle.ring_laws.proofs.PointLists.{HasPoint}
 use Rattle.ring_laws.proofs.SomeEdge.{edge_at}
 
