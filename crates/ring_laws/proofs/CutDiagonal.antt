@@ -16,7 +16,6 @@ use Rattle.ring_laws.proofs.Members.{edge_with, has_edge_right, on_some_of}
 use Rattle.ring_laws.proofs.Pieces.{distinct_cut, edges_of_first}
 use Rattle.ring_laws.proofs.PiecesWind.{IsUnit, IsUpTo}
 use Rattle.ring_laws.specs.Apart.{HasEdge, IsApartRing, IsCommonEnd, IsOn, MeetAtEnds, edge}
-use Rattle.ring_laws.specs.Diagonal.{IsDiagonal}
 use Rattle.ring_laws.specs.Winding.{WindsUpTo}
 
 -- ---- in a ring that winds up to once

@@ -1,5 +1,5 @@
 -- A ring and the pieces that a diagonal inside it makes wind up to once in one direction.
-use Rattle.std.proofs.Common.{subst, ◌≤◌, ℤ, List, [], ◌∷◌, ◌++◌, length, arith}
+use Rattle.std.proofs.Common.{subst, ℤ, List, [], ◌∷◌, ◌++◌, arith}
 use Rattle.std.proofs.lemmas.List.{length-append}
 use Rattle.plane.specs.Point.{Point}
 use Rattle.rings.proofs.Edges.{closed_edges_of}
@@ -8,14 +8,11 @@ use Rattle.ring_laws.proofs.BesideDiagonal.{same_direction}
 use Rattle.ring_laws.proofs.Pieces.{apart_first, apart_second, winding_cut}
 use Rattle.ring_laws.proofs.PiecesMeet.{has_edge_back, has_edge_there, off_first, on_back}
 use Rattle.ring_laws.proofs.PiecesWind.{IsUnit}
+use Rattle.ring_laws.proofs.SimpleRings.{winds_once}
 use Rattle.ring_laws.specs.Apart.{IsApartRing, edge}
 use Rattle.ring_laws.proofs.CutDiagonal.{inner_off, ends_differ, middle, middle_is_point, middle_not_first, middle_not_last, middle_on, some_back, some_there, wound}
 use Rattle.ring_laws.specs.Diagonal.{IsDiagonal}
 use Rattle.ring_laws.specs.Winding.{WindsUpTo}
-
--- each ring of three vertices or more whose edges are apart winds up to once, one way or the other
-abbrev pub WindsOnce : Type 0
-WindsOnce = (ring : List Point) → 3 ≤ length ring → IsApartRing ring → (s : ℤ) × IsUnit s × WindsUpTo s (edges_of ring)
 
 -- a ring and two pieces of it wind up to once in one direction
 pub record WindTogether (ring first second : List Point) : Type 0 where
@@ -25,7 +22,7 @@ pub record WindTogether (ring first second : List Point) : Type 0 where
   pub first_winds : WindsUpTo s (edges_of first)
   pub second_winds : WindsUpTo s (edges_of second)
 
-module _ (winds_once : WindsOnce) (v : Point) (ps : List Point) (z : Point) (qs : List Point) (apart : IsApartRing (v ∷ (ps ++ z ∷ qs)))
+module _ (v : Point) (ps : List Point) (z : Point) (qs : List Point) (apart : IsApartRing (v ∷ (ps ++ z ∷ qs)))
     (diagonal : IsDiagonal (v ∷ (ps ++ z ∷ qs)) v z) where
   -- the first piece is apart,
   pub first_apart : IsApartRing (v ∷ (ps ++ z ∷ []))

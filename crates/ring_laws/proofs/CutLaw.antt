@@ -11,7 +11,7 @@ use Rattle.rings.proofs.InRing.{on_some_or_not}
 use Rattle.rings.specs.Edge.{Edge, IsOnSome, edges_along, edges_of}
 use Rattle.rings.specs.Inside.{IsIn}
 use Rattle.ring_laws.proofs.CutDiagonal.{in_if_wound, not_twice, one_is, sum_is, wound}
-use Rattle.ring_laws.proofs.CutDirection.{WindTogether, WindsOnce, wind_together}
+use Rattle.ring_laws.proofs.CutDirection.{WindTogether, wind_together}
 use Rattle.ring_laws.proofs.Members.{edge_with, on_some_of}
 use Rattle.ring_laws.proofs.Pieces.{edges_of_first, has_edge_of_first, on_some_cut, winding_cut}
 use Rattle.ring_laws.proofs.PiecesMeet.{has_edge_back, has_edge_there, meet_at_cut, off_first, off_second, on_back}
@@ -19,11 +19,11 @@ use Rattle.ring_laws.proofs.PiecesWind.{on_edge_not_wound}
 use Rattle.ring_laws.specs.Apart.{IsApartRing, IsOn, edge}
 use Rattle.ring_laws.specs.Diagonal.{IsDiagonal}
 
-module _ (winds_once : WindsOnce) (v : Point) (ps : List Point) (z : Point) (qs : List Point) (apart : IsApartRing (v ∷ (ps ++ z ∷ qs)))
+module _ (v : Point) (ps : List Point) (z : Point) (qs : List Point) (apart : IsApartRing (v ∷ (ps ++ z ∷ qs)))
     (diagonal : IsDiagonal (v ∷ (ps ++ z ∷ qs)) v z) where
   -- the ring and its pieces wind in one direction
   together : WindTogether (v ∷ (ps ++ z ∷ qs)) (v ∷ (ps ++ z ∷ [])) (v ∷ z ∷ qs)
-  together = wind_together winds_once v ps z qs apart diagonal
+  together = wind_together v ps z qs apart diagonal
 
   -- its length is enough
   enough : 1 < length (v ∷ (ps ++ z ∷ qs))

@@ -8,7 +8,6 @@ use Rattle.plane.specs.Turn.{IsLeft, IsRight}
 use Rattle.ring_laws.proofs.CutRule.{ear_diagonal, farthest_diagonal}
 use Rattle.ring_laws.proofs.Diagonals.{diagonal_backward, diagonal_turned}
 use Rattle.ring_laws.proofs.DistinctPoints.{HasPoint, has_point_cases, has_point_left, has_point_reverse, has_point_right}
-use Rattle.ring_laws.proofs.EdgeLaws.{EarWinding, FarthestIsBetween, FarthestIsDiagonal, NoneEnters, SideInTriangle, TriangleWinding, TwoPiecesWinding}
 use Rattle.ring_laws.proofs.Farthest.{Farthest}
 use Rattle.ring_laws.proofs.FarthestEnd.{InTriangle, height}
 use Rattle.ring_laws.proofs.LeastVertex.{NoneBefore}
@@ -37,37 +36,35 @@ least_reversed v w ms u least p (inr h) = elim (has_point_cases p (reverse ms) (
   | inr k ↦ elim k [ inl e ↦ least p (inl e) | inr none ↦ absurd none ]
 ]
 
-module _ (side_in_triangle : SideInTriangle) (none_enters : NoneEnters) (diagonal : FarthestIsDiagonal) (between : FarthestIsBetween)
-    (triangle_winding : TriangleWinding) (ear_winding : EarWinding) (two_pieces : TwoPiecesWinding) where
-  -- the base of a triangle with no vertex in it, where there are other vertices
-  pub base_diagonal : (v w : Point) (ms : List Point) (u : Point) → 0 < length ms → IsApartRing (v ∷ w ∷ (ms ++ u ∷ []))
-      → NoneBefore (w ∷ (ms ++ u ∷ [])) v → IsLeft (whole u) (whole v) (whole w) → ((p : Point) → HasPoint ms p → ¬ InTriangle u v w p)
-      → IsDiagonal (v ∷ w ∷ (ms ++ u ∷ [])) u w
-  base_diagonal v w [] u some apart least left none = absurd (omega arith)
-  base_diagonal v w (m ∷ ks) u some apart least left none =
-      ear_diagonal side_in_triangle none_enters diagonal between triangle_winding ear_winding two_pieces v w m ks u apart left none least
+-- the base of a triangle with no vertex in it, where there are other vertices
+pub base_diagonal : (v w : Point) (ms : List Point) (u : Point) → 0 < length ms → IsApartRing (v ∷ w ∷ (ms ++ u ∷ []))
+    → NoneBefore (w ∷ (ms ++ u ∷ [])) v → IsLeft (whole u) (whole v) (whole w) → ((p : Point) → HasPoint ms p → ¬ InTriangle u v w p)
+    → IsDiagonal (v ∷ w ∷ (ms ++ u ∷ [])) u w
+base_diagonal v w [] u some apart least left none = absurd (omega arith)
+base_diagonal v w (m ∷ ks) u some apart least left none =
+    ear_diagonal v w m ks u apart left none least
 
-  module _ (v w : Point) (ms : List Point) (u : Point) (apart : IsApartRing (v ∷ w ∷ (ms ++ u ∷ [])))
-      (least : NoneBefore (w ∷ (ms ++ u ∷ [])) v) (right : IsRight (whole u) (whole v) (whole w)) where
-    -- the ring the other way round is apart
-    mirrored_apart : IsApartRing (v ∷ u ∷ (reverse ms ++ w ∷ []))
-    mirrored_apart = subst IsApartRing (turned_corner v w ms u) (apart_turned (v ∷ w ∷ (ms ++ u ∷ [])) apart)
+module _ (v w : Point) (ms : List Point) (u : Point) (apart : IsApartRing (v ∷ w ∷ (ms ++ u ∷ [])))
+    (least : NoneBefore (w ∷ (ms ++ u ∷ [])) v) (right : IsRight (whole u) (whole v) (whole w)) where
+  -- the ring the other way round is apart
+  mirrored_apart : IsApartRing (v ∷ u ∷ (reverse ms ++ w ∷ []))
+  mirrored_apart = subst IsApartRing (turned_corner v w ms u) (apart_turned (v ∷ w ∷ (ms ++ u ∷ [])) apart)
 
-    -- and turns left at v
-    mirrored_left : IsLeft (whole w) (whole v) (whole u)
-    mirrored_left = omega (arith, ints, right, determinant_swap_ends (whole u) (whole v) (whole w))
+  -- and turns left at v
+  mirrored_left : IsLeft (whole w) (whole v) (whole u)
+  mirrored_left = omega (arith, ints, right, determinant_swap_ends (whole u) (whole v) (whole w))
 
-    -- at a right turn, too, the farthest vertex in the triangle makes a diagonal
-    pub farthest_diagonal_right : (far : Farthest (InTriangle w v u) (height w u) ms) → IsDiagonal (v ∷ w ∷ (ms ++ u ∷ [])) v far.point
-    farthest_diagonal_right far =
-        diagonal_turned v far.point (v ∷ w ∷ (ms ++ u ∷ [])) (subst (λ rs. IsDiagonal rs v far.point) (sym (turned_corner v w ms u))
-        (farthest_diagonal side_in_triangle none_enters diagonal between triangle_winding ear_winding two_pieces v u (reverse ms) w mirrored_apart
-        (least_reversed v w ms u least) mirrored_left (farthest_reversed (InTriangle w v u) (height w u) ms far)))
+  -- at a right turn, too, the farthest vertex in the triangle makes a diagonal
+  pub farthest_diagonal_right : (far : Farthest (InTriangle w v u) (height w u) ms) → IsDiagonal (v ∷ w ∷ (ms ++ u ∷ [])) v far.point
+  farthest_diagonal_right far =
+      diagonal_turned v far.point (v ∷ w ∷ (ms ++ u ∷ [])) (subst (λ rs. IsDiagonal rs v far.point) (sym (turned_corner v w ms u))
+      (farthest_diagonal v u (reverse ms) w mirrored_apart
+      (least_reversed v w ms u least) mirrored_left (farthest_reversed (InTriangle w v u) (height w u) ms far)))
 
-    -- and so does the base, where there is none
-    pub base_diagonal_right : 0 < length ms → ((p : Point) → HasPoint ms p → ¬ InTriangle w v u p) → IsDiagonal (v ∷ w ∷ (ms ++ u ∷ [])) u w
-    base_diagonal_right some none =
-        diagonal_backward w u (v ∷ w ∷ (ms ++ u ∷ []))
-        (diagonal_turned w u (v ∷ w ∷ (ms ++ u ∷ [])) (subst (λ rs. IsDiagonal rs w u) (sym (turned_corner v w ms u))
-        (base_diagonal v u (reverse ms) w (omega (arith, length-reverse ms)) mirrored_apart (least_reversed v w ms u least) mirrored_left
-        (λ p has. none p (has_point_reverse p ms has)))))
+  -- and so does the base, where there is none
+  pub base_diagonal_right : 0 < length ms → ((p : Point) → HasPoint ms p → ¬ InTriangle w v u p) → IsDiagonal (v ∷ w ∷ (ms ++ u ∷ [])) u w
+  base_diagonal_right some none =
+      diagonal_backward w u (v ∷ w ∷ (ms ++ u ∷ []))
+      (diagonal_turned w u (v ∷ w ∷ (ms ++ u ∷ [])) (subst (λ rs. IsDiagonal rs w u) (sym (turned_corner v w ms u))
+      (base_diagonal v u (reverse ms) w (omega (arith, length-reverse ms)) mirrored_apart (least_reversed v w ms u least) mirrored_left
+      (λ p has. none p (has_point_reverse p ms has)))))

@@ -7,7 +7,7 @@ use Rattle.plane.specs.Turn.{IsLeft}
 use Rattle.rings.specs.Edge.{Edge, edges_of}
 use Rattle.ring_laws.proofs.DistinctPoints.{HasPoint, has_point_cases, has_point_left, has_point_right}
 use Rattle.ring_laws.proofs.EarStep.{is_corner}
-use Rattle.ring_laws.proofs.EdgeLaws.{FarthestIsBetween, FarthestIsDiagonal}
+use Rattle.ring_laws.proofs.CornerLaws.{farthest_between, farthest_meets}
 use Rattle.ring_laws.proofs.Farthest.{Farthest}
 use Rattle.ring_laws.proofs.FarthestEnd.{InTriangle, height, is_farthest_end, split_at}
 use Rattle.ring_laws.proofs.LeastVertex.{NoneBefore}
@@ -38,22 +38,22 @@ module _ (v w : Point) (ms : List Point) (u z : Point) (cs ds : List Point) (par
   fewer_vertices = omega (arith, ap length parts, length-append cs (z ∷ ds))
 
 -- the farthest vertex in the triangle makes a cut
-pub farthest_cut : FarthestIsDiagonal → FarthestIsBetween → (v w : Point) (ms : List Point) (u : Point)
+pub farthest_cut : (v w : Point) (ms : List Point) (u : Point)
     → IsApartRing (v ∷ w ∷ (ms ++ u ∷ [])) → IsLeft (whole u) (whole v) (whole w) → (far : Farthest (InTriangle u v w) (height u w) ms)
     → (cs : List Point) × (ds : List Point) × IsCut v w ms u far.point cs ds
-farthest_cut diagonal between v w ms u apart left far =
+farthest_cut v w ms u apart left far =
     let z : Point = far.point in
     let (cs, ds, parts) = split_at z ms far.has_point in
     let es : List Edge = edges_of (v ∷ w ∷ (ms ++ u ∷ [])) in
     let corner = is_corner v w ms u apart left in
     let end = is_farthest_end v w ms u apart far in
-    let turns = between es u v w z corner end in (
+    let turns = farthest_between es u v w corner z end in (
       cs,
       ds,
       record {
         parts = parts;
         meets = subst (λ rs. (e : Edge) → HasEdge (edges_of rs) e → MeetAtEnds e (edge v z)) (ring_regrouped v w ms u z cs ds parts)
-            (diagonal es u v w z corner end);
+            (farthest_meets es u v w corner z end);
         left_of_last = turns.0;
         left_of_first = turns.1;
       },

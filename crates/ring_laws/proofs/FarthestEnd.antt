@@ -8,7 +8,7 @@ use Rattle.plane.specs.Turn.{IsRight, determinant}
 use Rattle.rings.specs.Edge.{edges_of}
 use Rattle.ring_laws.proofs.Corner.{distinct_corner, has_edge_of_corner}
 use Rattle.ring_laws.proofs.DistinctPoints.{HasPoint, distinct_between, edge_from, end_of_ring, has_point_cases, has_point_left}
-use Rattle.ring_laws.proofs.EdgeLaws.{IsFarthestEnd}
+use Rattle.ring_laws.proofs.CornerLaws.{IsFarthestEnd}
 use Rattle.ring_laws.proofs.Farthest.{Farthest}
 use Rattle.ring_laws.specs.Apart.{IsApartRing}
 use Rattle.ring_laws.specs.Triangle.{IsInTriangle, height_over}

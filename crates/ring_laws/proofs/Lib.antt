@@ -11,7 +11,6 @@ pub mod CutLaw
 pub mod CutRule
 pub mod CutRuleMirrored
 pub mod CutStep
-pub mod CutValues
 pub mod Diagonals
 pub mod DistinctPoints
 pub mod EarBase
@@ -19,7 +18,7 @@ pub mod EarSign
 pub mod EarStep
 pub mod EarWinding
 pub mod Ears
-pub mod EdgeLaws
+pub mod CornerLaws
 pub mod EmptyTriangle
 pub mod FarTargets
 pub mod Farthest
@@ -39,10 +38,8 @@ pub mod NearPairs
 pub mod NoneEnters
 pub mod PieceConstants
 pub mod PieceHits
-pub mod PieceSides
 pub mod Pieces
 pub mod PiecesMeet
-pub mod PiecesOfRing
 pub mod PiecesWind
 pub mod PointLists
 pub mod Rotated
@@ -51,7 +48,6 @@ pub mod Sides
 pub mod SidesAtVertex
 pub mod SimpleIsApart
 pub mod SimpleRings
-pub mod SomeEdge
 pub mod TrianglePlaces
 pub mod TriangleWinding
 pub mod Triangles

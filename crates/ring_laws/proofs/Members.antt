@@ -1,7 +1,7 @@
 -- The edges of a list, of appended lists, and of a ring by their numbers.
 use Rattle.std.proofs.Common.{◌≡◌, ◌⊎◌, inl, inr, refl, sym, subst, ◌∙◌, ℕ, zero, suc, ◌<◌, arith}
 use Rattle.std.proofs.Common.{List, [], ◌∷◌, ◌++◌, length, get_or, reverse}
-use Rattle.plane.specs.Point.{Point, Triple}
+use Rattle.plane.specs.Point.{IsPoint, Point, Triple}
 use Rattle.rings.proofs.Crossings.{reversed}
 use Rattle.rings.proofs.Edges.{backward}
 use Rattle.rings.proofs.Indexing.{edge_at, get_or-edges_of, length-edges_of}
@@ -63,6 +63,11 @@ module _ (x : Triple) where
   -- a point on some edge of a list is so on each list with the same edges
   pub on_some_among : (es fs : List Edge) → ((e : Edge) → HasEdge es e → HasEdge fs e) → IsOnSome es x → IsOnSome fs x
   on_some_among es fs among h = let (e, has, on) = edge_with es h in on_some_of e fs (among e has) on
+
+-- what holds of the rational points of each edge holds of those on some edge
+pub on_each : (P : Triple → Type 0) (es : List Edge) → ((e : Edge) → HasEdge es e → (x : Triple) → IsPoint x → IsOn e x → P x)
+    → (x : Triple) → IsPoint x → IsOnSome es x → P x
+on_each P es holds x at h = let (e, has, on) = edge_with x es h in holds e has x at on
 
 -- ---- by their numbers
 

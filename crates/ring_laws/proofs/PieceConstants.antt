@@ -11,9 +11,10 @@ use Rattle.rings.specs.Across.{Misses}
 use Rattle.rings.specs.Edge.{Edge, IsOnSome, edges_along, edges_of}
 use Rattle.rings.specs.Inside.{winding}
 use Rattle.ring_laws.specs.Apart.{HasEdge, IsOn, edge}
-use Rattle.ring_laws.proofs.PointLists.{HasPoint, first_on_along, last_on_along}
+use Rattle.ring_laws.proofs.PointLists.{first_on_along, last_on_along}
 use Rattle.ring_laws.proofs.TwoChains.{ArePieces, IsNeither, chain_on_piece, not_between}
-use Rattle.ring_laws.proofs.SomeEdge.{on_some_of}
+use Rattle.ring_laws.proofs.DistinctPoints.{HasPoint}
+use Rattle.ring_laws.proofs.Members.{on_some_of}
 
 module _ (v z : Point) (ms ns : List Point) (c : ArePieces v z ms ns) where
   -- ---- one edge of the first chain
@@ -26,7 +27,7 @@ module _ (v z : Point) (ms ns : List Point) (c : ArePieces v z ms ns) where
       let b = whole e.to in
       let on_e = on_nested t x y a b at_t at_x at_y (whole_is_point e.from) (whole_is_point e.to) on_x on_y between in
       let end = not_between v z ms ns c e h in
-      elim (chain_on_piece v z ms ns c t at_t (on_some_of (edges_along z ms v) e t h on_e) on) [
+      elim (chain_on_piece v z ms ns c t at_t (on_some_of t e (edges_along z ms v) h on_e) on) [
         | inl s ↦ elim (end v (on_first_end (whole v) (whole z)) x y t at_x at_y at_t on_x on_y between s) [
           | inl k ↦ nx.not_first k
           | inr k ↦ ny.not_first k

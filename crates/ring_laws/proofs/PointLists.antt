@@ -1,35 +1,12 @@
--- Points of a list, and the edges along them.
-use Rattle.std.proofs.Common.{◌≡◌, ◌⊎◌, inl, inr, [], ◌∷◌, ◌++◌, refl, subst, List, ℤ, ◌≤ℤ◌, arith}
+-- The edges along some points: points on them and ends of them; and the greatest of the values at points.
+use Rattle.std.proofs.Common.{◌≡◌, inl, inr, [], ◌∷◌, refl, subst, List, ℤ, ◌≤ℤ◌, arith}
 use Rattle.std.proofs.lemmas.Int.{ints}
 use Rattle.integer_algebra.proofs.Signs.{lt_or_le}
 use Rattle.plane.proofs.Segments.{on_first_end, on_last_end}
 use Rattle.plane.specs.Point.{Point, whole}
 use Rattle.rings.proofs.FarAway.{AllEnds}
 use Rattle.rings.specs.Edge.{IsOnSome, edges_along}
-
--- a is one of the points
-abbrev pub HasPoint : List Point → Point → Type 0
-HasPoint [] a = ⊥
-HasPoint (b ∷ bs) a = (b ≡ a) ⊎ HasPoint bs a
-
--- a point of two lists together is in one of them
-pub has_point_cases : (bs cs : List Point) (a : Point) → HasPoint (bs ++ cs) a → HasPoint bs a ⊎ HasPoint cs a
-has_point_cases [] cs a h = inr h
-has_point_cases (b ∷ bs) cs a (inl e) = inl (inl e)
-has_point_cases (b ∷ bs) cs a (inr h) = elim (has_point_cases bs cs a h) [ inl k ↦ inl (inr k) | inr k ↦ inr k ]
-
--- one of the first list is in both together,
-pub has_point_left : (bs cs : List Point) (a : Point) → HasPoint bs a → HasPoint (bs ++ cs) a
-has_point_left [] cs a h = absurd h
-has_point_left (b ∷ bs) cs a (inl e) = inl e
-has_point_left (b ∷ bs) cs a (inr h) = inr (has_point_left bs cs a h)
-
--- and so is one of the second
-pub has_point_right : (bs cs : List Point) (a : Point) → HasPoint cs a → HasPoint (bs ++ cs) a
-has_point_right [] cs a h = h
-has_point_right (b ∷ bs) cs a h = inr (has_point_right bs cs a h)
-
--- ---- edges along points
+use Rattle.ring_laws.proofs.DistinctPoints.{HasPoint}
 
 -- the first point is on the edges,
 pub first_on_along : (a : Point) (bs : List Point) (last : Point) → IsOnSome (edges_along a bs last) (whole a)
@@ -49,12 +26,12 @@ member_on_along a (c ∷ bs) last b (inl e) =
 member_on_along a (c ∷ bs) last b (inr h) = inr (member_on_along c bs last b h)
 
 -- what holds of all points holds of all ends of the edges along them
-pub ends_along : (P : Point → Type 0) (a : Point) (bs : List Point) (last : Point) → P a → ((b : Point) → HasPoint bs b → P b)
+pub all_ends_along : (P : Point → Type 0) (a : Point) (bs : List Point) (last : Point) → P a → ((b : Point) → HasPoint bs b → P b)
     → P last → AllEnds P (edges_along a bs last)
-ends_along P a [] last first rest end = (first, end, tt)
-ends_along P a (b ∷ bs) last first rest end =
+all_ends_along P a [] last first rest end = (first, end, tt)
+all_ends_along P a (b ∷ bs) last first rest end =
     let next = rest b (inl refl) in
-    (first, next, ends_along P b bs last next (λ c h. rest c (inr h)) end)
+    (first, next, all_ends_along P b bs last next (λ c h. rest c (inr h)) end)
 
 -- ---- the greatest of some values
 

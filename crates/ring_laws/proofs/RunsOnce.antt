@@ -5,13 +5,11 @@ use Rattle.std.proofs.lemmas.Int.{ints}
 use Rattle.std.proofs.lemmas.List.{length-append, length-reverse, length-take-le, take-append-drop}
 use Rattle.integer_algebra.proofs.Signs.{sign, is_negative, is_zero, is_positive}
 use Rattle.plane.proofs.Determinants.{determinant_swap_ends}
-use Rattle.plane.specs.Point.{IsPoint, Point, Triple, whole}
+use Rattle.plane.specs.Point.{Point, whole}
 use Rattle.plane.specs.Turn.{IsLeft, IsRight, determinant}
 use Rattle.rings.proofs.TurnedArea.{doubled_area-turned_round}
 use Rattle.rings.proofs.TurnedInside.{on_some_turned_iff}
-use Rattle.rings.specs.Edge.{Edge, IsOnSome, edges_of}
-use Rattle.rings.specs.Inside.{winding}
-use Rattle.rings.specs.Orientation.{doubled_area, turn_at, turned_round}
+use Rattle.rings.specs.Orientation.{turned_round}
 use Rattle.rings.specs.Ring.{vertex}
 use Rattle.ring_laws.proofs.DistinctPoints.{HasPoint, has_point_cases, has_point_left, has_point_reverse, has_point_right}
 use Rattle.ring_laws.proofs.LeastTurn.{turn_at_first, turn_not_straight}
@@ -19,7 +17,7 @@ use Rattle.ring_laws.proofs.LeastVertex.{NoneBefore, from_vertex, none_before_le
 use Rattle.ring_laws.proofs.Mirrored.{apart_turned, turned_corner, winding_turned}
 use Rattle.ring_laws.proofs.Rotated.{apart_rotated, area_rotated, length_rotated, on_some_rotated, turn_rotated, winding_rotated}
 use Rattle.ring_laws.specs.Apart.{IsApartRing}
-use Rattle.ring_laws.specs.Winding.{IsLeastVertex, RunsAsItTurns, RunsClockwise, RunsCounterclockwise, WindsUpTo}
+use Rattle.ring_laws.specs.Winding.{IsLeastVertex, RunsAsItTurns, RunsClockwise, RunsCounterclockwise}
 
 -- ---- from another vertex on, and the other way round
 

@@ -11,8 +11,8 @@ use Rattle.rings.proofs.Combinations.{on_nested}
 use Rattle.rings.specs.Edge.{Edge, IsOnSome, edges_along, edges_of}
 use Rattle.rings.specs.Inside.{winding}
 use Rattle.ring_laws.specs.Apart.{HasEdge, HasEnd, IsOn, MeetAtEnds, edge}
-use Rattle.ring_laws.proofs.PointLists.{HasPoint}
-use Rattle.ring_laws.proofs.SomeEdge.{edge_at}
+use Rattle.ring_laws.proofs.DistinctPoints.{HasPoint}
+use Rattle.ring_laws.proofs.Members.{edge_with}
 
 -- a value is 0 or 1
 abbrev pub IsZeroOrOne : ℤ → Type 0
@@ -77,8 +77,8 @@ end_between x y a b at_x at_y at_a at_b on_x on_y between = elim (on_total x y a
 pub meet_only_ends : (v z : Point) (es : List Edge) → ((e : Edge) → HasEdge es e → MeetAtEnds (edge v z) e) → (x : Triple)
     → IsPoint x → IsOnSome es x → On x (whole v) (whole z) → IsSame x (whole v) ⊎ IsSame x (whole z)
 meet_only_ends v z es apart x at_x on_some on =
-    let r = edge_at es x on_some in
-    let k = apart r.edge r.member x at_x on r.on in
+    let (e, has, on_e) = edge_with x es on_some in
+    let k = apart e has x at_x on on_e in
     elim k.of_first [
       | inl s ↦ inl (subst (λ (p : Point). IsSame x (whole p)) (sym s) k.same)
       | inr s ↦ inr (subst (λ (p : Point). IsSame x (whole p)) (sym s) k.same)

@@ -13,8 +13,9 @@ use Rattle.rings.proofs.SamePoint.{on_some_same}
 use Rattle.rings.specs.Edge.{Edge, IsOnSome, edges_along, edges_of}
 use Rattle.rings.specs.Inside.{winding}
 use Rattle.ring_laws.proofs.BesideChains.{both_chains, both_closed, off_ring, pieces_winding, winding_on_diagonal}
+use Rattle.ring_laws.proofs.DistinctPoints.{HasPoint}
 use Rattle.ring_laws.proofs.FarTargets.{far_target}
-use Rattle.ring_laws.proofs.PointLists.{HasPoint, first_on_along, last_on_along}
+use Rattle.ring_laws.proofs.PointLists.{first_on_along, last_on_along}
 use Rattle.ring_laws.proofs.PieceHits.{misses_to_hit}
 use Rattle.ring_laws.proofs.TwoChains.{ArePieces, IsNeither, IsZeroOrOne, chain_off_piece, neither_swapped, not_zero_and_one, swapped}
 use Rattle.ring_laws.proofs.Sides.{on_or_not}

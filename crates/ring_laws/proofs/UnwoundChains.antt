@@ -11,7 +11,8 @@ use Rattle.rings.specs.Edge.{Edge, IsClosed, IsOnSome, edges_along, edges_of}
 use Rattle.rings.specs.Inside.{winding}
 use Rattle.ring_laws.proofs.BesideChains.{both_chains, left_is_right, right_is_left}
 use Rattle.ring_laws.proofs.BeyondLine.{farthest_right}
-use Rattle.ring_laws.proofs.PointLists.{HasPoint, ends_along, greatest_of, has_point_cases, has_point_left, has_point_right, member_on_along}
+use Rattle.ring_laws.proofs.DistinctPoints.{HasPoint, has_point_cases, has_point_left, has_point_right}
+use Rattle.ring_laws.proofs.PointLists.{all_ends_along, greatest_of, member_on_along}
 use Rattle.ring_laws.proofs.PieceConstants.{chain_constant, member_neither}
 use Rattle.ring_laws.proofs.PieceHits.{LeftHit, left_hit, on_first_chain, on_second_chain}
 use Rattle.ring_laws.proofs.TwoChains.{ArePieces, IsNeither, neither_swapped, not_zero_and_one, swapped}
@@ -55,15 +56,15 @@ module _ (v z : Point) (ms ns : List Point) (c : ArePieces v z ms ns) where
       let P = λ (x : Point). f x ≤ℤ f g in
       let at_v : P v = above_zero _ _ _ (determinant_same_ends (whole v) (whole z)) left (best.above a h) in
       let at_z : P z = above_zero _ _ _ (determinant_same_last (whole v) (whole z)) left (best.above a h) in
-      elim (has_point_cases ms ns g best.member) [
+      elim (has_point_cases g ms ns best.member) [
         | inl in_first ↦
-            let ends = ends_along P v ns z at_v (λ n k. best.above n (has_point_right ms ns n k)) at_z in
+            let ends = all_ends_along P v ns z at_v (λ n k. best.above n (has_point_right n ms ns k)) at_z in
             let zero = farthest_unwound v z g c.differ (edges_of (z ∷ v ∷ ns)) (closed_edges_of (z ∷ v ∷ ns)) (c.first_off g in_first)
             (at_z, at_v, ends) in
             inl (unwound_from v z ms ns c (whole g) (whole_is_point g) (member_on_along z ms v g in_first)
             (member_neither v z ms ns c g in_first) zero)
         | inr in_second ↦
-            let ends = ends_along P z ms v at_z (λ m k. best.above m (has_point_left ms ns m k)) at_v in
+            let ends = all_ends_along P z ms v at_z (λ m k. best.above m (has_point_left m ms ns k)) at_v in
             let zero = farthest_unwound v z g c.differ (edges_of (v ∷ z ∷ ms)) (closed_edges_of (v ∷ z ∷ ms)) (c.second_off g in_second)
             (at_v, at_z, ends) in
             let d = swapped v z ms ns c in
@@ -88,7 +89,7 @@ unwound_by_right v z ms ns c u (on_second_chain y at_y on neither one) =
 
 -- a member of the lists is on the ring
 member_on_ring : (v z : Point) (ms ns : List Point) (a : Point) → HasPoint (ms ++ ns) a → IsOnSome (both_chains v z ms ns) (whole a)
-member_on_ring v z ms ns a h = elim (has_point_cases ms ns a h) [
+member_on_ring v z ms ns a h = elim (has_point_cases a ms ns h) [
   | inl k ↦ on_some_left (whole a) (edges_along z ms v) (edges_along v ns z) (member_on_along z ms v a k)
   | inr k ↦ on_some_right (whole a) (edges_along z ms v) (edges_along v ns z) (member_on_along v ns z a k)
 ]
