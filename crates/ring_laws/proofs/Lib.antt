@@ -5,6 +5,7 @@ pub mod BesideDiagonal
 pub mod BesideEdge
 pub mod BeyondLine
 pub mod Corner
+pub mod CounterclockwiseCuts
 pub mod CutAtVertex
 pub mod CutDiagonal
 pub mod CutDirection
