@@ -1,7 +1,6 @@
 -- The winding numbers of two pieces beside their diagonal, and of the ring that they make on it.
 use Rattle.std.proofs.Common.{◌≡◌, inl, inr, ◌∷◌, ◌++◌, ◌∙◌, le_refl, ℕ, List, ℤ, pos, ◌+ℤ◌, ◌-ℤ◌, neg_ℤ, arith}
 use Rattle.std.proofs.lemmas.Int.{ints}
-use Rattle.plane.proofs.Determinants.{determinant_swap_first}
 use Rattle.plane.proofs.Same.{whole_is_point}
 use Rattle.plane.proofs.Segments.{on_is_straight, on_last_end, on_reversed}
 use Rattle.plane.specs.Point.{IsPoint, Point, Triple, whole}
@@ -11,7 +10,7 @@ use Rattle.rings.proofs.ClosedLaw.{winding_law}
 use Rattle.rings.proofs.Crossings.{crossing_reversed}
 use Rattle.rings.proofs.Edges.{closed_edges_of, growth-append, growth-edges_along, on_some_cases, on_some_left, on_some_right, winding-append}
 use Rattle.rings.proofs.Nearness.{misses_eventually, toward, toward_is_point, toward_on}
-use Rattle.rings.proofs.SignSteps.{not_both, not_both_positive, turned_negative, turned_positive, zero_not_negative, zero_not_positive}
+use Rattle.rings.proofs.SignSteps.{not_both, not_both_positive, zero_not_negative, zero_not_positive}
 use Rattle.rings.specs.Across.{Misses}
 use Rattle.rings.specs.Edge.{Edge, IsClosed, IsOnSome, edges_along, edges_of}
 use Rattle.rings.specs.Inside.{crossing, winding}
@@ -20,6 +19,7 @@ use Rattle.ring_laws.proofs.NearPairs.{left_toward, right_toward}
 use Rattle.ring_laws.proofs.TwoChains.{ArePieces, IsNeither, IsZeroOrOne, chain_on_diagonal, neither_swapped, swapped}
 use Rattle.ring_laws.proofs.Sides.{within_from}
 use Rattle.ring_laws.specs.Apart.{edge}
+use Rattle.rings.proofs.EdgeLaw.{left_swapped, right_swapped}
 
 -- ---- sums
 
@@ -65,14 +65,6 @@ one_and_none : (n a b : ℤ) → n ≡ a +ℤ b → a ≡ pos 1 → b ≡ pos 0 
 one_and_none n a b e h k = omega (arith, ints)
 
 -- ---- beside the diagonal
-
--- what is left of a line is right of it read backward,
-pub left_is_right : (a b p : Triple) → IsLeft a b p → IsRight b a p
-left_is_right a b p h = turned_negative (determinant_swap_first a b p) h
-
--- and the other way round
-pub right_is_left : (a b p : Triple) → IsRight a b p → IsLeft b a p
-right_is_left a b p h = turned_positive (determinant_swap_first a b p) h
 
 -- a point left of a line is not on a segment of it,
 pub left_not_on : (a b : Point) (p : Triple) → IsPoint p → IsLeft (whole a) (whole b) p → ¬ (On p (whole a) (whole b))
@@ -165,8 +157,8 @@ module _ (v z : Point) (ms ns : List Point) (c : ArePieces v z ms ns) (a b : Poi
       let q_right = right_toward (whole v) (whole z) m (whole b) straight right n in
       let first = first_falls v z ms ns c m at_m on neither p q at_p at_q p_left q_right from_p from_q in
       let second = first_falls z v ns ms (swapped v z ms ns c) m at_m (on_reversed m (whole v) (whole z) on)
-      (neither_swapped v z m neither) q p at_q at_p (right_is_left (whole v) (whole z) q q_right)
-      (left_is_right (whole v) (whole z) p p_left) (misses_exchanged m q one other from_q) (misses_exchanged m p one other from_p) in
+      (neither_swapped v z m neither) q p at_q at_p (left_swapped (whole v) (whole z) q q_right)
+      (right_swapped (whole v) (whole z) p p_left) (misses_exchanged m q one other from_q) (misses_exchanged m p one other from_p) in
       (first.0, second.1)
 
   -- there is such a point on the way from the diagonal to each point that is left of it

@@ -14,7 +14,7 @@ use Rattle.rings.proofs.FarAway.{AllEnds, all_ends_map}
 use Rattle.rings.proofs.SignSteps.{not_both, zero_not_negative}
 use Rattle.rings.specs.Edge.{Edge, IsClosed, IsOnSome}
 use Rattle.rings.specs.Inside.{winding}
-use Rattle.ring_laws.proofs.TrianglePlaces.{not_right_between}
+use Rattle.ring_laws.proofs.Triangles.{not_right_between}
 
 -- how far one point is to the right of another, as seen along a line
 beyond : (a b v : Point) (p : Triple) →
@@ -67,7 +67,7 @@ module _ (a b : Point) (differ : ¬ (a ≡ b)) (es : List Edge) (closed : IsClos
 pub not_right_on : (a b : Triple) (es : List Edge) → AllEnds (λ v. pos 0 ≤ℤ determinant a b (whole v)) es → (x : Triple)
     → IsPoint x → IsOnSome es x → pos 0 ≤ℤ determinant a b x
 not_right_on a b (e ∷ es) (from, to, rest) x at_x (inl on) =
-    not_right_between x (whole e.from) (whole e.to) a b at_x (whole_is_point e.from) (whole_is_point e.to) on from to
+    not_right_between a b x (whole e.from) (whole e.to) at_x (whole_is_point e.from) (whole_is_point e.to) from to on
 not_right_on a b (e ∷ es) (from, to, rest) x at_x (inr on) = not_right_on a b es rest x at_x on
 not_right_on a b [] ends x at_x on = absurd on
 

@@ -19,11 +19,11 @@ use Rattle.rings.specs.Edge.{Edge, IsClosed, IsOnSome}
 use Rattle.rings.specs.Inside.{winding}
 use Rattle.ring_laws.specs.Triangle.{IsInTriangle}
 use Rattle.ring_laws.proofs.AcrossEdge.{across_edge}
-use Rattle.ring_laws.proofs.EarBase.{base_differs, on_others_straight, tip_in, tip_is_right, triangle_convex, winding_at_tip}
+use Rattle.ring_laws.proofs.EarBase.{base_differs, on_others_straight, tip_is_right, winding_at_tip}
 use Rattle.ring_laws.proofs.NearPairs.{left_toward, positive_at}
 use Rattle.ring_laws.proofs.Sides.{IsWithin, first_end_on_line}
-use Rattle.ring_laws.proofs.TrianglePlaces.{last_left}
 use Rattle.ring_laws.proofs.TriangleWinding.{on_sides_in}
+use Rattle.ring_laws.proofs.Triangles.{between_in_triangle, left_at_first, middle_in_triangle}
 use Rattle.ring_laws.specs.Apart.{edge}
 
 -- ---- the other side of the base
@@ -115,11 +115,11 @@ module _ (u v w : Point) (es : List Edge) (left : IsLeft (whole u) (whole v) (wh
   misses_to_tip x at_x on h =
       let m = middle u w in
       let at_m = middle_is_point u w in
-      let t = triangle_convex u v w x m (whole v) at_x at_m (whole_is_point v) on middle_in (tip_in u v w left) in
+      let t = between_in_triangle u v w x m (whole v) at_x at_m (whole_is_point v) middle_in (middle_in_triangle u v w left) on in
       let straight = on_others_straight u v w es left closed least outside x at_x h t in
       let same = first_end_on_line x m (whole v) (whole w) (whole u) at_x at_m (whole_is_point v) on
       (straight_swap_first (whole u) (whole w) m (on_is_straight m (whole u) (whole w) at_m (whole_is_point u) (whole_is_point w) (middle_on u w)))
-      (last_left u v w left) (zero_not_positive (straight_swap_first (whole u) (whole w) x straight)) in
+      (left_at_first u v w left) (zero_not_positive (straight_swap_first (whole u) (whole w) x straight)) in
       off_middle x at_x t same h
 
   -- the corner opposite the tip is on the other side

@@ -9,13 +9,14 @@ use Rattle.rings.proofs.Edges.{closed_edges_of, on_some_cases, on_some_left, on_
 use Rattle.rings.proofs.FarAway.{AllEnds, all_ends_map}
 use Rattle.rings.specs.Edge.{Edge, IsClosed, IsOnSome, edges_along, edges_of}
 use Rattle.rings.specs.Inside.{winding}
-use Rattle.ring_laws.proofs.BesideChains.{both_chains, left_is_right, right_is_left}
+use Rattle.ring_laws.proofs.BesideChains.{both_chains}
 use Rattle.ring_laws.proofs.BeyondLine.{farthest_right}
 use Rattle.ring_laws.proofs.DistinctPoints.{HasPoint, has_point_cases, has_point_left, has_point_right}
 use Rattle.ring_laws.proofs.PointLists.{all_ends_along, greatest_of, member_on_along}
 use Rattle.ring_laws.proofs.PieceConstants.{chain_constant, member_neither}
 use Rattle.ring_laws.proofs.PieceHits.{LeftHit, left_hit, on_first_chain, on_second_chain}
 use Rattle.ring_laws.proofs.TwoChains.{ArePieces, IsNeither, neither_swapped, not_zero_and_one, swapped}
+use Rattle.rings.proofs.EdgeLaw.{left_swapped, right_swapped}
 
 -- the second piece does not wind round the first chain, but for its ends
 pub record IsUnwound (v z : Point) (ms ns : List Point) : Type 0 where
@@ -107,8 +108,8 @@ pub chains_unwound : (v z : Point) (ms ns : List Point) → ArePieces v z ms ns 
 chains_unwound v z ms ns c a b in_a in_b left right =
     let d = swapped v z ms ns c in
     let from_left = left_hit v z ms ns c a b left right (member_on_ring v z ms ns a in_a) in
-    let from_right = left_hit z v ns ms d b a (right_is_left (whole v) (whole z) (whole b) right)
-    (left_is_right (whole v) (whole z) (whole a) left) (ring_exchanged v z ms ns (whole b) (member_on_ring v z ms ns b in_b)) in
+    let from_right = left_hit z v ns ms d b a (left_swapped (whole v) (whole z) (whole b) right)
+    (right_swapped (whole v) (whole z) (whole a) left) (ring_exchanged v z ms ns (whole b) (member_on_ring v z ms ns b in_b)) in
     elim (some_unwound v z ms ns c a in_a left) [
       | inl u ↦ record { first = u; second = unwound_by_right v z ms ns c u from_right }
       | inr u ↦ record { first = unwound_by_right z v ns ms d u from_left; second = u }
