@@ -94,7 +94,7 @@ module _ (e : Edge) (m p q : Triple) (at_m : IsPoint m) (at_p : IsPoint p) (at_q
       right_toward (whole e.from) (whole e.to) m q straight right n
 
   -- the segment between two near points crosses the edge
-  crosses_near : Eventually (λ n. CrossesRight (toward m p n) (toward m q n) e)
+  pub crosses_near : Eventually (λ n. CrossesRight (toward m p n) (toward m q n) e)
   crosses_near =
       let a = whole e.from in
       let b = whole e.to in

@@ -10,14 +10,13 @@ use Rattle.rings.proofs.ClosedLaw.{winding_law}
 use Rattle.rings.proofs.Crossings.{crossing_reversed}
 use Rattle.rings.proofs.Edges.{closed_edges_of, growth-append, growth-edges_along, on_some_cases, on_some_left, on_some_right, winding-append}
 use Rattle.rings.proofs.Nearness.{misses_eventually, toward, toward_is_point, toward_on}
-use Rattle.rings.proofs.SignSteps.{not_both, not_both_positive, zero_not_negative, zero_not_positive}
 use Rattle.rings.specs.Across.{Misses}
 use Rattle.rings.specs.Edge.{Edge, IsClosed, IsOnSome, edges_along, edges_of}
 use Rattle.rings.specs.Inside.{crossing, winding}
 use Rattle.ring_laws.proofs.AcrossEdge.{across_edge}
 use Rattle.ring_laws.proofs.NearPairs.{left_toward, right_toward}
 use Rattle.ring_laws.proofs.TwoChains.{ArePieces, IsNeither, IsZeroOrOne, chain_on_diagonal, neither_swapped, swapped}
-use Rattle.ring_laws.proofs.Sides.{within_from}
+use Rattle.ring_laws.proofs.Sides.{left_not_on, right_not_on, within_from}
 use Rattle.ring_laws.specs.Apart.{edge}
 use Rattle.rings.proofs.EdgeLaw.{left_swapped, right_swapped}
 
@@ -65,16 +64,6 @@ one_and_none : (n a b : ℤ) → n ≡ a +ℤ b → a ≡ pos 1 → b ≡ pos 0 
 one_and_none n a b e h k = omega (arith, ints)
 
 -- ---- beside the diagonal
-
--- a point left of a line is not on a segment of it,
-pub left_not_on : (a b : Point) (p : Triple) → IsPoint p → IsLeft (whole a) (whole b) p → ¬ (On p (whole a) (whole b))
-left_not_on a b p at_p left on =
-    not_both_positive left (zero_not_positive (on_is_straight p (whole a) (whole b) at_p (whole_is_point a) (whole_is_point b) on))
-
--- nor is one right of it
-pub right_not_on : (a b : Point) (p : Triple) → IsPoint p → IsRight (whole a) (whole b) p → ¬ (On p (whole a) (whole b))
-right_not_on a b p at_p right on =
-    not_both right (zero_not_negative (on_is_straight p (whole a) (whole b) at_p (whole_is_point a) (whole_is_point b) on))
 
 -- what misses two lists misses the first,
 pub misses_first : (p q : Triple) (es fs : List Edge) → Misses p q (es ++ fs) → Misses p q es

@@ -37,7 +37,6 @@ pub mod LeavingTriangle
 pub mod Members
 pub mod Middle
 pub mod Mirrored
-pub mod NearEdge
 pub mod NearPairs
 pub mod NoneEnters
 pub mod PieceConstants
