@@ -1,7 +1,7 @@
 -- A way out of a closed triangle: the point at which it leaves, and the side that this point is on.
 use Rattle.std.proofs.Common.{◌≡◌, ◌⊎◌, inl, inr, refl, sym, subst, ◌∙◌, ℤ, pos, ◌+ℤ◌, ◌-ℤ◌, ◌*ℤ◌, neg_ℤ, ◌<ℤ◌, ◌≤ℤ◌, arith}
 use Rattle.std.proofs.lemmas.Int.{ints}
-use Rattle.integer_algebra.proofs.Laws.{mul_comm, neg-mul}
+use Rattle.integer_algebra.proofs.Laws.{mul_comm}
 use Rattle.integer_algebra.proofs.Signs.{factor_positive, mul_negative, mul_nonnegative, mul_positive, lt_or_le}
 use Rattle.plane.proofs.Segments.{on_first_end, on_last_end}
 use Rattle.plane.proofs.Vectors.{IsCombination, determinant_along, on_of_combination}
@@ -12,21 +12,14 @@ use Rattle.rings.proofs.Combinations.{on_nested}
 use Rattle.rings.proofs.SignSteps.{not_both, one_positive, opposite_positive, weak, zero_not_negative}
 use Rattle.ring_laws.proofs.Triangles.{in_triangle, not_negative, not_right_between}
 use Rattle.ring_laws.specs.Triangle.{IsInTriangle, height_over}
+use Rattle.rings.proofs.FirstMeeting.{no_value, weighed_sum, zero_point}
 
 -- ---- numbers
-
--- a difference of multiples as a sum
-weighed_sum : (f g x y : ℤ) → pos 1 *ℤ (f *ℤ y -ℤ g *ℤ x) ≡ neg_ℤ g *ℤ x +ℤ f *ℤ y
-weighed_sum f g x y = omega (arith, ints, neg-mul g x)
 
 -- a multiple that is not negative, less one that is
 weights_apart : (f g v w : ℤ) → pos 0 ≤ℤ f → g <ℤ pos 0 → pos 0 <ℤ v → pos 0 <ℤ w → pos 0 <ℤ (f *ℤ w -ℤ g *ℤ v)
 weights_apart f g v w hf hg hv hw =
     omega (arith, ints, mul_nonnegative f w hf (weak hw), mul_negative v g hv hg, mul_comm v g)
-
--- a functional is 0 where its values at the ends are their own weights
-no_value : (z f g : ℤ) → pos 1 *ℤ z ≡ neg_ℤ g *ℤ f +ℤ f *ℤ g → z ≡ pos 0
-no_value z f g e = omega (arith, ints, neg-mul g f, mul_comm g f)
 
 -- a mean of a number that is not negative and a positive one that has weight
 pub mean_rises : (k l m z f g : ℤ) → pos 0 <ℤ k → pos 0 ≤ℤ l → pos 0 <ℤ m → k *ℤ z ≡ l *ℤ f +ℤ m *ℤ g → pos 0 ≤ℤ f → pos 0 <ℤ g → pos 0 <ℤ z
@@ -43,10 +36,6 @@ record Clip (s t x y : Triple) : Type 0 where
   ending : (IsStraight s t point × IsRight s t y) ⊎ (point ≡ y)
   rises : pos 0 <ℤ determinant s t x → (a b : Triple) → pos 0 ≤ℤ determinant a b x → pos 0 <ℤ determinant a b y
       → pos 0 <ℤ determinant a b point
-
--- the point between x and y at which a functional with the values f and g there is 0
-abbrev zero_point : (f g : ℤ) → Triple → Triple → Triple
-zero_point f g x y = record { X = f *ℤ y.X -ℤ g *ℤ x.X; Y = f *ℤ y.Y -ℤ g *ℤ x.Y; W = f *ℤ y.W -ℤ g *ℤ x.W }
 
 -- it is a combination of the two
 zero_combination : (f g : ℤ) (x y : Triple) → pos 0 ≤ℤ f → g <ℤ pos 0 → IsCombination (zero_point f g x y) x y
