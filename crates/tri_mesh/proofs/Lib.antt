@@ -1,2 +1,3 @@
-pub mod Paths
 pub mod JoinedTrees
+pub mod Paths
+pub mod Walks
