@@ -1,3 +1,4 @@
 pub mod JoinedTrees
 pub mod Paths
+pub mod TwoLists
 pub mod Walks
