@@ -1,5 +1,9 @@
+pub mod Cuts
+pub mod Diagonals
 pub mod Halves
 pub mod JoinedTrees
+pub mod Joined
+pub mod OffDiagonal
 pub mod Paths
 pub mod PieceEdges
 pub mod PieceVertices
