@@ -1,11 +1,13 @@
+pub mod BaseTriangle
 pub mod Cuts
 pub mod Diagonals
 pub mod Halves
-pub mod JoinedTrees
 pub mod Joined
+pub mod JoinedTrees
 pub mod OffDiagonal
 pub mod Paths
 pub mod PieceEdges
 pub mod PieceVertices
+pub mod Rotated
 pub mod TwoLists
 pub mod Walks
