@@ -1,9 +1,9 @@
-mod Comparing
+pub mod Comparing
 mod Cones
 mod CrossProduct
 pub mod Directions
 mod Intervals
 mod Mediants
 mod Meetings
-mod Registers
-mod WideProducts
+pub mod Registers
+pub mod WideProducts

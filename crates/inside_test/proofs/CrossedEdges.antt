@@ -1,13 +1,20 @@
 -- Crossed edges by the turn at them.
-use Rattle.std.proofs.Common.{◌≡◌, zero, suc, Bool, true, false, ℤ, pos, negsuc, refl, arith}
-use Rattle.std.proofs.lemmas.Int.{ints}
+use Rattle.std.proofs.Common.{◌≡◌, zero, suc, Bool, true, false, ℤ, pos, negsuc, ◌*ℤ◌, refl, arith}
+use Rattle.std.proofs.lemmas.Int.{ints, to_z-of_z}
 use Rattle.std.specs.Prelude.{◌&&◌, ◌||◌}
 use Rattle.std.specs.Int.Signed.{le_z, lt_z}
 use Rattle.exact_plane.specs.Direction.{direction_of, turn_of}
 use Rattle.exact_plane.specs.declared.direction.Direction.TheVariants.{Left, Right, Straight}
-use Rattle.integer_algebra.proofs.Laws.{mul-one}
-use Rattle.plane.specs.Point.{Point, whole}
-use Rattle.plane.specs.Turn.{determinant}
+use Rattle.exact_plane.proofs.Directions.{straight_of_zero}
+use Rattle.plane.proofs.Same.{whole_is_point}
+use Rattle.inside_test.specs.Between.{LiesBetween}
+use Rattle.plane.proofs.Determinants.{straight_swap_first}
+use Rattle.plane.proofs.OnByOrder.{not_after_both, not_before_both, on_from_order}
+use Rattle.plane.proofs.Precedence.{follows, not_after_from, not_after_of_precedes, precedence, precedes, same}
+use Rattle.plane.proofs.Segments.{on_first_end, on_is_straight, on_reversed, on_same_point}
+use Rattle.plane.specs.Point.{IsPoint, Point, Triple, whole}
+use Rattle.plane.specs.Segment.{On}
+use Rattle.plane.specs.Turn.{IsStraight}
 use Rattle.rings.specs.Edge.{Edge}
 use Rattle.rings.specs.Inside.{is_crossed}
 
@@ -59,21 +66,48 @@ by_straight : (rises falls : Bool) (z : ℤ) → direction_of z ≡ Straight →
 by_straight rises falls z t = let (up, down) = tests_straight z t in rw (up, down) (neither rises falls)
 
 -- the edge from low to high rises past the point
-abbrev pub rises : Point → Point → Point → Bool
-rises low high p = le_z low.y p.y && lt_z p.y high.y
+abbrev pub rises : Point → Point → Triple → Bool
+rises low high p = le_z (low.y *ℤ p.W) p.Y && lt_z p.Y (high.y *ℤ p.W)
 
-module _ (e : Edge) (p : Point) where
-  crossed_is : is_crossed e (whole p) ≡ crossed_by (rises e.from e.to p) (rises e.to e.from p) (determinant (whole e.from) (whole e.to) (whole p))
-  crossed_is = rw (mul-one e.from.y, mul-one e.to.y)
-
+module _ (e : Edge) (p : Triple) where
   -- left of the edge, it is crossed where it rises past the point
-  pub crossed_from_left : turn_of (whole e.from) (whole e.to) (whole p) ≡ Left → is_crossed e (whole p) ≡ rises e.from e.to p
-  crossed_from_left turns = rw crossed_is (by_left _ _ _ turns)
+  pub crossed_from_left : turn_of (whole e.from) (whole e.to) p ≡ Left → is_crossed e p ≡ rises e.from e.to p
+  crossed_from_left turns = by_left (rises e.from e.to p) (rises e.to e.from p) _ turns
 
   -- right of it, where it falls
-  pub crossed_from_right : turn_of (whole e.from) (whole e.to) (whole p) ≡ Right → is_crossed e (whole p) ≡ rises e.to e.from p
-  crossed_from_right turns = rw crossed_is (by_right _ _ _ turns)
+  pub crossed_from_right : turn_of (whole e.from) (whole e.to) p ≡ Right → is_crossed e p ≡ rises e.to e.from p
+  crossed_from_right turns = by_right (rises e.from e.to p) (rises e.to e.from p) _ turns
 
   -- in line with it, nowhere
-  pub not_crossed_in_line : turn_of (whole e.from) (whole e.to) (whole p) ≡ Straight → is_crossed e (whole p) ≡ false
-  not_crossed_in_line turns = rw crossed_is (by_straight _ _ _ turns)
+  pub not_crossed_in_line : turn_of (whole e.from) (whole e.to) p ≡ Straight → is_crossed e p ≡ false
+  not_crossed_in_line turns = by_straight (rises e.from e.to p) (rises e.to e.from p) _ turns
+
+  -- a point beside the line is not on the edge
+  pub beside_not_on : IsPoint p → ¬ (turn_of (whole e.from) (whole e.to) p ≡ Straight) → ¬ (On p (whole e.from) (whole e.to))
+  beside_not_on at_p beside on =
+      beside (straight_of_zero _ (on_is_straight p (whole e.from) (whole e.to) at_p (whole_is_point e.from) (whole_is_point e.to) on))
+
+-- ---- a point on the line of an edge
+
+module _ (a p b : Triple) (at_a : IsPoint a) (at_p : IsPoint p) (at_b : IsPoint b) where
+  -- it is on the edge where it comes between the ends,
+  pub on_from_between : IsStraight a b p → LiesBetween a p b → On p a b
+  on_from_between straight between = elim (precedence a p) [
+    | precedes h ↦
+        let last = not_after_from p b (λ k. between.not_after (h, k)) in
+        on_from_order p a b straight at_p at_a at_b (not_after_of_precedes a p h) last
+    | same s ↦ on_same_point at_a s (on_first_end a b)
+    | follows h ↦
+        let first = not_after_from b p (λ k. between.not_before (h, k)) in
+        on_reversed p b a (on_from_order p b a (straight_swap_first a b p straight) at_p at_b at_a first (not_after_of_precedes p a h))
+  ]
+
+  -- and only there
+  pub between_from_on : On p a b → LiesBetween a p b
+  between_from_on on = record {
+    not_after = not_after_both p a b at_p at_a at_b on;
+    not_before = not_before_both p a b at_p at_a at_b on;
+  }
+
+-- numbers that pass through a register
+pub ruleset registers = (to_z-of_z)

@@ -1,5 +1,5 @@
 -- Counting crossed edges by a parity.
-use Rattle.std.proofs.Common.{◌≡◌, ◌↔◌, inl, inr, ℕ, ◌+◌, ◌%◌, ◌<◌, Bool, true, false, cond, List, length, take, refl, sym, arith}
+use Rattle.std.proofs.Common.{◌≡◌, ◌↔◌, inl, inr, ℕ, ◌+◌, ◌%◌, ◌<◌, Bool, true, false, cond, List, length, take, refl, sym, ap, subst, ◌∙◌, arith}
 use Rattle.std.specs.Bool.{beq}
 use Rattle.std.specs.Prelude.{not}
 use Rattle.plane.specs.Point.{Point, Triple}
@@ -23,18 +23,43 @@ odd_more n false true h = (λ _. even_and_one n (λ k. cc (h.1 k)), λ _. refl)
     even_and_one n k = grind arith
 odd_more n false false h = (λ e. cc, λ l. h.1 (omega arith))
 
+-- a flag compared with true, and with false
+not_same : (b : Bool) → not (beq b true) ≡ not b
+not_same true = refl
+not_same false = refl
+
+not_other : (b : Bool) → not (beq b false) ≡ b
+not_other true = refl
+not_other false = refl
+
 module _ (ring : List Point) (p : Triple) where
   -- no edge
   pub odd_start : OddSoFar (take 0 (edges_of ring)) p false
   odd_start = record { on_none = λ on. on; odd = (λ e. cc, λ e. cc) }
 
   -- edge i, which the point is not on
-  pub odd_step : (i : ℕ) (is_odd : Bool) → i < length ring → OddSoFar (take i (edges_of ring)) p is_odd → (IsOnEdge ring i p → ⊥)
+  odd_step : (i : ℕ) (is_odd : Bool) → i < length ring → OddSoFar (take i (edges_of ring)) p is_odd → (IsOnEdge ring i p → ⊥)
       → OddSoFar (take (i + 1) (edges_of ring)) p (not (beq is_odd (is_crossed (edge_at ring i) p)))
   odd_step i is_odd within before beside = record {
     on_none = λ on. elim ((on_some_more ring i within p).0 on) [ inl earlier ↦ before.on_none earlier | inr here ↦ beside here ];
     odd = rw (crossings_more ring i within p) (odd_more _ is_odd (is_crossed (edge_at ring i) p) before.odd);
   }
+
+  -- edge i is crossed,
+  pub odd_crossed : (i : ℕ) (is_odd more : Bool) → more ≡ not is_odd → i < length ring → OddSoFar (take i (edges_of ring)) p is_odd
+      → (IsOnEdge ring i p → ⊥) → is_crossed (edge_at ring i) p ≡ true → OddSoFar (take (i + 1) (edges_of ring)) p more
+  odd_crossed i is_odd more e within before beside crossed =
+      let step = odd_step i is_odd within before beside in
+      let turned = ap (λ b. not (beq is_odd b)) crossed in
+      subst (λ b. OddSoFar (take (i + 1) (edges_of ring)) p b) (turned ∙ not_same is_odd ∙ sym e) step
+
+  -- or missed
+  pub odd_missed : (i : ℕ) (is_odd more : Bool) → more ≡ is_odd → i < length ring → OddSoFar (take i (edges_of ring)) p is_odd
+      → (IsOnEdge ring i p → ⊥) → is_crossed (edge_at ring i) p ≡ false → OddSoFar (take (i + 1) (edges_of ring)) p more
+  odd_missed i is_odd more e within before beside missed =
+      let step = odd_step i is_odd within before beside in
+      let turned = ap (λ b. not (beq is_odd b)) missed in
+      subst (λ b. OddSoFar (take (i + 1) (edges_of ring)) p b) (turned ∙ not_other is_odd ∙ sym e) step
 
   -- all edges
   pub odd_end : (i : ℕ) (is_odd : Bool) → length ring ≡ i → OddSoFar (take i (edges_of ring)) p is_odd → OddSoFar (edges_of ring) p is_odd

@@ -1,6 +1,13 @@
-//! Where a point lies: inside a ring, on its boundary or outside.
+//! Where a point lies: inside a ring, on its boundary or outside. Whether a segment lies in a ring.
 #![tactic(auto)]
 
+mod breakpoint;
+mod crossing;
 mod position;
+mod product;
+mod segment;
+#[cfg(test)]
+mod tests;
 
-pub use position::{Position, place};
+pub use position::{Position, place, place_hom};
+pub use segment::holds_segment;

@@ -1,11 +1,11 @@
-ghost use Rattle.std.specs.Prelude.{◌≡◌, ◌↔◌, ◌+◌, ◌<◌, ◌&&◌, length};
-ghost use Rattle.std.specs.Int.Signed.{le_z, lt_z};
+ghost use Rattle.std.specs.Prelude.{◌≡◌, ◌↔◌, ◌+◌, ◌<◌, length};
 ghost use Rattle.plane.specs.Point.{whole};
 ghost use Rattle.rings.specs.Edge.{IsOnSome, edges_of};
-ghost use Rattle.rings.specs.Inside.{IsIn, is_crossed};
+ghost use Rattle.rings.specs.Inside.{IsIn};
 ghost use Rattle.rings.specs.Ring.{vertex};
 
-use exact_plane::{Direction, Pt, Steps, on_segment, turn};
+use crate::crossing::{Level, Meeting, meeting_of};
+use exact_plane::{Hom, Pt, Steps};
 use ring_check::Ring;
 use std::sync::ledger::Ledger;
 
@@ -26,13 +26,24 @@ pub fn place<L: Ledger>(ring: &Ring, p: &Pt, steps: &mut Steps<L>) -> Position
     ensures inside { (result ≡ Position.Inside) ↔ (IsIn ring.now.corners (whole p.now) × ¬ (IsOnSome (edges_of ring.now.corners) (whole p.now))) }
     ensures outside { (result ≡ Position.Outside) ↔ ¬ (IsIn ring.now.corners (whole p.now)) }
 {
+    place_hom(ring, &Hom::of_pt(p, steps), steps)
+}
+
+/// The position of a rational point.
+pub fn place_hom<L: Ledger>(ring: &Ring, p: &Hom, steps: &mut Steps<L>) -> Position
+    ensures edge { (result ≡ Position.Edge) ↔ IsOnSome (edges_of ring.now.corners) p.now }
+    ensures inside { (result ≡ Position.Inside) ↔ (IsIn ring.now.corners p.now × ¬ (IsOnSome (edges_of ring.now.corners) p.now)) }
+    ensures outside { (result ≡ Position.Outside) ↔ ¬ (IsIn ring.now.corners p.now) }
+{
+    let level = Level::of(p, steps);
     let mut is_odd = false;
     for i in 0..ring.len() {
         let (a, b) = (ring.corner(i), next_corner(ring, i));
-        if on_segment(p, &a, &b, steps) {
-            return Position::Edge;
+        match meeting_of(&a, &b, p, &level, steps) {
+            Meeting::On => return Position::Edge,
+            Meeting::Crossed => is_odd = !is_odd,
+            Meeting::Missed => {}
         }
-        is_odd ^= crosses(&a, &b, p, steps);
     }
     if is_odd {
         Position::Inside
@@ -42,7 +53,7 @@ pub fn place<L: Ledger>(ring: &Ring, p: &Pt, steps: &mut Steps<L>) -> Position
 }
 
 // The vertex after vertex `i`, counted round.
-fn next_corner(ring: &Ring, i: u32) -> Pt
+pub(crate) fn next_corner(ring: &Ring, i: u32) -> Pt
     requires { i < length ring.now.corners }
     ensures { result ≡ vertex ring.now.corners (i + 1) }
 {
@@ -52,24 +63,4 @@ fn next_corner(ring: &Ring, i: u32) -> Pt
     } else {
         ring.corner(0)
     }
-}
-
-// Whether the ray from `p` to the right crosses the edge from `a` to `b`: the edge rises past `p` and has it on the left,
-// or falls past it and has it on the right.
-fn crosses<L: Ledger>(a: &Pt, b: &Pt, p: &Pt, steps: &mut Steps<L>) -> bool
-    ensures { result ≡ is_crossed (record { from = a.now; to = b.now }) (whole p.now) }
-{
-    match turn(a, b, p, steps) {
-        Direction::Left => rises_past(a, b, p, steps),
-        Direction::Straight => false,
-        Direction::Right => rises_past(b, a, p, steps),
-    }
-}
-
-// Whether `low` is at the height of `p` or below, and `high` above it.
-fn rises_past<L: Ledger>(low: &Pt, high: &Pt, p: &Pt, steps: &mut Steps<L>) -> bool
-    ensures { result ≡ (le_z low.now.y p.now.y && lt_z p.now.y high.now.y) }
-{
-    let (bottom, height, top) = (low.parts(steps).1, p.parts(steps).1, high.parts(steps).1);
-    bottom <= height && height < top
 }

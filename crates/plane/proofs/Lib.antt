@@ -4,13 +4,16 @@ pub mod Determinants
 pub mod KnownFigures
 pub mod MeetOnlyAt
 pub mod Meeting
+pub mod OnByOrder
 pub mod OnSegment
 pub mod OneLine
 pub mod OneSign
 pub mod Order
+pub mod Precedence
 pub mod Same
 pub mod Segments
 pub mod SegmentsMeet
+pub mod SharedParts
 pub mod Vectors
 pub mod Weights
 pub mod Written

@@ -136,7 +136,7 @@ on_same_last {p} {a} {b} {c} at_a at_b s on = on_reversed p c a (on_same_first a
 -- ---- the line through a segment
 
 -- what has a weighted sum of zeros as a multiple is 0
-zero_of : (k l m z f g : ℤ) → pos 0 <ℤ k → f ≡ pos 0 → g ≡ pos 0 → k *ℤ z ≡ l *ℤ f +ℤ m *ℤ g → z ≡ pos 0
+pub zero_of : (k l m z f g : ℤ) → pos 0 <ℤ k → f ≡ pos 0 → g ≡ pos 0 → k *ℤ z ≡ l *ℤ f +ℤ m *ℤ g → z ≡ pos 0
 zero_of k l m z f g h ef eg e =
     let zero : k *ℤ z ≡ k *ℤ pos 0 = e ∙ (λ i. l *ℤ ef i +ℤ m *ℤ eg i) ∙ omega (arith, ints) in
     cancel_equal z (pos 0) k h zero

@@ -1,2 +1,4 @@
 pub mod Apart
+pub mod Diagonal
 pub mod Triangle
+pub mod Winding

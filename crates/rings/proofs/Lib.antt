@@ -1,4 +1,6 @@
 pub mod Along
+pub mod BreakpointLaw
+pub mod Breakpoints
 pub mod ClosedLaw
 pub mod Combinations
 pub mod Crossings
@@ -20,6 +22,7 @@ pub mod KnownFigures
 pub mod LeastClash
 pub mod Lengthwise
 pub mod Nearness
+pub mod Overlaps
 pub mod Parity
 pub mod Rising
 pub mod SamePoint

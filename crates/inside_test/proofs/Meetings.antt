@@ -1,0 +1,62 @@
+-- What two segments have in common lies between points that are listed.
+use Rattle.std.proofs.Common.{◌≡◌, ◌≢◌, List, pos}
+use Rattle.std.specs.List.{Contains}
+use Rattle.inside_test.specs.Breakpoints.{EnclosesAll}
+use Rattle.plane.proofs.Same.{same_sym, whole_is_point}
+use Rattle.plane.proofs.Segments.{on_first_end, on_is_straight, on_same_point}
+use Rattle.plane.proofs.SharedParts.{first_on_line, last_on_line, one_meeting}
+use Rattle.plane.specs.Line.{cross_product}
+use Rattle.plane.specs.Point.{IsPoint, IsSame, Point, Triple, whole}
+use Rattle.plane.specs.Segment.{Meet, On}
+use Rattle.plane.specs.Turn.{IsStraight}
+use Rattle.rings.proofs.Overlaps.{around_of_line}
+
+module _ (a b c d : Point) where
+  -- segments that are not parallel
+  module _ (m : Triple) (at_m : IsPoint m) (crossing : cross_product a b c d ≢ pos 0)
+      (first : IsStraight (whole a) (whole b) m) (second : IsStraight (whole c) (whole d) m) where
+    -- their common points are all where their lines meet
+    common_is : (z : Triple) → IsPoint z → On z (whole a) (whole b) → On z (whole c) (whole d) → IsSame z m
+    common_is z at_z on_first on_second =
+        one_meeting a b c d z m crossing
+        (on_is_straight z (whole a) (whole b) at_z (whole_is_point a) (whole_is_point b) on_first) first
+        (on_is_straight z (whole c) (whole d) at_z (whole_is_point c) (whole_is_point d) on_second) second
+
+    -- so that point is on both, if they have one
+    pub meeting_on_first : Meet (whole a) (whole b) (whole c) (whole d) → On m (whole a) (whole b)
+    meeting_on_first h = on_same_point h.rational (common_is h.point h.rational h.on_first h.on_second) h.on_first
+
+    -- and encloses them
+    pub encloses_crossing : (points : List Triple) → Contains points m → EnclosesAll points (whole a) (whole b) (whole c) (whole d)
+    encloses_crossing points listed z at_z on_first on_second =
+        let same = common_is z at_z on_first on_second in
+        let on = on_same_point at_z same on_second in
+        record {
+          u = m;
+          v = m;
+          u_listed = listed;
+          v_listed = listed;
+          u_on = on;
+          v_on = on;
+          between = on_same_point at_m (same_sym same) (on_first_end m m);
+        }
+
+  -- parallel ones: the ends of the first, and those of the second on it, enclose all
+  pub encloses_parallel : (points : List Triple) → cross_product a b c d ≡ pos 0 → Contains points (whole a) → Contains points (whole b)
+      → (On (whole c) (whole a) (whole b) → Contains points (whole c)) → (On (whole d) (whole a) (whole b) → Contains points (whole d))
+      → EnclosesAll points (whole a) (whole b) (whole c) (whole d)
+  encloses_parallel points parallel has_a has_b has_c has_d z at_z on_first on_second =
+      let straight = on_is_straight z (whole a) (whole b) at_z (whole_is_point a) (whole_is_point b) on_first in
+      let around =
+      around_of_line (Contains points) (whole a) (whole b) (whole c) (whole d) z (whole_is_point a) (whole_is_point b) (whole_is_point c)
+      (whole_is_point d) at_z on_first on_second has_a has_b (first_on_line a b c d z at_z parallel straight on_second)
+      (last_on_line a b c d z at_z parallel straight on_second) has_c has_d in
+      record {
+        u = around.u;
+        v = around.v;
+        u_listed = around.u_listed;
+        v_listed = around.v_listed;
+        u_on = around.u_on;
+        v_on = around.v_on;
+        between = around.between;
+      }

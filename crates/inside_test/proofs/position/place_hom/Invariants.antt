@@ -1,0 +1,7 @@
+use Rattle.std.proofs.Common.{take}
+use Rattle.rings.specs.Edge.{edges_of}
+use Rattle.inside_test.proofs.Odd.{OddSoFar}
+use Rattle.inside_test.proofs.position.place_hom.Given as goal
+
+abbrev pub invariant-loop-i : goal.invariant-loop-i
+invariant-loop-i g l = OddSoFar (take l.i (edges_of l.ring.corners)) l.p l.is_odd

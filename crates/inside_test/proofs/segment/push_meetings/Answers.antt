@@ -1,0 +1,48 @@
+use Rattle.std.proofs.Common.{◌≡◌, ◌≢◌, ◌++◌, ◌∷◌, [], pos, refl, sym, subst}
+use Rattle.std.proofs.lemmas.List.Elements.{Contains-push}
+use Rattle.std.specs.List.{Contains}
+use Rattle.plane.specs.Line.{cross_product}
+use Rattle.plane.specs.Point.{whole}
+use Rattle.inside_test.proofs.Meetings.{encloses_crossing, encloses_parallel, meeting_on_first}
+use Rattle.inside_test.proofs.PointLists.{extends_pushed, extends_trans, on_ok}
+use Rattle.inside_test.specs.Breakpoints.{EnclosesAll, points_of}
+use Rattle.inside_test.proofs.segment.push_meetings.Goals as goal
+
+pub returns-in-Some : goal.returns-in-Some
+returns-in-Some g c =
+    let a = c.args.a.now in
+    let b = c.args.b.now in
+    let m = c.in-Some.m in
+    let old = points_of c.args.points.now.items in
+    let new = points_of c.push.new.points.items in
+    let at_m = c.push.ensures.rational in
+    let crossing : cross_product a b c.args.c.now c.args.d.now ≢ pos 0 = λ e. cc (c.in-Some.ensures.none.1 e) in
+    let first = c.in-Some.ensures.on_first in
+    let second = c.in-Some.ensures.on_second in
+    let meet = c.segments_meet.ensures.meet.0 c.if-not-segments_meet.false in
+    let on = meeting_on_first a b c.args.c.now c.args.d.now m at_m crossing first second meet in
+    record {
+      extends = extends_pushed (whole a) (whole b) c.push.result old new m (at_m, on) c.push.ensures.ok c.push.ensures.err;
+      enclosed = on_ok c.push.result (new ≡ old ++ m ∷ []) (EnclosesAll new (whole a) (whole b) (whole c.args.c.now) (whole c.args.d.now))
+          (λ e. encloses_crossing a b c.args.c.now c.args.d.now m at_m crossing first second new
+          (subst (λ l. Contains l m) (sym e) (Contains-push old m))) c.push.ensures.ok;
+    }
+
+pub returns-in_ok-push_if_on-in-None : goal.returns-in_ok-push_if_on-in-None
+returns-in_ok-push_if_on-in-None g c =
+    let a = c.args.a.now in
+    let b = c.args.b.now in
+    let old = points_of c.args.points.now.items in
+    let between = points_of c.push_if_on.new.points.items in
+    let new = points_of c.push_if_on-in-None.new.points.items in
+    let parallel = c.in-None.ensures.none.0 refl in
+    let first = c.push_if_on.ensures.extends in
+    let second = c.push_if_on-in-None.ensures.extends in
+    record {
+      extends = extends_trans (whole a) (whole b) old between new first second;
+      enclosed = on_ok c.push_if_on-in-None.result _ (EnclosesAll new (whole a) (whole b) (whole c.args.c.now) (whole c.args.d.now))
+          (λ has_d. encloses_parallel a b c.args.c.now c.args.d.now new parallel
+          (second.kept (whole a) (first.kept (whole a) c.requires.has_first)) (second.kept (whole b) (first.kept (whole b) c.requires.has_last))
+          (λ on. second.kept (whole c.args.c.now) (c.in_ok-push_if_on-in-None.ensures.listed on)) has_d)
+          c.push_if_on-in-None.ensures.listed;
+    }

@@ -1,0 +1,44 @@
+// The points at which a segment may enter or leave a ring, in a form that is compared with no step.
+ghost use Rattle.std.specs.Prelude.{◌≡◌, ◌↔◌};
+ghost use Rattle.exact_plane.specs.Size.{IsNarrow, IsSized};
+ghost use Rattle.plane.specs.Order.{Precedes};
+ghost use Rattle.plane.specs.Point.{IsPoint};
+
+use crate::product::compare;
+use exact_plane::{Hom, Steps};
+use std::cmp::Ordering;
+use std::sync::ledger::Ledger;
+
+// A rational point, and its parts.
+#[derive(Drop)]
+pub(crate) struct Breakpoint {
+    pub point: Hom,
+    pub x: i128,
+    pub y: i128,
+    pub w: i128,
+    ghost x_is: { x ≡ point.X },
+    ghost y_is: { y ≡ point.Y },
+    ghost w_is: { w ≡ point.W },
+    ghost sized: { IsSized point },
+    ghost narrow: { IsNarrow point },
+}
+
+impl Breakpoint {
+    // This point, whose parts are read once.
+    pub(crate) fn of<L: Ledger>(point: Hom, steps: &mut Steps<L>) -> Breakpoint
+        requires { IsNarrow point }
+        ensures point { result.point ≡ point }
+        ensures rational { IsPoint point }
+    {
+        let (x, y, w) = point.parts(steps);
+        Breakpoint { point, x, y, w }
+    }
+
+    // Compares x, then y.
+    pub(crate) fn order(&self, other: &Breakpoint) -> Ordering
+        ensures less { (result ≡ Ordering.Less) ↔ Precedes self.now.point other.now.point }
+    {
+        let by_x = compare(self.x, self.w, other.x, other.w);
+        by_x.then(compare(self.y, self.w, other.y, other.w))
+    }
+}

@@ -1,0 +1,135 @@
+ghost use Rattle.std.specs.Prelude.{◌≡◌, ◌↔◌, ◌++◌, ◌∷◌, [], IfOk, IsTrue, OnOk, OnErr, length};
+ghost use Rattle.std.specs.List.{AllAdjacentBelow, Contains};
+ghost use Rattle.exact_plane.specs.Size.{IsNarrow};
+ghost use Rattle.inside_test.specs.Breakpoints.{EnclosesAll, Extends, ListsMeetings, points_of};
+ghost use Rattle.plane.specs.Line.{mediant};
+ghost use Rattle.plane.specs.Point.{IsPoint, whole};
+ghost use Rattle.plane.specs.Segment.{On};
+ghost use Rattle.rings.specs.Inside.{IsIn};
+ghost use Rattle.rings.specs.Sees.{Sees};
+
+use crate::breakpoint::Breakpoint;
+use crate::position::{Position, next_corner, place_hom};
+use exact_plane::{Hom, Memory, Pt, Steps, on_segment, segments_meet};
+use ring_check::Ring;
+use std::alloc::Global;
+use std::sync::ledger::Ledger;
+
+/// Whether the segment from `a` to `b` lies in the ring: each rational point of it does. It may run along edges and
+/// touch them.
+pub fn holds_segment<L: Ledger>(
+    alloc: Global,
+    ring: &Ring,
+    a: &Pt,
+    b: &Pt,
+    steps: &mut Steps<L>,
+) -> Result<bool, Memory>
+    ensures { IfOk result (λ holds. IsTrue holds ↔ Sees ring.now.corners (whole a.now) (whole b.now)) }
+{
+    let mut points = breakpoints(alloc, ring, a, b, steps)?;
+    points.sort_unstable_by(|p, q| p.order(q));
+    Ok(holds_mediants(ring, &points, steps))
+}
+
+// The ends of the segment, and where it meets the edges, in no order.
+fn breakpoints<L: Ledger>(
+    alloc: Global,
+    ring: &Ring,
+    a: &Pt,
+    b: &Pt,
+    steps: &mut Steps<L>,
+) -> Result<Vec<Breakpoint>, Memory>
+    ensures { IfOk result (λ points. ListsMeetings ring.now.corners (length ring.now.corners) (whole a.now) (whole b.now) (points_of points.items)) }
+{
+    let mut points = Vec::new(alloc);
+    push(&mut points, Hom::of_pt(a, steps), steps)?;
+    push(&mut points, Hom::of_pt(b, steps), steps)?;
+    for i in 0..ring.len() {
+        let (c, d) = (ring.corner(i), next_corner(ring, i));
+        push_meetings(&mut points, a, b, &c, &d, steps)?;
+    }
+    Ok(points)
+}
+
+// Appends what the segment from `a` to `b` has in common with the one from `c` to `d`: one point, or the ends of the
+// second that are on the first.
+fn push_meetings<L: Ledger>(
+    points: &mut Vec<Breakpoint>,
+    a: &Pt,
+    b: &Pt,
+    c: &Pt,
+    d: &Pt,
+    steps: &mut Steps<L>,
+) -> Result<(), Memory>
+    requires has_first { Contains (points_of points.old.items) (whole a.now) }
+    requires has_last { Contains (points_of points.old.items) (whole b.now) }
+    ensures extends { Extends (whole a.now) (whole b.now) (points_of points.old.items) (points_of points.new.items) }
+    ensures enclosed { OnOk result (EnclosesAll (points_of points.new.items) (whole a.now) (whole b.now) (whole c.now) (whole d.now)) }
+{
+    if !segments_meet(a, b, c, d, steps) {
+        return Ok(());
+    }
+    match Hom::meet(a, b, c, d, steps) {
+        Some(m) => push(points, m, steps),
+        None => {
+            push_if_on(points, c, a, b, steps)?;
+            push_if_on(points, d, a, b, steps)
+        }
+    }
+}
+
+// Appends `p`, if it is on the segment from `a` to `b`.
+fn push_if_on<L: Ledger>(
+    points: &mut Vec<Breakpoint>,
+    p: &Pt,
+    a: &Pt,
+    b: &Pt,
+    steps: &mut Steps<L>,
+) -> Result<(), Memory>
+    ensures extends { Extends (whole a.now) (whole b.now) (points_of points.old.items) (points_of points.new.items) }
+    ensures listed { OnOk result (On (whole p.now) (whole a.now) (whole b.now) → Contains (points_of points.new.items) (whole p.now)) }
+{
+    if !on_segment(p, a, b, steps) {
+        return Ok(());
+    }
+    push(points, Hom::of_pt(p, steps), steps)
+}
+
+// Appends a point.
+fn push<L: Ledger>(points: &mut Vec<Breakpoint>, p: Hom, steps: &mut Steps<L>) -> Result<(), Memory>
+    requires { IsNarrow p }
+    ensures ok { OnOk result (points_of points.new.items ≡ points_of points.old.items ++ p ∷ []) }
+    ensures err { OnErr result (points_of points.new.items ≡ points_of points.old.items) }
+    ensures rational { IsPoint p }
+{
+    points.push(Breakpoint::of(p, steps))?;
+    Ok(())
+}
+
+// Whether the mediant of each two neighbours is in the ring.
+fn holds_mediants<L: Ledger>(ring: &Ring, points: &[Breakpoint], steps: &mut Steps<L>) -> bool
+    ensures { IsTrue result ↔ AllAdjacentBelow (λ p q. IsIn ring.now.corners (mediant p.point q.point)) points.now (length points.now) }
+{
+    for i in 1..points.len() {
+        if !holds_mediant(ring, &points[i - 1], &points[i], steps) {
+            return false;
+        }
+    }
+    true
+}
+
+// Whether the mediant of two points is in the ring.
+fn holds_mediant<L: Ledger>(
+    ring: &Ring,
+    p: &Breakpoint,
+    q: &Breakpoint,
+    steps: &mut Steps<L>,
+) -> bool
+    ensures { IsTrue result ↔ IsIn ring.now.corners (mediant p.now.point q.now.point) }
+{
+    let between = Hom::between(&p.point, &q.point, steps);
+    match place_hom(ring, &between, steps) {
+        Position::Inside | Position::Edge => true,
+        Position::Outside => false,
+    }
+}
