@@ -13,6 +13,7 @@ use Rattle.rings.specs.Simple.{Clash, IsSimple}
 use Rattle.tri_mesh.specs.declared.tri.Tri.{Tri}
 use Rattle.tri_mesh.proofs.Paths.{IsPath, IsTreeOn}
 use Rattle.tri_mesh.proofs.PieceEdges.{edge_of_step, step_of_edge}
+use Rattle.tri_mesh.proofs.TriangleRing.{in_of_in_triangle, in_triangle_of_in}
 use Rattle.tri_mesh.proofs.Walks.{IsPlace, Touch, tree_of_paths}
 use Rattle.tri_mesh.specs.Fits.{FitsPiece, IsInTri, IsPieceEdge, IsSideOfOne, IsSideOfTwo, IsStrictlyInTri, IsTriOf, points_of}
 use Rattle.tri_mesh.specs.Side.{HasSide, IsTree, tri_at}
@@ -105,3 +106,26 @@ module _ (corners : List Point) (i j k : ℕ) (left : IsLeft (whole (vertex corn
     counterclockwise = left;
   }
   is_tri (suc l) h = absurd (omega arith)
+
+  -- its points are those in the piece
+  single_covers : (p : Triple) → IsPoint p
+      → IsIn (points_of corners (i ∷ j ∷ k ∷ [])) p ↔ ((l : ℕ) × (l < 1) × IsInTri corners (tri_at (the_tri ∷ []) l) p)
+  single_covers p at_p =
+      (λ h. (0, omega arith, in_triangle_of_in (vertex corners i) (vertex corners j) (vertex corners k) left p at_p h), covered)
+    where
+      covered : ((l : ℕ) × (l < 1) × IsInTri corners (tri_at (the_tri ∷ []) l) p) → IsIn (points_of corners (i ∷ j ∷ k ∷ [])) p
+      covered (zero, h, t) = in_of_in_triangle (vertex corners i) (vertex corners j) (vertex corners k) left p at_p t
+      covered (suc l, h, t) = absurd (omega arith)
+
+  -- so it fits the piece
+  pub fits_triangle : FitsPiece corners (i ∷ j ∷ k ∷ []) (record { a = i; b = j; c = k } ∷ [])
+  fits_triangle = record {
+    simple = triangle_simple (vertex corners i) (vertex corners j) (vertex corners k) left;
+    count = refl;
+    triangles = is_tri;
+    edges = λ x y e. (0, side_of_one x y (step_of_edge i (j ∷ k ∷ []) x y e));
+    inner_sides = λ x y l h s inner. absurd (inner (edge_of_side x y l h s));
+    covers = single_covers;
+    apart = λ p at_p l m order within h. omega arith;
+    tree = single_tree the_tri;
+  }

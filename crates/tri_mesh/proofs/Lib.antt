@@ -9,5 +9,6 @@ pub mod Paths
 pub mod PieceEdges
 pub mod PieceVertices
 pub mod Rotated
+pub mod TriangleRing
 pub mod TwoLists
 pub mod Walks

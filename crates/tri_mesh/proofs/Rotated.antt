@@ -1,12 +1,15 @@
 -- A piece read from another vertex on: the same triangles fit it.
 use Rattle.std.proofs.Common.{◌≡◌, ◌⊎◌, inl, inr, refl, sym, ap, subst, ◌∙◌, ℕ, ◌+◌, ◌<◌, List, [], ◌∷◌, ◌++◌, length, map, arith}
-use Rattle.std.proofs.lemmas.List.{append-nil, length-append}
+use Rattle.std.proofs.lemmas.List.{append-nil, length-append, map-append}
 use Rattle.std.proofs.lemmas.List.Elements.{Contains-append_cases, Contains-append_left, Contains-append_right}
 use Rattle.std.specs.List.{Contains}
 use Rattle.std.specs.Prelude.{◌↔◌}
 use Rattle.plane.specs.Point.{IsPoint, Point, Triple}
 use Rattle.rings.specs.Inside.{IsIn}
+use Rattle.rings.specs.Ring.{vertex}
 use Rattle.rings.specs.Simple.{IsSimple}
+use Rattle.ring_laws.proofs.Rotated.{apart_rotated, in_rotated}
+use Rattle.ring_laws.proofs.SimpleIsApart.{apart_of_simple, simple_of_apart}
 use Rattle.tri_mesh.specs.declared.tri.Tri.{Tri}
 use Rattle.tri_mesh.proofs.PieceEdges.{edge_of_step, step_after, step_before, step_cases, step_of_edge}
 use Rattle.tri_mesh.specs.Fits.{FitsPiece, IsInTri, IsPieceEdge, IsTriOf, points_of}
@@ -61,3 +64,39 @@ member_rotated xs ys i h = elim (Contains-append_cases xs ys i h) [
   | inl k ↦ Contains-append_right ys xs i k
   | inr k ↦ Contains-append_left ys xs i k
 ]
+
+-- ---- rotated pieces
+
+-- the points of a piece of two parts
+points_append : (corners : List Point) (xs ys : List ℕ) → points_of corners (xs ++ ys) ≡ points_of corners xs ++ points_of corners ys
+points_append corners xs ys = map-append (λ k. vertex corners k) xs ys
+
+module _ (corners : List Point) (xs ys : List ℕ) where
+  -- what is in a piece is in the rotated one,
+  in_piece_rotated : (p : Triple) → IsIn (points_of corners (xs ++ ys)) p → IsIn (points_of corners (ys ++ xs)) p
+  in_piece_rotated p h =
+      subst (λ r. IsIn r p) (sym (points_append corners ys xs))
+      (in_rotated (points_of corners xs) (points_of corners ys) p (subst (λ r. IsIn r p) (points_append corners xs ys) h))
+
+  -- which is simple where the piece is
+  simple_rotated : IsSimple (points_of corners (xs ++ ys)) → IsSimple (points_of corners (ys ++ xs))
+  simple_rotated h =
+      subst IsSimple (sym (points_append corners ys xs))
+      (simple_of_apart (points_of corners ys ++ points_of corners xs)
+      (apart_rotated (points_of corners xs) (points_of corners ys)
+      (apart_of_simple (points_of corners xs ++ points_of corners ys) (subst IsSimple (points_append corners xs ys) h))))
+
+-- the rotated piece is the same piece
+pub same_rotated : (corners : List Point) (xs ys : List ℕ) → IsSimple (points_of corners (xs ++ ys)) → IsSamePiece corners (xs ++ ys) (ys ++ xs)
+same_rotated corners xs ys simple = record {
+  simple = simple_rotated corners xs ys simple;
+  as_long = omega (arith, length-append xs ys, length-append ys xs);
+  members = member_rotated xs ys;
+  edges = edge_rotated xs ys;
+  edges_back = edge_rotated ys xs;
+  points = λ p at_p. (in_piece_rotated corners xs ys p, in_piece_rotated corners ys xs p);
+}
+
+-- so the triangles that fit a piece fit the rotated one
+pub fits_rotated : (corners : List Point) (xs ys : List ℕ) (ts : List Tri) → FitsPiece corners (xs ++ ys) ts → FitsPiece corners (ys ++ xs) ts
+fits_rotated corners xs ys ts f = fits_same corners (xs ++ ys) (ys ++ xs) (same_rotated corners xs ys f.simple) ts f
