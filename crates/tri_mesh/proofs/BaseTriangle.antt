@@ -1,21 +1,20 @@
 -- One triangle fits the piece of its three corners.
-use Rattle.std.proofs.Common.{◌≡◌, ◌⊎◌, inl, inr, refl, sym, ap, subst, ◌∙◌, ℕ, zero, suc, ◌+◌, ◌<◌, List, [], ◌∷◌, length, ℤ, pos, ◌<ℤ◌, arith}
+use Rattle.std.proofs.Common.{◌≡◌, inl, inr, refl, sym, subst, ◌∙◌, ℕ, zero, suc, ◌<◌, List, [], ◌∷◌, ℤ, pos, ◌<ℤ◌, arith}
 use Rattle.std.proofs.lemmas.Int.{ints}
-use Rattle.std.specs.List.{Contains}
 use Rattle.std.specs.Prelude.{◌↔◌}
 use Rattle.plane.proofs.Determinants.{determinant_same_ends, determinant_same_first, determinant_same_last, determinant_shift, determinant_shift_back}
 use Rattle.plane.proofs.MeetOnlyAt.{meet_only_at_from}
 use Rattle.plane.specs.Point.{IsPoint, Point, Triple, whole}
-use Rattle.plane.specs.Turn.{IsLeft, IsStraight, determinant}
+use Rattle.plane.specs.Turn.{IsLeft, IsStraight}
 use Rattle.rings.specs.Inside.{IsIn}
 use Rattle.rings.specs.Ring.{vertex}
-use Rattle.rings.specs.Simple.{Clash, IsSimple}
+use Rattle.rings.specs.Simple.{IsSimple}
 use Rattle.tri_mesh.specs.declared.tri.Tri.{Tri}
-use Rattle.tri_mesh.proofs.Paths.{IsPath, IsTreeOn}
-use Rattle.tri_mesh.proofs.PieceEdges.{edge_of_step, step_of_edge}
+use Rattle.tri_mesh.proofs.Paths.{IsPath}
+use Rattle.tri_mesh.proofs.PieceSteps.{edge_of_step, step_of_edge}
 use Rattle.tri_mesh.proofs.TriangleRing.{in_of_in_triangle, in_triangle_of_in}
 use Rattle.tri_mesh.proofs.Walks.{IsPlace, Touch, tree_of_paths}
-use Rattle.tri_mesh.specs.Fits.{FitsPiece, IsInTri, IsPieceEdge, IsSideOfOne, IsSideOfTwo, IsStrictlyInTri, IsTriOf, points_of}
+use Rattle.tri_mesh.specs.Fits.{FitsPiece, IsInTri, IsPieceEdge, IsSideOfOne, IsTriOf, points_of}
 use Rattle.tri_mesh.specs.Side.{HasSide, IsTree, tri_at}
 
 -- ---- three points that turn

@@ -1,7 +1,5 @@
 -- A piece that is cut in two by a diagonal: its vertices and edges, and those of the two parts.
-use Rattle.std.proofs.Common.{◌≡◌, ◌⊎◌, inl, inr, refl, sym, ap, subst, ◌∙◌, ℕ, zero, suc, ◌+◌, ◌%◌, ◌<◌, List, [], ◌∷◌, ◌++◌, length, get_or, arith}
-use Rattle.std.proofs.Math.Nat.{mod-eq_of_lt, mod_self}
-use Rattle.std.proofs.lemmas.Bool.{cases_lt}
+use Rattle.std.proofs.Common.{◌≡◌, ◌⊎◌, inl, inr, refl, sym, ap, subst, ◌∙◌, ℕ, zero, suc, ◌+◌, ◌<◌, List, [], ◌∷◌, ◌++◌, length, get_or, arith}
 use Rattle.std.proofs.lemmas.List.{get_or-append-add, get_or_append_left, get_or_default, length-append}
 use Rattle.std.proofs.lemmas.List.Elements.{Contains-append_cases, Contains-append_left, Contains-append_right}
 use Rattle.std.specs.List.{Contains}
@@ -11,8 +9,7 @@ use Rattle.plane.specs.Segment.{On}
 use Rattle.rings.specs.Inside.{IsIn}
 use Rattle.rings.specs.Ring.{vertex}
 use Rattle.rings.specs.Simple.{IsSimple}
-use Rattle.tri_mesh.proofs.Halves.{AreEnds}
-use Rattle.tri_mesh.proofs.PieceEdges.{edge_of_step, step_after, step_before, step_cases, step_of_edge}
+use Rattle.tri_mesh.proofs.PieceSteps.{edge_of_step, step_after, step_before, step_cases, step_of_edge}
 use Rattle.tri_mesh.proofs.PieceVertices.{one_number, one_place}
 use Rattle.tri_mesh.specs.Fits.{IsPieceEdge, points_of}
 
@@ -53,7 +50,7 @@ contains_rest x xs i (k, h, e) = (suc k, omega arith, e)
 
 -- a member of a list of one
 contains_one : (x i : ℕ) → Contains (x ∷ []) i → x ≡ i
-contains_one x i h = elim (contains_cases x [] i h) [ | inl e ↦ e | inr k ↦ absurd (omega (arith, k.1)) ]
+contains_one x i h = elim (contains_cases x [] i h) [ inl e ↦ e | inr k ↦ absurd (omega (arith, k.1)) ]
 
 -- the place of a member
 place_of : (xs : List ℕ) (i : ℕ) → Contains xs i → (k : ℕ) × (k < length xs) × (get_or xs k 0 ≡ i)

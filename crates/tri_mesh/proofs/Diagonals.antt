@@ -1,5 +1,5 @@
 -- The diagonal that cuts a piece in two is not an edge of it.
-use Rattle.std.proofs.Common.{◌≡◌, ◌⊎◌, inl, inr, refl, sym, ap, subst, ◌∙◌, ℕ, zero, suc, ◌+◌, ◌%◌, ◌<◌, List, [], ◌∷◌, ◌++◌, length, get_or, arith}
+use Rattle.std.proofs.Common.{◌≡◌, ◌⊎◌, inl, inr, sym, ap, subst, ◌∙◌, ℕ, suc, ◌+◌, ◌%◌, ◌<◌, List, length, get_or, arith}
 use Rattle.std.proofs.Math.Nat.{mod-eq_of_lt, mod_self}
 use Rattle.std.proofs.lemmas.Bool.{cases_lt}
 use Rattle.plane.specs.Point.{Point}
@@ -33,8 +33,8 @@ module _ (corners : List Point) (v : ℕ) (ps : List ℕ) (z : ℕ) (qs : List �
       let one = one_number corners (both_parts v ps z qs) simple in
       let from : e.place ≡ 0 = one e.place 0 e.in_piece (omega (arith, places v ps z qs)) e.from in
       let to : (e.place + 1) % n ≡ suc (length ps) =
-          one ((e.place + 1) % n) (suc (length ps)) (next_within e.place n e.in_piece) (omega (arith, places v ps z qs))
-          (e.to ∙ sym (place_of_last v ps z qs)) in
+      one ((e.place + 1) % n) (suc (length ps)) (next_within e.place n e.in_piece) (omega (arith, places v ps z qs))
+      (e.to ∙ sym (place_of_last v ps z qs)) in
       elim (next_place e.place n e.in_piece) [
         | inl k ↦ omega (arith, k.1, from, to)
         | inr k ↦ omega (arith, k.1, from, to)
@@ -46,9 +46,9 @@ module _ (corners : List Point) (v : ℕ) (ps : List ℕ) (z : ℕ) (qs : List �
       let n = length (both_parts v ps z qs) in
       let one = one_number corners (both_parts v ps z qs) simple in
       let from : e.place ≡ suc (length ps) =
-          one e.place (suc (length ps)) e.in_piece (omega (arith, places v ps z qs)) (e.from ∙ sym (place_of_last v ps z qs)) in
+      one e.place (suc (length ps)) e.in_piece (omega (arith, places v ps z qs)) (e.from ∙ sym (place_of_last v ps z qs)) in
       let to : (e.place + 1) % n ≡ 0 =
-          one ((e.place + 1) % n) 0 (next_within e.place n e.in_piece) (omega (arith, places v ps z qs)) e.to in
+      one ((e.place + 1) % n) 0 (next_within e.place n e.in_piece) (omega (arith, places v ps z qs)) e.to in
       elim (next_place e.place n e.in_piece) [
         | inl k ↦ omega (arith, k.1, from, to)
         | inr k ↦ omega (arith, k.0, from, places v ps z qs)

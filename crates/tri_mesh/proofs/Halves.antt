@@ -1,13 +1,13 @@
 -- One of two meshes that are joined along a diagonal: the sides of its triangles in the joined list.
-use Rattle.std.proofs.Common.{◌≡◌, ◌⊎◌, inl, inr, refl, sym, ap, subst, ◌∙◌, ℕ, ◌+◌, ◌<◌, List, length, ℤ, pos, arith}
+use Rattle.std.proofs.Common.{◌≡◌, ◌⊎◌, inl, inr, sym, ap, subst, ◌∙◌, ℕ, ◌<◌, List, length, arith}
 use Rattle.std.proofs.lemmas.Int.{ints}
 use Rattle.std.specs.List.{Contains}
 use Rattle.plane.proofs.Determinants.{determinant_same_ends, determinant_same_first, determinant_same_last}
 use Rattle.plane.specs.Point.{Point, whole}
-use Rattle.plane.specs.Turn.{IsStraight, determinant}
+use Rattle.plane.specs.Turn.{IsStraight}
 use Rattle.rings.specs.Ring.{vertex}
 use Rattle.tri_mesh.specs.declared.tri.Tri.{Tri}
-use Rattle.tri_mesh.proofs.PieceEdges.{edge_or_not}
+use Rattle.tri_mesh.proofs.PieceSteps.{edge_or_not}
 use Rattle.tri_mesh.proofs.TwoLists.{AreParts, IsPlaceOf}
 use Rattle.tri_mesh.specs.Fits.{FitsPiece, IsPieceEdge, IsSideOfOne, IsSideOfTwo, IsTriOf}
 use Rattle.tri_mesh.specs.Side.{HasSide, HasSideBetween, tri_at}
@@ -30,10 +30,11 @@ module _ (corners : List Point) (piece : List ℕ) (t : Tri) (is : IsTriOf corne
 
   corners_differ : (¬ (t.a ≡ t.b)) × (¬ (t.b ≡ t.c)) × (¬ (t.c ≡ t.a))
   corners_differ =
-      let p = λ (i : ℕ). whole (vertex corners i) in
-      (λ e. not_flat (subst (λ i. IsStraight (p i) (p t.b) (p t.c)) (sym e) (determinant_same_first (p t.b) (p t.c))),
-      λ e. not_flat (subst (λ i. IsStraight (p t.a) (p i) (p t.c)) (sym e) (determinant_same_last (p t.a) (p t.c))),
-      λ e. not_flat (subst (λ i. IsStraight (p t.a) (p t.b) (p i)) (sym e) (determinant_same_ends (p t.a) (p t.b))))
+      let p = λ (i : ℕ). whole (vertex corners i) in (
+        λ e. not_flat (subst (λ i. IsStraight (p i) (p t.b) (p t.c)) (sym e) (determinant_same_first (p t.b) (p t.c))),
+        λ e. not_flat (subst (λ i. IsStraight (p t.a) (p i) (p t.c)) (sym e) (determinant_same_last (p t.a) (p t.c))),
+        λ e. not_flat (subst (λ i. IsStraight (p t.a) (p t.b) (p i)) (sym e) (determinant_same_ends (p t.a) (p t.b))),
+      )
 
   -- the ends of a side are vertices of the piece, and different
   side_ends : (i j : ℕ) → HasSide t i j → Contains piece i × Contains piece j × (¬ (i ≡ j))
@@ -102,35 +103,39 @@ module _ (corners : List Point) (piece half other : List ℕ) (ts us : List Tri)
     -- an edge of the piece that is one of this half is a side of one triangle of the joined list
     pub half_edges : (i j : ℕ) → IsPieceEdge half i j → IsPieceEdge piece i j → (k : ℕ) × IsSideOfOne tris i j k
     half_edges i j in_half in_piece =
-        let (k, one) = h.fits.edges i j in_half in
-        (f k, record {
-          in_list = parts.first.in_list k one.in_list;
-          has = side_here k i j one.in_list one.has;
-          only = λ n within s. elim (parts.cases n within) [
-            | inl at ↦ sym at.is ∙ ap f (one.only at.k at.in_part (here n i j at s))
-            | inr at ↦
-                let ends = common_side k at.k i j one.in_list at.in_part (inl one.has) (there n i j at s) in
-                absurd (h.not_edge i j in_piece ends)
-          ];
-        })
+        let (k, one) = h.fits.edges i j in_half in (
+          f k,
+          record {
+            in_list = parts.first.in_list k one.in_list;
+            has = side_here k i j one.in_list one.has;
+            only = λ n within s. elim (parts.cases n within) [
+              | inl at ↦ sym at.is ∙ ap f (one.only at.k at.in_part (here n i j at s))
+              | inr at ↦
+                  let ends = common_side k at.k i j one.in_list at.in_part (inl one.has) (there n i j at s) in
+                  absurd (h.not_edge i j in_piece ends)
+            ];
+          },
+        )
 
     -- the diagonal is a side of two triangles, across the halves
     diagonal_of_two : (k : ℕ) → k < length ts → HasSide (tri_at ts k) a b → (l : ℕ) × IsSideOfTwo tris a b (f k) l
     diagonal_of_two k within s =
         let (m, one) = h.fits.edges a b h.diagonal in
         let (n, other_one) = h.other_fits.edges b a h.other_diagonal in
-        let is : k ≡ m = one.only k within (inl s) in
-        (g n, record {
-          in_list = parts.first.in_list k within;
-          other_in_list = parts.second.in_list n other_one.in_list;
-          different = parts.apart k n within other_one.in_list;
-          has = side_here k a b within s;
-          other_has = side_there n b a other_one.in_list other_one.has;
-          only = λ o inside t. elim (parts.cases o inside) [
-            | inl at ↦ inl (sym at.is ∙ ap f (one.only at.k at.in_part (here o a b at t) ∙ sym is))
-            | inr at ↦ inr (sym at.is ∙ ap g (other_one.only at.k at.in_part (between_back (there o a b at t))))
-          ];
-        })
+        let is : k ≡ m = one.only k within (inl s) in (
+          g n,
+          record {
+            in_list = parts.first.in_list k within;
+            other_in_list = parts.second.in_list n other_one.in_list;
+            different = parts.apart k n within other_one.in_list;
+            has = side_here k a b within s;
+            other_has = side_there n b a other_one.in_list other_one.has;
+            only = λ o inside t. elim (parts.cases o inside) [
+              | inl at ↦ inl (sym at.is ∙ ap f (one.only at.k at.in_part (here o a b at t) ∙ sym is))
+              | inr at ↦ inr (sym at.is ∙ ap g (other_one.only at.k at.in_part (between_back (there o a b at t))))
+            ];
+          },
+        )
 
     -- two triangles of this half do not both have the diagonal
     not_twice : (k l i j : ℕ) → k < length ts → l < length ts → ¬ (k ≡ l) → HasSideBetween (tri_at ts k) i j
@@ -140,11 +145,11 @@ module _ (corners : List Point) (piece half other : List ℕ) (ts us : List Tri)
         elim ends [
           | inl e ↦
               let turn = λ (x : ℕ) (p : HasSideBetween (tri_at ts x) i j).
-                  subst (λ z. HasSideBetween (tri_at ts x) z b) e.0 (subst (λ z. HasSideBetween (tri_at ts x) i z) e.1 p) in
+              subst (λ z. HasSideBetween (tri_at ts x) z b) e.0 (subst (λ z. HasSideBetween (tri_at ts x) i z) e.1 p) in
               differ (one.only k in_k (turn k s) ∙ sym (one.only l in_l (turn l t)))
           | inr e ↦
               let turn = λ (x : ℕ) (p : HasSideBetween (tri_at ts x) i j).
-                  between_back (subst (λ z. HasSideBetween (tri_at ts x) z a) e.0 (subst (λ z. HasSideBetween (tri_at ts x) i z) e.1 p)) in
+              between_back (subst (λ z. HasSideBetween (tri_at ts x) z a) e.0 (subst (λ z. HasSideBetween (tri_at ts x) i z) e.1 p)) in
               differ (one.only k in_k (turn k s) ∙ sym (one.only l in_l (turn l t)))
         ]
 

@@ -1,5 +1,5 @@
 -- Two trees that one edge joins are one tree.
-use Rattle.std.proofs.Common.{◌≡◌, ◌⊎◌, inl, inr, refl, sym, ap, subst, ◌∙◌, ℕ, List, [], ◌∷◌, ◌++◌}
+use Rattle.std.proofs.Common.{◌≡◌, ◌⊎◌, inl, inr, sym, ap, subst, ◌∙◌, ℕ, List, [], ◌∷◌, ◌++◌}
 use Rattle.tri_mesh.proofs.Paths.{IsNew, IsPath, IsTreeOn, OnePath, new_append, new_front}
 
 -- P and Q have no number in common, and k of P and l of Q are the only ones of them that are joined

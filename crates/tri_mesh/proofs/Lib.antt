@@ -1,12 +1,14 @@
 pub mod BaseTriangle
 pub mod Cuts
 pub mod Diagonals
+pub mod Ears
 pub mod Halves
 pub mod Joined
+pub mod JoinedSides
 pub mod JoinedTrees
 pub mod OffDiagonal
 pub mod Paths
-pub mod PieceEdges
+pub mod PieceSteps
 pub mod PieceVertices
 pub mod Rotated
 pub mod TriangleRing

@@ -1,12 +1,11 @@
 -- Points strictly inside triangles: those near them are so too, and some of them are off a given line.
-use Rattle.std.proofs.Common.{◌≡◌, inl, inr, sym, ap, ◌∙◌, ℕ, ◌+◌, ◌<◌, ◌≤◌, List, length, ℤ, pos, ◌+ℤ◌, ◌-ℤ◌, ◌*ℤ◌, ◌<ℤ◌, arith}
+use Rattle.std.proofs.Common.{◌≡◌, sym, ap, ◌∙◌, ℕ, ◌+◌, List, ℤ, pos, ◌+ℤ◌, ◌-ℤ◌, ◌*ℤ◌, ◌<ℤ◌, arith}
 use Rattle.std.proofs.lemmas.Int.{ints}
-use Rattle.plane.proofs.Determinants.{linear}
 use Rattle.plane.proofs.Same.{whole_is_point}
 use Rattle.plane.proofs.Vectors.{IsCombination, determinant_along, determinant_is_linear}
 use Rattle.plane.specs.Point.{IsPoint, Point, Triple, whole}
-use Rattle.plane.specs.Turn.{IsLeft, IsStraight, determinant}
-use Rattle.rings.proofs.Nearness.{Eventually, both_eventually, left_eventually, toward, toward_is_point}
+use Rattle.plane.specs.Turn.{IsStraight}
+use Rattle.rings.proofs.Nearness.{Eventually, left_eventually, toward, toward_is_point}
 use Rattle.rings.specs.Ring.{vertex}
 use Rattle.tri_mesh.specs.declared.tri.Tri.{Tri}
 use Rattle.tri_mesh.specs.Fits.{IsInTri, IsStrictlyInTri}
@@ -97,10 +96,10 @@ pub not_in_both : (corners : List Point) (t u : Tri) (v z : Point) → ¬ (v ≡
     → (p : Triple) → IsPoint p → ¬ (IsStrictlyInTri corners t p × IsStrictlyInTri corners u p)
 not_in_both corners t u v z differ common p at_p h =
     differ (one_point v z (λ c.
-        let first = strictly_eventually corners t p (whole c) h.0 in
-        let second = strictly_eventually corners u p (whole c) h.1 in
-        let n : ℕ = first.start + second.start in
-        let q = toward p (whole c) n in
-        let near = common q (toward_is_point p (whole c) at_p (whole_is_point c) n)
-        (in_tri corners t q (first.from_start n (omega arith))) (in_tri corners u q (second.from_start n (omega arith))) in
-        straight_toward p (whole c) n (whole v) (whole z) (common p at_p (in_tri corners t p h.0) (in_tri corners u p h.1)) near))
+    let first = strictly_eventually corners t p (whole c) h.0 in
+    let second = strictly_eventually corners u p (whole c) h.1 in
+    let n : ℕ = first.start + second.start in
+    let q = toward p (whole c) n in
+    let near = common q (toward_is_point p (whole c) at_p (whole_is_point c) n)
+    (in_tri corners t q (first.from_start n (omega arith))) (in_tri corners u q (second.from_start n (omega arith))) in
+    straight_toward p (whole c) n (whole v) (whole z) (common p at_p (in_tri corners t p h.0) (in_tri corners u p h.1)) near))

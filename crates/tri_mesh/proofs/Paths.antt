@@ -1,5 +1,5 @@
 -- Paths that visit no number twice, in a graph whose vertices are numbers, and graphs with one path between each two.
-use Rattle.std.proofs.Common.{◌≡◌, inl, inr, refl, sym, ap, subst, ◌∙◌, ℕ, List, [], ◌∷◌, ◌++◌, map}
+use Rattle.std.proofs.Common.{◌≡◌, refl, sym, ap, subst, ◌∙◌, ℕ, List, [], ◌∷◌, ◌++◌, map}
 
 -- a is not in the list
 abbrev pub IsNew : ℕ → List ℕ → Type 0

@@ -1,15 +1,17 @@
 -- The vertices of a piece: they are different where it is simple.
-use Rattle.std.proofs.Common.{◌≡◌, inl, inr, refl, sym, ap, subst, ◌∙◌, ℕ, zero, suc, ◌+◌, ◌%◌, ◌<◌, List, [], ◌∷◌, length, get_or, map, arith}
+use Rattle.std.proofs.Common.{◌≡◌, refl, inl, inr, sym, ap, subst, ◌∙◌, ℕ, ◌+◌, ◌<◌, List, length, get_or, arith}
 use Rattle.std.proofs.lemmas.Bool.{cases_lt}
 use Rattle.std.proofs.lemmas.List.{get_or-map, length-map}
-use Rattle.plane.proofs.Same.{same_refl, whole_is_point}
+use Rattle.std.proofs.lemmas.List.FromFn.{fill_by_all}
+use Rattle.std.specs.List.{range_with_len}
+use Rattle.plane.proofs.Same.{whole_is_point}
 use Rattle.plane.proofs.Segments.{on_first_end}
-use Rattle.plane.specs.Point.{IsSame, Point, whole}
+use Rattle.plane.specs.Point.{Point, whole}
 use Rattle.plane.specs.Segment.{On}
 use Rattle.rings.proofs.Vertices.{vertex_in_range, vertex_round}
 use Rattle.rings.specs.Ring.{origin, vertex}
-use Rattle.rings.specs.Simple.{Clash, IsSimple}
-use Rattle.tri_mesh.proofs.PieceEdges.{pair_or_not, same_or_not}
+use Rattle.rings.specs.Simple.{IsSimple}
+use Rattle.tri_mesh.proofs.PieceSteps.{pair_or_not, same_or_not}
 use Rattle.tri_mesh.specs.Fits.{points_of}
 
 -- ---- simple rings
@@ -81,3 +83,8 @@ module _ (corners : List Point) (piece : List ℕ) where
     -- as its number does
     pub one_number : (p q : ℕ) → p < length piece → q < length piece → get_or piece p 0 ≡ get_or piece q 0 → p ≡ q
     one_number p q h k same = one_place p q h k (ap (vertex corners) same)
+
+-- the piece of all vertices has the points of the ring
+pub points_of_all : (corners : List Point) → points_of corners (range_with_len 0 (length corners)) ≡ corners
+points_of_all corners =
+    sym (fill_by_all (λ k. vertex corners k) corners (length corners) origin refl (λ k h. sym (vertex_in_range corners k origin h)))

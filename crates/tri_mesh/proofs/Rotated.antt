@@ -1,5 +1,5 @@
 -- A piece read from another vertex on: the same triangles fit it.
-use Rattle.std.proofs.Common.{◌≡◌, ◌⊎◌, inl, inr, refl, sym, ap, subst, ◌∙◌, ℕ, ◌+◌, ◌<◌, List, [], ◌∷◌, ◌++◌, length, map, arith}
+use Rattle.std.proofs.Common.{◌≡◌, inl, inr, sym, subst, ◌∙◌, ℕ, List, [], ◌∷◌, ◌++◌, length, arith}
 use Rattle.std.proofs.lemmas.List.{append-nil, length-append, map-append}
 use Rattle.std.proofs.lemmas.List.Elements.{Contains-append_cases, Contains-append_left, Contains-append_right}
 use Rattle.std.specs.List.{Contains}
@@ -11,8 +11,8 @@ use Rattle.rings.specs.Simple.{IsSimple}
 use Rattle.ring_laws.proofs.Rotated.{apart_rotated, in_rotated}
 use Rattle.ring_laws.proofs.SimpleIsApart.{apart_of_simple, simple_of_apart}
 use Rattle.tri_mesh.specs.declared.tri.Tri.{Tri}
-use Rattle.tri_mesh.proofs.PieceEdges.{edge_of_step, step_after, step_before, step_cases, step_of_edge}
-use Rattle.tri_mesh.specs.Fits.{FitsPiece, IsInTri, IsPieceEdge, IsTriOf, points_of}
+use Rattle.tri_mesh.proofs.PieceSteps.{edge_of_step, step_after, step_before, step_cases, step_of_edge}
+use Rattle.tri_mesh.specs.Fits.{FitsPiece, IsPieceEdge, IsTriOf, points_of}
 use Rattle.tri_mesh.specs.Side.{tri_at}
 
 -- another piece with the same edges, vertices and points

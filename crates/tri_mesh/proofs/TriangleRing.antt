@@ -1,13 +1,12 @@
 -- The points in a ring of three vertices that turn left are those of the closed triangle.
-use Rattle.std.proofs.Common.{◌≡◌, inl, inr, refl, ◌∙◌, List, [], ◌∷◌, ℤ, pos, ◌+ℤ◌, ◌*ℤ◌, arith}
-use Rattle.std.proofs.lemmas.Int.{ints}
+use Rattle.std.proofs.Common.{inl, inr, [], ◌∷◌, pos}
 use Rattle.plane.specs.Point.{IsPoint, Point, Triple, whole}
 use Rattle.plane.specs.Turn.{IsLeft}
 use Rattle.rings.proofs.InRing.{in_from_odd, not_in_from_even}
 use Rattle.rings.proofs.SignSteps.{weak}
 use Rattle.rings.specs.Edge.{IsOnSome}
 use Rattle.rings.specs.Inside.{IsIn}
-use Rattle.ring_laws.proofs.TrianglePlaces.{IsOnSide, Place, in_triangle_from, inside, on_border, on_first, on_second, on_third, outside, outside_not_in, place_of}
+use Rattle.ring_laws.proofs.TrianglePlaces.{IsOnSide, in_triangle_from, inside, on_border, on_first, on_second, on_third, outside, outside_not_in, place_of}
 use Rattle.ring_laws.proofs.TriangleWinding.{on_sides_in, triangle, winding_inside, winding_outside}
 use Rattle.ring_laws.specs.Triangle.{IsInTriangle}
 

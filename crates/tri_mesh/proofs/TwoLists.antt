@@ -4,7 +4,7 @@ use Rattle.std.proofs.lemmas.Bool.{cases_lt}
 use Rattle.std.proofs.lemmas.List.{get_or-append-add, get_or_append_left, length-append}
 use Rattle.tri_mesh.specs.declared.tri.Tri.{Tri}
 use Rattle.tri_mesh.proofs.JoinedTrees.{Both, IsBridge, joined_tree}
-use Rattle.tri_mesh.proofs.Paths.{IsTreeOn, Renames, tree_renamed}
+use Rattle.tri_mesh.proofs.Paths.{Renames, tree_renamed}
 use Rattle.tri_mesh.proofs.Walks.{IsPlace, Touch, share_back, tree_of_paths, tree_of_walks}
 use Rattle.tri_mesh.specs.Side.{IsTree, ShareSide, tri_at}
 
@@ -33,7 +33,7 @@ parts_back p = record {
   first = p.second;
   second = p.first;
   apart = λ k l h i e. p.apart l k i h (sym e);
-  cases = λ n h. elim (p.cases n h) [ | inl at ↦ inr at | inr at ↦ inl at ];
+  cases = λ n h. elim (p.cases n h) [ inl at ↦ inr at | inr at ↦ inl at ];
 }
 
 -- the number in the whole list of triangle k of the first list, and of the second

@@ -1,8 +1,8 @@
 -- Walks over the triangles of a list, and the paths in the graph of the triangles that share sides.
 use Rattle.std.proofs.Common.{◌≡◌, inl, inr, refl, sym, ap, subst, ◌∙◌, ℕ, zero, suc, ◌+◌, ◌-◌, ◌<◌, List, [], ◌∷◌, length, get_or, arith}
 use Rattle.tri_mesh.specs.declared.tri.Tri.{Tri}
-use Rattle.tri_mesh.proofs.Paths.{IsNew, IsPath, IsTreeOn, OnePath}
-use Rattle.tri_mesh.specs.Side.{HasSideBetween, IsTree, IsWalk, IsWalkBetween, OneWalk, ShareSide, tri_at}
+use Rattle.tri_mesh.proofs.Paths.{IsNew, IsPath, IsTreeOn}
+use Rattle.tri_mesh.specs.Side.{IsTree, IsWalk, IsWalkBetween, ShareSide, tri_at}
 
 -- the number of a triangle of the list
 abbrev pub IsPlace : List Tri → ℕ → Type 0
@@ -49,9 +49,12 @@ module _ (tris : List Tri) where
   -- a walk is a path
   path_of_walk : (a : ℕ) (bs : List ℕ) (c : ℕ) → IsWalk tris (a ∷ bs) → get_or (a ∷ bs) (length bs) 0 ≡ c → IsPath (IsPlace tris) (Touch tris) a bs c
   path_of_walk a [] c w e = e
-  path_of_walk a (b ∷ bs) c w e =
-      (w.in_list 1 (omega arith), w.sharing 0 (omega arith),
-      new_from_places a (b ∷ bs) (λ j h. w.once 0 (suc j) (omega arith) (omega arith)), path_of_walk b bs c (walk_tail a b bs w) e)
+  path_of_walk a (b ∷ bs) c w e = (
+    w.in_list 1 (omega arith),
+    w.sharing 0 (omega arith),
+    new_from_places a (b ∷ bs) (λ j h. w.once 0 (suc j) (omega arith) (omega arith)),
+    path_of_walk b bs c (walk_tail a b bs w) e,
+  )
 
   -- ---- paths are walks
 

@@ -72,7 +72,7 @@ module _ (x : ℕ) (xs : List ℕ) (last i j : ℕ) where
   step_cases a [] (inl s) = inl s
   step_cases a [] (inr s) = inr s
   step_cases a (b ∷ bs) (inl s) = inl (inl s)
-  step_cases a (b ∷ bs) (inr s) = elim (step_cases b bs s) [ | inl t ↦ inl (inr t) | inr t ↦ inr t ]
+  step_cases a (b ∷ bs) (inr s) = elim (step_cases b bs s) [ inl t ↦ inl (inr t) | inr t ↦ inr t ]
 
   -- and the other way round:
   pub step_before : (a : ℕ) (bs : List ℕ) → IsStep a bs x i j → IsStep a (bs ++ x ∷ xs) last i j
@@ -91,13 +91,13 @@ module _ (x : ℕ) (xs : List ℕ) (last i j : ℕ) where
 pub same_or_not : (a b : ℕ) → (a ≡ b) ⊎ (¬ (a ≡ b))
 same_or_not a b = elim (cases_lt a b) [
   | inl h ↦ inr (λ e. omega arith)
-  | inr h ↦ elim (cases_lt b a) [ | inl k ↦ inr (λ e. omega arith) | inr k ↦ inl (omega arith) ]
+  | inr h ↦ elim (cases_lt b a) [ inl k ↦ inr (λ e. omega arith) | inr k ↦ inl (omega arith) ]
 ]
 
 -- two pairs of numbers too
 pub pair_or_not : (a b i j : ℕ) → ((a ≡ i) × (b ≡ j)) ⊎ (¬ ((a ≡ i) × (b ≡ j)))
 pair_or_not a b i j = elim (same_or_not a i) [
-  | inl e ↦ elim (same_or_not b j) [ | inl f ↦ inl (e, f) | inr n ↦ inr (λ h. n h.1) ]
+  | inl e ↦ elim (same_or_not b j) [ inl f ↦ inl (e, f) | inr n ↦ inr (λ h. n h.1) ]
   | inr n ↦ inr (λ h. n h.0)
 ]
 
