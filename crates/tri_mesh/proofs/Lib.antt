@@ -1,0 +1,16 @@
+pub mod BaseTriangle
+pub mod Cuts
+pub mod Diagonals
+pub mod Ears
+pub mod Halves
+pub mod Joined
+pub mod JoinedSides
+pub mod JoinedTrees
+pub mod OffDiagonal
+pub mod Paths
+pub mod PieceSteps
+pub mod PieceVertices
+pub mod Rotated
+pub mod TriangleRing
+pub mod TwoLists
+pub mod Walks
