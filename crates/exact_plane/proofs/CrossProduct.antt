@@ -38,8 +38,15 @@ module _ (a b c d : ℤ)
   pub difference_read : read (read (read a *ℤ read b) -ℤ read (read c *ℤ read d)) ≡ a *ℤ b -ℤ c *ℤ d
   difference_read = to_z-of_z w64 _ difference_fits ∙ (λ i. product_read a b small_a small_b i -ℤ product_read c d small_c small_d i)
 
+  -- below a bound
+  pub difference_small : unsigned_abs (read (read (read a *ℤ read b) -ℤ read (read c *ℤ read d))) < 2 ^ 49
+  difference_small =
+      let left = product_size a b small_a small_b in
+      let right = product_size c d small_c small_d in
+      rw difference_read (omega (arith, ints))
+
 -- all that the product of two vectors needs
-pub ruleset cross_product = (product_fits, difference_fits, difference_read)
+pub ruleset cross_product = (product_fits, difference_fits, difference_read, difference_small)
 
 -- the cross product of the ways from a point to two others is the determinant of the three
 pub ruleset cross_is_determinant = (determinant_of_whole, to_z-of_z)

@@ -14,3 +14,9 @@ direction_of (negsuc n) = Right
 -- the turn on the way from a over b to c
 abbrev pub turn_of : Triple → Triple → Triple → Direction
 turn_of a b c = direction_of (determinant a b c)
+
+-- the other way round
+abbrev pub opposite : Direction → Direction
+opposite Left = Right
+opposite Straight = Straight
+opposite Right = Left

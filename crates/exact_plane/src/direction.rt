@@ -1,5 +1,5 @@
-ghost use Rattle.std.specs.Prelude.{◌≡◌, ◌+◌};
-ghost use Rattle.exact_plane.specs.Direction.{direction_of, turn_of};
+ghost use Rattle.std.specs.Prelude.{◌≡◌, ◌+◌, ◌↔◌, IsTrue};
+ghost use Rattle.exact_plane.specs.Direction.{direction_of, opposite, turn_of};
 ghost use Rattle.plane.specs.Point.{whole};
 
 use crate::pt::Pt;
@@ -18,13 +18,24 @@ pub enum Direction {
 
 impl Direction {
     // The way in which a cross product of this sign turns.
-    fn of_sign(cross_product: i64) -> Direction
+    pub(crate) fn of_sign(cross_product: i128) -> Direction
         ensures { result ≡ direction_of cross_product }
     {
         match cross_product.cmp(&0) {
             Ordering::Greater => Direction::Left,
             Ordering::Equal => Direction::Straight,
             Ordering::Less => Direction::Right,
+        }
+    }
+
+    // The way that turns against this one.
+    pub(crate) fn opposite(self) -> Direction
+        ensures { result ≡ opposite self }
+    {
+        match self {
+            Direction::Left => Direction::Right,
+            Direction::Straight => Direction::Straight,
+            Direction::Right => Direction::Left,
         }
     }
 }
@@ -36,5 +47,13 @@ pub fn turn<L: Ledger>(a: &Pt, b: &Pt, c: &Pt, steps: &mut Steps<L>) -> Directio
     ensures steps { steps.new ≡ steps.old + 1 }
 {
     steps.tick();
-    Direction::of_sign(a.to(b).cross(a.to(c)))
+    Direction::of_sign(a.to(b).cross(a.to(c)) as i128)
+}
+
+// Whether the turn from `a` over `b` to `c` is this one. It takes one step.
+pub(crate) fn turns<L: Ledger>(way: Direction, a: &Pt, b: &Pt, c: &Pt, steps: &mut Steps<L>) -> bool
+    ensures turns { IsTrue result ↔ (turn_of (whole a.now) (whole b.now) (whole c.now) ≡ way) }
+    ensures steps { steps.new ≡ steps.old + 1 }
+{
+    turn(a, b, c, steps) == way
 }

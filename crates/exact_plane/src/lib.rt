@@ -2,7 +2,9 @@
 //! coordinate leaves this crate but by `Pt::parts`.
 #![tactic(auto)]
 
+mod cone;
 mod direction;
+mod hom;
 mod memory;
 mod pt;
 mod segments;
@@ -10,8 +12,11 @@ mod steps;
 #[cfg(test)]
 mod tests;
 mod vector;
+mod wide;
 
+pub use cone::in_cone;
 pub use direction::{Direction, turn};
+pub use hom::{Hom, order_hom, turn_hom};
 pub use memory::Memory;
 pub use pt::{COORDINATE_LIMIT, Pt, order};
 pub use segments::{meet_only_at, on_segment, segments_meet};

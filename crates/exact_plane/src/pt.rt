@@ -1,4 +1,4 @@
-ghost use Rattle.std.specs.Prelude.{◌≡◌, ◌+◌, ◌-ℤ◌, ◌↔◌, IsNone, IsSome, IsTrue, IfSome};
+ghost use Rattle.std.specs.Prelude.{◌≡◌, ◌+◌, ◌<◌, ◌^◌, ◌-ℤ◌, ◌↔◌, IsNone, IsSome, IsTrue, IfSome, unsigned_abs};
 ghost use Rattle.plane.specs.Box.{BoxesMeet, IntervalsMeet};
 ghost use Rattle.plane.specs.Order.{IsBefore};
 ghost use Rattle.plane.specs.Point.{IsInBounds, IsInLimit};
@@ -59,6 +59,16 @@ impl Pt {
 }
 
 impl Pt {
+    // The coordinates x and y, within this crate.
+    pub(crate) fn coordinates(&self) -> (i128, i128)
+        ensures x { result.0 ≡ self.now.x }
+        ensures y { result.1 ≡ self.now.y }
+        ensures x_is_small { unsigned_abs self.now.x < 2 ^ 23 }
+        ensures y_is_small { unsigned_abs self.now.y < 2 ^ 23 }
+    {
+        (self.x as i128, self.y as i128)
+    }
+
     // The way to another point.
     pub(crate) fn to(&self, other: &Pt) -> Vector
         ensures x { result.x ≡ other.now.x -ℤ self.now.x }

@@ -6,7 +6,7 @@ ghost use Rattle.plane.specs.Order.{IsBetween, IsOutside};
 ghost use Rattle.plane.specs.Point.{whole};
 ghost use Rattle.plane.specs.Segment.{Meet, MeetElsewhere, MeetOnlyAt, On};
 
-use crate::direction::{Direction, turn};
+use crate::direction::{Direction, turn, turns};
 use crate::pt::{Pt, order};
 use crate::steps::Steps;
 use std::cmp::Ordering;
@@ -45,14 +45,6 @@ pub fn meet_only_at<L: Ledger>(a: &Pt, b: &Pt, c: &Pt, steps: &mut Steps<L>) -> 
     ensures steps_most { steps.new ≤ steps.old + 8 }
 {
     !turns(Direction::Straight, a, b, c, steps) || is_between(a, b, c, steps)
-}
-
-// Whether the turn from `a` over `b` to `c` is this one. It takes one step.
-fn turns<L: Ledger>(way: Direction, a: &Pt, b: &Pt, c: &Pt, steps: &mut Steps<L>) -> bool
-    ensures turns { IsTrue result ↔ (turn_of (whole a.now) (whole b.now) (whole c.now) ≡ way) }
-    ensures steps { steps.new ≡ steps.old + 1 }
-{
-    turn(a, b, c, steps) == way
 }
 
 // Whether `b` comes between `a` and `c`, or with one of them, in the order of points. It takes two steps. Along a line

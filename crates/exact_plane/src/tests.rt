@@ -1,6 +1,9 @@
 ghost use Rattle.std.specs.Prelude.{◌≡◌, ◌<◌};
 
-use crate::{Direction, Pt, Steps, meet_only_at, on_segment, order, segments_meet, turn};
+use crate::{
+    Direction, Hom, Pt, Steps, in_cone, meet_only_at, on_segment, order, order_hom, segments_meet,
+    turn, turn_hom,
+};
 use std::cmp::Ordering;
 use std::marker::Brand;
 use std::process::Abort;
@@ -49,6 +52,9 @@ fn all_tables<L: Ledger, R: Abort>(rt: &R, blank: Blank)
     points_on_segments(rt, &mut steps);
     common_ends(rt, &mut steps);
     meetings(rt, &mut steps);
+    cones(rt, &mut steps);
+    line_meetings(rt, &mut steps);
+    wide_points(rt, &mut steps);
 }
 
 fn at<R: Abort>(rt: &R, (x, y): At) -> Pt {
@@ -179,4 +185,140 @@ fn meetings<L: Ledger, R: Abort>(rt: &R, steps: &mut Steps<L>) {
             "{name}"
         );
     }
+}
+
+#[rattlefmt::skip]
+const CONES: [(&str, At, At, At, At, bool); 11] = [
+    ("between the rays", (0, 0), (4, 0), (0, 4), (1, 1), true),
+    ("on the first ray", (0, 0), (4, 0), (0, 4), (9, 0), true),
+    ("on the last ray", (0, 0), (4, 0), (0, 4), (0, 1), true),
+    ("at the apex", (0, 0), (4, 0), (0, 4), (0, 0), true),
+    ("before the first ray", (0, 0), (4, 0), (0, 4), (4, -1), false),
+    ("beyond the last ray", (0, 0), (4, 0), (0, 4), (-1, 4), false),
+    ("opposite", (0, 0), (4, 0), (0, 4), (-1, -1), false),
+    ("opposite the first ray", (0, 0), (4, 0), (0, 4), (-4, 0), false),
+    ("between the rays, in the other order", (0, 0), (0, 4), (4, 0), (1, 1), true),
+    ("outside, in the other order", (0, 0), (0, 4), (4, 0), (-1, 1), false),
+    ("in the narrowest", (-A, -A), (A, A), (A, A - 1), (A, A), true),
+];
+
+fn cones<L: Ledger, R: Abort>(rt: &R, steps: &mut Steps<L>) {
+    for (name, v, a, c, u, want) in CONES {
+        let (v, a, c, u) = (at(rt, v), at(rt, a), at(rt, c), at(rt, u));
+        if turn(&a, &v, &c, steps) != Direction::Straight {
+            assert_eq!(rt; in_cone(&v, &a, &c, &u, steps), want, "{name}");
+        }
+    }
+}
+
+// Where two lines meet, by three whole numbers.
+#[rattlefmt::skip]
+const LINE_MEETINGS: [(&str, At, At, At, At, Option<Parts>); 7] = [
+    ("the longest diagonals", (-A, -A), (A, A), (-A, A), (A, -A), Some((0, 0, 1))),
+    ("the narrowest angle", (-A, -A), (A, A), (-A, 1 - A), (A, A), Some((1_000_000, 1_000_000, 1))),
+    ("parallel", (-A, -A), (A, A), (-A, 1 - A), (A - 1, A), None),
+    ("one line", (0, 0), (1, 2), (2, 4), (3, 6), None),
+    ("one point for a line", (0, 0), (0, 0), (1, 0), (2, 5), None),
+    ("beyond both ways", (0, 0), (1, 0), (0, 3), (1, 2), Some((3, 0, 1))),
+    ("between whole points", (0, 0), (3, 0), (0, 1), (7, -2), Some((7, 0, 3))),
+];
+
+fn line_meetings<L: Ledger, R: Abort>(rt: &R, steps: &mut Steps<L>) {
+    for (name, a, b, c, d, want) in LINE_MEETINGS {
+        let (a, b, c, d) = (at(rt, a), at(rt, b), at(rt, c), at(rt, d));
+        let met = Hom::meet(&a, &b, &c, &d, steps);
+        assert_eq!(rt; met.is_some(), want.is_some(), "{name}");
+        if let (Some(point), Some(parts)) = (met, want) {
+            let wanted = rational(rt, parts);
+            assert_eq!(rt;
+                order_hom(&point, &wanted, steps),
+                Ordering::Equal,
+                "{name}"
+            );
+            assert_eq!(rt;
+                turn_hom(&a, &b, &point, steps),
+                Direction::Straight,
+                "{name}"
+            );
+            assert_eq!(rt;
+                turn_hom(&c, &d, &point, steps),
+                Direction::Straight,
+                "{name}"
+            );
+        }
+    }
+}
+
+// Parts as large as they may be, also those of meetings of lines whose coordinates are up to B in size.
+const B: i128 = 8_388_607;
+
+const XY: i128 = (1 << 75) - 1;
+
+const W: i128 = (1 << 50) - 1;
+
+type Parts = (i128, i128, i128);
+
+fn rational<R: Abort>(rt: &R, (x, y, w): Parts) -> Hom {
+    Hom::of_parts(x, y, w).expect(rt, "a rational point")
+}
+
+#[rattlefmt::skip]
+const WIDE_ORDERS: [(&str, Parts, Parts, Ordering); 7] = [
+    ("the longest diagonals meet at the origin", (0, 0, 8 * B * B), (0, 0, 1), Ordering::Equal),
+    ("the narrowest angle is at its corner", (2 * B * B, 2 * B * B, 2 * B), (B, B, 1), Ordering::Equal),
+    ("one less across", (2 * B * B - 1, 2 * B * B, 2 * B), (B, B, 1), Ordering::Less),
+    ("one more upward", (2 * B * B, 2 * B * B + 1, 2 * B), (B, B, 1), Ordering::Greater),
+    ("the greatest parts", (XY, -XY, W), (XY, -XY, W), Ordering::Equal),
+    ("the greatest parts, by one in the weight", (XY, 0, W), (XY, 0, W - 1), Ordering::Less),
+    ("the smallest parts, by one in the weight", (-XY, 0, W), (-XY, 0, W - 1), Ordering::Greater),
+];
+
+#[rattlefmt::skip]
+const WIDE_TURNS: [(&str, At, At, Parts, Direction); 5] = [
+    ("on the longest line", (-A, -A), (A, A), (2 * B * B, 2 * B * B, 2 * B), Direction::Straight),
+    ("beside it by the least", (-A, -A), (A, A), (XY - 1, XY, W), Direction::Left),
+    ("beside it, on the other side", (-A, -A), (A, A), (XY, XY - 1, W), Direction::Right),
+    ("far off to the left", (A, -A), (A, A), (-XY, XY, 1), Direction::Left),
+    ("no way", (3, 4), (3, 4), (XY, -XY, W), Direction::Straight),
+];
+
+// The mediant, by its parts.
+#[rattlefmt::skip]
+const BETWEEN: [(&str, Parts, Parts, Parts); 3] = [
+    ("of whole points", (0, 0, 1), (3, 5, 1), (3, 5, 2)),
+    ("of the meetings of the widest lines", (0, 0, 8 * B * B), (2 * B * B, 2 * B * B, 2 * B), (2 * B * B, 2 * B * B, 8 * B * B + 2 * B)),
+    ("of a point with itself", (7, 8, 3), (7, 8, 3), (14, 16, 6)),
+];
+
+fn wide_points<L: Ledger, R: Abort>(rt: &R, steps: &mut Steps<L>) {
+    for (name, p, q, want) in WIDE_ORDERS {
+        assert_eq!(rt;
+            order_hom(&rational(rt, p), &rational(rt, q), steps),
+            want,
+            "{name}"
+        );
+    }
+    for (name, a, b, p, want) in WIDE_TURNS {
+        assert_eq!(rt;
+            turn_hom(&at(rt, a), &at(rt, b), &rational(rt, p), steps),
+            want,
+            "{name}"
+        );
+    }
+    for (name, p, q, want) in BETWEEN {
+        mediant(rt, name, p, q, want, steps);
+    }
+}
+
+fn mediant<L: Ledger, R: Abort>(
+    rt: &R,
+    name: &str,
+    p: Parts,
+    q: Parts,
+    want: Parts,
+    steps: &mut Steps<L>,
+) {
+    let p = Hom::of_narrow_parts(p.0, p.1, p.2).expect(rt, "a narrow point");
+    let q = Hom::of_narrow_parts(q.0, q.1, q.2).expect(rt, "a narrow point");
+    assert_eq!(rt; Hom::between(&p, &q, steps).parts(steps), want, "{name}");
 }

@@ -13,7 +13,8 @@ impl Vector {
     // Twice the signed area between the two, positive where `other` is to the left.
     #[tactic(auto, using(crate::proofs::CrossProduct::cross_product))]
     pub fn cross(self, other: Vector) -> i64
-        ensures { result ≡ (self.x *ℤ other.y) -ℤ (self.y *ℤ other.x) }
+        ensures value { result ≡ (self.x *ℤ other.y) -ℤ (self.y *ℤ other.x) }
+        ensures small { unsigned_abs result < 2 ^ 49 }
     {
         self.x * other.y - self.y * other.x
     }

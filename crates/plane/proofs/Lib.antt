@@ -3,6 +3,7 @@ pub mod Crossing
 pub mod Determinants
 pub mod KnownFigures
 pub mod MeetOnlyAt
+pub mod Meeting
 pub mod OnSegment
 pub mod OneLine
 pub mod OneSign
