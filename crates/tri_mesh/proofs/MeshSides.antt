@@ -12,7 +12,7 @@ use Rattle.tri_mesh.specs.Side.{HasSide, tri_at}
 use Rattle.tri_mesh.specs.declared.tri.Tri.{Tri}
 
 -- where three points turn left, no two of them are one
-left_apart : (a b c : Triple) → IsLeft a b c → (a ≢ b) × (b ≢ c) × (c ≢ a)
+pub left_apart : (a b c : Triple) → IsLeft a b c → (a ≢ b) × (b ≢ c) × (c ≢ a)
 left_apart a b c left = (
   λ same. let flat = determinant_same_first b c in let turn = rw same at left in omega (arith, ints),
   λ same. let flat = determinant_same_last a c in let turn = rw same at left in omega (arith, ints),

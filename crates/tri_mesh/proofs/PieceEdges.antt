@@ -7,7 +7,7 @@ use Rattle.tri_mesh.specs.Fits.{IsPieceEdge}
 
 module _ (n i j : ℕ) where
   -- the edge goes to the next vertex, counted round
-  edge_to_next : i < n → (i + 1) % n ≡ j → IsPieceEdge (range_with_len 0 n) i j
+  pub edge_to_next : i < n → (i + 1) % n ≡ j → IsPieceEdge (range_with_len 0 n) i j
   edge_to_next below next =
       let long = length-range_with_len 0 n in
       let in_range : (i + 1) % n < n = omega arith in
@@ -19,7 +19,7 @@ module _ (n i j : ℕ) where
       }
 
   -- and no other does
-  next_of_edge : IsPieceEdge (range_with_len 0 n) i j → (i < n) × ((i + 1) % n ≡ j)
+  pub next_of_edge : IsPieceEdge (range_with_len 0 n) i j → (i < n) × ((i + 1) % n ≡ j)
   next_of_edge edge =
       let long = length-range_with_len 0 n in
       let below : edge.place < n = omega arith in
