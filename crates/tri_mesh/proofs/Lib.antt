@@ -1,8 +1,8 @@
-mod Chains
+pub mod Chains
 mod KnownMeshes
-mod MeshSides
+pub mod MeshSides
 mod NeighbourRows
-mod Neighbours
-mod OneTriangle
-mod PieceEdges
+pub mod Neighbours
+pub mod OneTriangle
+pub mod PieceEdges
 mod SideMaps
