@@ -5,6 +5,8 @@ pub mod BesideDiagonal
 pub mod BesideEdge
 pub mod BeyondLine
 pub mod Corner
+pub mod CornerLaws
+pub mod CornerNumbers
 pub mod CounterclockwiseCuts
 pub mod CutAtVertex
 pub mod CutDiagonal
@@ -21,8 +23,6 @@ pub mod EarSign
 pub mod EarStep
 pub mod EarWinding
 pub mod Ears
-pub mod CornerLaws
-pub mod CornerNumbers
 pub mod EmptyTriangle
 pub mod FarTargets
 pub mod Farthest
