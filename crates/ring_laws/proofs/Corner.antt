@@ -11,13 +11,10 @@ use Rattle.rings.specs.Inside.{winding}
 use Rattle.rings.specs.Orientation.{doubled_area, swept}
 use Rattle.ring_laws.proofs.DistinctPoints.{AreDistinct, HasPoint, distinct_vertices, ends_along, has_point_left, has_point_right, vertices_differ}
 use Rattle.ring_laws.proofs.Members.{has_edge_swapped}
-use Rattle.ring_laws.proofs.Pieces.{apart_among, apart_more}
 use Rattle.ring_laws.proofs.Rotated.{closed_swapped, edges_along_append, on_some_swapped, swept_swapped, winding_swapped}
 use Rattle.ring_laws.specs.Apart.{HasEdge, HasEnd, IsApartRing, MeetAtEnds, edge}
-
--- the edges of a triangle
-abbrev pub triangle : Point → Point → Point → List Edge
-triangle u v w = edge u v ∷ edge v w ∷ edge w u ∷ []
+use Rattle.ring_laws.proofs.CommonEnds.{apart_among, apart_more}
+use Rattle.ring_laws.proofs.TriangleWinding.{triangle}
 
 -- twice the area of a triangle is a determinant
 pub swept_triangle : (u v w : Point) → swept (triangle u v w) ≡ determinant (whole u) (whole v) (whole w)

@@ -4,6 +4,7 @@ pub mod BesideChains
 pub mod BesideDiagonal
 pub mod BesideEdge
 pub mod BeyondLine
+pub mod CommonEnds
 pub mod Corner
 pub mod CounterclockwiseCuts
 pub mod CutAtVertex
@@ -57,3 +58,4 @@ pub mod Triangles
 pub mod TwoChains
 pub mod TwoPieces
 pub mod UnwoundChains
+pub mod UpToOne

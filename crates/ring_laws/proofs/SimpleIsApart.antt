@@ -14,6 +14,7 @@ use Rattle.rings.specs.Ring.{IsOnEdge, vertex}
 use Rattle.rings.specs.Simple.{IsSimple}
 use Rattle.ring_laws.proofs.Members.{edge_number, has_edge_at}
 use Rattle.ring_laws.specs.Apart.{HasEdge, HasEnd, IsApartRing, IsCommonEnd, MeetAtEnds}
+use Rattle.ring_laws.proofs.CommonEnds.{meet_swapped}
 
 -- ---- decisions
 
@@ -40,14 +41,6 @@ same_or_not p q =
     ]
 
 -- ---- the order of two edges
-
--- a common end of two edges is one in the other order
-pub common_end_swapped : (e f : Edge) (x : Triple) → IsCommonEnd e f x → IsCommonEnd f e x
-common_end_swapped e f x h = record { end = h.end; of_first = h.of_second; of_second = h.of_first; same = h.same }
-
--- so edges that meet at ends do in the other order
-pub meet_swapped : (e f : Edge) → MeetAtEnds e f → MeetAtEnds f e
-meet_swapped e f meet x at on_f on_e = common_end_swapped e f x (meet x at on_e on_f)
 
 -- ---- from simple to apart
 
