@@ -50,13 +50,9 @@ pieces_winding v z ms ns p =
 
 -- ---- beside the diagonal
 
--- what misses two lists misses the first,
+-- what misses two lists misses the first
 pub misses_first : (p q : Triple) (es fs : List Edge) → Misses p q (es ++ fs) → Misses p q es
 misses_first p q es fs h x at_x on k = h x at_x on (on_some_left x es fs k)
-
--- and the second
-pub misses_second : (p q : Triple) (es fs : List Edge) → Misses p q (es ++ fs) → Misses p q fs
-misses_second p q es fs h x at_x on k = h x at_x on (on_some_right x es fs k)
 
 -- the order of two lists is free
 misses_exchanged : (p q : Triple) (es fs : List Edge) → Misses p q (es ++ fs) → Misses p q (fs ++ es)

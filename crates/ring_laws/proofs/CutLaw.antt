@@ -105,13 +105,7 @@ module _ (v : Point) (ps : List Point) (z : Point) (qs : List Point) (apart : Is
 
     -- ---- in both pieces
 
-    -- a point of the diagonal is on the first piece,
-    diagonal_on_first : On x (whole v) (whole z) → IsOnSome (edges_of (v ∷ (ps ++ z ∷ []))) x
-    diagonal_on_first on =
-        subst (λ es. IsOnSome es x) (sym (edges_of_first v ps z qs))
-        (on_some_right x (edges_along v ps z) (edge z v ∷ []) (inl (on_reversed x (whole v) (whole z) on)))
-
-    -- whose other points are on the way there
+    -- a point of the first piece is on the way there or on the diagonal
     first_cases : IsOnSome (edges_of (v ∷ (ps ++ z ∷ []))) x → IsOnSome (edges_along v ps z) x ⊎ On x (whole v) (whole z)
     first_cases on = elim (on_some_cases x (edges_along v ps z) (edge z v ∷ []) (subst (λ es. IsOnSome es x) (edges_of_first v ps z qs) on)) [
       | inl k ↦ inl k

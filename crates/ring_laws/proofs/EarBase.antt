@@ -20,21 +20,9 @@ use Rattle.ring_laws.specs.Apart.{edge}
 -- ---- the corners of a triangle
 
 module _ (u v w : Point) (left : IsLeft (whole u) (whole v) (whole w)) where
-  -- the tip is right of the base,
+  -- the tip is right of the base
   pub tip_is_right : IsRight (whole u) (whole w) (whole v)
   tip_is_right = turned_negative (determinant_swap_last (whole u) (whole v) (whole w)) left
-
-  -- other than its first end,
-  tip_not_first : ¬ (v ≡ u)
-  tip_not_first e =
-      not_both (subst (λ (c : Point). IsRight (whole u) (whole w) (whole c)) e tip_is_right)
-      (zero_not_negative (determinant_same_ends (whole u) (whole w)))
-
-  -- and other than its last
-  tip_not_last : ¬ (v ≡ w)
-  tip_not_last e =
-      not_both (subst (λ (c : Point). IsRight (whole u) (whole w) (whole c)) e tip_is_right)
-      (zero_not_negative (determinant_same_last (whole u) (whole w)))
 
   -- the ends of the base differ
   pub base_differs : ¬ (u ≡ w)

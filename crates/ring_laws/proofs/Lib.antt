@@ -30,7 +30,6 @@ pub mod Farthest
 pub mod FarthestCut
 pub mod FarthestEnd
 pub mod FarthestVertex
-pub mod Heights
 pub mod InsideEdge
 pub mod LeastTurn
 pub mod LeastVertex

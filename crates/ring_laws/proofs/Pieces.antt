@@ -47,7 +47,7 @@ module _ (v : Point) (ps : List Point) (z : Point) (qs : List Point) where
         | inr k ↦ inr (on_some_of x e (edges_of (v ∷ z ∷ qs)) k on)
       ]
 
-  -- each edge of the first piece is one of the ring or the diagonal,
+  -- each edge of the first piece is one of the ring or the diagonal
   pub has_edge_of_first : (e : Edge) → HasEdge (edges_of (v ∷ (ps ++ z ∷ []))) e
       → HasEdge (edges_of (v ∷ (ps ++ z ∷ qs))) e ⊎ (record { from = z; to = v } ≡ e)
   has_edge_of_first e h =
@@ -55,13 +55,6 @@ module _ (v : Point) (ps : List Point) (z : Point) (qs : List Point) where
         | inl k ↦ inl (subst (λ es. HasEdge es e) (sym edges_of_cut) (has_edge_left e (edges_along v ps z) (edges_along z qs v) k))
         | inr k ↦ elim k [ inl is ↦ inr is | inr none ↦ absurd none ]
       ]
-
-  -- and so is each of the second
-  pub has_edge_of_second : (e : Edge) → HasEdge (edges_of (v ∷ z ∷ qs)) e
-      → HasEdge (edges_of (v ∷ (ps ++ z ∷ qs))) e ⊎ (record { from = v; to = z } ≡ e)
-  has_edge_of_second e (inl is) = inr is
-  has_edge_of_second e (inr k) =
-      inl (subst (λ es. HasEdge es e) (sym edges_of_cut) (has_edge_right e (edges_along v ps z) (edges_along z qs v) k))
 
   -- winding numbers add up
   pub winding_cut : (x : Triple) → winding (edges_of (v ∷ (ps ++ z ∷ qs))) x
