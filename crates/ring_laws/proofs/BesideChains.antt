@@ -8,6 +8,7 @@ use Rattle.plane.specs.Segment.{On}
 use Rattle.plane.specs.Turn.{IsLeft, IsRight}
 use Rattle.rings.proofs.ClosedLaw.{winding_law}
 use Rattle.rings.proofs.Crossings.{crossing_reversed}
+use Rattle.rings.proofs.EdgeLaw.{left_swapped, right_swapped}
 use Rattle.rings.proofs.Edges.{closed_edges_of, growth-append, growth-edges_along, on_some_cases, on_some_left, on_some_right, winding-append}
 use Rattle.rings.proofs.Nearness.{misses_eventually, toward, toward_is_point, toward_on}
 use Rattle.rings.specs.Across.{Misses}
@@ -15,11 +16,10 @@ use Rattle.rings.specs.Edge.{Edge, IsClosed, IsOnSome, edges_along, edges_of}
 use Rattle.rings.specs.Inside.{crossing, winding}
 use Rattle.ring_laws.proofs.AcrossEdge.{across_edge}
 use Rattle.ring_laws.proofs.NearPairs.{left_toward, right_toward}
-use Rattle.ring_laws.proofs.TwoChains.{ArePieces, IsNeither, chain_on_diagonal, neither_swapped, swapped}
 use Rattle.ring_laws.proofs.Sides.{left_not_on, right_not_on, within_from}
+use Rattle.ring_laws.proofs.TwoChains.{ArePieces, IsNeither, chain_on_diagonal, neither_swapped, swapped}
 use Rattle.ring_laws.proofs.UpToOne.{greater_is_one, one_and_none, smaller_is_zero}
 use Rattle.ring_laws.specs.Apart.{edge}
-use Rattle.rings.proofs.EdgeLaw.{left_swapped, right_swapped}
 
 -- ---- sums
 

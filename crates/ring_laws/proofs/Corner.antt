@@ -4,16 +4,16 @@ use Rattle.std.proofs.lemmas.Int.{ints}
 use Rattle.integer_algebra.proofs.Polynomial.{var, lit, ◌⊕◌, ◌⊖◌, ◌⊗◌, same_value}
 use Rattle.plane.specs.Point.{Point, Triple, whole}
 use Rattle.plane.specs.Turn.{determinant}
-use Rattle.rings.specs.Edge.{Edge, IsClosed, IsOnSome, edges_along, edges_of}
 use Rattle.rings.proofs.Edges.{closed_edges_of}
+use Rattle.rings.specs.Edge.{Edge, IsClosed, IsOnSome, edges_along, edges_of}
 use Rattle.rings.specs.Inside.{winding}
 use Rattle.rings.specs.Orientation.{doubled_area, swept}
+use Rattle.ring_laws.proofs.CommonEnds.{apart_among, apart_more}
 use Rattle.ring_laws.proofs.DistinctPoints.{AreDistinct, HasPoint, distinct_vertices, ends_along, has_point_left, has_point_right, vertices_differ}
 use Rattle.ring_laws.proofs.Members.{has_edge_swapped}
 use Rattle.ring_laws.proofs.Rotated.{closed_swapped, edges_along_append, on_some_swapped, swept_swapped, winding_swapped}
-use Rattle.ring_laws.specs.Apart.{HasEdge, HasEnd, IsApartRing, MeetAtEnds, edge}
-use Rattle.ring_laws.proofs.CommonEnds.{apart_among, apart_more}
 use Rattle.ring_laws.proofs.TriangleWinding.{triangle}
+use Rattle.ring_laws.specs.Apart.{HasEdge, HasEnd, IsApartRing, MeetAtEnds, edge}
 
 -- twice the area of a triangle is a determinant
 pub swept_triangle : (u v w : Point) → swept (triangle u v w) ≡ determinant (whole u) (whole v) (whole w)

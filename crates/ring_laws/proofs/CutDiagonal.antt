@@ -8,6 +8,7 @@ use Rattle.rings.proofs.InRing.{in_from_odd}
 use Rattle.rings.proofs.Parity.{winding_odd}
 use Rattle.rings.specs.Edge.{Edge, IsOnSome, edges_along, edges_of}
 use Rattle.rings.specs.Inside.{IsIn, winding}
+use Rattle.ring_laws.proofs.CommonEnds.{end_of_second}
 use Rattle.ring_laws.proofs.DistinctPoints.{has_point_right}
 use Rattle.ring_laws.proofs.Members.{edge_with, has_edge_right, on_some_of}
 use Rattle.ring_laws.proofs.Middle.{middle, middle_first, middle_is_point, middle_last, middle_on}
@@ -15,7 +16,6 @@ use Rattle.ring_laws.proofs.Pieces.{distinct_cut, edges_of_first}
 use Rattle.ring_laws.proofs.UpToOne.{IsUnit, odd_unit}
 use Rattle.ring_laws.specs.Apart.{HasEdge, IsApartRing, IsOn, MeetAtEnds, edge}
 use Rattle.ring_laws.specs.Winding.{WindsUpTo}
-use Rattle.ring_laws.proofs.CommonEnds.{end_of_second}
 
 -- ---- in a ring that winds up to once
 

@@ -6,12 +6,12 @@ use Rattle.plane.specs.Turn.{IsLeft, IsRight}
 use Rattle.rings.specs.Edge.{Edge, IsOnSome, edges_along, edges_of}
 use Rattle.rings.specs.Inside.{winding}
 use Rattle.ring_laws.proofs.DistinctPoints.{HasPoint, has_point_left, has_point_right}
-use Rattle.ring_laws.proofs.TwoChains.{ArePieces}
-use Rattle.ring_laws.proofs.TwoPieces.{two_pieces_values}
 use Rattle.ring_laws.proofs.Members.{edge_with}
 use Rattle.ring_laws.proofs.Pieces.{area_cut, distinct_cut, edges_of_cut, edges_of_first}
 use Rattle.ring_laws.proofs.PiecesMeet.{has_edge_back, has_edge_there, meet_at_cut, off_first_piece, off_second_piece}
 use Rattle.ring_laws.proofs.Rotated.{on_some_swapped, winding_swapped}
+use Rattle.ring_laws.proofs.TwoChains.{ArePieces}
+use Rattle.ring_laws.proofs.TwoPieces.{two_pieces_values}
 use Rattle.ring_laws.specs.Apart.{HasEdge, IsApartRing, MeetAtEnds, edge}
 use Rattle.ring_laws.specs.Winding.{RunsCounterclockwise, WindsUpTo}
 

@@ -12,10 +12,10 @@ use Rattle.rings.proofs.FarAway.{AllEnds, all_ends_map}
 use Rattle.rings.proofs.SignSteps.{not_both, turned_negative, zero_not_negative}
 use Rattle.rings.specs.Edge.{Edge, IsClosed, IsOnSome}
 use Rattle.rings.specs.Inside.{winding}
-use Rattle.ring_laws.specs.Triangle.{IsInTriangle}
 use Rattle.ring_laws.proofs.Sides.{same_straight, stays_right}
 use Rattle.ring_laws.proofs.Triangles.{between_in_triangle, middle_in_triangle}
 use Rattle.ring_laws.specs.Apart.{edge}
+use Rattle.ring_laws.specs.Triangle.{IsInTriangle}
 
 -- ---- the corners of a triangle
 

@@ -1,21 +1,20 @@
 -- A ring with an ear at its least vertex runs counterclockwise, where the ring without the ear runs round once.
-use Rattle.std.proofs.Common.{◌≡◌, ◌⊎◌, inl, inr, refl, sym, subst, arith}
-use Rattle.std.proofs.Common.{ℤ, pos, negsuc, ◌≤ℤ◌, List, [], ◌∷◌, ◌++◌}
+use Rattle.std.proofs.Common.{ℤ, pos, negsuc, ◌≤ℤ◌, List, [], ◌∷◌, ◌++◌, ◌≡◌, ◌⊎◌, inl, inr, refl, sym, subst, arith}
 use Rattle.std.proofs.lemmas.Int.{ints}
 use Rattle.plane.proofs.Order.{x_at_most}
 use Rattle.plane.specs.Point.{IsPoint, Point, Triple, whole}
 use Rattle.plane.specs.Turn.{IsLeft}
 use Rattle.rings.proofs.FarAway.{AllEnds}
 use Rattle.rings.specs.Edge.{Edge, edges_along, edges_of}
+use Rattle.ring_laws.proofs.CommonEnds.{end_of_second}
 use Rattle.ring_laws.proofs.Corner.{apart_rest, area_ear, closed_rest, edges_at_corner, has_edge_of_corner, no_edge_across, not_at_corner, on_some_corner, on_some_rest, winding_corner, winding_rest}
-use Rattle.ring_laws.proofs.DistinctPoints.{HasPoint, end_of_ring, ends_along, has_point_cases, has_point_left}
 use Rattle.ring_laws.proofs.CornerLaws.{IsCorner, corner_base_meets, corner_not_entered}
+use Rattle.ring_laws.proofs.DistinctPoints.{HasPoint, end_of_ring, ends_along, has_point_cases, has_point_left}
 use Rattle.ring_laws.proofs.Ears.{ear_sign, ring_with_ear}
 use Rattle.ring_laws.proofs.LeastVertex.{NoneBefore}
 use Rattle.ring_laws.specs.Apart.{HasEdge, HasEnd, IsApartRing, IsCommonEnd, IsOn, MeetAtEnds, edge}
 use Rattle.ring_laws.specs.Triangle.{IsInTriangle}
 use Rattle.ring_laws.specs.Winding.{RunsClockwise, RunsCounterclockwise, WindsUpTo}
-use Rattle.ring_laws.proofs.CommonEnds.{end_of_second}
 
 -- what holds of both ends of each edge holds of all ends
 all_ends_from : (P : Point → Type 0) (es : List Edge) → ((e : Edge) → HasEdge es e → P e.from × P e.to) → AllEnds P es

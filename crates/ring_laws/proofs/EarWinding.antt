@@ -14,7 +14,6 @@ use Rattle.rings.proofs.Nearness.{misses_eventually, toward, toward_is_point, to
 use Rattle.rings.proofs.SignSteps.{not_both, turned_negative, weak, zero_not_negative}
 use Rattle.rings.specs.Edge.{Edge, IsClosed, IsOnSome, growth}
 use Rattle.rings.specs.Inside.{crossing, winding}
-use Rattle.ring_laws.specs.Triangle.{IsInTriangle}
 use Rattle.ring_laws.proofs.EarBase.{tip_is_right, winding_below}
 use Rattle.ring_laws.proofs.EarSign.{sign_is_one}
 use Rattle.ring_laws.proofs.NearPairs.{right_toward}
@@ -23,6 +22,7 @@ use Rattle.ring_laws.proofs.TriangleWinding.{on_sides_in, triangle, winding_insi
 use Rattle.ring_laws.proofs.Triangles.{between_in_triangle, in_triangle, middle_in_triangle}
 use Rattle.ring_laws.proofs.UpToOne.{none_and, one_and_none}
 use Rattle.ring_laws.specs.Apart.{edge}
+use Rattle.ring_laws.specs.Triangle.{IsInTriangle}
 
 -- ---- sums
 

@@ -13,11 +13,11 @@ use Rattle.plane.specs.Point.{IsPoint, IsSame, Point, Triple, whole}
 use Rattle.plane.specs.Segment.{On}
 use Rattle.plane.specs.Turn.{determinant}
 use Rattle.rings.proofs.Combinations.{first_end_by}
+use Rattle.rings.proofs.ExtremePoints.{below_abs}
 use Rattle.rings.proofs.FarAway.{AllEnds, none_crossed_above}
 use Rattle.rings.specs.Edge.{Edge}
 use Rattle.rings.specs.Inside.{winding}
 use Rattle.ring_laws.proofs.Sides.{on_or_not}
-use Rattle.rings.proofs.ExtremePoints.{below_abs}
 
 -- ---- heights
 

@@ -11,11 +11,11 @@ use Rattle.rings.proofs.Combinations.{on_nested}
 use Rattle.rings.proofs.Nearness.{shrink, toward, toward_differs, toward_is_point, toward_on}
 use Rattle.rings.specs.Across.{Misses}
 use Rattle.rings.specs.Edge.{Edge, IsOnSome, edges_along, edges_of}
+use Rattle.ring_laws.proofs.CommonEnds.{end_of_first}
 use Rattle.ring_laws.proofs.DistinctPoints.{AreDistinct, HasPoint, distinct_between, distinct_right, distinct_vertices}
 use Rattle.ring_laws.proofs.Members.{edge_with, has_edge_cases, has_edge_left, has_edge_right}
 use Rattle.ring_laws.proofs.SimpleIsApart.{same_or_not}
 use Rattle.ring_laws.specs.Apart.{HasEdge, IsApartRing, IsOn}
-use Rattle.ring_laws.proofs.CommonEnds.{end_of_first}
 
 -- ---- each edge stands once in a ring
 

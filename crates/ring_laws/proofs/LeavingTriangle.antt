@@ -9,10 +9,10 @@ use Rattle.plane.specs.Point.{IsPoint, Point, Triple, whole}
 use Rattle.plane.specs.Segment.{On}
 use Rattle.plane.specs.Turn.{IsRight, IsStraight, determinant}
 use Rattle.rings.proofs.Combinations.{on_nested}
+use Rattle.rings.proofs.FirstMeeting.{no_value, weighed_sum, zero_point}
 use Rattle.rings.proofs.SignSteps.{not_both, one_positive, opposite_positive, weak, zero_not_negative}
 use Rattle.ring_laws.proofs.Triangles.{in_triangle, not_right_between}
 use Rattle.ring_laws.specs.Triangle.{IsInTriangle, height_over}
-use Rattle.rings.proofs.FirstMeeting.{no_value, weighed_sum, zero_point}
 
 -- ---- numbers
 

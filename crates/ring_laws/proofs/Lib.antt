@@ -45,6 +45,7 @@ pub mod Pieces
 pub mod PiecesMeet
 pub mod PiecesWind
 pub mod PointLists
+pub mod ReadFrom
 pub mod Rotated
 pub mod RunsOnce
 pub mod Sides

@@ -13,11 +13,11 @@ use Rattle.plane.specs.Segment.{On}
 use Rattle.plane.specs.Turn.{IsLeft, determinant}
 use Rattle.rings.proofs.SignSteps.{mean_negative, mean_not_positive, not_both, not_both_positive, weak, zero_not_positive}
 use Rattle.rings.specs.Edge.{Edge}
+use Rattle.ring_laws.proofs.BeyondLine.{negative_at_most}
 use Rattle.ring_laws.proofs.SidesAtVertex.{at_first, at_last, at_middle, meets_first, meets_second, way_out}
 use Rattle.ring_laws.proofs.Triangles.{height_of_first, height_of_last, in_or_not, not_negative, on_first_side, on_second_side}
 use Rattle.ring_laws.specs.Apart.{AreApart, HasEdge, HasEnd, IsCommonEnd, IsOn}
 use Rattle.ring_laws.specs.Triangle.{IsInTriangle, height_over}
-use Rattle.ring_laws.proofs.BeyondLine.{negative_at_most}
 
 -- ---- numbers
 

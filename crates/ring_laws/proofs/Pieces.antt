@@ -9,11 +9,11 @@ use Rattle.rings.proofs.TurnedArea.{swept-append}
 use Rattle.rings.specs.Edge.{Edge, IsOnSome, edges_along, edges_of}
 use Rattle.rings.specs.Inside.{winding}
 use Rattle.rings.specs.Orientation.{doubled_area, swept}
+use Rattle.ring_laws.proofs.CommonEnds.{apart_among, apart_more, meet_reversed}
 use Rattle.ring_laws.proofs.DistinctPoints.{AreDistinct, distinct_left, distinct_right, distinct_vertices, has_point_right, vertices_differ}
 use Rattle.ring_laws.proofs.Members.{edge_with, has_edge_cases, has_edge_left, has_edge_right, has_edge_swapped, on_some_of}
 use Rattle.ring_laws.proofs.Rotated.{edges_along_append}
 use Rattle.ring_laws.specs.Apart.{HasEdge, IsApartRing, MeetAtEnds}
-use Rattle.ring_laws.proofs.CommonEnds.{apart_among, apart_more, meet_reversed}
 
 -- ---- edges that are apart
 

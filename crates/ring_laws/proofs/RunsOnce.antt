@@ -1,6 +1,6 @@
 -- Rings that run round once, counterclockwise or clockwise, by the turn at a least vertex.
-use Rattle.std.proofs.Common.{◌≡◌, ◌⊎◌, inl, inr, sym, subst, ap, ◌∙◌, ℕ, ◌+◌, ◌<◌, arith}
 use Rattle.std.proofs.Common.{pos, negsuc, ◌<ℤ◌, List, [], ◌∷◌, ◌++◌, length, take, drop, reverse}
+use Rattle.std.proofs.Common.{◌≡◌, ◌⊎◌, inl, inr, sym, subst, ap, ◌∙◌, ℕ, ◌+◌, ◌<◌, arith}
 use Rattle.std.proofs.lemmas.Int.{ints}
 use Rattle.std.proofs.lemmas.List.{length-append, length-reverse, length-take-le, take-append-drop}
 use Rattle.integer_algebra.proofs.Signs.{sign, is_negative, is_zero, is_positive}

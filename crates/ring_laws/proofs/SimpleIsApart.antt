@@ -1,6 +1,5 @@
 -- A simple ring is one with different vertices whose edges share no more than their ends.
-use Rattle.std.proofs.Common.{◌≡◌, ◌⊎◌, inl, inr, refl, sym, subst, ap, ◌∙◌, ℕ, ◌+◌, ◌<◌, ℤ, ◌-ℤ◌, ◌*ℤ◌, arith}
-use Rattle.std.proofs.Common.{List, length}
+use Rattle.std.proofs.Common.{List, length, ◌≡◌, ◌⊎◌, inl, inr, refl, sym, subst, ap, ◌∙◌, ℕ, ◌+◌, ◌<◌, ℤ, ◌-ℤ◌, ◌*ℤ◌, arith}
 use Rattle.std.proofs.lemmas.Bool.{cases_eq, cases_order}
 use Rattle.std.proofs.lemmas.Int.{ints}
 use Rattle.integer_algebra.proofs.Signs.{sign, is_negative, is_zero, is_positive}
@@ -12,9 +11,9 @@ use Rattle.rings.proofs.Vertices.{vertex_round}
 use Rattle.rings.specs.Edge.{Edge, edges_of}
 use Rattle.rings.specs.Ring.{IsOnEdge, vertex}
 use Rattle.rings.specs.Simple.{IsSimple}
+use Rattle.ring_laws.proofs.CommonEnds.{meet_swapped}
 use Rattle.ring_laws.proofs.Members.{edge_number, has_edge_at}
 use Rattle.ring_laws.specs.Apart.{HasEdge, HasEnd, IsApartRing, IsCommonEnd, MeetAtEnds}
-use Rattle.ring_laws.proofs.CommonEnds.{meet_swapped}
 
 -- ---- decisions
 

@@ -8,10 +8,10 @@ use Rattle.plane.specs.Segment.{On}
 use Rattle.rings.proofs.Along.{on_antisym, on_total}
 use Rattle.rings.proofs.Combinations.{on_nested}
 use Rattle.rings.specs.Edge.{Edge, IsOnSome, edges_along, edges_of}
-use Rattle.ring_laws.specs.Apart.{HasEdge, HasEnd, IsOn, MeetAtEnds, edge}
+use Rattle.ring_laws.proofs.CommonEnds.{end_of_second, meet_reversed}
 use Rattle.ring_laws.proofs.DistinctPoints.{HasPoint}
 use Rattle.ring_laws.proofs.Members.{edge_with}
-use Rattle.ring_laws.proofs.CommonEnds.{end_of_second, meet_reversed}
+use Rattle.ring_laws.specs.Apart.{HasEdge, HasEnd, IsOn, MeetAtEnds, edge}
 use Rattle.ring_laws.specs.Winding.{WindsUpTo}
 
 -- the diagonal goes from v to z, the first chain along ms back from z to v, and the second along ns from v to z: the pieces

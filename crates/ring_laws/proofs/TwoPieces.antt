@@ -14,10 +14,10 @@ use Rattle.rings.specs.Inside.{winding}
 use Rattle.ring_laws.proofs.BesideChains.{both_chains, both_closed, off_ring, pieces_winding, winding_on_diagonal}
 use Rattle.ring_laws.proofs.DistinctPoints.{HasPoint}
 use Rattle.ring_laws.proofs.FarTargets.{far_target}
-use Rattle.ring_laws.proofs.PointLists.{first_on_along, last_on_along}
 use Rattle.ring_laws.proofs.PieceHits.{misses_to_hit}
-use Rattle.ring_laws.proofs.TwoChains.{ArePieces, IsNeither, chain_off_piece, neither_swapped, swapped}
+use Rattle.ring_laws.proofs.PointLists.{first_on_along, last_on_along}
 use Rattle.ring_laws.proofs.Sides.{on_or_not}
+use Rattle.ring_laws.proofs.TwoChains.{ArePieces, IsNeither, chain_off_piece, neither_swapped, swapped}
 use Rattle.ring_laws.proofs.UnwoundChains.{chains_unwound}
 use Rattle.ring_laws.proofs.UpToOne.{IsZeroOrOne, not_zero_and_one, one_and_two, sum_value}
 use Rattle.ring_laws.specs.Apart.{edge}

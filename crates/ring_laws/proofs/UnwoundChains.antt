@@ -5,6 +5,7 @@ use Rattle.plane.proofs.Determinants.{determinant_same_ends, determinant_same_la
 use Rattle.plane.proofs.Same.{whole_is_point}
 use Rattle.plane.specs.Point.{IsPoint, Point, Triple, whole}
 use Rattle.plane.specs.Turn.{IsLeft, IsRight, determinant}
+use Rattle.rings.proofs.EdgeLaw.{left_swapped, right_swapped}
 use Rattle.rings.proofs.Edges.{closed_edges_of, on_some_cases, on_some_left, on_some_right}
 use Rattle.rings.proofs.FarAway.{AllEnds, all_ends_map}
 use Rattle.rings.specs.Edge.{Edge, IsClosed, IsOnSome, edges_along, edges_of}
@@ -13,12 +14,11 @@ use Rattle.ring_laws.proofs.BesideChains.{both_chains}
 use Rattle.ring_laws.proofs.BeyondLine.{farthest_right}
 use Rattle.ring_laws.proofs.DistinctPoints.{HasPoint, has_point_cases, has_point_left, has_point_right}
 use Rattle.ring_laws.proofs.Farthest.{farthest_of}
-use Rattle.ring_laws.proofs.PointLists.{all_ends_along, member_on_along}
 use Rattle.ring_laws.proofs.PieceConstants.{chain_constant, member_neither}
 use Rattle.ring_laws.proofs.PieceHits.{LeftHit, left_hit, on_first_chain, on_second_chain}
+use Rattle.ring_laws.proofs.PointLists.{all_ends_along, member_on_along}
 use Rattle.ring_laws.proofs.TwoChains.{ArePieces, IsNeither, neither_swapped, swapped}
 use Rattle.ring_laws.proofs.UpToOne.{not_zero_and_one}
-use Rattle.rings.proofs.EdgeLaw.{left_swapped, right_swapped}
 
 -- the second piece does not wind round the first chain, but for its ends
 pub record IsUnwound (v z : Point) (ms ns : List Point) : Type 0 where
