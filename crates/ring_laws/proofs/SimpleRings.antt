@@ -24,7 +24,7 @@ use Rattle.ring_laws.specs.Apart.{IsApartRing}
 use Rattle.ring_laws.specs.Winding.{IsLeastVertex, RunsAsItTurns, RunsClockwise, RunsCounterclockwise, WindsUpTo}
 
 -- a triangle
-triangle_law : (v w u : Point) → IsLeft (whole u) (whole v) (whole w) → RunsCounterclockwise (v ∷ w ∷ u ∷ [])
+pub triangle_law : (v w u : Point) → IsLeft (whole u) (whole v) (whole w) → RunsCounterclockwise (v ∷ w ∷ u ∷ [])
 triangle_law v w u left = record {
   area = omega (arith, ints, left, area_corner v w [] u, swept_triangle u v w);
   windings = λ x at off.
