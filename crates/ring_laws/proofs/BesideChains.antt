@@ -8,6 +8,7 @@ use Rattle.plane.specs.Segment.{On}
 use Rattle.plane.specs.Turn.{IsLeft, IsRight}
 use Rattle.rings.proofs.ClosedLaw.{winding_law}
 use Rattle.rings.proofs.Crossings.{crossing_reversed}
+use Rattle.rings.proofs.EdgeLaw.{left_swapped, right_swapped}
 use Rattle.rings.proofs.Edges.{closed_edges_of, growth-append, growth-edges_along, on_some_cases, on_some_left, on_some_right, winding-append}
 use Rattle.rings.proofs.Nearness.{misses_eventually, toward, toward_is_point, toward_on}
 use Rattle.rings.specs.Across.{Misses}
@@ -15,10 +16,10 @@ use Rattle.rings.specs.Edge.{Edge, IsClosed, IsOnSome, edges_along, edges_of}
 use Rattle.rings.specs.Inside.{crossing, winding}
 use Rattle.ring_laws.proofs.AcrossEdge.{across_edge}
 use Rattle.ring_laws.proofs.NearPairs.{left_toward, right_toward}
-use Rattle.ring_laws.proofs.TwoChains.{ArePieces, IsNeither, IsZeroOrOne, chain_on_diagonal, neither_swapped, swapped}
 use Rattle.ring_laws.proofs.Sides.{left_not_on, right_not_on, within_from}
+use Rattle.ring_laws.proofs.TwoChains.{ArePieces, IsNeither, chain_on_diagonal, neither_swapped, swapped}
+use Rattle.ring_laws.proofs.UpToOne.{greater_is_one, one_and_none, smaller_is_zero}
 use Rattle.ring_laws.specs.Apart.{edge}
-use Rattle.rings.proofs.EdgeLaw.{left_swapped, right_swapped}
 
 -- ---- sums
 
@@ -47,31 +48,11 @@ pieces_winding v z ms ns p =
     cancel_diagonal (winding (edges_along z ms v) p) (winding (edges_along v ns z) p) (crossing (edge v z) p) (crossing (edge z v) p)
     _ (winding-append p (edges_along z ms v) (edges_along v ns z)) (crossing_reversed (edge v z) p)
 
--- of two values 0 or 1 that differ by 1, the greater is 1,
-greater_is_one : (x y : ℤ) → x ≡ y +ℤ pos 1 → IsZeroOrOne x → IsZeroOrOne y → x ≡ pos 1
-greater_is_one x y e (inl h) (inl k) = absurd (omega (arith, ints))
-greater_is_one x y e (inl h) (inr k) = absurd (omega (arith, ints))
-greater_is_one x y e (inr h) k = h
-
--- and the smaller is 0
-smaller_is_zero : (x y : ℤ) → x ≡ y +ℤ pos 1 → IsZeroOrOne x → IsZeroOrOne y → y ≡ pos 0
-smaller_is_zero x y e h (inl k) = k
-smaller_is_zero x y e (inl h) (inr k) = absurd (omega (arith, ints))
-smaller_is_zero x y e (inr h) (inr k) = absurd (omega (arith, ints))
-
--- 1 and 0 make 1
-one_and_none : (n a b : ℤ) → n ≡ a +ℤ b → a ≡ pos 1 → b ≡ pos 0 → n ≡ pos 1
-one_and_none n a b e h k = omega (arith, ints)
-
 -- ---- beside the diagonal
 
--- what misses two lists misses the first,
+-- what misses two lists misses the first
 pub misses_first : (p q : Triple) (es fs : List Edge) → Misses p q (es ++ fs) → Misses p q es
 misses_first p q es fs h x at_x on k = h x at_x on (on_some_left x es fs k)
-
--- and the second
-pub misses_second : (p q : Triple) (es fs : List Edge) → Misses p q (es ++ fs) → Misses p q fs
-misses_second p q es fs h x at_x on k = h x at_x on (on_some_right x es fs k)
 
 -- the order of two lists is free
 misses_exchanged : (p q : Triple) (es fs : List Edge) → Misses p q (es ++ fs) → Misses p q (fs ++ es)

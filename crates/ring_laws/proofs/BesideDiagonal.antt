@@ -6,9 +6,9 @@ use Rattle.rings.proofs.ClosedLaw.{winding_law, winding_law_crossed}
 use Rattle.rings.specs.Edge.{Edge, IsClosed, IsOnSome}
 use Rattle.rings.specs.Inside.{winding}
 use Rattle.ring_laws.proofs.BesideEdge.{BesideEdge, beside_edge}
-use Rattle.ring_laws.specs.Apart.{IsOn}
-use Rattle.ring_laws.proofs.PiecesWind.{IsUnit, both_up_to_one, same_units}
 use Rattle.ring_laws.proofs.Sides.{left_not_on, right_not_on}
+use Rattle.ring_laws.proofs.UpToOne.{IsUnit, both_up_to_one, same_units}
+use Rattle.ring_laws.specs.Apart.{IsOn}
 use Rattle.ring_laws.specs.Winding.{WindsUpTo}
 
 -- points to the left and to the right of a diagonal, near a point x of it: off the edges fs of the first piece and gs of the

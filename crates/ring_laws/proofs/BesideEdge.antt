@@ -8,14 +8,14 @@ use Rattle.plane.proofs.Same.{whole_is_point}
 use Rattle.plane.proofs.Written.{written_determinant}
 use Rattle.plane.specs.Point.{Point, whole, IsPoint, IsSame, Triple}
 use Rattle.plane.specs.Turn.{IsLeft, determinant}
-use Rattle.ring_laws.proofs.AcrossEdge.{crosses_near}
-use Rattle.ring_laws.proofs.NearPairs.{misses_between, positive_at}
-use Rattle.ring_laws.proofs.Sides.{within_from}
-use Rattle.ring_laws.specs.Apart.{IsOn}
 use Rattle.rings.proofs.EdgeLaw.{right_swapped}
 use Rattle.rings.proofs.Nearness.{misses_eventually, toward, toward_is_point}
 use Rattle.rings.specs.Across.{CrossesRight, Misses}
 use Rattle.rings.specs.Edge.{Edge, IsOnSome}
+use Rattle.ring_laws.proofs.AcrossEdge.{crosses_near}
+use Rattle.ring_laws.proofs.NearPairs.{misses_between, positive_at}
+use Rattle.ring_laws.proofs.Sides.{within_from}
+use Rattle.ring_laws.specs.Apart.{IsOn}
 
 -- the sum of two squares is positive, where one number is not 0
 some_square : (x y : ℤ) → ¬ ((x ≡ pos 0) × (y ≡ pos 0)) → pos 0 <ℤ (x *ℤ x +ℤ y *ℤ y)

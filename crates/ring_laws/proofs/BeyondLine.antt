@@ -40,8 +40,8 @@ some_direction a b differ h =
     differ (same_coordinates a b (omega (arith, ints)) (omega (arith, ints)))
 
 -- a negative number is not positive
-below : {z : ℤ} → z <ℤ pos 0 → z ≤ℤ pos 0
-below h = omega (arith, ints)
+pub negative_at_most : {z : ℤ} → z <ℤ pos 0 → z ≤ℤ pos 0
+negative_at_most h = omega (arith, ints)
 
 -- a number that is not positive is at most one that is not negative, times a positive one
 at_most_product : (d e w : ℤ) → d ≤ℤ pos 0 → pos 0 ≤ℤ e → pos 0 <ℤ w → d ≤ℤ (e *ℤ w)
@@ -84,4 +84,4 @@ module _ (a b : Point) (es : List Edge) (p : Triple) (at_p : IsPoint p) (right :
 
   -- and it is not wound round
   pub right_of_all : IsClosed es → winding es p ≡ pos 0
-  right_of_all closed = beyond_line a b (right_differs a b p right) es closed p at_p right_off (below right) ends
+  right_of_all closed = beyond_line a b (right_differs a b p right) es closed p at_p right_off (negative_at_most right) ends

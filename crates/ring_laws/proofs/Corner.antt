@@ -4,20 +4,16 @@ use Rattle.std.proofs.lemmas.Int.{ints}
 use Rattle.integer_algebra.proofs.Polynomial.{var, lit, ◌⊕◌, ◌⊖◌, ◌⊗◌, same_value}
 use Rattle.plane.specs.Point.{Point, Triple, whole}
 use Rattle.plane.specs.Turn.{determinant}
-use Rattle.rings.proofs.Crossings.{crossing_reversed}
-use Rattle.rings.specs.Edge.{Edge, IsClosed, IsOnSome, edges_along, edges_of}
 use Rattle.rings.proofs.Edges.{closed_edges_of}
+use Rattle.rings.specs.Edge.{Edge, IsClosed, IsOnSome, edges_along, edges_of}
 use Rattle.rings.specs.Inside.{winding}
 use Rattle.rings.specs.Orientation.{doubled_area, swept}
+use Rattle.ring_laws.proofs.CommonEnds.{apart_among, apart_more}
 use Rattle.ring_laws.proofs.DistinctPoints.{AreDistinct, HasPoint, distinct_vertices, ends_along, has_point_left, has_point_right, vertices_differ}
 use Rattle.ring_laws.proofs.Members.{has_edge_swapped}
-use Rattle.ring_laws.proofs.Pieces.{apart_among, apart_more}
 use Rattle.ring_laws.proofs.Rotated.{closed_swapped, edges_along_append, on_some_swapped, swept_swapped, winding_swapped}
+use Rattle.ring_laws.proofs.TriangleWinding.{triangle}
 use Rattle.ring_laws.specs.Apart.{HasEdge, HasEnd, IsApartRing, MeetAtEnds, edge}
-
--- the edges of a triangle
-abbrev pub triangle : Point → Point → Point → List Edge
-triangle u v w = edge u v ∷ edge v w ∷ edge w u ∷ []
 
 -- twice the area of a triangle is a determinant
 pub swept_triangle : (u v w : Point) → swept (triangle u v w) ≡ determinant (whole u) (whole v) (whole w)
@@ -80,11 +76,7 @@ module _ (v w : Point) (ms : List Point) (u : Point) where
 
   -- ---- the ear cut off
 
-  -- winding numbers are those of the triangle at v and those of the rest,
-  pub winding_ear : (x : Triple) → winding (edges_of (v ∷ w ∷ (ms ++ u ∷ []))) x ≡ winding (triangle u v w) x +ℤ winding (edges_of (w ∷ (ms ++ u ∷ []))) x
-  winding_ear x = omega (arith, ints, winding_corner x, winding_rest x, crossing_reversed (edge u w) x)
-
-  -- and so is the area
+  -- the area is that of the triangle at v and that of the rest
   pub area_ear : doubled_area (v ∷ w ∷ (ms ++ u ∷ [])) ≡ determinant (whole u) (whole v) (whole w) +ℤ doubled_area (w ∷ (ms ++ u ∷ []))
   area_ear = omega (arith, ints, area_corner, area_rest, swept_triangle u v w)
 

@@ -1,5 +1,5 @@
 -- The diagonal of a cut ring, and points in rings that wind up to once.
-use Rattle.std.proofs.Common.{◌≡◌, ◌⊎◌, inl, inr, refl, sym, subst, ◌<◌, ℤ, pos, negsuc, ◌+ℤ◌, ◌*ℤ◌, List, [], ◌∷◌, ◌++◌, length, arith}
+use Rattle.std.proofs.Common.{◌≡◌, inl, inr, refl, sym, subst, ◌<◌, ℤ, pos, negsuc, List, [], ◌∷◌, ◌++◌, length, arith}
 use Rattle.std.proofs.lemmas.Int.{ints}
 use Rattle.plane.proofs.Segments.{on_reversed}
 use Rattle.plane.specs.Point.{IsPoint, IsSame, Point, Triple, whole}
@@ -8,20 +8,16 @@ use Rattle.rings.proofs.InRing.{in_from_odd}
 use Rattle.rings.proofs.Parity.{winding_odd}
 use Rattle.rings.specs.Edge.{Edge, IsOnSome, edges_along, edges_of}
 use Rattle.rings.specs.Inside.{IsIn, winding}
+use Rattle.ring_laws.proofs.CommonEnds.{end_of_second}
 use Rattle.ring_laws.proofs.DistinctPoints.{has_point_right}
 use Rattle.ring_laws.proofs.Members.{edge_with, has_edge_right, on_some_of}
 use Rattle.ring_laws.proofs.Middle.{middle, middle_first, middle_is_point, middle_last, middle_on}
 use Rattle.ring_laws.proofs.Pieces.{distinct_cut, edges_of_first}
-use Rattle.ring_laws.proofs.PiecesWind.{IsUnit, IsUpTo}
-use Rattle.ring_laws.specs.Apart.{HasEdge, IsApartRing, IsCommonEnd, IsOn, MeetAtEnds, edge}
+use Rattle.ring_laws.proofs.UpToOne.{IsUnit, odd_unit}
+use Rattle.ring_laws.specs.Apart.{HasEdge, IsApartRing, IsOn, MeetAtEnds, edge}
 use Rattle.ring_laws.specs.Winding.{WindsUpTo}
 
 -- ---- in a ring that winds up to once
-
--- an odd number up to s is s
-odd_unit : (s n z : ℤ) → n ≡ pos 2 *ℤ z +ℤ pos 1 → IsUpTo s n → n ≡ s
-odd_unit s n z odd (inl e) = absurd (omega (arith, ints))
-odd_unit s n z odd (inr e) = e
 
 -- a point of a ring on no edge is wound round
 pub wound : (s : ℤ) (ring : List Point) → WindsUpTo s (edges_of ring) → (x : Triple) → IsPoint x → ¬ IsOnSome (edges_of ring) x → IsIn ring x
@@ -33,19 +29,6 @@ wound s ring winds x at off (inr odd) = let (z, e) = winding_odd (edges_of ring)
 pub in_if_wound : (s : ℤ) → IsUnit s → (ring : List Point) (x : Triple) → winding (edges_of ring) x ≡ s → IsIn ring x
 in_if_wound s (inl one) ring x e = in_from_odd ring x (pos 0) (omega (arith, ints))
 in_if_wound s (inr minus) ring x e = in_from_odd ring x (negsuc 0) (omega (arith, ints))
-
--- of two parts of s up to s one is s,
-pub one_is : (s n a b : ℤ) → n ≡ a +ℤ b → n ≡ s → IsUpTo s a → (a ≡ s) ⊎ (b ≡ s)
-one_is s n a b sum e (inl zero) = inr (omega (arith, ints))
-one_is s n a b sum e (inr is) = inl is
-
--- and they are not both s
-pub not_twice : (s n a b : ℤ) → IsUnit s → n ≡ a +ℤ b → IsUpTo s n → a ≡ s → b ≡ s → ⊥
-not_twice s n a b unit sum h ea eb = grind (arith, ints)
-
--- a part that is s makes s with another up to s
-pub sum_is : (s n a b : ℤ) → IsUnit s → n ≡ a +ℤ b → IsUpTo s n → IsUpTo s b → a ≡ s → n ≡ s
-sum_is s n a b unit sum h hb ea = grind (arith, ints)
 
 -- ---- the diagonal
 
@@ -59,13 +42,7 @@ module _ (v : Point) (ps : List Point) (z : Point) (qs : List Point) (apart : Is
   pub inner_off : (x : Triple) → IsPoint x → On x (whole v) (whole z) → ¬ IsSame x (whole v) → ¬ IsSame x (whole z) → ¬ IsOnSome (edges_of (v ∷ (ps ++ z ∷ qs))) x
   inner_off x at on not_v not_z on_edge =
       let (e, has, on_e) = edge_with x (edges_of (v ∷ (ps ++ z ∷ qs))) on_edge in
-      inner (meets e has x at on_e on)
-    where
-      inner : {e : Edge} → IsCommonEnd e (edge v z) x → ⊥
-      inner c = elim c.of_second [
-        | inl is ↦ not_v (subst (λ (p : Point). IsSame x (whole p)) (sym is) c.same)
-        | inr is ↦ not_z (subst (λ (p : Point). IsSame x (whole p)) (sym is) c.same)
-      ]
+      elim (end_of_second e (edge v z) x (meets e has x at on_e on)) [ inl is ↦ not_v is | inr is ↦ not_z is ]
 
   -- so the diagonal is no edge
   pub not_an_edge : (e : Edge) → HasEdge (edges_of (v ∷ (ps ++ z ∷ qs))) e → ¬ IsOn e (middle v z)

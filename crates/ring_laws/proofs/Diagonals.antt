@@ -13,13 +13,14 @@ use Rattle.rings.specs.Edge.{Edge, IsOnSome, edges_along, edges_of}
 use Rattle.rings.specs.Inside.{winding}
 use Rattle.rings.specs.Orientation.{turned_round}
 use Rattle.ring_laws.proofs.BesideDiagonal.{once_round_diagonal}
+use Rattle.ring_laws.proofs.CommonEnds.{meet_reversed, meet_swapped}
 use Rattle.ring_laws.proofs.CutDiagonal.{ends_differ, in_if_wound, inner_off}
 use Rattle.ring_laws.proofs.DistinctPoints.{HasPoint, edge_from, has_point_right}
 use Rattle.ring_laws.proofs.Members.{has_edge_backward, has_edge_reverse, on_some_of}
-use Rattle.ring_laws.proofs.Pieces.{meet_reversed, winding_cut}
+use Rattle.ring_laws.proofs.Pieces.{winding_cut}
 use Rattle.ring_laws.proofs.PiecesMeet.{off_first, on_back}
 use Rattle.ring_laws.proofs.Rotated.{has_edge_rotated, in_rotated}
-use Rattle.ring_laws.proofs.SimpleIsApart.{meet_swapped, same_or_not}
+use Rattle.ring_laws.proofs.SimpleIsApart.{same_or_not}
 use Rattle.ring_laws.specs.Apart.{HasEdge, IsApartRing, IsOn, MeetAtEnds, edge}
 use Rattle.ring_laws.specs.Diagonal.{IsDiagonal}
 use Rattle.ring_laws.specs.Winding.{WindsUpTo}

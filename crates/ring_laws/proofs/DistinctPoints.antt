@@ -1,6 +1,6 @@
 -- Lists of different points, by recursion on the list and by numbers.
-use Rattle.std.proofs.Common.{◌≡◌, ◌⊎◌, inl, inr, refl, sym, subst, ◌∙◌, ℕ, zero, suc, ◌<◌, arith}
 use Rattle.std.proofs.Common.{List, [], ◌∷◌, ◌++◌, length, get_or, reverse}
+use Rattle.std.proofs.Common.{◌≡◌, ◌⊎◌, inl, inr, refl, sym, subst, ◌∙◌, ℕ, zero, suc, ◌<◌, arith}
 use Rattle.plane.specs.Point.{Point}
 use Rattle.rings.proofs.Turned.{reverse-cons}
 use Rattle.rings.proofs.Vertices.{vertex_in_range}

@@ -12,29 +12,17 @@ use Rattle.rings.proofs.FarAway.{AllEnds, all_ends_map}
 use Rattle.rings.proofs.SignSteps.{not_both, turned_negative, zero_not_negative}
 use Rattle.rings.specs.Edge.{Edge, IsClosed, IsOnSome}
 use Rattle.rings.specs.Inside.{winding}
-use Rattle.ring_laws.specs.Triangle.{IsInTriangle}
 use Rattle.ring_laws.proofs.Sides.{same_straight, stays_right}
 use Rattle.ring_laws.proofs.Triangles.{between_in_triangle, middle_in_triangle}
 use Rattle.ring_laws.specs.Apart.{edge}
+use Rattle.ring_laws.specs.Triangle.{IsInTriangle}
 
 -- ---- the corners of a triangle
 
 module _ (u v w : Point) (left : IsLeft (whole u) (whole v) (whole w)) where
-  -- the tip is right of the base,
+  -- the tip is right of the base
   pub tip_is_right : IsRight (whole u) (whole w) (whole v)
   tip_is_right = turned_negative (determinant_swap_last (whole u) (whole v) (whole w)) left
-
-  -- other than its first end,
-  tip_not_first : ¬ (v ≡ u)
-  tip_not_first e =
-      not_both (subst (λ (c : Point). IsRight (whole u) (whole w) (whole c)) e tip_is_right)
-      (zero_not_negative (determinant_same_ends (whole u) (whole w)))
-
-  -- and other than its last
-  tip_not_last : ¬ (v ≡ w)
-  tip_not_last e =
-      not_both (subst (λ (c : Point). IsRight (whole u) (whole w) (whole c)) e tip_is_right)
-      (zero_not_negative (determinant_same_last (whole u) (whole w)))
 
   -- the ends of the base differ
   pub base_differs : ¬ (u ≡ w)

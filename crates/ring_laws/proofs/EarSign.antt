@@ -14,7 +14,6 @@ use Rattle.rings.proofs.SignSteps.{not_both_positive, zero_not_positive}
 use Rattle.rings.specs.Across.{Misses}
 use Rattle.rings.specs.Edge.{Edge, IsClosed, IsOnSome}
 use Rattle.rings.specs.Inside.{winding}
-use Rattle.ring_laws.specs.Triangle.{IsInTriangle}
 use Rattle.ring_laws.proofs.AcrossEdge.{across_edge}
 use Rattle.ring_laws.proofs.EarBase.{base_differs, on_others_straight, tip_is_right, winding_at_tip}
 use Rattle.ring_laws.proofs.Middle.{middle, middle_first, middle_is_point, middle_last, middle_on, middle_within}
@@ -23,6 +22,7 @@ use Rattle.ring_laws.proofs.Sides.{first_end_on_line}
 use Rattle.ring_laws.proofs.TriangleWinding.{on_sides_in}
 use Rattle.ring_laws.proofs.Triangles.{between_in_triangle, left_at_first, middle_in_triangle}
 use Rattle.ring_laws.specs.Apart.{edge}
+use Rattle.ring_laws.specs.Triangle.{IsInTriangle}
 
 -- ---- the other side of the base
 

@@ -1,15 +1,15 @@
 -- A ring with an ear at its least vertex runs counterclockwise, where the ring without the ear runs round once.
-use Rattle.std.proofs.Common.{◌≡◌, ◌⊎◌, inl, inr, refl, sym, subst, arith}
-use Rattle.std.proofs.Common.{ℤ, pos, negsuc, ◌≤ℤ◌, List, [], ◌∷◌, ◌++◌}
+use Rattle.std.proofs.Common.{ℤ, pos, negsuc, ◌≤ℤ◌, List, [], ◌∷◌, ◌++◌, ◌≡◌, ◌⊎◌, inl, inr, refl, sym, subst, arith}
 use Rattle.std.proofs.lemmas.Int.{ints}
 use Rattle.plane.proofs.Order.{x_at_most}
-use Rattle.plane.specs.Point.{IsPoint, IsSame, Point, Triple, whole}
+use Rattle.plane.specs.Point.{IsPoint, Point, Triple, whole}
 use Rattle.plane.specs.Turn.{IsLeft}
 use Rattle.rings.proofs.FarAway.{AllEnds}
 use Rattle.rings.specs.Edge.{Edge, edges_along, edges_of}
+use Rattle.ring_laws.proofs.CommonEnds.{end_of_second}
 use Rattle.ring_laws.proofs.Corner.{apart_rest, area_ear, closed_rest, edges_at_corner, has_edge_of_corner, no_edge_across, not_at_corner, on_some_corner, on_some_rest, winding_corner, winding_rest}
-use Rattle.ring_laws.proofs.DistinctPoints.{HasPoint, end_of_ring, ends_along, has_point_cases, has_point_left}
 use Rattle.ring_laws.proofs.CornerLaws.{IsCorner, corner_base_meets, corner_not_entered}
+use Rattle.ring_laws.proofs.DistinctPoints.{HasPoint, end_of_ring, ends_along, has_point_cases, has_point_left}
 use Rattle.ring_laws.proofs.Ears.{ear_sign, ring_with_ear}
 use Rattle.ring_laws.proofs.LeastVertex.{NoneBefore}
 use Rattle.ring_laws.specs.Apart.{HasEdge, HasEnd, IsApartRing, IsCommonEnd, IsOn, MeetAtEnds, edge}
@@ -85,15 +85,9 @@ module _ (v w m : Point) (ks : List Point) (u : Point) (apart : IsApartRing (v �
         let closed = closed_rest v w (m ∷ ks) u in
         let right = ends_right v w (m ∷ ks) u apart left least in
         let enters = λ (e : Edge) (has : HasEdge es e) (x : Triple) (at : IsPoint x) (on : IsOn e x) (within : IsInTriangle u v w x).
-        corner x (enters_at_ends e has x at on within) in
+        end_of_second e (edge u w) x (enters_at_ends e has x at on within) in
         let rest = rest_winds s winds in
         (ear_sign u v w es left closed right enters s rest, ring_with_ear u v w es left closed right enters s rest)
-      where
-        corner : {e : Edge} (x : Triple) → IsCommonEnd e (edge u w) x → IsSame x (whole u) ⊎ IsSame x (whole w)
-        corner x c = elim c.of_second [
-          | inl is ↦ inl (subst (λ (p : Point). IsSame x (whole p)) (sym is) c.same)
-          | inr is ↦ inr (subst (λ (p : Point). IsSame x (whole p)) (sym is) c.same)
-        ]
 
     -- so the ring without v runs counterclockwise,
     pub rest_counterclockwise : RunsCounterclockwise (w ∷ (m ∷ ks ++ u ∷ [])) ⊎ RunsClockwise (w ∷ (m ∷ ks ++ u ∷ []))

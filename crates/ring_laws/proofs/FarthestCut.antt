@@ -1,13 +1,12 @@
 -- The cut of a ring from its first vertex v to the farthest vertex in the triangle there, and the two pieces.
-use Rattle.std.proofs.Common.{◌≡◌, inl, inr, refl, subst, ap, ◌∙◌, ◌+◌, ◌<◌, arith}
-use Rattle.std.proofs.Common.{List, [], ◌∷◌, ◌++◌, length}
+use Rattle.std.proofs.Common.{List, [], ◌∷◌, ◌++◌, length, ◌≡◌, inl, inr, refl, subst, ap, ◌∙◌, ◌+◌, ◌<◌, arith}
 use Rattle.std.proofs.lemmas.List.{append_assoc, length-append}
 use Rattle.plane.specs.Point.{Point, whole}
 use Rattle.plane.specs.Turn.{IsLeft}
 use Rattle.rings.specs.Edge.{Edge, edges_of}
+use Rattle.ring_laws.proofs.CornerLaws.{farthest_between, farthest_meets}
 use Rattle.ring_laws.proofs.DistinctPoints.{HasPoint, has_point_cases, has_point_left, has_point_right}
 use Rattle.ring_laws.proofs.EarStep.{is_corner}
-use Rattle.ring_laws.proofs.CornerLaws.{farthest_between, farthest_meets}
 use Rattle.ring_laws.proofs.Farthest.{Farthest}
 use Rattle.ring_laws.proofs.FarthestEnd.{InTriangle, height, is_farthest_end, split_at}
 use Rattle.ring_laws.proofs.LeastVertex.{NoneBefore}

@@ -1,11 +1,10 @@
 -- The vertex in the triangle at the first vertex of a ring that is farthest from the triangle's base.
-use Rattle.std.proofs.Common.{◌≡◌, ◌⊎◌, inl, inr, sym, subst, ap}
-use Rattle.std.proofs.Common.{ℤ, ◌≤ℤ◌, List, [], ◌∷◌, ◌++◌}
+use Rattle.std.proofs.Common.{ℤ, ◌≤ℤ◌, List, [], ◌∷◌, ◌++◌, ◌≡◌, ◌⊎◌, inl, inr, sym, subst, ap}
 use Rattle.plane.specs.Point.{Point, whole}
 use Rattle.rings.specs.Edge.{edges_of}
 use Rattle.ring_laws.proofs.Corner.{distinct_corner, has_edge_of_corner}
-use Rattle.ring_laws.proofs.DistinctPoints.{HasPoint, distinct_between, edge_from, end_of_ring, has_point_cases, has_point_left}
 use Rattle.ring_laws.proofs.CornerLaws.{IsFarthestEnd}
+use Rattle.ring_laws.proofs.DistinctPoints.{HasPoint, distinct_between, edge_from, end_of_ring, has_point_cases, has_point_left}
 use Rattle.ring_laws.proofs.Farthest.{Farthest}
 use Rattle.ring_laws.specs.Apart.{IsApartRing}
 use Rattle.ring_laws.specs.Triangle.{IsInTriangle, height_over}

@@ -9,10 +9,10 @@ use Rattle.plane.specs.Point.{IsPoint, Point, Triple, whole}
 use Rattle.plane.specs.Segment.{On}
 use Rattle.plane.specs.Turn.{IsRight, IsStraight, determinant}
 use Rattle.rings.proofs.Combinations.{on_nested}
-use Rattle.rings.proofs.SignSteps.{not_both, one_positive, opposite_positive, weak, zero_not_negative}
-use Rattle.ring_laws.proofs.Triangles.{in_triangle, not_negative, not_right_between}
-use Rattle.ring_laws.specs.Triangle.{IsInTriangle, height_over}
 use Rattle.rings.proofs.FirstMeeting.{no_value, weighed_sum, zero_point}
+use Rattle.rings.proofs.SignSteps.{not_both, one_positive, opposite_positive, weak, zero_not_negative}
+use Rattle.ring_laws.proofs.Triangles.{in_triangle, not_right_between}
+use Rattle.ring_laws.specs.Triangle.{IsInTriangle, height_over}
 
 -- ---- numbers
 
@@ -99,14 +99,6 @@ module _ (u v w : Point) where
         ⊎ (IsStraight (whole v) (whole w) point × IsRight (whole v) (whole w) a)
     pub high : pos 0 <ℤ height_over u w a → pos 0 <ℤ height_over u w point
 
-  -- a point of the triangle on the way from x to a, on some side
-  pub record Leaving (x a : Triple) : Type 0 where
-    pub point : Triple
-    pub rational : IsPoint point
-    pub on_way : On point x a
-    pub inside : IsInTriangle u v w point
-    pub side : IsStraight (whole u) (whole v) point ⊎ IsStraight (whole v) (whole w) point ⊎ IsStraight (whole w) (whole u) point
-
   module _ (x a : Triple) (at_x : IsPoint x) (at_a : IsPoint a) (outside : ¬ IsInTriangle u v w a) where
     -- where x is strictly left of the first two sides, and neither x nor a is right of the third
     module _ (first : pos 0 <ℤ determinant (whole u) (whole v) x) (second : pos 0 <ℤ determinant (whole v) (whole w) x)
@@ -144,34 +136,3 @@ module _ (u v w : Point) where
                 absurd (not_both right
                 (not_right_between (whole v) (whole w) p.point x a p.rational at_x at_a (weak second) h p.on_way))
           ]
-
-    -- in any case the way from a point of the triangle leaves it by some side
-    pub leaving : IsInTriangle u v w x → Leaving x a
-    leaving inside =
-        let first = not_negative inside.not_right_of_first in
-        let second = not_negative inside.not_right_of_second in
-        let third = not_negative inside.not_right_of_third in
-        let p = clip (whole u) (whole v) x a at_x at_a first in
-        let q = clip (whole v) (whole w) x p.point at_x p.rational second in
-        let r = clip (whole w) (whole u) x q.point at_x q.rational third in
-        let q_first = not_right_between (whole u) (whole v) q.point x p.point q.rational at_x p.rational first p.not_right q.on_way in
-        let r_first = not_right_between (whole u) (whole v) r.point x q.point r.rational at_x q.rational first q_first r.on_way in
-        let r_second = not_right_between (whole v) (whole w) r.point x q.point r.rational at_x q.rational second q.not_right r.on_way in
-        let there = in_triangle u v w r.point r_first r_second r.not_right in
-        let q_way = on_nested q.point x p.point x a q.rational at_x p.rational at_x at_a (on_first_end x a) p.on_way q.on_way in
-        record {
-          point = r.point;
-          rational = r.rational;
-          on_way = on_nested r.point x q.point x a r.rational at_x q.rational at_x at_a (on_first_end x a) q_way r.on_way;
-          inside = there;
-          side = elim r.ending [
-            | inl k ↦ inr (inr k.0)
-            | inr e ↦ elim q.ending [
-              | inl k ↦ inr (inl (subst (λ (z : Triple). IsStraight (whole v) (whole w) z) (sym e) k.0))
-              | inr f ↦ elim p.ending [
-                | inl k ↦ inl (subst (λ (z : Triple). IsStraight (whole u) (whole v) z) (sym (e ∙ f)) k.0)
-                | inr g ↦ absurd (outside (subst (λ (z : Triple). IsInTriangle u v w z) (e ∙ (f ∙ g)) there))
-              ]
-            ]
-          ];
-        }

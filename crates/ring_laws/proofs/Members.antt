@@ -1,6 +1,6 @@
 -- The edges of a list, of appended lists, and of a ring by their numbers.
-use Rattle.std.proofs.Common.{◌≡◌, ◌⊎◌, inl, inr, refl, sym, subst, ◌∙◌, ℕ, zero, suc, ◌<◌, arith}
 use Rattle.std.proofs.Common.{List, [], ◌∷◌, ◌++◌, length, get_or, reverse}
+use Rattle.std.proofs.Common.{◌≡◌, ◌⊎◌, inl, inr, refl, sym, subst, ◌∙◌, ℕ, zero, suc, ◌<◌, arith}
 use Rattle.plane.specs.Point.{IsPoint, Point, Triple}
 use Rattle.rings.proofs.Crossings.{reversed}
 use Rattle.rings.proofs.Edges.{backward}

@@ -18,8 +18,8 @@ use Rattle.rings.specs.Edge.{Edge, IsOnSome, edges_along, edges_of}
 use Rattle.rings.specs.Inside.{winding}
 use Rattle.ring_laws.proofs.BesideChains.{beside_left_toward, both_chains}
 use Rattle.ring_laws.proofs.Middle.{middle, middle_first, middle_is_point, middle_last, middle_on}
-use Rattle.ring_laws.proofs.TwoChains.{ArePieces, IsNeither, chain_off_piece, neither_swapped, swapped}
 use Rattle.ring_laws.proofs.Sides.{left_not_on, same_straight, stays_left}
+use Rattle.ring_laws.proofs.TwoChains.{ArePieces, IsNeither, chain_off_piece, neither_swapped, swapped}
 
 -- ---- the way to a first hit
 

@@ -4,9 +4,10 @@ use Rattle.plane.proofs.Same.{same_whole, whole_is_point}
 use Rattle.plane.proofs.Segments.{on_first_end, on_reversed}
 use Rattle.plane.specs.Point.{IsPoint, IsSame, Point, Triple, whole}
 use Rattle.rings.specs.Edge.{Edge, IsOnSome, edges_along, edges_of}
+use Rattle.ring_laws.proofs.CommonEnds.{meet_reversed}
 use Rattle.ring_laws.proofs.DistinctPoints.{HasPoint, distinct_between, edge_from, ends_along, has_point_cases}
 use Rattle.ring_laws.proofs.Members.{edge_with, on_some_of, has_edge_left, has_edge_right}
-use Rattle.ring_laws.proofs.Pieces.{distinct_cut, distinct_second, edges_of_cut, has_edge_of_first, meet_reversed}
+use Rattle.ring_laws.proofs.Pieces.{distinct_cut, distinct_second, edges_of_cut, has_edge_of_first}
 use Rattle.ring_laws.proofs.Rotated.{apart_rotated, has_edge_rotated}
 use Rattle.ring_laws.specs.Apart.{HasEdge, HasEnd, IsApartRing, IsCommonEnd, IsOn, MeetAtEnds, edge}
 

@@ -1,6 +1,5 @@
 -- Lists of edges that wind up to once, of which one is made of two others: all three wind the same way, and nowhere twice.
-use Rattle.std.proofs.Common.{◌≡◌, ◌⊎◌, inl, inr, sym, subst, ap, ◌∙◌, ◌<◌, ℤ, pos, negsuc, ◌+ℤ◌, List, ◌∷◌, ◌++◌, length, arith}
-use Rattle.std.proofs.lemmas.Int.{ints}
+use Rattle.std.proofs.Common.{◌≡◌, inl, inr, sym, subst, ap, ◌∙◌, ◌<◌, ℤ, pos, ◌+ℤ◌, List, ◌∷◌, ◌++◌, length}
 use Rattle.plane.proofs.Segments.{on_last_end}
 use Rattle.plane.specs.Point.{IsPoint, IsSame, Point, Triple, whole}
 use Rattle.rings.proofs.ClosedLaw.{winding_law, winding_law_crossed}
@@ -12,32 +11,11 @@ use Rattle.ring_laws.proofs.BesideEdge.{BesideEdge, beside_edge}
 use Rattle.ring_laws.proofs.InsideEdge.{InsideNear, inside_near, off_others, other_edges}
 use Rattle.ring_laws.proofs.Sides.{left_not_on, right_not_on}
 use Rattle.ring_laws.proofs.SimpleIsApart.{proper_edges}
+use Rattle.ring_laws.proofs.UpToOne.{IsUnit, no_units}
 use Rattle.ring_laws.specs.Apart.{HasEdge, IsApartRing, IsOn}
 use Rattle.ring_laws.specs.Winding.{WindsUpTo}
 
 -- ---- numbers
-
--- 1 or -1
-abbrev pub IsUnit : ℤ → Type 0
-IsUnit s = (s ≡ pos 1) ⊎ (s ≡ negsuc 0)
-
--- 0 or s
-abbrev pub IsUpTo : ℤ → ℤ → Type 0
-IsUpTo s n = (n ≡ pos 0) ⊎ (n ≡ s)
-
--- left and right of a diagonal: two numbers that make s on both sides, where the second falls by 1, are up to s
-pub same_units : (s t r c d f g : ℤ) → IsUnit s → IsUnit t → IsUnit r → s ≡ c +ℤ f → s ≡ d +ℤ g → f ≡ g +ℤ pos 1
-    → IsUpTo t c → IsUpTo t d → IsUpTo r f → IsUpTo r g → (t ≡ s) × (r ≡ s)
-same_units s t r c d f g hs ht hr left right falls hc hd hf hg = (grind (arith, ints), grind (arith, ints))
-
--- left and right of an edge: a number that falls by 1 and has s as a part on both sides is not up to s, or its other part isn't
-no_units : (s l r c d : ℤ) → IsUnit s → l ≡ s +ℤ c → r ≡ s +ℤ d → l ≡ r +ℤ pos 1 → IsUpTo s l → IsUpTo s r → IsUpTo s c → IsUpTo s d → ⊥
-no_units s l r c d hs left right falls hl hr hc hd = grind (arith, ints)
-
--- left and right of a diagonal: two numbers up to 1 that make n on both sides, where the second falls by 1, make 1
-pub both_up_to_one : (n c d f g : ℤ) → n ≡ c +ℤ f → n ≡ d +ℤ g → f ≡ g +ℤ pos 1
-    → IsUpTo (pos 1) c → IsUpTo (pos 1) d → IsUpTo (pos 1) f → IsUpTo (pos 1) g → n ≡ pos 1
-both_up_to_one n c d f g left right falls hc hd hf hg = grind (arith, ints)
 
 module _ (before : List Edge) (e : Edge) (after : List Edge) (x : Triple) where
   -- a point on no edge but perhaps one, and not on that one, is on no edge

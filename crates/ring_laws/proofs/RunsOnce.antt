@@ -1,6 +1,6 @@
 -- Rings that run round once, counterclockwise or clockwise, by the turn at a least vertex.
+use Rattle.std.proofs.Common.{pos, negsuc, ◌<ℤ◌, List, [], ◌∷◌, ◌++◌, length, take, drop, reverse}
 use Rattle.std.proofs.Common.{◌≡◌, ◌⊎◌, inl, inr, sym, subst, ap, ◌∙◌, ℕ, ◌+◌, ◌<◌, arith}
-use Rattle.std.proofs.Common.{ℤ, pos, negsuc, neg_ℤ, ◌<ℤ◌, List, [], ◌∷◌, ◌++◌, length, take, drop, reverse}
 use Rattle.std.proofs.lemmas.Int.{ints}
 use Rattle.std.proofs.lemmas.List.{length-append, length-reverse, length-take-le, take-append-drop}
 use Rattle.integer_algebra.proofs.Signs.{sign, is_negative, is_zero, is_positive}
@@ -16,6 +16,7 @@ use Rattle.ring_laws.proofs.LeastTurn.{turn_at_first, turn_not_straight}
 use Rattle.ring_laws.proofs.LeastVertex.{NoneBefore, from_vertex, none_before_least}
 use Rattle.ring_laws.proofs.Mirrored.{apart_turned, turned_corner, winding_turned}
 use Rattle.ring_laws.proofs.Rotated.{apart_rotated, area_rotated, length_rotated, on_some_rotated, turn_rotated, winding_rotated}
+use Rattle.ring_laws.proofs.UpToOne.{opposites}
 use Rattle.ring_laws.specs.Apart.{IsApartRing}
 use Rattle.ring_laws.specs.Winding.{IsLeastVertex, RunsAsItTurns, RunsClockwise, RunsCounterclockwise}
 
@@ -39,11 +40,6 @@ module _ (ps qs : List Point) where
         subst (λ z. (z ≡ pos 0) ⊎ (z ≡ negsuc 0)) (winding_rotated ps qs x)
         (h.windings x at (λ on. off (on_some_rotated qs ps x on)));
   }
-
--- numbers whose opposites are 0 or 1
-opposites : (a b : ℤ) → b ≡ neg_ℤ a → (b ≡ pos 0) ⊎ (b ≡ pos 1) → (a ≡ pos 0) ⊎ (a ≡ negsuc 0)
-opposites a b e (inl h) = inl (omega (arith, ints))
-opposites a b e (inr h) = inr (omega (arith, ints))
 
 -- a ring that runs counterclockwise the other way round runs clockwise
 clockwise_turned : (ring : List Point) → RunsCounterclockwise (turned_round ring) → RunsClockwise ring

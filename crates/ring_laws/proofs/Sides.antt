@@ -3,6 +3,8 @@ use Rattle.std.proofs.Common.{◌≡◌, ◌⊎◌, inl, inr, ap, ℤ, pos, ◌-
 use Rattle.std.proofs.lemmas.Int.{ints}
 use Rattle.integer_algebra.proofs.Laws.{mul_comm, zero-mul}
 use Rattle.integer_algebra.proofs.Signs.{factor_zero, is_negative, is_positive, is_zero, sign}
+use Rattle.plane.proofs.Same.{whole_is_point}
+use Rattle.plane.proofs.Segments.{on_is_straight}
 use Rattle.plane.proofs.Vectors.{IsCombination, combination_of, determinant_along, determinant_is_linear, weights_positive}
 use Rattle.plane.specs.Point.{IsPoint, IsSame, Point, Triple, whole}
 use Rattle.plane.specs.Segment.{On}
@@ -11,8 +13,6 @@ use Rattle.rings.proofs.Combinations.{first_end_by, same_without_first, same_wit
 use Rattle.rings.proofs.SamePoint.{determinant_same}
 use Rattle.rings.proofs.Separation.{on_or_separated, separated_not_on}
 use Rattle.rings.proofs.SignSteps.{mean_negative, mean_positive, not_both, not_both_positive, zero_not_negative, zero_not_positive}
-use Rattle.plane.proofs.Segments.{on_is_straight}
-use Rattle.plane.proofs.Same.{whole_is_point}
 
 -- ---- points inside a segment
 

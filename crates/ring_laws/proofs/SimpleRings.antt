@@ -1,6 +1,6 @@
 -- The theorem of simple rings: a ring runs round once, as it turns at its least vertex.
-use Rattle.std.proofs.Common.{◌≡◌, ◌⊎◌, inl, inr, refl, sym, subst, ℕ, zero, suc, ◌+◌, ◌-◌, ◌<◌, ◌≤◌, arith}
 use Rattle.std.proofs.Common.{ℤ, pos, negsuc, List, [], ◌∷◌, ◌++◌, length}
+use Rattle.std.proofs.Common.{◌≡◌, ◌⊎◌, inl, inr, refl, sym, subst, ℕ, zero, suc, ◌+◌, ◌-◌, ◌<◌, ◌≤◌, arith}
 use Rattle.std.proofs.lemmas.Int.{ints}
 use Rattle.std.proofs.lemmas.List.{length-append}
 use Rattle.plane.proofs.Determinants.{determinant_shift, determinant_swap_first}
@@ -24,7 +24,7 @@ use Rattle.ring_laws.specs.Apart.{IsApartRing}
 use Rattle.ring_laws.specs.Winding.{IsLeastVertex, RunsAsItTurns, RunsClockwise, RunsCounterclockwise, WindsUpTo}
 
 -- a triangle
-triangle_law : (v w u : Point) → IsLeft (whole u) (whole v) (whole w) → RunsCounterclockwise (v ∷ w ∷ u ∷ [])
+pub triangle_law : (v w u : Point) → IsLeft (whole u) (whole v) (whole w) → RunsCounterclockwise (v ∷ w ∷ u ∷ [])
 triangle_law v w u left = record {
   area = omega (arith, ints, left, area_corner v w [] u, swept_triangle u v w);
   windings = λ x at off.

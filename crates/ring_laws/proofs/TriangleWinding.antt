@@ -14,10 +14,10 @@ use Rattle.rings.proofs.FarAway.{AllEnds}
 use Rattle.rings.proofs.SignSteps.{not_both, weak, zero_not_negative}
 use Rattle.rings.specs.Edge.{Edge, IsClosed, IsOnSome, edges_of}
 use Rattle.rings.specs.Inside.{crossing, winding}
-use Rattle.ring_laws.specs.Triangle.{IsInTriangle}
 use Rattle.ring_laws.proofs.BeyondLine.{not_right_on, right_of_all}
 use Rattle.ring_laws.proofs.TrianglePlaces.{IsInside, IsOutside, Place, inside, on_border, on_first, on_second, on_third, outside, place_of, right_of_first, right_of_second, right_of_third}
 use Rattle.ring_laws.proofs.Triangles.{in_triangle, left_at_first, left_at_last}
+use Rattle.ring_laws.specs.Triangle.{IsInTriangle}
 
 -- the sides of a triangle
 abbrev pub triangle : Point → Point → Point → List Edge
