@@ -1,5 +1,5 @@
 -- Sight, neighbours and reflex vertices of a ring that is read the other way round.
-use Rattle.std.proofs.Common.{◌≡◌, ◌↔◌, ◌⊎◌, inl, inr, ℕ, zero, suc, ◌+◌, ◌-◌, ◌<◌, ◌≤◌, Bool, true, false, MatchBool, ℤ, pos, ◌<ℤ◌, neg_ℤ, List, length, sym, ap, ◌∙◌, subst, arith}
+use Rattle.std.proofs.Common.{◌≡◌, ◌↔◌, inl, inr, ℕ, zero, suc, ◌+◌, ◌-◌, ◌<◌, Bool, true, false, MatchBool, ℤ, pos, ◌<ℤ◌, neg_ℤ, List, length, sym, ap, ◌∙◌, subst, arith}
 use Rattle.std.proofs.Math.Nat.{add-mod_right}
 use Rattle.std.proofs.lemmas.Int.{ints}
 use Rattle.std.specs.Prelude.{not, slice_index_or}
@@ -9,7 +9,7 @@ use Rattle.plane.specs.Turn.{determinant}
 use Rattle.rings.proofs.Turned.{length-turned_round, turned_from, turned_round-turned_round, turned_to, vertex-turned_round, vertex-turned_round-zero}
 use Rattle.rings.proofs.TurnedInside.{in_turned_iff}
 use Rattle.rings.specs.Bend.{AreNeighbours, IsReflexVertex}
-use Rattle.rings.specs.Orientation.{IsReflex, is_clockwise, turn_at, turned_round}
+use Rattle.rings.specs.Orientation.{is_clockwise, turn_at, turned_round}
 use Rattle.rings.specs.Ring.{origin, vertex}
 use Rattle.rings.specs.Sees.{Sees}
 

@@ -1,5 +1,5 @@
 -- The verdict on a list in a ring is that in the list that the ring was made of.
-use Rattle.std.proofs.Common.{◌≡◌, ◌↔◌, Bool, true, false, List, refl, sym, ap, ◌∙◌}
+use Rattle.std.proofs.Common.{◌≡◌, Bool, true, false, List, sym, ap}
 use Rattle.std.specs.Prelude.{if◌then◌else◌}
 use Rattle.plane.specs.Point.{Point}
 use Rattle.ring_check.specs.Oriented.{Oriented, given_of, oriented}
