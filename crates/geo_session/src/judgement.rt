@@ -38,8 +38,6 @@ fn given_verdict<L: Ledger>(
     requires { (1 ≤ length points.now) × (length points.now ≤ 4096) }
     ensures { IfOk result (IsVerdict (given_of ring.now) points.now) }
 {
-    // The number of vertices comes with what holds of every ring.
-    let _count = ring.len();
     check(alloc, ring, points, steps)
 }
 

@@ -1,5 +1,5 @@
 -- A ring that is kept counterclockwise, and the list that it was made of. This project's own.
-use Rattle.std.specs.Prelude.{◌≡◌, ℕ, ◌-◌, ◌%◌, Bool, if◌then◌else◌, List, length}
+use Rattle.std.specs.Prelude.{ℕ, ◌-◌, ◌%◌, Bool, if◌then◌else◌, List, length}
 use Rattle.plane.specs.Point.{Point}
 use Rattle.rings.specs.Orientation.{is_clockwise, turned_round}
 
@@ -18,10 +18,6 @@ oriented points = record {
 -- the given list
 abbrev pub given_of : Oriented → List Point
 given_of ring = if ring.is_turned then turned_round ring.corners else ring.corners
-
--- it is what is kept of the list that is given back, so it was turned round exactly if that list runs clockwise
-abbrev pub IsMadeOfList : Oriented → Type 0
-IsMadeOfList ring = ring ≡ oriented (given_of ring)
 
 -- the number that vertex i has in the given list
 abbrev pub given_index : Oriented → ℕ → ℕ

@@ -5,6 +5,10 @@ use Rattle.plane.specs.Segment.{On}
 use Rattle.rings.specs.Edge.{Edge, edges_of}
 use Rattle.rings.specs.Ring.{vertex}
 
+-- the edge from one point to another
+abbrev pub edge : Point → Point → Edge
+edge p q = record { from = p; to = q }
+
 -- e is one of the edges
 abbrev pub HasEdge : List Edge → Edge → Type 0
 HasEdge [] e = ⊥

@@ -1,15 +1,16 @@
 -- Sight, neighbours and reflex vertices of a ring that is read the other way round.
-use Rattle.std.proofs.Common.{◌≡◌, ◌↔◌, inl, inr, ℕ, zero, suc, ◌+◌, ◌-◌, ◌<◌, Bool, true, false, MatchBool, ℤ, pos, ◌<ℤ◌, neg_ℤ, List, length, sym, ap, ◌∙◌, subst, arith}
+use Rattle.std.proofs.Common.{◌≡◌, ◌↔◌, ◌⊎◌, inl, inr, ℕ, zero, suc, ◌+◌, ◌-◌, ◌<◌, ◌≤◌, ℤ, pos, ◌<ℤ◌, neg_ℤ, List, length, sym, ap, ◌∙◌, subst, arith}
 use Rattle.std.proofs.Math.Nat.{add-mod_right}
 use Rattle.std.proofs.lemmas.Int.{ints}
-use Rattle.std.specs.Prelude.{not, slice_index_or}
+use Rattle.std.specs.Prelude.{slice_index_or}
 use Rattle.plane.proofs.Determinants.{determinant_swap_ends}
 use Rattle.plane.specs.Point.{Point, Triple, whole}
 use Rattle.plane.specs.Turn.{determinant}
 use Rattle.rings.proofs.Turned.{length-turned_round, turned_from, turned_round-turned_round, turned_to, vertex-turned_round, vertex-turned_round-zero}
+use Rattle.rings.proofs.TurnedArea.{doubled_area-turned_round}
 use Rattle.rings.proofs.TurnedInside.{in_turned_iff}
 use Rattle.rings.specs.Bend.{AreNeighbours, IsReflexVertex}
-use Rattle.rings.specs.Orientation.{is_clockwise, turn_at, turned_round}
+use Rattle.rings.specs.Orientation.{IsReflex, turn_at, turned_round}
 use Rattle.rings.specs.Ring.{origin, vertex}
 use Rattle.rings.specs.Sees.{Sees}
 
@@ -91,28 +92,29 @@ module _ (ring : List Point) where
       (λ k. determinant (whole (before k)) (whole (h.at k)) (whole (h.after k)))
       ∙ determinant_swap_ends (whole (vertex ring (i + (length ring - 1)))) (whole (vertex ring i)) (whole (vertex ring (i + 1)))
 
-  -- where the orientations are opposite too, a turn against the one is against the other
-  against : (b : Bool) (z w : ℤ) → w ≡ neg_ℤ z → MatchBool b (pos 0 <ℤ z) (z <ℤ pos 0) → MatchBool (not b) (pos 0 <ℤ w) (w <ℤ pos 0)
-  against true z w e h = omega (arith, ints)
-  against false z w e h = omega (arith, ints)
+  -- and so is the orientation, so a reflex vertex stays one
+  against : (i j : ℕ) → IsTurnedAt ring i j → IsReflex ring i → IsReflex (turned_round ring) j
+  against i j h reflex =
+      let area = doubled_area-turned_round ring in
+      let turn = turn_at_turned i j h in
+      elim reflex [
+        | inl k ↦ inr (omega (arith, ints, area, k.0), omega (arith, ints, turn, k.1))
+        | inr k ↦ inl (omega (arith, ints, area, k.0), omega (arith, ints, turn, k.1))
+      ]
 
-  -- so a reflex vertex stays one
-  reflex_turned : is_clockwise (turned_round ring) ≡ not (is_clockwise ring) → (v : Point) → IsReflexVertex ring v → IsReflexVertex (turned_round ring) v
-  reflex_turned way v r =
+  reflex_turned : (v : Point) → IsReflexVertex ring v → IsReflexVertex (turned_round ring) v
+  reflex_turned v r =
       let (j, h) = turned_number r.i r.in_ring in
       record {
         i = j;
         in_ring = omega (arith, h.below, length-turned_round ring);
         is_vertex = h.at ∙ r.is_vertex;
-        reflex = rw way (against (is_clockwise ring) (turn_at ring r.i) (turn_at (turned_round ring) j) (turn_at_turned r.i j h) r.reflex);
+        reflex = against r.i j h r.reflex;
       }
 
--- the reflex vertices of a ring whose area is not 0 are those of the turned ring
-pub reflex_turned_iff : (ring : List Point) → is_clockwise (turned_round ring) ≡ true → is_clockwise ring ≡ false → (v : Point)
-    → IsReflexVertex (turned_round ring) v ↔ IsReflexVertex ring v
-reflex_turned_iff ring turned given v =
-    let back = turned_round-turned_round ring in (
-      λ r. subst (λ (vs : List Point). IsReflexVertex vs v) back
-          (reflex_turned (turned_round ring) (ap is_clockwise back ∙ given ∙ ap not (sym turned)) v r),
-      reflex_turned ring (turned ∙ ap not (sym given)) v,
-    )
+-- the reflex vertices of a ring are those of the turned ring
+pub reflex_turned_iff : (ring : List Point) (v : Point) → IsReflexVertex (turned_round ring) v ↔ IsReflexVertex ring v
+reflex_turned_iff ring v = (
+  λ r. subst (λ (vs : List Point). IsReflexVertex vs v) (turned_round-turned_round ring) (reflex_turned (turned_round ring) v r),
+  reflex_turned ring v,
+)

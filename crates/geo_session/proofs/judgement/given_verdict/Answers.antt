@@ -3,4 +3,4 @@ use Rattle.geo_session.proofs.judgement.given_verdict.Goals as goal
 
 pub returns : goal.returns
 returns g c =
-    judged_given c.args.ring.now c.args.points.now c.check.result c.len-count.ensures.made_of_list c.len-count.ensures.counterclockwise c.check.ensures.verdict
+    judged_given c.args.ring.now c.args.points.now c.check.result c.check.ensures.verdict

@@ -2,7 +2,7 @@ use Rattle.std.proofs.Common.{◌≡◌, length, refl, arith, ap, ap₂, Err}
 use Rattle.std.proofs.lemmas.List.{with_items_is}
 use Rattle.rings.proofs.LeastClash.{least_clash_is_one, no_least_clash}
 use Rattle.rings.specs.Simple.{IsLeastClash, IsSimple}
-use Rattle.ring_check.proofs.Oriented.{counterclockwise_oriented, length-oriented, made_oriented, simple_oriented}
+use Rattle.ring_check.proofs.Oriented.{counterclockwise_oriented, length-oriented, simple_oriented}
 use Rattle.ring_check.specs.Oriented.{oriented}
 use Rattle.ring_check.specs.declared.ring.RingFault.TheVariants as fault
 use Rattle.ring_check.proofs.ring.Ring.of.Goals as goal
@@ -43,6 +43,5 @@ invariant_of-result g c =
     let is : kept ≡ (oriented points).corners = rw c.deref_mut.ensures.value at c.turn_counterclockwise-is_turned.ensures.points in
     let long : length kept ≡ c.args.points.len = omega (arith, ap length is, length-oriented points) in
     let simple : IsSimple points = rw c.deref.ensures.value at c.in-None.ensures.simple in
-    let turned : c.turn_counterclockwise-is_turned.result ≡ (oriented points).is_turned = rw c.deref_mut.ensures.value at c.turn_counterclockwise-is_turned.ensures.turned in
-    rw (with_items_is c.args.points kept long, is, turned)
-    (omega arith, omega arith, simple_oriented points simple, counterclockwise_oriented points, made_oriented points)
+    rw (with_items_is c.args.points kept long, is)
+    (omega arith, omega arith, simple_oriented points simple, counterclockwise_oriented points (omega arith) simple)
