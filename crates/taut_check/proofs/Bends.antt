@@ -1,5 +1,5 @@
 -- Cones at bends: a point is in one or not, and two neighbours decide for all.
-use Rattle.std.proofs.Common.{◌≡◌, ◌⊎◌, ◌↔◌, inl, inr, refl, sym, subst, Bool, true, false, IsTrue, ℕ, ◌+◌, ◌-◌, ◌<◌, zero, suc, ℤ, pos, negsuc, ◌<ℤ◌, List, length, arith}
+use Rattle.std.proofs.Common.{◌≡◌, ◌⊎◌, ◌↔◌, inl, inr, refl, Bool, true, false, IsTrue, ℕ, ◌+◌, ◌-◌, ◌<◌, zero, suc, ℤ, pos, negsuc, ◌<ℤ◌, List, length, arith}
 use Rattle.std.proofs.lemmas.Int.{ints}
 use Rattle.std.specs.Prelude.{not}
 use Rattle.plane.proofs.Determinants.{straight_swap_first}

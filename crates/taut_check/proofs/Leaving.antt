@@ -1,5 +1,5 @@
 -- What holds at a place that a list doesn't leave the ring at.
-use Rattle.std.proofs.Common.{◌≡◌, ◌⊎◌, inl, inr, refl, Bool, true, false, IsTrue, ◌↔◌, ℕ, ◌+◌, ◌<◌, List, length}
+use Rattle.std.proofs.Common.{◌≡◌, inl, inr, refl, Bool, true, false, IsTrue, ◌↔◌, ℕ, ◌+◌, ◌<◌, List, length}
 use Rattle.std.specs.Prelude.{not}
 use Rattle.plane.proofs.Same.{whole_is_point}
 use Rattle.plane.specs.Point.{IsPoint, Point, Triple, whole}

@@ -1,12 +1,11 @@
 -- Two rings with the same points, edges and reflex vertices give the same verdicts.
-use Rattle.std.proofs.Common.{◌↔◌, ◌⊎◌, inl, inr, ℕ, ◌<◌, List}
-use Rattle.plane.specs.Point.{IsPoint, Point, Triple, whole}
-use Rattle.plane.specs.Segment.{On}
+use Rattle.std.proofs.Common.{◌↔◌, inl, inr, ℕ, List}
+use Rattle.plane.specs.Point.{Point, Triple, whole}
 use Rattle.rings.specs.Bend.{AreNeighbours, IsReflexVertex}
 use Rattle.rings.specs.Chain.{point_at}
 use Rattle.rings.specs.Inside.{IsIn}
 use Rattle.rings.specs.Sees.{Sees}
-use Rattle.taut_check.specs.Verdict.{IsBroken, IsFirstRule, IsLeastBroken, IsLeaving, IsNotReflex, IsOnWrongSide, IsUnbroken, IsVerdict}
+use Rattle.taut_check.specs.Verdict.{IsBroken, IsFirstRule, IsLeastBroken, IsLeaving, IsNotReflex, IsOnWrongSide, IsVerdict}
 use Rattle.taut_check.specs.declared.verdict.Verdict.{Verdict}
 use Rattle.taut_check.specs.declared.verdict.Verdict.TheVariants as verdict
 

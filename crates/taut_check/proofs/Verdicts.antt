@@ -1,10 +1,9 @@
 -- From what is found at each place to the verdict on the whole list.
-use Rattle.std.proofs.Common.{◌≡◌, ◌⊎◌, ◌↔◌, inl, inr, refl, sym, ap, subst, ℕ, ◌+◌, ◌-◌, ◌<◌, ◌≤◌, List, [], ◌∷◌, length, arith}
-use Rattle.plane.specs.Point.{Point, whole}
-use Rattle.rings.specs.Bend.{IsBend}
-use Rattle.rings.specs.Chain.{IsBentChain, IsChain, IsInner, point_at}
+use Rattle.std.proofs.Common.{◌≡◌, ◌↔◌, inl, inr, subst, ℕ, ◌<◌, List, length, arith}
+use Rattle.plane.specs.Point.{Point}
+use Rattle.rings.specs.Chain.{IsBentChain}
 use Rattle.taut_check.specs.Found.{IsSound, place_of}
-use Rattle.taut_check.specs.Verdict.{HasNoTurn, IsBroken, IsFirstRule, IsLeastBroken, IsLeaving, IsNotReflex, IsOnWrongSide, IsRepeat, IsUnbroken, IsUnseen, IsVerdict}
+use Rattle.taut_check.specs.Verdict.{IsBroken, IsFirstRule, IsLeastBroken, IsUnbroken, IsVerdict}
 use Rattle.taut_check.specs.declared.verdict.Verdict.{Verdict}
 use Rattle.taut_check.specs.declared.verdict.Verdict.TheVariants as verdict
 

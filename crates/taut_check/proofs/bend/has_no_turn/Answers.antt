@@ -1,4 +1,3 @@
-use Rattle.std.proofs.Common.{◌∙◌, sym}
 use Rattle.exact_plane.proofs.Directions.{straight_of_zero, zero_of_straight}
 use Rattle.taut_check.proofs.bend.has_no_turn.Goals as goal
 

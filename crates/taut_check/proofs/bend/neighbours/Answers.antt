@@ -1,4 +1,4 @@
-use Rattle.std.proofs.Common.{◌≡◌, ◌∙◌, ◌+◌, ◌-◌, arith, length}
+use Rattle.std.proofs.Common.{◌≡◌, ◌∙◌, ◌+◌, ◌-◌, length}
 use Rattle.rings.proofs.Vertices.{vertex_mod}
 use Rattle.rings.specs.Ring.{vertex}
 use Rattle.taut_check.proofs.Neighbours.{neighbour_iff}

@@ -1,4 +1,4 @@
-use Rattle.std.proofs.Common.{ℕ, ◌<◌, arith, below_more, length}
+use Rattle.std.proofs.Common.{◌<◌, arith, below_more, length}
 use Rattle.std.proofs.lemmas.Bool.Decides.{nat_tests}
 use Rattle.taut_check.proofs.Verdicts.{taut_found, unbroken, verdict_found}
 use Rattle.taut_check.specs.Found.{IsSound}
