@@ -1,6 +1,9 @@
 //! Triangles over the vertices of a polygon, and which of them share a side.
 #![tactic(auto)]
 
+mod mesh;
+mod sides;
 mod tri;
 
+pub use mesh::Mesh;
 pub use tri::Tri;

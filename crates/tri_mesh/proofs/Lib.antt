@@ -1,0 +1,5 @@
+mod MeshSides
+mod NeighbourRows
+mod Neighbours
+mod PieceEdges
+mod SideMaps
