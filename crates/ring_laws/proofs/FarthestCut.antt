@@ -18,7 +18,7 @@ use Rattle.ring_laws.specs.Apart.{HasEdge, IsApartRing, MeetAtEnds, edge}
 use Rattle.ring_laws.specs.Winding.{RunsCounterclockwise}
 
 -- the vertices ms are cs, z and ds; the segment from v to z meets the edges at ends, and is strictly between those at v
-pub record IsCut (v w : Point) (ms : List Point) (u z : Point) (cs ds : List Point) : Type 0 where
+pub record IsCutFrom (v w : Point) (ms : List Point) (u z : Point) (cs ds : List Point) : Type 0 where
   pub parts : ms ≡ cs ++ z ∷ ds
   pub meets : (e : Edge) → HasEdge (edges_of (v ∷ (w ∷ cs ++ z ∷ (ds ++ u ∷ [])))) e → MeetAtEnds e (edge v z)
   pub left_of_last : IsLeft (whole u) (whole v) (whole z)
@@ -40,7 +40,7 @@ module _ (v w : Point) (ms : List Point) (u z : Point) (cs ds : List Point) (par
 -- the farthest vertex in the triangle makes a cut
 pub farthest_cut : (v w : Point) (ms : List Point) (u : Point)
     → IsApartRing (v ∷ w ∷ (ms ++ u ∷ [])) → IsLeft (whole u) (whole v) (whole w) → (far : Farthest (InTriangle u v w) (height u w) ms)
-    → (cs : List Point) × (ds : List Point) × IsCut v w ms u far.point cs ds
+    → (cs : List Point) × (ds : List Point) × IsCutFrom v w ms u far.point cs ds
 farthest_cut v w ms u apart left far =
     let z : Point = far.point in
     let (cs, ds, parts) = split_at z ms far.has_point in
@@ -66,7 +66,7 @@ among_more p z ps qs h = elim (has_point_cases p ps (z ∷ []) h) [
   | inr k ↦ elim k [ inl e ↦ has_point_right p ps (z ∷ qs) (inl e) | inr none ↦ absurd none ]
 ]
 
-module _ (v w : Point) (ms : List Point) (u z : Point) (cs ds : List Point) (cut : IsCut v w ms u z cs ds)
+module _ (v w : Point) (ms : List Point) (u z : Point) (cs ds : List Point) (cut : IsCutFrom v w ms u z cs ds)
     (apart : IsApartRing (v ∷ w ∷ (ms ++ u ∷ []))) where
   -- the regrouped ring is apart
   pub apart_regrouped : IsApartRing (v ∷ (w ∷ cs ++ z ∷ (ds ++ u ∷ [])))

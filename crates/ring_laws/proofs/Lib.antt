@@ -5,8 +5,11 @@ pub mod BesideDiagonal
 pub mod BesideEdge
 pub mod BeyondLine
 pub mod Corner
+pub mod CounterclockwiseCuts
+pub mod CutAtVertex
 pub mod CutDiagonal
 pub mod CutDirection
+pub mod CutInTwo
 pub mod CutLaw
 pub mod CutRule
 pub mod CutRuleMirrored
@@ -19,6 +22,7 @@ pub mod EarStep
 pub mod EarWinding
 pub mod Ears
 pub mod CornerLaws
+pub mod CornerNumbers
 pub mod EmptyTriangle
 pub mod FarTargets
 pub mod Farthest

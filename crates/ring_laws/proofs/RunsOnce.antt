@@ -23,7 +23,7 @@ use Rattle.ring_laws.specs.Winding.{IsLeastVertex, RunsAsItTurns, RunsClockwise,
 
 module _ (ps qs : List Point) where
   -- a ring runs as it does from another vertex on
-  counterclockwise_rotated : RunsCounterclockwise (qs ++ ps) → RunsCounterclockwise (ps ++ qs)
+  pub counterclockwise_rotated : RunsCounterclockwise (qs ++ ps) → RunsCounterclockwise (ps ++ qs)
   counterclockwise_rotated h = record {
     area = subst (λ z. pos 0 <ℤ z) (area_rotated ps qs) h.area;
     windings = λ x at off.
@@ -79,7 +79,7 @@ module _ (n : ℕ) (law : LeftTurnLaw n) where
       ]
 
   -- with the least vertex first
-  runs_from_first : (v w : Point) (ms : List Point) (u : Point) → length ms ≡ n → IsApartRing (v ∷ w ∷ (ms ++ u ∷ []))
+  pub runs_from_first : (v w : Point) (ms : List Point) (u : Point) → length ms ≡ n → IsApartRing (v ∷ w ∷ (ms ++ u ∷ []))
       → NoneBefore (w ∷ (ms ++ u ∷ [])) v → RunsAsItTurns (v ∷ w ∷ (ms ++ u ∷ [])) 0
   runs_from_first v w ms u size apart least =
       let turn = turn_at_first v w ms u in

@@ -13,7 +13,7 @@ use Rattle.ring_laws.proofs.CutStep.{cut_counterclockwise}
 use Rattle.ring_laws.proofs.DistinctPoints.{has_point_right}
 use Rattle.ring_laws.proofs.EarStep.{apart_without, ear_counterclockwise}
 use Rattle.ring_laws.proofs.Farthest.{farthest_or_none}
-use Rattle.ring_laws.proofs.FarthestCut.{IsCut, apart_regrouped, farthest_cut, fewer_vertices, first_runs, ring_regrouped, second_runs}
+use Rattle.ring_laws.proofs.FarthestCut.{IsCutFrom, apart_regrouped, farthest_cut, fewer_vertices, first_runs, ring_regrouped, second_runs}
 use Rattle.ring_laws.proofs.FarthestEnd.{InTriangle, height, in_triangle_or_not}
 use Rattle.ring_laws.proofs.LeastVertex.{NoneBefore, least_vertex}
 use Rattle.ring_laws.proofs.RunsOnce.{LeftTurnLaw, runs_as_it_turns}
@@ -40,7 +40,7 @@ module _ (n : ℕ) (fewer : (j : ℕ) → j < n → LeftTurnLaw j) where
       elim (runs_as_it_turns j (fewer j less) ring size apart i within least) [ inl h ↦ inl h.1 | inr h ↦ inr h.1 ]
 
   -- a ring with a cut from v to z
-  cut_law : (v w : Point) (ms : List Point) (u z : Point) (cs ds : List Point) → IsCut v w ms u z cs ds → length ms ≡ n
+  cut_law : (v w : Point) (ms : List Point) (u z : Point) (cs ds : List Point) → IsCutFrom v w ms u z cs ds → length ms ≡ n
       → IsApartRing (v ∷ w ∷ (ms ++ u ∷ [])) → NoneBefore (w ∷ (ms ++ u ∷ [])) v → RunsCounterclockwise (v ∷ w ∷ (ms ++ u ∷ []))
   cut_law v w ms u z cs ds cut size apart least =
       let less = fewer_vertices v w ms u z cs ds cut.parts in

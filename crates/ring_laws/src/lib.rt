@@ -1,2 +1,6 @@
-//! Laws of simple rings. There is no code here yet.
+//! Simple polygons wind once, have diagonals, and are cut in two by each of them.
 #![tactic(auto)]
+
+mod laws;
+
+pub use laws::{cut_rule, diagonal_cut, simple_ring};

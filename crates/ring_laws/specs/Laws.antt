@@ -1,0 +1,26 @@
+-- The laws of simple rings, as statements. As in the textbooks.
+use Rattle.std.specs.Prelude.{ℕ, ◌<◌, ◌≤◌, List, length}
+use Rattle.plane.specs.Point.{Point}
+use Rattle.rings.specs.Ring.{vertex}
+use Rattle.rings.specs.Simple.{IsSimple}
+use Rattle.ring_laws.specs.CutRule.{IsCut}
+use Rattle.ring_laws.specs.Diagonal.{IsDiagonal}
+use Rattle.ring_laws.specs.Pieces.{IsCutInTwo, first_piece, second_piece}
+use Rattle.ring_laws.specs.Winding.{IsLeastVertex, RunsAsItTurns}
+
+-- a simple ring runs once round: counterclockwise where it turns left at its least vertex, else it turns right there and runs
+-- clockwise
+abbrev pub SimpleRingLaw : Type 0
+SimpleRingLaw = (ring : List Point) → 3 ≤ length ring → IsSimple ring → (i : ℕ) → i < length ring → IsLeastVertex ring i
+    → RunsAsItTurns ring i
+
+-- the cut of a simple ring at its least vertex is a diagonal
+abbrev pub CutRuleLaw : Type 0
+CutRuleLaw = (ring : List Point) → 3 < length ring → IsSimple ring → (i : ℕ) → i < length ring → IsLeastVertex ring i
+    → (a b : Point) → IsCut ring i a b → IsDiagonal ring a b
+
+-- a diagonal cuts a simple ring into two simple pieces, which together are the ring and share only points of the diagonal
+abbrev pub CutLaw : Type 0
+CutLaw = (ring : List Point) → 3 ≤ length ring → IsSimple ring → (i j : ℕ) → i < j → j < length ring
+    → IsDiagonal ring (vertex ring i) (vertex ring j)
+    → IsCutInTwo ring (first_piece ring i j) (second_piece ring i j) (vertex ring i) (vertex ring j)
