@@ -1,10 +1,10 @@
 -- Pieces of a polygon: simple polygons with some of its vertices. This project's own.
-use Rattle.std.specs.Prelude.{ℕ, ◌-◌, ◌<◌, ◌≤◌, pos, ◌<ℤ◌, List, length, slice_index_or}
+use Rattle.std.specs.Prelude.{ℕ, ◌-◌, ◌<◌, ◌≤◌, List, length, slice_index_or}
 use Rattle.plane.specs.Order.{IsBefore}
 use Rattle.plane.specs.Point.{Point}
-use Rattle.rings.specs.Orientation.{doubled_area}
 use Rattle.rings.specs.Ring.{vertex}
 use Rattle.rings.specs.Simple.{IsSimple}
+use Rattle.ring_laws.specs.Winding.{RunsCounterclockwise}
 use Rattle.tri_mesh.specs.Fits.{points_of}
 use Rattle.tri_mesh.specs.declared.tri.Tri.{Tri}
 
@@ -17,7 +17,7 @@ pub record IsPiece (corners : List Point) (piece : List ℕ) : Type 0 where
   pub some : 3 ≤ length piece
   pub numbers : HasNumbers corners piece
   pub simple : IsSimple (points_of corners piece)
-  pub counterclockwise : pos 0 <ℤ doubled_area (points_of corners piece)
+  pub counterclockwise : RunsCounterclockwise (points_of corners piece)
 
 -- the vertex at place k
 abbrev pub corner_at : List Point → List ℕ → ℕ → Point

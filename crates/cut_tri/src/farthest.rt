@@ -3,7 +3,7 @@ ghost use Rattle.std.specs.Prelude.{◌≡◌, ◌<◌, ◌≤◌, ◌^◌, ◌�
 ghost use Rattle.cut_tri.specs.Corner.{IsFarther, IsFartherOf, IsFarthestBelow, IsInCorner};
 ghost use Rattle.cut_tri.specs.Piece.{HasNumbers};
 ghost use Rattle.plane.specs.Point.{whole};
-ghost use Rattle.plane.specs.Turn.{determinant};
+ghost use Rattle.plane.specs.Turn.{IsRight, determinant};
 ghost use Rattle.ring_laws.specs.Triangle.{IsInTriangle, height_over};
 
 use exact_plane::{Direction, Pt, Steps, turn};
@@ -86,10 +86,18 @@ impl Corner {
     fn holds<L: Ledger>(&self, p: &Pt, steps: &mut Steps<L>) -> bool
         ensures { IsTrue result ↔ IsInTriangle self.now.u self.now.v self.now.w (whole p.now) }
     {
-        turn(&self.u, &self.v, p, steps) != Direction::Right
-            && turn(&self.v, &self.w, p, steps) != Direction::Right
-            && turn(&self.w, &self.u, p, steps) != Direction::Right
+        !is_right(&self.u, &self.v, p, steps)
+            && !is_right(&self.v, &self.w, p, steps)
+            && !is_right(&self.w, &self.u, p, steps)
     }
+}
+
+// Whether `p` is right of the line from `a` to `b`.
+#[tactic(auto, using(crate::proofs::RightTurns::right_turns))]
+fn is_right<L: Ledger>(a: &Pt, b: &Pt, p: &Pt, steps: &mut Steps<L>) -> bool
+    ensures { IsTrue result ↔ IsRight (whole a.now) (whole b.now) (whole p.now) }
+{
+    turn(a, b, p, steps) == Direction::Right
 }
 
 // Twice the area of a triangle, positive where its corners run counterclockwise.
