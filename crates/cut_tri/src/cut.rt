@@ -1,5 +1,5 @@
 // One cut of a piece: some of the vertices of a polygon, by their numbers, in the order of the piece's boundary.
-ghost use Rattle.std.specs.Prelude.{◌≡◌, ◌<◌, ◌≤◌, ◌↔◌, IfOk, IsTrue, length, vec_len, drop, slice_index, ◌∷◌};
+ghost use Rattle.std.specs.Prelude.{◌≡◌, ◌<◌, ◌≤◌, ◌↔◌, IfOk, IsTrue, length, drop, slice_index, ◌∷◌};
 ghost use Rattle.plane.specs.Order.{IsBefore};
 ghost use Rattle.rings.specs.Ring.{vertex};
 ghost use Rattle.cut_tri.specs.Cutting.{IsCutOf};
@@ -48,7 +48,7 @@ fn cut_at_first<L: Ledger>(
     steps: &mut Steps<L>,
 ) -> Result<Remains, Memory>
     requires piece { IsPiece ring.now.corners piece.items }
-    requires least { IsLeastBelow ring.now.corners piece.items (vec_len piece) 0 }
+    requires least { IsLeastBelow ring.now.corners piece.items (length piece.items) 0 }
     ensures { IfOk result (IsCutOf ring.now.corners piece.items) }
 {
     let tri = corner_of(&piece);
