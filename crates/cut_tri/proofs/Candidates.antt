@@ -1,5 +1,5 @@
 -- The farthest of several candidates, one after another.
-use Rattle.std.proofs.Common.{◌≡◌, ◌⊎◌, inl, inr, refl, sym, ap, subst, ◌∙◌, ℕ, ◌+◌, ◌<◌, Option, Some, None, List, length, below_more, arith}
+use Rattle.std.proofs.Common.{◌≡◌, ◌⊎◌, inl, inr, refl, sym, ap, subst, ◌∙◌, ℕ, ◌+◌, ◌-◌, ◌<◌, ◌≤◌, Option, Some, None, List, length, below_more, arith}
 use Rattle.std.proofs.lemmas.Int.{ints}
 use Rattle.plane.specs.Point.{Point}
 use Rattle.cut_tri.specs.Corner.{IsBestBelow, IsFarther, IsFartherOf, IsFarthestBelow, IsInCorner, candidate_at}
@@ -59,3 +59,11 @@ module _ (corners : List Point) (piece : List ℕ) (n : ℕ) (best : Option Cand
       where
         some_is : (b : Candidate) → Some chosen ≡ Some b → chosen ≡ b
         some_is b e = cc
+
+-- the farthest of all places but the last is the farthest of all
+pub farthest_of_all : (corners : List Point) (piece : List ℕ) (n place : ℕ) → length piece - 1 ≤ n → IsFarthestBelow corners piece n place
+    → IsFarthestBelow corners piece (length piece) place
+farthest_of_all corners piece n place all far = record {
+  in_corner = far.in_corner;
+  farthest = λ j h in_j. far.farthest j (omega (arith, in_j.before_last)) in_j;
+}

@@ -1,8 +1,10 @@
 -- The pieces that are still to be cut: how they complete a mesh, and how much is still to be done.
 use Rattle.std.proofs.Common.{◌≡◌, refl, sym, ap, subst, ◌∙◌, ℕ, ◌+◌, ◌<◌, List, [], ◌∷◌, ◌++◌, length, map, reverse, Vec, Global, arith}
 use Rattle.std.proofs.lemmas.List.{append_assoc, map-append, reverse-append}
+use Rattle.std.proofs.lemmas.List.FromFn.{length-range_with_len}
+use Rattle.std.specs.List.{range_with_len}
 use Rattle.plane.specs.Point.{Point}
-use Rattle.tri_mesh.specs.Fits.{FitsPiece}
+use Rattle.tri_mesh.specs.Fits.{Fits, FitsPiece}
 use Rattle.tri_mesh.specs.declared.tri.Tri.{Tri}
 use Rattle.cut_tri.specs.Completion.{ArePieces, Completes, IsTakenOver, effort, last_first}
 use Rattle.cut_tri.specs.Cutting.{AreParts, IsCutOf, IsEar}
@@ -57,3 +59,39 @@ module _ (corners : List Point) (piece : List ℕ) (pieces : List (List ℕ)) (d
   nearer (Parts first second) done_after pieces_after is taken =
       subst (λ ts. IsNearer corners (effort (piece ∷ pieces)) ts pieces_after) (sym taken.0)
       (subst (IsNearer corners (effort (piece ∷ pieces)) done) (sym taken.1) (with_parts first.items second.items is))
+
+-- ---- the work list
+
+module _ (corners : List Point) where
+  -- at the start it has the piece of all vertices
+  pub at_start : (work : List (Vec ℕ Global)) (piece : Vec ℕ Global) (done : List Tri) → work ≡ piece ∷ [] → piece.items ≡ range_with_len 0 (length corners)
+      → done ≡ [] → IsPiece corners (range_with_len 0 (length corners)) → ArePieces corners (last_first work) × Completes corners done (last_first work)
+  at_start work piece done work_is piece_is done_is is_piece =
+      subst (λ ws. ArePieces corners (last_first ws) × Completes corners done (last_first ws)) (sym work_is)
+      (subst (λ xs. ArePieces corners (xs ∷ []) × Completes corners done (xs ∷ [])) (sym piece_is)
+      (subst (λ ts. ArePieces corners (range_with_len 0 (length corners) ∷ []) × Completes corners ts (range_with_len 0 (length corners) ∷ [])) (sym done_is)
+      ((is_piece, tt), λ ts fit. fit)))
+
+  module _ (work rest : List (Vec ℕ Global)) (piece : Vec ℕ Global) (done : List Tri) (is : work ≡ rest ++ piece ∷ [])
+      (so_far : ArePieces corners (last_first work) × Completes corners done (last_first work)) where
+    -- the pieces are the last one and the others
+    pieces_are : last_first work ≡ piece.items ∷ last_first rest
+    pieces_are = ap last_first is ∙ last_first-push rest piece
+
+    -- the last one is a piece
+    pub last_is_piece : IsPiece corners piece.items
+    last_is_piece = (subst (ArePieces corners) pieces_are so_far.0).0
+
+    -- to cut it comes nearer
+    pub one_step : (remains : Remains) (done_after : List Tri) (pieces_after : List (List ℕ)) → IsCutOf corners piece.items remains
+        → IsTakenOver remains done (last_first rest) done_after pieces_after → IsNearer corners (effort (last_first work)) done_after pieces_after
+    one_step remains done_after pieces_after is_cut taken =
+        subst (λ n. IsNearer corners n done_after pieces_after) (sym (ap effort pieces_are))
+        (nearer corners piece.items (last_first rest) done last_is_piece (subst (ArePieces corners) pieces_are so_far.0).1
+        (subst (Completes corners done) pieces_are so_far.1) remains done_after pieces_after is_cut taken)
+
+  -- in the end the triangles fit, as many as there are vertices but two
+  pub at_end : (work : List (Vec ℕ Global)) (done : List Tri) → length work ≡ 0 → Completes corners done (last_first work)
+      → Fits corners done × (length done + 2 ≡ length corners)
+  at_end [] done none fits = (fits, fits.count ∙ length-range_with_len 0 (length corners))
+  at_end (v ∷ work) done none fits = absurd (omega arith)

@@ -4,6 +4,7 @@ ghost use Rattle.cut_tri.specs.Corner.{IsFarther, IsFartherOf, IsFarthestBelow, 
 ghost use Rattle.cut_tri.specs.Piece.{HasNumbers};
 ghost use Rattle.plane.specs.Point.{whole};
 ghost use Rattle.plane.specs.Turn.{IsRight, determinant};
+ghost use Rattle.rings.specs.Ring.{vertex};
 ghost use Rattle.ring_laws.specs.Triangle.{IsInTriangle, height_over};
 
 use exact_plane::{Direction, Pt, Steps, turn};
@@ -50,12 +51,11 @@ pub(crate) fn farthest<L: Ledger>(ring: &Ring, piece: &[u32], steps: &mut Steps<
     };
     let mut best: Option<Candidate> = None;
     for place in 2..piece.len() - 1 {
-        if let Some(height) = corner.height_of(&ring.corner(piece[place]), steps) {
-            let number = piece[place];
-            best = Some(farther(best, Candidate { height, number, place }));
+        if let Some(candidate) = corner.candidate(ring, piece[place], place, steps) {
+            best = Some(farther(best, candidate));
         }
     }
-    best.map(|candidate| candidate.place)
+    Some(best?.place)
 }
 
 // The farther of two.
@@ -69,17 +69,35 @@ fn farther(best: Option<Candidate>, candidate: Candidate) -> Candidate
 }
 
 impl Corner {
-    // How far the point is from the line through u and w, if it is in the closed triangle.
-    fn height_of<L: Ledger>(&self, p: &Pt, steps: &mut Steps<L>) -> Option<i64>
-        ensures inside { IfSome result (λ height. IsInTriangle self.now.u self.now.v self.now.w (whole p.now)) }
-        ensures height { IfSome result (λ height. height ≡ height_over self.now.u self.now.w (whole p.now)) }
-        ensures outside { IfNone result (¬ (IsInTriangle self.now.u self.now.v self.now.w (whole p.now))) }
+    // The vertex with this number, if it is in the closed triangle.
+    fn candidate<L: Ledger>(
+        &self,
+        ring: &Ring,
+        number: u32,
+        place: usize,
+        steps: &mut Steps<L>,
+    ) -> Option<Candidate>
+        requires { number < length ring.now.corners }
+        ensures inside { IfSome result (λ candidate.
+            IsInTriangle self.now.u self.now.v self.now.w (whole (vertex ring.now.corners number))) }
+        ensures outside { IfNone result
+            (¬ (IsInTriangle self.now.u self.now.v self.now.w (whole (vertex ring.now.corners number)))) }
+        ensures candidate { IfSome result (λ candidate. candidate ≡ record {
+            height = height_over self.now.u self.now.w (whole (vertex ring.now.corners number));
+            number = number;
+            place = place;
+        }) }
     {
-        if self.holds(p, steps) {
-            Some(doubled_area(&self.w, &self.u, p, steps))
-        } else {
-            None
+        let p = ring.corner(number);
+        if !self.holds(&p, steps) {
+            return None;
         }
+        let height = doubled_area(&self.w, &self.u, &p, steps);
+        Some(Candidate {
+            height,
+            number,
+            place,
+        })
     }
 
     // Whether the point is in the closed triangle: right of no side.
