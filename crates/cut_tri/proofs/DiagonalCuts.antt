@@ -1,8 +1,8 @@
 -- A piece with vertices in the triangle at its first vertex: the diagonal to the farthest of them makes two pieces.
-use Rattle.std.proofs.Common.{◌≡◌, inl, inr, refl, sym, ap, subst, ◌∙◌, ℕ, ◌+◌, ◌<◌, ℤ, ◌≤ℤ◌, ◌<ℤ◌, List, [], ◌∷◌, ◌++◌, length, get_or, take, drop, arith}
+use Rattle.std.proofs.Common.{◌≡◌, inl, refl, sym, ap, subst, ◌∙◌, ℕ, ◌+◌, ◌<◌, ℤ, ◌≤ℤ◌, ◌<ℤ◌, List, [], ◌∷◌, ◌++◌, length, get_or, take, drop, arith}
 use Rattle.std.proofs.lemmas.Int.{ints}
 use Rattle.std.proofs.lemmas.List.{append_assoc, drop_at, get_or_at, length-append, map-append, take_at}
-use Rattle.plane.specs.Point.{Point, whole}
+use Rattle.plane.specs.Point.{Point}
 use Rattle.rings.specs.Ring.{vertex}
 use Rattle.ring_laws.proofs.CounterclockwiseCuts.{IsCounterclockwiseCut, farthest_cut_runs}
 use Rattle.ring_laws.proofs.DistinctPoints.{HasPoint, has_point_right}

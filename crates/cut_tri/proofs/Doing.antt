@@ -1,5 +1,5 @@
 -- The pieces that are still to be cut: how they complete a mesh, and how much is still to be done.
-use Rattle.std.proofs.Common.{◌≡◌, refl, sym, ap, subst, ◌∙◌, ℕ, ◌+◌, ◌<◌, List, [], ◌∷◌, ◌++◌, length, map, reverse, Vec, Global, arith}
+use Rattle.std.proofs.Common.{◌≡◌, sym, ap, subst, ◌∙◌, ℕ, ◌+◌, ◌<◌, List, [], ◌∷◌, ◌++◌, length, map, reverse, Vec, Global, arith}
 use Rattle.std.proofs.lemmas.List.{append_assoc, map-append, reverse-append}
 use Rattle.std.proofs.lemmas.List.FromFn.{length-range_with_len}
 use Rattle.std.specs.List.{range_with_len}
@@ -64,10 +64,11 @@ module _ (corners : List Point) (piece : List ℕ) (pieces : List (List ℕ)) (d
 
 module _ (corners : List Point) where
   -- at the start it has the piece of all vertices
-  pub at_start : (work : List (Vec ℕ Global)) (piece : Vec ℕ Global) (done : List Tri) → work ≡ piece ∷ [] → piece.items ≡ range_with_len 0 (length corners)
+  pub at_start : (none work : List (Vec ℕ Global)) (piece : Vec ℕ Global) (done : List Tri) → none ≡ [] → work ≡ none ++ piece ∷ []
+      → piece.items ≡ range_with_len 0 (length corners)
       → done ≡ [] → IsPiece corners (range_with_len 0 (length corners)) → ArePieces corners (last_first work) × Completes corners done (last_first work)
-  at_start work piece done work_is piece_is done_is is_piece =
-      subst (λ ws. ArePieces corners (last_first ws) × Completes corners done (last_first ws)) (sym work_is)
+  at_start none work piece done none_is work_is piece_is done_is is_piece =
+      subst (λ ws. ArePieces corners (last_first ws) × Completes corners done (last_first ws)) (sym (work_is ∙ ap (λ ws. ws ++ piece ∷ []) none_is))
       (subst (λ xs. ArePieces corners (xs ∷ []) × Completes corners done (xs ∷ [])) (sym piece_is)
       (subst (λ ts. ArePieces corners (range_with_len 0 (length corners) ∷ []) × Completes corners ts (range_with_len 0 (length corners) ∷ [])) (sym done_is)
       ((is_piece, tt), λ ts fit. fit)))

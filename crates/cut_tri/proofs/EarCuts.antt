@@ -1,9 +1,8 @@
 -- A piece at whose first vertex the triangle is empty: the triangle is an ear.
-use Rattle.std.proofs.Common.{◌≡◌, inl, inr, sym, subst, ℕ, ◌+◌, ◌<◌, ◌≤◌, List, [], ◌∷◌, ◌++◌, length, remove, arith}
+use Rattle.std.proofs.Common.{◌≡◌, inl, inr, sym, subst, ℕ, ◌<◌, List, [], ◌∷◌, ◌++◌, length, remove, arith}
 use Rattle.std.proofs.lemmas.List.{length-append, length-map, map-append}
 use Rattle.plane.proofs.Segments.{on_reversed}
-use Rattle.plane.specs.Point.{IsPoint, Point, Triple, whole}
-use Rattle.rings.specs.Inside.{IsIn}
+use Rattle.plane.specs.Point.{Point, whole}
 use Rattle.rings.specs.Ring.{vertex}
 use Rattle.ring_laws.proofs.CounterclockwiseCuts.{IsCounterclockwiseCut, ear_cut_runs}
 use Rattle.ring_laws.proofs.Rotated.{in_rotated}
@@ -12,7 +11,7 @@ use Rattle.tri_mesh.proofs.Cuts.{IsCut, contains_rest}
 use Rattle.tri_mesh.proofs.Ears.{fits_ear}
 use Rattle.tri_mesh.proofs.Rotated.{fits_rotated, same_rotated}
 use Rattle.tri_mesh.specs.Fits.{FitsPiece, points_of}
-use Rattle.cut_tri.proofs.CornerPlaces.{ends_run, ends_simple, first_left, none_before, none_in_triangle, points_are}
+use Rattle.cut_tri.proofs.CornerPlaces.{ends_run, ends_simple, first_left, none_before, none_in_triangle}
 use Rattle.cut_tri.proofs.Members.{members_of_numbers, numbers_of_members}
 use Rattle.cut_tri.proofs.Shapes.{by_ends, first_tri_is}
 use Rattle.cut_tri.specs.Corner.{IsInCorner}

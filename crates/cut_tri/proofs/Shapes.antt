@@ -1,5 +1,5 @@
 -- A list of three numbers or more: the first, the second, some others and the last.
-use Rattle.std.proofs.Common.{◌≡◌, refl, sym, ap, subst, ◌∙◌, ℕ, zero, suc, ◌+◌, ◌-◌, ◌<◌, ◌≤◌, List, [], ◌∷◌, ◌++◌, length, get_or, take, drop, arith}
+use Rattle.std.proofs.Common.{◌≡◌, refl, sym, ap, subst, ◌∙◌, ℕ, suc, ◌+◌, ◌-◌, ◌<◌, ◌≤◌, List, [], ◌∷◌, ◌++◌, length, get_or, take, drop, arith}
 use Rattle.std.proofs.lemmas.List.{append_assoc, drop_more, get_or_append_left, get_or_at, length-append, length-take-le, take-append-drop}
 use Rattle.cut_tri.specs.Piece.{tri_at_first}
 

@@ -1,7 +1,7 @@
 -- The piece of all vertices of a ring.
-use Rattle.std.proofs.Common.{◌≡◌, inl, inr, refl, sym, ap, subst, ◌∙◌, ℕ, zero, suc, ◌+◌, ◌<◌, ◌≤◌, List, [], ◌∷◌, ◌++◌, length, get_or, map, false, ℤ, pos, negsuc, ◌<ℤ◌, arith}
+use Rattle.std.proofs.Common.{◌≡◌, inl, inr, sym, ap, subst, ◌∙◌, ℕ, ◌+◌, ◌<◌, ◌≤◌, List, [], ◌∷◌, ◌++◌, length, false, ℤ, pos, negsuc, ◌<ℤ◌, arith}
 use Rattle.std.proofs.lemmas.Int.{ints}
-use Rattle.std.proofs.lemmas.List.{length-map, same_lists, map-id}
+use Rattle.std.proofs.lemmas.List.{same_lists, map-id}
 use Rattle.std.proofs.lemmas.List.FromFn.{get_or-map-range_with_len, get_or-range_with_len, length-map-range_with_len, length-range_with_len, map-range_with_len_more}
 use Rattle.std.specs.Int.Signed.{lt_z}
 use Rattle.std.specs.List.{range_with_len}
@@ -12,7 +12,7 @@ use Rattle.rings.specs.Ring.{vertex}
 use Rattle.rings.specs.Simple.{IsSimple}
 use Rattle.ring_laws.proofs.SimpleIsApart.{apart_of_simple}
 use Rattle.ring_laws.proofs.SimpleRings.{runs_round}
-use Rattle.ring_laws.specs.Winding.{RunsClockwise, RunsCounterclockwise}
+use Rattle.ring_laws.specs.Winding.{RunsCounterclockwise}
 use Rattle.tri_mesh.specs.Fits.{points_of}
 use Rattle.cut_tri.specs.Piece.{IsPiece}
 

@@ -1,6 +1,6 @@
 -- The vertices in the triangle at the first vertex of a piece, and the farthest of them. From the textbooks' proof that a
 -- simple polygon has a diagonal.
-use Rattle.std.specs.Prelude.{◌≡◌, ◌⊎◌, ℕ, ◌+◌, ◌-◌, ◌<◌, ◌≤◌, ℤ, ◌<ℤ◌, Option, Some, None, List, length, slice_index_or}
+use Rattle.std.specs.Prelude.{◌≡◌, ◌⊎◌, ℕ, ◌+◌, ◌-◌, ◌<◌, ◌≤◌, ◌<ℤ◌, Option, Some, None, List, length, slice_index_or}
 use Rattle.plane.specs.Point.{Point, whole}
 use Rattle.ring_laws.specs.Triangle.{IsInTriangle, height_over}
 use Rattle.cut_tri.specs.Piece.{corner_at}

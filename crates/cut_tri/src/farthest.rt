@@ -83,9 +83,9 @@ impl Corner {
         ensures outside { IfNone result
             (¬ (IsInTriangle self.now.u self.now.v self.now.w (whole (vertex ring.now.corners number)))) }
         ensures candidate { IfSome result (λ candidate. candidate ≡ record {
-            height = height_over self.now.u self.now.w (whole (vertex ring.now.corners number));
-            number = number;
-            place = place;
+          height = height_over self.now.u self.now.w (whole (vertex ring.now.corners number));
+          number = number;
+          place = place;
         }) }
     {
         let p = ring.corner(number);

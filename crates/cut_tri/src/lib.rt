@@ -3,6 +3,8 @@
 
 mod cut;
 mod farthest;
+#[cfg(test)]
+mod tests;
 mod triangulation;
 
 pub use triangulation::triangulate;

@@ -11,7 +11,11 @@ use std::sync::ledger::Ledger;
 use tri_mesh::{Mesh, Tri};
 
 /// A triangulation of the polygon. It is cut along one diagonal after another, until each piece is a triangle.
-pub fn triangulate<L: Ledger>(alloc: Global, ring: &Ring, steps: &mut Steps<L>) -> Result<Mesh, Memory>
+pub fn triangulate<L: Ledger>(
+    alloc: Global,
+    ring: &Ring,
+    steps: &mut Steps<L>,
+) -> Result<Mesh, Memory>
     ensures fits { IfOk result (λ mesh. Fits ring.now.corners mesh) }
 {
     let mut tris = Vec::with_capacity(alloc, ring.len() as usize - 2)?;

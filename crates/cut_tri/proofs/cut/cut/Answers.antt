@@ -1,7 +1,7 @@
-use Rattle.std.proofs.Common.{subst, sym, length}
+use Rattle.std.proofs.Common.{ℕ, List, subst, sym, length}
 use Rattle.cut_tri.proofs.RotatedCuts.{least_from, piece_from, result_from}
 use Rattle.cut_tri.specs.Cutting.{IsCutOf}
-use Rattle.cut_tri.specs.Piece.{IsLeastBelow, IsPiece}
+use Rattle.cut_tri.specs.Piece.{IsLeastBelow}
 use Rattle.std.specs.Prelude.{IfOk}
 use Rattle.cut_tri.proofs.cut.cut.Goals as goal
 
@@ -14,7 +14,7 @@ cut_at_first-requires-clause-least g c =
     let corners = c.args.ring.now.corners in
     let found = rw c.deref.ensures.value at c.least_place-least.ensures.least in
     let within = rw c.deref.ensures.value at c.least_place-least.ensures.place in
-    subst (λ xs. IsLeastBelow corners xs (length xs) 0) (sym c.rotate_left.ensures.items)
+    subst (λ xs. IsLeastBelow corners xs (length xs) 0) (sym {A = List ℕ} c.rotate_left.ensures.items)
     (least_from corners c.args.piece.items c.least_place-least.result c.requires within found)
 
 pub returns : goal.returns

@@ -1,8 +1,6 @@
-use Rattle.std.proofs.Common.{◌≡◌, subst, sym, ◌∙◌, ◌∷◌, [], length}
-use Rattle.tri_mesh.specs.Fits.{FitsPiece}
+use Rattle.std.proofs.Common.{sym, ◌∙◌}
 use Rattle.cut_tri.proofs.DiagonalCuts.{parts_cut}
 use Rattle.cut_tri.proofs.EarCuts.{ear_cut, triangle_cut}
-use Rattle.cut_tri.specs.Piece.{tri_at_first}
 use Rattle.cut_tri.proofs.cut.cut_at_first.Goals as goal
 
 pub returns-then-len-eq3 : goal.returns-then-len-eq3

@@ -1,4 +1,4 @@
-use Rattle.std.proofs.Common.{◌≡◌, sym, ◌∙◌, ap, [], ◌∷◌, ◌++◌, length, arith}
+use Rattle.std.proofs.Common.{◌≡◌, sym, ◌∙◌, length, arith}
 use Rattle.cut_tri.proofs.Doing.{at_end, at_start, one_step}
 use Rattle.cut_tri.proofs.WholePiece.{all_is_piece}
 use Rattle.cut_tri.proofs.triangulation.triangulate.Goals as goal
@@ -6,9 +6,8 @@ use Rattle.cut_tri.proofs.triangulation.triangulate.Goals as goal
 pub loop-piece-init : goal.loop-piece-init
 loop-piece-init g c =
     let corners = c.args.ring.now.corners in
-    at_start corners c.push.new.self.items c.in_ok-whole_piece.field-0 c.in_ok-tris.tris.items
-    (c.in_ok-push.ensures.items ∙ ap (λ ws. ws ++ c.in_ok-whole_piece.field-0 ∷ []) c.new-work.ensures.items)
-    c.in_ok-whole_piece.ensures c.in_ok-tris.ensures.items
+    at_start corners c.new-work.result.items c.push.new.self.items c.in_ok-whole_piece.field-0 c.in_ok-tris.tris.items
+    c.new-work.ensures.items c.in_ok-push.ensures.items c.in_ok-whole_piece.ensures c.in_ok-tris.ensures.items
     (all_is_piece corners c.len.ensures.size.0 c.len.ensures.simple c.len.ensures.counterclockwise)
 
 pub loop-piece-preserved : goal.loop-piece-preserved
