@@ -1,6 +1,6 @@
 pub mod Comparing
 mod Cones
-mod CrossProduct
+pub mod CrossProduct
 pub mod Directions
 mod Intervals
 mod Mediants

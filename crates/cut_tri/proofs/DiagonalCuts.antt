@@ -1,0 +1,153 @@
+-- A piece with vertices in the triangle at its first vertex: the diagonal to the farthest of them makes two pieces.
+use Rattle.std.proofs.Common.{◌≡◌, inl, refl, sym, ap, subst, ◌∙◌, ℕ, ◌+◌, ◌<◌, ℤ, ◌≤ℤ◌, ◌<ℤ◌, List, [], ◌∷◌, ◌++◌, length, get_or, take, drop, arith}
+use Rattle.std.proofs.lemmas.Int.{ints}
+use Rattle.std.proofs.lemmas.List.{append_assoc, drop_at, get_or_at, length-append, map-append, take_at}
+use Rattle.plane.specs.Point.{Point}
+use Rattle.rings.specs.Ring.{vertex}
+use Rattle.ring_laws.proofs.CounterclockwiseCuts.{IsCounterclockwiseCut, farthest_cut_runs}
+use Rattle.ring_laws.proofs.DistinctPoints.{HasPoint, has_point_right}
+use Rattle.ring_laws.proofs.Farthest.{Farthest}
+use Rattle.ring_laws.proofs.FarthestEnd.{InTriangle, height}
+use Rattle.tri_mesh.proofs.Cuts.{IsCut, both_parts, contains_first_part, contains_second_part, first_part, second_part}
+use Rattle.tri_mesh.proofs.Joined.{fits_joined}
+use Rattle.tri_mesh.specs.Fits.{points_of}
+use Rattle.cut_tri.proofs.CornerPlaces.{ends_run, ends_simple, height_is, in_corner_from, in_triangle_from, none_before, place_of_point}
+use Rattle.cut_tri.proofs.Members.{members_of_numbers, numbers_of_members}
+use Rattle.cut_tri.proofs.Shapes.{by_split, ends_length}
+use Rattle.cut_tri.specs.Corner.{IsFarthestBelow, candidate_at}
+use Rattle.cut_tri.specs.Cutting.{AreParts}
+use Rattle.cut_tri.specs.Piece.{IsLeastBelow, IsPiece}
+
+-- what is not less is at most
+at_most : (a b : ℤ) → ¬ (b <ℤ a) → a ≤ℤ b
+at_most a b h = grind (arith, ints)
+
+-- ---- the farthest vertex, as a point
+
+module _ (corners : List Point) (v w : ℕ) (ms : List ℕ) (u : ℕ) (i : ℕ) (within : i < length ms)
+    (far : IsFarthestBelow corners (v ∷ w ∷ (ms ++ u ∷ [])) (length (v ∷ w ∷ (ms ++ u ∷ []))) (i + 2)) where
+  -- no vertex in the triangle is higher
+  none_higher : (q : Point) → HasPoint (points_of corners ms) q → InTriangle (vertex corners u) (vertex corners v) (vertex corners w) q
+      → height (vertex corners u) (vertex corners w) q ≤ℤ height (vertex corners u) (vertex corners w) (vertex corners (get_or ms i 0))
+  none_higher q has inside =
+      let (k, below, is) = place_of_point corners ms q has in
+      let in_corner = in_corner_from corners v w ms u k below
+      (subst (InTriangle (vertex corners u) (vertex corners v) (vertex corners w)) (sym is) inside) in
+      let not_farther = far.farthest (k + 2) (omega (arith, below, ends_length v w ms u)) in_corner in
+      subst (λ (p : Point). height (vertex corners u) (vertex corners w) p ≤ℤ height (vertex corners u) (vertex corners w) (vertex corners (get_or ms i 0))) is
+      (at_most _ _ (λ higher. not_farther (inl (subst (λ a. a <ℤ (candidate_at corners (v ∷ w ∷ (ms ++ u ∷ [])) (k + 2)).height) (sym (height_is corners v w ms u i within))
+      (subst (λ b. height (vertex corners u) (vertex corners w) (vertex corners (get_or ms i 0)) <ℤ b) (sym (height_is corners v w ms u k below)) higher)))))
+
+-- ---- the diagonal to it
+
+module _ (corners : List Point) (v w : ℕ) (cs : List ℕ) (z : ℕ) (ds : List ℕ) (u : ℕ) where
+  -- the vertices after the second but the last
+  abbrev others : List ℕ
+  others = cs ++ z ∷ ds
+
+  -- the piece, regrouped
+  regrouped : v ∷ w ∷ (others ++ u ∷ []) ≡ both_parts v (w ∷ cs) z (ds ++ u ∷ [])
+  regrouped = ap (λ xs. v ∷ w ∷ xs) (append_assoc cs (z ∷ ds) (u ∷ []))
+
+  -- z is one of them
+  place_within : length cs < length others
+  place_within = omega (arith, length-append cs (z ∷ ds))
+
+  z_is : get_or others (length cs) 0 ≡ z
+  z_is = get_or_at cs z ds 0 (length cs) refl
+
+  -- their points
+  others_points : points_of corners others ≡ points_of corners cs ++ vertex corners z ∷ points_of corners ds
+  others_points = map-append (λ i. vertex corners i) cs (z ∷ ds)
+
+  module _ (piece : IsPiece corners (v ∷ w ∷ (others ++ u ∷ [])))
+      (least : IsLeastBelow corners (v ∷ w ∷ (others ++ u ∷ [])) (length (v ∷ w ∷ (others ++ u ∷ []))) 0)
+      (far : IsFarthestBelow corners (v ∷ w ∷ (others ++ u ∷ [])) (length (v ∷ w ∷ (others ++ u ∷ []))) (length cs + 2)) where
+    -- it is the farthest in the triangle
+    abbrev farthest_point : Farthest (InTriangle (vertex corners u) (vertex corners v) (vertex corners w)) (height (vertex corners u) (vertex corners w)) (points_of corners others)
+    farthest_point = record {
+      point = vertex corners z;
+      has_point = subst (λ rs. HasPoint rs (vertex corners z)) (sym others_points) (has_point_right (vertex corners z) (points_of corners cs) (vertex corners z ∷ points_of corners ds) (inl refl));
+      chosen = subst (λ k. InTriangle (vertex corners u) (vertex corners v) (vertex corners w) (vertex corners k)) z_is
+          (in_triangle_from corners v w others u (length cs) place_within far.in_corner);
+      farthest = λ q has inside.
+          subst (λ k. height (vertex corners u) (vertex corners w) q ≤ℤ height (vertex corners u) (vertex corners w) (vertex corners k)) z_is
+          (none_higher corners v w others u (length cs) place_within far q has inside);
+    }
+
+    -- so the diagonal to it cuts the points in two
+    points_cut : IsCounterclockwiseCut (points_of corners (both_parts v (w ∷ cs) z (ds ++ u ∷ []))) (points_of corners (first_part v (w ∷ cs) z))
+        (points_of corners (second_part v z (ds ++ u ∷ []))) (vertex corners v) (vertex corners z)
+    points_cut =
+        let V = vertex corners v in
+        let W = vertex corners w in
+        let Z = vertex corners z in
+        let U = vertex corners u in
+        let at = λ (i : ℕ). vertex corners i in
+        let cut = farthest_cut_runs V W (points_of corners others) U (ends_simple corners v w others u piece least) (ends_run corners v w others u piece least)
+        (none_before corners v w others u piece least) farthest_point (points_of corners cs) (points_of corners ds) others_points in
+        subst (λ rs. IsCounterclockwiseCut rs (V ∷ W ∷ points_of corners (cs ++ z ∷ [])) (V ∷ Z ∷ points_of corners (ds ++ u ∷ [])) V Z) whole_is
+        (subst (λ rs. IsCounterclockwiseCut (V ∷ W ∷ (points_of corners others ++ U ∷ [])) (V ∷ W ∷ rs) (V ∷ Z ∷ points_of corners (ds ++ u ∷ [])) V Z) (sym (map-append at cs (z ∷ [])))
+        (subst (λ rs. IsCounterclockwiseCut (V ∷ W ∷ (points_of corners others ++ U ∷ [])) (V ∷ W ∷ (points_of corners cs ++ Z ∷ [])) (V ∷ Z ∷ rs) V Z) (sym (map-append at ds (u ∷ []))) cut))
+      where
+        whole_is : vertex corners v ∷ vertex corners w ∷ (points_of corners others ++ vertex corners u ∷ []) ≡ points_of corners (both_parts v (w ∷ cs) z (ds ++ u ∷ []))
+        whole_is =
+            ap (λ rs. vertex corners v ∷ vertex corners w ∷ rs) (sym (map-append (λ i. vertex corners i) others (u ∷ [])))
+            ∙ ap (points_of corners) regrouped
+
+    -- and the piece in two pieces
+    are_parts : AreParts corners (both_parts v (w ∷ cs) z (ds ++ u ∷ [])) (first_part v (w ∷ cs) z) (second_part v z (ds ++ u ∷ []))
+    are_parts =
+        let whole_piece = subst (IsPiece corners) regrouped piece in
+        let numbers = members_of_numbers (length corners) (both_parts v (w ∷ cs) z (ds ++ u ∷ [])) whole_piece.numbers in
+        let cut : IsCut corners v (w ∷ cs) z (ds ++ u ∷ []) = record {
+          simple = whole_piece.simple;
+          inside = points_cut.in_two.covers;
+          common = points_cut.in_two.common;
+        } in
+        record {
+          first_is_piece = record {
+            some = omega (arith, length-append cs (z ∷ []));
+            numbers = numbers_of_members (length corners) (first_part v (w ∷ cs) z) (λ i h. numbers i (contains_first_part v (w ∷ cs) z (ds ++ u ∷ []) i h));
+            simple = points_cut.in_two.first_simple;
+            counterclockwise = points_cut.first_runs;
+          };
+          second_is_piece = record {
+            some = omega (arith, length-append ds (u ∷ []));
+            numbers = numbers_of_members (length corners) (second_part v z (ds ++ u ∷ [])) (λ i h. numbers i (contains_second_part v (w ∷ cs) z (ds ++ u ∷ []) i h));
+            simple = points_cut.in_two.second_simple;
+            counterclockwise = points_cut.second_runs;
+          };
+          lengths = omega (arith, length-append cs (z ∷ []), length-append cs (z ∷ (ds ++ u ∷ [])));
+          fits = λ ts us first second. fits_joined corners v (w ∷ cs) z (ds ++ u ∷ []) ts us cut first second;
+        }
+
+-- ---- the parts of any piece
+
+module _ (corners : List Point) where
+  -- what the code makes of the piece is its parts
+  parts_at : (v w : ℕ) (cs : List ℕ) (z : ℕ) (ds : List ℕ) (u : ℕ) → IsPiece corners (v ∷ (w ∷ cs ++ z ∷ (ds ++ u ∷ [])))
+      → IsLeastBelow corners (v ∷ (w ∷ cs ++ z ∷ (ds ++ u ∷ []))) (length (v ∷ (w ∷ cs ++ z ∷ (ds ++ u ∷ [])))) 0
+      → IsFarthestBelow corners (v ∷ (w ∷ cs ++ z ∷ (ds ++ u ∷ []))) (length (v ∷ (w ∷ cs ++ z ∷ (ds ++ u ∷ [])))) (length cs + 2)
+      → AreParts corners (v ∷ (w ∷ cs ++ z ∷ (ds ++ u ∷ []))) (take (length cs + 2 + 1) (v ∷ (w ∷ cs ++ z ∷ (ds ++ u ∷ []))))
+      (v ∷ drop (length cs + 2) (v ∷ (w ∷ cs ++ z ∷ (ds ++ u ∷ []))))
+  parts_at v w cs z ds u piece least far =
+      let xs = both_parts v (w ∷ cs) z (ds ++ u ∷ []) in
+      let back = sym (regrouped corners v w cs z ds u) in
+      let first_is : take (length cs + 2 + 1) xs ≡ first_part v (w ∷ cs) z =
+      ap (λ ys. take (length cs + 2 + 1) ys) (ap (λ ys. v ∷ w ∷ ys) (sym (append_assoc cs (z ∷ []) (ds ++ u ∷ []))))
+      ∙ take_at (v ∷ w ∷ (cs ++ z ∷ [])) (ds ++ u ∷ []) (length cs + 2 + 1) (omega (arith, length-append cs (z ∷ []))) in
+      let second_is : drop (length cs + 2) xs ≡ z ∷ (ds ++ u ∷ []) = drop_at (v ∷ w ∷ cs) (z ∷ (ds ++ u ∷ [])) (length cs + 2) (omega arith) in
+      subst (λ ys. AreParts corners xs ys (v ∷ drop (length cs + 2) xs)) (sym first_is)
+      (subst (λ ys. AreParts corners xs (first_part v (w ∷ cs) z) (v ∷ ys)) (sym second_is)
+      (are_parts corners v w cs z ds u (subst (IsPiece corners) back piece)
+      (subst (λ ys. IsLeastBelow corners ys (length ys) 0) back least)
+      (subst (λ ys. IsFarthestBelow corners ys (length ys) (length cs + 2)) back far)))
+
+  -- so it is at any place of a farthest vertex
+  pub parts_cut : (xs : List ℕ) (place : ℕ) → IsPiece corners xs → IsLeastBelow corners xs (length xs) 0 → IsFarthestBelow corners xs (length xs) place
+      → AreParts corners xs (take (place + 1) xs) (get_or xs 0 0 ∷ drop place xs)
+  parts_cut xs place piece least far =
+      by_split (λ xs place. IsPiece corners xs → IsLeastBelow corners xs (length xs) 0 → IsFarthestBelow corners xs (length xs) place
+      → AreParts corners xs (take (place + 1) xs) (get_or xs 0 0 ∷ drop place xs))
+      parts_at xs place far.in_corner.after_second far.in_corner.before_last piece least far

@@ -1,0 +1,98 @@
+-- The pieces that are still to be cut: how they complete a mesh, and how much is still to be done.
+use Rattle.std.proofs.Common.{◌≡◌, sym, ap, subst, ◌∙◌, ℕ, ◌+◌, ◌<◌, List, [], ◌∷◌, ◌++◌, length, map, reverse, Vec, Global, arith}
+use Rattle.std.proofs.lemmas.List.{append_assoc, map-append, reverse-append}
+use Rattle.std.proofs.lemmas.List.FromFn.{length-range_with_len}
+use Rattle.std.specs.List.{range_with_len}
+use Rattle.plane.specs.Point.{Point}
+use Rattle.tri_mesh.specs.Fits.{Fits, FitsPiece}
+use Rattle.tri_mesh.specs.declared.tri.Tri.{Tri}
+use Rattle.cut_tri.specs.Completion.{ArePieces, Completes, IsTakenOver, effort, last_first}
+use Rattle.cut_tri.specs.Cutting.{AreParts, IsCutOf, IsEar}
+use Rattle.cut_tri.specs.Piece.{IsPiece}
+use Rattle.cut_tri.specs.declared.cut.Remains.{Remains}
+use Rattle.cut_tri.specs.declared.cut.Remains.TheVariants.{Triangle, Ear, Parts}
+
+-- the last piece of a work list is the first that is still to be cut
+pub last_first-push : (work : List (Vec ℕ Global)) (piece : Vec ℕ Global) → last_first (work ++ piece ∷ []) ≡ piece.items ∷ last_first work
+last_first-push work piece =
+    ap reverse (map-append (λ (v : Vec ℕ Global). v.items) work (piece ∷ []))
+    ∙ reverse-append (map (λ (v : Vec ℕ Global). v.items) work) (piece.items ∷ [])
+
+-- triangles and pieces that complete a mesh of the ring, with less effort than before
+pub record IsNearer (corners : List Point) (before : ℕ) (done : List Tri) (pieces : List (List ℕ)) : Type 0 where
+  pub are_pieces : ArePieces corners pieces
+  pub completes : Completes corners done pieces
+  pub less : effort pieces < before
+
+module _ (corners : List Point) (piece : List ℕ) (pieces : List (List ℕ)) (done : List Tri) (is_piece : IsPiece corners piece)
+    (are_pieces : ArePieces corners pieces) (completes : Completes corners done (piece ∷ pieces)) where
+  -- a triangle fits the piece
+  with_triangle : (tri : Tri) → FitsPiece corners piece (tri ∷ []) → IsNearer corners (effort (piece ∷ pieces)) (done ++ tri ∷ []) pieces
+  with_triangle tri fits = record { are_pieces = are_pieces; completes = completes (tri ∷ []) fits; less = omega (arith, is_piece.some) }
+
+  -- a triangle is cut off
+  with_ear : (tri : Tri) (rest : List ℕ) → IsEar corners piece tri rest → IsNearer corners (effort (piece ∷ pieces)) (done ++ tri ∷ []) (rest ∷ pieces)
+  with_ear tri rest is = record {
+    are_pieces = (is.rest_is_piece, are_pieces);
+    completes = λ ts fit. subst (λ us. Completes corners us pieces) (sym (append_assoc done (tri ∷ []) ts)) (completes (tri ∷ ts) (is.fits ts fit));
+    less = let some = is.rest_is_piece.some in omega (arith, is.shorter);
+  }
+
+  -- the piece is cut in two
+  with_parts : (first second : List ℕ) → AreParts corners piece first second → IsNearer corners (effort (piece ∷ pieces)) done (first ∷ second ∷ pieces)
+  with_parts first second are = record {
+    are_pieces = (are.first_is_piece, (are.second_is_piece, are_pieces));
+    completes = λ ts fit us fit_too.
+        subst (λ vs. Completes corners vs pieces) (sym (append_assoc done ts us)) (completes (ts ++ us) (are.fits ts us fit fit_too));
+    less = let some = are.first_is_piece.some in let more = are.second_is_piece.some in omega (arith, are.lengths);
+  }
+
+  -- so it is nearer whatever is left of the piece
+  pub nearer : (remains : Remains) (done_after : List Tri) (pieces_after : List (List ℕ)) → IsCutOf corners piece remains
+      → IsTakenOver remains done pieces done_after pieces_after → IsNearer corners (effort (piece ∷ pieces)) done_after pieces_after
+  nearer (Triangle tri) done_after pieces_after is taken =
+      subst (λ ts. IsNearer corners (effort (piece ∷ pieces)) ts pieces_after) (sym taken.0)
+      (subst (IsNearer corners (effort (piece ∷ pieces)) (done ++ tri ∷ [])) (sym taken.1) (with_triangle tri is))
+  nearer (Ear tri rest) done_after pieces_after is taken =
+      subst (λ ts. IsNearer corners (effort (piece ∷ pieces)) ts pieces_after) (sym taken.0)
+      (subst (IsNearer corners (effort (piece ∷ pieces)) (done ++ tri ∷ [])) (sym taken.1) (with_ear tri rest.items is))
+  nearer (Parts first second) done_after pieces_after is taken =
+      subst (λ ts. IsNearer corners (effort (piece ∷ pieces)) ts pieces_after) (sym taken.0)
+      (subst (IsNearer corners (effort (piece ∷ pieces)) done) (sym taken.1) (with_parts first.items second.items is))
+
+-- ---- the work list
+
+module _ (corners : List Point) where
+  -- at the start it has the piece of all vertices
+  pub at_start : (none work : List (Vec ℕ Global)) (piece : Vec ℕ Global) (done : List Tri) → none ≡ [] → work ≡ none ++ piece ∷ []
+      → piece.items ≡ range_with_len 0 (length corners)
+      → done ≡ [] → IsPiece corners (range_with_len 0 (length corners)) → ArePieces corners (last_first work) × Completes corners done (last_first work)
+  at_start none work piece done none_is work_is piece_is done_is is_piece =
+      subst (λ ws. ArePieces corners (last_first ws) × Completes corners done (last_first ws)) (sym (work_is ∙ ap (λ ws. ws ++ piece ∷ []) none_is))
+      (subst (λ xs. ArePieces corners (xs ∷ []) × Completes corners done (xs ∷ [])) (sym piece_is)
+      (subst (λ ts. ArePieces corners (range_with_len 0 (length corners) ∷ []) × Completes corners ts (range_with_len 0 (length corners) ∷ [])) (sym done_is)
+      ((is_piece, tt), λ ts fit. fit)))
+
+  module _ (work rest : List (Vec ℕ Global)) (piece : Vec ℕ Global) (done : List Tri) (is : work ≡ rest ++ piece ∷ [])
+      (so_far : ArePieces corners (last_first work) × Completes corners done (last_first work)) where
+    -- the pieces are the last one and the others
+    pieces_are : last_first work ≡ piece.items ∷ last_first rest
+    pieces_are = ap last_first is ∙ last_first-push rest piece
+
+    -- the last one is a piece
+    pub last_is_piece : IsPiece corners piece.items
+    last_is_piece = (subst (ArePieces corners) pieces_are so_far.0).0
+
+    -- to cut it comes nearer
+    pub one_step : (remains : Remains) (done_after : List Tri) (pieces_after : List (List ℕ)) → IsCutOf corners piece.items remains
+        → IsTakenOver remains done (last_first rest) done_after pieces_after → IsNearer corners (effort (last_first work)) done_after pieces_after
+    one_step remains done_after pieces_after is_cut taken =
+        subst (λ n. IsNearer corners n done_after pieces_after) (sym (ap effort pieces_are))
+        (nearer corners piece.items (last_first rest) done last_is_piece (subst (ArePieces corners) pieces_are so_far.0).1
+        (subst (Completes corners done) pieces_are so_far.1) remains done_after pieces_after is_cut taken)
+
+  -- in the end the triangles fit, as many as there are vertices but two
+  pub at_end : (work : List (Vec ℕ Global)) (done : List Tri) → length work ≡ 0 → Completes corners done (last_first work)
+      → Fits corners done × (length done + 2 ≡ length corners)
+  at_end [] done none fits = (fits, fits.count ∙ length-range_with_len 0 (length corners))
+  at_end (v ∷ work) done none fits = absurd (omega arith)

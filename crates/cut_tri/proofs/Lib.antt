@@ -1,0 +1,10 @@
+mod Candidates
+mod CornerPlaces
+mod DiagonalCuts
+mod Doing
+mod EarCuts
+mod Members
+mod RightTurns
+mod RotatedCuts
+mod Shapes
+mod WholePiece

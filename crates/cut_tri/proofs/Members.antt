@@ -1,0 +1,44 @@
+-- Numbers at the places of a list, and pieces read from another vertex on.
+use Rattle.std.proofs.Common.{◌≡◌, sym, subst, ◌∙◌, ℕ, ◌<◌, List, ◌++◌, length, get_or, arith}
+use Rattle.std.proofs.lemmas.List.{get_or_default, map-append}
+use Rattle.std.proofs.lemmas.List.Elements.{Contains-get_or}
+use Rattle.std.specs.List.{Contains}
+use Rattle.plane.specs.Point.{Point}
+use Rattle.rings.specs.Ring.{vertex}
+use Rattle.ring_laws.proofs.RunsOnce.{counterclockwise_rotated}
+use Rattle.ring_laws.specs.Winding.{RunsCounterclockwise}
+use Rattle.tri_mesh.proofs.Rotated.{same_rotated}
+use Rattle.tri_mesh.specs.Fits.{points_of}
+use Rattle.cut_tri.specs.Piece.{IsPiece}
+
+-- a member stands at a place
+pub place_of_member : (xs : List ℕ) (i : ℕ) → Contains xs i → (k : ℕ) × (k < length xs) × (get_or xs k 0 ≡ i)
+place_of_member xs i (k, h, e) = (k, h, get_or_default xs k 0 i h ∙ e)
+
+module _ (n : ℕ) (xs : List ℕ) where
+  -- what holds of the members holds at the places,
+  pub numbers_of_members : ((i : ℕ) → Contains xs i → i < n) → (k : ℕ) → k < length xs → get_or xs k 0 < n
+  numbers_of_members all k h = all (get_or xs k 0) (Contains-get_or xs k 0 h)
+
+  -- and the other way round
+  pub members_of_numbers : ((k : ℕ) → k < length xs → get_or xs k 0 < n) → (i : ℕ) → Contains xs i → i < n
+  members_of_numbers all i has = let (k, h, e) = place_of_member xs i has in subst (λ j. j < n) e (all k h)
+
+module _ (corners : List Point) (xs ys : List ℕ) (is : IsPiece corners (xs ++ ys)) where
+  -- its members are those of the piece read from another vertex on
+  pub members_back : (i : ℕ) → Contains (ys ++ xs) i → Contains (xs ++ ys) i
+  members_back = (same_rotated corners ys xs (same_rotated corners xs ys is.simple).simple).members
+
+  -- that is a piece too
+  pub piece_rotated : IsPiece corners (ys ++ xs)
+  piece_rotated =
+      let same = same_rotated corners xs ys is.simple in
+      record {
+        some = omega (arith, is.some, same.as_long);
+        numbers = numbers_of_members (length corners) (ys ++ xs)
+            (λ i h. members_of_numbers (length corners) (xs ++ ys) is.numbers i (members_back i h));
+        simple = same.simple;
+        counterclockwise = subst RunsCounterclockwise (sym (map-append (λ k. vertex corners k) ys xs))
+            (counterclockwise_rotated (points_of corners ys) (points_of corners xs)
+            (subst RunsCounterclockwise (map-append (λ k. vertex corners k) xs ys) is.counterclockwise));
+      }

@@ -1,0 +1,69 @@
+-- What is left of a piece read from another vertex on is left of the piece.
+use Rattle.std.proofs.Common.{◌≡◌, sym, ap, subst, ◌∙◌, ℕ, ◌+◌, ◌<◌, List, ◌++◌, length, get_or, take, drop, Result, Ok, Err, arith}
+use Rattle.std.proofs.lemmas.List.{get_or-drop, get_or_append_left, length-append, length-drop, take-append-drop}
+use Rattle.std.proofs.lemmas.List.Elements.{Contains-get_or}
+use Rattle.std.specs.List.{Contains}
+use Rattle.std.specs.Prelude.{IfOk}
+use Rattle.exact_plane.specs.declared.memory.Memory.{Memory}
+use Rattle.plane.specs.Order.{IsBefore}
+use Rattle.plane.specs.Point.{Point}
+use Rattle.rings.specs.Ring.{vertex}
+use Rattle.tri_mesh.proofs.Rotated.{fits_rotated}
+use Rattle.cut_tri.proofs.Members.{members_back, piece_rotated, place_of_member}
+use Rattle.cut_tri.specs.Cutting.{IsCutOf}
+use Rattle.cut_tri.specs.Piece.{IsLeastBelow, IsPiece, corner_at}
+use Rattle.cut_tri.specs.declared.cut.Remains.{Remains}
+use Rattle.cut_tri.specs.declared.cut.Remains.TheVariants.{Triangle, Ear, Parts}
+
+module _ (corners : List Point) (xs ys : List ℕ) where
+  -- what is left of it
+  cut_rotated : (remains : Remains) → IsCutOf corners (ys ++ xs) remains → IsCutOf corners (xs ++ ys) remains
+  cut_rotated (Triangle tri) fits = fits_rotated corners ys xs _ fits
+  cut_rotated (Ear tri rest) is = record {
+    rest_is_piece = is.rest_is_piece;
+    shorter = omega (arith, is.shorter, length-append xs ys, length-append ys xs);
+    fits = λ ts fit. fits_rotated corners ys xs _ (is.fits ts fit);
+  }
+  cut_rotated (Parts first second) are = record {
+    first_is_piece = are.first_is_piece;
+    second_is_piece = are.second_is_piece;
+    lengths = omega (arith, are.lengths, length-append xs ys, length-append ys xs);
+    fits = λ ts us fit fit_too. fits_rotated corners ys xs _ (are.fits ts us fit fit_too);
+  }
+
+  -- if there is memory
+  result_rotated : (r : Result Remains Memory) → IfOk r (IsCutOf corners (ys ++ xs)) → IfOk r (IsCutOf corners (xs ++ ys))
+  result_rotated (Ok remains) h = cut_rotated remains h
+  result_rotated (Err e) h = h
+
+module _ (corners : List Point) (xs : List ℕ) (k : ℕ) (is : IsPiece corners xs) where
+  -- a piece in two parts
+  two_parts : IsPiece corners (take k xs ++ drop k xs)
+  two_parts = subst (IsPiece corners) (sym (take-append-drop k xs)) is
+
+  -- read from place k on it is a piece
+  pub piece_from : IsPiece corners (drop k xs ++ take k xs)
+  piece_from = piece_rotated corners (take k xs) (drop k xs) two_parts
+
+  -- what is left of that is left of the piece
+  pub result_from : (r : Result Remains Memory) → IfOk r (IsCutOf corners (drop k xs ++ take k xs)) → IfOk r (IsCutOf corners xs)
+  result_from r h =
+      subst (λ ys. IfOk r (IsCutOf corners ys)) (take-append-drop k xs) (result_rotated corners (take k xs) (drop k xs) r h)
+
+  module _ (within : k < length xs) where
+    -- its first number is the one at place k
+    first_is : get_or (drop k xs ++ take k xs) 0 0 ≡ get_or xs k 0
+    first_is =
+        let same : k + 0 ≡ k = omega arith in
+        get_or_append_left (drop k xs) (take k xs) 0 0 (omega (arith, length-drop k xs))
+        ∙ get_or-drop k xs 0 0
+        ∙ ap (λ j. get_or xs j 0) same
+
+    -- so a least vertex comes first
+    pub least_from : IsLeastBelow corners xs (length xs) k → IsLeastBelow corners (drop k xs ++ take k xs) (length (drop k xs ++ take k xs)) 0
+    least_from least j h before =
+        let has = members_back corners (take k xs) (drop k xs) two_parts (get_or (drop k xs ++ take k xs) j 0) (Contains-get_or (drop k xs ++ take k xs) j 0 h) in
+        let (i, below, same) = place_of_member xs _ (subst (λ ys. Contains ys (get_or (drop k xs ++ take k xs) j 0)) (take-append-drop k xs) has) in
+        least i below
+        (subst (λ n. IsBefore (vertex corners n) (corner_at corners xs k)) (sym same)
+        (subst (λ n. IsBefore (corner_at corners (drop k xs ++ take k xs) j) (vertex corners n)) first_is before))

@@ -1,0 +1,5 @@
+use Rattle.cut_tri.specs.Corner.{IsBestBelow}
+use Rattle.cut_tri.proofs.farthest.farthest.Given as goal
+
+abbrev pub invariant-loop-place : goal.invariant-loop-place
+invariant-loop-place g l = IsBestBelow l.ring.corners l.piece l.place l.best

@@ -1,0 +1,8 @@
+use Rattle.cut_tri.specs.Completion.{ArePieces, Completes, effort, last_first}
+use Rattle.cut_tri.proofs.triangulation.triangulate.Given as goal
+
+abbrev pub invariant-loop-piece : goal.invariant-loop-piece
+invariant-loop-piece g l = ArePieces l.ring.corners (last_first l.work.items) × Completes l.ring.corners l.tris.items (last_first l.work.items)
+
+abbrev pub decreases-loop-piece : goal.decreases-loop-piece
+decreases-loop-piece g l = effort (last_first l.work.items)

@@ -1,0 +1,43 @@
+-- The vertices in the triangle at the first vertex of a piece, and the farthest of them. From the textbooks' proof that a
+-- simple polygon has a diagonal.
+use Rattle.std.specs.Prelude.{◌≡◌, ◌⊎◌, ℕ, ◌+◌, ◌-◌, ◌<◌, ◌≤◌, ◌<ℤ◌, Option, Some, None, List, length, slice_index_or}
+use Rattle.plane.specs.Point.{Point, whole}
+use Rattle.ring_laws.specs.Triangle.{IsInTriangle, height_over}
+use Rattle.cut_tri.specs.Piece.{corner_at}
+use Rattle.cut_tri.specs.declared.farthest.Candidate.{Candidate}
+
+-- the place is none of the three at the corner, and its vertex is in the closed triangle there
+pub record IsInCorner (corners : List Point) (piece : List ℕ) (k : ℕ) : Type 0 where
+  pub after_second : 2 ≤ k
+  pub before_last : k + 1 < length piece
+  pub in_triangle : IsInTriangle (corner_at corners piece (length piece - 1)) (corner_at corners piece 0) (corner_at corners piece 1)
+      (whole (corner_at corners piece k))
+
+-- the vertex at place k, with its height over the line through the last and the second vertex
+abbrev pub candidate_at : List Point → List ℕ → ℕ → Candidate
+candidate_at corners piece k = record {
+  height = height_over (corner_at corners piece (length piece - 1)) (corner_at corners piece 1) (whole (corner_at corners piece k));
+  number = slice_index_or piece k 0;
+  place = k;
+}
+
+-- the first is higher, or as high with a lesser number
+abbrev pub IsFarther : Candidate → Candidate → Type 0
+IsFarther c d = (d.height <ℤ c.height) ⊎ ((c.height ≡ d.height) × (c.number < d.number))
+
+-- the chosen one is one of the two, and neither is farther
+pub record IsFartherOf (best : Option Candidate) (candidate chosen : Candidate) : Type 0 where
+  pub one : (chosen ≡ candidate) ⊎ (best ≡ Some chosen)
+  pub candidate_not_farther : ¬ (IsFarther candidate chosen)
+  pub best_not_farther : (b : Candidate) → best ≡ Some b → ¬ (IsFarther b chosen)
+
+-- of the vertices in the triangle, at the first n places, none is farther than the one at this place
+pub record IsFarthestBelow (corners : List Point) (piece : List ℕ) (n place : ℕ) : Type 0 where
+  pub in_corner : IsInCorner corners piece place
+  pub farthest : (j : ℕ) → j < n → IsInCorner corners piece j → ¬ (IsFarther (candidate_at corners piece j) (candidate_at corners piece place))
+
+-- the best of the first n places, or none where none of their vertices is in the triangle
+pub record IsBestBelow (corners : List Point) (piece : List ℕ) (n : ℕ) (best : Option Candidate) : Type 0 where
+  pub none : best ≡ None → (j : ℕ) → j < n → ¬ (IsInCorner corners piece j)
+  pub is_candidate : (b : Candidate) → best ≡ Some b → b ≡ candidate_at corners piece b.place
+  pub farthest : (b : Candidate) → best ≡ Some b → IsFarthestBelow corners piece n b.place
