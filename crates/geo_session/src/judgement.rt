@@ -14,6 +14,7 @@ use taut_check::{Verdict, check};
 
 // Appends the line of the verdict on a list of points.
 pub fn put_judgement<L: Ledger>(
+    alloc: Global,
     out: &mut Vec<u8>,
     ring: &Ring,
     points: &[Pt],
@@ -23,7 +24,6 @@ pub fn put_judgement<L: Ledger>(
     ensures ok { OnOk result (AppendsSuch (TellsVerdict (given_of ring.now) points.now) out.old.items out.new.items) }
     ensures err { OnErr result (out.new.items ≡ out.old.items) }
 {
-    let alloc = *out.allocator();
     let verdict = given_verdict(alloc, ring, points, steps)?;
     put_verdict(out, verdict)
 }

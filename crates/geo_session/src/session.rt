@@ -8,6 +8,7 @@ use exact_plane::{Memory, Pt, Steps};
 use geo_text::{Bad, Command, Points, put_bad, put_index, put_line_end, put_word};
 use inside_test::{Position, place};
 use ring_check::{Ring, RingFault};
+use std::alloc::Global;
 use std::marker::Model;
 use std::sync::ledger::Ledger;
 
@@ -43,6 +44,7 @@ impl Session {
     /// Appends the command's answer and takes the new state. After want of memory the session and `out` are as before.
     pub fn answer<L: Ledger>(
         &mut self,
+        alloc: Global,
         command: Command,
         out: &mut Vec<u8>,
         steps: &mut Steps<L>,
@@ -55,7 +57,7 @@ impl Session {
         match command {
             Command::Polygon(points) => self.answer_polygon(points, out, steps),
             Command::Inside(point) => self.answer_inside(&point, out, steps),
-            Command::Check(points) => self.answer_check(points.as_slice(), out, steps),
+            Command::Check(points) => self.answer_check(alloc, points.as_slice(), out, steps),
         }
     }
 
@@ -98,6 +100,7 @@ impl Session {
 
     fn answer_check<L: Ledger>(
         &self,
+        alloc: Global,
         points: &[Pt],
         out: &mut Vec<u8>,
         steps: &mut Steps<L>,
@@ -109,7 +112,7 @@ impl Session {
         let Some(held) = &self.held else {
             return put_bad(out, &Bad::NoPolygon);
         };
-        put_judgement(out, &held.ring, points, steps)
+        put_judgement(alloc, out, &held.ring, points, steps)
     }
 }
 
