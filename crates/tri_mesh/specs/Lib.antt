@@ -1,2 +1,4 @@
 pub mod Fits
+pub mod Mesh
+pub mod Neighbours
 pub mod Side
