@@ -7,13 +7,14 @@ use Rattle.plane.specs.Point.{Point, whole}
 use Rattle.plane.specs.Turn.{IsLeft, IsRight}
 use Rattle.rings.specs.Ring.{vertex}
 use Rattle.rings.specs.Simple.{IsSimple}
-use Rattle.ring_laws.proofs.CornerNumbers.{AreBoth, far_of, has_other, has_point_swapped, in_corner, neither_back, none_of}
+use Rattle.ring_laws.proofs.CornerNumbers.{AreBoth, far_of, has_other, in_corner, neither_back, none_of}
 use Rattle.ring_laws.proofs.CutRule.{farthest_diagonal}
 use Rattle.ring_laws.proofs.CutRuleMirrored.{base_diagonal, base_diagonal_right, farthest_diagonal_right}
 use Rattle.ring_laws.proofs.Diagonals.{diagonal_backward, diagonal_rotated}
 use Rattle.ring_laws.proofs.DistinctPoints.{HasPoint}
 use Rattle.ring_laws.proofs.Farthest.{farthest_or_none}
 use Rattle.ring_laws.proofs.FarthestEnd.{InTriangle, height}
+use Rattle.ring_laws.proofs.Items.{has_swapped}
 use Rattle.ring_laws.proofs.LeastVertex.{NoneBefore, none_before_least}
 use Rattle.ring_laws.proofs.ReadFrom.{ReadFrom, apart_from, read_from}
 use Rattle.ring_laws.proofs.SimpleIsApart.{apart_of_simple}
@@ -74,7 +75,7 @@ cut_is_diagonal_at ring some apart i within least a b = go (read_from ring i (om
     none r y has =
         none_before_least ring i least y
         (subst (λ rs. HasPoint rs y) (take-append-drop i ring)
-        (has_point_swapped y (drop i ring) (take i ring) (subst (λ rs. HasPoint rs y) (sym r.is) (inr has))))
+        (has_swapped y (drop i ring) (take i ring) (subst (λ rs. HasPoint rs y) (sym r.is) (inr has))))
 
     go : (r : ReadFrom ring i) → IsCut ring i a b → IsDiagonal ring a b
     go r (across c empty) =

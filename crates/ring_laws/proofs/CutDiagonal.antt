@@ -9,8 +9,8 @@ use Rattle.rings.proofs.Parity.{winding_odd}
 use Rattle.rings.specs.Edge.{Edge, IsOnSome, edges_along, edges_of}
 use Rattle.rings.specs.Inside.{IsIn, winding}
 use Rattle.ring_laws.proofs.CommonEnds.{end_of_second}
-use Rattle.ring_laws.proofs.DistinctPoints.{has_point_right}
-use Rattle.ring_laws.proofs.Members.{edge_with, has_edge_right, on_some_of}
+use Rattle.ring_laws.proofs.Items.{has_right}
+use Rattle.ring_laws.proofs.Members.{edge_with, on_some_of}
 use Rattle.ring_laws.proofs.Middle.{middle, middle_first, middle_is_point, middle_last, middle_on}
 use Rattle.ring_laws.proofs.Pieces.{distinct_cut, edges_of_first}
 use Rattle.ring_laws.proofs.UpToOne.{IsUnit, odd_unit}
@@ -36,7 +36,7 @@ module _ (v : Point) (ps : List Point) (z : Point) (qs : List Point) (apart : Is
     (meets : (e : Edge) → HasEdge (edges_of (v ∷ (ps ++ z ∷ qs))) e → MeetAtEnds e (edge v z)) where
   -- its ends differ
   pub ends_differ : ¬ (v ≡ z)
-  ends_differ e = (distinct_cut v ps z qs apart).0 (has_point_right v ps (z ∷ qs) (inl (sym e)))
+  ends_differ e = (distinct_cut v ps z qs apart).0 (has_right v ps (z ∷ qs) (inl (sym e)))
 
   -- no edge meets it strictly inside
   pub inner_off : (x : Triple) → IsPoint x → On x (whole v) (whole z) → ¬ IsSame x (whole v) → ¬ IsSame x (whole z) → ¬ IsOnSome (edges_of (v ∷ (ps ++ z ∷ qs))) x
@@ -60,6 +60,6 @@ some_there v (p ∷ ps) z qs apart meets = omega arith
 pub some_back : (v : Point) (ps : List Point) (z : Point) (qs : List Point) (apart : IsApartRing (v ∷ (ps ++ z ∷ qs)))
     → ((e : Edge) → HasEdge (edges_of (v ∷ (ps ++ z ∷ qs))) e → MeetAtEnds e (edge v z)) → 0 < length qs
 some_back v ps z [] apart meets =
-    let last = subst (λ es. HasEdge es (edge z v)) (sym (edges_of_first v ps z [])) (has_edge_right (edge z v) (edges_along v ps z) (edge z v ∷ []) (inl refl)) in
+    let last = subst (λ es. HasEdge es (edge z v)) (sym (edges_of_first v ps z [])) (has_right (edge z v) (edges_along v ps z) (edge z v ∷ []) (inl refl)) in
     absurd (not_an_edge v ps z [] apart meets (edge z v) last (on_reversed (middle v z) (whole v) (whole z) (middle_on v z)))
 some_back v ps z (q ∷ qs) apart meets = omega arith

@@ -5,7 +5,8 @@ use Rattle.plane.specs.Point.{IsPoint, IsSame, Point, Triple, whole}
 use Rattle.plane.specs.Turn.{IsLeft, IsRight}
 use Rattle.rings.specs.Edge.{Edge, IsOnSome, edges_along, edges_of}
 use Rattle.rings.specs.Inside.{winding}
-use Rattle.ring_laws.proofs.DistinctPoints.{HasPoint, has_point_left, has_point_right}
+use Rattle.ring_laws.proofs.DistinctPoints.{HasPoint}
+use Rattle.ring_laws.proofs.Items.{has_left, has_right}
 use Rattle.ring_laws.proofs.Members.{edge_with}
 use Rattle.ring_laws.proofs.Pieces.{area_cut, distinct_cut, edges_of_cut, edges_of_first}
 use Rattle.ring_laws.proofs.PiecesMeet.{has_edge_back, has_edge_there, meet_at_cut, off_first_piece, off_second_piece}
@@ -48,7 +49,7 @@ module _ (v : Point) (ps : List Point) (z : Point) (qs : List Point) where
       -- the cut makes two chains between v and z,
       two_chains : ArePieces v z qs ps
       two_chains = record {
-        differ = λ e. (distinct_cut v ps z qs apart).0 (has_point_right v ps (z ∷ qs) (inl (sym e)));
+        differ = λ e. (distinct_cut v ps z qs apart).0 (has_right v ps (z ∷ qs) (inl (sym e)));
         first_apart = λ e has. meets e (has_edge_back v ps z qs apart e has);
         second_apart = λ e has. meets e (has_edge_there v ps z qs apart e has);
         chains_apart = ways_meet;
@@ -62,7 +63,7 @@ module _ (v : Point) (ps : List Point) (z : Point) (qs : List Point) where
       pub cut_counterclockwise : (u w : Point) → HasPoint qs u → HasPoint ps w → IsLeft (whole v) (whole z) (whole u)
           → IsRight (whole v) (whole z) (whole w) → RunsCounterclockwise (v ∷ (ps ++ z ∷ qs))
       cut_counterclockwise u w has_u has_w left right =
-          let both = two_pieces_values v z qs ps two_chains u w (has_point_left u qs ps has_u) (has_point_right w qs ps has_w) left right in
+          let both = two_pieces_values v z qs ps two_chains u w (has_left u qs ps has_u) (has_right w qs ps has_w) left right in
           record {
             area = omega (arith, ints, first.area, second.area, area_cut v ps z qs);
             windings = λ x at off.

@@ -4,8 +4,9 @@ use Rattle.plane.specs.Point.{Point, whole}
 use Rattle.rings.specs.Edge.{edges_of}
 use Rattle.ring_laws.proofs.Corner.{distinct_corner, has_edge_of_corner}
 use Rattle.ring_laws.proofs.CornerLaws.{IsFarthestEnd}
-use Rattle.ring_laws.proofs.DistinctPoints.{HasPoint, distinct_between, edge_from, end_of_ring, has_point_cases, has_point_left}
+use Rattle.ring_laws.proofs.DistinctPoints.{HasPoint, distinct_between, edge_from, end_of_ring}
 use Rattle.ring_laws.proofs.Farthest.{Farthest}
+use Rattle.ring_laws.proofs.Items.{has_cases, has_left}
 use Rattle.ring_laws.specs.Apart.{IsApartRing}
 use Rattle.ring_laws.specs.Triangle.{IsInTriangle, height_over}
 
@@ -28,7 +29,7 @@ module _ (v w : Point) (ms : List Point) (u : Point) (apart : IsApartRing (v ∷
   pub is_farthest_end : IsFarthestEnd (edges_of (v ∷ w ∷ (ms ++ u ∷ []))) u v w far.point
   is_farthest_end =
       let differ = distinct_corner v w ms u apart in
-      let in_rest = has_point_left far.point ms (u ∷ []) far.has_point in
+      let in_rest = has_left far.point ms (u ∷ []) far.has_point in
       let (e, has, from) = edge_from far.point w ms u (inr far.has_point) in
       record {
         in_triangle = far.chosen;
@@ -45,7 +46,7 @@ module _ (v w : Point) (ms : List Point) (u : Point) (apart : IsApartRing (v ∷
           → (y ≡ u) ⊎ (y ≡ v) ⊎ (y ≡ w) ⊎ (height u w y ≤ℤ height u w far.point)
       go y (inl is) within = inr (inl (sym is))
       go y (inr (inl is)) within = inr (inr (inl (sym is)))
-      go y (inr (inr h)) within = elim (has_point_cases y ms (u ∷ []) h) [
+      go y (inr (inr h)) within = elim (has_cases y ms (u ∷ []) h) [
         | inl k ↦ inr (inr (inr (far.farthest y k within)))
         | inr k ↦ elim k [ inl is ↦ inl (sym is) | inr nothing ↦ absurd nothing ]
       ]

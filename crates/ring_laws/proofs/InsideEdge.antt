@@ -13,7 +13,8 @@ use Rattle.rings.specs.Across.{Misses}
 use Rattle.rings.specs.Edge.{Edge, IsOnSome, edges_along, edges_of}
 use Rattle.ring_laws.proofs.CommonEnds.{end_of_first}
 use Rattle.ring_laws.proofs.DistinctPoints.{AreDistinct, HasPoint, distinct_between, distinct_right, distinct_vertices}
-use Rattle.ring_laws.proofs.Members.{edge_with, has_edge_cases, has_edge_left, has_edge_right}
+use Rattle.ring_laws.proofs.Items.{has_cases, has_left, has_right}
+use Rattle.ring_laws.proofs.Members.{edge_with}
 use Rattle.ring_laws.proofs.SimpleIsApart.{same_or_not}
 use Rattle.ring_laws.specs.Apart.{HasEdge, IsApartRing, IsOn}
 
@@ -55,7 +56,7 @@ unfolding starts
 others_differ before after e f distinct has same =
     let from = λ (g : Edge). g.from in
     let parts = subst AreDistinct (map-append from before (e ∷ after)) distinct in
-    elim (has_edge_cases f before after has) [
+    elim (has_cases f before after has) [
       | inl k ↦ distinct_between (starts before) (starts (e ∷ after)) parts f.from (has_start f before k) (inl (ap from same))
       | inr k ↦ (distinct_right (starts before) (starts (e ∷ after)) parts).0 (subst (HasPoint (starts after)) (sym (ap from same)) (has_start f after k))
     ]
@@ -87,9 +88,9 @@ module _ (ring : List Point) (apart : IsApartRing ring) (e : Edge) (has : HasEdg
       ]
     where
       within : (before after : List Edge) (f : Edge) → HasEdge (before ++ after) f → HasEdge (before ++ e ∷ after) f
-      within before after f h = elim (has_edge_cases f before after h) [
-        | inl k ↦ has_edge_left f before (e ∷ after) k
-        | inr k ↦ has_edge_right f before (e ∷ after) (inr k)
+      within before after f h = elim (has_cases f before after h) [
+        | inl k ↦ has_left f before (e ∷ after) k
+        | inr k ↦ has_right f before (e ∷ after) (inr k)
       ]
 
 -- ---- near a point of an edge

@@ -22,11 +22,13 @@ use Rattle.ring_laws.specs.Pieces.{first_piece, second_piece}
 use Rattle.ring_laws.specs.Triangle.{height_over}
 use Rattle.ring_laws.specs.Winding.{IsLeastVertex, RunsCounterclockwise}
 
+-- the point at x and y
 abbrev point : ℤ → ℤ → Point
 point x y = record { x = x; y = y }
 
 -- ---- a triangle, counterclockwise from its least vertex
 
+-- half of a square with sides of length 4
 abbrev corners : List Point
 corners = point (pos 0) (pos 0) ∷ point (pos 4) (pos 0) ∷ point (pos 0) (pos 4) ∷ []
 
@@ -70,6 +72,7 @@ third_not_least least = least 0 (omega arith) (inr (refl, lt_z_yes tt))
 
 -- ---- an L, counterclockwise from its least vertex
 
+-- two arms of length 2 and width 1
 abbrev letter : List Point
 letter =
     point (pos 0) (pos 0) ∷ point (pos 2) (pos 0) ∷ point (pos 2) (pos 1) ∷ point (pos 1) (pos 1) ∷ point (pos 1) (pos 2)

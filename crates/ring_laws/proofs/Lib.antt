@@ -1,5 +1,6 @@
 -- numbers, and lists of points and of edges
 pub mod UpToOne
+pub mod Items
 pub mod DistinctPoints
 pub mod Members
 pub mod PointLists

@@ -62,7 +62,8 @@ module _ (v z : Point) (ms ns : List Point) (c : ArePieces v z ms ns) (a b : Poi
       let m = middle v z in
       let at_m = middle_is_point v z in
       let at_a = whole_is_point a in
-      let p = beside_left_toward v z ms ns c a b left right m at_m (middle_on v z) (record { not_first = λ s. c.differ (middle_first v z s); not_last = λ s. c.differ (middle_last v z s) }) (whole a) at_a left in
+      let inner : IsNeither v z m = record { not_first = λ s. c.differ (middle_first v z s); not_last = λ s. c.differ (middle_last v z s) } in
+      let p = beside_left_toward v z ms ns c a b left right m at_m (middle_on v z) inner (whole a) at_a left in
       let s = p.point in
       let h = first_hit s (whole a) p.rational at_a (both_chains v z ms ns) (whole a) at_a (on_last_end s (whole a)) on_a in
       let y = h.point in

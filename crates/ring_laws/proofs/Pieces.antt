@@ -10,8 +10,9 @@ use Rattle.rings.specs.Edge.{Edge, IsOnSome, edges_along, edges_of}
 use Rattle.rings.specs.Inside.{winding}
 use Rattle.rings.specs.Orientation.{doubled_area, swept}
 use Rattle.ring_laws.proofs.CommonEnds.{apart_among, apart_more, meet_reversed}
-use Rattle.ring_laws.proofs.DistinctPoints.{AreDistinct, distinct_left, distinct_right, distinct_vertices, has_point_right, vertices_differ}
-use Rattle.ring_laws.proofs.Members.{edge_with, has_edge_cases, has_edge_left, has_edge_right, has_edge_swapped, on_some_of}
+use Rattle.ring_laws.proofs.DistinctPoints.{AreDistinct, distinct_left, distinct_right, distinct_vertices, vertices_differ}
+use Rattle.ring_laws.proofs.Items.{has_cases, has_left, has_right, has_swapped}
+use Rattle.ring_laws.proofs.Members.{edge_with, on_some_of}
 use Rattle.ring_laws.proofs.Rotated.{edges_along_append}
 use Rattle.ring_laws.specs.Apart.{HasEdge, IsApartRing, MeetAtEnds}
 
@@ -32,8 +33,8 @@ module _ (v : Point) (ps : List Point) (z : Point) (qs : List Point) where
   pub has_edge_cut : (e : Edge) → HasEdge (edges_of (v ∷ (ps ++ z ∷ qs))) e
       → HasEdge (edges_of (v ∷ (ps ++ z ∷ []))) e ⊎ HasEdge (edges_of (v ∷ z ∷ qs)) e
   has_edge_cut e h =
-      elim (has_edge_cases e (edges_along v ps z) (edges_along z qs v) (subst (λ es. HasEdge es e) edges_of_cut h)) [
-        | inl k ↦ inl (subst (λ es. HasEdge es e) (sym edges_of_first) (has_edge_left e (edges_along v ps z) _ k))
+      elim (has_cases e (edges_along v ps z) (edges_along z qs v) (subst (λ es. HasEdge es e) edges_of_cut h)) [
+        | inl k ↦ inl (subst (λ es. HasEdge es e) (sym edges_of_first) (has_left e (edges_along v ps z) _ k))
         | inr k ↦ inr (inr k)
       ]
 
@@ -51,8 +52,8 @@ module _ (v : Point) (ps : List Point) (z : Point) (qs : List Point) where
   pub has_edge_of_first : (e : Edge) → HasEdge (edges_of (v ∷ (ps ++ z ∷ []))) e
       → HasEdge (edges_of (v ∷ (ps ++ z ∷ qs))) e ⊎ (record { from = z; to = v } ≡ e)
   has_edge_of_first e h =
-      elim (has_edge_cases e (edges_along v ps z) _ (subst (λ es. HasEdge es e) edges_of_first h)) [
-        | inl k ↦ inl (subst (λ es. HasEdge es e) (sym edges_of_cut) (has_edge_left e (edges_along v ps z) (edges_along z qs v) k))
+      elim (has_cases e (edges_along v ps z) _ (subst (λ es. HasEdge es e) edges_of_first h)) [
+        | inl k ↦ inl (subst (λ es. HasEdge es e) (sym edges_of_cut) (has_left e (edges_along v ps z) (edges_along z qs v) k))
         | inr k ↦ elim k [ inl is ↦ inr is | inr none ↦ absurd none ]
       ]
 
@@ -83,7 +84,7 @@ module _ (v : Point) (ps : List Point) (z : Point) (qs : List Point) where
 
     -- and those of the second
     pub distinct_second : AreDistinct (v ∷ z ∷ qs)
-    distinct_second = (λ has. distinct_cut.0 (has_point_right v ps (z ∷ qs) has), distinct_right ps (z ∷ qs) distinct_cut.1)
+    distinct_second = (λ has. distinct_cut.0 (has_right v ps (z ∷ qs) has), distinct_right ps (z ∷ qs) distinct_cut.1)
 
     -- the first piece is apart if its other edges meet the diagonal at ends,
     pub apart_first : ((e : Edge) → HasEdge (edges_along v ps z) e → MeetAtEnds e (record { from = v; to = z })) → IsApartRing (v ∷ (ps ++ z ∷ []))
@@ -92,11 +93,11 @@ module _ (v : Point) (ps : List Point) (z : Point) (qs : List Point) where
       apart =
           let chain = edges_along v ps z in
           let back : Edge = record { from = z; to = v } in
-          let among = λ (e : Edge) (has : HasEdge chain e). subst (λ es. HasEdge es e) (sym edges_of_cut) (has_edge_left e chain (edges_along z qs v) has) in
+          let among = λ (e : Edge) (has : HasEdge chain e). subst (λ es. HasEdge es e) (sym edges_of_cut) (has_left e chain (edges_along z qs v) has) in
           let more = apart_more back chain (apart_among chain (edges_of (v ∷ (ps ++ z ∷ qs))) among apart.apart)
           (λ e has. meet_reversed e (record { from = v; to = z }) (meets e has)) in
           apart_among (edges_of (v ∷ (ps ++ z ∷ []))) (back ∷ chain)
-          (λ e has. has_edge_swapped e chain (back ∷ []) (subst (λ es. HasEdge es e) edges_of_first has)) more;
+          (λ e has. has_swapped e chain (back ∷ []) (subst (λ es. HasEdge es e) edges_of_first has)) more;
     }
 
     -- and so is the second
@@ -105,6 +106,6 @@ module _ (v : Point) (ps : List Point) (z : Point) (qs : List Point) where
       distinct = vertices_differ (v ∷ z ∷ qs) distinct_second;
       apart =
           let chain = edges_along z qs v in
-          let among = λ (e : Edge) (has : HasEdge chain e). subst (λ es. HasEdge es e) (sym edges_of_cut) (has_edge_right e (edges_along v ps z) chain has) in
+          let among = λ (e : Edge) (has : HasEdge chain e). subst (λ es. HasEdge es e) (sym edges_of_cut) (has_right e (edges_along v ps z) chain has) in
           apart_more (record { from = v; to = z }) chain (apart_among chain (edges_of (v ∷ (ps ++ z ∷ qs))) among apart.apart) meets;
     }

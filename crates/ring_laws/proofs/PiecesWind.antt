@@ -72,11 +72,11 @@ module _ (s : ℤ) (unit : IsUnit s) (es xs ys : List Edge) (sum : (x : Triple) 
           (λ k. h.misses_right h.right h.right_rational (on_last_end x h.right) (among_first h.right k))
           (right_not_on e.from e.to h.right h.right_rational h.crosses.ends_right))
 
--- the same for the edges of a ring, at each point of an edge
 module _ (ring : List Point) (apart : IsApartRing ring) (some : 1 < length ring) (s : ℤ) (unit : IsUnit s) (xs ys : List Edge)
     (sum : (x : Triple) → winding (edges_of ring) x ≡ winding xs x +ℤ winding ys x) (closed_xs : IsClosed xs)
     (winds_ring : WindsUpTo s (edges_of ring)) (winds_ys : WindsUpTo s ys)
     (off_ys : (x : Triple) → ¬ IsOnSome (edges_of ring) x → ¬ IsOnSome xs x → ¬ IsOnSome ys x) where
+  -- so it is with the edges of a ring, at each point of an edge
   pub on_edge_not_wound : (e : Edge) → HasEdge (edges_of ring) e → (x : Triple) → IsPoint x → IsOn e x → ¬ IsOnSome xs x → ¬ (winding xs x ≡ s)
   on_edge_not_wound e has x at on off once =
       let rest = other_edges ring apart e has in

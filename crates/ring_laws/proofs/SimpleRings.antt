@@ -1,6 +1,6 @@
 -- The theorem of simple rings: a ring runs round once, as it turns at its least vertex.
-use Rattle.std.proofs.Common.{ℤ, pos, negsuc, List, [], ◌∷◌, ◌++◌, length}
 use Rattle.std.proofs.Common.{◌≡◌, ◌⊎◌, inl, inr, refl, sym, subst, ℕ, zero, suc, ◌+◌, ◌-◌, ◌<◌, ◌≤◌, arith}
+use Rattle.std.proofs.Common.{ℤ, pos, negsuc, List, [], ◌∷◌, ◌++◌, length}
 use Rattle.std.proofs.lemmas.Int.{ints}
 use Rattle.std.proofs.lemmas.List.{length-append}
 use Rattle.plane.proofs.Determinants.{determinant_shift, determinant_swap_first}
@@ -10,11 +10,11 @@ use Rattle.rings.specs.Edge.{edges_of}
 use Rattle.rings.specs.Simple.{IsSimple}
 use Rattle.ring_laws.proofs.Corner.{area_corner, on_some_corner, swept_triangle, winding_corner}
 use Rattle.ring_laws.proofs.CutStep.{cut_counterclockwise}
-use Rattle.ring_laws.proofs.DistinctPoints.{has_point_right}
 use Rattle.ring_laws.proofs.EarStep.{apart_without, ear_counterclockwise}
 use Rattle.ring_laws.proofs.Farthest.{farthest_or_none}
 use Rattle.ring_laws.proofs.FarthestCut.{IsCutFrom, apart_regrouped, farthest_cut, fewer_vertices, first_runs, ring_regrouped, second_runs}
 use Rattle.ring_laws.proofs.FarthestEnd.{InTriangle, height}
+use Rattle.ring_laws.proofs.Items.{has_right}
 use Rattle.ring_laws.proofs.LeastVertex.{NoneBefore, least_vertex}
 use Rattle.ring_laws.proofs.RunsOnce.{LeftTurnLaw, runs_as_it_turns}
 use Rattle.ring_laws.proofs.SimpleIsApart.{apart_of_simple}
@@ -49,7 +49,7 @@ module _ (n : ℕ) (fewer : (j : ℕ) → j < n → LeftTurnLaw j) where
       (cut_counterclockwise v (w ∷ cs) z (ds ++ u ∷ []) (apart_regrouped v w ms u z cs ds cut apart) cut.meets
       (first_runs v w ms u z cs ds cut apart least (fewer (length cs) (omega arith)))
       (second_runs v w ms u z cs ds cut apart least (fewer (length ds) (omega arith)))
-      u w (has_point_right u ds (u ∷ []) (inl refl)) (inl refl)
+      u w (has_right u ds (u ∷ []) (inl refl)) (inl refl)
       (omega (arith, ints, cut.left_of_last, determinant_shift (whole u) (whole v) (whole z)))
       (omega (arith, ints, cut.left_of_first, determinant_swap_first (whole z) (whole v) (whole w))))
 

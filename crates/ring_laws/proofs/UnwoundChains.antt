@@ -12,8 +12,9 @@ use Rattle.rings.specs.Edge.{Edge, IsClosed, IsOnSome, edges_along, edges_of}
 use Rattle.rings.specs.Inside.{winding}
 use Rattle.ring_laws.proofs.BesideChains.{both_chains}
 use Rattle.ring_laws.proofs.BeyondLine.{farthest_right}
-use Rattle.ring_laws.proofs.DistinctPoints.{HasPoint, has_point_cases, has_point_left, has_point_right}
+use Rattle.ring_laws.proofs.DistinctPoints.{HasPoint}
 use Rattle.ring_laws.proofs.Farthest.{farthest_of}
+use Rattle.ring_laws.proofs.Items.{has_cases, has_left, has_right}
 use Rattle.ring_laws.proofs.PieceConstants.{chain_constant, member_neither}
 use Rattle.ring_laws.proofs.PieceHits.{LeftHit, left_hit, on_first_chain, on_second_chain}
 use Rattle.ring_laws.proofs.PointLists.{all_ends_along, member_on_along}
@@ -59,15 +60,15 @@ module _ (v z : Point) (ms ns : List Point) (c : ArePieces v z ms ns) where
       let P = λ (x : Point). f x ≤ℤ f g in
       let at_v : P v = above_zero _ _ _ (determinant_same_ends (whole v) (whole z)) left (best.farthest a h tt) in
       let at_z : P z = above_zero _ _ _ (determinant_same_last (whole v) (whole z)) left (best.farthest a h tt) in
-      elim (has_point_cases g ms ns best.has_point) [
+      elim (has_cases g ms ns best.has_point) [
         | inl in_first ↦
-            let ends = all_ends_along P v ns z at_v (λ n k. best.farthest n (has_point_right n ms ns k) tt) at_z in
+            let ends = all_ends_along P v ns z at_v (λ n k. best.farthest n (has_right n ms ns k) tt) at_z in
             let zero = farthest_unwound v z g c.differ (edges_of (z ∷ v ∷ ns)) (closed_edges_of (z ∷ v ∷ ns)) (c.first_off g in_first)
             (at_z, at_v, ends) in
             inl (unwound_from v z ms ns c (whole g) (whole_is_point g) (member_on_along z ms v g in_first)
             (member_neither v z ms ns c g in_first) zero)
         | inr in_second ↦
-            let ends = all_ends_along P z ms v at_z (λ m k. best.farthest m (has_point_left m ms ns k) tt) at_v in
+            let ends = all_ends_along P z ms v at_z (λ m k. best.farthest m (has_left m ms ns k) tt) at_v in
             let zero = farthest_unwound v z g c.differ (edges_of (v ∷ z ∷ ms)) (closed_edges_of (v ∷ z ∷ ms)) (c.second_off g in_second)
             (at_v, at_z, ends) in
             let d = swapped v z ms ns c in
@@ -92,7 +93,7 @@ unwound_by_right v z ms ns c u (on_second_chain y at_y on neither one) =
 
 -- a member of the lists is on the ring
 member_on_ring : (v z : Point) (ms ns : List Point) (a : Point) → HasPoint (ms ++ ns) a → IsOnSome (both_chains v z ms ns) (whole a)
-member_on_ring v z ms ns a h = elim (has_point_cases a ms ns h) [
+member_on_ring v z ms ns a h = elim (has_cases a ms ns h) [
   | inl k ↦ on_some_left (whole a) (edges_along z ms v) (edges_along v ns z) (member_on_along z ms v a k)
   | inr k ↦ on_some_right (whole a) (edges_along z ms v) (edges_along v ns z) (member_on_along v ns z a k)
 ]
