@@ -1,3 +1,4 @@
+mod ApartEdges
 mod CrossedEdges
 mod Meetings
 mod Adjacent

@@ -1,6 +1,7 @@
 // The ray from a rational point to the right, at one edge.
-ghost use Rattle.std.specs.Prelude.{◌≡◌, ◌↔◌, ◌<◌, ◌^◌, ◌&&◌, ◌*ℤ◌, IsTrue, true, false, unsigned_abs};
+ghost use Rattle.std.specs.Prelude.{◌≡◌, ◌↔◌, ◌<◌, ◌^◌, ◌&&◌, ◌*ℤ◌, ℤ, IsTrue, true, false, unsigned_abs};
 ghost use Rattle.std.specs.Int.Signed.{le_z, lt_z};
+ghost use Rattle.std.specs.Ordering.{int_cmp};
 ghost use Rattle.inside_test.specs.Between.{LiesBetween};
 ghost use Rattle.plane.specs.Point.{IsPoint, whole};
 ghost use Rattle.plane.specs.Segment.{On};
@@ -65,19 +66,17 @@ impl Level {
         Level { y, w }
     }
 
-    // Whether the edge from `low` to `high` rises past this height: it begins there or below, and ends above.
+    // How the height of `v` compares with this one.
     #[tactic(auto, using(crate::proofs::CrossedEdges::registers))]
-    fn is_passed<L: Ledger>(&self, low: &Pt, high: &Pt, steps: &mut Steps<L>) -> bool
-        ensures { result ≡ (le_z (low.now.y *ℤ self.now.w) self.now.y && lt_z self.now.y (high.now.y *ℤ self.now.w)) }
+    fn compare<L: Ledger>(&self, v: &Pt, steps: &mut Steps<L>) -> Ordering
+        ensures { result ≡ int_cmp (v.now.y *ℤ self.now.w) self.now.y }
     {
-        let bottom = multiplied(low.parts(steps).1 as i128, self.w);
-        let top = multiplied(high.parts(steps).1 as i128, self.w);
-        bottom <= self.y && self.y < top
+        multiplied(v.parts(steps).1 as i128, self.w).cmp(&self.y)
     }
 }
 
-// How the edge from `a` to `b` lies to `p`, whose height is given: the ray crosses the edge where it rises past `p` and
-// has it on the left, or falls past it and has it on the right.
+// How the edge from `a` to `b` lies to `p`, whose height is given. An edge that is above that height, or below it, is
+// missed.
 pub(crate) fn meeting_of<L: Ledger>(
     a: &Pt,
     b: &Pt,
@@ -92,11 +91,49 @@ pub(crate) fn meeting_of<L: Ledger>(
     ensures crossed { result ≡ Meeting.Crossed → is_crossed (record { from = a.now; to = b.now }) p.now ≡ true }
     ensures missed { result ≡ Meeting.Missed → is_crossed (record { from = a.now; to = b.now }) p.now ≡ false }
 {
-    match turn_hom(a, b, p, steps) {
-        Direction::Left => Meeting::beside(level.is_passed(a, b, steps)),
-        Direction::Straight => Meeting::in_line(is_between(a, p, b, steps)),
-        Direction::Right => Meeting::beside(level.is_passed(b, a, steps)),
+    let (from, to) = (level.compare(a, steps), level.compare(b, steps));
+    if is_apart(from, to) {
+        return Meeting::Missed;
     }
+    meeting_at_height(a, b, p, from, to, steps)
+}
+
+// The same, where the heights of `a` and `b` are compared with that of `p` already: the ray crosses the edge where it
+// rises past `p` and has it on the left, or falls past it and has it on the right.
+fn meeting_at_height<L: Ledger>(
+    a: &Pt,
+    b: &Pt,
+    p: &Hom,
+    from: Ordering,
+    to: Ordering,
+    steps: &mut Steps<L>,
+) -> Meeting
+    requires from { from ≡ int_cmp (a.now.y *ℤ p.now.W) p.now.Y }
+    requires to { to ≡ int_cmp (b.now.y *ℤ p.now.W) p.now.Y }
+    requires rational { IsPoint p.now }
+    ensures on { (result ≡ Meeting.On) ↔ On p.now (whole a.now) (whole b.now) }
+    ensures crossed { result ≡ Meeting.Crossed → is_crossed (record { from = a.now; to = b.now }) p.now ≡ true }
+    ensures missed { result ≡ Meeting.Missed → is_crossed (record { from = a.now; to = b.now }) p.now ≡ false }
+{
+    match turn_hom(a, b, p, steps) {
+        Direction::Left => Meeting::beside(is_passed(from, to)),
+        Direction::Straight => Meeting::in_line(is_between(a, p, b, steps)),
+        Direction::Right => Meeting::beside(is_passed(to, from)),
+    }
+}
+
+// Whether the ends of an edge are both above a height, or both below it, by how theirs compare with it.
+fn is_apart(from: Ordering, to: Ordering) -> bool
+    ensures { IsTrue result ↔ ((from ≡ to) × ¬ (from ≡ Ordering.Equal)) }
+{
+    from == to && from != Ordering::Equal
+}
+
+// Whether an edge rises past a height with which those of its ends compare so: it begins there or below, and ends above.
+fn is_passed(low: Ordering, high: Ordering) -> bool
+    ensures { (y a b : ℤ) → low ≡ int_cmp a y → high ≡ int_cmp b y → result ≡ (le_z a y && lt_z y b) }
+{
+    low != Ordering::Greater && high == Ordering::Greater
 }
 
 // Whether `p` comes between `a` and `b`, or with one of them, in the order of points.
