@@ -68,39 +68,17 @@ impl Level {
 
     // How the height of `v` compares with this one.
     #[tactic(auto, using(crate::proofs::CrossedEdges::registers))]
-    fn compare<L: Ledger>(&self, v: &Pt, steps: &mut Steps<L>) -> Ordering
+    pub(crate) fn compare<L: Ledger>(&self, v: &Pt, steps: &mut Steps<L>) -> Ordering
         ensures { result ≡ int_cmp (v.now.y *ℤ self.now.w) self.now.y }
     {
         multiplied(v.parts(steps).1 as i128, self.w).cmp(&self.y)
     }
 }
 
-// How the edge from `a` to `b` lies to `p`, whose height is given. An edge that is above that height, or below it, is
-// missed.
+// How the edge from `a` to `b`, whose heights compare so with that of `p`, lies to `p`. An edge that is above that height,
+// or below it, is missed. The ray crosses another where it rises past `p` and has it on the left, or falls past it and has
+// it on the right.
 pub(crate) fn meeting_of<L: Ledger>(
-    a: &Pt,
-    b: &Pt,
-    p: &Hom,
-    level: &Level,
-    steps: &mut Steps<L>,
-) -> Meeting
-    requires y { level.now.y ≡ p.now.Y }
-    requires w { level.now.w ≡ p.now.W }
-    requires rational { IsPoint p.now }
-    ensures on { (result ≡ Meeting.On) ↔ On p.now (whole a.now) (whole b.now) }
-    ensures crossed { result ≡ Meeting.Crossed → is_crossed (record { from = a.now; to = b.now }) p.now ≡ true }
-    ensures missed { result ≡ Meeting.Missed → is_crossed (record { from = a.now; to = b.now }) p.now ≡ false }
-{
-    let (from, to) = (level.compare(a, steps), level.compare(b, steps));
-    if is_apart(from, to) {
-        return Meeting::Missed;
-    }
-    meeting_at_height(a, b, p, from, to, steps)
-}
-
-// The same, where the heights of `a` and `b` are compared with that of `p` already: the ray crosses the edge where it
-// rises past `p` and has it on the left, or falls past it and has it on the right.
-fn meeting_at_height<L: Ledger>(
     a: &Pt,
     b: &Pt,
     p: &Hom,
@@ -115,6 +93,9 @@ fn meeting_at_height<L: Ledger>(
     ensures crossed { result ≡ Meeting.Crossed → is_crossed (record { from = a.now; to = b.now }) p.now ≡ true }
     ensures missed { result ≡ Meeting.Missed → is_crossed (record { from = a.now; to = b.now }) p.now ≡ false }
 {
+    if is_apart(from, to) {
+        return Meeting::Missed;
+    }
     match turn_hom(a, b, p, steps) {
         Direction::Left => Meeting::beside(is_passed(from, to)),
         Direction::Straight => Meeting::in_line(is_between(a, p, b, steps)),

@@ -35,15 +35,19 @@ pub fn place_hom<L: Ledger>(ring: &Ring, p: &Hom, steps: &mut Steps<L>) -> Posit
     ensures inside { (result ≡ Position.Inside) ↔ (IsIn ring.now.corners p.now × ¬ (IsOnSome (edges_of ring.now.corners) p.now)) }
     ensures outside { (result ≡ Position.Outside) ↔ ¬ (IsIn ring.now.corners p.now) }
 {
-    let level = Level::of(p, steps);
+    let (size, level) = (ring.len(), Level::of(p, steps));
     let mut is_odd = false;
-    for i in 0..ring.len() {
-        let (a, b) = (ring.corner(i), next_corner(ring, i));
-        match meeting_of(&a, &b, p, &level, steps) {
+    let mut a = ring.corner(0);
+    let mut from = level.compare(&a, steps);
+    for i in 0..size {
+        let b = next_corner(ring, i);
+        let to = level.compare(&b, steps);
+        match meeting_of(&a, &b, p, from, to, steps) {
             Meeting::On => return Position::Edge,
             Meeting::Crossed => is_odd = !is_odd,
             Meeting::Missed => {}
         }
+        (a, from) = (b, to);
     }
     if is_odd {
         Position::Inside

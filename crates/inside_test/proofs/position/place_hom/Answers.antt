@@ -7,13 +7,14 @@ use Rattle.inside_test.proofs.position.place_hom.Goals as goal
 use Rattle.inside_test.proofs.position.place_hom.Goals.{in-Crossed, in-Missed}
 
 pub loop-i-init : goal.loop-i-init
-loop-i-init g c = odd_start c.args.ring.now.corners c.args.p.now
+loop-i-init g c = (odd_start c.args.ring.now.corners c.args.p.now, c.corner-a.ensures, rw (c.of-level.ensures.y, c.of-level.ensures.w) at c.compare-from.ensures)
 
 pub returns-in-On : goal.returns-in-On
 returns-in-On g c =
     let ring = c.args.ring.now.corners in
     let p = c.args.p.now in
-    let here : IsOnEdge ring c.loop-i.i p = rw (c.corner-a.ensures, c.next_corner-b.ensures) at (c.meeting_of.ensures.on.0 c.in-On.is) in
+    let (_, at_a, _) = c.loop-i.invariant in
+    let here : IsOnEdge ring c.loop-i.i p = rw (at_a, c.next_corner-b.ensures) at (c.meeting_of.ensures.on.0 c.in-On.is) in
     let on : IsOnSome (edges_of ring) p = on_some_from p ring c.loop-i.i (omega arith) here in
     record {
       edge = (λ _. on, λ _. refl);
@@ -25,20 +26,29 @@ pub loop-i-preserved : goal.loop-i-preserved
 loop-i-preserved g c =
     let ring = c.args.ring.now.corners in
     let p = c.args.p.now in
+    let (odd, at_a, _) = c.loop-i.invariant in
+    let next = c.next_corner-b.ensures in
+    let to = rw (c.of-level.ensures.y, c.of-level.ensures.w) at c.compare-to.ensures in
     elim c.match-meeting_of.branch [
-      | in-Crossed w ↦
-          odd_crossed ring p c.loop-i.i c.loop-i.is_odd _ w.is_odd-is (omega arith) c.loop-i.invariant
-          (λ on. absurd (cc (c.meeting_of.ensures.on.1 (rw (c.corner-a.ensures, c.next_corner-b.ensures) on), w.in-Crossed.is)))
-          (rw (c.corner-a.ensures, c.next_corner-b.ensures) at (c.meeting_of.ensures.crossed w.in-Crossed.is))
-      | in-Missed w ↦
-          odd_missed ring p c.loop-i.i c.loop-i.is_odd _ w.is_odd-is (omega arith) c.loop-i.invariant
-          (λ on. absurd (cc (c.meeting_of.ensures.on.1 (rw (c.corner-a.ensures, c.next_corner-b.ensures) on), w.in-Missed.is)))
-          (rw (c.corner-a.ensures, c.next_corner-b.ensures) at (c.meeting_of.ensures.missed w.in-Missed.is))
+      | in-Crossed w ↦ (
+        odd_crossed ring p c.loop-i.i c.loop-i.is_odd _ w.is_odd-is (omega arith) odd
+            (λ on. absurd (cc (c.meeting_of.ensures.on.1 (rw (at_a, next) on), w.in-Crossed.is)))
+            (rw (at_a, next) at (c.meeting_of.ensures.crossed w.in-Crossed.is)),
+        next,
+        to,
+      )
+      | in-Missed w ↦ (
+        odd_missed ring p c.loop-i.i c.loop-i.is_odd _ w.is_odd-is (omega arith) odd
+            (λ on. absurd (cc (c.meeting_of.ensures.on.1 (rw (at_a, next) on), w.in-Missed.is)))
+            (rw (at_a, next) at (c.meeting_of.ensures.missed w.in-Missed.is)),
+        next,
+        to,
+      )
     ]
 
 pub returns-then-is_odd : goal.returns-then-is_odd
 returns-then-is_odd g c =
-    let all = odd_end c.args.ring.now.corners c.args.p.now c.loop-i.i true (omega arith) (rw c.if-is_odd.true at c.loop-i.invariant) in
+    let all = odd_end c.args.ring.now.corners c.args.p.now c.loop-i.i true (omega arith) (rw c.if-is_odd.true at c.loop-i.invariant.0) in
     let inside = in_of_odd c.args.ring.now.corners c.args.p.now all in
     record {
       edge = (λ e. absurd (cc e), λ on. absurd (all.on_none on));
@@ -48,7 +58,7 @@ returns-then-is_odd g c =
 
 pub returns-else-is_odd : goal.returns-else-is_odd
 returns-else-is_odd g c =
-    let all = odd_end c.args.ring.now.corners c.args.p.now c.loop-i.i false (omega arith) (rw c.if-is_odd.false at c.loop-i.invariant) in
+    let all = odd_end c.args.ring.now.corners c.args.p.now c.loop-i.i false (omega arith) (rw c.if-is_odd.false at c.loop-i.invariant.0) in
     let outside = out_of_even c.args.ring.now.corners c.args.p.now all in
     record {
       edge = (λ e. absurd (cc e), λ on. absurd (all.on_none on));
