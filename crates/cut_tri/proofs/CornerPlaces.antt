@@ -7,8 +7,9 @@ use Rattle.plane.specs.Turn.{IsLeft}
 use Rattle.rings.specs.Ring.{origin, vertex}
 use Rattle.rings.specs.Simple.{IsSimple}
 use Rattle.ring_laws.proofs.CounterclockwiseCuts.{least_turn}
-use Rattle.ring_laws.proofs.DistinctPoints.{HasPoint, number_of_point}
+use Rattle.ring_laws.proofs.DistinctPoints.{HasPoint}
 use Rattle.ring_laws.proofs.FarthestEnd.{InTriangle, height}
+use Rattle.ring_laws.proofs.Items.{number_of}
 use Rattle.ring_laws.proofs.LeastVertex.{NoneBefore}
 use Rattle.ring_laws.specs.Triangle.{IsInTriangle}
 use Rattle.ring_laws.specs.Winding.{RunsCounterclockwise}
@@ -21,7 +22,7 @@ use Rattle.cut_tri.specs.Piece.{IsLeastBelow, IsPiece}
 pub place_of_point : (corners : List Point) (xs : List ℕ) (p : Point) → HasPoint (points_of corners xs) p
     → (k : ℕ) × (k < length xs) × (vertex corners (get_or xs k 0) ≡ p)
 place_of_point corners xs p has =
-    let (k, within, is) = number_of_point (points_of corners xs) p has in
+    let (k, within, is) = number_of (points_of corners xs) p has in
     let below : k < length xs = omega (arith, within, length-map xs (λ i. vertex corners i)) in
     (k, below, sym (get_or-map (λ i. vertex corners i) xs k 0 origin below) ∙ is origin)
 

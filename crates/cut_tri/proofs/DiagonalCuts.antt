@@ -5,9 +5,10 @@ use Rattle.std.proofs.lemmas.List.{append_assoc, drop_at, get_or_at, length-appe
 use Rattle.plane.specs.Point.{Point}
 use Rattle.rings.specs.Ring.{vertex}
 use Rattle.ring_laws.proofs.CounterclockwiseCuts.{IsCounterclockwiseCut, farthest_cut_runs}
-use Rattle.ring_laws.proofs.DistinctPoints.{HasPoint, has_point_right}
+use Rattle.ring_laws.proofs.DistinctPoints.{HasPoint}
 use Rattle.ring_laws.proofs.Farthest.{Farthest}
 use Rattle.ring_laws.proofs.FarthestEnd.{InTriangle, height}
+use Rattle.ring_laws.proofs.Items.{has_right}
 use Rattle.tri_mesh.proofs.Cuts.{IsCut, both_parts, contains_first_part, contains_second_part, first_part, second_part}
 use Rattle.tri_mesh.proofs.Joined.{fits_joined}
 use Rattle.tri_mesh.specs.Fits.{points_of}
@@ -67,7 +68,7 @@ module _ (corners : List Point) (v w : ℕ) (cs : List ℕ) (z : ℕ) (ds : List
     abbrev farthest_point : Farthest (InTriangle (vertex corners u) (vertex corners v) (vertex corners w)) (height (vertex corners u) (vertex corners w)) (points_of corners others)
     farthest_point = record {
       point = vertex corners z;
-      has_point = subst (λ rs. HasPoint rs (vertex corners z)) (sym others_points) (has_point_right (vertex corners z) (points_of corners cs) (vertex corners z ∷ points_of corners ds) (inl refl));
+      has_point = subst (λ rs. HasPoint rs (vertex corners z)) (sym others_points) (has_right (vertex corners z) (points_of corners cs) (vertex corners z ∷ points_of corners ds) (inl refl));
       chosen = subst (λ k. InTriangle (vertex corners u) (vertex corners v) (vertex corners w) (vertex corners k)) z_is
           (in_triangle_from corners v w others u (length cs) place_within far.in_corner);
       farthest = λ q has inside.

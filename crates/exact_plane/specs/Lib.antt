@@ -1,2 +1,3 @@
 pub mod Direction
 pub mod Size
+pub mod Spot

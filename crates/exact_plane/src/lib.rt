@@ -11,6 +11,7 @@ mod segments;
 mod steps;
 #[cfg(test)]
 mod tests;
+mod turns;
 mod vector;
 mod wide;
 
@@ -21,3 +22,4 @@ pub use memory::Memory;
 pub use pt::{COORDINATE_LIMIT, Pt, order};
 pub use segments::{meet_only_at, on_segment, segments_meet};
 pub use steps::Steps;
+pub use turns::{Spot, Turns};

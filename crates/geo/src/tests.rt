@@ -59,7 +59,7 @@ fn output(alloc: Global, script: &[u8]) -> Result<Vec<u8>, Memory> {
 #[test]
 #[rattlefmt::skip]
 fn worked_scripts(rt: HostRuntime) -> Result<(), Fail> {
-    let rows: [(&str, &[u8], &[u8]); 19] = [
+    let rows: [(&str, &[u8], &[u8]); 22] = [
         ("an L", b"polygon,0,0,4,0,4,2,2,2,2,4,0,4\n", b"polygon,6\n"),
         ("nothing", b"", b""),
         ("a bow tie", b"polygon,0,0,4,4,4,0,0,4\n", b"bad,clash,0,2\n"),
@@ -82,6 +82,12 @@ fn worked_scripts(rt: HostRuntime) -> Result<(), Fail> {
             b"polygon,6\nbad,clash,0,2\ninside\n"),
         ("refusals of inside", b"polygon,0,0,4,0,4,2,2,2,2,4,0,4\ninside,1\ninside,x,1\ninside,,1\ninside,1000001,0\nreach,1\n",
             b"polygon,6\nbad,fields\nbad,number,1\nbad,number,1\nbad,range,1\nbad,later\n"),
+        ("lists to check in an L", b"polygon,0,0,4,0,4,2,2,2,2,4,0,4\ncheck,4,1,2,2,1,4\ncheck,4,0,2,2,0,4\ncheck,4,1,1,4\ncheck,4,1,4,1\ncheck,0,0,1,1,2,2\ncheck,4,2,2,2,0,0\ncheck,3,3\ncheck,1,1\n",
+            b"polygon,6\ntaut\nnot,straight,1\nnot,leaves,0\nnot,repeat,0\nnot,not_reflex,1\nnot,wrong_side,1\nnot,leaves,0\ntaut\n"),
+        ("lists to check in an L that runs clockwise", b"polygon,0,4,2,4,2,2,4,2,4,0,0,0\ncheck,4,1,2,2,1,4\ncheck,4,0,2,2,0,4\ncheck,4,1,1,4\ncheck,0,0,1,1,2,2\ncheck,4,2,2,2,0,0\n",
+            b"polygon,6\ntaut\nnot,straight,1\nnot,leaves,0\nnot,not_reflex,1\nnot,wrong_side,1\n"),
+        ("refusals of check", b"check\ncheck,1,1\npolygon,0,0,4,0,4,2,2,2,2,4,0,4\ncheck\ncheck,1\ncheck,1,x\ncheck,1,1000001\n",
+            b"bad,few\nbad,no_polygon\npolygon,6\nbad,few\nbad,fields\nbad,number,2\nbad,range,2\n"),
         ("an open quote", b"\"frob,1", b"bad,word\n"),
     ];
     for (name, script, want) in rows {

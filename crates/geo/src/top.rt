@@ -108,7 +108,7 @@ fn answer_script<K: Sink, L: Ledger>(
     let mut session = Session::new();
     let mut out = Vec::new(alloc);
     'records: while let Some(reading) = script.next_command()? {
-        answer(&mut session, reading, &mut out, &mut steps)?;
+        answer(alloc, &mut session, reading, &mut out, &mut steps)?;
         write_all(sink, &out)?;
         out.clear();
     }
@@ -117,6 +117,7 @@ fn answer_script<K: Sink, L: Ledger>(
 
 // Appends the answer to a record that was read.
 fn answer<L: Ledger>(
+    alloc: Global,
     session: &mut Session,
     reading: Result<Command, Bad>,
     out: &mut Vec<u8>,
@@ -126,7 +127,7 @@ fn answer<L: Ledger>(
     ensures { OnOk result (AppendsReadingAnswer session.old reading out.old.items out.new.items session.new) }
 {
     match reading {
-        Ok(command) => session.answer(command, out, steps),
+        Ok(command) => session.answer(alloc, command, out, steps),
         Err(bad) => put_bad(out, &bad),
     }
 }

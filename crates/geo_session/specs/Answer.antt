@@ -9,6 +9,9 @@ use Rattle.plane.specs.Point.{Point, whole}
 use Rattle.rings.specs.Edge.{IsOnSome, edges_of}
 use Rattle.rings.specs.Inside.{IsIn}
 use Rattle.rings.specs.Simple.{IsLeastClash, IsSimple}
+use Rattle.taut_check.specs.Verdict.{IsVerdict}
+use Rattle.taut_check.specs.declared.verdict.Verdict.{Verdict}
+use Rattle.taut_check.specs.declared.verdict.Verdict.TheVariants as verdict
 
 -- the polygon that was accepted last, as it was given; none at first
 abbrev pub State : Type 0
@@ -43,10 +46,36 @@ abbrev pub IsInsideText : State → Point → List ℕ → Type 0
 IsInsideText None p text = text ≡ bad_text bad.NoPolygon
 IsInsideText (Some ring) p text = IsPlaceText ring p text
 
+-- the line that names a broken rule and the place of the point
+abbrev pub broken_text : List ℕ → ℕ → List ℕ
+broken_text rule place = codes "not," ++ rule ++ index_text place ++ codes "\n"
+
+-- the line of a verdict; there is none for a list of no points, which no command has
+abbrev pub IsVerdictText : Verdict → List ℕ → Type 0
+IsVerdictText verdict.Taut text = text ≡ codes "taut\n"
+IsVerdictText verdict.Empty text = ⊥
+IsVerdictText (verdict.Repeat k) text = text ≡ broken_text (codes "repeat") k
+IsVerdictText (verdict.Leaves k) text = text ≡ broken_text (codes "leaves") k
+IsVerdictText (verdict.NotReflex k) text = text ≡ broken_text (codes "not_reflex") k
+IsVerdictText (verdict.Straight k) text = text ≡ broken_text (codes "straight") k
+IsVerdictText (verdict.WrongSide k) text = text ≡ broken_text (codes "wrong_side") k
+
+-- the text tells the verdict on a list of points
+pub record TellsVerdict (ring : List Point) (points : List Point) (text : List ℕ) : Type 0 where
+  pub found : Verdict
+  pub judged : IsVerdict ring points found
+  pub told : IsVerdictText found text
+
+-- the verdict is told if there is a polygon
+abbrev pub IsCheckText : State → List Point → List ℕ → Type 0
+IsCheckText None points text = text ≡ bad_text bad.NoPolygon
+IsCheckText (Some ring) points text = TellsVerdict ring points text
+
 -- the text is the command's answer in the state before, and leaves the state after
 abbrev pub IsAnswer : State → Command → List ℕ → State → Type 0
 IsAnswer before (command.Polygon ring) text after = AcceptsPolygon before ring text after ⊎ RefusesPolygon before ring text after
 IsAnswer before (command.Inside p) text after = IsInsideText before p text × (after ≡ before)
+IsAnswer before (command.Check points) text after = IsCheckText before points text × (after ≡ before)
 
 -- the same of a record that is read as a command or as a refusal; a refused record gives its line and keeps the state
 abbrev pub IsReadingAnswer : State → Result Command Bad → List ℕ → State → Type 0

@@ -3,10 +3,12 @@ ghost use Rattle.geo_session.specs.Answer.{AppendsAnswer, IsPlaceText, polygon_t
 ghost use Rattle.ring_check.specs.Oriented.{given_of};
 ghost use Rattle.geo_text.specs.Reading.{IsWellSized};
 
+use crate::judgement::put_judgement;
 use exact_plane::{Memory, Pt, Steps};
 use geo_text::{Bad, Command, Points, put_bad, put_index, put_line_end, put_word};
 use inside_test::{Position, place};
 use ring_check::{Ring, RingFault};
+use std::alloc::Global;
 use std::marker::Model;
 use std::sync::ledger::Ledger;
 
@@ -42,6 +44,7 @@ impl Session {
     /// Appends the command's answer and takes the new state. After want of memory the session and `out` are as before.
     pub fn answer<L: Ledger>(
         &mut self,
+        alloc: Global,
         command: Command,
         out: &mut Vec<u8>,
         steps: &mut Steps<L>,
@@ -54,6 +57,7 @@ impl Session {
         match command {
             Command::Polygon(points) => self.answer_polygon(points, out, steps),
             Command::Inside(point) => self.answer_inside(&point, out, steps),
+            Command::Check(points) => self.answer_check(alloc, points.as_slice(), out, steps),
         }
     }
 
@@ -92,6 +96,23 @@ impl Session {
             Some(held) => put_word(out, place_line(&held.ring, point, steps)),
             None => put_bad(out, &Bad::NoPolygon),
         }
+    }
+
+    fn answer_check<L: Ledger>(
+        &self,
+        alloc: Global,
+        points: &[Pt],
+        out: &mut Vec<u8>,
+        steps: &mut Steps<L>,
+    ) -> Result<(), Memory>
+        requires { (1 ≤ length points.now) × (length points.now ≤ 4096) }
+        ensures ok { OnOk result (AppendsAnswer self.now (Command.Check points.now) out.old.items out.new.items self.now) }
+        ensures same_out { OnErr result (out.new.items ≡ out.old.items) }
+    {
+        let Some(held) = &self.held else {
+            return put_bad(out, &Bad::NoPolygon);
+        };
+        put_judgement(alloc, out, &held.ring, points, steps)
     }
 }
 

@@ -1,5 +1,5 @@
 -- Points and commands of a list of fields.
-use Rattle.std.proofs.Common.{◌≡◌, ◌≤◌, ◌+◌, ◌/◌, ◌%◌, ◌==◌, ℕ, Bool, true, false, if◌then◌else◌, Option, Some, None, Result, Err, List, [], ◌∷◌, length, drop, get_or, refl, arith}
+use Rattle.std.proofs.Common.{◌≡◌, ◌≤◌, ◌+◌, ◌*◌, ◌/◌, ◌%◌, ◌==◌, ℕ, Bool, true, false, if◌then◌else◌, Option, Some, None, Result, Err, List, [], ◌∷◌, length, drop, get_or, refl, arith}
 use Rattle.std.proofs.lemmas.Bool.Decides.{nat_tests}
 use Rattle.std.proofs.lemmas.List.{length-drop, nil_from_length}
 use Rattle.std.specs.List.{list_any}
@@ -30,13 +30,20 @@ in_bounds false true many rest e = cc
 in_bounds false false true rest e = cc
 in_bounds false false false rest e = (refl, refl)
 
--- so it is well sized
-list_is_well_sized : (fields : List (List ℕ)) (fault : Option Bad) → list_fault 3 4096 fields ≡ fault → IfOk (unless fault (command.Polygon (points_of fields))) IsWellSized
-list_is_well_sized fields (Some fault) e = tt
-list_is_well_sized fields None e =
-    let (few, many) = in_bounds ((length fields % 2) == 1) (nat_lt (length fields) 6) (nat_lt 8192 (length fields)) (number_fault fields) e in
+-- so it has as many points as its command takes,
+list_in_bounds : (least : ℕ) (fields : List (List ℕ)) → least ≤ 4096 → list_fault least 4096 fields ≡ None
+    → (least ≤ length (points_of fields)) × (length (points_of fields) ≤ 4096)
+list_in_bounds least fields small e =
+    let (few, many) = in_bounds ((length fields % 2) == 1) (nat_lt (length fields) (2 * least)) (nat_lt (2 * 4096) (length fields)) (number_fault fields) e in
     let count = length-points_of fields in
     (grind (arith, nat_tests), grind (arith, nat_tests))
+
+-- and is well sized
+list_is_well_sized : (make : List Point → Command) (least : ℕ) (fields : List (List ℕ)) (fault : Option Bad) → least ≤ 4096
+    → ((points : List Point) → (least ≤ length points) × (length points ≤ 4096) → IsWellSized (make points))
+    → list_fault least 4096 fields ≡ fault → IfOk (unless fault (make (points_of fields))) IsWellSized
+list_is_well_sized make least fields (Some fault) small sized e = tt
+list_is_well_sized make least fields None small sized e = sized (points_of fields) (list_in_bounds least fields small e)
 
 -- a refusal or a command of one point
 point_is_well_sized : (fault : Option Bad) (point : Point) → IfOk (unless fault (command.Inside point)) IsWellSized
@@ -47,23 +54,29 @@ point_is_well_sized None point = tt
 pub reading_is_well_sized : (fields : List (List ℕ)) → IfOk (reading_of fields) IsWellSized
 reading_is_well_sized [] = tt
 reading_is_well_sized (word ∷ fields) =
-    by_word (bytes_eq word (codes "polygon")) (bytes_eq word (codes "inside")) (list_any (λ later. bytes_eq later word) later_words)
-    (list_is_well_sized fields (list_fault 3 4096 fields) refl) (point_is_well_sized (fixed_fault 2 fields) (point_of fields))
+    by_word (bytes_eq word (codes "polygon")) (bytes_eq word (codes "inside")) (bytes_eq word (codes "check")) (list_any (λ later. bytes_eq later word) later_words)
+    (list_is_well_sized (λ points. command.Polygon points) 3 fields (list_fault 3 4096 fields) (omega arith) (λ points h. h) refl)
+    (point_is_well_sized (fixed_fault 2 fields) (point_of fields))
+    (list_is_well_sized (λ points. command.Check points) 1 fields (list_fault 1 4096 fields) (omega arith) (λ points h. h) refl)
   where
-    by_word : (polygon inside later : Bool) → IfOk (unless (list_fault 3 4096 fields) (command.Polygon (points_of fields))) IsWellSized
+    by_word : (polygon inside check later : Bool) → IfOk (unless (list_fault 3 4096 fields) (command.Polygon (points_of fields))) IsWellSized
         → IfOk (unless (fixed_fault 2 fields) (command.Inside (point_of fields))) IsWellSized
+        → IfOk (unless (list_fault 1 4096 fields) (command.Check (points_of fields))) IsWellSized
         → IfOk (if polygon then unless (list_fault 3 4096 fields) (command.Polygon (points_of fields))
-        else if inside then unless (fixed_fault 2 fields) (command.Inside (point_of fields)) else if later then Err bad.Later else Err bad.Word) IsWellSized
-    by_word true inside later h k = h
-    by_word false true later h k = k
-    by_word false false true h k = tt
-    by_word false false false h k = tt
+        else if inside then unless (fixed_fault 2 fields) (command.Inside (point_of fields))
+        else if check then unless (list_fault 1 4096 fields) (command.Check (points_of fields)) else if later then Err bad.Later else Err bad.Word) IsWellSized
+    by_word true inside check later h k l = h
+    by_word false true check later h k l = k
+    by_word false false true later h k l = l
+    by_word false false false true h k l = tt
+    by_word false false false false h k l = tt
 
 -- a record whose first field is no word that is answered, and a record with no field
 pub reading_of_other : (fields : List (List ℕ)) → bytes_eq (get_or fields 0 []) (codes "polygon") ≡ false → bytes_eq (get_or fields 0 []) (codes "inside") ≡ false
+    → bytes_eq (get_or fields 0 []) (codes "check") ≡ false
     → reading_of fields ≡ Err (if list_any (λ later. bytes_eq later (get_or fields 0 [])) later_words then bad.Later else bad.Word)
-reading_of_other [] other another = refl
-reading_of_other (word ∷ fields) other another = rw (other, another) (by_later (list_any (λ later. bytes_eq later word) later_words))
+reading_of_other [] no_polygon no_inside no_check = refl
+reading_of_other (word ∷ fields) no_polygon no_inside no_check = rw (no_polygon, no_inside, no_check) (by_later (list_any (λ later. bytes_eq later word) later_words))
   where
     by_later : (b : Bool) → ◌≡◌ {A = Result Command Bad} (if b then Err bad.Later else Err bad.Word) (Err (if b then bad.Later else bad.Word))
     by_later true = refl

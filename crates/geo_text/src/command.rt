@@ -8,6 +8,8 @@ pub enum Command {
     Polygon(Points),
     /// Say where this point lies in the polygon.
     Inside(Pt),
+    /// Judge these points, 1 to 4,096 of them, as a taut chain of the polygon.
+    Check(Points),
 }
 
 /// Why a record is refused, in the order in which the refusals are looked for. Places are those of fields, and the

@@ -16,9 +16,7 @@ use exact_plane::{COORDINATE_LIMIT, Memory, Pt};
 use std::alloc::Global;
 
 // The words whose commands nothing answers yet.
-const LATER: [&[u8]; 7] = [
-    b"check", b"path", b"tree", b"reach", b"see", b"kernel", b"hull",
-];
+const LATER: [&[u8]; 6] = [b"path", b"tree", b"reach", b"see", b"kernel", b"hull"];
 
 // The command that a record is, or why it is none.
 pub fn command(alloc: Global, row: &ByteRecord) -> Result<Result<Command, Bad>, Memory>
@@ -33,6 +31,12 @@ pub fn command(alloc: Global, row: &ByteRecord) -> Result<Result<Command, Bad>, 
     }
     if word == b"inside".as_slice() {
         return Ok(inside(row));
+    }
+    if word == b"check".as_slice() {
+        return Ok(match list_fault(row, 1, 4096) {
+            Some(fault) => Err(fault),
+            None => Ok(Command::Check(points(alloc, row)?)),
+        });
     }
     Ok(Err(word_fault(word)))
 }

@@ -8,7 +8,7 @@ use std::marker::Brand;
 use std::sync::ledger::{Blank, Ledger};
 use std::test::Fail;
 
-// Each row is a script and what it reads as: a line for each record, with the points of a polygon or the refusal.
+// Each row is a script and what it reads as: a line for each record, with the points of a command or the refusal.
 #[test]
 #[rattlefmt::skip]
 fn scripts(rt: HostRuntime) -> Result<(), Fail> {
@@ -26,10 +26,11 @@ fn scripts(rt: HostRuntime) -> Result<(), Fail> {
         ("a blank before a quote", b" \"kernel\"\nkernel\n", b"bad,word\nbad,later\n"),
         ("not text", b"\xFF\xFE\npolygon,0,0,\xFF,0,1,1\n", b"bad,word\nbad,number,3\n"),
         ("other words", b"Polygon\npolygons\n,\n\"\"\n \n", b"bad,word\nbad,word\nbad,word\nbad,word\nbad,word\n"),
-        ("later words", b"check\npath,x\ntree\nreach\nsee\nkernel,0\nhull\n",
-            b"bad,later\nbad,later\nbad,later\nbad,later\nbad,later\nbad,later\nbad,later\n"),
+        ("later words", b"path,x\ntree\nreach\nsee\nkernel,0\nhull\n", b"bad,later\nbad,later\nbad,later\nbad,later\nbad,later\nbad,later\n"),
         ("inside", b"inside,1,-2\ninside,1\ninside,1,2,3\ninside,x,1\ninside,1,1000001\ninside\n",
             b"inside 1,-2\nbad,fields\nbad,fields\nbad,number,1\nbad,range,2\nbad,fields\n"),
+        ("check", b"check,1,-2\ncheck,1,2,3,4\ncheck\ncheck,1\ncheck,x,1\ncheck,1,1000001\n",
+            b"check 1,-2\ncheck 1,2 3,4\nbad,few\nbad,fields\nbad,number,1\nbad,range,2\n"),
         ("odd count", b"polygon,0,0,1\npolygon,x\npolygon,0,0,0,0,0,0,0\n", b"bad,fields\nbad,fields\nbad,fields\n"),
         ("few", b"polygon\npolygon,0,0,1,1\npolygon,x,y\n", b"bad,few\nbad,few\nbad,few\n"),
         ("no numbers", b"polygon,+,0,0,0,0,0\npolygon,0,-,0,0,0,0\npolygon,0,0,,0,0,0\npolygon,0,0,0,+-1,0,0\npolygon,0,0,0,0,1 2,0\npolygon,0,0,0,0,0,1.0\n",
@@ -57,6 +58,7 @@ fn long_scripts(rt: HostRuntime) -> Result<(), Fail> {
         ("4,096 points", b"polygon", b",5,6", 4096, b"\n", greatest.as_slice()),
         ("4,097 points", b"polygon", b",5,6", 4097, b"\n", b"bad,many\n"),
         ("4,097 points of no numbers", b"polygon", b",x,y", 4097, b"\n", b"bad,many\n"),
+        ("4,097 points to check", b"check", b",5,6", 4097, b"\n", b"bad,many\n"),
         ("8,195 fields", b"polygon,5", b",x,y", 4097, b"\n", b"bad,fields\n"),
     ];
     for (name, front, part, count, end, want) in cases {
@@ -148,6 +150,10 @@ fn put_command<L: Ledger>(
         Command::Inside(point) => {
             put_word(out, "inside")?;
             put_point(out, &point, steps)?
+        }
+        Command::Check(points) => {
+            put_word(out, "check")?;
+            put_points(out, points.into_vec().as_slice(), steps)?
         }
     }
     put_line_end(out)

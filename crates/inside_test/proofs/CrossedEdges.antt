@@ -22,46 +22,54 @@ use Rattle.rings.specs.Inside.{is_crossed}
 abbrev crossed_by : Bool → Bool → ℤ → Bool
 crossed_by rises falls z = (rises && lt_z (pos 0) z) || (falls && lt_z z (pos 0))
 
+-- a positive determinant lets only rising count,
 only_rises : (rises falls : Bool) → ((rises && true) || (falls && false)) ≡ rises
 only_rises true true = refl
 only_rises true false = refl
 only_rises false true = refl
 only_rises false false = refl
 
+-- a negative one only falling,
 only_falls : (rises falls : Bool) → ((rises && false) || (falls && true)) ≡ falls
 only_falls true true = refl
 only_falls true false = refl
 only_falls false true = refl
 only_falls false false = refl
 
+-- and 0 nothing
 neither : (rises falls : Bool) → ((rises && false) || (falls && false)) ≡ false
 neither true true = refl
 neither true false = refl
 neither false true = refl
 neither false false = refl
 
--- the two tests of the determinant, by the direction
+-- the two tests of the determinant, where the turn is to the left,
 tests_left : (z : ℤ) → direction_of z ≡ Left → (lt_z (pos 0) z ≡ true) × (lt_z z (pos 0) ≡ false)
 tests_left (pos zero) t = cc
 tests_left (pos (suc n)) t = (grind (arith, ints), grind (arith, ints))
 tests_left (negsuc n) t = cc
 
+-- to the right
 tests_right : (z : ℤ) → direction_of z ≡ Right → (lt_z (pos 0) z ≡ false) × (lt_z z (pos 0) ≡ true)
 tests_right (pos zero) t = cc
 tests_right (pos (suc n)) t = cc
 tests_right (negsuc n) t = (grind (arith, ints), grind (arith, ints))
 
+-- and straight on
 tests_straight : (z : ℤ) → direction_of z ≡ Straight → (lt_z (pos 0) z ≡ false) × (lt_z z (pos 0) ≡ false)
 tests_straight (pos zero) t = (refl, refl)
 tests_straight (pos (suc n)) t = cc
 tests_straight (negsuc n) t = cc
 
+-- to the left an edge is crossed that rises,
 by_left : (rises falls : Bool) (z : ℤ) → direction_of z ≡ Left → crossed_by rises falls z ≡ rises
 by_left rises falls z t = let (up, down) = tests_left z t in rw (up, down) (only_rises rises falls)
 
+-- to the right one that falls,
 by_right : (rises falls : Bool) (z : ℤ) → direction_of z ≡ Right → crossed_by rises falls z ≡ falls
 by_right rises falls z t = let (up, down) = tests_right z t in rw (up, down) (only_falls rises falls)
 
+-- and straight on none
 by_straight : (rises falls : Bool) (z : ℤ) → direction_of z ≡ Straight → crossed_by rises falls z ≡ false
 by_straight rises falls z t = let (up, down) = tests_straight z t in rw (up, down) (neither rises falls)
 

@@ -23,11 +23,12 @@ odd_more n false true h = (λ _. even_and_one n (λ k. cc (h.1 k)), λ _. refl)
     even_and_one n k = grind arith
 odd_more n false false h = (λ e. cc, λ l. h.1 (omega arith))
 
--- a flag compared with true, and with false
+-- a flag compared with true,
 not_same : (b : Bool) → not (beq b true) ≡ not b
 not_same true = refl
 not_same false = refl
 
+-- and with false
 not_other : (b : Bool) → not (beq b false) ≡ b
 not_other true = refl
 not_other false = refl
@@ -65,10 +66,11 @@ module _ (ring : List Point) (p : Triple) where
   pub odd_end : (i : ℕ) (is_odd : Bool) → length ring ≡ i → OddSoFar (take i (edges_of ring)) p is_odd → OddSoFar (edges_of ring) p is_odd
   odd_end i is_odd all before = rw (sym all, take_all_edges ring) at before
 
-  -- an odd number is inside, an even one outside
+  -- an odd number is inside,
   pub in_of_odd : OddSoFar (edges_of ring) p true → IsIn ring p
   in_of_odd h = inr (h.odd.0 refl)
 
+  -- an even one outside
   pub out_of_even : OddSoFar (edges_of ring) p false → IsIn ring p → ⊥
   out_of_even h (inl on) = h.on_none on
   out_of_even h (inr odd) = cc (h.odd.1 odd)

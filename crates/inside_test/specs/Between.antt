@@ -1,4 +1,5 @@
--- A rational point between two others in the order of points. Along a line this is the order on the line.
+-- A rational point between two others in the order of points, which along a line is the order on the line. As in the textbooks.
+-- No public clause cites this module.
 use Rattle.std.specs.Prelude.{◌⊎◌}
 use Rattle.plane.specs.Order.{Precedes}
 use Rattle.plane.specs.Point.{Triple}

@@ -1,4 +1,5 @@
--- Where a segment meets the edges of a ring: points enough to tell whether it lies in the ring. This project's own.
+-- Where a segment meets the edges of a ring: points enough to tell whether it lies in the ring. This project's own. No public
+-- clause cites this module.
 use Rattle.std.specs.Prelude.{ℕ, ◌+◌, ◌<◌, ◌≤◌, List, length, map}
 use Rattle.std.specs.List.{All, Contains}
 use Rattle.inside_test.specs.declared.breakpoint.Breakpoint.{Breakpoint}

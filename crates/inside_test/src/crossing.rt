@@ -23,7 +23,7 @@ pub(crate) enum Meeting {
 }
 
 impl Meeting {
-    // At an edge that the point is beside of.
+    // At an edge that the point is not in line with.
     fn beside(is_crossed: bool) -> Meeting
         ensures on { result ≡ Meeting.On → ⊥ }
         ensures crossed { result ≡ Meeting.Crossed → is_crossed ≡ true }

@@ -16,10 +16,11 @@ use Rattle.plane.specs.Point.{IsPoint, Triple}
 use Rattle.plane.specs.Segment.{On}
 use Rattle.plane.specs.Turn.{IsStraight}
 
--- how far v is to the right of p, and above it, times a positive number
+-- how far v is to the right of p, times a positive number where both are points
 abbrev across : Triple → Triple → ℤ
 across v p = v.X *ℤ p.W -ℤ p.X *ℤ v.W
 
+-- how far it is above p
 abbrev upward : Triple → Triple → ℤ
 upward v p = v.Y *ℤ p.W -ℤ p.Y *ℤ v.W
 
@@ -87,12 +88,13 @@ module _ (p a b : Triple) (at_p : IsPoint p) (at_a : IsPoint a) (at_b : IsPoint 
 
 -- ---- a point on the line and between the ends is on the segment
 
--- the coordinate that weighs, or the weight: x of p, u of a, s of b, with what it is worth in the other
+-- the coordinate that weighs: x and w of p, u and v of a, s and t of b
 weighing : (x w u v s t : ℤ) → (s *ℤ v -ℤ u *ℤ t) *ℤ x ≡ (s *ℤ w -ℤ x *ℤ t) *ℤ u +ℤ (x *ℤ v -ℤ u *ℤ w) *ℤ s
 weighing x w u v s t =
     same_value ((var 4 ⊗ var 3 ⊖ var 2 ⊗ var 5) ⊗ var 0)
     ((var 4 ⊗ var 1 ⊖ var 0 ⊗ var 5) ⊗ var 2 ⊕ (var 0 ⊗ var 3 ⊖ var 2 ⊗ var 1) ⊗ var 4) (x ∷ w ∷ u ∷ v ∷ s ∷ t ∷ []) refl
 
+-- the weight
 weights : (x w u v s t : ℤ) → (s *ℤ v -ℤ u *ℤ t) *ℤ w ≡ (s *ℤ w -ℤ x *ℤ t) *ℤ v +ℤ (x *ℤ v -ℤ u *ℤ w) *ℤ t
 weights x w u v s t =
     same_value ((var 4 ⊗ var 3 ⊖ var 2 ⊗ var 5) ⊗ var 1)
@@ -116,6 +118,7 @@ at_most_upward : (p q : Triple) → ¬ ((p.X *ℤ q.W) <ℤ (q.X *ℤ p.W)) → 
 at_most_upward p q n (inl h) = absurd (n h)
 at_most_upward p q n (inr h) = let e = h.1 in omega (arith, ints)
 
+-- a greater number less a smaller one is positive
 difference_positive : (x y : ℤ) → x <ℤ y → pos 0 <ℤ (y -ℤ x)
 difference_positive x y h = omega (arith, ints)
 
@@ -151,20 +154,21 @@ module _ (p a b : Triple) (straight : IsStraight a b p) where
       in_W = weights p.X p.W a.X a.W b.X b.W;
     }
 
-    -- where the ends are on one vertical, the point is on it
+    -- where the ends are on one vertical, the point is not left of it,
     not_left : a.X *ℤ b.W ≡ b.X *ℤ a.W → ¬ ((p.X *ℤ b.W) <ℤ (b.X *ℤ p.W))
     not_left e h =
         let left = fraction_lt_le_trans p.X p.W b.X b.W a.X a.W at_p at_b at_a h (omega (arith, ints)) in
         let k = at_most a p first in
         omega (arith, ints)
 
+    -- nor right of it
     not_right : a.X *ℤ b.W ≡ b.X *ℤ a.W → ¬ ((a.X *ℤ p.W) <ℤ (p.X *ℤ a.W))
     not_right e h =
         let right = fraction_le_lt_trans b.X b.W a.X a.W p.X p.W at_b at_a at_p (omega (arith, ints)) h in
         let k = at_most p b last in
         omega (arith, ints)
 
-    -- and the last end is above
+    -- where they are, and the last end is above
     by_Y : a.X *ℤ b.W ≡ b.X *ℤ a.W → (a.Y *ℤ b.W) <ℤ (b.Y *ℤ a.W) → IsCombination p a b
     by_Y e h = record {
       k = upward b a;

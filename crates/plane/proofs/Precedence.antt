@@ -20,6 +20,7 @@ pub data Precedence (p q : Triple) : Type 0 where
 
 -- ---- pairs of numbers: x and y of the one, u and v of the other
 
+-- the first pair is less, by x and then by y
 abbrev Less : (x y u v : ℤ) → Type 0
 Less x y u v = (x <ℤ u) ⊎ ((x ≡ u) × (y <ℤ v))
 
@@ -95,9 +96,11 @@ not_after_antisym p q h k = elim (precedence p q) [
 
 -- ---- three points
 
+-- a strict order is an order
 weak_order : {x z : ℤ} → x <ℤ z → x ≤ℤ z
 weak_order h = omega (arith, ints)
 
+-- what is equal is in order
 equal_order : {x z : ℤ} → x ≡ z → x ≤ℤ z
 equal_order h = omega (arith, ints)
 
@@ -111,10 +114,6 @@ module _ (p q r : Triple) (at_p : IsPoint p) (at_q : IsPoint q) (at_r : IsPoint 
     fraction_eq_trans p.X p.W q.X q.W r.X r.W at_p at_q at_r h.0 k.0,
     fraction_le_trans p.Y p.W q.Y q.W r.Y r.W at_p at_q at_r h.1 k.1,
   )
-
--- where neither end of a chain is after the next, and the last not after the first, two are the same
-pub same_of_round : (p q r : Triple) → IsPoint p → IsPoint q → IsPoint r → NotAfter p q → NotAfter q r → NotAfter r p → IsSame p q
-same_of_round p q r at_p at_q at_r h k l = not_after_antisym p q h (not_after_trans q r p at_q at_r at_p k l)
 
 -- ---- mediants
 

@@ -13,26 +13,30 @@ use Rattle.plane.specs.Turn.{IsStraight, determinant}
 
 -- ---- lines that are not parallel
 
--- the variables of the figure: the coordinates of a, b, c and d, and the parts of z and m
+-- polynomials over the coordinates of a, b, c and d, and the parts of z and m: the weight of a whole point,
 one : Polynomial
 one = lit (pos 1)
 
+-- the determinant of a point with a and b,
 first_line : Polynomial → Polynomial → Polynomial → Polynomial
 unfolding one
 first_line X Y W = written_determinant (var 0) (var 1) one (var 2) (var 3) one X Y W
 
+-- with c and d,
 second_line : Polynomial → Polynomial → Polynomial → Polynomial
 unfolding one
 second_line X Y W = written_determinant (var 4) (var 5) one (var 6) (var 7) one X Y W
 
+-- the cross product of the two ways,
 product : Polynomial
 product = (var 2 ⊖ var 0) ⊗ (var 7 ⊖ var 5) ⊖ (var 3 ⊖ var 1) ⊗ (var 6 ⊖ var 4)
 
--- how far the two points are apart on a line: 0 where both are on it
+-- how far z is from the line through a and b more than m is,
 apart_first : Polynomial
 unfolding one first_line
 apart_first = first_line (var 8) (var 9) (var 10) ⊗ var 13 ⊖ first_line (var 11) (var 12) (var 13) ⊗ var 10
 
+-- and from the line through c and d
 apart_second : Polynomial
 unfolding one second_line
 apart_second = second_line (var 8) (var 9) (var 10) ⊗ var 13 ⊖ second_line (var 11) (var 12) (var 13) ⊗ var 10
@@ -44,12 +48,14 @@ nothing f g w v s t u r ef eg es et =
     ∙ same_value (var 0 ⊗ (lit (pos 0) ⊗ var 1 ⊖ lit (pos 0) ⊗ var 2) ⊖ var 3 ⊗ (lit (pos 0) ⊗ var 1 ⊖ lit (pos 0) ⊗ var 2)) (lit (pos 0))
     (u ∷ w ∷ v ∷ r ∷ []) refl
 
+-- numbers that differ by nothing are equal
 difference_zero : (x y : ℤ) → x -ℤ y ≡ pos 0 → x ≡ y
 difference_zero x y e = omega (arith, ints)
 
 module _ (a b c d : Point) (z m : Triple) (crossing : cross_product a b c d ≢ pos 0)
     (z_first : IsStraight (whole a) (whole b) z) (m_first : IsStraight (whole a) (whole b) m)
     (z_second : IsStraight (whole c) (whole d) z) (m_second : IsStraight (whole c) (whole d) m) where
+  -- the points are equally far to the right,
   same_in_X : cross_product a b c d *ℤ (z.X *ℤ m.W -ℤ m.X *ℤ z.W) ≡ pos 0
   unfolding one first_line second_line product apart_first apart_second
   same_in_X =
@@ -57,6 +63,7 @@ module _ (a b c d : Point) (z m : Triple) (crossing : cross_product a b c d ≢ 
       (a.x ∷ a.y ∷ b.x ∷ b.y ∷ c.x ∷ c.y ∷ d.x ∷ d.y ∷ z.X ∷ z.Y ∷ z.W ∷ m.X ∷ m.Y ∷ m.W ∷ []) refl
       ∙ nothing _ _ m.W z.W _ _ (d.x -ℤ c.x) (b.x -ℤ a.x) z_first m_first z_second m_second
 
+  -- and as high,
   same_in_Y : cross_product a b c d *ℤ (z.Y *ℤ m.W -ℤ m.Y *ℤ z.W) ≡ pos 0
   unfolding one first_line second_line product apart_first apart_second
   same_in_Y =
@@ -64,7 +71,7 @@ module _ (a b c d : Point) (z m : Triple) (crossing : cross_product a b c d ≢ 
       (a.x ∷ a.y ∷ b.x ∷ b.y ∷ c.x ∷ c.y ∷ d.x ∷ d.y ∷ z.X ∷ z.Y ∷ z.W ∷ m.X ∷ m.Y ∷ m.W ∷ []) refl
       ∙ nothing _ _ m.W z.W _ _ (d.y -ℤ c.y) (b.y -ℤ a.y) z_first m_first z_second m_second
 
-  -- on two lines that are not parallel there is one point
+  -- so on two lines that are not parallel there is one point
   pub one_meeting : IsSame z m
   one_meeting = record {
     same_x = difference_zero _ _ (factor_zero _ _ crossing same_in_X);

@@ -1,25 +1,34 @@
 -- A ring that is kept counterclockwise, against the list that it was made of.
-use Rattle.std.proofs.Common.{◌≡◌, ◌∙◌, sym, ap, refl, ℕ, ◌+◌, ◌-◌, ◌<◌, ◌%◌, ◌↔◌, Bool, true, false, List, length, arith}
+use Rattle.std.proofs.Common.{◌≡◌, ◌∙◌, sym, ap, refl, ℕ, ◌+◌, ◌-◌, ◌<◌, ◌%◌, ◌≤◌, ◌↔◌, ◌⊎◌, inl, inr, Bool, true, false, List, length, arith}
+use Rattle.std.proofs.lemmas.Int.{ints}
 use Rattle.std.specs.Prelude.{if◌then◌else◌}
 use Rattle.plane.specs.Point.{Point, Triple}
+use Rattle.ring_laws.proofs.SimpleIsApart.{apart_of_simple}
+use Rattle.ring_laws.proofs.SimpleRings.{runs_round}
 use Rattle.rings.proofs.Turned.{length-turned_round, turned_round-turned_round, vertex-turned_round}
-use Rattle.rings.proofs.TurnedArea.{counterclockwise_turned}
+use Rattle.rings.proofs.TurnedArea.{doubled_area-turned_round}
 use Rattle.rings.proofs.TurnedInside.{in_turned_iff}
 use Rattle.rings.proofs.TurnedSimple.{simple_turned}
 use Rattle.rings.proofs.Vertices.{vertex_mod}
 use Rattle.rings.specs.Inside.{IsIn}
-use Rattle.rings.specs.Orientation.{is_clockwise, turned_round}
+use Rattle.rings.specs.Orientation.{IsClockwise, IsCounterclockwise, is_clockwise, turned_round}
 use Rattle.rings.specs.Ring.{vertex}
 use Rattle.rings.specs.Simple.{IsSimple}
 use Rattle.ring_check.specs.Oriented.{given_of, oriented}
 
 -- ---- what is kept of a list
 
--- a clockwise list becomes counterclockwise
-counterclockwise_kept : (points : List Point) (b : Bool) → is_clockwise points ≡ b
-    → is_clockwise (if b then turned_round points else points) ≡ false
-counterclockwise_kept points true way = counterclockwise_turned points way
-counterclockwise_kept points false way = way
+-- a clockwise list becomes counterclockwise, and the others are so, where the area is not 0
+counterclockwise_kept : (points : List Point) (b : Bool) → IsCounterclockwise points ⊎ IsClockwise points → is_clockwise points ≡ b
+    → IsCounterclockwise (if b then turned_round points else points)
+counterclockwise_kept points true some way = grind (arith, ints, doubled_area-turned_round points)
+counterclockwise_kept points false (inl h) way = h
+counterclockwise_kept points false (inr h) way = grind (arith, ints)
+
+-- the area of a simple list is not 0
+some_way : (points : List Point) → 3 ≤ length points → IsSimple points → IsCounterclockwise points ⊎ IsClockwise points
+some_way points long simple =
+    elim (runs_round points long (apart_of_simple points simple)) [ inl h ↦ inl h.area | inr h ↦ inr h.area ]
 
 module _ (points : List Point) where
   -- what holds of the list and of the list turned round holds of what is kept
@@ -36,8 +45,8 @@ module _ (points : List Point) where
   simple_oriented simple = holds_of_kept IsSimple (simple_turned points simple) simple
 
   -- it is counterclockwise
-  pub counterclockwise_oriented : is_clockwise (oriented points).corners ≡ false
-  counterclockwise_oriented = counterclockwise_kept points (is_clockwise points) refl
+  pub counterclockwise_oriented : 3 ≤ length points → IsSimple points → IsCounterclockwise (oriented points).corners
+  counterclockwise_oriented long simple = counterclockwise_kept points (is_clockwise points) (some_way points long simple) refl
 
   -- the same points are in it
   pub in_oriented : (p : Triple) → IsIn (oriented points).corners p ↔ IsIn points p

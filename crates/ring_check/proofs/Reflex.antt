@@ -1,11 +1,11 @@
 -- In a counterclockwise ring the reflex vertices are those with a turn to the right.
-use Rattle.std.proofs.Common.{◌≡◌, refl, ℕ, ◌+◌, ◌-◌, ◌<◌, ◌%◌, ◌↔◌, zero, suc, ℤ, pos, negsuc, ◌<ℤ◌, false, List, length, arith}
+use Rattle.std.proofs.Common.{◌≡◌, refl, ℕ, ◌+◌, ◌-◌, ◌<◌, ◌%◌, ◌↔◌, zero, suc, ℤ, pos, negsuc, ◌<ℤ◌, ◌⊎◌, inl, inr, List, length, arith}
 use Rattle.std.proofs.lemmas.Int.{ints}
 use Rattle.exact_plane.specs.Direction.{direction_of, turn_of}
 use Rattle.exact_plane.specs.declared.direction.Direction.TheVariants.{Right}
 use Rattle.plane.specs.Point.{Point, whole}
 use Rattle.rings.proofs.Vertices.{vertex_mod}
-use Rattle.rings.specs.Orientation.{IsReflex, is_clockwise, turn_at}
+use Rattle.rings.specs.Orientation.{IsCounterclockwise, IsReflex, turn_at}
 use Rattle.rings.specs.Ring.{vertex}
 
 -- a number has the direction to the right exactly where it is negative
@@ -14,10 +14,18 @@ right_iff_negative (pos zero) = (λ e. cc, λ h. absurd (omega (arith, ints)))
 right_iff_negative (pos (suc n)) = (λ e. cc, λ h. absurd (omega (arith, ints)))
 right_iff_negative (negsuc n) = (λ e. omega (arith, ints), λ h. refl)
 
+-- where the area is positive, a vertex is reflex exactly where its turn is negative
+reflex_iff_negative : (ring : List Point) (i : ℕ) → IsCounterclockwise ring → IsReflex ring i ↔ (turn_at ring i <ℤ pos 0)
+reflex_iff_negative ring i way = (
+  λ h. elim h [ inl k ↦ k.1 | inr k ↦ absurd (omega (arith, ints, way, k.0)) ],
+  λ h. inl (way, h),
+)
+
 -- the vertices before and after are looked up with a number that is counted round
-pub reflex_iff_right : (ring : List Point) (i : ℕ) → 0 < length ring → is_clockwise ring ≡ false
+pub reflex_iff_right : (ring : List Point) (i : ℕ) → 0 < length ring → IsCounterclockwise ring
     → IsReflex ring i ↔ (turn_of (whole (vertex ring ((i + length ring - 1) % length ring))) (whole (vertex ring i)) (whole (vertex ring ((i + 1) % length ring))) ≡ Right)
 reflex_iff_right ring i some way =
     let before : i + length ring - 1 ≡ i + (length ring - 1) = omega arith in
     let is = right_iff_negative (turn_at ring i) in
-    rw (way, vertex_mod ring (i + length ring - 1), vertex_mod ring (i + 1), before) (is.1, is.0)
+    let reflex = reflex_iff_negative ring i way in
+    rw (vertex_mod ring (i + length ring - 1), vertex_mod ring (i + 1), before) (λ h. is.1 (reflex.0 h), λ h. reflex.1 (is.0 h))

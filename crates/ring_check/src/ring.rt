@@ -2,7 +2,7 @@ ghost use Rattle.std.specs.Prelude.{◌≡◌, ◌+◌, ◌<◌, ◌≤◌, ◌�
 ghost use Rattle.exact_plane.specs.Direction.{turn_of};
 ghost use Rattle.plane.specs.Point.{whole};
 ghost use Rattle.ring_check.specs.Oriented.{given_edge, given_index, given_of, oriented};
-ghost use Rattle.rings.specs.Orientation.{IsReflex, is_clockwise};
+ghost use Rattle.rings.specs.Orientation.{IsCounterclockwise, IsReflex};
 ghost use Rattle.rings.specs.Ring.{vertex};
 ghost use Rattle.rings.specs.Simple.{IsLeastClash, IsSimple};
 
@@ -25,9 +25,9 @@ pub struct Ring {
 }
 
 impl Model for Ring {
-    ghost use Rattle.std.specs.Prelude.{◌≡◌, ◌≤◌, false, vec_len};
+    ghost use Rattle.std.specs.Prelude.{◌≤◌, vec_len};
     ghost use Rattle.ring_check.specs.Oriented.{Oriented};
-    ghost use Rattle.rings.specs.Orientation.{is_clockwise};
+    ghost use Rattle.rings.specs.Orientation.{IsCounterclockwise};
     ghost use Rattle.rings.specs.Simple.{IsSimple};
 
     ghost Value = { Oriented };
@@ -35,7 +35,7 @@ impl Model for Ring {
     ghost view = { λ ring. record { corners = ring.corners.items; is_turned = ring.is_turned } };
 
     ghost invariant = { λ ring. (3 ≤ vec_len ring.corners) × (vec_len ring.corners ≤ 4096)
-        × IsSimple ring.corners.items × (is_clockwise ring.corners.items ≡ false) };
+        × IsSimple ring.corners.items × IsCounterclockwise ring.corners.items };
 }
 
 /// Why a list of points is no ring.
@@ -85,7 +85,7 @@ impl Ring {
         // What holds of every ring.
         ensures size { (3 ≤ length self.now.corners) × (length self.now.corners ≤ 4096) }
         ensures simple { IsSimple self.now.corners }
-        ensures counterclockwise { is_clockwise self.now.corners ≡ false }
+        ensures counterclockwise { IsCounterclockwise self.now.corners }
     {
         self.corners.len() as u32
     }

@@ -12,7 +12,7 @@ use Rattle.plane.specs.Point.{IsPoint, Triple, whole}
 use Rattle.plane.specs.Turn.{IsLeft, IsRight, determinant}
 use Rattle.rings.proofs.ClosedLaw.{winding_law, winding_law_crossed}
 use Rattle.rings.proofs.Combinations.{on_nested}
-use Rattle.rings.proofs.Nearness.{Eventually, toward, toward_is_point, toward_on}
+use Rattle.rings.proofs.Nearness.{Eventually, outweighs, toward, toward_is_point, toward_on}
 use Rattle.rings.proofs.SignSteps.{turned_negative, turned_positive}
 use Rattle.rings.specs.Across.{CrossesRight, Misses}
 use Rattle.rings.specs.Edge.{Edge, IsClosed, IsOnSome}
@@ -22,11 +22,7 @@ use Rattle.ring_laws.proofs.Sides.{IsWithin, stays_left, stays_right}
 
 -- ---- numbers
 
--- enough times a positive number outweigh any other,
-outweighs : (n : ℕ) (f g : ℤ) → pos 0 <ℤ f → unsigned_abs g < n → pos 0 <ℤ (pos n *ℤ f +ℤ g)
-outweighs n f g hf h = omega (arith, ints, mul_order (pos 1) f (pos n) (omega (arith, ints)) (omega (arith, ints)))
-
--- and so do enough times a negative one
+-- enough times a negative number outweigh any other
 outweighs_below : (n : ℕ) (f g : ℤ) → f <ℤ pos 0 → unsigned_abs g < n → (pos n *ℤ f +ℤ g) <ℤ pos 0
 outweighs_below n f g hf h =
     omega (arith, ints, mul_order (pos 1) (neg_ℤ f) (pos n) (omega (arith, ints)) (omega (arith, ints)), mul-neg (pos n) f)
@@ -98,7 +94,7 @@ module _ (e : Edge) (m p q : Triple) (at_m : IsPoint m) (at_p : IsPoint p) (at_q
       right_toward (whole e.from) (whole e.to) m q straight right n
 
   -- the segment between two near points crosses the edge
-  crosses_near : Eventually (λ n. CrossesRight (toward m p n) (toward m q n) e)
+  pub crosses_near : Eventually (λ n. CrossesRight (toward m p n) (toward m q n) e)
   crosses_near =
       let a = whole e.from in
       let b = whole e.to in

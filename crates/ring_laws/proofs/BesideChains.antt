@@ -1,7 +1,6 @@
 -- The winding numbers of two pieces beside their diagonal, and of the ring that they make on it.
 use Rattle.std.proofs.Common.{◌≡◌, inl, inr, ◌∷◌, ◌++◌, ◌∙◌, le_refl, ℕ, List, ℤ, pos, ◌+ℤ◌, ◌-ℤ◌, neg_ℤ, arith}
 use Rattle.std.proofs.lemmas.Int.{ints}
-use Rattle.plane.proofs.Determinants.{determinant_swap_first}
 use Rattle.plane.proofs.Same.{whole_is_point}
 use Rattle.plane.proofs.Segments.{on_is_straight, on_last_end, on_reversed}
 use Rattle.plane.specs.Point.{IsPoint, Point, Triple, whole}
@@ -9,16 +8,17 @@ use Rattle.plane.specs.Segment.{On}
 use Rattle.plane.specs.Turn.{IsLeft, IsRight}
 use Rattle.rings.proofs.ClosedLaw.{winding_law}
 use Rattle.rings.proofs.Crossings.{crossing_reversed}
+use Rattle.rings.proofs.EdgeLaw.{left_swapped, right_swapped}
 use Rattle.rings.proofs.Edges.{closed_edges_of, growth-append, growth-edges_along, on_some_cases, on_some_left, on_some_right, winding-append}
 use Rattle.rings.proofs.Nearness.{misses_eventually, toward, toward_is_point, toward_on}
-use Rattle.rings.proofs.SignSteps.{not_both, not_both_positive, turned_negative, turned_positive, zero_not_negative, zero_not_positive}
 use Rattle.rings.specs.Across.{Misses}
 use Rattle.rings.specs.Edge.{Edge, IsClosed, IsOnSome, edges_along, edges_of}
 use Rattle.rings.specs.Inside.{crossing, winding}
 use Rattle.ring_laws.proofs.AcrossEdge.{across_edge}
 use Rattle.ring_laws.proofs.NearPairs.{left_toward, right_toward}
-use Rattle.ring_laws.proofs.TwoChains.{ArePieces, IsNeither, IsZeroOrOne, chain_on_diagonal, neither_swapped, swapped}
-use Rattle.ring_laws.proofs.Sides.{within_from}
+use Rattle.ring_laws.proofs.Sides.{left_not_on, right_not_on, within_from}
+use Rattle.ring_laws.proofs.TwoChains.{ArePieces, IsNeither, chain_on_diagonal, neither_swapped, swapped}
+use Rattle.ring_laws.proofs.UpToOne.{greater_is_one, one_and_none, smaller_is_zero}
 use Rattle.ring_laws.specs.Apart.{edge}
 
 -- ---- sums
@@ -48,49 +48,11 @@ pieces_winding v z ms ns p =
     cancel_diagonal (winding (edges_along z ms v) p) (winding (edges_along v ns z) p) (crossing (edge v z) p) (crossing (edge z v) p)
     _ (winding-append p (edges_along z ms v) (edges_along v ns z)) (crossing_reversed (edge v z) p)
 
--- of two values 0 or 1 that differ by 1, the greater is 1,
-greater_is_one : (x y : ℤ) → x ≡ y +ℤ pos 1 → IsZeroOrOne x → IsZeroOrOne y → x ≡ pos 1
-greater_is_one x y e (inl h) (inl k) = absurd (omega (arith, ints))
-greater_is_one x y e (inl h) (inr k) = absurd (omega (arith, ints))
-greater_is_one x y e (inr h) k = h
-
--- and the smaller is 0
-smaller_is_zero : (x y : ℤ) → x ≡ y +ℤ pos 1 → IsZeroOrOne x → IsZeroOrOne y → y ≡ pos 0
-smaller_is_zero x y e h (inl k) = k
-smaller_is_zero x y e (inl h) (inr k) = absurd (omega (arith, ints))
-smaller_is_zero x y e (inr h) (inr k) = absurd (omega (arith, ints))
-
--- 1 and 0 make 1
-one_and_none : (n a b : ℤ) → n ≡ a +ℤ b → a ≡ pos 1 → b ≡ pos 0 → n ≡ pos 1
-one_and_none n a b e h k = omega (arith, ints)
-
 -- ---- beside the diagonal
 
--- what is left of a line is right of it read backward,
-pub left_is_right : (a b p : Triple) → IsLeft a b p → IsRight b a p
-left_is_right a b p h = turned_negative (determinant_swap_first a b p) h
-
--- and the other way round
-pub right_is_left : (a b p : Triple) → IsRight a b p → IsLeft b a p
-right_is_left a b p h = turned_positive (determinant_swap_first a b p) h
-
--- a point left of a line is not on a segment of it,
-pub left_not_on : (a b : Point) (p : Triple) → IsPoint p → IsLeft (whole a) (whole b) p → ¬ (On p (whole a) (whole b))
-left_not_on a b p at_p left on =
-    not_both_positive left (zero_not_positive (on_is_straight p (whole a) (whole b) at_p (whole_is_point a) (whole_is_point b) on))
-
--- nor is one right of it
-pub right_not_on : (a b : Point) (p : Triple) → IsPoint p → IsRight (whole a) (whole b) p → ¬ (On p (whole a) (whole b))
-right_not_on a b p at_p right on =
-    not_both right (zero_not_negative (on_is_straight p (whole a) (whole b) at_p (whole_is_point a) (whole_is_point b) on))
-
--- what misses two lists misses the first,
+-- what misses two lists misses the first
 pub misses_first : (p q : Triple) (es fs : List Edge) → Misses p q (es ++ fs) → Misses p q es
 misses_first p q es fs h x at_x on k = h x at_x on (on_some_left x es fs k)
-
--- and the second
-pub misses_second : (p q : Triple) (es fs : List Edge) → Misses p q (es ++ fs) → Misses p q fs
-misses_second p q es fs h x at_x on k = h x at_x on (on_some_right x es fs k)
 
 -- the order of two lists is free
 misses_exchanged : (p q : Triple) (es fs : List Edge) → Misses p q (es ++ fs) → Misses p q (fs ++ es)
@@ -165,8 +127,8 @@ module _ (v z : Point) (ms ns : List Point) (c : ArePieces v z ms ns) (a b : Poi
       let q_right = right_toward (whole v) (whole z) m (whole b) straight right n in
       let first = first_falls v z ms ns c m at_m on neither p q at_p at_q p_left q_right from_p from_q in
       let second = first_falls z v ns ms (swapped v z ms ns c) m at_m (on_reversed m (whole v) (whole z) on)
-      (neither_swapped v z m neither) q p at_q at_p (right_is_left (whole v) (whole z) q q_right)
-      (left_is_right (whole v) (whole z) p p_left) (misses_exchanged m q one other from_q) (misses_exchanged m p one other from_p) in
+      (neither_swapped v z m neither) q p at_q at_p (left_swapped (whole v) (whole z) q q_right)
+      (right_swapped (whole v) (whole z) p p_left) (misses_exchanged m q one other from_q) (misses_exchanged m p one other from_p) in
       (first.0, second.1)
 
   -- there is such a point on the way from the diagonal to each point that is left of it

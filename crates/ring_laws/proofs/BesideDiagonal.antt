@@ -6,8 +6,9 @@ use Rattle.rings.proofs.ClosedLaw.{winding_law, winding_law_crossed}
 use Rattle.rings.specs.Edge.{Edge, IsClosed, IsOnSome}
 use Rattle.rings.specs.Inside.{winding}
 use Rattle.ring_laws.proofs.BesideEdge.{BesideEdge, beside_edge}
+use Rattle.ring_laws.proofs.Sides.{left_not_on, right_not_on}
+use Rattle.ring_laws.proofs.UpToOne.{IsUnit, both_up_to_one, same_units}
 use Rattle.ring_laws.specs.Apart.{IsOn}
-use Rattle.ring_laws.proofs.PiecesWind.{IsUnit, both_up_to_one, left_not_on, right_not_on, same_units}
 use Rattle.ring_laws.specs.Winding.{WindsUpTo}
 
 -- points to the left and to the right of a diagonal, near a point x of it: off the edges fs of the first piece and gs of the
@@ -42,8 +43,8 @@ module _ (es fs gs : List Edge) (d : Edge) (sum : (x : Triple) → winding es x 
       from_points h =
           let left_off = h.misses_left h.left h.left_rational (on_last_end x h.left) in
           let right_off = h.misses_right h.right h.right_rational (on_last_end x h.right) in
-          let left_beside = left_not_on d h.left h.left_rational h.crosses.starts_left in
-          let right_beside = right_not_on d h.right h.right_rational h.crosses.ends_right in
+          let left_beside = left_not_on d.from d.to h.left h.left_rational h.crosses.starts_left in
+          let right_beside = right_not_on d.from d.to h.right h.right_rational h.crosses.ends_right in
           record {
             left = h.left;
             right = h.right;

@@ -14,7 +14,7 @@ use Rattle.rings.proofs.FarAway.{AllEnds, all_ends_map}
 use Rattle.rings.proofs.SignSteps.{not_both, zero_not_negative}
 use Rattle.rings.specs.Edge.{Edge, IsClosed, IsOnSome}
 use Rattle.rings.specs.Inside.{winding}
-use Rattle.ring_laws.proofs.TrianglePlaces.{not_right_between}
+use Rattle.ring_laws.proofs.Triangles.{not_right_between}
 
 -- how far one point is to the right of another, as seen along a line
 beyond : (a b v : Point) (p : Triple) →
@@ -40,8 +40,8 @@ some_direction a b differ h =
     differ (same_coordinates a b (omega (arith, ints)) (omega (arith, ints)))
 
 -- a negative number is not positive
-below : {z : ℤ} → z <ℤ pos 0 → z ≤ℤ pos 0
-below h = omega (arith, ints)
+pub negative_at_most : {z : ℤ} → z <ℤ pos 0 → z ≤ℤ pos 0
+negative_at_most h = omega (arith, ints)
 
 -- a number that is not positive is at most one that is not negative, times a positive one
 at_most_product : (d e w : ℤ) → d ≤ℤ pos 0 → pos 0 ≤ℤ e → pos 0 <ℤ w → d ≤ℤ (e *ℤ w)
@@ -67,7 +67,7 @@ module _ (a b : Point) (differ : ¬ (a ≡ b)) (es : List Edge) (closed : IsClos
 pub not_right_on : (a b : Triple) (es : List Edge) → AllEnds (λ v. pos 0 ≤ℤ determinant a b (whole v)) es → (x : Triple)
     → IsPoint x → IsOnSome es x → pos 0 ≤ℤ determinant a b x
 not_right_on a b (e ∷ es) (from, to, rest) x at_x (inl on) =
-    not_right_between x (whole e.from) (whole e.to) a b at_x (whole_is_point e.from) (whole_is_point e.to) on from to
+    not_right_between a b x (whole e.from) (whole e.to) at_x (whole_is_point e.from) (whole_is_point e.to) from to on
 not_right_on a b (e ∷ es) (from, to, rest) x at_x (inr on) = not_right_on a b es rest x at_x on
 not_right_on a b [] ends x at_x on = absurd on
 
@@ -84,4 +84,4 @@ module _ (a b : Point) (es : List Edge) (p : Triple) (at_p : IsPoint p) (right :
 
   -- and it is not wound round
   pub right_of_all : IsClosed es → winding es p ≡ pos 0
-  right_of_all closed = beyond_line a b (right_differs a b p right) es closed p at_p right_off (below right) ends
+  right_of_all closed = beyond_line a b (right_differs a b p right) es closed p at_p right_off (negative_at_most right) ends

@@ -4,20 +4,16 @@ use Rattle.std.proofs.lemmas.Int.{ints}
 use Rattle.integer_algebra.proofs.Polynomial.{var, lit, ◌⊕◌, ◌⊖◌, ◌⊗◌, same_value}
 use Rattle.plane.specs.Point.{Point, Triple, whole}
 use Rattle.plane.specs.Turn.{determinant}
-use Rattle.rings.proofs.Crossings.{crossing_reversed}
-use Rattle.rings.specs.Edge.{Edge, IsClosed, IsOnSome, edges_along, edges_of}
 use Rattle.rings.proofs.Edges.{closed_edges_of}
+use Rattle.rings.specs.Edge.{Edge, IsClosed, IsOnSome, edges_along, edges_of}
 use Rattle.rings.specs.Inside.{winding}
 use Rattle.rings.specs.Orientation.{doubled_area, swept}
-use Rattle.ring_laws.proofs.DistinctPoints.{AreDistinct, HasPoint, distinct_vertices, ends_along, has_point_left, has_point_right, vertices_differ}
-use Rattle.ring_laws.proofs.Members.{has_edge_swapped}
-use Rattle.ring_laws.proofs.Pieces.{apart_among, apart_more}
+use Rattle.ring_laws.proofs.CommonEnds.{apart_among, apart_more}
+use Rattle.ring_laws.proofs.DistinctPoints.{AreDistinct, HasPoint, distinct_vertices, ends_along, vertices_differ}
+use Rattle.ring_laws.proofs.Items.{has_left, has_right, has_swapped}
 use Rattle.ring_laws.proofs.Rotated.{closed_swapped, edges_along_append, on_some_swapped, swept_swapped, winding_swapped}
+use Rattle.ring_laws.proofs.TriangleWinding.{triangle}
 use Rattle.ring_laws.specs.Apart.{HasEdge, HasEnd, IsApartRing, MeetAtEnds, edge}
-
--- the edges of a triangle
-abbrev pub triangle : Point → Point → Point → List Edge
-triangle u v w = edge u v ∷ edge v w ∷ edge w u ∷ []
 
 -- twice the area of a triangle is a determinant
 pub swept_triangle : (u v w : Point) → swept (triangle u v w) ≡ determinant (whole u) (whole v) (whole w)
@@ -41,12 +37,12 @@ module _ (v w : Point) (ms : List Point) (u : Point) where
 
   -- each edge of the ring is one of the two at v or one of the others,
   pub has_edge_corner : (e : Edge) → HasEdge (edges_of (v ∷ w ∷ (ms ++ u ∷ []))) e → HasEdge (edge u v ∷ edge v w ∷ edges_along w ms u) e
-  has_edge_corner e h = has_edge_swapped e (edge v w ∷ edges_along w ms u) (edge u v ∷ []) (subst (λ es. HasEdge es e) edges_of_ring h)
+  has_edge_corner e h = has_swapped e (edge v w ∷ edges_along w ms u) (edge u v ∷ []) (subst (λ es. HasEdge es e) edges_of_ring h)
 
   -- and back
   pub has_edge_of_corner : (e : Edge) → HasEdge (edge u v ∷ edge v w ∷ edges_along w ms u) e → HasEdge (edges_of (v ∷ w ∷ (ms ++ u ∷ []))) e
   has_edge_of_corner e h =
-      subst (λ es. HasEdge es e) (sym edges_of_ring) (has_edge_swapped e (edge u v ∷ []) (edge v w ∷ edges_along w ms u) h)
+      subst (λ es. HasEdge es e) (sym edges_of_ring) (has_swapped e (edge u v ∷ []) (edge v w ∷ edges_along w ms u) h)
 
   -- so it is with the points on the edges,
   pub on_some_corner : (x : Triple) → IsOnSome (edge u v ∷ edge v w ∷ edges_along w ms u) x → IsOnSome (edges_of (v ∷ w ∷ (ms ++ u ∷ []))) x
@@ -80,11 +76,7 @@ module _ (v w : Point) (ms : List Point) (u : Point) where
 
   -- ---- the ear cut off
 
-  -- winding numbers are those of the triangle at v and those of the rest,
-  pub winding_ear : (x : Triple) → winding (edges_of (v ∷ w ∷ (ms ++ u ∷ []))) x ≡ winding (triangle u v w) x +ℤ winding (edges_of (w ∷ (ms ++ u ∷ []))) x
-  winding_ear x = omega (arith, ints, winding_corner x, winding_rest x, crossing_reversed (edge u w) x)
-
-  -- and so is the area
+  -- the area is that of the triangle at v and that of the rest
   pub area_ear : doubled_area (v ∷ w ∷ (ms ++ u ∷ [])) ≡ determinant (whole u) (whole v) (whole w) +ℤ doubled_area (w ∷ (ms ++ u ∷ []))
   area_ear = omega (arith, ints, area_corner, area_rest, swept_triangle u v w)
 
@@ -96,7 +88,7 @@ module _ (v w : Point) (ms : List Point) (u : Point) where
     -- the other edges do not have the end v,
     pub not_at_corner : (e : Edge) → HasEdge (edges_along w ms u) e → ¬ (HasEnd e v)
     not_at_corner e has (inl is) =
-        distinct_corner.0 (has_point_left v (w ∷ ms) (u ∷ []) (subst (HasPoint (w ∷ ms)) is (ends_along e w ms u has).0))
+        distinct_corner.0 (has_left v (w ∷ ms) (u ∷ []) (subst (HasPoint (w ∷ ms)) is (ends_along e w ms u has).0))
     not_at_corner e has (inr is) = distinct_corner.0 (inr (subst (HasPoint (ms ++ u ∷ [])) is (ends_along e w ms u has).1))
 
     -- so two edges have it
@@ -115,7 +107,7 @@ module _ (v w : Point) (ms : List Point) (u : Point) where
           let among = λ (e : Edge) (has : HasEdge chain e). has_edge_of_corner e (inr (inr has)) in
           let more = apart_more (edge u w) chain (apart_among chain (edges_of (v ∷ w ∷ (ms ++ u ∷ []))) among apart.apart) meets in
           apart_among (edges_of (w ∷ (ms ++ u ∷ []))) (edge u w ∷ chain)
-          (λ e has. has_edge_swapped e chain (edge u w ∷ []) (subst (λ es. HasEdge es e) edges_of_rest has)) more;
+          (λ e has. has_swapped e chain (edge u w ∷ []) (subst (λ es. HasEdge es e) edges_of_rest has)) more;
     }
 
 module _ (v w m : Point) (ms : List Point) (u : Point) (apart : IsApartRing (v ∷ w ∷ (m ∷ ms ++ u ∷ []))) where
@@ -127,7 +119,7 @@ module _ (v w m : Point) (ms : List Point) (u : Point) (apart : IsApartRing (v �
       differ = distinct_corner v w (m ∷ ms) u apart
 
       last : HasPoint (m ∷ ms ++ u ∷ []) u
-      last = has_point_right u (m ∷ ms) (u ∷ []) (inl refl)
+      last = has_right u (m ∷ ms) (u ∷ []) (inl refl)
 
       go : HasEdge (edge u v ∷ edge v w ∷ edges_along w (m ∷ ms) u) e → ⊥
       go (inl is) = elim (subst (λ d. HasEnd d w) (sym is) at_w) [
@@ -140,11 +132,11 @@ module _ (v w m : Point) (ms : List Point) (u : Point) (apart : IsApartRing (v �
       ]
       go (inr (inr (inl is))) = elim (subst (λ d. HasEnd d u) (sym is) at_u) [
         | inl k ↦ differ.1.0 (subst (HasPoint (m ∷ ms ++ u ∷ [])) (sym k) last)
-        | inr k ↦ differ.1.1.0 (has_point_right m ms (u ∷ []) (inl (sym k)))
+        | inr k ↦ differ.1.1.0 (has_right m ms (u ∷ []) (inl (sym k)))
       ]
       go (inr (inr (inr k))) =
           let ends = ends_along e m ms u k in
           elim at_w [
-            | inl is ↦ differ.1.0 (has_point_left w (m ∷ ms) (u ∷ []) (subst (HasPoint (m ∷ ms)) is ends.0))
+            | inl is ↦ differ.1.0 (has_left w (m ∷ ms) (u ∷ []) (subst (HasPoint (m ∷ ms)) is ends.0))
             | inr is ↦ differ.1.0 (inr (subst (HasPoint (ms ++ u ∷ [])) is ends.1))
           ]

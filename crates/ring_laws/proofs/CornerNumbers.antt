@@ -5,15 +5,12 @@ use Rattle.plane.specs.Point.{Point}
 use Rattle.rings.proofs.Vertices.{vertex_in_range}
 use Rattle.rings.specs.Ring.{origin, vertex}
 use Rattle.ring_laws.proofs.Corner.{distinct_corner}
-use Rattle.ring_laws.proofs.DistinctPoints.{HasPoint, distinct_between, has_point_cases, has_point_left, has_point_number, has_point_right, number_of_point}
+use Rattle.ring_laws.proofs.DistinctPoints.{HasPoint, distinct_between}
 use Rattle.ring_laws.proofs.Farthest.{Farthest}
 use Rattle.ring_laws.proofs.FarthestEnd.{InTriangle, height}
+use Rattle.ring_laws.proofs.Items.{has_cases, has_left, has_number, has_swapped, number_of}
 use Rattle.ring_laws.specs.Apart.{IsApartRing}
 use Rattle.ring_laws.specs.CutRule.{IsFarthestInCorner, IsInCorner}
-
--- the points of two lists together are those in the other order
-pub has_point_swapped : (p : Point) (ps qs : List Point) → HasPoint (ps ++ qs) p → HasPoint (qs ++ ps) p
-has_point_swapped p ps qs h = elim (has_point_cases p ps qs h) [ inl k ↦ has_point_right p qs ps k | inr k ↦ has_point_left p qs ps k ]
 
 -- p and q are u and w, in some order
 abbrev pub AreBoth : Point → Point → Point → Point → Type 0
@@ -42,14 +39,14 @@ module _ (ring : List Point) (i : ℕ) (v w : Point) (ms : List Point) (u : Poin
     pub not_w : ¬ (y ≡ w)
 
   -- each has its number,
-  number_of : (y : Point) → HasPoint ms y → Number y
-  number_of y has =
+  point_number : (y : Point) → HasPoint ms y → Number y
+  point_number y has =
       let differ = distinct_corner v w ms u apart in
-      let in_rest = has_point_left y ms (u ∷ []) has in
+      let in_rest = has_left y ms (u ∷ []) has in
       let in_ring : HasPoint ring y =
       subst (λ rs. HasPoint rs y) (take-append-drop i ring)
-      (has_point_swapped y (drop i ring) (take i ring) (subst (λ rs. HasPoint rs y) (sym are) (inr (inr in_rest)))) in
-      let (j, within, is) = number_of_point ring y in_ring in
+      (has_swapped y (drop i ring) (take i ring) (subst (λ rs. HasPoint rs y) (sym are) (inr (inr in_rest)))) in
+      let (j, within, is) = number_of ring y in_ring in
       record {
         number = j;
         in_ring = within;
@@ -63,14 +60,14 @@ module _ (ring : List Point) (i : ℕ) (v w : Point) (ms : List Point) (u : Poin
   pub has_other : (k : ℕ) → k < length ring → ¬ (vertex ring k ≡ u) → ¬ (vertex ring k ≡ v) → ¬ (vertex ring k ≡ w) → HasPoint ms (vertex ring k)
   has_other k within not_u not_v not_w =
       let y = vertex ring k in
-      let in_ring : HasPoint ring y = subst (HasPoint ring) (sym (vertex_in_range ring k origin within)) (has_point_number ring k origin within) in
+      let in_ring : HasPoint ring y = subst (HasPoint ring) (sym (vertex_in_range ring k origin within)) (has_number ring k origin within) in
       go (subst (λ rs. HasPoint rs y) are
-      (has_point_swapped y (take i ring) (drop i ring) (subst (λ rs. HasPoint rs y) (sym (take-append-drop i ring)) in_ring)))
+      (has_swapped y (take i ring) (drop i ring) (subst (λ rs. HasPoint rs y) (sym (take-append-drop i ring)) in_ring)))
     where
       go : HasPoint (v ∷ w ∷ (ms ++ u ∷ [])) (vertex ring k) → HasPoint ms (vertex ring k)
       go (inl e) = absurd (not_v (sym e))
       go (inr (inl e)) = absurd (not_w (sym e))
-      go (inr (inr h)) = elim (has_point_cases (vertex ring k) ms (u ∷ []) h) [
+      go (inr (inr h)) = elim (has_cases (vertex ring k) ms (u ∷ []) h) [
         | inl has ↦ has
         | inr l ↦ elim l [ inl e ↦ absurd (not_u (sym e)) | inr none ↦ absurd none ]
       ]
@@ -79,7 +76,7 @@ module _ (ring : List Point) (i : ℕ) (v w : Point) (ms : List Point) (u : Poin
     -- a point of ms in the triangle has a number in the corner
     pub in_corner : (y : Point) → HasPoint ms y → InTriangle p v q y → (j : ℕ) × IsInCorner ring i p q j × (vertex ring j ≡ y)
     in_corner y has inside =
-        let n = number_of y has in
+        let n = point_number y has in
         let neither = neither_of both n.not_u n.not_w in (
           n.number,
           record {

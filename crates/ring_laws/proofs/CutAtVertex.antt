@@ -1,23 +1,29 @@
 -- The cut rule at any vertex of a ring: the cut at its least vertex is a diagonal.
-use Rattle.std.proofs.Common.{◌≡◌, inl, inr, refl, sym, subst, ap, ◌∙◌, ℕ, ◌+◌, ◌-◌, ◌<◌, ◌≤◌, List, [], ◌∷◌, ◌++◌, length, take, drop, arith}
+use Rattle.std.proofs.Common.{List, [], arith, drop, inl, inr, length, refl, subst, sym, take, ℕ, ◌++◌, ◌+◌, ◌-◌, ◌<◌, ◌∙◌, ◌∷◌, ◌≡◌, ◌≤ℤ◌, ◌≤◌}
 use Rattle.std.proofs.lemmas.Int.{ints}
-use Rattle.std.proofs.lemmas.List.{get_or_at, length-append, length-take-le, take-append-drop}
+use Rattle.std.proofs.lemmas.List.{take-append-drop}
 use Rattle.plane.proofs.Determinants.{determinant_swap_ends}
 use Rattle.plane.specs.Point.{Point, whole}
 use Rattle.plane.specs.Turn.{IsLeft, IsRight}
-use Rattle.rings.proofs.Vertices.{vertex_in_range}
-use Rattle.rings.specs.Ring.{origin, vertex}
+use Rattle.rings.specs.Ring.{vertex}
+use Rattle.rings.specs.Simple.{IsSimple}
+use Rattle.ring_laws.proofs.CornerNumbers.{AreBoth, far_of, has_other, in_corner, neither_back, none_of}
 use Rattle.ring_laws.proofs.CutRule.{farthest_diagonal}
 use Rattle.ring_laws.proofs.CutRuleMirrored.{base_diagonal, base_diagonal_right, farthest_diagonal_right}
 use Rattle.ring_laws.proofs.Diagonals.{diagonal_backward, diagonal_rotated}
 use Rattle.ring_laws.proofs.DistinctPoints.{HasPoint}
-use Rattle.ring_laws.proofs.LeastVertex.{FromVertex, NoneBefore, from_vertex, none_before_least}
-use Rattle.ring_laws.proofs.Rotated.{apart_rotated, vertex_rotated}
+use Rattle.ring_laws.proofs.Farthest.{farthest_or_none}
+use Rattle.ring_laws.proofs.FarthestEnd.{InTriangle, height}
+use Rattle.ring_laws.proofs.Items.{has_swapped}
+use Rattle.ring_laws.proofs.LeastVertex.{NoneBefore, none_before_least}
+use Rattle.ring_laws.proofs.ReadFrom.{ReadFrom, apart_from, read_from}
+use Rattle.ring_laws.proofs.SimpleIsApart.{apart_of_simple}
+use Rattle.ring_laws.proofs.SimpleRings.{simple_ring_law}
+use Rattle.ring_laws.proofs.Triangles.{in_or_not}
 use Rattle.ring_laws.specs.Apart.{IsApartRing}
 use Rattle.ring_laws.specs.CutRule.{IsCut, IsFarthestInCorner, IsInCorner, IsLeftCorner, across, to_farthest}
 use Rattle.ring_laws.specs.Diagonal.{IsDiagonal}
 use Rattle.ring_laws.specs.Winding.{IsLeastVertex}
-use Rattle.ring_laws.proofs.CornerNumbers.{AreBoth, far_of, has_point_swapped, none_of}
 
 -- a ring whose parts in the other order are v, w, ms and u; v is vertex i, a least vertex, and there are more than its neighbours
 module _ (ring : List Point) (i : ℕ) (v w : Point) (ms : List Point) (u : Point) (are : drop i ring ++ take i ring ≡ v ∷ w ∷ (ms ++ u ∷ []))
@@ -54,67 +60,68 @@ module _ (ring : List Point) (i : ℕ) (v w : Point) (ms : List Point) (u : Poin
       (farthest_diagonal_right v w ms u apart least (other_turn (rw (is_w, is_u) at left))
       (far_of ring i v w ms u are is_v apart w u (inr (refl, refl)) k (rw (is_w, is_u) at far)))
 
--- vertex j of the ring from vertex i on
-vertex_from : (ring : List Point) (i j : ℕ) → i ≤ length ring → j < length ring → vertex (drop i ring ++ take i ring) j ≡ vertex ring (i + j)
-vertex_from ring i j within less =
-    let both = take-append-drop i ring in
-    let size : j < length (drop i ring ++ take i ring) =
-    omega (arith, length-append (drop i ring) (take i ring), length-append (take i ring) (drop i ring), ap length both) in
-    vertex_rotated (take i ring) (drop i ring) j size ∙ (λ k. vertex (both k) (length-take-le i ring within k + j))
-
--- the neighbours of a first vertex
-second_vertex : (v w : Point) (rest : List Point) → vertex (v ∷ w ∷ rest) 1 ≡ w
-second_vertex v w rest = vertex_in_range (v ∷ w ∷ rest) 1 origin (omega arith)
-
--- are the second vertex and the last
-last_vertex : (v w : Point) (ms : List Point) (u : Point) (n : ℕ) → n ≡ length (v ∷ w ∷ (ms ++ u ∷ [])) → vertex (v ∷ w ∷ (ms ++ u ∷ [])) (n - 1) ≡ u
-last_vertex v w ms u n size =
-    let count : length (v ∷ w ∷ ms) ≡ n - 1 = omega (arith, length-append ms (u ∷ [])) in
-    vertex_in_range (v ∷ w ∷ (ms ++ u ∷ [])) (n - 1) origin (omega arith) ∙ get_or_at (v ∷ w ∷ ms) u [] origin (n - 1) count
-
 -- the cut at a least vertex is a diagonal
 pub cut_is_diagonal_at : (ring : List Point) → 3 < length ring → IsApartRing ring → (i : ℕ) → i < length ring → IsLeastVertex ring i
     → (a b : Point) → IsCut ring i a b → IsDiagonal ring a b
-cut_is_diagonal_at ring some apart i within least a b cut = go cut
+cut_is_diagonal_at ring some apart i within least a b = go (read_from ring i (omega arith) within)
   where
-    from : FromVertex ring i
-    from = from_vertex ring i (omega arith) within
-
-    both : take i ring ++ drop i ring ≡ ring
-    both = take-append-drop i ring
-
-    size : length ring ≡ length (vertex ring i ∷ from.w ∷ (from.ms ++ from.u ∷ []))
-    size = omega (arith, ap length both, ap length from.is, length-append (drop i ring) (take i ring), length-append (take i ring) (drop i ring))
-
-    more : 0 < length from.ms
-    more = omega (arith, size, length-append from.ms (from.u ∷ []))
-
-    after : vertex ring (i + 1) ≡ from.w
-    after =
-        sym (vertex_from ring i 1 (omega arith) (omega arith)) ∙ ap (λ rs. vertex rs 1) from.is
-        ∙ second_vertex (vertex ring i) from.w (from.ms ++ from.u ∷ [])
-
-    before : vertex ring (i + (length ring - 1)) ≡ from.u
-    before =
-        sym (vertex_from ring i (length ring - 1) (omega arith) (omega arith)) ∙ ap (λ rs. vertex rs (length ring - 1)) from.is
-        ∙ last_vertex (vertex ring i) from.w from.ms from.u (length ring) size
-
-    corner : {p q : Point} → IsLeftCorner ring i p q → AreBoth from.u from.w p q
-    corner c = elim c.neighbours [
-      | inl (is_before, is_after) ↦ inl (is_before ∙ before, is_after ∙ after)
-      | inr (is_after, is_before) ↦ inr (is_after ∙ after, is_before ∙ before)
+    corner : {p q : Point} (r : ReadFrom ring i) → IsLeftCorner ring i p q → AreBoth r.u r.w p q
+    corner r c = elim c.neighbours [
+      | inl (is_before, is_after) ↦ inl (is_before ∙ r.before, is_after ∙ r.after)
+      | inr (is_after, is_before) ↦ inr (is_after ∙ r.after, is_before ∙ r.before)
     ]
 
-    apart_from : IsApartRing (vertex ring i ∷ from.w ∷ (from.ms ++ from.u ∷ []))
-    apart_from = subst IsApartRing from.is (apart_rotated (take i ring) (drop i ring) (subst IsApartRing (sym both) apart))
-
-    none : NoneBefore (from.w ∷ (from.ms ++ from.u ∷ [])) (vertex ring i)
-    none y has =
+    none : (r : ReadFrom ring i) → NoneBefore (r.w ∷ (r.ms ++ r.u ∷ [])) (vertex ring i)
+    none r y has =
         none_before_least ring i least y
-        (subst (λ rs. HasPoint rs y) both (has_point_swapped y (drop i ring) (take i ring) (subst (λ rs. HasPoint rs y) (sym from.is) (inr has))))
+        (subst (λ rs. HasPoint rs y) (take-append-drop i ring)
+        (has_swapped y (drop i ring) (take i ring) (subst (λ rs. HasPoint rs y) (sym r.is) (inr has))))
 
-    go : IsCut ring i a b → IsDiagonal ring a b
-    go (across c empty) =
-        across_diagonal ring i (vertex ring i) from.w from.ms from.u from.is refl apart_from more none a b (corner c) c.left empty
-    go (to_farthest p q k c far is_a is_b) =
-        rw (is_a, is_b) (farthest_diagonal_at ring i (vertex ring i) from.w from.ms from.u from.is refl apart_from more none p q (corner c) c.left k far)
+    go : (r : ReadFrom ring i) → IsCut ring i a b → IsDiagonal ring a b
+    go r (across c empty) =
+        across_diagonal ring i (vertex ring i) r.w r.ms r.u r.is refl (apart_from ring i r apart) (omega (arith, r.size)) (none r)
+        a b (corner r c) c.left empty
+    go r (to_farthest p q k c far is_a is_b) =
+        rw (is_a, is_b) (farthest_diagonal_at ring i (vertex ring i) r.w r.ms r.u r.is refl (apart_from ring i r apart) (omega (arith, r.size)) (none r)
+        p q (corner r c) c.left k far)
+
+-- and there is one
+pub some_cut : (ring : List Point) → 3 ≤ length ring → IsSimple ring → (i : ℕ) → i < length ring → IsLeastVertex ring i
+    → (a : Point) × (b : Point) × IsCut ring i a b
+some_cut ring some simple i within least = elim (simple_ring_law ring some simple i within least) [
+  | inl h ↦ at_corner before after (inl (reading.before, reading.after)) (record { neighbours = inl (refl, refl); left = h.0 })
+  | inr h ↦ at_corner after before (inr (reading.after, reading.before)) (record {
+    neighbours = inr (refl, refl);
+    left = let right = h.0 in omega (arith, ints, determinant_swap_ends (whole before) (whole (vertex ring i)) (whole after));
+  })
+]
+  where
+    before : Point
+    before = vertex ring (i + (length ring - 1))
+
+    after : Point
+    after = vertex ring (i + 1)
+
+    reading : ReadFrom ring i
+    reading = read_from ring i some within
+
+    at_corner : (p q : Point) → AreBoth reading.u reading.w p q → IsLeftCorner ring i p q → (a : Point) × (b : Point) × IsCut ring i a b
+    at_corner p q both corner =
+        let r = reading in
+        let v = vertex ring i in
+        let apart = apart_from ring i r (apart_of_simple ring simple) in
+        let other = λ (k : ℕ) (c : IsInCorner ring i p q k).
+        (let neither = neither_back both c.not_first c.not_last in
+        has_other ring i v r.w r.ms r.u r.is refl apart k c.in_ring neither.0 c.not_middle neither.1) in
+        elim (farthest_or_none (InTriangle p v q) (λ y. in_or_not p v q (whole y)) (height p q) r.ms) [
+          | inl none ↦ (p, q, across corner (λ k c. none (vertex ring k) (other k c) c.in_triangle))
+          | inr far ↦
+              let (j, c, is) = in_corner ring i v r.w r.ms r.u r.is refl apart p q both far.point far.has_point far.chosen in (
+                v,
+                vertex ring j,
+                to_farthest p q j corner (record {
+                  in_corner = c;
+                  farthest = λ k d. subst (λ (y : Point). height p q (vertex ring k) ≤ℤ height p q y) (sym is) (far.farthest (vertex ring k) (other k d) d.in_triangle);
+                }) refl refl,
+              )
+        ]

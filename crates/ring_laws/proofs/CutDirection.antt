@@ -1,16 +1,17 @@
 -- A ring and the pieces that a diagonal inside it makes wind up to once in one direction.
 use Rattle.std.proofs.Common.{◌≡◌, ◌⊎◌, inl, inr, refl, subst, ◌≤◌, ℤ, pos, negsuc, List, [], ◌∷◌, ◌++◌, length, arith}
 use Rattle.std.proofs.lemmas.List.{length-append}
-use Rattle.plane.specs.Point.{Point}
+use Rattle.plane.specs.Point.{IsSame, Point, whole}
 use Rattle.rings.proofs.Edges.{closed_edges_of}
 use Rattle.rings.specs.Edge.{edges_along, edges_of}
 use Rattle.ring_laws.proofs.BesideDiagonal.{same_direction}
+use Rattle.ring_laws.proofs.CutDiagonal.{inner_off, ends_differ, some_back, some_there, wound}
+use Rattle.ring_laws.proofs.Middle.{middle, middle_first, middle_is_point, middle_last, middle_on}
 use Rattle.ring_laws.proofs.Pieces.{apart_first, apart_second, winding_cut}
 use Rattle.ring_laws.proofs.PiecesMeet.{has_edge_back, has_edge_there, off_first, on_back}
-use Rattle.ring_laws.proofs.PiecesWind.{IsUnit}
 use Rattle.ring_laws.proofs.SimpleRings.{runs_round, winds_once}
+use Rattle.ring_laws.proofs.UpToOne.{IsUnit}
 use Rattle.ring_laws.specs.Apart.{IsApartRing, edge}
-use Rattle.ring_laws.proofs.CutDiagonal.{inner_off, ends_differ, middle, middle_is_point, middle_not_first, middle_not_last, middle_on, some_back, some_there, wound}
 use Rattle.ring_laws.specs.Diagonal.{IsDiagonal}
 use Rattle.ring_laws.specs.Winding.{RunsClockwise, RunsCounterclockwise, WindsUpTo}
 
@@ -44,11 +45,11 @@ module _ (v : Point) (ps : List Point) (z : Point) (qs : List Point) (apart : Is
   one_direction : (s t r : ℤ) → IsUnit s → IsUnit t → IsUnit r → WindsUpTo s (edges_of (v ∷ (ps ++ z ∷ qs)))
       → WindsUpTo t (edges_of (v ∷ (ps ++ z ∷ []))) → WindsUpTo r (edges_of (v ∷ z ∷ qs)) → (t ≡ s) × (r ≡ s)
   one_direction s t r unit first_unit second_unit winds first_winds second_winds =
-      let x = middle v ps z qs apart diagonal.meets in
-      let at = middle_is_point v ps z qs apart diagonal.meets in
-      let on = middle_on v ps z qs apart diagonal.meets in
-      let not_v = middle_not_first v ps z qs apart diagonal.meets in
-      let not_z = middle_not_last v ps z qs apart diagonal.meets in
+      let x = middle v z in
+      let at = middle_is_point v z in
+      let on = middle_on v z in
+      let not_v = λ (same : IsSame x (whole v)). ends_differ v ps z qs apart diagonal.meets (middle_first v z same) in
+      let not_z = λ (same : IsSame x (whole z)). ends_differ v ps z qs apart diagonal.meets (middle_last v z same) in
       let off = inner_off v ps z qs apart diagonal.meets x at on not_v not_z in
       same_direction (edges_of (v ∷ (ps ++ z ∷ qs))) (edges_of (v ∷ (ps ++ z ∷ []))) (edges_along z qs v) (edge v z)
       (winding_cut v ps z qs) (closed_edges_of (v ∷ (ps ++ z ∷ qs))) (closed_edges_of (v ∷ z ∷ qs)) (off_first v ps z qs apart) (on_back v ps z qs apart)

@@ -10,12 +10,13 @@ use Rattle.rings.proofs.Edges.{closed_edges_of, on_some_cases, on_some_right}
 use Rattle.rings.proofs.InRing.{on_some_or_not}
 use Rattle.rings.specs.Edge.{Edge, IsOnSome, edges_along, edges_of}
 use Rattle.rings.specs.Inside.{IsIn}
-use Rattle.ring_laws.proofs.CutDiagonal.{in_if_wound, not_twice, one_is, sum_is, wound}
+use Rattle.ring_laws.proofs.CutDiagonal.{in_if_wound, wound}
 use Rattle.ring_laws.proofs.CutDirection.{WindTogether, wind_together}
 use Rattle.ring_laws.proofs.Members.{edge_with, on_some_of}
 use Rattle.ring_laws.proofs.Pieces.{edges_of_first, has_edge_of_first, on_some_cut, winding_cut}
 use Rattle.ring_laws.proofs.PiecesMeet.{has_edge_back, has_edge_there, meet_at_cut, off_first, off_second, on_back}
 use Rattle.ring_laws.proofs.PiecesWind.{on_edge_not_wound}
+use Rattle.ring_laws.proofs.UpToOne.{not_twice, one_is, sum_is}
 use Rattle.ring_laws.specs.Apart.{IsApartRing, IsOn, edge}
 use Rattle.ring_laws.specs.Diagonal.{IsDiagonal}
 
@@ -104,13 +105,7 @@ module _ (v : Point) (ps : List Point) (z : Point) (qs : List Point) (apart : Is
 
     -- ---- in both pieces
 
-    -- a point of the diagonal is on the first piece,
-    diagonal_on_first : On x (whole v) (whole z) → IsOnSome (edges_of (v ∷ (ps ++ z ∷ []))) x
-    diagonal_on_first on =
-        subst (λ es. IsOnSome es x) (sym (edges_of_first v ps z qs))
-        (on_some_right x (edges_along v ps z) (edge z v ∷ []) (inl (on_reversed x (whole v) (whole z) on)))
-
-    -- whose other points are on the way there
+    -- a point of the first piece is on the way there or on the diagonal
     first_cases : IsOnSome (edges_of (v ∷ (ps ++ z ∷ []))) x → IsOnSome (edges_along v ps z) x ⊎ On x (whole v) (whole z)
     first_cases on = elim (on_some_cases x (edges_along v ps z) (edge z v ∷ []) (subst (λ es. IsOnSome es x) (edges_of_first v ps z qs) on)) [
       | inl k ↦ inl k

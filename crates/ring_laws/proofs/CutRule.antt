@@ -6,17 +6,17 @@ use Rattle.plane.proofs.Determinants.{determinant_shift_back}
 use Rattle.plane.specs.Point.{Point, whole}
 use Rattle.plane.specs.Turn.{IsLeft}
 use Rattle.rings.specs.Edge.{Edge, edges_of}
+use Rattle.ring_laws.proofs.CommonEnds.{meet_reversed}
 use Rattle.ring_laws.proofs.Diagonals.{cut_is_diagonal, diagonal_backward, diagonal_rotated}
 use Rattle.ring_laws.proofs.DistinctPoints.{HasPoint}
 use Rattle.ring_laws.proofs.EarStep.{apart_without, meets_base, rest_counterclockwise}
-use Rattle.ring_laws.proofs.TriangleWinding.{triangle_values}
 use Rattle.ring_laws.proofs.Farthest.{Farthest}
 use Rattle.ring_laws.proofs.FarthestCut.{apart_regrouped, farthest_cut, first_runs, ring_regrouped, second_runs}
 use Rattle.ring_laws.proofs.FarthestEnd.{InTriangle, height}
 use Rattle.ring_laws.proofs.LeastVertex.{NoneBefore}
-use Rattle.ring_laws.proofs.Pieces.{meet_reversed}
 use Rattle.ring_laws.proofs.Rotated.{apart_rotated, has_edge_rotated}
 use Rattle.ring_laws.proofs.SimpleRings.{left_turn_law, runs_round}
+use Rattle.ring_laws.proofs.TriangleWinding.{triangle_values}
 use Rattle.ring_laws.specs.Apart.{HasEdge, IsApartRing, edge}
 use Rattle.ring_laws.specs.Diagonal.{IsDiagonal}
 use Rattle.ring_laws.specs.Triangle.{IsInTriangle}

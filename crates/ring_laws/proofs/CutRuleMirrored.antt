@@ -1,38 +1,35 @@
 -- The cut rule at a least vertex with a right turn, from the ring read the other way round.
 use Rattle.std.proofs.Common.{inl, inr, sym, subst, ◌<◌, ℤ, List, [], ◌∷◌, ◌++◌, length, reverse, arith}
 use Rattle.std.proofs.lemmas.Int.{ints}
-use Rattle.std.proofs.lemmas.List.{length-reverse, reverse-reverse}
+use Rattle.std.proofs.lemmas.List.{length-reverse}
 use Rattle.plane.proofs.Determinants.{determinant_swap_ends}
 use Rattle.plane.specs.Point.{Point, whole}
 use Rattle.plane.specs.Turn.{IsLeft, IsRight}
 use Rattle.ring_laws.proofs.CutRule.{ear_diagonal, farthest_diagonal}
 use Rattle.ring_laws.proofs.Diagonals.{diagonal_backward, diagonal_turned}
-use Rattle.ring_laws.proofs.DistinctPoints.{HasPoint, has_point_cases, has_point_left, has_point_reverse, has_point_right}
+use Rattle.ring_laws.proofs.DistinctPoints.{HasPoint}
 use Rattle.ring_laws.proofs.Farthest.{Farthest}
 use Rattle.ring_laws.proofs.FarthestEnd.{InTriangle, height}
+use Rattle.ring_laws.proofs.Items.{has_cases, has_in_order, has_left, has_reversed, has_right}
 use Rattle.ring_laws.proofs.LeastVertex.{NoneBefore}
 use Rattle.ring_laws.proofs.Mirrored.{apart_turned, turned_corner}
 use Rattle.ring_laws.specs.Apart.{IsApartRing}
 use Rattle.ring_laws.specs.Diagonal.{IsDiagonal}
 
--- the points of a list are those in the other order
-reversed_points : (p : Point) (ps : List Point) → HasPoint ps p → HasPoint (reverse ps) p
-reversed_points p ps has = has_point_reverse p (reverse ps) (subst (λ qs. HasPoint qs p) (sym (reverse-reverse ps)) has)
-
--- so the farthest of them is the same
+-- the farthest of some points is that of the same points in the other order,
 abbrev farthest_reversed : (P : Point → Type 0) (value : Point → ℤ) (ps : List Point) → Farthest P value ps → Farthest P value (reverse ps)
 farthest_reversed P value ps far = record {
   point = far.point;
-  has_point = reversed_points far.point ps far.has_point;
+  has_point = has_reversed far.point ps far.has_point;
   chosen = far.chosen;
-  farthest = λ q has. far.farthest q (has_point_reverse q ps has);
+  farthest = λ q has. far.farthest q (has_in_order q ps has);
 }
 
 -- and no point is before v in the other order
 least_reversed : (v w : Point) (ms : List Point) (u : Point) → NoneBefore (w ∷ (ms ++ u ∷ [])) v → NoneBefore (u ∷ (reverse ms ++ w ∷ [])) v
-least_reversed v w ms u least p (inl e) = least p (inr (has_point_right p ms (u ∷ []) (inl e)))
-least_reversed v w ms u least p (inr h) = elim (has_point_cases p (reverse ms) (w ∷ []) h) [
-  | inl k ↦ least p (inr (has_point_left p ms (u ∷ []) (has_point_reverse p ms k)))
+least_reversed v w ms u least p (inl e) = least p (inr (has_right p ms (u ∷ []) (inl e)))
+least_reversed v w ms u least p (inr h) = elim (has_cases p (reverse ms) (w ∷ []) h) [
+  | inl k ↦ least p (inr (has_left p ms (u ∷ []) (has_in_order p ms k)))
   | inr k ↦ elim k [ inl e ↦ least p (inl e) | inr none ↦ absurd none ]
 ]
 
@@ -67,4 +64,4 @@ module _ (v w : Point) (ms : List Point) (u : Point) (apart : IsApartRing (v ∷
       diagonal_backward w u (v ∷ w ∷ (ms ++ u ∷ []))
       (diagonal_turned w u (v ∷ w ∷ (ms ++ u ∷ [])) (subst (λ rs. IsDiagonal rs w u) (sym (turned_corner v w ms u))
       (base_diagonal v u (reverse ms) w (omega (arith, length-reverse ms)) mirrored_apart (least_reversed v w ms u least) mirrored_left
-      (λ p has. none p (has_point_reverse p ms has)))))
+      (λ p has. none p (has_in_order p ms has)))))

@@ -5,28 +5,24 @@ use Rattle.plane.specs.Point.{IsPoint, IsSame, Point, Triple, whole}
 use Rattle.plane.specs.Turn.{IsLeft, IsRight}
 use Rattle.rings.specs.Edge.{Edge, IsOnSome, edges_along, edges_of}
 use Rattle.rings.specs.Inside.{winding}
-use Rattle.ring_laws.proofs.DistinctPoints.{HasPoint, has_point_left, has_point_right}
-use Rattle.ring_laws.proofs.TwoChains.{ArePieces}
-use Rattle.ring_laws.proofs.TwoPieces.{two_pieces_values}
-use Rattle.ring_laws.proofs.SimpleIsApart.{meet_swapped}
+use Rattle.ring_laws.proofs.DistinctPoints.{HasPoint}
+use Rattle.ring_laws.proofs.Items.{has_left, has_right}
 use Rattle.ring_laws.proofs.Members.{edge_with}
 use Rattle.ring_laws.proofs.Pieces.{area_cut, distinct_cut, edges_of_cut, edges_of_first}
 use Rattle.ring_laws.proofs.PiecesMeet.{has_edge_back, has_edge_there, meet_at_cut, off_first_piece, off_second_piece}
 use Rattle.ring_laws.proofs.Rotated.{on_some_swapped, winding_swapped}
+use Rattle.ring_laws.proofs.TwoChains.{ArePieces}
+use Rattle.ring_laws.proofs.TwoPieces.{two_pieces_values}
 use Rattle.ring_laws.specs.Apart.{HasEdge, IsApartRing, MeetAtEnds, edge}
 use Rattle.ring_laws.specs.Winding.{RunsCounterclockwise, WindsUpTo}
 
 module _ (v : Point) (ps : List Point) (z : Point) (qs : List Point) where
-  -- the first piece with the diagonal first
-  first_swapped : edges_of (v ∷ (ps ++ z ∷ [])) ≡ edges_along v ps z ++ edge z v ∷ []
-  first_swapped = edges_of_first v ps z qs
-
   -- where the first piece winds up to once, so it does with the diagonal first
   first_winds : WindsUpTo (pos 1) (edges_of (v ∷ (ps ++ z ∷ []))) → WindsUpTo (pos 1) (edge z v ∷ edges_along v ps z)
   first_winds winds x at off =
       subst (λ n. (n ≡ pos 0) ⊎ (n ≡ pos 1))
-      (ap (λ es. winding es x) first_swapped ∙ winding_swapped (edges_along v ps z) (edge z v ∷ []) x)
-      (winds x at (λ on. off (on_some_swapped (edges_along v ps z) (edge z v ∷ []) x (subst (λ es. IsOnSome es x) first_swapped on))))
+      (ap (λ es. winding es x) (edges_of_first v ps z qs) ∙ winding_swapped (edges_along v ps z) (edge z v ∷ []) x)
+      (winds x at (λ on. off (on_some_swapped (edges_along v ps z) (edge z v ∷ []) x (subst (λ es. IsOnSome es x) (edges_of_first v ps z qs) on))))
 
   -- the edges of the ring, those back first
   winding_back_first : (x : Triple) → winding (edges_along z qs v ++ edges_along v ps z) x ≡ winding (edges_of (v ∷ (ps ++ z ∷ qs))) x
@@ -53,9 +49,9 @@ module _ (v : Point) (ps : List Point) (z : Point) (qs : List Point) where
       -- the cut makes two chains between v and z,
       two_chains : ArePieces v z qs ps
       two_chains = record {
-        differ = λ e. (distinct_cut v ps z qs apart).0 (has_point_right v ps (z ∷ qs) (inl (sym e)));
-        first_apart = λ e has. meet_swapped e (edge v z) (meets e (has_edge_back v ps z qs apart e has));
-        second_apart = λ e has. meet_swapped e (edge v z) (meets e (has_edge_there v ps z qs apart e has));
+        differ = λ e. (distinct_cut v ps z qs apart).0 (has_right v ps (z ∷ qs) (inl (sym e)));
+        first_apart = λ e has. meets e (has_edge_back v ps z qs apart e has);
+        second_apart = λ e has. meets e (has_edge_there v ps z qs apart e has);
         chains_apart = ways_meet;
         first_off = off_first_piece v ps z qs apart meets;
         second_off = off_second_piece v ps z qs apart meets;
@@ -67,7 +63,7 @@ module _ (v : Point) (ps : List Point) (z : Point) (qs : List Point) where
       pub cut_counterclockwise : (u w : Point) → HasPoint qs u → HasPoint ps w → IsLeft (whole v) (whole z) (whole u)
           → IsRight (whole v) (whole z) (whole w) → RunsCounterclockwise (v ∷ (ps ++ z ∷ qs))
       cut_counterclockwise u w has_u has_w left right =
-          let both = two_pieces_values v z qs ps two_chains u w (has_point_left u qs ps has_u) (has_point_right w qs ps has_w) left right in
+          let both = two_pieces_values v z qs ps two_chains u w (has_left u qs ps has_u) (has_right w qs ps has_w) left right in
           record {
             area = omega (arith, ints, first.area, second.area, area_cut v ps z qs);
             windings = λ x at off.

@@ -13,13 +13,15 @@ use Rattle.rings.specs.Edge.{Edge, IsOnSome, edges_along, edges_of}
 use Rattle.rings.specs.Inside.{winding}
 use Rattle.rings.specs.Orientation.{turned_round}
 use Rattle.ring_laws.proofs.BesideDiagonal.{once_round_diagonal}
+use Rattle.ring_laws.proofs.CommonEnds.{meet_reversed, meet_swapped}
 use Rattle.ring_laws.proofs.CutDiagonal.{ends_differ, in_if_wound, inner_off}
-use Rattle.ring_laws.proofs.DistinctPoints.{HasPoint, edge_from, has_point_right}
-use Rattle.ring_laws.proofs.Members.{has_edge_backward, has_edge_reverse, on_some_of}
-use Rattle.ring_laws.proofs.Pieces.{meet_reversed, winding_cut}
+use Rattle.ring_laws.proofs.DistinctPoints.{HasPoint, edge_from}
+use Rattle.ring_laws.proofs.Items.{has_reversed, has_right}
+use Rattle.ring_laws.proofs.Members.{has_edge_backward, on_some_of}
+use Rattle.ring_laws.proofs.Pieces.{winding_cut}
 use Rattle.ring_laws.proofs.PiecesMeet.{off_first, on_back}
 use Rattle.ring_laws.proofs.Rotated.{has_edge_rotated, in_rotated}
-use Rattle.ring_laws.proofs.SimpleIsApart.{meet_swapped, same_or_not}
+use Rattle.ring_laws.proofs.SimpleIsApart.{same_or_not}
 use Rattle.ring_laws.specs.Apart.{HasEdge, IsApartRing, IsOn, MeetAtEnds, edge}
 use Rattle.ring_laws.specs.Diagonal.{IsDiagonal}
 use Rattle.ring_laws.specs.Winding.{WindsUpTo}
@@ -51,7 +53,7 @@ module _ (v : Point) (ps : List Point) (z : Point) (qs : List Point) (apart : Is
       | inr not_v ↦ elim (same_or_not x (whole z)) [
         | inl same ↦
             inl (on_some_same (whole z) x (whole_is_point z) (same_sym same) (edges_of (v ∷ (ps ++ z ∷ qs)))
-            (vertex_on z v (ps ++ z ∷ qs) (inr (has_point_right z ps (z ∷ qs) (inl refl)))))
+            (vertex_on z v (ps ++ z ∷ qs) (inr (has_right z ps (z ∷ qs) (inl refl)))))
         | inr not_z ↦ in_if_wound (pos 1) (inl refl) (v ∷ (ps ++ z ∷ qs)) x (inner_wound x at on not_v not_z)
       ]
     ];
@@ -71,7 +73,7 @@ module _ (a b : Point) where
     meets = λ e has.
         let turned : HasEdge (edges_of (turned_round ring)) (reversed e) =
         subst (λ es. HasEdge es (reversed e)) (sym (edges_of-turned_round ring))
-        (has_edge_reverse (reversed e) (backward (edges_of ring)) (has_edge_backward e (edges_of ring) has)) in
+        (has_reversed (reversed e) (backward (edges_of ring)) (has_edge_backward e (edges_of ring) has)) in
         meet_swapped (edge a b) e (meet_reversed (edge a b) (reversed e) (meet_swapped (reversed e) (edge a b) (d.meets (reversed e) turned)));
     inside = λ x at on. (in_turned_iff x ring).0 (d.inside x at on);
   }

@@ -5,59 +5,30 @@ use Rattle.plane.proofs.Determinants.{determinant_same_ends, determinant_same_fi
 use Rattle.plane.proofs.Same.{whole_is_point}
 use Rattle.plane.proofs.Segments.{on_is_straight}
 use Rattle.plane.specs.Point.{IsPoint, IsSame, Point, Triple, whole}
-use Rattle.plane.specs.Segment.{On}
 use Rattle.plane.specs.Turn.{IsLeft, IsRight, IsStraight}
 use Rattle.rings.proofs.ClosedLaw.{winding_law}
 use Rattle.rings.proofs.ExtremePoints.{extreme_point}
 use Rattle.rings.proofs.FarAway.{AllEnds, all_ends_map}
-use Rattle.rings.proofs.SignSteps.{not_both, turned_negative, weak, zero_not_negative}
+use Rattle.rings.proofs.SignSteps.{not_both, turned_negative, zero_not_negative}
 use Rattle.rings.specs.Edge.{Edge, IsClosed, IsOnSome}
 use Rattle.rings.specs.Inside.{winding}
-use Rattle.ring_laws.specs.Triangle.{IsInTriangle}
 use Rattle.ring_laws.proofs.Sides.{same_straight, stays_right}
-use Rattle.ring_laws.proofs.TrianglePlaces.{in_triangle_from, last_left, not_negative, not_right_between}
+use Rattle.ring_laws.proofs.Triangles.{between_in_triangle, middle_in_triangle}
 use Rattle.ring_laws.specs.Apart.{edge}
+use Rattle.ring_laws.specs.Triangle.{IsInTriangle}
 
 -- ---- the corners of a triangle
 
 module _ (u v w : Point) (left : IsLeft (whole u) (whole v) (whole w)) where
-  -- the tip is right of the base,
+  -- the tip is right of the base
   pub tip_is_right : IsRight (whole u) (whole w) (whole v)
   tip_is_right = turned_negative (determinant_swap_last (whole u) (whole v) (whole w)) left
-
-  -- other than its first end,
-  tip_not_first : ¬ (v ≡ u)
-  tip_not_first e =
-      not_both (subst (λ (c : Point). IsRight (whole u) (whole w) (whole c)) e tip_is_right)
-      (zero_not_negative (determinant_same_ends (whole u) (whole w)))
-
-  -- and other than its last
-  tip_not_last : ¬ (v ≡ w)
-  tip_not_last e =
-      not_both (subst (λ (c : Point). IsRight (whole u) (whole w) (whole c)) e tip_is_right)
-      (zero_not_negative (determinant_same_last (whole u) (whole w)))
 
   -- the ends of the base differ
   pub base_differs : ¬ (u ≡ w)
   base_differs e =
       not_both (subst (λ (c : Point). IsRight (whole u) (whole c) (whole v)) (sym e) tip_is_right)
       (zero_not_negative (determinant_same_first (whole u) (whole v)))
-
-  -- the tip is in the closed triangle
-  pub tip_in : IsInTriangle u v w (whole v)
-  tip_in =
-      in_triangle_from u v w (whole v) (zero_not_negative (determinant_same_last (whole u) (whole v)))
-      (zero_not_negative (determinant_same_ends (whole v) (whole w))) (weak (last_left u v w left))
-
--- a segment between two points of a triangle is in the triangle
-pub triangle_convex : (u v w : Point) (x p q : Triple) → IsPoint x → IsPoint p → IsPoint q → On x p q → IsInTriangle u v w p
-    → IsInTriangle u v w q → IsInTriangle u v w x
-triangle_convex u v w x p q at_x at_p at_q on s t =
-    let side = λ (a b : Point). not_right_between x p q (whole a) (whole b) at_x at_p at_q on in
-    in_triangle_from u v w x
-    (side u v (not_negative s.not_right_of_first) (not_negative t.not_right_of_first))
-    (side v w (not_negative s.not_right_of_second) (not_negative t.not_right_of_second))
-    (side w u (not_negative s.not_right_of_third) (not_negative t.not_right_of_third))
 
 -- where nothing is to the right of the tip
 least_is_extreme : (v a : Point) → v.x ≤ℤ a.x
@@ -87,7 +58,7 @@ module _ (u v w : Point) (es : List Edge) (left : IsLeft (whole u) (whole v) (wh
   pub winding_at_tip : winding (edge u w ∷ es) (whole v) ≡ pos 0
   winding_at_tip =
       extreme_point (negsuc 0) (pos 0) (λ h. let e = h.0 in omega (arith, ints)) (edge u w ∷ es) closed (whole v) (whole_is_point v)
-      (off_below (whole v) (whole_is_point v) (tip_in u v w left) (tip_is_right u v w left))
+      (off_below (whole v) (whole_is_point v) (middle_in_triangle u v w left) (tip_is_right u v w left))
       (all_ends_map (λ a h. least_is_extreme v a h) (edge u w ∷ es) least)
 
   -- nor is what is right of the base in the triangle
@@ -96,6 +67,6 @@ module _ (u v w : Point) (es : List Edge) (left : IsLeft (whole u) (whole v) (wh
   winding_below p at_p t right =
       let at_v = whole_is_point v in
       winding_law p (whole v) at_p at_v (edge u w ∷ es) closed
-      (λ x at_x on. off_below x at_x (triangle_convex u v w x p (whole v) at_x at_p at_v on t (tip_in u v w left))
+      (λ x at_x on. off_below x at_x (between_in_triangle u v w x p (whole v) at_x at_p at_v t (middle_in_triangle u v w left) on)
       (stays_right x p (whole v) at_x at_p at_v on (whole u) (whole w) right (tip_is_right u v w left)))
       ∙ winding_at_tip

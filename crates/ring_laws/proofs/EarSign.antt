@@ -3,28 +3,26 @@ use Rattle.std.proofs.Common.{◌≡◌, ◌⊎◌, inl, inr, [], ◌∷◌, ref
 use Rattle.std.proofs.lemmas.Int.{ints}
 use Rattle.integer_algebra.proofs.Polynomial.{lit, var, ◌⊕◌, ◌⊖◌, same_value}
 use Rattle.plane.proofs.Determinants.{straight_swap_first}
-use Rattle.plane.proofs.Order.{same_coordinates}
 use Rattle.plane.proofs.Same.{same_refl, same_sym, same_trans, whole_is_point}
 use Rattle.plane.proofs.Segments.{combination_is_straight, on_is_straight, on_last_end, on_reversed}
-use Rattle.plane.proofs.Vectors.{on_of_combination}
 use Rattle.plane.proofs.Written.{written_determinant}
 use Rattle.plane.specs.Point.{IsPoint, IsSame, Point, Triple, whole}
-use Rattle.plane.specs.Segment.{On}
 use Rattle.plane.specs.Turn.{IsLeft, determinant}
 use Rattle.rings.proofs.FarAway.{AllEnds}
 use Rattle.rings.proofs.Nearness.{misses_eventually, toward, toward_is_point}
-use Rattle.rings.proofs.SignSteps.{natural_not_negative, not_both_positive, one_positive, zero_not_positive}
+use Rattle.rings.proofs.SignSteps.{not_both_positive, zero_not_positive}
 use Rattle.rings.specs.Across.{Misses}
 use Rattle.rings.specs.Edge.{Edge, IsClosed, IsOnSome}
 use Rattle.rings.specs.Inside.{winding}
-use Rattle.ring_laws.specs.Triangle.{IsInTriangle}
 use Rattle.ring_laws.proofs.AcrossEdge.{across_edge}
-use Rattle.ring_laws.proofs.EarBase.{base_differs, on_others_straight, tip_in, tip_is_right, triangle_convex, winding_at_tip}
+use Rattle.ring_laws.proofs.EarBase.{base_differs, on_others_straight, tip_is_right, winding_at_tip}
+use Rattle.ring_laws.proofs.Middle.{middle, middle_first, middle_is_point, middle_last, middle_on, middle_within}
 use Rattle.ring_laws.proofs.NearPairs.{left_toward, positive_at}
-use Rattle.ring_laws.proofs.Sides.{IsWithin, first_end_on_line}
-use Rattle.ring_laws.proofs.TrianglePlaces.{last_left}
+use Rattle.ring_laws.proofs.Sides.{first_end_on_line}
 use Rattle.ring_laws.proofs.TriangleWinding.{on_sides_in}
+use Rattle.ring_laws.proofs.Triangles.{between_in_triangle, left_at_first, middle_in_triangle}
 use Rattle.ring_laws.specs.Apart.{edge}
+use Rattle.ring_laws.specs.Triangle.{IsInTriangle}
 
 -- ---- the other side of the base
 
@@ -39,52 +37,6 @@ opposite_side u v w =
     same_value (written_determinant (var 0) (var 1) one (var 4) (var 5) one (var 0 ⊕ var 4 ⊖ var 2) (var 1 ⊕ var 5 ⊖ var 3) one)
     (written_determinant (var 0) (var 1) one (var 2) (var 3) one (var 4) (var 5) one)
     (u.x ∷ u.y ∷ v.x ∷ v.y ∷ w.x ∷ w.y ∷ []) refl
-
--- the middle of the base
-abbrev pub middle : Point → Point → Triple
-middle u w = record { X = u.x +ℤ w.x; Y = u.y +ℤ w.y; W = pos 2 }
-
--- it is within it
-middle_within : (u w : Point) → IsWithin (middle u w) (whole u) (whole w)
-middle_within u w = record {
-  combination = record {
-    k = pos 1;
-    l = pos 1;
-    m = pos 1;
-    k_positive = one_positive;
-    l_nonnegative = natural_not_negative 1;
-    m_nonnegative = natural_not_negative 1;
-    in_X = omega (arith, ints);
-    in_Y = omega (arith, ints);
-    in_W = refl;
-  };
-  first_weighs = one_positive;
-  last_weighs = one_positive;
-}
-
--- where the middle is the first end, the ends are equal,
-pub middle_first : (u w : Point) → IsSame (middle u w) (whole u) → u ≡ w
-middle_first u w s =
-    let ex = s.same_x in
-    let ey = s.same_y in
-    same_coordinates u w (omega (arith, ints)) (omega (arith, ints))
-
--- and so they are where it is the last
-pub middle_last : (u w : Point) → IsSame (middle u w) (whole w) → u ≡ w
-middle_last u w s =
-    let ex = s.same_x in
-    let ey = s.same_y in
-    same_coordinates u w (omega (arith, ints)) (omega (arith, ints))
-
--- the middle is a rational point
-pub middle_is_point : (u w : Point) → IsPoint (middle u w)
-middle_is_point u w = omega (arith, ints)
-
--- it is on the base
-pub middle_on : (u w : Point) → On (middle u w) (whole u) (whole w)
-middle_on u w =
-    on_of_combination (middle u w) (whole u) (whole w) (middle_is_point u w) (whole_is_point u) (whole_is_point w)
-    (middle_within u w).combination
 
 -- a number is 0 or s, and 1, so s is 1
 one_of : (z s : ℤ) → z ≡ pos 0 +ℤ pos 1 → (z ≡ pos 0) ⊎ (z ≡ s) → s ≡ pos 1
@@ -115,11 +67,11 @@ module _ (u v w : Point) (es : List Edge) (left : IsLeft (whole u) (whole v) (wh
   misses_to_tip x at_x on h =
       let m = middle u w in
       let at_m = middle_is_point u w in
-      let t = triangle_convex u v w x m (whole v) at_x at_m (whole_is_point v) on middle_in (tip_in u v w left) in
+      let t = between_in_triangle u v w x m (whole v) at_x at_m (whole_is_point v) middle_in (middle_in_triangle u v w left) on in
       let straight = on_others_straight u v w es left closed least outside x at_x h t in
       let same = first_end_on_line x m (whole v) (whole w) (whole u) at_x at_m (whole_is_point v) on
       (straight_swap_first (whole u) (whole w) m (on_is_straight m (whole u) (whole w) at_m (whole_is_point u) (whole_is_point w) (middle_on u w)))
-      (last_left u v w left) (zero_not_positive (straight_swap_first (whole u) (whole w) x straight)) in
+      (left_at_first u v w left) (zero_not_positive (straight_swap_first (whole u) (whole w) x straight)) in
       off_middle x at_x t same h
 
   -- the corner opposite the tip is on the other side

@@ -1,16 +1,17 @@
 -- A ring with an ear at its least vertex runs counterclockwise, where the ring without the ear runs round once.
-use Rattle.std.proofs.Common.{◌≡◌, ◌⊎◌, inl, inr, refl, sym, subst, arith}
-use Rattle.std.proofs.Common.{ℤ, pos, negsuc, ◌≤ℤ◌, List, [], ◌∷◌, ◌++◌}
+use Rattle.std.proofs.Common.{ℤ, pos, negsuc, ◌≤ℤ◌, List, [], ◌∷◌, ◌++◌, ◌≡◌, ◌⊎◌, inl, inr, refl, sym, subst, arith}
 use Rattle.std.proofs.lemmas.Int.{ints}
 use Rattle.plane.proofs.Order.{x_at_most}
-use Rattle.plane.specs.Point.{IsPoint, IsSame, Point, Triple, whole}
+use Rattle.plane.specs.Point.{IsPoint, Point, Triple, whole}
 use Rattle.plane.specs.Turn.{IsLeft}
 use Rattle.rings.proofs.FarAway.{AllEnds}
 use Rattle.rings.specs.Edge.{Edge, edges_along, edges_of}
+use Rattle.ring_laws.proofs.CommonEnds.{end_of_second}
 use Rattle.ring_laws.proofs.Corner.{apart_rest, area_ear, closed_rest, edges_at_corner, has_edge_of_corner, no_edge_across, not_at_corner, on_some_corner, on_some_rest, winding_corner, winding_rest}
-use Rattle.ring_laws.proofs.DistinctPoints.{HasPoint, end_of_ring, ends_along, has_point_cases, has_point_left}
 use Rattle.ring_laws.proofs.CornerLaws.{IsCorner, corner_base_meets, corner_not_entered}
+use Rattle.ring_laws.proofs.DistinctPoints.{HasPoint, end_of_ring, ends_along}
 use Rattle.ring_laws.proofs.Ears.{ear_sign, ring_with_ear}
+use Rattle.ring_laws.proofs.Items.{has_cases, has_left}
 use Rattle.ring_laws.proofs.LeastVertex.{NoneBefore}
 use Rattle.ring_laws.specs.Apart.{HasEdge, HasEnd, IsApartRing, IsCommonEnd, IsOn, MeetAtEnds, edge}
 use Rattle.ring_laws.specs.Triangle.{IsInTriangle}
@@ -36,7 +37,7 @@ module _ (v w : Point) (ms : List Point) (u : Point) (apart : IsApartRing (v ∷
   ends_right : NoneBefore (w ∷ (ms ++ u ∷ [])) v → AllEnds (λ p. v.x ≤ℤ p.x) (edges_along w ms u)
   ends_right least = all_ends_from (λ p. v.x ≤ℤ p.x) (edges_along w ms u) (λ e has.
       let ends = ends_along e w ms u has in
-      (x_at_most v e.from (least e.from (has_point_left e.from (w ∷ ms) (u ∷ []) ends.0)), x_at_most v e.to (least e.to (inr ends.1))))
+      (x_at_most v e.from (least e.from (has_left e.from (w ∷ ms) (u ∷ []) ends.0)), x_at_most v e.to (least e.to (inr ends.1))))
 
 module _ (v w m : Point) (ks : List Point) (u : Point) (apart : IsApartRing (v ∷ w ∷ (m ∷ ks ++ u ∷ [])))
     (left : IsLeft (whole u) (whole v) (whole w)) (none : (p : Point) → HasPoint (m ∷ ks) p → ¬ IsInTriangle u v w (whole p)) where
@@ -44,7 +45,7 @@ module _ (v w m : Point) (ks : List Point) (u : Point) (apart : IsApartRing (v �
   only_corners : (p : Point) → HasPoint (v ∷ w ∷ (m ∷ ks ++ u ∷ [])) p → IsInTriangle u v w (whole p) → (p ≡ u) ⊎ (p ≡ v) ⊎ (p ≡ w)
   only_corners p (inl e) within = inr (inl (sym e))
   only_corners p (inr (inl e)) within = inr (inr (sym e))
-  only_corners p (inr (inr h)) within = elim (has_point_cases p (m ∷ ks) (u ∷ []) h) [
+  only_corners p (inr (inr h)) within = elim (has_cases p (m ∷ ks) (u ∷ []) h) [
     | inl k ↦ absurd (none p k within)
     | inr k ↦ elim k [ inl e ↦ inl (sym e) | inr nothing ↦ absurd nothing ]
   ]
@@ -85,15 +86,9 @@ module _ (v w m : Point) (ks : List Point) (u : Point) (apart : IsApartRing (v �
         let closed = closed_rest v w (m ∷ ks) u in
         let right = ends_right v w (m ∷ ks) u apart left least in
         let enters = λ (e : Edge) (has : HasEdge es e) (x : Triple) (at : IsPoint x) (on : IsOn e x) (within : IsInTriangle u v w x).
-        corner x (enters_at_ends e has x at on within) in
+        end_of_second e (edge u w) x (enters_at_ends e has x at on within) in
         let rest = rest_winds s winds in
         (ear_sign u v w es left closed right enters s rest, ring_with_ear u v w es left closed right enters s rest)
-      where
-        corner : {e : Edge} (x : Triple) → IsCommonEnd e (edge u w) x → IsSame x (whole u) ⊎ IsSame x (whole w)
-        corner x c = elim c.of_second [
-          | inl is ↦ inl (subst (λ (p : Point). IsSame x (whole p)) (sym is) c.same)
-          | inr is ↦ inr (subst (λ (p : Point). IsSame x (whole p)) (sym is) c.same)
-        ]
 
     -- so the ring without v runs counterclockwise,
     pub rest_counterclockwise : RunsCounterclockwise (w ∷ (m ∷ ks ++ u ∷ [])) ⊎ RunsClockwise (w ∷ (m ∷ ks ++ u ∷ []))

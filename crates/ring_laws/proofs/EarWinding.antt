@@ -14,13 +14,15 @@ use Rattle.rings.proofs.Nearness.{misses_eventually, toward, toward_is_point, to
 use Rattle.rings.proofs.SignSteps.{not_both, turned_negative, weak, zero_not_negative}
 use Rattle.rings.specs.Edge.{Edge, IsClosed, IsOnSome, growth}
 use Rattle.rings.specs.Inside.{crossing, winding}
-use Rattle.ring_laws.specs.Triangle.{IsInTriangle}
-use Rattle.ring_laws.proofs.EarBase.{tip_in, tip_is_right, triangle_convex, winding_below}
+use Rattle.ring_laws.proofs.EarBase.{tip_is_right, winding_below}
 use Rattle.ring_laws.proofs.EarSign.{sign_is_one}
 use Rattle.ring_laws.proofs.NearPairs.{right_toward}
-use Rattle.ring_laws.proofs.TrianglePlaces.{IsInside, IsOutside, Place, in_triangle_from, inside, on_border, on_first, on_second, on_third, outside, outside_not_in, place_of}
+use Rattle.ring_laws.proofs.TrianglePlaces.{IsInside, IsOutside, Place, inside, on_border, on_first, on_second, on_third, outside, outside_not_in, place_of}
 use Rattle.ring_laws.proofs.TriangleWinding.{on_sides_in, triangle, winding_inside, winding_outside}
+use Rattle.ring_laws.proofs.Triangles.{between_in_triangle, in_triangle, middle_in_triangle}
+use Rattle.ring_laws.proofs.UpToOne.{none_and, one_and_none}
 use Rattle.ring_laws.specs.Apart.{edge}
+use Rattle.ring_laws.specs.Triangle.{IsInTriangle}
 
 -- ---- sums
 
@@ -43,15 +45,6 @@ ear_winding u v w es p =
     cancel_sides (crossing (edge u v) p) (crossing (edge v w) p) (crossing (edge u w) p) (crossing (edge w u) p) (winding es p)
     (crossing_reversed (edge u w) p)
 
--- a sum of 0 and such a value is one
-none_and : (z a b : ℤ) → z ≡ a +ℤ b → a ≡ pos 0 → (b ≡ pos 0) ⊎ (b ≡ pos 1) → (z ≡ pos 0) ⊎ (z ≡ pos 1)
-none_and z a b e ea (inl h) = inl (omega (arith, ints))
-none_and z a b e ea (inr h) = inr (omega (arith, ints))
-
--- a sum of 1 and 0 is 1
-one_and : (z a b : ℤ) → z ≡ a +ℤ b → a ≡ pos 1 → b ≡ pos 0 → z ≡ pos 1
-one_and z a b e ea eb = omega (arith, ints)
-
 -- ---- the ring with the ear
 
 module _ (u v w : Point) (es : List Edge) (left : IsLeft (whole u) (whole v) (whole w)) (closed : IsClosed (edge u w ∷ es))
@@ -71,8 +64,8 @@ module _ (u v w : Point) (es : List Edge) (left : IsLeft (whole u) (whole v) (wh
     -- inside the ear the value is 1,
     at_inside : IsInside u v w p → winding (edge u v ∷ edge v w ∷ es) p ≡ pos 1
     at_inside i =
-        let t = in_triangle_from u v w p (weak i.left_of_first) (weak i.left_of_second) (weak i.left_of_third) in
-        one_and _ _ _ (ear_winding u v w es p) (winding_inside u v w p at_p i)
+        let t = in_triangle u v w p (weak i.left_of_first) (weak i.left_of_second) (weak i.left_of_third) in
+        one_and_none _ _ _ (ear_winding u v w es p) (winding_inside u v w p at_p i)
         (winding_below u v w es left closed least enters_not p at_p t
         (turned_negative (determinant_swap_first (whole w) (whole u) p) i.left_of_third))
 
@@ -113,7 +106,7 @@ module _ (u v w : Point) (es : List Edge) (left : IsLeft (whole u) (whole v) (wh
       let straight = on_is_straight p (whole u) (whole w) at_p (whole_is_point u) (whole_is_point w) on in
       winding_law p q at_p at_q (edge u v ∷ edge v w ∷ es) (ear_closed u v w es closed) misses
       ∙ right_of_base q at_q (misses q at_q (on_last_end p q))
-      (triangle_convex u v w q p (whole v) at_q at_p at_v (toward_on p (whole v) at_p at_v n) t (tip_in u v w left))
+      (between_in_triangle u v w q p (whole v) at_q at_p at_v t (middle_in_triangle u v w left) (toward_on p (whole v) at_p at_v n))
       (right_toward (whole u) (whole w) p (whole v) straight (tip_is_right u v w left) n)
 
   -- the ring with the ear winds round each point not at all, or once

@@ -5,14 +5,14 @@ use Rattle.plane.specs.Turn.{IsLeft}
 use Rattle.rings.proofs.FarAway.{AllEnds}
 use Rattle.rings.specs.Edge.{Edge, IsClosed, IsOnSome}
 use Rattle.rings.specs.Inside.{winding}
-use Rattle.ring_laws.specs.Apart.{HasEdge, IsOn, edge}
-use Rattle.ring_laws.specs.Triangle.{IsInTriangle}
 use Rattle.ring_laws.proofs.BaseEnds.{base_ends}
 use Rattle.ring_laws.proofs.EarBase.{base_differs}
 use Rattle.ring_laws.proofs.EarSign.{sign_is_one}
 use Rattle.ring_laws.proofs.EarWinding.{ear_values}
 use Rattle.ring_laws.proofs.Members.{on_each}
-use Rattle.ring_laws.proofs.TwoChains.{IsZeroOrOne}
+use Rattle.ring_laws.proofs.UpToOne.{IsZeroOrOne}
+use Rattle.ring_laws.specs.Apart.{HasEdge, IsOn, edge}
+use Rattle.ring_laws.specs.Triangle.{IsInTriangle}
 
 -- the edges es close the base from u to w of the ear with the tip v; all their ends are as far to the right as v; none of them
 -- enters the triangle of the ear, but at the ends of the base; without the ear the winding number is 0 or s off the edges

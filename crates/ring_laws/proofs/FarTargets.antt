@@ -13,6 +13,7 @@ use Rattle.plane.specs.Point.{IsPoint, IsSame, Point, Triple, whole}
 use Rattle.plane.specs.Segment.{On}
 use Rattle.plane.specs.Turn.{determinant}
 use Rattle.rings.proofs.Combinations.{first_end_by}
+use Rattle.rings.proofs.ExtremePoints.{below_abs}
 use Rattle.rings.proofs.FarAway.{AllEnds, none_crossed_above}
 use Rattle.rings.specs.Edge.{Edge}
 use Rattle.rings.specs.Inside.{winding}
@@ -149,10 +150,6 @@ module _ (p : Triple) (at_p : IsPoint p) (v z : Point) (not_v : ¬ (IsSame (whol
   one_seen a (by_first x) (by_first y) = one_by_first 1 2 (omega arith) x y
   one_seen a (by_last x) (by_last y) = one_by_last 1 2 (omega arith) x y
 
--- a natural number above the size of a number is above it
-above_its_size : (y : ℤ) (n : ℕ) → unsigned_abs y < n → y <ℤ pos n
-above_its_size y n h = omega (arith, ints)
-
 -- a natural number above another is positive
 above_positive : (m n : ℕ) → m < n → pos 0 <ℤ pos n
 above_positive m n h = omega (arith, ints)
@@ -163,6 +160,6 @@ pub far_target : (p : Triple) → IsPoint p → (v z : Point) → ¬ (IsSame (wh
 far_target p at_p v z not_v not_z es =
     let n : ℕ = height es + unsigned_abs p.Y + 1 in
     let size : unsigned_abs p.Y < n = omega arith in
-    let above = above_size p.Y p.W (pos n) at_p (above_positive _ n size) (above_its_size p.Y n size) in
+    let above = above_size p.Y p.W (pos n) at_p (above_positive _ n size) (below_abs p.Y n size) in
     let at = sight p at_p v z not_v not_z es n (omega arith) above in
     one_seen p at_p v z not_v not_z es n (omega arith) above (at 0) (at 1) (at 2)

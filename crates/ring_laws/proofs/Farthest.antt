@@ -1,7 +1,7 @@
 -- Of the chosen points of a list, one with the greatest value.
-use Rattle.std.proofs.Common.{◌⊎◌, inl, inr, refl, sym, ap, subst, ℤ, ◌-ℤ◌, ◌≤ℤ◌, List, [], ◌∷◌, arith}
+use Rattle.std.proofs.Common.{◌⊎◌, inl, inr, refl, sym, ap, subst, ℤ, ◌≤ℤ◌, List, [], ◌∷◌, arith}
 use Rattle.std.proofs.lemmas.Int.{ints}
-use Rattle.integer_algebra.proofs.Signs.{sign, is_negative, is_zero, is_positive}
+use Rattle.integer_algebra.proofs.Signs.{lt_or_le}
 use Rattle.plane.specs.Point.{Point}
 use Rattle.ring_laws.proofs.DistinctPoints.{HasPoint}
 
@@ -11,14 +11,6 @@ pub record Farthest (P : Point → Type 0) (value : Point → ℤ) (ps : List Po
   pub has_point : HasPoint ps point
   pub chosen : P point
   pub farthest : (q : Point) → HasPoint ps q → P q → value q ≤ℤ value point
-
--- an integer is at most another, or the other way round
-at_most_or_least : (a b : ℤ) → (a ≤ℤ b) ⊎ (b ≤ℤ a)
-at_most_or_least a b = elim (sign (a -ℤ b)) [
-  | is_negative h ↦ inl (omega (arith, ints))
-  | is_zero h ↦ inl (omega (arith, ints))
-  | is_positive h ↦ inr (omega (arith, ints))
-]
 
 module _ (P : Point → Type 0) (decide : (p : Point) → P p ⊎ (¬ P p)) (value : Point → ℤ) where
   -- a point that is not chosen changes nothing
@@ -32,12 +24,12 @@ module _ (P : Point → Type 0) (decide : (p : Point) → P p ⊎ (¬ P p)) (val
 
   -- of a chosen point and the farthest of the others one is farther
   farther : (p : Point) (ps : List Point) → P p → Farthest P value ps → Farthest P value (p ∷ ps)
-  farther p ps chosen far = elim (at_most_or_least (value p) (value far.point)) [
-    | inl less ↦ record {
+  farther p ps chosen far = elim (lt_or_le (value p) (value far.point)) [
+    | inl below ↦ record {
       point = far.point;
       has_point = inr far.has_point;
       chosen = far.chosen;
-      farthest = λ q has is. elim has [ inl e ↦ subst (λ (r : Point). value r ≤ℤ value far.point) e less | inr k ↦ far.farthest q k is ];
+      farthest = λ q has is. elim has [ inl e ↦ omega (arith, ints, ap value e) | inr k ↦ far.farthest q k is ];
     }
     | inr more ↦ record {
       point = p;
@@ -66,3 +58,10 @@ module _ (P : Point → Type 0) (decide : (p : Point) → P p ⊎ (¬ P p)) (val
       go (inl chosen) (inr far) = inr (farther p ps chosen far)
       go (inr not) (inl none) = inl (λ q has is. elim has [ inl e ↦ not (subst P (sym e) is) | inr k ↦ none q k is ])
       go (inr not) (inr far) = inr (past p ps not far)
+
+-- where all points are chosen, and there is one, there is a farthest
+pub farthest_of : (value : Point → ℤ) (ps : List Point) (p : Point) → HasPoint ps p → Farthest (λ q. Unit {0}) value ps
+farthest_of value ps p has = elim (farthest_or_none (λ q. Unit {0}) (λ q. inl tt) value ps) [
+  | inl none ↦ absurd (none p has tt)
+  | inr far ↦ far
+]

@@ -1,15 +1,15 @@
 -- The cut of a ring from its first vertex v to the farthest vertex in the triangle there, and the two pieces.
-use Rattle.std.proofs.Common.{◌≡◌, inl, inr, refl, subst, ap, ◌∙◌, ◌+◌, ◌<◌, arith}
-use Rattle.std.proofs.Common.{List, [], ◌∷◌, ◌++◌, length}
+use Rattle.std.proofs.Common.{List, [], ◌∷◌, ◌++◌, length, ◌≡◌, inl, inr, refl, subst, ap, ◌∙◌, ◌+◌, ◌<◌, arith}
 use Rattle.std.proofs.lemmas.List.{append_assoc, length-append}
 use Rattle.plane.specs.Point.{Point, whole}
 use Rattle.plane.specs.Turn.{IsLeft}
 use Rattle.rings.specs.Edge.{Edge, edges_of}
-use Rattle.ring_laws.proofs.DistinctPoints.{HasPoint, has_point_cases, has_point_left, has_point_right}
-use Rattle.ring_laws.proofs.EarStep.{is_corner}
 use Rattle.ring_laws.proofs.CornerLaws.{farthest_between, farthest_meets}
+use Rattle.ring_laws.proofs.DistinctPoints.{HasPoint}
+use Rattle.ring_laws.proofs.EarStep.{is_corner}
 use Rattle.ring_laws.proofs.Farthest.{Farthest}
 use Rattle.ring_laws.proofs.FarthestEnd.{InTriangle, height, is_farthest_end, split_at}
+use Rattle.ring_laws.proofs.Items.{has_cases, has_left, has_right}
 use Rattle.ring_laws.proofs.LeastVertex.{NoneBefore}
 use Rattle.ring_laws.proofs.Pieces.{apart_first, apart_second}
 use Rattle.ring_laws.proofs.PiecesMeet.{has_edge_back, has_edge_there}
@@ -61,9 +61,9 @@ farthest_cut v w ms u apart left far =
 
 -- what is among some points and one more is among them with others
 among_more : (p z : Point) (ps qs : List Point) → HasPoint (ps ++ z ∷ []) p → HasPoint (ps ++ z ∷ qs) p
-among_more p z ps qs h = elim (has_point_cases p ps (z ∷ []) h) [
-  | inl k ↦ has_point_left p ps (z ∷ qs) k
-  | inr k ↦ elim k [ inl e ↦ has_point_right p ps (z ∷ qs) (inl e) | inr none ↦ absurd none ]
+among_more p z ps qs h = elim (has_cases p ps (z ∷ []) h) [
+  | inl k ↦ has_left p ps (z ∷ qs) k
+  | inr k ↦ elim k [ inl e ↦ has_right p ps (z ∷ qs) (inl e) | inr none ↦ absurd none ]
 ]
 
 module _ (v w : Point) (ms : List Point) (u z : Point) (cs ds : List Point) (cut : IsCutFrom v w ms u z cs ds)
@@ -93,4 +93,4 @@ module _ (v w : Point) (ms : List Point) (u z : Point) (cs ds : List Point) (cut
         let qs : List Point = ds ++ u ∷ [] in
         law v z ds u refl
         (apart_second v ps z qs apart_regrouped (λ e has. cut.meets e (has_edge_back v ps z qs apart_regrouped e has)))
-        (λ p has. least_regrouped p (has_point_right p ps (z ∷ qs) has)) cut.left_of_last
+        (λ p has. least_regrouped p (has_right p ps (z ∷ qs) has)) cut.left_of_last

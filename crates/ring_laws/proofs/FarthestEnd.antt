@@ -1,38 +1,14 @@
 -- The vertex in the triangle at the first vertex of a ring that is farthest from the triangle's base.
-use Rattle.std.proofs.Common.{◌≡◌, ◌⊎◌, inl, inr, sym, subst, ap, arith}
-use Rattle.std.proofs.Common.{ℤ, pos, ◌<ℤ◌, ◌≤ℤ◌, List, [], ◌∷◌, ◌++◌}
-use Rattle.std.proofs.lemmas.Int.{ints}
-use Rattle.integer_algebra.proofs.Signs.{sign, is_negative, is_zero, is_positive}
-use Rattle.plane.specs.Point.{Point, Triple, whole}
-use Rattle.plane.specs.Turn.{IsRight, determinant}
+use Rattle.std.proofs.Common.{ℤ, ◌≤ℤ◌, List, [], ◌∷◌, ◌++◌, ◌≡◌, ◌⊎◌, inl, inr, sym, subst, ap}
+use Rattle.plane.specs.Point.{Point, whole}
 use Rattle.rings.specs.Edge.{edges_of}
 use Rattle.ring_laws.proofs.Corner.{distinct_corner, has_edge_of_corner}
-use Rattle.ring_laws.proofs.DistinctPoints.{HasPoint, distinct_between, edge_from, end_of_ring, has_point_cases, has_point_left}
 use Rattle.ring_laws.proofs.CornerLaws.{IsFarthestEnd}
+use Rattle.ring_laws.proofs.DistinctPoints.{HasPoint, distinct_between, edge_from, end_of_ring}
 use Rattle.ring_laws.proofs.Farthest.{Farthest}
+use Rattle.ring_laws.proofs.Items.{has_cases, has_left}
 use Rattle.ring_laws.specs.Apart.{IsApartRing}
 use Rattle.ring_laws.specs.Triangle.{IsInTriangle, height_over}
-
--- a number is below 0 or not
-below_or_not : (d : ℤ) → (d <ℤ pos 0) ⊎ (¬ (d <ℤ pos 0))
-below_or_not d = elim (sign d) [
-  | is_negative h ↦ inl h
-  | is_zero h ↦ inr (λ k. omega (arith, ints))
-  | is_positive h ↦ inr (λ k. omega (arith, ints))
-]
-
--- a point is in a triangle or not
-pub in_triangle_or_not : (u v w : Point) (x : Triple) → IsInTriangle u v w x ⊎ (¬ IsInTriangle u v w x)
-in_triangle_or_not u v w x =
-    go (below_or_not (determinant (whole u) (whole v) x)) (below_or_not (determinant (whole v) (whole w) x))
-    (below_or_not (determinant (whole w) (whole u) x))
-  where
-    go : IsRight (whole u) (whole v) x ⊎ (¬ IsRight (whole u) (whole v) x) → IsRight (whole v) (whole w) x ⊎ (¬ IsRight (whole v) (whole w) x)
-        → IsRight (whole w) (whole u) x ⊎ (¬ IsRight (whole w) (whole u) x) → IsInTriangle u v w x ⊎ (¬ IsInTriangle u v w x)
-    go (inr h) (inr k) (inr l) = inl (record { not_right_of_first = h; not_right_of_second = k; not_right_of_third = l })
-    go (inr h) (inr k) (inl l) = inr (λ is. is.not_right_of_third l)
-    go (inr h) (inl k) l = inr (λ is. is.not_right_of_second k)
-    go (inl h) k l = inr (λ is. is.not_right_of_first h)
 
 -- a list is split at each of its points
 pub split_at : (p : Point) (ps : List Point) → HasPoint ps p → (cs : List Point) × (ds : List Point) × (ps ≡ cs ++ p ∷ ds)
@@ -53,7 +29,7 @@ module _ (v w : Point) (ms : List Point) (u : Point) (apart : IsApartRing (v ∷
   pub is_farthest_end : IsFarthestEnd (edges_of (v ∷ w ∷ (ms ++ u ∷ []))) u v w far.point
   is_farthest_end =
       let differ = distinct_corner v w ms u apart in
-      let in_rest = has_point_left far.point ms (u ∷ []) far.has_point in
+      let in_rest = has_left far.point ms (u ∷ []) far.has_point in
       let (e, has, from) = edge_from far.point w ms u (inr far.has_point) in
       record {
         in_triangle = far.chosen;
@@ -70,7 +46,7 @@ module _ (v w : Point) (ms : List Point) (u : Point) (apart : IsApartRing (v ∷
           → (y ≡ u) ⊎ (y ≡ v) ⊎ (y ≡ w) ⊎ (height u w y ≤ℤ height u w far.point)
       go y (inl is) within = inr (inl (sym is))
       go y (inr (inl is)) within = inr (inr (inl (sym is)))
-      go y (inr (inr h)) within = elim (has_point_cases y ms (u ∷ []) h) [
+      go y (inr (inr h)) within = elim (has_cases y ms (u ∷ []) h) [
         | inl k ↦ inr (inr (inr (far.farthest y k within)))
         | inr k ↦ elim k [ inl is ↦ inl (sym is) | inr nothing ↦ absurd nothing ]
       ]

@@ -11,10 +11,12 @@ use Rattle.rings.proofs.Combinations.{on_nested}
 use Rattle.rings.proofs.Nearness.{shrink, toward, toward_differs, toward_is_point, toward_on}
 use Rattle.rings.specs.Across.{Misses}
 use Rattle.rings.specs.Edge.{Edge, IsOnSome, edges_along, edges_of}
+use Rattle.ring_laws.proofs.CommonEnds.{end_of_first}
 use Rattle.ring_laws.proofs.DistinctPoints.{AreDistinct, HasPoint, distinct_between, distinct_right, distinct_vertices}
-use Rattle.ring_laws.proofs.Members.{edge_with, has_edge_cases, has_edge_left, has_edge_right}
+use Rattle.ring_laws.proofs.Items.{has_cases, has_left, has_right}
+use Rattle.ring_laws.proofs.Members.{edge_with}
 use Rattle.ring_laws.proofs.SimpleIsApart.{same_or_not}
-use Rattle.ring_laws.specs.Apart.{HasEdge, IsApartRing, IsCommonEnd, IsOn}
+use Rattle.ring_laws.specs.Apart.{HasEdge, IsApartRing, IsOn}
 
 -- ---- each edge stands once in a ring
 
@@ -54,7 +56,7 @@ unfolding starts
 others_differ before after e f distinct has same =
     let from = λ (g : Edge). g.from in
     let parts = subst AreDistinct (map-append from before (e ∷ after)) distinct in
-    elim (has_edge_cases f before after has) [
+    elim (has_cases f before after has) [
       | inl k ↦ distinct_between (starts before) (starts (e ∷ after)) parts f.from (has_start f before k) (inl (ap from same))
       | inr k ↦ (distinct_right (starts before) (starts (e ∷ after)) parts).0 (subst (HasPoint (starts after)) (sym (ap from same)) (has_start f after k))
     ]
@@ -82,19 +84,13 @@ module _ (ring : List Point) (apart : IsApartRing ring) (e : Edge) (has : HasEdg
       let member : HasEdge (edges_of ring) f = subst (λ es. HasEdge es f) (sym rest.are) (within rest.before rest.after f has_f) in
       elim (apart.apart e f has member) [
         | inl same ↦ differ same
-        | inr meets ↦ inner (meets x at on on_f)
+        | inr meets ↦ elim (end_of_first e f x (meets x at on on_f)) [ inl is ↦ not_from is | inr is ↦ not_to is ]
       ]
     where
       within : (before after : List Edge) (f : Edge) → HasEdge (before ++ after) f → HasEdge (before ++ e ∷ after) f
-      within before after f h = elim (has_edge_cases f before after h) [
-        | inl k ↦ has_edge_left f before (e ∷ after) k
-        | inr k ↦ has_edge_right f before (e ∷ after) (inr k)
-      ]
-
-      inner : {f : Edge} → IsCommonEnd e f x → ⊥
-      inner c = elim c.of_first [
-        | inl is ↦ not_from (subst (λ (p : Point). IsSame x (whole p)) (sym is) c.same)
-        | inr is ↦ not_to (subst (λ (p : Point). IsSame x (whole p)) (sym is) c.same)
+      within before after f h = elim (has_cases f before after h) [
+        | inl k ↦ has_left f before (e ∷ after) k
+        | inr k ↦ has_right f before (e ∷ after) (inr k)
       ]
 
 -- ---- near a point of an edge

@@ -13,7 +13,8 @@ use Rattle.rings.proofs.Vertices.{vertex_in_range}
 use Rattle.rings.specs.Orientation.{turn_at}
 use Rattle.rings.specs.Ring.{origin, vertex}
 use Rattle.ring_laws.proofs.Corner.{distinct_corner, has_edge_of_corner}
-use Rattle.ring_laws.proofs.DistinctPoints.{AreDistinct, HasPoint, has_point_right}
+use Rattle.ring_laws.proofs.DistinctPoints.{HasPoint}
+use Rattle.ring_laws.proofs.Items.{has_right}
 use Rattle.ring_laws.proofs.LeastVertex.{NoneBefore}
 use Rattle.ring_laws.specs.Apart.{IsApartRing, IsCommonEnd, edge}
 
@@ -31,21 +32,17 @@ module _ (v w : Point) (ms : List Point) (u : Point) where
       λ i. determinant (whole (last i)) (whole (first i)) (whole (second i))
 
   module _ (apart : IsApartRing (v ∷ w ∷ (ms ++ u ∷ []))) where
-    -- the vertices are different:
-    differ : AreDistinct (v ∷ w ∷ (ms ++ u ∷ []))
-    differ = distinct_corner v w ms u apart
-
-    -- u is not v,
+    -- the vertices are different: u is not v,
     pub last_not_first : ¬ (u ≡ v)
-    last_not_first e = differ.0 (inr (subst (HasPoint (ms ++ u ∷ [])) e (has_point_right u ms (u ∷ []) (inl refl))))
+    last_not_first e = (distinct_corner v w ms u apart).0 (inr (subst (HasPoint (ms ++ u ∷ [])) e (has_right u ms (u ∷ []) (inl refl))))
 
     -- nor w,
     pub last_not_second : ¬ (u ≡ w)
-    last_not_second e = differ.1.0 (subst (HasPoint (ms ++ u ∷ [])) e (has_point_right u ms (u ∷ []) (inl refl)))
+    last_not_second e = (distinct_corner v w ms u apart).1.0 (subst (HasPoint (ms ++ u ∷ [])) e (has_right u ms (u ∷ []) (inl refl)))
 
     -- and v is not w
     pub first_not_second : ¬ (v ≡ w)
-    first_not_second e = differ.0 (inl (sym e))
+    first_not_second e = (distinct_corner v w ms u apart).0 (inl (sym e))
 
     -- a whole point on both edges at v is v
     only_first : (p : Point) → On (whole p) (whole u) (whole v) → On (whole p) (whole v) (whole w) → p ≡ v
@@ -71,7 +68,7 @@ module _ (v w : Point) (ms : List Point) (u : Point) where
             last_not_first (only_first u (on_first_end (whole u) (whole v))
             (on_segment_from u v w (straight_shift (whole u) (whole v) (whole w) straight) (record {
               not_after = λ h. before_asym u w less h.1;
-              not_before = λ h. least u (inr (has_point_right u ms (u ∷ []) (inl refl))) h.0;
+              not_before = λ h. least u (inr (has_right u ms (u ∷ []) (inl refl))) h.0;
             })))
         go (equal e) = last_not_second e
         go (after less) =

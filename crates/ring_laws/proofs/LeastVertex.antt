@@ -6,7 +6,8 @@ use Rattle.plane.specs.Order.{IsBefore}
 use Rattle.plane.specs.Point.{Point}
 use Rattle.rings.proofs.Vertices.{vertex_in_range}
 use Rattle.rings.specs.Ring.{origin, vertex}
-use Rattle.ring_laws.proofs.DistinctPoints.{HasPoint, has_point_number, number_of_point}
+use Rattle.ring_laws.proofs.DistinctPoints.{HasPoint}
+use Rattle.ring_laws.proofs.Items.{has_number, number_of}
 use Rattle.ring_laws.specs.Winding.{IsLeastVertex}
 
 -- no point of the list is before v
@@ -31,7 +32,7 @@ least_point p (q ∷ qs) =
 -- no point of a ring is before a least vertex
 pub none_before_least : (ring : List Point) (i : ℕ) → IsLeastVertex ring i → NoneBefore ring (vertex ring i)
 none_before_least ring i least p has h =
-    let (j, within, is) = number_of_point ring p has in
+    let (j, within, is) = number_of ring p has in
     least j within (subst (λ (q : Point). IsBefore q (vertex ring i)) (sym (vertex_in_range ring j origin within ∙ is origin)) h)
 
 -- each ring that is not empty has a least vertex
@@ -40,13 +41,13 @@ least_vertex [] some = absurd (omega arith)
 least_vertex (p ∷ ps) some =
     let ring : List Point = p ∷ ps in
     let (v, has, least) = least_point p ps in
-    let (i, within, is) = number_of_point ring v has in
+    let (i, within, is) = number_of ring v has in
     let at : vertex ring i ≡ v = vertex_in_range ring i origin within ∙ is origin in (
       i,
       within,
       λ j inside h.
           least (vertex ring j)
-          (subst (HasPoint ring) (sym (vertex_in_range ring j origin inside)) (has_point_number ring j origin inside))
+          (subst (HasPoint ring) (sym (vertex_in_range ring j origin inside)) (has_number ring j origin inside))
           (subst (IsBefore (vertex ring j)) at h),
     )
 

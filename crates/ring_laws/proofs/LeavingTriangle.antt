@@ -1,7 +1,7 @@
 -- A way out of a closed triangle: the point at which it leaves, and the side that this point is on.
 use Rattle.std.proofs.Common.{◌≡◌, ◌⊎◌, inl, inr, refl, sym, subst, ◌∙◌, ℤ, pos, ◌+ℤ◌, ◌-ℤ◌, ◌*ℤ◌, neg_ℤ, ◌<ℤ◌, ◌≤ℤ◌, arith}
 use Rattle.std.proofs.lemmas.Int.{ints}
-use Rattle.integer_algebra.proofs.Laws.{mul_comm, neg-mul}
+use Rattle.integer_algebra.proofs.Laws.{mul_comm}
 use Rattle.integer_algebra.proofs.Signs.{factor_positive, mul_negative, mul_nonnegative, mul_positive, lt_or_le}
 use Rattle.plane.proofs.Segments.{on_first_end, on_last_end}
 use Rattle.plane.proofs.Vectors.{IsCombination, determinant_along, on_of_combination}
@@ -9,24 +9,17 @@ use Rattle.plane.specs.Point.{IsPoint, Point, Triple, whole}
 use Rattle.plane.specs.Segment.{On}
 use Rattle.plane.specs.Turn.{IsRight, IsStraight, determinant}
 use Rattle.rings.proofs.Combinations.{on_nested}
+use Rattle.rings.proofs.FirstMeeting.{no_value, weighed_sum, zero_point}
 use Rattle.rings.proofs.SignSteps.{not_both, one_positive, opposite_positive, weak, zero_not_negative}
-use Rattle.ring_laws.proofs.Triangles.{in_triangle, not_negative, not_right_between}
+use Rattle.ring_laws.proofs.Triangles.{in_triangle, not_right_between}
 use Rattle.ring_laws.specs.Triangle.{IsInTriangle, height_over}
 
 -- ---- numbers
-
--- a difference of multiples as a sum
-weighed_sum : (f g x y : ℤ) → pos 1 *ℤ (f *ℤ y -ℤ g *ℤ x) ≡ neg_ℤ g *ℤ x +ℤ f *ℤ y
-weighed_sum f g x y = omega (arith, ints, neg-mul g x)
 
 -- a multiple that is not negative, less one that is
 weights_apart : (f g v w : ℤ) → pos 0 ≤ℤ f → g <ℤ pos 0 → pos 0 <ℤ v → pos 0 <ℤ w → pos 0 <ℤ (f *ℤ w -ℤ g *ℤ v)
 weights_apart f g v w hf hg hv hw =
     omega (arith, ints, mul_nonnegative f w hf (weak hw), mul_negative v g hv hg, mul_comm v g)
-
--- a functional is 0 where its values at the ends are their own weights
-no_value : (z f g : ℤ) → pos 1 *ℤ z ≡ neg_ℤ g *ℤ f +ℤ f *ℤ g → z ≡ pos 0
-no_value z f g e = omega (arith, ints, neg-mul g f, mul_comm g f)
 
 -- a mean of a number that is not negative and a positive one that has weight
 pub mean_rises : (k l m z f g : ℤ) → pos 0 <ℤ k → pos 0 ≤ℤ l → pos 0 <ℤ m → k *ℤ z ≡ l *ℤ f +ℤ m *ℤ g → pos 0 ≤ℤ f → pos 0 <ℤ g → pos 0 <ℤ z
@@ -43,10 +36,6 @@ record Clip (s t x y : Triple) : Type 0 where
   ending : (IsStraight s t point × IsRight s t y) ⊎ (point ≡ y)
   rises : pos 0 <ℤ determinant s t x → (a b : Triple) → pos 0 ≤ℤ determinant a b x → pos 0 <ℤ determinant a b y
       → pos 0 <ℤ determinant a b point
-
--- the point between x and y at which a functional with the values f and g there is 0
-abbrev zero_point : (f g : ℤ) → Triple → Triple → Triple
-zero_point f g x y = record { X = f *ℤ y.X -ℤ g *ℤ x.X; Y = f *ℤ y.Y -ℤ g *ℤ x.Y; W = f *ℤ y.W -ℤ g *ℤ x.W }
 
 -- it is a combination of the two
 zero_combination : (f g : ℤ) (x y : Triple) → pos 0 ≤ℤ f → g <ℤ pos 0 → IsCombination (zero_point f g x y) x y
@@ -110,14 +99,6 @@ module _ (u v w : Point) where
         ⊎ (IsStraight (whole v) (whole w) point × IsRight (whole v) (whole w) a)
     pub high : pos 0 <ℤ height_over u w a → pos 0 <ℤ height_over u w point
 
-  -- a point of the triangle on the way from x to a, on some side
-  pub record Leaving (x a : Triple) : Type 0 where
-    pub point : Triple
-    pub rational : IsPoint point
-    pub on_way : On point x a
-    pub inside : IsInTriangle u v w point
-    pub side : IsStraight (whole u) (whole v) point ⊎ IsStraight (whole v) (whole w) point ⊎ IsStraight (whole w) (whole u) point
-
   module _ (x a : Triple) (at_x : IsPoint x) (at_a : IsPoint a) (outside : ¬ IsInTriangle u v w a) where
     -- where x is strictly left of the first two sides, and neither x nor a is right of the third
     module _ (first : pos 0 <ℤ determinant (whole u) (whole v) x) (second : pos 0 <ℤ determinant (whole v) (whole w) x)
@@ -155,34 +136,3 @@ module _ (u v w : Point) where
                 absurd (not_both right
                 (not_right_between (whole v) (whole w) p.point x a p.rational at_x at_a (weak second) h p.on_way))
           ]
-
-    -- in any case the way from a point of the triangle leaves it by some side
-    pub leaving : IsInTriangle u v w x → Leaving x a
-    leaving inside =
-        let first = not_negative inside.not_right_of_first in
-        let second = not_negative inside.not_right_of_second in
-        let third = not_negative inside.not_right_of_third in
-        let p = clip (whole u) (whole v) x a at_x at_a first in
-        let q = clip (whole v) (whole w) x p.point at_x p.rational second in
-        let r = clip (whole w) (whole u) x q.point at_x q.rational third in
-        let q_first = not_right_between (whole u) (whole v) q.point x p.point q.rational at_x p.rational first p.not_right q.on_way in
-        let r_first = not_right_between (whole u) (whole v) r.point x q.point r.rational at_x q.rational first q_first r.on_way in
-        let r_second = not_right_between (whole v) (whole w) r.point x q.point r.rational at_x q.rational second q.not_right r.on_way in
-        let there = in_triangle u v w r.point r_first r_second r.not_right in
-        let q_way = on_nested q.point x p.point x a q.rational at_x p.rational at_x at_a (on_first_end x a) p.on_way q.on_way in
-        record {
-          point = r.point;
-          rational = r.rational;
-          on_way = on_nested r.point x q.point x a r.rational at_x q.rational at_x at_a (on_first_end x a) q_way r.on_way;
-          inside = there;
-          side = elim r.ending [
-            | inl k ↦ inr (inr k.0)
-            | inr e ↦ elim q.ending [
-              | inl k ↦ inr (inl (subst (λ (z : Triple). IsStraight (whole v) (whole w) z) (sym e) k.0))
-              | inr f ↦ elim p.ending [
-                | inl k ↦ inl (subst (λ (z : Triple). IsStraight (whole u) (whole v) z) (sym (e ∙ f)) k.0)
-                | inr g ↦ absurd (outside (subst (λ (z : Triple). IsInTriangle u v w z) (e ∙ (f ∙ g)) there))
-              ]
-            ]
-          ];
-        }

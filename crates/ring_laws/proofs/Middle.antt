@@ -1,80 +1,56 @@
--- The middle of a segment, and its two halves.
-use Rattle.std.proofs.Common.{◌≡◌, ◌⊎◌, inl, inr, [], ◌∷◌, refl, sym, ap, ◌∙◌, ℤ, pos, ◌+ℤ◌, ◌-ℤ◌, ◌*ℤ◌, ◌<ℤ◌, ◌≤ℤ◌, arith}
+-- The middle of the segment between two whole points.
+use Rattle.std.proofs.Common.{◌≡◌, refl, pos, ◌+ℤ◌, arith}
 use Rattle.std.proofs.lemmas.Int.{ints}
-use Rattle.integer_algebra.proofs.Laws.{mul_assoc}
-use Rattle.integer_algebra.proofs.Polynomial.{var, ◌⊕◌, ◌⊖◌, ◌⊗◌, same_value}
-use Rattle.integer_algebra.proofs.Signs.{lt_or_le, mul_nonnegative}
-use Rattle.plane.proofs.Vectors.{IsCombination, combination_of, on_of_combination}
-use Rattle.plane.specs.Point.{IsPoint, Triple}
+use Rattle.plane.proofs.Order.{same_coordinates}
+use Rattle.plane.proofs.Same.{whole_is_point}
+use Rattle.plane.proofs.Vectors.{on_of_combination}
+use Rattle.plane.specs.Point.{IsPoint, IsSame, Point, Triple, whole}
 use Rattle.plane.specs.Segment.{On}
+use Rattle.rings.proofs.SignSteps.{natural_not_negative, one_positive}
+use Rattle.ring_laws.proofs.Sides.{IsWithin}
 
--- one coordinate: k z = l y + m t and s x = y + t
-half : (k l m s z y t x : ℤ) → k *ℤ z ≡ l *ℤ y +ℤ m *ℤ t → s *ℤ x ≡ y +ℤ t → k *ℤ z ≡ (l -ℤ m) *ℤ y +ℤ (m *ℤ s) *ℤ x
-half k l m s z y t x e f =
-    e
-    ∙ same_value (var 0 ⊗ var 2 ⊕ var 1 ⊗ var 3) ((var 0 ⊖ var 1) ⊗ var 2 ⊕ var 1 ⊗ (var 2 ⊕ var 3)) (l ∷ m ∷ y ∷ t ∷ []) refl
-    ∙ ap (λ n. (l -ℤ m) *ℤ y +ℤ m *ℤ n) (sym f)
-    ∙ ap (λ n. (l -ℤ m) *ℤ y +ℤ n) (sym (mul_assoc m s x))
+-- the middle of the segment from u to w
+abbrev pub middle : Point → Point → Triple
+middle u w = record { X = u.x +ℤ w.x; Y = u.y +ℤ w.y; W = pos 2 }
 
--- s x = y + t as triples, where s is positive
-pub record IsMiddle (x y t : Triple) : Type 0 where
-  pub s : ℤ
-  pub s_positive : pos 0 <ℤ s
-  pub in_X : s *ℤ x.X ≡ y.X +ℤ t.X
-  pub in_Y : s *ℤ x.Y ≡ y.Y +ℤ t.Y
-  pub in_W : s *ℤ x.W ≡ y.W +ℤ t.W
-
--- a point to which the first end gives at least as much as the last is between the first end and the middle
-first_half : (z x y t : Triple) → IsMiddle x y t → (c : IsCombination z y t) → c.m ≤ℤ c.l → IsCombination z y x
-first_half z x y t h c more = record {
-  k = c.k;
-  l = c.l -ℤ c.m;
-  m = c.m *ℤ h.s;
-  k_positive = c.k_positive;
-  l_nonnegative = omega (arith, ints);
-  m_nonnegative = mul_nonnegative c.m h.s c.m_nonnegative (omega (arith, ints, h.s_positive));
-  in_X = half c.k c.l c.m h.s z.X y.X t.X x.X c.in_X h.in_X;
-  in_Y = half c.k c.l c.m h.s z.Y y.Y t.Y x.Y c.in_Y h.in_Y;
-  in_W = half c.k c.l c.m h.s z.W y.W t.W x.W c.in_W h.in_W;
+-- it is within the segment
+pub middle_within : (u w : Point) → IsWithin (middle u w) (whole u) (whole w)
+middle_within u w = record {
+  combination = record {
+    k = pos 1;
+    l = pos 1;
+    m = pos 1;
+    k_positive = one_positive;
+    l_nonnegative = natural_not_negative 1;
+    m_nonnegative = natural_not_negative 1;
+    in_X = omega (arith, ints);
+    in_Y = omega (arith, ints);
+    in_W = refl;
+  };
+  first_weighs = one_positive;
+  last_weighs = one_positive;
 }
 
--- ends that change places, in one coordinate
-exchanged : (k l m z y t : ℤ) → k *ℤ z ≡ l *ℤ y +ℤ m *ℤ t → k *ℤ z ≡ m *ℤ t +ℤ l *ℤ y
-exchanged k l m z y t e = omega (arith, ints)
+-- where the middle is the first end, the ends are equal,
+pub middle_first : (u w : Point) → IsSame (middle u w) (whole u) → u ≡ w
+middle_first u w s =
+    let ex = s.same_x in
+    let ey = s.same_y in
+    same_coordinates u w (omega (arith, ints)) (omega (arith, ints))
 
--- so it is for a combination,
-abbrev combination_swapped : (z y t : Triple) → IsCombination z y t → IsCombination z t y
-combination_swapped z y t c = record {
-  k = c.k;
-  l = c.m;
-  m = c.l;
-  k_positive = c.k_positive;
-  l_nonnegative = c.m_nonnegative;
-  m_nonnegative = c.l_nonnegative;
-  in_X = exchanged c.k c.l c.m z.X y.X t.X c.in_X;
-  in_Y = exchanged c.k c.l c.m z.Y y.Y t.Y c.in_Y;
-  in_W = exchanged c.k c.l c.m z.W y.W t.W c.in_W;
-}
+-- and so they are where it is the last
+pub middle_last : (u w : Point) → IsSame (middle u w) (whole w) → u ≡ w
+middle_last u w s =
+    let ex = s.same_x in
+    let ey = s.same_y in
+    same_coordinates u w (omega (arith, ints)) (omega (arith, ints))
 
--- and for a middle
-middle_swapped : (x y t : Triple) → IsMiddle x y t → IsMiddle x t y
-middle_swapped x y t h = record {
-  s = h.s;
-  s_positive = h.s_positive;
-  in_X = omega (arith, ints, h.in_X);
-  in_Y = omega (arith, ints, h.in_Y);
-  in_W = omega (arith, ints, h.in_W);
-}
+-- the middle is a rational point
+pub middle_is_point : (u w : Point) → IsPoint (middle u w)
+middle_is_point u w = omega (arith, ints)
 
--- a strict order is an order
-weak_order : {y z : ℤ} → y <ℤ z → y ≤ℤ z
-weak_order h = omega (arith, ints)
-
--- a point of a segment is in its first half or in its last
-pub on_half : (z x y t : Triple) → IsPoint z → IsPoint x → IsPoint y → IsPoint t → IsMiddle x y t → On z y t → On z y x ⊎ On z t x
-on_half z x y t at_z at_x at_y at_t h on =
-    let c = combination_of z y t at_z at_y at_t on in
-    elim (lt_or_le c.l c.m) [
-      | inl less ↦ inr (on_of_combination z t x at_z at_t at_x (first_half z x t y (middle_swapped x y t h) (combination_swapped z y t c) (weak_order less)))
-      | inr more ↦ inl (on_of_combination z y x at_z at_y at_x (first_half z x y t h c more))
-    ]
+-- it is on the segment
+pub middle_on : (u w : Point) → On (middle u w) (whole u) (whole w)
+middle_on u w =
+    on_of_combination (middle u w) (whole u) (whole w) (middle_is_point u w) (whole_is_point u) (whole_is_point w)
+    (middle_within u w).combination

@@ -13,6 +13,7 @@ use Rattle.plane.specs.Segment.{On}
 use Rattle.plane.specs.Turn.{IsLeft, determinant}
 use Rattle.rings.proofs.SignSteps.{mean_negative, mean_not_positive, not_both, not_both_positive, weak, zero_not_positive}
 use Rattle.rings.specs.Edge.{Edge}
+use Rattle.ring_laws.proofs.BeyondLine.{negative_at_most}
 use Rattle.ring_laws.proofs.SidesAtVertex.{at_first, at_last, at_middle, meets_first, meets_second, way_out}
 use Rattle.ring_laws.proofs.Triangles.{height_of_first, height_of_last, in_or_not, not_negative, on_first_side, on_second_side}
 use Rattle.ring_laws.specs.Apart.{AreApart, HasEdge, HasEnd, IsCommonEnd, IsOn}
@@ -27,10 +28,6 @@ zero_between {z} h n = elim (sign z) [
   | is_zero e ↦ e
   | is_positive k ↦ absurd (n k)
 ]
-
--- a negative number is not positive
-below_not_positive : {z : ℤ} → z <ℤ pos 0 → z ≤ℤ pos 0
-below_not_positive h = omega (arith, ints)
 
 -- a negative number has no weight in a mean with 0 that is not negative
 weightless : (k l m z f g : ℤ) → pos 0 <ℤ k → pos 0 ≤ℤ l → f <ℤ pos 0 → g ≡ pos 0 → pos 0 ≤ℤ z
@@ -82,8 +79,8 @@ module _ (es : List Edge) (apart : AreApart es) (u v w : Point) (left : IsLeft (
         | inr outside ↦ elim (way_out es apart u v w first second e has left x at_x on_edge x_first x_second low a end outside
             high) [
               | at_middle h ↦ absurd (off h)
-              | at_first h right flat ↦ by_first (zero_between high flat) h (below_not_positive right)
-              | at_last h right flat ↦ by_last (zero_between high flat) h (below_not_positive right)
+              | at_first h right flat ↦ by_first (zero_between high flat) h (negative_at_most right)
+              | at_last h right flat ↦ by_last (zero_between high flat) h (negative_at_most right)
             ]
       ]
 

@@ -10,11 +10,11 @@ use Rattle.rings.proofs.SamePoint.{on_some_same}
 use Rattle.rings.specs.Across.{Misses}
 use Rattle.rings.specs.Edge.{Edge, IsOnSome, edges_along, edges_of}
 use Rattle.rings.specs.Inside.{winding}
-use Rattle.ring_laws.specs.Apart.{HasEdge, IsOn, edge}
-use Rattle.ring_laws.proofs.PointLists.{first_on_along, last_on_along}
-use Rattle.ring_laws.proofs.TwoChains.{ArePieces, IsNeither, chain_on_piece, not_between}
 use Rattle.ring_laws.proofs.DistinctPoints.{HasPoint}
 use Rattle.ring_laws.proofs.Members.{on_some_of}
+use Rattle.ring_laws.proofs.PointLists.{first_on_along, last_on_along}
+use Rattle.ring_laws.proofs.TwoChains.{ArePieces, IsNeither, chain_on_piece, not_between}
+use Rattle.ring_laws.specs.Apart.{HasEdge, IsOn, edge}
 
 module _ (v z : Point) (ms ns : List Point) (c : ArePieces v z ms ns) where
   -- ---- one edge of the first chain

@@ -16,10 +16,10 @@ use Rattle.rings.proofs.SignSteps.{not_both_positive, zero_not_positive}
 use Rattle.rings.specs.Across.{Misses}
 use Rattle.rings.specs.Edge.{Edge, IsOnSome, edges_along, edges_of}
 use Rattle.rings.specs.Inside.{winding}
-use Rattle.ring_laws.proofs.BesideChains.{beside_left_toward, both_chains, left_not_on}
-use Rattle.ring_laws.proofs.EarSign.{middle, middle_first, middle_is_point, middle_last, middle_on}
+use Rattle.ring_laws.proofs.BesideChains.{beside_left_toward, both_chains}
+use Rattle.ring_laws.proofs.Middle.{middle, middle_first, middle_is_point, middle_last, middle_on}
+use Rattle.ring_laws.proofs.Sides.{left_not_on, same_straight, stays_left}
 use Rattle.ring_laws.proofs.TwoChains.{ArePieces, IsNeither, chain_off_piece, neither_swapped, swapped}
-use Rattle.ring_laws.proofs.Sides.{same_straight, stays_left}
 
 -- ---- the way to a first hit
 
@@ -53,11 +53,6 @@ left_neither v z y left = record {
       (same_straight (whole v) (whole z) y (whole z) (whole_is_point z) s (determinant_same_last (whole v) (whole z))));
 }
 
--- the middle of the diagonal is neither of its ends
-pub middle_neither : (v z : Point) → ¬ (v ≡ z) → IsNeither v z (middle v z)
-middle_neither v z differ =
-    record { not_first = λ s. differ (middle_first v z s); not_last = λ s. differ (middle_last v z s) }
-
 module _ (v z : Point) (ms ns : List Point) (c : ArePieces v z ms ns) (a b : Point)
     (left : IsLeft (whole v) (whole z) (whole a)) (right : IsRight (whole v) (whole z) (whole b))
     (on_a : IsOnSome (both_chains v z ms ns) (whole a)) where
@@ -67,7 +62,8 @@ module _ (v z : Point) (ms ns : List Point) (c : ArePieces v z ms ns) (a b : Poi
       let m = middle v z in
       let at_m = middle_is_point v z in
       let at_a = whole_is_point a in
-      let p = beside_left_toward v z ms ns c a b left right m at_m (middle_on v z) (middle_neither v z c.differ) (whole a) at_a left in
+      let inner : IsNeither v z m = record { not_first = λ s. c.differ (middle_first v z s); not_last = λ s. c.differ (middle_last v z s) } in
+      let p = beside_left_toward v z ms ns c a b left right m at_m (middle_on v z) inner (whole a) at_a left in
       let s = p.point in
       let h = first_hit s (whole a) p.rational at_a (both_chains v z ms ns) (whole a) at_a (on_last_end s (whole a)) on_a in
       let y = h.point in

@@ -2,43 +2,21 @@
 use Rattle.std.proofs.Common.{◌≡◌, ◌⊎◌, inl, inr, sym, subst, ap, ◌∙◌, ◌+ℤ◌, List, [], ◌∷◌, ◌++◌, arith}
 use Rattle.std.proofs.lemmas.Int.{ints}
 use Rattle.std.proofs.lemmas.List.{append_assoc}
-use Rattle.plane.proofs.Segments.{on_reversed}
-use Rattle.plane.specs.Point.{Point, Triple, whole}
-use Rattle.rings.proofs.Crossings.{crossing_reversed, reversed}
+use Rattle.plane.specs.Point.{Point, Triple}
+use Rattle.rings.proofs.Crossings.{crossing_reversed}
 use Rattle.rings.proofs.Edges.{winding-append}
 use Rattle.rings.proofs.TurnedArea.{swept-append}
 use Rattle.rings.specs.Edge.{Edge, IsOnSome, edges_along, edges_of}
 use Rattle.rings.specs.Inside.{winding}
 use Rattle.rings.specs.Orientation.{doubled_area, swept}
-use Rattle.ring_laws.proofs.DistinctPoints.{AreDistinct, distinct_left, distinct_right, distinct_vertices, has_point_right, vertices_differ}
-use Rattle.ring_laws.proofs.Members.{edge_with, has_edge_cases, has_edge_left, has_edge_right, has_edge_swapped, on_some_of}
+use Rattle.ring_laws.proofs.CommonEnds.{apart_among, apart_more, meet_reversed}
+use Rattle.ring_laws.proofs.DistinctPoints.{AreDistinct, distinct_left, distinct_right, distinct_vertices, vertices_differ}
+use Rattle.ring_laws.proofs.Items.{has_cases, has_left, has_right, has_swapped}
+use Rattle.ring_laws.proofs.Members.{edge_with, on_some_of}
 use Rattle.ring_laws.proofs.Rotated.{edges_along_append}
-use Rattle.ring_laws.proofs.SimpleIsApart.{meet_swapped}
-use Rattle.ring_laws.specs.Apart.{AreApart, HasEdge, IsApartRing, MeetAtEnds}
+use Rattle.ring_laws.specs.Apart.{HasEdge, IsApartRing, MeetAtEnds}
 
 -- ---- edges that are apart
-
--- edges that meet at ends do where one is read backward
-pub meet_reversed : (e d : Edge) → MeetAtEnds e d → MeetAtEnds e (reversed d)
-meet_reversed e d meet x at on_e on_d =
-    let common = meet x at on_e (on_reversed x (whole d.to) (whole d.from) on_d) in
-    record {
-      end = common.end;
-      of_first = common.of_first;
-      of_second = elim common.of_second [ inl k ↦ inr k | inr k ↦ inl k ];
-      same = common.same;
-    }
-
--- edges among some that are apart are so
-pub apart_among : (es fs : List Edge) → ((e : Edge) → HasEdge es e → HasEdge fs e) → AreApart fs → AreApart es
-apart_among es fs among apart e f has_e has_f = apart e f (among e has_e) (among f has_f)
-
--- one more edge is apart from all that it meets at ends
-pub apart_more : (d : Edge) (es : List Edge) → AreApart es → ((e : Edge) → HasEdge es e → MeetAtEnds e d) → AreApart (d ∷ es)
-apart_more d es apart meets e f (inl h) (inl k) = inl (sym h ∙ k)
-apart_more d es apart meets e f (inl h) (inr k) = inr (subst (λ c. MeetAtEnds c f) h (meet_swapped f d (meets f k)))
-apart_more d es apart meets e f (inr h) (inl k) = inr (subst (MeetAtEnds e) k (meets e h))
-apart_more d es apart meets e f (inr h) (inr k) = apart e f h k
 
 -- ---- the cut from v to z
 
@@ -55,8 +33,8 @@ module _ (v : Point) (ps : List Point) (z : Point) (qs : List Point) where
   pub has_edge_cut : (e : Edge) → HasEdge (edges_of (v ∷ (ps ++ z ∷ qs))) e
       → HasEdge (edges_of (v ∷ (ps ++ z ∷ []))) e ⊎ HasEdge (edges_of (v ∷ z ∷ qs)) e
   has_edge_cut e h =
-      elim (has_edge_cases e (edges_along v ps z) (edges_along z qs v) (subst (λ es. HasEdge es e) edges_of_cut h)) [
-        | inl k ↦ inl (subst (λ es. HasEdge es e) (sym edges_of_first) (has_edge_left e (edges_along v ps z) _ k))
+      elim (has_cases e (edges_along v ps z) (edges_along z qs v) (subst (λ es. HasEdge es e) edges_of_cut h)) [
+        | inl k ↦ inl (subst (λ es. HasEdge es e) (sym edges_of_first) (has_left e (edges_along v ps z) _ k))
         | inr k ↦ inr (inr k)
       ]
 
@@ -70,21 +48,14 @@ module _ (v : Point) (ps : List Point) (z : Point) (qs : List Point) where
         | inr k ↦ inr (on_some_of x e (edges_of (v ∷ z ∷ qs)) k on)
       ]
 
-  -- each edge of the first piece is one of the ring or the diagonal,
+  -- each edge of the first piece is one of the ring or the diagonal
   pub has_edge_of_first : (e : Edge) → HasEdge (edges_of (v ∷ (ps ++ z ∷ []))) e
       → HasEdge (edges_of (v ∷ (ps ++ z ∷ qs))) e ⊎ (record { from = z; to = v } ≡ e)
   has_edge_of_first e h =
-      elim (has_edge_cases e (edges_along v ps z) _ (subst (λ es. HasEdge es e) edges_of_first h)) [
-        | inl k ↦ inl (subst (λ es. HasEdge es e) (sym edges_of_cut) (has_edge_left e (edges_along v ps z) (edges_along z qs v) k))
+      elim (has_cases e (edges_along v ps z) _ (subst (λ es. HasEdge es e) edges_of_first h)) [
+        | inl k ↦ inl (subst (λ es. HasEdge es e) (sym edges_of_cut) (has_left e (edges_along v ps z) (edges_along z qs v) k))
         | inr k ↦ elim k [ inl is ↦ inr is | inr none ↦ absurd none ]
       ]
-
-  -- and so is each of the second
-  pub has_edge_of_second : (e : Edge) → HasEdge (edges_of (v ∷ z ∷ qs)) e
-      → HasEdge (edges_of (v ∷ (ps ++ z ∷ qs))) e ⊎ (record { from = v; to = z } ≡ e)
-  has_edge_of_second e (inl is) = inr is
-  has_edge_of_second e (inr k) =
-      inl (subst (λ es. HasEdge es e) (sym edges_of_cut) (has_edge_right e (edges_along v ps z) (edges_along z qs v) k))
 
   -- winding numbers add up
   pub winding_cut : (x : Triple) → winding (edges_of (v ∷ (ps ++ z ∷ qs))) x
@@ -113,7 +84,7 @@ module _ (v : Point) (ps : List Point) (z : Point) (qs : List Point) where
 
     -- and those of the second
     pub distinct_second : AreDistinct (v ∷ z ∷ qs)
-    distinct_second = (λ has. distinct_cut.0 (has_point_right v ps (z ∷ qs) has), distinct_right ps (z ∷ qs) distinct_cut.1)
+    distinct_second = (λ has. distinct_cut.0 (has_right v ps (z ∷ qs) has), distinct_right ps (z ∷ qs) distinct_cut.1)
 
     -- the first piece is apart if its other edges meet the diagonal at ends,
     pub apart_first : ((e : Edge) → HasEdge (edges_along v ps z) e → MeetAtEnds e (record { from = v; to = z })) → IsApartRing (v ∷ (ps ++ z ∷ []))
@@ -122,11 +93,11 @@ module _ (v : Point) (ps : List Point) (z : Point) (qs : List Point) where
       apart =
           let chain = edges_along v ps z in
           let back : Edge = record { from = z; to = v } in
-          let among = λ (e : Edge) (has : HasEdge chain e). subst (λ es. HasEdge es e) (sym edges_of_cut) (has_edge_left e chain (edges_along z qs v) has) in
+          let among = λ (e : Edge) (has : HasEdge chain e). subst (λ es. HasEdge es e) (sym edges_of_cut) (has_left e chain (edges_along z qs v) has) in
           let more = apart_more back chain (apart_among chain (edges_of (v ∷ (ps ++ z ∷ qs))) among apart.apart)
           (λ e has. meet_reversed e (record { from = v; to = z }) (meets e has)) in
           apart_among (edges_of (v ∷ (ps ++ z ∷ []))) (back ∷ chain)
-          (λ e has. has_edge_swapped e chain (back ∷ []) (subst (λ es. HasEdge es e) edges_of_first has)) more;
+          (λ e has. has_swapped e chain (back ∷ []) (subst (λ es. HasEdge es e) edges_of_first has)) more;
     }
 
     -- and so is the second
@@ -135,6 +106,6 @@ module _ (v : Point) (ps : List Point) (z : Point) (qs : List Point) where
       distinct = vertices_differ (v ∷ z ∷ qs) distinct_second;
       apart =
           let chain = edges_along z qs v in
-          let among = λ (e : Edge) (has : HasEdge chain e). subst (λ es. HasEdge es e) (sym edges_of_cut) (has_edge_right e (edges_along v ps z) chain has) in
+          let among = λ (e : Edge) (has : HasEdge chain e). subst (λ es. HasEdge es e) (sym edges_of_cut) (has_right e (edges_along v ps z) chain has) in
           apart_more (record { from = v; to = z }) chain (apart_among chain (edges_of (v ∷ (ps ++ z ∷ qs))) among apart.apart) meets;
     }

@@ -4,9 +4,11 @@ use Rattle.plane.proofs.Same.{same_whole, whole_is_point}
 use Rattle.plane.proofs.Segments.{on_first_end, on_reversed}
 use Rattle.plane.specs.Point.{IsPoint, IsSame, Point, Triple, whole}
 use Rattle.rings.specs.Edge.{Edge, IsOnSome, edges_along, edges_of}
-use Rattle.ring_laws.proofs.DistinctPoints.{HasPoint, distinct_between, edge_from, ends_along, has_point_cases}
-use Rattle.ring_laws.proofs.Members.{edge_with, on_some_of, has_edge_left, has_edge_right}
-use Rattle.ring_laws.proofs.Pieces.{distinct_cut, distinct_second, edges_of_cut, has_edge_of_first, meet_reversed}
+use Rattle.ring_laws.proofs.CommonEnds.{meet_reversed}
+use Rattle.ring_laws.proofs.DistinctPoints.{HasPoint, distinct_between, edge_from, ends_along}
+use Rattle.ring_laws.proofs.Items.{has_cases, has_left, has_right}
+use Rattle.ring_laws.proofs.Members.{edge_with, on_some_of}
+use Rattle.ring_laws.proofs.Pieces.{distinct_cut, distinct_second, edges_of_cut, has_edge_of_first}
 use Rattle.ring_laws.proofs.Rotated.{apart_rotated, has_edge_rotated}
 use Rattle.ring_laws.specs.Apart.{HasEdge, HasEnd, IsApartRing, IsCommonEnd, IsOn, MeetAtEnds, edge}
 
@@ -15,7 +17,7 @@ end_along : (e : Edge) (p v : Point) (ws : List Point) (last : Point) → HasEdg
     → HasPoint (v ∷ ws) p ⊎ (last ≡ p)
 end_along e p v ws last has (inl is) = inl (subst (HasPoint (v ∷ ws)) is (ends_along e v ws last has).0)
 end_along e p v ws last has (inr is) =
-    elim (has_point_cases p ws (last ∷ []) (subst (HasPoint (ws ++ last ∷ [])) is (ends_along e v ws last has).1)) [
+    elim (has_cases p ws (last ∷ []) (subst (HasPoint (ws ++ last ∷ [])) is (ends_along e v ws last has).1)) [
       | inl k ↦ inl (inr k)
       | inr k ↦ elim k [ inl at ↦ inr at | inr none ↦ absurd none ]
     ]
@@ -28,12 +30,12 @@ module _ (v : Point) (ps : List Point) (z : Point) (qs : List Point) (apart : Is
   -- the edges from v to z are edges of the ring,
   pub has_edge_there : (e : Edge) → HasEdge (edges_along v ps z) e → HasEdge (edges_of (v ∷ (ps ++ z ∷ qs))) e
   has_edge_there e h =
-      subst (λ es. HasEdge es e) (sym (edges_of_cut v ps z qs)) (has_edge_left e (edges_along v ps z) (edges_along z qs v) h)
+      subst (λ es. HasEdge es e) (sym (edges_of_cut v ps z qs)) (has_left e (edges_along v ps z) (edges_along z qs v) h)
 
   -- and so are those back
   pub has_edge_back : (e : Edge) → HasEdge (edges_along z qs v) e → HasEdge (edges_of (v ∷ (ps ++ z ∷ qs))) e
   has_edge_back e h =
-      subst (λ es. HasEdge es e) (sym (edges_of_cut v ps z qs)) (has_edge_right e (edges_along v ps z) (edges_along z qs v) h)
+      subst (λ es. HasEdge es e) (sym (edges_of_cut v ps z qs)) (has_right e (edges_along v ps z) (edges_along z qs v) h)
 
   -- a point off the ring and the diagonal is off the first piece,
   pub off_first : (x : Triple) → ¬ IsOnSome (edges_of (v ∷ (ps ++ z ∷ qs))) x → ¬ IsOn (edge v z) x → ¬ IsOnSome (edges_of (v ∷ (ps ++ z ∷ []))) x
@@ -102,9 +104,9 @@ module _ (v : Point) (ps : List Point) (z : Point) (qs : List Point) (apart : Is
         not_z : ¬ (m ≡ z)
         not_z e = (distinct_second v ps z qs apart).1.0 (subst (HasPoint qs) e has)
 
--- and no vertex on the way there is on an edge of the second piece
 module _ (v : Point) (ps : List Point) (z : Point) (qs : List Point) (apart : IsApartRing (v ∷ (ps ++ z ∷ qs)))
     (meets : (e : Edge) → HasEdge (edges_of (v ∷ (ps ++ z ∷ qs))) e → MeetAtEnds e (edge v z)) where
+  -- no vertex on the way there is on an edge of the second piece
   pub off_second_piece : (m : Point) → HasPoint ps m → ¬ IsOnSome (edge v z ∷ edges_along z qs v) (whole m)
   off_second_piece =
       off_first_piece z qs v ps (apart_rotated (v ∷ ps) (z ∷ qs) apart)

@@ -1,10 +1,7 @@
 -- Lists of edges that wind up to once, of which one is made of two others: all three wind the same way, and nowhere twice.
-use Rattle.std.proofs.Common.{◌≡◌, ◌⊎◌, inl, inr, sym, subst, ap, ◌∙◌, ◌<◌, ℤ, pos, negsuc, ◌+ℤ◌, List, ◌∷◌, ◌++◌, length, arith}
-use Rattle.std.proofs.lemmas.Int.{ints}
-use Rattle.plane.proofs.Same.{whole_is_point}
-use Rattle.plane.proofs.Segments.{on_is_straight, on_last_end}
+use Rattle.std.proofs.Common.{◌≡◌, inl, inr, sym, subst, ap, ◌∙◌, ◌<◌, ℤ, pos, ◌+ℤ◌, List, ◌∷◌, ◌++◌, length}
+use Rattle.plane.proofs.Segments.{on_last_end}
 use Rattle.plane.specs.Point.{IsPoint, IsSame, Point, Triple, whole}
-use Rattle.plane.specs.Turn.{IsLeft, IsRight}
 use Rattle.rings.proofs.ClosedLaw.{winding_law, winding_law_crossed}
 use Rattle.rings.proofs.Edges.{closed_edges_of, on_some_cases, on_some_left, on_some_right}
 use Rattle.rings.specs.Across.{Misses}
@@ -12,47 +9,13 @@ use Rattle.rings.specs.Edge.{Edge, IsClosed, IsOnSome, edges_of}
 use Rattle.rings.specs.Inside.{winding}
 use Rattle.ring_laws.proofs.BesideEdge.{BesideEdge, beside_edge}
 use Rattle.ring_laws.proofs.InsideEdge.{InsideNear, inside_near, off_others, other_edges}
+use Rattle.ring_laws.proofs.Sides.{left_not_on, right_not_on}
 use Rattle.ring_laws.proofs.SimpleIsApart.{proper_edges}
+use Rattle.ring_laws.proofs.UpToOne.{IsUnit, no_units}
 use Rattle.ring_laws.specs.Apart.{HasEdge, IsApartRing, IsOn}
 use Rattle.ring_laws.specs.Winding.{WindsUpTo}
 
 -- ---- numbers
-
--- 1 or -1
-abbrev pub IsUnit : ℤ → Type 0
-IsUnit s = (s ≡ pos 1) ⊎ (s ≡ negsuc 0)
-
--- 0 or s
-abbrev pub IsUpTo : ℤ → ℤ → Type 0
-IsUpTo s n = (n ≡ pos 0) ⊎ (n ≡ s)
-
--- left and right of a diagonal: two numbers that make s on both sides, where the second falls by 1, are up to s
-pub same_units : (s t r c d f g : ℤ) → IsUnit s → IsUnit t → IsUnit r → s ≡ c +ℤ f → s ≡ d +ℤ g → f ≡ g +ℤ pos 1
-    → IsUpTo t c → IsUpTo t d → IsUpTo r f → IsUpTo r g → (t ≡ s) × (r ≡ s)
-same_units s t r c d f g hs ht hr left right falls hc hd hf hg = (grind (arith, ints), grind (arith, ints))
-
--- left and right of an edge: a number that falls by 1 and has s as a part on both sides is not up to s, or its other part isn't
-no_units : (s l r c d : ℤ) → IsUnit s → l ≡ s +ℤ c → r ≡ s +ℤ d → l ≡ r +ℤ pos 1 → IsUpTo s l → IsUpTo s r → IsUpTo s c → IsUpTo s d → ⊥
-no_units s l r c d hs left right falls hl hr hc hd = grind (arith, ints)
-
--- left and right of a diagonal: two numbers up to 1 that make n on both sides, where the second falls by 1, make 1
-pub both_up_to_one : (n c d f g : ℤ) → n ≡ c +ℤ f → n ≡ d +ℤ g → f ≡ g +ℤ pos 1
-    → IsUpTo (pos 1) c → IsUpTo (pos 1) d → IsUpTo (pos 1) f → IsUpTo (pos 1) g → n ≡ pos 1
-both_up_to_one n c d f g left right falls hc hd hf hg = grind (arith, ints)
-
--- ---- a point beside an edge is not on it
-
--- a point on an edge is not left of it,
-pub left_not_on : (e : Edge) (x : Triple) → IsPoint x → IsLeft (whole e.from) (whole e.to) x → ¬ IsOn e x
-left_not_on e x at left on =
-    let straight = on_is_straight x (whole e.from) (whole e.to) at (whole_is_point e.from) (whole_is_point e.to) on in
-    omega (arith, ints, left, straight)
-
--- nor right of it
-pub right_not_on : (e : Edge) (x : Triple) → IsPoint x → IsRight (whole e.from) (whole e.to) x → ¬ IsOn e x
-right_not_on e x at right on =
-    let straight = on_is_straight x (whole e.from) (whole e.to) at (whole_is_point e.from) (whole_is_point e.to) on in
-    omega (arith, ints, right, straight)
 
 module _ (before : List Edge) (e : Edge) (after : List Edge) (x : Triple) where
   -- a point on no edge but perhaps one, and not on that one, is on no edge
@@ -102,18 +65,18 @@ module _ (s : ℤ) (unit : IsUnit s) (es xs ys : List Edge) (sum : (x : Triple) 
       left_off : ¬ IsOnSome es h.left
       left_off = subst (λ fs. ¬ IsOnSome fs h.left) (sym are) (off_all before e after h.left
           (λ k. h.misses_left h.left h.left_rational (on_last_end x h.left) (among_first h.left k))
-          (left_not_on e h.left h.left_rational h.crosses.starts_left))
+          (left_not_on e.from e.to h.left h.left_rational h.crosses.starts_left))
 
       right_off : ¬ IsOnSome es h.right
       right_off = subst (λ fs. ¬ IsOnSome fs h.right) (sym are) (off_all before e after h.right
           (λ k. h.misses_right h.right h.right_rational (on_last_end x h.right) (among_first h.right k))
-          (right_not_on e h.right h.right_rational h.crosses.ends_right))
+          (right_not_on e.from e.to h.right h.right_rational h.crosses.ends_right))
 
--- the same for the edges of a ring, at each point of an edge
 module _ (ring : List Point) (apart : IsApartRing ring) (some : 1 < length ring) (s : ℤ) (unit : IsUnit s) (xs ys : List Edge)
     (sum : (x : Triple) → winding (edges_of ring) x ≡ winding xs x +ℤ winding ys x) (closed_xs : IsClosed xs)
     (winds_ring : WindsUpTo s (edges_of ring)) (winds_ys : WindsUpTo s ys)
     (off_ys : (x : Triple) → ¬ IsOnSome (edges_of ring) x → ¬ IsOnSome xs x → ¬ IsOnSome ys x) where
+  -- so it is with the edges of a ring, at each point of an edge
   pub on_edge_not_wound : (e : Edge) → HasEdge (edges_of ring) e → (x : Triple) → IsPoint x → IsOn e x → ¬ IsOnSome xs x → ¬ (winding xs x ≡ s)
   on_edge_not_wound e has x at on off once =
       let rest = other_edges ring apart e has in

@@ -1,7 +1,5 @@
--- The edges along some points: points on them and ends of them; and the greatest of the values at points.
-use Rattle.std.proofs.Common.{◌≡◌, inl, inr, [], ◌∷◌, refl, subst, List, ℤ, ◌≤ℤ◌, arith}
-use Rattle.std.proofs.lemmas.Int.{ints}
-use Rattle.integer_algebra.proofs.Signs.{lt_or_le}
+-- The edges along some points: points on them, and their ends.
+use Rattle.std.proofs.Common.{inl, inr, [], ◌∷◌, refl, subst, List}
 use Rattle.plane.proofs.Segments.{on_first_end, on_last_end}
 use Rattle.plane.specs.Point.{Point, whole}
 use Rattle.rings.proofs.FarAway.{AllEnds}
@@ -32,50 +30,3 @@ all_ends_along P a [] last first rest end = (first, end, tt)
 all_ends_along P a (b ∷ bs) last first rest end =
     let next = rest b (inl refl) in
     (first, next, all_ends_along P b bs last next (λ c h. rest c (inr h)) end)
-
--- ---- the greatest of some values
-
--- a point of the list at which f is greatest
-pub record Greatest (f : Point → ℤ) (bs : List Point) : Type 0 where
-  pub point : Point
-  pub member : HasPoint bs point
-  pub above : (b : Point) → HasPoint bs b → f b ≤ℤ f point
-
--- equal points have equal values
-at_most_same : (f : Point → ℤ) (b c : Point) → b ≡ c → f c ≤ℤ f b
-at_most_same f b c e = subst (λ (d : Point). f d ≤ℤ f b) e (omega (arith, ints))
-
--- one more point, below the greatest,
-greatest_later : (f : Point → ℤ) (b : Point) (bs : List Point) (g : Greatest f bs) → f b ≤ℤ f g.point → Greatest f (b ∷ bs)
-greatest_later f b bs g h = record {
-  point = g.point;
-  member = inr g.member;
-  above = λ c k. elim k [ inl e ↦ subst (λ (d : Point). f d ≤ℤ f g.point) e h | inr k ↦ g.above c k ];
-}
-
--- or above it
-greatest_first : (f : Point → ℤ) (b : Point) (bs : List Point) → ((c : Point) → HasPoint bs c → f c ≤ℤ f b) → Greatest f (b ∷ bs)
-greatest_first f b bs h = record {
-  point = b;
-  member = inl refl;
-  above = λ c k. elim k [ inl e ↦ at_most_same f b c e | inr k ↦ h c k ];
-}
-
--- a greater number is above all that a smaller one is above
-above_later : {x y z : ℤ} → x ≤ℤ y → y ≤ℤ z → x ≤ℤ z
-above_later h k = omega (arith, ints)
-
--- a list with a point has one
-pub greatest : (f : Point → ℤ) (b : Point) (bs : List Point) → Greatest f (b ∷ bs)
-greatest f b [] = greatest_first f b [] (λ c h. absurd h)
-greatest f b (c ∷ bs) =
-    let g = greatest f c bs in
-    elim (lt_or_le (f b) (f g.point)) [
-      | inl below ↦ greatest_later f b (c ∷ bs) g (omega (arith, ints))
-      | inr above ↦ greatest_first f b (c ∷ bs) (λ d h. above_later (g.above d h) above)
-    ]
-
--- so has one that a point is in
-pub greatest_of : (f : Point → ℤ) (bs : List Point) (b : Point) → HasPoint bs b → Greatest f bs
-greatest_of f [] b h = absurd h
-greatest_of f (c ∷ bs) b h = greatest f c bs

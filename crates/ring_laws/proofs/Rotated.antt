@@ -15,7 +15,8 @@ use Rattle.rings.specs.Inside.{IsIn, crossings, winding}
 use Rattle.rings.specs.Orientation.{doubled_area, swept, turn_at}
 use Rattle.rings.specs.Ring.{origin, vertex}
 use Rattle.ring_laws.proofs.DistinctPoints.{distinct_swapped, distinct_vertices, vertices_differ}
-use Rattle.ring_laws.proofs.Members.{has_edge_swapped, on_some_among}
+use Rattle.ring_laws.proofs.Items.{has_swapped}
+use Rattle.ring_laws.proofs.Members.{on_some_among}
 use Rattle.ring_laws.specs.Apart.{HasEdge, IsApartRing}
 
 -- ---- two lists of edges in both orders
@@ -35,7 +36,7 @@ module _ (es fs : List Edge) where
 
   -- and the same points
   pub on_some_swapped : (x : Triple) → IsOnSome (es ++ fs) x → IsOnSome (fs ++ es) x
-  on_some_swapped x = on_some_among x (es ++ fs) (fs ++ es) (λ e. has_edge_swapped e es fs)
+  on_some_swapped x = on_some_among x (es ++ fs) (fs ++ es) (λ e. has_swapped e es fs)
 
   -- they are closed together
   pub closed_swapped : IsClosed (es ++ fs) → IsClosed (fs ++ es)
@@ -83,7 +84,7 @@ module _ (ps qs : List Point) where
   has_edge_rotated e h =
       let orders = in_two_orders ps qs in
       subst (λ es. HasEdge es e) (sym orders.rotated)
-      (has_edge_swapped e orders.first orders.second (subst (λ es. HasEdge es e) orders.are h))
+      (has_swapped e orders.first orders.second (subst (λ es. HasEdge es e) orders.are h))
 
   -- so each point on some edge of it is on one of the rotated ring
   pub on_some_rotated : (x : Triple) → IsOnSome (edges_of (ps ++ qs)) x → IsOnSome (edges_of (qs ++ ps)) x

@@ -1,6 +1,6 @@
 -- Rings that run round once, counterclockwise or clockwise, by the turn at a least vertex.
 use Rattle.std.proofs.Common.{◌≡◌, ◌⊎◌, inl, inr, sym, subst, ap, ◌∙◌, ℕ, ◌+◌, ◌<◌, arith}
-use Rattle.std.proofs.Common.{ℤ, pos, negsuc, neg_ℤ, ◌<ℤ◌, List, [], ◌∷◌, ◌++◌, length, take, drop, reverse}
+use Rattle.std.proofs.Common.{pos, negsuc, ◌<ℤ◌, List, [], ◌∷◌, ◌++◌, length, take, drop, reverse}
 use Rattle.std.proofs.lemmas.Int.{ints}
 use Rattle.std.proofs.lemmas.List.{length-append, length-reverse, length-take-le, take-append-drop}
 use Rattle.integer_algebra.proofs.Signs.{sign, is_negative, is_zero, is_positive}
@@ -11,11 +11,13 @@ use Rattle.rings.proofs.TurnedArea.{doubled_area-turned_round}
 use Rattle.rings.proofs.TurnedInside.{on_some_turned_iff}
 use Rattle.rings.specs.Orientation.{turned_round}
 use Rattle.rings.specs.Ring.{vertex}
-use Rattle.ring_laws.proofs.DistinctPoints.{HasPoint, has_point_cases, has_point_left, has_point_reverse, has_point_right}
+use Rattle.ring_laws.proofs.DistinctPoints.{HasPoint}
+use Rattle.ring_laws.proofs.Items.{has_cases, has_in_order, has_left, has_right}
 use Rattle.ring_laws.proofs.LeastTurn.{turn_at_first, turn_not_straight}
 use Rattle.ring_laws.proofs.LeastVertex.{NoneBefore, from_vertex, none_before_least}
 use Rattle.ring_laws.proofs.Mirrored.{apart_turned, turned_corner, winding_turned}
 use Rattle.ring_laws.proofs.Rotated.{apart_rotated, area_rotated, length_rotated, on_some_rotated, turn_rotated, winding_rotated}
+use Rattle.ring_laws.proofs.UpToOne.{opposites}
 use Rattle.ring_laws.specs.Apart.{IsApartRing}
 use Rattle.ring_laws.specs.Winding.{IsLeastVertex, RunsAsItTurns, RunsClockwise, RunsCounterclockwise}
 
@@ -39,11 +41,6 @@ module _ (ps qs : List Point) where
         subst (λ z. (z ≡ pos 0) ⊎ (z ≡ negsuc 0)) (winding_rotated ps qs x)
         (h.windings x at (λ on. off (on_some_rotated qs ps x on)));
   }
-
--- numbers whose opposites are 0 or 1
-opposites : (a b : ℤ) → b ≡ neg_ℤ a → (b ≡ pos 0) ⊎ (b ≡ pos 1) → (a ≡ pos 0) ⊎ (a ≡ negsuc 0)
-opposites a b e (inl h) = inl (omega (arith, ints))
-opposites a b e (inr h) = inr (omega (arith, ints))
 
 -- a ring that runs counterclockwise the other way round runs clockwise
 clockwise_turned : (ring : List Point) → RunsCounterclockwise (turned_round ring) → RunsClockwise ring
@@ -72,9 +69,9 @@ module _ (n : ℕ) (law : LeftTurnLaw n) where
       (λ p has. least p (back p has)) left))
     where
       back : (p : Point) → HasPoint (u ∷ (reverse ms ++ w ∷ [])) p → HasPoint (w ∷ (ms ++ u ∷ [])) p
-      back p (inl e) = inr (has_point_right p ms (u ∷ []) (inl e))
-      back p (inr h) = elim (has_point_cases p (reverse ms) (w ∷ []) h) [
-        | inl k ↦ inr (has_point_left p ms (u ∷ []) (has_point_reverse p ms k))
+      back p (inl e) = inr (has_right p ms (u ∷ []) (inl e))
+      back p (inr h) = elim (has_cases p (reverse ms) (w ∷ []) h) [
+        | inl k ↦ inr (has_left p ms (u ∷ []) (has_in_order p ms k))
         | inr k ↦ elim k [ inl e ↦ inl e | inr none ↦ absurd none ]
       ]
 
@@ -102,9 +99,9 @@ module _ (n : ℕ) (law : LeftTurnLaw n) where
       ]
     where
       back : (p : Point) → HasPoint (w ∷ (ms ++ u ∷ [])) p → HasPoint (ps ++ qs) p
-      back p has = elim (has_point_cases p qs ps (subst (λ rs. HasPoint rs p) (sym is) (inr has))) [
-        | inl k ↦ has_point_right p ps qs k
-        | inr k ↦ has_point_left p ps qs k
+      back p has = elim (has_cases p qs ps (subst (λ rs. HasPoint rs p) (sym is) (inr has))) [
+        | inl k ↦ has_right p ps qs k
+        | inr k ↦ has_left p ps qs k
       ]
 
   -- a ring with these many vertices runs as it turns at a least vertex

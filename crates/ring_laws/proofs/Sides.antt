@@ -3,14 +3,16 @@ use Rattle.std.proofs.Common.{◌≡◌, ◌⊎◌, inl, inr, ap, ℤ, pos, ◌-
 use Rattle.std.proofs.lemmas.Int.{ints}
 use Rattle.integer_algebra.proofs.Laws.{mul_comm, zero-mul}
 use Rattle.integer_algebra.proofs.Signs.{factor_zero, is_negative, is_positive, is_zero, sign}
+use Rattle.plane.proofs.Same.{whole_is_point}
+use Rattle.plane.proofs.Segments.{on_is_straight}
 use Rattle.plane.proofs.Vectors.{IsCombination, combination_of, determinant_along, determinant_is_linear, weights_positive}
-use Rattle.plane.specs.Point.{IsPoint, IsSame, Triple}
+use Rattle.plane.specs.Point.{IsPoint, IsSame, Point, Triple, whole}
 use Rattle.plane.specs.Segment.{On}
 use Rattle.plane.specs.Turn.{IsLeft, IsRight, IsStraight, determinant}
 use Rattle.rings.proofs.Combinations.{first_end_by, same_without_first, same_without_last}
 use Rattle.rings.proofs.SamePoint.{determinant_same}
 use Rattle.rings.proofs.Separation.{on_or_separated, separated_not_on}
-use Rattle.rings.proofs.SignSteps.{mean_negative, mean_positive, not_both}
+use Rattle.rings.proofs.SignSteps.{mean_negative, mean_positive, not_both, not_both_positive, zero_not_negative, zero_not_positive}
 
 -- ---- points inside a segment
 
@@ -74,3 +76,13 @@ first_end_on_line x p q a b at_x at_p at_q on straight left h =
 -- a point that is the same as one on a line is on the line
 pub same_straight : (a b x y : Triple) → IsPoint y → IsSame x y → IsStraight a b y → IsStraight a b x
 same_straight a b x y at_y s straight = zero_by_weight _ _ _ _ at_y (determinant_same a b x y s) straight
+
+-- a point left of a line is not on a segment of it,
+pub left_not_on : (a b : Point) (p : Triple) → IsPoint p → IsLeft (whole a) (whole b) p → ¬ (On p (whole a) (whole b))
+left_not_on a b p at_p left on =
+    not_both_positive left (zero_not_positive (on_is_straight p (whole a) (whole b) at_p (whole_is_point a) (whole_is_point b) on))
+
+-- nor is one right of it
+pub right_not_on : (a b : Point) (p : Triple) → IsPoint p → IsRight (whole a) (whole b) p → ¬ (On p (whole a) (whole b))
+right_not_on a b p at_p right on =
+    not_both right (zero_not_negative (on_is_straight p (whole a) (whole b) at_p (whole_is_point a) (whole_is_point b) on))

@@ -1,6 +1,5 @@
 -- A simple ring is one with different vertices whose edges share no more than their ends.
-use Rattle.std.proofs.Common.{◌≡◌, ◌⊎◌, inl, inr, refl, sym, subst, ap, ◌∙◌, ℕ, ◌+◌, ◌<◌, ℤ, ◌-ℤ◌, ◌*ℤ◌, arith}
-use Rattle.std.proofs.Common.{List, length}
+use Rattle.std.proofs.Common.{List, length, ◌≡◌, ◌⊎◌, inl, inr, refl, sym, subst, ap, ◌∙◌, ℕ, ◌+◌, ◌<◌, ℤ, ◌-ℤ◌, ◌*ℤ◌, arith}
 use Rattle.std.proofs.lemmas.Bool.{cases_eq, cases_order}
 use Rattle.std.proofs.lemmas.Int.{ints}
 use Rattle.integer_algebra.proofs.Signs.{sign, is_negative, is_zero, is_positive}
@@ -12,6 +11,7 @@ use Rattle.rings.proofs.Vertices.{vertex_round}
 use Rattle.rings.specs.Edge.{Edge, edges_of}
 use Rattle.rings.specs.Ring.{IsOnEdge, vertex}
 use Rattle.rings.specs.Simple.{IsSimple}
+use Rattle.ring_laws.proofs.CommonEnds.{meet_swapped}
 use Rattle.ring_laws.proofs.Members.{edge_number, has_edge_at}
 use Rattle.ring_laws.specs.Apart.{HasEdge, HasEnd, IsApartRing, IsCommonEnd, MeetAtEnds}
 
@@ -40,14 +40,6 @@ same_or_not p q =
     ]
 
 -- ---- the order of two edges
-
--- a common end of two edges is one in the other order
-pub common_end_swapped : (e f : Edge) (x : Triple) → IsCommonEnd e f x → IsCommonEnd f e x
-common_end_swapped e f x h = record { end = h.end; of_first = h.of_second; of_second = h.of_first; same = h.same }
-
--- so edges that meet at ends do in the other order
-pub meet_swapped : (e f : Edge) → MeetAtEnds e f → MeetAtEnds f e
-meet_swapped e f meet x at on_f on_e = common_end_swapped e f x (meet x at on_e on_f)
 
 -- ---- from simple to apart
 

@@ -10,20 +10,21 @@ use Rattle.rings.specs.Edge.{edges_of}
 use Rattle.rings.specs.Simple.{IsSimple}
 use Rattle.ring_laws.proofs.Corner.{area_corner, on_some_corner, swept_triangle, winding_corner}
 use Rattle.ring_laws.proofs.CutStep.{cut_counterclockwise}
-use Rattle.ring_laws.proofs.DistinctPoints.{has_point_right}
 use Rattle.ring_laws.proofs.EarStep.{apart_without, ear_counterclockwise}
 use Rattle.ring_laws.proofs.Farthest.{farthest_or_none}
 use Rattle.ring_laws.proofs.FarthestCut.{IsCutFrom, apart_regrouped, farthest_cut, fewer_vertices, first_runs, ring_regrouped, second_runs}
-use Rattle.ring_laws.proofs.FarthestEnd.{InTriangle, height, in_triangle_or_not}
+use Rattle.ring_laws.proofs.FarthestEnd.{InTriangle, height}
+use Rattle.ring_laws.proofs.Items.{has_right}
 use Rattle.ring_laws.proofs.LeastVertex.{NoneBefore, least_vertex}
 use Rattle.ring_laws.proofs.RunsOnce.{LeftTurnLaw, runs_as_it_turns}
 use Rattle.ring_laws.proofs.SimpleIsApart.{apart_of_simple}
 use Rattle.ring_laws.proofs.TriangleWinding.{triangle_values}
+use Rattle.ring_laws.proofs.Triangles.{in_or_not}
 use Rattle.ring_laws.specs.Apart.{IsApartRing}
 use Rattle.ring_laws.specs.Winding.{IsLeastVertex, RunsAsItTurns, RunsClockwise, RunsCounterclockwise, WindsUpTo}
 
 -- a triangle
-triangle_law : (v w u : Point) → IsLeft (whole u) (whole v) (whole w) → RunsCounterclockwise (v ∷ w ∷ u ∷ [])
+pub triangle_law : (v w u : Point) → IsLeft (whole u) (whole v) (whole w) → RunsCounterclockwise (v ∷ w ∷ u ∷ [])
 triangle_law v w u left = record {
   area = omega (arith, ints, left, area_corner v w [] u, swept_triangle u v w);
   windings = λ x at off.
@@ -48,7 +49,7 @@ module _ (n : ℕ) (fewer : (j : ℕ) → j < n → LeftTurnLaw j) where
       (cut_counterclockwise v (w ∷ cs) z (ds ++ u ∷ []) (apart_regrouped v w ms u z cs ds cut apart) cut.meets
       (first_runs v w ms u z cs ds cut apart least (fewer (length cs) (omega arith)))
       (second_runs v w ms u z cs ds cut apart least (fewer (length ds) (omega arith)))
-      u w (has_point_right u ds (u ∷ []) (inl refl)) (inl refl)
+      u w (has_right u ds (u ∷ []) (inl refl)) (inl refl)
       (omega (arith, ints, cut.left_of_last, determinant_shift (whole u) (whole v) (whole z)))
       (omega (arith, ints, cut.left_of_first, determinant_swap_first (whole z) (whole v) (whole w))))
 
@@ -56,7 +57,7 @@ module _ (n : ℕ) (fewer : (j : ℕ) → j < n → LeftTurnLaw j) where
   step : (v w m : Point) (ks : List Point) (u : Point) → length ks + 1 ≡ n → IsApartRing (v ∷ w ∷ (m ∷ ks ++ u ∷ []))
       → NoneBefore (w ∷ (m ∷ ks ++ u ∷ [])) v → IsLeft (whole u) (whole v) (whole w) → RunsCounterclockwise (v ∷ w ∷ (m ∷ ks ++ u ∷ []))
   step v w m ks u size apart least left =
-      elim (farthest_or_none (InTriangle u v w) (λ p. in_triangle_or_not u v w (whole p)) (height u w) (m ∷ ks)) [
+      elim (farthest_or_none (InTriangle u v w) (λ p. in_or_not u v w (whole p)) (height u w) (m ∷ ks)) [
         | inl none ↦
             ear_counterclockwise v w m ks u apart left none least
             (runs_once (w ∷ (m ∷ ks ++ u ∷ [])) (length ks) (omega arith) (omega (arith, length-append ks (u ∷ [])))

@@ -14,9 +14,10 @@ use Rattle.rings.proofs.FarAway.{AllEnds}
 use Rattle.rings.proofs.SignSteps.{not_both, weak, zero_not_negative}
 use Rattle.rings.specs.Edge.{Edge, IsClosed, IsOnSome, edges_of}
 use Rattle.rings.specs.Inside.{crossing, winding}
-use Rattle.ring_laws.specs.Triangle.{IsInTriangle}
 use Rattle.ring_laws.proofs.BeyondLine.{not_right_on, right_of_all}
-use Rattle.ring_laws.proofs.TrianglePlaces.{IsInside, IsOutside, Place, in_triangle_from, inside, next_left, last_left, on_border, on_first, on_second, on_third, outside, place_of, right_of_first, right_of_second, right_of_third}
+use Rattle.ring_laws.proofs.TrianglePlaces.{IsInside, IsOutside, Place, inside, on_border, on_first, on_second, on_third, outside, place_of, right_of_first, right_of_second, right_of_third}
+use Rattle.ring_laws.proofs.Triangles.{in_triangle, left_at_first, left_at_last}
+use Rattle.ring_laws.specs.Triangle.{IsInTriangle}
 
 -- the sides of a triangle
 abbrev pub triangle : Point → Point → Point → List Edge
@@ -131,7 +132,7 @@ module _ (u v w : Point) (left : IsLeft (whole u) (whole v) (whole w)) where
   corners_by_second =
       let first = zero_not_negative (determinant_same_ends (whole v) (whole w)) in
       let second = zero_not_negative (determinant_same_last (whole v) (whole w)) in
-      let third = weak (next_left u v w left) in
+      let third = weak (left_at_last u v w left) in
       (third, first, (first, second, (second, third, tt)))
 
   -- or of the third
@@ -139,14 +140,14 @@ module _ (u v w : Point) (left : IsLeft (whole u) (whole v) (whole w)) where
   corners_by_third =
       let first = zero_not_negative (determinant_same_ends (whole w) (whole u)) in
       let second = zero_not_negative (determinant_same_last (whole w) (whole u)) in
-      let third = weak (last_left u v w left) in
+      let third = weak (left_at_first u v w left) in
       (second, third, (third, first, (first, second, tt)))
 
   module _ (p : Triple) (at_p : IsPoint p) where
     -- a point on the sides is in the closed triangle
     pub on_sides_in : IsOnSome (triangle u v w) p → IsInTriangle u v w p
     on_sides_in on =
-        in_triangle_from u v w p
+        in_triangle u v w p
         (not_right_on (whole u) (whole v) (triangle u v w) corners_by_first p at_p on)
         (not_right_on (whole v) (whole w) (triangle u v w) corners_by_second p at_p on)
         (not_right_on (whole w) (whole u) (triangle u v w) corners_by_third p at_p on)
@@ -162,7 +163,7 @@ module _ (u v w : Point) (left : IsLeft (whole u) (whole v) (whole w)) where
     winding_not_in n = go (place_of u v w left p at_p)
       where
         go : Place u v w p → winding (triangle u v w) p ≡ pos 0
-        go (inside i) = absurd (n (in_triangle_from u v w p (weak i.left_of_first) (weak i.left_of_second) (weak i.left_of_third)))
+        go (inside i) = absurd (n (in_triangle u v w p (weak i.left_of_first) (weak i.left_of_second) (weak i.left_of_third)))
         go (outside o) = winding_outside o
         go (on_border t s) = absurd (n t)
 

@@ -93,11 +93,11 @@ module _ (u v w : Point) where
 
   module _ (left : IsLeft (whole u) (whole v) (whole w)) where
     -- the turn is left at each corner: at the last,
-    left_at_last : IsLeft (whole v) (whole w) (whole u)
+    pub left_at_last : IsLeft (whole v) (whole w) (whole u)
     left_at_last = rw (determinant_shift (whole u) (whole v) (whole w)) left
 
     -- at the first
-    left_at_first : IsLeft (whole w) (whole u) (whole v)
+    pub left_at_first : IsLeft (whole w) (whole u) (whole v)
     left_at_first = rw (determinant_shift_back (whole u) (whole v) (whole w)) left
 
     -- the corners are in the triangle: the first,

@@ -1,7 +1,6 @@
 -- Two chains between the ends of a diagonal, which meet each other and the diagonal only there: each of them is on one side of
 -- the piece that the other makes with the diagonal.
-use Rattle.std.proofs.Common.{◌≡◌, ◌⊎◌, inl, inr, ◌∷◌, sym, subst, List, ℤ, pos, arith}
-use Rattle.std.proofs.lemmas.Int.{ints}
+use Rattle.std.proofs.Common.{◌≡◌, ◌⊎◌, inl, inr, ◌∷◌, sym, subst, List, pos}
 use Rattle.plane.proofs.Same.{same_whole, whole_is_point}
 use Rattle.plane.proofs.Segments.{on_reversed, on_same_point}
 use Rattle.plane.specs.Point.{IsPoint, IsSame, Point, Triple, whole}
@@ -9,46 +8,31 @@ use Rattle.plane.specs.Segment.{On}
 use Rattle.rings.proofs.Along.{on_antisym, on_total}
 use Rattle.rings.proofs.Combinations.{on_nested}
 use Rattle.rings.specs.Edge.{Edge, IsOnSome, edges_along, edges_of}
-use Rattle.rings.specs.Inside.{winding}
-use Rattle.ring_laws.specs.Apart.{HasEdge, HasEnd, IsOn, MeetAtEnds, edge}
+use Rattle.ring_laws.proofs.CommonEnds.{end_of_second, meet_reversed}
 use Rattle.ring_laws.proofs.DistinctPoints.{HasPoint}
 use Rattle.ring_laws.proofs.Members.{edge_with}
-
--- a value is 0 or 1
-abbrev pub IsZeroOrOne : ℤ → Type 0
-IsZeroOrOne n = (n ≡ pos 0) ⊎ (n ≡ pos 1)
-
--- no number is 0 and 1
-pub not_zero_and_one : {n : ℤ} → n ≡ pos 0 → n ≡ pos 1 → ⊥
-not_zero_and_one e h = omega (arith, ints)
+use Rattle.ring_laws.specs.Apart.{HasEdge, HasEnd, IsOn, MeetAtEnds, edge}
+use Rattle.ring_laws.specs.Winding.{WindsUpTo}
 
 -- the diagonal goes from v to z, the first chain along ms back from z to v, and the second along ns from v to z: the pieces
 -- are edges_of (v ∷ z ∷ ms) and edges_of (z ∷ v ∷ ns)
 pub record ArePieces (v z : Point) (ms ns : List Point) : Type 0 where
   pub differ : ¬ (v ≡ z)
-  pub first_apart : (e : Edge) → HasEdge (edges_along z ms v) e → MeetAtEnds (edge v z) e
-  pub second_apart : (e : Edge) → HasEdge (edges_along v ns z) e → MeetAtEnds (edge v z) e
+  pub first_apart : (e : Edge) → HasEdge (edges_along z ms v) e → MeetAtEnds e (edge v z)
+  pub second_apart : (e : Edge) → HasEdge (edges_along v ns z) e → MeetAtEnds e (edge v z)
   pub chains_apart : (x : Triple) → IsPoint x → IsOnSome (edges_along z ms v) x → IsOnSome (edges_along v ns z) x
       → IsSame x (whole v) ⊎ IsSame x (whole z)
   pub first_off : (m : Point) → HasPoint ms m → ¬ (IsOnSome (edges_of (z ∷ v ∷ ns)) (whole m))
   pub second_off : (n : Point) → HasPoint ns n → ¬ (IsOnSome (edges_of (v ∷ z ∷ ms)) (whole n))
-  pub first_values : (p : Triple) → IsPoint p → ¬ (IsOnSome (edges_of (v ∷ z ∷ ms)) p)
-      → IsZeroOrOne (winding (edges_of (v ∷ z ∷ ms)) p)
-  pub second_values : (p : Triple) → IsPoint p → ¬ (IsOnSome (edges_of (z ∷ v ∷ ns)) p)
-      → IsZeroOrOne (winding (edges_of (z ∷ v ∷ ns)) p)
-
--- edges that meet at ends do so where one is read backward
-meet_at_ends_reversed : (v z : Point) (e : Edge) → MeetAtEnds (edge v z) e → MeetAtEnds (edge z v) e
-meet_at_ends_reversed v z e h x at_x on on_e =
-    let k = h x at_x (on_reversed x (whole z) (whole v) on) on_e in
-    record { end = k.end; of_first = elim k.of_first [ inl s ↦ inr s | inr s ↦ inl s ]; of_second = k.of_second; same = k.same }
+  pub first_values : WindsUpTo (pos 1) (edges_of (v ∷ z ∷ ms))
+  pub second_values : WindsUpTo (pos 1) (edges_of (z ∷ v ∷ ns))
 
 -- the two chains may change places
 pub swapped : (v z : Point) (ms ns : List Point) → ArePieces v z ms ns → ArePieces z v ns ms
 swapped v z ms ns c = record {
   differ = λ e. c.differ (sym e);
-  first_apart = λ e h. meet_at_ends_reversed v z e (c.second_apart e h);
-  second_apart = λ e h. meet_at_ends_reversed v z e (c.first_apart e h);
+  first_apart = λ e h. meet_reversed e (edge v z) (c.second_apart e h);
+  second_apart = λ e h. meet_reversed e (edge v z) (c.first_apart e h);
   chains_apart = λ x at_x one other. elim (c.chains_apart x at_x other one) [ inl s ↦ inr s | inr s ↦ inl s ];
   first_off = c.second_off;
   second_off = c.first_off;
@@ -74,15 +58,11 @@ end_between x y a b at_x at_y at_a at_b on_x on_y between = elim (on_total x y a
 ]
 
 -- edges that meet the diagonal at ends share no other points with it
-pub meet_only_ends : (v z : Point) (es : List Edge) → ((e : Edge) → HasEdge es e → MeetAtEnds (edge v z) e) → (x : Triple)
+pub meet_only_ends : (v z : Point) (es : List Edge) → ((e : Edge) → HasEdge es e → MeetAtEnds e (edge v z)) → (x : Triple)
     → IsPoint x → IsOnSome es x → On x (whole v) (whole z) → IsSame x (whole v) ⊎ IsSame x (whole z)
 meet_only_ends v z es apart x at_x on_some on =
     let (e, has, on_e) = edge_with x es on_some in
-    let k = apart e has x at_x on on_e in
-    elim k.of_first [
-      | inl s ↦ inl (subst (λ (p : Point). IsSame x (whole p)) (sym s) k.same)
-      | inr s ↦ inr (subst (λ (p : Point). IsSame x (whole p)) (sym s) k.same)
-    ]
+    end_of_second e (edge v z) x (apart e has x at_x on_e on)
 
 module _ (v z : Point) (ms ns : List Point) (c : ArePieces v z ms ns) where
   -- the first chain meets the diagonal only at its ends,
@@ -106,8 +86,8 @@ module _ (v z : Point) (ms ns : List Point) (c : ArePieces v z ms ns) where
   end_on_edge : (e : Edge) → HasEdge (edges_along z ms v) e → (d : Point) → On (whole d) (whole v) (whole z) → IsOn e (whole d)
       → HasEnd e d
   end_on_edge e h d on on_e =
-      let k = c.first_apart e h (whole d) (whole_is_point d) on on_e in
-      subst (λ (a : Point). HasEnd e a) (sym (same_whole d k.end k.same)) k.of_second
+      let k = c.first_apart e h (whole d) (whole_is_point d) on_e on in
+      subst (λ (a : Point). HasEnd e a) (sym (same_whole d k.end k.same)) k.of_first
 
   -- so it is not between two other points of such an edge
   pub not_between : (e : Edge) → HasEdge (edges_along z ms v) e → (d : Point) → On (whole d) (whole v) (whole z)

@@ -1,6 +1,5 @@
 -- A ring cut by a diagonal into two pieces: where each piece winds round each point not at all or once, so does the ring.
-use Rattle.std.proofs.Common.{◌≡◌, inl, inr, ◌∷◌, ◌++◌, ◌∙◌, List, ℤ, pos, ◌+ℤ◌, arith}
-use Rattle.std.proofs.lemmas.Int.{ints}
+use Rattle.std.proofs.Common.{◌≡◌, inl, inr, ◌∷◌, ◌++◌, ◌∙◌, List, pos}
 use Rattle.plane.proofs.Same.{same_sym, whole_is_point}
 use Rattle.plane.proofs.Segments.{on_reversed, on_same_point}
 use Rattle.plane.specs.Point.{IsPoint, IsSame, Point, Triple, whole}
@@ -15,25 +14,15 @@ use Rattle.rings.specs.Inside.{winding}
 use Rattle.ring_laws.proofs.BesideChains.{both_chains, both_closed, off_ring, pieces_winding, winding_on_diagonal}
 use Rattle.ring_laws.proofs.DistinctPoints.{HasPoint}
 use Rattle.ring_laws.proofs.FarTargets.{far_target}
-use Rattle.ring_laws.proofs.PointLists.{first_on_along, last_on_along}
 use Rattle.ring_laws.proofs.PieceHits.{misses_to_hit}
-use Rattle.ring_laws.proofs.TwoChains.{ArePieces, IsNeither, IsZeroOrOne, chain_off_piece, neither_swapped, not_zero_and_one, swapped}
+use Rattle.ring_laws.proofs.PointLists.{first_on_along, last_on_along}
 use Rattle.ring_laws.proofs.Sides.{on_or_not}
+use Rattle.ring_laws.proofs.TwoChains.{ArePieces, IsNeither, chain_off_piece, neither_swapped, swapped}
 use Rattle.ring_laws.proofs.UnwoundChains.{chains_unwound}
+use Rattle.ring_laws.proofs.UpToOne.{IsZeroOrOne, not_zero_and_one, one_and_two, sum_value}
 use Rattle.ring_laws.specs.Apart.{edge}
 
 -- ---- numbers
-
--- 1 is not the sum of 1 and 1
-one_and_two : (n a b : ℤ) → n ≡ a +ℤ b → a ≡ pos 1 → b ≡ pos 1 → n ≡ pos 1 → ⊥
-one_and_two n a b e h k l = omega (arith, ints)
-
--- a sum of two values 0 or 1 that are not both 1
-sum_value : (n a b : ℤ) → n ≡ a +ℤ b → IsZeroOrOne a → IsZeroOrOne b → ¬ ((a ≡ pos 1) × (b ≡ pos 1)) → IsZeroOrOne n
-sum_value n a b e (inl h) (inl k) none = inl (omega (arith, ints))
-sum_value n a b e (inl h) (inr k) none = inr (omega (arith, ints))
-sum_value n a b e (inr h) (inl k) none = inr (omega (arith, ints))
-sum_value n a b e (inr h) (inr k) none = absurd (none (h, k))
 
 -- the ends of the diagonal are on the ring
 ends_on_ring : (v z : Point) (ms ns : List Point) → IsOnSome (both_chains v z ms ns) (whole v) × IsOnSome (both_chains v z ms ns) (whole z)

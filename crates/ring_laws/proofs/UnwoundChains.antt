@@ -5,17 +5,21 @@ use Rattle.plane.proofs.Determinants.{determinant_same_ends, determinant_same_la
 use Rattle.plane.proofs.Same.{whole_is_point}
 use Rattle.plane.specs.Point.{IsPoint, Point, Triple, whole}
 use Rattle.plane.specs.Turn.{IsLeft, IsRight, determinant}
+use Rattle.rings.proofs.EdgeLaw.{left_swapped, right_swapped}
 use Rattle.rings.proofs.Edges.{closed_edges_of, on_some_cases, on_some_left, on_some_right}
 use Rattle.rings.proofs.FarAway.{AllEnds, all_ends_map}
 use Rattle.rings.specs.Edge.{Edge, IsClosed, IsOnSome, edges_along, edges_of}
 use Rattle.rings.specs.Inside.{winding}
-use Rattle.ring_laws.proofs.BesideChains.{both_chains, left_is_right, right_is_left}
+use Rattle.ring_laws.proofs.BesideChains.{both_chains}
 use Rattle.ring_laws.proofs.BeyondLine.{farthest_right}
-use Rattle.ring_laws.proofs.DistinctPoints.{HasPoint, has_point_cases, has_point_left, has_point_right}
-use Rattle.ring_laws.proofs.PointLists.{all_ends_along, greatest_of, member_on_along}
+use Rattle.ring_laws.proofs.DistinctPoints.{HasPoint}
+use Rattle.ring_laws.proofs.Farthest.{farthest_of}
+use Rattle.ring_laws.proofs.Items.{has_cases, has_left, has_right}
 use Rattle.ring_laws.proofs.PieceConstants.{chain_constant, member_neither}
 use Rattle.ring_laws.proofs.PieceHits.{LeftHit, left_hit, on_first_chain, on_second_chain}
-use Rattle.ring_laws.proofs.TwoChains.{ArePieces, IsNeither, neither_swapped, not_zero_and_one, swapped}
+use Rattle.ring_laws.proofs.PointLists.{all_ends_along, member_on_along}
+use Rattle.ring_laws.proofs.TwoChains.{ArePieces, IsNeither, neither_swapped, swapped}
+use Rattle.ring_laws.proofs.UpToOne.{not_zero_and_one}
 
 -- the second piece does not wind round the first chain, but for its ends
 pub record IsUnwound (v z : Point) (ms ns : List Point) : Type 0 where
@@ -51,20 +55,20 @@ module _ (v z : Point) (ms ns : List Point) (c : ArePieces v z ms ns) where
   some_unwound : (a : Point) → HasPoint (ms ++ ns) a → IsLeft (whole v) (whole z) (whole a) → IsUnwound v z ms ns ⊎ IsUnwound z v ns ms
   some_unwound a h left =
       let f = λ (x : Point). determinant (whole v) (whole z) (whole x) in
-      let best = greatest_of f (ms ++ ns) a h in
+      let best = farthest_of f (ms ++ ns) a h in
       let g = best.point in
       let P = λ (x : Point). f x ≤ℤ f g in
-      let at_v : P v = above_zero _ _ _ (determinant_same_ends (whole v) (whole z)) left (best.above a h) in
-      let at_z : P z = above_zero _ _ _ (determinant_same_last (whole v) (whole z)) left (best.above a h) in
-      elim (has_point_cases g ms ns best.member) [
+      let at_v : P v = above_zero _ _ _ (determinant_same_ends (whole v) (whole z)) left (best.farthest a h tt) in
+      let at_z : P z = above_zero _ _ _ (determinant_same_last (whole v) (whole z)) left (best.farthest a h tt) in
+      elim (has_cases g ms ns best.has_point) [
         | inl in_first ↦
-            let ends = all_ends_along P v ns z at_v (λ n k. best.above n (has_point_right n ms ns k)) at_z in
+            let ends = all_ends_along P v ns z at_v (λ n k. best.farthest n (has_right n ms ns k) tt) at_z in
             let zero = farthest_unwound v z g c.differ (edges_of (z ∷ v ∷ ns)) (closed_edges_of (z ∷ v ∷ ns)) (c.first_off g in_first)
             (at_z, at_v, ends) in
             inl (unwound_from v z ms ns c (whole g) (whole_is_point g) (member_on_along z ms v g in_first)
             (member_neither v z ms ns c g in_first) zero)
         | inr in_second ↦
-            let ends = all_ends_along P z ms v at_z (λ m k. best.above m (has_point_left m ms ns k)) at_v in
+            let ends = all_ends_along P z ms v at_z (λ m k. best.farthest m (has_left m ms ns k) tt) at_v in
             let zero = farthest_unwound v z g c.differ (edges_of (v ∷ z ∷ ms)) (closed_edges_of (v ∷ z ∷ ms)) (c.second_off g in_second)
             (at_v, at_z, ends) in
             let d = swapped v z ms ns c in
@@ -89,7 +93,7 @@ unwound_by_right v z ms ns c u (on_second_chain y at_y on neither one) =
 
 -- a member of the lists is on the ring
 member_on_ring : (v z : Point) (ms ns : List Point) (a : Point) → HasPoint (ms ++ ns) a → IsOnSome (both_chains v z ms ns) (whole a)
-member_on_ring v z ms ns a h = elim (has_point_cases a ms ns h) [
+member_on_ring v z ms ns a h = elim (has_cases a ms ns h) [
   | inl k ↦ on_some_left (whole a) (edges_along z ms v) (edges_along v ns z) (member_on_along z ms v a k)
   | inr k ↦ on_some_right (whole a) (edges_along z ms v) (edges_along v ns z) (member_on_along v ns z a k)
 ]
@@ -107,8 +111,8 @@ pub chains_unwound : (v z : Point) (ms ns : List Point) → ArePieces v z ms ns 
 chains_unwound v z ms ns c a b in_a in_b left right =
     let d = swapped v z ms ns c in
     let from_left = left_hit v z ms ns c a b left right (member_on_ring v z ms ns a in_a) in
-    let from_right = left_hit z v ns ms d b a (right_is_left (whole v) (whole z) (whole b) right)
-    (left_is_right (whole v) (whole z) (whole a) left) (ring_exchanged v z ms ns (whole b) (member_on_ring v z ms ns b in_b)) in
+    let from_right = left_hit z v ns ms d b a (left_swapped (whole v) (whole z) (whole b) right)
+    (right_swapped (whole v) (whole z) (whole a) left) (ring_exchanged v z ms ns (whole b) (member_on_ring v z ms ns b in_b)) in
     elim (some_unwound v z ms ns c a in_a left) [
       | inl u ↦ record { first = u; second = unwound_by_right v z ms ns c u from_right }
       | inr u ↦ record { first = unwound_by_right z v ns ms d u from_left; second = u }

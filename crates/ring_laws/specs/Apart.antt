@@ -9,10 +9,14 @@ use Rattle.rings.specs.Ring.{vertex}
 abbrev pub edge : Point → Point → Edge
 edge p q = record { from = p; to = q }
 
+-- x is one of the items
+abbrev pub Has : {A : Type 0} → List A → A → Type 0
+Has [] x = ⊥
+Has (y ∷ ys) x = (y ≡ x) ⊎ Has ys x
+
 -- e is one of the edges
 abbrev pub HasEdge : List Edge → Edge → Type 0
-HasEdge [] e = ⊥
-HasEdge (f ∷ es) e = (f ≡ e) ⊎ HasEdge es e
+HasEdge es e = Has es e
 
 -- v is an end of the edge
 abbrev pub HasEnd : Edge → Point → Type 0

@@ -1,7 +1,7 @@
 -- Diagonals of a ring, in the sense of the textbooks.
+use Rattle.std.specs.Prelude.{List}
 use Rattle.plane.specs.Point.{IsPoint, Point, Triple, whole}
 use Rattle.plane.specs.Segment.{On}
-use Rattle.std.specs.Prelude.{List}
 use Rattle.rings.specs.Edge.{Edge, edges_of}
 use Rattle.rings.specs.Inside.{IsIn}
 use Rattle.ring_laws.specs.Apart.{HasEdge, MeetAtEnds, edge}

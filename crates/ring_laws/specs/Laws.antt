@@ -14,7 +14,12 @@ abbrev pub SimpleRingLaw : Type 0
 SimpleRingLaw = (ring : List Point) → 3 ≤ length ring → IsSimple ring → (i : ℕ) → i < length ring → IsLeastVertex ring i
     → RunsAsItTurns ring i
 
--- the cut of a simple ring at its least vertex is a diagonal
+-- at its least vertex each simple ring has a cut,
+abbrev pub SomeCutLaw : Type 0
+SomeCutLaw = (ring : List Point) → 3 ≤ length ring → IsSimple ring → (i : ℕ) → i < length ring → IsLeastVertex ring i
+    → (a : Point) × (b : Point) × IsCut ring i a b
+
+-- and each cut there is a diagonal, where there are more than three vertices
 abbrev pub CutRuleLaw : Type 0
 CutRuleLaw = (ring : List Point) → 3 < length ring → IsSimple ring → (i : ℕ) → i < length ring → IsLeastVertex ring i
     → (a b : Point) → IsCut ring i a b → IsDiagonal ring a b

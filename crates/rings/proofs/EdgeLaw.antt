@@ -26,11 +26,11 @@ right_between p q v = counted (rise (whole v) p) (rise (whole v) q) (determinant
 -- ---- the sides at a crossing
 
 -- right of a line is left of the line read backward
-left_swapped : (a b c : Triple) → IsRight a b c → IsLeft b a c
+pub left_swapped : (a b c : Triple) → IsRight a b c → IsLeft b a c
 left_swapped a b c h = let e = determinant_swap_first a b c in omega (arith, ints)
 
 -- and left of it is right
-right_swapped : (a b c : Triple) → IsLeft a b c → IsRight b a c
+pub right_swapped : (a b c : Triple) → IsLeft a b c → IsRight b a c
 right_swapped a b c h = let e = determinant_swap_first a b c in omega (arith, ints)
 
 -- read backward, the edge is crossed from left to right by the segment read backward

@@ -28,7 +28,7 @@ record IsWithinHeight (p : Triple) (n : ℤ) (v : Point) : Type 0 where
   less_below : neg_ℤ n <ℤ rise (whole v) p
 
 -- a number is below each number above its size,
-below_abs : (z : ℤ) (n : ℕ) → unsigned_abs z < n → z <ℤ pos n
+pub below_abs : (z : ℤ) (n : ℕ) → unsigned_abs z < n → z <ℤ pos n
 below_abs z n h = omega (arith, ints)
 
 -- and above the opposite

@@ -35,7 +35,7 @@ first_swapped y t a b f = record {
 -- ---- where a functional falls to 0
 
 -- a difference of multiples as a sum
-weighed_sum : (f g x y : ℤ) → pos 1 *ℤ (f *ℤ y -ℤ g *ℤ x) ≡ neg_ℤ g *ℤ x +ℤ f *ℤ y
+pub weighed_sum : (f g x y : ℤ) → pos 1 *ℤ (f *ℤ y -ℤ g *ℤ x) ≡ neg_ℤ g *ℤ x +ℤ f *ℤ y
 weighed_sum f g x y = omega (arith, ints, neg-mul g x)
 
 -- a positive multiple less one that is not is positive
@@ -43,11 +43,11 @@ weights_apart : (f g v w : ℤ) → pos 0 <ℤ f → g ≤ℤ pos 0 → pos 0 <�
 weights_apart f g v w hf hg hv hw = omega (arith, ints, mul_positive f w hf hw, mul_nonpositive v g (weak hv) hg, mul_comm v g)
 
 -- the functional is 0 where its values at the ends are their own weights
-no_value : (z f g : ℤ) → pos 1 *ℤ z ≡ neg_ℤ g *ℤ f +ℤ f *ℤ g → z ≡ pos 0
+pub no_value : (z f g : ℤ) → pos 1 *ℤ z ≡ neg_ℤ g *ℤ f +ℤ f *ℤ g → z ≡ pos 0
 no_value z f g e = omega (arith, ints, neg-mul g f, mul_comm g f)
 
 -- the point between y and t at which a functional with the values f and g there is 0
-abbrev zero_point : (f g : ℤ) → Triple → Triple → Triple
+abbrev pub zero_point : (f g : ℤ) → Triple → Triple → Triple
 zero_point f g y t = record { X = f *ℤ t.X -ℤ g *ℤ y.X; Y = f *ℤ t.Y -ℤ g *ℤ y.Y; W = f *ℤ t.W -ℤ g *ℤ y.W }
 
 -- it is a combination of the two

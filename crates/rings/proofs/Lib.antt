@@ -31,6 +31,7 @@ pub mod SignSteps
 pub mod SignedCrossing
 pub mod Turned
 pub mod TurnedArea
+pub mod TurnedBends
 pub mod TurnedInside
 pub mod TurnedSimple
 pub mod Vertices

@@ -109,7 +109,7 @@ linear_toward x c n α β γ =
     (α ∷ β ∷ γ ∷ pos n ∷ x.X ∷ x.Y ∷ x.W ∷ c.X ∷ c.Y ∷ c.W ∷ []) refl
 
 -- enough times a positive number outweigh any other
-outweighs : (n : ℕ) (f g : ℤ) → pos 0 <ℤ f → unsigned_abs g < n → pos 0 <ℤ (pos n *ℤ f +ℤ g)
+pub outweighs : (n : ℕ) (f g : ℤ) → pos 0 <ℤ f → unsigned_abs g < n → pos 0 <ℤ (pos n *ℤ f +ℤ g)
 outweighs n f g hf h = omega (arith, ints, mul_order (pos 1) f (pos n) (omega (arith, ints)) (omega (arith, ints)))
 
 module _ (x c : Triple) where

@@ -1,12 +1,11 @@
 -- The area of a ring that is read the other way round has the opposite sign.
-use Rattle.std.proofs.Common.{◌≡◌, List, [], ◌∷◌, ◌++◌, reverse, refl, ap, ◌∙◌, ℤ, pos, ◌+ℤ◌, neg_ℤ, true, false, arith}
+use Rattle.std.proofs.Common.{◌≡◌, List, [], ◌∷◌, ◌++◌, reverse, refl, ap, ◌∙◌, ℤ, ◌+ℤ◌, neg_ℤ, arith}
 use Rattle.std.proofs.lemmas.Int.{ints}
-use Rattle.std.specs.Int.Signed.{lt_z}
 use Rattle.plane.specs.Point.{Point}
 use Rattle.rings.proofs.Edges.{backward}
 use Rattle.rings.proofs.Turned.{edges_of-turned_round, reverse-cons}
 use Rattle.rings.specs.Edge.{Edge, edges_of}
-use Rattle.rings.specs.Orientation.{doubled_area, is_clockwise, swept, turned_round}
+use Rattle.rings.specs.Orientation.{doubled_area, swept, turned_round}
 
 -- areas add up
 pub swept-append : (es fs : List Edge) → swept (es ++ fs) ≡ swept es +ℤ swept fs
@@ -26,11 +25,3 @@ swept-backward (e ∷ es) = omega (arith, ints, swept-backward es)
 -- the area of a turned ring
 pub doubled_area-turned_round : (ring : List Point) → doubled_area (turned_round ring) ≡ neg_ℤ (doubled_area ring)
 doubled_area-turned_round ring = ap swept (edges_of-turned_round ring) ∙ swept-reverse (backward (edges_of ring)) ∙ swept-backward (edges_of ring)
-
--- the opposite of a number below 0 is not below it
-opposite_not_below : (z w : ℤ) → w ≡ neg_ℤ z → lt_z z (pos 0) ≡ true → lt_z w (pos 0) ≡ false
-opposite_not_below z w e h = grind (arith, ints)
-
--- a clockwise ring is turned to be counterclockwise
-pub counterclockwise_turned : (ring : List Point) → is_clockwise ring ≡ true → is_clockwise (turned_round ring) ≡ false
-counterclockwise_turned ring h = opposite_not_below (doubled_area ring) _ (doubled_area-turned_round ring) h

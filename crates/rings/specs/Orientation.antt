@@ -1,5 +1,5 @@
 -- Which way round a ring runs, and its reflex vertices. By the shoelace formula of the textbooks.
-use Rattle.std.specs.Prelude.{ℕ, ◌+◌, ◌-◌, ℤ, pos, ◌+ℤ◌, ◌-ℤ◌, ◌*ℤ◌, ◌<ℤ◌, Bool, MatchBool, List, [], ◌∷◌, length, reverse}
+use Rattle.std.specs.Prelude.{ℕ, ◌+◌, ◌-◌, ℤ, pos, ◌+ℤ◌, ◌-ℤ◌, ◌*ℤ◌, ◌<ℤ◌, ◌⊎◌, Bool, List, [], ◌∷◌, length, reverse}
 use Rattle.std.specs.Int.Signed.{lt_z}
 use Rattle.plane.specs.Point.{Point, whole}
 use Rattle.plane.specs.Turn.{determinant}
@@ -15,7 +15,13 @@ swept (e ∷ es) = ((e.from.x *ℤ e.to.y) -ℤ (e.to.x *ℤ e.from.y)) +ℤ swe
 abbrev pub doubled_area : List Point → ℤ
 doubled_area ring = swept (edges_of ring)
 
--- an area of 0 counts as counterclockwise
+abbrev pub IsCounterclockwise : List Point → Type 0
+IsCounterclockwise ring = pos 0 <ℤ doubled_area ring
+
+-- it is negative where the ring runs clockwise
+abbrev pub IsClockwise : List Point → Type 0
+IsClockwise ring = doubled_area ring <ℤ pos 0
+
 abbrev pub is_clockwise : List Point → Bool
 is_clockwise ring = lt_z (doubled_area ring) (pos 0)
 
@@ -30,4 +36,5 @@ turn_at ring i = determinant (whole (vertex ring (i + (length ring - 1)))) (whol
 
 -- vertex i is reflex: the turn at it is against the orientation of the ring
 abbrev pub IsReflex : List Point → ℕ → Type 0
-IsReflex ring i = MatchBool (is_clockwise ring) (pos 0 <ℤ turn_at ring i) (turn_at ring i <ℤ pos 0)
+IsReflex ring i =
+    (IsCounterclockwise ring × (turn_at ring i <ℤ pos 0)) ⊎ (IsClockwise ring × (pos 0 <ℤ turn_at ring i))

@@ -1,4 +1,5 @@
 pub mod BaseTriangle
+pub mod Chains
 pub mod Cuts
 pub mod Diagonals
 pub mod Ears
@@ -6,12 +7,12 @@ pub mod Halves
 pub mod Joined
 pub mod JoinedSides
 pub mod JoinedTrees
-mod MeshSides
+mod KnownMeshes
+pub mod MeshSides
 mod NeighbourRows
-mod Neighbours
+pub mod Neighbours
 pub mod OffDiagonal
 pub mod Paths
-mod PieceEdges
 pub mod PieceSteps
 pub mod PieceVertices
 pub mod Rotated

@@ -5,14 +5,15 @@ use Rattle.plane.proofs.Determinants.{determinant_same_ends, determinant_same_fi
 use Rattle.plane.specs.Point.{Point, Triple, whole}
 use Rattle.plane.specs.Turn.{IsLeft}
 use Rattle.rings.specs.Ring.{vertex}
-use Rattle.tri_mesh.proofs.PieceEdges.{edge_or_not}
+use Rattle.std.specs.List.{range_with_len}
+use Rattle.tri_mesh.proofs.PieceSteps.{edge_or_not}
 use Rattle.tri_mesh.specs.Fits.{Fits}
 use Rattle.tri_mesh.specs.Neighbours.{HasSidesOnce}
 use Rattle.tri_mesh.specs.Side.{HasSide, tri_at}
 use Rattle.tri_mesh.specs.declared.tri.Tri.{Tri}
 
 -- where three points turn left, no two of them are one
-left_apart : (a b c : Triple) → IsLeft a b c → (a ≢ b) × (b ≢ c) × (c ≢ a)
+pub left_apart : (a b c : Triple) → IsLeft a b c → (a ≢ b) × (b ≢ c) × (c ≢ a)
 left_apart a b c left = (
   λ same. let flat = determinant_same_first b c in let turn = rw same at left in omega (arith, ints),
   λ same. let flat = determinant_same_last a c in let turn = rw same at left in omega (arith, ints),
@@ -41,7 +42,7 @@ module _ (corners : List Point) (tris : List Tri) (fits : Fits corners tris) whe
 
   -- two triangles with one side in one direction are one
   fitting_once : (i j k l : ℕ) → k < length tris → l < length tris → HasSide (tri_at tris k) i j → HasSide (tri_at tris l) i j → k ≡ l
-  fitting_once i j k l k_below l_below k_has l_has = elim (edge_or_not (length corners) i j) [
+  fitting_once i j k l k_below l_below k_has l_has = elim (edge_or_not (range_with_len 0 (length corners)) i j) [
     | inl edge ↦ let one = fits.edges i j edge in cc (one.1.only k k_below (inl k_has), one.1.only l l_below (inl l_has))
     | inr inner ↦ let two = fits.inner_sides i j k k_below k_has inner in elim (two.1.only l l_below (inl l_has)) [
       | inl same ↦ sym same

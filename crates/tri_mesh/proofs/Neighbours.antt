@@ -4,7 +4,7 @@ use Rattle.std.proofs.lemmas.List.{get_or_read}
 use Rattle.std.specs.List.{range_with_len}
 use Rattle.std.specs.Prelude.{IsNone, Option, slice_index_or}
 use Rattle.plane.specs.Point.{Point}
-use Rattle.tri_mesh.proofs.PieceEdges.{edge_or_not}
+use Rattle.tri_mesh.proofs.PieceSteps.{edge_or_not}
 use Rattle.tri_mesh.specs.Fits.{Fits, IsPieceEdge, IsSideOfOne, IsSideOfTwo}
 use Rattle.tri_mesh.specs.Mesh.{side_begin, side_end}
 use Rattle.tri_mesh.specs.Neighbours.{HasSidesOnce, IsOwner, KeepsNeighbours}
@@ -68,7 +68,7 @@ kept_owner tris table row k side keeps in_list in_row is =
 pub alone_iff_edge : (corners : List Point) (tris : List Tri) (i j k : ℕ) → Fits corners tris → k < length tris → HasSide (tri_at tris k) i j
     → IsSideOfOne tris i j k ↔ IsPieceEdge (range_with_len 0 (length corners)) i j
 alone_iff_edge corners tris i j k fits in_list has = (
-  λ one. elim (edge_or_not (length corners) i j) [
+  λ one. elim (edge_or_not (range_with_len 0 (length corners)) i j) [
     | inl edge ↦ edge
     | inr inner ↦ let two = fits.inner_sides i j k in_list has inner in
         absurd (two.1.different (sym (one.only two.0 two.1.other_in_list (inr two.1.other_has))))

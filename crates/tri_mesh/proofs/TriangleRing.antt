@@ -6,8 +6,9 @@ use Rattle.rings.proofs.InRing.{in_from_odd, not_in_from_even}
 use Rattle.rings.proofs.SignSteps.{weak}
 use Rattle.rings.specs.Edge.{IsOnSome}
 use Rattle.rings.specs.Inside.{IsIn}
-use Rattle.ring_laws.proofs.TrianglePlaces.{IsOnSide, in_triangle_from, inside, on_border, on_first, on_second, on_third, outside, outside_not_in, place_of}
+use Rattle.ring_laws.proofs.TrianglePlaces.{IsOnSide, inside, on_border, on_first, on_second, on_third, outside, outside_not_in, place_of}
 use Rattle.ring_laws.proofs.TriangleWinding.{on_sides_in, triangle, winding_inside, winding_outside}
+use Rattle.ring_laws.proofs.Triangles.{in_triangle}
 use Rattle.ring_laws.specs.Triangle.{IsInTriangle}
 
 -- a point on a side is on some edge
@@ -20,7 +21,7 @@ module _ (u v w : Point) (left : IsLeft (whole u) (whole v) (whole w)) (p : Trip
   -- a point in the ring is in the closed triangle,
   pub in_triangle_of_in : IsIn (u ∷ v ∷ w ∷ []) p → IsInTriangle u v w p
   in_triangle_of_in h = elim (place_of u v w left p at_p) [
-    | inside i ↦ in_triangle_from u v w p (weak i.left_of_first) (weak i.left_of_second) (weak i.left_of_third)
+    | inside i ↦ in_triangle u v w p (weak i.left_of_first) (weak i.left_of_second) (weak i.left_of_third)
     | on_border t s ↦ t
     | outside o ↦
         absurd (not_in_from_even (u ∷ v ∷ w ∷ []) p (pos 0) (λ on. outside_not_in u v w p o (on_sides_in u v w left p at_p on))

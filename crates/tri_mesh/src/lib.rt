@@ -3,6 +3,8 @@
 
 mod mesh;
 mod sides;
+#[cfg(test)]
+mod tests;
 mod tri;
 
 pub use mesh::Mesh;

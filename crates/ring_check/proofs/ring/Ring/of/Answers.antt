@@ -35,7 +35,7 @@ returns-in-None-clause-clash g c =
     let simple : IsSimple c.args.points.items = rw c.deref.ensures.value at c.in-None.ensures.simple in
     λ i j. (λ e. absurd cc, λ other. absurd (no_least_clash _ _ _ simple other.2))
 
--- the list is kept counterclockwise, and is as long and as simple
+-- the list is kept counterclockwise, is as long and as simple, and can be had back
 pub invariant_of-result : goal.invariant_of-result
 invariant_of-result g c =
     let points = c.args.points.items in
@@ -44,4 +44,4 @@ invariant_of-result g c =
     let long : length kept ≡ c.args.points.len = omega (arith, ap length is, length-oriented points) in
     let simple : IsSimple points = rw c.deref.ensures.value at c.in-None.ensures.simple in
     rw (with_items_is c.args.points kept long, is)
-    (omega arith, omega arith, simple_oriented points simple, counterclockwise_oriented points)
+    (omega arith, omega arith, simple_oriented points simple, counterclockwise_oriented points (omega arith) simple)

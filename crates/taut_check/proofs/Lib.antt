@@ -1,0 +1,6 @@
+mod Bends
+pub mod Given
+mod Leaving
+mod Neighbours
+pub mod SameRules
+mod Verdicts

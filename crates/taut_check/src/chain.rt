@@ -1,0 +1,58 @@
+// The rules that hold at each place.
+ghost use Rattle.std.specs.Prelude.{◌≡◌, ◌<◌, ◌↔◌, IsTrue, IfOk, length};
+ghost use Rattle.plane.specs.Point.{whole};
+ghost use Rattle.rings.specs.Chain.{point_at};
+ghost use Rattle.rings.specs.Inside.{IsIn};
+ghost use Rattle.taut_check.specs.Verdict.{IsLeaving, IsRepeat};
+
+use exact_plane::{Memory, Pt, Steps, order};
+use inside_test::{Position, holds_segment, place};
+use ring_check::Ring;
+use std::alloc::Global;
+use std::cmp::Ordering;
+use std::sync::ledger::Ledger;
+
+// The point at place `k`.
+pub fn point(points: &[Pt], k: usize) -> Pt
+    requires { k < length points.now }
+    ensures { result ≡ point_at points.now k }
+{
+    points[k]
+}
+
+// Whether the point at place `k` is the same as the next.
+pub fn is_repeat<L: Ledger>(points: &[Pt], k: usize, steps: &mut Steps<L>) -> bool
+    requires { k < length points.now }
+    ensures { IsTrue result ↔ IsRepeat points.now k }
+{
+    k < points.len() - 1
+        && order(&point(points, k), &point(points, k + 1), steps) == Ordering::Equal
+}
+
+// Whether the point at place `k` is not in the ring, or does not see the next.
+pub fn is_leaving<L: Ledger>(
+    alloc: Global,
+    ring: &Ring,
+    points: &[Pt],
+    k: usize,
+    steps: &mut Steps<L>,
+) -> Result<bool, Memory>
+    requires { k < length points.now }
+    ensures { IfOk result (λ leaving. IsTrue leaving ↔ IsLeaving ring.now.corners points.now k) }
+{
+    let from = point(points, k);
+    if is_outside(ring, &from, steps) {
+        return Ok(true);
+    }
+    if k == points.len() - 1 {
+        return Ok(false);
+    }
+    Ok(!holds_segment(alloc, ring, &from, &point(points, k + 1), steps)?)
+}
+
+// Whether a point is not in the ring.
+fn is_outside<L: Ledger>(ring: &Ring, p: &Pt, steps: &mut Steps<L>) -> bool
+    ensures { IsTrue result ↔ ¬ (IsIn ring.now.corners (whole p.now)) }
+{
+    place(ring, p, steps) == Position::Outside
+}

@@ -1,0 +1,10 @@
+//! Whether a list of points is a taut chain of a ring, and if not, the first rule that it breaks.
+#![tactic(auto)]
+
+mod bend;
+mod chain;
+#[cfg(test)]
+mod tests;
+mod verdict;
+
+pub use verdict::{MAX_CHAIN, Verdict, check};

@@ -1,0 +1,91 @@
+ghost use Rattle.std.specs.Prelude.{◌≡◌, ◌≤◌, ◌<◌, ◌↔◌, IfOk, length};
+ghost use Rattle.rings.specs.Chain.{IsBentChain};
+ghost use Rattle.taut_check.specs.Found.{IsFoundAt};
+ghost use Rattle.taut_check.specs.Verdict.{IsVerdict};
+
+use crate::bend::{has_no_turn, is_inner, is_on_wrong_side, reflex_vertex};
+use crate::chain::{is_leaving, is_repeat, point};
+use exact_plane::{Memory, Pt, Steps};
+use ring_check::Ring;
+use std::alloc::Global;
+use std::sync::ledger::Ledger;
+
+/// The most points of a list.
+pub const MAX_CHAIN: usize = 4096;
+
+/// What a list of points is: a taut chain, or the first rule that it breaks, with the place of the point. Places count
+/// from 0. The least place comes first, and at one place the rule that stands first here.
+#[derive(Clone, Copy, Debug, PartialEq, Eq)]
+pub enum Verdict {
+    /// No rule is broken.
+    Taut,
+    /// There is no point.
+    Empty,
+    /// The point is the same as the next.
+    Repeat(u32),
+    /// The point is not in the ring, or does not see the next.
+    Leaves(u32),
+    /// The point is an inner one, and no reflex vertex.
+    NotReflex(u32),
+    /// The point is an inner one, on one line with the points beside it.
+    Straight(u32),
+    /// The point is an inner one, and a ring neighbour of it is outside the closed cone between the rays to the points
+    /// beside it.
+    WrongSide(u32),
+}
+
+/// The verdict on a list of points.
+pub fn check<L: Ledger>(
+    alloc: Global,
+    ring: &Ring,
+    chain: &[Pt],
+    steps: &mut Steps<L>,
+) -> Result<Verdict, Memory>
+    requires { length chain.now ≤ 4096 }
+    ensures verdict { IfOk result (IsVerdict ring.now.corners chain.now) }
+    ensures taut { IfOk result (λ verdict. (verdict ≡ Verdict.Taut) ↔ IsBentChain ring.now.corners chain.now) }
+{
+    if chain.is_empty() {
+        return Ok(Verdict::Empty);
+    }
+    for k in 0..chain.len() {
+        if let Some(verdict) = verdict_at(alloc, ring, chain, k, steps)? {
+            return Ok(verdict);
+        }
+    }
+    Ok(Verdict::Taut)
+}
+
+// The first rule that is broken at place `k`, if one is.
+fn verdict_at<L: Ledger>(
+    alloc: Global,
+    ring: &Ring,
+    chain: &[Pt],
+    k: usize,
+    steps: &mut Steps<L>,
+) -> Result<Option<Verdict>, Memory>
+    requires most { length chain.now ≤ 4096 }
+    requires place { k < length chain.now }
+    ensures { IfOk result (IsFoundAt ring.now.corners chain.now k) }
+{
+    let place = k as u32;
+    if is_repeat(chain, k, steps) {
+        return Ok(Some(Verdict::Repeat(place)));
+    }
+    if is_leaving(alloc, ring, chain, k, steps)? {
+        return Ok(Some(Verdict::Leaves(place)));
+    }
+    if !is_inner(chain, k) {
+        return Ok(None);
+    }
+    let Some(i) = reflex_vertex(ring, &point(chain, k), steps) else {
+        return Ok(Some(Verdict::NotReflex(place)));
+    };
+    if has_no_turn(chain, k, steps) {
+        return Ok(Some(Verdict::Straight(place)));
+    }
+    if is_on_wrong_side(ring, i, chain, k, steps) {
+        return Ok(Some(Verdict::WrongSide(place)));
+    }
+    Ok(None)
+}
