@@ -2,13 +2,14 @@
 use Rattle.std.proofs.Common.{◌≡◌, inl, inr, refl, sym, ap, subst, ◌∙◌, ℕ, ◌+◌, ◌-◌, ◌<◌, ◌≤◌, Option, Some, None, List, length, below_more, arith}
 use Rattle.std.proofs.lemmas.Int.{ints}
 use Rattle.plane.specs.Point.{Point}
-use Rattle.cut_tri.specs.Corner.{IsBestBelow, IsFarther, IsFartherOf, IsFarthestBelow, IsInCorner, candidate_at}
+use Rattle.cut_tri.specs.Corner.{IsFarther, IsFartherOf, IsFarthestBelow, IsInCorner, candidate_at}
 use Rattle.cut_tri.specs.declared.farthest.Candidate.{Candidate}
 
--- none is farther than itself
-not_farther_itself : (c : Candidate) → ¬ (IsFarther c c)
-not_farther_itself c (inl h) = omega (arith, ints)
-not_farther_itself c (inr h) = omega (arith, ints)
+-- the best of the first n places, or none where none of their vertices is in the triangle
+pub record IsBestBelow (corners : List Point) (piece : List ℕ) (n : ℕ) (best : Option Candidate) : Type 0 where
+  pub none : best ≡ None → (j : ℕ) → j < n → ¬ (IsInCorner corners piece j)
+  pub is_candidate : (b : Candidate) → best ≡ Some b → b ≡ candidate_at corners piece b.place
+  pub farthest : (b : Candidate) → best ≡ Some b → IsFarthestBelow corners piece n b.place
 
 -- what is not farther than one that is not farther than a third is not farther than the third
 not_farther_trans : (a b c : Candidate) → ¬ (IsFarther a b) → ¬ (IsFarther b c) → ¬ (IsFarther a c)

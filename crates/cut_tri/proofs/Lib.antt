@@ -1,10 +1,11 @@
 mod Candidates
+mod Completion
 mod CornerPlaces
 mod DiagonalCuts
-mod Doing
 mod EarCuts
 mod Members
 mod RightTurns
 mod RotatedCuts
 mod Shapes
 mod WholePiece
+mod WorkList

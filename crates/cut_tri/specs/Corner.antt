@@ -1,6 +1,5 @@
--- The vertices in the triangle at the first vertex of a piece, and the farthest of them. From the textbooks' proof that a
--- simple polygon has a diagonal.
-use Rattle.std.specs.Prelude.{◌≡◌, ◌⊎◌, ℕ, ◌+◌, ◌-◌, ◌<◌, ◌≤◌, ◌<ℤ◌, Option, Some, None, List, length, slice_index_or}
+-- The vertices in the triangle at the first vertex of a piece, and the farthest of them. No public clause cites this module.
+use Rattle.std.specs.Prelude.{◌≡◌, ◌⊎◌, ℕ, ◌+◌, ◌-◌, ◌<◌, ◌≤◌, ◌<ℤ◌, Option, Some, List, length, slice_index_or}
 use Rattle.plane.specs.Point.{Point, whole}
 use Rattle.ring_laws.specs.Triangle.{IsInTriangle, height_over}
 use Rattle.cut_tri.specs.Piece.{corner_at}
@@ -35,9 +34,3 @@ pub record IsFartherOf (best : Option Candidate) (candidate chosen : Candidate) 
 pub record IsFarthestBelow (corners : List Point) (piece : List ℕ) (n place : ℕ) : Type 0 where
   pub in_corner : IsInCorner corners piece place
   pub farthest : (j : ℕ) → j < n → IsInCorner corners piece j → ¬ (IsFarther (candidate_at corners piece j) (candidate_at corners piece place))
-
--- the best of the first n places, or none where none of their vertices is in the triangle
-pub record IsBestBelow (corners : List Point) (piece : List ℕ) (n : ℕ) (best : Option Candidate) : Type 0 where
-  pub none : best ≡ None → (j : ℕ) → j < n → ¬ (IsInCorner corners piece j)
-  pub is_candidate : (b : Candidate) → best ≡ Some b → b ≡ candidate_at corners piece b.place
-  pub farthest : (b : Candidate) → best ≡ Some b → IsFarthestBelow corners piece n b.place

@@ -1,4 +1,5 @@
--- What one cut leaves of a piece, and how triangles of what is left are triangles of the piece. This project's own.
+-- What one cut leaves of a piece, and how triangles of what is left are triangles of the piece. No public clause cites this
+-- module.
 use Rattle.std.specs.Prelude.{◌≡◌, ℕ, ◌+◌, List, [], ◌∷◌, ◌++◌, length}
 use Rattle.plane.specs.Point.{Point}
 use Rattle.tri_mesh.specs.Fits.{FitsPiece}

@@ -1,4 +1,4 @@
-pub mod Completion
 pub mod Corner
 pub mod Cutting
 pub mod Piece
+pub mod WorkList

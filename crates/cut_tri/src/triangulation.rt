@@ -1,6 +1,6 @@
 ghost use Rattle.std.specs.Prelude.{◌≡◌, IfOk, OnOk, length};
 ghost use Rattle.std.specs.List.{range_with_len};
-ghost use Rattle.cut_tri.specs.Completion.{IsTakenOver, last_first};
+ghost use Rattle.cut_tri.specs.WorkList.{IsTakenOver, last_first};
 ghost use Rattle.tri_mesh.specs.Fits.{Fits};
 
 use crate::cut::{Remains, cut};

@@ -1,6 +1,5 @@
 use Rattle.std.proofs.Common.{◌+◌, ℕ, sym, subst, arith}
-use Rattle.cut_tri.proofs.Candidates.{best_more, best_past, farthest_of_all}
-use Rattle.cut_tri.specs.Corner.{IsBestBelow}
+use Rattle.cut_tri.proofs.Candidates.{IsBestBelow, best_more, best_past, farthest_of_all}
 use Rattle.cut_tri.proofs.farthest.farthest.Goals as goal
 use Rattle.cut_tri.proofs.farthest.farthest.Goals.{in-Some, in_default}
 

@@ -1,4 +1,4 @@
-use Rattle.cut_tri.specs.Corner.{IsBestBelow}
+use Rattle.cut_tri.proofs.Candidates.{IsBestBelow}
 use Rattle.cut_tri.proofs.farthest.farthest.Given as goal
 
 abbrev pub invariant-loop-place : goal.invariant-loop-place

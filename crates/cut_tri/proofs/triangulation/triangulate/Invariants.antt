@@ -1,4 +1,5 @@
-use Rattle.cut_tri.specs.Completion.{ArePieces, Completes, effort, last_first}
+use Rattle.cut_tri.proofs.Completion.{ArePieces, Completes, effort}
+use Rattle.cut_tri.specs.WorkList.{last_first}
 use Rattle.cut_tri.proofs.triangulation.triangulate.Given as goal
 
 abbrev pub invariant-loop-piece : goal.invariant-loop-piece

@@ -1,4 +1,4 @@
--- The pieces that are still to be cut: how they complete a mesh, and how much is still to be done.
+-- The pieces that are still to be cut: how they complete a mesh, and how much is still to be done, after one cut more.
 use Rattle.std.proofs.Common.{◌≡◌, sym, ap, subst, ◌∙◌, ℕ, ◌+◌, ◌<◌, List, [], ◌∷◌, ◌++◌, length, map, reverse, Vec, Global, arith}
 use Rattle.std.proofs.lemmas.List.{append_assoc, map-append, reverse-append}
 use Rattle.std.proofs.lemmas.List.FromFn.{length-range_with_len}
@@ -6,7 +6,8 @@ use Rattle.std.specs.List.{range_with_len}
 use Rattle.plane.specs.Point.{Point}
 use Rattle.tri_mesh.specs.Fits.{Fits, FitsPiece}
 use Rattle.tri_mesh.specs.declared.tri.Tri.{Tri}
-use Rattle.cut_tri.specs.Completion.{ArePieces, Completes, IsTakenOver, effort, last_first}
+use Rattle.cut_tri.proofs.Completion.{ArePieces, Completes, effort}
+use Rattle.cut_tri.specs.WorkList.{IsTakenOver, last_first}
 use Rattle.cut_tri.specs.Cutting.{AreParts, IsCutOf, IsEar}
 use Rattle.cut_tri.specs.Piece.{IsPiece}
 use Rattle.cut_tri.specs.declared.cut.Remains.{Remains}

@@ -1,0 +1,21 @@
+-- How triangles that fit the pieces which are still to be cut complete a mesh of the ring.
+use Rattle.std.proofs.Common.{ℕ, ◌+◌, ◌-◌, ◌*◌, List, [], ◌∷◌, ◌++◌, length}
+use Rattle.plane.specs.Point.{Point}
+use Rattle.tri_mesh.specs.Fits.{Fits, FitsPiece}
+use Rattle.tri_mesh.specs.declared.tri.Tri.{Tri}
+use Rattle.cut_tri.specs.Piece.{IsPiece}
+
+-- each of them is a piece
+abbrev pub ArePieces : List Point → List (List ℕ) → Type 0
+ArePieces corners [] = Unit {0}
+ArePieces corners (piece ∷ pieces) = IsPiece corners piece × ArePieces corners pieces
+
+-- the triangles that are done, and after them any that fit the pieces, one piece after another, fit the ring
+abbrev pub Completes : List Point → List Tri → List (List ℕ) → Type 0
+Completes corners done [] = Fits corners done
+Completes corners done (piece ∷ pieces) = (ts : List Tri) → FitsPiece corners piece ts → Completes corners (done ++ ts) pieces
+
+-- a bound on the cuts that are still to be made
+abbrev pub effort : List (List ℕ) → ℕ
+effort [] = 0
+effort (piece ∷ pieces) = (2 * length piece - 5) + effort pieces
