@@ -81,7 +81,7 @@ module _ (corners : List Point) where
     pieces_are = ap last_first is ∙ last_first-push rest piece
 
     -- the last one is a piece
-    pub last_is_piece : IsPiece corners piece.items
+    last_is_piece : IsPiece corners piece.items
     last_is_piece = (subst (ArePieces corners) pieces_are so_far.0).0
 
     -- to cut it comes nearer
