@@ -1,0 +1,10 @@
+pub mod Between
+pub mod BetweenPieces
+pub mod MeshDiagonals
+pub mod OpenRegions
+pub mod Opposite
+pub mod PartedMesh
+pub mod PieceOfTriangle
+pub mod Sleeves
+pub mod Splits
+pub mod WalkSides

@@ -1,0 +1,107 @@
+-- A simple ring that is split in two by a diagonal: the pieces, each with the diagonal as an edge.
+use Rattle.std.proofs.Common.{◌≡◌, inl, inr, refl, sym, subst, ap, ◌∙◌, List, [], ◌∷◌, ◌++◌, length, get_or, ℕ, zero, suc, ◌-◌, ◌<◌, arith}
+use Rattle.std.proofs.lemmas.Bool.{cases_lt}
+use Rattle.std.proofs.lemmas.List.{append_assoc, get_or_at, length-append}
+use Rattle.plane.proofs.Segments.{on_reversed}
+use Rattle.plane.specs.Point.{Point, whole}
+use Rattle.rings.proofs.Vertices.{vertex_in_range}
+use Rattle.rings.specs.Edge.{edges_along, edges_of}
+use Rattle.rings.specs.Ring.{origin, vertex}
+use Rattle.ring_laws.proofs.CutInTwo.{cut_between}
+use Rattle.ring_laws.proofs.Diagonals.{diagonal_backward}
+use Rattle.ring_laws.proofs.Members.{has_edge_right}
+use Rattle.ring_laws.proofs.Pieces.{edges_of_first}
+use Rattle.ring_laws.proofs.SimpleIsApart.{apart_of_simple}
+use Rattle.ring_laws.specs.Apart.{HasEdge, IsApartRing, edge}
+use Rattle.ring_laws.specs.Diagonal.{IsDiagonal}
+use Rattle.dual_tree.proofs.BetweenPieces.{IsCovered}
+
+-- two pieces cover the ring and share only points of the segment from a to b, which is an edge of each
+pub record IsSplit (ring : List Point) (a b : Point) : Type 0 where
+  pub first : List Point
+  pub second : List Point
+  pub first_apart : IsApartRing first
+  pub second_apart : IsApartRing second
+  pub first_long : 1 < length first
+  pub second_long : 1 < length second
+  pub covered : IsCovered ring first second (whole a) (whole b)
+  pub first_has : HasEdge (edges_of first) (edge b a)
+  pub second_has : HasEdge (edges_of second) (edge a b)
+
+-- the pieces may change places
+split_back : (ring : List Point) (a b : Point) → IsSplit ring a b → IsSplit ring b a
+split_back ring a b s = record {
+  first = s.second;
+  second = s.first;
+  first_apart = s.second_apart;
+  second_apart = s.first_apart;
+  first_long = s.second_long;
+  second_long = s.first_long;
+  covered = record {
+    covers = λ x at h. elim (s.covered.covers x at h) [ inl k ↦ inr k | inr k ↦ inl k ];
+    common = λ x at h k. on_reversed x (whole a) (whole b) (s.covered.common x at k h);
+  };
+  first_has = s.second_has;
+  second_has = s.first_has;
+}
+
+-- the last edge of a ring
+last_edge : (v : Point) (ps : List Point) (z : Point) → HasEdge (edges_of (v ∷ (ps ++ z ∷ []))) (edge z v)
+last_edge v ps z =
+    subst (λ es. HasEdge es (edge z v)) (sym (edges_of_first v ps z []))
+    (has_edge_right (edge z v) (edges_along v ps z) (edge z v ∷ []) (inl refl))
+
+-- a diagonal between two vertices splits the ring,
+split_in_parts : (xs : List Point) (v : Point) (ps : List Point) (z : Point) (ys : List Point) → IsApartRing (xs ++ v ∷ (ps ++ z ∷ ys))
+    → IsDiagonal (xs ++ v ∷ (ps ++ z ∷ ys)) v z → IsSplit (xs ++ v ∷ (ps ++ z ∷ ys)) v z
+split_in_parts xs v ps z ys apart diagonal =
+    let cut = cut_between xs v ps z ys apart diagonal in
+    let first : List Point = v ∷ (ps ++ z ∷ []) in
+    let second : List Point = z ∷ ((ys ++ xs) ++ v ∷ []) in
+    record {
+      first = first;
+      second = second;
+      first_apart = apart_of_simple first cut.first_simple;
+      second_apart = apart_of_simple second cut.second_simple;
+      first_long = omega (arith, length-append ps (z ∷ []));
+      second_long = omega (arith, length-append (ys ++ xs) (v ∷ []));
+      covered = record { covers = λ x at. (cut.covers x at).0; common = cut.common };
+      first_has = last_edge v ps z;
+      second_has = last_edge z (ys ++ xs) v;
+    }
+
+-- item i of a list, and what is before and after it
+parts_at : (ring : List Point) (i : ℕ) → i < length ring
+    → (xs : List Point) × (v : Point) × (rest : List Point) × (ring ≡ xs ++ v ∷ rest) × (length xs ≡ i)
+parts_at [] i h = absurd (omega arith)
+parts_at (p ∷ ps) zero h = ([], p, ps, refl, refl)
+parts_at (p ∷ ps) (suc i) h =
+    let (xs, v, rest, is, count) = parts_at ps i (omega arith) in
+    (p ∷ xs, v, rest, ap (λ rs. p ∷ rs) is, ap suc count)
+
+module _ (ring : List Point) (apart : IsApartRing ring) where
+  -- by their numbers,
+  split_in_order : (i j : ℕ) → i < j → j < length ring → IsDiagonal ring (vertex ring i) (vertex ring j) → IsSplit ring (vertex ring i) (vertex ring j)
+  split_in_order i j less within diagonal =
+      let (xs, v, rest, is, count) = parts_at ring i (omega arith) in
+      let (ps, z, ys, rest_is, between) = parts_at rest (j - i - 1) (omega (arith, ap length is, length-append xs (v ∷ rest))) in
+      let parts : ring ≡ xs ++ v ∷ (ps ++ z ∷ ys) = is ∙ ap (λ rs. xs ++ v ∷ rs) rest_is in
+      let at_v : vertex ring i ≡ v =
+      vertex_in_range ring i origin (omega arith) ∙ ap (λ rs. get_or rs i origin) parts ∙ get_or_at xs v (ps ++ z ∷ ys) origin i count in
+      let at_z : vertex ring j ≡ z =
+      vertex_in_range ring j origin within ∙ ap (λ rs. get_or rs j origin) (parts ∙ sym (append_assoc xs (v ∷ ps) (z ∷ ys)))
+      ∙ get_or_at (xs ++ v ∷ ps) z ys origin j (omega (arith, length-append xs (v ∷ ps))) in
+      let named : IsDiagonal ring v z =
+      subst (λ a. IsDiagonal ring a z) at_v (subst (λ b. IsDiagonal ring (vertex ring i) b) at_z diagonal) in
+      let split = split_in_parts xs v ps z ys (subst IsApartRing parts apart) (subst (λ rs. IsDiagonal rs v z) parts named) in
+      subst (λ a. IsSplit ring a (vertex ring j)) (sym at_v)
+      (subst (λ b. IsSplit ring v b) (sym at_z) (subst (λ rs. IsSplit rs v z) (sym parts) split))
+
+  -- in either order
+  pub split_by : (i j : ℕ) → i < length ring → j < length ring → ¬ (i ≡ j) → IsDiagonal ring (vertex ring i) (vertex ring j)
+      → IsSplit ring (vertex ring i) (vertex ring j)
+  split_by i j h k differ diagonal = elim (cases_lt i j) [
+    | inl less ↦ split_in_order i j less k diagonal
+    | inr more ↦ split_back ring (vertex ring j) (vertex ring i)
+        (split_in_order j i (grind arith) h (diagonal_backward (vertex ring i) (vertex ring j) ring diagonal))
+  ]

@@ -1,0 +1,35 @@
+-- The laws of triangulations, as statements. As in the textbooks; sleeves: Lee and Preparata 1984.
+use Rattle.std.specs.Prelude.{◌↔◌, ℕ, ◌+◌, ◌-◌, ◌<◌, ◌≤◌, List, length, slice_index_or}
+use Rattle.plane.specs.Point.{IsPoint, Point, Triple, whole}
+use Rattle.plane.specs.Segment.{Meet, On}
+use Rattle.rings.specs.Ring.{vertex}
+use Rattle.rings.specs.Sees.{Sees}
+use Rattle.tri_mesh.specs.declared.tri.Tri.{Tri}
+use Rattle.tri_mesh.specs.Fits.{Fits, IsInTri}
+use Rattle.tri_mesh.specs.Side.{HasSideBetween, IsWalk, tri_at}
+
+-- the triangle at place m of a walk
+abbrev pub walk_tri : List Tri → List ℕ → ℕ → Tri
+walk_tri tris walk m = tri_at tris (slice_index_or walk m 0)
+
+-- the walk goes from its triangle at place m to the next one over the side between vertices i and j
+pub record CrossesSide (tris : List Tri) (walk : List ℕ) (m i j : ℕ) : Type 0 where
+  pub has_next : m + 1 < length walk
+  pub of_this : HasSideBetween (walk_tri tris walk m) i j
+  pub of_next : HasSideBetween (walk_tri tris walk (m + 1)) i j
+
+-- a rational point in a triangle of a walk and in a later one is on each side that the walk crosses between them
+abbrev pub SeparationLaw : Type 0
+SeparationLaw = (corners : List Point) (tris : List Tri) → Fits corners tris → (walk : List ℕ) → IsWalk tris walk
+    → (m i j : ℕ) → CrossesSide tris walk m i j → (k l : ℕ) → k ≤ m → m < l → l < length walk
+    → (x : Triple) → IsPoint x → IsInTri corners (walk_tri tris walk k) x → IsInTri corners (walk_tri tris walk l) x
+    → On x (whole (vertex corners i)) (whole (vertex corners j))
+
+-- rational points in the first and the last triangle of a walk see each other exactly if the segment between them meets each
+-- side that the walk crosses
+abbrev pub SleeveLaw : Type 0
+SleeveLaw = (corners : List Point) (tris : List Tri) → Fits corners tris → (walk : List ℕ) → IsWalk tris walk
+    → (p q : Triple) → IsPoint p → IsPoint q
+    → IsInTri corners (walk_tri tris walk 0) p → IsInTri corners (walk_tri tris walk (length walk - 1)) q
+    → Sees corners p q
+    ↔ ((m i j : ℕ) → CrossesSide tris walk m i j → Meet p q (whole (vertex corners i)) (whole (vertex corners j)))

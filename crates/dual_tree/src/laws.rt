@@ -1,0 +1,13 @@
+// Laws of lists of triangles that fit a polygon, each as the contract of a call that does nothing when it runs.
+ghost use Rattle.dual_tree.specs.MeshLaws.{SeparationLaw, SleeveLaw};
+
+/// The separation law: a point in a triangle of a walk and in a later one is on each side that the walk crosses between them.
+pub fn separation()
+    ensures { SeparationLaw }
+{}
+
+/// The sleeve law: along a walk over triangles, a point of the first sees a point of the last exactly if the segment between
+/// them meets each side that the walk crosses.
+pub fn sleeve()
+    ensures { SleeveLaw }
+{}
