@@ -1,6 +1,7 @@
 -- A ring that is split along a shared side of a mesh: each triangle lies in one piece as a whole.
 use Rattle.std.proofs.Common.{◌≡◌, ◌⊎◌, inl, inr, sym, ◌∙◌, List, length, ℕ, ◌+◌, ◌<◌, arith}
 use Rattle.std.proofs.lemmas.Bool.{cases_lt}
+use Rattle.std.specs.List.{Contains}
 use Rattle.plane.proofs.Same.{same_sym, whole_is_point}
 use Rattle.plane.proofs.Segments.{on_reversed}
 use Rattle.plane.specs.Point.{IsPoint, IsSame, Point, Triple, whole}
@@ -13,10 +14,10 @@ use Rattle.rings.specs.Ring.{vertex}
 use Rattle.ring_laws.proofs.Sides.{stays_left}
 use Rattle.tri_mesh.proofs.PieceSteps.{same_or_not}
 use Rattle.tri_mesh.specs.declared.tri.Tri.{Tri}
-use Rattle.tri_mesh.specs.Fits.{Fits, IsInTri, IsStrictlyInTri}
+use Rattle.tri_mesh.specs.Fits.{FitsPiece, IsInTri, IsStrictlyInTri, points_of}
 use Rattle.tri_mesh.specs.Side.{tri_at}
 use Rattle.dual_tree.proofs.BetweenPieces.{IsCovered, covered_swapped, in_if_near, meets_between}
-use Rattle.dual_tree.proofs.MeshDiagonals.{IsShared, positive_not_negative, ring_apart, ring_covers, ring_long, vertex_on_ring}
+use Rattle.dual_tree.proofs.MeshDiagonals.{IsShared, positive_not_negative, ring_apart, ring_long, vertex_on_ring}
 use Rattle.dual_tree.proofs.OpenRegions.{IsLeftOfAll, left_of_all_eventually, region_off_edges}
 use Rattle.dual_tree.proofs.Opposite.{IsOpposite, mean, mean_inside, mean_is_point, near_side, sides, toward_inside}
 
@@ -56,21 +57,21 @@ module _ (corners : List Point) (t : Tri) where
         left_of_third = stays_left z p q at_z at_p at_q on C A s.left_of_third r.left_of_third;
       }
 
-module _ (corners : List Point) (tris : List Tri) (fits : Fits corners tris) where
+module _ (corners : List Point) (piece : List ℕ) (tris : List Tri) (fits : FitsPiece corners piece tris) where
   -- a point strictly inside a triangle is on no edge of the ring,
-  inside_off_edges : (n : ℕ) → n < length tris → (y : Triple) → IsPoint y → IsStrictlyInTri corners (tri_at tris n) y → ¬ IsOnSome (edges_of corners) y
+  inside_off_edges : (n : ℕ) → n < length tris → (y : Triple) → IsPoint y → IsStrictlyInTri corners (tri_at tris n) y → ¬ IsOnSome (edges_of (points_of corners piece)) y
   inside_off_edges n within y at_y s =
       let t = tri_at tris n in
-      region_off_edges corners (ring_apart corners tris fits) (ring_long corners tris fits n within) (sides corners t)
-      (λ z at_z h. (ring_covers corners tris fits z at_z).1 (n, within, closed_of corners t z (inside_sides corners t z h)))
+      region_off_edges (points_of corners piece) (ring_apart corners piece tris fits) (ring_long corners piece tris fits n within) (sides corners t)
+      (λ z at_z h. (fits.covers z at_z).1 (n, within, closed_of corners t z (inside_sides corners t z h)))
       y at_y (left_of_sides corners t y s)
 
   -- so it is no vertex,
-  inside_no_vertex : (n : ℕ) → n < length tris → (y : Triple) → IsPoint y → IsStrictlyInTri corners (tri_at tris n) y → (i : ℕ) → i < length corners
+  inside_no_vertex : (n : ℕ) → n < length tris → (y : Triple) → IsPoint y → IsStrictlyInTri corners (tri_at tris n) y → (i : ℕ) → Contains piece i
       → ¬ IsSame y (whole (vertex corners i))
   inside_no_vertex n within y at_y s i h same =
       inside_off_edges n within y at_y s
-      (on_some_same (whole (vertex corners i)) y (whole_is_point (vertex corners i)) (same_sym same) (edges_of corners) (vertex_on_ring corners tris fits i h))
+      (on_some_same (whole (vertex corners i)) y (whole_is_point (vertex corners i)) (same_sym same) (edges_of (points_of corners piece)) (vertex_on_ring corners piece tris fits i h))
 
   -- and not strictly inside another one
   inside_one : (m n : ℕ) → m < length tris → n < length tris → ¬ (m ≡ n) → (y : Triple) → IsPoint y
@@ -92,7 +93,7 @@ module _ (corners : List Point) (tris : List Tri) (fits : Fits corners tris) whe
 
   -- ---- a shared side
 
-  module _ (i j k l : ℕ) (s : IsShared corners tris i j k l) where
+  module _ (i j k l : ℕ) (s : IsShared corners piece tris i j k l) where
     -- no point strictly inside a triangle is on it
     inside_off_side : (n : ℕ) → n < length tris → (y : Triple) → IsPoint y → IsStrictlyInTri corners (tri_at tris n) y
         → ¬ On y (whole (vertex corners i)) (whole (vertex corners j))
@@ -107,7 +108,7 @@ module _ (corners : List Point) (tris : List Tri) (fits : Fits corners tris) whe
               (on_reversed y (whole (vertex corners i)) (whole (vertex corners j)) on) not_to not_from r
         ]
 
-    module _ (first second : List Point) (c : IsCovered corners first second (whole (vertex corners i)) (whole (vertex corners j))) where
+    module _ (first second : List Point) (c : IsCovered (points_of corners piece) first second (whole (vertex corners i)) (whole (vertex corners j))) where
       -- a triangle whose mean is in a piece lies in it
       lies_with_mean : (n : ℕ) → n < length tris → IsIn first (mean corners (tri_at tris n)) → LiesIn corners tris first n
       lies_with_mean n within in_mean x at_x h =
@@ -122,11 +123,11 @@ module _ (corners : List Point) (tris : List Tri) (fits : Fits corners tris) whe
                 let y = toward x g m in
                 let at_y = toward_is_point x g at_x at_g m in
                 let inside_y = toward_inside corners t left x g h inside_g m in
-                elim (c.covers y at_y ((ring_covers corners tris fits y at_y).1 (n, within, closed_of corners t y inside_y))) [
+                elim (c.covers y at_y ((fits.covers y at_y).1 (n, within, closed_of corners t y inside_y))) [
                   | inl k ↦ k
                   | inr k ↦
-                      let meet = meets_between corners first second (whole (vertex corners i)) (whole (vertex corners j)) c g y at_g at_y in_mean k
-                      (λ z at_z on. (ring_covers corners tris fits z at_z).1
+                      let meet = meets_between (points_of corners piece) first second (whole (vertex corners i)) (whole (vertex corners j)) c g y at_g at_y in_mean k
+                      (λ z at_z on. (fits.covers z at_z).1
                       (n, within, closed_of corners t z (inside_between corners t z g y at_z at_g at_y inside_g inside_y on))) in
                       absurd (inside_off_side n within meet.point meet.rational
                       (inside_between corners t meet.point g y meet.rational at_g at_y inside_g inside_y meet.on_first) meet.on_second)
@@ -134,13 +135,13 @@ module _ (corners : List Point) (tris : List Tri) (fits : Fits corners tris) whe
           })
 
     -- so each triangle lies in one piece or the other
-    pub lies_in_one : (first second : List Point) → IsCovered corners first second (whole (vertex corners i)) (whole (vertex corners j))
+    pub lies_in_one : (first second : List Point) → IsCovered (points_of corners piece) first second (whole (vertex corners i)) (whole (vertex corners j))
         → (n : ℕ) → n < length tris → LiesIn corners tris first n ⊎ LiesIn corners tris second n
     lies_in_one first second c n within =
         let t = tri_at tris n in
         let left = (fits.triangles n within).counterclockwise in
         let at_g = mean_is_point corners t left in
-        elim (c.covers (mean corners t) at_g ((ring_covers corners tris fits (mean corners t) at_g).1
+        elim (c.covers (mean corners t) at_g ((fits.covers (mean corners t) at_g).1
         (n, within, closed_of corners t (mean corners t) (mean_inside corners t left)))) [
           | inl h ↦ inl (lies_with_mean first second c n within h)
           | inr h ↦ inr (lies_with_mean second first (covered_swapped c) n within h)

@@ -70,6 +70,14 @@ split_in_parts xs v ps z ys apart diagonal =
       second_has = last_edge z (ys ++ xs) v;
     }
 
+-- also by other names of the ring and of the vertices,
+split_named : (ring xs : List Point) (v : Point) (ps : List Point) (z : Point) (ys : List Point) (a b : Point)
+    → ring ≡ xs ++ v ∷ (ps ++ z ∷ ys) → a ≡ v → b ≡ z → IsApartRing ring → IsDiagonal ring a b → IsSplit ring a b
+split_named ring xs v ps z ys a b parts at_v at_z apart diagonal =
+    let named : IsDiagonal ring v z = subst (λ x. IsDiagonal ring x z) at_v (subst (λ y. IsDiagonal ring a y) at_z diagonal) in
+    let split = split_in_parts xs v ps z ys (subst IsApartRing parts apart) (subst (λ rs. IsDiagonal rs v z) parts named) in
+    subst (λ x. IsSplit ring x b) (sym at_v) (subst (λ y. IsSplit ring v y) (sym at_z) (subst (λ rs. IsSplit rs v z) (sym parts) split))
+
 -- item i of a list, and what is before and after it
 parts_at : (ring : List Point) (i : ℕ) → i < length ring
     → (xs : List Point) × (v : Point) × (rest : List Point) × (ring ≡ xs ++ v ∷ rest) × (length xs ≡ i)
@@ -91,11 +99,7 @@ module _ (ring : List Point) (apart : IsApartRing ring) where
       let at_z : vertex ring j ≡ z =
       vertex_in_range ring j origin within ∙ ap (λ rs. get_or rs j origin) (parts ∙ sym (append_assoc xs (v ∷ ps) (z ∷ ys)))
       ∙ get_or_at (xs ++ v ∷ ps) z ys origin j (omega (arith, length-append xs (v ∷ ps))) in
-      let named : IsDiagonal ring v z =
-      subst (λ a. IsDiagonal ring a z) at_v (subst (λ b. IsDiagonal ring (vertex ring i) b) at_z diagonal) in
-      let split = split_in_parts xs v ps z ys (subst IsApartRing parts apart) (subst (λ rs. IsDiagonal rs v z) parts named) in
-      subst (λ a. IsSplit ring a (vertex ring j)) (sym at_v)
-      (subst (λ b. IsSplit ring v b) (sym at_z) (subst (λ rs. IsSplit rs v z) (sym parts) split))
+      split_named ring xs v ps z ys (vertex ring i) (vertex ring j) parts at_v at_z apart diagonal
 
   -- in either order
   pub split_by : (i j : ℕ) → i < length ring → j < length ring → ¬ (i ≡ j) → IsDiagonal ring (vertex ring i) (vertex ring j)

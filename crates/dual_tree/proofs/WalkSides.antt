@@ -1,7 +1,6 @@
 -- A walk over the triangles of a mesh that crosses a side: before it lies one piece, and after it the other.
 use Rattle.std.proofs.Common.{◌≡◌, ◌⊎◌, inl, inr, sym, subst, ◌∙◌, List, length, get_or, ℕ, zero, suc, ◌+◌, ◌-◌, ◌<◌, ◌≤◌, arith}
 use Rattle.std.proofs.lemmas.Bool.{cases_lt}
-use Rattle.std.specs.List.{range_with_len}
 use Rattle.plane.proofs.Segments.{meet_reversed_second, on_reversed}
 use Rattle.plane.specs.Point.{IsPoint, Point, Triple, whole}
 use Rattle.plane.specs.Segment.{Meet, On}
@@ -10,7 +9,7 @@ use Rattle.rings.specs.Sees.{Sees}
 use Rattle.tri_mesh.proofs.Halves.{AreEnds, between_back}
 use Rattle.tri_mesh.proofs.PieceSteps.{edge_or_not}
 use Rattle.tri_mesh.specs.declared.tri.Tri.{Tri}
-use Rattle.tri_mesh.specs.Fits.{Fits, IsInTri, IsSideOfTwo}
+use Rattle.tri_mesh.specs.Fits.{FitsPiece, points_of, IsInTri, IsSideOfTwo}
 use Rattle.tri_mesh.specs.Side.{HasSide, HasSideBetween, IsWalk, tri_at}
 use Rattle.dual_tree.proofs.BetweenPieces.{meets_between}
 use Rattle.dual_tree.proofs.MeshDiagonals.{IsShared, shared_of}
@@ -23,11 +22,11 @@ between_ends_of : (t : Tri) (i j x y : ℕ) → AreEnds i j x y → HasSideBetwe
 between_ends_of t i j x y (inl e) h = subst (λ a. HasSideBetween t a j) e.0 (subst (λ b. HasSideBetween t x b) e.1 h)
 between_ends_of t i j x y (inr e) h = between_back (subst (λ a. HasSideBetween t a i) e.0 (subst (λ b. HasSideBetween t x b) e.1 h))
 
-module _ (corners : List Point) (tris : List Tri) (fits : Fits corners tris) where
+module _ (corners : List Point) (piece : List ℕ) (tris : List Tri) (fits : FitsPiece corners piece tris) where
   -- a side of one triangle that is a side of another one in some direction
   shared_from : (i j k l : ℕ) → k < length tris → l < length tris → ¬ (k ≡ l) → HasSide (tri_at tris k) i j → HasSideBetween (tri_at tris l) i j
       → IsSideOfTwo tris i j k l
-  shared_from i j k l in_k in_l differ has other = elim (edge_or_not (range_with_len 0 (length corners)) i j) [
+  shared_from i j k l in_k in_l differ has other = elim (edge_or_not piece i j) [
     | inl outer ↦ let (n, one) = fits.edges i j outer in absurd (differ (one.only k in_k (inl has) ∙ sym (one.only l in_l other)))
     | inr inner ↦
         let (n, two) = fits.inner_sides i j k in_k has inner in
@@ -69,22 +68,22 @@ module _ (corners : List Point) (tris : List Tri) (fits : Fits corners tris) whe
       ]
 
       -- it parts the mesh
-      shared : IsShared corners tris i j (at m) (at (m + 1))
-      shared = shared_of corners tris fits i j (at m) (at (m + 1)) two
+      shared : IsShared corners piece tris i j (at m) (at (m + 1))
+      shared = shared_of corners piece tris fits i j (at m) (at (m + 1)) two
 
-      pub walk_parted : IsParted corners tris i j (at m) (at (m + 1))
-      walk_parted = parted corners tris fits i j (at m) (at (m + 1)) shared
+      pub walk_parted : IsParted corners piece tris i j (at m) (at (m + 1))
+      walk_parted = parted corners piece tris fits i j (at m) (at (m + 1)) shared
 
-      module _ (p : IsParted corners tris i j (at m) (at (m + 1))) where
+      module _ (p : IsParted corners piece tris i j (at m) (at (m + 1))) where
         -- a triangle before one in the first piece is in it,
         step_before : (r : ℕ) → r < m → LiesIn corners tris p.first (at (r + 1)) → LiesIn corners tris p.first (at r)
         step_before r less lies =
             let here = w.in_list r (omega arith) in
-            elim (lies_in_one corners tris fits i j (at m) (at (m + 1)) shared p.first p.second p.covered (at r) here) [
+            elim (lies_in_one corners piece tris fits i j (at m) (at (m + 1)) shared p.first p.second p.covered (at r) here) [
               | inl h ↦ h
               | inr h ↦
                   let share = w.sharing r (omega arith) in
-                  let ends = shared_is_this corners tris fits i j (at m) (at (m + 1)) shared p.first p.second p.covered (at (r + 1)) (at r)
+                  let ends = shared_is_this corners piece tris fits i j (at m) (at (m + 1)) shared p.first p.second p.covered (at (r + 1)) (at r)
                   share.i share.j (w.in_list (r + 1) (omega arith)) here share.of_second (inl share.of_first) lies h in
                   absurd (not_again r (omega arith) (λ e. omega arith) (λ e. omega arith)
                   (between_ends_of (tri_at tris (at r)) i j share.i share.j ends (inl share.of_first)))
@@ -94,11 +93,11 @@ module _ (corners : List Point) (tris : List Tri) (fits : Fits corners tris) whe
         step_after : (r : ℕ) → m < r → r + 1 < length walk → LiesIn corners tris p.second (at r) → LiesIn corners tris p.second (at (r + 1))
         step_after r more within lies =
             let there = w.in_list (r + 1) within in
-            elim (lies_in_one corners tris fits i j (at m) (at (m + 1)) shared p.first p.second p.covered (at (r + 1)) there) [
+            elim (lies_in_one corners piece tris fits i j (at m) (at (m + 1)) shared p.first p.second p.covered (at (r + 1)) there) [
               | inr h ↦ h
               | inl h ↦
                   let share = w.sharing r within in
-                  let ends = shared_is_this corners tris fits i j (at m) (at (m + 1)) shared p.first p.second p.covered (at (r + 1)) (at r)
+                  let ends = shared_is_this corners piece tris fits i j (at m) (at (m + 1)) shared p.first p.second p.covered (at (r + 1)) (at r)
                   share.i share.j there (w.in_list r (omega arith)) share.of_second (inl share.of_first) h lies in
                   absurd (not_again (r + 1) within (λ e. omega arith) (λ e. omega arith)
                   (between_ends_of (tri_at tris (at (r + 1))) i j share.i share.j ends share.of_second))
@@ -132,9 +131,9 @@ module _ (corners : List Point) (tris : List Tri) (fits : Fits corners tris) whe
 
         -- and a way in the ring from the first triangle to the last meets it
         meet_by : (a b : Triple) → IsPoint a → IsPoint b → IsInTri corners (walk_tri tris walk 0) a
-            → IsInTri corners (walk_tri tris walk (length walk - 1)) b → Sees corners a b → Meet a b (whole (vertex corners i)) (whole (vertex corners j))
+            → IsInTri corners (walk_tri tris walk (length walk - 1)) b → Sees (points_of corners piece) a b → Meet a b (whole (vertex corners i)) (whole (vertex corners j))
         meet_by a b at_a at_b first last sees =
-            meets_between corners p.first p.second (whole (vertex corners i)) (whole (vertex corners j)) p.covered a b at_a at_b
+            meets_between (points_of corners piece) p.first p.second (whole (vertex corners i)) (whole (vertex corners j)) p.covered a b at_a at_b
             (lies_before 0 (omega arith) a at_a first) (lies_after (length walk - 1) (omega arith) (omega arith) b at_b last) sees
 
     -- the separation law
@@ -150,7 +149,7 @@ module _ (corners : List Point) (tris : List Tri) (fits : Fits corners tris) whe
 
     -- points that see each other do so over each side that the walk crosses
     pub meets_crossed : (a b : Triple) → IsPoint a → IsPoint b → IsInTri corners (walk_tri tris walk 0) a
-        → IsInTri corners (walk_tri tris walk (length walk - 1)) b → Sees corners a b
+        → IsInTri corners (walk_tri tris walk (length walk - 1)) b → Sees (points_of corners piece) a b
         → (m i j : ℕ) → CrossesSide tris walk m i j → Meet a b (whole (vertex corners i)) (whole (vertex corners j))
     meets_crossed a b at_a at_b first last sees m i j c = elim (crossed_of_two m i j c) [
       | inl two ↦ meet_by m i j c.has_next two (walk_parted m i j c.has_next two) a b at_a at_b first last sees

@@ -5,7 +5,7 @@ use Rattle.plane.specs.Segment.{Meet, On}
 use Rattle.rings.specs.Ring.{vertex}
 use Rattle.rings.specs.Sees.{Sees}
 use Rattle.tri_mesh.specs.declared.tri.Tri.{Tri}
-use Rattle.tri_mesh.specs.Fits.{Fits, IsInTri}
+use Rattle.tri_mesh.specs.Fits.{Fits, FitsPiece, IsInTri, points_of}
 use Rattle.tri_mesh.specs.Side.{HasSideBetween, IsWalk, tri_at}
 
 -- the triangle at place m of a walk
@@ -20,13 +20,21 @@ pub record CrossesSide (tris : List Tri) (walk : List ℕ) (m i j : ℕ) : Type 
 
 -- a rational point in a triangle of a walk and in a later one is on each side that the walk crosses between them
 abbrev pub SeparationLaw : Type 0
-SeparationLaw = (corners : List Point) (tris : List Tri) → Fits corners tris → (walk : List ℕ) → IsWalk tris walk
+SeparationLaw = (corners : List Point) (piece : List ℕ) (tris : List Tri) → FitsPiece corners piece tris → (walk : List ℕ) → IsWalk tris walk
     → (m i j : ℕ) → CrossesSide tris walk m i j → (k l : ℕ) → k ≤ m → m < l → l < length walk
     → (x : Triple) → IsPoint x → IsInTri corners (walk_tri tris walk k) x → IsInTri corners (walk_tri tris walk l) x
     → On x (whole (vertex corners i)) (whole (vertex corners j))
 
 -- rational points in the first and the last triangle of a walk see each other exactly if the segment between them meets each
--- side that the walk crosses
+-- side that the walk crosses: in a piece,
+abbrev pub PieceSleeveLaw : Type 0
+PieceSleeveLaw = (corners : List Point) (piece : List ℕ) (tris : List Tri) → FitsPiece corners piece tris → (walk : List ℕ) → IsWalk tris walk
+    → (p q : Triple) → IsPoint p → IsPoint q
+    → IsInTri corners (walk_tri tris walk 0) p → IsInTri corners (walk_tri tris walk (length walk - 1)) q
+    → Sees (points_of corners piece) p q
+    ↔ ((m i j : ℕ) → CrossesSide tris walk m i j → Meet p q (whole (vertex corners i)) (whole (vertex corners j)))
+
+-- and in a whole ring
 abbrev pub SleeveLaw : Type 0
 SleeveLaw = (corners : List Point) (tris : List Tri) → Fits corners tris → (walk : List ℕ) → IsWalk tris walk
     → (p q : Triple) → IsPoint p → IsPoint q

@@ -1,5 +1,5 @@
 // Laws of lists of triangles that fit a polygon, each as the contract of a call that does nothing when it runs.
-ghost use Rattle.dual_tree.specs.MeshLaws.{SeparationLaw, SleeveLaw};
+ghost use Rattle.dual_tree.specs.MeshLaws.{PieceSleeveLaw, SeparationLaw, SleeveLaw};
 
 /// The separation law: a point in a triangle of a walk and in a later one is on each side that the walk crosses between them.
 pub fn separation()
@@ -10,4 +10,9 @@ pub fn separation()
 /// them meets each side that the walk crosses.
 pub fn sleeve()
     ensures { SleeveLaw }
+{}
+
+/// The sleeve law for the triangles that fit a piece of a polygon.
+pub fn piece_sleeve()
+    ensures { PieceSleeveLaw }
 {}

@@ -3,4 +3,4 @@
 
 mod laws;
 
-pub use laws::{separation, sleeve};
+pub use laws::{piece_sleeve, separation, sleeve};
