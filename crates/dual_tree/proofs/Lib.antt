@@ -1,5 +1,7 @@
 pub mod Between
 pub mod BetweenPieces
+pub mod Ears
+pub mod TreeLeaves
 pub mod MeshDiagonals
 pub mod OpenRegions
 pub mod Opposite

@@ -1,12 +1,12 @@
 -- The laws of triangulations, as statements. As in the textbooks; sleeves: Lee and Preparata 1984.
-use Rattle.std.specs.Prelude.{◌↔◌, ℕ, ◌+◌, ◌-◌, ◌<◌, ◌≤◌, List, length, slice_index_or}
+use Rattle.std.specs.Prelude.{◌≡◌, ◌↔◌, ℕ, ◌+◌, ◌-◌, ◌<◌, ◌≤◌, List, length, slice_index_or}
 use Rattle.plane.specs.Point.{IsPoint, Point, Triple, whole}
 use Rattle.plane.specs.Segment.{Meet, On}
 use Rattle.rings.specs.Ring.{vertex}
 use Rattle.rings.specs.Sees.{Sees}
 use Rattle.tri_mesh.specs.declared.tri.Tri.{Tri}
-use Rattle.tri_mesh.specs.Fits.{Fits, FitsPiece, IsInTri, points_of}
-use Rattle.tri_mesh.specs.Side.{HasSideBetween, IsWalk, tri_at}
+use Rattle.tri_mesh.specs.Fits.{Fits, FitsPiece, IsInTri, IsPieceEdge, IsSideOfTwo, points_of}
+use Rattle.tri_mesh.specs.Side.{HasSide, HasSideBetween, IsTree, IsWalk, ShareSide, tri_at}
 
 -- the triangle at place m of a walk
 abbrev pub walk_tri : List Tri → List ℕ → ℕ → Tri
@@ -41,3 +41,30 @@ SleeveLaw = (corners : List Point) (tris : List Tri) → Fits corners tris → (
     → IsInTri corners (walk_tri tris walk 0) p → IsInTri corners (walk_tri tris walk (length walk - 1)) q
     → Sees corners p q
     ↔ ((m i j : ℕ) → CrossesSide tris walk m i j → Meet p q (whole (vertex corners i)) (whole (vertex corners j)))
+
+-- triangle k shares a side with exactly one other triangle, its neighbour
+pub record IsLeaf (tris : List Tri) (k : ℕ) : Type 0 where
+  pub in_list : k < length tris
+  pub neighbour : ℕ
+  pub neighbour_in_list : neighbour < length tris
+  pub different : ¬ (neighbour ≡ k)
+  pub sharing : ShareSide (tri_at tris k) (tri_at tris neighbour)
+  pub only : (l : ℕ) → l < length tris → ¬ (l ≡ k) → ShareSide (tri_at tris k) (tri_at tris l) → l ≡ neighbour
+
+-- triangles that are a tree, two or more, have two leaves
+abbrev pub LeavesLaw : Type 0
+LeavesLaw = (tris : List Tri) → IsTree tris → 2 ≤ length tris → (k : ℕ) × (l : ℕ) × (¬ (k ≡ l)) × IsLeaf tris k × IsLeaf tris l
+
+-- triangle k of the list, beside triangle l, is an ear with the tip v: two of its sides are consecutive edges of the piece, from
+-- u over v to w, and the third is shared with triangle l
+pub record IsEar (piece : List ℕ) (tris : List Tri) (k l u v w : ℕ) : Type 0 where
+  pub first_side : HasSide (tri_at tris k) u v
+  pub second_side : HasSide (tri_at tris k) v w
+  pub first_edge : IsPieceEdge piece u v
+  pub second_edge : IsPieceEdge piece v w
+  pub base : IsSideOfTwo tris w u k l
+
+-- a leaf of a mesh is an ear
+abbrev pub LeafLaw : Type 0
+LeafLaw = (corners : List Point) (piece : List ℕ) (tris : List Tri) → FitsPiece corners piece tris
+    → (k : ℕ) → (leaf : IsLeaf tris k) → (u : ℕ) × (v : ℕ) × (w : ℕ) × IsEar piece tris k leaf.neighbour u v w

@@ -1,5 +1,5 @@
 // Laws of lists of triangles that fit a polygon, each as the contract of a call that does nothing when it runs.
-ghost use Rattle.dual_tree.specs.MeshLaws.{PieceSleeveLaw, SeparationLaw, SleeveLaw};
+ghost use Rattle.dual_tree.specs.MeshLaws.{LeafLaw, LeavesLaw, PieceSleeveLaw, SeparationLaw, SleeveLaw};
 
 /// The separation law: a point in a triangle of a walk and in a later one is on each side that the walk crosses between them.
 pub fn separation()
@@ -15,4 +15,14 @@ pub fn sleeve()
 /// The sleeve law for the triangles that fit a piece of a polygon.
 pub fn piece_sleeve()
     ensures { PieceSleeveLaw }
+{}
+
+/// The law of leaves: two triangles or more that are a tree have two leaves.
+pub fn leaves()
+    ensures { LeavesLaw }
+{}
+
+/// The law of ears: a leaf is a triangle of two consecutive edges.
+pub fn ear()
+    ensures { LeafLaw }
 {}

@@ -1,0 +1,135 @@
+-- The leaves of a mesh, and that they are ears.
+use Rattle.std.proofs.Common.{◌≡◌, ◌⊎◌, inl, inr, refl, sym, ap, subst, ◌∙◌, ℕ, ◌<◌, List, length, arith}
+use Rattle.std.proofs.lemmas.Int.{ints}
+use Rattle.plane.proofs.Determinants.{determinant_swap_ends}
+use Rattle.plane.specs.Point.{Point, Triple, whole}
+use Rattle.plane.specs.Turn.{IsLeft}
+use Rattle.rings.specs.Ring.{vertex}
+use Rattle.ring_laws.proofs.Triangles.{left_at_first, left_at_last}
+use Rattle.tri_mesh.proofs.MeshSides.{left_apart}
+use Rattle.tri_mesh.proofs.PieceSteps.{edge_or_not}
+use Rattle.tri_mesh.proofs.Walks.{Touch, share_back, tree_of_walks}
+use Rattle.tri_mesh.specs.declared.tri.Tri.{Tri}
+use Rattle.tri_mesh.specs.Fits.{FitsPiece, IsPieceEdge, IsSideOfTwo}
+use Rattle.tri_mesh.specs.Side.{HasSide, tri_at}
+use Rattle.dual_tree.proofs.TreeLeaves.{IsJoinedToOne, leaf_other}
+use Rattle.dual_tree.specs.MeshLaws.{IsEar, IsLeaf, LeafLaw, LeavesLaw}
+
+-- a number joined to one other is a leaf
+leaf_of : (tris : List Tri) (k : ℕ) → k < length tris → IsJoinedToOne (length tris) (Touch tris) k → IsLeaf tris k
+leaf_of tris k within j = record {
+  in_list = within;
+  neighbour = j.next;
+  neighbour_in_list = j.next_within;
+  different = j.differs;
+  sharing = j.joined;
+  only = j.only;
+}
+
+-- two triangles or more have two leaves
+pub leaves_law : LeavesLaw
+leaves_law tris tree many =
+    let turn : (a b : ℕ) → Touch tris a b → Touch tris b a = λ a b s. share_back (tri_at tris a) (tri_at tris b) s in
+    let paths = tree_of_walks tris tree in
+    let first = leaf_other (length tris) (Touch tris) turn paths 0 1 (omega arith) (omega arith) (λ e. omega arith) in
+    let second = leaf_other (length tris) (Touch tris) turn paths first.leaf 0 first.within (omega arith) (λ e. first.differs (sym e)) in (
+      first.leaf,
+      second.leaf,
+      λ e. second.differs (sym e),
+      leaf_of tris first.leaf first.within first.joined,
+      leaf_of tris second.leaf second.within second.joined,
+    )
+
+-- ---- two sides of one triangle
+
+-- two sides one after the other, by the three corners
+two_sides : (a b c x y z : ℕ) → ¬ (a ≡ b) → ¬ (b ≡ c) → ¬ (c ≡ a) → HasSide (record { a = a; b = b; c = c }) x y
+    → HasSide (record { a = a; b = b; c = c }) y z
+    → ((a ≡ x) × (b ≡ y) × (c ≡ z)) ⊎ ((b ≡ x) × (c ≡ y) × (a ≡ z)) ⊎ ((c ≡ x) × (a ≡ y) × (b ≡ z))
+two_sides a b c x y z ab bc ca h k = grind arith
+
+-- the third corner at a side
+next_corner : (t : Tri) (i j : ℕ) → HasSide t i j → (m : ℕ) × HasSide t j m × HasSide t m i
+next_corner t i j (inl h) = (t.c, inr (inl (h.1, refl)), inr (inr (refl, h.0)))
+next_corner t i j (inr (inl h)) = (t.a, inr (inr (h.1, refl)), inl (refl, h.0))
+next_corner t i j (inr (inr h)) = (t.b, inl (h.1, refl), inr (inl (refl, h.0)))
+
+module _ (corners : List Point) where
+  -- the turn over three vertices is left
+  abbrev IsLeftTurn : ℕ → ℕ → ℕ → Type 0
+  IsLeftTurn x y z = IsLeft (whole (vertex corners x)) (whole (vertex corners y)) (whole (vertex corners z))
+
+  -- by other names of the numbers
+  turn_named : {a b c x y z : ℕ} → a ≡ x → b ≡ y → c ≡ z → IsLeftTurn a b c → IsLeftTurn x y z
+  turn_named {a} {b} {c} {x} {y} {z} e f g h =
+      subst (λ n. IsLeftTurn n y z) e (subst (λ n. IsLeftTurn a n z) f (subst (λ n. IsLeftTurn a b n) g h))
+
+  -- a counterclockwise triangle turns left over two of its sides
+  pub turns_left : (t : Tri) → IsLeftTurn t.a t.b t.c → (x y z : ℕ) → HasSide t x y → HasSide t y z → IsLeftTurn x y z
+  turns_left t left x y z h k =
+      let A = vertex corners t.a in
+      let B = vertex corners t.b in
+      let C = vertex corners t.c in
+      let apart = left_apart (whole A) (whole B) (whole C) left in
+      let at : ℕ → Triple = λ n. whole (vertex corners n) in
+      elim (two_sides t.a t.b t.c x y z (λ e. apart.0 (ap at e)) (λ e. apart.1 (ap at e)) (λ e. apart.2 (ap at e)) h k) [
+        | inl e ↦ turn_named e.0 e.1 e.2 left
+        | inr e ↦ elim e [
+          | inl f ↦ turn_named f.0 f.1 f.2 (left_at_last A B C left)
+          | inr f ↦ turn_named f.0 f.1 f.2 (left_at_first A B C left)
+        ]
+      ]
+
+  -- so two triangles do not share two sides in opposite directions
+  not_two_shared : (t u : Tri) → IsLeftTurn t.a t.b t.c → IsLeftTurn u.a u.b u.c → (x y z : ℕ) → HasSide t x y → HasSide t y z
+      → HasSide u y x → HasSide u z y → ⊥
+  not_two_shared t u left_t left_u x y z xy yz yx zy =
+      let there = turns_left t left_t x y z xy yz in
+      let back = turns_left u left_u z y x zy yx in
+      let e = determinant_swap_ends (whole (vertex corners x)) (whole (vertex corners y)) (whole (vertex corners z)) in
+      omega (arith, ints, there, back, e)
+
+module _ (corners : List Point) (piece : List ℕ) (tris : List Tri) (fits : FitsPiece corners piece tris) (k : ℕ) (leaf : IsLeaf tris k) where
+  -- a side of a leaf is an edge of the piece, or shared with its neighbour
+  side_of_leaf : (i j : ℕ) → HasSide (tri_at tris k) i j → IsPieceEdge piece i j ⊎ IsSideOfTwo tris i j k leaf.neighbour
+  side_of_leaf i j has = elim (edge_or_not piece i j) [
+    | inl edge ↦ inl edge
+    | inr inner ↦
+        let (m, two) = fits.inner_sides i j k leaf.in_list has inner in
+        let is = leaf.only m two.other_in_list (λ e. two.different (sym e))
+        (record { i = i; j = j; of_first = has; of_second = inr two.other_has }) in
+        inr (subst (IsSideOfTwo tris i j k) is two)
+  ]
+
+  -- not two of its sides are shared
+  one_shared : (x y z : ℕ) → IsSideOfTwo tris x y k leaf.neighbour → ¬ IsSideOfTwo tris y z k leaf.neighbour
+  one_shared x y z first second =
+      not_two_shared corners (tri_at tris k) (tri_at tris leaf.neighbour) (fits.triangles k leaf.in_list).counterclockwise
+      (fits.triangles leaf.neighbour leaf.neighbour_in_list).counterclockwise x y z first.has second.has first.other_has second.other_has
+
+  -- with its base shared, it is an ear
+  ear_at : (w u : ℕ) → IsSideOfTwo tris w u k leaf.neighbour → (u : ℕ) × (v : ℕ) × (w : ℕ) × IsEar piece tris k leaf.neighbour u v w
+  ear_at w u base =
+      let (v, uv, vw) = next_corner (tri_at tris k) w u base.has in
+      elim (side_of_leaf u v uv) [
+        | inr other ↦ absurd (one_shared w u v base other)
+        | inl first ↦ elim (side_of_leaf v w vw) [
+          | inr other ↦ absurd (one_shared v w u other base)
+          | inl second ↦ (u, v, w, record { first_side = uv; second_side = vw; first_edge = first; second_edge = second; base = base })
+        ]
+      ]
+
+  -- a leaf is an ear
+  pub leaf_is_ear : (u : ℕ) × (v : ℕ) × (w : ℕ) × IsEar piece tris k leaf.neighbour u v w
+  leaf_is_ear =
+      let s = leaf.sharing in
+      elim (side_of_leaf s.i s.j s.of_first) [
+        | inl edge ↦
+            let (m, one) = fits.edges s.i s.j edge in
+            absurd (leaf.different (one.only leaf.neighbour leaf.neighbour_in_list s.of_second ∙ sym (one.only k leaf.in_list (inl s.of_first))))
+        | inr base ↦ ear_at s.i s.j base
+      ]
+
+-- as it is stated
+pub leaf_law : LeafLaw
+leaf_law corners piece tris fits k leaf = leaf_is_ear corners piece tris fits k leaf
