@@ -6,11 +6,12 @@ use Rattle.plane.specs.Point.{Point, Triple, whole}
 use Rattle.plane.specs.Turn.{IsLeft}
 use Rattle.rings.specs.Ring.{vertex}
 use Rattle.ring_laws.proofs.Triangles.{left_at_first, left_at_last}
+use Rattle.ring_laws.specs.Triangle.{IsInTriangle}
 use Rattle.tri_mesh.proofs.MeshSides.{left_apart}
 use Rattle.tri_mesh.proofs.PieceSteps.{edge_or_not}
 use Rattle.tri_mesh.proofs.Walks.{Touch, share_back, tree_of_walks}
 use Rattle.tri_mesh.specs.declared.tri.Tri.{Tri}
-use Rattle.tri_mesh.specs.Fits.{FitsPiece, IsPieceEdge, IsSideOfTwo}
+use Rattle.tri_mesh.specs.Fits.{FitsPiece, IsInTri, IsPieceEdge, IsSideOfTwo}
 use Rattle.tri_mesh.specs.Side.{HasSide, tri_at}
 use Rattle.dual_tree.proofs.TreeLeaves.{IsJoinedToOne, leaf_other}
 use Rattle.dual_tree.specs.MeshLaws.{IsEar, IsLeaf, LeafLaw, LeavesLaw}
@@ -77,6 +78,31 @@ module _ (corners : List Point) where
         | inr e ↦ elim e [
           | inl f ↦ turn_named f.0 f.1 f.2 (left_at_last A B C left)
           | inr f ↦ turn_named f.0 f.1 f.2 (left_at_first A B C left)
+        ]
+      ]
+
+  -- the closed triangle by other names of the numbers
+  closed_named : (p : Triple) {a b c x y z : ℕ} → a ≡ x → b ≡ y → c ≡ z → IsInTriangle (vertex corners x) (vertex corners y) (vertex corners z) p
+      → IsInTriangle (vertex corners a) (vertex corners b) (vertex corners c) p
+  closed_named p {a} {b} {c} {x} {y} {z} e f g h =
+      let In : ℕ → ℕ → ℕ → Type 0 = λ d m n. IsInTriangle (vertex corners d) (vertex corners m) (vertex corners n) p in
+      subst (λ n. In n b c) (sym e) (subst (λ n. In x n c) (sym f) (subst (λ n. In x y n) (sym g) h))
+
+  -- what is in the closed triangle of the three vertices is in the triangle
+  pub closed_by_sides : (t : Tri) → IsLeftTurn t.a t.b t.c → (x y z : ℕ) → HasSide t x y → HasSide t y z → (p : Triple)
+      → IsInTriangle (vertex corners x) (vertex corners y) (vertex corners z) p → IsInTri corners t p
+  closed_by_sides t left x y z h k p i =
+      let apart = left_apart (whole (vertex corners t.a)) (whole (vertex corners t.b)) (whole (vertex corners t.c)) left in
+      let at : ℕ → Triple = λ n. whole (vertex corners n) in
+      elim (two_sides t.a t.b t.c x y z (λ e. apart.0 (ap at e)) (λ e. apart.1 (ap at e)) (λ e. apart.2 (ap at e)) h k) [
+        | inl e ↦ closed_named p e.0 e.1 e.2 i
+        | inr e ↦ elim e [
+          | inl f ↦
+              let q = closed_named p f.0 f.1 f.2 i in
+              record { not_right_of_first = q.not_right_of_third; not_right_of_second = q.not_right_of_first; not_right_of_third = q.not_right_of_second }
+          | inr f ↦
+              let q = closed_named p f.0 f.1 f.2 i in
+              record { not_right_of_first = q.not_right_of_second; not_right_of_second = q.not_right_of_third; not_right_of_third = q.not_right_of_first }
         ]
       ]
 

@@ -1,7 +1,8 @@
 pub mod Between
 pub mod BetweenPieces
+pub mod EarCut
 pub mod Ears
-pub mod TreeLeaves
+pub mod LeafTaken
 pub mod MeshDiagonals
 pub mod OpenRegions
 pub mod Opposite
@@ -9,4 +10,6 @@ pub mod PartedMesh
 pub mod PieceOfTriangle
 pub mod Sleeves
 pub mod Splits
+pub mod TreeLeaves
 pub mod WalkSides
+pub mod Without

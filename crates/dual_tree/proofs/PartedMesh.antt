@@ -41,7 +41,7 @@ module _ (corners : List Point) (piece : List ℕ) (tris : List Tri) (fits : Fit
       o.side x at_x (on_reversed x (whole (vertex corners i)) (whole (vertex corners j)) on)
 
   -- the ends of a side are numbers of vertices, and different
-  side_numbers : (n i j : ℕ) → n < length tris → HasSideBetween (tri_at tris n) i j → Contains piece i × Contains piece j × (¬ (i ≡ j))
+  pub side_numbers : (n i j : ℕ) → n < length tris → HasSideBetween (tri_at tris n) i j → Contains piece i × Contains piece j × (¬ (i ≡ j))
   side_numbers n i j within has = between_ends corners piece (tri_at tris n) (fits.triangles n within) i j has
 
   module _ (i j k l : ℕ) (s : IsShared corners piece tris i j k l) where
@@ -97,7 +97,7 @@ module _ (corners : List Point) (piece : List ℕ) (tris : List Tri) (fits : Fit
 
     module _ (first second : List Point) (c : IsCovered (points_of corners piece) first second (whole (vertex corners i)) (whole (vertex corners j))) where
       -- a vertex on the side is an end of it
-      end_of_side : (x : ℕ) → Contains piece x → On (whole (vertex corners x)) (whole (vertex corners i)) (whole (vertex corners j)) → (x ≡ i) ⊎ (x ≡ j)
+      pub end_of_side : (x : ℕ) → Contains piece x → On (whole (vertex corners x)) (whole (vertex corners i)) (whole (vertex corners j)) → (x ≡ i) ⊎ (x ≡ j)
       end_of_side x within on =
           let v = vertex corners x in
           let (e, has, is) = edge_at_vertex corners piece tris fits x within in

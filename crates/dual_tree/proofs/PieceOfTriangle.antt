@@ -37,11 +37,11 @@ module _ (corners : List Point) (t : Tri) where
   }
 
   -- left of all sides,
-  left_of_sides : (y : Triple) → IsStrictlyInTri corners t y → IsLeftOfAll (sides corners t) y
+  pub left_of_sides : (y : Triple) → IsStrictlyInTri corners t y → IsLeftOfAll (sides corners t) y
   left_of_sides y s = (s.left_of_first, (s.left_of_second, (s.left_of_third, tt)))
 
   -- and the other way round
-  inside_sides : (y : Triple) → IsLeftOfAll (sides corners t) y → IsStrictlyInTri corners t y
+  pub inside_sides : (y : Triple) → IsLeftOfAll (sides corners t) y → IsStrictlyInTri corners t y
   inside_sides y (f, (g, (h, _))) = record { left_of_first = f; left_of_second = g; left_of_third = h }
 
   -- between two such points all are so
@@ -74,7 +74,7 @@ module _ (corners : List Point) (piece : List ℕ) (tris : List Tri) (fits : Fit
       (on_some_same (whole (vertex corners i)) y (whole_is_point (vertex corners i)) (same_sym same) (edges_of (points_of corners piece)) (vertex_on_ring corners piece tris fits i h))
 
   -- and not strictly inside another one
-  inside_one : (m n : ℕ) → m < length tris → n < length tris → ¬ (m ≡ n) → (y : Triple) → IsPoint y
+  pub inside_one : (m n : ℕ) → m < length tris → n < length tris → ¬ (m ≡ n) → (y : Triple) → IsPoint y
       → IsStrictlyInTri corners (tri_at tris m) y → IsStrictlyInTri corners (tri_at tris n) y → ⊥
   inside_one m n in_m in_n differ y at_y s r = elim (cases_lt m n) [
     | inl less ↦ fits.apart y at_y m n less in_n (s, r)

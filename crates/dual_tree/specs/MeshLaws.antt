@@ -1,5 +1,5 @@
 -- The laws of triangulations, as statements. As in the textbooks; sleeves: Lee and Preparata 1984.
-use Rattle.std.specs.Prelude.{◌≡◌, ◌↔◌, ℕ, ◌+◌, ◌-◌, ◌<◌, ◌≤◌, List, length, slice_index_or}
+use Rattle.std.specs.Prelude.{◌≡◌, ◌↔◌, ℕ, ◌+◌, ◌-◌, ◌<◌, ◌≤◌, List, [], ◌∷◌, ◌++◌, length, slice_index_or, zero, suc}
 use Rattle.plane.specs.Point.{IsPoint, Point, Triple, whole}
 use Rattle.plane.specs.Segment.{Meet, On}
 use Rattle.rings.specs.Ring.{vertex}
@@ -68,3 +68,25 @@ pub record IsEar (piece : List ℕ) (tris : List Tri) (k l u v w : ℕ) : Type 0
 abbrev pub LeafLaw : Type 0
 LeafLaw = (corners : List Point) (piece : List ℕ) (tris : List Tri) → FitsPiece corners piece tris
     → (k : ℕ) → (leaf : IsLeaf tris k) → (u : ℕ) × (v : ℕ) × (w : ℕ) × IsEar piece tris k leaf.neighbour u v w
+
+-- a list of triangles without triangle k
+abbrev pub without : ℕ → List Tri → List Tri
+without k [] = []
+without zero (t ∷ tris) = tris
+without (suc k) (t ∷ tris) = t ∷ without k tris
+
+-- a leaf is an ear, and the triangles without it fit the piece without its tip v
+pub record IsEarOff (corners : List Point) (piece : List ℕ) (tris : List Tri) (k l : ℕ) : Type 0 where
+  pub u : ℕ
+  pub v : ℕ
+  pub w : ℕ
+  pub ear : IsEar piece tris k l u v w
+  pub before : List ℕ
+  pub after : List ℕ
+  pub tip : piece ≡ before ++ v ∷ after
+  pub rest : FitsPiece corners (before ++ after) (without k tris)
+
+-- so it is with each leaf of a mesh
+abbrev pub EarLaw : Type 0
+EarLaw = (corners : List Point) (piece : List ℕ) (tris : List Tri) → FitsPiece corners piece tris
+    → (k : ℕ) → (leaf : IsLeaf tris k) → IsEarOff corners piece tris k leaf.neighbour
