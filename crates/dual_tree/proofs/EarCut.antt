@@ -32,10 +32,10 @@ module _ (corners : List Point) (u v w : ℕ) (ms : List ℕ) (tris : List Tri) 
   abbrev piece : List ℕ
   piece = u ∷ v ∷ w ∷ ms
 
-  abbrev ear_ring : List Point
+  abbrev pub ear_ring : List Point
   ear_ring = points_of corners (u ∷ v ∷ w ∷ [])
 
-  abbrev rest_ring : List Point
+  abbrev pub rest_ring : List Point
   rest_ring = points_of corners (u ∷ w ∷ ms)
 
   -- the base is a side of two triangles,
@@ -43,7 +43,7 @@ module _ (corners : List Point) (u v w : ℕ) (ms : List ℕ) (tris : List Tri) 
   base_shared = shared_of corners piece tris fits w u k l ear.base
 
   -- the ear turns left,
-  ear_left : IsLeft (whole (vertex corners u)) (whole (vertex corners v)) (whole (vertex corners w))
+  pub ear_left : IsLeft (whole (vertex corners u)) (whole (vertex corners v)) (whole (vertex corners w))
   ear_left =
       turns_left corners (tri_at tris k) (fits.triangles k ear.base.in_list).counterclockwise u v w ear.first_side ear.second_side
 

@@ -106,6 +106,50 @@ module _ (corners : List Point) where
         ]
       ]
 
+  -- and the other way round
+  pub closed_of_sides : (t : Tri) → IsLeftTurn t.a t.b t.c → (x y z : ℕ) → HasSide t x y → HasSide t y z → (p : Triple)
+      → IsInTri corners t p → IsInTriangle (vertex corners x) (vertex corners y) (vertex corners z) p
+  closed_of_sides t left x y z h k p i =
+      let apart = left_apart (whole (vertex corners t.a)) (whole (vertex corners t.b)) (whole (vertex corners t.c)) left in
+      let at : ℕ → Triple = λ n. whole (vertex corners n) in
+      elim (two_sides t.a t.b t.c x y z (λ e. apart.0 (ap at e)) (λ e. apart.1 (ap at e)) (λ e. apart.2 (ap at e)) h k) [
+        | inl e ↦ closed_named p (sym e.0) (sym e.1) (sym e.2) i
+        | inr e ↦ elim e [
+          | inl f ↦
+              closed_named p (sym f.0) (sym f.1) (sym f.2)
+              (record { not_right_of_first = i.not_right_of_second; not_right_of_second = i.not_right_of_third; not_right_of_third = i.not_right_of_first })
+          | inr f ↦
+              closed_named p (sym f.0) (sym f.1) (sym f.2)
+              (record { not_right_of_first = i.not_right_of_third; not_right_of_second = i.not_right_of_first; not_right_of_third = i.not_right_of_second })
+        ]
+      ]
+
+  -- a side of a triangle with two given sides
+  pub side_is_one : (t : Tri) → IsLeftTurn t.a t.b t.c → (x y z : ℕ) → HasSide t x y → HasSide t y z → (i j : ℕ) → HasSide t i j
+      → ((i ≡ x) × (j ≡ y)) ⊎ ((i ≡ y) × (j ≡ z)) ⊎ ((i ≡ z) × (j ≡ x))
+  side_is_one t left x y z h k i j s =
+      let apart = left_apart (whole (vertex corners t.a)) (whole (vertex corners t.b)) (whole (vertex corners t.c)) left in
+      let at : ℕ → Triple = λ n. whole (vertex corners n) in
+      elim (two_sides t.a t.b t.c x y z (λ e. apart.0 (ap at e)) (λ e. apart.1 (ap at e)) (λ e. apart.2 (ap at e)) h k) [
+        | inl e ↦ by_first e.0 e.1 e.2 s
+        | inr e ↦ elim e [ inl f ↦ by_second f.0 f.1 f.2 s | inr f ↦ by_third f.0 f.1 f.2 s ]
+      ]
+    where
+      by_first : t.a ≡ x → t.b ≡ y → t.c ≡ z → HasSide t i j → ((i ≡ x) × (j ≡ y)) ⊎ ((i ≡ y) × (j ≡ z)) ⊎ ((i ≡ z) × (j ≡ x))
+      by_first e f g (inl q) = inl (sym q.0 ∙ e, sym q.1 ∙ f)
+      by_first e f g (inr (inl q)) = inr (inl (sym q.0 ∙ f, sym q.1 ∙ g))
+      by_first e f g (inr (inr q)) = inr (inr (sym q.0 ∙ g, sym q.1 ∙ e))
+
+      by_second : t.b ≡ x → t.c ≡ y → t.a ≡ z → HasSide t i j → ((i ≡ x) × (j ≡ y)) ⊎ ((i ≡ y) × (j ≡ z)) ⊎ ((i ≡ z) × (j ≡ x))
+      by_second e f g (inl q) = inr (inr (sym q.0 ∙ g, sym q.1 ∙ e))
+      by_second e f g (inr (inl q)) = inl (sym q.0 ∙ e, sym q.1 ∙ f)
+      by_second e f g (inr (inr q)) = inr (inl (sym q.0 ∙ f, sym q.1 ∙ g))
+
+      by_third : t.c ≡ x → t.a ≡ y → t.b ≡ z → HasSide t i j → ((i ≡ x) × (j ≡ y)) ⊎ ((i ≡ y) × (j ≡ z)) ⊎ ((i ≡ z) × (j ≡ x))
+      by_third e f g (inl q) = inr (inl (sym q.0 ∙ f, sym q.1 ∙ g))
+      by_third e f g (inr (inl q)) = inr (inr (sym q.0 ∙ g, sym q.1 ∙ e))
+      by_third e f g (inr (inr q)) = inl (sym q.0 ∙ e, sym q.1 ∙ f)
+
   -- so two triangles do not share two sides in opposite directions
   not_two_shared : (t u : Tri) → IsLeftTurn t.a t.b t.c → IsLeftTurn u.a u.b u.c → (x y z : ℕ) → HasSide t x y → HasSide t y z
       → HasSide u y x → HasSide u z y → ⊥

@@ -1,4 +1,4 @@
-use Rattle.dual_tree.proofs.EarCut.{tip_off}
+use Rattle.dual_tree.proofs.EarOff.{fits_rest}
 use Rattle.dual_tree.proofs.Without.{is_rest}
 use Rattle.dual_tree.proofs.Ears.{leaf_law}
 use Rattle.dual_tree.proofs.laws.ear.Goals as goal
