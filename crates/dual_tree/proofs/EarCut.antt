@@ -1,6 +1,5 @@
 -- A piece without the tip of an ear: the triangles other than the ear lie in it, and none of them has the tip.
-use Rattle.std.proofs.Common.{◌≡◌, ◌⊎◌, inl, inr, refl, sym, ap, subst, ◌∙◌, ℕ, suc, ◌+◌, ◌<◌, List, [], ◌∷◌, ◌++◌, length, arith}
-use Rattle.std.specs.List.{Contains}
+use Rattle.std.proofs.Common.{◌≡◌, inl, inr, sym, ℕ, ◌<◌, List, [], ◌∷◌, length, arith}
 use Rattle.plane.proofs.Same.{whole_is_point}
 use Rattle.plane.proofs.Segments.{on_reversed}
 use Rattle.plane.specs.Point.{IsPoint, Point, Triple, whole}
@@ -10,9 +9,8 @@ use Rattle.rings.specs.Inside.{IsIn}
 use Rattle.rings.specs.Ring.{vertex}
 use Rattle.ring_laws.proofs.CutInTwo.{cut_from_first}
 use Rattle.ring_laws.proofs.Diagonals.{diagonal_backward}
-use Rattle.ring_laws.proofs.Triangles.{first_in_triangle, last_in_triangle, middle_in_triangle}
+use Rattle.ring_laws.proofs.Triangles.{middle_in_triangle}
 use Rattle.ring_laws.specs.Pieces.{IsCutInTwo}
-use Rattle.ring_laws.specs.Triangle.{IsInTriangle}
 use Rattle.tri_mesh.proofs.TriangleRing.{in_of_in_triangle, in_triangle_of_in}
 use Rattle.tri_mesh.specs.declared.tri.Tri.{Tri}
 use Rattle.tri_mesh.specs.Fits.{FitsPiece, IsInTri, points_of}

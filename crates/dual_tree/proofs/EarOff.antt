@@ -1,20 +1,18 @@
 -- The triangles other than an ear fit the piece without its tip.
-use Rattle.std.proofs.Common.{◌≡◌, ◌⊎◌, inl, inr, refl, sym, ap, subst, ◌∙◌, ℕ, suc, ◌+◌, ◌%◌, ◌<◌, List, [], ◌∷◌, ◌++◌, length, get_or, arith}
-use Rattle.std.proofs.lemmas.List.{get_or_default}
+use Rattle.std.proofs.Common.{◌≡◌, ◌⊎◌, inl, inr, sym, ap, subst, ◌∙◌, ℕ, ◌<◌, List, [], ◌∷◌, length, arith}
 use Rattle.std.specs.Prelude.{◌↔◌}
 use Rattle.std.specs.List.{Contains}
-use Rattle.plane.proofs.Segments.{on_reversed}
 use Rattle.plane.specs.Point.{IsPoint, Point, Triple, whole}
 use Rattle.rings.specs.Inside.{IsIn}
 use Rattle.rings.specs.Ring.{vertex}
 use Rattle.ring_laws.proofs.Triangles.{first_in_triangle, last_in_triangle, middle_in_triangle}
 use Rattle.tri_mesh.proofs.Cuts.{contains_cases, contains_first, contains_rest, part_of_edge, second_diagonal, second_part_cases}
-use Rattle.tri_mesh.proofs.PieceSteps.{edge_or_not, same_or_not, step_of_edge}
+use Rattle.tri_mesh.proofs.PieceSteps.{same_or_not, step_of_edge}
 use Rattle.tri_mesh.proofs.TriangleRing.{in_of_in_triangle}
 use Rattle.tri_mesh.specs.declared.tri.Tri.{Tri}
 use Rattle.tri_mesh.specs.Fits.{FitsPiece, IsInTri, IsPieceEdge, IsSideOfOne, IsSideOfTwo, IsStrictlyInTri, IsTriOf, points_of}
 use Rattle.tri_mesh.specs.Side.{HasSide, tri_at}
-use Rattle.dual_tree.proofs.EarCut.{ear_cut, ear_left, ear_ring, others_lie, rest_ring, tip_off}
+use Rattle.dual_tree.proofs.EarCut.{ear_cut, ear_left, others_lie, rest_ring, tip_off}
 use Rattle.dual_tree.proofs.Ears.{closed_of_sides, side_is_one}
 use Rattle.dual_tree.proofs.LeafTaken.{IsRest, rest_of_one, rest_of_shared, rest_of_two, rest_tree, same_new}
 use Rattle.dual_tree.proofs.PartedMesh.{side_in}

@@ -14,7 +14,7 @@ use Rattle.tri_mesh.specs.declared.tri.Tri.{Tri}
 use Rattle.tri_mesh.specs.Fits.{FitsPiece, IsInTri, IsPieceEdge, IsSideOfTwo}
 use Rattle.tri_mesh.specs.Side.{HasSide, tri_at}
 use Rattle.dual_tree.proofs.TreeLeaves.{IsJoinedToOne, leaf_other}
-use Rattle.dual_tree.specs.MeshLaws.{IsEar, IsLeaf, LeafLaw, LeavesLaw}
+use Rattle.dual_tree.specs.MeshLaws.{IsEar, IsLeaf, LeavesLaw}
 
 -- a number joined to one other is a leaf
 leaf_of : (tris : List Tri) (k : ℕ) → k < length tris → IsJoinedToOne (length tris) (Touch tris) k → IsLeaf tris k
@@ -199,7 +199,3 @@ module _ (corners : List Point) (piece : List ℕ) (tris : List Tri) (fits : Fit
             absurd (leaf.different (one.only leaf.neighbour leaf.neighbour_in_list s.of_second ∙ sym (one.only k leaf.in_list (inl s.of_first))))
         | inr base ↦ ear_at s.i s.j base
       ]
-
--- as it is stated
-pub leaf_law : LeafLaw
-leaf_law corners piece tris fits k leaf = leaf_is_ear corners piece tris fits k leaf

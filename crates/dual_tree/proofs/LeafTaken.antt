@@ -1,5 +1,5 @@
 -- A list of triangles without one of them: the numbers of the others, their sides, and their tree, where that one is a leaf.
-use Rattle.std.proofs.Common.{◌≡◌, ◌⊎◌, inl, inr, refl, sym, ap, subst, ◌∙◌, ℕ, suc, ◌+◌, ◌-◌, ◌<◌, ◌≤◌, List, [], ◌∷◌, ◌++◌, length, take, drop, get_or, arith}
+use Rattle.std.proofs.Common.{◌≡◌, inl, inr, sym, ap, subst, ◌∙◌, ℕ, ◌+◌, ◌<◌, List, [], ◌∷◌, length}
 use Rattle.tri_mesh.proofs.Paths.{IsPath, IsTreeOn, Renames, tree_renamed}
 use Rattle.tri_mesh.proofs.PieceSteps.{same_or_not}
 use Rattle.tri_mesh.proofs.Walks.{IsPlace, Touch, share_back, tree_of_paths, tree_of_walks}

@@ -2,6 +2,7 @@ pub mod Between
 pub mod BetweenPieces
 pub mod EarCut
 pub mod EarOff
+pub mod EarTurned
 pub mod Ears
 pub mod LeafTaken
 pub mod MeshDiagonals

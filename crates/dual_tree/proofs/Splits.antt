@@ -79,8 +79,8 @@ split_named ring xs v ps z ys a b parts at_v at_z apart diagonal =
     subst (λ x. IsSplit ring x b) (sym at_v) (subst (λ y. IsSplit ring v y) (sym at_z) (subst (λ rs. IsSplit rs v z) (sym parts) split))
 
 -- item i of a list, and what is before and after it
-parts_at : (ring : List Point) (i : ℕ) → i < length ring
-    → (xs : List Point) × (v : Point) × (rest : List Point) × (ring ≡ xs ++ v ∷ rest) × (length xs ≡ i)
+pub parts_at : {X : Type 0} (ring : List X) (i : ℕ) → i < length ring
+    → (xs : List X) × (v : X) × (rest : List X) × (ring ≡ xs ++ v ∷ rest) × (length xs ≡ i)
 parts_at [] i h = absurd (omega arith)
 parts_at (p ∷ ps) zero h = ([], p, ps, refl, refl)
 parts_at (p ∷ ps) (suc i) h =

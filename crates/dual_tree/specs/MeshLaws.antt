@@ -64,11 +64,6 @@ pub record IsEar (piece : List ℕ) (tris : List Tri) (k l u v w : ℕ) : Type 0
   pub second_edge : IsPieceEdge piece v w
   pub base : IsSideOfTwo tris w u k l
 
--- a leaf of a mesh is an ear
-abbrev pub LeafLaw : Type 0
-LeafLaw = (corners : List Point) (piece : List ℕ) (tris : List Tri) → FitsPiece corners piece tris
-    → (k : ℕ) → (leaf : IsLeaf tris k) → (u : ℕ) × (v : ℕ) × (w : ℕ) × IsEar piece tris k leaf.neighbour u v w
-
 -- a list of triangles without triangle k
 abbrev pub without : ℕ → List Tri → List Tri
 without k [] = []

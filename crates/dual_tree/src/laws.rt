@@ -1,5 +1,5 @@
 // Laws of lists of triangles that fit a polygon, each as the contract of a call that does nothing when it runs.
-ghost use Rattle.dual_tree.specs.MeshLaws.{LeafLaw, LeavesLaw, PieceSleeveLaw, SeparationLaw, SleeveLaw};
+ghost use Rattle.dual_tree.specs.MeshLaws.{EarLaw, LeavesLaw, PieceSleeveLaw, SeparationLaw, SleeveLaw};
 
 /// The separation law: a point in a triangle of a walk and in a later one is on each side that the walk crosses between them.
 pub fn separation()
@@ -22,7 +22,7 @@ pub fn leaves()
     ensures { LeavesLaw }
 {}
 
-/// The law of ears: a leaf is a triangle of two consecutive edges.
+/// The law of ears: a leaf is a triangle of two consecutive edges, and the triangles without it fit the piece without its tip.
 pub fn ear()
-    ensures { LeafLaw }
+    ensures { EarLaw }
 {}

@@ -1,7 +1,5 @@
-use Rattle.dual_tree.proofs.EarOff.{fits_rest}
-use Rattle.dual_tree.proofs.Without.{is_rest}
-use Rattle.dual_tree.proofs.Ears.{leaf_law}
+use Rattle.dual_tree.proofs.EarTurned.{ear_law}
 use Rattle.dual_tree.proofs.laws.ear.Goals as goal
 
 pub returns : goal.returns
-returns c = leaf_law
+returns c = ear_law
