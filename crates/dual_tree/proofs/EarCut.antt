@@ -16,7 +16,7 @@ use Rattle.tri_mesh.specs.declared.tri.Tri.{Tri}
 use Rattle.tri_mesh.specs.Fits.{FitsPiece, IsInTri, points_of}
 use Rattle.tri_mesh.specs.Side.{tri_at}
 use Rattle.dual_tree.proofs.BetweenPieces.{IsCovered}
-use Rattle.dual_tree.proofs.Ears.{closed_by_sides, turns_left}
+use Rattle.dual_tree.proofs.TwoSides.{closed_by_sides, turns_left}
 use Rattle.dual_tree.proofs.MeshDiagonals.{IsShared, ring_apart, shared_is_diagonal, shared_of}
 use Rattle.dual_tree.proofs.OpenRegions.{left_of_all_eventually}
 use Rattle.dual_tree.proofs.Opposite.{mean, mean_inside, mean_is_point, sides, toward_inside}

@@ -13,7 +13,7 @@ use Rattle.tri_mesh.specs.declared.tri.Tri.{Tri}
 use Rattle.tri_mesh.specs.Fits.{FitsPiece, IsInTri, IsPieceEdge, IsSideOfOne, IsSideOfTwo, IsStrictlyInTri, IsTriOf, points_of}
 use Rattle.tri_mesh.specs.Side.{HasSide, tri_at}
 use Rattle.dual_tree.proofs.EarCut.{ear_cut, ear_left, others_lie, rest_ring, tip_off}
-use Rattle.dual_tree.proofs.Ears.{closed_of_sides, side_is_one}
+use Rattle.dual_tree.proofs.TwoSides.{closed_of_sides, side_is_one}
 use Rattle.dual_tree.proofs.LeafTaken.{IsRest, rest_of_one, rest_of_shared, rest_of_two, rest_tree, same_new}
 use Rattle.dual_tree.proofs.PartedMesh.{side_in}
 use Rattle.dual_tree.proofs.PieceOfTriangle.{inside_one}

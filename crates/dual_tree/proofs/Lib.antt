@@ -13,5 +13,6 @@ pub mod PieceOfTriangle
 pub mod Sleeves
 pub mod Splits
 pub mod TreeLeaves
+pub mod TwoSides
 pub mod WalkSides
 pub mod Without

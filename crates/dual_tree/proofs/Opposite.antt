@@ -37,7 +37,12 @@ module _ (corners : List Point) (t : Tri) (left : IsLeft (whole (vertex corners 
     left = left;
     strictly = λ y f g h. record { left_of_first = f; left_of_second = g; left_of_third = h };
     closed = λ y f g h. record { not_right_of_first = f; not_right_of_second = g; not_right_of_third = h };
-    side = λ y at on. along y (whole (vertex corners t.a)) (whole (vertex corners t.b)) at (whole_is_point (vertex corners t.a)) (whole_is_point (vertex corners t.b)) (first_in_triangle (vertex corners t.a) (vertex corners t.b) (vertex corners t.c) left) (middle_in_triangle (vertex corners t.a) (vertex corners t.b) (vertex corners t.c) left) on;
+    side = λ y at on.
+        let P = vertex corners t.a in
+        let Q = vertex corners t.b in
+        along y (whole P) (whole Q) at (whole_is_point P) (whole_is_point Q)
+        (first_in_triangle (vertex corners t.a) (vertex corners t.b) (vertex corners t.c) left)
+        (middle_in_triangle (vertex corners t.a) (vertex corners t.b) (vertex corners t.c) left) on;
   }
 
   -- the second,
@@ -46,7 +51,12 @@ module _ (corners : List Point) (t : Tri) (left : IsLeft (whole (vertex corners 
     left = left_at_last (vertex corners t.a) (vertex corners t.b) (vertex corners t.c) left;
     strictly = λ y f g h. record { left_of_first = h; left_of_second = f; left_of_third = g };
     closed = λ y f g h. record { not_right_of_first = h; not_right_of_second = f; not_right_of_third = g };
-    side = λ y at on. along y (whole (vertex corners t.b)) (whole (vertex corners t.c)) at (whole_is_point (vertex corners t.b)) (whole_is_point (vertex corners t.c)) (middle_in_triangle (vertex corners t.a) (vertex corners t.b) (vertex corners t.c) left) (last_in_triangle (vertex corners t.a) (vertex corners t.b) (vertex corners t.c) left) on;
+    side = λ y at on.
+        let P = vertex corners t.b in
+        let Q = vertex corners t.c in
+        along y (whole P) (whole Q) at (whole_is_point P) (whole_is_point Q)
+        (middle_in_triangle (vertex corners t.a) (vertex corners t.b) (vertex corners t.c) left)
+        (last_in_triangle (vertex corners t.a) (vertex corners t.b) (vertex corners t.c) left) on;
   }
 
   -- and the third
@@ -55,7 +65,12 @@ module _ (corners : List Point) (t : Tri) (left : IsLeft (whole (vertex corners 
     left = left_at_first (vertex corners t.a) (vertex corners t.b) (vertex corners t.c) left;
     strictly = λ y f g h. record { left_of_first = g; left_of_second = h; left_of_third = f };
     closed = λ y f g h. record { not_right_of_first = g; not_right_of_second = h; not_right_of_third = f };
-    side = λ y at on. along y (whole (vertex corners t.c)) (whole (vertex corners t.a)) at (whole_is_point (vertex corners t.c)) (whole_is_point (vertex corners t.a)) (last_in_triangle (vertex corners t.a) (vertex corners t.b) (vertex corners t.c) left) (first_in_triangle (vertex corners t.a) (vertex corners t.b) (vertex corners t.c) left) on;
+    side = λ y at on.
+        let P = vertex corners t.c in
+        let Q = vertex corners t.a in
+        along y (whole P) (whole Q) at (whole_is_point P) (whole_is_point Q)
+        (last_in_triangle (vertex corners t.a) (vertex corners t.b) (vertex corners t.c) left)
+        (first_in_triangle (vertex corners t.a) (vertex corners t.b) (vertex corners t.c) left) on;
   }
 
   -- so a side by the numbers of its ends does
