@@ -1,14 +1,14 @@
 -- The leaves of a mesh, and that they are ears.
-use Rattle.std.proofs.Common.{◌⊎◌, inl, inr, sym, subst, ◌∙◌, ℕ, ◌<◌, List, length, arith}
+use Rattle.std.proofs.Common.{◌⊎◌, inl, inr, sym, subst, ◌∙◌, ℕ, ◌<◌, List, length, arith, get_or, refl, [], ◌∷◌}
 use Rattle.plane.specs.Point.{Point}
 use Rattle.tri_mesh.proofs.PieceSteps.{edge_or_not}
-use Rattle.tri_mesh.proofs.Walks.{Touch, share_back, tree_of_walks}
+use Rattle.tri_mesh.proofs.Walks.{Touch, share_back, tree_of_walks, new_at_place, new_from_places, path_of_walk}
 use Rattle.tri_mesh.specs.declared.tri.Tri.{Tri}
 use Rattle.tri_mesh.specs.Fits.{FitsPiece, IsPieceEdge, IsSideOfTwo}
 use Rattle.tri_mesh.specs.Side.{HasSide, tri_at}
 use Rattle.dual_tree.proofs.TwoSides.{next_corner, not_two_shared}
-use Rattle.dual_tree.proofs.TreeLeaves.{IsJoinedToOne, leaf_other}
-use Rattle.dual_tree.specs.MeshLaws.{IsEar, IsLeaf, LeavesLaw}
+use Rattle.dual_tree.proofs.TreeLeaves.{IsJoinedToOne, leaf_other, leaf_off}
+use Rattle.dual_tree.specs.MeshLaws.{IsEar, IsLeaf, LeafOffWalkLaw, LeavesLaw}
 
 -- a number joined to one other is a leaf
 leaf_of : (tris : List Tri) (k : ℕ) → k < length tris → IsJoinedToOne (length tris) (Touch tris) k → IsLeaf tris k
@@ -34,6 +34,17 @@ leaves_law tris tree many =
       leaf_of tris first.leaf first.within first.joined,
       leaf_of tris second.leaf second.within second.joined,
     )
+
+-- where some triangle is not on a walk, some leaf is not
+pub leaf_off_walk : LeafOffWalkLaw
+leaf_off_walk tris tree [] w n within off = absurd (omega (arith, w.some))
+leaf_off_walk tris tree (a ∷ bs) w n within off =
+    let turn : (a b : ℕ) → Touch tris a b → Touch tris b a = λ a b s. share_back (tri_at tris a) (tri_at tris b) s in
+    let c = get_or (a ∷ bs) (length bs) 0 in
+    let path = path_of_walk tris a bs c w refl in
+    let free = leaf_off (length tris) (Touch tris) turn (tree_of_walks tris tree) n a bs c within (w.in_list (length bs) (omega arith)) path
+    (new_from_places n (a ∷ bs) off) in
+    (free.leaf, leaf_of tris free.leaf free.within free.joined, λ m h. new_at_place free.leaf (a ∷ bs) m free.new h)
 
 module _ (corners : List Point) (piece : List ℕ) (tris : List Tri) (fits : FitsPiece corners piece tris) (k : ℕ) (leaf : IsLeaf tris k) where
   -- a side of a leaf is an edge of the piece, or shared with its neighbour

@@ -55,6 +55,12 @@ pub record IsLeaf (tris : List Tri) (k : ℕ) : Type 0 where
 abbrev pub LeavesLaw : Type 0
 LeavesLaw = (tris : List Tri) → IsTree tris → 2 ≤ length tris → (k : ℕ) × (l : ℕ) × (¬ (k ≡ l)) × IsLeaf tris k × IsLeaf tris l
 
+-- and where some triangle is not on a walk, there is a leaf that is not on it
+abbrev pub LeafOffWalkLaw : Type 0
+LeafOffWalkLaw = (tris : List Tri) → IsTree tris → (walk : List ℕ) → IsWalk tris walk
+    → (n : ℕ) → n < length tris → ((m : ℕ) → m < length walk → ¬ (n ≡ slice_index_or walk m 0))
+    → (k : ℕ) × IsLeaf tris k × ((m : ℕ) → m < length walk → ¬ (k ≡ slice_index_or walk m 0))
+
 -- triangle k of the list, beside triangle l, is an ear with the tip v: two of its sides are consecutive edges of the piece, from
 -- u over v to w, and the third is shared with triangle l
 pub record IsEar (piece : List ℕ) (tris : List Tri) (k l u v w : ℕ) : Type 0 where

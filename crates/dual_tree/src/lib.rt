@@ -3,4 +3,4 @@
 
 mod laws;
 
-pub use laws::{ear, leaves, piece_sleeve, separation, sleeve};
+pub use laws::{ear, leaf_off_walk, leaves, piece_sleeve, separation, sleeve};
