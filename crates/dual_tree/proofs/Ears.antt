@@ -7,7 +7,8 @@ use Rattle.tri_mesh.specs.declared.tri.Tri.{Tri}
 use Rattle.tri_mesh.specs.Fits.{FitsPiece, IsPieceEdge, IsSideOfTwo}
 use Rattle.tri_mesh.specs.Side.{HasSide, tri_at}
 use Rattle.dual_tree.proofs.TwoSides.{next_corner, not_two_shared}
-use Rattle.dual_tree.proofs.TreeLeaves.{IsJoinedToOne, leaf_other, leaf_off}
+use Rattle.dual_tree.proofs.LeavesOffPaths.{leaf_off}
+use Rattle.dual_tree.proofs.TreeLeaves.{IsJoinedToOne, leaf_other}
 use Rattle.dual_tree.specs.MeshLaws.{IsEar, IsLeaf, LeafOffWalkLaw, LeavesLaw}
 
 -- a number joined to one other is a leaf

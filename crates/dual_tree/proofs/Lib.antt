@@ -5,6 +5,7 @@ pub mod EarOff
 pub mod EarTurned
 pub mod Ears
 pub mod LeafTaken
+pub mod LeavesOffPaths
 pub mod MeshDiagonals
 pub mod OpenRegions
 pub mod Opposite
