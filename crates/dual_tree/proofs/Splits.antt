@@ -1,5 +1,5 @@
 -- A simple ring that is split in two by a diagonal: the pieces, each with the diagonal as an edge.
-use Rattle.std.proofs.Common.{◌≡◌, inl, inr, refl, sym, subst, ap, ◌∙◌, List, [], ◌∷◌, ◌++◌, length, get_or, ℕ, zero, suc, ◌-◌, ◌<◌, arith}
+use Rattle.std.proofs.Common.{◌+◌, ◌≡◌, inl, inr, refl, sym, subst, ap, ◌∙◌, List, [], ◌∷◌, ◌++◌, length, get_or, ℕ, zero, suc, ◌-◌, ◌<◌, arith}
 use Rattle.std.proofs.lemmas.Bool.{cases_lt}
 use Rattle.std.proofs.lemmas.List.{append_assoc, get_or_at, length-append}
 use Rattle.plane.proofs.Segments.{on_reversed}
@@ -87,19 +87,28 @@ parts_at (p ∷ ps) (suc i) h =
     let (xs, v, rest, is, count) = parts_at ps i (omega arith) in
     (p ∷ xs, v, rest, ap (λ rs. p ∷ rs) is, ap suc count)
 
+-- the vertex between two parts of a ring
+vertex_between : (ring xs : List Point) (v : Point) (rest : List Point) (i : ℕ) → ring ≡ xs ++ v ∷ rest → length xs ≡ i → i < length ring → vertex ring i ≡ v
+vertex_between ring xs v rest i is count within =
+    vertex_in_range ring i origin within ∙ ap (λ rs. get_or rs i origin) is ∙ get_or_at xs v rest origin i count
+
 module _ (ring : List Point) (apart : IsApartRing ring) where
+  -- by the parts,
+  split_at_parts : (i j : ℕ) (xs : List Point) (v : Point) (rest ps : List Point) (z : Point) (ys : List Point) → ring ≡ xs ++ v ∷ rest → rest ≡ ps ++ z ∷ ys
+      → length xs ≡ i → length xs + 1 + length ps ≡ j → i < length ring → j < length ring → IsDiagonal ring (vertex ring i) (vertex ring j)
+      → IsSplit ring (vertex ring i) (vertex ring j)
+  split_at_parts i j xs v rest ps z ys is rest_is first second in_i in_j =
+      let parts : ring ≡ xs ++ v ∷ (ps ++ z ∷ ys) = is ∙ ap (λ rs. xs ++ v ∷ rs) rest_is in
+      let regrouped : ring ≡ (xs ++ v ∷ ps) ++ z ∷ ys = parts ∙ sym (append_assoc xs (v ∷ ps) (z ∷ ys)) in
+      split_named ring xs v ps z ys (vertex ring i) (vertex ring j) parts (vertex_between ring xs v rest i is first in_i)
+      (vertex_between ring (xs ++ v ∷ ps) z ys j regrouped (omega (arith, length-append xs (v ∷ ps))) in_j) apart
+
   -- by their numbers,
   split_in_order : (i j : ℕ) → i < j → j < length ring → IsDiagonal ring (vertex ring i) (vertex ring j) → IsSplit ring (vertex ring i) (vertex ring j)
-  split_in_order i j less within diagonal =
+  split_in_order i j less within =
       let (xs, v, rest, is, count) = parts_at ring i (omega arith) in
       let (ps, z, ys, rest_is, between) = parts_at rest (j - i - 1) (omega (arith, ap length is, length-append xs (v ∷ rest))) in
-      let parts : ring ≡ xs ++ v ∷ (ps ++ z ∷ ys) = is ∙ ap (λ rs. xs ++ v ∷ rs) rest_is in
-      let at_v : vertex ring i ≡ v =
-      vertex_in_range ring i origin (omega arith) ∙ ap (λ rs. get_or rs i origin) parts ∙ get_or_at xs v (ps ++ z ∷ ys) origin i count in
-      let at_z : vertex ring j ≡ z =
-      vertex_in_range ring j origin within ∙ ap (λ rs. get_or rs j origin) (parts ∙ sym (append_assoc xs (v ∷ ps) (z ∷ ys)))
-      ∙ get_or_at (xs ++ v ∷ ps) z ys origin j (omega (arith, length-append xs (v ∷ ps))) in
-      split_named ring xs v ps z ys (vertex ring i) (vertex ring j) parts at_v at_z apart diagonal
+      split_at_parts i j xs v rest ps z ys is rest_is count (omega arith) (omega arith) within
 
   -- in either order
   pub split_by : (i j : ℕ) → i < length ring → j < length ring → ¬ (i ≡ j) → IsDiagonal ring (vertex ring i) (vertex ring j)
