@@ -50,7 +50,7 @@ module _ (corners : List Point) (piece other : List ℕ) (same : IsSamePiece cor
 -- ---- the edges of a piece read from another vertex on
 
 -- they are the same
-edge_rotated : (xs ys : List ℕ) (i j : ℕ) → IsPieceEdge (xs ++ ys) i j → IsPieceEdge (ys ++ xs) i j
+pub edge_rotated : (xs ys : List ℕ) (i j : ℕ) → IsPieceEdge (xs ++ ys) i j → IsPieceEdge (ys ++ xs) i j
 edge_rotated [] ys i j e = subst (λ zs. IsPieceEdge zs i j) (sym (append-nil ys)) e
 edge_rotated (x ∷ xs) [] i j e = subst (λ zs. IsPieceEdge zs i j) (append-nil (x ∷ xs)) e
 edge_rotated (x ∷ xs) (y ∷ ys) i j e = elim (step_cases y ys x i j x xs (step_of_edge x (xs ++ y ∷ ys) i j e)) [

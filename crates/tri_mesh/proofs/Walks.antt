@@ -22,12 +22,12 @@ share_back t u s = elim s.of_second [
 -- ---- numbers that are new
 
 -- a number is new to a list if it differs from each number there,
-new_from_places : (a : ℕ) (bs : List ℕ) → ((j : ℕ) → j < length bs → ¬ (a ≡ get_or bs j 0)) → IsNew a bs
+pub new_from_places : (a : ℕ) (bs : List ℕ) → ((j : ℕ) → j < length bs → ¬ (a ≡ get_or bs j 0)) → IsNew a bs
 new_from_places a [] differs = tt
 new_from_places a (b ∷ bs) differs = (differs 0 (omega arith), new_from_places a bs (λ j h. differs (suc j) (omega arith)))
 
 -- and only then
-new_at_place : (a : ℕ) (bs : List ℕ) (j : ℕ) → IsNew a bs → j < length bs → ¬ (a ≡ get_or bs j 0)
+pub new_at_place : (a : ℕ) (bs : List ℕ) (j : ℕ) → IsNew a bs → j < length bs → ¬ (a ≡ get_or bs j 0)
 new_at_place a [] j new h = absurd (omega arith)
 new_at_place a (b ∷ bs) zero new h = new.0
 new_at_place a (b ∷ bs) (suc j) new h = new_at_place a bs j new.1 (omega arith)
@@ -47,7 +47,7 @@ module _ (tris : List Tri) where
   }
 
   -- a walk is a path
-  path_of_walk : (a : ℕ) (bs : List ℕ) (c : ℕ) → IsWalk tris (a ∷ bs) → get_or (a ∷ bs) (length bs) 0 ≡ c → IsPath (IsPlace tris) (Touch tris) a bs c
+  pub path_of_walk : (a : ℕ) (bs : List ℕ) (c : ℕ) → IsWalk tris (a ∷ bs) → get_or (a ∷ bs) (length bs) 0 ≡ c → IsPath (IsPlace tris) (Touch tris) a bs c
   path_of_walk a [] c w e = e
   path_of_walk a (b ∷ bs) c w e = (
     w.in_list 1 (omega arith),

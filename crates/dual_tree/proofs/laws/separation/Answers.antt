@@ -1,0 +1,5 @@
+use Rattle.dual_tree.proofs.Sleeves.{separation_law}
+use Rattle.dual_tree.proofs.laws.separation.Goals as goal
+
+pub returns : goal.returns
+returns c = separation_law
