@@ -16,6 +16,7 @@ pub mod Paths
 pub mod PieceSteps
 pub mod PieceVertices
 pub mod Rotated
+pub mod SharedSides
 mod SideMaps
 pub mod TriangleRing
 pub mod TwoLists

@@ -2,3 +2,4 @@ pub mod Fits
 pub mod Mesh
 pub mod Neighbours
 pub mod Side
+pub mod Sleeve

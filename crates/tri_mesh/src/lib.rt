@@ -3,9 +3,11 @@
 
 mod mesh;
 mod sides;
+mod sleeve;
 #[cfg(test)]
 mod tests;
 mod tri;
 
 pub use mesh::Mesh;
+pub use sleeve::Sleeve;
 pub use tri::Tri;

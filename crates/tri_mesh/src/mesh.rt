@@ -59,6 +59,7 @@ impl Mesh {
         // What holds of every mesh.
         ensures few { length self.now < 2 ^ 30 }
         ensures tree { IsTree self.now }
+        ensures sides { HasSidesOnce self.now }
     {
         self.tris.len() as u32
     }
