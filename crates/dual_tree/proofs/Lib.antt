@@ -1,0 +1,4 @@
+pub mod LocatedTurns
+pub mod LocationFits
+pub mod SearchSteps
+pub mod SearchWalks

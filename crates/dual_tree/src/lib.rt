@@ -1,0 +1,11 @@
+//! Where a point is among the triangles of a polygon, the one sleeve between two of them, and the turns at its vertices.
+#![tactic(auto)]
+
+mod board;
+mod location;
+mod search;
+mod sleeves;
+
+pub use board::Board;
+pub use location::locate;
+pub use sleeves::sleeve;
