@@ -6,6 +6,7 @@ use Rattle.std.specs.Prelude.{Err, IfOk, Ok, Option, Result}
 use Rattle.dual_tree.specs.Search.{IsDone, IsReached, IsSearch, reached_at}
 use Rattle.dual_tree.specs.declared.search.Reached.{Reached}
 use Rattle.tri_mesh.specs.Side.{IsTree, IsWalk, IsWalkBetween, ShareSide, tri_at}
+use Rattle.tri_mesh.specs.Sleeve.{IsOneOf, Sleeve}
 use Rattle.tri_mesh.specs.declared.tri.Tri.{Tri}
 
 module _ (tris : List Tri) (places : List (Option ℕ)) (done : (k : ℕ) → IsReached places k → IsDone tris places k) where
@@ -32,11 +33,36 @@ pub if_ok_map : {T E : Type 0} (r : Result T E) (P Q : T → Type 0) → IfOk r 
 if_ok_map (Ok x) P Q p f = f x p
 if_ok_map (Err e) P Q p f = tt
 
+pub if_ok_both : {T E : Type 0} (r : Result T E) (P Q R : T → Type 0) → IfOk r P → IfOk r Q → ((x : T) → P x → Q x → R x) → IfOk r R
+if_ok_both (Ok x) P Q R p q f = f x p q
+if_ok_both (Err e) P Q R p q f = tt
+
 -- two walks between two triangles of a tree are one
 pub one_walk : (tris : List Tri) (from to : ℕ) → IsTree tris → from < length tris → to < length tris → (walk other : List ℕ)
     → IsWalkBetween tris from to walk → IsWalkBetween tris from to other → other ≡ walk
 one_walk tris from to tree from_below to_below walk other w v =
     let one = tree from to from_below to_below in one.only other v ∙ sym (one.only walk w)
+
+-- a triangle alone is a walk
+pub walk_alone : (tris : List Tri) (k : ℕ) → k < length tris → IsWalkBetween tris k k (k ∷ [])
+walk_alone tris k below = record {
+  is_walk = record {
+    some = omega arith;
+    in_list = λ i h. let first : i ≡ 0 = omega arith in rw first below;
+    once = λ i j order h same. omega arith;
+    sharing = λ i h. absurd (omega arith);
+  };
+  first = refl;
+  last = refl;
+}
+
+-- so a sleeve from a triangle to itself has no diagonal
+pub no_diagonal : (tris : List Tri) (k : ℕ) → IsTree tris → k < length tris → (s : Sleeve) → IsOneOf tris s → IsWalkBetween tris k k s.walk
+    → length s.diagonals ≡ 0
+no_diagonal tris k tree below s is w =
+    let alone : s.walk ≡ k ∷ [] = one_walk tris k k tree below below (k ∷ []) s.walk (walk_alone tris k below) w in
+    let long : length s.walk ≡ 1 = ap length alone in
+    omega (arith, is.count)
 
 -- a walk from triangle `from` to the one at a place, over places further on
 pub record IsWayTo (tris : List Tri) (reached : List Reached) (from : ℕ) (walk : List ℕ) (place : ℕ) : Type 0 where
@@ -95,16 +121,7 @@ module _ (tris : List Tri) (places : List (Option ℕ)) (reached : List Reached)
   pub way_starts : (place : ℕ) → place < length reached → (reached_at reached place).tri ≡ from → IsWayTo tris reached from (from ∷ []) place
   way_starts place h is = record {
     place_below = h;
-    between = record {
-      is_walk = record {
-        some = omega arith;
-        in_list = λ i below. let first : i ≡ 0 = omega arith in rw first (subst (λ k. k < length tris) is (s.in_list place h));
-        once = λ i j order below same. omega arith;
-        sharing = λ i below. absurd (omega arith);
-      };
-      first = refl;
-      last = sym is;
-    };
+    between = rw is (walk_alone tris from (subst (λ k. k < length tris) is (s.in_list place h)));
     behind = λ i below. let first : i ≡ 0 = omega arith in (place, omega arith, h, rw first is);
   }
 

@@ -13,6 +13,7 @@ pub fn sleeve(alloc: Global, mesh: &Mesh, from: u32, to: u32) -> Result<Sleeve, 
     requires to { to < length mesh.now }
     ensures of_mesh { IfOk result (IsOneOf mesh.now) }
     ensures between { IfOk result (λ sleeve. IsWalkBetween mesh.now from to sleeve.walk) }
+    ensures same { IfOk result (λ sleeve. from ≡ to → length sleeve.diagonals ≡ 0) }
     ensures only { IfOk result (λ sleeve. (walk : List ℕ) → IsWalkBetween mesh.now from to walk → walk ≡ sleeve.walk) }
 {
     let _count = mesh.count();
