@@ -6,12 +6,16 @@ pub mod EarTurned
 pub mod Ears
 pub mod LeafTaken
 pub mod LeavesOffPaths
+pub mod LocatedTurns
+pub mod LocationFits
 pub mod MeshDiagonals
 pub mod OpenRegions
 pub mod Opposite
 pub mod PartedMesh
 pub mod PieceOfTriangle
-pub mod Sleeves
+pub mod SearchSteps
+pub mod SearchWalks
+pub mod SightLaw
 pub mod Splits
 pub mod TreeLeaves
 pub mod TwoSides

@@ -8,12 +8,12 @@ pub fn separation()
 
 /// The sleeve law: along a walk over triangles, a point of the first sees a point of the last exactly if the segment between
 /// them meets each side that the walk crosses.
-pub fn sleeve()
+pub fn sight_in_sleeve()
     ensures { SleeveLaw }
 {}
 
 /// The sleeve law for the triangles that fit a piece of a polygon.
-pub fn piece_sleeve()
+pub fn sight_in_piece()
     ensures { PieceSleeveLaw }
 {}
 

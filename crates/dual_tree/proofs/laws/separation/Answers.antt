@@ -1,4 +1,4 @@
-use Rattle.dual_tree.proofs.Sleeves.{separation_law}
+use Rattle.dual_tree.proofs.SightLaw.{separation_law}
 use Rattle.dual_tree.proofs.laws.separation.Goals as goal
 
 pub returns : goal.returns

@@ -1,0 +1,26 @@
+use Rattle.std.proofs.Common.{◌≡◌, sym, ◌∙◌, ℕ, List, length}
+use Rattle.dual_tree.proofs.SearchWalks.{if_ok_both, if_ok_map, no_diagonal, one_walk}
+use Rattle.tri_mesh.specs.Side.{IsWalkBetween}
+use Rattle.tri_mesh.specs.Sleeve.{IsOneOf}
+use Rattle.dual_tree.proofs.sleeves.sleeve.Goals as goal
+
+pub returns-clause-only : goal.returns-clause-only
+returns-clause-only c =
+    let tris = c.args.mesh.now in
+    let between = c.in_ok-walk.ensures in
+    if_ok_map c.of.result (λ sleeve. sleeve.walk ≡ c.deref.result.now)
+    (λ sleeve. (walk : List ℕ) → IsWalkBetween tris c.args.from c.args.to walk → walk ≡ sleeve.walk)
+    c.of.ensures.walk
+    (λ sleeve is walk w.
+    one_walk tris c.args.from c.args.to c.count-count.ensures.tree c.requires.from c.requires.to c.in_ok-walk.walk.items walk between w
+    ∙ sym c.deref.ensures.value ∙ sym is)
+
+pub returns-clause-same : goal.returns-clause-same
+returns-clause-same c =
+    let tris = c.args.mesh.now in
+    if_ok_both c.of.result (λ sleeve. sleeve.walk ≡ c.deref.result.now) (IsOneOf tris) (λ sleeve. c.args.from ≡ c.args.to → length sleeve.diagonals ≡ 0)
+    c.of.ensures.walk c.of.ensures.of_mesh
+    (λ sleeve is of_mesh same.
+    let walk : sleeve.walk ≡ c.in_ok-walk.walk.items = is ∙ c.deref.ensures.value in
+    let between = c.in_ok-walk.ensures in
+    no_diagonal tris c.args.from c.count-count.ensures.tree c.requires.from sleeve of_mesh (rw (walk, same) (rw same at between)))
