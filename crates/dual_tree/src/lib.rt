@@ -6,6 +6,8 @@ mod laws;
 mod location;
 mod search;
 mod sleeves;
+#[cfg(test)]
+mod tests;
 
 pub use board::Board;
 pub use laws::{ear, leaf_off_walk, leaves, separation, sight_in_piece, sight_in_sleeve};
