@@ -1,8 +1,8 @@
 ghost use Rattle.std.specs.Prelude.{◌≡◌, ◌<◌};
 
-use crate::{locate, sleeve};
+use crate::{Board, locate, sleeve};
 use cut_tri::triangulate;
-use exact_plane::{Memory, Pt, Steps};
+use exact_plane::{Direction, Memory, Pt, Spot, Steps, Turns};
 use ring_check::Ring;
 use std::alloc::Global;
 use std::marker::Brand;
@@ -31,7 +31,8 @@ fn all_meshes<N: Ledger, R: Abort>(rt: &R, alloc: Global, blank: Blank) -> Resul
 {
     let mut steps = Steps::<N>::new(blank);
     places(rt, alloc, &mut steps)?;
-    sleeves(rt, alloc, &mut steps)
+    sleeves(rt, alloc, &mut steps)?;
+    board(rt, alloc, &mut steps)
 }
 
 fn at<R: Abort>(rt: &R, (x, y): At) -> Pt {
@@ -83,5 +84,21 @@ fn sleeves<N: Ledger, R: Abort>(rt: &R, alloc: Global, steps: &mut Steps<N>) -> 
             assert_eq!(rt; sleeve.len() == 0, from == to);
         }
     }
+    Ok(())
+}
+
+// The vertices of an L, a start in it and a goal at its reflex vertex.
+fn board<N: Ledger, R: Abort>(rt: &R, alloc: Global, steps: &mut Steps<N>) -> Result<(), Memory> {
+    let ring = ring_of(rt, alloc, &L, steps)?;
+    assert_eq!(rt; ring.len(), 6);
+    let board = Board::new(&ring, at(rt, (1, 1)), at(rt, (2, 2)));
+    let (second, third, fourth) = (Spot::Corner(2), Spot::Corner(3), Spot::Corner(4));
+    assert_eq!(rt; board.turn(second, third, fourth, steps), Direction::Right);
+    assert_eq!(rt;
+        board.turn(Spot::Start, second, Spot::Goal, steps),
+        Direction::Left
+    );
+    assert_eq!(rt; board.same(third, Spot::Goal, steps), true);
+    assert_eq!(rt; board.same(Spot::Start, Spot::Goal, steps), false);
     Ok(())
 }
