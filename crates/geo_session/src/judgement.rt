@@ -1,4 +1,4 @@
-// The verdict on a list of points, and its line.
+// The verdict on a list of points, and its line. Want of memory may leave the front of a line.
 ghost use Rattle.std.specs.Prelude.{◌≡◌, ◌≢◌, ◌≤◌, ◌++◌, length, take, IfOk, OnOk, OnErr};
 ghost use Rattle.geo_session.specs.Answer.{IsVerdictText, TellsVerdict, broken_text};
 ghost use Rattle.geo_session.specs.Session.{AppendsSuch};
@@ -22,7 +22,7 @@ pub fn put_judgement<L: Ledger>(
 ) -> Result<(), Memory>
     requires { (1 ≤ length points.now) × (length points.now ≤ 4096) }
     ensures ok { OnOk result (AppendsSuch (TellsVerdict (given_of ring.now) points.now) out.old.items out.new.items) }
-    ensures err { OnErr result (out.new.items ≡ out.old.items) }
+    ensures front { OnErr result (take (length out.old.items) out.new.items ≡ out.old.items) }
 {
     let verdict = given_verdict(alloc, ring, points, steps)?;
     put_verdict(out, verdict)
@@ -45,7 +45,7 @@ fn given_verdict<L: Ledger>(
 fn put_verdict(out: &mut Vec<u8>, verdict: Verdict) -> Result<(), Memory>
     requires { verdict ≢ Verdict.Empty }
     ensures ok { OnOk result (AppendsSuch (IsVerdictText verdict) out.old.items out.new.items) }
-    ensures err { OnErr result (out.new.items ≡ out.old.items) }
+    ensures front { OnErr result (take (length out.old.items) out.new.items ≡ out.old.items) }
 {
     match verdict {
         Verdict::Taut => put_word(out, "taut\n"),
@@ -61,20 +61,7 @@ fn put_verdict(out: &mut Vec<u8>, verdict: Verdict) -> Result<(), Memory>
 // Appends the line that names a broken rule and the place of the point.
 fn put_broken(out: &mut Vec<u8>, rule: &str, place: u32) -> Result<(), Memory>
     ensures ok { OnOk result (out.new.items ≡ out.old.items ++ broken_text rule.now place) }
-    ensures err { OnErr result (out.new.items ≡ out.old.items) }
-{
-    let start = out.len();
-    let put = put_broken_line(out, rule, place);
-    if put.is_err() {
-        out.truncate(start);
-    }
-    put
-}
-
-// The same, but want of memory may leave the front of the line.
-fn put_broken_line(out: &mut Vec<u8>, rule: &str, place: u32) -> Result<(), Memory>
-    ensures ok { OnOk result (out.new.items ≡ out.old.items ++ broken_text rule.now place) }
-    ensures err { OnErr result (take (length out.old.items) out.new.items ≡ out.old.items) }
+    ensures front { OnErr result (take (length out.old.items) out.new.items ≡ out.old.items) }
 {
     put_word(out, "not,")?;
     put_word(out, rule)?;

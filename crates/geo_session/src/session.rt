@@ -54,6 +54,27 @@ impl Session {
         ensures same_session { OnErr result (self.new ≡ self.old) }
         ensures same_out { OnErr result (out.new.items ≡ out.old.items) }
     {
+        let start = out.len();
+        let put = self.put_answer(alloc, command, out, steps);
+        if put.is_err() {
+            out.truncate(start);
+        }
+        put
+    }
+
+    // The same, but want of memory may leave the front of the answer.
+    fn put_answer<L: Ledger>(
+        &mut self,
+        alloc: Global,
+        command: Command,
+        out: &mut Vec<u8>,
+        steps: &mut Steps<L>,
+    ) -> Result<(), Memory>
+        requires { IsWellSized command }
+        ensures ok { OnOk result (AppendsAnswer self.old command out.old.items out.new.items self.new) }
+        ensures same_session { OnErr result (self.new ≡ self.old) }
+        ensures front { OnErr result (take (length out.old.items) out.new.items ≡ out.old.items) }
+    {
         match command {
             Command::Polygon(points) => self.answer_polygon(points, out, steps),
             Command::Inside(point) => self.answer_inside(&point, out, steps),
@@ -70,7 +91,7 @@ impl Session {
         requires { (3 ≤ length points) × (length points ≤ 4096) }
         ensures ok { OnOk result (AppendsAnswer self.old (Command.Polygon points) out.old.items out.new.items self.new) }
         ensures same_session { OnErr result (self.new ≡ self.old) }
-        ensures same_out { OnErr result (out.new.items ≡ out.old.items) }
+        ensures front { OnErr result (take (length out.old.items) out.new.items ≡ out.old.items) }
     {
         match Ring::of(points.into_vec(), steps) {
             Ok(ring) => {
@@ -90,7 +111,7 @@ impl Session {
         steps: &mut Steps<L>,
     ) -> Result<(), Memory>
         ensures ok { OnOk result (AppendsAnswer self.now (Command.Inside point.now) out.old.items out.new.items self.now) }
-        ensures same_out { OnErr result (out.new.items ≡ out.old.items) }
+        ensures front { OnErr result (take (length out.old.items) out.new.items ≡ out.old.items) }
     {
         match &self.held {
             Some(held) => put_word(out, place_line(&held.ring, point, steps)),
@@ -107,7 +128,7 @@ impl Session {
     ) -> Result<(), Memory>
         requires { (1 ≤ length points.now) × (length points.now ≤ 4096) }
         ensures ok { OnOk result (AppendsAnswer self.now (Command.Check points.now) out.old.items out.new.items self.now) }
-        ensures same_out { OnErr result (out.new.items ≡ out.old.items) }
+        ensures front { OnErr result (take (length out.old.items) out.new.items ≡ out.old.items) }
     {
         let Some(held) = &self.held else {
             return put_bad(out, &Bad::NoPolygon);
@@ -130,20 +151,7 @@ fn place_line<L: Ledger>(ring: &Ring, point: &Pt, steps: &mut Steps<L>) -> &'sta
 // Appends the line of an accepted polygon with `count` vertices.
 fn put_polygon(out: &mut Vec<u8>, count: u32) -> Result<(), Memory>
     ensures ok { OnOk result (out.new.items ≡ out.old.items ++ polygon_text count) }
-    ensures err { OnErr result (out.new.items ≡ out.old.items) }
-{
-    let start = out.len();
-    let put = put_polygon_line(out, count);
-    if put.is_err() {
-        out.truncate(start);
-    }
-    put
-}
-
-// The same, but want of memory may leave the front of the line.
-fn put_polygon_line(out: &mut Vec<u8>, count: u32) -> Result<(), Memory>
-    ensures ok { OnOk result (out.new.items ≡ out.old.items ++ polygon_text count) }
-    ensures err { OnErr result (take (length out.old.items) out.new.items ≡ out.old.items) }
+    ensures front { OnErr result (take (length out.old.items) out.new.items ≡ out.old.items) }
 {
     put_word(out, "polygon")?;
     put_index(out, count)?;
