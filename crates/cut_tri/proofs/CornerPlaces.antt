@@ -3,32 +3,32 @@ use Rattle.std.proofs.Common.{◌≡◌, inr, sym, ap, subst, ◌∙◌, ℕ, �
 use Rattle.std.proofs.lemmas.List.{get_or-map, length-map, map-append}
 use Rattle.plane.specs.Order.{IsBefore}
 use Rattle.plane.specs.Point.{Point, whole}
+use Rattle.plane.specs.Triangle.{IsInTriangle}
 use Rattle.plane.specs.Turn.{IsLeft}
+use Rattle.rings.proofs.DistinctPoints.{HasPoint}
+use Rattle.rings.proofs.Items.{number_of}
 use Rattle.rings.specs.Ring.{origin, vertex}
 use Rattle.rings.specs.Simple.{IsSimple}
+use Rattle.rings.specs.Winding.{RunsCounterclockwise}
+use Rattle.ring_ears.proofs.LeastVertex.{NoneBefore}
 use Rattle.ring_laws.proofs.CounterclockwiseCuts.{least_turn}
-use Rattle.ring_laws.proofs.DistinctPoints.{HasPoint}
 use Rattle.ring_laws.proofs.FarthestEnd.{InTriangle, height}
-use Rattle.ring_laws.proofs.Items.{number_of}
-use Rattle.ring_laws.proofs.LeastVertex.{NoneBefore}
-use Rattle.ring_laws.specs.Triangle.{IsInTriangle}
-use Rattle.ring_laws.specs.Winding.{RunsCounterclockwise}
-use Rattle.tri_mesh.specs.Fits.{points_of}
+use Rattle.tri_mesh.specs.Fits.{piece_points}
 use Rattle.cut_tri.proofs.Shapes.{ends_length, last_is, middle_is}
 use Rattle.cut_tri.specs.Corner.{IsInCorner, candidate_at}
 use Rattle.cut_tri.specs.Piece.{IsLeastBelow, IsPiece}
 
 -- a point of a piece is the vertex at a place
-pub place_of_point : (corners : List Point) (xs : List ℕ) (p : Point) → HasPoint (points_of corners xs) p
+pub place_of_point : (corners : List Point) (xs : List ℕ) (p : Point) → HasPoint (piece_points corners xs) p
     → (k : ℕ) × (k < length xs) × (vertex corners (get_or xs k 0) ≡ p)
 place_of_point corners xs p has =
-    let (k, within, is) = number_of (points_of corners xs) p has in
+    let (k, within, is) = number_of (piece_points corners xs) p has in
     let below : k < length xs = omega (arith, within, length-map xs (λ i. vertex corners i)) in
     (k, below, sym (get_or-map (λ i. vertex corners i) xs k 0 origin below) ∙ is origin)
 
 module _ (corners : List Point) (v w : ℕ) (ms : List ℕ) (u : ℕ) where
   -- the points of the piece
-  pub points_are : points_of corners (v ∷ w ∷ (ms ++ u ∷ [])) ≡ vertex corners v ∷ vertex corners w ∷ (points_of corners ms ++ vertex corners u ∷ [])
+  pub points_are : piece_points corners (v ∷ w ∷ (ms ++ u ∷ [])) ≡ vertex corners v ∷ vertex corners w ∷ (piece_points corners ms ++ vertex corners u ∷ [])
   points_are = ap (λ ps. vertex corners v ∷ vertex corners w ∷ ps) (map-append (λ i. vertex corners i) ms (u ∷ []))
 
   module _ (i : ℕ) (within : i < length ms) where
@@ -55,7 +55,7 @@ module _ (corners : List Point) (v w : ℕ) (ms : List ℕ) (u : ℕ) where
 
   -- where the corner is empty, so is the triangle
   pub none_in_triangle : ((j : ℕ) → j < length (v ∷ w ∷ (ms ++ u ∷ [])) → ¬ (IsInCorner corners (v ∷ w ∷ (ms ++ u ∷ [])) j))
-      → (p : Point) → HasPoint (points_of corners ms) p → ¬ (InTriangle (vertex corners u) (vertex corners v) (vertex corners w) p)
+      → (p : Point) → HasPoint (piece_points corners ms) p → ¬ (InTriangle (vertex corners u) (vertex corners v) (vertex corners w) p)
   none_in_triangle none p has h =
       let (i, within, is) = place_of_point corners ms p has in
       none (i + 2) (omega (arith, within, ends_length v w ms u))
@@ -64,19 +64,19 @@ module _ (corners : List Point) (v w : ℕ) (ms : List ℕ) (u : ℕ) where
   module _ (piece : IsPiece corners (v ∷ w ∷ (ms ++ u ∷ [])))
       (least : IsLeastBelow corners (v ∷ w ∷ (ms ++ u ∷ [])) (length (v ∷ w ∷ (ms ++ u ∷ []))) 0) where
     -- no other point is before the first
-    pub none_before : NoneBefore (vertex corners w ∷ (points_of corners ms ++ vertex corners u ∷ [])) (vertex corners v)
+    pub none_before : NoneBefore (vertex corners w ∷ (piece_points corners ms ++ vertex corners u ∷ [])) (vertex corners v)
     none_before p has before =
         let (k, within, is) = place_of_point corners (v ∷ w ∷ (ms ++ u ∷ [])) p (subst (λ rs. HasPoint rs p) (sym points_are) (inr has)) in
         least k within (subst (λ (q : Point). IsBefore q (vertex corners v)) (sym is) before)
 
     -- the points are simple,
-    pub ends_simple : IsSimple (vertex corners v ∷ vertex corners w ∷ (points_of corners ms ++ vertex corners u ∷ []))
+    pub ends_simple : IsSimple (vertex corners v ∷ vertex corners w ∷ (piece_points corners ms ++ vertex corners u ∷ []))
     ends_simple = subst IsSimple points_are piece.simple
 
     -- and run counterclockwise
-    pub ends_run : RunsCounterclockwise (vertex corners v ∷ vertex corners w ∷ (points_of corners ms ++ vertex corners u ∷ []))
+    pub ends_run : RunsCounterclockwise (vertex corners v ∷ vertex corners w ∷ (piece_points corners ms ++ vertex corners u ∷ []))
     ends_run = subst RunsCounterclockwise points_are piece.counterclockwise
 
     -- so the turn at the first is left
     pub first_left : IsLeft (whole (vertex corners u)) (whole (vertex corners v)) (whole (vertex corners w))
-    first_left = least_turn (vertex corners v) (vertex corners w) (points_of corners ms) (vertex corners u) ends_simple ends_run none_before
+    first_left = least_turn (vertex corners v) (vertex corners w) (piece_points corners ms) (vertex corners u) ends_simple ends_run none_before

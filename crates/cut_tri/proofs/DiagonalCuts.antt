@@ -3,15 +3,15 @@ use Rattle.std.proofs.Common.{◌≡◌, inl, refl, sym, ap, subst, ◌∙◌, �
 use Rattle.std.proofs.lemmas.Int.{ints}
 use Rattle.std.proofs.lemmas.List.{append_assoc, drop_at, get_or_at, length-append, map-append, take_at}
 use Rattle.plane.specs.Point.{Point}
+use Rattle.rings.proofs.DistinctPoints.{HasPoint}
+use Rattle.rings.proofs.Farthest.{Farthest}
+use Rattle.rings.proofs.Items.{has_right}
 use Rattle.rings.specs.Ring.{vertex}
 use Rattle.ring_laws.proofs.CounterclockwiseCuts.{IsCounterclockwiseCut, farthest_cut_runs}
-use Rattle.ring_laws.proofs.DistinctPoints.{HasPoint}
-use Rattle.ring_laws.proofs.Farthest.{Farthest}
 use Rattle.ring_laws.proofs.FarthestEnd.{InTriangle, height}
-use Rattle.ring_laws.proofs.Items.{has_right}
-use Rattle.tri_mesh.proofs.Cuts.{IsCut, both_parts, contains_first_part, contains_second_part, first_part, second_part}
-use Rattle.tri_mesh.proofs.Joined.{fits_joined}
-use Rattle.tri_mesh.specs.Fits.{points_of}
+use Rattle.tri_mesh.specs.Fits.{piece_points}
+use Rattle.mesh_joins.proofs.Cuts.{IsCut, both_parts, contains_first_part, contains_second_part, first_part, second_part}
+use Rattle.mesh_joins.proofs.Joined.{fits_joined}
 use Rattle.cut_tri.proofs.CornerPlaces.{ends_run, ends_simple, height_is, in_corner_from, in_triangle_from, none_before, place_of_point}
 use Rattle.cut_tri.proofs.Members.{members_of_numbers, numbers_of_members}
 use Rattle.cut_tri.proofs.Shapes.{by_split, ends_length}
@@ -28,7 +28,7 @@ at_most a b h = grind (arith, ints)
 module _ (corners : List Point) (v w : ℕ) (ms : List ℕ) (u : ℕ) (i : ℕ) (within : i < length ms)
     (far : IsFarthestBelow corners (v ∷ w ∷ (ms ++ u ∷ [])) (length (v ∷ w ∷ (ms ++ u ∷ []))) (i + 2)) where
   -- no vertex in the triangle is higher
-  none_higher : (q : Point) → HasPoint (points_of corners ms) q → InTriangle (vertex corners u) (vertex corners v) (vertex corners w) q
+  none_higher : (q : Point) → HasPoint (piece_points corners ms) q → InTriangle (vertex corners u) (vertex corners v) (vertex corners w) q
       → height (vertex corners u) (vertex corners w) q ≤ℤ height (vertex corners u) (vertex corners w) (vertex corners (get_or ms i 0))
   none_higher q has inside =
       let (k, below, is) = place_of_point corners ms q has in
@@ -58,17 +58,17 @@ module _ (corners : List Point) (v w : ℕ) (cs : List ℕ) (z : ℕ) (ds : List
   z_is = get_or_at cs z ds 0 (length cs) refl
 
   -- their points
-  others_points : points_of corners others ≡ points_of corners cs ++ vertex corners z ∷ points_of corners ds
+  others_points : piece_points corners others ≡ piece_points corners cs ++ vertex corners z ∷ piece_points corners ds
   others_points = map-append (λ i. vertex corners i) cs (z ∷ ds)
 
   module _ (piece : IsPiece corners (v ∷ w ∷ (others ++ u ∷ [])))
       (least : IsLeastBelow corners (v ∷ w ∷ (others ++ u ∷ [])) (length (v ∷ w ∷ (others ++ u ∷ []))) 0)
       (far : IsFarthestBelow corners (v ∷ w ∷ (others ++ u ∷ [])) (length (v ∷ w ∷ (others ++ u ∷ []))) (length cs + 2)) where
     -- it is the farthest in the triangle
-    abbrev farthest_point : Farthest (InTriangle (vertex corners u) (vertex corners v) (vertex corners w)) (height (vertex corners u) (vertex corners w)) (points_of corners others)
+    abbrev farthest_point : Farthest (InTriangle (vertex corners u) (vertex corners v) (vertex corners w)) (height (vertex corners u) (vertex corners w)) (piece_points corners others)
     farthest_point = record {
       point = vertex corners z;
-      has_point = subst (λ rs. HasPoint rs (vertex corners z)) (sym others_points) (has_right (vertex corners z) (points_of corners cs) (vertex corners z ∷ points_of corners ds) (inl refl));
+      has_point = subst (λ rs. HasPoint rs (vertex corners z)) (sym others_points) (has_right (vertex corners z) (piece_points corners cs) (vertex corners z ∷ piece_points corners ds) (inl refl));
       chosen = subst (λ k. InTriangle (vertex corners u) (vertex corners v) (vertex corners w) (vertex corners k)) z_is
           (in_triangle_from corners v w others u (length cs) place_within far.in_corner);
       farthest = λ q has inside.
@@ -77,24 +77,24 @@ module _ (corners : List Point) (v w : ℕ) (cs : List ℕ) (z : ℕ) (ds : List
     }
 
     -- so the diagonal to it cuts the points in two
-    points_cut : IsCounterclockwiseCut (points_of corners (both_parts v (w ∷ cs) z (ds ++ u ∷ []))) (points_of corners (first_part v (w ∷ cs) z))
-        (points_of corners (second_part v z (ds ++ u ∷ []))) (vertex corners v) (vertex corners z)
+    points_cut : IsCounterclockwiseCut (piece_points corners (both_parts v (w ∷ cs) z (ds ++ u ∷ []))) (piece_points corners (first_part v (w ∷ cs) z))
+        (piece_points corners (second_part v z (ds ++ u ∷ []))) (vertex corners v) (vertex corners z)
     points_cut =
         let V = vertex corners v in
         let W = vertex corners w in
         let Z = vertex corners z in
         let U = vertex corners u in
         let at = λ (i : ℕ). vertex corners i in
-        let cut = farthest_cut_runs V W (points_of corners others) U (ends_simple corners v w others u piece least) (ends_run corners v w others u piece least)
-        (none_before corners v w others u piece least) farthest_point (points_of corners cs) (points_of corners ds) others_points in
-        subst (λ rs. IsCounterclockwiseCut rs (V ∷ W ∷ points_of corners (cs ++ z ∷ [])) (V ∷ Z ∷ points_of corners (ds ++ u ∷ [])) V Z) whole_is
-        (subst (λ rs. IsCounterclockwiseCut (V ∷ W ∷ (points_of corners others ++ U ∷ [])) (V ∷ W ∷ rs) (V ∷ Z ∷ points_of corners (ds ++ u ∷ [])) V Z) (sym (map-append at cs (z ∷ [])))
-        (subst (λ rs. IsCounterclockwiseCut (V ∷ W ∷ (points_of corners others ++ U ∷ [])) (V ∷ W ∷ (points_of corners cs ++ Z ∷ [])) (V ∷ Z ∷ rs) V Z) (sym (map-append at ds (u ∷ []))) cut))
+        let cut = farthest_cut_runs V W (piece_points corners others) U (ends_simple corners v w others u piece least) (ends_run corners v w others u piece least)
+        (none_before corners v w others u piece least) farthest_point (piece_points corners cs) (piece_points corners ds) others_points in
+        subst (λ rs. IsCounterclockwiseCut rs (V ∷ W ∷ piece_points corners (cs ++ z ∷ [])) (V ∷ Z ∷ piece_points corners (ds ++ u ∷ [])) V Z) whole_is
+        (subst (λ rs. IsCounterclockwiseCut (V ∷ W ∷ (piece_points corners others ++ U ∷ [])) (V ∷ W ∷ rs) (V ∷ Z ∷ piece_points corners (ds ++ u ∷ [])) V Z) (sym (map-append at cs (z ∷ [])))
+        (subst (λ rs. IsCounterclockwiseCut (V ∷ W ∷ (piece_points corners others ++ U ∷ [])) (V ∷ W ∷ (piece_points corners cs ++ Z ∷ [])) (V ∷ Z ∷ rs) V Z) (sym (map-append at ds (u ∷ []))) cut))
       where
-        whole_is : vertex corners v ∷ vertex corners w ∷ (points_of corners others ++ vertex corners u ∷ []) ≡ points_of corners (both_parts v (w ∷ cs) z (ds ++ u ∷ []))
+        whole_is : vertex corners v ∷ vertex corners w ∷ (piece_points corners others ++ vertex corners u ∷ []) ≡ piece_points corners (both_parts v (w ∷ cs) z (ds ++ u ∷ []))
         whole_is =
             ap (λ rs. vertex corners v ∷ vertex corners w ∷ rs) (sym (map-append (λ i. vertex corners i) others (u ∷ [])))
-            ∙ ap (points_of corners) regrouped
+            ∙ ap (piece_points corners) regrouped
 
     -- and the piece in two pieces
     are_parts : AreParts corners (both_parts v (w ∷ cs) z (ds ++ u ∷ [])) (first_part v (w ∷ cs) z) (second_part v z (ds ++ u ∷ []))

@@ -4,13 +4,13 @@ use Rattle.std.proofs.lemmas.List.{length-append, length-map, map-append}
 use Rattle.plane.proofs.Segments.{on_reversed}
 use Rattle.plane.specs.Point.{Point, whole}
 use Rattle.rings.specs.Ring.{vertex}
+use Rattle.inside_laws.proofs.Rotated.{in_rotated}
 use Rattle.ring_laws.proofs.CounterclockwiseCuts.{IsCounterclockwiseCut, ear_cut_runs}
-use Rattle.ring_laws.proofs.Rotated.{in_rotated}
 use Rattle.tri_mesh.proofs.BaseTriangle.{fits_triangle}
-use Rattle.tri_mesh.proofs.Cuts.{IsCut, contains_rest}
-use Rattle.tri_mesh.proofs.Ears.{fits_ear}
-use Rattle.tri_mesh.proofs.Rotated.{fits_rotated, same_rotated}
-use Rattle.tri_mesh.specs.Fits.{FitsPiece, points_of}
+use Rattle.tri_mesh.specs.Fits.{FitsPiece, piece_points}
+use Rattle.mesh_joins.proofs.Cuts.{IsCut, contains_rest}
+use Rattle.mesh_joins.proofs.Ears.{fits_ear}
+use Rattle.mesh_joins.proofs.Rotated.{fits_rotated, same_rotated}
 use Rattle.cut_tri.proofs.CornerPlaces.{ends_run, ends_simple, first_left, none_before, none_in_triangle}
 use Rattle.cut_tri.proofs.Members.{members_of_numbers, numbers_of_members}
 use Rattle.cut_tri.proofs.Shapes.{by_ends, first_tri_is}
@@ -43,11 +43,11 @@ module _ (corners : List Point) (v w : ℕ) (ms : List ℕ) (u : ℕ) (piece : I
     (least : IsLeastBelow corners (v ∷ w ∷ (ms ++ u ∷ [])) (length (v ∷ w ∷ (ms ++ u ∷ []))) 0) (some : 0 < length ms)
     (none : (j : ℕ) → j < length (v ∷ w ∷ (ms ++ u ∷ [])) → ¬ (IsInCorner corners (v ∷ w ∷ (ms ++ u ∷ [])) j)) where
   -- the side across from the first vertex cuts the triangle off
-  base_cut : IsCounterclockwiseCut (points_of corners (v ∷ w ∷ (ms ++ u ∷ []))) (points_of corners (w ∷ (ms ++ u ∷ [])))
-      (points_of corners (w ∷ u ∷ v ∷ [])) (vertex corners w) (vertex corners u)
+  base_cut : IsCounterclockwiseCut (piece_points corners (v ∷ w ∷ (ms ++ u ∷ []))) (piece_points corners (w ∷ (ms ++ u ∷ [])))
+      (piece_points corners (w ∷ u ∷ v ∷ [])) (vertex corners w) (vertex corners u)
   base_cut =
-      let ps : List Point = points_of corners ms in
-      subst (λ rs. IsCounterclockwiseCut (vertex corners v ∷ vertex corners w ∷ rs) (vertex corners w ∷ rs) (points_of corners (w ∷ u ∷ v ∷ [])) (vertex corners w) (vertex corners u))
+      let ps : List Point = piece_points corners ms in
+      subst (λ rs. IsCounterclockwiseCut (vertex corners v ∷ vertex corners w ∷ rs) (vertex corners w ∷ rs) (piece_points corners (w ∷ u ∷ v ∷ [])) (vertex corners w) (vertex corners u))
       (sym (map-append (λ i. vertex corners i) ms (u ∷ [])))
       (ear_cut_runs (vertex corners v) (vertex corners w) ps (vertex corners u) (ends_simple corners v w ms u piece least) (ends_run corners v w ms u piece least)
       (none_before corners v w ms u piece least) (omega (arith, some, length-map ms (λ i. vertex corners i)))

@@ -4,7 +4,6 @@ mod CornerPlaces
 mod DiagonalCuts
 mod EarCuts
 mod Members
-mod RightTurns
 mod RotatedCuts
 mod Shapes
 mod WholePiece

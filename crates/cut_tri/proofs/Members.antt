@@ -1,19 +1,16 @@
--- Numbers at the places of a list, and pieces read from another vertex on.
+-- Numbers in a list and at its places, and pieces read from another vertex on.
 use Rattle.std.proofs.Common.{◌≡◌, sym, subst, ◌∙◌, ℕ, ◌<◌, List, ◌++◌, length, get_or, arith}
 use Rattle.std.proofs.lemmas.List.{get_or_default, map-append}
 use Rattle.std.proofs.lemmas.List.Elements.{Contains-get_or}
 use Rattle.std.specs.List.{Contains}
 use Rattle.plane.specs.Point.{Point}
 use Rattle.rings.specs.Ring.{vertex}
-use Rattle.ring_laws.proofs.RunsOnce.{counterclockwise_rotated}
-use Rattle.ring_laws.specs.Winding.{RunsCounterclockwise}
-use Rattle.tri_mesh.proofs.Rotated.{same_rotated}
-use Rattle.tri_mesh.specs.Fits.{points_of}
+use Rattle.rings.specs.Winding.{RunsCounterclockwise}
+use Rattle.ring_ears.proofs.RunsOnce.{counterclockwise_rotated}
+use Rattle.tri_mesh.specs.Fits.{piece_points}
+use Rattle.mesh_joins.proofs.Cuts.{place_of}
+use Rattle.mesh_joins.proofs.Rotated.{same_rotated}
 use Rattle.cut_tri.specs.Piece.{IsPiece}
-
--- a member stands at a place
-pub place_of_member : (xs : List ℕ) (i : ℕ) → Contains xs i → (k : ℕ) × (k < length xs) × (get_or xs k 0 ≡ i)
-place_of_member xs i (k, h, e) = (k, h, get_or_default xs k 0 i h ∙ e)
 
 module _ (n : ℕ) (xs : List ℕ) where
   -- what holds of the members holds at the places,
@@ -22,7 +19,7 @@ module _ (n : ℕ) (xs : List ℕ) where
 
   -- and the other way round
   pub members_of_numbers : ((k : ℕ) → k < length xs → get_or xs k 0 < n) → (i : ℕ) → Contains xs i → i < n
-  members_of_numbers all i has = let (k, h, e) = place_of_member xs i has in subst (λ j. j < n) e (all k h)
+  members_of_numbers all i has = let (k, h, e) = place_of xs i has in subst (λ j. j < n) e (all k h)
 
 module _ (corners : List Point) (xs ys : List ℕ) (is : IsPiece corners (xs ++ ys)) where
   -- its members are those of the piece read from another vertex on
@@ -39,6 +36,6 @@ module _ (corners : List Point) (xs ys : List ℕ) (is : IsPiece corners (xs ++ 
             (λ i h. members_of_numbers (length corners) (xs ++ ys) is.numbers i (members_back i h));
         simple = same.simple;
         counterclockwise = subst RunsCounterclockwise (sym (map-append (λ k. vertex corners k) ys xs))
-            (counterclockwise_rotated (points_of corners ys) (points_of corners xs)
+            (counterclockwise_rotated (piece_points corners ys) (piece_points corners xs)
             (subst RunsCounterclockwise (map-append (λ k. vertex corners k) xs ys) is.counterclockwise));
       }

@@ -4,16 +4,17 @@ use Rattle.std.proofs.lemmas.List.{get_or-drop, get_or_append_left, length-appen
 use Rattle.std.proofs.lemmas.List.Elements.{Contains-get_or}
 use Rattle.std.specs.List.{Contains}
 use Rattle.std.specs.Prelude.{IfOk}
-use Rattle.exact_plane.specs.declared.memory.Memory.{Memory}
 use Rattle.plane.specs.Order.{IsBefore}
 use Rattle.plane.specs.Point.{Point}
 use Rattle.rings.specs.Ring.{vertex}
-use Rattle.tri_mesh.proofs.Rotated.{fits_rotated}
-use Rattle.cut_tri.proofs.Members.{members_back, piece_rotated, place_of_member}
+use Rattle.exact_plane.specs.declared.memory.Memory.{Memory}
+use Rattle.mesh_joins.proofs.Cuts.{place_of}
+use Rattle.mesh_joins.proofs.Rotated.{fits_rotated}
+use Rattle.cut_tri.proofs.Members.{members_back, piece_rotated}
 use Rattle.cut_tri.specs.Cutting.{IsCutOf}
 use Rattle.cut_tri.specs.Piece.{IsLeastBelow, IsPiece, corner_at}
 use Rattle.cut_tri.specs.declared.cut.Remains.{Remains}
-use Rattle.cut_tri.specs.declared.cut.Remains.TheVariants.{Triangle, Ear, Parts}
+use Rattle.cut_tri.specs.declared.cut.Remains.TheVariants.{Ear, Parts, Triangle}
 
 module _ (corners : List Point) (xs ys : List ℕ) where
   -- what is left of it
@@ -63,7 +64,7 @@ module _ (corners : List Point) (xs : List ℕ) (k : ℕ) (is : IsPiece corners 
     pub least_from : IsLeastBelow corners xs (length xs) k → IsLeastBelow corners (drop k xs ++ take k xs) (length (drop k xs ++ take k xs)) 0
     least_from least j h before =
         let has = members_back corners (take k xs) (drop k xs) two_parts (get_or (drop k xs ++ take k xs) j 0) (Contains-get_or (drop k xs ++ take k xs) j 0 h) in
-        let (i, below, same) = place_of_member xs _ (subst (λ ys. Contains ys (get_or (drop k xs ++ take k xs) j 0)) (take-append-drop k xs) has) in
+        let (i, below, same) = place_of xs _ (subst (λ ys. Contains ys (get_or (drop k xs ++ take k xs) j 0)) (take-append-drop k xs) has) in
         least i below
         (subst (λ n. IsBefore (vertex corners n) (corner_at corners xs k)) (sym same)
         (subst (λ n. IsBefore (corner_at corners (drop k xs ++ take k xs) j) (vertex corners n)) first_is before))

@@ -5,12 +5,12 @@ use Rattle.std.proofs.lemmas.List.{map-id}
 use Rattle.std.proofs.lemmas.List.FromFn.{get_or-range_with_len, length-range_with_len, map-range_with_len_more}
 use Rattle.std.specs.List.{range_with_len}
 use Rattle.plane.specs.Point.{Point}
+use Rattle.rings.proofs.SimpleIsApart.{apart_of_simple}
 use Rattle.rings.specs.Orientation.{IsCounterclockwise}
 use Rattle.rings.specs.Simple.{IsSimple}
-use Rattle.ring_laws.proofs.SimpleIsApart.{apart_of_simple}
+use Rattle.rings.specs.Winding.{RunsCounterclockwise}
 use Rattle.ring_laws.proofs.SimpleRings.{runs_round}
-use Rattle.ring_laws.specs.Winding.{RunsCounterclockwise}
-use Rattle.tri_mesh.proofs.PieceVertices.{points_of_all}
+use Rattle.tri_mesh.proofs.PieceVertices.{piece_points_all}
 use Rattle.cut_tri.specs.Piece.{IsPiece}
 
 -- one more number at the end
@@ -33,6 +33,6 @@ module _ (corners : List Point) (some : 3 ≤ length corners) (simple : IsSimple
   all_is_piece = record {
     some = omega (arith, length-range_with_len 0 (length corners));
     numbers = λ k h. omega (arith, h, length-range_with_len 0 (length corners), get_or-range_with_len 0 (length corners) k 0);
-    simple = subst IsSimple (sym (points_of_all corners)) simple;
-    counterclockwise = subst RunsCounterclockwise (sym (points_of_all corners)) runs;
+    simple = subst IsSimple (sym (piece_points_all corners)) simple;
+    counterclockwise = subst RunsCounterclockwise (sym (piece_points_all corners)) runs;
   }

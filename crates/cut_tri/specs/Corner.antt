@@ -1,7 +1,7 @@
 -- The vertices in the triangle at the first vertex of a piece, and the farthest of them. No public clause cites this module.
 use Rattle.std.specs.Prelude.{◌≡◌, ◌⊎◌, ℕ, ◌+◌, ◌-◌, ◌<◌, ◌≤◌, ◌<ℤ◌, Option, Some, List, length, slice_index_or}
 use Rattle.plane.specs.Point.{Point, whole}
-use Rattle.ring_laws.specs.Triangle.{IsInTriangle, height_over}
+use Rattle.plane.specs.Triangle.{IsInTriangle, height_over}
 use Rattle.cut_tri.specs.Piece.{corner_at}
 use Rattle.cut_tri.specs.declared.farthest.Candidate.{Candidate}
 

@@ -4,8 +4,8 @@ use Rattle.plane.specs.Order.{IsBefore}
 use Rattle.plane.specs.Point.{Point}
 use Rattle.rings.specs.Ring.{vertex}
 use Rattle.rings.specs.Simple.{IsSimple}
-use Rattle.ring_laws.specs.Winding.{RunsCounterclockwise}
-use Rattle.tri_mesh.specs.Fits.{points_of}
+use Rattle.rings.specs.Winding.{RunsCounterclockwise}
+use Rattle.tri_mesh.specs.Fits.{piece_points}
 use Rattle.tri_mesh.specs.declared.tri.Tri.{Tri}
 
 -- its items are numbers of vertices
@@ -16,8 +16,8 @@ HasNumbers corners piece = (k : ℕ) → k < length piece → slice_index_or pie
 pub record IsPiece (corners : List Point) (piece : List ℕ) : Type 0 where
   pub some : 3 ≤ length piece
   pub numbers : HasNumbers corners piece
-  pub simple : IsSimple (points_of corners piece)
-  pub counterclockwise : RunsCounterclockwise (points_of corners piece)
+  pub simple : IsSimple (piece_points corners piece)
+  pub counterclockwise : RunsCounterclockwise (piece_points corners piece)
 
 -- the vertex at place k
 abbrev pub corner_at : List Point → List ℕ → ℕ → Point

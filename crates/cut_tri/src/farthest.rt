@@ -5,7 +5,7 @@ ghost use Rattle.cut_tri.specs.Piece.{HasNumbers};
 ghost use Rattle.plane.specs.Point.{whole};
 ghost use Rattle.plane.specs.Turn.{IsRight, determinant};
 ghost use Rattle.rings.specs.Ring.{vertex};
-ghost use Rattle.ring_laws.specs.Triangle.{IsInTriangle, height_over};
+ghost use Rattle.plane.specs.Triangle.{IsInTriangle, height_over};
 
 use exact_plane::{Direction, Pt, Steps, turn};
 use ring_check::Ring;
@@ -111,7 +111,7 @@ impl Corner {
 }
 
 // Whether `p` is right of the line from `a` to `b`.
-#[tactic(auto, using(crate::proofs::RightTurns::right_turns))]
+#[tactic(auto, using(exact_plane::proofs::Directions::right_turns))]
 fn is_right<L: Ledger>(a: &Pt, b: &Pt, p: &Pt, steps: &mut Steps<L>) -> bool
     ensures { IsTrue result ↔ IsRight (whole a.now) (whole b.now) (whole p.now) }
 {

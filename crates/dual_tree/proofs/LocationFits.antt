@@ -2,13 +2,13 @@
 use Rattle.std.proofs.Common.{◌≡◌, subst, ℕ, ◌+◌, ◌<◌, ◌↔◌, List, length, arith}
 use Rattle.std.proofs.lemmas.List.FromFn.{get_or-range_with_len, length-range_with_len}
 use Rattle.std.specs.List.{Contains, range_with_len}
-use Rattle.dual_tree.specs.Location.{HasCornersBelow}
 use Rattle.plane.specs.Point.{IsPoint, Point, Triple}
 use Rattle.rings.specs.Inside.{IsIn}
-use Rattle.tri_mesh.proofs.PieceVertices.{points_of_all}
+use Rattle.tri_mesh.proofs.PieceVertices.{piece_points_all}
 use Rattle.tri_mesh.specs.Fits.{Fits, IsInTri}
 use Rattle.tri_mesh.specs.Side.{tri_at}
 use Rattle.tri_mesh.specs.declared.tri.Tri.{Tri}
+use Rattle.dual_tree.specs.Location.{HasCornersBelow}
 
 -- a member of the numbers below n is below n
 below_of_member : (n x : ℕ) → Contains (range_with_len 0 n) x → x < n
@@ -33,4 +33,4 @@ module _ (corners : List Point) (tris : List Tri) (fits : Fits corners tris) whe
 
   -- a point is in the ring exactly where it is in a triangle
   pub covered : (p : Triple) → IsPoint p → IsIn corners p ↔ ((k : ℕ) × (k < length tris) × IsInTri corners (tri_at tris k) p)
-  covered p at_p = subst (λ ring. IsIn ring p ↔ ((k : ℕ) × (k < length tris) × IsInTri corners (tri_at tris k) p)) (points_of_all corners) (fits.covers p at_p)
+  covered p at_p = subst (λ ring. IsIn ring p ↔ ((k : ℕ) × (k < length tris) × IsInTri corners (tri_at tris k) p)) (piece_points_all corners) (fits.covers p at_p)

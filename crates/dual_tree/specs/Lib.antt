@@ -1,3 +1,2 @@
 pub mod Location
-pub mod MeshLaws
 pub mod Search

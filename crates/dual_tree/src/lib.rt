@@ -2,7 +2,6 @@
 #![tactic(auto)]
 
 mod board;
-mod laws;
 mod location;
 mod search;
 mod sleeves;
@@ -10,6 +9,5 @@ mod sleeves;
 mod tests;
 
 pub use board::Board;
-pub use laws::{ear, leaf_off_walk, leaves, separation, sight_in_piece, sight_in_sleeve};
 pub use location::locate;
 pub use sleeves::sleeve;

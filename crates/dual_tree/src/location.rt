@@ -40,7 +40,7 @@ fn holds<L: Ledger>(ring: &Ring, tri: &Tri, p: &Pt, steps: &mut Steps<L>) -> boo
 }
 
 // Whether `p` is left of the line from `a` to `b` or on it. It takes one step.
-#[tactic(auto, using(crate::proofs::LocatedTurns::right_iff_negative))]
+#[tactic(auto, using(exact_plane::proofs::Directions::right_iff_negative))]
 fn is_not_right<L: Ledger>(a: &Pt, b: &Pt, p: &Pt, steps: &mut Steps<L>) -> bool
     ensures not_right { IsTrue result ↔ ¬ (IsRight (whole a.now) (whole b.now) (whole p.now)) }
     ensures steps { steps.new ≡ steps.old + 1 }

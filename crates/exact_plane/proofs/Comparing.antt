@@ -1,16 +1,14 @@
 -- What a comparison of two pairs of integers tells, the first of each before the second.
-use Rattle.std.proofs.Common.{◌≡◌, ◌↔◌, ◌⊎◌, inl, inr, refl, subst, sym, ◌∙◌, ℤ, ◌*ℤ◌, ◌<ℤ◌, ◌<◌, ◌^◌, Less, Equal, Greater, arith}
-use mir.Syntax.{w128}
-use Rattle.std.proofs.lemmas.Int.{ints, to_z-of_z}
-use Rattle.std.specs.Prelude.{FitsSigned, unsigned_abs}
+use Rattle.std.proofs.Common.{◌≡◌, ◌↔◌, ◌⊎◌, inl, inr, refl, subst, sym, ◌∙◌, ℤ, ◌*ℤ◌, ◌<ℤ◌, Less, Equal, Greater, arith}
+use Rattle.std.proofs.lemmas.Int.{ints}
 use Rattle.std.specs.Cmp.{int_ranks}
 use Rattle.std.specs.Ordering.{MatchOrdering, int_cmp, ordering_then}
 use Rattle.std.specs.declared.cmp.Ordering.{Ordering}
+use Rattle.plane.specs.Order.{Precedes}
+use Rattle.plane.specs.Point.{IsSame, Triple}
 use Rattle.exact_plane.proofs.Registers.{wide}
 use Rattle.exact_plane.proofs.WideProducts.{part_is}
 use Rattle.exact_plane.specs.Size.{IsSized}
-use Rattle.plane.specs.Order.{Precedes}
-use Rattle.plane.specs.Point.{IsSame, Triple}
 
 -- the integers compare as the answer says
 abbrev Ranks : Ordering → ℤ → ℤ → Type 0

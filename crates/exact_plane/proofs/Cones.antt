@@ -1,14 +1,14 @@
 -- A point is in a cone exactly if neither turn toward it is against the cone's own.
-use Rattle.std.proofs.Common.{◌≡◌, ◌≢◌, ◌↔◌, ◌⊎◌, inl, inr, refl, sym, ap, ◌∙◌, zero, suc, ℤ, pos, negsuc, ◌<ℤ◌, IsTrue, Bool, true, false, arith}
+use Rattle.std.proofs.Common.{◌≡◌, ◌≢◌, ◌↔◌, ◌⊎◌, inl, inr, refl, sym, ap, ◌∙◌, zero, suc, ℤ, pos, negsuc, ◌<ℤ◌, IsTrue, Bool, false, arith}
 use Rattle.std.proofs.lemmas.Int.{ints}
 use Rattle.std.proofs.lemmas.Bool.{false_from_ne_true, not_from_false}
 use Rattle.std.specs.Prelude.{not}
-use Rattle.exact_plane.specs.Direction.{direction_of, opposite, turn_of}
-use Rattle.exact_plane.specs.declared.direction.Direction.{Direction}
 use Rattle.plane.proofs.Determinants.{straight_swap_first}
 use Rattle.plane.specs.Cone.{IsInCone}
 use Rattle.plane.specs.Point.{Triple}
 use Rattle.plane.specs.Turn.{IsStraight}
+use Rattle.exact_plane.specs.Direction.{direction_of, opposite, turn_of}
+use Rattle.exact_plane.specs.declared.direction.Direction.{Direction}
 
 -- a number does not turn to the right exactly if it is not negative,
 not_right : (s : ℤ) → (¬ (s <ℤ pos 0)) ↔ (direction_of s ≢ opposite (direction_of (pos 1)))

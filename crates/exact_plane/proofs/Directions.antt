@@ -1,7 +1,7 @@
 -- A direction tells the sign that it comes from.
-use Rattle.std.proofs.Common.{◌≡◌, ◌≢◌, inl, inr, zero, suc, ℤ, pos, negsuc, ◌<ℤ◌, refl, sym, ap, ◌∙◌, arith}
+use Rattle.std.proofs.Common.{◌≡◌, ◌≢◌, ◌↔◌, inl, inr, zero, suc, ℤ, pos, negsuc, ◌<ℤ◌, refl, sym, ap, ◌∙◌, arith}
 use Rattle.std.proofs.lemmas.Int.{ints}
-use Rattle.plane.proofs.OneSign.{OneSign}
+use Rattle.integer_algebra.proofs.OneSign.{OneSign}
 use Rattle.exact_plane.specs.Direction.{direction_of}
 use Rattle.exact_plane.specs.declared.direction.Direction.TheVariants.{Left, Right, Straight}
 
@@ -31,10 +31,23 @@ left_of_positive (pos zero) h = absurd (omega (arith, ints))
 left_of_positive (pos (suc n)) h = refl
 left_of_positive (negsuc n) h = absurd (omega (arith, ints))
 
--- a negative one is to the right
-right_of_negative : (z : ℤ) → z <ℤ pos 0 → direction_of z ≡ Right
+-- a negative one is to the right,
+pub right_of_negative : (z : ℤ) → z <ℤ pos 0 → direction_of z ≡ Right
 right_of_negative (pos n) h = absurd (omega (arith, ints))
 right_of_negative (negsuc n) h = refl
+
+-- and only a negative one
+pub negative_of_right : (z : ℤ) → direction_of z ≡ Right → z <ℤ pos 0
+negative_of_right (pos zero) e = cc
+negative_of_right (pos (suc n)) e = cc
+negative_of_right (negsuc n) e = omega (arith, ints)
+
+-- both
+pub right_iff_negative : (z : ℤ) → (direction_of z ≡ Right) ↔ (z <ℤ pos 0)
+right_iff_negative z = (negative_of_right z, right_of_negative z)
+
+-- the two as rules
+pub ruleset right_turns = (negative_of_right, right_of_negative)
 
 -- two numbers of one sign have one direction
 pub direction_of_one_sign : (x y : ℤ) → OneSign x y → direction_of y ≡ direction_of x

@@ -1,8 +1,8 @@
 -- Points by their names. This project's own.
-use Rattle.std.specs.Prelude.{ℕ, ◌<◌, List, length, slice_index_or, pos}
-use Rattle.exact_plane.specs.declared.turns.Spot.{Spot}
-use Rattle.exact_plane.specs.declared.turns.Spot.TheVariants.{Corner, Start, Goal}
+use Rattle.std.specs.Prelude.{◌<◌, List, length, slice_index_or, pos}
 use Rattle.plane.specs.Point.{Point}
+use Rattle.exact_plane.specs.declared.turns.Spot.{Spot}
+use Rattle.exact_plane.specs.declared.turns.Spot.TheVariants.{Corner, Goal, Start}
 
 -- the point that a name stands for, among some corners, a start and a goal
 abbrev pub point_named : List Point → Point → Point → Spot → Point

@@ -2,7 +2,7 @@ ghost use Rattle.std.specs.Prelude.{◌≡◌, ◌+◌, ◌≤◌, ◌↔◌, �
 ghost use Rattle.exact_plane.specs.Direction.{turn_of};
 ghost use Rattle.plane.specs.Beside.{IsBeside};
 ghost use Rattle.plane.specs.Box.{BoxesMeet};
-ghost use Rattle.plane.specs.Order.{IsBetween, IsOutside};
+ghost use Rattle.plane.specs.Order.{IsBetween, IsBeyond};
 ghost use Rattle.plane.specs.Point.{whole};
 ghost use Rattle.plane.specs.Segment.{Meet, MeetElsewhere, MeetOnlyAt, On};
 
@@ -51,7 +51,7 @@ pub fn meet_only_at<L: Ledger>(a: &Pt, b: &Pt, c: &Pt, steps: &mut Steps<L>) -> 
 // this is the order on the line.
 fn is_between<L: Ledger>(a: &Pt, b: &Pt, c: &Pt, steps: &mut Steps<L>) -> bool
     ensures between { IsTrue result ↔ IsBetween a.now b.now c.now }
-    ensures outside { result ≡ false → IsOutside a.now b.now c.now }
+    ensures outside { result ≡ false → IsBeyond a.now b.now c.now }
     ensures steps { steps.new ≡ steps.old + 2 }
 {
     let (to_b, from_b) = (order(a, b, steps), order(b, c, steps));

@@ -1,2 +1,2 @@
 mod Output
-mod Steps
+mod NextRecord

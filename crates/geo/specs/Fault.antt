@@ -2,8 +2,8 @@
 use Rattle.std.specs.Prelude.{ℕ}
 use Rattle.geo_io.specs.declared.source.ReadEnd.{ReadEnd}
 use Rattle.geo_io.specs.declared.source.ReadEnd.TheVariants as end
-use Rattle.geo.specs.declared.top.RunFault.{RunFault}
-use Rattle.geo.specs.declared.top.RunFault.TheVariants as fault
+use Rattle.geo.specs.declared.run.RunFault.{RunFault}
+use Rattle.geo.specs.declared.run.RunFault.TheVariants as fault
 
 abbrev pub fault_of : ReadEnd → RunFault
 fault_of end.Fault = fault.ReadFault

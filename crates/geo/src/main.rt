@@ -1,25 +1,25 @@
 //! Answers questions about a simple polygon: a script of commands on standard input, the answers on standard output.
 #![tactic(auto)]
 
+mod run;
 #[cfg(test)]
 mod tests;
-mod top;
 
 use geo_io::{StdSink, StdSource};
+use run::{RunFault, geo_main};
 use std::env;
 use std::io::ErrorKind;
 use std::process::ExitCode;
-use top::{RunFault, geo_main};
 
 fn main(rt: HostRuntime) -> ExitCode {
     match env::args(&rt) {
-        Ok(args) => run(&rt, args),
+        Ok(args) => execute(&rt, args),
         Err(error) if error.kind() == ErrorKind::OutOfMemory => ExitCode::from(5),
         Err(_) => ExitCode::from(6),
     }
 }
 
-fn run(rt: &HostRuntime, args: env::Args) -> ExitCode {
+fn execute(rt: &HostRuntime, args: env::Args) -> ExitCode {
     let words = match args.skip(1).collect::<Vec<String>>(rt.alloc()) {
         Ok(words) => words,
         Err(_) => return ExitCode::from(5),

@@ -1,7 +1,7 @@
 // Whole runs over memory: worked scripts, pieces, limits and faults.
 ghost use Rattle.std.specs.Prelude.{◌≤◌};
 
-use crate::top::{MAX_SCRIPT, RunFault, geo_main};
+use crate::run::{MAX_SCRIPT, RunFault, geo_main};
 use exact_plane::Memory;
 use geo_io::{MemorySink, MemorySource};
 use std::alloc::{AllocError, Global};

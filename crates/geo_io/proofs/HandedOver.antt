@@ -4,7 +4,7 @@ use Rattle.std.proofs.lemmas.List.{take-append-drop}
 use Rattle.std.proofs.Math.Seq.{take-append-add}
 use Rattle.std.proofs.KnownBytes.{Appends-trans}
 use Rattle.std.specs.Io.KnownBytes.{Appends}
-use Rattle.geo_io.specs.Given.{AppendsFront}
+use Rattle.geo_io.specs.Transfers.{AppendsFront}
 
 -- the bytes without the rest were taken
 pub record HandedOver (bytes rest : List ℕ) (entry now : Option (List ℕ)) : Type 0 where

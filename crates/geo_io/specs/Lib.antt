@@ -1,4 +1,4 @@
 pub mod Counted
 pub mod Counts
-pub mod Given
+pub mod Transfers
 pub mod InMemory

@@ -1,7 +1,7 @@
 ghost use Rattle.std.specs.Prelude.{◌≡◌, ◌-◌, ◌≤◌, ◌<◌, ◌↔◌, ◌⊎◌, [], List, Ok, Some, length, take, min, Contains, IfOk, IsErr, OnOk, OnErr};
 ghost use Rattle.std.specs.Io.KnownBytes.{Appends};
 ghost use Rattle.geo_io.specs.Counts.{Rose, next_count};
-ghost use Rattle.geo_io.specs.Given.{AppendsFront};
+ghost use Rattle.geo_io.specs.Transfers.{AppendsFront};
 
 use crate::Failed;
 use crate::sink::Sink;

@@ -1,7 +1,7 @@
 ghost use Rattle.std.specs.Prelude.{◌≡◌, ◌≤◌, ◌<◌, ◌+◌, ◌^◌, ◌⊎◌, ℕ, List, None, Ok, Err, [], Option, length, take, vec_len, IfOk, IfSome, OnOk, OnErr};
 ghost use Rattle.std.specs.Io.KnownBytes.{Consumes, IsAtEnd, Keeps};
 ghost use Rattle.geo_io.specs.Counts.{Rose};
-ghost use Rattle.geo_io.specs.Given.{GivesFront, GivesMoreThan, GivesAtMost};
+ghost use Rattle.geo_io.specs.Transfers.{GivesFront, GivesMoreThan, GivesAtMost};
 ghost use Rattle.geo_io.specs.declared.source.ReadEnd.TheVariants.{Fault, Memory};
 
 use crate::Failed;

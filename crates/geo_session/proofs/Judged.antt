@@ -3,7 +3,7 @@ use Rattle.std.proofs.Common.{List, Result, Ok, Err}
 use Rattle.std.specs.Prelude.{IfOk}
 use Rattle.plane.specs.Point.{Point}
 use Rattle.ring_check.specs.Oriented.{Oriented, given_of}
-use Rattle.taut_check.proofs.Given.{verdict_given}
+use Rattle.taut_check.proofs.GivenVerdict.{verdict_given}
 use Rattle.taut_check.specs.Verdict.{IsVerdict}
 use Rattle.taut_check.specs.declared.verdict.Verdict.{Verdict}
 

@@ -1,3 +1,3 @@
 mod Answered
-mod Given
+mod PlaceTexts
 mod Judged

@@ -3,20 +3,20 @@ use Rattle.std.proofs.Common.{◌≡◌, zero, suc, Bool, true, false, ℤ, pos,
 use Rattle.std.proofs.lemmas.Int.{ints, to_z-of_z}
 use Rattle.std.specs.Prelude.{◌&&◌, ◌||◌}
 use Rattle.std.specs.Int.Signed.{le_z, lt_z}
-use Rattle.exact_plane.specs.Direction.{direction_of, turn_of}
-use Rattle.exact_plane.specs.declared.direction.Direction.TheVariants.{Left, Right, Straight}
-use Rattle.exact_plane.proofs.Directions.{straight_of_zero}
-use Rattle.plane.proofs.Same.{whole_is_point}
-use Rattle.inside_test.specs.Between.{LiesBetween}
 use Rattle.plane.proofs.Determinants.{straight_swap_first}
 use Rattle.plane.proofs.OnByOrder.{not_after_both, not_before_both, on_from_order}
 use Rattle.plane.proofs.Precedence.{follows, not_after_from, not_after_of_precedes, precedence, precedes, same}
+use Rattle.plane.proofs.Same.{whole_is_point}
 use Rattle.plane.proofs.Segments.{on_first_end, on_is_straight, on_reversed, on_same_point}
+use Rattle.plane.specs.Order.{LiesBetween}
 use Rattle.plane.specs.Point.{IsPoint, Point, Triple, whole}
 use Rattle.plane.specs.Segment.{On}
 use Rattle.plane.specs.Turn.{IsStraight}
 use Rattle.rings.specs.Edge.{Edge}
 use Rattle.rings.specs.Inside.{is_crossed}
+use Rattle.exact_plane.proofs.Directions.{straight_of_zero}
+use Rattle.exact_plane.specs.Direction.{direction_of, turn_of}
+use Rattle.exact_plane.specs.declared.direction.Direction.TheVariants.{Left, Right, Straight}
 
 -- whether an edge is crossed that rises past a point, or falls past it, where the determinant is z
 abbrev crossed_by : Bool → Bool → ℤ → Bool

@@ -5,18 +5,18 @@ use Rattle.std.proofs.lemmas.List.Elements.{All-get_or}
 use Rattle.std.proofs.lemmas.List.Sorted.{All-permutation, Contains-permutation, length_permutation}
 use Rattle.std.specs.List.{AllAdjacentBelow, Contains}
 use Rattle.std.specs.List.Sorted.{IsPermutation}
-use Rattle.inside_test.specs.Breakpoints.{IsPlaced, ListsMeetings, points_of}
-use Rattle.inside_test.specs.declared.breakpoint.Breakpoint.{Breakpoint}
 use Rattle.plane.proofs.Precedence.{NotAfter}
 use Rattle.plane.proofs.Same.{same_refl}
 use Rattle.plane.specs.Line.{mediant}
 use Rattle.plane.specs.Point.{IsPoint, IsSame, Point, Triple}
 use Rattle.plane.specs.Segment.{On}
-use Rattle.rings.proofs.BreakpointLaw.{mediants_of_sees, sees_by_mediants}
-use Rattle.rings.proofs.Breakpoints.{AreBreakpoints}
 use Rattle.rings.specs.Inside.{IsIn}
 use Rattle.rings.specs.Ring.{IsOnEdge}
 use Rattle.rings.specs.Sees.{Sees}
+use Rattle.inside_laws.proofs.BreakpointLaw.{mediants_of_sees, sees_by_mediants}
+use Rattle.inside_laws.proofs.Breakpoints.{AreBreakpoints}
+use Rattle.inside_test.specs.Breakpoints.{IsPlaced, ListsMeetings, breakpoint_points}
+use Rattle.inside_test.specs.declared.breakpoint.Breakpoint.{Breakpoint}
 
 -- ---- a list with another order
 
@@ -98,36 +98,36 @@ some_item (x ∷ xs) h = x
 abbrev pub MediantIn : List Point → Breakpoint → Breakpoint → Type 0
 MediantIn ring p q = IsIn ring (mediant p.point q.point)
 
-module _ (ring : List Point) (a b : Triple) (xs : List Breakpoint) (lists : ListsMeetings ring (length ring) a b (points_of xs))
+module _ (ring : List Point) (a b : Triple) (xs : List Breakpoint) (lists : ListsMeetings ring (length ring) a b (breakpoint_points xs))
     (sorted : (k : ℕ) (d : Breakpoint) → k + 1 < length xs → NotAfter (get_or xs k d).point (get_or xs (k + 1) d).point) where
   -- there are as many points,
-  as_many : length (points_of xs) ≡ length xs
+  as_many : length (breakpoint_points xs) ≡ length xs
   as_many = length-map xs (λ k. k.point)
 
   -- the same at each place
-  point_is : (k : ℕ) (d : Breakpoint) → k < length xs → get_or (points_of xs) k a ≡ (get_or xs k d).point
+  point_is : (k : ℕ) (d : Breakpoint) → k < length xs → get_or (breakpoint_points xs) k a ≡ (get_or xs k d).point
   point_is k d below = get_or-map (λ k. k.point) xs k d a below
 
   -- so what holds of neighbours among the points holds of those in the list,
-  to_list : (R : Triple → Triple → Type 0) → ((k : ℕ) → k + 1 < length (points_of xs) → R (get_or (points_of xs) k a) (get_or (points_of xs) (k + 1) a))
+  to_list : (R : Triple → Triple → Type 0) → ((k : ℕ) → k + 1 < length (breakpoint_points xs) → R (get_or (breakpoint_points xs) k a) (get_or (breakpoint_points xs) (k + 1) a))
       → (k : ℕ) (d : Breakpoint) → k + 1 < length xs → R (get_or xs k d).point (get_or xs (k + 1) d).point
   to_list R h k d below =
       subst (λ p. R p (get_or xs (k + 1) d).point) (point_is k d (omega arith))
-      (subst (λ q. R (get_or (points_of xs) k a) q) (point_is (k + 1) d below) (h k (let same = as_many in omega arith)))
+      (subst (λ q. R (get_or (breakpoint_points xs) k a) q) (point_is (k + 1) d below) (h k (let same = as_many in omega arith)))
 
   -- and back
   from_list : (R : Triple → Triple → Type 0) → ((k : ℕ) (d : Breakpoint) → k + 1 < length xs → R (get_or xs k d).point (get_or xs (k + 1) d).point)
-      → (k : ℕ) → k + 1 < length (points_of xs) → R (get_or (points_of xs) k a) (get_or (points_of xs) (k + 1) a)
+      → (k : ℕ) → k + 1 < length (breakpoint_points xs) → R (get_or (breakpoint_points xs) k a) (get_or (breakpoint_points xs) (k + 1) a)
   from_list R h k below =
       let same = as_many in
       let d = some_item xs (omega arith) in
-      subst (λ p. R p (get_or (points_of xs) (k + 1) a)) (sym (point_is k d (omega arith)))
+      subst (λ p. R p (get_or (breakpoint_points xs) (k + 1) a)) (sym (point_is k d (omega arith)))
       (subst (λ q. R (get_or xs k d).point q) (sym (point_is (k + 1) d (omega arith))) (h k d (omega arith)))
 
   -- the ends see each other exactly where the mediants of neighbours in the list are in the ring
   pub sees_by_list : IsPoint a → IsPoint b → AllAdjacentBelow (MediantIn ring) xs (length xs) ↔ Sees ring a b
   sees_by_list at_a at_b =
-      let law = sees_by_points ring a b (points_of xs) lists (from_list NotAfter sorted) at_a at_b in
+      let law = sees_by_points ring a b (breakpoint_points xs) lists (from_list NotAfter sorted) at_a at_b in
       let Inside : Triple → Triple → Type 0 = λ p q. IsIn ring (mediant p q) in (
         λ all. law.0 (from_list Inside all),
         λ sees. to_list Inside (law.1 sees),

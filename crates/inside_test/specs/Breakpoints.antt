@@ -2,10 +2,10 @@
 -- clause cites this module.
 use Rattle.std.specs.Prelude.{ℕ, ◌+◌, ◌<◌, ◌≤◌, List, length, map}
 use Rattle.std.specs.List.{All, Contains}
-use Rattle.inside_test.specs.declared.breakpoint.Breakpoint.{Breakpoint}
 use Rattle.plane.specs.Point.{IsPoint, Point, Triple, whole}
 use Rattle.plane.specs.Segment.{On}
 use Rattle.rings.specs.Ring.{vertex}
+use Rattle.inside_test.specs.declared.breakpoint.Breakpoint.{Breakpoint}
 
 -- z is between two listed points, and both are on the segment from c to d
 pub record IsEnclosed (points : List Triple) (c d z : Triple) : Type 0 where
@@ -40,5 +40,5 @@ pub record ListsMeetings (ring : List Point) (n : ℕ) (a b : Triple) (points : 
   pub enclosed : (i : ℕ) → i < n → EnclosesAll points a b (whole (vertex ring i)) (whole (vertex ring (i + 1)))
 
 -- the points of a list
-abbrev pub points_of : List Breakpoint → List Triple
-points_of breakpoints = map (λ k. k.point) breakpoints
+abbrev pub breakpoint_points : List Breakpoint → List Triple
+breakpoint_points breakpoints = map (λ k. k.point) breakpoints

@@ -2,7 +2,7 @@
 ghost use Rattle.std.specs.Prelude.{◌≡◌, ◌↔◌, ◌<◌, ◌^◌, ◌&&◌, ◌*ℤ◌, ℤ, IsTrue, true, false, unsigned_abs};
 ghost use Rattle.std.specs.Int.Signed.{le_z, lt_z};
 ghost use Rattle.std.specs.Ordering.{int_cmp};
-ghost use Rattle.inside_test.specs.Between.{LiesBetween};
+ghost use Rattle.plane.specs.Order.{LiesBetween};
 ghost use Rattle.plane.specs.Point.{IsPoint, whole};
 ghost use Rattle.plane.specs.Segment.{On};
 ghost use Rattle.rings.specs.Inside.{is_crossed};

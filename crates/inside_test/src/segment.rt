@@ -1,7 +1,7 @@
 ghost use Rattle.std.specs.Prelude.{◌≡◌, ◌↔◌, ◌++◌, ◌∷◌, [], IfOk, IsTrue, OnOk, OnErr, length};
 ghost use Rattle.std.specs.List.{AllAdjacentBelow, Contains};
 ghost use Rattle.exact_plane.specs.Size.{IsNarrow};
-ghost use Rattle.inside_test.specs.Breakpoints.{EnclosesAll, Extends, ListsMeetings, points_of};
+ghost use Rattle.inside_test.specs.Breakpoints.{EnclosesAll, Extends, ListsMeetings, breakpoint_points};
 ghost use Rattle.plane.specs.Line.{mediant};
 ghost use Rattle.plane.specs.Point.{IsPoint, whole};
 ghost use Rattle.plane.specs.Segment.{On};
@@ -39,7 +39,7 @@ fn breakpoints<L: Ledger>(
     b: &Pt,
     steps: &mut Steps<L>,
 ) -> Result<Vec<Breakpoint>, Memory>
-    ensures { IfOk result (λ points. ListsMeetings ring.now.corners (length ring.now.corners) (whole a.now) (whole b.now) (points_of points.items)) }
+    ensures { IfOk result (λ points. ListsMeetings ring.now.corners (length ring.now.corners) (whole a.now) (whole b.now) (breakpoint_points points.items)) }
 {
     let mut points = Vec::new(alloc);
     push(&mut points, Hom::of_pt(a, steps), steps)?;
@@ -61,10 +61,10 @@ fn push_meetings<L: Ledger>(
     d: &Pt,
     steps: &mut Steps<L>,
 ) -> Result<(), Memory>
-    requires has_first { Contains (points_of points.old.items) (whole a.now) }
-    requires has_last { Contains (points_of points.old.items) (whole b.now) }
-    ensures extends { Extends (whole a.now) (whole b.now) (points_of points.old.items) (points_of points.new.items) }
-    ensures enclosed { OnOk result (EnclosesAll (points_of points.new.items) (whole a.now) (whole b.now) (whole c.now) (whole d.now)) }
+    requires has_first { Contains (breakpoint_points points.old.items) (whole a.now) }
+    requires has_last { Contains (breakpoint_points points.old.items) (whole b.now) }
+    ensures extends { Extends (whole a.now) (whole b.now) (breakpoint_points points.old.items) (breakpoint_points points.new.items) }
+    ensures enclosed { OnOk result (EnclosesAll (breakpoint_points points.new.items) (whole a.now) (whole b.now) (whole c.now) (whole d.now)) }
 {
     if !segments_meet(a, b, c, d, steps) {
         return Ok(());
@@ -86,8 +86,8 @@ fn push_if_on<L: Ledger>(
     b: &Pt,
     steps: &mut Steps<L>,
 ) -> Result<(), Memory>
-    ensures extends { Extends (whole a.now) (whole b.now) (points_of points.old.items) (points_of points.new.items) }
-    ensures listed { OnOk result (On (whole p.now) (whole a.now) (whole b.now) → Contains (points_of points.new.items) (whole p.now)) }
+    ensures extends { Extends (whole a.now) (whole b.now) (breakpoint_points points.old.items) (breakpoint_points points.new.items) }
+    ensures listed { OnOk result (On (whole p.now) (whole a.now) (whole b.now) → Contains (breakpoint_points points.new.items) (whole p.now)) }
 {
     if !on_segment(p, a, b, steps) {
         return Ok(());
@@ -98,8 +98,8 @@ fn push_if_on<L: Ledger>(
 // Appends a point.
 fn push<L: Ledger>(points: &mut Vec<Breakpoint>, p: Hom, steps: &mut Steps<L>) -> Result<(), Memory>
     requires { IsNarrow p }
-    ensures ok { OnOk result (points_of points.new.items ≡ points_of points.old.items ++ p ∷ []) }
-    ensures err { OnErr result (points_of points.new.items ≡ points_of points.old.items) }
+    ensures ok { OnOk result (breakpoint_points points.new.items ≡ breakpoint_points points.old.items ++ p ∷ []) }
+    ensures err { OnErr result (breakpoint_points points.new.items ≡ breakpoint_points points.old.items) }
     ensures rational { IsPoint p }
 {
     points.push(Breakpoint::of(p, steps))?;

@@ -1,9 +1,9 @@
 -- The sign of a polynomial, from an identity with a sum of products of known signs.
 use Rattle.std.proofs.Common.{◌≡◌, List, [], ℤ, pos, ◌+ℤ◌, ◌*ℤ◌, ◌<ℤ◌, ◌≤ℤ◌, arith, ap, ◌∙◌}
 use Rattle.std.proofs.lemmas.Int.{ints}
-use Rattle.integer_algebra.proofs.Polynomial.{Polynomial, ◌⊖◌, ◌⊗◌, value, normal, same_value}
-use Rattle.integer_algebra.proofs.Signs.{mul_positive, mul_nonnegative, factor_positive, factor_nonnegative, factor_zero}
 use Rattle.integer_algebra.proofs.Laws.{mul-zero}
+use Rattle.integer_algebra.proofs.Polynomial.{Polynomial, ◌⊖◌, ◌⊗◌, value, normal, same_value}
+use Rattle.integer_algebra.proofs.Signs.{factor_nonnegative, factor_positive, factor_zero, mul_nonnegative, mul_positive}
 
 infixl 6 ◌⊞◌ ◌⊞⁺◌
 infixl 7 ◌⊠◌ ◌⊠⁺◌
@@ -22,10 +22,6 @@ h ⊞⁺ k = omega (arith, ints)
 -- a product of positive integers
 pub ◌⊠⁺◌ : {a b : ℤ} → pos 0 <ℤ a → pos 0 <ℤ b → pos 0 <ℤ (a *ℤ b)
 h ⊠⁺ k = mul_positive _ _ h k
-
--- a positive integer is not negative
-pub weak : {a : ℤ} → pos 0 <ℤ a → pos 0 ≤ℤ a
-weak h = omega (arith, ints)
 
 -- a sum of two zeros
 pub sum_zero : {a b : ℤ} → a ≡ pos 0 → b ≡ pos 0 → a +ℤ b ≡ pos 0

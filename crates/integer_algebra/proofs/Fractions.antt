@@ -1,8 +1,9 @@
 -- The order of the fractions a/u, b/v and c/w with positive denominators, by products across.
 use Rattle.std.proofs.Common.{◌≡◌, [], ◌∷◌, refl, ℤ, pos, ◌-ℤ◌, ◌*ℤ◌, ◌<ℤ◌, ◌≤ℤ◌, arith}
 use Rattle.std.proofs.lemmas.Int.{ints}
+use Rattle.integer_algebra.proofs.Certificate.{nonnegative_by, positive_by, zero_by, ◌⊞◌, ◌⊠◌, ◌⊞⁺◌, ◌⊠⁺◌, sum_zero, product_zero}
 use Rattle.integer_algebra.proofs.Polynomial.{Polynomial, var, ◌⊕◌, ◌⊖◌, ◌⊗◌}
-use Rattle.integer_algebra.proofs.Certificate.{nonnegative_by, positive_by, zero_by, ◌⊞◌, ◌⊠◌, ◌⊞⁺◌, ◌⊠⁺◌, weak, sum_zero, product_zero}
+use Rattle.integer_algebra.proofs.SignSteps.{weak}
 
 -- c u - a w, b u - a v and c v - b w, where the variables are a, u, b, v, c and w
 abbrev whole : Polynomial

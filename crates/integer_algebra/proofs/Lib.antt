@@ -3,5 +3,8 @@ pub mod Fractions
 pub mod Known
 pub mod Laws
 pub mod Normal
+pub mod OneSign
 pub mod Polynomial
+pub mod SignSteps
 pub mod Signs
+pub mod Weights

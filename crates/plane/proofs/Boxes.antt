@@ -4,8 +4,8 @@ use Rattle.std.proofs.lemmas.Int.{clamps, ints}
 use Rattle.std.specs.Int.{int_max, int_min}
 use Rattle.integer_algebra.proofs.Laws.{mul_comm}
 use Rattle.integer_algebra.proofs.Signs.{cancel_order}
+use Rattle.integer_algebra.proofs.Weights.{at_least, at_most}
 use Rattle.plane.proofs.Vectors.{IsCombination}
-use Rattle.plane.proofs.Weights.{at_least, at_most}
 use Rattle.plane.specs.Box.{BoxesMeet, IntervalsMeet}
 use Rattle.plane.specs.Point.{IsPoint, Point, Triple, whole}
 

@@ -1,7 +1,7 @@
 -- A rational point against a line through whole points, the meeting of two such lines, and mediants.
-use Rattle.std.proofs.Common.{◌≡◌, [], ◌∷◌, refl, sym, ap, ◌∙◌, ℤ, pos, ◌+ℤ◌, ◌-ℤ◌, ◌*ℤ◌, neg_ℤ, arith}
+use Rattle.std.proofs.Common.{◌≡◌, [], ◌∷◌, refl, ◌∙◌, ℤ, pos, ◌+ℤ◌, ◌-ℤ◌, ◌*ℤ◌, neg_ℤ, arith}
 use Rattle.std.proofs.lemmas.Int.{ints}
-use Rattle.integer_algebra.proofs.Laws.{add-mul, mul_comm, mul-add}
+use Rattle.integer_algebra.proofs.Laws.{add-mul, mul-add, mul_comm}
 use Rattle.integer_algebra.proofs.Polynomial.{lit, var, ◌⊕◌, ◌⊖◌, ◌⊗◌, same_value}
 use Rattle.plane.proofs.Same.{same_sym}
 use Rattle.plane.proofs.Vectors.{on_of_combination}

@@ -3,13 +3,13 @@ use Rattle.std.proofs.Common.{◌≡◌, ◌⊎◌, inl, inr, [], ◌∷◌, ref
 use Rattle.std.proofs.lemmas.Int.{ints}
 use Rattle.integer_algebra.proofs.Fractions.{fraction_le_lt_trans, fraction_lt_le_trans}
 use Rattle.integer_algebra.proofs.Polynomial.{var, ◌⊕◌, ◌⊖◌, ◌⊗◌, same_value}
+use Rattle.integer_algebra.proofs.Weights.{Forward, no_balance}
 use Rattle.plane.proofs.Determinants.{determinant_same_ends, parts, straight_shift, straight_swap_last}
-use Rattle.plane.proofs.Precedence.{NotAfter, not_after_antisym, not_after_facts, not_after_of_same, not_after_or_precedes, not_after_trans, precedence}
-use Rattle.plane.proofs.Precedence.{follows, precedes, same}
+use Rattle.plane.proofs.Precedence.{NotAfter, follows, not_after_antisym, not_after_facts, not_after_of_same, not_after_or_precedes, not_after_trans}
+use Rattle.plane.proofs.Precedence.{precedence, precedes, same}
 use Rattle.plane.proofs.Same.{same_sym}
 use Rattle.plane.proofs.Segments.{combination_is_straight, on_first_end, on_same_point, zero_of}
 use Rattle.plane.proofs.Vectors.{IsCombination, combination_of, determinant_along, determinant_along_first, on_of_combination, weights_positive}
-use Rattle.plane.proofs.Weights.{Forward, no_balance}
 use Rattle.plane.proofs.Written.{determinant as det}
 use Rattle.plane.specs.Order.{Precedes}
 use Rattle.plane.specs.Point.{IsPoint, Triple}

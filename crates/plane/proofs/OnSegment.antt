@@ -4,12 +4,12 @@ use Rattle.std.proofs.lemmas.Int.{ints}
 use Rattle.integer_algebra.proofs.Laws.{eq_of_sub-zero}
 use Rattle.integer_algebra.proofs.Polynomial.{var, ◌⊕◌, ◌⊖◌, ◌⊗◌, same_value}
 use Rattle.integer_algebra.proofs.Signs.{cancel_equal}
+use Rattle.integer_algebra.proofs.Weights.{Forward, balance, balance_back, no_balance}
 use Rattle.plane.proofs.Determinants.{determinant_of_whole, straight_swap_first}
-use Rattle.plane.proofs.Order.{Comparison, after, before, compare_points, equal}
-use Rattle.plane.proofs.Order.{between_equal, between_reversed, not_after_last, not_before_first, x_at_most, y_at_most}
+use Rattle.plane.proofs.Order.{Comparison, after, before, between_equal, between_reversed, compare_points, equal, not_after_last, not_before_first, x_at_most}
+use Rattle.plane.proofs.Order.{y_at_most}
 use Rattle.plane.proofs.Same.{whole_is_point}
 use Rattle.plane.proofs.Segments.{combination_is_straight, on_first_end, on_reversed}
-use Rattle.plane.proofs.Weights.{Forward, balance, balance_back, no_balance}
 use Rattle.plane.proofs.Vectors.{IsCombination, combination_of_ends, on_of_combination, weights_positive}
 use Rattle.plane.specs.Order.{IsBefore, IsBetween}
 use Rattle.plane.specs.Point.{Point, whole}

@@ -1,8 +1,8 @@
 -- Laws of the order of whole points.
 use Rattle.std.proofs.Common.{◌≡◌, ◌⊎◌, inl, inr, subst, ◌-ℤ◌, ◌≤ℤ◌, arith}
 use Rattle.std.proofs.lemmas.Int.{ints}
-use Rattle.integer_algebra.proofs.Signs.{Sign, sign, is_negative, is_zero, is_positive}
-use Rattle.plane.specs.Order.{IsBefore, IsBetween, IsOutside}
+use Rattle.integer_algebra.proofs.Signs.{Sign, is_negative, is_positive, is_zero, sign}
+use Rattle.plane.specs.Order.{IsBefore, IsBetween, IsBeyond}
 use Rattle.plane.specs.Point.{Point}
 
 -- how two points compare
@@ -89,10 +89,10 @@ between_equal a p h = go (compare_points p a)
     go (after k) = absurd (h.not_after (k, k))
 
 -- a point is between two others, or outside of them
-pub between_cases : (a p b : Point) → IsBetween a p b ⊎ IsOutside a p b
+pub between_cases : (a p b : Point) → IsBetween a p b ⊎ IsBeyond a p b
 between_cases a p b = go (compare_points a p) (compare_points b p)
   where
-    go : Comparison a p → Comparison b p → IsBetween a p b ⊎ IsOutside a p b
+    go : Comparison a p → Comparison b p → IsBetween a p b ⊎ IsBeyond a p b
     go (before h) (before k) = inr (inl (h, k))
     go (after h) (after k) = inr (inr (h, k))
     go (before h) (after k) = inl (record { not_after = λ n. before_asym p b k n.1; not_before = λ n. before_asym a p h n.0 })

@@ -1,13 +1,13 @@
 -- Points on a segment, as vectors: a positive multiple of the point is a sum of multiples of the ends.
 use Rattle.std.proofs.Common.{◌≡◌, [], ◌∷◌, refl, sym, ap, ◌∙◌, ℕ, ◌+◌, ◌-◌, ℤ, pos, negsuc, ◌+ℤ◌, ◌-ℤ◌, ◌*ℤ◌, ◌<ℤ◌, ◌≤ℤ◌, arith}
 use Rattle.std.proofs.lemmas.Int.{ints}
-use Rattle.integer_algebra.proofs.Certificate.{weak}
 use Rattle.integer_algebra.proofs.Laws.{mul_comm}
 use Rattle.integer_algebra.proofs.Polynomial.{var, ◌⊕◌, ◌⊖◌, ◌⊗◌, same_value}
-use Rattle.integer_algebra.proofs.Signs.{mul_positive, mul_nonnegative}
+use Rattle.integer_algebra.proofs.SignSteps.{weak}
+use Rattle.integer_algebra.proofs.Signs.{mul_nonnegative, mul_positive}
+use Rattle.integer_algebra.proofs.Weights.{some_weight}
 use Rattle.plane.proofs.Determinants.{determinant_shift, linear, parts}
 use Rattle.plane.proofs.Same.{whole_is_point}
-use Rattle.plane.proofs.Weights.{some_weight}
 use Rattle.plane.proofs.Written.{determinant as det}
 use Rattle.plane.specs.Point.{IsPoint, Point, Triple, whole}
 use Rattle.plane.specs.Segment.{On}

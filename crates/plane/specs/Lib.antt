@@ -5,4 +5,5 @@ pub mod Line
 pub mod Order
 pub mod Point
 pub mod Segment
+pub mod Triangle
 pub mod Turn

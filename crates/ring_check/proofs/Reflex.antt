@@ -1,18 +1,13 @@
 -- In a counterclockwise ring the reflex vertices are those with a turn to the right.
-use Rattle.std.proofs.Common.{◌≡◌, refl, ℕ, ◌+◌, ◌-◌, ◌<◌, ◌%◌, ◌↔◌, zero, suc, ℤ, pos, negsuc, ◌<ℤ◌, ◌⊎◌, inl, inr, List, length, arith}
+use Rattle.std.proofs.Common.{◌≡◌, ℕ, ◌+◌, ◌-◌, ◌<◌, ◌%◌, ◌↔◌, pos, ◌<ℤ◌, inl, inr, List, length, arith}
 use Rattle.std.proofs.lemmas.Int.{ints}
-use Rattle.exact_plane.specs.Direction.{direction_of, turn_of}
-use Rattle.exact_plane.specs.declared.direction.Direction.TheVariants.{Right}
 use Rattle.plane.specs.Point.{Point, whole}
 use Rattle.rings.proofs.Vertices.{vertex_mod}
 use Rattle.rings.specs.Orientation.{IsCounterclockwise, IsReflex, turn_at}
 use Rattle.rings.specs.Ring.{vertex}
-
--- a number has the direction to the right exactly where it is negative
-right_iff_negative : (z : ℤ) → (direction_of z ≡ Right) ↔ (z <ℤ pos 0)
-right_iff_negative (pos zero) = (λ e. cc, λ h. absurd (omega (arith, ints)))
-right_iff_negative (pos (suc n)) = (λ e. cc, λ h. absurd (omega (arith, ints)))
-right_iff_negative (negsuc n) = (λ e. omega (arith, ints), λ h. refl)
+use Rattle.exact_plane.proofs.Directions.{right_iff_negative}
+use Rattle.exact_plane.specs.Direction.{turn_of}
+use Rattle.exact_plane.specs.declared.direction.Direction.TheVariants.{Right}
 
 -- where the area is positive, a vertex is reflex exactly where its turn is negative
 reflex_iff_negative : (ring : List Point) (i : ℕ) → IsCounterclockwise ring → IsReflex ring i ↔ (turn_at ring i <ℤ pos 0)

@@ -2,14 +2,13 @@
 use Rattle.std.proofs.Common.{◌≡◌, inl, inr, sym, ◌∙◌, ℤ, pos, ◌+ℤ◌, List, [], ◌∷◌}
 use Rattle.plane.proofs.Segments.{on_last_end}
 use Rattle.plane.specs.Point.{IsPoint, IsSame, Triple, whole}
-use Rattle.rings.proofs.ClosedLaw.{winding_law, winding_law_crossed}
-use Rattle.rings.specs.Edge.{Edge, IsClosed, IsOnSome}
+use Rattle.segment_laws.proofs.Sides.{left_not_on, right_not_on}
+use Rattle.rings.specs.Edge.{Edge, IsClosed, IsOn, IsOnSome}
 use Rattle.rings.specs.Inside.{winding}
-use Rattle.ring_laws.proofs.BesideEdge.{BesideEdge, beside_edge}
-use Rattle.ring_laws.proofs.Sides.{left_not_on, right_not_on}
-use Rattle.ring_laws.proofs.UpToOne.{IsUnit, both_up_to_one, same_units}
-use Rattle.ring_laws.specs.Apart.{IsOn}
-use Rattle.ring_laws.specs.Winding.{WindsUpTo}
+use Rattle.rings.specs.Winding.{WindsUpTo}
+use Rattle.crossing_laws.proofs.ClosedLaw.{winding_law, winding_law_crossed}
+use Rattle.triangle_laws.proofs.BesideEdge.{BesideEdge, beside_edge}
+use Rattle.ring_ears.proofs.UpToOne.{IsUnit, both_up_to_one, same_units}
 
 -- points to the left and to the right of a diagonal, near a point x of it: off the edges fs of the first piece and gs of the
 -- second, which wind there as es does at x, the second once more on the left

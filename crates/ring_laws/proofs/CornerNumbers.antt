@@ -2,14 +2,14 @@
 use Rattle.std.proofs.Common.{◌≡◌, ◌⊎◌, inl, inr, sym, subst, ◌∙◌, ℕ, ◌<◌, ◌≤ℤ◌, List, [], ◌∷◌, ◌++◌, length, take, drop}
 use Rattle.std.proofs.lemmas.List.{take-append-drop}
 use Rattle.plane.specs.Point.{Point}
+use Rattle.rings.proofs.DistinctPoints.{HasPoint, distinct_between}
+use Rattle.rings.proofs.Farthest.{Farthest}
+use Rattle.rings.proofs.Items.{has_cases, has_left, has_number, has_swapped, number_of}
 use Rattle.rings.proofs.Vertices.{vertex_in_range}
+use Rattle.rings.specs.Apart.{IsApartRing}
 use Rattle.rings.specs.Ring.{origin, vertex}
-use Rattle.ring_laws.proofs.Corner.{distinct_corner}
-use Rattle.ring_laws.proofs.DistinctPoints.{HasPoint, distinct_between}
-use Rattle.ring_laws.proofs.Farthest.{Farthest}
+use Rattle.ring_ears.proofs.Corner.{distinct_corner}
 use Rattle.ring_laws.proofs.FarthestEnd.{InTriangle, height}
-use Rattle.ring_laws.proofs.Items.{has_cases, has_left, has_number, has_swapped, number_of}
-use Rattle.ring_laws.specs.Apart.{IsApartRing}
 use Rattle.ring_laws.specs.CutRule.{IsFarthestInCorner, IsInCorner}
 
 -- p and q are u and w, in some order

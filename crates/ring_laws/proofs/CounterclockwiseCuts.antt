@@ -4,26 +4,26 @@ use Rattle.std.proofs.lemmas.Int.{ints}
 use Rattle.std.proofs.lemmas.List.{append_assoc}
 use Rattle.plane.specs.Point.{Point, whole}
 use Rattle.plane.specs.Turn.{IsLeft}
+use Rattle.rings.proofs.DistinctPoints.{HasPoint}
+use Rattle.rings.proofs.Farthest.{Farthest}
+use Rattle.rings.proofs.SimpleIsApart.{apart_of_simple, simple_of_apart}
 use Rattle.rings.specs.Inside.{IsIn}
 use Rattle.rings.specs.Simple.{IsSimple}
+use Rattle.rings.specs.Winding.{RunsCounterclockwise}
+use Rattle.inside_laws.proofs.Rotated.{apart_rotated, in_rotated}
+use Rattle.ring_ears.proofs.LeastTurn.{turn_at_first}
+use Rattle.ring_ears.proofs.LeastVertex.{NoneBefore}
+use Rattle.ring_ears.proofs.RunsOnce.{counterclockwise_rotated, runs_from_first}
 use Rattle.ring_laws.proofs.CutDirection.{pieces_run}
 use Rattle.ring_laws.proofs.CutInTwo.{cut_from_first}
 use Rattle.ring_laws.proofs.CutRule.{farthest_diagonal}
 use Rattle.ring_laws.proofs.CutRuleMirrored.{base_diagonal}
 use Rattle.ring_laws.proofs.Diagonals.{diagonal_backward, diagonal_rotated}
-use Rattle.ring_laws.proofs.DistinctPoints.{HasPoint}
-use Rattle.ring_laws.proofs.Farthest.{Farthest}
 use Rattle.ring_laws.proofs.FarthestCut.{ring_regrouped}
 use Rattle.ring_laws.proofs.FarthestEnd.{InTriangle, height}
-use Rattle.ring_laws.proofs.LeastTurn.{turn_at_first}
-use Rattle.ring_laws.proofs.LeastVertex.{NoneBefore}
-use Rattle.ring_laws.proofs.Rotated.{apart_rotated, in_rotated}
-use Rattle.ring_laws.proofs.RunsOnce.{counterclockwise_rotated, runs_from_first}
-use Rattle.ring_laws.proofs.SimpleIsApart.{apart_of_simple, simple_of_apart}
 use Rattle.ring_laws.proofs.SimpleRings.{left_turn_law}
 use Rattle.ring_laws.specs.Diagonal.{IsDiagonal}
 use Rattle.ring_laws.specs.Pieces.{IsCutInTwo}
-use Rattle.ring_laws.specs.Winding.{RunsCounterclockwise}
 
 -- a diagonal from a to b that cuts a ring into two pieces, which run counterclockwise
 pub record IsCounterclockwiseCut (ring first second : List Point) (a b : Point) : Type 0 where

@@ -5,25 +5,25 @@ use Rattle.std.proofs.lemmas.List.{take-append-drop}
 use Rattle.plane.proofs.Determinants.{determinant_swap_ends}
 use Rattle.plane.specs.Point.{Point, whole}
 use Rattle.plane.specs.Turn.{IsLeft, IsRight}
+use Rattle.rings.proofs.DistinctPoints.{HasPoint}
+use Rattle.rings.proofs.Farthest.{farthest_or_none}
+use Rattle.rings.proofs.Items.{has_swapped}
+use Rattle.rings.proofs.SimpleIsApart.{apart_of_simple}
+use Rattle.rings.specs.Apart.{IsApartRing}
 use Rattle.rings.specs.Ring.{vertex}
 use Rattle.rings.specs.Simple.{IsSimple}
+use Rattle.rings.specs.Winding.{IsLeastVertex}
+use Rattle.triangle_laws.proofs.Triangles.{in_or_not}
+use Rattle.ring_ears.proofs.LeastVertex.{NoneBefore, none_before_least}
+use Rattle.ring_ears.proofs.ReadFrom.{ReadFrom, apart_from, read_from}
 use Rattle.ring_laws.proofs.CornerNumbers.{AreBoth, far_of, has_other, in_corner, neither_back, none_of}
 use Rattle.ring_laws.proofs.CutRule.{farthest_diagonal}
 use Rattle.ring_laws.proofs.CutRuleMirrored.{base_diagonal, base_diagonal_right, farthest_diagonal_right}
 use Rattle.ring_laws.proofs.Diagonals.{diagonal_backward, diagonal_rotated}
-use Rattle.ring_laws.proofs.DistinctPoints.{HasPoint}
-use Rattle.ring_laws.proofs.Farthest.{farthest_or_none}
 use Rattle.ring_laws.proofs.FarthestEnd.{InTriangle, height}
-use Rattle.ring_laws.proofs.Items.{has_swapped}
-use Rattle.ring_laws.proofs.LeastVertex.{NoneBefore, none_before_least}
-use Rattle.ring_laws.proofs.ReadFrom.{ReadFrom, apart_from, read_from}
-use Rattle.ring_laws.proofs.SimpleIsApart.{apart_of_simple}
 use Rattle.ring_laws.proofs.SimpleRings.{simple_ring_law}
-use Rattle.ring_laws.proofs.Triangles.{in_or_not}
-use Rattle.ring_laws.specs.Apart.{IsApartRing}
 use Rattle.ring_laws.specs.CutRule.{IsCut, IsFarthestInCorner, IsInCorner, IsLeftCorner, across, to_farthest}
 use Rattle.ring_laws.specs.Diagonal.{IsDiagonal}
-use Rattle.ring_laws.specs.Winding.{IsLeastVertex}
 
 -- a ring whose parts in the other order are v, w, ms and u; v is vertex i, a least vertex, and there are more than its neighbours
 module _ (ring : List Point) (i : ℕ) (v w : Point) (ms : List Point) (u : Point) (are : drop i ring ++ take i ring ≡ v ∷ w ∷ (ms ++ u ∷ []))

@@ -4,18 +4,18 @@ use Rattle.std.proofs.lemmas.Int.{ints}
 use Rattle.plane.proofs.Segments.{on_reversed}
 use Rattle.plane.specs.Point.{IsPoint, IsSame, Point, Triple, whole}
 use Rattle.plane.specs.Segment.{On}
-use Rattle.rings.proofs.InRing.{in_from_odd}
-use Rattle.rings.proofs.Parity.{winding_odd}
-use Rattle.rings.specs.Edge.{Edge, IsOnSome, edges_along, edges_of}
+use Rattle.segment_laws.proofs.Middle.{middle, middle_first, middle_is_point, middle_last, middle_on}
+use Rattle.rings.proofs.CommonEnds.{end_of_second}
+use Rattle.rings.proofs.Items.{has_right}
+use Rattle.rings.proofs.Members.{edge_with, on_some_of}
+use Rattle.rings.specs.Apart.{IsApartRing, MeetAtEnds}
+use Rattle.rings.specs.Edge.{Edge, HasEdge, IsOn, IsOnSome, edge, edges_along, edges_of}
 use Rattle.rings.specs.Inside.{IsIn, winding}
-use Rattle.ring_laws.proofs.CommonEnds.{end_of_second}
-use Rattle.ring_laws.proofs.Items.{has_right}
-use Rattle.ring_laws.proofs.Members.{edge_with, on_some_of}
-use Rattle.ring_laws.proofs.Middle.{middle, middle_first, middle_is_point, middle_last, middle_on}
-use Rattle.ring_laws.proofs.Pieces.{distinct_cut, edges_of_first}
-use Rattle.ring_laws.proofs.UpToOne.{IsUnit, odd_unit}
-use Rattle.ring_laws.specs.Apart.{HasEdge, IsApartRing, IsOn, MeetAtEnds, edge}
-use Rattle.ring_laws.specs.Winding.{WindsUpTo}
+use Rattle.rings.specs.Winding.{WindsUpTo}
+use Rattle.crossing_laws.proofs.Parity.{winding_odd}
+use Rattle.inside_laws.proofs.InRing.{in_from_odd}
+use Rattle.ring_ears.proofs.UpToOne.{IsUnit, odd_unit}
+use Rattle.ring_pieces.proofs.Pieces.{distinct_cut, edges_of_first}
 
 -- ---- in a ring that winds up to once
 

@@ -2,18 +2,18 @@
 use Rattle.std.proofs.Common.{◌≡◌, ◌⊎◌, inl, inr, refl, subst, ◌≤◌, ℤ, pos, negsuc, List, [], ◌∷◌, ◌++◌, length, arith}
 use Rattle.std.proofs.lemmas.List.{length-append}
 use Rattle.plane.specs.Point.{IsSame, Point, whole}
+use Rattle.segment_laws.proofs.Middle.{middle, middle_first, middle_is_point, middle_last, middle_on}
 use Rattle.rings.proofs.Edges.{closed_edges_of}
-use Rattle.rings.specs.Edge.{edges_along, edges_of}
+use Rattle.rings.specs.Apart.{IsApartRing}
+use Rattle.rings.specs.Edge.{edge, edges_along, edges_of}
+use Rattle.rings.specs.Winding.{RunsClockwise, RunsCounterclockwise, WindsUpTo}
+use Rattle.ring_ears.proofs.UpToOne.{IsUnit}
+use Rattle.ring_pieces.proofs.Pieces.{apart_first, apart_second, winding_cut}
+use Rattle.ring_pieces.proofs.PiecesMeet.{has_edge_back, has_edge_there, off_first, on_back}
 use Rattle.ring_laws.proofs.BesideDiagonal.{same_direction}
-use Rattle.ring_laws.proofs.CutDiagonal.{inner_off, ends_differ, some_back, some_there, wound}
-use Rattle.ring_laws.proofs.Middle.{middle, middle_first, middle_is_point, middle_last, middle_on}
-use Rattle.ring_laws.proofs.Pieces.{apart_first, apart_second, winding_cut}
-use Rattle.ring_laws.proofs.PiecesMeet.{has_edge_back, has_edge_there, off_first, on_back}
+use Rattle.ring_laws.proofs.CutDiagonal.{ends_differ, inner_off, some_back, some_there, wound}
 use Rattle.ring_laws.proofs.SimpleRings.{runs_round, winds_once}
-use Rattle.ring_laws.proofs.UpToOne.{IsUnit}
-use Rattle.ring_laws.specs.Apart.{IsApartRing, edge}
 use Rattle.ring_laws.specs.Diagonal.{IsDiagonal}
-use Rattle.ring_laws.specs.Winding.{RunsClockwise, RunsCounterclockwise, WindsUpTo}
 
 -- a ring and two pieces of it wind up to once in one direction
 pub record WindTogether (ring first second : List Point) : Type 0 where

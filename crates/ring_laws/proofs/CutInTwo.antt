@@ -3,16 +3,16 @@ use Rattle.std.proofs.Common.{List, [], ap, arith, drop, inl, inr, length, map, 
 use Rattle.std.proofs.Math.Seq.{drop-append_seam, take-append-add}
 use Rattle.std.proofs.lemmas.List.{append_assoc, drop-map, get_or_at, length-append, map-append, take-map}
 use Rattle.plane.specs.Point.{Point}
+use Rattle.rings.proofs.SimpleIsApart.{apart_of_simple, simple_of_apart}
 use Rattle.rings.proofs.Vertices.{vertex_in_range}
+use Rattle.rings.specs.Apart.{IsApartRing}
 use Rattle.rings.specs.Inside.{IsIn}
 use Rattle.rings.specs.Ring.{origin, vertex}
 use Rattle.rings.specs.Simple.{IsSimple}
+use Rattle.inside_laws.proofs.Rotated.{apart_rotated, in_rotated}
 use Rattle.ring_laws.proofs.CutDirection.{first_apart, second_apart}
 use Rattle.ring_laws.proofs.CutLaw.{in_both, in_piece, in_ring_from_first, in_ring_from_second}
 use Rattle.ring_laws.proofs.Diagonals.{diagonal_rotated}
-use Rattle.ring_laws.proofs.Rotated.{apart_rotated, in_rotated}
-use Rattle.ring_laws.proofs.SimpleIsApart.{apart_of_simple, simple_of_apart}
-use Rattle.ring_laws.specs.Apart.{IsApartRing}
 use Rattle.ring_laws.specs.Diagonal.{IsDiagonal}
 use Rattle.ring_laws.specs.Pieces.{IsCutInTwo, first_piece, second_piece}
 

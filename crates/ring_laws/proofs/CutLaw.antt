@@ -7,17 +7,17 @@ use Rattle.plane.proofs.Segments.{on_first_end, on_last_end, on_reversed, on_sam
 use Rattle.plane.specs.Point.{IsPoint, Point, Triple, whole}
 use Rattle.plane.specs.Segment.{On}
 use Rattle.rings.proofs.Edges.{closed_edges_of, on_some_cases, on_some_right}
-use Rattle.rings.proofs.InRing.{on_some_or_not}
-use Rattle.rings.specs.Edge.{Edge, IsOnSome, edges_along, edges_of}
+use Rattle.rings.proofs.Members.{edge_with, on_some_of}
+use Rattle.rings.specs.Apart.{IsApartRing}
+use Rattle.rings.specs.Edge.{Edge, IsOn, IsOnSome, edge, edges_along, edges_of}
 use Rattle.rings.specs.Inside.{IsIn}
+use Rattle.inside_laws.proofs.InRing.{on_some_or_not}
+use Rattle.ring_ears.proofs.UpToOne.{not_twice, one_is, sum_is}
+use Rattle.ring_pieces.proofs.Pieces.{edges_of_first, has_edge_of_first, on_some_cut, winding_cut}
+use Rattle.ring_pieces.proofs.PiecesMeet.{has_edge_back, has_edge_there, meet_at_cut, off_first, off_second, on_back}
 use Rattle.ring_laws.proofs.CutDiagonal.{in_if_wound, wound}
 use Rattle.ring_laws.proofs.CutDirection.{WindTogether, wind_together}
-use Rattle.ring_laws.proofs.Members.{edge_with, on_some_of}
-use Rattle.ring_laws.proofs.Pieces.{edges_of_first, has_edge_of_first, on_some_cut, winding_cut}
-use Rattle.ring_laws.proofs.PiecesMeet.{has_edge_back, has_edge_there, meet_at_cut, off_first, off_second, on_back}
 use Rattle.ring_laws.proofs.PiecesWind.{on_edge_not_wound}
-use Rattle.ring_laws.proofs.UpToOne.{not_twice, one_is, sum_is}
-use Rattle.ring_laws.specs.Apart.{IsApartRing, IsOn, edge}
 use Rattle.ring_laws.specs.Diagonal.{IsDiagonal}
 
 module _ (v : Point) (ps : List Point) (z : Point) (qs : List Point) (apart : IsApartRing (v ∷ (ps ++ z ∷ qs)))

@@ -4,23 +4,23 @@ use Rattle.std.proofs.lemmas.Int.{ints}
 use Rattle.std.proofs.lemmas.List.{append_assoc, length-append}
 use Rattle.plane.proofs.Determinants.{determinant_shift_back}
 use Rattle.plane.specs.Point.{Point, whole}
+use Rattle.plane.specs.Triangle.{IsInTriangle}
 use Rattle.plane.specs.Turn.{IsLeft}
-use Rattle.rings.specs.Edge.{Edge, edges_of}
-use Rattle.ring_laws.proofs.CommonEnds.{meet_reversed}
+use Rattle.rings.proofs.CommonEnds.{meet_reversed}
+use Rattle.rings.proofs.DistinctPoints.{HasPoint}
+use Rattle.rings.proofs.Farthest.{Farthest}
+use Rattle.rings.specs.Apart.{IsApartRing}
+use Rattle.rings.specs.Edge.{Edge, HasEdge, edge, edges_of}
+use Rattle.rings.specs.Winding.{RunsCounterclockwise}
+use Rattle.inside_laws.proofs.Rotated.{apart_rotated, has_edge_rotated}
+use Rattle.triangle_laws.proofs.TriangleWinding.{triangle_values}
+use Rattle.ring_ears.proofs.EarStep.{apart_without, meets_base, rest_counterclockwise}
+use Rattle.ring_ears.proofs.LeastVertex.{NoneBefore}
 use Rattle.ring_laws.proofs.Diagonals.{cut_is_diagonal, diagonal_backward, diagonal_rotated}
-use Rattle.ring_laws.proofs.DistinctPoints.{HasPoint}
-use Rattle.ring_laws.proofs.EarStep.{apart_without, meets_base, rest_counterclockwise}
-use Rattle.ring_laws.proofs.Farthest.{Farthest}
 use Rattle.ring_laws.proofs.FarthestCut.{apart_regrouped, farthest_cut, first_runs, ring_regrouped, second_runs}
 use Rattle.ring_laws.proofs.FarthestEnd.{InTriangle, height}
-use Rattle.ring_laws.proofs.LeastVertex.{NoneBefore}
-use Rattle.ring_laws.proofs.Rotated.{apart_rotated, has_edge_rotated}
 use Rattle.ring_laws.proofs.SimpleRings.{left_turn_law, runs_round}
-use Rattle.ring_laws.proofs.TriangleWinding.{triangle_values}
-use Rattle.ring_laws.specs.Apart.{HasEdge, IsApartRing, edge}
 use Rattle.ring_laws.specs.Diagonal.{IsDiagonal}
-use Rattle.ring_laws.specs.Triangle.{IsInTriangle}
-use Rattle.ring_laws.specs.Winding.{RunsCounterclockwise}
 
 -- the segment from v to the farthest vertex in the triangle
 pub farthest_diagonal : (v w : Point) (ms : List Point) (u : Point) → IsApartRing (v ∷ w ∷ (ms ++ u ∷ []))

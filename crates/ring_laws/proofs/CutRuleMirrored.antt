@@ -5,15 +5,15 @@ use Rattle.std.proofs.lemmas.List.{length-reverse}
 use Rattle.plane.proofs.Determinants.{determinant_swap_ends}
 use Rattle.plane.specs.Point.{Point, whole}
 use Rattle.plane.specs.Turn.{IsLeft, IsRight}
+use Rattle.rings.proofs.DistinctPoints.{HasPoint}
+use Rattle.rings.proofs.Farthest.{Farthest}
+use Rattle.rings.proofs.Items.{has_cases, has_in_order, has_left, has_reversed, has_right}
+use Rattle.rings.specs.Apart.{IsApartRing}
+use Rattle.inside_laws.proofs.Mirrored.{apart_turned, turned_corner}
+use Rattle.ring_ears.proofs.LeastVertex.{NoneBefore}
 use Rattle.ring_laws.proofs.CutRule.{ear_diagonal, farthest_diagonal}
 use Rattle.ring_laws.proofs.Diagonals.{diagonal_backward, diagonal_turned}
-use Rattle.ring_laws.proofs.DistinctPoints.{HasPoint}
-use Rattle.ring_laws.proofs.Farthest.{Farthest}
 use Rattle.ring_laws.proofs.FarthestEnd.{InTriangle, height}
-use Rattle.ring_laws.proofs.Items.{has_cases, has_in_order, has_left, has_reversed, has_right}
-use Rattle.ring_laws.proofs.LeastVertex.{NoneBefore}
-use Rattle.ring_laws.proofs.Mirrored.{apart_turned, turned_corner}
-use Rattle.ring_laws.specs.Apart.{IsApartRing}
 use Rattle.ring_laws.specs.Diagonal.{IsDiagonal}
 
 -- the farthest of some points is that of the same points in the other order,

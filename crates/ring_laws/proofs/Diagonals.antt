@@ -4,27 +4,25 @@ use Rattle.plane.proofs.Same.{same_sym, whole_is_point}
 use Rattle.plane.proofs.Segments.{on_first_end, on_reversed}
 use Rattle.plane.specs.Point.{IsPoint, IsSame, Point, Triple, whole}
 use Rattle.plane.specs.Segment.{On}
-use Rattle.rings.proofs.Crossings.{reversed}
-use Rattle.rings.proofs.Edges.{backward, closed_edges_of}
-use Rattle.rings.proofs.SamePoint.{on_some_same}
+use Rattle.rings.proofs.CommonEnds.{meet_reversed, meet_swapped}
+use Rattle.rings.proofs.DistinctPoints.{HasPoint, edge_from}
+use Rattle.rings.proofs.Edges.{backward, closed_edges_of, on_some_same, reversed}
+use Rattle.rings.proofs.Items.{has_reversed, has_right}
+use Rattle.rings.proofs.Members.{has_edge_backward, on_some_of}
+use Rattle.rings.proofs.SimpleIsApart.{same_or_not}
 use Rattle.rings.proofs.Turned.{edges_of-turned_round}
-use Rattle.rings.proofs.TurnedInside.{in_turned_iff}
-use Rattle.rings.specs.Edge.{Edge, IsOnSome, edges_along, edges_of}
+use Rattle.rings.specs.Apart.{IsApartRing, MeetAtEnds}
+use Rattle.rings.specs.Edge.{Edge, HasEdge, IsOn, IsOnSome, edge, edges_along, edges_of}
 use Rattle.rings.specs.Inside.{winding}
 use Rattle.rings.specs.Orientation.{turned_round}
+use Rattle.rings.specs.Winding.{WindsUpTo}
+use Rattle.inside_laws.proofs.Rotated.{has_edge_rotated, in_rotated}
+use Rattle.inside_laws.proofs.TurnedInside.{in_turned_iff}
+use Rattle.ring_pieces.proofs.Pieces.{winding_cut}
+use Rattle.ring_pieces.proofs.PiecesMeet.{off_first, on_back}
 use Rattle.ring_laws.proofs.BesideDiagonal.{once_round_diagonal}
-use Rattle.ring_laws.proofs.CommonEnds.{meet_reversed, meet_swapped}
 use Rattle.ring_laws.proofs.CutDiagonal.{ends_differ, in_if_wound, inner_off}
-use Rattle.ring_laws.proofs.DistinctPoints.{HasPoint, edge_from}
-use Rattle.ring_laws.proofs.Items.{has_reversed, has_right}
-use Rattle.ring_laws.proofs.Members.{has_edge_backward, on_some_of}
-use Rattle.ring_laws.proofs.Pieces.{winding_cut}
-use Rattle.ring_laws.proofs.PiecesMeet.{off_first, on_back}
-use Rattle.ring_laws.proofs.Rotated.{has_edge_rotated, in_rotated}
-use Rattle.ring_laws.proofs.SimpleIsApart.{same_or_not}
-use Rattle.ring_laws.specs.Apart.{HasEdge, IsApartRing, IsOn, MeetAtEnds, edge}
 use Rattle.ring_laws.specs.Diagonal.{IsDiagonal}
-use Rattle.ring_laws.specs.Winding.{WindsUpTo}
 
 -- a vertex is on an edge
 vertex_on : (p v : Point) (vs : List Point) → HasPoint (v ∷ vs) p → IsOnSome (edges_of (v ∷ vs)) (whole p)

@@ -3,19 +3,19 @@ use Rattle.std.proofs.Common.{List, [], ◌∷◌, ◌++◌, length, ◌≡◌, 
 use Rattle.std.proofs.lemmas.List.{append_assoc, length-append}
 use Rattle.plane.specs.Point.{Point, whole}
 use Rattle.plane.specs.Turn.{IsLeft}
-use Rattle.rings.specs.Edge.{Edge, edges_of}
-use Rattle.ring_laws.proofs.CornerLaws.{farthest_between, farthest_meets}
-use Rattle.ring_laws.proofs.DistinctPoints.{HasPoint}
-use Rattle.ring_laws.proofs.EarStep.{is_corner}
-use Rattle.ring_laws.proofs.Farthest.{Farthest}
+use Rattle.rings.proofs.DistinctPoints.{HasPoint}
+use Rattle.rings.proofs.Farthest.{Farthest}
+use Rattle.rings.proofs.Items.{has_cases, has_left, has_right}
+use Rattle.rings.specs.Apart.{IsApartRing, MeetAtEnds}
+use Rattle.rings.specs.Edge.{Edge, HasEdge, edge, edges_of}
+use Rattle.rings.specs.Winding.{RunsCounterclockwise}
+use Rattle.triangle_laws.proofs.CornerLaws.{farthest_between, farthest_meets}
+use Rattle.ring_ears.proofs.EarStep.{is_corner}
+use Rattle.ring_ears.proofs.LeastVertex.{NoneBefore}
+use Rattle.ring_ears.proofs.RunsOnce.{LeftTurnLaw}
+use Rattle.ring_pieces.proofs.Pieces.{apart_first, apart_second}
+use Rattle.ring_pieces.proofs.PiecesMeet.{has_edge_back, has_edge_there}
 use Rattle.ring_laws.proofs.FarthestEnd.{InTriangle, height, is_farthest_end, split_at}
-use Rattle.ring_laws.proofs.Items.{has_cases, has_left, has_right}
-use Rattle.ring_laws.proofs.LeastVertex.{NoneBefore}
-use Rattle.ring_laws.proofs.Pieces.{apart_first, apart_second}
-use Rattle.ring_laws.proofs.PiecesMeet.{has_edge_back, has_edge_there}
-use Rattle.ring_laws.proofs.RunsOnce.{LeftTurnLaw}
-use Rattle.ring_laws.specs.Apart.{HasEdge, IsApartRing, MeetAtEnds, edge}
-use Rattle.ring_laws.specs.Winding.{RunsCounterclockwise}
 
 -- the vertices ms are cs, z and ds; the segment from v to z meets the edges at ends, and is strictly between those at v
 pub record IsCutFrom (v w : Point) (ms : List Point) (u z : Point) (cs ds : List Point) : Type 0 where

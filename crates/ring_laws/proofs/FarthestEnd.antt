@@ -1,14 +1,14 @@
 -- The vertex in the triangle at the first vertex of a ring that is farthest from the triangle's base.
 use Rattle.std.proofs.Common.{ℤ, ◌≤ℤ◌, List, [], ◌∷◌, ◌++◌, ◌≡◌, ◌⊎◌, inl, inr, sym, subst, ap}
 use Rattle.plane.specs.Point.{Point, whole}
+use Rattle.plane.specs.Triangle.{IsInTriangle, height_over}
+use Rattle.rings.proofs.DistinctPoints.{HasPoint, distinct_between, edge_from, end_of_ring}
+use Rattle.rings.proofs.Farthest.{Farthest}
+use Rattle.rings.proofs.Items.{has_cases, has_left}
+use Rattle.rings.specs.Apart.{IsApartRing}
 use Rattle.rings.specs.Edge.{edges_of}
-use Rattle.ring_laws.proofs.Corner.{distinct_corner, has_edge_of_corner}
-use Rattle.ring_laws.proofs.CornerLaws.{IsFarthestEnd}
-use Rattle.ring_laws.proofs.DistinctPoints.{HasPoint, distinct_between, edge_from, end_of_ring}
-use Rattle.ring_laws.proofs.Farthest.{Farthest}
-use Rattle.ring_laws.proofs.Items.{has_cases, has_left}
-use Rattle.ring_laws.specs.Apart.{IsApartRing}
-use Rattle.ring_laws.specs.Triangle.{IsInTriangle, height_over}
+use Rattle.triangle_laws.proofs.CornerLaws.{IsFarthestEnd}
+use Rattle.ring_ears.proofs.Corner.{distinct_corner, has_edge_of_corner}
 
 -- a list is split at each of its points
 pub split_at : (p : Point) (ps : List Point) → HasPoint ps p → (cs : List Point) × (ds : List Point) × (ps ≡ cs ++ p ∷ ds)

@@ -2,18 +2,18 @@
 use Rattle.std.proofs.Common.{◌≡◌, inl, inr, sym, subst, ap, ◌∙◌, ◌<◌, ℤ, pos, ◌+ℤ◌, List, ◌∷◌, ◌++◌, length}
 use Rattle.plane.proofs.Segments.{on_last_end}
 use Rattle.plane.specs.Point.{IsPoint, IsSame, Point, Triple, whole}
-use Rattle.rings.proofs.ClosedLaw.{winding_law, winding_law_crossed}
+use Rattle.segment_laws.proofs.Sides.{left_not_on, right_not_on}
 use Rattle.rings.proofs.Edges.{closed_edges_of, on_some_cases, on_some_left, on_some_right}
+use Rattle.rings.proofs.SimpleIsApart.{proper_edges}
 use Rattle.rings.specs.Across.{Misses}
-use Rattle.rings.specs.Edge.{Edge, IsClosed, IsOnSome, edges_of}
+use Rattle.rings.specs.Apart.{IsApartRing}
+use Rattle.rings.specs.Edge.{Edge, HasEdge, IsClosed, IsOn, IsOnSome, edges_of}
 use Rattle.rings.specs.Inside.{winding}
-use Rattle.ring_laws.proofs.BesideEdge.{BesideEdge, beside_edge}
-use Rattle.ring_laws.proofs.InsideEdge.{InsideNear, inside_near, off_others, other_edges}
-use Rattle.ring_laws.proofs.Sides.{left_not_on, right_not_on}
-use Rattle.ring_laws.proofs.SimpleIsApart.{proper_edges}
-use Rattle.ring_laws.proofs.UpToOne.{IsUnit, no_units}
-use Rattle.ring_laws.specs.Apart.{HasEdge, IsApartRing, IsOn}
-use Rattle.ring_laws.specs.Winding.{WindsUpTo}
+use Rattle.rings.specs.Winding.{WindsUpTo}
+use Rattle.crossing_laws.proofs.ClosedLaw.{winding_law, winding_law_crossed}
+use Rattle.triangle_laws.proofs.BesideEdge.{BesideEdge, beside_edge}
+use Rattle.triangle_laws.proofs.InsideEdge.{InsideNear, inside_near, off_others, other_edges}
+use Rattle.ring_ears.proofs.UpToOne.{IsUnit, no_units}
 
 -- ---- numbers
 

@@ -6,22 +6,22 @@ use Rattle.std.proofs.lemmas.List.{length-append}
 use Rattle.plane.proofs.Determinants.{determinant_shift, determinant_swap_first}
 use Rattle.plane.specs.Point.{Point, whole}
 use Rattle.plane.specs.Turn.{IsLeft}
+use Rattle.rings.proofs.Farthest.{farthest_or_none}
+use Rattle.rings.proofs.Items.{has_right}
+use Rattle.rings.proofs.SimpleIsApart.{apart_of_simple}
+use Rattle.rings.specs.Apart.{IsApartRing}
 use Rattle.rings.specs.Edge.{edges_of}
 use Rattle.rings.specs.Simple.{IsSimple}
-use Rattle.ring_laws.proofs.Corner.{area_corner, on_some_corner, swept_triangle, winding_corner}
-use Rattle.ring_laws.proofs.CutStep.{cut_counterclockwise}
-use Rattle.ring_laws.proofs.EarStep.{apart_without, ear_counterclockwise}
-use Rattle.ring_laws.proofs.Farthest.{farthest_or_none}
+use Rattle.rings.specs.Winding.{IsLeastVertex, RunsAsItTurns, RunsClockwise, RunsCounterclockwise, WindsUpTo}
+use Rattle.triangle_laws.proofs.TriangleWinding.{triangle_values}
+use Rattle.triangle_laws.proofs.Triangles.{in_or_not}
+use Rattle.ring_ears.proofs.Corner.{area_corner, on_some_corner, swept_triangle, winding_corner}
+use Rattle.ring_ears.proofs.EarStep.{apart_without, ear_counterclockwise}
+use Rattle.ring_ears.proofs.LeastVertex.{NoneBefore, least_vertex}
+use Rattle.ring_ears.proofs.RunsOnce.{LeftTurnLaw, runs_as_it_turns}
+use Rattle.ring_pieces.proofs.CutStep.{cut_counterclockwise}
 use Rattle.ring_laws.proofs.FarthestCut.{IsCutFrom, apart_regrouped, farthest_cut, fewer_vertices, first_runs, ring_regrouped, second_runs}
 use Rattle.ring_laws.proofs.FarthestEnd.{InTriangle, height}
-use Rattle.ring_laws.proofs.Items.{has_right}
-use Rattle.ring_laws.proofs.LeastVertex.{NoneBefore, least_vertex}
-use Rattle.ring_laws.proofs.RunsOnce.{LeftTurnLaw, runs_as_it_turns}
-use Rattle.ring_laws.proofs.SimpleIsApart.{apart_of_simple}
-use Rattle.ring_laws.proofs.TriangleWinding.{triangle_values}
-use Rattle.ring_laws.proofs.Triangles.{in_or_not}
-use Rattle.ring_laws.specs.Apart.{IsApartRing}
-use Rattle.ring_laws.specs.Winding.{IsLeastVertex, RunsAsItTurns, RunsClockwise, RunsCounterclockwise, WindsUpTo}
 
 -- a triangle
 pub triangle_law : (v w u : Point) → IsLeft (whole u) (whole v) (whole w) → RunsCounterclockwise (v ∷ w ∷ u ∷ [])

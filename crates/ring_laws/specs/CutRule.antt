@@ -1,9 +1,9 @@
 -- The segment that cuts a ring at a vertex: from the textbooks' proof that a simple polygon has a diagonal.
 use Rattle.std.specs.Prelude.{◌≡◌, ◌⊎◌, ℕ, ◌+◌, ◌-◌, ◌<◌, ◌≤ℤ◌, List, length}
 use Rattle.plane.specs.Point.{Point, whole}
+use Rattle.plane.specs.Triangle.{IsInTriangle, height_over}
 use Rattle.plane.specs.Turn.{IsLeft}
 use Rattle.rings.specs.Ring.{vertex}
-use Rattle.ring_laws.specs.Triangle.{IsInTriangle, height_over}
 
 -- p and q are the two neighbours of vertex i, named so that the turn from p over vertex i to q is left
 pub record IsLeftCorner (ring : List Point) (i : ℕ) (p q : Point) : Type 0 where

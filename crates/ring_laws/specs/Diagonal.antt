@@ -2,9 +2,9 @@
 use Rattle.std.specs.Prelude.{List}
 use Rattle.plane.specs.Point.{IsPoint, Point, Triple, whole}
 use Rattle.plane.specs.Segment.{On}
-use Rattle.rings.specs.Edge.{Edge, edges_of}
+use Rattle.rings.specs.Apart.{MeetAtEnds}
+use Rattle.rings.specs.Edge.{Edge, HasEdge, edge, edges_of}
 use Rattle.rings.specs.Inside.{IsIn}
-use Rattle.ring_laws.specs.Apart.{HasEdge, MeetAtEnds, edge}
 
 -- the segment from a to b meets the edges of the ring only at common ends, and each rational point of it is in the ring
 pub record IsDiagonal (ring : List Point) (a b : Point) : Type 0 where

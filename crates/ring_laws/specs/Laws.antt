@@ -3,10 +3,10 @@ use Rattle.std.specs.Prelude.{ℕ, ◌<◌, ◌≤◌, List, length}
 use Rattle.plane.specs.Point.{Point}
 use Rattle.rings.specs.Ring.{vertex}
 use Rattle.rings.specs.Simple.{IsSimple}
+use Rattle.rings.specs.Winding.{IsLeastVertex, RunsAsItTurns}
 use Rattle.ring_laws.specs.CutRule.{IsCut}
 use Rattle.ring_laws.specs.Diagonal.{IsDiagonal}
 use Rattle.ring_laws.specs.Pieces.{IsCutInTwo, first_piece, second_piece}
-use Rattle.ring_laws.specs.Winding.{IsLeastVertex, RunsAsItTurns}
 
 -- a simple ring runs once round: counterclockwise where it turns left at its least vertex, else it turns right there and runs
 -- clockwise

@@ -1,13 +1,13 @@
 -- Laws of lists of edges: appended lists, edges read backward, closed lists.
-use Rattle.std.proofs.Common.{◌≡◌, ◌⊎◌, inl, inr, refl, ap, ◌∙◌, sym, ◌+◌, ℤ, ◌+ℤ◌, ◌-ℤ◌, neg_ℤ, List, [], ◌∷◌, ◌++◌, map, arith}
+use Rattle.std.proofs.Common.{◌≡◌, ◌⊎◌, inl, inr, refl, ap, ◌∙◌, ℤ, ◌+ℤ◌, ◌-ℤ◌, neg_ℤ, List, [], ◌∷◌, ◌++◌, map, arith}
 use Rattle.std.proofs.lemmas.Int.{ints}
-use Rattle.std.proofs.lemmas.List.Sums.{sum_by-append, sum_by-cons}
-use Rattle.std.specs.Prelude.{cond}
-use Rattle.plane.proofs.Segments.{on_reversed}
-use Rattle.plane.specs.Point.{Point, Triple, whole}
-use Rattle.rings.proofs.Crossings.{crossing_reversed, is_crossed_reversed, reversed}
+use Rattle.plane.proofs.Segments.{on_reversed, on_same_point}
+use Rattle.plane.specs.Point.{IsPoint, IsSame, Point, Triple, whole}
 use Rattle.rings.specs.Edge.{Edge, IsClosed, IsOnSome, edges_along, edges_of, growth}
-use Rattle.rings.specs.Inside.{crossing, crossings, is_crossed, winding}
+
+-- the edge read backward
+abbrev pub reversed : Edge → Edge
+reversed e = record { from = e.to; to = e.from }
 
 -- each edge of the list, read backward
 abbrev pub backward : List Edge → List Edge
@@ -16,16 +16,12 @@ backward es = map reversed es
 -- ---- numbers
 
 -- the grouping of a sum is free
-sum_regrouped : (a b c d e : ℤ) → d ≡ b +ℤ c → e ≡ (a +ℤ b) +ℤ c → a +ℤ d ≡ e
+pub sum_regrouped : (a b c d e : ℤ) → d ≡ b +ℤ c → e ≡ (a +ℤ b) +ℤ c → a +ℤ d ≡ e
 sum_regrouped a b c d e h k = omega (arith, ints)
 
 -- the growth of an edge read backward has the opposite sign
 opposite_difference : (a b c d : ℤ) → d ≡ neg_ℤ c → (a -ℤ b) +ℤ d ≡ neg_ℤ ((b -ℤ a) +ℤ c)
 opposite_difference a b c d h = omega (arith, ints)
-
--- a sum of opposites is the opposite of the sum
-opposite_sum : (a b c d : ℤ) → c ≡ neg_ℤ a → d ≡ neg_ℤ b → c +ℤ d ≡ neg_ℤ (a +ℤ b)
-opposite_sum a b c d h k = omega (arith, ints)
 
 -- ---- points on the edges
 
@@ -52,6 +48,12 @@ module _ (p : Triple) where
   on_some_backward (e ∷ es) (inl h) = inl (on_reversed p (whole e.from) (whole e.to) h)
   on_some_backward (e ∷ es) (inr h) = inr (on_some_backward es h)
   on_some_backward [] h = absurd h
+
+-- what is on an edge is so by each triple
+pub on_some_same : (p q : Triple) → IsPoint p → IsSame p q → (es : List Edge) → IsOnSome es p → IsOnSome es q
+on_some_same p q at_p s (e ∷ es) (inl h) = inl (on_same_point at_p s h)
+on_some_same p q at_p s (e ∷ es) (inr h) = inr (on_some_same p q at_p s es h)
+on_some_same p q at_p s [] h = absurd h
 
 -- ---- closed lists
 
@@ -84,31 +86,14 @@ pub closed_edges_of : (ring : List Point) → IsClosed (edges_of ring)
 closed_edges_of [] g = refl
 closed_edges_of (v ∷ vs) g = growth-edges_along g v vs v ∙ omega (arith, ints)
 
--- ---- crossings
+-- ---- ends
 
-module _ (p : Triple) where
-  -- crossings add up
-  pub crossings-append : (es fs : List Edge) → crossings (es ++ fs) p ≡ crossings es p + crossings fs p
-  crossings-append es fs = sum_by-append (λ e. cond (is_crossed e p) 1 0) es fs
+-- P holds of both ends of each edge
+abbrev pub AllEnds : (Point → Type 0) → List Edge → Type 0
+AllEnds P [] = Unit {0}
+AllEnds P (e ∷ es) = P e.from × P e.to × AllEnds P es
 
-  -- one edge and the others
-  pub crossings-cons : (e : Edge) (es : List Edge) → crossings (e ∷ es) p ≡ cond (is_crossed e p) 1 0 + crossings es p
-  crossings-cons e es = sum_by-cons (λ f. cond (is_crossed f p) 1 0) e es
-
-  -- read backward, the edges have the same number of them
-  pub crossings-backward : (es : List Edge) → crossings (backward es) p ≡ crossings es p
-  crossings-backward [] = refl
-  crossings-backward (e ∷ es) =
-      crossings-cons (reversed e) (backward es)
-      ∙ (λ i. cond (is_crossed_reversed e p i) 1 0 + crossings-backward es i)
-      ∙ sym (crossings-cons e es)
-
-  -- winding numbers add up
-  pub winding-append : (es fs : List Edge) → winding (es ++ fs) p ≡ winding es p +ℤ winding fs p
-  winding-append [] fs = omega (arith, ints)
-  winding-append (e ∷ es) fs = sum_regrouped (crossing e p) (winding es p) (winding fs p) _ _ (winding-append es fs) refl
-
-  -- read backward, the edges have the opposite one
-  pub winding-backward : (es : List Edge) → winding (backward es) p ≡ neg_ℤ (winding es p)
-  winding-backward [] = refl
-  winding-backward (e ∷ es) = opposite_sum (crossing e p) (winding es p) _ _ (crossing_reversed e p) (winding-backward es)
+-- what all ends have in common stays so under a weaker property
+pub all_ends_map : {P Q : Point → Type 0} → ((v : Point) → P v → Q v) → (es : List Edge) → AllEnds P es → AllEnds Q es
+all_ends_map f [] ends = tt
+all_ends_map f (e ∷ es) (from, to, rest) = (f e.from from, f e.to to, all_ends_map f es rest)

@@ -4,11 +4,11 @@ use Rattle.plane.proofs.Same.{whole_is_point}
 use Rattle.plane.proofs.Segments.{on_first_end}
 use Rattle.plane.specs.Point.{IsPoint, IsSame, Triple, whole}
 use Rattle.plane.specs.Segment.{Meet, On}
-use Rattle.rings.proofs.Along.{on_antisym, on_total}
+use Rattle.segment_laws.proofs.Along.{on_antisym, on_total}
+use Rattle.segment_laws.proofs.Combinations.{on_nested}
+use Rattle.segment_laws.proofs.FirstMeeting.{First}
+use Rattle.segment_laws.proofs.FirstOnSegment.{first_or_none}
 use Rattle.rings.specs.Across.{Misses}
-use Rattle.rings.proofs.Combinations.{on_nested}
-use Rattle.rings.proofs.FirstMeeting.{First}
-use Rattle.rings.proofs.FirstOnSegment.{first_or_none}
 use Rattle.rings.specs.Edge.{Edge, IsOnSome}
 
 -- a rational point on the way from y to t that is on some edge, and before all others

@@ -11,8 +11,7 @@ use Rattle.std.specs.Prelude.{◌↔◌, slice_get, Some}
 use Rattle.std.specs.List.{All}
 use Rattle.plane.specs.Point.{Point, Triple, whole}
 use Rattle.plane.specs.Segment.{On}
-use Rattle.rings.proofs.Edges.{on_some_cases, on_some_left, on_some_right}
-use Rattle.rings.proofs.FarAway.{AllEnds}
+use Rattle.rings.proofs.Edges.{AllEnds, on_some_cases, on_some_left, on_some_right}
 use Rattle.rings.proofs.Vertices.{vertex_in_range, vertex_round}
 use Rattle.rings.specs.Edge.{Edge, IsOnSome, edges_along, edges_of}
 use Rattle.rings.specs.Inside.{crossings, is_crossed}

@@ -1,5 +1,5 @@
 -- The area of a ring that is read the other way round has the opposite sign.
-use Rattle.std.proofs.Common.{◌≡◌, List, [], ◌∷◌, ◌++◌, reverse, refl, ap, ◌∙◌, ℤ, ◌+ℤ◌, neg_ℤ, arith}
+use Rattle.std.proofs.Common.{◌≡◌, List, [], ◌∷◌, ◌++◌, reverse, refl, ap, ◌∙◌, ◌+ℤ◌, neg_ℤ, arith}
 use Rattle.std.proofs.lemmas.Int.{ints}
 use Rattle.plane.specs.Point.{Point}
 use Rattle.rings.proofs.Edges.{backward}

@@ -17,6 +17,27 @@ abbrev pub edges_of : List Point → List Edge
 edges_of [] = []
 edges_of (v ∷ vs) = edges_along v vs v
 
+-- the edge from one point to another
+abbrev pub edge : Point → Point → Edge
+edge p q = record { from = p; to = q }
+
+-- x is one of the items
+abbrev pub Has : {A : Type 0} → List A → A → Type 0
+Has [] x = ⊥
+Has (y ∷ ys) x = (y ≡ x) ⊎ Has ys x
+
+-- e is one of the edges
+abbrev pub HasEdge : List Edge → Edge → Type 0
+HasEdge es e = Has es e
+
+-- v is an end of the edge
+abbrev pub HasEnd : Edge → Point → Type 0
+HasEnd e v = (e.from ≡ v) ⊎ (e.to ≡ v)
+
+-- the rational point x is on the edge
+abbrev pub IsOn : Edge → Triple → Type 0
+IsOn e x = On x (whole e.from) (whole e.to)
+
 -- the rational point is on some edge of the list
 abbrev pub IsOnSome : List Edge → Triple → Type 0
 IsOnSome [] p = ⊥

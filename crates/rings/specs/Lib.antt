@@ -1,4 +1,5 @@
 pub mod Across
+pub mod Apart
 pub mod Bend
 pub mod Chain
 pub mod Edge
@@ -7,3 +8,4 @@ pub mod Orientation
 pub mod Ring
 pub mod Sees
 pub mod Simple
+pub mod Winding

@@ -1,5 +1,5 @@
 mod Bends
-pub mod Given
+pub mod GivenVerdict
 mod Leaving
 mod Neighbours
 pub mod SameRules

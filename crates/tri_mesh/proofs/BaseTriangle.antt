@@ -1,52 +1,48 @@
 -- One triangle fits the piece of its three corners.
-use Rattle.std.proofs.Common.{◌≡◌, inl, inr, refl, sym, subst, ◌∙◌, ℕ, zero, suc, ◌<◌, List, [], ◌∷◌, ℤ, pos, ◌<ℤ◌, arith}
-use Rattle.std.proofs.lemmas.Int.{ints}
+use Rattle.std.proofs.Common.{◌≡◌, inl, inr, refl, sym, subst, ◌∙◌, ℕ, zero, suc, ◌<◌, List, [], ◌∷◌, arith}
 use Rattle.std.specs.Prelude.{◌↔◌}
+use Rattle.integer_algebra.proofs.SignSteps.{positive_not_zero}
 use Rattle.plane.proofs.Determinants.{determinant_same_ends, determinant_same_first, determinant_same_last, determinant_shift, determinant_shift_back}
-use Rattle.plane.proofs.MeetOnlyAt.{meet_only_at_from}
 use Rattle.plane.specs.Point.{IsPoint, Point, Triple, whole}
 use Rattle.plane.specs.Turn.{IsLeft, IsStraight}
+use Rattle.segment_laws.proofs.MeetOnlyAt.{meet_only_at_from}
 use Rattle.rings.specs.Inside.{IsIn}
 use Rattle.rings.specs.Ring.{vertex}
 use Rattle.rings.specs.Simple.{IsSimple}
-use Rattle.tri_mesh.specs.declared.tri.Tri.{Tri}
+use Rattle.triangle_laws.proofs.TriangleRing.{in_of_in_triangle, in_triangle_of_in}
 use Rattle.tri_mesh.proofs.Paths.{IsPath}
 use Rattle.tri_mesh.proofs.PieceSteps.{edge_of_step, step_of_edge}
-use Rattle.tri_mesh.proofs.TriangleRing.{in_of_in_triangle, in_triangle_of_in}
 use Rattle.tri_mesh.proofs.Walks.{IsPlace, Touch, tree_of_paths}
-use Rattle.tri_mesh.specs.Fits.{FitsPiece, IsInTri, IsPieceEdge, IsSideOfOne, IsTriOf, points_of}
+use Rattle.tri_mesh.specs.Fits.{FitsPiece, IsInTri, IsPieceEdge, IsSideOfOne, IsTriOf, piece_points}
 use Rattle.tri_mesh.specs.Side.{HasSide, IsTree, tri_at}
+use Rattle.tri_mesh.specs.declared.tri.Tri.{Tri}
 
 -- ---- three points that turn
-
--- a turn is not straight
-not_straight : {d : ℤ} → pos 0 <ℤ d → ¬ (d ≡ pos 0)
-not_straight h e = omega (arith, ints)
 
 module _ (a b c : Point) (left : IsLeft (whole a) (whole b) (whole c)) where
   -- they turn from each of them on,
   from_second : ¬ IsStraight (whole b) (whole c) (whole a)
-  from_second e = not_straight left (sym (determinant_shift (whole a) (whole b) (whole c)) ∙ e)
+  from_second e = positive_not_zero left (sym (determinant_shift (whole a) (whole b) (whole c)) ∙ e)
 
   from_third : ¬ IsStraight (whole c) (whole a) (whole b)
-  from_third e = not_straight left (sym (determinant_shift_back (whole a) (whole b) (whole c)) ∙ e)
+  from_third e = positive_not_zero left (sym (determinant_shift_back (whole a) (whole b) (whole c)) ∙ e)
 
   -- are different,
   first_two : ¬ (a ≡ b)
-  first_two e = not_straight left (subst (λ x. IsStraight (whole x) (whole b) (whole c)) (sym e) (determinant_same_first (whole b) (whole c)))
+  first_two e = positive_not_zero left (subst (λ x. IsStraight (whole x) (whole b) (whole c)) (sym e) (determinant_same_first (whole b) (whole c)))
 
   last_two : ¬ (b ≡ c)
-  last_two e = not_straight left (subst (λ x. IsStraight (whole a) (whole x) (whole c)) (sym e) (determinant_same_last (whole a) (whole c)))
+  last_two e = positive_not_zero left (subst (λ x. IsStraight (whole a) (whole x) (whole c)) (sym e) (determinant_same_last (whole a) (whole c)))
 
   outer_two : ¬ (c ≡ a)
-  outer_two e = not_straight left (subst (λ x. IsStraight (whole a) (whole b) (whole x)) (sym e) (determinant_same_ends (whole a) (whole b)))
+  outer_two e = positive_not_zero left (subst (λ x. IsStraight (whole a) (whole b) (whole x)) (sym e) (determinant_same_ends (whole a) (whole b)))
 
   -- and make a simple ring
   triangle_simple : IsSimple (a ∷ b ∷ c ∷ [])
   triangle_simple zero (suc zero) h k (inl e) = first_two e
   triangle_simple zero (suc zero) h k (inr (inl e)) = last_two e
   triangle_simple zero (suc zero) h k (inr (inr s)) =
-      s.not_between refl (meet_only_at_from a b c (inl (not_straight left)) s.point s.rational s.on_first s.on_second)
+      s.not_between refl (meet_only_at_from a b c (inl (positive_not_zero left)) s.point s.rational s.on_first s.on_second)
   triangle_simple zero (suc (suc zero)) h k (inl e) = first_two e
   triangle_simple zero (suc (suc zero)) h k (inr (inl e)) = outer_two e
   triangle_simple zero (suc (suc zero)) h k (inr (inr s)) =
@@ -108,11 +104,11 @@ module _ (corners : List Point) (i j k : ℕ) (left : IsLeft (whole (vertex corn
 
   -- its points are those in the piece
   single_covers : (p : Triple) → IsPoint p
-      → IsIn (points_of corners (i ∷ j ∷ k ∷ [])) p ↔ ((l : ℕ) × (l < 1) × IsInTri corners (tri_at (the_tri ∷ []) l) p)
+      → IsIn (piece_points corners (i ∷ j ∷ k ∷ [])) p ↔ ((l : ℕ) × (l < 1) × IsInTri corners (tri_at (the_tri ∷ []) l) p)
   single_covers p at_p =
       (λ h. (0, omega arith, in_triangle_of_in (vertex corners i) (vertex corners j) (vertex corners k) left p at_p h), covered)
     where
-      covered : ((l : ℕ) × (l < 1) × IsInTri corners (tri_at (the_tri ∷ []) l) p) → IsIn (points_of corners (i ∷ j ∷ k ∷ [])) p
+      covered : ((l : ℕ) × (l < 1) × IsInTri corners (tri_at (the_tri ∷ []) l) p) → IsIn (piece_points corners (i ∷ j ∷ k ∷ [])) p
       covered (zero, h, t) = in_of_in_triangle (vertex corners i) (vertex corners j) (vertex corners k) left p at_p t
       covered (suc l, h, t) = absurd (omega arith)
 

@@ -4,6 +4,7 @@ use Rattle.std.proofs.lemmas.Bool.{cases_lt}
 use Rattle.std.proofs.lemmas.List.FromFn.{fill_by_all, get_or-map-range_with_len, length-map-range_with_len}
 use Rattle.std.specs.List.{range_with_len}
 use Rattle.std.specs.Prelude.{slice_index_or}
+use Rattle.tri_mesh.proofs.Walks.{share_back}
 use Rattle.tri_mesh.specs.Side.{IsTree, IsWalk, IsWalkBetween, ShareSide, tri_at}
 use Rattle.tri_mesh.specs.declared.tri.Tri.{Tri}
 
@@ -11,13 +12,6 @@ use Rattle.tri_mesh.specs.declared.tri.Tri.{Tri}
 pub record AreChained (tris : List Tri) : Type 0 where
   pub next : (k : ℕ) → k + 1 < length tris → ShareSide (tri_at tris k) (tri_at tris (k + 1))
   pub no_other : (k l : ℕ) → k + 1 < l → l < length tris → ¬ ShareSide (tri_at tris k) (tri_at tris l)
-
--- a side is shared both ways
-share_back : (t u : Tri) → ShareSide t u → ShareSide u t
-share_back t u share = elim share.of_second [
-  | inl along ↦ record { i = share.i; j = share.j; of_first = along; of_second = inl share.of_first }
-  | inr back ↦ record { i = share.j; j = share.i; of_first = back; of_second = inr share.of_first }
-]
 
 module _ (tris : List Tri) (chained : AreChained tris) where
   module _ (walk : List ℕ) (is_walk : IsWalk tris walk) where

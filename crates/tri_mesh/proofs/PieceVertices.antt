@@ -12,7 +12,7 @@ use Rattle.rings.proofs.Vertices.{vertex_in_range, vertex_round}
 use Rattle.rings.specs.Ring.{origin, vertex}
 use Rattle.rings.specs.Simple.{IsSimple}
 use Rattle.tri_mesh.proofs.PieceSteps.{pair_or_not, same_or_not}
-use Rattle.tri_mesh.specs.Fits.{points_of}
+use Rattle.tri_mesh.specs.Fits.{piece_points}
 
 -- ---- simple rings
 
@@ -54,20 +54,20 @@ module _ (ring : List Point) (simple : IsSimple ring) where
 
 module _ (corners : List Point) (piece : List ℕ) where
   -- a piece has as many points as numbers,
-  pub length_points : length (points_of corners piece) ≡ length piece
+  pub length_points : length (piece_points corners piece) ≡ length piece
   length_points = length-map piece (λ k. vertex corners k)
 
   -- and vertex p of it is that with its number
-  pub vertex_of_piece : (p : ℕ) → p < length piece → vertex (points_of corners piece) p ≡ vertex corners (get_or piece p 0)
+  pub vertex_of_piece : (p : ℕ) → p < length piece → vertex (piece_points corners piece) p ≡ vertex corners (get_or piece p 0)
   vertex_of_piece p h =
-      vertex_in_range (points_of corners piece) p origin (omega (arith, length_points))
+      vertex_in_range (piece_points corners piece) p origin (omega (arith, length_points))
       ∙ get_or-map (λ k. vertex corners k) piece p 0 origin h
 
-  module _ (simple : IsSimple (points_of corners piece)) where
+  module _ (simple : IsSimple (piece_points corners piece)) where
     -- the vertices of a simple piece are different,
     points_differ : (p q : ℕ) → p < q → q < length piece → ¬ (vertex corners (get_or piece p 0) ≡ vertex corners (get_or piece q 0))
     points_differ p q order within same =
-        simple_differ (points_of corners piece) simple p q order (omega (arith, length_points))
+        simple_differ (piece_points corners piece) simple p q order (omega (arith, length_points))
         (vertex_of_piece p (omega arith) ∙ same ∙ sym (vertex_of_piece q within))
 
     -- so each stands at one place,
@@ -85,6 +85,6 @@ module _ (corners : List Point) (piece : List ℕ) where
     one_number p q h k same = one_place p q h k (ap (vertex corners) same)
 
 -- the piece of all vertices has the points of the ring
-pub points_of_all : (corners : List Point) → points_of corners (range_with_len 0 (length corners)) ≡ corners
-points_of_all corners =
+pub piece_points_all : (corners : List Point) → piece_points corners (range_with_len 0 (length corners)) ≡ corners
+piece_points_all corners =
     sym (fill_by_all (λ k. vertex corners k) corners (length corners) origin refl (λ k h. sym (vertex_in_range corners k origin h)))

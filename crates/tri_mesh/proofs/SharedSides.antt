@@ -7,7 +7,7 @@ use Rattle.tri_mesh.specs.Fits.{IsSideOfOne, IsSideOfTwo}
 use Rattle.tri_mesh.specs.Mesh.{side_begin, side_end}
 use Rattle.tri_mesh.specs.Neighbours.{HasSidesOnce}
 use Rattle.tri_mesh.specs.Side.{HasSide, HasSideBetween, ShareSide, tri_at}
-use Rattle.tri_mesh.specs.Sleeve.{LiesBetween}
+use Rattle.tri_mesh.specs.Sleeve.{IsDiagonalBetween}
 use Rattle.tri_mesh.specs.declared.sleeve.Diagonal.{Diagonal}
 use Rattle.tri_mesh.specs.declared.tri.Tri.{Tri}
 
@@ -19,7 +19,7 @@ pub record IsAcross (tris : List Tri) (k side : ℕ) (answer : Option ℕ) : Typ
 module _ (tris : List Tri) (k l : ℕ) (side : ℕ) where
   -- the triangle across a side has it in the other direction
   pub lies_across : (answer : Option ℕ) → IsAcross tris k side answer → answer ≡ Some l
-      → LiesBetween (tri_at tris k) (tri_at tris l) (record { left = side_end (tri_at tris k) side; right = side_begin (tri_at tris k) side })
+      → IsDiagonalBetween (tri_at tris k) (tri_at tris l) (record { left = side_end (tri_at tris k) side; right = side_begin (tri_at tris k) side })
   lies_across answer across is =
       let two : IsSideOfTwo tris (side_begin (tri_at tris k) side) (side_end (tri_at tris k) side) k l = rw is at across.some in
       record { of_first = two.has; of_second = two.other_has }
@@ -44,7 +44,7 @@ module _ (tris : List Tri) (sides : HasSidesOnce tris) (k l : ℕ) (k_below : k 
   -- where they share none of the first two sides of triangle k, they share the last one
   pub lies_last : (first second : Option ℕ) → IsAcross tris k 0 first → IsAcross tris k 1 second → ¬ (first ≡ Some l) → ¬ (second ≡ Some l)
       → ShareSide (tri_at tris k) (tri_at tris l)
-      → LiesBetween (tri_at tris k) (tri_at tris l) (record { left = (tri_at tris k).a; right = (tri_at tris k).c })
+      → IsDiagonalBetween (tri_at tris k) (tri_at tris l) (record { left = (tri_at tris k).a; right = (tri_at tris k).c })
   lies_last first second across_first across_second not_first not_second s =
       let t = tri_at tris k in
       let back = opposite s.i s.j s.of_first s.of_second in
@@ -62,18 +62,18 @@ module _ (tris : List Tri) (sides : HasSidesOnce tris) (k l : ℕ) (k_below : k 
 -- the first diagonals of a walk,
 abbrev pub LieAlong : List Tri → List ℕ → List Diagonal → Type 0
 LieAlong tris walk diagonals = (i : ℕ) → i < length diagonals
-    → LiesBetween (tri_at tris (get_or walk i 0)) (tri_at tris (get_or walk (i + 1) 0)) (get_or diagonals i (record { left = 0; right = 0 }))
+    → IsDiagonalBetween (tri_at tris (get_or walk i 0)) (tri_at tris (get_or walk (i + 1) 0)) (get_or diagonals i (record { left = 0; right = 0 }))
 
 -- and one more
 pub one_more_along : (tris : List Tri) (walk : List ℕ) (ds : List Diagonal) (d : Diagonal) (n : ℕ) → length ds + 1 ≡ n → LieAlong tris walk ds
-    → LiesBetween (tri_at tris (get_or walk (n - 1) 0)) (tri_at tris (get_or walk n 0)) d → LieAlong tris walk (ds ++ d ∷ [])
+    → IsDiagonalBetween (tri_at tris (get_or walk (n - 1) 0)) (tri_at tris (get_or walk n 0)) d → LieAlong tris walk (ds ++ d ∷ [])
 one_more_along tris walk ds d n count before here i below = elim (cases_eq i (length ds)) [
   | inl last ↦
       let from : n - 1 ≡ i = omega arith in
       let to : n ≡ i + 1 = omega arith in
-      let next = subst (λ m. LiesBetween (tri_at tris (get_or walk m 0)) (tri_at tris (get_or walk n 0)) d) from here in
+      let next = subst (λ m. IsDiagonalBetween (tri_at tris (get_or walk m 0)) (tri_at tris (get_or walk n 0)) d) from here in
       rw (get_or_push ds d (record { left = 0; right = 0 }) i (sym last))
-      (subst (λ m. LiesBetween (tri_at tris (get_or walk i 0)) (tri_at tris (get_or walk m 0)) d) to next)
+      (subst (λ m. IsDiagonalBetween (tri_at tris (get_or walk i 0)) (tri_at tris (get_or walk m 0)) d) to next)
   | inr other ↦ let earlier : i < length ds = omega (arith, length-append ds (d ∷ [])) in
       rw (get_or_append_left ds (d ∷ []) (record { left = 0; right = 0 }) i earlier) (before i earlier)
 ]

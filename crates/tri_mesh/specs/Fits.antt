@@ -2,8 +2,8 @@
 use Rattle.std.specs.Prelude.{◌≡◌, ◌⊎◌, ◌↔◌, ℕ, ◌+◌, ◌%◌, ◌<◌, List, length, map, slice_index_or}
 use Rattle.std.specs.List.{Contains, range_with_len}
 use Rattle.plane.specs.Point.{IsPoint, Point, Triple, whole}
+use Rattle.plane.specs.Triangle.{IsInTriangle}
 use Rattle.plane.specs.Turn.{IsLeft}
-use Rattle.ring_laws.specs.Triangle.{IsInTriangle}
 use Rattle.rings.specs.Inside.{IsIn}
 use Rattle.rings.specs.Ring.{vertex}
 use Rattle.rings.specs.Simple.{IsSimple}
@@ -11,8 +11,8 @@ use Rattle.tri_mesh.specs.Side.{HasSide, HasSideBetween, IsTree, tri_at}
 use Rattle.tri_mesh.specs.declared.tri.Tri.{Tri}
 
 -- a piece of a polygon: some of its vertices, by their numbers, in the order of the piece's boundary; the points of it
-abbrev pub points_of : List Point → List ℕ → List Point
-points_of corners piece = map (λ i. vertex corners i) piece
+abbrev pub piece_points : List Point → List ℕ → List Point
+piece_points corners piece = map (λ i. vertex corners i) piece
 
 -- an edge of the piece goes from vertex i to vertex j
 pub record IsPieceEdge (piece : List ℕ) (i j : ℕ) : Type 0 where
@@ -55,12 +55,12 @@ pub record IsSideOfTwo (tris : List Tri) (i j k l : ℕ) : Type 0 where
 
 -- the triangles fit the piece
 pub record FitsPiece (corners : List Point) (piece : List ℕ) (tris : List Tri) : Type 0 where
-  pub simple : IsSimple (points_of corners piece)
+  pub simple : IsSimple (piece_points corners piece)
   pub count : length tris + 2 ≡ length piece
   pub triangles : (k : ℕ) → k < length tris → IsTriOf corners piece (tri_at tris k)
   pub edges : (i j : ℕ) → IsPieceEdge piece i j → (k : ℕ) × IsSideOfOne tris i j k
   pub inner_sides : (i j k : ℕ) → k < length tris → HasSide (tri_at tris k) i j → ¬ IsPieceEdge piece i j → (l : ℕ) × IsSideOfTwo tris i j k l
-  pub covers : (p : Triple) → IsPoint p → IsIn (points_of corners piece) p ↔ ((k : ℕ) × (k < length tris) × IsInTri corners (tri_at tris k) p)
+  pub covers : (p : Triple) → IsPoint p → IsIn (piece_points corners piece) p ↔ ((k : ℕ) × (k < length tris) × IsInTri corners (tri_at tris k) p)
   pub apart : (p : Triple) → IsPoint p → (k l : ℕ) → k < l → l < length tris
       → ¬ (IsStrictlyInTri corners (tri_at tris k) p × IsStrictlyInTri corners (tri_at tris l) p)
   pub tree : IsTree tris

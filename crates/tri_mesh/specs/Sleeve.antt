@@ -14,7 +14,7 @@ abbrev pub diagonal_at : Sleeve → ℕ → Diagonal
 diagonal_at sleeve i = slice_index_or sleeve.diagonals i (record { left = 0; right = 0 })
 
 -- it is the side on the way from t to u: t has it from its right corner to its left one, and u the other way
-pub record LiesBetween (t u : Tri) (d : Diagonal) : Type 0 where
+pub record IsDiagonalBetween (t u : Tri) (d : Diagonal) : Type 0 where
   pub of_first : HasSide t d.right d.left
   pub of_second : HasSide u d.left d.right
 
@@ -23,4 +23,4 @@ pub record IsOneOf (tris : List Tri) (sleeve : Sleeve) : Type 0 where
   pub walk : IsWalk tris sleeve.walk
   pub count : length sleeve.diagonals + 1 ≡ length sleeve.walk
   pub diagonals : (i : ℕ) → i < length sleeve.diagonals
-      → LiesBetween (tri_at tris (slice_index_or sleeve.walk i 0)) (tri_at tris (slice_index_or sleeve.walk (i + 1) 0)) (diagonal_at sleeve i)
+      → IsDiagonalBetween (tri_at tris (slice_index_or sleeve.walk i 0)) (tri_at tris (slice_index_or sleeve.walk (i + 1) 0)) (diagonal_at sleeve i)

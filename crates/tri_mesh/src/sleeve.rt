@@ -1,6 +1,6 @@
 ghost use Rattle.std.specs.Prelude.{◌≡◌, ◌+◌, ◌-◌, ◌<◌, ◌↔◌, IfOk, IsTrue, Some, length, slice_index_or};
 ghost use Rattle.tri_mesh.specs.Side.{IsWalk, ShareSide, tri_at};
-ghost use Rattle.tri_mesh.specs.Sleeve.{IsOneOf, LiesBetween, diagonal_at};
+ghost use Rattle.tri_mesh.specs.Sleeve.{IsOneOf, IsDiagonalBetween, diagonal_at};
 
 use crate::mesh::Mesh;
 use exact_plane::Memory;
@@ -95,7 +95,7 @@ fn between(mesh: &Mesh, from: u32, to: u32) -> Diagonal
     requires to { to < length mesh.now }
     requires different { ¬ (from ≡ to) }
     requires share { ShareSide (tri_at mesh.now from) (tri_at mesh.now to) }
-    ensures { LiesBetween (tri_at mesh.now from) (tri_at mesh.now to) result }
+    ensures { IsDiagonalBetween (tri_at mesh.now from) (tri_at mesh.now to) result }
 {
     let _count = mesh.count();
     let tri = mesh.tri(from);

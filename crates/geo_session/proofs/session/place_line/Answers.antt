@@ -1,5 +1,5 @@
 use Rattle.std.proofs.Common.{refl}
-use Rattle.geo_session.proofs.Given.{edge_text, inside_text, outside_text}
+use Rattle.geo_session.proofs.PlaceTexts.{edge_text, inside_text, outside_text}
 use Rattle.geo_session.proofs.session.place_line.Goals as goal
 
 pub returns-in-Inside : goal.returns-in-Inside

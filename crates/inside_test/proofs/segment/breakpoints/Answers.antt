@@ -2,7 +2,7 @@ use Rattle.std.proofs.Common.{◌≡◌, length, subst, arith}
 use Rattle.plane.proofs.Same.{whole_is_point}
 use Rattle.plane.specs.Point.{whole}
 use Rattle.inside_test.proofs.PointLists.{lists_more, lists_start}
-use Rattle.inside_test.specs.Breakpoints.{ListsMeetings, points_of}
+use Rattle.inside_test.specs.Breakpoints.{ListsMeetings, breakpoint_points}
 use Rattle.inside_test.proofs.segment.breakpoints.Goals as goal
 
 pub loop-i-init : goal.loop-i-init
@@ -10,16 +10,16 @@ loop-i-init g c =
     let first = rw (c.new-points.ensures.items, c.of_pt.ensures.point) at c.in_ok-push.ensures.ok in
     let second = rw c.of_pt-2.ensures.point at c.in_ok-push-2.ensures.ok in
     lists_start c.args.ring.now.corners (whole c.args.a.now) (whole c.args.b.now) (whole_is_point c.args.a.now) (whole_is_point c.args.b.now)
-    (points_of c.push.new.points.items) (points_of c.push-2.new.points.items) first second
+    (breakpoint_points c.push.new.points.items) (breakpoint_points c.push-2.new.points.items) first second
 
 pub loop-i-preserved : goal.loop-i-preserved
 loop-i-preserved g c =
     let here = rw (c.corner-c.ensures, c.next_corner-d.ensures) at c.in_ok-push_meetings.ensures.enclosed in
-    lists_more c.args.ring.now.corners (whole c.args.a.now) (whole c.args.b.now) c.loop-i.i (points_of c.loop-i.points.items)
-    (points_of c.push_meetings.new.points.items) c.loop-i.invariant c.in_ok-push_meetings.ensures.extends here
+    lists_more c.args.ring.now.corners (whole c.args.a.now) (whole c.args.b.now) c.loop-i.i (breakpoint_points c.loop-i.points.items)
+    (breakpoint_points c.push_meetings.new.points.items) c.loop-i.invariant c.in_ok-push_meetings.ensures.extends here
 
 pub returns : goal.returns
 returns g c =
     let ring = c.args.ring.now.corners in
     let all : c.loop-i.i ≡ length ring = omega arith in
-    subst (λ n. ListsMeetings ring n (whole c.args.a.now) (whole c.args.b.now) (points_of c.loop-i.points.items)) all c.loop-i.invariant
+    subst (λ n. ListsMeetings ring n (whole c.args.a.now) (whole c.args.b.now) (breakpoint_points c.loop-i.points.items)) all c.loop-i.invariant

@@ -2,7 +2,7 @@ use Rattle.std.proofs.Common.{length, rules}
 use Rattle.std.proofs.lemmas.List.Sorted.{IsPermutation-map}
 use Rattle.inside_test.proofs.Neighbours.{lists_permuted, sees_by_list}
 use Rattle.inside_test.proofs.Sorting.{sorted_points}
-use Rattle.inside_test.specs.Breakpoints.{points_of}
+use Rattle.inside_test.specs.Breakpoints.{breakpoint_points}
 use Rattle.plane.proofs.Same.{whole_is_point}
 use Rattle.plane.specs.Point.{whole}
 use Rattle.inside_test.proofs.segment.holds_segment.Goals as goal
@@ -15,7 +15,7 @@ returns g c =
     let old = c.in_ok-points.points.items in
     let new = c.sort_unstable_by.new.self.items in
     let moved = IsPermutation-map (λ k. k.point) old new c.sort_unstable_by.ensures.permutation in
-    let lists = lists_permuted ring (length ring) a b (points_of old) (points_of new) moved c.in_ok-points.ensures in
+    let lists = lists_permuted ring (length ring) a b (breakpoint_points old) (breakpoint_points new) moved c.in_ok-points.ensures in
     let sorted = sorted_points new c.sort_unstable_by.ensures.sorted (λ p r f' k. search rules) in
     let law = sees_by_list ring a b new lists sorted (whole_is_point c.args.a.now) (whole_is_point c.args.b.now) in
     let mediants = rw c.deref.ensures.value at c.holds_mediants.ensures in

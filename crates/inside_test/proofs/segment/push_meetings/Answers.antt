@@ -5,7 +5,7 @@ use Rattle.plane.specs.Line.{cross_product}
 use Rattle.plane.specs.Point.{whole}
 use Rattle.inside_test.proofs.Meetings.{encloses_crossing, encloses_parallel, meeting_on_first}
 use Rattle.inside_test.proofs.PointLists.{extends_pushed, extends_trans, on_ok}
-use Rattle.inside_test.specs.Breakpoints.{EnclosesAll, points_of}
+use Rattle.inside_test.specs.Breakpoints.{EnclosesAll, breakpoint_points}
 use Rattle.inside_test.proofs.segment.push_meetings.Goals as goal
 
 pub returns-in-Some : goal.returns-in-Some
@@ -13,8 +13,8 @@ returns-in-Some g c =
     let a = c.args.a.now in
     let b = c.args.b.now in
     let m = c.in-Some.m in
-    let old = points_of c.args.points.now.items in
-    let new = points_of c.push.new.points.items in
+    let old = breakpoint_points c.args.points.now.items in
+    let new = breakpoint_points c.push.new.points.items in
     let at_m = c.push.ensures.rational in
     let crossing : cross_product a b c.args.c.now c.args.d.now ≢ pos 0 = λ e. cc (c.in-Some.ensures.none.1 e) in
     let first = c.in-Some.ensures.on_first in
@@ -32,9 +32,9 @@ pub returns-in_ok-push_if_on-in-None : goal.returns-in_ok-push_if_on-in-None
 returns-in_ok-push_if_on-in-None g c =
     let a = c.args.a.now in
     let b = c.args.b.now in
-    let old = points_of c.args.points.now.items in
-    let between = points_of c.push_if_on.new.points.items in
-    let new = points_of c.push_if_on-in-None.new.points.items in
+    let old = breakpoint_points c.args.points.now.items in
+    let between = breakpoint_points c.push_if_on.new.points.items in
+    let new = breakpoint_points c.push_if_on-in-None.new.points.items in
     let parallel = c.in-None.ensures.none.0 refl in
     let first = c.push_if_on.ensures.extends in
     let second = c.push_if_on-in-None.ensures.extends in

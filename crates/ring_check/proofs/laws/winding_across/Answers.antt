@@ -1,4 +1,4 @@
-use Rattle.rings.proofs.ClosedLaw.{winding_law_crossed}
+use Rattle.crossing_laws.proofs.ClosedLaw.{winding_law_crossed}
 use Rattle.rings.proofs.Edges.{closed_edges_of}
 use Rattle.ring_check.proofs.laws.winding_across.Goals as goal
 

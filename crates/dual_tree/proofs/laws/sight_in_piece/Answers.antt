@@ -1,5 +1,0 @@
-use Rattle.dual_tree.proofs.SightLaw.{piece_sleeve_law}
-use Rattle.dual_tree.proofs.laws.sight_in_piece.Goals as goal
-
-pub returns : goal.returns
-returns c = piece_sleeve_law

@@ -1,0 +1,5 @@
+use Rattle.geo.proofs.run.geo_main.Given as goal
+
+-- the counter is over the new ledger
+abbrev pub ghosts-answer_script : goal.ghosts-answer_script
+ghosts-answer_script g a = record { name = a.blank.name; parts = a.blank.parts }

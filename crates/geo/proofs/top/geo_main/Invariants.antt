@@ -1,5 +1,0 @@
-use Rattle.geo.proofs.top.geo_main.Given as goal
-
--- the counter is over the new ledger
-abbrev pub ghosts-answer_script : goal.ghosts-answer_script
-ghosts-answer_script g a = record { name = a.blank.name; parts = a.blank.parts }

@@ -1,0 +1,161 @@
+ghost use Rattle.std.specs.Prelude.{◌≡◌, ◌≢◌, ◌<◌, ◌≤◌, ◌⊎◌, ◌↔◌, ℕ, [], List, Ok, Err, IsOk, IfOk, IfSome, OnOk, OnErr, length};
+ghost use Rattle.std.specs.Io.KnownBytes.{Keeps};
+ghost use Rattle.geo_io.specs.Counts.{Rose};
+ghost use Rattle.geo_io.specs.Transfers.{GivesMoreThan};
+ghost use Rattle.geo_session.specs.Answer.{AppendsReadingAnswer};
+ghost use Rattle.geo_text.specs.Reading.{IsWellSized};
+ghost use Rattle.geo.specs.Fault.{fault_of, status_of};
+ghost use Rattle.geo.specs.Run.{AfterReading, WritesFirst, WritesFirstAndFront, WritesOutput};
+ghost use Rattle.geo.specs.declared.run.RunFault.TheVariants.{WriteFault, Memory as OutOfMemory};
+
+use exact_plane::{Memory, Steps};
+use geo_io::{Failed, ReadEnd, Sink, Source, read_all, write_all};
+use geo_session::Session;
+use geo_text::{Bad, Command, Script, put_bad};
+use std::alloc::Global;
+use std::marker::Brand;
+use std::sync::ledger::{Blank, Ledger};
+
+/// The most bytes of a script.
+pub const MAX_SCRIPT: usize = 8_388_608;
+
+/// Why a run stopped before its end.
+#[derive(Clone, Copy, Debug, PartialEq, Eq)]
+pub enum RunFault {
+    /// The words of the command line aren't taken. Nothing is read or written.
+    Usage,
+    /// The source failed. Nothing is written.
+    ReadFault,
+    /// The source gave more than 8,388,608 bytes. Nothing is written.
+    TooLong,
+    /// The sink failed. The answers to the records before were written, and maybe the front of one more.
+    WriteFault,
+    /// An allocation was refused. The answers to the records before were written.
+    Memory,
+}
+
+impl RunFault {
+    /// The status that the program ends with.
+    pub fn status(self) -> u8
+        ensures { result ≡ status_of self }
+    {
+        match self {
+            RunFault::Usage => 1,
+            RunFault::ReadFault => 2,
+            RunFault::TooLong => 3,
+            RunFault::WriteFault => 4,
+            RunFault::Memory => 5,
+        }
+    }
+}
+
+/// Reads the whole script, then answers one record after another. The answer to a record is written whole before the
+/// next is answered. No word of a command line is taken yet.
+pub fn geo_main<S: Source, K: Sink>(
+    alloc: Global,
+    words: &[String],
+    source: &mut S,
+    sink: &mut K,
+) -> Result<(), RunFault>
+    // The headline: whatever the script, the defined output is written, and only these faults stop it.
+    ensures ok { OnOk result (AfterReading (S.left source.old) (S.left source.new) (λ bytes. WritesOutput bytes (K.taken sink.old) (K.taken sink.new))) }
+    ensures counts { OnOk result ((S.faults source.new ≡ S.faults source.old) × (K.faults sink.new ≡ K.faults sink.old)) }
+
+    ensures usage { (result ≡ Err RunFault.Usage) ↔ (words.now ≢ []) }
+    ensures unread { result ≡ Err RunFault.Usage → (source.new ≡ source.old) × (sink.new ≡ sink.old) }
+
+    ensures read_fault { result ≡ Err RunFault.ReadFault → Rose (S.faults source.old) (S.faults source.new) × (sink.new ≡ sink.old) }
+    ensures too_long { result ≡ Err RunFault.TooLong → GivesMoreThan 8388608 (S.left source.old) (S.left source.new)
+        × (S.faults source.new ≡ S.faults source.old) × (sink.new ≡ sink.old) }
+    ensures write_fault { result ≡ Err RunFault.WriteFault → Rose (K.faults sink.old) (K.faults sink.new)
+        × AfterReading (S.left source.old) (S.left source.new) (λ bytes. WritesFirstAndFront bytes (K.taken sink.old) (K.taken sink.new)) }
+    ensures memory { result ≡ Err RunFault.Memory → (sink.new ≡ sink.old)
+        ⊎ AfterReading (S.left source.old) (S.left source.new) (λ bytes. WritesFirst bytes (K.taken sink.old) (K.taken sink.new)) }
+
+    // Where the bytes are known and no fault comes, the length alone decides, want of memory aside.
+    ensures complete { words.now ≡ [] → ¬ (Rose (S.faults source.old) (S.faults source.new)) → ¬ (Rose (K.faults sink.old) (K.faults sink.new)) →
+        IfSome (S.left source.old) (λ bytes. length bytes ≤ 8388608 → IsOk result ⊎ (result ≡ Err RunFault.Memory)) }
+    ensures long { words.now ≡ [] → ¬ (Rose (S.faults source.old) (S.faults source.new)) →
+        IfSome (S.left source.old) (λ bytes. 8388608 < length bytes → (result ≡ Err RunFault.TooLong) ⊎ (result ≡ Err RunFault.Memory)) }
+{
+    if !words.is_empty() {
+        return Err(RunFault::Usage);
+    }
+    let bytes = read_all(alloc, source, MAX_SCRIPT)?;
+    answer_script::<K, Brand>(alloc, &bytes, sink, Blank::new(1))
+}
+
+// Answers the records of a script in turn, each as soon as it is read.
+fn answer_script<K: Sink, L: Ledger>(
+    alloc: Global,
+    bytes: &[u8],
+    sink: &mut K,
+    blank: Blank,
+) -> Result<(), RunFault>
+    requires name { blank.name ≡ L.name }
+    requires parts { blank.parts ≡ L.parts }
+    requires countable { 0 < blank.parts }
+
+    ensures ok { OnOk result (WritesOutput bytes.now (K.taken sink.old) (K.taken sink.new)) }
+    ensures counts { OnOk result (K.faults sink.new ≡ K.faults sink.old) }
+    ensures write_fault { result ≡ Err RunFault.WriteFault → Rose (K.faults sink.old) (K.faults sink.new)
+        × WritesFirstAndFront bytes.now (K.taken sink.old) (K.taken sink.new) }
+    ensures memory { result ≡ Err RunFault.Memory → WritesFirst bytes.now (K.taken sink.old) (K.taken sink.new) }
+    ensures only { OnErr result ((result ≡ Err RunFault.WriteFault) ⊎ (result ≡ Err RunFault.Memory)) }
+{
+    let mut steps = Steps::<L>::new(blank);
+    let mut script = Script::open(alloc, bytes);
+    let mut session = Session::new();
+    let mut out = Vec::new(alloc);
+    'records: while let Some(reading) = script.next_command()? {
+        answer(alloc, &mut session, reading, &mut out, &mut steps)?;
+        write_all(sink, &out)?;
+        out.clear();
+    }
+    Ok(())
+}
+
+// Appends the answer to a record that was read.
+fn answer<L: Ledger>(
+    alloc: Global,
+    session: &mut Session,
+    reading: Result<Command, Bad>,
+    out: &mut Vec<u8>,
+    steps: &mut Steps<L>,
+) -> Result<(), Memory>
+    requires { IfOk reading IsWellSized }
+    ensures { OnOk result (AppendsReadingAnswer session.old reading out.old.items out.new.items session.new) }
+{
+    match reading {
+        Ok(command) => session.answer(alloc, command, out, steps),
+        Err(bad) => put_bad(out, &bad),
+    }
+}
+
+impl From<ReadEnd> for RunFault {
+    ghost from_gives = { λ end fault. fault ≡ fault_of end };
+
+    fn from(end: ReadEnd) -> RunFault {
+        match end {
+            ReadEnd::Fault => RunFault::ReadFault,
+            ReadEnd::TooLong => RunFault::TooLong,
+            ReadEnd::Memory => RunFault::Memory,
+        }
+    }
+}
+
+impl From<Memory> for RunFault {
+    ghost from_gives = { λ _ fault. fault ≡ OutOfMemory };
+
+    fn from(_: Memory) -> RunFault {
+        RunFault::Memory
+    }
+}
+
+impl From<Failed> for RunFault {
+    ghost from_gives = { λ _ fault. fault ≡ WriteFault };
+
+    fn from(_: Failed) -> RunFault {
+        RunFault::WriteFault
+    }
+}

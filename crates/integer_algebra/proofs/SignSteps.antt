@@ -1,0 +1,102 @@
+-- Small steps on signs, so that no tactic need read the large terms whose signs they are, and the signs of means.
+use Rattle.std.proofs.Common.{◌≡◌, ap, ℕ, ℤ, pos, ◌+ℤ◌, ◌*ℤ◌, neg_ℤ, ◌<ℤ◌, ◌≤ℤ◌, arith}
+use Rattle.std.proofs.lemmas.Int.{ints}
+use Rattle.integer_algebra.proofs.Laws.{mul-neg, mul-zero}
+use Rattle.integer_algebra.proofs.Signs.{cancel_equal, factor_negative, factor_nonnegative, factor_nonpositive, factor_positive, mul_nonnegative}
+use Rattle.integer_algebra.proofs.Signs.{mul_nonpositive}
+use Rattle.integer_algebra.proofs.Weights.{weighted_positive}
+
+-- ---- one number
+
+-- a positive number is 0 or more
+pub weak : {z : ℤ} → pos 0 <ℤ z → pos 0 ≤ℤ z
+weak h = omega (arith, ints)
+
+-- 0 is neither positive
+pub zero_not_positive : {z : ℤ} → z ≡ pos 0 → z ≤ℤ pos 0
+zero_not_positive e = omega (arith, ints)
+
+-- nor negative
+pub zero_not_negative : {z : ℤ} → z ≡ pos 0 → pos 0 ≤ℤ z
+zero_not_negative e = omega (arith, ints)
+
+-- a positive number is not negative,
+pub positive_not_negative : {z : ℤ} → pos 0 <ℤ z → ¬ (z <ℤ pos 0)
+positive_not_negative h k = omega (arith, ints)
+
+-- nor 0,
+pub positive_not_zero : {z : ℤ} → pos 0 <ℤ z → ¬ (z ≡ pos 0)
+positive_not_zero h e = omega (arith, ints)
+
+-- and a negative one is not 0
+pub negative_not_zero : {z : ℤ} → z <ℤ pos 0 → ¬ (z ≡ pos 0)
+negative_not_zero h e = omega (arith, ints)
+
+-- no number is negative and not,
+pub not_both : {z : ℤ} → z <ℤ pos 0 → pos 0 ≤ℤ z → ⊥
+not_both h k = omega (arith, ints)
+
+-- nor positive and not
+pub not_both_positive : {z : ℤ} → pos 0 <ℤ z → z ≤ℤ pos 0 → ⊥
+not_both_positive h k = omega (arith, ints)
+
+-- 1 is positive
+pub one_positive : pos 0 <ℤ pos 1
+one_positive = omega (arith, ints)
+
+-- a natural number is not negative
+pub natural_not_negative : (n : ℕ) → pos 0 ≤ℤ pos n
+natural_not_negative n = omega (arith, ints)
+
+-- ---- opposites
+
+-- the opposite of a negative number is positive
+pub opposite_positive : {z : ℤ} → z <ℤ pos 0 → pos 0 <ℤ neg_ℤ z
+opposite_positive h = omega (arith, ints)
+
+-- of one that is not positive, it is not negative
+pub opposite_not_negative : {z : ℤ} → z ≤ℤ pos 0 → pos 0 ≤ℤ neg_ℤ z
+opposite_not_negative h = omega (arith, ints)
+
+-- of one that is not negative, it is not positive
+pub opposite_not_positive : {z : ℤ} → pos 0 ≤ℤ z → neg_ℤ z ≤ℤ pos 0
+opposite_not_positive h = omega (arith, ints)
+
+-- the opposite of a negative number, where it is written otherwise
+pub turned_positive : {d e : ℤ} → e ≡ neg_ℤ d → d <ℤ pos 0 → pos 0 <ℤ e
+turned_positive e h = omega (arith, ints)
+
+-- the opposite of a positive one
+pub turned_negative : {d e : ℤ} → e ≡ neg_ℤ d → pos 0 <ℤ d → e <ℤ pos 0
+turned_negative e h = omega (arith, ints)
+
+-- ---- a mean z of two numbers f and g, with the weights l and m
+
+module _ (k l m z f g : ℤ) (hk : pos 0 <ℤ k) (hl : pos 0 ≤ℤ l) (hm : pos 0 ≤ℤ m) (e : k *ℤ z ≡ l *ℤ f +ℤ m *ℤ g) where
+  -- it is not positive where neither of them is,
+  pub mean_not_positive : f ≤ℤ pos 0 → g ≤ℤ pos 0 → z ≤ℤ pos 0
+  mean_not_positive hf hg =
+      factor_nonpositive k z hk (omega (arith, ints, e, mul_nonpositive l f hl hf, mul_nonpositive m g hm hg))
+
+  -- not negative where neither of them is,
+  pub mean_not_negative : pos 0 ≤ℤ f → pos 0 ≤ℤ g → pos 0 ≤ℤ z
+  mean_not_negative hf hg =
+      factor_nonnegative k z hk (omega (arith, ints, e, mul_nonnegative l f hl hf, mul_nonnegative m g hm hg))
+
+  -- 0 where both are,
+  pub mean_zero : f ≡ pos 0 → g ≡ pos 0 → z ≡ pos 0
+  mean_zero ef eg =
+      let no_first = ap (λ n. l *ℤ n) ef in
+      let no_second = ap (λ n. m *ℤ n) eg in
+      cancel_equal z (pos 0) k hk (omega (arith, ints, e, no_first, no_second, mul-zero l, mul-zero m, mul-zero k))
+
+  module _ (some : pos 0 <ℤ (l +ℤ m)) where
+    -- positive where both are, and a weight is not 0,
+    pub mean_positive : pos 0 <ℤ f → pos 0 <ℤ g → pos 0 <ℤ z
+    mean_positive hf hg = factor_positive k z hk (omega (arith, ints, e, weighted_positive l m hl hm some f g hf hg))
+
+    -- and negative where both are
+    pub mean_negative : f <ℤ pos 0 → g <ℤ pos 0 → z <ℤ pos 0
+    mean_negative hf hg =
+        let rest = weighted_positive l m hl hm some (neg_ℤ f) (neg_ℤ g) (opposite_positive hf) (opposite_positive hg) in
+        factor_negative k z hk (omega (arith, ints, e, rest, mul-neg l f, mul-neg m g))

@@ -1,0 +1,2 @@
+//! Triangulations of two pieces that are joined along a diagonal, as laws. There is no code here.
+#![tactic(auto)]

@@ -1,0 +1,2 @@
+//! Rings that a segment cuts into two pieces, as laws. There is no code here.
+#![tactic(auto)]
