@@ -51,6 +51,12 @@ def saw(n):
     return [(0, 0), (width // 2, -1), (width, 0)] + [(x, 2 - x % 2) for x in reversed(range(width + 1))]
 
 
+def vertices(ring, count):
+    """Vertices of a ring at random."""
+    draw = random.Random(count)
+    return [draw.choice(ring) for _ in range(count)]
+
+
 def places(ring, count):
     """Points at random in the box round a ring."""
     draw = random.Random(count)

@@ -59,7 +59,7 @@ fn output(alloc: Global, script: &[u8]) -> Result<Vec<u8>, Memory> {
 #[test]
 #[rattlefmt::skip]
 fn worked_scripts(rt: HostRuntime) -> Result<(), Fail> {
-    let rows: [(&str, &[u8], &[u8]); 22] = [
+    let rows: [(&str, &[u8], &[u8]); 26] = [
         ("an L", b"polygon,0,0,4,0,4,2,2,2,2,4,0,4\n", b"polygon,6\n"),
         ("nothing", b"", b""),
         ("a bow tie", b"polygon,0,0,4,4,4,0,0,4\n", b"bad,clash,0,2\n"),
@@ -88,6 +88,14 @@ fn worked_scripts(rt: HostRuntime) -> Result<(), Fail> {
             b"polygon,6\ntaut\nnot,straight,1\nnot,leaves,0\nnot,not_reflex,1\nnot,wrong_side,1\n"),
         ("refusals of check", b"check\ncheck,1,1\npolygon,0,0,4,0,4,2,2,2,2,4,0,4\ncheck\ncheck,1\ncheck,1,x\ncheck,1,1000001\n",
             b"bad,few\nbad,no_polygon\npolygon,6\nbad,few\nbad,fields\nbad,number,2\nbad,range,2\n"),
+        ("paths in an L", b"polygon,0,0,4,0,4,2,2,2,2,4,0,4\npath,4,1,1,4\npath,1,4,4,1\npath,0,0,0,0\npath,0,0,4,1\npath,4,2,2,4\n",
+            b"polygon,6\npath,3,4,1,2,2,1,4\npath,3,1,4,2,2,4,1\npath,1,0,0\npath,2,0,0,4,1\npath,3,4,2,2,2,2,4\n"),
+        ("paths in an L that runs clockwise", b"polygon,0,4,2,4,2,2,4,2,4,0,0,0\npath,4,1,1,4\npath,0,0,0,0\npath,9,9,0,0\n",
+            b"polygon,6\npath,3,4,1,2,2,1,4\npath,1,0,0\nbad,outside,1\n"),
+        ("ends of a path outside an L", b"polygon,0,0,4,0,4,2,2,2,2,4,0,4\npath,9,9,0,0\npath,0,0,9,9\npath,9,9,3,3\npath,3,3,3,3\n",
+            b"polygon,6\nbad,outside,1\nbad,outside,2\nbad,outside,1\nbad,outside,1\n"),
+        ("refusals of path", b"path,0,0,1,1\npath,0,0,1\npath,0,0,1,x\npath,0,0,1,1000001\n",
+            b"bad,no_polygon\nbad,fields\nbad,number,4\nbad,range,4\n"),
         ("an open quote", b"\"frob,1", b"bad,word\n"),
     ];
     for (name, script, want) in rows {

@@ -1,14 +1,15 @@
 -- What each command answers, and the state that it leaves. This project's own.
-use Rattle.std.specs.Prelude.{◌≡◌, ℕ, ◌⊎◌, ◌++◌, List, length, codes, Option, Some, None, Result, Ok, Err}
-use Rattle.geo_text.specs.Texts.{bad_text, index_text}
+use Rattle.std.specs.Prelude.{◌≡◌, ℕ, ◌⊎◌, ◌++◌, List, [], ◌∷◌, length, codes, Option, Some, None, Result, Ok, Err}
+use Rattle.plane.specs.Point.{Point, whole}
+use Rattle.rings.specs.Chain.{IsTaut}
+use Rattle.rings.specs.Edge.{IsOnSome, edges_of}
+use Rattle.rings.specs.Inside.{IsIn}
+use Rattle.rings.specs.Simple.{IsLeastClash, IsSimple}
+use Rattle.geo_text.specs.Texts.{bad_text, index_text, pt_text}
 use Rattle.geo_text.specs.declared.command.Bad.{Bad}
 use Rattle.geo_text.specs.declared.command.Bad.TheVariants as bad
 use Rattle.geo_text.specs.declared.command.Command.{Command}
 use Rattle.geo_text.specs.declared.command.Command.TheVariants as command
-use Rattle.plane.specs.Point.{Point, whole}
-use Rattle.rings.specs.Edge.{IsOnSome, edges_of}
-use Rattle.rings.specs.Inside.{IsIn}
-use Rattle.rings.specs.Simple.{IsLeastClash, IsSimple}
 use Rattle.taut_check.specs.Verdict.{IsVerdict}
 use Rattle.taut_check.specs.declared.verdict.Verdict.{Verdict}
 use Rattle.taut_check.specs.declared.verdict.Verdict.TheVariants as verdict
@@ -71,11 +72,37 @@ abbrev pub IsCheckText : State → List Point → List ℕ → Type 0
 IsCheckText None points text = text ≡ bad_text bad.NoPolygon
 IsCheckText (Some ring) points text = TellsVerdict ring points text
 
+-- the line of some points: how many there are, and then each
+abbrev pub points_text : List Point → List ℕ
+points_text [] = []
+points_text (p ∷ points) = pt_text p ++ points_text points
+
+abbrev pub path_text : List Point → List ℕ
+path_text points = codes "path" ++ index_text (length points) ++ points_text points ++ codes "\n"
+
+-- the text is the line of a taut chain from s to t
+pub record TellsPath (ring : List Point) (s t : Point) (text : List ℕ) : Type 0 where
+  pub points : List Point
+  pub taut : IsTaut ring s t points
+  pub told : text ≡ path_text points
+
+-- the first of the two points that is not in the polygon is named, or else a taut chain between them is told
+pub data IsPathIn (ring : List Point) (s t : Point) (text : List ℕ) : Type 0 where
+  first_outside : ¬ IsIn ring (whole s) → text ≡ bad_text (bad.Outside 1) → IsPathIn ring s t text
+  second_outside : IsIn ring (whole s) → ¬ IsIn ring (whole t) → text ≡ bad_text (bad.Outside 2) → IsPathIn ring s t text
+  found : IsIn ring (whole s) → IsIn ring (whole t) → TellsPath ring s t text → IsPathIn ring s t text
+
+-- so it is if there is a polygon
+abbrev pub IsPathText : State → Point → Point → List ℕ → Type 0
+IsPathText None s t text = text ≡ bad_text bad.NoPolygon
+IsPathText (Some ring) s t text = IsPathIn ring s t text
+
 -- the text is the command's answer in the state before, and leaves the state after
 abbrev pub IsAnswer : State → Command → List ℕ → State → Type 0
 IsAnswer before (command.Polygon ring) text after = AcceptsPolygon before ring text after ⊎ RefusesPolygon before ring text after
 IsAnswer before (command.Inside p) text after = IsInsideText before p text × (after ≡ before)
 IsAnswer before (command.Check points) text after = IsCheckText before points text × (after ≡ before)
+IsAnswer before (command.Path s t) text after = IsPathText before s t text × (after ≡ before)
 
 -- the same of a record that is read as a command or as a refusal; a refused record gives its line and keeps the state
 abbrev pub IsReadingAnswer : State → Result Command Bad → List ℕ → State → Type 0

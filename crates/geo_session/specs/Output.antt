@@ -1,8 +1,8 @@
 -- What is written for a whole script. This project's own.
 use Rattle.std.specs.Prelude.{◌≡◌, ℕ, List, [], ◌∷◌, ◌++◌, None}
-use Rattle.geo_session.specs.Answer.{IsReadingAnswer, State}
 use Rattle.geo_text.specs.Reading.{reading_of}
 use Rattle.geo_text.specs.Records.{records_of}
+use Rattle.geo_session.specs.Answer.{IsReadingAnswer, State}
 
 -- the first record's answer, and then the rest
 pub record AnswersFirst (Rest : State → List ℕ → Type 0) (before : State) (fields : List (List ℕ)) (text : List ℕ) : Type 0 where

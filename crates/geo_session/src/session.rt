@@ -1,9 +1,14 @@
-ghost use Rattle.std.specs.Prelude.{◌≡◌, ◌≤◌, ◌++◌, length, take, OnOk, OnErr};
+ghost use Rattle.std.specs.Prelude.{◌≡◌, ◌+◌, ◌*◌, ◌≤◌, ◌++◌, length, take, Some, IfOk, OnOk, OnErr};
 ghost use Rattle.geo_session.specs.Answer.{AppendsAnswer, IsPlaceText, polygon_text};
+ghost use Rattle.geo_session.specs.Path.{IsChainAnswer, TakesPathSteps, size_of};
+ghost use Rattle.plane.specs.Point.{Point};
 ghost use Rattle.ring_check.specs.Oriented.{given_of};
 ghost use Rattle.geo_text.specs.Reading.{IsWellSized};
 
+use crate::held::Held;
 use crate::judgement::put_judgement;
+use crate::paths::put_path;
+use cut_tri::triangulate;
 use exact_plane::{Memory, Pt, Steps};
 use geo_text::{Bad, Command, Points, put_bad, put_index, put_line_end, put_word};
 use inside_test::{Position, place};
@@ -16,11 +21,6 @@ use std::sync::ledger::Ledger;
 #[derive(Drop)]
 pub struct Session {
     held: Option<Held>,
-}
-
-#[derive(Drop)]
-struct Held {
-    ring: Ring,
 }
 
 impl Model for Session {
@@ -41,7 +41,26 @@ impl Session {
         Session { held: None }
     }
 
-    /// Appends the command's answer and takes the new state. After want of memory the session and `out` are as before.
+    /// The taut chain from one point to another, or why there is none. It takes all its memory before the walk.
+    pub fn chain<L: Ledger>(
+        &self,
+        alloc: Global,
+        s: &Pt,
+        t: &Pt,
+        steps: &mut Steps<L>,
+    ) -> Result<Result<Vec<Pt>, Bad>, Memory>
+        ensures answer { IfOk result (IsChainAnswer self.now s.now t.now) }
+        ensures few { IfOk result (λ found. IfOk found (λ points. length points.items ≤ 4097)) }
+        ensures steps { steps.new ≤ steps.old + 12 * size_of self.now }
+    {
+        match &self.held {
+            Some(held) => held.chain(alloc, s, t, steps),
+            None => Ok(Err(Bad::NoPolygon)),
+        }
+    }
+
+    /// Appends the command's answer and takes the new state. After want of memory the session and `out` are as before. A
+    /// path takes at most 16 steps for each vertex of the polygon, and 64 for each point that is written.
     pub fn answer<L: Ledger>(
         &mut self,
         alloc: Global,
@@ -53,6 +72,8 @@ impl Session {
         ensures ok { OnOk result (AppendsAnswer self.old command out.old.items out.new.items self.new) }
         ensures same_session { OnErr result (self.new ≡ self.old) }
         ensures same_out { OnErr result (out.new.items ≡ out.old.items) }
+        ensures path_steps { (s t : Point) → command ≡ Command.Path s t
+            → OnOk result (TakesPathSteps self.old out.old.items out.new.items steps.old steps.new) }
     {
         let start = out.len();
         let put = self.put_answer(alloc, command, out, steps);
@@ -74,16 +95,20 @@ impl Session {
         ensures ok { OnOk result (AppendsAnswer self.old command out.old.items out.new.items self.new) }
         ensures same_session { OnErr result (self.new ≡ self.old) }
         ensures front { OnErr result (take (length out.old.items) out.new.items ≡ out.old.items) }
+        ensures path_steps { (s t : Point) → command ≡ Command.Path s t
+            → OnOk result (TakesPathSteps self.old out.old.items out.new.items steps.old steps.new) }
     {
         match command {
-            Command::Polygon(points) => self.answer_polygon(points, out, steps),
+            Command::Polygon(points) => self.answer_polygon(alloc, points, out, steps),
             Command::Inside(point) => self.answer_inside(&point, out, steps),
             Command::Check(points) => self.answer_check(alloc, points.as_slice(), out, steps),
+            Command::Path(s, t) => self.answer_path(alloc, &s, &t, out, steps),
         }
     }
 
     fn answer_polygon<L: Ledger>(
         &mut self,
+        alloc: Global,
         points: Points,
         out: &mut Vec<u8>,
         steps: &mut Steps<L>,
@@ -94,14 +119,29 @@ impl Session {
         ensures front { OnErr result (take (length out.old.items) out.new.items ≡ out.old.items) }
     {
         match Ring::of(points.into_vec(), steps) {
-            Ok(ring) => {
-                put_polygon(out, ring.len())?;
-                self.held = Some(Held { ring });
-                Ok(())
-            }
+            Ok(ring) => self.accept(alloc, ring, out, steps),
             Err(RingFault::Clash(i, j)) => put_bad(out, &Bad::Clash(i, j)),
             Err(RingFault::Few | RingFault::Many) => unreachable!(),
         }
+    }
+
+    // Appends the line of an accepted polygon, and holds it in the place of the one before.
+    fn accept<L: Ledger>(
+        &mut self,
+        alloc: Global,
+        ring: Ring,
+        out: &mut Vec<u8>,
+        steps: &mut Steps<L>,
+    ) -> Result<(), Memory>
+        ensures line { OnOk result (out.new.items ≡ out.old.items ++ polygon_text (length ring.corners)) }
+        ensures held { OnOk result (self.new ≡ Some (given_of ring)) }
+        ensures same_session { OnErr result (self.new ≡ self.old) }
+        ensures front { OnErr result (take (length out.old.items) out.new.items ≡ out.old.items) }
+    {
+        put_polygon(out, ring.len())?;
+        let mesh = triangulate(alloc, &ring, steps)?;
+        self.held = Some(Held { ring, mesh });
+        Ok(())
     }
 
     fn answer_inside<L: Ledger>(
@@ -134,6 +174,24 @@ impl Session {
             return put_bad(out, &Bad::NoPolygon);
         };
         put_judgement(alloc, out, &held.ring, points, steps)
+    }
+
+    fn answer_path<L: Ledger>(
+        &self,
+        alloc: Global,
+        s: &Pt,
+        t: &Pt,
+        out: &mut Vec<u8>,
+        steps: &mut Steps<L>,
+    ) -> Result<(), Memory>
+        ensures ok { OnOk result (AppendsAnswer self.now (Command.Path s.now t.now) out.old.items out.new.items self.now) }
+        ensures front { OnErr result (take (length out.old.items) out.new.items ≡ out.old.items) }
+        ensures path_steps { OnOk result (TakesPathSteps self.now out.old.items out.new.items steps.old steps.new) }
+    {
+        match self.chain(alloc, s, t, steps)? {
+            Ok(points) => put_path(out, &points, steps),
+            Err(bad) => put_bad(out, &bad),
+        }
     }
 }
 

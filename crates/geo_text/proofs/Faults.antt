@@ -1,10 +1,11 @@
 -- Faults of a list of fields, from a place on.
-use Rattle.std.proofs.Common.{◌≡◌, ◌≤◌, ◌<◌, ◌+◌, ℕ, zero, suc, Bool, true, false, Option, Some, None, List, [], ◌∷◌, length, drop, get_or, if◌then◌else◌, refl, arith}
-use Rattle.std.proofs.lemmas.List.{at_drop_more}
+use Rattle.std.proofs.Common.{◌≡◌, ◌≤◌, ◌<◌, ◌+◌, ◌==◌, ℕ, zero, suc, Bool, true, false, Option, Some, None, List, [], ◌∷◌, length, drop, get_or, if◌then◌else◌, refl, arith}
+use Rattle.std.proofs.lemmas.Bool.Decides.{nat_tests}
+use Rattle.std.proofs.lemmas.List.{at_drop_more, length-drop}
 use Rattle.std.specs.Option.{option_or}
 use Rattle.geo_text.specs.Capped.{IsCoordinate}
 use Rattle.geo_text.specs.Number.{is_coordinate, is_number}
-use Rattle.geo_text.specs.Reading.{first_failing, first_fault, number_fault}
+use Rattle.geo_text.specs.Reading.{first_failing, first_fault, fixed_fault, number_fault}
 use Rattle.geo_text.specs.declared.command.Bad.{Bad}
 use Rattle.geo_text.specs.declared.command.Bad.TheVariants as bad
 
@@ -27,9 +28,9 @@ pub range_step : (range : Option Bad) (fields : List (List ℕ)) (place : ℕ) (
 range_step range fields place fits h e = rw (first_failing-drop is_coordinate fields place h, ← e) (first_stays range fits place _)
 
 -- where none fails from a field on, it passes, and none after it fails
-passes : (b : Bool) (rest : Option ℕ) (place : ℕ) → (if b then rest else Some place) ≡ None → (b ≡ true) × (rest ≡ None)
-passes true rest place e = (refl, e)
-passes false rest place e = cc
+passes : {T : Type 0} (b : Bool) (rest : Option T) (fault : T) → (if b then rest else Some fault) ≡ None → (b ≡ true) × (rest ≡ None)
+passes true rest fault e = (refl, e)
+passes false rest fault e = cc
 
 -- where none fails, each passes
 all_pass : (test : List ℕ → Bool) (fields : List (List ℕ)) (place i : ℕ) → first_failing test place fields ≡ None → i < length fields → test (get_or fields i []) ≡ true
@@ -50,3 +51,11 @@ coordinate_at (word ∷ fields) zero none low h = absurd (omega arith)
 coordinate_at (word ∷ fields) (suc i) none low h =
     let (number, range) = no_fault (first_failing is_number 1 fields) (first_failing is_coordinate 1 fields) none in
     record { number = all_pass is_number fields 1 i number (omega arith); within = all_pass is_coordinate fields 1 i range (omega arith) }
+
+-- where a record of so many fields after the word is not refused, each of them is a coordinate
+pub fixed_coordinate : (count : ℕ) (fields : List (List ℕ)) (place : ℕ) → fixed_fault count (drop 1 fields) ≡ None
+    → 1 ≤ place → place ≤ count → IsCoordinate (get_or fields place [])
+fixed_coordinate count fields place e low high =
+    let (counted, none) = passes (length (drop 1 fields) == count) (number_fault (drop 1 fields)) bad.Fields e in
+    let long : place < length fields = grind (arith, nat_tests, length-drop 1 fields) in
+    coordinate_at fields place none low long

@@ -8,9 +8,9 @@ use Rattle.csv.specs.Reading.{Reached, ReadRecord, ReadsOn, Ready, buffered_of, 
 use Rattle.csv.specs.declared.parser.State.{State}
 use Rattle.csv.specs.declared.reader.Reader.{Reader}
 use Rattle.csv.specs.declared.reader.Trim.TheVariants as trim
+use Rattle.geo_text.proofs.Fuel.{records_none, records_taken}
 use Rattle.geo_text.specs.Records.{without_blanks}
 use Rattle.geo_text.specs.Script.{IsReading, TakesFields, records_after, records_left}
-use Rattle.geo_text.proofs.Fuel.{records_none, records_taken}
 
 -- what a slice has left is known
 abbrev known : Bor (List ℕ) → Option (List ℕ)

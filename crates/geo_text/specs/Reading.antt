@@ -1,5 +1,5 @@
 -- What a record asks for: a command, or the first refusal that holds. This project's own.
-use Rattle.std.specs.Prelude.{◌≡◌, ℕ, ◌+◌, ◌*◌, ◌%◌, ◌≤◌, Bool, ◌==◌, nat_lt, if◌then◌else◌, List, [], ◌∷◌, length, codes, slice_index_or, Option, Some, None, Result, Ok, Err}
+use Rattle.std.specs.Prelude.{◌≡◌, ℕ, ◌+◌, ◌*◌, ◌%◌, ◌≤◌, Bool, ◌==◌, nat_lt, if◌then◌else◌, List, [], ◌∷◌, length, codes, slice_index_or, drop, Option, Some, None, Result, Ok, Err}
 use Rattle.std.specs.List.{list_any}
 use Rattle.std.specs.Str.{bytes_eq}
 use Rattle.plane.specs.Point.{Point}
@@ -11,7 +11,7 @@ use Rattle.geo_text.specs.declared.command.Command.TheVariants as command
 
 -- the words whose commands nothing answers yet
 abbrev pub later_words : List (List ℕ)
-later_words = codes "path" ∷ codes "tree" ∷ codes "reach" ∷ codes "see" ∷ codes "kernel" ∷ codes "hull" ∷ []
+later_words = codes "tree" ∷ codes "reach" ∷ codes "see" ∷ codes "kernel" ∷ codes "hull" ∷ []
 
 -- the place of the first field that fails a test, counted from a given place on
 abbrev pub first_failing : (List ℕ → Bool) → ℕ → List (List ℕ) → Option ℕ
@@ -61,6 +61,7 @@ reading_of (word ∷ fields) =
     if bytes_eq word (codes "polygon") then unless (list_fault 3 4096 fields) (command.Polygon (points_of fields))
     else if bytes_eq word (codes "inside") then unless (fixed_fault 2 fields) (command.Inside (point_of fields))
     else if bytes_eq word (codes "check") then unless (list_fault 1 4096 fields) (command.Check (points_of fields))
+    else if bytes_eq word (codes "path") then unless (fixed_fault 4 fields) (command.Path (point_of fields) (point_of (drop 2 fields)))
     else if list_any (λ later. bytes_eq later word) later_words then Err bad.Later
     else Err bad.Word
 
@@ -69,6 +70,7 @@ abbrev pub IsWellSized : Command → Type 0
 IsWellSized (command.Polygon points) = (3 ≤ length points) × (length points ≤ 4096)
 IsWellSized (command.Inside point) = Unit {0}
 IsWellSized (command.Check points) = (1 ≤ length points) × (length points ≤ 4096)
+IsWellSized (command.Path from to) = Unit {0}
 
 -- the next command was taken from the records that are left; `None` says that none is left
 abbrev pub TakesCommand : List (List (List ℕ)) → List (List (List ℕ)) → Option (Result Command Bad) → Type 0

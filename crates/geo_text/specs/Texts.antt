@@ -1,11 +1,17 @@
 -- The texts that answers are made of. This project's own.
 use Rattle.std.specs.Prelude.{ℕ, List, ◌++◌, codes, decimal}
+use Rattle.std.specs.Fmt.{signed_decimal}
+use Rattle.plane.specs.Point.{Point}
 use Rattle.geo_text.specs.declared.command.Bad.{Bad}
 use Rattle.geo_text.specs.declared.command.Bad.TheVariants as bad
 
 -- a comma and a number in decimal
 abbrev pub index_text : ℕ → List ℕ
 index_text n = codes "," ++ decimal n
+
+-- a comma, x, a comma and y, in decimal
+abbrev pub pt_text : Point → List ℕ
+pt_text p = codes "," ++ signed_decimal p.x ++ codes "," ++ signed_decimal p.y
 
 -- what is between `bad,` and the end of the line
 abbrev pub fault_text : Bad → List ℕ
@@ -16,6 +22,7 @@ fault_text bad.Many = codes "many"
 fault_text (bad.Number place) = codes "number" ++ index_text place
 fault_text (bad.Range place) = codes "range" ++ index_text place
 fault_text bad.NoPolygon = codes "no_polygon"
+fault_text (bad.Outside point) = codes "outside" ++ index_text point
 fault_text (bad.Clash i j) = codes "clash" ++ index_text i ++ index_text j
 fault_text bad.Later = codes "later"
 

@@ -10,6 +10,8 @@ pub enum Command {
     Inside(Pt),
     /// Judge these points, 1 to 4,096 of them, as a taut chain of the polygon.
     Check(Points),
+    /// Give the taut chain from the first point to the second.
+    Path(Pt, Pt),
 }
 
 /// Why a record is refused, in the order in which the refusals are looked for. Places are those of fields, and the
@@ -32,6 +34,8 @@ pub enum Bad {
     Range(u32),
     /// No polygon was accepted yet.
     NoPolygon,
+    /// The command's point with this number, counted from 1, is the first that is not in the polygon.
+    Outside(u32),
     /// Edges i < j of the polygon, as it was given, clash, and no lesser pair does.
     Clash(u32, u32),
 }

@@ -1,10 +1,11 @@
 // What is written to an answer. After want of memory the answer is as it was.
-ghost use Rattle.std.specs.Prelude.{◌≡◌, ◌++◌, codes, length, take, OnOk, OnErr};
-ghost use Rattle.geo_text.specs.Texts.{bad_text, index_text};
+ghost use Rattle.std.specs.Prelude.{◌≡◌, ◌+◌, ◌++◌, codes, length, take, OnOk, OnErr};
+ghost use Rattle.geo_text.specs.Texts.{bad_text, index_text, pt_text};
 
 use crate::command::Bad;
-use exact_plane::Memory;
-use itoa::Buffer;
+use exact_plane::{Memory, Pt, Steps};
+use itoa::{Buffer, Integer};
+use std::sync::ledger::Ledger;
 
 /// Appends a word.
 pub fn put_word(out: &mut Vec<u8>, word: &str) -> Result<(), Memory>
@@ -20,8 +21,32 @@ pub fn put_index(out: &mut Vec<u8>, index: u32) -> Result<(), Memory>
     ensures ok { OnOk result (out.new.items ≡ out.old.items ++ index_text index) }
     ensures err { OnErr result (out.new.items ≡ out.old.items) }
 {
+    put_number(out, index)
+}
+
+/// Appends a comma, x, a comma and y. It takes 64 steps.
+pub fn put_pt<L: Ledger>(out: &mut Vec<u8>, p: &Pt, steps: &mut Steps<L>) -> Result<(), Memory>
+    ensures ok { OnOk result (out.new.items ≡ out.old.items ++ pt_text p.now) }
+    ensures err { OnErr result (out.new.items ≡ out.old.items) }
+    ensures steps { steps.new ≡ steps.old + 64 }
+{
+    let (x, y) = p.parts(steps);
+    let before = out.len();
+    put_number(out, x)?;
+    let put = put_number(out, y);
+    if put.is_err() {
+        out.truncate(before);
+    }
+    put
+}
+
+// Appends a comma and a number.
+fn put_number<N: Integer>(out: &mut Vec<u8>, number: N) -> Result<(), Memory>
+    ensures ok { OnOk result (out.new.items ≡ out.old.items ++ codes "," ++ N.text number) }
+    ensures err { OnErr result (out.new.items ≡ out.old.items) }
+{
     let mut buffer = Buffer::new();
-    let digits = buffer.format(index).as_bytes();
+    let digits = buffer.format(number).as_bytes();
     out.reserve(1 + digits.len())?;
     out.push(b',').unwrap();
     out.extend_from_slice(digits).unwrap();
@@ -65,6 +90,7 @@ fn put_line(out: &mut Vec<u8>, bad: &Bad) -> Result<(), Memory>
         Bad::Number(place) => put_with(out, "number", *place)?,
         Bad::Range(place) => put_with(out, "range", *place)?,
         Bad::NoPolygon => put_word(out, "no_polygon")?,
+        Bad::Outside(point) => put_with(out, "outside", *point)?,
         Bad::Clash(i, j) => {
             put_with(out, "clash", *i)?;
             put_index(out, *j)?;

@@ -16,7 +16,7 @@ use exact_plane::{COORDINATE_LIMIT, Memory, Pt};
 use std::alloc::Global;
 
 // The words whose commands nothing answers yet.
-const LATER: [&[u8]; 6] = [b"path", b"tree", b"reach", b"see", b"kernel", b"hull"];
+const LATER: [&[u8]; 5] = [b"tree", b"reach", b"see", b"kernel", b"hull"];
 
 // The command that a record is, or why it is none.
 pub fn command(alloc: Global, row: &ByteRecord) -> Result<Result<Command, Bad>, Memory>
@@ -38,6 +38,9 @@ pub fn command(alloc: Global, row: &ByteRecord) -> Result<Result<Command, Bad>, 
             None => Ok(Command::Check(points(alloc, row)?)),
         });
     }
+    if word == b"path".as_slice() {
+        return Ok(path(row));
+    }
     Ok(Err(word_fault(word)))
 }
 
@@ -48,6 +51,21 @@ fn inside(row: &ByteRecord) -> Result<Command, Bad>
     match fixed_fault(row, 2) {
         Some(fault) => Err(fault),
         None => Ok(Command::Inside(point(field(row, 1), field(row, 2)))),
+    }
+}
+
+// A `path` record as a command.
+fn path(row: &ByteRecord) -> Result<Command, Bad>
+    ensures { result ≡ unless (fixed_fault 4 (drop 1 (plain_fields row.now)))
+        (Command.Path (point_of (drop 1 (plain_fields row.now))) (point_of (drop 3 (plain_fields row.now)))) }
+{
+    match fixed_fault(row, 4) {
+        Some(fault) => Err(fault),
+        None => {
+            let from = point(field(row, 1), field(row, 2));
+            let to = point(field(row, 3), field(row, 4));
+            Ok(Command::Path(from, to))
+        }
     }
 }
 

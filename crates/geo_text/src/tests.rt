@@ -1,6 +1,6 @@
-ghost use Rattle.std.specs.Prelude.{◌≡◌, ◌<◌};
+ghost use Rattle.std.specs.Prelude.{◌≡◌, ◌<◌, ◌+◌};
 
-use crate::{Bad, Command, Points, Script, put_bad, put_index, put_line_end, put_word};
+use crate::{Bad, Command, Points, Script, put_bad, put_index, put_line_end, put_pt, put_word};
 use exact_plane::{Memory, Pt, Steps};
 use itoa::Buffer;
 use std::alloc::{AllocError, Global};
@@ -26,11 +26,16 @@ fn scripts(rt: HostRuntime) -> Result<(), Fail> {
         ("a blank before a quote", b" \"kernel\"\nkernel\n", b"bad,word\nbad,later\n"),
         ("not text", b"\xFF\xFE\npolygon,0,0,\xFF,0,1,1\n", b"bad,word\nbad,number,3\n"),
         ("other words", b"Polygon\npolygons\n,\n\"\"\n \n", b"bad,word\nbad,word\nbad,word\nbad,word\nbad,word\n"),
-        ("later words", b"path,x\ntree\nreach\nsee\nkernel,0\nhull\n", b"bad,later\nbad,later\nbad,later\nbad,later\nbad,later\nbad,later\n"),
+        ("later words", b"tree\nreach\nsee\nkernel,0\nhull\n", b"bad,later\nbad,later\nbad,later\nbad,later\nbad,later\n"),
         ("inside", b"inside,1,-2\ninside,1\ninside,1,2,3\ninside,x,1\ninside,1,1000001\ninside\n",
             b"inside 1,-2\nbad,fields\nbad,fields\nbad,number,1\nbad,range,2\nbad,fields\n"),
         ("check", b"check,1,-2\ncheck,1,2,3,4\ncheck\ncheck,1\ncheck,x,1\ncheck,1,1000001\n",
             b"check 1,-2\ncheck 1,2 3,4\nbad,few\nbad,fields\nbad,number,1\nbad,range,2\n"),
+        ("path", b"path,1,-2,3,4\npath,5,6,5,6\npath\npath,1,2,3\npath,1,2,3,4,5\npath,x\n",
+            b"path 1,-2 3,4\npath 5,6 5,6\nbad,fields\nbad,fields\nbad,fields\nbad,fields\n"),
+        ("path of no numbers", b"path,x,2,3,4\npath,1,2,3,x\npath,1000001,2,,x\n", b"bad,number,1\nbad,number,4\nbad,number,3\n"),
+        ("path past the limits", b"path,1000001,2,3,4\npath,1,2,3,-1000001\npath,1,-1000001,1000001,4\n", b"bad,range,1\nbad,range,4\nbad,range,2\n"),
+        ("path at the limits", b"path,-1000000,1000000,1000000,-1000000\n", b"path -1000000,1000000 1000000,-1000000\n"),
         ("odd count", b"polygon,0,0,1\npolygon,x\npolygon,0,0,0,0,0,0,0\n", b"bad,fields\nbad,fields\nbad,fields\n"),
         ("few", b"polygon\npolygon,0,0,1,1\npolygon,x,y\n", b"bad,few\nbad,few\nbad,few\n"),
         ("no numbers", b"polygon,+,0,0,0,0,0\npolygon,0,-,0,0,0,0\npolygon,0,0,,0,0,0\npolygon,0,0,0,+-1,0,0\npolygon,0,0,0,0,1 2,0\npolygon,0,0,0,0,0,1.0\n",
@@ -80,6 +85,7 @@ fn refusals(rt: HostRuntime) -> Result<(), Fail> {
         (Bad::Number(1), b"bad,number,1\n"),
         (Bad::Range(8192), b"bad,range,8192\n"),
         (Bad::NoPolygon, b"bad,no_polygon\n"),
+        (Bad::Outside(2), b"bad,outside,2\n"),
         (Bad::Clash(0, 4_294_967_295), b"bad,clash,0,4294967295\n"),
     ];
     for (bad, want) in cases {
@@ -98,6 +104,25 @@ fn answers(rt: HostRuntime) -> Result<(), Fail> {
     put_line_end(&mut out)?;
     assert_eq!(rt; out.as_slice(), b"polygon,4096\n".as_slice());
     assert!(rt; Points::of(Vec::new(rt.alloc())).as_slice().is_empty());
+    Ok(())
+}
+
+// Each row is a point and its text.
+#[test]
+#[rattlefmt::skip]
+fn point_texts(rt: HostRuntime) -> Result<(), Fail> {
+    let cases = [
+        ("the origin", 0, 0, b"at,0,0".as_slice()),
+        ("x and y", 12, 3, b"at,12,3"),
+        ("a minus at x", -4, 5, b"at,-4,5"),
+        ("a minus at y", 40, -50, b"at,40,-50"),
+        ("the corner at the limit", 1_000_000, 1_000_000, b"at,1000000,1000000"),
+        ("the opposite corner", -1_000_000, -1_000_000, b"at,-1000000,-1000000"),
+    ];
+    for (name, x, y, want) in cases {
+        let point = Pt::of(x, y).expect(&rt, "the row has a point");
+        assert_eq!(rt; point_text::<Brand>(rt.alloc(), &point, Blank::new(1))?.as_slice(), want, "{name}");
+    }
     Ok(())
 }
 
@@ -136,6 +161,26 @@ fn readings<L: Ledger>(alloc: Global, bytes: &[u8], blank: Blank) -> Result<Vec<
     Ok(out)
 }
 
+// A word and the text of a point.
+fn point_text<L: Ledger>(alloc: Global, point: &Pt, blank: Blank) -> Result<Vec<u8>, Memory>
+    requires name { blank.name ≡ L.name }
+    requires parts { blank.parts ≡ L.parts }
+    requires countable { 0 < blank.parts }
+{
+    let mut steps = Steps::<L>::new(blank);
+    let mut out = Vec::new(alloc);
+    put_word(&mut out, "at")?;
+    put_counted(&mut out, point, &mut steps)?;
+    Ok(out)
+}
+
+// The text of a point takes 64 steps, whatever point it is.
+fn put_counted<L: Ledger>(out: &mut Vec<u8>, point: &Pt, steps: &mut Steps<L>) -> Result<(), Memory>
+    ensures { steps.new ≡ steps.old + 64 }
+{
+    put_pt(out, point, steps)
+}
+
 // The word, and each point behind a space.
 fn put_command<L: Ledger>(
     out: &mut Vec<u8>,
@@ -154,6 +199,11 @@ fn put_command<L: Ledger>(
         Command::Check(points) => {
             put_word(out, "check")?;
             put_points(out, points.into_vec().as_slice(), steps)?
+        }
+        Command::Path(from, to) => {
+            put_word(out, "path")?;
+            put_point(out, &from, steps)?;
+            put_point(out, &to, steps)?
         }
     }
     put_line_end(out)

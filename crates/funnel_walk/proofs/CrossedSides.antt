@@ -1,0 +1,102 @@
+-- The walk from one diagonal of a sleeve to the next: the names of its funnel.
+use Rattle.std.proofs.Common.{◌≡◌, ◌≢◌, inl, inr, sym, subst, ℕ, ◌+◌, ◌-◌, ◌<◌}
+use Rattle.std.proofs.Common.{◌≤◌, min, List, [], ◌∷◌, ◌++◌, length, take, drop, get_or, arith}
+use Rattle.std.proofs.lemmas.List.{drop-append-le}
+use Rattle.plane.specs.Point.{Point, whole}
+use Rattle.exact_plane.specs.Spot.{point_named}
+use Rattle.exact_plane.specs.declared.turns.Spot.{Spot}
+use Rattle.exact_plane.specs.declared.turns.Spot.TheVariants.{Corner}
+use Rattle.tri_mesh.specs.Fits.{Fits, IsSideOfTwo}
+use Rattle.tri_mesh.specs.Side.{HasSide, tri_at}
+use Rattle.tri_mesh.specs.Sleeve.{IsOneOf, Sleeve, diagonal_at}
+use Rattle.tri_mesh.specs.declared.tri.Tri.{Tri}
+use Rattle.vertex_laws.proofs.FittedRings.{fitted_counterclockwise}
+use Rattle.funnel_laws.specs.Funnel.{IsReachedFrom}
+use Rattle.funnel_chains.proofs.StepLeft.{step_left}
+use Rattle.funnel_chains.proofs.StepRight.{step_right}
+use Rattle.funnel_walk.proofs.Crossed.{walked_left, walked_right}
+use Rattle.funnel_walk.proofs.NextDiagonals.{next_diagonal, shared}
+use Rattle.funnel_walk.proofs.SideCorners.{diagonal_below, vertex_named}
+use Rattle.funnel_walk.specs.Names.{left_names, named_points, right_names}
+use Rattle.funnel_walk.specs.Walked.{IsWalked}
+
+module _ (corners : List Point) (tris : List Tri) (fits : Fits corners tris) (sleeve : Sleeve) (of_mesh : IsOneOf tris sleeve)
+    (start goal : Point) (i : ℕ) (inner : 0 < i) (below : i < length sleeve.diagonals) (given : ℕ) (out names : List Spot) (a : ℕ)
+    (given_of : given ≤ length out)
+    (w : IsWalked corners start goal (drop given out) names a (diagonal_at sleeve (i - 1)).left (diagonal_at sleeve (i - 1)).right) where
+  -- the points of the names
+  abbrev ns : List Point
+  ns = named_points (point_named corners start goal) names
+
+  abbrev before : List Point
+  before = named_points (point_named corners start goal) (drop given out)
+
+  -- the triangle between the two diagonals is one of the mesh,
+  k_below : get_or sleeve.walk i 0 < length tris
+  k_below = of_mesh.walk.in_list i (omega (arith, of_mesh.count))
+
+  -- the diagonal behind is shared,
+  behind : (e : ℕ) × IsSideOfTwo tris (diagonal_at sleeve (i - 1)).right (diagonal_at sleeve (i - 1)).left (get_or sleeve.walk (i - 1) 0) e
+  behind = shared corners tris fits sleeve of_mesh (i - 1) (omega arith)
+
+  -- and what is given with more
+  more_given : (more : List Spot) → drop given out ++ more ≡ drop given (out ++ more)
+  more_given more = sym (drop-append-le given out more given_of)
+
+  -- the left end stays,
+  pub goes_right : (diagonal_at sleeve i).left ≡ (diagonal_at sleeve (i - 1)).left → (n : ℕ) → 0 < n → n ≤ length names
+      → IsReachedFrom ns a (n - 1) (whole (point_named corners start goal (Corner (diagonal_at sleeve i).right)))
+      → IsWalked corners start goal (drop given (out ++ left_names names a (a - (n - 1))))
+      (take n names ++ Corner (diagonal_at sleeve i).right ∷ []) (min a (n - 1)) (diagonal_at sleeve i).left (diagonal_at sleeve i).right
+  goes_right same n some few reached =
+      let l = (diagonal_at sleeve (i - 1)).left in
+      let r = (diagonal_at sleeve (i - 1)).right in
+      let m = (diagonal_at sleeve i).right in
+      let h = n - 1 in
+      let next = next_diagonal corners tris fits sleeve of_mesh i inner below in
+      let m_below = (diagonal_below corners tris fits sleeve of_mesh i below).1 in
+      let m_is = vertex_named corners start goal m m_below in
+      let count : h + 1 ≡ n = omega arith in
+      let two = shared corners tris fits sleeve of_mesh i below in
+      let sides : HasSide (tri_at tris (get_or sleeve.walk i 0)) r m × HasSide (tri_at tris (get_or sleeve.walk i 0)) m l = elim next.1 [
+        | inl left_stays ↦ (left_stays.1, left_stays.2)
+        | inr right_stays ↦ absurd (right_stays.0 same)
+      ] in
+      let funnel = step_right corners tris fits (fitted_counterclockwise corners tris fits) (get_or sleeve.walk i 0) l r m k_below next.0
+      sides.0 sides.1 (get_or sleeve.walk (i - 1) 0) behind.0 (inr behind.1) before ns a w.funnel h
+      (subst (λ p. IsReachedFrom ns a h (whole p)) (sym m_is) reached) (get_or sleeve.walk i 0) two.0
+      (inr (subst (λ e. IsSideOfTwo tris m e (get_or sleeve.walk i 0) two.0) same two.1)) in
+      let more = left_names names a (a - h) in
+      let walked : IsWalked corners start goal (drop given out ++ more) (take (h + 1) names ++ Corner m ∷ []) (min a h) l m =
+      walked_right corners start goal (drop given out) names a l r w m h m_below m_is (omega arith) funnel in
+      subst (λ e. IsWalked corners start goal (drop given (out ++ more)) (take n names ++ Corner m ∷ []) (min a h) e m) (sym same)
+      (subst (λ c. IsWalked corners start goal (drop given (out ++ more)) (take c names ++ Corner m ∷ []) (min a h) l m) count
+      (subst (λ gs. IsWalked corners start goal gs (take (h + 1) names ++ Corner m ∷ []) (min a h) l m) (more_given more) walked))
+
+  -- or the right end does
+  pub goes_left : (diagonal_at sleeve i).left ≢ (diagonal_at sleeve (i - 1)).left → (h : ℕ) → h < length names
+      → IsReachedFrom ns a h (whole (point_named corners start goal (Corner (diagonal_at sleeve i).left)))
+      → IsWalked corners start goal (drop given (out ++ right_names names a (h - a)))
+      (Corner (diagonal_at sleeve i).left ∷ drop h names) (a - h + 1) (diagonal_at sleeve i).left (diagonal_at sleeve i).right
+  goes_left other h within reached =
+      let l = (diagonal_at sleeve (i - 1)).left in
+      let r = (diagonal_at sleeve (i - 1)).right in
+      let m = (diagonal_at sleeve i).left in
+      let next = next_diagonal corners tris fits sleeve of_mesh i inner below in
+      let m_below = (diagonal_below corners tris fits sleeve of_mesh i below).0 in
+      let m_is = vertex_named corners start goal m m_below in
+      let two = shared corners tris fits sleeve of_mesh i below in
+      elim next.1 [
+        | inl left_stays ↦ absurd (other left_stays.0)
+        | inr right_stays ↦
+            let same = right_stays.1 in
+            let funnel = step_left corners tris fits (fitted_counterclockwise corners tris fits) (get_or sleeve.walk i 0) l r m
+            k_below next.0 right_stays.2 right_stays.3 (get_or sleeve.walk (i - 1) 0) behind.0 (inr behind.1) before ns a w.funnel h
+            (subst (λ p. IsReachedFrom ns a h (whole p)) (sym m_is) reached) (get_or sleeve.walk i 0) two.0
+            (inr (subst (λ e. IsSideOfTwo tris e m (get_or sleeve.walk i 0) two.0) same two.1)) in
+            let more = right_names names a (h - a) in
+            let walked : IsWalked corners start goal (drop given out ++ more) (Corner m ∷ drop h names) (a - h + 1) m r =
+            walked_left corners start goal (drop given out) names a l r w m h m_below m_is within funnel in
+            subst (λ e. IsWalked corners start goal (drop given (out ++ more)) (Corner m ∷ drop h names) (a - h + 1) m e) (sym same)
+            (subst (λ gs. IsWalked corners start goal gs (Corner m ∷ drop h names) (a - h + 1) m r) (more_given more) walked)
+      ]

@@ -1,0 +1,101 @@
+-- The names from the start over the points that the way to the goal leaves behind stand for a taut chain.
+use Rattle.std.proofs.Common.{◌≡◌, ◌≢◌, refl, sym, ◌∙◌, ℕ, ◌+◌, ◌<◌, List, [], ◌∷◌, ◌++◌, length, get_or, arith}
+use Rattle.plane.proofs.Same.{whole_is_point}
+use Rattle.plane.specs.Point.{Point, whole}
+use Rattle.rings.specs.Chain.{IsBentChain, IsTaut, point_at}
+use Rattle.rings.specs.Ring.{vertex}
+use Rattle.rings.specs.Sees.{Sees}
+use Rattle.exact_plane.specs.Spot.{point_named}
+use Rattle.exact_plane.specs.declared.turns.Spot.{Spot}
+use Rattle.exact_plane.specs.declared.turns.Spot.TheVariants.{Goal}
+use Rattle.tri_mesh.specs.Fits.{Fits, IsInTri}
+use Rattle.tri_mesh.specs.Side.{tri_at}
+use Rattle.tri_mesh.specs.Sleeve.{IsOneOf, Sleeve, diagonal_at}
+use Rattle.tri_mesh.specs.declared.tri.Tri.{Tri}
+use Rattle.vertex_laws.proofs.CornerEdges.{shared_back}
+use Rattle.vertex_laws.proofs.FittedRings.{fitted_counterclockwise, fitted_long, fitted_simple}
+use Rattle.funnel_laws.specs.Funnel.{IsReachedFrom}
+use Rattle.funnel_chains.proofs.ReachedBends.{reached_bends}
+use Rattle.funnel_chains.proofs.ReachedCorners.{in_ring}
+use Rattle.funnel_chains.proofs.WayChains.{chain_on, chain_to}
+use Rattle.funnel_chains.proofs.WindowSight.{sees_reached}
+use Rattle.funnel_walk.proofs.Closed.{named_at_goal, named_to_goal, names_on_way, points_on_way, taut_at_goal, taut_to_goal}
+use Rattle.funnel_walk.proofs.NamedLists.{length_named, point_of_name}
+use Rattle.funnel_walk.proofs.NextDiagonals.{enters, shared, third_of}
+use Rattle.funnel_walk.specs.Names.{AreNamed, name_at, named_points}
+use Rattle.funnel_walk.specs.Walked.{IsWalked}
+
+module _ (corners : List Point) (tris : List Tri) (fits : Fits corners tris) (sleeve : Sleeve) (of_mesh : IsOneOf tris sleeve)
+    (start goal : Point) (differ : start ≢ goal) (i : ℕ) (below : i < length sleeve.diagonals)
+    (in_goal : IsInTri corners (tri_at tris (get_or sleeve.walk (i + 1) 0)) (whole goal))
+    (given names : List Spot) (a : ℕ)
+    (w : IsWalked corners start goal given names a (diagonal_at sleeve i).left (diagonal_at sleeve i).right)
+    (h : ℕ) (reached : IsReachedFrom (named_points (point_named corners start goal) names) a h (whole goal)) where
+  -- the points of the names
+  abbrev at : Spot → Point
+  at = point_named corners start goal
+
+  abbrev ns : List Point
+  ns = named_points at names
+
+  abbrev before : List Point
+  before = named_points at given
+
+  -- the triangle behind the diagonal
+  k_below : get_or sleeve.walk (i + 1) 0 < length tris
+  k_below = of_mesh.walk.in_list (i + 1) (omega (arith, of_mesh.count))
+
+  -- the place is one of the names,
+  within : h < length names
+  within = omega (arith, reached.within, length_named at names)
+
+  -- the point that the goal is reached from sees it,
+  seen : Sees corners (whole (point_at ns h)) (whole goal)
+  seen =
+      let k = get_or sleeve.walk (i + 1) 0 in
+      let l = (diagonal_at sleeve i).left in
+      let r = (diagonal_at sleeve i).right in
+      sees_reached corners corners (tri_at tris k) (in_ring corners tris fits k k_below) (fits.triangles k k_below).counterclockwise
+      l r (enters corners tris fits sleeve of_mesh i below) (vertex corners l) (vertex corners r) refl refl ns a w.funnel.funnel
+      w.funnel.sight h (whole goal) (whole_is_point goal) in_goal reached
+
+  -- and the way there bends
+  goes_on : at (name_at names h) ≢ goal → IsBentChain corners (points_on_way before ns a h ++ point_at ns h ∷ goal ∷ [])
+  goes_on other =
+      let k = get_or sleeve.walk (i + 1) 0 in
+      let l = (diagonal_at sleeve i).left in
+      let r = (diagonal_at sleeve i).right in
+      let side = enters corners tris fits sleeve of_mesh i below in
+      let third = third_of (tri_at tris k) l r side in
+      let two = shared corners tris fits sleeve of_mesh i below in
+      let differs : ¬ (point_at ns h ≡ goal) = λ same. other (sym (point_of_name at names h within) ∙ same) in
+      chain_on corners ns a (vertex corners l) (vertex corners r) w.funnel.funnel w.funnel.sight before w.funnel.bent h reached.within goal
+      seen differs
+      (reached_bends corners tris fits k l r third.0 k_below side third.1.0 third.1.1 two.0 (get_or sleeve.walk i 0)
+      (shared_back tris r l (get_or sleeve.walk i 0) two.0 two.1) before ns a w.funnel.funnel w.funnel.bent w.funnel.ends
+      h goal in_goal reached
+      (fitted_simple corners tris fits) (fitted_long corners tris fits) (fitted_counterclockwise corners tris fits) seen differs)
+
+  -- where that point is the goal, its name is left out,
+  pub taut_there : at (name_at names h) ≡ goal
+      → AreNamed corners (names_on_way given names a h ++ Goal ∷ [])
+      × IsTaut corners start goal (named_points at (names_on_way given names a h ++ Goal ∷ []))
+  taut_there at_goal =
+      let l = (diagonal_at sleeve i).left in
+      let r = (diagonal_at sleeve i).right in
+      let chain = chain_to corners ns a (vertex corners l) (vertex corners r) w.funnel.funnel w.funnel.sight before w.funnel.bent
+      h reached.within in (
+        named_at_goal corners start goal given names a l r w differ h within at_goal chain,
+        taut_at_goal corners start goal given names a l r w differ h within at_goal chain,
+      )
+
+  -- and else the goal comes after it
+  pub taut_on : at (name_at names h) ≢ goal
+      → AreNamed corners (names_on_way given names a h ++ name_at names h ∷ [] ++ Goal ∷ [])
+      × IsTaut corners start goal (named_points at (names_on_way given names a h ++ name_at names h ∷ [] ++ Goal ∷ []))
+  taut_on other =
+      let l = (diagonal_at sleeve i).left in
+      let r = (diagonal_at sleeve i).right in (
+        named_to_goal corners start goal given names a l r w differ h within (goes_on other),
+        taut_to_goal corners start goal given names a l r w differ h within (goes_on other),
+      )

@@ -1,0 +1,17 @@
+mod Appended
+mod Closed
+mod Crossed
+mod CrossedSides
+mod FirstNamed
+mod FirstNames
+mod GoalReached
+mod KeptNames
+pub mod NamedLists
+mod NarrowedLeft
+mod NarrowedRight
+pub mod NextDiagonals
+mod Opened
+mod Passing
+mod PointsDiffer
+mod ShortWalks
+mod SideCorners

@@ -1,0 +1,150 @@
+-- Two diagonals of a sleeve that follow each other, in the triangle between them; and each diagonal is shared by two triangles.
+use Rattle.std.proofs.Common.{◌≡◌, ◌≢◌, ◌⊎◌, refl, sym, ◌∙◌, subst, ℕ, ◌+◌, ◌-◌, ◌<◌, inl, inr, List, length, get_or, arith}
+use Rattle.std.specs.List.{range_with_len}
+use Rattle.plane.specs.Point.{Point}
+use Rattle.tri_mesh.proofs.MeshSides.{fitting_sides}
+use Rattle.tri_mesh.proofs.PieceSteps.{edge_or_not}
+use Rattle.tri_mesh.specs.Fits.{Fits, IsSideOfTwo}
+use Rattle.tri_mesh.specs.Neighbours.{HasSidesOnce}
+use Rattle.tri_mesh.specs.Side.{HasSide, tri_at}
+use Rattle.tri_mesh.specs.Sleeve.{IsOneOf, Sleeve, diagonal_at}
+use Rattle.tri_mesh.specs.declared.tri.Tri.{Tri}
+
+-- a triangle that is entered over the side from l to r is left over the side from p to q: its left end stays or its right end does
+abbrev pub IsNextSide : Tri → ℕ → ℕ → ℕ → ℕ → Type 0
+IsNextSide t l r q p = ((q ≡ l) × HasSide t r p × HasSide t p l) ⊎ ((q ≢ l) × (p ≡ r) × HasSide t r q × HasSide t q l)
+
+module _ (t : Tri) (l r : ℕ) where
+  -- the two sides after one, over the corner m
+  abbrev pub IsThird : ℕ → Type 0
+  IsThird m = HasSide t r m × HasSide t m l
+      × ((p q : ℕ) → HasSide t p q → ((p ≡ l) × (q ≡ r)) ⊎ ((p ≡ r) × (q ≡ m)) ⊎ ((p ≡ m) × (q ≡ l)))
+
+  -- each side has a third corner
+  pub third_of : HasSide t l r → (m : ℕ) × IsThird m
+  third_of has = elim has [
+    | inl ab ↦ (
+      t.c,
+      (
+        inr (inl (ab.1, refl)),
+        inr (inr (refl, ab.0)),
+        λ p q other. elim other [
+          | inl e ↦ inl (sym e.0 ∙ ab.0, sym e.1 ∙ ab.1)
+          | inr rest ↦ elim rest [
+            | inl e ↦ inr (inl (sym e.0 ∙ ab.1, sym e.1))
+            | inr e ↦ inr (inr (sym e.0, sym e.1 ∙ ab.0))
+          ]
+        ],
+      ),
+    )
+    | inr more ↦ elim more [
+      | inl bc ↦ (
+        t.a,
+        (
+          inr (inr (bc.1, refl)),
+          inl (refl, bc.0),
+          λ p q other. elim other [
+            | inl e ↦ inr (inr (sym e.0, sym e.1 ∙ bc.0))
+            | inr rest ↦ elim rest [
+              | inl e ↦ inl (sym e.0 ∙ bc.0, sym e.1 ∙ bc.1)
+              | inr e ↦ inr (inl (sym e.0 ∙ bc.1, sym e.1))
+            ]
+          ],
+        ),
+      )
+      | inr ca ↦ (
+        t.b,
+        (
+          inl (ca.1, refl),
+          inr (inl (refl, ca.0)),
+          λ p q other. elim other [
+            | inl e ↦ inr (inl (sym e.0 ∙ ca.1, sym e.1))
+            | inr rest ↦ elim rest [
+              | inl e ↦ inr (inr (sym e.0, sym e.1 ∙ ca.0))
+              | inr e ↦ inl (sym e.0 ∙ ca.0, sym e.1 ∙ ca.1)
+            ]
+          ],
+        ),
+      )
+    ]
+  ]
+
+  -- another side than the one that was entered by is a next one
+  next_side : ((i j : ℕ) → HasSide t i j → ¬ HasSide t j i) → HasSide t l r → (p q : ℕ) → HasSide t p q → ¬ ((p ≡ l) × (q ≡ r))
+      → IsNextSide t l r q p
+  next_side one_way has p q other not_same =
+      let third = third_of has in
+      let m = third.0 in
+      elim (third.1.2 p q other) [
+        | inl same ↦ absurd (not_same same)
+        | inr rest ↦ elim rest [
+          | inl on_right ↦ let same_q : m ≡ q = sym on_right.1 in
+              inr (
+                λ q_is_l. one_way l r has (subst (λ n. HasSide t r n) (same_q ∙ q_is_l) third.1.0),
+                on_right.0,
+                subst (λ n. HasSide t r n) same_q third.1.0,
+                subst (λ n. HasSide t n l) same_q third.1.1,
+              )
+          | inr on_left ↦ let same_p : m ≡ p = sym on_left.0 in
+              inl (on_left.1, subst (λ n. HasSide t r n) same_p third.1.0, subst (λ n. HasSide t n l) same_p third.1.1)
+        ]
+      ]
+
+module _ (corners : List Point) (tris : List Tri) (fits : Fits corners tris) (sleeve : Sleeve) (of_mesh : IsOneOf tris sleeve) where
+  -- the triangle before diagonal i
+  abbrev pub triangle_before : ℕ → Tri
+  triangle_before i = tri_at tris (get_or sleeve.walk i 0)
+
+  -- each side belongs to one triangle,
+  sides : HasSidesOnce tris
+  sides = fitting_sides corners tris fits
+
+  -- the triangles of the walk are in the list,
+  in_list : (i : ℕ) → i < length sleeve.diagonals + 1 → get_or sleeve.walk i 0 < length tris
+  in_list i below = of_mesh.walk.in_list i (omega (arith, of_mesh.count))
+
+  -- and no two of them are one
+  once : (i j : ℕ) → i < j → j < length sleeve.diagonals + 1 → ¬ (get_or sleeve.walk i 0 ≡ get_or sleeve.walk j 0)
+  once i j before below = of_mesh.walk.once i j before (omega (arith, of_mesh.count))
+
+  module _ (i : ℕ) (below : i < length sleeve.diagonals) where
+    -- the triangle after a diagonal is entered by it,
+    pub enters : HasSide (triangle_before (i + 1)) (diagonal_at sleeve i).left (diagonal_at sleeve i).right
+    enters = (of_mesh.diagonals i below).of_second
+
+    -- the one before is left by it,
+    pub leaves : HasSide (triangle_before i) (diagonal_at sleeve i).right (diagonal_at sleeve i).left
+    leaves = (of_mesh.diagonals i below).of_first
+
+    -- and these two triangles share it
+    pub shared : (k : ℕ) × IsSideOfTwo tris (diagonal_at sleeve i).right (diagonal_at sleeve i).left (get_or sleeve.walk i 0) k
+    shared =
+        let l = (diagonal_at sleeve i).left in
+        let r = (diagonal_at sleeve i).right in
+        elim (edge_or_not (range_with_len 0 (length corners)) r l) [
+          | inl edge ↦ let one = fits.edges r l edge in
+              absurd (once i (i + 1) (omega arith) (omega arith)
+              (one.1.only _ (in_list i (omega arith)) (inl leaves) ∙ sym (one.1.only _ (in_list (i + 1) (omega arith)) (inr enters))))
+          | inr inner ↦ fits.inner_sides r l (get_or sleeve.walk i 0) (in_list i (omega arith)) leaves inner
+        ]
+
+  -- the triangle between two diagonals keeps the left end or the right one
+  pub next_diagonal : (i : ℕ) → 0 < i → i < length sleeve.diagonals
+      → HasSide (triangle_before i) (diagonal_at sleeve (i - 1)).left (diagonal_at sleeve (i - 1)).right
+      × IsNextSide (triangle_before i) (diagonal_at sleeve (i - 1)).left (diagonal_at sleeve (i - 1)).right
+      (diagonal_at sleeve i).left (diagonal_at sleeve i).right
+  next_diagonal i inner below =
+      let l = (diagonal_at sleeve (i - 1)).left in
+      let r = (diagonal_at sleeve (i - 1)).right in
+      let p = (diagonal_at sleeve i).right in
+      let q = (diagonal_at sleeve i).left in
+      let step : i - 1 + 1 ≡ i = omega arith in
+      let has : HasSide (triangle_before i) l r = subst (λ n. HasSide (triangle_before n) l r) step (enters (i - 1) (omega arith)) in
+      let first : HasSide (triangle_before (i - 1)) r l = leaves (i - 1) (omega arith) in
+      let last : HasSide (triangle_before (i + 1)) q p = enters i below in (
+        has,
+        next_side (triangle_before i) l r (λ a b. sides.one_way a b _ (in_list i (omega arith))) has p q (leaves i below)
+            (λ same. once (i - 1) (i + 1) (omega arith) (omega arith)
+            (sides.once r l _ _ (in_list (i - 1) (omega arith)) (in_list (i + 1) (omega arith)) first
+            (subst (λ n. HasSide (triangle_before (i + 1)) n l) same.1 (subst (λ n. HasSide (triangle_before (i + 1)) q n) same.0 last)))),
+      )

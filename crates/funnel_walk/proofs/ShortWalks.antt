@@ -1,0 +1,35 @@
+-- The taut chain where the start is the goal, and where both are in one triangle.
+use Rattle.std.proofs.Common.{◌≡◌, ◌≢◌, refl, ℕ, ◌<◌, List, [], ◌∷◌, length, arith}
+use Rattle.plane.proofs.Same.{whole_is_point}
+use Rattle.plane.specs.Point.{Point, whole}
+use Rattle.rings.specs.Chain.{IsBentChain, IsTaut}
+use Rattle.tri_mesh.specs.Fits.{Fits, IsInTri}
+use Rattle.tri_mesh.specs.Side.{tri_at}
+use Rattle.tri_mesh.specs.declared.tri.Tri.{Tri}
+use Rattle.bend_laws.proofs.CornerSights.{sees_in_triangle}
+use Rattle.bend_laws.proofs.LongerChains.{chain_more}
+use Rattle.funnel_chains.proofs.FirstSights.{bent_from_apex}
+use Rattle.funnel_chains.proofs.ReachedCorners.{in_ring}
+
+module _ (corners : List Point) (tris : List Tri) (fits : Fits corners tris) (k : ℕ) (within : k < length tris)
+    (start goal : Point) (in_start : IsInTri corners (tri_at tris k) (whole start)) where
+  -- a start in a triangle is a chain
+  start_alone : IsBentChain corners (start ∷ [])
+  start_alone = (bent_from_apex corners (start ∷ []) 0 (omega arith) (omega arith)
+      (in_ring corners tris fits k within (whole start) (whole_is_point start) in_start)).chain
+
+  -- that is taut where it is the goal,
+  pub stays : start ≡ goal → IsTaut corners start goal (start ∷ [])
+  stays same = record { bent = start_alone; first = refl; last = same; single = λ _. refl }
+
+  -- and a goal in the same triangle is seen
+  pub goes_straight : start ≢ goal → IsInTri corners (tri_at tris k) (whole goal) → IsTaut corners start goal (start ∷ goal ∷ [])
+  goes_straight differ in_goal = record {
+    bent = chain_more (start ∷ []) start goal refl corners start_alone
+        (sees_in_triangle corners tris fits k within (whole start) (whole goal) (whole_is_point start) (whole_is_point goal)
+        in_start in_goal)
+        differ (in_ring corners tris fits k within (whole goal) (whole_is_point goal) in_goal) (λ two. absurd (omega (arith, two)));
+    first = refl;
+    last = refl;
+    single = λ same. absurd (differ same);
+  }

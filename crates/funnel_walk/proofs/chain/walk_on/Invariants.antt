@@ -1,0 +1,16 @@
+use Rattle.std.proofs.Common.{◌≡◌, ◌+◌, ◌-◌, ◌*◌, ◌≤◌, length, take, drop, vec_capacity}
+use Rattle.tri_mesh.specs.Sleeve.{diagonal_at}
+use Rattle.funnel_walk.specs.Walked.{IsWalked}
+use Rattle.funnel_walk.proofs.chain.walk_on.Given as goal
+
+abbrev pub invariant-loop-i : goal.invariant-loop-i
+invariant-loop-i g l = record {
+  walked : IsWalked (g.T.Turns.corners l.board) (g.T.Turns.start l.board) (g.T.Turns.goal l.board) (drop l.given l.out.items)
+      l.names.items l.apex (diagonal_at l.sleeve (l.i - 1)).left (diagonal_at l.sleeve (l.i - 1)).right;
+  before : take l.given l.out.items ≡ l.fn.out.items;
+  given : l.given ≤ length l.out.items;
+  few : length l.out.items + length l.names.items ≤ l.given + l.i + 2;
+  same_room : l.names.capacity ≡ l.fn.names.capacity;
+  same_out : vec_capacity l.out ≡ vec_capacity l.fn.out;
+  steps : l.steps + length l.names.items ≤ l.fn.steps + 2 * l.i + 3;
+}

@@ -1,0 +1,28 @@
+-- The names of a funnel's points. No public clause cites this module.
+use Rattle.std.specs.Prelude.{ℕ, zero, suc, ◌+◌, ◌-◌, List, [], ◌∷◌, map, slice_index_or}
+use Rattle.std.specs.List.{All}
+use Rattle.plane.specs.Point.{Point}
+use Rattle.exact_plane.specs.Spot.{IsNamed}
+use Rattle.exact_plane.specs.declared.turns.Spot.{Spot}
+use Rattle.exact_plane.specs.declared.turns.Spot.TheVariants.{Start}
+
+-- the name at a place
+abbrev pub name_at : List Spot → ℕ → Spot
+name_at names i = slice_index_or names i Start
+
+-- the points that they stand for
+abbrev pub named_points : (Spot → Point) → List Spot → List Point
+named_points at names = map at names
+
+-- each stands for a point
+abbrev pub AreNamed : List Point → List Spot → Type 0
+AreNamed corners names = All (IsNamed corners) names
+
+-- so many names from the apex on, to the left, or to the right
+abbrev pub left_names : List Spot → ℕ → ℕ → List Spot
+left_names names a zero = []
+left_names names a (suc c) = name_at names a ∷ left_names names (a - 1) c
+
+abbrev pub right_names : List Spot → ℕ → ℕ → List Spot
+right_names names a zero = []
+right_names names a (suc c) = name_at names a ∷ right_names names (a + 1) c

@@ -1,0 +1,17 @@
+-- How far a walk has come: the names that were given, and those of the funnel. No public clause cites this module.
+use Rattle.std.specs.Prelude.{◌≡◌, ℕ, List, [], ◌∷◌, ◌++◌}
+use Rattle.plane.specs.Point.{Point}
+use Rattle.exact_plane.specs.Spot.{point_named}
+use Rattle.exact_plane.specs.declared.turns.Spot.{Spot}
+use Rattle.exact_plane.specs.declared.turns.Spot.TheVariants.{Start}
+use Rattle.funnel_chains.specs.OpenFunnel.{IsOpenFunnel}
+use Rattle.funnel_walk.specs.Names.{AreNamed, name_at, named_points}
+
+-- the names stand for the funnel at the diagonal from vertex i to vertex j, with the apex at place a, and those that were given for
+-- the points before it, from the start on
+pub record IsWalked (corners : List Point) (start goal : Point) (given names : List Spot) (a i j : ℕ) : Type 0 where
+  pub funnel : IsOpenFunnel corners (named_points (point_named corners start goal) given)
+      (named_points (point_named corners start goal) names) a i j
+  pub given_named : AreNamed corners given
+  pub named : AreNamed corners names
+  pub starts : name_at (given ++ name_at names a ∷ []) 0 ≡ Start

@@ -1,0 +1,196 @@
+ghost use Rattle.std.specs.Prelude.{◌≡◌, ◌≢◌, [], ◌∷◌, ◌+◌, ◌-◌, ◌*◌, ◌<◌, ◌≤◌, ◌++◌, List, drop, length, slice_index_or, take};
+ghost use Rattle.std.specs.Prelude.{vec_capacity};
+ghost use Rattle.exact_plane.specs.Spot.{point_named};
+ghost use Rattle.exact_plane.specs.declared.turns.Spot.{Spot};
+ghost use Rattle.exact_plane.specs.declared.turns.Spot.TheVariants.{Goal};
+ghost use Rattle.funnel_walk.specs.Names.{AreNamed, name_at, named_points, right_names};
+ghost use Rattle.funnel_walk.specs.Walked.{IsWalked};
+ghost use Rattle.plane.specs.Point.{whole};
+ghost use Rattle.rings.specs.Chain.{IsTaut};
+ghost use Rattle.tri_mesh.specs.Fits.{Fits, IsInTri};
+ghost use Rattle.tri_mesh.specs.Side.{tri_at};
+ghost use Rattle.tri_mesh.specs.Sleeve.{IsOneOf, diagonal_at};
+
+use crate::funnel::{name_at, narrow_left, narrow_right};
+use crate::room::FunnelBox;
+use circular_buffer::HeapCircularBuffer;
+use exact_plane::{Spot, Steps, Turns};
+use std::sync::ledger::Ledger;
+use tri_mesh::{Mesh, Sleeve};
+
+/// Appends the names of the taut chain from the start to the goal: the start alone where both are the same point. It takes
+/// no memory, and at most 4 (d + 2) steps, d the number of diagonals.
+pub fn walk<T: Turns, L: Ledger>(
+    room: &mut FunnelBox,
+    board: &T,
+    mesh: &Mesh,
+    sleeve: &Sleeve,
+    out: &mut Vec<Spot>,
+    steps: &mut Steps<L>,
+)
+    requires fits { Fits (T.corners board.now) mesh.now }
+    requires of_mesh { IsOneOf mesh.now sleeve.now }
+    requires start { IsInTri (T.corners board.now) (tri_at mesh.now (slice_index_or sleeve.now.walk 0 0)) (whole (T.start board.now)) }
+    requires goal { IsInTri (T.corners board.now) (tri_at mesh.now (slice_index_or sleeve.now.walk (length sleeve.now.walk - 1) 0))
+        (whole (T.goal board.now)) }
+    requires box_room { length sleeve.now.diagonals ≤ room.old }
+    requires out_room { length out.old.items + length sleeve.now.diagonals + 4 ≤ vec_capacity out.old }
+    ensures taut { (names : List Spot) × (out.new.items ≡ out.old.items ++ names) × AreNamed (T.corners board.now) names
+        × IsTaut (T.corners board.now) (T.start board.now) (T.goal board.now)
+        (named_points (point_named (T.corners board.now) (T.start board.now) (T.goal board.now)) names) }
+    ensures same_room { room.new ≡ room.old }
+    ensures same_out { vec_capacity out.new ≡ vec_capacity out.old }
+    ensures steps { steps.new ≤ steps.old + 4 * (length sleeve.now.diagonals + 2) }
+{
+    if board.same(Spot::Start, Spot::Goal, steps) {
+        out.push_reserved(Spot::Start);
+    } else if sleeve.len() == 0 {
+        out.push_reserved(Spot::Start);
+        out.push_reserved(Spot::Goal);
+    } else {
+        walk_on(&mut room.names, board, mesh, sleeve, out, steps);
+    }
+}
+
+// The same over one diagonal or more, between different points. It takes at most 2 (d + 2) steps.
+fn walk_on<T: Turns, L: Ledger>(
+    names: &mut HeapCircularBuffer<Spot>,
+    board: &T,
+    mesh: &Mesh,
+    sleeve: &Sleeve,
+    out: &mut Vec<Spot>,
+    steps: &mut Steps<L>,
+)
+    requires fits { Fits (T.corners board.now) mesh.now }
+    requires of_mesh { IsOneOf mesh.now sleeve.now }
+    requires some { 0 < length sleeve.now.diagonals }
+    requires start { IsInTri (T.corners board.now) (tri_at mesh.now (slice_index_or sleeve.now.walk 0 0)) (whole (T.start board.now)) }
+    requires goal { IsInTri (T.corners board.now) (tri_at mesh.now (slice_index_or sleeve.now.walk (length sleeve.now.walk - 1) 0))
+        (whole (T.goal board.now)) }
+    requires differ { T.start board.now ≢ T.goal board.now }
+    requires room { length sleeve.now.diagonals + 4 ≤ names.old.capacity }
+    requires out_room { length out.old.items + length sleeve.now.diagonals + 4 ≤ vec_capacity out.old }
+    ensures taut { (names : List Spot) × (out.new.items ≡ out.old.items ++ names) × AreNamed (T.corners board.now) names
+        × IsTaut (T.corners board.now) (T.start board.now) (T.goal board.now)
+        (named_points (point_named (T.corners board.now) (T.start board.now) (T.goal board.now)) names) }
+    ensures same_room { names.new.capacity ≡ names.old.capacity }
+    ensures same_out { vec_capacity out.new ≡ vec_capacity out.old }
+    ensures steps { steps.new ≤ steps.old + 2 * (length sleeve.now.diagonals + 2) }
+{
+    let given = out.len();
+    let mut apex = open(names, board, mesh, sleeve, steps);
+    for i in 1..sleeve.len() {
+        apex = cross(names, board, mesh, sleeve, i, apex, given, out, steps);
+    }
+    let apex = narrow_right(board, names, apex, Spot::Goal, out, steps);
+    close(board, names, apex, out, steps);
+}
+
+// The funnel of the first diagonal. It takes 2 steps.
+fn open<T: Turns, L: Ledger>(
+    names: &mut HeapCircularBuffer<Spot>,
+    board: &T,
+    mesh: &Mesh,
+    sleeve: &Sleeve,
+    steps: &mut Steps<L>,
+) -> usize
+    requires fits { Fits (T.corners board.now) mesh.now }
+    requires of_mesh { IsOneOf mesh.now sleeve.now }
+    requires some { 0 < length sleeve.now.diagonals }
+    requires start { IsInTri (T.corners board.now) (tri_at mesh.now (slice_index_or sleeve.now.walk 0 0)) (whole (T.start board.now)) }
+    requires room { 3 ≤ names.old.capacity }
+    ensures walked { IsWalked (T.corners board.now) (T.start board.now) (T.goal board.now) [] names.new.items result
+        (diagonal_at sleeve.now 0).left (diagonal_at sleeve.now 0).right }
+    ensures few { length names.new.items ≤ 3 }
+    ensures same_room { names.new.capacity ≡ names.old.capacity }
+    ensures steps { steps.new ≡ steps.old + 2 }
+{
+    let (left, right) = (Spot::Corner(sleeve.left(0)), Spot::Corner(sleeve.right(0)));
+    names.clear();
+    names.push_back(Spot::Start);
+    let mut apex = 0;
+    if !board.same(Spot::Start, left, steps) {
+        names.push_front(left);
+        apex = 1;
+    }
+    if !board.same(Spot::Start, right, steps) {
+        names.push_back(right);
+    }
+    apex
+}
+
+// The funnel of diagonal `i`, from that of the one before. What comes to `out` after the first `given` names is on the way to
+// its apex.
+fn cross<T: Turns, L: Ledger>(
+    names: &mut HeapCircularBuffer<Spot>,
+    board: &T,
+    mesh: &Mesh,
+    sleeve: &Sleeve,
+    i: usize,
+    apex: usize,
+    given: usize,
+    out: &mut Vec<Spot>,
+    steps: &mut Steps<L>,
+) -> usize
+    requires fits { Fits (T.corners board.now) mesh.now }
+    requires of_mesh { IsOneOf mesh.now sleeve.now }
+    requires not_first { 0 < i }
+    requires within { i < length sleeve.now.diagonals }
+    requires given { given ≤ length out.old.items }
+    requires walked { IsWalked (T.corners board.now) (T.start board.now) (T.goal board.now) (drop given out.old.items) names.old.items apex
+        (diagonal_at sleeve.now (i - 1)).left (diagonal_at sleeve.now (i - 1)).right }
+    requires room { length names.old.items < names.old.capacity }
+    requires out_room { length out.old.items + length names.old.items ≤ vec_capacity out.old }
+    ensures walked { IsWalked (T.corners board.now) (T.start board.now) (T.goal board.now) (drop given out.new.items) names.new.items result
+        (diagonal_at sleeve.now i).left (diagonal_at sleeve.now i).right }
+    ensures before { take given out.new.items ≡ take given out.old.items }
+    ensures given { given ≤ length out.new.items }
+    ensures one_more { length out.new.items + length names.new.items ≤ length out.old.items + length names.old.items + 1 }
+    ensures same_room { names.new.capacity ≡ names.old.capacity }
+    ensures same_out { vec_capacity out.new ≡ vec_capacity out.old }
+    ensures steps { steps.new + length names.new.items ≤ steps.old + length names.old.items + 2 }
+{
+    if sleeve.left(i) == sleeve.left(i - 1) {
+        let right = Spot::Corner(sleeve.right(i));
+        let apex = narrow_right(board, names, apex, right, out, steps);
+        names.push_back(right);
+        apex
+    } else {
+        let left = Spot::Corner(sleeve.left(i));
+        let apex = narrow_left(board, names, apex, left, out, steps);
+        names.push_front(left);
+        apex + 1
+    }
+}
+
+// Gives the names from the apex on to the last one, and the goal. A last name that stands for the goal is left out. It takes
+// one step.
+fn close<T: Turns, L: Ledger>(
+    board: &T,
+    names: &HeapCircularBuffer<Spot>,
+    apex: usize,
+    out: &mut Vec<Spot>,
+    steps: &mut Steps<L>,
+)
+    requires apex { apex < length names.now.items }
+    requires named { AreNamed (T.corners board.now) names.now.items }
+    requires room { length out.old.items + length names.now.items + 1 ≤ vec_capacity out.old + apex }
+    ensures at_goal { let last = length names.now.items - 1 in
+        point_named (T.corners board.now) (T.start board.now) (T.goal board.now) (name_at names.now.items last) ≡ T.goal board.now
+        → out.new.items ≡ (out.old.items ++ right_names names.now.items apex (last - apex)) ++ Goal ∷ [] }
+    ensures to_goal { let last = length names.now.items - 1 in
+        point_named (T.corners board.now) (T.start board.now) (T.goal board.now) (name_at names.now.items last) ≢ T.goal board.now
+        → out.new.items
+        ≡ ((out.old.items ++ right_names names.now.items apex (last - apex)) ++ name_at names.now.items last ∷ []) ++ Goal ∷ [] }
+    ensures same_out { vec_capacity out.new ≡ vec_capacity out.old }
+    ensures steps { steps.new ≡ steps.old + 1 }
+{
+    let last = names.len() - 1;
+    for i in apex..last {
+        out.push_reserved(name_at(names, i));
+    }
+    if !board.same(name_at(names, last), Spot::Goal, steps) {
+        out.push_reserved(name_at(names, last));
+    }
+    out.push_reserved(Spot::Goal);
+}

@@ -1,0 +1,118 @@
+// The names of a funnel, from the left end to the right one.
+ghost use Rattle.std.specs.Prelude.{◌≡◌, ◌+◌, ◌-◌, ◌<◌, ◌≤◌, ◌++◌, ◌↔◌, IsTrue, drop, length, min, take, vec_capacity};
+ghost use Rattle.exact_plane.specs.Spot.{IsNamed, point_named};
+ghost use Rattle.funnel_laws.specs.Funnel.{IsPassed, IsReachedFrom};
+ghost use Rattle.funnel_walk.specs.Names.{AreNamed, left_names, name_at, named_points, right_names};
+ghost use Rattle.plane.specs.Point.{whole};
+
+use circular_buffer::HeapCircularBuffer;
+use exact_plane::{Direction, Spot, Steps, Turns};
+use std::sync::ledger::Ledger;
+
+// The name at a place.
+pub(crate) fn name_at(names: &HeapCircularBuffer<Spot>, i: usize) -> Spot
+    requires { i < length names.now.items }
+    ensures { result ≡ name_at names.now.items i }
+{
+    *names.get(i).unwrap()
+}
+
+// Whether the way to `y` passes the edge between places `j - 1` and `j`, and so comes from place `j` or a later one.
+fn is_passed<T: Turns, L: Ledger>(
+    board: &T,
+    names: &HeapCircularBuffer<Spot>,
+    apex: usize,
+    j: usize,
+    y: Spot,
+    steps: &mut Steps<L>,
+) -> bool
+    requires inner { 0 < j }
+    requires within { j < length names.now.items }
+    requires named { AreNamed (T.corners board.now) names.now.items }
+    requires y_named { IsNamed (T.corners board.now) y }
+    ensures passed { let at = point_named (T.corners board.now) (T.start board.now) (T.goal board.now) in
+        IsTrue result ↔ IsPassed (named_points at names.now.items) apex j (whole (at y)) }
+    ensures steps { steps.new ≡ steps.old + 1 }
+{
+    let (left, right) = (name_at(names, j - 1), name_at(names, j));
+    if j <= apex {
+        board.turn(right, left, y, steps) != Direction::Left
+    } else {
+        board.turn(left, right, y, steps) == Direction::Right
+    }
+}
+
+// Takes away names on the right, until the way to `y` comes from the last one. The names that the way leaves behind go to
+// `out`. The answer is the place of the new apex.
+pub(crate) fn narrow_right<T: Turns, L: Ledger>(
+    board: &T,
+    names: &mut HeapCircularBuffer<Spot>,
+    apex: usize,
+    y: Spot,
+    out: &mut Vec<Spot>,
+    steps: &mut Steps<L>,
+) -> usize
+    requires apex { apex < length names.old.items }
+    requires named { AreNamed (T.corners board.now) names.old.items }
+    requires y_named { IsNamed (T.corners board.now) y }
+    requires room { length out.old.items + apex ≤ vec_capacity out.old }
+    ensures some { 0 < length names.new.items }
+    ensures fewer { length names.new.items ≤ length names.old.items }
+    ensures kept { names.new.items ≡ take (length names.new.items) names.old.items }
+    ensures same_room { names.new.capacity ≡ names.old.capacity }
+    ensures reached { let at = point_named (T.corners board.now) (T.start board.now) (T.goal board.now) in
+        IsReachedFrom (named_points at names.old.items) apex (length names.new.items - 1) (whole (at y)) }
+    ensures apex { result ≡ min apex (length names.new.items - 1) }
+    ensures behind { out.new.items ≡ out.old.items ++ left_names names.old.items apex (apex - (length names.new.items - 1)) }
+    ensures same_out { vec_capacity out.new ≡ vec_capacity out.old }
+    ensures steps { steps.new + length names.new.items ≤ steps.old + length names.old.items + 1 }
+{
+    let mut apex = apex;
+    let mut last = names.len() - 1;
+    while last > 0 && !is_passed(board, names, apex, last, y, steps) {
+        if last == apex {
+            out.push_reserved(name_at(names, last));
+            apex -= 1;
+        }
+        names.pop_back();
+        last -= 1;
+    }
+    apex
+}
+
+// The same on the left, until it comes from the first one.
+pub(crate) fn narrow_left<T: Turns, L: Ledger>(
+    board: &T,
+    names: &mut HeapCircularBuffer<Spot>,
+    apex: usize,
+    y: Spot,
+    out: &mut Vec<Spot>,
+    steps: &mut Steps<L>,
+) -> usize
+    requires apex { apex < length names.old.items }
+    requires named { AreNamed (T.corners board.now) names.old.items }
+    requires y_named { IsNamed (T.corners board.now) y }
+    requires room { length out.old.items + length names.old.items ≤ vec_capacity out.old + apex + 1 }
+    ensures some { 0 < length names.new.items }
+    ensures fewer { length names.new.items ≤ length names.old.items }
+    ensures kept { names.new.items ≡ drop (length names.old.items - length names.new.items) names.old.items }
+    ensures same_room { names.new.capacity ≡ names.old.capacity }
+    ensures reached { let at = point_named (T.corners board.now) (T.start board.now) (T.goal board.now) in
+        IsReachedFrom (named_points at names.old.items) apex (length names.old.items - length names.new.items) (whole (at y)) }
+    ensures apex { result ≡ apex - (length names.old.items - length names.new.items) }
+    ensures behind { out.new.items ≡ out.old.items
+        ++ right_names names.old.items apex ((length names.old.items - length names.new.items) - apex) }
+    ensures same_out { vec_capacity out.new ≡ vec_capacity out.old }
+    ensures steps { steps.new + length names.new.items ≤ steps.old + length names.old.items + 1 }
+{
+    let mut apex = apex;
+    while names.len() > 1 && is_passed(board, names, apex, 1, y, steps) {
+        if apex == 0 {
+            out.push_reserved(name_at(names, 0));
+        } else {
+            apex -= 1;
+        }
+        names.pop_front();
+    }
+    apex
+}

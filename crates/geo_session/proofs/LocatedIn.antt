@@ -1,0 +1,25 @@
+-- What the search for the triangle of a point says of the list that the ring was made of.
+use Rattle.std.proofs.Common.{◌<◌, ◌↔◌, ℕ, List, length, subst}
+use Rattle.plane.proofs.Same.{whole_is_point}
+use Rattle.plane.specs.Point.{Point, whole}
+use Rattle.rings.specs.Inside.{IsIn}
+use Rattle.ring_check.specs.Oriented.{Oriented, given_of}
+use Rattle.tri_mesh.proofs.PieceVertices.{piece_points_all}
+use Rattle.tri_mesh.specs.Fits.{Fits, IsInTri}
+use Rattle.tri_mesh.specs.Side.{tri_at}
+use Rattle.tri_mesh.specs.declared.tri.Tri.{Tri}
+use Rattle.dual_tree.specs.Location.{IsLeastHolding}
+use Rattle.geo_session.proofs.GivenTaut.{in_given_iff}
+
+module _ (ring : Oriented) (p : Point) where
+  -- a point that a triangle holds is in it
+  pub held_in_given : (tris : List Tri) (k : ℕ) → Fits ring.corners tris → IsLeastHolding ring.corners tris (whole p) k
+      → IsIn (given_of ring) (whole p)
+  held_in_given tris k fits holding =
+      let covered = subst (λ points. IsIn points (whole p) ↔ ((l : ℕ) × (l < length tris) × IsInTri ring.corners (tri_at tris l) (whole p)))
+      (piece_points_all ring.corners) (fits.covers (whole p) (whole_is_point p)) in
+      (in_given_iff ring (whole p)).1 (covered.1 (k, holding.in_list, holding.holds))
+
+  -- and one that is not in the ring is not in it
+  pub out_of_given : ¬ IsIn ring.corners (whole p) → ¬ IsIn (given_of ring) (whole p)
+  out_of_given out within = out ((in_given_iff ring (whole p)).0 within)

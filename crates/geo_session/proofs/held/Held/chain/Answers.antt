@@ -1,0 +1,27 @@
+use Rattle.std.proofs.Common.{inl, inr, refl}
+use Rattle.geo_session.proofs.GivenTaut.{taut_given}
+use Rattle.geo_session.proofs.LocatedIn.{held_in_given, out_of_given}
+use Rattle.geo_session.proofs.held.Held.chain.Goals as goal
+
+pub returns-in_default-clause-answer : goal.returns-in_default-clause-answer
+returns-in_default-clause-answer g c =
+    rw (← c.self.view_is) (inl (out_of_given c.self.inside.ring c.args.s.now (c.in_default.ensures.none.0 refl), refl))
+
+pub returns-in_default-locate-clause-answer : goal.returns-in_default-locate-clause-answer
+returns-in_default-locate-clause-answer g c =
+    let ring = c.self.inside.ring in
+    rw (← c.self.view_is)
+    (inr (
+      held_in_given ring c.args.s.now c.self.inside.mesh c.in-Some.from c.self.invariant c.in-Some.ensures.least,
+      out_of_given ring c.args.t.now (c.in_default-locate.ensures.none.0 refl),
+      refl,
+    ))
+
+pub returns-clause-answer : goal.returns-clause-answer
+returns-clause-answer g c =
+    let ring = c.self.inside.ring in
+    rw (← c.self.view_is) (
+      held_in_given ring c.args.s.now c.self.inside.mesh c.in-Some.from c.self.invariant c.in-Some.ensures.least,
+      held_in_given ring c.args.t.now c.self.inside.mesh c.in-Some-locate.to c.self.invariant c.in-Some-locate.ensures.least,
+      taut_given ring c.args.s.now c.args.t.now c.in_ok-points.points.items c.in_ok-points.ensures.taut,
+    )

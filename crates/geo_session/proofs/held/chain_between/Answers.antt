@@ -1,0 +1,31 @@
+use Rattle.std.proofs.Common.{arith}
+use Rattle.geo_session.proofs.SleeveRoom.{sleeve_few}
+use Rattle.geo_session.proofs.WalkedNames.{names_named, names_taut}
+use Rattle.geo_session.proofs.held.chain_between.Goals as goal
+
+pub with_room-requires : goal.with_room-requires
+with_room-requires g c =
+    let few = sleeve_few c.args.ring.now.corners c.args.mesh.now c.in_ok-sleeve.sleeve c.requires.fits c.in_ok-sleeve.ensures.of_mesh in
+    omega (arith, few)
+
+pub put_points-requires-clause-named : goal.put_points-requires-clause-named
+put_points-requires-clause-named g c =
+    rw c.deref.ensures.value
+    (names_named c.args.ring.now.corners _ c.args.s.now _ c.args.t.now _ c.walk.new.out.items c.in_ok-names.names.items
+    c.new-board.ensures.corners c.new-board.ensures.start c.new-board.ensures.goal c.in_ok-names.ensures.items c.walk.ensures.taut)
+
+pub returns-clause-taut : goal.returns-clause-taut
+returns-clause-taut g c =
+    rw (c.put_points.ensures.points, c.in_ok-points.ensures.items, c.deref.ensures.value)
+    (names_taut c.args.ring.now.corners _ c.args.s.now _ c.args.t.now _ c.walk.new.out.items c.in_ok-names.names.items
+    c.new-board.ensures.corners c.new-board.ensures.start c.new-board.ensures.goal c.in_ok-names.ensures.items c.walk.ensures.taut)
+
+pub returns-clause-few : goal.returns-clause-few
+returns-clause-few g c =
+    let few = sleeve_few c.args.ring.now.corners c.args.mesh.now c.in_ok-sleeve.sleeve c.requires.fits c.in_ok-sleeve.ensures.of_mesh in
+    omega (arith, few, c.in_ok-points.ensures.exact)
+
+pub returns-clause-steps : goal.returns-clause-steps
+returns-clause-steps g c =
+    let few = sleeve_few c.args.ring.now.corners c.args.mesh.now c.in_ok-sleeve.sleeve c.requires.fits c.in_ok-sleeve.ensures.of_mesh in
+    omega (arith, few)

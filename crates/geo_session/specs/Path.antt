@@ -1,0 +1,31 @@
+-- What `Session::chain` answers, and the steps of a `path` record. This project's own.
+use Rattle.std.specs.Prelude.{◌≡◌, ◌⊎◌, ℕ, ◌+◌, ◌*◌, ◌≤◌, List, [], ◌++◌, length, Some, None, Result, Ok, Err, Vec}
+use Rattle.std.specs.declared.alloc.Global.{Global}
+use Rattle.plane.specs.Point.{Point, whole}
+use Rattle.rings.specs.Chain.{IsTaut}
+use Rattle.rings.specs.Inside.{IsIn}
+use Rattle.geo_text.specs.declared.command.Bad.{Bad}
+use Rattle.geo_text.specs.declared.command.Bad.TheVariants as bad
+use Rattle.geo_session.specs.Answer.{State, path_text}
+
+-- a taut chain from s to t in a polygon, or the first of the two that is not in it
+abbrev pub IsChainIn : List Point → Point → Point → Result (Vec Point Global) Bad → Type 0
+IsChainIn ring s t (Ok points) = IsIn ring (whole s) × IsIn ring (whole t) × IsTaut ring s t points.items
+IsChainIn ring s t (Err fault) =
+    ((¬ IsIn ring (whole s)) × (fault ≡ bad.Outside 1)) ⊎ (IsIn ring (whole s) × (¬ IsIn ring (whole t)) × (fault ≡ bad.Outside 2))
+
+-- if there is one
+abbrev pub IsChainAnswer : State → Point → Point → Result (Vec Point Global) Bad → Type 0
+IsChainAnswer None s t found = found ≡ Err bad.NoPolygon
+IsChainAnswer (Some ring) s t found = IsChainIn ring s t found
+
+-- how many vertices the polygon has
+abbrev pub size_of : State → ℕ
+size_of None = 0
+size_of (Some ring) = length ring
+
+-- 16 steps for each vertex and 64 for each point whose line was appended are enough
+pub record TakesPathSteps (before : State) (out out' : List ℕ) (steps steps' : ℕ) : Type 0 where
+  pub points : List Point
+  pub printed : (out' ≡ out ++ path_text points) ⊎ (points ≡ [])
+  pub bound : steps' ≤ steps + 16 * size_of before + 64 * length points

@@ -1,0 +1,115 @@
+ghost use Rattle.std.specs.Prelude.{◌≡◌, ◌+◌, ◌*◌, ◌≤◌, ◌++◌, IfOk, length, vec_capacity};
+ghost use Rattle.dual_tree.specs.Location.{IsLeastHolding};
+ghost use Rattle.exact_plane.specs.Spot.{IsNamed, point_named};
+ghost use Rattle.funnel_walk.specs.Names.{AreNamed, named_points};
+ghost use Rattle.geo_session.specs.Path.{IsChainIn};
+ghost use Rattle.plane.specs.Point.{whole};
+ghost use Rattle.ring_check.specs.Oriented.{given_of};
+ghost use Rattle.rings.specs.Chain.{IsTaut};
+ghost use Rattle.tri_mesh.specs.Fits.{Fits};
+
+use dual_tree::{Board, locate, sleeve};
+use exact_plane::{Memory, Pt, Spot, Steps};
+use funnel_walk::{FunnelBox, walk};
+use geo_text::Bad;
+use ring_check::Ring;
+use std::alloc::Global;
+use std::marker::Model;
+use std::sync::ledger::Ledger;
+use tri_mesh::Mesh;
+
+// A ring, with a mesh that fits it.
+#[derive(Drop)]
+pub(crate) struct Held {
+    pub(crate) ring: Ring,
+    pub(crate) mesh: Mesh,
+}
+
+impl Model for Held {
+    ghost use Rattle.ring_check.specs.Oriented.{Oriented};
+    ghost use Rattle.tri_mesh.specs.Fits.{Fits};
+
+    ghost Value = { Oriented };
+
+    ghost view = { λ held. held.ring };
+
+    ghost invariant = { λ held. Fits held.ring.corners held.mesh };
+}
+
+impl Held {
+    // The taut chain between two points of the ring, or which of them is the first that is not in it. It takes all its memory
+    // before the walk.
+    pub(crate) fn chain<L: Ledger>(
+        &self,
+        alloc: Global,
+        s: &Pt,
+        t: &Pt,
+        steps: &mut Steps<L>,
+    ) -> Result<Result<Vec<Pt>, Bad>, Memory>
+        ensures answer { IfOk result (IsChainIn (given_of self.now) s.now t.now) }
+        ensures few { IfOk result (λ found. IfOk found (λ points. length points.items ≤ 4097)) }
+        ensures steps { steps.new ≤ steps.old + 12 * length self.now.corners }
+    {
+        let Some(from) = locate(&self.mesh, &self.ring, s, steps) else {
+            return Ok(Err(Bad::Outside(1)));
+        };
+        let Some(to) = locate(&self.mesh, &self.ring, t, steps) else {
+            return Ok(Err(Bad::Outside(2)));
+        };
+        let points = chain_between(alloc, &self.mesh, &self.ring, from, to, s, t, steps)?;
+        Ok(Ok(points))
+    }
+}
+
+// The taut chain from a point in one triangle to a point in another.
+fn chain_between<L: Ledger>(
+    alloc: Global,
+    mesh: &Mesh,
+    ring: &Ring,
+    from: u32,
+    to: u32,
+    s: &Pt,
+    t: &Pt,
+    steps: &mut Steps<L>,
+) -> Result<Vec<Pt>, Memory>
+    requires fits { Fits ring.now.corners mesh.now }
+    requires from { IsLeastHolding ring.now.corners mesh.now (whole s.now) from }
+    requires to { IsLeastHolding ring.now.corners mesh.now (whole t.now) to }
+    ensures taut { IfOk result (λ points. IsTaut ring.now.corners s.now t.now points.items) }
+    ensures few { IfOk result (λ points. length points.items ≤ 4097) }
+    ensures steps { steps.new ≤ steps.old + 4 * length ring.now.corners }
+{
+    let _count = ring.len();
+    let sleeve = sleeve(alloc, mesh, from, to)?;
+    let mut room = FunnelBox::with_room(alloc, sleeve.len())?;
+    let mut names = Vec::with_capacity(alloc, sleeve.len() + 4)?;
+    let mut points = Vec::with_capacity(alloc, sleeve.len() + 4)?;
+    let board = Board::new(ring, *s, *t);
+    walk(&mut room, &board, mesh, &sleeve, &mut names, steps);
+    put_points(&mut points, &names, ring, s, t);
+    Ok(points)
+}
+
+// Appends the points that the names stand for.
+fn put_points(points: &mut Vec<Pt>, names: &[Spot], ring: &Ring, s: &Pt, t: &Pt)
+    requires named { AreNamed ring.now.corners names.now }
+    requires room { length points.old.items + length names.now ≤ vec_capacity points.old }
+    ensures points { points.new.items ≡ points.old.items ++ named_points (point_named ring.now.corners s.now t.now) names.now }
+    ensures same_room { vec_capacity points.new ≡ vec_capacity points.old }
+{
+    for name in names {
+        points.push_reserved(point_of(*name, ring, s, t));
+    }
+}
+
+// The point that a name stands for.
+fn point_of(name: Spot, ring: &Ring, s: &Pt, t: &Pt) -> Pt
+    requires { IsNamed ring.now.corners name }
+    ensures { result ≡ point_named ring.now.corners s.now t.now name }
+{
+    match name {
+        Spot::Corner(i) => ring.corner(i),
+        Spot::Start => *s,
+        Spot::Goal => *t,
+    }
+}
