@@ -1,8 +1,8 @@
 -- How triangles that fit the pieces which are still to be cut complete a mesh of the ring.
 use Rattle.std.proofs.Common.{ℕ, ◌+◌, ◌-◌, ◌*◌, List, [], ◌∷◌, ◌++◌, length}
 use Rattle.plane.specs.Point.{Point}
-use Rattle.tri_mesh.specs.Fits.{Fits, FitsPiece}
-use Rattle.tri_mesh.specs.declared.tri.Tri.{Tri}
+use Rattle.meshes.specs.Fits.{Fits, FitsPiece}
+use Rattle.meshes.specs.declared.tri.Tri.{Tri}
 use Rattle.cut_tri.specs.Piece.{IsPiece}
 
 -- each of them is a piece

@@ -5,15 +5,14 @@ use Rattle.plane.specs.Order.{IsBefore}
 use Rattle.plane.specs.Point.{Point, whole}
 use Rattle.plane.specs.Triangle.{IsInTriangle}
 use Rattle.plane.specs.Turn.{IsLeft}
-use Rattle.rings.proofs.DistinctPoints.{HasPoint}
-use Rattle.rings.proofs.Items.{number_of}
+use Rattle.rings.proofs.Vertices.{HasPoint, number_of}
 use Rattle.rings.specs.Ring.{origin, vertex}
 use Rattle.rings.specs.Simple.{IsSimple}
 use Rattle.rings.specs.Winding.{RunsCounterclockwise}
-use Rattle.ring_ears.proofs.LeastVertex.{NoneBefore}
-use Rattle.ring_laws.proofs.CounterclockwiseCuts.{least_turn}
-use Rattle.ring_laws.proofs.FarthestEnd.{InTriangle, height}
-use Rattle.tri_mesh.specs.Fits.{piece_points}
+use Rattle.ring_laws.proofs.Cuts.{least_turn}
+use Rattle.ring_laws.proofs.Ears.{NoneBefore}
+use Rattle.ring_laws.proofs.Simple.{InTriangle, height}
+use Rattle.meshes.specs.Fits.{piece_points}
 use Rattle.cut_tri.proofs.Shapes.{ends_length, last_is, middle_is}
 use Rattle.cut_tri.specs.Corner.{IsInCorner, candidate_at}
 use Rattle.cut_tri.specs.Piece.{IsLeastBelow, IsPiece}

@@ -3,15 +3,12 @@ use Rattle.std.proofs.Common.{◌≡◌, inl, refl, sym, ap, subst, ◌∙◌, �
 use Rattle.std.proofs.lemmas.Int.{ints}
 use Rattle.std.proofs.lemmas.List.{append_assoc, drop_at, get_or_at, length-append, map-append, take_at}
 use Rattle.plane.specs.Point.{Point}
-use Rattle.rings.proofs.DistinctPoints.{HasPoint}
-use Rattle.rings.proofs.Farthest.{Farthest}
-use Rattle.rings.proofs.Items.{has_right}
+use Rattle.rings.proofs.Vertices.{HasPoint, Farthest, has_right}
 use Rattle.rings.specs.Ring.{vertex}
-use Rattle.ring_laws.proofs.CounterclockwiseCuts.{IsCounterclockwiseCut, farthest_cut_runs}
-use Rattle.ring_laws.proofs.FarthestEnd.{InTriangle, height}
-use Rattle.tri_mesh.specs.Fits.{piece_points}
-use Rattle.mesh_joins.proofs.Cuts.{IsCut, both_parts, contains_first_part, contains_second_part, first_part, second_part}
-use Rattle.mesh_joins.proofs.Joined.{fits_joined}
+use Rattle.ring_laws.proofs.Cuts.{IsCounterclockwiseCut, farthest_cut_runs}
+use Rattle.ring_laws.proofs.Simple.{InTriangle, height}
+use Rattle.meshes.proofs.Joins.{IsCut, both_parts, contains_first_part, contains_second_part, first_part, second_part, fits_joined}
+use Rattle.meshes.specs.Fits.{piece_points}
 use Rattle.cut_tri.proofs.CornerPlaces.{ends_run, ends_simple, height_is, in_corner_from, in_triangle_from, none_before, place_of_point}
 use Rattle.cut_tri.proofs.Members.{members_of_numbers, numbers_of_members}
 use Rattle.cut_tri.proofs.Shapes.{by_split, ends_length}

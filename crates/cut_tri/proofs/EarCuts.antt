@@ -3,14 +3,12 @@ use Rattle.std.proofs.Common.{◌≡◌, inl, inr, sym, subst, ℕ, ◌<◌, Lis
 use Rattle.std.proofs.lemmas.List.{length-append, length-map, map-append}
 use Rattle.plane.proofs.Segments.{on_reversed}
 use Rattle.plane.specs.Point.{Point, whole}
+use Rattle.rings.proofs.Inside.{in_rotated}
 use Rattle.rings.specs.Ring.{vertex}
-use Rattle.inside_laws.proofs.Rotated.{in_rotated}
-use Rattle.ring_laws.proofs.CounterclockwiseCuts.{IsCounterclockwiseCut, ear_cut_runs}
-use Rattle.tri_mesh.proofs.BaseTriangle.{fits_triangle}
-use Rattle.tri_mesh.specs.Fits.{FitsPiece, piece_points}
-use Rattle.mesh_joins.proofs.Cuts.{IsCut, contains_rest}
-use Rattle.mesh_joins.proofs.Ears.{fits_ear}
-use Rattle.mesh_joins.proofs.Rotated.{fits_rotated, same_rotated}
+use Rattle.ring_laws.proofs.Cuts.{IsCounterclockwiseCut, ear_cut_runs}
+use Rattle.meshes.proofs.Joins.{IsCut, contains_rest, fits_ear, fits_rotated, same_rotated}
+use Rattle.meshes.proofs.Sides.{fits_triangle}
+use Rattle.meshes.specs.Fits.{FitsPiece, piece_points}
 use Rattle.cut_tri.proofs.CornerPlaces.{ends_run, ends_simple, first_left, none_before, none_in_triangle}
 use Rattle.cut_tri.proofs.Members.{members_of_numbers, numbers_of_members}
 use Rattle.cut_tri.proofs.Shapes.{by_ends, first_tri_is}

@@ -6,10 +6,9 @@ use Rattle.std.specs.List.{Contains}
 use Rattle.plane.specs.Point.{Point}
 use Rattle.rings.specs.Ring.{vertex}
 use Rattle.rings.specs.Winding.{RunsCounterclockwise}
-use Rattle.ring_ears.proofs.RunsOnce.{counterclockwise_rotated}
-use Rattle.tri_mesh.specs.Fits.{piece_points}
-use Rattle.mesh_joins.proofs.Cuts.{place_of}
-use Rattle.mesh_joins.proofs.Rotated.{same_rotated}
+use Rattle.ring_laws.proofs.Ears.{counterclockwise_rotated}
+use Rattle.meshes.proofs.Joins.{place_of, same_rotated}
+use Rattle.meshes.specs.Fits.{piece_points}
 use Rattle.cut_tri.specs.Piece.{IsPiece}
 
 module _ (n : ℕ) (xs : List ℕ) where

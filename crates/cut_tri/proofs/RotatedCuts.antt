@@ -7,9 +7,8 @@ use Rattle.std.specs.Prelude.{IfOk}
 use Rattle.plane.specs.Order.{IsBefore}
 use Rattle.plane.specs.Point.{Point}
 use Rattle.rings.specs.Ring.{vertex}
+use Rattle.meshes.proofs.Joins.{place_of, fits_rotated}
 use Rattle.exact_plane.specs.declared.memory.Memory.{Memory}
-use Rattle.mesh_joins.proofs.Cuts.{place_of}
-use Rattle.mesh_joins.proofs.Rotated.{fits_rotated}
 use Rattle.cut_tri.proofs.Members.{members_back, piece_rotated}
 use Rattle.cut_tri.specs.Cutting.{IsCutOf}
 use Rattle.cut_tri.specs.Piece.{IsLeastBelow, IsPiece, corner_at}

@@ -5,12 +5,12 @@ use Rattle.std.proofs.lemmas.List.{map-id}
 use Rattle.std.proofs.lemmas.List.FromFn.{get_or-range_with_len, length-range_with_len, map-range_with_len_more}
 use Rattle.std.specs.List.{range_with_len}
 use Rattle.plane.specs.Point.{Point}
-use Rattle.rings.proofs.SimpleIsApart.{apart_of_simple}
+use Rattle.rings.proofs.Simple.{apart_of_simple}
 use Rattle.rings.specs.Orientation.{IsCounterclockwise}
 use Rattle.rings.specs.Simple.{IsSimple}
 use Rattle.rings.specs.Winding.{RunsCounterclockwise}
-use Rattle.ring_laws.proofs.SimpleRings.{runs_round}
-use Rattle.tri_mesh.proofs.PieceVertices.{piece_points_all}
+use Rattle.ring_laws.proofs.Simple.{runs_round}
+use Rattle.meshes.proofs.Sides.{piece_points_all}
 use Rattle.cut_tri.specs.Piece.{IsPiece}
 
 -- one more number at the end

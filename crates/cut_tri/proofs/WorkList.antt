@@ -4,12 +4,12 @@ use Rattle.std.proofs.lemmas.List.{append_assoc, map-append, reverse-append}
 use Rattle.std.proofs.lemmas.List.FromFn.{length-range_with_len}
 use Rattle.std.specs.List.{range_with_len}
 use Rattle.plane.specs.Point.{Point}
-use Rattle.tri_mesh.specs.Fits.{Fits, FitsPiece}
-use Rattle.tri_mesh.specs.declared.tri.Tri.{Tri}
+use Rattle.meshes.specs.Fits.{Fits, FitsPiece}
+use Rattle.meshes.specs.declared.tri.Tri.{Tri}
 use Rattle.cut_tri.proofs.Completion.{ArePieces, Completes, effort}
-use Rattle.cut_tri.specs.WorkList.{IsTakenOver, last_first}
 use Rattle.cut_tri.specs.Cutting.{AreParts, IsCutOf, IsEar}
 use Rattle.cut_tri.specs.Piece.{IsPiece}
+use Rattle.cut_tri.specs.WorkList.{IsTakenOver, last_first}
 use Rattle.cut_tri.specs.declared.cut.Remains.{Remains}
 use Rattle.cut_tri.specs.declared.cut.Remains.TheVariants.{Triangle, Ear, Parts}
 

@@ -2,8 +2,8 @@
 -- module.
 use Rattle.std.specs.Prelude.{◌≡◌, ℕ, ◌+◌, List, [], ◌∷◌, ◌++◌, length}
 use Rattle.plane.specs.Point.{Point}
-use Rattle.tri_mesh.specs.Fits.{FitsPiece}
-use Rattle.tri_mesh.specs.declared.tri.Tri.{Tri}
+use Rattle.meshes.specs.Fits.{FitsPiece}
+use Rattle.meshes.specs.declared.tri.Tri.{Tri}
 use Rattle.cut_tri.specs.Piece.{IsPiece}
 use Rattle.cut_tri.specs.declared.cut.Remains.{Remains}
 use Rattle.cut_tri.specs.declared.cut.Remains.TheVariants.{Triangle, Ear, Parts}

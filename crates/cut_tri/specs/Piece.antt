@@ -5,8 +5,8 @@ use Rattle.plane.specs.Point.{Point}
 use Rattle.rings.specs.Ring.{vertex}
 use Rattle.rings.specs.Simple.{IsSimple}
 use Rattle.rings.specs.Winding.{RunsCounterclockwise}
-use Rattle.tri_mesh.specs.Fits.{piece_points}
-use Rattle.tri_mesh.specs.declared.tri.Tri.{Tri}
+use Rattle.meshes.specs.Fits.{piece_points}
+use Rattle.meshes.specs.declared.tri.Tri.{Tri}
 
 -- its items are numbers of vertices
 abbrev pub HasNumbers : List Point → List ℕ → Type 0

@@ -2,7 +2,7 @@
 -- module.
 use Rattle.std.specs.Prelude.{◌≡◌, ℕ, List, [], ◌∷◌, ◌++◌, map, reverse, Vec}
 use Rattle.std.specs.declared.alloc.Global.{Global}
-use Rattle.tri_mesh.specs.declared.tri.Tri.{Tri}
+use Rattle.meshes.specs.declared.tri.Tri.{Tri}
 use Rattle.cut_tri.specs.declared.cut.Remains.{Remains}
 use Rattle.cut_tri.specs.declared.cut.Remains.TheVariants.{Triangle, Ear, Parts}
 

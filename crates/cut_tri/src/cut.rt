@@ -7,11 +7,11 @@ ghost use Rattle.cut_tri.specs.Piece.{HasNumbers, IsLeastBelow, IsPiece, tri_at_
 
 use crate::farthest::farthest;
 use exact_plane::{Memory, Steps, order};
+use meshes::Tri;
 use ring_check::Ring;
 use std::alloc::Global;
 use std::cmp::Ordering;
 use std::sync::ledger::Ledger;
-use tri_mesh::Tri;
 
 // What remains of a piece.
 #[derive(Drop)]

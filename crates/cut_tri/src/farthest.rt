@@ -1,11 +1,11 @@
 // The vertex of a piece that a diagonal from its first vertex goes to.
 ghost use Rattle.std.specs.Prelude.{◌≡◌, ◌<◌, ◌≤◌, ◌^◌, ◌↔◌, ◌*ℤ◌, ◌-ℤ◌, ℕ, IsTrue, IfSome, IfNone, length, unsigned_abs};
-ghost use Rattle.cut_tri.specs.Corner.{IsFarther, IsFartherOf, IsFarthestBelow, IsInCorner};
-ghost use Rattle.cut_tri.specs.Piece.{HasNumbers};
 ghost use Rattle.plane.specs.Point.{whole};
+ghost use Rattle.plane.specs.Triangle.{IsInTriangle, height_over};
 ghost use Rattle.plane.specs.Turn.{IsRight, determinant};
 ghost use Rattle.rings.specs.Ring.{vertex};
-ghost use Rattle.plane.specs.Triangle.{IsInTriangle, height_over};
+ghost use Rattle.cut_tri.specs.Corner.{IsFarther, IsFartherOf, IsFarthestBelow, IsInCorner};
+ghost use Rattle.cut_tri.specs.Piece.{HasNumbers};
 
 use exact_plane::{Direction, Pt, Steps, turn};
 use ring_check::Ring;

@@ -2,13 +2,14 @@ ghost use Rattle.std.specs.Prelude.{◌≡◌, ◌<◌};
 
 use crate::triangulate;
 use exact_plane::{Memory, Pt, Steps};
+use meshes::Tri;
 use ring_check::Ring;
 use std::alloc::Global;
 use std::marker::Brand;
 use std::process::Abort;
 use std::sync::ledger::{Blank, Ledger};
 use std::test::Fail;
-use tri_mesh::{Mesh, Tri};
+use tri_mesh::Mesh;
 
 const A: i64 = 1_000_000;
 

@@ -1,14 +1,15 @@
-ghost use Rattle.std.specs.Prelude.{◌≡◌, IfOk, OnOk, length};
 ghost use Rattle.std.specs.List.{range_with_len};
+ghost use Rattle.std.specs.Prelude.{◌≡◌, IfOk, OnOk, length};
+ghost use Rattle.meshes.specs.Fits.{Fits};
 ghost use Rattle.cut_tri.specs.WorkList.{IsTakenOver, last_first};
-ghost use Rattle.tri_mesh.specs.Fits.{Fits};
 
 use crate::cut::{Remains, cut};
 use exact_plane::{Memory, Steps};
+use meshes::Tri;
 use ring_check::Ring;
 use std::alloc::Global;
 use std::sync::ledger::Ledger;
-use tri_mesh::{Mesh, Tri};
+use tri_mesh::Mesh;
 
 /// A triangulation of the polygon. It is cut along one diagonal after another, until each piece is a triangle.
 pub fn triangulate<L: Ledger>(

@@ -4,10 +4,10 @@ use Rattle.std.proofs.lemmas.List.FromFn.{get_or-range_with_len, length-range_wi
 use Rattle.std.specs.List.{Contains, range_with_len}
 use Rattle.plane.specs.Point.{IsPoint, Point, Triple}
 use Rattle.rings.specs.Inside.{IsIn}
-use Rattle.tri_mesh.proofs.PieceVertices.{piece_points_all}
-use Rattle.tri_mesh.specs.Fits.{Fits, IsInTri}
-use Rattle.tri_mesh.specs.Side.{tri_at}
-use Rattle.tri_mesh.specs.declared.tri.Tri.{Tri}
+use Rattle.meshes.proofs.Sides.{piece_points_all}
+use Rattle.meshes.specs.Fits.{Fits, IsInTri}
+use Rattle.meshes.specs.Side.{tri_at}
+use Rattle.meshes.specs.declared.tri.Tri.{Tri}
 use Rattle.dual_tree.specs.Location.{HasCornersBelow}
 
 -- a member of the numbers below n is below n

@@ -1,17 +1,18 @@
 -- One more triangle that a search reaches, and the triangles at the sides of one.
-use Rattle.std.proofs.Common.{◌≡◌, ◌≢◌, refl, sym, ap, ◌∙◌, ℕ, suc, ◌+◌, ◌<◌, ◌≤◌, ◌^◌, inl, inr, List, [], ◌∷◌, ◌++◌, length, arith, Some, None, length-append, true, cond}
+use Rattle.std.proofs.Common.{◌≡◌, ◌≢◌, refl, sym, ap, ◌∙◌, ℕ, suc, ◌+◌, ◌<◌, ◌≤◌, ◌^◌, inl, inr, List, [], ◌∷◌, ◌++◌, length, arith, Some, None}
+use Rattle.std.proofs.Common.{length-append, true, cond}
 use Rattle.std.proofs.Math.ListN.{set, length-set}
 use Rattle.std.proofs.lemmas.Bool.{cases_eq}
 use Rattle.std.proofs.lemmas.List.{get_or_append_left, get_or_push, get_or-set_other, get_or-set_same}
 use Rattle.std.proofs.lemmas.List.Sums.{count_by-le-length, sum_by-cons, sum_by-set}
 use Rattle.std.specs.List.{sum_by}
 use Rattle.std.specs.Prelude.{OnOk, Ok, Err, Option, Result, count_by, is_none, is_some}
+use Rattle.meshes.specs.Fits.{IsSideOfOne, IsSideOfTwo}
+use Rattle.meshes.specs.Mesh.{side_begin, side_end}
+use Rattle.meshes.specs.Side.{ShareSide, tri_at}
+use Rattle.meshes.specs.declared.tri.Tri.{Tri}
 use Rattle.dual_tree.specs.Search.{IsDone, IsGrown, IsLinked, IsReached, IsSearch, IsSideDone, place_in, reached_at}
 use Rattle.dual_tree.specs.declared.search.Reached.{Reached}
-use Rattle.tri_mesh.specs.Fits.{IsSideOfOne, IsSideOfTwo}
-use Rattle.tri_mesh.specs.Mesh.{side_begin, side_end}
-use Rattle.tri_mesh.specs.Side.{ShareSide, tri_at}
-use Rattle.tri_mesh.specs.declared.tri.Tri.{Tri}
 
 -- nothing was changed
 pub grown_same : (reached : List Reached) → IsGrown reached reached

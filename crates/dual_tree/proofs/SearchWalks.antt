@@ -1,13 +1,14 @@
 -- A search that is done has reached every triangle, and the places lead from each of them back to the first.
-use Rattle.std.proofs.Common.{◌≡◌, ◌≢◌, refl, sym, ap, subst, ◌∙◌, ℕ, zero, suc, ◌+◌, ◌-◌, ◌<◌, ◌≤◌, inl, inr, List, [], ◌∷◌, ◌++◌, length, get_or, arith, Some, None, length-append}
+use Rattle.std.proofs.Common.{◌≡◌, ◌≢◌, refl, sym, ap, subst, ◌∙◌, ℕ, zero, suc, ◌+◌, ◌-◌, ◌<◌, ◌≤◌, inl, inr, List, [], ◌∷◌, ◌++◌, length, get_or}
+use Rattle.std.proofs.Common.{arith, Some, None, length-append}
 use Rattle.std.proofs.lemmas.Bool.{cases_eq}
 use Rattle.std.proofs.lemmas.List.{get_or_append_left, get_or_push}
 use Rattle.std.specs.Prelude.{Err, IfOk, Ok, Option, Result}
+use Rattle.meshes.specs.Side.{IsTree, IsWalk, IsWalkBetween, ShareSide, tri_at}
+use Rattle.meshes.specs.Sleeve.{IsOneOf, Sleeve}
+use Rattle.meshes.specs.declared.tri.Tri.{Tri}
 use Rattle.dual_tree.specs.Search.{IsDone, IsReached, IsSearch, reached_at}
 use Rattle.dual_tree.specs.declared.search.Reached.{Reached}
-use Rattle.tri_mesh.specs.Side.{IsTree, IsWalk, IsWalkBetween, ShareSide, tri_at}
-use Rattle.tri_mesh.specs.Sleeve.{IsOneOf, Sleeve}
-use Rattle.tri_mesh.specs.declared.tri.Tri.{Tri}
 
 module _ (tris : List Tri) (places : List (Option ℕ)) (done : (k : ℕ) → IsReached places k → IsDone tris places k) where
   -- where the first triangle of a walk was reached, all were

@@ -1,9 +1,9 @@
 -- The triangle of a mesh that holds a point. This project's own.
 use Rattle.std.specs.Prelude.{ℕ, ◌<◌, List, length}
 use Rattle.plane.specs.Point.{Point, Triple}
-use Rattle.tri_mesh.specs.Fits.{IsInTri}
-use Rattle.tri_mesh.specs.Side.{tri_at}
-use Rattle.tri_mesh.specs.declared.tri.Tri.{Tri}
+use Rattle.meshes.specs.Fits.{IsInTri}
+use Rattle.meshes.specs.Side.{tri_at}
+use Rattle.meshes.specs.declared.tri.Tri.{Tri}
 
 -- the closed triangle k holds the point, and none before it does
 pub record IsLeastHolding (corners : List Point) (tris : List Tri) (p : Triple) (k : ℕ) : Type 0 where

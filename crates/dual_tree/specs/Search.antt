@@ -1,9 +1,9 @@
 -- What a search over the triangles of a mesh keeps, from one of them outward. This project's own.
 use Rattle.std.specs.Prelude.{◌≡◌, ℕ, ◌<◌, ◌≤◌, ◌^◌, Option, Some, None, List, length, slice_index_or, is_some, count_by}
+use Rattle.meshes.specs.Mesh.{side_begin, side_end}
+use Rattle.meshes.specs.Side.{HasSideBetween, ShareSide, tri_at}
+use Rattle.meshes.specs.declared.tri.Tri.{Tri}
 use Rattle.dual_tree.specs.declared.search.Reached.{Reached}
-use Rattle.tri_mesh.specs.Mesh.{side_begin, side_end}
-use Rattle.tri_mesh.specs.Side.{HasSideBetween, ShareSide, tri_at}
-use Rattle.tri_mesh.specs.declared.tri.Tri.{Tri}
 
 -- what was reached at a place
 abbrev pub reached_at : List Reached → ℕ → Reached

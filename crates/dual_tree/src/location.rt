@@ -1,14 +1,15 @@
 ghost use Rattle.std.specs.Prelude.{◌≡◌, ◌+◌, ◌-◌, ◌*◌, ◌<◌, ◌≤◌, ◌↔◌, IfSome, IsNone, IsTrue, length};
-ghost use Rattle.dual_tree.specs.Location.{HasCornersBelow, IsLeastHolding};
 ghost use Rattle.plane.specs.Point.{whole};
 ghost use Rattle.plane.specs.Turn.{IsRight};
 ghost use Rattle.rings.specs.Inside.{IsIn};
-ghost use Rattle.tri_mesh.specs.Fits.{Fits, IsInTri};
+ghost use Rattle.meshes.specs.Fits.{Fits, IsInTri};
+ghost use Rattle.dual_tree.specs.Location.{HasCornersBelow, IsLeastHolding};
 
 use exact_plane::{Direction, Pt, Steps, turn};
+use meshes::Tri;
 use ring_check::Ring;
 use std::sync::ledger::Ledger;
-use tri_mesh::{Mesh, Tri};
+use tri_mesh::Mesh;
 
 /// The least triangle that holds `p`, its sides included, or none where `p` is not in the ring. It takes at most 3 steps a
 /// triangle.

@@ -1,6 +1,6 @@
 ghost use Rattle.std.specs.Prelude.{◌≡◌, ◌<◌, ℕ, None, Some, IfOk, OnOk, length};
+ghost use Rattle.meshes.specs.Side.{IsWalkBetween, ShareSide, tri_at};
 ghost use Rattle.dual_tree.specs.Search.{IsDone, IsGrown, IsReached, IsSearch, IsSideDone, place_in, reached_at};
-ghost use Rattle.tri_mesh.specs.Side.{IsWalkBetween, ShareSide, tri_at};
 
 use exact_plane::Memory;
 use std::alloc::Global;

@@ -1,6 +1,6 @@
 ghost use Rattle.std.specs.Prelude.{◌≡◌, ◌<◌, ℕ, List, IfOk, length};
-ghost use Rattle.tri_mesh.specs.Side.{IsWalkBetween};
-ghost use Rattle.tri_mesh.specs.Sleeve.{IsOneOf};
+ghost use Rattle.meshes.specs.Side.{IsWalkBetween};
+ghost use Rattle.meshes.specs.Sleeve.{IsOneOf};
 
 use crate::search::walk_between;
 use exact_plane::Memory;

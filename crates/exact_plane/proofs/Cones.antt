@@ -1,9 +1,9 @@
 -- A point is in a cone exactly if neither turn toward it is against the cone's own.
 use Rattle.std.proofs.Common.{◌≡◌, ◌≢◌, ◌↔◌, ◌⊎◌, inl, inr, refl, sym, ap, ◌∙◌, zero, suc, ℤ, pos, negsuc, ◌<ℤ◌, IsTrue, Bool, false, arith}
-use Rattle.std.proofs.lemmas.Int.{ints}
 use Rattle.std.proofs.lemmas.Bool.{false_from_ne_true, not_from_false}
+use Rattle.std.proofs.lemmas.Int.{ints}
 use Rattle.std.specs.Prelude.{not}
-use Rattle.plane.proofs.Determinants.{straight_swap_first}
+use Rattle.plane.proofs.Turns.{straight_swap_first}
 use Rattle.plane.specs.Cone.{IsInCone}
 use Rattle.plane.specs.Point.{Triple}
 use Rattle.plane.specs.Turn.{IsStraight}

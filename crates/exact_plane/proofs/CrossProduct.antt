@@ -3,8 +3,8 @@ use Rattle.std.proofs.Common.{◌≡◌, ◌∙◌, ◌<◌, ◌^◌, ℤ, ◌*�
 use Rattle.std.proofs.lemmas.Int.{ints, to_z-of_z, unsigned_abs-mul}
 use Rattle.std.proofs.lemmas.Nat.{mul-lt}
 use Rattle.std.specs.Prelude.{FitsSigned, unsigned_abs}
+use Rattle.plane.proofs.Turns.{determinant_of_whole}
 use Rattle.exact_plane.proofs.Registers.{read}
-use Rattle.plane.proofs.Determinants.{determinant_of_whole}
 
 module _ (a b : ℤ) (small_a : unsigned_abs a < 2 ^ 24) (small_b : unsigned_abs b < 2 ^ 24) where
   -- the size of a product of small numbers

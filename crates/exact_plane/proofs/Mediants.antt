@@ -3,12 +3,12 @@ use Rattle.std.proofs.Common.{◌≡◌, ◌∙◌, subst, sym, ◌<◌, ◌^◌
 use mir.Syntax.{w128}
 use Rattle.std.proofs.lemmas.Int.{ints, to_z-of_z}
 use Rattle.std.specs.Prelude.{FitsSigned, unsigned_abs}
-use Rattle.exact_plane.proofs.Registers.{wide}
-use Rattle.exact_plane.specs.Size.{IsSized}
-use Rattle.plane.proofs.Meeting.{mediant_not_first, mediant_not_second, mediant_on}
+use Rattle.plane.proofs.Meetings.{mediant_not_first, mediant_not_second, mediant_on}
 use Rattle.plane.specs.Line.{mediant}
 use Rattle.plane.specs.Point.{IsPoint, Triple}
 use Rattle.plane.specs.Segment.{On}
+use Rattle.exact_plane.proofs.Registers.{wide}
+use Rattle.exact_plane.specs.Size.{IsSized}
 
 -- all that a caller is told of it
 pub ruleset mediants = (mediant_not_first, mediant_not_second)

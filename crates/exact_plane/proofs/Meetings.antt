@@ -5,11 +5,11 @@ use Rattle.std.specs.Cmp.{int_ranked}
 use Rattle.std.specs.Ordering.{MatchOrdering, int_cmp}
 use Rattle.std.specs.Prelude.{unsigned_abs}
 use Rattle.std.specs.declared.cmp.Ordering.{Ordering}
-use Rattle.exact_plane.proofs.Registers.{read}
-use Rattle.plane.proofs.Meeting.{meeting_is_straight}
+use Rattle.plane.proofs.Meetings.{meeting_is_straight}
 use Rattle.plane.specs.Line.{along, cross_product}
 use Rattle.plane.specs.Point.{Point, Triple, whole}
 use Rattle.plane.specs.Turn.{IsStraight}
+use Rattle.exact_plane.proofs.Registers.{read}
 
 -- a small number is read as it is
 small_read : (z : ℤ) → unsigned_abs z < 2 ^ 49 → read z ≡ z

@@ -4,7 +4,7 @@ use Rattle.std.proofs.lemmas.Int.{ints, to_z-of_z, unsigned_abs-mul}
 use Rattle.std.proofs.lemmas.Nat.{mul-lt}
 use Rattle.std.specs.Prelude.{FitsSigned, unsigned_abs}
 use mir.Syntax.{w128}
-use Rattle.plane.proofs.Meeting.{determinant_by_offsets}
+use Rattle.plane.proofs.Meetings.{determinant_by_offsets}
 use Rattle.exact_plane.proofs.Registers.{read, wide}
 
 -- the size of a product

@@ -1,9 +1,9 @@
 -- The turn of three points as a `Direction`. This project's own.
 use Rattle.std.specs.Prelude.{zero, suc, ℤ, pos, negsuc}
-use Rattle.exact_plane.specs.declared.direction.Direction.{Direction}
-use Rattle.exact_plane.specs.declared.direction.Direction.TheVariants.{Left, Right, Straight}
 use Rattle.plane.specs.Point.{Triple}
 use Rattle.plane.specs.Turn.{determinant}
+use Rattle.exact_plane.specs.declared.direction.Direction.{Direction}
+use Rattle.exact_plane.specs.declared.direction.Direction.TheVariants.{Left, Right, Straight}
 
 -- the direction of a sign: positive is to the left
 abbrev pub direction_of : ℤ → Direction

@@ -1,6 +1,6 @@
 ghost use Rattle.std.specs.Prelude.{◌≡◌, ◌+◌, ◌↔◌, IsTrue};
-ghost use Rattle.exact_plane.specs.Direction.{direction_of, opposite, turn_of};
 ghost use Rattle.plane.specs.Point.{whole};
+ghost use Rattle.exact_plane.specs.Direction.{direction_of, opposite, turn_of};
 
 use crate::pt::Pt;
 use crate::steps::Steps;

@@ -1,11 +1,11 @@
 ghost use Rattle.std.specs.Prelude.{◌≡◌, ◌+◌, ◌<ℤ◌, ◌<◌, ◌^◌, ◌↔◌, IsNone, IfSome, pos, unsigned_abs};
-ghost use Rattle.exact_plane.specs.Direction.{turn_of};
-ghost use Rattle.exact_plane.specs.Size.{IsNarrow, IsSized};
 ghost use Rattle.plane.specs.Line.{along, cross_product, mediant};
 ghost use Rattle.plane.specs.Order.{Precedes};
 ghost use Rattle.plane.specs.Point.{IsSame, whole};
 ghost use Rattle.plane.specs.Segment.{On};
 ghost use Rattle.plane.specs.Turn.{IsStraight};
+ghost use Rattle.exact_plane.specs.Direction.{turn_of};
+ghost use Rattle.exact_plane.specs.Size.{IsNarrow, IsSized};
 
 use crate::direction::Direction;
 use crate::pt::Pt;
@@ -137,7 +137,7 @@ impl Hom {
     }
 
     // The meeting of the lines through `a` and `b` and through `c` and `d`, where the second is to the left.
-    #[tactic(auto, using(plane::proofs::Meeting::along_is_straight))]
+    #[tactic(auto, using(plane::proofs::Meetings::along_is_straight))]
     fn meeting(a: &Pt, b: &Pt, c: &Pt, d: &Pt) -> Hom
         requires { pos 0 <ℤ cross_product a.now b.now c.now d.now }
         ensures on_first { IsStraight (whole a.now) (whole b.now) result }

@@ -1,7 +1,7 @@
 ghost use Rattle.std.specs.Prelude.{◌≡◌, ◌+◌, ◌↔◌, List, IsTrue};
+ghost use Rattle.plane.specs.Point.{Point, whole};
 ghost use Rattle.exact_plane.specs.Direction.{turn_of};
 ghost use Rattle.exact_plane.specs.Spot.{IsNamed, point_named};
-ghost use Rattle.plane.specs.Point.{Point, whole};
 
 use crate::direction::Direction;
 use crate::steps::Steps;

@@ -5,10 +5,10 @@ use Rattle.std.proofs.lemmas.List.Elements.{All-append}
 use Rattle.plane.specs.Point.{Point}
 use Rattle.rings.specs.Chain.{IsBentChain, IsTaut, point_at}
 use Rattle.rings.specs.Ring.{origin}
+use Rattle.funnels.specs.OpenFunnel.{left_behind, right_behind}
 use Rattle.exact_plane.specs.Spot.{IsNamed, point_named}
 use Rattle.exact_plane.specs.declared.turns.Spot.{Spot}
 use Rattle.exact_plane.specs.declared.turns.Spot.TheVariants.{Goal, Start}
-use Rattle.funnel_chains.specs.OpenFunnel.{left_behind, right_behind}
 use Rattle.funnel_walk.proofs.FirstNames.{first_left, first_right, left_named, name_named, one_named, right_named}
 use Rattle.funnel_walk.proofs.NamedLists.{left_points, length_named, named_push, point_of_name, right_points}
 use Rattle.funnel_walk.specs.Names.{AreNamed, left_names, name_at, named_points, right_names}

@@ -4,13 +4,13 @@ use Rattle.std.proofs.lemmas.List.{get_or_append_left, length-take-le, map-appen
 use Rattle.std.proofs.lemmas.List.Elements.{All-append}
 use Rattle.plane.specs.Point.{Point}
 use Rattle.rings.specs.Ring.{vertex}
+use Rattle.funnels.specs.OpenFunnel.{IsOpenFunnel, left_behind, right_behind}
 use Rattle.exact_plane.specs.Spot.{IsNamed, point_named}
 use Rattle.exact_plane.specs.declared.turns.Spot.{Spot}
 use Rattle.exact_plane.specs.declared.turns.Spot.TheVariants.{Corner, Start}
-use Rattle.funnel_chains.specs.OpenFunnel.{IsOpenFunnel, left_behind, right_behind}
 use Rattle.funnel_walk.proofs.FirstNames.{first_left, first_right, left_named, more_named, one_named, right_named}
-use Rattle.funnel_walk.proofs.NamedLists.{front_named, left_points, length_named, name_behind, name_in_front, named_drop, named_push, named_take, rest_named}
-use Rattle.funnel_walk.proofs.NamedLists.{right_points}
+use Rattle.funnel_walk.proofs.NamedLists.{front_named, left_points, length_named, name_behind, name_in_front, named_drop, named_push, named_take}
+use Rattle.funnel_walk.proofs.NamedLists.{rest_named, right_points}
 use Rattle.funnel_walk.specs.Names.{left_names, name_at, named_points, right_names}
 use Rattle.funnel_walk.specs.Walked.{IsWalked}
 

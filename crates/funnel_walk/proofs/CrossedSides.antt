@@ -1,19 +1,17 @@
 -- The walk from one diagonal of a sleeve to the next: the names of its funnel.
-use Rattle.std.proofs.Common.{◌≡◌, ◌≢◌, inl, inr, sym, subst, ℕ, ◌+◌, ◌-◌, ◌<◌}
-use Rattle.std.proofs.Common.{◌≤◌, min, List, [], ◌∷◌, ◌++◌, length, take, drop, get_or, arith}
+use Rattle.std.proofs.Common.{◌≡◌, ◌≢◌, inl, inr, sym, subst, ℕ, ◌+◌, ◌-◌, ◌<◌, ◌≤◌, min, List, [], ◌∷◌, ◌++◌, length, take, drop, get_or, arith}
 use Rattle.std.proofs.lemmas.List.{drop-append-le}
 use Rattle.plane.specs.Point.{Point, whole}
+use Rattle.meshes.specs.Fits.{Fits, IsSideOfTwo}
+use Rattle.meshes.specs.Side.{HasSide, tri_at}
+use Rattle.meshes.specs.Sleeve.{IsOneOf, Sleeve, diagonal_at}
+use Rattle.meshes.specs.declared.tri.Tri.{Tri}
+use Rattle.funnels.proofs.Chains.{step_left, step_right}
+use Rattle.funnels.proofs.Vertices.{fitted_counterclockwise}
+use Rattle.funnels.specs.Funnel.{IsReachedFrom}
 use Rattle.exact_plane.specs.Spot.{point_named}
 use Rattle.exact_plane.specs.declared.turns.Spot.{Spot}
 use Rattle.exact_plane.specs.declared.turns.Spot.TheVariants.{Corner}
-use Rattle.tri_mesh.specs.Fits.{Fits, IsSideOfTwo}
-use Rattle.tri_mesh.specs.Side.{HasSide, tri_at}
-use Rattle.tri_mesh.specs.Sleeve.{IsOneOf, Sleeve, diagonal_at}
-use Rattle.tri_mesh.specs.declared.tri.Tri.{Tri}
-use Rattle.vertex_laws.proofs.FittedRings.{fitted_counterclockwise}
-use Rattle.funnel_laws.specs.Funnel.{IsReachedFrom}
-use Rattle.funnel_chains.proofs.StepLeft.{step_left}
-use Rattle.funnel_chains.proofs.StepRight.{step_right}
 use Rattle.funnel_walk.proofs.Crossed.{walked_left, walked_right}
 use Rattle.funnel_walk.proofs.NextDiagonals.{next_diagonal, shared}
 use Rattle.funnel_walk.proofs.SideCorners.{diagonal_below, vertex_named}

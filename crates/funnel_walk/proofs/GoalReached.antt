@@ -1,24 +1,20 @@
 -- The names from the start over the points that the way to the goal leaves behind stand for a taut chain.
 use Rattle.std.proofs.Common.{◌≡◌, ◌≢◌, refl, sym, ◌∙◌, ℕ, ◌+◌, ◌<◌, List, [], ◌∷◌, ◌++◌, length, get_or, arith}
-use Rattle.plane.proofs.Same.{whole_is_point}
+use Rattle.plane.proofs.Points.{whole_is_point}
 use Rattle.plane.specs.Point.{Point, whole}
 use Rattle.rings.specs.Chain.{IsBentChain, IsTaut, point_at}
 use Rattle.rings.specs.Ring.{vertex}
 use Rattle.rings.specs.Sees.{Sees}
+use Rattle.meshes.specs.Fits.{Fits, IsInTri}
+use Rattle.meshes.specs.Side.{tri_at}
+use Rattle.meshes.specs.Sleeve.{IsOneOf, Sleeve, diagonal_at}
+use Rattle.meshes.specs.declared.tri.Tri.{Tri}
+use Rattle.funnels.proofs.Chains.{reached_bends, in_ring, chain_on, chain_to, sees_reached}
+use Rattle.funnels.proofs.Vertices.{shared_back, fitted_counterclockwise, fitted_long, fitted_simple}
+use Rattle.funnels.specs.Funnel.{IsReachedFrom}
 use Rattle.exact_plane.specs.Spot.{point_named}
 use Rattle.exact_plane.specs.declared.turns.Spot.{Spot}
 use Rattle.exact_plane.specs.declared.turns.Spot.TheVariants.{Goal}
-use Rattle.tri_mesh.specs.Fits.{Fits, IsInTri}
-use Rattle.tri_mesh.specs.Side.{tri_at}
-use Rattle.tri_mesh.specs.Sleeve.{IsOneOf, Sleeve, diagonal_at}
-use Rattle.tri_mesh.specs.declared.tri.Tri.{Tri}
-use Rattle.vertex_laws.proofs.CornerEdges.{shared_back}
-use Rattle.vertex_laws.proofs.FittedRings.{fitted_counterclockwise, fitted_long, fitted_simple}
-use Rattle.funnel_laws.specs.Funnel.{IsReachedFrom}
-use Rattle.funnel_chains.proofs.ReachedBends.{reached_bends}
-use Rattle.funnel_chains.proofs.ReachedCorners.{in_ring}
-use Rattle.funnel_chains.proofs.WayChains.{chain_on, chain_to}
-use Rattle.funnel_chains.proofs.WindowSight.{sees_reached}
 use Rattle.funnel_walk.proofs.Closed.{named_at_goal, named_to_goal, names_on_way, points_on_way, taut_at_goal, taut_to_goal}
 use Rattle.funnel_walk.proofs.NamedLists.{length_named, point_of_name}
 use Rattle.funnel_walk.proofs.NextDiagonals.{enters, shared, third_of}

@@ -1,15 +1,15 @@
 -- Lists of names and the points that they stand for.
-use Rattle.std.proofs.Common.{◌≡◌, refl, sym, ap, subst, ◌∙◌, ℕ, zero, suc, ◌+◌, ◌-◌}
-use Rattle.std.proofs.Common.{◌<◌, ◌≤◌, List, [], ◌∷◌, ◌++◌, length, take, drop, add-one, arith}
-use Rattle.std.proofs.lemmas.List.{drop-map, get_or-drop, get_or-map, get_or-take, length-append}
-use Rattle.std.proofs.lemmas.List.{length-drop, length-map, length-take, map_push, take-map}
+use Rattle.std.proofs.Common.{◌≡◌, refl, sym, ap, subst, ◌∙◌, ℕ, zero, suc, ◌+◌, ◌-◌, ◌<◌, ◌≤◌, List, [], ◌∷◌, ◌++◌, length, take, drop, add-one}
+use Rattle.std.proofs.Common.{arith}
+use Rattle.std.proofs.lemmas.List.{drop-map, get_or-drop, get_or-map, get_or-take, length-append, length-drop, length-map, length-take, map_push}
+use Rattle.std.proofs.lemmas.List.{take-map}
 use Rattle.plane.specs.Point.{Point}
 use Rattle.rings.specs.Chain.{point_at}
 use Rattle.rings.specs.Ring.{origin}
+use Rattle.funnels.specs.OpenFunnel.{left_behind, right_behind}
 use Rattle.exact_plane.specs.Spot.{IsNamed}
 use Rattle.exact_plane.specs.declared.turns.Spot.{Spot}
 use Rattle.exact_plane.specs.declared.turns.Spot.TheVariants.{Start}
-use Rattle.funnel_chains.specs.OpenFunnel.{left_behind, right_behind}
 use Rattle.funnel_walk.specs.Names.{AreNamed, left_names, name_at, named_points, right_names}
 
 module _ (at : Spot → Point) where

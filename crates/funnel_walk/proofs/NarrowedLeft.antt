@@ -3,8 +3,8 @@ use Rattle.std.proofs.Common.{◌≡◌, ◌≢◌, sym, ap, subst, ◌∙◌, �
 use Rattle.std.proofs.lemmas.List.{append-nil, append_assoc, drop-drop, length-drop}
 use Rattle.plane.specs.Point.{Point, Triple}
 use Rattle.rings.specs.Chain.{point_at}
+use Rattle.funnels.specs.Funnel.{IsPassed, IsReachedFrom}
 use Rattle.exact_plane.specs.declared.turns.Spot.{Spot}
-use Rattle.funnel_laws.specs.Funnel.{IsPassed, IsReachedFrom}
 use Rattle.funnel_walk.proofs.NamedLists.{length_named, name_behind, point_of_name, right_more}
 use Rattle.funnel_walk.proofs.Passing.{passed_same}
 use Rattle.funnel_walk.specs.Names.{name_at, named_points, right_names}

@@ -2,13 +2,11 @@
 use Rattle.std.proofs.Common.{◌≡◌, ◌≢◌, ◌⊎◌, refl, sym, ◌∙◌, subst, ℕ, ◌+◌, ◌-◌, ◌<◌, inl, inr, List, length, get_or, arith}
 use Rattle.std.specs.List.{range_with_len}
 use Rattle.plane.specs.Point.{Point}
-use Rattle.tri_mesh.proofs.MeshSides.{fitting_sides}
-use Rattle.tri_mesh.proofs.PieceSteps.{edge_or_not}
-use Rattle.tri_mesh.specs.Fits.{Fits, IsSideOfTwo}
-use Rattle.tri_mesh.specs.Neighbours.{HasSidesOnce}
-use Rattle.tri_mesh.specs.Side.{HasSide, tri_at}
-use Rattle.tri_mesh.specs.Sleeve.{IsOneOf, Sleeve, diagonal_at}
-use Rattle.tri_mesh.specs.declared.tri.Tri.{Tri}
+use Rattle.meshes.proofs.Sides.{fitting_sides, edge_or_not}
+use Rattle.meshes.specs.Fits.{Fits, IsSideOfTwo}
+use Rattle.meshes.specs.Side.{HasSidesOnce, HasSide, tri_at}
+use Rattle.meshes.specs.Sleeve.{IsOneOf, Sleeve, diagonal_at}
+use Rattle.meshes.specs.declared.tri.Tri.{Tri}
 
 -- a triangle that is entered over the side from l to r is left over the side from p to q: its left end stays or its right end does
 abbrev pub IsNextSide : Tri → ℕ → ℕ → ℕ → ℕ → Type 0

@@ -3,15 +3,15 @@ use Rattle.std.proofs.Common.{◌≡◌, ◌≢◌, inr, refl, sym, subst, ◌�
 use Rattle.std.proofs.lemmas.List.Elements.{All-nil}
 use Rattle.plane.specs.Point.{Point, whole}
 use Rattle.rings.specs.Ring.{vertex}
+use Rattle.meshes.specs.Fits.{Fits, IsInTri}
+use Rattle.meshes.specs.Side.{tri_at}
+use Rattle.meshes.specs.Sleeve.{IsOneOf, Sleeve, diagonal_at}
+use Rattle.meshes.specs.declared.tri.Tri.{Tri}
+use Rattle.funnels.proofs.Chains.{start_at_left, start_at_right, start_between}
+use Rattle.funnels.specs.OpenFunnel.{IsOpenFunnel}
 use Rattle.exact_plane.specs.Spot.{IsNamed, point_named}
 use Rattle.exact_plane.specs.declared.turns.Spot.{Spot}
 use Rattle.exact_plane.specs.declared.turns.Spot.TheVariants.{Corner, Start}
-use Rattle.tri_mesh.specs.Fits.{Fits, IsInTri}
-use Rattle.tri_mesh.specs.Side.{tri_at}
-use Rattle.tri_mesh.specs.Sleeve.{IsOneOf, Sleeve, diagonal_at}
-use Rattle.tri_mesh.specs.declared.tri.Tri.{Tri}
-use Rattle.funnel_chains.proofs.FirstFunnels.{start_at_left, start_at_right, start_between}
-use Rattle.funnel_chains.specs.OpenFunnel.{IsOpenFunnel}
 use Rattle.funnel_walk.proofs.FirstNames.{more_named, one_named}
 use Rattle.funnel_walk.proofs.NextDiagonals.{leaves, shared, third_of}
 use Rattle.funnel_walk.proofs.SideCorners.{diagonal_below, vertex_named}

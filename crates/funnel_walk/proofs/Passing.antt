@@ -4,10 +4,10 @@ use Rattle.std.proofs.lemmas.Int.{ints}
 use Rattle.plane.specs.Point.{Point, Triple, whole}
 use Rattle.plane.specs.Turn.{IsLeft, IsRight}
 use Rattle.rings.specs.Chain.{point_at}
+use Rattle.funnels.specs.Funnel.{IsPassed}
 use Rattle.exact_plane.proofs.Directions.{right_iff_negative}
 use Rattle.exact_plane.specs.Direction.{direction_of, turn_of}
 use Rattle.exact_plane.specs.declared.direction.Direction.TheVariants.{Left, Right}
-use Rattle.funnel_laws.specs.Funnel.{IsPassed}
 
 -- a number does not turn to the left exactly if it is not positive
 not_left_iff : (z : ℤ) → (direction_of z ≢ Left) ↔ (¬ (pos 0 <ℤ z))

@@ -1,15 +1,13 @@
 -- The taut chain where the start is the goal, and where both are in one triangle.
 use Rattle.std.proofs.Common.{◌≡◌, ◌≢◌, refl, ℕ, ◌<◌, List, [], ◌∷◌, length, arith}
-use Rattle.plane.proofs.Same.{whole_is_point}
+use Rattle.plane.proofs.Points.{whole_is_point}
 use Rattle.plane.specs.Point.{Point, whole}
 use Rattle.rings.specs.Chain.{IsBentChain, IsTaut}
-use Rattle.tri_mesh.specs.Fits.{Fits, IsInTri}
-use Rattle.tri_mesh.specs.Side.{tri_at}
-use Rattle.tri_mesh.specs.declared.tri.Tri.{Tri}
-use Rattle.bend_laws.proofs.CornerSights.{sees_in_triangle}
-use Rattle.bend_laws.proofs.LongerChains.{chain_more}
-use Rattle.funnel_chains.proofs.FirstSights.{bent_from_apex}
-use Rattle.funnel_chains.proofs.ReachedCorners.{in_ring}
+use Rattle.meshes.specs.Fits.{Fits, IsInTri}
+use Rattle.meshes.specs.Side.{tri_at}
+use Rattle.meshes.specs.declared.tri.Tri.{Tri}
+use Rattle.funnels.proofs.Bends.{sees_in_triangle, chain_more}
+use Rattle.funnels.proofs.Chains.{bent_from_apex, in_ring}
 
 module _ (corners : List Point) (tris : List Tri) (fits : Fits corners tris) (k : ℕ) (within : k < length tris)
     (start goal : Point) (in_start : IsInTri corners (tri_at tris k) (whole start)) where

@@ -5,12 +5,12 @@ use Rattle.std.proofs.lemmas.List.FromFn.{get_or-range_with_len, length-range_wi
 use Rattle.std.specs.List.{Contains, range_with_len}
 use Rattle.plane.specs.Point.{Point}
 use Rattle.rings.specs.Ring.{origin, vertex}
+use Rattle.meshes.specs.Fits.{Fits}
+use Rattle.meshes.specs.Side.{HasSide, tri_at}
+use Rattle.meshes.specs.Sleeve.{IsOneOf, Sleeve, diagonal_at}
+use Rattle.meshes.specs.declared.tri.Tri.{Tri}
 use Rattle.exact_plane.specs.Spot.{point_named}
 use Rattle.exact_plane.specs.declared.turns.Spot.TheVariants.{Corner}
-use Rattle.tri_mesh.specs.Fits.{Fits}
-use Rattle.tri_mesh.specs.Side.{HasSide, tri_at}
-use Rattle.tri_mesh.specs.Sleeve.{IsOneOf, Sleeve, diagonal_at}
-use Rattle.tri_mesh.specs.declared.tri.Tri.{Tri}
 
 -- a member of the numbers below n is below n
 below_of_member : (n x : ℕ) → Contains (range_with_len 0 n) x → x < n

@@ -1,6 +1,6 @@
 -- The names of a funnel's points. No public clause cites this module.
-use Rattle.std.specs.Prelude.{ℕ, zero, suc, ◌+◌, ◌-◌, List, [], ◌∷◌, map, slice_index_or}
 use Rattle.std.specs.List.{All}
+use Rattle.std.specs.Prelude.{ℕ, zero, suc, ◌+◌, ◌-◌, List, [], ◌∷◌, map, slice_index_or}
 use Rattle.plane.specs.Point.{Point}
 use Rattle.exact_plane.specs.Spot.{IsNamed}
 use Rattle.exact_plane.specs.declared.turns.Spot.{Spot}

@@ -1,10 +1,10 @@
 -- How far a walk has come: the names that were given, and those of the funnel. No public clause cites this module.
 use Rattle.std.specs.Prelude.{◌≡◌, ℕ, List, [], ◌∷◌, ◌++◌}
 use Rattle.plane.specs.Point.{Point}
+use Rattle.funnels.specs.OpenFunnel.{IsOpenFunnel}
 use Rattle.exact_plane.specs.Spot.{point_named}
 use Rattle.exact_plane.specs.declared.turns.Spot.{Spot}
 use Rattle.exact_plane.specs.declared.turns.Spot.TheVariants.{Start}
-use Rattle.funnel_chains.specs.OpenFunnel.{IsOpenFunnel}
 use Rattle.funnel_walk.specs.Names.{AreNamed, name_at, named_points}
 
 -- the names stand for the funnel at the diagonal from vertex i to vertex j, with the apex at place a, and those that were given for

@@ -1,15 +1,14 @@
-ghost use Rattle.std.specs.Prelude.{◌≡◌, ◌≢◌, [], ◌∷◌, ◌+◌, ◌-◌, ◌*◌, ◌<◌, ◌≤◌, ◌++◌, List, drop, length, slice_index_or, take};
-ghost use Rattle.std.specs.Prelude.{vec_capacity};
+ghost use Rattle.std.specs.Prelude.{◌≡◌, ◌≢◌, [], ◌∷◌, ◌+◌, ◌-◌, ◌*◌, ◌<◌, ◌≤◌, ◌++◌, List, drop, length, slice_index_or, take, vec_capacity};
+ghost use Rattle.plane.specs.Point.{whole};
+ghost use Rattle.rings.specs.Chain.{IsTaut};
+ghost use Rattle.meshes.specs.Fits.{Fits, IsInTri};
+ghost use Rattle.meshes.specs.Side.{tri_at};
+ghost use Rattle.meshes.specs.Sleeve.{IsOneOf, diagonal_at};
 ghost use Rattle.exact_plane.specs.Spot.{point_named};
 ghost use Rattle.exact_plane.specs.declared.turns.Spot.{Spot};
 ghost use Rattle.exact_plane.specs.declared.turns.Spot.TheVariants.{Goal};
 ghost use Rattle.funnel_walk.specs.Names.{AreNamed, name_at, named_points, right_names};
 ghost use Rattle.funnel_walk.specs.Walked.{IsWalked};
-ghost use Rattle.plane.specs.Point.{whole};
-ghost use Rattle.rings.specs.Chain.{IsTaut};
-ghost use Rattle.tri_mesh.specs.Fits.{Fits, IsInTri};
-ghost use Rattle.tri_mesh.specs.Side.{tri_at};
-ghost use Rattle.tri_mesh.specs.Sleeve.{IsOneOf, diagonal_at};
 
 use crate::funnel::{name_at, narrow_left, narrow_right};
 use crate::room::FunnelBox;

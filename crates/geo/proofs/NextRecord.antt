@@ -1,7 +1,7 @@
 -- One turn of the loop over the records.
 use Rattle.std.proofs.Common.{◌≡◌, ℕ, List, [], ◌∷◌, ◌++◌, Option, Some, refl, sym, ap, append_assoc, ◌∙◌, Result}
-use Rattle.std.specs.Io.KnownBytes.{Appends}
 use Rattle.std.proofs.KnownBytes.{Appends-trans}
+use Rattle.std.specs.Io.KnownBytes.{Appends}
 use Rattle.geo_io.specs.Transfers.{AppendsFront}
 use Rattle.geo_text.specs.Reading.{TakesCommand, reading_of}
 use Rattle.geo_text.specs.declared.command.Bad.{Bad}

@@ -1,9 +1,9 @@
 -- Answers to more and more records.
 use Rattle.std.proofs.Common.{ℕ, List, [], ◌∷◌, ◌++◌, refl, sym, append_assoc}
 use Rattle.std.proofs.lemmas.List.{append-nil}
+use Rattle.geo_text.specs.Reading.{reading_of}
 use Rattle.geo_session.specs.Answer.{IsReadingAnswer, State}
 use Rattle.geo_session.specs.Output.{AreAnswers}
-use Rattle.geo_text.specs.Reading.{reading_of}
 
 -- one record more
 pub answers_and_one : (before middle after : State) (records : List (List (List ℕ))) (fields : List (List ℕ)) (text answer : List ℕ)

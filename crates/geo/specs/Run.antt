@@ -1,11 +1,11 @@
 -- What a run without words leaves. `left` and `left'` are the bytes that the source has left at entry and at exit, and
 -- `taken` and `taken'` those that the sink has taken, where they tell them. This project's own.
-use Rattle.std.specs.Prelude.{◌≡◌, ℕ, ◌≤◌, List, ◌∷◌, ◌++◌, length, take, None, Option}
 use Rattle.std.specs.Io.KnownBytes.{Appends, Consumes, IsAtEnd}
-use Rattle.geo_session.specs.Answer.{IsReadingAnswer, State}
-use Rattle.geo_session.specs.Output.{AreAnswers, IsOutput}
+use Rattle.std.specs.Prelude.{◌≡◌, ℕ, ◌≤◌, List, ◌∷◌, ◌++◌, length, take, None, Option}
 use Rattle.geo_text.specs.Reading.{reading_of}
 use Rattle.geo_text.specs.Records.{records_of}
+use Rattle.geo_session.specs.Answer.{IsReadingAnswer, State}
+use Rattle.geo_session.specs.Output.{AreAnswers, IsOutput}
 
 -- these bytes are the whole script, and it is not too long
 pub record ReadsScript (left left' : Option (List ℕ)) (bytes : List ℕ) : Type 0 where

@@ -1,9 +1,9 @@
-ghost use Rattle.std.specs.Prelude.{◌≡◌, ◌≢◌, ◌<◌, ◌≤◌, ◌⊎◌, ◌↔◌, ℕ, [], List, Ok, Err, IsOk, IfOk, IfSome, OnOk, OnErr, length};
 ghost use Rattle.std.specs.Io.KnownBytes.{Keeps};
+ghost use Rattle.std.specs.Prelude.{◌≡◌, ◌≢◌, ◌<◌, ◌≤◌, ◌⊎◌, ◌↔◌, ℕ, [], List, Ok, Err, IsOk, IfOk, IfSome, OnOk, OnErr, length};
 ghost use Rattle.geo_io.specs.Counts.{Rose};
 ghost use Rattle.geo_io.specs.Transfers.{GivesMoreThan};
-ghost use Rattle.geo_session.specs.Answer.{AppendsReadingAnswer};
 ghost use Rattle.geo_text.specs.Reading.{IsWellSized};
+ghost use Rattle.geo_session.specs.Answer.{AppendsReadingAnswer};
 ghost use Rattle.geo.specs.Fault.{fault_of, status_of};
 ghost use Rattle.geo.specs.Run.{AfterReading, WritesFirst, WritesFirstAndFront, WritesOutput};
 ghost use Rattle.geo.specs.declared.run.RunFault.TheVariants.{WriteFault, Memory as OutOfMemory};

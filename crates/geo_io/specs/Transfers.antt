@@ -1,6 +1,6 @@
 -- What a source gave and a sink took in a call. This project's own.
-use Rattle.std.specs.Prelude.{ℕ, ◌<◌, ◌≤◌, List, Option, length, take}
 use Rattle.std.specs.Io.KnownBytes.{Appends, Consumes}
+use Rattle.std.specs.Prelude.{ℕ, ◌<◌, ◌≤◌, List, Option, length, take}
 
 -- some bytes were given, and they were the first of those that were left
 pub record GivesFront (entry exit : Option (List ℕ)) : Type 0 where

@@ -1,12 +1,11 @@
 -- A taut chain in a ring is one in the list that the ring was made of, and the same points are in both.
 use Rattle.std.proofs.Common.{◌↔◌, Bool, true, false, if◌then◌else◌, List}
 use Rattle.plane.specs.Point.{Point, Triple, whole}
+use Rattle.rings.proofs.Inside.{neighbours_turned_iff, reflex_turned_iff, sees_turned_iff, in_turned_iff}
 use Rattle.rings.specs.Bend.{IsBend}
 use Rattle.rings.specs.Chain.{IsTaut}
 use Rattle.rings.specs.Inside.{IsIn}
 use Rattle.rings.specs.Orientation.{turned_round}
-use Rattle.inside_laws.proofs.TurnedBends.{neighbours_turned_iff, reflex_turned_iff, sees_turned_iff}
-use Rattle.inside_laws.proofs.TurnedInside.{in_turned_iff}
 use Rattle.ring_check.specs.Oriented.{Oriented, given_of}
 
 -- a bend is one in the ring read the other way round

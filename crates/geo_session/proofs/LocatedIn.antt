@@ -1,13 +1,13 @@
 -- What the search for the triangle of a point says of the list that the ring was made of.
 use Rattle.std.proofs.Common.{◌<◌, ◌↔◌, ℕ, List, length, subst}
-use Rattle.plane.proofs.Same.{whole_is_point}
+use Rattle.plane.proofs.Points.{whole_is_point}
 use Rattle.plane.specs.Point.{Point, whole}
 use Rattle.rings.specs.Inside.{IsIn}
+use Rattle.meshes.proofs.Sides.{piece_points_all}
+use Rattle.meshes.specs.Fits.{Fits, IsInTri}
+use Rattle.meshes.specs.Side.{tri_at}
+use Rattle.meshes.specs.declared.tri.Tri.{Tri}
 use Rattle.ring_check.specs.Oriented.{Oriented, given_of}
-use Rattle.tri_mesh.proofs.PieceVertices.{piece_points_all}
-use Rattle.tri_mesh.specs.Fits.{Fits, IsInTri}
-use Rattle.tri_mesh.specs.Side.{tri_at}
-use Rattle.tri_mesh.specs.declared.tri.Tri.{Tri}
 use Rattle.dual_tree.specs.Location.{IsLeastHolding}
 use Rattle.geo_session.proofs.GivenTaut.{in_given_iff}
 

@@ -2,10 +2,10 @@
 use Rattle.std.proofs.Common.{◌≡◌, ◌↔◌, Bool, true, false, if◌then◌else◌, List}
 use Rattle.std.specs.Prelude.{codes, ℕ}
 use Rattle.plane.specs.Point.{Point, Triple, whole}
+use Rattle.rings.proofs.Inside.{in_turned_iff, on_some_turned_iff}
 use Rattle.rings.specs.Edge.{IsOnSome, edges_of}
 use Rattle.rings.specs.Inside.{IsIn}
 use Rattle.rings.specs.Orientation.{turned_round}
-use Rattle.inside_laws.proofs.TurnedInside.{in_turned_iff, on_some_turned_iff}
 use Rattle.ring_check.specs.Oriented.{Oriented, given_of}
 use Rattle.geo_session.specs.Answer.{IsPlaceText, inside, on_edge, outside}
 

@@ -10,10 +10,10 @@ use Rattle.std.proofs.lemmas.Map.Keys.{IsDistinct-from_apart}
 use Rattle.std.proofs.lemmas.Map.Steps.{length-le_from_distinct_below}
 use Rattle.std.specs.List.{list_any}
 use Rattle.plane.specs.Point.{Point}
-use Rattle.tri_mesh.specs.Fits.{Fits}
-use Rattle.tri_mesh.specs.Side.{IsWalk}
-use Rattle.tri_mesh.specs.Sleeve.{IsOneOf, Sleeve}
-use Rattle.tri_mesh.specs.declared.tri.Tri.{Tri}
+use Rattle.meshes.specs.Fits.{Fits}
+use Rattle.meshes.specs.Side.{IsWalk}
+use Rattle.meshes.specs.Sleeve.{IsOneOf, Sleeve}
+use Rattle.meshes.specs.declared.tri.Tri.{Tri}
 
 -- a number that is among numbers below n is below n
 below_of_any : (xs : List ℕ) (n q : ℕ) → ((i : ℕ) → i < length xs → get_or xs i 0 < n) → list_any (eqb q) xs ≡ true → q < n

@@ -1,12 +1,12 @@
 ghost use Rattle.std.specs.Prelude.{◌≡◌, ◌+◌, ◌*◌, ◌≤◌, ◌++◌, IfOk, length, vec_capacity};
-ghost use Rattle.dual_tree.specs.Location.{IsLeastHolding};
+ghost use Rattle.plane.specs.Point.{whole};
+ghost use Rattle.rings.specs.Chain.{IsTaut};
+ghost use Rattle.meshes.specs.Fits.{Fits};
 ghost use Rattle.exact_plane.specs.Spot.{IsNamed, point_named};
+ghost use Rattle.ring_check.specs.Oriented.{given_of};
+ghost use Rattle.dual_tree.specs.Location.{IsLeastHolding};
 ghost use Rattle.funnel_walk.specs.Names.{AreNamed, named_points};
 ghost use Rattle.geo_session.specs.Path.{IsChainIn};
-ghost use Rattle.plane.specs.Point.{whole};
-ghost use Rattle.ring_check.specs.Oriented.{given_of};
-ghost use Rattle.rings.specs.Chain.{IsTaut};
-ghost use Rattle.tri_mesh.specs.Fits.{Fits};
 
 use dual_tree::{Board, locate, sleeve};
 use exact_plane::{Memory, Pt, Spot, Steps};
@@ -26,8 +26,8 @@ pub(crate) struct Held {
 }
 
 impl Model for Held {
+    ghost use Rattle.meshes.specs.Fits.{Fits};
     ghost use Rattle.ring_check.specs.Oriented.{Oriented};
-    ghost use Rattle.tri_mesh.specs.Fits.{Fits};
 
     ghost Value = { Oriented };
 

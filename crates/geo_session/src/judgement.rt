@@ -1,9 +1,9 @@
 // The verdict on a list of points, and its line. Want of memory may leave the front of a line.
 ghost use Rattle.std.specs.Prelude.{◌≡◌, ◌≢◌, ◌≤◌, ◌++◌, length, take, IfOk, OnOk, OnErr};
-ghost use Rattle.geo_session.specs.Answer.{IsVerdictText, TellsVerdict, broken_text};
-ghost use Rattle.geo_session.specs.Session.{AppendsSuch};
 ghost use Rattle.ring_check.specs.Oriented.{given_of};
 ghost use Rattle.taut_check.specs.Verdict.{IsVerdict};
+ghost use Rattle.geo_session.specs.Answer.{IsVerdictText, TellsVerdict, broken_text};
+ghost use Rattle.geo_session.specs.Session.{AppendsSuch};
 
 use exact_plane::{Memory, Pt, Steps};
 use geo_text::{put_index, put_line_end, put_word};

@@ -1,9 +1,9 @@
 ghost use Rattle.std.specs.Prelude.{◌≡◌, ◌+◌, ◌*◌, ◌≤◌, ◌++◌, length, take, Some, IfOk, OnOk, OnErr};
+ghost use Rattle.plane.specs.Point.{Point};
+ghost use Rattle.geo_text.specs.Reading.{IsWellSized};
+ghost use Rattle.ring_check.specs.Oriented.{given_of};
 ghost use Rattle.geo_session.specs.Answer.{AppendsAnswer, IsPlaceText, polygon_text};
 ghost use Rattle.geo_session.specs.Path.{IsChainAnswer, TakesPathSteps, size_of};
-ghost use Rattle.plane.specs.Point.{Point};
-ghost use Rattle.ring_check.specs.Oriented.{given_of};
-ghost use Rattle.geo_text.specs.Reading.{IsWellSized};
 
 use crate::held::Held;
 use crate::judgement::put_judgement;

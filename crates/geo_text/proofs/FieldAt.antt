@@ -2,8 +2,8 @@
 use Rattle.std.proofs.Common.{◌≡◌, ℕ, zero, suc, List, [], ◌∷◌, map, length, refl}
 use Rattle.std.proofs.lemmas.List.{length-map}
 use Rattle.std.specs.Prelude.{slice_index_or, unwrap_or}
-use Rattle.csv.specs.Records.{Row, field_at, fields_of}
 use Rattle.geo_text.specs.Records.{plain_fields, without_blanks}
+use Rattle.csv.specs.Records.{Row, field_at, fields_of}
 
 -- the field at a place, or an empty one past the last
 pub field_or_empty : (fields : List (List ℕ)) (i : ℕ) → slice_index_or (map without_blanks fields) i [] ≡ without_blanks (unwrap_or (field_at fields i) [])

@@ -1,16 +1,17 @@
 -- What a read of a record takes from the records that a reader has left.
-use Rattle.std.proofs.Common.{Bor, ◌≡◌, ◌∙◌, ◌==◌, ◌&&◌, ℕ, Bool, true, false, not, if◌then◌else◌, Option, Some, Result, Ok, Err, List, [], ◌∷◌, map, refl}
+use Rattle.std.proofs.Common.{Bor, ◌≡◌, ◌∙◌, ◌==◌, ◌&&◌, ℕ, Bool, true, false, not, if◌then◌else◌, Option, Some, Result, Ok, Err, List, [], ◌∷◌, map}
+use Rattle.std.proofs.Common.{refl}
 use Rattle.std.specs.Bool.{MatchBool}
 use Rattle.std.specs.Prelude.{IfOk, OnOk, option_map}
 use Rattle.std.specs.Result.{result_or}
+use Rattle.geo_text.proofs.Fuel.{records_none, records_taken}
+use Rattle.geo_text.specs.Records.{without_blanks}
+use Rattle.geo_text.specs.Script.{IsReading, TakesFields, records_after, records_left}
 use Rattle.csv.proofs.ReadFacts.{rows-end, rows-more}
 use Rattle.csv.specs.Reading.{Reached, ReadRecord, ReadsOn, Ready, buffered_of, default_config, has_failed, reader_trim, source_of, strip_bom}
 use Rattle.csv.specs.declared.parser.State.{State}
 use Rattle.csv.specs.declared.reader.Reader.{Reader}
 use Rattle.csv.specs.declared.reader.Trim.TheVariants as trim
-use Rattle.geo_text.proofs.Fuel.{records_none, records_taken}
-use Rattle.geo_text.specs.Records.{without_blanks}
-use Rattle.geo_text.specs.Script.{IsReading, TakesFields, records_after, records_left}
 
 -- what a slice has left is known
 abbrev known : Bor (List ℕ) → Option (List ℕ)

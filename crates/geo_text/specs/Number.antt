@@ -1,7 +1,7 @@
 -- Whole numbers as fields write them. This project's own.
-use Rattle.std.specs.Prelude.{ℕ, ℤ, Bool, false, List, [], ◌∷◌, nat_le, unsigned_abs}
-use Rattle.std.specs.List.{list_all}
 use Rattle.std.specs.Char.{is_ascii_digit}
+use Rattle.std.specs.List.{list_all}
+use Rattle.std.specs.Prelude.{ℕ, ℤ, Bool, false, List, [], ◌∷◌, nat_le, unsigned_abs}
 use Rattle.std.specs.Str.Parse.{signed_digits_value, without_leading_sign}
 
 -- one or more decimal digits, and nothing else

@@ -1,15 +1,15 @@
 -- How a script lays out what is left of it. No public clause cites this module.
-use Rattle.std.specs.Prelude.{◌≡◌, ◌+◌, true, false, if◌then◌else◌, ℕ, List, [], ◌∷◌, length, map, Option, Some, None, Result}
 use Rattle.std.specs.Borrow.{Bor}
-use Rattle.csv.specs.Reading.{Ready, default_config, has_failed, is_flexible, reader_config, reader_state, reader_trim, records_from, source_of}
-use Rattle.csv.specs.declared.parser.State.{State}
-use Rattle.csv.specs.declared.reader.Reader.{Reader}
-use Rattle.csv.specs.declared.reader.Trim.TheVariants as trim
+use Rattle.std.specs.Prelude.{◌≡◌, ◌+◌, true, false, if◌then◌else◌, ℕ, List, [], ◌∷◌, length, map, Option, Some, None, Result}
 use Rattle.geo_text.specs.Reading.{reading_of}
 use Rattle.geo_text.specs.Records.{Unread, without_blanks}
 use Rattle.geo_text.specs.declared.command.Bad.{Bad}
 use Rattle.geo_text.specs.declared.command.Command.{Command}
 use Rattle.geo_text.specs.declared.script.Script.TheInside.{Inside}
+use Rattle.csv.specs.Reading.{Ready, default_config, has_failed, is_flexible, reader_config, reader_state, reader_trim, records_from, source_of}
+use Rattle.csv.specs.declared.parser.State.{State}
+use Rattle.csv.specs.declared.reader.Reader.{Reader}
+use Rattle.csv.specs.declared.reader.Trim.TheVariants as trim
 
 -- the records of some bytes, where they are known, from a state of the reader
 abbrev pub records_after : State → Option (List ℕ) → List (List (List ℕ))

@@ -2,8 +2,8 @@
 // its digits.)
 ghost use Rattle.std.specs.Prelude.{◌≡◌, min, pos, if◌then◌else◌};
 ghost use Rattle.std.specs.Str.Parse.{digits_value};
-ghost use Rattle.geo_text.specs.Number.{are_digits, is_number, number_of};
 ghost use Rattle.geo_text.specs.Capped.{capped};
+ghost use Rattle.geo_text.specs.Number.{are_digits, is_number, number_of};
 
 use exact_plane::COORDINATE_LIMIT;
 

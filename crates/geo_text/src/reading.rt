@@ -1,9 +1,9 @@
 // A record as a command.
-ghost use Rattle.std.specs.Prelude.{◌≡◌, ◌≤◌, ◌<◌, ◌^◌, IfOk, drop, if◌then◌else◌, length, nat_le, unsigned_abs};
 ghost use Rattle.std.specs.List.{list_any};
+ghost use Rattle.std.specs.Prelude.{◌≡◌, ◌≤◌, ◌<◌, ◌^◌, IfOk, drop, if◌then◌else◌, length, nat_le, unsigned_abs};
 ghost use Rattle.std.specs.Str.{bytes_eq};
-ghost use Rattle.geo_text.specs.Number.{number_of};
 ghost use Rattle.geo_text.specs.Capped.{IsCoordinate};
+ghost use Rattle.geo_text.specs.Number.{number_of};
 ghost use Rattle.geo_text.specs.Reading.{fixed_fault, later_words, list_fault, number_fault, point_of, points_of, reading_of, unless};
 ghost use Rattle.geo_text.specs.Records.{plain_fields};
 

@@ -1,5 +1,5 @@
-ghost use Rattle.std.specs.Prelude.{◌≡◌, [], true, false, IfOk, IfSome, OnOk, OnErr};
 ghost use Rattle.std.specs.Bool.{MatchBool};
+ghost use Rattle.std.specs.Prelude.{◌≡◌, [], true, false, IfOk, IfSome, OnOk, OnErr};
 ghost use Rattle.geo_text.specs.Reading.{IsWellSized, TakesCommand};
 ghost use Rattle.geo_text.specs.Records.{plain_fields, records_of};
 ghost use Rattle.geo_text.specs.Script.{IsReading, TakesFields, TakesReading, records_left};

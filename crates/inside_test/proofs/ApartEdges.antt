@@ -8,8 +8,8 @@ use Rattle.std.specs.Ordering.{int_cmp}
 use Rattle.std.specs.Prelude.{◌&&◌, ◌||◌}
 use Rattle.std.specs.declared.cmp.Ordering.{Ordering}
 use Rattle.std.specs.declared.cmp.Ordering.TheVariants.{Equal, Greater, Less}
-use Rattle.plane.proofs.Boxes.{IsWithin, within_y}
-use Rattle.plane.proofs.Vectors.{combination_of_ends}
+use Rattle.plane.proofs.Segments.{IsInInterval, within_y}
+use Rattle.plane.proofs.Turns.{combination_of_ends}
 use Rattle.plane.specs.Point.{IsPoint, Triple, whole}
 use Rattle.plane.specs.Segment.{On}
 use Rattle.rings.specs.Edge.{Edge}
@@ -23,7 +23,7 @@ max_is a b = grind (arith, ints, clamps)
 min_is : (a b : ℤ) → (int_min a b ≡ a) ⊎ (int_min a b ≡ b)
 min_is a b = grind (arith, ints, clamps)
 
-module _ (x w a b : ℤ) (h : IsWithin x w a b) where
+module _ (x w a b : ℤ) (h : IsInInterval x w a b) where
   -- what is within an interval is not above both of its ends,
   within_not_above : (a *ℤ w) <ℤ x → (b *ℤ w) <ℤ x → ⊥
   within_not_above from to = elim (max_is a b) [

@@ -1,13 +1,12 @@
 -- Crossed edges by the turn at them.
 use Rattle.std.proofs.Common.{◌≡◌, zero, suc, Bool, true, false, ℤ, pos, negsuc, ◌*ℤ◌, refl, arith}
 use Rattle.std.proofs.lemmas.Int.{ints, to_z-of_z}
-use Rattle.std.specs.Prelude.{◌&&◌, ◌||◌}
 use Rattle.std.specs.Int.Signed.{le_z, lt_z}
-use Rattle.plane.proofs.Determinants.{straight_swap_first}
-use Rattle.plane.proofs.OnByOrder.{not_after_both, not_before_both, on_from_order}
-use Rattle.plane.proofs.Precedence.{follows, not_after_from, not_after_of_precedes, precedence, precedes, same}
-use Rattle.plane.proofs.Same.{whole_is_point}
-use Rattle.plane.proofs.Segments.{on_first_end, on_is_straight, on_reversed, on_same_point}
+use Rattle.std.specs.Prelude.{◌&&◌, ◌||◌}
+use Rattle.plane.proofs.Order.{follows, not_after_from, not_after_of_precedes, precedence, precedes, same}
+use Rattle.plane.proofs.Points.{whole_is_point}
+use Rattle.plane.proofs.Segments.{not_after_both, not_before_both, on_from_order, on_first_end, on_is_straight, on_reversed, on_same_point}
+use Rattle.plane.proofs.Turns.{straight_swap_first}
 use Rattle.plane.specs.Order.{LiesBetween}
 use Rattle.plane.specs.Point.{IsPoint, Point, Triple, whole}
 use Rattle.plane.specs.Segment.{On}

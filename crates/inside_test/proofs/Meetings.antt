@@ -1,14 +1,12 @@
 -- What two segments have in common lies between points that are listed.
 use Rattle.std.proofs.Common.{◌≡◌, ◌≢◌, List, pos}
 use Rattle.std.specs.List.{Contains}
-use Rattle.plane.proofs.Same.{same_sym, whole_is_point}
-use Rattle.plane.proofs.Segments.{on_first_end, on_is_straight, on_same_point}
+use Rattle.plane.proofs.Points.{same_sym, whole_is_point}
+use Rattle.plane.proofs.Segments.{on_first_end, on_is_straight, on_same_point, around_of_line, first_on_line, last_on_line, one_meeting}
 use Rattle.plane.specs.Line.{cross_product}
 use Rattle.plane.specs.Point.{IsPoint, IsSame, Point, Triple, whole}
 use Rattle.plane.specs.Segment.{Meet, On}
 use Rattle.plane.specs.Turn.{IsStraight}
-use Rattle.segment_laws.proofs.Overlaps.{around_of_line}
-use Rattle.segment_laws.proofs.SharedParts.{first_on_line, last_on_line, one_meeting}
 use Rattle.inside_test.specs.Breakpoints.{EnclosesAll}
 
 module _ (a b c d : Point) where

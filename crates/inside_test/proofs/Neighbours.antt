@@ -5,16 +5,15 @@ use Rattle.std.proofs.lemmas.List.Elements.{All-get_or}
 use Rattle.std.proofs.lemmas.List.Sorted.{All-permutation, Contains-permutation, length_permutation}
 use Rattle.std.specs.List.{AllAdjacentBelow, Contains}
 use Rattle.std.specs.List.Sorted.{IsPermutation}
-use Rattle.plane.proofs.Precedence.{NotAfter}
-use Rattle.plane.proofs.Same.{same_refl}
+use Rattle.plane.proofs.Order.{NotAfter}
+use Rattle.plane.proofs.Points.{same_refl}
 use Rattle.plane.specs.Line.{mediant}
 use Rattle.plane.specs.Point.{IsPoint, IsSame, Point, Triple}
 use Rattle.plane.specs.Segment.{On}
+use Rattle.rings.proofs.Inside.{mediants_of_sees, sees_by_mediants, AreBreakpoints}
 use Rattle.rings.specs.Inside.{IsIn}
 use Rattle.rings.specs.Ring.{IsOnEdge}
 use Rattle.rings.specs.Sees.{Sees}
-use Rattle.inside_laws.proofs.BreakpointLaw.{mediants_of_sees, sees_by_mediants}
-use Rattle.inside_laws.proofs.Breakpoints.{AreBreakpoints}
 use Rattle.inside_test.specs.Breakpoints.{IsPlaced, ListsMeetings, breakpoint_points}
 use Rattle.inside_test.specs.declared.breakpoint.Breakpoint.{Breakpoint}
 

@@ -3,7 +3,7 @@ use Rattle.std.proofs.Common.{◌≡◌, ◌↔◌, inl, inr, ℕ, ◌+◌, ◌%
 use Rattle.std.specs.Bool.{beq}
 use Rattle.std.specs.Prelude.{not}
 use Rattle.plane.specs.Point.{Point, Triple}
-use Rattle.rings.proofs.Indexing.{crossings_more, edge_at, on_some_more, take_all_edges}
+use Rattle.rings.proofs.Vertices.{crossings_more, edge_at, on_some_more, take_all_edges}
 use Rattle.rings.specs.Edge.{Edge, IsOnSome, edges_of}
 use Rattle.rings.specs.Inside.{IsIn, crossings, is_crossed}
 use Rattle.rings.specs.Ring.{IsOnEdge}

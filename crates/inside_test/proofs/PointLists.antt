@@ -1,12 +1,13 @@
 -- Lists of points on a segment that grow.
-use Rattle.std.proofs.Common.{◌≡◌, ◌⊎◌, inl, inr, ℕ, ◌+◌, List, [], ◌∷◌, ◌++◌, length, length-append, ap, sym, subst, ◌∙◌, Ok, Err, Result, OnOk, OnErr, lit≤, lit<, refl, arith}
+use Rattle.std.proofs.Common.{◌≡◌, ◌⊎◌, inl, inr, ℕ, ◌+◌, List, [], ◌∷◌, ◌++◌, length, length-append, ap, sym, subst, ◌∙◌, Ok, Err, Result, OnOk}
+use Rattle.std.proofs.Common.{OnErr, lit≤, lit<, refl, arith}
+use Rattle.std.proofs.lemmas.Bool.{cases_lt}
 use Rattle.std.proofs.lemmas.List.Elements.{All-cons, All-nil, All-push, Contains-append_left}
 use Rattle.std.specs.List.{All, Contains}
-use Rattle.inside_test.specs.Breakpoints.{EnclosesAll, Extends, IsPlaced, ListsMeetings}
 use Rattle.plane.proofs.Segments.{on_first_end, on_last_end}
 use Rattle.plane.specs.Point.{IsPoint, Point, Triple, whole}
 use Rattle.rings.specs.Ring.{vertex}
-use Rattle.std.proofs.lemmas.Bool.{cases_lt}
+use Rattle.inside_test.specs.Breakpoints.{EnclosesAll, Extends, IsPlaced, ListsMeetings}
 
 -- what holds on success, or what holds on failure
 pub one_of : {A E : Type 0} (r : Result A E) (P Q : Type 0) → OnOk r P → OnErr r Q → P ⊎ Q

@@ -2,10 +2,10 @@
 use Rattle.std.proofs.Common.{◌≡◌, ℤ, ◌*ℤ◌, subst, sym}
 use Rattle.std.specs.Ordering.{int_cmp, ordering_then}
 use Rattle.std.specs.declared.cmp.Ordering.{Ordering}
+use Rattle.plane.specs.Point.{Triple}
 use Rattle.exact_plane.proofs.Comparing.{TellsOrder, comparison_tells}
 use Rattle.exact_plane.proofs.Registers.{wide}
 use Rattle.exact_plane.specs.Size.{IsSized}
-use Rattle.plane.specs.Point.{Triple}
 
 -- the parts of a point
 abbrev pub made_of : ℤ → ℤ → ℤ → Triple

@@ -7,11 +7,11 @@ use Rattle.std.specs.Fn.{Called, ComparesAs}
 use Rattle.std.specs.List.Sorted.{IsSortedBy}
 use Rattle.std.specs.Ordering.{is_lt}
 use Rattle.std.specs.declared.cmp.Ordering.{Ordering}
-use Rattle.exact_plane.proofs.Comparing.{compared, compared_tells}
-use Rattle.inside_test.specs.declared.breakpoint.Breakpoint.{Breakpoint}
-use Rattle.plane.proofs.Precedence.{NotAfter, not_after_facts, not_after_from, not_after_trans, precedes_asym}
+use Rattle.plane.proofs.Order.{NotAfter, not_after_facts, not_after_from, not_after_trans, precedes_asym}
 use Rattle.plane.specs.Order.{Precedes}
 use Rattle.plane.specs.Point.{Triple}
+use Rattle.exact_plane.proofs.Comparing.{compared, compared_tells}
+use Rattle.inside_test.specs.declared.breakpoint.Breakpoint.{Breakpoint}
 
 -- ---- tests
 

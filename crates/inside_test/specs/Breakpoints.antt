@@ -1,7 +1,7 @@
 -- Where a segment meets the edges of a ring: points enough to tell whether it lies in the ring. This project's own. No public
 -- clause cites this module.
-use Rattle.std.specs.Prelude.{ℕ, ◌+◌, ◌<◌, ◌≤◌, List, length, map}
 use Rattle.std.specs.List.{All, Contains}
+use Rattle.std.specs.Prelude.{ℕ, ◌+◌, ◌<◌, ◌≤◌, List, length, map}
 use Rattle.plane.specs.Point.{IsPoint, Point, Triple, whole}
 use Rattle.plane.specs.Segment.{On}
 use Rattle.rings.specs.Ring.{vertex}

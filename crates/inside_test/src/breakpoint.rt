@@ -1,8 +1,8 @@
 // The points at which a segment may enter or leave a ring, in a form that is compared with no step.
 ghost use Rattle.std.specs.Prelude.{◌≡◌, ◌↔◌};
-ghost use Rattle.exact_plane.specs.Size.{IsNarrow, IsSized};
 ghost use Rattle.plane.specs.Order.{Precedes};
 ghost use Rattle.plane.specs.Point.{IsPoint};
+ghost use Rattle.exact_plane.specs.Size.{IsNarrow, IsSized};
 
 use crate::product::compare;
 use exact_plane::{Hom, Steps};

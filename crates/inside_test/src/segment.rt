@@ -1,12 +1,12 @@
-ghost use Rattle.std.specs.Prelude.{◌≡◌, ◌↔◌, ◌++◌, ◌∷◌, [], IfOk, IsTrue, OnOk, OnErr, length};
 ghost use Rattle.std.specs.List.{AllAdjacentBelow, Contains};
-ghost use Rattle.exact_plane.specs.Size.{IsNarrow};
-ghost use Rattle.inside_test.specs.Breakpoints.{EnclosesAll, Extends, ListsMeetings, breakpoint_points};
+ghost use Rattle.std.specs.Prelude.{◌≡◌, ◌↔◌, ◌++◌, ◌∷◌, [], IfOk, IsTrue, OnOk, OnErr, length};
 ghost use Rattle.plane.specs.Line.{mediant};
 ghost use Rattle.plane.specs.Point.{IsPoint, whole};
 ghost use Rattle.plane.specs.Segment.{On};
 ghost use Rattle.rings.specs.Inside.{IsIn};
 ghost use Rattle.rings.specs.Sees.{Sees};
+ghost use Rattle.exact_plane.specs.Size.{IsNarrow};
+ghost use Rattle.inside_test.specs.Breakpoints.{EnclosesAll, Extends, ListsMeetings, breakpoint_points};
 
 use crate::breakpoint::Breakpoint;
 use crate::position::{Position, next_corner, place_hom};

@@ -1,6 +1,7 @@
 -- A polynomial has the value of its normal form, so two polynomials whose difference has the empty normal form agree.
 use Prim.Native.Nat.{compare, Ordering}
-use Rattle.std.proofs.Common.{◌≡◌, ℕ, zero, suc, T, ltb, eqb→eq, List, [], ◌∷◌, true, false, ℤ, pos, negsuc, ◌+ℤ◌, ◌*ℤ◌, neg_ℤ, arith, refl, sym, ap, ap₂, subst, ◌∙◌}
+use Rattle.std.proofs.Common.{◌≡◌, ℕ, zero, suc, T, ltb, eqb→eq, List, [], ◌∷◌, true, false, ℤ, pos, negsuc, ◌+ℤ◌, ◌*ℤ◌, neg_ℤ, arith, refl, sym, ap}
+use Rattle.std.proofs.Common.{ap₂, subst, ◌∙◌}
 use Rattle.std.proofs.lemmas.Int.{ints}
 use lib.Dec.{compare_is_eq}
 use Rattle.integer_algebra.proofs.Laws.{mul_assoc, mul_left_comm, add-mul, mul-add, zero-mul, one-mul, minus_one-mul, mul-zero, eq_of_sub-zero}

@@ -3,8 +3,8 @@ use Rattle.std.proofs.Common.{◌≡◌, ◌⊎◌, inl, inr, [], ◌∷◌, ref
 use Rattle.std.proofs.lemmas.Int.{ints}
 use Rattle.integer_algebra.proofs.Laws.{add-mul, mul-neg, mul-sub, mul-zero, zero-mul}
 use Rattle.integer_algebra.proofs.Polynomial.{var, lit, ◌⊕◌, ◌⊖◌, ◌⊗◌, same_value}
-use Rattle.integer_algebra.proofs.Signs.{Sign, factor_nonnegative, factor_nonpositive, is_negative, is_positive, is_zero, mul_nonnegative, mul_nonpositive}
-use Rattle.integer_algebra.proofs.Signs.{mul_positive, sign}
+use Rattle.integer_algebra.proofs.Signs.{Sign, factor_nonnegative, factor_nonpositive, is_negative, is_positive, is_zero, mul_nonnegative}
+use Rattle.integer_algebra.proofs.Signs.{mul_nonpositive, mul_positive, sign}
 
 -- weights whose sum is positive are not both 0
 pub some_weight : (k l m w C D : ℤ) → pos 0 <ℤ k → pos 0 <ℤ w → pos 0 ≤ℤ l → pos 0 ≤ℤ m → k *ℤ w ≡ l *ℤ C +ℤ m *ℤ D

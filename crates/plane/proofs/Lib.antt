@@ -1,14 +1,7 @@
-pub mod Boxes
-pub mod Determinants
-pub mod KnownFigures
-pub mod Meeting
-pub mod OnByOrder
-pub mod OnSegment
+pub mod Points
+pub mod Turns
 pub mod Order
-pub mod Precedence
-pub mod Rises
-pub mod Same
-pub mod SameTurns
 pub mod Segments
-pub mod Vectors
-pub mod Written
+pub mod Meetings
+pub mod Nearness
+mod KnownFigures

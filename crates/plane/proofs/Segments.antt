@@ -1,151 +1,48 @@
+-- Points on a segment, and segments beside lines.
+
 -- First laws of segments: their ends, their two directions, other triples of the same points, the line through them.
-use Rattle.std.proofs.Common.{◌≡◌, [], ◌∷◌, refl, ap, ◌∙◌, ◌-◌, lit≤, ℤ, pos, ◌+ℤ◌, ◌*ℤ◌, ◌<ℤ◌, arith}
-use Rattle.std.proofs.lemmas.Int.{ints}
-use Rattle.integer_algebra.proofs.Polynomial.{var, lit, ◌⊕◌, ◌⊗◌, same_value}
-use Rattle.integer_algebra.proofs.Signs.{mul_positive, cancel_equal}
-use Rattle.plane.proofs.Determinants.{determinant_same_ends, determinant_same_last}
-use Rattle.plane.proofs.Same.{same_sym, same_trans}
-use Rattle.plane.proofs.Vectors.{IsCombination, combination_of, determinant_along}
-use Rattle.plane.specs.Point.{IsPoint, IsSame, Triple}
-use Rattle.plane.specs.Segment.{Meet, On, part_of_way}
-use Rattle.plane.specs.Turn.{IsStraight}
-
--- ---- ends and directions
-
--- one coordinate of the way back: x and w of p, u and v of a, s and t of b
-back : (d i j x w u v s t : ℤ) → x *ℤ ((j *ℤ v) *ℤ t) ≡ ((d *ℤ u) *ℤ t +ℤ (i *ℤ s) *ℤ v) *ℤ w
-    → x *ℤ ((j *ℤ t) *ℤ v) ≡ ((i *ℤ s) *ℤ v +ℤ (d *ℤ u) *ℤ t) *ℤ w
-back d i j x w u v s t e =
-    let xs = d ∷ i ∷ j ∷ x ∷ w ∷ u ∷ v ∷ s ∷ t ∷ [] in
-    same_value (var 3 ⊗ ((var 2 ⊗ var 8) ⊗ var 6)) (var 3 ⊗ ((var 2 ⊗ var 6) ⊗ var 8)) xs refl ∙ e
-    ∙ same_value (((var 0 ⊗ var 5) ⊗ var 8 ⊕ (var 1 ⊗ var 7) ⊗ var 6) ⊗ var 4)
-    (((var 1 ⊗ var 7) ⊗ var 6 ⊕ (var 0 ⊗ var 5) ⊗ var 8) ⊗ var 4) xs refl
-
--- a segment has two directions
-pub on_reversed : (p a b : Triple) → On p a b → On p b a
-on_reversed p a b on =
-    let d : ℤ = pos (on.j - on.i) in
-    let i : ℤ = pos on.i in
-    let rest : on.j - (on.j - on.i) ≡ on.i = omega (arith, on.within) in
-    record {
-      i = on.j - on.i;
-      j = on.j;
-      positive = on.positive;
-      within = omega arith;
-      same = record {
-        same_x = rw rest (back d i (pos on.j) p.X p.W a.X a.W b.X b.W on.same.same_x);
-        same_y = rw rest (back d i (pos on.j) p.Y p.W a.Y a.W b.Y b.W on.same.same_y);
-      };
-    }
-
--- segments that meet do so where the first is read backward
-pub meet_reversed_first : (a b c d : Triple) → Meet a b c d → Meet b a c d
-meet_reversed_first a b c d h = record {
-  point = h.point;
-  rational = h.rational;
-  on_first = on_reversed h.point a b h.on_first;
-  on_second = h.on_second;
-}
-
--- and where the second is
-pub meet_reversed_second : (a b c d : Triple) → Meet a b c d → Meet a b d c
-meet_reversed_second a b c d h = record {
-  point = h.point;
-  rational = h.rational;
-  on_first = h.on_first;
-  on_second = on_reversed h.point c d h.on_second;
-}
-
--- and in the other order
-pub meet_swapped : (a b c d : Triple) → Meet a b c d → Meet c d a b
-meet_swapped a b c d h = record {
-  point = h.point;
-  rational = h.rational;
-  on_first = h.on_second;
-  on_second = h.on_first;
-}
-
--- one coordinate of the start of the way
-start : (u v s t : ℤ) → u *ℤ ((pos 1 *ℤ v) *ℤ t) ≡ ((pos 1 *ℤ u) *ℤ t +ℤ (pos 0 *ℤ s) *ℤ v) *ℤ v
-start u v s t =
-    same_value (var 0 ⊗ ((lit (pos 1) ⊗ var 1) ⊗ var 3)) (((lit (pos 1) ⊗ var 0) ⊗ var 3 ⊕ (lit (pos 0) ⊗ var 2) ⊗ var 1) ⊗ var 1)
-    (u ∷ v ∷ s ∷ t ∷ []) refl
-
--- the first end is on the segment
-pub on_first_end : (a b : Triple) → On a a b
-on_first_end a b = record {
-  i = 0;
-  j = 1;
-  positive = lit≤ tt;
-  within = lit≤ tt;
-  same = record { same_x = start a.X a.W b.X b.W; same_y = start a.Y a.W b.Y b.W };
-}
-
--- so is the last
-pub on_last_end : (a b : Triple) → On b a b
-on_last_end a b = on_reversed b b a (on_first_end b a)
-
--- ---- other triples of the same points
-
--- the same point is on the segment
-pub on_same_point : {p q a b : Triple} → IsPoint p → IsSame p q → On p a b → On q a b
-on_same_point h s on = record {
-  i = on.i;
-  j = on.j;
-  positive = on.positive;
-  within = on.within;
-  same = same_trans h (same_sym s) on.same;
-}
-
--- one coordinate of a part of the way: u and v of a, U and V of the same point, s and t of b
-exchange : (d i j u v U V s t : ℤ) → u *ℤ V ≡ U *ℤ v
-    → ((d *ℤ u) *ℤ t +ℤ (i *ℤ s) *ℤ v) *ℤ ((j *ℤ V) *ℤ t) ≡ ((d *ℤ U) *ℤ t +ℤ (i *ℤ s) *ℤ V) *ℤ ((j *ℤ v) *ℤ t)
-exchange d i j u v U V s t e =
-    let xs = d ∷ i ∷ j ∷ u ∷ v ∷ U ∷ V ∷ s ∷ t ∷ [] in
-    let factor = var 0 ⊗ var 2 ⊗ var 8 ⊗ var 8 in
-    let rest = (var 1 ⊗ var 7) ⊗ var 4 ⊗ ((var 2 ⊗ var 6) ⊗ var 8) in
-    same_value (((var 0 ⊗ var 3) ⊗ var 8 ⊕ (var 1 ⊗ var 7) ⊗ var 4) ⊗ ((var 2 ⊗ var 6) ⊗ var 8))
-    (factor ⊗ (var 3 ⊗ var 6) ⊕ rest) xs refl
-    ∙ ap (λ z. ((((d *ℤ j) *ℤ t) *ℤ t) *ℤ z) +ℤ (((i *ℤ s) *ℤ v) *ℤ ((j *ℤ V) *ℤ t))) e
-    ∙ same_value (factor ⊗ (var 5 ⊗ var 4) ⊕ rest)
-    (((var 0 ⊗ var 5) ⊗ var 8 ⊕ (var 1 ⊗ var 7) ⊗ var 6) ⊗ ((var 2 ⊗ var 4) ⊗ var 8)) xs refl
-
--- the same first end makes the same segment
-pub on_same_first : {p a b c : Triple} → IsPoint a → IsPoint b → IsSame a c → On p a b → On p c b
-on_same_first {p} {a} {b} {c} at_a at_b s on =
-    let d : ℤ = pos (on.j - on.i) in
-    let i : ℤ = pos on.i in
-    let j : ℤ = pos on.j in
-    let positive : pos 0 <ℤ j = omega (arith, ints, on.positive) in
-    let same : IsSame (part_of_way on.i on.j a b) (part_of_way on.i on.j c b) = record {
-      same_x = exchange d i j a.X a.W c.X c.W b.X b.W s.same_x;
-      same_y = exchange d i j a.Y a.W c.Y c.W b.Y b.W s.same_y;
-    } in
-    record {
-      i = on.i;
-      j = on.j;
-      positive = on.positive;
-      within = on.within;
-      same = same_trans (mul_positive _ _ (mul_positive _ _ positive at_a) at_b) on.same same;
-    }
-
--- so does the same last end
-pub on_same_last : {p a b c : Triple} → IsPoint a → IsPoint b → IsSame b c → On p a b → On p a c
-on_same_last {p} {a} {b} {c} at_a at_b s on = on_reversed p c a (on_same_first at_b at_a s (on_reversed p a b on))
-
--- ---- the line through a segment
-
--- what has a weighted sum of zeros as a multiple is 0
-pub zero_of : (k l m z f g : ℤ) → pos 0 <ℤ k → f ≡ pos 0 → g ≡ pos 0 → k *ℤ z ≡ l *ℤ f +ℤ m *ℤ g → z ≡ pos 0
-zero_of k l m z f g h ef eg e =
-    let zero : k *ℤ z ≡ k *ℤ pos 0 = e ∙ (λ i. l *ℤ ef i +ℤ m *ℤ eg i) ∙ omega (arith, ints) in
-    cancel_equal z (pos 0) k h zero
-
--- a combination of two points is on the line through them
-pub combination_is_straight : (p a b : Triple) → IsCombination p a b → IsStraight a b p
-combination_is_straight p a b c =
-    zero_of c.k c.l c.m _ _ _ c.k_positive (determinant_same_ends a b) (determinant_same_last a b) (determinant_along p a b c a b)
-
--- so is a point on the segment
-pub on_is_straight : (p a b : Triple) → IsPoint p → IsPoint a → IsPoint b → On p a b → IsStraight a b p
-on_is_straight p a b at_p at_a at_b on = combination_is_straight p a b (combination_of p a b at_p at_a at_b on)
+mod Segments
+pub use Rattle.plane.proofs.Segments.Segments.{combination_is_straight, meet_reversed_second, on_first_end, on_is_straight, on_last_end, on_reversed}
+pub use Rattle.plane.proofs.Segments.Segments.{on_same_point}
+-- A whole point is on a segment exactly if it is on the line through the ends and comes between them.
+mod OnSegment
+pub use Rattle.plane.proofs.Segments.OnSegment.{on_segment_from, on_segment_is}
+-- A rational point is on a segment exactly if it is on the line through the ends and comes between them.
+mod OnByOrder
+pub use Rattle.plane.proofs.Segments.OnByOrder.{not_after_both, not_before_both, on_from_order, on_not_after, on_not_before, straight_on}
+-- Laws of intervals and boxes that meet.
+mod Boxes
+pub use Rattle.plane.proofs.Segments.Boxes.{IsInInterval, boxes_meet_at, within_y}
+-- Two segments on one line meet where their boxes do: an end of one is on the other.
+mod OneLine
+pub use Rattle.plane.proofs.Segments.OneLine.{OnOneLine, one_line_meet}
+-- Points on a segment as combinations of its ends: segments within segments, and points that are an end.
+mod Combinations
+pub use Rattle.plane.proofs.Segments.Combinations.{combination_of_same, first_end_by, not_positive_between, on_nested, same_without_first}
+pub use Rattle.plane.proofs.Segments.Combinations.{same_without_last}
+-- How far a rational point is along a segment.
+mod Lengthwise
+pub use Rattle.plane.proofs.Segments.Lengthwise.{along, along_from_square, along_is_linear, along_itself, combination_along, same_from_square, square}
+pub use Rattle.plane.proofs.Segments.Lengthwise.{square_not_negative, square_swapped, weighed_W, weighed_X_on_line, weighed_Y_on_line}
+-- The order of the points along a segment: which of them is nearer to the first end.
+mod Along
+pub use Rattle.plane.proofs.Segments.Along.{on_antisym, on_total}
+-- Two points of a segment: the one is between the first end and the other, or between the other and the last end.
+mod Between
+pub use Rattle.plane.proofs.Segments.Between.{later_between, on_one_side}
+-- The middle of the segment between two whole points.
+mod Middle
+pub use Rattle.plane.proofs.Segments.Middle.{middle, middle_first, middle_is_point, middle_last, middle_on, middle_within}
+-- Two segments on one line: round each common point there are two ends of theirs that are common too.
+mod Overlaps
+pub use Rattle.plane.proofs.Segments.Overlaps.{around_of_line}
+-- What two segments have in common: one point where they are not parallel, and otherwise what lies between ends of theirs.
+mod SharedParts
+pub use Rattle.plane.proofs.Segments.SharedParts.{first_on_line, last_on_line, one_meeting}
+-- A rational point is on a segment, or a line separates it from the segment.
+mod Separation
+pub use Rattle.plane.proofs.Segments.Separation.{on_or_separated, separated_not_on}
+-- Points within a segment, and the side of a line on which a segment stays.
+mod Sides
+pub use Rattle.plane.proofs.Segments.Sides.{IsWithin, first_end_on_line, left_not_on, on_or_not, right_not_on, same_straight, stays_left, stays_right}
+pub use Rattle.plane.proofs.Segments.Sides.{within_from}

@@ -1,6 +1,6 @@
 -- The upright boxes round two segments. The bounding boxes of the textbooks.
-use Rattle.std.specs.Prelude.{ℤ, ◌≤ℤ◌}
 use Rattle.std.specs.Int.{int_max, int_min}
+use Rattle.std.specs.Prelude.{ℤ, ◌≤ℤ◌}
 use Rattle.plane.specs.Point.{Point}
 
 -- the interval between a and b shares a number with the one between c and d

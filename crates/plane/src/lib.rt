@@ -1,2 +1,2 @@
-//! Points of the plane, turns and segments, as definitions and laws. There is no code here.
+//! Points, turns and segments of the plane: definitions and laws. There is no code here.
 #![tactic(auto)]

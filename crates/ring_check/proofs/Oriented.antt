@@ -3,17 +3,15 @@ use Rattle.std.proofs.Common.{◌≡◌, ◌∙◌, sym, ap, refl, ℕ, ◌+◌,
 use Rattle.std.proofs.lemmas.Int.{ints}
 use Rattle.std.specs.Prelude.{if◌then◌else◌}
 use Rattle.plane.specs.Point.{Point, Triple}
-use Rattle.rings.proofs.SimpleIsApart.{apart_of_simple}
-use Rattle.rings.proofs.Turned.{length-turned_round, turned_round-turned_round, vertex-turned_round}
-use Rattle.rings.proofs.TurnedArea.{doubled_area-turned_round}
-use Rattle.rings.proofs.TurnedSimple.{simple_turned}
+use Rattle.rings.proofs.Inside.{in_turned_iff}
+use Rattle.rings.proofs.Simple.{apart_of_simple}
+use Rattle.rings.proofs.Turned.{length-turned_round, turned_round-turned_round, vertex-turned_round, doubled_area-turned_round, simple_turned}
 use Rattle.rings.proofs.Vertices.{vertex_mod}
 use Rattle.rings.specs.Inside.{IsIn}
 use Rattle.rings.specs.Orientation.{IsClockwise, IsCounterclockwise, is_clockwise, turned_round}
 use Rattle.rings.specs.Ring.{vertex}
 use Rattle.rings.specs.Simple.{IsSimple}
-use Rattle.inside_laws.proofs.TurnedInside.{in_turned_iff}
-use Rattle.ring_laws.proofs.SimpleRings.{runs_round}
+use Rattle.ring_laws.proofs.Simple.{runs_round}
 use Rattle.ring_check.specs.Oriented.{given_of, oriented}
 
 -- ---- what is kept of a list

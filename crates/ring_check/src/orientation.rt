@@ -1,6 +1,6 @@
 ghost use Rattle.std.specs.Prelude.{◌≡◌, ◌<◌, ◌≤◌, ◌^◌, ◌*ℤ◌, ◌-ℤ◌, length, unsigned_abs};
-ghost use Rattle.ring_check.specs.Oriented.{oriented};
 ghost use Rattle.rings.specs.Orientation.{doubled_area};
+ghost use Rattle.ring_check.specs.Oriented.{oriented};
 
 use exact_plane::{Pt, Steps};
 use std::sync::ledger::Ledger;

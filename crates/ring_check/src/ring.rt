@@ -1,10 +1,10 @@
 ghost use Rattle.std.specs.Prelude.{◌≡◌, ◌+◌, ◌<◌, ◌≤◌, ◌↔◌, ℕ, IfOk, IsOk, IsTrue, Err, false, length, vec_len};
-ghost use Rattle.exact_plane.specs.Direction.{turn_of};
 ghost use Rattle.plane.specs.Point.{whole};
-ghost use Rattle.ring_check.specs.Oriented.{given_edge, given_index, given_of, oriented};
 ghost use Rattle.rings.specs.Orientation.{IsCounterclockwise, IsReflex};
 ghost use Rattle.rings.specs.Ring.{vertex};
 ghost use Rattle.rings.specs.Simple.{IsLeastClash, IsSimple};
+ghost use Rattle.exact_plane.specs.Direction.{turn_of};
+ghost use Rattle.ring_check.specs.Oriented.{given_edge, given_index, given_of, oriented};
 
 use crate::clash::least_clash;
 use crate::orientation::turn_counterclockwise;
@@ -26,9 +26,9 @@ pub struct Ring {
 
 impl Model for Ring {
     ghost use Rattle.std.specs.Prelude.{◌≤◌, vec_len};
-    ghost use Rattle.ring_check.specs.Oriented.{Oriented};
     ghost use Rattle.rings.specs.Orientation.{IsCounterclockwise};
     ghost use Rattle.rings.specs.Simple.{IsSimple};
+    ghost use Rattle.ring_check.specs.Oriented.{Oriented};
 
     ghost Value = { Oriented };
 

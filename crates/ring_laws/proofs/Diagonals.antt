@@ -1,84 +1,22 @@
+-- Diagonals of a ring, and the cut rule.
+
+-- The diagonal of a cut ring, and points in rings that wind up to once.
+mod CutDiagonal
+pub use Rattle.ring_laws.proofs.Diagonals.CutDiagonal.{ends_differ, in_if_wound, inner_off, some_back, some_there, wound}
+-- Beside a diagonal: the winding numbers of the two pieces, one to its left and one to its right.
+mod BesideDiagonal
+pub use Rattle.ring_laws.proofs.Diagonals.BesideDiagonal.{same_direction}
 -- Diagonals of a ring: inside it where both pieces run counterclockwise, and the same from another vertex on or the other way round.
-use Rattle.std.proofs.Common.{◌≡◌, inl, inr, refl, sym, subst, pos, List, [], ◌∷◌, ◌++◌}
-use Rattle.plane.proofs.Same.{same_sym, whole_is_point}
-use Rattle.plane.proofs.Segments.{on_first_end, on_reversed}
-use Rattle.plane.specs.Point.{IsPoint, IsSame, Point, Triple, whole}
-use Rattle.plane.specs.Segment.{On}
-use Rattle.rings.proofs.CommonEnds.{meet_reversed, meet_swapped}
-use Rattle.rings.proofs.DistinctPoints.{HasPoint, edge_from}
-use Rattle.rings.proofs.Edges.{backward, closed_edges_of, on_some_same, reversed}
-use Rattle.rings.proofs.Items.{has_reversed, has_right}
-use Rattle.rings.proofs.Members.{has_edge_backward, on_some_of}
-use Rattle.rings.proofs.SimpleIsApart.{same_or_not}
-use Rattle.rings.proofs.Turned.{edges_of-turned_round}
-use Rattle.rings.specs.Apart.{IsApartRing, MeetAtEnds}
-use Rattle.rings.specs.Edge.{Edge, HasEdge, IsOn, IsOnSome, edge, edges_along, edges_of}
-use Rattle.rings.specs.Inside.{winding}
-use Rattle.rings.specs.Orientation.{turned_round}
-use Rattle.rings.specs.Winding.{WindsUpTo}
-use Rattle.inside_laws.proofs.Rotated.{has_edge_rotated, in_rotated}
-use Rattle.inside_laws.proofs.TurnedInside.{in_turned_iff}
-use Rattle.ring_pieces.proofs.Pieces.{winding_cut}
-use Rattle.ring_pieces.proofs.PiecesMeet.{off_first, on_back}
-use Rattle.ring_laws.proofs.BesideDiagonal.{once_round_diagonal}
-use Rattle.ring_laws.proofs.CutDiagonal.{ends_differ, in_if_wound, inner_off}
-use Rattle.ring_laws.specs.Diagonal.{IsDiagonal}
-
--- a vertex is on an edge
-vertex_on : (p v : Point) (vs : List Point) → HasPoint (v ∷ vs) p → IsOnSome (edges_of (v ∷ vs)) (whole p)
-vertex_on p v vs has =
-    let (e, in_list, is) = edge_from p v vs v has in
-    on_some_of (whole p) e (edges_of (v ∷ vs)) in_list (subst (λ (q : Point). IsOn e (whole q)) is (on_first_end (whole e.from) (whole e.to)))
-
-module _ (v : Point) (ps : List Point) (z : Point) (qs : List Point) (apart : IsApartRing (v ∷ (ps ++ z ∷ qs)))
-    (meets : (e : Edge) → HasEdge (edges_of (v ∷ (ps ++ z ∷ qs))) e → MeetAtEnds e (edge v z))
-    (first : WindsUpTo (pos 1) (edges_of (v ∷ (ps ++ z ∷ [])))) (second : WindsUpTo (pos 1) (edges_of (v ∷ z ∷ qs))) where
-  -- a point strictly inside the segment from v to z is wound round once
-  pub inner_wound : (x : Triple) → IsPoint x → On x (whole v) (whole z) → ¬ IsSame x (whole v) → ¬ IsSame x (whole z)
-      → winding (edges_of (v ∷ (ps ++ z ∷ qs))) x ≡ pos 1
-  inner_wound x at on not_v not_z =
-      once_round_diagonal (edges_of (v ∷ (ps ++ z ∷ qs))) (edges_of (v ∷ (ps ++ z ∷ []))) (edges_along z qs v) (edge v z)
-      (winding_cut v ps z qs) (closed_edges_of (v ∷ (ps ++ z ∷ qs))) (closed_edges_of (v ∷ z ∷ qs)) (off_first v ps z qs apart)
-      (on_back v ps z qs apart) (ends_differ v ps z qs apart meets) x at on not_v not_z
-      (inner_off v ps z qs apart meets x at on not_v not_z) first second
-
-  -- so the segment is a diagonal
-  pub cut_is_diagonal : IsDiagonal (v ∷ (ps ++ z ∷ qs)) v z
-  cut_is_diagonal = record {
-    meets = meets;
-    inside = λ x at on. elim (same_or_not x (whole v)) [
-      | inl same ↦ inl (on_some_same (whole v) x (whole_is_point v) (same_sym same) (edges_of (v ∷ (ps ++ z ∷ qs))) (vertex_on v v (ps ++ z ∷ qs) (inl refl)))
-      | inr not_v ↦ elim (same_or_not x (whole z)) [
-        | inl same ↦
-            inl (on_some_same (whole z) x (whole_is_point z) (same_sym same) (edges_of (v ∷ (ps ++ z ∷ qs)))
-            (vertex_on z v (ps ++ z ∷ qs) (inr (has_right z ps (z ∷ qs) (inl refl)))))
-        | inr not_z ↦ in_if_wound (pos 1) (inl refl) (v ∷ (ps ++ z ∷ qs)) x (inner_wound x at on not_v not_z)
-      ]
-    ];
-  }
-
-module _ (a b : Point) where
-  -- a diagonal has two directions
-  pub diagonal_backward : (ring : List Point) → IsDiagonal ring a b → IsDiagonal ring b a
-  diagonal_backward ring d = record {
-    meets = λ e has. meet_reversed e (edge a b) (d.meets e has);
-    inside = λ x at on. d.inside x at (on_reversed x (whole b) (whole a) on);
-  }
-
-  -- a diagonal of a ring is one of the ring the other way round
-  pub diagonal_turned : (ring : List Point) → IsDiagonal (turned_round ring) a b → IsDiagonal ring a b
-  diagonal_turned ring d = record {
-    meets = λ e has.
-        let turned : HasEdge (edges_of (turned_round ring)) (reversed e) =
-        subst (λ es. HasEdge es (reversed e)) (sym (edges_of-turned_round ring))
-        (has_reversed (reversed e) (backward (edges_of ring)) (has_edge_backward e (edges_of ring) has)) in
-        meet_swapped (edge a b) e (meet_reversed (edge a b) (reversed e) (meet_swapped (reversed e) (edge a b) (d.meets (reversed e) turned)));
-    inside = λ x at on. (in_turned_iff x ring).0 (d.inside x at on);
-  }
-
-  -- and one of the ring from another vertex on
-  pub diagonal_rotated : (ps qs : List Point) → IsDiagonal (qs ++ ps) a b → IsDiagonal (ps ++ qs) a b
-  diagonal_rotated ps qs d = record {
-    meets = λ e has. d.meets e (has_edge_rotated ps qs e has);
-    inside = λ x at on. in_rotated qs ps x (d.inside x at on);
-  }
+mod Diagonals
+pub use Rattle.ring_laws.proofs.Diagonals.Diagonals.{diagonal_backward, diagonal_rotated}
+-- The cut rule at a least vertex: the segment that it chooses is a diagonal of the ring.
+mod CutRule
+pub use Rattle.ring_laws.proofs.Diagonals.CutRule.{farthest_diagonal}
+-- The cut rule at a least vertex with a right turn, from the ring read the other way round.
+mod CutRuleMirrored
+pub use Rattle.ring_laws.proofs.Diagonals.CutRuleMirrored.{base_diagonal}
+-- The vertices in the triangle at a corner of a ring, by their numbers and as points.
+mod CornerNumbers
+-- The cut rule at any vertex of a ring: the cut at its least vertex is a diagonal.
+mod CutAtVertex
+pub use Rattle.ring_laws.proofs.Diagonals.CutAtVertex.{cut_is_diagonal_at, some_cut}

@@ -1,4 +1,4 @@
-//! Simple polygons wind once, have diagonals, and are cut in two by each of them.
+//! Laws of simple rings: they wind once, have diagonals, and are cut in two by each.
 #![tactic(auto)]
 
 mod laws;

@@ -2,9 +2,8 @@
 use Rattle.std.proofs.Common.{◌≡◌, refl, ℤ, pos, negsuc, List, [], ◌∷◌}
 use Rattle.std.specs.Int.Signed.{lt_z_yes}
 use Rattle.plane.specs.Point.{Point, Triple}
+use Rattle.rings.proofs.Vertices.{backward, edge_at}
 use Rattle.rings.specs.Across.{CrossesRight}
-use Rattle.rings.proofs.Edges.{backward}
-use Rattle.rings.proofs.Indexing.{edge_at}
 use Rattle.rings.specs.Edge.{edges_of}
 use Rattle.rings.specs.Inside.{crossings, winding}
 

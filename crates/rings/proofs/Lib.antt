@@ -1,17 +1,6 @@
-pub mod CommonEnds
-pub mod DistinctPoints
-pub mod Edges
-pub mod Farthest
-pub mod FirstHit
-pub mod Indexing
-pub mod Items
-pub mod KnownFigures
-pub mod LeastClash
-pub mod Members
-pub mod NearEdges
-pub mod PointLists
-pub mod SimpleIsApart
-pub mod Turned
-pub mod TurnedArea
-pub mod TurnedSimple
 pub mod Vertices
+pub mod Simple
+pub mod Turned
+pub mod Crossings
+pub mod Inside
+mod KnownFigures

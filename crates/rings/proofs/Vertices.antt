@@ -1,22 +1,38 @@
+-- Vertices and edges of a ring, by their numbers and as lists.
+
+-- The edges of a ring by their numbers: edge i goes from vertex i to the next.
+mod Indexing
+pub use Rattle.rings.proofs.Vertices.Indexing.{crossings_more, edge_at, on_some_edge, on_some_from, on_some_more, split_edges, take_all_edges}
+-- The items of a list, of appended lists and of a list in the other order, and their numbers.
+mod Items
+pub use Rattle.rings.proofs.Vertices.Items.{has_cases, has_in_order, has_left, has_number, has_reversed, has_right, has_swapped, number_of}
+pub use Rattle.rings.proofs.Vertices.Items.{reverse-cons}
+-- The edges along some points: points on them, and their ends.
+mod PointLists
+pub use Rattle.rings.proofs.Vertices.PointLists.{all_ends_along, first_on_along, last_on_along, member_on_along}
+-- Laws of lists of edges: appended lists, edges read backward, closed lists.
+mod Edges
+pub use Rattle.rings.proofs.Vertices.Edges.{AllEnds, all_ends_map, backward, closed_edges_of, growth-append, growth-edges_along, on_some_backward}
+pub use Rattle.rings.proofs.Vertices.Edges.{on_some_cases, on_some_left, on_some_right, on_some_same, reversed, sum_regrouped}
 -- The vertices of a ring by their numbers.
-use Rattle.std.proofs.Common.{◌≡◌, ℕ, ◌<◌, ◌%◌, List, length, ap, ◌∙◌, sym}
-use Rattle.std.proofs.Math.Nat.{mod-eq_of_lt, mod-mod, mod_self}
-use Rattle.std.proofs.lemmas.List.{get_or_default}
-use Rattle.std.specs.Prelude.{slice_index_or}
-use Rattle.plane.specs.Point.{Point}
-use Rattle.rings.specs.Ring.{origin, vertex}
-
--- the vertex with a number below the length is that item of the list
-pub vertex_in_range : (ring : List Point) (i : ℕ) (d : Point) → i < length ring → vertex ring i ≡ slice_index_or ring i d
-vertex_in_range ring i d h = ap (λ k. slice_index_or ring k origin) (mod-eq_of_lt h) ∙ get_or_default ring i origin d h
-
--- after the last vertex comes the first
-pub vertex_round : (ring : List Point) → 0 < length ring → vertex ring (length ring) ≡ vertex ring 0
-vertex_round ring some =
-    let first : length ring % length ring ≡ 0 = mod_self (length ring) in
-    let same : 0 % length ring ≡ 0 = mod-eq_of_lt some in
-    ap (λ k. slice_index_or ring k origin) (first ∙ sym same)
-
--- vertices are counted round
-pub vertex_mod : (ring : List Point) (i : ℕ) → vertex ring (i % length ring) ≡ vertex ring i
-vertex_mod ring i = ap (λ k. slice_index_or ring k origin) (mod-mod i (length ring))
+mod Vertices
+pub use Rattle.rings.proofs.Vertices.Vertices.{vertex_in_range, vertex_mod, vertex_round}
+-- The edges of a list, the points on them, and the edges of a ring by their numbers.
+mod Members
+pub use Rattle.rings.proofs.Vertices.Members.{edge_number, edge_with, has_edge_at, has_edge_backward, on_each, on_some_among, on_some_of}
+-- Lists of different points, by recursion on the list and by numbers.
+mod DistinctPoints
+pub use Rattle.rings.proofs.Vertices.DistinctPoints.{AreDistinct, HasPoint, distinct_between, distinct_left, distinct_right, distinct_swapped}
+pub use Rattle.rings.proofs.Vertices.DistinctPoints.{distinct_vertices, edge_from, end_of_ring, ends_along, vertices_differ}
+-- Edges that meet at common ends only: in the other order, read backward, and with one more edge.
+mod CommonEnds
+pub use Rattle.rings.proofs.Vertices.CommonEnds.{apart_among, apart_more, end_of_first, end_of_second, meet_reversed, meet_swapped}
+-- Near a rational point: the way from it to another point misses all edges that it is not on.
+mod NearEdges
+pub use Rattle.rings.proofs.Vertices.NearEdges.{misses_between, misses_eventually, shrink}
+-- Of the chosen points of a list, one with the greatest value.
+mod FarthestPoint
+pub use Rattle.rings.proofs.Vertices.FarthestPoint.{Farthest, farthest_of, farthest_or_none}
+-- The first hit: on the way from one rational point to another, the first point that is on some edge of a list.
+mod FirstHits
+pub use Rattle.rings.proofs.Vertices.FirstHits.{FirstHit, first_hit, first_hit_or_misses, misses_before}

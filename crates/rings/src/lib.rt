@@ -1,2 +1,2 @@
-//! Polygons by their boundary, a ring of whole-number points: definitions and laws. There is no code here.
+//! Rings of points, their inside, chains and bends: definitions and laws. There is no code here.
 #![tactic(auto)]

@@ -1,8 +1,9 @@
 -- Cones at bends: a point is in one or not, and two neighbours decide for all.
-use Rattle.std.proofs.Common.{◌≡◌, ◌⊎◌, ◌↔◌, inl, inr, refl, Bool, true, false, IsTrue, ℕ, ◌+◌, ◌-◌, ◌<◌, zero, suc, ℤ, pos, negsuc, ◌<ℤ◌, List, length, arith}
+use Rattle.std.proofs.Common.{◌≡◌, ◌⊎◌, ◌↔◌, inl, inr, refl, Bool, true, false, IsTrue, ℕ, ◌+◌, ◌-◌, ◌<◌, zero, suc, ℤ, pos, negsuc, ◌<ℤ◌, List}
+use Rattle.std.proofs.Common.{length, arith}
 use Rattle.std.proofs.lemmas.Int.{ints}
 use Rattle.std.specs.Prelude.{not}
-use Rattle.plane.proofs.Determinants.{straight_swap_first}
+use Rattle.plane.proofs.Turns.{straight_swap_first}
 use Rattle.plane.specs.Cone.{IsInCone}
 use Rattle.plane.specs.Point.{Point, Triple, whole}
 use Rattle.plane.specs.Turn.{IsStraight, determinant}

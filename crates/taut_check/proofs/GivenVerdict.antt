@@ -2,9 +2,8 @@
 use Rattle.std.proofs.Common.{◌↔◌, Bool, true, false, List}
 use Rattle.std.specs.Prelude.{if◌then◌else◌}
 use Rattle.plane.specs.Point.{Point}
+use Rattle.rings.proofs.Inside.{neighbours_turned_iff, reflex_turned_iff, sees_turned_iff, in_turned_iff}
 use Rattle.rings.specs.Orientation.{turned_round}
-use Rattle.inside_laws.proofs.TurnedBends.{neighbours_turned_iff, reflex_turned_iff, sees_turned_iff}
-use Rattle.inside_laws.proofs.TurnedInside.{in_turned_iff}
 use Rattle.ring_check.specs.Oriented.{Oriented, given_of}
 use Rattle.taut_check.proofs.SameRules.{SameRules, same_verdict, swapped}
 use Rattle.taut_check.specs.Verdict.{IsVerdict}

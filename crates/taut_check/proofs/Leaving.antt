@@ -1,12 +1,12 @@
 -- What holds at a place that a list doesn't leave the ring at.
 use Rattle.std.proofs.Common.{◌≡◌, inl, inr, refl, Bool, true, false, IsTrue, ◌↔◌, ℕ, ◌+◌, ◌<◌, List, length}
 use Rattle.std.specs.Prelude.{not}
-use Rattle.plane.proofs.Same.{whole_is_point}
+use Rattle.plane.proofs.Points.{whole_is_point}
 use Rattle.plane.specs.Point.{IsPoint, Point, Triple, whole}
+use Rattle.rings.proofs.Inside.{in_or_not}
 use Rattle.rings.specs.Chain.{point_at}
 use Rattle.rings.specs.Inside.{IsIn}
 use Rattle.rings.specs.Sees.{Sees}
-use Rattle.inside_laws.proofs.InRing.{in_or_not}
 use Rattle.taut_check.specs.Found.{IsSound, IsSoundBend}
 use Rattle.taut_check.specs.Verdict.{IsLeaving, IsRepeat}
 

@@ -1,11 +1,11 @@
 // The rules that hold at each inner place.
 ghost use Rattle.std.specs.Prelude.{◌≡◌, ◌<◌, ◌↔◌, ◌⊎◌, IsTrue, IfSome, IfNone, length};
-ghost use Rattle.exact_plane.specs.Direction.{turn_of};
 ghost use Rattle.plane.specs.Point.{Point, whole};
 ghost use Rattle.rings.specs.Bend.{AreNeighbours, IsReflexVertex};
 ghost use Rattle.rings.specs.Chain.{IsInner, point_at};
 ghost use Rattle.rings.specs.Orientation.{IsReflex};
 ghost use Rattle.rings.specs.Ring.{vertex};
+ghost use Rattle.exact_plane.specs.Direction.{turn_of};
 ghost use Rattle.taut_check.specs.Verdict.{HasNoTurn, IsOnWrongSide};
 
 use crate::chain::point;

@@ -4,10 +4,10 @@ use Rattle.std.proofs.lemmas.Bool.{cases_eq}
 use Rattle.std.proofs.lemmas.List.{get_or_append_left, get_or_push}
 use Rattle.std.specs.BTreeMap.{BTreeMap}
 use Rattle.std.specs.Prelude.{Option, slice_index_or}
-use Rattle.tri_mesh.specs.Mesh.{side_begin, side_end}
+use Rattle.meshes.specs.Mesh.{side_begin, side_end}
+use Rattle.meshes.specs.Side.{tri_at}
+use Rattle.meshes.specs.declared.tri.Tri.{Tri}
 use Rattle.tri_mesh.specs.Neighbours.{AreRowsOf, HasSidesOf, IsOwner, row_by, tri_with}
-use Rattle.tri_mesh.specs.Side.{tri_at}
-use Rattle.tri_mesh.specs.declared.tri.Tri.{Tri}
 
 module _ (tris : List Tri) (sides : BTreeMap (ℕ × ℕ) ℕ) (all : HasSidesOf tris (length tris) sides) where
   -- what is looked up is the triangle that has the side

@@ -4,12 +4,12 @@ use Rattle.std.proofs.lemmas.List.{get_or_read}
 use Rattle.std.specs.List.{range_with_len}
 use Rattle.std.specs.Prelude.{IsNone, Option, slice_index_or}
 use Rattle.plane.specs.Point.{Point}
-use Rattle.tri_mesh.proofs.PieceSteps.{edge_or_not}
-use Rattle.tri_mesh.specs.Fits.{Fits, IsPieceEdge, IsSideOfOne, IsSideOfTwo}
-use Rattle.tri_mesh.specs.Mesh.{side_begin, side_end}
-use Rattle.tri_mesh.specs.Neighbours.{HasSidesOnce, IsOwner, KeepsNeighbours}
-use Rattle.tri_mesh.specs.Side.{HasSide, tri_at}
-use Rattle.tri_mesh.specs.declared.tri.Tri.{Tri}
+use Rattle.meshes.proofs.Sides.{edge_or_not}
+use Rattle.meshes.specs.Fits.{Fits, IsPieceEdge, IsSideOfOne, IsSideOfTwo}
+use Rattle.meshes.specs.Mesh.{side_begin, side_end}
+use Rattle.meshes.specs.Side.{HasSidesOnce, HasSide, tri_at}
+use Rattle.meshes.specs.declared.tri.Tri.{Tri}
+use Rattle.tri_mesh.specs.Neighbours.{IsOwner, KeepsNeighbours}
 
 -- a triangle has its sides
 pub has_side_numbered : (t : Tri) (side : ℕ) → side < 3 → HasSide t (side_begin t side) (side_end t side)

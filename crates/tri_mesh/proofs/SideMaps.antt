@@ -7,9 +7,9 @@ use Rattle.std.specs.Ordering.{is_eq, nat_cmp}
 use Rattle.std.specs.Prelude.{cond}
 use Rattle.std.specs.declared.cmp.Ordering.{Ordering}
 use Rattle.std.specs.declared.cmp.Ordering.TheVariants.{Less, Equal, Greater}
-use Rattle.tri_mesh.specs.Neighbours.{HasSidesOf, HasSidesOnce, side_cmp, tri_with}
-use Rattle.tri_mesh.specs.Side.{HasSide, tri_at}
-use Rattle.tri_mesh.specs.declared.tri.Tri.{Tri}
+use Rattle.meshes.specs.Side.{HasSidesOnce, HasSide, tri_at}
+use Rattle.meshes.specs.declared.tri.Tri.{Tri}
+use Rattle.tri_mesh.specs.Neighbours.{HasSidesOf, side_cmp, tri_with}
 
 -- a test for equality that does not fail
 equal_from_test : (o : Ordering) → is_eq o ≡ true → o ≡ Equal

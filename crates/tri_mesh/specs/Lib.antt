@@ -1,5 +1,1 @@
-pub mod Fits
-pub mod Mesh
 pub mod Neighbours
-pub mod Side
-pub mod Sleeve

@@ -1,16 +1,11 @@
--- What the table of neighbours of a mesh stands on: sides that occur once, and a map of them. This project's own.
-use Rattle.std.specs.Prelude.{◌≡◌, ℕ, ◌<◌, ◌^◌, Option, Some, None, List, [], ◌∷◌, length, slice_index_or}
-use Rattle.std.specs.Ordering.{nat_cmp, ordering_then}
-use Rattle.std.specs.declared.cmp.Ordering.{Ordering}
+-- The table of neighbours of a mesh, and the map from which it is made. This project's own.
 use Rattle.std.specs.BTreeMap.{BTreeMap, get}
-use Rattle.tri_mesh.specs.Mesh.{side_begin, side_end}
-use Rattle.tri_mesh.specs.Side.{HasSide, IsTree, tri_at}
-use Rattle.tri_mesh.specs.declared.tri.Tri.{Tri}
-
--- a side in one direction belongs to one triangle at most, and no triangle has a side in both directions
-pub record HasSidesOnce (tris : List Tri) : Type 0 where
-  pub once : (i j k l : ℕ) → k < length tris → l < length tris → HasSide (tri_at tris k) i j → HasSide (tri_at tris l) i j → k ≡ l
-  pub one_way : (i j k : ℕ) → k < length tris → HasSide (tri_at tris k) i j → ¬ HasSide (tri_at tris k) j i
+use Rattle.std.specs.Ordering.{nat_cmp, ordering_then}
+use Rattle.std.specs.Prelude.{◌≡◌, ℕ, ◌<◌, ◌^◌, Option, Some, None, List, [], ◌∷◌, length, slice_index_or}
+use Rattle.std.specs.declared.cmp.Ordering.{Ordering}
+use Rattle.meshes.specs.Mesh.{side_begin, side_end}
+use Rattle.meshes.specs.Side.{HasSide, HasSidesOnce, IsTree, tri_at}
+use Rattle.meshes.specs.declared.tri.Tri.{Tri}
 
 -- the triangle with the side from i to j, or none where no triangle has it
 pub record IsOwner (tris : List Tri) (i j : ℕ) (owner : Option ℕ) : Type 0 where

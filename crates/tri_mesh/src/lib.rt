@@ -6,8 +6,6 @@ mod sides;
 mod sleeve;
 #[cfg(test)]
 mod tests;
-mod tri;
 
 pub use mesh::Mesh;
 pub use sleeve::Sleeve;
-pub use tri::Tri;

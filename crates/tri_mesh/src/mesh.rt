@@ -1,14 +1,13 @@
-ghost use Rattle.std.specs.Prelude.{◌≡◌, ◌<◌, ◌^◌, ◌↔◌, List, IfOk, IfSome, IsNone, length, vec_len};
 ghost use Rattle.std.specs.List.{range_with_len};
+ghost use Rattle.std.specs.Prelude.{◌≡◌, ◌<◌, ◌^◌, ◌↔◌, List, IfOk, IfSome, IsNone, length, vec_len};
 ghost use Rattle.plane.specs.Point.{Point};
-ghost use Rattle.tri_mesh.specs.Fits.{Fits, IsPieceEdge, IsSideOfOne, IsSideOfTwo};
-ghost use Rattle.tri_mesh.specs.Mesh.{IsMesh, side_begin, side_end};
-ghost use Rattle.tri_mesh.specs.Neighbours.{HasSidesOnce};
-ghost use Rattle.tri_mesh.specs.Side.{IsTree, tri_at};
+ghost use Rattle.meshes.specs.Fits.{Fits, IsPieceEdge, IsSideOfOne, IsSideOfTwo};
+ghost use Rattle.meshes.specs.Mesh.{IsMesh, side_begin, side_end};
+ghost use Rattle.meshes.specs.Side.{HasSidesOnce, IsTree, tri_at};
 
 use crate::sides::neighbours;
-use crate::tri::Tri;
 use exact_plane::Memory;
+use meshes::Tri;
 use std::alloc::Global;
 use std::marker::Model;
 
@@ -21,8 +20,8 @@ pub struct Mesh {
 
 impl Model for Mesh {
     ghost use Rattle.std.specs.Prelude.{List};
+    ghost use Rattle.meshes.specs.declared.tri.Tri.{Tri};
     ghost use Rattle.tri_mesh.specs.Neighbours.{KeepsNeighbours};
-    ghost use Rattle.tri_mesh.specs.declared.tri.Tri.{Tri};
 
     ghost Value = { List Tri };
 

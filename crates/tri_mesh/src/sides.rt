@@ -1,9 +1,9 @@
 ghost use Rattle.std.specs.Prelude.{◌≡◌, ◌<◌, ◌^◌, ℕ, Some, IfOk, OnOk, length};
-ghost use Rattle.tri_mesh.specs.Neighbours.{AreRowsOf, HasSidesOf, HasSidesOnce, row_by, tri_with};
-ghost use Rattle.tri_mesh.specs.Side.{HasSide};
+ghost use Rattle.meshes.specs.Side.{HasSidesOnce, HasSide};
+ghost use Rattle.tri_mesh.specs.Neighbours.{AreRowsOf, HasSidesOf, row_by, tri_with};
 
-use crate::tri::Tri;
 use exact_plane::Memory;
+use meshes::Tri;
 use std::alloc::Global;
 use std::collections::BTreeMap;
 

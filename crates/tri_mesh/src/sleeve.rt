@@ -1,18 +1,12 @@
 ghost use Rattle.std.specs.Prelude.{◌≡◌, ◌+◌, ◌-◌, ◌<◌, ◌↔◌, IfOk, IsTrue, Some, length, slice_index_or};
-ghost use Rattle.tri_mesh.specs.Side.{IsWalk, ShareSide, tri_at};
-ghost use Rattle.tri_mesh.specs.Sleeve.{IsOneOf, IsDiagonalBetween, diagonal_at};
+ghost use Rattle.meshes.specs.Side.{IsWalk, ShareSide, tri_at};
+ghost use Rattle.meshes.specs.Sleeve.{IsOneOf, IsDiagonalBetween, diagonal_at};
 
 use crate::mesh::Mesh;
 use exact_plane::Memory;
+use meshes::Diagonal;
 use std::alloc::Global;
 use std::marker::Model;
-
-// A side between two triangles, by its corners on the left and on the right of the way from one to the other.
-#[derive(Clone, Copy)]
-pub(crate) struct Diagonal {
-    pub left: u32,
-    pub right: u32,
-}
 
 /// Triangles that follow each other over shared sides, and these sides: the diagonals, each with a left and a right
 /// corner as met on the way from the first triangle to the last.
@@ -24,7 +18,7 @@ pub struct Sleeve {
 
 impl Model for Sleeve {
     ghost use Rattle.std.specs.Prelude.{◌≡◌, ◌+◌, length};
-    ghost use Rattle.tri_mesh.specs.Sleeve.{Sleeve};
+    ghost use Rattle.meshes.specs.Sleeve.{Sleeve};
 
     ghost Value = { Sleeve };
 

@@ -1,7 +1,6 @@
 ghost use Rattle.std.specs.Prelude.{◌≡◌, ◌<◌, ◌^◌, IfOk, vec_len};
-ghost use Rattle.tri_mesh.specs.Mesh.{IsMesh};
-ghost use Rattle.tri_mesh.specs.Neighbours.{HasSidesOnce};
-ghost use Rattle.tri_mesh.specs.Side.{IsTree};
+ghost use Rattle.meshes.specs.Mesh.{IsMesh};
+ghost use Rattle.meshes.specs.Side.{HasSidesOnce, IsTree};
 
 use crate::{Mesh, Tri};
 use std::alloc::{AllocError, Global};

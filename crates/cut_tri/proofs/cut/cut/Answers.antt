@@ -1,9 +1,9 @@
 use Rattle.std.proofs.Common.{ℕ, List, subst, sym, length}
+use Rattle.std.specs.Prelude.{IfOk}
 use Rattle.cut_tri.proofs.RotatedCuts.{least_from, piece_from, result_from}
+use Rattle.cut_tri.proofs.cut.cut.Goals as goal
 use Rattle.cut_tri.specs.Cutting.{IsCutOf}
 use Rattle.cut_tri.specs.Piece.{IsLeastBelow}
-use Rattle.std.specs.Prelude.{IfOk}
-use Rattle.cut_tri.proofs.cut.cut.Goals as goal
 
 pub cut_at_first-requires-clause-piece : goal.cut_at_first-requires-clause-piece
 cut_at_first-requires-clause-piece g c =

@@ -1,6 +1,6 @@
 use Rattle.std.proofs.Common.{◌≡◌, sym, ◌∙◌, length, arith}
-use Rattle.cut_tri.proofs.WorkList.{at_end, at_start, one_step}
 use Rattle.cut_tri.proofs.WholePiece.{all_is_piece}
+use Rattle.cut_tri.proofs.WorkList.{at_end, at_start, one_step}
 use Rattle.cut_tri.proofs.triangulation.triangulate.Goals as goal
 
 pub loop-piece-init : goal.loop-piece-init

@@ -1,6 +1,6 @@
 use Rattle.cut_tri.proofs.Completion.{ArePieces, Completes, effort}
-use Rattle.cut_tri.specs.WorkList.{last_first}
 use Rattle.cut_tri.proofs.triangulation.triangulate.Given as goal
+use Rattle.cut_tri.specs.WorkList.{last_first}
 
 abbrev pub invariant-loop-piece : goal.invariant-loop-piece
 invariant-loop-piece g l = ArePieces l.ring.corners (last_first l.work.items) × Completes l.ring.corners l.tris.items (last_first l.work.items)

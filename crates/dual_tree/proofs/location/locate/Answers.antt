@@ -2,8 +2,8 @@ use Rattle.std.proofs.Common.{refl, inl, inr, arith}
 use Rattle.std.proofs.lemmas.Bool.{cases_eq}
 use Rattle.std.proofs.lemmas.Int.{ints}
 use Rattle.plane.specs.Point.{IsPoint, whole}
-use Rattle.tri_mesh.specs.Fits.{IsInTri}
-use Rattle.tri_mesh.specs.Side.{tri_at}
+use Rattle.meshes.specs.Fits.{IsInTri}
+use Rattle.meshes.specs.Side.{tri_at}
 use Rattle.dual_tree.proofs.LocationFits.{corners_below, covered, two_fewer}
 use Rattle.dual_tree.proofs.location.locate.Goals as goal
 

@@ -1,7 +1,7 @@
 use Rattle.std.proofs.Common.{ℕ, ◌+◌, ◌*◌, ◌<◌, ◌≤◌}
 use Rattle.plane.specs.Point.{whole}
-use Rattle.tri_mesh.specs.Fits.{IsInTri}
-use Rattle.tri_mesh.specs.Side.{tri_at}
+use Rattle.meshes.specs.Fits.{IsInTri}
+use Rattle.meshes.specs.Side.{tri_at}
 use Rattle.dual_tree.proofs.location.locate.Given as goal
 
 abbrev pub invariant-loop-i : goal.invariant-loop-i

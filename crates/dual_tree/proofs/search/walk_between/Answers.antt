@@ -1,8 +1,8 @@
 use Rattle.std.proofs.Common.{◌≡◌, ◌<◌, length, arith}
 use Rattle.std.proofs.lemmas.List.{get_or_read}
-use Rattle.dual_tree.specs.Search.{reached_at}
 use Rattle.dual_tree.proofs.SearchWalks.{way_on, way_starts}
 use Rattle.dual_tree.proofs.search.walk_between.Goals as goal
+use Rattle.dual_tree.specs.Search.{reached_at}
 
 pub loop-place-init : goal.loop-place-init
 loop-place-init c =

@@ -1,7 +1,7 @@
 use Rattle.std.proofs.Common.{◌≡◌, sym, ◌∙◌, ℕ, List, length}
+use Rattle.meshes.specs.Side.{IsWalkBetween}
+use Rattle.meshes.specs.Sleeve.{IsOneOf}
 use Rattle.dual_tree.proofs.SearchWalks.{if_ok_both, if_ok_map, no_diagonal, one_walk}
-use Rattle.tri_mesh.specs.Side.{IsWalkBetween}
-use Rattle.tri_mesh.specs.Sleeve.{IsOneOf}
 use Rattle.dual_tree.proofs.sleeves.sleeve.Goals as goal
 
 pub returns-clause-only : goal.returns-clause-only

@@ -1,7 +1,7 @@
 use Rattle.std.proofs.Common.{◌≡◌, false, inl, inr, arith}
 use Rattle.std.proofs.lemmas.Bool.{true_from_ne_false}
+use Rattle.plane.proofs.Meetings.{elsewhere_not_only, meet_elsewhere, meet_only_at_from}
 use Rattle.exact_plane.proofs.Directions.{straight_of_zero, zero_of_straight}
-use Rattle.segment_laws.proofs.MeetOnlyAt.{elsewhere_not_only, meet_elsewhere, meet_only_at_from}
 use Rattle.exact_plane.proofs.segments.meet_only_at.Goals as goal
 
 pub returns-then-not-turns-clause-only : goal.returns-then-not-turns-clause-only

@@ -1,5 +1,5 @@
+use Rattle.plane.proofs.Segments.{on_segment_from, on_segment_is}
 use Rattle.exact_plane.proofs.Directions.{straight_of_zero, zero_of_straight}
-use Rattle.plane.proofs.OnSegment.{on_segment_from, on_segment_is}
 use Rattle.exact_plane.proofs.segments.on_segment.Goals as goal
 
 pub returns-then-turns-clause-on : goal.returns-then-turns-clause-on

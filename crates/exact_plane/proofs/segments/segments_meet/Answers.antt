@@ -1,5 +1,5 @@
 use Rattle.std.proofs.lemmas.Bool.{false_from_ne_true, not_from_false}
-use Rattle.segment_laws.proofs.SegmentsMeet.{segments_apart, segments_meet_from}
+use Rattle.plane.proofs.Meetings.{segments_apart, segments_meet_from}
 use Rattle.exact_plane.proofs.segments.segments_meet.Goals as goal
 
 pub returns-then-not-boxes_meet-clause-meet : goal.returns-then-not-boxes_meet-clause-meet

@@ -1,6 +1,6 @@
 use Rattle.std.proofs.Common.{◌≡◌, ◌-◌, ◌++◌, vec_capacity}
-use Rattle.funnel_walk.specs.Names.{right_names}
 use Rattle.funnel_walk.proofs.chain.close.Given as goal
+use Rattle.funnel_walk.specs.Names.{right_names}
 
 abbrev pub invariant-loop-i : goal.invariant-loop-i
 invariant-loop-i g l = record {

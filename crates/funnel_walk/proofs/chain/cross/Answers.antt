@@ -1,16 +1,16 @@
 use Rattle.std.proofs.Common.{◌≡◌, ◌≢◌, sym, ap, subst, ◌∙◌, ◌-◌, ◌<◌, ◌≤◌, ◌++◌, [], ◌∷◌, length, take, drop, arith}
 use Rattle.std.proofs.lemmas.List.{length-append, take_all}
+use Rattle.plane.specs.Point.{whole}
+use Rattle.meshes.specs.Sleeve.{diagonal_at}
+use Rattle.funnels.specs.Funnel.{IsReachedFrom}
 use Rattle.exact_plane.specs.Spot.{point_named}
 use Rattle.exact_plane.specs.declared.turns.Spot.TheVariants.{Corner}
-use Rattle.plane.specs.Point.{whole}
-use Rattle.funnel_laws.specs.Funnel.{IsReachedFrom}
-use Rattle.tri_mesh.specs.Sleeve.{diagonal_at}
-use Rattle.funnel_walk.specs.Names.{named_points}
 use Rattle.funnel_walk.proofs.CrossedSides.{goes_left, goes_right}
 use Rattle.funnel_walk.proofs.KeptNames.{kept_all}
 use Rattle.funnel_walk.proofs.NamedLists.{count_left, count_right, length_named}
 use Rattle.funnel_walk.proofs.SideCorners.{diagonal_below}
 use Rattle.funnel_walk.proofs.chain.cross.Goals as goal
+use Rattle.funnel_walk.specs.Names.{named_points}
 
 pub narrow_right-apex-requires-clause-y_named : goal.narrow_right-apex-requires-clause-y_named
 narrow_right-apex-requires-clause-y_named g c =

@@ -1,8 +1,8 @@
 use Rattle.std.proofs.Common.{◌≢◌, sym, ap, ◌∙◌, [], ◌∷◌, arith}
 use Rattle.std.proofs.lemmas.Bool.{false≢true}
+use Rattle.meshes.specs.Sleeve.{diagonal_at}
 use Rattle.exact_plane.specs.Spot.{point_named}
 use Rattle.exact_plane.specs.declared.turns.Spot.TheVariants.{Corner, Start}
-use Rattle.tri_mesh.specs.Sleeve.{diagonal_at}
 use Rattle.funnel_walk.proofs.FirstNamed.{pushed_back, pushed_front}
 use Rattle.funnel_walk.proofs.Opened.{not_at_both, opens_at_left, opens_at_right, opens_between}
 use Rattle.funnel_walk.proofs.SideCorners.{diagonal_below}

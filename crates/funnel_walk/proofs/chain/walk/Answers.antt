@@ -1,10 +1,10 @@
 use Rattle.std.proofs.Common.{◌≡◌, ◌≢◌, sym, ap, subst, ◌∙◌, ◌-◌, ◌++◌, [], ◌∷◌, length, get_or, arith}
 use Rattle.std.proofs.lemmas.Bool.{false≢true}
 use Rattle.std.proofs.lemmas.List.{append_assoc}
-use Rattle.exact_plane.specs.declared.turns.Spot.TheVariants.{Goal, Start}
 use Rattle.plane.specs.Point.{whole}
-use Rattle.tri_mesh.specs.Fits.{IsInTri}
-use Rattle.tri_mesh.specs.Side.{tri_at}
+use Rattle.meshes.specs.Fits.{IsInTri}
+use Rattle.meshes.specs.Side.{tri_at}
+use Rattle.exact_plane.specs.declared.turns.Spot.TheVariants.{Goal, Start}
 use Rattle.funnel_walk.proofs.FirstNames.{more_named, one_named}
 use Rattle.funnel_walk.proofs.ShortWalks.{goes_straight, stays}
 use Rattle.funnel_walk.proofs.chain.walk.Goals as goal

@@ -1,19 +1,19 @@
 use Rattle.std.proofs.Common.{◌≡◌, inl, inr, refl, sym, ap, subst, ◌∙◌, ◌+◌, ◌-◌, ◌<◌, ◌++◌, [], ◌∷◌, length, drop, get_or, arith}
 use Rattle.std.proofs.lemmas.List.{append_assoc}
+use Rattle.plane.specs.Point.{whole}
+use Rattle.meshes.specs.Fits.{IsInTri}
+use Rattle.meshes.specs.Side.{tri_at}
+use Rattle.meshes.specs.Sleeve.{diagonal_at}
 use Rattle.exact_plane.specs.Spot.{point_named}
 use Rattle.exact_plane.specs.declared.turns.Spot.TheVariants.{Goal}
-use Rattle.plane.specs.Point.{whole}
-use Rattle.tri_mesh.specs.Fits.{IsInTri}
-use Rattle.tri_mesh.specs.Side.{tri_at}
-use Rattle.tri_mesh.specs.Sleeve.{diagonal_at}
-use Rattle.funnel_walk.specs.Names.{AreNamed, left_names, name_at, right_names}
-use Rattle.funnel_walk.specs.Walked.{IsWalked}
 use Rattle.funnel_walk.proofs.Appended.{way_appended}
 use Rattle.funnel_walk.proofs.Closed.{names_on_way}
 use Rattle.funnel_walk.proofs.GoalReached.{taut_on, taut_there}
 use Rattle.funnel_walk.proofs.NamedLists.{count_left, front_named, length_named, name_in_front}
 use Rattle.funnel_walk.proofs.PointsDiffer.{same_or_not}
 use Rattle.funnel_walk.proofs.chain.walk_on.Goals as goal
+use Rattle.funnel_walk.specs.Names.{AreNamed, left_names, name_at, right_names}
+use Rattle.funnel_walk.specs.Walked.{IsWalked}
 
 pub loop-i-preserved : goal.loop-i-preserved
 loop-i-preserved g c =

@@ -1,7 +1,7 @@
 use Rattle.std.proofs.Common.{◌≡◌, ◌+◌, ◌-◌, ◌*◌, ◌≤◌, length, take, drop, vec_capacity}
-use Rattle.tri_mesh.specs.Sleeve.{diagonal_at}
-use Rattle.funnel_walk.specs.Walked.{IsWalked}
+use Rattle.meshes.specs.Sleeve.{diagonal_at}
 use Rattle.funnel_walk.proofs.chain.walk_on.Given as goal
+use Rattle.funnel_walk.specs.Walked.{IsWalked}
 
 abbrev pub invariant-loop-i : goal.invariant-loop-i
 invariant-loop-i g l = record {

@@ -1,11 +1,11 @@
 use Rattle.std.proofs.Common.{◌≡◌, ◌≢◌, ◌↔◌, ◌-◌, ◌<◌, IsTrue, arith, rules, length}
-use Rattle.exact_plane.specs.declared.direction.Direction.TheVariants.{Left, Right}
-use Rattle.exact_plane.specs.Spot.{point_named}
 use Rattle.plane.specs.Point.{whole}
-use Rattle.funnel_walk.specs.Names.{named_points}
+use Rattle.exact_plane.specs.Spot.{point_named}
+use Rattle.exact_plane.specs.declared.direction.Direction.TheVariants.{Left, Right}
 use Rattle.funnel_walk.proofs.NamedLists.{name_is_point}
 use Rattle.funnel_walk.proofs.Passing.{passed_left, passed_right}
 use Rattle.funnel_walk.proofs.funnel.is_passed.Goals as goal
+use Rattle.funnel_walk.specs.Names.{named_points}
 
 pub returns-then-j-apex-clause-passed : goal.returns-then-j-apex-clause-passed
 returns-then-j-apex-clause-passed g c =

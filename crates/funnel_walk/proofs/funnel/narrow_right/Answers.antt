@@ -1,13 +1,13 @@
 use Rattle.std.proofs.Common.{◌≡◌, sym, ap, ◌∙◌, ◌-◌, length, vec_capacity, arith}
 use Rattle.std.proofs.lemmas.Bool.{false≢true}
-use Rattle.exact_plane.specs.Spot.{point_named}
 use Rattle.plane.specs.Point.{whole}
-use Rattle.funnel_laws.specs.Funnel.{IsPassed}
-use Rattle.funnel_walk.specs.Names.{named_points}
+use Rattle.funnels.specs.Funnel.{IsPassed}
+use Rattle.exact_plane.specs.Spot.{point_named}
 use Rattle.funnel_walk.proofs.NamedLists.{count_left}
 use Rattle.funnel_walk.proofs.NarrowedRight.{apex_goes, other_goes, right_ends}
 use Rattle.funnel_walk.proofs.funnel.narrow_right.Goals as goal
 use Rattle.funnel_walk.proofs.funnel.narrow_right.Goals.{else-last-apex, then-last-apex}
+use Rattle.funnel_walk.specs.Names.{named_points}
 
 pub push_reserved-requires : goal.push_reserved-requires
 push_reserved-requires g c =

@@ -1,6 +1,6 @@
 use Rattle.std.proofs.Common.{◌≡◌, ◌+◌, length, vec_capacity}
-use Rattle.exact_plane.specs.Spot.{point_named}
 use Rattle.plane.specs.Point.{whole}
+use Rattle.exact_plane.specs.Spot.{point_named}
 use Rattle.funnel_walk.proofs.NarrowedRight.{IsNarrowedRight}
 use Rattle.funnel_walk.proofs.funnel.narrow_right.Given as goal
 

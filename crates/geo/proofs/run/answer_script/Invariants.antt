@@ -1,6 +1,6 @@
 use Rattle.std.proofs.Common.{length}
-use Rattle.geo.specs.Progress.{AnsweredSoFar}
 use Rattle.geo.proofs.run.answer_script.Given as goal
+use Rattle.geo.specs.Progress.{AnsweredSoFar}
 
 abbrev pub invariant-records : goal.invariant-records
 invariant-records g l = AnsweredSoFar l.bytes l.script.left l.session (g.K.Sink.taken l.fn.sink) (g.K.Sink.taken l.sink) (g.K.Sink.faults l.fn.sink) (g.K.Sink.faults l.sink) l.out.items

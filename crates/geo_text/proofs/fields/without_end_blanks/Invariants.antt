@@ -1,6 +1,6 @@
 use Rattle.std.proofs.Common.{◌≡◌, length, reverse}
-use Rattle.geo_text.specs.Records.{without_front_blanks}
 use Rattle.geo_text.proofs.fields.without_end_blanks.Given as goal
+use Rattle.geo_text.specs.Records.{without_front_blanks}
 
 abbrev pub invariant-loop-rest : goal.invariant-loop-rest
 invariant-loop-rest l = without_front_blanks (reverse l.rest) ≡ without_front_blanks (reverse l.field)

@@ -1,7 +1,7 @@
 use Rattle.std.proofs.Common.{sym, ◌∙◌}
-use Rattle.geo_text.specs.Records.{plain_fields}
 use Rattle.geo_text.proofs.Commands.{reading_of_other, reading_of_path}
 use Rattle.geo_text.proofs.reading.command.Goals as goal
+use Rattle.geo_text.specs.Records.{plain_fields}
 
 pub returns-then-eq-4 : goal.returns-then-eq-4
 returns-then-eq-4 c =

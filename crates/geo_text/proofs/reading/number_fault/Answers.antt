@@ -1,11 +1,11 @@
 use Rattle.std.proofs.Common.{◌<◌, FitsSigned, arith, length, rules, sym, w64, ◌∙◌}
 use Rattle.std.proofs.lemmas.Int.{to_z-of_z}
+use Rattle.geo_text.proofs.CappedNumber.{number_read}
+use Rattle.geo_text.proofs.Faults.{first_failing-drop, range_step}
+use Rattle.geo_text.proofs.FieldAt.{length-plain_fields}
+use Rattle.geo_text.proofs.reading.number_fault.Goals as goal
 use Rattle.geo_text.specs.Number.{is_number}
 use Rattle.geo_text.specs.Records.{plain_fields}
-use Rattle.geo_text.proofs.CappedNumber.{number_read}
-use Rattle.geo_text.proofs.FieldAt.{length-plain_fields}
-use Rattle.geo_text.proofs.Faults.{first_failing-drop, range_step}
-use Rattle.geo_text.proofs.reading.number_fault.Goals as goal
 
 pub loop-place-preserved : goal.loop-place-preserved
 loop-place-preserved c =

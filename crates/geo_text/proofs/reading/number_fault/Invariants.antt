@@ -1,9 +1,9 @@
 use Rattle.std.proofs.Common.{◌≡◌, drop, None}
 use Rattle.std.specs.Option.{option_or}
+use Rattle.geo_text.proofs.reading.number_fault.Given as goal
 use Rattle.geo_text.specs.Number.{is_coordinate, is_number}
 use Rattle.geo_text.specs.Reading.{first_failing, first_fault}
 use Rattle.geo_text.specs.Records.{plain_fields}
-use Rattle.geo_text.proofs.reading.number_fault.Given as goal
 
 abbrev pub invariant-loop-place : goal.invariant-loop-place
 invariant-loop-place l =

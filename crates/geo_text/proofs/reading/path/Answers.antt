@@ -1,8 +1,8 @@
 use Rattle.std.proofs.Common.{refl, arith, sym, ◌∙◌}
-use Rattle.geo_text.specs.Records.{plain_fields}
 use Rattle.geo_text.proofs.Commands.{point_at}
 use Rattle.geo_text.proofs.Faults.{fixed_coordinate}
 use Rattle.geo_text.proofs.reading.path.Goals as goal
+use Rattle.geo_text.specs.Records.{plain_fields}
 
 pub point-to-requires-clause-x : goal.point-to-requires-clause-x
 point-to-requires-clause-x c =

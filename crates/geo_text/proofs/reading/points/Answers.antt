@@ -1,10 +1,10 @@
 use Rattle.std.proofs.Common.{arith}
 use Rattle.std.proofs.lemmas.Grind.{common_steps}
-use Rattle.geo_text.specs.Records.{plain_fields}
-use Rattle.geo_text.proofs.FieldAt.{length-plain_fields}
 use Rattle.geo_text.proofs.Commands.{points_of_after}
 use Rattle.geo_text.proofs.Faults.{coordinate_at}
+use Rattle.geo_text.proofs.FieldAt.{length-plain_fields}
 use Rattle.geo_text.proofs.reading.points.Goals as goal
+use Rattle.geo_text.specs.Records.{plain_fields}
 
 pub point-requires-clause-x : goal.point-requires-clause-x
 point-requires-clause-x c =

@@ -1,6 +1,6 @@
-use Rattle.csv.specs.Records.{fields_of}
 use Rattle.geo_text.proofs.RecordsLeft.{result_takes}
 use Rattle.geo_text.proofs.script.read.Goals as goal
+use Rattle.csv.specs.Records.{fields_of}
 
 pub returns : goal.returns
 returns c =

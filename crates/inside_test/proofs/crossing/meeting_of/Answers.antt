@@ -1,10 +1,11 @@
 use Rattle.std.proofs.Common.{◌*ℤ◌, ◌∙◌, sym}
-use Rattle.exact_plane.proofs.Directions.{zero_of_straight}
-use Rattle.plane.proofs.Same.{whole_is_point}
+use Rattle.plane.proofs.Points.{whole_is_point}
 use Rattle.plane.specs.Point.{whole}
 use Rattle.rings.specs.Edge.{Edge}
+use Rattle.exact_plane.proofs.Directions.{zero_of_straight}
 use Rattle.inside_test.proofs.ApartEdges.{not_crossed_apart, not_on_apart}
-use Rattle.inside_test.proofs.CrossedEdges.{beside_not_on, between_from_on, crossed_from_left, crossed_from_right, not_crossed_in_line, on_from_between}
+use Rattle.inside_test.proofs.CrossedEdges.{beside_not_on, between_from_on, crossed_from_left, crossed_from_right, not_crossed_in_line}
+use Rattle.inside_test.proofs.CrossedEdges.{on_from_between}
 use Rattle.inside_test.proofs.crossing.meeting_of.Goals as goal
 
 pub returns-then-is_apart : goal.returns-then-is_apart

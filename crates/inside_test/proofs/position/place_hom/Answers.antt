@@ -1,5 +1,5 @@
 use Rattle.std.proofs.Common.{true, false, inl, refl, arith}
-use Rattle.rings.proofs.Indexing.{on_some_from}
+use Rattle.rings.proofs.Vertices.{on_some_from}
 use Rattle.rings.specs.Edge.{IsOnSome, edges_of}
 use Rattle.rings.specs.Ring.{IsOnEdge}
 use Rattle.inside_test.proofs.Odd.{in_of_odd, odd_end, odd_start, odd_crossed, odd_missed, out_of_even}

@@ -1,9 +1,9 @@
 use Rattle.std.proofs.Common.{◌≡◌, length, subst, arith}
-use Rattle.plane.proofs.Same.{whole_is_point}
+use Rattle.plane.proofs.Points.{whole_is_point}
 use Rattle.plane.specs.Point.{whole}
 use Rattle.inside_test.proofs.PointLists.{lists_more, lists_start}
-use Rattle.inside_test.specs.Breakpoints.{ListsMeetings, breakpoint_points}
 use Rattle.inside_test.proofs.segment.breakpoints.Goals as goal
+use Rattle.inside_test.specs.Breakpoints.{ListsMeetings, breakpoint_points}
 
 pub loop-i-init : goal.loop-i-init
 loop-i-init g c =

@@ -1,11 +1,11 @@
 use Rattle.std.proofs.Common.{length, rules}
 use Rattle.std.proofs.lemmas.List.Sorted.{IsPermutation-map}
+use Rattle.plane.proofs.Points.{whole_is_point}
+use Rattle.plane.specs.Point.{whole}
 use Rattle.inside_test.proofs.Neighbours.{lists_permuted, sees_by_list}
 use Rattle.inside_test.proofs.Sorting.{sorted_points}
-use Rattle.inside_test.specs.Breakpoints.{breakpoint_points}
-use Rattle.plane.proofs.Same.{whole_is_point}
-use Rattle.plane.specs.Point.{whole}
 use Rattle.inside_test.proofs.segment.holds_segment.Goals as goal
+use Rattle.inside_test.specs.Breakpoints.{breakpoint_points}
 
 pub returns : goal.returns
 returns g c =

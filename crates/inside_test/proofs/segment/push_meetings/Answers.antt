@@ -5,8 +5,8 @@ use Rattle.plane.specs.Line.{cross_product}
 use Rattle.plane.specs.Point.{whole}
 use Rattle.inside_test.proofs.Meetings.{encloses_crossing, encloses_parallel, meeting_on_first}
 use Rattle.inside_test.proofs.PointLists.{extends_pushed, extends_trans, on_ok}
-use Rattle.inside_test.specs.Breakpoints.{EnclosesAll, breakpoint_points}
 use Rattle.inside_test.proofs.segment.push_meetings.Goals as goal
+use Rattle.inside_test.specs.Breakpoints.{EnclosesAll, breakpoint_points}
 
 pub returns-in-Some : goal.returns-in-Some
 returns-in-Some g c =

@@ -1,4 +1,4 @@
-use Rattle.crossing_laws.proofs.ClosedLaw.{in_law, misses_swapped}
+use Rattle.rings.proofs.Crossings.{in_law, misses_swapped}
 use Rattle.rings.specs.Edge.{edges_of}
 use Rattle.ring_check.proofs.laws.crossing_parity.Goals as goal
 

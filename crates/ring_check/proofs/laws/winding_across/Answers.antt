@@ -1,5 +1,5 @@
-use Rattle.crossing_laws.proofs.ClosedLaw.{winding_law_crossed}
-use Rattle.rings.proofs.Edges.{closed_edges_of}
+use Rattle.rings.proofs.Crossings.{winding_law_crossed}
+use Rattle.rings.proofs.Vertices.{closed_edges_of}
 use Rattle.ring_check.proofs.laws.winding_across.Goals as goal
 
 pub returns : goal.returns

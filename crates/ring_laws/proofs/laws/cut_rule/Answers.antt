@@ -1,5 +1,5 @@
-use Rattle.ring_laws.proofs.CutAtVertex.{cut_is_diagonal_at, some_cut}
-use Rattle.rings.proofs.SimpleIsApart.{apart_of_simple}
+use Rattle.rings.proofs.Simple.{apart_of_simple}
+use Rattle.ring_laws.proofs.Diagonals.{cut_is_diagonal_at, some_cut}
 use Rattle.ring_laws.proofs.laws.cut_rule.Goals as goal
 
 pub returns-clause-some : goal.returns-clause-some

@@ -1,4 +1,4 @@
-use Rattle.ring_laws.proofs.CutInTwo.{cut_law}
+use Rattle.ring_laws.proofs.Cuts.{cut_law}
 use Rattle.ring_laws.proofs.laws.diagonal_cut.Goals as goal
 
 pub returns : goal.returns

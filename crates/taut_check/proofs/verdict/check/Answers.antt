@@ -1,8 +1,8 @@
 use Rattle.std.proofs.Common.{◌<◌, arith, below_more, length}
 use Rattle.std.proofs.lemmas.Bool.Decides.{nat_tests}
 use Rattle.taut_check.proofs.Verdicts.{taut_found, unbroken, verdict_found}
-use Rattle.taut_check.specs.Found.{IsSound}
 use Rattle.taut_check.proofs.verdict.check.Goals as goal
+use Rattle.taut_check.specs.Found.{IsSound}
 
 pub returns-in-Some-clause-verdict : goal.returns-in-Some-clause-verdict
 returns-in-Some-clause-verdict g c =

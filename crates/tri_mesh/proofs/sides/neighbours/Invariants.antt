@@ -1,6 +1,6 @@
 use Rattle.std.proofs.Common.{◌≡◌, length}
-use Rattle.tri_mesh.specs.Neighbours.{AreRowsOf, HasSidesOf}
 use Rattle.tri_mesh.proofs.sides.neighbours.Given as goal
+use Rattle.tri_mesh.specs.Neighbours.{AreRowsOf, HasSidesOf}
 
 abbrev pub invariant-loop-tri : goal.invariant-loop-tri
 invariant-loop-tri l = record {

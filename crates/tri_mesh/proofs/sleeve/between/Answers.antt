@@ -1,4 +1,4 @@
-use Rattle.tri_mesh.proofs.SharedSides.{lies_across, lies_last}
+use Rattle.meshes.proofs.Sides.{lies_across, lies_last}
 use Rattle.tri_mesh.proofs.sleeve.between.Goals as goal
 
 pub returns-then-is_some_of : goal.returns-then-is_some_of

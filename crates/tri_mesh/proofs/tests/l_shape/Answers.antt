@@ -1,4 +1,4 @@
-use Rattle.tri_mesh.proofs.KnownMeshes.{l_shape_is_tree}
+use Rattle.meshes.proofs.KnownMeshes.{l_shape_is_tree}
 use Rattle.tri_mesh.proofs.tests.l_shape.Goals as goal
 
 pub returns-clause-tree : goal.returns-clause-tree

@@ -1,4 +1,4 @@
-use Rattle.tri_mesh.proofs.KnownMeshes.{one_is_mesh}
+use Rattle.meshes.proofs.KnownMeshes.{one_is_mesh}
 use Rattle.tri_mesh.proofs.tests.one.Goals as goal
 
 pub returns-clause-mesh : goal.returns-clause-mesh

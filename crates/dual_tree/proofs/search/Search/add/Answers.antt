@@ -1,9 +1,9 @@
 use Rattle.std.proofs.Common.{◌≡◌, sym, ◌∙◌, ◌<◌, None, length, arith, rules, true}
-use Rattle.std.specs.Prelude.{is_none}
 use Rattle.std.proofs.lemmas.List.{get_or_read}
-use Rattle.dual_tree.specs.Search.{place_in}
+use Rattle.std.specs.Prelude.{is_none}
 use Rattle.dual_tree.proofs.SearchSteps.{none_of, search_more}
 use Rattle.dual_tree.proofs.search.Search.add.Goals as goal
+use Rattle.dual_tree.specs.Search.{place_in}
 
 pub returns-in_ok-push-clause-search : goal.returns-in_ok-push-clause-search
 returns-in_ok-push-clause-search c =

@@ -1,6 +1,6 @@
-use Rattle.dual_tree.specs.Search.{IsDone, IsGrown, IsSearch, IsSideDone, reached_at}
 use Rattle.dual_tree.proofs.SearchSteps.{done_of_sides, grown_twice, on_ok_three, stays_done}
 use Rattle.dual_tree.proofs.search.Search.expand.Goals as goal
+use Rattle.dual_tree.specs.Search.{IsDone, IsGrown, IsSearch, IsSideDone, reached_at}
 
 pub returns-clause-done : goal.returns-clause-done
 returns-clause-done c =

@@ -1,8 +1,8 @@
 use Rattle.std.proofs.Common.{ap, ◌∙◌, ℕ, ◌<◌, ◌≤◌, length, arith}
-use Rattle.dual_tree.specs.Search.{IsDone, IsReached, reached_at}
 use Rattle.dual_tree.proofs.SearchSteps.{done_more}
 use Rattle.dual_tree.proofs.SearchWalks.{all_reached}
 use Rattle.dual_tree.proofs.search.Search.from.Goals as goal
+use Rattle.dual_tree.specs.Search.{IsDone, IsReached, reached_at}
 
 pub loop-place-preserved : goal.loop-place-preserved
 loop-place-preserved c =

@@ -1,6 +1,6 @@
 use Rattle.std.proofs.Common.{◌≡◌, ℕ, ◌-◌, ◌<◌, length}
-use Rattle.dual_tree.specs.Search.{IsDone, IsSearch, reached_at}
 use Rattle.dual_tree.proofs.search.Search.from.Given as goal
+use Rattle.dual_tree.specs.Search.{IsDone, IsSearch, reached_at}
 
 abbrev pub invariant-loop-place : goal.invariant-loop-place
 invariant-loop-place l = record {

@@ -1,8 +1,8 @@
 use Rattle.std.proofs.Common.{◌≡◌, refl, inr}
 use Rattle.std.proofs.lemmas.List.{get_or_read}
-use Rattle.dual_tree.specs.Search.{IsGrown, IsReached, IsSearch, IsSideDone, reached_at}
 use Rattle.dual_tree.proofs.SearchSteps.{done_across, done_alone, grown_same, on_ok_three}
 use Rattle.dual_tree.proofs.search.Search.reach.Goals as goal
+use Rattle.dual_tree.specs.Search.{IsGrown, IsReached, IsSearch, IsSideDone, reached_at}
 
 pub add-requires-clause-share : goal.add-requires-clause-share
 add-requires-clause-share c =

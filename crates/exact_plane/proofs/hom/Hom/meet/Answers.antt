@@ -1,7 +1,7 @@
 use Rattle.std.proofs.Common.{arith}
 use Rattle.std.proofs.lemmas.Int.{ints}
-use Rattle.plane.proofs.Determinants.{straight_swap_first}
-use Rattle.plane.proofs.Meeting.{cross_product_reversed}
+use Rattle.plane.proofs.Meetings.{cross_product_reversed}
+use Rattle.plane.proofs.Turns.{straight_swap_first}
 use Rattle.plane.specs.Point.{whole}
 use Rattle.exact_plane.proofs.Meetings.{below_zero}
 use Rattle.exact_plane.proofs.hom.Hom.meet.Goals as goal

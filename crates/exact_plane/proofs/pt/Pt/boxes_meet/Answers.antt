@@ -2,8 +2,8 @@ use Rattle.std.proofs.Common.{◌≡◌, ap, arith}
 use Rattle.std.proofs.lemmas.Int.{ints}
 use Rattle.plane.specs.Point.{IsInBounds, Point}
 use Rattle.exact_plane.proofs.Registers.{read}
-use Rattle.exact_plane.specs.declared.pt.Pt.TheInside.{Inside}
 use Rattle.exact_plane.proofs.pt.Pt.boxes_meet.Goals as goal
+use Rattle.exact_plane.specs.declared.pt.Pt.TheInside.{Inside}
 
 -- the coordinates of a point, as they are read from its fields
 passes : (p : Inside) (q : Point) → IsInBounds (record { x = p.x; y = p.y }) → (record { x = p.x; y = p.y }) ≡ q → (read p.x ≡ q.x) × (read p.y ≡ q.y)

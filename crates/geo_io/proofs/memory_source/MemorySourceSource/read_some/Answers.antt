@@ -1,7 +1,7 @@
 use Rattle.std.proofs.Common.{◌≡◌, ℕ, ◌+◌, List, ◌++◌, length, take, drop, min, ap, sym, arith}
 use Rattle.std.proofs.lemmas.List.{take_at, drop-drop, take-append-drop, length-take-le, take_rest}
-use Rattle.geo_io.specs.InMemory.{SourceInMemory}
 use Rattle.geo_io.proofs.memory_source.MemorySourceSource.read_some.Goals as goal
+use Rattle.geo_io.specs.InMemory.{SourceInMemory}
 
 -- what was left is what was put at the front of a slice, and what is left then
 front_and_rest : (bytes copied behind : List ℕ) (given count most : ℕ) → count ≡ min (length (drop given bytes)) most

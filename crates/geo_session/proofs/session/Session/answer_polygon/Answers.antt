@@ -1,7 +1,7 @@
 use Rattle.std.proofs.Common.{◌≡◌, Err, length, refl, ap, ◌∙◌}
+use Rattle.rings.specs.Simple.{IsLeastClash, IsSimple}
 use Rattle.ring_check.proofs.Oriented.{given_of-oriented, length-oriented}
 use Rattle.ring_check.specs.Oriented.{Oriented, given_of, oriented}
-use Rattle.rings.specs.Simple.{IsLeastClash, IsSimple}
 use Rattle.geo_session.proofs.Answered.{accepted, refused}
 use Rattle.geo_session.proofs.session.Session.answer_polygon.Goals as goal
 

@@ -1,8 +1,8 @@
 use Rattle.std.proofs.Common.{◌≡◌, ◌∙◌, ap, length, sym}
 use Rattle.geo_session.proofs.GivenSize.{size_held}
+use Rattle.geo_session.proofs.session.Session.chain.Goals as goal
 use Rattle.geo_session.specs.Path.{size_of}
 use Rattle.geo_session.specs.Session.{state_of}
-use Rattle.geo_session.proofs.session.Session.chain.Goals as goal
 
 pub returns-in-Some-clause-steps : goal.returns-in-Some-clause-steps
 returns-in-Some-clause-steps g c =

@@ -1,7 +1,7 @@
 use Rattle.std.proofs.Common.{◌≡◌, ◌∙◌, sym, ap}
 use Rattle.rings.proofs.Vertices.{vertex_in_range}
-use Rattle.ring_check.specs.Oriented.{Oriented}
 use Rattle.ring_check.proofs.ring.Ring.corner.Goals as goal
+use Rattle.ring_check.specs.Oriented.{Oriented}
 
 pub returns : goal.returns
 returns c =

@@ -1,11 +1,11 @@
 use Rattle.std.proofs.Common.{◌≡◌, length, refl, arith, ap, ap₂, Err}
 use Rattle.std.proofs.lemmas.List.{with_items_is}
-use Rattle.rings.proofs.LeastClash.{least_clash_is_one, no_least_clash}
+use Rattle.rings.proofs.Simple.{least_clash_is_one, no_least_clash}
 use Rattle.rings.specs.Simple.{IsLeastClash, IsSimple}
 use Rattle.ring_check.proofs.Oriented.{counterclockwise_oriented, length-oriented, simple_oriented}
+use Rattle.ring_check.proofs.ring.Ring.of.Goals as goal
 use Rattle.ring_check.specs.Oriented.{oriented}
 use Rattle.ring_check.specs.declared.ring.RingFault.TheVariants as fault
-use Rattle.ring_check.proofs.ring.Ring.of.Goals as goal
 
 pub returns-in-Some-clause-accepted : goal.returns-in-Some-clause-accepted
 returns-in-Some-clause-accepted g c =

@@ -1,6 +1,6 @@
 use Rattle.std.proofs.Common.{◌≡◌}
+use Rattle.meshes.specs.Side.{tri_at}
 use Rattle.tri_mesh.proofs.Neighbours.{alone_iff_edge, has_side_numbered, kept_owner, none_iff_alone, some_is_shared}
-use Rattle.tri_mesh.specs.Side.{tri_at}
 use Rattle.tri_mesh.proofs.mesh.Mesh.across.Goals as goal
 
 pub returns-clause-none : goal.returns-clause-none

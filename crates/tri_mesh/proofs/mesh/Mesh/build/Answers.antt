@@ -1,4 +1,4 @@
-use Rattle.tri_mesh.proofs.MeshSides.{fitting_sides}
+use Rattle.meshes.proofs.Sides.{fitting_sides}
 use Rattle.tri_mesh.proofs.mesh.Mesh.build.Goals as goal
 
 pub of_tree-requires-clause-sides : goal.of_tree-requires-clause-sides

@@ -1,5 +1,5 @@
 use Rattle.std.proofs.Common.{arith}
-use Rattle.tri_mesh.proofs.SharedSides.{one_more_along}
+use Rattle.meshes.proofs.Sides.{one_more_along}
 use Rattle.tri_mesh.proofs.sleeve.Sleeve.of.Goals as goal
 
 pub loop-i-preserved : goal.loop-i-preserved

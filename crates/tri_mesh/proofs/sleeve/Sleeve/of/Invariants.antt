@@ -1,5 +1,5 @@
 use Rattle.std.proofs.Common.{◌≡◌, ◌+◌, length}
-use Rattle.tri_mesh.proofs.SharedSides.{LieAlong}
+use Rattle.meshes.proofs.Sides.{LieAlong}
 use Rattle.tri_mesh.proofs.sleeve.Sleeve.of.Given as goal
 
 abbrev pub invariant-loop-i : goal.invariant-loop-i

@@ -1,0 +1,93 @@
+-- A bend at a vertex grows where its last ray turns on, over no neighbour.
+use Rattle.std.proofs.Common.{◌≡◌, ◌⊎◌, refl, sym, subst, Bool, ℤ, pos, ◌+ℤ◌, ◌-ℤ◌, ◌*ℤ◌, neg_ℤ, ◌<ℤ◌, ◌≤ℤ◌, List, arith}
+use Rattle.std.proofs.lemmas.Int.{ints}
+use Rattle.integer_algebra.proofs.Certificate.{product_zero}
+use Rattle.integer_algebra.proofs.SignSteps.{negative_not_zero, not_both, not_both_positive, turned_positive}
+use Rattle.integer_algebra.proofs.Signs.{factor_zero, is_negative, is_positive, is_zero, sign}
+use Rattle.plane.proofs.Points.{same_sym, same_whole, whole_is_point}
+use Rattle.plane.specs.Point.{Point, Triple, whole}
+use Rattle.plane.specs.Segment.{On}
+use Rattle.rings.specs.Bend.{AreNeighbours, IsBend}
+use Rattle.funnels.proofs.Bends.BendTurnings.{bend_of_turnings, turnings_of_bend}
+use Rattle.funnels.proofs.Bends.FanCones.{cone_grows}
+use Rattle.funnels.proofs.Bends.InLine.{level_is_vertex, ray_ahead, ray_behind}
+use Rattle.funnels.proofs.Bends.Opposites.{opposite_of_not_positive}
+use Rattle.funnels.proofs.Bends.Turnings.{turning_four, turning_swap}
+use Rattle.funnels.proofs.Bends.TwoRays.{HasTwoRays}
+use Rattle.funnels.specs.Fan.{IsLastStep}
+use Rattle.funnels.specs.Fanned.{IsNextTo, turning}
+
+-- ---- numbers
+
+-- the opposite of 0 is 0
+level_of : {z w : ℤ} → w ≡ neg_ℤ z → z ≡ pos 0 → w ≡ pos 0
+level_of e h = omega (arith, ints)
+
+-- the relation of four directions, where the last two are in line with the first, and the second is not: these are in line
+in_line : (ab ac ad bc bd cd : ℤ) → ab *ℤ cd -ℤ ac *ℤ bd +ℤ ad *ℤ bc ≡ pos 0 → ¬ (ab ≡ pos 0) → ac ≡ pos 0 → ad ≡ pos 0 → cd ≡ pos 0
+in_line ab ac ad bc bd cd e some hac had =
+    let middle = product_zero bd hac in
+    let last = product_zero bc had in
+    factor_zero ab cd some (omega (arith, ints))
+
+-- ---- the bend
+
+module _ (side : Bool) (ring : List Point) (q v r : Point) (bend : IsBend ring q v r) (wide : turning side v (whole q) (whole r) <ℤ pos 0)
+    (differ : (u : Point) → AreNeighbours ring v u → ¬ (v ≡ u))
+    (off : (u : Point) → AreNeighbours ring v u → ¬ (On (whole u) (whole v) (whole r) ⊎ On (whole r) (whole v) (whole u))) where
+  -- no neighbour is in line with the last ray,
+  not_level : (u : Point) → AreNeighbours ring v u → ¬ (turning side v (whole r) (whole u) ≡ pos 0)
+  not_level u n level = elim (sign (turning side v (whole q) (whole u))) [
+    | is_positive h ↦ not_both_positive h (turnings_of_bend side ring q v r wide bend u n).0
+    | is_negative h ↦ off u n (ray_behind side v (whole q) (whole r) (whole u) (whole_is_point r) (whole_is_point u) level wide h)
+    | is_zero h ↦
+        let same = level_is_vertex side v (whole r) (whole q) (whole u)
+        (turned_positive (turning_swap side v (whole q) (whole r)) wide) level
+        (level_of (turning_swap side v (whole q) (whole u)) h) in
+        differ u n (same_whole v u (same_sym same))
+  ]
+
+  -- so all are ahead of it,
+  ahead : (u : Point) → AreNeighbours ring v u → pos 0 <ℤ turning side v (whole r) (whole u)
+  ahead u n = elim (sign (turning side v (whole r) (whole u))) [
+    | is_positive h ↦ h
+    | is_zero h ↦ absurd (not_level u n h)
+    | is_negative h ↦
+        absurd (not_both h
+        (opposite_of_not_positive (turning_swap side v (whole u) (whole r)) (turnings_of_bend side ring q v r wide bend u n).1))
+  ]
+
+  module _ (y : Point) (step : IsLastStep (turning side v) (IsNextTo ring v) (whole r) (whole y)) where
+    -- and after the step they are still in the angle, and in line with its sides where these are in line
+    grown : (u : Point) → AreNeighbours ring v u
+        → (turning side v (whole q) (whole y) ≤ℤ pos 0) × (turning side v (whole u) (whole y) ≤ℤ pos 0)
+        × (turning side v (whole q) (whole y) ≡ pos 0
+        → (turning side v (whole q) (whole u) ≡ pos 0) × (turning side v (whole y) (whole u) ≡ pos 0))
+    grown u n =
+        cone_grows (turning side v) (turning_swap side v) (turning_four side v) (IsNextTo ring v) (whole q) (whole r) (whole y) wide
+        (λ z m. subst (λ (x : Triple). turning side v (whole q) x ≤ℤ pos 0) (sym m.2)
+        (turnings_of_bend side ring q v r wide bend m.0 m.1).0)
+        (λ z m. subst (λ (x : Triple). pos 0 <ℤ turning side v (whole r) x) (sym m.2) (ahead m.0 m.1))
+        step (whole u) (u, n, refl)
+
+    -- but these are not, since two neighbours are on two rays,
+    pub still_wide : HasTwoRays ring v → turning side v (whole q) (whole y) <ℤ pos 0
+    still_wide rays = elim (sign (turning side v (whole q) (whole y))) [
+      | is_negative h ↦ h
+      | is_positive h ↦ absurd (not_both_positive h (grown rays.first rays.first_next).0)
+      | is_zero h ↦
+          let a = rays.first in
+          let b = rays.last in
+          let level_a = ((grown a rays.first_next).2 h).0 in
+          let level_b = ((grown b rays.last_next).2 h).0 in
+          let level = in_line _ _ _ _ _ _ (turning_four side v (whole q) (whole r) (whole b) (whole a)) (negative_not_zero wide)
+          level_b level_a in
+          absurd (rays.two (ray_ahead side v (whole r) (whole b) (whole a) (whole_is_point b) (whole_is_point a) level
+          (ahead b rays.last_next) (ahead a rays.first_next)))
+    ]
+
+    -- so there is a bend to the end of the step
+    pub bend_after_step : HasTwoRays ring v → IsBend ring q v y
+    bend_after_step rays =
+        bend_of_turnings side ring q v y (still_wide rays) bend.reflex
+        (λ u n. ((turnings_of_bend side ring q v r wide bend u n).0, (grown u n).1))

@@ -1,0 +1,97 @@
+-- The way to a point beyond the diagonal bends at the point of the funnel from which it is reached.
+use Rattle.std.proofs.Common.{◌≡◌, inl, inr, Bool, refl, sym, subst, ap, List, length, ℕ, ◌+◌, ◌-◌, ◌<◌, ◌≤◌, pos, ◌<ℤ◌, arith}
+use Rattle.std.proofs.lemmas.Bool.{cases_lt}
+use Rattle.plane.specs.Point.{Point, whole}
+use Rattle.rings.specs.Bend.{IsBend}
+use Rattle.rings.specs.Chain.{point_at}
+use Rattle.rings.specs.Orientation.{IsCounterclockwise}
+use Rattle.rings.specs.Ring.{vertex}
+use Rattle.rings.specs.Sees.{Sees}
+use Rattle.rings.specs.Simple.{IsSimple}
+use Rattle.meshes.specs.Fits.{Fits, IsInTri, IsSideOfTwo}
+use Rattle.meshes.specs.Side.{HasSide, tri_at}
+use Rattle.meshes.specs.declared.tri.Tri.{Tri}
+use Rattle.funnels.proofs.Chains.DiagonalFans.{bend_from_left, bend_from_right}
+use Rattle.funnels.proofs.Chains.ReachedApex.{apex_bends}
+use Rattle.funnels.proofs.Chains.ReachedSides.{bend_on_left, bend_on_right}
+use Rattle.funnels.proofs.Chains.WaysBefore.{IsWayBefore}
+use Rattle.funnels.proofs.Funnels.{left_of_way, right_of_way, turns_left, turns_right}
+use Rattle.funnels.specs.Fanned.{turning}
+use Rattle.funnels.specs.Funnel.{IsFunnel, IsReachedFrom, Reaches}
+use Rattle.funnels.specs.OpenFunnel.{HasOpenEnds, IsApexSide, IsBentFunnel, IsLastOf}
+
+module _ (corners : List Point) (tris : List Tri) (fits : Fits corners tris) (k i j m : ℕ) (within : k < length tris)
+    (first : HasSide (tri_at tris k) i j) (next : HasSide (tri_at tris k) j m) (last : HasSide (tri_at tris k) m i) (e g : ℕ)
+    (shared : IsSideOfTwo tris i j e g) (before ns : List Point) (a : ℕ) (f : IsFunnel ns a (vertex corners i) (vertex corners j))
+    (bent : IsBentFunnel corners before ns a) (ends : HasOpenEnds corners before ns a (vertex corners i) (vertex corners j)) (h : ℕ)
+    (y : Point) (inside : IsInTri corners (tri_at tris k) (whole y)) (reached : IsReachedFrom ns a h (whole y)) where
+  -- the way over the apex turns on the side on which the apex has an edge
+  pub apex_turns : ¬ (point_at ns a ≡ y) → h ≡ a → (q : Point) → IsLastOf before q
+      → (side : Bool) × IsApexSide ns a q side × (turning side (point_at ns a) (whole q) (whole y) <ℤ pos 0)
+  apex_turns other same q comes =
+      let at_apex = subst (λ n. IsReachedFrom ns a n (whole y)) same reached in
+      let (side, is, bends) =
+      apex_bends corners tris fits k i j m within first next last e g shared before ns a f bent ends y inside at_apex other q comes in
+      (side, is, bends.0)
+
+  module _ (simple : IsSimple corners) (three : 3 ≤ length corners) (runs : IsCounterclockwise corners)
+      (seen : Sees corners (whole (point_at ns h)) (whole y)) where
+    -- a bend at the left end of the diagonal,
+    bend_at_first : 0 ≡ h → h < a → IsBend corners (point_at ns (h + 1)) (point_at ns h) y
+    bend_at_first none on_left =
+        let l = vertex corners i in
+        let r = vertex corners j in
+        let top = f.apex_within in
+        let x = point_at ns (h + 1) in
+        let is_left : point_at ns h ≡ l = subst (λ n. point_at ns n ≡ l) none f.first in
+        let place : h ≡ h + 1 - 1 = omega arith in
+        let reach = f.reaches (h + 1) x (point_at ns h) (omega arith) (omega arith) (inl (omega arith, refl, ap (point_at ns) place)) in
+        let fanned = ends.left x (inl (omega arith, ap (λ n. point_at ns (n + 1)) (sym none))) in
+        subst (λ v. IsBend corners x v y) (sym is_left)
+        (bend_from_left corners tris fits k i j m within first next last y inside simple three runs x fanned
+        (λ same. f.differ h (omega arith) (subst (λ (v : Point). v ≡ x) (sym is_left) (sym same)))
+        (subst (λ v. Reaches x v l r) is_left reach) (subst (λ (v : Point). Sees corners (whole v) (whole y)) is_left seen)
+        (subst (λ v. turns_left x v y) is_left (left_of_way ns a l r f h (whole y) reached on_left)))
+
+    -- and at the right end
+    bend_at_last : h + 1 ≡ length ns → a < h → IsBend corners (point_at ns (h - 1)) (point_at ns h) y
+    bend_at_last none on_right =
+        let l = vertex corners i in
+        let r = vertex corners j in
+        let x = point_at ns (h - 1) in
+        let place : length ns - 1 ≡ h = omega arith in
+        let before_it : h - 1 ≡ length ns - 2 = omega arith in
+        let after_it : h - 1 + 1 ≡ h = omega arith in
+        let is_right : point_at ns h ≡ r = subst (λ n. point_at ns n ≡ r) place f.last in
+        let reach = f.reaches h x (point_at ns h) (omega arith) (omega arith) (inr (on_right, refl, refl)) in
+        let fanned = ends.right x (inl (omega arith, ap (point_at ns) before_it)) in
+        let differ = subst (λ n. ¬ (x ≡ point_at ns n)) after_it (f.differ (h - 1) (omega arith)) in
+        subst (λ v. IsBend corners x v y) (sym is_right)
+        (bend_from_right corners tris fits k i j m within first next last y inside simple three runs x fanned
+        (subst (λ (v : Point). ¬ (x ≡ v)) is_right differ) (subst (λ v. Reaches x v l r) is_right reach)
+        (subst (λ (v : Point). Sees corners (whole v) (whole y)) is_right seen)
+        (subst (λ v. turns_right x v y) is_right (right_of_way ns a l r f h (whole y) reached on_right)))
+
+    -- so there is one at each point from which another is reached
+    pub reached_bends : ¬ (point_at ns h ≡ y) → (x : Point) → IsWayBefore before ns a h x → IsBend corners x (point_at ns h) y
+    reached_bends other x (inl (on_left, is)) =
+        let l = vertex corners i in
+        let r = vertex corners j in
+        subst (λ p. IsBend corners p (point_at ns h) y) (sym is) (elim (cases_lt 0 h) [
+          | inl some ↦ bend_on_left corners before ns a l r f bent h y reached on_left some
+          | inr none ↦ bend_at_first (omega arith) on_left
+        ])
+    reached_bends other x (inr (inl (on_right, is))) =
+        let l = vertex corners i in
+        let r = vertex corners j in
+        let top = reached.within in
+        subst (λ p. IsBend corners p (point_at ns h) y) (sym is) (elim (cases_lt (h + 1) (length ns)) [
+          | inl more ↦ bend_on_right corners before ns a l r f bent h y reached on_right more
+          | inr none ↦ bend_at_last (omega arith) on_right
+        ])
+    reached_bends other x (inr (inr (same, comes))) =
+        let at_apex = subst (λ n. IsReachedFrom ns a n (whole y)) same reached in
+        let not_apex = subst (λ n. ¬ (point_at ns n ≡ y)) same other in
+        let (side, is, bends) =
+        apex_bends corners tris fits k i j m within first next last e g shared before ns a f bent ends y inside at_apex not_apex x comes in
+        subst (λ n. IsBend corners x (point_at ns n) y) (sym same) bends.1

@@ -1,0 +1,70 @@
+-- Funnels from an apex to a diagonal, as two convex chains, and how they go on.
+
+-- The line of an edge at a point off a diagonal does not go through both ends of the diagonal.
+mod EdgeLine
+pub use Rattle.funnels.proofs.Funnels.EdgeLine.{IsEnd}
+-- Points of a funnel without height: they are between the ends of the diagonal, but for an apex that sees nothing beyond.
+mod FlatFunnels
+pub use Rattle.funnels.proofs.Funnels.FlatFunnels.{IsFlat, IsOnDiagonal, flat_off_apex, on_at_first, on_at_last}
+-- An apex without height is on the diagonal, or nothing beyond the diagonal is in its window.
+mod FlatApex
+pub use Rattle.funnels.proofs.Funnels.FlatApex.{flat_apex, left_of_apex, right_of_apex}
+-- The first funnels: of a source s with r not right of the way from l to s, at the diagonal from l to r.
+mod ShortFunnels
+pub use Rattle.funnels.proofs.Funnels.ShortFunnels.{funnel_between, funnel_from_left, funnel_from_right}
+-- What holds of three points, as a turn, holds of the same points by other names.
+mod ThreePoints
+pub use Rattle.funnels.proofs.Funnels.ThreePoints.{by_points, turns_left, turns_right}
+-- The signs behind the test of the edges of a funnel: three points, and one beyond a line that is not above them.
+mod TestSigns
+-- Between two points that are not left of a line no point is left of it; and none is right of it between two that are not.
+mod SidesBetween
+pub use Rattle.funnels.proofs.Funnels.SidesBetween.{not_above, turned_at_least}
+-- The two edges at the apex of a funnel: no point beyond the diagonal is to the left of the left one and to the right of the right one.
+mod EdgesAtApex
+-- On the side from an end of the diagonal to m the window of an old point in the next funnel is within its old window.
+mod NextWindows
+pub use Rattle.funnels.proofs.Funnels.NextWindows.{old_window_left, old_window_right}
+-- The edges of the next funnel by their numbers: old ones of the last funnel, and a new one to m.
+mod NextEdges
+pub use Rattle.funnels.proofs.Funnels.NextEdges.{left_place, new_edge_left, new_edge_right, old_edge_left, old_edge_right}
+-- A way from a point left of a line to one right of it crosses the line; weights of the points of a line.
+mod LineCrossed
+-- How high the points of a funnel are over the diagonal: they fall along each chain from the apex, and none is beyond.
+mod Heights
+pub use Rattle.funnels.proofs.Funnels.Heights.{level, lower, not_negative}
+-- Which edges of a funnel the way to a point beyond the diagonal passes: those from the left end to one place, and no others.
+mod PassedEdges
+-- The turns of a funnel that begins with a point beyond the diagonal and goes on with the points from the place that it is reached from.
+mod TurnsLeft
+pub use Rattle.funnels.proofs.Funnels.TurnsLeft.{new_at, old_at}
+-- The way to a point beyond the diagonal, from the place of the funnel that it is reached from, goes over the diagonal.
+mod NewEdge
+pub use Rattle.funnels.proofs.Funnels.NewEdge.{reaches_new}
+-- How far four points are from a line; points on one line, and a point of the line between the ends of a segment.
+mod OnOneLine
+pub use Rattle.funnels.proofs.Funnels.OnOneLine.{four_on_line, straight_on_line}
+-- The funnel of the diagonal from a point beyond to the right end: the point, and the points from the place that it is reached from.
+mod FunnelLeft
+pub use Rattle.funnels.proofs.Funnels.FunnelLeft.{funnel_left}
+-- Two edges of a funnel at a common point, and a point beyond the diagonal: to which sides of them it is.
+mod TwoEdges
+-- A point on the line of a diagonal: on which sides of the ways from it to the ends the points beyond the diagonal are.
+mod LineOfDiagonal
+-- The edges of a funnel at its places, and the window of the place from which a point is reached.
+mod FunnelEdges
+pub use Rattle.funnels.proofs.Funnels.FunnelEdges.{edge_after, edge_before, in_window_of, window_of_reached}
+-- The funnel of the diagonal from the left end to a point beyond: the points to the place that the point is reached from, and the point.
+mod FunnelRight
+pub use Rattle.funnels.proofs.Funnels.FunnelRight.{funnel_right}
+-- The way from a point to one beyond a diagonal, between the lines of two edges at the point, crosses the diagonal between them.
+mod CrossingDiagonal
+pub use Rattle.funnels.proofs.Funnels.CrossingDiagonal.{crossing_in_window}
+-- On which side of the way over a place of a funnel a point is that is reached from there, where the place is not the apex.
+mod ReachedWays
+pub use Rattle.funnels.proofs.Funnels.ReachedWays.{left_of_way, right_of_way}
+-- On the way from a place of a funnel to a point beyond the diagonal all edges before the place are passed, and none after it.
+mod PassedPlaces
+-- The points of the next funnel by their places: some first points and then m, or m and then some last points.
+mod NextPoints
+pub use Rattle.funnels.proofs.Funnels.NextPoints.{next_left_length, next_left_old, next_right_last, next_right_length, next_right_old}

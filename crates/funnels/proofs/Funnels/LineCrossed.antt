@@ -1,0 +1,79 @@
+-- A way from a point left of a line to one right of it crosses the line; weights of the points of a line.
+use Rattle.std.proofs.Common.{◌≡◌, ap, ℤ, pos, ◌+ℤ◌, ◌-ℤ◌, ◌*ℤ◌, neg_ℤ, ◌<ℤ◌, arith}
+use Rattle.std.proofs.lemmas.Int.{ints}
+use Rattle.integer_algebra.proofs.Laws.{mul_comm, neg-mul, zero-mul}
+use Rattle.integer_algebra.proofs.SignSteps.{one_positive, opposite_positive, weak}
+use Rattle.integer_algebra.proofs.Signs.{mul_negative, mul_positive}
+use Rattle.plane.proofs.Meetings.{no_value, weighed_sum, zero_point}
+use Rattle.plane.proofs.Turns.{determinant_swap_first, four_triples, four_triples_in_W, linear, IsCombination, determinant_along}
+use Rattle.plane.proofs.Turns.{determinant_is_linear, on_of_combination}
+use Rattle.plane.specs.Point.{IsPoint, Triple}
+use Rattle.plane.specs.Segment.{On}
+use Rattle.plane.specs.Turn.{IsLeft, IsRight, IsStraight, determinant}
+
+-- ---- where the way crosses the line
+
+-- a positive multiple less a negative one is positive
+weights_apart : (f g v w : ℤ) → pos 0 <ℤ f → g <ℤ pos 0 → pos 0 <ℤ v → pos 0 <ℤ w → pos 0 <ℤ (f *ℤ w -ℤ g *ℤ v)
+weights_apart f g v w hf hg hv hw = omega (arith, ints, mul_positive f w hf hw, mul_negative v g hv hg, mul_comm v g)
+
+-- a point of the way from n to y on the line through a and b
+pub record OnLine (a b n y : Triple) : Type 0 where
+  pub point : Triple
+  pub rational : IsPoint point
+  pub on_way : On point n y
+  pub on_line : IsStraight a b point
+
+-- there is one where n is left of the line, and y right of it
+pub on_line_between : (a b n y : Triple) → IsPoint n → IsPoint y → IsLeft a b n → IsRight a b y → OnLine a b n y
+on_line_between a b n y at_n at_y left right =
+    let f = determinant a b n in
+    let g = determinant a b y in
+    let z = zero_point f g n y in
+    let at_z : IsPoint z = weights_apart f g n.W y.W left right at_n at_y in
+    let c : IsCombination z n y = record {
+      k = pos 1;
+      l = neg_ℤ g;
+      m = f;
+      k_positive = one_positive;
+      l_nonnegative = weak (opposite_positive right);
+      m_nonnegative = weak left;
+      in_X = weighed_sum f g n.X y.X;
+      in_Y = weighed_sum f g n.Y y.Y;
+      in_W = weighed_sum f g n.W y.W;
+    } in
+    record {
+      point = z;
+      rational = at_z;
+      on_way = on_of_combination z n y at_z at_n at_y c;
+      on_line = no_value _ f g (determinant_along z n y c a b);
+    }
+
+-- ---- a point of the line as a weighted sum of two others, in any order
+
+-- one part of it: x of the point, y and z of the others, t of a point off the line
+weighted : (p q r m d x y z t : ℤ) → r ≡ pos 0 → m ≡ neg_ℤ q → p *ℤ y -ℤ q *ℤ z +ℤ r *ℤ t -ℤ d *ℤ x ≡ pos 0
+    → d *ℤ x ≡ p *ℤ y +ℤ m *ℤ z
+weighted p q r m d x y z t none turned e =
+    omega (arith, ints, ap (λ n. n *ℤ z) turned, neg-mul q z, ap (λ n. n *ℤ t) none, zero-mul t)
+
+module _ (a b c x : Triple) (straight : IsStraight a b x) where
+  -- what a linear functional is at the point
+  linear_on_line : (α β γ : ℤ) →
+      determinant a b c *ℤ linear α β γ x ≡ determinant b c x *ℤ linear α β γ a +ℤ determinant c a x *ℤ linear α β γ b
+  linear_on_line α β γ =
+      weighted (determinant b c x) (determinant a c x) (determinant a b x) (determinant c a x) (determinant a b c)
+      (linear α β γ x) (linear α β γ a) (linear α β γ b) (linear α β γ c) straight (determinant_swap_first a c x)
+      (four_triples a b c x α β γ)
+
+  -- what a determinant is there
+  pub determinant_on_line : (s t : Triple) →
+      determinant a b c *ℤ determinant s t x ≡ determinant b c x *ℤ determinant s t a +ℤ determinant c a x *ℤ determinant s t b
+  determinant_on_line s t =
+      rw (determinant_is_linear s t x, determinant_is_linear s t a, determinant_is_linear s t b) (linear_on_line _ _ _)
+
+  -- what the weights add up to
+  pub weight_on_line : determinant a b c *ℤ x.W ≡ determinant b c x *ℤ a.W +ℤ determinant c a x *ℤ b.W
+  weight_on_line =
+      weighted (determinant b c x) (determinant a c x) (determinant a b x) (determinant c a x) (determinant a b c)
+      x.W a.W b.W c.W straight (determinant_swap_first a c x) (four_triples_in_W a b c x)

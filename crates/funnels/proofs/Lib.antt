@@ -1,0 +1,4 @@
+pub mod Vertices
+pub mod Bends
+pub mod Funnels
+pub mod Chains

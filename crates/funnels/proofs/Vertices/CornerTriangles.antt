@@ -1,0 +1,106 @@
+-- A triangle of a mesh at one of its corners: no neighbour of the corner in the ring is strictly inside the angle there.
+use Rattle.std.proofs.Common.{◌≡◌, ◌⊎◌, inl, inr, subst, ap, le_refl, ℕ, ◌<◌, List, length, arith}
+use Rattle.integer_algebra.proofs.SignSteps.{turned_positive}
+use Rattle.plane.proofs.Nearness.{left_toward, left_eventually, toward, toward_is_point, toward_on}
+use Rattle.plane.proofs.Points.{whole_is_point}
+use Rattle.plane.proofs.Turns.{determinant_same_ends, determinant_same_last, determinant_swap_first}
+use Rattle.plane.specs.Point.{IsPoint, Point, Triple, whole}
+use Rattle.plane.specs.Turn.{IsLeft, IsRight}
+use Rattle.rings.proofs.Vertices.{on_some_of}
+use Rattle.rings.specs.Bend.{AreNeighbours}
+use Rattle.rings.specs.Edge.{IsOnSome, edges_of}
+use Rattle.rings.specs.Ring.{vertex}
+use Rattle.ring_laws.proofs.Triangles.{left_at_first, left_at_last}
+use Rattle.meshes.proofs.Joins.{in_tri}
+use Rattle.meshes.proofs.Parts.{ring_apart, ring_long, region_off_edges, sides, inside_sides, left_of_sides}
+use Rattle.meshes.proofs.Sides.{left_apart}
+use Rattle.meshes.specs.Fits.{FitsPiece, IsStrictlyInTri, piece_points}
+use Rattle.meshes.specs.Side.{HasSide, tri_at}
+use Rattle.meshes.specs.declared.tri.Tri.{Tri}
+use Rattle.funnels.proofs.Vertices.VertexNeighbours.{edge_between}
+
+-- ---- a triangle by the numbers of its corners
+
+-- two sides one after the other, by the three corners
+two_sides : (a b c x y z : ℕ) → ¬ (a ≡ b) → ¬ (b ≡ c) → ¬ (c ≡ a) → HasSide (record { a = a; b = b; c = c }) x y
+    → HasSide (record { a = a; b = b; c = c }) y z
+    → ((a ≡ x) × (b ≡ y) × (c ≡ z)) ⊎ ((b ≡ x) × (c ≡ y) × (a ≡ z)) ⊎ ((c ≡ x) × (a ≡ y) × (b ≡ z))
+two_sides a b c x y z ab bc ca h k = grind arith
+
+-- the triangle has the corners j, i and m, counterclockwise; what is left of all its sides is strictly inside
+pub record HasCorners (corners : List Point) (t : Tri) (j i m : ℕ) : Type 0 where
+  pub left : IsLeft (whole (vertex corners j)) (whole (vertex corners i)) (whole (vertex corners m))
+  pub strictly : (y : Triple) → IsLeft (whole (vertex corners j)) (whole (vertex corners i)) y
+      → IsLeft (whole (vertex corners i)) (whole (vertex corners m)) y → IsLeft (whole (vertex corners m)) (whole (vertex corners j)) y
+      → IsStrictlyInTri corners t y
+
+module _ (corners : List Point) (t : Tri) where
+  -- the corners by other names of their numbers
+  named : {a b c x y z : ℕ} → a ≡ x → b ≡ y → c ≡ z → HasCorners corners t a b c → HasCorners corners t x y z
+  named {a} {b} {c} {x} {y} {z} e f g h =
+      subst (λ n. HasCorners corners t n y z) e (subst (λ n. HasCorners corners t a n z) f (subst (λ n. HasCorners corners t a b n) g h))
+
+  -- a triangle with two sides one after the other has the corners between them
+  pub has_corners : IsLeft (whole (vertex corners t.a)) (whole (vertex corners t.b)) (whole (vertex corners t.c))
+      → (j i m : ℕ) → HasSide t j i → HasSide t i m → HasCorners corners t j i m
+  has_corners left j i m last next =
+      let A = vertex corners t.a in
+      let B = vertex corners t.b in
+      let C = vertex corners t.c in
+      let apart = left_apart (whole A) (whole B) (whole C) left in
+      let at : ℕ → Triple = λ n. whole (vertex corners n) in
+      elim (two_sides t.a t.b t.c j i m (λ e. apart.0 (ap at e)) (λ e. apart.1 (ap at e)) (λ e. apart.2 (ap at e)) last next) [
+        | inl e ↦ named e.0 e.1 e.2 (record {
+          left = left;
+          strictly = λ y f g h. record { left_of_first = f; left_of_second = g; left_of_third = h };
+        })
+        | inr k ↦ elim k [
+          | inl e ↦ named e.0 e.1 e.2 (record {
+            left = left_at_last A B C left;
+            strictly = λ y f g h. record { left_of_first = h; left_of_second = f; left_of_third = g };
+          })
+          | inr e ↦ named e.0 e.1 e.2 (record {
+            left = left_at_first A B C left;
+            strictly = λ y f g h. record { left_of_first = g; left_of_second = h; left_of_third = f };
+          })
+        ]
+      ]
+
+-- ---- neighbours of a corner
+
+-- a point strictly inside a triangle is on no edge of the ring
+inside_off_edges : (corners : List Point) (piece : List ℕ) (tris : List Tri) → FitsPiece corners piece tris → (k : ℕ) → k < length tris
+    → (y : Triple) → IsPoint y → IsStrictlyInTri corners (tri_at tris k) y → ¬ IsOnSome (edges_of (piece_points corners piece)) y
+inside_off_edges corners piece tris fits k within y at_y inside =
+    let t = tri_at tris k in
+    let ring = piece_points corners piece in
+    region_off_edges ring (ring_apart corners piece tris fits) (ring_long corners piece tris fits k within) (sides corners t)
+    (λ z at_z h. (fits.covers z at_z).1 (k, within, in_tri corners t z (inside_sides corners t z h)))
+    y at_y (left_of_sides corners t y inside)
+
+module _ (corners : List Point) (piece : List ℕ) (tris : List Tri) (fits : FitsPiece corners piece tris) (k i j m : ℕ)
+    (within : k < length tris) (next : HasSide (tri_at tris k) i m) (last : HasSide (tri_at tris k) j i) where
+  -- triangle k at its corner i, between j and m
+  pub corners_of : HasCorners corners (tri_at tris k) j i m
+  corners_of = has_corners corners (tri_at tris k) (fits.triangles k within).counterclockwise j i m last next
+
+  -- no neighbour of vertex i is strictly inside the angle of the triangle there
+  pub neighbour_not_inside : (u : Point) → AreNeighbours (piece_points corners piece) (vertex corners i) u
+      → ¬ (IsLeft (whole (vertex corners i)) (whole (vertex corners m)) (whole u)
+      × IsRight (whole (vertex corners i)) (whole (vertex corners j)) (whole u))
+  neighbour_not_inside u n (left, right) =
+      let c = corners_of in
+      let (e, between) = edge_between (piece_points corners piece) (vertex corners i) u n in
+      let I = whole (vertex corners i) in
+      let J = whole (vertex corners j) in
+      let M = whole (vertex corners m) in
+      let U = whole u in
+      let at_I = whole_is_point (vertex corners i) in
+      let at_U = whole_is_point u in
+      let near = left_eventually I U M J (left_at_first (vertex corners j) (vertex corners i) (vertex corners m) c.left) in
+      let s : ℕ = near.start in
+      let y = toward I U s in
+      let inside = c.strictly y (left_toward J I I U (determinant_same_last J I) (turned_positive (determinant_swap_first I J U) right) s)
+      (left_toward I M I U (determinant_same_ends I M) left s) (near.from_start s (le_refl s)) in
+      inside_off_edges corners piece tris fits k within y (toward_is_point I U at_I at_U s) inside
+      (on_some_of y e (edges_of (piece_points corners piece)) between.has (between.on y (toward_on I U at_I at_U s)))

@@ -1,0 +1,127 @@
+-- Right of an edge, near an end of it: nothing is in a ring that runs counterclockwise, where no edge at that end is right of this
+-- one.
+use Rattle.std.proofs.Common.{◌≡◌, inl, inr, refl, sym, subst, ℕ, ◌+◌, ◌<◌, ℤ, pos, neg_ℤ, ◌≤ℤ◌, List, [], ◌∷◌, ◌++◌, length, arith}
+use Rattle.std.proofs.lemmas.Int.{ints}
+use Rattle.integer_algebra.proofs.SignSteps.{turned_positive}
+use Rattle.plane.proofs.Nearness.{apart_between, right_toward, Eventually, toward, toward_is_point}
+use Rattle.plane.proofs.Points.{whole_is_point}
+use Rattle.plane.proofs.Segments.{on_is_straight, on_same_point, first_end_on_line, on_or_not}
+use Rattle.plane.proofs.Turns.{determinant_swap_first, straight_swap_first}
+use Rattle.plane.specs.Point.{IsPoint, Point, Triple, whole}
+use Rattle.plane.specs.Segment.{On}
+use Rattle.plane.specs.Turn.{IsRight, determinant}
+use Rattle.rings.proofs.Vertices.{has_cases, has_left, has_right, edge_with, on_some_of}
+use Rattle.rings.specs.Apart.{IsApartRing}
+use Rattle.rings.specs.Edge.{Edge, HasEdge, HasEnd, IsOn, edges_of}
+use Rattle.rings.specs.Inside.{IsIn}
+use Rattle.rings.specs.Winding.{WindsUpTo}
+use Rattle.ring_laws.proofs.Triangles.{off_others, other_edges, end_is_on, end_of_other, not_right_between}
+use Rattle.funnels.proofs.Vertices.RightOfEdges.{IsStrictlyOn, right_is_out}
+
+-- ---- what holds of each edge
+
+-- what holds in the end of each edge of a list holds in the end of all together
+each_eventually : (P : Edge → ℕ → Type 0) (es : List Edge) → ((f : Edge) → HasEdge es f → Eventually (P f))
+    → Eventually (λ n. (f : Edge) → HasEdge es f → P f n)
+each_eventually P [] h = record { start = 0; from_start = λ n above f has. absurd has }
+each_eventually P (e ∷ es) h =
+    let first = h e (inl refl) in
+    let rest = each_eventually P es (λ f has. h f (inr has)) in
+    record {
+      start = first.start + rest.start;
+      from_start = λ n above f has. elim has [
+        | inl is ↦ subst (λ (g : Edge). P g n) is (first.from_start n (omega arith))
+        | inr k ↦ rest.from_start n (omega arith) f k
+      ];
+    }
+
+-- ---- right of an edge, near an end of it
+
+-- the opposite, written otherwise, of what is not negative
+turned_not_positive : {d e : ℤ} → e ≡ neg_ℤ d → pos 0 ≤ℤ d → e ≤ℤ pos 0
+turned_not_positive e h = omega (arith, ints)
+
+-- edge f is not right of the line of e
+abbrev pub IsNotRightOf : Edge → Edge → Type 0
+IsNotRightOf e f =
+    (pos 0 ≤ℤ determinant (whole e.from) (whole e.to) (whole f.from)) × (pos 0 ≤ℤ determinant (whole e.from) (whole e.to) (whole f.to))
+
+module _ (ring : List Point) (apart : IsApartRing ring) (some : 1 < length ring) (winds : WindsUpTo (pos 1) (edges_of ring))
+    (e : Edge) (has : HasEdge (edges_of ring) e) (v : Point) (end : HasEnd e v)
+    (beside : (f : Edge) → HasEdge (edges_of ring) f → HasEnd f v → IsNotRightOf e f)
+    (c : Triple) (at_c : IsPoint c) (inside : (n : ℕ) → IsStrictlyOn e (toward (whole v) c n))
+    (z : Triple) (at_z : IsPoint z) (right : IsRight (whole e.from) (whole e.to) z) where
+  -- the other edges
+  abbrev others : List Edge
+  others = (other_edges ring apart e has).before ++ (other_edges ring apart e has).after
+
+  -- are edges of the ring
+  other_is_edge : (f : Edge) → HasEdge others f → HasEdge (edges_of ring) f
+  other_is_edge f h =
+      let rest = other_edges ring apart e has in
+      subst (λ es. HasEdge es f) (sym rest.are) (elim (has_cases f rest.before rest.after h) [
+        | inl k ↦ has_left f rest.before (e ∷ rest.after) k
+        | inr k ↦ has_right f rest.before (e ∷ rest.after) (inr k)
+      ])
+
+  -- v is on the line of the edge
+  v_on_line : determinant (whole e.from) (whole e.to) (whole v) ≡ pos 0
+  v_on_line =
+      on_is_straight (whole v) (whole e.from) (whole e.to) (whole_is_point v) (whole_is_point e.from) (whole_is_point e.to)
+      (end_is_on e v end)
+
+  -- an edge that is not on the way from a point strictly inside the edge to one near v toward z
+  abbrev IsMissed : Edge → ℕ → Type 0
+  IsMissed f n = (x : Triple) → IsPoint x → On x (toward (whole v) c n) (toward (whole v) z n) → ¬ IsOn f x
+
+  -- an edge that is not right of the line is missed,
+  misses_beside : (f : Edge) → HasEdge others f → IsNotRightOf e f → (n : ℕ) → IsMissed f n
+  misses_beside f other not_right n x at_x on on_f =
+      let a = whole e.from in
+      let b = whole e.to in
+      let m = toward (whole v) c n in
+      let y = toward (whole v) z n in
+      let at_m = toward_is_point (whole v) c (whole_is_point v) at_c n in
+      let at_y = toward_is_point (whole v) z (whole_is_point v) at_z n in
+      let s = inside n in
+      let straight = straight_swap_first a b m (on_is_straight m a b at_m (whole_is_point e.from) (whole_is_point e.to) s.on) in
+      let y_right = right_toward a b (whole v) z v_on_line right n in
+      let x_not_right = not_right_between a b x (whole f.from) (whole f.to) at_x (whole_is_point f.from) (whole_is_point f.to) not_right.0
+      not_right.1 on_f in
+      let same = first_end_on_line x m y b a at_x at_m at_y on straight
+      (turned_positive (determinant_swap_first a b y) y_right) (turned_not_positive (determinant_swap_first a b x) x_not_right) in
+      off_others ring apart e has m at_m s.on s.not_from s.not_to
+      (on_some_of m f others other (on_same_point at_x same on_f))
+
+  -- and any other, near v
+  misses_other : (f : Edge) → HasEdge others f → Eventually (IsMissed f)
+  misses_other f other =
+      let has_f = other_is_edge f other in
+      elim (on_or_not (whole v) (whole f.from) (whole f.to) (whole_is_point v) (whole_is_point f.from) (whole_is_point f.to)) [
+        | inl on ↦ record {
+          start = 0;
+          from_start = λ n above.
+              misses_beside f other (beside f has_f (end_of_other (edges_of ring) apart.apart e f has has_f v end on)) n;
+        }
+        | inr off ↦
+            let far = apart_between (whole v) c z (whole_is_point v) at_c at_z (whole f.from) (whole f.to) (whole_is_point f.from)
+            (whole_is_point f.to) off in
+            record {
+              start = far.start;
+              from_start = λ n above x at_x on on_f.
+                  far.from_start n above (record { point = x; rational = at_x; on_first = on; on_second = on_f });
+            }
+      ]
+
+  -- so near v toward z nothing is in the ring
+  pub near_is_out : Eventually (λ n. ¬ IsIn ring (toward (whole v) z n))
+  near_is_out =
+      let each = each_eventually IsMissed others misses_other in
+      record {
+        start = each.start;
+        from_start = λ n above.
+            right_is_out ring apart some winds e has (toward (whole v) c n) (toward (whole v) z n)
+            (toward_is_point (whole v) c (whole_is_point v) at_c n) (toward_is_point (whole v) z (whole_is_point v) at_z n) (inside n)
+            (right_toward (whole e.from) (whole e.to) (whole v) z v_on_line right n)
+            (λ x at_x on k. let (f, has_f, on_f) = edge_with x others k in each.from_start n above f has_f x at_x on on_f);
+      }

@@ -1,0 +1,4 @@
+pub mod Fan
+pub mod Fanned
+pub mod Funnel
+pub mod OpenFunnel

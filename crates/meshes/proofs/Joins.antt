@@ -1,0 +1,29 @@
+-- Triangulations of two pieces, joined along a diagonal.
+
+-- A piece read from another vertex on: the same triangles fit it.
+mod Rotated
+pub use Rattle.meshes.proofs.Joins.Rotated.{edge_rotated, fits_rotated, same_rotated}
+-- Two lists of triangles one after the other: the numbers of the triangles, and the tree that they make together.
+mod TwoLists
+-- One of two meshes that are joined along a diagonal: the sides of its triangles in the joined list.
+mod Halves
+pub use Rattle.meshes.proofs.Joins.Halves.{AreEnds, between_back, between_ends}
+-- Two meshes that fit the parts of a piece cut by a diagonal fit the piece together.
+mod Joined
+pub use Rattle.meshes.proofs.Joins.Joined.{fits_joined}
+-- A piece that is cut in two by a diagonal: its vertices and edges, and those of the two parts.
+mod Cuts
+pub use Rattle.meshes.proofs.Joins.Cuts.{IsCut, both_parts, contains_cases, contains_first, contains_first_part, contains_rest, contains_second_part}
+pub use Rattle.meshes.proofs.Joins.Cuts.{first_part, part_of_edge, place_of, second_diagonal, second_part, second_part_cases}
+-- Two trees that one edge joins are one tree.
+mod JoinedTrees
+-- Points strictly inside triangles: those near them are so too, and some of them are off a given line.
+mod OffDiagonal
+pub use Rattle.meshes.proofs.Joins.OffDiagonal.{in_tri}
+-- The triangles and sides of two meshes that fit the parts of a piece cut by a diagonal.
+mod JoinedSides
+-- A mesh with one more triangle: an ear at a vertex of the piece.
+mod Ears
+pub use Rattle.meshes.proofs.Joins.Ears.{fits_ear}
+-- The diagonal that cuts a piece in two is not an edge of it.
+mod Diagonals

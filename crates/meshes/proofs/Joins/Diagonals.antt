@@ -1,0 +1,62 @@
+-- The diagonal that cuts a piece in two is not an edge of it.
+use Rattle.std.proofs.Common.{◌≡◌, ◌⊎◌, inl, inr, sym, ap, subst, ◌∙◌, ℕ, suc, ◌+◌, ◌%◌, ◌<◌, List, length, get_or, arith}
+use Rattle.std.proofs.Math.Nat.{mod-eq_of_lt, mod_self}
+use Rattle.std.proofs.lemmas.Bool.{cases_lt}
+use Rattle.plane.specs.Point.{Point}
+use Rattle.rings.specs.Simple.{IsSimple}
+use Rattle.meshes.proofs.Joins.Cuts.{both_parts, place_of_last, places}
+use Rattle.meshes.proofs.Joins.Halves.{AreEnds}
+use Rattle.meshes.proofs.Sides.{one_number}
+use Rattle.meshes.specs.Fits.{IsPieceEdge, piece_points}
+
+-- the place after one in a list of n, counted round
+next_place : (p n : ℕ) → p < n → ((p + 1 < n) × ((p + 1) % n ≡ p + 1)) ⊎ ((p + 1 ≡ n) × ((p + 1) % n ≡ 0))
+next_place p n h = elim (cases_lt (p + 1) n) [
+  | inl within ↦ inl (within, mod-eq_of_lt within)
+  | inr past ↦ let e : p + 1 ≡ n = omega arith in inr (e, ap (λ k. k % n) e ∙ mod_self n)
+]
+
+-- it is a place
+next_within : (p n : ℕ) → p < n → (p + 1) % n < n
+next_within p n h = elim (next_place p n h) [ inl k ↦ omega (arith, k.0, k.1) | inr k ↦ omega (arith, k.1) ]
+
+module _ (corners : List Point) (v : ℕ) (ps : List ℕ) (z : ℕ) (qs : List ℕ) (simple : IsSimple (piece_points corners (both_parts v ps z qs)))
+    (some_before : 0 < length ps) (some_after : 0 < length qs) where
+  -- the number at a place of the piece
+  at : ℕ → ℕ
+  at p = get_or (both_parts v ps z qs) p 0
+
+  -- no edge goes from v to z,
+  not_from_first : (e : IsPieceEdge (both_parts v ps z qs) v z) → ⊥
+  not_from_first e =
+      let n = length (both_parts v ps z qs) in
+      let one = one_number corners (both_parts v ps z qs) simple in
+      let from : e.place ≡ 0 = one e.place 0 e.in_piece (omega (arith, places v ps z qs)) e.from in
+      let to : (e.place + 1) % n ≡ suc (length ps) =
+      one ((e.place + 1) % n) (suc (length ps)) (next_within e.place n e.in_piece) (omega (arith, places v ps z qs))
+      (e.to ∙ sym (place_of_last v ps z qs)) in
+      elim (next_place e.place n e.in_piece) [
+        | inl k ↦ omega (arith, k.1, from, to)
+        | inr k ↦ omega (arith, k.1, from, to)
+      ]
+
+  -- and none from z to v
+  not_from_last : (e : IsPieceEdge (both_parts v ps z qs) z v) → ⊥
+  not_from_last e =
+      let n = length (both_parts v ps z qs) in
+      let one = one_number corners (both_parts v ps z qs) simple in
+      let from : e.place ≡ suc (length ps) =
+      one e.place (suc (length ps)) e.in_piece (omega (arith, places v ps z qs)) (e.from ∙ sym (place_of_last v ps z qs)) in
+      let to : (e.place + 1) % n ≡ 0 =
+      one ((e.place + 1) % n) 0 (next_within e.place n e.in_piece) (omega (arith, places v ps z qs)) e.to in
+      elim (next_place e.place n e.in_piece) [
+        | inl k ↦ omega (arith, k.1, from, to)
+        | inr k ↦ omega (arith, k.0, from, places v ps z qs)
+      ]
+
+  -- so the diagonal is no edge of the piece
+  pub not_edge : (i j : ℕ) → IsPieceEdge (both_parts v ps z qs) i j → ¬ AreEnds v z i j
+  not_edge i j e (inl h) =
+      not_from_first (subst (λ x. IsPieceEdge (both_parts v ps z qs) x z) h.0 (subst (λ y. IsPieceEdge (both_parts v ps z qs) i y) h.1 e))
+  not_edge i j e (inr h) =
+      not_from_last (subst (λ x. IsPieceEdge (both_parts v ps z qs) x v) h.0 (subst (λ y. IsPieceEdge (both_parts v ps z qs) i y) h.1 e))

@@ -1,0 +1,8 @@
+pub mod Walks
+pub mod Sides
+pub mod Joins
+pub mod Parts
+pub mod Sight
+pub mod TreeLeaves
+pub mod Ears
+pub mod KnownMeshes

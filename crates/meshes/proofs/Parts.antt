@@ -1,0 +1,23 @@
+-- A triangulation, parted by a side that two triangles share.
+
+-- Regions left of some lines: near a point of one all points are in it, so where the region is in a ring, it meets no edge.
+mod OpenRegions
+pub use Rattle.meshes.proofs.Parts.OpenRegions.{left_of_all_eventually, region_off_edges}
+-- A triangle of a list at one of its sides: the corner opposite to the side, and the points near the side.
+mod Opposite
+pub use Rattle.meshes.proofs.Parts.Opposite.{mean, mean_inside, mean_is_point, near_side, opposite, sides, toward_inside}
+-- The side that two triangles of a mesh share is a diagonal of the ring.
+mod MeshDiagonals
+pub use Rattle.meshes.proofs.Parts.MeshDiagonals.{IsShared, one_vertex, ring_apart, ring_long, shared_is_diagonal, shared_of, vertex_place}
+-- A shared side parts a mesh: the triangles beside it lie in different pieces, and those that share another side in one.
+mod PartedMesh
+pub use Rattle.meshes.proofs.Parts.PartedMesh.{IsParted, end_of_side, parted, shared_is_this, side_in, side_numbers}
+-- A simple ring that is split in two by a diagonal: the pieces, each with the diagonal as an edge.
+mod Splits
+pub use Rattle.meshes.proofs.Parts.Splits.{parts_at}
+-- A ring that is split along a shared side of a mesh: each triangle lies in one piece as a whole.
+mod PieceOfTriangle
+pub use Rattle.meshes.proofs.Parts.PieceOfTriangle.{LiesIn, inside_one, inside_sides, left_of_sides, lies_in_one}
+-- Two rings that share only points of a segment: a way from one to the other, in both together, meets the segment.
+mod BetweenPieces
+pub use Rattle.meshes.proofs.Parts.BetweenPieces.{IsCovered, meets_between}

@@ -1,0 +1,140 @@
+-- A ring that is split along a shared side of a mesh: each triangle lies in one piece as a whole.
+use Rattle.std.proofs.Common.{◌≡◌, ◌⊎◌, inl, inr, sym, ◌∙◌, List, length, ℕ, ◌+◌, ◌<◌, arith}
+use Rattle.std.proofs.lemmas.Bool.{cases_lt}
+use Rattle.std.specs.List.{Contains}
+use Rattle.plane.proofs.Nearness.{toward, toward_is_point}
+use Rattle.plane.proofs.Points.{same_sym, whole_is_point}
+use Rattle.plane.proofs.Segments.{on_reversed, stays_left}
+use Rattle.plane.specs.Point.{IsPoint, IsSame, Point, Triple, whole}
+use Rattle.plane.specs.Segment.{On}
+use Rattle.rings.proofs.Vertices.{on_some_same}
+use Rattle.rings.specs.Edge.{IsOnSome, edges_of}
+use Rattle.rings.specs.Inside.{IsIn}
+use Rattle.rings.specs.Ring.{vertex}
+use Rattle.meshes.proofs.Joins.{in_tri}
+use Rattle.meshes.proofs.Parts.BetweenPieces.{IsCovered, covered_swapped, in_if_near, meets_between}
+use Rattle.meshes.proofs.Parts.MeshDiagonals.{IsShared, ring_apart, ring_long, vertex_on_ring}
+use Rattle.meshes.proofs.Parts.OpenRegions.{IsLeftOfAll, left_of_all_eventually, region_off_edges}
+use Rattle.meshes.proofs.Parts.Opposite.{IsOpposite, mean, mean_inside, mean_is_point, near_side, sides, toward_inside}
+use Rattle.meshes.proofs.Sides.{same_or_not}
+use Rattle.meshes.specs.Fits.{FitsPiece, IsInTri, IsStrictlyInTri, piece_points}
+use Rattle.meshes.specs.Side.{tri_at}
+use Rattle.meshes.specs.declared.tri.Tri.{Tri}
+
+-- triangle n lies in a piece as a whole
+abbrev pub LiesIn : List Point → List Tri → List Point → ℕ → Type 0
+LiesIn corners tris piece n = (x : Triple) → IsPoint x → IsInTri corners (tri_at tris n) x → IsIn piece x
+
+-- ---- strictly inside a triangle
+
+module _ (corners : List Point) (t : Tri) where
+  -- a point strictly inside is left of all sides,
+  pub left_of_sides : (y : Triple) → IsStrictlyInTri corners t y → IsLeftOfAll (sides corners t) y
+  left_of_sides y s = (s.left_of_first, (s.left_of_second, (s.left_of_third, tt)))
+
+  -- and the other way round
+  pub inside_sides : (y : Triple) → IsLeftOfAll (sides corners t) y → IsStrictlyInTri corners t y
+  inside_sides y (f, (g, (h, _))) = record { left_of_first = f; left_of_second = g; left_of_third = h }
+
+  -- between two such points all are so
+  inside_between : (z p q : Triple) → IsPoint z → IsPoint p → IsPoint q → IsStrictlyInTri corners t p → IsStrictlyInTri corners t q → On z p q
+      → IsStrictlyInTri corners t z
+  inside_between z p q at_z at_p at_q s r on =
+      let A = whole (vertex corners t.a) in
+      let B = whole (vertex corners t.b) in
+      let C = whole (vertex corners t.c) in
+      record {
+        left_of_first = stays_left z p q at_z at_p at_q on A B s.left_of_first r.left_of_first;
+        left_of_second = stays_left z p q at_z at_p at_q on B C s.left_of_second r.left_of_second;
+        left_of_third = stays_left z p q at_z at_p at_q on C A s.left_of_third r.left_of_third;
+      }
+
+module _ (corners : List Point) (piece : List ℕ) (tris : List Tri) (fits : FitsPiece corners piece tris) where
+  -- a point strictly inside a triangle is on no edge of the ring,
+  inside_off_edges : (n : ℕ) → n < length tris → (y : Triple) → IsPoint y → IsStrictlyInTri corners (tri_at tris n) y → ¬ IsOnSome (edges_of (piece_points corners piece)) y
+  inside_off_edges n within y at_y s =
+      let t = tri_at tris n in
+      region_off_edges (piece_points corners piece) (ring_apart corners piece tris fits) (ring_long corners piece tris fits n within) (sides corners t)
+      (λ z at_z h. (fits.covers z at_z).1 (n, within, in_tri corners t z (inside_sides corners t z h)))
+      y at_y (left_of_sides corners t y s)
+
+  -- so it is no vertex,
+  inside_no_vertex : (n : ℕ) → n < length tris → (y : Triple) → IsPoint y → IsStrictlyInTri corners (tri_at tris n) y → (i : ℕ) → Contains piece i
+      → ¬ IsSame y (whole (vertex corners i))
+  inside_no_vertex n within y at_y s i h same =
+      inside_off_edges n within y at_y s
+      (on_some_same (whole (vertex corners i)) y (whole_is_point (vertex corners i)) (same_sym same) (edges_of (piece_points corners piece)) (vertex_on_ring corners piece tris fits i h))
+
+  -- and not strictly inside another one
+  pub inside_one : (m n : ℕ) → m < length tris → n < length tris → ¬ (m ≡ n) → (y : Triple) → IsPoint y
+      → IsStrictlyInTri corners (tri_at tris m) y → IsStrictlyInTri corners (tri_at tris n) y → ⊥
+  inside_one m n in_m in_n differ y at_y s r = elim (cases_lt m n) [
+    | inl less ↦ fits.apart y at_y m n less in_n (s, r)
+    | inr more ↦ fits.apart y at_y n m (grind arith) in_m (r, s)
+  ]
+
+  -- a point strictly inside a triangle is not strictly inside a side of another one
+  not_on_other : (m n : ℕ) → m < length tris → n < length tris → ¬ (m ≡ n) → (a b c : Point) → IsOpposite corners (tri_at tris m) a b c
+      → (y : Triple) → IsPoint y → On y (whole a) (whole b) → ¬ IsSame y (whole a) → ¬ IsSame y (whole b) → ¬ IsStrictlyInTri corners (tri_at tris n) y
+  not_on_other m n in_m in_n differ a b c o y at_y on not_first not_last s =
+      let near = near_side corners (tri_at tris m) a b c o y at_y on not_first not_last in
+      let here = left_of_all_eventually y (whole c) (sides corners (tri_at tris n)) (left_of_sides corners (tri_at tris n) y s) in
+      let k : ℕ = near.start + here.start in
+      inside_one m n in_m in_n differ (toward y (whole c) k) (toward_is_point y (whole c) at_y (whole_is_point c) k)
+      (near.from_start k (omega arith)) (inside_sides corners (tri_at tris n) (toward y (whole c) k) (here.from_start k (omega arith)))
+
+  -- ---- a shared side
+
+  module _ (i j k l : ℕ) (s : IsShared corners piece tris i j k l) where
+    -- no point strictly inside a triangle is on it
+    inside_off_side : (n : ℕ) → n < length tris → (y : Triple) → IsPoint y → IsStrictlyInTri corners (tri_at tris n) y
+        → ¬ On y (whole (vertex corners i)) (whole (vertex corners j))
+    inside_off_side n within y at_y r on =
+        let not_from = inside_no_vertex n within y at_y r i s.from_within in
+        let not_to = inside_no_vertex n within y at_y r j s.to_within in
+        elim (same_or_not k n) [
+          | inr other ↦
+              not_on_other k n s.two.in_list within other (vertex corners i) (vertex corners j) s.c s.near y at_y on not_from not_to r
+          | inl same ↦
+              not_on_other l n s.two.other_in_list within (λ e. s.two.different (same ∙ sym e)) (vertex corners j) (vertex corners i) s.d s.far y at_y
+              (on_reversed y (whole (vertex corners i)) (whole (vertex corners j)) on) not_to not_from r
+        ]
+
+    module _ (first second : List Point) (c : IsCovered (piece_points corners piece) first second (whole (vertex corners i)) (whole (vertex corners j))) where
+      -- a triangle whose mean is in a piece lies in it
+      lies_with_mean : (n : ℕ) → n < length tris → IsIn first (mean corners (tri_at tris n)) → LiesIn corners tris first n
+      lies_with_mean n within in_mean x at_x h =
+          let t = tri_at tris n in
+          let left = (fits.triangles n within).counterclockwise in
+          let g = mean corners t in
+          let at_g = mean_is_point corners t left in
+          let inside_g = mean_inside corners t left in
+          in_if_near first x g at_x at_g (record {
+            start = 0;
+            from_start = λ m above.
+                let y = toward x g m in
+                let at_y = toward_is_point x g at_x at_g m in
+                let inside_y = toward_inside corners t left x g h inside_g m in
+                elim (c.covers y at_y ((fits.covers y at_y).1 (n, within, in_tri corners t y inside_y))) [
+                  | inl k ↦ k
+                  | inr k ↦
+                      let meet = meets_between (piece_points corners piece) first second (whole (vertex corners i)) (whole (vertex corners j)) c g y at_g at_y in_mean k
+                      (λ z at_z on. (fits.covers z at_z).1
+                      (n, within, in_tri corners t z (inside_between corners t z g y at_z at_g at_y inside_g inside_y on))) in
+                      absurd (inside_off_side n within meet.point meet.rational
+                      (inside_between corners t meet.point g y meet.rational at_g at_y inside_g inside_y meet.on_first) meet.on_second)
+                ];
+          })
+
+    -- so each triangle lies in one piece or the other
+    pub lies_in_one : (first second : List Point) → IsCovered (piece_points corners piece) first second (whole (vertex corners i)) (whole (vertex corners j))
+        → (n : ℕ) → n < length tris → LiesIn corners tris first n ⊎ LiesIn corners tris second n
+    lies_in_one first second c n within =
+        let t = tri_at tris n in
+        let left = (fits.triangles n within).counterclockwise in
+        let at_g = mean_is_point corners t left in
+        elim (c.covers (mean corners t) at_g ((fits.covers (mean corners t) at_g).1
+        (n, within, in_tri corners t (mean corners t) (mean_inside corners t left)))) [
+          | inl h ↦ inl (lies_with_mean first second c n within h)
+          | inr h ↦ inr (lies_with_mean second first (covered_swapped c) n within h)
+        ]

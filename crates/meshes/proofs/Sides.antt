@@ -1,0 +1,17 @@
+-- Sides of triangles, and the edges and vertices of a piece.
+
+-- One triangle fits the piece of its three corners.
+mod BaseTriangle
+pub use Rattle.meshes.proofs.Sides.BaseTriangle.{fits_triangle}
+-- In a list of triangles that fits a polygon each side belongs to one triangle in each direction, and to none in both.
+mod MeshSides
+pub use Rattle.meshes.proofs.Sides.MeshSides.{fitting_sides, left_apart}
+-- The edges of a piece, as the steps along its numbers and back to the first.
+mod PieceSteps
+pub use Rattle.meshes.proofs.Sides.PieceSteps.{edge_of_step, edge_or_not, same_or_not, step_after, step_before, step_cases, step_of_edge}
+-- The vertices of a piece: they are different where it is simple.
+mod PieceVertices
+pub use Rattle.meshes.proofs.Sides.PieceVertices.{length_points, one_number, one_place, piece_points_all, vertex_of_piece}
+-- The side that two triangles of a mesh share, as a diagonal on the way from the one to the other.
+mod SharedSides
+pub use Rattle.meshes.proofs.Sides.SharedSides.{LieAlong, lies_across, lies_last, one_more_along}

@@ -1,0 +1,12 @@
+-- Leaves of the tree of triangles, and that they are ears.
+
+-- A tree of at least two numbers has two leaves: the last numbers of longest paths.
+mod TreeLeaves
+-- Where some number is not on a path of a tree, a leaf is not: one with a longest path past that number.
+mod LeavesOffPaths
+-- Two sides of a triangle by the numbers of their ends: its turn, its points and its other side.
+mod TwoSides
+pub use Rattle.meshes.proofs.TreeLeaves.TwoSides.{closed_by_sides, closed_of_sides, next_corner, side_is_one, turns_left}
+-- The leaves of a mesh, and that they are ears.
+mod Ears
+pub use Rattle.meshes.proofs.TreeLeaves.Ears.{leaf_is_ear, leaf_off_walk, leaves_law}

@@ -1,0 +1,5 @@
+pub mod Fits
+pub mod Laws
+pub mod Mesh
+pub mod Side
+pub mod Sleeve

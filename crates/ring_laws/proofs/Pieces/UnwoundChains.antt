@@ -1,0 +1,115 @@
+-- Neither of two pieces beside a diagonal winds round the chain of the other.
+use Rattle.std.proofs.Common.{◌≡◌, ◌⊎◌, inl, inr, ◌∷◌, ◌++◌, sym, ◌∙◌, List, ℤ, pos, ◌*ℤ◌, neg_ℤ, ◌<ℤ◌, ◌≤ℤ◌, arith}
+use Rattle.std.proofs.lemmas.Int.{ints}
+use Rattle.plane.proofs.Points.{whole_is_point}
+use Rattle.plane.proofs.Turns.{determinant_same_ends, determinant_same_last, determinant_swap_first}
+use Rattle.plane.specs.Point.{IsPoint, Point, Triple, whole}
+use Rattle.plane.specs.Turn.{IsLeft, IsRight, determinant}
+use Rattle.rings.proofs.Crossings.{left_swapped, right_swapped}
+use Rattle.rings.proofs.Vertices.{HasPoint, AllEnds, all_ends_map, closed_edges_of, on_some_cases, on_some_left, on_some_right, farthest_of}
+use Rattle.rings.proofs.Vertices.{has_cases, has_left, has_right, all_ends_along, member_on_along}
+use Rattle.rings.specs.Edge.{Edge, IsClosed, IsOnSome, edges_along, edges_of}
+use Rattle.rings.specs.Inside.{winding}
+use Rattle.ring_laws.proofs.Ears.{not_zero_and_one}
+use Rattle.ring_laws.proofs.Pieces.BesideChains.{both_chains}
+use Rattle.ring_laws.proofs.Pieces.PieceConstants.{chain_constant, member_neither}
+use Rattle.ring_laws.proofs.Pieces.PieceHits.{LeftHit, left_hit, on_first_chain, on_second_chain}
+use Rattle.ring_laws.proofs.Pieces.TwoChains.{ArePieces, IsNeither, neither_swapped, swapped}
+use Rattle.ring_laws.proofs.Triangles.{farthest_right}
+
+-- the second piece does not wind round the first chain, but for its ends
+pub record IsUnwound (v z : Point) (ms ns : List Point) : Type 0 where
+  pub value : (x : Triple) → IsPoint x → IsOnSome (edges_along z ms v) x → IsNeither v z x → winding (edges_of (z ∷ v ∷ ns)) x ≡ pos 0
+
+-- so it is where it does not wind round one point of the chain
+unwound_from : (v z : Point) (ms ns : List Point) → ArePieces v z ms ns → (y : Triple) → IsPoint y → IsOnSome (edges_along z ms v) y
+    → IsNeither v z y → winding (edges_of (z ∷ v ∷ ns)) y ≡ pos 0 → IsUnwound v z ms ns
+unwound_from v z ms ns c y at_y on neither zero =
+    record { value = λ x at_x k n. chain_constant v z ms ns c x y at_x at_y k on n neither ∙ zero }
+
+-- ---- the farthest point
+
+-- what is at most as far left is at least as far right
+farther_right : (f g d e : ℤ) → f ≤ℤ g → d ≡ neg_ℤ g → e ≡ neg_ℤ f → d ≤ℤ (e *ℤ pos 1)
+farther_right f g d e h k l = omega (arith, ints)
+
+-- what is 0 is at most what is above a positive number
+above_zero : (f g h : ℤ) → f ≡ pos 0 → pos 0 <ℤ h → h ≤ℤ g → f ≤ℤ g
+above_zero f g h e k l = omega (arith, ints)
+
+-- closed edges do not wind round a point that is as far to the left of the diagonal as all their ends
+farthest_unwound : (v z g : Point) → ¬ (v ≡ z) → (es : List Edge) → IsClosed es → ¬ (IsOnSome es (whole g))
+    → AllEnds (λ x. determinant (whole v) (whole z) (whole x) ≤ℤ determinant (whole v) (whole z) (whole g)) es
+    → winding es (whole g) ≡ pos 0
+farthest_unwound v z g differ es closed off ends =
+    farthest_right z v (λ e. differ (sym e)) es closed (whole g) (whole_is_point g) off
+    (all_ends_map (λ x h. farther_right _ _ _ _ h (determinant_swap_first (whole v) (whole z) (whole g))
+    (determinant_swap_first (whole v) (whole z) (whole x))) es ends)
+
+module _ (v z : Point) (ms ns : List Point) (c : ArePieces v z ms ns) where
+  -- where a member is left of the diagonal, one piece does not wind round the chain of the other
+  some_unwound : (a : Point) → HasPoint (ms ++ ns) a → IsLeft (whole v) (whole z) (whole a) → IsUnwound v z ms ns ⊎ IsUnwound z v ns ms
+  some_unwound a h left =
+      let f = λ (x : Point). determinant (whole v) (whole z) (whole x) in
+      let best = farthest_of f (ms ++ ns) a h in
+      let g = best.point in
+      let P = λ (x : Point). f x ≤ℤ f g in
+      let at_v : P v = above_zero _ _ _ (determinant_same_ends (whole v) (whole z)) left (best.farthest a h tt) in
+      let at_z : P z = above_zero _ _ _ (determinant_same_last (whole v) (whole z)) left (best.farthest a h tt) in
+      elim (has_cases g ms ns best.has_point) [
+        | inl in_first ↦
+            let ends = all_ends_along P v ns z at_v (λ n k. best.farthest n (has_right n ms ns k) tt) at_z in
+            let zero = farthest_unwound v z g c.differ (edges_of (z ∷ v ∷ ns)) (closed_edges_of (z ∷ v ∷ ns)) (c.first_off g in_first)
+            (at_z, at_v, ends) in
+            inl (unwound_from v z ms ns c (whole g) (whole_is_point g) (member_on_along z ms v g in_first)
+            (member_neither v z ms ns c g in_first) zero)
+        | inr in_second ↦
+            let ends = all_ends_along P z ms v at_z (λ m k. best.farthest m (has_left m ms ns k) tt) at_v in
+            let zero = farthest_unwound v z g c.differ (edges_of (v ∷ z ∷ ms)) (closed_edges_of (v ∷ z ∷ ms)) (c.second_off g in_second)
+            (at_v, at_z, ends) in
+            let d = swapped v z ms ns c in
+            inr (unwound_from z v ns ms d (whole g) (whole_is_point g) (member_on_along v ns z g in_second)
+            (member_neither z v ns ms d g in_second) zero)
+      ]
+
+-- ---- both chains
+
+-- neither piece winds round the chain of the other
+pub record AreUnwound (v z : Point) (ms ns : List Point) : Type 0 where
+  pub first : IsUnwound v z ms ns
+  pub second : IsUnwound z v ns ms
+
+-- where the second piece does not wind round the first chain, a hit from the right shows the other
+unwound_by_right : (v z : Point) (ms ns : List Point) → ArePieces v z ms ns → IsUnwound v z ms ns → LeftHit z v ns ms
+    → IsUnwound z v ns ms
+unwound_by_right v z ms ns c u (on_first_chain y at_y on neither zero) =
+    unwound_from z v ns ms (swapped v z ms ns c) y at_y on neither zero
+unwound_by_right v z ms ns c u (on_second_chain y at_y on neither one) =
+    absurd (not_zero_and_one (u.value y at_y on (neither_swapped z v y neither)) one)
+
+-- a member of the lists is on the ring
+member_on_ring : (v z : Point) (ms ns : List Point) (a : Point) → HasPoint (ms ++ ns) a → IsOnSome (both_chains v z ms ns) (whole a)
+member_on_ring v z ms ns a h = elim (has_cases a ms ns h) [
+  | inl k ↦ on_some_left (whole a) (edges_along z ms v) (edges_along v ns z) (member_on_along z ms v a k)
+  | inr k ↦ on_some_right (whole a) (edges_along z ms v) (edges_along v ns z) (member_on_along v ns z a k)
+]
+
+-- the ring is the same with the chains in the other order
+pub ring_exchanged : (v z : Point) (ms ns : List Point) (x : Triple) → IsOnSome (both_chains v z ms ns) x → IsOnSome (both_chains z v ns ms) x
+ring_exchanged v z ms ns x h = elim (on_some_cases x (edges_along z ms v) (edges_along v ns z) h) [
+  | inl k ↦ on_some_right x (edges_along v ns z) (edges_along z ms v) k
+  | inr k ↦ on_some_left x (edges_along v ns z) (edges_along z ms v) k
+]
+
+-- where there are members on both sides of the diagonal, neither piece winds round the chain of the other
+pub chains_unwound : (v z : Point) (ms ns : List Point) → ArePieces v z ms ns → (a b : Point) → HasPoint (ms ++ ns) a
+    → HasPoint (ms ++ ns) b → IsLeft (whole v) (whole z) (whole a) → IsRight (whole v) (whole z) (whole b) → AreUnwound v z ms ns
+chains_unwound v z ms ns c a b in_a in_b left right =
+    let d = swapped v z ms ns c in
+    let from_left = left_hit v z ms ns c a b left right (member_on_ring v z ms ns a in_a) in
+    let from_right = left_hit z v ns ms d b a (left_swapped (whole v) (whole z) (whole b) right)
+    (right_swapped (whole v) (whole z) (whole a) left) (ring_exchanged v z ms ns (whole b) (member_on_ring v z ms ns b in_b)) in
+    elim (some_unwound v z ms ns c a in_a left) [
+      | inl u ↦ record { first = u; second = unwound_by_right v z ms ns c u from_right }
+      | inr u ↦ record { first = unwound_by_right z v ns ms d u from_left; second = u }
+    ]

@@ -1,0 +1,11 @@
+-- The theorem of simple rings: they wind once.
+
+-- The vertex in the triangle at the first vertex of a ring that is farthest from the triangle's base.
+mod FarthestEnd
+pub use Rattle.ring_laws.proofs.Simple.FarthestEnd.{InTriangle, height}
+-- The cut of a ring from its first vertex v to the farthest vertex in the triangle there, and the two pieces.
+mod FarthestCut
+pub use Rattle.ring_laws.proofs.Simple.FarthestCut.{apart_regrouped, farthest_cut, first_runs, ring_regrouped, second_runs}
+-- The theorem of simple rings: a ring runs round once, as it turns at its least vertex.
+mod SimpleRings
+pub use Rattle.ring_laws.proofs.Simple.SimpleRings.{left_turn_law, runs_round, simple_ring_law, triangle_law, winds_once}

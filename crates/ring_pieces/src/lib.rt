@@ -1,2 +1,0 @@
-//! Rings that a segment cuts into two pieces, as laws. There is no code here.
-#![tactic(auto)]

@@ -1,0 +1,140 @@
+-- A point that is farthest in some direction is wound round by no closed list of edges.
+use Rattle.std.proofs.Common.{◌≡◌, ◌≢◌, ◌⊎◌, inl, inr, refl, ◌∙◌, ℕ, ◌+◌, ◌<◌, ◌≤◌, le_refl, List, [], ◌∷◌, arith, ℤ, pos, negsuc, ◌+ℤ◌, ◌-ℤ◌, ◌*ℤ◌}
+use Rattle.std.proofs.Common.{neg_ℤ, ◌<ℤ◌, ◌≤ℤ◌}
+use Rattle.std.proofs.lemmas.Int.{ints}
+use Rattle.std.specs.Prelude.{unsigned_abs}
+use Rattle.integer_algebra.proofs.Polynomial.{var, lit, ◌⊕◌, ◌⊖◌, ◌⊗◌, same_value, zero_value}
+use Rattle.integer_algebra.proofs.SignSteps.{natural_not_negative}
+use Rattle.integer_algebra.proofs.Signs.{is_negative, is_positive, is_zero, mul_order, mul_positive, sign, square_nonnegative, square_positive}
+use Rattle.plane.proofs.Order.{rise}
+use Rattle.plane.specs.Point.{IsPoint, Point, Triple, whole}
+use Rattle.rings.proofs.Crossings.{winding_law}
+use Rattle.rings.proofs.Inside.FarAway.{NoneCrossed, none_crossed_above, none_crossed_below}
+use Rattle.rings.proofs.Inside.Rising.{misses_rising}
+use Rattle.rings.proofs.Vertices.{AllEnds, all_ends_map}
+use Rattle.rings.specs.Edge.{Edge, IsClosed, IsOnSome}
+use Rattle.rings.specs.Inside.{winding}
+
+-- ---- ends within a height
+
+-- a bound of the heights of all ends over p
+height_bound : Triple → List Edge → ℕ
+height_bound p [] = 1
+height_bound p (e ∷ es) = unsigned_abs (rise (whole e.from) p) + unsigned_abs (rise (whole e.to) p) + height_bound p es + 1
+
+-- v is less than n above p, and less than n below it
+record IsWithinHeight (p : Triple) (n : ℤ) (v : Point) : Type 0 where
+  less_above : rise (whole v) p <ℤ n
+  less_below : neg_ℤ n <ℤ rise (whole v) p
+
+-- a number is below each number above its size,
+pub below_abs : (z : ℤ) (n : ℕ) → unsigned_abs z < n → z <ℤ pos n
+below_abs z n h = omega (arith, ints)
+
+-- and above the opposite
+above_abs : (z : ℤ) (n : ℕ) → unsigned_abs z < n → neg_ℤ (pos n) <ℤ z
+above_abs z n h = omega (arith, ints)
+
+-- what is within a height by its size is so in both directions
+within_height : (p : Triple) (n : ℕ) (v : Point) → unsigned_abs (rise (whole v) p) < n → IsWithinHeight p (pos n) v
+within_height p n v h = record { less_above = below_abs _ n h; less_below = above_abs _ n h }
+
+-- all ends are within the bound
+within_bound : (p : Triple) (n : ℕ) (es : List Edge) → height_bound p es ≤ n → AllEnds (IsWithinHeight p (pos n)) es
+unfolding height_bound
+within_bound p n [] h = tt
+within_bound p n (e ∷ es) h =
+    (within_height p n e.from (omega arith), within_height p n e.to (omega arith), within_bound p n es (omega arith))
+
+-- ---- a direction that rises or falls
+
+-- a vector that is not level, and goes forward along (α, β)
+record Ahead (α β : ℤ) : Type 0 where
+  step : ℤ
+  not_level : (pos 0 <ℤ step) ⊎ (step <ℤ pos 0)
+  forward : pos 0 <ℤ (α *ℤ α +ℤ β *ℤ step)
+
+-- a square that is not 0 makes a sum of squares positive
+with_square : (α β : ℤ) → β ≢ pos 0 → pos 0 <ℤ (α *ℤ α +ℤ β *ℤ β)
+with_square α β h = omega (arith, ints, square_nonnegative α, square_positive β h)
+
+-- there is one for each direction
+ahead : (α β : ℤ) → ¬ ((α ≡ pos 0) × (β ≡ pos 0)) → Ahead α β
+ahead α β some = elim (sign β) [
+  | is_negative h ↦ record { step = β; not_level = inr h; forward = with_square α β (λ e. omega (arith, ints)) }
+  | is_positive h ↦ record { step = β; not_level = inl h; forward = with_square α β (λ e. omega (arith, ints)) }
+  | is_zero h ↦ record {
+    step = pos 1;
+    not_level = inl (omega (arith, ints));
+    forward = omega (arith, ints, h, square_positive α (λ e. some (e, h)));
+  }
+]
+
+-- ---- how far a point is beyond the point (X / W, Y / W), along (α, β)
+
+-- a whole point that is not beyond it
+beyond_end : (α β X Y W x y : ℤ) → ((α *ℤ x +ℤ β *ℤ y) *ℤ W) ≤ℤ (α *ℤ X +ℤ β *ℤ Y)
+    → ((α *ℤ W) *ℤ x +ℤ (β *ℤ W) *ℤ y +ℤ (pos 0 -ℤ (α *ℤ X +ℤ β *ℤ Y)) *ℤ pos 1) ≤ℤ pos 0
+beyond_end α β X Y W x y h =
+    let e =
+    same_value ((var 0 ⊗ var 2) ⊗ var 3 ⊕ (var 1 ⊗ var 2) ⊗ var 4) ((var 0 ⊗ var 3 ⊕ var 1 ⊗ var 4) ⊗ var 2)
+    (α ∷ β ∷ W ∷ x ∷ y ∷ []) refl in
+    omega (arith, ints, e)
+
+-- the point itself
+beyond_itself : (α β X Y W : ℤ) → (α *ℤ W) *ℤ X +ℤ (β *ℤ W) *ℤ Y +ℤ (pos 0 -ℤ (α *ℤ X +ℤ β *ℤ Y)) *ℤ W ≡ pos 0
+beyond_itself α β X Y W =
+    zero_value ((var 0 ⊗ var 4) ⊗ var 2 ⊕ (var 1 ⊗ var 4) ⊗ var 3 ⊕ (lit (pos 0) ⊖ (var 0 ⊗ var 2 ⊕ var 1 ⊗ var 3)) ⊗ var 4)
+    (α ∷ β ∷ X ∷ Y ∷ W ∷ []) refl
+
+-- the point t steps on, each of α to the right and s upward
+beyond_steps : (α β X Y W t s : ℤ) →
+    (α *ℤ W) *ℤ (X +ℤ t *ℤ α) +ℤ (β *ℤ W) *ℤ (Y +ℤ t *ℤ s) +ℤ (pos 0 -ℤ (α *ℤ X +ℤ β *ℤ Y)) *ℤ W
+    ≡ (t *ℤ W) *ℤ (α *ℤ α +ℤ β *ℤ s)
+beyond_steps α β X Y W t s =
+    let here = lit (pos 0) ⊖ (var 0 ⊗ var 2 ⊕ var 1 ⊗ var 3) in
+    same_value ((var 0 ⊗ var 4) ⊗ (var 2 ⊕ var 5 ⊗ var 0) ⊕ (var 1 ⊗ var 4) ⊗ (var 3 ⊕ var 5 ⊗ var 6) ⊕ here ⊗ var 4)
+    ((var 5 ⊗ var 4) ⊗ (var 0 ⊗ var 0 ⊕ var 1 ⊗ var 6)) (α ∷ β ∷ X ∷ Y ∷ W ∷ t ∷ s ∷ []) refl
+
+-- ---- far away
+
+-- n steps upward come to a height that is less than n above,
+reached_above : (z Y n s : ℤ) → pos 0 ≤ℤ n → pos 0 <ℤ s → (z -ℤ Y *ℤ pos 1) <ℤ n → z ≤ℤ (Y +ℤ n *ℤ s)
+reached_above z Y n s hn hs h = omega (arith, ints, mul_order (pos 1) s n hn (omega (arith, ints)))
+
+-- and n steps downward below a height that is less than n below
+reached_below : (z Y n s : ℤ) → pos 0 ≤ℤ n → s <ℤ pos 0 → neg_ℤ n <ℤ (z -ℤ Y *ℤ pos 1) → (Y +ℤ n *ℤ s) <ℤ z
+reached_below z Y n s hn hs h = omega (arith, ints, mul_order s (negsuc 0) n hn (omega (arith, ints)))
+
+-- far from p in a direction that is not level no edge is crossed
+far_away : (p : Triple) (es : List Edge) (n : ℕ) → AllEnds (IsWithinHeight p (pos n)) es → (α s : ℤ)
+    → (pos 0 <ℤ s) ⊎ (s <ℤ pos 0) → NoneCrossed es (record { X = p.X +ℤ pos n *ℤ α; Y = p.Y +ℤ pos n *ℤ s; W = p.W })
+far_away p es n ends α s (inl up) =
+    none_crossed_above _ es
+    (all_ends_map (λ v h. reached_above (v.y *ℤ p.W) p.Y (pos n) s (natural_not_negative n) up h.less_above) es ends)
+far_away p es n ends α s (inr down) =
+    none_crossed_below _ es
+    (all_ends_map (λ v h. reached_below (v.y *ℤ p.W) p.Y (pos n) s (natural_not_negative n) down h.less_below) es ends)
+
+-- ---- the law
+
+-- the bound is positive
+bound_positive : (p : Triple) (es : List Edge) → pos 0 <ℤ pos (height_bound p es)
+unfolding height_bound
+bound_positive p [] = omega (arith, ints)
+bound_positive p (e ∷ es) = omega (arith, ints)
+
+-- a rational point on no edge of a closed list, and as far along (α, β) as all ends of the edges, is not wound round
+pub extreme_point : (α β : ℤ) → ¬ ((α ≡ pos 0) × (β ≡ pos 0)) → (es : List Edge) → IsClosed es → (p : Triple) → IsPoint p
+    → ¬ (IsOnSome es p) → AllEnds (λ v. ((α *ℤ v.x +ℤ β *ℤ v.y) *ℤ p.W) ≤ℤ (α *ℤ p.X +ℤ β *ℤ p.Y)) es → winding es p ≡ pos 0
+extreme_point α β some es closed p at_p off ends =
+    let way = ahead α β some in
+    let n : ℕ = height_bound p es in
+    let q : Triple = record { X = p.X +ℤ pos n *ℤ α; Y = p.Y +ℤ pos n *ℤ way.step; W = p.W } in
+    let up = mul_positive (pos n *ℤ p.W) _ (mul_positive (pos n) p.W (bound_positive p es) at_p) way.forward in
+    let not_beyond = all_ends_map (λ v h. beyond_end α β p.X p.Y p.W v.x v.y h) es ends in
+    let misses =
+    misses_rising (α *ℤ p.W) (β *ℤ p.W) (pos 0 -ℤ (α *ℤ p.X +ℤ β *ℤ p.Y)) p q es at_p at_p not_beyond
+    (beyond_itself α β p.X p.Y p.W) (rw (beyond_steps α β p.X p.Y p.W (pos n) way.step) up) off in
+    let far = far_away p es n (within_bound p n es (le_refl n)) α way.step way.not_level in
+    winding_law p q at_p at_p es closed misses ∙ far.no_winding

@@ -1,0 +1,120 @@
+-- Sight, neighbours and reflex vertices of a ring that is read the other way round.
+use Rattle.std.proofs.Common.{◌≡◌, ◌↔◌, inl, inr, ℕ, zero, suc, ◌+◌, ◌-◌, ◌<◌, neg_ℤ, List, length, sym, ap, ◌∙◌, subst, arith}
+use Rattle.std.proofs.Math.Nat.{add-mod_right}
+use Rattle.std.proofs.lemmas.Int.{ints}
+use Rattle.std.specs.Prelude.{slice_index_or}
+use Rattle.plane.proofs.Turns.{determinant_swap_ends}
+use Rattle.plane.specs.Point.{Point, Triple, whole}
+use Rattle.plane.specs.Turn.{determinant}
+use Rattle.rings.proofs.Inside.TurnedInside.{in_turned_iff}
+use Rattle.rings.proofs.Turned.{length-turned_round, turned_from, turned_round-turned_round, turned_to, vertex-turned_round, vertex-turned_round-zero}
+use Rattle.rings.proofs.Turned.{doubled_area-turned_round}
+use Rattle.rings.specs.Bend.{AreNeighbours, IsReflexVertex}
+use Rattle.rings.specs.Orientation.{IsReflex, turn_at, turned_round}
+use Rattle.rings.specs.Ring.{origin, vertex}
+use Rattle.rings.specs.Sees.{Sees}
+
+-- points see each other in a turned ring exactly where they do in the ring
+pub sees_turned_iff : (ring : List Point) (p q : Triple) → Sees (turned_round ring) p q ↔ Sees ring p q
+sees_turned_iff ring p q = (
+  λ sees x at_x on. (in_turned_iff x ring).0 (sees x at_x on),
+  λ sees x at_x on. (in_turned_iff x ring).1 (sees x at_x on),
+)
+
+-- ---- neighbours
+
+-- neighbours in a turned ring are neighbours in the ring
+neighbours_back : (ring : List Point) (u v : Point) → AreNeighbours (turned_round ring) u v → AreNeighbours ring u v
+neighbours_back ring u v n =
+    let below : n.i < length ring = omega (arith, n.in_ring, length-turned_round ring) in
+    let from = turned_from ring n.i below in
+    let to = turned_to ring n.i below in
+    record {
+      i = length ring - 1 - n.i;
+      in_ring = omega arith;
+      ends = elim n.ends [
+        | inl h ↦ inr (sym to ∙ h.1, sym from ∙ h.0)
+        | inr h ↦ inl (sym to ∙ h.1, sym from ∙ h.0)
+      ];
+    }
+
+pub neighbours_turned_iff : (ring : List Point) (u v : Point) → AreNeighbours (turned_round ring) u v ↔ AreNeighbours ring u v
+neighbours_turned_iff ring u v =
+    (neighbours_back ring u v, λ n. neighbours_back (turned_round ring) u v (subst (λ (vs : List Point). AreNeighbours vs u v) (sym (turned_round-turned_round ring)) n))
+
+-- ---- reflex vertices
+
+-- one round more it is the same vertex
+vertex_more : (ring : List Point) (i j : ℕ) → i ≡ j + length ring → vertex ring i ≡ vertex ring j
+vertex_more ring i j e = ap (vertex ring) e ∙ ap (λ k. slice_index_or ring k origin) (add-mod_right j (length ring))
+
+-- three vertices in a row, in a turned ring
+record IsTurnedAt (ring : List Point) (i j : ℕ) : Type 0 where
+  below : j < length ring
+  before : vertex (turned_round ring) (j + (length ring - 1)) ≡ vertex ring (i + 1)
+  at : vertex (turned_round ring) j ≡ vertex ring i
+  after : vertex (turned_round ring) (j + 1) ≡ vertex ring (i + (length ring - 1))
+
+module _ (ring : List Point) where
+  -- each vertex has its number in the turned ring
+  turned_number : (i : ℕ) → i < length ring → (j : ℕ) × IsTurnedAt ring i j
+  turned_number zero h = (
+    0,
+    record {
+      below = h;
+      before = vertex-turned_round ring (0 + (length ring - 1)) (omega arith) ∙ ap (vertex ring) (omega arith);
+      at = vertex-turned_round-zero ring;
+      after = vertex-turned_round ring (0 + 1) (omega arith) ∙ ap (vertex ring) (omega arith);
+    },
+  )
+  turned_number (suc k) h =
+      let j = length ring - 1 - k in
+      let n = length-turned_round ring in (
+        j,
+        record {
+          below = omega arith;
+          before =
+              vertex_more (turned_round ring) (j + (length ring - 1)) (j - 1) (omega arith)
+              ∙ vertex-turned_round ring (j - 1) (omega arith)
+              ∙ ap (vertex ring) (omega arith);
+          at = vertex-turned_round ring j (omega arith) ∙ ap (vertex ring) (omega arith);
+          after =
+              vertex-turned_round ring (j + 1) (omega arith)
+              ∙ ap (vertex ring) (omega arith)
+              ∙ sym (vertex_more ring (suc k + (length ring - 1)) k (omega arith));
+        },
+      )
+
+  -- the turn there is the opposite one
+  turn_at_turned : (i j : ℕ) → IsTurnedAt ring i j → turn_at (turned_round ring) j ≡ neg_ℤ (turn_at ring i)
+  turn_at_turned i j h =
+      let before = ap (λ n. vertex (turned_round ring) (j + (n - 1))) (length-turned_round ring) ∙ h.before in
+      (λ k. determinant (whole (before k)) (whole (h.at k)) (whole (h.after k)))
+      ∙ determinant_swap_ends (whole (vertex ring (i + (length ring - 1)))) (whole (vertex ring i)) (whole (vertex ring (i + 1)))
+
+  -- and so is the orientation, so a reflex vertex stays one
+  against : (i j : ℕ) → IsTurnedAt ring i j → IsReflex ring i → IsReflex (turned_round ring) j
+  against i j h reflex =
+      let area = doubled_area-turned_round ring in
+      let turn = turn_at_turned i j h in
+      elim reflex [
+        | inl k ↦ inr (omega (arith, ints, area, k.0), omega (arith, ints, turn, k.1))
+        | inr k ↦ inl (omega (arith, ints, area, k.0), omega (arith, ints, turn, k.1))
+      ]
+
+  reflex_turned : (v : Point) → IsReflexVertex ring v → IsReflexVertex (turned_round ring) v
+  reflex_turned v r =
+      let (j, h) = turned_number r.i r.in_ring in
+      record {
+        i = j;
+        in_ring = omega (arith, h.below, length-turned_round ring);
+        is_vertex = h.at ∙ r.is_vertex;
+        reflex = against r.i j h r.reflex;
+      }
+
+-- the reflex vertices of a ring are those of the turned ring
+pub reflex_turned_iff : (ring : List Point) (v : Point) → IsReflexVertex (turned_round ring) v ↔ IsReflexVertex ring v
+reflex_turned_iff ring v = (
+  λ r. subst (λ (vs : List Point). IsReflexVertex vs v) (turned_round-turned_round ring) (reflex_turned (turned_round ring) v r),
+  reflex_turned ring v,
+)

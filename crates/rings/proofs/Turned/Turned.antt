@@ -1,0 +1,94 @@
+-- A ring read the other way round: its edges are those of the ring, the last one first, each read backward.
+use Rattle.std.proofs.Common.{◌≡◌, ℕ, suc, ◌+◌, ◌-◌, ◌<◌, ◌≤◌, List, [], ◌∷◌, ◌++◌, length, reverse, inl, inr, zero, refl, ap, sym, ◌∙◌, arith}
+use Rattle.std.proofs.lemmas.Bool.{cases_lt}
+use Rattle.std.proofs.lemmas.List.{get_or-reverse, length-reverse, reverse-reverse}
+use Rattle.std.specs.Prelude.{slice_index_or}
+use Rattle.plane.specs.Point.{Point}
+use Rattle.rings.proofs.Vertices.{backward, reverse-cons, vertex_in_range, vertex_round}
+use Rattle.rings.specs.Edge.{Edge, edges_along, edges_of}
+use Rattle.rings.specs.Orientation.{turned_round}
+use Rattle.rings.specs.Ring.{origin, vertex}
+
+-- ---- the list of vertices
+
+-- as many vertices
+pub length-turned_round : (ring : List Point) → length (turned_round ring) ≡ length ring
+length-turned_round [] = refl
+length-turned_round (v ∷ vs) = ap suc (length-reverse vs)
+
+-- turned twice, the ring is as before
+pub turned_round-turned_round : (ring : List Point) → turned_round (turned_round ring) ≡ ring
+turned_round-turned_round [] = refl
+turned_round-turned_round (v ∷ vs) = ap (λ ws. v ∷ ws) (reverse-reverse vs)
+
+-- ---- edges
+
+-- one more point on the way is one more edge
+edges_along_push : (v : Point) (ws : List Point) (x last : Point)
+    → edges_along v (ws ++ x ∷ []) last ≡ edges_along v ws x ++ record { from = x; to = last } ∷ []
+edges_along_push v [] x last = refl
+edges_along_push v (w ∷ ws) x last = ap (λ es. record { from = v; to = w } ∷ es) (edges_along_push w ws x last)
+
+-- the way back
+edges_along-reverse : (v : Point) (ws : List Point) (last : Point) → edges_along last (reverse ws) v ≡ reverse (backward (edges_along v ws last))
+edges_along-reverse v [] last = refl
+edges_along-reverse v (w ∷ ws) last =
+    let e : Edge = record { from = w; to = v } in
+    ap (λ us. edges_along last us v) (reverse-cons w ws)
+    ∙ edges_along_push last (reverse ws) w v
+    ∙ ap (λ es. es ++ e ∷ []) (edges_along-reverse w ws last)
+    ∙ sym (reverse-cons e (backward (edges_along w ws last)))
+
+-- the edges of a turned ring
+pub edges_of-turned_round : (ring : List Point) → edges_of (turned_round ring) ≡ reverse (backward (edges_of ring))
+edges_of-turned_round [] = refl
+edges_of-turned_round (v ∷ vs) = edges_along-reverse v vs v
+
+-- ---- vertices by their numbers
+
+-- behind the first vertex they are those of the rest
+vertex_behind : (v : Point) (vs : List Point) (j k : ℕ) → j ≡ suc k → k < length vs → vertex (v ∷ vs) j ≡ slice_index_or vs k origin
+vertex_behind v vs j k e h = vertex_in_range (v ∷ vs) j origin (omega arith) ∙ ap (λ n. slice_index_or (v ∷ vs) n origin) e
+
+-- so the two lists have them in opposite orders
+vertex_reversed : (v : Point) (vs : List Point) (k : ℕ) → k < length vs → vertex (v ∷ reverse vs) (suc k) ≡ vertex (v ∷ vs) (length vs - k)
+vertex_reversed v vs k h =
+    vertex_behind v (reverse vs) (suc k) k refl (omega (arith, length-reverse vs))
+    ∙ get_or-reverse vs k origin h
+    ∙ sym (vertex_behind v vs (length vs - k) (length vs - 1 - k) (omega arith) (omega arith))
+
+-- the first vertex stays
+vertex_first : (v : Point) (vs : List Point) → vertex (v ∷ vs) 0 ≡ v
+vertex_first v vs = vertex_in_range (v ∷ vs) 0 origin (omega arith)
+
+-- it also comes after the last
+vertex_last : (v : Point) (vs : List Point) (n : ℕ) → n ≡ length (v ∷ vs) → vertex (v ∷ vs) n ≡ v
+vertex_last v vs n e = ap (vertex (v ∷ vs)) e ∙ vertex_round (v ∷ vs) (omega arith) ∙ vertex_first v vs
+
+-- vertex 0 is that of the ring
+pub vertex-turned_round-zero : (ring : List Point) → vertex (turned_round ring) 0 ≡ vertex ring 0
+vertex-turned_round-zero [] = refl
+vertex-turned_round-zero (v ∷ vs) = vertex_first v (reverse vs) ∙ sym (vertex_first v vs)
+
+-- vertex j is vertex n - j of the ring
+pub vertex-turned_round : (ring : List Point) (j : ℕ) → j ≤ length ring → vertex (turned_round ring) j ≡ vertex ring (length ring - j)
+vertex-turned_round [] j h = refl
+vertex-turned_round (v ∷ vs) zero h = vertex_first v (reverse vs) ∙ sym (vertex_last v vs _ (omega arith))
+vertex-turned_round (v ∷ vs) (suc k) h = elim (cases_lt k (length vs)) [
+  | inl less ↦ vertex_reversed v vs k less ∙ ap (vertex (v ∷ vs)) (omega arith)
+  | inr most ↦
+      vertex_last v (reverse vs) (suc k) (omega (arith, length-reverse vs))
+      ∙ sym (vertex_first v vs)
+      ∙ ap (vertex (v ∷ vs)) (omega arith)
+]
+
+-- ---- edges by their numbers
+
+module _ (ring : List Point) (i : ℕ) (h : i < length ring) where
+  -- edge i goes from the end of edge n - 1 - i of the ring
+  pub turned_from : vertex (turned_round ring) i ≡ vertex ring (length ring - 1 - i + 1)
+  turned_from = vertex-turned_round ring i (omega arith) ∙ ap (vertex ring) (omega arith)
+
+  -- to its beginning
+  pub turned_to : vertex (turned_round ring) (i + 1) ≡ vertex ring (length ring - 1 - i)
+  turned_to = vertex-turned_round ring (i + 1) (omega arith) ∙ ap (vertex ring) (omega arith)

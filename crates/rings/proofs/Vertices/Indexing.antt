@@ -1,0 +1,177 @@
+-- The edges of a ring by their numbers: edge i goes from vertex i to the next.
+use Rattle.std.proofs.Common.{◌≡◌, ◌⊎◌, inl, inr, refl, sym, subst, ap, ◌∙◌, ℕ, zero, suc, ◌+◌, ◌<◌, add-one, arith, true, false, cond, List, [], ◌∷◌}
+use Rattle.std.proofs.Common.{◌++◌, length, get_or, take, drop}
+use Rattle.std.proofs.Math.Nat.{mod-eq_of_lt}
+use Rattle.std.proofs.lemmas.Bool.{cases_lt}
+use Rattle.std.proofs.lemmas.List.{get_or_append_left, get_or_at, take_all, take_more, take-append-drop, drop_more}
+use Rattle.std.proofs.lemmas.List.Elements.{All-head, All-tail}
+use Rattle.std.proofs.lemmas.List.Sums.{sum_by_push}
+use Rattle.std.proofs.lemmas.Option.{slice_get-get_or}
+use Rattle.std.specs.List.{All}
+use Rattle.std.specs.Prelude.{◌↔◌, slice_get, Some}
+use Rattle.plane.specs.Point.{Point, Triple, whole}
+use Rattle.plane.specs.Segment.{On}
+use Rattle.rings.proofs.Vertices.Edges.{AllEnds, on_some_cases, on_some_left, on_some_right}
+use Rattle.rings.proofs.Vertices.Vertices.{vertex_in_range, vertex_round}
+use Rattle.rings.specs.Edge.{Edge, IsOnSome, edges_along, edges_of}
+use Rattle.rings.specs.Inside.{crossings, is_crossed}
+use Rattle.rings.specs.Ring.{IsOnEdge, origin, vertex}
+
+-- edge i, counted round
+abbrev pub edge_at : List Point → ℕ → Edge
+edge_at ring i = record { from = vertex ring i; to = vertex ring (i + 1) }
+
+-- ---- vertices
+
+-- after the last vertex comes the first
+round : (v : Point) (vs : List Point) → vertex (v ∷ vs) (length (v ∷ vs)) ≡ v
+round v vs = vertex_round (v ∷ vs) (omega arith) ∙ vertex_in_range (v ∷ vs) 0 origin (omega arith)
+
+-- the vertex after vertex i
+next_is : (v : Point) (vs : List Point) (i : ℕ) → i < length (v ∷ vs) → vertex (v ∷ vs) (i + 1) ≡ get_or (vs ++ v ∷ []) i origin
+next_is v vs i h = elim (cases_lt i (length vs)) [
+  | inl within ↦
+      ap (λ k. get_or (v ∷ vs) k origin) (mod-eq_of_lt (omega arith) ∙ add-one i)
+      ∙ sym (get_or_append_left vs (v ∷ []) origin i within)
+  | inr past ↦
+      let end : length vs ≡ i = omega arith in
+      let end_of_ring : i + 1 ≡ length (v ∷ vs) = omega arith in
+      ap (λ k. vertex (v ∷ vs) k) end_of_ring ∙ round v vs ∙ sym (get_or_at vs v [] origin i end)
+]
+
+-- ---- edges
+
+-- along some points there is an edge for each of them and one more
+length-edges_along : (v : Point) (ws : List Point) (last : Point) → length (edges_along v ws last) ≡ length ws + 1
+length-edges_along v [] last = refl
+length-edges_along v (w ∷ ws) last = let h = length-edges_along w ws last in omega arith
+
+-- a ring has as many edges as vertices
+pub length-edges_of : (ring : List Point) → length (edges_of ring) ≡ length ring
+length-edges_of [] = refl
+length-edges_of (v ∷ vs) = let h = length-edges_along v vs v in omega arith
+
+-- edge i along some points goes from the point at i to the next
+get_or-edges_along : (v : Point) (ws : List Point) (last : Point) (i : ℕ) (d : Edge) (o : Point) → i < length ws + 1
+    → get_or (edges_along v ws last) i d ≡ record { from = get_or (v ∷ ws) i o; to = get_or (ws ++ last ∷ []) i o }
+get_or-edges_along v [] last zero d o h = refl
+get_or-edges_along v [] last (suc i) d o h = absurd (omega arith)
+get_or-edges_along v (w ∷ ws) last zero d o h = refl
+get_or-edges_along v (w ∷ ws) last (suc i) d o h = get_or-edges_along w ws last i d o (omega arith)
+
+-- edge i goes from vertex i to the next
+pub get_or-edges_of : (ring : List Point) (i : ℕ) (d : Edge) → i < length ring → get_or (edges_of ring) i d ≡ edge_at ring i
+get_or-edges_of [] i d h = absurd (omega arith)
+get_or-edges_of (v ∷ vs) i d h =
+    get_or-edges_along v vs v i d origin (omega arith)
+    ∙ (λ k. record { from = sym (vertex_in_range (v ∷ vs) i origin h) k; to = sym (next_is v vs i h) k })
+
+-- which is what the slice holds there
+pub slice_get-edges_of : (ring : List Point) (i : ℕ) → i < length ring → slice_get (edges_of ring) i ≡ Some (edge_at ring i)
+slice_get-edges_of ring i h =
+    let d = edge_at ring i in
+    let within : i < length (edges_of ring) = omega (arith, length-edges_of ring) in
+    slice_get-get_or (edges_of ring) i d within ∙ ap Some (get_or-edges_of ring i d h)
+
+-- ---- points on edges
+
+module _ (p : Triple) where
+  -- a point on the edge at i is on some edge of a list
+  on_some_at : (es : List Edge) (i : ℕ) (d : Edge) → i < length es
+      → On p (whole (get_or es i d).from) (whole (get_or es i d).to) → IsOnSome es p
+  on_some_at [] i d h on = absurd (omega arith)
+  on_some_at (e ∷ es) zero d h on = inl on
+  on_some_at (e ∷ es) (suc i) d h on = inr (on_some_at es i d (omega arith) on)
+
+  -- and a point on some edge is on one at some i
+  some_index : (es : List Edge) → IsOnSome es p
+      → (i : ℕ) × (i < length es) × ((d : Edge) → On p (whole (get_or es i d).from) (whole (get_or es i d).to))
+  some_index [] h = absurd h
+  some_index (e ∷ es) (inl on) = (0, omega arith, λ d. on)
+  some_index (e ∷ es) (inr h) = let (i, within, on) = some_index es h in (suc i, omega arith, on)
+
+  -- a point on edge i is on some edge
+  pub on_some_from : (ring : List Point) (i : ℕ) → i < length ring → IsOnEdge ring i p → IsOnSome (edges_of ring) p
+  on_some_from ring i h on =
+      let d = edge_at ring i in
+      let is = get_or-edges_of ring i d h in
+      on_some_at (edges_of ring) i d (omega (arith, length-edges_of ring))
+      (subst (λ (e : Edge). On p (whole e.from) (whole e.to)) (sym is) on)
+
+  -- and a point on some edge is on an edge i
+  pub on_some_edge : (ring : List Point) → IsOnSome (edges_of ring) p → (i : ℕ) × (i < length ring) × IsOnEdge ring i p
+  on_some_edge ring h =
+      let (i, within, on) = some_index (edges_of ring) h in
+      let below : i < length ring = omega (arith, length-edges_of ring) in
+      let is = get_or-edges_of ring i (edge_at ring i) below in
+      (i, below, subst (λ (e : Edge). On p (whole e.from) (whole e.to)) is (on (edge_at ring i)))
+
+-- ---- a step over the edges
+
+module _ (ring : List Point) (i : ℕ) (within : i < length ring) where
+  -- the first edges and edge i
+  pub take_more_edges : take (i + 1) (edges_of ring) ≡ take i (edges_of ring) ++ edge_at ring i ∷ []
+  take_more_edges =
+      let d = edge_at ring i in
+      take_more (edges_of ring) i d (omega (arith, length-edges_of ring))
+      ∙ ap (λ (e : Edge). take i (edges_of ring) ++ e ∷ []) (get_or-edges_of ring i d within)
+
+  -- the first edges, edge i, and the others
+  pub split_edges : edges_of ring ≡ take i (edges_of ring) ++ edge_at ring i ∷ drop (i + 1) (edges_of ring)
+  split_edges =
+      let d = edge_at ring i in
+      sym (take-append-drop i (edges_of ring))
+      ∙ ap (λ es. take i (edges_of ring) ++ es) (drop_more (edges_of ring) i d (omega (arith, length-edges_of ring))
+      ∙ ap (λ (e : Edge). e ∷ drop (i + 1) (edges_of ring)) (get_or-edges_of ring i d within))
+
+  module _ (p : Triple) where
+    -- one more edge adds its crossing
+    pub crossings_more : crossings (take (i + 1) (edges_of ring)) p
+        ≡ crossings (take i (edges_of ring)) p + cond (is_crossed (edge_at ring i) p) 1 0
+    crossings_more =
+        ap (λ es. crossings es p) take_more_edges
+        ∙ sum_by_push (λ e. cond (is_crossed e p) 1 0) (take i (edges_of ring)) (edge_at ring i)
+
+    -- one where it is crossed,
+    pub crossings_more_yes : is_crossed (edge_at ring i) p ≡ true
+        → crossings (take (i + 1) (edges_of ring)) p ≡ crossings (take i (edges_of ring)) p + 1
+    crossings_more_yes h = crossings_more ∙ ap (λ b. crossings (take i (edges_of ring)) p + cond b 1 0) h
+
+    -- none where it is not
+    pub crossings_more_no : is_crossed (edge_at ring i) p ≡ false
+        → crossings (take (i + 1) (edges_of ring)) p ≡ crossings (take i (edges_of ring)) p
+    crossings_more_no h = crossings_more ∙ ap (λ b. crossings (take i (edges_of ring)) p + cond b 1 0) h ∙ omega arith
+
+    -- a point on one of them is on an earlier one or on edge i
+    pub on_some_more : IsOnSome (take (i + 1) (edges_of ring)) p ↔ (IsOnSome (take i (edges_of ring)) p ⊎ IsOnEdge ring i p)
+    on_some_more = (
+      λ h.
+          let split = subst (λ es. IsOnSome es p) take_more_edges h in
+          elim (on_some_cases p (take i (edges_of ring)) (edge_at ring i ∷ []) split) [
+            | inl k ↦ inl k
+            | inr k ↦ elim k [ inl on ↦ inr on | inr none ↦ absurd none ]
+          ],
+      λ h. subst (λ es. IsOnSome es p) (sym take_more_edges) (elim h [
+        | inl k ↦ on_some_left p (take i (edges_of ring)) (edge_at ring i ∷ []) k
+        | inr on ↦ on_some_right p (take i (edges_of ring)) (edge_at ring i ∷ []) (inl on)
+      ]),
+    )
+
+-- after as many steps as there are vertices, these are all edges
+pub take_all_edges : (ring : List Point) → take (length ring) (edges_of ring) ≡ edges_of ring
+take_all_edges ring = take_all (length ring) (edges_of ring) (omega (arith, length-edges_of ring))
+
+-- ---- all vertices
+
+-- what holds of all points holds of all ends of the edges along them
+all_ends_along : (P : Point → Type 0) (v : Point) (ws : List Point) (last : Point) → P v → All P ws → P last
+    → AllEnds P (edges_along v ws last)
+all_ends_along P v [] last first rest end = (first, end, tt)
+all_ends_along P v (w ∷ ws) last first rest end =
+    let next = All-head P w ws rest in
+    (first, next, all_ends_along P w ws last next (All-tail P w ws rest) end)
+
+-- what holds of all vertices holds of all ends of the edges
+pub all_ends_of : (P : Point → Type 0) (ring : List Point) → All P ring → AllEnds P (edges_of ring)
+all_ends_of P [] h = tt
+all_ends_of P (v ∷ vs) h = let first = All-head P v vs h in all_ends_along P v vs v first (All-tail P v vs h) first

@@ -1,0 +1,59 @@
+-- Near a rational point: the way from it to another point misses all edges that it is not on.
+use Rattle.std.proofs.Common.{le_refl, inl, inr, ◌+◌, List, [], ◌∷◌, arith}
+use Rattle.plane.proofs.Nearness.{apart_between, Eventually, apart_eventually, toward, toward_differs, toward_is_point, toward_on}
+use Rattle.plane.proofs.Points.{whole_is_point}
+use Rattle.plane.specs.Point.{IsPoint, IsSame, Triple, whole}
+use Rattle.plane.specs.Segment.{On}
+use Rattle.rings.specs.Across.{Misses}
+use Rattle.rings.specs.Edge.{Edge, IsOnSome}
+
+module _ (x c : Triple) (at_x : IsPoint x) (at_c : IsPoint c) where
+  -- near a point that is on none of some edges, the way from it to another misses them
+  pub misses_eventually : (es : List Edge) → ¬ (IsOnSome es x) → Eventually (λ n. Misses x (toward x c n) es)
+  misses_eventually [] off = record { start = 0; from_start = λ n above z at_z on h. h }
+  misses_eventually (e ∷ es) off =
+      let apart = apart_eventually x c at_x at_c (whole e.from) (whole e.to) (whole_is_point e.from) (whole_is_point e.to) in
+      let first = apart (λ on. off (inl on)) in
+      let rest = misses_eventually es (λ h. off (inr h)) in
+      record {
+        start = first.start + rest.start;
+        from_start = λ n above z at_z on h. elim h [
+          | inl on_e ↦ first.from_start n (omega arith) (record { point = z; rational = at_z; on_first = on; on_second = on_e })
+          | inr on_es ↦ rest.from_start n (omega arith) z at_z on on_es
+        ];
+      }
+
+-- a rational point other than x on the segment from x to c, with the way to it
+pub record Near (x c : Triple) (es : List Edge) : Type 0 where
+  pub point : Triple
+  pub rational : IsPoint point
+  pub on : On point x c
+  pub differs : ¬ (IsSame point x)
+  pub misses : Misses x point es
+
+-- some way from x toward c misses all edges that x is not on
+pub shrink : (x c : Triple) (es : List Edge) → IsPoint x → IsPoint c → ¬ (IsSame c x) → ¬ (IsOnSome es x) → Near x c es
+shrink x c es at_x at_c differ off =
+    let near = misses_eventually x c at_x at_c es off in
+    record {
+      point = toward x c near.start;
+      rational = toward_is_point x c at_x at_c near.start;
+      on = toward_on x c at_x at_c near.start;
+      differs = toward_differs x c near.start differ;
+      misses = near.from_start near.start (le_refl near.start);
+    }
+
+module _ (m p q : Triple) (at_m : IsPoint m) (at_p : IsPoint p) (at_q : IsPoint q) where
+  -- near a point that is on none of some edges, the segment between two ways from it misses them
+  pub misses_between : (es : List Edge) → ¬ (IsOnSome es m) → Eventually (λ n. Misses (toward m p n) (toward m q n) es)
+  misses_between [] off = record { start = 0; from_start = λ n above z at_z on h. h }
+  misses_between (e ∷ es) off =
+      let first = apart_between m p q at_m at_p at_q (whole e.from) (whole e.to) (whole_is_point e.from) (whole_is_point e.to) (λ on. off (inl on)) in
+      let rest = misses_between es (λ h. off (inr h)) in
+      record {
+        start = first.start + rest.start;
+        from_start = λ n above z at_z on h. elim h [
+          | inl on_e ↦ first.from_start n (omega arith) (record { point = z; rational = at_z; on_first = on; on_second = on_e })
+          | inr on_es ↦ rest.from_start n (omega arith) z at_z on on_es
+        ];
+      }
