@@ -1,3 +1,4 @@
 pub mod LocationFits
 pub mod SearchSteps
 pub mod SearchWalks
+pub mod SightLines

@@ -1,6 +1,7 @@
 ghost use Rattle.std.specs.Prelude.{◌≡◌, ◌<◌, ℕ, List, IfOk, length};
 ghost use Rattle.meshes.specs.Side.{IsWalkBetween};
 ghost use Rattle.meshes.specs.Sleeve.{IsOneOf};
+ghost use Rattle.dual_tree.specs.Sight.{SeesThrough};
 
 use crate::search::walk_between;
 use exact_plane::Memory;
@@ -15,6 +16,7 @@ pub fn sleeve(alloc: Global, mesh: &Mesh, from: u32, to: u32) -> Result<Sleeve, 
     ensures between { IfOk result (λ sleeve. IsWalkBetween mesh.now from to sleeve.walk) }
     ensures same { IfOk result (λ sleeve. from ≡ to → length sleeve.diagonals ≡ 0) }
     ensures only { IfOk result (λ sleeve. (walk : List ℕ) → IsWalkBetween mesh.now from to walk → walk ≡ sleeve.walk) }
+    ensures sight { IfOk result (SeesThrough mesh.now from to) }
 {
     let _count = mesh.count();
     let walk = walk_between(alloc, mesh, from, to)?;
