@@ -101,8 +101,11 @@ module _ (a b x y : ℤ)
       let fits_difference : FitsSigned w128 (a *ℤ y -ℤ b *ℤ x) = omega (arith, ints, offsets_first, offsets_second) in
       simp to_z-of_z
 
+  pub offsets_small : unsigned_abs (wide (wide (wide (read a) *ℤ wide y) -ℤ wide (wide (read b) *ℤ wide x))) < 2 ^ 101
+  offsets_small = rw offsets_read (omega (arith, ints, offsets_first, offsets_second))
+
 -- all that their cross product needs
-pub ruleset cross_offsets = (offsets_fit, offsets_read)
+pub ruleset cross_offsets = (offsets_fit, offsets_read, offsets_small)
 
 module _ (x w : ℤ) (small_x : unsigned_abs x < 2 ^ 75) (small_w : unsigned_abs w < 2 ^ 50) where
   -- a part of a point with the weight of another
@@ -118,8 +121,11 @@ module _ (x w : ℤ) (small_x : unsigned_abs x < 2 ^ 75) (small_w : unsigned_abs
   pub part_read : wide (wide x *ℤ wide w) ≡ x *ℤ w
   part_read = to_z-of_z w128 _ part_fits ∙ part_is
 
+  pub part_small : unsigned_abs (wide (wide x *ℤ wide w)) < 2 ^ 125
+  part_small = rw part_read (product_size x w (2 ^ 75) (2 ^ 50) small_x small_w)
+
 -- all that it needs
-pub ruleset part_product = (part_fits, part_read)
+pub ruleset part_product = (part_fits, part_read, part_small)
 
 -- the cross product of a way and the offsets from its start is the determinant
 pub ruleset offsets_are_determinant = (determinant_by_offsets, to_z-of_z)

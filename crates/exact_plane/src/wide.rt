@@ -35,13 +35,24 @@ pub fn offset(part: i128, coordinate: i128, weight: i128) -> i128
 pub fn cross_offsets(way: Vector, x: i128, y: i128) -> i128
     requires x { unsigned_abs x < 2 ^ 76 }
     requires y { unsigned_abs y < 2 ^ 76 }
-    ensures { result ≡ (way.x *ℤ y) -ℤ (way.y *ℤ x) }
+    ensures value { result ≡ (way.x *ℤ y) -ℤ (way.y *ℤ x) }
+    ensures small { unsigned_abs result < 2 ^ 101 }
 {
     way.x as i128 * y - way.y as i128 * x
 }
 
-// Compares two parts by what they are without their weights.
+// A part of a rational point with the weight of another.
 #[tactic(auto, using(crate::proofs::WideProducts::part_product))]
+pub fn scaled(part: i128, weight: i128) -> i128
+    requires part { unsigned_abs part < 2 ^ 75 }
+    requires weight { unsigned_abs weight < 2 ^ 50 }
+    ensures value { result ≡ part *ℤ weight }
+    ensures small { unsigned_abs result < 2 ^ 125 }
+{
+    part * weight
+}
+
+// Compares two parts by what they are without their weights.
 pub fn compare(part: i128, weight: i128, other: i128, other_weight: i128) -> Ordering
     requires part { unsigned_abs part < 2 ^ 75 }
     requires weight { unsigned_abs weight < 2 ^ 50 }
@@ -49,5 +60,5 @@ pub fn compare(part: i128, weight: i128, other: i128, other_weight: i128) -> Ord
     requires other_weight { unsigned_abs other_weight < 2 ^ 50 }
     ensures { result ≡ int_cmp (part *ℤ other_weight) (other *ℤ weight) }
 {
-    (part * other_weight).cmp(&(other * weight))
+    scaled(part, other_weight).cmp(&scaled(other, weight))
 }
