@@ -67,9 +67,10 @@ pub fn read_all<S: Source>(alloc: Global, source: &mut S, limit: usize) -> Resul
     ensures within { IfOk result (λ bytes. vec_len bytes ≤ limit) }
     ensures counts { OnOk result (S.faults source.new ≡ S.faults source.old) }
 
-    // What was given before a refusal is gone from the source.
+    // What was given before a refusal is gone from the source. No read fails once more than the limit was given.
     ensures front { OnErr result (GivesFront (S.left source.old) (S.left source.new)) }
     ensures fault { result ≡ Err ReadEnd.Fault → Rose (S.faults source.old) (S.faults source.new) }
+    ensures fault_within { result ≡ Err ReadEnd.Fault → GivesAtMost limit (S.left source.old) (S.left source.new) }
     ensures memory { result ≡ Err ReadEnd.Memory → S.faults source.new ≡ S.faults source.old }
 
     // `TooLong` comes exactly where more than the limit was given and no read failed.
@@ -112,6 +113,7 @@ fn read_pieces<S: Source>(
 
     ensures front { OnErr result (GivesFront (S.left source.old) (S.left source.new)) }
     ensures fault { result ≡ Err ReadEnd.Fault → Rose (S.faults source.old) (S.faults source.new) }
+    ensures fault_within { result ≡ Err ReadEnd.Fault → GivesAtMost limit (S.left source.old) (S.left source.new) }
     ensures memory { result ≡ Err ReadEnd.Memory → S.faults source.new ≡ S.faults source.old }
     ensures too_long { result ≡ Err ReadEnd.TooLong →
         GivesMoreThan limit (S.left source.old) (S.left source.new) }
