@@ -21,9 +21,9 @@ fault_text bad.Few = codes "few"
 fault_text bad.Many = codes "many"
 fault_text (bad.Number place) = codes "number" ++ index_text place
 fault_text (bad.Range place) = codes "range" ++ index_text place
+fault_text (bad.Clash i j) = codes "clash" ++ index_text i ++ index_text j
 fault_text bad.NoPolygon = codes "no_polygon"
 fault_text (bad.Outside point) = codes "outside" ++ index_text point
-fault_text (bad.Clash i j) = codes "clash" ++ index_text i ++ index_text j
 fault_text bad.Later = codes "later"
 
 -- the whole line of a refusal

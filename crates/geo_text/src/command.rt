@@ -14,14 +14,12 @@ pub enum Command {
     Path(Pt, Pt),
 }
 
-/// Why a record is refused, in the order in which the refusals are looked for. Places are those of fields, and the
-/// first field after the command word has place 1.
+/// Why a record is refused. `Later` is looked for after `Word`, and the others in this order. Places are those of fields,
+/// and the first field after the command word has place 1.
 #[derive(Clone, Copy, Debug, PartialEq, Eq)]
 pub enum Bad {
     /// Field 0 is no command word.
     Word,
-    /// The word is known, and nothing answers it yet.
-    Later,
     /// The count of fields is wrong for the word; for a list of points, it is odd.
     Fields,
     /// A list has fewer points than its command takes.
@@ -32,10 +30,12 @@ pub enum Bad {
     Number(u32),
     /// Every field is a number, and the one at this place is the first that passes the coordinate limit.
     Range(u32),
+    /// Edges i < j of the polygon, as it was given, clash, and no lesser pair does.
+    Clash(u32, u32),
     /// No polygon was accepted yet.
     NoPolygon,
     /// The command's point with this number, counted from 1, is the first that is not in the polygon.
     Outside(u32),
-    /// Edges i < j of the polygon, as it was given, clash, and no lesser pair does.
-    Clash(u32, u32),
+    /// The word is known, and nothing answers it yet.
+    Later,
 }

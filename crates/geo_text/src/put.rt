@@ -83,18 +83,18 @@ fn put_line(out: &mut Vec<u8>, bad: &Bad) -> Result<(), Memory>
     put_word(out, "bad,")?;
     match bad {
         Bad::Word => put_word(out, "word")?,
-        Bad::Later => put_word(out, "later")?,
         Bad::Fields => put_word(out, "fields")?,
         Bad::Few => put_word(out, "few")?,
         Bad::Many => put_word(out, "many")?,
         Bad::Number(place) => put_with(out, "number", *place)?,
         Bad::Range(place) => put_with(out, "range", *place)?,
-        Bad::NoPolygon => put_word(out, "no_polygon")?,
-        Bad::Outside(point) => put_with(out, "outside", *point)?,
         Bad::Clash(i, j) => {
             put_with(out, "clash", *i)?;
             put_index(out, *j)?;
         }
+        Bad::NoPolygon => put_word(out, "no_polygon")?,
+        Bad::Outside(point) => put_with(out, "outside", *point)?,
+        Bad::Later => put_word(out, "later")?,
     }
     put_line_end(out)
 }

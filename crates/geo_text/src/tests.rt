@@ -78,15 +78,15 @@ fn long_scripts(rt: HostRuntime) -> Result<(), Fail> {
 fn refusals(rt: HostRuntime) -> Result<(), Fail> {
     let cases = [
         (Bad::Word, b"bad,word\n".as_slice()),
-        (Bad::Later, b"bad,later\n"),
         (Bad::Fields, b"bad,fields\n"),
         (Bad::Few, b"bad,few\n"),
         (Bad::Many, b"bad,many\n"),
         (Bad::Number(1), b"bad,number,1\n"),
         (Bad::Range(8192), b"bad,range,8192\n"),
+        (Bad::Clash(0, 4_294_967_295), b"bad,clash,0,4294967295\n"),
         (Bad::NoPolygon, b"bad,no_polygon\n"),
         (Bad::Outside(2), b"bad,outside,2\n"),
-        (Bad::Clash(0, 4_294_967_295), b"bad,clash,0,4294967295\n"),
+        (Bad::Later, b"bad,later\n"),
     ];
     for (bad, want) in cases {
         let mut out = Vec::new(rt.alloc());

@@ -9,7 +9,8 @@ use std::cmp::Ordering;
 pub(crate) fn multiplied(x: i128, w: i128) -> i128
     requires x_is_small { unsigned_abs x < 2 ^ 75 }
     requires w_is_small { unsigned_abs w < 2 ^ 50 }
-    ensures { result ≡ x *ℤ w }
+    ensures value { result ≡ x *ℤ w }
+    ensures small { unsigned_abs result < 2 ^ 125 }
 {
     x * w
 }
