@@ -22,6 +22,16 @@ names_on_way given names a h = given ++ left_names names a (a - h) ++ right_name
 abbrev pub points_on_way : List Point → List Point → ℕ → ℕ → List Point
 points_on_way before ns a h = before ++ left_behind ns a (a - h) ++ right_behind ns (min a h) (h - min a h)
 
+-- names that begin with the start,
+begin : (ns : List Spot) → 0 < length ns → name_at ns 0 ≡ Start → (others : List Spot) × (ns ≡ Start ∷ others)
+begin [] some first = absurd (omega (arith, some))
+begin (n ∷ ns) some first = (ns, ap (λ m. m ∷ ns) first)
+
+-- also where the last one is another, unless it is the first
+begin_before : (ns rest : List Spot) (n : Spot) → name_at (ns ++ n ∷ []) 0 ≡ Start → ¬ (n ≡ Start) → (others : List Spot) × (ns ++ rest ≡ Start ∷ others)
+begin_before [] rest n first other = absurd (other first)
+begin_before (m ∷ ns) rest n first other = (ns ++ rest, ap (λ l. l ∷ (ns ++ rest)) first)
+
 module _ (corners : List Point) (start goal : Point) (given names : List Spot) (a i j : ℕ)
     (w : IsWalked corners start goal given names a i j) (differ : start ≢ goal) (h : ℕ) (within : h < length names) where
   -- the point that a name stands for
@@ -87,6 +97,10 @@ module _ (corners : List Point) (start goal : Point) (given names : List Spot) (
     pub named_at_goal : AreNamed corners (way ++ Goal ∷ [])
     named_at_goal = All-append (IsNamed corners) way (Goal ∷ []) way_named (one_named corners Goal tt)
 
+    -- the first is the start,
+    pub starts_at_goal : (others : List Spot) × (way ++ Goal ∷ [] ≡ Start ∷ others)
+    starts_at_goal = begin_before way (Goal ∷ []) (name_at names h) way_starts (λ first. differ (ap at (sym first) ∙ at_goal))
+
     -- these are the same points,
     same_points : named_points at (way ++ Goal ∷ []) ≡ named_points at (way ++ name_at names h ∷ [])
     same_points = named_push at way Goal ∙ ap (λ v. named_points at way ++ v ∷ []) (sym at_goal) ∙ sym (named_push at way (name_at names h))
@@ -124,6 +138,10 @@ module _ (corners : List Point) (start goal : Point) (given names : List Spot) (
     first_of_all : name_at (way ++ name_at names h ∷ [] ++ Goal ∷ []) 0 ≡ Start
     first_of_all = get_or_append_left (way ++ name_at names h ∷ []) (Goal ∷ []) Start 0
         (omega (arith, length-append way (name_at names h ∷ []))) ∙ way_starts
+
+    pub starts_to_goal : (others : List Spot) × (way ++ name_at names h ∷ [] ++ Goal ∷ [] ≡ Start ∷ others)
+    starts_to_goal = begin (way ++ name_at names h ∷ [] ++ Goal ∷ [])
+        (omega (arith, length-append (way ++ name_at names h ∷ []) (Goal ∷ []))) first_of_all
 
     -- and they are a taut chain
     pub taut_to_goal : IsTaut corners start goal (named_points at (way ++ name_at names h ∷ [] ++ Goal ∷ []))

@@ -1,5 +1,5 @@
 -- The names from the start over the points that the way to the goal leaves behind stand for a taut chain.
-use Rattle.std.proofs.Common.{◌≡◌, ◌≢◌, refl, sym, ◌∙◌, ℕ, ◌+◌, ◌<◌, List, [], ◌∷◌, ◌++◌, length, get_or, arith}
+use Rattle.std.proofs.Common.{◌≡◌, ◌≢◌, refl, sym, ap, subst, ◌∙◌, ℕ, ◌+◌, ◌<◌, List, [], ◌∷◌, ◌++◌, length, get_or, arith}
 use Rattle.plane.proofs.Points.{whole_is_point}
 use Rattle.plane.specs.Point.{Point, whole}
 use Rattle.rings.specs.Chain.{IsBentChain, IsTaut, point_at}
@@ -14,11 +14,12 @@ use Rattle.funnels.proofs.Vertices.{shared_back, fitted_counterclockwise, fitted
 use Rattle.funnels.specs.Funnel.{IsReachedFrom}
 use Rattle.exact_plane.specs.Spot.{point_named}
 use Rattle.exact_plane.specs.declared.turns.Spot.{Spot}
-use Rattle.exact_plane.specs.declared.turns.Spot.TheVariants.{Goal}
-use Rattle.funnel_walk.proofs.Closed.{named_at_goal, named_to_goal, names_on_way, points_on_way, taut_at_goal, taut_to_goal}
+use Rattle.exact_plane.specs.declared.turns.Spot.TheVariants.{Goal, Start}
+use Rattle.funnel_walk.proofs.Closed.{named_at_goal, named_to_goal, names_on_way, points_on_way, starts_at_goal, starts_to_goal, taut_at_goal}
+use Rattle.funnel_walk.proofs.Closed.{taut_to_goal}
 use Rattle.funnel_walk.proofs.NamedLists.{length_named, point_of_name}
 use Rattle.funnel_walk.proofs.NextDiagonals.{enters, shared, third_of}
-use Rattle.funnel_walk.specs.Names.{AreNamed, name_at, named_points}
+use Rattle.funnel_walk.specs.Names.{AppendsTaut, AreNamed, name_at, named_points}
 use Rattle.funnel_walk.specs.Walked.{IsWalked}
 
 module _ (corners : List Point) (tris : List Tri) (fits : Fits corners tris) (sleeve : Sleeve) (of_mesh : IsOneOf tris sleeve)
@@ -72,26 +73,38 @@ module _ (corners : List Point) (tris : List Tri) (fits : Fits corners tris) (sl
       h goal in_goal reached
       (fitted_simple corners tris fits) (fitted_long corners tris fits) (fitted_counterclockwise corners tris fits) seen differs)
 
+  -- names that begin with the start and are a taut chain,
+  appends : (ms others : List Spot) → ms ≡ Start ∷ others → (out out' : List Spot) → out' ≡ out ++ ms
+      → AreNamed corners ms → IsTaut corners start goal (named_points at ms) → AppendsTaut corners start goal out out'
+  appends ms others first out out' appended named taut = record {
+    others = others;
+    appended = appended ∙ ap (λ l. out ++ l) first;
+    alone = λ same. absurd (differ same);
+    named = subst (AreNamed corners) first named;
+    taut = subst (λ l. IsTaut corners start goal (named_points at l)) first taut;
+  }
+
   -- where that point is the goal, its name is left out,
-  pub taut_there : at (name_at names h) ≡ goal
-      → AreNamed corners (names_on_way given names a h ++ Goal ∷ [])
-      × IsTaut corners start goal (named_points at (names_on_way given names a h ++ Goal ∷ []))
-  taut_there at_goal =
+  pub taut_there : at (name_at names h) ≡ goal → (out out' : List Spot) → out' ≡ out ++ (names_on_way given names a h ++ Goal ∷ [])
+      → AppendsTaut corners start goal out out'
+  taut_there at_goal out out' appended =
       let l = (diagonal_at sleeve i).left in
       let r = (diagonal_at sleeve i).right in
       let chain = chain_to corners ns a (vertex corners l) (vertex corners r) w.funnel.funnel w.funnel.sight before w.funnel.bent
-      h reached.within in (
-        named_at_goal corners start goal given names a l r w differ h within at_goal chain,
-        taut_at_goal corners start goal given names a l r w differ h within at_goal chain,
-      )
+      h reached.within in
+      let first = starts_at_goal corners start goal given names a l r w differ h within at_goal chain in
+      appends (names_on_way given names a h ++ Goal ∷ []) first.0 first.1 out out' appended
+      (named_at_goal corners start goal given names a l r w differ h within at_goal chain)
+      (taut_at_goal corners start goal given names a l r w differ h within at_goal chain)
 
   -- and else the goal comes after it
-  pub taut_on : at (name_at names h) ≢ goal
-      → AreNamed corners (names_on_way given names a h ++ name_at names h ∷ [] ++ Goal ∷ [])
-      × IsTaut corners start goal (named_points at (names_on_way given names a h ++ name_at names h ∷ [] ++ Goal ∷ []))
-  taut_on other =
+  pub taut_on : at (name_at names h) ≢ goal → (out out' : List Spot)
+      → out' ≡ out ++ (names_on_way given names a h ++ name_at names h ∷ [] ++ Goal ∷ []) → AppendsTaut corners start goal out out'
+  taut_on other out out' appended =
       let l = (diagonal_at sleeve i).left in
-      let r = (diagonal_at sleeve i).right in (
-        named_to_goal corners start goal given names a l r w differ h within (goes_on other),
-        taut_to_goal corners start goal given names a l r w differ h within (goes_on other),
-      )
+      let r = (diagonal_at sleeve i).right in
+      let chain = goes_on other in
+      let first = starts_to_goal corners start goal given names a l r w differ h within chain in
+      appends (names_on_way given names a h ++ name_at names h ∷ [] ++ Goal ∷ []) first.0 first.1 out out' appended
+      (named_to_goal corners start goal given names a l r w differ h within chain)
+      (taut_to_goal corners start goal given names a l r w differ h within chain)

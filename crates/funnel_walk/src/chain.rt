@@ -1,13 +1,11 @@
-ghost use Rattle.std.specs.Prelude.{◌≡◌, ◌≢◌, [], ◌∷◌, ◌+◌, ◌-◌, ◌*◌, ◌<◌, ◌≤◌, ◌++◌, List, drop, length, slice_index_or, take, vec_capacity};
+ghost use Rattle.std.specs.Prelude.{◌≡◌, ◌≢◌, [], ◌∷◌, ◌+◌, ◌-◌, ◌*◌, ◌<◌, ◌≤◌, ◌++◌, drop, length, slice_index_or, take, vec_capacity};
 ghost use Rattle.plane.specs.Point.{whole};
-ghost use Rattle.rings.specs.Chain.{IsTaut};
 ghost use Rattle.meshes.specs.Fits.{Fits, IsInTri};
 ghost use Rattle.meshes.specs.Side.{tri_at};
 ghost use Rattle.meshes.specs.Sleeve.{IsOneOf, diagonal_at};
 ghost use Rattle.exact_plane.specs.Spot.{point_named};
-ghost use Rattle.exact_plane.specs.declared.turns.Spot.{Spot};
 ghost use Rattle.exact_plane.specs.declared.turns.Spot.TheVariants.{Goal};
-ghost use Rattle.funnel_walk.specs.Names.{AreNamed, name_at, named_points, right_names};
+ghost use Rattle.funnel_walk.specs.Names.{AppendsTaut, AreNamed, name_at, right_names};
 ghost use Rattle.funnel_walk.specs.Walked.{IsWalked};
 
 use crate::funnel::{name_at, narrow_left, narrow_right};
@@ -34,9 +32,7 @@ pub fn walk<T: Turns, L: Ledger>(
         (whole (T.goal board.now)) }
     requires box_room { length sleeve.now.diagonals ≤ room.old }
     requires out_room { length out.old.items + length sleeve.now.diagonals + 4 ≤ vec_capacity out.old }
-    ensures taut { (names : List Spot) × (out.new.items ≡ out.old.items ++ names) × AreNamed (T.corners board.now) names
-        × IsTaut (T.corners board.now) (T.start board.now) (T.goal board.now)
-        (named_points (point_named (T.corners board.now) (T.start board.now) (T.goal board.now)) names) }
+    ensures taut { AppendsTaut (T.corners board.now) (T.start board.now) (T.goal board.now) out.old.items out.new.items }
     ensures same_room { room.new ≡ room.old }
     ensures same_out { vec_capacity out.new ≡ vec_capacity out.old }
     ensures steps { steps.new ≤ steps.old + 4 * (length sleeve.now.diagonals + 2) }
@@ -69,9 +65,7 @@ fn walk_on<T: Turns, L: Ledger>(
     requires differ { T.start board.now ≢ T.goal board.now }
     requires room { length sleeve.now.diagonals + 4 ≤ names.old.capacity }
     requires out_room { length out.old.items + length sleeve.now.diagonals + 4 ≤ vec_capacity out.old }
-    ensures taut { (names : List Spot) × (out.new.items ≡ out.old.items ++ names) × AreNamed (T.corners board.now) names
-        × IsTaut (T.corners board.now) (T.start board.now) (T.goal board.now)
-        (named_points (point_named (T.corners board.now) (T.start board.now) (T.goal board.now)) names) }
+    ensures taut { AppendsTaut (T.corners board.now) (T.start board.now) (T.goal board.now) out.old.items out.new.items }
     ensures same_room { names.new.capacity ≡ names.old.capacity }
     ensures same_out { vec_capacity out.new ≡ vec_capacity out.old }
     ensures steps { steps.new ≤ steps.old + 2 * (length sleeve.now.diagonals + 2) }

@@ -1,4 +1,4 @@
-use Rattle.std.proofs.Common.{◌≡◌, ◌≢◌, sym, ap, subst, ◌∙◌, ◌-◌, ◌++◌, [], ◌∷◌, length, get_or, arith}
+use Rattle.std.proofs.Common.{◌≡◌, ◌≢◌, refl, sym, ap, subst, ◌∙◌, ◌-◌, ◌++◌, [], ◌∷◌, length, get_or, arith}
 use Rattle.std.proofs.lemmas.Bool.{false≢true}
 use Rattle.std.proofs.lemmas.List.{append_assoc}
 use Rattle.plane.specs.Point.{whole}
@@ -15,13 +15,15 @@ returns-then-same-clause-taut g c =
     let start = g.T.Turns.start c.args.board.now in
     let goal_point = g.T.Turns.goal c.args.board.now in
     let walk = c.requires.of_mesh.walk in
-    let first = get_or c.args.sleeve.now.walk 0 0 in (
-      Start ∷ [],
-      c.push_reserved.ensures.items,
-      one_named corners Start tt,
-      stays corners c.args.mesh.now c.requires.fits first (walk.in_list 0 walk.some) start goal_point c.requires.start
-          (c.same.ensures.same.0 c.if-same.true),
-    )
+    let first = get_or c.args.sleeve.now.walk 0 0 in
+    record {
+      others = [];
+      appended = c.push_reserved.ensures.items;
+      alone = λ _. refl;
+      named = one_named corners Start tt;
+      taut = stays corners c.args.mesh.now c.requires.fits first (walk.in_list 0 walk.some) start goal_point c.requires.start
+          (c.same.ensures.same.0 c.if-same.true);
+    }
 
 pub returns-then-len-eq0-clause-taut : goal.returns-then-len-eq0-clause-taut
 returns-then-len-eq0-clause-taut g c =
@@ -33,11 +35,13 @@ returns-then-len-eq0-clause-taut g c =
     let triangles = c.args.sleeve.now.walk in
     let differ : start ≢ goal_point = λ same. false≢true (sym c.if-same.false ∙ c.same.ensures.same.1 same) in
     let one : length triangles - 1 ≡ 0 = omega (arith, c.requires.of_mesh.count, c.len.ensures.number, c.if-len-eq0.true) in
-    let in_goal = subst (λ i. IsInTri corners (tri_at tris (get_or triangles i 0)) (whole goal_point)) one c.requires.goal in (
-      Start ∷ Goal ∷ [],
-      c.push_reserved-then-len-eq0-2.ensures.items ∙ ap (λ ns. ns ++ Goal ∷ []) c.push_reserved-then-len-eq0.ensures.items
-          ∙ append_assoc c.args.out.now.items (Start ∷ []) (Goal ∷ []),
-      more_named corners Start (Goal ∷ []) tt (one_named corners Goal tt),
-      goes_straight corners tris c.requires.fits (get_or triangles 0 0) (walk.in_list 0 walk.some) start goal_point c.requires.start
-          differ in_goal,
-    )
+    let in_goal = subst (λ i. IsInTri corners (tri_at tris (get_or triangles i 0)) (whole goal_point)) one c.requires.goal in
+    record {
+      others = Goal ∷ [];
+      appended = c.push_reserved-then-len-eq0-2.ensures.items ∙ ap (λ ns. ns ++ Goal ∷ []) c.push_reserved-then-len-eq0.ensures.items
+          ∙ append_assoc c.args.out.now.items (Start ∷ []) (Goal ∷ []);
+      alone = λ same. absurd (differ same);
+      named = more_named corners Start (Goal ∷ []) tt (one_named corners Goal tt);
+      taut = goes_straight corners tris c.requires.fits (get_or triangles 0 0) (walk.in_list 0 walk.some) start goal_point c.requires.start
+          differ in_goal;
+    }

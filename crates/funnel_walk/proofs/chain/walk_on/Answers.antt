@@ -103,23 +103,15 @@ returns-clause-taut g c =
     ∙ way_appended first out names given a h h narrowed.result n inv.before refl narrowed.ensures.apex count in
     elim (same_or_not (at (name_at left h)) goal_point) [
       | inl same ↦
-          let taut = taut_there corners tris c.requires.fits sleeve c.requires.of_mesh start goal_point c.requires.differ i below in_goal
-          (drop given out) names a inv.walked h narrowed.ensures.reached (ap at (sym last_name) ∙ same) in (
-            way ++ Goal ∷ [],
-            c.close.ensures.at_goal same ∙ ap (λ ns. ns ++ Goal ∷ []) appended ∙ append_assoc first way (Goal ∷ []),
-            taut.0,
-            taut.1,
-          )
+          taut_there corners tris c.requires.fits sleeve c.requires.of_mesh start goal_point c.requires.differ i below in_goal
+          (drop given out) names a inv.walked h narrowed.ensures.reached (ap at (sym last_name) ∙ same) first c.close.new.out.items
+          (c.close.ensures.at_goal same ∙ ap (λ ns. ns ++ Goal ∷ []) appended ∙ append_assoc first way (Goal ∷ []))
       | inr other ↦
-          let taut = taut_on corners tris c.requires.fits sleeve c.requires.of_mesh start goal_point c.requires.differ i below in_goal
-          (drop given out) names a inv.walked h narrowed.ensures.reached (λ same. other (ap at last_name ∙ same)) in (
-            way ++ name_at names h ∷ [] ++ Goal ∷ [],
-            c.close.ensures.to_goal other
-                ∙ ap (λ ns. (ns ++ name_at left h ∷ []) ++ Goal ∷ []) appended
-                ∙ ap (λ m. ((first ++ way) ++ m ∷ []) ++ Goal ∷ []) last_name
-                ∙ ap (λ ns. ns ++ Goal ∷ []) (append_assoc first way (name_at names h ∷ []))
-                ∙ append_assoc first (way ++ name_at names h ∷ []) (Goal ∷ []),
-            taut.0,
-            taut.1,
-          )
+          taut_on corners tris c.requires.fits sleeve c.requires.of_mesh start goal_point c.requires.differ i below in_goal
+          (drop given out) names a inv.walked h narrowed.ensures.reached (λ same. other (ap at last_name ∙ same)) first c.close.new.out.items
+          (c.close.ensures.to_goal other
+          ∙ ap (λ ns. (ns ++ name_at left h ∷ []) ++ Goal ∷ []) appended
+          ∙ ap (λ m. ((first ++ way) ++ m ∷ []) ++ Goal ∷ []) last_name
+          ∙ ap (λ ns. ns ++ Goal ∷ []) (append_assoc first way (name_at names h ∷ []))
+          ∙ append_assoc first (way ++ name_at names h ∷ []) (Goal ∷ []))
     ]
