@@ -4,6 +4,7 @@
 mod GrownTurnings
 -- Signs that follow from the relation of four directions, over plain integers: ab is positive where b is left of a.
 mod FanSigns
+pub use Rattle.funnels.proofs.Bends.FanSigns.{Relation, positive_of_not_zero}
 -- A fan at a vertex of a ring: one begins within a step, and one more step makes it longer.
 mod FannedSteps
 -- A triangle of a mesh at one of its corners: its points are in the angle there, and the corner sees them.
@@ -16,12 +17,13 @@ pub use Rattle.funnels.proofs.Bends.Opposites.{opposite_of_not_positive, zero_of
 mod NarrowFans
 -- The two neighbours of a vertex in a simple ring are on two rays from it.
 mod TwoRays
+pub use Rattle.funnels.proofs.Bends.TwoRays.{HasTwoRays, corner_has_two_rays}
 -- A fan at a vertex of a simple ring that turns by more than a half turn makes a bend there.
 mod FanBends
-pub use Rattle.funnels.proofs.Bends.FanBends.{bend_of_fan}
+pub use Rattle.funnels.proofs.Bends.FanBends.{bend_of_fan, not_reflex}
 -- Points on one ray from a vertex: what is left of the one is left of the other.
 mod SameRays
-pub use Rattle.funnels.proofs.Bends.SameRays.{AreOnRay, turning_to_ray}
+pub use Rattle.funnels.proofs.Bends.SameRays.{AreOnRay, on_ray_back, turning_from_ray, turning_to_ray}
 -- A bend over a vertex stays one where it turns farther.
 mod WiderBends
 pub use Rattle.funnels.proofs.Bends.WiderBends.{wider_bend}
@@ -29,11 +31,13 @@ pub use Rattle.funnels.proofs.Bends.WiderBends.{wider_bend}
 mod TriangleSteps
 -- Bends by the turning on one side of their vertex: the neighbours in the ring are not ahead of the one ray, nor behind the other.
 mod BendTurnings
+pub use Rattle.funnels.proofs.Bends.BendTurnings.{turnings_of_bend}
 -- Turnings at a vertex, to the left or on the other side to the right, are such functions as fans are made of.
 mod Turnings
-pub use Rattle.funnels.proofs.Bends.Turnings.{turning_four}
+pub use Rattle.funnels.proofs.Bends.Turnings.{turning_four, turning_swap}
 -- Directions in line with each other, seen from a vertex on either side: of two different lines only the vertex is on both, and what is to one side of a line is on one ray.
 mod InLine
+pub use Rattle.funnels.proofs.Bends.InLine.{level_is_vertex, ray_ahead, ray_behind, turning_differs}
 -- The cone that a fan leaves: where it turns by more than a half turn, all neighbours are in the closed angle from its end to its start.
 mod FanCones
 -- Fans: longer ones, what their steps keep, and that they turn.

@@ -5,4 +5,5 @@ pub mod Parts
 pub mod Sight
 pub mod TreeLeaves
 pub mod Ears
+pub mod Triangulations
 pub mod KnownMeshes

@@ -2,8 +2,10 @@
 use Rattle.std.specs.Prelude.{◌≡◌, ◌↔◌, ℕ, ◌+◌, ◌-◌, ◌<◌, ◌≤◌, List, [], ◌∷◌, ◌++◌, length, slice_index_or, zero, suc}
 use Rattle.plane.specs.Point.{IsPoint, Point, Triple, whole}
 use Rattle.plane.specs.Segment.{Meet, On}
+use Rattle.rings.specs.Orientation.{IsCounterclockwise}
 use Rattle.rings.specs.Ring.{vertex}
 use Rattle.rings.specs.Sees.{Sees}
+use Rattle.rings.specs.Simple.{IsSimple}
 use Rattle.meshes.specs.Fits.{Fits, FitsPiece, IsInTri, IsPieceEdge, IsSideOfTwo, piece_points}
 use Rattle.meshes.specs.Side.{HasSide, HasSideBetween, IsTree, IsWalk, ShareSide, tri_at}
 use Rattle.meshes.specs.declared.tri.Tri.{Tri}
@@ -91,3 +93,7 @@ pub record IsEarOff (corners : List Point) (piece : List ℕ) (tris : List Tri) 
 abbrev pub EarLaw : Type 0
 EarLaw = (corners : List Point) (piece : List ℕ) (tris : List Tri) → FitsPiece corners piece tris
     → (k : ℕ) → (leaf : IsLeaf tris k) → IsEarOff corners piece tris k leaf.neighbour
+
+-- each simple ring that runs counterclockwise has triangles that fit it
+abbrev pub TriangulationLaw : Type 0
+TriangulationLaw = (ring : List Point) → 3 ≤ length ring → IsSimple ring → IsCounterclockwise ring → (tris : List Tri) × Fits ring tris

@@ -1,5 +1,5 @@
 // Laws of lists of triangles that fit a polygon, each as the contract of a call that does nothing when it runs.
-ghost use Rattle.meshes.specs.Laws.{EarLaw, LeafOffWalkLaw, LeavesLaw, PieceSleeveLaw, SeparationLaw, SleeveLaw};
+ghost use Rattle.meshes.specs.Laws.{EarLaw, LeafOffWalkLaw, LeavesLaw, PieceSleeveLaw, SeparationLaw, SleeveLaw, TriangulationLaw};
 
 /// The separation law: a point in a triangle of a walk and in a later one is on each side that the walk crosses between them.
 pub fn separation()
@@ -30,4 +30,9 @@ pub fn leaf_off_walk()
 /// The law of ears: a leaf is a triangle of two consecutive edges, and the triangles without it fit the piece without its tip.
 pub fn ear()
     ensures { EarLaw }
+{}
+
+/// Each simple ring that runs counterclockwise has triangles that fit it, however many vertices it has.
+pub fn triangulation()
+    ensures { TriangulationLaw }
 {}

@@ -6,5 +6,7 @@ mod laws;
 mod tri;
 
 pub use diagonal::Diagonal;
-pub use laws::{ear, leaf_off_walk, leaves, separation, sight_in_piece, sight_in_sleeve};
+pub use laws::{
+    ear, leaf_off_walk, leaves, separation, sight_in_piece, sight_in_sleeve, triangulation,
+};
 pub use tri::Tri;

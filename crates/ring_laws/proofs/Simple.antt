@@ -9,3 +9,6 @@ pub use Rattle.ring_laws.proofs.Simple.FarthestCut.{apart_regrouped, farthest_cu
 -- The theorem of simple rings: a ring runs round once, as it turns at its least vertex.
 mod SimpleRings
 pub use Rattle.ring_laws.proofs.Simple.SimpleRings.{left_turn_law, runs_round, simple_ring_law, triangle_law, winds_once}
+-- A simple ring runs one way or the other; turned round it is simple, runs the other way, and has the same chains with bends.
+mod TwoWays
+pub use Rattle.ring_laws.proofs.Simple.TwoWays.{bent_kept, kept_ring}

@@ -1,5 +1,5 @@
 -- Chains of points in a ring, and taut ones. The local property of the path: Lee and Preparata 1984.
-use Rattle.std.specs.Prelude.{◌≡◌, ℕ, ◌+◌, ◌-◌, ◌<◌, List, length, slice_index_or}
+use Rattle.std.specs.Prelude.{◌≡◌, ◌↔◌, ℕ, ◌+◌, ◌-◌, ◌<◌, List, length, slice_index_or}
 use Rattle.plane.specs.Point.{Point, whole}
 use Rattle.rings.specs.Bend.{IsBend}
 use Rattle.rings.specs.Inside.{IsIn}
@@ -33,3 +33,7 @@ pub record IsTaut (ring : List Point) (s t : Point) (points : List Point) : Type
   pub first : point_at points 0 ≡ s
   pub last : point_at points (length points - 1) ≡ t
   pub single : s ≡ t → length points ≡ 1
+
+-- the path from s to t: it is the one taut chain, there being no other
+abbrev pub IsPath : List Point → Point → Point → List Point → Type 0
+IsPath ring s t path = (chain : List Point) → IsTaut ring s t chain ↔ (chain ≡ path)

@@ -30,7 +30,7 @@ base_on_ray side ring v x r fanned differ = record {
 }
 
 -- a vertex is not reflex where the turn is not to the right
-not_reflex : (ring : List Point) (g : ℕ) → IsCounterclockwise ring → pos 0 ≤ℤ turn_at ring g → ¬ IsReflex ring g
+pub not_reflex : (ring : List Point) (g : ℕ) → IsCounterclockwise ring → pos 0 ≤ℤ turn_at ring g → ¬ IsReflex ring g
 not_reflex ring g runs least (inl h) = not_both h.1 least
 not_reflex ring g runs least (inr h) = let clockwise = h.0 in omega (arith, ints)
 

@@ -69,7 +69,7 @@ module _ (corners : List Point) (t : Tri) where
 -- ---- neighbours of a corner
 
 -- a point strictly inside a triangle is on no edge of the ring
-inside_off_edges : (corners : List Point) (piece : List ℕ) (tris : List Tri) → FitsPiece corners piece tris → (k : ℕ) → k < length tris
+pub inside_off_edges : (corners : List Point) (piece : List ℕ) (tris : List Tri) → FitsPiece corners piece tris → (k : ℕ) → k < length tris
     → (y : Triple) → IsPoint y → IsStrictlyInTri corners (tri_at tris k) y → ¬ IsOnSome (edges_of (piece_points corners piece)) y
 inside_off_edges corners piece tris fits k within y at_y inside =
     let t = tri_at tris k in

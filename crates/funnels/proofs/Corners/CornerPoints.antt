@@ -1,0 +1,90 @@
+-- A vertex of the ring in a closed triangle of a mesh is a corner of it.
+use Rattle.std.proofs.Common.{◌≡◌, ◌⊎◌, inl, inr, true, refl, sym, subst, ℕ, ◌<◌, ℤ, pos, ◌<ℤ◌, ◌≤ℤ◌, List, length, arith}
+use Rattle.std.proofs.lemmas.Int.{ints}
+use Rattle.std.specs.List.{Contains}
+use Rattle.integer_algebra.proofs.Signs.{lt_or_le}
+use Rattle.plane.proofs.Points.{whole_is_point}
+use Rattle.plane.specs.Point.{Point, whole}
+use Rattle.plane.specs.Turn.{determinant}
+use Rattle.rings.specs.Ring.{vertex}
+use Rattle.ring_laws.proofs.Triangles.{not_negative, on_first_side, on_second_side, on_third_side}
+use Rattle.meshes.proofs.Parts.{vertex_on_ring}
+use Rattle.meshes.specs.Fits.{FitsPiece, IsInTri, IsStrictlyInTri}
+use Rattle.meshes.specs.Side.{HasSide, tri_at}
+use Rattle.meshes.specs.declared.tri.Tri.{Tri}
+use Rattle.funnels.proofs.Corners.PieceEdges.{end_of_its_side}
+use Rattle.funnels.proofs.Vertices.{inside_off_edges}
+use Rattle.funnels.specs.Corner.{HasCornerOn}
+
+-- ---- a triangle by the numbers of its corners
+
+-- the number of a corner
+abbrev pub IsCorner : Tri → ℕ → Type 0
+IsCorner t x = (t.a ≡ x) ⊎ (t.b ≡ x) ⊎ (t.c ≡ x)
+
+-- a triangle at one of its corners, between two others
+pub record IsAt (t : Tri) (x : ℕ) : Type 0 where
+  pub before : ℕ
+  pub after : ℕ
+  pub sides : HasCornerOn true t before x after
+
+-- it has a side to each corner and one from there
+pub at_corner : (t : Tri) (x : ℕ) → IsCorner t x → IsAt t x
+at_corner t x (inl e) = record { before = t.c; after = t.b; sides = (inr (inr (refl, e)), inl (e, refl)) }
+at_corner t x (inr (inl e)) = record { before = t.a; after = t.c; sides = (inl (refl, e), inr (inl (e, refl))) }
+at_corner t x (inr (inr e)) = record { before = t.b; after = t.a; sides = (inr (inl (refl, e)), inr (inr (e, refl))) }
+
+-- the ends of its sides are corners of it: the first,
+pub begin_is_corner : (t : Tri) (i j : ℕ) → HasSide t i j → IsCorner t i
+begin_is_corner t i j (inl s) = inl s.0
+begin_is_corner t i j (inr (inl s)) = inr (inl s.0)
+begin_is_corner t i j (inr (inr s)) = inr (inr s.0)
+
+-- and the last
+pub end_is_corner : (t : Tri) (i j : ℕ) → HasSide t i j → IsCorner t j
+end_is_corner t i j (inl s) = inr (inl s.1)
+end_is_corner t i j (inr (inl s)) = inr (inr s.1)
+end_is_corner t i j (inr (inr s)) = inl s.1
+
+-- what is 0 or more on one side of a line, and not more, is on the line
+zero_of : (z : ℤ) → ¬ (z <ℤ pos 0) → z ≤ℤ pos 0 → z ≡ pos 0
+zero_of z h k = let l = not_negative h in omega (arith, ints)
+
+-- ---- vertices in triangles
+
+module _ (corners : List Point) (piece : List ℕ) (tris : List Tri) (fits : FitsPiece corners piece tris) (k x : ℕ)
+    (within : k < length tris) (has : Contains piece x) (inside : IsInTri corners (tri_at tris k) (whole (vertex corners x))) where
+  -- an end of a side is a corner
+  corner_of_end : (i j : ℕ) → HasSide (tri_at tris k) i j → (x ≡ i) ⊎ (x ≡ j) → IsCorner (tri_at tris k) x
+  corner_of_end i j s (inl e) = subst (IsCorner (tri_at tris k)) (sym e) (begin_is_corner (tri_at tris k) i j s)
+  corner_of_end i j s (inr e) = subst (IsCorner (tri_at tris k)) (sym e) (end_is_corner (tri_at tris k) i j s)
+
+  -- a vertex in the triangle is a corner of it
+  pub corner_of : IsCorner (tri_at tris k) x
+  corner_of =
+      let t = tri_at tris k in
+      let left = (fits.triangles k within).counterclockwise in
+      let V = whole (vertex corners x) in
+      let at_V = whole_is_point (vertex corners x) in
+      let A = whole (vertex corners t.a) in
+      let B = whole (vertex corners t.b) in
+      let C = whole (vertex corners t.c) in
+      let side = end_of_its_side corners piece tris fits k in
+      elim (lt_or_le (pos 0) (determinant A B V)) [
+        | inr le ↦
+            let on = on_first_side (vertex corners t.a) (vertex corners t.b) (vertex corners t.c) left V at_V inside (zero_of _ inside.not_right_of_first le) in
+            corner_of_end t.a t.b (inl (refl, refl)) (side t.a t.b x within (inl (refl, refl)) has on)
+        | inl first ↦ elim (lt_or_le (pos 0) (determinant B C V)) [
+          | inr le ↦
+              let on = on_second_side (vertex corners t.a) (vertex corners t.b) (vertex corners t.c) left V at_V inside (zero_of _ inside.not_right_of_second le) in
+              corner_of_end t.b t.c (inr (inl (refl, refl))) (side t.b t.c x within (inr (inl (refl, refl))) has on)
+          | inl second ↦ elim (lt_or_le (pos 0) (determinant C A V)) [
+            | inr le ↦
+                let on = on_third_side (vertex corners t.a) (vertex corners t.b) (vertex corners t.c) left V at_V inside (zero_of _ inside.not_right_of_third le) in
+                corner_of_end t.c t.a (inr (inr (refl, refl))) (side t.c t.a x within (inr (inr (refl, refl))) has on)
+            | inl third ↦
+                let strictly : IsStrictlyInTri corners t V = record { left_of_first = first; left_of_second = second; left_of_third = third } in
+                absurd (inside_off_edges corners piece tris fits k within V at_V strictly (vertex_on_ring corners piece tris fits x has))
+          ]
+        ]
+      ]

@@ -1,0 +1,124 @@
+-- How a way comes to a corner of a triangle at the end of a walk, and how one leaves it at the start of a walk.
+use Rattle.std.proofs.Common.{◌≡◌, ◌⊎◌, inl, inr, true, subst, ℕ, ◌+◌, ◌-◌, ◌<◌, List, length, get_or, drop, arith}
+use Rattle.std.proofs.lemmas.Bool.{cases_lt}
+use Rattle.std.proofs.lemmas.List.{length-drop}
+use Rattle.std.specs.List.{range_with_len}
+use Rattle.plane.proofs.Points.{whole_is_point}
+use Rattle.plane.proofs.Segments.{on_first_end, on_reversed}
+use Rattle.plane.specs.Point.{Point, whole}
+use Rattle.rings.specs.Ring.{vertex}
+use Rattle.rings.specs.Sees.{Sees}
+use Rattle.meshes.proofs.Joins.{AreEnds, between_back}
+use Rattle.meshes.proofs.Parts.{side_in}
+use Rattle.meshes.proofs.Sight.{sleeve_law}
+use Rattle.meshes.specs.Fits.{Fits, IsInTri}
+use Rattle.meshes.specs.Laws.{CrossesSide, walk_tri}
+use Rattle.meshes.specs.Side.{HasSideBetween, IsWalk, tri_at}
+use Rattle.meshes.specs.declared.tri.Tri.{Tri}
+use Rattle.funnels.proofs.Corners.{side_at_corner, within_of_inside, within_of_seen}
+use Rattle.funnels.proofs.DeadEnds.WalkParts.{rest_crossed, rest_in, walk_rest}
+use Rattle.funnels.specs.Corner.{HasCornerOn, IsInAngle}
+
+-- a side that is crossed is crossed from either end
+crossed_back : (tris : List Tri) (walk : List ℕ) (m i j : ℕ) → CrossesSide tris walk m i j → CrossesSide tris walk m j i
+crossed_back tris walk m i j c = record { has_next = c.has_next; of_this = between_back c.of_this; of_next = between_back c.of_next }
+
+module _ (corners : List Point) (tris : List Tri) (fits : Fits corners tris) where
+  -- the ends of a side are in the triangle: the first,
+  pub first_in : (k i j : ℕ) → k < length tris → HasSideBetween (tri_at tris k) i j → IsInTri corners (tri_at tris k) (whole (vertex corners i))
+  first_in k i j within has =
+      side_in corners (range_with_len 0 (length corners)) tris fits k i j within has (whole (vertex corners i)) (whole_is_point (vertex corners i))
+      (on_first_end (whole (vertex corners i)) (whole (vertex corners j)))
+
+  -- and the last
+  pub last_in : (k i j : ℕ) → k < length tris → HasSideBetween (tri_at tris k) i j → IsInTri corners (tri_at tris k) (whole (vertex corners j))
+  last_in k i j within has = first_in k j i within (between_back has)
+
+  module _ (walk : List ℕ) (w : IsWalk tris walk) (before v after : ℕ) (y : Point) (differs : ¬ (y ≡ vertex corners v)) where
+    -- over the side opposite to corner v of the first triangle, a point that v sees is within the angle there,
+    departs_over : HasCornerOn true (walk_tri tris walk 0) before v after → Sees corners (whole (vertex corners v)) (whole y)
+        → IsInTri corners (walk_tri tris walk (length walk - 1)) (whole y) → (i j : ℕ) → CrossesSide tris walk 0 i j → AreEnds after before i j
+        → IsInAngle true corners before v after (whole y)
+    departs_over corner sees last i j c ends =
+        let V = vertex corners v in
+        let in_list = w.in_list 0 w.some in
+        let first = first_in (get_or walk 0 0) v after in_list (inl corner.1) in
+        let meet = (sleeve_law corners tris fits walk w (whole V) (whole y) (whole_is_point V) (whole_is_point y) first last).0 sees 0 i j c in
+        within_of_seen corners tris fits (get_or walk 0 0) before v after in_list corner y differs meet.point meet.rational meet.on_first i j ends
+        meet.on_second
+
+    -- so a point in the last triangle that v sees is within the angle, or the walk leaves the first triangle over a side at v
+    pub departs : HasCornerOn true (walk_tri tris walk 0) before v after → Sees corners (whole (vertex corners v)) (whole y)
+        → IsInTri corners (walk_tri tris walk (length walk - 1)) (whole y)
+        → IsInAngle true corners before v after (whole y) ⊎ ((j : ℕ) × CrossesSide tris walk 0 v j)
+    departs corner sees last = elim (cases_lt 1 (length walk)) [
+      | inl long ↦
+          let share = w.sharing 0 long in
+          let c : CrossesSide tris walk 0 share.i share.j = record { has_next = long; of_this = inl share.of_first; of_next = share.of_second } in
+          elim (side_at_corner corners tris fits (get_or walk 0 0) before v after (w.in_list 0 w.some) corner share.i share.j (inl share.of_first)) [
+            | inl e ↦ inr (share.j, subst (λ n. CrossesSide tris walk 0 n share.j) e c)
+            | inr other ↦ elim other [
+              | inl e ↦ inr (share.i, subst (λ n. CrossesSide tris walk 0 n share.i) e (crossed_back tris walk 0 share.i share.j c))
+              | inr ends ↦ inl (departs_over corner sees last share.i share.j c ends)
+            ]
+          ]
+      | inr short ↦
+          let place : length walk - 1 ≡ 0 = omega arith in
+          inl (within_of_inside corners tris fits (get_or walk 0 0) before v after (w.in_list 0 w.some) corner (whole y)
+          (subst (λ m. IsInTri corners (walk_tri tris walk m) (whole y)) place last))
+    ]
+
+    module _ (corner : HasCornerOn true (walk_tri tris walk (length walk - 1)) before v after) (sees : Sees corners (whole y) (whole (vertex corners v))) where
+      -- over the side opposite to corner v of the last triangle, a point that sees v is within the angle there
+      arrives_over : (m : ℕ) → m + 1 < length walk → IsInTri corners (walk_tri tris walk m) (whole y) → (l i j : ℕ) → l + 2 ≡ length walk
+          → CrossesSide tris walk l i j → AreEnds after before i j → IsInAngle true corners before v after (whole y)
+      arrives_over m within inside l i j place c ends =
+          let V = vertex corners v in
+          let e : ℕ = get_or walk (length walk - 1) 0 in
+          let in_list = w.in_list (length walk - 1) (omega arith) in
+          let rest = drop m walk in
+          let long = length-drop m walk in
+          let here : m ≡ m + 0 = omega arith in
+          let there : length walk - 1 ≡ m + (length rest - 1) = omega (arith, long) in
+          let before_last : l ≡ m + (length rest - 2) = omega (arith, long) in
+          let is_walk = walk_rest tris walk w m (omega arith) in
+          let first = rest_in corners tris walk m (whole y) 0 (subst (λ n. IsInTri corners (walk_tri tris walk n) (whole y)) here inside) in
+          let at_V = first_in e v after in_list (inl corner.1) in
+          let last = rest_in corners tris walk m (whole V) (length rest - 1) (subst (λ n. IsInTri corners (walk_tri tris walk n) (whole V)) there at_V) in
+          let crossed = rest_crossed corners tris walk m (length rest - 2) i j (subst (λ n. CrossesSide tris walk n i j) before_last c) in
+          let meet = (sleeve_law corners tris fits rest is_walk (whole y) (whole V) (whole_is_point y) (whole_is_point V) first last).0 sees (length rest - 2) i j crossed in
+          within_of_seen corners tris fits e before v after in_list corner y differs meet.point meet.rational
+          (on_reversed meet.point (whole y) (whole V) meet.on_first) i j ends meet.on_second
+
+      module _ (new : (l : ℕ) → l + 1 < length walk → ¬ IsInTri corners (walk_tri tris walk l) (whole (vertex corners v))) where
+        -- the walk comes to its last triangle over the side opposite to v, where no earlier triangle has v,
+        comes_opposite : (l i j : ℕ) → l + 2 ≡ length walk → CrossesSide tris walk l i j → AreEnds after before i j
+        comes_opposite l i j place c =
+            let e : ℕ = get_or walk (length walk - 1) 0 in
+            let last : l + 1 ≡ length walk - 1 = omega arith in
+            let in_l = w.in_list l (omega arith) in
+            let side = subst (λ n. HasSideBetween (walk_tri tris walk n) i j) last c.of_next in
+            let none = λ (x : ℕ) (is : x ≡ v) (h : IsInTri corners (walk_tri tris walk l) (whole (vertex corners x))).
+            new l (omega arith) (subst (λ n. IsInTri corners (walk_tri tris walk l) (whole (vertex corners n))) is h) in
+            elim (side_at_corner corners tris fits e before v after (w.in_list (length walk - 1) (omega arith)) corner i j side) [
+              | inl at ↦ absurd (none i at (first_in (get_or walk l 0) i j in_l c.of_this))
+              | inr other ↦ elim other [
+                | inl at ↦ absurd (none j at (last_in (get_or walk l 0) i j in_l c.of_this))
+                | inr ends ↦ ends
+              ]
+            ]
+
+        -- so a point in a triangle of the walk that sees v is within the angle at v
+        pub arrives : (m : ℕ) → m < length walk → IsInTri corners (walk_tri tris walk m) (whole y) → IsInAngle true corners before v after (whole y)
+        arrives m within inside = elim (cases_lt (m + 1) (length walk)) [
+          | inr at_end ↦
+              let place : m ≡ length walk - 1 = omega arith in
+              within_of_inside corners tris fits (get_or walk (length walk - 1) 0) before v after (w.in_list (length walk - 1) (omega arith)) corner (whole y)
+              (subst (λ n. IsInTri corners (walk_tri tris walk n) (whole y)) place inside)
+          | inl earlier ↦
+              let l : ℕ = length walk - 2 in
+              let next : l + 1 < length walk = omega arith in
+              let share = w.sharing l next in
+              let c : CrossesSide tris walk l share.i share.j = record { has_next = next; of_this = inl share.of_first; of_next = share.of_second } in
+              arrives_over m earlier inside l share.i share.j (omega arith) c (comes_opposite l share.i share.j (omega arith) c)
+        ]

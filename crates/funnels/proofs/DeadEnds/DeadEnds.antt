@@ -1,0 +1,136 @@
+-- A chain with bends follows each walk of triangles from a triangle with its first point to one with its last: it enters no dead end.
+use Rattle.std.proofs.Common.{◌≡◌, inl, inr, sym, subst, ap, ◌∙◌, ℕ, zero, suc, ◌+◌, ◌-◌, ◌<◌, ◌≤◌, List, length, get_or, take, arith}
+use Rattle.std.proofs.lemmas.Bool.{cases_lt}
+use Rattle.std.proofs.lemmas.List.{get_or-take, length-take-le}
+use Rattle.plane.proofs.Points.{whole_is_point}
+use Rattle.plane.specs.Point.{Point, whole}
+use Rattle.rings.specs.Chain.{IsBentChain, point_at}
+use Rattle.rings.specs.Ring.{vertex}
+use Rattle.meshes.specs.Fits.{Fits, IsInTri}
+use Rattle.meshes.specs.Laws.{walk_tri}
+use Rattle.meshes.specs.Side.{HasSideBetween, IsWalk, tri_at}
+use Rattle.meshes.specs.declared.tri.Tri.{Tri}
+use Rattle.funnels.proofs.Corners.{IsCorner, begin_is_corner, end_is_corner}
+use Rattle.funnels.proofs.DeadEnds.ChainBends.{IsBentAt, IsFrontTo, bent_at, front_to}
+use Rattle.funnels.proofs.DeadEnds.ChainPlaces.{FollowsTo, one_more}
+use Rattle.funnels.proofs.DeadEnds.PassedCorners.{GoesOnAt, passes}
+use Rattle.funnels.proofs.DeadEnds.WalkParts.{first_with, one_first, walk_front}
+use Rattle.funnels.specs.Corner.{FollowsWalk, IsFirstWith}
+use Rattle.funnels.specs.OneChain.{DeadEndLaw, IsCornerOf}
+
+module _ (corners : List Point) (tris : List Tri) (fits : Fits corners tris) (chain : List Point) (bent : IsBentChain corners chain) where
+  -- the last point of two on a walk
+  two_points : (walk : List ℕ) → IsWalk tris walk → IsInTri corners (walk_tri tris walk (length walk - 1)) (whole (point_at chain 1))
+      → FollowsTo corners tris walk chain 2
+  two_points walk w in_last =
+      let some = w.some in
+      let (m, f) = first_with corners tris walk (whole (point_at chain 1)) (length walk - 1) (omega arith) in_last in
+      record {
+        place = λ a. m;
+        first = λ a least most.
+            let last : 1 ≡ a = omega arith in subst (λ b. IsFirstWith corners tris walk (whole (point_at chain b)) m) last f;
+        rises = λ a least most. absurd (omega arith);
+        leaves = λ a least most. absurd (omega arith);
+      }
+
+  -- the point before the last is in a triangle of the walk to that
+  point_before : (n : ℕ) (front : List ℕ) → 0 < length front → IsInTri corners (walk_tri tris front 0) (whole (point_at chain 0))
+      → FollowsTo corners tris front chain (suc (suc n)) → (m : ℕ) × (m < length front) × IsInTri corners (walk_tri tris front m) (whole (point_at chain n))
+  point_before zero front some in_first t = (0, some, in_first)
+  point_before (suc n) front some in_first t = let f = t.first (suc n) (omega arith) (omega arith) in (t.place (suc n), f.within, f.has)
+
+  -- a walk to the next point passes the bend, and has the point after it alone
+  next_past : (front : List ℕ) (i : ℕ) (q : Point)
+      → ((walk : List ℕ) → IsWalk tris walk → get_or walk 0 0 ≡ get_or front 0 0 → IsInTri corners (walk_tri tris walk (length walk - 1)) (whole q)
+      → GoesOnAt tris front walk i) → IsWalk tris front → (walk : List ℕ) → IsWalk tris walk → get_or walk 0 0 ≡ get_or front 0 0 → (m : ℕ)
+      → IsFirstWith corners tris walk (whole q) m → length front - 1 < m
+  next_past front i q goes v walk w begins m f = elim (cases_lt (length front - 1) m) [
+    | inl past ↦ past
+    | inr early ↦
+        let within = f.within in
+        let some = v.some in
+        let part = take (m + 1) walk in
+        let long : length part ≡ m + 1 = length-take-le (m + 1) walk (omega arith) in
+        let at = λ (l : ℕ) (less : l < m + 1). get_or-take (m + 1) walk l 0 less in
+        let place : m ≡ length part - 1 = omega arith in
+        let found = subst (λ k. IsInTri corners (tri_at tris k) (whole q)) (sym (at m (omega arith))) f.has in
+        let on = goes part (walk_front tris walk w (m + 1) (omega arith) (omega arith)) (at 0 (omega arith) ∙ begins)
+        (subst (λ l. IsInTri corners (walk_tri tris part l) (whole q)) place found) in
+        absurd (omega (arith, on.longer))
+  ]
+
+  -- the triangle with the last point of the front is its last
+  last_place : (h n : ℕ) → (fr : IsFrontTo corners tris h (whole (point_at chain (suc n)))) → (t : FollowsTo corners tris fr.front chain (suc (suc n)))
+      → t.place (suc n) ≡ length fr.front - 1
+  last_place h n fr t =
+      let some = fr.is_walk.some in
+      one_first corners tris fr.front (whole (point_at chain (suc n))) (t.place (suc n)) (length fr.front - 1) (t.first (suc n) (omega arith) (omega arith))
+      (record { within = omega arith; has = fr.has; least = λ l less. fr.new l (omega arith) })
+
+  -- where the points up to a bend go along the walk to that, the next one goes along each walk to it
+  bend_passed : (n : ℕ) → suc (suc n) < length chain → (walk : List ℕ) → IsWalk tris walk
+      → IsInTri corners (walk_tri tris walk (length walk - 1)) (whole (point_at chain (suc (suc n))))
+      → (fr : IsFrontTo corners tris (get_or walk 0 0) (whole (point_at chain (suc n)))) → IsInTri corners (walk_tri tris fr.front 0) (whole (point_at chain 0))
+      → FollowsTo corners tris fr.front chain (suc (suc n)) → FollowsTo corners tris walk chain (suc (suc (suc n)))
+  bend_passed n h walk w in_last fr start t =
+      let p = point_at chain n in
+      let v = point_at chain (suc n) in
+      let q = point_at chain (suc (suc n)) in
+      let some = w.some in
+      let bend = bent_at corners chain bent n h in
+      let r = bend.bend.reflex in
+      let b = subst (λ x. IsBentAt corners p x q) (sym r.is_vertex) bend in
+      let has = subst (λ (x : Point). IsInTri corners (walk_tri tris fr.front (length fr.front - 1)) (whole x)) (sym r.is_vertex) fr.has in
+      let new = λ (l : ℕ) (less : l + 1 < length fr.front) (inside : IsInTri corners (walk_tri tris fr.front l) (whole (vertex corners r.i))).
+      fr.new l less (subst (λ (x : Point). IsInTri corners (walk_tri tris fr.front l) (whole x)) r.is_vertex inside) in
+      let (m, within, in_p) = point_before n fr.front fr.is_walk.some start t in
+      let goes = passes corners tris fits fr.front fr.is_walk r.i r.in_ring has new p q b.bend b.p_differs b.q_differs b.comes b.goes m within in_p in
+      let (k, f) = first_with corners tris walk (whole q) (length walk - 1) (omega arith) in_last in
+      one_more corners tris chain walk fr.front n r.i t (goes walk w (sym fr.begins) in_last) (sym r.is_vertex) (last_place (get_or walk 0 0) n fr t) k f
+      (next_past fr.front r.i q goes fr.is_walk walk w (sym fr.begins) k f)
+
+  -- so the points up to each one go along the walks to it
+  follows_to : (n : ℕ) → suc n < length chain → (walk : List ℕ) → IsWalk tris walk → IsInTri corners (walk_tri tris walk 0) (whole (point_at chain 0))
+      → IsInTri corners (walk_tri tris walk (length walk - 1)) (whole (point_at chain (suc n))) → FollowsTo corners tris walk chain (suc (suc n))
+  follows_to zero h walk w in_first in_last = two_points walk w in_last
+  follows_to (suc n) h walk w in_first in_last =
+      let v = point_at chain (suc n) in
+      let fr = front_to corners tris fits (get_or walk 0 0) (w.in_list 0 w.some) (whole v) (whole_is_point v) (bent.chain.inside (suc n) (omega arith)) in
+      let start = subst (λ k. IsInTri corners (tri_at tris k) (whole (point_at chain 0))) (sym fr.begins) in_first in
+      bend_passed n h walk w in_last fr start (follows_to n (omega arith) fr.front fr.is_walk start fr.has)
+
+-- the whole chain follows the walk
+pub follows : (corners : List Point) (tris : List Tri) → Fits corners tris → (walk : List ℕ) → IsWalk tris walk → (chain : List Point) → IsBentChain corners chain
+    → 2 ≤ length chain → IsInTri corners (walk_tri tris walk 0) (whole (point_at chain 0))
+    → IsInTri corners (walk_tri tris walk (length walk - 1)) (whole (point_at chain (length chain - 1))) → FollowsWalk corners tris walk chain
+follows corners tris fits walk w chain bent long in_first in_last =
+    let last : length chain - 1 ≡ suc (length chain - 2) = omega arith in
+    let at_last = subst (λ k. IsInTri corners (walk_tri tris walk (length walk - 1)) (whole (point_at chain k))) last in_last in
+    let t = follows_to corners tris fits chain bent (length chain - 2) (omega arith) walk w in_first at_last in
+    record {
+      place = t.place;
+      first = λ a some h. t.first a some (omega arith);
+      rises = λ a some h. t.rises a some (omega arith);
+      leaves = λ a inner. t.leaves a inner.not_first (omega (arith, inner.not_last));
+    }
+
+-- a corner by its number is one by its point
+corner_by_number : (corners : List Point) (t : Tri) (i : ℕ) (v : Point) → v ≡ vertex corners i → IsCorner t i → IsCornerOf corners t v
+corner_by_number corners t i v is (inl e) = inl (ap (vertex corners) e ∙ sym is)
+corner_by_number corners t i v is (inr (inl e)) = inr (inl (ap (vertex corners) e ∙ sym is))
+corner_by_number corners t i v is (inr (inr e)) = inr (inr (ap (vertex corners) e ∙ sym is))
+
+-- the first end of a side is a corner
+corner_between : (t : Tri) (i j : ℕ) → HasSideBetween t i j → IsCorner t i
+corner_between t i j (inl s) = begin_is_corner t i j s
+corner_between t i j (inr s) = end_is_corner t j i s
+
+-- so its inner points are corners of triangles of the walk
+pub dead_ends : DeadEndLaw
+dead_ends corners tris fits walk w chain bent in_first in_last k inner =
+    let t = follows corners tris fits walk w chain bent (omega (arith, inner.not_first, inner.not_last)) in_first in_last in
+    let (i, j, c, is) = t.leaves k inner in (
+      t.place k,
+      omega (arith, c.has_next),
+      corner_by_number corners (walk_tri tris walk (t.place k)) i (point_at chain k) is (corner_between (walk_tri tris walk (t.place k)) i j c.of_this),
+    )

@@ -1,0 +1,123 @@
+-- Parts of a walk over triangles, and the first of its triangles with a point.
+use Rattle.std.proofs.Common.{◌≡◌, ◌⊎◌, inl, inr, sym, subst, ◌∙◌, ℕ, zero, suc, ◌+◌, ◌<◌, ◌≤◌, List, length, get_or, take, drop, arith}
+use Rattle.std.proofs.lemmas.Bool.{cases_lt}
+use Rattle.std.proofs.lemmas.List.{get_or-drop, get_or-take, length-drop, length-take-le}
+use Rattle.plane.specs.Point.{Point, Triple}
+use Rattle.rings.specs.Ring.{vertex}
+use Rattle.ring_laws.proofs.Triangles.{in_or_not}
+use Rattle.meshes.proofs.Walks.{Touch}
+use Rattle.meshes.specs.Fits.{IsInTri}
+use Rattle.meshes.specs.Laws.{CrossesSide, walk_tri}
+use Rattle.meshes.specs.Side.{HasSideBetween, IsWalk, tri_at}
+use Rattle.meshes.specs.declared.tri.Tri.{Tri}
+use Rattle.funnels.specs.Corner.{IsFirstWith}
+
+-- ---- the front and the rest
+
+module _ (tris : List Tri) (walk : List ℕ) (w : IsWalk tris walk) where
+  -- the front of a walk is a walk,
+  pub walk_front : (n : ℕ) → 0 < n → n ≤ length walk → IsWalk tris (take n walk)
+  walk_front n some within =
+      let long = length-take-le n walk within in
+      let at = λ (i : ℕ) (h : i < n). get_or-take n walk i 0 h in
+      record {
+        some = omega (arith, long);
+        in_list = λ i h. omega (arith, at i (omega (arith, long)), w.in_list i (omega (arith, long)));
+        once = λ i j h k same. w.once i j h (omega (arith, long)) (sym (at i (omega (arith, long))) ∙ same ∙ at j (omega (arith, long)));
+        sharing = λ i h.
+            let first = at i (omega (arith, long)) in
+            let next = at (i + 1) (omega (arith, long)) in
+            subst (λ a. Touch tris a (get_or (take n walk) (i + 1) 0)) (sym first)
+            (subst (λ b. Touch tris (get_or walk i 0) b) (sym next) (w.sharing i (omega (arith, long))));
+      }
+
+  -- and so is the rest
+  pub walk_rest : (n : ℕ) → n < length walk → IsWalk tris (drop n walk)
+  walk_rest n within =
+      let long = length-drop n walk in
+      let at = λ (i : ℕ). get_or-drop n walk i 0 in
+      record {
+        some = omega (arith, long);
+        in_list = λ i h. omega (arith, at i, w.in_list (n + i) (omega (arith, long)));
+        once = λ i j h k same. w.once (n + i) (n + j) (omega arith) (omega (arith, long)) (sym (at i) ∙ same ∙ at j);
+        sharing = λ i h.
+            let place : n + (i + 1) ≡ n + i + 1 = omega arith in
+            subst (λ a. Touch tris a (get_or (drop n walk) (i + 1) 0)) (sym (at i))
+            (subst (λ b. Touch tris (get_or walk (n + i) 0) b) (sym (at (i + 1)))
+            (subst (λ m. Touch tris (get_or walk (n + i) 0) (get_or walk m 0)) (sym place) (w.sharing (n + i) (omega (arith, long)))));
+      }
+
+module _ (corners : List Point) (tris : List Tri) (walk : List ℕ) (n : ℕ) where
+  -- the rest has the triangles from there on,
+  pub rest_in : (x : Triple) (l : ℕ) → IsInTri corners (walk_tri tris walk (n + l)) x → IsInTri corners (walk_tri tris (drop n walk) l) x
+  rest_in x l = subst (λ k. IsInTri corners (tri_at tris k) x) (sym (get_or-drop n walk l 0))
+
+  -- and crosses the sides from there on
+  pub rest_crossed : (m i j : ℕ) → CrossesSide tris walk (n + m) i j → CrossesSide tris (drop n walk) m i j
+  rest_crossed m i j c =
+      let place : n + m + 1 ≡ n + (m + 1) = omega arith in
+      let next = subst (λ l. HasSideBetween (walk_tri tris walk l) i j) place c.of_next in
+      record {
+        has_next = omega (arith, c.has_next, length-drop n walk);
+        of_this = subst (λ k. HasSideBetween (tri_at tris k) i j) (sym (get_or-drop n walk m 0)) c.of_this;
+        of_next = subst (λ k. HasSideBetween (tri_at tris k) i j) (sym (get_or-drop n walk (m + 1) 0)) next;
+      }
+
+-- ---- walks that begin alike
+
+module _ (corners : List Point) (tris : List Tri) (walk other : List ℕ) (shorter : length walk ≤ length other)
+    (alike : (l : ℕ) → l < length walk → get_or other l 0 ≡ get_or walk l 0) where
+  -- a triangle of the one is one of the other
+  pub alike_in : (x : Triple) (l : ℕ) → l < length walk → IsInTri corners (walk_tri tris walk l) x → IsInTri corners (walk_tri tris other l) x
+  alike_in x l h = subst (λ k. IsInTri corners (tri_at tris k) x) (sym (alike l h))
+
+  -- and the other way round,
+  pub alike_back : (x : Triple) (l : ℕ) → l < length walk → IsInTri corners (walk_tri tris other l) x → IsInTri corners (walk_tri tris walk l) x
+  alike_back x l h = subst (λ k. IsInTri corners (tri_at tris k) x) (alike l h)
+
+  -- so the first one with a point is so in the other,
+  pub alike_first : (x : Triple) (m : ℕ) → IsFirstWith corners tris walk x m → IsFirstWith corners tris other x m
+  alike_first x m f = record {
+    within = omega (arith, f.within);
+    has = alike_in x m f.within f.has;
+    least = λ l h inside. f.least l h (alike_back x l (omega (arith, f.within)) inside);
+  }
+
+  -- and a side that the one crosses, the other one does
+  pub alike_crossed : (m i j : ℕ) → CrossesSide tris walk m i j → CrossesSide tris other m i j
+  alike_crossed m i j c = record {
+    has_next = omega (arith, c.has_next);
+    of_this = subst (λ k. HasSideBetween (tri_at tris k) i j) (sym (alike m (omega (arith, c.has_next)))) c.of_this;
+    of_next = subst (λ k. HasSideBetween (tri_at tris k) i j) (sym (alike (m + 1) c.has_next)) c.of_next;
+  }
+
+-- ---- the first triangle with a point
+
+module _ (corners : List Point) (tris : List Tri) (walk : List ℕ) (x : Triple) where
+  -- there is one among the first n triangles, or none of these has the point
+  seek : (n : ℕ) → n ≤ length walk → ((m : ℕ) × IsFirstWith corners tris walk x m) ⊎ ((l : ℕ) → l < n → ¬ IsInTri corners (walk_tri tris walk l) x)
+  seek zero h = inr (λ l k. absurd (omega arith))
+  seek (suc n) h = elim (seek n (omega arith)) [
+    | inl found ↦ inl found
+    | inr none ↦
+        let t = walk_tri tris walk n in
+        elim (in_or_not (vertex corners t.a) (vertex corners t.b) (vertex corners t.c) x) [
+          | inl inside ↦ inl (n, record { within = omega arith; has = inside; least = none })
+          | inr outside ↦ inr (λ l k inside. elim (cases_lt l n) [
+            | inl less ↦ none l less inside
+            | inr more ↦
+                let same : l ≡ n = omega arith in outside (subst (λ i. IsInTri corners (walk_tri tris walk i) x) same inside)
+          ])
+        ]
+  ]
+
+  -- where some triangle has the point, there is a first one
+  pub first_with : (l : ℕ) → l < length walk → IsInTri corners (walk_tri tris walk l) x → (m : ℕ) × IsFirstWith corners tris walk x m
+  first_with l h inside = elim (seek (length walk) (omega arith)) [ inl found ↦ found | inr none ↦ absurd (none l h inside) ]
+
+  -- which is at one place
+  pub one_first : (m n : ℕ) → IsFirstWith corners tris walk x m → IsFirstWith corners tris walk x n → m ≡ n
+  one_first m n f g = elim (cases_lt m n) [
+    | inl less ↦ absurd (g.least m less f.has)
+    | inr more ↦ elim (cases_lt n m) [ inl less ↦ absurd (f.least n less g.has) | inr other ↦ omega arith ]
+  ]

@@ -1,0 +1,20 @@
+-- Two chains with bends between the same points are equal.
+
+-- The front of a chain with bends is one.
+mod SubChains
+-- A bend stays one where the next point is another one on the same ray.
+mod RayBends
+-- The front of a chain with bends, and a chain with bends whose last step is shorter.
+mod ShorterSteps
+-- In a ring where two chains with bends that end at one point have come to it on one ray, such chains between two points are equal.
+mod SameChains
+-- The last step of a chain with bends along a walk, over the last side that the walk crosses.
+mod LastSteps
+-- In a ring that triangles fit, two chains with bends between two points come to the last one on one ray.
+mod ComeTogether
+-- In a simple ring there is one chain with bends between two points, and none that ends where it begins.
+mod OneChains
+pub use Rattle.funnels.proofs.OneChain.OneChains.{no_closed_chain, one_bent_chain}
+-- In a simple ring a taut chain is the path between its ends, and a chain with bends is taut.
+mod Paths
+pub use Rattle.funnels.proofs.OneChain.Paths.{one_taut_chain, taut_iff_bent}

@@ -1,0 +1,151 @@
+-- In a ring that triangles fit, two chains with bends between two points come to the last one on one ray.
+use Rattle.std.proofs.Common.{◌≡◌, ◌⊎◌, inl, inr, refl, sym, subst, ◌∙◌, true, ℕ, ◌+◌, ◌-◌, ◌≤◌, pos, List, length, get_or, arith}
+use Rattle.std.proofs.lemmas.Bool.{cases_lt}
+use Rattle.integer_algebra.proofs.SignSteps.{turned_positive}
+use Rattle.integer_algebra.proofs.Signs.{is_negative, is_positive, is_zero, sign}
+use Rattle.plane.proofs.Points.{whole_is_point}
+use Rattle.plane.proofs.Segments.{on_last_end, on_reversed}
+use Rattle.plane.proofs.Turns.{determinant_swap_last}
+use Rattle.plane.specs.Point.{Point, whole}
+use Rattle.plane.specs.Segment.{Meet, On}
+use Rattle.plane.specs.Turn.{IsLeft, determinant}
+use Rattle.rings.specs.Chain.{IsBentChain, IsInner, point_at}
+use Rattle.rings.specs.Ring.{vertex}
+use Rattle.meshes.specs.Fits.{Fits, IsInTri}
+use Rattle.meshes.specs.Laws.{CrossesSide, walk_tri}
+use Rattle.meshes.specs.Side.{HasSide, IsWalk, tri_at}
+use Rattle.meshes.specs.declared.tri.Tri.{Tri}
+use Rattle.funnels.proofs.DeadEnds.{crossed_shared, some_crossed, front_to, some_triangle, follows}
+use Rattle.funnels.proofs.OneChain.LastSteps.{before_end, corner_there, end_is, end_is_right, last_in_list, meets_last, only_step}
+use Rattle.funnels.proofs.OneChain.SameChains.{ComeOnOneRay}
+use Rattle.funnels.proofs.OneChain.ShorterSteps.{before_last, ends_differ, last_of}
+use Rattle.funnels.proofs.Passing.{begin_passing, none_at, on_one_ray, AreAt, IsAlong, IsBefore}
+use Rattle.funnels.specs.Corner.{IsFirstWith}
+use Rattle.funnels.specs.Passing.{ArePassing}
+
+module _ (corners : List Point) (tris : List Tri) (fits : Fits corners tris) (walk : List ℕ) (w : IsWalk tris walk) (t : Point)
+    (ends : IsFirstWith corners tris walk (whole t) (length walk - 1)) where
+  -- ---- two chains to t over a side
+
+  module _ (n i j : ℕ) (e : n + 1 ≡ length walk - 1) (c : CrossesSide tris walk n i j) (has : HasSide (walk_tri tris walk n) i j) where
+    module _ (one other : List Point) (along : IsAlong corners tris fits walk w one) (along_too : IsAlong corners tris fits walk w other)
+        (long : 2 ≤ length one) (long_too : 2 ≤ length other) (last : last_of one ≡ t) (last_too : last_of other ≡ t) where
+      abbrev p : Point
+      p = before_last one
+
+      abbrev q : Point
+      q = before_last other
+
+      differ : ¬ (p ≡ t)
+      differ same = ends_differ corners one along.is_bent long (same ∙ sym last)
+
+      differ_too : ¬ (q ≡ t)
+      differ_too same = ends_differ corners other along_too.is_bent long_too (same ∙ sym last_too)
+
+      meet : Meet (whole p) (whole t) (whole (vertex corners i)) (whole (vertex corners j))
+      meet = meets_last corners tris fits walk w t ends one along long last n e i j c
+
+      meet_too : Meet (whole q) (whole t) (whole (vertex corners i)) (whole (vertex corners j))
+      meet_too = meets_last corners tris fits walk w t ends other along_too long_too last_too n e i j c
+
+      -- where the other comes from the left of the one, they pass
+      begin : IsLeft (whole t) (whole p) (whole q) → AreAt corners tris fits walk w true n (n + 1) (n + 1) one other along along_too
+      begin left =
+          let (third, corner) = corner_there corners tris fits walk w t ends n i j e c has in
+          let shared = crossed_shared corners tris fits walk w n i j c in
+          let I = IsInner one (length one - 2) in
+          let J = IsInner other (length other - 2) in
+          let passing = begin_passing corners tris fits (get_or walk (length walk - 1) 0) (last_in_list corners tris fits walk w t ends n i j e c has) i j third corner t ends.has shared (end_is_right corners tris fits walk w t ends n i j e c has) p q I J
+          meet.point meet_too.point meet.rational meet_too.rational differ differ_too (on_reversed meet.point (whole p) (whole t) meet.on_first)
+          meet.on_second (on_reversed meet_too.point (whole q) (whole t) meet_too.on_first) meet_too.on_second left in
+          record {
+            far = i;
+            own = j;
+            a = length one - 2;
+            b = length other - 2;
+            x = meet.point;
+            z = meet_too.point;
+            crossed = c;
+            has = has;
+            next = omega arith;
+            next_too = omega arith;
+            before = subst (IsBefore corners tris fits walk w one along (length one - 2)) (sym e) (before_end corners tris fits walk w t ends one along long last);
+            before_too = subst (IsBefore corners tris fits walk w other along_too (length other - 2)) (sym e) (before_end corners tris fits walk w t ends other along_too long_too last_too);
+            passing = subst (λ (u : Point). ArePassing true corners i j u p I meet.point (point_at other (length other - 2 + 1)) q J meet_too.point)
+                (sym (end_is corners tris fits walk w t ends one along long last))
+                (subst (λ (u : Point). ArePassing true corners i j t p I meet.point u q J meet_too.point) (sym (end_is corners tris fits walk w t ends other along_too long_too last_too))
+                passing);
+          }
+
+      -- which can't be, where they begin at one point
+      not_left : point_at one 0 ≡ point_at other 0 → ¬ IsLeft (whole t) (whole p) (whole q)
+      not_left firsts left = none_at corners tris fits walk w n true one other along along_too firsts (begin left)
+
+      -- so on one line they come on one ray
+      straight_on_ray : determinant (whole t) (whole p) (whole q) ≡ pos 0
+          → On (whole q) (whole t) (whole p) ⊎ On (whole p) (whole t) (whole q)
+      straight_on_ray straight =
+          on_one_ray t (vertex corners i) (vertex corners j) (end_is_right corners tris fits walk w t ends n i j e c has) p q meet.point meet_too.point meet.rational meet_too.rational differ differ_too
+          (on_reversed meet.point (whole p) (whole t) meet.on_first) meet.on_second
+          (on_reversed meet_too.point (whole q) (whole t) meet_too.on_first) meet_too.on_second straight
+
+    -- so they do in any case
+    on_ray_over_side : (one other : List Point) (along : IsAlong corners tris fits walk w one) (along_too : IsAlong corners tris fits walk w other)
+        → 2 ≤ length one → 2 ≤ length other → last_of one ≡ t → last_of other ≡ t → point_at one 0 ≡ point_at other 0
+        → On (whole (before_last one)) (whole t) (whole (before_last other)) ⊎ On (whole (before_last other)) (whole t) (whole (before_last one))
+    on_ray_over_side one other along along_too long long_too last last_too firsts =
+        let T = whole t in
+        let P = whole (before_last one) in
+        let Q = whole (before_last other) in
+        elim (sign (determinant T P Q)) [
+          | is_positive left ↦ absurd (not_left one other along along_too long long_too last last_too firsts left)
+          | is_negative right ↦
+              absurd (not_left other one along_too along long_too long last_too last (sym firsts) (turned_positive (determinant_swap_last T P Q) right))
+          | is_zero straight ↦ elim (straight_on_ray one other along along_too long long_too last last_too straight) [ inl on ↦ inr on | inr on ↦ inl on ]
+        ]
+
+  -- and where the walk is one triangle
+  on_ray_along : (one other : List Point) (along : IsAlong corners tris fits walk w one) (along_too : IsAlong corners tris fits walk w other)
+      → 2 ≤ length one → 2 ≤ length other → last_of one ≡ t → last_of other ≡ t → point_at one 0 ≡ point_at other 0
+      → On (whole (before_last one)) (whole t) (whole (before_last other)) ⊎ On (whole (before_last other)) (whole t) (whole (before_last one))
+  on_ray_along one other along along_too long long_too last last_too firsts = elim (cases_lt 0 (length walk - 1)) [
+    | inr single ↦
+        let none : length walk - 1 ≡ 0 = omega arith in
+        let same : before_last one ≡ before_last other =
+        only_step corners tris fits walk w t ends one along long last none ∙ firsts ∙ sym (only_step corners tris fits walk w t ends other along_too long_too last_too none) in
+        inl (subst (λ (v : Point). On (whole (before_last one)) (whole t) (whole v)) same (on_last_end (whole t) (whole (before_last one))))
+    | inl more ↦
+        let n : ℕ = length walk - 1 - 1 in
+        let (i, j, c, has) = some_crossed corners tris fits walk w n (omega arith) in
+        on_ray_over_side n i j (omega arith) c has one other along along_too long long_too last last_too firsts
+  ]
+
+module _ (corners : List Point) (tris : List Tri) (fits : Fits corners tris) where
+  -- a chain along a walk between its ends
+  along_walk : (walk : List ℕ) (w : IsWalk tris walk) (s t : Point) → IsInTri corners (walk_tri tris walk 0) (whole s)
+      → IsInTri corners (walk_tri tris walk (length walk - 1)) (whole t) → (chain : List Point) → IsBentChain corners chain → 2 ≤ length chain
+      → point_at chain 0 ≡ s → last_of chain ≡ t → IsAlong corners tris fits walk w chain
+  along_walk walk w s t starts ends chain bent long first last =
+      let in_first = subst (λ (v : Point). IsInTri corners (walk_tri tris walk 0) (whole v)) (sym first) starts in
+      record {
+        is_bent = bent;
+        follows = follows corners tris fits walk w chain bent long in_first
+            (subst (λ (v : Point). IsInTri corners (walk_tri tris walk (length walk - 1)) (whole v)) (sym last) ends);
+        starts = in_first;
+      }
+
+  -- so two chains between two points come to the last one on one ray
+  pub come_on_one_ray : ComeOnOneRay corners
+  come_on_one_ray one other bent bent_too long long_too firsts lasts =
+      let s = point_at one 0 in
+      let t = last_of one in
+      let (k, within, inside) = some_triangle corners tris fits (whole s) (whole_is_point s) (bent.chain.inside 0 (omega arith)) in
+      let h = front_to corners tris fits k within (whole t) (whole_is_point t) (bent.chain.inside (length one - 1) (omega arith)) in
+      let starts = subst (λ n. IsInTri corners (tri_at tris n) (whole s)) (sym h.begins) inside in
+      let ends : IsFirstWith corners tris h.front (whole t) (length h.front - 1) = record {
+        within = omega (arith, h.is_walk.some);
+        has = h.has;
+        least = λ l less. h.new l (omega arith);
+      } in
+      on_ray_along corners tris fits h.front h.is_walk t ends one other (along_walk h.front h.is_walk s t starts h.has one bent long refl refl)
+      (along_walk h.front h.is_walk s t starts h.has other bent_too long_too (sym firsts) (sym lasts)) long long_too refl (sym lasts) firsts
