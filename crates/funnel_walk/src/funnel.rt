@@ -1,5 +1,5 @@
 // The names of a funnel, from the left end to the right one.
-ghost use Rattle.std.specs.Prelude.{◌≡◌, ◌+◌, ◌-◌, ◌<◌, ◌≤◌, ◌++◌, ◌↔◌, IsTrue, drop, length, min, take, vec_capacity};
+ghost use Rattle.std.specs.Prelude.{◌≡◌, ◌≢◌, ◌+◌, ◌-◌, ◌<◌, ◌≤◌, ◌++◌, ◌↔◌, IsTrue, drop, length, min, take, vec_capacity};
 ghost use Rattle.plane.specs.Point.{whole};
 ghost use Rattle.funnels.specs.Funnel.{IsPassed, IsReachedFrom};
 ghost use Rattle.exact_plane.specs.Spot.{IsNamed, point_named};
@@ -36,10 +36,17 @@ fn is_passed<T: Turns, L: Ledger>(
 {
     let (left, right) = (name_at(names, j - 1), name_at(names, j));
     if j <= apex {
-        board.turn(right, left, y, steps) != Direction::Left
+        is_not_left(board.turn(right, left, y, steps))
     } else {
         board.turn(left, right, y, steps) == Direction::Right
     }
+}
+
+// Whether a turn goes straight on or to the right.
+fn is_not_left(turn: Direction) -> bool
+    ensures { IsTrue result ↔ (turn ≢ Direction.Left) }
+{
+    turn != Direction::Left
 }
 
 // Takes away names on the right, until the way to `y` comes from the last one. The names that the way leaves behind go to

@@ -1,7 +1,7 @@
 ghost use Rattle.std.specs.Io.KnownBytes.{Keeps};
 ghost use Rattle.std.specs.Prelude.{◌≡◌, ◌≢◌, ◌<◌, ◌≤◌, ◌⊎◌, ◌↔◌, ℕ, [], List, Ok, Err, IsOk, IfOk, IfSome, OnOk, OnErr, length};
 ghost use Rattle.geo_io.specs.Counts.{Rose};
-ghost use Rattle.geo_io.specs.Transfers.{GivesMoreThan};
+ghost use Rattle.geo_io.specs.Transfers.{GivesAtMost, GivesMoreThan};
 ghost use Rattle.geo_text.specs.Reading.{IsWellSized};
 ghost use Rattle.geo_session.specs.Answer.{AppendsReadingAnswer};
 ghost use Rattle.geo.specs.Fault.{fault_of, status_of};
@@ -64,7 +64,8 @@ pub fn geo_main<S: Source, K: Sink>(
     ensures usage { (result ≡ Err RunFault.Usage) ↔ (words.now ≢ []) }
     ensures unread { result ≡ Err RunFault.Usage → (source.new ≡ source.old) × (sink.new ≡ sink.old) }
 
-    ensures read_fault { result ≡ Err RunFault.ReadFault → Rose (S.faults source.old) (S.faults source.new) × (sink.new ≡ sink.old) }
+    ensures read_fault { result ≡ Err RunFault.ReadFault → Rose (S.faults source.old) (S.faults source.new)
+        × GivesAtMost 8388608 (S.left source.old) (S.left source.new) × (sink.new ≡ sink.old) }
     ensures too_long { result ≡ Err RunFault.TooLong → GivesMoreThan 8388608 (S.left source.old) (S.left source.new)
         × (S.faults source.new ≡ S.faults source.old) × (sink.new ≡ sink.old) }
     ensures write_fault { result ≡ Err RunFault.WriteFault → Rose (K.faults sink.old) (K.faults sink.new)

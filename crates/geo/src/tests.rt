@@ -49,6 +49,100 @@ fn sink(alloc: Global, room: usize, piece: usize, failing: &[u64]) -> Result<Mem
     MemorySink::with_room(alloc, room, piece, Vec::from_slice(alloc, failing)?)
 }
 
+// A script, what fails in its run, and how the run ends. No call fails where the number of the call is 0.
+#[derive(Drop)]
+struct Row {
+    number: u32,
+    script: &'static [u8],
+    failing_read: u64,
+    room: usize,
+    failing_write: u64,
+    answer: Result<(), RunFault>,
+    output: &'static [u8],
+}
+
+// A run that meets no fault.
+fn plain(number: u32, script: &'static [u8], output: &'static [u8]) -> Row {
+    Row {
+        number,
+        script,
+        failing_read: 0,
+        room: 4096,
+        failing_write: 0,
+        answer: Ok(()),
+        output,
+    }
+}
+
+// The worked scripts, by number, with their whole outputs. A number that is left out is a script of commands that nothing
+// answers yet, or of words of the command line; where only some records are left out, it is said above the row.
+#[test]
+#[rattlefmt::skip]
+fn worked_scripts(rt: HostRuntime) -> Result<(), Fail> {
+    let rows: [Row; 27] = [
+        plain(1, b"polygon,0,0,4,0,4,2,2,2,2,4,0,4\n", b"polygon,6\n"),
+        plain(2, b"", b""),
+        plain(3, b"polygon,0,0,4,4,4,0,0,4\n", b"bad,clash,0,2\n"),
+        plain(4, b"polygon,0,0,4,0,4,4,2,0\n", b"bad,clash,0,2\n"),
+        plain(5, b"polygon,0,0,2,0,4,0,0,4\n", b"polygon,4\n"),
+        plain(6, b"polygon,0,0,1000000,0,0,1000001\npolygon,0,0,1000000,0,0,1000000\n", b"bad,range,6\npolygon,3\n"),
+        plain(7, b"polygon,0,0,4,0,4,2,2,2,2,4,0,4\npath,4,1,1,4\n", b"polygon,6\npath,3,4,1,2,2,1,4\n"),
+        plain(8, b"polygon,0,0,4,0,4,2,2,2,2,4,0,4\npath,4,0,0,4\n", b"polygon,6\npath,2,4,0,0,4\n"),
+        plain(9, b"polygon,0,0,2,0,2,1,4,1,4,2,1,2,1,1,0,1\npath,0,1,4,1\n", b"polygon,8\npath,2,0,1,4,1\n"),
+        plain(10, b"polygon,0,0,2,0,2,1,4,1,4,2,1,2,1,1,0,1\npath,0,0,1,2\npath,0,0,4,1\n", b"polygon,8\npath,3,0,0,1,1,1,2\npath,3,0,0,2,1,4,1\n"),
+        plain(11, b"polygon,0,0,4,0,4,2,2,2,2,4,0,4\npath,1,1,1,1\npath,2,2,2,2\n", b"polygon,6\npath,1,1,1\npath,1,2,2\n"),
+        plain(12, b"polygon,0,0,4,0,4,2,2,2,2,4,0,4\npath,3,3,1,1\npath,1,1,3,3\npath,3,3,3,3\n",
+            b"polygon,6\nbad,outside,1\nbad,outside,2\nbad,outside,1\n"),
+        plain(17, b"polygon,0,0,4,0,4,2,2,2,2,4,0,4\ncheck,4,1,2,2,1,4\ncheck,4,0,2,2,0,4\n", b"polygon,6\ntaut\nnot,straight,1\n"),
+        Row { failing_read: 2, room: 100, answer: Err(RunFault::ReadFault), ..plain(19, b"polygon,0,0", b"") },
+        Row { failing_write: 3, room: 100, answer: Err(RunFault::WriteFault),
+            ..plain(19, b"polygon,0,0,4,0,4,2,2,2,2,4,0,4\npath,4,1,1,4\n", b"polygon,6\npath,3,4,1") },
+        // without `tree`
+        plain(20, b"polygon,0,4,2,4,2,2,4,2,4,0,0,0\npath,4,1,1,4\n", b"polygon,6\npath,3,4,1,2,2,1,4\n"),
+        plain(21, b"polygon,0,0,4,0,4,2,2,2,2,4,0,4\ninside,1,1\ninside,4,1\ninside,2,2\ninside,3,3\ninside,1,2\n",
+            b"polygon,6\ninside\nedge\nedge\noutside\ninside\n"),
+        plain(22, b"polygon,0,0,4,0,4,2,2,2,2,4,0,4\ncheck,4,1,1,4\ncheck,4,1,4,1\ncheck,0,0,1,1,2,2\ncheck,4,2,2,2,0,0\ncheck,3,3\ncheck,1,1\n",
+            b"polygon,6\nnot,leaves,0\nnot,repeat,0\nnot,not_reflex,1\nnot,wrong_side,1\nnot,leaves,0\ntaut\n"),
+        // without `kernel`
+        plain(23, b"frob,1\npolygon,0,0,1\npolygon,0,0,1,1\npolygon,0,0,x,0,0,9999999\npath,1,x,1,1\npath,1,2,3\ncheck\ninside,,1\ngeo,2\n",
+            b"bad,word\nbad,fields\nbad,few\nbad,number,3\nbad,number,2\nbad,fields\nbad,few\nbad,number,1\nbad,word\n"),
+        plain(24, b"polygon,0,0,4,0,4,2,2,2,2,4,0,4\npolygon,0,0,4,4,4,0,0,4\ninside,1,1\n", b"polygon,6\nbad,clash,0,2\ninside\n"),
+        // without `kernel`
+        plain(28, b"polygon,0,0,6,0,3,1,0,5\n", b"polygon,4\n"),
+        plain(30, b"polygon,0,0,6,0,6,4,4,4,4,2,2,2,2,4,0,4\npath,5,4,1,4\n", b"polygon,8\npath,4,5,4,4,2,2,2,1,4\n"),
+        // without `see`
+        plain(31, b"polygon,0,5,3,5,3,2,5,2,5,0,0,0\n", b"polygon,6\n"),
+        plain(32, b"polygon,0,0,0,0,4,0,0,4\npolygon,1,1,1,1,1,1\n", b"bad,clash,0,1\nbad,clash,0,1\n"),
+        plain(33, b"polygon,0,0,4,0,4,2,2,2,2,4,0,4\n path ,+4,01,1,004", b"polygon,6\npath,3,4,1,2,2,1,4\n"),
+        // without `kernel`
+        plain(34, b"polygon,0,0,9000,0,9000,4000,5000,4000,5000,4200,9000,4200,9000,8000,0,8000,0,4200,3000,4200,3000,4000,0,4000\npath,8000,1000,8000,7000\ninside,7000,4100\n",
+            b"polygon,12\npath,4,8000,1000,5000,4000,5000,4200,8000,7000\noutside\n"),
+        // without `hull`
+        plain(37, b"polygon,0,0,4,0,4,2,2,2,2,4,0,4\ninside,1000001,0\n", b"polygon,6\nbad,range,1\n"),
+    ];
+    for row in rows {
+        let mut source = source(rt.alloc(), row.script, 11, &[row.failing_read])?;
+        let mut sink = sink(rt.alloc(), row.room, 10, &[row.failing_write])?;
+        let outcome = run(rt.alloc(), &mut source, &mut sink)?;
+        assert_eq!(rt; outcome.answer, row.answer, "script {}", row.number);
+        assert_eq!(rt; outcome.taken.as_slice(), row.output, "script {}", row.number);
+        assert_eq!(rt; outcome.left, 0, "script {}", row.number);
+    }
+    Ok(())
+}
+
+#[test]
+fn a_number_of_a_thousand_digits_is_out_of_range(rt: HostRuntime) -> Result<(), Fail> {
+    let mut script = Vec::from_slice(rt.alloc(), b"inside,")?;
+    script.extend_from_slice(&[b'9'; 1000])?;
+    script.extend_from_slice(b",0\n")?;
+    assert_eq!(rt;
+        output(rt.alloc(), &script)?.as_slice(),
+        b"bad,range,1\n".as_slice()
+    );
+    Ok(())
+}
+
 // The output of a script that meets no fault.
 fn output(alloc: Global, script: &[u8]) -> Result<Vec<u8>, Memory> {
     let mut source = source(alloc, script, 7, &[])?;
@@ -58,42 +152,26 @@ fn output(alloc: Global, script: &[u8]) -> Result<Vec<u8>, Memory> {
 
 #[test]
 #[rattlefmt::skip]
-fn worked_scripts(rt: HostRuntime) -> Result<(), Fail> {
-    let rows: [(&str, &[u8], &[u8]); 26] = [
-        ("an L", b"polygon,0,0,4,0,4,2,2,2,2,4,0,4\n", b"polygon,6\n"),
-        ("nothing", b"", b""),
-        ("a bow tie", b"polygon,0,0,4,4,4,0,0,4\n", b"bad,clash,0,2\n"),
-        ("a vertex on an edge", b"polygon,0,0,4,0,4,4,2,0\n", b"bad,clash,0,2\n"),
-        ("a flat vertex", b"polygon,0,0,2,0,4,0,0,4\n", b"polygon,4\n"),
-        ("the limit of coordinates", b"polygon,0,0,1000000,0,0,1000001\npolygon,0,0,1000000,0,0,1000000\n", b"bad,range,6\npolygon,3\n"),
-        ("equal points", b"polygon,0,0,0,0,4,0,0,4\npolygon,1,1,1,1,1,1\n", b"bad,clash,0,1\nbad,clash,0,1\n"),
-        ("words", b"frob,1\nkernel\ngeo,2\n", b"bad,word\nbad,later\nbad,word\n"),
-        ("counts", b"polygon,0,0,1\npolygon,0,0,1,1\npolygon\n", b"bad,fields\nbad,few\nbad,few\n"),
-        ("numbers before the range", b"polygon,0,0,x,0,0,9999999\n", b"bad,number,3\n"),
+fn more_scripts(rt: HostRuntime) -> Result<(), Fail> {
+    let rows: [(&str, &[u8], &[u8]); 14] = [
+        ("words that nothing answers yet", b"tree,1,1\nreach,1\nsee\nkernel,1\nhull\n", b"bad,later\nbad,later\nbad,later\nbad,later\nbad,later\n"),
+        ("a polygon without points", b"polygon\n", b"bad,few\n"),
         ("blanks and signs", b" polygon ,+0,00,4, 0,\t4,4\t", b"polygon,3\n"),
         ("a refusal keeps what follows", b"polygon,0,0,4,4,4,0,0,4\npolygon,0,0,4,0,0,4\n", b"bad,clash,0,2\npolygon,3\n"),
         ("ends of records", b"frob\rfrob\r\nfrob\n\n\nfrob", b"bad,word\nbad,word\nbad,word\nbad,word\n"),
         ("inside without a polygon", b"inside,1,1\n", b"bad,no_polygon\n"),
-        ("places in an L", b"polygon,0,0,4,0,4,2,2,2,2,4,0,4\ninside,1,1\ninside,4,1\ninside,2,2\ninside,3,3\ninside,1,2\n",
-            b"polygon,6\ninside\nedge\nedge\noutside\ninside\n"),
         ("places in an L that runs clockwise", b"polygon,0,4,2,4,2,2,4,2,4,0,0,0\ninside,1,1\ninside,4,1\ninside,2,2\ninside,3,3\ninside,1,2\n",
             b"polygon,6\ninside\nedge\nedge\noutside\ninside\n"),
-        ("a refused polygon leaves the one before", b"polygon,0,0,4,0,4,2,2,2,2,4,0,4\npolygon,0,0,4,4,4,0,0,4\ninside,1,1\n",
-            b"polygon,6\nbad,clash,0,2\ninside\n"),
-        ("refusals of inside", b"polygon,0,0,4,0,4,2,2,2,2,4,0,4\ninside,1\ninside,x,1\ninside,,1\ninside,1000001,0\nreach,1\n",
-            b"polygon,6\nbad,fields\nbad,number,1\nbad,number,1\nbad,range,1\nbad,later\n"),
-        ("lists to check in an L", b"polygon,0,0,4,0,4,2,2,2,2,4,0,4\ncheck,4,1,2,2,1,4\ncheck,4,0,2,2,0,4\ncheck,4,1,1,4\ncheck,4,1,4,1\ncheck,0,0,1,1,2,2\ncheck,4,2,2,2,0,0\ncheck,3,3\ncheck,1,1\n",
-            b"polygon,6\ntaut\nnot,straight,1\nnot,leaves,0\nnot,repeat,0\nnot,not_reflex,1\nnot,wrong_side,1\nnot,leaves,0\ntaut\n"),
+        ("refusals of inside", b"polygon,0,0,4,0,4,2,2,2,2,4,0,4\ninside,1\ninside,x,1\ninside,,1\ninside,1000001,0\n",
+            b"polygon,6\nbad,fields\nbad,number,1\nbad,number,1\nbad,range,1\n"),
         ("lists to check in an L that runs clockwise", b"polygon,0,4,2,4,2,2,4,2,4,0,0,0\ncheck,4,1,2,2,1,4\ncheck,4,0,2,2,0,4\ncheck,4,1,1,4\ncheck,0,0,1,1,2,2\ncheck,4,2,2,2,0,0\n",
             b"polygon,6\ntaut\nnot,straight,1\nnot,leaves,0\nnot,not_reflex,1\nnot,wrong_side,1\n"),
         ("refusals of check", b"check\ncheck,1,1\npolygon,0,0,4,0,4,2,2,2,2,4,0,4\ncheck\ncheck,1\ncheck,1,x\ncheck,1,1000001\n",
             b"bad,few\nbad,no_polygon\npolygon,6\nbad,few\nbad,fields\nbad,number,2\nbad,range,2\n"),
-        ("paths in an L", b"polygon,0,0,4,0,4,2,2,2,2,4,0,4\npath,4,1,1,4\npath,1,4,4,1\npath,0,0,0,0\npath,0,0,4,1\npath,4,2,2,4\n",
-            b"polygon,6\npath,3,4,1,2,2,1,4\npath,3,1,4,2,2,4,1\npath,1,0,0\npath,2,0,0,4,1\npath,3,4,2,2,2,2,4\n"),
-        ("paths in an L that runs clockwise", b"polygon,0,4,2,4,2,2,4,2,4,0,0,0\npath,4,1,1,4\npath,0,0,0,0\npath,9,9,0,0\n",
-            b"polygon,6\npath,3,4,1,2,2,1,4\npath,1,0,0\nbad,outside,1\n"),
-        ("ends of a path outside an L", b"polygon,0,0,4,0,4,2,2,2,2,4,0,4\npath,9,9,0,0\npath,0,0,9,9\npath,9,9,3,3\npath,3,3,3,3\n",
-            b"polygon,6\nbad,outside,1\nbad,outside,2\nbad,outside,1\nbad,outside,1\n"),
+        ("more paths in an L", b"polygon,0,0,4,0,4,2,2,2,2,4,0,4\npath,1,4,4,1\npath,0,0,4,1\npath,4,2,2,4\n",
+            b"polygon,6\npath,3,1,4,2,2,4,1\npath,2,0,0,4,1\npath,3,4,2,2,2,2,4\n"),
+        ("more paths in an L that runs clockwise", b"polygon,0,4,2,4,2,2,4,2,4,0,0,0\npath,0,0,0,0\npath,9,9,0,0\n",
+            b"polygon,6\npath,1,0,0\nbad,outside,1\n"),
         ("refusals of path", b"path,0,0,1,1\npath,0,0,1\npath,0,0,1,x\npath,0,0,1,1000001\n",
             b"bad,no_polygon\nbad,fields\nbad,number,4\nbad,range,4\n"),
         ("an open quote", b"\"frob,1", b"bad,word\n"),
@@ -101,31 +179,6 @@ fn worked_scripts(rt: HostRuntime) -> Result<(), Fail> {
     for (name, script, want) in rows {
         assert_eq!(rt; output(rt.alloc(), script)?.as_slice(), want, "{name}");
     }
-    Ok(())
-}
-
-#[test]
-fn a_read_fault_writes_nothing(rt: HostRuntime) -> Result<(), Fail> {
-    let mut source = source(rt.alloc(), b"polygon,0,0", 11, &[2])?;
-    let mut sink = sink(rt.alloc(), 100, 10, &[])?;
-    let outcome = run(rt.alloc(), &mut source, &mut sink)?;
-    assert_eq!(rt; outcome.answer, Err(RunFault::ReadFault));
-    assert_eq!(rt; outcome.taken.len(), 0);
-    assert_eq!(rt; outcome.left, 0);
-    Ok(())
-}
-
-#[test]
-fn a_write_fault_leaves_the_front(rt: HostRuntime) -> Result<(), Fail> {
-    let script = b"polygon,0,0,4,0,4,2,2,2,2,4,0,4\npolygon,0,0,4,4,4,0,0,4\n";
-    let mut source = source(rt.alloc(), script, 64, &[])?;
-    let mut sink = sink(rt.alloc(), 100, 10, &[3])?;
-    let outcome = run(rt.alloc(), &mut source, &mut sink)?;
-    assert_eq!(rt; outcome.answer, Err(RunFault::WriteFault));
-    assert_eq!(rt;
-        outcome.taken.as_slice(),
-        b"polygon,6\nbad,clash,".as_slice()
-    );
     Ok(())
 }
 
@@ -147,14 +200,20 @@ fn the_limit_of_a_script(rt: HostRuntime) -> Result<(), Fail> {
 
 #[test]
 fn words_are_refused(rt: HostRuntime) -> Result<(), Fail> {
-    let words = [String::from_str(rt.alloc(), "x")?];
-    let mut source = source(rt.alloc(), b"frob\n", 8, &[])?;
-    let mut sink = sink(rt.alloc(), 8, 8, &[])?;
-    assert_eq!(rt;
-        geo_main(rt.alloc(), &words, &mut source, &mut sink),
-        Err(RunFault::Usage)
-    );
-    assert_eq!(rt; source.left().len(), 5);
-    assert_eq!(rt; sink.taken().len(), 0);
+    let lists: [&[&str]; 4] = [&["--comb", "0"], &["--comb", "2048"], &["x"], &["--"]];
+    for list in lists {
+        let mut words = Vec::new(rt.alloc());
+        for word in list {
+            words.push(String::from_str(rt.alloc(), word)?)?;
+        }
+        let mut source = source(rt.alloc(), b"frob\n", 8, &[])?;
+        let mut sink = sink(rt.alloc(), 8, 8, &[])?;
+        assert_eq!(rt;
+            geo_main(rt.alloc(), &words, &mut source, &mut sink),
+            Err(RunFault::Usage)
+        );
+        assert_eq!(rt; source.left().len(), 5);
+        assert_eq!(rt; sink.taken().len(), 0);
+    }
     Ok(())
 }

@@ -1,4 +1,4 @@
-ghost use Rattle.std.specs.Prelude.{◌≡◌, ◌+◌, ◌*◌, ◌≤◌, ◌++◌, IfOk, length, vec_capacity};
+ghost use Rattle.std.specs.Prelude.{◌≡◌, ◌+◌, ◌-◌, ◌*◌, ◌≤◌, ◌++◌, IfOk, OnErr, length, vec_capacity};
 ghost use Rattle.plane.specs.Point.{whole};
 ghost use Rattle.rings.specs.Chain.{IsTaut};
 ghost use Rattle.meshes.specs.Fits.{Fits};
@@ -49,6 +49,7 @@ impl Held {
         ensures answer { IfOk result (IsChainIn (given_of self.now) s.now t.now) }
         ensures few { IfOk result (λ found. IfOk found (λ points. length points.items ≤ 4097)) }
         ensures steps { steps.new ≤ steps.old + 12 * length self.now.corners }
+        ensures memory { OnErr result (steps.new ≤ steps.old + 6 * (length self.now.corners - 2)) }
     {
         let Some(from) = locate(&self.mesh, &self.ring, s, steps) else {
             return Ok(Err(Bad::Outside(1)));
@@ -78,6 +79,7 @@ fn chain_between<L: Ledger>(
     ensures taut { IfOk result (λ points. IsTaut ring.now.corners s.now t.now points.items) }
     ensures few { IfOk result (λ points. length points.items ≤ 4097) }
     ensures steps { steps.new ≤ steps.old + 4 * length ring.now.corners }
+    ensures memory { OnErr result (steps.new ≡ steps.old) }
 {
     let _count = ring.len();
     let sleeve = sleeve(alloc, mesh, from, to)?;

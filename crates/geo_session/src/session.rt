@@ -1,4 +1,4 @@
-ghost use Rattle.std.specs.Prelude.{◌≡◌, ◌+◌, ◌*◌, ◌≤◌, ◌++◌, length, take, Some, IfOk, OnOk, OnErr};
+ghost use Rattle.std.specs.Prelude.{◌≡◌, ◌+◌, ◌-◌, ◌*◌, ◌≤◌, ◌++◌, length, take, Some, IfOk, OnOk, OnErr};
 ghost use Rattle.plane.specs.Point.{Point};
 ghost use Rattle.geo_text.specs.Reading.{IsWellSized};
 ghost use Rattle.ring_check.specs.Oriented.{given_of};
@@ -41,7 +41,8 @@ impl Session {
         Session { held: None }
     }
 
-    /// The taut chain from one point to another, or why there is none. It takes all its memory before the walk.
+    /// The taut chain from one point to another, or why there is none. It takes all its memory before the walk: where memory
+    /// is refused, the steps are those of finding the two points among the triangles.
     pub fn chain<L: Ledger>(
         &self,
         alloc: Global,
@@ -52,6 +53,7 @@ impl Session {
         ensures answer { IfOk result (IsChainAnswer self.now s.now t.now) }
         ensures few { IfOk result (λ found. IfOk found (λ points. length points.items ≤ 4097)) }
         ensures steps { steps.new ≤ steps.old + 12 * size_of self.now }
+        ensures memory { OnErr result (steps.new ≤ steps.old + 6 * (size_of self.now - 2)) }
     {
         match &self.held {
             Some(held) => held.chain(alloc, s, t, steps),

@@ -1,7 +1,7 @@
-use Rattle.std.proofs.Common.{◌≡◌, ◌≢◌, ◌↔◌, ◌-◌, ◌<◌, IsTrue, arith, rules, length}
+use Rattle.std.proofs.Common.{◌≡◌, ◌↔◌, ◌-◌, ◌<◌, IsTrue, arith, rules, length}
 use Rattle.plane.specs.Point.{whole}
 use Rattle.exact_plane.specs.Spot.{point_named}
-use Rattle.exact_plane.specs.declared.direction.Direction.TheVariants.{Left, Right}
+use Rattle.exact_plane.specs.declared.direction.Direction.TheVariants.{Right}
 use Rattle.funnel_walk.proofs.NamedLists.{name_is_point}
 use Rattle.funnel_walk.proofs.Passing.{passed_left, passed_right}
 use Rattle.funnel_walk.proofs.funnel.is_passed.Goals as goal
@@ -15,8 +15,7 @@ returns-then-j-apex-clause-passed g c =
     let left = c.name_at-left.result in
     let right = c.name_at-right.result in
     let before : j - 1 < length names = omega arith in
-    let turns : IsTrue c.ne.result ↔ (c.turn.result ≢ Left) = search rules in
-    let asked = rw c.turn.ensures.turn at turns in
+    let asked = rw c.turn.ensures.turn at c.is_not_left.ensures in
     let passed = passed_left (named_points at names) c.args.apex j (whole (at c.args.y)) (at right) (at left) c.if-j-apex.true
     (name_is_point at names j right c.requires.within c.name_at-right.ensures)
     (name_is_point at names (j - 1) left before c.name_at-left.ensures) in
