@@ -1,6 +1,6 @@
 ghost use Rattle.std.specs.Prelude.{◌≡◌, ◌+◌, ◌-◌, ◌*◌, ◌≤◌, ◌++◌, IfOk, OnErr, length, vec_capacity};
 ghost use Rattle.plane.specs.Point.{whole};
-ghost use Rattle.rings.specs.Chain.{IsTaut};
+ghost use Rattle.rings.specs.Chain.{IsPath};
 ghost use Rattle.meshes.specs.Fits.{Fits};
 ghost use Rattle.exact_plane.specs.Spot.{IsNamed, point_named};
 ghost use Rattle.ring_check.specs.Oriented.{given_of};
@@ -76,7 +76,7 @@ fn chain_between<L: Ledger>(
     requires fits { Fits ring.now.corners mesh.now }
     requires from { IsLeastHolding ring.now.corners mesh.now (whole s.now) from }
     requires to { IsLeastHolding ring.now.corners mesh.now (whole t.now) to }
-    ensures taut { IfOk result (λ points. IsTaut ring.now.corners s.now t.now points.items) }
+    ensures path { IfOk result (λ points. IsPath ring.now.corners s.now t.now points.items) }
     ensures few { IfOk result (λ points. length points.items ≤ 4097) }
     ensures steps { steps.new ≤ steps.old + 4 * length ring.now.corners }
     ensures memory { OnErr result (steps.new ≡ steps.old) }

@@ -3,7 +3,9 @@
 
 mod held;
 mod judgement;
+mod laws;
 mod paths;
 mod session;
 
+pub use laws::{one_answer, one_output};
 pub use session::Session;

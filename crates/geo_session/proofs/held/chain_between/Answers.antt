@@ -1,6 +1,6 @@
 use Rattle.std.proofs.Common.{arith}
 use Rattle.geo_session.proofs.SleeveRoom.{sleeve_few}
-use Rattle.geo_session.proofs.WalkedNames.{names_named, names_taut}
+use Rattle.geo_session.proofs.WalkedNames.{names_named, names_path}
 use Rattle.geo_session.proofs.held.chain_between.Goals as goal
 
 pub with_room-requires : goal.with_room-requires
@@ -12,13 +12,13 @@ pub put_points-requires-clause-named : goal.put_points-requires-clause-named
 put_points-requires-clause-named g c =
     rw c.deref.ensures.value
     (names_named c.args.ring.now.corners _ c.args.s.now _ c.args.t.now _ c.walk.new.out.items c.in_ok-names.names.items
-    c.new-board.ensures.corners c.new-board.ensures.start c.new-board.ensures.goal c.in_ok-names.ensures.items c.walk.ensures.taut)
+    c.new-board.ensures.corners c.new-board.ensures.start c.new-board.ensures.goal c.in_ok-names.ensures.items c.walk.ensures.path)
 
-pub returns-clause-taut : goal.returns-clause-taut
-returns-clause-taut g c =
+pub returns-clause-path : goal.returns-clause-path
+returns-clause-path g c =
     rw (c.put_points.ensures.points, c.in_ok-points.ensures.items, c.deref.ensures.value)
-    (names_taut c.args.ring.now.corners _ c.args.s.now _ c.args.t.now _ c.walk.new.out.items c.in_ok-names.names.items
-    c.new-board.ensures.corners c.new-board.ensures.start c.new-board.ensures.goal c.in_ok-names.ensures.items c.walk.ensures.taut)
+    (names_path c.args.ring.now.corners _ c.args.s.now _ c.args.t.now _ c.walk.new.out.items c.in_ok-names.names.items
+    c.new-board.ensures.corners c.new-board.ensures.start c.new-board.ensures.goal c.in_ok-names.ensures.items c.walk.ensures.path)
 
 pub returns-clause-few : goal.returns-clause-few
 returns-clause-few g c =
