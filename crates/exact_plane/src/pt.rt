@@ -10,7 +10,7 @@ use std::cmp::Ordering;
 use std::marker::Model;
 use std::sync::ledger::Ledger;
 
-/// A point with whole-number coordinates, each from -1,000,000 to 1,000,000: x to the right, y upward. It is asked
+/// A point with whole-number coordinates, each at most `MAX_COORDINATE` in size: x to the right, y upward. It is asked
 /// about only by calls that take a step.
 #[derive(Clone, Copy)]
 pub struct Pt {

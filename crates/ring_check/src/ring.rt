@@ -14,7 +14,7 @@ use plane::MAX_CORNERS;
 use std::marker::Model;
 use std::sync::ledger::Ledger;
 
-/// The vertices of a simple polygon in counterclockwise order, 3 to 4,096 of them. It is made of a list that may run
+/// The vertices of a simple polygon in counterclockwise order, 3 to `MAX_CORNERS` of them. It is made of a list that may run
 /// either way: vertex 0 is the first of the list, and a clockwise list is read backward from there. Edge i goes from
 /// vertex i to the next, the last one back to vertex 0.
 #[derive(Drop)]
@@ -43,7 +43,7 @@ impl Model for Ring {
 pub enum RingFault {
     /// There are fewer than 3 points.
     Few,
-    /// There are more than 4,096 points.
+    /// There are more than `MAX_CORNERS` points.
     Many,
     /// Edges i < j of the list clash, and no lesser pair does.
     Clash(u32, u32),
