@@ -19,7 +19,7 @@ pub use cone::in_cone;
 pub use direction::{Direction, turn};
 pub use hom::{Hom, order_hom, turn_hom};
 pub use memory::Memory;
-pub use pt::{COORDINATE_LIMIT, Pt, order};
+pub use pt::{Pt, order};
 pub use segments::{meet_only_at, on_segment, segments_meet};
 pub use steps::Steps;
 pub use turns::{Spot, Turns};

@@ -5,14 +5,12 @@ ghost use Rattle.plane.specs.Point.{IsInBounds, IsInLimit};
 
 use crate::steps::Steps;
 use crate::vector::Vector;
+use plane::MAX_COORDINATE;
 use std::cmp::Ordering;
 use std::marker::Model;
 use std::sync::ledger::Ledger;
 
-/// The greatest size of a coordinate.
-pub const COORDINATE_LIMIT: i64 = 1_000_000;
-
-/// A point with whole-number coordinates, each from -1,000,000 to 1,000,000: x to the right, y upward. It is asked
+/// A point with whole-number coordinates, each at most `MAX_COORDINATE` in size: x to the right, y upward. It is asked
 /// about only by calls that take a step.
 #[derive(Clone, Copy)]
 pub struct Pt {
@@ -98,7 +96,7 @@ fn intervals_meet(a: i64, b: i64, c: i64, d: i64) -> bool
 fn is_in_limit(z: i64) -> bool
     ensures { IsTrue result ↔ IsInLimit z }
 {
-    -COORDINATE_LIMIT <= z && z <= COORDINATE_LIMIT
+    z.unsigned_abs() <= MAX_COORDINATE
 }
 
 /// Compares x, then y. It takes one step.

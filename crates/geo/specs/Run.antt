@@ -2,6 +2,7 @@
 -- `taken` and `taken'` those that the sink has taken, where they tell them. This project's own.
 use Rattle.std.specs.Io.KnownBytes.{Appends, Consumes, IsAtEnd}
 use Rattle.std.specs.Prelude.{◌≡◌, ℕ, ◌≤◌, List, ◌∷◌, ◌++◌, length, take, None, Option}
+use Rattle.plane.specs.declared.limits.TheConstants.{MAX_SCRIPT}
 use Rattle.geo_text.specs.Reading.{reading_of}
 use Rattle.geo_text.specs.Records.{records_of}
 use Rattle.geo_session.specs.Answer.{IsReadingAnswer, State}
@@ -11,7 +12,7 @@ use Rattle.geo_session.specs.Output.{AreAnswers, IsOutput}
 pub record ReadsScript (left left' : Option (List ℕ)) (bytes : List ℕ) : Type 0 where
   pub read : Consumes left left' bytes
   pub end : IsAtEnd left'
-  pub within : length bytes ≤ 8388608
+  pub within : length bytes ≤ MAX_SCRIPT
 
 -- the sink took the whole output of the bytes
 pub record WritesOutput (bytes : List ℕ) (taken taken' : Option (List ℕ)) : Type 0 where

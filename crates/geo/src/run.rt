@@ -1,5 +1,6 @@
 ghost use Rattle.std.specs.Io.KnownBytes.{Keeps};
 ghost use Rattle.std.specs.Prelude.{◌≡◌, ◌≢◌, ◌<◌, ◌≤◌, ◌⊎◌, ◌↔◌, ℕ, [], List, Ok, Err, IsOk, IfOk, IfSome, OnOk, OnErr, length};
+ghost use Rattle.plane.specs.declared.limits.TheConstants.{MAX_SCRIPT};
 ghost use Rattle.geo_io.specs.Counts.{Rose};
 ghost use Rattle.geo_io.specs.Transfers.{GivesAtMost, GivesMoreThan};
 ghost use Rattle.geo_text.specs.Reading.{IsWellSized};
@@ -12,12 +13,10 @@ use exact_plane::{Memory, Steps};
 use geo_io::{Failed, ReadEnd, Sink, Source, read_all, write_all};
 use geo_session::Session;
 use geo_text::{Bad, Command, Script, put_bad};
+use plane::MAX_SCRIPT;
 use std::alloc::Global;
 use std::marker::Brand;
 use std::sync::ledger::{Blank, Ledger};
-
-/// The most bytes of a script.
-pub const MAX_SCRIPT: usize = 8_388_608;
 
 /// Why a run stopped before its end.
 #[derive(Clone, Copy, Debug, PartialEq, Eq)]
@@ -26,7 +25,7 @@ pub enum RunFault {
     Usage,
     /// The source failed. Nothing is written.
     ReadFault,
-    /// The source gave more than 8,388,608 bytes. Nothing is written.
+    /// The source gave more than `MAX_SCRIPT` bytes. Nothing is written.
     TooLong,
     /// The sink failed. The answers to the records before were written, and maybe the front of one more.
     WriteFault,
@@ -65,8 +64,8 @@ pub fn geo_main<S: Source, K: Sink>(
     ensures unread { result ≡ Err RunFault.Usage → (source.new ≡ source.old) × (sink.new ≡ sink.old) }
 
     ensures read_fault { result ≡ Err RunFault.ReadFault → Rose (S.faults source.old) (S.faults source.new)
-        × GivesAtMost 8388608 (S.left source.old) (S.left source.new) × (sink.new ≡ sink.old) }
-    ensures too_long { result ≡ Err RunFault.TooLong → GivesMoreThan 8388608 (S.left source.old) (S.left source.new)
+        × GivesAtMost MAX_SCRIPT (S.left source.old) (S.left source.new) × (sink.new ≡ sink.old) }
+    ensures too_long { result ≡ Err RunFault.TooLong → GivesMoreThan MAX_SCRIPT (S.left source.old) (S.left source.new)
         × (S.faults source.new ≡ S.faults source.old) × (sink.new ≡ sink.old) }
     ensures write_fault { result ≡ Err RunFault.WriteFault → Rose (K.faults sink.old) (K.faults sink.new)
         × AfterReading (S.left source.old) (S.left source.new) (λ bytes. WritesFirstAndFront bytes (K.taken sink.old) (K.taken sink.new)) }
@@ -75,9 +74,9 @@ pub fn geo_main<S: Source, K: Sink>(
 
     // Where the bytes are known and no fault comes, the length alone decides, want of memory aside.
     ensures complete { words.now ≡ [] → ¬ (Rose (S.faults source.old) (S.faults source.new)) → ¬ (Rose (K.faults sink.old) (K.faults sink.new)) →
-        IfSome (S.left source.old) (λ bytes. length bytes ≤ 8388608 → IsOk result ⊎ (result ≡ Err RunFault.Memory)) }
+        IfSome (S.left source.old) (λ bytes. length bytes ≤ MAX_SCRIPT → IsOk result ⊎ (result ≡ Err RunFault.Memory)) }
     ensures long { words.now ≡ [] → ¬ (Rose (S.faults source.old) (S.faults source.new)) →
-        IfSome (S.left source.old) (λ bytes. 8388608 < length bytes → (result ≡ Err RunFault.TooLong) ⊎ (result ≡ Err RunFault.Memory)) }
+        IfSome (S.left source.old) (λ bytes. MAX_SCRIPT < length bytes → (result ≡ Err RunFault.TooLong) ⊎ (result ≡ Err RunFault.Memory)) }
 {
     if !words.is_empty() {
         return Err(RunFault::Usage);

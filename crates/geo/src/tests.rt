@@ -1,9 +1,10 @@
 // Whole runs over memory: worked scripts, pieces, limits and faults.
 ghost use Rattle.std.specs.Prelude.{◌≤◌};
 
-use crate::run::{MAX_SCRIPT, RunFault, geo_main};
+use crate::run::{RunFault, geo_main};
 use exact_plane::Memory;
 use geo_io::{MemorySink, MemorySource};
+use plane::MAX_SCRIPT;
 use std::alloc::{AllocError, Global};
 use std::test::Fail;
 

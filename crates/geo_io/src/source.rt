@@ -1,6 +1,7 @@
 ghost use Rattle.std.specs.Io.KnownBytes.{Consumes, IsAtEnd, Keeps};
 ghost use Rattle.std.specs.Prelude.{◌≡◌, ◌≤◌, ◌<◌, ◌+◌, ◌^◌, ◌⊎◌, ℕ, List, None, Ok, Err, [], Option, length, take, vec_len, IfOk, IfSome, OnOk};
 ghost use Rattle.std.specs.Prelude.{OnErr};
+ghost use Rattle.plane.specs.declared.limits.TheConstants.{MAX_SCRIPT};
 ghost use Rattle.geo_io.specs.Counts.{Rose};
 ghost use Rattle.geo_io.specs.Transfers.{GivesFront, GivesMoreThan, GivesAtMost};
 ghost use Rattle.geo_io.specs.declared.source.ReadEnd.TheVariants.{Fault, Memory};
@@ -59,7 +60,7 @@ const PIECE: usize = 65536;
 
 /// Reads a source to its end. No read follows once more than `limit` bytes were given.
 pub fn read_all<S: Source>(alloc: Global, source: &mut S, limit: usize) -> Result<Vec<u8>, ReadEnd>
-    requires { limit ≤ 8388608 }
+    requires { limit ≤ MAX_SCRIPT }
 
     // The bytes are all that were left.
     ensures all { IfOk result (λ bytes. Consumes (S.left source.old) (S.left source.new) bytes.items) }
@@ -104,7 +105,7 @@ fn read_pieces<S: Source>(
     limit: usize,
 ) -> Result<Vec<u8>, ReadEnd>
     requires room { 0 < length piece.old }
-    requires limit { limit ≤ 8388608 }
+    requires limit { limit ≤ MAX_SCRIPT }
 
     ensures all { IfOk result (λ bytes. Consumes (S.left source.old) (S.left source.new) bytes.items) }
     ensures end { OnOk result (IsAtEnd (S.left source.new)) }

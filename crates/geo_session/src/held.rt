@@ -1,5 +1,6 @@
 ghost use Rattle.std.specs.Prelude.{◌≡◌, ◌+◌, ◌-◌, ◌*◌, ◌≤◌, ◌++◌, IfOk, OnErr, length, vec_capacity};
 ghost use Rattle.plane.specs.Point.{whole};
+ghost use Rattle.plane.specs.declared.limits.TheConstants.{MAX_CORNERS};
 ghost use Rattle.rings.specs.Chain.{IsPath};
 ghost use Rattle.meshes.specs.Fits.{Fits};
 ghost use Rattle.exact_plane.specs.Spot.{IsNamed, point_named};
@@ -47,7 +48,7 @@ impl Held {
         steps: &mut Steps<L>,
     ) -> Result<Result<Vec<Pt>, Bad>, Memory>
         ensures answer { IfOk result (IsChainIn (given_of self.now) s.now t.now) }
-        ensures few { IfOk result (λ found. IfOk found (λ points. length points.items ≤ 4097)) }
+        ensures few { IfOk result (λ found. IfOk found (λ points. length points.items ≤ MAX_CORNERS + 1)) }
         ensures steps { steps.new ≤ steps.old + 12 * length self.now.corners }
         ensures memory { OnErr result (steps.new ≤ steps.old + 6 * (length self.now.corners - 2)) }
     {
@@ -77,7 +78,7 @@ fn chain_between<L: Ledger>(
     requires from { IsLeastHolding ring.now.corners mesh.now (whole s.now) from }
     requires to { IsLeastHolding ring.now.corners mesh.now (whole t.now) to }
     ensures path { IfOk result (λ points. IsPath ring.now.corners s.now t.now points.items) }
-    ensures few { IfOk result (λ points. length points.items ≤ 4097) }
+    ensures few { IfOk result (λ points. length points.items ≤ MAX_CORNERS + 1) }
     ensures steps { steps.new ≤ steps.old + 4 * length ring.now.corners }
     ensures memory { OnErr result (steps.new ≡ steps.old) }
 {

@@ -1,5 +1,6 @@
 // The verdict on a list of points, and its line. Want of memory may leave the front of a line.
 ghost use Rattle.std.specs.Prelude.{◌≡◌, ◌≢◌, ◌≤◌, ◌++◌, length, take, IfOk, OnOk, OnErr};
+ghost use Rattle.plane.specs.declared.limits.TheConstants.{MAX_CHAIN};
 ghost use Rattle.ring_check.specs.Oriented.{given_of};
 ghost use Rattle.taut_check.specs.Verdict.{IsVerdict};
 ghost use Rattle.geo_session.specs.Answer.{IsVerdictText, TellsVerdict, broken_text};
@@ -20,7 +21,7 @@ pub fn put_judgement<L: Ledger>(
     points: &[Pt],
     steps: &mut Steps<L>,
 ) -> Result<(), Memory>
-    requires { (1 ≤ length points.now) × (length points.now ≤ 4096) }
+    requires { (1 ≤ length points.now) × (length points.now ≤ MAX_CHAIN) }
     ensures ok { OnOk result (AppendsSuch (TellsVerdict (given_of ring.now) points.now) out.old.items out.new.items) }
     ensures front { OnErr result (take (length out.old.items) out.new.items ≡ out.old.items) }
 {
@@ -35,7 +36,7 @@ fn given_verdict<L: Ledger>(
     points: &[Pt],
     steps: &mut Steps<L>,
 ) -> Result<Verdict, Memory>
-    requires { (1 ≤ length points.now) × (length points.now ≤ 4096) }
+    requires { (1 ≤ length points.now) × (length points.now ≤ MAX_CHAIN) }
     ensures { IfOk result (IsVerdict (given_of ring.now) points.now) }
 {
     check(alloc, ring, points, steps)

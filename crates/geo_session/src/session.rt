@@ -1,5 +1,6 @@
 ghost use Rattle.std.specs.Prelude.{◌≡◌, ◌+◌, ◌-◌, ◌*◌, ◌≤◌, ◌++◌, length, take, Some, IfOk, OnOk, OnErr};
 ghost use Rattle.plane.specs.Point.{Point};
+ghost use Rattle.plane.specs.declared.limits.TheConstants.{MAX_CHAIN, MAX_CORNERS};
 ghost use Rattle.geo_text.specs.Reading.{IsWellSized};
 ghost use Rattle.ring_check.specs.Oriented.{given_of};
 ghost use Rattle.geo_session.specs.Answer.{AppendsAnswer, IsPlaceText, polygon_text};
@@ -51,7 +52,7 @@ impl Session {
         steps: &mut Steps<L>,
     ) -> Result<Result<Vec<Pt>, Bad>, Memory>
         ensures answer { IfOk result (IsChainAnswer self.now s.now t.now) }
-        ensures few { IfOk result (λ found. IfOk found (λ points. length points.items ≤ 4097)) }
+        ensures few { IfOk result (λ found. IfOk found (λ points. length points.items ≤ MAX_CORNERS + 1)) }
         ensures steps { steps.new ≤ steps.old + 12 * size_of self.now }
         ensures memory { OnErr result (steps.new ≤ steps.old + 6 * (size_of self.now - 2)) }
     {
@@ -115,7 +116,7 @@ impl Session {
         out: &mut Vec<u8>,
         steps: &mut Steps<L>,
     ) -> Result<(), Memory>
-        requires { (3 ≤ length points) × (length points ≤ 4096) }
+        requires { (3 ≤ length points) × (length points ≤ MAX_CORNERS) }
         ensures ok { OnOk result (AppendsAnswer self.old (Command.Polygon points) out.old.items out.new.items self.new) }
         ensures same_session { OnErr result (self.new ≡ self.old) }
         ensures front { OnErr result (take (length out.old.items) out.new.items ≡ out.old.items) }
@@ -168,7 +169,7 @@ impl Session {
         out: &mut Vec<u8>,
         steps: &mut Steps<L>,
     ) -> Result<(), Memory>
-        requires { (1 ≤ length points.now) × (length points.now ≤ 4096) }
+        requires { (1 ≤ length points.now) × (length points.now ≤ MAX_CHAIN) }
         ensures ok { OnOk result (AppendsAnswer self.now (Command.Check points.now) out.old.items out.new.items self.now) }
         ensures front { OnErr result (take (length out.old.items) out.new.items ≡ out.old.items) }
     {

@@ -1,13 +1,14 @@
 -- Numbers as `number` reads them.
-use Rattle.std.proofs.Common.{◌≡◌, ℕ, zero, suc, min, ℤ, pos, negsuc, neg_ℤ, ◌-ℤ◌, Bool, true, false, List, Some, None, if◌then◌else◌, refl, arith}
+use Rattle.std.proofs.Common.{◌≡◌, ◌+◌, ℕ, zero, suc, min, ℤ, pos, negsuc, neg_ℤ, ◌-ℤ◌, Bool, true, false, List, Some, None, if◌then◌else◌, refl, arith}
 use Rattle.std.proofs.lemmas.Bool.Decides.{nat_tests}
 use Rattle.std.proofs.lemmas.Int.{ints}
 use Rattle.std.specs.Prelude.{nat_le, unsigned_abs}
+use Rattle.plane.specs.declared.limits.TheConstants.{MAX_COORDINATE}
 use Rattle.geo_text.specs.Capped.{capped}
 use Rattle.geo_text.specs.Number.{is_coordinate, is_number, number_of}
 
 -- a size past the limit stays past it below a minus sign
-pub capped-neg : (n : ℕ) → capped (neg_ℤ (pos n)) ≡ pos 0 -ℤ pos (min n 1000001)
+pub capped-neg : (n : ℕ) → capped (neg_ℤ (pos n)) ≡ pos 0 -ℤ pos (min n (MAX_COORDINATE + 1))
 capped-neg zero = omega (arith, ints)
 capped-neg (suc n) = omega (arith, ints)
 
@@ -17,13 +18,13 @@ only_if true z w e = (refl, cc)
 only_if false z w e = cc
 
 -- a number past the limit is read as another past it
-within_limit : (z : ℤ) → nat_le (unsigned_abs (capped z)) 1000000 ≡ nat_le (unsigned_abs z) 1000000
+within_limit : (z : ℤ) → nat_le (unsigned_abs (capped z)) MAX_COORDINATE ≡ nat_le (unsigned_abs z) MAX_COORDINATE
 within_limit (pos n) = grind (arith, nat_tests)
 within_limit (negsuc n) = grind (arith, nat_tests)
 
 -- what a number that was read says of its field
 pub number_read : (field : List ℕ) (z : ℤ) → Some z ≡ (if is_number field then Some (capped (number_of field)) else None)
-    → (is_number field ≡ true) × (nat_le (unsigned_abs z) 1000000 ≡ is_coordinate field)
+    → (is_number field ≡ true) × (nat_le (unsigned_abs z) MAX_COORDINATE ≡ is_coordinate field)
 number_read field z e =
     let read = only_if (is_number field) z (capped (number_of field)) e in
     (read.0, rw read.1 (within_limit (number_of field)))

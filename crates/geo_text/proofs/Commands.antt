@@ -9,6 +9,7 @@ use Rattle.std.specs.List.{list_any}
 use Rattle.std.specs.Prelude.{IfOk, codes, nat_lt}
 use Rattle.std.specs.Str.{bytes_eq}
 use Rattle.plane.specs.Point.{Point}
+use Rattle.plane.specs.declared.limits.TheConstants.{MAX_CHAIN, MAX_CORNERS}
 use Rattle.geo_text.specs.Number.{number_of}
 use Rattle.geo_text.specs.Reading.{IsWellSized, fixed_fault, later_words, list_fault, number_fault, point_of, points_of, reading_of, unless}
 use Rattle.geo_text.specs.declared.command.Bad.{Bad}
@@ -41,19 +42,19 @@ in_bounds false false true rest e = cc
 in_bounds false false false rest e = (refl, refl)
 
 -- so it has as many points as its command takes,
-list_in_bounds : (least : ℕ) (fields : List (List ℕ)) → least ≤ 4096 → list_fault least 4096 fields ≡ None
-    → (least ≤ length (points_of fields)) × (length (points_of fields) ≤ 4096)
-list_in_bounds least fields small e =
-    let (few, many) = in_bounds ((length fields % 2) == 1) (nat_lt (length fields) (2 * least)) (nat_lt (2 * 4096) (length fields)) (number_fault fields) e in
+list_in_bounds : (least most : ℕ) (fields : List (List ℕ)) → least ≤ most → list_fault least most fields ≡ None
+    → (least ≤ length (points_of fields)) × (length (points_of fields) ≤ most)
+list_in_bounds least most fields small e =
+    let (few, many) = in_bounds ((length fields % 2) == 1) (nat_lt (length fields) (2 * least)) (nat_lt (2 * most) (length fields)) (number_fault fields) e in
     let count = length-points_of fields in
     (grind (arith, nat_tests), grind (arith, nat_tests))
 
 -- and is well sized
-list_is_well_sized : (make : List Point → Command) (least : ℕ) (fields : List (List ℕ)) (fault : Option Bad) → least ≤ 4096
-    → ((points : List Point) → (least ≤ length points) × (length points ≤ 4096) → IsWellSized (make points))
-    → list_fault least 4096 fields ≡ fault → IfOk (unless fault (make (points_of fields))) IsWellSized
-list_is_well_sized make least fields (Some fault) small sized e = tt
-list_is_well_sized make least fields None small sized e = sized (points_of fields) (list_in_bounds least fields small e)
+list_is_well_sized : (make : List Point → Command) (least most : ℕ) (fields : List (List ℕ)) (fault : Option Bad) → least ≤ most
+    → ((points : List Point) → (least ≤ length points) × (length points ≤ most) → IsWellSized (make points))
+    → list_fault least most fields ≡ fault → IfOk (unless fault (make (points_of fields))) IsWellSized
+list_is_well_sized make least most fields (Some fault) small sized e = tt
+list_is_well_sized make least most fields None small sized e = sized (points_of fields) (list_in_bounds least most fields small e)
 
 -- a refusal or a command that is well sized
 fixed_is_well_sized : (fault : Option Bad) (made : Command) → IsWellSized made → IfOk (unless fault made) IsWellSized
@@ -70,11 +71,11 @@ pub reading_is_well_sized : (fields : List (List ℕ)) → IfOk (reading_of fiel
 reading_is_well_sized [] = tt
 reading_is_well_sized (word ∷ fields) =
     either (bytes_eq word (codes "polygon")) _ _
-    (list_is_well_sized (λ points. command.Polygon points) 3 fields (list_fault 3 4096 fields) (omega arith) (λ points h. h) refl)
+    (list_is_well_sized (λ points. command.Polygon points) 3 MAX_CORNERS fields (list_fault 3 MAX_CORNERS fields) (omega arith) (λ points h. h) refl)
     (either (bytes_eq word (codes "inside")) _ _
     (fixed_is_well_sized (fixed_fault 2 fields) (command.Inside (point_of fields)) tt)
     (either (bytes_eq word (codes "check")) _ _
-    (list_is_well_sized (λ points. command.Check points) 1 fields (list_fault 1 4096 fields) (omega arith) (λ points h. h) refl)
+    (list_is_well_sized (λ points. command.Check points) 1 MAX_CHAIN fields (list_fault 1 MAX_CHAIN fields) (omega arith) (λ points h. h) refl)
     (either (bytes_eq word (codes "path")) _ _
     (fixed_is_well_sized (fixed_fault 4 fields) (command.Path (point_of fields) (point_of (drop 2 fields))) tt)
     (either (list_any (λ later. bytes_eq later word) later_words) (Err bad.Later) (Err bad.Word) tt tt))))

@@ -3,6 +3,7 @@ use Rattle.std.specs.Char.{is_ascii_digit}
 use Rattle.std.specs.List.{list_all}
 use Rattle.std.specs.Prelude.{ℕ, ℤ, Bool, false, List, [], ◌∷◌, nat_le, unsigned_abs}
 use Rattle.std.specs.Str.Parse.{signed_digits_value, without_leading_sign}
+use Rattle.plane.specs.declared.limits.TheConstants.{MAX_COORDINATE}
 
 -- one or more decimal digits, and nothing else
 abbrev pub are_digits : List ℕ → Bool
@@ -17,6 +18,6 @@ is_number field = are_digits (without_leading_sign field)
 abbrev pub number_of : List ℕ → ℤ
 number_of field = signed_digits_value 10 field
 
--- the number is from -1,000,000 to 1,000,000
+-- the number is within the limit
 abbrev pub is_coordinate : List ℕ → Bool
-is_coordinate field = nat_le (unsigned_abs (number_of field)) 1000000
+is_coordinate field = nat_le (unsigned_abs (number_of field)) MAX_COORDINATE

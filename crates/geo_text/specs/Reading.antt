@@ -4,6 +4,7 @@ use Rattle.std.specs.Prelude.{◌≡◌, ℕ, ◌+◌, ◌*◌, ◌%◌, ◌≤�
 use Rattle.std.specs.Prelude.{Option, Some, None, Result, Ok, Err}
 use Rattle.std.specs.Str.{bytes_eq}
 use Rattle.plane.specs.Point.{Point}
+use Rattle.plane.specs.declared.limits.TheConstants.{MAX_CHAIN, MAX_CORNERS}
 use Rattle.geo_text.specs.Number.{is_coordinate, is_number, number_of}
 use Rattle.geo_text.specs.declared.command.Bad.{Bad}
 use Rattle.geo_text.specs.declared.command.Bad.TheVariants as bad
@@ -59,18 +60,18 @@ point_of fields = record { x = number_of (slice_index_or fields 0 []); y = numbe
 abbrev pub reading_of : List (List ℕ) → Result Command Bad
 reading_of [] = Err bad.Word
 reading_of (word ∷ fields) =
-    if bytes_eq word (codes "polygon") then unless (list_fault 3 4096 fields) (command.Polygon (points_of fields))
+    if bytes_eq word (codes "polygon") then unless (list_fault 3 MAX_CORNERS fields) (command.Polygon (points_of fields))
     else if bytes_eq word (codes "inside") then unless (fixed_fault 2 fields) (command.Inside (point_of fields))
-    else if bytes_eq word (codes "check") then unless (list_fault 1 4096 fields) (command.Check (points_of fields))
+    else if bytes_eq word (codes "check") then unless (list_fault 1 MAX_CHAIN fields) (command.Check (points_of fields))
     else if bytes_eq word (codes "path") then unless (fixed_fault 4 fields) (command.Path (point_of fields) (point_of (drop 2 fields)))
     else if list_any (λ later. bytes_eq later word) later_words then Err bad.Later
     else Err bad.Word
 
 -- a list of points has as many as its command takes
 abbrev pub IsWellSized : Command → Type 0
-IsWellSized (command.Polygon points) = (3 ≤ length points) × (length points ≤ 4096)
+IsWellSized (command.Polygon points) = (3 ≤ length points) × (length points ≤ MAX_CORNERS)
 IsWellSized (command.Inside point) = Unit {0}
-IsWellSized (command.Check points) = (1 ≤ length points) × (length points ≤ 4096)
+IsWellSized (command.Check points) = (1 ≤ length points) × (length points ≤ MAX_CHAIN)
 IsWellSized (command.Path from to) = Unit {0}
 
 -- the next command was taken from the records that are left; `None` says that none is left

@@ -4,11 +4,11 @@ use exact_plane::Pt;
 /// What a record asks for.
 #[derive(Drop)]
 pub enum Command {
-    /// Take the polygon with these vertices, 3 to 4,096 of them.
+    /// Take the polygon with these vertices, 3 to `MAX_CORNERS` of them.
     Polygon(Points),
     /// Say where this point lies in the polygon.
     Inside(Pt),
-    /// Judge these points, 1 to 4,096 of them, as a taut chain of the polygon.
+    /// Judge these points, 1 to `MAX_CHAIN` of them, as a taut chain of the polygon.
     Check(Points),
     /// Give the taut chain from the first point to the second.
     Path(Pt, Pt),

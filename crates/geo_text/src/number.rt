@@ -1,14 +1,15 @@
 // Whole numbers in decimal, with any count of digits. (`parse` would call a number too great before it has seen all
 // its digits.)
-ghost use Rattle.std.specs.Prelude.{◌≡◌, min, pos, if◌then◌else◌};
+ghost use Rattle.std.specs.Prelude.{◌≡◌, ◌+◌, min, pos, if◌then◌else◌};
 ghost use Rattle.std.specs.Str.Parse.{digits_value};
+ghost use Rattle.plane.specs.declared.limits.TheConstants.{MAX_COORDINATE};
 ghost use Rattle.geo_text.specs.Capped.{capped};
 ghost use Rattle.geo_text.specs.Number.{are_digits, is_number, number_of};
 
-use exact_plane::COORDINATE_LIMIT;
+use plane::MAX_COORDINATE;
 
 // Every size past the coordinate limit reads as this one.
-const TOO_GREAT: i64 = COORDINATE_LIMIT + 1;
+const TOO_GREAT: i64 = MAX_COORDINATE as i64 + 1;
 
 // The number that a field is, if it is one. A number past the coordinate limit reads as another past it.
 pub fn number(field: &[u8]) -> Option<i64>
@@ -23,7 +24,7 @@ pub fn number(field: &[u8]) -> Option<i64>
 
 // The number that these digits are, at most `TOO_GREAT`.
 fn size(digits: &[u8]) -> Option<i64>
-    ensures { result ≡ (if are_digits digits.now then Some (pos (min (digits_value 10 digits.now) 1000001)) else None) }
+    ensures { result ≡ (if are_digits digits.now then Some (pos (min (digits_value 10 digits.now) (MAX_COORDINATE + 1))) else None) }
 {
     if digits.is_empty() {
         return None;

@@ -2,6 +2,7 @@
 ghost use Rattle.std.specs.List.{list_any};
 ghost use Rattle.std.specs.Prelude.{◌≡◌, ◌≤◌, ◌<◌, ◌^◌, IfOk, drop, if◌then◌else◌, length, nat_le, unsigned_abs};
 ghost use Rattle.std.specs.Str.{bytes_eq};
+ghost use Rattle.plane.specs.declared.limits.TheConstants.{MAX_COORDINATE};
 ghost use Rattle.geo_text.specs.Capped.{IsCoordinate};
 ghost use Rattle.geo_text.specs.Number.{number_of};
 ghost use Rattle.geo_text.specs.Reading.{fixed_fault, later_words, list_fault, number_fault, point_of, points_of, reading_of, unless};
@@ -12,7 +13,8 @@ use crate::fields::field;
 use crate::number::number;
 use crate::points::Points;
 use csv::ByteRecord;
-use exact_plane::{COORDINATE_LIMIT, Memory, Pt};
+use exact_plane::{Memory, Pt};
+use plane::{MAX_CHAIN, MAX_COORDINATE, MAX_CORNERS};
 use std::alloc::Global;
 
 // The words whose commands nothing answers yet.
@@ -24,7 +26,7 @@ pub fn command(alloc: Global, row: &ByteRecord) -> Result<Result<Command, Bad>, 
 {
     let word = field(row, 0);
     if word == b"polygon".as_slice() {
-        return Ok(match list_fault(row, 3, 4096) {
+        return Ok(match list_fault(row, 3, MAX_CORNERS) {
             Some(fault) => Err(fault),
             None => Ok(Command::Polygon(points(alloc, row)?)),
         });
@@ -33,7 +35,7 @@ pub fn command(alloc: Global, row: &ByteRecord) -> Result<Result<Command, Bad>, 
         return Ok(inside(row));
     }
     if word == b"check".as_slice() {
-        return Ok(match list_fault(row, 1, 4096) {
+        return Ok(match list_fault(row, 1, MAX_CHAIN) {
             Some(fault) => Err(fault),
             None => Ok(Command::Check(points(alloc, row)?)),
         });
@@ -71,7 +73,7 @@ fn path(row: &ByteRecord) -> Result<Command, Bad>
 
 // What is wrong with the fields of a command that takes `count` of them, if anything.
 fn fixed_fault(row: &ByteRecord, count: usize) -> Option<Bad>
-    requires { count ≤ 4096 }
+    requires { count ≤ 4 }
     ensures { result ≡ fixed_fault count (drop 1 (plain_fields row.now)) }
 {
     if row.len().saturating_sub(1) == count {
@@ -95,7 +97,7 @@ fn word_fault(word: &[u8]) -> Bad
 // What is wrong with the fields of a list of `least` to `most` points, if anything.
 fn list_fault(row: &ByteRecord, least: usize, most: usize) -> Option<Bad>
     requires order { least ≤ most }
-    requires bound { most ≤ 4096 }
+    requires bound { most < 2 ^ 31 }
     ensures { result ≡ list_fault least most (drop 1 (plain_fields row.now)) }
 {
     let count = row.len().saturating_sub(1);
@@ -127,9 +129,9 @@ fn number_fault(row: &ByteRecord) -> Option<Bad>
 
 // What is wrong with the size of a number at a place, if anything.
 fn range_fault(z: i64, place: u32) -> Option<Bad>
-    ensures { result ≡ (if nat_le (unsigned_abs z) 1000000 then None else Some (Bad.Range place)) }
+    ensures { result ≡ (if nat_le (unsigned_abs z) MAX_COORDINATE then None else Some (Bad.Range place)) }
 {
-    if -COORDINATE_LIMIT <= z && z <= COORDINATE_LIMIT {
+    if z.unsigned_abs() <= MAX_COORDINATE {
         None
     } else {
         Some(Bad::Range(place))

@@ -1,5 +1,6 @@
 -- Points of the plane: x to the right, y upward. Rational points are the textbooks' homogeneous coordinates.
 use Rattle.std.specs.Prelude.{◌≡◌, ◌≤◌, unsigned_abs, ℤ, pos, ◌*ℤ◌, ◌<ℤ◌}
+use Rattle.plane.specs.declared.limits.TheConstants.{MAX_COORDINATE}
 
 -- a whole-number point
 pub record Point : Type 0 where
@@ -8,7 +9,7 @@ pub record Point : Type 0 where
 
 -- the greatest size of a coordinate that is taken from outside
 abbrev pub IsInLimit : ℤ → Type 0
-IsInLimit z = unsigned_abs z ≤ 1000000
+IsInLimit z = unsigned_abs z ≤ MAX_COORDINATE
 
 -- both coordinates are within the limit
 pub record IsInBounds (p : Point) : Type 0 where

@@ -1,2 +1,6 @@
-//! Points, turns and segments of the plane: definitions and laws. There is no code here.
+//! Points, turns and segments of the plane: definitions and laws. The limits are all the code.
 #![tactic(auto)]
+
+mod limits;
+
+pub use limits::{MAX_CHAIN, MAX_COORDINATE, MAX_CORNERS, MAX_SCRIPT};

@@ -9,4 +9,4 @@ mod ring;
 mod tests;
 
 pub use laws::{crossing_parity, winding_across};
-pub use ring::{MAX_CORNERS, Ring, RingFault};
+pub use ring::{Ring, RingFault};

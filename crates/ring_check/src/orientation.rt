@@ -1,4 +1,5 @@
 ghost use Rattle.std.specs.Prelude.{◌≡◌, ◌<◌, ◌≤◌, ◌^◌, ◌*ℤ◌, ◌-ℤ◌, length, unsigned_abs};
+ghost use Rattle.plane.specs.declared.limits.TheConstants.{MAX_CORNERS};
 ghost use Rattle.rings.specs.Orientation.{doubled_area};
 ghost use Rattle.ring_check.specs.Oriented.{oriented};
 
@@ -8,7 +9,7 @@ use std::sync::ledger::Ledger;
 // Reads the list of a ring counterclockwise, and answers whether it was turned round for that.
 pub fn turn_counterclockwise<L: Ledger>(points: &mut [Pt], steps: &mut Steps<L>) -> bool
     requires some { 0 < length points.old }
-    requires most { length points.old ≤ 4096 }
+    requires most { length points.old ≤ MAX_CORNERS }
     ensures points { points.new ≡ (oriented points.old).corners }
     ensures turned { result ≡ (oriented points.old).is_turned }
 {
@@ -22,7 +23,7 @@ pub fn turn_counterclockwise<L: Ledger>(points: &mut [Pt], steps: &mut Steps<L>)
 // Twice the signed area of the ring with these vertices, positive where it runs counterclockwise.
 fn doubled_area<L: Ledger>(points: &[Pt], steps: &mut Steps<L>) -> i64
     requires some { 0 < length points.now }
-    requires most { length points.now ≤ 4096 }
+    requires most { length points.now ≤ MAX_CORNERS }
     ensures { result ≡ doubled_area points.now }
 {
     let mut area = 0;

@@ -1,5 +1,6 @@
 ghost use Rattle.std.specs.Prelude.{◌≡◌, ◌+◌, ◌<◌, ◌≤◌, ◌↔◌, ℕ, IfOk, IsOk, IsTrue, Err, false, length, vec_len};
 ghost use Rattle.plane.specs.Point.{whole};
+ghost use Rattle.plane.specs.declared.limits.TheConstants.{MAX_CORNERS};
 ghost use Rattle.rings.specs.Orientation.{IsCounterclockwise, IsReflex};
 ghost use Rattle.rings.specs.Ring.{vertex};
 ghost use Rattle.rings.specs.Simple.{IsLeastClash, IsSimple};
@@ -9,13 +10,11 @@ ghost use Rattle.ring_check.specs.Oriented.{given_edge, given_index, given_of, o
 use crate::clash::least_clash;
 use crate::orientation::turn_counterclockwise;
 use exact_plane::{Direction, Pt, Steps, turn};
+use plane::MAX_CORNERS;
 use std::marker::Model;
 use std::sync::ledger::Ledger;
 
-/// The most vertices of a ring.
-pub const MAX_CORNERS: usize = 4096;
-
-/// The vertices of a simple polygon in counterclockwise order, 3 to 4,096 of them. It is made of a list that may run
+/// The vertices of a simple polygon in counterclockwise order, 3 to `MAX_CORNERS` of them. It is made of a list that may run
 /// either way: vertex 0 is the first of the list, and a clockwise list is read backward from there. Edge i goes from
 /// vertex i to the next, the last one back to vertex 0.
 #[derive(Drop)]
@@ -26,6 +25,7 @@ pub struct Ring {
 
 impl Model for Ring {
     ghost use Rattle.std.specs.Prelude.{◌≤◌, vec_len};
+    ghost use Rattle.plane.specs.declared.limits.TheConstants.{MAX_CORNERS};
     ghost use Rattle.rings.specs.Orientation.{IsCounterclockwise};
     ghost use Rattle.rings.specs.Simple.{IsSimple};
     ghost use Rattle.ring_check.specs.Oriented.{Oriented};
@@ -34,7 +34,7 @@ impl Model for Ring {
 
     ghost view = { λ ring. record { corners = ring.corners.items; is_turned = ring.is_turned } };
 
-    ghost invariant = { λ ring. (3 ≤ vec_len ring.corners) × (vec_len ring.corners ≤ 4096)
+    ghost invariant = { λ ring. (3 ≤ vec_len ring.corners) × (vec_len ring.corners ≤ MAX_CORNERS)
         × IsSimple ring.corners.items × IsCounterclockwise ring.corners.items };
 }
 
@@ -43,7 +43,7 @@ impl Model for Ring {
 pub enum RingFault {
     /// There are fewer than 3 points.
     Few,
-    /// There are more than 4,096 points.
+    /// There are more than `MAX_CORNERS` points.
     Many,
     /// Edges i < j of the list clash, and no lesser pair does.
     Clash(u32, u32),
@@ -53,12 +53,12 @@ impl Ring {
     /// The ring of this list. The list is dropped on a refusal.
     pub fn of<L: Ledger>(mut points: Vec<Pt>, steps: &mut Steps<L>) -> Result<Ring, RingFault>
         ensures ring { IfOk result (λ ring. ring ≡ oriented points.items) }
-        ensures accepted { IsOk result ↔ ((3 ≤ vec_len points) × (vec_len points ≤ 4096) × IsSimple points.items) }
+        ensures accepted { IsOk result ↔ ((3 ≤ vec_len points) × (vec_len points ≤ MAX_CORNERS) × IsSimple points.items) }
 
         ensures few { (result ≡ Err RingFault.Few) ↔ (vec_len points < 3) }
-        ensures many { (result ≡ Err RingFault.Many) ↔ (4096 < vec_len points) }
+        ensures many { (result ≡ Err RingFault.Many) ↔ (MAX_CORNERS < vec_len points) }
         ensures clash { (i j : ℕ) → (result ≡ Err (RingFault.Clash i j))
-            ↔ ((3 ≤ vec_len points) × (vec_len points ≤ 4096) × IsLeastClash points.items i j) }
+            ↔ ((3 ≤ vec_len points) × (vec_len points ≤ MAX_CORNERS) × IsLeastClash points.items i j) }
     {
         if points.len() < 3 {
             return Err(RingFault::Few);
@@ -83,7 +83,7 @@ impl Ring {
         ensures number { result ≡ length self.now.corners }
 
         // What holds of every ring.
-        ensures size { (3 ≤ length self.now.corners) × (length self.now.corners ≤ 4096) }
+        ensures size { (3 ≤ length self.now.corners) × (length self.now.corners ≤ MAX_CORNERS) }
         ensures simple { IsSimple self.now.corners }
         ensures counterclockwise { IsCounterclockwise self.now.corners }
     {

@@ -7,4 +7,4 @@ mod chain;
 mod tests;
 mod verdict;
 
-pub use verdict::{MAX_CHAIN, Verdict, check};
+pub use verdict::{Verdict, check};

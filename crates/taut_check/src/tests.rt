@@ -1,7 +1,8 @@
 ghost use Rattle.std.specs.Prelude.{◌≡◌, ◌<◌};
 
-use crate::{MAX_CHAIN, Verdict, check};
+use crate::{Verdict, check};
 use exact_plane::{Memory, Pt, Steps};
+use plane::MAX_CHAIN;
 use ring_check::Ring;
 use std::alloc::{AllocError, Global};
 use std::marker::Brand;

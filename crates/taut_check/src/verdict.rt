@@ -1,4 +1,5 @@
 ghost use Rattle.std.specs.Prelude.{◌≡◌, ◌-◌, ◌≤◌, ◌<◌, ◌↔◌, IfOk, length};
+ghost use Rattle.plane.specs.declared.limits.TheConstants.{MAX_CHAIN};
 ghost use Rattle.rings.specs.Chain.{IsBentChain, IsTaut, point_at};
 ghost use Rattle.taut_check.specs.Found.{IsFoundAt};
 ghost use Rattle.taut_check.specs.Verdict.{IsVerdict};
@@ -9,9 +10,6 @@ use exact_plane::{Memory, Pt, Steps};
 use ring_check::Ring;
 use std::alloc::Global;
 use std::sync::ledger::Ledger;
-
-/// The most points of a list.
-pub const MAX_CHAIN: usize = 4096;
 
 /// What a list of points is: a taut chain, or the first rule that it breaks, with the place of the point. Places count
 /// from 0. The least place comes first, and at one place the rule that stands first here.
@@ -41,7 +39,7 @@ pub fn check<L: Ledger>(
     chain: &[Pt],
     steps: &mut Steps<L>,
 ) -> Result<Verdict, Memory>
-    requires { length chain.now ≤ 4096 }
+    requires { length chain.now ≤ MAX_CHAIN }
     ensures verdict { IfOk result (IsVerdict ring.now.corners chain.now) }
     ensures taut { IfOk result (λ verdict. (verdict ≡ Verdict.Taut)
         ↔ IsTaut ring.now.corners (point_at chain.now 0) (point_at chain.now (length chain.now - 1)) chain.now) }
@@ -58,7 +56,7 @@ fn verdict_on<L: Ledger>(
     chain: &[Pt],
     steps: &mut Steps<L>,
 ) -> Result<Verdict, Memory>
-    requires { length chain.now ≤ 4096 }
+    requires { length chain.now ≤ MAX_CHAIN }
     ensures verdict { IfOk result (IsVerdict ring.now.corners chain.now) }
     ensures bent { IfOk result (λ verdict. (verdict ≡ Verdict.Taut) ↔ IsBentChain ring.now.corners chain.now) }
 {
@@ -81,7 +79,7 @@ fn verdict_at<L: Ledger>(
     k: usize,
     steps: &mut Steps<L>,
 ) -> Result<Option<Verdict>, Memory>
-    requires most { length chain.now ≤ 4096 }
+    requires most { length chain.now ≤ MAX_CHAIN }
     requires place { k < length chain.now }
     ensures { IfOk result (IsFoundAt ring.now.corners chain.now k) }
 {
