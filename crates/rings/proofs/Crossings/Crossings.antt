@@ -53,7 +53,7 @@ up_backward : (a b y d e : ℤ) → e ≡ neg_ℤ d → up b a y e ≡ down a b 
 up_backward a b y d e h = grind (arith, ints)
 
 -- the signed crossing, from the two tests
-abbrev pub crossing_value : Bool → Bool → ℤ
+abbrev crossing_value : Bool → Bool → ℤ
 crossing_value u d = if u then pos 1 else if d then negsuc 0 else pos 0
 
 -- with the tests exchanged the crossing has the opposite sign
