@@ -1,1 +1,3 @@
 pub mod Oriented
+pub mod Places
+pub mod Status

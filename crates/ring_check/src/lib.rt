@@ -4,7 +4,10 @@
 mod clash;
 mod laws;
 mod orientation;
+mod places;
 mod ring;
+mod status;
+mod sweep;
 #[cfg(test)]
 mod tests;
 

@@ -3,6 +3,7 @@ pub mod Apart
 pub mod Bend
 pub mod Chain
 pub mod Edge
+pub mod InOrder
 pub mod Inside
 pub mod Orientation
 pub mod Ring
