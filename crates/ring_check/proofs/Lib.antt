@@ -1,9 +1,6 @@
 mod AreaSoFar
+mod Below
 pub mod Oriented
 mod Reflex
 mod SharedPoints
 mod SweptArea
-mod Facts
-mod Chains
-mod Passing
-mod Swept

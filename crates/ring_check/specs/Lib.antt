@@ -1,3 +1,1 @@
 pub mod Oriented
-pub mod Places
-pub mod Status

@@ -14,8 +14,8 @@ pub fn find_clash<L: Ledger>(
     points: &[Pt],
     steps: &mut Steps<L>,
 ) -> Option<(usize, usize)>
-    requires some { 3 ≤ length points.now }
-    requires size { length points.now < 2 ^ 32 }
+    requires three { 3 ≤ length points.now }
+    requires small { length points.now < 2 ^ 32 }
     ensures least { IfSome result (λ pair. IsLeastClash points.now pair.0 pair.1) }
     ensures simple { IfNone result (IsSimple points.now) }
 {

@@ -2,9 +2,9 @@
 #![tactic(auto)]
 
 mod clash;
+mod events;
 mod laws;
 mod orientation;
-mod places;
 mod ring;
 mod status;
 mod sweep;

@@ -1,108 +1,138 @@
--- A ring whose vertices stand in an order, with a list of neighbours in order for each two consecutive ones, is simple.
-use Rattle.std.proofs.Common.{◌≡◌, ◌⊎◌, inl, inr, sym, subst, ap, ◌∙◌, ℕ, ◌+◌, ◌<◌, List, length, arith}
-use Rattle.std.proofs.lemmas.Bool.{cases_eq, cases_order}
+-- A ring is simple where a sweep has passed all its events.
+use Rattle.std.proofs.Common.{◌≡◌, ◌⊎◌, inl, inr, refl, sym, subst, ap, ◌∙◌, ℕ, ◌+◌, ◌<◌, ◌≤◌, List, [], ◌∷◌, length, get_or, arith}
+use Rattle.std.proofs.lemmas.Bool.{cases_eq, cases_lt, cases_order}
+use Rattle.std.specs.Prelude.{slice_index}
 use Rattle.plane.proofs.Order.{precedes_differs}
 use Rattle.plane.proofs.Points.{same_refl}
-use Rattle.plane.proofs.Segments.{on_reversed}
 use Rattle.plane.specs.Order.{IsBefore}
-use Rattle.plane.specs.Point.{IsSame, Point, Triple, whole}
-use Rattle.plane.specs.Segment.{On}
+use Rattle.plane.specs.Point.{Point, whole}
 use Rattle.rings.proofs.Simple.{simple_of_apart}
-use Rattle.rings.proofs.Sweeps.Climb.{HasEndAt}
-use Rattle.rings.proofs.Sweeps.Slabs.{Slab, precedes_later, shared_end}
-use Rattle.rings.proofs.Vertices.{edge_at, edge_number}
-use Rattle.rings.specs.Apart.{IsApartRing, MeetAtEnds}
-use Rattle.rings.specs.Edge.{HasEnd, IsOn}
+use Rattle.rings.proofs.Sweeps.Ascending.{precedes_later}
+use Rattle.rings.proofs.Sweeps.Counts.{contains_counted, counted_item}
+use Rattle.rings.proofs.Sweeps.Events.{edge_is, ends_below, event_of, forward, rank_below}
+use Rattle.rings.proofs.Sweeps.Slabs.{Runs, Slab, common_end}
+use Rattle.rings.proofs.Vertices.{meet_reversed, meet_swapped, reversed, edge_at, edge_number}
+use Rattle.rings.specs.Apart.{MeetAtEnds}
+use Rattle.rings.specs.Edge.{Edge}
+use Rattle.rings.specs.Events.{AreEvents, edge_upward, first_end, first_rank, last_end, last_rank}
 use Rattle.rings.specs.Ring.{vertex}
 use Rattle.rings.specs.Simple.{IsSimple}
+use Rattle.rings.specs.Status.{IsStatus}
 
-module _ (ring : List Point) (order rank lo hi next : ℕ → ℕ)
-    (rising : (k : ℕ) → k + 1 < length ring → IsBefore (vertex ring (order k)) (vertex ring (order (k + 1))))
-    (ranked : (v : ℕ) → v < length ring → (rank v < length ring) × (order (rank v) ≡ v))
-    (nexts : (e : ℕ) → e < length ring → (next e < length ring) × (vertex ring (next e) ≡ vertex ring (e + 1)))
-    (ends : (e : ℕ) → e < length ring → ((lo e ≡ rank e) × (hi e ≡ rank (next e))) ⊎ ((lo e ≡ rank (next e)) × (hi e ≡ rank e)))
-    (up : (e : ℕ) → e < length ring → lo e < hi e) where
-  -- the points in order
+-- nothing is in an empty list
+pub empty_status : (ring : List Point) (ranks status : List ℕ) → length status ≡ 0 → IsStatus ring ranks 0 status
+empty_status ring ranks [] e = record {
+  stacked = record { edges = λ k d h. absurd (omega arith); ordered = λ k d h. absurd (omega arith) };
+  counted = λ e h. record { there = λ a b. absurd (omega (arith, a)); begins_later = λ a. refl; ended = λ a. absurd (omega (arith, a)) };
+}
+empty_status ring ranks (x ∷ xs) e = absurd (omega (arith, e))
+
+-- an edge meets another at ends where it does with that one read backward, or not
+meet_either : (c d e : Edge) → (d ≡ e) ⊎ (d ≡ reversed e) → MeetAtEnds c d → MeetAtEnds c e
+meet_either c d e (inl is) meet = subst (MeetAtEnds c) is meet
+meet_either c d e (inr is) meet = meet_reversed c (reversed e) (subst (MeetAtEnds c) is meet)
+
+module _ (ring : List Point) (events ranks : List ℕ) (are : AreEvents ring events ranks) (three : 3 ≤ length ring) where
+  abbrev n : ℕ
+  n = length ranks
+
+  -- event k
   abbrev z : ℕ → Point
-  z k = vertex ring (order k)
+  z k = vertex ring (slice_index events k)
 
-  -- vertex v at its place
-  at_rank : (v : ℕ) → v < length ring → z (rank v) ≡ vertex ring v
-  at_rank v within = ap (vertex ring) (ranked v within).1
+  abbrev up : ℕ → Edge
+  up e = edge_upward ring ranks e
+
+  rising : (k : ℕ) → k + 1 < n → IsBefore (z k) (z (k + 1))
+  rising k h = let size = are.all_ranks in (are.each k (omega (arith, h, size))).before_next (omega (arith, h, size))
+
+  -- a vertex is the event of its rank
+  at_rank : (v : ℕ) → v < n → vertex ring v ≡ z (slice_index ranks v)
+  at_rank v h = ap (vertex ring) (sym (event_of ring events ranks are three v h))
+
+  runs : (e : ℕ) → e < n → Runs z n (up e) (first_rank ranks e) (last_rank ranks e)
+  runs e h =
+      let size = are.all_ranks in
+      let b = ends_below ring events ranks are three e h in
+      record {
+        forward = forward ring events ranks are three e h;
+        within = omega (arith, size, rank_below ring events ranks are three (last_end ranks e) b.1);
+        is_from = at_rank (first_end ranks e) b.0;
+        is_to = at_rank (last_end ranks e) b.1;
+      }
+
+  -- ---- vertices
+
+  -- a vertex of lower rank is another
+  lower_differs : (i j : ℕ) → i < n → j < n → slice_index ranks i < slice_index ranks j → ¬ (vertex ring i ≡ vertex ring j)
+  lower_differs i j hi hj less e =
+      let size = are.all_ranks in
+      let same : z (slice_index ranks i) ≡ z (slice_index ranks j) = sym (at_rank i hi) ∙ e ∙ at_rank j hj in
+      let later = precedes_later z n rising (slice_index ranks i) (slice_index ranks j) less (omega (arith, size, rank_below ring events ranks are three j hj)) in
+      precedes_differs (whole (z (slice_index ranks i))) (whole (z (slice_index ranks j))) later (rw same (same_refl (whole (z (slice_index ranks j)))))
 
   -- no two are equal
-  distinct : (i j : ℕ) → i < j → j < length ring → ¬ (vertex ring i ≡ vertex ring j)
-  distinct i j less within e =
-      let i_within : i < length ring = omega arith in
-      let (ri, back_i) = ranked i i_within in
-      let (rj, back_j) = ranked j within in
-      let same : z (rank i) ≡ z (rank j) = at_rank i i_within ∙ e ∙ sym (at_rank j within) in
-      elim (cases_order (rank i) (rank j)) [
-        | inl k ↦ absurd (omega (arith, sym back_i ∙ ap order k ∙ back_j, less))
-        | inr (inl k) ↦
-            precedes_differs (whole (z (rank i))) (whole (z (rank j))) (precedes_later z (length ring) rising (rank i) (rank j) k rj)
-            (subst (λ (p : Point). IsSame (whole (z (rank i))) (whole p)) same (same_refl (whole (z (rank i)))))
-        | inr (inr k) ↦
-            precedes_differs (whole (z (rank j))) (whole (z (rank i))) (precedes_later z (length ring) rising (rank j) (rank i) k ri)
-            (subst (λ (p : Point). IsSame (whole (z (rank j))) (whole p)) (sym same) (same_refl (whole (z (rank j)))))
+  distinct : (i j : ℕ) → i < j → j < n → ¬ (vertex ring i ≡ vertex ring j)
+  distinct i j less h e =
+      let hi : i < n = omega arith in
+      elim (cases_order (slice_index ranks i) (slice_index ranks j)) [
+        | inl same ↦
+            absurd (omega (arith, less, sym (event_of ring events ranks are three i hi) ∙ ap (slice_index events) same ∙ event_of ring events ranks are three j h))
+        | inr (inl k) ↦ lower_differs i j hi h k e
+        | inr (inr k) ↦ lower_differs j i h hi k (sym e)
       ]
 
-  -- an edge from its first end to its last, or the other way
-  runs : (e : ℕ) → e < length ring → ((z (lo e) ≡ vertex ring e) × (z (hi e) ≡ vertex ring (e + 1)))
-      ⊎ ((z (lo e) ≡ vertex ring (e + 1)) × (z (hi e) ≡ vertex ring e))
-  runs e within =
-      let (n_within, n_is) = nexts e within in
-      elim (ends e within) [
-        | inl h ↦ inl (ap z h.0 ∙ at_rank e within, ap z h.1 ∙ at_rank (next e) n_within ∙ n_is)
-        | inr h ↦ inr (ap z h.0 ∙ at_rank (next e) n_within ∙ n_is, ap z h.1 ∙ at_rank e within)
-      ]
+  -- ---- edges
 
-  -- a point of the edge
-  on_run : (e : ℕ) (x : Triple) → e < length ring → IsOn (edge_at ring e) x → On x (whole (z (lo e))) (whole (z (hi e)))
-  on_run e x within on = elim (runs e within) [
-    | inl h ↦
-        subst (λ (q : Point). On x (whole (z (lo e))) (whole q)) (sym h.1)
-        (subst (λ (p : Point). On x (whole p) (whole (vertex ring (e + 1)))) (sym h.0) on)
-    | inr h ↦
-        subst (λ (q : Point). On x (whole (z (lo e))) (whole q)) (sym h.1)
-        (subst (λ (p : Point). On x (whole p) (whole (vertex ring e))) (sym h.0) (on_reversed x (whole (vertex ring e)) (whole (vertex ring (e + 1))) on))
-  ]
+  -- the status after an event is a list of just the edges over the slab
+  slab : (k : ℕ) (status : List ℕ) → IsStatus ring ranks (k + 1) status → Slab up (first_rank ranks) (last_rank ranks) n k
+  slab k status h = record {
+    status = status;
+    has = λ e below over. contains_counted e status (omega (arith, (h.counted e below).there (omega (arith, over.0)) (omega (arith, over.1))));
+    only = λ i d within.
+        let e : ℕ = get_or status i d in
+        let below : e < n = h.stacked.edges i d within in
+        let c = h.counted e below in
+        let some = counted_item status i d within in (
+          below,
+          (
+            elim (cases_lt k (first_rank ranks e)) [ inl a ↦ absurd (omega (arith, some, c.begins_later (omega (arith, a)))) | inr a ↦ a ],
+            elim (cases_lt k (last_rank ranks e)) [ inl a ↦ a | inr a ↦ absurd (omega (arith, some, c.ended (omega (arith, a)))) ],
+          ),
+        );
+    ordered = h.stacked.ordered;
+  }
 
-  -- an end of it
-  end_of : (e : ℕ) (p : Point) → e < length ring → HasEndAt (record { first = z (lo e); last = z (hi e) }) p → HasEnd (edge_at ring e) p
-  end_of e p within (inl k) = elim (runs e within) [ inl h ↦ inl (sym h.0 ∙ k) | inr h ↦ inr (sym h.0 ∙ k) ]
-  end_of e p within (inr k) = elim (runs e within) [ inl h ↦ inr (sym h.1 ∙ k) | inr h ↦ inl (sym h.1 ∙ k) ]
+  module _ (held : (k : ℕ) → k < n → (status : List ℕ) × IsStatus ring ranks (k + 1) status) where
+    -- two edges meet at ends, read upward,
+    meet_upward : (e f : ℕ) → e < n → f < n → ¬ (e ≡ f) → MeetAtEnds (up e) (up f)
+    meet_upward e f he hf other x at_x on_e on_f =
+        common_end up (first_rank ranks) (last_rank ranks) n z n rising runs
+        (λ k within. let (status, h) = held k (omega (arith, within)) in slab k status h) x at_x e f he hf other on_e on_f
 
-  -- the places are places of vertices
-  proper : (e : ℕ) → e < length ring → (lo e < hi e) × (hi e < length ring)
-  proper e within =
-      let (n_within, n_is) = nexts e within in
-      let at_e = (ranked e within).0 in
-      let at_next = (ranked (next e) n_within).0 in
-      (up e within, elim (ends e within) [ inl h ↦ (let k = h.1 in omega arith) | inr h ↦ (let k = h.1 in omega arith) ])
+    -- and as they are
+    meet : (e f : ℕ) → e < n → f < n → ¬ (e ≡ f) → MeetAtEnds (edge_at ring e) (edge_at ring f)
+    meet e f he hf other =
+        meet_either (edge_at ring e) (up f) (edge_at ring f) (edge_is ring events ranks are three f hf)
+        (meet_swapped (up f) (edge_at ring e)
+        (meet_either (up f) (up e) (edge_at ring e) (edge_is ring events ranks are three e he)
+        (meet_swapped (up e) (up f) (meet_upward e f he hf other))))
 
-  module _ (slabs : (k : ℕ) → k + 1 < length ring → Slab z (length ring) rising (length ring) lo hi k) where
-    -- so its edges are apart
-    apart_ring : IsApartRing ring
-    apart_ring = record {
-      distinct = distinct;
-      apart = λ e f has_e has_f.
-          let (i, i_within, is_e) = edge_number ring e has_e in
-          let (j, j_within, is_f) = edge_number ring f has_f in
-          elim (cases_eq i j) [
-            | inl same ↦ inl (sym is_e ∙ ap (edge_at ring) same ∙ is_f)
-            | inr other ↦ inr (subst (MeetAtEnds e) is_f (subst (λ d. MeetAtEnds d (edge_at ring j)) is_e (λ x at_x on_i on_j.
-                let s = shared_end z (length ring) rising (length ring) lo hi proper slabs x at_x i j i_within j_within other
-                (on_run i x i_within on_i) (on_run j x j_within on_j) in
-                record {
-                  end = s.end;
-                  of_first = end_of i s.end i_within s.of_first;
-                  of_second = end_of j s.end j_within s.of_second;
-                  same = s.same;
-                })))
-          ];
-    }
-
-    -- and it is simple
-    pub simple : IsSimple ring
-    simple = simple_of_apart ring apart_ring
+    -- a ring is simple where there was a status after each event
+    pub simple_of_swept : IsSimple ring
+    simple_of_swept =
+        let size = are.all_ranks in
+        simple_of_apart ring
+        (
+        record {
+          distinct = λ i j less within. distinct i j less (omega (arith, size, within));
+          apart = λ e f has_e has_f.
+              let (i, i_within, is_e) = edge_number ring e has_e in
+              let (j, j_within, is_f) = edge_number ring f has_f in
+              elim (cases_eq i j) [
+                | inl same ↦ inl (sym is_e ∙ ap (edge_at ring) same ∙ is_f)
+                | inr other ↦ inr (subst (MeetAtEnds e) is_f (subst (λ (d : Edge). MeetAtEnds d (edge_at ring j)) is_e
+                    (meet i j (omega (arith, size, i_within)) (omega (arith, size, j_within)) other)))
+              ];
+        }
+        )
