@@ -4,7 +4,7 @@
 mod Precedence
 pub use Rattle.plane.proofs.Order.Precedence.{NotAfter, follows, mediant_follows, mediant_is_point, mediant_precedes, not_after_antisym}
 pub use Rattle.plane.proofs.Order.Precedence.{not_after_facts, not_after_from, not_after_of_precedes, not_after_of_same, not_after_or_precedes}
-pub use Rattle.plane.proofs.Order.Precedence.{not_after_trans, precedence, precedes, precedes_asym, same}
+pub use Rattle.plane.proofs.Order.Precedence.{not_after_trans, precedence, precedes, precedes_asym, precedes_differs, same}
 -- Laws of the order of whole points.
 mod Order
 pub use Rattle.plane.proofs.Order.Order.{Comparison, after, before, before_asym, before_differs, before_irrefl, before_or_not, before_trans}

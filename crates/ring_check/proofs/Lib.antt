@@ -1,4 +1,5 @@
 mod AreaSoFar
+mod Below
 pub mod Oriented
 mod Reflex
 mod SharedPoints

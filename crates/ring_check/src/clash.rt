@@ -1,13 +1,32 @@
-ghost use Rattle.std.specs.Prelude.{◌≡◌, ◌<◌, ◌≤◌, ◌↔◌, ℕ, IsTrue, IfSome, IfNone, length};
+ghost use Rattle.std.specs.Prelude.{◌≡◌, ◌<◌, ◌≤◌, ◌^◌, ◌↔◌, ℕ, IsTrue, IfSome, IfNone, length};
 ghost use Rattle.rings.specs.Ring.{vertex};
 ghost use Rattle.rings.specs.Simple.{Clash, HasEqualEnds, IsLeastClash, IsSimple, SharesPoint};
 
+use crate::sweep::sweep_finds_none;
 use exact_plane::{Pt, Steps, meet_only_at, order, segments_meet};
+use std::alloc::Global;
 use std::cmp::Ordering;
 use std::sync::ledger::Ledger;
 
-// The least pair of edges i < j that clash, in the order of i, then j.
-pub fn least_clash<L: Ledger>(points: &[Pt], steps: &mut Steps<L>) -> Option<(usize, usize)>
+// The least pair of edges i < j that clash, in the order of i, then j. Most lists that have none are known by a sweep.
+pub fn find_clash<L: Ledger>(
+    alloc: Global,
+    points: &[Pt],
+    steps: &mut Steps<L>,
+) -> Option<(usize, usize)>
+    requires three { 3 ≤ length points.now }
+    requires small { length points.now < 2 ^ 32 }
+    ensures least { IfSome result (λ pair. IsLeastClash points.now pair.0 pair.1) }
+    ensures simple { IfNone result (IsSimple points.now) }
+{
+    if sweep_finds_none(alloc, points, steps) {
+        return None;
+    }
+    least_clash(points, steps)
+}
+
+// The same, by all pairs.
+fn least_clash<L: Ledger>(points: &[Pt], steps: &mut Steps<L>) -> Option<(usize, usize)>
     requires { 3 ≤ length points.now }
     ensures least { IfSome result (λ pair. IsLeastClash points.now pair.0 pair.1) }
     ensures simple { IfNone result (IsSimple points.now) }

@@ -2,9 +2,12 @@
 #![tactic(auto)]
 
 mod clash;
+mod events;
 mod laws;
 mod orientation;
 mod ring;
+mod status;
+mod sweep;
 #[cfg(test)]
 mod tests;
 

@@ -26,7 +26,8 @@ pub use Rattle.rings.proofs.Vertices.DistinctPoints.{AreDistinct, HasPoint, dist
 pub use Rattle.rings.proofs.Vertices.DistinctPoints.{distinct_vertices, edge_from, end_of_ring, ends_along, vertices_differ}
 -- Edges that meet at common ends only: in the other order, read backward, and with one more edge.
 mod CommonEnds
-pub use Rattle.rings.proofs.Vertices.CommonEnds.{apart_among, apart_more, end_of_first, end_of_second, meet_reversed, meet_swapped}
+pub use Rattle.rings.proofs.Vertices.CommonEnds.{apart_among, apart_more, common_end_swapped, end_of_first, end_of_second, meet_reversed}
+pub use Rattle.rings.proofs.Vertices.CommonEnds.{meet_swapped}
 -- Near a rational point: the way from it to another point misses all edges that it is not on.
 mod NearEdges
 pub use Rattle.rings.proofs.Vertices.NearEdges.{misses_between, misses_eventually, shrink}
