@@ -12,6 +12,5 @@ mod NarrowedRight
 pub mod NextDiagonals
 mod Opened
 mod Passing
-mod PointsDiffer
 mod ShortWalks
 mod SideCorners

@@ -1,7 +1,7 @@
 -- A taut chain in a ring is one in the list that the ring was made of, and the same points are in both.
 use Rattle.std.proofs.Common.{◌↔◌, Bool, true, false, if◌then◌else◌, List}
 use Rattle.plane.specs.Point.{Point, Triple, whole}
-use Rattle.rings.proofs.Inside.{neighbours_turned_iff, reflex_turned_iff, sees_turned_iff, in_turned_iff}
+use Rattle.rings.proofs.Inside.{neighbours_turned_iff, reflex_turned_iff, sees_turned_iff, in_either, in_turned_iff}
 use Rattle.rings.specs.Bend.{IsBend}
 use Rattle.rings.specs.Chain.{IsTaut}
 use Rattle.rings.specs.Inside.{IsIn}
@@ -38,10 +38,6 @@ taut_either : (turned : Bool) (ring : List Point) (s t : Point) (points : List P
 taut_either true ring s t points h = taut_turned ring s t points h
 taut_either false ring s t points h = h
 
-in_either : (turned : Bool) (ring : List Point) (p : Triple) → IsIn (if turned then turned_round ring else ring) p ↔ IsIn ring p
-in_either true ring p = in_turned_iff p ring
-in_either false ring p = (λ h. h, λ h. h)
-
 module _ (ring : Oriented) where
   -- in the list that the ring was made of,
   pub taut_given : (s t : Point) (points : List Point) → IsTaut ring.corners s t points → IsTaut (given_of ring) s t points
@@ -49,4 +45,4 @@ module _ (ring : Oriented) where
 
   -- and the points in it
   pub in_given_iff : (p : Triple) → IsIn (given_of ring) p ↔ IsIn ring.corners p
-  in_given_iff p = in_either ring.is_turned ring.corners p
+  in_given_iff p = in_either p ring.is_turned ring.corners
