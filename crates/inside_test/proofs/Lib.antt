@@ -1,5 +1,6 @@
 mod ApartEdges
 mod CrossedEdges
+mod Levels
 mod Meetings
 mod Adjacent
 mod Neighbours

@@ -1,13 +1,12 @@
 // The ray from a rational point to the right, at one edge.
 ghost use Rattle.std.specs.Int.Signed.{le_z, lt_z};
 ghost use Rattle.std.specs.Ordering.{int_cmp};
-ghost use Rattle.std.specs.Prelude.{◌≡◌, ◌↔◌, ◌<◌, ◌^◌, ◌&&◌, ◌*ℤ◌, ℤ, IsTrue, true, false, unsigned_abs};
+ghost use Rattle.std.specs.Prelude.{◌≡◌, ◌↔◌, ◌&&◌, ◌*ℤ◌, ℤ, IsTrue, true, false};
 ghost use Rattle.plane.specs.Order.{LiesBetween};
 ghost use Rattle.plane.specs.Point.{IsPoint, whole};
 ghost use Rattle.plane.specs.Segment.{On};
 ghost use Rattle.rings.specs.Inside.{is_crossed};
 
-use crate::product::multiplied;
 use exact_plane::{Direction, Hom, Pt, Steps, order_hom, turn_hom};
 use std::cmp::Ordering;
 use std::sync::ledger::Ledger;
@@ -43,35 +42,6 @@ impl Meeting {
         ensures not_crossed { result ≡ Meeting.Crossed → ⊥ }
     {
         if is_on { Meeting::On } else { Meeting::Missed }
-    }
-}
-
-// The height of a point, y / w.
-#[derive(Drop)]
-pub(crate) struct Level {
-    pub y: i128,
-    pub w: i128,
-    ghost y_is_small: { unsigned_abs y < 2 ^ 75 },
-    ghost w_is_small: { unsigned_abs w < 2 ^ 50 },
-}
-
-impl Level {
-    // The height of this point.
-    pub(crate) fn of<L: Ledger>(p: &Hom, steps: &mut Steps<L>) -> Level
-        ensures y { result.y ≡ p.now.Y }
-        ensures w { result.w ≡ p.now.W }
-        ensures rational { IsPoint p.now }
-    {
-        let (_, y, w) = p.parts(steps);
-        Level { y, w }
-    }
-
-    // How the height of `v` compares with this one.
-    #[tactic(auto, using(crate::proofs::CrossedEdges::registers))]
-    pub(crate) fn compare<L: Ledger>(&self, v: &Pt, steps: &mut Steps<L>) -> Ordering
-        ensures { result ≡ int_cmp (v.now.y *ℤ self.now.w) self.now.y }
-    {
-        multiplied(v.parts(steps).1 as i128, self.w).cmp(&self.y)
     }
 }
 
