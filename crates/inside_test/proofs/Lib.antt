@@ -5,6 +5,7 @@ mod Meetings
 mod Adjacent
 mod Neighbours
 mod Odd
+mod Passed
 mod PointLists
 mod Sizes
 mod Sorting

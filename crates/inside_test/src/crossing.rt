@@ -6,7 +6,10 @@ ghost use Rattle.plane.specs.Order.{LiesBetween};
 ghost use Rattle.plane.specs.Point.{IsPoint, whole};
 ghost use Rattle.plane.specs.Segment.{On};
 ghost use Rattle.rings.specs.Inside.{is_crossed};
+ghost use Rattle.exact_plane.specs.Direction.{opposite, turn_of};
+ghost use Rattle.inside_test.specs.Level.{IsLevel, rises};
 
+use crate::level::Levels;
 use exact_plane::{Direction, Hom, Pt, Steps, order_hom, turn_hom};
 use std::cmp::Ordering;
 use std::sync::ledger::Ledger;
@@ -52,10 +55,12 @@ pub(crate) fn meeting_of<L: Ledger>(
     a: &Pt,
     b: &Pt,
     p: &Hom,
+    levels: &Levels,
     from: Ordering,
     to: Ordering,
     steps: &mut Steps<L>,
 ) -> Meeting
+    requires across { IsLevel levels.now.across.floor levels.now.across.at_floor p.now.X p.now.W }
     requires from { from ≡ int_cmp (a.now.y *ℤ p.now.W) p.now.Y }
     requires to { to ≡ int_cmp (b.now.y *ℤ p.now.W) p.now.Y }
     requires rational { IsPoint p.now }
@@ -66,10 +71,71 @@ pub(crate) fn meeting_of<L: Ledger>(
     if is_apart(from, to) {
         return Meeting::Missed;
     }
-    match turn_hom(a, b, p, steps) {
+    match turn_past(a, b, p, levels, from, to, steps) {
         Direction::Left => Meeting::beside(is_passed(from, to)),
         Direction::Straight => Meeting::in_line(is_between(a, p, b, steps)),
         Direction::Right => Meeting::beside(is_passed(to, from)),
+    }
+}
+
+// The turn from `a` over `b` to `p`, where their heights compare so with that of `p`.
+fn turn_past<L: Ledger>(
+    a: &Pt,
+    b: &Pt,
+    p: &Hom,
+    levels: &Levels,
+    from: Ordering,
+    to: Ordering,
+    steps: &mut Steps<L>,
+) -> Direction
+    requires across { IsLevel levels.now.across.floor levels.now.across.at_floor p.now.X p.now.W }
+    requires from { from ≡ int_cmp (a.now.y *ℤ p.now.W) p.now.Y }
+    requires to { to ≡ int_cmp (b.now.y *ℤ p.now.W) p.now.Y }
+    requires rational { IsPoint p.now }
+    ensures { result ≡ turn_of (whole a.now) (whole b.now) p.now }
+{
+    if is_passed(from, to) {
+        return turn_of_rise(a, b, p, levels, steps);
+    }
+    if is_passed(to, from) {
+        return reversed(turn_of_rise(b, a, p, levels, steps));
+    }
+    turn_hom(a, b, p, steps)
+}
+
+// The turn from `low` over `high` to `p`, where an edge between them rises past the height of `p`. Comparisons tell it
+// where both are to one side of `p`.
+fn turn_of_rise<L: Ledger>(
+    low: &Pt,
+    high: &Pt,
+    p: &Hom,
+    levels: &Levels,
+    steps: &mut Steps<L>,
+) -> Direction
+    requires across { IsLevel levels.now.across.floor levels.now.across.at_floor p.now.X p.now.W }
+    requires rises { IsTrue (rises low.now high.now p.now) }
+    requires rational { IsPoint p.now }
+    ensures { result ≡ turn_of (whole low.now) (whole high.now) p.now }
+{
+    let side = levels.compare_across(low, steps);
+    if side != levels.compare_across(high, steps) {
+        return turn_hom(low, high, p, steps);
+    }
+    match side {
+        Ordering::Less => Direction::Right,
+        Ordering::Equal => turn_hom(low, high, p, steps),
+        Ordering::Greater => Direction::Left,
+    }
+}
+
+// The turn that is against this one.
+fn reversed(turn: Direction) -> Direction
+    ensures { result ≡ opposite turn }
+{
+    match turn {
+        Direction::Left => Direction::Right,
+        Direction::Straight => Direction::Straight,
+        Direction::Right => Direction::Left,
     }
 }
 

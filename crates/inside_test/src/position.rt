@@ -43,7 +43,7 @@ pub fn place_hom<L: Ledger>(ring: &Ring, p: &Hom, steps: &mut Steps<L>) -> Posit
     for i in 0..size {
         let b = next_corner(ring, i);
         let to = levels.compare_height(&b, steps);
-        match meeting_of(&a, &b, p, from, to, steps) {
+        match meeting_of(&a, &b, p, &levels, from, to, steps) {
             Meeting::On => return Position::Edge,
             Meeting::Crossed => is_odd = !is_odd,
             Meeting::Missed => {}
