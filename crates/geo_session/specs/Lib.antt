@@ -2,3 +2,4 @@ pub mod Answer
 pub mod Output
 pub mod Session
 pub mod Path
+pub mod Place

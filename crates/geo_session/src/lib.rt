@@ -2,8 +2,7 @@
 #![tactic(auto)]
 
 mod held;
-mod judgement;
-mod paths;
+mod lines;
 mod session;
 
 pub use session::Session;
