@@ -8,7 +8,7 @@ use Rattle.meshes.proofs.Sides.{piece_points_all}
 use Rattle.meshes.specs.Fits.{Fits, IsInTri}
 use Rattle.meshes.specs.Side.{tri_at}
 use Rattle.meshes.specs.declared.tri.Tri.{Tri}
-use Rattle.dual_tree.specs.Location.{HasCornersBelow}
+use Rattle.dual_tree.specs.Location.{IsCornered}
 
 -- a member of the numbers below n is below n
 below_of_member : (n x : ℕ) → Contains (range_with_len 0 n) x → x < n
@@ -21,14 +21,15 @@ module _ (corners : List Point) (tris : List Tri) (fits : Fits corners tris) whe
   pub two_fewer : length tris + 2 ≡ length corners
   two_fewer = rw (length-range_with_len 0 (length corners)) at fits.count
 
-  -- the corners of a triangle are vertices
-  pub corners_below : (k : ℕ) → k < length tris → HasCornersBelow (tri_at tris k) (length corners)
-  corners_below k below =
+  -- the corners of a triangle are vertices, counterclockwise
+  pub cornered : (k : ℕ) → k < length tris → IsCornered corners (tri_at tris k)
+  cornered k below =
       let tri = fits.triangles k below in
       record {
         a = below_of_member (length corners) (tri_at tris k).a tri.has_a;
         b = below_of_member (length corners) (tri_at tris k).b tri.has_b;
         c = below_of_member (length corners) (tri_at tris k).c tri.has_c;
+        counterclockwise = tri.counterclockwise;
       }
 
   -- a point is in the ring exactly where it is in a triangle

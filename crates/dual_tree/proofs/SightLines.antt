@@ -1,9 +1,8 @@
 -- Sight along a sleeve: a point on one of its diagonals is in both triangles beside it, and so on each side that they share.
-use Rattle.std.proofs.Common.{◌≡◌, inl, inr, sym, subst, ℕ, ◌+◌, ◌-◌, ◌<◌, List, length, get_or, arith}
+use Rattle.std.proofs.Common.{inl, inr, sym, subst, ℕ, ◌+◌, ◌<◌, List, length, get_or, arith}
 use Rattle.std.specs.List.{range_with_len}
-use Rattle.plane.proofs.Segments.{on_reversed}
-use Rattle.plane.specs.Point.{IsPoint, Point, Triple, whole}
-use Rattle.plane.specs.Segment.{Meet, On}
+use Rattle.plane.specs.Point.{Point, Triple, whole}
+use Rattle.plane.specs.Segment.{Meet}
 use Rattle.rings.specs.Ring.{vertex}
 use Rattle.meshes.proofs.Parts.{side_in}
 use Rattle.meshes.proofs.Sight.{separation_law, sleeve_law}

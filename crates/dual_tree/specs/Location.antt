@@ -1,6 +1,8 @@
 -- The triangle of a mesh that holds a point. This project's own.
 use Rattle.std.specs.Prelude.{ℕ, ◌<◌, List, length}
-use Rattle.plane.specs.Point.{Point, Triple}
+use Rattle.plane.specs.Point.{Point, Triple, whole}
+use Rattle.plane.specs.Turn.{IsLeft}
+use Rattle.rings.specs.Ring.{vertex}
 use Rattle.meshes.specs.Fits.{IsInTri}
 use Rattle.meshes.specs.Side.{tri_at}
 use Rattle.meshes.specs.declared.tri.Tri.{Tri}
@@ -11,8 +13,9 @@ pub record IsLeastHolding (corners : List Point) (tris : List Tri) (p : Triple) 
   pub holds : IsInTri corners (tri_at tris k) p
   pub least : (l : ℕ) → l < k → ¬ IsInTri corners (tri_at tris l) p
 
--- the corners of the triangle are below n
-pub record HasCornersBelow (t : Tri) (n : ℕ) : Type 0 where
-  pub a : t.a < n
-  pub b : t.b < n
-  pub c : t.c < n
+-- the corners of the triangle are vertices, counterclockwise
+pub record IsCornered (corners : List Point) (t : Tri) : Type 0 where
+  pub a : t.a < length corners
+  pub b : t.b < length corners
+  pub c : t.c < length corners
+  pub counterclockwise : IsLeft (whole (vertex corners t.a)) (whole (vertex corners t.b)) (whole (vertex corners t.c))

@@ -2,8 +2,10 @@ pub mod Comparing
 mod Cones
 pub mod CrossProduct
 pub mod Directions
+mod Fields
 mod Intervals
 mod Mediants
 mod Meetings
 pub mod Registers
+mod Triangles
 pub mod WideProducts

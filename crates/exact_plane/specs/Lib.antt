@@ -1,3 +1,4 @@
 pub mod Direction
+pub mod Outside
 pub mod Size
 pub mod Spot

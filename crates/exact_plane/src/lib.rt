@@ -11,6 +11,7 @@ mod segments;
 mod steps;
 #[cfg(test)]
 mod tests;
+mod triangle;
 mod turns;
 mod vector;
 mod wide;
@@ -22,4 +23,5 @@ pub use memory::Memory;
 pub use pt::{Pt, order};
 pub use segments::{meet_only_at, on_segment, segments_meet};
 pub use steps::Steps;
+pub use triangle::in_triangle;
 pub use turns::{Spot, Turns};

@@ -2,6 +2,7 @@ ghost use Rattle.std.specs.Prelude.{◌≡◌, ◌+◌, ◌<◌, ◌^◌, ◌-�
 ghost use Rattle.plane.specs.Box.{BoxesMeet, IntervalsMeet};
 ghost use Rattle.plane.specs.Order.{IsBefore};
 ghost use Rattle.plane.specs.Point.{IsInBounds, IsInLimit};
+ghost use Rattle.exact_plane.specs.Outside.{IsOutside, IsOutsideBox};
 
 use crate::steps::Steps;
 use crate::vector::Vector;
@@ -84,6 +85,20 @@ impl Pt {
     {
         intervals_meet(self.x, b.x, c.x, d.x) && intervals_meet(self.y, b.y, c.y, d.y)
     }
+
+    // Whether this point is outside the smallest box round three others.
+    pub(crate) fn is_outside_box(&self, a: &Pt, b: &Pt, c: &Pt) -> bool
+        ensures { IsTrue result ↔ IsOutsideBox self.now a.now b.now c.now }
+    {
+        is_outside(self.x, a.x, b.x, c.x) || is_outside(self.y, a.y, b.y, c.y)
+    }
+}
+
+// Whether a number is less than three others, or greater than them.
+fn is_outside(z: i64, a: i64, b: i64, c: i64) -> bool
+    ensures { IsTrue result ↔ IsOutside z a b c }
+{
+    z < a && z < b && z < c || a < z && b < z && c < z
 }
 
 // Whether the interval between two numbers shares a number with that between two others.

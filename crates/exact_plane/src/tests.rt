@@ -1,8 +1,8 @@
 ghost use Rattle.std.specs.Prelude.{◌≡◌, ◌<◌};
 
 use crate::{
-    Direction, Hom, Pt, Steps, in_cone, meet_only_at, on_segment, order, order_hom, segments_meet,
-    turn, turn_hom,
+    Direction, Hom, Pt, Steps, in_cone, in_triangle, meet_only_at, on_segment, order, order_hom,
+    segments_meet, turn, turn_hom,
 };
 use std::cmp::Ordering;
 use std::marker::Brand;
@@ -53,6 +53,7 @@ fn all_tables<L: Ledger, R: Abort>(rt: &R, blank: Blank)
     common_ends(rt, &mut steps);
     meetings(rt, &mut steps);
     cones(rt, &mut steps);
+    triangles(rt, &mut steps);
     line_meetings(rt, &mut steps);
     wide_points(rt, &mut steps);
 }
@@ -207,6 +208,31 @@ fn cones<L: Ledger, R: Abort>(rt: &R, steps: &mut Steps<L>) {
         let (v, a, c, u) = (at(rt, v), at(rt, a), at(rt, c), at(rt, u));
         if turn(&a, &v, &c, steps) != Direction::Straight {
             assert_eq!(rt; in_cone(&v, &a, &c, &u, steps), want, "{name}");
+        }
+    }
+}
+
+// Points and triangles, which run counterclockwise.
+#[rattlefmt::skip]
+const TRIANGLES: [(&str, At, At, At, At, bool); 11] = [
+    ("inside", (0, 0), (4, 0), (0, 4), (1, 1), true),
+    ("on the first side", (0, 0), (4, 0), (0, 4), (1, 0), true),
+    ("on the second side", (0, 0), (4, 0), (0, 4), (2, 2), true),
+    ("on the third side", (0, 0), (4, 0), (0, 4), (0, 3), true),
+    ("a corner", (0, 0), (4, 0), (0, 4), (4, 0), true),
+    ("in the box, beyond the second side", (0, 0), (4, 0), (0, 4), (3, 3), false),
+    ("left of the box", (0, 0), (4, 0), (0, 4), (-1, 1), false),
+    ("under the box", (0, 0), (4, 0), (0, 4), (1, -1), false),
+    ("right of the box", (0, 0), (4, 0), (0, 4), (5, 0), false),
+    ("over the box", (0, 0), (4, 0), (0, 4), (0, 5), false),
+    ("in the narrowest", (-A, -A), (A, A - 1), (A, A), (0, 0), true),
+];
+
+fn triangles<L: Ledger, R: Abort>(rt: &R, steps: &mut Steps<L>) {
+    for (name, a, b, c, p, want) in TRIANGLES {
+        let (a, b, c, p) = (at(rt, a), at(rt, b), at(rt, c), at(rt, p));
+        if turn(&a, &b, &c, steps) == Direction::Left {
+            assert_eq!(rt; in_triangle(&a, &b, &c, &p, steps), want, "{name}");
         }
     }
 }

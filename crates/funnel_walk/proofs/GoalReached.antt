@@ -19,8 +19,8 @@ use Rattle.funnel_walk.proofs.Closed.{named_at_goal, named_to_goal, names_on_way
 use Rattle.funnel_walk.proofs.Closed.{taut_to_goal}
 use Rattle.funnel_walk.proofs.NamedLists.{length_named, point_of_name}
 use Rattle.funnel_walk.proofs.NextDiagonals.{enters, shared, third_of}
-use Rattle.funnel_walk.specs.Names.{AppendsTaut, AreNamed, name_at, named_points}
-use Rattle.funnel_walk.specs.Walked.{IsWalked}
+use Rattle.funnel_walk.specs.Names.{AreNamed, name_at, named_points}
+use Rattle.funnel_walk.specs.Walked.{AppendsTaut, IsWalked}
 
 module _ (corners : List Point) (tris : List Tri) (fits : Fits corners tris) (sleeve : Sleeve) (of_mesh : IsOneOf tris sleeve)
     (start goal : Point) (differ : start ≢ goal) (i : ℕ) (below : i < length sleeve.diagonals)

@@ -12,6 +12,7 @@ mod NarrowedRight
 pub mod NextDiagonals
 mod Opened
 mod Passing
+mod PathNames
 mod PointsDiffer
 mod ShortWalks
 mod SideCorners

@@ -1,8 +1,8 @@
--- Names of points, those of a taut chain among them, and parts of the names of a funnel. This project's own.
+-- Names of points, those of a path among them, and parts of the names of a funnel. This project's own.
 use Rattle.std.specs.List.{All}
 use Rattle.std.specs.Prelude.{◌≡◌, ℕ, zero, suc, ◌+◌, ◌-◌, List, [], ◌∷◌, ◌++◌, map, slice_index_or}
 use Rattle.plane.specs.Point.{Point}
-use Rattle.rings.specs.Chain.{IsTaut}
+use Rattle.rings.specs.Chain.{IsPath}
 use Rattle.exact_plane.specs.Spot.{IsNamed, point_named}
 use Rattle.exact_plane.specs.declared.turns.Spot.{Spot}
 use Rattle.exact_plane.specs.declared.turns.Spot.TheVariants.{Start}
@@ -19,13 +19,13 @@ named_points at names = map at names
 abbrev pub AreNamed : List Point → List Spot → Type 0
 AreNamed corners names = All (IsNamed corners) names
 
--- the names of a taut chain were appended: the start, alone where it is the goal's point, and then others
-pub record AppendsTaut (corners : List Point) (start goal : Point) (out out' : List Spot) : Type 0 where
+-- the names of the path were appended: the start, alone where it is the goal's point, and then others
+pub record AppendsPath (corners : List Point) (start goal : Point) (out out' : List Spot) : Type 0 where
   pub others : List Spot
   pub appended : out' ≡ out ++ Start ∷ others
   pub alone : start ≡ goal → others ≡ []
   pub named : AreNamed corners (Start ∷ others)
-  pub taut : IsTaut corners start goal (named_points (point_named corners start goal) (Start ∷ others))
+  pub path : IsPath corners start goal (named_points (point_named corners start goal) (Start ∷ others))
 
 -- so many names from the apex on, to the left, or to the right
 abbrev pub left_names : List Spot → ℕ → ℕ → List Spot

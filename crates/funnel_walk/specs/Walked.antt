@@ -1,6 +1,7 @@
 -- How far a walk has come: the names that were given, and those of the funnel. No public clause cites this module.
 use Rattle.std.specs.Prelude.{◌≡◌, ℕ, List, [], ◌∷◌, ◌++◌}
 use Rattle.plane.specs.Point.{Point}
+use Rattle.rings.specs.Chain.{IsTaut}
 use Rattle.funnels.specs.OpenFunnel.{IsOpenFunnel}
 use Rattle.exact_plane.specs.Spot.{point_named}
 use Rattle.exact_plane.specs.declared.turns.Spot.{Spot}
@@ -15,3 +16,11 @@ pub record IsWalked (corners : List Point) (start goal : Point) (given names : L
   pub given_named : AreNamed corners given
   pub named : AreNamed corners names
   pub starts : name_at (given ++ name_at names a ∷ []) 0 ≡ Start
+
+-- the names of a taut chain were appended: the start, alone where it is the goal's point, and then others
+pub record AppendsTaut (corners : List Point) (start goal : Point) (out out' : List Spot) : Type 0 where
+  pub others : List Spot
+  pub appended : out' ≡ out ++ Start ∷ others
+  pub alone : start ≡ goal → others ≡ []
+  pub named : AreNamed corners (Start ∷ others)
+  pub taut : IsTaut corners start goal (named_points (point_named corners start goal) (Start ∷ others))

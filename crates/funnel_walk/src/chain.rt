@@ -5,8 +5,8 @@ ghost use Rattle.meshes.specs.Side.{tri_at};
 ghost use Rattle.meshes.specs.Sleeve.{IsOneOf, diagonal_at};
 ghost use Rattle.exact_plane.specs.Spot.{point_named};
 ghost use Rattle.exact_plane.specs.declared.turns.Spot.TheVariants.{Goal};
-ghost use Rattle.funnel_walk.specs.Names.{AppendsTaut, AreNamed, name_at, right_names};
-ghost use Rattle.funnel_walk.specs.Walked.{IsWalked};
+ghost use Rattle.funnel_walk.specs.Names.{AppendsPath, AreNamed, name_at, right_names};
+ghost use Rattle.funnel_walk.specs.Walked.{AppendsTaut, IsWalked};
 
 use crate::funnel::{name_at, narrow_left, narrow_right};
 use crate::room::FunnelBox;
@@ -32,7 +32,7 @@ pub fn walk<T: Turns, L: Ledger>(
         (whole (T.goal board.now)) }
     requires box_room { length sleeve.now.diagonals ≤ room.old }
     requires out_room { length out.old.items + length sleeve.now.diagonals + 4 ≤ vec_capacity out.old }
-    ensures taut { AppendsTaut (T.corners board.now) (T.start board.now) (T.goal board.now) out.old.items out.new.items }
+    ensures path { AppendsPath (T.corners board.now) (T.start board.now) (T.goal board.now) out.old.items out.new.items }
     ensures same_room { room.new ≡ room.old }
     ensures same_out { vec_capacity out.new ≡ vec_capacity out.old }
     ensures steps { steps.new ≤ steps.old + 4 * (length sleeve.now.diagonals + 2) }

@@ -1,12 +1,14 @@
--- The answers to a polygon, as the code writes them.
+-- The answers to a polygon and to two points, as the code writes them.
 use Rattle.std.proofs.Common.{◌≡◌, ℕ, List, ◌++◌, length, Result, Ok, Err, inl, inr, refl, ap}
-use Rattle.std.specs.Prelude.{OnOk, Some}
+use Rattle.std.specs.Prelude.{OnOk, None, Some, Vec}
+use Rattle.std.specs.declared.alloc.Global.{Global}
 use Rattle.plane.specs.Point.{Point}
 use Rattle.rings.specs.Simple.{IsLeastClash, IsSimple}
 use Rattle.geo_text.specs.Texts.{bad_text}
 use Rattle.geo_text.specs.declared.command.Bad.TheVariants as bad
 use Rattle.geo_text.specs.declared.command.Command.TheVariants as command
-use Rattle.geo_session.specs.Answer.{AppendsAnswer, State, polygon_text}
+use Rattle.geo_session.specs.Answer.{AppendsAnswer, State, found, path_text, polygon_text}
+use Rattle.geo_session.specs.Path.{IsChainAnswer}
 
 -- what follows from a fact about an Ok follows under the Ok
 under_ok : {T E : Type 0} {P Q : Type 0} (r : Result T E) → (P → Q) → OnOk r P → OnOk r Q
@@ -37,3 +39,15 @@ module _ (before : State) (ring : List Point) (out out' : List ℕ) where
         answer = inr (record { i = i; j = j; least = least; answer = refl; state = refl });
         appended = written;
       })
+
+-- the line of a path answers two points
+pub path_answered : {E : Type 0} (before : State) (s t : Point) (points : Vec Point Global) (out out' : List ℕ) (put : Result (Unit {0}) E)
+    → IsChainAnswer before s t (Ok points) → OnOk put (out' ≡ out ++ path_text points.items)
+    → OnOk put (AppendsAnswer before (command.Path s t) out out' before)
+path_answered None s t points out out' put h = absurd cc
+path_answered (Some ring) s t points out out' put h = under_ok put
+    (λ written. record {
+      text = path_text points.items;
+      answer = (found h.0 h.1 (record { points = points.items; path = h.2; told = refl }), refl);
+      appended = written;
+    })

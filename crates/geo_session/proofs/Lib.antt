@@ -1,8 +1,10 @@
 mod Answered
 mod Places
 mod Judged
-mod GivenTaut
+mod GivenPath
 mod GivenSize
 mod SleeveRoom
 mod WalkedNames
 mod LocatedIn
+mod OneVerdict
+mod OneAnswer

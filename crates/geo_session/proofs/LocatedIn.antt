@@ -9,7 +9,7 @@ use Rattle.meshes.specs.Side.{tri_at}
 use Rattle.meshes.specs.declared.tri.Tri.{Tri}
 use Rattle.ring_check.specs.Oriented.{Oriented, given_of}
 use Rattle.dual_tree.specs.Location.{IsLeastHolding}
-use Rattle.geo_session.proofs.GivenTaut.{in_given_iff}
+use Rattle.geo_session.proofs.GivenPath.{in_given_iff}
 
 module _ (ring : Oriented) (p : Point) where
   -- a point that a triangle holds is in it

@@ -8,7 +8,7 @@ use Rattle.rings.specs.Orientation.{turned_round}
 use Rattle.ring_check.specs.Oriented.{Oriented, given_of}
 use Rattle.inside_test.specs.declared.position.Position.{Position}
 use Rattle.inside_test.specs.declared.position.Position.TheVariants as position
-use Rattle.geo_session.proofs.GivenTaut.{in_given_iff}
+use Rattle.geo_session.proofs.GivenPath.{in_given_iff}
 use Rattle.geo_session.specs.Answer.{IsPlaceText, inside, on_edge, outside}
 use Rattle.geo_session.specs.Place.{IsPlace, place_text}
 

@@ -1,7 +1,7 @@
 -- What each command answers, and the state that it leaves. This project's own.
 use Rattle.std.specs.Prelude.{◌≡◌, ℕ, ◌⊎◌, ◌++◌, List, [], ◌∷◌, length, codes, Option, Some, None, Result, Ok, Err}
 use Rattle.plane.specs.Point.{Point, whole}
-use Rattle.rings.specs.Chain.{IsTaut}
+use Rattle.rings.specs.Chain.{IsPath}
 use Rattle.rings.specs.Edge.{IsOnSome, edges_of}
 use Rattle.rings.specs.Inside.{IsIn}
 use Rattle.rings.specs.Simple.{IsLeastClash, IsSimple}
@@ -80,13 +80,13 @@ points_text (p ∷ points) = pt_text p ++ points_text points
 abbrev pub path_text : List Point → List ℕ
 path_text points = codes "path" ++ index_text (length points) ++ points_text points ++ codes "\n"
 
--- the text is the line of a taut chain from s to t
+-- the text is the line of the path from s to t
 pub record TellsPath (ring : List Point) (s t : Point) (text : List ℕ) : Type 0 where
   pub points : List Point
-  pub taut : IsTaut ring s t points
+  pub path : IsPath ring s t points
   pub told : text ≡ path_text points
 
--- the first of the two points that is not in the polygon is named, or else a taut chain between them is told
+-- the first of the two points that is not in the polygon is named, or else the path between them is told
 pub data IsPathIn (ring : List Point) (s t : Point) (text : List ℕ) : Type 0 where
   first_outside : ¬ IsIn ring (whole s) → text ≡ bad_text (bad.Outside 1) → IsPathIn ring s t text
   second_outside : IsIn ring (whole s) → ¬ IsIn ring (whole t) → text ≡ bad_text (bad.Outside 2) → IsPathIn ring s t text

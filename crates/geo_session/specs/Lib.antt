@@ -1,4 +1,5 @@
 pub mod Answer
+pub mod Laws
 pub mod Output
 pub mod Session
 pub mod Path

@@ -2,15 +2,15 @@
 use Rattle.std.specs.Prelude.{◌≡◌, ◌⊎◌, ℕ, ◌+◌, ◌*◌, ◌≤◌, List, [], ◌++◌, length, Some, None, Result, Ok, Err, Vec}
 use Rattle.std.specs.declared.alloc.Global.{Global}
 use Rattle.plane.specs.Point.{Point, whole}
-use Rattle.rings.specs.Chain.{IsTaut}
+use Rattle.rings.specs.Chain.{IsPath}
 use Rattle.rings.specs.Inside.{IsIn}
 use Rattle.geo_text.specs.declared.command.Bad.{Bad}
 use Rattle.geo_text.specs.declared.command.Bad.TheVariants as bad
 use Rattle.geo_session.specs.Answer.{State, path_text}
 
--- a taut chain from s to t in a polygon, or the word for the first of the two that is not in it
+-- the path from s to t in a polygon, or the word for the first of the two that is not in it
 abbrev pub IsChainIn : {F : Type 0} → F → F → List Point → Point → Point → Result (Vec Point Global) F → Type 0
-IsChainIn no_start no_goal ring s t (Ok points) = IsIn ring (whole s) × IsIn ring (whole t) × IsTaut ring s t points.items
+IsChainIn no_start no_goal ring s t (Ok points) = IsIn ring (whole s) × IsIn ring (whole t) × IsPath ring s t points.items
 IsChainIn no_start no_goal ring s t (Err fault) =
     ((¬ IsIn ring (whole s)) × (fault ≡ no_start)) ⊎ (IsIn ring (whole s) × (¬ IsIn ring (whole t)) × (fault ≡ no_goal))
 

@@ -1,7 +1,7 @@
 ghost use Rattle.std.specs.Prelude.{◌≡◌, ◌+◌, ◌-◌, ◌*◌, ◌≤◌, ◌++◌, IfOk, OnErr, length, vec_capacity};
 ghost use Rattle.plane.specs.Point.{whole};
 ghost use Rattle.plane.specs.declared.limits.TheConstants.{MAX_CHAIN, MAX_CORNERS};
-ghost use Rattle.rings.specs.Chain.{IsTaut};
+ghost use Rattle.rings.specs.Chain.{IsPath};
 ghost use Rattle.meshes.specs.Fits.{Fits};
 ghost use Rattle.exact_plane.specs.Spot.{point_named};
 ghost use Rattle.ring_check.specs.Oriented.{given_of};
@@ -120,7 +120,7 @@ fn chain_between<L: Ledger>(
     requires fits { Fits ring.now.corners mesh.now }
     requires from { IsLeastHolding ring.now.corners mesh.now (whole s.now) from }
     requires to { IsLeastHolding ring.now.corners mesh.now (whole t.now) to }
-    ensures taut { IfOk result (λ points. IsTaut ring.now.corners s.now t.now points.items) }
+    ensures path { IfOk result (λ points. IsPath ring.now.corners s.now t.now points.items) }
     ensures few { IfOk result (λ points. length points.items ≤ MAX_CORNERS + 1) }
     ensures steps { steps.new ≤ steps.old + 4 * length ring.now.corners }
     ensures memory { OnErr result (steps.new ≡ steps.old) }

@@ -2,7 +2,9 @@
 #![tactic(auto)]
 
 mod held;
+mod laws;
 mod lines;
 mod session;
 
+pub use laws::{one_answer, one_output};
 pub use session::Session;

@@ -1,13 +1,14 @@
 -- What two segments have in common lies between points that are listed.
-use Rattle.std.proofs.Common.{◌≡◌, ◌≢◌, List, pos}
+use Rattle.std.proofs.Common.{◌≡◌, ◌≢◌, inl, inr, List, pos, sym, subst}
+use Rattle.std.proofs.lemmas.List.Elements.{Contains-push}
 use Rattle.std.specs.List.{Contains}
-use Rattle.plane.proofs.Points.{same_sym, whole_is_point}
+use Rattle.plane.proofs.Points.{same_refl, same_sym, same_trans, whole_is_point}
 use Rattle.plane.proofs.Segments.{on_first_end, on_is_straight, on_same_point, around_of_line, first_on_line, last_on_line, one_meeting}
 use Rattle.plane.specs.Line.{cross_product}
 use Rattle.plane.specs.Point.{IsPoint, IsSame, Point, Triple, whole}
 use Rattle.plane.specs.Segment.{Meet, On}
 use Rattle.plane.specs.Turn.{IsStraight}
-use Rattle.inside_test.specs.Breakpoints.{EnclosesAll}
+use Rattle.inside_test.specs.Breakpoints.{EnclosesAll, IsListed, Lists}
 
 module _ (a b c d : Point) where
   -- segments that are not parallel
@@ -24,20 +25,26 @@ module _ (a b c d : Point) where
     pub meeting_on_first : Meet (whole a) (whole b) (whole c) (whole d) → On m (whole a) (whole b)
     meeting_on_first h = on_same_point h.rational (common_is h.point h.rational h.on_first h.on_second) h.on_first
 
-    -- and encloses them
-    pub encloses_crossing : (points : List Triple) → Contains points m → EnclosesAll points (whole a) (whole b) (whole c) (whole d)
-    encloses_crossing points listed z at_z on_first on_second =
-        let same = common_is z at_z on_first on_second in
+    -- and any triple of it that is listed encloses them
+    encloses_same : (points : List Triple) → IsListed points m → EnclosesAll points (whole a) (whole b) (whole c) (whole d)
+    encloses_same points k z at_z on_first on_second =
+        let same = same_trans at_m (common_is z at_z on_first on_second) k.same in
         let on = on_same_point at_z same on_second in
         record {
-          u = m;
-          v = m;
-          u_listed = listed;
-          v_listed = listed;
+          u = k.point;
+          v = k.point;
+          u_listed = k.listed;
+          v_listed = k.listed;
           u_on = on;
           v_on = on;
-          between = on_same_point at_m (same_sym same) (on_first_end m m);
+          between = on_same_point k.rational (same_sym same) (on_first_end k.point k.point);
         }
+
+    -- so it is where the point was appended, unless it was listed
+    pub encloses_crossing : (old new : List Triple) → Lists m old new → EnclosesAll new (whole a) (whole b) (whole c) (whole d)
+    encloses_crossing old new (inl e) =
+        encloses_same new (record { point = m; rational = at_m; listed = subst (λ l. Contains l m) (sym e) (Contains-push old m); same = same_refl m })
+    encloses_crossing old new (inr (e, k)) = subst (λ l. EnclosesAll l (whole a) (whole b) (whole c) (whole d)) (sym e) (encloses_same old k)
 
   -- parallel ones: the ends of the first, and those of the second on it, enclose all
   pub encloses_parallel : (points : List Triple) → cross_product a b c d ≡ pos 0 → Contains points (whole a) → Contains points (whole b)

@@ -1,13 +1,16 @@
 -- Lists of points on a segment that grow.
-use Rattle.std.proofs.Common.{◌≡◌, ◌⊎◌, inl, inr, ℕ, ◌+◌, List, [], ◌∷◌, ◌++◌, length, length-append, ap, sym, subst, ◌∙◌, Ok, Err, Result, OnOk}
+use Rattle.std.proofs.Common.{◌≡◌, ◌⊎◌, inl, inr, ℕ, ◌+◌, ◌<◌, List, [], ◌∷◌, ◌++◌, length, length-append, get_or, ap, sym, subst, ◌∙◌, Ok, Err, Result, OnOk}
 use Rattle.std.proofs.Common.{OnErr, lit≤, lit<, refl, arith}
 use Rattle.std.proofs.lemmas.Bool.{cases_lt}
+use Rattle.std.proofs.lemmas.List.{get_or-map, length-map}
 use Rattle.std.proofs.lemmas.List.Elements.{All-cons, All-nil, All-push, Contains-append_left}
 use Rattle.std.specs.List.{All, Contains}
+use Rattle.plane.proofs.Points.{same_sym}
 use Rattle.plane.proofs.Segments.{on_first_end, on_last_end}
-use Rattle.plane.specs.Point.{IsPoint, Point, Triple, whole}
+use Rattle.plane.specs.Point.{IsPoint, IsSame, Point, Triple, whole}
 use Rattle.rings.specs.Ring.{vertex}
-use Rattle.inside_test.specs.Breakpoints.{EnclosesAll, Extends, IsPlaced, ListsMeetings}
+use Rattle.inside_test.specs.Breakpoints.{EnclosesAll, Extends, IsListed, IsPlaced, Lists, ListsMeetings, breakpoint_points}
+use Rattle.inside_test.specs.declared.breakpoint.Breakpoint.{Breakpoint}
 
 -- what holds on success, or what holds on failure
 pub one_of : {A E : Type 0} (r : Result A E) (P Q : Type 0) → OnOk r P → OnErr r Q → P ⊎ Q
@@ -51,6 +54,23 @@ module _ (a b : Triple) where
     | inl e ↦ extends_push old new p on e
     | inr e ↦ extends_same old new e
   ]
+
+  -- or to which it was pushed unless it was there
+  pub extends_listed : {A E : Type 0} (r : Result A E) (old new : List Triple) (p : Triple) → IsPlaced a b p
+      → OnOk r (Lists p old new) → OnErr r (new ≡ old) → Extends a b old new
+  extends_listed r old new p on ok err = elim (one_of r (Lists p old new) (new ≡ old) ok err) [
+    | inl l ↦ elim l [ inl e ↦ extends_push old new p on e | inr k ↦ extends_same old new k.0 ]
+    | inr e ↦ extends_same old new e
+  ]
+
+-- a point of the list is listed, and so is each triple of it
+pub listed_at : (xs : List Breakpoint) (i : ℕ) (x : Breakpoint) (p : Triple) → i < length xs → x ≡ get_or xs i x → IsSame x.point p
+    → IsListed (breakpoint_points xs) p
+listed_at xs i x p below is same =
+    let there : get_or (breakpoint_points xs) i x.point ≡ x.point =
+    get_or-map (λ k. k.point) xs i x x.point below ∙ ap (λ (k : Breakpoint). k.point) (sym is) in
+    let as_many : length (breakpoint_points xs) ≡ length xs = length-map xs (λ k. k.point) in
+    record { point = x.point; rational = x.sized.rational; listed = (i, omega arith, there); same = same_sym same }
 
 -- ---- the list that a loop over the edges makes
 

@@ -1,8 +1,8 @@
 -- Where a segment meets the edges of a ring: points enough to tell whether it lies in the ring. This project's own. No public
 -- clause cites this module.
 use Rattle.std.specs.List.{All, Contains}
-use Rattle.std.specs.Prelude.{ℕ, ◌+◌, ◌<◌, ◌≤◌, List, length, map}
-use Rattle.plane.specs.Point.{IsPoint, Point, Triple, whole}
+use Rattle.std.specs.Prelude.{◌≡◌, ◌⊎◌, ℕ, ◌+◌, ◌<◌, ◌≤◌, List, [], ◌∷◌, ◌++◌, length, map}
+use Rattle.plane.specs.Point.{IsPoint, IsSame, Point, Triple, whole}
 use Rattle.plane.specs.Segment.{On}
 use Rattle.rings.specs.Ring.{vertex}
 use Rattle.inside_test.specs.declared.breakpoint.Breakpoint.{Breakpoint}
@@ -30,6 +30,17 @@ pub record Extends (a b : Triple) (old new : List Triple) : Type 0 where
   pub longer : length old ≤ length new
   pub kept : (p : Triple) → Contains old p → Contains new p
   pub placed : All (IsPlaced a b) old → All (IsPlaced a b) new
+
+-- a listed rational point is the same as p
+pub record IsListed (points : List Triple) (p : Triple) : Type 0 where
+  pub point : Triple
+  pub rational : IsPoint point
+  pub listed : Contains points point
+  pub same : IsSame p point
+
+-- p was appended, or the list stayed, where a point of it is the same
+abbrev pub Lists : Triple → List Triple → List Triple → Type 0
+Lists p old new = (new ≡ old ++ p ∷ []) ⊎ ((new ≡ old) × IsListed old p)
 
 -- points on the segment from a to b: both ends, and enough to enclose all that it has in common with the first n edges
 pub record ListsMeetings (ring : List Point) (n : ℕ) (a b : Triple) (points : List Triple) : Type 0 where

@@ -1,7 +1,7 @@
 // The points at which a segment may enter or leave a ring, in a form that is compared with no step.
 ghost use Rattle.std.specs.Prelude.{◌≡◌, ◌↔◌};
 ghost use Rattle.plane.specs.Order.{Precedes};
-ghost use Rattle.plane.specs.Point.{IsPoint};
+ghost use Rattle.plane.specs.Point.{IsPoint, IsSame};
 ghost use Rattle.exact_plane.specs.Size.{IsNarrow, IsSized};
 
 use crate::product::compare;
@@ -37,6 +37,7 @@ impl Breakpoint {
     // Compares x, then y.
     pub(crate) fn order(&self, other: &Breakpoint) -> Ordering
         ensures less { (result ≡ Ordering.Less) ↔ Precedes self.now.point other.now.point }
+        ensures equal { (result ≡ Ordering.Equal) ↔ IsSame self.now.point other.now.point }
     {
         let by_x = compare(self.x, self.w, other.x, other.w);
         by_x.then(compare(self.y, self.w, other.y, other.w))

@@ -6,13 +6,14 @@ ghost use Rattle.plane.specs.Segment.{On};
 ghost use Rattle.rings.specs.Inside.{IsIn};
 ghost use Rattle.rings.specs.Sees.{Sees};
 ghost use Rattle.exact_plane.specs.Size.{IsNarrow};
-ghost use Rattle.inside_test.specs.Breakpoints.{EnclosesAll, Extends, ListsMeetings, breakpoint_points};
+ghost use Rattle.inside_test.specs.Breakpoints.{EnclosesAll, Extends, IsListed, Lists, ListsMeetings, breakpoint_points};
 
 use crate::breakpoint::Breakpoint;
 use crate::position::{Position, next_corner, place_hom};
 use exact_plane::{Hom, Memory, Pt, Steps, on_segment, segments_meet};
 use ring_check::Ring;
 use std::alloc::Global;
+use std::cmp::Ordering;
 use std::sync::ledger::Ledger;
 
 /// Whether the segment from `a` to `b` lies in the ring: each rational point of it does. It may run along edges and
@@ -70,7 +71,7 @@ fn push_meetings<L: Ledger>(
         return Ok(());
     }
     match Hom::meet(a, b, c, d, steps) {
-        Some(m) => push(points, m, steps),
+        Some(m) => push_unlisted(points, m, steps),
         None => {
             push_if_on(points, c, a, b, steps)?;
             push_if_on(points, d, a, b, steps)
@@ -93,6 +94,40 @@ fn push_if_on<L: Ledger>(
         return Ok(());
     }
     push(points, Hom::of_pt(p, steps), steps)
+}
+
+// Appends a point, unless the first point of the list, the second or the last is the same.
+fn push_unlisted<L: Ledger>(
+    points: &mut Vec<Breakpoint>,
+    p: Hom,
+    steps: &mut Steps<L>,
+) -> Result<(), Memory>
+    requires { IsNarrow p }
+    ensures ok { OnOk result (Lists p (breakpoint_points points.old.items) (breakpoint_points points.new.items)) }
+    ensures err { OnErr result (breakpoint_points points.new.items ≡ breakpoint_points points.old.items) }
+    ensures rational { IsPoint p }
+{
+    let point = Breakpoint::of(p, steps);
+    if is_listed(points, &point) {
+        return Ok(());
+    }
+    points.push(point)?;
+    Ok(())
+}
+
+// Whether the first point of a list, the second or the last is the same as this one.
+fn is_listed(points: &[Breakpoint], p: &Breakpoint) -> bool
+    ensures { IsTrue result → IsListed (breakpoint_points points.now) p.now.point }
+{
+    let last = points.len().saturating_sub(1);
+    is_listed_at(points, 0, p) || is_listed_at(points, 1, p) || is_listed_at(points, last, p)
+}
+
+// Whether the point at this place is the same as this one.
+fn is_listed_at(points: &[Breakpoint], i: usize, p: &Breakpoint) -> bool
+    ensures { IsTrue result → IsListed (breakpoint_points points.now) p.now.point }
+{
+    i < points.len() && points[i].order(p) == Ordering::Equal
 }
 
 // Appends a point.

@@ -18,7 +18,7 @@ mod SignedCrossing
 -- What it says that the ray from a point to the right crosses an edge, upward or downward.
 mod Crossings
 pub use Rattle.rings.proofs.Crossings.Crossings.{CrossedDown, CrossedUp, CrossingCase, crossed_down_facts, crossed_down_from, crossed_up_facts}
-pub use Rattle.rings.proofs.Crossings.Crossings.{crossed_up_from, crossing_cases, crossing_reversed, crossing_value, downward, uncrossed, upward}
+pub use Rattle.rings.proofs.Crossings.Crossings.{crossed_up_from, crossing_cases, crossing_reversed, downward, uncrossed, upward}
 -- Crossings and winding numbers of lists of edges: appended lists, and edges read backward.
 mod CrossingSums
 pub use Rattle.rings.proofs.Crossings.CrossingSums.{crossings-append, crossings-backward, crossings-cons, winding-append, winding-backward}

@@ -15,7 +15,7 @@ mod InRing
 pub use Rattle.rings.proofs.Inside.InRing.{both_odd, in_from_odd, in_or_not, not_in_from_even, on_some_or_not}
 -- Crossings, windings and segments do not tell two triples of one rational point apart.
 mod SamePoint
--- Points from which no edge is crossed: above all ends of the edges, below all, or right of all.
+-- Points from which no edge is crossed: above all ends of the edges, or below all.
 mod FarAway
 pub use Rattle.rings.proofs.Inside.FarAway.{none_crossed_above}
 -- Points in order on a segment, so close that each edge that meets the segment ends at two of them: its breakpoints.

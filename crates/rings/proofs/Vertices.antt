@@ -2,7 +2,7 @@
 
 -- The edges of a ring by their numbers: edge i goes from vertex i to the next.
 mod Indexing
-pub use Rattle.rings.proofs.Vertices.Indexing.{crossings_more, edge_at, on_some_edge, on_some_from, on_some_more, split_edges, take_all_edges}
+pub use Rattle.rings.proofs.Vertices.Indexing.{crossings_more, edge_at, on_some_edge, on_some_from, on_some_more, take_all_edges}
 -- The items of a list, of appended lists and of a list in the other order, and their numbers.
 mod Items
 pub use Rattle.rings.proofs.Vertices.Items.{has_cases, has_in_order, has_left, has_number, has_reversed, has_right, has_swapped, number_of}

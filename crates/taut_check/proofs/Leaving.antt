@@ -1,7 +1,8 @@
 -- What holds at a place that a list doesn't leave the ring at.
-use Rattle.std.proofs.Common.{◌≡◌, inl, inr, refl, Bool, true, false, IsTrue, ◌↔◌, ℕ, ◌+◌, ◌<◌, List, length}
+use Rattle.std.proofs.Common.{◌≡◌, inl, inr, refl, Bool, true, false, IsTrue, ◌↔◌, ℕ, ◌+◌, ◌<◌, ◌≤◌, List, length, arith}
 use Rattle.std.specs.Prelude.{not}
 use Rattle.plane.proofs.Points.{whole_is_point}
+use Rattle.plane.proofs.Segments.{on_first_end}
 use Rattle.plane.specs.Point.{IsPoint, Point, Triple, whole}
 use Rattle.rings.proofs.Inside.{in_or_not}
 use Rattle.rings.specs.Chain.{point_at}
@@ -29,16 +30,16 @@ module _ (ring points : List Point) (k : ℕ) (stays : ¬ IsLeaving ring points 
       sees_of_not_unseen ring (whole (point_at points k)) (whole (point_at points (k + 1)))
       (λ unseen. stays (inr (record { not_last = before_last; unseen = unseen })))
 
--- at a point in the ring the sight of the next decides
+-- a point before the last is in the ring where it sees the next, so that sight decides
 pub leaves_unseen : (ring points : List Point) (k : ℕ) (p q : Point) (holds : Bool) → p ≡ point_at points k → q ≡ point_at points (k + 1) → k + 1 < length points
-    → ¬ (¬ IsIn ring (whole p)) → (IsTrue holds ↔ Sees ring (whole p) (whole q)) → IsTrue (not holds) ↔ IsLeaving ring points k
-leaves_unseen ring points k p q holds at_p at_q before_last within sees = by_sight holds refl
+    → (IsTrue holds ↔ Sees ring (whole p) (whole q)) → IsTrue (not holds) ↔ IsLeaving ring points k
+leaves_unseen ring points k p q holds at_p at_q before_last sees = by_sight holds refl
   where
     by_sight : (b : Bool) → holds ≡ b → IsTrue (not b) ↔ IsLeaving ring points k
     by_sight true seen = (
       λ h. absurd (cc h),
       λ leaves. elim leaves [
-        | inl out ↦ absurd (within (rw at_p out))
+        | inl out ↦ absurd (out (rw (← at_p) (sees.0 seen (whole p) (whole_is_point p) (on_first_end (whole p) (whole q)))))
         | inr h ↦ absurd (h.unseen (rw (← at_p, ← at_q) (sees.0 seen)))
       ],
     )
@@ -46,6 +47,14 @@ leaves_unseen ring points k p q holds at_p at_q before_last within sees = by_sig
       λ _. inr (record { not_last = before_last; unseen = λ h. absurd (cc (sees.1 (rw (at_p, at_q) h), unseen)) }),
       λ _. refl,
     )
+
+-- the last point leaves exactly where it is outside
+pub leaves_last : (ring points : List Point) (k : ℕ) (p : Point) (is_out : Bool) → p ≡ point_at points k → length points ≤ k + 1
+    → (IsTrue is_out ↔ (¬ IsIn ring (whole p))) → IsTrue is_out ↔ IsLeaving ring points k
+leaves_last ring points k p is_out at_p last out = (
+  λ h. inl (rw (← at_p) (out.0 h)),
+  λ leaves. elim leaves [ inl h ↦ out.1 (rw at_p h) | inr h ↦ absurd (omega (arith, h.not_last)) ],
+)
 
 -- a place at which no rule is broken, by the bend there
 pub sound_of_kept : (ring points : List Point) (k : ℕ) → ¬ IsRepeat points k → ¬ IsLeaving ring points k → IsSoundBend ring points k → IsSound ring points k

@@ -1,7 +1,10 @@
 -- From what is found at each place to the verdict on the whole list.
-use Rattle.std.proofs.Common.{◌≡◌, ◌↔◌, inl, inr, subst, ℕ, ◌<◌, List, length, arith}
+use Rattle.std.proofs.Common.{◌≡◌, ◌↔◌, inl, inr, subst, ℕ, ◌-◌, ◌<◌, ◌≤◌, List, length, arith, Result, Ok, Err}
+use Rattle.std.specs.Prelude.{IfOk}
 use Rattle.plane.specs.Point.{Point}
-use Rattle.rings.specs.Chain.{IsBentChain}
+use Rattle.rings.specs.Chain.{IsBentChain, IsTaut, point_at}
+use Rattle.rings.specs.Simple.{IsSimple}
+use Rattle.funnels.proofs.OneChain.{taut_iff_bent}
 use Rattle.taut_check.specs.Found.{IsSound, place_of}
 use Rattle.taut_check.specs.Verdict.{IsBroken, IsFirstRule, IsLeastBroken, IsUnbroken, IsVerdict}
 use Rattle.taut_check.specs.declared.verdict.Verdict.{Verdict}
@@ -75,3 +78,10 @@ module _ (ring points : List Point) where
   -- the rules are kept everywhere
   pub unbroken : 0 < length points → ((k : ℕ) → k < length points → IsSound ring points k) → IsUnbroken ring points
   unbroken some sound = record { some = some; none = λ k below. sound_not_broken k (sound k below) }
+
+  -- so a verdict that tells chains with bends from others tells lists that are taut between their ends
+  pub tells_taut : {E : Type 0} → 3 ≤ length ring → IsSimple ring → (found : Result Verdict E)
+      → IfOk found (λ v. (v ≡ verdict.Taut) ↔ IsBentChain ring points)
+      → IfOk found (λ v. (v ≡ verdict.Taut) ↔ IsTaut ring (point_at points 0) (point_at points (length points - 1)) points)
+  tells_taut three simple (Ok v) iff = let taut = taut_iff_bent ring three simple points in (λ e. taut.1 (iff.0 e), λ h. iff.1 (taut.0 h))
+  tells_taut three simple (Err e) iff = tt

@@ -29,7 +29,7 @@ pub fn is_repeat<L: Ledger>(points: &[Pt], k: usize, steps: &mut Steps<L>) -> bo
         && order(&point(points, k), &point(points, k + 1), steps) == Ordering::Equal
 }
 
-// Whether the point at place `k` is not in the ring, or does not see the next.
+// Whether the point at place `k` is not in the ring, or does not see the next. A point that sees the next is in the ring.
 pub fn is_leaving<L: Ledger>(
     alloc: Global,
     ring: &Ring,
@@ -41,11 +41,8 @@ pub fn is_leaving<L: Ledger>(
     ensures { IfOk result (λ leaving. IsTrue leaving ↔ IsLeaving ring.now.corners points.now k) }
 {
     let from = point(points, k);
-    if is_outside(ring, &from, steps) {
-        return Ok(true);
-    }
     if k == points.len() - 1 {
-        return Ok(false);
+        return Ok(is_outside(ring, &from, steps));
     }
     Ok(!holds_segment(alloc, ring, &from, &point(points, k + 1), steps)?)
 }

@@ -1,6 +1,6 @@
-ghost use Rattle.std.specs.Prelude.{◌≡◌, ◌≤◌, ◌<◌, ◌↔◌, IfOk, length};
+ghost use Rattle.std.specs.Prelude.{◌≡◌, ◌-◌, ◌≤◌, ◌<◌, ◌↔◌, IfOk, length};
 ghost use Rattle.plane.specs.declared.limits.TheConstants.{MAX_CHAIN};
-ghost use Rattle.rings.specs.Chain.{IsBentChain};
+ghost use Rattle.rings.specs.Chain.{IsBentChain, IsTaut, point_at};
 ghost use Rattle.taut_check.specs.Found.{IsFoundAt};
 ghost use Rattle.taut_check.specs.Verdict.{IsVerdict};
 
@@ -41,7 +41,24 @@ pub fn check<L: Ledger>(
 ) -> Result<Verdict, Memory>
     requires { length chain.now ≤ MAX_CHAIN }
     ensures verdict { IfOk result (IsVerdict ring.now.corners chain.now) }
-    ensures taut { IfOk result (λ verdict. (verdict ≡ Verdict.Taut) ↔ IsBentChain ring.now.corners chain.now) }
+    ensures taut { IfOk result (λ verdict. (verdict ≡ Verdict.Taut)
+        ↔ IsTaut ring.now.corners (point_at chain.now 0) (point_at chain.now (length chain.now - 1)) chain.now) }
+{
+    // What holds of every ring is told with its length: that it is simple, so that no other chain is taut.
+    let _length = ring.len();
+    verdict_on(alloc, ring, chain, steps)
+}
+
+// The same, where a list that breaks no rule is a chain with a bend at each inner point.
+fn verdict_on<L: Ledger>(
+    alloc: Global,
+    ring: &Ring,
+    chain: &[Pt],
+    steps: &mut Steps<L>,
+) -> Result<Verdict, Memory>
+    requires { length chain.now ≤ MAX_CHAIN }
+    ensures verdict { IfOk result (IsVerdict ring.now.corners chain.now) }
+    ensures bent { IfOk result (λ verdict. (verdict ≡ Verdict.Taut) ↔ IsBentChain ring.now.corners chain.now) }
 {
     if chain.is_empty() {
         return Ok(Verdict::Empty);

@@ -27,7 +27,7 @@ module _ (corners : List Point) (u v w : ℕ) (ms : List ℕ) (tris : List Tri) 
   abbrev piece : List ℕ
   piece = u ∷ v ∷ w ∷ ms
 
-  abbrev pub ear_ring : List Point
+  abbrev ear_ring : List Point
   ear_ring = piece_points corners (u ∷ v ∷ w ∷ [])
 
   abbrev pub rest_ring : List Point

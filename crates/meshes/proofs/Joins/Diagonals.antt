@@ -1,5 +1,5 @@
 -- The diagonal that cuts a piece in two is not an edge of it.
-use Rattle.std.proofs.Common.{◌≡◌, ◌⊎◌, inl, inr, sym, ap, subst, ◌∙◌, ℕ, suc, ◌+◌, ◌%◌, ◌<◌, List, length, get_or, arith}
+use Rattle.std.proofs.Common.{◌≡◌, ◌⊎◌, inl, inr, sym, ap, subst, ◌∙◌, ℕ, suc, ◌+◌, ◌%◌, ◌<◌, List, length, arith}
 use Rattle.std.proofs.Math.Nat.{mod-eq_of_lt, mod_self}
 use Rattle.std.proofs.lemmas.Bool.{cases_lt}
 use Rattle.plane.specs.Point.{Point}
@@ -22,10 +22,6 @@ next_within p n h = elim (next_place p n h) [ inl k ↦ omega (arith, k.0, k.1) 
 
 module _ (corners : List Point) (v : ℕ) (ps : List ℕ) (z : ℕ) (qs : List ℕ) (simple : IsSimple (piece_points corners (both_parts v ps z qs)))
     (some_before : 0 < length ps) (some_after : 0 < length qs) where
-  -- the number at a place of the piece
-  at : ℕ → ℕ
-  at p = get_or (both_parts v ps z qs) p 0
-
   -- no edge goes from v to z,
   not_from_first : (e : IsPieceEdge (both_parts v ps z qs) v z) → ⊥
   not_from_first e =

@@ -15,7 +15,7 @@ module _ (corners : List Point) (u v w : ℕ) (ms : List ℕ) (ts : List Tri)
     (cut : IsCut corners u (v ∷ []) w ms) where
   -- where the side from u to w cuts the piece u v w .. in the triangle and the rest, a mesh that fits the rest fits the piece
   -- with the triangle before it
-  pub fits_ear_from : FitsPiece corners (u ∷ w ∷ ms) ts → FitsPiece corners (u ∷ v ∷ w ∷ ms) (record { a = u; b = v; c = w } ∷ ts)
+  fits_ear_from : FitsPiece corners (u ∷ w ∷ ms) ts → FitsPiece corners (u ∷ v ∷ w ∷ ms) (record { a = u; b = v; c = w } ∷ ts)
   fits_ear_from rest = fits_joined corners u (v ∷ []) w ms (record { a = u; b = v; c = w } ∷ []) ts cut (fits_triangle corners u v w left) rest
 
   -- so it is with the piece read from the tip on, and the rest from the vertex after it

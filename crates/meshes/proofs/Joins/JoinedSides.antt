@@ -52,7 +52,7 @@ module _ (corners : List Point) (v : ℕ) (ps : List ℕ) (z : ℕ) (qs : List �
   }
 
   -- and the second one the other
-  pub second_half : IsHalf corners (both_parts v ps z qs) (second_part v z qs) (first_part v ps z) us ts v z
+  second_half : IsHalf corners (both_parts v ps z qs) (second_part v z qs) (first_part v ps z) us ts v z
   second_half = record {
     fits = second;
     other_fits = first;

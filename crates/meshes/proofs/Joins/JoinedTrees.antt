@@ -32,7 +32,7 @@ path_end P R a [] c at_a p = subst P p at_a
 path_end P R a (b ∷ bs) c at_a p = path_end P R b bs c p.0 p.3
 
 -- a path from a over the bridge: within P to k, then from l within Q
-pub record OverBridge (P Q : ℕ → Type 0) (R : ℕ → ℕ → Type 0) (k l a : ℕ) (path : List ℕ) (c : ℕ) : Type 0 where
+record OverBridge (P Q : ℕ → Type 0) (R : ℕ → ℕ → Type 0) (k l a : ℕ) (path : List ℕ) (c : ℕ) : Type 0 where
   pub before : List ℕ
   pub after : List ℕ
   pub are : path ≡ before ++ l ∷ after

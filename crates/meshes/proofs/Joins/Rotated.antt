@@ -35,7 +35,7 @@ module _ (corners : List Point) (piece other : List ℕ) (same : IsSamePiece cor
   }
 
   -- so what fits the one fits the other
-  pub fits_same : FitsPiece corners piece ts → FitsPiece corners other ts
+  fits_same : FitsPiece corners piece ts → FitsPiece corners other ts
   fits_same f = record {
     simple = same.simple;
     count = f.count ∙ sym same.as_long;

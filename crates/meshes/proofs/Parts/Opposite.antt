@@ -92,7 +92,7 @@ module _ (corners : List Point) (t : Tri) (left : IsLeft (whole (vertex corners 
 -- ---- points of the side
 
 -- on a segment from a point on a line to one left of it, all but the first end are left of it
-pub left_off_end : (x p q s t : Triple) → IsPoint x → IsPoint p → IsPoint q → On x p q → IsStraight s t p → IsLeft s t q → ¬ IsSame x p → IsLeft s t x
+left_off_end : (x p q s t : Triple) → IsPoint x → IsPoint p → IsPoint q → On x p q → IsStraight s t p → IsLeft s t q → ¬ IsSame x p → IsLeft s t x
 left_off_end x p q s t at_x at_p at_q on straight left differ = elim (lt_or_le (pos 0) (determinant s t x)) [
   | inl h ↦ h
   | inr h ↦ absurd (differ (first_end_on_line x p q s t at_x at_p at_q on straight left h))
@@ -146,7 +146,7 @@ only_first : (g m d e f : ℤ) → g ≡ pos 1 *ℤ m +ℤ f → m ≡ pos 1 *�
 only_first g m d e f eg em ee ef hd = omega (arith, ints)
 
 -- a weighted sum with one part positive
-pub sum_left : (n : ℕ) (g d e : ℤ) → g ≡ pos n *ℤ d +ℤ e → pos 0 ≤ℤ d → pos 0 <ℤ e → pos 0 <ℤ g
+sum_left : (n : ℕ) (g d e : ℤ) → g ≡ pos n *ℤ d +ℤ e → pos 0 ≤ℤ d → pos 0 <ℤ e → pos 0 <ℤ g
 sum_left n g d e eg hd he = omega (arith, ints, mul_nonnegative (pos n) d (omega (arith, ints)) hd)
 
 module _ (corners : List Point) (t : Tri) (left : IsLeft (whole (vertex corners t.a)) (whole (vertex corners t.b)) (whole (vertex corners t.c))) where

@@ -7,7 +7,7 @@ use Rattle.std.proofs.lemmas.List.{get_or_append_left, get_or_at}
 use Rattle.meshes.specs.Fits.{IsPieceEdge}
 
 -- a step from i to j along some numbers and on to the last one
-abbrev pub IsStep : ℕ → List ℕ → ℕ → ℕ → ℕ → Type 0
+abbrev IsStep : ℕ → List ℕ → ℕ → ℕ → ℕ → Type 0
 IsStep a [] last i j = (a ≡ i) × (last ≡ j)
 IsStep a (b ∷ bs) last i j = ((a ≡ i) × (b ≡ j)) ⊎ IsStep b bs last i j
 

@@ -25,7 +25,7 @@ module _ (tris : List Tri) (k l : ℕ) (side : ℕ) where
       record { of_first = two.has; of_second = two.other_has }
 
   -- another triangle than the one across a side does not have it in the other direction
-  pub misses_across : (answer : Option ℕ) → IsAcross tris k side answer → ¬ (answer ≡ Some l) → l < length tris → ¬ (k ≡ l)
+  misses_across : (answer : Option ℕ) → IsAcross tris k side answer → ¬ (answer ≡ Some l) → l < length tris → ¬ (k ≡ l)
       → ¬ HasSide (tri_at tris l) (side_end (tri_at tris k) side) (side_begin (tri_at tris k) side)
   misses_across None across is_not below different has = different (sym ((across.none.0 refl).only l below (inr has)))
   misses_across (Some m) across is_not below different has = elim (across.some.only l below (inr has)) [
@@ -35,7 +35,7 @@ module _ (tris : List Tri) (k l : ℕ) (side : ℕ) where
 
 module _ (tris : List Tri) (sides : HasSidesOnce tris) (k l : ℕ) (k_below : k < length tris) (l_below : l < length tris) (different : ¬ (k ≡ l)) where
   -- a side that two triangles share runs in opposite directions
-  pub opposite : (i j : ℕ) → HasSide (tri_at tris k) i j → HasSideBetween (tri_at tris l) i j → HasSide (tri_at tris l) j i
+  opposite : (i j : ℕ) → HasSide (tri_at tris k) i j → HasSideBetween (tri_at tris l) i j → HasSide (tri_at tris l) j i
   opposite i j has between = elim between [
     | inl along ↦ absurd (different (sides.once i j k l k_below l_below has along))
     | inr back ↦ back

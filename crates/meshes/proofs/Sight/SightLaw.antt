@@ -56,7 +56,7 @@ module _ (corners : List Point) (piece : List ℕ) (tris : List Tri) (fits : Fit
         ]
 
     -- so from the first triangle on all of it is
-    pub sees_over : IsInTri corners (walk_tri tris walk 0) p → Sees (piece_points corners piece) p q
+    sees_over : IsInTri corners (walk_tri tris walk 0) p → Sees (piece_points corners piece) p q
     sees_over first y at_y on = rest_in (length walk - 1) 0 (omega (arith, w.some)) p at_p (on_first_end p q) first y at_y on
 
 -- the laws, as they are stated: of pieces,

@@ -68,7 +68,7 @@ module _ (corners : List Point) (piece : List ℕ) (tris : List Tri) (fits : Fit
       shared : IsShared corners piece tris i j (at m) (at (m + 1))
       shared = shared_of corners piece tris fits i j (at m) (at (m + 1)) two
 
-      pub walk_parted : IsParted corners piece tris i j (at m) (at (m + 1))
+      walk_parted : IsParted corners piece tris i j (at m) (at (m + 1))
       walk_parted = parted corners piece tris fits i j (at m) (at (m + 1)) shared
 
       module _ (p : IsParted corners piece tris i j (at m) (at (m + 1))) where

@@ -38,7 +38,7 @@ not_one_sign k l m z f g hl hm some ez e (inr h) =
     omega (arith, ints, positive, mul-neg l f, mul-neg m g)
 
 -- a segment that has a point of a line is not beside it
-pub not_beside : (p a b c d : Triple) → IsPoint p → IsCombination p a b → IsCombination p c d
+not_beside : (p a b c d : Triple) → IsPoint p → IsCombination p a b → IsCombination p c d
     → ¬ (OneSign (determinant a b c) (determinant a b d))
 not_beside p a b c d at_p first second =
     not_one_sign second.k second.l second.m _ _ _ second.l_nonnegative second.m_nonnegative

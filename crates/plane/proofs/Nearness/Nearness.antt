@@ -1,5 +1,5 @@
 -- Near a rational point: on the way from it to another point, what is apart from it is left behind.
-use Rattle.std.proofs.Common.{◌≡◌, inl, inr, ap, ℕ, ◌+◌, ◌-◌, ◌<◌, ◌≤◌, ℤ, pos, ◌+ℤ◌, ◌*ℤ◌, ◌<ℤ◌, ◌≤ℤ◌, [], ◌∷◌, refl, arith}
+use Rattle.std.proofs.Common.{◌≡◌, inl, inr, ℕ, ◌+◌, ◌<◌, ◌≤◌, ℤ, pos, ◌+ℤ◌, ◌*ℤ◌, ◌<ℤ◌, ◌≤ℤ◌, [], ◌∷◌, refl, arith}
 use Rattle.std.proofs.lemmas.Int.{ints}
 use Rattle.std.specs.Prelude.{unsigned_abs}
 use Rattle.integer_algebra.proofs.Laws.{add-mul, mul-add, mul_assoc, mul_left_comm}
@@ -26,12 +26,6 @@ weight_positive n v w hv hw = omega (arith, ints, mul_nonnegative (pos n) v (ome
 pub one_part : (n x c : ℤ) → pos 1 *ℤ (n *ℤ x +ℤ c) ≡ n *ℤ x +ℤ pos 1 *ℤ c
 one_part n x c = omega (arith, ints)
 
--- also of x and an earlier mediant
-more_parts : (m n : ℕ) (x c : ℤ) → n ≤ m → pos 1 *ℤ (pos m *ℤ x +ℤ c) ≡ pos (m - n) *ℤ x +ℤ pos 1 *ℤ (pos n *ℤ x +ℤ c)
-more_parts m n x c h =
-    let e : pos m ≡ pos (m - n) +ℤ pos n = omega (arith, ints) in
-    omega (arith, ints, ap (λ z. z *ℤ x) e, add-mul (pos (m - n)) (pos n) x)
-
 -- ---- points toward x
 
 -- they are combinations of x and c
@@ -57,20 +51,6 @@ module _ (x c : Triple) (at_x : IsPoint x) (at_c : IsPoint c) where
   pub toward_on : (n : ℕ) → On (toward x c n) x c
   toward_on n = on_of_combination (toward x c n) x c (toward_is_point n) at_x at_c (combination_toward x c n)
 
-  -- each on the way from x to the ones before it,
-  pub toward_nearer : (m n : ℕ) → n ≤ m → On (toward x c m) x (toward x c n)
-  toward_nearer m n h = on_of_combination (toward x c m) x (toward x c n) (toward_is_point m) at_x (toward_is_point n) (record {
-    k = pos 1;
-    l = pos (m - n);
-    m = pos 1;
-    k_positive = one_positive;
-    l_nonnegative = natural_not_negative (m - n);
-    m_nonnegative = natural_not_negative 1;
-    in_X = more_parts m n x.X c.X h;
-    in_Y = more_parts m n x.Y c.Y h;
-    in_W = more_parts m n x.W c.W h;
-  })
-
 -- one coordinate: x and w of the point, c and d of the other
 drop_parts : (n x w c d : ℤ) → (n *ℤ x +ℤ c) *ℤ w ≡ x *ℤ (n *ℤ w +ℤ d) → c *ℤ w ≡ x *ℤ d
 drop_parts n x w c d e =
@@ -91,13 +71,6 @@ toward_differs x c n differ s = differ (record {
 pub record Eventually (P : ℕ → Type 0) : Type 0 where
   pub start : ℕ
   pub from_start : (n : ℕ) → start ≤ n → P n
-
--- so two properties hold together
-pub both_eventually : (P Q : ℕ → Type 0) → Eventually P → Eventually Q → Eventually (λ n. P n × Q n)
-both_eventually P Q h k = record {
-  start = h.start + k.start;
-  from_start = λ n above. (h.from_start n (omega arith), k.from_start n (omega arith));
-}
 
 -- what a functional is at a mediant
 linear_toward : (x c : Triple) (n : ℕ) (α β γ : ℤ) → linear α β γ (toward x c n) ≡ pos n *ℤ linear α β γ x +ℤ linear α β γ c

@@ -2,7 +2,7 @@
 use Rattle.std.proofs.Common.{◌≡◌, ◌⊎◌, inl, inr, subst, ◌-ℤ◌, ◌≤ℤ◌, arith}
 use Rattle.std.proofs.lemmas.Int.{ints}
 use Rattle.integer_algebra.proofs.Signs.{Sign, is_negative, is_positive, is_zero, sign}
-use Rattle.plane.specs.Order.{IsBefore, IsBetween, IsBeyond}
+use Rattle.plane.specs.Order.{IsBefore, IsBetween}
 use Rattle.plane.specs.Point.{Point}
 
 -- how two points compare
@@ -49,10 +49,6 @@ before_or_not p q = elim (compare_points p q) [
   | after h ↦ inr (before_asym q p h)
 ]
 
--- each of two points is between them
-pub first_is_between : (a b : Point) → IsBetween a a b
-first_is_between a b = record { not_after = λ h. before_irrefl a h.0; not_before = λ h. before_irrefl a h.0 }
-
 -- a point that is before a second is before a third that the second is before
 pub before_trans : (p q r : Point) → IsBefore p q → IsBefore q r → IsBefore p r
 before_trans p q r h k = grind (arith, ints)
@@ -87,15 +83,3 @@ between_equal a p h = go (compare_points p a)
     go (before k) = absurd (h.not_before (k, k))
     go (equal e) = e
     go (after k) = absurd (h.not_after (k, k))
-
--- a point is between two others, or outside of them
-pub between_cases : (a p b : Point) → IsBetween a p b ⊎ IsBeyond a p b
-between_cases a p b = go (compare_points a p) (compare_points b p)
-  where
-    go : Comparison a p → Comparison b p → IsBetween a p b ⊎ IsBeyond a p b
-    go (before h) (before k) = inr (inl (h, k))
-    go (after h) (after k) = inr (inr (h, k))
-    go (before h) (after k) = inl (record { not_after = λ n. before_asym p b k n.1; not_before = λ n. before_asym a p h n.0 })
-    go (after h) (before k) = inl (record { not_after = λ n. before_asym p a h n.0; not_before = λ n. before_asym b p k n.1 })
-    go (equal e) k = inl (subst (λ (q : Point). IsBetween a q b) e (first_is_between a b))
-    go h (equal e) = inl (subst (λ (q : Point). IsBetween a q b) e (between_reversed b b a (first_is_between b a)))

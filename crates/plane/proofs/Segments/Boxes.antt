@@ -13,14 +13,14 @@ use Rattle.plane.specs.Point.{IsPoint, Point, Triple, whole}
 
 module _ (a b c d : ℤ) (h : IntervalsMeet a b c d) where
   -- the first interval may be read backward
-  pub intervals_reversed_first : IntervalsMeet b a c d
+  intervals_reversed_first : IntervalsMeet b a c d
   intervals_reversed_first = record {
     first_reaches = omega (arith, ints, clamps, h.first_reaches);
     second_reaches = omega (arith, ints, clamps, h.second_reaches);
   }
 
   -- the two may change places
-  pub intervals_swapped : IntervalsMeet c d a b
+  intervals_swapped : IntervalsMeet c d a b
   intervals_swapped = record { first_reaches = h.second_reaches; second_reaches = h.first_reaches }
 
   -- the first, read forward, does not end before the second begins
@@ -37,14 +37,14 @@ bounds_in_order : (l m x w : ℤ) → pos 0 <ℤ w → (l *ℤ w) ≤ℤ x → x
 bounds_in_order l m x w h p q = cancel_order l m w h (omega (arith, ints, mul_comm l w, mul_comm m w))
 
 -- intervals that share x / w meet
-pub intervals_meet_at : (a b c d x w : ℤ) → pos 0 <ℤ w → IsInInterval x w a b → IsInInterval x w c d → IntervalsMeet a b c d
+intervals_meet_at : (a b c d x w : ℤ) → pos 0 <ℤ w → IsInInterval x w a b → IsInInterval x w c d → IntervalsMeet a b c d
 intervals_meet_at a b c d x w h p q = record {
   first_reaches = bounds_in_order (int_min a b) (int_max c d) x w h p.least q.greatest;
   second_reaches = bounds_in_order (int_min c d) (int_max a b) x w h q.least p.greatest;
 }
 
 -- a combination of two numbers is in the interval between them
-pub combination_within : (k l m x w a b : ℤ) → pos 0 <ℤ k → pos 0 ≤ℤ l → pos 0 ≤ℤ m
+combination_within : (k l m x w a b : ℤ) → pos 0 <ℤ k → pos 0 ≤ℤ l → pos 0 ≤ℤ m
     → k *ℤ x ≡ l *ℤ a +ℤ m *ℤ b → k *ℤ w ≡ l *ℤ pos 1 +ℤ m *ℤ pos 1 → IsInInterval x w a b
 combination_within k l m x w a b hk hl hm e f = record {
   least = at_least k l m x w a b e f hk hl hm (int_min a b) (omega (arith, ints, clamps)) (omega (arith, ints, clamps));
@@ -74,7 +74,7 @@ boxes_reversed_second a b c d h = boxes_swapped d c a b (boxes_reversed_first c 
 
 module _ (p : Triple) (a b : Point) (c : IsCombination p (whole a) (whole b)) where
   -- the box of a segment holds its points from left to right
-  pub within_x : IsInInterval p.X p.W a.x b.x
+  within_x : IsInInterval p.X p.W a.x b.x
   within_x = combination_within c.k c.l c.m p.X p.W a.x b.x c.k_positive c.l_nonnegative c.m_nonnegative c.in_X c.in_W
 
   -- and so it does upward

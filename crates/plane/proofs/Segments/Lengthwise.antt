@@ -105,7 +105,7 @@ along_itself a b = zero_value (written_along 0 1 0) (parts (a ∷ b ∷ []) []) 
 -- ---- squares
 
 -- the sum of two squares is not negative,
-pub squares_not_negative : (x y : ℤ) → pos 0 ≤ℤ (x *ℤ x +ℤ y *ℤ y)
+squares_not_negative : (x y : ℤ) → pos 0 ≤ℤ (x *ℤ x +ℤ y *ℤ y)
 squares_not_negative x y = omega (arith, ints, square_nonnegative x, square_nonnegative y)
 
 -- and 0 only where both numbers are

@@ -23,7 +23,7 @@ forward a b (inl h) = inl (omega (arith, ints))
 forward a b (inr h) = inr (omega (arith, ints), omega (arith, ints))
 
 -- a combination of two points is between them
-pub combination_is_between : (a p b : Point) → IsCombination (whole p) (whole a) (whole b) → IsBetween a p b
+combination_is_between : (a p b : Point) → IsCombination (whole p) (whole a) (whole b) → IsBetween a p b
 combination_is_between a p b c =
     let some = weights_positive (whole p) (whole a) (whole b) c (whole_is_point p) in
     record {
@@ -49,7 +49,7 @@ on_segment_is p a b on =
 -- ---- a point on the line and between the ends is on the segment
 
 -- on a line the ways from a point to two others are in proportion
-pub straight_is_proportion : (a b p : Point) → IsStraight (whole a) (whole b) (whole p)
+straight_is_proportion : (a b p : Point) → IsStraight (whole a) (whole b) (whole p)
     → (b.x -ℤ a.x) *ℤ (p.y -ℤ a.y) ≡ (b.y -ℤ a.y) *ℤ (p.x -ℤ a.x)
 straight_is_proportion a b p h = eq_of_sub-zero _ _ (sym (determinant_of_whole a b p) ∙ h)
 

@@ -1,12 +1,12 @@
 -- First laws of segments: their ends, their two directions, other triples of the same points, the line through them.
-use Rattle.std.proofs.Common.{◌≡◌, [], ◌∷◌, refl, ap, ◌∙◌, ◌-◌, lit≤, ℤ, pos, ◌+ℤ◌, ◌*ℤ◌, ◌<ℤ◌, arith}
+use Rattle.std.proofs.Common.{◌≡◌, [], ◌∷◌, refl, ◌∙◌, ◌-◌, lit≤, ℤ, pos, ◌+ℤ◌, ◌*ℤ◌, ◌<ℤ◌, arith}
 use Rattle.std.proofs.lemmas.Int.{ints}
 use Rattle.integer_algebra.proofs.Polynomial.{var, lit, ◌⊕◌, ◌⊗◌, same_value}
-use Rattle.integer_algebra.proofs.Signs.{mul_positive, cancel_equal}
+use Rattle.integer_algebra.proofs.Signs.{cancel_equal}
 use Rattle.plane.proofs.Points.{same_sym, same_trans}
 use Rattle.plane.proofs.Turns.{determinant_same_ends, determinant_same_last, IsCombination, combination_of, determinant_along}
 use Rattle.plane.specs.Point.{IsPoint, IsSame, Triple}
-use Rattle.plane.specs.Segment.{Meet, On, part_of_way}
+use Rattle.plane.specs.Segment.{Meet, On}
 use Rattle.plane.specs.Turn.{IsStraight}
 
 -- ---- ends and directions
@@ -95,42 +95,6 @@ on_same_point h s on = record {
   within = on.within;
   same = same_trans h (same_sym s) on.same;
 }
-
--- one coordinate of a part of the way: u and v of a, U and V of the same point, s and t of b
-exchange : (d i j u v U V s t : ℤ) → u *ℤ V ≡ U *ℤ v
-    → ((d *ℤ u) *ℤ t +ℤ (i *ℤ s) *ℤ v) *ℤ ((j *ℤ V) *ℤ t) ≡ ((d *ℤ U) *ℤ t +ℤ (i *ℤ s) *ℤ V) *ℤ ((j *ℤ v) *ℤ t)
-exchange d i j u v U V s t e =
-    let xs = d ∷ i ∷ j ∷ u ∷ v ∷ U ∷ V ∷ s ∷ t ∷ [] in
-    let factor = var 0 ⊗ var 2 ⊗ var 8 ⊗ var 8 in
-    let rest = (var 1 ⊗ var 7) ⊗ var 4 ⊗ ((var 2 ⊗ var 6) ⊗ var 8) in
-    same_value (((var 0 ⊗ var 3) ⊗ var 8 ⊕ (var 1 ⊗ var 7) ⊗ var 4) ⊗ ((var 2 ⊗ var 6) ⊗ var 8))
-    (factor ⊗ (var 3 ⊗ var 6) ⊕ rest) xs refl
-    ∙ ap (λ z. ((((d *ℤ j) *ℤ t) *ℤ t) *ℤ z) +ℤ (((i *ℤ s) *ℤ v) *ℤ ((j *ℤ V) *ℤ t))) e
-    ∙ same_value (factor ⊗ (var 5 ⊗ var 4) ⊕ rest)
-    (((var 0 ⊗ var 5) ⊗ var 8 ⊕ (var 1 ⊗ var 7) ⊗ var 6) ⊗ ((var 2 ⊗ var 4) ⊗ var 8)) xs refl
-
--- the same first end makes the same segment
-pub on_same_first : {p a b c : Triple} → IsPoint a → IsPoint b → IsSame a c → On p a b → On p c b
-on_same_first {p} {a} {b} {c} at_a at_b s on =
-    let d : ℤ = pos (on.j - on.i) in
-    let i : ℤ = pos on.i in
-    let j : ℤ = pos on.j in
-    let positive : pos 0 <ℤ j = omega (arith, ints, on.positive) in
-    let same : IsSame (part_of_way on.i on.j a b) (part_of_way on.i on.j c b) = record {
-      same_x = exchange d i j a.X a.W c.X c.W b.X b.W s.same_x;
-      same_y = exchange d i j a.Y a.W c.Y c.W b.Y b.W s.same_y;
-    } in
-    record {
-      i = on.i;
-      j = on.j;
-      positive = on.positive;
-      within = on.within;
-      same = same_trans (mul_positive _ _ (mul_positive _ _ positive at_a) at_b) on.same same;
-    }
-
--- so does the same last end
-pub on_same_last : {p a b c : Triple} → IsPoint a → IsPoint b → IsSame b c → On p a b → On p a c
-on_same_last {p} {a} {b} {c} at_a at_b s on = on_reversed p c a (on_same_first at_b at_a s (on_reversed p a b on))
 
 -- ---- the line through a segment
 

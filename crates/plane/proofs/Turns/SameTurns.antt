@@ -7,7 +7,7 @@ use Rattle.plane.specs.Point.{IsSame, Triple}
 use Rattle.plane.specs.Turn.{determinant}
 
 -- a linear functional of a point, times the weight of the other triple
-pub linear_same : (p q : Triple) (α β γ : ℤ) → IsSame p q → linear α β γ p *ℤ q.W ≡ linear α β γ q *ℤ p.W
+linear_same : (p q : Triple) (α β γ : ℤ) → IsSame p q → linear α β γ p *ℤ q.W ≡ linear α β γ q *ℤ p.W
 linear_same p q α β γ s =
     same_value ((var 0 ⊗ var 3 ⊕ var 1 ⊗ var 4 ⊕ var 2 ⊗ var 5) ⊗ var 6)
     (var 0 ⊗ (var 3 ⊗ var 6) ⊕ var 1 ⊗ (var 4 ⊗ var 6) ⊕ var 2 ⊗ (var 6 ⊗ var 5))

@@ -26,7 +26,7 @@ pub record IsCounterclockwiseCut (ring first second : List Point) (a b : Point) 
   pub second_runs : RunsCounterclockwise second
 
 -- each diagonal from the first vertex v to another one z does so
-pub counterclockwise_cut : (v : Point) (ps : List Point) (z : Point) (qs : List Point) → IsSimple (v ∷ (ps ++ z ∷ qs))
+counterclockwise_cut : (v : Point) (ps : List Point) (z : Point) (qs : List Point) → IsSimple (v ∷ (ps ++ z ∷ qs))
     → RunsCounterclockwise (v ∷ (ps ++ z ∷ qs)) → IsDiagonal (v ∷ (ps ++ z ∷ qs)) v z
     → IsCounterclockwiseCut (v ∷ (ps ++ z ∷ qs)) (v ∷ (ps ++ z ∷ [])) (v ∷ z ∷ qs) v z
 counterclockwise_cut v ps z qs simple runs diagonal =

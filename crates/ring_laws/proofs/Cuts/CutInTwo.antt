@@ -1,8 +1,8 @@
 -- The cut law for a diagonal between any two vertices of a ring.
-use Rattle.std.proofs.Common.{List, [], ap, arith, drop, inl, inr, length, map, refl, subst, suc, sym, take, zero, ℕ, ◌++◌, ◌+◌, ◌-◌, ◌<◌, ◌∙◌, ◌∷◌}
+use Rattle.std.proofs.Common.{List, [], ap, arith, drop, inl, inr, length, refl, subst, suc, sym, take, zero, ℕ, ◌++◌, ◌+◌, ◌-◌, ◌<◌, ◌∙◌, ◌∷◌}
 use Rattle.std.proofs.Common.{◌≡◌}
 use Rattle.std.proofs.Math.Seq.{drop-append_seam, take-append-add}
-use Rattle.std.proofs.lemmas.List.{append_assoc, drop-map, get_or_at, length-append, map-append, take-map}
+use Rattle.std.proofs.lemmas.List.{append_assoc, get_or_at, length-append}
 use Rattle.plane.specs.Point.{Point}
 use Rattle.rings.proofs.Inside.{apart_rotated, in_rotated}
 use Rattle.rings.proofs.Simple.{apart_of_simple, simple_of_apart}
@@ -135,14 +135,3 @@ cut_law ring simple i j less within =
     let (xs, v, rest, is, first) = split_one ring i (omega arith) in
     let (ps, z, ys, rest_is, between) = split_one rest (j - i - 1) (omega (arith, ap length is, length-append xs (v ∷ rest))) in
     cut_in_parts ring i j xs v rest ps z ys is rest_is first (omega arith) (apart_of_simple ring simple)
-
--- ---- pieces of vertex numbers
-
-module _ (at : ℕ → Point) (piece : List ℕ) (i j : ℕ) where
-  -- of a list of numbers of points the first piece has the points of the first piece of the numbers,
-  pub first_of_numbers : first_piece (map at piece) i j ≡ map at (take (j - i + 1) (drop i piece))
-  first_of_numbers = ap (take (j - i + 1)) (drop-map at i piece) ∙ take-map at (j - i + 1) (drop i piece)
-
-  -- and so it is with the second
-  pub second_of_numbers : second_piece (map at piece) i j ≡ map at (drop j piece ++ take (i + 1) piece)
-  second_of_numbers = (λ k. drop-map at j piece k ++ take-map at (i + 1) piece k) ∙ sym (map-append at (drop j piece) (take (i + 1) piece))

@@ -44,9 +44,6 @@ module _ (s : ℤ) (unit : IsUnit s) (es xs ys : List Edge) (sum : (x : Triple) 
       (winds_ys h.left h.left_rational (off_ys h.left left_off (λ k. h.misses_left h.left h.left_rational (on_last_end x h.left) (among_last h.left k))))
       (winds_ys h.right h.right_rational (off_ys h.right right_off (λ k. h.misses_right h.right h.right_rational (on_last_end x h.right) (among_last h.right k))))
     where
-      all : List Edge
-      all = (before ++ after) ++ xs
-
       among_first : (z : Triple) → IsOnSome (before ++ after) z → IsOnSome ((before ++ after) ++ xs) z
       among_first z = on_some_left z (before ++ after) xs
 

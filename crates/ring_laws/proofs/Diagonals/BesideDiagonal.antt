@@ -11,7 +11,7 @@ use Rattle.ring_laws.proofs.Triangles.{BesideEdge, beside_edge}
 
 -- points to the left and to the right of a diagonal, near a point x of it: off the edges fs of the first piece and gs of the
 -- second, which wind there as es does at x, the second once more on the left
-pub record DiagonalSides (es fs gs : List Edge) (x : Triple) : Type 0 where
+record DiagonalSides (es fs gs : List Edge) (x : Triple) : Type 0 where
   pub left : Triple
   pub right : Triple
   pub left_rational : IsPoint left

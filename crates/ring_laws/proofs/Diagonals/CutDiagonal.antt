@@ -42,7 +42,7 @@ module _ (v : Point) (ps : List Point) (z : Point) (qs : List Point) (apart : Is
       elim (end_of_second e (edge v z) x (meets e has x at on_e on)) [ inl is ↦ not_v is | inr is ↦ not_z is ]
 
   -- so the diagonal is no edge
-  pub not_an_edge : (e : Edge) → HasEdge (edges_of (v ∷ (ps ++ z ∷ qs))) e → ¬ IsOn e (middle v z)
+  not_an_edge : (e : Edge) → HasEdge (edges_of (v ∷ (ps ++ z ∷ qs))) e → ¬ IsOn e (middle v z)
   not_an_edge e has on =
       inner_off (middle v z) (middle_is_point v z) (middle_on v z) (λ s. ends_differ (middle_first v z s)) (λ s. ends_differ (middle_last v z s))
       (on_some_of (middle v z) e (edges_of (v ∷ (ps ++ z ∷ qs))) has on)

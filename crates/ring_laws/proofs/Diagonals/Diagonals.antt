@@ -29,7 +29,7 @@ module _ (v : Point) (ps : List Point) (z : Point) (qs : List Point) (apart : Is
     (meets : (e : Edge) → HasEdge (edges_of (v ∷ (ps ++ z ∷ qs))) e → MeetAtEnds e (edge v z))
     (first : WindsUpTo (pos 1) (edges_of (v ∷ (ps ++ z ∷ [])))) (second : WindsUpTo (pos 1) (edges_of (v ∷ z ∷ qs))) where
   -- a point strictly inside the segment from v to z is wound round once
-  pub inner_wound : (x : Triple) → IsPoint x → On x (whole v) (whole z) → ¬ IsSame x (whole v) → ¬ IsSame x (whole z)
+  inner_wound : (x : Triple) → IsPoint x → On x (whole v) (whole z) → ¬ IsSame x (whole v) → ¬ IsSame x (whole z)
       → winding (edges_of (v ∷ (ps ++ z ∷ qs))) x ≡ pos 1
   inner_wound x at on not_v not_z =
       once_round_diagonal (edges_of (v ∷ (ps ++ z ∷ qs))) (edges_of (v ∷ (ps ++ z ∷ []))) (edges_along z qs v) (edge v z)

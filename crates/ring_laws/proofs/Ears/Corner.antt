@@ -34,7 +34,7 @@ module _ (v w : Point) (ms : List Point) (u : Point) where
   -- ---- the two edges at v first
 
   -- each edge of the ring is one of the two at v or one of the others,
-  pub has_edge_corner : (e : Edge) → HasEdge (edges_of (v ∷ w ∷ (ms ++ u ∷ []))) e → HasEdge (edge u v ∷ edge v w ∷ edges_along w ms u) e
+  has_edge_corner : (e : Edge) → HasEdge (edges_of (v ∷ w ∷ (ms ++ u ∷ []))) e → HasEdge (edge u v ∷ edge v w ∷ edges_along w ms u) e
   has_edge_corner e h = has_swapped e (edge v w ∷ edges_along w ms u) (edge u v ∷ []) (subst (λ es. HasEdge es e) edges_of_ring h)
 
   -- and back

@@ -31,11 +31,11 @@ cancel_sides : (a b c d n : ℤ) → d ≡ neg_ℤ c → a +ℤ (b +ℤ n) ≡ (
 cancel_sides a b c d n e = omega (arith, ints)
 
 -- with two sides in place of the base, the edges are closed
-pub ear_closed : (u v w : Point) (es : List Edge) → IsClosed (edge u w ∷ es) → IsClosed (edge u v ∷ edge v w ∷ es)
+ear_closed : (u v w : Point) (es : List Edge) → IsClosed (edge u w ∷ es) → IsClosed (edge u v ∷ edge v w ∷ es)
 ear_closed u v w es closed g = growth_sum (g u) (g v) (g w) (growth g es) (closed g)
 
 -- and wind round a point as the triangle and the ring without the ear do together
-pub ear_winding : (u v w : Point) (es : List Edge) (p : Triple)
+ear_winding : (u v w : Point) (es : List Edge) (p : Triple)
     → winding (edge u v ∷ edge v w ∷ es) p ≡ winding (triangle u v w) p +ℤ winding (edge u w ∷ es) p
 ear_winding u v w es p =
     cancel_sides (crossing (edge u v) p) (crossing (edge v w) p) (crossing (edge u w) p) (crossing (edge w u) p) (winding es p)

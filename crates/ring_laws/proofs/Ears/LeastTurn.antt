@@ -31,15 +31,15 @@ module _ (v w : Point) (ms : List Point) (u : Point) where
 
   module _ (apart : IsApartRing (v ∷ w ∷ (ms ++ u ∷ []))) where
     -- the vertices are different: u is not v,
-    pub last_not_first : ¬ (u ≡ v)
+    last_not_first : ¬ (u ≡ v)
     last_not_first e = (distinct_corner v w ms u apart).0 (inr (subst (HasPoint (ms ++ u ∷ [])) e (has_right u ms (u ∷ []) (inl refl))))
 
     -- nor w,
-    pub last_not_second : ¬ (u ≡ w)
+    last_not_second : ¬ (u ≡ w)
     last_not_second e = (distinct_corner v w ms u apart).1.0 (subst (HasPoint (ms ++ u ∷ [])) e (has_right u ms (u ∷ []) (inl refl)))
 
     -- and v is not w
-    pub first_not_second : ¬ (v ≡ w)
+    first_not_second : ¬ (v ≡ w)
     first_not_second e = (distinct_corner v w ms u apart).0 (inl (sym e))
 
     -- a whole point on both edges at v is v

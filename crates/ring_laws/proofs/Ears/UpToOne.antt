@@ -7,7 +7,7 @@ abbrev pub IsUnit : ℤ → Type 0
 IsUnit s = (s ≡ pos 1) ⊎ (s ≡ negsuc 0)
 
 -- 0 or s
-abbrev pub IsUpTo : ℤ → ℤ → Type 0
+abbrev IsUpTo : ℤ → ℤ → Type 0
 IsUpTo s n = (n ≡ pos 0) ⊎ (n ≡ s)
 
 -- a value is 0 or 1

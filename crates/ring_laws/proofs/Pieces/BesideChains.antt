@@ -46,7 +46,7 @@ pieces_winding v z ms ns p =
 -- ---- beside the diagonal
 
 -- what misses two lists misses the first
-pub misses_first : (p q : Triple) (es fs : List Edge) → Misses p q (es ++ fs) → Misses p q es
+misses_first : (p q : Triple) (es fs : List Edge) → Misses p q (es ++ fs) → Misses p q es
 misses_first p q es fs h x at_x on k = h x at_x on (on_some_left x es fs k)
 
 -- the order of two lists is free
@@ -107,7 +107,7 @@ module _ (v z : Point) (ms ns : List Point) (c : ArePieces v z ms ns) (a b : Poi
     (left : IsLeft (whole v) (whole z) (whole a)) (right : IsRight (whole v) (whole z) (whole b)) (m : Triple) (at_m : IsPoint m)
     (on : On m (whole v) (whole z)) (neither : IsNeither v z m) where
   -- just left of the diagonal the first piece winds once, and the second not at all
-  pub beside_left : (p : Triple) → IsPoint p → IsLeft (whole v) (whole z) p → Misses m p (both_chains v z ms ns)
+  beside_left : (p : Triple) → IsPoint p → IsLeft (whole v) (whole z) p → Misses m p (both_chains v z ms ns)
       → (winding (edges_of (v ∷ z ∷ ms)) p ≡ pos 1) × (winding (edges_of (z ∷ v ∷ ns)) p ≡ pos 0)
   beside_left p at_p p_left from_p =
       let one = edges_along z ms v in

@@ -27,7 +27,7 @@ module _ (v : Point) (ps : List Point) (z : Point) (qs : List Point) where
   edges_of_first = edges_along_append v ps z [] v
 
   -- each edge of the ring is one of a piece
-  pub has_edge_cut : (e : Edge) → HasEdge (edges_of (v ∷ (ps ++ z ∷ qs))) e
+  has_edge_cut : (e : Edge) → HasEdge (edges_of (v ∷ (ps ++ z ∷ qs))) e
       → HasEdge (edges_of (v ∷ (ps ++ z ∷ []))) e ⊎ HasEdge (edges_of (v ∷ z ∷ qs)) e
   has_edge_cut e h =
       elim (has_cases e (edges_along v ps z) (edges_along z qs v) (subst (λ es. HasEdge es e) edges_of_cut h)) [
@@ -75,7 +75,7 @@ module _ (v : Point) (ps : List Point) (z : Point) (qs : List Point) where
     distinct_cut = distinct_vertices (v ∷ (ps ++ z ∷ qs)) apart.distinct
 
     -- so are those of the first piece
-    pub distinct_first : AreDistinct (v ∷ (ps ++ z ∷ []))
+    distinct_first : AreDistinct (v ∷ (ps ++ z ∷ []))
     distinct_first =
         distinct_left (v ∷ (ps ++ z ∷ [])) qs (subst AreDistinct (ap (λ rs. v ∷ rs) (sym (append_assoc ps (z ∷ []) qs))) distinct_cut)
 

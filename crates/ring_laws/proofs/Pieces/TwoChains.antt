@@ -54,7 +54,7 @@ end_between x y a b at_x at_y at_a at_b on_x on_y between = elim (on_total x y a
 ]
 
 -- edges that meet the diagonal at ends share no other points with it
-pub meet_only_ends : (v z : Point) (es : List Edge) → ((e : Edge) → HasEdge es e → MeetAtEnds e (edge v z)) → (x : Triple)
+meet_only_ends : (v z : Point) (es : List Edge) → ((e : Edge) → HasEdge es e → MeetAtEnds e (edge v z)) → (x : Triple)
     → IsPoint x → IsOnSome es x → On x (whole v) (whole z) → IsSame x (whole v) ⊎ IsSame x (whole z)
 meet_only_ends v z es apart x at_x on_some on =
     let (e, has, on_e) = edge_with x es on_some in

@@ -27,7 +27,7 @@ ends_on_ring v z ms ns = (
 )
 
 -- a point on no edge of the ring is neither end of the diagonal
-pub off_neither : (v z : Point) (ms ns : List Point) (p : Triple) → ¬ (IsOnSome (both_chains v z ms ns) p) → IsNeither v z p
+off_neither : (v z : Point) (ms ns : List Point) (p : Triple) → ¬ (IsOnSome (both_chains v z ms ns) p) → IsNeither v z p
 off_neither v z ms ns p off =
     let ends = ends_on_ring v z ms ns in
     record {
@@ -39,7 +39,7 @@ off_neither v z ms ns p off =
 module _ (v z : Point) (ms ns : List Point) (c : ArePieces v z ms ns) (a b : Point) (in_a : HasPoint (ms ++ ns) a)
     (in_b : HasPoint (ms ++ ns) b) (left : IsLeft (whole v) (whole z) (whole a)) (right : IsRight (whole v) (whole z) (whole b)) where
   -- a point within the diagonal is on no edge of the ring, and the ring winds once round it
-  pub diagonal_inside : (m : Triple) → IsPoint m → On m (whole v) (whole z) → ¬ (IsSame m (whole v)) → ¬ (IsSame m (whole z))
+  diagonal_inside : (m : Triple) → IsPoint m → On m (whole v) (whole z) → ¬ (IsSame m (whole v)) → ¬ (IsSame m (whole z))
       → (¬ (IsOnSome (both_chains v z ms ns) m)) × (winding (both_chains v z ms ns) m ≡ pos 1)
   diagonal_inside m at_m on not_v not_z =
       let neither : IsNeither v z m = record { not_first = not_v; not_last = not_z } in
@@ -97,7 +97,7 @@ module _ (v z : Point) (ms ns : List Point) (c : ArePieces v z ms ns) (a b : Poi
           ]
 
       -- but one far away, round which the first piece does not wind, has
-      pub not_both_once : ⊥
+      not_both_once : ⊥
       not_both_once =
           let one = edges_of (v ∷ z ∷ ms) in
           let t = far_target p at_p v z (λ s. (off_neither v z ms ns p off).not_first (same_sym s)) (λ s. (off_neither v z ms ns p off).not_last (same_sym s)) one in

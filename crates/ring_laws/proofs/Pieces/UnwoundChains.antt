@@ -95,7 +95,7 @@ member_on_ring v z ms ns a h = elim (has_cases a ms ns h) [
 ]
 
 -- the ring is the same with the chains in the other order
-pub ring_exchanged : (v z : Point) (ms ns : List Point) (x : Triple) → IsOnSome (both_chains v z ms ns) x → IsOnSome (both_chains z v ns ms) x
+ring_exchanged : (v z : Point) (ms ns : List Point) (x : Triple) → IsOnSome (both_chains v z ms ns) x → IsOnSome (both_chains z v ns ms) x
 ring_exchanged v z ms ns x h = elim (on_some_cases x (edges_along z ms v) (edges_along v ns z) h) [
   | inl k ↦ on_some_right x (edges_along v ns z) (edges_along z ms v) k
   | inr k ↦ on_some_left x (edges_along v ns z) (edges_along z ms v) k

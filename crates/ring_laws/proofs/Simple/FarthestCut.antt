@@ -21,7 +21,7 @@ pub record IsCutFrom (v w : Point) (ms : List Point) (u z : Point) (cs ds : List
 
 module _ (v w : Point) (ms : List Point) (u z : Point) (cs ds : List Point) (parts : ms ≡ cs ++ z ∷ ds) where
   -- the vertices after v, regrouped
-  pub rest_regrouped : w ∷ (ms ++ u ∷ []) ≡ w ∷ cs ++ z ∷ (ds ++ u ∷ [])
+  rest_regrouped : w ∷ (ms ++ u ∷ []) ≡ w ∷ cs ++ z ∷ (ds ++ u ∷ [])
   rest_regrouped = ap (λ rs. w ∷ (rs ++ u ∷ [])) parts ∙ ap (λ rs. w ∷ rs) (append_assoc cs (z ∷ ds) (u ∷ []))
 
   -- all vertices

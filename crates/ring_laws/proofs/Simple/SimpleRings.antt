@@ -77,7 +77,7 @@ pub left_turn_law : (n : ℕ) → LeftTurnLaw n
 left_turn_law n = below (n + 1) n (omega arith)
 
 -- a ring of three vertices or more runs round once: counterclockwise where it turns left at a least vertex, else clockwise
-pub winding_of_simple : (ring : List Point) → 3 ≤ length ring → IsApartRing ring → (i : ℕ) → i < length ring → IsLeastVertex ring i
+winding_of_simple : (ring : List Point) → 3 ≤ length ring → IsApartRing ring → (i : ℕ) → i < length ring → IsLeastVertex ring i
     → RunsAsItTurns ring i
 winding_of_simple ring some =
     let n : ℕ = length ring - 3 in

@@ -56,7 +56,7 @@ module _ (a b : Point) (differ : ¬ (a ≡ b)) (es : List Edge) (closed : IsClos
       (all_ends_map (λ v h. at_most_from _ _ _ _ (beyond a b v p) h) es ends)
 
   -- it is not left of the line, and no end is right of it
-  pub beyond_line : determinant (whole a) (whole b) p ≤ℤ pos 0
+  beyond_line : determinant (whole a) (whole b) p ≤ℤ pos 0
       → AllEnds (λ v. pos 0 ≤ℤ determinant (whole a) (whole b) (whole v)) es → winding es p ≡ pos 0
   beyond_line side ends = farthest_right (all_ends_map (λ v h. at_most_product _ _ p.W side h at_p) es ends)
 
@@ -78,7 +78,7 @@ right_differs a b p right e =
 module _ (a b : Point) (es : List Edge) (p : Triple) (at_p : IsPoint p) (right : IsRight (whole a) (whole b) p)
     (ends : AllEnds (λ v. pos 0 ≤ℤ determinant (whole a) (whole b) (whole v)) es) where
   -- a point right of a line is on no edge, where no end is right of the line
-  pub right_off : ¬ (IsOnSome es p)
+  right_off : ¬ (IsOnSome es p)
   right_off on = not_both right (not_right_on (whole a) (whole b) es ends p at_p on)
 
   -- and it is not wound round

@@ -92,7 +92,7 @@ module _ (ring : List Point) (apart : IsApartRing ring) (e : Edge) (has : HasEdg
 -- ---- near a point of an edge
 
 -- the middle between a point and another is not the other
-pub middle_differs : (x c : Triple) → ¬ IsSame x c → ¬ IsSame (toward x c 1) c
+middle_differs : (x c : Triple) → ¬ IsSame x c → ¬ IsSame (toward x c 1) c
 middle_differs x c differ same =
     let turned : toward x c 1 ≡ toward c x 1 =
     λ i. record { X = swapped x.X c.X i; Y = swapped x.Y c.Y i; W = swapped x.W c.W i } in

@@ -24,7 +24,7 @@ no_number : (z f w : ℤ) → f ≡ pos 0 → z *ℤ pos 1 ≡ f *ℤ w → z �
 no_number z f w none e = omega (arith, ints, e, ap (λ n. n *ℤ w) none, zero-mul w)
 
 -- a determinant that is 0 at a whole point is 0 at each triple of it
-pub zero_at_same : (a b y : Triple) (c : Point) → IsSame y (whole c) → determinant a b (whole c) ≡ pos 0 → determinant a b y ≡ pos 0
+zero_at_same : (a b y : Triple) (c : Point) → IsSame y (whole c) → determinant a b (whole c) ≡ pos 0 → determinant a b y ≡ pos 0
 zero_at_same a b y c same none = no_number _ _ y.W none (determinant_same a b y (whole c) same)
 
 -- 0 is not positive

@@ -23,7 +23,7 @@ abbrev pub triangle : Point → Point → Point → List Edge
 triangle u v w = edges_of (u ∷ v ∷ w ∷ [])
 
 -- they are closed
-pub triangle_closed : (u v w : Point) → IsClosed (triangle u v w)
+triangle_closed : (u v w : Point) → IsClosed (triangle u v w)
 triangle_closed u v w = closed_edges_of (u ∷ v ∷ w ∷ [])
 
 -- ---- inside
@@ -152,15 +152,6 @@ module _ (u v w : Point) (left : IsLeft (whole u) (whole v) (whole w)) where
     winding_outside (right_of_first h) = right_of_all u v (triangle u v w) p at_p h corners_by_first (triangle_closed u v w)
     winding_outside (right_of_second h) = right_of_all v w (triangle u v w) p at_p h corners_by_second (triangle_closed u v w)
     winding_outside (right_of_third h) = right_of_all w u (triangle u v w) p at_p h corners_by_third (triangle_closed u v w)
-
-    -- so it is with each point that is not in the closed triangle
-    pub winding_not_in : ¬ (IsInTriangle u v w p) → winding (triangle u v w) p ≡ pos 0
-    winding_not_in n = go (place_of u v w left p at_p)
-      where
-        go : Place u v w p → winding (triangle u v w) p ≡ pos 0
-        go (inside i) = absurd (n (in_triangle u v w p (weak i.left_of_first) (weak i.left_of_second) (weak i.left_of_third)))
-        go (outside o) = winding_outside o
-        go (on_border t s) = absurd (n t)
 
     -- off its sides the triangle winds round a point not at all or once
     pub triangle_values : ¬ (IsOnSome (triangle u v w) p) → (winding (triangle u v w) p ≡ pos 0) ⊎ (winding (triangle u v w) p ≡ pos 1)

@@ -20,7 +20,7 @@ pub not_negative : {z : ℤ} → ¬ (z <ℤ pos 0) → pos 0 ≤ℤ z
 not_negative h = grind (arith, ints)
 
 -- and back
-pub not_below : {z : ℤ} → pos 0 ≤ℤ z → ¬ (z <ℤ pos 0)
+not_below : {z : ℤ} → pos 0 ≤ℤ z → ¬ (z <ℤ pos 0)
 not_below h k = omega (arith, ints)
 
 -- what is neither below 0 nor 0
@@ -143,13 +143,9 @@ module _ (u v w : Point) where
       pub left_of_first : ¬ (On x (whole u) (whole v)) → IsLeft (whole u) (whole v) x
       left_of_first off = positive_of _ (not_negative inside.not_right_of_first) (λ e. off (on_first_side e))
 
-      -- of the second,
+      -- and of the second
       pub left_of_second : ¬ (On x (whole v) (whole w)) → IsLeft (whole v) (whole w) x
       left_of_second off = positive_of _ (not_negative inside.not_right_of_second) (λ e. off (on_second_side e))
-
-      -- and of the third
-      pub left_of_third : ¬ (On x (whole w) (whole u)) → IsLeft (whole w) (whole u) x
-      left_of_third off = positive_of _ (not_negative inside.not_right_of_third) (λ e. off (on_third_side e))
 
   -- a segment between two points of the triangle is in it
   pub between_in_triangle : (x a b : Triple) → IsPoint x → IsPoint a → IsPoint b

@@ -1,5 +1,5 @@
 -- What it says that the ray from a point to the right crosses an edge, upward or downward.
-use Rattle.std.proofs.Common.{◌≡◌, ◌⊎◌, inl, inr, refl, ◌∙◌, sym, ℤ, pos, negsuc, ◌*ℤ◌, ◌<ℤ◌, ◌≤ℤ◌, Bool, true, false, neg_ℤ, arith}
+use Rattle.std.proofs.Common.{◌≡◌, refl, ◌∙◌, sym, ℤ, pos, negsuc, ◌*ℤ◌, ◌<ℤ◌, ◌≤ℤ◌, Bool, true, false, neg_ℤ, arith}
 use Rattle.std.proofs.lemmas.Int.{ints}
 use Rattle.std.specs.Int.Signed.{le_z, lt_z}
 use Rattle.std.specs.Prelude.{◌&&◌, ◌||◌, if◌then◌else◌}
@@ -53,7 +53,7 @@ up_backward : (a b y d e : ℤ) → e ≡ neg_ℤ d → up b a y e ≡ down a b 
 up_backward a b y d e h = grind (arith, ints)
 
 -- the signed crossing, from the two tests
-abbrev pub crossing_value : Bool → Bool → ℤ
+abbrev crossing_value : Bool → Bool → ℤ
 crossing_value u d = if u then pos 1 else if d then negsuc 0 else pos 0
 
 -- with the tests exchanged the crossing has the opposite sign
@@ -95,7 +95,7 @@ module _ (e : Edge) (p : Triple) where
       record { ends_low = k.0; begins_high = k.1; on_right = k.2 }
 
   -- an edge is not crossed both ways
-  pub not_crossed_both : CrossedUp e p → ¬ (CrossedDown e p)
+  not_crossed_both : CrossedUp e p → ¬ (CrossedDown e p)
   not_crossed_both h k =
       let a = h.begins_low in
       let b = k.begins_high in
@@ -119,28 +119,16 @@ module _ (e : Edge) (p : Triple) where
           uncrossed (λ h. cc (crossed_up_from e p h)) (λ h. cc (crossed_down_from e p h)) (λ i. crossing_value (hu i) (hd i))
           (λ i. hu i || hd i)
 
-  -- the test for a crossing answers true exactly at one of the two
-  pub is_crossed_facts : is_crossed e p ≡ true → CrossedUp e p ⊎ CrossedDown e p
-  is_crossed_facts h = elim crossing_cases [ upward u v t ↦ inl u | downward d v t ↦ inr d | uncrossed m n v t ↦ absurd (cc) ]
-
-  -- and back
-  pub is_crossed_from : CrossedUp e p ⊎ CrossedDown e p → is_crossed e p ≡ true
-  is_crossed_from h = elim crossing_cases [
-    | upward u v t ↦ t
-    | downward d v t ↦ t
-    | uncrossed m n v t ↦ absurd (elim h [ inl k ↦ m k | inr k ↦ n k ])
-  ]
-
 -- ---- an edge read backward
 
 -- it is crossed upward where the edge is crossed downward
-pub is_crossed_up_reversed : (e : Edge) (p : Triple) → is_crossed_up (reversed e) p ≡ is_crossed_down e p
+is_crossed_up_reversed : (e : Edge) (p : Triple) → is_crossed_up (reversed e) p ≡ is_crossed_down e p
 is_crossed_up_reversed e p =
     up_backward (e.from.y *ℤ p.W) (e.to.y *ℤ p.W) p.Y (determinant (whole e.from) (whole e.to) p)
     (determinant (whole e.to) (whole e.from) p) (determinant_swap_first (whole e.from) (whole e.to) p)
 
 -- and downward where it is crossed upward
-pub is_crossed_down_reversed : (e : Edge) (p : Triple) → is_crossed_down (reversed e) p ≡ is_crossed_up e p
+is_crossed_down_reversed : (e : Edge) (p : Triple) → is_crossed_down (reversed e) p ≡ is_crossed_up e p
 is_crossed_down_reversed e p = sym (is_crossed_up_reversed (reversed e) p)
 
 -- so it is crossed where the edge is

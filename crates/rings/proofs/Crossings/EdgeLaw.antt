@@ -1,12 +1,9 @@
 -- How the signed crossings of one edge differ between the two ends of a segment.
-use Rattle.std.proofs.Common.{◌≡◌, ◌⊎◌, inl, inr, [], ◌∷◌, refl, ◌∙◌, ℤ, pos, ◌+ℤ◌, ◌-ℤ◌, ◌*ℤ◌, neg_ℤ, ◌<ℤ◌, ◌≤ℤ◌, arith}
+use Rattle.std.proofs.Common.{◌≡◌, ◌∙◌, ℤ, pos, ◌+ℤ◌, ◌-ℤ◌, ◌*ℤ◌, neg_ℤ, ◌≤ℤ◌, arith}
 use Rattle.std.proofs.lemmas.Int.{ints}
-use Rattle.integer_algebra.proofs.Laws.{mul_comm}
-use Rattle.integer_algebra.proofs.Polynomial.{var, ◌⊖◌, ◌⊗◌, same_value}
-use Rattle.integer_algebra.proofs.Signs.{mul_negative, mul_positive}
 use Rattle.plane.proofs.Order.{rise, rises}
 use Rattle.plane.proofs.Points.{whole_is_point}
-use Rattle.plane.proofs.Turns.{determinant_swap_first, parts, determinant as det}
+use Rattle.plane.proofs.Turns.{determinant_swap_first}
 use Rattle.plane.specs.Point.{IsPoint, Point, Triple, whole}
 use Rattle.plane.specs.Segment.{Meet}
 use Rattle.plane.specs.Turn.{IsLeft, IsRight, determinant}
@@ -35,36 +32,13 @@ pub right_swapped : (a b c : Triple) → IsLeft a b c → IsRight b a c
 right_swapped a b c h = let e = determinant_swap_first a b c in omega (arith, ints)
 
 -- read backward, the edge is crossed from left to right by the segment read backward
-pub crosses_right_reversed : (p q : Triple) (e : Edge) → CrossesRight q p e → CrossesRight p q (reversed e)
+crosses_right_reversed : (p q : Triple) (e : Edge) → CrossesRight q p e → CrossesRight p q (reversed e)
 crosses_right_reversed p q e c = record {
   starts_left = left_swapped (whole e.from) (whole e.to) p c.ends_right;
   ends_right = right_swapped (whole e.from) (whole e.to) q c.starts_left;
   from_right = right_swapped q p (whole e.to) c.to_left;
   to_left = left_swapped q p (whole e.from) c.from_right;
 }
-
--- the determinants' differences, along the edge and along the segment
-widths : (p q a b : Triple)
-    → determinant p q b *ℤ a.W -ℤ determinant p q a *ℤ b.W ≡ determinant a b p *ℤ q.W -ℤ determinant a b q *ℤ p.W
-widths p q a b =
-    same_value (det 2 3 1 ⊗ var 2 ⊖ det 2 3 0 ⊗ var 5) (det 0 1 2 ⊗ var 11 ⊖ det 0 1 3 ⊗ var 8)
-    (parts (a ∷ b ∷ p ∷ q ∷ []) []) refl
-
--- so from the left of the edge to its right, the edge does not cross from left to right of the segment
-not_from_left : (u w d e P Q : ℤ) → pos 0 <ℤ P → pos 0 <ℤ Q → pos 0 <ℤ d → e <ℤ pos 0
-    → w *ℤ pos 1 -ℤ u *ℤ pos 1 ≡ d *ℤ Q -ℤ e *ℤ P → pos 0 <ℤ u → w <ℤ pos 0 → ⊥
-not_from_left u w d e P Q hP hQ hd he k hu hw =
-    omega (arith, ints, k, mul_positive d Q hd hQ, mul_negative P e hP he, mul_comm P e)
-
--- from the left of an edge to its right, with its ends on two sides, a segment crosses it
-pub crosses_right_from : (p q : Triple) (e : Edge) → IsPoint p → IsPoint q → IsLeft (whole e.from) (whole e.to) p
-    → IsRight (whole e.from) (whole e.to) q
-    → (IsLeft p q (whole e.from) × IsRight p q (whole e.to)) ⊎ (IsRight p q (whole e.from) × IsLeft p q (whole e.to))
-    → CrossesRight p q e
-crosses_right_from p q e at_p at_q left right (inr h) =
-    record { starts_left = left; ends_right = right; from_right = h.0; to_left = h.1 }
-crosses_right_from p q e at_p at_q left right (inl h) =
-    absurd (not_from_left _ _ _ _ p.W q.W at_p at_q left right (widths p q (whole e.from) (whole e.to)) h.0 h.1)
 
 -- ---- numbers
 

@@ -9,7 +9,7 @@ use Rattle.rings.specs.Edge.{Edge}
 use Rattle.rings.specs.Inside.{crossings, is_crossed, winding}
 
 -- the number of crossed edges is the winding number and twice some number: that of the edges crossed downward
-pub record SameParity (w : ℤ) (n : ℕ) : Type 0 where
+record SameParity (w : ℤ) (n : ℕ) : Type 0 where
   pub half : ℕ
   pub doubled : w +ℤ pos (2 * half) ≡ pos n
 
@@ -29,7 +29,7 @@ no_more : (c w : ℤ) (m n k j : ℕ) → c ≡ pos 0 → m ≡ 0 + n → j ≡ 
 no_more c w m n k j ec em ej h = omega (arith, ints)
 
 -- the two numbers of a list have one parity
-pub parity : (es : List Edge) (p : Triple) → SameParity (winding es p) (crossings es p)
+parity : (es : List Edge) (p : Triple) → SameParity (winding es p) (crossings es p)
 parity [] p = record { half = 0; doubled = refl }
 parity (e ∷ es) p = go (crossing_cases e p) (parity es p)
   where
@@ -71,10 +71,6 @@ module _ (es fs : List Edge) (p q : Triple) where
   -- with equal winding numbers the numbers of crossings have one parity
   pub same_parity : winding es p ≡ winding fs q → crossings es p % 2 ≡ crossings fs q % 2
   same_parity e = even_apart _ _ _ _ (parity es p) (parity fs q) (pos 0) (omega (arith, ints))
-
-  -- so they have where the winding numbers are an even number apart
-  pub same_parity_apart : (z : ℤ) → winding es p ≡ winding fs q +ℤ pos 2 *ℤ z → crossings es p % 2 ≡ crossings fs q % 2
-  same_parity_apart z e = even_apart _ _ _ _ (parity es p) (parity fs q) z e
 
   -- where they are 1 apart, exactly one of the numbers is odd
   pub other_parity : winding es p ≡ winding fs q +ℤ pos 1 → crossings es p % 2 ≡ (crossings fs q + 1) % 2

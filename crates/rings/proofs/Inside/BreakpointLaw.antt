@@ -78,7 +78,7 @@ module _ (ring : List Point) (a b : Triple) (at_a : IsPoint a) (at_b : IsPoint b
         (whole_is_point (vertex ring (i + 1))) on_u on_v on))
 
     -- so the way from the mediant to x misses all edges
-    pub gap_misses : Misses (mediant (point k) (point (k + 1))) x (edges_of ring)
+    gap_misses : Misses (mediant (point k) (point (k + 1))) x (edges_of ring)
     gap_misses z at_z on_z on_some =
         let (i, within, on_edge) = on_some_edge z ring on_some in
         let p = breaks.rational in

@@ -12,7 +12,7 @@ use Rattle.rings.specs.Edge.{Edge, IsOnSome}
 
 module _ (α β γ : ℤ) where
   -- is not positive on the edges
-  pub not_positive_on : (es : List Edge) → AllEnds (λ v. linear α β γ (whole v) ≤ℤ pos 0) es → (x : Triple) → IsPoint x
+  not_positive_on : (es : List Edge) → AllEnds (λ v. linear α β γ (whole v) ≤ℤ pos 0) es → (x : Triple) → IsPoint x
       → IsOnSome es x → linear α β γ x ≤ℤ pos 0
   not_positive_on (e ∷ es) (from, to, rest) x at_x (inl on) =
       not_positive_between x (whole e.from) (whole e.to) at_x (whole_is_point e.from) (whole_is_point e.to) α β γ from to on

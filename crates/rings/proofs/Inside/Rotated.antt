@@ -47,14 +47,14 @@ edges_along_append v [] x xs last = refl
 edges_along_append v (w ∷ ws) x xs last = ap (λ es. record { from = v; to = w } ∷ es) (edges_along_append w ws x xs last)
 
 -- the edges of a ring and of the rotated ring, as two lists in both orders
-pub record InTwoOrders (ps qs : List Point) : Type 0 where
+record InTwoOrders (ps qs : List Point) : Type 0 where
   pub first : List Edge
   pub second : List Edge
   pub are : edges_of (ps ++ qs) ≡ first ++ second
   pub rotated : edges_of (qs ++ ps) ≡ second ++ first
 
 -- there are such lists
-pub in_two_orders : (ps qs : List Point) → InTwoOrders ps qs
+in_two_orders : (ps qs : List Point) → InTwoOrders ps qs
 in_two_orders [] qs = record {
   first = [];
   second = edges_of qs;

@@ -1,5 +1,5 @@
 -- Crossings, windings and segments do not tell two triples of one rational point apart.
-use Rattle.std.proofs.Common.{◌≡◌, [], ◌∷◌, refl, sym, List, Bool, true, false, ℤ, pos, ◌+ℤ◌, ◌-ℤ◌, ◌*ℤ◌, ◌<ℤ◌, ◌≤ℤ◌, arith}
+use Rattle.std.proofs.Common.{◌≡◌, [], ◌∷◌, refl, sym, List, Bool, true, false, ℤ, pos, ◌-ℤ◌, ◌*ℤ◌, ◌<ℤ◌, ◌≤ℤ◌, arith}
 use Rattle.std.proofs.lemmas.Int.{ints}
 use Rattle.std.specs.Prelude.{◌||◌, count_by}
 use Rattle.integer_algebra.proofs.Laws.{mul_comm, sub-mul}
@@ -8,9 +8,9 @@ use Rattle.integer_algebra.proofs.Signs.{factor_negative, factor_nonpositive, fa
 use Rattle.plane.proofs.Points.{same_sym}
 use Rattle.plane.proofs.Turns.{determinant_same}
 use Rattle.plane.specs.Point.{IsPoint, IsSame, Triple, whole}
-use Rattle.rings.proofs.Crossings.{crossed_down_facts, crossed_down_from, crossed_up_facts, crossed_up_from, crossing_value}
+use Rattle.rings.proofs.Crossings.{crossed_down_facts, crossed_down_from, crossed_up_facts, crossed_up_from}
 use Rattle.rings.specs.Edge.{Edge}
-use Rattle.rings.specs.Inside.{crossing, crossings, is_crossed, is_crossed_down, is_crossed_up, winding}
+use Rattle.rings.specs.Inside.{crossings, is_crossed, is_crossed_down, is_crossed_up}
 
 -- ---- signs through positive factors
 
@@ -80,28 +80,19 @@ module _ (p q : Triple) (at_p : IsPoint p) (at_q : IsPoint q) (s : IsSame p q) (
 
 module _ (p q : Triple) (at_p : IsPoint p) (at_q : IsPoint q) (s : IsSame p q) where
   -- an edge is crossed from both triples alike: upward,
-  pub is_crossed_up_same : (e : Edge) → is_crossed_up e p ≡ is_crossed_up e q
+  is_crossed_up_same : (e : Edge) → is_crossed_up e p ≡ is_crossed_up e q
   is_crossed_up_same e =
       same_test _ _ (crossed_up_same p q at_p at_q s e) (crossed_up_same q p at_q at_p (same_sym s) e)
 
   -- downward,
-  pub is_crossed_down_same : (e : Edge) → is_crossed_down e p ≡ is_crossed_down e q
+  is_crossed_down_same : (e : Edge) → is_crossed_down e p ≡ is_crossed_down e q
   is_crossed_down_same e =
       same_test _ _ (crossed_down_same p q at_p at_q s e) (crossed_down_same q p at_q at_p (same_sym s) e)
 
   -- and at all
-  pub is_crossed_same : (e : Edge) → is_crossed e p ≡ is_crossed e q
+  is_crossed_same : (e : Edge) → is_crossed e p ≡ is_crossed e q
   is_crossed_same e = λ i. is_crossed_up_same e i || is_crossed_down_same e i
-
-  -- with the same sign
-  pub crossing_same : (e : Edge) → crossing e p ≡ crossing e q
-  crossing_same e = λ i. crossing_value (is_crossed_up_same e i) (is_crossed_down_same e i)
 
   -- so they have the same number of crossings
   pub crossings_same : (es : List Edge) → crossings es p ≡ crossings es q
   crossings_same es = λ i. count_by (λ e. is_crossed_same e i) es
-
-  -- and the same winding number
-  pub winding_same : (es : List Edge) → winding es p ≡ winding es q
-  winding_same [] = refl
-  winding_same (e ∷ es) = λ i. crossing_same e i +ℤ winding_same es i

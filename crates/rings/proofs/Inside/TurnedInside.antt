@@ -31,7 +31,7 @@ module _ (p : Triple) where
       (λ h. subst (λ (vs : List Point). IsOnSome (edges_of vs) p) (turned_round-turned_round ring) (on_some_turned (turned_round ring) h), on_some_turned ring)
 
   -- as many edges are crossed
-  pub crossings-turned_round : (ring : List Point) → crossings (edges_of (turned_round ring)) p ≡ crossings (edges_of ring) p
+  crossings-turned_round : (ring : List Point) → crossings (edges_of (turned_round ring)) p ≡ crossings (edges_of ring) p
   crossings-turned_round ring =
       ap (λ es. crossings es p) (edges_of-turned_round ring)
       ∙ crossings-reverse (backward (edges_of ring))

@@ -1,8 +1,8 @@
 -- A ring that is read the other way round is simple where the ring is.
-use Rattle.std.proofs.Common.{inl, inr, ℕ, ◌+◌, ◌-◌, ◌<◌, ◌↔◌, List, length, ap, sym, ◌∙◌, subst, arith}
+use Rattle.std.proofs.Common.{inl, inr, ℕ, ◌+◌, ◌-◌, ◌<◌, List, length, ap, sym, ◌∙◌, subst, arith}
 use Rattle.plane.proofs.Segments.{on_reversed}
 use Rattle.plane.specs.Point.{IsSame, Point, Triple, whole}
-use Rattle.rings.proofs.Turned.Turned.{length-turned_round, turned_from, turned_round-turned_round, turned_to, vertex-turned_round}
+use Rattle.rings.proofs.Turned.Turned.{length-turned_round, turned_from, turned_to, vertex-turned_round}
 use Rattle.rings.proofs.Turned.Turned.{vertex-turned_round-zero}
 use Rattle.rings.specs.Orientation.{turned_round}
 use Rattle.rings.specs.Ring.{IsOnEdge, vertex}
@@ -48,8 +48,3 @@ pub simple_turned : (ring : List Point) → IsSimple ring → IsSimple (turned_r
 simple_turned ring simple i j less h clash =
     let below : j < length ring = omega (arith, length-turned_round ring) in
     simple (length ring - 1 - j) (length ring - 1 - i) (omega arith) (omega arith) (clash_back ring i j less below clash)
-
--- and only a simple ring is
-pub simple_turned_iff : (ring : List Point) → IsSimple (turned_round ring) ↔ IsSimple ring
-simple_turned_iff ring =
-    (λ simple. subst IsSimple (turned_round-turned_round ring) (simple_turned (turned_round ring) simple), simple_turned ring)

@@ -18,7 +18,7 @@ AreDistinct (p ∷ ps) = (¬ HasPoint ps p) × AreDistinct ps
 -- ---- appended lists
 
 -- the points of two lists are different together where they are in each list, and no point is in both
-pub distinct_append : (ps qs : List Point) → AreDistinct ps → AreDistinct qs → ((p : Point) → HasPoint ps p → ¬ HasPoint qs p)
+distinct_append : (ps qs : List Point) → AreDistinct ps → AreDistinct qs → ((p : Point) → HasPoint ps p → ¬ HasPoint qs p)
     → AreDistinct (ps ++ qs)
 distinct_append [] qs h k apart = k
 distinct_append (r ∷ ps) qs (new, h) k apart = (

@@ -1,5 +1,5 @@
 -- Laws of lists of edges: appended lists, edges read backward, closed lists.
-use Rattle.std.proofs.Common.{◌≡◌, ◌⊎◌, inl, inr, refl, ap, ◌∙◌, ℤ, ◌+ℤ◌, ◌-ℤ◌, neg_ℤ, List, [], ◌∷◌, ◌++◌, map, arith}
+use Rattle.std.proofs.Common.{◌≡◌, ◌⊎◌, inl, inr, refl, ap, ◌∙◌, ℤ, ◌+ℤ◌, ◌-ℤ◌, List, [], ◌∷◌, ◌++◌, map, arith}
 use Rattle.std.proofs.lemmas.Int.{ints}
 use Rattle.plane.proofs.Segments.{on_reversed, on_same_point}
 use Rattle.plane.specs.Point.{IsPoint, IsSame, Point, Triple, whole}
@@ -18,10 +18,6 @@ backward es = map reversed es
 -- the grouping of a sum is free
 pub sum_regrouped : (a b c d e : ℤ) → d ≡ b +ℤ c → e ≡ (a +ℤ b) +ℤ c → a +ℤ d ≡ e
 sum_regrouped a b c d e h k = omega (arith, ints)
-
--- the growth of an edge read backward has the opposite sign
-opposite_difference : (a b c d : ℤ) → d ≡ neg_ℤ c → (a -ℤ b) +ℤ d ≡ neg_ℤ ((b -ℤ a) +ℤ c)
-opposite_difference a b c d h = omega (arith, ints)
 
 -- ---- points on the edges
 
@@ -61,19 +57,6 @@ on_some_same p q at_p s [] h = absurd h
 pub growth-append : (g : Point → ℤ) (es fs : List Edge) → growth g (es ++ fs) ≡ growth g es +ℤ growth g fs
 growth-append g [] fs = omega (arith, ints)
 growth-append g (e ∷ es) fs = sum_regrouped (g e.to -ℤ g e.from) (growth g es) (growth g fs) _ _ (growth-append g es fs) refl
-
--- read backward, the edges have the opposite growth
-pub growth-backward : (g : Point → ℤ) (es : List Edge) → growth g (backward es) ≡ neg_ℤ (growth g es)
-growth-backward g [] = refl
-growth-backward g (e ∷ es) = opposite_difference (g e.from) (g e.to) (growth g es) _ (growth-backward g es)
-
--- two closed lists are closed together
-pub closed_append : (es fs : List Edge) → IsClosed es → IsClosed fs → IsClosed (es ++ fs)
-closed_append es fs h k g = growth-append g es fs ∙ (λ i. h g i +ℤ k g i)
-
--- a closed list is closed read backward
-pub closed_backward : (es : List Edge) → IsClosed es → IsClosed (backward es)
-closed_backward es h g = growth-backward g es ∙ ap neg_ℤ (h g)
 
 -- the growth along some points is the difference between the last and the first
 pub growth-edges_along : (g : Point → ℤ) (v : Point) (ws : List Point) (last : Point)

@@ -1,17 +1,14 @@
 -- The edges of a ring by their numbers: edge i goes from vertex i to the next.
-use Rattle.std.proofs.Common.{◌≡◌, ◌⊎◌, inl, inr, refl, sym, subst, ap, ◌∙◌, ℕ, zero, suc, ◌+◌, ◌<◌, add-one, arith, true, false, cond, List, [], ◌∷◌}
-use Rattle.std.proofs.Common.{◌++◌, length, get_or, take, drop}
+use Rattle.std.proofs.Common.{◌≡◌, ◌⊎◌, inl, inr, refl, sym, subst, ap, ◌∙◌, ℕ, zero, suc, ◌+◌, ◌<◌, add-one, arith, cond, List, [], ◌∷◌}
+use Rattle.std.proofs.Common.{◌++◌, length, get_or, take}
 use Rattle.std.proofs.Math.Nat.{mod-eq_of_lt}
 use Rattle.std.proofs.lemmas.Bool.{cases_lt}
-use Rattle.std.proofs.lemmas.List.{get_or_append_left, get_or_at, take_all, take_more, take-append-drop, drop_more}
-use Rattle.std.proofs.lemmas.List.Elements.{All-head, All-tail}
+use Rattle.std.proofs.lemmas.List.{get_or_append_left, get_or_at, take_all, take_more}
 use Rattle.std.proofs.lemmas.List.Sums.{sum_by_push}
-use Rattle.std.proofs.lemmas.Option.{slice_get-get_or}
-use Rattle.std.specs.List.{All}
-use Rattle.std.specs.Prelude.{◌↔◌, slice_get, Some}
+use Rattle.std.specs.Prelude.{◌↔◌}
 use Rattle.plane.specs.Point.{Point, Triple, whole}
 use Rattle.plane.specs.Segment.{On}
-use Rattle.rings.proofs.Vertices.Edges.{AllEnds, on_some_cases, on_some_left, on_some_right}
+use Rattle.rings.proofs.Vertices.Edges.{on_some_cases, on_some_left, on_some_right}
 use Rattle.rings.proofs.Vertices.Vertices.{vertex_in_range, vertex_round}
 use Rattle.rings.specs.Edge.{Edge, IsOnSome, edges_along, edges_of}
 use Rattle.rings.specs.Inside.{crossings, is_crossed}
@@ -66,13 +63,6 @@ get_or-edges_of (v ∷ vs) i d h =
     get_or-edges_along v vs v i d origin (omega arith)
     ∙ (λ k. record { from = sym (vertex_in_range (v ∷ vs) i origin h) k; to = sym (next_is v vs i h) k })
 
--- which is what the slice holds there
-pub slice_get-edges_of : (ring : List Point) (i : ℕ) → i < length ring → slice_get (edges_of ring) i ≡ Some (edge_at ring i)
-slice_get-edges_of ring i h =
-    let d = edge_at ring i in
-    let within : i < length (edges_of ring) = omega (arith, length-edges_of ring) in
-    slice_get-get_or (edges_of ring) i d within ∙ ap Some (get_or-edges_of ring i d h)
-
 -- ---- points on edges
 
 module _ (p : Triple) where
@@ -110,19 +100,11 @@ module _ (p : Triple) where
 
 module _ (ring : List Point) (i : ℕ) (within : i < length ring) where
   -- the first edges and edge i
-  pub take_more_edges : take (i + 1) (edges_of ring) ≡ take i (edges_of ring) ++ edge_at ring i ∷ []
+  take_more_edges : take (i + 1) (edges_of ring) ≡ take i (edges_of ring) ++ edge_at ring i ∷ []
   take_more_edges =
       let d = edge_at ring i in
       take_more (edges_of ring) i d (omega (arith, length-edges_of ring))
       ∙ ap (λ (e : Edge). take i (edges_of ring) ++ e ∷ []) (get_or-edges_of ring i d within)
-
-  -- the first edges, edge i, and the others
-  pub split_edges : edges_of ring ≡ take i (edges_of ring) ++ edge_at ring i ∷ drop (i + 1) (edges_of ring)
-  split_edges =
-      let d = edge_at ring i in
-      sym (take-append-drop i (edges_of ring))
-      ∙ ap (λ es. take i (edges_of ring) ++ es) (drop_more (edges_of ring) i d (omega (arith, length-edges_of ring))
-      ∙ ap (λ (e : Edge). e ∷ drop (i + 1) (edges_of ring)) (get_or-edges_of ring i d within))
 
   module _ (p : Triple) where
     -- one more edge adds its crossing
@@ -131,16 +113,6 @@ module _ (ring : List Point) (i : ℕ) (within : i < length ring) where
     crossings_more =
         ap (λ es. crossings es p) take_more_edges
         ∙ sum_by_push (λ e. cond (is_crossed e p) 1 0) (take i (edges_of ring)) (edge_at ring i)
-
-    -- one where it is crossed,
-    pub crossings_more_yes : is_crossed (edge_at ring i) p ≡ true
-        → crossings (take (i + 1) (edges_of ring)) p ≡ crossings (take i (edges_of ring)) p + 1
-    crossings_more_yes h = crossings_more ∙ ap (λ b. crossings (take i (edges_of ring)) p + cond b 1 0) h
-
-    -- none where it is not
-    pub crossings_more_no : is_crossed (edge_at ring i) p ≡ false
-        → crossings (take (i + 1) (edges_of ring)) p ≡ crossings (take i (edges_of ring)) p
-    crossings_more_no h = crossings_more ∙ ap (λ b. crossings (take i (edges_of ring)) p + cond b 1 0) h ∙ omega arith
 
     -- a point on one of them is on an earlier one or on edge i
     pub on_some_more : IsOnSome (take (i + 1) (edges_of ring)) p ↔ (IsOnSome (take i (edges_of ring)) p ⊎ IsOnEdge ring i p)
@@ -160,18 +132,3 @@ module _ (ring : List Point) (i : ℕ) (within : i < length ring) where
 -- after as many steps as there are vertices, these are all edges
 pub take_all_edges : (ring : List Point) → take (length ring) (edges_of ring) ≡ edges_of ring
 take_all_edges ring = take_all (length ring) (edges_of ring) (omega (arith, length-edges_of ring))
-
--- ---- all vertices
-
--- what holds of all points holds of all ends of the edges along them
-all_ends_along : (P : Point → Type 0) (v : Point) (ws : List Point) (last : Point) → P v → All P ws → P last
-    → AllEnds P (edges_along v ws last)
-all_ends_along P v [] last first rest end = (first, end, tt)
-all_ends_along P v (w ∷ ws) last first rest end =
-    let next = All-head P w ws rest in
-    (first, next, all_ends_along P w ws last next (All-tail P w ws rest) end)
-
--- what holds of all vertices holds of all ends of the edges
-pub all_ends_of : (P : Point → Type 0) (ring : List Point) → All P ring → AllEnds P (edges_of ring)
-all_ends_of P [] h = tt
-all_ends_of P (v ∷ vs) h = let first = All-head P v vs h in all_ends_along P v vs v first (All-tail P v vs h) first

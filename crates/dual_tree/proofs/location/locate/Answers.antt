@@ -4,12 +4,12 @@ use Rattle.std.proofs.lemmas.Int.{ints}
 use Rattle.plane.specs.Point.{IsPoint, whole}
 use Rattle.meshes.specs.Fits.{IsInTri}
 use Rattle.meshes.specs.Side.{tri_at}
-use Rattle.dual_tree.proofs.LocationFits.{corners_below, covered, two_fewer}
+use Rattle.dual_tree.proofs.LocationFits.{cornered, covered, two_fewer}
 use Rattle.dual_tree.proofs.location.locate.Goals as goal
 
 pub holds-requires : goal.holds-requires
 holds-requires g c =
-    rw c.tri-tri.ensures (corners_below c.args.ring.now.corners c.args.mesh.now c.requires c.loop-i.i (omega arith))
+    rw c.tri-tri.ensures (cornered c.args.ring.now.corners c.args.mesh.now c.requires c.loop-i.i (omega arith))
 
 pub returns-then-holds-clause-none : goal.returns-then-holds-clause-none
 returns-then-holds-clause-none g c =

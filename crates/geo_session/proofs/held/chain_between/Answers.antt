@@ -1,6 +1,6 @@
 use Rattle.std.proofs.Common.{arith}
 use Rattle.geo_session.proofs.SleeveRoom.{sleeve_few}
-use Rattle.geo_session.proofs.WalkedNames.{names_named, names_taut}
+use Rattle.geo_session.proofs.WalkedNames.{names_named, names_path}
 use Rattle.geo_session.proofs.held.chain_between.Goals as goal
 
 pub with_room-requires : goal.with_room-requires
@@ -10,12 +10,12 @@ with_room-requires g c =
 
 pub put_points-requires-clause-named : goal.put_points-requires-clause-named
 put_points-requires-clause-named g c =
-    rw c.deref.ensures.value (names_named _ _ _ c.walk.new.out.items c.in_ok-names.names.items c.in_ok-names.ensures.items c.walk.ensures.taut)
+    rw c.deref.ensures.value (names_named _ _ _ c.walk.new.out.items c.in_ok-names.names.items c.in_ok-names.ensures.items c.walk.ensures.path)
 
-pub returns-clause-taut : goal.returns-clause-taut
-returns-clause-taut g c =
+pub returns-clause-path : goal.returns-clause-path
+returns-clause-path g c =
     rw (c.put_points.ensures.points, c.in_ok-points.ensures.items, c.deref.ensures.value)
-    (names_taut _ _ _ c.walk.new.out.items c.in_ok-names.names.items c.in_ok-names.ensures.items c.walk.ensures.taut
+    (names_path _ _ _ c.walk.new.out.items c.in_ok-names.names.items c.in_ok-names.ensures.items c.walk.ensures.path
     c.args.ring.now.corners c.args.s.now c.args.t.now c.new-board.ensures.corners c.new-board.ensures.start c.new-board.ensures.goal)
 
 pub returns-clause-few : goal.returns-clause-few

@@ -1,12 +1,10 @@
-use Rattle.std.proofs.Common.{◌≡◌, ◌≢◌, ◌++◌, ◌∷◌, [], pos, refl, sym, subst}
-use Rattle.std.proofs.lemmas.List.Elements.{Contains-push}
-use Rattle.std.specs.List.{Contains}
+use Rattle.std.proofs.Common.{◌≢◌, pos, refl}
 use Rattle.plane.specs.Line.{cross_product}
 use Rattle.plane.specs.Point.{whole}
 use Rattle.inside_test.proofs.Meetings.{encloses_crossing, encloses_parallel, meeting_on_first}
-use Rattle.inside_test.proofs.PointLists.{extends_pushed, extends_trans, on_ok}
+use Rattle.inside_test.proofs.PointLists.{extends_listed, extends_trans, on_ok}
 use Rattle.inside_test.proofs.segment.push_meetings.Goals as goal
-use Rattle.inside_test.specs.Breakpoints.{EnclosesAll, breakpoint_points}
+use Rattle.inside_test.specs.Breakpoints.{EnclosesAll, Lists, breakpoint_points}
 
 pub returns-in-Some : goal.returns-in-Some
 returns-in-Some g c =
@@ -14,18 +12,17 @@ returns-in-Some g c =
     let b = c.args.b.now in
     let m = c.in-Some.m in
     let old = breakpoint_points c.args.points.now.items in
-    let new = breakpoint_points c.push.new.points.items in
-    let at_m = c.push.ensures.rational in
+    let new = breakpoint_points c.push_unlisted.new.points.items in
+    let at_m = c.push_unlisted.ensures.rational in
     let crossing : cross_product a b c.args.c.now c.args.d.now ≢ pos 0 = λ e. cc (c.in-Some.ensures.none.1 e) in
     let first = c.in-Some.ensures.on_first in
     let second = c.in-Some.ensures.on_second in
     let meet = c.segments_meet.ensures.meet.0 c.if-not-segments_meet.false in
     let on = meeting_on_first a b c.args.c.now c.args.d.now m at_m crossing first second meet in
     record {
-      extends = extends_pushed (whole a) (whole b) c.push.result old new m (at_m, on) c.push.ensures.ok c.push.ensures.err;
-      enclosed = on_ok c.push.result (new ≡ old ++ m ∷ []) (EnclosesAll new (whole a) (whole b) (whole c.args.c.now) (whole c.args.d.now))
-          (λ e. encloses_crossing a b c.args.c.now c.args.d.now m at_m crossing first second new
-          (subst (λ l. Contains l m) (sym e) (Contains-push old m))) c.push.ensures.ok;
+      extends = extends_listed (whole a) (whole b) c.push_unlisted.result old new m (at_m, on) c.push_unlisted.ensures.ok c.push_unlisted.ensures.err;
+      enclosed = on_ok c.push_unlisted.result (Lists m old new) (EnclosesAll new (whole a) (whole b) (whole c.args.c.now) (whole c.args.d.now))
+          (encloses_crossing a b c.args.c.now c.args.d.now m at_m crossing first second old new) c.push_unlisted.ensures.ok;
     }
 
 pub returns-in_ok-push_if_on-in-None : goal.returns-in_ok-push_if_on-in-None

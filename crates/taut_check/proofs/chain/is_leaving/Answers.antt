@@ -1,8 +1,12 @@
 use Rattle.std.proofs.Common.{arith}
-use Rattle.taut_check.proofs.Leaving.{leaves_unseen}
+use Rattle.taut_check.proofs.Leaving.{leaves_last, leaves_unseen}
 use Rattle.taut_check.proofs.chain.is_leaving.Goals as goal
+
+pub returns-then-k-points : goal.returns-then-k-points
+returns-then-k-points g c =
+    leaves_last c.args.ring.now.corners c.args.points.now c.args.k _ _ c.point-from.ensures (omega arith) c.is_outside.ensures
 
 pub returns : goal.returns
 returns g c =
     leaves_unseen c.args.ring.now.corners c.args.points.now c.args.k _ _ _ c.point-from.ensures c.point.ensures (omega arith)
-    (λ out. absurd (cc (c.is_outside.ensures.1 out, c.if-is_outside.false))) c.in_ok-holds_segment.ensures
+    c.in_ok-holds_segment.ensures

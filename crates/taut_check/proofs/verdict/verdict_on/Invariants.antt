@@ -1,5 +1,5 @@
 use Rattle.std.proofs.Common.{ℕ, ◌<◌}
-use Rattle.taut_check.proofs.verdict.check.Given as goal
+use Rattle.taut_check.proofs.verdict.verdict_on.Given as goal
 use Rattle.taut_check.specs.Found.{IsSound}
 
 abbrev pub invariant-loop-k : goal.invariant-loop-k

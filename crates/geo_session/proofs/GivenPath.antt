@@ -1,0 +1,36 @@
+-- The path in a ring is that in the list that the ring was made of, and the same points are in both.
+use Rattle.std.proofs.Common.{◌↔◌, Bool, true, false, if◌then◌else◌, List}
+use Rattle.plane.specs.Point.{Point, Triple}
+use Rattle.rings.proofs.Inside.{in_turned_iff}
+use Rattle.rings.specs.Chain.{IsPath, IsTaut}
+use Rattle.rings.specs.Inside.{IsIn}
+use Rattle.rings.specs.Orientation.{turned_round}
+use Rattle.ring_laws.proofs.Simple.{bent_turned_iff}
+use Rattle.ring_check.specs.Oriented.{Oriented, given_of}
+
+-- the same chains are taut in a ring that is read the other way round,
+taut_turned_iff : (ring : List Point) (s t : Point) (points : List Point) → IsTaut (turned_round ring) s t points ↔ IsTaut ring s t points
+taut_turned_iff ring s t points = (
+  λ h. record { bent = (bent_turned_iff ring points).0 h.bent; first = h.first; last = h.last; single = h.single },
+  λ h. record { bent = (bent_turned_iff ring points).1 h.bent; first = h.first; last = h.last; single = h.single },
+)
+
+-- so the path is the same
+path_either : (turned : Bool) (ring : List Point) (s t : Point) (path : List Point) → IsPath ring s t path
+    → IsPath (if turned then turned_round ring else ring) s t path
+path_either true ring s t path is =
+    λ chain. let same = taut_turned_iff ring s t chain in (λ h. (is chain).0 (same.0 h), λ e. same.1 ((is chain).1 e))
+path_either false ring s t path is = is
+
+in_either : (turned : Bool) (ring : List Point) (p : Triple) → IsIn (if turned then turned_round ring else ring) p ↔ IsIn ring p
+in_either true ring p = in_turned_iff p ring
+in_either false ring p = (λ h. h, λ h. h)
+
+module _ (ring : Oriented) where
+  -- in the list that the ring was made of,
+  pub path_given : (s t : Point) (path : List Point) → IsPath ring.corners s t path → IsPath (given_of ring) s t path
+  path_given s t path is = path_either ring.is_turned ring.corners s t path is
+
+  -- and the points in it
+  pub in_given_iff : (p : Triple) → IsIn (given_of ring) p ↔ IsIn ring.corners p
+  in_given_iff p = in_either ring.is_turned ring.corners p

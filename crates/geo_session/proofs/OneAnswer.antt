@@ -1,0 +1,125 @@
+-- The answer to a command is a function of the state and the command, and the output one of the script.
+use Rattle.std.proofs.Common.{◌≡◌, inl, inr, refl, sym, ap, subst, ◌∙◌, ℕ, List, [], ◌∷◌, ◌++◌, Result, Ok, Err}
+use Rattle.std.specs.Prelude.{Some, None}
+use Rattle.plane.specs.Point.{Point}
+use Rattle.rings.proofs.Simple.{least_clash_is_one, no_least_clash}
+use Rattle.geo_text.specs.Reading.{reading_of}
+use Rattle.geo_text.specs.Records.{records_of}
+use Rattle.geo_text.specs.Texts.{bad_text}
+use Rattle.geo_text.specs.declared.command.Bad.{Bad}
+use Rattle.geo_text.specs.declared.command.Bad.TheVariants as bad
+use Rattle.geo_text.specs.declared.command.Command.{Command}
+use Rattle.geo_text.specs.declared.command.Command.TheVariants as command
+use Rattle.taut_check.specs.declared.verdict.Verdict.{Verdict}
+use Rattle.taut_check.specs.declared.verdict.Verdict.TheVariants as verdict
+use Rattle.geo_session.proofs.OneVerdict.{one_verdict}
+use Rattle.geo_session.specs.Answer.{AcceptsPolygon, IsInsideText, IsCheckText, IsPathIn, IsPathText, IsPlaceText, IsReadingAnswer}
+use Rattle.geo_session.specs.Answer.{IsVerdictText, RefusesPolygon, State, TellsPath, TellsVerdict, first_outside, found, inside, on_edge, outside}
+use Rattle.geo_session.specs.Answer.{path_text, second_outside}
+use Rattle.geo_session.specs.Laws.{OneAnswerLaw, OneOutputLaw}
+use Rattle.geo_session.specs.Output.{AreAnswers}
+
+-- two texts that are both that one
+both : {one other text : List ℕ} → one ≡ text → other ≡ text → one ≡ other
+both e f = e ∙ sym f
+
+-- ---- a polygon
+
+module _ (before : State) (ring : List Point) (one other : List ℕ) (after after' : State) where
+  one_acceptance : AcceptsPolygon before ring one after → AcceptsPolygon before ring other after' → (one ≡ other) × (after ≡ after')
+  one_acceptance h g = (both h.answer g.answer, h.state ∙ sym g.state)
+
+  one_refusal : RefusesPolygon before ring one after → RefusesPolygon before ring other after' → (one ≡ other) × (after ≡ after')
+  one_refusal h g =
+      let (i, j) = least_clash_is_one ring h.i h.j g.i g.j h.least g.least in
+      (h.answer ∙ ap (λ (k : ℕ). bad_text (bad.Clash k h.j)) i ∙ ap (λ (k : ℕ). bad_text (bad.Clash g.i k)) j ∙ sym g.answer, h.state ∙ sym g.state)
+
+-- ---- a point
+
+module _ (ring : List Point) (p : Point) (one other : List ℕ) where
+  one_place_text : IsPlaceText ring p one → IsPlaceText ring p other → one ≡ other
+  one_place_text (on_edge _ e) (on_edge _ f) = both e f
+  one_place_text (on_edge on e) (inside _ off f) = absurd (off on)
+  one_place_text (on_edge on e) (outside out f) = absurd (out (inl on))
+  one_place_text (inside _ off e) (on_edge on f) = absurd (off on)
+  one_place_text (inside _ _ e) (inside _ _ f) = both e f
+  one_place_text (inside within _ e) (outside out f) = absurd (out within)
+  one_place_text (outside out e) (on_edge on f) = absurd (out (inl on))
+  one_place_text (outside out e) (inside within _ f) = absurd (out within)
+  one_place_text (outside _ e) (outside _ f) = both e f
+
+-- ---- a list of points
+
+one_verdict_text : (told : Verdict) (one other : List ℕ) → IsVerdictText told one → IsVerdictText told other → one ≡ other
+one_verdict_text verdict.Taut one other e f = both e f
+one_verdict_text verdict.Empty one other e f = absurd e
+one_verdict_text (verdict.Repeat k) one other e f = both e f
+one_verdict_text (verdict.Leaves k) one other e f = both e f
+one_verdict_text (verdict.NotReflex k) one other e f = both e f
+one_verdict_text (verdict.Straight k) one other e f = both e f
+one_verdict_text (verdict.WrongSide k) one other e f = both e f
+
+one_judgement : (ring points : List Point) (one other : List ℕ) → TellsVerdict ring points one → TellsVerdict ring points other → one ≡ other
+one_judgement ring points one other h g =
+    one_verdict_text g.found one other
+    (subst (λ v. IsVerdictText v one) (one_verdict ring points h.found g.found h.judged g.judged) h.told) g.told
+
+-- ---- two points
+
+module _ (ring : List Point) (s t : Point) (one other : List ℕ) where
+  -- the path is one, since it is the one taut chain
+  one_path : TellsPath ring s t one → TellsPath ring s t other → one ≡ other
+  one_path h g = h.told ∙ ap path_text ((g.path h.points).0 ((h.path h.points).1 refl)) ∙ sym g.told
+
+  one_path_in : IsPathIn ring s t one → IsPathIn ring s t other → one ≡ other
+  one_path_in (first_outside _ e) (first_outside _ f) = both e f
+  one_path_in (first_outside out e) (second_outside within _ f) = absurd (out within)
+  one_path_in (first_outside out e) (found within _ f) = absurd (out within)
+  one_path_in (second_outside within _ e) (first_outside out f) = absurd (out within)
+  one_path_in (second_outside _ _ e) (second_outside _ _ f) = both e f
+  one_path_in (second_outside _ out e) (found _ within f) = absurd (out within)
+  one_path_in (found within _ e) (first_outside out f) = absurd (out within)
+  one_path_in (found _ within e) (second_outside _ out f) = absurd (out within)
+  one_path_in (found _ _ e) (found _ _ f) = one_path e f
+
+-- ---- a command
+
+one_inside : (before : State) (p : Point) (one other : List ℕ) → IsInsideText before p one → IsInsideText before p other → one ≡ other
+one_inside None p one other e f = both e f
+one_inside (Some ring) p one other h g = one_place_text ring p one other h g
+
+one_check : (before : State) (points : List Point) (one other : List ℕ) → IsCheckText before points one → IsCheckText before points other
+    → one ≡ other
+one_check None points one other e f = both e f
+one_check (Some ring) points one other h g = one_judgement ring points one other h g
+
+one_path_text : (before : State) (s t : Point) (one other : List ℕ) → IsPathText before s t one → IsPathText before s t other → one ≡ other
+one_path_text None s t one other e f = both e f
+one_path_text (Some ring) s t one other h g = one_path_in ring s t one other h g
+
+pub one_answer : OneAnswerLaw
+one_answer before (command.Polygon ring) one other after after' (inl h) (inl g) = one_acceptance before ring one other after after' h g
+one_answer before (command.Polygon ring) one other after after' (inl h) (inr g) = absurd (no_least_clash ring g.i g.j h.simple g.least)
+one_answer before (command.Polygon ring) one other after after' (inr h) (inl g) = absurd (no_least_clash ring h.i h.j g.simple h.least)
+one_answer before (command.Polygon ring) one other after after' (inr h) (inr g) = one_refusal before ring one other after after' h g
+one_answer before (command.Inside p) one other after after' h g = (one_inside before p one other h.0 g.0, h.1 ∙ sym g.1)
+one_answer before (command.Check points) one other after after' h g = (one_check before points one other h.0 g.0, h.1 ∙ sym g.1)
+one_answer before (command.Path s t) one other after after' h g = (one_path_text before s t one other h.0 g.0, h.1 ∙ sym g.1)
+
+-- ---- a script
+
+one_reading : (before : State) (reading : Result Command Bad) (one other : List ℕ) (after after' : State)
+    → IsReadingAnswer before reading one after → IsReadingAnswer before reading other after' → (one ≡ other) × (after ≡ after')
+one_reading before (Ok asked) one other after after' h g = one_answer before asked one other after after' h g
+one_reading before (Err fault) one other after after' h g = (both h.0 g.0, h.1 ∙ sym g.1)
+
+one_answers : (before : State) (records : List (List (List ℕ))) (one other : List ℕ) (after after' : State)
+    → AreAnswers before records one after → AreAnswers before records other after' → one ≡ other
+one_answers before [] one other after after' h g = both h.0 g.0
+one_answers before (fields ∷ records) one other after after' h g =
+    let (first, between) = one_reading before (reading_of fields) h.first g.first h.between g.between h.answer g.answer in
+    let rest = one_answers g.between records h.rest g.rest after after' (subst (λ s. AreAnswers s records h.rest after) between h.others) g.others in
+    h.joined ∙ ap (λ f. f ++ h.rest) first ∙ ap (λ r. g.first ++ r) rest ∙ sym g.joined
+
+pub one_output : OneOutputLaw
+one_output bytes one other h g = one_answers None (records_of bytes) one other h.state g.state h.answers g.answers

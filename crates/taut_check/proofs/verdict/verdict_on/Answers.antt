@@ -1,0 +1,24 @@
+use Rattle.std.proofs.Common.{◌<◌, arith, below_more, length}
+use Rattle.std.proofs.lemmas.Bool.Decides.{nat_tests}
+use Rattle.taut_check.proofs.Verdicts.{taut_found, unbroken, verdict_found}
+use Rattle.taut_check.proofs.verdict.verdict_on.Goals as goal
+use Rattle.taut_check.specs.Found.{IsSound}
+
+pub returns-in-Some-clause-verdict : goal.returns-in-Some-clause-verdict
+returns-in-Some-clause-verdict g c =
+    let found = rw c.in-Some.is at c.in_ok-verdict.ensures in
+    verdict_found c.args.ring.now.corners c.args.chain.now c.loop-k.k c.loop-k-test.true c.in-Some.verdict found.0 found.1 c.loop-k.invariant
+
+pub returns-in-Some-clause-bent : goal.returns-in-Some-clause-bent
+returns-in-Some-clause-bent g c =
+    let found = rw c.in-Some.is at c.in_ok-verdict.ensures in
+    taut_found c.args.ring.now.corners c.args.chain.now c.loop-k.k c.loop-k-test.true c.in-Some.verdict found.0 found.1
+
+pub loop-k-preserved : goal.loop-k-preserved
+loop-k-preserved g c =
+    below_more (IsSound c.args.ring.now.corners c.args.chain.now) c.loop-k.k c.loop-k.invariant (rw c.in_default.is at c.in_ok-verdict.ensures)
+
+pub returns-clause-verdict : goal.returns-clause-verdict
+returns-clause-verdict g c =
+    let some : 0 < length c.args.chain.now = grind (arith, nat_tests) in
+    unbroken c.args.ring.now.corners c.args.chain.now some (λ k below. c.loop-k.invariant k (omega arith))
