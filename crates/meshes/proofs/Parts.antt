@@ -16,7 +16,7 @@ pub use Rattle.meshes.proofs.Parts.PartedMesh.{IsParted, end_of_side, parted, sh
 mod Splits
 -- A ring that is split along a shared side of a mesh: each triangle lies in one piece as a whole.
 mod PieceOfTriangle
-pub use Rattle.meshes.proofs.Parts.PieceOfTriangle.{LiesIn, inside_one, inside_sides, left_of_sides, lies_in_one}
+pub use Rattle.meshes.proofs.Parts.PieceOfTriangle.{LiesIn, inside_off_edges, inside_one, inside_sides, left_of_sides, lies_in_one}
 -- Two rings that share only points of a segment: a way from one to the other, in both together, meets the segment.
 mod BetweenPieces
 pub use Rattle.meshes.proofs.Parts.BetweenPieces.{IsCovered, meets_between}

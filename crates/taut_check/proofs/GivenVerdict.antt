@@ -1,5 +1,5 @@
 -- The verdict on a list in a ring is that in the list that the ring was made of.
-use Rattle.std.proofs.Common.{◌↔◌, Bool, true, false, List}
+use Rattle.std.proofs.Common.{Bool, true, false, List}
 use Rattle.std.specs.Prelude.{if◌then◌else◌}
 use Rattle.plane.specs.Point.{Point}
 use Rattle.rings.proofs.Inside.{neighbours_turned_iff, reflex_turned_iff, sees_turned_iff, in_turned_iff}
