@@ -2,7 +2,7 @@
 
 -- Regions left of some lines: near a point of one all points are in it, so where the region is in a ring, it meets no edge.
 mod OpenRegions
-pub use Rattle.meshes.proofs.Parts.OpenRegions.{left_of_all_eventually, region_off_edges}
+pub use Rattle.meshes.proofs.Parts.OpenRegions.{left_of_all_eventually}
 -- A triangle of a list at one of its sides: the corner opposite to the side, and the points near the side.
 mod Opposite
 pub use Rattle.meshes.proofs.Parts.Opposite.{mean, mean_inside, mean_is_point, near_side, opposite, sides, toward_inside}
