@@ -1,7 +1,5 @@
 -- What a mesh that fits a ring says of its triangles, for a search among them.
-use Rattle.std.proofs.Common.{◌≡◌, subst, ℕ, ◌+◌, ◌<◌, ◌↔◌, List, length, arith}
-use Rattle.std.proofs.lemmas.List.FromFn.{get_or-range_with_len, length-range_with_len}
-use Rattle.std.specs.List.{Contains, range_with_len}
+use Rattle.std.proofs.Common.{subst, ℕ, ◌<◌, ◌↔◌, List, length}
 use Rattle.plane.specs.Point.{IsPoint, Point, Triple}
 use Rattle.rings.specs.Inside.{IsIn}
 use Rattle.meshes.proofs.Sides.{piece_points_all, below_of_member}

@@ -1,12 +1,9 @@
 -- The corners of a triangle and of a diagonal are vertices, so their names stand for points.
-use Rattle.std.proofs.Common.{◌≡◌, ap, subst, ℕ, ◌%◌, ◌<◌, inl, inr, List, length, get_or, arith}
+use Rattle.std.proofs.Common.{◌≡◌, ap, ℕ, ◌%◌, ◌<◌, List, length, get_or, arith}
 use Rattle.std.proofs.Math.Nat.{mod-eq_of_lt}
-use Rattle.std.proofs.lemmas.List.FromFn.{get_or-range_with_len, length-range_with_len}
-use Rattle.std.specs.List.{Contains, range_with_len}
 use Rattle.plane.specs.Point.{Point}
 use Rattle.rings.specs.Ring.{origin, vertex}
 use Rattle.meshes.specs.Fits.{Fits}
-use Rattle.meshes.specs.Side.{HasSide, tri_at}
 use Rattle.meshes.specs.Sleeve.{IsOneOf, Sleeve, diagonal_at}
 use Rattle.meshes.specs.declared.tri.Tri.{Tri}
 use Rattle.meshes.proofs.Sides.{ends_below}

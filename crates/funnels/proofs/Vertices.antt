@@ -26,7 +26,7 @@ mod ConvexVertices
 pub use Rattle.funnels.proofs.Vertices.ConvexVertices.{convex_vertex}
 -- A triangle of a mesh at one of its corners: no neighbour of the corner in the ring is strictly inside the angle there.
 mod CornerTriangles
-pub use Rattle.funnels.proofs.Vertices.CornerTriangles.{corners_of, has_corners, inside_off_edges, neighbour_not_inside}
+pub use Rattle.funnels.proofs.Vertices.CornerTriangles.{corners_of, has_corners, neighbour_not_inside}
 -- A triangle of a mesh at one of its corners, with a shared side there: no neighbour of the corner in the ring is swept by the ray that turns from the one side to the other, up to the shared side.
 mod SweptNeighbours
 pub use Rattle.funnels.proofs.Vertices.SweptNeighbours.{neighbour_not_swept, neighbour_not_swept_right}

@@ -2,7 +2,7 @@
 
 -- Regions left of some lines: near a point of one all points are in it, so where the region is in a ring, it meets no edge.
 mod OpenRegions
-pub use Rattle.meshes.proofs.Parts.OpenRegions.{left_of_all_eventually, region_off_edges}
+pub use Rattle.meshes.proofs.Parts.OpenRegions.{left_of_all_eventually}
 -- A triangle of a list at one of its sides: the corner opposite to the side, and the points near the side.
 mod Opposite
 pub use Rattle.meshes.proofs.Parts.Opposite.{mean, mean_inside, mean_is_point, near_side, opposite, sides, toward_inside}
@@ -17,7 +17,7 @@ pub use Rattle.meshes.proofs.Parts.PartedMesh.{IsParted, end_of_side, parted, sh
 mod Splits
 -- A ring that is split along a shared side of a mesh: each triangle lies in one piece as a whole.
 mod PieceOfTriangle
-pub use Rattle.meshes.proofs.Parts.PieceOfTriangle.{LiesIn, inside_one, inside_sides, left_of_sides, lies_in_one}
+pub use Rattle.meshes.proofs.Parts.PieceOfTriangle.{LiesIn, inside_off_edges, inside_one, inside_sides, left_of_sides, lies_in_one}
 -- Two rings that share only points of a segment: a way from one to the other, in both together, meets the segment.
 mod BetweenPieces
 pub use Rattle.meshes.proofs.Parts.BetweenPieces.{IsCovered, meets_between}

@@ -2,7 +2,7 @@
 
 -- A ring read from another vertex on: its edges, winding numbers and area are the same.
 mod Rotated
-pub use Rattle.rings.proofs.Inside.Rotated.{apart_rotated, area_rotated, closed_swapped, edges_along_append, has_edge_rotated, in_rotated}
+pub use Rattle.rings.proofs.Inside.Rotated.{apart_rotated, area_rotated, closed_swapped, has_edge_rotated, in_rotated}
 pub use Rattle.rings.proofs.Inside.Rotated.{length_rotated, on_some_rotated, on_some_swapped, swept_swapped, turn_rotated, vertex_rotated}
 pub use Rattle.rings.proofs.Inside.Rotated.{winding_rotated, winding_swapped}
 -- A point that is farthest in some direction is wound round by no closed list of edges.

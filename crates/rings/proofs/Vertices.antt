@@ -6,14 +6,14 @@ pub use Rattle.rings.proofs.Vertices.Indexing.{crossings_more, edge_at, on_some_
 -- The items of a list, of appended lists and of a list in the other order, and their numbers.
 mod Items
 pub use Rattle.rings.proofs.Vertices.Items.{has_cases, has_in_order, has_left, has_number, has_reversed, has_right, has_swapped, number_of}
-pub use Rattle.rings.proofs.Vertices.Items.{one_to_one, parts_at, reverse-cons}
+pub use Rattle.rings.proofs.Vertices.Items.{next_round, one_to_one, parts_at, reverse-cons}
 -- The edges along some points: points on them, and their ends.
 mod PointLists
-pub use Rattle.rings.proofs.Vertices.PointLists.{all_ends_along, first_on_along, last_on_along, member_on_along}
+pub use Rattle.rings.proofs.Vertices.PointLists.{all_ends_along, edges_along_append, first_on_along, last_on_along, member_on_along}
 -- Laws of lists of edges: appended lists, edges read backward, closed lists.
 mod Edges
 pub use Rattle.rings.proofs.Vertices.Edges.{AllEnds, all_ends_map, backward, closed_edges_of, growth-append, growth-edges_along, on_some_backward}
-pub use Rattle.rings.proofs.Vertices.Edges.{on_some_cases, on_some_left, on_some_right, on_some_same, reversed, sum_regrouped}
+pub use Rattle.rings.proofs.Vertices.Edges.{on_none_with, on_some_cases, on_some_left, on_some_right, on_some_same, reversed, sum_regrouped}
 -- The vertices of a ring by their numbers.
 mod Vertices
 pub use Rattle.rings.proofs.Vertices.Vertices.{vertex_in_range, vertex_mod, vertex_round}

@@ -3,14 +3,11 @@ use Rattle.std.proofs.Common.{◌≡◌, ◌⊎◌, ◌↔◌, inl, inr, refl, s
 use Rattle.std.proofs.Math.Nat.{add-mod_right}
 use Rattle.std.proofs.lemmas.Bool.{cases_lt}
 use Rattle.std.specs.Prelude.{slice_index_or}
-use Rattle.plane.proofs.Points.{whole_is_point}
-use Rattle.plane.proofs.Segments.{on_first_end}
-use Rattle.plane.specs.Point.{Point, whole}
-use Rattle.plane.specs.Segment.{On}
+use Rattle.plane.specs.Point.{Point}
 use Rattle.rings.proofs.Vertices.{vertex_round, one_to_one}
 use Rattle.rings.specs.Bend.{AreNeighbours}
 use Rattle.rings.specs.Ring.{origin, vertex}
-use Rattle.rings.specs.Simple.{Clash, IsSimple, SharesPoint}
+use Rattle.rings.specs.Simple.{IsSimple}
 use Rattle.rings.proofs.Simple.{apart_of_simple}
 
 module _ (ring : List Point) (three : 3 ≤ length ring) (simple : IsSimple ring) where

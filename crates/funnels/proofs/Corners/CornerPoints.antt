@@ -8,12 +8,11 @@ use Rattle.plane.specs.Point.{Point, whole}
 use Rattle.plane.specs.Turn.{determinant}
 use Rattle.rings.specs.Ring.{vertex}
 use Rattle.ring_laws.proofs.Triangles.{not_negative, on_first_side, on_second_side, on_third_side}
-use Rattle.meshes.proofs.Parts.{vertex_on_ring}
+use Rattle.meshes.proofs.Parts.{inside_off_edges, vertex_on_ring}
 use Rattle.meshes.specs.Fits.{FitsPiece, IsInTri, IsStrictlyInTri}
 use Rattle.meshes.specs.Side.{HasSide, tri_at}
 use Rattle.meshes.specs.declared.tri.Tri.{Tri}
 use Rattle.funnels.proofs.Corners.PieceEdges.{end_of_its_side}
-use Rattle.funnels.proofs.Vertices.{inside_off_edges}
 use Rattle.funnels.specs.Corner.{HasCornerOn}
 
 -- ---- a triangle by the numbers of its corners

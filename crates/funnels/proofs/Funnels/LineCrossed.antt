@@ -1,10 +1,9 @@
 -- A way from a point left of a line to one right of it crosses the line; weights of the points of a line.
-use Rattle.std.proofs.Common.{◌≡◌, ap, ℤ, pos, ◌+ℤ◌, ◌-ℤ◌, ◌*ℤ◌, neg_ℤ, ◌<ℤ◌, arith}
+use Rattle.std.proofs.Common.{◌≡◌, ap, ℤ, pos, ◌+ℤ◌, ◌-ℤ◌, ◌*ℤ◌, neg_ℤ, arith}
 use Rattle.std.proofs.lemmas.Int.{ints}
-use Rattle.integer_algebra.proofs.Laws.{mul_comm, neg-mul, zero-mul}
-use Rattle.integer_algebra.proofs.SignSteps.{one_positive, opposite_positive, weak}
-use Rattle.integer_algebra.proofs.Signs.{mul_negative, mul_positive}
-use Rattle.plane.proofs.Meetings.{no_value, weighed_sum, zero_point}
+use Rattle.integer_algebra.proofs.Laws.{neg-mul, zero-mul}
+use Rattle.integer_algebra.proofs.SignSteps.{one_positive, opposite_positive, weak, weak_order}
+use Rattle.plane.proofs.Meetings.{no_value, weighed_sum, zero_point, weights_apart}
 use Rattle.plane.proofs.Turns.{determinant_swap_first, four_triples, four_triples_in_W, linear, IsCombination, determinant_along}
 use Rattle.plane.proofs.Turns.{determinant_is_linear, on_of_combination}
 use Rattle.plane.specs.Point.{IsPoint, Triple}
@@ -12,10 +11,6 @@ use Rattle.plane.specs.Segment.{On}
 use Rattle.plane.specs.Turn.{IsLeft, IsRight, IsStraight, determinant}
 
 -- ---- where the way crosses the line
-
--- a positive multiple less a negative one is positive
-weights_apart : (f g v w : ℤ) → pos 0 <ℤ f → g <ℤ pos 0 → pos 0 <ℤ v → pos 0 <ℤ w → pos 0 <ℤ (f *ℤ w -ℤ g *ℤ v)
-weights_apart f g v w hf hg hv hw = omega (arith, ints, mul_positive f w hf hw, mul_negative v g hv hg, mul_comm v g)
 
 -- a point of the way from n to y on the line through a and b
 pub record OnLine (a b n y : Triple) : Type 0 where
@@ -30,7 +25,7 @@ on_line_between a b n y at_n at_y left right =
     let f = determinant a b n in
     let g = determinant a b y in
     let z = zero_point f g n y in
-    let at_z : IsPoint z = weights_apart f g n.W y.W left right at_n at_y in
+    let at_z : IsPoint z = weights_apart f g n.W y.W left (weak_order right) at_n at_y in
     let c : IsCombination z n y = record {
       k = pos 1;
       l = neg_ℤ g;

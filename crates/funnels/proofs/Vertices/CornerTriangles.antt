@@ -4,15 +4,14 @@ use Rattle.integer_algebra.proofs.SignSteps.{turned_positive}
 use Rattle.plane.proofs.Nearness.{left_toward, left_eventually, toward, toward_is_point, toward_on}
 use Rattle.plane.proofs.Points.{whole_is_point}
 use Rattle.plane.proofs.Turns.{determinant_same_ends, determinant_same_last, determinant_swap_first}
-use Rattle.plane.specs.Point.{IsPoint, Point, Triple, whole}
+use Rattle.plane.specs.Point.{Point, Triple, whole}
 use Rattle.plane.specs.Turn.{IsLeft, IsRight}
 use Rattle.rings.proofs.Vertices.{on_some_of}
 use Rattle.rings.specs.Bend.{AreNeighbours}
-use Rattle.rings.specs.Edge.{IsOnSome, edges_of}
+use Rattle.rings.specs.Edge.{edges_of}
 use Rattle.rings.specs.Ring.{vertex}
 use Rattle.ring_laws.proofs.Triangles.{left_at_first, left_at_last}
-use Rattle.meshes.proofs.Joins.{in_tri}
-use Rattle.meshes.proofs.Parts.{ring_apart, ring_long, region_off_edges, sides, inside_sides, left_of_sides}
+use Rattle.meshes.proofs.Parts.{inside_off_edges}
 use Rattle.meshes.specs.Fits.{FitsPiece, IsStrictlyInTri, piece_points}
 use Rattle.meshes.specs.Side.{HasSide, tri_at}
 use Rattle.meshes.specs.declared.tri.Tri.{Tri}
@@ -40,16 +39,6 @@ has_corners corners t left j i m last next =
     (record { left = left; strictly = λ y first second third. record { left_of_first = first; left_of_second = second; left_of_third = third } })
 
 -- ---- neighbours of a corner
-
--- a point strictly inside a triangle is on no edge of the ring
-pub inside_off_edges : (corners : List Point) (piece : List ℕ) (tris : List Tri) → FitsPiece corners piece tris → (k : ℕ) → k < length tris
-    → (y : Triple) → IsPoint y → IsStrictlyInTri corners (tri_at tris k) y → ¬ IsOnSome (edges_of (piece_points corners piece)) y
-inside_off_edges corners piece tris fits k within y at_y inside =
-    let t = tri_at tris k in
-    let ring = piece_points corners piece in
-    region_off_edges ring (ring_apart corners piece tris fits) (ring_long corners piece tris fits k within) (sides corners t)
-    (λ z at_z h. (fits.covers z at_z).1 (k, within, in_tri corners t z (inside_sides corners t z h)))
-    y at_y (left_of_sides corners t y inside)
 
 module _ (corners : List Point) (piece : List ℕ) (tris : List Tri) (fits : FitsPiece corners piece tris) (k i j m : ℕ)
     (within : k < length tris) (next : HasSide (tri_at tris k) i m) (last : HasSide (tri_at tris k) j i) where

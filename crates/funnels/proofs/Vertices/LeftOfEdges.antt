@@ -10,14 +10,13 @@ use Rattle.plane.specs.Turn.{IsLeft}
 use Rattle.rings.proofs.Crossings.{winding_law_crossed, right_swapped}
 use Rattle.rings.proofs.Inside.{not_in_from_even}
 use Rattle.rings.proofs.Simple.{proper_edges}
-use Rattle.rings.proofs.Vertices.{closed_edges_of, on_some_left, on_some_right, misses_between}
+use Rattle.rings.proofs.Vertices.{closed_edges_of, on_some_left, on_some_right, misses_between, on_none_with}
 use Rattle.rings.specs.Across.{CrossesRight, Misses}
 use Rattle.rings.specs.Apart.{IsApartRing}
 use Rattle.rings.specs.Edge.{Edge, HasEdge, IsClosed, IsOnSome, edges_of}
 use Rattle.rings.specs.Inside.{IsIn, winding}
 use Rattle.rings.specs.Winding.{WindsUpTo}
 use Rattle.ring_laws.proofs.Triangles.{crosses_near, left_of, left_of_is_left, off_others, other_edges}
-use Rattle.funnels.proofs.Vertices.RightOfEdges.{off_first}
 
 -- of two values 0 or -1 that differ by 1, the greater is 0
 greater_is_zero : (x y : ℤ) → x ≡ y +ℤ pos 1 → (x ≡ pos 0) ⊎ (x ≡ negsuc 0) → (y ≡ pos 0) ⊎ (y ≡ negsuc 0) → x ≡ pos 0
@@ -36,9 +35,9 @@ module _ (ring : List Point) (winds : WindsUpTo (negsuc 0) (edges_of ring)) (bef
       (winding_law_crossed p q at_p at_q before after e (subst IsClosed are (closed_edges_of ring))
       (λ z at_z on k. misses z at_z on (on_some_left z before after k))
       (λ z at_z on k. misses z at_z on (on_some_right z before after k)) c) in
-      let off_p = subst (λ es. ¬ IsOnSome es p) (sym are) (off_first before e after p
+      let off_p = subst (λ es. ¬ IsOnSome es p) (sym are) (on_none_with p before e after
       (left_not_on e.from e.to p at_p c.starts_left) (misses p at_p (on_first_end p q))) in
-      let off_q = subst (λ es. ¬ IsOnSome es q) (sym are) (off_first before e after q
+      let off_q = subst (λ es. ¬ IsOnSome es q) (sym are) (on_none_with q before e after
       (right_not_on e.from e.to q at_q c.ends_right) (misses q at_q (on_last_end p q))) in
       not_in_from_even ring p (pos 0) off_p (greater_is_zero _ _ law (winds p at_p off_p) (winds q at_q off_q))
 

@@ -1,6 +1,6 @@
 -- Right of an edge of a ring that runs counterclockwise: a point from which the way to a point strictly inside the edge meets no
 -- other edge is not in the ring.
-use Rattle.std.proofs.Common.{◌≡◌, inl, inr, sym, subst, ap, ◌∙◌, ℕ, ◌<◌, pos, ◌+ℤ◌, List, ◌∷◌, ◌++◌, length, arith}
+use Rattle.std.proofs.Common.{◌≡◌, sym, subst, ap, ◌∙◌, ℕ, ◌<◌, pos, ◌+ℤ◌, List, ◌∷◌, ◌++◌, length, arith}
 use Rattle.std.proofs.lemmas.Int.{ints}
 use Rattle.plane.proofs.Nearness.{toward, toward_differs, toward_is_point, toward_on}
 use Rattle.plane.proofs.Points.{whole_is_point}
@@ -11,7 +11,7 @@ use Rattle.plane.specs.Turn.{IsRight}
 use Rattle.rings.proofs.Crossings.{winding-append}
 use Rattle.rings.proofs.Inside.{not_in_from_even}
 use Rattle.rings.proofs.Simple.{proper_edges}
-use Rattle.rings.proofs.Vertices.{closed_edges_of, growth-append, on_some_cases, on_some_left, on_some_right}
+use Rattle.rings.proofs.Vertices.{closed_edges_of, growth-append, on_none_with}
 use Rattle.rings.specs.Across.{Misses}
 use Rattle.rings.specs.Apart.{IsApartRing}
 use Rattle.rings.specs.Edge.{Edge, HasEdge, IsClosed, IsOn, IsOnSome, edges_of}
@@ -63,16 +63,9 @@ module _ (before : List Edge) (e : Edge) (after : List Edge) where
   closed_first : IsClosed (before ++ e ∷ after) → IsClosed (e ∷ (before ++ after))
   closed_first closed g = omega (arith, ints, growth-append g before after, growth-append g before (e ∷ after), closed g)
 
-  -- it winds as before,
+  -- and it winds as before
   winding_first : (x : Triple) → winding (before ++ e ∷ after) x ≡ winding (e ∷ (before ++ after)) x
   winding_first x = omega (arith, ints, winding-append x before after, winding-append x before (e ∷ after))
-
-  -- and has the same points
-  pub off_first : (x : Triple) → ¬ IsOn e x → ¬ IsOnSome (before ++ after) x → ¬ IsOnSome (before ++ e ∷ after) x
-  off_first x not off on = elim (on_some_cases x before (e ∷ after) on) [
-    | inl k ↦ off (on_some_left x before after k)
-    | inr k ↦ elim k [ inl at ↦ not at | inr l ↦ off (on_some_right x before after l) ]
-  ]
 
 -- ---- right of an edge
 
@@ -98,9 +91,9 @@ module _ (ring : List Point) (apart : IsApartRing ring) (some : 1 < length ring)
       subst (λ fs. winding fs p ≡ winding fs q +ℤ pos 1) (sym rest.are)
       (winding_first rest.before e rest.after p ∙ falls ∙ ap (λ z. z +ℤ pos 1) (sym (winding_first rest.before e rest.after q))) in
       let off_p : ¬ IsOnSome (edges_of ring) p =
-      subst (λ fs. ¬ IsOnSome fs p) (sym rest.are) (off_first rest.before e rest.after p
+      subst (λ fs. ¬ IsOnSome fs p) (sym rest.are) (on_none_with p rest.before e rest.after
       (left_not_on e.from e.to p h.left_rational h.crosses.starts_left) (λ k. h.misses_left p h.left_rational (on_last_end m p) k)) in
       let off_q : ¬ IsOnSome (edges_of ring) q =
-      subst (λ fs. ¬ IsOnSome fs q) (sym rest.are) (off_first rest.before e rest.after q
+      subst (λ fs. ¬ IsOnSome fs q) (sym rest.are) (on_none_with q rest.before e rest.after
       (right_not_on e.from e.to q at_q right) (λ k. misses q at_q (on_last_end m q) k)) in
       not_in_from_even ring q (pos 0) off_q (smaller_is_zero _ _ law (winds p h.left_rational off_p) (winds q at_q off_q))

@@ -1,5 +1,5 @@
 -- The diagonal that cuts a piece in two is not an edge of it.
-use Rattle.std.proofs.Common.{◌≡◌, ◌⊎◌, inl, inr, sym, ap, subst, ◌∙◌, ℕ, suc, ◌+◌, ◌%◌, ◌<◌, List, length, arith}
+use Rattle.std.proofs.Common.{◌≡◌, ◌⊎◌, inl, inr, sym, ap, subst, ◌∙◌, ℕ, suc, ◌+◌, ◌%◌, ◌<◌, List, length, arith, refl, get_or}
 use Rattle.std.proofs.Math.Nat.{mod-eq_of_lt, mod_self}
 use Rattle.std.proofs.lemmas.Bool.{cases_lt}
 use Rattle.plane.specs.Point.{Point}
@@ -22,32 +22,33 @@ next_within p n h = elim (next_place p n h) [ inl k ↦ omega (arith, k.0, k.1) 
 
 module _ (corners : List Point) (v : ℕ) (ps : List ℕ) (z : ℕ) (qs : List ℕ) (simple : IsSimple (piece_points corners (both_parts v ps z qs)))
     (some_before : 0 < length ps) (some_after : 0 < length qs) where
-  -- no edge goes from v to z,
+  -- an edge between the numbers at two places goes from the one place to the other
+  edge_places : (p q i j : ℕ) → p < length (both_parts v ps z qs) → q < length (both_parts v ps z qs)
+      → get_or (both_parts v ps z qs) p 0 ≡ i → get_or (both_parts v ps z qs) q 0 ≡ j → (e : IsPieceEdge (both_parts v ps z qs) i j)
+      → (e.place ≡ p) × ((e.place + 1) % length (both_parts v ps z qs) ≡ q)
+  edge_places p q i j in_p in_q from to e =
+      let n = length (both_parts v ps z qs) in
+      let one = one_number corners (both_parts v ps z qs) simple in (
+        one e.place p e.in_piece in_p (e.from ∙ sym from),
+        one ((e.place + 1) % n) q (next_within e.place n e.in_piece) in_q (e.to ∙ sym to),
+      )
+
+  -- so none goes from v to z,
   not_from_first : (e : IsPieceEdge (both_parts v ps z qs) v z) → ⊥
   not_from_first e =
-      let n = length (both_parts v ps z qs) in
-      let one = one_number corners (both_parts v ps z qs) simple in
-      let from : e.place ≡ 0 = one e.place 0 e.in_piece (omega (arith, places v ps z qs)) e.from in
-      let to : (e.place + 1) % n ≡ suc (length ps) =
-      one ((e.place + 1) % n) (suc (length ps)) (next_within e.place n e.in_piece) (omega (arith, places v ps z qs))
-      (e.to ∙ sym (place_of_last v ps z qs)) in
-      elim (next_place e.place n e.in_piece) [
-        | inl k ↦ omega (arith, k.1, from, to)
-        | inr k ↦ omega (arith, k.1, from, to)
+      let at = edge_places 0 (suc (length ps)) v z (omega (arith, places v ps z qs)) (omega (arith, places v ps z qs)) refl (place_of_last v ps z qs) e in
+      elim (next_place e.place (length (both_parts v ps z qs)) e.in_piece) [
+        | inl k ↦ omega (arith, k.1, at.0, at.1)
+        | inr k ↦ omega (arith, k.1, at.0, at.1)
       ]
 
   -- and none from z to v
   not_from_last : (e : IsPieceEdge (both_parts v ps z qs) z v) → ⊥
   not_from_last e =
-      let n = length (both_parts v ps z qs) in
-      let one = one_number corners (both_parts v ps z qs) simple in
-      let from : e.place ≡ suc (length ps) =
-      one e.place (suc (length ps)) e.in_piece (omega (arith, places v ps z qs)) (e.from ∙ sym (place_of_last v ps z qs)) in
-      let to : (e.place + 1) % n ≡ 0 =
-      one ((e.place + 1) % n) 0 (next_within e.place n e.in_piece) (omega (arith, places v ps z qs)) e.to in
-      elim (next_place e.place n e.in_piece) [
-        | inl k ↦ omega (arith, k.1, from, to)
-        | inr k ↦ omega (arith, k.0, from, places v ps z qs)
+      let at = edge_places (suc (length ps)) 0 z v (omega (arith, places v ps z qs)) (omega (arith, places v ps z qs)) (place_of_last v ps z qs) refl e in
+      elim (next_place e.place (length (both_parts v ps z qs)) e.in_piece) [
+        | inl k ↦ omega (arith, k.1, at.0, at.1)
+        | inr k ↦ omega (arith, k.0, at.0, places v ps z qs)
       ]
 
   -- so the diagonal is no edge of the piece

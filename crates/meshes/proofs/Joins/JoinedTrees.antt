@@ -16,15 +16,10 @@ pub record IsBridge (P Q : ℕ → Type 0) (R : ℕ → ℕ → Type 0) (k l : �
 abbrev pub Both : (ℕ → Type 0) → (ℕ → Type 0) → ℕ → Type 0
 Both P Q a = P a ⊎ Q a
 
--- a path in the first is one in both,
-path_in_first : (P Q : ℕ → Type 0) (R : ℕ → ℕ → Type 0) (a : ℕ) (bs : List ℕ) (c : ℕ) → IsPath P R a bs c → IsPath (Both P Q) R a bs c
-path_in_first P Q R a [] c p = p
-path_in_first P Q R a (b ∷ bs) c p = (inl p.0, p.1, p.2, path_in_first P Q R b bs c p.3)
-
--- one in the second too
-path_in_second : (P Q : ℕ → Type 0) (R : ℕ → ℕ → Type 0) (a : ℕ) (bs : List ℕ) (c : ℕ) → IsPath Q R a bs c → IsPath (Both P Q) R a bs c
-path_in_second P Q R a [] c p = p
-path_in_second P Q R a (b ∷ bs) c p = (inr p.0, p.1, p.2, path_in_second P Q R b bs c p.3)
+-- a path is one where it may go further
+path_in : (P Q : ℕ → Type 0) (R : ℕ → ℕ → Type 0) → ((a : ℕ) → P a → Q a) → (a : ℕ) (bs : List ℕ) (c : ℕ) → IsPath P R a bs c → IsPath Q R a bs c
+path_in P Q R more a [] c p = p
+path_in P Q R more a (b ∷ bs) c p = (more b p.0, p.1, p.2, path_in P Q R more b bs c p.3)
 
 -- a path ends where it may go
 path_end : (P : ℕ → Type 0) (R : ℕ → ℕ → Type 0) (a : ℕ) (bs : List ℕ) (c : ℕ) → P a → IsPath P R a bs c → P c
@@ -49,7 +44,7 @@ module _ (P Q : ℕ → Type 0) (R : ℕ → ℕ → Type 0) (k l : ℕ) (b : Is
   -- a path to k and one from l are a path over the bridge
   path_over : (a : ℕ) (xs ys : List ℕ) (c : ℕ) → P a → IsPath P R a xs k → IsPath Q R l ys c → IsPath (Both P Q) R a (xs ++ l ∷ ys) c
   path_over a [] ys c at_a p q =
-      (inr b.far, subst (λ x. R x l) (sym p) b.joined, new_to_far a l ys c at_a b.far q, path_in_second P Q R l ys c q)
+      (inr b.far, subst (λ x. R x l) (sym p) b.joined, new_to_far a l ys c at_a b.far q, path_in Q (Both P Q) R (λ x h. inr h) l ys c q)
   path_over a (x ∷ xs) ys c at_a p q =
       (inl p.0, p.1, new_append a (x ∷ xs) (l ∷ ys) p.2 (new_to_far a l ys c at_a b.far q), path_over x xs ys c p.0 p.3 q)
 
@@ -96,7 +91,7 @@ module _ (P Q : ℕ → Type 0) (R : ℕ → ℕ → Type 0) (k l : ℕ) (b : Is
       let one = tree a c at_a at_c in
       record {
         path = one.path;
-        is_path = path_in_first P Q R a one.path c one.is_path;
+        is_path = path_in P (Both P Q) R (λ x h. inl h) a one.path c one.is_path;
         only = λ other p. elim (stays_or_over a other c at_a p) [
           | inl within ↦ one.only other within
           | inr over ↦ absurd (b.apart c at_c (path_end Q R l over.after c b.far over.from_bridge))

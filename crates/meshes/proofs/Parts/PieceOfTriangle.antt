@@ -50,7 +50,7 @@ module _ (corners : List Point) (t : Tri) where
 
 module _ (corners : List Point) (piece : List ℕ) (tris : List Tri) (fits : FitsPiece corners piece tris) where
   -- a point strictly inside a triangle is on no edge of the ring,
-  inside_off_edges : (n : ℕ) → n < length tris → (y : Triple) → IsPoint y → IsStrictlyInTri corners (tri_at tris n) y → ¬ IsOnSome (edges_of (piece_points corners piece)) y
+  pub inside_off_edges : (n : ℕ) → n < length tris → (y : Triple) → IsPoint y → IsStrictlyInTri corners (tri_at tris n) y → ¬ IsOnSome (edges_of (piece_points corners piece)) y
   inside_off_edges n within y at_y s =
       let t = tri_at tris n in
       region_off_edges (piece_points corners piece) (ring_apart corners piece tris fits) (ring_long corners piece tris fits n within) (sides corners t)

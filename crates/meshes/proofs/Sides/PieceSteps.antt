@@ -1,10 +1,9 @@
 -- The edges of a piece, as the steps along its numbers and back to the first.
-use Rattle.std.proofs.Common.{◌≡◌, ◌⊎◌, inl, inr, refl, sym, ap, subst, ◌∙◌, ℕ, zero, suc, ◌+◌, ◌%◌, ◌<◌, List, [], ◌∷◌, ◌++◌, length, get_or}
-use Rattle.std.proofs.Common.{add-one, arith}
-use Rattle.std.proofs.Math.Nat.{mod-eq_of_lt, mod_self}
-use Rattle.std.proofs.lemmas.Bool.{cases_lt, cases_eq}
-use Rattle.std.proofs.lemmas.List.{get_or_append_left, get_or_at}
+use Rattle.std.proofs.Common.{◌≡◌, ◌⊎◌, inl, inr, refl, sym, subst, ◌∙◌, ℕ, zero, suc, ◌+◌, ◌<◌, List, [], ◌∷◌, ◌++◌, length, get_or}
+use Rattle.std.proofs.Common.{arith}
+use Rattle.std.proofs.lemmas.Bool.{cases_eq}
 use Rattle.integer_algebra.proofs.Decisions.{both_or_not, either_or_not}
+use Rattle.rings.proofs.Vertices.{next_round}
 use Rattle.meshes.specs.Fits.{IsPieceEdge}
 use Rattle.meshes.specs.Side.{HasSide}
 use Rattle.meshes.specs.declared.tri.Tri.{Tri}
@@ -15,21 +14,6 @@ IsStep a [] last i j = (a ≡ i) × (last ≡ j)
 IsStep a (b ∷ bs) last i j = ((a ≡ i) × (b ≡ j)) ⊎ IsStep b bs last i j
 
 -- ---- steps and places
-
--- the number after that at a place, counted round
-next_is : (v : ℕ) (vs : List ℕ) (p : ℕ) → p < length (v ∷ vs)
-    → get_or (v ∷ vs) ((p + 1) % length (v ∷ vs)) 0 ≡ get_or (vs ++ v ∷ []) p 0
-next_is v vs p h = elim (cases_lt p (length vs)) [
-  | inl within ↦
-      ap (λ k. get_or (v ∷ vs) k 0) (mod-eq_of_lt (omega arith) ∙ add-one p)
-      ∙ sym (get_or_append_left vs (v ∷ []) 0 p within)
-  | inr past ↦
-      let end : length vs ≡ p = omega arith in
-      let round : p + 1 ≡ length (v ∷ vs) = omega arith in
-      ap (λ k. get_or (v ∷ vs) (k % length (v ∷ vs)) 0) round
-      ∙ ap (λ k. get_or (v ∷ vs) k 0) (mod_self (length (v ∷ vs)))
-      ∙ sym (get_or_at vs v [] 0 p end)
-]
 
 -- at each place a step begins
 step_at : (a : ℕ) (bs : List ℕ) (last p : ℕ) → p < length bs + 1 → IsStep a bs last (get_or (a ∷ bs) p 0) (get_or (bs ++ last ∷ []) p 0)
@@ -57,7 +41,7 @@ module _ (v : ℕ) (vs : List ℕ) (i j : ℕ) where
   -- an edge of a piece is a step along its numbers and back to the first,
   pub step_of_edge : IsPieceEdge (v ∷ vs) i j → IsStep v vs v i j
   step_of_edge e =
-      let to = sym (next_is v vs e.place e.in_piece) ∙ e.to in
+      let to = sym (next_round 0 v vs e.place e.in_piece) ∙ e.to in
       subst (λ x. IsStep v vs v x j) e.from
       (subst (λ y. IsStep v vs v (get_or (v ∷ vs) e.place 0) y) to (step_at v vs v e.place (omega (arith, e.in_piece))))
 
@@ -66,7 +50,7 @@ module _ (v : ℕ) (vs : List ℕ) (i j : ℕ) where
   edge_of_step s =
       let at = place_of v vs v i j s in
       let within : at.place < length (v ∷ vs) = omega (arith, at.within) in
-      record { place = at.place; in_piece = within; from = at.from; to = next_is v vs at.place within ∙ at.to }
+      record { place = at.place; in_piece = within; from = at.from; to = next_round 0 v vs at.place within ∙ at.to }
 
 -- ---- steps along two lists
 

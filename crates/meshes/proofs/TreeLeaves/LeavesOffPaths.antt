@@ -69,7 +69,7 @@ module _ (n : ℕ) (R : ℕ → ℕ → Type 0) (turn : (a b : ℕ) → R a b �
         }
         | inr old ↦
             let most : (k : ℕ) → length f.path ≤ k → length one.path ≤ k → (d : ℕ) → d < suc m → (other : List ℕ)
-                → IsPath P R d other c → ¬ IsNew x (d ∷ other) → length other ≤ k =
+            → IsPath P R d other c → ¬ IsNew x (d ∷ other) → length other ≤ k =
             λ k first second d h other p q. elim (cases_lt d m) [
               | inl less ↦ omega (arith, f.most d less other p q)
               | inr more ↦ omega (arith, as_long n R turn tree c d m at_c at_m (omega arith) other p)

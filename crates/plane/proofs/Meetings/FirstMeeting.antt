@@ -35,7 +35,7 @@ pub weighed_sum : (f g x y : ℤ) → pos 1 *ℤ (f *ℤ y -ℤ g *ℤ x) ≡ ne
 weighed_sum f g x y = omega (arith, ints, neg-mul g x)
 
 -- a positive multiple less one that is not is positive
-weights_apart : (f g v w : ℤ) → pos 0 <ℤ f → g ≤ℤ pos 0 → pos 0 <ℤ v → pos 0 <ℤ w → pos 0 <ℤ (f *ℤ w -ℤ g *ℤ v)
+pub weights_apart : (f g v w : ℤ) → pos 0 <ℤ f → g ≤ℤ pos 0 → pos 0 <ℤ v → pos 0 <ℤ w → pos 0 <ℤ (f *ℤ w -ℤ g *ℤ v)
 weights_apart f g v w hf hg hv hw = omega (arith, ints, mul_positive f w hf hw, mul_nonpositive v g (weak hv) hg, mul_comm v g)
 
 -- the functional is 0 where its values at the ends are their own weights

@@ -82,25 +82,21 @@ module _ (v : Point) (ps : List Point) (z : Point) (qs : List Point) (apart : Is
         in_if_wound w.s w.unit (v ∷ (ps ++ z ∷ qs)) x (sum_is w.s _ _ _ w.unit (winding_cut v ps z qs x ∙ omega (arith, ints))
         (w.whole_winds x at (off_ring x off_p off_q)) (w.first_winds x at off_p) (wound w.s (v ∷ z ∷ qs) w.second_winds x at off_q h))
 
-    -- a point of the first piece is in the ring,
-    pub in_ring_from_first : IsIn (v ∷ (ps ++ z ∷ [])) x → IsIn (v ∷ (ps ++ z ∷ qs)) x
-    in_ring_from_first h = elim (on_some_or_not (edges_of (v ∷ (ps ++ z ∷ []))) x at) [
+    -- a point is in the ring where it is on an edge of a piece, and where it is off them and in the ring
+    in_ring_if : (¬ IsOnSome (edges_of (v ∷ (ps ++ z ∷ []))) x → ¬ IsOnSome (edges_of (v ∷ z ∷ qs)) x → IsIn (v ∷ (ps ++ z ∷ qs)) x)
+        → IsIn (v ∷ (ps ++ z ∷ qs)) x
+    in_ring_if off = elim (on_some_or_not (edges_of (v ∷ (ps ++ z ∷ []))) x at) [
       | inl on ↦ on_first_in on
-      | inr off_p ↦ elim (on_some_or_not (edges_of (v ∷ z ∷ qs)) x at) [
-        | inl on ↦ on_second_in on
-        | inr off_q ↦ off_first_in off_p off_q h
-      ]
+      | inr off_p ↦ elim (on_some_or_not (edges_of (v ∷ z ∷ qs)) x at) [ inl on ↦ on_second_in on | inr off_q ↦ off off_p off_q ]
     ]
+
+    -- so a point of the first piece is in the ring,
+    pub in_ring_from_first : IsIn (v ∷ (ps ++ z ∷ [])) x → IsIn (v ∷ (ps ++ z ∷ qs)) x
+    in_ring_from_first h = in_ring_if (λ off_p off_q. off_first_in off_p off_q h)
 
     -- and so is one of the second
     pub in_ring_from_second : IsIn (v ∷ z ∷ qs) x → IsIn (v ∷ (ps ++ z ∷ qs)) x
-    in_ring_from_second h = elim (on_some_or_not (edges_of (v ∷ (ps ++ z ∷ []))) x at) [
-      | inl on ↦ on_first_in on
-      | inr off_p ↦ elim (on_some_or_not (edges_of (v ∷ z ∷ qs)) x at) [
-        | inl on ↦ on_second_in on
-        | inr off_q ↦ off_second_in off_p off_q h
-      ]
-    ]
+    in_ring_from_second h = in_ring_if (λ off_p off_q. off_second_in off_p off_q h)
 
     -- ---- in both pieces
 

@@ -4,7 +4,7 @@ use Rattle.plane.proofs.Segments.{on_last_end, left_not_on, right_not_on}
 use Rattle.plane.specs.Point.{IsPoint, IsSame, Point, Triple, whole}
 use Rattle.rings.proofs.Crossings.{winding_law, winding_law_crossed}
 use Rattle.rings.proofs.Simple.{proper_edges}
-use Rattle.rings.proofs.Vertices.{closed_edges_of, on_some_cases, on_some_left, on_some_right}
+use Rattle.rings.proofs.Vertices.{closed_edges_of, on_some_cases, on_some_left, on_some_right, on_none_with}
 use Rattle.rings.specs.Across.{Misses}
 use Rattle.rings.specs.Apart.{IsApartRing}
 use Rattle.rings.specs.Edge.{Edge, HasEdge, IsClosed, IsOn, IsOnSome, edges_of}
@@ -12,16 +12,6 @@ use Rattle.rings.specs.Inside.{winding}
 use Rattle.rings.specs.Winding.{WindsUpTo}
 use Rattle.ring_laws.proofs.Ears.{IsUnit, no_units}
 use Rattle.ring_laws.proofs.Triangles.{BesideEdge, beside_edge, InsideNear, inside_near, off_others, other_edges}
-
--- ---- numbers
-
-module _ (before : List Edge) (e : Edge) (after : List Edge) (x : Triple) where
-  -- a point on no edge but perhaps one, and not on that one, is on no edge
-  off_all : ¬ IsOnSome (before ++ after) x → ¬ IsOn e x → ¬ IsOnSome (before ++ e ∷ after) x
-  off_all off not on = elim (on_some_cases x before (e ∷ after) on) [
-    | inl k ↦ off (on_some_left x before after k)
-    | inr k ↦ elim k [ inl at ↦ not at | inr l ↦ off (on_some_right x before after l) ]
-  ]
 
 -- ---- a list that is made of two
 
@@ -58,14 +48,14 @@ module _ (s : ℤ) (unit : IsUnit s) (es xs ys : List Edge) (sum : (x : Triple) 
       misses_xs q misses z at_z way k = misses z at_z way (among_last z k)
 
       left_off : ¬ IsOnSome es h.left
-      left_off = subst (λ fs. ¬ IsOnSome fs h.left) (sym are) (off_all before e after h.left
-          (λ k. h.misses_left h.left h.left_rational (on_last_end x h.left) (among_first h.left k))
-          (left_not_on e.from e.to h.left h.left_rational h.crosses.starts_left))
+      left_off = subst (λ fs. ¬ IsOnSome fs h.left) (sym are) (on_none_with h.left before e after
+          (left_not_on e.from e.to h.left h.left_rational h.crosses.starts_left)
+          (λ k. h.misses_left h.left h.left_rational (on_last_end x h.left) (among_first h.left k)))
 
       right_off : ¬ IsOnSome es h.right
-      right_off = subst (λ fs. ¬ IsOnSome fs h.right) (sym are) (off_all before e after h.right
-          (λ k. h.misses_right h.right h.right_rational (on_last_end x h.right) (among_first h.right k))
-          (right_not_on e.from e.to h.right h.right_rational h.crosses.ends_right))
+      right_off = subst (λ fs. ¬ IsOnSome fs h.right) (sym are) (on_none_with h.right before e after
+          (right_not_on e.from e.to h.right h.right_rational h.crosses.ends_right)
+          (λ k. h.misses_right h.right h.right_rational (on_last_end x h.right) (among_first h.right k)))
 
 module _ (ring : List Point) (apart : IsApartRing ring) (some : 1 < length ring) (s : ℤ) (unit : IsUnit s) (xs ys : List Edge)
     (sum : (x : Triple) → winding (edges_of ring) x ≡ winding xs x +ℤ winding ys x) (closed_xs : IsClosed xs)

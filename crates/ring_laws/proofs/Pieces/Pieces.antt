@@ -4,10 +4,9 @@ use Rattle.std.proofs.lemmas.Int.{ints}
 use Rattle.std.proofs.lemmas.List.{append_assoc}
 use Rattle.plane.specs.Point.{Point, Triple}
 use Rattle.rings.proofs.Crossings.{winding-append, crossing_reversed}
-use Rattle.rings.proofs.Inside.{edges_along_append}
 use Rattle.rings.proofs.Turned.{swept-append}
 use Rattle.rings.proofs.Vertices.{apart_among, apart_more, meet_reversed, AreDistinct, distinct_left, distinct_right, distinct_vertices}
-use Rattle.rings.proofs.Vertices.{vertices_differ, has_cases, has_left, has_right, has_swapped, edge_with, on_some_of}
+use Rattle.rings.proofs.Vertices.{vertices_differ, has_cases, has_left, has_right, has_swapped, edge_with, on_some_of, edges_along_append}
 use Rattle.rings.specs.Apart.{IsApartRing, MeetAtEnds}
 use Rattle.rings.specs.Edge.{Edge, HasEdge, IsOnSome, edges_along, edges_of}
 use Rattle.rings.specs.Inside.{winding}

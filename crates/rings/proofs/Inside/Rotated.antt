@@ -8,7 +8,7 @@ use Rattle.plane.specs.Point.{Point, Triple, whole}
 use Rattle.plane.specs.Turn.{determinant}
 use Rattle.rings.proofs.Crossings.{crossings-append, winding-append}
 use Rattle.rings.proofs.Turned.{swept-append}
-use Rattle.rings.proofs.Vertices.{distinct_swapped, distinct_vertices, vertices_differ, growth-append, has_swapped, on_some_among, vertex_in_range}
+use Rattle.rings.proofs.Vertices.{distinct_swapped, distinct_vertices, vertices_differ, growth-append, has_swapped, on_some_among, vertex_in_range, edges_along_append}
 use Rattle.rings.specs.Apart.{IsApartRing}
 use Rattle.rings.specs.Edge.{Edge, HasEdge, IsClosed, IsOnSome, edges_along, edges_of}
 use Rattle.rings.specs.Inside.{IsIn, crossings, winding}
@@ -39,12 +39,6 @@ module _ (es fs : List Edge) where
   closed_swapped closed g = omega (arith, ints, growth-append g es fs, growth-append g fs es, closed g)
 
 -- ---- edges
-
--- the edges along points with x among them are those up to x and those from x on
-pub edges_along_append : (v : Point) (ws : List Point) (x : Point) (xs : List Point) (last : Point)
-    → edges_along v (ws ++ x ∷ xs) last ≡ edges_along v ws x ++ edges_along x xs last
-edges_along_append v [] x xs last = refl
-edges_along_append v (w ∷ ws) x xs last = ap (λ es. record { from = v; to = w } ∷ es) (edges_along_append w ws x xs last)
 
 -- the edges of a ring and of the rotated ring, as two lists in both orders
 record InTwoOrders (ps qs : List Point) : Type 0 where

@@ -4,7 +4,7 @@ use Rattle.std.proofs.lemmas.Bool.{cases_lt}
 use Rattle.std.proofs.lemmas.List.{get_or-reverse, length-reverse, reverse-reverse}
 use Rattle.std.specs.Prelude.{slice_index_or}
 use Rattle.plane.specs.Point.{Point}
-use Rattle.rings.proofs.Vertices.{backward, reverse-cons, vertex_in_range, vertex_round}
+use Rattle.rings.proofs.Vertices.{backward, reverse-cons, vertex_in_range, vertex_round, edges_along_append}
 use Rattle.rings.specs.Edge.{Edge, edges_along, edges_of}
 use Rattle.rings.specs.Orientation.{turned_round}
 use Rattle.rings.specs.Ring.{origin, vertex}
@@ -23,19 +23,13 @@ turned_round-turned_round (v ∷ vs) = ap (λ ws. v ∷ ws) (reverse-reverse vs)
 
 -- ---- edges
 
--- one more point on the way is one more edge
-edges_along_push : (v : Point) (ws : List Point) (x last : Point)
-    → edges_along v (ws ++ x ∷ []) last ≡ edges_along v ws x ++ record { from = x; to = last } ∷ []
-edges_along_push v [] x last = refl
-edges_along_push v (w ∷ ws) x last = ap (λ es. record { from = v; to = w } ∷ es) (edges_along_push w ws x last)
-
 -- the way back
 edges_along-reverse : (v : Point) (ws : List Point) (last : Point) → edges_along last (reverse ws) v ≡ reverse (backward (edges_along v ws last))
 edges_along-reverse v [] last = refl
 edges_along-reverse v (w ∷ ws) last =
     let e : Edge = record { from = w; to = v } in
     ap (λ us. edges_along last us v) (reverse-cons w ws)
-    ∙ edges_along_push last (reverse ws) w v
+    ∙ edges_along_append last (reverse ws) w [] v
     ∙ ap (λ es. es ++ e ∷ []) (edges_along-reverse w ws last)
     ∙ sym (reverse-cons e (backward (edges_along w ws last)))
 

@@ -3,7 +3,7 @@ use Rattle.std.proofs.Common.{◌≡◌, ◌⊎◌, inl, inr, refl, ap, ◌∙�
 use Rattle.std.proofs.lemmas.Int.{ints}
 use Rattle.plane.proofs.Segments.{on_reversed, on_same_point}
 use Rattle.plane.specs.Point.{IsPoint, IsSame, Point, Triple, whole}
-use Rattle.rings.specs.Edge.{Edge, IsClosed, IsOnSome, edges_along, edges_of, growth}
+use Rattle.rings.specs.Edge.{Edge, IsClosed, IsOnSome, edges_along, edges_of, growth, IsOn}
 
 -- the edge read backward
 abbrev pub reversed : Edge → Edge
@@ -38,6 +38,15 @@ module _ (p : Triple) where
   on_some_cases [] fs h = inr h
   on_some_cases (e ∷ es) fs (inl h) = inl (inl h)
   on_some_cases (e ∷ es) fs (inr h) = elim (on_some_cases es fs h) [ inl k ↦ inl (inr k) | inr k ↦ inr k ]
+
+  -- a point on no edge but perhaps one, and not on that one, is on none
+  pub on_none_with : (before : List Edge) (e : Edge) (after : List Edge) → ¬ IsOn e p → ¬ IsOnSome (before ++ after) p
+      → ¬ IsOnSome (before ++ e ∷ after) p
+  on_none_with before e after not off on = elim (on_some_cases before (e ∷ after) on) [
+    | inl k ↦ off (on_some_left before after k)
+    | inr (inl at) ↦ not at
+    | inr (inr k) ↦ off (on_some_right before after k)
+  ]
 
   -- a point on an edge is on it read backward
   pub on_some_backward : (es : List Edge) → IsOnSome es p → IsOnSome (backward es) p

@@ -1,40 +1,21 @@
 -- The edges of a ring by their numbers: edge i goes from vertex i to the next.
-use Rattle.std.proofs.Common.{◌≡◌, ◌⊎◌, inl, inr, refl, sym, subst, ap, ◌∙◌, ℕ, zero, suc, ◌+◌, ◌<◌, add-one, arith, cond, List, [], ◌∷◌}
+use Rattle.std.proofs.Common.{◌≡◌, ◌⊎◌, inl, inr, refl, sym, subst, ap, ◌∙◌, ℕ, zero, suc, ◌+◌, ◌<◌, arith, cond, List, [], ◌∷◌}
 use Rattle.std.proofs.Common.{◌++◌, length, get_or, take}
-use Rattle.std.proofs.Math.Nat.{mod-eq_of_lt}
-use Rattle.std.proofs.lemmas.Bool.{cases_lt}
-use Rattle.std.proofs.lemmas.List.{get_or_append_left, get_or_at, take_all, take_more}
+use Rattle.std.proofs.lemmas.List.{take_all, take_more}
 use Rattle.std.proofs.lemmas.List.Sums.{sum_by_push}
 use Rattle.std.specs.Prelude.{◌↔◌}
 use Rattle.plane.specs.Point.{Point, Triple, whole}
 use Rattle.plane.specs.Segment.{On}
 use Rattle.rings.proofs.Vertices.Edges.{on_some_cases, on_some_left, on_some_right}
-use Rattle.rings.proofs.Vertices.Vertices.{vertex_in_range, vertex_round}
+use Rattle.rings.proofs.Vertices.Vertices.{vertex_in_range}
 use Rattle.rings.specs.Edge.{Edge, IsOnSome, edges_along, edges_of}
 use Rattle.rings.specs.Inside.{crossings, is_crossed}
 use Rattle.rings.specs.Ring.{IsOnEdge, origin, vertex}
+use Rattle.rings.proofs.Vertices.Items.{next_round}
 
 -- edge i, counted round
 abbrev pub edge_at : List Point → ℕ → Edge
 edge_at ring i = record { from = vertex ring i; to = vertex ring (i + 1) }
-
--- ---- vertices
-
--- after the last vertex comes the first
-round : (v : Point) (vs : List Point) → vertex (v ∷ vs) (length (v ∷ vs)) ≡ v
-round v vs = vertex_round (v ∷ vs) (omega arith) ∙ vertex_in_range (v ∷ vs) 0 origin (omega arith)
-
--- the vertex after vertex i
-next_is : (v : Point) (vs : List Point) (i : ℕ) → i < length (v ∷ vs) → vertex (v ∷ vs) (i + 1) ≡ get_or (vs ++ v ∷ []) i origin
-next_is v vs i h = elim (cases_lt i (length vs)) [
-  | inl within ↦
-      ap (λ k. get_or (v ∷ vs) k origin) (mod-eq_of_lt (omega arith) ∙ add-one i)
-      ∙ sym (get_or_append_left vs (v ∷ []) origin i within)
-  | inr past ↦
-      let end : length vs ≡ i = omega arith in
-      let end_of_ring : i + 1 ≡ length (v ∷ vs) = omega arith in
-      ap (λ k. vertex (v ∷ vs) k) end_of_ring ∙ round v vs ∙ sym (get_or_at vs v [] origin i end)
-]
 
 -- ---- edges
 
@@ -61,7 +42,7 @@ pub get_or-edges_of : (ring : List Point) (i : ℕ) (d : Edge) → i < length ri
 get_or-edges_of [] i d h = absurd (omega arith)
 get_or-edges_of (v ∷ vs) i d h =
     get_or-edges_along v vs v i d origin (omega arith)
-    ∙ (λ k. record { from = sym (vertex_in_range (v ∷ vs) i origin h) k; to = sym (next_is v vs i h) k })
+    ∙ (λ k. record { from = sym (vertex_in_range (v ∷ vs) i origin h) k; to = sym (next_round origin v vs i h) k })
 
 -- ---- points on edges
 

@@ -1,7 +1,8 @@
 -- The items of a list, of appended lists and of a list in the other order, and their numbers.
-use Rattle.std.proofs.Common.{◌≡◌, ◌⊎◌, inl, inr, refl, subst, ℕ, zero, suc, ◌<◌, List, [], ◌∷◌, ◌++◌, length, get_or, reverse, arith, sym, ap}
-use Rattle.std.proofs.lemmas.List.{reverse-append, reverse-reverse}
-use Rattle.std.proofs.lemmas.Bool.{cases_order}
+use Rattle.std.proofs.Common.{◌≡◌, ◌⊎◌, inl, inr, refl, subst, ℕ, zero, suc, ◌<◌, List, [], ◌∷◌, ◌++◌, length, get_or, reverse, arith, sym, ap, ◌∙◌, ◌+◌, ◌%◌, add-one}
+use Rattle.std.proofs.lemmas.List.{reverse-append, reverse-reverse, get_or_append_left, get_or_at}
+use Rattle.std.proofs.lemmas.Bool.{cases_order, cases_lt}
+use Rattle.std.proofs.Math.Nat.{mod-eq_of_lt, mod_self}
 use Rattle.rings.specs.Edge.{Has}
 
 -- read backward, a list has its first item last
@@ -67,4 +68,19 @@ one_to_one item n differ i j h k same = elim (cases_order i j) [
   | inl e ↦ e
   | inr (inl less) ↦ absurd (differ i j less k same)
   | inr (inr less) ↦ absurd (differ j i less h (sym same))
+]
+
+-- the item after item i, counted round
+pub next_round : {X : Type 0} (d v : X) (vs : List X) (i : ℕ) → i < length (v ∷ vs)
+    → get_or (v ∷ vs) ((i + 1) % length (v ∷ vs)) d ≡ get_or (vs ++ v ∷ []) i d
+next_round d v vs i h = elim (cases_lt i (length vs)) [
+  | inl within ↦
+      ap (λ k. get_or (v ∷ vs) k d) (mod-eq_of_lt (omega arith) ∙ add-one i)
+      ∙ sym (get_or_append_left vs (v ∷ []) d i within)
+  | inr past ↦
+      let end : length vs ≡ i = omega arith in
+      let round : i + 1 ≡ length (v ∷ vs) = omega arith in
+      ap (λ k. get_or (v ∷ vs) (k % length (v ∷ vs)) d) round
+      ∙ ap (λ k. get_or (v ∷ vs) k d) (mod_self (length (v ∷ vs)))
+      ∙ sym (get_or_at vs v [] d i end)
 ]

@@ -1,10 +1,16 @@
 -- The edges along some points: points on them, and their ends.
-use Rattle.std.proofs.Common.{inl, inr, [], ◌∷◌, refl, subst, List}
+use Rattle.std.proofs.Common.{inl, inr, [], ◌∷◌, refl, subst, List, ◌≡◌, ◌++◌, ap}
 use Rattle.plane.proofs.Segments.{on_first_end, on_last_end}
 use Rattle.plane.specs.Point.{Point, whole}
 use Rattle.rings.proofs.Vertices.DistinctPoints.{HasPoint}
 use Rattle.rings.proofs.Vertices.Edges.{AllEnds}
 use Rattle.rings.specs.Edge.{IsOnSome, edges_along}
+
+-- the edges along points with x among them are those up to x and those from x on
+pub edges_along_append : (v : Point) (ws : List Point) (x : Point) (xs : List Point) (last : Point)
+    → edges_along v (ws ++ x ∷ xs) last ≡ edges_along v ws x ++ edges_along x xs last
+edges_along_append v [] x xs last = refl
+edges_along_append v (w ∷ ws) x xs last = ap (λ es. record { from = v; to = w } ∷ es) (edges_along_append w ws x xs last)
 
 -- the first point is on the edges,
 pub first_on_along : (a : Point) (bs : List Point) (last : Point) → IsOnSome (edges_along a bs last) (whole a)
