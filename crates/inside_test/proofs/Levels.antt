@@ -7,7 +7,6 @@ use Rattle.std.specs.Ordering.{int_cmp, ordering_then}
 use Rattle.std.specs.declared.cmp.Ordering.{Ordering}
 use Rattle.integer_algebra.proofs.Polynomial.{var, lit, ◌⊖◌, ◌⊗◌, same_value}
 use Rattle.integer_algebra.proofs.Signs.{comparison, is_above, is_below, is_equal, mul_nonnegative}
-use Rattle.plane.specs.Point.{IsInLimit}
 use Rattle.inside_test.specs.Level.{IsLevel}
 
 -- q is the quotient of a number by w, rounded down, and r the remainder
@@ -66,26 +65,3 @@ level_is part w q r floor at_floor h floor_is at_is z small = elim (comparison z
       ap (λ o. ordering_then o at_floor) (sym (int_cmp_is z floor Greater more))
       ∙ int_cmp_is (z *ℤ w) part Greater (omega (arith, ints, h.whole, h.small, h.positive))
 ]
-
--- ---- two coordinates on one side of the floor
-
-module _ (floor part w : ℤ) (at_floor : Ordering) (level : IsLevel floor at_floor part w) (z : ℤ) (small : IsInLimit z) where
-  -- below it they are less than the number,
-  below_floor : z <ℤ floor → Less ≡ int_cmp (z *ℤ w) part
-  below_floor h = ap (λ o. ordering_then o at_floor) (int_cmp_is z floor Less h) ∙ level z small
-
-  -- above it greater
-  above_floor : floor <ℤ z → Greater ≡ int_cmp (z *ℤ w) part
-  above_floor h = ap (λ o. ordering_then o at_floor) (int_cmp_is z floor Greater h) ∙ level z small
-
--- both by one answer
-pub both_compare : (floor a b part w : ℤ) (at_floor side : Ordering) → IsLevel floor at_floor part w → IsInLimit a → IsInLimit b
-    → (side ≡ Less → (a <ℤ floor) × (b <ℤ floor)) → (side ≡ Greater → (floor <ℤ a) × (floor <ℤ b)) → ¬ (side ≡ Equal)
-    → (side ≡ int_cmp (a *ℤ w) part) × (side ≡ int_cmp (b *ℤ w) part)
-both_compare floor a b part w at_floor Less level small_a small_b less greater apart =
-    let h = less refl in
-    (below_floor floor part w at_floor level a small_a h.0, below_floor floor part w at_floor level b small_b h.1)
-both_compare floor a b part w at_floor Equal level small_a small_b less greater apart = absurd (apart refl)
-both_compare floor a b part w at_floor Greater level small_a small_b less greater apart =
-    let h = greater refl in
-    (above_floor floor part w at_floor level a small_a h.0, above_floor floor part w at_floor level b small_b h.1)

@@ -1,31 +1,17 @@
 -- The turn at an edge that rises past a height with both ends on one side of a point.
-use Rattle.std.proofs.Common.{◌≡◌, inl, inr, Bool, true, false, Less, Equal, Greater, [], ◌∷◌, refl, sym, ap, ◌∙◌, zero, suc, ℤ, pos, negsuc, ◌-ℤ◌, ◌*ℤ◌, neg_ℤ, ◌<ℤ◌, ◌≤ℤ◌, IsTrue, arith}
-use Rattle.std.proofs.lemmas.Cmp.{int_ranked}
+use Rattle.std.proofs.Common.{◌≡◌, [], ◌∷◌, refl, sym, ap, ◌∙◌, zero, suc, ℤ, pos, negsuc, ◌-ℤ◌, ◌*ℤ◌, neg_ℤ, ◌<ℤ◌, ◌≤ℤ◌, IsTrue, arith}
 use Rattle.std.proofs.lemmas.Int.{ints}
 use Rattle.std.specs.Int.Signed.{le_z, lt_z}
-use Rattle.std.specs.Ordering.{int_cmp}
-use Rattle.std.specs.Prelude.{◌&&◌, ◌||◌, ◌⊎◌}
-use Rattle.std.specs.declared.cmp.Ordering.{Ordering}
+use Rattle.std.specs.Prelude.{◌&&◌}
 use Rattle.integer_algebra.proofs.Polynomial.{var, lit, ◌⊖◌, ◌⊗◌, same_value}
 use Rattle.integer_algebra.proofs.Signs.{factor_negative, factor_positive, mul_nonpositive, mul_nonpositives, mul_positive}
 use Rattle.plane.proofs.Turns.{determinant_swap_first, written_determinant}
 use Rattle.plane.specs.Point.{IsPoint, Point, Triple, whole}
-use Rattle.plane.proofs.Points.{whole_is_point}
-use Rattle.plane.specs.Order.{LiesBetween}
-use Rattle.plane.specs.Segment.{On}
 use Rattle.plane.specs.Turn.{determinant}
-use Rattle.rings.specs.Edge.{Edge}
-use Rattle.rings.specs.Inside.{is_crossed}
-use Rattle.inside_test.proofs.CrossedEdges.{between_from_on, crossed_from_left, crossed_from_right}
 use Rattle.exact_plane.proofs.Directions.{left_of_positive, right_of_negative}
 use Rattle.exact_plane.specs.Direction.{direction_of, opposite, turn_of}
 use Rattle.exact_plane.specs.declared.direction.Direction.TheVariants.{Left, Right}
 use Rattle.inside_test.specs.Level.{rises}
-
--- a test holds or fails
-cases_bool : (b : Bool) → (b ≡ true) ⊎ (b ≡ false)
-cases_bool true = inl refl
-cases_bool false = inr refl
 
 -- ---- signs of x t - y s, where y is not positive and t is
 
@@ -99,72 +85,5 @@ direction_opposite (pos (suc n)) = refl
 direction_opposite (negsuc n) = refl
 
 -- the turn at an edge read backward
-turn_backward : (a b p : Triple) → turn_of a b p ≡ opposite (turn_of b a p)
-turn_backward a b p = ap direction_of (determinant_swap_first b a p) ∙ direction_opposite (determinant b a p)
-
--- ---- an edge with both ends on one side of a point
-
--- tests of two heights that fail both
-neither_past : (rise fall left right : Bool) → rise ≡ false → fall ≡ false → ((rise && left) || (fall && right)) ≡ false
-neither_past rise fall left right e f = rw (e, f) refl
-
--- an edge does not both rise and fall past a height
-one_way : (a b y : ℤ) → (le_z a y && lt_z y b) ≡ true → (le_z b y && lt_z y a) ≡ false
-one_way a b y h = grind (arith, ints)
-
--- a disjunction, by the first or the second
-or_first : (rise fall : Bool) → rise ≡ true → (rise || fall) ≡ true
-or_first rise fall e = rw e refl
-
-or_second : (rise fall : Bool) → fall ≡ true → fall ≡ true → rise ≡ false → (rise || fall) ≡ true
-or_second rise fall e f h = rw (h, e) refl
-
-module _ (e : Edge) (p : Triple) (at_p : IsPoint p) where
-  -- it is crossed as it passes the height, where it is right of the point,
-  pub crossed_right_of : Greater ≡ int_cmp (e.from.x *ℤ p.W) p.X → Greater ≡ int_cmp (e.to.x *ℤ p.W) p.X
-      → is_crossed e p ≡ (rises e.from e.to p || rises e.to e.from p)
-  crossed_right_of from to =
-      let first = int_ranked _ _ Greater from in
-      let last = int_ranked _ _ Greater to in
-      elim (cases_bool (rises e.from e.to p)) [
-        | inl up ↦
-            crossed_from_left e p (sym (left_of_rise e.from e.to p at_p up first last)) ∙ up ∙ sym (or_first _ _ up)
-        | inr level ↦ elim (cases_bool (rises e.to e.from p)) [
-          | inl down ↦
-              crossed_from_right e p (turn_backward (whole e.from) (whole e.to) p ∙ ap opposite (sym (left_of_rise e.to e.from p at_p down last first)))
-              ∙ down ∙ sym (or_second _ _ down down level)
-          | inr flat ↦ neither_past _ _ _ _ level flat ∙ sym (rw (level, flat) refl)
-        ]
-      ]
-
-  -- and not where it is left of it
-  pub not_crossed_left_of : Less ≡ int_cmp (e.from.x *ℤ p.W) p.X → Less ≡ int_cmp (e.to.x *ℤ p.W) p.X → is_crossed e p ≡ false
-  not_crossed_left_of from to =
-      let first = int_ranked _ _ Less from in
-      let last = int_ranked _ _ Less to in
-      elim (cases_bool (rises e.from e.to p)) [
-        | inl up ↦
-            crossed_from_right e p (sym (right_of_rise e.from e.to p at_p up first last)) ∙ one_way (e.from.y *ℤ p.W) (e.to.y *ℤ p.W) p.Y up
-        | inr level ↦ elim (cases_bool (rises e.to e.from p)) [
-          | inl down ↦
-              crossed_from_left e p (turn_backward (whole e.from) (whole e.to) p ∙ ap opposite (sym (right_of_rise e.to e.from p at_p down last first))) ∙ level
-          | inr flat ↦ neither_past _ _ _ _ level flat
-        ]
-      ]
-
-  -- in neither case is the point on it
-  pub not_on_beside : (side : Ordering) → side ≡ int_cmp (e.from.x *ℤ p.W) p.X → side ≡ int_cmp (e.to.x *ℤ p.W) p.X → ¬ (side ≡ Equal)
-      → ¬ (On p (whole e.from) (whole e.to))
-  not_on_beside side from to apart on =
-      beside_both side from to apart (between_from_on (whole e.from) p (whole e.to) (whole_is_point e.from) at_p (whole_is_point e.to) on)
-    where
-      times_one : (x : ℤ) → x *ℤ pos 1 ≡ x
-      times_one x = omega (arith, ints)
-
-      beside_both : (side : Ordering) → side ≡ int_cmp (e.from.x *ℤ p.W) p.X → side ≡ int_cmp (e.to.x *ℤ p.W) p.X → ¬ (side ≡ Equal)
-          → LiesBetween (whole e.from) p (whole e.to) → ⊥
-      beside_both Less from to apart between =
-          between.not_after (inl (rw (times_one p.X) (int_ranked _ _ Less from)), inl (rw (times_one p.X) (int_ranked _ _ Less to)))
-      beside_both Equal from to apart between = apart refl
-      beside_both Greater from to apart between =
-          between.not_before (inl (rw (times_one p.X) (int_ranked _ _ Greater from)), inl (rw (times_one p.X) (int_ranked _ _ Greater to)))
+pub turn_reversed : (a b p : Triple) → opposite (turn_of b a p) ≡ turn_of a b p
+turn_reversed a b p = sym (ap direction_of (determinant_swap_first b a p) ∙ direction_opposite (determinant b a p))

@@ -1,12 +1,13 @@
 // The ray from a rational point to the right, at one edge.
 ghost use Rattle.std.specs.Int.Signed.{le_z, lt_z};
 ghost use Rattle.std.specs.Ordering.{int_cmp};
-ghost use Rattle.std.specs.Prelude.{◌≡◌, ◌↔◌, ◌&&◌, ◌||◌, ◌*ℤ◌, ℤ, IsTrue, true, false};
+ghost use Rattle.std.specs.Prelude.{◌≡◌, ◌↔◌, ◌&&◌, ◌*ℤ◌, ℤ, IsTrue, true, false};
 ghost use Rattle.plane.specs.Order.{LiesBetween};
 ghost use Rattle.plane.specs.Point.{IsPoint, whole};
 ghost use Rattle.plane.specs.Segment.{On};
 ghost use Rattle.rings.specs.Inside.{is_crossed};
-ghost use Rattle.inside_test.specs.Level.{IsLevel};
+ghost use Rattle.exact_plane.specs.Direction.{opposite, turn_of};
+ghost use Rattle.inside_test.specs.Level.{IsLevel, rises};
 
 use crate::level::Levels;
 use exact_plane::{Direction, Hom, Pt, Steps, order_hom, turn_hom};
@@ -47,70 +48,102 @@ impl Meeting {
     }
 }
 
-// How the edge from `a` to `b` lies to `p`. An edge that is above `p`, below it or left of it is missed. The ray crosses one
-// that is right of it, where just one of its ends is above `p`.
+// How the edge from `a` to `b`, whose heights compare so with that of `p`, lies to `p`. An edge that is above that height,
+// or below it, is missed. The ray crosses another where it rises past `p` and has it on the left, or falls past it and has
+// it on the right.
 pub(crate) fn meeting_of<L: Ledger>(
     a: &Pt,
     b: &Pt,
     p: &Hom,
     levels: &Levels,
+    from: Ordering,
+    to: Ordering,
     steps: &mut Steps<L>,
 ) -> Meeting
     requires across { IsLevel levels.now.across.floor levels.now.across.at_floor p.now.X p.now.W }
-    requires height { IsLevel levels.now.height.floor levels.now.height.at_floor p.now.Y p.now.W }
+    requires from { from ≡ int_cmp (a.now.y *ℤ p.now.W) p.now.Y }
+    requires to { to ≡ int_cmp (b.now.y *ℤ p.now.W) p.now.Y }
     requires rational { IsPoint p.now }
     ensures on { (result ≡ Meeting.On) ↔ On p.now (whole a.now) (whole b.now) }
     ensures crossed { result ≡ Meeting.Crossed → is_crossed (record { from = a.now; to = b.now }) p.now ≡ true }
     ensures missed { result ≡ Meeting.Missed → is_crossed (record { from = a.now; to = b.now }) p.now ≡ false }
 {
-    if levels.side_upward(a, b, steps) != Ordering::Equal {
+    if is_apart(from, to) {
         return Meeting::Missed;
     }
-    match levels.side_across(a, b, steps) {
-        Ordering::Less => Meeting::Missed,
-        Ordering::Equal => meeting_near(a, b, p, levels, steps),
-        Ordering::Greater => {
-            let (from, to) = (
-                levels.compare_height(a, steps),
-                levels.compare_height(b, steps),
-            );
-            Meeting::beside(is_past(from, to))
-        }
-    }
-}
-
-// The same, by the turn at the edge. The ray crosses an edge where it rises past `p` and has it on the left, or falls past
-// it and has it on the right.
-fn meeting_near<L: Ledger>(
-    a: &Pt,
-    b: &Pt,
-    p: &Hom,
-    levels: &Levels,
-    steps: &mut Steps<L>,
-) -> Meeting
-    requires height { IsLevel levels.now.height.floor levels.now.height.at_floor p.now.Y p.now.W }
-    requires rational { IsPoint p.now }
-    ensures on { (result ≡ Meeting.On) ↔ On p.now (whole a.now) (whole b.now) }
-    ensures crossed { result ≡ Meeting.Crossed → is_crossed (record { from = a.now; to = b.now }) p.now ≡ true }
-    ensures missed { result ≡ Meeting.Missed → is_crossed (record { from = a.now; to = b.now }) p.now ≡ false }
-{
-    let (from, to) = (
-        levels.compare_height(a, steps),
-        levels.compare_height(b, steps),
-    );
-    match turn_hom(a, b, p, steps) {
+    match turn_past(a, b, p, levels, from, to, steps) {
         Direction::Left => Meeting::beside(is_passed(from, to)),
         Direction::Straight => Meeting::in_line(is_between(a, p, b, steps)),
         Direction::Right => Meeting::beside(is_passed(to, from)),
     }
 }
 
-// Whether an edge rises past a height with which those of its ends compare so, or falls past it.
-fn is_past(from: Ordering, to: Ordering) -> bool
-    ensures { (y a b : ℤ) → from ≡ int_cmp a y → to ≡ int_cmp b y
-        → result ≡ ((le_z a y && lt_z y b) || (le_z b y && lt_z y a)) }
+// The turn from `a` over `b` to `p`, where their heights compare so with that of `p`.
+fn turn_past<L: Ledger>(
+    a: &Pt,
+    b: &Pt,
+    p: &Hom,
+    levels: &Levels,
+    from: Ordering,
+    to: Ordering,
+    steps: &mut Steps<L>,
+) -> Direction
+    requires across { IsLevel levels.now.across.floor levels.now.across.at_floor p.now.X p.now.W }
+    requires from { from ≡ int_cmp (a.now.y *ℤ p.now.W) p.now.Y }
+    requires to { to ≡ int_cmp (b.now.y *ℤ p.now.W) p.now.Y }
+    requires rational { IsPoint p.now }
+    ensures { result ≡ turn_of (whole a.now) (whole b.now) p.now }
 {
-    (from == Ordering::Greater) != (to == Ordering::Greater)
+    if is_passed(from, to) {
+        return turn_of_rise(a, b, p, levels, steps);
+    }
+    if is_passed(to, from) {
+        return reversed(turn_of_rise(b, a, p, levels, steps));
+    }
+    turn_hom(a, b, p, steps)
+}
+
+// The turn from `low` over `high` to `p`, where an edge between them rises past the height of `p`. Comparisons tell it
+// where both are to one side of `p`.
+fn turn_of_rise<L: Ledger>(
+    low: &Pt,
+    high: &Pt,
+    p: &Hom,
+    levels: &Levels,
+    steps: &mut Steps<L>,
+) -> Direction
+    requires across { IsLevel levels.now.across.floor levels.now.across.at_floor p.now.X p.now.W }
+    requires rises { IsTrue (rises low.now high.now p.now) }
+    requires rational { IsPoint p.now }
+    ensures { result ≡ turn_of (whole low.now) (whole high.now) p.now }
+{
+    let side = levels.compare_across(low, steps);
+    if side != levels.compare_across(high, steps) {
+        return turn_hom(low, high, p, steps);
+    }
+    match side {
+        Ordering::Less => Direction::Right,
+        Ordering::Equal => turn_hom(low, high, p, steps),
+        Ordering::Greater => Direction::Left,
+    }
+}
+
+// The turn that is against this one.
+fn reversed(turn: Direction) -> Direction
+    ensures { result ≡ opposite turn }
+{
+    match turn {
+        Direction::Left => Direction::Right,
+        Direction::Straight => Direction::Straight,
+        Direction::Right => Direction::Left,
+    }
+}
+
+// Whether the ends of an edge are both above a height, or both below it, by how theirs compare with it.
+fn is_apart(from: Ordering, to: Ordering) -> bool
+    ensures { IsTrue result ↔ ((from ≡ to) × ¬ (from ≡ Ordering.Equal)) }
+{
+    from == to && from != Ordering::Equal
 }
 
 // Whether an edge rises past a height with which those of its ends compare so: it begins there or below, and ends above.

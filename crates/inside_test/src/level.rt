@@ -39,20 +39,6 @@ impl Level {
     {
         z.cmp(&self.floor).then(self.at_floor)
     }
-
-    // On which side of the floor two coordinates are, or `Equal` where they are not both on one.
-    fn side(&self, a: i64, b: i64) -> Ordering
-        ensures less { result ≡ Ordering.Less → (a <ℤ self.now.floor) × (b <ℤ self.now.floor) }
-        ensures greater { result ≡ Ordering.Greater → (self.now.floor <ℤ a) × (self.now.floor <ℤ b) }
-    {
-        if a < self.floor && b < self.floor {
-            Ordering::Less
-        } else if self.floor < a && self.floor < b {
-            Ordering::Greater
-        } else {
-            Ordering::Equal
-        }
-    }
 }
 
 // The levels of a rational point: of x, and of its height.
@@ -77,22 +63,12 @@ impl Levels {
         }
     }
 
-    // How x of both points compares with that of this one, or `Equal` where comparisons of whole numbers do not tell.
-    pub(crate) fn side_across<L: Ledger>(&self, a: &Pt, b: &Pt, steps: &mut Steps<L>) -> Ordering
-        ensures { (part weight : ℤ) → IsLevel self.now.across.floor self.now.across.at_floor part weight → ¬ (result ≡ Ordering.Equal)
-            → (result ≡ int_cmp (a.now.x *ℤ weight) part) × (result ≡ int_cmp (b.now.x *ℤ weight) part) }
+    // How x of a point compares with that of this one.
+    pub(crate) fn compare_across<L: Ledger>(&self, v: &Pt, steps: &mut Steps<L>) -> Ordering
+        ensures { (part weight : ℤ) → IsLevel self.now.across.floor self.now.across.at_floor part weight
+            → result ≡ int_cmp (v.now.x *ℤ weight) part }
     {
-        let ((first, _), (last, _)) = (a.parts(steps), b.parts(steps));
-        self.across.side(first, last)
-    }
-
-    // How the height of both compares with that of this one, or `Equal`.
-    pub(crate) fn side_upward<L: Ledger>(&self, a: &Pt, b: &Pt, steps: &mut Steps<L>) -> Ordering
-        ensures { (part weight : ℤ) → IsLevel self.now.height.floor self.now.height.at_floor part weight → ¬ (result ≡ Ordering.Equal)
-            → (result ≡ int_cmp (a.now.y *ℤ weight) part) × (result ≡ int_cmp (b.now.y *ℤ weight) part) }
-    {
-        let ((_, first), (_, last)) = (a.parts(steps), b.parts(steps));
-        self.height.side(first, last)
+        self.across.compare(v.parts(steps).0)
     }
 
     // How the height of a point compares with that of this one.

@@ -39,14 +39,16 @@ pub fn place_hom<L: Ledger>(ring: &Ring, p: &Hom, steps: &mut Steps<L>) -> Posit
     let (size, levels) = (ring.len(), Levels::of(p, steps));
     let mut is_odd = false;
     let mut a = ring.corner(0);
+    let mut from = levels.compare_height(&a, steps);
     for i in 0..size {
         let b = next_corner(ring, i);
-        match meeting_of(&a, &b, p, &levels, steps) {
+        let to = levels.compare_height(&b, steps);
+        match meeting_of(&a, &b, p, &levels, from, to, steps) {
             Meeting::On => return Position::Edge,
             Meeting::Crossed => is_odd = !is_odd,
             Meeting::Missed => {}
         }
-        a = b;
+        (a, from) = (b, to);
     }
     if is_odd {
         Position::Inside

@@ -1,48 +1,69 @@
-use Rattle.std.proofs.Common.{◌≡◌, ◌*ℤ◌, ◌∙◌, sym, rules, Equal}
+use Rattle.std.proofs.Common.{◌*ℤ◌, ◌∙◌, sym}
+use Rattle.plane.proofs.Points.{whole_is_point}
+use Rattle.plane.specs.Point.{whole}
 use Rattle.rings.specs.Edge.{Edge}
+use Rattle.exact_plane.proofs.Directions.{zero_of_straight}
 use Rattle.inside_test.proofs.ApartEdges.{not_crossed_apart, not_on_apart}
-use Rattle.inside_test.proofs.Passed.{crossed_right_of, not_crossed_left_of, not_on_beside}
+use Rattle.inside_test.proofs.CrossedEdges.{beside_not_on, between_from_on, crossed_from_left, crossed_from_right, not_crossed_in_line}
+use Rattle.inside_test.proofs.CrossedEdges.{on_from_between}
 use Rattle.inside_test.proofs.crossing.meeting_of.Goals as goal
 
-pub returns-then-ne : goal.returns-then-ne
-returns-then-ne g c =
+pub returns-then-is_apart : goal.returns-then-is_apart
+returns-then-is_apart g c =
     let e : Edge = record { from = c.args.a.now; to = c.args.b.now } in
     let p = c.args.p.now in
-    let side = c.side_upward.result in
-    let apart : ¬ (side ≡ Equal) = search rules in
-    let (from, to) = c.side_upward.ensures p.Y p.W c.requires.height apart in
+    let (same, apart) = c.is_apart.ensures.0 c.if-is_apart.true in
+    let to = same ∙ c.requires.to in
     record {
-      on = (λ h. absurd (cc h), λ on. absurd (not_on_apart e p side from to apart c.requires.rational on));
+      on = (λ h. absurd (cc h), λ on. absurd (not_on_apart e p c.args.from c.requires.from to apart c.requires.rational on));
       crossed = λ h. absurd (cc h);
-      missed = λ _. not_crossed_apart e p side from to apart;
+      missed = λ _. not_crossed_apart e p c.args.from c.requires.from to apart;
     }
 
-pub returns-in-Less : goal.returns-in-Less
-returns-in-Less g c =
+pub returns-in-Left : goal.returns-in-Left
+returns-in-Left g c =
     let e : Edge = record { from = c.args.a.now; to = c.args.b.now } in
     let p = c.args.p.now in
-    let side = c.side_across.result in
-    let apart : ¬ (side ≡ Equal) = λ h. cc (h, c.in-Less.is) in
-    let (from, to) = c.side_across.ensures p.X p.W c.requires.across apart in
+    let left = sym c.turn_past.ensures ∙ c.in-Left.is in
+    let passed = c.is_passed.ensures p.Y (e.from.y *ℤ p.W) (e.to.y *ℤ p.W) c.requires.from c.requires.to in
+    let crossed = passed ∙ sym (crossed_from_left e c.args.p.now left) in
     record {
-      on = (λ h. absurd (cc h), λ on. absurd (not_on_beside e p c.requires.rational side from to apart on));
-      crossed = λ h. absurd (cc h);
-      missed = λ _. not_crossed_left_of e p c.requires.rational (sym c.in-Less.is ∙ from) (sym c.in-Less.is ∙ to);
-    }
-
-pub returns-in-Greater : goal.returns-in-Greater
-returns-in-Greater g c =
-    let e : Edge = record { from = c.args.a.now; to = c.args.b.now } in
-    let p = c.args.p.now in
-    let side = c.side_across.result in
-    let apart : ¬ (side ≡ Equal) = λ h. cc (h, c.in-Greater.is) in
-    let (from, to) = c.side_across.ensures p.X p.W c.requires.across apart in
-    let low = c.compare_height-from.ensures p.Y p.W c.requires.height in
-    let high = c.compare_height-to.ensures p.Y p.W c.requires.height in
-    let past = c.is_past.ensures p.Y (e.from.y *ℤ p.W) (e.to.y *ℤ p.W) low high in
-    let crossed = past ∙ sym (crossed_right_of e p c.requires.rational (sym c.in-Greater.is ∙ from) (sym c.in-Greater.is ∙ to)) in
-    record {
-      on = (λ h. absurd (c.beside.ensures.on h), λ on. absurd (not_on_beside e p c.requires.rational side from to apart on));
+      on = (
+        λ h. absurd (c.beside.ensures.on h),
+        λ on. absurd (beside_not_on e c.args.p.now c.requires.rational (λ s. cc) on),
+      );
       crossed = λ h. sym crossed ∙ c.beside.ensures.crossed h;
       missed = λ h. sym crossed ∙ c.beside.ensures.missed h;
+    }
+
+pub returns-in-Straight : goal.returns-in-Straight
+returns-in-Straight g c =
+    let e : Edge = record { from = c.args.a.now; to = c.args.b.now } in
+    let straight = sym c.turn_past.ensures ∙ c.in-Straight.is in
+    let a = whole c.args.a.now in
+    let b = whole c.args.b.now in
+    let between = c.is_between.ensures.between in
+    record {
+      on = (
+        λ h. on_from_between a c.args.p.now b (whole_is_point c.args.a.now) c.requires.rational (whole_is_point c.args.b.now) (zero_of_straight _ straight) (between.0 (c.in_line.ensures.on.0 h)),
+        λ on. c.in_line.ensures.on.1 (between.1 (between_from_on a c.args.p.now b (whole_is_point c.args.a.now) c.requires.rational (whole_is_point c.args.b.now) on)),
+      );
+      crossed = λ h. absurd (c.in_line.ensures.not_crossed h);
+      missed = λ h. not_crossed_in_line e c.args.p.now straight;
+    }
+
+pub returns-in-Right : goal.returns-in-Right
+returns-in-Right g c =
+    let e : Edge = record { from = c.args.a.now; to = c.args.b.now } in
+    let p = c.args.p.now in
+    let right = sym c.turn_past.ensures ∙ c.in-Right.is in
+    let passed = c.is_passed-in-Right.ensures p.Y (e.to.y *ℤ p.W) (e.from.y *ℤ p.W) c.requires.to c.requires.from in
+    let crossed = passed ∙ sym (crossed_from_right e c.args.p.now right) in
+    record {
+      on = (
+        λ h. absurd (c.beside-in-Right.ensures.on h),
+        λ on. absurd (beside_not_on e c.args.p.now c.requires.rational (λ s. cc) on),
+      );
+      crossed = λ h. sym crossed ∙ c.beside-in-Right.ensures.crossed h;
+      missed = λ h. sym crossed ∙ c.beside-in-Right.ensures.missed h;
     }
