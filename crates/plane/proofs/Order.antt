@@ -4,10 +4,10 @@
 mod Precedence
 pub use Rattle.plane.proofs.Order.Precedence.{NotAfter, follows, mediant_follows, mediant_is_point, mediant_precedes, not_after_antisym}
 pub use Rattle.plane.proofs.Order.Precedence.{not_after_facts, not_after_from, not_after_of_precedes, not_after_of_same, not_after_or_precedes}
-pub use Rattle.plane.proofs.Order.Precedence.{not_after_trans, precedence, precedes, precedes_asym, same}
+pub use Rattle.plane.proofs.Order.Precedence.{not_after_trans, precedence, precedes, precedes_asym, precedes_differs, same}
 -- Laws of the order of whole points.
 mod Order
-pub use Rattle.plane.proofs.Order.Order.{Comparison, after, before, before_asym, before_differs, before_irrefl, before_or_not, before_trans}
+pub use Rattle.plane.proofs.Order.Order.{Comparison, after, before, before_asym, before_differs, before_irrefl, before_or_not, before_trans, point_or_other}
 pub use Rattle.plane.proofs.Order.Order.{between_equal, between_reversed, compare_points, equal, not_after_last, not_before_first, same_coordinates}
 pub use Rattle.plane.proofs.Order.Order.{x_at_most, y_at_most}
 -- How far one point is above another, and to the right of it, by their triples.

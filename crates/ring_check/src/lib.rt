@@ -1,10 +1,14 @@
 //! Simple polygons: a list of points is accepted exactly if no two of its edges clash.
 #![tactic(auto)]
 
+mod boxes;
 mod clash;
+mod events;
 mod laws;
 mod orientation;
 mod ring;
+mod status;
+mod sweep;
 #[cfg(test)]
 mod tests;
 

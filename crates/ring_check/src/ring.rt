@@ -7,7 +7,7 @@ ghost use Rattle.rings.specs.Simple.{IsLeastClash, IsSimple};
 ghost use Rattle.exact_plane.specs.Direction.{turn_of};
 ghost use Rattle.ring_check.specs.Oriented.{given_edge, given_index, given_of, oriented};
 
-use crate::clash::least_clash;
+use crate::clash::find_clash;
 use crate::orientation::turn_counterclockwise;
 use exact_plane::{Direction, Pt, Steps, turn};
 use plane::MAX_CORNERS;
@@ -66,7 +66,7 @@ impl Ring {
         if points.len() > MAX_CORNERS {
             return Err(RingFault::Many);
         }
-        match least_clash(&points, steps) {
+        match find_clash(*points.allocator(), &points, steps) {
             Some((i, j)) => Err(RingFault::Clash(i as u32, j as u32)),
             None => {
                 let is_turned = turn_counterclockwise(&mut points, steps);

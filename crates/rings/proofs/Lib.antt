@@ -3,4 +3,5 @@ pub mod Simple
 pub mod Turned
 pub mod Crossings
 pub mod Inside
+pub mod Sweeps
 mod KnownFigures

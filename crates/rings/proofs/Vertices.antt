@@ -6,7 +6,7 @@ pub use Rattle.rings.proofs.Vertices.Indexing.{crossings_more, edge_at, on_some_
 -- The items of a list, of appended lists and of a list in the other order, and their numbers.
 mod Items
 pub use Rattle.rings.proofs.Vertices.Items.{has_cases, has_in_order, has_left, has_number, has_reversed, has_right, has_swapped, number_of}
-pub use Rattle.rings.proofs.Vertices.Items.{reverse-cons}
+pub use Rattle.rings.proofs.Vertices.Items.{one_to_one, parts_at, reverse-cons}
 -- The edges along some points: points on them, and their ends.
 mod PointLists
 pub use Rattle.rings.proofs.Vertices.PointLists.{all_ends_along, first_on_along, last_on_along, member_on_along}
@@ -26,7 +26,8 @@ pub use Rattle.rings.proofs.Vertices.DistinctPoints.{AreDistinct, HasPoint, dist
 pub use Rattle.rings.proofs.Vertices.DistinctPoints.{distinct_vertices, edge_from, end_of_ring, ends_along, vertices_differ}
 -- Edges that meet at common ends only: in the other order, read backward, and with one more edge.
 mod CommonEnds
-pub use Rattle.rings.proofs.Vertices.CommonEnds.{apart_among, apart_more, end_of_first, end_of_second, meet_reversed, meet_swapped}
+pub use Rattle.rings.proofs.Vertices.CommonEnds.{apart_among, apart_more, common_end_swapped, end_of_first, end_of_second, meet_reversed}
+pub use Rattle.rings.proofs.Vertices.CommonEnds.{meet_swapped}
 -- Near a rational point: the way from it to another point misses all edges that it is not on.
 mod NearEdges
 pub use Rattle.rings.proofs.Vertices.NearEdges.{misses_between, misses_eventually, shrink}

@@ -1,11 +1,14 @@
 pub mod Across
 pub mod Apart
+pub mod Below
 pub mod Bend
 pub mod Chain
 pub mod Edge
+pub mod Events
 pub mod Inside
 pub mod Orientation
 pub mod Ring
 pub mod Sees
 pub mod Simple
+pub mod Status
 pub mod Winding

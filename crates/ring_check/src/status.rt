@@ -1,0 +1,259 @@
+// The status of a sweep: the edges that the sweep line meets, each below the next.
+ghost use Rattle.std.specs.List.{All};
+ghost use Rattle.std.specs.Prelude.{◌≡◌, ◌+◌, ◌<◌, ◌≤◌, IsTrue, ℕ, length};
+ghost use Rattle.plane.specs.Point.{whole};
+ghost use Rattle.rings.specs.Below.{EndsBelow, StartsBelow};
+ghost use Rattle.rings.specs.Edge.{edge};
+ghost use Rattle.rings.specs.Events.{first_end, last_end, next};
+ghost use Rattle.rings.specs.Ring.{vertex};
+ghost use Rattle.rings.specs.Status.{FitsAt, IsEdgeBelow, IsStacked, one, times};
+ghost use Rattle.exact_plane.specs.Direction.{turn_of};
+
+use crate::clash::corner;
+use crate::events::Events;
+use exact_plane::{Direction, Pt, Steps, turn};
+use std::sync::ledger::Ledger;
+
+// Removes edge `e`, which goes from vertex `w` to `v`. It answers false where the edge is not found or those beside it do
+// not fit; nothing is known then.
+pub(crate) fn remove<L: Ledger>(
+    events: &Events,
+    status: &mut Vec<u32>,
+    e: u32,
+    v: u32,
+    w: u32,
+    steps: &mut Steps<L>,
+) -> bool
+    requires stacked { IsStacked events.now.points.now events.now.ranks.now status.old.items }
+    requires v { v < length events.now.points.now }
+    requires w { w < length events.now.points.now }
+    ensures stacked { IsTrue result → IsStacked events.now.points.now events.now.ranks.now status.new.items }
+    ensures times { IsTrue result → (x : ℕ) → times x status.new.items + one x e ≡ times x status.old.items }
+{
+    let place = place_of(events, status, v, w, steps);
+    if place == status.len() || status[place] != e {
+        return false;
+    }
+    status.remove(place);
+    fits(events, status, place, steps)
+}
+
+// Puts edge `f`, which begins at vertex `v`, in the place of edge `e`, which goes from `w` to `v`.
+pub(crate) fn replace<L: Ledger>(
+    events: &Events,
+    status: &mut Vec<u32>,
+    e: u32,
+    f: u32,
+    v: u32,
+    w: u32,
+    steps: &mut Steps<L>,
+) -> bool
+    requires stacked { IsStacked events.now.points.now events.now.ranks.now status.old.items }
+    requires f { f < length events.now.points.now }
+    requires v { v < length events.now.points.now }
+    requires w { w < length events.now.points.now }
+    ensures stacked { IsTrue result → IsStacked events.now.points.now events.now.ranks.now status.new.items }
+    ensures times { IsTrue result → (x : ℕ) → times x status.new.items + one x e ≡ times x status.old.items + one x f }
+{
+    let place = place_of(events, status, v, w, steps);
+    if place == status.len() || status[place] != e {
+        return false;
+    }
+    status[place] = f;
+    fits(events, status, place, steps) && fits(events, status, place + 1, steps)
+}
+
+// Inserts edge `e`, which goes from vertex `v` to `w`.
+pub(crate) fn insert<L: Ledger>(
+    events: &Events,
+    status: &mut Vec<u32>,
+    e: u32,
+    v: u32,
+    w: u32,
+    steps: &mut Steps<L>,
+) -> bool
+    requires stacked { IsStacked events.now.points.now events.now.ranks.now status.old.items }
+    requires e { e < length events.now.points.now }
+    requires v { v < length events.now.points.now }
+    requires w { w < length events.now.points.now }
+    ensures stacked { IsTrue result → IsStacked events.now.points.now events.now.ranks.now status.new.items }
+    ensures times { IsTrue result → (x : ℕ) → times x status.new.items ≡ times x status.old.items + one x e }
+{
+    let place = place_of(events, status, v, w, steps);
+    if status.insert(place, e).is_err() {
+        return false;
+    }
+    fits(events, status, place, steps) && fits(events, status, place + 1, steps)
+}
+
+// The place for the edge between vertices `v` and `w`, which begins or ends at `v`, by binary search. Only a place is
+// promised: what is found there is tested.
+fn place_of<L: Ledger>(
+    events: &Events,
+    status: &[u32],
+    v: u32,
+    w: u32,
+    steps: &mut Steps<L>,
+) -> usize
+    requires edges { All (λ e. e < length events.now.points.now) status.now }
+    requires v { v < length events.now.points.now }
+    requires w { w < length events.now.points.now }
+    ensures { result ≤ length status.now }
+{
+    let (mut low, mut high) = (0, status.len());
+    while low < high {
+        let middle = low + (high - low) / 2;
+        if goes_below(events, status[middle], v, w, steps) {
+            low = middle + 1;
+        } else {
+            high = middle;
+        }
+    }
+    low
+}
+
+// Whether edge `e` goes below vertex `v`, or through it and below `w`.
+fn goes_below<L: Ledger>(events: &Events, e: u32, v: u32, w: u32, steps: &mut Steps<L>) -> bool
+    requires edge { e < length events.now.points.now }
+    requires v { v < length events.now.points.now }
+    requires w { w < length events.now.points.now }
+{
+    let (a, b) = ends(events, e);
+    match turn_at(events, a, b, v, steps) {
+        Direction::Left => true,
+        Direction::Right => false,
+        Direction::Straight => turns(events, Direction::Left, a, b, w, steps),
+    }
+}
+
+// Whether the edge at a place is above the one before it, where there are both.
+fn fits<L: Ledger>(events: &Events, status: &[u32], place: usize, steps: &mut Steps<L>) -> bool
+    requires { All (λ e. e < length events.now.points.now) status.now }
+    ensures { IsTrue result → FitsAt events.now.points.now events.now.ranks.now status.now place }
+{
+    if place == 0 || place >= status.len() {
+        return true;
+    }
+    is_below(events, status[place - 1], status[place], steps)
+}
+
+// Whether edge `e` is below edge `f`.
+fn is_below<L: Ledger>(events: &Events, e: u32, f: u32, steps: &mut Steps<L>) -> bool
+    requires e { e < length events.now.points.now }
+    requires f { f < length events.now.points.now }
+    ensures { IsTrue result → IsEdgeBelow events.now.points.now events.now.ranks.now e f }
+{
+    let (a, b) = ends(events, e);
+    let (c, d) = ends(events, f);
+    match (a == c, b == d) {
+        (true, true) => false,
+        (true, false) => ends_below(events, a, b, c, d, steps),
+        (false, true) => starts_below(events, a, b, c, d, steps),
+        (false, false) => starts_below(events, a, b, c, d, steps)
+            && ends_below(events, a, b, c, d, steps),
+    }
+}
+
+// Whether the edge from vertex `a` to `b` is below that from `c` to `d` where the later of them begins.
+fn starts_below<L: Ledger>(
+    events: &Events,
+    a: u32,
+    b: u32,
+    c: u32,
+    d: u32,
+    steps: &mut Steps<L>,
+) -> bool
+    requires a { a < length events.now.points.now }
+    requires b { b < length events.now.points.now }
+    requires c { c < length events.now.points.now }
+    requires d { d < length events.now.points.now }
+    ensures { IsTrue result → StartsBelow (edge (vertex events.now.points.now a) (vertex events.now.points.now b))
+        (edge (vertex events.now.points.now c) (vertex events.now.points.now d)) }
+{
+    if events.ranks[a as usize] < events.ranks[c as usize] {
+        turns(events, Direction::Left, a, b, c, steps)
+    } else {
+        turns(events, Direction::Right, c, d, a, steps)
+    }
+}
+
+// Whether it is below where the first of them ends.
+fn ends_below<L: Ledger>(
+    events: &Events,
+    a: u32,
+    b: u32,
+    c: u32,
+    d: u32,
+    steps: &mut Steps<L>,
+) -> bool
+    requires a { a < length events.now.points.now }
+    requires b { b < length events.now.points.now }
+    requires c { c < length events.now.points.now }
+    requires d { d < length events.now.points.now }
+    ensures { IsTrue result → EndsBelow (edge (vertex events.now.points.now a) (vertex events.now.points.now b))
+        (edge (vertex events.now.points.now c) (vertex events.now.points.now d)) }
+{
+    if events.ranks[b as usize] < events.ranks[d as usize] {
+        turns(events, Direction::Right, c, d, b, steps)
+    } else {
+        turns(events, Direction::Left, a, b, d, steps)
+    }
+}
+
+// The ends of edge `e`, that of lower rank first.
+fn ends(events: &Events, e: u32) -> (u32, u32)
+    requires { e < length events.now.points.now }
+    ensures first { result.0 ≡ first_end events.now.ranks.now e }
+    ensures last { result.1 ≡ last_end events.now.ranks.now e }
+    ensures first_below { result.0 < length events.now.points.now }
+    ensures last_below { result.1 < length events.now.points.now }
+{
+    let after = next(events, e);
+    if events.ranks[e as usize] < events.ranks[after as usize] {
+        (e, after)
+    } else {
+        (after, e)
+    }
+}
+
+// The vertex after vertex `v`.
+pub(crate) fn next(events: &Events, v: u32) -> u32
+    requires { v < length events.now.points.now }
+    ensures number { result ≡ next (length events.now.ranks.now) v }
+    ensures below { result < length events.now.points.now }
+{
+    if v as usize + 1 < events.ranks.len() {
+        v + 1
+    } else {
+        0
+    }
+}
+
+// Whether the turn from vertex `a` over `b` to `c` goes this way.
+fn turns<L: Ledger>(
+    events: &Events,
+    way: Direction,
+    a: u32,
+    b: u32,
+    c: u32,
+    steps: &mut Steps<L>,
+) -> bool
+    requires a { a < length events.now.points.now }
+    requires b { b < length events.now.points.now }
+    requires c { c < length events.now.points.now }
+    ensures { IsTrue result → turn_of (whole (vertex events.now.points.now a)) (whole (vertex events.now.points.now b)) (whole (vertex events.now.points.now c)) ≡ way }
+{
+    turn_at(events, a, b, c, steps) == way
+}
+
+// The turn from vertex `a` over `b` to `c`.
+fn turn_at<L: Ledger>(events: &Events, a: u32, b: u32, c: u32, steps: &mut Steps<L>) -> Direction
+    requires a { a < length events.now.points.now }
+    requires b { b < length events.now.points.now }
+    requires c { c < length events.now.points.now }
+    ensures { result ≡ turn_of (whole (vertex events.now.points.now a)) (whole (vertex events.now.points.now b)) (whole (vertex events.now.points.now c)) }
+{
+    let a = corner(events.points, a as usize);
+    let b = corner(events.points, b as usize);
+    turn(&a, &b, &corner(events.points, c as usize), steps)
+}

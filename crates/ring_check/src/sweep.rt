@@ -1,0 +1,88 @@
+// A sweep in lexicographic order, which shows of most simple rings that they are simple. After Shamos and Hoey 1976.
+ghost use Rattle.std.specs.Prelude.{◌≡◌, ◌+◌, ◌<◌, ◌≤◌, ◌^◌, IfOk, IsTrue, length};
+ghost use Rattle.rings.specs.Events.{previous};
+ghost use Rattle.rings.specs.Simple.{IsSimple};
+ghost use Rattle.rings.specs.Status.{IsStatus};
+
+use crate::events::{Events, ranks_of, sorted};
+use crate::status::{insert, next, remove, replace};
+use exact_plane::{Memory, Pt, Steps};
+use std::alloc::Global;
+use std::sync::ledger::Ledger;
+
+// Whether a sweep has shown that no two edges clash. Where it answers false, as for want of memory, nothing is known.
+pub(crate) fn sweep_finds_none<L: Ledger>(
+    alloc: Global,
+    points: &[Pt],
+    steps: &mut Steps<L>,
+) -> bool
+    requires three { 3 ≤ length points.now }
+    requires small { length points.now < 2 ^ 32 }
+    ensures { IsTrue result → IsSimple points.now }
+{
+    match sweep(alloc, points, steps) {
+        Ok(finds_none) => finds_none,
+        Err(_) => false,
+    }
+}
+
+// The same, or want of memory.
+fn sweep<L: Ledger>(alloc: Global, points: &[Pt], steps: &mut Steps<L>) -> Result<bool, Memory>
+    requires three { 3 ≤ length points.now }
+    requires small { length points.now < 2 ^ 32 }
+    ensures { IfOk result (λ finds_none. IsTrue finds_none → IsSimple points.now) }
+{
+    let order = sorted(alloc, points, steps)?;
+    let ranks = ranks_of(alloc, points.len(), &order)?;
+    match Events::of(points, &order, &ranks, steps) {
+        Some(events) => {
+            let status = Vec::with_capacity(alloc, points.len())?;
+            Ok(passes_all(&events, status, steps))
+        }
+        None => Ok(false),
+    }
+}
+
+// Whether the sweep passes all events, from an empty status.
+fn passes_all<L: Ledger>(events: &Events, mut status: Vec<u32>, steps: &mut Steps<L>) -> bool
+    requires { length status.items ≡ 0 }
+    ensures { IsTrue result → IsSimple events.now.points.now }
+{
+    for k in 0..events.points.len() as u32 {
+        if !passes(events, &mut status, k, steps) {
+            return false;
+        }
+    }
+    true
+}
+
+// Passes event `k`: the edges that end there leave the status, and those that begin there enter it.
+fn passes<L: Ledger>(events: &Events, status: &mut Vec<u32>, k: u32, steps: &mut Steps<L>) -> bool
+    requires event { k < length events.now.points.now }
+    requires status { IsStatus events.now.points.now events.now.ranks.now k status.old.items }
+    ensures { IsTrue result → IsStatus events.now.points.now events.now.ranks.now (k + 1) status.new.items }
+{
+    let v = events.order[k as usize];
+    let (u, w) = (previous(events, v), next(events, v));
+    match (events.ranks[u as usize] < k, events.ranks[w as usize] < k) {
+        (true, true) => remove(events, status, u, v, u, steps)
+            && remove(events, status, v, v, w, steps),
+        (true, false) => replace(events, status, u, v, v, u, steps),
+        (false, true) => replace(events, status, v, u, v, w, steps),
+        (false, false) => insert(events, status, u, v, u, steps)
+            && insert(events, status, v, v, w, steps),
+    }
+}
+
+// The vertex before vertex `v`.
+fn previous(events: &Events, v: u32) -> u32
+    requires { v < length events.now.points.now }
+    ensures number { result ≡ previous (length events.now.ranks.now) v }
+    ensures below { result < length events.now.points.now }
+{
+    if 0 < v {
+        v - 1
+    } else {
+        events.ranks.len() as u32 - 1
+    }
+}

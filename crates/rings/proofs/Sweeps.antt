@@ -1,0 +1,32 @@
+-- A certificate that a list of edges is simple: what a sweep over the plane has seen.
+
+-- Edges between points in lexicographic order. Where for each two consecutive points the edges over both are a list in which each is below the next, two edges share no more than a common end.
+mod Slabs
+-- That vertices are the events is a proposition: it holds in one way at most, so a struct can keep it.
+mod OneWay
+pub use Rattle.rings.proofs.Sweeps.OneWay.{events_are_one}
+-- A list of edges, each below the next, after one is removed, inserted or put in the place of another.
+mod StackEdits
+pub use Rattle.rings.proofs.Sweeps.StackEdits.{edges_removed, inserted, removed, replaced}
+-- A ring is simple where a sweep has passed all its events.
+mod Swept
+pub use Rattle.rings.proofs.Sweeps.Swept.{empty_status, simple_of_swept}
+-- A chord from s to t with a point x between them, and the line ab on one side of all three.
+mod Chords
+-- Lists in which each item is related to the next, after an edit: the pairs at the place are enough.
+mod Neighbours
+-- Edges over one place, each below the next: two of them share no more than a common end there.
+mod Stacks
+-- How often an item is in a list.
+mod Counts
+-- Points in lexicographic order, by their ranks, and where a point of an edge comes among them.
+mod Ascending
+-- Vectors that do not point backward in the lexicographic order: a sum of them with weights that are not negative is 0 only where each part is.
+mod ForwardSums
+-- The events of a ring: the vertices beside a vertex, and the ends of an edge by their ranks.
+mod Events
+-- One edge below another: where both run, what is on the lower edge or below it is below the upper one, but for a common end.
+mod StaysBelow
+-- The status before and after an event: what the edges at its vertex do, and no other.
+mod Passing
+pub use Rattle.rings.proofs.Sweeps.Passing.{both_enter, both_leave, u_follows, v_follows}
