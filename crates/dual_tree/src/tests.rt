@@ -1,104 +1,34 @@
-ghost use Rattle.std.specs.Prelude.{◌≡◌, ◌<◌};
+ghost use Rattle.std.specs.Prelude.{◌≡◌, ◌<◌, ◌^◌, IfOk, vec_len};
+ghost use Rattle.meshes.specs.Mesh.{IsMesh};
 
-use crate::{Board, locate, sleeve};
-use cut_tri::triangulate;
-use exact_plane::{Direction, Memory, Pt, Spot, Steps, Turns};
-use ring_check::Ring;
-use std::alloc::Global;
-use std::marker::Brand;
-use std::process::Abort;
-use std::sync::ledger::{Blank, Ledger};
+use crate::sleeve;
+use meshes::Tri;
+use std::alloc::{AllocError, Global};
 use std::test::Fail;
+use tri_mesh::Mesh;
 
-type At = (i64, i64);
-
-const L: [At; 6] = [(0, 0), (4, 0), (4, 2), (2, 2), (2, 4), (0, 4)];
-
-#[rattlefmt::skip]
-const U: [At; 8] = [(0, 0), (6, 0), (6, 4), (4, 4), (4, 2), (2, 2), (2, 4), (0, 4)];
-
+// The sleeves of larger meshes are tried above, where polygons are triangulated.
 #[test]
-fn meshes(rt: HostRuntime) -> Result<(), Fail> {
-    all_meshes::<Brand, _>(&rt, rt.alloc(), Blank::new(1))?;
+fn sleeve_of_one_triangle(rt: HostRuntime) -> Result<(), Fail> {
+    let mesh = Mesh::build(rt.alloc(), one(rt.alloc())?)?;
+    assert_eq!(rt; mesh.count(), 1);
+    let sleeve = sleeve(rt.alloc(), &mesh, 0, 0)?;
+    assert_eq!(rt; sleeve.first(), 0);
+    assert_eq!(rt; sleeve.last(), 0);
+    assert_eq!(rt; sleeve.len(), 0);
     Ok(())
 }
 
-// With a counter over a ledger that nobody else counts in.
-fn all_meshes<N: Ledger, R: Abort>(rt: &R, alloc: Global, blank: Blank) -> Result<(), Memory>
-    requires name { blank.name ≡ N.name }
-    requires parts { blank.parts ≡ N.parts }
-    requires countable { 0 < blank.parts }
+// The triangle with vertices (0, 0), (1, 0), (0, 1).
+fn one(alloc: Global) -> Result<Vec<Tri>, AllocError>
+    ensures mesh { IfOk result (λ tris. IsMesh tris.items) }
+    ensures few { IfOk result (λ tris. vec_len tris < 2 ^ 30) }
 {
-    let mut steps = Steps::<N>::new(blank);
-    places(rt, alloc, &mut steps)?;
-    sleeves(rt, alloc, &mut steps)?;
-    board(rt, alloc, &mut steps)
+    Ok(Vec::from_array(alloc, [tri(0, 1, 2)])?)
 }
 
-fn at<R: Abort>(rt: &R, (x, y): At) -> Pt {
-    Pt::of(x, y).expect(rt, "within the limit")
-}
-
-fn ring_of<N: Ledger, R: Abort>(
-    rt: &R,
-    alloc: Global,
-    list: &[At],
-    steps: &mut Steps<N>,
-) -> Result<Ring, Memory> {
-    let mut points = Vec::new(alloc);
-    for point in list {
-        points.push(at(rt, *point))?;
-    }
-    Ok(Ring::of(points, steps).ok().expect(rt, "a ring"))
-}
-
-// The triangles of an L have the corners 3, 0, 1 and 2, 3, 1 and 5, 0, 3 and 4, 5, 3.
-fn places<N: Ledger, R: Abort>(rt: &R, alloc: Global, steps: &mut Steps<N>) -> Result<(), Memory> {
-    let ring = ring_of(rt, alloc, &L, steps)?;
-    let mesh = triangulate(alloc, &ring, steps)?;
-    let cases = [
-        ("outside", (3, 3), None),
-        ("the corner of all four", (2, 2), Some(0)),
-        ("on a side of two", (3, 1), Some(0)),
-        ("inside the second", (3, 2), Some(1)),
-        ("on an edge", (0, 3), Some(2)),
-        ("a corner of the last", (2, 4), Some(3)),
-    ];
-    for (name, point, want) in cases {
-        let found = locate(&mesh, &ring, &at(rt, point), steps);
-        assert_eq!(rt; found, want, "{name}");
-    }
-    Ok(())
-}
-
-// From each triangle of a U to each.
-fn sleeves<N: Ledger, R: Abort>(rt: &R, alloc: Global, steps: &mut Steps<N>) -> Result<(), Memory> {
-    let ring = ring_of(rt, alloc, &U, steps)?;
-    let mesh = triangulate(alloc, &ring, steps)?;
-    assert_eq!(rt; mesh.count(), 6);
-    for from in 0..mesh.count() {
-        for to in 0..mesh.count() {
-            let sleeve = sleeve(alloc, &mesh, from, to)?;
-            assert_eq!(rt; sleeve.first(), from);
-            assert_eq!(rt; sleeve.last(), to);
-            assert_eq!(rt; sleeve.len() == 0, from == to);
-        }
-    }
-    Ok(())
-}
-
-// The vertices of an L, a start in it and a goal at its reflex vertex.
-fn board<N: Ledger, R: Abort>(rt: &R, alloc: Global, steps: &mut Steps<N>) -> Result<(), Memory> {
-    let ring = ring_of(rt, alloc, &L, steps)?;
-    assert_eq!(rt; ring.len(), 6);
-    let board = Board::new(&ring, at(rt, (1, 1)), at(rt, (2, 2)));
-    let (second, third, fourth) = (Spot::Corner(2), Spot::Corner(3), Spot::Corner(4));
-    assert_eq!(rt; board.turn(second, third, fourth, steps), Direction::Right);
-    assert_eq!(rt;
-        board.turn(Spot::Start, second, Spot::Goal, steps),
-        Direction::Left
-    );
-    assert_eq!(rt; board.same(third, Spot::Goal, steps), true);
-    assert_eq!(rt; board.same(Spot::Start, Spot::Goal, steps), false);
-    Ok(())
+fn tri(a: u32, b: u32, c: u32) -> Tri
+    ensures { result ≡ record { a = a; b = b; c = c } }
+{
+    Tri { a, b, c }
 }

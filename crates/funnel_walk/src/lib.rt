@@ -4,8 +4,6 @@
 mod chain;
 mod funnel;
 mod room;
-#[cfg(test)]
-mod tests;
 
 pub use chain::walk;
 pub use room::FunnelBox;

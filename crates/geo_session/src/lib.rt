@@ -5,6 +5,8 @@ mod held;
 mod laws;
 mod lines;
 mod session;
+#[cfg(test)]
+mod tests;
 
 pub use laws::{one_answer, one_output};
 pub use session::Session;
