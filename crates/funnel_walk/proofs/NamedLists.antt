@@ -7,10 +7,11 @@ use Rattle.plane.specs.Point.{Point}
 use Rattle.rings.specs.Chain.{point_at}
 use Rattle.rings.specs.Ring.{origin}
 use Rattle.funnels.specs.OpenFunnel.{left_behind, right_behind}
-use Rattle.exact_plane.specs.Spot.{IsNamed}
+use Rattle.exact_plane.specs.Spot.{IsNamed, point_named}
 use Rattle.exact_plane.specs.declared.turns.Spot.{Spot}
 use Rattle.exact_plane.specs.declared.turns.Spot.TheVariants.{Start}
 use Rattle.funnel_walk.specs.Names.{AreNamed, left_names, name_at, named_points, right_names}
+use Rattle.funnel_walk.specs.Walked.{IsWalked}
 
 module _ (at : Spot → Point) where
   -- there are as many points as names,
@@ -120,3 +121,7 @@ front_named corners names n named = λ k d below.
 pub rest_named : (corners : List Point) (names : List Spot) (n : ℕ) → AreNamed corners names → AreNamed corners (drop n names)
 rest_named corners names n named = λ k d below.
     let e = length-drop n names in subst (IsNamed corners) (sym (get_or-drop n names k d)) (named (n + k) d (omega arith))
+
+-- the apex of a walk is one of the names
+pub apex_below : {corners : List Point} {start goal : Point} {given names : List Spot} {a i j : ℕ} → IsWalked corners start goal given names a i j → a < length names
+apex_below {corners} {start} {goal} {given} {names} w = omega (arith, w.funnel.funnel.apex_within, length_named (point_named corners start goal) names)

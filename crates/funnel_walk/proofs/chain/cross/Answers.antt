@@ -1,16 +1,12 @@
-use Rattle.std.proofs.Common.{◌≡◌, ◌≢◌, sym, ap, subst, ◌∙◌, ◌-◌, ◌<◌, ◌≤◌, ◌++◌, [], ◌∷◌, length, take, drop, arith}
-use Rattle.std.proofs.lemmas.List.{length-append, take_all}
-use Rattle.plane.specs.Point.{whole}
+use Rattle.std.proofs.Common.{◌≡◌, ◌≢◌, sym, ap, ◌∙◌, ◌-◌, ◌++◌, [], ◌∷◌, length, take, drop, arith}
+use Rattle.std.proofs.lemmas.List.{length-append}
 use Rattle.meshes.specs.Sleeve.{diagonal_at}
-use Rattle.funnels.specs.Funnel.{IsReachedFrom}
-use Rattle.exact_plane.specs.Spot.{point_named}
 use Rattle.exact_plane.specs.declared.turns.Spot.TheVariants.{Corner}
 use Rattle.funnel_walk.proofs.CrossedSides.{goes_left, goes_right}
-use Rattle.funnel_walk.proofs.KeptNames.{kept_all}
-use Rattle.funnel_walk.proofs.NamedLists.{count_left, count_right, length_named}
+use Rattle.funnel_walk.proofs.FirstNamed.{one_before, one_behind}
+use Rattle.funnel_walk.proofs.NamedLists.{apex_below, count_right, no_more}
 use Rattle.funnel_walk.proofs.SideCorners.{diagonal_below}
 use Rattle.funnel_walk.proofs.chain.cross.Goals as goal
-use Rattle.funnel_walk.specs.Names.{named_points}
 
 pub narrow_right-apex-requires-clause-y_named : goal.narrow_right-apex-requires-clause-y_named
 narrow_right-apex-requires-clause-y_named g c =
@@ -45,8 +41,8 @@ returns-then-left-clause-one_more g c =
     let pushed = ap length (one_behind narrowed.new.names c.push_back.new.self (Corner c.right.result)
     (omega (arith, narrowed.ensures.fewer, narrowed.ensures.same_room, c.requires.room)) c.push_back.ensures.items)
     ∙ length-append left (Corner c.right.result ∷ []) in
-    let apex = apex_below _ _ _ _ names c.args.apex _ _ c.requires.walked in
-    let count = no_more c.args.out.now.items _ names c.args.apex (length left) narrowed.ensures.behind apex narrowed.ensures.some narrowed.ensures.fewer in
+    let count = no_more c.args.out.now.items _ names c.args.apex (length left) narrowed.ensures.behind (apex_below c.requires.walked)
+    narrowed.ensures.some narrowed.ensures.fewer in
     omega (arith, count, pushed)
 
 pub returns-else-left-clause-walked : goal.returns-else-left-clause-walked
