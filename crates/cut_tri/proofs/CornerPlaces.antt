@@ -1,21 +1,18 @@
 -- The vertices in the triangle at the first vertex of a piece, as points.
-use Rattle.std.proofs.Common.{◌≡◌, inr, sym, ap, subst, ◌∙◌, ℕ, ◌+◌, ◌<◌, List, [], ◌∷◌, ◌++◌, length, get_or, arith}
-use Rattle.std.proofs.lemmas.List.{get_or-map, length-map, map-append}
+use Rattle.std.proofs.Common.{◌≡◌, inr, sym, subst, ◌∙◌, ℕ, ◌+◌, ◌<◌, List, [], ◌∷◌, ◌++◌, length, get_or, arith}
+use Rattle.std.proofs.lemmas.List.{get_or-map, length-map}
 use Rattle.plane.specs.Order.{IsBefore}
 use Rattle.plane.specs.Point.{Point, whole}
 use Rattle.plane.specs.Triangle.{IsInTriangle}
-use Rattle.plane.specs.Turn.{IsLeft}
 use Rattle.rings.proofs.Vertices.{HasPoint, number_of}
 use Rattle.rings.specs.Ring.{origin, vertex}
-use Rattle.rings.specs.Simple.{IsSimple}
-use Rattle.rings.specs.Winding.{RunsCounterclockwise}
-use Rattle.ring_laws.proofs.Cuts.{least_turn}
 use Rattle.ring_laws.proofs.Ears.{NoneBefore}
 use Rattle.ring_laws.proofs.Simple.{InTriangle, height}
+use Rattle.meshes.proofs.Triangulations.{points_are}
 use Rattle.meshes.specs.Fits.{piece_points}
 use Rattle.cut_tri.proofs.Shapes.{ends_length, last_is, middle_is}
 use Rattle.cut_tri.specs.Corner.{IsInCorner, candidate_at}
-use Rattle.cut_tri.specs.Piece.{IsLeastBelow, IsPiece}
+use Rattle.cut_tri.specs.Piece.{IsLeastBelow}
 
 -- a point of a piece is the vertex at a place
 pub place_of_point : (corners : List Point) (xs : List ℕ) (p : Point) → HasPoint (piece_points corners xs) p
@@ -26,10 +23,6 @@ place_of_point corners xs p has =
     (k, below, sym (get_or-map (λ i. vertex corners i) xs k 0 origin below) ∙ is origin)
 
 module _ (corners : List Point) (v w : ℕ) (ms : List ℕ) (u : ℕ) where
-  -- the points of the piece
-  pub points_are : piece_points corners (v ∷ w ∷ (ms ++ u ∷ [])) ≡ vertex corners v ∷ vertex corners w ∷ (piece_points corners ms ++ vertex corners u ∷ [])
-  points_are = ap (λ ps. vertex corners v ∷ vertex corners w ∷ ps) (map-append (λ i. vertex corners i) ms (u ∷ []))
-
   module _ (i : ℕ) (within : i < length ms) where
     -- a vertex in the triangle is in the corner
     pub in_corner_from : InTriangle (vertex corners u) (vertex corners v) (vertex corners w) (vertex corners (get_or ms i 0))
@@ -60,22 +53,9 @@ module _ (corners : List Point) (v w : ℕ) (ms : List ℕ) (u : ℕ) where
       none (i + 2) (omega (arith, within, ends_length v w ms u))
       (in_corner_from i within (subst (InTriangle (vertex corners u) (vertex corners v) (vertex corners w)) (sym is) h))
 
-  module _ (piece : IsPiece corners (v ∷ w ∷ (ms ++ u ∷ [])))
-      (least : IsLeastBelow corners (v ∷ w ∷ (ms ++ u ∷ [])) (length (v ∷ w ∷ (ms ++ u ∷ []))) 0) where
-    -- no other point is before the first
-    pub none_before : NoneBefore (vertex corners w ∷ (piece_points corners ms ++ vertex corners u ∷ [])) (vertex corners v)
-    none_before p has before =
-        let (k, within, is) = place_of_point corners (v ∷ w ∷ (ms ++ u ∷ [])) p (subst (λ rs. HasPoint rs p) (sym points_are) (inr has)) in
-        least k within (subst (λ (q : Point). IsBefore q (vertex corners v)) (sym is) before)
-
-    -- the points are simple,
-    pub ends_simple : IsSimple (vertex corners v ∷ vertex corners w ∷ (piece_points corners ms ++ vertex corners u ∷ []))
-    ends_simple = subst IsSimple points_are piece.simple
-
-    -- and run counterclockwise
-    pub ends_run : RunsCounterclockwise (vertex corners v ∷ vertex corners w ∷ (piece_points corners ms ++ vertex corners u ∷ []))
-    ends_run = subst RunsCounterclockwise points_are piece.counterclockwise
-
-    -- so the turn at the first is left
-    pub first_left : IsLeft (whole (vertex corners u)) (whole (vertex corners v)) (whole (vertex corners w))
-    first_left = least_turn (vertex corners v) (vertex corners w) (piece_points corners ms) (vertex corners u) ends_simple ends_run none_before
+  -- no other point is before the first where no vertex is
+  pub none_before : IsLeastBelow corners (v ∷ w ∷ (ms ++ u ∷ [])) (length (v ∷ w ∷ (ms ++ u ∷ []))) 0
+      → NoneBefore (vertex corners w ∷ (piece_points corners ms ++ vertex corners u ∷ [])) (vertex corners v)
+  none_before least p has before =
+      let (k, within, is) = place_of_point corners (v ∷ w ∷ (ms ++ u ∷ [])) p (subst (λ rs. HasPoint rs p) (sym (points_are corners v w ms u)) (inr has)) in
+      least k within (subst (λ (q : Point). IsBefore q (vertex corners v)) (sym is) before)

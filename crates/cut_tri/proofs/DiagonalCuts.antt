@@ -5,11 +5,12 @@ use Rattle.std.proofs.lemmas.List.{append_assoc, drop_at, get_or_at, length-appe
 use Rattle.plane.specs.Point.{Point}
 use Rattle.rings.proofs.Vertices.{HasPoint, Farthest, has_right}
 use Rattle.rings.specs.Ring.{vertex}
-use Rattle.ring_laws.proofs.Cuts.{IsCounterclockwiseCut, farthest_cut_runs}
+use Rattle.ring_laws.proofs.Cuts.{IsCounterclockwiseCut}
 use Rattle.ring_laws.proofs.Simple.{InTriangle, height}
-use Rattle.meshes.proofs.Joins.{IsCut, both_parts, contains_first_part, contains_second_part, first_part, second_part, fits_joined}
+use Rattle.meshes.proofs.Joins.{both_parts, contains_first_part, contains_second_part, first_part, second_part}
+use Rattle.meshes.proofs.Triangulations.{CutsPoints, SplitAt, both_fit, farthest_cut, first_is_piece, second_is_piece}
 use Rattle.meshes.specs.Fits.{piece_points}
-use Rattle.cut_tri.proofs.CornerPlaces.{ends_run, ends_simple, height_is, in_corner_from, in_triangle_from, none_before, place_of_point}
+use Rattle.cut_tri.proofs.CornerPlaces.{height_is, in_corner_from, in_triangle_from, none_before, place_of_point}
 use Rattle.cut_tri.proofs.Members.{members_of_numbers, numbers_of_members}
 use Rattle.cut_tri.proofs.Shapes.{by_split, ends_length}
 use Rattle.cut_tri.specs.Corner.{IsFarthestBelow, candidate_at}
@@ -74,50 +75,30 @@ module _ (corners : List Point) (v w : ℕ) (cs : List ℕ) (z : ℕ) (ds : List
     }
 
     -- so the diagonal to it cuts the points in two
-    points_cut : IsCounterclockwiseCut (piece_points corners (both_parts v (w ∷ cs) z (ds ++ u ∷ []))) (piece_points corners (first_part v (w ∷ cs) z))
-        (piece_points corners (second_part v z (ds ++ u ∷ []))) (vertex corners v) (vertex corners z)
+    points_cut : CutsPoints corners v w cs z ds u (vertex corners z)
     points_cut =
-        let V = vertex corners v in
-        let W = vertex corners w in
-        let Z = vertex corners z in
-        let U = vertex corners u in
-        let at = λ (i : ℕ). vertex corners i in
-        let cut = farthest_cut_runs V W (piece_points corners others) U (ends_simple corners v w others u piece least) (ends_run corners v w others u piece least)
-        (none_before corners v w others u piece least) farthest_point (piece_points corners cs) (piece_points corners ds) others_points in
-        subst (λ rs. IsCounterclockwiseCut rs (V ∷ W ∷ piece_points corners (cs ++ z ∷ [])) (V ∷ Z ∷ piece_points corners (ds ++ u ∷ [])) V Z) whole_is
-        (subst (λ rs. IsCounterclockwiseCut (V ∷ W ∷ (piece_points corners others ++ U ∷ [])) (V ∷ W ∷ rs) (V ∷ Z ∷ piece_points corners (ds ++ u ∷ [])) V Z) (sym (map-append at cs (z ∷ [])))
-        (subst (λ rs. IsCounterclockwiseCut (V ∷ W ∷ (piece_points corners others ++ U ∷ [])) (V ∷ W ∷ (piece_points corners cs ++ Z ∷ [])) (V ∷ Z ∷ rs) V Z) (sym (map-append at ds (u ∷ []))) cut))
-      where
-        whole_is : vertex corners v ∷ vertex corners w ∷ (piece_points corners others ++ vertex corners u ∷ []) ≡ piece_points corners (both_parts v (w ∷ cs) z (ds ++ u ∷ []))
-        whole_is =
-            ap (λ rs. vertex corners v ∷ vertex corners w ∷ rs) (sym (map-append (λ i. vertex corners i) others (u ∷ [])))
-            ∙ ap (piece_points corners) regrouped
+        let at_z : SplitAt corners others (vertex corners z) = record { before = cs; number = z; after = ds; parts = refl; is_point = refl } in
+        subst (λ xs. IsCounterclockwiseCut (piece_points corners xs) (vertex corners v ∷ vertex corners w ∷ (piece_points corners cs ++ vertex corners z ∷ []))
+        (vertex corners v ∷ vertex corners z ∷ (piece_points corners ds ++ vertex corners u ∷ [])) (vertex corners v) (vertex corners z)) regrouped
+        (farthest_cut corners v w others u piece.polygon (none_before corners v w others u least) farthest_point at_z)
 
     -- and the piece in two pieces
     are_parts : AreParts corners (both_parts v (w ∷ cs) z (ds ++ u ∷ [])) (first_part v (w ∷ cs) z) (second_part v z (ds ++ u ∷ []))
     are_parts =
         let whole_piece = subst (IsPiece corners) regrouped piece in
+        let polygon = whole_piece.polygon in
         let numbers = members_of_numbers (length corners) (both_parts v (w ∷ cs) z (ds ++ u ∷ [])) whole_piece.numbers in
-        let cut : IsCut corners v (w ∷ cs) z (ds ++ u ∷ []) = record {
-          simple = whole_piece.simple;
-          inside = points_cut.in_two.covers;
-          common = points_cut.in_two.common;
-        } in
         record {
           first_is_piece = record {
-            some = omega (arith, length-append cs (z ∷ []));
+            polygon = first_is_piece corners v w cs z ds u polygon points_cut;
             numbers = numbers_of_members (length corners) (first_part v (w ∷ cs) z) (λ i h. numbers i (contains_first_part v (w ∷ cs) z (ds ++ u ∷ []) i h));
-            simple = points_cut.in_two.first_simple;
-            counterclockwise = points_cut.first_runs;
           };
           second_is_piece = record {
-            some = omega (arith, length-append ds (u ∷ []));
+            polygon = second_is_piece corners v w cs z ds u polygon points_cut;
             numbers = numbers_of_members (length corners) (second_part v z (ds ++ u ∷ [])) (λ i h. numbers i (contains_second_part v (w ∷ cs) z (ds ++ u ∷ []) i h));
-            simple = points_cut.in_two.second_simple;
-            counterclockwise = points_cut.second_runs;
           };
           lengths = omega (arith, length-append cs (z ∷ []), length-append cs (z ∷ (ds ++ u ∷ [])));
-          fits = λ ts us first second. fits_joined corners v (w ∷ cs) z (ds ++ u ∷ []) ts us cut first second;
+          fits = both_fit corners v w cs z ds u polygon points_cut;
         }
 
 -- ---- the parts of any piece

@@ -1,14 +1,10 @@
 -- Numbers in a list and at its places, and pieces read from another vertex on.
-use Rattle.std.proofs.Common.{◌≡◌, sym, subst, ◌∙◌, ℕ, ◌<◌, List, ◌++◌, length, get_or, arith}
-use Rattle.std.proofs.lemmas.List.{get_or_default, map-append}
+use Rattle.std.proofs.Common.{subst, ℕ, ◌<◌, List, ◌++◌, length, get_or}
 use Rattle.std.proofs.lemmas.List.Elements.{Contains-get_or}
 use Rattle.std.specs.List.{Contains}
 use Rattle.plane.specs.Point.{Point}
-use Rattle.rings.specs.Ring.{vertex}
-use Rattle.rings.specs.Winding.{RunsCounterclockwise}
-use Rattle.ring_laws.proofs.Ears.{counterclockwise_rotated}
 use Rattle.meshes.proofs.Joins.{place_of, same_rotated}
-use Rattle.meshes.specs.Fits.{piece_points}
+use Rattle.meshes.proofs.Triangulations.{piece_rotated}
 use Rattle.cut_tri.specs.Piece.{IsPiece}
 
 module _ (n : ℕ) (xs : List ℕ) where
@@ -23,18 +19,12 @@ module _ (n : ℕ) (xs : List ℕ) where
 module _ (corners : List Point) (xs ys : List ℕ) (is : IsPiece corners (xs ++ ys)) where
   -- its members are those of the piece read from another vertex on
   pub members_back : (i : ℕ) → Contains (ys ++ xs) i → Contains (xs ++ ys) i
-  members_back = (same_rotated corners ys xs (same_rotated corners xs ys is.simple).simple).members
+  members_back = (same_rotated corners ys xs (same_rotated corners xs ys is.polygon.simple).simple).members
 
   -- that is a piece too
-  pub piece_rotated : IsPiece corners (ys ++ xs)
-  piece_rotated =
-      let same = same_rotated corners xs ys is.simple in
-      record {
-        some = omega (arith, is.some, same.as_long);
-        numbers = numbers_of_members (length corners) (ys ++ xs)
-            (λ i h. members_of_numbers (length corners) (xs ++ ys) is.numbers i (members_back i h));
-        simple = same.simple;
-        counterclockwise = subst RunsCounterclockwise (sym (map-append (λ k. vertex corners k) ys xs))
-            (counterclockwise_rotated (piece_points corners ys) (piece_points corners xs)
-            (subst RunsCounterclockwise (map-append (λ k. vertex corners k) xs ys) is.counterclockwise));
-      }
+  pub is_piece_rotated : IsPiece corners (ys ++ xs)
+  is_piece_rotated = record {
+    polygon = piece_rotated corners xs ys is.polygon;
+    numbers = numbers_of_members (length corners) (ys ++ xs)
+        (λ i h. members_of_numbers (length corners) (xs ++ ys) is.numbers i (members_back i h));
+  }

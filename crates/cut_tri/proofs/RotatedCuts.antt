@@ -9,7 +9,7 @@ use Rattle.plane.specs.Point.{Point}
 use Rattle.rings.specs.Ring.{vertex}
 use Rattle.meshes.proofs.Joins.{place_of, fits_rotated}
 use Rattle.exact_plane.specs.declared.memory.Memory.{Memory}
-use Rattle.cut_tri.proofs.Members.{members_back, piece_rotated}
+use Rattle.cut_tri.proofs.Members.{members_back, is_piece_rotated}
 use Rattle.cut_tri.specs.Cutting.{IsCutOf}
 use Rattle.cut_tri.specs.Piece.{IsLeastBelow, IsPiece, corner_at}
 use Rattle.cut_tri.specs.declared.cut.Remains.{Remains}
@@ -43,7 +43,7 @@ module _ (corners : List Point) (xs : List ℕ) (k : ℕ) (is : IsPiece corners 
 
   -- read from place k on it is a piece
   pub piece_from : IsPiece corners (drop k xs ++ take k xs)
-  piece_from = piece_rotated corners (take k xs) (drop k xs) two_parts
+  piece_from = is_piece_rotated corners (take k xs) (drop k xs) two_parts
 
   -- what is left of that is left of the piece
   pub result_from : (r : Result Remains Memory) → IfOk r (IsCutOf corners (drop k xs ++ take k xs)) → IfOk r (IsCutOf corners xs)

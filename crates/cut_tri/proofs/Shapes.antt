@@ -1,19 +1,13 @@
 -- A list of three numbers or more: the first, the second, some others and the last.
-use Rattle.std.proofs.Common.{◌≡◌, refl, sym, ap, subst, ◌∙◌, ℕ, suc, ◌+◌, ◌-◌, ◌<◌, ◌≤◌, List, [], ◌∷◌, ◌++◌, length, get_or, take, drop, arith}
+use Rattle.std.proofs.Common.{◌≡◌, sym, ap, subst, ◌∙◌, ℕ, suc, ◌+◌, ◌-◌, ◌<◌, ◌≤◌, List, [], ◌∷◌, ◌++◌, length, get_or, take, drop, arith}
 use Rattle.std.proofs.lemmas.List.{append_assoc, drop_more, get_or_append_left, get_or_at, length-append, length-take-le, take-append-drop}
+use Rattle.meshes.proofs.Triangulations.{by_ends_from}
 use Rattle.cut_tri.specs.Piece.{tri_at_first}
-
--- a list has a last item
-last_item : (x : ℕ) (xs : List ℕ) → (ms : List ℕ) × (u : ℕ) × (ms ++ u ∷ [] ≡ x ∷ xs)
-last_item x [] = ([], x, refl)
-last_item x (y ∷ ys) = let (ms, u, is) = last_item y ys in (x ∷ ms, u, ap (λ zs. x ∷ zs) is)
 
 -- what holds of lists in this form holds of all
 pub by_ends : (P : List ℕ → Type 0) → ((v w : ℕ) (ms : List ℕ) (u : ℕ) → P (v ∷ w ∷ (ms ++ u ∷ []))) → (xs : List ℕ) → 3 ≤ length xs → P xs
 by_ends P h [] some = absurd (omega arith)
-by_ends P h (v ∷ []) some = absurd (omega arith)
-by_ends P h (v ∷ w ∷ []) some = absurd (omega arith)
-by_ends P h (v ∷ w ∷ x ∷ xs) some = let (ms, u, is) = last_item x xs in subst (λ zs. P (v ∷ w ∷ zs)) is (h v w ms u)
+by_ends P h (v ∷ xs) some = by_ends_from P v (h v) xs (omega (arith, some))
 
 module _ (v w : ℕ) (ms : List ℕ) (u : ℕ) where
   -- the length

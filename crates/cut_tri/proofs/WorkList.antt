@@ -29,14 +29,14 @@ module _ (corners : List Point) (piece : List ℕ) (pieces : List (List ℕ)) (d
     (are_pieces : ArePieces corners pieces) (completes : Completes corners done (piece ∷ pieces)) where
   -- a triangle fits the piece
   with_triangle : (tri : Tri) → FitsPiece corners piece (tri ∷ []) → IsNearer corners (effort (piece ∷ pieces)) (done ++ tri ∷ []) pieces
-  with_triangle tri fits = record { are_pieces = are_pieces; completes = completes (tri ∷ []) fits; less = omega (arith, is_piece.some) }
+  with_triangle tri fits = record { are_pieces = are_pieces; completes = completes (tri ∷ []) fits; less = omega (arith, is_piece.polygon.some) }
 
   -- a triangle is cut off
   with_ear : (tri : Tri) (rest : List ℕ) → IsEar corners piece tri rest → IsNearer corners (effort (piece ∷ pieces)) (done ++ tri ∷ []) (rest ∷ pieces)
   with_ear tri rest is = record {
     are_pieces = (is.rest_is_piece, are_pieces);
     completes = λ ts fit. subst (λ us. Completes corners us pieces) (sym (append_assoc done (tri ∷ []) ts)) (completes (tri ∷ ts) (is.fits ts fit));
-    less = let some = is.rest_is_piece.some in omega (arith, is.shorter);
+    less = let some = is.rest_is_piece.polygon.some in omega (arith, is.shorter);
   }
 
   -- the piece is cut in two
@@ -45,7 +45,7 @@ module _ (corners : List Point) (piece : List ℕ) (pieces : List (List ℕ)) (d
     are_pieces = (are.first_is_piece, (are.second_is_piece, are_pieces));
     completes = λ ts fit us fit_too.
         subst (λ vs. Completes corners vs pieces) (sym (append_assoc done ts us)) (completes (ts ++ us) (are.fits ts us fit fit_too));
-    less = let some = are.first_is_piece.some in let more = are.second_is_piece.some in omega (arith, are.lengths);
+    less = let some = are.first_is_piece.polygon.some in let more = are.second_is_piece.polygon.some in omega (arith, are.lengths);
   }
 
   -- so it is nearer whatever is left of the piece

@@ -1,23 +1,19 @@
 -- Pieces of a polygon: simple polygons with some of its vertices. No public clause cites this module.
-use Rattle.std.specs.Prelude.{ℕ, ◌-◌, ◌<◌, ◌≤◌, List, length, slice_index_or}
+use Rattle.std.specs.Prelude.{ℕ, ◌-◌, ◌<◌, List, length, slice_index_or}
 use Rattle.plane.specs.Order.{IsBefore}
 use Rattle.plane.specs.Point.{Point}
 use Rattle.rings.specs.Ring.{vertex}
-use Rattle.rings.specs.Simple.{IsSimple}
-use Rattle.rings.specs.Winding.{RunsCounterclockwise}
-use Rattle.meshes.specs.Fits.{piece_points}
+use Rattle.meshes.specs.Piece.{IsPolygonPiece}
 use Rattle.meshes.specs.declared.tri.Tri.{Tri}
 
 -- its items are numbers of vertices
 abbrev pub HasNumbers : List Point → List ℕ → Type 0
 HasNumbers corners piece = (k : ℕ) → k < length piece → slice_index_or piece k 0 < length corners
 
--- at least three vertices by their numbers: a simple ring that runs counterclockwise
+-- at least three of the vertices: a simple ring that runs counterclockwise
 pub record IsPiece (corners : List Point) (piece : List ℕ) : Type 0 where
-  pub some : 3 ≤ length piece
+  pub polygon : IsPolygonPiece corners piece
   pub numbers : HasNumbers corners piece
-  pub simple : IsSimple (piece_points corners piece)
-  pub counterclockwise : RunsCounterclockwise (piece_points corners piece)
 
 -- the vertex at place k
 abbrev pub corner_at : List Point → List ℕ → ℕ → Point

@@ -10,7 +10,7 @@ use Rattle.exact_plane.specs.Spot.{IsNamed, point_named}
 use Rattle.exact_plane.specs.declared.turns.Spot.{Spot}
 use Rattle.exact_plane.specs.declared.turns.Spot.TheVariants.{Goal, Start}
 use Rattle.funnel_walk.proofs.FirstNames.{first_left, first_right, left_named, name_named, one_named, right_named}
-use Rattle.funnel_walk.proofs.NamedLists.{left_points, length_named, named_push, point_of_name, right_points}
+use Rattle.funnel_walk.proofs.NamedLists.{apex_below, left_points, named_push, point_of_name, right_points}
 use Rattle.funnel_walk.specs.Names.{AreNamed, left_names, name_at, named_points, right_names}
 use Rattle.funnel_walk.specs.Walked.{IsWalked}
 
@@ -46,24 +46,20 @@ module _ (corners : List Point) (start goal : Point) (given names : List Spot) (
   abbrev way_points : List Point
   way_points = points_on_way (named_points at given) (named_points at names) a h
 
-  -- the apex is one of the names,
-  apex_below : a < length names
-  apex_below = omega (arith, w.funnel.funnel.apex_within, length_named at names)
-
   -- the names on the way stand for the points on it,
   way_is : named_points at way ≡ way_points
   way_is =
       map-append at (given ++ left_names names a (a - h)) (right_names names (min a h) (h - min a h))
       ∙ ap (λ ps. ps ++ named_points at (right_names names (min a h) (h - min a h))) (map-append at given (left_names names a (a - h)))
       ∙ ap (λ ps. named_points at given ++ ps ++ named_points at (right_names names (min a h) (h - min a h)))
-      (left_points at names a (a - h) apex_below)
+      (left_points at names a (a - h) (apex_below w))
       ∙ ap (λ ps. named_points at given ++ left_behind (named_points at names) a (a - h) ++ ps)
       (right_points at names (min a h) (h - min a h) (omega arith))
 
   -- and each stands for one
   way_named : AreNamed corners way
   way_named = All-append (IsNamed corners) _ _
-      (All-append (IsNamed corners) given _ w.given_named (left_named corners names w.named a (a - h) apex_below))
+      (All-append (IsNamed corners) given _ w.given_named (left_named corners names w.named a (a - h) (apex_below w)))
       (right_named corners names w.named (min a h) (h - min a h) (omega arith))
 
   -- the way begins at the start

@@ -9,7 +9,7 @@ use Rattle.exact_plane.specs.Spot.{IsNamed, point_named}
 use Rattle.exact_plane.specs.declared.turns.Spot.{Spot}
 use Rattle.exact_plane.specs.declared.turns.Spot.TheVariants.{Corner, Start}
 use Rattle.funnel_walk.proofs.FirstNames.{first_left, first_right, left_named, more_named, one_named, right_named}
-use Rattle.funnel_walk.proofs.NamedLists.{front_named, left_points, length_named, name_behind, name_in_front, named_drop, named_push, named_take}
+use Rattle.funnel_walk.proofs.NamedLists.{apex_below, front_named, left_points, name_behind, name_in_front, named_drop, named_push, named_take}
 use Rattle.funnel_walk.proofs.NamedLists.{rest_named, right_points}
 use Rattle.funnel_walk.specs.Names.{left_names, name_at, named_points, right_names}
 use Rattle.funnel_walk.specs.Walked.{IsWalked}
@@ -20,10 +20,6 @@ module _ (corners : List Point) (start goal : Point) (given names : List Spot) (
   -- the point that a name stands for
   abbrev at : Spot → Point
   at = point_named corners start goal
-
-  -- the apex is one of them
-  apex_below : a < length names
-  apex_below = omega (arith, w.funnel.funnel.apex_within, length_named at names)
 
   module _ (within : h < length names) where
     -- ---- on the right
@@ -38,7 +34,7 @@ module _ (corners : List Point) (start goal : Point) (given names : List Spot) (
     right_given_are : named_points at (given ++ left_names names a (a - h))
         ≡ named_points at given ++ left_behind (named_points at names) a (a - h)
     right_given_are = map-append at given (left_names names a (a - h))
-        ∙ ap (λ ns. named_points at given ++ ns) (left_points at names a (a - h) apex_below)
+        ∙ ap (λ ns. named_points at given ++ ns) (left_points at names a (a - h) (apex_below w))
 
     -- the apex has the last name that comes to them,
     right_apex : name_at (take (h + 1) names ++ Corner m ∷ []) (min a h) ≡ name_at names (a - (a - h))
@@ -56,7 +52,7 @@ module _ (corners : List Point) (start goal : Point) (given names : List Spot) (
           (sym right_given_are)
           (subst (λ ps. IsOpenFunnel corners (named_points at given ++ left_behind (named_points at names) a (a - h)) ps (min a h) i m)
           (sym right_points_are) next);
-      given_named = All-append (IsNamed corners) given _ w.given_named (left_named corners names w.named a (a - h) apex_below);
+      given_named = All-append (IsNamed corners) given _ w.given_named (left_named corners names w.named a (a - h) (apex_below w));
       named = All-append (IsNamed corners) (take (h + 1) names) (Corner m ∷ []) (front_named corners names (h + 1) w.named)
           (one_named corners (Corner m) m_below);
       starts = first_left given names a (a - h) _ right_apex ∙ w.starts;
@@ -72,7 +68,7 @@ module _ (corners : List Point) (start goal : Point) (given names : List Spot) (
     left_given_are : named_points at (given ++ right_names names a (h - a))
         ≡ named_points at given ++ right_behind (named_points at names) a (h - a)
     left_given_are = map-append at given (right_names names a (h - a))
-        ∙ ap (λ ns. named_points at given ++ ns) (right_points at names a (h - a) (omega (arith, apex_below)))
+        ∙ ap (λ ns. named_points at given ++ ns) (right_points at names a (h - a) (omega (arith, apex_below w)))
 
     -- the apex has the last name that comes to them,
     left_apex : name_at (Corner m ∷ drop h names) (a - h + 1) ≡ name_at names (a + (h - a))
@@ -89,7 +85,7 @@ module _ (corners : List Point) (start goal : Point) (given names : List Spot) (
           (subst (λ ps. IsOpenFunnel corners (named_points at given ++ right_behind (named_points at names) a (h - a)) ps (a - h + 1) m j)
           (sym left_points_are) next);
       given_named = All-append (IsNamed corners) given _ w.given_named
-          (right_named corners names w.named a (h - a) (omega (arith, apex_below)));
+          (right_named corners names w.named a (h - a) (omega (arith, apex_below w)));
       named = more_named corners (Corner m) (drop h names) m_below (rest_named corners names h w.named);
       starts = first_right given names a (h - a) _ left_apex ∙ w.starts;
     }

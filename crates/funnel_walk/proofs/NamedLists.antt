@@ -7,10 +7,11 @@ use Rattle.plane.specs.Point.{Point}
 use Rattle.rings.specs.Chain.{point_at}
 use Rattle.rings.specs.Ring.{origin}
 use Rattle.funnels.specs.OpenFunnel.{left_behind, right_behind}
-use Rattle.exact_plane.specs.Spot.{IsNamed}
+use Rattle.exact_plane.specs.Spot.{IsNamed, point_named}
 use Rattle.exact_plane.specs.declared.turns.Spot.{Spot}
 use Rattle.exact_plane.specs.declared.turns.Spot.TheVariants.{Start}
 use Rattle.funnel_walk.specs.Names.{AreNamed, left_names, name_at, named_points, right_names}
+use Rattle.funnel_walk.specs.Walked.{IsWalked}
 
 module _ (at : Spot → Point) where
   -- there are as many points as names,
@@ -90,6 +91,18 @@ count_left given names a c = length-append given (left_names names a c) ∙ ap (
 pub count_right : (given names : List Spot) (a c : ℕ) → length (given ++ right_names names a c) ≡ length given + c
 count_right given names a c = length-append given (right_names names a c) ∙ ap (λ n. length given + n) (length_right names a c)
 
+-- where all names from the apex on will be given, there is room for two names more,
+pub room_for_two : (given out names : List Spot) (a i room : ℕ) → out ≡ given ++ right_names names a (i - a) → a ≤ i → i < length names
+    → length given + length names + 1 ≤ room + a → length out + 2 ≤ room
+room_for_two given out names a i room is from within fits =
+    let count = ap length is ∙ count_right given names a (i - a) in omega (arith, count, from, within, fits)
+
+-- and where the apex goes back to one of the first names, no more names are given than are left out
+pub no_more : (given out names : List Spot) (a n : ℕ) → out ≡ given ++ left_names names a (a - (n - 1)) → a < length names → 0 < n → n ≤ length names
+    → length out + n ≤ length given + length names
+no_more given out names a n is apex some fewer =
+    let count = ap length is ∙ count_left given names a (a - (n - 1)) in omega (arith, count, apex, some, fewer)
+
 -- the name at a place of the front,
 pub name_in_front : (names : List Spot) (n i : ℕ) → i < n → name_at (take n names) i ≡ name_at names i
 name_in_front names n i below = get_or-take n names i Start below
@@ -108,3 +121,7 @@ front_named corners names n named = λ k d below.
 pub rest_named : (corners : List Point) (names : List Spot) (n : ℕ) → AreNamed corners names → AreNamed corners (drop n names)
 rest_named corners names n named = λ k d below.
     let e = length-drop n names in subst (IsNamed corners) (sym (get_or-drop n names k d)) (named (n + k) d (omega arith))
+
+-- the apex of a walk is one of the names
+pub apex_below : {corners : List Point} {start goal : Point} {given names : List Spot} {a i j : ℕ} → IsWalked corners start goal given names a i j → a < length names
+apex_below {corners} {start} {goal} {given} {names} w = omega (arith, w.funnel.funnel.apex_within, length_named (point_named corners start goal) names)

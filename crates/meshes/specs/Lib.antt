@@ -1,5 +1,6 @@
 pub mod Fits
 pub mod Laws
 pub mod Mesh
+pub mod Piece
 pub mod Side
 pub mod Sleeve

@@ -11,8 +11,10 @@ use Rattle.ring_laws.proofs.Cuts.{IsCounterclockwiseCut, farthest_cut_runs, leas
 use Rattle.ring_laws.proofs.Ears.{NoneBefore}
 use Rattle.ring_laws.proofs.Simple.{InTriangle, height}
 use Rattle.meshes.proofs.Joins.{IsCut, both_parts, first_part, second_part, fits_joined}
-use Rattle.meshes.proofs.Triangulations.Pieces.{HasTris, IsPiece, SplitAt}
-use Rattle.meshes.specs.Fits.{piece_points}
+use Rattle.meshes.proofs.Triangulations.Pieces.{HasTris, SplitAt}
+use Rattle.meshes.specs.Fits.{FitsPiece, piece_points}
+use Rattle.meshes.specs.Piece.{IsPolygonPiece}
+use Rattle.meshes.specs.declared.tri.Tri.{Tri}
 
 -- ---- two parts
 
@@ -34,28 +36,34 @@ module _ (corners : List Point) (v w : ℕ) (cs : List ℕ) (z : ℕ) (ds : List
       subst (λ rs. IsCounterclockwiseCut ring (at v ∷ at w ∷ rs) (piece_points corners (second_part v z (ds ++ u ∷ []))) (at v) (at z)) (sym (map-append at cs (z ∷ [])))
       (subst (λ rs. IsCounterclockwiseCut ring (at v ∷ at w ∷ (piece_points corners cs ++ at z ∷ [])) (at v ∷ at z ∷ rs) (at v) (at z)) (sym (map-append at ds (u ∷ []))) cut)
 
-  module _ (piece : IsPiece corners (both_parts v (w ∷ cs) z (ds ++ u ∷ []))) (cut : CutsPoints (vertex corners z)) where
+  module _ (piece : IsPolygonPiece corners (both_parts v (w ∷ cs) z (ds ++ u ∷ []))) (cut : CutsPoints (vertex corners z)) where
     -- each part is a piece
-    first_is_piece : IsPiece corners (first_part v (w ∷ cs) z)
+    pub first_is_piece : IsPolygonPiece corners (first_part v (w ∷ cs) z)
     first_is_piece =
         let parts = parts_cut cut in
         record { some = omega (arith, length-append cs (z ∷ [])); simple = parts.in_two.first_simple; counterclockwise = parts.first_runs }
 
-    second_is_piece : IsPiece corners (second_part v z (ds ++ u ∷ []))
+    pub second_is_piece : IsPolygonPiece corners (second_part v z (ds ++ u ∷ []))
     second_is_piece =
         let parts = parts_cut cut in
         record { some = omega (arith, length-append ds (u ∷ [])); simple = parts.in_two.second_simple; counterclockwise = parts.second_runs }
 
-    -- and triangles that fit the parts fit the piece
-    pub parts_fit : ((xs : List ℕ) → length xs < length (both_parts v (w ∷ cs) z (ds ++ u ∷ [])) → IsPiece corners xs → HasTris corners xs)
+    -- triangles that fit the parts fit the piece,
+    pub both_fit : (ts us : List Tri) → FitsPiece corners (first_part v (w ∷ cs) z) ts → FitsPiece corners (second_part v z (ds ++ u ∷ [])) us
+        → FitsPiece corners (both_parts v (w ∷ cs) z (ds ++ u ∷ [])) (ts ++ us)
+    both_fit ts us =
+        let in_two = (parts_cut cut).in_two in
+        let is_cut : IsCut corners v (w ∷ cs) z (ds ++ u ∷ []) = record { simple = piece.simple; inside = in_two.covers; common = in_two.common } in
+        fits_joined corners v (w ∷ cs) z (ds ++ u ∷ []) ts us is_cut
+
+    -- so it has some where pieces with fewer vertices have
+    pub parts_fit : ((xs : List ℕ) → length xs < length (both_parts v (w ∷ cs) z (ds ++ u ∷ [])) → IsPolygonPiece corners xs → HasTris corners xs)
         → HasTris corners (both_parts v (w ∷ cs) z (ds ++ u ∷ []))
     parts_fit fewer =
-        let parts = parts_cut cut in
-        let is_cut : IsCut corners v (w ∷ cs) z (ds ++ u ∷ []) = record { simple = piece.simple; inside = parts.in_two.covers; common = parts.in_two.common } in
         let whole_length = length-append cs (z ∷ (ds ++ u ∷ [])) in
         let (ts, fit) = fewer (first_part v (w ∷ cs) z) (omega (arith, whole_length, length-append cs (z ∷ []), length-append ds (u ∷ []))) first_is_piece in
         let (us, fit_too) = fewer (second_part v z (ds ++ u ∷ [])) (omega (arith, whole_length)) second_is_piece in
-        (ts ++ us, fits_joined corners v (w ∷ cs) z (ds ++ u ∷ []) ts us is_cut fit fit_too)
+        (ts ++ us, both_fit ts us fit fit_too)
 
 -- ---- at the first vertex
 
@@ -64,7 +72,7 @@ module _ (corners : List Point) (v w : ℕ) (ms : List ℕ) (u : ℕ) where
   pub points_are : piece_points corners (v ∷ w ∷ (ms ++ u ∷ [])) ≡ vertex corners v ∷ vertex corners w ∷ (piece_points corners ms ++ vertex corners u ∷ [])
   points_are = ap (λ ps. vertex corners v ∷ vertex corners w ∷ ps) (map-append (λ i. vertex corners i) ms (u ∷ []))
 
-  module _ (piece : IsPiece corners (v ∷ w ∷ (ms ++ u ∷ [])))
+  module _ (piece : IsPolygonPiece corners (v ∷ w ∷ (ms ++ u ∷ [])))
       (least : NoneBefore (vertex corners w ∷ (piece_points corners ms ++ vertex corners u ∷ [])) (vertex corners v)) where
     -- they are simple,
     pub ends_simple : IsSimple (vertex corners v ∷ vertex corners w ∷ (piece_points corners ms ++ vertex corners u ∷ []))

@@ -12,18 +12,17 @@ use Rattle.ring_laws.proofs.Simple.{InTriangle}
 use Rattle.meshes.proofs.Joins.{IsCut, fits_ear, fits_rotated, same_rotated}
 use Rattle.meshes.proofs.Sides.{fits_triangle}
 use Rattle.meshes.proofs.Triangulations.PieceCuts.{ends_run, ends_simple, first_left}
-use Rattle.meshes.proofs.Triangulations.Pieces.{HasTris, IsPiece}
-use Rattle.meshes.specs.Fits.{piece_points}
+use Rattle.meshes.specs.Fits.{FitsPiece, piece_points}
+use Rattle.meshes.specs.Piece.{IsPolygonPiece}
+use Rattle.meshes.specs.declared.tri.Tri.{Tri}
 
 -- a triangle fits a piece of three vertices
-pub triangle_fits : (corners : List Point) (v w u : ℕ) → IsPiece corners (v ∷ w ∷ u ∷ []) → NoneBefore (vertex corners w ∷ vertex corners u ∷ []) (vertex corners v)
-    → HasTris corners (v ∷ w ∷ u ∷ [])
-triangle_fits corners v w u piece least = (
-  record { a = u; b = v; c = w } ∷ [],
-  fits_rotated corners (u ∷ []) (v ∷ w ∷ []) (record { a = u; b = v; c = w } ∷ []) (fits_triangle corners u v w (first_left corners v w [] u piece least)),
-)
+pub triangle_fits : (corners : List Point) (v w u : ℕ) → IsPolygonPiece corners (v ∷ w ∷ u ∷ []) → NoneBefore (vertex corners w ∷ vertex corners u ∷ []) (vertex corners v)
+    → FitsPiece corners (v ∷ w ∷ u ∷ []) (record { a = u; b = v; c = w } ∷ [])
+triangle_fits corners v w u piece least =
+    fits_rotated corners (u ∷ []) (v ∷ w ∷ []) (record { a = u; b = v; c = w } ∷ []) (fits_triangle corners u v w (first_left corners v w [] u piece least))
 
-module _ (corners : List Point) (v w : ℕ) (ms : List ℕ) (u : ℕ) (piece : IsPiece corners (v ∷ w ∷ (ms ++ u ∷ [])))
+module _ (corners : List Point) (v w : ℕ) (ms : List ℕ) (u : ℕ) (piece : IsPolygonPiece corners (v ∷ w ∷ (ms ++ u ∷ [])))
     (least : NoneBefore (vertex corners w ∷ (piece_points corners ms ++ vertex corners u ∷ [])) (vertex corners v)) (some : 0 < length ms)
     (none : (p : Point) → HasPoint (piece_points corners ms) p → ¬ InTriangle (vertex corners u) (vertex corners v) (vertex corners w) p) where
   -- the side across from the first vertex cuts the triangle off
@@ -37,7 +36,7 @@ module _ (corners : List Point) (v w : ℕ) (ms : List ℕ) (u : ℕ) (piece : I
       least (omega (arith, some, length-map ms (λ i. vertex corners i))) none)
 
   -- the piece without the first vertex is a piece
-  rest_is_piece : IsPiece corners (w ∷ (ms ++ u ∷ []))
+  pub rest_is_piece : IsPolygonPiece corners (w ∷ (ms ++ u ∷ []))
   rest_is_piece = record {
     some = omega (arith, some, length-append ms (u ∷ []));
     simple = base_cut.in_two.first_simple;
@@ -69,10 +68,5 @@ module _ (corners : List Point) (v w : ℕ) (ms : List ℕ) (u : ℕ) (piece : I
       }
 
   -- so with the triangle what fits the rest fits the piece
-  pub ear_fits : ((xs : List ℕ) → length xs < length (v ∷ w ∷ (ms ++ u ∷ [])) → IsPiece corners xs → HasTris corners xs)
-      → HasTris corners (v ∷ w ∷ (ms ++ u ∷ []))
-  ear_fits fewer =
-      let (ts, fit) = fewer (w ∷ (ms ++ u ∷ [])) (omega arith) rest_is_piece in (
-        record { a = u; b = v; c = w } ∷ ts,
-        fits_ear corners u v w ms ts (first_left corners v w ms u piece least) cut_before fit,
-      )
+  pub ear_fits : (ts : List Tri) → FitsPiece corners (w ∷ (ms ++ u ∷ [])) ts → FitsPiece corners (v ∷ w ∷ (ms ++ u ∷ [])) (record { a = u; b = v; c = w } ∷ ts)
+  ear_fits ts = fits_ear corners u v w ms ts (first_left corners v w ms u piece least) cut_before

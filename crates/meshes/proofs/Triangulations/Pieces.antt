@@ -4,18 +4,12 @@ use Rattle.std.proofs.lemmas.List.{map-append}
 use Rattle.plane.specs.Point.{Point}
 use Rattle.rings.proofs.Vertices.{HasPoint}
 use Rattle.rings.specs.Ring.{vertex}
-use Rattle.rings.specs.Simple.{IsSimple}
 use Rattle.rings.specs.Winding.{RunsCounterclockwise}
 use Rattle.ring_laws.proofs.Ears.{counterclockwise_rotated}
 use Rattle.meshes.proofs.Joins.{fits_rotated, same_rotated}
 use Rattle.meshes.specs.Fits.{FitsPiece, piece_points}
+use Rattle.meshes.specs.Piece.{IsPolygonPiece}
 use Rattle.meshes.specs.declared.tri.Tri.{Tri}
-
--- at least three vertices by their numbers: a simple ring that runs counterclockwise
-pub record IsPiece (corners : List Point) (piece : List ℕ) : Type 0 where
-  pub some : 3 ≤ length piece
-  pub simple : IsSimple (piece_points corners piece)
-  pub counterclockwise : RunsCounterclockwise (piece_points corners piece)
 
 -- some triangles fit the piece
 abbrev pub HasTris : List Point → List ℕ → Type 0
@@ -25,7 +19,7 @@ HasTris corners piece = (tris : List Tri) × FitsPiece corners piece tris
 
 module _ (corners : List Point) (xs ys : List ℕ) where
   -- a piece read from another vertex on is a piece
-  pub piece_rotated : IsPiece corners (xs ++ ys) → IsPiece corners (ys ++ xs)
+  pub piece_rotated : IsPolygonPiece corners (xs ++ ys) → IsPolygonPiece corners (ys ++ xs)
   piece_rotated is =
       let same = same_rotated corners xs ys is.simple in
       record {
@@ -66,8 +60,8 @@ last_item x [] = ([], x, refl)
 last_item x (y ∷ ys) = let (ms, u, is) = last_item y ys in (x ∷ ms, u, ap (λ zs. x ∷ zs) is)
 
 -- what holds of lists in this form holds of all with two numbers or more after the first
-pub by_ends : (P : List ℕ → Type 0) (v : ℕ) → ((w : ℕ) (ms : List ℕ) (u : ℕ) → P (v ∷ w ∷ (ms ++ u ∷ []))) → (xs : List ℕ) → 2 ≤ length xs
+pub by_ends_from : (P : List ℕ → Type 0) (v : ℕ) → ((w : ℕ) (ms : List ℕ) (u : ℕ) → P (v ∷ w ∷ (ms ++ u ∷ []))) → (xs : List ℕ) → 2 ≤ length xs
     → P (v ∷ xs)
-by_ends P v h [] some = absurd (omega arith)
-by_ends P v h (w ∷ []) some = absurd (omega arith)
-by_ends P v h (w ∷ x ∷ xs) some = let (ms, u, is) = last_item x xs in subst (λ zs. P (v ∷ w ∷ zs)) is (h w ms u)
+by_ends_from P v h [] some = absurd (omega arith)
+by_ends_from P v h (w ∷ []) some = absurd (omega arith)
+by_ends_from P v h (w ∷ x ∷ xs) some = let (ms, u, is) = last_item x xs in subst (λ zs. P (v ∷ w ∷ zs)) is (h w ms u)

@@ -1,6 +1,6 @@
-use Rattle.std.proofs.Common.{◌≡◌, sym, ap, ◌∙◌, ◌+◌, ◌-◌, ◌++◌, [], ◌∷◌, length, vec_capacity, arith}
+use Rattle.std.proofs.Common.{◌≡◌, sym, ap, ◌∙◌, ◌+◌, ◌-◌, ◌<◌, ◌++◌, [], ◌∷◌, length, vec_capacity, arith}
 use Rattle.std.proofs.lemmas.List.{append_assoc, length-append}
-use Rattle.funnel_walk.proofs.NamedLists.{count_right, right_more}
+use Rattle.funnel_walk.proofs.NamedLists.{right_more, room_for_two}
 use Rattle.funnel_walk.proofs.chain.close.Goals as goal
 use Rattle.funnel_walk.proofs.chain.close.Goals.{else-not-same, then-not-same}
 use Rattle.funnel_walk.specs.Names.{name_at, right_names}
@@ -8,18 +8,9 @@ use Rattle.funnel_walk.specs.Names.{name_at, right_names}
 pub push_reserved-requires : goal.push_reserved-requires
 push_reserved-requires g c =
     let inv = c.loop-i.invariant in
-    let count = ap length inv.given ∙ count_right c.args.out.now.items c.args.names.now.items c.args.apex (c.loop-i.i - c.args.apex) in
-    omega (
-      arith,
-      count,
-      inv.same_out,
-      c.loop-i.out.ok.0,
-      c.loop-i-test.true,
-      c.len-last.ensures.len,
-      c.requires.room,
-      c.requires.apex,
-      c.loop-i.auto.i,
-    )
+    let within : c.loop-i.i < length c.args.names.now.items = omega (arith, c.loop-i-test.true, c.len-last.ensures.len) in
+    let room = room_for_two _ _ c.args.names.now.items c.args.apex c.loop-i.i _ inv.given c.loop-i.auto.i within c.requires.room in
+    omega (arith, room, inv.same_out, c.loop-i.out.ok.0)
 
 pub loop-i-preserved : goal.loop-i-preserved
 loop-i-preserved g c =
@@ -43,59 +34,23 @@ loop-i-preserved g c =
 pub push_reserved-requires-then-not-same : goal.push_reserved-requires-then-not-same
 push_reserved-requires-then-not-same g c =
     let inv = c.loop-i.invariant in
-    let count = ap length inv.given ∙ count_right c.args.out.now.items c.args.names.now.items c.args.apex (c.loop-i.i - c.args.apex) in
-    omega (
-      arith,
-      count,
-      inv.same_out,
-      c.loop-i.out.ok.0,
-      c.loop-i-test.false,
-      c.len-last.ensures.len,
-      c.requires.room,
-      c.requires.apex,
-      c.loop-i.auto.i,
-      c.loop-i.auto.i-end,
-    )
+    let within : c.loop-i.i < length c.args.names.now.items = omega (arith, c.loop-i.auto.i, c.loop-i.auto.i-end, c.loop-i-test.false, c.len-last.ensures.len, c.requires.apex) in
+    let room = room_for_two _ _ c.args.names.now.items c.args.apex c.loop-i.i _ inv.given c.loop-i.auto.i within c.requires.room in
+    omega (arith, room, inv.same_out, c.loop-i.out.ok.0)
 
 pub push_reserved-requires-2 : goal.push_reserved-requires-2
 push_reserved-requires-2 g c =
     let inv = c.loop-i.invariant in
-    let count = ap length inv.given ∙ count_right c.args.out.now.items c.args.names.now.items c.args.apex (c.loop-i.i - c.args.apex) in
+    let within : c.loop-i.i < length c.args.names.now.items = omega (arith, c.loop-i.auto.i, c.loop-i.auto.i-end, c.loop-i-test.false, c.len-last.ensures.len, c.requires.apex) in
+    let room = room_for_two _ _ c.args.names.now.items c.args.apex c.loop-i.i _ inv.given c.loop-i.auto.i within c.requires.room in
     elim c.if-not-same.branch [
       | then-not-same w ↦
           let one_more = ap length w.push_reserved-then-not-same.ensures.items ∙ length-append c.loop-i.out.items _ in
-          let room = ap (λ v. vec_capacity v) w.out-is ∙ w.push_reserved-then-not-same.ensures.capacity in
+          let same_room = ap (λ v. vec_capacity v) w.out-is ∙ w.push_reserved-then-not-same.ensures.capacity in
           let items = ap (λ v. length v.items) w.out-is in
-          omega (
-            arith,
-            count,
-            one_more,
-            room,
-            items,
-            inv.same_out,
-            c.if-not-same.out.ok.0,
-            c.loop-i-test.false,
-            c.len-last.ensures.len,
-            c.requires.room,
-            c.requires.apex,
-            c.loop-i.auto.i,
-            c.loop-i.auto.i-end,
-          )
+          omega (arith, room, one_more, same_room, items, inv.same_out, c.if-not-same.out.ok.0)
       | else-not-same w ↦
-          let room = ap (λ v. vec_capacity v) w.out-is in
+          let same_room = ap (λ v. vec_capacity v) w.out-is in
           let items = ap (λ v. length v.items) w.out-is in
-          omega (
-            arith,
-            count,
-            room,
-            items,
-            inv.same_out,
-            c.if-not-same.out.ok.0,
-            c.loop-i-test.false,
-            c.len-last.ensures.len,
-            c.requires.room,
-            c.requires.apex,
-            c.loop-i.auto.i,
-            c.loop-i.auto.i-end,
-          )
+          omega (arith, room, same_room, items, inv.same_out, c.if-not-same.out.ok.0)
     ]

@@ -1,18 +1,15 @@
-use Rattle.std.proofs.Common.{◌≡◌, inl, inr, refl, sym, ap, subst, ◌∙◌, ◌+◌, ◌-◌, ◌<◌, ◌++◌, [], ◌∷◌, length, drop, get_or, arith}
+use Rattle.std.proofs.Common.{◌≡◌, inl, inr, sym, ap, subst, ◌∙◌, ◌+◌, ◌-◌, ◌<◌, ◌≤◌, ◌++◌, [], ◌∷◌, length, drop, arith}
 use Rattle.std.proofs.lemmas.List.{append_assoc}
-use Rattle.plane.specs.Point.{whole}
 use Rattle.plane.proofs.Order.{point_or_other}
-use Rattle.meshes.specs.Fits.{IsInTri}
-use Rattle.meshes.specs.Side.{tri_at}
 use Rattle.meshes.specs.Sleeve.{diagonal_at}
 use Rattle.exact_plane.specs.Spot.{point_named}
 use Rattle.exact_plane.specs.declared.turns.Spot.TheVariants.{Goal}
-use Rattle.funnel_walk.proofs.Appended.{way_appended}
+use Rattle.funnel_walk.proofs.Appended.{two_appended, way_appended}
 use Rattle.funnel_walk.proofs.Closed.{names_on_way}
 use Rattle.funnel_walk.proofs.GoalReached.{taut_on, taut_there}
-use Rattle.funnel_walk.proofs.NamedLists.{count_left, front_named, length_named, name_in_front}
+use Rattle.funnel_walk.proofs.NamedLists.{apex_below, front_named, name_in_front, no_more}
 use Rattle.funnel_walk.proofs.chain.walk_on.Goals as goal
-use Rattle.funnel_walk.specs.Names.{AreNamed, left_names, name_at, right_names}
+use Rattle.funnel_walk.specs.Names.{AreNamed, name_at}
 use Rattle.funnel_walk.specs.Walked.{IsWalked}
 
 pub loop-i-preserved : goal.loop-i-preserved
@@ -45,37 +42,19 @@ close-requires-clause-named g c =
 pub close-requires-clause-room : goal.close-requires-clause-room
 close-requires-clause-room g c =
     let inv = c.loop-i.invariant in
-    let at = point_named (g.T.Turns.corners c.args.board.now) (g.T.Turns.start c.args.board.now) (g.T.Turns.goal c.args.board.now) in
     let narrowed = c.narrow_right-apex in
-    let names = c.loop-i.names.items in
-    let a = c.loop-i.apex in
-    let n = length narrowed.new.names.items in
-    let count = ap length narrowed.ensures.behind ∙ count_left c.loop-i.out.items names a (a - (n - 1)) in
-    let apex : a < length names = omega (arith, inv.walked.funnel.funnel.apex_within, length_named at names) in
-    omega (
-      arith,
-      count,
-      apex,
-      inv.few,
-      inv.same_out,
-      narrowed.ensures.same_out,
-      narrowed.ensures.some,
-      narrowed.ensures.fewer,
-      narrowed.ensures.apex,
-      c.len-given.ensures,
-      c.len-i-end.ensures.number,
-      c.loop-i.auto.i-end,
-      c.requires.some,
-      c.requires.out_room,
-    )
+    let count = no_more c.loop-i.out.items _ c.loop-i.names.items c.loop-i.apex (length narrowed.new.names.items) narrowed.ensures.behind
+    (apex_below inv.walked) narrowed.ensures.some narrowed.ensures.fewer in
+    let ended : c.loop-i.i ≤ length c.args.sleeve.now.diagonals =
+    omega (arith, c.loop-i.auto.i-end, c.len-i-end.ensures.number, c.requires.some) in
+    let same_room = narrowed.ensures.same_out ∙ inv.same_out in
+    omega (arith, count, ended, inv.few, same_room, c.len-given.ensures, c.requires.out_room)
 
 pub returns-clause-taut : goal.returns-clause-taut
 returns-clause-taut g c =
     let inv = c.loop-i.invariant in
-    let corners = g.T.Turns.corners c.args.board.now in
-    let start = g.T.Turns.start c.args.board.now in
     let goal_point = g.T.Turns.goal c.args.board.now in
-    let at = point_named corners start goal_point in
+    let at = point_named (g.T.Turns.corners c.args.board.now) (g.T.Turns.start c.args.board.now) goal_point in
     let tris = c.args.mesh.now in
     let sleeve = c.args.sleeve.now in
     let narrowed = c.narrow_right-apex in
@@ -93,25 +72,18 @@ returns-clause-taut g c =
     omega (arith, c.loop-i.auto.i-end, c.loop-i-test.false, c.len-i-end.ensures.number, c.requires.some) in
     let below : i < length sleeve.diagonals = omega (arith, ended, c.requires.some) in
     let last_place : length sleeve.walk - 1 ≡ i + 1 = omega (arith, ended, c.requires.some, c.requires.of_mesh.count) in
-    let in_goal = subst (λ k. IsInTri corners (tri_at tris (get_or sleeve.walk k 0)) (whole goal_point)) last_place c.requires.goal in
-    let count : n ≡ h + 1 = omega (arith, narrowed.ensures.some) in
+    let in_goal = rw last_place at c.requires.goal in
     let last_name : name_at left h ≡ name_at names h =
     ap (λ ns. name_at ns h) narrowed.ensures.kept ∙ name_in_front names n h (omega (arith, narrowed.ensures.some)) in
-    let appended : narrowed.new.out.items ++ right_names left narrowed.result (h - narrowed.result) ≡ first ++ way =
-    ap (λ ns. ns ++ right_names left narrowed.result (h - narrowed.result)) narrowed.ensures.behind
-    ∙ ap (λ ns. (out ++ left_names names a (a - h)) ++ right_names ns narrowed.result (h - narrowed.result)) narrowed.ensures.kept
-    ∙ way_appended first out names given a h h narrowed.result n inv.before refl narrowed.ensures.apex count in
+    let appended = way_appended first out narrowed.new.out.items names left given a h narrowed.result n inv.before narrowed.ensures.behind
+    narrowed.ensures.kept narrowed.ensures.apex (omega (arith, narrowed.ensures.some)) in
     elim (point_or_other (at (name_at left h)) goal_point) [
       | inl same ↦
-          taut_there corners tris c.requires.fits sleeve c.requires.of_mesh start goal_point c.requires.differ i below in_goal
+          taut_there _ tris c.requires.fits sleeve c.requires.of_mesh _ goal_point c.requires.differ i below in_goal
           (drop given out) names a inv.walked h narrowed.ensures.reached (ap at (sym last_name) ∙ same) first c.close.new.out.items
           (c.close.ensures.at_goal same ∙ ap (λ ns. ns ++ Goal ∷ []) appended ∙ append_assoc first way (Goal ∷ []))
       | inr other ↦
-          taut_on corners tris c.requires.fits sleeve c.requires.of_mesh start goal_point c.requires.differ i below in_goal
+          taut_on _ tris c.requires.fits sleeve c.requires.of_mesh _ goal_point c.requires.differ i below in_goal
           (drop given out) names a inv.walked h narrowed.ensures.reached (λ same. other (ap at last_name ∙ same)) first c.close.new.out.items
-          (c.close.ensures.to_goal other
-          ∙ ap (λ ns. (ns ++ name_at left h ∷ []) ++ Goal ∷ []) appended
-          ∙ ap (λ m. ((first ++ way) ++ m ∷ []) ++ Goal ∷ []) last_name
-          ∙ ap (λ ns. ns ++ Goal ∷ []) (append_assoc first way (name_at names h ∷ []))
-          ∙ append_assoc first (way ++ name_at names h ∷ []) (Goal ∷ []))
+          (c.close.ensures.to_goal other ∙ two_appended _ first way _ _ Goal appended last_name)
     ]
