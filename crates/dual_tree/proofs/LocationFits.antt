@@ -4,23 +4,13 @@ use Rattle.std.proofs.lemmas.List.FromFn.{get_or-range_with_len, length-range_wi
 use Rattle.std.specs.List.{Contains, range_with_len}
 use Rattle.plane.specs.Point.{IsPoint, Point, Triple}
 use Rattle.rings.specs.Inside.{IsIn}
-use Rattle.meshes.proofs.Sides.{piece_points_all}
+use Rattle.meshes.proofs.Sides.{piece_points_all, below_of_member}
 use Rattle.meshes.specs.Fits.{Fits, IsInTri}
 use Rattle.meshes.specs.Side.{tri_at}
 use Rattle.meshes.specs.declared.tri.Tri.{Tri}
 use Rattle.dual_tree.specs.Location.{IsCornered}
 
--- a member of the numbers below n is below n
-below_of_member : (n x : ℕ) → Contains (range_with_len 0 n) x → x < n
-below_of_member n x (k, h, e) =
-    let below : k < n = omega (arith, length-range_with_len 0 n) in
-    omega (arith, get_or-range_with_len 0 n k x below)
-
 module _ (corners : List Point) (tris : List Tri) (fits : Fits corners tris) where
-  -- there are two triangles fewer than vertices
-  pub two_fewer : length tris + 2 ≡ length corners
-  two_fewer = rw (length-range_with_len 0 (length corners)) at fits.count
-
   -- the corners of a triangle are vertices, counterclockwise
   pub cornered : (k : ℕ) → k < length tris → IsCornered corners (tri_at tris k)
   cornered k below =

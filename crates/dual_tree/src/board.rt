@@ -24,10 +24,10 @@ impl<'a> Board<'a> {
         Board { ring, start, goal }
     }
 
-    // The point with this name.
-    fn at(&self, spot: Spot) -> Pt
-        requires { IsNamed self.now.ring.now.corners spot }
-        ensures { result ≡ point_named self.now.ring.now.corners self.now.start self.now.goal spot }
+    /// The point with this name.
+    pub fn point(&self, spot: Spot) -> Pt
+        requires { IsNamed (⟦<Board<'a> as Turns>⟧.corners self.now) spot }
+        ensures { result ≡ point_named (⟦<Board<'a> as Turns>⟧.corners self.now) (⟦<Board<'a> as Turns>⟧.start self.now) (⟦<Board<'a> as Turns>⟧.goal self.now) spot }
     {
         match spot {
             Spot::Corner(i) => self.ring.corner(i),
@@ -45,10 +45,10 @@ impl<'a> Turns for Board<'a> {
     ghost goal = { λ board. board.goal };
 
     fn turn<L: Ledger>(&self, a: Spot, b: Spot, c: Spot, steps: &mut Steps<L>) -> Direction {
-        turn(&self.at(a), &self.at(b), &self.at(c), steps)
+        turn(&self.point(a), &self.point(b), &self.point(c), steps)
     }
 
     fn same<L: Ledger>(&self, a: Spot, b: Spot, steps: &mut Steps<L>) -> bool {
-        order(&self.at(a), &self.at(b), steps) == Ordering::Equal
+        order(&self.point(a), &self.point(b), steps) == Ordering::Equal
     }
 }

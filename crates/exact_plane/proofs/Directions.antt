@@ -26,7 +26,7 @@ one_sign_of_direction (negsuc m) (pos (suc n)) e turns = cc
 one_sign_of_direction (negsuc m) (negsuc n) e turns = inr (omega (arith, ints), omega (arith, ints))
 
 -- a positive number is to the left
-left_of_positive : (z : ℤ) → pos 0 <ℤ z → direction_of z ≡ Left
+pub left_of_positive : (z : ℤ) → pos 0 <ℤ z → direction_of z ≡ Left
 left_of_positive (pos zero) h = absurd (omega (arith, ints))
 left_of_positive (pos (suc n)) h = refl
 left_of_positive (negsuc n) h = absurd (omega (arith, ints))

@@ -25,3 +25,4 @@ pub use segments::{meet_only_at, on_segment, segments_meet};
 pub use steps::Steps;
 pub use triangle::in_triangle;
 pub use turns::{Spot, Turns};
+pub use wide::compare;

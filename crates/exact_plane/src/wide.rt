@@ -52,7 +52,7 @@ pub fn scaled(part: i128, weight: i128) -> i128
     part * weight
 }
 
-// Compares two parts by what they are without their weights.
+/// Compares the parts of two rational points by what they are without their weights. It takes no step.
 pub fn compare(part: i128, weight: i128, other: i128, other_weight: i128) -> Ordering
     requires part { unsigned_abs part < 2 ^ 75 }
     requires weight { unsigned_abs weight < 2 ^ 50 }

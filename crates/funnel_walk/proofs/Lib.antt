@@ -13,6 +13,5 @@ pub mod NextDiagonals
 mod Opened
 mod Passing
 mod PathNames
-mod PointsDiffer
 mod ShortWalks
 mod SideCorners

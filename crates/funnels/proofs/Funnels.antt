@@ -19,7 +19,7 @@ pub use Rattle.funnels.proofs.Funnels.ThreePoints.{by_points, turns_left, turns_
 mod TestSigns
 -- Between two points that are not left of a line no point is left of it; and none is right of it between two that are not.
 mod SidesBetween
-pub use Rattle.funnels.proofs.Funnels.SidesBetween.{not_above, turned_at_least}
+pub use Rattle.funnels.proofs.Funnels.SidesBetween.{turned_at_least}
 -- The two edges at the apex of a funnel: no point beyond the diagonal is to the left of the left one and to the right of the right one.
 mod EdgesAtApex
 -- On the side from an end of the diagonal to m the window of an old point in the next funnel is within its old window.

@@ -1,7 +1,7 @@
 -- The path in a ring is that in the list that the ring was made of, and the same points are in both.
 use Rattle.std.proofs.Common.{◌↔◌, Bool, true, false, if◌then◌else◌, List}
 use Rattle.plane.specs.Point.{Point, Triple}
-use Rattle.rings.proofs.Inside.{in_turned_iff}
+use Rattle.rings.proofs.Inside.{in_either}
 use Rattle.rings.specs.Chain.{IsPath, IsTaut}
 use Rattle.rings.specs.Inside.{IsIn}
 use Rattle.rings.specs.Orientation.{turned_round}
@@ -22,10 +22,6 @@ path_either true ring s t path is =
     λ chain. let same = taut_turned_iff ring s t chain in (λ h. (is chain).0 (same.0 h), λ e. same.1 ((is chain).1 e))
 path_either false ring s t path is = is
 
-in_either : (turned : Bool) (ring : List Point) (p : Triple) → IsIn (if turned then turned_round ring else ring) p ↔ IsIn ring p
-in_either true ring p = in_turned_iff p ring
-in_either false ring p = (λ h. h, λ h. h)
-
 module _ (ring : Oriented) where
   -- in the list that the ring was made of,
   pub path_given : (s t : Point) (path : List Point) → IsPath ring.corners s t path → IsPath (given_of ring) s t path
@@ -33,4 +29,4 @@ module _ (ring : Oriented) where
 
   -- and the points in it
   pub in_given_iff : (p : Triple) → IsIn (given_of ring) p ↔ IsIn ring.corners p
-  in_given_iff p = in_either ring.is_turned ring.corners p
+  in_given_iff p = in_either p ring.is_turned ring.corners

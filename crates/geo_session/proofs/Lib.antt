@@ -1,5 +1,5 @@
 mod Answered
-mod PlaceTexts
+mod Places
 mod Judged
 mod GivenPath
 mod GivenSize

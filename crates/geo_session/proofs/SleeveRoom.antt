@@ -14,6 +14,7 @@ use Rattle.meshes.specs.Fits.{Fits}
 use Rattle.meshes.specs.Side.{IsWalk}
 use Rattle.meshes.specs.Sleeve.{IsOneOf, Sleeve}
 use Rattle.meshes.specs.declared.tri.Tri.{Tri}
+use Rattle.meshes.proofs.Sides.{two_fewer}
 
 -- a number that is among numbers below n is below n
 below_of_any : (xs : List ℕ) (n q : ℕ) → ((i : ℕ) → i < length xs → get_or xs i 0 < n) → list_any (eqb q) xs ≡ true → q < n
@@ -41,4 +42,4 @@ module _ (tris : List Tri) (walk : List ℕ) (is_walk : IsWalk tris walk) where
 pub sleeve_few : (corners : List Point) (tris : List Tri) (sleeve : Sleeve) → Fits corners tris → IsOneOf tris sleeve
     → length sleeve.diagonals + 3 ≤ length corners
 sleeve_few corners tris sleeve fits of_mesh =
-    omega (arith, walk_few tris sleeve.walk of_mesh.walk, of_mesh.count, fits.count, length-range_with_len 0 (length corners))
+    omega (arith, walk_few tris sleeve.walk of_mesh.walk, of_mesh.count, two_fewer corners tris fits)

@@ -1,4 +1,4 @@
--- The names that a walk gives, and their points, for the ring and the two points that the board was made of.
+-- The names that a walk gives from nothing, and their points.
 use Rattle.std.proofs.Common.{◌≡◌, ◌∙◌, List, [], ◌∷◌, ◌++◌, ap}
 use Rattle.plane.specs.Point.{Point}
 use Rattle.rings.specs.Chain.{IsPath}
@@ -7,22 +7,15 @@ use Rattle.exact_plane.specs.declared.turns.Spot.{Spot}
 use Rattle.exact_plane.specs.declared.turns.Spot.TheVariants.{Start}
 use Rattle.funnel_walk.specs.Names.{AppendsPath, AreNamed, named_points}
 
-module _ (corners corners' : List Point) (s s' t t' : Point) (names given : List Spot)
-    (same : corners' ≡ corners) (same_s : s' ≡ s) (same_t : t' ≡ t) (empty : given ≡ []) where
-  module _ (more : List Spot) (appended : names ≡ given ++ more) where
-    -- they are all of them
-    all : names ≡ more
-    all = appended ∙ ap (λ before. before ++ more) empty
+module _ (corners : List Point) (s t : Point) (names given : List Spot) (empty : given ≡ []) (walked : AppendsPath corners s t given names) where
+  -- they are all of them
+  all : names ≡ Start ∷ walked.others
+  all = walked.appended ∙ ap (λ before. before ++ (Start ∷ walked.others)) empty
 
-    all_named : AreNamed corners' more → AreNamed corners names
-    all_named named = rw (all, ← same) named
+  pub names_named : AreNamed corners names
+  names_named = rw all walked.named
 
-    all_path : IsPath corners' s' t' (named_points (point_named corners' s' t') more) → IsPath corners s t (named_points (point_named corners s t) names)
-    all_path path = rw (all, ← same, ← same_s, ← same_t) path
-
-  module _ (walked : AppendsPath corners' s' t' given names) where
-    pub names_named : AreNamed corners names
-    names_named = all_named (Start ∷ walked.others) walked.appended walked.named
-
-    pub names_path : IsPath corners s t (named_points (point_named corners s t) names)
-    names_path = all_path (Start ∷ walked.others) walked.appended walked.path
+  -- the path in the ring and between the two points that the board was made of
+  pub names_path : (ring : List Point) (from to : Point) → corners ≡ ring → s ≡ from → t ≡ to
+      → IsPath ring from to (named_points (point_named corners s t) names)
+  names_path ring from to same same_s same_t = rw (← same, ← same_s, ← same_t, all) walked.path

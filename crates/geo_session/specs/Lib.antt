@@ -3,3 +3,4 @@ pub mod Laws
 pub mod Output
 pub mod Session
 pub mod Path
+pub mod Place

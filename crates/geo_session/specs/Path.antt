@@ -8,16 +8,16 @@ use Rattle.geo_text.specs.declared.command.Bad.{Bad}
 use Rattle.geo_text.specs.declared.command.Bad.TheVariants as bad
 use Rattle.geo_session.specs.Answer.{State, path_text}
 
--- the path from s to t in a polygon, or the first of the two that is not in it
-abbrev pub IsChainIn : List Point → Point → Point → Result (Vec Point Global) Bad → Type 0
-IsChainIn ring s t (Ok points) = IsIn ring (whole s) × IsIn ring (whole t) × IsPath ring s t points.items
-IsChainIn ring s t (Err fault) =
-    ((¬ IsIn ring (whole s)) × (fault ≡ bad.Outside 1)) ⊎ (IsIn ring (whole s) × (¬ IsIn ring (whole t)) × (fault ≡ bad.Outside 2))
+-- the path from s to t in a polygon, or the word for the first of the two that is not in it
+abbrev pub IsChainIn : {F : Type 0} → F → F → List Point → Point → Point → Result (Vec Point Global) F → Type 0
+IsChainIn no_start no_goal ring s t (Ok points) = IsIn ring (whole s) × IsIn ring (whole t) × IsPath ring s t points.items
+IsChainIn no_start no_goal ring s t (Err fault) =
+    ((¬ IsIn ring (whole s)) × (fault ≡ no_start)) ⊎ (IsIn ring (whole s) × (¬ IsIn ring (whole t)) × (fault ≡ no_goal))
 
 -- if there is one
 abbrev pub IsChainAnswer : State → Point → Point → Result (Vec Point Global) Bad → Type 0
 IsChainAnswer None s t found = found ≡ Err bad.NoPolygon
-IsChainAnswer (Some ring) s t found = IsChainIn ring s t found
+IsChainAnswer (Some ring) s t found = IsChainIn (bad.Outside 1) (bad.Outside 2) ring s t found
 
 -- how many vertices the polygon has
 abbrev pub size_of : State → ℕ

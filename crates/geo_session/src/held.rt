@@ -1,29 +1,40 @@
 ghost use Rattle.std.specs.Prelude.{◌≡◌, ◌+◌, ◌-◌, ◌*◌, ◌≤◌, ◌++◌, IfOk, OnErr, length, vec_capacity};
 ghost use Rattle.plane.specs.Point.{whole};
-ghost use Rattle.plane.specs.declared.limits.TheConstants.{MAX_CORNERS};
+ghost use Rattle.plane.specs.declared.limits.TheConstants.{MAX_CHAIN, MAX_CORNERS};
 ghost use Rattle.rings.specs.Chain.{IsPath};
 ghost use Rattle.meshes.specs.Fits.{Fits};
-ghost use Rattle.exact_plane.specs.Spot.{IsNamed, point_named};
+ghost use Rattle.exact_plane.specs.Spot.{point_named};
 ghost use Rattle.ring_check.specs.Oriented.{given_of};
+ghost use Rattle.taut_check.specs.Verdict.{IsVerdict};
 ghost use Rattle.dual_tree.specs.Location.{IsLeastHolding};
 ghost use Rattle.funnel_walk.specs.Names.{AreNamed, named_points};
 ghost use Rattle.geo_session.specs.Path.{IsChainIn};
+ghost use Rattle.geo_session.specs.Place.{IsPlace};
 
+use cut_tri::triangulate;
 use dual_tree::{Board, locate, sleeve};
-use exact_plane::{Memory, Pt, Spot, Steps};
+use exact_plane::{Memory, Pt, Spot, Steps, Turns};
 use funnel_walk::{FunnelBox, walk};
-use geo_text::Bad;
+use inside_test::{Position, place};
 use ring_check::Ring;
 use std::alloc::Global;
 use std::marker::Model;
 use std::sync::ledger::Ledger;
+use taut_check::{Verdict, check};
 use tri_mesh::Mesh;
 
-// A ring, with a mesh that fits it.
+// A triangulated polygon: a ring, with a mesh that fits it. What it answers is about the list that the ring was made of.
 #[derive(Drop)]
 pub(crate) struct Held {
-    pub(crate) ring: Ring,
-    pub(crate) mesh: Mesh,
+    ring: Ring,
+    mesh: Mesh,
+}
+
+// The first of two points that is not in the polygon.
+#[derive(Clone, Copy)]
+pub(crate) enum Outside {
+    Start,
+    Goal,
 }
 
 impl Model for Held {
@@ -38,25 +49,57 @@ impl Model for Held {
 }
 
 impl Held {
-    // The taut chain between two points of the ring, or which of them is the first that is not in it. It takes all its memory
-    // before the walk.
+    // The ring, cut into triangles.
+    pub(crate) fn of<L: Ledger>(
+        alloc: Global,
+        ring: Ring,
+        steps: &mut Steps<L>,
+    ) -> Result<Held, Memory>
+        ensures { IfOk result (λ held. held ≡ ring) }
+    {
+        let mesh = triangulate(alloc, &ring, steps)?;
+        Ok(Held { ring, mesh })
+    }
+
+    // Where a point is.
+    pub(crate) fn place<L: Ledger>(&self, point: &Pt, steps: &mut Steps<L>) -> Position
+        ensures { IsPlace (given_of self.now) point.now result }
+    {
+        place(&self.ring, point, steps)
+    }
+
+    // The verdict on a list of points.
+    pub(crate) fn judge<L: Ledger>(
+        &self,
+        alloc: Global,
+        points: &[Pt],
+        steps: &mut Steps<L>,
+    ) -> Result<Verdict, Memory>
+        requires { length points.now ≤ MAX_CHAIN }
+        ensures { IfOk result (IsVerdict (given_of self.now) points.now) }
+    {
+        check(alloc, &self.ring, points, steps)
+    }
+
+    // The taut chain between two points of the polygon, or which of them is the first that is not in it. It takes all its
+    // memory before the walk.
     pub(crate) fn chain<L: Ledger>(
         &self,
         alloc: Global,
         s: &Pt,
         t: &Pt,
         steps: &mut Steps<L>,
-    ) -> Result<Result<Vec<Pt>, Bad>, Memory>
-        ensures answer { IfOk result (IsChainIn (given_of self.now) s.now t.now) }
+    ) -> Result<Result<Vec<Pt>, Outside>, Memory>
+        ensures answer { IfOk result (IsChainIn Outside.Start Outside.Goal (given_of self.now) s.now t.now) }
         ensures few { IfOk result (λ found. IfOk found (λ points. length points.items ≤ MAX_CORNERS + 1)) }
         ensures steps { steps.new ≤ steps.old + 12 * length self.now.corners }
         ensures memory { OnErr result (steps.new ≤ steps.old + 6 * (length self.now.corners - 2)) }
     {
         let Some(from) = locate(&self.mesh, &self.ring, s, steps) else {
-            return Ok(Err(Bad::Outside(1)));
+            return Ok(Err(Outside::Start));
         };
         let Some(to) = locate(&self.mesh, &self.ring, t, steps) else {
-            return Ok(Err(Bad::Outside(2)));
+            return Ok(Err(Outside::Goal));
         };
         let points = chain_between(alloc, &self.mesh, &self.ring, from, to, s, t, steps)?;
         Ok(Ok(points))
@@ -89,30 +132,19 @@ fn chain_between<L: Ledger>(
     let mut points = Vec::with_capacity(alloc, sleeve.len() + 4)?;
     let board = Board::new(ring, *s, *t);
     walk(&mut room, &board, mesh, &sleeve, &mut names, steps);
-    put_points(&mut points, &names, ring, s, t);
+    put_points(&mut points, &names, &board);
     Ok(points)
 }
 
 // Appends the points that the names stand for.
-fn put_points(points: &mut Vec<Pt>, names: &[Spot], ring: &Ring, s: &Pt, t: &Pt)
-    requires named { AreNamed ring.now.corners names.now }
+fn put_points<'a>(points: &mut Vec<Pt>, names: &[Spot], board: &Board<'a>)
+    requires named { AreNamed (⟦<Board<'a> as Turns>⟧.corners board.now) names.now }
     requires room { length points.old.items + length names.now ≤ vec_capacity points.old }
-    ensures points { points.new.items ≡ points.old.items ++ named_points (point_named ring.now.corners s.now t.now) names.now }
+    ensures points { points.new.items ≡ points.old.items ++ named_points (point_named (⟦<Board<'a> as Turns>⟧.corners board.now)
+        (⟦<Board<'a> as Turns>⟧.start board.now) (⟦<Board<'a> as Turns>⟧.goal board.now)) names.now }
     ensures same_room { vec_capacity points.new ≡ vec_capacity points.old }
 {
     for name in names {
-        points.push_reserved(point_of(*name, ring, s, t));
-    }
-}
-
-// The point that a name stands for.
-fn point_of(name: Spot, ring: &Ring, s: &Pt, t: &Pt) -> Pt
-    requires { IsNamed ring.now.corners name }
-    ensures { result ≡ point_named ring.now.corners s.now t.now name }
-{
-    match name {
-        Spot::Corner(i) => ring.corner(i),
-        Spot::Start => *s,
-        Spot::Goal => *t,
+        points.push_reserved(board.point(*name));
     }
 }

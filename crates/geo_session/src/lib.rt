@@ -2,9 +2,8 @@
 #![tactic(auto)]
 
 mod held;
-mod judgement;
 mod laws;
-mod paths;
+mod lines;
 mod session;
 
 pub use laws::{one_answer, one_output};

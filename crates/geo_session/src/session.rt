@@ -3,16 +3,13 @@ ghost use Rattle.plane.specs.Point.{Point};
 ghost use Rattle.plane.specs.declared.limits.TheConstants.{MAX_CHAIN, MAX_CORNERS};
 ghost use Rattle.geo_text.specs.Reading.{IsWellSized};
 ghost use Rattle.ring_check.specs.Oriented.{given_of};
-ghost use Rattle.geo_session.specs.Answer.{AppendsAnswer, IsPlaceText, polygon_text};
+ghost use Rattle.geo_session.specs.Answer.{AppendsAnswer, polygon_text};
 ghost use Rattle.geo_session.specs.Path.{IsChainAnswer, TakesPathSteps, size_of};
 
-use crate::held::Held;
-use crate::judgement::put_judgement;
-use crate::paths::put_path;
-use cut_tri::triangulate;
+use crate::held::{Held, Outside};
+use crate::lines::{put_path, put_place, put_polygon, put_verdict};
 use exact_plane::{Memory, Pt, Steps};
-use geo_text::{Bad, Command, Points, put_bad, put_index, put_line_end, put_word};
-use inside_test::{Position, place};
+use geo_text::{Bad, Command, Points, put_bad};
 use ring_check::{Ring, RingFault};
 use std::alloc::Global;
 use std::marker::Model;
@@ -57,7 +54,10 @@ impl Session {
         ensures memory { OnErr result (steps.new ≤ steps.old + 6 * (size_of self.now - 2)) }
     {
         match &self.held {
-            Some(held) => held.chain(alloc, s, t, steps),
+            Some(held) => match held.chain(alloc, s, t, steps)? {
+                Ok(points) => Ok(Ok(points)),
+                Err(outside) => Ok(Err(outside_bad(outside))),
+            },
             None => Ok(Err(Bad::NoPolygon)),
         }
     }
@@ -142,8 +142,8 @@ impl Session {
         ensures front { OnErr result (take (length out.old.items) out.new.items ≡ out.old.items) }
     {
         put_polygon(out, ring.len())?;
-        let mesh = triangulate(alloc, &ring, steps)?;
-        self.held = Some(Held { ring, mesh });
+        let held = Held::of(alloc, ring, steps)?;
+        self.held = Some(held);
         Ok(())
     }
 
@@ -157,7 +157,7 @@ impl Session {
         ensures front { OnErr result (take (length out.old.items) out.new.items ≡ out.old.items) }
     {
         match &self.held {
-            Some(held) => put_word(out, place_line(&held.ring, point, steps)),
+            Some(held) => put_place(out, held.place(point, steps)),
             None => put_bad(out, &Bad::NoPolygon),
         }
     }
@@ -176,7 +176,8 @@ impl Session {
         let Some(held) = &self.held else {
             return put_bad(out, &Bad::NoPolygon);
         };
-        put_judgement(alloc, out, &held.ring, points, steps)
+        let verdict = held.judge(alloc, points, steps)?;
+        put_verdict(out, verdict)
     }
 
     fn answer_path<L: Ledger>(
@@ -198,23 +199,13 @@ impl Session {
     }
 }
 
-// The line that says where a point lies.
-fn place_line<L: Ledger>(ring: &Ring, point: &Pt, steps: &mut Steps<L>) -> &'static str
-    ensures { IsPlaceText (given_of ring.now) point.now result.now }
+// The refusal of a path from or to a point that is not in the polygon.
+fn outside_bad(outside: Outside) -> Bad
+    ensures start { outside ≡ Outside.Start → result ≡ Bad.Outside 1 }
+    ensures goal { outside ≡ Outside.Goal → result ≡ Bad.Outside 2 }
 {
-    match place(ring, point, steps) {
-        Position::Inside => "inside\n",
-        Position::Edge => "edge\n",
-        Position::Outside => "outside\n",
+    match outside {
+        Outside::Start => Bad::Outside(1),
+        Outside::Goal => Bad::Outside(2),
     }
-}
-
-// Appends the line of an accepted polygon with `count` vertices.
-fn put_polygon(out: &mut Vec<u8>, count: u32) -> Result<(), Memory>
-    ensures ok { OnOk result (out.new.items ≡ out.old.items ++ polygon_text count) }
-    ensures front { OnErr result (take (length out.old.items) out.new.items ≡ out.old.items) }
-{
-    put_word(out, "polygon")?;
-    put_index(out, count)?;
-    put_line_end(out)
 }

@@ -1,20 +1,21 @@
 -- Crossed edges by the turn at them.
-use Rattle.std.proofs.Common.{◌≡◌, zero, suc, Bool, true, false, ℤ, pos, negsuc, ◌*ℤ◌, refl, arith}
+use Rattle.std.proofs.Common.{◌≡◌, zero, suc, Bool, true, false, ℤ, pos, negsuc, refl, arith}
 use Rattle.std.proofs.lemmas.Int.{ints, to_z-of_z}
-use Rattle.std.specs.Int.Signed.{le_z, lt_z}
+use Rattle.std.specs.Int.Signed.{lt_z}
 use Rattle.std.specs.Prelude.{◌&&◌, ◌||◌}
 use Rattle.plane.proofs.Order.{follows, not_after_from, not_after_of_precedes, precedence, precedes, same}
 use Rattle.plane.proofs.Points.{whole_is_point}
 use Rattle.plane.proofs.Segments.{not_after_both, not_before_both, on_from_order, on_first_end, on_is_straight, on_reversed, on_same_point}
 use Rattle.plane.proofs.Turns.{straight_swap_first}
 use Rattle.plane.specs.Order.{LiesBetween}
-use Rattle.plane.specs.Point.{IsPoint, Point, Triple, whole}
+use Rattle.plane.specs.Point.{IsPoint, Triple, whole}
 use Rattle.plane.specs.Segment.{On}
 use Rattle.plane.specs.Turn.{IsStraight}
 use Rattle.rings.specs.Edge.{Edge}
 use Rattle.rings.specs.Inside.{is_crossed}
 use Rattle.exact_plane.proofs.Directions.{straight_of_zero}
 use Rattle.exact_plane.specs.Direction.{direction_of, turn_of}
+use Rattle.inside_test.specs.Level.{rises}
 use Rattle.exact_plane.specs.declared.direction.Direction.TheVariants.{Left, Right, Straight}
 
 -- whether an edge is crossed that rises past a point, or falls past it, where the determinant is z
@@ -71,10 +72,6 @@ by_right rises falls z t = let (up, down) = tests_right z t in rw (up, down) (on
 -- and straight on none
 by_straight : (rises falls : Bool) (z : ℤ) → direction_of z ≡ Straight → crossed_by rises falls z ≡ false
 by_straight rises falls z t = let (up, down) = tests_straight z t in rw (up, down) (neither rises falls)
-
--- the edge from low to high rises past the point
-abbrev pub rises : Point → Point → Triple → Bool
-rises low high p = le_z (low.y *ℤ p.W) p.Y && lt_z p.Y (high.y *ℤ p.W)
 
 module _ (e : Edge) (p : Triple) where
   -- left of the edge, it is crossed where it rises past the point

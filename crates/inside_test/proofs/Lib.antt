@@ -1,9 +1,11 @@
 mod ApartEdges
 mod CrossedEdges
+mod Levels
 mod Meetings
 mod Adjacent
 mod Neighbours
 mod Odd
+mod Passed
 mod PointLists
 mod Sizes
 mod Sorting

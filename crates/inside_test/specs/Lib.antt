@@ -1,1 +1,2 @@
 pub mod Breakpoints
+pub mod Level

@@ -4,8 +4,7 @@ ghost use Rattle.plane.specs.Order.{Precedes};
 ghost use Rattle.plane.specs.Point.{IsPoint, IsSame};
 ghost use Rattle.exact_plane.specs.Size.{IsNarrow, IsSized};
 
-use crate::product::compare;
-use exact_plane::{Hom, Steps};
+use exact_plane::{Hom, Steps, compare};
 use std::cmp::Ordering;
 use std::sync::ledger::Ledger;
 

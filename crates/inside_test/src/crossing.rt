@@ -1,13 +1,15 @@
 // The ray from a rational point to the right, at one edge.
 ghost use Rattle.std.specs.Int.Signed.{le_z, lt_z};
 ghost use Rattle.std.specs.Ordering.{int_cmp};
-ghost use Rattle.std.specs.Prelude.{◌≡◌, ◌↔◌, ◌<◌, ◌^◌, ◌&&◌, ◌*ℤ◌, ℤ, IsTrue, true, false, unsigned_abs};
+ghost use Rattle.std.specs.Prelude.{◌≡◌, ◌↔◌, ◌&&◌, ◌*ℤ◌, ℤ, IsTrue, true, false};
 ghost use Rattle.plane.specs.Order.{LiesBetween};
 ghost use Rattle.plane.specs.Point.{IsPoint, whole};
 ghost use Rattle.plane.specs.Segment.{On};
 ghost use Rattle.rings.specs.Inside.{is_crossed};
+ghost use Rattle.exact_plane.specs.Direction.{opposite, turn_of};
+ghost use Rattle.inside_test.specs.Level.{IsLevel, rises};
 
-use crate::product::multiplied;
+use crate::level::Levels;
 use exact_plane::{Direction, Hom, Pt, Steps, order_hom, turn_hom};
 use std::cmp::Ordering;
 use std::sync::ledger::Ledger;
@@ -46,35 +48,6 @@ impl Meeting {
     }
 }
 
-// The height of a point, y / w.
-#[derive(Drop)]
-pub(crate) struct Level {
-    pub y: i128,
-    pub w: i128,
-    ghost y_is_small: { unsigned_abs y < 2 ^ 75 },
-    ghost w_is_small: { unsigned_abs w < 2 ^ 50 },
-}
-
-impl Level {
-    // The height of this point.
-    pub(crate) fn of<L: Ledger>(p: &Hom, steps: &mut Steps<L>) -> Level
-        ensures y { result.y ≡ p.now.Y }
-        ensures w { result.w ≡ p.now.W }
-        ensures rational { IsPoint p.now }
-    {
-        let (_, y, w) = p.parts(steps);
-        Level { y, w }
-    }
-
-    // How the height of `v` compares with this one.
-    #[tactic(auto, using(crate::proofs::CrossedEdges::registers))]
-    pub(crate) fn compare<L: Ledger>(&self, v: &Pt, steps: &mut Steps<L>) -> Ordering
-        ensures { result ≡ int_cmp (v.now.y *ℤ self.now.w) self.now.y }
-    {
-        multiplied(v.parts(steps).1 as i128, self.w).cmp(&self.y)
-    }
-}
-
 // How the edge from `a` to `b`, whose heights compare so with that of `p`, lies to `p`. An edge that is above that height,
 // or below it, is missed. The ray crosses another where it rises past `p` and has it on the left, or falls past it and has
 // it on the right.
@@ -82,10 +55,12 @@ pub(crate) fn meeting_of<L: Ledger>(
     a: &Pt,
     b: &Pt,
     p: &Hom,
+    levels: &Levels,
     from: Ordering,
     to: Ordering,
     steps: &mut Steps<L>,
 ) -> Meeting
+    requires across { IsLevel levels.now.across.floor levels.now.across.at_floor p.now.X p.now.W }
     requires from { from ≡ int_cmp (a.now.y *ℤ p.now.W) p.now.Y }
     requires to { to ≡ int_cmp (b.now.y *ℤ p.now.W) p.now.Y }
     requires rational { IsPoint p.now }
@@ -96,10 +71,71 @@ pub(crate) fn meeting_of<L: Ledger>(
     if is_apart(from, to) {
         return Meeting::Missed;
     }
-    match turn_hom(a, b, p, steps) {
+    match turn_past(a, b, p, levels, from, to, steps) {
         Direction::Left => Meeting::beside(is_passed(from, to)),
         Direction::Straight => Meeting::in_line(is_between(a, p, b, steps)),
         Direction::Right => Meeting::beside(is_passed(to, from)),
+    }
+}
+
+// The turn from `a` over `b` to `p`, where their heights compare so with that of `p`.
+fn turn_past<L: Ledger>(
+    a: &Pt,
+    b: &Pt,
+    p: &Hom,
+    levels: &Levels,
+    from: Ordering,
+    to: Ordering,
+    steps: &mut Steps<L>,
+) -> Direction
+    requires across { IsLevel levels.now.across.floor levels.now.across.at_floor p.now.X p.now.W }
+    requires from { from ≡ int_cmp (a.now.y *ℤ p.now.W) p.now.Y }
+    requires to { to ≡ int_cmp (b.now.y *ℤ p.now.W) p.now.Y }
+    requires rational { IsPoint p.now }
+    ensures { result ≡ turn_of (whole a.now) (whole b.now) p.now }
+{
+    if is_passed(from, to) {
+        return turn_of_rise(a, b, p, levels, steps);
+    }
+    if is_passed(to, from) {
+        return reversed(turn_of_rise(b, a, p, levels, steps));
+    }
+    turn_hom(a, b, p, steps)
+}
+
+// The turn from `low` over `high` to `p`, where an edge between them rises past the height of `p`. Comparisons tell it
+// where both are to one side of `p`.
+fn turn_of_rise<L: Ledger>(
+    low: &Pt,
+    high: &Pt,
+    p: &Hom,
+    levels: &Levels,
+    steps: &mut Steps<L>,
+) -> Direction
+    requires across { IsLevel levels.now.across.floor levels.now.across.at_floor p.now.X p.now.W }
+    requires rises { IsTrue (rises low.now high.now p.now) }
+    requires rational { IsPoint p.now }
+    ensures { result ≡ turn_of (whole low.now) (whole high.now) p.now }
+{
+    let side = levels.compare_across(low, steps);
+    if side != levels.compare_across(high, steps) {
+        return turn_hom(low, high, p, steps);
+    }
+    match side {
+        Ordering::Less => Direction::Right,
+        Ordering::Equal => turn_hom(low, high, p, steps),
+        Ordering::Greater => Direction::Left,
+    }
+}
+
+// The turn that is against this one.
+fn reversed(turn: Direction) -> Direction
+    ensures { result ≡ opposite turn }
+{
+    match turn {
+        Direction::Left => Direction::Right,
+        Direction::Straight => Direction::Straight,
+        Direction::Right => Direction::Left,
     }
 }
 

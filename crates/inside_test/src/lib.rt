@@ -3,6 +3,7 @@
 
 mod breakpoint;
 mod crossing;
+mod level;
 mod position;
 mod product;
 mod segment;

@@ -4,7 +4,8 @@ ghost use Rattle.rings.specs.Edge.{IsOnSome, edges_of};
 ghost use Rattle.rings.specs.Inside.{IsIn};
 ghost use Rattle.rings.specs.Ring.{vertex};
 
-use crate::crossing::{Level, Meeting, meeting_of};
+use crate::crossing::{Meeting, meeting_of};
+use crate::level::Levels;
 use exact_plane::{Hom, Pt, Steps};
 use ring_check::Ring;
 use std::sync::ledger::Ledger;
@@ -35,14 +36,14 @@ pub fn place_hom<L: Ledger>(ring: &Ring, p: &Hom, steps: &mut Steps<L>) -> Posit
     ensures inside { (result ≡ Position.Inside) ↔ (IsIn ring.now.corners p.now × ¬ (IsOnSome (edges_of ring.now.corners) p.now)) }
     ensures outside { (result ≡ Position.Outside) ↔ ¬ (IsIn ring.now.corners p.now) }
 {
-    let (size, level) = (ring.len(), Level::of(p, steps));
+    let (size, levels) = (ring.len(), Levels::of(p, steps));
     let mut is_odd = false;
     let mut a = ring.corner(0);
-    let mut from = level.compare(&a, steps);
+    let mut from = levels.compare_height(&a, steps);
     for i in 0..size {
         let b = next_corner(ring, i);
-        let to = level.compare(&b, steps);
-        match meeting_of(&a, &b, p, from, to, steps) {
+        let to = levels.compare_height(&b, steps);
+        match meeting_of(&a, &b, p, &levels, from, to, steps) {
             Meeting::On => return Position::Edge,
             Meeting::Crossed => is_odd = !is_odd,
             Meeting::Missed => {}

@@ -1,4 +1,5 @@
 pub mod Certificate
+pub mod Decisions
 pub mod Fractions
 pub mod Known
 pub mod Laws

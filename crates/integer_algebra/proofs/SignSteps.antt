@@ -40,6 +40,14 @@ not_both h k = omega (arith, ints)
 pub not_both_positive : {z : ℤ} → pos 0 <ℤ z → z ≤ℤ pos 0 → ⊥
 not_both_positive h k = omega (arith, ints)
 
+-- a number that is neither negative nor 0 is positive
+pub positive_of_not_zero : {z : ℤ} → pos 0 ≤ℤ z → ¬ (z ≡ pos 0) → pos 0 <ℤ z
+positive_of_not_zero h n = omega (arith, ints)
+
+-- one that is not positive is 0 or less
+pub at_most_unless : {z : ℤ} → ¬ (pos 0 <ℤ z) → z ≤ℤ pos 0
+at_most_unless h = grind (arith, ints)
+
 -- 1 is positive
 pub one_positive : pos 0 <ℤ pos 1
 one_positive = omega (arith, ints)
@@ -47,6 +55,16 @@ one_positive = omega (arith, ints)
 -- a natural number is not negative
 pub natural_not_negative : (n : ℕ) → pos 0 ≤ℤ pos n
 natural_not_negative n = omega (arith, ints)
+
+-- ---- two numbers
+
+-- a strict order is an order
+pub weak_order : {x z : ℤ} → x <ℤ z → x ≤ℤ z
+weak_order h = omega (arith, ints)
+
+-- a number that is as great as another is not below it
+pub not_below : {y z : ℤ} → z ≤ℤ y → ¬ (y <ℤ z)
+not_below h k = omega (arith, ints)
 
 -- ---- opposites
 
@@ -69,6 +87,14 @@ turned_positive e h = omega (arith, ints)
 -- the opposite of a positive one
 pub turned_negative : {d e : ℤ} → e ≡ neg_ℤ d → pos 0 <ℤ d → e <ℤ pos 0
 turned_negative e h = omega (arith, ints)
+
+-- of one that is not negative
+pub turned_not_positive : {d e : ℤ} → e ≡ neg_ℤ d → pos 0 ≤ℤ d → e ≤ℤ pos 0
+turned_not_positive e h = omega (arith, ints)
+
+-- and of one that is not positive
+pub turned_not_negative : {d e : ℤ} → e ≡ neg_ℤ d → d ≤ℤ pos 0 → pos 0 ≤ℤ e
+turned_not_negative e h = omega (arith, ints)
 
 -- ---- a mean z of two numbers f and g, with the weights l and m
 

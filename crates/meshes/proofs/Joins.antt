@@ -7,7 +7,7 @@ pub use Rattle.meshes.proofs.Joins.Rotated.{edge_rotated, fits_rotated, same_rot
 mod TwoLists
 -- One of two meshes that are joined along a diagonal: the sides of its triangles in the joined list.
 mod Halves
-pub use Rattle.meshes.proofs.Joins.Halves.{AreEnds, between_back, between_ends}
+pub use Rattle.meshes.proofs.Joins.Halves.{AreEnds, between_at, between_back, between_ends}
 -- Two meshes that fit the parts of a piece cut by a diagonal fit the piece together.
 mod Joined
 pub use Rattle.meshes.proofs.Joins.Joined.{fits_joined}

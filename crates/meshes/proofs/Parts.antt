@@ -15,7 +15,6 @@ mod PartedMesh
 pub use Rattle.meshes.proofs.Parts.PartedMesh.{IsParted, end_of_side, parted, shared_is_this, side_in, side_numbers}
 -- A simple ring that is split in two by a diagonal: the pieces, each with the diagonal as an edge.
 mod Splits
-pub use Rattle.meshes.proofs.Parts.Splits.{parts_at}
 -- A ring that is split along a shared side of a mesh: each triangle lies in one piece as a whole.
 mod PieceOfTriangle
 pub use Rattle.meshes.proofs.Parts.PieceOfTriangle.{LiesIn, inside_one, inside_sides, left_of_sides, lies_in_one}

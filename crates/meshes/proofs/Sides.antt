@@ -5,13 +5,16 @@ mod BaseTriangle
 pub use Rattle.meshes.proofs.Sides.BaseTriangle.{fits_triangle}
 -- In a list of triangles that fits a polygon each side belongs to one triangle in each direction, and to none in both.
 mod MeshSides
-pub use Rattle.meshes.proofs.Sides.MeshSides.{fitting_sides, left_apart}
+pub use Rattle.meshes.proofs.Sides.MeshSides.{corners_differ, fitting_sides, left_apart}
 -- The edges of a piece, as the steps along its numbers and back to the first.
 mod PieceSteps
-pub use Rattle.meshes.proofs.Sides.PieceSteps.{edge_of_step, edge_or_not, same_or_not, step_after, step_before, step_cases, step_of_edge}
+pub use Rattle.meshes.proofs.Sides.PieceSteps.{edge_of_step, edge_or_not, has_side_or_not, same_or_not, step_after, step_before, step_cases, step_of_edge}
 -- The vertices of a piece: they are different where it is simple.
 mod PieceVertices
 pub use Rattle.meshes.proofs.Sides.PieceVertices.{length_points, one_number, one_place, piece_points_all, simple_differ, vertex_of_piece}
+-- The numbers in a triangulation of a ring: those of its vertices, and how many triangles there are.
+mod RingNumbers
+pub use Rattle.meshes.proofs.Sides.RingNumbers.{below_of_member, ends_below, two_fewer}
 -- The side that two triangles of a mesh share, as a diagonal on the way from the one to the other.
 mod SharedSides
 pub use Rattle.meshes.proofs.Sides.SharedSides.{LieAlong, lies_across, lies_last, one_more_along}

@@ -1,5 +1,6 @@
 mod AreaSoFar
 mod Below
+mod Bounds
 pub mod Oriented
 mod Reflex
 mod SharedPoints

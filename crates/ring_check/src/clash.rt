@@ -1,14 +1,17 @@
 ghost use Rattle.std.specs.Prelude.{◌≡◌, ◌<◌, ◌≤◌, ◌^◌, ◌↔◌, ℕ, IsTrue, IfSome, IfNone, length};
 ghost use Rattle.rings.specs.Ring.{vertex};
 ghost use Rattle.rings.specs.Simple.{Clash, HasEqualEnds, IsLeastClash, IsSimple, SharesPoint};
+ghost use Rattle.ring_check.specs.Boxes.{AreBoxes};
 
+use crate::boxes::{BoundingBox, RUN, boxes_of, is_clear};
 use crate::sweep::sweep_finds_none;
 use exact_plane::{Pt, Steps, meet_only_at, order, segments_meet};
 use std::alloc::Global;
 use std::cmp::Ordering;
 use std::sync::ledger::Ledger;
 
-// The least pair of edges i < j that clash, in the order of i, then j. Most lists that have none are known by a sweep.
+// The least pair of edges i < j that clash, in the order of i, then j. A sweep tells of most lists without such a pair
+// that they have none.
 pub fn find_clash<L: Ledger>(
     alloc: Global,
     points: &[Pt],
@@ -22,17 +25,25 @@ pub fn find_clash<L: Ledger>(
     if sweep_finds_none(alloc, points, steps) {
         return None;
     }
-    least_clash(points, steps)
+    match boxes_of(alloc, points, steps) {
+        Ok(boxes) => least_clash(points, &boxes, steps),
+        Err(_) => least_clash(points, &[], steps),
+    }
 }
 
-// The same, by all pairs.
-fn least_clash<L: Ledger>(points: &[Pt], steps: &mut Steps<L>) -> Option<(usize, usize)>
-    requires { 3 ≤ length points.now }
+// The same by a scan of all pairs, without the runs of edges that are left out by their boxes.
+fn least_clash<L: Ledger>(
+    points: &[Pt],
+    boxes: &[BoundingBox],
+    steps: &mut Steps<L>,
+) -> Option<(usize, usize)>
+    requires three { 3 ≤ length points.now }
+    requires boxes { AreBoxes points.now boxes.now }
     ensures least { IfSome result (λ pair. IsLeastClash points.now pair.0 pair.1) }
     ensures simple { IfNone result (IsSimple points.now) }
 {
     for i in 0..points.len() {
-        if let Some(j) = least_clash_with(points, i, steps) {
+        if let Some(j) = least_clash_with(points, boxes, i, steps) {
             return Some((i, j));
         }
     }
@@ -40,17 +51,29 @@ fn least_clash<L: Ledger>(points: &[Pt], steps: &mut Steps<L>) -> Option<(usize,
 }
 
 // The least edge above i that clashes with edge i.
-fn least_clash_with<L: Ledger>(points: &[Pt], i: usize, steps: &mut Steps<L>) -> Option<usize>
+fn least_clash_with<L: Ledger>(
+    points: &[Pt],
+    boxes: &[BoundingBox],
+    i: usize,
+    steps: &mut Steps<L>,
+) -> Option<usize>
     requires three { 3 ≤ length points.now }
+    requires boxes { AreBoxes points.now boxes.now }
     requires edge { i < length points.now }
     ensures range { IfSome result (λ j. (i < j) × (j < length points.now)) }
     ensures clash { IfSome result (λ j. Clash points.now i j) }
     ensures least { IfSome result (λ j. (l : ℕ) → i < l → l < j → Clash points.now i l → ⊥) }
     ensures none { IfNone result ((l : ℕ) → i < l → l < length points.now → Clash points.now i l → ⊥) }
 {
-    for j in i + 1..points.len() {
-        if edges_clash(points, i, j, steps) {
+    let bounds = BoundingBox::of_edge(points, i, steps);
+    let mut j = i + 1;
+    while j < points.len() {
+        if j > i + 1 && is_clear(points, i, &bounds, boxes, j) {
+            j += RUN;
+        } else if edges_clash(points, i, j, steps) {
             return Some(j);
+        } else {
+            j += 1;
         }
     }
     None
@@ -88,7 +111,7 @@ fn share_point<L: Ledger>(points: &[Pt], i: usize, j: usize, steps: &mut Steps<L
 }
 
 // Whether edge i has equal ends.
-fn has_equal_ends<L: Ledger>(points: &[Pt], i: usize, steps: &mut Steps<L>) -> bool
+pub(crate) fn has_equal_ends<L: Ledger>(points: &[Pt], i: usize, steps: &mut Steps<L>) -> bool
     requires { i < length points.now }
     ensures { IsTrue result ↔ HasEqualEnds points.now i }
 {
@@ -96,7 +119,7 @@ fn has_equal_ends<L: Ledger>(points: &[Pt], i: usize, steps: &mut Steps<L>) -> b
 }
 
 // Vertex i, counted round.
-fn corner(points: &[Pt], i: usize) -> Pt
+pub(crate) fn corner(points: &[Pt], i: usize) -> Pt
     requires some { 0 < length points.now }
     requires range { i ≤ length points.now }
     ensures { result ≡ vertex points.now i }

@@ -6,6 +6,7 @@ ghost use Rattle.rings.proofs.Sweeps.{events_are_one};
 ghost use Rattle.rings.specs.Events.{AreEvents, IsEvent, next, previous};
 ghost use Rattle.rings.specs.Ring.{vertex};
 
+use crate::clash::corner;
 use exact_plane::{Memory, Pt, Steps, order};
 use std::alloc::Global;
 use std::cmp::Ordering;
@@ -92,15 +93,11 @@ fn is_before<L: Ledger>(points: &[Pt], v: u32, w: u32, steps: &mut Steps<L>) -> 
     requires w { w < length points.now }
     ensures { IsTrue result → IsBefore (vertex points.now v) (vertex points.now w) }
 {
-    order(&corner(points, v), &corner(points, w), steps) == Ordering::Less
-}
-
-// Vertex `v`.
-pub(crate) fn corner(points: &[Pt], v: u32) -> Pt
-    requires { v < length points.now }
-    ensures { result ≡ vertex points.now v }
-{
-    points[v as usize]
+    order(
+        &corner(points, v as usize),
+        &corner(points, w as usize),
+        steps,
+    ) == Ordering::Less
 }
 
 // The vertices by x, then y.

@@ -1,6 +1,7 @@
 //! Simple polygons: a list of points is accepted exactly if no two of its edges clash.
 #![tactic(auto)]
 
+mod boxes;
 mod clash;
 mod events;
 mod laws;

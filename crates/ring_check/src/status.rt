@@ -9,7 +9,8 @@ ghost use Rattle.rings.specs.Ring.{vertex};
 ghost use Rattle.rings.specs.Status.{FitsAt, IsEdgeBelow, IsStacked, one, times};
 ghost use Rattle.exact_plane.specs.Direction.{turn_of};
 
-use crate::events::{Events, corner};
+use crate::clash::corner;
+use crate::events::Events;
 use exact_plane::{Direction, Pt, Steps, turn};
 use std::sync::ledger::Ledger;
 
@@ -252,6 +253,7 @@ fn turn_at<L: Ledger>(events: &Events, a: u32, b: u32, c: u32, steps: &mut Steps
     requires c { c < length events.now.points.now }
     ensures { result ≡ turn_of (whole (vertex events.now.points.now a)) (whole (vertex events.now.points.now b)) (whole (vertex events.now.points.now c)) }
 {
-    let (a, b) = (corner(events.points, a), corner(events.points, b));
-    turn(&a, &b, &corner(events.points, c), steps)
+    let a = corner(events.points, a as usize);
+    let b = corner(events.points, b as usize);
+    turn(&a, &b, &corner(events.points, c as usize), steps)
 }

@@ -1,6 +1,7 @@
 ghost use Rattle.std.specs.Prelude.{◌≡◌, ◌<◌};
 
-use crate::{Ring, RingFault};
+use crate::sweep::sweep_finds_none;
+use crate::{MAX_CORNERS, Ring, RingFault};
 use exact_plane::{Pt, Steps};
 use std::alloc::{AllocError, Global};
 use std::marker::Brand;
@@ -31,36 +32,44 @@ fn all_tables<L: Ledger, R: Abort>(rt: &R, alloc: Global, blank: Blank) -> Resul
     numbers(rt, alloc, &mut steps)
 }
 
-fn ring_of<L: Ledger, R: Abort>(
-    rt: &R,
-    alloc: Global,
-    list: &[At],
-    steps: &mut Steps<L>,
-) -> Result<Result<Ring, RingFault>, AllocError> {
+fn points_of<R: Abort>(rt: &R, alloc: Global, list: &[At]) -> Result<Vec<Pt>, AllocError> {
     let mut points = Vec::new(alloc);
     for (x, y) in list {
         points.push(Pt::of(*x, *y).expect(rt, "within the limit"))?;
     }
-    Ok(Ring::of(points, steps))
+    Ok(points)
 }
 
-// A ring is named by whether its list was turned round.
+// A ring is named by whether its list was turned round. The sweep knows each of them, which no contract says.
 #[rattlefmt::skip]
 fn accepted_or_refused<L: Ledger, R: Abort>(rt: &R, alloc: Global, steps: &mut Steps<L>) -> Result<(), AllocError> {
-    let cases: [(&str, &[At], Result<bool, RingFault>); 10] = [
+    let cases: [(&str, &[At], Result<bool, RingFault>); 19] = [
         ("an L", &L_SHAPE, Ok(false)),
         ("an L, backward", &L_BACKWARD, Ok(true)),
         ("a flat vertex", &[(0, 0), (2, 0), (4, 0), (0, 4)], Ok(false)),
+        ("a flat vertex on a vertical side", &[(0, 0), (1, 0), (0, 2), (0, 1)], Ok(false)),
+        ("a triangle with a vertical side", &[(0, 0), (0, 1), (1, 0)], Ok(true)),
+        ("teeth", &[(0, 0), (1, 2), (2, 0), (3, 2), (4, 0), (4, 3), (3, 5), (2, 3), (1, 5), (0, 3)], Ok(false)),
         ("a bow tie", &[(0, 0), (4, 4), (4, 0), (0, 4)], Err(RingFault::Clash(0, 2))),
         ("a vertex on an edge", &[(0, 0), (4, 0), (4, 4), (2, 0)], Err(RingFault::Clash(0, 2))),
+        ("a vertex on a vertical edge", &[(0, 0), (1, 0), (0, 1), (0, 2)], Err(RingFault::Clash(1, 3))),
+        ("the last edge back along the first", &[(0, 0), (1, 0), (0, 1), (2, 0)], Err(RingFault::Clash(0, 3))),
+        ("an edge across one below it", &[(0, 0), (2, 0), (0, 1), (1, 1)], Err(RingFault::Clash(1, 3))),
+        ("a crossing behind a vertex", &[(0, 0), (1, 2), (0, 3), (3, 1), (1, 1), (2, 3)], Err(RingFault::Clash(2, 4))),
         ("equal ends", &[(0, 0), (0, 0), (4, 0), (0, 4)], Err(RingFault::Clash(0, 1))),
+        ("equal ends of another edge", &[(0, 0), (0, 1), (0, 1), (1, 0)], Err(RingFault::Clash(0, 1))),
         ("the first point again at the end", &[(0, 0), (4, 0), (0, 4), (0, 0)], Err(RingFault::Clash(0, 2))),
         ("three times one point", &[(1, 1), (1, 1), (1, 1)], Err(RingFault::Clash(0, 1))),
         ("three points on a line", &[(0, 0), (2, 0), (4, 0)], Err(RingFault::Clash(0, 2))),
+        ("three points on a vertical line", &[(0, 0), (0, 1), (0, 2)], Err(RingFault::Clash(0, 2))),
         ("two points", &[(0, 0), (4, 0)], Err(RingFault::Few)),
     ];
     for (name, list, want) in cases {
-        let is_turned = ring_of(rt, alloc, list, steps)?.map(|ring| ring.is_turned());
+        let points = points_of(rt, alloc, list)?;
+        if 3 <= points.len() && points.len() <= MAX_CORNERS {
+            assert_eq!(rt; sweep_finds_none(alloc, &points, steps), want.is_ok(), "{name}");
+        }
+        let is_turned = Ring::of(points, steps).map(|ring| ring.is_turned());
         assert_eq!(rt; is_turned, want, "{name}");
     }
     Ok(())
@@ -74,7 +83,8 @@ fn numbers<L: Ledger, R: Abort>(rt: &R, alloc: Global, steps: &mut Steps<L>) -> 
         ("an L, backward", L_BACKWARD, [(0, 4), (0, 0), (4, 0), (4, 2), (2, 2), (2, 4)], [0, 5, 4, 3, 2, 1], [5, 4, 3, 2, 1, 0], 4),
     ];
     for (name, list, kept, vertices, edges, reflex) in cases {
-        let ring = ring_of(rt, alloc, &list, steps)?.ok().expect(rt, "a ring");
+        let points = points_of(rt, alloc, &list)?;
+        let ring = Ring::of(points, steps).ok().expect(rt, "a ring");
         assert_eq!(rt; ring.len(), 6, "{name}");
         for i in 0..6 {
             assert_eq!(rt; ring.corner(i).parts(steps), kept[i as usize], "{name}");

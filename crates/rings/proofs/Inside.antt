@@ -23,7 +23,7 @@ mod Breakpoints
 pub use Rattle.rings.proofs.Inside.Breakpoints.{AreBreakpoints}
 -- The inside of a ring is that of the ring read the other way round.
 mod TurnedInside
-pub use Rattle.rings.proofs.Inside.TurnedInside.{in_turned_iff, on_some_turned_iff}
+pub use Rattle.rings.proofs.Inside.TurnedInside.{in_either, in_turned_iff, on_some_either, on_some_turned_iff}
 -- A ring read the other way round from its first vertex: apart as before, with the opposite winding numbers.
 mod Mirrored
 pub use Rattle.rings.proofs.Inside.Mirrored.{apart_turned, turned_corner, winding_turned}

@@ -6,7 +6,7 @@ pub use Rattle.rings.proofs.Vertices.Indexing.{crossings_more, edge_at, on_some_
 -- The items of a list, of appended lists and of a list in the other order, and their numbers.
 mod Items
 pub use Rattle.rings.proofs.Vertices.Items.{has_cases, has_in_order, has_left, has_number, has_reversed, has_right, has_swapped, number_of}
-pub use Rattle.rings.proofs.Vertices.Items.{reverse-cons}
+pub use Rattle.rings.proofs.Vertices.Items.{one_to_one, parts_at, reverse-cons}
 -- The edges along some points: points on them, and their ends.
 mod PointLists
 pub use Rattle.rings.proofs.Vertices.PointLists.{all_ends_along, first_on_along, last_on_along, member_on_along}

@@ -7,48 +7,16 @@ use Rattle.plane.proofs.Points.{whole_is_point}
 use Rattle.plane.proofs.Segments.{on_first_end}
 use Rattle.plane.specs.Point.{Point, whole}
 use Rattle.plane.specs.Segment.{On}
-use Rattle.rings.proofs.Vertices.{vertex_round}
+use Rattle.rings.proofs.Vertices.{vertex_round, one_to_one}
 use Rattle.rings.specs.Bend.{AreNeighbours}
 use Rattle.rings.specs.Ring.{origin, vertex}
 use Rattle.rings.specs.Simple.{Clash, IsSimple, SharesPoint}
+use Rattle.rings.proofs.Simple.{apart_of_simple}
 
 module _ (ring : List Point) (three : 3 ≤ length ring) (simple : IsSimple ring) where
-  -- two edges that begin at one vertex clash
-  same_clash : (i j : ℕ) → i < j → j < length ring → vertex ring i ≡ vertex ring j → Clash ring i j
-  same_clash i j less below same = elim (cases_next (i + 1) j) [
-    | inl next ↦ inl (same ∙ ap (vertex ring) (sym next))
-    | inr apart ↦ elim (cases_next (j + 1) (length ring)) [
-      | inl last ↦ elim (cases_next i 0) [
-        | inl first ↦ inr (inl (sym same ∙ ap (vertex ring) first ∙ sym (vertex_round ring (omega arith)) ∙ ap (vertex ring) (sym last)))
-        | inr later ↦ inr (inr (shared (λ next. absurd (apart (sym next))) (λ first _. absurd (later first))))
-      ]
-      | inr more ↦ inr (inr (shared (λ next. absurd (apart (sym next))) (λ _ last. absurd (more last))))
-    ]
-  ]
-    where
-      cases_next : (m n : ℕ) → (m ≡ n) ⊎ (¬ (m ≡ n))
-      cases_next m n = grind arith
-
-      shared : ¬ (j ≡ i + 1) → (i ≡ 0 → ¬ (j + 1 ≡ length ring)) → SharesPoint ring i j
-      shared apart open_end = record {
-        point = whole (vertex ring i);
-        rational = whole_is_point (vertex ring i);
-        on_first = on_first_end (whole (vertex ring i)) (whole (vertex ring (i + 1)));
-        on_second = subst (λ (v : Point). On (whole v) (whole (vertex ring j)) (whole (vertex ring (j + 1)))) (sym same)
-            (on_first_end (whole (vertex ring j)) (whole (vertex ring (j + 1))));
-        not_between = λ next _. apart next;
-        not_round = λ first last _. open_end first last;
-      }
-
-  -- so equal vertices have one number
+  -- equal vertices have one number
   same_number : (i j : ℕ) → i < length ring → j < length ring → vertex ring i ≡ vertex ring j → i ≡ j
-  same_number i j below_i below_j same = elim (cases_lt i j) [
-    | inl less ↦ absurd (simple i j less below_j (same_clash i j less below_j same))
-    | inr more ↦ elim (cases_lt j i) [
-      | inl less ↦ absurd (simple j i less below_i (same_clash j i less below_i (sym same)))
-      | inr equal ↦ omega arith
-    ]
-  ]
+  same_number = one_to_one (vertex ring) (length ring) (apart_of_simple ring simple).distinct
 
   -- one round earlier or later it is the same vertex
   before_inside : (i j : ℕ) → j + 1 ≡ i → vertex ring j ≡ vertex ring (i + (length ring - 1))

@@ -1,5 +1,5 @@
 -- What a map of sides has, after the sides of one more triangle are put into it.
-use Rattle.std.proofs.Common.{◌≡◌, ◌∙◌, refl, sym, ap, ℕ, ◌+◌, ◌<◌, ◌⊎◌, inl, inr, Bool, true, false, List, length, arith, Some}
+use Rattle.std.proofs.Common.{◌≡◌, ◌∙◌, refl, sym, ap, ℕ, ◌+◌, ◌<◌, inl, inr, Bool, true, false, List, length, arith, Some}
 use Rattle.std.proofs.lemmas.Bool.{cases_eq}
 use Rattle.std.proofs.lemmas.Map.Lookups.{exact_pairs, exact_unsigned}
 use Rattle.std.specs.BTreeMap.{BTreeMap, IsEmpty, Updates, is_at}
@@ -9,6 +9,7 @@ use Rattle.std.specs.declared.cmp.Ordering.{Ordering}
 use Rattle.std.specs.declared.cmp.Ordering.TheVariants.{Less, Equal, Greater}
 use Rattle.meshes.specs.Side.{HasSidesOnce, HasSide, tri_at}
 use Rattle.meshes.specs.declared.tri.Tri.{Tri}
+use Rattle.meshes.proofs.Sides.{has_side_or_not}
 use Rattle.tri_mesh.specs.Neighbours.{HasSidesOf, side_cmp, tri_with}
 
 -- a test for equality that does not fail
@@ -16,13 +17,6 @@ equal_from_test : (o : Ordering) → is_eq o ≡ true → o ≡ Equal
 equal_from_test Less h = absurd cc
 equal_from_test Equal h = refl
 equal_from_test Greater h = absurd cc
-
--- whether two pairs of numbers are equal
-are_or_not : (a i b j : ℕ) → ((a ≡ i) × (b ≡ j)) ⊎ ¬ ((a ≡ i) × (b ≡ j))
-are_or_not a i b j = elim (cases_eq a i) [
-  | inl first ↦ elim (cases_eq b j) [ inl second ↦ inl (first, second) | inr other ↦ inr (λ e. other e.1) ]
-  | inr other ↦ inr (λ e. other e.0)
-]
 
 -- two sides with other ends are told apart
 told_apart : (a b i j : ℕ) → ¬ ((a ≡ i) × (b ≡ j)) → (found : Bool) → is_at (side_cmp (a, b)) (i, j) ≡ found → found ≡ false
@@ -43,19 +37,6 @@ module _ (m n : BTreeMap (ℕ × ℕ) ℕ) (a b k : ℕ) (put : Updates side_cmp
   -- another side keeps what it had
   put_apart : (i j : ℕ) → ¬ ((a ≡ i) × (b ≡ j)) → tri_with n i j ≡ tri_with m i j
   put_apart i j other = put.2 (i, j) (told_apart a b i j other _ refl)
-
--- whether a triangle has a side
-has_side_or_not : (t : Tri) (i j : ℕ) → HasSide t i j ⊎ ¬ HasSide t i j
-has_side_or_not t i j = elim (are_or_not t.a i t.b j) [
-  | inl first ↦ inl (inl first)
-  | inr not_first ↦ elim (are_or_not t.b i t.c j) [
-    | inl second ↦ inl (inr (inl second))
-    | inr not_second ↦ elim (are_or_not t.c i t.a j) [
-      | inl third ↦ inl (inr (inr third))
-      | inr not_third ↦ inr (λ has. elim has [ inl h ↦ not_first h | inr others ↦ elim others [ inl h ↦ not_second h | inr h ↦ not_third h ] ])
-    ]
-  ]
-]
 
 module _ (t : Tri) (k : ℕ) (m n o p : BTreeMap (ℕ × ℕ) ℕ) (first : Updates side_cmp m n (t.a, t.b) (Some k))
     (second : Updates side_cmp n o (t.b, t.c) (Some k)) (third : Updates side_cmp o p (t.c, t.a) (Some k)) where

@@ -1,7 +1,7 @@
 -- Bends by the turning on one side of their vertex: the neighbours in the ring are not ahead of the one ray, nor behind the other.
 use Rattle.std.proofs.Common.{inl, inr, Bool, true, false, ℤ, pos, neg_ℤ, ◌<ℤ◌, ◌≤ℤ◌, List, arith}
 use Rattle.std.proofs.lemmas.Int.{ints}
-use Rattle.integer_algebra.proofs.SignSteps.{negative_not_zero, not_both_positive}
+use Rattle.integer_algebra.proofs.SignSteps.{negative_not_zero, not_both_positive, at_most_unless}
 use Rattle.integer_algebra.proofs.Signs.{lt_or_le}
 use Rattle.plane.specs.Cone.{IsInCone}
 use Rattle.plane.specs.Point.{Point, Triple, whole}
@@ -11,10 +11,6 @@ use Rattle.funnels.proofs.Bends.Opposites.{not_negative_of_opposite, positive_of
 use Rattle.funnels.specs.Fanned.{turning}
 
 -- ---- numbers
-
--- what is not positive is at most 0
-at_most_unless : {z : ℤ} → ¬ (pos 0 <ℤ z) → z ≤ℤ pos 0
-at_most_unless {z} n = elim (lt_or_le (pos 0) z) [ inl h ↦ absurd (n h) | inr h ↦ h ]
 
 -- the opposite of what is not negative is not positive
 opposite_at_most : {z : ℤ} → ¬ (z <ℤ pos 0) → neg_ℤ z ≤ℤ pos 0

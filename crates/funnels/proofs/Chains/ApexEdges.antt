@@ -1,6 +1,6 @@
 -- A point that is reached from the apex of a funnel, beyond the diagonal: the way to it turns at the apex as those to both edges do.
 use Rattle.std.proofs.Common.{◌≡◌, ◌⊎◌, inl, inr, true, false, refl, sym, subst, ap, List, length, ℕ, ◌+◌, ◌-◌, ◌<◌, pos, ◌<ℤ◌, ◌≤ℤ◌, arith}
-use Rattle.integer_algebra.proofs.SignSteps.{opposite_not_negative, opposite_not_positive}
+use Rattle.integer_algebra.proofs.SignSteps.{opposite_not_negative, opposite_not_positive, at_most_unless}
 use Rattle.plane.proofs.Turns.{determinant_swap_last}
 use Rattle.plane.specs.Point.{Point, whole}
 use Rattle.plane.specs.Segment.{On}
@@ -9,7 +9,7 @@ use Rattle.rings.specs.Chain.{point_at}
 use Rattle.ring_laws.proofs.Triangles.{not_negative as at_least_zero}
 use Rattle.funnels.proofs.Bends.{opposite_of_not_positive}
 use Rattle.funnels.proofs.Chains.ApexTurns.{behind_apex}
-use Rattle.funnels.proofs.Funnels.{left_of_apex, right_of_apex, window_of_reached, not_negative, not_above}
+use Rattle.funnels.proofs.Funnels.{left_of_apex, right_of_apex, window_of_reached, not_negative}
 use Rattle.funnels.specs.Fanned.{turning}
 use Rattle.funnels.specs.Funnel.{IsFunnel, IsReachedFrom, height}
 
@@ -18,7 +18,7 @@ module _ (ns : List Point) (a : ℕ) (l r : Point) (f : IsFunnel ns a l r) (q y 
   -- such a point is not ahead of the left edge,
   pub not_ahead_of_left : 0 < a → determinant (whole (point_at ns a)) (whole (point_at ns (a - 1))) (whole y) ≤ℤ pos 0
   not_ahead_of_left some =
-      not_above ((window_of_reached ns a a (whole y) reached).not_left (point_at ns a) (point_at ns (a - 1)) some
+      at_most_unless ((window_of_reached ns a a (whole y) reached).not_left (point_at ns a) (point_at ns (a - 1)) some
       (inl (omega arith, refl, refl)))
 
   -- nor behind the right one
@@ -31,7 +31,7 @@ module _ (ns : List Point) (a : ℕ) (l r : Point) (f : IsFunnel ns a l r) (q y 
   module _ (some : 0 < a) (more : a + 1 < length ns) where
     -- the right edge is not ahead of the left one
     opening : determinant (whole (point_at ns a)) (whole (point_at ns (a - 1))) (whole (point_at ns (a + 1))) ≤ℤ pos 0
-    opening = not_above (f.opening some more)
+    opening = at_most_unless (f.opening some more)
 
     -- the points beside the apex are other points
     differ_left : ¬ (point_at ns a ≡ point_at ns (a - 1))

@@ -1,7 +1,5 @@
 -- At an end of a shared side: a fan from a point round to the side makes a bend to each point of the triangle beyond that is reached.
-use Rattle.std.proofs.Common.{◌≡◌, inl, inr, true, false, refl, ℕ, ◌<◌, ◌≤◌, List, length, arith}
-use Rattle.std.proofs.lemmas.List.FromFn.{get_or-range_with_len, length-range_with_len}
-use Rattle.std.specs.List.{Contains, range_with_len}
+use Rattle.std.proofs.Common.{◌≡◌, inl, inr, true, false, refl, ℕ, ◌<◌, ◌≤◌, List, length}
 use Rattle.integer_algebra.proofs.SignSteps.{not_both, turned_positive, zero_not_negative}
 use Rattle.plane.proofs.Points.{whole_is_point}
 use Rattle.plane.proofs.Turns.{determinant_same_ends, determinant_same_last, determinant_swap_first}
@@ -13,10 +11,10 @@ use Rattle.rings.specs.Ring.{vertex}
 use Rattle.rings.specs.Sees.{Sees}
 use Rattle.rings.specs.Simple.{IsSimple}
 use Rattle.ring_laws.proofs.Triangles.{not_negative, not_right_between}
-use Rattle.meshes.proofs.Joins.{between_ends}
 use Rattle.meshes.specs.Fits.{Fits, IsInTri}
 use Rattle.meshes.specs.Side.{HasSide, tri_at}
 use Rattle.meshes.specs.declared.tri.Tri.{Tri}
+use Rattle.meshes.proofs.Sides.{ends_below}
 use Rattle.funnels.proofs.Bends.{bend_of_fan, last_step, last_step_clockwise}
 use Rattle.funnels.proofs.Chains.ApexSides.{back_of_left, back_of_right}
 use Rattle.funnels.proofs.Chains.DiagonalEnds.{on_or_beyond}
@@ -24,22 +22,10 @@ use Rattle.funnels.proofs.Funnels.{turned_at_least}
 use Rattle.funnels.specs.Fanned.{IsFanned}
 use Rattle.funnels.specs.Funnel.{Reaches}
 
--- a member of the numbers below n is below n
-below_of_member : (n x : ℕ) → Contains (range_with_len 0 n) x → x < n
-below_of_member n x (k, h, e) =
-    let below : k < n = omega (arith, length-range_with_len 0 n) in
-    omega (arith, get_or-range_with_len 0 n k x below)
-
 module _ (corners : List Point) (tris : List Tri) (fits : Fits corners tris) (k i j m : ℕ) (within : k < length tris)
     (first : HasSide (tri_at tris k) i j) (next : HasSide (tri_at tris k) j m) (last : HasSide (tri_at tris k) m i) (y : Point)
     (inside : IsInTri corners (tri_at tris k) (whole y)) (simple : IsSimple corners) (three : 3 ≤ length corners)
     (runs : IsCounterclockwise corners) (x : Point) where
-  -- both ends of the side are vertices of the ring
-  ends_below : (i < length corners) × (j < length corners)
-  ends_below =
-      let at = between_ends corners (range_with_len 0 (length corners)) (tri_at tris k) (fits.triangles k within) i j (inl first) in
-      (below_of_member (length corners) i at.0, below_of_member (length corners) j at.1)
-
   -- a point left of the way from x over the left end is beyond the side,
   left_of_side : Reaches x (vertex corners i) (vertex corners i) (vertex corners j)
       → IsLeft (whole x) (whole (vertex corners i)) (whole y) → IsLeft (whole (vertex corners i)) (whole (vertex corners j)) (whole y)
@@ -75,7 +61,7 @@ module _ (corners : List Point) (tris : List Tri) (fits : Fits corners tris) (k 
       → IsLeft (whole x) (whole (vertex corners i)) (whole y) → IsBend corners x (vertex corners i) y
   bend_from_left fanned differ reach seen left =
       let l = vertex corners i in
-      bend_of_fan corners simple three runs i ends_below.0 true l refl x y (whole (vertex corners j)) fanned
+      bend_of_fan corners simple three runs i (ends_below corners tris fits k i j within first).0 true l refl x y (whole (vertex corners j)) fanned
       (last_step corners tris fits k i m j within first last (whole y) inside (left_of_side reach left)) (whole_is_point y, seen) differ
       (back_of_left x l y left)
 
@@ -85,6 +71,6 @@ module _ (corners : List Point) (tris : List Tri) (fits : Fits corners tris) (k 
       → IsRight (whole x) (whole (vertex corners j)) (whole y) → IsBend corners x (vertex corners j) y
   bend_from_right fanned differ reach seen right =
       let r = vertex corners j in
-      bend_of_fan corners simple three runs j ends_below.1 false r refl x y (whole (vertex corners i)) fanned
+      bend_of_fan corners simple three runs j (ends_below corners tris fits k i j within first).1 false r refl x y (whole (vertex corners i)) fanned
       (last_step_clockwise corners tris fits k j i m within next first (whole y) inside (right_of_side reach right))
       (whole_is_point y, seen) differ (back_of_right x r y right)

@@ -1,13 +1,13 @@
 -- The bend on the way to a point that is reached from a place of a funnel off its apex, where the place is no end.
 use Rattle.std.proofs.Common.{◌≡◌, inl, inr, true, false, refl, ap, List, length, ℕ, ◌+◌, ◌-◌, ◌<◌, arith}
-use Rattle.integer_algebra.proofs.SignSteps.{opposite_not_positive}
+use Rattle.integer_algebra.proofs.SignSteps.{opposite_not_positive, at_most_unless}
 use Rattle.plane.specs.Point.{Point, whole}
 use Rattle.rings.specs.Bend.{IsBend}
 use Rattle.rings.specs.Chain.{point_at}
 use Rattle.ring_laws.proofs.Triangles.{not_negative as at_least_zero}
 use Rattle.funnels.proofs.Bends.{wider_bend}
 use Rattle.funnels.proofs.Chains.ApexSides.{back_of_left, back_of_right}
-use Rattle.funnels.proofs.Funnels.{window_of_reached, left_of_way, right_of_way, not_above}
+use Rattle.funnels.proofs.Funnels.{window_of_reached, left_of_way, right_of_way}
 use Rattle.funnels.specs.Funnel.{IsFunnel, IsReachedFrom}
 use Rattle.funnels.specs.OpenFunnel.{IsBentFunnel}
 
@@ -21,7 +21,7 @@ module _ (ring before ns : List Point) (a : ℕ) (l r : Point) (f : IsFunnel ns 
       let z = point_at ns (h - 1) in
       wider_bend true ring x v z y (bent.left_bends h some on_left)
       (back_of_left x v z (f.left_turns h some on_left)) (back_of_left x v y (left_of_way ns a l r f h (whole y) reached on_left))
-      (not_above ((window_of_reached ns a h (whole y) reached).not_left v z some (inl (omega arith, refl, refl))))
+      (at_most_unless ((window_of_reached ns a h (whole y) reached).not_left v z some (inl (omega arith, refl, refl))))
 
   -- and on the right one
   pub bend_on_right : a < h → h + 1 < length ns → IsBend ring (point_at ns (h - 1)) (point_at ns h) y

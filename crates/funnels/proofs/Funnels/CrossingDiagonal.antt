@@ -3,7 +3,7 @@ use Rattle.std.proofs.Common.{◌≡◌, inl, inr, ℤ, pos, ◌+ℤ◌, ◌*ℤ
 use Rattle.std.proofs.lemmas.Int.{ints}
 use Rattle.integer_algebra.proofs.Laws.{mul_comm}
 use Rattle.integer_algebra.proofs.SignSteps.{negative_not_zero, not_both, not_both_positive, positive_not_zero, weak, zero_not_negative}
-use Rattle.integer_algebra.proofs.SignSteps.{zero_not_positive}
+use Rattle.integer_algebra.proofs.SignSteps.{zero_not_positive, at_most_unless}
 use Rattle.integer_algebra.proofs.Signs.{factor_zero, lt_or_le, mul_nonnegative, mul_nonpositive, mul_nonpositives, mul_positive}
 use Rattle.plane.proofs.Points.{whole_is_point}
 use Rattle.plane.proofs.Segments.{on_reversed}
@@ -13,7 +13,7 @@ use Rattle.plane.specs.Turn.{IsLeft, IsRight, IsStraight, determinant}
 use Rattle.ring_laws.proofs.Triangles.{in_triangle, not_negative, on_first_side}
 use Rattle.funnels.proofs.Funnels.EdgeLine.{IsEnd, end_is_straight, equal_ends}
 use Rattle.funnels.proofs.Funnels.LineCrossed.{determinant_on_line, on_line_between, weight_on_line}
-use Rattle.funnels.proofs.Funnels.SidesBetween.{not_above, not_left_along, not_right_along}
+use Rattle.funnels.proofs.Funnels.SidesBetween.{not_left_along, not_right_along}
 use Rattle.funnels.specs.Funnel.{Reaches}
 
 -- ---- numbers
@@ -79,7 +79,7 @@ module _ (n l r : Point) (up : IsLeft (whole r) (whole l) (whole n))
           let N = whole n in
           let f = λ (v : Triple). determinant (whole u) (whole w) v in
           absurd (not_through (zero_by_second (determinant R L N) (determinant L N x) (determinant N R x) (f x) (f R) (f L) up weights
-          (determinant_on_line R L N x line (whole u) (whole w)) (not_above reach.not_left) (not_negative reach.not_right)
+          (determinant_on_line R L N x line (whole u) (whole w)) (at_most_unless reach.not_left) (not_negative reach.not_right)
           beyond (not_negative side)))
     ]
 
@@ -93,8 +93,8 @@ module _ (n l r : Point) (up : IsLeft (whole r) (whole l) (whole n))
           let N = whole n in
           let f = λ (v : Triple). determinant (whole u) (whole w) v in
           absurd (not_through (zero_by_first (determinant R L N) (determinant L N x) (determinant N R x) (f x) (f R) (f L) up weights
-          (determinant_on_line R L N x line (whole u) (whole w)) (not_above reach.not_left) (not_negative reach.not_right)
-          beyond (not_above side)))
+          (determinant_on_line R L N x line (whole u) (whole w)) (at_most_unless reach.not_left) (not_negative reach.not_right)
+          beyond (at_most_unless side)))
     ]
 
   -- not beyond r and l, it is on the diagonal

@@ -1,18 +1,14 @@
 -- Between two points that are not left of a line no point is left of it; and none is right of it between two that are not.
 use Rattle.std.proofs.Common.{◌≡◌, ℤ, pos, neg_ℤ, ◌<ℤ◌, ◌≤ℤ◌, arith}
 use Rattle.std.proofs.lemmas.Int.{ints}
-use Rattle.integer_algebra.proofs.SignSteps.{mean_not_positive, not_both, not_both_positive}
+use Rattle.integer_algebra.proofs.SignSteps.{mean_not_positive, not_both, not_both_positive, at_most_unless}
 use Rattle.plane.proofs.Turns.{combination_of, determinant_along}
 use Rattle.plane.specs.Point.{IsPoint, Triple}
 use Rattle.plane.specs.Segment.{On}
 use Rattle.plane.specs.Turn.{IsLeft, IsRight}
 use Rattle.ring_laws.proofs.Triangles.{not_negative, not_right_between}
 
--- what is not above 0 is at most 0
-pub not_above : {z : ℤ} → ¬ (pos 0 <ℤ z) → z ≤ℤ pos 0
-not_above h = grind (arith, ints)
-
--- and its opposite, written otherwise, is at least 0
+-- the opposite, written otherwise, of a number that is not positive is at least 0
 pub turned_at_least : {d e : ℤ} → e ≡ neg_ℤ d → ¬ (pos 0 <ℤ d) → pos 0 ≤ℤ e
 turned_at_least e h = grind (arith, ints)
 
@@ -23,7 +19,7 @@ module _ (s t x a b : Triple) (at_x : IsPoint x) (at_a : IsPoint a) (at_b : IsPo
       let c = combination_of x a b at_x at_a at_b on in
       not_both_positive left
       (mean_not_positive c.k c.l c.m _ _ _ c.k_positive c.l_nonnegative c.m_nonnegative (determinant_along x a b c s t)
-      (not_above ha) (not_above hb))
+      (at_most_unless ha) (at_most_unless hb))
 
   -- and where they are not right of it, none is
   pub not_right_along : ¬ IsRight s t a → ¬ IsRight s t b → ¬ IsRight s t x

@@ -1,13 +1,13 @@
 -- Two edges of a funnel at a common point, and a point beyond the diagonal: to which sides of them it is.
 use Rattle.std.proofs.Common.{◌≡◌, pos, ◌<ℤ◌, ◌≤ℤ◌, inl, inr}
-use Rattle.integer_algebra.proofs.SignSteps.{turned_negative, weak}
+use Rattle.integer_algebra.proofs.SignSteps.{turned_negative, weak, at_most_unless}
 use Rattle.integer_algebra.proofs.Signs.{lt_or_le}
 use Rattle.plane.proofs.Turns.{determinant_swap_first}
 use Rattle.plane.specs.Point.{IsPoint, Point, Triple, whole}
 use Rattle.plane.specs.Turn.{IsLeft, IsRight, determinant}
 use Rattle.ring_laws.proofs.Triangles.{negative_at_most}
 use Rattle.funnels.proofs.Funnels.OnOneLine.{areas_with, four_on_line}
-use Rattle.funnels.proofs.Funnels.SidesBetween.{not_above, turned_at_least}
+use Rattle.funnels.proofs.Funnels.SidesBetween.{turned_at_least}
 use Rattle.funnels.proofs.Funnels.TestSigns.{level_at_apex, not_outer_left, not_outer_right}
 use Rattle.funnels.specs.Funnel.{height}
 
@@ -19,7 +19,7 @@ module _ (p o q l r : Point) (y : Triple) (at_y : IsPoint y) (above : pos 0 ≤�
       not_outer_left (determinant (whole o) (whole q) y) (determinant (whole p) (whole q) y) (determinant (whole p) (whole o) y)
       (determinant (whole p) (whole o) (whole q)) y.W (height l r (whole p)) (height l r (whole o)) (height l r (whole q)) (height l r y)
       (four_on_line (whole r) (whole l) (whole p) (whole o) (whole q) y) (areas_with p o q y) at_y above beyond
-      (weak left) (not_above not_left) turn first second
+      (weak left) (at_most_unless not_left) turn first second
 
   -- of two right edges, from p over o to q, y is not right of the second alone
   pub right_of_both : IsRight (whole p) (whole o) (whole q) → height l r (whole o) ≤ℤ height l r (whole p)

@@ -1,5 +1,5 @@
 -- A triangle of a mesh at one of its corners: no neighbour of the corner in the ring is strictly inside the angle there.
-use Rattle.std.proofs.Common.{◌≡◌, ◌⊎◌, inl, inr, subst, ap, le_refl, ℕ, ◌<◌, List, length, arith}
+use Rattle.std.proofs.Common.{le_refl, ℕ, ◌<◌, List, length}
 use Rattle.integer_algebra.proofs.SignSteps.{turned_positive}
 use Rattle.plane.proofs.Nearness.{left_toward, left_eventually, toward, toward_is_point, toward_on}
 use Rattle.plane.proofs.Points.{whole_is_point}
@@ -13,19 +13,13 @@ use Rattle.rings.specs.Ring.{vertex}
 use Rattle.ring_laws.proofs.Triangles.{left_at_first, left_at_last}
 use Rattle.meshes.proofs.Joins.{in_tri}
 use Rattle.meshes.proofs.Parts.{ring_apart, ring_long, region_off_edges, sides, inside_sides, left_of_sides}
-use Rattle.meshes.proofs.Sides.{left_apart}
 use Rattle.meshes.specs.Fits.{FitsPiece, IsStrictlyInTri, piece_points}
 use Rattle.meshes.specs.Side.{HasSide, tri_at}
 use Rattle.meshes.specs.declared.tri.Tri.{Tri}
+use Rattle.meshes.proofs.TreeLeaves.{by_turns}
 use Rattle.funnels.proofs.Vertices.VertexNeighbours.{edge_between}
 
 -- ---- a triangle by the numbers of its corners
-
--- two sides one after the other, by the three corners
-two_sides : (a b c x y z : ℕ) → ¬ (a ≡ b) → ¬ (b ≡ c) → ¬ (c ≡ a) → HasSide (record { a = a; b = b; c = c }) x y
-    → HasSide (record { a = a; b = b; c = c }) y z
-    → ((a ≡ x) × (b ≡ y) × (c ≡ z)) ⊎ ((b ≡ x) × (c ≡ y) × (a ≡ z)) ⊎ ((c ≡ x) × (a ≡ y) × (b ≡ z))
-two_sides a b c x y z ab bc ca h k = grind arith
 
 -- the triangle has the corners j, i and m, counterclockwise; what is left of all its sides is strictly inside
 pub record HasCorners (corners : List Point) (t : Tri) (j i m : ℕ) : Type 0 where
@@ -34,37 +28,16 @@ pub record HasCorners (corners : List Point) (t : Tri) (j i m : ℕ) : Type 0 wh
       → IsLeft (whole (vertex corners i)) (whole (vertex corners m)) y → IsLeft (whole (vertex corners m)) (whole (vertex corners j)) y
       → IsStrictlyInTri corners t y
 
-module _ (corners : List Point) (t : Tri) where
-  -- the corners by other names of their numbers
-  named : {a b c x y z : ℕ} → a ≡ x → b ≡ y → c ≡ z → HasCorners corners t a b c → HasCorners corners t x y z
-  named {a} {b} {c} {x} {y} {z} e f g h =
-      subst (λ n. HasCorners corners t n y z) e (subst (λ n. HasCorners corners t a n z) f (subst (λ n. HasCorners corners t a b n) g h))
-
-  -- a triangle with two sides one after the other has the corners between them
-  pub has_corners : IsLeft (whole (vertex corners t.a)) (whole (vertex corners t.b)) (whole (vertex corners t.c))
-      → (j i m : ℕ) → HasSide t j i → HasSide t i m → HasCorners corners t j i m
-  has_corners left j i m last next =
-      let A = vertex corners t.a in
-      let B = vertex corners t.b in
-      let C = vertex corners t.c in
-      let apart = left_apart (whole A) (whole B) (whole C) left in
-      let at : ℕ → Triple = λ n. whole (vertex corners n) in
-      elim (two_sides t.a t.b t.c j i m (λ e. apart.0 (ap at e)) (λ e. apart.1 (ap at e)) (λ e. apart.2 (ap at e)) last next) [
-        | inl e ↦ named e.0 e.1 e.2 (record {
-          left = left;
-          strictly = λ y f g h. record { left_of_first = f; left_of_second = g; left_of_third = h };
-        })
-        | inr k ↦ elim k [
-          | inl e ↦ named e.0 e.1 e.2 (record {
-            left = left_at_last A B C left;
-            strictly = λ y f g h. record { left_of_first = h; left_of_second = f; left_of_third = g };
-          })
-          | inr e ↦ named e.0 e.1 e.2 (record {
-            left = left_at_first A B C left;
-            strictly = λ y f g h. record { left_of_first = g; left_of_second = h; left_of_third = f };
-          })
-        ]
-      ]
+-- a triangle with two sides one after the other has the corners between them
+pub has_corners : (corners : List Point) (t : Tri) → IsLeft (whole (vertex corners t.a)) (whole (vertex corners t.b)) (whole (vertex corners t.c))
+    → (j i m : ℕ) → HasSide t j i → HasSide t i m → HasCorners corners t j i m
+has_corners corners t left j i m last next =
+    by_turns corners t left j i m last next (HasCorners corners t)
+    (λ a b c h. record {
+      left = left_at_last (vertex corners a) (vertex corners b) (vertex corners c) h.left;
+      strictly = λ y second third first. h.strictly y first second third;
+    })
+    (record { left = left; strictly = λ y first second third. record { left_of_first = first; left_of_second = second; left_of_third = third } })
 
 -- ---- neighbours of a corner
 

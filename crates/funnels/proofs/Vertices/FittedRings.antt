@@ -1,6 +1,6 @@
 -- A ring that triangles fit is simple, has three vertices or more, and runs counterclockwise: the points of a triangle beside its
 -- first edge are in it, and they are on the left.
-use Rattle.std.proofs.Common.{◌≡◌, inl, inr, subst, ap, ◌∙◌, ℕ, ◌+◌, ◌%◌, ◌<◌, ◌≤◌, List, length, get_or, arith}
+use Rattle.std.proofs.Common.{◌≡◌, inl, inr, subst, ap, ◌∙◌, ℕ, ◌%◌, ◌<◌, ◌≤◌, List, length, get_or, arith}
 use Rattle.std.proofs.Math.Nat.{mod-eq_of_lt}
 use Rattle.std.proofs.lemmas.List.FromFn.{get_or-range_with_len, length-range_with_len}
 use Rattle.std.specs.List.{range_with_len}
@@ -18,7 +18,7 @@ use Rattle.rings.specs.Simple.{IsSimple}
 use Rattle.ring_laws.proofs.Simple.{runs_round}
 use Rattle.meshes.proofs.Joins.{in_tri}
 use Rattle.meshes.proofs.Parts.{near_side, opposite}
-use Rattle.meshes.proofs.Sides.{piece_points_all}
+use Rattle.meshes.proofs.Sides.{piece_points_all, two_fewer}
 use Rattle.meshes.specs.Fits.{Fits, IsInTri, IsPieceEdge, IsSideOfOne}
 use Rattle.meshes.specs.Side.{tri_at}
 use Rattle.meshes.specs.declared.tri.Tri.{Tri}
@@ -38,17 +38,13 @@ first_edge n some =
     }
 
 module _ (corners : List Point) (tris : List Tri) (fits : Fits corners tris) where
-  -- the ring has two vertices more than there are triangles,
-  long : length tris + 2 ≡ length corners
-  long = omega (arith, fits.count, length-range_with_len 0 (length corners))
-
-  -- one of them has the first edge,
+  -- a triangle has the first edge of the ring,
   first_triangle : (k : ℕ) × IsSideOfOne tris 0 1 k
-  first_triangle = fits.edges 0 1 (first_edge (length corners) (omega (arith, long)))
+  first_triangle = fits.edges 0 1 (first_edge (length corners) (omega (arith, two_fewer corners tris fits)))
 
   -- so the ring has three vertices or more;
   pub fitted_long : 3 ≤ length corners
-  fitted_long = let (k, one) = first_triangle in omega (arith, long, one.in_list)
+  fitted_long = let (k, one) = first_triangle in omega (arith, two_fewer corners tris fits, one.in_list)
 
   -- it is simple,
   pub fitted_simple : IsSimple corners

@@ -1,8 +1,7 @@
 -- Right of an edge, near an end of it: nothing is in a ring that runs counterclockwise, where no edge at that end is right of this
 -- one.
-use Rattle.std.proofs.Common.{◌≡◌, inl, inr, refl, sym, subst, ℕ, ◌+◌, ◌<◌, ℤ, pos, neg_ℤ, ◌≤ℤ◌, List, [], ◌∷◌, ◌++◌, length, arith}
-use Rattle.std.proofs.lemmas.Int.{ints}
-use Rattle.integer_algebra.proofs.SignSteps.{turned_positive}
+use Rattle.std.proofs.Common.{◌≡◌, inl, inr, refl, sym, subst, ℕ, ◌+◌, ◌<◌, pos, ◌≤ℤ◌, List, [], ◌∷◌, ◌++◌, length, arith}
+use Rattle.integer_algebra.proofs.SignSteps.{turned_positive, turned_not_positive}
 use Rattle.plane.proofs.Nearness.{apart_between, right_toward, Eventually, toward, toward_is_point}
 use Rattle.plane.proofs.Points.{whole_is_point}
 use Rattle.plane.proofs.Segments.{on_is_straight, on_same_point, first_end_on_line, on_or_not}
@@ -36,10 +35,6 @@ each_eventually P (e ∷ es) h =
     }
 
 -- ---- right of an edge, near an end of it
-
--- the opposite, written otherwise, of what is not negative
-turned_not_positive : {d e : ℤ} → e ≡ neg_ℤ d → pos 0 ≤ℤ d → e ≤ℤ pos 0
-turned_not_positive e h = omega (arith, ints)
 
 -- edge f is not right of the line of e
 abbrev pub IsNotRightOf : Edge → Edge → Type 0

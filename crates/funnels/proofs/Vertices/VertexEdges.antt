@@ -1,10 +1,10 @@
 -- The two edges at a vertex of a ring with different vertices.
 use Rattle.std.proofs.Common.{◌≡◌, ◌⊎◌, inl, inr, refl, sym, subst, ap, ◌∙◌, ℕ, zero, suc, ◌+◌, ◌-◌, ◌<◌, ◌≤◌, List, length, arith}
 use Rattle.std.proofs.Math.Nat.{add-mod_right}
-use Rattle.std.proofs.lemmas.Bool.{cases_lt, cases_order}
+use Rattle.std.proofs.lemmas.Bool.{cases_lt}
 use Rattle.std.specs.Prelude.{slice_index_or}
 use Rattle.plane.specs.Point.{Point}
-use Rattle.rings.proofs.Vertices.{edge_at, edge_number, has_edge_at, vertex_round}
+use Rattle.rings.proofs.Vertices.{edge_at, edge_number, has_edge_at, vertex_round, one_to_one}
 use Rattle.rings.specs.Apart.{IsApartRing}
 use Rattle.rings.specs.Edge.{Edge, HasEdge, HasEnd, edge, edges_of}
 use Rattle.rings.specs.Ring.{origin, vertex}
@@ -71,13 +71,7 @@ after ring r h = elim (cases_lt (r + 1) (length ring)) [
 module _ (ring : List Point) (apart : IsApartRing ring) where
   -- equal vertices have one number,
   same_number : (i j : ℕ) → i < length ring → j < length ring → vertex ring i ≡ vertex ring j → i ≡ j
-  same_number i j in_i in_j same = elim (cases_order i j) [
-    | inl e ↦ e
-    | inr h ↦ elim h [
-      | inl less ↦ absurd (apart.distinct i j less in_j same)
-      | inr less ↦ absurd (apart.distinct j i less in_i (sym same))
-    ]
-  ]
+  same_number = one_to_one (vertex ring) (length ring) apart.distinct
 
   -- and so do those before them
   same_before : (i j : ℕ) → i < length ring → j < length ring → vertex ring (i + 1) ≡ vertex ring (j + 1) → i ≡ j

@@ -2,6 +2,7 @@
 use Rattle.std.proofs.Common.{◌≡◌, ◌⊎◌, inl, inr, sym, ap, subst, ◌∙◌, ℕ, ◌<◌, List, [], ◌∷◌, length, arith}
 use Rattle.std.specs.List.{Contains}
 use Rattle.std.specs.Prelude.{◌↔◌}
+use Rattle.std.proofs.lemmas.Bool.{cases_eq}
 use Rattle.plane.specs.Point.{IsPoint, Point, Triple, whole}
 use Rattle.rings.specs.Inside.{IsIn}
 use Rattle.rings.specs.Ring.{vertex}
@@ -10,7 +11,7 @@ use Rattle.meshes.proofs.Ears.EarCut.{ear_cut, ear_left, others_lie, rest_ring, 
 use Rattle.meshes.proofs.Ears.LeafTaken.{IsRest, rest_of_one, rest_of_shared, rest_of_two, rest_tree, same_new}
 use Rattle.meshes.proofs.Joins.{contains_cases, contains_first, contains_rest, part_of_edge, second_diagonal, second_part_cases}
 use Rattle.meshes.proofs.Parts.{side_in, inside_one}
-use Rattle.meshes.proofs.Sides.{same_or_not, step_of_edge}
+use Rattle.meshes.proofs.Sides.{step_of_edge}
 use Rattle.meshes.proofs.TreeLeaves.{closed_of_sides, side_is_one}
 use Rattle.meshes.specs.Fits.{FitsPiece, IsInTri, IsPieceEdge, IsSideOfOne, IsSideOfTwo, IsStrictlyInTri, IsTriOf, piece_points}
 use Rattle.meshes.specs.Laws.{IsEar, IsLeaf}
@@ -137,7 +138,7 @@ module _ (corners : List Point) (u v w : ℕ) (ms : List ℕ) (tris : List Tri) 
   in_other p at_p h =
       let cut = ear_cut corners u v w ms tris fits k l ear in
       let (n, within, t) = (fits.covers p at_p).0 ((cut.covers p at_p).1 (inr h)) in
-      elim (same_or_not n k) [
+      elim (cases_eq n k) [
         | inr not ↦ (n, within, not, t)
         | inl same ↦
             let U = vertex corners u in

@@ -5,10 +5,10 @@ use Rattle.std.proofs.lemmas.List.{append_assoc, get_or_at, get_or_default}
 use Rattle.std.specs.List.{Contains}
 use Rattle.plane.specs.Point.{Point}
 use Rattle.rings.specs.Simple.{IsSimple}
+use Rattle.rings.proofs.Vertices.{parts_at}
 use Rattle.meshes.proofs.Ears.EarOff.{fits_rest}
 use Rattle.meshes.proofs.Ears.Without.{is_rest, new_number, old_number}
 use Rattle.meshes.proofs.Joins.{contains_cases, edge_rotated, fits_rotated}
-use Rattle.meshes.proofs.Parts.{parts_at}
 use Rattle.meshes.proofs.Sides.{one_number}
 use Rattle.meshes.proofs.TreeLeaves.{leaf_is_ear}
 use Rattle.meshes.specs.Fits.{FitsPiece, IsPieceEdge, piece_points}

@@ -1,6 +1,6 @@
 -- A list of triangles without one of them: the numbers of the others, their sides, and their tree, where that one is a leaf.
 use Rattle.std.proofs.Common.{◌≡◌, inl, inr, sym, ap, subst, ◌∙◌, ℕ, ◌+◌, ◌<◌, List, [], ◌∷◌, length}
-use Rattle.meshes.proofs.Sides.{same_or_not}
+use Rattle.std.proofs.lemmas.Bool.{cases_eq}
 use Rattle.meshes.proofs.Walks.{IsPath, IsTreeOn, Renames, tree_renamed, IsPlace, Touch, share_back, tree_of_paths, tree_of_walks}
 use Rattle.meshes.specs.Fits.{IsSideOfOne, IsSideOfTwo}
 use Rattle.meshes.specs.Laws.{IsLeaf}
@@ -75,7 +75,7 @@ module _ (tris rest : List Tri) (k : ℕ) (f g : ℕ → ℕ) (r : IsRest tris r
     avoids : (a : ℕ) (bs : List ℕ) (c : ℕ) → IsOther a → ¬ (c ≡ k) → IsPath (IsPlace tris) (Touch tris) a bs c → IsPath IsOther (Touch tris) a bs c
     avoids a [] c at_a not p = p
     avoids a (b ∷ []) c at_a not p = ((p.0, λ e. not (sym p.3 ∙ e)), p.1, p.2, p.3)
-    avoids a (b ∷ d ∷ ds) c at_a not p = elim (same_or_not b k) [
+    avoids a (b ∷ d ∷ ds) c at_a not p = elim (cases_eq b k) [
       | inr other ↦ ((p.0, other), p.1, p.2, avoids b (d ∷ ds) c (p.0, other) not p.3)
       | inl same ↦
           let from_k : Touch tris k a = share_back (tri_at tris a) (tri_at tris k) (subst (Touch tris a) same p.1) in

@@ -1,13 +1,9 @@
 -- One of two meshes that are joined along a diagonal: the sides of its triangles in the joined list.
-use Rattle.std.proofs.Common.{◌≡◌, ◌⊎◌, inl, inr, sym, ap, subst, ◌∙◌, ℕ, ◌<◌, List, length, arith}
-use Rattle.std.proofs.lemmas.Int.{ints}
+use Rattle.std.proofs.Common.{◌≡◌, ◌⊎◌, inl, inr, sym, ap, subst, ◌∙◌, ℕ, ◌<◌, List, length}
 use Rattle.std.specs.List.{Contains}
-use Rattle.plane.proofs.Turns.{determinant_same_ends, determinant_same_first, determinant_same_last}
-use Rattle.plane.specs.Point.{Point, whole}
-use Rattle.plane.specs.Turn.{IsStraight}
-use Rattle.rings.specs.Ring.{vertex}
+use Rattle.plane.specs.Point.{Point}
 use Rattle.meshes.proofs.Joins.TwoLists.{AreParts, IsPlaceOf}
-use Rattle.meshes.proofs.Sides.{edge_or_not}
+use Rattle.meshes.proofs.Sides.{edge_or_not, corners_differ}
 use Rattle.meshes.specs.Fits.{FitsPiece, IsPieceEdge, IsSideOfOne, IsSideOfTwo, IsTriOf}
 use Rattle.meshes.specs.Side.{HasSide, HasSideBetween, tri_at}
 use Rattle.meshes.specs.declared.tri.Tri.{Tri}
@@ -23,27 +19,24 @@ pub between_back : {t : Tri} {i j : ℕ} → HasSideBetween t i j → HasSideBet
 between_back (inl h) = inr h
 between_back (inr h) = inl h
 
-module _ (corners : List Point) (piece : List ℕ) (t : Tri) (is : IsTriOf corners piece t) where
-  -- a triangle that turns has no two equal corners
-  not_flat : ¬ IsStraight (whole (vertex corners t.a)) (whole (vertex corners t.b)) (whole (vertex corners t.c))
-  not_flat flat = omega (arith, ints, flat, is.counterclockwise)
+-- a side between two numbers that are the ends of the diagonal is one between its ends
+pub between_at : {t : Tri} {a b i j : ℕ} → AreEnds a b i j → HasSideBetween t i j → HasSideBetween t a b
+between_at {t} {a} {b} {i} {j} (inl h) s = subst (λ x. HasSideBetween t x b) h.0 (subst (λ y. HasSideBetween t i y) h.1 s)
+between_at {t} {a} {b} {i} {j} (inr h) s = between_back (subst (λ x. HasSideBetween t x a) h.0 (subst (λ y. HasSideBetween t i y) h.1 s))
 
-  corners_differ : (¬ (t.a ≡ t.b)) × (¬ (t.b ≡ t.c)) × (¬ (t.c ≡ t.a))
-  corners_differ =
-      let p = λ (i : ℕ). whole (vertex corners i) in (
-        λ e. not_flat (subst (λ i. IsStraight (p i) (p t.b) (p t.c)) (sym e) (determinant_same_first (p t.b) (p t.c))),
-        λ e. not_flat (subst (λ i. IsStraight (p t.a) (p i) (p t.c)) (sym e) (determinant_same_last (p t.a) (p t.c))),
-        λ e. not_flat (subst (λ i. IsStraight (p t.a) (p t.b) (p i)) (sym e) (determinant_same_ends (p t.a) (p t.b))),
-      )
+module _ (corners : List Point) (piece : List ℕ) (t : Tri) (is : IsTriOf corners piece t) where
+  -- the corners of the triangle differ
+  differ : (¬ (t.a ≡ t.b)) × (¬ (t.b ≡ t.c)) × (¬ (t.c ≡ t.a))
+  differ = corners_differ corners t is.counterclockwise
 
   -- the ends of a side are vertices of the piece, and different
   side_ends : (i j : ℕ) → HasSide t i j → Contains piece i × Contains piece j × (¬ (i ≡ j))
   side_ends i j (inl s) =
-      (subst (Contains piece) s.0 is.has_a, subst (Contains piece) s.1 is.has_b, λ e. corners_differ.0 (s.0 ∙ e ∙ sym s.1))
+      (subst (Contains piece) s.0 is.has_a, subst (Contains piece) s.1 is.has_b, λ e. differ.0 (s.0 ∙ e ∙ sym s.1))
   side_ends i j (inr (inl s)) =
-      (subst (Contains piece) s.0 is.has_b, subst (Contains piece) s.1 is.has_c, λ e. corners_differ.1 (s.0 ∙ e ∙ sym s.1))
+      (subst (Contains piece) s.0 is.has_b, subst (Contains piece) s.1 is.has_c, λ e. differ.1 (s.0 ∙ e ∙ sym s.1))
   side_ends i j (inr (inr s)) =
-      (subst (Contains piece) s.0 is.has_c, subst (Contains piece) s.1 is.has_a, λ e. corners_differ.2 (s.0 ∙ e ∙ sym s.1))
+      (subst (Contains piece) s.0 is.has_c, subst (Contains piece) s.1 is.has_a, λ e. differ.2 (s.0 ∙ e ∙ sym s.1))
 
   -- in either direction
   pub between_ends : (i j : ℕ) → HasSideBetween t i j → Contains piece i × Contains piece j × (¬ (i ≡ j))

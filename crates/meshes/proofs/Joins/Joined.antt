@@ -8,8 +8,8 @@ use Rattle.plane.specs.Point.{IsPoint, Point, Triple, whole}
 use Rattle.rings.specs.Inside.{IsIn}
 use Rattle.rings.specs.Ring.{vertex}
 use Rattle.meshes.proofs.Joins.Cuts.{IsCut, both_parts, ends_differ, first_diagonal, first_part, second_diagonal, second_part}
-use Rattle.meshes.proofs.Joins.Halves.{between_back, common_side}
-use Rattle.meshes.proofs.Joins.JoinedSides.{between_at, first_half, joined_edges, joined_inner_sides, joined_triangles}
+use Rattle.meshes.proofs.Joins.Halves.{between_back, common_side, between_at}
+use Rattle.meshes.proofs.Joins.JoinedSides.{first_half, joined_edges, joined_inner_sides, joined_triangles}
 use Rattle.meshes.proofs.Joins.OffDiagonal.{not_in_both}
 use Rattle.meshes.proofs.Joins.TwoLists.{IsPlaceOf, are_parts, as_first, as_second, at_first, at_second, tree_joined}
 use Rattle.meshes.specs.Fits.{FitsPiece, IsInTri, IsStrictlyInTri, piece_points}

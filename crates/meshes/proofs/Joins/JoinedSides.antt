@@ -5,21 +5,11 @@ use Rattle.plane.specs.Point.{Point}
 use Rattle.meshes.proofs.Joins.Cuts.{IsCut, both_parts, common_ends, contains_first_part, contains_second_part, first_diagonal, first_part}
 use Rattle.meshes.proofs.Joins.Cuts.{first_part_cases, part_of_edge, second_diagonal, second_part, second_part_cases}
 use Rattle.meshes.proofs.Joins.Diagonals.{not_edge}
-use Rattle.meshes.proofs.Joins.Halves.{AreEnds, IsHalf, between_back, half_edges, half_inner_sides}
+use Rattle.meshes.proofs.Joins.Halves.{IsHalf, half_edges, half_inner_sides}
 use Rattle.meshes.proofs.Joins.TwoLists.{are_parts, as_first, as_second, at_first, at_second, parts_back}
 use Rattle.meshes.specs.Fits.{FitsPiece, IsPieceEdge, IsSideOfOne, IsSideOfTwo, IsTriOf}
-use Rattle.meshes.specs.Side.{HasSide, HasSideBetween, tri_at}
+use Rattle.meshes.specs.Side.{HasSide, tri_at}
 use Rattle.meshes.specs.declared.tri.Tri.{Tri}
-
--- the ends of the diagonal the other way round
-ends_back : {a b i j : ℕ} → AreEnds a b i j → AreEnds b a i j
-ends_back (inl h) = inr h
-ends_back (inr h) = inl h
-
--- a side between two numbers that are the ends of the diagonal is one between its ends
-pub between_at : {t : Tri} {a b i j : ℕ} → AreEnds a b i j → HasSideBetween t i j → HasSideBetween t a b
-between_at {t} {a} {b} {i} {j} (inl h) s = subst (λ x. HasSideBetween t x b) h.0 (subst (λ y. HasSideBetween t i y) h.1 s)
-between_at {t} {a} {b} {i} {j} (inr h) s = between_back (subst (λ x. HasSideBetween t x a) h.0 (subst (λ y. HasSideBetween t i y) h.1 s))
 
 -- two cases the other way round
 cases_back : {A B : Type 0} → A ⊎ B → B ⊎ A
@@ -48,7 +38,7 @@ module _ (corners : List Point) (v : ℕ) (ps : List ℕ) (z : ℕ) (qs : List �
     other_diagonal = second_diagonal v ps z qs;
     common = λ i h k. cases_back (common_ends v ps z qs corners cut.simple i h k);
     edge_cases = first_part_cases v ps z qs;
-    not_edge = λ i j e ends. not_edge corners v ps z qs cut.simple some_before some_after i j e (ends_back ends);
+    not_edge = λ i j e ends. not_edge corners v ps z qs cut.simple some_before some_after i j e (cases_back ends);
   }
 
   -- and the second one the other

@@ -40,8 +40,16 @@ module _ (corners : List Point) (t u : Tri) (a b c d : Point) (o : IsOpposite co
   -- what is left of the outer sides is in one of the triangles
   pub in_one : (y : Triple) → IsLeftOfAll (outer_sides a b c d) y → IsInTri corners t y ⊎ IsInTri corners u y
   in_one y (bc, (ca, (ad, (db, _)))) = elim (lt_or_le (determinant (whole a) (whole b) y) (pos 0)) [
-    | inl right ↦ inr (p.closed y (not_right_back (whole a) (whole b) y right) (positive_not_negative ad) (positive_not_negative db))
-    | inr left ↦ inl (o.closed y (λ r. not_both r left) (positive_not_negative bc) (positive_not_negative ca))
+    | inl right ↦ inr (p.closed y (record {
+      not_right_of_first = not_right_back (whole a) (whole b) y right;
+      not_right_of_second = positive_not_negative ad;
+      not_right_of_third = positive_not_negative db;
+    }))
+    | inr left ↦ inl (o.closed y (record {
+      not_right_of_first = λ r. not_both r left;
+      not_right_of_second = positive_not_negative bc;
+      not_right_of_third = positive_not_negative ca;
+    }))
   ]
 
   -- a point strictly inside the segment is left of them

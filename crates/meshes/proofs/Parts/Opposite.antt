@@ -8,86 +8,78 @@ use Rattle.plane.proofs.Segments.{on_is_straight, on_reversed, first_end_on_line
 use Rattle.plane.proofs.Turns.{determinant_same_ends, determinant_same_last}
 use Rattle.plane.specs.Point.{IsPoint, IsSame, Point, Triple, whole}
 use Rattle.plane.specs.Segment.{On}
-use Rattle.plane.specs.Turn.{IsLeft, IsRight, IsStraight, determinant}
+use Rattle.plane.specs.Turn.{IsLeft, IsStraight, determinant}
+use Rattle.plane.specs.Triangle.{IsInTriangle}
 use Rattle.rings.specs.Edge.{Edge, edge}
 use Rattle.rings.specs.Ring.{vertex}
-use Rattle.ring_laws.proofs.Triangles.{between_in_triangle, first_in_triangle, last_in_triangle, left_at_first, left_at_last, middle_in_triangle}
+use Rattle.ring_laws.proofs.Triangles.{between_in_triangle, first_in_triangle, left_at_first, left_at_last, middle_in_triangle}
 use Rattle.ring_laws.proofs.Triangles.{not_negative}
 use Rattle.meshes.specs.Fits.{IsInTri, IsStrictlyInTri}
 use Rattle.meshes.specs.Side.{HasSide}
 use Rattle.meshes.specs.declared.tri.Tri.{Tri}
 
+-- ---- the corner opposite to a side
+
+-- the points of a side are in the triangle
+first_side_in : (a b c : Point) → IsLeft (whole a) (whole b) (whole c) → (y : Triple) → IsPoint y → On y (whole a) (whole b) → IsInTriangle a b c y
+first_side_in a b c left y at on =
+    between_in_triangle a b c y (whole a) (whole b) at (whole_is_point a) (whole_is_point b) (first_in_triangle a b c left)
+    (middle_in_triangle a b c left) on
+
 -- the corner c opposite to the side from a to b; what is left of all sides is strictly inside, what is right of none is in
 pub record IsOpposite (corners : List Point) (t : Tri) (a b c : Point) : Type 0 where
   pub left : IsLeft (whole a) (whole b) (whole c)
   pub strictly : (y : Triple) → IsLeft (whole a) (whole b) y → IsLeft (whole b) (whole c) y → IsLeft (whole c) (whole a) y → IsStrictlyInTri corners t y
-  pub closed : (y : Triple) → ¬ IsRight (whole a) (whole b) y → ¬ IsRight (whole b) (whole c) y → ¬ IsRight (whole c) (whole a) y → IsInTri corners t y
+  pub closed : (y : Triple) → IsInTriangle a b c y → IsInTri corners t y
   pub side : (y : Triple) → IsPoint y → On y (whole a) (whole b) → IsInTri corners t y
 
 module _ (corners : List Point) (t : Tri) (left : IsLeft (whole (vertex corners t.a)) (whole (vertex corners t.b)) (whole (vertex corners t.c))) where
-  -- the points of a segment between two points of the triangle
-  along : (y p q : Triple) → IsPoint y → IsPoint p → IsPoint q → IsInTri corners t p → IsInTri corners t q → On y p q → IsInTri corners t y
-  along = between_in_triangle (vertex corners t.a) (vertex corners t.b) (vertex corners t.c)
+  -- it is so where the corners are those of the triangle,
+  at_corners : IsOpposite corners t (vertex corners t.a) (vertex corners t.b) (vertex corners t.c)
+  at_corners =
+      let a = vertex corners t.a in
+      let b = vertex corners t.b in
+      let c = vertex corners t.c in
+      record {
+        left = left;
+        strictly = λ y f g h. record { left_of_first = f; left_of_second = g; left_of_third = h };
+        closed = λ y i. i;
+        side = λ y at on. first_side_in a b c left y at on;
+      }
 
-  -- each side has an opposite corner: the first side,
-  at_first : IsOpposite corners t (vertex corners t.a) (vertex corners t.b) (vertex corners t.c)
-  at_first = record {
-    left = left;
-    strictly = λ y f g h. record { left_of_first = f; left_of_second = g; left_of_third = h };
-    closed = λ y f g h. record { not_right_of_first = f; not_right_of_second = g; not_right_of_third = h };
-    side = λ y at on.
-        let P = vertex corners t.a in
-        let Q = vertex corners t.b in
-        along y (whole P) (whole Q) at (whole_is_point P) (whole_is_point Q)
-        (first_in_triangle (vertex corners t.a) (vertex corners t.b) (vertex corners t.c) left)
-        (middle_in_triangle (vertex corners t.a) (vertex corners t.b) (vertex corners t.c) left) on;
-  }
+  -- and for each side where it is so for the one before it
+  at_next : (a b c : Point) → IsOpposite corners t a b c → IsOpposite corners t b c a
+  at_next a b c o =
+      let turned : (y : Triple) → IsInTriangle b c a y → IsInTri corners t y = λ y i. o.closed y (record {
+        not_right_of_first = i.not_right_of_third;
+        not_right_of_second = i.not_right_of_first;
+        not_right_of_third = i.not_right_of_second;
+      }) in
+      let left_here = left_at_last a b c o.left in
+      record {
+        left = left_here;
+        strictly = λ y f g h. o.strictly y h f g;
+        closed = turned;
+        side = λ y at on. turned y (first_side_in b c a left_here y at on);
+      }
 
-  -- the second,
-  at_second : IsOpposite corners t (vertex corners t.b) (vertex corners t.c) (vertex corners t.a)
-  at_second = record {
-    left = left_at_last (vertex corners t.a) (vertex corners t.b) (vertex corners t.c) left;
-    strictly = λ y f g h. record { left_of_first = h; left_of_second = f; left_of_third = g };
-    closed = λ y f g h. record { not_right_of_first = h; not_right_of_second = f; not_right_of_third = g };
-    side = λ y at on.
-        let P = vertex corners t.b in
-        let Q = vertex corners t.c in
-        along y (whole P) (whole Q) at (whole_is_point P) (whole_is_point Q)
-        (middle_in_triangle (vertex corners t.a) (vertex corners t.b) (vertex corners t.c) left)
-        (last_in_triangle (vertex corners t.a) (vertex corners t.b) (vertex corners t.c) left) on;
-  }
-
-  -- and the third
-  at_third : IsOpposite corners t (vertex corners t.c) (vertex corners t.a) (vertex corners t.b)
-  at_third = record {
-    left = left_at_first (vertex corners t.a) (vertex corners t.b) (vertex corners t.c) left;
-    strictly = λ y f g h. record { left_of_first = g; left_of_second = h; left_of_third = f };
-    closed = λ y f g h. record { not_right_of_first = g; not_right_of_second = h; not_right_of_third = f };
-    side = λ y at on.
-        let P = vertex corners t.c in
-        let Q = vertex corners t.a in
-        along y (whole P) (whole Q) at (whole_is_point P) (whole_is_point Q)
-        (last_in_triangle (vertex corners t.a) (vertex corners t.b) (vertex corners t.c) left)
-        (first_in_triangle (vertex corners t.a) (vertex corners t.b) (vertex corners t.c) left) on;
-  }
-
-  -- so a side by the numbers of its ends does
+  -- so a side by the numbers of its ends has an opposite corner
   pub opposite : (i j : ℕ) → HasSide t i j → (c : Point) × IsOpposite corners t (vertex corners i) (vertex corners j) c
-  opposite i j (inl h) = (
-    vertex corners t.c,
-    subst (λ x. IsOpposite corners t (vertex corners x) (vertex corners j) (vertex corners t.c)) h.0
-        (subst (λ y. IsOpposite corners t (vertex corners t.a) (vertex corners y) (vertex corners t.c)) h.1 at_first),
-  )
-  opposite i j (inr (inl h)) = (
-    vertex corners t.a,
-    subst (λ x. IsOpposite corners t (vertex corners x) (vertex corners j) (vertex corners t.a)) h.0
-        (subst (λ y. IsOpposite corners t (vertex corners t.b) (vertex corners y) (vertex corners t.a)) h.1 at_second),
-  )
-  opposite i j (inr (inr h)) = (
-    vertex corners t.b,
-    subst (λ x. IsOpposite corners t (vertex corners x) (vertex corners j) (vertex corners t.b)) h.0
-        (subst (λ y. IsOpposite corners t (vertex corners t.c) (vertex corners y) (vertex corners t.b)) h.1 at_third),
-  )
+  opposite i j has =
+      let a = vertex corners t.a in
+      let b = vertex corners t.b in
+      let c = vertex corners t.c in
+      elim has [
+        | inl e ↦ (c, named e.0 e.1 at_corners)
+        | inr (inl e) ↦ (a, named e.0 e.1 (at_next a b c at_corners))
+        | inr (inr e) ↦ (b, named e.0 e.1 (at_next b c a (at_next a b c at_corners)))
+      ]
+    where
+      named : {x y : ℕ} {c : Point} → x ≡ i → y ≡ j → IsOpposite corners t (vertex corners x) (vertex corners y) c
+          → IsOpposite corners t (vertex corners i) (vertex corners j) c
+      named {x} {y} {c} e f o =
+          subst (λ n. IsOpposite corners t (vertex corners n) (vertex corners j) c) e
+          (subst (λ n. IsOpposite corners t (vertex corners x) (vertex corners n) c) f o)
 
 -- ---- points of the side
 

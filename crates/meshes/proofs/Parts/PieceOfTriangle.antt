@@ -1,6 +1,6 @@
 -- A ring that is split along a shared side of a mesh: each triangle lies in one piece as a whole.
 use Rattle.std.proofs.Common.{◌≡◌, ◌⊎◌, inl, inr, sym, ◌∙◌, List, length, ℕ, ◌+◌, ◌<◌, arith}
-use Rattle.std.proofs.lemmas.Bool.{cases_lt}
+use Rattle.std.proofs.lemmas.Bool.{cases_lt, cases_eq}
 use Rattle.std.specs.List.{Contains}
 use Rattle.plane.proofs.Nearness.{toward, toward_is_point}
 use Rattle.plane.proofs.Points.{same_sym, whole_is_point}
@@ -16,7 +16,6 @@ use Rattle.meshes.proofs.Parts.BetweenPieces.{IsCovered, covered_swapped, in_if_
 use Rattle.meshes.proofs.Parts.MeshDiagonals.{IsShared, ring_apart, ring_long, vertex_on_ring}
 use Rattle.meshes.proofs.Parts.OpenRegions.{IsLeftOfAll, left_of_all_eventually, region_off_edges}
 use Rattle.meshes.proofs.Parts.Opposite.{IsOpposite, mean, mean_inside, mean_is_point, near_side, sides, toward_inside}
-use Rattle.meshes.proofs.Sides.{same_or_not}
 use Rattle.meshes.specs.Fits.{FitsPiece, IsInTri, IsStrictlyInTri, piece_points}
 use Rattle.meshes.specs.Side.{tri_at}
 use Rattle.meshes.specs.declared.tri.Tri.{Tri}
@@ -92,7 +91,7 @@ module _ (corners : List Point) (piece : List ℕ) (tris : List Tri) (fits : Fit
     inside_off_side n within y at_y r on =
         let not_from = inside_no_vertex n within y at_y r i s.from_within in
         let not_to = inside_no_vertex n within y at_y r j s.to_within in
-        elim (same_or_not k n) [
+        elim (cases_eq k n) [
           | inr other ↦
               not_on_other k n s.two.in_list within other (vertex corners i) (vertex corners j) s.c s.near y at_y on not_from not_to r
           | inl same ↦

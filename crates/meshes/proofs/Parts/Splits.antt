@@ -1,11 +1,11 @@
 -- A simple ring that is split in two by a diagonal: the pieces, each with the diagonal as an edge.
-use Rattle.std.proofs.Common.{◌+◌, ◌≡◌, inl, inr, refl, sym, subst, ap, ◌∙◌, List, [], ◌∷◌, ◌++◌, length, get_or, ℕ, zero, suc, ◌-◌, ◌<◌, arith}
+use Rattle.std.proofs.Common.{◌+◌, ◌≡◌, inl, inr, refl, sym, subst, ap, ◌∙◌, List, [], ◌∷◌, ◌++◌, length, get_or, ℕ, ◌-◌, ◌<◌, arith}
 use Rattle.std.proofs.lemmas.Bool.{cases_lt}
 use Rattle.std.proofs.lemmas.List.{append_assoc, get_or_at, length-append}
 use Rattle.plane.proofs.Segments.{on_reversed}
 use Rattle.plane.specs.Point.{Point, whole}
 use Rattle.rings.proofs.Simple.{apart_of_simple}
-use Rattle.rings.proofs.Vertices.{has_right, vertex_in_range}
+use Rattle.rings.proofs.Vertices.{has_right, vertex_in_range, parts_at}
 use Rattle.rings.specs.Apart.{IsApartRing}
 use Rattle.rings.specs.Edge.{HasEdge, edge, edges_along, edges_of}
 use Rattle.rings.specs.Ring.{origin, vertex}
@@ -13,7 +13,7 @@ use Rattle.ring_laws.proofs.Cuts.{cut_between}
 use Rattle.ring_laws.proofs.Diagonals.{diagonal_backward}
 use Rattle.ring_laws.proofs.Pieces.{edges_of_first}
 use Rattle.ring_laws.specs.Diagonal.{IsDiagonal}
-use Rattle.meshes.proofs.Parts.BetweenPieces.{IsCovered}
+use Rattle.meshes.proofs.Parts.BetweenPieces.{IsCovered, covered_swapped}
 
 -- two pieces cover the ring and share only points of the segment from a to b, which is an edge of each
 pub record IsSplit (ring : List Point) (a b : Point) : Type 0 where
@@ -37,7 +37,7 @@ split_back ring a b s = record {
   first_long = s.second_long;
   second_long = s.first_long;
   covered = record {
-    covers = λ x at h. elim (s.covered.covers x at h) [ inl k ↦ inr k | inr k ↦ inl k ];
+    covers = (covered_swapped s.covered).covers;
     common = λ x at h k. on_reversed x (whole a) (whole b) (s.covered.common x at k h);
   };
   first_has = s.second_has;
@@ -76,15 +76,6 @@ split_named ring xs v ps z ys a b parts at_v at_z apart diagonal =
     let named : IsDiagonal ring v z = subst (λ x. IsDiagonal ring x z) at_v (subst (λ y. IsDiagonal ring a y) at_z diagonal) in
     let split = split_in_parts xs v ps z ys (subst IsApartRing parts apart) (subst (λ rs. IsDiagonal rs v z) parts named) in
     subst (λ x. IsSplit ring x b) (sym at_v) (subst (λ y. IsSplit ring v y) (sym at_z) (subst (λ rs. IsSplit rs v z) (sym parts) split))
-
--- item i of a list, and what is before and after it
-pub parts_at : {X : Type 0} (ring : List X) (i : ℕ) → i < length ring
-    → (xs : List X) × (v : X) × (rest : List X) × (ring ≡ xs ++ v ∷ rest) × (length xs ≡ i)
-parts_at [] i h = absurd (omega arith)
-parts_at (p ∷ ps) zero h = ([], p, ps, refl, refl)
-parts_at (p ∷ ps) (suc i) h =
-    let (xs, v, rest, is, count) = parts_at ps i (omega arith) in
-    (p ∷ xs, v, rest, ap (λ rs. p ∷ rs) is, ap suc count)
 
 -- the vertex between two parts of a ring
 vertex_between : (ring xs : List Point) (v : Point) (rest : List Point) (i : ℕ) → ring ≡ xs ++ v ∷ rest → length xs ≡ i → i < length ring → vertex ring i ≡ v

@@ -24,7 +24,7 @@ one_direction : (a b c i j : ℕ) → a ≢ b → b ≢ c → c ≢ a → HasSid
 one_direction a b c i j ab bc ca has back = grind arith
 
 -- the corners of a counterclockwise triangle differ
-corners_differ : (corners : List Point) (t : Tri) → IsLeft (whole (vertex corners t.a)) (whole (vertex corners t.b)) (whole (vertex corners t.c))
+pub corners_differ : (corners : List Point) (t : Tri) → IsLeft (whole (vertex corners t.a)) (whole (vertex corners t.b)) (whole (vertex corners t.c))
     → (t.a ≢ t.b) × (t.b ≢ t.c) × (t.c ≢ t.a)
 corners_differ corners t left =
     let apart = left_apart _ _ _ left in

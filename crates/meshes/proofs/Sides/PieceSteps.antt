@@ -2,9 +2,12 @@
 use Rattle.std.proofs.Common.{◌≡◌, ◌⊎◌, inl, inr, refl, sym, ap, subst, ◌∙◌, ℕ, zero, suc, ◌+◌, ◌%◌, ◌<◌, List, [], ◌∷◌, ◌++◌, length, get_or}
 use Rattle.std.proofs.Common.{add-one, arith}
 use Rattle.std.proofs.Math.Nat.{mod-eq_of_lt, mod_self}
-use Rattle.std.proofs.lemmas.Bool.{cases_lt}
+use Rattle.std.proofs.lemmas.Bool.{cases_lt, cases_eq}
 use Rattle.std.proofs.lemmas.List.{get_or_append_left, get_or_at}
+use Rattle.integer_algebra.proofs.Decisions.{both_or_not, either_or_not}
 use Rattle.meshes.specs.Fits.{IsPieceEdge}
+use Rattle.meshes.specs.Side.{HasSide}
+use Rattle.meshes.specs.declared.tri.Tri.{Tri}
 
 -- a step from i to j along some numbers and on to the last one
 abbrev IsStep : ℕ → List ℕ → ℕ → ℕ → ℕ → Type 0
@@ -90,28 +93,20 @@ module _ (x : ℕ) (xs : List ℕ) (last i j : ℕ) where
 
 -- two numbers are equal or not
 pub same_or_not : (a b : ℕ) → (a ≡ b) ⊎ (¬ (a ≡ b))
-same_or_not a b = elim (cases_lt a b) [
-  | inl h ↦ inr (λ e. omega arith)
-  | inr h ↦ elim (cases_lt b a) [ inl k ↦ inr (λ e. omega arith) | inr k ↦ inl (omega arith) ]
-]
+same_or_not = cases_eq
 
 -- two pairs of numbers too
-pub pair_or_not : (a b i j : ℕ) → ((a ≡ i) × (b ≡ j)) ⊎ (¬ ((a ≡ i) × (b ≡ j)))
-pair_or_not a b i j = elim (same_or_not a i) [
-  | inl e ↦ elim (same_or_not b j) [ inl f ↦ inl (e, f) | inr n ↦ inr (λ h. n h.1) ]
-  | inr n ↦ inr (λ h. n h.0)
-]
+pair_or_not : (a b i j : ℕ) → ((a ≡ i) × (b ≡ j)) ⊎ (¬ ((a ≡ i) × (b ≡ j)))
+pair_or_not a b i j = both_or_not (cases_eq a i) (cases_eq b j)
+
+-- a triangle has a side or not
+pub has_side_or_not : (t : Tri) (i j : ℕ) → HasSide t i j ⊎ (¬ HasSide t i j)
+has_side_or_not t i j = either_or_not (pair_or_not t.a t.b i j) (either_or_not (pair_or_not t.b t.c i j) (pair_or_not t.c t.a i j))
 
 -- there is a step from i to j or there is none
 step_or_not : (a : ℕ) (bs : List ℕ) (last i j : ℕ) → IsStep a bs last i j ⊎ (¬ IsStep a bs last i j)
 step_or_not a [] last i j = pair_or_not a last i j
-step_or_not a (b ∷ bs) last i j = elim (pair_or_not a b i j) [
-  | inl s ↦ inl (inl s)
-  | inr n ↦ elim (step_or_not b bs last i j) [
-    | inl s ↦ inl (inr s)
-    | inr m ↦ inr (λ h. elim h [ inl s ↦ n s | inr s ↦ m s ])
-  ]
-]
+step_or_not a (b ∷ bs) last i j = either_or_not (pair_or_not a b i j) (step_or_not b bs last i j)
 
 -- so an edge from i to j is one of the piece or is not
 pub edge_or_not : (piece : List ℕ) (i j : ℕ) → IsPieceEdge piece i j ⊎ (¬ IsPieceEdge piece i j)

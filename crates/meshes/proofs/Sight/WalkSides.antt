@@ -1,23 +1,18 @@
 -- A walk over the triangles of a mesh that crosses a side: before it lies one piece, and after it the other.
 use Rattle.std.proofs.Common.{◌≡◌, ◌⊎◌, inl, inr, sym, subst, ◌∙◌, List, length, get_or, ℕ, zero, suc, ◌+◌, ◌-◌, ◌<◌, ◌≤◌, arith}
-use Rattle.std.proofs.lemmas.Bool.{cases_lt}
 use Rattle.plane.proofs.Segments.{meet_reversed_second, on_reversed}
 use Rattle.plane.specs.Point.{IsPoint, Point, Triple, whole}
 use Rattle.plane.specs.Segment.{Meet, On}
 use Rattle.rings.specs.Ring.{vertex}
 use Rattle.rings.specs.Sees.{Sees}
-use Rattle.meshes.proofs.Joins.{AreEnds, between_back}
+use Rattle.rings.proofs.Vertices.{one_to_one}
+use Rattle.meshes.proofs.Joins.{between_back, between_at}
 use Rattle.meshes.proofs.Parts.{meets_between, IsShared, shared_of, IsParted, parted, shared_is_this, LiesIn, lies_in_one}
 use Rattle.meshes.proofs.Sides.{edge_or_not}
 use Rattle.meshes.specs.Fits.{FitsPiece, IsInTri, IsSideOfTwo, piece_points}
 use Rattle.meshes.specs.Laws.{CrossesSide, walk_tri}
 use Rattle.meshes.specs.Side.{HasSide, HasSideBetween, IsWalk, tri_at}
 use Rattle.meshes.specs.declared.tri.Tri.{Tri}
-
--- a side between the ends of another is between these
-between_ends_of : (t : Tri) (i j x y : ℕ) → AreEnds i j x y → HasSideBetween t x y → HasSideBetween t i j
-between_ends_of t i j x y (inl e) h = subst (λ a. HasSideBetween t a j) e.0 (subst (λ b. HasSideBetween t x b) e.1 h)
-between_ends_of t i j x y (inr e) h = between_back (subst (λ a. HasSideBetween t a i) e.0 (subst (λ b. HasSideBetween t x b) e.1 h))
 
 module _ (corners : List Point) (piece : List ℕ) (tris : List Tri) (fits : FitsPiece corners piece tris) where
   -- a side of one triangle that is a side of another one in some direction
@@ -40,10 +35,7 @@ module _ (corners : List Point) (piece : List ℕ) (tris : List Tri) (fits : Fit
 
     -- each is there once
     one_place : (r t : ℕ) → r < length walk → t < length walk → at r ≡ at t → r ≡ t
-    one_place r t h k e = elim (cases_lt r t) [
-      | inl less ↦ absurd (w.once r t less k e)
-      | inr more ↦ elim (cases_lt t r) [ inl less ↦ absurd (w.once t r less h (sym e)) | inr other ↦ omega arith ]
-    ]
+    one_place = one_to_one at (length walk) w.once
 
     -- a side that the walk crosses is a side of two triangles
     crossed_of_two : (m i j : ℕ) → CrossesSide tris walk m i j → IsSideOfTwo tris i j (at m) (at (m + 1)) ⊎ IsSideOfTwo tris j i (at m) (at (m + 1))
@@ -83,7 +75,7 @@ module _ (corners : List Point) (piece : List ℕ) (tris : List Tri) (fits : Fit
                   let ends = shared_is_this corners piece tris fits i j (at m) (at (m + 1)) shared p.first p.second p.covered (at (r + 1)) (at r)
                   share.i share.j (w.in_list (r + 1) (omega arith)) here share.of_second (inl share.of_first) lies h in
                   absurd (not_again r (omega arith) (λ e. omega arith) (λ e. omega arith)
-                  (between_ends_of (tri_at tris (at r)) i j share.i share.j ends (inl share.of_first)))
+                  (between_at ends (inl share.of_first)))
             ]
 
         -- and one after one in the second piece is in that
@@ -97,7 +89,7 @@ module _ (corners : List Point) (piece : List ℕ) (tris : List Tri) (fits : Fit
                   let ends = shared_is_this corners piece tris fits i j (at m) (at (m + 1)) shared p.first p.second p.covered (at (r + 1)) (at r)
                   share.i share.j there (w.in_list r (omega arith)) share.of_second (inl share.of_first) h lies in
                   absurd (not_again (r + 1) within (λ e. omega arith) (λ e. omega arith)
-                  (between_ends_of (tri_at tris (at (r + 1))) i j share.i share.j ends share.of_second))
+                  (between_at ends share.of_second))
             ]
 
         -- so all up to the side are in the first piece,

@@ -1,7 +1,6 @@
 -- Where some number is not on a path of a tree, a leaf is not: one with a longest path past that number.
 use Rattle.std.proofs.Common.{refl, ◌≡◌, ◌⊎◌, inl, inr, sym, subst, ◌∙◌, ℕ, zero, suc, ◌<◌, ◌≤◌, List, [], ◌∷◌, length, arith}
-use Rattle.std.proofs.lemmas.Bool.{cases_lt}
-use Rattle.meshes.proofs.Sides.{same_or_not}
+use Rattle.std.proofs.lemmas.Bool.{cases_lt, cases_eq}
 use Rattle.meshes.proofs.TreeLeaves.TreeLeaves.{IsJoinedToOne, as_long, leaf_from}
 use Rattle.meshes.proofs.Walks.{IsNew, IsPath, IsTreeOn}
 
@@ -13,7 +12,7 @@ module _ (n : ℕ) (R : ℕ → ℕ → Type 0) (turn : (a b : ℕ) → R a b �
   -- a number is new to a list or not
   new_or_not : (x : ℕ) (xs : List ℕ) → IsNew x xs ⊎ (¬ IsNew x xs)
   new_or_not x [] = inl tt
-  new_or_not x (y ∷ ys) = elim (same_or_not x y) [
+  new_or_not x (y ∷ ys) = elim (cases_eq x y) [
     | inl same ↦ inr (λ new. new.0 same)
     | inr differs ↦ elim (new_or_not x ys) [ inl new ↦ inl (differs, new) | inr old ↦ inr (λ new. old new.1) ]
   ]
@@ -26,11 +25,11 @@ module _ (n : ℕ) (R : ℕ → ℕ → Type 0) (turn : (a b : ℕ) → R a b �
   -- from a number on a path, the rest of it has no number that is new to the path
   rest_new : (x k a : ℕ) (bs : List ℕ) (c : ℕ) → IsPath P R a bs c → IsNew x (a ∷ bs) → ¬ IsNew k (a ∷ bs)
       → (rest : List ℕ) × IsPath P R k rest c × IsNew x (k ∷ rest)
-  rest_new x k a [] c p new old = elim (same_or_not k a) [
+  rest_new x k a [] c p new old = elim (cases_eq k a) [
     | inl same ↦ ([], same ∙ p, subst (λ y. IsNew x (y ∷ [])) (sym same) new)
     | inr differs ↦ absurd (old (differs, tt))
   ]
-  rest_new x k a (b ∷ bs) c p new old = elim (same_or_not k a) [
+  rest_new x k a (b ∷ bs) c p new old = elim (cases_eq k a) [
     | inl same ↦ (b ∷ bs, subst (λ y. IsPath P R y (b ∷ bs) c) (sym same) p, subst (λ y. IsNew x (y ∷ b ∷ bs)) (sym same) new)
     | inr differs ↦ rest_new x k b bs c p.3 new.1 (λ later. old (differs, later))
   ]
@@ -68,30 +67,31 @@ module _ (n : ℕ) (R : ℕ → ℕ → Type 0) (turn : (a b : ℕ) → R a b �
                 absurd (q (subst (λ y. IsNew x (y ∷ other)) same (subst (λ ys. IsNew x (m ∷ ys)) (sym is) new)))
           ];
         }
-        | inr old ↦ elim (cases_lt (length f.path) (length one.path)) [
-          | inl less ↦ record {
-            k = m;
-            within = at_m;
-            path = one.path;
-            is_path = one.is_path;
-            past = old;
-            most = λ d h other p q. elim (cases_lt d m) [
-              | inl k ↦ omega (arith, f.most d k other p q)
-              | inr k ↦ omega (arith, as_long n R turn tree c d m at_c at_m (omega arith) other p)
-            ];
-          }
-          | inr more ↦ record {
-            k = f.k;
-            within = f.within;
-            path = f.path;
-            is_path = f.is_path;
-            past = f.past;
-            most = λ d h other p q. elim (cases_lt d m) [
-              | inl k ↦ f.most d k other p q
-              | inr k ↦ omega (arith, as_long n R turn tree c d m at_c at_m (omega arith) other p)
-            ];
-          }
-        ]
+        | inr old ↦
+            let most : (k : ℕ) → length f.path ≤ k → length one.path ≤ k → (d : ℕ) → d < suc m → (other : List ℕ)
+                → IsPath P R d other c → ¬ IsNew x (d ∷ other) → length other ≤ k =
+            λ k first second d h other p q. elim (cases_lt d m) [
+              | inl less ↦ omega (arith, f.most d less other p q)
+              | inr more ↦ omega (arith, as_long n R turn tree c d m at_c at_m (omega arith) other p)
+            ] in
+            elim (cases_lt (length f.path) (length one.path)) [
+              | inl less ↦ record {
+                k = m;
+                within = at_m;
+                path = one.path;
+                is_path = one.is_path;
+                past = old;
+                most = most (length one.path) (omega arith) (omega arith);
+              }
+              | inr more ↦ record {
+                k = f.k;
+                within = f.within;
+                path = f.path;
+                is_path = f.is_path;
+                past = f.past;
+                most = most (length f.path) (omega arith) (omega arith);
+              }
+            ]
       ]
 
   -- a leaf that is not on a path

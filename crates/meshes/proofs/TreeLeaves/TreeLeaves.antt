@@ -1,7 +1,6 @@
 -- A tree of at least two numbers has two leaves: the last numbers of longest paths.
 use Rattle.std.proofs.Common.{◌≡◌, ◌⊎◌, inl, inr, sym, ap, subst, ◌∙◌, ℕ, zero, suc, ◌-◌, ◌<◌, ◌≤◌, List, [], ◌∷◌, length, arith}
-use Rattle.std.proofs.lemmas.Bool.{cases_lt}
-use Rattle.meshes.proofs.Sides.{same_or_not}
+use Rattle.std.proofs.lemmas.Bool.{cases_lt, cases_eq}
 use Rattle.meshes.proofs.Walks.{IsNew, IsPath, IsTreeOn}
 
 -- c is joined to one other number alone
@@ -25,11 +24,11 @@ module _ (n : ℕ) (R : ℕ → ℕ → Type 0) (turn : (a b : ℕ) → R a b �
 
   -- a number is new to a path or on it
   new_or_on : (c d a b : ℕ) (bs : List ℕ) → IsPath P R b bs a → IsNew c (b ∷ bs) → IsNew d (b ∷ bs) ⊎ IsFrom c d a
-  new_or_on c d a b [] p new = elim (same_or_not d b) [
+  new_or_on c d a b [] p new = elim (cases_eq d b) [
     | inl same ↦ inr (record { rest = []; path = same ∙ p; new = subst (λ x. IsNew c (x ∷ [])) (sym same) new })
     | inr differs ↦ inl (differs, tt)
   ]
-  new_or_on c d a b (x ∷ xs) p new = elim (same_or_not d b) [
+  new_or_on c d a b (x ∷ xs) p new = elim (cases_eq d b) [
     | inl same ↦ inr (record {
       rest = x ∷ xs;
       path = subst (λ y. IsPath P R y (x ∷ xs) a) (sym same) p;

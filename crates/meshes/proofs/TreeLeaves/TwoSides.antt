@@ -1,22 +1,16 @@
 -- Two sides of a triangle by the numbers of their ends: its turn, its points and its other side.
-use Rattle.std.proofs.Common.{◌≡◌, ◌⊎◌, inl, inr, refl, sym, ap, subst, ◌∙◌, ℕ, List, arith}
+use Rattle.std.proofs.Common.{◌≡◌, ◌⊎◌, inl, inr, refl, sym, subst, ℕ, List, arith}
 use Rattle.std.proofs.lemmas.Int.{ints}
 use Rattle.plane.proofs.Turns.{determinant_swap_ends}
 use Rattle.plane.specs.Point.{Point, Triple, whole}
 use Rattle.plane.specs.Triangle.{IsInTriangle}
 use Rattle.plane.specs.Turn.{IsLeft}
 use Rattle.rings.specs.Ring.{vertex}
-use Rattle.ring_laws.proofs.Triangles.{left_at_first, left_at_last}
-use Rattle.meshes.proofs.Sides.{left_apart}
+use Rattle.ring_laws.proofs.Triangles.{left_at_last}
 use Rattle.meshes.specs.Fits.{IsInTri}
 use Rattle.meshes.specs.Side.{HasSide}
 use Rattle.meshes.specs.declared.tri.Tri.{Tri}
-
--- two sides one after the other, by the three corners
-two_sides : (a b c x y z : ℕ) → ¬ (a ≡ b) → ¬ (b ≡ c) → ¬ (c ≡ a) → HasSide (record { a = a; b = b; c = c }) x y
-    → HasSide (record { a = a; b = b; c = c }) y z
-    → ((a ≡ x) × (b ≡ y) × (c ≡ z)) ⊎ ((b ≡ x) × (c ≡ y) × (a ≡ z)) ⊎ ((c ≡ x) × (a ≡ y) × (b ≡ z))
-two_sides a b c x y z ab bc ca h k = grind arith
+use Rattle.meshes.proofs.Sides.{corners_differ}
 
 -- the third corner at a side
 pub next_corner : (t : Tri) (i j : ℕ) → HasSide t i j → (m : ℕ) × HasSide t j m × HasSide t m i
@@ -24,100 +18,63 @@ next_corner t i j (inl h) = (t.c, inr (inl (h.1, refl)), inr (inr (refl, h.0)))
 next_corner t i j (inr (inl h)) = (t.a, inr (inr (h.1, refl)), inl (refl, h.0))
 next_corner t i j (inr (inr h)) = (t.b, inl (h.1, refl), inr (inl (refl, h.0)))
 
+-- two sides one after the other, by the three corners
+two_sides : (a b c x y z : ℕ) → ¬ (a ≡ b) → ¬ (b ≡ c) → ¬ (c ≡ a) → HasSide (record { a = a; b = b; c = c }) x y
+    → HasSide (record { a = a; b = b; c = c }) y z
+    → ((a ≡ x) × (b ≡ y) × (c ≡ z)) ⊎ ((b ≡ x) × (c ≡ y) × (a ≡ z)) ⊎ ((c ≡ x) × (a ≡ y) × (b ≡ z))
+two_sides a b c x y z ab bc ca h k = grind arith
+
 module _ (corners : List Point) where
   -- the turn over three vertices is left
   abbrev IsLeftTurn : ℕ → ℕ → ℕ → Type 0
   IsLeftTurn x y z = IsLeft (whole (vertex corners x)) (whole (vertex corners y)) (whole (vertex corners z))
 
-  -- by other names of the numbers
-  turn_named : {a b c x y z : ℕ} → a ≡ x → b ≡ y → c ≡ z → IsLeftTurn a b c → IsLeftTurn x y z
-  turn_named {a} {b} {c} {x} {y} {z} e f g h =
-      subst (λ n. IsLeftTurn n y z) e (subst (λ n. IsLeftTurn a n z) f (subst (λ n. IsLeftTurn a b n) g h))
-
-  -- a counterclockwise triangle turns left over two of its sides
-  pub turns_left : (t : Tri) → IsLeftTurn t.a t.b t.c → (x y z : ℕ) → HasSide t x y → HasSide t y z → IsLeftTurn x y z
-  turns_left t left x y z h k =
-      let A = vertex corners t.a in
-      let B = vertex corners t.b in
-      let C = vertex corners t.c in
-      let apart = left_apart (whole A) (whole B) (whole C) left in
-      let at : ℕ → Triple = λ n. whole (vertex corners n) in
-      elim (two_sides t.a t.b t.c x y z (λ e. apart.0 (ap at e)) (λ e. apart.1 (ap at e)) (λ e. apart.2 (ap at e)) h k) [
-        | inl e ↦ turn_named e.0 e.1 e.2 left
-        | inr e ↦ elim e [
-          | inl f ↦ turn_named f.0 f.1 f.2 (left_at_last A B C left)
-          | inr f ↦ turn_named f.0 f.1 f.2 (left_at_first A B C left)
+  module _ (t : Tri) (left : IsLeftTurn t.a t.b t.c) (x y z : ℕ) (h : HasSide t x y) (k : HasSide t y z) where
+    -- what holds of a triangle's corners, and of three numbers in turn as from the next one on, holds of the ends of two of its sides
+    pub by_turns : (P : ℕ → ℕ → ℕ → Type 0) → ((a b c : ℕ) → P a b c → P b c a) → P t.a t.b t.c → P x y z
+    by_turns P turned p =
+        let differ = corners_differ corners t left in
+        elim (two_sides t.a t.b t.c x y z differ.0 differ.1 differ.2 h k) [
+          | inl e ↦ named e.0 e.1 e.2 p
+          | inr (inl e) ↦ named e.0 e.1 e.2 (turned t.a t.b t.c p)
+          | inr (inr e) ↦ named e.0 e.1 e.2 (turned t.b t.c t.a (turned t.a t.b t.c p))
         ]
-      ]
+      where
+        named : {a b c : ℕ} → a ≡ x → b ≡ y → c ≡ z → P a b c → P x y z
+        named {a} {b} {c} e f g q = subst (λ n. P n y z) e (subst (λ n. P a n z) f (subst (λ n. P a b n) g q))
 
-  -- the closed triangle by other names of the numbers
-  closed_named : (p : Triple) {a b c x y z : ℕ} → a ≡ x → b ≡ y → c ≡ z → IsInTriangle (vertex corners x) (vertex corners y) (vertex corners z) p
-      → IsInTriangle (vertex corners a) (vertex corners b) (vertex corners c) p
-  closed_named p {a} {b} {c} {x} {y} {z} e f g h =
-      let In : ℕ → ℕ → ℕ → Type 0 = λ d m n. IsInTriangle (vertex corners d) (vertex corners m) (vertex corners n) p in
-      subst (λ n. In n b c) (sym e) (subst (λ n. In x n c) (sym f) (subst (λ n. In x y n) (sym g) h))
+    -- a counterclockwise triangle turns left over them
+    pub turns_left : IsLeftTurn x y z
+    turns_left = by_turns IsLeftTurn (λ a b c. left_at_last (vertex corners a) (vertex corners b) (vertex corners c)) left
 
-  -- what is in the closed triangle of the three vertices is in the triangle
-  pub closed_by_sides : (t : Tri) → IsLeftTurn t.a t.b t.c → (x y z : ℕ) → HasSide t x y → HasSide t y z → (p : Triple)
-      → IsInTriangle (vertex corners x) (vertex corners y) (vertex corners z) p → IsInTri corners t p
-  closed_by_sides t left x y z h k p i =
-      let apart = left_apart (whole (vertex corners t.a)) (whole (vertex corners t.b)) (whole (vertex corners t.c)) left in
-      let at : ℕ → Triple = λ n. whole (vertex corners n) in
-      elim (two_sides t.a t.b t.c x y z (λ e. apart.0 (ap at e)) (λ e. apart.1 (ap at e)) (λ e. apart.2 (ap at e)) h k) [
-        | inl e ↦ closed_named p e.0 e.1 e.2 i
-        | inr e ↦ elim e [
-          | inl f ↦
-              let q = closed_named p f.0 f.1 f.2 i in
-              record { not_right_of_first = q.not_right_of_third; not_right_of_second = q.not_right_of_first; not_right_of_third = q.not_right_of_second }
-          | inr f ↦
-              let q = closed_named p f.0 f.1 f.2 i in
-              record { not_right_of_first = q.not_right_of_second; not_right_of_second = q.not_right_of_third; not_right_of_third = q.not_right_of_first }
-        ]
-      ]
+    module _ (p : Triple) where
+      -- p is in the closed triangle of three vertices
+      abbrev IsInOf : ℕ → ℕ → ℕ → Type 0
+      IsInOf a b c = IsInTriangle (vertex corners a) (vertex corners b) (vertex corners c) p
 
-  -- and the other way round
-  pub closed_of_sides : (t : Tri) → IsLeftTurn t.a t.b t.c → (x y z : ℕ) → HasSide t x y → HasSide t y z → (p : Triple)
-      → IsInTri corners t p → IsInTriangle (vertex corners x) (vertex corners y) (vertex corners z) p
-  closed_of_sides t left x y z h k p i =
-      let apart = left_apart (whole (vertex corners t.a)) (whole (vertex corners t.b)) (whole (vertex corners t.c)) left in
-      let at : ℕ → Triple = λ n. whole (vertex corners n) in
-      elim (two_sides t.a t.b t.c x y z (λ e. apart.0 (ap at e)) (λ e. apart.1 (ap at e)) (λ e. apart.2 (ap at e)) h k) [
-        | inl e ↦ closed_named p (sym e.0) (sym e.1) (sym e.2) i
-        | inr e ↦ elim e [
-          | inl f ↦
-              closed_named p (sym f.0) (sym f.1) (sym f.2)
-              (record { not_right_of_first = i.not_right_of_second; not_right_of_second = i.not_right_of_third; not_right_of_third = i.not_right_of_first })
-          | inr f ↦
-              closed_named p (sym f.0) (sym f.1) (sym f.2)
-              (record { not_right_of_first = i.not_right_of_third; not_right_of_second = i.not_right_of_first; not_right_of_third = i.not_right_of_second })
-        ]
-      ]
+      -- so it is with the vertices in turn
+      in_turned : (a b c : ℕ) → IsInOf a b c → IsInOf b c a
+      in_turned a b c i = record {
+        not_right_of_first = i.not_right_of_second;
+        not_right_of_second = i.not_right_of_third;
+        not_right_of_third = i.not_right_of_first;
+      }
 
-  -- a side of a triangle with two given sides
-  pub side_is_one : (t : Tri) → IsLeftTurn t.a t.b t.c → (x y z : ℕ) → HasSide t x y → HasSide t y z → (i j : ℕ) → HasSide t i j
-      → ((i ≡ x) × (j ≡ y)) ⊎ ((i ≡ y) × (j ≡ z)) ⊎ ((i ≡ z) × (j ≡ x))
-  side_is_one t left x y z h k i j s =
-      let apart = left_apart (whole (vertex corners t.a)) (whole (vertex corners t.b)) (whole (vertex corners t.c)) left in
-      let at : ℕ → Triple = λ n. whole (vertex corners n) in
-      elim (two_sides t.a t.b t.c x y z (λ e. apart.0 (ap at e)) (λ e. apart.1 (ap at e)) (λ e. apart.2 (ap at e)) h k) [
-        | inl e ↦ by_first e.0 e.1 e.2 s
-        | inr e ↦ elim e [ inl f ↦ by_second f.0 f.1 f.2 s | inr f ↦ by_third f.0 f.1 f.2 s ]
-      ]
-    where
-      by_first : t.a ≡ x → t.b ≡ y → t.c ≡ z → HasSide t i j → ((i ≡ x) × (j ≡ y)) ⊎ ((i ≡ y) × (j ≡ z)) ⊎ ((i ≡ z) × (j ≡ x))
-      by_first e f g (inl q) = inl (sym q.0 ∙ e, sym q.1 ∙ f)
-      by_first e f g (inr (inl q)) = inr (inl (sym q.0 ∙ f, sym q.1 ∙ g))
-      by_first e f g (inr (inr q)) = inr (inr (sym q.0 ∙ g, sym q.1 ∙ e))
+      -- what is in the closed triangle of the three vertices is in the triangle,
+      pub closed_by_sides : IsInOf x y z → IsInTri corners t p
+      closed_by_sides =
+          by_turns (λ a b c. IsInOf a b c → IsInTri corners t p) (λ a b c in_tri i. in_tri (in_turned c a b (in_turned b c a i))) (λ i. i)
 
-      by_second : t.b ≡ x → t.c ≡ y → t.a ≡ z → HasSide t i j → ((i ≡ x) × (j ≡ y)) ⊎ ((i ≡ y) × (j ≡ z)) ⊎ ((i ≡ z) × (j ≡ x))
-      by_second e f g (inl q) = inr (inr (sym q.0 ∙ g, sym q.1 ∙ e))
-      by_second e f g (inr (inl q)) = inl (sym q.0 ∙ e, sym q.1 ∙ f)
-      by_second e f g (inr (inr q)) = inr (inl (sym q.0 ∙ f, sym q.1 ∙ g))
+      -- and the other way round
+      pub closed_of_sides : IsInTri corners t p → IsInOf x y z
+      closed_of_sides = by_turns IsInOf in_turned
 
-      by_third : t.c ≡ x → t.a ≡ y → t.b ≡ z → HasSide t i j → ((i ≡ x) × (j ≡ y)) ⊎ ((i ≡ y) × (j ≡ z)) ⊎ ((i ≡ z) × (j ≡ x))
-      by_third e f g (inl q) = inr (inl (sym q.0 ∙ f, sym q.1 ∙ g))
-      by_third e f g (inr (inl q)) = inr (inr (sym q.0 ∙ g, sym q.1 ∙ e))
-      by_third e f g (inr (inr q)) = inl (sym q.0 ∙ e, sym q.1 ∙ f)
+    -- a side of a triangle with two given sides
+    pub side_is_one : (i j : ℕ) → HasSide t i j → ((i ≡ x) × (j ≡ y)) ⊎ ((i ≡ y) × (j ≡ z)) ⊎ ((i ≡ z) × (j ≡ x))
+    side_is_one i j s =
+        by_turns (λ a b c. ((i ≡ a) × (j ≡ b)) ⊎ ((i ≡ b) × (j ≡ c)) ⊎ ((i ≡ c) × (j ≡ a)))
+        (λ a b c one. elim one [ inl e ↦ inr (inr e) | inr (inl e) ↦ inl e | inr (inr e) ↦ inr (inl e) ])
+        (elim s [ inl e ↦ inl (sym e.0, sym e.1) | inr (inl e) ↦ inr (inl (sym e.0, sym e.1)) | inr (inr e) ↦ inr (inr (sym e.0, sym e.1)) ])
 
   -- so two triangles do not share two sides in opposite directions
   pub not_two_shared : (t u : Tri) → IsLeftTurn t.a t.b t.c → IsLeftTurn u.a u.b u.c → (x y z : ℕ) → HasSide t x y → HasSide t y z

@@ -4,6 +4,7 @@ use Rattle.std.proofs.lemmas.Int.{ints}
 use Rattle.integer_algebra.proofs.Laws.{neg-mul}
 use Rattle.integer_algebra.proofs.OneSign.{OneSign, both_fall, both_level, both_rise, one_sign_swapped, same_change, sign_change}
 use Rattle.integer_algebra.proofs.Polynomial.{var, ◌⊖◌, ◌⊗◌, same_value}
+use Rattle.integer_algebra.proofs.SignSteps.{one_positive, opposite_not_negative, turned_not_positive, turned_not_negative}
 use Rattle.plane.proofs.Segments.{meet_reversed_second, OnOneLine}
 use Rattle.plane.proofs.Turns.{determinant_shift, determinant_swap_last, four_triples_in_W, four_triples_in_X, four_triples_in_Y, parts}
 use Rattle.plane.proofs.Turns.{IsCombination, on_of_combination, determinant as det}
@@ -21,14 +22,6 @@ of_first u v x y = omega (arith, ints, neg-mul u y)
 of_second : (s t u v x y z w : ℤ) → v *ℤ x -ℤ u *ℤ y +ℤ t *ℤ z -ℤ s *ℤ w ≡ pos 0
     → pos 1 *ℤ (v *ℤ x -ℤ u *ℤ y) ≡ neg_ℤ t *ℤ z +ℤ s *ℤ w
 of_second s t u v x y z w e = omega (arith, ints, neg-mul t z)
-
--- one is positive
-one_positive : pos 0 <ℤ pos 1
-one_positive = omega (arith, ints)
-
--- the opposite of what is not above 0 is not below it
-neg_nonnegative : (z : ℤ) → z ≤ℤ pos 0 → pos 0 ≤ℤ neg_ℤ z
-neg_nonnegative z h = omega (arith, ints)
 
 module _ (a b c d : Triple) where
   -- the point with the weights of the first segment's ends
@@ -50,7 +43,7 @@ module _ (a b c d : Triple) where
         m = neg_ℤ u;
         k_positive = one_positive;
         l_nonnegative = hv;
-        m_nonnegative = neg_nonnegative u hu;
+        m_nonnegative = opposite_not_negative hu;
         in_X = of_first u v a.X b.X;
         in_Y = of_first u v a.Y b.Y;
         in_W = of_first u v a.W b.W;
@@ -69,7 +62,7 @@ module _ (a b c d : Triple) where
         l = neg_ℤ t;
         m = s;
         k_positive = one_positive;
-        l_nonnegative = neg_nonnegative t ht;
+        l_nonnegative = opposite_not_negative ht;
         m_nonnegative = hs;
         in_X = of_second s t u v a.X b.X c.X d.X (four_triples_in_X a b c d);
         in_Y = of_second s t u v a.Y b.Y c.Y d.Y (four_triples_in_Y a b c d);
@@ -92,14 +85,6 @@ rising_meet a b c d at_a at_b at_c at_d hu hv ht hs h = record {
 turned_up : (u v A B U V : ℤ) → U ≡ neg_ℤ u → V ≡ neg_ℤ v → (v *ℤ A -ℤ u *ℤ B) <ℤ pos 0 → pos 0 <ℤ (V *ℤ A -ℤ U *ℤ B)
 turned_up u v A B U V e f h = omega (arith, ints, ap (λ z. z *ℤ B) e, ap (λ z. z *ℤ A) f, neg-mul u B, neg-mul v A)
 
--- what is not below 0 has an opposite that is not above it
-nonpositive_opposite : (u U : ℤ) → U ≡ neg_ℤ u → pos 0 ≤ℤ u → U ≤ℤ pos 0
-nonpositive_opposite u U e h = omega (arith, ints)
-
--- what is not above 0 has an opposite that is not below it
-nonnegative_opposite : (u U : ℤ) → U ≡ neg_ℤ u → u ≤ℤ pos 0 → pos 0 ≤ℤ U
-nonnegative_opposite u U e h = omega (arith, ints)
-
 module _ (a b c d : Triple) (at_a : IsPoint a) (at_b : IsPoint b) (at_c : IsPoint c) (at_d : IsPoint d) where
   -- where both fall, it is on both too
   falling_meet : pos 0 ≤ℤ determinant a c d → determinant b c d ≤ℤ pos 0 → pos 0 ≤ℤ determinant a b d → determinant a b c ≤ℤ pos 0
@@ -108,7 +93,7 @@ module _ (a b c d : Triple) (at_a : IsPoint a) (at_b : IsPoint b) (at_c : IsPoin
       let u = determinant_swap_last a c d in
       let v = determinant_swap_last b c d in
       meet_reversed_second a b d c
-      (rising_meet a b d c at_a at_b at_d at_c (nonpositive_opposite _ _ u hu) (nonnegative_opposite _ _ v hv) hs ht
+      (rising_meet a b d c at_a at_b at_d at_c (turned_not_positive u hu) (turned_not_negative v hv) hs ht
       (turned_up _ _ a.W b.W _ _ u v h))
 
   -- both changes are of one size

@@ -2,8 +2,9 @@
 use Rattle.std.proofs.Common.{◌≡◌, ◌⊎◌, inl, inr, sym, ap, ◌∙◌, ℤ, pos, ◌+ℤ◌, ◌-ℤ◌, ◌*ℤ◌, ◌<ℤ◌, arith}
 use Rattle.std.proofs.lemmas.Int.{ints}
 use Rattle.integer_algebra.proofs.Laws.{mul-zero, mul_comm, zero-mul}
-use Rattle.integer_algebra.proofs.Signs.{cancel_equal, factor_zero, is_negative, is_positive, is_zero, sign}
+use Rattle.integer_algebra.proofs.Signs.{cancel_equal, factor_zero}
 use Rattle.integer_algebra.proofs.Weights.{balance_back, offset_from_last, on_both_rays}
+use Rattle.integer_algebra.proofs.Decisions.{equal_or_not}
 use Rattle.plane.proofs.Order.{before_asym, before_differs, before_or_not}
 use Rattle.plane.proofs.Points.{same_whole, whole_is_point}
 use Rattle.plane.proofs.Segments.{on_segment_from, combination_is_straight, on_first_end, on_last_end, on_reversed}
@@ -62,14 +63,6 @@ module _ (p : Triple) (a b c : Point)
       (zero _ _ _ (from_end_X p a b to_a) (from_end_X p c b to_c) (balance_back m.k m.l m.m b.x a.x c.x m.in_X m.in_W))
       (zero _ _ _ (from_end_Y p a b to_a) (from_end_Y p c b to_c) (balance_back m.k m.l m.m b.y a.y c.y m.in_Y m.in_W))
 
--- an integer is 0 or not
-zero_or_not : (z : ℤ) → (z ≡ pos 0) ⊎ (¬ (z ≡ pos 0))
-zero_or_not z = elim (sign z) [
-  | is_negative h ↦ inr (λ e. omega (arith, ints))
-  | is_zero e ↦ inl e
-  | is_positive h ↦ inr (λ e. omega (arith, ints))
-]
-
 -- where a, b, c turn, or b comes between a and c, the segments from a to b and from b to c meet only at b
 pub meet_only_at_from : (a b c : Point) → (¬ IsStraight (whole a) (whole b) (whole c)) ⊎ IsBetween a b c
     → MeetOnlyAt (whole a) (whole b) (whole c)
@@ -78,7 +71,7 @@ meet_only_at_from a b c cause p at_p on_ab on_bc =
     let to_c = combination_of_ends p c b at_p (on_reversed p (whole b) (whole c) on_bc) in
     elim cause [
       | inl turns ↦ turning p a b c to_a to_c turns
-      | inr between ↦ elim (zero_or_not (determinant (whole a) (whole b) (whole c))) [
+      | inr between ↦ elim (equal_or_not (determinant (whole a) (whole b) (whole c)) (pos 0)) [
         | inr turns ↦ turning p a b c to_a to_c turns
         | inl straight ↦
             let on_ac = on_segment_from b a c (straight_swap_last (whole a) (whole b) (whole c) straight) between in

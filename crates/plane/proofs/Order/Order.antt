@@ -1,5 +1,5 @@
 -- Laws of the order of whole points.
-use Rattle.std.proofs.Common.{◌≡◌, ◌⊎◌, inl, inr, subst, ◌-ℤ◌, ◌≤ℤ◌, arith}
+use Rattle.std.proofs.Common.{◌≡◌, ◌⊎◌, inl, inr, subst, ◌-ℤ◌, ◌≤ℤ◌, arith, sym}
 use Rattle.std.proofs.lemmas.Int.{ints}
 use Rattle.integer_algebra.proofs.Signs.{Sign, is_negative, is_positive, is_zero, sign}
 use Rattle.plane.specs.Order.{IsBefore, IsBetween}
@@ -47,6 +47,14 @@ before_or_not p q = elim (compare_points p q) [
   | before h ↦ inl h
   | equal e ↦ inr (λ h. before_differs p q h e)
   | after h ↦ inr (before_asym q p h)
+]
+
+-- two points are one or not
+pub point_or_other : (p q : Point) → (p ≡ q) ⊎ (¬ (p ≡ q))
+point_or_other p q = elim (compare_points p q) [
+  | before h ↦ inr (before_differs p q h)
+  | equal e ↦ inl e
+  | after h ↦ inr (λ e. before_differs q p h (sym e))
 ]
 
 -- a point that is before a second is before a third that the second is before

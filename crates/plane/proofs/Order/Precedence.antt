@@ -4,6 +4,7 @@ use Rattle.std.proofs.lemmas.Int.{ints}
 use Rattle.integer_algebra.proofs.Fractions.{fraction_eq_trans, fraction_le_lt_trans, fraction_le_trans, fraction_lt_le_trans}
 use Rattle.integer_algebra.proofs.Laws.{add-mul, mul-add}
 use Rattle.integer_algebra.proofs.Signs.{Comparison, comparison, is_above, is_below, is_equal}
+use Rattle.integer_algebra.proofs.SignSteps.{weak_order}
 use Rattle.plane.specs.Line.{mediant}
 use Rattle.plane.specs.Order.{Precedes}
 use Rattle.plane.specs.Point.{IsPoint, IsSame, Triple}
@@ -95,10 +96,6 @@ not_after_antisym p q h k = elim (precedence p q) [
 ]
 
 -- ---- three points
-
--- a strict order is an order
-weak_order : {x z : ℤ} → x <ℤ z → x ≤ℤ z
-weak_order h = omega (arith, ints)
 
 -- what is equal is in order
 equal_order : {x z : ℤ} → x ≡ z → x ≤ℤ z

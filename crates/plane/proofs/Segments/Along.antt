@@ -4,7 +4,7 @@ use Rattle.std.proofs.lemmas.Int.{ints}
 use Rattle.integer_algebra.proofs.Certificate.{◌⊠◌, ◌⊞⁺◌, ◌⊠⁺◌}
 use Rattle.integer_algebra.proofs.Laws.{mul_assoc, mul_comm, mul_left_comm, zero-mul}
 use Rattle.integer_algebra.proofs.Polynomial.{var, ◌⊕◌, ◌⊖◌, ◌⊗◌, same_value}
-use Rattle.integer_algebra.proofs.SignSteps.{not_both, weak}
+use Rattle.integer_algebra.proofs.SignSteps.{not_both, weak, weak_order}
 use Rattle.integer_algebra.proofs.Signs.{cancel_equal, is_negative, is_positive, is_zero, lt_or_le, mul_nonnegative, mul_nonpositive, mul_positive}
 use Rattle.integer_algebra.proofs.Signs.{sign}
 use Rattle.plane.proofs.Points.{same_sym, same_trans}
@@ -29,10 +29,6 @@ nearer k l m i u v p q y t ep eq =
 -- a greater number less a smaller one is not negative
 not_negative_difference : {x z : ℤ} → x ≤ℤ z → pos 0 ≤ℤ (z -ℤ x)
 not_negative_difference h = omega (arith, ints)
-
--- a strict order is an order
-weak_order : {x z : ℤ} → x <ℤ z → x ≤ℤ z
-weak_order h = omega (arith, ints)
 
 -- where the last end weighs less in p than in q
 combination_nearer : (p q y t : Triple) (c : IsCombination p y t) (d : IsCombination q y t) → pos 0 <ℤ d.m

@@ -2,7 +2,7 @@
 use Rattle.std.proofs.Common.{◌≡◌, ◌⊎◌, inl, inr, [], ◌∷◌, refl, sym, ◌∙◌, ℤ, pos, ◌+ℤ◌, ◌-ℤ◌, ◌*ℤ◌, ◌<ℤ◌, ◌≤ℤ◌, arith}
 use Rattle.std.proofs.lemmas.Int.{ints}
 use Rattle.integer_algebra.proofs.Fractions.{fraction_le_lt_trans, fraction_lt_le_trans}
-use Rattle.integer_algebra.proofs.Polynomial.{var, ◌⊕◌, ◌⊖◌, ◌⊗◌, same_value}
+use Rattle.integer_algebra.proofs.Polynomial.{var, ◌⊕◌, ◌⊖◌, ◌⊗◌, same_value, lit}
 use Rattle.integer_algebra.proofs.Weights.{Forward, no_balance}
 use Rattle.plane.proofs.Order.{NotAfter, follows, not_after_antisym, not_after_facts, not_after_of_same, not_after_or_precedes, not_after_trans}
 use Rattle.plane.proofs.Order.{precedence, precedes, same}
@@ -45,12 +45,10 @@ balance k l m x w u v s t ex ew =
 balance_back : (k l m x w u v s t : ℤ) → k *ℤ x ≡ l *ℤ u +ℤ m *ℤ s → k *ℤ w ≡ l *ℤ v +ℤ m *ℤ t
     → l *ℤ (u *ℤ w -ℤ x *ℤ v) +ℤ m *ℤ (s *ℤ w -ℤ x *ℤ t) ≡ pos 0
 balance_back k l m x w u v s t ex ew =
-    let xs = k ∷ l ∷ m ∷ x ∷ w ∷ u ∷ v ∷ s ∷ t ∷ [] in
     same_value (var 1 ⊗ (var 5 ⊗ var 4 ⊖ var 3 ⊗ var 6) ⊕ var 2 ⊗ (var 7 ⊗ var 4 ⊖ var 3 ⊗ var 8))
-    ((var 1 ⊗ var 5 ⊕ var 2 ⊗ var 7) ⊗ var 4 ⊖ var 3 ⊗ (var 1 ⊗ var 6 ⊕ var 2 ⊗ var 8)) xs refl
-    ∙ (λ i. sym ex i *ℤ w -ℤ x *ℤ sym ew i)
-    ∙ same_value ((var 0 ⊗ var 3) ⊗ var 4 ⊖ var 3 ⊗ (var 0 ⊗ var 4)) (var 0 ⊖ var 0) xs refl
-    ∙ omega (arith, ints)
+    (lit (pos 0) ⊖ (var 1 ⊗ (var 3 ⊗ var 6 ⊖ var 5 ⊗ var 4) ⊕ var 2 ⊗ (var 3 ⊗ var 8 ⊖ var 7 ⊗ var 4)))
+    (k ∷ l ∷ m ∷ x ∷ w ∷ u ∷ v ∷ s ∷ t ∷ []) refl
+    ∙ (λ i. pos 0 -ℤ balance k l m x w u v s t ex ew i)
 
 module _ (p a b : Triple) (at_p : IsPoint p) (at_a : IsPoint a) (at_b : IsPoint b) (on : On p a b) where
   -- a point on a segment is not after both ends

@@ -2,8 +2,8 @@
 use Rattle.std.proofs.Common.{◌≡◌, ◌⊎◌, inl, inr, ap, ℤ, pos, ◌-ℤ◌, ◌*ℤ◌, ◌<ℤ◌, ◌≤ℤ◌, arith}
 use Rattle.std.proofs.lemmas.Int.{ints}
 use Rattle.integer_algebra.proofs.Laws.{mul_comm, zero-mul}
-use Rattle.integer_algebra.proofs.SignSteps.{mean_negative, mean_positive, not_both, not_both_positive, zero_not_negative, zero_not_positive}
-use Rattle.integer_algebra.proofs.Signs.{factor_zero, is_negative, is_positive, is_zero, sign}
+use Rattle.integer_algebra.proofs.SignSteps.{mean_negative, mean_positive, not_both, not_both_positive, zero_not_negative, zero_not_positive, positive_of_not_zero}
+use Rattle.integer_algebra.proofs.Signs.{factor_zero}
 use Rattle.plane.proofs.Points.{whole_is_point}
 use Rattle.plane.proofs.Segments.Combinations.{first_end_by, same_without_first, same_without_last}
 use Rattle.plane.proofs.Segments.Segments.{on_is_straight}
@@ -21,18 +21,14 @@ pub record IsWithin (x a b : Triple) : Type 0 where
   pub first_weighs : pos 0 <ℤ combination.l
   pub last_weighs : pos 0 <ℤ combination.m
 
--- a weight that is not negative and not 0 is positive
-some_weight : {z : ℤ} → pos 0 ≤ℤ z → ¬ (z ≡ pos 0) → pos 0 <ℤ z
-some_weight {z} h n = elim (sign z) [ is_negative k ↦ absurd (not_both k h) | is_zero k ↦ absurd (n k) | is_positive k ↦ k ]
-
 -- a point of the segment that is neither end is within it
 pub within_from : (x a b : Triple) → IsPoint x → IsPoint a → IsPoint b → On x a b → ¬ (IsSame x a) → ¬ (IsSame x b) → IsWithin x a b
 within_from x a b at_x at_a at_b on first last =
     let c = combination_of x a b at_x at_a at_b on in
     record {
       combination = c;
-      first_weighs = some_weight c.l_nonnegative (λ e. last (same_without_first x a b c e));
-      last_weighs = some_weight c.m_nonnegative (λ e. first (same_without_last x a b c e));
+      first_weighs = positive_of_not_zero c.l_nonnegative (λ e. last (same_without_first x a b c e));
+      last_weighs = positive_of_not_zero c.m_nonnegative (λ e. first (same_without_last x a b c e));
     }
 
 -- a point is on a segment, or not

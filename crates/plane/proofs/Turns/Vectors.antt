@@ -3,7 +3,7 @@ use Rattle.std.proofs.Common.{◌≡◌, [], ◌∷◌, refl, sym, ap, ◌∙◌
 use Rattle.std.proofs.lemmas.Int.{ints}
 use Rattle.integer_algebra.proofs.Laws.{mul_comm}
 use Rattle.integer_algebra.proofs.Polynomial.{var, ◌⊕◌, ◌⊖◌, ◌⊗◌, same_value}
-use Rattle.integer_algebra.proofs.SignSteps.{weak}
+use Rattle.integer_algebra.proofs.SignSteps.{weak, natural_not_negative}
 use Rattle.integer_algebra.proofs.Signs.{mul_nonnegative, mul_positive}
 use Rattle.integer_algebra.proofs.Weights.{some_weight}
 use Rattle.plane.proofs.Points.{whole_is_point}
@@ -43,10 +43,6 @@ weight_of d i j w v t e =
     ∙ same_value ((((var 0 ⊕ var 1) ⊗ var 3) ⊗ var 4) ⊗ var 2)
     (((var 0 ⊗ var 4) ⊗ var 2) ⊗ var 3 ⊕ ((var 1 ⊗ var 3) ⊗ var 2) ⊗ var 4)
     (d ∷ i ∷ w ∷ v ∷ t ∷ []) refl
-
--- a natural number is not negative
-natural_not_negative : (n : ℕ) → pos 0 ≤ℤ pos n
-natural_not_negative n = omega (arith, ints)
 
 -- a point on a segment is a combination of the ends
 pub combination_of : (p a b : Triple) → IsPoint p → IsPoint a → IsPoint b → On p a b → IsCombination p a b

@@ -1,12 +1,12 @@
 -- The cut law for a diagonal between any two vertices of a ring.
-use Rattle.std.proofs.Common.{List, [], ap, arith, drop, inl, inr, length, refl, subst, suc, sym, take, zero, ℕ, ◌++◌, ◌+◌, ◌-◌, ◌<◌, ◌∙◌, ◌∷◌}
+use Rattle.std.proofs.Common.{List, [], ap, arith, drop, inl, inr, length, refl, subst, sym, take, ℕ, ◌++◌, ◌+◌, ◌-◌, ◌<◌, ◌∙◌, ◌∷◌}
 use Rattle.std.proofs.Common.{◌≡◌}
 use Rattle.std.proofs.Math.Seq.{drop-append_seam, take-append-add}
 use Rattle.std.proofs.lemmas.List.{append_assoc, get_or_at, length-append}
 use Rattle.plane.specs.Point.{Point}
 use Rattle.rings.proofs.Inside.{apart_rotated, in_rotated}
 use Rattle.rings.proofs.Simple.{apart_of_simple, simple_of_apart}
-use Rattle.rings.proofs.Vertices.{vertex_in_range}
+use Rattle.rings.proofs.Vertices.{vertex_in_range, parts_at}
 use Rattle.rings.specs.Apart.{IsApartRing}
 use Rattle.rings.specs.Inside.{IsIn}
 use Rattle.rings.specs.Ring.{origin, vertex}
@@ -110,15 +110,6 @@ module _ (xs : List Point) (v : Point) (ps : List Point) (z : Point) (ys : List 
 
 -- ---- by numbers
 
--- item i of a list, and what is before and after it
-split_one : (ring : List Point) (i : ℕ) → i < length ring
-    → (xs : List Point) × (v : Point) × (rest : List Point) × (ring ≡ xs ++ v ∷ rest) × (length xs ≡ i)
-split_one [] i h = absurd (omega arith)
-split_one (p ∷ ps) zero h = ([], p, ps, refl, refl)
-split_one (p ∷ ps) (suc i) h =
-    let (xs, v, rest, is, count) = split_one ps i (omega arith) in
-    (p ∷ xs, v, rest, ap (λ rs. p ∷ rs) is, ap suc count)
-
 -- the law, for a ring in such parts
 cut_in_parts : (ring : List Point) (i j : ℕ) (xs : List Point) (v : Point) (rest ps : List Point) (z : Point) (ys : List Point)
     → ring ≡ xs ++ v ∷ rest → rest ≡ ps ++ z ∷ ys → length xs ≡ i → length xs + 1 + length ps ≡ j → IsApartRing ring → CutsInTwo ring i j
@@ -132,6 +123,6 @@ cut_in_parts ring i j xs v rest ps z ys is rest_is first second apart =
 pub cut_law : (ring : List Point) → IsSimple ring → (i j : ℕ) → i < j → j < length ring → IsDiagonal ring (vertex ring i) (vertex ring j)
     → IsCutInTwo ring (first_piece ring i j) (second_piece ring i j) (vertex ring i) (vertex ring j)
 cut_law ring simple i j less within =
-    let (xs, v, rest, is, first) = split_one ring i (omega arith) in
-    let (ps, z, ys, rest_is, between) = split_one rest (j - i - 1) (omega (arith, ap length is, length-append xs (v ∷ rest))) in
+    let (xs, v, rest, is, first) = parts_at ring i (omega arith) in
+    let (ps, z, ys, rest_is, between) = parts_at rest (j - i - 1) (omega (arith, ap length is, length-append xs (v ∷ rest))) in
     cut_in_parts ring i j xs v rest ps z ys is rest_is first (omega arith) (apart_of_simple ring simple)

@@ -12,7 +12,8 @@ use Rattle.plane.proofs.Segments.{combination_is_straight, on_first_end, on_is_s
 use Rattle.plane.proofs.Turns.{determinant_same_ends, determinant_same_first, determinant_shift, determinant_swap_first, determinant_swap_last}
 use Rattle.plane.proofs.Turns.{determinant_along_first}
 use Rattle.plane.specs.Point.{IsPoint, Triple, whole}
-use Rattle.plane.specs.Turn.{IsLeft, IsRight, determinant}
+use Rattle.plane.specs.Turn.{IsLeft, IsRight, determinant, IsStraight}
+use Rattle.plane.specs.Segment.{On}
 use Rattle.rings.proofs.Crossings.{winding_law, winding_law_crossed}
 use Rattle.rings.proofs.Vertices.{misses_between}
 use Rattle.rings.specs.Across.{CrossesRight, Misses}
@@ -110,31 +111,28 @@ module _ (e : Edge) (m p q : Triple) (at_m : IsPoint m) (at_p : IsPoint p) (at_q
       }
 
   module _ (es : List Edge) (closed : IsClosed (e ∷ es)) (from_p : Misses m p es) (from_q : Misses m q es) where
-    -- a way on the left of the edge to a near point misses all edges,
-    misses_left : (n : ℕ) → Misses p (toward m p n) (e ∷ es)
-    misses_left n x at_x on h =
-        let at_t = toward_is_point m p at_m at_p n in
-        elim h [
-          | inl on_e ↦
-              off_line (on_is_straight x (whole e.from) (whole e.to) at_x (whole_is_point e.from) (whole_is_point e.to) on_e)
-              (stays_left x p (toward m p n) at_x at_p at_t on (whole e.from) (whole e.to) left (near_left n))
-          | inr on_es ↦
-              from_p x at_x
-              (on_nested x p (toward m p n) m p at_x at_p at_t at_m at_p (on_last_end m p) (toward_on m p at_m at_p n) on) on_es
-        ]
+    -- a way beside the edge, to a point near m on the way to another, misses all edges where the way to the other misses the rest
+    misses_near : (r : Triple) → IsPoint r → Misses m r es → (n : ℕ)
+        → ((x : Triple) → IsPoint x → On x r (toward m r n) → ¬ IsStraight (whole e.from) (whole e.to) x) → Misses r (toward m r n) (e ∷ es)
+    misses_near r at_r from_r n beside x at_x on h = elim h [
+      | inl on_e ↦
+          beside x at_x on (on_is_straight x (whole e.from) (whole e.to) at_x (whole_is_point e.from) (whole_is_point e.to) on_e)
+      | inr on_es ↦
+          from_r x at_x
+          (on_nested x r (toward m r n) m r at_x at_r (toward_is_point m r at_m at_r n) at_m at_r (on_last_end m r) (toward_on m r at_m at_r n) on) on_es
+    ]
 
-    -- and so does one on the right
+    -- so does the way from p, on the left,
+    misses_left : (n : ℕ) → Misses p (toward m p n) (e ∷ es)
+    misses_left n =
+        misses_near p at_p from_p n (λ x at_x on straight. off_line straight
+        (stays_left x p (toward m p n) at_x at_p (toward_is_point m p at_m at_p n) on (whole e.from) (whole e.to) left (near_left n)))
+
+    -- and that from q, on the right
     misses_right : (n : ℕ) → Misses q (toward m q n) (e ∷ es)
-    misses_right n x at_x on h =
-        let at_t = toward_is_point m q at_m at_q n in
-        elim h [
-          | inl on_e ↦
-              off_line_right (on_is_straight x (whole e.from) (whole e.to) at_x (whole_is_point e.from) (whole_is_point e.to) on_e)
-              (stays_right x q (toward m q n) at_x at_q at_t on (whole e.from) (whole e.to) right (near_right n))
-          | inr on_es ↦
-              from_q x at_x
-              (on_nested x q (toward m q n) m q at_x at_q at_t at_m at_q (on_last_end m q) (toward_on m q at_m at_q n) on) on_es
-        ]
+    misses_right n =
+        misses_near q at_q from_q n (λ x at_x on straight. off_line_right straight
+        (stays_right x q (toward m q n) at_x at_q (toward_is_point m q at_m at_q n) on (whole e.from) (whole e.to) right (near_right n)))
 
     -- where m is within the first of the edges, and the ways from it to a point on the left and to one on the right miss
     -- the others, the winding number on the left is greater by 1

@@ -2,7 +2,8 @@
 use Rattle.std.proofs.Common.{◌≡◌, ◌⊎◌, inl, inr, refl, sym, subst, List}
 use Rattle.integer_algebra.proofs.SignSteps.{not_both, zero_not_negative}
 use Rattle.integer_algebra.proofs.Signs.{is_negative, is_positive, is_zero, sign}
-use Rattle.plane.proofs.Order.{after, before, before_differs, compare_points, equal}
+use Rattle.integer_algebra.proofs.Decisions.{either_or_not}
+use Rattle.plane.proofs.Order.{point_or_other}
 use Rattle.plane.proofs.Points.{whole_is_point}
 use Rattle.plane.proofs.Segments.{combination_is_straight, on_reversed, same_without_last}
 use Rattle.plane.proofs.Turns.{determinant_same_ends, determinant_same_last, determinant_shift, combination_of_ends, determinant_along}
@@ -16,24 +17,6 @@ use Rattle.ring_laws.proofs.Triangles.LeavingTriangle.{mean_rises}
 use Rattle.ring_laws.proofs.Triangles.NoneEnters.{meets_at_base}
 use Rattle.ring_laws.proofs.Triangles.SidesAtVertex.{not_positive}
 use Rattle.ring_laws.proofs.Triangles.Triangles.{between_in_triangle, first_in_triangle, last_in_triangle}
-
--- two points are equal or not
-equal_or_not : (p q : Point) → (p ≡ q) ⊎ (¬ (p ≡ q))
-equal_or_not p q = elim (compare_points p q) [
-  | before h ↦ inr (before_differs p q h)
-  | equal e ↦ inl e
-  | after h ↦ inr (λ e. before_differs q p h (sym e))
-]
-
--- a point is an end of an edge or not
-end_or_not : (e : Edge) (p : Point) → HasEnd e p ⊎ (¬ HasEnd e p)
-end_or_not e p = elim (equal_or_not e.from p) [
-  | inl h ↦ inl (inl h)
-  | inr not_from ↦ elim (equal_or_not e.to p) [
-    | inl h ↦ inl (inr h)
-    | inr not_to ↦ inr (λ h. elim h [ inl k ↦ not_from k | inr k ↦ not_to k ])
-  ]
-]
 
 -- a point on the line through a from which c is left, and on the segment from a to c, is a
 only_at_first : (s t : Triple) (a c : Point) (x : Triple) → IsPoint x → IsStraight s t (whole a) → IsLeft s t (whole c)
@@ -84,7 +67,7 @@ module _ (es : List Edge) (apart : AreApart es) (u v w : Point) (left : IsLeft (
 
   -- the third side meets each edge only at common ends
   pub base_is_diagonal : (e : Edge) → HasEdge es e → MeetAtEnds e (record { from = u; to = w })
-  base_is_diagonal e has x at_x on_edge on_base = elim (end_or_not e v) [
+  base_is_diagonal e has x at_x on_edge on_base = elim (either_or_not (point_or_other e.from v) (point_or_other e.to v)) [
     | inl end ↦ base_at_sides e has x at_x on_edge on_base end
     | inr off ↦
         meets_at_base es apart u v w left first second at_v empty no_base e has off x at_x on_edge

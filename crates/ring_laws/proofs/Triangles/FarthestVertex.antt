@@ -1,7 +1,7 @@
 -- The way from a corner of a triangle to the end in it that is farthest from the opposite side meets the edges only at its ends.
 use Rattle.std.proofs.Common.{◌≡◌, ◌⊎◌, inl, inr, refl, sym, subst, List, ℤ, pos, ◌+ℤ◌, ◌-ℤ◌, ◌*ℤ◌, neg_ℤ, ◌<ℤ◌, ◌≤ℤ◌, arith}
 use Rattle.std.proofs.lemmas.Int.{ints}
-use Rattle.integer_algebra.proofs.SignSteps.{mean_not_negative, mean_not_positive, not_both, not_both_positive, weak, zero_not_negative}
+use Rattle.integer_algebra.proofs.SignSteps.{mean_not_negative, mean_not_positive, not_both, not_both_positive, weak, zero_not_negative, not_below}
 use Rattle.integer_algebra.proofs.Signs.{factor_positive, is_negative, is_positive, is_zero, lt_or_le, mul_positive, sign}
 use Rattle.integer_algebra.proofs.Weights.{offset_along, offset_from_last}
 use Rattle.plane.proofs.Points.{whole_is_point}
@@ -47,10 +47,6 @@ one_above k l m X W u s n e f hk hl hm h = elim (lt_or_le n u) [
 -- a number above one that is not negative is positive
 positive_above : {g h : ℤ} → pos 0 ≤ℤ g → g <ℤ h → pos 0 <ℤ h
 positive_above p q = omega (arith, ints)
-
--- no number is above another and not
-not_above : {g h : ℤ} → g <ℤ h → h ≤ℤ g → ⊥
-not_above p q = omega (arith, ints)
 
 -- ---- the farthest end
 
@@ -148,7 +144,7 @@ module _ (es : List Edge) (apart : AreApart es) (u v w : Point) (left : IsLeft (
               | inl same ↦ not_positive (height_of_first u v w) (at u same)
               | inr (inl same) ↦ not_beyond (subst (λ (q : Point). HasEnd e q) same end) some
               | inr (inr (inl same)) ↦ not_positive (height_of_last u v w) (at w same)
-              | inr (inr (inr low)) ↦ not_above above low
+              | inr (inr (inr low)) ↦ not_below low above
             ]
             | inr outside ↦ elim (way_out es apart u v w first second e has left x at_x on_edge (way_left_of_first x at_x c some)
                 (way_left_of_second x at_x c some) (way_not_low x at_x c) a end outside (weak high)) [

@@ -1,5 +1,5 @@
 -- Edges that are apart, two of which are the sides of a triangle at one vertex: how another edge can meet these sides.
-use Rattle.std.proofs.Common.{◌≡◌, ◌⊎◌, inl, inr, sym, subst, ap, List, ℤ, pos, ◌*ℤ◌, ◌<ℤ◌, ◌≤ℤ◌, arith}
+use Rattle.std.proofs.Common.{◌≡◌, ◌⊎◌, inl, inr, sym, subst, ap, List, ℤ, pos, ◌*ℤ◌, ◌<ℤ◌, ◌≤ℤ◌, arith, refl}
 use Rattle.std.proofs.lemmas.Int.{ints}
 use Rattle.integer_algebra.proofs.Laws.{zero-mul}
 use Rattle.plane.proofs.Points.{same_whole, whole_is_point}
@@ -44,13 +44,14 @@ end_of_other es apart f e has_f has_e z end on = elim (apart f e has_f has_e) [
 module _ (es : List Edge) (apart : AreApart es) (u v w : Point)
     (first : HasEdge es (record { from = u; to = v })) (second : HasEdge es (record { from = v; to = w })) where
   module _ (e : Edge) (has : HasEdge es e) where
-    -- an edge that meets the first side has the end v, or meets it at the end u
-    pub meets_first : (y : Triple) → IsPoint y → IsOn e y → On y (whole u) (whole v) → HasEnd e v ⊎ (HasEnd e u × IsSame y (whole u))
-    meets_first y at_y on_edge on_side = elim (apart e (record { from = u; to = v }) has first) [
-      | inl same ↦ inl (inr (ap (λ (f : Edge). f.to) same))
+    -- an edge that meets another, from a to v or from v to a, has the end v, or meets it at the end a
+    meets_side : (f : Edge) → HasEdge es f → (a : Point) → HasEnd f v → ((z : Point) → HasEnd f z → (a ≡ z) ⊎ (v ≡ z))
+        → (y : Triple) → IsPoint y → IsOn e y → IsOn f y → HasEnd e v ⊎ (HasEnd e a × IsSame y (whole a))
+    meets_side f has_f a end ends y at_y on_edge on_side = elim (apart e f has has_f) [
+      | inl same ↦ inl (subst (λ (g : Edge). HasEnd g v) (sym same) end)
       | inr meet ↦
           let c = meet y at_y on_edge on_side in
-          elim c.of_second [
+          elim (ends c.end c.of_second) [
             | inl h ↦ inr (
               subst (λ (z : Point). HasEnd e z) (sym h) c.of_first,
               subst (λ (z : Point). IsSame y (whole z)) (sym h) c.same,
@@ -59,20 +60,13 @@ module _ (es : List Edge) (apart : AreApart es) (u v w : Point)
           ]
     ]
 
-    -- one that meets the second has the end v, or meets it at the end w
+    -- so it is with the first side,
+    pub meets_first : (y : Triple) → IsPoint y → IsOn e y → On y (whole u) (whole v) → HasEnd e v ⊎ (HasEnd e u × IsSame y (whole u))
+    meets_first = meets_side (record { from = u; to = v }) first u (inr refl) (λ z h. h)
+
+    -- and with the second
     pub meets_second : (y : Triple) → IsPoint y → IsOn e y → On y (whole v) (whole w) → HasEnd e v ⊎ (HasEnd e w × IsSame y (whole w))
-    meets_second y at_y on_edge on_side = elim (apart e (record { from = v; to = w }) has second) [
-      | inl same ↦ inl (inl (ap (λ (f : Edge). f.from) same))
-      | inr meet ↦
-          let c = meet y at_y on_edge on_side in
-          elim c.of_second [
-            | inl h ↦ inl (subst (λ (z : Point). HasEnd e z) (sym h) c.of_first)
-            | inr h ↦ inr (
-              subst (λ (z : Point). HasEnd e z) (sym h) c.of_first,
-              subst (λ (z : Point). IsSame y (whole z)) (sym h) c.same,
-            )
-          ]
-    ]
+    meets_second = meets_side (record { from = v; to = w }) second w (inl refl) (λ z h. elim h [ inl k ↦ inr k | inr k ↦ inl k ])
 
     -- how an edge can leave the triangle by a side at v, toward its end a
     pub data WayOut (a : Point) : Type 0 where

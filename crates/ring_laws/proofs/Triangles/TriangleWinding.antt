@@ -114,29 +114,29 @@ module _ (u v w : Point) (p : Triple) (at_p : IsPoint p) where
 
 -- ---- outside
 
+-- where no corner is right of a line, no end of a side is
+all_corners : (s t : Triple) (u v w : Point) → pos 0 ≤ℤ determinant s t (whole u) → pos 0 ≤ℤ determinant s t (whole v)
+    → pos 0 ≤ℤ determinant s t (whole w) → AllEnds (λ a. pos 0 ≤ℤ determinant s t (whole a)) (triangle u v w)
+all_corners s t u v w a b c = (a, b, (b, c, (c, a, tt)))
+
 module _ (u v w : Point) (left : IsLeft (whole u) (whole v) (whole w)) where
   -- no corner is right of the first side,
   corners_by_first : AllEnds (λ a. pos 0 ≤ℤ determinant (whole u) (whole v) (whole a)) (triangle u v w)
   corners_by_first =
-      let first = zero_not_negative (determinant_same_ends (whole u) (whole v)) in
-      let second = zero_not_negative (determinant_same_last (whole u) (whole v)) in
-      (first, second, (second, weak left, (weak left, first, tt)))
+      all_corners (whole u) (whole v) u v w (zero_not_negative (determinant_same_ends (whole u) (whole v)))
+      (zero_not_negative (determinant_same_last (whole u) (whole v))) (weak left)
 
   -- of the second,
   corners_by_second : AllEnds (λ a. pos 0 ≤ℤ determinant (whole v) (whole w) (whole a)) (triangle u v w)
   corners_by_second =
-      let first = zero_not_negative (determinant_same_ends (whole v) (whole w)) in
-      let second = zero_not_negative (determinant_same_last (whole v) (whole w)) in
-      let third = weak (left_at_last u v w left) in
-      (third, first, (first, second, (second, third, tt)))
+      all_corners (whole v) (whole w) u v w (weak (left_at_last u v w left)) (zero_not_negative (determinant_same_ends (whole v) (whole w)))
+      (zero_not_negative (determinant_same_last (whole v) (whole w)))
 
   -- or of the third
   corners_by_third : AllEnds (λ a. pos 0 ≤ℤ determinant (whole w) (whole u) (whole a)) (triangle u v w)
   corners_by_third =
-      let first = zero_not_negative (determinant_same_ends (whole w) (whole u)) in
-      let second = zero_not_negative (determinant_same_last (whole w) (whole u)) in
-      let third = weak (left_at_first u v w left) in
-      (second, third, (third, first, (first, second, tt)))
+      all_corners (whole w) (whole u) u v w (zero_not_negative (determinant_same_last (whole w) (whole u))) (weak (left_at_first u v w left))
+      (zero_not_negative (determinant_same_ends (whole w) (whole u)))
 
   module _ (p : Triple) (at_p : IsPoint p) where
     -- a point on the sides is in the closed triangle

@@ -2,8 +2,8 @@
 use Rattle.std.proofs.Common.{◌≡◌, ◌⊎◌, inl, inr, ap, ℤ, pos, ◌+ℤ◌, ◌-ℤ◌, ◌*ℤ◌, neg_ℤ, ◌<ℤ◌, ◌≤ℤ◌, arith}
 use Rattle.std.proofs.lemmas.Int.{ints}
 use Rattle.integer_algebra.proofs.Laws.{neg-mul, zero-mul}
-use Rattle.integer_algebra.proofs.SignSteps.{mean_not_negative, weak, zero_not_negative}
-use Rattle.integer_algebra.proofs.Signs.{is_negative, is_positive, is_zero, lt_or_le, sign}
+use Rattle.integer_algebra.proofs.SignSteps.{mean_not_negative, weak, zero_not_negative, not_below, positive_of_not_zero}
+use Rattle.integer_algebra.proofs.Signs.{lt_or_le}
 use Rattle.plane.proofs.Points.{whole_is_point}
 use Rattle.plane.proofs.Turns.{determinant_same_ends, determinant_same_last, determinant_shift, determinant_shift_back, determinant_swap_first}
 use Rattle.plane.proofs.Turns.{four_triples_in_W, four_triples_in_X, four_triples_in_Y, IsCombination, combination_of, determinant_along}
@@ -18,18 +18,6 @@ use Rattle.plane.specs.Turn.{IsLeft, IsStraight, determinant}
 -- what is not below 0
 pub not_negative : {z : ℤ} → ¬ (z <ℤ pos 0) → pos 0 ≤ℤ z
 not_negative h = grind (arith, ints)
-
--- and back
-not_below : {z : ℤ} → pos 0 ≤ℤ z → ¬ (z <ℤ pos 0)
-not_below h k = omega (arith, ints)
-
--- what is neither below 0 nor 0
-positive_of : (z : ℤ) → pos 0 ≤ℤ z → ¬ (z ≡ pos 0) → pos 0 <ℤ z
-positive_of z h n = elim (sign z) [
-  | is_negative k ↦ absurd (not_below h k)
-  | is_zero e ↦ absurd (n e)
-  | is_positive k ↦ k
-]
 
 -- the opposite, written otherwise, of what is not negative
 opposite_of : (q m : ℤ) → m ≡ neg_ℤ q → pos 0 ≤ℤ m → pos 0 ≤ℤ neg_ℤ q
@@ -141,11 +129,11 @@ module _ (u v w : Point) where
 
       -- off a side it is strictly left of it: of the first,
       pub left_of_first : ¬ (On x (whole u) (whole v)) → IsLeft (whole u) (whole v) x
-      left_of_first off = positive_of _ (not_negative inside.not_right_of_first) (λ e. off (on_first_side e))
+      left_of_first off = positive_of_not_zero (not_negative inside.not_right_of_first) (λ e. off (on_first_side e))
 
       -- and of the second
       pub left_of_second : ¬ (On x (whole v) (whole w)) → IsLeft (whole v) (whole w) x
-      left_of_second off = positive_of _ (not_negative inside.not_right_of_second) (λ e. off (on_second_side e))
+      left_of_second off = positive_of_not_zero (not_negative inside.not_right_of_second) (λ e. off (on_second_side e))
 
   -- a segment between two points of the triangle is in it
   pub between_in_triangle : (x a b : Triple) → IsPoint x → IsPoint a → IsPoint b

@@ -1,7 +1,7 @@
 -- Points from which no edge is crossed: above all ends of the edges, or below all.
-use Rattle.std.proofs.Common.{◌≡◌, refl, ◌∙◌, ◌+◌, ℤ, pos, ◌+ℤ◌, ◌*ℤ◌, ◌<ℤ◌, ◌≤ℤ◌, List, [], ◌∷◌, arith}
-use Rattle.std.proofs.lemmas.Int.{ints}
+use Rattle.std.proofs.Common.{◌≡◌, refl, ◌∙◌, ◌+◌, pos, ◌+ℤ◌, ◌*ℤ◌, ◌<ℤ◌, ◌≤ℤ◌, List, [], ◌∷◌}
 use Rattle.std.specs.Prelude.{cond}
+use Rattle.integer_algebra.proofs.SignSteps.{not_below}
 use Rattle.plane.specs.Point.{Point, Triple}
 use Rattle.rings.proofs.Crossings.{crossings-cons, CrossedDown, CrossedUp, CrossingCase, crossing_cases, downward, uncrossed, upward}
 use Rattle.rings.proofs.Vertices.{AllEnds}
@@ -27,15 +27,11 @@ none_crossed P p not (e ∷ es) (from, to, rest) = go (crossing_cases e p) (none
       no_winding = λ i. v i +ℤ k.no_winding i;
     }
 
--- no number is above another and not
-not_above : {y z : ℤ} → z ≤ℤ y → y <ℤ z → ⊥
-not_above h k = omega (arith, ints)
-
 module _ (p : Triple) where
   -- from a point with no end above it no edge is crossed,
   pub none_crossed_above : (es : List Edge) → AllEnds (λ v. (v.y *ℤ p.W) ≤ℤ p.Y) es → NoneCrossed es p
-  none_crossed_above = none_crossed _ p (λ e from to. (λ h. not_above to h.ends_high, λ h. not_above from h.begins_high))
+  none_crossed_above = none_crossed _ p (λ e from to. (λ h. not_below to h.ends_high, λ h. not_below from h.begins_high))
 
   -- nor from one with all ends above it
   pub none_crossed_below : (es : List Edge) → AllEnds (λ v. p.Y <ℤ (v.y *ℤ p.W)) es → NoneCrossed es p
-  none_crossed_below = none_crossed _ p (λ e from to. (λ h. not_above h.begins_low from, λ h. not_above h.ends_low to))
+  none_crossed_below = none_crossed _ p (λ e from to. (λ h. not_below h.begins_low from, λ h. not_below h.ends_low to))

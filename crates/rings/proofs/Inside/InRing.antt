@@ -1,7 +1,9 @@
 -- What the laws of crossings say of the points in a ring.
 use Rattle.std.proofs.Common.{◌≡◌, ◌⊎◌, inl, inr, sym, ap, ◌∙◌, ℕ, ◌+◌, ◌%◌, ℤ, pos, ◌+ℤ◌, ◌*ℤ◌, arith, List, [], ◌∷◌}
+use Rattle.std.proofs.lemmas.Bool.{cases_eq}
+use Rattle.integer_algebra.proofs.Decisions.{either_or_not}
 use Rattle.plane.proofs.Points.{whole_is_point}
-use Rattle.plane.proofs.Segments.{on_or_separated, separated_not_on}
+use Rattle.plane.proofs.Segments.{on_or_not}
 use Rattle.plane.specs.Point.{IsPoint, IsSame, Point, Triple, whole}
 use Rattle.rings.proofs.Crossings.{crossings_even, crossings_odd}
 use Rattle.rings.proofs.Inside.SamePoint.{crossings_same}
@@ -15,32 +17,11 @@ use Rattle.rings.specs.Inside.{IsIn, crossings, winding}
 pub on_some_or_not : (es : List Edge) (p : Triple) → IsPoint p → IsOnSome es p ⊎ (¬ IsOnSome es p)
 on_some_or_not [] p at_p = inr (λ h. h)
 on_some_or_not (e ∷ es) p at_p =
-    let at_a = whole_is_point e.from in
-    let at_b = whole_is_point e.to in
-    elim (on_or_separated p (whole e.from) (whole e.to) at_p at_a at_b) [
-      | inl on ↦ inl (inl on)
-      | inr s ↦ elim (on_some_or_not es p at_p) [
-        | inl on ↦ inl (inr on)
-        | inr off ↦ inr (λ h. elim h [
-          | inl on ↦ separated_not_on p (whole e.from) (whole e.to) at_p at_a at_b s on
-          | inr on ↦ off on
-        ])
-      ]
-    ]
-
--- a number is odd or not
-odd_or_not : (n : ℕ) → (n % 2 ≡ 1) ⊎ (¬ (n % 2 ≡ 1))
-odd_or_not n = grind arith
+    either_or_not (on_or_not p (whole e.from) (whole e.to) at_p (whole_is_point e.from) (whole_is_point e.to)) (on_some_or_not es p at_p)
 
 -- it is in a ring, or not
 pub in_or_not : (ring : List Point) (p : Triple) → IsPoint p → IsIn ring p ⊎ (¬ IsIn ring p)
-in_or_not ring p at_p = elim (on_some_or_not (edges_of ring) p at_p) [
-  | inl on ↦ inl (inl on)
-  | inr off ↦ elim (odd_or_not (crossings (edges_of ring) p)) [
-    | inl odd ↦ inl (inr odd)
-    | inr even ↦ inr (λ h. elim h [ inl on ↦ off on | inr odd ↦ even odd ])
-  ]
-]
+in_or_not ring p at_p = either_or_not (on_some_or_not (edges_of ring) p at_p) (cases_eq (crossings (edges_of ring) p % 2) 1)
 
 -- two triples of one point are in it together
 pub in_same : (ring : List Point) (p q : Triple) → IsPoint p → IsPoint q → IsSame p q → IsIn ring p → IsIn ring q

@@ -1,5 +1,5 @@
 -- The inside of a ring is that of the ring read the other way round.
-use Rattle.std.proofs.Common.{◌≡◌, ◌%◌, ◌↔◌, inl, inr, List, [], ◌∷◌, reverse, refl, ap, ◌∙◌, subst, arith}
+use Rattle.std.proofs.Common.{◌≡◌, ◌%◌, ◌↔◌, inl, inr, List, [], ◌∷◌, reverse, refl, ap, ◌∙◌, subst, arith, Bool, true, false, if◌then◌else◌}
 use Rattle.plane.specs.Point.{Point, Triple}
 use Rattle.rings.proofs.Crossings.{crossings-append, crossings-backward, crossings-cons}
 use Rattle.rings.proofs.Turned.{edges_of-turned_round, turned_round-turned_round}
@@ -45,3 +45,13 @@ module _ (p : Triple) where
   pub in_turned_iff : (ring : List Point) → IsIn (turned_round ring) p ↔ IsIn ring p
   in_turned_iff ring =
       (λ h. subst (λ (vs : List Point). IsIn vs p) (turned_round-turned_round ring) (in_turned (turned_round ring) h), in_turned ring)
+
+  -- of the ring and the ring the other way round, either one has the same inside,
+  pub in_either : (turned : Bool) (ring : List Point) → IsIn (if turned then turned_round ring else ring) p ↔ IsIn ring p
+  in_either true ring = in_turned_iff ring
+  in_either false ring = (λ h. h, λ h. h)
+
+  -- and the same points on its edges
+  pub on_some_either : (turned : Bool) (ring : List Point) → IsOnSome (edges_of (if turned then turned_round ring else ring)) p ↔ IsOnSome (edges_of ring) p
+  on_some_either true ring = on_some_turned_iff ring
+  on_some_either false ring = (λ h. h, λ h. h)

@@ -1,8 +1,7 @@
 -- A simple ring is one with different vertices whose edges share no more than their ends.
-use Rattle.std.proofs.Common.{List, length, ◌≡◌, ◌⊎◌, inl, inr, refl, sym, subst, ap, ◌∙◌, ℕ, ◌+◌, ◌<◌, ℤ, ◌-ℤ◌, ◌*ℤ◌, arith}
+use Rattle.std.proofs.Common.{List, length, ◌≡◌, ◌⊎◌, inl, inr, refl, sym, subst, ap, ◌∙◌, ℕ, ◌+◌, ◌<◌, ◌*ℤ◌, arith}
 use Rattle.std.proofs.lemmas.Bool.{cases_eq, cases_order}
-use Rattle.std.proofs.lemmas.Int.{ints}
-use Rattle.integer_algebra.proofs.Signs.{is_negative, is_positive, is_zero, sign}
+use Rattle.integer_algebra.proofs.Decisions.{both_or_not, equal_or_not}
 use Rattle.plane.proofs.Points.{whole_is_point}
 use Rattle.plane.proofs.Segments.{on_first_end}
 use Rattle.plane.specs.Point.{IsSame, Point, Triple, whole}
@@ -14,20 +13,6 @@ use Rattle.rings.specs.Simple.{IsSimple}
 
 -- ---- decisions
 
--- two integers are equal or not
-equal_or_not : (a b : ℤ) → (a ≡ b) ⊎ (¬ (a ≡ b))
-equal_or_not a b = elim (sign (a -ℤ b)) [
-  | is_negative h ↦ inr (λ e. omega (arith, ints))
-  | is_zero h ↦ inl (omega (arith, ints))
-  | is_positive h ↦ inr (λ e. omega (arith, ints))
-]
-
--- two decisions make one of both facts together
-both_or_not : {A B : Type 0} → A ⊎ (¬ A) → B ⊎ (¬ B) → (A × B) ⊎ (¬ (A × B))
-both_or_not (inl a) (inl b) = inl (a, b)
-both_or_not (inl a) (inr n) = inr (λ h. n h.1)
-both_or_not (inr n) k = inr (λ h. n h.0)
-
 -- two triples stand for the same point or not
 pub same_or_not : (p q : Triple) → IsSame p q ⊎ (¬ IsSame p q)
 same_or_not p q =
@@ -35,8 +20,6 @@ same_or_not p q =
       | inl h ↦ inl (record { same_x = h.0; same_y = h.1 })
       | inr n ↦ inr (λ s. n (s.same_x, s.same_y))
     ]
-
--- ---- the order of two edges
 
 -- ---- from simple to apart
 

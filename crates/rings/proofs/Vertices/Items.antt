@@ -1,6 +1,7 @@
 -- The items of a list, of appended lists and of a list in the other order, and their numbers.
-use Rattle.std.proofs.Common.{◌≡◌, ◌⊎◌, inl, inr, refl, subst, ℕ, zero, suc, ◌<◌, List, [], ◌∷◌, ◌++◌, length, get_or, reverse, arith}
+use Rattle.std.proofs.Common.{◌≡◌, ◌⊎◌, inl, inr, refl, subst, ℕ, zero, suc, ◌<◌, List, [], ◌∷◌, ◌++◌, length, get_or, reverse, arith, sym, ap}
 use Rattle.std.proofs.lemmas.List.{reverse-append, reverse-reverse}
+use Rattle.std.proofs.lemmas.Bool.{cases_order}
 use Rattle.rings.specs.Edge.{Has}
 
 -- read backward, a list has its first item last
@@ -49,3 +50,21 @@ pub number_of : {A : Type 0} (xs : List A) (x : A) → Has xs x → (i : ℕ) ×
 number_of (z ∷ xs) x (inl h) = (0, omega arith, λ d. h)
 number_of (z ∷ xs) x (inr h) = let (i, within, is) = number_of xs x h in (suc i, omega arith, is)
 number_of [] x h = absurd h
+
+-- item i of a list, and what is before and after it
+pub parts_at : {X : Type 0} (list : List X) (i : ℕ) → i < length list
+    → (xs : List X) × (v : X) × (rest : List X) × (list ≡ xs ++ v ∷ rest) × (length xs ≡ i)
+parts_at [] i h = absurd (omega arith)
+parts_at (p ∷ ps) zero h = ([], p, ps, refl, refl)
+parts_at (p ∷ ps) (suc i) h =
+    let (xs, v, rest, is, count) = parts_at ps i (omega arith) in
+    (p ∷ xs, v, rest, ap (λ list. p ∷ list) is, ap suc count)
+
+-- where each two of the first n items are different, an item has one number
+pub one_to_one : {X : Type 0} (item : ℕ → X) (n : ℕ) → ((i j : ℕ) → i < j → j < n → ¬ (item i ≡ item j))
+    → (i j : ℕ) → i < n → j < n → item i ≡ item j → i ≡ j
+one_to_one item n differ i j h k same = elim (cases_order i j) [
+  | inl e ↦ e
+  | inr (inl less) ↦ absurd (differ i j less k same)
+  | inr (inr less) ↦ absurd (differ j i less h (sym same))
+]

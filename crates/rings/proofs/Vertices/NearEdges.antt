@@ -1,27 +1,39 @@
 -- Near a rational point: the way from it to another point misses all edges that it is not on.
-use Rattle.std.proofs.Common.{le_refl, inl, inr, ◌+◌, List, [], ◌∷◌, arith}
+use Rattle.std.proofs.Common.{le_refl, inl, inr, ◌+◌, List, [], ◌∷◌, arith, ℕ}
 use Rattle.plane.proofs.Nearness.{apart_between, Eventually, apart_eventually, toward, toward_differs, toward_is_point, toward_on}
 use Rattle.plane.proofs.Points.{whole_is_point}
 use Rattle.plane.specs.Point.{IsPoint, IsSame, Triple, whole}
-use Rattle.plane.specs.Segment.{On}
+use Rattle.plane.specs.Segment.{On, Meet}
 use Rattle.rings.specs.Across.{Misses}
-use Rattle.rings.specs.Edge.{Edge, IsOnSome}
+use Rattle.rings.specs.Edge.{Edge, IsOnSome, IsOn}
 
-module _ (x c : Triple) (at_x : IsPoint x) (at_c : IsPoint c) where
-  -- near a point that is on none of some edges, the way from it to another misses them
-  pub misses_eventually : (es : List Edge) → ¬ (IsOnSome es x) → Eventually (λ n. Misses x (toward x c n) es)
-  misses_eventually [] off = record { start = 0; from_start = λ n above z at_z on h. h }
-  misses_eventually (e ∷ es) off =
-      let apart = apart_eventually x c at_x at_c (whole e.from) (whole e.to) (whole_is_point e.from) (whole_is_point e.to) in
-      let first = apart (λ on. off (inl on)) in
-      let rest = misses_eventually es (λ h. off (inr h)) in
-      record {
-        start = first.start + rest.start;
-        from_start = λ n above z at_z on h. elim h [
-          | inl on_e ↦ first.from_start n (omega arith) (record { point = z; rational = at_z; on_first = on; on_second = on_e })
-          | inr on_es ↦ rest.from_start n (omega arith) z at_z on on_es
-        ];
-      }
+-- segments that in the end miss each edge that x is not on in the end miss all of some edges where x is on none of them
+all_missed : (x : Triple) (p q : ℕ → Triple)
+    → ((e : Edge) → ¬ (IsOn e x) → Eventually (λ n. ¬ Meet (p n) (q n) (whole e.from) (whole e.to)))
+    → (es : List Edge) → ¬ (IsOnSome es x) → Eventually (λ n. Misses (p n) (q n) es)
+all_missed x p q each [] off = record { start = 0; from_start = λ n above z at_z on h. h }
+all_missed x p q each (e ∷ es) off =
+    let first = each e (λ on. off (inl on)) in
+    let rest = all_missed x p q each es (λ h. off (inr h)) in
+    record {
+      start = first.start + rest.start;
+      from_start = λ n above z at_z on h. elim h [
+        | inl on_e ↦ first.from_start n (omega arith) (record { point = z; rational = at_z; on_first = on; on_second = on_e })
+        | inr on_es ↦ rest.from_start n (omega arith) z at_z on on_es
+      ];
+    }
+
+-- near a point that is on none of some edges, the way from it to another misses them,
+pub misses_eventually : (x c : Triple) → IsPoint x → IsPoint c → (es : List Edge) → ¬ (IsOnSome es x) → Eventually (λ n. Misses x (toward x c n) es)
+misses_eventually x c at_x at_c =
+    all_missed x (λ n. x) (toward x c) (λ e. apart_eventually x c at_x at_c (whole e.from) (whole e.to) (whole_is_point e.from) (whole_is_point e.to))
+
+-- and so does the segment between two ways from it
+pub misses_between : (m p q : Triple) → IsPoint m → IsPoint p → IsPoint q → (es : List Edge) → ¬ (IsOnSome es m)
+    → Eventually (λ n. Misses (toward m p n) (toward m q n) es)
+misses_between m p q at_m at_p at_q =
+    all_missed m (toward m p) (toward m q)
+    (λ e. apart_between m p q at_m at_p at_q (whole e.from) (whole e.to) (whole_is_point e.from) (whole_is_point e.to))
 
 -- a rational point other than x on the segment from x to c, with the way to it
 pub record Near (x c : Triple) (es : List Edge) : Type 0 where
@@ -42,18 +54,3 @@ shrink x c es at_x at_c differ off =
       differs = toward_differs x c near.start differ;
       misses = near.from_start near.start (le_refl near.start);
     }
-
-module _ (m p q : Triple) (at_m : IsPoint m) (at_p : IsPoint p) (at_q : IsPoint q) where
-  -- near a point that is on none of some edges, the segment between two ways from it misses them
-  pub misses_between : (es : List Edge) → ¬ (IsOnSome es m) → Eventually (λ n. Misses (toward m p n) (toward m q n) es)
-  misses_between [] off = record { start = 0; from_start = λ n above z at_z on h. h }
-  misses_between (e ∷ es) off =
-      let first = apart_between m p q at_m at_p at_q (whole e.from) (whole e.to) (whole_is_point e.from) (whole_is_point e.to) (λ on. off (inl on)) in
-      let rest = misses_between es (λ h. off (inr h)) in
-      record {
-        start = first.start + rest.start;
-        from_start = λ n above z at_z on h. elim h [
-          | inl on_e ↦ first.from_start n (omega arith) (record { point = z; rational = at_z; on_first = on; on_second = on_e })
-          | inr on_es ↦ rest.from_start n (omega arith) z at_z on on_es
-        ];
-      }

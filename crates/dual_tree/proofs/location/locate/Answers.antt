@@ -4,7 +4,8 @@ use Rattle.std.proofs.lemmas.Int.{ints}
 use Rattle.plane.specs.Point.{IsPoint, whole}
 use Rattle.meshes.specs.Fits.{IsInTri}
 use Rattle.meshes.specs.Side.{tri_at}
-use Rattle.dual_tree.proofs.LocationFits.{cornered, covered, two_fewer}
+use Rattle.meshes.proofs.Sides.{two_fewer}
+use Rattle.dual_tree.proofs.LocationFits.{cornered, covered}
 use Rattle.dual_tree.proofs.location.locate.Goals as goal
 
 pub holds-requires : goal.holds-requires

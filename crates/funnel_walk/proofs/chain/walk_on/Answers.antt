@@ -1,6 +1,7 @@
 use Rattle.std.proofs.Common.{◌≡◌, inl, inr, refl, sym, ap, subst, ◌∙◌, ◌+◌, ◌-◌, ◌<◌, ◌++◌, [], ◌∷◌, length, drop, get_or, arith}
 use Rattle.std.proofs.lemmas.List.{append_assoc}
 use Rattle.plane.specs.Point.{whole}
+use Rattle.plane.proofs.Order.{point_or_other}
 use Rattle.meshes.specs.Fits.{IsInTri}
 use Rattle.meshes.specs.Side.{tri_at}
 use Rattle.meshes.specs.Sleeve.{diagonal_at}
@@ -10,7 +11,6 @@ use Rattle.funnel_walk.proofs.Appended.{way_appended}
 use Rattle.funnel_walk.proofs.Closed.{names_on_way}
 use Rattle.funnel_walk.proofs.GoalReached.{taut_on, taut_there}
 use Rattle.funnel_walk.proofs.NamedLists.{count_left, front_named, length_named, name_in_front}
-use Rattle.funnel_walk.proofs.PointsDiffer.{same_or_not}
 use Rattle.funnel_walk.proofs.chain.walk_on.Goals as goal
 use Rattle.funnel_walk.specs.Names.{AreNamed, left_names, name_at, right_names}
 use Rattle.funnel_walk.specs.Walked.{IsWalked}
@@ -101,7 +101,7 @@ returns-clause-taut g c =
     ap (λ ns. ns ++ right_names left narrowed.result (h - narrowed.result)) narrowed.ensures.behind
     ∙ ap (λ ns. (out ++ left_names names a (a - h)) ++ right_names ns narrowed.result (h - narrowed.result)) narrowed.ensures.kept
     ∙ way_appended first out names given a h h narrowed.result n inv.before refl narrowed.ensures.apex count in
-    elim (same_or_not (at (name_at left h)) goal_point) [
+    elim (point_or_other (at (name_at left h)) goal_point) [
       | inl same ↦
           taut_there corners tris c.requires.fits sleeve c.requires.of_mesh start goal_point c.requires.differ i below in_goal
           (drop given out) names a inv.walked h narrowed.ensures.reached (ap at (sym last_name) ∙ same) first c.close.new.out.items

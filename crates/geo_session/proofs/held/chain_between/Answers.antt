@@ -10,15 +10,13 @@ with_room-requires g c =
 
 pub put_points-requires-clause-named : goal.put_points-requires-clause-named
 put_points-requires-clause-named g c =
-    rw c.deref.ensures.value
-    (names_named c.args.ring.now.corners _ c.args.s.now _ c.args.t.now _ c.walk.new.out.items c.in_ok-names.names.items
-    c.new-board.ensures.corners c.new-board.ensures.start c.new-board.ensures.goal c.in_ok-names.ensures.items c.walk.ensures.path)
+    rw c.deref.ensures.value (names_named _ _ _ c.walk.new.out.items c.in_ok-names.names.items c.in_ok-names.ensures.items c.walk.ensures.path)
 
 pub returns-clause-path : goal.returns-clause-path
 returns-clause-path g c =
     rw (c.put_points.ensures.points, c.in_ok-points.ensures.items, c.deref.ensures.value)
-    (names_path c.args.ring.now.corners _ c.args.s.now _ c.args.t.now _ c.walk.new.out.items c.in_ok-names.names.items
-    c.new-board.ensures.corners c.new-board.ensures.start c.new-board.ensures.goal c.in_ok-names.ensures.items c.walk.ensures.path)
+    (names_path _ _ _ c.walk.new.out.items c.in_ok-names.names.items c.in_ok-names.ensures.items c.walk.ensures.path
+    c.args.ring.now.corners c.args.s.now c.args.t.now c.new-board.ensures.corners c.new-board.ensures.start c.new-board.ensures.goal)
 
 pub returns-clause-few : goal.returns-clause-few
 returns-clause-few g c =

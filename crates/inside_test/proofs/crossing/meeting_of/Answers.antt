@@ -24,7 +24,7 @@ pub returns-in-Left : goal.returns-in-Left
 returns-in-Left g c =
     let e : Edge = record { from = c.args.a.now; to = c.args.b.now } in
     let p = c.args.p.now in
-    let left = sym c.turn_hom.ensures.turn ∙ c.in-Left.is in
+    let left = sym c.turn_past.ensures ∙ c.in-Left.is in
     let passed = c.is_passed.ensures p.Y (e.from.y *ℤ p.W) (e.to.y *ℤ p.W) c.requires.from c.requires.to in
     let crossed = passed ∙ sym (crossed_from_left e c.args.p.now left) in
     record {
@@ -39,7 +39,7 @@ returns-in-Left g c =
 pub returns-in-Straight : goal.returns-in-Straight
 returns-in-Straight g c =
     let e : Edge = record { from = c.args.a.now; to = c.args.b.now } in
-    let straight = sym c.turn_hom.ensures.turn ∙ c.in-Straight.is in
+    let straight = sym c.turn_past.ensures ∙ c.in-Straight.is in
     let a = whole c.args.a.now in
     let b = whole c.args.b.now in
     let between = c.is_between.ensures.between in
@@ -56,7 +56,7 @@ pub returns-in-Right : goal.returns-in-Right
 returns-in-Right g c =
     let e : Edge = record { from = c.args.a.now; to = c.args.b.now } in
     let p = c.args.p.now in
-    let right = sym c.turn_hom.ensures.turn ∙ c.in-Right.is in
+    let right = sym c.turn_past.ensures ∙ c.in-Right.is in
     let passed = c.is_passed-in-Right.ensures p.Y (e.to.y *ℤ p.W) (e.from.y *ℤ p.W) c.requires.to c.requires.from in
     let crossed = passed ∙ sym (crossed_from_right e c.args.p.now right) in
     record {

@@ -7,7 +7,10 @@ use Rattle.inside_test.proofs.position.place_hom.Goals as goal
 use Rattle.inside_test.proofs.position.place_hom.Goals.{in-Crossed, in-Missed}
 
 pub loop-i-init : goal.loop-i-init
-loop-i-init g c = (odd_start c.args.ring.now.corners c.args.p.now, c.corner-a.ensures, rw (c.of-level.ensures.y, c.of-level.ensures.w) at c.compare-from.ensures)
+loop-i-init g c = (odd_start c.args.ring.now.corners c.args.p.now, c.corner-a.ensures, c.compare_height-from.ensures _ _ c.of-levels.ensures.height)
+
+pub meeting_of-requires-clause-to : goal.meeting_of-requires-clause-to
+meeting_of-requires-clause-to g c = c.compare_height-to.ensures _ _ c.of-levels.ensures.height
 
 pub returns-in-On : goal.returns-in-On
 returns-in-On g c =
@@ -28,7 +31,7 @@ loop-i-preserved g c =
     let p = c.args.p.now in
     let (odd, at_a, _) = c.loop-i.invariant in
     let next = c.next_corner-b.ensures in
-    let to = rw (c.of-level.ensures.y, c.of-level.ensures.w) at c.compare-to.ensures in
+    let to = c.compare_height-to.ensures _ _ c.of-levels.ensures.height in
     elim c.match-meeting_of.branch [
       | in-Crossed w ↦ (
         odd_crossed ring p c.loop-i.i c.loop-i.is_odd _ w.is_odd-is (omega arith) odd

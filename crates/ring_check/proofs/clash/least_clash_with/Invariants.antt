@@ -1,6 +1,9 @@
-use Rattle.std.proofs.Common.{ℕ, ◌<◌}
+use Rattle.std.proofs.Common.{ℕ, ◌<◌, ◌-◌, length}
 use Rattle.rings.specs.Simple.{Clash}
 use Rattle.ring_check.proofs.clash.least_clash_with.Given as goal
 
 abbrev pub invariant-loop-j : goal.invariant-loop-j
-invariant-loop-j g l = (k : ℕ) → l.i < k → k < l.j → Clash l.points l.i k → ⊥
+invariant-loop-j g l = (l.i < l.j) × ((m : ℕ) → l.i < m → m < l.j → Clash l.points l.i m → ⊥)
+
+abbrev pub decreases-loop-j : goal.decreases-loop-j
+decreases-loop-j g l = length l.points - l.j

@@ -1,17 +1,20 @@
-use Rattle.std.proofs.Common.{◌≡◌, ◌∙◌, ap, length, sym}
-use Rattle.geo_session.proofs.GivenSize.{size_held}
+use Rattle.std.proofs.Common.{Result, Ok, Err}
+use Rattle.std.specs.Prelude.{OnErr}
+use Rattle.geo_session.proofs.GivenSize.{size_in}
 use Rattle.geo_session.proofs.session.Session.chain.Goals as goal
-use Rattle.geo_session.specs.Path.{size_of}
-use Rattle.geo_session.specs.Session.{state_of}
 
-pub returns-in-Some-clause-steps : goal.returns-in-Some-clause-steps
-returns-in-Some-clause-steps g c =
-    let size : size_of c.args.self.now ≡ length c.in-Some.held.corners =
-    ap size_of (sym c.self.view_is) ∙ ap (λ held. size_of (state_of held)) c.in-Some.is ∙ size_held c.in-Some.held in
-    rw size c.chain.ensures.steps
+after_want : {T E P : Type 0} (r : Result T E) → P → OnErr r P
+after_want (Ok x) h = tt
+after_want (Err e) h = h
 
-pub returns-in-Some-clause-memory : goal.returns-in-Some-clause-memory
-returns-in-Some-clause-memory g c =
-    let size : size_of c.args.self.now ≡ length c.in-Some.held.corners =
-    ap size_of (sym c.self.view_is) ∙ ap (λ held. size_of (state_of held)) c.in-Some.is ∙ size_held c.in-Some.held in
-    rw size c.chain.ensures.memory
+pub returns-in-Ok-clause-steps : goal.returns-in-Ok-clause-steps
+returns-in-Ok-clause-steps g c = rw (size_in c.args.self.now _ c.in-Some.held c.self.view_is c.in-Some.is) c.in_ok-points-in-Some.ensures.steps
+
+pub returns-in-Err-clause-steps : goal.returns-in-Err-clause-steps
+returns-in-Err-clause-steps g c = rw (size_in c.args.self.now _ c.in-Some.held c.self.view_is c.in-Some.is) c.in_ok-points-in-Some.ensures.steps
+
+pub returns-in_err-points-in-Some-clause-steps : goal.returns-in_err-points-in-Some-clause-steps
+returns-in_err-points-in-Some-clause-steps g c = rw (size_in c.args.self.now _ c.in-Some.held c.self.view_is c.in-Some.is) c.chain.ensures.steps
+
+pub returns-in_err-points-in-Some-clause-memory : goal.returns-in_err-points-in-Some-clause-memory
+returns-in_err-points-in-Some-clause-memory g c = rw (size_in c.args.self.now _ c.in-Some.held c.self.view_is c.in-Some.is) (after_want _ c.in_err-points-in-Some.ensures.memory)

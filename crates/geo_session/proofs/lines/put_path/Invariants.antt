@@ -1,5 +1,5 @@
 use Rattle.std.proofs.Common.{◌+◌, ◌*◌, ◌≤◌}
-use Rattle.geo_session.proofs.paths.put_path.Given as goal
+use Rattle.geo_session.proofs.lines.put_path.Given as goal
 use Rattle.geo_session.specs.Session.{IsPathFront}
 
 abbrev pub invariant-loop-point : goal.invariant-loop-point
