@@ -5,7 +5,6 @@ mod breakpoint;
 mod crossing;
 mod level;
 mod position;
-mod product;
 mod segment;
 #[cfg(test)]
 mod tests;
