@@ -5,7 +5,7 @@ use Rattle.integer_algebra.proofs.SignSteps.{negative_not_zero, positive_not_zer
 use Rattle.plane.proofs.Turns.{determinant_same_ends, determinant_same_last}
 use Rattle.plane.specs.Point.{Point, whole}
 use Rattle.plane.specs.Turn.{IsStraight}
-use Rattle.rings.specs.Below.{EndsBelow, IsBelow, StartsBelow}
+use Rattle.rings.specs.Below.{EndsBelow, IsBelow, IsBelowAt, StartsBelow}
 use Rattle.rings.specs.Edge.{Edge, edge}
 use Rattle.rings.specs.Ring.{vertex}
 use Rattle.exact_plane.specs.Direction.{direction_of}
@@ -18,23 +18,17 @@ positive_of_left (pos zero) e = absurd (cc)
 positive_of_left (negsuc n) e = absurd (cc)
 
 module _ (e f : Edge) where
-  -- edges of which one is strictly below the other where they begin do not begin together,
-  starts_differ : StartsBelow e f → ¬ (e.from ≡ f.from)
-  starts_differ (inl left) h =
-      positive_not_zero left
-      (subst (λ (v : Point). IsStraight (whole e.from) (whole e.to) (whole v)) h (determinant_same_ends (whole e.from) (whole e.to)))
-  starts_differ (inr right) h =
-      negative_not_zero right
-      (subst (λ (v : Point). IsStraight (whole f.from) (whole f.to) (whole v)) (sym h) (determinant_same_ends (whole f.from) (whole f.to)))
+  -- where one of two ends shows that one edge is strictly below the other, it is no common end
+  differ : (p q : Point) → IsStraight (whole e.from) (whole e.to) (whole p) → IsStraight (whole f.from) (whole f.to) (whole q)
+      → IsBelowAt e f p q → ¬ (p ≡ q)
+  differ p q on_e on_f (inl left) h = positive_not_zero left (subst (λ (v : Point). IsStraight (whole e.from) (whole e.to) (whole v)) h on_e)
+  differ p q on_e on_f (inr right) h = negative_not_zero right (subst (λ (v : Point). IsStraight (whole f.from) (whole f.to) (whole v)) (sym h) on_f)
 
-  -- nor do such edges end together
+  starts_differ : StartsBelow e f → ¬ (e.from ≡ f.from)
+  starts_differ = differ e.from f.from (determinant_same_ends (whole e.from) (whole e.to)) (determinant_same_ends (whole f.from) (whole f.to))
+
   ends_differ : EndsBelow e f → ¬ (e.to ≡ f.to)
-  ends_differ (inl right) h =
-      negative_not_zero right
-      (subst (λ (v : Point). IsStraight (whole f.from) (whole f.to) (whole v)) (sym h) (determinant_same_last (whole f.from) (whole f.to)))
-  ends_differ (inr left) h =
-      positive_not_zero left
-      (subst (λ (v : Point). IsStraight (whole e.from) (whole e.to) (whole v)) h (determinant_same_last (whole e.from) (whole e.to)))
+  ends_differ = differ e.to f.to (determinant_same_last (whole e.from) (whole e.to)) (determinant_same_last (whole f.from) (whole f.to))
 
   -- so two of the tests are enough
   pub by_both : StartsBelow e f → EndsBelow e f → IsBelow e f

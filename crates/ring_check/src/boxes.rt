@@ -1,5 +1,5 @@
 // Bounding boxes round runs of edges, by which whole runs are left out of the scan for the least clash.
-ghost use Rattle.std.specs.Prelude.{◌≡◌, ◌+◌, ◌*◌, ◌<◌, ◌≤◌, ◌↔◌, ℕ, IfOk, IfSome, IsTrue, length};
+ghost use Rattle.std.specs.Prelude.{◌+◌, ◌<◌, ◌≤◌, ◌↔◌, ℕ, IfOk, IfSome, IsTrue, length};
 ghost use Rattle.plane.specs.Point.{Point};
 ghost use Rattle.rings.specs.Simple.{Clash, HasEqualEnds};
 ghost use Rattle.ring_check.specs.Boxes.{AreBoxes, Encloses, EnclosesEdge, EnclosesRun, Overlap, RangesOverlap};

@@ -3,7 +3,7 @@ ghost use Rattle.std.specs.List.{All};
 ghost use Rattle.std.specs.Prelude.{◌≡◌, ◌<◌, ◌≤◌, ◌^◌, ◌+◌, IfSome, IsTrue, length};
 ghost use Rattle.plane.specs.Order.{IsBefore};
 ghost use Rattle.rings.proofs.Sweeps.{events_are_one};
-ghost use Rattle.rings.specs.Events.{AreEvents, IsEvent, next, previous};
+ghost use Rattle.rings.specs.Events.{AreEvents, IsEvent};
 ghost use Rattle.rings.specs.Ring.{vertex};
 
 use crate::clash::corner;

@@ -11,7 +11,7 @@ use Rattle.plane.specs.Point.{IsPoint, IsSame, Point, Triple, whole}
 use Rattle.plane.specs.Turn.{determinant}
 use Rattle.rings.proofs.Sweeps.Chords.{IsBalanced, chord_above, chord_below}
 use Rattle.rings.specs.Apart.{IsCommonEnd}
-use Rattle.rings.specs.Below.{IsBelow}
+use Rattle.rings.specs.Below.{IsBelow, IsBelowAt}
 use Rattle.rings.specs.Edge.{Edge}
 
 -- the side of the edge's line on which a point is
@@ -38,64 +38,30 @@ record Witness (e f : Edge) (p q : Point) : Type 0 where
 weak_negative : {z : ℤ} → z <ℤ pos 0 → z ≤ℤ pos 0
 weak_negative h = omega (arith, ints)
 
-module _ (e f : Edge) (order : IsBelow e f) where
-  on_from : (d : Edge) → side d (whole d.from) ≡ pos 0
-  on_from d = determinant_same_ends (whole d.from) (whole d.to)
-
-  on_to : (d : Edge) → side d (whole d.to) ≡ pos 0
-  on_to d = determinant_same_last (whole d.from) (whole d.to)
-
-  -- where they begin
-  first_witness : Witness e f e.from f.from
-  first_witness = elim order.start [
-    | inl (inl left) ↦ record {
-      v = f.from;
-      is_one = inr refl;
-      not_below = weak left;
-      not_above = zero_not_positive (on_from f);
-      common = λ h k. absurd (positive_not_zero left h);
-    }
-    | inl (inr right) ↦ record {
-      v = e.from;
-      is_one = inl refl;
-      not_below = zero_not_negative (on_from e);
-      not_above = weak_negative right;
-      common = λ h k. absurd (negative_not_zero right k);
-    }
-    | inr same ↦ record {
-      v = e.from;
-      is_one = inl refl;
-      not_below = zero_not_negative (on_from e);
-      not_above = zero_not_positive (subst (λ (v : Point). side f (whole v) ≡ pos 0) (sym same) (on_from f));
-      common = λ h k. (same, refl);
-    }
-  ]
-
-  -- and where they end
-  last_witness : Witness e f e.to f.to
-  last_witness = elim order.finish [
-    | inl (inl right) ↦ record {
-      v = e.to;
-      is_one = inl refl;
-      not_below = zero_not_negative (on_to e);
-      not_above = weak_negative right;
-      common = λ h k. absurd (negative_not_zero right k);
-    }
-    | inl (inr left) ↦ record {
-      v = f.to;
-      is_one = inr refl;
-      not_below = weak left;
-      not_above = zero_not_positive (on_to f);
-      common = λ h k. absurd (positive_not_zero left h);
-    }
-    | inr same ↦ record {
-      v = e.to;
-      is_one = inl refl;
-      not_below = zero_not_negative (on_to e);
-      not_above = zero_not_positive (subst (λ (v : Point). side f (whole v) ≡ pos 0) (sym same) (on_to f));
-      common = λ h k. (same, refl);
-    }
-  ]
+-- ends p of e and q of f that show it, or a common end
+module _ (e f : Edge) (p q : Point) (on_e : side e (whole p) ≡ pos 0) (on_f : side f (whole q) ≡ pos 0) where
+  witness : IsBelowAt e f p q ⊎ (p ≡ q) → Witness e f p q
+  witness (inl (inl left)) = record {
+    v = q;
+    is_one = inr refl;
+    not_below = weak left;
+    not_above = zero_not_positive on_f;
+    common = λ h k. absurd (positive_not_zero left h);
+  }
+  witness (inl (inr right)) = record {
+    v = p;
+    is_one = inl refl;
+    not_below = zero_not_negative on_e;
+    not_above = weak_negative right;
+    common = λ h k. absurd (negative_not_zero right k);
+  }
+  witness (inr same) = record {
+    v = p;
+    is_one = inl refl;
+    not_below = zero_not_negative on_e;
+    not_above = zero_not_positive (subst (λ (v : Point). side f (whole v) ≡ pos 0) (sym same) on_f);
+    common = λ h k. (same, refl);
+  }
 
 -- ---- what is not above the lower edge
 
@@ -103,10 +69,11 @@ module _ (e f : Edge) (order : IsBelow e f) where
 module _ (e f : Edge) (x y z : Triple) (at_x : IsPoint x) (at_y : IsPoint y) (at_z : IsPoint z)
     (yz : Precedes y z) (yx : NotAfter y x) (xz : NotAfter x z) (over_e : Spans y z e) (over_f : Spans y z f) (order : IsBelow e f) where
   s : Witness e f e.from f.from
-  s = first_witness e f order
+  s =
+      witness e f e.from f.from (determinant_same_ends (whole e.from) (whole e.to)) (determinant_same_ends (whole f.from) (whole f.to)) order.start
 
   t : Witness e f e.to f.to
-  t = last_witness e f order
+  t = witness e f e.to f.to (determinant_same_last (whole e.from) (whole e.to)) (determinant_same_last (whole f.from) (whole f.to)) order.finish
 
   at : (v : Point) → IsPoint (whole v)
   at v = whole_is_point v

@@ -11,7 +11,7 @@ loop-j-preserved-then-is_clear g c = (
   omega (arith, c.loop-j.invariant.0),
   λ m above below. elim (cases_lt m c.loop-j.j) [
     | inl before ↦ c.loop-j.invariant.1 m above before
-    | inr after ↦ c.if-is_clear.ensures refl m after below
+    | inr after ↦ c.if-is_clear.ensures refl m after (omega (arith, below))
   ],
 )
 

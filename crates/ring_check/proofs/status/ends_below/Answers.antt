@@ -4,7 +4,7 @@ use Rattle.ring_check.proofs.Below.{positive_of_left}
 use Rattle.ring_check.proofs.status.ends_below.Goals as goal
 
 pub returns-then-events-b : goal.returns-then-events-b
-returns-then-events-b g c = λ h. inl (negative_of_right _ (c.turns.ensures h))
+returns-then-events-b g c = λ h. inr (negative_of_right _ (c.turns.ensures h))
 
 pub returns-else-events-b : goal.returns-else-events-b
-returns-else-events-b g c = λ h. inr (positive_of_left _ (c.turns-else-events-b.ensures h))
+returns-else-events-b g c = λ h. inl (positive_of_left _ (c.turns-else-events-b.ensures h))
