@@ -1,10 +1,9 @@
 -- Inside, and on the boundary, of the list that a ring was made of.
-use Rattle.std.proofs.Common.{◌≡◌, ◌↔◌, Bool, true, false, if◌then◌else◌, List}
+use Rattle.std.proofs.Common.{◌≡◌, List}
 use Rattle.std.specs.Prelude.{codes, ℕ}
-use Rattle.plane.specs.Point.{Point, Triple, whole}
+use Rattle.plane.specs.Point.{Point, whole}
 use Rattle.rings.specs.Edge.{IsOnSome, edges_of}
 use Rattle.rings.specs.Inside.{IsIn}
-use Rattle.rings.specs.Orientation.{turned_round}
 use Rattle.rings.proofs.Inside.{in_either, on_some_either}
 use Rattle.ring_check.specs.Oriented.{Oriented, given_of}
 use Rattle.geo_session.specs.Answer.{IsPlaceText, inside, on_edge, outside}
