@@ -1,4 +1,4 @@
--- Pieces of a polygon that are polygons themselves.
+-- Pieces of a polygon that are polygons themselves. No public clause cites this module.
 use Rattle.std.specs.Prelude.{ℕ, ◌≤◌, List, length}
 use Rattle.plane.specs.Point.{Point}
 use Rattle.rings.specs.Simple.{IsSimple}
