@@ -1,8 +1,9 @@
 ghost use Rattle.std.specs.Prelude.{◌≡◌, ◌<◌};
 
 use crate::sweep::sweep_finds_none;
-use crate::{MAX_CORNERS, Ring, RingFault};
+use crate::{Ring, RingFault};
 use exact_plane::{Pt, Steps};
+use plane::MAX_CORNERS;
 use std::alloc::{AllocError, Global};
 use std::marker::Brand;
 use std::process::Abort;

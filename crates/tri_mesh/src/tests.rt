@@ -2,7 +2,8 @@ ghost use Rattle.std.specs.Prelude.{◌≡◌, ◌<◌, ◌^◌, IfOk, vec_len};
 ghost use Rattle.meshes.specs.Mesh.{IsMesh};
 ghost use Rattle.meshes.specs.Side.{HasSidesOnce, IsTree};
 
-use crate::{Mesh, Tri};
+use crate::Mesh;
+use meshes::Tri;
 use std::alloc::{AllocError, Global};
 use std::process::Abort;
 use std::test::Fail;
