@@ -12,7 +12,7 @@ mod RingSteps
 pub use Rattle.funnels.proofs.Corners.RingSteps.{IsRingStep}
 -- The turn of a ring at a vertex from which one of its edges is known.
 mod RingTurns
-pub use Rattle.funnels.proofs.Corners.RingTurns.{after_next, before_next, not_reflex, one_number, step_turn}
+pub use Rattle.funnels.proofs.Corners.RingTurns.{after_next, before_next, step_turn}
 -- A corner of a triangle of a mesh: its mirror image, the corners beside it, how its sides turn, and which ways no ring neighbour goes.
 mod CornerSides
 pub use Rattle.funnels.proofs.Corners.CornerSides.{IsSharedSide, corner_after, corner_back, corner_before, corner_turns, not_swept, shared_side_back}

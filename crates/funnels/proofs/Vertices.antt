@@ -18,7 +18,7 @@ mod FittedRings
 pub use Rattle.funnels.proofs.Vertices.FittedRings.{fitted_counterclockwise, fitted_long, fitted_simple, triangle_in_ring}
 -- The two edges at a vertex of a ring with different vertices.
 mod VertexEdges
-pub use Rattle.funnels.proofs.Vertices.VertexEdges.{edges_at}
+pub use Rattle.funnels.proofs.Vertices.VertexEdges.{edges_at, same_number}
 -- Right of an edge of a ring that runs counterclockwise: a point from which the way to a point strictly inside the edge meets no other edge is not in the ring.
 mod RightOfEdges
 -- At a vertex of a simple ring that is not reflex, the ring is in the half-planes of both edges.

@@ -1,9 +1,5 @@
 -- The turn of a ring at a vertex from which one of its edges is known.
 use Rattle.std.proofs.Common.{◌≡◌, inl, inr, refl, sym, subst, ap, ◌∙◌, Bool, true, false, ℕ, ◌+◌, ◌-◌, ◌<◌, ◌≤◌, pos, neg_ℤ, ◌≤ℤ◌, List, length}
-use Rattle.std.proofs.Common.{arith}
-use Rattle.std.proofs.lemmas.Bool.{cases_order}
-use Rattle.std.proofs.lemmas.Int.{ints}
-use Rattle.integer_algebra.proofs.SignSteps.{not_both}
 use Rattle.plane.proofs.Turns.{determinant_shift, determinant_swap_first}
 use Rattle.plane.specs.Point.{Point, whole}
 use Rattle.plane.specs.Turn.{determinant}
@@ -11,28 +7,12 @@ use Rattle.rings.proofs.Simple.{apart_of_simple}
 use Rattle.rings.proofs.Vertices.{edge_number, has_edge_at}
 use Rattle.rings.specs.Bend.{AreNeighbours}
 use Rattle.rings.specs.Edge.{Edge}
-use Rattle.rings.specs.Orientation.{IsCounterclockwise, IsReflex, turn_at}
+use Rattle.rings.specs.Orientation.{turn_at}
 use Rattle.rings.specs.Ring.{vertex}
 use Rattle.rings.specs.Simple.{IsSimple}
-use Rattle.meshes.proofs.Sides.{simple_differ}
 use Rattle.funnels.proofs.Corners.RingSteps.{IsRingStep, step_is, step_vertex}
 use Rattle.funnels.proofs.Vertices.{edges_at, after_differs}
 use Rattle.funnels.specs.Fanned.{turning}
-
--- equal vertices of a simple ring have one number
-pub one_number : (ring : List Point) → IsSimple ring → (i j : ℕ) → i < length ring → j < length ring → vertex ring i ≡ vertex ring j → i ≡ j
-one_number ring simple i j in_i in_j same = elim (cases_order i j) [
-  | inl e ↦ e
-  | inr h ↦ elim h [
-    | inl less ↦ absurd (simple_differ ring simple i j less in_j same)
-    | inr less ↦ absurd (simple_differ ring simple j i less in_i (sym same))
-  ]
-]
-
--- a vertex is not reflex where the turn is not to the right
-pub not_reflex : (ring : List Point) (r : ℕ) → IsCounterclockwise ring → pos 0 ≤ℤ turn_at ring r → ¬ IsReflex ring r
-not_reflex ring r runs least (inl h) = not_both h.1 least
-not_reflex ring r runs least (inr h) = let clockwise = h.0 in omega (arith, ints)
 
 module _ (ring : List Point) (simple : IsSimple ring) (three : 3 ≤ length ring) (r : ℕ) (h : r < length ring) where
   -- the vertex before one is a neighbour of it,

@@ -17,11 +17,8 @@ use Rattle.meshes.specs.Side.{HasSideBetween, IsWalk, tri_at}
 use Rattle.meshes.specs.declared.tri.Tri.{Tri}
 use Rattle.funnels.proofs.Corners.{side_at_corner, within_of_inside, within_of_seen}
 use Rattle.funnels.proofs.DeadEnds.WalkParts.{rest_crossed, rest_in, walk_rest}
+use Rattle.funnels.proofs.DeadEnds.CrossedSides.{crossed_back}
 use Rattle.funnels.specs.Corner.{HasCornerOn, IsInAngle}
-
--- a side that is crossed is crossed from either end
-crossed_back : (tris : List Tri) (walk : List ℕ) (m i j : ℕ) → CrossesSide tris walk m i j → CrossesSide tris walk m j i
-crossed_back tris walk m i j c = record { has_next = c.has_next; of_this = between_back c.of_this; of_next = between_back c.of_next }
 
 module _ (corners : List Point) (tris : List Tri) (fits : Fits corners tris) where
   -- the ends of a side are in the triangle: the first,
@@ -58,7 +55,7 @@ module _ (corners : List Point) (tris : List Tri) (fits : Fits corners tris) whe
           elim (side_at_corner corners tris fits (get_or walk 0 0) before v after (w.in_list 0 w.some) corner share.i share.j (inl share.of_first)) [
             | inl e ↦ inr (share.j, subst (λ n. CrossesSide tris walk 0 n share.j) e c)
             | inr other ↦ elim other [
-              | inl e ↦ inr (share.i, subst (λ n. CrossesSide tris walk 0 n share.i) e (crossed_back tris walk 0 share.i share.j c))
+              | inl e ↦ inr (share.i, subst (λ n. CrossesSide tris walk 0 n share.i) e (crossed_back corners tris fits walk w 0 share.i share.j c))
               | inr ends ↦ inl (departs_over corner sees last share.i share.j c ends)
             ]
           ]

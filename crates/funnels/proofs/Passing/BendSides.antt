@@ -7,18 +7,19 @@ use Rattle.plane.proofs.Turns.{determinant_same_first}
 use Rattle.plane.specs.Point.{IsSame, Point, Triple, whole}
 use Rattle.plane.specs.Segment.{On}
 use Rattle.plane.specs.Turn.{IsStraight}
+use Rattle.rings.proofs.Simple.{apart_of_simple}
 use Rattle.rings.specs.Bend.{AreNeighbours, IsBend}
 use Rattle.rings.specs.Orientation.{IsReflex}
 use Rattle.rings.specs.Ring.{vertex}
 use Rattle.meshes.specs.Fits.{Fits}
 use Rattle.meshes.specs.Side.{tri_at}
 use Rattle.meshes.specs.declared.tri.Tri.{Tri}
-use Rattle.funnels.proofs.Bends.{turnings_of_bend, positive_of_not_zero, level_is_vertex, ray_ahead, turning_differs, zero_of_opposite, AreOnRay}
+use Rattle.funnels.proofs.Bends.{not_reflex, turnings_of_bend, positive_of_not_zero, level_is_vertex, ray_ahead, turning_differs, zero_of_opposite, AreOnRay}
 use Rattle.funnels.proofs.Bends.{turning_from_ray, turning_to_ray, turning_four, turning_swap}
 use Rattle.funnels.proofs.Corners.{corner_in_ring, neighbour_differs, neighbour_within, corner_turns, turning_not, IsRingStep, after_next}
-use Rattle.funnels.proofs.Corners.{before_next, not_reflex, one_number, step_turn, left_of_line, not_right_of_first, own_not_positive}
+use Rattle.funnels.proofs.Corners.{before_next, step_turn, left_of_line, not_right_of_first, own_not_positive}
 use Rattle.funnels.proofs.Corners.{turned_back_not_negative, turned_zero, zero_of_both}
-use Rattle.funnels.proofs.Vertices.{fitted_counterclockwise, fitted_long, fitted_simple, neighbours_not_on_ray}
+use Rattle.funnels.proofs.Vertices.{fitted_counterclockwise, fitted_long, fitted_simple, neighbours_not_on_ray, same_number}
 use Rattle.funnels.specs.Corner.{HasCornerOn, IsInAngle}
 use Rattle.funnels.specs.Fanned.{turning}
 
@@ -126,7 +127,7 @@ module _ (corners : List Point) (tris : List Tri) (fits : Fits corners tris) (si
           | inr same ↦ absurd (other same.0)
         ]) in
         not_reflex corners own (fitted_counterclockwise corners tris fits) turn
-        (subst (IsReflex corners) (one_number corners simple bend.reflex.i own bend.reflex.in_ring in_ring bend.reflex.is_vertex)
+        (subst (IsReflex corners) (same_number corners (apart_of_simple corners simple) bend.reflex.i own bend.reflex.in_ring in_ring bend.reflex.is_vertex)
         bend.reflex.reflex)
 
     -- two neighbours in line with p are on one ray,

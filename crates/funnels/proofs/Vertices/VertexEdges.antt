@@ -70,7 +70,7 @@ after ring r h = elim (cases_lt (r + 1) (length ring)) [
 
 module _ (ring : List Point) (apart : IsApartRing ring) where
   -- equal vertices have one number,
-  same_number : (i j : ℕ) → i < length ring → j < length ring → vertex ring i ≡ vertex ring j → i ≡ j
+  pub same_number : (i j : ℕ) → i < length ring → j < length ring → vertex ring i ≡ vertex ring j → i ≡ j
   same_number = one_to_one (vertex ring) (length ring) apart.distinct
 
   -- and so do those before them
