@@ -4,6 +4,7 @@ pub mod Cone
 pub mod Line
 pub mod Order
 pub mod Point
+pub mod Region
 pub mod Segment
 pub mod Triangle
 pub mod Turn

@@ -6,9 +6,11 @@ pub mod Chain
 pub mod Edge
 pub mod Events
 pub mod Inside
+pub mod Kernel
 pub mod Orientation
 pub mod Ring
 pub mod Sees
 pub mod Simple
 pub mod Status
+pub mod Visible
 pub mod Winding
