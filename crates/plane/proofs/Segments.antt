@@ -35,7 +35,7 @@ mod Middle
 pub use Rattle.plane.proofs.Segments.Middle.{middle, middle_first, middle_is_point, middle_last, middle_on, middle_within}
 -- Two segments on one line: round each common point there are two ends of theirs that are common too.
 mod Overlaps
-pub use Rattle.plane.proofs.Segments.Overlaps.{around_of_line}
+pub use Rattle.plane.proofs.Segments.Overlaps.{around_of_line, leaves}
 -- What two segments have in common: one point where they are not parallel, and otherwise what lies between ends of theirs.
 mod SharedParts
 pub use Rattle.plane.proofs.Segments.SharedParts.{first_on_line, last_on_line, one_meeting}
