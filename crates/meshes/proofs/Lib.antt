@@ -6,4 +6,5 @@ pub mod Sight
 pub mod TreeLeaves
 pub mod Ears
 pub mod Triangulations
+pub mod Cones
 pub mod KnownMeshes
