@@ -4,13 +4,12 @@
 mod Narrowing
 -- Signs of directions from one point, over plain integers.
 mod RaySigns
--- Two points on one line with a third, to one side of another line through that: they are on one ray.
-mod Rays
-pub use Rattle.meshes.proofs.Cones.Rays.{ray_on_left, ray_on_right}
 -- Sight over a side at the end of a walk: into the triangle beyond it, and of the side itself from the other side of its line.
 mod SideReach
 -- What a point sees of a side of a triangle, by the cone through which it sees the triangle.
 mod SideViews
+-- The rays of a narrowed cone meet the side, and leave of it what the cone does.
+mod NarrowedRays
 -- What a point sees of a side of a triangle is what the narrowed cone tells.
 mod NarrowedViews
 -- A triangle in front of a point: left of one line through the point.
@@ -19,6 +18,8 @@ mod Fronts
 mod OneRay
 -- A triangle beyond a side, of which a point before the side sees what is in a window: of the triangle it sees the same cone.
 mod WindowCones
+-- Where a ray meets a side that it reaches, and which points of the side are before the meeting.
+mod SideMeetings
 -- What a point sees of a side lies between the ends that the narrowed cone tells.
 mod PartEnds
 -- The cones of sight along a walk over the triangles of a mesh: at its start, beyond a side, and on the edges of the ring.

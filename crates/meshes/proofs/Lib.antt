@@ -8,3 +8,4 @@ pub mod Ears
 pub mod Triangulations
 pub mod Cones
 pub mod KnownMeshes
+mod KnownCones

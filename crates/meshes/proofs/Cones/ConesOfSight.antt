@@ -1,8 +1,7 @@
 -- The cones of sight along a walk over the triangles of a mesh: at its start, beyond a side, and on the edges of the ring.
-use Rattle.std.proofs.Common.{◌≡◌, inl, inr, sym, ap, subst, ◌∙◌, List, [], ◌∷◌, ◌++◌, length, get_or, length-append, ℕ, ◌+◌, ◌-◌, ◌<◌, ◌%◌}
-use Rattle.std.proofs.Common.{◌↔◌, arith, mod-lt, refl, Some, None}
+use Rattle.std.proofs.Common.{◌≡◌, inl, inr, sym, ap, subst, ◌∙◌, List, [], ◌∷◌, ◌++◌, length, get_or, length-append, ℕ, ◌+◌, ◌-◌, ◌<◌}
+use Rattle.std.proofs.Common.{◌↔◌, arith, refl, Some, None}
 use Rattle.std.proofs.lemmas.List.{get_or_append_left, get_or_push}
-use Rattle.std.proofs.lemmas.List.FromFn.{get_or-range_with_len, length-range_with_len}
 use Rattle.std.specs.List.{range_with_len}
 use Rattle.std.specs.Prelude.{Option}
 use Rattle.integer_algebra.proofs.SignSteps.{negative_not_zero, not_both, not_both_positive, zero_not_negative, zero_not_positive}
@@ -17,11 +16,11 @@ use Rattle.rings.specs.Visible.{IsPart, IsUnseen}
 use Rattle.meshes.proofs.Cones.NarrowedViews.{side_view}
 use Rattle.meshes.proofs.Cones.OneRay.{end_cone, side_cone}
 use Rattle.meshes.proofs.Cones.PartEnds.{none_seen, part_seen}
-use Rattle.meshes.proofs.Cones.SideReach.{IsBehind, end_below, is_behind, sees_one_end}
+use Rattle.meshes.proofs.Cones.SideReach.{IsBeyondSide, end_below, is_beyond_side, sees_one_end}
 use Rattle.meshes.proofs.Cones.SideViews.{SideView, hidden, one_end, through_window, whole_side}
 use Rattle.meshes.proofs.Cones.WindowCones.{window_cone}
 use Rattle.meshes.proofs.Parts.{side_in}
-use Rattle.meshes.proofs.Sides.{edge_or_not}
+use Rattle.meshes.proofs.Sides.{edge_of_one}
 use Rattle.meshes.proofs.Sight.{sees_in_triangle, shared_from}
 use Rattle.meshes.specs.Cone.{Cone, IsConeOf, IsPartEnd, narrowed}
 use Rattle.meshes.specs.Fits.{Fits, IsInTri, IsSideOfOne}
@@ -29,19 +28,19 @@ use Rattle.meshes.specs.Laws.{walk_tri}
 use Rattle.meshes.specs.Side.{HasSide, HasSideBetween, IsWalkBetween, tri_at}
 use Rattle.meshes.specs.declared.tri.Tri.{Tri}
 
--- the cone in a triangle behind a side, by the view of the side
-cone_behind : (corners : List Point) (tris : List Tri) (l : ℕ) (q a b : Point) → IsBehind corners (tri_at tris l) q a b → (sight : Option Cone)
-    → SideView corners q a b sight → IsConeOf corners tris q l sight
-cone_behind corners tris l q a b behind sight (hidden e unseen) =
+-- the cone in a triangle beyond a side, by the view of the side
+cone_by_view : (corners : List Point) (tris : List Tri) (l : ℕ) (q a b : Point) → IsBeyondSide corners (tri_at tris l) q a b
+    → (sight : Option Cone) → SideView corners q a b sight → IsConeOf corners tris q l sight
+cone_by_view corners tris l q a b beyond sight (hidden e unseen) =
     subst (IsConeOf corners tris q l) (sym e) (λ x at_x in_x sees.
-    let over = (behind.seen_over x at_x in_x).0 sees in
+    let over = (beyond.seen_over x at_x in_x).0 sees in
     unseen over.point over.rational over.on_side over.seen)
-cone_behind corners tris l q a b behind sight (through_window cone e w) =
-    subst (IsConeOf corners tris q l) (sym e) (window_cone corners (tri_at tris l) q a b behind cone w)
-cone_behind corners tris l q a b behind sight (whole_side e flat seen) =
-    subst (IsConeOf corners tris q l) (sym e) (side_cone corners (tri_at tris l) q a b behind flat seen)
-cone_behind corners tris l q a b behind sight (one_end c e which right seen) =
-    subst (IsConeOf corners tris q l) (sym e) (end_cone corners (tri_at tris l) q a b behind right c which seen)
+cone_by_view corners tris l q a b beyond sight (through_window cone e w) =
+    subst (IsConeOf corners tris q l) (sym e) (window_cone corners (tri_at tris l) q a b beyond cone w)
+cone_by_view corners tris l q a b beyond sight (whole_side e flat seen) =
+    subst (IsConeOf corners tris q l) (sym e) (side_cone corners (tri_at tris l) q a b beyond flat seen)
+cone_by_view corners tris l q a b beyond sight (one_end c e which right seen) =
+    subst (IsConeOf corners tris q l) (sym e) (end_cone corners (tri_at tris l) q a b beyond right c which seen)
 
 module _ (corners : List Point) (tris : List Tri) (fits : Fits corners tris) (q : Point) (home : ℕ)
     (in_home : IsInTri corners (tri_at tris home) (whole q)) where
@@ -61,7 +60,8 @@ module _ (corners : List Point) (tris : List Tri) (fits : Fits corners tris) (q 
         place = inl in_home;
       }
 
-  module _ (k : ℕ) (walk : List ℕ) (there : IsWalkBetween tris home k walk) (i j : ℕ) (sight : Option Cone) (cone : IsConeOf corners tris q k sight) where
+  module _ (k : ℕ) (walk : List ℕ) (there : IsWalkBetween tris home k walk) (i j : ℕ) (sight : Option Cone)
+      (cone : IsConeOf corners tris q k sight) where
     -- the view of a side by which the walk did not come
     view_out : HasSide (tri_at tris k) i j → ((m : ℕ) → m + 1 < length walk → ¬ HasSideBetween (walk_tri tris walk m) i j)
         → SideView corners q (vertex corners j) (vertex corners i) (narrowed q sight (vertex corners j) (vertex corners i))
@@ -75,7 +75,8 @@ module _ (corners : List Point) (tris : List Tri) (fits : Fits corners tris) (q 
 
     -- ---- beyond a side
 
-    module _ (l : ℕ) (on : IsWalkBetween tris home l (walk ++ l ∷ [])) (has : HasSide (tri_at tris k) i j) (has_beyond : HasSide (tri_at tris l) j i) where
+    module _ (l : ℕ) (on : IsWalkBetween tris home l (walk ++ l ∷ [])) (has : HasSide (tri_at tris k) i j)
+        (has_beyond : HasSide (tri_at tris l) j i) where
       -- the walk came by another side
       outer_side : (m : ℕ) → m + 1 < length walk → ¬ HasSideBetween (walk_tri tris walk m) i j
       outer_side m before between =
@@ -88,7 +89,8 @@ module _ (corners : List Point) (tris : List Tri) (fits : Fits corners tris) (q 
           let not_on = λ (n : ℕ) (h : n < length walk) (same : get_or walk n 0 ≡ l).
           on.is_walk.once n (length walk) h (omega (arith, long)) (front n h ∙ same ∙ sym back) in
           let differ : ¬ (k ≡ l) = λ same. not_on (length walk - 1) (omega (arith, some)) (there.last ∙ same) in
-          let two = shared_from corners (range_with_len 0 (length corners)) tris fits i j k l k_below l_below differ has (inr has_beyond) in
+          let all = range_with_len 0 (length corners) in
+          let two = shared_from corners all tris fits i j k l k_below l_below differ has (inr has_beyond) in
           elim (two.only (get_or walk m 0) (there.is_walk.in_list m (omega arith)) between) [
             | inl same ↦ there.is_walk.once m (length walk - 1) (omega arith) (omega (arith, some)) (same ∙ sym there.last)
             | inr same ↦ not_on m (omega arith) same
@@ -97,33 +99,18 @@ module _ (corners : List Point) (tris : List Tri) (fits : Fits corners tris) (q 
       -- q sees into the next triangle through the narrowed cone
       pub cone_beyond : IsConeOf corners tris q l (narrowed q sight (vertex corners j) (vertex corners i))
       cone_beyond =
-          cone_behind corners tris l q (vertex corners j) (vertex corners i)
-          (is_behind corners tris fits q home in_home k l walk there on i j has has_beyond)
+          cone_by_view corners tris l q (vertex corners j) (vertex corners i)
+          (is_beyond_side corners tris fits q home in_home k l walk there on i j has has_beyond)
           (narrowed q sight (vertex corners j) (vertex corners i)) (view_out has outer_side)
 
     -- ---- on an edge of the ring
 
     module _ (one : IsSideOfOne tris i j k) where
-      -- a side of one triangle goes from a vertex to the next
+      -- which goes to the next vertex
       next_vertex : vertex corners j ≡ vertex corners (i + 1)
-      next_vertex =
-          let all = range_with_len 0 (length corners) in
-          elim (edge_or_not all i j) [
-            | inl edge ↦
-                let n = length corners in
-                let long : length all ≡ n = length-range_with_len 0 n in
-                let place : edge.place < n = omega (arith, long, edge.in_piece) in
-                let from : edge.place ≡ i = omega (arith, get_or-range_with_len 0 n edge.place 0 place, edge.from) in
-                let some : (i + 1) % n < n = mod-lt (i + 1) (omega arith) in
-                let next : (edge.place + 1) % length all ≡ (i + 1) % n = λ t. (from t + 1) % long t in
-                let last : get_or all ((i + 1) % n) 0 ≡ j = ap (λ p. get_or all p 0) (sym next) ∙ edge.to in
-                let to : (i + 1) % n ≡ j = omega (arith, get_or-range_with_len 0 n ((i + 1) % n) 0 some, last) in
-                ap (vertex corners) (sym to) ∙ vertex_mod corners (i + 1)
-            | inr inner ↦
-                let (l, two) = fits.inner_sides i j k one.in_list one.has inner in
-                absurd (two.different (sym (one.only l two.other_in_list (inr two.other_has))))
-          ]
+      next_vertex = ap (vertex corners) (edge_of_one corners tris fits i j k one).1 ∙ vertex_mod corners (i + 1)
 
+      -- the view of the edge
       edge_view : SideView corners q (vertex corners j) (vertex corners i) (narrowed q sight (vertex corners j) (vertex corners i))
       edge_view = view_out one.has (λ m before between.
           there.is_walk.once m (length walk - 1) (omega arith) (omega (arith, there.is_walk.some))
@@ -145,6 +132,7 @@ module _ (corners : List Point) (tris : List Tri) (fits : Fits corners tris) (q 
             first_rational = is_first.rational;
             last_rational = is_last.rational;
             in_order = part.in_order;
-            seen = subst (λ p. (x : Triple) → IsPoint x → (On x (whole (vertex corners i)) (whole p) × Sees corners (whole q) x) ↔ On x first last)
+            seen = subst
+                (λ p. (x : Triple) → IsPoint x → (On x (whole (vertex corners i)) (whole p) × Sees corners (whole q) x) ↔ On x first last)
                 next_vertex part.seen;
           }

@@ -78,7 +78,8 @@ module _ (q : Point) (cone : Cone) (l r : Point) (P : Option Cone → Type 0) wh
       → (¬ Holds q cone (whole l) → ¬ Holds q cone (whole r) → P None) → P (ray_to_end q cone l r)
   ray_to_end_by at_l at_r at_none =
       choice P (is_off q cone l) _ _
-      (λ off_l. choice P (is_off q cone r) None _ (λ off_r. at_none (not_held q cone l off_l) (not_held q cone r off_r)) (λ h. at_r (held q cone r h)))
+      (λ off_l. choice P (is_off q cone r) None _ (λ off_r. at_none (not_held q cone l off_l) (not_held q cone r off_r))
+      (λ h. at_r (held q cone r h)))
       (λ h. at_l (held q cone l h))
 
   -- q is beyond the side; or it is not, and the side is left of the cone, or right of it, or within its reach

@@ -1,10 +1,11 @@
 -- A triangle beyond a side of which a point sees points on one ray alone: in the triangle it sees that ray. And one that has the point.
-use Rattle.std.proofs.Common.{◌≡◌, ◌⊎◌, ◌↔◌, inl, inr, sym, subst, List, ℤ, pos, ◌≤ℤ◌, arith}
-use Rattle.std.proofs.lemmas.Int.{ints}
-use Rattle.integer_algebra.proofs.SignSteps.{at_most_unless, mean_not_negative, mean_not_positive, mean_zero, negative_not_zero, not_both, not_both_positive}
-use Rattle.integer_algebra.proofs.SignSteps.{positive_of_not_zero, turned_not_positive, zero_not_negative, zero_not_positive}
+use Rattle.std.proofs.Common.{◌≡◌, ◌⊎◌, ◌↔◌, inl, inr, sym, subst, List}
+use Rattle.integer_algebra.proofs.SignSteps.{at_most_unless, mean_not_negative, mean_not_positive, mean_zero, negative_not_zero}
+use Rattle.integer_algebra.proofs.SignSteps.{not_both, not_both_positive, positive_of_not_zero, turned_not_positive}
+use Rattle.integer_algebra.proofs.SignSteps.{zero_not_negative, zero_not_positive}
 use Rattle.plane.proofs.Points.{same_refl, whole_is_point}
-use Rattle.plane.proofs.Segments.{combination_of_same, on_first_end, on_is_straight, on_last_end, on_same_point, same_straight, same_without_last}
+use Rattle.plane.proofs.Segments.{combination_of_same, on_first_end, on_is_straight, on_last_end, on_same_point, ray_on_left}
+use Rattle.plane.proofs.Segments.{same_straight, same_without_last}
 use Rattle.plane.proofs.Turns.{combination_of, determinant_along, determinant_along_first, determinant_same_ends, determinant_same_first}
 use Rattle.plane.proofs.Turns.{determinant_same_last, determinant_shift, determinant_swap_first, five_triples, straight_shift}
 use Rattle.plane.proofs.Turns.{straight_swap_first, straight_swap_last}
@@ -15,19 +16,14 @@ use Rattle.rings.specs.Ring.{vertex}
 use Rattle.rings.specs.Sees.{Sees}
 use Rattle.ring_laws.proofs.Triangles.{in_or_not, not_negative}
 use Rattle.meshes.proofs.Cones.Fronts.{triangle_in_front}
-use Rattle.meshes.proofs.Cones.RaySigns.{in_line, in_line_ahead, in_line_too}
-use Rattle.meshes.proofs.Cones.Rays.{ray_on_left}
-use Rattle.meshes.proofs.Cones.SideReach.{IsBehind}
+use Rattle.meshes.proofs.Cones.RaySigns.{in_line, in_line_ahead, in_line_too, squeezed}
+use Rattle.meshes.proofs.Cones.SideReach.{IsBeyondSide}
 use Rattle.meshes.proofs.Sight.{sees_before, sees_on}
 use Rattle.meshes.specs.Cone.{Holds, IsSeenThrough}
 use Rattle.meshes.specs.Fits.{IsInTri}
 use Rattle.meshes.specs.declared.tri.Tri.{Tri}
 
--- a number between two bounds of 0 is 0
-squeezed : {z : ℤ} → z ≤ℤ pos 0 → pos 0 ≤ℤ z → z ≡ pos 0
-squeezed h k = omega (arith, ints)
-
-module _ (corners : List Point) (t : Tri) (q l r : Point) (behind : IsBehind corners t q l r) where
+module _ (corners : List Point) (t : Tri) (q l r : Point) (beyond : IsBeyondSide corners t q l r) where
   abbrev Q : Triple
   Q = whole q
 
@@ -38,10 +34,10 @@ module _ (corners : List Point) (t : Tri) (q l r : Point) (behind : IsBehind cor
   R = whole r
 
   in_l : IsInTri corners t L
-  in_l = behind.side L (whole_is_point l) (on_last_end R L)
+  in_l = beyond.side L (whole_is_point l) (on_last_end R L)
 
   in_r : IsInTri corners t R
-  in_r = behind.side R (whole_is_point r) (on_first_end R L)
+  in_r = beyond.side R (whole_is_point r) (on_first_end R L)
 
   -- ---- one ray
 
@@ -57,11 +53,11 @@ module _ (corners : List Point) (t : Tri) (q l r : Point) (behind : IsBehind cor
       -- what q sees is in line with it,
       only_line : Sees corners Q x → IsStraight Q (whole c) x
       only_line sees =
-          let over = (behind.seen_over x at_x in_x).0 sees in
+          let over = (beyond.seen_over x at_x in_x).0 sees in
           let y = over.point in
           let w = combination_of y Q x over.rational (whole_is_point q) at_x over.on_way in
           let some = positive_of_not_zero w.m_nonnegative
-          (λ none. off (behind.side Q (whole_is_point q) (on_same_point over.rational (same_without_last y Q x w none) over.on_side))) in
+          (λ none. off (beyond.side Q (whole_is_point q) (on_same_point over.rational (same_without_last y Q x w none) over.on_side))) in
           in_line_ahead w.k w.l w.m _ _ _ some (determinant_same_ends Q (whole c)) (determinant_along y Q x w Q (whole c))
           (line y over.rational over.on_side over.seen)
 
@@ -73,12 +69,13 @@ module _ (corners : List Point) (t : Tri) (q l r : Point) (behind : IsBehind cor
           let at_c = whole_is_point c in
           elim (ray_on_left Q C x at_q at_c at_x (whole front.0) straight (front.1 C at_c in_c) (front.1 x at_x in_x)) [
             | inl before ↦ sees_before corners Q x C at_q at_x at_c before sees_c
-            | inr after ↦ sees_on corners Q C x at_q at_c at_x after sees_c (behind.sees C x at_c at_x in_c in_x)
+            | inr after ↦ sees_on corners Q C x at_q at_c at_x after sees_c (beyond.sees C x at_c at_x in_c in_x)
           ]
 
     -- so it sees the triangle through a cone that holds just the points in line with c
-    ray_cone : (c a b : Point) → IsInTri corners t (whole c) → IsInTri corners t (whole a) → IsInTri corners t (whole b) → Sees corners Q (whole c)
-        → ((y : Triple) → IsPoint y → On y R L → Sees corners Q y → IsStraight Q (whole c) y) → IsStraight Q (whole b) (whole a)
+    ray_cone : (c a b : Point) → IsInTri corners t (whole c) → IsInTri corners t (whole a) → IsInTri corners t (whole b)
+        → Sees corners Q (whole c) → ((y : Triple) → IsPoint y → On y R L → Sees corners Q y → IsStraight Q (whole c) y)
+        → IsStraight Q (whole b) (whole a)
         → ((x : Triple) → IsPoint x → IsInTri corners t x → Holds q (record { left = a; right = b }) x ↔ IsStraight Q (whole c) x)
         → IsSeenThrough corners t q (record { left = a; right = b })
     ray_cone c a b in_c in_a in_b sees_c line flat same = record {
@@ -102,7 +99,7 @@ module _ (corners : List Point) (t : Tri) (q l r : Point) (behind : IsBehind cor
     not_within : ¬ IsInTri corners t Q
     not_within in_q =
         let at_q = whole_is_point q in
-        let over = (behind.seen_over Q at_q in_q).0 (behind.sees Q Q at_q at_q in_q in_q) in
+        let over = (beyond.seen_over Q at_q in_q).0 (beyond.sees Q Q at_q at_q in_q in_q) in
         let y = over.point in
         let same = combination_of_same y Q Q (same_refl Q) (combination_of y Q Q over.rational at_q at_q over.on_way) in
         let on = on_same_point over.rational same over.on_side in
@@ -118,7 +115,7 @@ module _ (corners : List Point) (t : Tri) (q l r : Point) (behind : IsBehind cor
           | inl e ↦ subst (λ p. On (whole p) R L) (sym e) (on_last_end R L)
           | inr e ↦ subst (λ p. On (whole p) R L) (sym e) (on_first_end R L)
         ] in
-        let in_c = behind.side C at_c on_c in
+        let in_c = beyond.side C at_c on_c in
         ray_cone not_within c c c in_c in_c in_c ((seen C at_c on_c).1 (same_refl C))
         (λ y at_y on sees. same_straight Q C y C at_c ((seen y at_y on).0 sees) (determinant_same_last Q C))
         (determinant_same_last Q C)
@@ -143,13 +140,13 @@ module _ (corners : List Point) (t : Tri) (q l r : Point) (behind : IsBehind cor
             λ sees. record {
               not_left = λ h. not_both_positive h (mean_not_positive w.k w.l w.m _ _ _ w.k_positive w.l_nonnegative w.m_nonnegative
                   (determinant_along_first Q R L w L x)
-                  (turned_not_positive (determinant_swap_first L R x) (not_negative (behind.not_before x in_x)))
+                  (turned_not_positive (determinant_swap_first L R x) (not_negative (beyond.not_before x in_x)))
                   (zero_not_positive (determinant_same_first L x)));
               not_right = λ h. not_both h (mean_not_negative w.k w.l w.m _ _ _ w.k_positive w.l_nonnegative w.m_nonnegative
                   (determinant_along_first Q R L w R x)
-                  (zero_not_negative (determinant_same_first R x)) (not_negative (behind.not_before x in_x)));
+                  (zero_not_negative (determinant_same_first R x)) (not_negative (beyond.not_before x in_x)));
             },
-            λ holds. behind.sees Q x at_q at_x in_q in_x,
+            λ holds. beyond.sees Q x at_q at_x in_q in_x,
           );
           in_order = λ right. negative_not_zero right flat;
           place = inl in_q;
@@ -173,7 +170,7 @@ module _ (corners : List Point) (t : Tri) (q l r : Point) (behind : IsBehind cor
     side_cone = elim (in_or_not (vertex corners t.a) (vertex corners t.b) (vertex corners t.c) Q) [
       | inl in_q ↦
           let line : IsStraight L R Q = straight_swap_first R L Q (straight_shift Q R L flat) in
-          on_side_cone (behind.on_line Q (whole_is_point q) in_q line) in_q
+          on_side_cone (beyond.on_line Q (whole_is_point q) in_q line) in_q
       | inr off ↦
           let ahead = front off in
           ray_cone off l l r in_l in_l in_r (seen L (whole_is_point l) (on_last_end R L))

@@ -6,11 +6,12 @@ use Rattle.integer_algebra.proofs.Certificate.{product_zero}
 use Rattle.integer_algebra.proofs.Laws.{mul_comm, neg-mul}
 use Rattle.integer_algebra.proofs.SignSteps.{positive_not_zero, weak, weak_order}
 use Rattle.integer_algebra.proofs.Signs.{factor_negative, factor_nonnegative, factor_nonpositive, factor_positive, factor_zero, lt_or_le}
-use Rattle.integer_algebra.proofs.Signs.{mul_negative, mul_nonnegative, mul_nonpositive, mul_positive}
+use Rattle.integer_algebra.proofs.Signs.{mul_negative, mul_negatives, mul_nonnegative, mul_nonpositive, mul_nonpositives, mul_positive}
 
 -- ---- a bound and the two ends of a side, all in front
 
-module _ (gc rl gr cl gl cr : ℤ) (e : gc *ℤ rl -ℤ gr *ℤ cl +ℤ gl *ℤ cr ≡ pos 0) (hc : pos 0 <ℤ gc) (hr : pos 0 <ℤ gr) (hl : pos 0 <ℤ gl) where
+module _ (gc rl gr cl gl cr : ℤ) (e : gc *ℤ rl -ℤ gr *ℤ cl +ℤ gl *ℤ cr ≡ pos 0)
+    (hc : pos 0 <ℤ gc) (hr : pos 0 <ℤ gr) (hl : pos 0 <ℤ gl) where
   -- where the right end is left of the bound, so is the left one,
   pub left_too : pos 0 ≤ℤ rl → pos 0 <ℤ cr → pos 0 <ℤ cl
   left_too h right = factor_positive gr cl hr (omega (arith, ints, mul_nonnegative gc rl (weak hc) h, mul_positive gl cr hl right))
@@ -28,7 +29,8 @@ module _ (gc rl gr cl gl cr : ℤ) (e : gc *ℤ rl -ℤ gr *ℤ cl +ℤ gl *ℤ 
 
 -- ---- two ends in line, and a point
 
-module _ (gl rx gr lx gx lr : ℤ) (e : gl *ℤ rx -ℤ gr *ℤ lx +ℤ gx *ℤ lr ≡ pos 0) (hl : pos 0 <ℤ gl) (hr : pos 0 <ℤ gr) (none : lr ≡ pos 0) where
+module _ (gl rx gr lx gx lr : ℤ) (e : gl *ℤ rx -ℤ gr *ℤ lx +ℤ gx *ℤ lr ≡ pos 0)
+    (hl : pos 0 <ℤ gl) (hr : pos 0 <ℤ gr) (none : lr ≡ pos 0) where
   -- not left of the one and not right of the other, it is in line with them
   pub in_line : lx ≤ℤ pos 0 → pos 0 ≤ℤ rx → lx ≡ pos 0
   in_line left right =
@@ -42,8 +44,8 @@ module _ (gl rx gr lx gx lr : ℤ) (e : gl *ℤ rx -ℤ gr *ℤ lx +ℤ gx *ℤ 
 -- ---- a side, and a point beyond it
 
 -- beyond the side, the point is more to the left of the right end than of the left one
-pub beyond_side : (hx lx rx rl w : ℤ) → hx *ℤ pos 1 -ℤ lx *ℤ pos 1 +ℤ rx *ℤ pos 1 -ℤ rl *ℤ w ≡ pos 0 → hx ≤ℤ pos 0 → pos 0 <ℤ rl → pos 0 <ℤ w
-    → lx <ℤ rx
+pub beyond_side : (hx lx rx rl w : ℤ) → hx *ℤ pos 1 -ℤ lx *ℤ pos 1 +ℤ rx *ℤ pos 1 -ℤ rl *ℤ w ≡ pos 0
+    → hx ≤ℤ pos 0 → pos 0 <ℤ rl → pos 0 <ℤ w → lx <ℤ rx
 beyond_side hx lx rx rl w e h up at = omega (arith, ints, mul_positive rl w up at)
 
 -- a bound that reaches the side
@@ -55,12 +57,14 @@ module _ (cr lx cl rx cx rl : ℤ) (e : cr *ℤ lx -ℤ cl *ℤ rx +ℤ cx *ℤ 
     | inr h ↦ h
     | inl h ↦
         let past : pos 0 <ℤ rx = omega (arith, ints) in
-        let last = mul_nonpositive rl cx (weak up) hx in
+        let last : (cx *ℤ rl) ≤ℤ pos 0 = rw (mul_comm cx rl) (mul_nonpositive rl cx (weak up) hx) in
         elim (lt_or_le cr (pos 0)) [
-          | inl k ↦ absurd (omega (arith, ints, e, mul_comm cx rl, mul_comm cr lx, mul_negative lx cr h k, mul_nonnegative cl rx hl (weak past), last))
+          | inl k ↦
+              let first : (cr *ℤ lx) <ℤ pos 0 = rw (mul_comm cr lx) (mul_negative lx cr h k) in
+              absurd (omega (arith, ints, first, mul_nonnegative cl rx hl (weak past), last))
           | inr k ↦
-              let some : pos 0 <ℤ cl = omega (arith, ints) in
-              absurd (omega (arith, ints, e, mul_comm cx rl, mul_comm cr lx, mul_nonpositive lx cr (weak h) hr, mul_positive cl rx some past, last))
+              let first : (cr *ℤ lx) ≤ℤ pos 0 = rw (mul_comm cr lx) (mul_nonpositive lx cr (weak h) hr) in
+              absurd (omega (arith, ints, first, mul_positive cl rx (omega (arith, ints)) past, last))
         ]
   ]
 
@@ -69,14 +73,12 @@ module _ (cr lx cl rx cx rl : ℤ) (e : cr *ℤ lx -ℤ cl *ℤ rx +ℤ cx *ℤ 
   not_past_right hx = elim (lt_or_le rx (pos 0)) [
     | inr h ↦ h
     | inl h ↦
-        let past : pos 0 <ℤ neg_ℤ lx = omega (arith, ints) in
-        let last = mul_nonnegative rl cx (weak up) hx in
-        let first : neg_ℤ lx *ℤ cr ≡ neg_ℤ (cr *ℤ lx) = omega (arith, ints, neg-mul lx cr, mul_comm lx cr) in
+        let past : lx <ℤ pos 0 = omega (arith, ints) in
+        let last : pos 0 ≤ℤ (cx *ℤ rl) = rw (mul_comm cx rl) (mul_nonnegative rl cx (weak up) hx) in
         elim (lt_or_le cr (pos 0)) [
-          | inl k ↦ absurd (omega (arith, ints, e, mul_comm cx rl, first, mul_negative (neg_ℤ lx) cr past k, mul_nonpositive cl rx hl (weak_order h), last))
+          | inl k ↦ absurd (omega (arith, ints, mul_negatives cr lx k past, mul_nonpositive cl rx hl (weak_order h), last))
           | inr k ↦
-              let some : pos 0 <ℤ cl = omega (arith, ints) in
-              absurd (omega (arith, ints, e, mul_comm cx rl, first, mul_nonpositive (neg_ℤ lx) cr (weak past) hr, mul_negative cl rx some h, last))
+              absurd (omega (arith, ints, mul_nonpositives cr lx hr (weak_order past), mul_negative cl rx (omega (arith, ints)) h, last))
         ]
   ]
 
@@ -95,17 +97,22 @@ module _ (k l m y z x : ℤ) (hm : pos 0 <ℤ m) (none : z ≡ pos 0) (e : k *�
   pub in_line_ahead : y ≡ pos 0 → x ≡ pos 0
   in_line_ahead h = factor_zero m x (positive_not_zero hm) (omega (arith, ints, product_zero l none, product_zero k h))
 
--- ---- sums
+-- ---- numbers
+
+-- one that is neither positive nor negative is 0
+pub squeezed : {z : ℤ} → z ≤ℤ pos 0 → pos 0 ≤ℤ z → z ≡ pos 0
+squeezed h k = omega (arith, ints)
 
 -- a number less a negative multiple of a positive one
 pub ahead_of : (d m s w : ℤ) → d ≡ m -ℤ s *ℤ w → pos 0 ≤ℤ m → s <ℤ pos 0 → pos 0 <ℤ w → pos 0 <ℤ d
 ahead_of d m s w e hm hs hw = omega (arith, ints, mul_comm s w, mul_negative w s hw hs)
 
 -- the value f of one ray on the bound of another, where the first is not right of the second
-pub bound_side : (f rl ba fr fl gr gl : ℤ) → ba *ℤ rl -ℤ gr *ℤ fl +ℤ gl *ℤ fr ≡ pos 0 → pos 1 *ℤ f ≡ gl *ℤ fr +ℤ neg_ℤ gr *ℤ fl
+pub bound_side : (f rl ba fr fl gr gl : ℤ) → ba *ℤ rl -ℤ gr *ℤ fl +ℤ gl *ℤ fr ≡ pos 0 → pos 1 *ℤ f ≡ neg_ℤ gr *ℤ fl +ℤ gl *ℤ fr
     → pos 0 ≤ℤ ba → pos 0 <ℤ rl → f ≤ℤ pos 0
 bound_side f rl ba fr fl gr gl e sum h up = omega (arith, ints, neg-mul gr fl, mul_nonnegative ba rl h (weak up))
 
 -- a value at one triple of a point, by the value at another
 pub same_not_positive : (f g v w : ℤ) → f *ℤ w ≡ g *ℤ v → pos 0 <ℤ v → pos 0 <ℤ w → g ≤ℤ pos 0 → f ≤ℤ pos 0
-same_not_positive f g v w e hv hw h = factor_nonpositive w f hw (omega (arith, ints, mul_comm w f, mul_comm g v, mul_nonpositive v g (weak hv) h))
+same_not_positive f g v w e hv hw h =
+    factor_nonpositive w f hw (omega (arith, ints, mul_comm w f, mul_comm g v, mul_nonpositive v g (weak hv) h))

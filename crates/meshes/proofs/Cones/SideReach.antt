@@ -1,6 +1,6 @@
 -- Sight over a side at the end of a walk: into the triangle beyond it, and of the side itself from the other side of its line.
-use Rattle.std.proofs.Common.{◌≡◌, ◌⊎◌, ◌↔◌, inl, inr, sym, ap, subst, ◌∙◌, List, [], ◌∷◌, ◌++◌, length, get_or, length-append, ℕ, ◌+◌, ◌-◌, ◌<◌}
-use Rattle.std.proofs.Common.{arith}
+use Rattle.std.proofs.Common.{◌≡◌, ◌⊎◌, ◌↔◌, inl, inr, sym, ap, subst, ◌∙◌, List, [], ◌∷◌, ◌++◌, length, get_or, length-append, arith}
+use Rattle.std.proofs.Common.{ℕ, ◌+◌, ◌-◌, ◌<◌}
 use Rattle.std.proofs.lemmas.Bool.{cases_lt}
 use Rattle.std.proofs.lemmas.List.{get_or_append_left, get_or_push}
 use Rattle.std.specs.List.{range_with_len}
@@ -10,7 +10,7 @@ use Rattle.plane.proofs.Segments.{first_end_on_line, on_is_straight, on_reversed
 use Rattle.plane.proofs.Turns.{determinant_same_ends, determinant_same_last, determinant_swap_first}
 use Rattle.plane.specs.Point.{IsPoint, IsSame, Point, Triple, whole}
 use Rattle.plane.specs.Segment.{Meet, On}
-use Rattle.plane.specs.Turn.{IsRight, IsStraight}
+use Rattle.plane.specs.Turn.{IsRight, IsStraight, determinant}
 use Rattle.rings.specs.Ring.{vertex}
 use Rattle.rings.specs.Sees.{Sees}
 use Rattle.ring_laws.proofs.Triangles.{not_negative, on_first_side}
@@ -31,7 +31,7 @@ pub record IsSeenOver (corners : List Point) (q l r : Point) (x : Triple) : Type
   pub seen : Sees corners (whole q) point
 
 -- a triangle on the right of its side from r to l, into which q sees over that side alone
-pub record IsBehind (corners : List Point) (t : Tri) (q l r : Point) : Type 0 where
+pub record IsBeyondSide (corners : List Point) (t : Tri) (q l r : Point) : Type 0 where
   pub side : (y : Triple) → IsPoint y → On y (whole r) (whole l) → IsInTri corners t y
   pub not_before : (x : Triple) → IsInTri corners t x → ¬ IsRight (whole l) (whole r) x
   pub on_line : (x : Triple) → IsPoint x → IsInTri corners t x → IsStraight (whole l) (whole r) x → On x (whole r) (whole l)
@@ -45,8 +45,9 @@ module _ (corners : List Point) (tris : List Tri) (fits : Fits corners tris) (q 
   end_below to walk w = subst (λ n. n < length tris) w.last (w.is_walk.in_list (length walk - 1) (omega (arith, w.is_walk.some)))
 
   -- what q sees in the last triangle of a walk it sees over each side that the walk crosses
-  meets_over : (to : ℕ) (walk : List ℕ) → IsWalkBetween tris home to walk → (m i j : ℕ) → CrossesSide tris walk m i j → (x : Triple) → IsPoint x
-      → IsInTri corners (tri_at tris to) x → Sees corners (whole q) x → Meet (whole q) x (whole (vertex corners i)) (whole (vertex corners j))
+  meets_over : (to : ℕ) (walk : List ℕ) → IsWalkBetween tris home to walk → (m i j : ℕ) → CrossesSide tris walk m i j
+      → (x : Triple) → IsPoint x → IsInTri corners (tri_at tris to) x → Sees corners (whole q) x
+      → Meet (whole q) x (whole (vertex corners i)) (whole (vertex corners j))
   meets_over to walk w m i j c x at_x in_x sees =
       (sleeve_law corners tris fits walk w.is_walk (whole q) x (whole_is_point q) at_x
       (subst (λ n. IsInTri corners (tri_at tris n) (whole q)) (sym w.first) in_home)
@@ -63,7 +64,8 @@ module _ (corners : List Point) (tris : List Tri) (fits : Fits corners tris) (q 
         let long = length-append walk (l ∷ []) in
         let this : get_or (walk ++ l ∷ []) (length walk - 1) 0 ≡ k =
         get_or_append_left walk (l ∷ []) 0 (length walk - 1) (omega (arith, some)) ∙ there.last in
-        let next : get_or (walk ++ l ∷ []) (length walk - 1 + 1) 0 ≡ l = get_or_push walk l 0 (length walk - 1 + 1) (omega (arith, some)) in
+        let next : get_or (walk ++ l ∷ []) (length walk - 1 + 1) 0 ≡ l =
+        get_or_push walk l 0 (length walk - 1 + 1) (omega (arith, some)) in
         record {
           has_next = omega (arith, some, long);
           of_this = inl (subst (λ n. HasSide (tri_at tris n) i j) (sym this) has);
@@ -85,14 +87,14 @@ module _ (corners : List Point) (tris : List Tri) (fits : Fits corners tris) (q 
           },
       λ over.
           let l_below = end_below l (walk ++ l ∷ []) on in
-          let in_y = (opposite corners (tri_at tris l) (fits.triangles l l_below).counterclockwise j i has_beyond).1.side over.point over.rational
-          (on_reversed over.point (whole (vertex corners i)) (whole (vertex corners j)) over.on_side) in
+          let in_y = (opposite corners (tri_at tris l) (fits.triangles l l_below).counterclockwise j i has_beyond).1.side
+          over.point over.rational (on_reversed over.point (whole (vertex corners i)) (whole (vertex corners j)) over.on_side) in
           sees_on corners (whole q) over.point x (whole_is_point q) over.rational at_x over.on_way over.seen
           (sees_in_triangle corners tris fits l l_below over.point x over.rational at_x in_y in_x),
     )
 
-    pub is_behind : IsBehind corners (tri_at tris l) q (vertex corners j) (vertex corners i)
-    is_behind =
+    pub is_beyond_side : IsBeyondSide corners (tri_at tris l) q (vertex corners j) (vertex corners i)
+    is_beyond_side =
         let l_below = end_below l (walk ++ l ∷ []) on in
         let t = tri_at tris l in
         let R = whole (vertex corners i) in
@@ -103,9 +105,10 @@ module _ (corners : List Point) (tris : List Tri) (fits : Fits corners tris) (q 
           side = λ y at_y on_y. (opposite corners t left j i has_beyond).1.side y at_y (on_reversed y R L on_y);
           not_before = λ x in_x. not_right_of_side corners t x in_x j i has_beyond;
           on_line = λ x at_x in_x straight.
+              let closed = closed_of_sides corners t left j i m has_beyond next x in_x in
               on_reversed x L R
-              (on_first_side (vertex corners j) (vertex corners i) (vertex corners m) (turns_left corners t left j i m has_beyond next) x at_x
-              (closed_of_sides corners t left j i m has_beyond next x in_x) straight);
+              (on_first_side (vertex corners j) (vertex corners i) (vertex corners m)
+              (turns_left corners t left j i m has_beyond next) x at_x closed straight);
           sees = sees_in_triangle corners tris fits l l_below;
           seen_over = seen_beyond;
         }
@@ -156,7 +159,8 @@ module _ (corners : List Point) (tris : List Tri) (fits : Fits corners tris) (q 
       | inr short ↦
           let one : length walk - 1 ≡ 0 = omega arith in
           let same : home ≡ k = sym there.first ∙ ap (λ n. get_or walk n 0) (sym one) ∙ there.last in
-          absurd (not_right_of_side corners (tri_at tris k) (whole q) (subst (λ n. IsInTri corners (tri_at tris n) (whole q)) same in_home) i j has right)
+          let in_k = subst (λ n. IsInTri corners (tri_at tris n) (whole q)) same in_home in
+          absurd (not_right_of_side corners (tri_at tris k) (whole q) in_k i j has right)
     ]
 
     -- the side by which it comes into the last triangle is another side, so an end is all that q sees
@@ -166,19 +170,23 @@ module _ (corners : List Point) (tris : List Tri) (fits : Fits corners tris) (q 
         let e : place + 1 ≡ length walk - 1 = omega (arith, two_or_more) in
         let before : place + 1 < length walk = omega (arith, two_or_more) in
         let share = there.is_walk.sharing place before in
-        let entry = subst (λ n. HasSideBetween (tri_at tris n) share.i share.j) (ap (λ n. get_or walk n 0) e ∙ there.last) share.of_second in
+        let entry = subst (λ n. HasSideBetween (tri_at tris n) share.i share.j) (ap (λ n. get_or walk n 0) e ∙ there.last)
+        share.of_second in
         let on_entry : (y : Triple) → IsPoint y → On y R L → Sees corners (whole q) y
         → On y (whole (vertex corners share.i)) (whole (vertex corners share.j)) = λ y at_y on_y sees.
         let k_below = end_below k walk there in
         let all = range_with_len 0 (length corners) in
-        let meet = meets_over k walk there place share.i share.j (record { has_next = before; of_this = inl share.of_first; of_next = share.of_second })
-        y at_y (side_in corners all tris fits k i j k_below (inl has) y at_y on_y) sees in
+        let crosses : CrossesSide tris walk place share.i share.j =
+        record { has_next = before; of_this = inl share.of_first; of_next = share.of_second } in
+        let in_y = side_in corners all tris fits k i j k_below (inl has) y at_y on_y in
+        let meet = meets_over k walk there place share.i share.j crosses y at_y in_y sees in
         let z = meet.point in
         let in_z = side_in corners all tris fits k share.i share.j k_below entry z meet.rational meet.on_second in
         let same = first_end_on_line z y (whole q) L R meet.rational at_y (whole_is_point q) (on_reversed z (whole q) y meet.on_first)
         (on_is_straight y L R at_y (whole_is_point (vertex corners j)) (whole_is_point (vertex corners i)) (on_reversed y R L on_y))
         (turned_positive (determinant_swap_first R L (whole q)) right)
-        (turned_not_positive (determinant_swap_first R L z) (not_negative (not_right_of_side corners (tri_at tris k) z in_z i j has))) in
+        (turned_not_positive {d = determinant R L z} (determinant_swap_first R L z)
+        (not_negative (not_right_of_side corners (tri_at tris k) z in_z i j has))) in
         on_same_point meet.rational same meet.on_second in
         elim entry [
           | inl side ↦ by_side share.i share.j side
@@ -188,5 +196,6 @@ module _ (corners : List Point) (tris : List Tri) (fits : Fits corners tris) (q 
           | inr side ↦ by_side share.j share.i side
               (λ same. outer place before (inr (subst (λ n. HasSide (walk_tri tris walk place) n i) same.1
               (subst (λ n. HasSide (walk_tri tris walk place) share.i n) same.0 share.of_first))))
-              (λ y at_y on_y sees. on_reversed y (whole (vertex corners share.i)) (whole (vertex corners share.j)) (on_entry y at_y on_y sees))
+              (λ y at_y on_y sees.
+              on_reversed y (whole (vertex corners share.i)) (whole (vertex corners share.j)) (on_entry y at_y on_y sees))
         ]

@@ -77,7 +77,8 @@ module _ (corners : List Point) (t : Tri) (q l r : Point) (facing : IsFacing cor
             | inl end ↦ same_trans (whole_is_point l) (end y at_y on_y sees) (same_sym (end C at_c on_c sees_c))
             | inr end ↦ same_trans (whole_is_point r) (end y at_y on_y sees) (same_sym (end C at_c on_c sees_c))
           ],
-          λ same. sees_before corners (whole q) y C (whole_is_point q) at_y at_c (on_same_point at_c (same_sym same) (on_last_end (whole q) C)) sees_c,
+          λ same. sees_before corners (whole q) y C (whole_is_point q) at_y at_c
+              (on_same_point at_c (same_sym same) (on_last_end (whole q) C)) sees_c,
         ))
 
     -- where the one end is not held, nothing is seen
