@@ -30,7 +30,8 @@ divided m n g some is =
       one (m / g),
       one (n / g),
       λ d p q.
-          let common : g * d ∣ g = is.2 (g * d) (subst (λ k. g * d ∣ k) first (mul-dvd-mul_left d g p)) (subst (λ k. g * d ∣ k) second (mul-dvd-mul_left d g q)) in
+          let common : g * d ∣ g = is.2 (g * d) (subst (λ k. g * d ∣ k) first (mul-dvd-mul_left d g p))
+          (subst (λ k. g * d ∣ k) second (mul-dvd-mul_left d g q)) in
           dvd_of_mul-dvd-mul_left d some (subst (λ k. g * d ∣ k) (sym (mul-one g)) common),
     )
 
@@ -59,7 +60,8 @@ same_second a d b e h k same =
     (divides_other b e d k (subst (λ n. e ∣ n) same (dvd-mul_left e a)))
 
 -- a number is taken if two tests pass
-chosen : {A B : Type 0} (s t : Bool) (k rest g : ℕ) → Decides s A → Decides t B → (A → B → k ≡ g) → (¬ (A × B) → rest ≡ g) → (if s && t then k else rest) ≡ g
+chosen : {A B : Type 0} (s t : Bool) (k rest g : ℕ) → Decides s A → Decides t B → (A → B → k ≡ g)
+    → (¬ (A × B) → rest ≡ g) → (if s && t then k else rest) ≡ g
 chosen true true k rest g first second taken passed = taken (first.0 refl) (second.0 refl)
 chosen true false k rest g first second taken passed = passed (λ h. true≢false (sym (second.1 h.1)))
 chosen false t k rest g first second taken passed = passed (λ h. true≢false (sym (first.1 h.0)))

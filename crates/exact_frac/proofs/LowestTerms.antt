@@ -52,8 +52,10 @@ reduced num den g positive some is =
     let whole_num : a *ℤ pos g ≡ num = exact num g is.0 in
     let whole_den : d *ℤ pos g ≡ den = exact den g is.1 in
     let product : pos 0 <ℤ (pos g *ℤ d) = rw (mul_comm (pos g) d, whole_den) positive in
-    let lowest : IsGcd (unsigned_abs a) (unsigned_abs d) 1 = rw (abs_div num g, abs_div den g) (divided (unsigned_abs num) (unsigned_abs den) g some is) in
-    (record { positive = factor_positive (pos g) d (positive_number g some) product; lowest = lowest }, across a d (pos g) num den whole_num whole_den)
+    let lowest : IsGcd (unsigned_abs a) (unsigned_abs d) 1 = rw (abs_div num g, abs_div den g) (divided _ _ g some is) in (
+      record { positive = factor_positive (pos g) d (positive_number g some) product; lowest = lowest },
+      across a d (pos g) num den whole_num whole_den,
+    )
 
 -- the parts in lowest terms are so, and have the value
 pub lowest_terms : (num den : ℤ) → pos 0 <ℤ den → IsLowest (lowest_num num den) (lowest_den num den) × (lowest_num num den *ℤ den ≡ num *ℤ lowest_den num den)
@@ -71,7 +73,8 @@ same_positive (negsuc m) e h k same = absurd (omega (arith, ints))
 -- a value has one fraction in lowest terms
 pub one_lowest : (a d b e : ℤ) → IsLowest a d → IsLowest b e → a *ℤ e ≡ b *ℤ d → (a ≡ b) × (d ≡ e)
 one_lowest a d b e h k same =
-    let sizes : unsigned_abs a * unsigned_abs e ≡ unsigned_abs b * unsigned_abs d = sym (unsigned_abs-mul a e) ∙ ap unsigned_abs same ∙ unsigned_abs-mul b d in
+    let sizes : unsigned_abs a * unsigned_abs e ≡ unsigned_abs b * unsigned_abs d =
+    sym (unsigned_abs-mul a e) ∙ ap unsigned_abs same ∙ unsigned_abs-mul b d in
     let same_den : d ≡ e = same_positive d e h.positive k.positive (same_second _ _ _ _ h.lowest k.lowest sizes) in
     let products : d *ℤ a ≡ d *ℤ b = mul_comm d a ∙ ap (λ z. a *ℤ z) same_den ∙ same ∙ mul_comm b d in
     (cancel_equal a b d h.positive products, same_den)
@@ -92,7 +95,8 @@ lowest_of num den a d positive h same =
     (fraction_eq_trans a d num den (lowest_num num den) (lowest_den num den) h.positive positive is.positive same (sym value))
 
 -- and two fractions with one value have the same parts in lowest terms
-pub same_lowest : (x w y v : ℤ) → pos 0 <ℤ w → pos 0 <ℤ v → x *ℤ v ≡ y *ℤ w → (lowest_num x w ≡ lowest_num y v) × (lowest_den x w ≡ lowest_den y v)
+pub same_lowest : (x w y v : ℤ) → pos 0 <ℤ w → pos 0 <ℤ v → x *ℤ v ≡ y *ℤ w
+    → (lowest_num x w ≡ lowest_num y v) × (lowest_den x w ≡ lowest_den y v)
 same_lowest x w y v hw hv same =
     let (is, value) = lowest_terms x w hw in
     lowest_of y v (lowest_num x w) (lowest_den x w) hv is

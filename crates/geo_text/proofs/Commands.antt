@@ -49,12 +49,14 @@ pub pairs_of_after : (numbers : List ℤ) (place : ℕ) → length numbers ≤ p
 pairs_of_after numbers place h = nil_from_length (pairs_of (drop place numbers)) (omega (arith, length-pairs_of (drop place numbers), length-drop place numbers))
 
 -- what was read of fields with no fault are their points
-pub points_read : (fields : List (List ℕ)) (fault : Option Bad) (numbers : List ℤ) (points : List Point) → fault ≡ None → numbers ≡ map number_of fields
+pub points_read : (fields : List (List ℕ)) (fault : Option Bad) (numbers : List ℤ) (points : List Point)
+    → fault ≡ None → numbers ≡ map number_of fields
     → points ≡ pairs_of numbers → Ok points ≡ unless fault (points_of fields)
 points_read fields fault numbers points none read paired = rw (none, paired, read, points_are_pairs fields) refl
 
 -- two of them next to each other are a point
-pub point_read : (fields : List (List ℕ)) (numbers : List ℤ) (i : ℕ) (x y : ℤ) (p : Point) → numbers ≡ map number_of fields → i + 1 < length numbers
+pub point_read : (fields : List (List ℕ)) (numbers : List ℤ) (i : ℕ) (x y : ℤ) (p : Point) → numbers ≡ map number_of fields
+    → i + 1 < length numbers
     → x ≡ get_or numbers i x → y ≡ get_or numbers (i + 1) y → p ≡ record { x = x; y = y } → p ≡ point_of (drop i fields)
 point_read fields numbers i x y p read within first second e =
     let count : length numbers ≡ length fields = ap length read ∙ length-map fields number_of in
@@ -63,16 +65,19 @@ point_read fields numbers i x y p read within first second e =
     rw (get_or-drop i fields 0 [], get_or-drop i fields 1 [], add-zero i, ← same_x, ← same_y) e
 
 -- a command is made of what was read, or refused as that was
-pub made : {T : Type 0} (make : T → Command) (fault : Option Bad) (value found : T) → Ok found ≡ unless fault value → Ok (make found) ≡ unless fault (make value)
+pub made : {T : Type 0} (make : T → Command) (fault : Option Bad) (value found : T) → Ok found ≡ unless fault value
+    → Ok (make found) ≡ unless fault (make value)
 made make None value found e = let same : found ≡ value = cc in rw same refl
 made make (Some bad) value found e = cc
 
-pub refused : {T U : Type 0} (fault : Option Bad) (value : T) (command : U) (found : Bad) → Err found ≡ unless fault value → Err found ≡ unless fault command
+pub refused : {T U : Type 0} (fault : Option Bad) (value : T) (command : U) (found : Bad) → Err found ≡ unless fault value
+    → Err found ≡ unless fault command
 refused None value command found e = cc
 refused (Some bad) value command found e = let same : found ≡ bad = cc in rw same refl
 
 -- a list that is not refused is neither too short nor too long
-in_bounds : (odd few many : Bool) (rest : Option Bad) → (if odd then Some bad.Fields else if few then Some bad.Few else if many then Some bad.Many else rest) ≡ None
+in_bounds : (odd few many : Bool) (rest : Option Bad)
+    → (if odd then Some bad.Fields else if few then Some bad.Few else if many then Some bad.Many else rest) ≡ None
     → (few ≡ false) × (many ≡ false)
 in_bounds true few many rest e = cc
 in_bounds false true many rest e = cc
@@ -128,7 +133,8 @@ reading_by_word name asked some same (word ∷ fields) e found h =
     IfOk-weaker found _ _ (λ reading read. read ∙ rw is (same fields)) h
 
 -- a record whose first field is no word that is answered, and a record with no field
-pub reading_of_other : (fields : List (List ℕ)) → bytes_eq (get_or fields 0 []) (codes "polygon") ≡ false → bytes_eq (get_or fields 0 []) (codes "inside") ≡ false
+pub reading_of_other : (fields : List (List ℕ)) → bytes_eq (get_or fields 0 []) (codes "polygon") ≡ false
+    → bytes_eq (get_or fields 0 []) (codes "inside") ≡ false
     → bytes_eq (get_or fields 0 []) (codes "check") ≡ false → bytes_eq (get_or fields 0 []) (codes "path") ≡ false
     → reading_of fields ≡ Err (if list_any (λ later. bytes_eq later (get_or fields 0 [])) later_words then bad.Later else bad.Word)
 reading_of_other [] no_polygon no_inside no_check no_path = refl

@@ -16,7 +16,8 @@ lowest_text num den a d positive lowest same =
 pub lowest_hom_text : (p : Triple) (a d b e : ℤ) → IsPoint p → IsLowest a d → a *ℤ p.W ≡ p.X *ℤ d → IsLowest b e → b *ℤ p.W ≡ p.Y *ℤ e
     → codes "," ++ terms_text a d ++ codes "," ++ terms_text b e ≡ hom_text p
 lowest_hom_text p a d b e positive lowest_x same_x lowest_y same_y =
-    ap₂ (λ (x y : List ℕ). codes "," ++ x ++ codes "," ++ y) (lowest_text p.X p.W a d positive lowest_x same_x) (lowest_text p.Y p.W b e positive lowest_y same_y)
+    ap₂ (λ (x y : List ℕ). codes "," ++ x ++ codes "," ++ y)
+    (lowest_text p.X p.W a d positive lowest_x same_x) (lowest_text p.Y p.W b e positive lowest_y same_y)
 
 -- two fractions with one value have one text,
 same_fraction_text : (x w y v : ℤ) → pos 0 <ℤ w → pos 0 <ℤ v → x *ℤ v ≡ y *ℤ w → fraction_text x w ≡ fraction_text y v
@@ -27,4 +28,5 @@ same_fraction_text x w y v hw hv same =
 -- and so have two triples of one rational point
 pub same_hom_text : (p q : Triple) → IsPoint p → IsPoint q → IsSame p q → hom_text p ≡ hom_text q
 same_hom_text p q hp hq same =
-    ap₂ (λ (x y : List ℕ). codes "," ++ x ++ codes "," ++ y) (same_fraction_text p.X p.W q.X q.W hp hq same.same_x) (same_fraction_text p.Y p.W q.Y q.W hp hq same.same_y)
+    ap₂ (λ (x y : List ℕ). codes "," ++ x ++ codes "," ++ y)
+    (same_fraction_text p.X p.W q.X q.W hp hq same.same_x) (same_fraction_text p.Y p.W q.Y q.W hp hq same.same_y)

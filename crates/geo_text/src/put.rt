@@ -58,7 +58,8 @@ pub fn put_hom<L: Ledger>(out: &mut Vec<u8>, p: &Hom, steps: &mut Steps<L>) -> R
 
 // Appends two fractions, each behind a comma. Want of memory may leave the front of them.
 fn put_fractions(out: &mut Vec<u8>, x: Frac, y: Frac) -> Result<(), Memory>
-    ensures ok { OnOk result (out.new.items ≡ out.old.items ++ (codes "," ++ terms_text x.num x.den ++ codes "," ++ terms_text y.num y.den)) }
+    ensures ok { OnOk result (out.new.items ≡ out.old.items ++ (codes "," ++ terms_text x.num x.den
+        ++ codes "," ++ terms_text y.num y.den)) }
     ensures err { OnErr result (take (length out.old.items) out.new.items ≡ out.old.items) }
 {
     put_fraction(out, x)?;

@@ -43,7 +43,8 @@ pub fn command(alloc: Global, row: &ByteRecord) -> Result<Result<Command, Bad>, 
 
 // A `polygon` record as a command.
 fn polygon(alloc: Global, row: &ByteRecord) -> Result<Result<Command, Bad>, Memory>
-    ensures { IfOk result (λ reading. reading ≡ unless (list_fault 3 MAX_CORNERS (after_word row.now)) (Command.Polygon (points_of (after_word row.now)))) }
+    ensures { IfOk result (λ reading. reading ≡ unless (list_fault 3 MAX_CORNERS (after_word row.now))
+        (Command.Polygon (points_of (after_word row.now)))) }
 {
     match points(alloc, row, 3, MAX_CORNERS)? {
         Ok(points) => Ok(Ok(Command::Polygon(points))),
@@ -53,7 +54,8 @@ fn polygon(alloc: Global, row: &ByteRecord) -> Result<Result<Command, Bad>, Memo
 
 // An `inside` record as a command.
 fn inside(alloc: Global, row: &ByteRecord) -> Result<Result<Command, Bad>, Memory>
-    ensures { IfOk result (λ reading. reading ≡ unless (fixed_fault 2 (after_word row.now)) (Command.Inside (point_of (after_word row.now)))) }
+    ensures { IfOk result (λ reading. reading ≡ unless (fixed_fault 2 (after_word row.now))
+        (Command.Inside (point_of (after_word row.now)))) }
 {
     match fixed(alloc, row, 2)? {
         Ok(numbers) => Ok(Ok(Command::Inside(point(numbers[0], numbers[1])))),
@@ -63,7 +65,8 @@ fn inside(alloc: Global, row: &ByteRecord) -> Result<Result<Command, Bad>, Memor
 
 // A `check` record as a command.
 fn check(alloc: Global, row: &ByteRecord) -> Result<Result<Command, Bad>, Memory>
-    ensures { IfOk result (λ reading. reading ≡ unless (list_fault 1 MAX_CHAIN (after_word row.now)) (Command.Check (points_of (after_word row.now)))) }
+    ensures { IfOk result (λ reading. reading ≡ unless (list_fault 1 MAX_CHAIN (after_word row.now))
+        (Command.Check (points_of (after_word row.now)))) }
 {
     match points(alloc, row, 1, MAX_CHAIN)? {
         Ok(points) => Ok(Ok(Command::Check(points))),

@@ -29,4 +29,5 @@ returns-in-None c =
     let fields = plain_fields c.args.row.now in
     let count = length-plain_fields c.args.row.now in
     let past : length fields ≤ c.loop-place.place = omega arith in
-    all_read (after_word c.args.row.now) _ c.loop-place.place c.loop-place.numbers (drop_all c.loop-place.place fields past) c.loop-place.invariant.number (rw c.in-None.is at c.loop-place.invariant.range) c.loop-place.invariant.read
+    all_read (after_word c.args.row.now) _ c.loop-place.place c.loop-place.numbers
+    (drop_all c.loop-place.place fields past) c.loop-place.invariant.number (rw c.in-None.is at c.loop-place.invariant.range) c.loop-place.invariant.read

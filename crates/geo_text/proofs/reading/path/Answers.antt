@@ -13,6 +13,8 @@ returns-in-Ok c =
     let fits_2 : FitsSigned w64 c.index-in-Ok.result.now = search rules in
     let fits_3 : FitsSigned w64 c.index-in-Ok-2.result.now = search rules in
     let fits_4 : FitsSigned w64 c.index-in-Ok-3.result.now = search rules in
-    let from = point_read fields c.in-Ok.numbers.items 0 _ _ _ read (omega arith) c.index.ensures c.index-in-Ok.ensures (simp to_z-of_z at c.point-from.ensures) in
-    let to = point_read fields c.in-Ok.numbers.items 2 _ _ _ read (omega arith) c.index-in-Ok-2.ensures c.index-in-Ok-3.ensures (simp to_z-of_z at c.point-to.ensures) in
+    let from = point_read fields c.in-Ok.numbers.items 0 _ _ _ read (omega arith)
+    c.index.ensures c.index-in-Ok.ensures (simp to_z-of_z at c.point-from.ensures) in
+    let to = point_read fields c.in-Ok.numbers.items 2 _ _ _ read (omega arith)
+    c.index-in-Ok-2.ensures c.index-in-Ok-3.ensures (simp to_z-of_z at c.point-to.ensures) in
     rw (none, from, to) refl

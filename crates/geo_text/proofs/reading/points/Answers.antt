@@ -7,4 +7,5 @@ pub returns-in_ok-pairs-in-Ok : goal.returns-in_ok-pairs-in-Ok
 returns-in_ok-pairs-in-Ok c =
     let (none, read, small) = rw c.in-Ok.is at c.in_ok-numbers.ensures in
     let same = rw c.in_default.is at c.list_shape.ensures.fault in
-    points_read (after_word c.args.row.now) _ _ _ (same ∙ none) read (c.of.ensures ∙ c.in_ok-pairs-in-Ok.ensures ∙ ap pairs_of c.deref.ensures.value)
+    points_read (after_word c.args.row.now) _ _ _ (same ∙ none) read
+    (c.of.ensures ∙ c.in_ok-pairs-in-Ok.ensures ∙ ap pairs_of c.deref.ensures.value)
