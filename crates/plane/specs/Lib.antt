@@ -1,6 +1,8 @@
 pub mod Beside
 pub mod Box
 pub mod Cone
+pub mod Convex
+pub mod Cut
 pub mod Line
 pub mod Order
 pub mod Point
