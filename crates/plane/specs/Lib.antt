@@ -8,5 +8,6 @@ pub mod Order
 pub mod Point
 pub mod Region
 pub mod Segment
+pub mod Square
 pub mod Triangle
 pub mod Turn
