@@ -6,6 +6,8 @@ mod cut;
 mod least;
 mod region;
 mod tail;
+#[cfg(test)]
+mod tests;
 
 pub use cut::CutFault;
 pub use region::Region;
