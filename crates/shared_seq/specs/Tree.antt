@@ -21,8 +21,8 @@ DifferByAtMost by l r = (l ≤ r + by) × (r ≤ l + by)
 abbrev pub forked : Tree → Tree → Tree
 forked l r = record { items = l.items ++ r.items; height = max l.height r.height + 1 }
 
--- a tree with the values of two, at most one higher than a fork over what is as high; over two that differ by at most one
--- it is as high as their fork
+-- a tree with the values of two, as high as the higher one or one more; where the two differ by at most one, as high as a
+-- fork over them
 pub record IsJoined (l r tree : Tree) : Type 0 where
   pub items : tree.items ≡ l.items ++ r.items
   pub not_lower : max l.height r.height ≤ tree.height

@@ -11,5 +11,6 @@ returns-clause-items g t c =
     let parts = fork_items _ _ c.in-Fork.left c.in-Fork.right (c.open.ensures.tree ∙ c.deref.ensures) c.in-Fork.is in
     let count = rw c.deref-in-Fork.ensures at c.count-count.ensures.number in
     let more = c.in_ok-right-in-Fork.ensures.items in
-    IfOk-weaker c.balance-else-i-count.result _ _ (λ new joined. joined.items ∙ ap (λ xs. l ++ xs) more
-    ∙ sym (insert_in_right _ l r c.args.i c.count-count.result parts count c.if-i-count.false c.args.value)) c.balance-else-i-count.ensures.joined
+    let whole = insert_in_right c.args.tree.now.value.items l r c.args.i c.count-count.result parts count c.if-i-count.false c.args.value in
+    IfOk-weaker c.balance-else-i-count.result _ _ (λ new joined. joined.items ∙ ap (λ xs. l ++ xs) more ∙ sym whole)
+    c.balance-else-i-count.ensures.joined
