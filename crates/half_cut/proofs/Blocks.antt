@@ -24,7 +24,8 @@ mod_add x i n =
     sym (ap (λ k. k % n) whole ∙ add-mul-mod_self_left (x % n + i) n (x / n))
 
 -- what holds all round from one number on holds of all
-pub all_round : (P : ℕ → Type 0) (n from : ℕ) → ((i : ℕ) → P (n + i) → P i) → from < n → ((i : ℕ) → i < n → P (from + i)) → (i : ℕ) → i < n → P i
+pub all_round : (P : ℕ → Type 0) (n from : ℕ) → ((i : ℕ) → P (n + i) → P i) → from < n → ((i : ℕ) → i < n → P (from + i)) → (i : ℕ) → i <
+    n → P i
 all_round P n from once within all i less = elim (cases_lt i from) [
   | inl before ↦ once i (subst P (omega (arith, before, within)) (all (i + n - from) (omega (arith, before, within))))
   | inr after ↦ subst P (omega (arith, after)) (all (i - from) (omega (arith, less)))
@@ -62,7 +63,8 @@ module _ (turns : List Direction) where
 
     -- with as many as there are up to the next to the right
     pub block_at : (count : ℕ) → count < length turns → right_at turns ((gone + ahead) % length turns + count) ≡ true
-        → ((i : ℕ) → i < count → right_at turns ((gone + ahead) % length turns + i) ≢ true) → IsBlock turns ((gone + ahead) % length turns) count
+        → ((i : ℕ) → i < count → right_at turns ((gone + ahead) % length turns + i) ≢ true) → IsBlock turns
+        ((gone + ahead) % length turns) count
     block_at count rest next stay = record {
       within = mod-lt (gone + ahead) (omega (arith, in_gone));
       some = elim (cases_eq count 0) [

@@ -51,7 +51,8 @@ linked_more cs ls x line h two here before =
         | inr not ↦
             let e : length cs ≡ i + 1 = omega (arith, not, within, corners) in
             let last : i ≡ length ls - 1 = omega (arith, e, h.as_many) in
-            on_at (old_line ls line i (omega (arith, e, h.as_many)) ∙ ap (λ k. line_at ls k) last) (new_corner cs x (i + 1) e) (before (omega (arith, e)))
+            on_at (old_line ls line i (omega (arith, e, h.as_many)) ∙ ap (λ k. line_at ls k) last) (new_corner cs x (i + 1) e)
+            (before (omega (arith, e)))
       ];
     }
 
@@ -76,7 +77,8 @@ linked_first cs ls m h within =
 
 -- ---- what a cut leaves
 
-module _ (cs : List Triple) (ls : List Line) (m : ℕ) (line : Line) (h : AreLinked cs ls) (some : 0 < m) (rest : m ≤ length cs) (two : line.0 ≢ line.1) where
+module _ (cs : List Triple) (ls : List Line) (m : ℕ) (line : Line) (h : AreLinked cs ls) (some : 0 < m) (rest : m ≤ length cs)
+    (two : line.0 ≢ line.1) where
   -- the first some corners, the last with another line
   pub kept_alone : IsOnLine line (corner cs (m - 1)) → AreLinked (take m cs) (take (m - 1) ls ++ line ∷ [])
   kept_alone on =
@@ -92,7 +94,8 @@ module _ (cs : List Triple) (ls : List Line) (m : ℕ) (line : Line) (h : AreLin
       (sym (ap (λ k. corner cs k) before)) (h.goes_on (m - 1 - 1) (omega (arith, before, rest, some)))))
 
   -- and one more
-  pub kept_and_one : (x : Triple) → IsOnLine line x → IsOnLine (line_at ls (m - 1)) x → AreLinked (take m cs ++ x ∷ []) (take m ls ++ line ∷ [])
+  pub kept_and_one : (x : Triple) → IsOnLine line x → IsOnLine (line_at ls (m - 1)) x → AreLinked (take m cs ++ x ∷ [])
+      (take m ls ++ line ∷ [])
   kept_and_one x on before =
       let lines : length (take m ls) ≡ m = length-take-le m ls (omega (arith, rest, h.as_many)) in
       linked_more (take m cs) (take m ls) x line (linked_first cs ls m h rest) two on
@@ -113,9 +116,11 @@ rotated_at xs t i d in_t in_i =
           let k = t + i - length xs in
           let round : t + i ≡ length xs + k = omega (arith, past) in
           let place : i - (length xs - t) ≡ k = omega (arith, past, in_t, in_i) in
-          get_or-append_right (drop t xs) (take t xs) (length xs - t) i d behind (omega (arith, past)) ∙ ap (λ n. get_or (take t xs) n d) place
+          get_or-append_right (drop t xs) (take t xs) (length xs - t) i d behind (omega (arith, past)) ∙ ap (λ n. get_or (take t xs) n d)
+          place
           ∙ get_or-take t xs k d (omega (arith, past, in_t, in_i))
-          ∙ sym (ap (λ n. get_or xs n d) (ap (λ n. n % length xs) round ∙ add-mod_left (length xs) k ∙ mod-eq_of_lt (omega (arith, past, in_t, in_i))))
+          ∙ sym (ap (λ n. get_or xs n d)
+          (ap (λ n. n % length xs) round ∙ add-mod_left (length xs) k ∙ mod-eq_of_lt (omega (arith, past, in_t, in_i))))
     ]
 
 -- the number stays
@@ -178,7 +183,8 @@ module _ (cs : List Triple) (ls : List Line) (t : ℕ) (h : AreLinkedRound cs ls
             let last : length ls' - 1 ≡ length cs - 1 = omega (arith, lines, h.linked.as_many) in
             let in_last : length cs - 1 < length cs = omega (arith, many) in
             let next : (t + 0) % length cs ≡ ((t + (length cs - 1)) % length cs + 1) % length cs =
-            sym (add-mod_left (length cs) (t + 0)) ∙ ap (λ n. n % length cs) (omega (arith, many)) ∙ sym (mod_add (t + (length cs - 1)) 1 (length cs)) in
+            sym (add-mod_left (length cs) (t + 0)) ∙ ap (λ n. n % length cs) (omega (arith, many)) ∙ sym
+            (mod_add (t + (length cs - 1)) 1 (length cs)) in
             on_at (ap (λ n. line_at ls' n) last ∙ line_there (length cs - 1) in_last) (corner_there 0 many ∙ ap (λ n. corner cs n) next)
             (comes_to ((t + (length cs - 1)) % length cs) (there (length cs - 1) in_last));
       }
@@ -187,7 +193,8 @@ module _ (cs : List Triple) (ls : List Line) (t : ℕ) (h : AreLinkedRound cs ls
 
 -- one more corner, to which the last line comes, and from which this line comes to the first
 pub closed_more : (cs : List Triple) (ls : List Line) (x : Triple) (line : Line) → AreLinked cs ls → 0 < length cs → line.0 ≢ line.1
-    → IsOnLine (line_at ls (length ls - 1)) x → IsOnLine line x → IsOnLine line (corner cs 0) → AreLinkedRound (cs ++ x ∷ []) (ls ++ line ∷ [])
+    → IsOnLine (line_at ls (length ls - 1)) x → IsOnLine line x → IsOnLine line (corner cs 0) → AreLinkedRound (cs ++ x ∷ [])
+    (ls ++ line ∷ [])
 closed_more cs ls x line h some two before here round = record {
   linked = linked_more cs ls x line h two here (λ _. before);
   closes = λ _.

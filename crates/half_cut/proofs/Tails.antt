@@ -23,14 +23,16 @@ positive_of_left (pos zero) e = cc
 positive_of_left (pos (suc n)) e = omega (arith, ints)
 positive_of_left (negsuc n) e = cc
 
-module _ (a b : Point) (line : Line) (differ : line.0 ≢ line.1) (c d : Triple) (at_c : IsPoint c) (at_d : IsPoint d) (on_c : IsOnLine line c)
+module _ (a b : Point) (line : Line) (differ : line.0 ≢ line.1) (c d : Triple) (at_c : IsPoint c) (at_d : IsPoint d)
+    (on_c : IsOnLine line c)
     (on_d : IsOnLine line d) (stays : ¬ (IsRight (whole a) (whole b) c)) (goes : IsRight (whole a) (whole b) d) (turn : Direction)
     (is_turn : turn ≡ turn_of (whole a) (whole b) c) where
   -- it is what a cut adds to the corner that stays
   pub ends_found : (x : Option Triple) → IsFound a b line turn x → Ends (whole a) (whole b) c d (option_to_list x)
   ends_found (Some x) found =
       let left = positive_of_left (determinant (whole a) (whole b) c) (sym is_turn ∙ found.some refl) in
-      at_meeting x left (meeting a b line.0 line.1 c d at_c at_d differ on_c on_d left goes x found.rational found.on_line found.on_cut) refl
+      at_meeting x left (meeting a b line.0 line.1 c d at_c at_d differ on_c on_d left goes x found.rational found.on_line found.on_cut)
+      refl
   ends_found None found = elim (sign (determinant (whole a) (whole b) c)) [
     | is_negative h ↦ absurd (stays h)
     | is_zero h ↦ at_corner h refl
@@ -52,7 +54,8 @@ goes_on_cut a b cs ls m d None ends on_line on_cut = straight_of_none _ _ _ d []
 goes_on_cut a b cs ls m d (Some x) ends on_line on_cut = (on_cut, on_line)
 
 -- where there is a meeting, the side's own line may go on from there
-goes_on_same : (cs : List Triple) (ls : List Line) (m : ℕ) (x : Option Triple) → IsTrue (is_some x) → IfSome x (IsOnLine (line_at ls (m - 1)))
+goes_on_same : (cs : List Triple) (ls : List Line) (m : ℕ) (x : Option Triple) → IsTrue (is_some x) → IfSome x
+    (IsOnLine (line_at ls (m - 1)))
     → GoesOn cs ls m x (line_at ls (m - 1))
 goes_on_same cs ls m None h on = absurd (cc h)
 goes_on_same cs ls m (Some x) h on = (on, on)
@@ -66,7 +69,8 @@ nothing_to_list (Some x) h = absurd (cc h)
 comes_round_cut : (a b : Point) (ds : List Triple) (ks : List Line) (line : Line) (c d : Triple) (x : Option Triple) → corner ds 0 ≡ c
     → line_at ks (length ks - 1) ≡ (a, b) → Ends (whole a) (whole b) c d (option_to_list x) → IfSome x (IsOnLine line)
     → IfSome x (IsStraight (whole a) (whole b)) → IsOnLine line c → ComesRound ds ks x line
-comes_round_cut a b ds ks line c d None same last ends on_line on_cut round = on_at last same (straight_of_none (whole a) (whole b) c d [] ends refl)
+comes_round_cut a b ds ks line c d None same last ends on_line on_cut round = on_at last same
+    (straight_of_none (whole a) (whole b) c d [] ends refl)
 comes_round_cut a b ds ks line c d (Some x) same last ends on_line on_cut round =
     (on_at {p = x} last refl on_cut, on_line, on_at {l = line} refl same round)
 
@@ -88,9 +92,11 @@ module _ (a b : Point) (cs : List Triple) (ls : List Line) (m : ℕ) (first last
   -- the end after the last corner that stays
   pub ends_back : Ends (whole a) (whole b) (corner cs (m - 1)) (corner cs m) (option_to_list back)
   ends_back =
-      ends_found a b (line_at ls (m - 1)) (linked.two_points (m - 1) (omega (arith, rest, linked.as_many))) (corner cs (m - 1)) (corner cs m)
+      ends_found a b (line_at ls (m - 1)) (linked.two_points (m - 1) (omega (arith, rest, linked.as_many))) (corner cs (m - 1))
+      (corner cs m)
       (convex.rational (m - 1) (omega (arith, rest))) (convex.rational m rest) (linked.begins (m - 1) (omega (arith, rest)))
-      (on_at {l = line_at ls (m - 1)} refl (ap (λ k. corner cs k) (omega (arith, some))) (linked.goes_on (m - 1) (omega (arith, some, rest))))
+      (on_at {l = line_at ls (m - 1)} refl (ap (λ k. corner cs k) (omega (arith, some)))
+      (linked.goes_on (m - 1) (omega (arith, some, rest))))
       (stay (m - 1) (omega (arith, some))) (go m (omega arith) rest) last is_last back found_back
 
   -- from it the line of the cut goes on
@@ -104,7 +110,8 @@ module _ (a b : Point) (cs : List Triple) (ls : List Line) (m : ℕ) (first last
   -- the first corner stays the first
   pub first_stays : corner (take m cs ++ option_to_list back) 0 ≡ corner cs 0
   first_stays =
-      get_or_append_left (take m cs) (option_to_list back) _ 0 (omega (arith, some, length-take-le m cs (omega (arith, rest)))) ∙ get_or-take m cs 0 _ some
+      get_or_append_left (take m cs) (option_to_list back) _ 0 (omega (arith, some, length-take-le m cs (omega (arith, rest)))) ∙
+      get_or-take m cs 0 _ some
 
   -- ---- a segment
 
@@ -116,7 +123,8 @@ module _ (a b : Point) (cs : List Triple) (ls : List Line) (m : ℕ) (first last
     pub segment_left : IsCut (whole a) (whole b) cs (take m cs ++ option_to_list back)
     segment_left =
         subst (λ k. IsCut (whole a) (whole b) cs (take k cs ++ option_to_list back)) (sym one)
-        (cut_of_segment (whole a) (whole b) cs convex two (stay 0 some) (go 1 (omega (arith, one)) (omega (arith, two))) (option_to_list back)
+        (cut_of_segment (whole a) (whole b) cs convex two (stay 0 some) (go 1 (omega (arith, one)) (omega (arith, two)))
+        (option_to_list back)
         (subst (λ k. Ends (whole a) (whole b) (corner cs (k - 1)) (corner cs k) (option_to_list back)) one ends_back))
 
     -- the side's line comes back to the first corner,
@@ -141,16 +149,19 @@ module _ (a b : Point) (cs : List Triple) (ls : List Line) (m : ℕ) (first last
         ends_found a b (line_at ls (length ls - 1)) (linked.two_points (length ls - 1) (omega (arith, rest, linked.as_many))) (corner cs 0)
         (corner cs (length cs - 1)) (convex.rational 0 (omega (arith, rest))) (convex.rational (length cs - 1) (omega (arith, rest)))
         (round.closes (omega (arith, rest)))
-        (on_at {p = corner cs (length cs - 1)} (ap (λ k. line_at ls (k - 1)) linked.as_many) refl (linked.begins (length cs - 1) (omega (arith, rest))))
+        (on_at {p = corner cs (length cs - 1)} (ap (λ k. line_at ls (k - 1)) linked.as_many) refl
+        (linked.begins (length cs - 1) (omega (arith, rest))))
         (stay 0 some) (go (length cs - 1) (omega (arith, rest)) (omega (arith, rest))) first is_first front found_front
 
     -- what is left of it
     pub polygon_left : IsCut (whole a) (whole b) cs ((take m cs ++ option_to_list back) ++ option_to_list front)
-    polygon_left = cut_of_polygon (whole a) (whole b) cs convex m some rest stay go three (option_to_list back) (option_to_list front) ends_back ends_front
+    polygon_left = cut_of_polygon (whole a) (whole b) cs convex m some rest stay go three (option_to_list back) (option_to_list front)
+        ends_back ends_front
 
     -- the last line comes round
     pub comes_round_whole : (ds : List Triple) (ks : List Line) → corner ds 0 ≡ corner cs 0 → line_at ks (length ks - 1) ≡ (a, b)
         → ComesRound ds ks front (line_at ls (length ls - 1))
     comes_round_whole ds ks same ends =
-        comes_round_cut a b ds ks (line_at ls (length ls - 1)) (corner cs 0) (corner cs (length cs - 1)) front same ends ends_front found_front.on_line
+        comes_round_cut a b ds ks (line_at ls (length ls - 1)) (corner cs 0) (corner cs (length cs - 1)) front same ends ends_front
+        found_front.on_line
         found_front.on_cut (round.closes (omega (arith, rest)))

@@ -41,13 +41,15 @@ module _ (a b : Point) (cs : List Triple) (turns : List Direction) (are : turns 
   right_corner i less e =
       let round : i % length turns ≡ i = mod-eq_of_lt (omega (arith, less, as_many_turns)) in
       negative_of_right (determinant (whole a) (whole b) (corner cs i))
-      (sym (turn_is i less) ∙ right_of (slice_index_or turns i Straight) (ap (λ k. is_right (slice_index_or turns k Straight)) (sym round) ∙ e))
+      (sym (turn_is i less) ∙ right_of (slice_index_or turns i Straight)
+      (ap (λ k. is_right (slice_index_or turns k Straight)) (sym round) ∙ e))
 
   -- and otherwise it is not
   pub other_corner : (i : ℕ) → i < length cs → right_at turns i ≡ false → ¬ (IsRight (whole a) (whole b) (corner cs i))
   other_corner i less e right =
       let round : i % length turns ≡ i = mod-eq_of_lt (omega (arith, less, as_many_turns)) in
-      let turned : slice_index_or turns i Straight ≡ Right = turn_is i less ∙ right_of_negative (determinant (whole a) (whole b) (corner cs i)) right in
+      let turned : slice_index_or turns i Straight ≡ Right = turn_is i less ∙ right_of_negative
+      (determinant (whole a) (whole b) (corner cs i)) right in
       absurd (cc (ap is_right turned, ap (λ k. is_right (slice_index_or turns k Straight)) round, e))
 
   module _ (start : ℕ) (in_start : start ≤ length cs) where
@@ -66,9 +68,14 @@ module _ (a b : Point) (cs : List Triple) (turns : List Direction) (are : turns 
     right_there i less e =
         negative_of_right (determinant (whole a) (whole b) (corner (from_place start cs) i)) (sym (turn_there i less) ∙ right_of _ e)
 
-    other_there : (i : ℕ) → i < length cs → right_at turns (start + i) ≡ false → ¬ (IsRight (whole a) (whole b) (corner (from_place start cs) i))
+    other_there : (i : ℕ) → i < length cs → right_at turns (start + i) ≡ false → ¬
+        (IsRight (whole a) (whole b) (corner (from_place start cs) i))
     other_there i less e right =
-        absurd (cc (e, ap is_right (turn_there i less ∙ right_of_negative (determinant (whole a) (whole b) (corner (from_place start cs) i)) right)))
+        absurd (cc (
+          e,
+          ap is_right (turn_there i less ∙ right_of_negative
+              (determinant (whole a) (whole b) (corner (from_place start cs) i)) right),
+        ))
 
   module _ (start count : ℕ) (block : IsBlock turns start count) (convex : AreConvex cs) where
     in_start : start ≤ length cs
@@ -111,7 +118,8 @@ module _ (a b : Point) (cs : List Triple) (turns : List Direction) (are : turns 
     -- where none does, all is
     pub list_of_none : ((i : ℕ) → i < length turns → right_at turns i ≡ true) → IsCornerList (IsUncut (whole a) (whole b) cs) []
     list_of_none go =
-        corners_of_cut (whole a) (whole b) cs [] (all_cut (whole a) (whole b) cs convex (λ i less. right_corner i less (go i (omega (arith, less, as_many_turns)))))
+        corners_of_cut (whole a) (whole b) cs []
+        (all_cut (whole a) (whole b) cs convex (λ i less. right_corner i less (go i (omega (arith, less, as_many_turns)))))
         (λ i less. absurd (omega (arith, less)))
 
 -- ---- from the least on
@@ -128,7 +136,8 @@ least_first cs t in_t least i within before =
     let count = length_rotated cs t (omega (arith, in_t)) in
     let less : i < length cs = omega (arith, within, count) in
     let first : corner (from_place t cs) 0 ≡ corner cs t =
-    rotated_at cs t 0 _ (omega (arith, in_t)) (omega (arith, in_t)) ∙ ap (λ k. corner cs k) (ap (λ k. k % length cs) (omega arith) ∙ mod-eq_of_lt in_t) in
+    rotated_at cs t 0 _ (omega (arith, in_t)) (omega (arith, in_t)) ∙ ap (λ k. corner cs k)
+    (ap (λ k. k % length cs) (omega arith) ∙ mod-eq_of_lt in_t) in
     least ((t + i) % length cs) (mod-lt (t + i) (omega (arith, in_t)))
     (subst (λ (p : Triple). Precedes p (corner cs t)) (rotated_at cs t i _ (omega (arith, in_t)) less)
     (subst (λ (p : Triple). Precedes (corner (from_place t cs) i) p) first before))

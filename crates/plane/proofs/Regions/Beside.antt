@@ -56,10 +56,12 @@ corner_beside cs convex i j more in_j = elim (cases_lt j i) [
   | inr not ↦ elim (cases_lt (i + 1) j) [
     | inl after ↦ weak (convex.left i (i + 1) j (omega arith) after in_j)
     | inr within ↦ elim (cases_eq j i) [
-      | inl e ↦ zero_not_negative (ap (λ k. determinant (corner cs i) (corner cs (i + 1)) (corner cs k)) e ∙ determinant_same_ends (corner cs i) (corner cs (i + 1)))
+      | inl e ↦ zero_not_negative (ap (λ k. determinant (corner cs i) (corner cs (i + 1)) (corner cs k)) e ∙ determinant_same_ends
+          (corner cs i) (corner cs (i + 1)))
       | inr n ↦
           let e : j ≡ i + 1 = omega (arith, not, within, n) in
-          zero_not_negative (ap (λ k. determinant (corner cs i) (corner cs (i + 1)) (corner cs k)) e ∙ determinant_same_last (corner cs i) (corner cs (i + 1)))
+          zero_not_negative (ap (λ k. determinant (corner cs i) (corner cs (i + 1)) (corner cs k)) e ∙ determinant_same_last (corner cs i)
+          (corner cs (i + 1)))
     ]
   ]
 ]
@@ -120,14 +122,16 @@ module _ (a b u v w p : Triple) (on_u : IsStraight a b u) (on_v : IsStraight a b
   pub not_right_by_left : IsLeft u v w → IsLeft a b w → IsNotRight u v p
   not_right_by_left turned left =
       beside_left (determinant u v w) (determinant u v p) (determinant a b p) (determinant a b w)
-      (two_on_line (determinant v p w) (determinant u p w) (determinant u v w) (determinant u v p) (determinant a b p) (determinant a b w) _ _
+      (two_on_line (determinant v p w) (determinant u p w) (determinant u v w) (determinant u v p) (determinant a b p) (determinant a b w)
+      _ _
       on_u on_v (four_beside u v p w a b)) turned left above
 
   -- or what is right of the one is right of the other
   pub not_right_by_right : IsRight u v w → IsRight a b w → IsNotRight u v p
   not_right_by_right turned right =
       beside_right (determinant u v w) (determinant u v p) (determinant a b p) (determinant a b w)
-      (two_on_line (determinant v p w) (determinant u p w) (determinant u v w) (determinant u v p) (determinant a b p) (determinant a b w) _ _
+      (two_on_line (determinant v p w) (determinant u p w) (determinant u v w) (determinant u v p) (determinant a b p) (determinant a b w)
+      _ _
       on_u on_v (four_beside u v p w a b)) turned right above
 
 -- ---- means of three with a weight 0

@@ -80,7 +80,8 @@ module _ (a b : Triple) (cs : List Triple) (convex : AreConvex cs) (many : 3 ≤
     beside_back x h =
         let c = corner cs (m - 1) in
         let d = corner cs m in
-        let side : IsNotRight c d p = subst (λ k. IsNotRight c (corner cs k) p) (omega (arith, some)) (sides.along (m - 1) (omega (arith, some, rest))) in
+        let side : IsNotRight c d p = subst (λ k. IsNotRight c (corner cs k) p) (omega (arith, some))
+        (sides.along (m - 1) (omega (arith, some, rest))) in
         subst (λ (z : ℤ). pos 0 ≤ℤ z) (determinant_shift_back c x p)
         (mean_not_negative h.mean.k h.mean.l h.mean.m _ _ _ h.mean.k_positive h.mean.l_nonnegative h.mean.m_nonnegative
         (determinant_along x c d h.mean p c) (zero_not_negative (determinant_same_last p c))
@@ -118,15 +119,18 @@ module _ (a b : Triple) (cs : List Triple) (convex : AreConvex cs) (many : 3 ≤
               let right : IsRight a b (corner cs fan.j) = gone fan.j not (omega (arith, fan.within)) in
               let none = no_last_weight f.k f.u f.v f.w _ _ _ _ f.k_positive f.u_nonnegative f.v_nonnegative f.w_nonnegative (f.beside a b)
               first (below_not_above right) farther above in
-              let second = no_middle_weight f.k f.u f.v f.w _ _ _ _ f.k_positive f.u_nonnegative f.v_nonnegative f.w_nonnegative (f.beside a b)
+              let second = no_middle_weight f.k f.u f.v f.w _ _ _ _ f.k_positive f.u_nonnegative f.v_nonnegative f.w_nonnegative
+              (f.beside a b)
               first right (below_not_above farther) above in
               let same : IsSame p (corner cs 0) = first_of_three p _ _ _ f none second in
               elim (cases_eq m 1) [
-                | inl one ↦ region_of_one (take m cs) p (count ∙ one) (subst (λ (t : Triple). IsSame p t) (sym (first_corner cs m rest 0 some)) same)
+                | inl one ↦ region_of_one (take m cs) p (count ∙ one)
+                    (subst (λ (t : Triple). IsSame p t) (sym (first_corner cs m rest 0 some)) same)
                 | inr n ↦
                     region_of_two (take m cs) p (omega (arith, count, n, some, few))
                     (subst (λ (t : Triple). On p t (corner (take m cs) 1)) (sym (first_corner cs m rest 0 some))
-                    (on_same_point (convex.rational 0 (omega (arith, many))) (same_sym same) (on_first_end (corner cs 0) (corner (take m cs) 1))))
+                    (on_same_point (convex.rational 0 (omega (arith, many))) (same_sym same)
+                    (on_first_end (corner cs 0) (corner (take m cs) 1))))
               ]
         ]
 
@@ -156,7 +160,8 @@ module _ (a b : Triple) (cs : List Triple) (convex : AreConvex cs) (many : 3 ≤
         (sides_of_along _ _ (take m cs ++ x ∷ []) p
         (along_more _ _ x (take m cs) p (along_first cs p m some rest sides) (beside_back x h))
         (not_right_by_left a b x (corner cs 0) (corner cs (m - 1)) p h.straight first above
-        (left_shift_back (corner cs 0) (corner cs (m - 1)) x (left_of_back a b cs convex m some rest x h 0 (m - 1) (omega (arith, two)) (omega (arith, some))))
+        (left_shift_back (corner cs 0) (corner cs (m - 1)) x
+        (left_of_back a b cs convex m some rest x h 0 (m - 1) (omega (arith, two)) (omega (arith, some))))
         left))
 
     kept_and_front : (y : Triple) → IsStraight a b (corner cs (m - 1)) → IsLeft a b (corner cs 0)
@@ -172,7 +177,8 @@ module _ (a b : Triple) (cs : List Triple) (convex : AreConvex cs) (many : 3 ≤
         (sides_of_along _ _ (take m cs ++ y ∷ []) p
         (along_more _ _ y (take m cs) p (along_first cs p m some rest sides)
         (not_right_by_left a b (corner cs (m - 1)) y (corner cs 0) p last h.straight above
-        (left_shift (corner cs 0) (corner cs (m - 1)) y (left_of_front a b cs convex m some rest y h 0 (m - 1) (omega (arith, two)) (omega (arith, some))))
+        (left_shift (corner cs 0) (corner cs (m - 1)) y
+        (left_of_front a b cs convex m some rest y h 0 (m - 1) (omega (arith, two)) (omega (arith, some))))
         left))
         (beside_front y h))
 
@@ -189,7 +195,8 @@ module _ (a b : Triple) (cs : List Triple) (convex : AreConvex cs) (many : 3 ≤
         (beside_front y hy))
 
     -- what a cut leaves, where both ends are known
-    kept_with : (es fs : List Triple) → Ends a b (corner cs (m - 1)) (corner cs m) es → Ends a b (corner cs 0) (corner cs (length cs - 1)) fs
+    kept_with : (es fs : List Triple) → Ends a b (corner cs (m - 1)) (corner cs m) es → Ends a b (corner cs 0) (corner cs (length cs - 1))
+        fs
         → IsInRegion ((take m cs ++ es) ++ fs) p
     kept_with es fs (at_corner last without) (at_corner first none) =
         subst (λ (t : List Triple). IsInRegion ((take m cs ++ t) ++ fs) p) (sym without)

@@ -18,7 +18,8 @@ use Rattle.plane.specs.Segment.{On}
 use Rattle.plane.specs.Turn.{IsRight, IsStraight}
 
 -- from a point on a line to one right of it, a point that is not right of the line is the first
-first_not_right : (a b c d p : Triple) → IsPoint c → IsPoint d → IsPoint p → IsStraight a b c → IsRight a b d → IsNotRight a b p → On p c d → IsSame p c
+first_not_right : (a b c d p : Triple) → IsPoint c → IsPoint d → IsPoint p → IsStraight a b c → IsRight a b d → IsNotRight a b p → On p c
+    d → IsSame p c
 first_not_right a b c d p at_c at_d at_p straight right above on =
     let m = combination_of p c d at_p at_c at_d on in
     same_without_last p c d m
@@ -35,7 +36,8 @@ module _ (a b c d : Triple) (at_c : IsPoint c) (at_d : IsPoint d) (right : IsRig
       subst (λ (t : List Triple). IsInRegion (c ∷ t) p) (sym one) (elim (on_one_side p x c d at_p h.rational at_c at_d on on_x) [
         | inl before ↦ before
         | inr after ↦
-            on_same_point h.rational (same_sym (first_not_right a b x d p h.rational at_d at_p h.straight right above after)) (on_last_end c x)
+            on_same_point h.rational (same_sym (first_not_right a b x d p h.rational at_d at_p h.straight right above after))
+            (on_last_end c x)
       ])
 
   -- and what is left is on the segment
@@ -52,26 +54,27 @@ first_of_two [] two = absurd (omega (arith, two))
 first_of_two (c ∷ cs) two = refl
 
 module _ (a b : Triple) (cs : List Triple) (convex : AreConvex cs) (two : length cs ≡ 2) (kept : IsNotRight a b (corner cs 0))
-    (gone : IsRight a b (corner cs 1)) (es : List Triple) (back : Ends a b (corner cs 0) (corner cs 1) es) (p : Triple) (at_p : IsPoint p) where
-  abbrev at_c : IsPoint (corner cs 0)
-  at_c = convex.rational 0 (omega (arith, two))
+    (gone : IsRight a b (corner cs 1)) (es : List Triple) (back : Ends a b (corner cs 0) (corner cs 1) es) (p : Triple) (at_p : IsPoint p)
+  where
+    abbrev at_c : IsPoint (corner cs 0)
+    at_c = convex.rational 0 (omega (arith, two))
 
-  abbrev at_d : IsPoint (corner cs 1)
-  at_d = convex.rational 1 (omega (arith, two))
+    abbrev at_d : IsPoint (corner cs 1)
+    at_d = convex.rational 1 (omega (arith, two))
 
-  -- what is left is part of the segment, and not right of the line
-  pub segment_no_more : IsInRegion (take 1 cs ++ es) p → IsInRegion cs p × IsNotRight a b p
-  segment_no_more h = (
-    region_of_two cs p two (on_whole a b (corner cs 0) (corner cs 1) at_c at_d gone p at_p es back
-        (subst (λ (t : List Triple). IsInRegion (t ++ es) p) (first_of_two cs two) h)),
-    region_not_right a b (take 1 cs ++ es) p (convex_back a b cs convex 1 (omega arith) (omega (arith, two)) es back) at_p h
-        (all_with (IsNotRight a b) a b _ _ (take 1 cs) es back (λ z m. zero_not_negative m.straight)
-        (all_first cs 1 (omega (arith, two)) (IsNotRight a b)
-        (λ i less. subst (λ k. IsNotRight a b (corner cs k)) (omega (arith, less)) kept))),
-  )
+    -- what is left is part of the segment, and not right of the line
+    pub segment_no_more : IsInRegion (take 1 cs ++ es) p → IsInRegion cs p × IsNotRight a b p
+    segment_no_more h = (
+      region_of_two cs p two (on_whole a b (corner cs 0) (corner cs 1) at_c at_d gone p at_p es back
+          (subst (λ (t : List Triple). IsInRegion (t ++ es) p) (first_of_two cs two) h)),
+      region_not_right a b (take 1 cs ++ es) p (convex_back a b cs convex 1 (omega arith) (omega (arith, two)) es back) at_p h
+          (all_with (IsNotRight a b) a b _ _ (take 1 cs) es back (λ z m. zero_not_negative m.straight)
+          (all_first cs 1 (omega (arith, two)) (IsNotRight a b)
+          (λ i less. subst (λ k. IsNotRight a b (corner cs k)) (omega (arith, less)) kept))),
+    )
 
-  -- and what is on the segment and not right of the line is left
-  pub segment_no_less : IsInRegion cs p → IsNotRight a b p → IsInRegion (take 1 cs ++ es) p
-  segment_no_less h above =
-      subst (λ (t : List Triple). IsInRegion (t ++ es) p) (sym (first_of_two cs two))
-      (in_rest a b (corner cs 0) (corner cs 1) at_c at_d gone p at_p es back (two_of_region cs p two h) above)
+    -- and what is on the segment and not right of the line is left
+    pub segment_no_less : IsInRegion cs p → IsNotRight a b p → IsInRegion (take 1 cs ++ es) p
+    segment_no_less h above =
+        subst (λ (t : List Triple). IsInRegion (t ++ es) p) (sym (first_of_two cs two))
+        (in_rest a b (corner cs 0) (corner cs 1) at_c at_d gone p at_p es back (two_of_region cs p two h) above)

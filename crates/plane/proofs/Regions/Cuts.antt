@@ -49,10 +49,20 @@ module _ (a b : Triple) (cs : List Triple) (convex : AreConvex cs) where
 no_four : (r t d e f g h z : ℤ) → r *ℤ f -ℤ t *ℤ g +ℤ d *ℤ h -ℤ e *ℤ z ≡ pos 0 → pos 0 <ℤ r → pos 0 <ℤ t → pos 0 <ℤ d → pos 0 <ℤ e
     → pos 0 ≤ℤ f → g <ℤ pos 0 → pos 0 ≤ℤ h → z <ℤ pos 0 → ⊥
 no_four r t d e f g h z relation hr ht hd he hf hg hh hz =
-    omega (arith, ints, relation, mul_nonnegative r f (weak hr) hf, mul_negative t g ht hg, mul_nonnegative d h (weak hd) hh, mul_negative e z he hz)
+    omega (
+      arith,
+      ints,
+      relation,
+      mul_nonnegative r f (weak hr) hf,
+      mul_negative t g ht hg,
+      mul_nonnegative d h (weak hd) hh,
+      mul_negative
+          e z he hz,
+    )
 
 -- from one that is right of the line to the last, which is too, all are
-pub one_block : (a b : Triple) (cs : List Triple) → AreConvex cs → (m : ℕ) → 0 < m → ¬ (IsRight a b (corner cs 0)) → IsRight a b (corner cs m)
+pub one_block : (a b : Triple) (cs : List Triple) → AreConvex cs → (m : ℕ) → 0 < m → ¬ (IsRight a b (corner cs 0)) → IsRight a b
+    (corner cs m)
     → IsRight a b (corner cs (length cs - 1)) → (j : ℕ) → m ≤ j → j < length cs → IsRight a b (corner cs j)
 one_block a b cs convex m some first right last j past within = elim (cases_lt j (length cs - 1)) [
   | inr end ↦ subst (λ k. IsRight a b (corner cs k)) (omega (arith, end, within)) last
@@ -90,7 +100,8 @@ module _ (a b : Triple) (cs : List Triple) (convex : AreConvex cs) (m : ℕ) (so
   }
 
 -- of a segment the first corner stays, with the meeting
-pub cut_of_segment : (a b : Triple) (cs : List Triple) → AreConvex cs → length cs ≡ 2 → ¬ (IsRight a b (corner cs 0)) → IsRight a b (corner cs 1)
+pub cut_of_segment : (a b : Triple) (cs : List Triple) → AreConvex cs → length cs ≡ 2 → ¬ (IsRight a b (corner cs 0)) → IsRight a b
+    (corner cs 1)
     → (es : List Triple) → Ends a b (corner cs 0) (corner cs 1) es → IsCut a b cs (take 1 cs ++ es)
 cut_of_segment a b cs convex two kept gone es back = record {
   convex = convex_back a b cs convex 1 (omega arith) (omega (arith, two)) es back;

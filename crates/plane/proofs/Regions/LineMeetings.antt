@@ -154,7 +154,8 @@ module _ (a b p q : Point) (c d : Triple) (at_c : IsPoint c) (at_d : IsPoint d) 
       let g = neg_ℤ (determinant (whole a) (whole b) d) in
       let hg : pos 0 <ℤ g = opposite_positive right in
       let m = divided_mean g f c d at_c at_d hg left in
-      let on_first = mean_zero m.k m.l m.m _ _ _ m.k_positive m.l_nonnegative m.m_nonnegative (determinant_along _ c d m (whole p) (whole q)) on_c on_d in
+      let on_first = mean_zero m.k m.l m.m _ _ _ m.k_positive m.l_nonnegative m.m_nonnegative
+      (determinant_along _ c d m (whole p) (whole q)) on_c on_d in
       let on_second = balanced _ f (determinant (whole a) (whole b) d) (determinant_along _ c d m (whole a) (whole b)) in
       let same = one_meeting p q a b x (divided g f c d) not_parallel on_x on_first straight on_second in
       record {

@@ -40,7 +40,8 @@ module _ (cs : List Triple) (p : Triple) where
         not_right_at p (sym (at_corner cs i (omega (arith, more)))) (sym (at_corner cs (i + 1) more))
         (not_negative (none i (omega (arith, more))));
     closing =
-        not_right_at p (sym (at_corner cs (length cs - 1) (omega (arith, some)))) (sym (at_first cs (length cs - 1 + 1) some (omega (arith, some))))
+        not_right_at p (sym (at_corner cs (length cs - 1) (omega (arith, some))))
+        (sym (at_first cs (length cs - 1 + 1) some (omega (arith, some))))
         (not_negative (none (length cs - 1) (omega (arith, some))));
   }
 

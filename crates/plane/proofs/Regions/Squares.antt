@@ -20,7 +20,8 @@ back = negsuc (MAX_COORDINATE - 1)
 
 -- the corners, from the lower left one on
 abbrev pub square : List Triple
-square = whole (record { x = back; y = back }) ∷ whole (record { x = far; y = back }) ∷ whole (record { x = far; y = far }) ∷ whole (record { x = back; y = far }) ∷ []
+square = whole (record { x = back; y = back }) ∷ whole (record { x = far; y = back }) ∷ whole (record { x = far; y = far }) ∷ whole
+    (record { x = back; y = far }) ∷ []
 
 square_rational : (i : ℕ) → i < 4 → IsPoint (corner square i)
 square_rational zero less = omega (arith, ints)

@@ -27,7 +27,8 @@ module _ (xs ys : List Triple) where
   -- ---- convex corners
 
   module _ (convex : AreConvex (xs ++ ys)) where
-    turned_left : (i j l : ℕ) → i < j → j < l → l < length (ys ++ xs) → IsLeft (corner (ys ++ xs) i) (corner (ys ++ xs) j) (corner (ys ++ xs) l)
+    turned_left : (i j l : ℕ) → i < j → j < l → l < length (ys ++ xs) → IsLeft (corner (ys ++ xs) i) (corner (ys ++ xs) j)
+        (corner (ys ++ xs) l)
     turned_left i j l before after within =
         let count = length-append xs ys in
         let total = length-append ys xs in
@@ -35,15 +36,18 @@ module _ (xs ys : List Triple) where
           | inl in_l ↦
               left_at (turned_first i (length xs + i) (omega (arith, before, after, in_l)) refl)
               (turned_first j (length xs + j) (omega (arith, after, in_l)) refl) (turned_first l (length xs + l) in_l refl)
-              (convex.left (length xs + i) (length xs + j) (length xs + l) (omega (arith, before)) (omega (arith, after)) (omega (arith, in_l, count)))
+              (convex.left (length xs + i) (length xs + j) (length xs + l) (omega (arith, before)) (omega (arith, after))
+              (omega (arith, in_l, count)))
           | inr past_l ↦
               let t = l - length ys in
               let at_l = turned_last l t (omega (arith, past_l, within, total)) (omega (arith, past_l)) in
               elim (cases_lt j (length ys)) [
                 | inl in_j ↦
-                    left_at (turned_first i (length xs + i) (omega (arith, before, in_j)) refl) (turned_first j (length xs + j) in_j refl) at_l
+                    left_at (turned_first i (length xs + i) (omega (arith, before, in_j)) refl) (turned_first j (length xs + j) in_j refl)
+                    at_l
                     (left_shift (corner (xs ++ ys) t) (corner (xs ++ ys) (length xs + i)) (corner (xs ++ ys) (length xs + j))
-                    (convex.left t (length xs + i) (length xs + j) (omega (arith, past_l, within, total)) (omega (arith, before)) (omega (arith, in_j, count))))
+                    (convex.left t (length xs + i) (length xs + j) (omega (arith, past_l, within, total)) (omega (arith, before))
+                    (omega (arith, in_j, count))))
                 | inr past_j ↦
                     let s = j - length ys in
                     let at_j = turned_last j s (omega (arith, past_j, after, within, total)) (omega (arith, past_j)) in
@@ -51,11 +55,13 @@ module _ (xs ys : List Triple) where
                       | inl in_i ↦
                           left_at (turned_first i (length xs + i) in_i refl) at_j at_l
                           (left_shift_back (corner (xs ++ ys) s) (corner (xs ++ ys) t) (corner (xs ++ ys) (length xs + i))
-                          (convex.left s t (length xs + i) (omega (arith, past_j, after)) (omega (arith, past_l, within, total)) (omega (arith, in_i, count))))
+                          (convex.left s t (length xs + i) (omega (arith, past_j, after)) (omega (arith, past_l, within, total))
+                          (omega (arith, in_i, count))))
                       | inr past_i ↦
                           let r = i - length ys in
                           left_at (turned_last i r (omega (arith, past_i, before, after, within, total)) (omega (arith, past_i))) at_j at_l
-                          (convex.left r s t (omega (arith, past_i, before)) (omega (arith, past_j, after)) (omega (arith, past_l, within, total, count)))
+                          (convex.left r s t (omega (arith, past_i, before)) (omega (arith, past_j, after))
+                          (omega (arith, past_l, within, total, count)))
                     ]
               ]
         ]
@@ -63,7 +69,8 @@ module _ (xs ys : List Triple) where
     turned_rational : (i : ℕ) → i < length (ys ++ xs) → IsPoint (corner (ys ++ xs) i)
     turned_rational i within = elim (cases_lt i (length ys)) [
       | inl less ↦
-          subst IsPoint (sym (turned_first i (length xs + i) less refl)) (convex.rational (length xs + i) (omega (arith, less, length-append xs ys)))
+          subst IsPoint (sym (turned_first i (length xs + i) less refl))
+          (convex.rational (length xs + i) (omega (arith, less, length-append xs ys)))
       | inr past ↦
           subst IsPoint (sym (turned_last i (i - length ys) (omega (arith, past, within, length-append ys xs)) (omega (arith, past))))
           (convex.rational (i - length ys) (omega (arith, past, within, length-append xs ys, length-append ys xs)))

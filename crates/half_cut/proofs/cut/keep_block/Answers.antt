@@ -10,7 +10,8 @@ pub cut_tail-requires-clause-convex : goal.cut_tail-requires-clause-convex
 cut_tail-requires-clause-convex g c =
     let r = c.requires in
     rw c.rotate_left.ensures.items
-    (blocks.convex_there c.args.a.now c.args.b.now c.args.corners.now.items c.args.turns.now r.turns c.args.start c.args.count r.block r.convex)
+    (blocks.convex_there c.args.a.now c.args.b.now c.args.corners.now.items c.args.turns.now r.turns c.args.start c.args.count r.block
+    r.convex)
 
 pub cut_tail-requires-clause-linked : goal.cut_tail-requires-clause-linked
 cut_tail-requires-clause-linked g c =
@@ -23,7 +24,8 @@ pub cut_tail-requires-clause-stay : goal.cut_tail-requires-clause-stay
 cut_tail-requires-clause-stay g c =
     let r = c.requires in
     rw c.rotate_left.ensures.items
-    (blocks.stay_there c.args.a.now c.args.b.now c.args.corners.now.items c.args.turns.now r.turns c.args.start c.args.count r.block r.convex)
+    (blocks.stay_there c.args.a.now c.args.b.now c.args.corners.now.items c.args.turns.now r.turns c.args.start c.args.count r.block
+    r.convex)
 
 pub cut_tail-requires-clause-go : goal.cut_tail-requires-clause-go
 cut_tail-requires-clause-go g c =
@@ -48,7 +50,8 @@ cut_tail-requires-clause-last g c =
     let many = blocks.as_many_turns c.args.a.now c.args.b.now cs c.args.turns.now r.turns in
     rw c.rotate_left.ensures.items
     (c.turn_at-last.ensures
-    ∙ blocks.turn_there c.args.a.now c.args.b.now cs c.args.turns.now r.turns c.args.start (omega (arith, many, r.block.within)) (c.args.count - 1)
+    ∙ blocks.turn_there c.args.a.now c.args.b.now cs c.args.turns.now r.turns c.args.start (omega (arith, many, r.block.within))
+    (c.args.count - 1)
     (omega (arith, many, r.block.rest)))
 
 pub returns-clause-cut : goal.returns-clause-cut
@@ -65,7 +68,8 @@ pub returns-clause-linked : goal.returns-clause-linked
 returns-clause-linked g c =
     let least = rw c.deref.ensures.value at c.least-least.ensures.within in
     rw (c.rotate_left-3.ensures.items, c.rotate_left-4.ensures.items)
-    (linked_rotated c.cut_tail.new.corners.items c.cut_tail.new.lines.items c.least-least.result c.cut_tail.ensures.linked (omega (arith, least)))
+    (linked_rotated c.cut_tail.new.corners.items c.cut_tail.new.lines.items c.least-least.result c.cut_tail.ensures.linked
+    (omega (arith, least)))
 
 pub returns-clause-least : goal.returns-clause-least
 returns-clause-least g c =

@@ -16,7 +16,11 @@ loop-i-preserved g c =
     let at_best : c.index-corners-best.result ≡ corner cs best = get_or_read cs best _ in_best c.index-corners-best.is _ in
     let exact = rw (at_i, at_best) at c.precedes.ensures in
     elim c.if-precedes.branch [
-      | then-precedes w ↦ rw w.best-is (in_i, least_here cs c.requires.rational i best in_i in_best c.loop-i.invariant.1 (exact.0 w.if-precedes.true))
+      | then-precedes w ↦ rw w.best-is (
+        in_i,
+        least_here cs c.requires.rational i best in_i in_best c.loop-i.invariant.1
+            (exact.0 w.if-precedes.true),
+      )
       | else-precedes w ↦
           rw w.best-is (
             in_best,

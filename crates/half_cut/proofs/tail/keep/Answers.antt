@@ -11,7 +11,14 @@ returns-clause-linked c =
     elim c.match-back.branch [
       | in-Some w ↦
           let on = rw w.in-Some.is at c.requires.goes_on in
-          rw (c.push_reserved-2.ensures.items, w.lines-is, w.corners-is, w.push_reserved.ensures.items, w.truncate-in-Some.ensures.items, c.truncate.ensures.items)
+          rw (
+            c.push_reserved-2.ensures.items,
+            w.lines-is,
+            w.corners-is,
+            w.push_reserved.ensures.items,
+            w.truncate-in-Some.ensures.items,
+            c.truncate.ensures.items,
+          )
           (kept_and_one cs ls c.args.count c.args.line c.requires.linked c.requires.some rest c.requires.differ w.in-Some.corner on.0 on.1)
       | in-None w ↦
           let on = rw w.in-None.is at c.requires.goes_on in
