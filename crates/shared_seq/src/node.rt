@@ -1,6 +1,6 @@
 // A node of a height-balanced tree, with its values at the leaves. Making a node and opening one are steps; its height and
 // its count are told without one. No node is changed.
-ghost use Rattle.std.specs.Prelude.{◌≡◌, ◌+◌, ◌^◌, ◌<◌, [], ◌∷◌, IfOk, length};
+ghost use Rattle.std.specs.Prelude.{◌≡◌, ◌+◌, ◌^◌, ◌<◌, ◌≤◌, [], ◌∷◌, IfOk, length};
 ghost use Rattle.shared_seq.specs.Tree.{DifferByAtMost, IsTree, forked};
 ghost use Rattle.shared_seq.specs.Node.{AreNear, tree_of};
 
@@ -55,13 +55,12 @@ impl Node {
         ensures height { IfOk result (λ node. node.value.height ≡ 0) }
         ensures steps { steps.new ≡ steps.old + 1 }
     {
-        steps.tick();
-        let node = Node {
+        let leaf = Node {
             held: Held::Leaf(value),
             height: 0,
             count: 1,
         };
-        Ok(Rc::new(alloc, node)?)
+        Node::made(alloc, leaf, steps)
     }
 
     // A fork over two nodes, the values of the left one first.
@@ -74,17 +73,23 @@ impl Node {
         requires short { length left.now.value.items + length right.now.value.items < 2 ^ 31 }
         requires near { DifferByAtMost 1 left.now.value.height right.now.value.height }
         ensures tree { IfOk result (λ node. node.value ≡ forked left.now.value right.now.value) }
+        ensures steps { IfOk result (λ _. steps.new ≡ steps.old + 1) }
+        ensures memory { steps.new ≤ steps.old + 1 }
+    {
+        let fork = Node {
+            held: Held::Fork(left.clone()?, right.clone()?),
+            height: left.height().max(right.height()) + 1,
+            count: left.count() + right.count(),
+        };
+        Node::made(alloc, fork, steps)
+    }
+
+    // The node, to be shared.
+    fn made<L: Ledger>(alloc: Global, node: Node, steps: &mut Steps<L>) -> Result<Rc<Node>, Memory>
+        ensures node { IfOk result (λ made. made.value ≡ node) }
         ensures steps { steps.new ≡ steps.old + 1 }
     {
         steps.tick();
-        let height = left.height().max(right.height()) + 1;
-        let count = left.count() + right.count();
-        let held = Held::Fork(left.clone()?, right.clone()?);
-        let node = Node {
-            held,
-            height,
-            count,
-        };
         Ok(Rc::new(alloc, node)?)
     }
 

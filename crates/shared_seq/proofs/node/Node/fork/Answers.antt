@@ -3,8 +3,8 @@ use Rattle.shared_seq.specs.Tree.{IsTree}
 use Rattle.shared_seq.proofs.Heights.{fork_is_tree}
 use Rattle.shared_seq.proofs.node.Node.fork.Goals as goal
 
-pub invariant_of-node : goal.invariant_of-node
-invariant_of-node g c =
+pub invariant_of-fork : goal.invariant_of-fork
+invariant_of-fork g c =
     let l = c.args.left.now.value in
     let r = c.args.right.now.value in
     let left_is : c.in_ok-clone.field-0.value ≡ l = search rules in
