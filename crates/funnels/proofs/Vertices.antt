@@ -4,7 +4,7 @@
 mod NearVertices
 -- A side that two triangles of a mesh share, at one of its ends: no neighbour of the end in the ring is on the ray along the side.
 mod CornerEdges
-pub use Rattle.funnels.proofs.Vertices.CornerEdges.{neighbour_off_shared, neighbour_off_shared_end, shared_back}
+pub use Rattle.funnels.proofs.Vertices.CornerEdges.{IsSharedSide, off_shared, shared_side_back}
 -- Two points on one line with a third, to one side of another line through that: they are on one ray.
 mod Rays
 pub use Rattle.funnels.proofs.Vertices.Rays.{ray_on_left, ray_on_right}
@@ -12,7 +12,8 @@ pub use Rattle.funnels.proofs.Vertices.Rays.{ray_on_left, ray_on_right}
 mod LeftOfEdges
 -- Neighbours in a ring: the ends of one edge. In a simple ring a vertex has two, which are not on one ray.
 mod VertexNeighbours
-pub use Rattle.funnels.proofs.Vertices.VertexNeighbours.{after_differs, before_differs, neighbour_is, neighbours_differ, neighbours_not_on_ray}
+pub use Rattle.funnels.proofs.Vertices.VertexNeighbours.{beside_differs, beside_next, neighbour_is, neighbours_differ}
+pub use Rattle.funnels.proofs.Vertices.VertexNeighbours.{neighbours_not_on_ray, vertex_beside}
 -- A ring that triangles fit is simple, has three vertices or more, and runs counterclockwise: the points of a triangle beside its first edge are in it, and they are on the left.
 mod FittedRings
 pub use Rattle.funnels.proofs.Vertices.FittedRings.{fitted_counterclockwise, fitted_long, fitted_simple, triangle_in_ring}
@@ -26,7 +27,4 @@ mod ConvexVertices
 pub use Rattle.funnels.proofs.Vertices.ConvexVertices.{convex_vertex}
 -- A triangle of a mesh at one of its corners: no neighbour of the corner in the ring is strictly inside the angle there.
 mod CornerTriangles
-pub use Rattle.funnels.proofs.Vertices.CornerTriangles.{corners_of, has_corners, neighbour_not_inside}
--- A triangle of a mesh at one of its corners, with a shared side there: no neighbour of the corner in the ring is swept by the ray that turns from the one side to the other, up to the shared side.
-mod SweptNeighbours
-pub use Rattle.funnels.proofs.Vertices.SweptNeighbours.{neighbour_not_swept, neighbour_not_swept_right}
+pub use Rattle.funnels.proofs.Vertices.CornerTriangles.{neighbour_not_inside}

@@ -1,6 +1,7 @@
 -- Directions in line with each other, seen from a vertex on either side: of two different lines only the vertex is on both, and what
 -- is to one side of a line is on one ray.
-use Rattle.std.proofs.Common.{◌≡◌, ◌≢◌, ◌⊎◌, Bool, true, false, [], ◌∷◌, refl, ap, ◌∙◌, ℤ, pos, ◌+ℤ◌, ◌-ℤ◌, ◌*ℤ◌, neg_ℤ, ◌<ℤ◌, arith}
+use Rattle.std.proofs.Common.{◌≡◌, ◌≢◌, ◌⊎◌, Bool, true, false, not, [], ◌∷◌, refl, sym, subst, ap, ◌∙◌, ℤ, pos, ◌+ℤ◌, ◌-ℤ◌, ◌*ℤ◌, neg_ℤ}
+use Rattle.std.proofs.Common.{◌<ℤ◌, arith}
 use Rattle.std.proofs.lemmas.Int.{ints}
 use Rattle.integer_algebra.proofs.Laws.{eq_of_sub-zero, neg-mul, zero-mul}
 use Rattle.integer_algebra.proofs.Polynomial.{lit, var, ◌⊖◌, ◌⊗◌, same_value}
@@ -13,6 +14,7 @@ use Rattle.plane.specs.Point.{IsPoint, IsSame, Point, Triple, whole}
 use Rattle.plane.specs.Segment.{On}
 use Rattle.plane.specs.Turn.{IsStraight}
 use Rattle.funnels.proofs.Bends.Opposites.{negative_of_opposite, positive_of_opposite, zero_of_opposite}
+use Rattle.funnels.proofs.Bends.Turnings.{turning_not}
 use Rattle.funnels.proofs.Vertices.{ray_on_left, ray_on_right}
 use Rattle.funnels.specs.Fanned.{turning}
 
@@ -25,7 +27,7 @@ opposite_not_zero z h e = omega (arith, ints)
 -- ---- lines through the vertex
 
 -- a direction that does not turn is straight,
-turning_straight : (side : Bool) (v : Point) (a b : Triple) → turning side v a b ≡ pos 0 → IsStraight (whole v) a b
+pub turning_straight : (side : Bool) (v : Point) (a b : Triple) → turning side v a b ≡ pos 0 → IsStraight (whole v) a b
 turning_straight true v a b e = e
 turning_straight false v a b e = zero_of_opposite e
 
@@ -74,6 +76,10 @@ module _ (side : Bool) (v : Point) where
   turning_differs a c some same =
       turning_not_straight side v a c some
       (same_straight (whole v) a c (whole v) (whole_is_point v) same (determinant_same_ends (whole v) a))
+
+-- nor is a
+pub turning_differs_first : (side : Bool) (v : Point) (a c : Triple) → pos 0 <ℤ turning side v a c → ¬ IsSame a (whole v)
+turning_differs_first side v a c some = turning_differs (not side) v c a (subst (λ z. pos 0 <ℤ z) (sym (turning_not side v c a)) some)
 
 -- ---- rays
 

@@ -1,4 +1,4 @@
--- Signs of opposites, over plain integers.
+-- Signs of numbers, from those of their opposites.
 use Rattle.std.proofs.Common.{◌≡◌, ℤ, pos, neg_ℤ, ◌<ℤ◌, ◌≤ℤ◌, arith}
 use Rattle.std.proofs.lemmas.Int.{ints}
 
@@ -6,13 +6,13 @@ use Rattle.std.proofs.lemmas.Int.{ints}
 pub own_opposite : {z : ℤ} → z ≡ neg_ℤ z → z ≡ pos 0
 own_opposite e = omega (arith, ints)
 
--- the opposite of a number that is not negative is not positive
-pub opposite_of_not_negative : {z w : ℤ} → w ≡ neg_ℤ z → pos 0 ≤ℤ z → w ≤ℤ pos 0
-opposite_of_not_negative e h = omega (arith, ints)
+-- the opposite of 0 is 0
+pub turned_zero : {d e : ℤ} → e ≡ neg_ℤ d → d ≡ pos 0 → e ≡ pos 0
+turned_zero e h = omega (arith, ints)
 
--- of one that is not positive, it is not negative
-pub opposite_of_not_positive : {z w : ℤ} → w ≡ neg_ℤ z → z ≤ℤ pos 0 → pos 0 ≤ℤ w
-opposite_of_not_positive e h = omega (arith, ints)
+-- a number that is not negative, and whose opposite is not, is 0
+pub zero_of_both : {d e : ℤ} → e ≡ neg_ℤ d → pos 0 ≤ℤ d → pos 0 ≤ℤ e → d ≡ pos 0
+zero_of_both e h k = omega (arith, ints)
 
 -- where the opposite is 0, the number is 0,
 pub zero_of_opposite : {z : ℤ} → neg_ℤ z ≡ pos 0 → z ≡ pos 0

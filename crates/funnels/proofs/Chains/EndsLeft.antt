@@ -1,5 +1,6 @@
 -- The ends of the next funnel on the side from the corner beyond the diagonal to its right end.
-use Rattle.std.proofs.Common.{◌≡◌, ◌⊎◌, inl, inr, sym, ap, subst, ◌∙◌, true, List, ◌∷◌, ◌++◌, length, drop, ℕ, ◌+◌, ◌-◌, ◌<◌, pos, ◌<ℤ◌, arith}
+use Rattle.std.proofs.Common.{◌≡◌, inl, inr, sym, ap, subst, ◌∙◌, true, false, List, ◌∷◌, ◌++◌, length, drop, ℕ, ◌+◌, ◌-◌, ◌<◌, pos, ◌<ℤ◌}
+use Rattle.std.proofs.Common.{arith}
 use Rattle.std.proofs.lemmas.Bool.{cases_lt}
 use Rattle.integer_algebra.proofs.SignSteps.{positive_not_negative}
 use Rattle.plane.specs.Point.{Point, whole}
@@ -7,13 +8,14 @@ use Rattle.plane.specs.Turn.{IsLeft}
 use Rattle.rings.specs.Chain.{point_at}
 use Rattle.rings.specs.Ring.{vertex}
 use Rattle.rings.specs.Sees.{Sees}
-use Rattle.meshes.specs.Fits.{Fits, IsSideOfTwo}
+use Rattle.meshes.specs.Fits.{Fits}
 use Rattle.meshes.specs.Side.{HasSide, tri_at}
 use Rattle.meshes.specs.declared.tri.Tri.{Tri}
-use Rattle.funnels.proofs.Bends.{fan_goes_on_clockwise}
+use Rattle.funnels.proofs.Bends.{fan_goes_on}
 use Rattle.funnels.proofs.Chains.EndFans.{corner_beyond, fan_to_right}
 use Rattle.funnels.proofs.Chains.WaysBefore.{before_apex_right, before_last_right}
 use Rattle.funnels.proofs.Funnels.{left_place, next_left_length}
+use Rattle.funnels.proofs.Vertices.{IsSharedSide, shared_side_back}
 use Rattle.funnels.specs.Fanned.{IsFanned}
 use Rattle.funnels.specs.Funnel.{IsFunnel, IsPassed, IsReachedFrom, height}
 use Rattle.funnels.specs.OpenFunnel.{HasOpenEnds, IsBeforeFirst, IsBeforeLast, right_behind}
@@ -65,22 +67,21 @@ pub ends_left : (corners : List Point) (tris : List Tri) → Fits corners tris �
     → (before ns : List Point) (a : ℕ) → IsFunnel ns a (vertex corners i) (vertex corners j)
     → HasOpenEnds corners before ns a (vertex corners i) (vertex corners j)
     → (h : ℕ) → IsReachedFrom ns a h (whole (vertex corners m)) → Sees corners (whole (point_at ns h)) (whole (vertex corners m))
-    → (x y : ℕ) → IsSideOfTwo tris m j x y ⊎ IsSideOfTwo tris j m x y
+    → IsSharedSide tris m j
     → HasOpenEnds corners (before ++ right_behind ns a (h - a)) (vertex corners m ∷ drop h ns) (a - h + 1)
     (vertex corners m) (vertex corners j)
-ends_left corners tris fits k i j m in_list first second third before ns a f ends h reached sees x y shared =
+ends_left corners tris fits k i j m in_list first second third before ns a f ends h reached sees shared =
     let p = vertex corners m in
     let apex = f.apex_within in
     let within = reached.within in
     let count = next_left_length ns p h within in
-    let back : IsSideOfTwo tris j m x y ⊎ IsSideOfTwo tris m j x y = elim shared [ inl s ↦ inr s | inr s ↦ inl s ] in
     record {
       left = λ q is.
           subst (λ (n : Point). IsFanned true corners p (whole n) (whole (vertex corners j)))
           (sym (before_first_left before ns a h p q apex within is))
-          (fan_to_right corners tris fits k i j m in_list first second third ns a f h reached sees x y shared);
+          (fan_to_right corners tris fits k i j m in_list first second third ns a f h reached sees shared);
       right = λ q is.
-          fan_goes_on_clockwise corners tris fits k j i m in_list second first x y back (whole q)
+          fan_goes_on corners tris fits k in_list false m j i (second, first) (shared_side_back shared) (whole q)
           (ends.right q (before_last_left before ns a h p q apex within is));
       short_left = λ none. absurd (omega arith);
       short_right = λ all. elim (cases_lt h a) [

@@ -1,5 +1,6 @@
 -- The ends of the next funnel on the side from the left end of the diagonal to the corner beyond it.
-use Rattle.std.proofs.Common.{◌≡◌, ◌⊎◌, inl, inr, sym, ap, subst, ◌∙◌, false, List, [], ◌∷◌, ◌++◌, length, take, ℕ, ◌+◌, ◌-◌, ◌<◌, min, arith}
+use Rattle.std.proofs.Common.{◌≡◌, inl, inr, sym, ap, subst, ◌∙◌, true, false, List, [], ◌∷◌, ◌++◌, length, take, ℕ, ◌+◌, ◌-◌, ◌<◌, min}
+use Rattle.std.proofs.Common.{arith}
 use Rattle.std.proofs.lemmas.Bool.{cases_lt}
 use Rattle.integer_algebra.proofs.SignSteps.{positive_not_negative}
 use Rattle.plane.specs.Point.{Point, whole}
@@ -7,13 +8,14 @@ use Rattle.plane.specs.Turn.{IsLeft, IsRight}
 use Rattle.rings.specs.Chain.{point_at}
 use Rattle.rings.specs.Ring.{vertex}
 use Rattle.rings.specs.Sees.{Sees}
-use Rattle.meshes.specs.Fits.{Fits, IsSideOfTwo}
+use Rattle.meshes.specs.Fits.{Fits}
 use Rattle.meshes.specs.Side.{HasSide, tri_at}
 use Rattle.meshes.specs.declared.tri.Tri.{Tri}
 use Rattle.funnels.proofs.Bends.{fan_goes_on}
 use Rattle.funnels.proofs.Chains.EndFans.{corner_left, fan_to_left}
 use Rattle.funnels.proofs.Chains.WaysBefore.{before_apex_left, before_last_left}
 use Rattle.funnels.proofs.Funnels.{next_right_length, next_right_old}
+use Rattle.funnels.proofs.Vertices.{IsSharedSide, shared_side_back}
 use Rattle.funnels.specs.Fanned.{IsFanned}
 use Rattle.funnels.specs.Funnel.{IsFunnel, IsPassed, IsReachedFrom}
 use Rattle.funnels.specs.OpenFunnel.{HasOpenEnds, IsBeforeFirst, IsBeforeLast, left_behind}
@@ -61,22 +63,22 @@ pub ends_right : (corners : List Point) (tris : List Tri) → Fits corners tris 
     → (before ns : List Point) (a : ℕ) → IsFunnel ns a (vertex corners i) (vertex corners j)
     → HasOpenEnds corners before ns a (vertex corners i) (vertex corners j)
     → (h : ℕ) → IsReachedFrom ns a h (whole (vertex corners m)) → Sees corners (whole (point_at ns h)) (whole (vertex corners m))
-    → (x y : ℕ) → IsSideOfTwo tris i m x y ⊎ IsSideOfTwo tris m i x y
+    → IsSharedSide tris i m
     → HasOpenEnds corners (before ++ left_behind ns a (a - h)) (take (h + 1) ns ++ vertex corners m ∷ []) (min a h)
     (vertex corners i) (vertex corners m)
-ends_right corners tris fits k i j m in_list first second third before ns a f ends h reached sees x y shared =
+ends_right corners tris fits k i j m in_list first second third before ns a f ends h reached sees shared =
     let p = vertex corners m in
     let within = reached.within in
     let count = next_right_length ns p h within in
-    let back : IsSideOfTwo tris m i x y ⊎ IsSideOfTwo tris i m x y = elim shared [ inl s ↦ inr s | inr s ↦ inl s ] in
     record {
       left = λ q is.
-          fan_goes_on corners tris fits k i m j in_list first third x y shared (whole q)
+          fan_goes_on corners tris fits k in_list true m i j (third, first) shared (whole q)
           (ends.left q (before_first_right before ns a h p q within is));
       right = λ q is.
           subst (λ (n : Point). IsFanned false corners p (whole n) (whole (vertex corners i)))
           (sym (before_last_right before ns a h p q within is))
-          (fan_to_left corners tris fits k i j m in_list first second third ns a f h reached sees x y back);
+          (fan_to_left corners tris fits k i j m in_list first second third ns a f h reached sees
+          (shared_side_back shared));
       short_left = λ none. elim (cases_lt 0 h) [
         | inr start ↦ omega arith
         | inl some ↦

@@ -1,16 +1,10 @@
 -- Between two points that are not left of a line no point is left of it; and none is right of it between two that are not.
-use Rattle.std.proofs.Common.{◌≡◌, ℤ, pos, neg_ℤ, ◌<ℤ◌, ◌≤ℤ◌, arith}
-use Rattle.std.proofs.lemmas.Int.{ints}
 use Rattle.integer_algebra.proofs.SignSteps.{mean_not_positive, not_both, not_both_positive, at_most_unless}
 use Rattle.plane.proofs.Turns.{combination_of, determinant_along}
 use Rattle.plane.specs.Point.{IsPoint, Triple}
 use Rattle.plane.specs.Segment.{On}
 use Rattle.plane.specs.Turn.{IsLeft, IsRight}
 use Rattle.ring_laws.proofs.Triangles.{not_negative, not_right_between}
-
--- the opposite, written otherwise, of a number that is not positive is at least 0
-pub turned_at_least : {d e : ℤ} → e ≡ neg_ℤ d → ¬ (pos 0 <ℤ d) → pos 0 ≤ℤ e
-turned_at_least e h = grind (arith, ints)
 
 module _ (s t x a b : Triple) (at_x : IsPoint x) (at_a : IsPoint a) (at_b : IsPoint b) (on : On x a b) where
   -- where the ends of a segment are not left of a line, no point of it is

@@ -3,8 +3,6 @@
 use Rattle.std.proofs.Common.{◌≡◌, ◌⊎◌, inl, inr, sym, subst, ap, ◌∙◌, Bool, true, false, not, ℕ, zero, suc, ◌+◌, ◌-◌, ◌<◌, ◌≤◌, pos, ◌<ℤ◌, List}
 use Rattle.std.proofs.Common.{length, get_or, arith}
 use Rattle.std.proofs.lemmas.Bool.{cases_lt}
-use Rattle.std.proofs.lemmas.Int.{ints}
-use Rattle.plane.proofs.Turns.{determinant_same_last}
 use Rattle.plane.specs.Point.{Point, Triple, whole}
 use Rattle.rings.specs.Chain.{IsBentChain, IsInner, point_at}
 use Rattle.rings.specs.Ring.{vertex}
@@ -13,17 +11,13 @@ use Rattle.meshes.specs.Fits.{Fits, IsInTri}
 use Rattle.meshes.specs.Laws.{CrossesSide, walk_tri}
 use Rattle.meshes.specs.Side.{IsWalk}
 use Rattle.meshes.specs.declared.tri.Tri.{Tri}
+use Rattle.funnels.proofs.Bends.{not_ahead_of_itself}
 use Rattle.funnels.proofs.DeadEnds.{HasSideOn, corner_at_side, crossed_back, end_of_crossed, within_before}
 use Rattle.funnels.proofs.Passing.Bent.{bent}
 use Rattle.funnels.proofs.Passing.Flipped.{flipped}
 use Rattle.funnels.specs.Corner.{FollowsWalk, HasCornerOn, IsFirstWith, IsInAngle}
 use Rattle.funnels.specs.Fanned.{turning}
 use Rattle.funnels.specs.Passing.{ArePassing}
-
--- a way does not turn off to its own end
-pub not_ahead_of_itself : (side : Bool) (p : Point) (h : Triple) → ¬ (pos 0 <ℤ turning side p h h)
-not_ahead_of_itself true p h ahead = let e = determinant_same_last (whole p) h in omega (arith, ints)
-not_ahead_of_itself false p h ahead = let e = determinant_same_last (whole p) h in omega (arith, ints)
 
 -- a side in the mirror image
 side_flipped : (side : Bool) (t : Tri) (far own : ℕ) → HasSideOn side t far own → HasSideOn (not side) t own far

@@ -3,6 +3,7 @@ use Rattle.std.proofs.Common.{◌≡◌, ◌⊎◌, inl, inr, refl, sym, subst, 
 use Rattle.std.proofs.lemmas.Int.{ints}
 use Rattle.integer_algebra.proofs.Laws.{mul-zero, zero-mul}
 use Rattle.integer_algebra.proofs.SignSteps.{mean_negative, mean_not_positive, not_both, not_both_positive, weak, zero_not_positive}
+use Rattle.integer_algebra.proofs.SignSteps.{weak_order}
 use Rattle.integer_algebra.proofs.Signs.{factor_nonpositive, is_negative, is_positive, is_zero, lt_or_le, mul_negative, mul_nonnegative}
 use Rattle.integer_algebra.proofs.Signs.{mul_nonpositive, sign}
 use Rattle.plane.proofs.Points.{whole_is_point}
@@ -14,7 +15,6 @@ use Rattle.plane.specs.Triangle.{IsInTriangle, height_over}
 use Rattle.plane.specs.Turn.{IsLeft, determinant}
 use Rattle.rings.specs.Apart.{AreApart, IsCommonEnd}
 use Rattle.rings.specs.Edge.{Edge, HasEdge, HasEnd, IsOn}
-use Rattle.ring_laws.proofs.Triangles.BeyondLine.{negative_at_most}
 use Rattle.ring_laws.proofs.Triangles.SidesAtVertex.{at_first, at_last, at_middle, meets_first, meets_second, way_out}
 use Rattle.ring_laws.proofs.Triangles.Triangles.{height_of_first, height_of_last, in_or_not, not_negative, on_first_side, on_second_side}
 
@@ -78,8 +78,8 @@ module _ (es : List Edge) (apart : AreApart es) (u v w : Point) (left : IsLeft (
         | inr outside ↦ elim (way_out es apart u v w first second e has left x at_x on_edge x_first x_second low a end outside
             high) [
               | at_middle h ↦ absurd (off h)
-              | at_first h right flat ↦ by_first (zero_between high flat) h (negative_at_most right)
-              | at_last h right flat ↦ by_last (zero_between high flat) h (negative_at_most right)
+              | at_first h right flat ↦ by_first (zero_between high flat) h (weak_order right)
+              | at_last h right flat ↦ by_last (zero_between high flat) h (weak_order right)
             ]
       ]
 

@@ -26,7 +26,7 @@ opposite_of q m e h = omega (arith, ints)
 -- ---- a point on the line of a side
 
 -- one part of it: x of the point, y and z of the ends, t of the third corner
-of_side : (p q r d x y z t : ℤ) → r ≡ pos 0 → p *ℤ y -ℤ q *ℤ z +ℤ r *ℤ t -ℤ d *ℤ x ≡ pos 0 → d *ℤ x ≡ p *ℤ y +ℤ neg_ℤ q *ℤ z
+pub of_side : (p q r d x y z t : ℤ) → r ≡ pos 0 → p *ℤ y -ℤ q *ℤ z +ℤ r *ℤ t -ℤ d *ℤ x ≡ pos 0 → d *ℤ x ≡ p *ℤ y +ℤ neg_ℤ q *ℤ z
 of_side p q r d x y z t none e = omega (arith, ints, neg-mul q z, ap (λ n. n *ℤ t) none, zero-mul t)
 
 module _ (a b c x : Triple) where
