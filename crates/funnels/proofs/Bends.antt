@@ -10,9 +10,6 @@ mod FannedSteps
 -- A triangle of a mesh at one of its corners: its points are in the angle there, and the corner sees them.
 mod CornerSights
 pub use Rattle.funnels.proofs.Bends.CornerSights.{first_end_in, in_angle, last_end_in, sees_in_triangle, sees_within}
--- Signs of numbers, from those of their opposites.
-mod Opposites
-pub use Rattle.funnels.proofs.Bends.Opposites.{turned_zero, zero_of_both}
 -- At a vertex of a simple ring that is not reflex, directions toward which the ring is open turn by a half turn at most.
 mod NarrowFans
 -- The two neighbours of a vertex in a simple ring are on two rays from it.

@@ -40,6 +40,6 @@ pub use Rattle.ring_laws.proofs.Triangles.TriangleRing.{in_of_in_triangle, in_tr
 -- Closed triangles: their corners, the points on their sides, segments within them, and heights over a side.
 mod Triangles
 pub use Rattle.ring_laws.proofs.Triangles.Triangles.{between_in_triangle, first_in_triangle, in_or_not, in_triangle, last_in_triangle, left_at_first}
-pub use Rattle.ring_laws.proofs.Triangles.Triangles.{left_at_last, left_of_first, middle_in_triangle, not_negative, not_right_between}
+pub use Rattle.ring_laws.proofs.Triangles.Triangles.{left_at_last, left_of_first, middle_in_triangle, not_right_between}
 pub use Rattle.ring_laws.proofs.Triangles.Triangles.{of_side, on_first_side}
 pub use Rattle.ring_laws.proofs.Triangles.Triangles.{on_second_side, on_third_side}

@@ -1,5 +1,6 @@
 -- A triangle of a mesh at one of its corners: its points are in the angle there, and the corner sees them.
 use Rattle.std.proofs.Common.{inl, inr, sym, subst, Bool, true, false, ℕ, ◌<◌, pos, ◌≤ℤ◌, List, length}
+use Rattle.integer_algebra.proofs.SignSteps.{at_least_unless}
 use Rattle.plane.proofs.Points.{whole_is_point}
 use Rattle.plane.proofs.Segments.{on_first_end, on_last_end}
 use Rattle.plane.proofs.Turns.{determinant_shift}
@@ -8,7 +9,7 @@ use Rattle.plane.specs.Turn.{IsRight}
 use Rattle.rings.specs.Inside.{IsIn}
 use Rattle.rings.specs.Ring.{vertex}
 use Rattle.rings.specs.Sees.{Sees}
-use Rattle.ring_laws.proofs.Triangles.{between_in_triangle, not_negative}
+use Rattle.ring_laws.proofs.Triangles.{between_in_triangle}
 use Rattle.meshes.proofs.Parts.{opposite}
 use Rattle.meshes.specs.Fits.{Fits, IsInTri}
 use Rattle.meshes.specs.Side.{HasSide, tri_at}
@@ -81,9 +82,9 @@ module _ (corners : List Point) (tris : List Tri) (fits : Fits corners tris) (k 
   in_left_angle : (before v after : ℕ) → HasSide (tri_at tris k) before v → HasSide (tri_at tris k) v after
       → (y : Triple) → IsInTri corners (tri_at tris k) y → IsInAngle true corners before v after y
   in_left_angle before v after first second y inside = record {
-    from_after = not_negative (not_right_of_side corners (tri_at tris k) y inside v after second);
+    from_after = at_least_unless (not_right_of_side corners (tri_at tris k) y inside v after second);
     to_before = subst (λ d. pos 0 ≤ℤ d) (sym (determinant_shift (whole (vertex corners before)) (whole (vertex corners v)) y))
-        (not_negative (not_right_of_side corners (tri_at tris k) y inside before v first));
+        (at_least_unless (not_right_of_side corners (tri_at tris k) y inside before v first));
   }
 
   -- and from either side

@@ -2,7 +2,7 @@
 -- neighbour goes.
 use Rattle.std.proofs.Common.{◌≡◌, ◌⊎◌, sym, subst, Bool, true, false, not, ℕ, ◌<◌, pos, ◌<ℤ◌, ◌≤ℤ◌, List, length, arith}
 use Rattle.std.specs.List.{range_with_len}
-use Rattle.integer_algebra.proofs.SignSteps.{not_both, positive_of_not_zero, turned_negative}
+use Rattle.integer_algebra.proofs.SignSteps.{not_both, positive_of_not_zero, turned_negative, turned_zero}
 use Rattle.integer_algebra.proofs.Signs.{is_negative, is_positive, is_zero, sign}
 use Rattle.plane.proofs.Points.{same_whole, whole_is_point}
 use Rattle.plane.proofs.Turns.{determinant_swap_last}
@@ -19,7 +19,6 @@ use Rattle.meshes.specs.Fits.{Fits, piece_points}
 use Rattle.meshes.specs.Side.{HasSide, tri_at}
 use Rattle.meshes.specs.declared.tri.Tri.{Tri}
 use Rattle.funnels.proofs.Bends.InLine.{level_is_vertex, ray_ahead, ray_behind}
-use Rattle.funnels.proofs.Bends.Opposites.{turned_zero}
 use Rattle.funnels.proofs.Bends.Turnings.{turning_not, turning_swap}
 use Rattle.funnels.proofs.Vertices.{IsSharedSide, fitted_long, fitted_simple, neighbour_not_inside, neighbours_differ, off_shared}
 use Rattle.funnels.specs.Corner.{HasCornerOn, IsInAngle}

@@ -34,6 +34,11 @@ negative_unless {x} {y} h n = elim (lt_or_le y (pos 0)) [ inl k ↦ k | inr k �
 pub record Relation (ab ac ad bc bd cd : ℤ) : Type 0 where
   pub holds : ab *ℤ cd -ℤ ac *ℤ bd +ℤ ad *ℤ bc ≡ pos 0
 
+-- any four have it
+pub relation : {A : Type 0} (f : A → A → ℤ) → ((a b c d : A) → f a b *ℤ f c d -ℤ f a c *ℤ f b d +ℤ f a d *ℤ f b c ≡ pos 0) → (a b c d : A)
+    → Relation (f a b) (f a c) (f a d) (f b c) (f b d) (f c d)
+relation f four a b c d = record { holds = four a b c d }
+
 module _ {ab ac ad bc bd cd : ℤ} (e : Relation ab ac ad bc bd cd) where
   -- b not right of a, then c and d ahead: where d is left of a, c is
   pub left_of_start : pos 0 ≤ℤ ab → pos 0 <ℤ bd → pos 0 ≤ℤ cd → pos 0 <ℤ ad → pos 0 <ℤ bc → pos 0 <ℤ ac

@@ -3,6 +3,7 @@ use Rattle.std.proofs.Common.{◌≡◌, ◌⊎◌, refl, sym, subst, Bool, ℤ,
 use Rattle.std.proofs.lemmas.Int.{ints}
 use Rattle.integer_algebra.proofs.Certificate.{product_zero}
 use Rattle.integer_algebra.proofs.SignSteps.{negative_not_zero, not_both, not_both_positive, turned_not_negative, turned_positive}
+use Rattle.integer_algebra.proofs.SignSteps.{turned_zero}
 use Rattle.integer_algebra.proofs.Signs.{factor_zero, is_negative, is_positive, is_zero, sign}
 use Rattle.plane.proofs.Points.{whole_is_point}
 use Rattle.plane.specs.Point.{IsSame, Point, Triple, whole}
@@ -11,7 +12,6 @@ use Rattle.rings.specs.Bend.{AreNeighbours, IsBend}
 use Rattle.funnels.proofs.Bends.BendTurnings.{bend_of_turnings, turnings_of_bend}
 use Rattle.funnels.proofs.Bends.FanCones.{cone_grows}
 use Rattle.funnels.proofs.Bends.InLine.{level_is_vertex, ray_ahead, ray_behind}
-use Rattle.funnels.proofs.Bends.Opposites.{turned_zero}
 use Rattle.funnels.proofs.Bends.Turnings.{turning_four, turning_swap}
 use Rattle.funnels.proofs.Bends.TwoRays.{HasTwoRays}
 use Rattle.funnels.specs.Fan.{IsLastStep}

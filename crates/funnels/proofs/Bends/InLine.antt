@@ -5,7 +5,8 @@ use Rattle.std.proofs.Common.{◌<ℤ◌, arith}
 use Rattle.std.proofs.lemmas.Int.{ints}
 use Rattle.integer_algebra.proofs.Laws.{eq_of_sub-zero, neg-mul, zero-mul}
 use Rattle.integer_algebra.proofs.Polynomial.{lit, var, ◌⊖◌, ◌⊗◌, same_value}
-use Rattle.integer_algebra.proofs.SignSteps.{positive_not_zero}
+use Rattle.integer_algebra.proofs.SignSteps.{negative_not_zero, negative_of_opposite, positive_not_zero, positive_of_opposite}
+use Rattle.integer_algebra.proofs.SignSteps.{zero_of_opposite}
 use Rattle.integer_algebra.proofs.Signs.{factor_zero}
 use Rattle.plane.proofs.Points.{whole_is_point}
 use Rattle.plane.proofs.Segments.{same_straight}
@@ -13,16 +14,9 @@ use Rattle.plane.proofs.Turns.{determinant_same_ends, four_triples_in_W, four_tr
 use Rattle.plane.specs.Point.{IsPoint, IsSame, Point, Triple, whole}
 use Rattle.plane.specs.Segment.{On}
 use Rattle.plane.specs.Turn.{IsStraight}
-use Rattle.funnels.proofs.Bends.Opposites.{negative_of_opposite, positive_of_opposite, zero_of_opposite}
 use Rattle.funnels.proofs.Bends.Turnings.{turning_not}
 use Rattle.funnels.proofs.Vertices.{ray_on_left, ray_on_right}
 use Rattle.funnels.specs.Fanned.{turning}
-
--- ---- signs
-
--- a number with a positive opposite is not 0
-opposite_not_zero : (z : ℤ) → pos 0 <ℤ neg_ℤ z → ¬ (z ≡ pos 0)
-opposite_not_zero z h e = omega (arith, ints)
 
 -- ---- lines through the vertex
 
@@ -34,7 +28,7 @@ turning_straight false v a b e = zero_of_opposite e
 -- and one that turns is not
 turning_not_straight : (side : Bool) (v : Point) (a b : Triple) → pos 0 <ℤ turning side v a b → ¬ IsStraight (whole v) a b
 turning_not_straight true v a b h = positive_not_zero h
-turning_not_straight false v a b h = opposite_not_zero _ h
+turning_not_straight false v a b h = negative_not_zero (negative_of_opposite h)
 
 -- ---- the vertex itself
 

@@ -4,7 +4,7 @@ use Rattle.std.proofs.lemmas.Int.{ints}
 use Rattle.integer_algebra.proofs.Laws.{mul_comm}
 use Rattle.integer_algebra.proofs.SignSteps.{weak}
 use Rattle.integer_algebra.proofs.Signs.{factor_positive, mul_nonpositive, mul_positive}
-use Rattle.funnels.proofs.Bends.FanSigns.{Relation, right_of_third}
+use Rattle.funnels.proofs.Bends.FanSigns.{Relation, relation, right_of_third}
 use Rattle.funnels.specs.Fan.{IsFanStep, IsLastStep}
 
 -- b not right of a, and c left of both: where d is left of b and not left of c, it is left of a
@@ -22,8 +22,7 @@ module _ {A : Type 0} (f : A → A → ℤ)
   step_from_within a c x step low high = record {
     ahead = high;
     none = λ u n swept.
-        let e : Relation (f a x) (f a c) (f a u) (f x c) (f x u) (f c u) = record { holds = four a x c u } in
-        step.none u n (left_of_all e low step.ahead high swept.0 swept.1, swept.1);
+        step.none u n (left_of_all (relation f four a x c u) low step.ahead high swept.0 swept.1, swept.1);
   }
 
   -- from the start of a last step to a direction within it there is a last step
@@ -31,6 +30,5 @@ module _ {A : Type 0} (f : A → A → ℤ)
   last_step_to_within a c y step low high = record {
     ahead = low;
     none = λ u n swept.
-        let e : Relation (f a y) (f a c) (f a u) (f y c) (f y u) (f c u) = record { holds = four a y c u } in
-        step.none u n (swept.0, right_of_third e (weak low) step.ahead (weak swept.0) high swept.1);
+        step.none u n (swept.0, right_of_third (relation f four a y c u) (weak low) step.ahead (weak swept.0) high swept.1);
   }

@@ -2,10 +2,9 @@
 use Rattle.std.proofs.Common.{◌≡◌, Bool, true, false, not, sym, ap, ◌∙◌, ℤ, pos, ◌+ℤ◌, ◌-ℤ◌, ◌*ℤ◌, neg_ℤ, ◌<ℤ◌, arith}
 use Rattle.std.proofs.lemmas.Int.{ints}
 use Rattle.integer_algebra.proofs.Laws.{mul-neg, neg-mul, neg_neg}
-use Rattle.integer_algebra.proofs.SignSteps.{positive_not_zero}
+use Rattle.integer_algebra.proofs.SignSteps.{own_opposite, positive_not_zero}
 use Rattle.plane.proofs.Turns.{IsCombination, determinant_along, determinant_swap_last, five_triples}
 use Rattle.plane.specs.Point.{Point, Triple, whole}
-use Rattle.funnels.proofs.Bends.Opposites.{own_opposite}
 use Rattle.funnels.specs.Fanned.{turning}
 
 -- a turning changes its sign where the two change places

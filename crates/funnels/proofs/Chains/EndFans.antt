@@ -1,6 +1,6 @@
 -- At the corner of a triangle beyond the diagonal fans begin with the way back to the point of the funnel that it is reached from.
 use Rattle.std.proofs.Common.{◌≡◌, true, false, sym, subst, ℕ, ◌<◌, List, length, pos, ◌<ℤ◌, ◌≤ℤ◌}
-use Rattle.integer_algebra.proofs.SignSteps.{at_most_unless, not_both, turned_negative, turned_not_negative}
+use Rattle.integer_algebra.proofs.SignSteps.{at_least_unless, at_most_unless, not_both, turned_negative, turned_not_negative}
 use Rattle.plane.proofs.Points.{same_whole, whole_is_point}
 use Rattle.plane.proofs.Segments.{on_reversed}
 use Rattle.plane.proofs.Turns.{determinant_shift, determinant_swap_first}
@@ -9,7 +9,6 @@ use Rattle.plane.specs.Turn.{IsLeft}
 use Rattle.rings.specs.Chain.{point_at}
 use Rattle.rings.specs.Ring.{vertex}
 use Rattle.rings.specs.Sees.{Sees}
-use Rattle.ring_laws.proofs.Triangles.{not_negative as at_least_zero}
 use Rattle.meshes.proofs.TreeLeaves.{turns_left}
 use Rattle.meshes.specs.Fits.{Fits}
 use Rattle.meshes.specs.Side.{HasSide, tri_at}
@@ -49,7 +48,7 @@ module _ (corners : List Point) (tris : List Tri) (fits : Fits corners tris) (k 
         let P = whole (point_at ns h) in
         let meets = reaches_new ns a (vertex corners i) (vertex corners j) f h (vertex corners m) corner_beyond reached in
         record {
-          from_after = subst (λ d. pos 0 ≤ℤ d) (sym (determinant_shift P M (whole (vertex corners i)))) (at_least_zero meets.not_right);
+          from_after = subst (λ d. pos 0 ≤ℤ d) (sym (determinant_shift P M (whole (vertex corners i)))) (at_least_unless meets.not_right);
           to_before = turned_not_negative (determinant_swap_first P M (whole (vertex corners j))) (at_most_unless meets.not_left);
         }
 

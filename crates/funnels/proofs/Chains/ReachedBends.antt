@@ -2,14 +2,13 @@
 use Rattle.std.proofs.Common.{◌≡◌, inl, inr, Bool, true, false, refl, sym, subst, ap, List, length, ℕ, ◌+◌, ◌-◌, ◌<◌, pos, ◌<ℤ◌, ◌≤ℤ◌}
 use Rattle.std.proofs.Common.{arith}
 use Rattle.std.proofs.lemmas.Bool.{cases_lt}
-use Rattle.integer_algebra.proofs.SignSteps.{at_most_unless, turned_not_negative}
+use Rattle.integer_algebra.proofs.SignSteps.{at_least_unless, at_most_unless, turned_not_negative}
 use Rattle.plane.proofs.Turns.{determinant_swap_first}
 use Rattle.plane.specs.Point.{Point, whole}
 use Rattle.rings.specs.Bend.{IsBend}
 use Rattle.rings.specs.Chain.{point_at}
 use Rattle.rings.specs.Ring.{vertex}
 use Rattle.rings.specs.Sees.{Sees}
-use Rattle.ring_laws.proofs.Triangles.{not_negative as at_least_zero}
 use Rattle.meshes.specs.Fits.{Fits, IsInTri}
 use Rattle.meshes.specs.Side.{HasSide, tri_at}
 use Rattle.meshes.specs.declared.tri.Tri.{Tri}
@@ -75,7 +74,7 @@ module _ (corners : List Point) (tris : List Tri) (fits : Fits corners tris) (k 
         (bend_from_fan corners tris fits k within false m j i (next, first) y inside x
         (back_of_right x r y (subst (λ v. turns_right x v y) is_right (right_of_way ns a l r f h (whole y) reached on_right)))
         (subst (λ d. pos 0 ≤ℤ d) (determinant_swap_first (whole r) (whole x) (whole l))
-        (at_least_zero (subst (λ v. Reaches x v l r) is_right reach).not_right)) fanned
+        (at_least_unless (subst (λ v. Reaches x v l r) is_right reach).not_right)) fanned
         (subst (λ (v : Point). ¬ (x ≡ v)) is_right differ) (subst (λ (v : Point). Sees corners (whole v) (whole y)) is_right seen))
 
     -- so there is one at each point from which another is reached

@@ -2,13 +2,12 @@
 use Rattle.std.proofs.Common.{◌≡◌, inl, inr, true, ℕ, ℤ, pos, ◌+ℤ◌, ◌-ℤ◌, ◌*ℤ◌, ◌<ℤ◌, ◌≤ℤ◌, List, arith}
 use Rattle.std.proofs.lemmas.Int.{ints}
 use Rattle.integer_algebra.proofs.Laws.{mul_comm}
-use Rattle.integer_algebra.proofs.SignSteps.{at_most_unless, turned_not_negative, turned_positive}
+use Rattle.integer_algebra.proofs.SignSteps.{at_least_unless, at_most_unless, turned_not_negative, turned_positive}
 use Rattle.integer_algebra.proofs.Signs.{factor_nonnegative, mul_nonnegative}
 use Rattle.plane.proofs.Turns.{determinant_swap_last}
 use Rattle.plane.specs.Cone.{IsInCone}
 use Rattle.plane.specs.Point.{Point, Triple, whole}
 use Rattle.rings.specs.Ring.{vertex}
-use Rattle.ring_laws.proofs.Triangles.{not_negative}
 use Rattle.funnels.proofs.Bends.{turning_four}
 use Rattle.funnels.specs.Corner.{IsInAngle}
 use Rattle.funnels.specs.Fanned.{turning}
@@ -41,7 +40,7 @@ module _ (corners : List Point) (before v after : ℕ) where
   -- so what is in the cone between p and q is within the angle where they are
   pub within_cone : (p q u : Triple) → IsInAngle true corners before v after p → IsInAngle true corners before v after q
       → IsInCone (whole (vertex corners v)) p q u → IsInAngle true corners before v after u
-  within_cone p q u in_p in_q (inl h) = within_between p q u in_p in_q h.0 (not_negative h.1) (not_negative h.2)
+  within_cone p q u in_p in_q (inl h) = within_between p q u in_p in_q h.0 (at_least_unless h.1) (at_least_unless h.2)
   within_cone p q u in_p in_q (inr h) =
       let V = whole (vertex corners v) in
       within_between q p u in_q in_p (turned_positive (determinant_swap_last V p q) h.0)

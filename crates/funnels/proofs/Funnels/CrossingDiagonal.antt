@@ -2,15 +2,15 @@
 use Rattle.std.proofs.Common.{◌≡◌, inl, inr, ℤ, pos, ◌+ℤ◌, ◌*ℤ◌, ◌<ℤ◌, ◌≤ℤ◌, arith}
 use Rattle.std.proofs.lemmas.Int.{ints}
 use Rattle.integer_algebra.proofs.Laws.{mul_comm}
-use Rattle.integer_algebra.proofs.SignSteps.{at_most_unless, negative_not_zero, not_both, not_both_positive, positive_not_zero, weak}
-use Rattle.integer_algebra.proofs.SignSteps.{weak_order, zero_not_negative, zero_not_positive}
+use Rattle.integer_algebra.proofs.SignSteps.{at_least_unless, at_most_unless, negative_not_zero, not_both, not_both_positive}
+use Rattle.integer_algebra.proofs.SignSteps.{positive_not_zero, weak, weak_order, zero_not_negative, zero_not_positive}
 use Rattle.integer_algebra.proofs.Signs.{factor_zero, lt_or_le, mul_nonnegative, mul_nonpositive, mul_nonpositives, mul_positive}
 use Rattle.plane.proofs.Points.{whole_is_point}
 use Rattle.plane.proofs.Segments.{on_reversed}
 use Rattle.plane.specs.Point.{IsPoint, Point, Triple, whole}
 use Rattle.plane.specs.Segment.{On}
 use Rattle.plane.specs.Turn.{IsLeft, IsRight, IsStraight, determinant}
-use Rattle.ring_laws.proofs.Triangles.{in_triangle, not_negative, on_first_side}
+use Rattle.ring_laws.proofs.Triangles.{in_triangle, on_first_side}
 use Rattle.funnels.proofs.Funnels.EdgeLine.{IsEnd, end_is_straight, equal_ends}
 use Rattle.funnels.proofs.Funnels.LineCrossed.{determinant_on_line, on_line_between, weight_on_line}
 use Rattle.funnels.proofs.Funnels.SidesBetween.{not_left_along, not_right_along}
@@ -79,9 +79,9 @@ module _ (n l r : Point) (up : IsLeft (whole r) (whole l) (whole n))
       let N = whole n in
       let f = λ (v : Triple). determinant (whole u) (whole w) v in
       let by = weights_by_sum (determinant R L N) (determinant L N x) (determinant N R x) (f x) (f R) (f L) up weights
-      (determinant_on_line R L N x line (whole u) (whole w)) (at_most_unless reach.not_left) (not_negative reach.not_right)
+      (determinant_on_line R L N x line (whole u) (whole w)) (at_most_unless reach.not_left) (at_least_unless reach.not_right)
       (λ h. differ (equal_ends n u w l r end up h.1 h.0)) in
-      (λ side. by.0 (not_negative side), λ side. by.1 (at_most_unless side))
+      (λ side. by.0 (at_least_unless side), λ side. by.1 (at_most_unless side))
 
   -- not beyond r and l, it is on the diagonal
   on_diagonal : pos 0 ≤ℤ determinant (whole l) (whole n) x → pos 0 ≤ℤ determinant (whole n) (whole r) x → On x (whole l) (whole r)

@@ -1,7 +1,7 @@
 -- At a bend of a way that has come to a corner over a shared side, and goes on within the triangle beyond, it turns away from the side.
 use Rattle.std.proofs.Common.{◌≡◌, ◌⊎◌, inl, inr, sym, subst, Bool, true, false, not, ℕ, ◌+◌, ◌-◌, ◌<◌, pos, ◌<ℤ◌, ◌≤ℤ◌, List, length}
 use Rattle.integer_algebra.proofs.SignSteps.{not_both_positive, positive_of_not_zero, turned_negative, turned_not_negative}
-use Rattle.integer_algebra.proofs.SignSteps.{turned_positive, weak}
+use Rattle.integer_algebra.proofs.SignSteps.{turned_positive, turned_zero, weak, zero_of_both}
 use Rattle.integer_algebra.proofs.Signs.{is_negative, is_positive, is_zero, sign}
 use Rattle.plane.proofs.Points.{same_whole, whole_is_point}
 use Rattle.plane.proofs.Turns.{determinant_same_first}
@@ -16,8 +16,8 @@ use Rattle.meshes.specs.Fits.{Fits}
 use Rattle.meshes.specs.Side.{tri_at}
 use Rattle.meshes.specs.declared.tri.Tri.{Tri}
 use Rattle.funnels.proofs.Bends.{AreOnRay, corner_in_ring, corner_turns, level_is_vertex, neighbour_differs, not_ahead_of_itself}
-use Rattle.funnels.proofs.Bends.{not_reflex, ray_ahead, turned_zero, turning_differs, turning_four, turning_from_ray, turning_not}
-use Rattle.funnels.proofs.Bends.{turning_straight, turning_swap, turning_to_ray, turnings_of_bend, zero_of_both}
+use Rattle.funnels.proofs.Bends.{not_reflex, ray_ahead, turning_differs, turning_four, turning_from_ray, turning_not}
+use Rattle.funnels.proofs.Bends.{turning_straight, turning_swap, turning_to_ray, turnings_of_bend}
 use Rattle.funnels.proofs.Corners.{IsRingStep, left_of_line, neighbour_within, not_right_of_first, step_turn}
 use Rattle.funnels.proofs.Vertices.{beside_next, fitted_counterclockwise, fitted_long, fitted_simple, neighbours_not_on_ray, same_number}
 use Rattle.funnels.specs.Corner.{HasCornerOn, IsInAngle}

@@ -1,6 +1,6 @@
 -- Where no end but its corners is in the triangle at a vertex, the side across from the vertex meets the edges only at its ends.
 use Rattle.std.proofs.Common.{◌≡◌, ◌⊎◌, inl, inr, refl, sym, subst, List}
-use Rattle.integer_algebra.proofs.SignSteps.{not_both, zero_not_negative}
+use Rattle.integer_algebra.proofs.SignSteps.{not_both, positive_not_zero, zero_not_negative}
 use Rattle.integer_algebra.proofs.Signs.{is_negative, is_positive, is_zero, sign}
 use Rattle.integer_algebra.proofs.Decisions.{either_or_not}
 use Rattle.plane.proofs.Order.{point_or_other}
@@ -15,7 +15,6 @@ use Rattle.rings.specs.Apart.{AreApart, IsCommonEnd, MeetAtEnds}
 use Rattle.rings.specs.Edge.{Edge, HasEdge, HasEnd, IsOn}
 use Rattle.ring_laws.proofs.Triangles.LeavingTriangle.{mean_rises}
 use Rattle.ring_laws.proofs.Triangles.NoneEnters.{meets_at_base}
-use Rattle.ring_laws.proofs.Triangles.SidesAtVertex.{not_positive}
 use Rattle.ring_laws.proofs.Triangles.Triangles.{between_in_triangle, first_in_triangle, last_in_triangle}
 
 -- a point on the line through a from which c is left, and on the segment from a to c, is a
@@ -26,9 +25,9 @@ only_at_first s t a c x at_x line turns straight on =
     elim (sign d.m) [
       | is_negative h ↦ absurd (not_both h d.m_nonnegative)
       | is_zero none ↦ same_without_last x (whole a) (whole c) d none
-      | is_positive some ↦ absurd (not_positive straight
+      | is_positive some ↦ absurd (positive_not_zero
           (mean_rises d.k d.l d.m _ _ _ d.k_positive d.l_nonnegative some (determinant_along x (whole a) (whole c) d s t)
-          (zero_not_negative line) turns))
+          (zero_not_negative line) turns) straight)
     ]
 
 module _ (es : List Edge) (apart : AreApart es) (u v w : Point) (left : IsLeft (whole u) (whole v) (whole w))

@@ -2,8 +2,8 @@
 use Rattle.std.proofs.Common.{◌≡◌, ◌⊎◌, inl, inr, refl, sym, subst, ap, List, ℤ, pos, ◌+ℤ◌, ◌*ℤ◌, ◌<ℤ◌, ◌≤ℤ◌, arith}
 use Rattle.std.proofs.lemmas.Int.{ints}
 use Rattle.integer_algebra.proofs.Laws.{mul-zero, zero-mul}
-use Rattle.integer_algebra.proofs.SignSteps.{mean_negative, mean_not_positive, not_both, not_both_positive, weak, zero_not_positive}
-use Rattle.integer_algebra.proofs.SignSteps.{weak_order}
+use Rattle.integer_algebra.proofs.SignSteps.{at_least_unless, mean_negative, mean_not_positive, not_both, not_both_positive, weak}
+use Rattle.integer_algebra.proofs.SignSteps.{weak_order, zero_not_positive}
 use Rattle.integer_algebra.proofs.Signs.{factor_nonpositive, is_negative, is_positive, is_zero, lt_or_le, mul_negative, mul_nonnegative}
 use Rattle.integer_algebra.proofs.Signs.{mul_nonpositive, sign}
 use Rattle.plane.proofs.Points.{whole_is_point}
@@ -16,7 +16,7 @@ use Rattle.plane.specs.Turn.{IsLeft, determinant}
 use Rattle.rings.specs.Apart.{AreApart, IsCommonEnd}
 use Rattle.rings.specs.Edge.{Edge, HasEdge, HasEnd, IsOn}
 use Rattle.ring_laws.proofs.Triangles.SidesAtVertex.{at_first, at_last, at_middle, meets_first, meets_second, way_out}
-use Rattle.ring_laws.proofs.Triangles.Triangles.{height_of_first, height_of_last, in_or_not, not_negative, on_first_side, on_second_side}
+use Rattle.ring_laws.proofs.Triangles.Triangles.{height_of_first, height_of_last, in_or_not, on_first_side, on_second_side}
 
 -- ---- numbers
 
@@ -147,7 +147,7 @@ module _ (es : List Edge) (apart : AreApart es) (u v w : Point) (left : IsLeft (
               | inl h ↦ absurd (off h)
               | inr h ↦ record { end = w; of_first = h.0; of_second = inr refl; same = h.1 }
             ]
-        | is_positive x_second ↦ absurd (not_inner x_first x_second (not_negative inside.not_right_of_third))
+        | is_positive x_second ↦ absurd (not_inner x_first x_second (at_least_unless inside.not_right_of_third))
       ]
     ]
 
