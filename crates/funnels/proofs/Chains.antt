@@ -35,22 +35,18 @@ mod ApexEdges
 -- The way to a point beyond the diagonal bends at the point of the funnel from which it is reached.
 mod ReachedBends
 pub use Rattle.funnels.proofs.Chains.ReachedBends.{reached_bends}
--- The ends of the next funnel on the side from the left end of the diagonal to the corner beyond it.
-mod EndsRight
+-- The ends of the next funnel, on the side from the corner beyond the diagonal to its right end, or to its left end.
+mod Ends
 -- At the corner of a triangle beyond the diagonal fans begin with the way back to the point of the funnel that it is reached from.
 mod EndFans
 -- A counterclockwise triangle at its side from l to r: its points are on the side, or right of the way from r to l.
 mod BeyondSide
--- The step from an open funnel to the next, over one of the two sides from the corner beyond the diagonal.
+-- The step from an open funnel to the next, over one of the two sides from the corner beyond the diagonal: the point of the funnel that the corner is reached from sees it, and the way there bends at that point.
 mod Steps
 pub use Rattle.funnels.proofs.Chains.Steps.{step_left, step_right}
 -- The last of some points, and chains with bends that go on from it.
 mod LastPoints
--- The corner of a triangle beyond the diagonal of an open funnel: the point of the funnel that it is reached from sees it, and the way there bends at that point.
-mod ReachedCorners
 -- The points of the next funnel see what is in their windows on the two other sides of a triangle, and the points beside them.
 mod NextSight
 -- Sight goes on beyond a point that is seen, within a triangle, and so beyond a diagonal into the triangle behind it.
 mod SightBeyond
--- The ends of the next funnel on the side from the corner beyond the diagonal to its right end.
-mod EndsLeft

@@ -17,32 +17,35 @@ use Rattle.funnels.specs.Corner.{HasCornerOn}
 use Rattle.funnels.specs.Fanned.{turning}
 
 module _ (corners : List Point) (tris : List Tri) (fits : Fits corners tris) (k : ℕ) (within : k < length tris)
-    (side : Bool) (before v after : ℕ) (corner : HasCornerOn side (tri_at tris k) before v after)
-    (shared : IsSharedSide tris v after) (q z : Point) (bend : IsBend corners q (vertex corners v) (vertex corners after))
-    (wide : turning side (vertex corners v) (whole q) (whole (vertex corners after)) <ℤ pos 0)
-    (inside : IsInTri corners (tri_at tris k) (whole z))
-    (ahead : pos 0 <ℤ turning side (vertex corners v) (whole (vertex corners after)) (whole z)) where
-  -- the neighbours of the corner are on two rays,
-  rays : HasTwoRays corners (vertex corners v)
-  rays =
-      two_rays corners (fitted_simple corners tris fits) (fitted_long corners tris fits) v
-      (corner_in_ring corners tris fits k within side before v after corner)
+    (side : Bool) (before v after : ℕ) (corner : HasCornerOn side (tri_at tris k) before v after) where
+  -- the corner, and that after it
+  abbrev V : Point
+  V = vertex corners v
 
-  -- and none is on the ray along the shared side
-  off_side : (u : Point) → AreNeighbours corners (vertex corners v) u
-      → ¬ (On (whole u) (whole (vertex corners v)) (whole (vertex corners after))
-      ⊎ On (whole (vertex corners after)) (whole (vertex corners v)) (whole u))
-  off_side u n =
-      off_shared corners (range_with_len 0 (length corners)) tris fits v after shared u (in_piece corners tris fits (vertex corners v) u n)
+  abbrev A : Point
+  A = vertex corners after
 
-  -- so the way to z, in the triangle and ahead of the side, turns the same way,
-  pub grown_turning : turning side (vertex corners v) (whole q) (whole z) <ℤ pos 0
-  grown_turning =
-      still_wide side corners q (vertex corners v) (vertex corners after) bend wide (neighbour_differs corners tris fits v) off_side z
-      (last_step corners tris fits k within side before v after corner (whole z) inside ahead) rays
+  module _ (shared : IsSharedSide tris v after) (q z : Point) (bend : IsBend corners q V A)
+      (wide : turning side V (whole q) (whole A) <ℤ pos 0)
+      (inside : IsInTri corners (tri_at tris k) (whole z)) (ahead : pos 0 <ℤ turning side V (whole A) (whole z)) where
+    -- the neighbours of the corner are on two rays,
+    rays : HasTwoRays corners V
+    rays =
+        two_rays corners (fitted_simple corners tris fits) (fitted_long corners tris fits) v
+        (corner_in_ring corners tris fits k within side before v after corner)
 
-  -- and bends
-  pub grown_bend : IsBend corners q (vertex corners v) z
-  grown_bend =
-      bend_after_step side corners q (vertex corners v) (vertex corners after) bend wide (neighbour_differs corners tris fits v) off_side z
-      (last_step corners tris fits k within side before v after corner (whole z) inside ahead) rays
+    -- and none is on the ray along the shared side
+    off_side : (u : Point) → AreNeighbours corners V u → ¬ (On (whole u) (whole V) (whole A) ⊎ On (whole A) (whole V) (whole u))
+    off_side u n = off_shared corners (range_with_len 0 (length corners)) tris fits v after shared u (in_piece corners tris fits V u n)
+
+    -- so the way to z, in the triangle and ahead of the side, turns the same way,
+    pub grown_turning : turning side V (whole q) (whole z) <ℤ pos 0
+    grown_turning =
+        still_wide side corners q V A bend wide (neighbour_differs corners tris fits v) off_side z
+        (last_step corners tris fits k within side before v after corner (whole z) inside ahead) rays
+
+    -- and bends
+    pub grown_bend : IsBend corners q V z
+    grown_bend =
+        bend_after_step side corners q V A bend wide (neighbour_differs corners tris fits v) off_side z
+        (last_step corners tris fits k within side before v after corner (whole z) inside ahead) rays
