@@ -9,10 +9,8 @@ pub use Rattle.ring_laws.proofs.Triangles.BeyondLine.{farthest_right}
 -- A counterclockwise triangle winds once round the points inside, and not round those outside.
 mod TriangleWinding
 pub use Rattle.ring_laws.proofs.Triangles.TriangleWinding.{on_sides_in, triangle, triangle_values, winding_inside, winding_outside}
--- No edge enters an empty triangle at a vertex: it meets the triangle at ends of the third side at most.
+-- No edge enters an empty triangle at a vertex: it meets the triangle at ends of the third side at most, and so does each edge that side.
 mod NoneEnters
--- Where no end but its corners is in the triangle at a vertex, the side across from the vertex meets the edges only at its ends.
-mod EmptyTriangle
 -- Points strictly inside an edge: near each point of it, and on no other edge of a ring.
 mod InsideEdge
 pub use Rattle.ring_laws.proofs.Triangles.InsideEdge.{InsideNear, inside_near, off_others, other_edges}
