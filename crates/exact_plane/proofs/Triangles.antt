@@ -3,11 +3,12 @@ use Rattle.std.proofs.Common.{◌≡◌, inl, inr, [], ◌∷◌, refl, ap, ◌�
 use Rattle.std.proofs.lemmas.Int.{ints}
 use Rattle.integer_algebra.proofs.Laws.{zero-mul}
 use Rattle.integer_algebra.proofs.Polynomial.{var, lit, ◌⊕◌, ◌⊖◌, ◌⊗◌, same_value}
+use Rattle.integer_algebra.proofs.SignSteps.{at_least_unless}
 use Rattle.integer_algebra.proofs.Signs.{mul_nonnegative}
 use Rattle.plane.proofs.Turns.{areas_add, determinant_swap_first, four_triples_in_X, four_triples_in_Y}
 use Rattle.plane.specs.Point.{Point, whole}
 use Rattle.plane.specs.Triangle.{IsInTriangle}
-use Rattle.plane.specs.Turn.{IsLeft, determinant}
+use Rattle.plane.specs.Turn.{IsLeft}
 use Rattle.exact_plane.specs.Outside.{IsOutside, IsOutsideBox}
 
 -- ---- numbers
@@ -52,10 +53,6 @@ module _ (s t r d x y z w : ℤ) (s_positive : pos 0 ≤ℤ s) (t_negative : pos
   mean_not_outside (inl h) = not_below h.0 h.1 h.2
   mean_not_outside (inr h) = not_above h.0 h.1 h.2
 
--- what is not below 0
-not_negative : (k : ℤ) → ¬ (k <ℤ pos 0) → pos 0 ≤ℤ k
-not_negative k h = grind (arith, ints)
-
 -- the opposite of one
 opposite_not_negative : (k m : ℤ) → k ≡ neg_ℤ m → ¬ (k <ℤ pos 0) → pos 0 ≤ℤ (pos 0 -ℤ m)
 opposite_not_negative k m e h = grind (arith, ints)
@@ -63,9 +60,9 @@ opposite_not_negative k m e h = grind (arith, ints)
 -- so no point outside the box is in the triangle
 pub outside_not_in : (a b c p : Point) → IsLeft (whole a) (whole b) (whole c) → IsOutsideBox p a b c → IsInTriangle a b c (whole p) → ⊥
 outside_not_in a b c p left outside is =
-    let first = not_negative (determinant (whole b) (whole c) (whole p)) is.not_right_of_second in
+    let first = at_least_unless is.not_right_of_second in
     let second = opposite_not_negative _ _ (determinant_swap_first (whole a) (whole c) (whole p)) is.not_right_of_third in
-    let third = not_negative (determinant (whole a) (whole b) (whole p)) is.not_right_of_first in
+    let third = at_least_unless is.not_right_of_first in
     let in_x = mean_not_outside _ _ _ _ a.x b.x c.x p.x first second third left (areas_add a b c p) (four_triples_in_X (whole a) (whole b) (whole c) (whole p)) in
     let in_y = mean_not_outside _ _ _ _ a.y b.y c.y p.y first second third left (areas_add a b c p) (four_triples_in_Y (whole a) (whole b) (whole c) (whole p)) in
     elim outside [ inl h ↦ in_x h | inr h ↦ in_y h ]
