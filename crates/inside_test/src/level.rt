@@ -1,8 +1,8 @@
-// A rational number among the whole numbers.
+// A rational number among the whole numbers, and a rational point among the vertices.
 ghost use Rattle.std.specs.Ordering.{int_cmp, ordering_then};
-ghost use Rattle.std.specs.Prelude.{◌≡◌, ◌<◌, ◌^◌, ◌<ℤ◌, ◌*ℤ◌, ℤ, pos, unsigned_abs};
-ghost use Rattle.plane.specs.Point.{IsPoint};
-ghost use Rattle.inside_test.specs.Level.{IsLevel};
+ghost use Rattle.std.specs.Prelude.{◌≡◌, ◌↔◌, ◌<◌, ◌^◌, ◌<ℤ◌, IsTrue, pos, unsigned_abs};
+ghost use Rattle.plane.specs.Point.{IsPoint, Triple};
+ghost use Rattle.inside_test.specs.Level.{AreLevels, IsAt, IsBeside, IsLevel};
 
 use exact_plane::{Hom, Pt, Steps};
 use std::cmp::Ordering;
@@ -34,7 +34,7 @@ impl Level {
     }
 
     // How a coordinate compares with it.
-    pub(crate) fn compare(&self, z: i64) -> Ordering
+    fn compare(&self, z: i64) -> Ordering
         ensures { result ≡ ordering_then (int_cmp z self.now.floor) self.now.at_floor }
     {
         z.cmp(&self.floor).then(self.at_floor)
@@ -52,8 +52,7 @@ impl Levels {
     // The levels of this point.
     #[tactic(auto, using(crate::proofs::CrossedEdges::registers))]
     pub(crate) fn of<L: Ledger>(p: &Hom, steps: &mut Steps<L>) -> Levels
-        ensures across { IsLevel result.across.floor result.across.at_floor p.now.X p.now.W }
-        ensures height { IsLevel result.height.floor result.height.at_floor p.now.Y p.now.W }
+        ensures levels { AreLevels result p.now }
         ensures rational { IsPoint p.now }
     {
         let (x, y, w) = p.parts(steps);
@@ -63,19 +62,33 @@ impl Levels {
         }
     }
 
-    // How x of a point compares with that of this one.
-    pub(crate) fn compare_across<L: Ledger>(&self, v: &Pt, steps: &mut Steps<L>) -> Ordering
-        ensures { (part weight : ℤ) → IsLevel self.now.across.floor self.now.across.at_floor part weight
-            → result ≡ int_cmp (v.now.x *ℤ weight) part }
+    // A vertex at `at`, beside this point.
+    pub(crate) fn vertex<L: Ledger>(&self, at: Pt, steps: &mut Steps<L>) -> Vertex
+        ensures at { result.at ≡ at }
+        ensures beside { (p : Triple) → AreLevels self.now p → IsBeside result p }
     {
-        self.across.compare(v.parts(steps).0)
+        let (x, y) = at.parts(steps);
+        Vertex {
+            at,
+            across: self.across.compare(x),
+            height: self.height.compare(y),
+        }
     }
+}
 
-    // How the height of a point compares with that of this one.
-    pub(crate) fn compare_height<L: Ledger>(&self, v: &Pt, steps: &mut Steps<L>) -> Ordering
-        ensures { (part weight : ℤ) → IsLevel self.now.height.floor self.now.height.at_floor part weight
-            → result ≡ int_cmp (v.now.y *ℤ weight) part }
+// A vertex beside a point: how its x compares with that of the point, and its height.
+#[derive(Clone, Copy)]
+pub(crate) struct Vertex {
+    pub at: Pt,
+    pub across: Ordering,
+    pub height: Ordering,
+}
+
+impl Vertex {
+    // Whether it is the point.
+    pub(crate) fn is_same(&self) -> bool
+        ensures { IsTrue result ↔ IsAt self.now }
     {
-        self.height.compare(v.parts(steps).1)
+        self.height == Ordering::Equal && self.across == Ordering::Equal
     }
 }

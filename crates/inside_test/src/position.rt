@@ -38,17 +38,15 @@ pub fn place_hom<L: Ledger>(ring: &Ring, p: &Hom, steps: &mut Steps<L>) -> Posit
 {
     let (size, levels) = (ring.len(), Levels::of(p, steps));
     let mut is_odd = false;
-    let mut a = ring.corner(0);
-    let mut from = levels.compare_height(&a, steps);
+    let mut a = levels.vertex(ring.corner(0), steps);
     for i in 0..size {
-        let b = next_corner(ring, i);
-        let to = levels.compare_height(&b, steps);
-        match meeting_of(&a, &b, p, &levels, from, to, steps) {
+        let b = levels.vertex(next_corner(ring, i), steps);
+        match meeting_of(&a, &b, p, steps) {
             Meeting::On => return Position::Edge,
             Meeting::Crossed => is_odd = !is_odd,
             Meeting::Missed => {}
         }
-        (a, from) = (b, to);
+        a = b;
     }
     if is_odd {
         Position::Inside

@@ -1,69 +1,46 @@
-use Rattle.std.proofs.Common.{◌*ℤ◌, ◌∙◌, sym}
-use Rattle.plane.proofs.Points.{whole_is_point}
-use Rattle.plane.specs.Point.{whole}
-use Rattle.rings.specs.Edge.{Edge}
-use Rattle.exact_plane.proofs.Directions.{zero_of_straight}
-use Rattle.inside_test.proofs.ApartEdges.{not_crossed_apart, not_on_apart}
-use Rattle.inside_test.proofs.CrossedEdges.{beside_not_on, between_from_on, crossed_from_left, crossed_from_right, not_crossed_in_line}
-use Rattle.inside_test.proofs.CrossedEdges.{on_from_between}
+use Rattle.std.proofs.Common.{◌∙◌, refl, sym}
+use Rattle.rings.specs.Edge.{edge}
+use Rattle.inside_test.proofs.CrossedEdges.{not_crossed_unpassed}
+use Rattle.inside_test.proofs.Passed.{meeting_backward, meeting_by_turn}
+use Rattle.inside_test.proofs.Touched.{on_touched, touched_of_on}
 use Rattle.inside_test.proofs.crossing.meeting_of.Goals as goal
 
-pub returns-then-is_apart : goal.returns-then-is_apart
-returns-then-is_apart g c =
-    let e : Edge = record { from = c.args.a.now; to = c.args.b.now } in
+pub returns-then-is_passed : goal.returns-then-is_passed
+returns-then-is_passed g c =
     let p = c.args.p.now in
-    let (same, apart) = c.is_apart.ensures.0 c.if-is_apart.true in
-    let to = same ∙ c.requires.to in
+    let rise = sym (c.is_passed.ensures p.Y _ _ c.requires.first.height c.requires.last.height) ∙ c.if-is_passed.true in
+    let meeting = c.meeting_of_rise.ensures in
+    meeting_by_turn c.args.a.now.at c.args.b.now.at p c.requires.rational rise c.meeting_of_rise.result _ c.turn_of_rise.ensures
+    meeting.on meeting.crossed meeting.missed
+
+pub returns-then-is_passed-2 : goal.returns-then-is_passed-2
+returns-then-is_passed-2 g c =
+    let p = c.args.p.now in
+    let a = c.args.a.now.at in
+    let b = c.args.b.now.at in
+    let rise = sym (c.is_passed-2.ensures p.Y _ _ c.requires.last.height c.requires.first.height) ∙ c.if-is_passed-2.true in
+    let meeting = c.meeting_of_rise-then-is_passed-2.ensures in
+    meeting_backward c.meeting_of_rise-then-is_passed-2.result a b p
+    (meeting_by_turn b a p c.requires.rational rise c.meeting_of_rise-then-is_passed-2.result _ c.turn_of_rise-then-is_passed-2.ensures
+    meeting.on meeting.crossed meeting.missed)
+
+pub returns-then-is_touched : goal.returns-then-is_touched
+returns-then-is_touched g c =
+    let on = on_touched c.args.a.now c.args.b.now c.args.p.now c.requires.rational c.requires.first c.requires.last (c.is_touched.ensures.0 c.if-is_touched.true) in
+    record { on = (λ _. on, λ _. refl); crossed = λ h. absurd (cc h); missed = λ h. absurd (cc h) }
+
+pub returns-else-is_touched : goal.returns-else-is_touched
+returns-else-is_touched g c =
+    let p = c.args.p.now in
+    let a = c.args.a.now in
+    let b = c.args.b.now in
+    let up = sym (c.is_passed.ensures p.Y _ _ c.requires.first.height c.requires.last.height) ∙ c.if-is_passed.false in
+    let down = sym (c.is_passed-2.ensures p.Y _ _ c.requires.last.height c.requires.first.height) ∙ c.if-is_passed-2.false in
     record {
-      on = (λ h. absurd (cc h), λ on. absurd (not_on_apart e p c.args.from c.requires.from to apart c.requires.rational on));
+      on = (
+        λ h. absurd (cc h),
+        λ on. absurd (cc (c.is_touched.ensures.1 (touched_of_on a b p c.requires.rational c.requires.first c.requires.last up down on), c.if-is_touched.false)),
+      );
       crossed = λ h. absurd (cc h);
-      missed = λ _. not_crossed_apart e p c.args.from c.requires.from to apart;
-    }
-
-pub returns-in-Left : goal.returns-in-Left
-returns-in-Left g c =
-    let e : Edge = record { from = c.args.a.now; to = c.args.b.now } in
-    let p = c.args.p.now in
-    let left = sym c.turn_past.ensures ∙ c.in-Left.is in
-    let passed = c.is_passed.ensures p.Y (e.from.y *ℤ p.W) (e.to.y *ℤ p.W) c.requires.from c.requires.to in
-    let crossed = passed ∙ sym (crossed_from_left e c.args.p.now left) in
-    record {
-      on = (
-        λ h. absurd (c.beside.ensures.on h),
-        λ on. absurd (beside_not_on e c.args.p.now c.requires.rational (λ s. cc) on),
-      );
-      crossed = λ h. sym crossed ∙ c.beside.ensures.crossed h;
-      missed = λ h. sym crossed ∙ c.beside.ensures.missed h;
-    }
-
-pub returns-in-Straight : goal.returns-in-Straight
-returns-in-Straight g c =
-    let e : Edge = record { from = c.args.a.now; to = c.args.b.now } in
-    let straight = sym c.turn_past.ensures ∙ c.in-Straight.is in
-    let a = whole c.args.a.now in
-    let b = whole c.args.b.now in
-    let between = c.is_between.ensures.between in
-    record {
-      on = (
-        λ h. on_from_between a c.args.p.now b (whole_is_point c.args.a.now) c.requires.rational (whole_is_point c.args.b.now) (zero_of_straight _ straight) (between.0 (c.in_line.ensures.on.0 h)),
-        λ on. c.in_line.ensures.on.1 (between.1 (between_from_on a c.args.p.now b (whole_is_point c.args.a.now) c.requires.rational (whole_is_point c.args.b.now) on)),
-      );
-      crossed = λ h. absurd (c.in_line.ensures.not_crossed h);
-      missed = λ h. not_crossed_in_line e c.args.p.now straight;
-    }
-
-pub returns-in-Right : goal.returns-in-Right
-returns-in-Right g c =
-    let e : Edge = record { from = c.args.a.now; to = c.args.b.now } in
-    let p = c.args.p.now in
-    let right = sym c.turn_past.ensures ∙ c.in-Right.is in
-    let passed = c.is_passed-in-Right.ensures p.Y (e.to.y *ℤ p.W) (e.from.y *ℤ p.W) c.requires.to c.requires.from in
-    let crossed = passed ∙ sym (crossed_from_right e c.args.p.now right) in
-    record {
-      on = (
-        λ h. absurd (c.beside-in-Right.ensures.on h),
-        λ on. absurd (beside_not_on e c.args.p.now c.requires.rational (λ s. cc) on),
-      );
-      crossed = λ h. sym crossed ∙ c.beside-in-Right.ensures.crossed h;
-      missed = λ h. sym crossed ∙ c.beside-in-Right.ensures.missed h;
+      missed = λ _. not_crossed_unpassed (edge a.at b.at) p up down;
     }
