@@ -1,11 +1,7 @@
 -- Edges that are above a point, or below it: the point is not on them.
-use Rattle.std.proofs.Common.{◌≡◌, ◌⊎◌, inl, inr, ℤ, ◌*ℤ◌, ◌<ℤ◌, refl, arith}
-use Rattle.std.proofs.lemmas.Cmp.{int_ranked}
+use Rattle.std.proofs.Common.{◌≡◌, ◌⊎◌, inl, inr, ℤ, ◌*ℤ◌, ◌<ℤ◌, arith}
 use Rattle.std.proofs.lemmas.Int.{clamps, ints}
 use Rattle.std.specs.Int.{int_max, int_min}
-use Rattle.std.specs.Ordering.{int_cmp}
-use Rattle.std.specs.declared.cmp.Ordering.{Ordering}
-use Rattle.std.specs.declared.cmp.Ordering.TheVariants.{Equal, Greater, Less}
 use Rattle.plane.proofs.Segments.{IsInInterval, within_y}
 use Rattle.plane.proofs.Turns.{combination_of_ends}
 use Rattle.plane.specs.Point.{IsPoint, Point, Triple, whole}
@@ -34,14 +30,11 @@ module _ (x w a b : ℤ) (h : IsInInterval x w a b) where
     | inr e ↦ let k = rw e at h.least in omega (arith, ints)
   ]
 
-  -- so it does not compare with both alike, but for equal
-  within_not_apart : (side : Ordering) → side ≡ int_cmp (a *ℤ w) x → side ≡ int_cmp (b *ℤ w) x → ¬ (side ≡ Equal) → ⊥
-  within_not_apart Less from to apart = within_not_above (int_ranked _ _ Less from) (int_ranked _ _ Less to)
-  within_not_apart Equal from to apart = apart refl
-  within_not_apart Greater from to apart = within_not_below (int_ranked _ _ Greater from) (int_ranked _ _ Greater to)
+module _ (a b : Point) (p : Triple) (at_p : IsPoint p) where
+  -- a point is not on an edge that is below it,
+  pub not_on_below : (a.y *ℤ p.W) <ℤ p.Y → (b.y *ℤ p.W) <ℤ p.Y → ¬ (On p (whole a) (whole b))
+  not_on_below from to on = within_not_above p.Y p.W a.y b.y (within_y p a b (combination_of_ends p a b at_p on)) from to
 
--- a point is not on an edge that is above it, or below it
-pub not_on_apart : (a b : Point) (p : Triple) (side : Ordering) → IsPoint p → side ≡ int_cmp (a.y *ℤ p.W) p.Y → side ≡ int_cmp (b.y *ℤ p.W) p.Y
-    → ¬ (side ≡ Equal) → ¬ (On p (whole a) (whole b))
-not_on_apart a b p side at_p from to apart on =
-    within_not_apart p.Y p.W a.y b.y (within_y p a b (combination_of_ends p a b at_p on)) side from to apart
+  -- nor on one that is above it
+  pub not_on_above : p.Y <ℤ (a.y *ℤ p.W) → p.Y <ℤ (b.y *ℤ p.W) → ¬ (On p (whole a) (whole b))
+  not_on_above from to on = within_not_below p.Y p.W a.y b.y (within_y p a b (combination_of_ends p a b at_p on)) from to

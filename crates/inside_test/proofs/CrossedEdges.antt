@@ -13,7 +13,7 @@ use Rattle.plane.specs.Turn.{IsStraight, determinant}
 use Rattle.rings.specs.Edge.{Edge, edge}
 use Rattle.rings.specs.Inside.{is_crossed}
 use Rattle.exact_plane.specs.Direction.{direction_of, turn_of}
-use Rattle.inside_test.specs.Level.{rises}
+use Rattle.inside_test.specs.Meeting.{rises}
 use Rattle.exact_plane.specs.declared.direction.Direction.TheVariants.{Left, Right}
 
 -- whether an edge is crossed that rises past a point, or falls past it, where the determinant is z

@@ -1,11 +1,8 @@
 -- An edge that rises past the height of a point: the turn where both ends are to one side, and the points on it.
-use Rattle.std.proofs.Common.{◌≡◌, [], ◌∷◌, refl, sym, ap, ◌∙◌, ℤ, pos, ◌+ℤ◌, ◌-ℤ◌, ◌*ℤ◌, ◌<ℤ◌, ◌≤ℤ◌, ◌↔◌, IsTrue, false, Less, Equal, Greater, arith}
-use Rattle.std.proofs.lemmas.Cmp.{int_ranked}
+use Rattle.std.proofs.Common.{◌≡◌, [], ◌∷◌, refl, sym, ap, ◌∙◌, ℤ, pos, ◌+ℤ◌, ◌-ℤ◌, ◌*ℤ◌, ◌<ℤ◌, ◌≤ℤ◌, ◌↔◌, IsTrue, false, true, arith}
 use Rattle.std.proofs.lemmas.Int.{ints}
 use Rattle.std.specs.Int.Signed.{le_z, lt_z}
-use Rattle.std.specs.Ordering.{int_cmp}
 use Rattle.std.specs.Prelude.{◌&&◌}
-use Rattle.std.specs.declared.cmp.Ordering.{Ordering}
 use Rattle.integer_algebra.proofs.Laws.{mul_comm, zero-mul}
 use Rattle.integer_algebra.proofs.Polynomial.{var, lit, ◌⊕◌, ◌⊖◌, ◌⊗◌, same_value}
 use Rattle.integer_algebra.proofs.SignSteps.{weak}
@@ -21,10 +18,10 @@ use Rattle.exact_plane.specs.Direction.{turn_of}
 use Rattle.exact_plane.specs.declared.direction.Direction.{Direction}
 use Rattle.exact_plane.specs.declared.direction.Direction.TheVariants.{Left, Right, Straight}
 use Rattle.inside_test.proofs.CrossedEdges.{crossed_backward, crossed_from_left, crossed_from_right}
-use Rattle.inside_test.specs.Level.{rises, turn_beside}
-use Rattle.inside_test.specs.Meeting.{IsMeeting}
+use Rattle.inside_test.specs.Meeting.{IsBeside, IsMeeting, rises}
 use Rattle.inside_test.specs.declared.crossing.Meeting.{Meeting}
 use Rattle.inside_test.specs.declared.crossing.Meeting.TheVariants.{Crossed, Missed, On}
+use Rattle.inside_test.specs.declared.crossing.Vertex.{Vertex}
 
 -- ---- signs of x t - y s, where y is not positive and t is
 
@@ -96,7 +93,7 @@ difference_negative a b h = omega (arith, ints)
 
 module _ (low high : Point) (p : Triple) (at_p : IsPoint p) (rise : IsTrue (rises low high p)) where
   -- to the left, where both ends are right of the point,
-  left_of_rise : p.X <ℤ (low.x *ℤ p.W) → p.X <ℤ (high.x *ℤ p.W) → Left ≡ turn_of (whole low) (whole high) p
+  pub left_of_rise : p.X <ℤ (low.x *ℤ p.W) → p.X <ℤ (high.x *ℤ p.W) → Left ≡ turn_of (whole low) (whole high) p
   left_of_rise first last =
       let sign =
       positive_beside (low.x *ℤ p.W -ℤ p.X) (low.y *ℤ p.W -ℤ p.Y) (high.x *ℤ p.W -ℤ p.X) (high.y *ℤ p.W -ℤ p.Y)
@@ -104,25 +101,12 @@ module _ (low high : Point) (p : Triple) (at_p : IsPoint p) (rise : IsTrue (rise
       sym (left_of_positive _ (factor_positive p.W (determinant (whole low) (whole high) p) at_p (rw (beside_is low high p) sign)))
 
   -- to the right, where both are left of it
-  right_of_rise : (low.x *ℤ p.W) <ℤ p.X → (high.x *ℤ p.W) <ℤ p.X → Right ≡ turn_of (whole low) (whole high) p
+  pub right_of_rise : (low.x *ℤ p.W) <ℤ p.X → (high.x *ℤ p.W) <ℤ p.X → Right ≡ turn_of (whole low) (whole high) p
   right_of_rise first last =
       let sign =
       negative_beside (low.x *ℤ p.W -ℤ p.X) (low.y *ℤ p.W -ℤ p.Y) (high.x *ℤ p.W -ℤ p.X) (high.y *ℤ p.W -ℤ p.Y)
       (rises_low (low.y *ℤ p.W) (high.y *ℤ p.W) p.Y rise) (rises_high (low.y *ℤ p.W) (high.y *ℤ p.W) p.Y rise) (difference_negative _ _ first) (difference_negative _ _ last) in
       sym (right_of_negative _ (factor_negative p.W (determinant (whole low) (whole high) p) at_p (rw (beside_is low high p) sign)))
-
-  -- straight on, where both are neither
-  straight_of_rise : low.x *ℤ p.W ≡ p.X → high.x *ℤ p.W ≡ p.X → Straight ≡ turn_of (whole low) (whole high) p
-  straight_of_rise first last =
-      sym (straight_of_zero _ (no_difference p.W _ _ _ at_p (beside_is low high p)
-      (no_factor _ (high.y *ℤ p.W -ℤ p.Y) (no_offset first)) (no_factor _ (low.y *ℤ p.W -ℤ p.Y) (no_offset last))))
-
-  -- so the side tells
-  pub turn_of_side : (side : Ordering) → side ≡ int_cmp (low.x *ℤ p.W) p.X → side ≡ int_cmp (high.x *ℤ p.W) p.X
-      → turn_beside side ≡ turn_of (whole low) (whole high) p
-  turn_of_side Less first last = right_of_rise (int_ranked _ _ Less first) (int_ranked _ _ Less last)
-  turn_of_side Equal first last = straight_of_rise (int_ranked _ _ Equal first) (int_ranked _ _ Equal last)
-  turn_of_side Greater first last = left_of_rise (int_ranked _ _ Greater first) (int_ranked _ _ Greater last)
 
   -- ---- the points on the edge
 
@@ -181,3 +165,39 @@ meeting_backward m a b p h = record {
   crossed = λ e. crossed_backward b a p ∙ h.crossed e;
   missed = λ e. crossed_backward b a p ∙ h.missed e;
 }
+
+-- ---- whether an edge rises, by what its ends say
+
+-- what is not below is at most
+at_most : (x y : ℤ) → ¬ (y <ℤ x) → x ≤ℤ y
+at_most x y h = grind (arith, ints)
+
+-- the test of a rise, where its first part holds and the second,
+test_passes : (low high y : ℤ) → low ≤ℤ y → y <ℤ high → (le_z low y && lt_z y high) ≡ true
+test_passes low high y h k = grind (arith, ints)
+
+-- and where one does not
+test_fails_low : (low high y : ℤ) → y <ℤ low → (le_z low y && lt_z y high) ≡ false
+test_fails_low low high y h = grind (arith, ints)
+
+test_fails_high : (low high y : ℤ) → high ≤ℤ y → (le_z low y && lt_z y high) ≡ false
+test_fails_high low high y h = grind (arith, ints)
+
+module _ (v : Vertex) (p : Triple) (beside : IsBeside v p) where
+  -- a vertex that says that it is above the point is,
+  pub above_of_true : v.is_above ≡ true → p.Y <ℤ (v.at.y *ℤ p.W)
+  above_of_true e = beside.0 e
+
+  -- and one that does not is not
+  pub not_above_of_false : v.is_above ≡ false → (v.at.y *ℤ p.W) ≤ℤ p.Y
+  not_above_of_false e = at_most (v.at.y *ℤ p.W) p.Y (λ k. cc (beside.1 k, e))
+
+module _ (low high : Vertex) (p : Triple) (first : IsBeside low p) (last : IsBeside high p) where
+  pub rise_of : low.is_above ≡ false → high.is_above ≡ true → rises low.at high.at p ≡ true
+  rise_of e f = test_passes _ _ _ (not_above_of_false low p first e) (above_of_true high p last f)
+
+  pub no_rise_from_above : low.is_above ≡ true → rises low.at high.at p ≡ false
+  no_rise_from_above e = test_fails_low _ _ _ (above_of_true low p first e)
+
+  pub no_rise_to_below : high.is_above ≡ false → rises low.at high.at p ≡ false
+  no_rise_to_below e = test_fails_high _ _ _ (not_above_of_false high p last e)

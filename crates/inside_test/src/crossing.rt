@@ -1,16 +1,13 @@
 // The ray from a rational point to the right, at one edge.
-ghost use Rattle.std.specs.Int.Signed.{le_z, lt_z};
-ghost use Rattle.std.specs.Ordering.{int_cmp};
-ghost use Rattle.std.specs.Prelude.{◌≡◌, ◌↔◌, ◌&&◌, ℤ, IsTrue};
-ghost use Rattle.plane.specs.Point.{IsPoint, whole};
+ghost use Rattle.std.specs.Prelude.{◌≡◌, ◌↔◌, IsTrue};
+ghost use Rattle.plane.specs.Point.{IsPoint, Triple, whole};
 ghost use Rattle.rings.specs.Edge.{edge};
 ghost use Rattle.exact_plane.specs.Direction.{turn_of};
-ghost use Rattle.inside_test.specs.Level.{AreAround, IsBeside, IsTouched, rises, turn_beside};
-ghost use Rattle.inside_test.specs.Meeting.{IsMeeting};
+ghost use Rattle.inside_test.specs.Level.{AreLevels};
+ghost use Rattle.inside_test.specs.Meeting.{AreAround, IsBeside, IsMeeting, IsTouched, rises};
 
-use crate::level::Vertex;
-use exact_plane::{Direction, Hom, Steps, turn_hom};
-use std::cmp::Ordering;
+use crate::level::Levels;
+use exact_plane::{Direction, Hom, Pt, Steps, turn_hom};
 use std::sync::ledger::Ledger;
 
 // How an edge lies to a point.
@@ -24,28 +21,43 @@ pub(crate) enum Meeting {
     Missed,
 }
 
-// How the edge from `a` to `b` lies to `p`, which both are beside. The ray crosses no edge that does not pass its height.
+// A vertex, and whether it is above a point.
+#[derive(Clone, Copy)]
+pub(crate) struct Vertex {
+    pub at: Pt,
+    pub is_above: bool,
+}
+
+impl Vertex {
+    // The vertex at `at`, beside the point with these levels.
+    pub(crate) fn of<L: Ledger>(at: Pt, levels: &Levels, steps: &mut Steps<L>) -> Vertex
+        ensures at { result.at ≡ at }
+        ensures beside { (p : Triple) → AreLevels levels.now p → IsBeside result p }
+    {
+        let is_above = levels.is_below(&at, steps);
+        Vertex { at, is_above }
+    }
+}
+
+// How the edge from `a` to `b` lies to `p`, which has these levels. The ray crosses no edge that does not pass its height.
 pub(crate) fn meeting_of<L: Ledger>(
     a: &Vertex,
     b: &Vertex,
     p: &Hom,
+    levels: &Levels,
     steps: &mut Steps<L>,
 ) -> Meeting
+    requires levels { AreLevels levels.now p.now }
     requires first { IsBeside a.now p.now }
     requires last { IsBeside b.now p.now }
     requires rational { IsPoint p.now }
     ensures { IsMeeting result (edge a.now.at b.now.at) p.now }
 {
-    if is_passed(a.height, b.height) {
-        return meeting_of_rise(turn_of_rise(a, b, p, steps));
-    }
-    if is_passed(b.height, a.height) {
-        return meeting_of_rise(turn_of_rise(b, a, p, steps));
-    }
-    if is_touched(a, b) {
-        Meeting::On
-    } else {
-        Meeting::Missed
+    match (a.is_above, b.is_above) {
+        (true, true) => Meeting::Missed,
+        (false, true) => meeting_of_rise(turn_of_rise(&a.at, &b.at, p, levels, steps)),
+        (true, false) => meeting_of_rise(turn_of_rise(&b.at, &a.at, p, levels, steps)),
+        (false, false) => meeting_below(is_touched(&a.at, &b.at, levels, steps)),
     }
 }
 
@@ -63,50 +75,55 @@ fn meeting_of_rise(turn: Direction) -> Meeting
 }
 
 // The turn from `low` over `high` to `p`, where an edge between them rises past the height of `p`. Comparisons tell it
-// where both are to one side of `p`, or straight below and above it.
-fn turn_of_rise<L: Ledger>(low: &Vertex, high: &Vertex, p: &Hom, steps: &mut Steps<L>) -> Direction
-    requires first { IsBeside low.now p.now }
-    requires last { IsBeside high.now p.now }
-    requires rises { IsTrue (rises low.now.at high.now.at p.now) }
+// where both are to one side of `p`.
+fn turn_of_rise<L: Ledger>(
+    low: &Pt,
+    high: &Pt,
+    p: &Hom,
+    levels: &Levels,
+    steps: &mut Steps<L>,
+) -> Direction
+    requires levels { AreLevels levels.now p.now }
+    requires rises { IsTrue (rises low.now high.now p.now) }
     requires rational { IsPoint p.now }
-    ensures { result ≡ turn_of (whole low.now.at) (whole high.now.at) p.now }
+    ensures { result ≡ turn_of (whole low.now) (whole high.now) p.now }
 {
-    if low.across == high.across {
-        return turn_beside(low.across);
+    if levels.is_left_of_both(low, high, steps) {
+        return Direction::Left;
     }
-    // By copies, so that a vertex need not lie in memory where no turn is asked.
-    let (low, high) = (low.at, high.at);
+    if levels.is_right_of_both(low, high, steps) {
+        return Direction::Right;
+    }
+    // By copies, so that vertices need not lie in memory where no turn is asked.
+    let (low, high) = (*low, *high);
     turn_hom(&low, &high, p, steps)
 }
 
-// That turn, where both compare so with `p`.
-fn turn_beside(across: Ordering) -> Direction
-    ensures { result ≡ turn_beside across }
+// How an edge with no end above a point lies to it.
+fn meeting_below(is_touched: bool) -> Meeting
+    ensures on { (result ≡ Meeting.On) ↔ IsTrue is_touched }
+    ensures not_crossed { result ≡ Meeting.Crossed → ⊥ }
 {
-    match across {
-        Ordering::Less => Direction::Right,
-        Ordering::Equal => Direction::Straight,
-        Ordering::Greater => Direction::Left,
+    if is_touched {
+        Meeting::On
+    } else {
+        Meeting::Missed
     }
 }
 
-// Whether an edge rises past a height with which those of its ends compare so: it begins there or below, and ends above.
-fn is_passed(low: Ordering, high: Ordering) -> bool
-    ensures { (y a b : ℤ) → low ≡ int_cmp a y → high ≡ int_cmp b y → result ≡ (le_z a y && lt_z y b) }
+// Whether an edge with no end above a point has the point on it.
+fn is_touched<L: Ledger>(a: &Pt, b: &Pt, levels: &Levels, steps: &mut Steps<L>) -> bool
+    ensures { (p : Triple) → AreLevels levels.now p → IsTrue result ↔ IsTouched a.now b.now p }
 {
-    low != Ordering::Greater && high == Ordering::Greater
+    levels.is_at(a, steps) || levels.is_at(b, steps) || are_around(a, b, levels, steps)
 }
 
-// Whether an edge that does not pass the height of a point has the point on it.
-fn is_touched(a: &Vertex, b: &Vertex) -> bool
-    ensures { IsTrue result ↔ IsTouched a.now b.now }
+// Whether two vertices are at the height of a point, and neither both left of it nor both right.
+fn are_around<L: Ledger>(a: &Pt, b: &Pt, levels: &Levels, steps: &mut Steps<L>) -> bool
+    ensures { (p : Triple) → AreLevels levels.now p → IsTrue result ↔ AreAround a.now b.now p }
 {
-    a.is_same() || b.is_same() || are_around(a, b)
-}
-
-// Whether two vertices are at the height of a point, but not to one side of it.
-fn are_around(a: &Vertex, b: &Vertex) -> bool
-    ensures { IsTrue result ↔ AreAround a.now b.now }
-{
-    a.height == Ordering::Equal && b.height == Ordering::Equal && a.across != b.across
+    levels.is_level(a, steps)
+        && levels.is_level(b, steps)
+        && !levels.is_left_of_both(a, b, steps)
+        && !levels.is_right_of_both(a, b, steps)
 }

@@ -1,46 +1,62 @@
-use Rattle.std.proofs.Common.{◌∙◌, refl, sym}
 use Rattle.rings.specs.Edge.{edge}
+use Rattle.inside_test.proofs.ApartEdges.{not_on_above}
 use Rattle.inside_test.proofs.CrossedEdges.{not_crossed_unpassed}
-use Rattle.inside_test.proofs.Passed.{meeting_backward, meeting_by_turn}
+use Rattle.inside_test.proofs.Passed.{above_of_true, meeting_backward, meeting_by_turn, no_rise_from_above, no_rise_to_below, not_above_of_false, rise_of}
 use Rattle.inside_test.proofs.Touched.{on_touched, touched_of_on}
 use Rattle.inside_test.proofs.crossing.meeting_of.Goals as goal
 
-pub returns-then-is_passed : goal.returns-then-is_passed
-returns-then-is_passed g c =
-    let p = c.args.p.now in
-    let rise = sym (c.is_passed.ensures p.Y _ _ c.requires.first.height c.requires.last.height) ∙ c.if-is_passed.true in
-    let meeting = c.meeting_of_rise.ensures in
-    meeting_by_turn c.args.a.now.at c.args.b.now.at p c.requires.rational rise c.meeting_of_rise.result _ c.turn_of_rise.ensures
-    meeting.on meeting.crossed meeting.missed
-
-pub returns-then-is_passed-2 : goal.returns-then-is_passed-2
-returns-then-is_passed-2 g c =
-    let p = c.args.p.now in
-    let a = c.args.a.now.at in
-    let b = c.args.b.now.at in
-    let rise = sym (c.is_passed-2.ensures p.Y _ _ c.requires.last.height c.requires.first.height) ∙ c.if-is_passed-2.true in
-    let meeting = c.meeting_of_rise-then-is_passed-2.ensures in
-    meeting_backward c.meeting_of_rise-then-is_passed-2.result a b p
-    (meeting_by_turn b a p c.requires.rational rise c.meeting_of_rise-then-is_passed-2.result _ c.turn_of_rise-then-is_passed-2.ensures
-    meeting.on meeting.crossed meeting.missed)
-
-pub returns-then-is_touched : goal.returns-then-is_touched
-returns-then-is_touched g c =
-    let on = on_touched c.args.a.now c.args.b.now c.args.p.now c.requires.rational c.requires.first c.requires.last (c.is_touched.ensures.0 c.if-is_touched.true) in
-    record { on = (λ _. on, λ _. refl); crossed = λ h. absurd (cc h); missed = λ h. absurd (cc h) }
-
-pub returns-else-is_touched : goal.returns-else-is_touched
-returns-else-is_touched g c =
-    let p = c.args.p.now in
+pub returns-in-true-true : goal.returns-in-true-true
+returns-in-true-true g c =
     let a = c.args.a.now in
     let b = c.args.b.now in
-    let up = sym (c.is_passed.ensures p.Y _ _ c.requires.first.height c.requires.last.height) ∙ c.if-is_passed.false in
-    let down = sym (c.is_passed-2.ensures p.Y _ _ c.requires.last.height c.requires.first.height) ∙ c.if-is_passed-2.false in
+    let p = c.args.p.now in
+    let first = c.in-true-true.is-0 in
+    let last = c.in-true-true.is-1 in
     record {
       on = (
         λ h. absurd (cc h),
-        λ on. absurd (cc (c.is_touched.ensures.1 (touched_of_on a b p c.requires.rational c.requires.first c.requires.last up down on), c.if-is_touched.false)),
+        λ on. absurd (not_on_above a.at b.at p c.requires.rational (above_of_true a p c.requires.first first) (above_of_true b p c.requires.last last) on),
       );
       crossed = λ h. absurd (cc h);
-      missed = λ _. not_crossed_unpassed (edge a.at b.at) p up down;
+      missed = λ _. not_crossed_unpassed (edge a.at b.at) p (no_rise_from_above a b p c.requires.first c.requires.last first)
+          (no_rise_from_above b a p c.requires.last c.requires.first last);
+    }
+
+pub returns-in-false-true : goal.returns-in-false-true
+returns-in-false-true g c =
+    let a = c.args.a.now in
+    let b = c.args.b.now in
+    let p = c.args.p.now in
+    let rise = rise_of a b p c.requires.first c.requires.last c.in-false-true.is-0 c.in-false-true.is-1 in
+    let meeting = c.meeting_of_rise-in-false-true.ensures in
+    meeting_by_turn a.at b.at p c.requires.rational rise c.meeting_of_rise-in-false-true.result _ c.turn_of_rise-in-false-true.ensures meeting.on meeting.crossed meeting.missed
+
+pub returns-in-true-false : goal.returns-in-true-false
+returns-in-true-false g c =
+    let a = c.args.a.now in
+    let b = c.args.b.now in
+    let p = c.args.p.now in
+    let rise = rise_of b a p c.requires.last c.requires.first c.in-true-false.is-1 c.in-true-false.is-0 in
+    let meeting = c.meeting_of_rise.ensures in
+    meeting_backward c.meeting_of_rise.result a.at b.at p
+    (meeting_by_turn b.at a.at p c.requires.rational rise c.meeting_of_rise.result _ c.turn_of_rise.ensures
+    meeting.on meeting.crossed meeting.missed)
+
+pub returns-in-false-false : goal.returns-in-false-false
+returns-in-false-false g c =
+    let a = c.args.a.now in
+    let b = c.args.b.now in
+    let p = c.args.p.now in
+    let first = c.in-false-false.is-0 in
+    let last = c.in-false-false.is-1 in
+    let (from_test, to_test) = c.is_touched.ensures p c.requires.levels in
+    let (on, back) = c.meeting_below.ensures.on in
+    record {
+      on = (
+        λ h. on_touched a.at b.at p c.requires.rational (from_test (on h)),
+        λ k. back (to_test (touched_of_on a.at b.at p c.requires.rational (not_above_of_false a p c.requires.first first) (not_above_of_false b p c.requires.last last) k)),
+      );
+      crossed = λ h. absurd (c.meeting_below.ensures.not_crossed h);
+      missed = λ _. not_crossed_unpassed (edge a.at b.at) p (no_rise_to_below a b p c.requires.first c.requires.last last)
+          (no_rise_to_below b a p c.requires.last c.requires.first first);
     }

@@ -1,11 +1,12 @@
-use Rattle.std.proofs.Common.{◌≡◌, ◌∙◌, rules}
-use Rattle.inside_test.proofs.Passed.{turn_of_side}
+use Rattle.inside_test.proofs.Passed.{left_of_rise, right_of_rise}
 use Rattle.inside_test.proofs.crossing.turn_of_rise.Goals as goal
 
-pub returns-then-eq : goal.returns-then-eq
-returns-then-eq g c =
-    let low = c.args.low.now in
-    let high = c.args.high.now in
-    let same : low.across ≡ high.across = search rules in
-    c.turn_beside.ensures
-    ∙ turn_of_side low.at high.at c.args.p.now c.requires.rational c.requires.rises low.across c.requires.first.across (same ∙ c.requires.last.across)
+pub returns-then-is_left_of_both : goal.returns-then-is_left_of_both
+returns-then-is_left_of_both g c =
+    let (low, high) = (c.is_left_of_both.ensures c.args.p.now c.requires.levels).0 c.if-is_left_of_both.true in
+    left_of_rise c.args.low.now c.args.high.now c.args.p.now c.requires.rational c.requires.rises low high
+
+pub returns-then-is_right_of_both : goal.returns-then-is_right_of_both
+returns-then-is_right_of_both g c =
+    let (low, high) = (c.is_right_of_both.ensures c.args.p.now c.requires.levels).0 c.if-is_right_of_both.true in
+    right_of_rise c.args.low.now c.args.high.now c.args.p.now c.requires.rational c.requires.rises low high

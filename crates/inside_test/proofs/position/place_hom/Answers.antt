@@ -9,19 +9,19 @@ use Rattle.inside_test.proofs.position.place_hom.Goals.{in-Crossed, in-Missed}
 pub loop-i-init : goal.loop-i-init
 loop-i-init g c = (
   odd_start c.args.ring.now.corners c.args.p.now,
-  c.vertex-a.ensures.at ∙ c.corner.ensures,
-  c.vertex-a.ensures.beside _ c.of-levels.ensures.levels,
+  c.of-a.ensures.at ∙ c.corner.ensures,
+  c.of-a.ensures.beside _ c.of-levels.ensures.levels,
 )
 
 pub meeting_of-requires-clause-last : goal.meeting_of-requires-clause-last
-meeting_of-requires-clause-last g c = c.vertex-b.ensures.beside _ c.of-levels.ensures.levels
+meeting_of-requires-clause-last g c = c.of-b.ensures.beside _ c.of-levels.ensures.levels
 
 pub returns-in-On : goal.returns-in-On
 returns-in-On g c =
     let ring = c.args.ring.now.corners in
     let p = c.args.p.now in
     let (_, at_a, _) = c.loop-i.invariant in
-    let at_b = c.vertex-b.ensures.at ∙ c.next_corner.ensures in
+    let at_b = c.of-b.ensures.at ∙ c.next_corner.ensures in
     let here : IsOnEdge ring c.loop-i.i p = rw (at_a, at_b) at (c.meeting_of.ensures.on.0 c.in-On.is) in
     let on : IsOnSome (edges_of ring) p = on_some_from p ring c.loop-i.i (omega arith) here in
     record {
@@ -35,8 +35,8 @@ loop-i-preserved g c =
     let ring = c.args.ring.now.corners in
     let p = c.args.p.now in
     let (odd, at_a, _) = c.loop-i.invariant in
-    let at_b = c.vertex-b.ensures.at ∙ c.next_corner.ensures in
-    let beside = c.vertex-b.ensures.beside _ c.of-levels.ensures.levels in
+    let at_b = c.of-b.ensures.at ∙ c.next_corner.ensures in
+    let beside = c.of-b.ensures.beside _ c.of-levels.ensures.levels in
     elim c.match-meeting_of.branch [
       | in-Crossed w ↦ (
         odd_crossed ring p c.loop-i.i c.loop-i.is_odd _ w.is_odd-is (omega arith) odd

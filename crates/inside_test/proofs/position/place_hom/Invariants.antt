@@ -3,7 +3,7 @@ use Rattle.rings.specs.Edge.{edges_of}
 use Rattle.rings.specs.Ring.{vertex}
 use Rattle.inside_test.proofs.Odd.{OddSoFar}
 use Rattle.inside_test.proofs.position.place_hom.Given as goal
-use Rattle.inside_test.specs.Level.{IsBeside}
+use Rattle.inside_test.specs.Meeting.{IsBeside}
 
 abbrev pub invariant-loop-i : goal.invariant-loop-i
 invariant-loop-i g l = OddSoFar (take l.i (edges_of l.ring.corners)) l.p l.is_odd
