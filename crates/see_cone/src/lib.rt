@@ -5,6 +5,8 @@ mod cone;
 mod cones;
 mod part;
 mod places;
+#[cfg(test)]
+mod tests;
 mod view;
 
 pub use part::Part;
