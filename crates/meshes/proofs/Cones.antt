@@ -10,6 +10,7 @@ mod SideReach
 mod SideViews
 -- The rays of a narrowed cone meet the side, and leave of it what the cone does.
 mod NarrowedRays
+pub use Rattle.meshes.proofs.Cones.NarrowedRays.{not_left_between}
 -- What a point sees of a side of a triangle is what the narrowed cone tells.
 mod NarrowedViews
 -- A triangle in front of a point: left of one line through the point.
