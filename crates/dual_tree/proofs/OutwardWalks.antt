@@ -1,12 +1,12 @@
 -- Walks from the home of an order outward: the walk to a triangle goes over the one from which it is reached.
 use Rattle.std.proofs.Common.{◌≡◌, refl, sym, ap, subst, ◌∙◌, ℕ, zero, suc, ◌<◌, List, [], ◌∷◌, ◌++◌, length, arith}
 use Rattle.std.proofs.lemmas.List.{append-nil, append_assoc}
-use Rattle.meshes.proofs.Walks.{IsPath, IsPlace, Touch}
+use Rattle.meshes.proofs.Walks.{IsPath, IsPlace, Touch, between_of_path}
 use Rattle.meshes.specs.Side.{IsTree, IsWalkBetween}
 use Rattle.meshes.specs.declared.tri.Tri.{Tri}
 use Rattle.tri_mesh.specs.Outward.{IsOutward, outward_at}
 use Rattle.tri_mesh.specs.declared.outward.Outward.{Outward}
-use Rattle.dual_tree.proofs.TreeWalks.{one_walk, walk_of_path}
+use Rattle.dual_tree.proofs.TreeWalks.{one_walk}
 use Rattle.dual_tree.proofs.Ways.{IsWay, at_place, way_goes_on, way_starts}
 
 -- the triangles between home and a place: a way from there goes on over them to home
@@ -34,12 +34,12 @@ module _ (tris : List Tri) (home : ℕ) (order : List Outward) (o : IsOutward tr
     walk_from_home : (rest : List ℕ) (end : ℕ) → end < length tris → IsWay tris order 0 rest end → IsWalkBetween tris home end (home ∷ rest)
     walk_from_home rest end end_below way =
         let home_below : home < length tris = subst (λ k. k < length tris) o.first (o.in_list 0 way.below) in
-        walk_of_path tris tree home rest end home_below end_below
+        between_of_path tris home rest end home_below
         (subst (λ k. IsPath (IsPlace tris) (Touch tris) k rest end) o.first way.path)
 
     -- the walk from home to itself is home alone,
     pub walk_at_home : home < length tris → IsWalkBetween tris home home (home ∷ [])
-    walk_at_home below = walk_of_path tris tree home [] home below below refl
+    walk_at_home below = between_of_path tris home [] home below refl
 
     -- and that to the triangle at a later place is the walk to the one from which it is reached, and the triangle
     pub walk_outward : (p : ℕ) → 0 < p → p < length order → (walk : List ℕ)

@@ -2,14 +2,13 @@
 use Rattle.std.proofs.Common.{◌≡◌, refl, sym, ap, subst, ◌∙◌, ℕ, ◌<◌, ◌≤◌, inl, inr, List, [], ◌∷◌, ◌++◌, length, reverse, arith}
 use Rattle.std.proofs.lemmas.Grind.{reverse_onto}
 use Rattle.std.proofs.lemmas.List.{append_assoc, reverse-append, reverse-reverse}
-use Rattle.meshes.proofs.Walks.{IsNew, IsPath, IsPlace, Touch, share_back}
+use Rattle.meshes.proofs.Walks.{IsNew, IsPath, IsPlace, Touch, between_of_path, share_back}
 use Rattle.meshes.specs.Mesh.{side_begin, side_end}
 use Rattle.meshes.specs.Side.{IsTree, IsWalkBetween, tri_at}
 use Rattle.meshes.specs.declared.tri.Tri.{Tri}
 use Rattle.tri_mesh.proofs.Neighbours.{has_side_numbered}
 use Rattle.tri_mesh.specs.Outward.{IsOutward, outward_at}
 use Rattle.tri_mesh.specs.declared.outward.Outward.{Outward}
-use Rattle.dual_tree.proofs.TreeWalks.{walk_of_path}
 use Rattle.dual_tree.specs.Ways.{IsNearer}
 use Rattle.dual_tree.specs.declared.walk.Way.{Way}
 
@@ -60,7 +59,7 @@ module _ (tris : List Tri) (tree : IsTree tris) (from to : ℕ) (from_below : fr
       → IsPath (IsPlace tris) (Touch tris) k back to → AreApart front back → IsWalkBetween tris from to (reverse front ++ k ∷ back)
   walk_over [] k back k_below p q apart =
       subst (λ l. IsWalkBetween tris from to (l ∷ back)) (sym p)
-      (walk_of_path tris tree from back to from_below to_below (subst (λ l. IsPath (IsPlace tris) (Touch tris) l back to) p q))
+      (between_of_path tris from back to from_below (subst (λ l. IsPath (IsPlace tris) (Touch tris) l back to) p q))
   walk_over (x ∷ xs) k back k_below p q apart =
       let k_new : IsNew k xs = p.2.1 in
       let x_new : IsNew x (k ∷ back) = ((λ same. p.2.0 (sym same)), apart.0) in

@@ -3,12 +3,12 @@ use Rattle.std.proofs.Common.{◌≡◌, ◌≢◌, refl, ℕ, ◌<◌, List, []
 use Rattle.plane.proofs.Points.{whole_is_point}
 use Rattle.plane.specs.Point.{Point, whole}
 use Rattle.rings.specs.Chain.{IsBentChain, IsTaut}
+use Rattle.meshes.proofs.Sight.{sees_in_triangle, triangle_in_ring}
 use Rattle.meshes.specs.Fits.{Fits, IsInTri}
 use Rattle.meshes.specs.Side.{tri_at}
 use Rattle.meshes.specs.declared.tri.Tri.{Tri}
-use Rattle.funnels.proofs.Bends.{sees_in_triangle, chain_more}
+use Rattle.funnels.proofs.Bends.{chain_more}
 use Rattle.funnels.proofs.Chains.{bent_from_apex}
-use Rattle.funnels.proofs.Vertices.{triangle_in_ring}
 
 module _ (corners : List Point) (tris : List Tri) (fits : Fits corners tris) (k : ℕ) (within : k < length tris)
     (start goal : Point) (in_start : IsInTri corners (tri_at tris k) (whole start)) where

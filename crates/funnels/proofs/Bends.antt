@@ -9,7 +9,7 @@ pub use Rattle.funnels.proofs.Bends.FanSigns.{Relation, negative_unless, right_o
 mod FannedSteps
 -- A triangle of a mesh at one of its corners: its points are in the angle there, and the corner sees them.
 mod CornerSights
-pub use Rattle.funnels.proofs.Bends.CornerSights.{first_end_in, in_angle, last_end_in, sees_in_triangle, sees_within}
+pub use Rattle.funnels.proofs.Bends.CornerSights.{first_end_in, in_angle, last_end_in}
 -- At a vertex of a simple ring that is not reflex, directions toward which the ring is open turn by a half turn at most.
 mod NarrowFans
 -- The two neighbours of a vertex in a simple ring are on two rays from it.

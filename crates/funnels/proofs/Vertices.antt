@@ -9,7 +9,7 @@ pub use Rattle.funnels.proofs.Vertices.CornerEdges.{IsSharedSide, off_shared, sh
 mod LeftOfEdges
 -- A ring that triangles fit is simple, has three vertices or more, and runs counterclockwise: the points of a triangle beside its first edge are in it, and they are on the left.
 mod FittedRings
-pub use Rattle.funnels.proofs.Vertices.FittedRings.{fitted_counterclockwise, fitted_long, fitted_simple, triangle_in_ring}
+pub use Rattle.funnels.proofs.Vertices.FittedRings.{fitted_counterclockwise, fitted_long, fitted_simple}
 -- At a vertex of a simple ring that is not reflex, the ring is in the half-planes of both edges.
 mod ConvexVertices
 pub use Rattle.funnels.proofs.Vertices.ConvexVertices.{convex_vertex}

@@ -8,6 +8,9 @@ mod RaySigns
 mod SideReach
 -- What a point sees of a side of a triangle, by the cone through which it sees the triangle.
 mod SideViews
+-- What a cone holds, by signs, and so between two points; and the ends of a side.
+mod Held
+pub use Rattle.meshes.proofs.Cones.Held.{not_left_between}
 -- The rays of a narrowed cone meet the side, and leave of it what the cone does.
 mod NarrowedRays
 -- What a point sees of a side of a triangle is what the narrowed cone tells.

@@ -9,7 +9,7 @@ pub use Rattle.meshes.proofs.Parts.Opposite.{mean, mean_inside, mean_is_point, n
 -- The side that two triangles of a mesh share is a diagonal of the ring.
 mod MeshDiagonals
 pub use Rattle.meshes.proofs.Parts.MeshDiagonals.{IsShared, one_vertex, ring_apart, ring_long, shared_is_diagonal, shared_of, vertex_is_end}
-pub use Rattle.meshes.proofs.Parts.MeshDiagonals.{vertex_on_ring, vertex_place}
+pub use Rattle.meshes.proofs.Parts.MeshDiagonals.{vertex_on_ring}
 -- A shared side parts a mesh: the triangles beside it lie in different pieces, and those that share another side in one.
 mod PartedMesh
 pub use Rattle.meshes.proofs.Parts.PartedMesh.{IsParted, end_of_side, parted, shared_is_this, side_in, side_numbers}

@@ -11,7 +11,7 @@ mod PieceSteps
 pub use Rattle.meshes.proofs.Sides.PieceSteps.{edge_of_step, edge_or_not, has_side_or_not, step_after, step_before, step_cases, step_of_edge}
 -- The vertices of a piece: they are different where it is simple.
 mod PieceVertices
-pub use Rattle.meshes.proofs.Sides.PieceVertices.{length_points, one_number, one_place, piece_points_all, simple_differ, vertex_of_piece}
+pub use Rattle.meshes.proofs.Sides.PieceVertices.{length_points, one_number, one_place, piece_points_all, vertex_of_piece}
 -- The numbers in a triangulation of a ring: those of its vertices, and how many triangles there are.
 mod RingNumbers
 pub use Rattle.meshes.proofs.Sides.RingNumbers.{below_of_member, ends_below, two_fewer}

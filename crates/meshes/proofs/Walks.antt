@@ -8,5 +8,5 @@ mod Paths
 pub use Rattle.meshes.proofs.Walks.Paths.{IsNew, IsPath, IsTreeOn, OnePath, Renames, new_append, new_front, new_or_not, tree_renamed}
 -- Walks over the triangles of a list, and the paths in the graph of the triangles that share sides.
 mod Walks
-pub use Rattle.meshes.proofs.Walks.Walks.{IsPlace, Touch, last_place, new_at_place, new_from_places, path_of_walk, share_back}
-pub use Rattle.meshes.proofs.Walks.Walks.{tree_of_paths, tree_of_walks}
+pub use Rattle.meshes.proofs.Walks.Walks.{IsPlace, Touch, between_of_path, last_place, new_at_place, new_from_places, path_of_walk}
+pub use Rattle.meshes.proofs.Walks.Walks.{share_back, tree_of_paths, tree_of_walks}

@@ -15,7 +15,8 @@ mod MeetOnlyAt
 pub use Rattle.plane.proofs.Meetings.MeetOnlyAt.{elsewhere_not_only, meet_elsewhere, meet_only_at_from}
 -- The first point of a segment on the way from one rational point to another, from which the segment is in one direction.
 mod FirstMeeting
-pub use Rattle.plane.proofs.Meetings.FirstMeeting.{First, no_value, weighed_sum, zero_point, weights_apart}
+pub use Rattle.plane.proofs.Meetings.FirstMeeting.{First, no_value, values_apart, weights_apart, zero_point}
+unfoldable pub use Rattle.plane.proofs.Meetings.FirstMeeting.{zero_combination}
 -- The first point of a segment on the way from one point of its line to another.
 mod FirstOnLine
 -- On the way from one rational point to another there is a first point of a segment, or the way does not meet it.

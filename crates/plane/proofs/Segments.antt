@@ -41,7 +41,7 @@ mod SharedParts
 pub use Rattle.plane.proofs.Segments.SharedParts.{as_far, first_on_line, last_on_line, one_meeting}
 -- Two points on one line with a third, to one side of another line through that: they are on one ray.
 mod Rays
-pub use Rattle.plane.proofs.Segments.Rays.{ray_on_left, ray_on_right}
+pub use Rattle.plane.proofs.Segments.Rays.{on_one_ray, ray_on_left, ray_on_right}
 -- A rational point is on a segment, or a line separates it from the segment.
 mod Separation
 pub use Rattle.plane.proofs.Segments.Separation.{on_or_separated, separated_not_on}

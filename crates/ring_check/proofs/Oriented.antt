@@ -4,14 +4,13 @@ use Rattle.std.proofs.lemmas.Int.{ints}
 use Rattle.std.specs.Prelude.{if◌then◌else◌}
 use Rattle.plane.specs.Point.{Point, Triple}
 use Rattle.rings.proofs.Inside.{in_turned_iff}
-use Rattle.rings.proofs.Simple.{apart_of_simple}
 use Rattle.rings.proofs.Turned.{length-turned_round, turned_round-turned_round, vertex-turned_round, doubled_area-turned_round, simple_turned}
 use Rattle.rings.proofs.Vertices.{vertex_mod}
 use Rattle.rings.specs.Inside.{IsIn}
 use Rattle.rings.specs.Orientation.{IsClockwise, IsCounterclockwise, is_clockwise, turned_round}
 use Rattle.rings.specs.Ring.{vertex}
 use Rattle.rings.specs.Simple.{IsSimple}
-use Rattle.ring_laws.proofs.Simple.{runs_round}
+use Rattle.ring_laws.proofs.Simple.{two_ways}
 use Rattle.ring_check.specs.Oriented.{given_of, oriented}
 
 -- ---- what is kept of a list
@@ -22,11 +21,6 @@ counterclockwise_kept : (points : List Point) (b : Bool) → IsCounterclockwise 
 counterclockwise_kept points true some way = grind (arith, ints, doubled_area-turned_round points)
 counterclockwise_kept points false (inl h) way = h
 counterclockwise_kept points false (inr h) way = grind (arith, ints)
-
--- the area of a simple list is not 0
-some_way : (points : List Point) → 3 ≤ length points → IsSimple points → IsCounterclockwise points ⊎ IsClockwise points
-some_way points long simple =
-    elim (runs_round points long (apart_of_simple points simple)) [ inl h ↦ inl h.area | inr h ↦ inr h.area ]
 
 module _ (points : List Point) where
   -- what holds of the list and of the list turned round holds of what is kept
@@ -44,7 +38,7 @@ module _ (points : List Point) where
 
   -- it is counterclockwise
   pub counterclockwise_oriented : 3 ≤ length points → IsSimple points → IsCounterclockwise (oriented points).corners
-  counterclockwise_oriented long simple = counterclockwise_kept points (is_clockwise points) (some_way points long simple) refl
+  counterclockwise_oriented long simple = counterclockwise_kept points (is_clockwise points) (two_ways points long simple) refl
 
   -- the same points are in it
   pub in_oriented : (p : Triple) → IsIn (oriented points).corners p ↔ IsIn points p

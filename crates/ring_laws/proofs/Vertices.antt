@@ -1,8 +1,5 @@
 -- The two edges at a vertex of a ring, and what is beside an edge.
 
--- Two points on one line with a third, to one side of another line through that: they are on one ray.
-mod Rays
-pub use Rattle.ring_laws.proofs.Vertices.Rays.{on_one_ray, ray_on_left, ray_on_right}
 -- The two edges at a vertex of a ring with different vertices.
 mod VertexEdges
 pub use Rattle.ring_laws.proofs.Vertices.VertexEdges.{HasEdgesAt, edges_at, same_number}

@@ -9,13 +9,12 @@ use Rattle.integer_algebra.proofs.SignSteps.{negative_not_zero, negative_of_oppo
 use Rattle.integer_algebra.proofs.SignSteps.{zero_of_opposite}
 use Rattle.integer_algebra.proofs.Signs.{factor_zero}
 use Rattle.plane.proofs.Points.{whole_is_point}
-use Rattle.plane.proofs.Segments.{same_straight}
+use Rattle.plane.proofs.Segments.{ray_on_left, ray_on_right, same_straight}
 use Rattle.plane.proofs.Turns.{determinant_same_ends, four_triples_in_W, four_triples_in_X, four_triples_in_Y}
 use Rattle.plane.specs.Point.{IsPoint, IsSame, Point, Triple, whole}
 use Rattle.plane.specs.Segment.{On}
 use Rattle.plane.specs.Turn.{IsStraight}
 use Rattle.funnels.proofs.Bends.Turnings.{turning_not}
-use Rattle.ring_laws.proofs.Vertices.{ray_on_left, ray_on_right}
 use Rattle.funnels.specs.Fanned.{turning}
 
 -- ---- lines through the vertex

@@ -8,10 +8,11 @@ use Rattle.rings.specs.Chain.{IsBentChain, point_at}
 use Rattle.rings.specs.Inside.{IsIn}
 use Rattle.rings.specs.Ring.{vertex}
 use Rattle.ring_laws.proofs.Triangles.{between_in_triangle}
+use Rattle.meshes.proofs.Sight.{sees_in_triangle}
 use Rattle.meshes.specs.Fits.{Fits, IsInTri}
 use Rattle.meshes.specs.Side.{HasSide, tri_at}
 use Rattle.meshes.specs.declared.tri.Tri.{Tri}
-use Rattle.funnels.proofs.Bends.{first_end_in, last_end_in, sees_in_triangle}
+use Rattle.funnels.proofs.Bends.{first_end_in, last_end_in}
 use Rattle.funnels.proofs.Chains.LastPoints.{no_last}
 use Rattle.funnels.specs.OpenFunnel.{IsBentFunnel, IsOpenSight}
 

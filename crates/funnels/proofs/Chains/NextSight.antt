@@ -11,10 +11,10 @@ use Rattle.rings.specs.Inside.{IsIn}
 use Rattle.rings.specs.Ring.{vertex}
 use Rattle.rings.specs.Sees.{Sees}
 use Rattle.ring_laws.proofs.Triangles.{between_in_triangle}
+use Rattle.meshes.proofs.Sight.{sees_within}
 use Rattle.meshes.specs.Fits.{IsInTri}
 use Rattle.meshes.specs.Side.{HasSide}
 use Rattle.meshes.specs.declared.tri.Tri.{Tri}
-use Rattle.funnels.proofs.Bends.{sees_within}
 use Rattle.funnels.proofs.Chains.BeyondSide.{is_behind}
 use Rattle.funnels.proofs.Chains.WindowSight.{sees_reached, sees_window}
 use Rattle.funnels.proofs.Funnels.{left_place, new_edge_left, new_edge_right, old_edge_left, old_edge_right, next_left_length, next_right_last}

@@ -1,29 +1,19 @@
--- Sight goes on beyond a point that is seen, within a triangle, and so beyond a diagonal into the triangle behind it.
+-- Sight goes on beyond a diagonal into the triangle behind it.
 use Rattle.std.proofs.Common.{◌≡◌, inl, inr, List, ℕ, pos, ◌<ℤ◌}
 use Rattle.plane.proofs.Points.{whole_is_point}
-use Rattle.plane.proofs.Segments.{on_one_side}
 use Rattle.plane.specs.Point.{IsPoint, Point, Triple, whole}
 use Rattle.plane.specs.Segment.{On}
 use Rattle.plane.specs.Turn.{IsLeft, IsRight, determinant}
 use Rattle.rings.specs.Inside.{IsIn}
 use Rattle.rings.specs.Ring.{vertex}
 use Rattle.rings.specs.Sees.{Sees}
+use Rattle.meshes.proofs.Sight.{sees_on, sees_within}
 use Rattle.meshes.specs.Fits.{IsInTri}
 use Rattle.meshes.specs.Side.{HasSide}
 use Rattle.meshes.specs.declared.tri.Tri.{Tri}
-use Rattle.funnels.proofs.Bends.{sees_within}
 use Rattle.funnels.proofs.Chains.BeyondSide.{is_behind}
 use Rattle.funnels.proofs.Funnels.{crossing_in_window, IsEnd}
 use Rattle.funnels.specs.Funnel.{Reaches}
-
--- what sees a point of the way to another, from which the other is seen, sees the other
-pub sees_on : (ring : List Point) (n : Point) (x y : Triple) → IsPoint x → IsPoint y → On x (whole n) y
-    → Sees ring (whole n) x → Sees ring x y → Sees ring (whole n) y
-sees_on ring n x y at_x at_y on first second z at_z on_z =
-    elim (on_one_side z x (whole n) y at_z at_x (whole_is_point n) at_y on_z on) [
-      | inl before ↦ first z at_z before
-      | inr after ↦ second z at_z after
-    ]
 
 -- a triangle that is in the ring has a side from l to r
 module _ (corners ring : List Point) (t : Tri) (inside : (z : Triple) → IsPoint z → IsInTri corners t z → IsIn ring z)
@@ -51,6 +41,6 @@ module _ (corners ring : List Point) (t : Tri) (inside : (z : Triple) → IsPoin
             let (x, at_x, on_x, on_way, x_left, x_right) =
             crossing_in_window n l r y at_y up beyond u w p q end_left end_right differ_left differ_right reach_left reach_right
             not_left not_right in
-            sees_on ring n x y at_x at_y on_way (window x at_x on_x x_left x_right)
+            sees_on ring (whole n) x y (whole_is_point n) at_x at_y on_way (window x at_x on_x x_left x_right)
             (sees_within corners ring t inside x y at_x at_y (at.side x at_x on_x) in_y)
       ]

@@ -7,6 +7,7 @@ use Rattle.rings.specs.Bend.{IsBend}
 use Rattle.rings.specs.Chain.{point_at}
 use Rattle.rings.specs.Ring.{vertex}
 use Rattle.rings.specs.Sees.{Sees}
+use Rattle.meshes.proofs.Sight.{triangle_in_ring}
 use Rattle.meshes.specs.Fits.{Fits, IsInTri}
 use Rattle.meshes.specs.Side.{HasSide, tri_at}
 use Rattle.meshes.specs.declared.tri.Tri.{Tri}
@@ -21,7 +22,7 @@ use Rattle.funnels.proofs.Chains.ReachedBends.{apex_turns, reached_bends}
 use Rattle.funnels.proofs.Chains.WaysBefore.{IsWayBefore}
 use Rattle.funnels.proofs.Chains.WindowSight.{sees_reached}
 use Rattle.funnels.proofs.Funnels.{funnel_left, funnel_right}
-use Rattle.funnels.proofs.Vertices.{IsSharedSide, triangle_in_ring}
+use Rattle.funnels.proofs.Vertices.{IsSharedSide}
 use Rattle.funnels.specs.Funnel.{IsReachedFrom}
 use Rattle.funnels.specs.OpenFunnel.{IsApexSide, IsLastOf, IsOpenFunnel, left_behind, right_behind}
 

@@ -9,8 +9,9 @@ use Rattle.rings.specs.Edge.{Edge}
 use Rattle.rings.specs.Orientation.{turn_at}
 use Rattle.rings.specs.Ring.{vertex}
 use Rattle.rings.specs.Simple.{IsSimple}
-use Rattle.funnels.proofs.Corners.RingSteps.{IsRingStep, step_is, step_vertex}
+use Rattle.funnels.proofs.Corners.RingSteps.{IsRingStep, step_vertex}
 use Rattle.ring_laws.proofs.Vertices.{beside_differs, beside_next, edges_at, vertex_beside}
+use Rattle.meshes.proofs.Sides.{ring_edge_is}
 use Rattle.funnels.specs.Fanned.{turning}
 
 module _ (ring : List Point) (simple : IsSimple ring) (three : 3 ≤ length ring) (r : ℕ) (h : r < length ring) where
@@ -20,7 +21,7 @@ module _ (ring : List Point) (simple : IsSimple ring) (three : 3 ≤ length ring
   beside_is false t step =
       let next = step_vertex ring t r step in
       let at = edges_at ring (apart_of_simple ring simple) three r h in
-      elim (at.only _ (has_edge_at ring t (step_is (length ring) t r step).0) (inr next)) [
+      elim (at.only _ (has_edge_at ring t (ring_edge_is (length ring) t r step).0) (inr next)) [
         | inl e ↦ ap (λ (e : Edge). e.from) e
         | inr e ↦ absurd (beside_differs ring simple three r h true (ap (λ (e : Edge). e.to) e ∙ next))
       ]

@@ -1,8 +1,8 @@
 -- A way from a point left of a line to one right of it crosses the line; weights of the points of a line.
 use Rattle.std.proofs.Common.{◌≡◌, sym, ap, ◌∙◌, ℤ, pos, ◌+ℤ◌, ◌-ℤ◌, ◌*ℤ◌, neg_ℤ}
-use Rattle.integer_algebra.proofs.SignSteps.{one_positive, opposite_positive, weak, weak_order}
-use Rattle.plane.proofs.Meetings.{no_value, weighed_sum, zero_point, weights_apart}
-use Rattle.plane.proofs.Turns.{determinant_swap_first, four_triples, four_triples_in_W, linear, IsCombination, determinant_along}
+use Rattle.integer_algebra.proofs.SignSteps.{weak, weak_order}
+use Rattle.plane.proofs.Meetings.{no_value, weights_apart, zero_combination, zero_point}
+use Rattle.plane.proofs.Turns.{determinant_swap_first, four_triples, four_triples_in_W, linear, determinant_along}
 use Rattle.plane.proofs.Turns.{determinant_is_linear, on_of_combination}
 use Rattle.plane.specs.Point.{IsPoint, Triple}
 use Rattle.plane.specs.Segment.{On}
@@ -20,22 +20,13 @@ pub record OnLine (a b n y : Triple) : Type 0 where
 
 -- there is one where n is left of the line, and y right of it
 pub on_line_between : (a b n y : Triple) → IsPoint n → IsPoint y → IsLeft a b n → IsRight a b y → OnLine a b n y
+unfolding zero_combination
 on_line_between a b n y at_n at_y left right =
     let f = determinant a b n in
     let g = determinant a b y in
     let z = zero_point f g n y in
     let at_z : IsPoint z = weights_apart f g n.W y.W left (weak_order right) at_n at_y in
-    let c : IsCombination z n y = record {
-      k = pos 1;
-      l = neg_ℤ g;
-      m = f;
-      k_positive = one_positive;
-      l_nonnegative = weak (opposite_positive right);
-      m_nonnegative = weak left;
-      in_X = weighed_sum f g n.X y.X;
-      in_Y = weighed_sum f g n.Y y.Y;
-      in_W = weighed_sum f g n.W y.W;
-    } in
+    let c = zero_combination f g n y (weak left) (weak_order right) in
     record {
       point = z;
       rational = at_z;

@@ -7,7 +7,7 @@ use Rattle.std.specs.List.{range_with_len}
 use Rattle.plane.proofs.Nearness.{Eventually, toward, toward_is_point}
 use Rattle.plane.proofs.Points.{whole_is_point}
 use Rattle.plane.proofs.Segments.{middle, middle_first, middle_is_point, middle_last, middle_on}
-use Rattle.plane.specs.Point.{IsPoint, Point, Triple, whole}
+use Rattle.plane.specs.Point.{Point, whole}
 use Rattle.plane.specs.Turn.{IsLeft}
 use Rattle.rings.proofs.Simple.{apart_of_simple, proper_edges}
 use Rattle.rings.proofs.Vertices.{edge_at, has_edge_at}
@@ -19,7 +19,8 @@ use Rattle.ring_laws.proofs.Simple.{runs_round}
 use Rattle.meshes.proofs.Joins.{in_tri}
 use Rattle.meshes.proofs.Parts.{near_side, opposite}
 use Rattle.meshes.proofs.Sides.{piece_points_all, two_fewer}
-use Rattle.meshes.specs.Fits.{Fits, IsInTri, IsPieceEdge, IsSideOfOne}
+use Rattle.meshes.proofs.Sight.{triangle_in_ring}
+use Rattle.meshes.specs.Fits.{Fits, IsPieceEdge, IsSideOfOne}
 use Rattle.meshes.specs.Side.{tri_at}
 use Rattle.meshes.specs.declared.tri.Tri.{Tri}
 use Rattle.funnels.proofs.Vertices.LeftOfEdges.{not_clockwise}
@@ -42,20 +43,15 @@ module _ (corners : List Point) (tris : List Tri) (fits : Fits corners tris) whe
   first_triangle : (k : ℕ) × IsSideOfOne tris 0 1 k
   first_triangle = fits.edges 0 1 (first_edge (length corners) (omega (arith, two_fewer corners tris fits)))
 
-  -- so the ring has three vertices or more;
+  -- so the ring has three vertices or more,
   pub fitted_long : 3 ≤ length corners
   fitted_long = let (k, one) = first_triangle in omega (arith, two_fewer corners tris fits, one.in_list)
 
-  -- it is simple,
+  -- and it is simple;
   pub fitted_simple : IsSimple corners
   fitted_simple = subst IsSimple (piece_points_all corners) fits.simple
 
-  -- it has the points of each triangle,
-  pub triangle_in_ring : (k : ℕ) → k < length tris → (z : Triple) → IsPoint z → IsInTri corners (tri_at tris k) z → IsIn corners z
-  triangle_in_ring k within z at_z in_z =
-      subst (λ ring. IsIn ring z) (piece_points_all corners) ((fits.covers z at_z).1 (k, within, in_z))
-
-  -- and so those near the first edge on its left,
+  -- it has the points near the first edge on its left,
   near_first : (c : Point) × IsLeft (whole (vertex corners 0)) (whole (vertex corners 1)) (whole c)
       × Eventually (λ n. IsIn corners (toward (middle (vertex corners 0) (vertex corners 1)) (whole c) n))
   near_first =
@@ -77,7 +73,7 @@ module _ (corners : List Point) (tris : List Tri) (fits : Fits corners tris) whe
           from_start = λ n above.
               let x = toward m (whole c) n in
               let at_x = toward_is_point m (whole c) at_m (whole_is_point c) n in
-              triangle_in_ring k one.in_list x at_x (in_tri corners t x (near.from_start n above));
+              triangle_in_ring corners tris fits k one.in_list x at_x (in_tri corners t x (near.from_start n above));
         },
       )
 

@@ -4,7 +4,7 @@ use Rattle.std.proofs.Common.{◌↔◌, arith, refl, Some, None}
 use Rattle.std.proofs.lemmas.List.{get_or_append_left, get_or_push}
 use Rattle.std.specs.List.{range_with_len}
 use Rattle.std.specs.Prelude.{Option}
-use Rattle.integer_algebra.proofs.SignSteps.{negative_not_zero, not_both, not_both_positive, zero_not_negative, zero_not_positive}
+use Rattle.integer_algebra.proofs.SignSteps.{negative_not_zero, zero_not_negative, zero_not_positive}
 use Rattle.plane.proofs.Points.{whole_is_point}
 use Rattle.plane.proofs.Turns.{determinant_same_first}
 use Rattle.plane.specs.Point.{IsPoint, Point, Triple, whole}
@@ -13,6 +13,7 @@ use Rattle.rings.proofs.Vertices.{vertex_mod}
 use Rattle.rings.specs.Ring.{vertex}
 use Rattle.rings.specs.Sees.{Sees}
 use Rattle.rings.specs.Visible.{IsPart, IsUnseen}
+use Rattle.meshes.proofs.Cones.Held.{held}
 use Rattle.meshes.proofs.Cones.NarrowedViews.{side_view}
 use Rattle.meshes.proofs.Cones.OneRay.{end_cone, side_cone}
 use Rattle.meshes.proofs.Cones.PartEnds.{none_seen, part_seen}
@@ -50,10 +51,7 @@ module _ (corners : List Point) (tris : List Tri) (fits : Fits corners tris) (q 
       let Q = whole q in
       record {
         seen = λ x at_x in_x. (
-          λ sees. record {
-            not_left = λ h. not_both_positive h (zero_not_positive (determinant_same_first Q x));
-            not_right = λ h. not_both h (zero_not_negative (determinant_same_first Q x));
-          },
+          λ sees. held (zero_not_positive (determinant_same_first Q x)) (zero_not_negative (determinant_same_first Q x)),
           λ holds. sees_in_triangle corners tris fits home below Q x (whole_is_point q) at_x in_home in_x,
         );
         in_order = λ right. negative_not_zero right (determinant_same_first Q Q);

@@ -1,25 +1,19 @@
 -- The rays of a narrowed cone meet the side, and leave of it what the cone does.
 use Rattle.std.proofs.Common.{◌↔◌, List, ℤ, pos, ◌<ℤ◌, ◌≤ℤ◌, arith}
 use Rattle.std.proofs.lemmas.Int.{ints}
-use Rattle.integer_algebra.proofs.SignSteps.{mean_not_positive, not_below, not_both, not_both_positive, positive_not_negative}
+use Rattle.integer_algebra.proofs.SignSteps.{not_below, not_both, not_both_positive, positive_not_negative}
 use Rattle.integer_algebra.proofs.SignSteps.{turned_negative, turned_not_negative, weak, weak_order, zero_not_negative, zero_not_positive}
 use Rattle.plane.proofs.Points.{whole_is_point}
-use Rattle.plane.proofs.Turns.{combination_of, determinant_along, determinant_same_last, determinant_swap_last}
+use Rattle.plane.proofs.Turns.{determinant_same_last, determinant_swap_last}
 use Rattle.plane.specs.Point.{IsPoint, Point, Triple, whole}
 use Rattle.plane.specs.Segment.{On}
 use Rattle.plane.specs.Turn.{IsLeft, IsRight, determinant}
 use Rattle.rings.specs.Sees.{Sees}
 use Rattle.ring_laws.proofs.Triangles.{not_right_between}
+use Rattle.meshes.proofs.Cones.Held.{not_left_between}
 use Rattle.meshes.proofs.Cones.Narrowing.{narrowed_left_by, narrowed_right_by}
 use Rattle.meshes.proofs.Cones.SideViews.{IsWindow, ReachesSide}
 use Rattle.meshes.specs.Cone.{Cone, Holds, narrowed_left, narrowed_right}
-
--- what is not left of a line at both ends of a segment is so between them
-pub not_left_between : (s t z a b : Triple) → IsPoint z → IsPoint a → IsPoint b
-    → determinant s t a ≤ℤ pos 0 → determinant s t b ≤ℤ pos 0 → On z a b → determinant s t z ≤ℤ pos 0
-not_left_between s t z a b at_z at_a at_b ha hb on =
-    let c = combination_of z a b at_z at_a at_b on in
-    mean_not_positive c.k c.l c.m _ _ _ c.k_positive c.l_nonnegative c.m_nonnegative (determinant_along z a b c s t) ha hb
 
 -- ---- orders
 

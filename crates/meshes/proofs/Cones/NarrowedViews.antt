@@ -10,8 +10,8 @@ use Rattle.plane.specs.Point.{IsPoint, Point, Triple, whole}
 use Rattle.plane.specs.Segment.{On}
 use Rattle.plane.specs.Turn.{IsLeft, IsRight, IsStraight, determinant}
 use Rattle.rings.specs.Sees.{Sees}
-use Rattle.ring_laws.proofs.Triangles.{not_right_between}
-use Rattle.meshes.proofs.Cones.NarrowedRays.{new_window, not_left_between}
+use Rattle.meshes.proofs.Cones.Held.{held_between}
+use Rattle.meshes.proofs.Cones.NarrowedRays.{new_window}
 use Rattle.meshes.proofs.Cones.Narrowing.{narrowed_by, narrowed_left_by, narrowed_right_by}
 use Rattle.meshes.proofs.Cones.RaySigns.{left_too, not_left_too, not_right_too, right_too}
 use Rattle.meshes.proofs.Cones.SideViews.{IsFacing, SideView, beyond_view, hidden, side_seen, through_window, whole_side}
@@ -47,8 +47,8 @@ module _ (corners : List Point) (t : Tri) (q l r : Point) (facing : IsFacing cor
   in_r = facing.side R (whole_is_point r) (on_first_end R L)
 
   -- from within the triangle each of its points is held
-  held : IsInTri corners t Q → (c : Point) → IsInTri corners t (whole c) → Holds q cone (whole c)
-  held in_q c in_c =
+  all_held : IsInTri corners t Q → (c : Point) → IsInTri corners t (whole c) → Holds q cone (whole c)
+  all_held in_q c in_c =
       let at_c = whole_is_point c in
       (through.seen (whole c) at_c in_c).0 (facing.sees Q (whole c) (whole_is_point q) at_c in_q in_c)
 
@@ -56,7 +56,7 @@ module _ (corners : List Point) (t : Tri) (q l r : Point) (facing : IsFacing cor
   left_of_cone : IsLeft Q A R → (y : Triple) → IsPoint y → On y R L → ¬ Sees corners Q y
   left_of_cone left y at_y on sees =
       let end : IsLeft Q A L = elim through.place [
-        | inl in_q ↦ absurd ((held in_q r in_r).not_left left)
+        | inl in_q ↦ absurd ((all_held in_q r in_r).not_left left)
         | inr front ↦
             left_too _ _ _ _ _ _ (five_triples Q (whole front.toward) A R L) front.left
             (front.triangle R (whole_is_point r) in_r) (front.triangle L (whole_is_point l) in_l) up left
@@ -68,7 +68,7 @@ module _ (corners : List Point) (t : Tri) (q l r : Point) (facing : IsFacing cor
   right_of_cone : IsRight Q B L → (y : Triple) → IsPoint y → On y R L → ¬ Sees corners Q y
   right_of_cone right y at_y on sees =
       let end : IsRight Q B R = elim through.place [
-        | inl in_q ↦ absurd ((held in_q l in_l).not_right right)
+        | inl in_q ↦ absurd ((all_held in_q l in_l).not_right right)
         | inr front ↦
             right_too _ _ _ _ _ _ (five_triples Q (whole front.toward) B R L) front.right
             (front.triangle R (whole_is_point r) in_r) (front.triangle L (whole_is_point l) in_l) up right
@@ -85,7 +85,7 @@ module _ (corners : List Point) (t : Tri) (q l r : Point) (facing : IsFacing cor
       -- in line with the side, neither end is off the cone,
       left_end : determinant Q A L ≤ℤ pos 0
       left_end = elim through.place [
-        | inl in_q ↦ at_most_unless (held in_q l in_l).not_left
+        | inl in_q ↦ at_most_unless (all_held in_q l in_l).not_left
         | inr front ↦
             not_left_too _ _ _ _ _ _ (five_triples Q (whole front.toward) A R L) front.left
             (front.triangle R (whole_is_point r) in_r) (front.triangle L (whole_is_point l) in_l) line near
@@ -93,7 +93,7 @@ module _ (corners : List Point) (t : Tri) (q l r : Point) (facing : IsFacing cor
 
       right_end : pos 0 ≤ℤ determinant Q B R
       right_end = elim through.place [
-        | inl in_q ↦ at_least_unless (held in_q r in_r).not_right
+        | inl in_q ↦ at_least_unless (all_held in_q r in_r).not_right
         | inr front ↦
             not_right_too _ _ _ _ _ _ (five_triples Q (whole front.toward) B R L) front.right
             (front.triangle R (whole_is_point r) in_r) (front.triangle L (whole_is_point l) in_l) line far
@@ -109,10 +109,8 @@ module _ (corners : List Point) (t : Tri) (q l r : Point) (facing : IsFacing cor
           let new_right : narrowed_right q cone.right r ≡ r =
           narrowed_right_by q cone.right r (λ b. b ≡ r) (λ h. absurd (not_both h right_end)) (λ h. refl) in
           whole_side (λ i. Some (record { left = new_left i; right = new_right i })) line
-          (λ y at_y on. (side_seen corners t q l r facing cone through y at_y on).1 (record {
-            not_left = λ h. not_both_positive h (not_left_between Q A y R L at_y at_r at_l near left_end on);
-            not_right = λ h. not_both h (not_right_between Q B y R L at_y at_r at_l right_end far on);
-          }))
+          (λ y at_y on. (side_seen corners t q l r facing cone through y at_y on).1
+          (held_between q cone y R L at_y at_r at_l near left_end right_end far on))
 
     view_within : View
     view_within = elim (sign (determinant Q R L)) [

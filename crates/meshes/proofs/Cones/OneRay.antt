@@ -1,7 +1,7 @@
 -- A triangle beyond a side of which a point sees points on one ray alone: in the triangle it sees that ray. And one that has the point.
-use Rattle.std.proofs.Common.{◌≡◌, ◌⊎◌, ◌↔◌, inl, inr, sym, subst, List}
+use Rattle.std.proofs.Common.{◌≡◌, ◌⊎◌, ◌↔◌, inl, inr, List}
 use Rattle.integer_algebra.proofs.SignSteps.{at_least_unless, at_most_unless, mean_not_negative, mean_not_positive, mean_zero}
-use Rattle.integer_algebra.proofs.SignSteps.{negative_not_zero, not_both, not_both_positive, positive_of_not_zero}
+use Rattle.integer_algebra.proofs.SignSteps.{negative_not_zero, positive_of_not_zero}
 use Rattle.integer_algebra.proofs.SignSteps.{turned_not_positive, zero_not_negative, zero_not_positive}
 use Rattle.plane.proofs.Points.{same_refl, whole_is_point}
 use Rattle.plane.proofs.Segments.{combination_of_same, on_first_end, on_is_straight, on_last_end, on_same_point, ray_on_left}
@@ -16,6 +16,7 @@ use Rattle.rings.specs.Ring.{vertex}
 use Rattle.rings.specs.Sees.{Sees}
 use Rattle.ring_laws.proofs.Triangles.{in_or_not}
 use Rattle.meshes.proofs.Cones.Fronts.{triangle_in_front}
+use Rattle.meshes.proofs.Cones.Held.{end_on_side, held}
 use Rattle.meshes.proofs.Cones.RaySigns.{in_line, in_line_ahead, in_line_too, squeezed}
 use Rattle.meshes.proofs.Cones.SideReach.{IsBeyondSide}
 use Rattle.meshes.proofs.Sight.{sees_before, sees_on}
@@ -111,20 +112,14 @@ module _ (corners : List Point) (t : Tri) (q l r : Point) (beyond : IsBeyondSide
     end_cone c which seen =
         let C = whole c in
         let at_c = whole_is_point c in
-        let on_c : On C R L = elim which [
-          | inl e ↦ subst (λ p. On (whole p) R L) (sym e) (on_last_end R L)
-          | inr e ↦ subst (λ p. On (whole p) R L) (sym e) (on_first_end R L)
-        ] in
+        let on_c : On C R L = end_on_side l r c which in
         let in_c = beyond.side C at_c on_c in
         ray_cone not_within c c c in_c in_c in_c ((seen C at_c on_c).1 (same_refl C))
         (λ y at_y on sees. same_straight Q C y C at_c ((seen y at_y on).0 sees) (determinant_same_last Q C))
         (determinant_same_last Q C)
         (λ x at_x in_x. (
           λ h. squeezed (at_most_unless h.not_left) (at_least_unless h.not_right),
-          λ straight. record {
-            not_left = λ h. not_both_positive h (zero_not_positive straight);
-            not_right = λ h. not_both h (zero_not_negative straight);
-          },
+          λ straight. held (zero_not_positive straight) (zero_not_negative straight),
         ))
 
   -- ---- all of the side, in line with q
@@ -137,15 +132,12 @@ module _ (corners : List Point) (t : Tri) (q l r : Point) (beyond : IsBeyondSide
         let w = combination_of Q R L at_q (whole_is_point r) (whole_is_point l) on in
         record {
           seen = λ x at_x in_x. (
-            λ sees. record {
-              not_left = λ h. not_both_positive h (mean_not_positive w.k w.l w.m _ _ _ w.k_positive w.l_nonnegative w.m_nonnegative
-                  (determinant_along_first Q R L w L x)
-                  (turned_not_positive (determinant_swap_first L R x) (at_least_unless (beyond.not_before x in_x)))
-                  (zero_not_positive (determinant_same_first L x)));
-              not_right = λ h. not_both h (mean_not_negative w.k w.l w.m _ _ _ w.k_positive w.l_nonnegative w.m_nonnegative
-                  (determinant_along_first Q R L w R x)
-                  (zero_not_negative (determinant_same_first R x)) (at_least_unless (beyond.not_before x in_x)));
-            },
+            λ sees. held
+                (mean_not_positive w.k w.l w.m _ _ _ w.k_positive w.l_nonnegative w.m_nonnegative (determinant_along_first Q R L w L x)
+                (turned_not_positive (determinant_swap_first L R x) (at_least_unless (beyond.not_before x in_x)))
+                (zero_not_positive (determinant_same_first L x)))
+                (mean_not_negative w.k w.l w.m _ _ _ w.k_positive w.l_nonnegative w.m_nonnegative (determinant_along_first Q R L w R x)
+                (zero_not_negative (determinant_same_first R x)) (at_least_unless (beyond.not_before x in_x))),
             λ holds. beyond.sees Q x at_q at_x in_q in_x,
           );
           in_order = λ right. negative_not_zero right flat;
@@ -159,10 +151,7 @@ module _ (corners : List Point) (t : Tri) (q l r : Point) (beyond : IsBeyondSide
         let e = five_triples Q (whole g) L R x in
         let none = straight_swap_last Q R L flat in (
           λ h. in_line _ _ _ _ _ _ e left_l left_r none (at_most_unless h.not_left) (at_least_unless h.not_right),
-          λ straight. record {
-            not_left = λ h. not_both_positive h (zero_not_positive straight);
-            not_right = λ h. not_both h (zero_not_negative (in_line_too _ _ _ _ _ _ e left_l left_r none straight));
-          },
+          λ straight. held (zero_not_positive straight) (zero_not_negative (in_line_too _ _ _ _ _ _ e left_l left_r none straight)),
         )
 
     -- so q sees the triangle through the ends

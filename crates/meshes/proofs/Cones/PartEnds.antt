@@ -2,7 +2,7 @@
 use Rattle.std.proofs.Common.{◌≡◌, ◌⊎◌, ◌↔◌, inl, inr, sym, subst, List, ℤ, pos, ◌-ℤ◌, neg_ℤ, ◌<ℤ◌, ◌≤ℤ◌, arith, Some, None}
 use Rattle.std.proofs.lemmas.Int.{ints}
 use Rattle.std.specs.Prelude.{Option}
-use Rattle.integer_algebra.proofs.SignSteps.{at_least_unless, at_most_unless, not_both, not_both_positive, zero_not_negative}
+use Rattle.integer_algebra.proofs.SignSteps.{at_least_unless, at_most_unless, zero_not_negative}
 use Rattle.integer_algebra.proofs.SignSteps.{zero_not_positive}
 use Rattle.plane.proofs.Points.{same_sym, same_trans, whole_is_point}
 use Rattle.plane.proofs.Segments.{as_far, combination_of_same, later_between, on_first_end, on_is_straight, on_last_end, on_nested}
@@ -15,7 +15,7 @@ use Rattle.plane.specs.Segment.{On}
 use Rattle.plane.specs.Turn.{IsRight, IsStraight, determinant}
 use Rattle.rings.specs.Sees.{Sees}
 use Rattle.ring_laws.proofs.Triangles.{not_right_between}
-use Rattle.meshes.proofs.Cones.NarrowedRays.{not_left_between}
+use Rattle.meshes.proofs.Cones.Held.{end_on_side, held_between, not_left_between}
 use Rattle.meshes.proofs.Cones.RaySigns.{bound_side, same_not_positive, squeezed}
 use Rattle.meshes.proofs.Cones.SideMeetings.{at_meeting, at_weights, before_meeting, meeting, meeting_on, meeting_on_ray}
 use Rattle.meshes.proofs.Cones.SideMeetings.{only_meeting, same_meeting}
@@ -98,12 +98,8 @@ module _ (ring : List Point) (q l r : Point) (cone : Cone) (w : IsWindow ring q 
     between_seen on =
         let on_side = on_nested x a b R L at_x first.rational last.rational (whole_is_point r) (whole_is_point l) first_on last_on on in (
           on_side,
-          (w.seen x at_x on_side).1 (record {
-            not_left = λ h. not_both_positive h (not_left_between Q A x a b at_x first.rational last.rational first_not_left
-                (zero_not_positive last_on_ray) on);
-            not_right = λ h. not_both h (not_right_between Q B x a b at_x first.rational last.rational
-                (zero_not_negative first_on_ray) last_not_right on);
-          }),
+          (w.seen x at_x on_side).1 (held_between q cone x a b at_x first.rational last.rational first_not_left
+              (zero_not_positive last_on_ray) (zero_not_negative first_on_ray) last_not_right on),
         )
 
   window_part : IsPartOfSide ring q l r a b
@@ -147,10 +143,7 @@ last_off c f g e h hg none = omega (arith, ints)
 module _ (ring : List Point) (q l r c : Point) (which : (c ≡ l) ⊎ (c ≡ r)) (right : IsRight (whole q) (whole r) (whole l))
     (seen : (y : Triple) → IsPoint y → On y (whole r) (whole l) → Sees ring (whole q) y ↔ IsSame y (whole c)) where
   on_end : On (whole c) (whole r) (whole l)
-  on_end = elim which [
-    | inl e ↦ subst (λ p. On (whole p) (whole r) (whole l)) (sym e) (on_last_end (whole r) (whole l))
-    | inr e ↦ subst (λ p. On (whole p) (whole r) (whole l)) (sym e) (on_first_end (whole r) (whole l))
-  ]
+  on_end = end_on_side l r c which
 
   end_crossing : ¬ (cross_product q c r l ≡ pos 0)
   end_crossing = elim which [

@@ -1,8 +1,8 @@
 -- Where a ray meets a side that it reaches, and which points of the side are before the meeting.
 use Rattle.std.proofs.Common.{◌≡◌, inl, inr, ℤ, pos, ◌+ℤ◌, ◌-ℤ◌, ◌*ℤ◌, neg_ℤ, ◌<ℤ◌, ◌≤ℤ◌, arith}
 use Rattle.std.proofs.lemmas.Int.{ints}
-use Rattle.integer_algebra.proofs.SignSteps.{one_positive, opposite_not_negative, zero_not_negative}
-use Rattle.plane.proofs.Meetings.{no_value, weighed_sum, zero_point}
+use Rattle.integer_algebra.proofs.SignSteps.{zero_not_negative}
+use Rattle.plane.proofs.Meetings.{no_value, values_apart, zero_combination, zero_point}
 use Rattle.plane.proofs.Points.{same_sym, whole_is_point}
 use Rattle.plane.proofs.Segments.{as_far, on_is_straight, on_last_end, on_one_side, on_reversed}
 use Rattle.plane.proofs.Segments.{on_same_point, one_meeting}
@@ -19,10 +19,6 @@ use Rattle.meshes.specs.Cone.{IsPartEnd}
 -- a difference of two numbers that are apart is not 0
 apart_not_zero : (c f g : ℤ) → f -ℤ g ≡ c → g <ℤ f → ¬ (c ≡ pos 0)
 apart_not_zero c f g e h none = omega (arith, ints)
-
--- it is positive
-apart_positive : (f g : ℤ) → g <ℤ f → pos 0 <ℤ (f *ℤ pos 1 -ℤ g *ℤ pos 1)
-apart_positive f g h = omega (arith, ints)
 
 module _ (q l r c e : Point) (reach : ReachesSide q l r c) (m : Triple) (end : IsPartEnd q c r l e m) where
   abbrev Q : Triple
@@ -51,26 +47,16 @@ module _ (q l r c e : Point) (reach : ReachesSide q l r c) (m : Triple) (end : I
 
   pub at_meeting : IsPoint meeting
   unfolding meeting
-  at_meeting = apart_positive _ _ reach.apart
+  at_meeting = values_apart _ _ reach.apart
 
   weights : IsCombination meeting L R
   unfolding meeting
-  weights = record {
-    k = pos 1;
-    l = neg_ℤ (determinant Q C R);
-    m = determinant Q C L;
-    k_positive = one_positive;
-    l_nonnegative = opposite_not_negative reach.not_past_right;
-    m_nonnegative = reach.not_past_left;
-    in_X = weighed_sum (determinant Q C L) (determinant Q C R) L.X R.X;
-    in_Y = weighed_sum (determinant Q C L) (determinant Q C R) L.Y R.Y;
-    in_W = weighed_sum (determinant Q C L) (determinant Q C R) L.W R.W;
-  }
+  weights = zero_combination (determinant Q C L) (determinant Q C R) L R reach.not_past_left reach.not_past_right
 
   -- what another ray says of it
   pub at_weights : (a : Point) → pos 1 *ℤ determinant Q (whole a) meeting
       ≡ neg_ℤ (determinant Q C R) *ℤ determinant Q (whole a) L +ℤ determinant Q C L *ℤ determinant Q (whole a) R
-  unfolding weights
+  unfolding weights zero_combination
   at_weights a = determinant_along meeting L R weights Q (whole a)
 
   -- it is m

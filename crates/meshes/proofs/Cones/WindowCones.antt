@@ -2,20 +2,21 @@
 use Rattle.std.proofs.Common.{◌≡◌, inr, List, ℤ, pos, ◌+ℤ◌, ◌-ℤ◌, ◌*ℤ◌, neg_ℤ, ◌<ℤ◌, ◌≤ℤ◌, arith}
 use Rattle.std.proofs.lemmas.Int.{ints}
 use Rattle.integer_algebra.proofs.Laws.{neg-mul}
-use Rattle.integer_algebra.proofs.SignSteps.{at_least_unless, at_most_unless, mean_not_negative, mean_not_positive, not_both}
-use Rattle.integer_algebra.proofs.SignSteps.{not_both_positive, one_positive, opposite_not_negative, positive_not_zero}
-use Rattle.integer_algebra.proofs.SignSteps.{positive_of_not_zero, turned_negative, turned_not_positive, weak, zero_not_negative}
-use Rattle.integer_algebra.proofs.SignSteps.{zero_not_positive}
-use Rattle.plane.proofs.Meetings.{weighed_sum, zero_point}
+use Rattle.integer_algebra.proofs.SignSteps.{at_least_unless, at_most_unless, one_positive, opposite_not_negative}
+use Rattle.integer_algebra.proofs.SignSteps.{positive_not_zero, positive_of_not_zero, turned_negative, turned_not_positive, weak}
+use Rattle.integer_algebra.proofs.SignSteps.{zero_not_negative, zero_not_positive}
+use Rattle.plane.proofs.Meetings.{values_apart, zero_combination, zero_point}
 use Rattle.plane.proofs.Points.{whole_is_point}
 use Rattle.plane.proofs.Segments.{on_is_straight, on_same_point, same_without_last}
 use Rattle.plane.proofs.Turns.{IsCombination, areas_add, combination_of, determinant_along, determinant_same_ends, determinant_shift}
 use Rattle.plane.proofs.Turns.{determinant_swap_first, five_triples, four_triples_in_W, four_triples_in_X, four_triples_in_Y}
 use Rattle.plane.proofs.Turns.{on_of_combination}
 use Rattle.plane.specs.Point.{IsPoint, Point, Triple, whole}
+use Rattle.plane.specs.Segment.{On}
 use Rattle.plane.specs.Turn.{IsLeft, IsRight, determinant}
 use Rattle.rings.specs.Sees.{Sees}
 use Rattle.meshes.proofs.Cones.Fronts.{ahead, ahead_turn, in_front}
+use Rattle.meshes.proofs.Cones.Held.{held, held_between}
 use Rattle.meshes.proofs.Cones.RaySigns.{beyond_side, not_left_ahead, not_past_left, not_past_right, not_right_ahead}
 use Rattle.meshes.proofs.Cones.SideReach.{IsBeyondSide}
 use Rattle.meshes.proofs.Cones.SideViews.{IsWindow, ReachesSide}
@@ -29,10 +30,6 @@ use Rattle.meshes.specs.declared.tri.Tri.{Tri}
 crossed : (h l r g a b c d : ℤ) → h *ℤ a -ℤ l *ℤ b +ℤ r *ℤ c -ℤ g *ℤ d ≡ pos 0
     → pos 1 *ℤ (r *ℤ c -ℤ l *ℤ b) ≡ neg_ℤ h *ℤ a +ℤ g *ℤ d
 crossed h l r g a b c d e = omega (arith, ints, neg-mul h a)
-
--- the weight of the crossing
-crossed_weight : (l r : ℤ) → l <ℤ r → pos 0 <ℤ (r *ℤ pos 1 -ℤ l *ℤ pos 1)
-crossed_weight l r h = omega (arith, ints)
 
 -- a bound that reaches the side is in front
 reach_front : (d s t u v cr cl : ℤ) → d ≡ s -ℤ t *ℤ pos 1 → s ≡ u → t ≡ v → u -ℤ v +ℤ cr -ℤ cl ≡ pos 0 → cr <ℤ cl → pos 0 <ℤ d
@@ -70,12 +67,11 @@ module _ (corners : List Point) (t : Tri) (q l r : Point) (beyond : IsBeyondSide
         let holds = (w.seen y over.rational over.on_side).0 over.seen in
         let A = whole cone.left in
         let B = whole cone.right in
-        record {
-          not_left = λ h. not_both_positive h (not_left_ahead c.k c.l c.m _ _ _ some (determinant_same_ends Q A)
-              (determinant_along y Q x c Q A) c.k_positive (at_most_unless holds.not_left));
-          not_right = λ h. not_both h (not_right_ahead c.k c.l c.m _ _ _ some (determinant_same_ends Q B)
-              (determinant_along y Q x c Q B) c.k_positive (at_least_unless holds.not_right));
-        }
+        held
+        (not_left_ahead c.k c.l c.m _ _ _ some (determinant_same_ends Q A) (determinant_along y Q x c Q A) c.k_positive
+        (at_most_unless holds.not_left))
+        (not_right_ahead c.k c.l c.m _ _ _ some (determinant_same_ends Q B) (determinant_along y Q x c Q B) c.k_positive
+        (at_least_unless holds.not_right))
 
     -- ---- what is held is seen
 
@@ -91,7 +87,7 @@ module _ (corners : List Point) (t : Tri) (q l r : Point) (beyond : IsBeyondSide
 
     at_crossing : IsPoint crossing
     unfolding crossing
-    at_crossing = crossed_weight _ _ between
+    at_crossing = values_apart _ _ between
 
     way : IsCombination crossing Q x
     unfolding crossing
@@ -107,37 +103,26 @@ module _ (corners : List Point) (t : Tri) (q l r : Point) (beyond : IsBeyondSide
       in_W = crossed (determinant R L x) (determinant Q L x) (determinant Q R x) _ Q.W R.W L.W x.W (four_triples_in_W Q R L x);
     }
 
+    on_way : On crossing Q x
+    on_way = on_of_combination crossing Q x at_crossing (whole_is_point q) at_x way
+
     module _ (holds : Holds q cone x) where
       -- between its ends,
       on_side : IsCombination crossing R L
       unfolding crossing
-      on_side = record {
-        k = pos 1;
-        l = neg_ℤ (determinant Q L x);
-        m = determinant Q R x;
-        k_positive = one_positive;
-        l_nonnegative = opposite_not_negative (not_past_left _ _ _ _ _ _ (five_triples Q (whole cone.left) R L x) w.left_ray.not_past_right
-            w.left_ray.not_past_left w.left_ray.apart w.before between (at_most_unless holds.not_left));
-        m_nonnegative = not_past_right _ _ _ _ _ _ (five_triples Q (whole cone.right) R L x) w.right_ray.not_past_right
-            w.right_ray.not_past_left w.right_ray.apart w.before between (at_least_unless holds.not_right);
-        in_X = weighed_sum (determinant Q R x) (determinant Q L x) R.X L.X;
-        in_Y = weighed_sum (determinant Q R x) (determinant Q L x) R.Y L.Y;
-        in_W = weighed_sum (determinant Q R x) (determinant Q L x) R.W L.W;
-      }
+      on_side =
+          zero_combination (determinant Q R x) (determinant Q L x) R L
+          (not_past_right _ _ _ _ _ _ (five_triples Q (whole cone.right) R L x) w.right_ray.not_past_right
+          w.right_ray.not_past_left w.right_ray.apart w.before between (at_least_unless holds.not_right))
+          (not_past_left _ _ _ _ _ _ (five_triples Q (whole cone.left) R L x) w.left_ray.not_past_right
+          w.left_ray.not_past_left w.left_ray.apart w.before between (at_most_unless holds.not_left))
 
       -- where the cone holds it,
       crossing_held : Holds q cone crossing
-      unfolding way
       crossing_held =
-          let c = way in
-          let A = whole cone.left in
-          let B = whole cone.right in
-          record {
-            not_left = λ h. not_both_positive h (mean_not_positive c.k c.l c.m _ _ _ c.k_positive c.l_nonnegative c.m_nonnegative
-                (determinant_along crossing Q x c Q A) (zero_not_positive (determinant_same_ends Q A)) (at_most_unless holds.not_left));
-            not_right = λ h. not_both h (mean_not_negative c.k c.l c.m _ _ _ c.k_positive c.l_nonnegative c.m_nonnegative
-                (determinant_along crossing Q x c Q B) (zero_not_negative (determinant_same_ends Q B)) (at_least_unless holds.not_right));
-          }
+          held_between q cone crossing Q x at_crossing (whole_is_point q) at_x
+          (zero_not_positive (determinant_same_ends Q (whole cone.left))) (at_most_unless holds.not_left)
+          (zero_not_negative (determinant_same_ends Q (whole cone.right))) (at_least_unless holds.not_right) on_way
 
       -- so q sees x over it
       held_seen : Sees corners Q x
@@ -147,7 +132,7 @@ module _ (corners : List Point) (t : Tri) (q l r : Point) (beyond : IsBeyondSide
             point = crossing;
             rational = at_crossing;
             on_side = on;
-            on_way = on_of_combination crossing Q x at_crossing (whole_is_point q) at_x way;
+            on_way = on_way;
             seen = (w.seen crossing at_crossing on).1 crossing_held;
           })
 

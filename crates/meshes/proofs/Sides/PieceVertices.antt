@@ -10,10 +10,6 @@ use Rattle.rings.specs.Simple.{IsSimple}
 use Rattle.rings.proofs.Simple.{apart_of_simple}
 use Rattle.meshes.specs.Fits.{piece_points}
 
--- each two vertices of a simple ring are different
-pub simple_differ : (ring : List Point) → IsSimple ring → (i j : ℕ) → i < j → j < length ring → ¬ (vertex ring i ≡ vertex ring j)
-simple_differ ring simple = (apart_of_simple ring simple).distinct
-
 -- ---- simple pieces
 
 module _ (corners : List Point) (piece : List ℕ) where
@@ -32,7 +28,7 @@ module _ (corners : List Point) (piece : List ℕ) where
     pub one_place : (p q : ℕ) → p < length piece → q < length piece → vertex corners (get_or piece p 0) ≡ vertex corners (get_or piece q 0) → p ≡ q
     one_place p q h k same =
         let ring = piece_points corners piece in
-        one_to_one (vertex ring) (length ring) (simple_differ ring simple) p q (omega (arith, length_points)) (omega (arith, length_points))
+        one_to_one (vertex ring) (length ring) (apart_of_simple ring simple).distinct p q (omega (arith, length_points)) (omega (arith, length_points))
         (vertex_of_piece p h ∙ same ∙ sym (vertex_of_piece q k))
 
     -- as its number does

@@ -115,7 +115,7 @@ module _ (tris : List Tri) where
   -- ---- one walk
 
   -- a path as a walk from one triangle to another
-  between_of_path : (a : ℕ) (bs : List ℕ) (c : ℕ) → IsPlace tris a → IsPath (IsPlace tris) (Touch tris) a bs c → IsWalkBetween tris a c (a ∷ bs)
+  pub between_of_path : (a : ℕ) (bs : List ℕ) (c : ℕ) → IsPlace tris a → IsPath (IsPlace tris) (Touch tris) a bs c → IsWalkBetween tris a c (a ∷ bs)
   between_of_path a bs c at_a p = record {
     is_walk = walk_of_path a bs c at_a p;
     first = refl;

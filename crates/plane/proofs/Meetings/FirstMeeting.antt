@@ -38,6 +38,10 @@ weighed_sum f g x y = omega (arith, ints, neg-mul g x)
 pub weights_apart : (f g v w : ℤ) → pos 0 <ℤ f → g ≤ℤ pos 0 → pos 0 <ℤ v → pos 0 <ℤ w → pos 0 <ℤ (f *ℤ w -ℤ g *ℤ v)
 weights_apart f g v w hf hg hv hw = omega (arith, ints, mul_positive f w hf hw, mul_nonpositive v g (weak hv) hg, mul_comm v g)
 
+-- between whole points, whose weights are 1, it is enough that the one is above the other
+pub values_apart : (f g : ℤ) → g <ℤ f → pos 0 <ℤ (f *ℤ pos 1 -ℤ g *ℤ pos 1)
+values_apart f g h = omega (arith, ints)
+
 -- the functional is 0 where its values at the ends are their own weights
 pub no_value : (z f g : ℤ) → pos 1 *ℤ z ≡ neg_ℤ g *ℤ f +ℤ f *ℤ g → z ≡ pos 0
 no_value z f g e = omega (arith, ints, neg-mul g f, mul_comm g f)
@@ -47,14 +51,14 @@ abbrev pub zero_point : (f g : ℤ) → Triple → Triple → Triple
 zero_point f g y t = record { X = f *ℤ t.X -ℤ g *ℤ y.X; Y = f *ℤ t.Y -ℤ g *ℤ y.Y; W = f *ℤ t.W -ℤ g *ℤ y.W }
 
 -- it is a combination of the two
-zero_combination : (f g : ℤ) (y t : Triple) → pos 0 <ℤ f → g ≤ℤ pos 0 → IsCombination (zero_point f g y t) y t
+unfoldable pub zero_combination : (f g : ℤ) (y t : Triple) → pos 0 ≤ℤ f → g ≤ℤ pos 0 → IsCombination (zero_point f g y t) y t
 zero_combination f g y t hf hg = record {
   k = pos 1;
   l = neg_ℤ g;
   m = f;
   k_positive = one_positive;
   l_nonnegative = opposite_not_negative hg;
-  m_nonnegative = weak hf;
+  m_nonnegative = hf;
   in_X = weighed_sum f g y.X t.X;
   in_Y = weighed_sum f g y.Y t.Y;
   in_W = weighed_sum f g y.W t.W;
@@ -75,7 +79,7 @@ module _ (α β γ : ℤ) (y t : Triple) (at_y : IsPoint y) (at_t : IsPoint t) (
       let f = linear α β γ y in
       let g = linear α β γ t in
       let w = zero_point f g y t in
-      let c = zero_combination f g y t up low in
+      let c = zero_combination f g y t (weak up) low in
       let at_w : IsPoint w = weights_apart f g y.W t.W up low at_y at_t in
       record {
         point = w;

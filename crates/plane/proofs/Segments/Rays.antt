@@ -1,11 +1,13 @@
 -- Two points on one line with a third, to one side of another line through that: they are on one ray.
-use Rattle.std.proofs.Common.{◌≡◌, ◌⊎◌, inl, inr, ap, ℤ, pos, ◌+ℤ◌, ◌-ℤ◌, ◌*ℤ◌, neg_ℤ, ◌<ℤ◌, arith}
+use Rattle.std.proofs.Common.{◌≡◌, ◌⊎◌, inl, inr, [], ◌∷◌, refl, sym, ap, ◌∙◌, ℤ, pos, ◌+ℤ◌, ◌-ℤ◌, ◌*ℤ◌, neg_ℤ, ◌<ℤ◌, arith}
 use Rattle.std.proofs.lemmas.Int.{ints}
 use Rattle.integer_algebra.proofs.Laws.{neg-mul, zero-mul}
+use Rattle.integer_algebra.proofs.Polynomial.{var, ◌⊕◌, ◌⊖◌, ◌⊗◌, same_value}
 use Rattle.integer_algebra.proofs.SignSteps.{opposite_positive, weak}
-use Rattle.integer_algebra.proofs.Signs.{lt_or_le}
+use Rattle.integer_algebra.proofs.Signs.{lt_or_le, mul_positive}
+use Rattle.plane.proofs.Segments.Sides.{within_from}
 use Rattle.plane.proofs.Turns.{four_triples_in_W, four_triples_in_X, four_triples_in_Y, on_of_combination}
-use Rattle.plane.specs.Point.{IsPoint, Triple}
+use Rattle.plane.specs.Point.{IsPoint, IsSame, Triple}
 use Rattle.plane.specs.Segment.{On}
 use Rattle.plane.specs.Turn.{IsLeft, IsRight, IsStraight, determinant}
 
@@ -67,3 +69,30 @@ module _ (v x u : Triple) (at_v : IsPoint v) (at_x : IsPoint x) (at_u : IsPoint 
         (opposite_relation _ _ _ u.X v.X x.X (of_relation _ _ _ _ v.X b.X x.X u.X straight (four_triples_in_X v b x u)))
         (opposite_relation _ _ _ u.Y v.Y x.Y (of_relation _ _ _ _ v.Y b.Y x.Y u.Y straight (four_triples_in_Y v b x u)))
         (opposite_relation _ _ _ u.W v.W x.W (of_relation _ _ _ _ v.W b.W x.W u.W straight (four_triples_in_W v b x u)))
+
+-- ---- rays that go on from one way
+
+-- one coordinate, where v is between y and u, and between y and w
+gone_on : (k l m i j n v y u w : ℤ) → k *ℤ v ≡ l *ℤ y +ℤ m *ℤ u → i *ℤ v ≡ j *ℤ y +ℤ n *ℤ w
+    → (j *ℤ m) *ℤ u ≡ (j *ℤ k -ℤ l *ℤ i) *ℤ v +ℤ (l *ℤ n) *ℤ w
+gone_on k l m i j n v y u w e f =
+    let xs = k ∷ l ∷ m ∷ i ∷ j ∷ n ∷ v ∷ y ∷ u ∷ w ∷ [] in
+    let rest = (var 1 ⊗ var 5) ⊗ var 9 in
+    same_value ((var 4 ⊗ var 2) ⊗ var 8)
+    (var 4 ⊗ (var 1 ⊗ var 7 ⊕ var 2 ⊗ var 8) ⊖ var 1 ⊗ (var 4 ⊗ var 7 ⊕ var 5 ⊗ var 9) ⊕ rest) xs refl
+    ∙ (λ t. j *ℤ sym e t -ℤ l *ℤ sym f t +ℤ (l *ℤ n) *ℤ w)
+    ∙ same_value (var 4 ⊗ (var 0 ⊗ var 6) ⊖ var 1 ⊗ (var 3 ⊗ var 6) ⊕ rest)
+    ((var 4 ⊗ var 0 ⊖ var 1 ⊗ var 3) ⊗ var 6 ⊕ rest) xs refl
+
+-- the ways from a point over v to two others go on along one ray
+pub on_one_ray : (v y u w : Triple) → IsPoint v → IsPoint y → IsPoint u → IsPoint w → On v y u → On v y w → ¬ IsSame v y
+    → ¬ IsSame v u → ¬ IsSame v w → On u v w ⊎ On w v u
+on_one_ray v y u w at_v at_y at_u at_w on_u on_w not_y not_u not_w =
+    let a = within_from v y u at_v at_y at_u on_u not_y not_u in
+    let b = within_from v y w at_v at_y at_w on_w not_y not_w in
+    let c = a.combination in
+    let d = b.combination in
+    let coordinate = gone_on c.k c.l c.m d.k d.l d.m in
+    ray_of v w u at_v at_w at_u (d.l *ℤ c.m) (d.l *ℤ c.k -ℤ c.l *ℤ d.k) (c.l *ℤ d.m)
+    (mul_positive d.l c.m b.first_weighs a.last_weighs) (mul_positive c.l d.m a.first_weighs b.last_weighs)
+    (coordinate v.X y.X u.X w.X c.in_X d.in_X) (coordinate v.Y y.Y u.Y w.Y c.in_Y d.in_Y) (coordinate v.W y.W u.W w.W c.in_W d.in_W)

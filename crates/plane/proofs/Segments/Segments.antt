@@ -55,15 +55,6 @@ meet_reversed_second a b c d h = record {
   on_second = on_reversed h.point c d h.on_second;
 }
 
--- and in the other order
-pub meet_swapped : (a b c d : Triple) → Meet a b c d → Meet c d a b
-meet_swapped a b c d h = record {
-  point = h.point;
-  rational = h.rational;
-  on_first = h.on_second;
-  on_second = h.on_first;
-}
-
 -- one coordinate of the start of the way
 start : (u v s t : ℤ) → u *ℤ ((pos 1 *ℤ v) *ℤ t) ≡ ((pos 1 *ℤ u) *ℤ t +ℤ (pos 0 *ℤ s) *ℤ v) *ℤ v
 start u v s t =

@@ -10,7 +10,7 @@ use Rattle.integer_algebra.proofs.Weights.{weighted_positive}
 use Rattle.plane.proofs.Nearness.{apart_between, side_toward, Eventually, toward, toward_differs, toward_is_point, toward_on}
 use Rattle.plane.proofs.Points.{same_refl, same_sym, same_whole, whole_is_point}
 use Rattle.plane.proofs.Segments.{combination_of_same, on_antisym, on_first_end, on_is_straight, on_last_end, on_nested, on_or_not}
-use Rattle.plane.proofs.Segments.{on_reversed, on_same_point}
+use Rattle.plane.proofs.Segments.{on_one_ray, on_reversed, on_same_point}
 use Rattle.plane.proofs.Turns.{combination_of, on_of_combination, weights_positive}
 use Rattle.plane.specs.Point.{IsPoint, IsSame, Point, Triple, whole}
 use Rattle.plane.specs.Segment.{On}
@@ -26,7 +26,7 @@ use Rattle.rings.specs.Simple.{IsSimple}
 use Rattle.rings.specs.Winding.{WindsUpTo}
 use Rattle.ring_laws.proofs.Kernels.InnerHits.{MeetsOnlyAt, right_of_edge}
 use Rattle.ring_laws.proofs.Triangles.{end_is_on, end_of_other}
-use Rattle.ring_laws.proofs.Vertices.{IsStrictlyOn, beside_differs, edges_at, neighbours_not_on_ray, on_one_ray}
+use Rattle.ring_laws.proofs.Vertices.{IsStrictlyOn, beside_differs, edges_at, neighbours_not_on_ray}
 
 -- an edge of the ring at x, with y on its right
 pub record RightOfEdgeAt (ring : List Point) (y x : Triple) : Type 0 where

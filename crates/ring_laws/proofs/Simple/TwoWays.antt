@@ -74,13 +74,6 @@ bent_turned_iff ring c = (
   bent_chain_turned ring c,
 )
 
--- the same for the simple rings of the laws
-pub bent_turned : (ring : List Point) → 3 ≤ length ring → IsSimple ring → (c : List Point) → IsBentChain ring c → IsBentChain (turned_round ring) c
-bent_turned ring some simple c h = bent_chain_turned ring c h
-
-pub bent_turned_back : (ring : List Point) → 3 ≤ length ring → IsSimple ring → (c : List Point) → IsBentChain (turned_round ring) c → IsBentChain ring c
-bent_turned_back ring some simple c h = (bent_turned_iff ring c).0 h
-
 -- a chain with bends in a ring is one in the ring that is kept
 pub bent_kept : (ring kept : List Point) → IsKept ring kept → (c : List Point) → IsBentChain ring c → IsBentChain kept c
 bent_kept ring kept is c h = elim is.one_of [

@@ -1,12 +1,12 @@
 -- A way out of a closed triangle: the point at which it leaves, and the side that this point is on.
-use Rattle.std.proofs.Common.{◌≡◌, ◌⊎◌, inl, inr, refl, sym, subst, ◌∙◌, ℤ, pos, ◌+ℤ◌, ◌-ℤ◌, ◌*ℤ◌, neg_ℤ, ◌<ℤ◌, ◌≤ℤ◌, arith}
+use Rattle.std.proofs.Common.{◌≡◌, ◌⊎◌, inl, inr, refl, sym, subst, ◌∙◌, ℤ, pos, ◌+ℤ◌, ◌-ℤ◌, ◌*ℤ◌, ◌<ℤ◌, ◌≤ℤ◌, arith}
 use Rattle.std.proofs.lemmas.Int.{ints}
 use Rattle.integer_algebra.proofs.Laws.{mul_comm}
-use Rattle.integer_algebra.proofs.SignSteps.{not_both, one_positive, opposite_positive, weak, zero_not_negative}
+use Rattle.integer_algebra.proofs.SignSteps.{not_both, weak, weak_order, zero_not_negative}
 use Rattle.integer_algebra.proofs.Signs.{factor_positive, lt_or_le, mul_negative, mul_nonnegative, mul_positive}
-use Rattle.plane.proofs.Meetings.{no_value, weighed_sum, zero_point}
+use Rattle.plane.proofs.Meetings.{no_value, zero_combination, zero_point}
 use Rattle.plane.proofs.Segments.{on_first_end, on_last_end, on_nested}
-use Rattle.plane.proofs.Turns.{IsCombination, determinant_along, on_of_combination}
+use Rattle.plane.proofs.Turns.{determinant_along, on_of_combination}
 use Rattle.plane.specs.Point.{IsPoint, Point, Triple, whole}
 use Rattle.plane.specs.Segment.{On}
 use Rattle.plane.specs.Triangle.{IsInTriangle, height_over}
@@ -36,20 +36,6 @@ record Clip (s t x y : Triple) : Type 0 where
   rises : pos 0 <ℤ determinant s t x → (a b : Triple) → pos 0 ≤ℤ determinant a b x → pos 0 <ℤ determinant a b y
       → pos 0 <ℤ determinant a b point
 
--- it is a combination of the two
-zero_combination : (f g : ℤ) (x y : Triple) → pos 0 ≤ℤ f → g <ℤ pos 0 → IsCombination (zero_point f g x y) x y
-zero_combination f g x y hf hg = record {
-  k = pos 1;
-  l = neg_ℤ g;
-  m = f;
-  k_positive = one_positive;
-  l_nonnegative = weak (opposite_positive hg);
-  m_nonnegative = hf;
-  in_X = weighed_sum f g x.X y.X;
-  in_Y = weighed_sum f g x.Y y.Y;
-  in_W = weighed_sum f g x.W y.W;
-}
-
 module _ (s t x y : Triple) (at_x : IsPoint x) (at_y : IsPoint y) (not_right : pos 0 ≤ℤ determinant s t x) where
   -- where y is right of the line, it is a point of the line
   falls : IsRight s t y → Clip s t x y
@@ -58,7 +44,7 @@ module _ (s t x y : Triple) (at_x : IsPoint x) (at_y : IsPoint y) (not_right : p
       let f = determinant s t x in
       let g = determinant s t y in
       let z = zero_point f g x y in
-      let c = zero_combination f g x y not_right right in
+      let c = zero_combination f g x y not_right (weak_order right) in
       let at_z : IsPoint z = weights_apart f g x.W y.W not_right right at_x at_y in
       let zero : IsStraight s t z = no_value _ f g (determinant_along z x y c s t) in
       record {
