@@ -42,7 +42,8 @@ module _ (tris : List Tri) (home : ℕ) (order : List Outward) (o : IsOutward tr
     walk_at_home below = walk_of_path tris tree home [] home below below refl
 
     -- and that to the triangle at a later place is the walk to the one from which it is reached, and the triangle
-    pub walk_outward : (p : ℕ) → 0 < p → p < length order → (walk : List ℕ) → IsWalkBetween tris home (at_place order (outward_at order p).toward) walk
+    pub walk_outward : (p : ℕ) → 0 < p → p < length order → (walk : List ℕ)
+        → IsWalkBetween tris home (at_place order (outward_at order p).toward) walk
         → IsWalkBetween tris home (at_place order p) (walk ++ at_place order p ∷ [])
     walk_outward p some below walk w =
         let earlier = (o.joined p some below).earlier in
@@ -50,10 +51,12 @@ module _ (tris : List Tri) (home : ℕ) (order : List Outward) (o : IsOutward tr
         let q_below : q < length order = omega (arith, earlier) in
         let lead = leads_home (suc q) q (omega arith) q_below in
         let home_below : home < length tris = subst (λ k. k < length tris) o.first (o.in_list 0 (omega arith)) in
-        let near = walk_from_home (lead.over ++ []) (at_place order q) (o.in_list q q_below) (lead.leads [] (at_place order q) (way_starts tris home order o q (at_place order q) q_below refl)) in
+        let near = walk_from_home (lead.over ++ []) (at_place order q) (o.in_list q q_below)
+        (lead.leads [] (at_place order q) (way_starts tris home order o q (at_place order q) q_below refl)) in
         let far = walk_from_home (lead.over ++ at_place order p ∷ []) (at_place order p) (o.in_list p below)
         (lead.leads (at_place order p ∷ []) (at_place order p)
         (way_goes_on tris home order o p [] (at_place order p) some (way_starts tris home order o p (at_place order p) below refl))) in
-        let same : home ∷ (lead.over ++ []) ≡ walk = one_walk tris home (at_place order q) tree home_below (o.in_list q q_below) walk (home ∷ (lead.over ++ [])) w near in
+        let same : home ∷ (lead.over ++ []) ≡ walk =
+        one_walk tris home (at_place order q) tree home_below (o.in_list q q_below) walk (home ∷ (lead.over ++ [])) w near in
         let is : home ∷ lead.over ≡ walk = ap (λ xs. home ∷ xs) (sym (append-nil lead.over)) ∙ same in
         subst (λ xs. IsWalkBetween tris home (at_place order p) (xs ++ at_place order p ∷ [])) is far

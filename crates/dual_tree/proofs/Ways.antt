@@ -66,7 +66,8 @@ module _ (tris : List Tri) (tree : IsTree tris) (from to : ℕ) (from_below : fr
       let x_new : IsNew x (k ∷ back) = ((λ same. p.2.0 (sym same)), apart.0) in
       let touch : Touch tris x k = share_back (tri_at tris k) (tri_at tris x) p.1 in
       let over = walk_over xs x (k ∷ back) p.0 p.3 (k_below, touch, x_new, q) (apart_more xs back k apart.1 k_new) in
-      subst (IsWalkBetween tris from to) (sym (ap (λ ys. ys ++ k ∷ back) (reverse_onto xs x []) ∙ append_assoc (reverse xs) (x ∷ []) (k ∷ back))) over
+      subst (IsWalkBetween tris from to)
+      (sym (ap (λ ys. ys ++ k ∷ back) (reverse_onto xs x []) ∙ append_assoc (reverse xs) (x ∷ []) (k ∷ back))) over
 
 -- ---- steps toward the first place
 
@@ -75,8 +76,10 @@ module _ (tris : List Tri) (home : ℕ) (order : List Outward) (o : IsOutward tr
   new_to_behind : (p q : ℕ) (ks : List ℕ) → q ≤ p → p < length order → q < length order → AreBehind order p ks → IsNew (at_place order q) ks
   new_to_behind p q [] before p_below q_below behind = tt
   new_to_behind p q (k ∷ ks) before p_below q_below behind =
-      let b = behind.0 in
-      ((λ same. let one : q ≡ b.0 = o.once q b.0 q_below b.2 (same ∙ sym b.3) in omega (arith, b.1)), new_to_behind p q ks before p_below q_below behind.1)
+      let b = behind.0 in (
+        (λ same. let one : q ≡ b.0 = o.once q b.0 q_below b.2 (same ∙ sym b.3) in omega (arith, b.1)),
+        new_to_behind p q ks before p_below q_below behind.1,
+      )
 
   -- a way begins at any place,
   pub way_starts : (p end : ℕ) → p < length order → at_place order p ≡ end → IsWay tris order p [] end
@@ -106,7 +109,8 @@ module _ (tris : List Tri) (home : ℕ) (order : List Outward) (o : IsOutward tr
 
   module _ (from to : ℕ) where
     -- two ways begin apart,
-    pub ways_start : (p q : ℕ) → p < length order → q < length order → at_place order p ≡ from → at_place order q ≡ to → AreWays tris order from to p [] q []
+    pub ways_start : (p q : ℕ) → p < length order → q < length order → at_place order p ≡ from → at_place order q ≡ to
+        → AreWays tris order from to p [] q []
     ways_start p q p_below q_below is_from is_to = record {
       first = way_starts p from p_below is_from;
       second = way_starts q to q_below is_to;
@@ -163,4 +167,5 @@ module _ (tris : List Tri) (home : ℕ) (order : List Outward) (o : IsOutward tr
     ways_meet tree from_below to_below p q front back met ways =
         let second : IsPath (IsPlace tris) (Touch tris) (at_place order p) back to = rw met ways.second.path in
         subst (λ xs. IsWalkBetween tris from to (xs ++ at_place order p ∷ back)) (reverse-reverse front)
-        (walk_over tris tree from to from_below to_below (reverse front) (at_place order p) back (o.in_list p ways.first.below) ways.first.path second ways.apart)
+        (walk_over tris tree from to from_below to_below (reverse front) (at_place order p) back
+        (o.in_list p ways.first.below) ways.first.path second ways.apart)

@@ -1,4 +1,5 @@
-ghost use Rattle.std.specs.Prelude.{◌≡◌, ◌+◌, ◌<◌, ◌^◌, ◌-ℤ◌, ◌↔◌, IsNone, IsSome, IsTrue, IfSome, unsigned_abs};
+ghost use Rattle.std.specs.Int.{int_max, int_min};
+ghost use Rattle.std.specs.Prelude.{◌≡◌, ◌+◌, ◌<◌, ◌^◌, ◌-ℤ◌, ◌≤ℤ◌, ◌↔◌, IsNone, IsSome, IsTrue, IfSome, unsigned_abs};
 ghost use Rattle.plane.specs.Box.{BoxesMeet, IntervalsMeet};
 ghost use Rattle.plane.specs.Order.{IsBefore};
 ghost use Rattle.plane.specs.Point.{IsInBounds, IsInLimit};
@@ -101,11 +102,26 @@ fn is_outside(z: i64, a: i64, b: i64, c: i64) -> bool
     z < a && z < b && z < c || a < z && b < z && c < z
 }
 
-// Whether the interval between two numbers shares a number with that between two others.
+// Whether the interval between two numbers shares a number with that between two others. The ends of the second are not
+// put in order, which is more work than these comparisons.
 fn intervals_meet(a: i64, b: i64, c: i64, d: i64) -> bool
     ensures { IsTrue result ↔ IntervalsMeet a b c d }
 {
-    a.min(b) <= c.max(d) && c.min(d) <= a.max(b)
+    is_at_most_either(a.min(b), c, d) && is_at_least_either(a.max(b), c, d)
+}
+
+// Whether a number is at most the greater of two others.
+fn is_at_most_either(z: i64, c: i64, d: i64) -> bool
+    ensures { IsTrue result ↔ (z ≤ℤ int_max c d) }
+{
+    z <= c || z <= d
+}
+
+// Whether it is at least the lesser of two others.
+fn is_at_least_either(z: i64, c: i64, d: i64) -> bool
+    ensures { IsTrue result ↔ (int_min c d ≤ℤ z) }
+{
+    c <= z || d <= z
 }
 
 fn is_in_limit(z: i64) -> bool

@@ -2,12 +2,12 @@
 use Rattle.std.proofs.Common.{◌≡◌, ◌≢◌, inl, inr, sym, subst, ℕ, ◌+◌, ◌-◌, ◌<◌, ◌≤◌, min, List, [], ◌∷◌, ◌++◌, length, take, drop, get_or, arith}
 use Rattle.std.proofs.lemmas.List.{drop-append-le}
 use Rattle.plane.specs.Point.{Point, whole}
-use Rattle.meshes.specs.Fits.{Fits, IsSideOfTwo}
+use Rattle.meshes.specs.Fits.{Fits}
 use Rattle.meshes.specs.Side.{HasSide, tri_at}
 use Rattle.meshes.specs.Sleeve.{IsOneOf, Sleeve, diagonal_at}
 use Rattle.meshes.specs.declared.tri.Tri.{Tri}
 use Rattle.funnels.proofs.Chains.{step_left, step_right}
-use Rattle.funnels.proofs.Vertices.{fitted_counterclockwise}
+use Rattle.funnels.proofs.Vertices.{IsSharedSide}
 use Rattle.funnels.specs.Funnel.{IsReachedFrom}
 use Rattle.exact_plane.specs.Spot.{point_named}
 use Rattle.exact_plane.specs.declared.turns.Spot.{Spot}
@@ -34,7 +34,7 @@ module _ (corners : List Point) (tris : List Tri) (fits : Fits corners tris) (sl
   k_below = of_mesh.walk.in_list i (omega (arith, of_mesh.count))
 
   -- the diagonal behind is shared,
-  behind : (e : ℕ) × IsSideOfTwo tris (diagonal_at sleeve (i - 1)).right (diagonal_at sleeve (i - 1)).left (get_or sleeve.walk (i - 1) 0) e
+  behind : IsSharedSide tris (diagonal_at sleeve (i - 1)).left (diagonal_at sleeve (i - 1)).right
   behind = shared corners tris fits sleeve of_mesh (i - 1) (omega arith)
 
   -- and what is given with more
@@ -60,10 +60,8 @@ module _ (corners : List Point) (tris : List Tri) (fits : Fits corners tris) (sl
         | inl left_stays ↦ (left_stays.1, left_stays.2)
         | inr right_stays ↦ absurd (right_stays.0 same)
       ] in
-      let funnel = step_right corners tris fits (fitted_counterclockwise corners tris fits) (get_or sleeve.walk i 0) l r m k_below next.0
-      sides.0 sides.1 (get_or sleeve.walk (i - 1) 0) behind.0 (inr behind.1) before ns a w.funnel h
-      (subst (λ p. IsReachedFrom ns a h (whole p)) (sym m_is) reached) (get_or sleeve.walk i 0) two.0
-      (inr (subst (λ e. IsSideOfTwo tris m e (get_or sleeve.walk i 0) two.0) same two.1)) in
+      let funnel = step_right corners tris fits (get_or sleeve.walk i 0) l r m k_below next.0 sides.0 sides.1 behind before ns a w.funnel h
+      (subst (λ p. IsReachedFrom ns a h (whole p)) (sym m_is) reached) (subst (λ e. IsSharedSide tris e m) same two) in
       let more = left_names names a (a - h) in
       let walked : IsWalked corners start goal (drop given out ++ more) (take (h + 1) names ++ Corner m ∷ []) (min a h) l m =
       walked_right corners start goal (drop given out) names a l r w m h m_below m_is (omega arith) funnel in
@@ -88,10 +86,9 @@ module _ (corners : List Point) (tris : List Tri) (fits : Fits corners tris) (sl
         | inl left_stays ↦ absurd (other left_stays.0)
         | inr right_stays ↦
             let same = right_stays.1 in
-            let funnel = step_left corners tris fits (fitted_counterclockwise corners tris fits) (get_or sleeve.walk i 0) l r m
-            k_below next.0 right_stays.2 right_stays.3 (get_or sleeve.walk (i - 1) 0) behind.0 (inr behind.1) before ns a w.funnel h
-            (subst (λ p. IsReachedFrom ns a h (whole p)) (sym m_is) reached) (get_or sleeve.walk i 0) two.0
-            (inr (subst (λ e. IsSideOfTwo tris e m (get_or sleeve.walk i 0) two.0) same two.1)) in
+            let funnel = step_left corners tris fits (get_or sleeve.walk i 0) l r m k_below next.0 right_stays.2 right_stays.3 behind
+            before ns a w.funnel h (subst (λ p. IsReachedFrom ns a h (whole p)) (sym m_is) reached)
+            (subst (λ e. IsSharedSide tris m e) same two) in
             let more = right_names names a (h - a) in
             let walked : IsWalked corners start goal (drop given out ++ more) (Corner m ∷ drop h names) (a - h + 1) m r =
             walked_left corners start goal (drop given out) names a l r w m h m_below m_is within funnel in

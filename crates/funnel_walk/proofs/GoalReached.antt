@@ -5,12 +5,13 @@ use Rattle.plane.specs.Point.{Point, whole}
 use Rattle.rings.specs.Chain.{IsBentChain, IsTaut, point_at}
 use Rattle.rings.specs.Ring.{vertex}
 use Rattle.rings.specs.Sees.{Sees}
+use Rattle.meshes.proofs.TreeLeaves.{next_corner}
 use Rattle.meshes.specs.Fits.{Fits, IsInTri}
 use Rattle.meshes.specs.Side.{tri_at}
 use Rattle.meshes.specs.Sleeve.{IsOneOf, Sleeve, diagonal_at}
 use Rattle.meshes.specs.declared.tri.Tri.{Tri}
-use Rattle.funnels.proofs.Chains.{reached_bends, in_ring, chain_on, chain_to, sees_reached}
-use Rattle.funnels.proofs.Vertices.{shared_back, fitted_counterclockwise, fitted_long, fitted_simple}
+use Rattle.funnels.proofs.Chains.{chain_on, chain_to, reached_bends, sees_reached}
+use Rattle.funnels.proofs.Vertices.{triangle_in_ring}
 use Rattle.funnels.specs.Funnel.{IsReachedFrom}
 use Rattle.exact_plane.specs.Spot.{point_named}
 use Rattle.exact_plane.specs.declared.turns.Spot.{Spot}
@@ -18,7 +19,7 @@ use Rattle.exact_plane.specs.declared.turns.Spot.TheVariants.{Goal, Start}
 use Rattle.funnel_walk.proofs.Closed.{named_at_goal, named_to_goal, names_on_way, points_on_way, starts_at_goal, starts_to_goal, taut_at_goal}
 use Rattle.funnel_walk.proofs.Closed.{taut_to_goal}
 use Rattle.funnel_walk.proofs.NamedLists.{length_named, point_of_name}
-use Rattle.funnel_walk.proofs.NextDiagonals.{enters, shared, third_of}
+use Rattle.funnel_walk.proofs.NextDiagonals.{enters, shared}
 use Rattle.funnel_walk.specs.Names.{AreNamed, name_at, named_points}
 use Rattle.funnel_walk.specs.Walked.{AppendsTaut, IsWalked}
 
@@ -52,7 +53,8 @@ module _ (corners : List Point) (tris : List Tri) (fits : Fits corners tris) (sl
       let k = get_or sleeve.walk (i + 1) 0 in
       let l = (diagonal_at sleeve i).left in
       let r = (diagonal_at sleeve i).right in
-      sees_reached corners corners (tri_at tris k) (in_ring corners tris fits k k_below) (fits.triangles k k_below).counterclockwise
+      sees_reached corners corners (tri_at tris k) (triangle_in_ring corners tris fits k k_below)
+      (fits.triangles k k_below).counterclockwise
       l r (enters corners tris fits sleeve of_mesh i below) (vertex corners l) (vertex corners r) refl refl ns a w.funnel.funnel
       w.funnel.sight h (whole goal) (whole_is_point goal) in_goal reached
 
@@ -63,15 +65,12 @@ module _ (corners : List Point) (tris : List Tri) (fits : Fits corners tris) (sl
       let l = (diagonal_at sleeve i).left in
       let r = (diagonal_at sleeve i).right in
       let side = enters corners tris fits sleeve of_mesh i below in
-      let third = third_of (tri_at tris k) l r side in
-      let two = shared corners tris fits sleeve of_mesh i below in
+      let third = next_corner (tri_at tris k) l r side in
       let differs : ¬ (point_at ns h ≡ goal) = λ same. other (sym (point_of_name at names h within) ∙ same) in
       chain_on corners ns a (vertex corners l) (vertex corners r) w.funnel.funnel w.funnel.sight before w.funnel.bent h reached.within goal
       seen differs
-      (reached_bends corners tris fits k l r third.0 k_below side third.1.0 third.1.1 two.0 (get_or sleeve.walk i 0)
-      (shared_back tris r l (get_or sleeve.walk i 0) two.0 two.1) before ns a w.funnel.funnel w.funnel.bent w.funnel.ends
-      h goal in_goal reached
-      (fitted_simple corners tris fits) (fitted_long corners tris fits) (fitted_counterclockwise corners tris fits) seen differs)
+      (reached_bends corners tris fits k l r third.0 k_below side third.1 third.2 (shared corners tris fits sleeve of_mesh i below)
+      before ns a w.funnel.funnel w.funnel.bent w.funnel.ends h goal in_goal reached seen differs)
 
   -- names that begin with the start and are a taut chain,
   appends : (ms others : List Spot) → ms ≡ Start ∷ others → (out out' : List Spot) → out' ≡ out ++ ms

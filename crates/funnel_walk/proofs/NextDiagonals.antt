@@ -1,92 +1,41 @@
 -- Two diagonals of a sleeve that follow each other, in the triangle between them; and each diagonal is shared by two triangles.
-use Rattle.std.proofs.Common.{◌≡◌, ◌≢◌, ◌⊎◌, refl, sym, ◌∙◌, subst, ℕ, ◌+◌, ◌-◌, ◌<◌, inl, inr, List, length, get_or, arith}
-use Rattle.std.specs.List.{range_with_len}
-use Rattle.plane.specs.Point.{Point}
-use Rattle.meshes.proofs.Sides.{fitting_sides, edge_or_not}
-use Rattle.meshes.specs.Fits.{Fits, IsSideOfTwo}
+use Rattle.std.proofs.Common.{◌≡◌, ◌≢◌, ◌⊎◌, sym, ◌∙◌, subst, ℕ, ◌+◌, ◌-◌, ◌<◌, inl, inr, List, length, get_or, arith}
+use Rattle.plane.specs.Point.{Point, whole}
+use Rattle.plane.specs.Turn.{IsLeft}
+use Rattle.rings.specs.Ring.{vertex}
+use Rattle.meshes.proofs.Sides.{fitting_sides}
+use Rattle.meshes.proofs.TreeLeaves.{next_corner, side_is_one}
+use Rattle.meshes.specs.Fits.{Fits}
 use Rattle.meshes.specs.Side.{HasSidesOnce, HasSide, tri_at}
 use Rattle.meshes.specs.Sleeve.{IsOneOf, Sleeve, diagonal_at}
 use Rattle.meshes.specs.declared.tri.Tri.{Tri}
+use Rattle.funnels.proofs.DeadEnds.{crossed_shared}
+use Rattle.funnels.proofs.Vertices.{IsSharedSide}
 
 -- a triangle that is entered over the side from l to r is left over the side from p to q: its left end stays or its right end does
 abbrev pub IsNextSide : Tri → ℕ → ℕ → ℕ → ℕ → Type 0
 IsNextSide t l r q p = ((q ≡ l) × HasSide t r p × HasSide t p l) ⊎ ((q ≢ l) × (p ≡ r) × HasSide t r q × HasSide t q l)
 
-module _ (t : Tri) (l r : ℕ) where
-  -- the two sides after one, over the corner m
-  abbrev pub IsThird : ℕ → Type 0
-  IsThird m = HasSide t r m × HasSide t m l
-      × ((p q : ℕ) → HasSide t p q → ((p ≡ l) × (q ≡ r)) ⊎ ((p ≡ r) × (q ≡ m)) ⊎ ((p ≡ m) × (q ≡ l)))
-
-  -- each side has a third corner
-  pub third_of : HasSide t l r → (m : ℕ) × IsThird m
-  third_of has = elim has [
-    | inl ab ↦ (
-      t.c,
-      (
-        inr (inl (ab.1, refl)),
-        inr (inr (refl, ab.0)),
-        λ p q other. elim other [
-          | inl e ↦ inl (sym e.0 ∙ ab.0, sym e.1 ∙ ab.1)
-          | inr rest ↦ elim rest [
-            | inl e ↦ inr (inl (sym e.0 ∙ ab.1, sym e.1))
-            | inr e ↦ inr (inr (sym e.0, sym e.1 ∙ ab.0))
-          ]
-        ],
-      ),
-    )
-    | inr more ↦ elim more [
-      | inl bc ↦ (
-        t.a,
-        (
-          inr (inr (bc.1, refl)),
-          inl (refl, bc.0),
-          λ p q other. elim other [
-            | inl e ↦ inr (inr (sym e.0, sym e.1 ∙ bc.0))
-            | inr rest ↦ elim rest [
-              | inl e ↦ inl (sym e.0 ∙ bc.0, sym e.1 ∙ bc.1)
-              | inr e ↦ inr (inl (sym e.0 ∙ bc.1, sym e.1))
-            ]
-          ],
-        ),
-      )
-      | inr ca ↦ (
-        t.b,
-        (
-          inl (ca.1, refl),
-          inr (inl (refl, ca.0)),
-          λ p q other. elim other [
-            | inl e ↦ inr (inl (sym e.0 ∙ ca.1, sym e.1))
-            | inr rest ↦ elim rest [
-              | inl e ↦ inr (inr (sym e.0, sym e.1 ∙ ca.0))
-              | inr e ↦ inl (sym e.0 ∙ ca.0, sym e.1 ∙ ca.1)
-            ]
-          ],
-        ),
-      )
+-- another side of a triangle than the one that was entered by is a next one
+next_side : (corners : List Point) (t : Tri) → IsLeft (whole (vertex corners t.a)) (whole (vertex corners t.b)) (whole (vertex corners t.c))
+    → (l r : ℕ) → ((i j : ℕ) → HasSide t i j → ¬ HasSide t j i) → HasSide t l r → (p q : ℕ) → HasSide t p q → ¬ ((p ≡ l) × (q ≡ r))
+    → IsNextSide t l r q p
+next_side corners t left l r one_way has p q other not_same =
+    let (m, second, third) = next_corner t l r has in
+    elim (side_is_one corners t left l r m has second p q other) [
+      | inl same ↦ absurd (not_same same)
+      | inr (inl on_right) ↦
+          let same_q : m ≡ q = sym on_right.1 in
+          inr (
+            λ q_is_l. one_way l r has (subst (λ n. HasSide t r n) (same_q ∙ q_is_l) second),
+            on_right.0,
+            subst (λ n. HasSide t r n) same_q second,
+            subst (λ n. HasSide t n l) same_q third,
+          )
+      | inr (inr on_left) ↦
+          let same_p : m ≡ p = sym on_left.0 in
+          inl (on_left.1, subst (λ n. HasSide t r n) same_p second, subst (λ n. HasSide t n l) same_p third)
     ]
-  ]
-
-  -- another side than the one that was entered by is a next one
-  next_side : ((i j : ℕ) → HasSide t i j → ¬ HasSide t j i) → HasSide t l r → (p q : ℕ) → HasSide t p q → ¬ ((p ≡ l) × (q ≡ r))
-      → IsNextSide t l r q p
-  next_side one_way has p q other not_same =
-      let third = third_of has in
-      let m = third.0 in
-      elim (third.1.2 p q other) [
-        | inl same ↦ absurd (not_same same)
-        | inr rest ↦ elim rest [
-          | inl on_right ↦ let same_q : m ≡ q = sym on_right.1 in
-              inr (
-                λ q_is_l. one_way l r has (subst (λ n. HasSide t r n) (same_q ∙ q_is_l) third.1.0),
-                on_right.0,
-                subst (λ n. HasSide t r n) same_q third.1.0,
-                subst (λ n. HasSide t n l) same_q third.1.1,
-              )
-          | inr on_left ↦ let same_p : m ≡ p = sym on_left.0 in
-              inl (on_left.1, subst (λ n. HasSide t r n) same_p third.1.0, subst (λ n. HasSide t n l) same_p third.1.1)
-        ]
-      ]
 
 module _ (corners : List Point) (tris : List Tri) (fits : Fits corners tris) (sleeve : Sleeve) (of_mesh : IsOneOf tris sleeve) where
   -- the triangle before diagonal i
@@ -115,16 +64,10 @@ module _ (corners : List Point) (tris : List Tri) (fits : Fits corners tris) (sl
     leaves = (of_mesh.diagonals i below).of_first
 
     -- and these two triangles share it
-    pub shared : (k : ℕ) × IsSideOfTwo tris (diagonal_at sleeve i).right (diagonal_at sleeve i).left (get_or sleeve.walk i 0) k
+    pub shared : IsSharedSide tris (diagonal_at sleeve i).left (diagonal_at sleeve i).right
     shared =
-        let l = (diagonal_at sleeve i).left in
-        let r = (diagonal_at sleeve i).right in
-        elim (edge_or_not (range_with_len 0 (length corners)) r l) [
-          | inl edge ↦ let one = fits.edges r l edge in
-              absurd (once i (i + 1) (omega arith) (omega arith)
-              (one.1.only _ (in_list i (omega arith)) (inl leaves) ∙ sym (one.1.only _ (in_list (i + 1) (omega arith)) (inr enters))))
-          | inr inner ↦ fits.inner_sides r l (get_or sleeve.walk i 0) (in_list i (omega arith)) leaves inner
-        ]
+        crossed_shared corners tris fits sleeve.walk of_mesh.walk i (diagonal_at sleeve i).left (diagonal_at sleeve i).right
+        (record { has_next = omega (arith, of_mesh.count); of_this = inr leaves; of_next = inl enters })
 
   -- the triangle between two diagonals keeps the left end or the right one
   pub next_diagonal : (i : ℕ) → 0 < i → i < length sleeve.diagonals
@@ -141,7 +84,8 @@ module _ (corners : List Point) (tris : List Tri) (fits : Fits corners tris) (sl
       let first : HasSide (triangle_before (i - 1)) r l = leaves (i - 1) (omega arith) in
       let last : HasSide (triangle_before (i + 1)) q p = enters i below in (
         has,
-        next_side (triangle_before i) l r (λ a b. sides.one_way a b _ (in_list i (omega arith))) has p q (leaves i below)
+        next_side corners (triangle_before i) (fits.triangles _ (in_list i (omega arith))).counterclockwise l r
+            (λ a b. sides.one_way a b _ (in_list i (omega arith))) has p q (leaves i below)
             (λ same. once (i - 1) (i + 1) (omega arith) (omega arith)
             (sides.once r l _ _ (in_list (i - 1) (omega arith)) (in_list (i + 1) (omega arith)) first
             (subst (λ n. HasSide (triangle_before (i + 1)) n l) same.1 (subst (λ n. HasSide (triangle_before (i + 1)) q n) same.0 last)))),

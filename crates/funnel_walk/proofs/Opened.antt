@@ -1,19 +1,21 @@
 -- The names of the first funnel: of the start between the ends of the first diagonal, or at one of them.
-use Rattle.std.proofs.Common.{◌≡◌, ◌≢◌, inr, refl, sym, subst, ◌∙◌, ℕ, ◌<◌, List, [], ◌∷◌, length, get_or}
+use Rattle.std.proofs.Common.{◌≡◌, ◌≢◌, refl, sym, subst, ◌∙◌, ℕ, ◌<◌, List, [], ◌∷◌, length, get_or}
 use Rattle.std.proofs.lemmas.List.Elements.{All-nil}
 use Rattle.plane.specs.Point.{Point, whole}
 use Rattle.rings.specs.Ring.{vertex}
-use Rattle.meshes.specs.Fits.{Fits, IsInTri, IsSideOfTwo}
+use Rattle.meshes.proofs.TreeLeaves.{next_corner}
+use Rattle.meshes.specs.Fits.{Fits, IsInTri}
 use Rattle.meshes.specs.Side.{HasSide, tri_at}
 use Rattle.meshes.specs.Sleeve.{IsOneOf, Sleeve, diagonal_at}
 use Rattle.meshes.specs.declared.tri.Tri.{Tri}
 use Rattle.funnels.proofs.Chains.{start_at_left, start_at_right, start_between}
+use Rattle.funnels.proofs.Vertices.{IsSharedSide}
 use Rattle.funnels.specs.OpenFunnel.{IsOpenFunnel}
 use Rattle.exact_plane.specs.Spot.{IsNamed, point_named}
 use Rattle.exact_plane.specs.declared.turns.Spot.{Spot}
 use Rattle.exact_plane.specs.declared.turns.Spot.TheVariants.{Corner, Start}
 use Rattle.funnel_walk.proofs.FirstNames.{more_named, one_named}
-use Rattle.funnel_walk.proofs.NextDiagonals.{IsThird, leaves, shared, third_of}
+use Rattle.funnel_walk.proofs.NextDiagonals.{leaves, shared}
 use Rattle.funnel_walk.proofs.SideCorners.{diagonal_below, vertex_named}
 use Rattle.funnel_walk.specs.Names.{AreNamed, name_at, named_points}
 use Rattle.funnel_walk.specs.Walked.{IsWalked}
@@ -66,11 +68,11 @@ module _ (corners : List Point) (tris : List Tri) (fits : Fits corners tris) (sl
   side = leaves corners tris fits sleeve of_mesh 0 some
 
   -- with a third corner,
-  third : (m : ℕ) × IsThird (tri_at tris k) j i m
-  third = third_of (tri_at tris k) j i side
+  third : (m : ℕ) × HasSide (tri_at tris k) i m × HasSide (tri_at tris k) m j
+  third = next_corner (tri_at tris k) j i side
 
   -- and another triangle has it too
-  two : (l : ℕ) × IsSideOfTwo tris j i k l
+  two : IsSharedSide tris i j
   two = shared corners tris fits sleeve of_mesh 0 some
 
   -- names of an open funnel with the start at the apex are as far as the walk has come
@@ -85,7 +87,8 @@ module _ (corners : List Point) (tris : List Tri) (fits : Fits corners tris) (sl
   pub opens_between : at Start ≢ at left → at Start ≢ at right
       → IsWalked corners start goal [] (left ∷ Start ∷ right ∷ []) 1 i j
   opens_between not_left not_right =
-      let funnel = start_between corners tris fits k i j third.0 k_below side third.1.0 third.1.1 k two.0 (inr two.1) start in_start (λ same. not_left (same ∙ left_is)) (λ same. not_right (same ∙ right_is)) in
+      let funnel = start_between corners tris fits k i j third.0 k_below side third.1 third.2 two start in_start
+      (λ same. not_left (same ∙ left_is)) (λ same. not_right (same ∙ right_is)) in
       walked_of (left ∷ Start ∷ right ∷ []) 1
       (subst (λ l. IsOpenFunnel corners [] (l ∷ start ∷ at right ∷ []) 1 i j) left_is
       (subst (λ r. IsOpenFunnel corners [] (vertex corners i ∷ start ∷ r ∷ []) 1 i j) right_is funnel))
@@ -96,7 +99,7 @@ module _ (corners : List Point) (tris : List Tri) (fits : Fits corners tris) (sl
   pub opens_at_left : at Start ≡ at left
       → IsWalked corners start goal [] (Start ∷ right ∷ []) 0 i j
   opens_at_left same =
-      let funnel = start_at_left corners tris fits k i j third.0 k_below side third.1.0 third.1.1 k two.0 (inr two.1) start in_start (same ∙ sym left_is) in
+      let funnel = start_at_left corners tris fits k i j third.0 k_below side third.1 third.2 two start in_start (same ∙ sym left_is) in
       walked_of (Start ∷ right ∷ []) 0
       (subst (λ r. IsOpenFunnel corners [] (start ∷ r ∷ []) 0 i j) right_is funnel)
       (more_named corners Start (right ∷ []) tt (one_named corners right right_named)) refl
@@ -105,7 +108,7 @@ module _ (corners : List Point) (tris : List Tri) (fits : Fits corners tris) (sl
   pub opens_at_right : at Start ≡ at right
       → IsWalked corners start goal [] (left ∷ Start ∷ []) 1 i j
   opens_at_right same =
-      let funnel = start_at_right corners tris fits k i j third.0 k_below side third.1.0 third.1.1 k two.0 (inr two.1) start in_start (same ∙ sym right_is) in
+      let funnel = start_at_right corners tris fits k i j third.0 k_below side third.1 third.2 two start in_start (same ∙ sym right_is) in
       walked_of (left ∷ Start ∷ []) 1
       (subst (λ l. IsOpenFunnel corners [] (l ∷ start ∷ []) 1 i j) left_is funnel)
       (more_named corners left (Start ∷ []) left_named (one_named corners Start tt)) refl

@@ -7,14 +7,15 @@ use Rattle.meshes.specs.Fits.{Fits, IsInTri}
 use Rattle.meshes.specs.Side.{tri_at}
 use Rattle.meshes.specs.declared.tri.Tri.{Tri}
 use Rattle.funnels.proofs.Bends.{sees_in_triangle, chain_more}
-use Rattle.funnels.proofs.Chains.{bent_from_apex, in_ring}
+use Rattle.funnels.proofs.Chains.{bent_from_apex}
+use Rattle.funnels.proofs.Vertices.{triangle_in_ring}
 
 module _ (corners : List Point) (tris : List Tri) (fits : Fits corners tris) (k : ℕ) (within : k < length tris)
     (start goal : Point) (in_start : IsInTri corners (tri_at tris k) (whole start)) where
   -- a start in a triangle is a chain
   start_alone : IsBentChain corners (start ∷ [])
   start_alone = (bent_from_apex corners (start ∷ []) 0 (omega arith) (omega arith)
-      (in_ring corners tris fits k within (whole start) (whole_is_point start) in_start)).chain
+      (triangle_in_ring corners tris fits k within (whole start) (whole_is_point start) in_start)).chain
 
   -- that is taut where it is the goal,
   pub stays : start ≡ goal → IsTaut corners start goal (start ∷ [])
@@ -26,7 +27,8 @@ module _ (corners : List Point) (tris : List Tri) (fits : Fits corners tris) (k 
     bent = chain_more (start ∷ []) start goal refl corners start_alone
         (sees_in_triangle corners tris fits k within (whole start) (whole goal) (whole_is_point start) (whole_is_point goal)
         in_start in_goal)
-        differ (in_ring corners tris fits k within (whole goal) (whole_is_point goal) in_goal) (λ two. absurd (omega (arith, two)));
+        differ (triangle_in_ring corners tris fits k within (whole goal) (whole_is_point goal) in_goal)
+        (λ two. absurd (omega (arith, two)));
     first = refl;
     last = refl;
     single = λ same. absurd (differ same);

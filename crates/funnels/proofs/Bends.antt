@@ -4,20 +4,17 @@
 mod GrownTurnings
 -- Signs that follow from the relation of four directions, over plain integers: ab is positive where b is left of a.
 mod FanSigns
-pub use Rattle.funnels.proofs.Bends.FanSigns.{Relation, positive_of_not_zero}
+pub use Rattle.funnels.proofs.Bends.FanSigns.{Relation, negative_unless, right_of_third}
 -- A fan at a vertex of a ring: one begins within a step, and one more step makes it longer.
 mod FannedSteps
 -- A triangle of a mesh at one of its corners: its points are in the angle there, and the corner sees them.
 mod CornerSights
-pub use Rattle.funnels.proofs.Bends.CornerSights.{first_end_in, in_angle, last_end_in, open_toward, sees_in_triangle, sees_within}
--- Signs of opposites, over plain integers.
-mod Opposites
-pub use Rattle.funnels.proofs.Bends.Opposites.{opposite_of_not_positive, zero_of_opposite}
+pub use Rattle.funnels.proofs.Bends.CornerSights.{first_end_in, in_angle, last_end_in, sees_in_triangle, sees_within}
 -- At a vertex of a simple ring that is not reflex, directions toward which the ring is open turn by a half turn at most.
 mod NarrowFans
 -- The two neighbours of a vertex in a simple ring are on two rays from it.
 mod TwoRays
-pub use Rattle.funnels.proofs.Bends.TwoRays.{HasTwoRays, corner_has_two_rays}
+pub use Rattle.funnels.proofs.Bends.TwoRays.{two_rays}
 -- A fan at a vertex of a simple ring that turns by more than a half turn makes a bend there.
 mod FanBends
 pub use Rattle.funnels.proofs.Bends.FanBends.{bend_of_fan, not_reflex}
@@ -27,30 +24,33 @@ pub use Rattle.funnels.proofs.Bends.SameRays.{AreOnRay, on_ray_back, turning_fro
 -- A bend over a vertex stays one where it turns farther.
 mod WiderBends
 pub use Rattle.funnels.proofs.Bends.WiderBends.{wider_bend}
--- A triangle of a mesh at one of its corners makes a step of a fan there, from one side to the other, either way round.
-mod TriangleSteps
+-- A triangle of a mesh at one of its corners, seen from either side: its mirror image, how its sides turn, and which ways no ring neighbour goes.
+mod CornerTurns
+pub use Rattle.funnels.proofs.Bends.CornerTurns.{corner_back, corner_in_ring, corner_turns, in_piece, neighbour_differs, not_inside}
+pub use Rattle.funnels.proofs.Bends.CornerTurns.{not_swept}
+pub use Rattle.funnels.proofs.Bends.CornerTurns.{on_after, on_before, within_back}
 -- Bends by the turning on one side of their vertex: the neighbours in the ring are not ahead of the one ray, nor behind the other.
 mod BendTurnings
 pub use Rattle.funnels.proofs.Bends.BendTurnings.{turnings_of_bend}
 -- Turnings at a vertex, to the left or on the other side to the right, are such functions as fans are made of.
 mod Turnings
-pub use Rattle.funnels.proofs.Bends.Turnings.{turning_four, turning_swap}
+pub use Rattle.funnels.proofs.Bends.Turnings.{not_ahead_of_itself, turning_along, turning_four, turning_not, turning_swap}
 -- Directions in line with each other, seen from a vertex on either side: of two different lines only the vertex is on both, and what is to one side of a line is on one ray.
 mod InLine
-pub use Rattle.funnels.proofs.Bends.InLine.{level_is_vertex, ray_ahead, ray_behind, turning_differs}
+pub use Rattle.funnels.proofs.Bends.InLine.{level_is_vertex, ray_ahead, ray_behind, turning_differs, turning_differs_first}
+pub use Rattle.funnels.proofs.Bends.InLine.{turning_straight}
 -- The cone that a fan leaves: where it turns by more than a half turn, all neighbours are in the closed angle from its end to its start.
 mod FanCones
 -- Fans: longer ones, what their steps keep, and that they turn.
 mod Fans
 -- Directions of one closed half-plane turn by a half turn at most.
 mod HalfPlaneTurns
--- Fans of the triangles of a mesh at one of their corners: one begins in a triangle, goes on over one, and has a last step in one, counterclockwise or clockwise.
+-- Fans of the triangles of a mesh at one of their corners, on either side: one begins in a triangle, goes on over one, and has a last step in one.
 mod TriangleFans
-pub use Rattle.funnels.proofs.Bends.TriangleFans.{fan_begins, fan_begins_clockwise, fan_goes_on, fan_goes_on_clockwise, last_step}
-pub use Rattle.funnels.proofs.Bends.TriangleFans.{last_step_clockwise}
--- A bend at a corner of a mesh, with a shared side on its last ray, grows over the triangle beyond the side.
+pub use Rattle.funnels.proofs.Bends.TriangleFans.{fan_begins, fan_begins_in, fan_goes_on, last_step}
+-- A bend at a corner of a mesh, with a shared side on its last ray, grows over the triangle beyond the side, and turns the same way.
 mod GrownBends
-pub use Rattle.funnels.proofs.Bends.GrownBends.{grown_bend, grown_bend_clockwise, grown_turning, grown_turning_clockwise}
+pub use Rattle.funnels.proofs.Bends.GrownBends.{grown_bend, grown_turning}
 -- Parts of the steps of a fan: from a direction within a step to its end, and from its start to a direction within it.
 mod PartialSteps
 -- A chain with bends goes on to one more point that its last point sees.

@@ -11,7 +11,7 @@ mod FirstSights
 pub use Rattle.funnels.proofs.Chains.FirstSights.{bent_from_apex}
 -- How the chains bend on the way to the points of the next funnel on the left: the points from the place that the corner is reached from.
 mod BentLeft
--- A bend from one end of a shared side to the other goes on to each point of the triangle beyond, and turns the same way.
+-- At an end of a shared side: a bend to the other end goes on to each point of the triangle beyond, and turns the same way; and a fan round to the side makes a bend to a point past it.
 mod DiagonalEnds
 -- How the chains bend on the way to the points of the next funnel on the right: the points to the place that the corner is reached from.
 mod BentRight
@@ -19,10 +19,6 @@ mod BentRight
 mod ApexSides
 -- The way from a source over the apex of a funnel to one of its points: which point comes before that one.
 mod WaysBefore
--- To which side the chain turns at the apex of the next funnel on the right.
-mod SideRight
--- At an end of a shared side: a fan from a point round to the side makes a bend to each point of the triangle beyond that is reached.
-mod DiagonalFans
 -- A walk begins in a triangle with a source s: the open funnel of s at a side of the triangle that is shared.
 mod FirstFunnels
 pub use Rattle.funnels.proofs.Chains.FirstFunnels.{start_at_left, start_at_right, start_between}
@@ -39,28 +35,18 @@ mod ApexEdges
 -- The way to a point beyond the diagonal bends at the point of the funnel from which it is reached.
 mod ReachedBends
 pub use Rattle.funnels.proofs.Chains.ReachedBends.{reached_bends}
--- The ends of the next funnel on the side from the left end of the diagonal to the corner beyond it.
-mod EndsRight
+-- The ends of the next funnel, on the side from the corner beyond the diagonal to its right end, or to its left end.
+mod Ends
 -- At the corner of a triangle beyond the diagonal fans begin with the way back to the point of the funnel that it is reached from.
 mod EndFans
 -- A counterclockwise triangle at its side from l to r: its points are on the side, or right of the way from r to l.
 mod BeyondSide
--- The step from an open funnel to the next over the side from the corner beyond the diagonal to its right end.
-mod StepLeft
-pub use Rattle.funnels.proofs.Chains.StepLeft.{step_left}
+-- The step from an open funnel to the next, over one of the two sides from the corner beyond the diagonal: the point of the funnel that the corner is reached from sees it, and the way there bends at that point.
+mod Steps
+pub use Rattle.funnels.proofs.Chains.Steps.{step_left, step_right}
 -- The last of some points, and chains with bends that go on from it.
 mod LastPoints
--- The corner of a triangle beyond the diagonal of an open funnel: the point of the funnel that it is reached from sees it, and the way there bends at that point.
-mod ReachedCorners
-pub use Rattle.funnels.proofs.Chains.ReachedCorners.{in_ring}
 -- The points of the next funnel see what is in their windows on the two other sides of a triangle, and the points beside them.
 mod NextSight
--- To which side the chain turns at the apex of the next funnel on the left.
-mod SideLeft
 -- Sight goes on beyond a point that is seen, within a triangle, and so beyond a diagonal into the triangle behind it.
 mod SightBeyond
--- The ends of the next funnel on the side from the corner beyond the diagonal to its right end.
-mod EndsLeft
--- The step from an open funnel to the next over the side from the left end of the diagonal to the corner beyond it.
-mod StepRight
-pub use Rattle.funnels.proofs.Chains.StepRight.{step_right}

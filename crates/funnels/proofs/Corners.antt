@@ -1,9 +1,8 @@
 -- A corner of a triangle: the neighbours and the ways within its angle.
 
--- Signs of turnings: of opposites, and those that follow from the relation of four directions. Over plain integers: ab is positive where b is left of a.
+-- More signs that follow from the relation of four directions, over plain integers: ab is positive where b is left of a.
 mod TurningSigns
-pub use Rattle.funnels.proofs.Corners.TurningSigns.{left_of_line, left_of_second, negative_unless, not_right_of_first, own_not_positive}
-pub use Rattle.funnels.proofs.Corners.TurningSigns.{right_of_third, turned_back_not_negative, turned_not_negative, turned_zero, zero_of_both}
+pub use Rattle.funnels.proofs.Corners.TurningSigns.{left_of_line, left_of_second, not_right_of_first}
 -- The edges of a piece as edges of its points, and a vertex on a side of a triangle.
 mod PieceEdges
 pub use Rattle.funnels.proofs.Corners.PieceEdges.{in_range}
@@ -12,14 +11,13 @@ mod RingSteps
 pub use Rattle.funnels.proofs.Corners.RingSteps.{IsRingStep}
 -- The turn of a ring at a vertex from which one of its edges is known.
 mod RingTurns
-pub use Rattle.funnels.proofs.Corners.RingTurns.{after_next, before_next, step_turn}
--- A corner of a triangle of a mesh: its mirror image, the corners beside it, how its sides turn, and which ways no ring neighbour goes.
+pub use Rattle.funnels.proofs.Corners.RingTurns.{step_turn}
+-- The corners of a triangle of a mesh beside one of them.
 mod CornerSides
-pub use Rattle.funnels.proofs.Corners.CornerSides.{IsSharedSide, corner_after, corner_back, corner_before, corner_turns, not_swept, shared_side_back}
-pub use Rattle.funnels.proofs.Corners.CornerSides.{turning_not, within_back}
+pub use Rattle.funnels.proofs.Corners.CornerSides.{corner_after, corner_before}
 -- A ring neighbour of a corner of a triangle of a mesh that is within the triangle's angle there is the end of a side, and the ring goes along that side as the triangle does.
 mod CornerNeighbours
-pub use Rattle.funnels.proofs.Corners.CornerNeighbours.{corner_in_ring, neighbour_differs, neighbour_within}
+pub use Rattle.funnels.proofs.Corners.CornerNeighbours.{neighbour_within}
 -- A vertex of the ring in a closed triangle of a mesh is a corner of it.
 mod CornerPoints
 pub use Rattle.funnels.proofs.Corners.CornerPoints.{IsCorner, at_corner, begin_is_corner, corner_of, end_is_corner}
@@ -28,6 +26,6 @@ mod WithinCones
 -- There is no bend between two rays within the angle of a triangle of a mesh: the ring turns there as the triangle does.
 mod NoBendInTriangle
 pub use Rattle.funnels.proofs.Corners.NoBendInTriangle.{no_bend}
--- A point in a triangle of a mesh, or seen from a corner of it across the opposite side, is within the angle of the triangle there.
+-- A point that a corner of a triangle of a mesh sees across the opposite side is within the angle of the triangle there.
 mod SeenWithin
-pub use Rattle.funnels.proofs.Corners.SeenWithin.{side_at_corner, within_of_inside, within_of_seen}
+pub use Rattle.funnels.proofs.Corners.SeenWithin.{side_at_corner, within_of_seen, within_on_ray}

@@ -12,9 +12,9 @@ pub use Rattle.funnels.proofs.DeadEnds.PartWalks.{meets_on_part}
 mod CrossedSides
 pub use Rattle.funnels.proofs.DeadEnds.CrossedSides.{HasSideOn, corner_at_side, crossed_back, crossed_before, crossed_shared, end_of_crossed}
 pub use Rattle.funnels.proofs.DeadEnds.CrossedSides.{opposite_side, some_crossed}
--- The ray from a corner of a triangle of a walk to a point of it is in the angle there, and so is that to a point in sight in an earlier triangle, where none before has the corner.
+-- The ray from a corner of a triangle of a walk to a point in sight in an earlier triangle is in the angle there, where none before has the corner.
 mod WithinCorners
-pub use Rattle.funnels.proofs.DeadEnds.WithinCorners.{within_before, within_of_in}
+pub use Rattle.funnels.proofs.DeadEnds.WithinCorners.{within_before}
 -- A walk to where a chain goes after a bend begins with the walk to the bend, and goes on over a side there.
 mod PassedCorners
 -- How a way comes to a corner of a triangle at the end of a walk, and how one leaves it at the start of a walk.

@@ -19,7 +19,6 @@ pub use Rattle.funnels.proofs.Funnels.ThreePoints.{by_points, turns_left, turns_
 mod TestSigns
 -- Between two points that are not left of a line no point is left of it; and none is right of it between two that are not.
 mod SidesBetween
-pub use Rattle.funnels.proofs.Funnels.SidesBetween.{turned_at_least}
 -- The two edges at the apex of a funnel: no point beyond the diagonal is to the left of the left one and to the right of the right one.
 mod EdgesAtApex
 -- On the side from an end of the diagonal to m the window of an old point in the next funnel is within its old window.
@@ -35,9 +34,12 @@ mod Heights
 pub use Rattle.funnels.proofs.Funnels.Heights.{level, lower, not_negative}
 -- Which edges of a funnel the way to a point beyond the diagonal passes: those from the left end to one place, and no others.
 mod PassedEdges
--- The turns of a funnel that begins with a point beyond the diagonal and goes on with the points from the place that it is reached from.
-mod TurnsLeft
-pub use Rattle.funnels.proofs.Funnels.TurnsLeft.{new_at, old_at}
+-- The points of a funnel that begins with a point m and goes on with the points from place h on, and what holds of three of them.
+mod PointsLeft
+pub use Rattle.funnels.proofs.Funnels.PointsLeft.{left_new_at, left_old_at, left_on_left, left_on_right}
+-- The points of a funnel of the points to place h, and then a point m, and what holds of three of them.
+mod PointsRight
+pub use Rattle.funnels.proofs.Funnels.PointsRight.{right_new_at, right_old_at, right_on_left, right_on_right}
 -- The way to a point beyond the diagonal, from the place of the funnel that it is reached from, goes over the diagonal.
 mod NewEdge
 pub use Rattle.funnels.proofs.Funnels.NewEdge.{reaches_new}

@@ -1,14 +1,11 @@
 -- There is one verdict on a list of points.
-use Rattle.std.proofs.Common.{◌≡◌, ◌⊎◌, inl, inr, refl, sym, subst, ap, ◌∙◌, ℕ, ◌<◌, List, [], length, arith}
+use Rattle.std.proofs.Common.{◌≡◌, inl, inr, refl, sym, subst, ap, ◌∙◌, ℕ, List, [], length, arith}
+use Rattle.std.proofs.lemmas.Bool.{cases_order}
 use Rattle.plane.specs.Point.{Point}
 use Rattle.taut_check.specs.Found.{place_of}
 use Rattle.taut_check.specs.Verdict.{HasNoTurn, IsFirstRule, IsLeastBroken, IsLeaving, IsNotReflex, IsRepeat, IsUnbroken, IsVerdict}
 use Rattle.taut_check.specs.declared.verdict.Verdict.{Verdict}
 use Rattle.taut_check.specs.declared.verdict.Verdict.TheVariants as verdict
-
--- of three orders of two numbers one holds
-lt_eq_or_gt : (a b : ℕ) → (a < b) ⊎ ((a ≡ b) ⊎ (b < a))
-lt_eq_or_gt a b = grind arith
 
 module _ (ring points : List Point) where
   -- a verdict that names no place, for a list that breaks no rule, or one that names the least place and its first rule
@@ -28,9 +25,10 @@ module _ (ring points : List Point) where
 
   -- there is one least place,
   one_place : (k l : ℕ) → IsLeastBroken ring points k → IsLeastBroken ring points l → k ≡ l
-  one_place k l h g = elim (lt_eq_or_gt k l) [
-    | inl less ↦ absurd (g.least k less h.broken)
-    | inr other ↦ elim other [ inl same ↦ same | inr more ↦ absurd (h.least l more g.broken) ]
+  one_place k l h g = elim (cases_order k l) [
+    | inl same ↦ same
+    | inr (inl less) ↦ absurd (g.least k less h.broken)
+    | inr (inr more) ↦ absurd (h.least l more g.broken)
   ]
 
   -- and one first rule at a place: each rule comes first only where those before it are kept

@@ -1,22 +1,20 @@
 -- Crossed edges by the turn at them.
-use Rattle.std.proofs.Common.{◌≡◌, zero, suc, Bool, true, false, ℤ, pos, negsuc, refl, arith}
+use Rattle.std.proofs.Common.{◌≡◌, zero, suc, Bool, true, false, ℤ, pos, negsuc, neg_ℤ, refl, arith}
 use Rattle.std.proofs.lemmas.Int.{ints, to_z-of_z}
 use Rattle.std.specs.Int.Signed.{lt_z}
 use Rattle.std.specs.Prelude.{◌&&◌, ◌||◌}
 use Rattle.plane.proofs.Order.{follows, not_after_from, not_after_of_precedes, precedence, precedes, same}
-use Rattle.plane.proofs.Points.{whole_is_point}
-use Rattle.plane.proofs.Segments.{not_after_both, not_before_both, on_from_order, on_first_end, on_is_straight, on_reversed, on_same_point}
-use Rattle.plane.proofs.Turns.{straight_swap_first}
+use Rattle.plane.proofs.Segments.{on_from_order, on_first_end, on_reversed, on_same_point}
+use Rattle.plane.proofs.Turns.{determinant_swap_first, straight_swap_first}
 use Rattle.plane.specs.Order.{LiesBetween}
-use Rattle.plane.specs.Point.{IsPoint, Triple, whole}
+use Rattle.plane.specs.Point.{IsPoint, Point, Triple, whole}
 use Rattle.plane.specs.Segment.{On}
-use Rattle.plane.specs.Turn.{IsStraight}
-use Rattle.rings.specs.Edge.{Edge}
+use Rattle.plane.specs.Turn.{IsStraight, determinant}
+use Rattle.rings.specs.Edge.{Edge, edge}
 use Rattle.rings.specs.Inside.{is_crossed}
-use Rattle.exact_plane.proofs.Directions.{straight_of_zero}
 use Rattle.exact_plane.specs.Direction.{direction_of, turn_of}
-use Rattle.inside_test.specs.Level.{rises}
-use Rattle.exact_plane.specs.declared.direction.Direction.TheVariants.{Left, Right, Straight}
+use Rattle.inside_test.specs.Meeting.{rises}
+use Rattle.exact_plane.specs.declared.direction.Direction.TheVariants.{Left, Right}
 
 -- whether an edge is crossed that rises past a point, or falls past it, where the determinant is z
 abbrev crossed_by : Bool → Bool → ℤ → Bool
@@ -29,19 +27,12 @@ only_rises true false = refl
 only_rises false true = refl
 only_rises false false = refl
 
--- a negative one only falling,
+-- and a negative one only falling
 only_falls : (rises falls : Bool) → ((rises && false) || (falls && true)) ≡ falls
 only_falls true true = refl
 only_falls true false = refl
 only_falls false true = refl
 only_falls false false = refl
-
--- and 0 nothing
-neither : (rises falls : Bool) → ((rises && false) || (falls && false)) ≡ false
-neither true true = refl
-neither true false = refl
-neither false true = refl
-neither false false = refl
 
 -- the two tests of the determinant, where the turn is to the left,
 tests_left : (z : ℤ) → direction_of z ≡ Left → (lt_z (pos 0) z ≡ true) × (lt_z z (pos 0) ≡ false)
@@ -55,23 +46,21 @@ tests_right (pos zero) t = cc
 tests_right (pos (suc n)) t = cc
 tests_right (negsuc n) t = (grind (arith, ints), grind (arith, ints))
 
--- and straight on
-tests_straight : (z : ℤ) → direction_of z ≡ Straight → (lt_z (pos 0) z ≡ false) × (lt_z z (pos 0) ≡ false)
-tests_straight (pos zero) t = (refl, refl)
-tests_straight (pos (suc n)) t = cc
-tests_straight (negsuc n) t = cc
-
 -- to the left an edge is crossed that rises,
 by_left : (rises falls : Bool) (z : ℤ) → direction_of z ≡ Left → crossed_by rises falls z ≡ rises
 by_left rises falls z t = let (up, down) = tests_left z t in rw (up, down) (only_rises rises falls)
 
--- to the right one that falls,
+-- to the right one that falls
 by_right : (rises falls : Bool) (z : ℤ) → direction_of z ≡ Right → crossed_by rises falls z ≡ falls
 by_right rises falls z t = let (up, down) = tests_right z t in rw (up, down) (only_falls rises falls)
 
--- and straight on none
-by_straight : (rises falls : Bool) (z : ℤ) → direction_of z ≡ Straight → crossed_by rises falls z ≡ false
-by_straight rises falls z t = let (up, down) = tests_straight z t in rw (up, down) (neither rises falls)
+-- an edge that neither rises past the point nor falls past it is not crossed
+by_none : (rises falls : Bool) (z : ℤ) → rises ≡ false → falls ≡ false → crossed_by rises falls z ≡ false
+by_none rises falls z up down = rw (up, down) refl
+
+-- nor is it crossed otherwise read backward
+by_backward : (rises falls : Bool) (z y : ℤ) → y ≡ neg_ℤ z → crossed_by falls rises y ≡ crossed_by rises falls z
+by_backward rises falls z y e = grind (arith, ints)
 
 module _ (e : Edge) (p : Triple) where
   -- left of the edge, it is crossed where it rises past the point
@@ -82,19 +71,18 @@ module _ (e : Edge) (p : Triple) where
   pub crossed_from_right : turn_of (whole e.from) (whole e.to) p ≡ Right → is_crossed e p ≡ rises e.to e.from p
   crossed_from_right turns = by_right (rises e.from e.to p) (rises e.to e.from p) _ turns
 
-  -- in line with it, nowhere
-  pub not_crossed_in_line : turn_of (whole e.from) (whole e.to) p ≡ Straight → is_crossed e p ≡ false
-  not_crossed_in_line turns = by_straight (rises e.from e.to p) (rises e.to e.from p) _ turns
+  -- where it does not pass the height of the point, it is not crossed
+  pub not_crossed_unpassed : rises e.from e.to p ≡ false → rises e.to e.from p ≡ false → is_crossed e p ≡ false
+  not_crossed_unpassed up down = by_none (rises e.from e.to p) (rises e.to e.from p) (determinant (whole e.from) (whole e.to) p) up down
 
-  -- a point beside the line is not on the edge
-  pub beside_not_on : IsPoint p → ¬ (turn_of (whole e.from) (whole e.to) p ≡ Straight) → ¬ (On p (whole e.from) (whole e.to))
-  beside_not_on at_p beside on =
-      beside (straight_of_zero _ (on_is_straight p (whole e.from) (whole e.to) at_p (whole_is_point e.from) (whole_is_point e.to) on))
+-- an edge that is read backward is crossed as before
+pub crossed_backward : (a b : Point) (p : Triple) → is_crossed (edge b a) p ≡ is_crossed (edge a b) p
+crossed_backward a b p = by_backward (rises a b p) (rises b a p) _ _ (determinant_swap_first (whole a) (whole b) p)
 
 -- ---- a point on the line of an edge
 
 module _ (a p b : Triple) (at_a : IsPoint a) (at_p : IsPoint p) (at_b : IsPoint b) where
-  -- it is on the edge where it comes between the ends,
+  -- it is on the edge where it comes between the ends
   pub on_from_between : IsStraight a b p → LiesBetween a p b → On p a b
   on_from_between straight between = elim (precedence a p) [
     | precedes h ↦
@@ -105,13 +93,6 @@ module _ (a p b : Triple) (at_a : IsPoint a) (at_p : IsPoint p) (at_b : IsPoint 
         let first = not_after_from b p (λ k. between.not_before (h, k)) in
         on_reversed p b a (on_from_order p b a (straight_swap_first a b p straight) at_p at_b at_a first (not_after_of_precedes p a h))
   ]
-
-  -- and only there
-  pub between_from_on : On p a b → LiesBetween a p b
-  between_from_on on = record {
-    not_after = not_after_both p a b at_p at_a at_b on;
-    not_before = not_before_both p a b at_p at_a at_b on;
-  }
 
 -- numbers that pass through a register
 pub ruleset registers = (to_z-of_z)

@@ -1,12 +1,14 @@
--- How whole numbers compare with a quotient, by the whole number below it.
-use Rattle.std.proofs.Common.{◌≡◌, [], ◌∷◌, refl, sym, ap, ◌∙◌, zero, suc, ℤ, pos, negsuc, ◌+ℤ◌, ◌-ℤ◌, ◌*ℤ◌, ◌<ℤ◌, ◌≤ℤ◌, Less, Equal, Greater, arith}
-use Rattle.std.proofs.lemmas.Int.{clamps, ints}
-use Rattle.std.specs.Cmp.{int_cmp_is}
+-- How coordinates compare with a quotient, by the whole numbers below it and above.
+use Rattle.std.proofs.Common.{◌≡◌, ◌↔◌, ◌<◌, ◌≤◌, ◌^◌, w64, [], ◌∷◌, refl, ap, ◌∙◌, subst, sym, zero, suc, ℤ, pos, negsuc, neg_ℤ, ◌+ℤ◌, ◌-ℤ◌, ◌*ℤ◌, ◌<ℤ◌, ◌≤ℤ◌, arith}
+use Rattle.std.proofs.lemmas.Int.{clamps, ints, to_z-of_z}
 use Rattle.std.specs.Int.{int_div_euclid, int_max, int_min, int_rem_euclid}
-use Rattle.std.specs.Ordering.{int_cmp, ordering_then}
-use Rattle.std.specs.declared.cmp.Ordering.{Ordering}
+use Rattle.std.specs.Prelude.{FitsSigned, unsigned_abs}
+use mir.Syntax.{w128}
+use Rattle.integer_algebra.proofs.Laws.{neg-mul}
 use Rattle.integer_algebra.proofs.Polynomial.{var, lit, ◌⊖◌, ◌⊗◌, same_value}
 use Rattle.integer_algebra.proofs.Signs.{comparison, is_above, is_below, is_equal, mul_nonnegative}
+use Rattle.plane.specs.Point.{IsInLimit, IsSame, Point, Triple, whole}
+use Rattle.exact_plane.proofs.Registers.{read, wide}
 use Rattle.inside_test.specs.Level.{IsLevel}
 
 -- q is the quotient of a number by w, rounded down, and r the remainder
@@ -35,33 +37,74 @@ product_below z q w h positive =
     below_from : (x y w : ℤ) → pos 0 ≤ℤ (y -ℤ x -ℤ w) → (x +ℤ w) ≤ℤ y
     below_from x y w h = omega (arith, ints)
 
--- a number at the quotient, by the remainder
-at_quotient : (zw part r : ℤ) → zw +ℤ r ≡ part → pos 0 ≤ℤ r → int_cmp (pos 0) r ≡ int_cmp zw part
-at_quotient zw part r e h = elim (comparison (pos 0) r) [
-  | is_below k ↦ sym (int_cmp_is (pos 0) r Less k) ∙ int_cmp_is zw part Less (omega (arith, ints))
-  | is_equal k ↦ sym (int_cmp_is (pos 0) r Equal k) ∙ int_cmp_is zw part Equal (omega (arith, ints))
-  | is_above k ↦ absurd (omega (arith, ints))
-]
-
 -- the quotient, kept between limits beyond all coordinates
 abbrev pub kept : ℤ → ℤ
 kept q = int_max (negsuc 4294967295) (int_min q (pos 4294967296))
 
--- it compares with coordinates as the number does
-pub level_is : (part w q r floor : ℤ) (at_floor : Ordering) → IsQuotient part w q r → floor ≡ kept q → at_floor ≡ int_cmp (pos 0) r
-    → IsLevel floor at_floor part w
-level_is part w q r floor at_floor h floor_is at_is z small = elim (comparison z q) [
-  | is_below k ↦
-      let less : z <ℤ floor = omega (arith, ints, clamps) in
-      let product = product_below z q w k h.positive in
-      ap (λ o. ordering_then o at_floor) (sym (int_cmp_is z floor Less less)) ∙ int_cmp_is (z *ℤ w) part Less (omega (arith, ints, h.whole, h.least, h.positive))
-  | is_equal k ↦
-      let same : z ≡ floor = omega (arith, ints, clamps) in
-      ap (λ o. ordering_then o at_floor) (sym (int_cmp_is z floor Equal same)) ∙ at_is
-      ∙ at_quotient (z *ℤ w) part r (ap (λ y. y *ℤ w +ℤ r) k ∙ h.whole) h.least
-  | is_above k ↦
-      let more : floor <ℤ z = omega (arith, ints, clamps) in
-      let product = product_below q z w k h.positive in
-      ap (λ o. ordering_then o at_floor) (sym (int_cmp_is z floor Greater more))
-      ∙ int_cmp_is (z *ℤ w) part Greater (omega (arith, ints, h.whole, h.small, h.positive))
-]
+module _ (part w q r : ℤ) (h : IsQuotient part w q r) (z : ℤ) (small : IsInLimit z) where
+  -- it is below the same coordinates as the number
+  pub below_is : (kept q <ℤ z) ↔ (part <ℤ (z *ℤ w))
+  below_is = elim (comparison z q) [
+    | is_below k ↦
+        let product = product_below z q w k h.positive in
+        (λ l. absurd (omega (arith, ints, clamps)), λ l. absurd (omega (arith, ints, h.whole, h.least, h.positive)))
+    | is_equal k ↦
+        let product = ap (λ y. y *ℤ w) k in
+        (λ l. absurd (omega (arith, ints, clamps)), λ l. absurd (omega (arith, ints, h.whole, h.least)))
+    | is_above k ↦
+        let product = product_below q z w k h.positive in
+        (λ _. omega (arith, ints, h.whole, h.small), λ _. omega (arith, ints, clamps))
+  ]
+
+-- what is below the same coordinates as the opposite of a number has an opposite that is above the same ones as the number
+above_is : (part w f : ℤ) → ((z : ℤ) → IsInLimit z → (f <ℤ z) ↔ ((pos 0 -ℤ part) <ℤ (z *ℤ w)))
+    → (z : ℤ) → IsInLimit z → (z <ℤ (pos 0 -ℤ f)) ↔ ((z *ℤ w) <ℤ part)
+above_is part w f h z small =
+    let (from, back) = h (neg_ℤ z) (omega (arith, ints, small)) in
+    let product = neg-mul z w in
+    (λ l. let k = from (omega (arith, ints, l)) in omega (arith, ints, k, product), λ l. let k = back (omega (arith, ints, l, product)) in omega (arith, ints, k))
+
+-- so the two make a level
+pub level_is : (part w f g : ℤ) → unsigned_abs part < 2 ^ 75 → unsigned_abs w < 2 ^ 50 → unsigned_abs f ≤ 2 ^ 32 → unsigned_abs g ≤ 2 ^ 32
+    → ((z : ℤ) → IsInLimit z → (f <ℤ z) ↔ (wide part <ℤ (z *ℤ wide w)))
+    → ((z : ℤ) → IsInLimit z → (g <ℤ z) ↔ (wide (pos 0 -ℤ wide part) <ℤ (z *ℤ wide w)))
+    → IsLevel (record { floor = read f; ceiling = read (pos 0 -ℤ read g) }) part w
+level_is part w f g small_part small_w small_f small_g below opposite =
+    let fits_part : FitsSigned w128 part = omega (arith, ints, small_part) in
+    let fits_opposite : FitsSigned w128 (pos 0 -ℤ part) = omega (arith, ints, small_part) in
+    let fits_w : FitsSigned w128 w = omega (arith, ints, small_w) in
+    let fits_f : FitsSigned w64 f = omega (arith, ints, small_f) in
+    let fits_g : FitsSigned w64 g = omega (arith, ints, small_g) in
+    let fits_ceiling : FitsSigned w64 (pos 0 -ℤ g) = omega (arith, ints, small_g) in
+    let is_part : wide part ≡ part = to_z-of_z w128 part fits_part in
+    let is_opposite : wide (pos 0 -ℤ wide part) ≡ pos 0 -ℤ part = ap (λ x. wide (pos 0 -ℤ x)) is_part ∙ to_z-of_z w128 (pos 0 -ℤ part) fits_opposite in
+    let is_w : wide w ≡ w = to_z-of_z w128 w fits_w in
+    let is_f : read f ≡ f = to_z-of_z w64 f fits_f in
+    let is_ceiling : read (pos 0 -ℤ read g) ≡ pos 0 -ℤ g = ap (λ x. read (pos 0 -ℤ x)) (to_z-of_z w64 g fits_g) ∙ to_z-of_z w64 (pos 0 -ℤ g) fits_ceiling in
+    record {
+      below = λ z small. subst (λ x. (x <ℤ z) ↔ (part <ℤ (z *ℤ w))) (sym is_f)
+          (subst (λ x. (f <ℤ z) ↔ (x <ℤ (z *ℤ w))) is_part (subst (λ x. (f <ℤ z) ↔ (wide part <ℤ (z *ℤ x))) is_w (below z small)));
+      above = λ z small. subst (λ x. (z <ℤ x) ↔ ((z *ℤ w) <ℤ part)) (sym is_ceiling)
+          (above_is part w g (λ y limit. subst (λ x. (g <ℤ y) ↔ (x <ℤ (y *ℤ w))) is_opposite
+          (subst (λ x. (g <ℤ y) ↔ (wide (pos 0 -ℤ wide part) <ℤ (y *ℤ x))) is_w (opposite y limit))) z small);
+    }
+
+-- ---- points
+
+-- a coordinate passes through a register
+pub coordinate_read : (z : ℤ) → IsInLimit z → read z ≡ z
+coordinate_read z small = to_z-of_z w64 z (omega (arith, ints, small))
+
+-- equal coordinates make the same point
+pub same_from : (v : Point) (p : Triple) → v.x *ℤ p.W ≡ p.X → v.y *ℤ p.W ≡ p.Y → IsSame (whole v) p
+same_from v p across height = record { same_x = omega (arith, ints, across); same_y = omega (arith, ints, height) }
+
+-- and back
+pub across_of_same : (v : Point) (p : Triple) → IsSame (whole v) p → v.x *ℤ p.W ≡ p.X
+across_of_same v p s = omega (arith, ints, s.same_x)
+
+pub height_of_same : (v : Point) (p : Triple) → IsSame (whole v) p → v.y *ℤ p.W ≡ p.Y
+height_of_same v p s = omega (arith, ints, s.same_y)
+
+-- as rules
+pub ruleset same_point = (same_from, across_of_same, height_of_same)

@@ -9,3 +9,4 @@ mod Passed
 mod PointLists
 mod Sizes
 mod Sorting
+mod Touched

@@ -1,14 +1,16 @@
--- How whole numbers compare with a rational number. This project's own. No public clause cites this module.
-use Rattle.std.specs.Ordering.{int_cmp, ordering_then}
-use Rattle.std.specs.Int.Signed.{le_z, lt_z}
-use Rattle.std.specs.Prelude.{◌≡◌, ◌&&◌, Bool, ℤ, ◌*ℤ◌}
-use Rattle.std.specs.declared.cmp.Ordering.{Ordering}
-use Rattle.plane.specs.Point.{IsInLimit, Point, Triple}
+-- How a rational number compares with whole numbers, and a rational point with vertices. This project's own. No public clause
+-- cites this module.
+use Rattle.std.specs.Prelude.{◌↔◌, ℤ, ◌*ℤ◌, ◌<ℤ◌}
+use Rattle.plane.specs.Point.{IsInLimit, Triple}
+use Rattle.inside_test.specs.declared.level.Level.{Level}
+use Rattle.inside_test.specs.declared.level.Levels.{Levels}
 
--- a coordinate compares with part / weight as it does with the floor, and where it is the floor as that does
-abbrev pub IsLevel : ℤ → Ordering → ℤ → ℤ → Type 0
-IsLevel floor at_floor part weight = (z : ℤ) → IsInLimit z → ordering_then (int_cmp z floor) at_floor ≡ int_cmp (z *ℤ weight) part
+-- part / weight is below a coordinate where the floor is, and above it where the ceiling is
+pub record IsLevel (level : Level) (part weight : ℤ) : Type 0 where
+  pub below : (z : ℤ) → IsInLimit z → (level.floor <ℤ z) ↔ (part <ℤ (z *ℤ weight))
+  pub above : (z : ℤ) → IsInLimit z → (z <ℤ level.ceiling) ↔ ((z *ℤ weight) <ℤ part)
 
--- the edge from low to high rises past the height of the point: it begins there or below, and ends above
-abbrev pub rises : Point → Point → Triple → Bool
-rises low high p = le_z (low.y *ℤ p.W) p.Y && lt_z p.Y (high.y *ℤ p.W)
+-- the levels are those of the point p
+pub record AreLevels (levels : Levels) (p : Triple) : Type 0 where
+  pub across : IsLevel levels.across p.X p.W
+  pub height : IsLevel levels.height p.Y p.W

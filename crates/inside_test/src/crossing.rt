@@ -1,17 +1,13 @@
 // The ray from a rational point to the right, at one edge.
-ghost use Rattle.std.specs.Int.Signed.{le_z, lt_z};
-ghost use Rattle.std.specs.Ordering.{int_cmp};
-ghost use Rattle.std.specs.Prelude.{◌≡◌, ◌↔◌, ◌&&◌, ◌*ℤ◌, ℤ, IsTrue, true, false};
-ghost use Rattle.plane.specs.Order.{LiesBetween};
-ghost use Rattle.plane.specs.Point.{IsPoint, whole};
-ghost use Rattle.plane.specs.Segment.{On};
-ghost use Rattle.rings.specs.Inside.{is_crossed};
-ghost use Rattle.exact_plane.specs.Direction.{opposite, turn_of};
-ghost use Rattle.inside_test.specs.Level.{IsLevel, rises};
+ghost use Rattle.std.specs.Prelude.{◌≡◌, ◌↔◌, IsTrue};
+ghost use Rattle.plane.specs.Point.{IsPoint, Triple, whole};
+ghost use Rattle.rings.specs.Edge.{edge};
+ghost use Rattle.exact_plane.specs.Direction.{turn_of};
+ghost use Rattle.inside_test.specs.Level.{AreLevels};
+ghost use Rattle.inside_test.specs.Meeting.{AreAround, IsBeside, IsMeeting, IsTouched, rises};
 
 use crate::level::Levels;
-use exact_plane::{Direction, Hom, Pt, Steps, order_hom, turn_hom};
-use std::cmp::Ordering;
+use exact_plane::{Direction, Hom, Pt, Steps, turn_hom};
 use std::sync::ledger::Ledger;
 
 // How an edge lies to a point.
@@ -25,82 +21,57 @@ pub(crate) enum Meeting {
     Missed,
 }
 
-impl Meeting {
-    // At an edge that the point is not in line with.
-    fn beside(is_crossed: bool) -> Meeting
-        ensures on { result ≡ Meeting.On → ⊥ }
-        ensures crossed { result ≡ Meeting.Crossed → is_crossed ≡ true }
-        ensures missed { result ≡ Meeting.Missed → is_crossed ≡ false }
-    {
-        if is_crossed {
-            Meeting::Crossed
-        } else {
-            Meeting::Missed
-        }
-    }
+// A vertex, and whether it is above a point.
+#[derive(Clone, Copy)]
+pub(crate) struct Vertex {
+    pub at: Pt,
+    pub is_above: bool,
+}
 
-    // At an edge on whose line the point is.
-    fn in_line(is_on: bool) -> Meeting
-        ensures on { (result ≡ Meeting.On) ↔ IsTrue is_on }
-        ensures not_crossed { result ≡ Meeting.Crossed → ⊥ }
+impl Vertex {
+    // The vertex at `at`, beside the point with these levels.
+    pub(crate) fn of<L: Ledger>(at: Pt, levels: &Levels, steps: &mut Steps<L>) -> Vertex
+        ensures at { result.at ≡ at }
+        ensures beside { (p : Triple) → AreLevels levels.now p → IsBeside result p }
     {
-        if is_on { Meeting::On } else { Meeting::Missed }
+        let is_above = levels.is_below(&at, steps);
+        Vertex { at, is_above }
     }
 }
 
-// How the edge from `a` to `b`, whose heights compare so with that of `p`, lies to `p`. An edge that is above that height,
-// or below it, is missed. The ray crosses another where it rises past `p` and has it on the left, or falls past it and has
-// it on the right.
+// How the edge from `a` to `b` lies to `p`, which has these levels. The ray crosses no edge that does not pass its height.
 pub(crate) fn meeting_of<L: Ledger>(
-    a: &Pt,
-    b: &Pt,
+    a: &Vertex,
+    b: &Vertex,
     p: &Hom,
     levels: &Levels,
-    from: Ordering,
-    to: Ordering,
     steps: &mut Steps<L>,
 ) -> Meeting
-    requires across { IsLevel levels.now.across.floor levels.now.across.at_floor p.now.X p.now.W }
-    requires from { from ≡ int_cmp (a.now.y *ℤ p.now.W) p.now.Y }
-    requires to { to ≡ int_cmp (b.now.y *ℤ p.now.W) p.now.Y }
+    requires levels { AreLevels levels.now p.now }
+    requires first { IsBeside a.now p.now }
+    requires last { IsBeside b.now p.now }
     requires rational { IsPoint p.now }
-    ensures on { (result ≡ Meeting.On) ↔ On p.now (whole a.now) (whole b.now) }
-    ensures crossed { result ≡ Meeting.Crossed → is_crossed (record { from = a.now; to = b.now }) p.now ≡ true }
-    ensures missed { result ≡ Meeting.Missed → is_crossed (record { from = a.now; to = b.now }) p.now ≡ false }
+    ensures { IsMeeting result (edge a.now.at b.now.at) p.now }
 {
-    if is_apart(from, to) {
-        return Meeting::Missed;
-    }
-    match turn_past(a, b, p, levels, from, to, steps) {
-        Direction::Left => Meeting::beside(is_passed(from, to)),
-        Direction::Straight => Meeting::in_line(is_between(a, p, b, steps)),
-        Direction::Right => Meeting::beside(is_passed(to, from)),
+    match (a.is_above, b.is_above) {
+        (true, true) => Meeting::Missed,
+        (false, true) => meeting_of_rise(turn_of_rise(&a.at, &b.at, p, levels, steps)),
+        (true, false) => meeting_of_rise(turn_of_rise(&b.at, &a.at, p, levels, steps)),
+        (false, false) => meeting_below(is_touched(&a.at, &b.at, levels, steps)),
     }
 }
 
-// The turn from `a` over `b` to `p`, where their heights compare so with that of `p`.
-fn turn_past<L: Ledger>(
-    a: &Pt,
-    b: &Pt,
-    p: &Hom,
-    levels: &Levels,
-    from: Ordering,
-    to: Ordering,
-    steps: &mut Steps<L>,
-) -> Direction
-    requires across { IsLevel levels.now.across.floor levels.now.across.at_floor p.now.X p.now.W }
-    requires from { from ≡ int_cmp (a.now.y *ℤ p.now.W) p.now.Y }
-    requires to { to ≡ int_cmp (b.now.y *ℤ p.now.W) p.now.Y }
-    requires rational { IsPoint p.now }
-    ensures { result ≡ turn_of (whole a.now) (whole b.now) p.now }
+// How an edge that rises past the height of a point lies to it, by the turn over its ends to the point.
+fn meeting_of_rise(turn: Direction) -> Meeting
+    ensures on { (result ≡ Meeting.On) ↔ (turn ≡ Direction.Straight) }
+    ensures crossed { result ≡ Meeting.Crossed → turn ≡ Direction.Left }
+    ensures missed { result ≡ Meeting.Missed → turn ≡ Direction.Right }
 {
-    if is_passed(from, to) {
-        return turn_of_rise(a, b, p, levels, steps);
+    match turn {
+        Direction::Left => Meeting::Crossed,
+        Direction::Straight => Meeting::On,
+        Direction::Right => Meeting::Missed,
     }
-    if is_passed(to, from) {
-        return reversed(turn_of_rise(b, a, p, levels, steps));
-    }
-    turn_hom(a, b, p, steps)
 }
 
 // The turn from `low` over `high` to `p`, where an edge between them rises past the height of `p`. Comparisons tell it
@@ -112,52 +83,47 @@ fn turn_of_rise<L: Ledger>(
     levels: &Levels,
     steps: &mut Steps<L>,
 ) -> Direction
-    requires across { IsLevel levels.now.across.floor levels.now.across.at_floor p.now.X p.now.W }
+    requires levels { AreLevels levels.now p.now }
     requires rises { IsTrue (rises low.now high.now p.now) }
     requires rational { IsPoint p.now }
     ensures { result ≡ turn_of (whole low.now) (whole high.now) p.now }
 {
-    let side = levels.compare_across(low, steps);
-    if side != levels.compare_across(high, steps) {
-        return turn_hom(low, high, p, steps);
+    if levels.is_left_of_both(low, high, steps) {
+        return Direction::Left;
     }
-    match side {
-        Ordering::Less => Direction::Right,
-        Ordering::Equal => turn_hom(low, high, p, steps),
-        Ordering::Greater => Direction::Left,
+    if levels.is_right_of_both(low, high, steps) {
+        return Direction::Right;
+    }
+    // By copies, so that vertices need not lie in memory where no turn is asked.
+    let (low, high) = (*low, *high);
+    turn_hom(&low, &high, p, steps)
+}
+
+// How an edge with no end above a point lies to it.
+fn meeting_below(is_touched: bool) -> Meeting
+    ensures on { (result ≡ Meeting.On) ↔ IsTrue is_touched }
+    ensures not_crossed { result ≡ Meeting.Crossed → ⊥ }
+{
+    if is_touched {
+        Meeting::On
+    } else {
+        Meeting::Missed
     }
 }
 
-// The turn that is against this one.
-fn reversed(turn: Direction) -> Direction
-    ensures { result ≡ opposite turn }
+// Whether an edge with no end above a point has the point on it.
+fn is_touched<L: Ledger>(a: &Pt, b: &Pt, levels: &Levels, steps: &mut Steps<L>) -> bool
+    ensures { (p : Triple) → AreLevels levels.now p → IsTrue result ↔ IsTouched a.now b.now p }
 {
-    match turn {
-        Direction::Left => Direction::Right,
-        Direction::Straight => Direction::Straight,
-        Direction::Right => Direction::Left,
-    }
+    levels.is_at(a, steps) || levels.is_at(b, steps) || are_around(a, b, levels, steps)
 }
 
-// Whether the ends of an edge are both above a height, or both below it, by how theirs compare with it.
-fn is_apart(from: Ordering, to: Ordering) -> bool
-    ensures { IsTrue result ↔ ((from ≡ to) × ¬ (from ≡ Ordering.Equal)) }
+// Whether two vertices are at the height of a point, and neither both left of it nor both right.
+fn are_around<L: Ledger>(a: &Pt, b: &Pt, levels: &Levels, steps: &mut Steps<L>) -> bool
+    ensures { (p : Triple) → AreLevels levels.now p → IsTrue result ↔ AreAround a.now b.now p }
 {
-    from == to && from != Ordering::Equal
-}
-
-// Whether an edge rises past a height with which those of its ends compare so: it begins there or below, and ends above.
-fn is_passed(low: Ordering, high: Ordering) -> bool
-    ensures { (y a b : ℤ) → low ≡ int_cmp a y → high ≡ int_cmp b y → result ≡ (le_z a y && lt_z y b) }
-{
-    low != Ordering::Greater && high == Ordering::Greater
-}
-
-// Whether `p` comes between `a` and `b`, or with one of them, in the order of points.
-fn is_between<L: Ledger>(a: &Pt, p: &Hom, b: &Pt, steps: &mut Steps<L>) -> bool
-    ensures between { IsTrue result ↔ LiesBetween (whole a.now) p.now (whole b.now) }
-{
-    let (first, last) = (Hom::of_pt(a, steps), Hom::of_pt(b, steps));
-    let (to_p, from_p) = (order_hom(&first, p, steps), order_hom(p, &last, steps));
-    to_p == from_p || to_p == Ordering::Equal || from_p == Ordering::Equal
+    levels.is_level(a, steps)
+        && levels.is_level(b, steps)
+        && !levels.is_left_of_both(a, b, steps)
+        && !levels.is_right_of_both(a, b, steps)
 }

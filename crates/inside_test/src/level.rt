@@ -1,44 +1,60 @@
-// A rational number among the whole numbers.
-ghost use Rattle.std.specs.Ordering.{int_cmp, ordering_then};
-ghost use Rattle.std.specs.Prelude.{◌≡◌, ◌<◌, ◌^◌, ◌<ℤ◌, ◌*ℤ◌, ℤ, pos, unsigned_abs};
-ghost use Rattle.plane.specs.Point.{IsPoint};
-ghost use Rattle.inside_test.specs.Level.{IsLevel};
+// A rational number among the whole numbers, and a rational point among the vertices.
+ghost use Rattle.std.specs.Prelude.{◌≡◌, ◌↔◌, ◌<◌, ◌≤◌, ◌^◌, ◌<ℤ◌, ◌*ℤ◌, ℤ, IsTrue, pos, unsigned_abs};
+ghost use Rattle.plane.specs.Point.{IsInLimit, IsPoint, IsSame, Triple, whole};
+ghost use Rattle.inside_test.specs.Level.{AreLevels, IsLevel};
 
 use exact_plane::{Hom, Pt, Steps};
-use std::cmp::Ordering;
 use std::sync::ledger::Ledger;
 
-// The greatest whole number that is not above part / weight, but no farther from 0 than a limit beyond all coordinates.
-// How it compares with part / weight.
+// The greatest whole number that is not above part / weight, and the least that is not below it; where they would be
+// farther from 0 than all coordinates, two numbers that are so too.
 #[derive(Clone, Copy)]
 pub(crate) struct Level {
     pub floor: i64,
-    pub at_floor: Ordering,
+    pub ceiling: i64,
 }
 
 impl Level {
-    const LIMIT: i128 = 1 << 32;
-
     // The level of part / weight.
-    pub(crate) fn of(part: i128, weight: i128) -> Level
+    fn of(part: i128, weight: i128) -> Level
         requires part { unsigned_abs part < 2 ^ 75 }
         requires weight { unsigned_abs weight < 2 ^ 50 }
         requires positive { pos 0 <ℤ weight }
-        ensures { IsLevel result.floor result.at_floor part weight }
+        ensures { IsLevel result part weight }
     {
-        let floor = part.div_euclid(weight).clamp(-Level::LIMIT, Level::LIMIT);
         Level {
-            floor: floor as i64,
-            at_floor: 0.cmp(&part.rem_euclid(weight)),
+            floor: floor(part, weight),
+            ceiling: -floor(-part, weight),
         }
     }
 
-    // How a coordinate compares with it.
-    pub(crate) fn compare(&self, z: i64) -> Ordering
-        ensures { result ≡ ordering_then (int_cmp z self.now.floor) self.now.at_floor }
+    // Whether it is below a coordinate.
+    fn is_below(&self, z: i64) -> bool
+        requires { IsInLimit z }
+        ensures { (part weight : ℤ) → IsLevel self.now part weight → IsTrue result ↔ (part <ℤ (z *ℤ weight)) }
     {
-        z.cmp(&self.floor).then(self.at_floor)
+        self.floor < z
     }
+
+    // Whether it is above one.
+    fn is_above(&self, z: i64) -> bool
+        requires { IsInLimit z }
+        ensures { (part weight : ℤ) → IsLevel self.now part weight → IsTrue result ↔ ((z *ℤ weight) <ℤ part) }
+    {
+        z < self.ceiling
+    }
+}
+
+// The greatest whole number that is not above part / weight, but no farther from 0 than a limit beyond all coordinates.
+fn floor(part: i128, weight: i128) -> i64
+    requires part { unsigned_abs part < 2 ^ 75 }
+    requires weight { unsigned_abs weight < 2 ^ 50 }
+    requires positive { pos 0 <ℤ weight }
+    ensures below { (z : ℤ) → IsInLimit z → (result <ℤ z) ↔ (part <ℤ (z *ℤ weight)) }
+    ensures limit { unsigned_abs result ≤ 2 ^ 32 }
+{
+    const LIMIT: i128 = 1 << 32;
+    part.div_euclid(weight).clamp(-LIMIT, LIMIT) as i64
 }
 
 // The levels of a rational point: of x, and of its height.
@@ -52,8 +68,7 @@ impl Levels {
     // The levels of this point.
     #[tactic(auto, using(crate::proofs::CrossedEdges::registers))]
     pub(crate) fn of<L: Ledger>(p: &Hom, steps: &mut Steps<L>) -> Levels
-        ensures across { IsLevel result.across.floor result.across.at_floor p.now.X p.now.W }
-        ensures height { IsLevel result.height.floor result.height.at_floor p.now.Y p.now.W }
+        ensures levels { AreLevels result p.now }
         ensures rational { IsPoint p.now }
     {
         let (x, y, w) = p.parts(steps);
@@ -63,19 +78,66 @@ impl Levels {
         }
     }
 
-    // How x of a point compares with that of this one.
-    pub(crate) fn compare_across<L: Ledger>(&self, v: &Pt, steps: &mut Steps<L>) -> Ordering
-        ensures { (part weight : ℤ) → IsLevel self.now.across.floor self.now.across.at_floor part weight
-            → result ≡ int_cmp (v.now.x *ℤ weight) part }
+    // Whether the point is below a vertex.
+    pub(crate) fn is_below<L: Ledger>(&self, v: &Pt, steps: &mut Steps<L>) -> bool
+        ensures { (p : Triple) → AreLevels self.now p → IsTrue result ↔ (p.Y <ℤ (v.now.y *ℤ p.W)) }
     {
-        self.across.compare(v.parts(steps).0)
+        self.height.is_below(v.parts(steps).1)
     }
 
-    // How the height of a point compares with that of this one.
-    pub(crate) fn compare_height<L: Ledger>(&self, v: &Pt, steps: &mut Steps<L>) -> Ordering
-        ensures { (part weight : ℤ) → IsLevel self.now.height.floor self.now.height.at_floor part weight
-            → result ≡ int_cmp (v.now.y *ℤ weight) part }
+    // Whether it is above one.
+    pub(crate) fn is_above<L: Ledger>(&self, v: &Pt, steps: &mut Steps<L>) -> bool
+        ensures { (p : Triple) → AreLevels self.now p → IsTrue result ↔ ((v.now.y *ℤ p.W) <ℤ p.Y) }
     {
-        self.height.compare(v.parts(steps).1)
+        self.height.is_above(v.parts(steps).1)
+    }
+
+    // Whether it is left of one.
+    pub(crate) fn is_left_of<L: Ledger>(&self, v: &Pt, steps: &mut Steps<L>) -> bool
+        ensures { (p : Triple) → AreLevels self.now p → IsTrue result ↔ (p.X <ℤ (v.now.x *ℤ p.W)) }
+    {
+        self.across.is_below(v.parts(steps).0)
+    }
+
+    // Whether it is right of one.
+    pub(crate) fn is_right_of<L: Ledger>(&self, v: &Pt, steps: &mut Steps<L>) -> bool
+        ensures { (p : Triple) → AreLevels self.now p → IsTrue result ↔ ((v.now.x *ℤ p.W) <ℤ p.X) }
+    {
+        self.across.is_above(v.parts(steps).0)
+    }
+
+    // Whether it is at the height of one.
+    pub(crate) fn is_level<L: Ledger>(&self, v: &Pt, steps: &mut Steps<L>) -> bool
+        ensures { (p : Triple) → AreLevels self.now p → IsTrue result ↔ (v.now.y *ℤ p.W ≡ p.Y) }
+    {
+        !self.is_below(v, steps) && !self.is_above(v, steps)
+    }
+
+    // Whether it is straight above or below one, or the vertex itself.
+    fn is_plumb<L: Ledger>(&self, v: &Pt, steps: &mut Steps<L>) -> bool
+        ensures { (p : Triple) → AreLevels self.now p → IsTrue result ↔ (v.now.x *ℤ p.W ≡ p.X) }
+    {
+        !self.is_left_of(v, steps) && !self.is_right_of(v, steps)
+    }
+
+    // Whether it is the vertex.
+    pub(crate) fn is_at<L: Ledger>(&self, v: &Pt, steps: &mut Steps<L>) -> bool
+        ensures { (p : Triple) → AreLevels self.now p → IsTrue result ↔ IsSame (whole v.now) p }
+    {
+        self.is_level(v, steps) && self.is_plumb(v, steps)
+    }
+
+    // Whether it is left of two vertices.
+    pub(crate) fn is_left_of_both<L: Ledger>(&self, a: &Pt, b: &Pt, steps: &mut Steps<L>) -> bool
+        ensures { (p : Triple) → AreLevels self.now p → IsTrue result ↔ ((p.X <ℤ (a.now.x *ℤ p.W)) × (p.X <ℤ (b.now.x *ℤ p.W))) }
+    {
+        self.is_left_of(a, steps) && self.is_left_of(b, steps)
+    }
+
+    // Whether it is right of two.
+    pub(crate) fn is_right_of_both<L: Ledger>(&self, a: &Pt, b: &Pt, steps: &mut Steps<L>) -> bool
+        ensures { (p : Triple) → AreLevels self.now p → IsTrue result ↔ (((a.now.x *ℤ p.W) <ℤ p.X) × ((b.now.x *ℤ p.W) <ℤ p.X)) }
+    {
+        self.is_right_of(a, steps) && self.is_right_of(b, steps)
     }
 }

@@ -4,7 +4,7 @@ ghost use Rattle.rings.specs.Edge.{IsOnSome, edges_of};
 ghost use Rattle.rings.specs.Inside.{IsIn};
 ghost use Rattle.rings.specs.Ring.{vertex};
 
-use crate::crossing::{Meeting, meeting_of};
+use crate::crossing::{Meeting, Vertex, meeting_of};
 use crate::level::Levels;
 use exact_plane::{Hom, Pt, Steps};
 use ring_check::Ring;
@@ -38,17 +38,15 @@ pub fn place_hom<L: Ledger>(ring: &Ring, p: &Hom, steps: &mut Steps<L>) -> Posit
 {
     let (size, levels) = (ring.len(), Levels::of(p, steps));
     let mut is_odd = false;
-    let mut a = ring.corner(0);
-    let mut from = levels.compare_height(&a, steps);
+    let mut a = Vertex::of(ring.corner(0), &levels, steps);
     for i in 0..size {
-        let b = next_corner(ring, i);
-        let to = levels.compare_height(&b, steps);
-        match meeting_of(&a, &b, p, &levels, from, to, steps) {
+        let b = Vertex::of(next_corner(ring, i), &levels, steps);
+        match meeting_of(&a, &b, p, &levels, steps) {
             Meeting::On => return Position::Edge,
             Meeting::Crossed => is_odd = !is_odd,
             Meeting::Missed => {}
         }
-        (a, from) = (b, to);
+        a = b;
     }
     if is_odd {
         Position::Inside

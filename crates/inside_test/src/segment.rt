@@ -45,9 +45,12 @@ fn breakpoints<L: Ledger>(
     let mut points = Vec::new(alloc);
     push(&mut points, Hom::of_pt(a, steps), steps)?;
     push(&mut points, Hom::of_pt(b, steps), steps)?;
-    for i in 0..ring.len() {
-        let (c, d) = (ring.corner(i), next_corner(ring, i));
+    let size = ring.len();
+    let mut c = ring.corner(0);
+    for i in 0..size {
+        let d = next_corner(ring, i);
         push_meetings(&mut points, a, b, &c, &d, steps)?;
+        c = d;
     }
     Ok(points)
 }

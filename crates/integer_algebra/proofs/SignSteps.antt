@@ -48,6 +48,10 @@ positive_of_not_zero h n = omega (arith, ints)
 pub at_most_unless : {z : ℤ} → ¬ (pos 0 <ℤ z) → z ≤ℤ pos 0
 at_most_unless h = grind (arith, ints)
 
+-- and one that is not negative is 0 or more
+pub at_least_unless : {z : ℤ} → ¬ (z <ℤ pos 0) → pos 0 ≤ℤ z
+at_least_unless h = grind (arith, ints)
+
 -- 1 is positive
 pub one_positive : pos 0 <ℤ pos 1
 one_positive = omega (arith, ints)
@@ -92,9 +96,37 @@ turned_negative e h = omega (arith, ints)
 pub turned_not_positive : {d e : ℤ} → e ≡ neg_ℤ d → pos 0 ≤ℤ d → e ≤ℤ pos 0
 turned_not_positive e h = omega (arith, ints)
 
--- and of one that is not positive
+-- of one that is not positive
 pub turned_not_negative : {d e : ℤ} → e ≡ neg_ℤ d → d ≤ℤ pos 0 → pos 0 ≤ℤ e
 turned_not_negative e h = omega (arith, ints)
+
+-- and of 0
+pub turned_zero : {d e : ℤ} → e ≡ neg_ℤ d → d ≡ pos 0 → e ≡ pos 0
+turned_zero e h = omega (arith, ints)
+
+-- a number that is its own opposite is 0,
+pub own_opposite : {z : ℤ} → z ≡ neg_ℤ z → z ≡ pos 0
+own_opposite e = omega (arith, ints)
+
+-- and so is one that is not negative, and whose opposite is not
+pub zero_of_both : {d e : ℤ} → e ≡ neg_ℤ d → pos 0 ≤ℤ d → pos 0 ≤ℤ e → d ≡ pos 0
+zero_of_both e h k = omega (arith, ints)
+
+-- where the opposite is 0, the number is 0,
+pub zero_of_opposite : {z : ℤ} → neg_ℤ z ≡ pos 0 → z ≡ pos 0
+zero_of_opposite e = omega (arith, ints)
+
+-- where it is positive, the number is negative,
+pub negative_of_opposite : {z : ℤ} → pos 0 <ℤ neg_ℤ z → z <ℤ pos 0
+negative_of_opposite h = omega (arith, ints)
+
+-- where it is negative, the number is positive,
+pub positive_of_opposite : {z : ℤ} → neg_ℤ z <ℤ pos 0 → pos 0 <ℤ z
+positive_of_opposite h = omega (arith, ints)
+
+-- and where it is not positive, the number is not negative
+pub not_negative_of_opposite : {z : ℤ} → neg_ℤ z ≤ℤ pos 0 → ¬ (z <ℤ pos 0)
+not_negative_of_opposite h k = omega (arith, ints)
 
 -- ---- a mean z of two numbers f and g, with the weights l and m
 

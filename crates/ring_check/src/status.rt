@@ -3,11 +3,11 @@ ghost use Rattle.std.specs.List.{All};
 ghost use Rattle.std.specs.Prelude.{◌≡◌, ◌+◌, ◌<◌, ◌≤◌, IsTrue, ℕ, length};
 ghost use Rattle.plane.specs.Point.{whole};
 ghost use Rattle.rings.specs.Below.{EndsBelow, StartsBelow};
-ghost use Rattle.rings.specs.Edge.{edge};
 ghost use Rattle.rings.specs.Events.{first_end, last_end, next};
 ghost use Rattle.rings.specs.Ring.{vertex};
 ghost use Rattle.rings.specs.Status.{FitsAt, IsEdgeBelow, IsStacked, one, times};
 ghost use Rattle.exact_plane.specs.Direction.{turn_of};
+ghost use Rattle.ring_check.specs.Ends.{AreVertices, edge_between};
 
 use crate::clash::corner;
 use crate::events::Events;
@@ -118,11 +118,11 @@ fn goes_below<L: Ledger>(events: &Events, e: u32, v: u32, w: u32, steps: &mut St
     requires v { v < length events.now.points.now }
     requires w { w < length events.now.points.now }
 {
-    let (a, b) = ends(events, e);
-    match turn_at(events, a, b, v, steps) {
+    let Ends { first, last } = ends_of(events, e);
+    match turn_at(events, first, last, v, steps) {
         Direction::Left => true,
         Direction::Right => false,
-        Direction::Straight => turns(events, Direction::Left, a, b, w, steps),
+        Direction::Straight => turns(events, Direction::Left, first, last, w, steps),
     }
 }
 
@@ -143,76 +143,68 @@ fn is_below<L: Ledger>(events: &Events, e: u32, f: u32, steps: &mut Steps<L>) ->
     requires f { f < length events.now.points.now }
     ensures { IsTrue result → IsEdgeBelow events.now.points.now events.now.ranks.now e f }
 {
-    let (a, b) = ends(events, e);
-    let (c, d) = ends(events, f);
-    match (a == c, b == d) {
+    let lower = ends_of(events, e);
+    let upper = ends_of(events, f);
+    match (lower.first == upper.first, lower.last == upper.last) {
         (true, true) => false,
-        (true, false) => ends_below(events, a, b, c, d, steps),
-        (false, true) => starts_below(events, a, b, c, d, steps),
-        (false, false) => starts_below(events, a, b, c, d, steps)
-            && ends_below(events, a, b, c, d, steps),
+        (true, false) => ends_below(events, lower, upper, steps),
+        (false, true) => starts_below(events, lower, upper, steps),
+        (false, false) => starts_below(events, lower, upper, steps)
+            && ends_below(events, lower, upper, steps),
     }
 }
 
-// Whether the edge from vertex `a` to `b` is below that from `c` to `d` where the later of them begins.
-fn starts_below<L: Ledger>(
-    events: &Events,
-    a: u32,
-    b: u32,
-    c: u32,
-    d: u32,
-    steps: &mut Steps<L>,
-) -> bool
-    requires a { a < length events.now.points.now }
-    requires b { b < length events.now.points.now }
-    requires c { c < length events.now.points.now }
-    requires d { d < length events.now.points.now }
-    ensures { IsTrue result → StartsBelow (edge (vertex events.now.points.now a) (vertex events.now.points.now b))
-        (edge (vertex events.now.points.now c) (vertex events.now.points.now d)) }
+// Whether edge `e` is below edge `f` where the later of them begins.
+fn starts_below<L: Ledger>(events: &Events, e: Ends, f: Ends, steps: &mut Steps<L>) -> bool
+    requires e { AreVertices events.now.points.now e }
+    requires f { AreVertices events.now.points.now f }
+    ensures { IsTrue result → StartsBelow (edge_between events.now.points.now e) (edge_between events.now.points.now f) }
 {
-    if events.ranks[a as usize] < events.ranks[c as usize] {
-        turns(events, Direction::Left, a, b, c, steps)
+    if events.ranks[e.first as usize] < events.ranks[f.first as usize] {
+        turns(events, Direction::Left, e.first, e.last, f.first, steps)
     } else {
-        turns(events, Direction::Right, c, d, a, steps)
+        turns(events, Direction::Right, f.first, f.last, e.first, steps)
     }
 }
 
 // Whether it is below where the first of them ends.
-fn ends_below<L: Ledger>(
-    events: &Events,
-    a: u32,
-    b: u32,
-    c: u32,
-    d: u32,
-    steps: &mut Steps<L>,
-) -> bool
-    requires a { a < length events.now.points.now }
-    requires b { b < length events.now.points.now }
-    requires c { c < length events.now.points.now }
-    requires d { d < length events.now.points.now }
-    ensures { IsTrue result → EndsBelow (edge (vertex events.now.points.now a) (vertex events.now.points.now b))
-        (edge (vertex events.now.points.now c) (vertex events.now.points.now d)) }
+fn ends_below<L: Ledger>(events: &Events, e: Ends, f: Ends, steps: &mut Steps<L>) -> bool
+    requires e { AreVertices events.now.points.now e }
+    requires f { AreVertices events.now.points.now f }
+    ensures { IsTrue result → EndsBelow (edge_between events.now.points.now e) (edge_between events.now.points.now f) }
 {
-    if events.ranks[b as usize] < events.ranks[d as usize] {
-        turns(events, Direction::Right, c, d, b, steps)
+    if events.ranks[e.last as usize] < events.ranks[f.last as usize] {
+        turns(events, Direction::Right, f.first, f.last, e.last, steps)
     } else {
-        turns(events, Direction::Left, a, b, d, steps)
+        turns(events, Direction::Left, e.first, e.last, f.last, steps)
     }
 }
 
-// The ends of edge `e`, that of lower rank first.
-fn ends(events: &Events, e: u32) -> (u32, u32)
+// The ends of an edge, that of lower rank first.
+#[derive(Clone, Copy)]
+struct Ends {
+    first: u32,
+    last: u32,
+}
+
+// The ends of edge `e`.
+fn ends_of(events: &Events, e: u32) -> Ends
     requires { e < length events.now.points.now }
-    ensures first { result.0 ≡ first_end events.now.ranks.now e }
-    ensures last { result.1 ≡ last_end events.now.ranks.now e }
-    ensures first_below { result.0 < length events.now.points.now }
-    ensures last_below { result.1 < length events.now.points.now }
+    ensures first { result.first ≡ first_end events.now.ranks.now e }
+    ensures last { result.last ≡ last_end events.now.ranks.now e }
+    ensures vertices { AreVertices events.now.points.now result }
 {
     let after = next(events, e);
     if events.ranks[e as usize] < events.ranks[after as usize] {
-        (e, after)
+        Ends {
+            first: e,
+            last: after,
+        }
     } else {
-        (after, e)
+        Ends {
+            first: after,
+            last: e,
+        }
     }
 }
 

@@ -5,14 +5,12 @@ mod BesideEdges
 pub use Rattle.ring_laws.proofs.Triangles.BesideEdges.{BesideEdge, beside_edge, left_of, left_of_is_left}
 -- A rational point that is as far to one side of a line as all ends of a closed list is not wound round.
 mod BeyondLine
-pub use Rattle.ring_laws.proofs.Triangles.BeyondLine.{farthest_right, negative_at_most}
+pub use Rattle.ring_laws.proofs.Triangles.BeyondLine.{farthest_right}
 -- A counterclockwise triangle winds once round the points inside, and not round those outside.
 mod TriangleWinding
 pub use Rattle.ring_laws.proofs.Triangles.TriangleWinding.{on_sides_in, triangle, triangle_values, winding_inside, winding_outside}
--- No edge enters an empty triangle at a vertex: it meets the triangle at ends of the third side at most.
+-- No edge enters an empty triangle at a vertex: it meets the triangle at ends of the third side at most, and so does each edge that side.
 mod NoneEnters
--- Where no end but its corners is in the triangle at a vertex, the side across from the vertex meets the edges only at its ends.
-mod EmptyTriangle
 -- Points strictly inside an edge: near each point of it, and on no other edge of a ring.
 mod InsideEdge
 pub use Rattle.ring_laws.proofs.Triangles.InsideEdge.{InsideNear, inside_near, off_others, other_edges}
@@ -40,5 +38,6 @@ pub use Rattle.ring_laws.proofs.Triangles.TriangleRing.{in_of_in_triangle, in_tr
 -- Closed triangles: their corners, the points on their sides, segments within them, and heights over a side.
 mod Triangles
 pub use Rattle.ring_laws.proofs.Triangles.Triangles.{between_in_triangle, first_in_triangle, in_or_not, in_triangle, last_in_triangle, left_at_first}
-pub use Rattle.ring_laws.proofs.Triangles.Triangles.{left_at_last, left_of_first, middle_in_triangle, not_negative, not_right_between, on_first_side}
+pub use Rattle.ring_laws.proofs.Triangles.Triangles.{left_at_last, left_of_first, middle_in_triangle, not_right_between}
+pub use Rattle.ring_laws.proofs.Triangles.Triangles.{of_side, on_first_side}
 pub use Rattle.ring_laws.proofs.Triangles.Triangles.{on_second_side, on_third_side}

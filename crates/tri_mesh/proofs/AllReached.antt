@@ -13,7 +13,8 @@ use Rattle.tri_mesh.specs.declared.outward.Outward.{Outward}
 
 module _ (tris : List Tri) (order : List Outward) (done : (k : ℕ) → IsReached order k → IsDone tris order k) where
   -- where the first triangle of a walk was reached, all were
-  along_walk : (walk : List ℕ) → IsWalk tris walk → IsReached order (get_or walk 0 0) → (i : ℕ) → i < length walk → IsReached order (get_or walk i 0)
+  along_walk : (walk : List ℕ) → IsWalk tris walk → IsReached order (get_or walk 0 0)
+      → (i : ℕ) → i < length walk → IsReached order (get_or walk i 0)
   along_walk walk w first zero h = first
   along_walk walk w first (suc i) h =
       let e : i + 1 ≡ suc i = omega arith in

@@ -3,7 +3,8 @@ use Rattle.std.proofs.Common.{◌≡◌, refl, sym, ap, ◌∙◌, ℕ, ◌+◌,
 use Rattle.std.proofs.Common.{None, get_or, length-append, replicate}
 use Rattle.std.proofs.Math.ListN.{set, length-map, length-replicate, length-set}
 use Rattle.std.proofs.lemmas.Bool.{cases_eq}
-use Rattle.std.proofs.lemmas.List.{get_or-map, get_or-replicate, get_or-set_other, get_or-set_same, get_or_append_left, get_or_push, get_or_read}
+use Rattle.std.proofs.lemmas.List.{get_or-map, get_or-replicate, get_or-set_other, get_or-set_same}
+use Rattle.std.proofs.lemmas.List.{get_or_append_left, get_or_push, get_or_read}
 use Rattle.std.specs.Prelude.{OnOk, Ok, Err, Option, Result, slice_index, slice_index_or}
 use Rattle.meshes.specs.Mesh.{side_begin, side_end}
 use Rattle.meshes.specs.Side.{HasSide, HasSidesOnce, tri_at}
@@ -28,7 +29,8 @@ pub one_place : (order : List Outward) (places : List ℕ) → ((p : ℕ) → p 
 one_place order places known p q p_below q_below same = sym (known p p_below) ∙ ap (λ k. slice_index places k) same ∙ known q q_below
 
 -- so there are no more places than triangles
-few_places : (order : List Outward) (places : List ℕ) (n : ℕ) → ((p : ℕ) → p < length order → slice_index places (outward_at order p).tri ≡ p)
+few_places : (order : List Outward) (places : List ℕ) (n : ℕ)
+    → ((p : ℕ) → p < length order → slice_index places (outward_at order p).tri ≡ p)
     → ((p : ℕ) → p < length order → (outward_at order p).tri < n) → length order ≤ n
 few_places order places n known in_list =
     let long : length (numbers order) ≡ length order = length-map order (λ (o : Outward). o.tri) in
@@ -63,7 +65,8 @@ at_its_place tris order places s k is =
     let place : slice_index places k ≡ is.0 = ap (λ l. slice_index places l) (sym is.2) ∙ s.known is.0 is.1 in
     ap (λ p. (outward_at order p).tri) place ∙ is.2
 
-module _ (tris : List Tri) (order : List Outward) (places : List ℕ) (s : IsSearch tris order places) (k place side : ℕ) (k_below : k < length tris)
+module _ (tris : List Tri) (order : List Outward) (places : List ℕ) (s : IsSearch tris order places)
+    (k place side : ℕ) (k_below : k < length tris)
     (new : ¬ IsReached order k) (place_below : place < length order) (in_row : side < 3)
     (shared : HasSide (tri_at tris (outward_at order place).tri) (side_end (tri_at tris k) side) (side_begin (tri_at tris k) side)) where
   abbrev more : List Outward
@@ -78,7 +81,8 @@ module _ (tris : List Tri) (order : List Outward) (places : List ℕ) (s : IsSea
 
   -- the earlier places have what they had
   at_earlier : (p : ℕ) → p < length order → outward_at more p ≡ outward_at order p
-  at_earlier p h = get_or_append_left order (record { tri = k; toward = place; side = side } ∷ []) (record { tri = 0; toward = 0; side = 0 }) p h
+  at_earlier p h = get_or_append_left order (record { tri = k; toward = place; side = side } ∷ [])
+      (record { tri = 0; toward = 0; side = 0 }) p h
 
   -- the last place has the triangle
   at_last : (p : ℕ) → p ≡ length order → outward_at more p ≡ record { tri = k; toward = place; side = side }
@@ -164,15 +168,18 @@ search_one tris home few below = record {
 
 -- the row of what is read at a place has the triangles at its sides
 pub read_owner : (tris : List Tri) (rows : List (List (Option ℕ))) (order : List Outward) (places : List ℕ) → KeepsNeighbours tris rows
-    → IsSearch tris order places → (place : ℕ) → place < length order → (read : Outward) → read ≡ get_or order place read → (side : ℕ) → side < 3
-    → IsOwner tris (side_end (tri_at tris read.tri) side) (side_begin (tri_at tris read.tri) side) (slice_index_or (slice_index_or rows read.tri []) side None)
+    → IsSearch tris order places → (place : ℕ) → place < length order → (read : Outward) → read ≡ get_or order place read
+    → (side : ℕ) → side < 3
+    → IsOwner tris (side_end (tri_at tris read.tri) side) (side_begin (tri_at tris read.tri) side)
+    (slice_index_or (slice_index_or rows read.tri []) side None)
 read_owner tris rows order places keeps s place below read is side in_row =
     let here : read ≡ outward_at order place = get_or_read order place read below is (record { tri = 0; toward = 0; side = 0 }) in
     let k_below : read.tri < length tris = rw here (s.in_list place below) in
     keeps.rows.across read.tri side (omega (arith, keeps.count)) in_row
 
 -- where the triangle with a side was reached, the side is done,
-pub done_by : (tris : List Tri) (order : List Outward) (i j k : ℕ) → HasSidesOnce tris → k < length tris → HasSide (tri_at tris k) i j → IsReached order k
+pub done_by : (tris : List Tri) (order : List Outward) (i j k : ℕ) → HasSidesOnce tris
+    → k < length tris → HasSide (tri_at tris k) i j → IsReached order k
     → IsSideDone tris order i j
 done_by tris order i j k sides k_below has is l below too = let same : l ≡ k = sides.once i j l k below k_below too has in rw same is
 

@@ -1,20 +1,13 @@
 -- Bends by the turning on one side of their vertex: the neighbours in the ring are not ahead of the one ray, nor behind the other.
-use Rattle.std.proofs.Common.{inl, inr, Bool, true, false, ℤ, pos, neg_ℤ, ◌<ℤ◌, ◌≤ℤ◌, List, arith}
+use Rattle.std.proofs.Common.{inl, inr, Bool, true, false, pos, ◌<ℤ◌, ◌≤ℤ◌, List, arith}
 use Rattle.std.proofs.lemmas.Int.{ints}
-use Rattle.integer_algebra.proofs.SignSteps.{negative_not_zero, not_both_positive, at_most_unless}
-use Rattle.integer_algebra.proofs.Signs.{lt_or_le}
+use Rattle.integer_algebra.proofs.SignSteps.{at_least_unless, at_most_unless, negative_not_zero, not_both_positive}
+use Rattle.integer_algebra.proofs.SignSteps.{not_negative_of_opposite, opposite_not_positive, positive_of_opposite}
 use Rattle.plane.specs.Cone.{IsInCone}
 use Rattle.plane.specs.Point.{Point, Triple, whole}
 use Rattle.plane.specs.Turn.{IsStraight}
 use Rattle.rings.specs.Bend.{AreNeighbours, IsBend, IsReflexVertex}
-use Rattle.funnels.proofs.Bends.Opposites.{not_negative_of_opposite, positive_of_opposite}
 use Rattle.funnels.specs.Fanned.{turning}
-
--- ---- numbers
-
--- the opposite of what is not negative is not positive
-opposite_at_most : {z : ℤ} → ¬ (z <ℤ pos 0) → neg_ℤ z ≤ℤ pos 0
-opposite_at_most {z} n = elim (lt_or_le z (pos 0)) [ inl h ↦ absurd (n h) | inr h ↦ omega (arith, ints) ]
 
 -- ---- cones
 
@@ -30,7 +23,7 @@ turnings_of_cone : (side : Bool) (v : Point) (a c u : Triple) → turning side v
     → (turning side v a u ≤ℤ pos 0) × (turning side v u c ≤ℤ pos 0)
 turnings_of_cone true v a c u wide (inl h) = let left = h.0 in absurd (omega (arith, ints))
 turnings_of_cone true v a c u wide (inr h) = (at_most_unless h.1, at_most_unless h.2)
-turnings_of_cone false v a c u wide (inl h) = (opposite_at_most h.1, opposite_at_most h.2)
+turnings_of_cone false v a c u wide (inl h) = (opposite_not_positive (at_least_unless h.1), opposite_not_positive (at_least_unless h.2))
 turnings_of_cone false v a c u wide (inr h) = let right = h.0 in absurd (omega (arith, ints))
 
 -- nor are the two rays on one line

@@ -1,13 +1,12 @@
 -- The cone that a fan leaves: where it turns by more than a half turn, all neighbours are in the closed angle from its end to its start.
 use Rattle.std.proofs.Common.{◌≡◌, ◌⊎◌, inl, inr, subst, sym, List, [], ◌∷◌, ℤ, pos, ◌+ℤ◌, ◌-ℤ◌, ◌*ℤ◌, neg_ℤ, ◌<ℤ◌, ◌≤ℤ◌}
-use Rattle.integer_algebra.proofs.SignSteps.{not_both, not_both_positive, weak, zero_not_negative, zero_not_positive}
-use Rattle.integer_algebra.proofs.Signs.{is_negative, is_positive, is_zero, lt_or_le, sign}
-use Rattle.ring_laws.proofs.Triangles.{negative_at_most}
-use Rattle.funnels.proofs.Bends.FanSigns.{Relation, both_in_line, end_in_line, in_line_with_start, left_in_line, left_of_middle, left_of_start}
-use Rattle.funnels.proofs.Bends.FanSigns.{not_left_of_start, not_negative_unless, not_positive_before, not_positive_unless, not_right_of_end}
-use Rattle.funnels.proofs.Bends.FanSigns.{positive_of_not_zero, positive_unless}
+use Rattle.integer_algebra.proofs.SignSteps.{not_both, not_both_positive, own_opposite, turned_not_positive, weak, weak_order}
+use Rattle.integer_algebra.proofs.SignSteps.{zero_not_negative}
+use Rattle.integer_algebra.proofs.Signs.{lt_or_le}
+use Rattle.funnels.proofs.Bends.FanSigns.{end_in_line, in_line_with_start, left_of_middle, left_of_start, not_left_of_start}
+use Rattle.funnels.proofs.Bends.FanSigns.{not_negative_unless, not_positive_before, not_positive_unless, not_right_of_end}
+use Rattle.funnels.proofs.Bends.FanSigns.{positive_unless, relation}
 use Rattle.funnels.proofs.Bends.Fans.{along_fan}
-use Rattle.funnels.proofs.Bends.Opposites.{opposite_of_not_negative, opposite_of_not_positive, own_opposite}
 use Rattle.funnels.specs.Fan.{IsFan, IsFanStep, IsLastStep}
 
 module _ {A : Type 0} (f : A → A → ℤ) (swap : (a b : A) → f b a ≡ neg_ℤ (f a b))
@@ -16,10 +15,6 @@ module _ {A : Type 0} (f : A → A → ℤ) (swap : (a b : A) → f b a ≡ neg_
   self : (a : A) → f a a ≡ pos 0
   self a = own_opposite (swap a a)
 
-  -- any four are related
-  relation : (a b c d : A) → Relation (f a b) (f a c) (f a d) (f b c) (f b d) (f c d)
-  relation a b c d = record { holds = four a b c d }
-
   -- ---- a neighbour that is left of the start
 
   -- it is still ahead of each direction of the fan, and none of these is right of the start
@@ -27,7 +22,7 @@ module _ {A : Type 0} (f : A → A → ℤ) (swap : (a b : A) → f b a ≡ neg_
       → (pos 0 ≤ℤ f p r) × (pos 0 <ℤ f r u) → (pos 0 ≤ℤ f p b) × (pos 0 <ℤ f b u)
   stays_ahead p u n left r b step h =
       let past : pos 0 <ℤ f b u = positive_unless h.1 (step.none u n) in
-      (weak (left_of_start (relation p r b u) h.0 h.1 (weak past) left step.ahead), past)
+      (weak (left_of_start (relation f four p r b u) h.0 h.1 (weak past) left step.ahead), past)
 
   -- so a fan that ends right of its start has none
   not_left_of_fan : (p r y : A) (ds : List A) → IsFan f N p ds r → IsLastStep f N r y → f p y <ℤ pos 0 → (u : A) → N u → f p u ≤ℤ pos 0
@@ -37,7 +32,7 @@ module _ {A : Type 0} (f : A → A → ℤ) (swap : (a b : A) → f b a ≡ neg_
         let holds = λ (z : A). (pos 0 ≤ℤ f p z) × (pos 0 <ℤ f z u) in
         let h = along_fan f N holds (stays_ahead p u n left) p r ds fan (zero_not_negative (self p), left) in
         let past : pos 0 ≤ℤ f y u = not_negative_unless h.1 (last.none u n) in
-        absurd (not_both wide (weak (left_of_start (relation p r y u) h.0 h.1 past left last.ahead)))
+        absurd (not_both wide (weak (left_of_start (relation f four p r y u) h.0 h.1 past left last.ahead)))
   ]
 
   -- ---- a neighbour that is right of the end
@@ -52,8 +47,8 @@ module _ {A : Type 0} (f : A → A → ℤ) (swap : (a b : A) → f b a ≡ neg_
       | inl k ↦ inr k
       | inr low ↦
           let behind : f r u ≤ℤ pos 0 = not_positive_unless low (step.none u n) in
-          let level = in_line_with_start (relation p r b u) h past not_left step.ahead behind low in
-          absurd (not_both_positive (left_of_middle (relation p r y u) h wide level right) behind)
+          let level = in_line_with_start (relation f four p r b u) h past not_left step.ahead behind low in
+          absurd (not_both_positive (left_of_middle (relation f four p r y u) h wide level right) behind)
     ]
   ]
 
@@ -70,7 +65,7 @@ module _ {A : Type 0} (f : A → A → ℤ) (swap : (a b : A) → f b a ≡ neg_
           | inr h ↦ not_negative_unless h (last.none u n)
           | inl h ↦
               let behind : f r u ≤ℤ pos 0 = not_positive_before right (last.none u n) in
-              not_right_of_end (relation p r y u) h (negative_at_most wide) not_left last.ahead behind
+              not_right_of_end (relation f four p r y u) h (weak_order wide) not_left last.ahead behind
         ]
   ]
 
@@ -81,33 +76,15 @@ module _ {A : Type 0} (f : A → A → ℤ) (swap : (a b : A) → f b a ≡ neg_
       → (u : A) → N u → (f p u ≤ℤ pos 0) × (f u y ≤ℤ pos 0)
   cone_of_fan p r y ds fan last wide u n =
       let not_left = not_left_of_fan p r y ds fan last wide u n in
-      (not_left, opposite_of_not_negative (swap y u) (not_right_of_fan p r y ds fan last wide u n not_left))
+      (not_left, turned_not_positive (swap y u) (not_right_of_fan p r y ds fan last wide u n not_left))
 
   -- one more step, with all neighbours ahead, keeps it so, and where it ends in line with the start, they are in line too
   pub cone_grows : (p r y : A) → f p r <ℤ pos 0 → ((u : A) → N u → f p u ≤ℤ pos 0) → ((u : A) → N u → pos 0 <ℤ f r u) → IsLastStep f N r y
       → (u : A) → N u → (f p y ≤ℤ pos 0) × (f u y ≤ℤ pos 0) × (f p y ≡ pos 0 → (f p u ≡ pos 0) × (f y u ≡ pos 0))
   cone_grows p r y wide not_left ahead last u n =
       let past : pos 0 ≤ℤ f y u = not_negative_unless (ahead u n) (last.none u n) in
-      let e = relation p r y u in (
+      let e = relation f four p r y u in (
         not_left_of_start e wide (not_left u n) (ahead u n) past last.ahead,
-        opposite_of_not_negative (swap y u) past,
-        λ level. (
-          end_in_line e wide level (not_left u n) past last.ahead,
-          both_in_line e wide level (not_left u n) past last.ahead,
-        ),
+        turned_not_positive (swap y u) past,
+        λ level. end_in_line e wide level (not_left u n) past last.ahead,
       )
-
-  -- the neighbours of such a cone are ahead of its end, where none is in line with it
-  pub cone_ahead : (p r : A) → f p r <ℤ pos 0 → ((u : A) → N u → (f p u ≤ℤ pos 0) × (f u r ≤ℤ pos 0)) → ((u : A) → N u → ¬ (f r u ≡ pos 0))
-      → (u : A) → N u → pos 0 <ℤ f r u
-  cone_ahead p r wide cone off u n = positive_of_not_zero (opposite_of_not_positive (swap u r) (cone u n).1) (off u n)
-
-  -- none is where the last step was one of a fan, and none is in line with the start and the end
-  pub cone_ahead_of_step : (p s r : A) → f p r <ℤ pos 0 → ((u : A) → N u → (f p u ≤ℤ pos 0) × (f u r ≤ℤ pos 0)) → IsFanStep f N s r
-      → ((u : A) → N u → ¬ ((f p u ≡ pos 0) × (f r u ≡ pos 0))) → (u : A) → N u → pos 0 <ℤ f r u
-  cone_ahead_of_step p s r wide cone step differ u n =
-      cone_ahead p r wide cone (λ v m level. elim (sign (f p v)) [
-        | is_negative h ↦ step.none v m (left_in_line (relation p s r v) wide h level step.ahead, zero_not_positive level)
-        | is_zero h ↦ differ v m (h, level)
-        | is_positive h ↦ not_both_positive h (cone v m).0
-      ]) u n

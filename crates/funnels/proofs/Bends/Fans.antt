@@ -1,14 +1,9 @@
 -- Fans: longer ones, what their steps keep, and that they turn.
 use Rattle.std.proofs.Common.{subst, sym, List, [], ◌∷◌, ◌++◌, refl, ℤ, pos, ◌<ℤ◌}
-use Rattle.ring_laws.proofs.Triangles.{negative_at_most}
-use Rattle.funnels.specs.Fan.{IsFan, IsFanStep, IsLastStep, IsTurning}
+use Rattle.funnels.specs.Fan.{IsFan, IsFanStep, IsTurning}
 
 module _ {A : Type 0} (f : A → A → ℤ) where
   module _ (N : A → Type 0) where
-    -- so each step of a fan may be a last one
-    pub last_of_step : {a b : A} → IsFanStep f N a b → IsLastStep f N a b
-    last_of_step step = record { ahead = step.ahead; none = λ u n swept. step.none u n (swept.0, negative_at_most swept.1) }
-
     -- one more step makes a longer fan
     pub fan_more : (p r b : A) (ds : List A) → IsFan f N p ds r → IsFanStep f N r b → IsFan f N p (ds ++ b ∷ []) b
     fan_more p r b [] same step = (subst (λ z. IsFanStep f N z b) (sym same) step, refl)

@@ -1,27 +1,23 @@
 -- A bend at a vertex grows where its last ray turns on, over no neighbour.
-use Rattle.std.proofs.Common.{◌≡◌, ◌⊎◌, refl, sym, subst, Bool, ℤ, pos, ◌+ℤ◌, ◌-ℤ◌, ◌*ℤ◌, neg_ℤ, ◌<ℤ◌, ◌≤ℤ◌, List, arith}
+use Rattle.std.proofs.Common.{◌≡◌, ◌⊎◌, refl, sym, subst, Bool, ℤ, pos, ◌+ℤ◌, ◌-ℤ◌, ◌*ℤ◌, ◌<ℤ◌, ◌≤ℤ◌, List, arith}
 use Rattle.std.proofs.lemmas.Int.{ints}
 use Rattle.integer_algebra.proofs.Certificate.{product_zero}
-use Rattle.integer_algebra.proofs.SignSteps.{negative_not_zero, not_both, not_both_positive, turned_positive}
+use Rattle.integer_algebra.proofs.SignSteps.{negative_not_zero, not_both, not_both_positive, turned_not_negative, turned_positive}
+use Rattle.integer_algebra.proofs.SignSteps.{turned_zero}
 use Rattle.integer_algebra.proofs.Signs.{factor_zero, is_negative, is_positive, is_zero, sign}
-use Rattle.plane.proofs.Points.{same_sym, same_whole, whole_is_point}
-use Rattle.plane.specs.Point.{Point, Triple, whole}
+use Rattle.plane.proofs.Points.{whole_is_point}
+use Rattle.plane.specs.Point.{IsSame, Point, Triple, whole}
 use Rattle.plane.specs.Segment.{On}
 use Rattle.rings.specs.Bend.{AreNeighbours, IsBend}
 use Rattle.funnels.proofs.Bends.BendTurnings.{bend_of_turnings, turnings_of_bend}
 use Rattle.funnels.proofs.Bends.FanCones.{cone_grows}
 use Rattle.funnels.proofs.Bends.InLine.{level_is_vertex, ray_ahead, ray_behind}
-use Rattle.funnels.proofs.Bends.Opposites.{opposite_of_not_positive}
 use Rattle.funnels.proofs.Bends.Turnings.{turning_four, turning_swap}
 use Rattle.funnels.proofs.Bends.TwoRays.{HasTwoRays}
 use Rattle.funnels.specs.Fan.{IsLastStep}
 use Rattle.funnels.specs.Fanned.{IsNextTo, turning}
 
 -- ---- numbers
-
--- the opposite of 0 is 0
-level_of : {z w : ℤ} → w ≡ neg_ℤ z → z ≡ pos 0 → w ≡ pos 0
-level_of e h = omega (arith, ints)
 
 -- the relation of four directions, where the last two are in line with the first, and the second is not: these are in line
 in_line : (ab ac ad bc bd cd : ℤ) → ab *ℤ cd -ℤ ac *ℤ bd +ℤ ad *ℤ bc ≡ pos 0 → ¬ (ab ≡ pos 0) → ac ≡ pos 0 → ad ≡ pos 0 → cd ≡ pos 0
@@ -33,7 +29,7 @@ in_line ab ac ad bc bd cd e some hac had =
 -- ---- the bend
 
 module _ (side : Bool) (ring : List Point) (q v r : Point) (bend : IsBend ring q v r) (wide : turning side v (whole q) (whole r) <ℤ pos 0)
-    (differ : (u : Point) → AreNeighbours ring v u → ¬ (v ≡ u))
+    (differ : (u : Point) → AreNeighbours ring v u → ¬ IsSame (whole u) (whole v))
     (off : (u : Point) → AreNeighbours ring v u → ¬ (On (whole u) (whole v) (whole r) ⊎ On (whole r) (whole v) (whole u))) where
   -- no neighbour is in line with the last ray,
   not_level : (u : Point) → AreNeighbours ring v u → ¬ (turning side v (whole r) (whole u) ≡ pos 0)
@@ -41,10 +37,8 @@ module _ (side : Bool) (ring : List Point) (q v r : Point) (bend : IsBend ring q
     | is_positive h ↦ not_both_positive h (turnings_of_bend side ring q v r wide bend u n).0
     | is_negative h ↦ off u n (ray_behind side v (whole q) (whole r) (whole u) (whole_is_point r) (whole_is_point u) level wide h)
     | is_zero h ↦
-        let same = level_is_vertex side v (whole r) (whole q) (whole u)
-        (turned_positive (turning_swap side v (whole q) (whole r)) wide) level
-        (level_of (turning_swap side v (whole q) (whole u)) h) in
-        differ u n (same_whole v u (same_sym same))
+        differ u n (level_is_vertex side v (whole r) (whole q) (whole u) (turned_positive (turning_swap side v (whole q) (whole r)) wide)
+        level (turned_zero (turning_swap side v (whole q) (whole u)) h))
   ]
 
   -- so all are ahead of it,
@@ -54,7 +48,7 @@ module _ (side : Bool) (ring : List Point) (q v r : Point) (bend : IsBend ring q
     | is_zero h ↦ absurd (not_level u n h)
     | is_negative h ↦
         absurd (not_both h
-        (opposite_of_not_positive (turning_swap side v (whole u) (whole r)) (turnings_of_bend side ring q v r wide bend u n).1))
+        (turned_not_negative (turning_swap side v (whole u) (whole r)) (turnings_of_bend side ring q v r wide bend u n).1))
   ]
 
   module _ (y : Point) (step : IsLastStep (turning side v) (IsNextTo ring v) (whole r) (whole y)) where

@@ -1,10 +1,12 @@
 -- Directions in line with each other, seen from a vertex on either side: of two different lines only the vertex is on both, and what
 -- is to one side of a line is on one ray.
-use Rattle.std.proofs.Common.{◌≡◌, ◌≢◌, ◌⊎◌, Bool, true, false, [], ◌∷◌, refl, ap, ◌∙◌, ℤ, pos, ◌+ℤ◌, ◌-ℤ◌, ◌*ℤ◌, neg_ℤ, ◌<ℤ◌, arith}
+use Rattle.std.proofs.Common.{◌≡◌, ◌≢◌, ◌⊎◌, Bool, true, false, not, [], ◌∷◌, refl, sym, subst, ap, ◌∙◌, ℤ, pos, ◌+ℤ◌, ◌-ℤ◌, ◌*ℤ◌, neg_ℤ}
+use Rattle.std.proofs.Common.{◌<ℤ◌, arith}
 use Rattle.std.proofs.lemmas.Int.{ints}
 use Rattle.integer_algebra.proofs.Laws.{eq_of_sub-zero, neg-mul, zero-mul}
 use Rattle.integer_algebra.proofs.Polynomial.{lit, var, ◌⊖◌, ◌⊗◌, same_value}
-use Rattle.integer_algebra.proofs.SignSteps.{positive_not_zero}
+use Rattle.integer_algebra.proofs.SignSteps.{negative_not_zero, negative_of_opposite, positive_not_zero, positive_of_opposite}
+use Rattle.integer_algebra.proofs.SignSteps.{zero_of_opposite}
 use Rattle.integer_algebra.proofs.Signs.{factor_zero}
 use Rattle.plane.proofs.Points.{whole_is_point}
 use Rattle.plane.proofs.Segments.{same_straight}
@@ -12,27 +14,21 @@ use Rattle.plane.proofs.Turns.{determinant_same_ends, four_triples_in_W, four_tr
 use Rattle.plane.specs.Point.{IsPoint, IsSame, Point, Triple, whole}
 use Rattle.plane.specs.Segment.{On}
 use Rattle.plane.specs.Turn.{IsStraight}
-use Rattle.funnels.proofs.Bends.Opposites.{negative_of_opposite, positive_of_opposite, zero_of_opposite}
+use Rattle.funnels.proofs.Bends.Turnings.{turning_not}
 use Rattle.ring_laws.proofs.Vertices.{ray_on_left, ray_on_right}
 use Rattle.funnels.specs.Fanned.{turning}
-
--- ---- signs
-
--- a number with a positive opposite is not 0
-opposite_not_zero : (z : ℤ) → pos 0 <ℤ neg_ℤ z → ¬ (z ≡ pos 0)
-opposite_not_zero z h e = omega (arith, ints)
 
 -- ---- lines through the vertex
 
 -- a direction that does not turn is straight,
-turning_straight : (side : Bool) (v : Point) (a b : Triple) → turning side v a b ≡ pos 0 → IsStraight (whole v) a b
+pub turning_straight : (side : Bool) (v : Point) (a b : Triple) → turning side v a b ≡ pos 0 → IsStraight (whole v) a b
 turning_straight true v a b e = e
 turning_straight false v a b e = zero_of_opposite e
 
 -- and one that turns is not
 turning_not_straight : (side : Bool) (v : Point) (a b : Triple) → pos 0 <ℤ turning side v a b → ¬ IsStraight (whole v) a b
 turning_not_straight true v a b h = positive_not_zero h
-turning_not_straight false v a b h = opposite_not_zero _ h
+turning_not_straight false v a b h = negative_not_zero (negative_of_opposite h)
 
 -- ---- the vertex itself
 
@@ -74,6 +70,10 @@ module _ (side : Bool) (v : Point) where
   turning_differs a c some same =
       turning_not_straight side v a c some
       (same_straight (whole v) a c (whole v) (whole_is_point v) same (determinant_same_ends (whole v) a))
+
+-- nor is a
+pub turning_differs_first : (side : Bool) (v : Point) (a c : Triple) → pos 0 <ℤ turning side v a c → ¬ IsSame a (whole v)
+turning_differs_first side v a c some = turning_differs (not side) v c a (subst (λ z. pos 0 <ℤ z) (sym (turning_not side v c a)) some)
 
 -- ---- rays
 

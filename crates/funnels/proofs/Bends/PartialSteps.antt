@@ -3,28 +3,17 @@ use Rattle.std.proofs.Common.{◌≡◌, ℤ, pos, ◌+ℤ◌, ◌-ℤ◌, ◌*�
 use Rattle.std.proofs.lemmas.Int.{ints}
 use Rattle.integer_algebra.proofs.Laws.{mul_comm}
 use Rattle.integer_algebra.proofs.SignSteps.{weak}
-use Rattle.integer_algebra.proofs.Signs.{factor_negative, factor_positive, mul_negative, mul_nonnegative, mul_nonpositive, mul_positive}
-use Rattle.funnels.proofs.Bends.FanSigns.{Relation}
+use Rattle.integer_algebra.proofs.Signs.{factor_positive, mul_nonpositive, mul_positive}
+use Rattle.funnels.proofs.Bends.FanSigns.{Relation, relation, right_of_third}
 use Rattle.funnels.specs.Fan.{IsFanStep, IsLastStep}
 
--- ---- signs
-
-module _ {ab ac ad bc bd cd : ℤ} (e : Relation ab ac ad bc bd cd) where
-  -- b not right of a, and c left of both: where d is left of b and not left of c, it is left of a
-  left_of_all : pos 0 ≤ℤ ab → pos 0 <ℤ ac → pos 0 <ℤ bc → pos 0 <ℤ bd → cd ≤ℤ pos 0 → pos 0 <ℤ ad
-  left_of_all hab hac hbc hbd hcd =
-      let first = mul_nonpositive ab cd hab hcd in
-      let middle = mul_positive ac bd hac hbd in
-      factor_positive bc ad hbc (omega (arith, ints, e.holds, mul_comm ad bc))
-
-  -- b left of a, c left of a and not right of b: where d is left of a and right of b, it is right of c
-  right_of_last : pos 0 <ℤ ab → pos 0 <ℤ ac → pos 0 ≤ℤ bc → pos 0 <ℤ ad → bd <ℤ pos 0 → cd <ℤ pos 0
-  right_of_last hab hac hbc had hbd =
-      let middle = mul_negative ac bd hac hbd in
-      let last = mul_nonnegative ad bc (weak had) hbc in
-      factor_negative ab cd hab (omega (arith, ints, e.holds))
-
--- ---- steps
+-- b not right of a, and c left of both: where d is left of b and not left of c, it is left of a
+left_of_all : {ab ac ad bc bd cd : ℤ} → Relation ab ac ad bc bd cd → pos 0 ≤ℤ ab → pos 0 <ℤ ac → pos 0 <ℤ bc → pos 0 <ℤ bd → cd ≤ℤ pos 0
+    → pos 0 <ℤ ad
+left_of_all {ab} {ac} {ad} {bc} {bd} {cd} e hab hac hbc hbd hcd =
+    let first = mul_nonpositive ab cd hab hcd in
+    let middle = mul_positive ac bd hac hbd in
+    factor_positive bc ad hbc (omega (arith, ints, e.holds, mul_comm ad bc))
 
 module _ {A : Type 0} (f : A → A → ℤ)
     (four : (a b c d : A) → f a b *ℤ f c d -ℤ f a c *ℤ f b d +ℤ f a d *ℤ f b c ≡ pos 0) (N : A → Type 0) where
@@ -33,8 +22,7 @@ module _ {A : Type 0} (f : A → A → ℤ)
   step_from_within a c x step low high = record {
     ahead = high;
     none = λ u n swept.
-        let e : Relation (f a x) (f a c) (f a u) (f x c) (f x u) (f c u) = record { holds = four a x c u } in
-        step.none u n (left_of_all e low step.ahead high swept.0 swept.1, swept.1);
+        step.none u n (left_of_all (relation f four a x c u) low step.ahead high swept.0 swept.1, swept.1);
   }
 
   -- from the start of a last step to a direction within it there is a last step
@@ -42,6 +30,5 @@ module _ {A : Type 0} (f : A → A → ℤ)
   last_step_to_within a c y step low high = record {
     ahead = low;
     none = λ u n swept.
-        let e : Relation (f a y) (f a c) (f a u) (f y c) (f y u) (f c u) = record { holds = four a y c u } in
-        step.none u n (swept.0, right_of_last e low step.ahead high swept.0 swept.1);
+        step.none u n (swept.0, right_of_third (relation f four a y c u) (weak low) step.ahead (weak swept.0) high swept.1);
   }

@@ -2,7 +2,7 @@
 use Rattle.std.proofs.Common.{◌≡◌, ◌⊎◌, inl, inr, Bool, true, false, refl, sym, ℤ, pos, ◌+ℤ◌, ◌*ℤ◌, neg_ℤ, ◌<ℤ◌, ◌≤ℤ◌, arith}
 use Rattle.std.proofs.lemmas.Int.{ints}
 use Rattle.integer_algebra.proofs.Certificate.{product_zero}
-use Rattle.integer_algebra.proofs.SignSteps.{weak}
+use Rattle.integer_algebra.proofs.SignSteps.{positive_of_not_zero, weak}
 use Rattle.integer_algebra.proofs.Signs.{factor_negative, factor_nonnegative, factor_nonpositive, factor_positive, mul_negative, mul_nonnegative}
 use Rattle.integer_algebra.proofs.Signs.{mul_nonpositive, mul_positive}
 use Rattle.plane.proofs.Points.{whole_is_point}
@@ -11,7 +11,6 @@ use Rattle.plane.proofs.Turns.{determinant_same_ends, combination_of, determinan
 use Rattle.plane.specs.Point.{IsPoint, IsSame, Point, Triple, whole}
 use Rattle.plane.specs.Segment.{On}
 use Rattle.plane.specs.Turn.{determinant}
-use Rattle.funnels.proofs.Bends.FanSigns.{positive_of_not_zero}
 use Rattle.funnels.proofs.Bends.Turnings.{turning_swap}
 use Rattle.funnels.specs.Fanned.{turning}
 

@@ -1,12 +1,11 @@
 -- A bend over a vertex stays one where it turns farther.
 use Rattle.std.proofs.Common.{◌≡◌, inl, inr, Bool, ℤ, pos, ◌+ℤ◌, ◌-ℤ◌, ◌*ℤ◌, ◌<ℤ◌, ◌≤ℤ◌, List, arith}
 use Rattle.std.proofs.lemmas.Int.{ints}
+use Rattle.integer_algebra.proofs.SignSteps.{turned_not_negative, weak_order}
 use Rattle.integer_algebra.proofs.Signs.{lt_or_le, mul_negative, mul_nonpositive, mul_nonpositives}
 use Rattle.plane.specs.Point.{Point, whole}
 use Rattle.rings.specs.Bend.{IsBend}
-use Rattle.ring_laws.proofs.Triangles.{negative_at_most}
 use Rattle.funnels.proofs.Bends.BendTurnings.{bend_of_turnings, turnings_of_bend}
-use Rattle.funnels.proofs.Bends.Opposites.{opposite_of_not_positive}
 use Rattle.funnels.proofs.Bends.Turnings.{turning_four, turning_swap}
 use Rattle.funnels.specs.Fanned.{turning}
 
@@ -18,7 +17,7 @@ not_ahead qz uy qu zy qy zu e hqz hqu hqy hzu hzy = elim (lt_or_le (pos 0) uy) [
   | inl h ↦
       let first = mul_negative uy qz h hqz in
       let middle = mul_nonpositives qu zy hqu hzy in
-      let last = mul_nonpositive zu qy hzu (negative_at_most hqy) in
+      let last = mul_nonpositive zu qy hzu (weak_order hqy) in
       absurd (omega (arith, ints))
 ]
 
@@ -31,5 +30,5 @@ wider_bend side ring q v z y bend wide wider beyond =
     let (first, last) = turnings_of_bend side ring q v z wide bend u n in (
       first,
       not_ahead _ _ _ _ _ _ (turning_four side v (whole q) (whole z) (whole u) (whole y)) wide first wider
-          (opposite_of_not_positive (turning_swap side v (whole u) (whole z)) last) beyond,
+          (turned_not_negative (turning_swap side v (whole u) (whole z)) last) beyond,
     ))

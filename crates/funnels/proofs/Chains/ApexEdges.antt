@@ -1,13 +1,12 @@
 -- A point that is reached from the apex of a funnel, beyond the diagonal: the way to it turns at the apex as those to both edges do.
 use Rattle.std.proofs.Common.{◌≡◌, ◌⊎◌, inl, inr, true, false, refl, sym, subst, ap, List, length, ℕ, ◌+◌, ◌-◌, ◌<◌, pos, ◌<ℤ◌, ◌≤ℤ◌, arith}
-use Rattle.integer_algebra.proofs.SignSteps.{opposite_not_negative, opposite_not_positive, at_most_unless}
+use Rattle.integer_algebra.proofs.SignSteps.{at_least_unless, at_most_unless, opposite_not_negative, opposite_not_positive}
+use Rattle.integer_algebra.proofs.SignSteps.{turned_not_negative}
 use Rattle.plane.proofs.Turns.{determinant_swap_last}
 use Rattle.plane.specs.Point.{Point, whole}
 use Rattle.plane.specs.Segment.{On}
 use Rattle.plane.specs.Turn.{determinant}
 use Rattle.rings.specs.Chain.{point_at}
-use Rattle.ring_laws.proofs.Triangles.{not_negative as at_least_zero}
-use Rattle.funnels.proofs.Bends.{opposite_of_not_positive}
 use Rattle.funnels.proofs.Chains.ApexTurns.{behind_apex}
 use Rattle.funnels.proofs.Funnels.{left_of_apex, right_of_apex, window_of_reached, not_negative}
 use Rattle.funnels.specs.Fanned.{turning}
@@ -25,7 +24,7 @@ module _ (ns : List Point) (a : ℕ) (l r : Point) (f : IsFunnel ns a l r) (q y 
   pub not_behind_right : a + 1 < length ns → pos 0 ≤ℤ determinant (whole (point_at ns a)) (whole (point_at ns (a + 1))) (whole y)
   not_behind_right more =
       let e : a ≡ a + 1 - 1 = omega arith in
-      at_least_zero ((window_of_reached ns a a (whole y) reached).not_right (point_at ns a) (point_at ns (a + 1)) more
+      at_least_unless ((window_of_reached ns a a (whole y) reached).not_right (point_at ns a) (point_at ns (a + 1)) more
       (inr (omega arith, ap (point_at ns) e, refl)))
 
   module _ (some : 0 < a) (more : a + 1 < length ns) where
@@ -73,4 +72,4 @@ module _ (ns : List Point) (a : ℕ) (l r : Point) (f : IsFunnel ns a l r) (q y 
           subst behind (left_of_apex ns a l r f flat (a - 1) (omega arith)) at_left,
           subst behind (right_of_apex ns a l r f flat more) at_right,
         )) at_right at_left (opposite_not_positive (not_behind_right more)) (opposite_not_negative (not_ahead_of_left some))
-        (opposite_not_positive (opposite_of_not_positive (determinant_swap_last (whole o) (whole p) (whole s)) opening))
+        (opposite_not_positive (turned_not_negative (determinant_swap_last (whole o) (whole p) (whole s)) opening))

@@ -2,7 +2,7 @@
 use Rattle.std.proofs.Common.{◌≡◌, inl, inr, [], ◌∷◌, refl, ap, ℤ, pos, ◌+ℤ◌, ◌-ℤ◌, ◌*ℤ◌, neg_ℤ, ◌<ℤ◌, ◌≤ℤ◌, arith}
 use Rattle.std.proofs.lemmas.Int.{ints}
 use Rattle.integer_algebra.proofs.Certificate.{product_zero}
-use Rattle.integer_algebra.proofs.Laws.{mul-neg, mul_comm}
+use Rattle.integer_algebra.proofs.Laws.{mul_comm}
 use Rattle.integer_algebra.proofs.Polynomial.{◌⊕◌, ◌⊖◌, ◌⊗◌, lit, same_value, var}
 use Rattle.integer_algebra.proofs.Signs.{factor_negative, factor_positive, lt_or_le, mul_negative, mul_negatives, mul_nonpositive, mul_positive}
 
@@ -54,7 +54,3 @@ far_below h k m = omega (arith, ints)
 -- numbers of which each is at most the other
 pub both_at_most : {h k : ℤ} → h ≤ℤ k → k ≤ℤ h → k ≡ h
 both_at_most h k = omega (arith, ints)
-
--- a mean of two numbers, with all signs turned
-pub mean_turned : (k l m z f g : ℤ) → k *ℤ z ≡ l *ℤ f +ℤ m *ℤ g → k *ℤ neg_ℤ z ≡ l *ℤ neg_ℤ f +ℤ m *ℤ neg_ℤ g
-mean_turned k l m z f g e = omega (arith, ints, mul-neg k z, mul-neg l f, mul-neg m g)

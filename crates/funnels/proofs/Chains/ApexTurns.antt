@@ -1,17 +1,16 @@
 -- A point beyond the diagonal, between the two edges at the apex: the way to it from before the apex turns as those to the edges do.
-use Rattle.std.proofs.Common.{◌≡◌, ◌⊎◌, inl, inr, Bool, true, false, pos, ◌+ℤ◌, ◌-ℤ◌, ◌*ℤ◌, ◌<ℤ◌, ◌≤ℤ◌}
-use Rattle.integer_algebra.proofs.SignSteps.{mean_negative, negative_not_zero, not_both_positive, zero_not_positive}
+use Rattle.std.proofs.Common.{◌≡◌, ◌⊎◌, inl, inr, Bool, true, false, pos, ◌-ℤ◌, ◌*ℤ◌, ◌<ℤ◌, ◌≤ℤ◌}
+use Rattle.integer_algebra.proofs.SignSteps.{mean_negative, negative_not_zero, not_both_positive, zero_not_positive, weak_order}
 use Rattle.integer_algebra.proofs.Signs.{is_negative, is_positive, is_zero, lt_or_le, sign}
 use Rattle.plane.proofs.Points.{whole_is_point}
 use Rattle.plane.proofs.Segments.{on_is_straight}
-use Rattle.plane.proofs.Turns.{areas_add, determinant_same_ends, determinant_swap_last, straight_swap_first, IsCombination, combination_of}
-use Rattle.plane.proofs.Turns.{determinant_along, weights_positive}
-use Rattle.plane.specs.Point.{Point, Triple, whole}
+use Rattle.plane.proofs.Turns.{areas_add, determinant_same_ends, determinant_swap_last, straight_swap_first, combination_of}
+use Rattle.plane.proofs.Turns.{weights_positive}
+use Rattle.plane.specs.Point.{Point, whole}
 use Rattle.plane.specs.Segment.{On}
 use Rattle.plane.specs.Turn.{IsStraight, determinant}
-use Rattle.ring_laws.proofs.Triangles.{negative_at_most}
-use Rattle.funnels.proofs.Bends.{zero_of_opposite, turning_four}
-use Rattle.funnels.proofs.Chains.ApexSigns.{behind_too, both_at_most, far_below, from_relations, mean_turned, same_sign, same_sign_opposite}
+use Rattle.funnels.proofs.Bends.{turning_along, turning_four, turning_straight}
+use Rattle.funnels.proofs.Chains.ApexSigns.{behind_too, both_at_most, far_below, from_relations, same_sign, same_sign_opposite}
 use Rattle.funnels.proofs.Funnels.{level, lower, four_on_line, straight_on_line}
 use Rattle.funnels.specs.Fanned.{turning}
 use Rattle.funnels.specs.Funnel.{Reaches, height}
@@ -34,24 +33,11 @@ module _ (l r o p y : Point) (straight : IsStraight (whole o) (whole p) (whole y
 
 -- ---- between the two edges
 
--- directions to a mean of two points are means
-turning_along : (side : Bool) (o q : Point) (y a b : Triple) (c : IsCombination y a b)
-    → c.k *ℤ turning side o (whole q) y ≡ c.l *ℤ turning side o (whole q) a +ℤ c.m *ℤ turning side o (whole q) b
-turning_along true o q y a b c = determinant_along y a b c (whole o) (whole q)
-turning_along false o q y a b c =
-    let far = determinant (whole o) (whole q) in
-    mean_turned c.k c.l c.m (far y) (far a) (far b) (determinant_along y a b c (whole o) (whole q))
-
--- straight, as the turning says it
-straight_of : (side : Bool) (o p y : Point) → turning side o (whole p) (whole y) ≡ pos 0 → IsStraight (whole o) (whole p) (whole y)
-straight_of true o p y e = e
-straight_of false o p y e = zero_of_opposite e
-
 module _ (side : Bool) (l r o q y : Point) (beyond : On (whole y) (whole l) (whole r) ⊎ (height l r (whole y) <ℤ pos 0)) where
   -- a point beyond the diagonal, or on it, is not above it
   not_above : height l r (whole y) ≤ℤ pos 0
   not_above = elim beyond [
-    | inr below ↦ negative_at_most below
+    | inr below ↦ weak_order below
     | inl on ↦
         let straight = on_is_straight (whole y) (whole l) (whole r) (whole_is_point y) (whole_is_point l) (whole_is_point r) on in
         zero_not_positive (straight_swap_first (whole l) (whole r) (whole y) straight)
@@ -62,7 +48,8 @@ module _ (side : Bool) (l r o q y : Point) (beyond : On (whole y) (whole l) (who
       → turning side o (whole q) (whole r) <ℤ pos 0 → turning side o (whole q) (whole y) <ℤ pos 0
   behind_between on at_l at_r =
       let c = combination_of (whole y) (whole l) (whole r) (whole_is_point y) (whole_is_point l) (whole_is_point r) on in
-      mean_negative _ _ _ _ _ _ c.k_positive c.l_nonnegative c.m_nonnegative (turning_along side o q (whole y) (whole l) (whole r) c)
+      mean_negative _ _ _ _ _ _ c.k_positive c.l_nonnegative c.m_nonnegative
+      (turning_along side (whole y) (whole l) (whole r) c o (whole q))
       (weights_positive (whole y) (whole l) (whole r) c (whole_is_point y)) at_l at_r
 
   module _ (p s : Point) (reach : Reaches o p l r) (differ : ¬ (o ≡ p)) (up : pos 0 ≤ℤ height l r (whole p))
@@ -71,7 +58,7 @@ module _ (side : Bool) (l r o q y : Point) (beyond : On (whole y) (whole l) (who
     -- where y is in line with the edge to p, it is behind q with p,
     behind_on_edge : turning side o (whole p) (whole y) ≡ pos 0 → turning side o (whole q) (whole y) <ℤ pos 0
     behind_on_edge e =
-        let straight = straight_of side o p y e in
+        let straight = turning_straight side o (whole p) (whole y) e in
         elim (lt_or_le (height l r (whole p)) (height l r (whole o))) [
           | inl falls ↦ same_turn l r o p y straight side q falls (far_below not_above up falls) at_p
           | inr stays ↦

@@ -1,81 +1,78 @@
--- A bend from one end of a shared side to the other goes on to each point of the triangle beyond, and turns the same way.
-use Rattle.std.proofs.Common.{◌≡◌, ◌⊎◌, inl, inr, true, false, refl, sym, ℕ, ◌<◌, pos, ◌<ℤ◌, List, length}
-use Rattle.integer_algebra.proofs.SignSteps.{opposite_not_positive, turned_positive, zero_not_negative, zero_not_positive}
+-- At an end of a shared side, and a point of the triangle beyond it: a bend from the end to the other one goes on to the point, and turns
+-- the same way; and a fan from a point round to the side makes a bend, where the way over the end turns off past the side.
+use Rattle.std.proofs.Common.{◌≡◌, Bool, refl, sym, ℕ, ◌<◌, pos, ◌<ℤ◌, ◌≤ℤ◌, List, length}
+use Rattle.integer_algebra.proofs.SignSteps.{not_both, turned_positive, zero_not_positive}
+use Rattle.integer_algebra.proofs.Signs.{is_negative, is_positive, is_zero, sign}
 use Rattle.plane.proofs.Points.{same_whole, whole_is_point}
-use Rattle.plane.proofs.Segments.{on_is_straight, on_reversed}
-use Rattle.plane.proofs.Turns.{determinant_swap_first}
-use Rattle.plane.specs.Point.{Point, whole}
-use Rattle.plane.specs.Segment.{On}
-use Rattle.plane.specs.Turn.{IsStraight}
+use Rattle.plane.specs.Point.{IsSame, Point, whole}
 use Rattle.rings.specs.Bend.{IsBend}
 use Rattle.rings.specs.Ring.{vertex}
-use Rattle.meshes.specs.Fits.{Fits, IsInTri, IsSideOfTwo}
-use Rattle.meshes.specs.Side.{HasSide, tri_at}
+use Rattle.rings.specs.Sees.{Sees}
+use Rattle.meshes.specs.Fits.{Fits, IsInTri}
+use Rattle.meshes.specs.Side.{tri_at}
 use Rattle.meshes.specs.declared.tri.Tri.{Tri}
-use Rattle.funnels.proofs.Bends.{grown_bend, grown_bend_clockwise, grown_turning, grown_turning_clockwise, AreOnRay, turning_to_ray, wider_bend}
-use Rattle.funnels.proofs.Chains.BeyondSide.{is_behind}
-use Rattle.funnels.specs.Fanned.{turning}
-use Rattle.funnels.specs.Funnel.{height}
+use Rattle.funnels.proofs.Bends.{AreOnRay, bend_of_fan, corner_in_ring, corner_turns, grown_bend, grown_turning, in_angle, last_step}
+use Rattle.funnels.proofs.Bends.{on_after, on_ray_back}
+use Rattle.funnels.proofs.Bends.{turning_differs_first, turning_swap, turning_to_ray, wider_bend}
+use Rattle.funnels.proofs.Vertices.{IsSharedSide, fitted_counterclockwise, fitted_long, fitted_simple}
+use Rattle.funnels.specs.Corner.{HasCornerOn, IsInAngle}
+use Rattle.funnels.specs.Fanned.{IsFanned, turning}
 
--- a point between two points, other than the first, is on the ray from the first to the last
-on_ray : (v b y : Point) → ¬ (v ≡ b) → ¬ (v ≡ y) → On (whole y) (whole v) (whole b) → AreOnRay (whole v) (whole b) (whole y)
-on_ray v b y differ other on = record {
-  first_rational = whole_is_point b;
-  last_rational = whole_is_point y;
-  first_differs = λ same. differ (sym (same_whole b v same));
-  last_differs = λ same. other (sym (same_whole y v same));
-  on_ray = inr on;
-}
+module _ (corners : List Point) (tris : List Tri) (fits : Fits corners tris) (k : ℕ) (within : k < length tris)
+    (side : Bool) (before v after : ℕ) (corner : HasCornerOn side (tri_at tris k) before v after)
+    (y : Point) (inside : IsInTri corners (tri_at tris k) (whole y)) where
+  -- the end, and the other one
+  abbrev V : Point
+  V = vertex corners v
 
--- a point between two points is in line with them
-in_line : (y a b : Point) → On (whole y) (whole a) (whole b) → IsStraight (whole a) (whole b) (whole y)
-in_line y a b on = on_is_straight (whole y) (whole a) (whole b) (whole_is_point y) (whole_is_point a) (whole_is_point b) on
+  abbrev A : Point
+  A = vertex corners after
 
-module _ (corners : List Point) (tris : List Tri) (fits : Fits corners tris) (k i j m : ℕ) (within : k < length tris)
-    (first : HasSide (tri_at tris k) i j) (next : HasSide (tri_at tris k) j m) (last : HasSide (tri_at tris k) m i) (y : Point)
-    (inside : IsInTri corners (tri_at tris k) (whole y)) where
-  -- a point of the triangle is on the side, or beyond it
-  pub on_or_beyond : On (whole y) (whole (vertex corners i)) (whole (vertex corners j))
-      ⊎ (height (vertex corners i) (vertex corners j) (whole y) <ℤ pos 0)
-  on_or_beyond =
-      (is_behind corners (tri_at tris k) (fits.triangles k within).counterclockwise i j first (vertex corners i) (vertex corners j) refl
-      refl).beyond (whole y) (whole_is_point y) inside
+  -- y is within the angle at the end
+  angle : IsInAngle side corners before v after (whole y)
+  angle = in_angle corners tris fits k within side before v after corner (whole y) inside
 
-  module _ (e g : ℕ) (shared : IsSideOfTwo tris i j e g) (differ : ¬ (vertex corners i ≡ vertex corners j)) (q : Point) where
-    -- a bend at the left end,
-    pub bend_at_left_end : ¬ (vertex corners i ≡ y) → IsBend corners q (vertex corners i) (vertex corners j)
-        → turning true (vertex corners i) (whole q) (whole (vertex corners j)) <ℤ pos 0
-        → (turning true (vertex corners i) (whole q) (whole y) <ℤ pos 0) × IsBend corners q (vertex corners i) y
-    bend_at_left_end other bend wide =
-        let l = vertex corners i in
-        let r = vertex corners j in
-        elim on_or_beyond [
-          | inl on ↦
-              let turns = (turning_to_ray l true (whole r) (whole y) (whole q) (on_ray l r y differ other on)).negative wide in
-              (turns, wider_bend true corners q l r y bend wide turns (zero_not_positive (in_line y l r on)))
-          | inr below ↦
-              let left = turned_positive (determinant_swap_first (whole r) (whole l) (whole y)) below in (
-                grown_turning corners tris fits k i m j within first last e g q y inside (inl shared) bend wide left,
-                grown_bend corners tris fits k i m j within first last e g q y inside (inl shared) bend wide left,
-              )
-        ]
+  -- in line with the side, it is on the ray along it
+  on_ray : ¬ IsSame (whole y) (whole V) → turning side V (whole A) (whole y) ≡ pos 0 → AreOnRay (whole V) (whole A) (whole y)
+  on_ray differs level = on_ray_back (record {
+    first_rational = whole_is_point y;
+    last_rational = whole_is_point A;
+    first_differs = differs;
+    last_differs = turning_differs_first side V (whole A) (whole (vertex corners before))
+        (corner_turns corners tris fits k within side before v after corner);
+    on_ray = on_after corners tris fits k within side before v after corner (whole y) (whole_is_point y) differs level angle.to_before;
+  })
 
-    -- or at the right one
-    pub bend_at_right_end : ¬ (vertex corners j ≡ y) → IsBend corners q (vertex corners j) (vertex corners i)
-        → turning false (vertex corners j) (whole q) (whole (vertex corners i)) <ℤ pos 0
-        → (turning false (vertex corners j) (whole q) (whole y) <ℤ pos 0) × IsBend corners q (vertex corners j) y
-    bend_at_right_end other bend wide =
-        let l = vertex corners i in
-        let r = vertex corners j in
-        elim on_or_beyond [
-          | inl on ↦
-              let back = on_reversed (whole y) (whole l) (whole r) on in
-              let ray = on_ray r l y (λ s. differ (sym s)) other back in
-              let turns = (turning_to_ray r false (whole l) (whole y) (whole q) ray).negative wide in
-              let level = opposite_not_positive (zero_not_negative (in_line y r l back)) in
-              (turns, wider_bend false corners q r l y bend wide turns level)
-          | inr below ↦ (
-            grown_turning_clockwise corners tris fits k j i m within next first e g q y inside (inr shared) bend wide below,
-            grown_bend_clockwise corners tris fits k j i m within next first e g q y inside (inr shared) bend wide below,
-          )
-        ]
+  -- a bend at the end goes on to y,
+  pub bend_goes_on : IsSharedSide tris v after → ¬ (V ≡ y) → (q : Point) → IsBend corners q V A
+      → turning side V (whole q) (whole A) <ℤ pos 0 → (turning side V (whole q) (whole y) <ℤ pos 0) × IsBend corners q V y
+  bend_goes_on shared other q bend wide = elim (sign (turning side V (whole A) (whole y))) [
+    | is_negative h ↦ absurd (not_both h angle.from_after)
+    | is_zero h ↦
+        let ray = on_ray (λ same. other (sym (same_whole y V same))) h in
+        let turns = (turning_to_ray V side (whole A) (whole y) (whole q) ray).negative wide in
+        (turns, wider_bend side corners q V A y bend wide turns (zero_not_positive h))
+    | is_positive h ↦ (
+      grown_turning corners tris fits k within side before v after corner shared q y bend wide inside h,
+      grown_bend corners tris fits k within side before v after corner shared q y bend wide inside h,
+    )
+  ]
+
+  module _ (x : Point) (behind : turning side V (whole x) (whole y) <ℤ pos 0) (reach : pos 0 ≤ℤ turning side V (whole x) (whole A)) where
+    -- where the way from x over the end to y turns off past the side, y is beyond that,
+    past_side : pos 0 <ℤ turning side V (whole A) (whole y)
+    past_side = elim (sign (turning side V (whole A) (whole y))) [
+      | is_negative h ↦ absurd (not_both h angle.from_after)
+      | is_zero h ↦
+          let differs = turning_differs_first side V (whole y) (whole x)
+          (turned_positive (turning_swap side V (whole x) (whole y)) behind) in
+          absurd (not_both behind ((turning_to_ray V side (whole A) (whole y) (whole x) (on_ray differs h)).not_negative reach))
+      | is_positive h ↦ h
+    ]
+
+    -- so a fan from x makes a bend there
+    pub bend_from_fan : IsFanned side corners V (whole x) (whole A) → ¬ (x ≡ V) → Sees corners (whole V) (whole y) → IsBend corners x V y
+    bend_from_fan fanned differ seen =
+        bend_of_fan corners (fitted_simple corners tris fits) (fitted_long corners tris fits) (fitted_counterclockwise corners tris fits) v
+        (corner_in_ring corners tris fits k within side before v after corner) side V refl x y (whole A) fanned
+        (last_step corners tris fits k within side before v after corner (whole y) inside past_side) (whole_is_point y, seen) differ behind

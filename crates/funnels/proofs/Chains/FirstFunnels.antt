@@ -1,60 +1,44 @@
 -- A walk begins in a triangle with a source s: the open funnel of s at a side of the triangle that is shared.
-use Rattle.std.proofs.Common.{◌≡◌, ◌⊎◌, inl, inr, refl, ◌∙◌, sym, ap, List, [], ◌∷◌, length, ℕ, ◌<◌, arith, true, false, pos, ◌≤ℤ◌}
-use Rattle.plane.proofs.Points.{same_whole, whole_is_point}
+use Rattle.std.proofs.Common.{◌≡◌, inl, inr, refl, ◌∙◌, sym, ap, List, [], ◌∷◌, length, ℕ, ◌<◌, arith, true, false, pos, ◌≤ℤ◌}
 use Rattle.plane.specs.Point.{Point, whole}
 use Rattle.plane.specs.Turn.{determinant}
 use Rattle.rings.specs.Ring.{vertex}
 use Rattle.meshes.proofs.Sides.{left_apart}
-use Rattle.meshes.specs.Fits.{Fits, IsInTri, IsSideOfTwo}
+use Rattle.meshes.proofs.TreeLeaves.{turns_left}
+use Rattle.meshes.specs.Fits.{Fits, IsInTri}
 use Rattle.meshes.specs.Side.{HasSide, tri_at}
 use Rattle.meshes.specs.declared.tri.Tri.{Tri}
-use Rattle.funnels.proofs.Bends.{in_angle, open_toward, fan_begins, fan_begins_clockwise}
+use Rattle.funnels.proofs.Bends.{fan_begins_in, in_angle}
 use Rattle.funnels.proofs.Chains.FirstSights.{bent_from_apex, left_in, right_in, sight_of, source_in, three_in, two_in}
 use Rattle.funnels.proofs.Chains.LastPoints.{no_last}
 use Rattle.funnels.proofs.Funnels.{funnel_between, funnel_from_left, funnel_from_right}
-use Rattle.funnels.proofs.Vertices.{has_corners}
+use Rattle.funnels.proofs.Vertices.{IsSharedSide, shared_side_back}
 use Rattle.funnels.specs.Fanned.{IsFanned}
 use Rattle.funnels.specs.OpenFunnel.{IsOpenFunnel}
 
--- a side that is shared one way is shared the other way
-swapped : {tris : List Tri} {i j x y : ℕ} → IsSideOfTwo tris i j x y ⊎ IsSideOfTwo tris j i x y
-    → IsSideOfTwo tris j i x y ⊎ IsSideOfTwo tris i j x y
-swapped (inl shared) = inr shared
-swapped (inr shared) = inl shared
-
 module _ (corners : List Point) (tris : List Tri) (fits : Fits corners tris) (k i j c : ℕ) (within : k < length tris)
     (side : HasSide (tri_at tris k) j i) (next : HasSide (tri_at tris k) i c) (last : HasSide (tri_at tris k) c j)
-    (x y : ℕ) (shared : IsSideOfTwo tris i j x y ⊎ IsSideOfTwo tris j i x y)
+    (shared : IsSharedSide tris i j)
     (s : Point) (in_s : IsInTri corners (tri_at tris k) (whole s)) where
   -- ---- the ends of the side
 
   -- they differ,
   ends_differ : ¬ (vertex corners i ≡ vertex corners j)
   ends_differ same =
-      let t = tri_at tris k in
-      let corner = has_corners corners t (fits.triangles k within).counterclockwise j i c side next in
-      (left_apart (whole (vertex corners j)) (whole (vertex corners i)) (whole (vertex corners c)) corner.left).0
-      (ap (λ p. whole p) (sym same))
+      let left = turns_left corners (tri_at tris k) (fits.triangles k within).counterclockwise j i c side next in
+      (left_apart (whole (vertex corners j)) (whole (vertex corners i)) (whole (vertex corners c)) left).0 (ap (λ p. whole p) (sym same))
 
   -- the way over the source does not turn to the right,
   turn_at_source : pos 0 ≤ℤ determinant (whole (vertex corners i)) (whole s) (whole (vertex corners j))
-  turn_at_source = (in_angle corners tris fits k within i j c next side (whole s) in_s).1
+  turn_at_source = (in_angle corners tris fits k within true j i c (side, next) (whole s) in_s).to_before
 
   -- at the left end the ring is open from the source to the right end,
   open_left : ¬ (s ≡ vertex corners i) → IsFanned true corners (vertex corners i) (whole s) (whole (vertex corners j))
-  open_left differ =
-      let angle = in_angle corners tris fits k within i j c next side (whole s) in_s in
-      fan_begins corners tris fits k i j c within next side x y shared (whole s)
-      (open_toward corners tris fits k within i j c next side (whole s) (whole_is_point s) in_s)
-      (λ same. differ (same_whole s (vertex corners i) same)) angle.0 angle.1
+  open_left = fan_begins_in corners tris fits k within true j i c (side, next) shared s in_s
 
   -- and at the right end to the left end
   open_right : ¬ (s ≡ vertex corners j) → IsFanned false corners (vertex corners j) (whole s) (whole (vertex corners i))
-  open_right differ =
-      let angle = in_angle corners tris fits k within j c i side last (whole s) in_s in
-      fan_begins_clockwise corners tris fits k j c i within side last x y (swapped shared) (whole s)
-      (open_toward corners tris fits k within j c i side last (whole s) (whole_is_point s) in_s)
-      (λ same. differ (same_whole s (vertex corners j) same)) angle.0 angle.1
+  open_right = fan_begins_in corners tris fits k within false i j c (side, last) (shared_side_back shared) s in_s
 
   -- ---- the funnels
 

@@ -1,28 +1,31 @@
 -- The way to a point beyond the diagonal bends at the point of the funnel from which it is reached.
-use Rattle.std.proofs.Common.{◌≡◌, inl, inr, Bool, refl, sym, subst, ap, List, length, ℕ, ◌+◌, ◌-◌, ◌<◌, ◌≤◌, pos, ◌<ℤ◌, arith}
+use Rattle.std.proofs.Common.{◌≡◌, inl, inr, Bool, true, false, refl, sym, subst, ap, List, length, ℕ, ◌+◌, ◌-◌, ◌<◌, pos, ◌<ℤ◌, ◌≤ℤ◌}
+use Rattle.std.proofs.Common.{arith}
 use Rattle.std.proofs.lemmas.Bool.{cases_lt}
+use Rattle.integer_algebra.proofs.SignSteps.{at_least_unless, at_most_unless, turned_not_negative}
+use Rattle.plane.proofs.Turns.{determinant_swap_first}
 use Rattle.plane.specs.Point.{Point, whole}
 use Rattle.rings.specs.Bend.{IsBend}
 use Rattle.rings.specs.Chain.{point_at}
-use Rattle.rings.specs.Orientation.{IsCounterclockwise}
 use Rattle.rings.specs.Ring.{vertex}
 use Rattle.rings.specs.Sees.{Sees}
-use Rattle.rings.specs.Simple.{IsSimple}
-use Rattle.meshes.specs.Fits.{Fits, IsInTri, IsSideOfTwo}
+use Rattle.meshes.specs.Fits.{Fits, IsInTri}
 use Rattle.meshes.specs.Side.{HasSide, tri_at}
 use Rattle.meshes.specs.declared.tri.Tri.{Tri}
-use Rattle.funnels.proofs.Chains.DiagonalFans.{bend_from_left, bend_from_right}
+use Rattle.funnels.proofs.Chains.ApexSides.{back_of_left, back_of_right}
+use Rattle.funnels.proofs.Chains.DiagonalEnds.{bend_from_fan}
 use Rattle.funnels.proofs.Chains.ReachedApex.{apex_bends}
 use Rattle.funnels.proofs.Chains.ReachedSides.{bend_on_left, bend_on_right}
 use Rattle.funnels.proofs.Chains.WaysBefore.{IsWayBefore}
 use Rattle.funnels.proofs.Funnels.{left_of_way, right_of_way, turns_left, turns_right}
+use Rattle.funnels.proofs.Vertices.{IsSharedSide}
 use Rattle.funnels.specs.Fanned.{turning}
 use Rattle.funnels.specs.Funnel.{IsFunnel, IsReachedFrom, Reaches}
 use Rattle.funnels.specs.OpenFunnel.{HasOpenEnds, IsApexSide, IsBentFunnel, IsLastOf}
 
 module _ (corners : List Point) (tris : List Tri) (fits : Fits corners tris) (k i j m : ℕ) (within : k < length tris)
-    (first : HasSide (tri_at tris k) i j) (next : HasSide (tri_at tris k) j m) (last : HasSide (tri_at tris k) m i) (e g : ℕ)
-    (shared : IsSideOfTwo tris i j e g) (before ns : List Point) (a : ℕ) (f : IsFunnel ns a (vertex corners i) (vertex corners j))
+    (first : HasSide (tri_at tris k) i j) (next : HasSide (tri_at tris k) j m) (last : HasSide (tri_at tris k) m i)
+    (shared : IsSharedSide tris i j) (before ns : List Point) (a : ℕ) (f : IsFunnel ns a (vertex corners i) (vertex corners j))
     (bent : IsBentFunnel corners before ns a) (ends : HasOpenEnds corners before ns a (vertex corners i) (vertex corners j)) (h : ℕ)
     (y : Point) (inside : IsInTri corners (tri_at tris k) (whole y)) (reached : IsReachedFrom ns a h (whole y)) where
   -- the way over the apex turns on the side on which the apex has an edge
@@ -31,11 +34,10 @@ module _ (corners : List Point) (tris : List Tri) (fits : Fits corners tris) (k 
   apex_turns other same q comes =
       let at_apex = subst (λ n. IsReachedFrom ns a n (whole y)) same reached in
       let (side, is, bends) =
-      apex_bends corners tris fits k i j m within first next last e g shared before ns a f bent ends y inside at_apex other q comes in
+      apex_bends corners tris fits k i j m within first next last shared before ns a f bent ends y inside at_apex other q comes in
       (side, is, bends.0)
 
-  module _ (simple : IsSimple corners) (three : 3 ≤ length corners) (runs : IsCounterclockwise corners)
-      (seen : Sees corners (whole (point_at ns h)) (whole y)) where
+  module _ (seen : Sees corners (whole (point_at ns h)) (whole y)) where
     -- a bend at the left end of the diagonal,
     bend_at_first : 0 ≡ h → h < a → IsBend corners (point_at ns (h + 1)) (point_at ns h) y
     bend_at_first none on_left =
@@ -48,10 +50,12 @@ module _ (corners : List Point) (tris : List Tri) (fits : Fits corners tris) (k 
         let reach = f.reaches (h + 1) x (point_at ns h) (omega arith) (omega arith) (inl (omega arith, refl, ap (point_at ns) place)) in
         let fanned = ends.left x (inl (omega arith, ap (λ n. point_at ns (n + 1)) (sym none))) in
         subst (λ v. IsBend corners x v y) (sym is_left)
-        (bend_from_left corners tris fits k i j m within first next last y inside simple three runs x fanned
+        (bend_from_fan corners tris fits k within true m i j (last, first) y inside x
+        (back_of_left x l y (subst (λ v. turns_left x v y) is_left (left_of_way ns a l r f h (whole y) reached on_left)))
+        (turned_not_negative (determinant_swap_first (whole x) (whole l) (whole r))
+        (at_most_unless (subst (λ v. Reaches x v l r) is_left reach).not_left)) fanned
         (λ same. f.differ h (omega arith) (subst (λ (v : Point). v ≡ x) (sym is_left) (sym same)))
-        (subst (λ v. Reaches x v l r) is_left reach) (subst (λ (v : Point). Sees corners (whole v) (whole y)) is_left seen)
-        (subst (λ v. turns_left x v y) is_left (left_of_way ns a l r f h (whole y) reached on_left)))
+        (subst (λ (v : Point). Sees corners (whole v) (whole y)) is_left seen))
 
     -- and at the right end
     bend_at_last : h + 1 ≡ length ns → a < h → IsBend corners (point_at ns (h - 1)) (point_at ns h) y
@@ -67,10 +71,11 @@ module _ (corners : List Point) (tris : List Tri) (fits : Fits corners tris) (k 
         let fanned = ends.right x (inl (omega arith, ap (point_at ns) before_it)) in
         let differ = subst (λ n. ¬ (x ≡ point_at ns n)) after_it (f.differ (h - 1) (omega arith)) in
         subst (λ v. IsBend corners x v y) (sym is_right)
-        (bend_from_right corners tris fits k i j m within first next last y inside simple three runs x fanned
-        (subst (λ (v : Point). ¬ (x ≡ v)) is_right differ) (subst (λ v. Reaches x v l r) is_right reach)
-        (subst (λ (v : Point). Sees corners (whole v) (whole y)) is_right seen)
-        (subst (λ v. turns_right x v y) is_right (right_of_way ns a l r f h (whole y) reached on_right)))
+        (bend_from_fan corners tris fits k within false m j i (next, first) y inside x
+        (back_of_right x r y (subst (λ v. turns_right x v y) is_right (right_of_way ns a l r f h (whole y) reached on_right)))
+        (subst (λ d. pos 0 ≤ℤ d) (determinant_swap_first (whole r) (whole x) (whole l))
+        (at_least_unless (subst (λ v. Reaches x v l r) is_right reach).not_right)) fanned
+        (subst (λ (v : Point). ¬ (x ≡ v)) is_right differ) (subst (λ (v : Point). Sees corners (whole v) (whole y)) is_right seen))
 
     -- so there is one at each point from which another is reached
     pub reached_bends : ¬ (point_at ns h ≡ y) → (x : Point) → IsWayBefore before ns a h x → IsBend corners x (point_at ns h) y
@@ -93,5 +98,5 @@ module _ (corners : List Point) (tris : List Tri) (fits : Fits corners tris) (k 
         let at_apex = subst (λ n. IsReachedFrom ns a n (whole y)) same reached in
         let not_apex = subst (λ n. ¬ (point_at ns n ≡ y)) same other in
         let (side, is, bends) =
-        apex_bends corners tris fits k i j m within first next last e g shared before ns a f bent ends y inside at_apex not_apex x comes in
+        apex_bends corners tris fits k i j m within first next last shared before ns a f bent ends y inside at_apex not_apex x comes in
         subst (λ n. IsBend corners x (point_at ns n) y) (sym same) bends.1

@@ -1,10 +1,9 @@
 -- The bend on the way to a point that is reached from a place of a funnel off its apex, where the place is no end.
 use Rattle.std.proofs.Common.{◌≡◌, inl, inr, true, false, refl, ap, List, length, ℕ, ◌+◌, ◌-◌, ◌<◌, arith}
-use Rattle.integer_algebra.proofs.SignSteps.{opposite_not_positive, at_most_unless}
+use Rattle.integer_algebra.proofs.SignSteps.{at_least_unless, at_most_unless, opposite_not_positive}
 use Rattle.plane.specs.Point.{Point, whole}
 use Rattle.rings.specs.Bend.{IsBend}
 use Rattle.rings.specs.Chain.{point_at}
-use Rattle.ring_laws.proofs.Triangles.{not_negative as at_least_zero}
 use Rattle.funnels.proofs.Bends.{wider_bend}
 use Rattle.funnels.proofs.Chains.ApexSides.{back_of_left, back_of_right}
 use Rattle.funnels.proofs.Funnels.{window_of_reached, left_of_way, right_of_way}
@@ -33,5 +32,5 @@ module _ (ring before ns : List Point) (a : ℕ) (l r : Point) (f : IsFunnel ns 
       wider_bend false ring x v z y (bent.right_bends h on_right more)
       (back_of_right x v z (f.right_turns h on_right more))
       (back_of_right x v y (right_of_way ns a l r f h (whole y) reached on_right))
-      (opposite_not_positive (at_least_zero ((window_of_reached ns a h (whole y) reached).not_right v z more
+      (opposite_not_positive (at_least_unless ((window_of_reached ns a h (whole y) reached).not_right v z more
       (inr (omega arith, ap (point_at ns) e, refl)))))

@@ -2,12 +2,13 @@
 use Rattle.std.proofs.Common.{◌≡◌, ◌⊎◌, inl, inr, true, refl, sym, subst, ℕ, ◌<◌, ℤ, pos, ◌<ℤ◌, ◌≤ℤ◌, List, length, arith}
 use Rattle.std.proofs.lemmas.Int.{ints}
 use Rattle.std.specs.List.{Contains}
+use Rattle.integer_algebra.proofs.SignSteps.{at_least_unless}
 use Rattle.integer_algebra.proofs.Signs.{lt_or_le}
 use Rattle.plane.proofs.Points.{whole_is_point}
 use Rattle.plane.specs.Point.{Point, whole}
 use Rattle.plane.specs.Turn.{determinant}
 use Rattle.rings.specs.Ring.{vertex}
-use Rattle.ring_laws.proofs.Triangles.{not_negative, on_first_side, on_second_side, on_third_side}
+use Rattle.ring_laws.proofs.Triangles.{on_first_side, on_second_side, on_third_side}
 use Rattle.meshes.proofs.Parts.{inside_off_edges, vertex_on_ring}
 use Rattle.meshes.specs.Fits.{FitsPiece, IsInTri, IsStrictlyInTri}
 use Rattle.meshes.specs.Side.{HasSide, tri_at}
@@ -47,7 +48,7 @@ end_is_corner t i j (inr (inr s)) = inl s.1
 
 -- what is 0 or more on one side of a line, and not more, is on the line
 zero_of : (z : ℤ) → ¬ (z <ℤ pos 0) → z ≤ℤ pos 0 → z ≡ pos 0
-zero_of z h k = let l = not_negative h in omega (arith, ints)
+zero_of z h k = let l = at_least_unless h in omega (arith, ints)
 
 -- ---- vertices in triangles
 

@@ -1,46 +1,42 @@
 -- There is no bend between two rays within the angle of a triangle of a mesh: the ring turns there as the triangle does.
-use Rattle.std.proofs.Common.{◌≡◌, inl, inr, true, sym, subst, ap, ◌∙◌, ℕ, ◌+◌, ◌<◌, pos, ◌<ℤ◌, ◌≤ℤ◌, List, length, arith}
-use Rattle.std.proofs.lemmas.Int.{ints}
+use Rattle.std.proofs.Common.{◌≡◌, inl, inr, true, sym, subst, ap, ◌∙◌, ℕ, ◌+◌, ◌<◌, pos, ◌<ℤ◌, ◌≤ℤ◌, List, length}
 use Rattle.std.specs.List.{range_with_len}
 use Rattle.integer_algebra.proofs.SignSteps.{weak}
 use Rattle.plane.proofs.Segments.{on_last_end}
-use Rattle.plane.proofs.Turns.{determinant_same_last}
 use Rattle.plane.specs.Point.{Point, whole}
 use Rattle.plane.specs.Segment.{On}
-use Rattle.plane.specs.Turn.{IsLeft, determinant}
+use Rattle.plane.specs.Turn.{IsLeft}
 use Rattle.rings.specs.Bend.{AreNeighbours, IsBend}
 use Rattle.rings.specs.Orientation.{IsReflex, turn_at}
 use Rattle.rings.specs.Ring.{vertex}
 use Rattle.meshes.proofs.Parts.{one_vertex, side_numbers}
-use Rattle.meshes.proofs.Sides.{piece_points_all}
+use Rattle.meshes.proofs.TreeLeaves.{turns_left}
 use Rattle.meshes.specs.Fits.{Fits, IsPieceEdge}
 use Rattle.meshes.specs.Side.{tri_at}
 use Rattle.meshes.specs.declared.tri.Tri.{Tri}
-use Rattle.funnels.proofs.Bends.{not_reflex, HasTwoRays, corner_has_two_rays}
+use Rattle.funnels.proofs.Bends.{corner_in_ring, corner_turns, not_ahead_of_itself, not_reflex, two_rays}
 use Rattle.funnels.proofs.Corners.CornerNeighbours.{IsBesideCorner, neighbour_within}
-use Rattle.funnels.proofs.Corners.CornerSides.{corner_turns}
 use Rattle.funnels.proofs.Corners.PieceEdges.{in_range}
 use Rattle.funnels.proofs.Corners.RingSteps.{step_neighbours, step_vertex}
 use Rattle.funnels.proofs.Corners.WithinCones.{within_cone}
 use Rattle.ring_laws.proofs.Vertices.{neighbour_is}
-use Rattle.funnels.proofs.Vertices.{corners_of, fitted_counterclockwise, fitted_long, fitted_simple}
+use Rattle.funnels.proofs.Vertices.{fitted_counterclockwise, fitted_long, fitted_simple}
 use Rattle.funnels.specs.Corner.{HasCornerOn, IsInAngle}
+use Rattle.funnels.specs.Fanned.{turning}
 
 module _ (corners : List Point) (tris : List Tri) (fits : Fits corners tris) (k before v after : ℕ) (within : k < length tris)
     (corner : HasCornerOn true (tri_at tris k) before v after) where
   -- the three corners turn left
-  turns_left : IsLeft (whole (vertex corners before)) (whole (vertex corners v)) (whole (vertex corners after))
-  turns_left = (corners_of corners (range_with_len 0 (length corners)) tris fits k v before after within corner.1 corner.0).left
+  left_turn : IsLeft (whole (vertex corners before)) (whole (vertex corners v)) (whole (vertex corners after))
+  left_turn = turns_left corners (tri_at tris k) (fits.triangles k within).counterclockwise before v after corner.0 corner.1
 
   -- the corners beside v differ
   beside_differ : ¬ (vertex corners before ≡ vertex corners after)
   beside_differ same =
-      let V = whole (vertex corners v) in
+      let V = vertex corners v in
       let A = whole (vertex corners after) in
-      let turns = corner_turns corners tris fits k within true before v after corner in
-      let flat = determinant_same_last V A in
-      let left : pos 0 <ℤ determinant V A A = subst (λ (b : Point). pos 0 <ℤ determinant V A (whole b)) same turns in
-      omega (arith, ints)
+      not_ahead_of_itself true V A (subst (λ (b : Point). pos 0 <ℤ turning true V A (whole b)) same
+      (corner_turns corners tris fits k within true before v after corner))
 
   module _ (r : ℕ) (in_ring : r < length corners) (is : vertex corners r ≡ vertex corners v) where
     -- v is that number
@@ -61,7 +57,7 @@ module _ (corners : List Point) (tris : List Tri) (fits : Fits corners tris) (k 
           | inl same ↦
               weak (subst (λ (a : Point). IsLeft (whole a) (whole (vertex corners r)) (whole (vertex corners (r + 1)))) same
               (subst (λ (b : Point). IsLeft (whole (vertex corners before)) (whole b) (whole (vertex corners (r + 1)))) (sym is)
-              (subst (λ (c : Point). IsLeft (whole (vertex corners before)) (whole (vertex corners v)) (whole c)) (sym next) turns_left)))
+              (subst (λ (c : Point). IsLeft (whole (vertex corners before)) (whole (vertex corners v)) (whole c)) (sym next) left_turn)))
           | inr other ↦ absurd (beside_differ (other ∙ next))
         ]
 
@@ -78,19 +74,12 @@ module _ (corners : List Point) (tris : List Tri) (fits : Fits corners tris) (k 
     not_reflex_between x y (inr a) (inl b) differ = not_reflex_along a.1 b.1
     not_reflex_between x y (inr a) (inr b) differ = absurd (differ (a.0 ∙ sym b.0))
 
-  -- the two neighbours of v
-  rays : HasTwoRays corners (vertex corners v)
-  rays =
-      let piece = range_with_len 0 (length corners) in
-      let ends = side_numbers corners piece tris fits k v after within (inl corner.1) in
-      subst (λ ring. HasTwoRays ring (vertex corners v)) (piece_points_all corners)
-      (corner_has_two_rays corners piece tris fits (omega (arith, within)) v ends.0)
-
   -- there is no bend at v between rays within the angle there
   pub no_bend : (p q : Point) → IsInAngle true corners before v after (whole p) → IsInAngle true corners before v after (whole q)
       → ¬ IsBend corners p (vertex corners v) q
   no_bend p q in_p in_q bend =
-      let two = rays in
+      let two = two_rays corners (fitted_simple corners tris fits) (fitted_long corners tris fits) v
+      (corner_in_ring corners tris fits k within true before v after corner) in
       let beside = λ (u : Point) (n : AreNeighbours corners (vertex corners v) u).
       neighbour_within corners tris fits true k before v after within corner u n
       (within_cone corners before v after (whole p) (whole q) (whole u) in_p in_q (bend.in_cone u n)) in

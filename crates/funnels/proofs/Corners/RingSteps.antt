@@ -1,9 +1,8 @@
 -- The edges of a ring by the numbers of their ends, and the neighbours of a vertex on one ray.
 use Rattle.std.proofs.Common.{◌≡◌, ◌⊎◌, inl, inr, refl, sym, subst, ap, ◌∙◌, Bool, true, false, ℕ, ◌+◌, ◌%◌, ◌<◌, ◌≤◌, List, length, get_or, arith}
 use Rattle.std.proofs.Math.Nat.{mod-eq_of_lt, mod-lt}
-use Rattle.std.proofs.lemmas.List.{get_or_default}
 use Rattle.std.proofs.lemmas.List.FromFn.{get_or-range_with_len, length-range_with_len}
-use Rattle.std.specs.List.{Contains, range_with_len}
+use Rattle.std.specs.List.{range_with_len}
 use Rattle.std.specs.Prelude.{slice_index_or}
 use Rattle.plane.specs.Point.{Point, whole}
 use Rattle.plane.specs.Segment.{On}
@@ -20,14 +19,7 @@ IsRingStep false corners i j = IsPieceEdge (range_with_len 0 (length corners)) j
 
 -- ---- edges
 
--- a number of the piece of all vertices is below their count
-pub below_count : (n i : ℕ) → Contains (range_with_len 0 n) i → i < n
-below_count n i (r, h, e) =
-    let within : r < n = omega (arith, h, length-range_with_len 0 n) in
-    let is = get_or_default (range_with_len 0 n) r 0 i h ∙ e in
-    omega (arith, within, is, get_or-range_with_len 0 n r 0 within)
-
--- its edges go from i to the next number, round n
+-- the edges of the piece of all n vertices go from i to the next number, round n
 pub step_is : (n i j : ℕ) → IsPieceEdge (range_with_len 0 n) i j → (i < n) × (j ≡ (i + 1) % n)
 step_is n i j e =
     let piece = range_with_len 0 n in

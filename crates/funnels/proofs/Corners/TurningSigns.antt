@@ -1,57 +1,11 @@
--- Signs of turnings: of opposites, and those that follow from the relation of four directions. Over plain integers: ab is positive where
--- b is left of a.
-use Rattle.std.proofs.Common.{◌≡◌, inl, inr, ℤ, pos, neg_ℤ, ◌<ℤ◌, ◌≤ℤ◌, arith}
+-- More signs that follow from the relation of four directions, over plain integers: ab is positive where b is left of a.
+use Rattle.std.proofs.Common.{◌≡◌, ℤ, pos, ◌<ℤ◌, ◌≤ℤ◌, arith}
 use Rattle.std.proofs.lemmas.Int.{ints}
 use Rattle.integer_algebra.proofs.Certificate.{product_zero}
 use Rattle.integer_algebra.proofs.SignSteps.{not_both, weak}
-use Rattle.integer_algebra.proofs.Signs.{factor_nonnegative, factor_positive, is_negative, is_positive, is_zero, lt_or_le, mul_negative}
+use Rattle.integer_algebra.proofs.Signs.{factor_nonnegative, factor_positive, is_negative, is_positive, is_zero, mul_negative}
 use Rattle.integer_algebra.proofs.Signs.{mul_nonnegative, mul_positive, sign}
 use Rattle.funnels.proofs.Bends.{Relation}
-
--- ---- opposites, where they are written otherwise
-
--- the opposite of 0 is 0,
-pub turned_zero : {d e : ℤ} → e ≡ neg_ℤ d → d ≡ pos 0 → e ≡ pos 0
-turned_zero e h = omega (arith, ints)
-
--- that of a number that is not positive is not negative,
-pub turned_not_negative : {d e : ℤ} → e ≡ neg_ℤ d → d ≤ℤ pos 0 → pos 0 ≤ℤ e
-turned_not_negative e h = omega (arith, ints)
-
--- that of one that is not negative is not positive,
-pub turned_not_positive : {d e : ℤ} → e ≡ neg_ℤ d → pos 0 ≤ℤ d → ¬ (pos 0 <ℤ e)
-turned_not_positive e h k = omega (arith, ints)
-
--- and where it is not positive, the number is not negative
-pub turned_back_not_negative : {d e : ℤ} → e ≡ neg_ℤ d → e ≤ℤ pos 0 → pos 0 ≤ℤ d
-turned_back_not_negative e h = omega (arith, ints)
-
--- a number that is not negative, and whose opposite is not, is 0
-pub zero_of_both : {d e : ℤ} → e ≡ neg_ℤ d → pos 0 ≤ℤ d → pos 0 ≤ℤ e → d ≡ pos 0
-zero_of_both e h k = omega (arith, ints)
-
--- a number that is its own opposite is not positive
-pub own_not_positive : {d : ℤ} → d ≡ neg_ℤ d → ¬ (pos 0 <ℤ d)
-own_not_positive e h = omega (arith, ints)
-
--- where not x is positive and y not negative, and x is positive, y is negative
-pub negative_unless : {x y : ℤ} → pos 0 <ℤ x → ¬ ((pos 0 <ℤ x) × (pos 0 ≤ℤ y)) → y <ℤ pos 0
-negative_unless {x} {y} h n = elim (lt_or_le y (pos 0)) [ inl k ↦ k | inr k ↦ absurd (n (h, k)) ]
-
--- ---- four directions
-
--- four directions: b not right of a, c left of a and not right of b, and d right of b but not of a: then d is right of c
-pub right_of_third : {ab ac ad bc bd cd : ℤ} → Relation ab ac ad bc bd cd → pos 0 ≤ℤ ab → pos 0 <ℤ ac → pos 0 ≤ℤ ad → pos 0 ≤ℤ bc
-    → bd <ℤ pos 0 → cd <ℤ pos 0
-right_of_third {ab} {ac} {ad} {bc} {bd} {cd} e hab hac had hbc hbd = elim (lt_or_le cd (pos 0)) [
-  | inl h ↦ h
-  | inr h ↦
-      let first = mul_nonnegative ab cd hab h in
-      let middle = mul_negative ac bd hac hbd in
-      let last = mul_nonnegative ad bc had hbc in
-      let whole = e.holds in
-      absurd (omega (arith, ints))
-]
 
 -- four directions: b not right of a nor left of c, c left of a, d right of b but left of c: then c is left of b
 pub left_of_second : {ab ac ad bc bd cd : ℤ} → Relation ab ac ad bc bd cd → pos 0 ≤ℤ ab → pos 0 <ℤ ac → pos 0 ≤ℤ bc → bd <ℤ pos 0

@@ -1,13 +1,13 @@
 -- The closed cone between two rays within the angle of a triangle is within it.
-use Rattle.std.proofs.Common.{◌≡◌, inl, inr, true, ℕ, ℤ, pos, neg_ℤ, ◌+ℤ◌, ◌-ℤ◌, ◌*ℤ◌, ◌<ℤ◌, ◌≤ℤ◌, List, arith}
+use Rattle.std.proofs.Common.{◌≡◌, inl, inr, true, ℕ, ℤ, pos, ◌+ℤ◌, ◌-ℤ◌, ◌*ℤ◌, ◌<ℤ◌, ◌≤ℤ◌, List, arith}
 use Rattle.std.proofs.lemmas.Int.{ints}
 use Rattle.integer_algebra.proofs.Laws.{mul_comm}
-use Rattle.integer_algebra.proofs.Signs.{factor_nonnegative, lt_or_le, mul_nonnegative}
+use Rattle.integer_algebra.proofs.SignSteps.{at_least_unless, at_most_unless, turned_not_negative, turned_positive}
+use Rattle.integer_algebra.proofs.Signs.{factor_nonnegative, mul_nonnegative}
 use Rattle.plane.proofs.Turns.{determinant_swap_last}
 use Rattle.plane.specs.Cone.{IsInCone}
 use Rattle.plane.specs.Point.{Point, Triple, whole}
 use Rattle.rings.specs.Ring.{vertex}
-use Rattle.ring_laws.proofs.Triangles.{not_negative}
 use Rattle.funnels.proofs.Bends.{turning_four}
 use Rattle.funnels.specs.Corner.{IsInAngle}
 use Rattle.funnels.specs.Fanned.{turning}
@@ -17,14 +17,6 @@ use Rattle.funnels.specs.Fanned.{turning}
 -- a factor of a sum of two products that are not negative
 middle_factor : (l m n s t u : ℤ) → l *ℤ m -ℤ n *ℤ s +ℤ t *ℤ u ≡ pos 0 → pos 0 ≤ℤ l → pos 0 ≤ℤ m → pos 0 ≤ℤ t → pos 0 ≤ℤ u → pos 0 ≤ℤ (n *ℤ s)
 middle_factor l m n s t u four h k f g = let one = mul_nonnegative l m h k in let two = mul_nonnegative t u f g in omega (arith, ints)
-
--- the opposite, written otherwise, of what is not positive or not left
-turned_over : {d e : ℤ} → e ≡ neg_ℤ d → ¬ (pos 0 <ℤ d) → pos 0 ≤ℤ e
-turned_over {d} {e} same h = elim (lt_or_le (pos 0) d) [ inl k ↦ absurd (h k) | inr k ↦ omega (arith, ints) ]
-
--- and of what is negative
-turned_up : {d e : ℤ} → e ≡ neg_ℤ d → d <ℤ pos 0 → pos 0 <ℤ e
-turned_up {d} {e} same h = omega (arith, ints)
 
 -- ---- cones
 
@@ -48,8 +40,9 @@ module _ (corners : List Point) (before v after : ℕ) where
   -- so what is in the cone between p and q is within the angle where they are
   pub within_cone : (p q u : Triple) → IsInAngle true corners before v after p → IsInAngle true corners before v after q
       → IsInCone (whole (vertex corners v)) p q u → IsInAngle true corners before v after u
-  within_cone p q u in_p in_q (inl h) = within_between p q u in_p in_q h.0 (not_negative h.1) (not_negative h.2)
+  within_cone p q u in_p in_q (inl h) = within_between p q u in_p in_q h.0 (at_least_unless h.1) (at_least_unless h.2)
   within_cone p q u in_p in_q (inr h) =
       let V = whole (vertex corners v) in
-      within_between q p u in_q in_p (turned_up (determinant_swap_last V p q) h.0) (turned_over (determinant_swap_last V u q) h.2)
-      (turned_over (determinant_swap_last V p u) h.1)
+      within_between q p u in_q in_p (turned_positive (determinant_swap_last V p q) h.0)
+      (turned_not_negative (determinant_swap_last V u q) (at_most_unless h.2))
+      (turned_not_negative (determinant_swap_last V p u) (at_most_unless h.1))

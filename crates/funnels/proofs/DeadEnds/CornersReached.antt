@@ -15,7 +15,8 @@ use Rattle.meshes.specs.Fits.{Fits, IsInTri}
 use Rattle.meshes.specs.Laws.{CrossesSide, walk_tri}
 use Rattle.meshes.specs.Side.{HasSideBetween, IsWalk, tri_at}
 use Rattle.meshes.specs.declared.tri.Tri.{Tri}
-use Rattle.funnels.proofs.Corners.{side_at_corner, within_of_inside, within_of_seen}
+use Rattle.funnels.proofs.Bends.{in_angle}
+use Rattle.funnels.proofs.Corners.{side_at_corner, within_of_seen}
 use Rattle.funnels.proofs.DeadEnds.WalkParts.{rest_crossed, rest_in, walk_rest}
 use Rattle.funnels.proofs.DeadEnds.CrossedSides.{crossed_back}
 use Rattle.funnels.specs.Corner.{HasCornerOn, IsInAngle}
@@ -61,7 +62,7 @@ module _ (corners : List Point) (tris : List Tri) (fits : Fits corners tris) whe
           ]
       | inr short ↦
           let place : length walk - 1 ≡ 0 = omega arith in
-          inl (within_of_inside corners tris fits (get_or walk 0 0) before v after (w.in_list 0 w.some) corner (whole y)
+          inl (in_angle corners tris fits (get_or walk 0 0) (w.in_list 0 w.some) true before v after corner (whole y)
           (subst (λ m. IsInTri corners (walk_tri tris walk m) (whole y)) place last))
     ]
 
@@ -110,7 +111,8 @@ module _ (corners : List Point) (tris : List Tri) (fits : Fits corners tris) whe
         arrives m within inside = elim (cases_lt (m + 1) (length walk)) [
           | inr at_end ↦
               let place : m ≡ length walk - 1 = omega arith in
-              within_of_inside corners tris fits (get_or walk (length walk - 1) 0) before v after (w.in_list (length walk - 1) (omega arith)) corner (whole y)
+              in_angle corners tris fits (get_or walk (length walk - 1) 0)
+              (w.in_list (length walk - 1) (omega arith)) true before v after corner (whole y)
               (subst (λ n. IsInTri corners (walk_tri tris walk n) (whole y)) place inside)
           | inl earlier ↦
               let l : ℕ = length walk - 2 in

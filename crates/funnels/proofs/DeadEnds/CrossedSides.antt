@@ -12,7 +12,8 @@ use Rattle.meshes.specs.Fits.{Fits}
 use Rattle.meshes.specs.Laws.{CrossesSide, walk_tri}
 use Rattle.meshes.specs.Side.{HasSide, HasSideBetween, IsWalk}
 use Rattle.meshes.specs.declared.tri.Tri.{Tri}
-use Rattle.funnels.proofs.Corners.{IsSharedSide, corner_after, corner_before}
+use Rattle.funnels.proofs.Corners.{corner_after, corner_before}
+use Rattle.funnels.proofs.Vertices.{IsSharedSide}
 use Rattle.funnels.specs.Corner.{HasCornerOn}
 
 -- the triangle has the side from i to j, or on the other side from j to i
@@ -24,11 +25,6 @@ HasSideOn false t i j = HasSide t j i
 pub corner_at_side : (side : Bool) (t : Tri) (far own : ℕ) → HasSideOn side t far own → (tip : ℕ) × HasCornerOn side t far own tip
 corner_at_side true t far own has = let (m, second, third) = next_corner t far own has in (m, (has, second))
 corner_at_side false t far own has = let (m, second, third) = next_corner t own far has in (m, (has, third))
-
--- the side of a corner
-pub side_of_corner : (side : Bool) (t : Tri) (far own tip : ℕ) → HasCornerOn side t far own tip → HasSideBetween t far own
-side_of_corner true t far own tip c = inl c.0
-side_of_corner false t far own tip c = inr c.0
 
 module _ (corners : List Point) (tris : List Tri) (fits : Fits corners tris) (walk : List ℕ) (w : IsWalk tris walk) where
   -- the triangle at a place, and its number

@@ -1,7 +1,8 @@
 -- In a tree a walk, and another one from its end that does not turn back, make one walk.
-use Rattle.std.proofs.Common.{◌≡◌, ◌⊎◌, inl, inr, refl, sym, ap, subst, ◌∙◌, ℕ, suc, ◌-◌, ◌<◌, List, [], ◌∷◌, ◌++◌, length, get_or, drop, arith}
-use Rattle.meshes.proofs.Sides.{same_or_not}
-use Rattle.meshes.proofs.Walks.{IsNew, IsPath, IsTreeOn, new_front, IsPlace, Touch, path_of_walk, share_back, tree_of_walks}
+use Rattle.std.proofs.Common.{◌≡◌, inl, inr, refl, sym, ap, subst, ◌∙◌, ℕ, suc, ◌-◌, ◌<◌, List, [], ◌∷◌, ◌++◌, length, get_or, drop, arith}
+use Rattle.std.proofs.lemmas.Bool.{cases_eq}
+use Rattle.meshes.proofs.Walks.{IsNew, IsPath, IsPlace, IsTreeOn, Touch, last_place, new_front, new_or_not, path_of_walk, share_back}
+use Rattle.meshes.proofs.Walks.{tree_of_walks}
 use Rattle.meshes.specs.Side.{IsTree, IsWalk, tri_at}
 use Rattle.meshes.specs.declared.tri.Tri.{Tri}
 
@@ -16,14 +17,6 @@ GoesOn a [] cs = Unit {0}
 GoesOn a (b ∷ []) cs = ¬ Begins a cs
 GoesOn a (b ∷ d ∷ ds) cs = GoesOn b (d ∷ ds) cs
 
--- a number is new to a list or not
-new_or_not : (x : ℕ) (xs : List ℕ) → IsNew x xs ⊎ (¬ IsNew x xs)
-new_or_not x [] = inl tt
-new_or_not x (y ∷ ys) = elim (same_or_not x y) [
-  | inl same ↦ inr (λ new. new.0 same)
-  | inr differs ↦ elim (new_or_not x ys) [ inl new ↦ inl (differs, new) | inr old ↦ inr (λ new. old new.1) ]
-]
-
 -- ---- paths
 
 module _ (P : ℕ → Type 0) (R : ℕ → ℕ → Type 0) (turn : (a b : ℕ) → R a b → R b a) (tree : IsTreeOn P R) where
@@ -36,11 +29,11 @@ module _ (P : ℕ → Type 0) (R : ℕ → ℕ → Type 0) (turn : (a b : ℕ) �
 
   -- a path goes first to each number on it
   path_over : (x a : ℕ) (bs : List ℕ) (c : ℕ) → IsPath P R a bs c → ¬ IsNew x (a ∷ bs) → IsOver x a bs
-  path_over x a [] c p old = elim (same_or_not x a) [
+  path_over x a [] c p old = elim (cases_eq x a) [
     | inl same ↦ record { front = []; back = []; parts = refl; path = sym same }
     | inr differs ↦ absurd (old (differs, tt))
   ]
-  path_over x a (b ∷ bs) c p old = elim (same_or_not x a) [
+  path_over x a (b ∷ bs) c p old = elim (cases_eq x a) [
     | inl same ↦ record { front = []; back = b ∷ bs; parts = refl; path = sym same }
     | inr differs ↦
         let o = path_over x b bs c p.3 (λ new. old (differs, new)) in
@@ -92,11 +85,7 @@ goes_on a (b ∷ d ∷ ds) cs e h =
     (let last : length (b ∷ d ∷ ds) - 1 ≡ suc (length (d ∷ ds) - 1) = omega arith in
     subst (λ n. get_or (a ∷ b ∷ d ∷ ds) n 0 ≡ get_or cs 0 0) (sym last) same))
 
--- the last place of a list
-last_place : (a : ℕ) (bs : List ℕ) → get_or (a ∷ bs) (length (a ∷ bs) - 1) 0 ≡ get_or (a ∷ bs) (length bs) 0
-last_place a bs = let e : length (a ∷ bs) - 1 ≡ length bs = omega arith in ap (λ n. get_or (a ∷ bs) n 0) e
-
--- and the last but one
+-- the last place but one of a list
 last_but_one : (a : ℕ) (bs : List ℕ) → get_or (a ∷ bs) (length (a ∷ bs) - 2) 0 ≡ get_or (a ∷ bs) (length bs - 1) 0
 last_but_one a bs = let e : length (a ∷ bs) - 2 ≡ length bs - 1 = omega arith in ap (λ n. get_or (a ∷ bs) n 0) e
 

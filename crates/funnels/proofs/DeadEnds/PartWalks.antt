@@ -8,8 +8,9 @@ use Rattle.rings.specs.Sees.{Sees}
 use Rattle.meshes.proofs.Sight.{sleeve_law}
 use Rattle.meshes.specs.Fits.{Fits, IsInTri}
 use Rattle.meshes.specs.Laws.{CrossesSide, walk_tri}
-use Rattle.meshes.specs.Side.{IsWalk, ShareSide, tri_at}
+use Rattle.meshes.specs.Side.{IsWalk, tri_at}
 use Rattle.meshes.specs.declared.tri.Tri.{Tri}
+use Rattle.funnels.proofs.DeadEnds.WalkParts.{crossed_moved, walk_front, walk_rest}
 
 -- the part of a list from place k to place l
 abbrev pub part_of : List ℕ → ℕ → ℕ → List ℕ
@@ -28,25 +29,15 @@ module _ (walk : List ℕ) (k l : ℕ) (order : k ≤ l) (within : l < length wa
   module _ (tris : List Tri) (w : IsWalk tris walk) where
     -- part of a walk is a walk
     pub part_is_walk : IsWalk tris (part_of walk k l)
-    part_is_walk = record {
-      some = omega (arith, part_length);
-      in_list = λ i h. rw (part_at i (i + k) (omega arith) (omega (arith, part_length))) (w.in_list (i + k) (omega (arith, part_length)));
-      once = λ i j h m.
-          rw (part_at i (i + k) (omega arith) (omega (arith, part_length)), part_at j (j + k) (omega arith) (omega (arith, part_length)))
-          (w.once (i + k) (j + k) (omega arith) (omega (arith, part_length)));
-      sharing = λ i h.
-          let next : i + k + 1 ≡ i + 1 + k = omega arith in
-          rw (part_at i (i + k) (omega arith) (omega (arith, part_length)), part_at (i + 1) (i + 1 + k) (omega arith) (omega (arith, part_length)))
-          (subst (λ n. ShareSide (walk_tri tris walk (i + k)) (walk_tri tris walk n)) next (w.sharing (i + k) (omega (arith, part_length))));
-    }
+    part_is_walk =
+        walk_front tris (drop k walk) (walk_rest tris walk w k (omega arith)) (l - k + 1) (omega arith) (omega (arith, length-drop k walk))
 
     -- a side that the walk crosses on that part is one that the part crosses
     part_crosses : (m i j : ℕ) → k ≤ m → m < l → CrossesSide tris walk m i j → CrossesSide tris (part_of walk k l) (m - k) i j
-    part_crosses m i j h less c = record {
-      has_next = omega (arith, part_length);
-      of_this = rw (part_at (m - k) m (omega arith) (omega arith)) c.of_this;
-      of_next = rw (part_at (m - k + 1) (m + 1) (omega arith) (omega arith)) c.of_next;
-    }
+    part_crosses m i j h less =
+        crossed_moved tris walk (part_of walk k l) m (m - k) i j (omega (arith, part_length))
+        (part_at (m - k) m (omega arith) (omega arith))
+        (part_at (m - k + 1) (m + 1) (omega arith) (omega arith))
 
     module _ (corners : List Point) (fits : Fits corners tris) where
       -- so a segment in the ring between their triangles meets it

@@ -1,5 +1,5 @@
 -- Parts of a walk over triangles, and the first of its triangles with a point.
-use Rattle.std.proofs.Common.{◌≡◌, ◌⊎◌, inl, inr, sym, subst, ◌∙◌, ℕ, zero, suc, ◌+◌, ◌<◌, ◌≤◌, List, length, get_or, take, drop, arith}
+use Rattle.std.proofs.Common.{◌≡◌, ◌⊎◌, inl, inr, sym, subst, ap, ◌∙◌, ℕ, zero, suc, ◌+◌, ◌<◌, ◌≤◌, List, length, get_or, take, drop, arith}
 use Rattle.std.proofs.lemmas.Bool.{cases_lt}
 use Rattle.std.proofs.lemmas.List.{get_or-drop, get_or-take, length-drop, length-take-le}
 use Rattle.plane.specs.Point.{Point, Triple}
@@ -47,6 +47,15 @@ module _ (tris : List Tri) (walk : List ℕ) (w : IsWalk tris walk) where
             (subst (λ m. Touch tris (get_or walk (n + i) 0) (get_or walk m 0)) (sym place) (w.sharing (n + i) (omega (arith, long)))));
       }
 
+-- a side that the one walk crosses, the other does at a place with the same two triangles
+pub crossed_moved : (tris : List Tri) (walk other : List ℕ) (m n i j : ℕ) → n + 1 < length other → get_or other n 0 ≡ get_or walk m 0
+    → get_or other (n + 1) 0 ≡ get_or walk (m + 1) 0 → CrossesSide tris walk m i j → CrossesSide tris other n i j
+crossed_moved tris walk other m n i j within first next c = record {
+  has_next = within;
+  of_this = subst (λ k. HasSideBetween (tri_at tris k) i j) (sym first) c.of_this;
+  of_next = subst (λ k. HasSideBetween (tri_at tris k) i j) (sym next) c.of_next;
+}
+
 module _ (corners : List Point) (tris : List Tri) (walk : List ℕ) (n : ℕ) where
   -- the rest has the triangles from there on,
   pub rest_in : (x : Triple) (l : ℕ) → IsInTri corners (walk_tri tris walk (n + l)) x → IsInTri corners (walk_tri tris (drop n walk) l) x
@@ -55,13 +64,9 @@ module _ (corners : List Point) (tris : List Tri) (walk : List ℕ) (n : ℕ) wh
   -- and crosses the sides from there on
   pub rest_crossed : (m i j : ℕ) → CrossesSide tris walk (n + m) i j → CrossesSide tris (drop n walk) m i j
   rest_crossed m i j c =
-      let place : n + m + 1 ≡ n + (m + 1) = omega arith in
-      let next = subst (λ l. HasSideBetween (walk_tri tris walk l) i j) place c.of_next in
-      record {
-        has_next = omega (arith, c.has_next, length-drop n walk);
-        of_this = subst (λ k. HasSideBetween (tri_at tris k) i j) (sym (get_or-drop n walk m 0)) c.of_this;
-        of_next = subst (λ k. HasSideBetween (tri_at tris k) i j) (sym (get_or-drop n walk (m + 1) 0)) next;
-      }
+      let place : n + (m + 1) ≡ n + m + 1 = omega arith in
+      crossed_moved tris walk (drop n walk) (n + m) m i j (omega (arith, c.has_next, length-drop n walk)) (get_or-drop n walk m 0)
+      (get_or-drop n walk (m + 1) 0 ∙ ap (λ l. get_or walk l 0) place) c
 
 -- ---- walks that begin alike
 
@@ -85,11 +90,8 @@ module _ (corners : List Point) (tris : List Tri) (walk other : List ℕ) (short
 
   -- and a side that the one crosses, the other one does
   pub alike_crossed : (m i j : ℕ) → CrossesSide tris walk m i j → CrossesSide tris other m i j
-  alike_crossed m i j c = record {
-    has_next = omega (arith, c.has_next);
-    of_this = subst (λ k. HasSideBetween (tri_at tris k) i j) (sym (alike m (omega (arith, c.has_next)))) c.of_this;
-    of_next = subst (λ k. HasSideBetween (tri_at tris k) i j) (sym (alike (m + 1) c.has_next)) c.of_next;
-  }
+  alike_crossed m i j c =
+      crossed_moved tris walk other m m i j (omega (arith, c.has_next)) (alike m (omega (arith, c.has_next))) (alike (m + 1) c.has_next) c
 
 -- ---- the first triangle with a point
 

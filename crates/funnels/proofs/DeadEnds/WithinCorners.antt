@@ -1,6 +1,6 @@
--- The ray from a corner of a triangle of a walk to a point of it is in the angle there, and so is that to a point in sight in an
--- earlier triangle, where none before has the corner.
-use Rattle.std.proofs.Common.{◌≡◌, inl, inr, subst, Bool, true, false, ℕ, ◌+◌, ◌-◌, ◌<◌, ◌≤◌, List, length, get_or, arith}
+-- The ray from a corner of a triangle of a walk to a point in sight in an earlier triangle is in the angle there, where none before has
+-- the corner.
+use Rattle.std.proofs.Common.{◌≡◌, inl, inr, subst, Bool, ℕ, ◌+◌, ◌-◌, ◌≤◌, List, length, get_or, arith}
 use Rattle.std.proofs.lemmas.Bool.{cases_lt}
 use Rattle.std.specs.List.{range_with_len}
 use Rattle.plane.proofs.Points.{same_whole, whole_is_point}
@@ -11,30 +11,13 @@ use Rattle.rings.specs.Sees.{Sees}
 use Rattle.meshes.proofs.Parts.{side_in}
 use Rattle.meshes.specs.Fits.{Fits, IsInTri}
 use Rattle.meshes.specs.Laws.{walk_tri}
-use Rattle.meshes.specs.Side.{IsWalk, tri_at}
+use Rattle.meshes.specs.Side.{IsWalk}
 use Rattle.meshes.specs.declared.tri.Tri.{Tri}
-use Rattle.funnels.proofs.Bends.{AreOnRay, turning_from_ray, turning_to_ray}
-use Rattle.funnels.proofs.Corners.{within_back, within_of_inside}
+use Rattle.funnels.proofs.Bends.{AreOnRay, in_angle}
+use Rattle.funnels.proofs.Corners.{within_on_ray}
 use Rattle.funnels.proofs.DeadEnds.CrossedSides.{some_crossed}
 use Rattle.funnels.proofs.DeadEnds.PartWalks.{meets_on_part}
 use Rattle.funnels.specs.Corner.{HasCornerOn, IsFirstWith, IsInAngle}
-
--- a point of a triangle is in the angle at each corner, from either side
-pub within_of_in : (corners : List Point) (tris : List Tri) → Fits corners tris → (k : ℕ) → k < length tris → (side : Bool) (before v after : ℕ)
-    → HasCornerOn side (tri_at tris k) before v after → (y : Triple) → IsInTri corners (tri_at tris k) y → IsInAngle side corners before v after y
-within_of_in corners tris fits k in_list true before v after c y inside = within_of_inside corners tris fits k before v after in_list c y inside
-within_of_in corners tris fits k in_list false before v after c y inside =
-    within_back true corners after v before y (within_of_inside corners tris fits k after v before in_list (c.1, c.0) y inside)
-
--- so is each point on one ray with it
-pub within_on_ray : (side : Bool) (corners : List Point) (before v after : ℕ) (x y : Triple) → AreOnRay (whole (vertex corners v)) x y
-    → IsInAngle side corners before v after x → IsInAngle side corners before v after y
-within_on_ray side corners before v after x y ray within =
-    let at = vertex corners v in
-    record {
-      from_after = (turning_to_ray at side x y (whole (vertex corners after)) ray).not_negative within.from_after;
-      to_before = (turning_from_ray at side x y (whole (vertex corners before)) ray).not_negative within.to_before;
-    }
 
 module _ (corners : List Point) (tris : List Tri) (fits : Fits corners tris) (walk : List ℕ) (w : IsWalk tris walk) (h : Point) (n : ℕ)
     (first : IsFirstWith corners tris walk (whole h) n) (y : Point) (differ : ¬ (y ≡ h)) (sees : Sees corners (whole y) (whole h)) where
@@ -93,4 +76,4 @@ module _ (corners : List Point) (tris : List Tri) (fits : Fits corners tris) (wa
   within_before k order inside side before v after corner is =
       let (x, way) = on_way k order inside in
       within_on_ray side corners before v after x (whole y) (subst (λ (p : Point). AreOnRay (whole p) x (whole y)) is way.ray)
-      (within_of_in corners tris fits (get_or walk n 0) (w.in_list n first.within) side before v after corner x way.inside)
+      (in_angle corners tris fits (get_or walk n 0) (w.in_list n first.within) side before v after corner x way.inside)

@@ -1,7 +1,5 @@
 -- A way from a point left of a line to one right of it crosses the line; weights of the points of a line.
-use Rattle.std.proofs.Common.{◌≡◌, ap, ℤ, pos, ◌+ℤ◌, ◌-ℤ◌, ◌*ℤ◌, neg_ℤ, arith}
-use Rattle.std.proofs.lemmas.Int.{ints}
-use Rattle.integer_algebra.proofs.Laws.{neg-mul, zero-mul}
+use Rattle.std.proofs.Common.{◌≡◌, sym, ap, ◌∙◌, ℤ, pos, ◌+ℤ◌, ◌-ℤ◌, ◌*ℤ◌, neg_ℤ}
 use Rattle.integer_algebra.proofs.SignSteps.{one_positive, opposite_positive, weak, weak_order}
 use Rattle.plane.proofs.Meetings.{no_value, weighed_sum, zero_point, weights_apart}
 use Rattle.plane.proofs.Turns.{determinant_swap_first, four_triples, four_triples_in_W, linear, IsCombination, determinant_along}
@@ -9,6 +7,7 @@ use Rattle.plane.proofs.Turns.{determinant_is_linear, on_of_combination}
 use Rattle.plane.specs.Point.{IsPoint, Triple}
 use Rattle.plane.specs.Segment.{On}
 use Rattle.plane.specs.Turn.{IsLeft, IsRight, IsStraight, determinant}
+use Rattle.ring_laws.proofs.Triangles.{of_side}
 
 -- ---- where the way crosses the line
 
@@ -49,8 +48,7 @@ on_line_between a b n y at_n at_y left right =
 -- one part of it: x of the point, y and z of the others, t of a point off the line
 weighted : (p q r m d x y z t : ℤ) → r ≡ pos 0 → m ≡ neg_ℤ q → p *ℤ y -ℤ q *ℤ z +ℤ r *ℤ t -ℤ d *ℤ x ≡ pos 0
     → d *ℤ x ≡ p *ℤ y +ℤ m *ℤ z
-weighted p q r m d x y z t none turned e =
-    omega (arith, ints, ap (λ n. n *ℤ z) turned, neg-mul q z, ap (λ n. n *ℤ t) none, zero-mul t)
+weighted p q r m d x y z t none turned e = of_side p q r d x y z t none e ∙ ap (λ n. p *ℤ y +ℤ n *ℤ z) (sym turned)
 
 module _ (a b c x : Triple) (straight : IsStraight a b x) where
   -- what a linear functional is at the point

@@ -1,10 +1,8 @@
 -- Which edges of a funnel the way to a point beyond the diagonal passes: those from the left end to one place, and no others.
 use Rattle.std.proofs.Common.{◌≡◌, ◌⊎◌, inl, inr, subst, List, length, ℕ, ◌+◌, ◌-◌, ◌<◌, ◌≤◌, pos, ◌<ℤ◌, arith}
 use Rattle.std.proofs.lemmas.Bool.{cases_lt}
-use Rattle.integer_algebra.proofs.SignSteps.{not_both, not_both_positive}
-use Rattle.integer_algebra.proofs.Signs.{lt_or_le}
 use Rattle.plane.specs.Point.{IsPoint, Point, Triple, whole}
-use Rattle.plane.specs.Turn.{IsLeft, IsRight, determinant}
+use Rattle.plane.specs.Turn.{IsLeft, IsRight}
 use Rattle.rings.specs.Chain.{point_at}
 use Rattle.funnels.proofs.Funnels.EdgesAtApex.{not_between_edges}
 use Rattle.funnels.proofs.Funnels.FlatFunnels.{turn_left, turn_right}
@@ -38,19 +36,6 @@ module _ (ns : List Point) (a : ℕ) (y : Triple) where
         | inl k ↦ inl (omega (arith, k.0), subst (λ n. ¬ IsLeft (whole (point_at ns (i + 1))) (whole (point_at ns n)) y) e k.1)
         | inr k ↦ inr (omega (arith, k.0), subst (λ n. IsRight (whole (point_at ns n)) (whole (point_at ns (i + 1))) y) e k.1)
       ]
-
-  -- an edge is passed or not
-  pub passed_or_not : (j : ℕ) → IsPassed ns a j y ⊎ (¬ IsPassed ns a j y)
-  passed_or_not j = elim (cases_lt a j) [
-    | inr left ↦ elim (lt_or_le (pos 0) (determinant (whole (point_at ns j)) (whole (point_at ns (j - 1))) y)) [
-      | inl is ↦ inr (λ h. elim h [ inl k ↦ k.1 is | inr k ↦ absurd (omega (arith, k.0)) ])
-      | inr is ↦ inl (inl (left, λ k. not_both_positive k is))
-    ]
-    | inl right ↦ elim (lt_or_le (determinant (whole (point_at ns (j - 1))) (whole (point_at ns j)) y) (pos 0)) [
-      | inl is ↦ inl (inr (right, is))
-      | inr is ↦ inr (λ h. elim h [ inl k ↦ absurd (omega (arith, k.0)) | inr k ↦ not_both k.1 is ])
-    ]
-  ]
 
 -- ---- the tests of two edges
 

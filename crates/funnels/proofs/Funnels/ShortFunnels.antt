@@ -1,44 +1,56 @@
 -- The first funnels: of a source s with r not right of the way from l to s, at the diagonal from l to r.
-use Rattle.std.proofs.Common.{◌≡◌, inl, inr, refl, [], ◌∷◌, ℕ, zero, suc, ◌+◌, ◌<◌, ℤ, pos, neg_ℤ, ◌<ℤ◌, ◌≤ℤ◌, arith}
-use Rattle.std.proofs.lemmas.Int.{ints}
+use Rattle.std.proofs.Common.{◌≡◌, inl, inr, refl, sym, subst, ◌∙◌, [], ◌∷◌, ℕ, zero, suc, ◌+◌, ◌<◌, ◌≤◌, pos, ◌≤ℤ◌, arith}
+use Rattle.integer_algebra.proofs.SignSteps.{not_both, not_both_positive, turned_not_positive, zero_not_negative, zero_not_positive}
 use Rattle.plane.proofs.Turns.{determinant_same_last, determinant_shift, determinant_swap_first}
 use Rattle.plane.specs.Point.{Point, whole}
 use Rattle.plane.specs.Turn.{IsLeft, determinant}
 use Rattle.rings.specs.Chain.{point_at}
 use Rattle.funnels.specs.Funnel.{IsFunnel, IsFunnelEdge, Reaches}
 
--- signs of numbers that are 0, or equal to one that is not negative, or opposite to it
-not_negative_as : {d e : ℤ} → e ≡ d → pos 0 ≤ℤ d → ¬ (e <ℤ pos 0)
-not_negative_as same h k = omega (arith, ints)
+-- what holds of the one edge of a funnel of two points holds of each
+edge_of_two : (p q : Point) (a : ℕ) (P : Point → Point → Type 0) → (0 < a → P q p) → (a ≡ 0 → P p q) → (e : ℕ) (u w : Point) → 0 < e → e < 2
+    → IsFunnelEdge (p ∷ q ∷ []) a e u w → P u w
+edge_of_two p q a P left right zero u w some less is = absurd (omega (arith, some))
+edge_of_two p q a P left right (suc zero) u w some less (inl is) = rw (is.1, is.2) (left (omega (arith, is.0)))
+edge_of_two p q a P left right (suc zero) u w some less (inr is) = rw (is.1, is.2) (right (omega (arith, is.0)))
+edge_of_two p q a P left right (suc (suc e)) u w some less is = absurd (omega (arith, less))
 
-not_positive_as : {d e : ℤ} → e ≡ neg_ℤ d → pos 0 ≤ℤ d → ¬ (pos 0 <ℤ e)
-not_positive_as turned h k = omega (arith, ints)
-
-zero_not_less : {d : ℤ} → d ≡ pos 0 → ¬ (d <ℤ pos 0)
-zero_not_less same k = omega (arith, ints)
-
-zero_not_more : {d : ℤ} → d ≡ pos 0 → ¬ (pos 0 <ℤ d)
-zero_not_more same k = omega (arith, ints)
+-- two points beside each other, the apex and an end or two ends, are a funnel where the edge reaches the diagonal
+funnel_of_two : (p q l r : Point) (a : ℕ) → a ≤ 1 → ¬ (l ≡ r) → p ≡ l → q ≡ r → (0 < a → Reaches q p l r) → (a ≡ 0 → Reaches p q l r)
+    → IsFunnel (p ∷ q ∷ []) a l r
+funnel_of_two p q l r a within differ first last left right = record {
+  apex_within = omega arith;
+  first = first;
+  last = last;
+  ends_differ = differ;
+  differ = λ i less.
+      let place : 0 ≡ i = omega (arith, less) in
+      subst (λ n. ¬ (point_at (p ∷ q ∷ []) n ≡ point_at (p ∷ q ∷ []) (n + 1))) place (λ same. differ (sym first ∙ same ∙ last));
+  left_turns = λ i some less. absurd (omega (arith, some, less));
+  right_turns = λ i some less. absurd (omega (arith, some, less));
+  opening = λ some less. absurd (omega (arith, some, less));
+  reaches = edge_of_two p q a (λ u w. Reaches u w l r) left right;
+}
 
 module _ (l s r : Point) (differ : ¬ (l ≡ r)) (turn : pos 0 ≤ℤ determinant (whole l) (whole s) (whole r)) where
   -- ---- edges
 
   -- r is not left of the way from s to l,
   not_left : ¬ IsLeft (whole s) (whole l) (whole r)
-  not_left = not_positive_as (determinant_swap_first (whole l) (whole s) (whole r)) turn
+  not_left left = not_both_positive left (turned_not_positive (determinant_swap_first (whole l) (whole s) (whole r)) turn)
 
   -- so an edge from s to l reaches the diagonal,
   reaches_left : Reaches s l l r
   reaches_left = record {
-    not_right = zero_not_less (determinant_same_last (whole s) (whole l));
+    not_right = λ right. not_both right (zero_not_negative (determinant_same_last (whole s) (whole l)));
     not_left = not_left;
   }
 
   -- and so does one from s to r
   reaches_right : Reaches s r l r
   reaches_right = record {
-    not_right = not_negative_as (determinant_shift (whole l) (whole s) (whole r)) turn;
-    not_left = zero_not_more (determinant_same_last (whole s) (whole r));
+    not_right = λ right. not_both right (subst (λ d. pos 0 ≤ℤ d) (sym (determinant_shift (whole l) (whole s) (whole r))) turn);
+    not_left = λ left. not_both_positive left (zero_not_positive (determinant_same_last (whole s) (whole r)));
   }
 
   -- ---- funnels
@@ -52,25 +64,7 @@ module _ (l s r : Point) (differ : ¬ (l ≡ r)) (turn : pos 0 ≤ℤ determinan
   reaches_between (suc (suc zero)) u w some less (inr is) = rw (is.1, is.2) reaches_right
   reaches_between (suc (suc (suc e))) u w some less is = absurd (omega (arith, less))
 
-  -- with one at l,
-  reaches_from_left : (e : ℕ) (u w : Point) → 0 < e → e < 2 → IsFunnelEdge (s ∷ r ∷ []) 0 e u w → Reaches u w l r
-  reaches_from_left zero u w some less is = absurd (omega (arith, some))
-  reaches_from_left (suc zero) u w some less (inl is) = absurd (omega (arith, is.0))
-  reaches_from_left (suc zero) u w some less (inr is) = rw (is.1, is.2) reaches_right
-  reaches_from_left (suc (suc e)) u w some less is = absurd (omega (arith, less))
-
-  -- and with one at r
-  reaches_from_right : (e : ℕ) (u w : Point) → 0 < e → e < 2 → IsFunnelEdge (l ∷ s ∷ []) 1 e u w → Reaches u w l r
-  reaches_from_right zero u w some less is = absurd (omega (arith, some))
-  reaches_from_right (suc zero) u w some less (inl is) = rw (is.1, is.2) reaches_left
-  reaches_from_right (suc zero) u w some less (inr is) = absurd (omega (arith, is.0))
-  reaches_from_right (suc (suc e)) u w some less is = absurd (omega (arith, less))
-
-  -- the points of two, and of three, differ from the next
-  two_differ : (p q : Point) → ¬ (p ≡ q) → (i : ℕ) → i + 1 < 2 → ¬ (point_at (p ∷ q ∷ []) i ≡ point_at (p ∷ q ∷ []) (i + 1))
-  two_differ p q h zero less = h
-  two_differ p q h (suc i) less = absurd (omega (arith, less))
-
+  -- whose points differ from the next,
   three_differ : ¬ (l ≡ s) → ¬ (s ≡ r) → (i : ℕ) → i + 1 < 3
       → ¬ (point_at (l ∷ s ∷ r ∷ []) i ≡ point_at (l ∷ s ∷ r ∷ []) (i + 1))
   three_differ h k zero less = h
@@ -93,28 +87,8 @@ module _ (l s r : Point) (differ : ¬ (l ≡ r)) (turn : pos 0 ≤ℤ determinan
 
   -- one at the left end makes one of two,
   pub funnel_from_left : s ≡ l → IsFunnel (s ∷ r ∷ []) 0 l r
-  funnel_from_left same = record {
-    apex_within = omega arith;
-    first = same;
-    last = refl;
-    ends_differ = differ;
-    differ = two_differ s r (rw same differ);
-    left_turns = λ i some less. absurd (omega (arith, less));
-    right_turns = λ i some less. absurd (omega (arith, some, less));
-    opening = λ some less. absurd (omega (arith, some));
-    reaches = reaches_from_left;
-  }
+  funnel_from_left same = funnel_of_two s r l r 0 (omega arith) differ same refl (λ some. absurd (omega (arith, some))) (λ _. reaches_right)
 
   -- and so does one at the right end
   pub funnel_from_right : s ≡ r → IsFunnel (l ∷ s ∷ []) 1 l r
-  funnel_from_right same = record {
-    apex_within = omega arith;
-    first = refl;
-    last = same;
-    ends_differ = differ;
-    differ = two_differ l s (rw same differ);
-    left_turns = λ i some less. absurd (omega (arith, some, less));
-    right_turns = λ i some less. absurd (omega (arith, some, less));
-    opening = λ some less. absurd (omega (arith, less));
-    reaches = reaches_from_right;
-  }
+  funnel_from_right same = funnel_of_two l s l r 1 (omega arith) differ refl same (λ _. reaches_left) (λ none. absurd (omega (arith, none)))

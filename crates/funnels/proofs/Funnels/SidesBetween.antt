@@ -1,16 +1,10 @@
 -- Between two points that are not left of a line no point is left of it; and none is right of it between two that are not.
-use Rattle.std.proofs.Common.{◌≡◌, ℤ, pos, neg_ℤ, ◌<ℤ◌, ◌≤ℤ◌, arith}
-use Rattle.std.proofs.lemmas.Int.{ints}
-use Rattle.integer_algebra.proofs.SignSteps.{mean_not_positive, not_both, not_both_positive, at_most_unless}
+use Rattle.integer_algebra.proofs.SignSteps.{at_least_unless, at_most_unless, mean_not_positive, not_both, not_both_positive}
 use Rattle.plane.proofs.Turns.{combination_of, determinant_along}
 use Rattle.plane.specs.Point.{IsPoint, Triple}
 use Rattle.plane.specs.Segment.{On}
 use Rattle.plane.specs.Turn.{IsLeft, IsRight}
-use Rattle.ring_laws.proofs.Triangles.{not_negative, not_right_between}
-
--- the opposite, written otherwise, of a number that is not positive is at least 0
-pub turned_at_least : {d e : ℤ} → e ≡ neg_ℤ d → ¬ (pos 0 <ℤ d) → pos 0 ≤ℤ e
-turned_at_least e h = grind (arith, ints)
+use Rattle.ring_laws.proofs.Triangles.{not_right_between}
 
 module _ (s t x a b : Triple) (at_x : IsPoint x) (at_a : IsPoint a) (at_b : IsPoint b) (on : On x a b) where
   -- where the ends of a segment are not left of a line, no point of it is
@@ -23,4 +17,4 @@ module _ (s t x a b : Triple) (at_x : IsPoint x) (at_a : IsPoint a) (at_b : IsPo
 
   -- and where they are not right of it, none is
   pub not_right_along : ¬ IsRight s t a → ¬ IsRight s t b → ¬ IsRight s t x
-  not_right_along ha hb right = not_both right (not_right_between s t x a b at_x at_a at_b (not_negative ha) (not_negative hb) on)
+  not_right_along ha hb right = not_both right (not_right_between s t x a b at_x at_a at_b (at_least_unless ha) (at_least_unless hb) on)

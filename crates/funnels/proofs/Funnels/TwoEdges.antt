@@ -1,13 +1,11 @@
 -- Two edges of a funnel at a common point, and a point beyond the diagonal: to which sides of them it is.
 use Rattle.std.proofs.Common.{◌≡◌, pos, ◌<ℤ◌, ◌≤ℤ◌, inl, inr}
-use Rattle.integer_algebra.proofs.SignSteps.{turned_negative, weak, at_most_unless}
+use Rattle.integer_algebra.proofs.SignSteps.{at_most_unless, turned_negative, turned_not_negative, weak, weak_order}
 use Rattle.integer_algebra.proofs.Signs.{lt_or_le}
 use Rattle.plane.proofs.Turns.{determinant_swap_first}
 use Rattle.plane.specs.Point.{IsPoint, Point, Triple, whole}
 use Rattle.plane.specs.Turn.{IsLeft, IsRight, determinant}
-use Rattle.ring_laws.proofs.Triangles.{negative_at_most}
 use Rattle.funnels.proofs.Funnels.OnOneLine.{areas_with, four_on_line}
-use Rattle.funnels.proofs.Funnels.SidesBetween.{turned_at_least}
 use Rattle.funnels.proofs.Funnels.TestSigns.{level_at_apex, not_outer_left, not_outer_right}
 use Rattle.funnels.specs.Funnel.{height}
 
@@ -30,7 +28,7 @@ module _ (p o q l r : Point) (y : Triple) (at_y : IsPoint y) (above : pos 0 ≤�
         absurd (not_outer_right (determinant (whole o) (whole q) y) (determinant (whole p) (whole q) y) (determinant (whole p) (whole o) y)
         (determinant (whole p) (whole o) (whole q)) y.W (height l r (whole p)) (height l r (whole o)) (height l r (whole q)) (height l r y)
         (four_on_line (whole r) (whole l) (whole p) (whole o) (whole q) y) (areas_with p o q y) at_y above beyond
-        (negative_at_most right) not turn first second)
+        (weak_order right) not turn first second)
   ]
 
   -- where y is left of the way from o to p, and right of that to q, the first does not fall
@@ -41,5 +39,5 @@ module _ (p o q l r : Point) (y : Triple) (at_y : IsPoint y) (above : pos 0 ≤�
       level_at_apex (determinant (whole o) (whole q) y) (determinant (whole p) (whole q) y) (determinant (whole p) (whole o) y)
       (determinant (whole p) (whole o) (whole q)) y.W (height l r (whole p)) (height l r (whole o)) (height l r (whole q)) (height l r y)
       (four_on_line (whole r) (whole l) (whole p) (whole o) (whole q) y) (areas_with p o q y) at_y above beyond right
-      (negative_at_most (turned_negative (determinant_swap_first (whole o) (whole p) y) left))
-      (turned_at_least (determinant_swap_first (whole o) (whole p) (whole q)) opening) first second
+      (weak_order (turned_negative (determinant_swap_first (whole o) (whole p) y) left))
+      (turned_not_negative (determinant_swap_first (whole o) (whole p) (whole q)) (at_most_unless opening)) first second

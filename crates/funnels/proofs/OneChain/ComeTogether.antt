@@ -19,7 +19,7 @@ use Rattle.funnels.proofs.DeadEnds.{crossed_shared, some_crossed, front_to, some
 use Rattle.funnels.proofs.OneChain.LastSteps.{before_end, corner_there, end_is, end_is_right, last_in_list, meets_last, only_step}
 use Rattle.funnels.proofs.OneChain.SameChains.{ComeOnOneRay}
 use Rattle.funnels.proofs.OneChain.ShorterSteps.{before_last, ends_differ, last_of}
-use Rattle.funnels.proofs.Passing.{begin_passing, none_at, on_one_ray, AreAt, IsAlong, IsBefore}
+use Rattle.funnels.proofs.Passing.{begin_passing, none_at, on_one_ray, ComeTo, IsAlong, IsBefore}
 use Rattle.funnels.specs.Corner.{IsFirstWith}
 use Rattle.funnels.specs.Passing.{ArePassing}
 
@@ -49,7 +49,7 @@ module _ (corners : List Point) (tris : List Tri) (fits : Fits corners tris) (wa
       meet_too = meets_last corners tris fits walk w t ends other along_too long_too last_too n e i j c
 
       -- where the other comes from the left of the one, they pass
-      begin : IsLeft (whole t) (whole p) (whole q) → AreAt corners tris fits walk w true n (n + 1) (n + 1) one other along along_too
+      begin : IsLeft (whole t) (whole p) (whole q) → ComeTo corners tris fits walk w true n (n + 1) (n + 1) one other along along_too
       begin left =
           let (third, corner) = corner_there corners tris fits walk w t ends n i j e c has in
           let shared = crossed_shared corners tris fits walk w n i j c in
@@ -57,25 +57,30 @@ module _ (corners : List Point) (tris : List Tri) (fits : Fits corners tris) (wa
           let J = IsInner other (length other - 2) in
           let passing = begin_passing corners tris fits (get_or walk (length walk - 1) 0) (last_in_list corners tris fits walk w t ends n i j e c has) i j third corner t ends.has shared (end_is_right corners tris fits walk w t ends n i j e c has) p q I J
           meet.point meet_too.point meet.rational meet_too.rational differ differ_too (on_reversed meet.point (whole p) (whole t) meet.on_first)
-          meet.on_second (on_reversed meet_too.point (whole q) (whole t) meet_too.on_first) meet_too.on_second left in
-          record {
-            far = i;
-            own = j;
-            a = length one - 2;
-            b = length other - 2;
-            x = meet.point;
-            z = meet_too.point;
-            crossed = c;
-            has = has;
-            next = omega arith;
-            next_too = omega arith;
-            before = subst (IsBefore corners tris fits walk w one along (length one - 2)) (sym e) (before_end corners tris fits walk w t ends one along long last);
-            before_too = subst (IsBefore corners tris fits walk w other along_too (length other - 2)) (sym e) (before_end corners tris fits walk w t ends other along_too long_too last_too);
-            passing = subst (λ (u : Point). ArePassing true corners i j u p I meet.point (point_at other (length other - 2 + 1)) q J meet_too.point)
-                (sym (end_is corners tris fits walk w t ends one along long last))
-                (subst (λ (u : Point). ArePassing true corners i j t p I meet.point u q J meet_too.point) (sym (end_is corners tris fits walk w t ends other along_too long_too last_too))
-                passing);
-          }
+          meet.on_second (on_reversed meet_too.point (whole q) (whole t) meet_too.on_first) meet_too.on_second left in (
+            record {
+              far = i;
+              own = j;
+              a = length one - 2;
+              b = length other - 2;
+              x = meet.point;
+              z = meet_too.point;
+              crossed = c;
+              has = has;
+              next = omega arith;
+              next_too = omega arith;
+              passing = subst (λ (u : Point). ArePassing true corners i j u p I meet.point
+                  (point_at other (length other - 2 + 1)) q J meet_too.point)
+                  (sym (end_is corners tris fits walk w t ends one along long last))
+                  (subst (λ (u : Point). ArePassing true corners i j t p I meet.point u q J meet_too.point)
+                  (sym (end_is corners tris fits walk w t ends other along_too long_too last_too))
+                  passing);
+            },
+            subst (IsBefore corners tris fits walk w one along (length one - 2)) (sym e)
+                (before_end corners tris fits walk w t ends one along long last),
+            subst (IsBefore corners tris fits walk w other along_too (length other - 2)) (sym e)
+                (before_end corners tris fits walk w t ends other along_too long_too last_too),
+          )
 
       -- which can't be, where they begin at one point
       not_left : point_at one 0 ≡ point_at other 0 → ¬ IsLeft (whole t) (whole p) (whole q)

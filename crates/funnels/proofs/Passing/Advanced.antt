@@ -1,6 +1,6 @@
 -- Two ways that pass a diagonal and part pass the next diagonal too, and part there.
 use Rattle.std.proofs.Common.{◌≡◌, Bool, true, false, not, sym, subst, ap, ℕ, ◌<◌, pos, neg_ℤ, ◌<ℤ◌, ◌≤ℤ◌, List, length}
-use Rattle.integer_algebra.proofs.SignSteps.{turned_positive, weak}
+use Rattle.integer_algebra.proofs.SignSteps.{turned_not_negative, turned_positive, weak}
 use Rattle.plane.proofs.Points.{whole_is_point}
 use Rattle.plane.proofs.Segments.{on_last_end, on_reversed, on_nested}
 use Rattle.plane.proofs.Turns.{determinant_shift}
@@ -11,12 +11,12 @@ use Rattle.rings.specs.Ring.{vertex}
 use Rattle.meshes.specs.Fits.{Fits}
 use Rattle.meshes.specs.Side.{tri_at}
 use Rattle.meshes.specs.declared.tri.Tri.{Tri}
-use Rattle.funnels.proofs.Bends.{turning_swap}
-use Rattle.funnels.proofs.Corners.{IsSharedSide, corner_after, corner_back, corner_before, not_swept, shared_side_back, turning_not, negative_unless}
-use Rattle.funnels.proofs.Corners.{turned_not_negative}
+use Rattle.funnels.proofs.Bends.{corner_back, negative_unless, not_swept, turning_not, turning_swap}
+use Rattle.funnels.proofs.Corners.{corner_after, corner_before}
 use Rattle.funnels.proofs.Passing.AlongWays.{other_end_ahead, other_end_not_ahead, rest_ahead}
 use Rattle.funnels.proofs.Passing.Flipped.{flipped, flipped_back, opening_not}
 use Rattle.funnels.proofs.Passing.SweptBehind.{swept_behind}
+use Rattle.funnels.proofs.Vertices.{IsSharedSide, shared_side_back}
 use Rattle.funnels.specs.Corner.{HasCornerOn, IsInAngle}
 use Rattle.funnels.specs.Fanned.{turning}
 use Rattle.funnels.specs.Passing.{ArePassing, Passes}

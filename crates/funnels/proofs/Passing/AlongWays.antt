@@ -2,24 +2,21 @@
 use Rattle.std.proofs.Common.{◌≡◌, ◌∙◌, Bool, true, false, [], ◌∷◌, refl, ap, ℤ, pos, neg_ℤ, ◌+ℤ◌, ◌-ℤ◌, ◌*ℤ◌, ◌<ℤ◌, ◌≤ℤ◌, arith}
 use Rattle.std.proofs.lemmas.Int.{ints}
 use Rattle.integer_algebra.proofs.Certificate.{product_zero}
-use Rattle.integer_algebra.proofs.Laws.{add-mul, mul-neg, mul-sub, zero-mul}
+use Rattle.integer_algebra.proofs.Laws.{add-mul, mul-sub, zero-mul}
 use Rattle.integer_algebra.proofs.Polynomial.{lit, neg, var, ◌⊕◌, ◌⊖◌, ◌⊗◌, same_value}
 use Rattle.integer_algebra.proofs.SignSteps.{mean_positive, not_both, weak}
 use Rattle.integer_algebra.proofs.Signs.{factor_nonpositive, factor_positive, is_negative, is_positive, is_zero, mul_nonnegative, mul_nonpositive}
 use Rattle.integer_algebra.proofs.Signs.{mul_positive, sign}
 use Rattle.plane.proofs.Points.{whole_is_point}
 use Rattle.plane.proofs.Segments.{on_is_straight}
-use Rattle.plane.proofs.Turns.{IsCombination, combination_of, determinant_along, weights_positive, written_determinant}
+use Rattle.plane.proofs.Turns.{combination_of, weights_positive, written_determinant}
 use Rattle.plane.specs.Point.{IsPoint, Point, Triple, whole}
 use Rattle.plane.specs.Segment.{On}
+use Rattle.funnels.proofs.Bends.{turning_along}
 use Rattle.funnels.specs.Fanned.{turning}
 use Rattle.funnels.specs.Passing.{opening}
 
 -- ---- a mean of two numbers
-
--- the opposite of a mean
-opposite_mean : (k l m z f g : ℤ) → k *ℤ z ≡ l *ℤ f +ℤ m *ℤ g → k *ℤ neg_ℤ z ≡ l *ℤ neg_ℤ f +ℤ m *ℤ neg_ℤ g
-opposite_mean k l m z f g e = omega (arith, ints, mul-neg k z, mul-neg l f, mul-neg m g)
 
 module _ (k l m z f g : ℤ) (hk : pos 0 <ℤ k) (hl : pos 0 ≤ℤ l) (hm : pos 0 ≤ℤ m) (e : k *ℤ z ≡ l *ℤ f +ℤ m *ℤ g) where
   -- where it is 0 and the first number is positive, the second is not
@@ -52,12 +49,6 @@ module _ (k l m z f g : ℤ) (hk : pos 0 <ℤ k) (hl : pos 0 ≤ℤ l) (hm : pos
       (omega (arith, ints, e, add-mul l m g, parts, mul_positive k z hk hz, mul_nonnegative l c hl (weak hc)))
 
 -- ---- turnings
-
--- a turning along a segment is a mean of those at its ends
-pub turning_along : (side : Bool) (p a b : Triple) (c : IsCombination p a b) (v : Point) (w : Triple)
-    → c.k *ℤ turning side v w p ≡ c.l *ℤ turning side v w a +ℤ c.m *ℤ turning side v w b
-turning_along true p a b c v w = determinant_along p a b c (whole v) w
-turning_along false p a b c v w = opposite_mean c.k c.l c.m _ _ _ (determinant_along p a b c (whole v) w)
 
 -- a point on a way does not turn from it
 pub level_on_way : (side : Bool) (p h : Point) (x : Triple) → IsPoint x → On x (whole p) (whole h) → turning side p (whole h) x ≡ pos 0

@@ -1,10 +1,11 @@
 -- At a bend of a way that has come to a corner over a shared side, and goes on within the triangle beyond, it turns away from the side.
 use Rattle.std.proofs.Common.{◌≡◌, ◌⊎◌, inl, inr, sym, subst, Bool, true, false, not, ℕ, ◌+◌, ◌-◌, ◌<◌, pos, ◌<ℤ◌, ◌≤ℤ◌, List, length}
-use Rattle.integer_algebra.proofs.SignSteps.{not_both_positive, turned_negative, turned_positive, weak}
+use Rattle.integer_algebra.proofs.SignSteps.{not_both_positive, positive_of_not_zero, turned_negative, turned_not_negative}
+use Rattle.integer_algebra.proofs.SignSteps.{turned_positive, turned_zero, weak, zero_of_both}
 use Rattle.integer_algebra.proofs.Signs.{is_negative, is_positive, is_zero, sign}
 use Rattle.plane.proofs.Points.{same_whole, whole_is_point}
 use Rattle.plane.proofs.Turns.{determinant_same_first}
-use Rattle.plane.specs.Point.{IsSame, Point, Triple, whole}
+use Rattle.plane.specs.Point.{IsSame, Point, whole}
 use Rattle.plane.specs.Segment.{On}
 use Rattle.plane.specs.Turn.{IsStraight}
 use Rattle.rings.proofs.Simple.{apart_of_simple}
@@ -14,20 +15,14 @@ use Rattle.rings.specs.Ring.{vertex}
 use Rattle.meshes.specs.Fits.{Fits}
 use Rattle.meshes.specs.Side.{tri_at}
 use Rattle.meshes.specs.declared.tri.Tri.{Tri}
-use Rattle.funnels.proofs.Bends.{not_reflex, turnings_of_bend, positive_of_not_zero, level_is_vertex, ray_ahead, turning_differs, zero_of_opposite, AreOnRay}
-use Rattle.funnels.proofs.Bends.{turning_from_ray, turning_to_ray, turning_four, turning_swap}
-use Rattle.funnels.proofs.Corners.{corner_in_ring, neighbour_differs, neighbour_within, corner_turns, turning_not, IsRingStep, after_next}
-use Rattle.funnels.proofs.Corners.{before_next, step_turn, left_of_line, not_right_of_first, own_not_positive}
-use Rattle.funnels.proofs.Corners.{turned_back_not_negative, turned_zero, zero_of_both}
-use Rattle.ring_laws.proofs.Vertices.{neighbours_not_on_ray, same_number}
+use Rattle.funnels.proofs.Bends.{AreOnRay, corner_in_ring, corner_turns, level_is_vertex, neighbour_differs, not_ahead_of_itself}
+use Rattle.funnels.proofs.Bends.{not_reflex, ray_ahead, turning_differs, turning_four, turning_from_ray, turning_not}
+use Rattle.funnels.proofs.Bends.{turning_straight, turning_swap, turning_to_ray, turnings_of_bend}
+use Rattle.funnels.proofs.Corners.{IsRingStep, left_of_line, neighbour_within, not_right_of_first, step_turn}
+use Rattle.ring_laws.proofs.Vertices.{beside_next, neighbours_not_on_ray, same_number}
 use Rattle.funnels.proofs.Vertices.{fitted_counterclockwise, fitted_long, fitted_simple}
 use Rattle.funnels.specs.Corner.{HasCornerOn, IsInAngle}
 use Rattle.funnels.specs.Fanned.{turning}
-
--- what does not turn is straight
-level_straight : (side : Bool) (v : Point) (a b : Triple) → turning side v a b ≡ pos 0 → IsStraight (whole v) a b
-level_straight true v a b e = e
-level_straight false v a b e = zero_of_opposite e
 
 -- ---- a bend to the wrong side
 
@@ -52,7 +47,8 @@ module _ (corners : List Point) (tris : List Tri) (fits : Fits corners tris) (si
         let wide = subst (λ z. z <ℤ pos 0) (sym (turning_not side V (whole y) (whole p)))
         (turned_negative (turning_swap side V (whole y) (whole p)) wrong) in
         let within = turnings_of_bend (not side) corners y V p wide bend u n in (
-          turned_back_not_negative (turning_swap side V (whole y) (whole u)) (subst (λ z. z ≤ℤ pos 0) (turning_not side V (whole y) (whole u)) within.0),
+          turned_not_negative (turning_swap side V (whole u) (whole y))
+              (subst (λ z. z ≤ℤ pos 0) (turning_not side V (whole y) (whole u)) within.0),
           subst (λ z. z ≤ℤ pos 0) (turning_not side V (whole u) (whole p)) within.1,
         )
 
@@ -71,7 +67,7 @@ module _ (corners : List Point) (tris : List Tri) (fits : Fits corners tris) (si
         elim (neighbour_within corners tris fits side k far own tip in_list corner u n (record { from_after = high; to_before = weak front })) [
           | inl is ↦ is
           | inr is ↦
-              absurd (own_not_positive (turning_swap side V F F) (subst (λ (x : Point). pos 0 <ℤ turning side V (whole x) F) is.0 front))
+              absurd (not_ahead_of_itself side V F (subst (λ (x : Point). pos 0 <ℤ turning side V (whole x) F) is.0 front))
         ]
 
     -- so each is in line with p, or the third corner
@@ -147,8 +143,8 @@ module _ (corners : List Point) (tris : List Tri) (fits : Fits corners tris) (si
         let simple = fitted_simple corners tris fits in
         let three = fitted_long corners tris fits in
         let in_ring = corner_in_ring corners tris fits k in_list side far own tip corner in
-        let n = before_next corners simple three own in_ring in
-        let m = after_next corners simple three own in_ring in
+        let n = beside_next corners simple three own in_ring false in
+        let m = beside_next corners simple three own in_ring true in
         elim (classified (vertex corners (own + (length corners - 1))) n) [
           | inr is ↦ tip_no_neighbour _ n is
           | inl first ↦ elim (classified (vertex corners (own + 1)) m) [
@@ -161,6 +157,6 @@ module _ (corners : List Point) (tris : List Tri) (fits : Fits corners tris) (si
   pub turns_away : turning side (vertex corners own) (whole y) (whole p) <ℤ pos 0
   turns_away = elim (sign (turning side (vertex corners own) (whole y) (whole p))) [
     | is_negative h ↦ h
-    | is_zero h ↦ absurd (bend.turns (level_straight side (vertex corners own) (whole y) (whole p) h))
+    | is_zero h ↦ absurd (bend.turns (turning_straight side (vertex corners own) (whole y) (whole p) h))
     | is_positive h ↦ absurd (no_bend h)
   ]

@@ -11,13 +11,12 @@ use Rattle.rings.specs.Ring.{vertex}
 use Rattle.meshes.specs.Fits.{Fits}
 use Rattle.meshes.specs.Side.{tri_at}
 use Rattle.meshes.specs.declared.tri.Tri.{Tri}
-use Rattle.funnels.proofs.Bends.{turning_four}
-use Rattle.funnels.proofs.Corners.{corner_back, corner_before, corner_turns, within_back, left_of_second}
+use Rattle.funnels.proofs.Bends.{corner_turns, turning_along, turning_four}
+use Rattle.funnels.proofs.Corners.{left_of_second}
 use Rattle.funnels.proofs.Passing.Advanced.{turning_shift}
-use Rattle.funnels.proofs.Passing.AlongWays.{level_on_way, other_end_not_ahead, turning_along}
+use Rattle.funnels.proofs.Passing.AlongWays.{level_on_way, other_end_not_ahead}
 use Rattle.funnels.proofs.Passing.BendSides.{turns_away}
 use Rattle.funnels.proofs.Passing.BentWays.{mean_too, opens}
-use Rattle.funnels.proofs.Passing.Flipped.{flipped, flipped_back}
 use Rattle.funnels.specs.Corner.{HasCornerOn, IsInAngle}
 use Rattle.funnels.specs.Fanned.{turning}
 use Rattle.funnels.specs.Passing.{ArePassing, Passes}
@@ -101,16 +100,3 @@ module _ (corners : List Point) (tris : List Tri) (fits : Fits corners tris) (si
         (whole_is_point (vertex corners own)) (whole_is_point (vertex corners far)) passing.other.on_way passing.other.on_side
         passing.other.far_ahead);
   }
-
--- and a bend of the second way, at the far end
-pub bent_other : (corners : List Point) (tris : List Tri) → Fits corners tris → (side : Bool) (k far own tip : ℕ) → k < length tris
-    → HasCornerOn side (tri_at tris k) far own tip
-    → (p h : Point) (I : Type 0) (x : Triple) (q g : Point) (J : Type 0) (z : Triple)
-    → ArePassing side corners far own p h I x q g J z → g ≡ vertex corners far → J
-    → (y : Point) → IsBend corners y g q → IsInAngle side corners tip far own (whole y) → (K : Type 0)
-    → ArePassing side corners far own p h I x g y K (whole g)
-bent_other corners tris fits side k far own tip in_list corner p h I x q g J z passing is inner y bend within K =
-    let back = corner_back side (tri_at tris k) tip far own (corner_before corners tris fits k in_list side far own tip corner) in
-    flipped_back side
-    (bent corners tris fits (not side) k own far tip in_list back q g J z p h I x (flipped passing) is inner y bend
-    (within_back side corners tip far own (whole y) within) K)

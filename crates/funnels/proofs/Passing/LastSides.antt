@@ -14,10 +14,11 @@ use Rattle.meshes.proofs.TreeLeaves.{closed_of_sides, turns_left}
 use Rattle.meshes.specs.Fits.{Fits, IsInTri}
 use Rattle.meshes.specs.Side.{tri_at}
 use Rattle.meshes.specs.declared.tri.Tri.{Tri}
-use Rattle.funnels.proofs.Corners.{IsSharedSide, corner_after, shared_side_back}
-use Rattle.funnels.proofs.DeadEnds.{within_of_in}
+use Rattle.funnels.proofs.Bends.{in_angle}
+use Rattle.funnels.proofs.Corners.{corner_after}
 use Rattle.funnels.proofs.Passing.PartedWays.{first_left, last_right, passes_left, passes_right}
 use Rattle.funnels.proofs.Passing.SweptBehind.{swept_behind}
+use Rattle.funnels.proofs.Vertices.{IsSharedSide, shared_side_back}
 use Rattle.funnels.specs.Corner.{HasCornerOn}
 use Rattle.funnels.specs.Fanned.{turning}
 use Rattle.funnels.specs.Passing.{ArePassing}
@@ -46,7 +47,7 @@ module _ (corners : List Point) (tris : List Tri) (fits : Fits corners tris) (k 
     swept_at side far own c common h is u next behind =
         subst (λ (v : Point). turning side v (at far) (whole u) <ℤ pos 0) (sym is)
         (swept_behind corners tris fits side k third own far in_list c common t
-        (within_of_in corners tris fits k in_list side third own far c (whole t) inside) u
+        (in_angle corners tris fits k in_list side third own far c (whole t) inside) u
         (subst (λ (v : Point). AreNeighbours corners v u) is next)
         (subst (λ (v : Point). turning side v (whole t) (whole u) <ℤ pos 0) is behind))
 

@@ -14,11 +14,12 @@ use Rattle.meshes.specs.Fits.{Fits, IsInTri}
 use Rattle.meshes.specs.Laws.{CrossesSide, walk_tri}
 use Rattle.meshes.specs.Side.{IsWalk}
 use Rattle.meshes.specs.declared.tri.Tri.{Tri}
-use Rattle.funnels.proofs.Corners.{shared_side_back}
+use Rattle.funnels.proofs.Bends.{not_ahead_of_itself}
 use Rattle.funnels.proofs.DeadEnds.{HasSideOn, corner_at_side, crossed_back, crossed_before, crossed_shared, meets_on_part}
 use Rattle.funnels.proofs.Passing.Advanced.{advanced, advanced_other}
 use Rattle.funnels.proofs.Passing.AlongWays.{head_ahead}
-use Rattle.funnels.proofs.Passing.WalkedBack.{AreAt, IsAlong, IsBefore, after_bend, at_flipped, before_place, not_ahead_of_itself}
+use Rattle.funnels.proofs.Passing.WalkedBack.{AreAt, ComeTo, IsAlong, IsBefore, after_bend, at_flipped, before_place}
+use Rattle.funnels.proofs.Vertices.{shared_side_back}
 use Rattle.funnels.specs.Corner.{HasCornerOn}
 use Rattle.funnels.specs.Fanned.{turning}
 use Rattle.funnels.specs.Passing.{ArePassing}
@@ -48,7 +49,8 @@ module _ (corners : List Point) (tris : List Tri) (fits : Fits corners tris) (wa
   -- ---- one triangle back
 
   module _ (side : Bool) (m n : ℕ) (e : m + 1 ≡ n) (c d : List Point) (along : IsAlong corners tris fits walk w c)
-      (along_too : IsAlong corners tris fits walk w d) (s : AreAt corners tris fits walk w side n n n c d along along_too) where
+      (along_too : IsAlong corners tris fits walk w d) (s : AreAt corners tris fits walk w side n c d)
+      (before : IsBefore corners tris fits walk w c along s.a n) (before_too : IsBefore corners tris fits walk w d along_too s.b n) where
     in_walk : n < length walk
     in_walk = omega (arith, s.crossed.has_next)
 
@@ -59,12 +61,12 @@ module _ (corners : List Point) (tris : List Tri) (fits : Fits corners tris) (wa
 
     first_meets : (i j : ℕ) → CrossesSide tris walk m i j → Meet (whole (point_at c s.a)) s.x (whole (vertex corners i)) (whole (vertex corners j))
     first_meets =
-        way_meets c along s.a m n e s.next s.before in_walk s.x s.passing.one.rational s.passing.one.on_way
+        way_meets c along s.a m n e s.next before in_walk s.x s.passing.one.rational s.passing.one.on_way
         (passed_in s.x s.passing.one.rational s.passing.one.on_side)
 
     second_meets : (i j : ℕ) → CrossesSide tris walk m i j → Meet (whole (point_at d s.b)) s.z (whole (vertex corners i)) (whole (vertex corners j))
     second_meets =
-        way_meets d along_too s.b m n e s.next_too s.before_too in_walk s.z s.passing.other.rational s.passing.other.on_way
+        way_meets d along_too s.b m n e s.next_too before_too in_walk s.z s.passing.other.rational s.passing.other.on_way
         (passed_in s.z s.passing.other.rational (on_reversed s.z (whole (vertex corners s.own)) (whole (vertex corners s.far)) s.passing.other.on_side))
 
     -- they pass the next side at other points
@@ -73,27 +75,29 @@ module _ (corners : List Point) (tris : List Tri) (fits : Fits corners tris) (wa
         ArePassing side corners far own (point_at c (s.a + 1)) (point_at c s.a) (IsInner c s.a) x (point_at d (s.b + 1)) (point_at d s.b) (IsInner d s.b) z
 
     at_next : (far own : ℕ) (x z : Triple) → CrossesSide tris walk m far own → HasSideOn side (walk_tri tris walk m) far own → IsNext far own x z
-        → AreAt corners tris fits walk w side m (m + 1) (m + 1) c d along along_too
-    at_next far own x z crossed has passing = record {
-      far = far;
-      own = own;
-      a = s.a;
-      b = s.b;
-      x = x;
-      z = z;
-      crossed = crossed;
-      has = has;
-      next = s.next;
-      next_too = s.next_too;
-      before = subst (IsBefore corners tris fits walk w c along s.a) (sym e) s.before;
-      before_too = subst (IsBefore corners tris fits walk w d along_too s.b) (sym e) s.before_too;
-      passing = passing;
-    }
+        → ComeTo corners tris fits walk w side m (m + 1) (m + 1) c d along along_too
+    at_next far own x z crossed has passing = (
+      record {
+        far = far;
+        own = own;
+        a = s.a;
+        b = s.b;
+        x = x;
+        z = z;
+        crossed = crossed;
+        has = has;
+        next = s.next;
+        next_too = s.next_too;
+        passing = passing;
+      },
+      subst (IsBefore corners tris fits walk w c along s.a) (sym e) before,
+      subst (IsBefore corners tris fits walk w d along_too s.b) (sym e) before_too,
+    )
 
     module _ (tip : ℕ) (corner : HasCornerOn side (walk_tri tris walk n) s.far s.own tip) where
       -- beside the far end,
       at_far : CrossesSide tris walk m s.far tip → HasSideOn side (walk_tri tris walk m) s.far tip
-          → AreAt corners tris fits walk w side m (m + 1) (m + 1) c d along along_too
+          → ComeTo corners tris fits walk w side m (m + 1) (m + 1) c d along along_too
       at_far crossed has =
           let one = first_meets s.far tip crossed in
           let other = second_meets s.far tip crossed in
@@ -106,7 +110,7 @@ module _ (corners : List Point) (tris : List Tri) (fits : Fits corners tris) (wa
 
       -- and beside the own end
       at_own : CrossesSide tris walk m tip s.own → HasSideOn side (walk_tri tris walk m) tip s.own
-          → AreAt corners tris fits walk w side m (m + 1) (m + 1) c d along along_too
+          → ComeTo corners tris fits walk w side m (m + 1) (m + 1) c d along along_too
       at_own crossed has =
           let back = crossed_back corners tris fits walk w m tip s.own crossed in
           let one = first_meets s.own tip back in
@@ -119,7 +123,7 @@ module _ (corners : List Point) (tris : List Tri) (fits : Fits corners tris) (wa
           other.point other.rational (on_reversed other.point (whole (point_at d s.b)) s.z other.on_first) other.on_second)
 
     -- so they pass the side before, whichever it is
-    moved_back : AreAt corners tris fits walk w side m (m + 1) (m + 1) c d along along_too
+    moved_back : ComeTo corners tris fits walk w side m (m + 1) (m + 1) c d along along_too
     moved_back =
         let (tip, corner) = corner_at_side side (walk_tri tris walk n) s.far s.own s.has in
         elim (crossed_before corners tris fits walk w n s.far s.own s.crossed side tip m e corner) [
@@ -136,10 +140,10 @@ module _ (corners : List Point) (tris : List Tri) (fits : Fits corners tris) (wa
 
   -- both chains begin at one point there
   no_first : (side : Bool) (c d : List Point) (along : IsAlong corners tris fits walk w c) (along_too : IsAlong corners tris fits walk w d)
-      → point_at c 0 ≡ point_at d 0 → ¬ AreAt corners tris fits walk w side 0 0 0 c d along along_too
-  no_first side c d along along_too firsts s =
+      → point_at c 0 ≡ point_at d 0 → ¬ ComeTo corners tris fits walk w side 0 0 0 c d along along_too
+  no_first side c d along along_too firsts (s, before, before_too) =
       let same : point_at d s.b ≡ point_at c s.a =
-      ap (point_at d) (at_first d along_too s.b s.before_too) ∙ sym firsts ∙ ap (point_at c) (sym (at_first c along s.a s.before)) in
+      ap (point_at d) (at_first d along_too s.b before_too) ∙ sym firsts ∙ ap (point_at c) (sym (at_first c along s.a before)) in
       let p = point_at c (s.a + 1) in
       let h = point_at c s.a in
       let ahead = head_ahead side p h (point_at d (s.b + 1)) (point_at d s.b) s.passing.apart s.z s.passing.other.rational s.passing.other.on_way
@@ -148,7 +152,7 @@ module _ (corners : List Point) (tris : List Tri) (fits : Fits corners tris) (wa
 
   -- so there are no such chains
   pub none_at : (n : ℕ) (side : Bool) (c d : List Point) (along : IsAlong corners tris fits walk w c) (along_too : IsAlong corners tris fits walk w d)
-      → point_at c 0 ≡ point_at d 0 → ¬ AreAt corners tris fits walk w side n (n + 1) (n + 1) c d along along_too
+      → point_at c 0 ≡ point_at d 0 → ¬ ComeTo corners tris fits walk w side n (n + 1) (n + 1) c d along along_too
   none_at zero side c d along along_too firsts s =
       let one = at_flipped corners tris fits walk w side 0 0 1 c d along along_too (after_bend corners tris fits walk w side 0 1 c d along along_too s) in
       no_first (not side) d c along_too along (sym firsts) (after_bend corners tris fits walk w (not side) 0 0 d c along_too along one)
@@ -156,5 +160,6 @@ module _ (corners : List Point) (tris : List Tri) (fits : Fits corners tris) (wa
       let n = suc m in
       let one = at_flipped corners tris fits walk w side n n (n + 1) c d along along_too
       (after_bend corners tris fits walk w side n (n + 1) c d along along_too s) in
+      let (t, before, before_too) = after_bend corners tris fits walk w (not side) n n d c along_too along one in
       none_at m (not side) d c along_too along (sym firsts)
-      (moved_back (not side) m n (omega arith) d c along_too along (after_bend corners tris fits walk w (not side) n n d c along_too along one))
+      (moved_back (not side) m n (omega arith) d c along_too along t before before_too)

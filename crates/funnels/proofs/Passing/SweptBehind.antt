@@ -8,8 +8,8 @@ use Rattle.rings.specs.Ring.{vertex}
 use Rattle.meshes.specs.Fits.{Fits}
 use Rattle.meshes.specs.Side.{tri_at}
 use Rattle.meshes.specs.declared.tri.Tri.{Tri}
-use Rattle.funnels.proofs.Bends.{turning_four, turning_swap}
-use Rattle.funnels.proofs.Corners.{IsSharedSide, corner_back, corner_turns, not_swept, turning_not, right_of_third}
+use Rattle.funnels.proofs.Bends.{corner_back, corner_turns, not_swept, right_of_third, turning_four, turning_not, turning_swap}
+use Rattle.funnels.proofs.Vertices.{IsSharedSide}
 use Rattle.funnels.specs.Corner.{HasCornerOn, IsInAngle}
 use Rattle.funnels.specs.Fanned.{turning}
 

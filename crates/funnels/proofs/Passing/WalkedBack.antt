@@ -3,8 +3,6 @@
 use Rattle.std.proofs.Common.{◌≡◌, ◌⊎◌, inl, inr, sym, subst, ap, ◌∙◌, Bool, true, false, not, ℕ, zero, suc, ◌+◌, ◌-◌, ◌<◌, ◌≤◌, pos, ◌<ℤ◌, List}
 use Rattle.std.proofs.Common.{length, get_or, arith}
 use Rattle.std.proofs.lemmas.Bool.{cases_lt}
-use Rattle.std.proofs.lemmas.Int.{ints}
-use Rattle.plane.proofs.Turns.{determinant_same_last}
 use Rattle.plane.specs.Point.{Point, Triple, whole}
 use Rattle.rings.specs.Chain.{IsBentChain, IsInner, point_at}
 use Rattle.rings.specs.Ring.{vertex}
@@ -13,17 +11,13 @@ use Rattle.meshes.specs.Fits.{Fits, IsInTri}
 use Rattle.meshes.specs.Laws.{CrossesSide, walk_tri}
 use Rattle.meshes.specs.Side.{IsWalk}
 use Rattle.meshes.specs.declared.tri.Tri.{Tri}
+use Rattle.funnels.proofs.Bends.{not_ahead_of_itself}
 use Rattle.funnels.proofs.DeadEnds.{HasSideOn, corner_at_side, crossed_back, end_of_crossed, within_before}
 use Rattle.funnels.proofs.Passing.Bent.{bent}
 use Rattle.funnels.proofs.Passing.Flipped.{flipped}
 use Rattle.funnels.specs.Corner.{FollowsWalk, HasCornerOn, IsFirstWith, IsInAngle}
 use Rattle.funnels.specs.Fanned.{turning}
 use Rattle.funnels.specs.Passing.{ArePassing}
-
--- a way does not turn off to its own end
-pub not_ahead_of_itself : (side : Bool) (p : Point) (h : Triple) → ¬ (pos 0 <ℤ turning side p h h)
-not_ahead_of_itself true p h ahead = let e = determinant_same_last (whole p) h in omega (arith, ints)
-not_ahead_of_itself false p h ahead = let e = determinant_same_last (whole p) h in omega (arith, ints)
 
 -- a side in the mirror image
 side_flipped : (side : Bool) (t : Tri) (far own : ℕ) → HasSideOn side t far own → HasSideOn (not side) t own far
@@ -54,8 +48,8 @@ module _ (corners : List Point) (tris : List Tri) (fits : Fits corners tris) (wa
 
   -- ---- two chains at a side
 
-  -- the ways of the chains c and d to their points a and b pass the side that is crossed at place n; these points come before e and f
-  pub record AreAt (side : Bool) (n e f : ℕ) (c d : List Point) (along : IsAlong c) (along_too : IsAlong d) : Type 0 where
+  -- the ways of the chains c and d to their points a and b pass the side that is crossed at place n
+  pub record AreAt (side : Bool) (n : ℕ) (c d : List Point) : Type 0 where
     pub far : ℕ
     pub own : ℕ
     pub a : ℕ
@@ -66,32 +60,35 @@ module _ (corners : List Point) (tris : List Tri) (fits : Fits corners tris) (wa
     pub has : HasSideOn side (walk_tri tris walk n) far own
     pub next : a + 1 < length c
     pub next_too : b + 1 < length d
-    pub before : IsBefore c along a e
-    pub before_too : IsBefore d along_too b f
     pub passing : ArePassing side corners far own (point_at c (a + 1)) (point_at c a) (IsInner c a) x (point_at d (b + 1)) (point_at d b) (IsInner d b) z
 
+  -- and these points come before places e and f
+  abbrev pub ComeTo : Bool → (n e f : ℕ) → (c d : List Point) → IsAlong c → IsAlong d → Type 0
+  ComeTo side n e f c d along along_too = (s : AreAt side n c d) × IsBefore c along s.a e × IsBefore d along_too s.b f
+
   -- in the mirror image the two change places
-  pub at_flipped : (side : Bool) (n e f : ℕ) (c d : List Point) (along : IsAlong c) (along_too : IsAlong d) → AreAt side n e f c d along along_too
-      → AreAt (not side) n f e d c along_too along
-  at_flipped side n e f c d along along_too s = record {
-    far = s.own;
-    own = s.far;
-    a = s.b;
-    b = s.a;
-    x = s.z;
-    z = s.x;
-    crossed = crossed_back corners tris fits walk w n s.far s.own s.crossed;
-    has = side_flipped side (walk_tri tris walk n) s.far s.own s.has;
-    next = s.next_too;
-    next_too = s.next;
-    before = s.before_too;
-    before_too = s.before;
-    passing = flipped s.passing;
-  }
+  pub at_flipped : (side : Bool) (n e f : ℕ) (c d : List Point) (along : IsAlong c) (along_too : IsAlong d)
+      → ComeTo side n e f c d along along_too
+      → ComeTo (not side) n f e d c along_too along
+  at_flipped side n e f c d along along_too (s, before, before_too) =
+      let flip : AreAt (not side) n d c = record {
+        far = s.own;
+        own = s.far;
+        a = s.b;
+        b = s.a;
+        x = s.z;
+        z = s.x;
+        crossed = crossed_back corners tris fits walk w n s.far s.own s.crossed;
+        has = side_flipped side (walk_tri tris walk n) s.far s.own s.has;
+        next = s.next_too;
+        next_too = s.next;
+        passing = flipped s.passing;
+      } in
+      (flip, before_too, before)
 
   -- ---- at a bend
 
-  module _ (side : Bool) (n f : ℕ) (c d : List Point) (along : IsAlong c) (along_too : IsAlong d) (s : AreAt side n (n + 1) f c d along along_too)
+  module _ (side : Bool) (n : ℕ) (c d : List Point) (along : IsAlong c) (s : AreAt side n c d)
       (inner : IsInner c s.a) (here : along.follows.place s.a ≡ n) where
     abbrev h : Point
     h = point_at c s.a
@@ -138,13 +135,13 @@ module _ (corners : List Point) (tris : List Tri) (fits : Fits corners tris) (wa
         k order inside side s.far s.own tip corner is_own
 
     -- so the way before the head passes there
-    bends : AreAt side n n f c d along along_too
-    bends =
+    bends : (f : ℕ) (along_too : IsAlong d) → IsBefore d along_too s.b f → ComeTo side n n f c d along along_too
+    bends f along_too before_too =
         let (tip, corner) = corner_at_side side (walk_tri tris walk n) s.far s.own s.has in
         let passing = bent corners tris fits side (get_or walk n 0) s.far s.own tip (w.in_list n (omega (arith, s.crossed.has_next))) corner
         (point_at c (s.a + 1)) h (IsInner c s.a) s.x (point_at d (s.b + 1)) (point_at d s.b) (IsInner d s.b) s.z s.passing is_own inner y
         (along.is_bent.bends s.a inner) (before_is_within tip corner) (IsInner c (s.a - 1)) in
-        record {
+        let passes : AreAt side n c d = record {
           far = s.far;
           own = s.own;
           a = s.a - 1;
@@ -155,42 +152,23 @@ module _ (corners : List Point) (tris : List Tri) (fits : Fits corners tris) (wa
           has = s.has;
           next = omega (arith, s.next);
           next_too = s.next_too;
-          before = earlier;
-          before_too = s.before_too;
           passing = subst
               (λ i. ArePassing side corners s.far s.own (point_at c i) y (IsInner c (s.a - 1)) (whole h) (point_at d (s.b + 1)) (point_at d s.b) (IsInner d s.b) s.z)
               (sym step) passing;
-        }
-
-  -- a head that comes before
-  as_before : (side : Bool) (n f : ℕ) (c d : List Point) (along : IsAlong c) (along_too : IsAlong d)
-      (s : AreAt side n (n + 1) f c d along along_too) → IsBefore c along s.a n → AreAt side n n f c d along along_too
-  as_before side n f c d along along_too s before = record {
-    far = s.far;
-    own = s.own;
-    a = s.a;
-    b = s.b;
-    x = s.x;
-    z = s.z;
-    crossed = s.crossed;
-    has = s.has;
-    next = s.next;
-    next_too = s.next_too;
-    before = before;
-    before_too = s.before_too;
-    passing = s.passing;
-  }
+        } in
+        (passes, earlier, before_too)
 
   -- so after a bend, where there is one, the head comes before the side
   pub after_bend : (side : Bool) (n f : ℕ) (c d : List Point) (along : IsAlong c) (along_too : IsAlong d)
-      → AreAt side n (n + 1) f c d along along_too → AreAt side n n f c d along along_too
-  after_bend side n f c d along along_too s = elim s.before [
-    | inl none ↦ as_before side n f c d along along_too s (inl none)
-    | inr near ↦ elim (cases_lt (along.follows.place s.a) n) [
-      | inl less ↦ as_before side n f c d along along_too s (inr less)
-      | inr at_least ↦ elim (cases_lt 0 s.a) [
-        | inr none ↦ as_before side n f c d along along_too s (inl (omega arith))
-        | inl some ↦ bends side n f c d along along_too s (record { not_first = some; not_last = s.next }) (omega arith)
-      ]
+      → ComeTo side n (n + 1) f c d along along_too → ComeTo side n n f c d along along_too
+  after_bend side n f c d along along_too (s, inl none, before_too) = (s, inl none, before_too)
+  after_bend side n f c d along along_too (s, inr near, before_too) = elim (cases_lt (along.follows.place s.a) n) [
+    | inl less ↦ (s, inr less, before_too)
+    | inr at_least ↦ elim (cases_lt 0 s.a) [
+      | inr none ↦ (s, inl (omega arith), before_too)
+      | inl some ↦
+          let inner : IsInner c s.a = record { not_first = some; not_last = s.next } in
+          let here : along.follows.place s.a ≡ n = omega arith in
+          bends side n c d along s inner here f along_too before_too
     ]
   ]

@@ -17,7 +17,7 @@ use Rattle.rings.specs.Ring.{vertex}
 use Rattle.rings.specs.Simple.{IsSimple}
 use Rattle.rings.specs.Winding.{WindsUpTo}
 use Rattle.ring_laws.proofs.Simple.{runs_round}
-use Rattle.ring_laws.proofs.Vertices.{HasEdgesAt, edges_at, strictly_from, strictly_to}
+use Rattle.ring_laws.proofs.Vertices.{HasEdgesAt, IsStrictlyOn, edges_at, strictly_from, strictly_to}
 use Rattle.funnels.proofs.Vertices.NearVertices.{IsNotRightOf, near_is_out}
 
 -- a simple ring that runs counterclockwise winds up to once
@@ -58,21 +58,22 @@ module _ (ring : List Point) (apart : IsApartRing ring) (some : 1 < length ring)
         (zero_not_negative (determinant_same_ends (whole v) (whole w)), zero_not_negative (determinant_same_last (whole v) (whole w)))
   ]
 
-  -- so a point toward which the ring is near v is not right of the first edge,
-  not_right_of_first : ¬ IsRight (whole u) (whole v) z
-  not_right_of_first right =
-      let proper = proper_edges ring apart some (edge u v) at.first in
-      let out = near_is_out ring apart some winds (edge u v) at.first v (inr refl) beside_first (middle v u) (middle_is_point v u)
-      (strictly_to (edge u v) proper) z at_z right in
+  -- so a point toward which the ring is near v is not right of an edge at v of which no edge there is right, with a point inside it
+  not_right_of_edge : (e : Edge) → HasEdge (edges_of ring) e → HasEnd e v
+      → ((f : Edge) → HasEdge (edges_of ring) f → HasEnd f v → IsNotRightOf e f) → (c : Triple) → IsPoint c
+      → ((n : ℕ) → IsStrictlyOn e (toward (whole v) c n)) → ¬ IsRight (whole e.from) (whole e.to) z
+  not_right_of_edge e has end beside c at_c strictly right =
+      let out = near_is_out ring apart some winds e has v end beside c at_c strictly z at_z right in
       out.from_start out.start (le_refl out.start) (near out.start)
 
-  -- nor of the second
-  not_right_of_second : ¬ IsRight (whole v) (whole w) z
-  not_right_of_second right =
-      let proper = proper_edges ring apart some (edge v w) at.second in
-      let out = near_is_out ring apart some winds (edge v w) at.second v (inl refl) beside_second (middle v w) (middle_is_point v w)
-      (strictly_from (edge v w) proper) z at_z right in
-      out.from_start out.start (le_refl out.start) (near out.start)
+  -- as the first edge and the second
+  right_of_none : (¬ IsRight (whole u) (whole v) z) × (¬ IsRight (whole v) (whole w) z)
+  right_of_none = (
+    not_right_of_edge (edge u v) at.first (inr refl) beside_first (middle v u) (middle_is_point v u)
+        (strictly_to (edge u v) (proper_edges ring apart some (edge u v) at.first)),
+    not_right_of_edge (edge v w) at.second (inl refl) beside_second (middle v w) (middle_is_point v w)
+        (strictly_from (edge v w) (proper_edges ring apart some (edge v w) at.second)),
+  )
 
 -- a point toward which the ring is near a vertex that is not reflex is right of no edge there
 pub convex_vertex : (ring : List Point) → IsSimple ring → 3 ≤ length ring → IsCounterclockwise ring → (r : ℕ) → r < length ring
@@ -84,9 +85,5 @@ convex_vertex ring simple three runs r h convex z at_z near =
     let at = edges_at ring apart three r h in
     let winds = winds_up_to_one ring simple three runs in
     let turn = turn_not_negative ring runs r convex in
-    let u = vertex ring (r + (length ring - 1)) in
-    let v = vertex ring r in
-    let w = vertex ring (r + 1) in (
-      not_right_of_first ring apart (omega arith) winds u v w at turn z at_z near,
-      not_right_of_second ring apart (omega arith) winds u v w at turn z at_z near,
-    )
+    right_of_none ring apart (omega arith) winds (vertex ring (r + (length ring - 1))) (vertex ring r)
+    (vertex ring (r + 1)) at turn z at_z near

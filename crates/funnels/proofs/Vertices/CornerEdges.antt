@@ -62,13 +62,22 @@ shared_back tris i j k l s = record {
   only = λ m h between. elim (s.only m h (between_back between)) [ inl e ↦ inr e | inr e ↦ inl e ];
 }
 
+-- two triangles of the list, x and y, share the side between corners i and j
+abbrev pub IsSharedSide : List Tri → ℕ → ℕ → Type 0
+IsSharedSide tris i j = (x : ℕ) × (y : ℕ) × (IsSideOfTwo tris i j x y ⊎ IsSideOfTwo tris j i x y)
+
+-- from either end
+pub shared_side_back : {tris : List Tri} {i j : ℕ} → IsSharedSide tris i j → IsSharedSide tris j i
+shared_side_back (x, y, inl two) = (x, y, inr two)
+shared_side_back (x, y, inr two) = (x, y, inl two)
+
 module _ (corners : List Point) (piece : List ℕ) (tris : List Tri) (fits : FitsPiece corners piece tris) where
   -- no neighbour of the first end of a shared side is on the ray to the last,
-  pub neighbour_off_shared : (k l i j : ℕ) → IsSideOfTwo tris i j k l → (u : Point)
+  off_first : (k l i j : ℕ) → IsSideOfTwo tris i j k l → (u : Point)
       → AreNeighbours (piece_points corners piece) (vertex corners i) u
       → ¬ (On (whole u) (whole (vertex corners i)) (whole (vertex corners j))
       ⊎ On (whole (vertex corners j)) (whole (vertex corners i)) (whole u))
-  neighbour_off_shared k l i j two u n =
+  off_first k l i j two u n =
       let s = shared_of corners piece tris fits i j k l two in
       let ring = piece_points corners piece in
       let apart = ring_apart corners piece tris fits in
@@ -78,9 +87,9 @@ module _ (corners : List Point) (piece : List ℕ) (tris : List Tri) (fits : Fit
       neighbour_off_diagonal ring (vertex corners i) (vertex corners j) (shared_is_diagonal corners piece tris fits i j k l s) differ u n
       (neighbours_differ ring apart some (vertex corners i) u n)
 
-  -- and none of the last end on the ray to the first
-  pub neighbour_off_shared_end : (k l i j : ℕ) → IsSideOfTwo tris i j k l → (u : Point)
-      → AreNeighbours (piece_points corners piece) (vertex corners j) u
-      → ¬ (On (whole u) (whole (vertex corners j)) (whole (vertex corners i))
-      ⊎ On (whole (vertex corners i)) (whole (vertex corners j)) (whole u))
-  neighbour_off_shared_end k l i j two = neighbour_off_shared l k j i (shared_back tris i j k l two)
+  -- so none of an end is on the ray along the side
+  pub off_shared : (i j : ℕ) → IsSharedSide tris i j → (u : Point) → AreNeighbours (piece_points corners piece) (vertex corners i) u
+      → ¬ (On (whole u) (whole (vertex corners i)) (whole (vertex corners j))
+      ⊎ On (whole (vertex corners j)) (whole (vertex corners i)) (whole u))
+  off_shared i j (x, y, inl two) = off_first x y i j two
+  off_shared i j (x, y, inr two) = off_first y x i j (shared_back tris j i x y two)

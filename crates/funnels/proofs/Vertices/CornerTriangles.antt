@@ -10,48 +10,34 @@ use Rattle.rings.proofs.Vertices.{on_some_of}
 use Rattle.rings.specs.Bend.{AreNeighbours}
 use Rattle.rings.specs.Edge.{edges_of}
 use Rattle.rings.specs.Ring.{vertex}
-use Rattle.ring_laws.proofs.Triangles.{left_at_first, left_at_last}
+use Rattle.ring_laws.proofs.Triangles.{left_at_first}
 use Rattle.meshes.proofs.Parts.{inside_off_edges}
 use Rattle.meshes.specs.Fits.{FitsPiece, IsStrictlyInTri, piece_points}
 use Rattle.meshes.specs.Side.{HasSide, tri_at}
 use Rattle.meshes.specs.declared.tri.Tri.{Tri}
-use Rattle.meshes.proofs.TreeLeaves.{by_turns}
+use Rattle.meshes.proofs.TreeLeaves.{by_turns, turns_left}
 use Rattle.ring_laws.proofs.Vertices.{edge_between}
 
--- ---- a triangle by the numbers of its corners
-
--- the triangle has the corners j, i and m, counterclockwise; what is left of all its sides is strictly inside
-pub record HasCorners (corners : List Point) (t : Tri) (j i m : ℕ) : Type 0 where
-  pub left : IsLeft (whole (vertex corners j)) (whole (vertex corners i)) (whole (vertex corners m))
-  pub strictly : (y : Triple) → IsLeft (whole (vertex corners j)) (whole (vertex corners i)) y
-      → IsLeft (whole (vertex corners i)) (whole (vertex corners m)) y → IsLeft (whole (vertex corners m)) (whole (vertex corners j)) y
-      → IsStrictlyInTri corners t y
-
--- a triangle with two sides one after the other has the corners between them
-pub has_corners : (corners : List Point) (t : Tri) → IsLeft (whole (vertex corners t.a)) (whole (vertex corners t.b)) (whole (vertex corners t.c))
-    → (j i m : ℕ) → HasSide t j i → HasSide t i m → HasCorners corners t j i m
-has_corners corners t left j i m last next =
-    by_turns corners t left j i m last next (HasCorners corners t)
-    (λ a b c h. record {
-      left = left_at_last (vertex corners a) (vertex corners b) (vertex corners c) h.left;
-      strictly = λ y second third first. h.strictly y first second third;
-    })
-    (record { left = left; strictly = λ y first second third. record { left_of_first = first; left_of_second = second; left_of_third = third } })
-
--- ---- neighbours of a corner
+-- what is left of all sides of a triangle, by the numbers of its corners, is strictly inside
+strictly_by_sides : (corners : List Point) (t : Tri)
+    → IsLeft (whole (vertex corners t.a)) (whole (vertex corners t.b)) (whole (vertex corners t.c))
+    → (j i m : ℕ) → HasSide t j i → HasSide t i m → (y : Triple) → IsLeft (whole (vertex corners j)) (whole (vertex corners i)) y
+    → IsLeft (whole (vertex corners i)) (whole (vertex corners m)) y → IsLeft (whole (vertex corners m)) (whole (vertex corners j)) y
+    → IsStrictlyInTri corners t y
+strictly_by_sides corners t left j i m last next y =
+    let is_left = λ (a b : ℕ). IsLeft (whole (vertex corners a)) (whole (vertex corners b)) y in
+    by_turns corners t left j i m last next (λ a b c. is_left a b → is_left b c → is_left c a → IsStrictlyInTri corners t y)
+    (λ a b c h second third first. h first second third)
+    (λ first second third. record { left_of_first = first; left_of_second = second; left_of_third = third })
 
 module _ (corners : List Point) (piece : List ℕ) (tris : List Tri) (fits : FitsPiece corners piece tris) (k i j m : ℕ)
     (within : k < length tris) (next : HasSide (tri_at tris k) i m) (last : HasSide (tri_at tris k) j i) where
-  -- triangle k at its corner i, between j and m
-  pub corners_of : HasCorners corners (tri_at tris k) j i m
-  corners_of = has_corners corners (tri_at tris k) (fits.triangles k within).counterclockwise j i m last next
-
   -- no neighbour of vertex i is strictly inside the angle of the triangle there
   pub neighbour_not_inside : (u : Point) → AreNeighbours (piece_points corners piece) (vertex corners i) u
       → ¬ (IsLeft (whole (vertex corners i)) (whole (vertex corners m)) (whole u)
       × IsRight (whole (vertex corners i)) (whole (vertex corners j)) (whole u))
   neighbour_not_inside u n (left, right) =
-      let c = corners_of in
+      let left_turn = (fits.triangles k within).counterclockwise in
       let (e, between) = edge_between (piece_points corners piece) (vertex corners i) u n in
       let I = whole (vertex corners i) in
       let J = whole (vertex corners j) in
@@ -59,10 +45,12 @@ module _ (corners : List Point) (piece : List ℕ) (tris : List Tri) (fits : Fit
       let U = whole u in
       let at_I = whole_is_point (vertex corners i) in
       let at_U = whole_is_point u in
-      let near = left_eventually I U M J (left_at_first (vertex corners j) (vertex corners i) (vertex corners m) c.left) in
+      let near = left_eventually I U M J (left_at_first (vertex corners j) (vertex corners i) (vertex corners m)
+      (turns_left corners (tri_at tris k) left_turn j i m last next)) in
       let s : ℕ = near.start in
       let y = toward I U s in
-      let inside = c.strictly y (left_toward J I I U (determinant_same_last J I) (turned_positive (determinant_swap_first I J U) right) s)
+      let inside = strictly_by_sides corners (tri_at tris k) left_turn j i m last next y
+      (left_toward J I I U (determinant_same_last J I) (turned_positive (determinant_swap_first I J U) right) s)
       (left_toward I M I U (determinant_same_ends I M) left s) (near.from_start s (le_refl s)) in
       inside_off_edges corners piece tris fits k within y (toward_is_point I U at_I at_U s) inside
       (on_some_of y e (edges_of (piece_points corners piece)) between.has (between.on y (toward_on I U at_I at_U s)))

@@ -1,12 +1,13 @@
 -- A triangle in front of a point: left of one line through the point.
 use Rattle.std.proofs.Common.{◌≡◌, inl, inr, [], ◌∷◌, refl, List, pos, ◌+ℤ◌, ◌-ℤ◌, ◌*ℤ◌, ◌≤ℤ◌}
 use Rattle.integer_algebra.proofs.Polynomial.{lit, var, ◌⊕◌, ◌⊖◌, ◌⊗◌, same_value}
+use Rattle.integer_algebra.proofs.SignSteps.{at_least_unless}
 use Rattle.integer_algebra.proofs.Signs.{lt_or_le}
 use Rattle.plane.proofs.Turns.{written_determinant}
 use Rattle.plane.specs.Point.{IsPoint, Point, Triple, whole}
 use Rattle.plane.specs.Turn.{IsLeft, IsRight, determinant}
 use Rattle.rings.specs.Ring.{vertex}
-use Rattle.ring_laws.proofs.Triangles.{in_triangle, not_negative}
+use Rattle.ring_laws.proofs.Triangles.{in_triangle}
 use Rattle.meshes.proofs.Cones.RaySigns.{ahead_of}
 use Rattle.meshes.specs.Fits.{IsInTri}
 use Rattle.meshes.specs.declared.tri.Tri.{Tri}
@@ -40,11 +41,11 @@ triangle_in_front corners t q off =
     let b = vertex corners t.b in
     let c = vertex corners t.c in
     elim (lt_or_le (determinant (whole a) (whole b) (whole q)) (pos 0)) [
-      | inl right ↦ (ahead q a b, λ x at_x in_x. in_front q a b right x at_x (not_negative in_x.not_right_of_first))
+      | inl right ↦ (ahead q a b, λ x at_x in_x. in_front q a b right x at_x (at_least_unless in_x.not_right_of_first))
       | inr first ↦ elim (lt_or_le (determinant (whole b) (whole c) (whole q)) (pos 0)) [
-        | inl right ↦ (ahead q b c, λ x at_x in_x. in_front q b c right x at_x (not_negative in_x.not_right_of_second))
+        | inl right ↦ (ahead q b c, λ x at_x in_x. in_front q b c right x at_x (at_least_unless in_x.not_right_of_second))
         | inr second ↦ elim (lt_or_le (determinant (whole c) (whole a) (whole q)) (pos 0)) [
-          | inl right ↦ (ahead q c a, λ x at_x in_x. in_front q c a right x at_x (not_negative in_x.not_right_of_third))
+          | inl right ↦ (ahead q c a, λ x at_x in_x. in_front q c a right x at_x (at_least_unless in_x.not_right_of_third))
           | inr third ↦ absurd (off (in_triangle a b c (whole q) first second third))
         ]
       ]

@@ -1,7 +1,7 @@
 -- What a point sees of a side of a triangle is what the narrowed cone tells.
 use Rattle.std.proofs.Common.{◌≡◌, inl, inr, refl, List, ℕ, pos, ◌≤ℤ◌, Some, None}
 use Rattle.std.specs.Prelude.{Option}
-use Rattle.integer_algebra.proofs.SignSteps.{at_most_unless, not_both, not_both_positive}
+use Rattle.integer_algebra.proofs.SignSteps.{at_least_unless, at_most_unless, not_both, not_both_positive}
 use Rattle.integer_algebra.proofs.Signs.{is_negative, is_positive, is_zero, sign}
 use Rattle.plane.proofs.Points.{whole_is_point}
 use Rattle.plane.proofs.Segments.{on_first_end, on_last_end, stays_left, stays_right}
@@ -10,7 +10,7 @@ use Rattle.plane.specs.Point.{IsPoint, Point, Triple, whole}
 use Rattle.plane.specs.Segment.{On}
 use Rattle.plane.specs.Turn.{IsLeft, IsRight, IsStraight, determinant}
 use Rattle.rings.specs.Sees.{Sees}
-use Rattle.ring_laws.proofs.Triangles.{not_negative, not_right_between}
+use Rattle.ring_laws.proofs.Triangles.{not_right_between}
 use Rattle.meshes.proofs.Cones.NarrowedRays.{new_window, not_left_between}
 use Rattle.meshes.proofs.Cones.Narrowing.{narrowed_by, narrowed_left_by, narrowed_right_by}
 use Rattle.meshes.proofs.Cones.RaySigns.{left_too, not_left_too, not_right_too, right_too}
@@ -93,7 +93,7 @@ module _ (corners : List Point) (t : Tri) (q l r : Point) (facing : IsFacing cor
 
       right_end : pos 0 ≤ℤ determinant Q B R
       right_end = elim through.place [
-        | inl in_q ↦ not_negative (held in_q r in_r).not_right
+        | inl in_q ↦ at_least_unless (held in_q r in_r).not_right
         | inr front ↦
             not_right_too _ _ _ _ _ _ (five_triples Q (whole front.toward) B R L) front.right
             (front.triangle R (whole_is_point r) in_r) (front.triangle L (whole_is_point l) in_l) line far

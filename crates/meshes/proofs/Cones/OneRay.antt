@@ -1,8 +1,8 @@
 -- A triangle beyond a side of which a point sees points on one ray alone: in the triangle it sees that ray. And one that has the point.
 use Rattle.std.proofs.Common.{◌≡◌, ◌⊎◌, ◌↔◌, inl, inr, sym, subst, List}
-use Rattle.integer_algebra.proofs.SignSteps.{at_most_unless, mean_not_negative, mean_not_positive, mean_zero, negative_not_zero}
-use Rattle.integer_algebra.proofs.SignSteps.{not_both, not_both_positive, positive_of_not_zero, turned_not_positive}
-use Rattle.integer_algebra.proofs.SignSteps.{zero_not_negative, zero_not_positive}
+use Rattle.integer_algebra.proofs.SignSteps.{at_least_unless, at_most_unless, mean_not_negative, mean_not_positive, mean_zero}
+use Rattle.integer_algebra.proofs.SignSteps.{negative_not_zero, not_both, not_both_positive, positive_of_not_zero}
+use Rattle.integer_algebra.proofs.SignSteps.{turned_not_positive, zero_not_negative, zero_not_positive}
 use Rattle.plane.proofs.Points.{same_refl, whole_is_point}
 use Rattle.plane.proofs.Segments.{combination_of_same, on_first_end, on_is_straight, on_last_end, on_same_point, ray_on_left}
 use Rattle.plane.proofs.Segments.{same_straight, same_without_last}
@@ -14,7 +14,7 @@ use Rattle.plane.specs.Segment.{On}
 use Rattle.plane.specs.Turn.{IsLeft, IsRight, IsStraight}
 use Rattle.rings.specs.Ring.{vertex}
 use Rattle.rings.specs.Sees.{Sees}
-use Rattle.ring_laws.proofs.Triangles.{in_or_not, not_negative}
+use Rattle.ring_laws.proofs.Triangles.{in_or_not}
 use Rattle.meshes.proofs.Cones.Fronts.{triangle_in_front}
 use Rattle.meshes.proofs.Cones.RaySigns.{in_line, in_line_ahead, in_line_too, squeezed}
 use Rattle.meshes.proofs.Cones.SideReach.{IsBeyondSide}
@@ -120,7 +120,7 @@ module _ (corners : List Point) (t : Tri) (q l r : Point) (beyond : IsBeyondSide
         (λ y at_y on sees. same_straight Q C y C at_c ((seen y at_y on).0 sees) (determinant_same_last Q C))
         (determinant_same_last Q C)
         (λ x at_x in_x. (
-          λ h. squeezed (at_most_unless h.not_left) (not_negative h.not_right),
+          λ h. squeezed (at_most_unless h.not_left) (at_least_unless h.not_right),
           λ straight. record {
             not_left = λ h. not_both_positive h (zero_not_positive straight);
             not_right = λ h. not_both h (zero_not_negative straight);
@@ -140,11 +140,11 @@ module _ (corners : List Point) (t : Tri) (q l r : Point) (beyond : IsBeyondSide
             λ sees. record {
               not_left = λ h. not_both_positive h (mean_not_positive w.k w.l w.m _ _ _ w.k_positive w.l_nonnegative w.m_nonnegative
                   (determinant_along_first Q R L w L x)
-                  (turned_not_positive (determinant_swap_first L R x) (not_negative (beyond.not_before x in_x)))
+                  (turned_not_positive (determinant_swap_first L R x) (at_least_unless (beyond.not_before x in_x)))
                   (zero_not_positive (determinant_same_first L x)));
               not_right = λ h. not_both h (mean_not_negative w.k w.l w.m _ _ _ w.k_positive w.l_nonnegative w.m_nonnegative
                   (determinant_along_first Q R L w R x)
-                  (zero_not_negative (determinant_same_first R x)) (not_negative (beyond.not_before x in_x)));
+                  (zero_not_negative (determinant_same_first R x)) (at_least_unless (beyond.not_before x in_x)));
             },
             λ holds. beyond.sees Q x at_q at_x in_q in_x,
           );
@@ -158,7 +158,7 @@ module _ (corners : List Point) (t : Tri) (q l r : Point) (beyond : IsBeyondSide
     ends_hold g left_l left_r x =
         let e = five_triples Q (whole g) L R x in
         let none = straight_swap_last Q R L flat in (
-          λ h. in_line _ _ _ _ _ _ e left_l left_r none (at_most_unless h.not_left) (not_negative h.not_right),
+          λ h. in_line _ _ _ _ _ _ e left_l left_r none (at_most_unless h.not_left) (at_least_unless h.not_right),
           λ straight. record {
             not_left = λ h. not_both_positive h (zero_not_positive straight);
             not_right = λ h. not_both h (zero_not_negative (in_line_too _ _ _ _ _ _ e left_l left_r none straight));

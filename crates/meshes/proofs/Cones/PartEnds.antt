@@ -2,7 +2,8 @@
 use Rattle.std.proofs.Common.{◌≡◌, ◌⊎◌, ◌↔◌, inl, inr, sym, subst, List, ℤ, pos, ◌-ℤ◌, neg_ℤ, ◌<ℤ◌, ◌≤ℤ◌, arith, Some, None}
 use Rattle.std.proofs.lemmas.Int.{ints}
 use Rattle.std.specs.Prelude.{Option}
-use Rattle.integer_algebra.proofs.SignSteps.{at_most_unless, not_both, not_both_positive, zero_not_negative, zero_not_positive}
+use Rattle.integer_algebra.proofs.SignSteps.{at_least_unless, at_most_unless, not_both, not_both_positive, zero_not_negative}
+use Rattle.integer_algebra.proofs.SignSteps.{zero_not_positive}
 use Rattle.plane.proofs.Points.{same_sym, same_trans, whole_is_point}
 use Rattle.plane.proofs.Segments.{as_far, combination_of_same, later_between, on_first_end, on_is_straight, on_last_end, on_nested}
 use Rattle.plane.proofs.Segments.{on_one_side, on_same_point, one_meeting}
@@ -13,7 +14,7 @@ use Rattle.plane.specs.Point.{IsPoint, IsSame, Point, Triple, whole}
 use Rattle.plane.specs.Segment.{On}
 use Rattle.plane.specs.Turn.{IsRight, IsStraight, determinant}
 use Rattle.rings.specs.Sees.{Sees}
-use Rattle.ring_laws.proofs.Triangles.{not_negative, not_right_between}
+use Rattle.ring_laws.proofs.Triangles.{not_right_between}
 use Rattle.meshes.proofs.Cones.NarrowedRays.{not_left_between}
 use Rattle.meshes.proofs.Cones.RaySigns.{bound_side, same_not_positive, squeezed}
 use Rattle.meshes.proofs.Cones.SideMeetings.{at_meeting, at_weights, before_meeting, meeting, meeting_on, meeting_on_ray}
@@ -64,7 +65,7 @@ module _ (ring : List Point) (q l r : Point) (cone : Cone) (w : IsWindow ring q 
   first_not_left =
       let m = meeting q l r cone.right r w.right_ray a first in
       let value = bound_side _ _ _ (determinant Q A R) (determinant Q A L) (determinant Q B R) (determinant Q B L) (five_triples Q B A R L)
-      (at_weights q l r cone.right r w.right_ray a first cone.left) (not_negative w.in_order) w.before in
+      (at_weights q l r cone.right r w.right_ray a first cone.left) (at_least_unless w.in_order) w.before in
       same_not_positive _ _ _ _ (determinant_same Q A a m (same_meeting q l r cone.right r w.right_ray a first)) first.rational
       (at_meeting q l r cone.right r w.right_ray a first) value
 
@@ -88,7 +89,7 @@ module _ (ring : List Point) (q l r : Point) (cone : Cone) (w : IsWindow ring q 
           | inl near ↦
               let down = not_left_between Q B x R a at_x (whole_is_point r) first.rational w.right_ray.not_past_right
               (zero_not_positive first_on_ray) near in
-              let straight = squeezed down (not_negative holds.not_right) in
+              let straight = squeezed down (at_least_unless holds.not_right) in
               on_same_point first.rational (same_sym (only_meeting q l r cone.right r w.right_ray a first x at_x on straight))
               (on_first_end a b)
         ]

@@ -4,7 +4,7 @@ use Rattle.std.proofs.Common.{ℕ, ◌+◌, ◌-◌, ◌<◌}
 use Rattle.std.proofs.lemmas.Bool.{cases_lt}
 use Rattle.std.proofs.lemmas.List.{get_or_append_left, get_or_push}
 use Rattle.std.specs.List.{range_with_len}
-use Rattle.integer_algebra.proofs.SignSteps.{turned_not_positive, turned_positive, zero_not_positive}
+use Rattle.integer_algebra.proofs.SignSteps.{at_least_unless, turned_not_positive, turned_positive, zero_not_positive}
 use Rattle.plane.proofs.Points.{whole_is_point}
 use Rattle.plane.proofs.Segments.{first_end_on_line, on_is_straight, on_reversed, on_same_point}
 use Rattle.plane.proofs.Turns.{determinant_same_ends, determinant_same_last, determinant_swap_first}
@@ -13,7 +13,7 @@ use Rattle.plane.specs.Segment.{Meet, On}
 use Rattle.plane.specs.Turn.{IsRight, IsStraight, determinant}
 use Rattle.rings.specs.Ring.{vertex}
 use Rattle.rings.specs.Sees.{Sees}
-use Rattle.ring_laws.proofs.Triangles.{not_negative, on_first_side}
+use Rattle.ring_laws.proofs.Triangles.{on_first_side}
 use Rattle.meshes.proofs.Parts.{opposite, side_in}
 use Rattle.meshes.proofs.Sight.{not_right_of_side, sees_before, sees_in_triangle, sees_on, sleeve_law}
 use Rattle.meshes.proofs.TreeLeaves.{closed_of_sides, next_corner, side_is_one, turns_left}
@@ -186,7 +186,7 @@ module _ (corners : List Point) (tris : List Tri) (fits : Fits corners tris) (q 
         (on_is_straight y L R at_y (whole_is_point (vertex corners j)) (whole_is_point (vertex corners i)) (on_reversed y R L on_y))
         (turned_positive (determinant_swap_first R L (whole q)) right)
         (turned_not_positive {d = determinant R L z} (determinant_swap_first R L z)
-        (not_negative (not_right_of_side corners (tri_at tris k) z in_z i j has))) in
+        (at_least_unless (not_right_of_side corners (tri_at tris k) z in_z i j has))) in
         on_same_point meet.rational same meet.on_second in
         elim entry [
           | inl side ↦ by_side share.i share.j side

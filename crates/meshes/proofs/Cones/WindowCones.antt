@@ -2,9 +2,10 @@
 use Rattle.std.proofs.Common.{◌≡◌, inr, List, ℤ, pos, ◌+ℤ◌, ◌-ℤ◌, ◌*ℤ◌, neg_ℤ, ◌<ℤ◌, ◌≤ℤ◌, arith}
 use Rattle.std.proofs.lemmas.Int.{ints}
 use Rattle.integer_algebra.proofs.Laws.{neg-mul}
-use Rattle.integer_algebra.proofs.SignSteps.{at_most_unless, mean_not_negative, mean_not_positive, not_both, not_both_positive}
-use Rattle.integer_algebra.proofs.SignSteps.{one_positive, opposite_not_negative, positive_not_zero, positive_of_not_zero}
-use Rattle.integer_algebra.proofs.SignSteps.{turned_negative, turned_not_positive, weak, zero_not_negative, zero_not_positive}
+use Rattle.integer_algebra.proofs.SignSteps.{at_least_unless, at_most_unless, mean_not_negative, mean_not_positive, not_both}
+use Rattle.integer_algebra.proofs.SignSteps.{not_both_positive, one_positive, opposite_not_negative, positive_not_zero}
+use Rattle.integer_algebra.proofs.SignSteps.{positive_of_not_zero, turned_negative, turned_not_positive, weak, zero_not_negative}
+use Rattle.integer_algebra.proofs.SignSteps.{zero_not_positive}
 use Rattle.plane.proofs.Meetings.{weighed_sum, zero_point}
 use Rattle.plane.proofs.Points.{whole_is_point}
 use Rattle.plane.proofs.Segments.{on_is_straight, on_same_point, same_without_last}
@@ -14,7 +15,6 @@ use Rattle.plane.proofs.Turns.{on_of_combination}
 use Rattle.plane.specs.Point.{IsPoint, Point, Triple, whole}
 use Rattle.plane.specs.Turn.{IsLeft, IsRight, determinant}
 use Rattle.rings.specs.Sees.{Sees}
-use Rattle.ring_laws.proofs.Triangles.{not_negative}
 use Rattle.meshes.proofs.Cones.Fronts.{ahead, ahead_turn, in_front}
 use Rattle.meshes.proofs.Cones.RaySigns.{beyond_side, not_left_ahead, not_past_left, not_past_right, not_right_ahead}
 use Rattle.meshes.proofs.Cones.SideReach.{IsBeyondSide}
@@ -74,14 +74,14 @@ module _ (corners : List Point) (t : Tri) (q l r : Point) (beyond : IsBeyondSide
           not_left = λ h. not_both_positive h (not_left_ahead c.k c.l c.m _ _ _ some (determinant_same_ends Q A)
               (determinant_along y Q x c Q A) c.k_positive (at_most_unless holds.not_left));
           not_right = λ h. not_both h (not_right_ahead c.k c.l c.m _ _ _ some (determinant_same_ends Q B)
-              (determinant_along y Q x c Q B) c.k_positive (not_negative holds.not_right));
+              (determinant_along y Q x c Q B) c.k_positive (at_least_unless holds.not_right));
         }
 
     -- ---- what is held is seen
 
     -- the way to x crosses the line of the side
     below : determinant R L x ≤ℤ pos 0
-    below = turned_not_positive (determinant_swap_first L R x) (not_negative (beyond.not_before x in_x))
+    below = turned_not_positive (determinant_swap_first L R x) (at_least_unless (beyond.not_before x in_x))
 
     between : determinant Q L x <ℤ determinant Q R x
     between = beyond_side _ _ _ _ _ (four_triples_in_W Q R L x) below w.before at_x
@@ -119,7 +119,7 @@ module _ (corners : List Point) (t : Tri) (q l r : Point) (beyond : IsBeyondSide
         l_nonnegative = opposite_not_negative (not_past_left _ _ _ _ _ _ (five_triples Q (whole cone.left) R L x) w.left_ray.not_past_right
             w.left_ray.not_past_left w.left_ray.apart w.before between (at_most_unless holds.not_left));
         m_nonnegative = not_past_right _ _ _ _ _ _ (five_triples Q (whole cone.right) R L x) w.right_ray.not_past_right
-            w.right_ray.not_past_left w.right_ray.apart w.before between (not_negative holds.not_right);
+            w.right_ray.not_past_left w.right_ray.apart w.before between (at_least_unless holds.not_right);
         in_X = weighed_sum (determinant Q R x) (determinant Q L x) R.X L.X;
         in_Y = weighed_sum (determinant Q R x) (determinant Q L x) R.Y L.Y;
         in_W = weighed_sum (determinant Q R x) (determinant Q L x) R.W L.W;
@@ -136,7 +136,7 @@ module _ (corners : List Point) (t : Tri) (q l r : Point) (beyond : IsBeyondSide
             not_left = λ h. not_both_positive h (mean_not_positive c.k c.l c.m _ _ _ c.k_positive c.l_nonnegative c.m_nonnegative
                 (determinant_along crossing Q x c Q A) (zero_not_positive (determinant_same_ends Q A)) (at_most_unless holds.not_left));
             not_right = λ h. not_both h (mean_not_negative c.k c.l c.m _ _ _ c.k_positive c.l_nonnegative c.m_nonnegative
-                (determinant_along crossing Q x c Q B) (zero_not_negative (determinant_same_ends Q B)) (not_negative holds.not_right));
+                (determinant_along crossing Q x c Q B) (zero_not_negative (determinant_same_ends Q B)) (at_least_unless holds.not_right));
           }
 
       -- so q sees x over it
@@ -164,7 +164,7 @@ module _ (corners : List Point) (t : Tri) (q l r : Point) (beyond : IsBeyondSide
     in_order = w.in_order;
     place = inr (record {
       toward = ahead q l r;
-      triangle = λ x at_x in_x. in_front q l r right x at_x (not_negative (beyond.not_before x in_x));
+      triangle = λ x at_x in_x. in_front q l r right x at_x (at_least_unless (beyond.not_before x in_x));
       left = ray_in_front cone.left w.left_ray;
       right = ray_in_front cone.right w.right_ray;
     });

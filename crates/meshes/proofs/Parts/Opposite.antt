@@ -1,6 +1,7 @@
 -- A triangle of a list at one of its sides: the corner opposite to the side, and the points near the side.
 use Rattle.std.proofs.Common.{◌≡◌, inl, inr, subst, List, [], ◌∷◌, ℕ, ◌+◌, ℤ, pos, ◌+ℤ◌, ◌*ℤ◌, ◌<ℤ◌, ◌≤ℤ◌, arith}
 use Rattle.std.proofs.lemmas.Int.{ints}
+use Rattle.integer_algebra.proofs.SignSteps.{at_least_unless}
 use Rattle.integer_algebra.proofs.Signs.{lt_or_le, mul_nonnegative}
 use Rattle.plane.proofs.Nearness.{left_toward, side_toward, Eventually, left_eventually, toward, toward_is_point}
 use Rattle.plane.proofs.Points.{whole_is_point}
@@ -13,7 +14,6 @@ use Rattle.plane.specs.Triangle.{IsInTriangle}
 use Rattle.rings.specs.Edge.{Edge, edge}
 use Rattle.rings.specs.Ring.{vertex}
 use Rattle.ring_laws.proofs.Triangles.{between_in_triangle, first_in_triangle, left_at_first, left_at_last, middle_in_triangle}
-use Rattle.ring_laws.proofs.Triangles.{not_negative}
 use Rattle.meshes.specs.Fits.{IsInTri, IsStrictlyInTri}
 use Rattle.meshes.specs.Side.{HasSide}
 use Rattle.meshes.specs.declared.tri.Tri.{Tri}
@@ -175,7 +175,7 @@ module _ (corners : List Point) (t : Tri) (left : IsLeft (whole (vertex corners 
       let B = whole (vertex corners t.b) in
       let C = whole (vertex corners t.c) in
       record {
-        left_of_first = sum_left n _ _ _ (side_toward A B x g n) (not_negative h.not_right_of_first) s.left_of_first;
-        left_of_second = sum_left n _ _ _ (side_toward B C x g n) (not_negative h.not_right_of_second) s.left_of_second;
-        left_of_third = sum_left n _ _ _ (side_toward C A x g n) (not_negative h.not_right_of_third) s.left_of_third;
+        left_of_first = sum_left n _ _ _ (side_toward A B x g n) (at_least_unless h.not_right_of_first) s.left_of_first;
+        left_of_second = sum_left n _ _ _ (side_toward B C x g n) (at_least_unless h.not_right_of_second) s.left_of_second;
+        left_of_third = sum_left n _ _ _ (side_toward C A x g n) (at_least_unless h.not_right_of_third) s.left_of_third;
       }

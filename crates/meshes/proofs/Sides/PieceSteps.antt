@@ -75,10 +75,6 @@ module _ (x : ℕ) (xs : List ℕ) (last i j : ℕ) where
 
 -- ---- an edge or not
 
--- two numbers are equal or not
-pub same_or_not : (a b : ℕ) → (a ≡ b) ⊎ (¬ (a ≡ b))
-same_or_not = cases_eq
-
 -- two pairs of numbers too
 pair_or_not : (a b i j : ℕ) → ((a ≡ i) × (b ≡ j)) ⊎ (¬ ((a ≡ i) × (b ≡ j)))
 pair_or_not a b i j = both_or_not (cases_eq a i) (cases_eq b j)

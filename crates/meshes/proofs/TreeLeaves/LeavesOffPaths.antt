@@ -1,21 +1,13 @@
 -- Where some number is not on a path of a tree, a leaf is not: one with a longest path past that number.
-use Rattle.std.proofs.Common.{refl, ◌≡◌, ◌⊎◌, inl, inr, sym, subst, ◌∙◌, ℕ, zero, suc, ◌<◌, ◌≤◌, List, [], ◌∷◌, length, arith}
+use Rattle.std.proofs.Common.{refl, ◌≡◌, inl, inr, sym, subst, ◌∙◌, ℕ, zero, suc, ◌<◌, ◌≤◌, List, [], ◌∷◌, length, arith}
 use Rattle.std.proofs.lemmas.Bool.{cases_lt, cases_eq}
 use Rattle.meshes.proofs.TreeLeaves.TreeLeaves.{IsJoinedToOne, as_long, leaf_from}
-use Rattle.meshes.proofs.Walks.{IsNew, IsPath, IsTreeOn}
+use Rattle.meshes.proofs.Walks.{IsNew, IsPath, IsTreeOn, new_or_not}
 
 module _ (n : ℕ) (R : ℕ → ℕ → Type 0) (turn : (a b : ℕ) → R a b → R b a) (tree : IsTreeOn (λ a. a < n) R) where
   -- the numbers of the tree
   abbrev P : ℕ → Type 0
   P a = a < n
-
-  -- a number is new to a list or not
-  new_or_not : (x : ℕ) (xs : List ℕ) → IsNew x xs ⊎ (¬ IsNew x xs)
-  new_or_not x [] = inl tt
-  new_or_not x (y ∷ ys) = elim (cases_eq x y) [
-    | inl same ↦ inr (λ new. new.0 same)
-    | inr differs ↦ elim (new_or_not x ys) [ inl new ↦ inl (differs, new) | inr old ↦ inr (λ new. old new.1) ]
-  ]
 
   -- what is new to a path is not its end
   new_not_end : (x a : ℕ) (bs : List ℕ) (c : ℕ) → IsPath P R a bs c → IsNew x (a ∷ bs) → ¬ (x ≡ c)

@@ -1,5 +1,6 @@
 -- Paths that visit no number twice, in a graph whose vertices are numbers, and graphs with one path between each two.
-use Rattle.std.proofs.Common.{◌≡◌, refl, sym, ap, subst, ◌∙◌, ℕ, List, [], ◌∷◌, ◌++◌, map}
+use Rattle.std.proofs.Common.{◌≡◌, ◌⊎◌, inl, inr, refl, sym, ap, subst, ◌∙◌, ℕ, List, [], ◌∷◌, ◌++◌, map}
+use Rattle.std.proofs.lemmas.Bool.{cases_eq}
 
 -- a is not in the list
 abbrev pub IsNew : ℕ → List ℕ → Type 0
@@ -32,6 +33,14 @@ new_front a (b ∷ bs) cs h = (h.0, new_front a bs cs h.1)
 pub new_append : (a : ℕ) (bs cs : List ℕ) → IsNew a bs → IsNew a cs → IsNew a (bs ++ cs)
 new_append a [] cs h k = k
 new_append a (b ∷ bs) cs h k = (h.0, new_append a bs cs h.1 k)
+
+-- a number is new to a list or not
+pub new_or_not : (a : ℕ) (bs : List ℕ) → IsNew a bs ⊎ (¬ IsNew a bs)
+new_or_not a [] = inl tt
+new_or_not a (b ∷ bs) = elim (cases_eq a b) [
+  | inl same ↦ inr (λ new. new.0 same)
+  | inr differs ↦ elim (new_or_not a bs) [ inl new ↦ inl (differs, new) | inr old ↦ inr (λ new. old new.1) ]
+]
 
 -- ---- other names of the numbers
 

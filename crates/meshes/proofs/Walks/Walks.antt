@@ -32,6 +32,10 @@ new_at_place a [] j new h = absurd (omega arith)
 new_at_place a (b ∷ bs) zero new h = new.0
 new_at_place a (b ∷ bs) (suc j) new h = new_at_place a bs j new.1 (omega arith)
 
+-- the last place of a list
+pub last_place : (a : ℕ) (bs : List ℕ) → get_or (a ∷ bs) (length (a ∷ bs) - 1) 0 ≡ get_or (a ∷ bs) (length bs) 0
+last_place a bs = let e : length (a ∷ bs) - 1 ≡ length bs = omega arith in ap (λ n. get_or (a ∷ bs) n 0) e
+
 module _ (tris : List Tri) where
   -- ---- walks are paths
 
@@ -109,10 +113,6 @@ module _ (tris : List Tri) where
   path_last a (b ∷ bs) c p = path_last b bs c p.3
 
   -- ---- one walk
-
-  -- the last place of a walk
-  last_place : (a : ℕ) (bs : List ℕ) → get_or (a ∷ bs) (length (a ∷ bs) - 1) 0 ≡ get_or (a ∷ bs) (length bs) 0
-  last_place a bs = let e : length (a ∷ bs) - 1 ≡ length bs = omega arith in ap (λ n. get_or (a ∷ bs) n 0) e
 
   -- a path as a walk from one triangle to another
   between_of_path : (a : ℕ) (bs : List ℕ) (c : ℕ) → IsPlace tris a → IsPath (IsPlace tris) (Touch tris) a bs c → IsWalkBetween tris a c (a ∷ bs)

@@ -1,7 +1,7 @@
 -- A point out of a ring that runs counterclockwise, from which the way to a vertex meets the edges there alone: it is right of an
 -- edge at the vertex.
-use Rattle.std.proofs.Common.{◌≡◌, inl, inr, [], ◌∷◌, refl, sym, subst, ap, ◌∙◌, ℕ, ◌+◌, ◌-◌, ◌<◌, ◌≤◌, le_refl, List, length, arith}
-use Rattle.std.proofs.Common.{ℤ, pos, ◌+ℤ◌, ◌-ℤ◌, ◌*ℤ◌, ◌<ℤ◌}
+use Rattle.std.proofs.Common.{◌≡◌, inl, inr, [], ◌∷◌, refl, sym, subst, ap, ◌∙◌, true, false, ℕ, ◌+◌, ◌-◌, ◌<◌, ◌≤◌, le_refl, List}
+use Rattle.std.proofs.Common.{length, arith, ℤ, pos, ◌+ℤ◌, ◌-ℤ◌, ◌*ℤ◌, ◌<ℤ◌}
 use Rattle.std.proofs.lemmas.Int.{ints}
 use Rattle.integer_algebra.proofs.Laws.{mul-zero, mul_comm}
 use Rattle.integer_algebra.proofs.Polynomial.{var, ◌⊕◌, ◌⊖◌, ◌⊗◌, same_value}
@@ -26,7 +26,7 @@ use Rattle.rings.specs.Simple.{IsSimple}
 use Rattle.rings.specs.Winding.{WindsUpTo}
 use Rattle.ring_laws.proofs.Kernels.InnerHits.{MeetsOnlyAt, right_of_edge}
 use Rattle.ring_laws.proofs.Triangles.{end_is_on, end_of_other}
-use Rattle.ring_laws.proofs.Vertices.{IsStrictlyOn, after_differs, before_differs, edges_at, neighbours_not_on_ray, on_one_ray}
+use Rattle.ring_laws.proofs.Vertices.{IsStrictlyOn, beside_differs, edges_at, neighbours_not_on_ray, on_one_ray}
 
 -- an edge of the ring at x, with y on its right
 pub record RightOfEdgeAt (ring : List Point) (y x : Triple) : Type 0 where
@@ -241,8 +241,8 @@ module _ (ring : List Point) (simple : IsSimple ring) (three : 3 ≤ length ring
           | inl on_u ↦
               let not_y = λ (s : IsSame (whole v) y). out (inl (on_some_of y (edge v w) (edges_of ring) at.second
               (on_same_point at_v s (on_first_end (whole v) (whole w))))) in
-              let not_u = λ (s : IsSame (whole v) (whole u)). before_differs ring simple three r h (sym (same_whole v u s)) in
-              let not_w = λ (s : IsSame (whole v) (whole w)). after_differs ring simple three r h (sym (same_whole v w s)) in
+              let not_u = λ (s : IsSame (whole v) (whole u)). beside_differs ring simple three r h false (sym (same_whole v u s)) in
+              let not_w = λ (s : IsSame (whole v) (whole w)). beside_differs ring simple three r h true (sym (same_whole v w s)) in
               let ray = on_one_ray (whole v) y (whole u) (whole w) at_v at_y at_u at_w on_u on_w not_y not_u not_w in
               absurd (neighbours_not_on_ray ring simple three r h ray)
         ]

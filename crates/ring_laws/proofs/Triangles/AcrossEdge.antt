@@ -3,7 +3,7 @@ use Rattle.std.proofs.Common.{◌≡◌, inl, inr, [], ◌∷◌, sym, ap, ◌�
 use Rattle.std.proofs.lemmas.Int.{ints}
 use Rattle.std.specs.Prelude.{unsigned_abs}
 use Rattle.integer_algebra.proofs.Laws.{mul-neg, mul-zero}
-use Rattle.integer_algebra.proofs.SignSteps.{turned_negative, turned_positive}
+use Rattle.integer_algebra.proofs.SignSteps.{negative_not_zero, positive_not_zero, turned_negative, turned_positive}
 use Rattle.integer_algebra.proofs.Signs.{factor_negative, factor_positive, mul_negative, mul_order, mul_positive}
 use Rattle.plane.proofs.Nearness.{left_toward, negative_at, positive_at, right_toward, turn_toward, Eventually, outweighs, toward, toward_is_point}
 use Rattle.plane.proofs.Nearness.{toward_on}
@@ -44,14 +44,6 @@ sum_negative h k = omega (arith, ints)
 -- and of two positive ones
 sum_positive : {x y : ℤ} → pos 0 <ℤ x → pos 0 <ℤ y → pos 0 <ℤ (x +ℤ y)
 sum_positive h k = omega (arith, ints)
-
--- no number is 0 and positive,
-off_line : {x : ℤ} → x ≡ pos 0 → pos 0 <ℤ x → ⊥
-off_line e h = omega (arith, ints)
-
--- nor 0 and negative
-off_line_right : {x : ℤ} → x ≡ pos 0 → x <ℤ pos 0 → ⊥
-off_line_right e h = omega (arith, ints)
 
 -- ---- from one side of a segment to the other, past a point m within it
 
@@ -125,14 +117,14 @@ module _ (e : Edge) (m p q : Triple) (at_m : IsPoint m) (at_p : IsPoint p) (at_q
     -- so does the way from p, on the left,
     misses_left : (n : ℕ) → Misses p (toward m p n) (e ∷ es)
     misses_left n =
-        misses_near p at_p from_p n (λ x at_x on straight. off_line straight
-        (stays_left x p (toward m p n) at_x at_p (toward_is_point m p at_m at_p n) on (whole e.from) (whole e.to) left (near_left n)))
+        misses_near p at_p from_p n (λ x at_x on straight. positive_not_zero
+        (stays_left x p (toward m p n) at_x at_p (toward_is_point m p at_m at_p n) on (whole e.from) (whole e.to) left (near_left n)) straight)
 
     -- and that from q, on the right
     misses_right : (n : ℕ) → Misses q (toward m q n) (e ∷ es)
     misses_right n =
-        misses_near q at_q from_q n (λ x at_x on straight. off_line_right straight
-        (stays_right x q (toward m q n) at_x at_q (toward_is_point m q at_m at_q n) on (whole e.from) (whole e.to) right (near_right n)))
+        misses_near q at_q from_q n (λ x at_x on straight. negative_not_zero
+        (stays_right x q (toward m q n) at_x at_q (toward_is_point m q at_m at_q n) on (whole e.from) (whole e.to) right (near_right n)) straight)
 
     -- where m is within the first of the edges, and the ways from it to a point on the left and to one on the right miss
     -- the others, the winding number on the left is greater by 1

@@ -2,7 +2,7 @@
 use Rattle.std.proofs.Common.{◌≡◌, inl, inr, [], ◌∷◌, refl, sym, subst, List, ℤ, pos, ◌+ℤ◌, ◌-ℤ◌, ◌*ℤ◌, ◌<ℤ◌, ◌≤ℤ◌, arith}
 use Rattle.std.proofs.lemmas.Int.{ints}
 use Rattle.integer_algebra.proofs.Polynomial.{lit, var, ◌⊕◌, ◌⊖◌, ◌⊗◌, same_value}
-use Rattle.integer_algebra.proofs.SignSteps.{not_both, zero_not_negative}
+use Rattle.integer_algebra.proofs.SignSteps.{not_both, zero_not_negative, weak_order}
 use Rattle.integer_algebra.proofs.Signs.{mul_nonnegative}
 use Rattle.plane.proofs.Order.{same_coordinates}
 use Rattle.plane.proofs.Points.{whole_is_point}
@@ -37,10 +37,6 @@ some_direction a b differ h =
     let ey = h.0 in
     let ex = h.1 in
     differ (same_coordinates a b (omega (arith, ints)) (omega (arith, ints)))
-
--- a negative number is not positive
-pub negative_at_most : {z : ℤ} → z <ℤ pos 0 → z ≤ℤ pos 0
-negative_at_most h = omega (arith, ints)
 
 -- a number that is not positive is at most one that is not negative, times a positive one
 at_most_product : (d e w : ℤ) → d ≤ℤ pos 0 → pos 0 ≤ℤ e → pos 0 <ℤ w → d ≤ℤ (e *ℤ w)
@@ -83,4 +79,4 @@ module _ (a b : Point) (es : List Edge) (p : Triple) (at_p : IsPoint p) (right :
 
   -- and it is not wound round
   pub right_of_all : IsClosed es → winding es p ≡ pos 0
-  right_of_all closed = beyond_line a b (right_differs a b p right) es closed p at_p right_off (negative_at_most right) ends
+  right_of_all closed = beyond_line a b (right_differs a b p right) es closed p at_p right_off (weak_order right) ends

@@ -5,9 +5,8 @@ use Rattle.plane.specs.Triangle.{IsInTriangle, height_over}
 use Rattle.plane.specs.Turn.{IsLeft}
 use Rattle.rings.specs.Apart.{AreApart, IsCommonEnd, MeetAtEnds}
 use Rattle.rings.specs.Edge.{Edge, HasEdge, HasEnd, IsOn, edge}
-use Rattle.ring_laws.proofs.Triangles.EmptyTriangle.{base_is_diagonal}
+use Rattle.ring_laws.proofs.Triangles.NoneEnters.{base_is_diagonal, none_enters}
 use Rattle.ring_laws.proofs.Triangles.FarthestVertex.{farthest_is_diagonal, first_piece_turns, second_piece_turns}
-use Rattle.ring_laws.proofs.Triangles.NoneEnters.{none_enters}
 
 -- edges that are apart, with a left turn at v from uv to vw, which are the only edges at v
 pub record IsCorner (es : List Edge) (u v w : Point) : Type 0 where

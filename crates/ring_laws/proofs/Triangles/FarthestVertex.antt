@@ -1,7 +1,8 @@
 -- The way from a corner of a triangle to the end in it that is farthest from the opposite side meets the edges only at its ends.
 use Rattle.std.proofs.Common.{◌≡◌, ◌⊎◌, inl, inr, refl, sym, subst, List, ℤ, pos, ◌+ℤ◌, ◌-ℤ◌, ◌*ℤ◌, neg_ℤ, ◌<ℤ◌, ◌≤ℤ◌, arith}
 use Rattle.std.proofs.lemmas.Int.{ints}
-use Rattle.integer_algebra.proofs.SignSteps.{mean_not_negative, mean_not_positive, not_both, not_both_positive, weak, zero_not_negative, not_below}
+use Rattle.integer_algebra.proofs.SignSteps.{at_least_unless, mean_not_negative, mean_not_positive, not_below, not_both}
+use Rattle.integer_algebra.proofs.SignSteps.{not_both_positive, positive_not_zero, weak, zero_not_negative}
 use Rattle.integer_algebra.proofs.Signs.{factor_positive, is_negative, is_positive, is_zero, lt_or_le, mul_positive, sign}
 use Rattle.integer_algebra.proofs.Weights.{offset_along, offset_from_last}
 use Rattle.plane.proofs.Points.{whole_is_point}
@@ -14,9 +15,8 @@ use Rattle.plane.specs.Turn.{IsLeft}
 use Rattle.rings.specs.Apart.{AreApart, IsCommonEnd, MeetAtEnds}
 use Rattle.rings.specs.Edge.{Edge, HasEdge, HasEnd, IsOn}
 use Rattle.ring_laws.proofs.Triangles.LeavingTriangle.{mean_rises}
-use Rattle.ring_laws.proofs.Triangles.SidesAtVertex.{at_first, at_last, at_middle, end_of_other, not_positive, way_out}
+use Rattle.ring_laws.proofs.Triangles.SidesAtVertex.{at_first, at_last, at_middle, end_of_other, way_out}
 use Rattle.ring_laws.proofs.Triangles.Triangles.{height_of_first, height_of_last, height_of_middle, in_or_not, left_of_first, left_of_second}
-use Rattle.ring_laws.proofs.Triangles.Triangles.{not_negative}
 
 -- ---- numbers
 
@@ -99,7 +99,7 @@ module _ (es : List Edge) (apart : AreApart es) (u v w : Point) (left : IsLeft (
     -- and not below the third
     way_not_low : pos 0 ≤ℤ height_over u w x
     way_not_low =
-        let z_high = not_negative z_inside.not_right_of_third in
+        let z_high = at_least_unless z_inside.not_right_of_third in
         mean_not_negative c.k c.l c.m _ _ _ c.k_positive c.l_nonnegative c.m_nonnegative
         (determinant_along x (whole v) (whole z) c (whole w) (whole u)) (weak (positive_above z_high below_middle)) z_high
 
@@ -128,22 +128,22 @@ module _ (es : List Edge) (apart : AreApart es) (u v w : Point) (left : IsLeft (
       not_beyond end some = elim (at_v e has end) [
         | inl same ↦
             let on = combination_of_ends x u v at_x (subst (λ (g : Edge). IsOn g x) same on_edge) in
-            not_positive (combination_is_straight x (whole u) (whole v) on) (way_left_of_first x at_x c some)
+            positive_not_zero (way_left_of_first x at_x c some) (combination_is_straight x (whole u) (whole v) on)
         | inr same ↦
             let on = combination_of_ends x v w at_x (subst (λ (g : Edge). IsOn g x) same on_edge) in
-            not_positive (combination_is_straight x (whole v) (whole w) on) (way_left_of_second x at_x c some)
+            positive_not_zero (way_left_of_second x at_x c some) (combination_is_straight x (whole v) (whole w) on)
       ]
 
       -- nor has an edge with an end that is higher than z
       not_higher : pos 0 <ℤ c.m → (a : Point) → HasEnd e a → ¬ (height_over u w (whole z) <ℤ height_over u w (whole a))
       not_higher some a end above =
-          let high = positive_above (not_negative z_inside.not_right_of_third) above in
+          let high = positive_above (at_least_unless z_inside.not_right_of_third) above in
           let at = λ (p : Point) (same : a ≡ p). subst (λ (q : Point). pos 0 <ℤ height_over u w (whole q)) same high in
           elim (in_or_not u v w (whole a)) [
             | inl inside ↦ elim (farthest e has a end inside) [
-              | inl same ↦ not_positive (height_of_first u v w) (at u same)
+              | inl same ↦ positive_not_zero (at u same) (height_of_first u v w)
               | inr (inl same) ↦ not_beyond (subst (λ (q : Point). HasEnd e q) same end) some
-              | inr (inr (inl same)) ↦ not_positive (height_of_last u v w) (at w same)
+              | inr (inr (inl same)) ↦ positive_not_zero (at w same) (height_of_last u v w)
               | inr (inr (inr low)) ↦ not_below low above
             ]
             | inr outside ↦ elim (way_out es apart u v w first second e has left x at_x on_edge (way_left_of_first x at_x c some)

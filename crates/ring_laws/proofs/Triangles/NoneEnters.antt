@@ -1,22 +1,27 @@
--- No edge enters an empty triangle at a vertex: it meets the triangle at ends of the third side at most.
+-- No edge enters an empty triangle at a vertex: it meets the triangle at ends of the third side at most, and so does each edge that side.
 use Rattle.std.proofs.Common.{◌≡◌, ◌⊎◌, inl, inr, refl, sym, subst, ap, List, ℤ, pos, ◌+ℤ◌, ◌*ℤ◌, ◌<ℤ◌, ◌≤ℤ◌, arith}
 use Rattle.std.proofs.lemmas.Int.{ints}
+use Rattle.integer_algebra.proofs.Decisions.{either_or_not}
 use Rattle.integer_algebra.proofs.Laws.{mul-zero, zero-mul}
-use Rattle.integer_algebra.proofs.SignSteps.{mean_negative, mean_not_positive, not_both, not_both_positive, weak, zero_not_positive}
+use Rattle.integer_algebra.proofs.SignSteps.{at_least_unless, mean_negative, mean_not_positive, not_both, not_both_positive}
+use Rattle.integer_algebra.proofs.SignSteps.{positive_not_zero, weak, weak_order, zero_not_negative, zero_not_positive}
 use Rattle.integer_algebra.proofs.Signs.{factor_nonpositive, is_negative, is_positive, is_zero, lt_or_le, mul_negative, mul_nonnegative}
 use Rattle.integer_algebra.proofs.Signs.{mul_nonpositive, sign}
+use Rattle.plane.proofs.Order.{point_or_other}
 use Rattle.plane.proofs.Points.{whole_is_point}
-use Rattle.plane.proofs.Segments.{on_reversed}
-use Rattle.plane.proofs.Turns.{determinant_same_ends, determinant_same_last, combination_of, determinant_along, weights_positive}
-use Rattle.plane.specs.Point.{IsPoint, Point, Triple, whole}
+use Rattle.plane.proofs.Segments.{combination_is_straight, on_reversed, same_without_last}
+use Rattle.plane.proofs.Turns.{combination_of, combination_of_ends, determinant_along, determinant_same_ends, determinant_same_last}
+use Rattle.plane.proofs.Turns.{determinant_shift, weights_positive}
+use Rattle.plane.specs.Point.{IsPoint, IsSame, Point, Triple, whole}
 use Rattle.plane.specs.Segment.{On}
 use Rattle.plane.specs.Triangle.{IsInTriangle, height_over}
-use Rattle.plane.specs.Turn.{IsLeft, determinant}
-use Rattle.rings.specs.Apart.{AreApart, IsCommonEnd}
+use Rattle.plane.specs.Turn.{IsLeft, IsStraight, determinant}
+use Rattle.rings.specs.Apart.{AreApart, IsCommonEnd, MeetAtEnds}
 use Rattle.rings.specs.Edge.{Edge, HasEdge, HasEnd, IsOn}
-use Rattle.ring_laws.proofs.Triangles.BeyondLine.{negative_at_most}
+use Rattle.ring_laws.proofs.Triangles.LeavingTriangle.{mean_rises}
 use Rattle.ring_laws.proofs.Triangles.SidesAtVertex.{at_first, at_last, at_middle, meets_first, meets_second, way_out}
-use Rattle.ring_laws.proofs.Triangles.Triangles.{height_of_first, height_of_last, in_or_not, not_negative, on_first_side, on_second_side}
+use Rattle.ring_laws.proofs.Triangles.Triangles.{between_in_triangle, first_in_triangle, height_of_first, height_of_last, in_or_not}
+use Rattle.ring_laws.proofs.Triangles.Triangles.{last_in_triangle, on_first_side, on_second_side}
 
 -- ---- numbers
 
@@ -41,6 +46,21 @@ other_alone : (k l m z f g : ℤ) → pos 0 <ℤ k → l ≡ pos 0 → pos 0 ≤
 other_alone k l m z f g hk none hm hg e =
     let nothing = ap (λ n. n *ℤ f) none in
     factor_nonpositive k z hk (omega (arith, ints, e, nothing, zero-mul f, mul_nonpositive m g hm hg))
+
+-- ---- a segment from a line
+
+-- a point on the line through a from which c is left, and on the segment from a to c, is a
+only_at_first : (s t : Triple) (a c : Point) (x : Triple) → IsPoint x → IsStraight s t (whole a) → IsLeft s t (whole c)
+    → IsStraight s t x → On x (whole a) (whole c) → IsSame x (whole a)
+only_at_first s t a c x at_x line turns straight on =
+    let d = combination_of_ends x a c at_x on in
+    elim (sign d.m) [
+      | is_negative h ↦ absurd (not_both h d.m_nonnegative)
+      | is_zero none ↦ same_without_last x (whole a) (whole c) d none
+      | is_positive some ↦ absurd (positive_not_zero
+          (mean_rises d.k d.l d.m _ _ _ d.k_positive d.l_nonnegative some (determinant_along x (whole a) (whole c) d s t)
+          (zero_not_negative line) turns) straight)
+    ]
 
 -- ---- edges
 
@@ -78,8 +98,8 @@ module _ (es : List Edge) (apart : AreApart es) (u v w : Point) (left : IsLeft (
         | inr outside ↦ elim (way_out es apart u v w first second e has left x at_x on_edge x_first x_second low a end outside
             high) [
               | at_middle h ↦ absurd (off h)
-              | at_first h right flat ↦ by_first (zero_between high flat) h (negative_at_most right)
-              | at_last h right flat ↦ by_last (zero_between high flat) h (negative_at_most right)
+              | at_first h right flat ↦ by_first (zero_between high flat) h (weak_order right)
+              | at_last h right flat ↦ by_last (zero_between high flat) h (weak_order right)
             ]
       ]
 
@@ -147,7 +167,7 @@ module _ (es : List Edge) (apart : AreApart es) (u v w : Point) (left : IsLeft (
               | inl h ↦ absurd (off h)
               | inr h ↦ record { end = w; of_first = h.0; of_second = inr refl; same = h.1 }
             ]
-        | is_positive x_second ↦ absurd (not_inner x_first x_second (not_negative inside.not_right_of_third))
+        | is_positive x_second ↦ absurd (not_inner x_first x_second (at_least_unless inside.not_right_of_third))
       ]
     ]
 
@@ -157,3 +177,43 @@ module _ (es : List Edge) (apart : AreApart es) (u v w : Point) (left : IsLeft (
   none_enters e has not_first not_second x at_x on_edge inside =
       let off : ¬ HasEnd e v = λ h. elim (at_v e has h) [ inl same ↦ not_first same | inr same ↦ not_second same ] in
       meets_at_base e has off x at_x on_edge inside
+
+  -- ---- the side across from v
+
+  module _ (e : Edge) (has : HasEdge es e) (x : Triple) (at_x : IsPoint x) (on_edge : IsOn e x)
+      (on_base : On x (whole u) (whole w)) where
+    -- the side of an edge with the end v meets the third side at u or at w
+    base_at_sides : HasEnd e v → IsCommonEnd e (record { from = u; to = w }) x
+    base_at_sides end = elim (at_v e has end) [
+      | inl same ↦
+          let on = combination_of_ends x u v at_x (subst (λ (g : Edge). IsOn g x) same on_edge) in
+          record {
+            end = u;
+            of_first = subst (λ (g : Edge). HasEnd g u) (sym same) (inl refl);
+            of_second = inl refl;
+            same =
+                only_at_first (whole u) (whole v) u w x at_x (determinant_same_ends (whole u) (whole v)) left
+                (combination_is_straight x (whole u) (whole v) on) on_base;
+          }
+      | inr same ↦
+          let on = combination_of_ends x v w at_x (subst (λ (g : Edge). IsOn g x) same on_edge) in
+          let turns : IsLeft (whole v) (whole w) (whole u) = rw (determinant_shift (whole u) (whole v) (whole w)) left in
+          record {
+            end = w;
+            of_first = subst (λ (g : Edge). HasEnd g w) (sym same) (inr refl);
+            of_second = inr refl;
+            same =
+                only_at_first (whole v) (whole w) w u x at_x (determinant_same_last (whole v) (whole w)) turns
+                (combination_is_straight x (whole v) (whole w) on) (on_reversed x (whole u) (whole w) on_base);
+          }
+    ]
+
+  -- the third side meets each edge only at common ends
+  pub base_is_diagonal : (e : Edge) → HasEdge es e → MeetAtEnds e (record { from = u; to = w })
+  base_is_diagonal e has x at_x on_edge on_base = elim (either_or_not (point_or_other e.from v) (point_or_other e.to v)) [
+    | inl end ↦ base_at_sides e has x at_x on_edge on_base end
+    | inr off ↦
+        meets_at_base e has off x at_x on_edge
+        (between_in_triangle u v w x (whole u) (whole w) at_x (whole_is_point u) (whole_is_point w)
+        (first_in_triangle u v w left) (last_in_triangle u v w left) on_base)
+  ]

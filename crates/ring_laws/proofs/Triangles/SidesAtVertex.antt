@@ -2,6 +2,7 @@
 use Rattle.std.proofs.Common.{◌≡◌, ◌⊎◌, inl, inr, sym, subst, ap, List, ℤ, pos, ◌*ℤ◌, ◌<ℤ◌, ◌≤ℤ◌, arith, refl}
 use Rattle.std.proofs.lemmas.Int.{ints}
 use Rattle.integer_algebra.proofs.Laws.{zero-mul}
+use Rattle.integer_algebra.proofs.SignSteps.{positive_not_zero}
 use Rattle.plane.proofs.Points.{same_whole, whole_is_point}
 use Rattle.plane.proofs.Segments.{on_first_end, on_last_end, on_nested}
 use Rattle.plane.proofs.Turns.{determinant_same}
@@ -26,10 +27,6 @@ no_number z f w none e = omega (arith, ints, e, ap (λ n. n *ℤ w) none, zero-m
 -- a determinant that is 0 at a whole point is 0 at each triple of it
 zero_at_same : (a b y : Triple) (c : Point) → IsSame y (whole c) → determinant a b (whole c) ≡ pos 0 → determinant a b y ≡ pos 0
 zero_at_same a b y c same none = no_number _ _ y.W none (determinant_same a b y (whole c) same)
-
--- 0 is not positive
-pub not_positive : {z : ℤ} → z ≡ pos 0 → ¬ (pos 0 <ℤ z)
-not_positive e h = omega (arith, ints)
 
 -- an end of one edge that is on another is an end of that one
 pub end_of_other : (es : List Edge) → AreApart es → (f e : Edge) → HasEdge es f → HasEdge es e → (z : Point) → HasEnd f z → IsOn e (whole z)
@@ -87,12 +84,12 @@ module _ (es : List Edge) (apart : AreApart es) (u v w : Point)
             | inl h ↦ at_middle h
             | inr h ↦
                 let flat = zero_at_same (whole w) (whole u) z.point u h.1 (height_of_first u v w) in
-                at_first h.0 k.1 (λ up. not_positive flat (z.high up))
+                at_first h.0 k.1 (λ up. positive_not_zero (z.high up) flat)
           ]
           | inr k ↦ elim (meets_second z.point z.rational on (on_second_side u v w left z.point z.rational z.inside k.0)) [
             | inl h ↦ at_middle h
             | inr h ↦
                 let flat = zero_at_same (whole w) (whole u) z.point w h.1 (height_of_last u v w) in
-                at_last h.0 k.1 (λ up. not_positive flat (z.high up))
+                at_last h.0 k.1 (λ up. positive_not_zero (z.high up) flat)
           ]
         ]

@@ -1,8 +1,9 @@
 -- Closed triangles: their corners, the points on their sides, segments within them, and heights over a side.
-use Rattle.std.proofs.Common.{◌≡◌, ◌⊎◌, inl, inr, ap, ℤ, pos, ◌+ℤ◌, ◌-ℤ◌, ◌*ℤ◌, neg_ℤ, ◌<ℤ◌, ◌≤ℤ◌, arith}
+use Rattle.std.proofs.Common.{◌≡◌, ◌⊎◌, inl, inr, ap, ℤ, pos, ◌+ℤ◌, ◌-ℤ◌, ◌*ℤ◌, neg_ℤ, ◌≤ℤ◌, arith}
 use Rattle.std.proofs.lemmas.Int.{ints}
 use Rattle.integer_algebra.proofs.Laws.{neg-mul, zero-mul}
-use Rattle.integer_algebra.proofs.SignSteps.{mean_not_negative, weak, zero_not_negative, not_below, positive_of_not_zero}
+use Rattle.integer_algebra.proofs.SignSteps.{at_least_unless, mean_not_negative, not_below, positive_of_not_zero, weak}
+use Rattle.integer_algebra.proofs.SignSteps.{zero_not_negative}
 use Rattle.integer_algebra.proofs.Signs.{lt_or_le}
 use Rattle.plane.proofs.Points.{whole_is_point}
 use Rattle.plane.proofs.Turns.{determinant_same_ends, determinant_same_last, determinant_shift, determinant_shift_back, determinant_swap_first}
@@ -15,10 +16,6 @@ use Rattle.plane.specs.Turn.{IsLeft, IsStraight, determinant}
 
 -- ---- numbers
 
--- what is not below 0
-pub not_negative : {z : ℤ} → ¬ (z <ℤ pos 0) → pos 0 ≤ℤ z
-not_negative h = grind (arith, ints)
-
 -- the opposite, written otherwise, of what is not negative
 opposite_of : (q m : ℤ) → m ≡ neg_ℤ q → pos 0 ≤ℤ m → pos 0 ≤ℤ neg_ℤ q
 opposite_of q m e h = omega (arith, ints)
@@ -26,7 +23,7 @@ opposite_of q m e h = omega (arith, ints)
 -- ---- a point on the line of a side
 
 -- one part of it: x of the point, y and z of the ends, t of the third corner
-of_side : (p q r d x y z t : ℤ) → r ≡ pos 0 → p *ℤ y -ℤ q *ℤ z +ℤ r *ℤ t -ℤ d *ℤ x ≡ pos 0 → d *ℤ x ≡ p *ℤ y +ℤ neg_ℤ q *ℤ z
+pub of_side : (p q r d x y z t : ℤ) → r ≡ pos 0 → p *ℤ y -ℤ q *ℤ z +ℤ r *ℤ t -ℤ d *ℤ x ≡ pos 0 → d *ℤ x ≡ p *ℤ y +ℤ neg_ℤ q *ℤ z
 of_side p q r d x y z t none e = omega (arith, ints, neg-mul q z, ap (λ n. n *ℤ t) none, zero-mul t)
 
 module _ (a b c x : Triple) where
@@ -110,42 +107,42 @@ module _ (u v w : Point) where
       pub on_first_side : IsStraight (whole u) (whole v) x → On x (whole u) (whole v)
       on_first_side straight =
           on_of_combination x (whole u) (whole v) at_x (whole_is_point u) (whole_is_point v)
-          (side_combination (whole u) (whole v) (whole w) x left (not_negative inside.not_right_of_second)
-          (not_negative inside.not_right_of_third) straight)
+          (side_combination (whole u) (whole v) (whole w) x left (at_least_unless inside.not_right_of_second)
+          (at_least_unless inside.not_right_of_third) straight)
 
       -- the second,
       pub on_second_side : IsStraight (whole v) (whole w) x → On x (whole v) (whole w)
       on_second_side straight =
           on_of_combination x (whole v) (whole w) at_x (whole_is_point v) (whole_is_point w)
-          (side_combination (whole v) (whole w) (whole u) x left_at_last (not_negative inside.not_right_of_third)
-          (not_negative inside.not_right_of_first) straight)
+          (side_combination (whole v) (whole w) (whole u) x left_at_last (at_least_unless inside.not_right_of_third)
+          (at_least_unless inside.not_right_of_first) straight)
 
       -- and the third, where it has no height
       pub on_third_side : height_over u w x ≡ pos 0 → On x (whole w) (whole u)
       on_third_side straight =
           on_of_combination x (whole w) (whole u) at_x (whole_is_point w) (whole_is_point u)
-          (side_combination (whole w) (whole u) (whole v) x left_at_first (not_negative inside.not_right_of_first)
-          (not_negative inside.not_right_of_second) straight)
+          (side_combination (whole w) (whole u) (whole v) x left_at_first (at_least_unless inside.not_right_of_first)
+          (at_least_unless inside.not_right_of_second) straight)
 
       -- off a side it is strictly left of it: of the first,
       pub left_of_first : ¬ (On x (whole u) (whole v)) → IsLeft (whole u) (whole v) x
-      left_of_first off = positive_of_not_zero (not_negative inside.not_right_of_first) (λ e. off (on_first_side e))
+      left_of_first off = positive_of_not_zero (at_least_unless inside.not_right_of_first) (λ e. off (on_first_side e))
 
       -- and of the second
       pub left_of_second : ¬ (On x (whole v) (whole w)) → IsLeft (whole v) (whole w) x
-      left_of_second off = positive_of_not_zero (not_negative inside.not_right_of_second) (λ e. off (on_second_side e))
+      left_of_second off = positive_of_not_zero (at_least_unless inside.not_right_of_second) (λ e. off (on_second_side e))
 
   -- a segment between two points of the triangle is in it
   pub between_in_triangle : (x a b : Triple) → IsPoint x → IsPoint a → IsPoint b
       → IsInTriangle u v w a → IsInTriangle u v w b → On x a b → IsInTriangle u v w x
   between_in_triangle x a b at_x at_a at_b ha hb on =
       in_triangle x
-      (not_right_between (whole u) (whole v) x a b at_x at_a at_b (not_negative ha.not_right_of_first)
-      (not_negative hb.not_right_of_first) on)
-      (not_right_between (whole v) (whole w) x a b at_x at_a at_b (not_negative ha.not_right_of_second)
-      (not_negative hb.not_right_of_second) on)
-      (not_right_between (whole w) (whole u) x a b at_x at_a at_b (not_negative ha.not_right_of_third)
-      (not_negative hb.not_right_of_third) on)
+      (not_right_between (whole u) (whole v) x a b at_x at_a at_b (at_least_unless ha.not_right_of_first)
+      (at_least_unless hb.not_right_of_first) on)
+      (not_right_between (whole v) (whole w) x a b at_x at_a at_b (at_least_unless ha.not_right_of_second)
+      (at_least_unless hb.not_right_of_second) on)
+      (not_right_between (whole w) (whole u) x a b at_x at_a at_b (at_least_unless ha.not_right_of_third)
+      (at_least_unless hb.not_right_of_third) on)
 
   -- a point is in the triangle or not
   pub in_or_not : (x : Triple) → IsInTriangle u v w x ⊎ (¬ IsInTriangle u v w x)

@@ -1,11 +1,11 @@
 -- Neighbours in a ring: the ends of one edge. In a simple ring a vertex has two, which are not on one ray.
-use Rattle.std.proofs.Common.{◌≡◌, ◌⊎◌, inl, inr, sym, subst, ap, ◌∙◌, ℕ, ◌+◌, ◌-◌, ◌<◌, ◌≤◌, List, length, arith}
+use Rattle.std.proofs.Common.{◌≡◌, ◌⊎◌, inl, inr, refl, sym, subst, ap, ◌∙◌, Bool, true, false, ℕ, ◌+◌, ◌-◌, ◌<◌, ◌≤◌, List, length, arith}
 use Rattle.plane.proofs.Points.{same_whole, whole_is_point}
 use Rattle.plane.proofs.Segments.{on_first_end, on_last_end, on_reversed}
 use Rattle.plane.specs.Point.{Point, Triple, whole}
 use Rattle.plane.specs.Segment.{On}
 use Rattle.rings.proofs.Simple.{apart_of_simple, proper_edges}
-use Rattle.rings.proofs.Vertices.{edge_at, has_edge_at}
+use Rattle.rings.proofs.Vertices.{edge_at, edge_number, has_edge_at}
 use Rattle.rings.specs.Apart.{IsApartRing}
 use Rattle.rings.specs.Bend.{AreNeighbours}
 use Rattle.rings.specs.Edge.{Edge, HasEdge, HasEnd, IsOn, edge, edges_of}
@@ -53,19 +53,28 @@ neighbours_differ ring apart some u v n same =
 
 -- ---- the two neighbours of a vertex
 
-module _ (ring : List Point) (simple : IsSimple ring) (three : 3 ≤ length ring) (r : ℕ) (h : r < length ring) where
-  -- the vertex before another one is not that,
-  pub before_differs : ¬ (vertex ring (r + (length ring - 1)) ≡ vertex ring r)
-  before_differs =
-      let apart = apart_of_simple ring simple in
-      proper_edges ring apart (omega arith) (edge (vertex ring (r + (length ring - 1))) (vertex ring r))
-      (edges_at ring apart three r h).first
+-- the vertex after vertex r; or, on the other side, the one before it
+abbrev pub vertex_beside : Bool → List Point → ℕ → Point
+vertex_beside true ring r = vertex ring (r + 1)
+vertex_beside false ring r = vertex ring (r + (length ring - 1))
 
-  -- nor is the one after it,
-  pub after_differs : ¬ (vertex ring (r + 1) ≡ vertex ring r)
-  after_differs same =
+module _ (ring : List Point) (simple : IsSimple ring) (three : 3 ≤ length ring) (r : ℕ) (h : r < length ring) where
+  -- it is another vertex,
+  pub beside_differs : (side : Bool) → ¬ (vertex_beside side ring r ≡ vertex ring r)
+  beside_differs true same =
       let apart = apart_of_simple ring simple in
       proper_edges ring apart (omega arith) (edge (vertex ring r) (vertex ring (r + 1))) (edges_at ring apart three r h).second (sym same)
+  beside_differs false same =
+      let apart = apart_of_simple ring simple in
+      proper_edges ring apart (omega arith) (edge (vertex ring (r + (length ring - 1))) (vertex ring r))
+      (edges_at ring apart three r h).first same
+
+  -- and a neighbour,
+  pub beside_next : (side : Bool) → AreNeighbours ring (vertex ring r) (vertex_beside side ring r)
+  beside_next true = record { i = r; in_ring = h; ends = inl (refl, refl) }
+  beside_next false =
+      let (i, within, is) = edge_number ring _ (edges_at ring (apart_of_simple ring simple) three r h).first in
+      record { i = i; in_ring = within; ends = inr (ap (λ (e : Edge). e.from) is, ap (λ (e : Edge). e.to) is) }
 
   -- each neighbour is one of the two,
   pub neighbour_is : (x : Point) → AreNeighbours ring (vertex ring r) x
@@ -92,16 +101,16 @@ module _ (ring : List Point) (simple : IsSimple ring) (three : 3 ≤ length ring
       let apart = apart_of_simple ring simple in
       let at = edges_at ring apart three r h in
       elim (apart.apart (edge u v) (edge v w) at.first at.second) [
-        | inl same ↦ before_differs (ap (λ (e : Edge). e.from) same)
+        | inl same ↦ beside_differs false (ap (λ (e : Edge). e.from) same)
         | inr meets ↦ elim on [
           | inl near ↦
               let c = meets (whole u) (whole_is_point u) (on_first_end (whole u) (whole v)) near in
               let is = same_whole u c.end c.same in
-              elim c.of_second [ inl e ↦ before_differs (is ∙ sym e) | inr e ↦ at.differ (is ∙ sym e) ]
+              elim c.of_second [ inl e ↦ beside_differs false (is ∙ sym e) | inr e ↦ at.differ (is ∙ sym e) ]
           | inr near ↦
               let c = meets (whole w) (whole_is_point w) (on_reversed (whole w) (whole v) (whole u) near)
               (on_last_end (whole v) (whole w)) in
               let is = same_whole w c.end c.same in
-              elim c.of_first [ inl e ↦ at.differ (e ∙ sym is) | inr e ↦ after_differs (is ∙ sym e) ]
+              elim c.of_first [ inl e ↦ at.differ (e ∙ sym is) | inr e ↦ beside_differs true (is ∙ sym e) ]
         ]
       ]

@@ -1,5 +1,6 @@
 -- There is one least clash at most, and none in a simple ring.
 use Rattle.std.proofs.Common.{◌≡◌, ℕ, ◌<◌, ◌⊎◌, inl, inr, List, arith}
+use Rattle.std.proofs.lemmas.Bool.{cases_order}
 use Rattle.plane.specs.Point.{Point}
 use Rattle.rings.specs.Simple.{IsLeastClash, IsLesserPair, IsSimple}
 
@@ -9,18 +10,15 @@ pub data PairOrder (i j k l : ℕ) : Type 0 where
   first_less : IsLesserPair i j k l → PairOrder i j k l
   second_less : IsLesserPair k l i j → PairOrder i j k l
 
-lt_eq_or_gt : (a b : ℕ) → (a < b) ⊎ ((a ≡ b) ⊎ (b < a))
-lt_eq_or_gt a b = grind arith
-
 compare_pairs : (i j k l : ℕ) → PairOrder i j k l
-compare_pairs i j k l = by_first (lt_eq_or_gt i k) (lt_eq_or_gt j l)
+compare_pairs i j k l = by_first (cases_order i k) (cases_order j l)
   where
-    by_first : (i < k) ⊎ ((i ≡ k) ⊎ (k < i)) → (j < l) ⊎ ((j ≡ l) ⊎ (l < j)) → PairOrder i j k l
-    by_first (inl less) second = first_less (inl less)
+    by_first : (i ≡ k) ⊎ ((i < k) ⊎ (k < i)) → (j ≡ l) ⊎ ((j < l) ⊎ (l < j)) → PairOrder i j k l
+    by_first (inr (inl less)) second = first_less (inl less)
     by_first (inr (inr more)) second = second_less (inl more)
-    by_first (inr (inl equal)) (inl less) = first_less (inr (equal, less))
-    by_first (inr (inl equal)) (inr (inl also)) = same equal also
-    by_first (inr (inl equal)) (inr (inr more)) = second_less (inr (omega arith, more))
+    by_first (inl equal) (inl also) = same equal also
+    by_first (inl equal) (inr (inl less)) = first_less (inr (equal, less))
+    by_first (inl equal) (inr (inr more)) = second_less (inr (omega arith, more))
 
 -- two least clashes are one
 pub least_clash_is_one : (ring : List Point) (i j k l : ℕ) → IsLeastClash ring i j → IsLeastClash ring k l → (i ≡ k) × (j ≡ l)

@@ -2,7 +2,7 @@
 use Rattle.std.proofs.Common.{◌≡◌, ◌⊎◌, inl, inr, [], ◌∷◌, refl, ℕ, ◌+◌, ◌*◌, ℤ, pos, ◌+ℤ◌, ◌*ℤ◌, neg_ℤ, ◌≤ℤ◌, arith}
 use Rattle.std.proofs.lemmas.Int.{ints}
 use Rattle.integer_algebra.proofs.Polynomial.{Polynomial, var, neg, ◌⊕◌, ◌⊖◌, ◌⊗◌, zero_value}
-use Rattle.integer_algebra.proofs.SignSteps.{opposite_not_negative}
+use Rattle.integer_algebra.proofs.SignSteps.{opposite_not_negative, zero_of_opposite}
 use Rattle.plane.proofs.Order.{NotAfter, rise, run}
 use Rattle.plane.proofs.Turns.{parts, determinant as det}
 use Rattle.plane.specs.Point.{IsSame, Triple}
@@ -31,10 +31,6 @@ way w h p q k = record {
 same_of : {p q : Triple} → (run q p ≡ pos 0) × (rise q p ≡ pos 0) → IsSame p q
 same_of h = let e = h.0 in let f = h.1 in record { same_x = omega (arith, ints); same_y = omega (arith, ints) }
 
--- the opposite of a number is 0 only where the number is
-zero_opposite : {w : ℤ} → neg_ℤ w ≡ pos 0 → w ≡ pos 0
-zero_opposite e = omega (arith, ints)
-
 -- a way that is nothing has no weight, or its points are the same
 idle : {w : ℤ} {p q : Triple} → (w ≡ pos 0) ⊎ ((run q p ≡ pos 0) × (rise q p ≡ pos 0)) → (w ≡ pos 0) ⊎ IsSame p q
 idle (inl e) = inl e
@@ -42,7 +38,7 @@ idle (inr h) = inr (same_of h)
 
 -- the same where the weight is an opposite
 idle_opposite : {w : ℤ} {p q : Triple} → (neg_ℤ w ≡ pos 0) ⊎ ((run q p ≡ pos 0) × (rise q p ≡ pos 0)) → (w ≡ pos 0) ⊎ IsSame p q
-idle_opposite (inl e) = inl (zero_opposite e)
+idle_opposite (inl e) = inl (zero_of_opposite e)
 idle_opposite (inr h) = inr (same_of h)
 
 -- s is on the line or x is t, t is on the line or x is s, and x is on the chord or the line is none

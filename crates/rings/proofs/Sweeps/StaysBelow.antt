@@ -1,7 +1,7 @@
 -- One edge below another: where both run, what is on the lower edge or below it is below the upper one, but for a common end.
-use Rattle.std.proofs.Common.{◌≡◌, ◌⊎◌, inl, inr, refl, sym, subst, pos, ◌<ℤ◌, ◌≤ℤ◌, ℤ, arith}
-use Rattle.std.proofs.lemmas.Int.{ints}
-use Rattle.integer_algebra.proofs.SignSteps.{negative_not_zero, positive_not_zero, weak, zero_not_negative, zero_not_positive}
+use Rattle.std.proofs.Common.{◌≡◌, ◌⊎◌, inl, inr, refl, sym, subst, pos, ◌<ℤ◌, ◌≤ℤ◌, ℤ}
+use Rattle.integer_algebra.proofs.SignSteps.{negative_not_zero, positive_not_zero, weak, weak_order, zero_not_negative}
+use Rattle.integer_algebra.proofs.SignSteps.{zero_not_positive}
 use Rattle.integer_algebra.proofs.Signs.{is_negative, is_positive, is_zero, lt_or_le, sign}
 use Rattle.plane.proofs.Order.{NotAfter, not_after_facts, not_after_of_precedes, not_after_of_same, not_after_trans, precedes_differs}
 use Rattle.plane.proofs.Points.{same_sym, same_trans, whole_is_point}
@@ -34,10 +34,6 @@ record Witness (e f : Edge) (p q : Point) : Type 0 where
   not_above : side f (whole v) ≤ℤ pos 0
   common : side e (whole v) ≡ pos 0 → side f (whole v) ≡ pos 0 → (p ≡ q) × (v ≡ p)
 
--- a negative number is not positive
-weak_negative : {z : ℤ} → z <ℤ pos 0 → z ≤ℤ pos 0
-weak_negative h = omega (arith, ints)
-
 -- ends p of e and q of f that show it, or a common end
 module _ (e f : Edge) (p q : Point) (on_e : side e (whole p) ≡ pos 0) (on_f : side f (whole q) ≡ pos 0) where
   witness : IsBelowAt e f p q ⊎ (p ≡ q) → Witness e f p q
@@ -52,7 +48,7 @@ module _ (e f : Edge) (p q : Point) (on_e : side e (whole p) ≡ pos 0) (on_f : 
     v = p;
     is_one = inl refl;
     not_below = zero_not_negative on_e;
-    not_above = weak_negative right;
+    not_above = weak_order right;
     common = λ h k. absurd (negative_not_zero right k);
   }
   witness (inr same) = record {
@@ -118,7 +114,7 @@ module _ (e f : Edge) (x y z : Triple) (at_x : IsPoint x) (at_y : IsPoint y) (at
     on_chord : determinant (whole s.v) (whole t.v) x ≡ pos 0
     on_chord = elim (sign (determinant (whole s.v) (whole t.v) x)) [
       | is_negative h ↦
-          elim (from_upper (weak_negative h)).2 [ inl k ↦ k | inr k ↦ absurd (precedes_differs (whole f.from) (whole f.to) over_f.proper k) ]
+          elim (from_upper (weak_order h)).2 [ inl k ↦ k | inr k ↦ absurd (precedes_differs (whole f.from) (whole f.to) over_f.proper k) ]
       | is_zero k ↦ k
       | is_positive h ↦ elim (from_lower (weak h)).2 [ inl k ↦ k | inr k ↦ absurd (precedes_differs (whole e.from) (whole e.to) over_e.proper k) ]
     ]

@@ -14,12 +14,14 @@ returns-clause-only c =
     (λ sleeve. (walk : List ℕ) → IsWalkBetween tris c.args.from c.args.to walk → walk ≡ sleeve.walk)
     c.of.ensures.walk
     (λ sleeve is walk w.
-    one_walk tris c.args.from c.args.to c.count-count.ensures.tree c.requires.from c.requires.to c.in_ok-walk.walk.items walk between w ∙ sym is)
+    one_walk tris c.args.from c.args.to c.count-count.ensures.tree c.requires.from c.requires.to
+    c.in_ok-walk.walk.items walk between w ∙ sym is)
 
 pub returns-clause-same : goal.returns-clause-same
 returns-clause-same c =
     let tris = c.args.mesh.now in
-    if_ok_both c.of.result (λ sleeve. sleeve.walk ≡ c.in_ok-walk.walk.items) (IsOneOf tris) (λ sleeve. c.args.from ≡ c.args.to → length sleeve.diagonals ≡ 0)
+    if_ok_both c.of.result (λ sleeve. sleeve.walk ≡ c.in_ok-walk.walk.items) (IsOneOf tris)
+    (λ sleeve. c.args.from ≡ c.args.to → length sleeve.diagonals ≡ 0)
     c.of.ensures.walk c.of.ensures.of_mesh
     (λ sleeve walk of_mesh same.
     let between = c.in_ok-walk.ensures in
@@ -31,4 +33,5 @@ returns-clause-sight c =
     if_ok_both c.of.result (λ sleeve. sleeve.walk ≡ c.in_ok-walk.walk.items) (IsOneOf tris) (SeesThrough tris c.args.from c.args.to)
     c.of.ensures.walk c.of.ensures.of_mesh
     (λ sleeve walk of_mesh.
-    sees_through tris sleeve of_mesh c.args.from c.args.to (subst (IsWalkBetween tris c.args.from c.args.to) (sym walk) c.in_ok-walk.ensures))
+    sees_through tris sleeve of_mesh c.args.from c.args.to
+    (subst (IsWalkBetween tris c.args.from c.args.to) (sym walk) c.in_ok-walk.ensures))

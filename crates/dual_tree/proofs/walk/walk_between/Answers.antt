@@ -17,7 +17,8 @@ returns c =
     let front = c.loop-front.front in
     let back = c.loop-front.back in
     let met : front.place ≡ back.place = omega arith in
-    let walk = ways_meet tris 0 order c.rooted-rooted.ensures.outward c.args.from c.args.to c.count-count.ensures.tree c.requires.from c.requires.to
+    let walk = ways_meet tris 0 order c.rooted-rooted.ensures.outward c.args.from c.args.to
+    c.count-count.ensures.tree c.requires.from c.requires.to
     front.place back.place front.left.items (reverse back.left.items) met c.loop-front.invariant in
     if_ok_map c.joined.result (λ walk. walk.items ≡ front.left.items ++ at_place order front.place ∷ reverse back.left.items)
     (λ walk. IsWalkBetween tris c.args.from c.args.to walk.items) c.joined.ensures

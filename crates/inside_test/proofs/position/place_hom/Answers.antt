@@ -1,4 +1,4 @@
-use Rattle.std.proofs.Common.{true, false, inl, refl, arith}
+use Rattle.std.proofs.Common.{true, false, inl, refl, ◌∙◌, arith}
 use Rattle.rings.proofs.Vertices.{on_some_from}
 use Rattle.rings.specs.Edge.{IsOnSome, edges_of}
 use Rattle.rings.specs.Ring.{IsOnEdge}
@@ -7,17 +7,22 @@ use Rattle.inside_test.proofs.position.place_hom.Goals as goal
 use Rattle.inside_test.proofs.position.place_hom.Goals.{in-Crossed, in-Missed}
 
 pub loop-i-init : goal.loop-i-init
-loop-i-init g c = (odd_start c.args.ring.now.corners c.args.p.now, c.corner-a.ensures, c.compare_height-from.ensures _ _ c.of-levels.ensures.height)
+loop-i-init g c = (
+  odd_start c.args.ring.now.corners c.args.p.now,
+  c.of-a.ensures.at ∙ c.corner.ensures,
+  c.of-a.ensures.beside _ c.of-levels.ensures.levels,
+)
 
-pub meeting_of-requires-clause-to : goal.meeting_of-requires-clause-to
-meeting_of-requires-clause-to g c = c.compare_height-to.ensures _ _ c.of-levels.ensures.height
+pub meeting_of-requires-clause-last : goal.meeting_of-requires-clause-last
+meeting_of-requires-clause-last g c = c.of-b.ensures.beside _ c.of-levels.ensures.levels
 
 pub returns-in-On : goal.returns-in-On
 returns-in-On g c =
     let ring = c.args.ring.now.corners in
     let p = c.args.p.now in
     let (_, at_a, _) = c.loop-i.invariant in
-    let here : IsOnEdge ring c.loop-i.i p = rw (at_a, c.next_corner-b.ensures) at (c.meeting_of.ensures.on.0 c.in-On.is) in
+    let at_b = c.of-b.ensures.at ∙ c.next_corner.ensures in
+    let here : IsOnEdge ring c.loop-i.i p = rw (at_a, at_b) at (c.meeting_of.ensures.on.0 c.in-On.is) in
     let on : IsOnSome (edges_of ring) p = on_some_from p ring c.loop-i.i (omega arith) here in
     record {
       edge = (λ _. on, λ _. refl);
@@ -30,22 +35,22 @@ loop-i-preserved g c =
     let ring = c.args.ring.now.corners in
     let p = c.args.p.now in
     let (odd, at_a, _) = c.loop-i.invariant in
-    let next = c.next_corner-b.ensures in
-    let to = c.compare_height-to.ensures _ _ c.of-levels.ensures.height in
+    let at_b = c.of-b.ensures.at ∙ c.next_corner.ensures in
+    let beside = c.of-b.ensures.beside _ c.of-levels.ensures.levels in
     elim c.match-meeting_of.branch [
       | in-Crossed w ↦ (
         odd_crossed ring p c.loop-i.i c.loop-i.is_odd _ w.is_odd-is (omega arith) odd
-            (λ on. absurd (cc (c.meeting_of.ensures.on.1 (rw (at_a, next) on), w.in-Crossed.is)))
-            (rw (at_a, next) at (c.meeting_of.ensures.crossed w.in-Crossed.is)),
-        next,
-        to,
+            (λ on. absurd (cc (c.meeting_of.ensures.on.1 (rw (at_a, at_b) on), w.in-Crossed.is)))
+            (rw (at_a, at_b) at (c.meeting_of.ensures.crossed w.in-Crossed.is)),
+        at_b,
+        beside,
       )
       | in-Missed w ↦ (
         odd_missed ring p c.loop-i.i c.loop-i.is_odd _ w.is_odd-is (omega arith) odd
-            (λ on. absurd (cc (c.meeting_of.ensures.on.1 (rw (at_a, next) on), w.in-Missed.is)))
-            (rw (at_a, next) at (c.meeting_of.ensures.missed w.in-Missed.is)),
-        next,
-        to,
+            (λ on. absurd (cc (c.meeting_of.ensures.on.1 (rw (at_a, at_b) on), w.in-Missed.is)))
+            (rw (at_a, at_b) at (c.meeting_of.ensures.missed w.in-Missed.is)),
+        at_b,
+        beside,
       )
     ]
 

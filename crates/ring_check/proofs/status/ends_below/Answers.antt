@@ -3,8 +3,8 @@ use Rattle.exact_plane.proofs.Directions.{negative_of_right}
 use Rattle.ring_check.proofs.Below.{positive_of_left}
 use Rattle.ring_check.proofs.status.ends_below.Goals as goal
 
-pub returns-then-events-b : goal.returns-then-events-b
-returns-then-events-b g c = λ h. inr (negative_of_right _ (c.turns.ensures h))
+pub returns-then-events-e : goal.returns-then-events-e
+returns-then-events-e g c = λ h. inr (negative_of_right _ (c.turns.ensures h))
 
-pub returns-else-events-b : goal.returns-else-events-b
-returns-else-events-b g c = λ h. inl (positive_of_left _ (c.turns-else-events-b.ensures h))
+pub returns-else-events-e : goal.returns-else-events-e
+returns-else-events-e g c = λ h. inl (positive_of_left _ (c.turns-else-events-e.ensures h))

@@ -1,32 +1,7 @@
-use Rattle.std.proofs.Common.{◌≡◌, pos, w64, arith, rules}
-use Rattle.std.proofs.lemmas.Int.{ints, to_z-of_z}
-use Rattle.std.specs.Prelude.{FitsSigned}
-use mir.Syntax.{w128}
-use Rattle.std.specs.Int.{int_div_euclid, int_rem_euclid}
-use Rattle.std.specs.Ordering.{int_cmp}
-use Rattle.exact_plane.proofs.Registers.{read, wide}
-use Rattle.inside_test.proofs.Levels.{level_is, quotient_is, kept}
+use Rattle.inside_test.proofs.Levels.{level_is}
 use Rattle.inside_test.proofs.level.Level.of.Goals as goal
 
 pub returns : goal.returns
 returns c =
-    let part = c.args.part in
-    let weight = c.args.weight in
-    let fits_part : FitsSigned w128 part = omega (arith, ints, c.requires.part) in
-    let fits_weight : FitsSigned w128 weight = omega (arith, ints, c.requires.weight) in
-    let is_part : wide part ≡ part = to_z-of_z w128 part fits_part in
-    let is_weight : wide weight ≡ weight = to_z-of_z w128 weight fits_weight in
-    let q : c.div_euclid.result ≡ int_div_euclid part weight = rw (is_part, is_weight) at c.div_euclid.ensures in
-    let r : c.rem_euclid.result ≡ int_rem_euclid part weight = rw (is_part, is_weight) at c.rem_euclid.ensures.value in
-    let h = quotient_is part weight c.requires.positive in
-    let fits_q : FitsSigned w128 c.div_euclid.result = search rules in
-    let is_q : wide c.div_euclid.result ≡ c.div_euclid.result = to_z-of_z w128 _ fits_q in
-    let clamped : c.clamp-floor.result ≡ kept (int_div_euclid part weight) = rw (is_q, q) at c.clamp-floor.ensures.value in
-    let fits_r : FitsSigned w128 c.rem_euclid.result = search rules in
-    let is_r : wide c.rem_euclid.result ≡ c.rem_euclid.result = to_z-of_z w128 _ fits_r in
-    let compared : c.cmp.result ≡ int_cmp (pos 0) (int_rem_euclid part weight) = rw (is_r, r) at c.cmp.ensures in
-    let fits_f : FitsSigned w128 c.clamp-floor.result = omega (arith, ints, c.clamp-floor.ensures.lower_bound, c.clamp-floor.ensures.upper_bound) in
-    let fits_g : FitsSigned w64 c.clamp-floor.result = omega (arith, ints, c.clamp-floor.ensures.lower_bound, c.clamp-floor.ensures.upper_bound) in
-    let is_f : wide c.clamp-floor.result ≡ c.clamp-floor.result = to_z-of_z w128 _ fits_f in
-    let is_g : read c.clamp-floor.result ≡ c.clamp-floor.result = to_z-of_z w64 _ fits_g in
-    rw (is_f, is_g) (level_is part weight (int_div_euclid part weight) (int_rem_euclid part weight) c.clamp-floor.result c.cmp.result h clamped compared)
+    level_is c.args.part c.args.weight c.floor.result c.floor-2.result c.requires.part c.requires.weight c.floor.ensures.limit c.floor-2.ensures.limit
+    c.floor.ensures.below c.floor-2.ensures.below

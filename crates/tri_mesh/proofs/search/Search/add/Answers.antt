@@ -11,5 +11,6 @@ returns-in_ok-push-clause-search c =
     let new : ¬ IsReached order c.args.k = λ reached. absurd (cc (c.has.ensures.1 reached)) in
     let side = c.side_from-side.ensures in
     rw (c.in_ok-push.ensures.items, number)
-    (search_more tris order c.args.self.now.places.items c.requires.search c.args.k c.args.place c.side_from-side.result c.requires.in_list new c.requires.place
+    (search_more tris order c.args.self.now.places.items c.requires.search c.args.k c.args.place c.side_from-side.result
+    c.requires.in_list new c.requires.place
     side.number (rw (side.to, side.from) c.requires.back))

@@ -7,18 +7,18 @@ use Rattle.tri_mesh.specs.Search.{IsDone, IsGrown, IsSideDone}
 
 pub reach-requires-clause-owner : goal.reach-requires-clause-owner
 reach-requires-clause-owner c =
-    read_owner c.args.tris.now c.args.rows.now c.args.self.now.order.items c.args.self.now.places.items c.requires.keeps c.requires.search c.args.place
-    c.requires.place c.index.result.now c.index.ensures 0 (omega arith)
+    read_owner c.args.tris.now c.args.rows.now c.args.self.now.order.items c.args.self.now.places.items c.requires.keeps c.requires.search
+    c.args.place c.requires.place c.index.result.now c.index.ensures 0 (omega arith)
 
 pub reach-requires-2-clause-owner : goal.reach-requires-2-clause-owner
 reach-requires-2-clause-owner c =
-    read_owner c.args.tris.now c.args.rows.now c.args.self.now.order.items c.args.self.now.places.items c.requires.keeps c.requires.search c.args.place
-    c.requires.place c.index.result.now c.index.ensures 1 (omega arith)
+    read_owner c.args.tris.now c.args.rows.now c.args.self.now.order.items c.args.self.now.places.items c.requires.keeps c.requires.search
+    c.args.place c.requires.place c.index.result.now c.index.ensures 1 (omega arith)
 
 pub reach-requires-3-clause-owner : goal.reach-requires-3-clause-owner
 reach-requires-3-clause-owner c =
-    read_owner c.args.tris.now c.args.rows.now c.args.self.now.order.items c.args.self.now.places.items c.requires.keeps c.requires.search c.args.place
-    c.requires.place c.index.result.now c.index.ensures 2 (omega arith)
+    read_owner c.args.tris.now c.args.rows.now c.args.self.now.order.items c.args.self.now.places.items c.requires.keeps c.requires.search
+    c.args.place c.requires.place c.index.result.now c.index.ensures 2 (omega arith)
 
 pub returns-clause-done : goal.returns-clause-done
 returns-clause-done c =
@@ -34,7 +34,8 @@ returns-clause-done c =
     let second = c.in_ok-reach-2.ensures in
     let done_1 = rw is at first.done in
     let done_2 = rw is at second.done in
-    on_ok_both c.reach-3.result (IsGrown order_2 order_3) (IsSideDone tris order_3 _ _) (IsDone tris order_3 k) c.reach-3.ensures.grown (rw is at c.reach-3.ensures.done)
+    on_ok_both c.reach-3.result (IsGrown order_2 order_3) (IsSideDone tris order_3 _ _) (IsDone tris order_3 k)
+    c.reach-3.ensures.grown (rw is at c.reach-3.ensures.done)
     (λ third done_3.
     let grown = grown_twice order_1 order_2 order_3 second.grown third in
     done_of_sides tris order_3 k c.requires.keeps.sides (c.requires.search.in_list c.args.place c.requires.place)

@@ -1,0 +1,164 @@
+-- The ends of the next funnel, on the side from the corner beyond the diagonal to its right end, or to its left end.
+use Rattle.std.proofs.Common.{◌≡◌, inl, inr, sym, ap, subst, ◌∙◌, true, false, List, [], ◌∷◌, ◌++◌, length, drop, take, ℕ, ◌+◌, ◌-◌, ◌<◌}
+use Rattle.std.proofs.Common.{min}
+use Rattle.std.proofs.Common.{pos, ◌<ℤ◌, arith}
+use Rattle.std.proofs.lemmas.Bool.{cases_lt}
+use Rattle.integer_algebra.proofs.SignSteps.{positive_not_negative}
+use Rattle.plane.specs.Point.{Point, whole}
+use Rattle.plane.specs.Turn.{IsLeft, IsRight}
+use Rattle.rings.specs.Chain.{point_at}
+use Rattle.rings.specs.Ring.{vertex}
+use Rattle.rings.specs.Sees.{Sees}
+use Rattle.meshes.specs.Fits.{Fits}
+use Rattle.meshes.specs.Side.{HasSide, tri_at}
+use Rattle.meshes.specs.declared.tri.Tri.{Tri}
+use Rattle.funnels.proofs.Bends.{fan_goes_on}
+use Rattle.funnels.proofs.Chains.EndFans.{corner_beyond, corner_left, fan_to_left, fan_to_right}
+use Rattle.funnels.proofs.Chains.WaysBefore.{before_apex_left, before_apex_right, before_last_left, before_last_right}
+use Rattle.funnels.proofs.Funnels.{left_place, next_left_length, next_right_length, next_right_old}
+use Rattle.funnels.proofs.Vertices.{IsSharedSide, shared_side_back}
+use Rattle.funnels.specs.Fanned.{IsFanned}
+use Rattle.funnels.specs.Funnel.{IsFunnel, IsPassed, IsReachedFrom, height}
+use Rattle.funnels.specs.OpenFunnel.{HasOpenEnds, IsBeforeFirst, IsBeforeLast, left_behind, right_behind}
+
+-- ---- the points beside the ends of the next funnel on the left
+
+module _ (before ns : List Point) (a h : ℕ) (m x : Point) (apex : a < length ns) (within : h < length ns) where
+  -- the point at place h comes after the first of the next funnel,
+  first_is_old : IsBeforeFirst (before ++ right_behind ns a (h - a)) (m ∷ drop h ns) (a - h + 1) x → x ≡ point_at ns h
+  first_is_old (inl e) =
+      let place : h + 1 - 1 ≡ h = omega arith in
+      e.1 ∙ left_place ns m h 1 (omega arith) ∙ ap (point_at ns) place
+  first_is_old (inr e) = absurd (omega (arith, e.0))
+
+  -- and what comes before the last came before it in the old one
+  before_last_next : IsBeforeLast (before ++ right_behind ns a (h - a)) (m ∷ drop h ns) (a - h + 1) x → IsBeforeLast before ns a x
+  before_last_next (inl e) =
+      let count = next_left_length ns m h within in
+      let many = length (m ∷ drop h ns) in
+      let place : h + (many - 2) - 1 ≡ length ns - 2 = omega (arith, e.0) in
+      inl (omega (arith, e.0), e.1 ∙ left_place ns m h (many - 2) (omega (arith, e.0)) ∙ ap (point_at ns) place)
+  before_last_next (inr e) =
+      let count = next_left_length ns m h within in
+      elim (cases_lt a h) [
+        | inr all ↦ inr (omega (arith, e.0), before_apex_right ns before a h x all e.1)
+        | inl some ↦
+            let place : h - 1 ≡ length ns - 2 = omega (arith, e.0) in
+            inl (omega (arith, e.0), before_last_right ns before a h x some e.1 ∙ ap (point_at ns) place)
+      ]
+
+-- an only edge on the left is passed by the way to each point beyond
+passed_only : (ns : List Point) (a : ℕ) (l r m : Point) → IsFunnel ns a l r → a ≡ 1 → length ns ≡ 2
+    → height l r (whole m) <ℤ pos 0 → IsPassed ns a 1 (whole m)
+passed_only ns a l r m f one two beyond =
+    let end : length ns - 1 ≡ 1 = omega arith in
+    let last : point_at ns 1 ≡ r = ap (point_at ns) (sym end) ∙ f.last in
+    let left = λ (p q : Point). IsLeft (whole p) (whole q) (whole m) in
+    inl (
+      omega arith,
+      subst (λ q. ¬ left (point_at ns 1) q) (sym f.first)
+          (subst (λ p. ¬ left p l) (sym last) (λ is. positive_not_negative is beyond)),
+    )
+
+-- ---- and on the right
+
+module _ (before ns : List Point) (a h : ℕ) (m x : Point) (within : h < length ns) where
+  -- what comes before the first point of the next funnel came before it in the old one
+  before_first_next : IsBeforeFirst (before ++ left_behind ns a (a - h)) (take (h + 1) ns ++ m ∷ []) (min a h) x
+      → IsBeforeFirst before ns a x
+  before_first_next (inl e) = inl (omega (arith, e.0), e.1 ∙ next_right_old ns m h within 1 (omega (arith, e.0)))
+  before_first_next (inr e) = elim (cases_lt h a) [
+    | inr all ↦ inr (omega (arith, e.0), before_apex_left ns before a h x all e.1)
+    | inl some ↦
+        let place : h + 1 ≡ 1 = omega (arith, e.0) in
+        inl (omega arith, before_last_left ns before a h x some e.1 ∙ ap (point_at ns) place)
+  ]
+
+  -- and the point at place h comes before the last
+  last_is_old : IsBeforeLast (before ++ left_behind ns a (a - h)) (take (h + 1) ns ++ m ∷ []) (min a h) x
+      → x ≡ point_at ns h
+  last_is_old (inl e) =
+      let count = next_right_length ns m h within in
+      let place : length (take (h + 1) ns ++ m ∷ []) - 2 ≡ h = omega arith in
+      e.1 ∙ ap (point_at (take (h + 1) ns ++ m ∷ [])) place ∙ next_right_old ns m h within h (omega arith)
+  last_is_old (inr e) =
+      let count = next_right_length ns m h within in
+      absurd (omega (arith, e.0))
+
+-- a left turn at an only edge is not passed on the right
+not_passed_only : (ns : List Point) (a : ℕ) (l r m : Point) → IsFunnel ns a l r → a ≡ 0 → length ns ≡ 2
+    → IsLeft (whole l) (whole r) (whole m) → ¬ IsPassed ns a 1 (whole m)
+not_passed_only ns a l r m f none two left (inl e) = absurd (omega (arith, e.0))
+not_passed_only ns a l r m f none two left (inr e) =
+    let end : length ns - 1 ≡ 1 = omega arith in
+    let last : point_at ns 1 ≡ r = ap (point_at ns) (sym end) ∙ f.last in
+    let right = λ (p q : Point). IsRight (whole p) (whole q) (whole m) in
+    positive_not_negative left (subst (λ p. right p r) f.first (subst (λ q. right (point_at ns 0) q) last e.1))
+
+-- ---- the ends
+
+module _ (corners : List Point) (tris : List Tri) (fits : Fits corners tris) (k i j m : ℕ) (in_list : k < length tris)
+    (first : HasSide (tri_at tris k) i j) (second : HasSide (tri_at tris k) j m) (third : HasSide (tri_at tris k) m i)
+    (before ns : List Point) (a : ℕ) (f : IsFunnel ns a (vertex corners i) (vertex corners j))
+    (ends : HasOpenEnds corners before ns a (vertex corners i) (vertex corners j))
+    (h : ℕ) (reached : IsReachedFrom ns a h (whole (vertex corners m)))
+    (sees : Sees corners (whole (point_at ns h)) (whole (vertex corners m))) where
+  -- where the side from m to j is shared, the ring is open at the ends of the next funnel there,
+  pub ends_left : IsSharedSide tris m j
+      → HasOpenEnds corners (before ++ right_behind ns a (h - a)) (vertex corners m ∷ drop h ns) (a - h + 1)
+      (vertex corners m) (vertex corners j)
+  ends_left shared =
+      let p = vertex corners m in
+      let apex = f.apex_within in
+      let within = reached.within in
+      let count = next_left_length ns p h within in
+      record {
+        left = λ q is.
+            subst (λ (n : Point). IsFanned true corners p (whole n) (whole (vertex corners j)))
+            (sym (first_is_old before ns a h p q apex within is))
+            (fan_to_right corners tris fits k i j m in_list first second third ns a f h reached sees shared);
+        right = λ q is.
+            fan_goes_on corners tris fits k in_list false m j i (second, first) (shared_side_back shared) (whole q)
+            (ends.right q (before_last_next before ns a h p q apex within is));
+        short_left = λ none. absurd (omega arith);
+        short_right = λ all. elim (cases_lt h a) [
+          | inr after ↦ omega arith
+          | inl some ↦
+              let two = ends.short_right (omega arith) in
+              let one : a ≡ 1 = omega arith in
+              let next : h + 1 ≡ 1 = omega arith in
+              absurd (reached.not_passed (omega arith) (subst (λ n. IsPassed ns a n (whole p)) (sym next)
+              (passed_only ns a (vertex corners i) (vertex corners j) p f one two
+              (corner_beyond corners tris fits k i j m in_list first second third))))
+        ];
+      }
+
+  -- and where that from i to m is, at the ends of the next funnel there
+  pub ends_right : IsSharedSide tris i m
+      → HasOpenEnds corners (before ++ left_behind ns a (a - h)) (take (h + 1) ns ++ vertex corners m ∷ []) (min a h)
+      (vertex corners i) (vertex corners m)
+  ends_right shared =
+      let p = vertex corners m in
+      let within = reached.within in
+      let count = next_right_length ns p h within in
+      record {
+        left = λ q is.
+            fan_goes_on corners tris fits k in_list true m i j (third, first) shared (whole q)
+            (ends.left q (before_first_next before ns a h p q within is));
+        right = λ q is.
+            subst (λ (n : Point). IsFanned false corners p (whole n) (whole (vertex corners i)))
+            (sym (last_is_old before ns a h p q within is))
+            (fan_to_left corners tris fits k i j m in_list first second third ns a f h reached sees
+            (shared_side_back shared));
+        short_left = λ none. elim (cases_lt 0 h) [
+          | inr start ↦ omega arith
+          | inl some ↦
+              let apex : a ≡ 0 = omega arith in
+              let two = ends.short_left apex in
+              let one : h ≡ 1 = omega arith in
+              absurd (not_passed_only ns a (vertex corners i) (vertex corners j) p f apex two
+              (corner_left corners tris fits k i j m in_list first second third)
+              (subst (λ n. IsPassed ns a n (whole p)) one (reached.passed some)))
+        ];
+        short_right = λ all. absurd (omega arith);
+      }

@@ -1,0 +1,6 @@
+use Rattle.inside_test.proofs.Levels.{coordinate_read}
+use Rattle.inside_test.proofs.level.Levels.is_above.Goals as goal
+
+pub returns : goal.returns
+returns g c = λ p levels.
+    rw (c.parts.ensures.y, coordinate_read c.args.v.now.y c.parts.ensures.bounds.y_in_limit) at (c.is_above.ensures p.Y p.W levels.height)
