@@ -8,3 +8,6 @@ mod OneView
 pub use Rattle.rings.proofs.Views.OneView.{AreSameParts, parts_are_one}
 -- Rising numbers of which two lists have the same: the lists are one.
 mod Rising
+-- The parts of the edges that a point sees, where the ring is read the other way round.
+mod TurnedParts
+pub use Rattle.rings.proofs.Views.TurnedParts.{parts_either, parts_turned, view_turned}

@@ -1,6 +1,6 @@
 -- What a point sees of the edges of a ring. Visibility polygons as in ElGindy and Avis 1981; parts of one point are this
 -- project's own.
-use Rattle.std.specs.Prelude.{◌≡◌, ◌⊎◌, ◌↔◌, ℕ, ◌+◌, ◌<◌, ◌≤◌, List, length, slice_index_or}
+use Rattle.std.specs.Prelude.{◌≡◌, ◌⊎◌, ◌↔◌, ℕ, ◌+◌, ◌-◌, ◌<◌, ◌≤◌, List, length, map, reverse, slice_index_or}
 use Rattle.plane.specs.Point.{IsPoint, Point, Triple, whole}
 use Rattle.plane.specs.Segment.{On}
 use Rattle.rings.specs.Inside.{IsIn}
@@ -34,6 +34,14 @@ pub record AreParts (ring : List Point) (q : Triple) (parts : List Part) : Type 
   pub parts_seen : (k : ℕ) → k < length parts → IsPart ring q (part_at parts k).edge (part_at parts k).first (part_at parts k).last
   pub rising : (k : ℕ) → k + 1 < length parts → (part_at parts k).edge < (part_at parts (k + 1)).edge
   pub complete : (i : ℕ) → i < length ring → ((k : ℕ) × (k < length parts) × ((part_at parts k).edge ≡ i)) ⊎ IsUnseen ring q i
+
+-- a part where the ring, of n edges, is read the other way round: its edge has another number, and it runs backward
+abbrev pub turned_part : ℕ → Part → Part
+turned_part n part = record { edge = n - 1 - part.edge; first = part.last; last = part.first }
+
+-- all parts then, the last one first
+abbrev pub turned_parts : ℕ → List Part → List Part
+turned_parts n parts = reverse (map (turned_part n) parts)
 
 -- x is in the closed triangle of q, a and b, which may be flat: on the way from q to a point between a and b
 pub record IsInTriangleOf (q a b x : Triple) : Type 0 where

@@ -24,28 +24,8 @@ use Rattle.see_cone.specs.Told.{AllTold, IsTold}
 abbrev at_place : List Outward → ℕ → ℕ
 at_place order p = (outward_at order p).tri
 
-module _ (corners : List Point) (tris : List Tri) (fits : Fits corners tris) (q : Point) (order : List Outward) (outward : IsFromFirst tris order)
-    (some : 0 < length order) (in_home : IsInTri corners (tri_at tris (outward_at order 0).tri) (whole q)) where
-  -- at home it is all
-  pub first_cone : IsConeOf corners tris q (at_place order 0) (Some (record { left = q; right = q }))
-  first_cone = home_cone corners tris fits q (at_place order 0) in_home (outward.in_list 0 some)
-
-  -- at a later place it is that of the triangle from which this one is reached, narrowed to the side between them
-  pub next_cone : (p : ℕ) → 0 < p → p < length order → (sight : Option Cone) → IsConeOf corners tris q (at_place order (outward_at order p).toward) sight
-      → let t = tri_at tris (at_place order p) in let side = (outward_at order p).side in
-      IsConeOf corners tris q (at_place order p) (narrowed q sight (vertex corners (side_begin t side)) (vertex corners (side_end t side)))
-  next_cone p later below sight cone =
-      let home = at_place order 0 in
-      let joined = outward.joined p later below in
-      let k = at_place order (outward_at order p).toward in
-      let t = tri_at tris (at_place order p) in
-      let side = (outward_at order p).side in
-      let k_below = outward.in_list (outward_at order p).toward (omega (arith, joined.earlier)) in
-      let walk = fits.tree home k (outward.in_list 0 some) k_below in
-      cone_beyond corners tris fits q home in_home k walk.walk walk.between (side_end t side) (side_begin t side) sight cone (at_place order p)
-      (walk_outward tris home order outward fits.tree p later below walk.walk walk.between) joined.shared (has_side_numbered t side joined.side)
-
-  -- the side between them is of the ring
+module _ (corners : List Point) (tris : List Tri) (fits : Fits corners tris) (order : List Outward) (outward : IsFromFirst tris order) where
+  -- the side over which a triangle is reached is of the ring
   pub side_in_ring : (p : ℕ) → 0 < p → p < length order → IsSideIn corners (tri_at tris (at_place order p)) (outward_at order p).side
   side_in_ring p later below =
       let joined = outward.joined p later below in
@@ -58,15 +38,41 @@ module _ (corners : List Point) (tris : List Tri) (fits : Fits corners tris) (q 
         end = end_below (length corners) t corners_of side joined.side;
       }
 
+module _ (corners : List Point) (tris : List Tri) (q : Point) (order : List Outward) where
   -- one more cone
   pub cones_more : (cones : List (Option Cone)) (cone : Option Cone) → AreFirstCones corners tris q order cones
       → IsConeOf corners tris q (at_place order (length cones)) cone → AreFirstCones corners tris q order (cones ++ cone ∷ [])
   cones_more cones cone before here p below = elim (cases_eq p (length cones)) [
-    | inl last ↦ rw (get_or_push cones cone None p (sym last)) (subst (λ m. IsConeOf corners tris q (at_place order m) cone) (sym last) here)
+    | inl last ↦
+        rw (get_or_push cones cone None p (sym last)) (subst (λ m. IsConeOf corners tris q (at_place order m) cone) (sym last) here)
     | inr other ↦
         let earlier : p < length cones = omega (arith, length-append cones (cone ∷ [])) in
         rw (get_or_append_left cones (cone ∷ []) None p earlier) (before p earlier)
   ]
+
+module _ (corners : List Point) (tris : List Tri) (fits : Fits corners tris) (q : Point) (order : List Outward)
+    (outward : IsFromFirst tris order) (some : 0 < length order)
+    (in_home : IsInTri corners (tri_at tris (outward_at order 0).tri) (whole q)) where
+  -- at home it is all
+  pub first_cone : IsConeOf corners tris q (at_place order 0) (Some (record { left = q; right = q }))
+  first_cone = home_cone corners tris fits q (at_place order 0) in_home (outward.in_list 0 some)
+
+  -- at a later place it is that of the triangle from which this one is reached, narrowed to the side between them
+  pub next_cone : (p : ℕ) → 0 < p → p < length order → (sight : Option Cone)
+      → IsConeOf corners tris q (at_place order (outward_at order p).toward) sight
+      → let t = tri_at tris (at_place order p) in let side = (outward_at order p).side in
+      IsConeOf corners tris q (at_place order p) (narrowed q sight (vertex corners (side_begin t side)) (vertex corners (side_end t side)))
+  next_cone p later below sight cone =
+      let home = at_place order 0 in
+      let joined = outward.joined p later below in
+      let k = at_place order (outward_at order p).toward in
+      let t = tri_at tris (at_place order p) in
+      let side = (outward_at order p).side in
+      let k_below = outward.in_list (outward_at order p).toward (omega (arith, joined.earlier)) in
+      let walk = fits.tree home k (outward.in_list 0 some) k_below in
+      let on = walk_outward tris home order outward fits.tree p later below walk.walk walk.between in
+      cone_beyond corners tris fits q home in_home k walk.walk walk.between (side_end t side) (side_begin t side) sight cone
+      (at_place order p) on joined.shared (has_side_numbered t side joined.side)
 
   -- the cone of a triangle tells what q sees of its edges
   pub edge_told : (i j k : ℕ) (cone : Option Cone) → IsSideOfOne tris i j k → IsConeOf corners tris q k cone → IsTold corners q i cone
@@ -81,8 +87,8 @@ module _ (corners : List Point) (tris : List Tri) (fits : Fits corners tris) (q 
       }
 
   -- so the cones at their places tell all
-  pub all_told : (cones : List (Option Cone)) (places : List ℕ) → AreCones corners tris q order cones → ArePlaces (length corners) tris order places
-      → AllTold corners q cones places
+  pub all_told : (cones : List (Option Cone)) (places : List ℕ) → AreCones corners tris q order cones
+      → ArePlaces (length corners) tris order places → AllTold corners q cones places
   all_told cones places are at_places =
       let within : (i : ℕ) → i < length corners → place_at places i < length cones =
       λ i h. subst (λ n. place_at places i < n) (sym are.count) (at_places.placed i h).below in
@@ -91,5 +97,6 @@ module _ (corners : List Point) (tris : List Tri) (fits : Fits corners tris) (q 
         below = within;
         told = λ i h.
             let placed = at_places.placed i h in
-            edge_told i placed.end (at_place order (place_at places i)) (cone_at cones (place_at places i)) placed.alone (are.of_places (place_at places i) (within i h));
+            let p = place_at places i in
+            edge_told i placed.end (at_place order p) (cone_at cones p) placed.alone (are.of_places p (within i h));
       }

@@ -37,7 +37,8 @@ pub end_below : (n : ℕ) (t : Tri) → HasCornersBelow n t → (side : ℕ) →
 end_below n t below = each_side (λ side. side_end t side < n) below.b below.c below.a
 
 -- the corners of a triangle are vertices of the ring
-pub corners_below : (corners : List Point) (tris : List Tri) → Fits corners tris → (k : ℕ) → k < length tris → HasCornersBelow (length corners) (tri_at tris k)
+pub corners_below : (corners : List Point) (tris : List Tri) → Fits corners tris → (k : ℕ) → k < length tris
+    → HasCornersBelow (length corners) (tri_at tris k)
 corners_below corners tris fits k below =
     let at = cornered corners tris fits k below in
     record { a = at.a; b = at.b; c = at.c }
@@ -48,7 +49,8 @@ written n new old is = ap (λ m. take m (new ++ drop (length new) old)) is ∙ t
 
 module _ (tris : List Tri) (order : List Outward) where
   -- by what a table has of an edge
-  placed_by : (places : List ℕ) (i p j : ℕ) → place_at places i ≡ p → p < length order → IsSideOfOne tris i j (outward_at order p).tri → IsPlaced tris order places i
+  placed_by : (places : List ℕ) (i p j : ℕ) → place_at places i ≡ p → p < length order → IsSideOfOne tris i j (outward_at order p).tri
+      → IsPlaced tris order places i
   placed_by places i p j is below alone = record {
     below = subst (λ m. m < length order) (sym is) below;
     end = j;
@@ -77,7 +79,8 @@ module _ (tris : List Tri) (order : List Outward) where
   -- those of one more
   pub sides_more : (old new : List ℕ) (p : ℕ) → StayPlaced tris order old new
       → ((m : ℕ) → m < p → HasCornersBelow (length old) (tri_at tris (outward_at order m).tri))
-      → AreSidesPlaced old p → ((side : ℕ) → side < 3 → IsSidePlaced tris order new (outward_at order p).tri side) → AreSidesPlaced new (p + 1)
+      → AreSidesPlaced old p → ((side : ℕ) → side < 3 → IsSidePlaced tris order new (outward_at order p).tri side)
+      → AreSidesPlaced new (p + 1)
   sides_more old new p stay corners before here m m_below side number = elim (cases_eq m p) [
     | inl this ↦ subst (λ k. IsSidePlaced tris order new (outward_at order k).tri side) (sym this) (here side number)
     | inr other ↦
@@ -87,12 +90,12 @@ module _ (tris : List Tri) (order : List Outward) where
   ]
 
   -- in the end each edge of the ring is placed
-  pub all_placed : (corners : List Point) → Fits corners tris → IsFromFirst tris order → (places : List ℕ) → AreSidesPlaced places (length order)
-      → (i : ℕ) → i < length corners → IsPlaced tris order places i
+  pub all_placed : (corners : List Point) → Fits corners tris → IsFromFirst tris order → (places : List ℕ)
+      → AreSidesPlaced places (length order) → (i : ℕ) → i < length corners → IsPlaced tris order places i
   all_placed corners fits outward places placed i below =
       let (k, one) = one_at_edge corners tris fits i below in
       let (p, p_below, is) = outward.all k one.in_list in
       let (side, number, begins, ends) = numbered_side (tri_at tris k) i ((i + 1) % length corners) one.has in
-      let here : IsSidePlaced tris order places k side = subst (λ m. IsSidePlaced tris order places m side) is (placed p p_below side number) in
-      subst (λ b. IsPlaced tris order places b) begins
-      (here (subst (λ e. IsSideOfOne tris (side_begin (tri_at tris k) side) e k) (sym ends) (subst (λ b. IsSideOfOne tris b ((i + 1) % length corners) k) (sym begins) one)))
+      let here : IsSidePlaced tris order places k side =
+      subst (λ m. IsSidePlaced tris order places m side) is (placed p p_below side number) in
+      subst (λ b. IsPlaced tris order places b) begins (here (rw (begins, ends) one))

@@ -79,7 +79,9 @@ module _ (ring : List Point) (q : Triple) where
       complete_more i below =
           let long = length-append parts (part ∷ []) in
           elim (cases_eq i count) [
-            | inl last ↦ inl (length parts, omega (arith, long), ap (λ (p : Part). p.edge) (at_last parts part (length parts) refl) ∙ here ∙ sym last)
+            | inl last ↦
+                let edge = ap (λ (p : Part). p.edge) (at_last parts part (length parts) refl) in
+                inl (length parts, omega (arith, long), edge ∙ here ∙ sym last)
             | inr other ↦ elim (are.complete i (omega arith)) [
               | inl at ↦ inl (at.0, omega (arith, long, at.1), ap (λ (p : Part). p.edge) (at_earlier parts part at.0 at.1) ∙ at.2)
               | inr unseen ↦ inr unseen
@@ -90,7 +92,8 @@ module _ (ring : List Point) (q : Triple) where
       pub first_part : AreFirstParts ring q (count + 1) more
       first_part = record {
         in_front = pushed (λ p. p.edge < count + 1) parts part (λ k h. omega (arith, are.in_front k h)) (omega (arith, here));
-        parts_seen = pushed (IsSeenPart ring q) parts part are.parts_seen (subst (λ e. IsPart ring q e part.first part.last) (sym here) seen);
+        parts_seen = pushed (IsSeenPart ring q) parts part are.parts_seen
+            (subst (λ e. IsPart ring q e part.first part.last) (sym here) seen);
         rising = rising_more;
         complete = complete_more;
       }

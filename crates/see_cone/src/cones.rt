@@ -63,7 +63,8 @@ fn cone_beyond<L: Ledger>(
     steps: &mut Steps<L>,
 ) -> Option<Cone>
     requires { IsSideIn ring.now.corners tri.now side }
-    ensures cone { result ≡ narrowed q.now cone.now (vertex ring.now.corners (side_begin tri.now side)) (vertex ring.now.corners (side_end tri.now side)) }
+    ensures cone { let corners = ring.now.corners in
+        result ≡ narrowed q.now cone.now (vertex corners (side_begin tri.now side)) (vertex corners (side_end tri.now side)) }
     ensures steps { steps.new ≤ steps.old + 5 }
 {
     let (begin, end) = side_ends(tri, side);

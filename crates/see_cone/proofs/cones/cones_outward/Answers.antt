@@ -13,12 +13,13 @@ loop-p-init g c =
     let q = c.args.q.now in
     let order = c.args.order.now in
     let all : Cone = record { left = q; right = q } in
-    let is : c.push.new.self.items ≡ Some all ∷ [] = c.in_ok-push.ensures.items ∙ ap (λ xs. xs ++ Some all ∷ []) c.in_ok-cones.ensures.items in
+    let is : c.push.new.self.items ≡ Some all ∷ [] =
+    c.in_ok-push.ensures.items ∙ ap (λ xs. xs ++ Some all ∷ []) c.in_ok-cones.ensures.items in
     record {
       later = omega arith;
       count = ap length is;
       cones = subst (AreFirstCones corners tris q order) (sym is)
-          (cones_more corners tris c.requires.fits q order c.requires.outward c.requires.some c.requires.home [] (Some all) (λ p h. absurd (omega arith))
+          (cones_more corners tris q order [] (Some all) (λ p h. absurd (omega arith))
           (first_cone corners tris c.requires.fits q order c.requires.outward c.requires.some c.requires.home));
       steps = omega arith;
     }
@@ -27,8 +28,8 @@ pub cone_beyond-cone-requires : goal.cone_beyond-cone-requires
 cone_beyond-cone-requires g c =
     let below : c.loop-p.p < length c.args.order.now = omega arith in
     rw c.tri.ensures
-    (side_in_ring c.args.ring.now.corners c.args.mesh.now c.requires.fits c.args.q.now c.args.order.now c.requires.outward c.requires.some c.requires.home
-    c.loop-p.p c.loop-p.invariant.later below)
+    (side_in_ring c.args.ring.now.corners c.args.mesh.now c.requires.fits c.args.order.now c.requires.outward c.loop-p.p
+    c.loop-p.invariant.later below)
 
 pub loop-p-preserved : goal.loop-p-preserved
 loop-p-preserved g c =
@@ -43,15 +44,14 @@ loop-p-preserved g c =
     let within : toward < length c.loop-p.cones.items = omega (arith, joined.earlier, before.count) in
     let cone : c.index.result.now ≡ cone_at c.loop-p.cones.items toward =
     get_or_read c.loop-p.cones.items toward c.index.result.now within c.index.ensures None in
-    let next = next_cone corners tris c.requires.fits q order c.requires.outward c.requires.some c.requires.home c.loop-p.p before.later below
-    (cone_at c.loop-p.cones.items toward) (before.cones toward within) in
+    let next = next_cone corners tris c.requires.fits q order c.requires.outward c.requires.some c.requires.home c.loop-p.p
+    before.later below (cone_at c.loop-p.cones.items toward) (before.cones toward within) in
     let here : IsConeOf corners tris q (outward_at order (length c.loop-p.cones.items)).tri c.cone_beyond-cone.result =
     rw (before.count, c.cone_beyond-cone.ensures.cone, c.tri.ensures, cone) next in
     record {
       later = omega arith;
       count = omega (arith, c.in_ok-push-2.ensures.len, before.count);
       cones = rw c.in_ok-push-2.ensures.items
-          (cones_more corners tris c.requires.fits q order c.requires.outward c.requires.some c.requires.home c.loop-p.cones.items
-          c.cone_beyond-cone.result before.cones here);
+          (cones_more corners tris q order c.loop-p.cones.items c.cone_beyond-cone.result before.cones here);
       steps = omega (arith, before.steps, c.cone_beyond-cone.ensures.steps);
     }

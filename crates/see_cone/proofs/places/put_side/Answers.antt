@@ -7,14 +7,18 @@ use Rattle.see_cone.proofs.places.put_side.Goals as goal
 
 pub returns-then-is_none-clause-stay : goal.returns-then-is_none-clause-stay
 returns-then-is_none-clause-stay c =
-    let t = tri_at c.args.mesh.now (outward_at c.args.order.now c.args.p).tri in
+    let tris = c.args.mesh.now in
+    let order = c.args.order.now in
+    let end = side_end (tri_at tris (outward_at order c.args.p).tri) c.args.side in
     let alone = c.across.ensures.none.0 (search rules) in
-    put_stay c.args.mesh.now c.args.order.now c.args.places.now c.args.begin c.args.p (side_end t c.args.side) c.requires.below c.requires.place
+    put_stay tris order c.args.places.now c.args.begin c.args.p end c.requires.below c.requires.place
     (rw c.requires.begin at alone)
 
 pub returns-then-is_none-clause-placed : goal.returns-then-is_none-clause-placed
 returns-then-is_none-clause-placed c =
-    let t = tri_at c.args.mesh.now (outward_at c.args.order.now c.args.p).tri in
+    let tris = c.args.mesh.now in
+    let order = c.args.order.now in
+    let end = side_end (tri_at tris (outward_at order c.args.p).tri) c.args.side in
     λ alone. rw c.requires.begin
-    (put_placed c.args.mesh.now c.args.order.now c.args.places.now c.args.begin c.args.p (side_end t c.args.side) c.requires.below c.requires.place
+    (put_placed tris order c.args.places.now c.args.begin c.args.p end c.requires.below c.requires.place
     (rw c.requires.begin at alone))

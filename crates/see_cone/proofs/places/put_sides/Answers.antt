@@ -10,7 +10,8 @@ returns-clause-stay c i below was =
     let first = c.put_side.ensures in
     let second = c.put_side-2.ensures in
     let third = c.put_side-3.ensures in
-    third.stay i (omega (arith, first.count, second.count, below)) (second.stay i (omega (arith, first.count, below)) (first.stay i below was))
+    third.stay i (omega (arith, first.count, second.count, below))
+    (second.stay i (omega (arith, first.count, below)) (first.stay i below was))
 
 pub returns-clause-placed : goal.returns-clause-placed
 returns-clause-placed c =
