@@ -1,4 +1,4 @@
--- Runs of edges: of one edge, joined, and apart from an edge.
+-- Runs of edges: with one edge more, joined, and apart from an edge.
 use Rattle.std.proofs.Common.{◌≡◌, inl, inr, subst, ℕ, ◌+◌, ◌<◌, ◌≤◌, List, arith}
 use Rattle.std.proofs.lemmas.Bool.{cases_lt}
 use Rattle.plane.specs.Point.{Point}
@@ -7,15 +7,6 @@ use Rattle.ring_check.proofs.Bounds.{edge_in_wider, overlap_of_shared}
 use Rattle.ring_check.specs.Boxes.{Bounds, Encloses, EnclosesEdge}
 use Rattle.ring_check.specs.Runs.{IsInABox, IsRun, Reaches}
 use Rattle.ring_check.specs.declared.runs.Run.{Run}
-
--- the run of an edge that is in one of its boxes
-pub run_of_edge : (ring : List Point) (run : Run) (e : ℕ) → run.first ≡ e → run.end ≡ e + 1 → IsInABox ring run e → (HasEqualEnds ring e → ⊥) → IsRun ring run
-run_of_edge ring run e first end within differ =
-    let only : (k : ℕ) → run.first ≤ k → k < run.end → e ≡ k = λ k above below. omega (arith, above, below, first, end) in
-    record {
-      edges = λ k above below. subst (IsInABox ring run) (only k above below) within;
-      differ = λ k above below. subst (λ k. HasEqualEnds ring k → ⊥) (only k above below) differ;
-    }
 
 -- what is in the first box is in the second
 abbrev pub IsWider : Bounds → Bounds → Type 0
@@ -30,6 +21,21 @@ in_wider ring a b e east north west south within = elim within [
   | inr (inr (inl h)) ↦ inr (inr (inl (edge_in_wider ring a.westward b.westward e west h)))
   | inr (inr (inr h)) ↦ inr (inr (inr (edge_in_wider ring a.southward b.southward e south h)))
 ]
+
+-- the edges of a run and the next edge, where the boxes are wider and have that edge
+pub run_with_edge : (ring : List Point) (a c : Run) (e : ℕ) → e ≡ a.end → c.first ≡ a.first → c.end ≡ e + 1
+    → IsWider a.eastward c.eastward → IsWider a.northward c.northward → IsWider a.westward c.westward → IsWider a.southward c.southward
+    → IsRun ring a → IsInABox ring c e → (HasEqualEnds ring e → ⊥) → IsRun ring c
+run_with_edge ring a c e next first end east north west south in_a within differ = record {
+  edges = λ k above below. elim (cases_lt k a.end) [
+    | inl less ↦ in_wider ring a c k east north west south (in_a.edges k (omega (arith, above, first)) less)
+    | inr not ↦ subst (IsInABox ring c) (omega (arith, below, not, next, end)) within
+  ];
+  differ = λ k above below. elim (cases_lt k a.end) [
+    | inl less ↦ in_a.differ k (omega (arith, above, first)) less
+    | inr not ↦ subst (λ (k : ℕ). HasEqualEnds ring k → ⊥) (omega (arith, below, not, next, end)) differ
+  ];
+}
 
 -- the edges of a run and of the next, where the boxes are wider than those of both
 pub run_of_both : (ring : List Point) (a b c : Run) → b.first ≡ a.end → c.first ≡ a.first → c.end ≡ b.end

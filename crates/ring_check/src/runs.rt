@@ -51,37 +51,6 @@ impl Run {
         }
     }
 
-    // One edge.
-    fn of_edge<L: Ledger>(points: &[Pt], e: usize, steps: &mut Steps<L>) -> Run
-        requires edge { e < length points.now }
-        requires differ { HasEqualEnds points.now e → ⊥ }
-        ensures { IsRun points.now result }
-    {
-        let bounds = BoundingBox::of_edge(points, e, steps);
-        let run = Run {
-            end: e + 1,
-            ..Run::empty(e)
-        };
-        match way_of(points, e, steps) {
-            Way::East => Run {
-                eastward: bounds,
-                ..run
-            },
-            Way::North => Run {
-                northward: bounds,
-                ..run
-            },
-            Way::West => Run {
-                westward: bounds,
-                ..run
-            },
-            Way::South => Run {
-                southward: bounds,
-                ..run
-            },
-        }
-    }
-
     // The edges from `first` on, 16 or up to the end of the list or an edge with equal ends.
     fn of<L: Ledger>(points: &[Pt], first: usize, steps: &mut Steps<L>) -> Run
         requires { first < length points.now }
@@ -92,9 +61,43 @@ impl Run {
             if has_equal_ends(points, e, steps) {
                 return run;
             }
-            run = run.joined(&Run::of_edge(points, e, steps));
+            run = run.with_edge(points, e, steps);
         }
         run
+    }
+
+    // This run and edge `e`, the next.
+    fn with_edge<L: Ledger>(&self, points: &[Pt], e: usize, steps: &mut Steps<L>) -> Run
+        requires run { IsRun points.now self.now }
+        requires next { e ≡ self.now.end }
+        requires edge { e < length points.now }
+        requires differ { HasEqualEnds points.now e → ⊥ }
+        ensures run { IsRun points.now result }
+        ensures end { result.end ≡ e + 1 }
+    {
+        let bounds = BoundingBox::of_edge(points, e, steps);
+        let run = Run {
+            end: e + 1,
+            ..*self
+        };
+        match way_of(points, e, steps) {
+            Way::East => Run {
+                eastward: run.eastward.joined(&bounds),
+                ..run
+            },
+            Way::North => Run {
+                northward: run.northward.joined(&bounds),
+                ..run
+            },
+            Way::West => Run {
+                westward: run.westward.joined(&bounds),
+                ..run
+            },
+            Way::South => Run {
+                southward: run.southward.joined(&bounds),
+                ..run
+            },
+        }
     }
 
     // This run and the next, or this one alone where the other does not follow it.
