@@ -13,7 +13,8 @@ abbrev pub IsWider : Bounds → Bounds → Type 0
 IsWider b c = (q : Point) → Encloses b q → Encloses c q
 
 -- what is in a box is so where each is wider
-in_wider : (ring : List Point) (a b : Run) (e : ℕ) → IsWider a.eastward b.eastward → IsWider a.northward b.northward → IsWider a.westward b.westward → IsWider a.southward b.southward
+in_wider : (ring : List Point) (a b : Run) (e : ℕ)
+    → IsWider a.eastward b.eastward → IsWider a.northward b.northward → IsWider a.westward b.westward → IsWider a.southward b.southward
     → IsInABox ring a e → IsInABox ring b e
 in_wider ring a b e east north west south within = elim within [
   | inl h ↦ inl (edge_in_wider ring a.eastward b.eastward e east h)
@@ -54,7 +55,8 @@ run_of_both ring a b c follows first end east north west south in_a in_b = recor
 }
 
 -- the box of an edge that shares a point with one of a run reaches the run
-reaches_of_shared : (ring : List Point) (run : Run) (box : Bounds) (i j : ℕ) → EnclosesEdge ring box i → IsInABox ring run j → SharesPoint ring i j → Reaches run box
+reaches_of_shared : (ring : List Point) (run : Run) (box : Bounds) (i j : ℕ)
+    → EnclosesEdge ring box i → IsInABox ring run j → SharesPoint ring i j → Reaches run box
 reaches_of_shared ring run box i j edge within shared = elim within [
   | inl h ↦ inl (overlap_of_shared ring box run.eastward i j edge h shared)
   | inr (inl h) ↦ inr (inl (overlap_of_shared ring box run.northward i j edge h shared))
@@ -63,7 +65,8 @@ reaches_of_shared ring run box i j edge within shared = elim within [
 ]
 
 -- so no edge of a run clashes with one whose box does not reach it
-pub clear_of_apart : (ring : List Point) (run : Run) (box : Bounds) (i : ℕ) → IsRun ring run → EnclosesEdge ring box i → (HasEqualEnds ring i → ⊥) → ¬ (Reaches run box)
+pub clear_of_apart : (ring : List Point) (run : Run) (box : Bounds) (i : ℕ)
+    → IsRun ring run → EnclosesEdge ring box i → (HasEqualEnds ring i → ⊥) → ¬ (Reaches run box)
     → (l : ℕ) → run.first ≤ l → l < run.end → Clash ring i l → ⊥
 clear_of_apart ring run box i is_run edge differ apart l above below clash = elim clash [
   | inl equal ↦ differ equal

@@ -53,7 +53,7 @@ impl BoundingBox {
         }
     }
 
-    // A box that shares no point with any.
+    // The box round no point.
     pub(crate) fn empty() -> BoundingBox {
         let limit = MAX_COORDINATE as i64;
         BoundingBox {

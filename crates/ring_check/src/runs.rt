@@ -12,7 +12,7 @@ use exact_plane::{Memory, Pt, Steps};
 use std::alloc::Global;
 use std::sync::ledger::Ledger;
 
-// How many edges a run has that joins no others.
+// How many edges a run has at most that joins no others.
 const RUN: usize = 16;
 
 // The edges from `first` to before `end`, each in the box of those that go its way. Where a list winds round and round,
@@ -155,8 +155,8 @@ fn way_of<L: Ledger>(points: &[Pt], e: usize, steps: &mut Steps<L>) -> Way
     }
 }
 
-// Runs from each 16th edge on, and after these runs that join two. Where m join none, run m + k joins runs 2 k and
-// 2 k + 1, so that they make a tree.
+// Runs from each 16th edge on, and after them runs that join two. Where m join none, run m + k joins runs 2 k and 2 k + 1,
+// so that they make a tree.
 pub(crate) fn runs_of<L: Ledger>(
     alloc: Global,
     points: &[Pt],
@@ -216,6 +216,7 @@ pub(crate) fn clear_to(
             return end;
         }
         end = run.end;
+        // The run that joins this one and the next, or the one before.
         k = runs.len() / 2 + 1 + k / 2;
     }
     end

@@ -10,7 +10,8 @@ loop-k-preserved g c =
     let runs = c.loop-k.runs.items in
     let run = c.joined-run.result in
     let had = c.loop-k.invariant in
-    let first = subst (IsRun ring) (sym c.index.ensures) (had.1 (2 * c.loop-k.k - 2) c.index.result.now (omega (arith, had.0, c.loop-k-test.true))) in
+    let first = subst (IsRun ring) (sym c.index.ensures)
+    (had.1 (2 * c.loop-k.k - 2) c.index.result.now (omega (arith, had.0, c.loop-k-test.true))) in
     let second = subst (IsRun ring) (sym c.index-in-loop-k.ensures)
     (had.1 (2 * c.loop-k.k - 1) c.index-in-loop-k.result.now (omega (arith, had.0, c.loop-k-test.true))) in
     rw c.in_ok-push.ensures.items
