@@ -1,17 +1,15 @@
 -- Bounding boxes: wider ones, and edges in boxes that do not overlap.
-use Rattle.std.proofs.Common.{◌≡◌, inl, inr, sym, subst, ℕ, ◌+◌, ◌*◌, ℤ, ◌≤ℤ◌, Bool, true, false, IsTrue, List, [], ◌∷◌, ◌++◌, length, w64, arith}
-use Rattle.std.proofs.lemmas.Bool.{cases_lt}
+use Rattle.std.proofs.Common.{◌≡◌, ℕ, ◌+◌, ℤ, ◌≤ℤ◌, Bool, true, false, IsTrue, List, w64, arith}
 use Rattle.std.proofs.lemmas.Int.{clamps, ints, to_z-of_z}
-use Rattle.std.proofs.lemmas.List.{get_or_append_left, get_or_at, length-append}
 use Rattle.std.specs.Int.{int_max, int_min}
 use Rattle.std.specs.Prelude.{not}
 use Rattle.plane.proofs.Meetings.{segments_apart}
 use Rattle.plane.specs.Box.{BoxesMeet}
-use Rattle.plane.specs.Point.{IsInBounds, IsInLimit, Point}
+use Rattle.plane.specs.Point.{IsInLimit, Point}
 use Rattle.rings.specs.Ring.{vertex}
 use Rattle.rings.specs.Simple.{SharesPoint}
 use Rattle.ring_check.proofs.SharedPoints.{meet_of_shared}
-use Rattle.ring_check.specs.Boxes.{AreBoxes, AreInLimit, Bounds, Encloses, EnclosesEdge, EnclosesRun, Overlap}
+use Rattle.ring_check.specs.Boxes.{AreInLimit, Bounds, Encloses, EnclosesEdge, Overlap}
 use mir.Val.{of_z, to_z}
 
 -- a number as it is read from a register
@@ -36,40 +34,45 @@ read_max {a} {b} {m} ha hb e =
     let small : IsInLimit m = omega (arith, ints, clamps) in
     rw (read_is m small) (small, omega (arith, ints, clamps), omega (arith, ints, clamps))
 
--- a box with one more point
-module _ {b : Bounds} (p : Point) {west east south north : ℤ} (in_b : AreInLimit b) (in_p : IsInBounds p)
-    (is_west : west ≡ int_min (read b.west) (read p.x)) (is_east : east ≡ int_max (read b.east) (read p.x))
-    (is_south : south ≡ int_min (read b.south) (read p.y)) (is_north : north ≡ int_max (read b.north) (read p.y)) where
-  abbrev wider : Bounds
-  wider = record { west = read west; east = read east; south = read south; north = read north }
+-- the box round two boxes
+module _ {b c : Bounds} {west east south north : ℤ} (in_b : AreInLimit b) (in_c : AreInLimit c)
+    (is_west : west ≡ int_min (read b.west) (read c.west)) (is_east : east ≡ int_max (read b.east) (read c.east))
+    (is_south : south ≡ int_min (read b.south) (read c.south)) (is_north : north ≡ int_max (read b.north) (read c.north)) where
+  abbrev joined : Bounds
+  joined = record { west = read west; east = read east; south = read south; north = read north }
 
-  at_west : IsInLimit (read west) × (read west ≤ℤ b.west) × (read west ≤ℤ p.x)
-  at_west = read_min in_b.west in_p.x_in_limit is_west
+  at_west : IsInLimit (read west) × (read west ≤ℤ b.west) × (read west ≤ℤ c.west)
+  at_west = read_min in_b.west in_c.west is_west
 
-  at_east : IsInLimit (read east) × (b.east ≤ℤ read east) × (p.x ≤ℤ read east)
-  at_east = read_max in_b.east in_p.x_in_limit is_east
+  at_east : IsInLimit (read east) × (b.east ≤ℤ read east) × (c.east ≤ℤ read east)
+  at_east = read_max in_b.east in_c.east is_east
 
-  at_south : IsInLimit (read south) × (read south ≤ℤ b.south) × (read south ≤ℤ p.y)
-  at_south = read_min in_b.south in_p.y_in_limit is_south
+  at_south : IsInLimit (read south) × (read south ≤ℤ b.south) × (read south ≤ℤ c.south)
+  at_south = read_min in_b.south in_c.south is_south
 
-  at_north : IsInLimit (read north) × (b.north ≤ℤ read north) × (p.y ≤ℤ read north)
-  at_north = read_max in_b.north in_p.y_in_limit is_north
+  at_north : IsInLimit (read north) × (b.north ≤ℤ read north) × (c.north ≤ℤ read north)
+  at_north = read_max in_b.north in_c.north is_north
 
   -- is in the limit,
-  pub wider_in_limit : AreInLimit wider
-  wider_in_limit = record { west = at_west.0; east = at_east.0; south = at_south.0; north = at_north.0 }
+  pub joined_in_limit : AreInLimit joined
+  joined_in_limit = record { west = at_west.0; east = at_east.0; south = at_south.0; north = at_north.0 }
 
-  -- has the point,
-  pub wider_has_point : Encloses wider p
-  wider_has_point = record { west = at_west.2; east = at_east.2; south = at_south.2; north = at_north.2 }
-
-  -- and what was in it
-  pub wider_has_more : (q : Point) → Encloses b q → Encloses wider q
-  wider_has_more q h = record {
+  -- has what was in the first,
+  pub joined_has_first : (q : Point) → Encloses b q → Encloses joined q
+  joined_has_first q h = record {
     west = omega (arith, ints, at_west.1, h.west);
     east = omega (arith, ints, at_east.1, h.east);
     south = omega (arith, ints, at_south.1, h.south);
     north = omega (arith, ints, at_north.1, h.north);
+  }
+
+  -- and what was in the second
+  pub joined_has_second : (q : Point) → Encloses c q → Encloses joined q
+  joined_has_second q h = record {
+    west = omega (arith, ints, at_west.2, h.west);
+    east = omega (arith, ints, at_east.2, h.east);
+    south = omega (arith, ints, at_south.2, h.south);
+    north = omega (arith, ints, at_north.2, h.north);
   }
 
 -- what is in a box is so in a wider one
@@ -94,15 +97,6 @@ pub overlap_of_shared : (ring : List Point) (b c : Bounds) (i j : ℕ) → Enclo
 overlap_of_shared ring b c i j hi hj shared =
     overlap_of_boxes b c (vertex ring i) (vertex ring (i + 1)) (vertex ring j) (vertex ring (j + 1)) hi.from hi.to hj.from hj.to
     (segments_apart (vertex ring i) (vertex ring (i + 1)) (vertex ring j) (vertex ring (j + 1)) (meet_of_shared ring i j shared)).0
-
--- the boxes of runs, and one more
-pub boxes_more : (ring : List Point) (boxes : List Bounds) (b : Bounds) → AreBoxes ring boxes → EnclosesRun ring b (16 * length boxes) → AreBoxes ring (boxes ++ b ∷ [])
-boxes_more ring boxes b are run k d within = elim (cases_lt k (length boxes)) [
-  | inl less ↦ subst (λ (c : Bounds). EnclosesRun ring c (16 * k)) (sym (get_or_append_left boxes (b ∷ []) d k less)) (are k d less)
-  | inr not ↦
-      let here : length boxes ≡ k = omega (arith, not, within, length-append boxes (b ∷ [])) in
-      subst (λ (c : Bounds). EnclosesRun ring c (16 * k)) (sym (get_or_at boxes b [] d k here)) (subst (λ n. EnclosesRun ring b (16 * n)) here run)
-]
 
 -- a test that was true was not false
 pub not_true : (test : Bool) → IsTrue (not test) → ¬ (IsTrue test)

@@ -1,8 +1,7 @@
--- Bounding boxes round runs of 16 consecutive edges. This project's own.
-use Rattle.std.specs.Prelude.{ℕ, ◌+◌, ◌*◌, ◌<◌, ◌≤◌, ℤ, ◌≤ℤ◌, List, length, slice_index_or}
+-- Bounding boxes of edges. This project's own.
+use Rattle.std.specs.Prelude.{ℕ, ◌+◌, ℤ, ◌≤ℤ◌, List}
 use Rattle.plane.specs.Point.{IsInLimit, Point}
 use Rattle.rings.specs.Ring.{vertex}
-use Rattle.rings.specs.Simple.{HasEqualEnds}
 
 -- the points between two columns and two rows
 pub record Bounds : Type 0 where
@@ -39,12 +38,3 @@ pub record Overlap (b c : Bounds) : Type 0 where
 pub record EnclosesEdge (ring : List Point) (box : Bounds) (e : ℕ) : Type 0 where
   pub from : Encloses box (vertex ring e)
   pub to : Encloses box (vertex ring (e + 1))
-
--- the 16 edges from edge `first` on are in the box, and none has equal ends
-pub record EnclosesRun (ring : List Point) (box : Bounds) (first : ℕ) : Type 0 where
-  pub edges : (e : ℕ) → first ≤ e → e < first + 16 → EnclosesEdge ring box e
-  pub differ : (e : ℕ) → first ≤ e → e < first + 16 → HasEqualEnds ring e → ⊥
-
--- box k has the edges from 16 k on
-abbrev pub AreBoxes : List Point → List Bounds → Type 0
-AreBoxes ring boxes = (k : ℕ) (d : Bounds) → k < length boxes → EnclosesRun ring (slice_index_or boxes k d) (16 * k)

@@ -1,3 +1,4 @@
 pub mod Boxes
 pub mod Ends
 pub mod Oriented
+pub mod Runs

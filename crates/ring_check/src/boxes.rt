@@ -1,17 +1,13 @@
-// Bounding boxes round runs of edges, by which whole runs are left out of the scan for the least clash.
-ghost use Rattle.std.specs.Prelude.{◌+◌, ◌<◌, ◌≤◌, ◌↔◌, ℕ, IfOk, IfSome, IsTrue, length};
+// Bounding boxes of edges.
+ghost use Rattle.std.specs.Prelude.{◌<◌, ◌↔◌, IsTrue, length};
 ghost use Rattle.plane.specs.Point.{Point};
-ghost use Rattle.rings.specs.Simple.{Clash, HasEqualEnds};
-ghost use Rattle.ring_check.specs.Boxes.{AreBoxes, Encloses, EnclosesEdge, EnclosesRun, Overlap, RangesOverlap};
+ghost use Rattle.ring_check.specs.Boxes.{Encloses, EnclosesEdge, Overlap, RangesOverlap};
 
-use crate::clash::{corner, has_equal_ends};
-use exact_plane::{Memory, Pt, Steps};
-use std::alloc::Global;
+use crate::clash::corner;
+use exact_plane::{Pt, Steps};
+use plane::MAX_COORDINATE;
 use std::marker::Model;
 use std::sync::ledger::Ledger;
-
-// How many edges a run has.
-pub(crate) const RUN: usize = 16;
 
 // The points between two columns and two rows.
 #[derive(Clone, Copy)]
@@ -40,7 +36,8 @@ impl BoundingBox {
         requires { e < length points.now }
         ensures { EnclosesEdge points.now result e }
     {
-        BoundingBox::at(&corner(points, e), steps).with(&corner(points, e + 1), steps)
+        let from = BoundingBox::at(&corner(points, e), steps);
+        from.joined(&BoundingBox::at(&corner(points, e + 1), steps))
     }
 
     // The box round a point.
@@ -56,22 +53,32 @@ impl BoundingBox {
         }
     }
 
-    // The box round this one and a point.
-    fn with<L: Ledger>(self, p: &Pt, steps: &mut Steps<L>) -> BoundingBox
-        ensures point { Encloses result p.now }
-        ensures others { (q : Point) → Encloses self q → Encloses result q }
-    {
-        let (x, y) = p.parts(steps);
+    // The box round no point.
+    pub(crate) fn empty() -> BoundingBox {
+        let limit = MAX_COORDINATE as i64;
         BoundingBox {
-            west: self.west.min(x),
-            east: self.east.max(x),
-            south: self.south.min(y),
-            north: self.north.max(y),
+            west: limit,
+            east: -limit,
+            south: limit,
+            north: -limit,
+        }
+    }
+
+    // The box round this one and another.
+    pub(crate) fn joined(&self, other: &BoundingBox) -> BoundingBox
+        ensures first { (q : Point) → Encloses self.now q → Encloses result q }
+        ensures second { (q : Point) → Encloses other.now q → Encloses result q }
+    {
+        BoundingBox {
+            west: self.west.min(other.west),
+            east: self.east.max(other.east),
+            south: self.south.min(other.south),
+            north: self.north.max(other.north),
         }
     }
 
     // Whether it shares a point with another box.
-    fn overlaps(&self, other: &BoundingBox) -> bool
+    pub(crate) fn overlaps(&self, other: &BoundingBox) -> bool
         ensures { IsTrue result ↔ Overlap self.now other.now }
     {
         self.shares_a_column(other) && self.shares_a_row(other)
@@ -90,60 +97,4 @@ impl BoundingBox {
     {
         self.south <= other.north && other.south <= self.north
     }
-}
-
-// The boxes of whole runs, up to the first edge with equal ends.
-pub(crate) fn boxes_of<L: Ledger>(
-    alloc: Global,
-    points: &[Pt],
-    steps: &mut Steps<L>,
-) -> Result<Vec<BoundingBox>, Memory>
-    ensures { IfOk result (λ boxes. AreBoxes points.now boxes.items) }
-{
-    let mut boxes = Vec::with_capacity(alloc, points.len() / RUN)?;
-    let mut first = 0;
-    while points.len() - first >= RUN {
-        match box_of_run(points, first, steps) {
-            Some(bounds) => boxes.push(bounds)?,
-            None => return Ok(boxes),
-        }
-        first += RUN;
-    }
-    Ok(boxes)
-}
-
-// The box of the run from edge `first` on, where none of its edges has equal ends.
-fn box_of_run<L: Ledger>(points: &[Pt], first: usize, steps: &mut Steps<L>) -> Option<BoundingBox>
-    requires { first + 16 ≤ length points.now }
-    ensures { IfSome result (λ box. EnclosesRun points.now box first) }
-{
-    let mut bounds = BoundingBox::at(&corner(points, first), steps);
-    for e in first..first + RUN {
-        if has_equal_ends(points, e, steps) {
-            return None;
-        }
-        bounds = bounds
-            .with(&corner(points, e), steps)
-            .with(&corner(points, e + 1), steps);
-    }
-    Some(bounds)
-}
-
-// Whether the boxes show that no edge of the run from edge `first` on clashes with edge `i`, which has the first box.
-pub(crate) fn is_clear(
-    points: &[Pt],
-    i: usize,
-    bounds: &BoundingBox,
-    boxes: &[BoundingBox],
-    first: usize,
-) -> bool
-    requires edge { EnclosesEdge points.now bounds.now i }
-    requires differ { HasEqualEnds points.now i → ⊥ }
-    requires boxes { AreBoxes points.now boxes.now }
-    ensures { IsTrue result → (l : ℕ) → first ≤ l → l < first + 16 → Clash points.now i l → ⊥ }
-{
-    if first % RUN != 0 || first / RUN >= boxes.len() {
-        return false;
-    }
-    !bounds.overlaps(&boxes[first / RUN])
 }

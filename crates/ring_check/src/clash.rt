@@ -1,9 +1,11 @@
+ghost use Rattle.std.specs.List.{All};
 ghost use Rattle.std.specs.Prelude.{◌≡◌, ◌<◌, ◌≤◌, ◌^◌, ◌↔◌, ℕ, IsTrue, IfSome, IfNone, length};
 ghost use Rattle.rings.specs.Ring.{vertex};
 ghost use Rattle.rings.specs.Simple.{Clash, HasEqualEnds, IsLeastClash, IsSimple, SharesPoint};
-ghost use Rattle.ring_check.specs.Boxes.{AreBoxes};
+ghost use Rattle.ring_check.specs.Runs.{IsRun};
 
-use crate::boxes::{BoundingBox, RUN, boxes_of, is_clear};
+use crate::boxes::BoundingBox;
+use crate::runs::{Run, clear_to, runs_of};
 use crate::sweep::sweep_finds_none;
 use exact_plane::{Pt, Steps, meet_only_at, order, segments_meet};
 use std::alloc::Global;
@@ -25,25 +27,25 @@ pub fn find_clash<L: Ledger>(
     if sweep_finds_none(alloc, points, steps) {
         return None;
     }
-    match boxes_of(alloc, points, steps) {
-        Ok(boxes) => least_clash(points, &boxes, steps),
+    match runs_of(alloc, points, steps) {
+        Ok(runs) => least_clash(points, &runs, steps),
         Err(_) => least_clash(points, &[], steps),
     }
 }
 
-// The same by a scan of all pairs, without the runs of edges that are left out by their boxes.
+// The same by a scan of all pairs, without the runs of edges that are left out by the boxes round them.
 fn least_clash<L: Ledger>(
     points: &[Pt],
-    boxes: &[BoundingBox],
+    runs: &[Run],
     steps: &mut Steps<L>,
 ) -> Option<(usize, usize)>
     requires three { 3 ≤ length points.now }
-    requires boxes { AreBoxes points.now boxes.now }
+    requires runs { All (IsRun points.now) runs.now }
     ensures least { IfSome result (λ pair. IsLeastClash points.now pair.0 pair.1) }
     ensures simple { IfNone result (IsSimple points.now) }
 {
     for i in 0..points.len() {
-        if let Some(j) = least_clash_with(points, boxes, i, steps) {
+        if let Some(j) = least_clash_with(points, runs, i, steps) {
             return Some((i, j));
         }
     }
@@ -53,12 +55,12 @@ fn least_clash<L: Ledger>(
 // The least edge above i that clashes with edge i.
 fn least_clash_with<L: Ledger>(
     points: &[Pt],
-    boxes: &[BoundingBox],
+    runs: &[Run],
     i: usize,
     steps: &mut Steps<L>,
 ) -> Option<usize>
     requires three { 3 ≤ length points.now }
-    requires boxes { AreBoxes points.now boxes.now }
+    requires runs { All (IsRun points.now) runs.now }
     requires edge { i < length points.now }
     ensures range { IfSome result (λ j. (i < j) × (j < length points.now)) }
     ensures clash { IfSome result (λ j. Clash points.now i j) }
@@ -68,8 +70,9 @@ fn least_clash_with<L: Ledger>(
     let bounds = BoundingBox::of_edge(points, i, steps);
     let mut j = i + 1;
     while j < points.len() {
-        if j > i + 1 && is_clear(points, i, &bounds, boxes, j) {
-            j += RUN;
+        let end = clear_to(points, i, &bounds, runs, j);
+        if j < end {
+            j = end;
         } else if edges_clash(points, i, j, steps) {
             return Some(j);
         } else {

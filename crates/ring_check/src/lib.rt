@@ -7,6 +7,7 @@ mod events;
 mod laws;
 mod orientation;
 mod ring;
+mod runs;
 mod status;
 mod sweep;
 #[cfg(test)]

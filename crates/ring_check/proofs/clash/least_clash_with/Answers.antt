@@ -3,15 +3,15 @@ use Rattle.std.proofs.lemmas.Bool.{cases_lt}
 use Rattle.rings.specs.Simple.{Clash}
 use Rattle.ring_check.proofs.clash.least_clash_with.Goals as goal
 
-pub is_clear-requires-clause-differ : goal.is_clear-requires-clause-differ
-is_clear-requires-clause-differ g c = λ equal. c.loop-j.invariant.1 (c.args.i + 1) (omega arith) (omega (arith, c.if-j-i.true)) (inl equal)
+pub clear_to-end-requires-clause-differ : goal.clear_to-end-requires-clause-differ
+clear_to-end-requires-clause-differ g c = λ after equal. c.loop-j.invariant.1 (c.args.i + 1) (omega arith) after (inl equal)
 
-pub loop-j-preserved-then-is_clear : goal.loop-j-preserved-then-is_clear
-loop-j-preserved-then-is_clear g c = (
-  omega (arith, c.loop-j.invariant.0),
+pub loop-j-preserved-then-j-end : goal.loop-j-preserved-then-j-end
+loop-j-preserved-then-j-end g c = (
+  omega (arith, c.loop-j.invariant.0, c.if-j-end.true),
   λ m above below. elim (cases_lt m c.loop-j.j) [
     | inl before ↦ c.loop-j.invariant.1 m above before
-    | inr after ↦ c.if-is_clear.ensures refl m after (omega (arith, below))
+    | inr after ↦ c.clear_to-end.ensures m after below
   ],
 )
 
