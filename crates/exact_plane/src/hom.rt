@@ -1,7 +1,7 @@
-ghost use Rattle.std.specs.Prelude.{◌≡◌, ◌+◌, ◌<ℤ◌, ◌<◌, ◌^◌, ◌↔◌, IsNone, IfSome, pos, unsigned_abs};
+ghost use Rattle.std.specs.Prelude.{◌≡◌, ◌+◌, ◌<ℤ◌, ◌<◌, ◌^◌, ◌↔◌, IsNone, IsSome, IfSome, pos, unsigned_abs};
 ghost use Rattle.plane.specs.Line.{along, cross_product, mediant};
 ghost use Rattle.plane.specs.Order.{Precedes};
-ghost use Rattle.plane.specs.Point.{IsSame, whole};
+ghost use Rattle.plane.specs.Point.{IsInLimit, IsSame, whole};
 ghost use Rattle.plane.specs.Segment.{On};
 ghost use Rattle.plane.specs.Turn.{IsStraight};
 ghost use Rattle.exact_plane.specs.Direction.{turn_of};
@@ -48,6 +48,17 @@ impl Hom {
         steps.tick();
         let (x, y) = p.coordinates();
         Hom { x, y, w: 1 }
+    }
+
+    /// The point with these coordinates, or `None` where one passes the limit of a `Pt`. It takes no step, since the caller
+    /// names the coordinates.
+    pub fn of_whole(x: i64, y: i64) -> Option<Hom>
+        ensures bounds { IsSome result ↔ (IsInLimit x × IsInLimit y) }
+        ensures point { IfSome result (λ p. p ≡ whole (record { x = x; y = y })) }
+        ensures narrow { IfSome result IsNarrow }
+    {
+        let (x, y) = Pt::of(x, y)?.coordinates();
+        Some(Hom { x, y, w: 1 })
     }
 
     /// The point that is on the line through `a` and `b` and on the line through `c` and `d`; `None` where the cross
