@@ -1,7 +1,7 @@
 ghost use Rattle.std.specs.Prelude.{◌≡◌, ◌+◌, ◌<ℤ◌, ◌<◌, ◌^◌, ◌↔◌, IsNone, IsSome, IfSome, pos, unsigned_abs};
 ghost use Rattle.plane.specs.Line.{along, cross_product, mediant};
 ghost use Rattle.plane.specs.Order.{Precedes};
-ghost use Rattle.plane.specs.Point.{IsInLimit, IsSame, whole};
+ghost use Rattle.plane.specs.Point.{IsInLimit, IsPoint, IsSame, whole};
 ghost use Rattle.plane.specs.Segment.{On};
 ghost use Rattle.plane.specs.Turn.{IsStraight};
 ghost use Rattle.exact_plane.specs.Direction.{turn_of};
@@ -67,6 +67,7 @@ impl Hom {
         ensures none { IsNone result ↔ (cross_product a.now b.now c.now d.now ≡ pos 0) }
         ensures on_first { IfSome result (λ point. IsStraight (whole a.now) (whole b.now) point) }
         ensures on_second { IfSome result (λ point. IsStraight (whole c.now) (whole d.now) point) }
+        ensures rational { IfSome result IsPoint }
         ensures narrow { IfSome result IsNarrow }
         ensures steps { steps.new ≡ steps.old + 1 }
     {
@@ -153,6 +154,7 @@ impl Hom {
         requires { pos 0 <ℤ cross_product a.now b.now c.now d.now }
         ensures on_first { IsStraight (whole a.now) (whole b.now) result }
         ensures on_second { IsStraight (whole c.now) (whole d.now) result }
+        ensures rational { IsPoint result }
         ensures narrow { IsNarrow result }
     {
         Hom::along(a, b, cross_product(a, c, c, d), cross_product(a, b, c, d))

@@ -27,3 +27,6 @@ mod CutSegments
 -- A region cut along a line, whole: its corners, from wherever they are read, and its points.
 mod Cuts
 pub use Rattle.plane.proofs.Regions.Cuts.{all_cut, corners_of_cut, cut_from, cut_of_polygon, cut_of_segment, cut_to, none_cut, one_block}
+-- The square of the limit, by its corners.
+mod Squares
+pub use Rattle.plane.proofs.Regions.Squares.{square, square_corners}

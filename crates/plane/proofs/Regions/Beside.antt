@@ -1,5 +1,5 @@
 -- Corners, meetings and points beside lines: regions of one corner and of two, corners against sides, points of one line.
-use Rattle.std.proofs.Common.{◌≡◌, ◌⊎◌, ◌↔◌, inl, inr, refl, sym, subst, ap, ◌∙◌, ℕ, ◌+◌, ◌-◌, ◌<◌, ◌≤◌, arith, List, [], ◌∷◌, ◌++◌, length, take, ℤ, pos, ◌+ℤ◌, ◌-ℤ◌, ◌*ℤ◌, neg_ℤ, ◌≤ℤ◌, ◌<ℤ◌}
+use Rattle.std.proofs.Common.{◌≡◌, inl, inr, sym, subst, ap, ◌∙◌, ℕ, ◌+◌, ◌-◌, ◌<◌, arith, List, [], ◌∷◌, ◌++◌, length, ℤ, pos, ◌+ℤ◌, ◌-ℤ◌, ◌*ℤ◌, ◌≤ℤ◌, ◌<ℤ◌}
 use Rattle.std.proofs.lemmas.Bool.{cases_eq, cases_lt}
 use Rattle.std.proofs.lemmas.Int.{ints}
 use Rattle.std.proofs.lemmas.List.{append-nil}
@@ -13,7 +13,7 @@ use Rattle.plane.proofs.Regions.Sides.{IsNotRight}
 use Rattle.plane.proofs.Segments.{same_without_last}
 use Rattle.plane.proofs.Turns.{IsCombination, determinant_along, determinant_same_ends, determinant_same_last}
 use Rattle.plane.specs.Convex.{AreConvex, corner}
-use Rattle.plane.specs.Point.{IsPoint, IsSame, Triple}
+use Rattle.plane.specs.Point.{IsSame, Triple}
 use Rattle.plane.specs.Region.{IsInRegion}
 use Rattle.plane.specs.Segment.{On}
 use Rattle.plane.specs.Turn.{IsLeft, IsRight, IsStraight, determinant}

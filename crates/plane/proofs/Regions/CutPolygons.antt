@@ -1,9 +1,9 @@
 -- A polygon of which a line cuts some corners away: what is left has the points that are not right of the line, no more and no less.
-use Rattle.std.proofs.Common.{◌≡◌, ◌⊎◌, inl, inr, refl, sym, subst, ap, ◌∙◌, ℕ, ◌+◌, ◌-◌, ◌<◌, ◌≤◌, arith, List, [], ◌∷◌, ◌++◌, length, take, ℤ, pos, ◌≤ℤ◌, ◌<ℤ◌}
+use Rattle.std.proofs.Common.{◌≡◌, inl, inr, sym, subst, ◌∙◌, ℕ, ◌+◌, ◌-◌, ◌<◌, ◌≤◌, arith, List, [], ◌∷◌, ◌++◌, length, take, ℤ, pos, ◌≤ℤ◌, ◌<ℤ◌}
 use Rattle.std.proofs.lemmas.Bool.{cases_eq, cases_lt}
 use Rattle.std.proofs.lemmas.Int.{ints}
 use Rattle.std.proofs.lemmas.List.{append-nil, length_push}
-use Rattle.integer_algebra.proofs.SignSteps.{mean_not_negative, positive_not_zero, turned_negative, weak_order, weak, zero_not_negative, zero_not_positive}
+use Rattle.integer_algebra.proofs.SignSteps.{mean_not_negative, positive_not_zero, turned_negative, zero_not_negative, zero_not_positive}
 use Rattle.plane.proofs.Points.{same_sym}
 use Rattle.plane.proofs.Regions.Beside.{all_with, corner_beside, corner_beside_last, first_of_three, meeting_beside, not_right_by_left, not_right_by_right}
 use Rattle.plane.proofs.Regions.Beside.{region_of_one, region_of_two, two_of_three}
@@ -15,12 +15,12 @@ use Rattle.plane.proofs.Regions.Sides.{IsInSides, IsNotRight, along_first, along
 use Rattle.plane.proofs.Regions.Weighing.{no_last_weight, no_middle_weight}
 use Rattle.plane.proofs.Segments.{on_first_end, on_same_point}
 use Rattle.plane.proofs.Turns.{determinant_along, determinant_along_first, determinant_same_first, determinant_same_last, determinant_shift_back}
-use Rattle.plane.proofs.Turns.{determinant_same_ends, determinant_swap_first, on_of_combination}
+use Rattle.plane.proofs.Turns.{determinant_swap_first, on_of_combination}
 use Rattle.plane.specs.Convex.{AreConvex, corner}
 use Rattle.plane.specs.Point.{IsPoint, IsSame, Triple}
 use Rattle.plane.specs.Region.{IsInRegion}
 use Rattle.plane.specs.Segment.{On}
-use Rattle.plane.specs.Turn.{IsLeft, IsRight, IsStraight, determinant}
+use Rattle.plane.specs.Turn.{IsLeft, IsRight, IsStraight}
 
 -- what is negative is not positive
 below_not_above : {z : ℤ} → z <ℤ pos 0 → z ≤ℤ pos 0

@@ -1,11 +1,11 @@
 -- A segment of which a line cuts the last end away: what is left has the points that are not right of the line, no more and no less.
-use Rattle.std.proofs.Common.{◌≡◌, inl, inr, refl, sym, subst, ap, ◌∙◌, ℕ, ◌+◌, ◌<◌, ◌≤◌, arith, List, [], ◌∷◌, ◌++◌, length, take, ℤ, pos, ◌≤ℤ◌, ◌<ℤ◌}
+use Rattle.std.proofs.Common.{◌≡◌, inl, inr, refl, sym, subst, arith, List, [], ◌∷◌, ◌++◌, length, take}
 use Rattle.integer_algebra.proofs.SignSteps.{zero_not_negative}
 use Rattle.plane.proofs.Points.{same_sym}
 use Rattle.plane.proofs.Regions.Beside.{all_with, region_of_two, two_of_region}
 use Rattle.plane.proofs.Regions.CutCorners.{convex_back}
 use Rattle.plane.proofs.Regions.Corners.{all_first}
-use Rattle.plane.proofs.Regions.LineMeetings.{Ends, IsMeeting, at_corner, at_meeting}
+use Rattle.plane.proofs.Regions.LineMeetings.{Ends, at_corner, at_meeting}
 use Rattle.plane.proofs.Regions.Fans.{region_not_right}
 use Rattle.plane.proofs.Regions.Sides.{IsNotRight}
 use Rattle.plane.proofs.Regions.Weighing.{no_weight_below}
@@ -15,7 +15,7 @@ use Rattle.plane.specs.Convex.{AreConvex, corner}
 use Rattle.plane.specs.Point.{IsPoint, IsSame, Triple}
 use Rattle.plane.specs.Region.{IsInRegion}
 use Rattle.plane.specs.Segment.{On}
-use Rattle.plane.specs.Turn.{IsRight, IsStraight, determinant}
+use Rattle.plane.specs.Turn.{IsRight, IsStraight}
 
 -- from a point on a line to one right of it, a point that is not right of the line is the first
 first_not_right : (a b c d p : Triple) → IsPoint c → IsPoint d → IsPoint p → IsStraight a b c → IsRight a b d → IsNotRight a b p → On p c d → IsSame p c

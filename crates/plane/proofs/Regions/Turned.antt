@@ -1,10 +1,10 @@
 -- Corners read from another one on: they are convex as before, and have the same region.
-use Rattle.std.proofs.Common.{◌≡◌, ◌↔◌, inl, inr, refl, sym, subst, ap, ◌∙◌, ℕ, ◌+◌, ◌-◌, ◌%◌, ◌<◌, ◌≤◌, arith, List, [], ◌∷◌, ◌++◌, length}
+use Rattle.std.proofs.Common.{◌≡◌, inl, inr, refl, sym, subst, ap, ◌∙◌, ℕ, ◌+◌, ◌-◌, ◌<◌, arith, List, [], ◌∷◌, ◌++◌, length}
 use Rattle.std.proofs.lemmas.Bool.{cases_lt}
 use Rattle.std.proofs.lemmas.List.{append-nil, get_or-append-add, get_or_append_left, length-append}
 use Rattle.plane.proofs.Points.{same_sym}
 use Rattle.plane.proofs.Regions.Corners.{left_at, left_shift, left_shift_back}
-use Rattle.plane.proofs.Regions.Sides.{IsInSides, IsNotRight, not_right_at, region_of_sides, sides_of_region}
+use Rattle.plane.proofs.Regions.Sides.{IsInSides, not_right_at, region_of_sides, sides_of_region}
 use Rattle.plane.proofs.Segments.{on_reversed}
 use Rattle.plane.specs.Convex.{AreConvex, corner}
 use Rattle.plane.specs.Point.{IsPoint, IsSame, Triple}
