@@ -1,0 +1,4 @@
+mod ConesOutward
+mod EdgePlaces
+mod FirstParts
+mod TurnTests

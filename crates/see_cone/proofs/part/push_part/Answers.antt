@@ -1,0 +1,23 @@
+use Rattle.std.proofs.Common.{sym, ◌∙◌, arith}
+use Rattle.plane.specs.Point.{whole}
+use Rattle.see_cone.proofs.FirstParts.{first_part, first_unseen}
+use Rattle.see_cone.proofs.part.push_part.Goals as goal
+
+pub overflow_add-i : goal.overflow_add-i
+overflow_add-i g c = omega (arith, c.requires.edge, c.len-n.ensures.size.1)
+
+pub returns-in_ok-push-in-Some-clause-parts : goal.returns-in_ok-push-in-Some-clause-parts
+returns-in_ok-push-in-Some-clause-parts g c =
+    let corners = c.args.ring.now.corners in
+    let through = c.part_through.ensures in
+    let first = rw (c.corner-r.ensures, c.corner-l.ensures, c.len-n.ensures.number) at through.first in
+    let last = rw (c.corner-r.ensures, c.corner-l.ensures, c.len-n.ensures.number) at through.last in
+    let cone = rw (c.corner-r.ensures, c.corner-l.ensures, c.len-n.ensures.number) at (sym c.narrowed.ensures.cone ∙ c.in-Some.is) in
+    rw c.in_ok-push-in-Some.ensures.items
+    (first_part corners (whole c.args.q.now) c.args.i c.args.parts.now.items c.requires.before c.part_through.result through.edge
+    (c.requires.told.part c.in-Some.cone cone c.part_through.result.first c.part_through.result.last first last))
+
+pub returns-in-None-clause-parts : goal.returns-in-None-clause-parts
+returns-in-None-clause-parts g c =
+    let cone = rw (c.corner-r.ensures, c.corner-l.ensures, c.len-n.ensures.number) at (sym c.narrowed.ensures.cone ∙ c.in-None.is) in
+    first_unseen c.args.ring.now.corners (whole c.args.q.now) c.args.i c.args.parts.now.items c.requires.before (c.requires.told.unseen cone)

@@ -1,0 +1,13 @@
+//! What a point of a polygon sees of its edges, by cones of sight over the triangles.
+#![tactic(auto)]
+
+mod cone;
+mod cones;
+mod part;
+mod places;
+#[cfg(test)]
+mod tests;
+mod view;
+
+pub use part::Part;
+pub use view::see;
