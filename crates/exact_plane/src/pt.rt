@@ -56,6 +56,13 @@ impl Pt {
         steps.add(64);
         (self.x, self.y)
     }
+
+    /// That the coordinates are within the limit. It does nothing when it runs, and takes no step.
+    pub fn is_bounded(&self)
+        ensures { IsInBounds self.now }
+    {
+        let _ = &self.x;
+    }
 }
 
 impl Pt {

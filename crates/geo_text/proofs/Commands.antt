@@ -121,7 +121,11 @@ reading_is_well_sized (word ∷ fields) =
     (list_is_well_sized (λ points. command.Check points) 1 MAX_CHAIN fields (list_fault 1 MAX_CHAIN fields) (omega arith) (λ points h. h) refl)
     (either (bytes_eq word (codes "path")) _ _
     (fixed_is_well_sized (fixed_fault 4 fields) (command.Path (point_of fields) (point_of (drop 2 fields))) tt)
-    (either (list_any (λ later. bytes_eq later word) later_words) (Err bad.Later) (Err bad.Word) tt tt))))
+    (either (bytes_eq word (codes "see")) _ _
+    (fixed_is_well_sized (fixed_fault 2 fields) (command.See (point_of fields)) tt)
+    (either (bytes_eq word (codes "kernel")) _ _
+    (fixed_is_well_sized (fixed_fault 0 fields) command.Kernel tt)
+    (either (list_any (λ later. bytes_eq later word) later_words) (Err bad.Later) (Err bad.Word) tt tt))))))
 
 -- what a record asks for, by what its word asks for
 pub reading_by_word : {E : Type 0} (name : List ℕ) (asked : List (List ℕ) → Result Command Bad) → bytes_eq [] name ≡ false
@@ -136,10 +140,11 @@ reading_by_word name asked some same (word ∷ fields) e found h =
 pub reading_of_other : (fields : List (List ℕ)) → bytes_eq (get_or fields 0 []) (codes "polygon") ≡ false
     → bytes_eq (get_or fields 0 []) (codes "inside") ≡ false
     → bytes_eq (get_or fields 0 []) (codes "check") ≡ false → bytes_eq (get_or fields 0 []) (codes "path") ≡ false
+    → bytes_eq (get_or fields 0 []) (codes "see") ≡ false → bytes_eq (get_or fields 0 []) (codes "kernel") ≡ false
     → reading_of fields ≡ Err (if list_any (λ later. bytes_eq later (get_or fields 0 [])) later_words then bad.Later else bad.Word)
-reading_of_other [] no_polygon no_inside no_check no_path = refl
-reading_of_other (word ∷ fields) no_polygon no_inside no_check no_path =
-    rw (no_polygon, no_inside, no_check, no_path) (by_later (list_any (λ later. bytes_eq later word) later_words))
+reading_of_other [] no_polygon no_inside no_check no_path no_see no_kernel = refl
+reading_of_other (word ∷ fields) no_polygon no_inside no_check no_path no_see no_kernel =
+    rw (no_polygon, no_inside, no_check, no_path, no_see, no_kernel) (by_later (list_any (λ later. bytes_eq later word) later_words))
   where
     by_later : (b : Bool) → ◌≡◌ {A = Result Command Bad} (if b then Err bad.Later else Err bad.Word) (Err (if b then bad.Later else bad.Word))
     by_later true = refl

@@ -12,6 +12,10 @@ pub enum Command {
     Check(Points),
     /// Give the taut chain from the first point to the second.
     Path(Pt, Pt),
+    /// Give the parts of the edges that this point sees.
+    See(Pt),
+    /// Give the corners of the polygon's kernel.
+    Kernel,
 }
 
 /// Why a record is refused. `Later` is looked for after `Word`, and the others in this order. Places are those of fields,

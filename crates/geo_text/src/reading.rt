@@ -19,7 +19,7 @@ use plane::{MAX_CHAIN, MAX_COORDINATE, MAX_CORNERS};
 use std::alloc::Global;
 
 // The words whose commands nothing answers yet.
-const LATER: [&[u8]; 5] = [b"tree", b"reach", b"see", b"kernel", b"hull"];
+const LATER: [&[u8]; 3] = [b"tree", b"reach", b"hull"];
 
 // The command that a record is, or why it is none.
 pub fn command(alloc: Global, row: &ByteRecord) -> Result<Result<Command, Bad>, Memory>
@@ -37,6 +37,12 @@ pub fn command(alloc: Global, row: &ByteRecord) -> Result<Result<Command, Bad>, 
     }
     if word == b"path".as_slice() {
         return path(alloc, row);
+    }
+    if word == b"see".as_slice() {
+        return see(alloc, row);
+    }
+    if word == b"kernel".as_slice() {
+        return kernel(alloc, row);
     }
     Ok(Err(word_fault(word)))
 }
@@ -85,6 +91,26 @@ fn path(alloc: Global, row: &ByteRecord) -> Result<Result<Command, Bad>, Memory>
             let to = point(numbers[2], numbers[3]);
             Ok(Ok(Command::Path(from, to)))
         }
+        Err(fault) => Ok(Err(fault)),
+    }
+}
+
+// A `see` record as a command.
+fn see(alloc: Global, row: &ByteRecord) -> Result<Result<Command, Bad>, Memory>
+    ensures { IfOk result (λ reading. reading ≡ unless (fixed_fault 2 (after_word row.now)) (Command.See (point_of (after_word row.now)))) }
+{
+    match fixed(alloc, row, 2)? {
+        Ok(numbers) => Ok(Ok(Command::See(point(numbers[0], numbers[1])))),
+        Err(fault) => Ok(Err(fault)),
+    }
+}
+
+// A `kernel` record as a command.
+fn kernel(alloc: Global, row: &ByteRecord) -> Result<Result<Command, Bad>, Memory>
+    ensures { IfOk result (λ reading. reading ≡ unless (fixed_fault 0 (after_word row.now)) Command.Kernel) }
+{
+    match fixed(alloc, row, 0)? {
+        Ok(_) => Ok(Ok(Command::Kernel)),
         Err(fault) => Ok(Err(fault)),
     }
 }

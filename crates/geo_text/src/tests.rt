@@ -20,16 +20,16 @@ fn scripts(rt: HostRuntime) -> Result<(), Fail> {
         ("plain", b"polygon,0,0,4,0,0,3\n", b"polygon 0,0 4,0 0,3\n"),
         ("no last line feed", b"polygon,0,0,4,0,0,3", b"polygon 0,0 4,0 0,3\n"),
         ("blanks and signs", b" polygon ,+4,01,\t-0 ,-5 , 007\t,+0\n", b"polygon 4,1 0,-5 7,0\n"),
-        ("ends of lines", b"a\rb\nc\r\n\n\r\n\rkernel", b"bad,word\nbad,word\nbad,word\nbad,later\n"),
-        ("byte order mark", b"\xEF\xBB\xBFkernel\n", b"bad,later\n"),
-        ("a later mark", b"kernel\n\xEF\xBB\xBFkernel\n", b"bad,later\nbad,word\n"),
-        ("quotes", b"\"kernel\"\n\"ker,nel\"\n\"ker\"\"nel\"\n\" kernel\t\"\n", b"bad,later\nbad,word\nbad,word\nbad,later\n"),
+        ("ends of lines", b"a\rb\nc\r\n\n\r\n\rkernel", b"bad,word\nbad,word\nbad,word\nkernel\n"),
+        ("byte order mark", b"\xEF\xBB\xBFkernel\n", b"kernel\n"),
+        ("a later mark", b"kernel\n\xEF\xBB\xBFkernel\n", b"kernel\nbad,word\n"),
+        ("quotes", b"\"kernel\"\n\"ker,nel\"\n\"ker\"\"nel\"\n\" kernel\t\"\n", b"kernel\nbad,word\nbad,word\nkernel\n"),
         ("quoted numbers", b"polygon,\"0\",\" 1 \",2,\"3\",4,5\n", b"polygon 0,1 2,3 4,5\n"),
-        ("quoted line feed", b"\"ker\nnel\"\nkernel\n", b"bad,word\nbad,later\n"),
-        ("a blank before a quote", b" \"kernel\"\nkernel\n", b"bad,word\nbad,later\n"),
+        ("quoted line feed", b"\"ker\nnel\"\nkernel\n", b"bad,word\nkernel\n"),
+        ("a blank before a quote", b" \"kernel\"\nkernel\n", b"bad,word\nkernel\n"),
         ("not text", b"\xFF\xFE\npolygon,0,0,\xFF,0,1,1\n", b"bad,word\nbad,number,3\n"),
         ("other words", b"Polygon\npolygons\n,\n\"\"\n \n", b"bad,word\nbad,word\nbad,word\nbad,word\nbad,word\n"),
-        ("later words", b"tree\nreach\nsee\nkernel,0\nhull\n", b"bad,later\nbad,later\nbad,later\nbad,later\nbad,later\n"),
+        ("later words", b"tree\nreach,0\nhull,x\n", b"bad,later\nbad,later\nbad,later\n"),
         ("inside", b"inside,1,-2\ninside,1\ninside,1,2,3\ninside,x,1\ninside,1,1000001\ninside\n",
             b"inside 1,-2\nbad,fields\nbad,fields\nbad,number,1\nbad,range,2\nbad,fields\n"),
         ("check", b"check,1,-2\ncheck,1,2,3,4\ncheck\ncheck,1\ncheck,x,1\ncheck,1,1000001\n",
@@ -39,6 +39,9 @@ fn scripts(rt: HostRuntime) -> Result<(), Fail> {
         ("path of no numbers", b"path,x,2,3,4\npath,1,2,3,x\npath,1000001,2,,x\n", b"bad,number,1\nbad,number,4\nbad,number,3\n"),
         ("path past the limits", b"path,1000001,2,3,4\npath,1,2,3,-1000001\npath,1,-1000001,1000001,4\n", b"bad,range,1\nbad,range,4\nbad,range,2\n"),
         ("path at the limits", b"path,-1000000,1000000,1000000,-1000000\n", b"path -1000000,1000000 1000000,-1000000\n"),
+        ("see", b"see,1,-2\nsee,1\nsee,1,2,3\nsee,x,1\nsee,1,1000001\nsee\n",
+            b"see 1,-2\nbad,fields\nbad,fields\nbad,number,1\nbad,range,2\nbad,fields\n"),
+        ("kernel", b"kernel\nkernel,0\nkernel,x\nkernel,\n", b"kernel\nbad,fields\nbad,fields\nbad,fields\n"),
         ("odd count", b"polygon,0,0,1\npolygon,x\npolygon,0,0,0,0,0,0,0\n", b"bad,fields\nbad,fields\nbad,fields\n"),
         ("few", b"polygon\npolygon,0,0,1,1\npolygon,x,y\n", b"bad,few\nbad,few\nbad,few\n"),
         ("no numbers", b"polygon,+,0,0,0,0,0\npolygon,0,-,0,0,0,0\npolygon,0,0,,0,0,0\npolygon,0,0,0,+-1,0,0\npolygon,0,0,0,0,1 2,0\npolygon,0,0,0,0,0,1.0\n",
@@ -255,6 +258,11 @@ fn put_command<L: Ledger>(
             put_point(out, &from, steps)?;
             put_point(out, &to, steps)?
         }
+        Command::See(point) => {
+            put_word(out, "see")?;
+            put_point(out, &point, steps)?
+        }
+        Command::Kernel => put_word(out, "kernel")?,
     }
     put_line_end(out)
 }

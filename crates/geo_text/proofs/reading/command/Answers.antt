@@ -31,11 +31,25 @@ returns-then-eq-4 c =
     reading_by_word (codes "path") (λ fields. unless (fixed_fault 4 fields) (command.Path (point_of fields) (point_of (drop 2 fields))))
     refl (λ fields. refl) (plain_fields c.args.row.now) is c.path.result c.path.ensures
 
+pub returns-then-eq-5 : goal.returns-then-eq-5
+returns-then-eq-5 c =
+    let is = rw (c.field-word.ensures, c.as_slice-5.ensures) at (sym c.eq-5.ensures ∙ c.if-eq-5.true) in
+    reading_by_word (codes "see") (λ fields. unless (fixed_fault 2 fields) (command.See (point_of fields)))
+    refl (λ fields. refl) (plain_fields c.args.row.now) is c.see.result c.see.ensures
+
+pub returns-then-eq-6 : goal.returns-then-eq-6
+returns-then-eq-6 c =
+    let is = rw (c.field-word.ensures, c.as_slice-6.ensures) at (sym c.eq-6.ensures ∙ c.if-eq-6.true) in
+    reading_by_word (codes "kernel") (λ fields. unless (fixed_fault 0 fields) command.Kernel)
+    refl (λ fields. refl) (plain_fields c.args.row.now) is c.kernel.result c.kernel.ensures
+
 pub returns : goal.returns
 returns c =
     let no_polygon = rw (c.field-word.ensures, c.as_slice.ensures) at (sym c.eq.ensures ∙ c.if-eq.false) in
     let no_inside = rw (c.field-word.ensures, c.as_slice-2.ensures) at (sym c.eq-2.ensures ∙ c.if-eq-2.false) in
     let no_check = rw (c.field-word.ensures, c.as_slice-3.ensures) at (sym c.eq-3.ensures ∙ c.if-eq-3.false) in
     let no_path = rw (c.field-word.ensures, c.as_slice-4.ensures) at (sym c.eq-4.ensures ∙ c.if-eq-4.false) in
-    let same = reading_of_other (plain_fields c.args.row.now) no_polygon no_inside no_check no_path in
+    let no_see = rw (c.field-word.ensures, c.as_slice-5.ensures) at (sym c.eq-5.ensures ∙ c.if-eq-5.false) in
+    let no_kernel = rw (c.field-word.ensures, c.as_slice-6.ensures) at (sym c.eq-6.ensures ∙ c.if-eq-6.false) in
+    let same = reading_of_other (plain_fields c.args.row.now) no_polygon no_inside no_check no_path no_see no_kernel in
     rw (c.word_fault.ensures, c.field-word.ensures) (sym same)

@@ -1,0 +1,8 @@
+//! The kernel of a polygon: the points that see all of it.
+#![tactic(auto)]
+
+mod half_planes;
+#[cfg(test)]
+mod tests;
+
+pub use half_planes::kernel;
