@@ -6,4 +6,6 @@ pub mod Sight
 pub mod TreeLeaves
 pub mod Ears
 pub mod Triangulations
+pub mod Cones
 pub mod KnownMeshes
+mod KnownCones

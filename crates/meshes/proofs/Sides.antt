@@ -18,3 +18,6 @@ pub use Rattle.meshes.proofs.Sides.RingNumbers.{below_of_member, ends_below, two
 -- The side that two triangles of a mesh share, as a diagonal on the way from the one to the other.
 mod SharedSides
 pub use Rattle.meshes.proofs.Sides.SharedSides.{LieAlong, lies_across, lies_last, one_more_along}
+-- The edges of a ring, as those of the piece of all its vertices: each goes from a number to the next, and is a side of one triangle of a mesh.
+mod RingEdges
+pub use Rattle.meshes.proofs.Sides.RingEdges.{edge_of_one, one_at_edge, ring_edge_from, ring_edge_is}

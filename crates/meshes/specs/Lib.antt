@@ -1,3 +1,4 @@
+pub mod Cone
 pub mod Fits
 pub mod Laws
 pub mod Mesh

@@ -4,4 +4,5 @@ pub mod Order
 pub mod Segments
 pub mod Meetings
 pub mod Nearness
+pub mod CornerLists
 mod KnownFigures

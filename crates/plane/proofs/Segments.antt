@@ -35,10 +35,13 @@ mod Middle
 pub use Rattle.plane.proofs.Segments.Middle.{middle, middle_first, middle_is_point, middle_last, middle_on, middle_within}
 -- Two segments on one line: round each common point there are two ends of theirs that are common too.
 mod Overlaps
-pub use Rattle.plane.proofs.Segments.Overlaps.{around_of_line}
+pub use Rattle.plane.proofs.Segments.Overlaps.{around_of_line, leaves}
 -- What two segments have in common: one point where they are not parallel, and otherwise what lies between ends of theirs.
 mod SharedParts
-pub use Rattle.plane.proofs.Segments.SharedParts.{first_on_line, last_on_line, one_meeting}
+pub use Rattle.plane.proofs.Segments.SharedParts.{as_far, first_on_line, last_on_line, one_meeting}
+-- Two points on one line with a third, to one side of another line through that: they are on one ray.
+mod Rays
+pub use Rattle.plane.proofs.Segments.Rays.{ray_on_left, ray_on_right}
 -- A rational point is on a segment, or a line separates it from the segment.
 mod Separation
 pub use Rattle.plane.proofs.Segments.Separation.{on_or_separated, separated_not_on}

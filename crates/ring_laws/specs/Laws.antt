@@ -1,6 +1,8 @@
 -- The laws of simple rings, as statements. As in the textbooks.
-use Rattle.std.specs.Prelude.{ℕ, ◌<◌, ◌≤◌, List, length}
-use Rattle.plane.specs.Point.{Point}
+use Rattle.std.specs.Prelude.{◌↔◌, ℕ, ◌<◌, ◌≤◌, List, length}
+use Rattle.plane.specs.Point.{IsPoint, Point, Triple}
+use Rattle.rings.specs.Kernel.{IsInKernel, IsRightOfNoEdge}
+use Rattle.rings.specs.Orientation.{IsCounterclockwise}
 use Rattle.rings.specs.Ring.{vertex}
 use Rattle.rings.specs.Simple.{IsSimple}
 use Rattle.rings.specs.Winding.{IsLeastVertex, RunsAsItTurns}
@@ -29,3 +31,8 @@ abbrev pub CutLaw : Type 0
 CutLaw = (ring : List Point) → 3 ≤ length ring → IsSimple ring → (i j : ℕ) → i < j → j < length ring
     → IsDiagonal ring (vertex ring i) (vertex ring j)
     → IsCutInTwo ring (first_piece ring i j) (second_piece ring i j) (vertex ring i) (vertex ring j)
+
+-- a rational point sees all of a simple ring that runs counterclockwise exactly if it is right of no edge. Lee and Preparata 1979
+abbrev pub KernelLaw : Type 0
+KernelLaw = (ring : List Point) → 3 ≤ length ring → IsSimple ring → IsCounterclockwise ring → (p : Triple) → IsPoint p
+    → IsInKernel ring p ↔ IsRightOfNoEdge ring p

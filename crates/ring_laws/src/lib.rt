@@ -3,4 +3,4 @@
 
 mod laws;
 
-pub use laws::{cut_rule, diagonal_cut, simple_ring};
+pub use laws::{cut_rule, diagonal_cut, kernel_by_half_planes, simple_ring};

@@ -12,7 +12,7 @@ pub use Rattle.rings.proofs.Inside.ExtremePoints.{below_abs, extreme_point}
 mod Rising
 -- What the laws of crossings say of the points in a ring.
 mod InRing
-pub use Rattle.rings.proofs.Inside.InRing.{both_odd, in_from_odd, in_or_not, not_in_from_even, on_some_or_not}
+pub use Rattle.rings.proofs.Inside.InRing.{both_odd, in_from_odd, in_or_not, in_same, not_in_from_even, on_some_or_not}
 -- Crossings, windings and segments do not tell two triples of one rational point apart.
 mod SamePoint
 -- Points from which no edge is crossed: above all ends of the edges, or below all.
@@ -33,3 +33,6 @@ pub use Rattle.rings.proofs.Inside.BreakpointLaw.{mediants_of_sees, sees_by_medi
 -- Sight, neighbours and reflex vertices of a ring that is read the other way round.
 mod TurnedBends
 pub use Rattle.rings.proofs.Inside.TurnedBends.{neighbours_turned_iff, reflex_turned_iff, sees_turned_iff}
+-- A rational point that is farther in some direction than all vertices of a ring is not in it; and from each point there is such a point in each direction.
+mod FarPoints
+pub use Rattle.rings.proofs.Inside.FarPoints.{IsLessFar, Outside, not_in_extreme, outside}

@@ -4,4 +4,5 @@ pub mod Turned
 pub mod Crossings
 pub mod Inside
 pub mod Sweeps
+pub mod Views
 mod KnownFigures

@@ -12,7 +12,7 @@ mod PointLists
 pub use Rattle.rings.proofs.Vertices.PointLists.{all_ends_along, edges_along_append, first_on_along, last_on_along, member_on_along}
 -- Laws of lists of edges: appended lists, edges read backward, closed lists.
 mod Edges
-pub use Rattle.rings.proofs.Vertices.Edges.{AllEnds, all_ends_map, backward, closed_edges_of, growth-append, growth-edges_along, on_some_backward}
+pub use Rattle.rings.proofs.Vertices.Edges.{AllEnds, all_ends_from, all_ends_map, backward, closed_edges_of, growth-append, growth-edges_along, on_some_backward}
 pub use Rattle.rings.proofs.Vertices.Edges.{on_none_with, on_some_cases, on_some_left, on_some_right, on_some_same, reversed, sum_regrouped}
 -- The vertices of a ring by their numbers.
 mod Vertices
@@ -30,7 +30,7 @@ pub use Rattle.rings.proofs.Vertices.CommonEnds.{apart_among, apart_more, common
 pub use Rattle.rings.proofs.Vertices.CommonEnds.{meet_swapped}
 -- Near a rational point: the way from it to another point misses all edges that it is not on.
 mod NearEdges
-pub use Rattle.rings.proofs.Vertices.NearEdges.{misses_between, misses_eventually, shrink}
+pub use Rattle.rings.proofs.Vertices.NearEdges.{each_eventually, misses_between, misses_eventually, shrink}
 -- Of the chosen points of a list, one with the greatest value.
 mod FarthestPoint
 pub use Rattle.rings.proofs.Vertices.FarthestPoint.{Farthest, farthest_of, farthest_or_none}

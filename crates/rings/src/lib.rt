@@ -1,2 +1,6 @@
-//! Rings of points, their inside, chains and bends: definitions and laws. There is no code here.
+//! Rings of points, their inside, chains and bends: definitions and laws.
 #![tactic(auto)]
+
+mod laws;
+
+pub use laws::seen_in_parts;

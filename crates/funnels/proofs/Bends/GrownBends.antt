@@ -15,7 +15,8 @@ use Rattle.meshes.specs.declared.tri.Tri.{Tri}
 use Rattle.funnels.proofs.Bends.GrownTurnings.{bend_after_step, still_wide}
 use Rattle.funnels.proofs.Bends.TriangleFans.{last_step, last_step_clockwise}
 use Rattle.funnels.proofs.Bends.TwoRays.{HasTwoRays, corner_has_two_rays}
-use Rattle.funnels.proofs.Vertices.{neighbour_off_shared, neighbour_off_shared_end, neighbours_differ}
+use Rattle.ring_laws.proofs.Vertices.{neighbours_differ}
+use Rattle.funnels.proofs.Vertices.{neighbour_off_shared, neighbour_off_shared_end}
 use Rattle.funnels.specs.Fanned.{turning}
 
 module _ (corners : List Point) (tris : List Tri) (fits : Fits corners tris) (k i j m : ℕ) (within : k < length tris)

@@ -13,7 +13,7 @@ use Rattle.plane.specs.Point.{IsPoint, IsSame, Point, Triple, whole}
 use Rattle.plane.specs.Segment.{On}
 use Rattle.plane.specs.Turn.{IsStraight}
 use Rattle.funnels.proofs.Bends.Opposites.{negative_of_opposite, positive_of_opposite, zero_of_opposite}
-use Rattle.funnels.proofs.Vertices.{ray_on_left, ray_on_right}
+use Rattle.ring_laws.proofs.Vertices.{ray_on_left, ray_on_right}
 use Rattle.funnels.specs.Fanned.{turning}
 
 -- ---- signs

@@ -14,7 +14,8 @@ use Rattle.rings.specs.Simple.{IsSimple}
 use Rattle.ring_laws.proofs.Triangles.{left_of, left_of_is_left, not_negative}
 use Rattle.funnels.proofs.Bends.HalfPlaneTurns.{fan_in_half_plane}
 use Rattle.funnels.proofs.Bends.Turnings.{turning_four}
-use Rattle.funnels.proofs.Vertices.{convex_vertex, after_differs, before_differs}
+use Rattle.ring_laws.proofs.Vertices.{after_differs, before_differs}
+use Rattle.funnels.proofs.Vertices.{convex_vertex}
 use Rattle.funnels.specs.Fan.{AllNotRight, IsTurning}
 use Rattle.funnels.specs.Fanned.{IsOpenToward, turning}
 

@@ -13,7 +13,7 @@ use Rattle.meshes.proofs.Parts.{vertex_place}
 use Rattle.meshes.proofs.Sides.{length_points}
 use Rattle.meshes.specs.Fits.{FitsPiece, piece_points}
 use Rattle.meshes.specs.declared.tri.Tri.{Tri}
-use Rattle.funnels.proofs.Vertices.{edges_at, neighbours_not_on_ray}
+use Rattle.ring_laws.proofs.Vertices.{edges_at, neighbours_not_on_ray}
 
 -- v has two neighbours, on two rays
 pub record HasTwoRays (ring : List Point) (v : Point) : Type 0 where

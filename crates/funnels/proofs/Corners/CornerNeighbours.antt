@@ -19,7 +19,8 @@ use Rattle.funnels.proofs.Bends.{positive_of_not_zero, level_is_vertex, ray_ahea
 use Rattle.funnels.proofs.Corners.CornerSides.{corner_turns, in_piece, not_inside}
 use Rattle.funnels.proofs.Corners.RingSteps.{IsRingStep, below_count, one_on_ray, step_neighbours}
 use Rattle.funnels.proofs.Corners.TurningSigns.{turned_zero}
-use Rattle.funnels.proofs.Vertices.{neighbour_off_shared, neighbour_off_shared_end, fitted_long, fitted_simple, neighbours_differ}
+use Rattle.ring_laws.proofs.Vertices.{neighbours_differ}
+use Rattle.funnels.proofs.Vertices.{neighbour_off_shared, neighbour_off_shared_end, fitted_long, fitted_simple}
 use Rattle.funnels.specs.Corner.{HasCornerOn, IsInAngle}
 use Rattle.funnels.specs.Fanned.{turning}
 

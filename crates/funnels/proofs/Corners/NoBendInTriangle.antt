@@ -22,7 +22,8 @@ use Rattle.funnels.proofs.Corners.CornerSides.{corner_turns}
 use Rattle.funnels.proofs.Corners.PieceEdges.{in_range}
 use Rattle.funnels.proofs.Corners.RingSteps.{step_neighbours, step_vertex}
 use Rattle.funnels.proofs.Corners.WithinCones.{within_cone}
-use Rattle.funnels.proofs.Vertices.{corners_of, fitted_counterclockwise, fitted_long, fitted_simple, neighbour_is}
+use Rattle.ring_laws.proofs.Vertices.{neighbour_is}
+use Rattle.funnels.proofs.Vertices.{corners_of, fitted_counterclockwise, fitted_long, fitted_simple}
 use Rattle.funnels.specs.Corner.{HasCornerOn, IsInAngle}
 
 module _ (corners : List Point) (tris : List Tri) (fits : Fits corners tris) (k before v after : ℕ) (within : k < length tris)

@@ -11,7 +11,7 @@ use Rattle.rings.specs.Bend.{AreNeighbours}
 use Rattle.rings.specs.Ring.{origin, vertex}
 use Rattle.rings.specs.Simple.{IsSimple}
 use Rattle.meshes.specs.Fits.{IsPieceEdge}
-use Rattle.funnels.proofs.Vertices.{neighbour_is, neighbours_not_on_ray}
+use Rattle.ring_laws.proofs.Vertices.{neighbour_is, neighbours_not_on_ray}
 
 -- the ring goes from corner i to corner j; or, on the other side, in the other direction
 abbrev pub IsRingStep : Bool → List Point → ℕ → ℕ → Type 0

@@ -11,7 +11,7 @@ use Rattle.rings.specs.Orientation.{turn_at}
 use Rattle.rings.specs.Ring.{vertex}
 use Rattle.rings.specs.Simple.{IsSimple}
 use Rattle.funnels.proofs.Corners.RingSteps.{IsRingStep, step_is, step_vertex}
-use Rattle.funnels.proofs.Vertices.{edges_at, after_differs}
+use Rattle.ring_laws.proofs.Vertices.{edges_at, after_differs}
 use Rattle.funnels.specs.Fanned.{turning}
 
 module _ (ring : List Point) (simple : IsSimple ring) (three : 3 ≤ length ring) (r : ℕ) (h : r < length ring) where

@@ -19,7 +19,8 @@ use Rattle.funnels.proofs.Bends.{turning_from_ray, turning_to_ray, turning_four,
 use Rattle.funnels.proofs.Corners.{corner_in_ring, neighbour_differs, neighbour_within, corner_turns, turning_not, IsRingStep, after_next}
 use Rattle.funnels.proofs.Corners.{before_next, step_turn, left_of_line, not_right_of_first, own_not_positive}
 use Rattle.funnels.proofs.Corners.{turned_back_not_negative, turned_zero, zero_of_both}
-use Rattle.funnels.proofs.Vertices.{fitted_counterclockwise, fitted_long, fitted_simple, neighbours_not_on_ray, same_number}
+use Rattle.ring_laws.proofs.Vertices.{neighbours_not_on_ray, same_number}
+use Rattle.funnels.proofs.Vertices.{fitted_counterclockwise, fitted_long, fitted_simple}
 use Rattle.funnels.specs.Corner.{HasCornerOn, IsInAngle}
 use Rattle.funnels.specs.Fanned.{turning}
 

@@ -17,9 +17,8 @@ use Rattle.rings.specs.Ring.{vertex}
 use Rattle.rings.specs.Simple.{IsSimple}
 use Rattle.rings.specs.Winding.{WindsUpTo}
 use Rattle.ring_laws.proofs.Simple.{runs_round}
+use Rattle.ring_laws.proofs.Vertices.{HasEdgesAt, edges_at, strictly_from, strictly_to}
 use Rattle.funnels.proofs.Vertices.NearVertices.{IsNotRightOf, near_is_out}
-use Rattle.funnels.proofs.Vertices.RightOfEdges.{strictly_from, strictly_to}
-use Rattle.funnels.proofs.Vertices.VertexEdges.{HasEdgesAt, edges_at}
 
 -- a simple ring that runs counterclockwise winds up to once
 winds_up_to_one : (ring : List Point) → IsSimple ring → 3 ≤ length ring → IsCounterclockwise ring → WindsUpTo (pos 1) (edges_of ring)

@@ -14,7 +14,7 @@ use Rattle.meshes.proofs.Joins.{between_back}
 use Rattle.meshes.proofs.Parts.{one_vertex, ring_apart, ring_long, shared_is_diagonal, shared_of}
 use Rattle.meshes.specs.Fits.{FitsPiece, IsSideOfTwo, piece_points}
 use Rattle.meshes.specs.declared.tri.Tri.{Tri}
-use Rattle.funnels.proofs.Vertices.VertexNeighbours.{edge_between, neighbours_differ}
+use Rattle.ring_laws.proofs.Vertices.{edge_between, neighbours_differ}
 
 -- ---- a diagonal of a ring
 

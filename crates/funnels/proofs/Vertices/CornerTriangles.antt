@@ -16,7 +16,7 @@ use Rattle.meshes.specs.Fits.{FitsPiece, IsStrictlyInTri, piece_points}
 use Rattle.meshes.specs.Side.{HasSide, tri_at}
 use Rattle.meshes.specs.declared.tri.Tri.{Tri}
 use Rattle.meshes.proofs.TreeLeaves.{by_turns}
-use Rattle.funnels.proofs.Vertices.VertexNeighbours.{edge_between}
+use Rattle.ring_laws.proofs.Vertices.{edge_between}
 
 -- ---- a triangle by the numbers of its corners
 

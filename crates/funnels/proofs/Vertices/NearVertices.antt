@@ -1,6 +1,6 @@
 -- Right of an edge, near an end of it: nothing is in a ring that runs counterclockwise, where no edge at that end is right of this
 -- one.
-use Rattle.std.proofs.Common.{◌≡◌, inl, inr, refl, sym, subst, ℕ, ◌+◌, ◌<◌, pos, ◌≤ℤ◌, List, [], ◌∷◌, ◌++◌, length, arith}
+use Rattle.std.proofs.Common.{◌≡◌, inl, inr, ℕ, ◌<◌, pos, ◌≤ℤ◌, List, length}
 use Rattle.integer_algebra.proofs.SignSteps.{turned_positive, turned_not_positive}
 use Rattle.plane.proofs.Nearness.{apart_between, right_toward, Eventually, toward, toward_is_point}
 use Rattle.plane.proofs.Points.{whole_is_point}
@@ -9,30 +9,13 @@ use Rattle.plane.proofs.Turns.{determinant_swap_first, straight_swap_first}
 use Rattle.plane.specs.Point.{IsPoint, Point, Triple, whole}
 use Rattle.plane.specs.Segment.{On}
 use Rattle.plane.specs.Turn.{IsRight, determinant}
-use Rattle.rings.proofs.Vertices.{has_cases, has_left, has_right, edge_with, on_some_of}
+use Rattle.rings.proofs.Vertices.{each_eventually, edge_with, on_some_of}
 use Rattle.rings.specs.Apart.{IsApartRing}
 use Rattle.rings.specs.Edge.{Edge, HasEdge, HasEnd, IsOn, edges_of}
 use Rattle.rings.specs.Inside.{IsIn}
 use Rattle.rings.specs.Winding.{WindsUpTo}
-use Rattle.ring_laws.proofs.Triangles.{off_others, other_edges, end_is_on, end_of_other, not_right_between}
-use Rattle.funnels.proofs.Vertices.RightOfEdges.{IsStrictlyOn, right_is_out}
-
--- ---- what holds of each edge
-
--- what holds in the end of each edge of a list holds in the end of all together
-each_eventually : (P : Edge → ℕ → Type 0) (es : List Edge) → ((f : Edge) → HasEdge es f → Eventually (P f))
-    → Eventually (λ n. (f : Edge) → HasEdge es f → P f n)
-each_eventually P [] h = record { start = 0; from_start = λ n above f has. absurd has }
-each_eventually P (e ∷ es) h =
-    let first = h e (inl refl) in
-    let rest = each_eventually P es (λ f has. h f (inr has)) in
-    record {
-      start = first.start + rest.start;
-      from_start = λ n above f has. elim has [
-        | inl is ↦ subst (λ (g : Edge). P g n) is (first.from_start n (omega arith))
-        | inr k ↦ rest.from_start n (omega arith) f k
-      ];
-    }
+use Rattle.ring_laws.proofs.Triangles.{off_others, end_is_on, end_of_other, not_right_between}
+use Rattle.ring_laws.proofs.Vertices.{IsStrictlyOn, rest_is_edge, rest_of, right_is_out}
 
 -- ---- right of an edge, near an end of it
 
@@ -48,16 +31,7 @@ module _ (ring : List Point) (apart : IsApartRing ring) (some : 1 < length ring)
     (z : Triple) (at_z : IsPoint z) (right : IsRight (whole e.from) (whole e.to) z) where
   -- the other edges
   abbrev others : List Edge
-  others = (other_edges ring apart e has).before ++ (other_edges ring apart e has).after
-
-  -- are edges of the ring
-  other_is_edge : (f : Edge) → HasEdge others f → HasEdge (edges_of ring) f
-  other_is_edge f h =
-      let rest = other_edges ring apart e has in
-      subst (λ es. HasEdge es f) (sym rest.are) (elim (has_cases f rest.before rest.after h) [
-        | inl k ↦ has_left f rest.before (e ∷ rest.after) k
-        | inr k ↦ has_right f rest.before (e ∷ rest.after) (inr k)
-      ])
+  others = rest_of ring apart e has
 
   -- v is on the line of the edge
   v_on_line : determinant (whole e.from) (whole e.to) (whole v) ≡ pos 0
@@ -91,7 +65,7 @@ module _ (ring : List Point) (apart : IsApartRing ring) (some : 1 < length ring)
   -- and any other, near v
   misses_other : (f : Edge) → HasEdge others f → Eventually (IsMissed f)
   misses_other f other =
-      let has_f = other_is_edge f other in
+      let has_f = rest_is_edge ring apart e has f other in
       elim (on_or_not (whole v) (whole f.from) (whole f.to) (whole_is_point v) (whole_is_point f.from) (whole_is_point f.to)) [
         | inl on ↦ record {
           start = 0;

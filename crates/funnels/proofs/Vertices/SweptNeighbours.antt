@@ -16,7 +16,7 @@ use Rattle.meshes.specs.Side.{HasSide, tri_at}
 use Rattle.meshes.specs.declared.tri.Tri.{Tri}
 use Rattle.funnels.proofs.Vertices.CornerEdges.{neighbour_off_shared, neighbour_off_shared_end}
 use Rattle.funnels.proofs.Vertices.CornerTriangles.{corners_of, neighbour_not_inside}
-use Rattle.funnels.proofs.Vertices.Rays.{ray_on_left, ray_on_right}
+use Rattle.ring_laws.proofs.Vertices.{ray_on_left, ray_on_right}
 
 module _ (corners : List Point) (piece : List ℕ) (tris : List Tri) (fits : FitsPiece corners piece tris) where
   -- no neighbour of an end of a shared side is on the ray along it, in whichever direction the side is written

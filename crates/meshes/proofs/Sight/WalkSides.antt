@@ -16,7 +16,7 @@ use Rattle.meshes.specs.declared.tri.Tri.{Tri}
 
 module _ (corners : List Point) (piece : List ℕ) (tris : List Tri) (fits : FitsPiece corners piece tris) where
   -- a side of one triangle that is a side of another one in some direction
-  shared_from : (i j k l : ℕ) → k < length tris → l < length tris → ¬ (k ≡ l) → HasSide (tri_at tris k) i j → HasSideBetween (tri_at tris l) i j
+  pub shared_from : (i j k l : ℕ) → k < length tris → l < length tris → ¬ (k ≡ l) → HasSide (tri_at tris k) i j → HasSideBetween (tri_at tris l) i j
       → IsSideOfTwo tris i j k l
   shared_from i j k l in_k in_l differ has other = elim (edge_or_not piece i j) [
     | inl outer ↦ let (n, one) = fits.edges i j outer in absurd (differ (one.only k in_k (inl has) ∙ sym (one.only l in_l other)))

@@ -20,7 +20,7 @@ in_order p a b at_p at_a at_b h on = (
 -- ---- the way from a point of a segment to another point of its line
 
 -- it stays on the segment, or leaves it at an end
-abbrev Leaves : (a b z c : Triple) → Type 0
+abbrev pub Leaves : (a b z c : Triple) → Type 0
 Leaves a b z c = On c a b ⊎ On a z c ⊎ On b z c
 
 module _ (a b z c : Triple) (at_a : IsPoint a) (at_b : IsPoint b) (at_z : IsPoint z) (at_c : IsPoint c) (straight : IsStraight a b c)
@@ -52,7 +52,7 @@ module _ (a b z c : Triple) (at_a : IsPoint a) (at_b : IsPoint b) (at_z : IsPoin
       ]
 
 -- and in any direction
-leaves : (a b z c : Triple) → IsPoint a → IsPoint b → IsPoint z → IsPoint c → IsStraight a b c → On z a b → Leaves a b z c
+pub leaves : (a b z c : Triple) → IsPoint a → IsPoint b → IsPoint z → IsPoint c → IsStraight a b c → On z a b → Leaves a b z c
 leaves a b z c at_a at_b at_z at_c straight on = elim (not_after_or_precedes a b) [
   | inl h ↦ leaves_forward a b z c at_a at_b at_z at_c straight on (not_after_of_precedes a b h)
   | inr h ↦ elim (leaves_forward b a z c at_b at_a at_z at_c (straight_swap_first a b c straight) (on_reversed z a b on) h) [

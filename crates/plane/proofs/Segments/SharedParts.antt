@@ -76,7 +76,7 @@ module _ (a b c d : Point) (z m : Triple) (crossing : cross_product a b c d ≢ 
 -- ---- lines that are parallel
 
 -- two points of a parallel are as far from a line
-as_far : (a b c d : Point) → determinant (whole a) (whole b) (whole d) -ℤ determinant (whole a) (whole b) (whole c) ≡ cross_product a b c d
+pub as_far : (a b c d : Point) → determinant (whole a) (whole b) (whole d) -ℤ determinant (whole a) (whole b) (whole c) ≡ cross_product a b c d
 unfolding one product
 as_far a b c d =
     same_value (written_determinant (var 0) (var 1) one (var 2) (var 3) one (var 6) (var 7) one ⊖ written_determinant (var 0) (var 1) one (var 2) (var 3) one (var 4) (var 5) one)

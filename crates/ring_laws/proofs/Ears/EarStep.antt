@@ -5,7 +5,7 @@ use Rattle.plane.proofs.Order.{x_at_most}
 use Rattle.plane.specs.Point.{IsPoint, Point, Triple, whole}
 use Rattle.plane.specs.Triangle.{IsInTriangle}
 use Rattle.plane.specs.Turn.{IsLeft}
-use Rattle.rings.proofs.Vertices.{end_of_second, HasPoint, end_of_ring, ends_along, AllEnds, has_cases, has_left}
+use Rattle.rings.proofs.Vertices.{end_of_second, HasPoint, end_of_ring, ends_along, AllEnds, all_ends_from, has_cases, has_left}
 use Rattle.rings.specs.Apart.{IsApartRing, IsCommonEnd, MeetAtEnds}
 use Rattle.rings.specs.Edge.{Edge, HasEdge, HasEnd, IsOn, edge, edges_along, edges_of}
 use Rattle.rings.specs.Winding.{RunsClockwise, RunsCounterclockwise, WindsUpTo}
@@ -14,11 +14,6 @@ use Rattle.ring_laws.proofs.Ears.Corner.{on_some_corner, on_some_rest, winding_c
 use Rattle.ring_laws.proofs.Ears.Ears.{ear_sign, ring_with_ear}
 use Rattle.ring_laws.proofs.Ears.LeastVertex.{NoneBefore}
 use Rattle.ring_laws.proofs.Triangles.{IsCorner, corner_base_meets, corner_not_entered}
-
--- what holds of both ends of each edge holds of all ends
-all_ends_from : (P : Point → Type 0) (es : List Edge) → ((e : Edge) → HasEdge es e → P e.from × P e.to) → AllEnds P es
-all_ends_from P [] h = tt
-all_ends_from P (e ∷ es) h = let (from, to) = h e (inl refl) in (from, to, all_ends_from P es (λ f has. h f (inr has)))
 
 module _ (v w : Point) (ms : List Point) (u : Point) (apart : IsApartRing (v ∷ w ∷ (ms ++ u ∷ []))) (left : IsLeft (whole u) (whole v) (whole w)) where
   -- the edges of the ring have a corner at v

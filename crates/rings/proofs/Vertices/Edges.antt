@@ -3,7 +3,7 @@ use Rattle.std.proofs.Common.{◌≡◌, ◌⊎◌, inl, inr, refl, ap, ◌∙�
 use Rattle.std.proofs.lemmas.Int.{ints}
 use Rattle.plane.proofs.Segments.{on_reversed, on_same_point}
 use Rattle.plane.specs.Point.{IsPoint, IsSame, Point, Triple, whole}
-use Rattle.rings.specs.Edge.{Edge, IsClosed, IsOnSome, edges_along, edges_of, growth, IsOn}
+use Rattle.rings.specs.Edge.{Edge, HasEdge, IsClosed, IsOnSome, edges_along, edges_of, growth, IsOn}
 
 -- the edge read backward
 abbrev pub reversed : Edge → Edge
@@ -89,3 +89,8 @@ AllEnds P (e ∷ es) = P e.from × P e.to × AllEnds P es
 pub all_ends_map : {P Q : Point → Type 0} → ((v : Point) → P v → Q v) → (es : List Edge) → AllEnds P es → AllEnds Q es
 all_ends_map f [] ends = tt
 all_ends_map f (e ∷ es) (from, to, rest) = (f e.from from, f e.to to, all_ends_map f es rest)
+
+-- what holds of both ends of each edge holds of all ends
+pub all_ends_from : (P : Point → Type 0) (es : List Edge) → ((e : Edge) → HasEdge es e → P e.from × P e.to) → AllEnds P es
+all_ends_from P [] h = tt
+all_ends_from P (e ∷ es) h = let (from, to) = h e (inl refl) in (from, to, all_ends_from P es (λ f has. h f (inr has)))

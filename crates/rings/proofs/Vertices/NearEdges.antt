@@ -1,11 +1,11 @@
 -- Near a rational point: the way from it to another point misses all edges that it is not on.
-use Rattle.std.proofs.Common.{le_refl, inl, inr, ◌+◌, List, [], ◌∷◌, arith, ℕ}
+use Rattle.std.proofs.Common.{le_refl, inl, inr, refl, subst, ◌+◌, List, [], ◌∷◌, arith, ℕ}
 use Rattle.plane.proofs.Nearness.{apart_between, Eventually, apart_eventually, toward, toward_differs, toward_is_point, toward_on}
 use Rattle.plane.proofs.Points.{whole_is_point}
 use Rattle.plane.specs.Point.{IsPoint, IsSame, Triple, whole}
 use Rattle.plane.specs.Segment.{On, Meet}
 use Rattle.rings.specs.Across.{Misses}
-use Rattle.rings.specs.Edge.{Edge, IsOnSome, IsOn}
+use Rattle.rings.specs.Edge.{Edge, HasEdge, IsOnSome, IsOn}
 
 -- segments that in the end miss each edge that x is not on in the end miss all of some edges where x is on none of them
 all_missed : (x : Triple) (p q : ℕ → Triple)
@@ -53,4 +53,21 @@ shrink x c es at_x at_c differ off =
       on = toward_on x c at_x at_c near.start;
       differs = toward_differs x c near.start differ;
       misses = near.from_start near.start (le_refl near.start);
+    }
+
+-- ---- what holds of each edge
+
+-- what holds in the end of each edge of a list holds in the end of all together
+pub each_eventually : (P : Edge → ℕ → Type 0) (es : List Edge) → ((f : Edge) → HasEdge es f → Eventually (P f))
+    → Eventually (λ n. (f : Edge) → HasEdge es f → P f n)
+each_eventually P [] h = record { start = 0; from_start = λ n above f has. absurd has }
+each_eventually P (e ∷ es) h =
+    let first = h e (inl refl) in
+    let rest = each_eventually P es (λ f has. h f (inr has)) in
+    record {
+      start = first.start + rest.start;
+      from_start = λ n above f has. elim has [
+        | inl is ↦ subst (λ (g : Edge). P g n) is (first.from_start n (omega arith))
+        | inr k ↦ rest.from_start n (omega arith) f k
+      ];
     }

@@ -11,7 +11,7 @@ use Rattle.rings.specs.Bend.{AreNeighbours}
 use Rattle.rings.specs.Edge.{Edge, HasEdge, HasEnd, IsOn, edge, edges_of}
 use Rattle.rings.specs.Ring.{vertex}
 use Rattle.rings.specs.Simple.{IsSimple}
-use Rattle.funnels.proofs.Vertices.VertexEdges.{edges_at}
+use Rattle.ring_laws.proofs.Vertices.VertexEdges.{edges_at}
 
 -- ---- neighbours
 

@@ -1,0 +1,14 @@
+-- The kernel of a simple ring: the points that see all of it are those that are right of no edge.
+
+-- A point out of a ring that runs counterclockwise, from which the way to a point strictly inside an edge meets the edges there alone: it is right of that edge.
+mod InnerHits
+pub use Rattle.ring_laws.proofs.Kernels.InnerHits.{MeetsOnlyAt}
+-- The same where the way ends at a vertex: the point is right of an edge at the vertex.
+mod VertexHits
+pub use Rattle.ring_laws.proofs.Kernels.VertexHits.{RightOfEdgeAt, alone_at_hit}
+-- The kernel law: a rational point sees all of a simple ring that runs counterclockwise exactly if it is right of no edge.
+mod RightOfNone
+pub use Rattle.ring_laws.proofs.Kernels.RightOfNone.{counterclockwise_winds, kernel_law}
+-- A point that is right of no edge of a ring is in each square round the origin that has all vertices.
+mod InSquare
+pub use Rattle.ring_laws.proofs.Kernels.InSquare.{AreInSize, IsInSquare, in_square, right_of_none_in_square}

@@ -1,0 +1,16 @@
+-- The two edges at a vertex of a ring, and what is beside an edge.
+
+-- Two points on one line with a third, to one side of another line through that: they are on one ray.
+mod Rays
+pub use Rattle.ring_laws.proofs.Vertices.Rays.{on_one_ray, ray_on_left, ray_on_right}
+-- The two edges at a vertex of a ring with different vertices.
+mod VertexEdges
+pub use Rattle.ring_laws.proofs.Vertices.VertexEdges.{HasEdgesAt, edges_at, same_number}
+-- Neighbours in a ring: the ends of one edge. In a simple ring a vertex has two, which are not on one ray.
+mod VertexNeighbours
+pub use Rattle.ring_laws.proofs.Vertices.VertexNeighbours.{after_differs, before_differs, edge_between, neighbour_is, neighbours_differ}
+pub use Rattle.ring_laws.proofs.Vertices.VertexNeighbours.{neighbours_not_on_ray}
+-- Beside an edge of a ring that runs counterclockwise: a point from which the way to a point strictly inside the edge meets no other edge is in the ring on the left of the edge, and not on its right.
+mod EdgeSides
+pub use Rattle.ring_laws.proofs.Vertices.EdgeSides.{IsStrictlyOn, left_is_in, rest_is_edge, rest_of, right_is_out, strictly_from}
+pub use Rattle.ring_laws.proofs.Vertices.EdgeSides.{strictly_to}
