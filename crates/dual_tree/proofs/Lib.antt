@@ -1,4 +1,5 @@
 pub mod LocationFits
-pub mod SearchSteps
-pub mod SearchWalks
+pub mod OutwardWalks
 pub mod SightLines
+pub mod TreeWalks
+pub mod Ways

@@ -1,3 +1,3 @@
 pub mod Location
-pub mod Search
 pub mod Sight
+pub mod Ways

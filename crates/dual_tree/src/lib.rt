@@ -3,10 +3,10 @@
 
 mod board;
 mod location;
-mod search;
 mod sleeves;
 #[cfg(test)]
 mod tests;
+mod walk;
 
 pub use board::Board;
 pub use location::locate;

@@ -3,7 +3,7 @@ ghost use Rattle.meshes.specs.Side.{IsWalkBetween};
 ghost use Rattle.meshes.specs.Sleeve.{IsOneOf};
 ghost use Rattle.dual_tree.specs.Sight.{SeesThrough};
 
-use crate::search::walk_between;
+use crate::walk::walk_between;
 use exact_plane::Memory;
 use std::alloc::Global;
 use tri_mesh::{Mesh, Sleeve};
@@ -20,5 +20,5 @@ pub fn sleeve(alloc: Global, mesh: &Mesh, from: u32, to: u32) -> Result<Sleeve, 
 {
     let _count = mesh.count();
     let walk = walk_between(alloc, mesh, from, to)?;
-    Sleeve::of(alloc, mesh, &walk)
+    Sleeve::of(alloc, mesh, walk)
 }

@@ -1,7 +1,7 @@
-ghost use Rattle.std.specs.Prelude.{◌≡◌, ◌+◌, ◌<ℤ◌, ◌<◌, ◌^◌, ◌↔◌, IsNone, IfSome, pos, unsigned_abs};
+ghost use Rattle.std.specs.Prelude.{◌≡◌, ◌+◌, ◌<ℤ◌, ◌<◌, ◌^◌, ◌↔◌, IsNone, IsSome, IfSome, pos, unsigned_abs};
 ghost use Rattle.plane.specs.Line.{along, cross_product, mediant};
 ghost use Rattle.plane.specs.Order.{Precedes};
-ghost use Rattle.plane.specs.Point.{IsSame, whole};
+ghost use Rattle.plane.specs.Point.{IsInLimit, IsPoint, IsSame, whole};
 ghost use Rattle.plane.specs.Segment.{On};
 ghost use Rattle.plane.specs.Turn.{IsStraight};
 ghost use Rattle.exact_plane.specs.Direction.{turn_of};
@@ -50,12 +50,24 @@ impl Hom {
         Hom { x, y, w: 1 }
     }
 
+    /// The point with these coordinates, or `None` where one passes the limit of a `Pt`. It takes no step, since the caller
+    /// names the coordinates.
+    pub fn of_whole(x: i64, y: i64) -> Option<Hom>
+        ensures bounds { IsSome result ↔ (IsInLimit x × IsInLimit y) }
+        ensures point { IfSome result (λ p. p ≡ whole (record { x = x; y = y })) }
+        ensures narrow { IfSome result IsNarrow }
+    {
+        let (x, y) = Pt::of(x, y)?.coordinates();
+        Some(Hom { x, y, w: 1 })
+    }
+
     /// The point that is on the line through `a` and `b` and on the line through `c` and `d`; `None` where the cross
     /// product of the ways from `a` to `b` and from `c` to `d` is 0. It takes one step.
     pub fn meet<L: Ledger>(a: &Pt, b: &Pt, c: &Pt, d: &Pt, steps: &mut Steps<L>) -> Option<Hom>
         ensures none { IsNone result ↔ (cross_product a.now b.now c.now d.now ≡ pos 0) }
         ensures on_first { IfSome result (λ point. IsStraight (whole a.now) (whole b.now) point) }
         ensures on_second { IfSome result (λ point. IsStraight (whole c.now) (whole d.now) point) }
+        ensures rational { IfSome result IsPoint }
         ensures narrow { IfSome result IsNarrow }
         ensures steps { steps.new ≡ steps.old + 1 }
     {
@@ -142,6 +154,7 @@ impl Hom {
         requires { pos 0 <ℤ cross_product a.now b.now c.now d.now }
         ensures on_first { IsStraight (whole a.now) (whole b.now) result }
         ensures on_second { IsStraight (whole c.now) (whole d.now) result }
+        ensures rational { IsPoint result }
         ensures narrow { IsNarrow result }
     {
         Hom::along(a, b, cross_product(a, c, c, d), cross_product(a, b, c, d))

@@ -3,8 +3,8 @@ ghost use Rattle.std.specs.Prelude.{◌≡◌, ◌+◌, ◌<◌, ℕ};
 use std::marker::Model;
 use std::sync::ledger::{Blank, Book, Ledger, Share};
 
-/// A counter of steps. It takes no bytes, and only this crate counts in it. A body hands on the counter that it was
-/// lent, so that a bound on its steps bounds the questions about coordinates.
+/// A counter of steps. It takes no bytes. A question about coordinates is a step, and other work that is to be counted takes
+/// steps by `tick`. A body hands on the counter that it was lent, so that a bound on its steps bounds both.
 #[derive(Drop)]
 pub struct Steps<L: Ledger> {
     book: Book<L>,
@@ -32,7 +32,7 @@ impl<L: Ledger> Steps<L> {
     }
 
     /// Counts one step.
-    pub(crate) fn tick(&mut self)
+    pub fn tick(&mut self)
         ensures { self.new ≡ self.old + 1 }
     {
         self.add(1)

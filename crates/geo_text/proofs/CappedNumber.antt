@@ -4,7 +4,7 @@ use Rattle.std.proofs.lemmas.Bool.Decides.{nat_tests}
 use Rattle.std.proofs.lemmas.Int.{ints}
 use Rattle.std.specs.Prelude.{nat_le, unsigned_abs}
 use Rattle.plane.specs.declared.limits.TheConstants.{MAX_COORDINATE}
-use Rattle.geo_text.specs.Capped.{capped}
+use Rattle.geo_text.specs.Capped.{capped, read_of}
 use Rattle.geo_text.specs.Number.{is_coordinate, is_number, number_of}
 
 -- a size past the limit stays past it below a minus sign
@@ -24,7 +24,7 @@ within_limit (negsuc n) = grind (arith, nat_tests)
 
 -- what a number that was read says of its field
 pub number_read : (field : List ℕ) (z : ℤ) → Some z ≡ (if is_number field then Some (capped (number_of field)) else None)
-    → (is_number field ≡ true) × (nat_le (unsigned_abs z) MAX_COORDINATE ≡ is_coordinate field)
+    → (is_number field ≡ true) × (z ≡ read_of field) × (nat_le (unsigned_abs z) MAX_COORDINATE ≡ is_coordinate field)
 number_read field z e =
-    let read = only_if (is_number field) z (capped (number_of field)) e in
-    (read.0, rw read.1 (within_limit (number_of field)))
+    let (number, read) = only_if (is_number field) z (capped (number_of field)) e in
+    (number, read, rw read (within_limit (number_of field)))

@@ -1,15 +1,16 @@
 -- Points and commands of a list of fields.
-use Rattle.std.proofs.Common.{◌≡◌, ◌≤◌, ◌+◌, ◌*◌, ◌/◌, ◌%◌, ◌==◌, ℕ, Bool, true, false, if◌then◌else◌, Option, Some, None, Result, Err, List, [], ◌∷◌}
-use Rattle.std.proofs.Common.{length, drop, get_or, refl, arith}
-use Rattle.std.proofs.Math.Nat.{add-zero}
+use Rattle.std.proofs.Common.{◌≡◌, ◌≤◌, ◌<◌, ◌+◌, ◌*◌, ◌/◌, ◌%◌, ◌==◌, ℕ, ℤ, Bool, true, false, if◌then◌else◌, Option, Some, None, Result, Ok, Err, List, [], ◌∷◌}
+use Rattle.std.proofs.Common.{length, drop, get_or, map, add-zero, refl, sym, ◌∙◌, ap, arith, true≢false}
 use Rattle.std.proofs.lemmas.Bool.Decides.{nat_tests}
-use Rattle.std.proofs.lemmas.List.{get_or-drop, length-drop, nil_from_length}
+use Rattle.std.proofs.lemmas.List.{drop_more, get_or-drop, get_or-map, length-drop, length-map, nil_from_length}
+use Rattle.std.proofs.lemmas.Result.{IfOk-weaker}
 use Rattle.std.proofs.lemmas.Slice.Eq.{bytes_eq-Decides}
 use Rattle.std.specs.List.{list_any}
 use Rattle.std.specs.Prelude.{IfOk, codes, nat_lt}
 use Rattle.std.specs.Str.{bytes_eq}
 use Rattle.plane.specs.Point.{Point}
 use Rattle.plane.specs.declared.limits.TheConstants.{MAX_CHAIN, MAX_CORNERS}
+use Rattle.geo_text.specs.Capped.{pairs_of}
 use Rattle.geo_text.specs.Number.{number_of}
 use Rattle.geo_text.specs.Reading.{IsWellSized, fixed_fault, later_words, list_fault, number_fault, point_of, points_of, reading_of, unless}
 use Rattle.geo_text.specs.declared.command.Bad.{Bad}
@@ -23,18 +24,60 @@ length-points_of [] = refl
 length-points_of (x ∷ []) = refl
 length-points_of (x ∷ y ∷ fields) = omega (arith, length-points_of fields)
 
--- less than two fields are no point
-pub points_of_after : (fields : List (List ℕ)) (place : ℕ) → length fields ≤ place + 1 → points_of (drop place fields) ≡ []
-points_of_after fields place h = nil_from_length (points_of (drop place fields)) (omega (arith, length-points_of (drop place fields), length-drop place fields))
+-- fields are the points that each two of their numbers are
+pub points_are_pairs : (fields : List (List ℕ)) → points_of fields ≡ pairs_of (map number_of fields)
+points_are_pairs [] = refl
+points_are_pairs (x ∷ []) = refl
+points_are_pairs (x ∷ y ∷ fields) = ap (λ (points : List Point). record { x = number_of x; y = number_of y } ∷ points) (points_are_pairs fields)
 
--- the fields at a place and the next are a point
-pub point_at : (fields : List (List ℕ)) (place : ℕ) (x y : List ℕ) (p : Point) → x ≡ get_or fields place []
-    → y ≡ get_or fields (place + 1) [] → p ≡ record { x = number_of x; y = number_of y } → p ≡ point_of (drop place fields)
-point_at fields place x y p first next e =
-    rw (get_or-drop place fields 0 [], get_or-drop place fields 1 [], add-zero place, ← first, ← next) e
+-- the next two numbers are a point,
+pub pairs_of_more : (numbers : List ℤ) (k : ℕ) (d e : ℤ) → 2 * k + 1 < length numbers
+    → pairs_of (drop (2 * k) numbers) ≡ record { x = get_or numbers (2 * k) d; y = get_or numbers (2 * k + 1) e } ∷ pairs_of (drop (2 * (k + 1)) numbers)
+pairs_of_more numbers k d e h =
+    let first = drop_more numbers (2 * k) d (omega arith) in
+    let second = drop_more numbers (2 * k + 1) e h in
+    let next : 2 * k + 1 + 1 ≡ 2 * (k + 1) = omega arith in
+    rw (first, second, next) refl
+
+-- and less than two are none
+length-pairs_of : (numbers : List ℤ) → length (pairs_of numbers) ≡ length numbers / 2
+length-pairs_of [] = refl
+length-pairs_of (x ∷ []) = refl
+length-pairs_of (x ∷ y ∷ numbers) = omega (arith, length-pairs_of numbers)
+
+pub pairs_of_after : (numbers : List ℤ) (place : ℕ) → length numbers ≤ place + 1 → pairs_of (drop place numbers) ≡ []
+pairs_of_after numbers place h = nil_from_length (pairs_of (drop place numbers)) (omega (arith, length-pairs_of (drop place numbers), length-drop place numbers))
+
+-- what was read of fields with no fault are their points
+pub points_read : (fields : List (List ℕ)) (fault : Option Bad) (numbers : List ℤ) (points : List Point)
+    → fault ≡ None → numbers ≡ map number_of fields
+    → points ≡ pairs_of numbers → Ok points ≡ unless fault (points_of fields)
+points_read fields fault numbers points none read paired = rw (none, paired, read, points_are_pairs fields) refl
+
+-- two of them next to each other are a point
+pub point_read : (fields : List (List ℕ)) (numbers : List ℤ) (i : ℕ) (x y : ℤ) (p : Point) → numbers ≡ map number_of fields
+    → i + 1 < length numbers
+    → x ≡ get_or numbers i x → y ≡ get_or numbers (i + 1) y → p ≡ record { x = x; y = y } → p ≡ point_of (drop i fields)
+point_read fields numbers i x y p read within first second e =
+    let count : length numbers ≡ length fields = ap length read ∙ length-map fields number_of in
+    let same_x : x ≡ number_of (get_or fields i []) = first ∙ ap (λ (zs : List ℤ). get_or zs i x) read ∙ get_or-map number_of fields i [] x (omega arith) in
+    let same_y : y ≡ number_of (get_or fields (i + 1) []) = second ∙ ap (λ (zs : List ℤ). get_or zs (i + 1) y) read ∙ get_or-map number_of fields (i + 1) [] y (omega arith) in
+    rw (get_or-drop i fields 0 [], get_or-drop i fields 1 [], add-zero i, ← same_x, ← same_y) e
+
+-- a command is made of what was read, or refused as that was
+pub made : {T : Type 0} (make : T → Command) (fault : Option Bad) (value found : T) → Ok found ≡ unless fault value
+    → Ok (make found) ≡ unless fault (make value)
+made make None value found e = let same : found ≡ value = cc in rw same refl
+made make (Some bad) value found e = cc
+
+pub refused : {T U : Type 0} (fault : Option Bad) (value : T) (command : U) (found : Bad) → Err found ≡ unless fault value
+    → Err found ≡ unless fault command
+refused None value command found e = cc
+refused (Some bad) value command found e = let same : found ≡ bad = cc in rw same refl
 
 -- a list that is not refused is neither too short nor too long
-in_bounds : (odd few many : Bool) (rest : Option Bad) → (if odd then Some bad.Fields else if few then Some bad.Few else if many then Some bad.Many else rest) ≡ None
+in_bounds : (odd few many : Bool) (rest : Option Bad)
+    → (if odd then Some bad.Fields else if few then Some bad.Few else if many then Some bad.Many else rest) ≡ None
     → (few ≡ false) × (many ≡ false)
 in_bounds true few many rest e = cc
 in_bounds false true many rest e = cc
@@ -80,14 +123,18 @@ reading_is_well_sized (word ∷ fields) =
     (fixed_is_well_sized (fixed_fault 4 fields) (command.Path (point_of fields) (point_of (drop 2 fields))) tt)
     (either (list_any (λ later. bytes_eq later word) later_words) (Err bad.Later) (Err bad.Word) tt tt))))
 
--- a record whose first field is the word of a chain
-pub reading_of_path : (fields : List (List ℕ)) → bytes_eq (get_or fields 0 []) (codes "path") ≡ true
-    → unless (fixed_fault 4 (drop 1 fields)) (command.Path (point_of (drop 1 fields)) (point_of (drop 3 fields))) ≡ reading_of fields
-reading_of_path [] e = cc
-reading_of_path (word ∷ fields) e = let path : word ≡ codes "path" = (bytes_eq-Decides word (codes "path")).0 e in rw path refl
+-- what a record asks for, by what its word asks for
+pub reading_by_word : {E : Type 0} (name : List ℕ) (asked : List (List ℕ) → Result Command Bad) → bytes_eq [] name ≡ false
+    → ((fields : List (List ℕ)) → asked fields ≡ reading_of (name ∷ fields)) → (fields : List (List ℕ)) → bytes_eq (get_or fields 0 []) name ≡ true
+    → (found : Result (Result Command Bad) E) → IfOk found (λ reading. reading ≡ asked (drop 1 fields)) → IfOk found (λ reading. reading ≡ reading_of fields)
+reading_by_word name asked some same [] e found h = absurd (true≢false (sym e ∙ some))
+reading_by_word name asked some same (word ∷ fields) e found h =
+    let is : word ≡ name = (bytes_eq-Decides word name).0 e in
+    IfOk-weaker found _ _ (λ reading read. read ∙ rw is (same fields)) h
 
 -- a record whose first field is no word that is answered, and a record with no field
-pub reading_of_other : (fields : List (List ℕ)) → bytes_eq (get_or fields 0 []) (codes "polygon") ≡ false → bytes_eq (get_or fields 0 []) (codes "inside") ≡ false
+pub reading_of_other : (fields : List (List ℕ)) → bytes_eq (get_or fields 0 []) (codes "polygon") ≡ false
+    → bytes_eq (get_or fields 0 []) (codes "inside") ≡ false
     → bytes_eq (get_or fields 0 []) (codes "check") ≡ false → bytes_eq (get_or fields 0 []) (codes "path") ≡ false
     → reading_of fields ≡ Err (if list_any (λ later. bytes_eq later (get_or fields 0 [])) later_words then bad.Later else bad.Word)
 reading_of_other [] no_polygon no_inside no_check no_path = refl

@@ -1,12 +1,14 @@
 -- Faults of a list of fields, from a place on.
-use Rattle.std.proofs.Common.{◌≡◌, ◌≤◌, ◌<◌, ◌+◌, ◌==◌, ℕ, zero, suc, Bool, true, false, Option, Some, None, List, [], ◌∷◌, length, drop, get_or}
-use Rattle.std.proofs.Common.{if◌then◌else◌, refl, arith}
+use Rattle.std.proofs.Common.{◌≡◌, ◌∙◌, ◌<◌, ◌+◌, ℕ, ℤ, pos, negsuc, Bool, true, false, Option, Some, None, Ok, List, [], ◌∷◌, ◌++◌, Vec, Global, length, drop, get_or, map}
+use Rattle.std.proofs.Common.{All, append-nil, append_assoc, if◌then◌else◌, refl, sym, ap, ap₂, arith}
 use Rattle.std.proofs.lemmas.Bool.Decides.{nat_tests}
-use Rattle.std.proofs.lemmas.List.{at_drop_more, length-drop}
+use Rattle.std.proofs.lemmas.List.{at_drop_more}
+use Rattle.std.proofs.lemmas.List.Elements.{All-cons, All-nil}
 use Rattle.std.specs.Option.{option_or}
-use Rattle.geo_text.specs.Capped.{IsCoordinate}
-use Rattle.geo_text.specs.Number.{is_coordinate, is_number}
-use Rattle.geo_text.specs.Reading.{first_failing, first_fault, fixed_fault, number_fault}
+use Rattle.plane.specs.Point.{IsInLimit}
+use Rattle.geo_text.specs.Capped.{Reads, capped, read_of}
+use Rattle.geo_text.specs.Number.{is_coordinate, is_number, number_of}
+use Rattle.geo_text.specs.Reading.{first_failing, first_fault, number_fault}
 use Rattle.geo_text.specs.declared.command.Bad.{Bad}
 use Rattle.geo_text.specs.declared.command.Bad.TheVariants as bad
 
@@ -33,30 +35,47 @@ passes : {T : Type 0} (b : Bool) (rest : Option T) (fault : T) → (if b then re
 passes true rest fault e = (refl, e)
 passes false rest fault e = cc
 
--- where none fails, each passes
-all_pass : (test : List ℕ → Bool) (fields : List (List ℕ)) (place i : ℕ) → first_failing test place fields ≡ None → i < length fields → test (get_or fields i []) ≡ true
-all_pass test [] place i none h = absurd (omega arith)
-all_pass test (field ∷ fields) place zero none h = (passes (test field) _ place none).0
-all_pass test (field ∷ fields) place (suc i) none h = all_pass test fields (place + 1) i (passes (test field) _ place none).1 (omega arith)
-
 -- where there is no fault, there is none of either kind
 no_fault : (number range : Option ℕ) → first_fault number range ≡ None → (number ≡ None) × (range ≡ None)
 no_fault (Some place) range e = cc
 no_fault None (Some place) e = cc
 no_fault None None e = (refl, refl)
 
--- where there is no fault, each field after the word is a coordinate
-pub coordinate_at : (fields : List (List ℕ)) (place : ℕ) → number_fault (drop 1 fields) ≡ None → 1 ≤ place → place < length fields → IsCoordinate (get_or fields place [])
-coordinate_at [] place none low h = absurd (omega arith)
-coordinate_at (word ∷ fields) zero none low h = absurd (omega arith)
-coordinate_at (word ∷ fields) (suc i) none low h =
-    let (number, range) = no_fault (first_failing is_number 1 fields) (first_failing is_coordinate 1 fields) none in
-    record { number = all_pass is_number fields 1 i number (omega arith); within = all_pass is_coordinate fields 1 i range (omega arith) }
+-- a number within the limit is read as it is
+capped_within : (z : ℤ) → IsInLimit z → capped z ≡ z
+capped_within (pos n) h = ap pos (omega arith)
+capped_within (negsuc n) h = ap negsuc (omega arith)
 
--- where a record of so many fields after the word is not refused, each of them is a coordinate
-pub fixed_coordinate : (count : ℕ) (fields : List (List ℕ)) (place : ℕ) → fixed_fault count (drop 1 fields) ≡ None
-    → 1 ≤ place → place ≤ count → IsCoordinate (get_or fields place [])
-fixed_coordinate count fields place e low high =
-    let (counted, none) = passes (length (drop 1 fields) == count) (number_fault (drop 1 fields)) bad.Fields e in
-    let long : place < length fields = grind (arith, nat_tests, length-drop 1 fields) in
-    coordinate_at fields place none low long
+-- so are the numbers of fields of which none passes the limit
+read_exactly : (fields : List (List ℕ)) (place : ℕ) → first_failing is_coordinate place fields ≡ None
+    → (map read_of fields ≡ map number_of fields) × All IsInLimit (map number_of fields)
+read_exactly [] place none = (refl, All-nil IsInLimit)
+read_exactly (field ∷ fields) place none =
+    let (here, rest) = passes (is_coordinate field) _ place none in
+    let (same, small) = read_exactly fields (place + 1) rest in
+    let within : IsInLimit (number_of field) = grind (arith, nat_tests) in
+    (ap₂ (λ (z : ℤ) (numbers : List ℤ). z ∷ numbers) (capped_within (number_of field) within) same, All-cons IsInLimit (number_of field) (map number_of fields) within small)
+
+-- where there is no fault, what was read are the numbers of the fields
+reads_numbers : (fields : List (List ℕ)) (numbers : Vec ℤ Global) → number_fault fields ≡ None → numbers.items ≡ map read_of fields
+    → Reads fields (number_fault fields) (Ok numbers)
+reads_numbers fields numbers none read =
+    let (same, small) = read_exactly fields 1 (no_fault (first_failing is_number 1 fields) (first_failing is_coordinate 1 fields) none).1 in
+    (none, read ∙ same, rw (read, same) small)
+
+-- one more field is read
+pub read_step : (fields : List (List ℕ)) (place : ℕ) (z : ℤ) (before after all : List ℤ) → place < length fields → z ≡ read_of (get_or fields place [])
+    → after ≡ before ++ z ∷ [] → before ++ map read_of (drop place fields) ≡ all → after ++ map read_of (drop (place + 1) fields) ≡ all
+read_step fields place z before after all h e pushed read =
+    rw (pushed, append_assoc, e) (rw (at_drop_more (map read_of) fields place [] h) at read)
+
+-- all fields are read, and none has a fault
+pub all_read : (fields rest : List (List ℕ)) (place : ℕ) (numbers : Vec ℤ Global) → rest ≡ []
+    → first_failing is_number 1 fields ≡ first_failing is_number place rest
+    → first_fault None (first_failing is_coordinate 1 fields) ≡ first_fault None (first_failing is_coordinate place rest)
+    → numbers.items ++ map read_of rest ≡ map read_of fields → Reads fields (number_fault fields) (Ok numbers)
+all_read fields rest place numbers ended number range read =
+    let no_number : first_failing is_number 1 fields ≡ None = rw ended at number in
+    let no_range : first_fault None (first_failing is_coordinate 1 fields) ≡ None = rw ended at range in
+    let all : numbers.items ++ [] ≡ map read_of fields = rw ended at read in
+    reads_numbers fields numbers (rw no_number no_range) (sym (append-nil numbers.items) ∙ all)

@@ -3,4 +3,5 @@ mod Commands
 mod Faults
 mod FieldAt
 mod Fuel
+pub mod HomTexts
 mod RecordsLeft

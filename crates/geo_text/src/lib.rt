@@ -11,7 +11,7 @@ mod script;
 
 pub use command::{Bad, Command};
 pub use points::Points;
-pub use put::{put_bad, put_index, put_line_end, put_pt, put_word};
+pub use put::{put_bad, put_hom, put_index, put_line_end, put_pt, put_word};
 pub use script::Script;
 
 #[cfg(test)]

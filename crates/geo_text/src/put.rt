@@ -1,9 +1,10 @@
 // What is written to an answer. After want of memory the answer is as it was.
-ghost use Rattle.std.specs.Prelude.{◌≡◌, ◌+◌, ◌++◌, codes, length, take, OnOk, OnErr};
-ghost use Rattle.geo_text.specs.Texts.{bad_text, index_text, pt_text};
+ghost use Rattle.std.specs.Prelude.{◌≡◌, ◌+◌, ◌++◌, ◌∷◌, codes, length, take, OnOk, OnErr};
+ghost use Rattle.geo_text.specs.Texts.{bad_text, hom_text, index_text, pt_text, terms_text};
 
 use crate::command::Bad;
-use exact_plane::{Memory, Pt, Steps};
+use exact_frac::Frac;
+use exact_plane::{Hom, Memory, Pt, Steps};
 use itoa::{Buffer, Integer};
 use std::sync::ledger::Ledger;
 
@@ -21,7 +22,7 @@ pub fn put_index(out: &mut Vec<u8>, index: u32) -> Result<(), Memory>
     ensures ok { OnOk result (out.new.items ≡ out.old.items ++ index_text index) }
     ensures err { OnErr result (out.new.items ≡ out.old.items) }
 {
-    put_number(out, index)
+    put_number(out, b',', index)
 }
 
 /// Appends a comma, x, a comma and y. It takes 64 steps.
@@ -32,23 +33,61 @@ pub fn put_pt<L: Ledger>(out: &mut Vec<u8>, p: &Pt, steps: &mut Steps<L>) -> Res
 {
     let (x, y) = p.parts(steps);
     let before = out.len();
-    put_number(out, x)?;
-    let put = put_number(out, y);
+    put_number(out, b',', x)?;
+    let put = put_number(out, b',', y);
     if put.is_err() {
         out.truncate(before);
     }
     put
 }
 
-// Appends a comma and a number.
-fn put_number<N: Integer>(out: &mut Vec<u8>, number: N) -> Result<(), Memory>
-    ensures ok { OnOk result (out.new.items ≡ out.old.items ++ codes "," ++ N.text number) }
+/// Appends a comma, X / W, a comma and Y / W, each as a fraction in lowest terms. It takes 64 steps.
+pub fn put_hom<L: Ledger>(out: &mut Vec<u8>, p: &Hom, steps: &mut Steps<L>) -> Result<(), Memory>
+    ensures ok { OnOk result (out.new.items ≡ out.old.items ++ hom_text p.now) }
+    ensures err { OnErr result (out.new.items ≡ out.old.items) }
+    ensures steps { steps.new ≡ steps.old + 64 }
+{
+    let (x, y, w) = p.parts(steps);
+    let before = out.len();
+    let put = put_fractions(out, Frac::lowest(x, w), Frac::lowest(y, w));
+    if put.is_err() {
+        out.truncate(before);
+    }
+    put
+}
+
+// Appends two fractions, each behind a comma. Want of memory may leave the front of them.
+fn put_fractions(out: &mut Vec<u8>, x: Frac, y: Frac) -> Result<(), Memory>
+    ensures ok { OnOk result (out.new.items ≡ out.old.items ++ (codes "," ++ terms_text x.num x.den
+        ++ codes "," ++ terms_text y.num y.den)) }
+    ensures err { OnErr result (take (length out.old.items) out.new.items ≡ out.old.items) }
+{
+    put_fraction(out, x)?;
+    put_fraction(out, y)
+}
+
+// The same with one.
+fn put_fraction(out: &mut Vec<u8>, frac: Frac) -> Result<(), Memory>
+    ensures ok { OnOk result (out.new.items ≡ out.old.items ++ (codes "," ++ terms_text frac.num frac.den)) }
+    ensures err { OnErr result (take (length out.old.items) out.new.items ≡ out.old.items) }
+{
+    put_number(out, b',', frac.num)?;
+    if frac.is_whole() {
+        Ok(())
+    } else {
+        put_number(out, b'/', frac.den)
+    }
+}
+
+// Appends a mark and a number.
+fn put_number<N: Integer>(out: &mut Vec<u8>, mark: u8, number: N) -> Result<(), Memory>
+    ensures ok { OnOk result (out.new.items ≡ out.old.items ++ mark ∷ N.text number) }
     ensures err { OnErr result (out.new.items ≡ out.old.items) }
 {
     let mut buffer = Buffer::new();
     let digits = buffer.format(number).as_bytes();
     out.reserve(1 + digits.len())?;
-    out.push(b',').unwrap();
+    out.push(mark).unwrap();
     out.extend_from_slice(digits).unwrap();
     Ok(())
 }

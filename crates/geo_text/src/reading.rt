@@ -1,10 +1,11 @@
 // A record as a command.
-ghost use Rattle.std.specs.List.{list_any};
-ghost use Rattle.std.specs.Prelude.{◌≡◌, ◌≤◌, ◌<◌, ◌^◌, IfOk, drop, if◌then◌else◌, length, nat_le, unsigned_abs};
+ghost use Rattle.std.specs.List.{All, list_any};
+ghost use Rattle.std.specs.Option.{option_or};
+ghost use Rattle.std.specs.Prelude.{◌≡◌, ◌≤◌, ◌<◌, ◌*◌, ◌^◌, IfNone, IfOk, drop, if◌then◌else◌, length, nat_le, unsigned_abs};
 ghost use Rattle.std.specs.Str.{bytes_eq};
+ghost use Rattle.plane.specs.Point.{IsInLimit};
 ghost use Rattle.plane.specs.declared.limits.TheConstants.{MAX_COORDINATE};
-ghost use Rattle.geo_text.specs.Capped.{IsCoordinate};
-ghost use Rattle.geo_text.specs.Number.{number_of};
+ghost use Rattle.geo_text.specs.Capped.{Reads, after_word, pairs_of};
 ghost use Rattle.geo_text.specs.Reading.{fixed_fault, later_words, list_fault, number_fault, point_of, points_of, reading_of, unless};
 ghost use Rattle.geo_text.specs.Records.{plain_fields};
 
@@ -26,60 +27,65 @@ pub fn command(alloc: Global, row: &ByteRecord) -> Result<Result<Command, Bad>, 
 {
     let word = field(row, 0);
     if word == b"polygon".as_slice() {
-        return Ok(match list_fault(row, 3, MAX_CORNERS) {
-            Some(fault) => Err(fault),
-            None => Ok(Command::Polygon(points(alloc, row)?)),
-        });
+        return polygon(alloc, row);
     }
     if word == b"inside".as_slice() {
-        return Ok(inside(row));
+        return inside(alloc, row);
     }
     if word == b"check".as_slice() {
-        return Ok(match list_fault(row, 1, MAX_CHAIN) {
-            Some(fault) => Err(fault),
-            None => Ok(Command::Check(points(alloc, row)?)),
-        });
+        return check(alloc, row);
     }
     if word == b"path".as_slice() {
-        return Ok(path(row));
+        return path(alloc, row);
     }
     Ok(Err(word_fault(word)))
 }
 
-// An `inside` record as a command.
-fn inside(row: &ByteRecord) -> Result<Command, Bad>
-    ensures { result ≡ unless (fixed_fault 2 (drop 1 (plain_fields row.now))) (Command.Inside (point_of (drop 1 (plain_fields row.now)))) }
+// A `polygon` record as a command.
+fn polygon(alloc: Global, row: &ByteRecord) -> Result<Result<Command, Bad>, Memory>
+    ensures { IfOk result (λ reading. reading ≡ unless (list_fault 3 MAX_CORNERS (after_word row.now))
+        (Command.Polygon (points_of (after_word row.now)))) }
 {
-    match fixed_fault(row, 2) {
-        Some(fault) => Err(fault),
-        None => Ok(Command::Inside(point(field(row, 1), field(row, 2)))),
+    match points(alloc, row, 3, MAX_CORNERS)? {
+        Ok(points) => Ok(Ok(Command::Polygon(points))),
+        Err(fault) => Ok(Err(fault)),
+    }
+}
+
+// An `inside` record as a command.
+fn inside(alloc: Global, row: &ByteRecord) -> Result<Result<Command, Bad>, Memory>
+    ensures { IfOk result (λ reading. reading ≡ unless (fixed_fault 2 (after_word row.now))
+        (Command.Inside (point_of (after_word row.now)))) }
+{
+    match fixed(alloc, row, 2)? {
+        Ok(numbers) => Ok(Ok(Command::Inside(point(numbers[0], numbers[1])))),
+        Err(fault) => Ok(Err(fault)),
+    }
+}
+
+// A `check` record as a command.
+fn check(alloc: Global, row: &ByteRecord) -> Result<Result<Command, Bad>, Memory>
+    ensures { IfOk result (λ reading. reading ≡ unless (list_fault 1 MAX_CHAIN (after_word row.now))
+        (Command.Check (points_of (after_word row.now)))) }
+{
+    match points(alloc, row, 1, MAX_CHAIN)? {
+        Ok(points) => Ok(Ok(Command::Check(points))),
+        Err(fault) => Ok(Err(fault)),
     }
 }
 
 // A `path` record as a command.
-fn path(row: &ByteRecord) -> Result<Command, Bad>
-    ensures { result ≡ unless (fixed_fault 4 (drop 1 (plain_fields row.now)))
-        (Command.Path (point_of (drop 1 (plain_fields row.now))) (point_of (drop 3 (plain_fields row.now)))) }
+fn path(alloc: Global, row: &ByteRecord) -> Result<Result<Command, Bad>, Memory>
+    ensures { IfOk result (λ reading. reading ≡ unless (fixed_fault 4 (after_word row.now))
+        (Command.Path (point_of (after_word row.now)) (point_of (drop 2 (after_word row.now))))) }
 {
-    match fixed_fault(row, 4) {
-        Some(fault) => Err(fault),
-        None => {
-            let from = point(field(row, 1), field(row, 2));
-            let to = point(field(row, 3), field(row, 4));
-            Ok(Command::Path(from, to))
+    match fixed(alloc, row, 4)? {
+        Ok(numbers) => {
+            let from = point(numbers[0], numbers[1]);
+            let to = point(numbers[2], numbers[3]);
+            Ok(Ok(Command::Path(from, to)))
         }
-    }
-}
-
-// What is wrong with the fields of a command that takes `count` of them, if anything.
-fn fixed_fault(row: &ByteRecord, count: usize) -> Option<Bad>
-    requires { count ≤ 4 }
-    ensures { result ≡ fixed_fault count (drop 1 (plain_fields row.now)) }
-{
-    if row.len().saturating_sub(1) == count {
-        number_fault(row)
-    } else {
-        Some(Bad::Fields)
+        Err(fault) => Ok(Err(fault)),
     }
 }
 
@@ -94,11 +100,45 @@ fn word_fault(word: &[u8]) -> Bad
     }
 }
 
-// What is wrong with the fields of a list of `least` to `most` points, if anything.
-fn list_fault(row: &ByteRecord, least: usize, most: usize) -> Option<Bad>
+// The numbers of a record that has just `count` of them.
+fn fixed(alloc: Global, row: &ByteRecord, count: usize) -> Result<Result<Vec<i64>, Bad>, Memory>
+    requires { count ≤ 4 }
+    ensures numbers { IfOk result (Reads (after_word row.now) (fixed_fault count (after_word row.now))) }
+    ensures count { IfOk result (λ read. IfOk read (λ numbers. length numbers.items ≡ count)) }
+{
+    if row.len().saturating_sub(1) == count {
+        numbers(alloc, row)
+    } else {
+        Ok(Err(Bad::Fields))
+    }
+}
+
+// The points of a record that has `least` to `most` of them.
+fn points(
+    alloc: Global,
+    row: &ByteRecord,
+    least: usize,
+    most: usize,
+) -> Result<Result<Points, Bad>, Memory>
     requires order { least ≤ most }
-    requires bound { most < 2 ^ 31 }
-    ensures { result ≡ list_fault least most (drop 1 (plain_fields row.now)) }
+    requires bound { most < 2 ^ 30 }
+    ensures { IfOk result (λ reading. reading ≡ unless (list_fault least most (after_word row.now)) (points_of (after_word row.now))) }
+{
+    if let Some(fault) = list_shape(row, least, most) {
+        return Ok(Err(fault));
+    }
+    match numbers(alloc, row)? {
+        Ok(numbers) => Ok(Ok(Points::of(pairs(alloc, &numbers)?))),
+        Err(fault) => Ok(Err(fault)),
+    }
+}
+
+// What is wrong with the count of fields of a list of `least` to `most` points, if anything.
+fn list_shape(row: &ByteRecord, least: usize, most: usize) -> Option<Bad>
+    requires order { least ≤ most }
+    requires bound { most < 2 ^ 30 }
+    ensures fault { list_fault least most (after_word row.now) ≡ option_or result (number_fault (after_word row.now)) }
+    ensures few { IfNone result (length (after_word row.now) ≤ 2 * most) }
 {
     let count = row.len().saturating_sub(1);
     if count % 2 == 1 {
@@ -108,23 +148,29 @@ fn list_fault(row: &ByteRecord, least: usize, most: usize) -> Option<Bad>
     } else if count > 2 * most {
         Some(Bad::Many)
     } else {
-        number_fault(row)
+        None
     }
 }
 
-// The first field after the word that is no number; if there is none, the first that passes the coordinate limit.
-fn number_fault(row: &ByteRecord) -> Option<Bad>
-    requires { length (plain_fields row.now) < 2 ^ 32 }
-    ensures { result ≡ number_fault (drop 1 (plain_fields row.now)) }
+// The numbers that the fields after the word are. If one of them is none, the first of those is the fault; else the first
+// that passes the coordinate limit.
+fn numbers(alloc: Global, row: &ByteRecord) -> Result<Result<Vec<i64>, Bad>, Memory>
+    requires { length (after_word row.now) < 2 ^ 31 }
+    ensures { IfOk result (Reads (after_word row.now) (number_fault (after_word row.now))) }
 {
+    let mut numbers = Vec::with_capacity(alloc, row.len().saturating_sub(1))?;
     let mut range = None;
     for place in 1..row.len() {
         let Some(z) = number(field(row, place)) else {
-            return Some(Bad::Number(place as u32));
+            return Ok(Err(Bad::Number(place as u32)));
         };
         range = range.or(range_fault(z, place as u32));
+        numbers.push(z)?;
     }
-    range
+    match range {
+        Some(fault) => Ok(Err(fault)),
+        None => Ok(Ok(numbers)),
+    }
 }
 
 // What is wrong with the size of a number at a place, if anything.
@@ -138,31 +184,24 @@ fn range_fault(z: i64, place: u32) -> Option<Bad>
     }
 }
 
-// The points of a record whose fields after the word are coordinates.
-fn points(alloc: Global, row: &ByteRecord) -> Result<Points, Memory>
-    requires { number_fault (drop 1 (plain_fields row.now)) ≡ None }
-    ensures { IfOk result (λ points. points ≡ points_of (drop 1 (plain_fields row.now))) }
+// The points that each two of the numbers are.
+fn pairs(alloc: Global, numbers: &[i64]) -> Result<Vec<Pt>, Memory>
+    requires { All IsInLimit numbers.now }
+    ensures { IfOk result (λ points. points.items ≡ pairs_of numbers.now) }
 {
-    let count = row.len().saturating_sub(1) / 2;
+    let count = numbers.len() / 2;
     let mut points = Vec::with_capacity(alloc, count)?;
     for k in 0..count {
-        points.push(point(field(row, 2 * k + 1), field(row, 2 * k + 2)))?;
+        points.push(point(numbers[2 * k], numbers[2 * k + 1]))?;
     }
-    Ok(Points::of(points))
+    Ok(points)
 }
 
-// The point whose coordinates these fields are.
-fn point(x: &[u8], y: &[u8]) -> Pt
-    requires x { IsCoordinate x.now }
-    requires y { IsCoordinate y.now }
-    ensures { result ≡ record { x = number_of x.now; y = number_of y.now } }
+// The point with these coordinates.
+fn point(x: i64, y: i64) -> Pt
+    requires x { IsInLimit x }
+    requires y { IsInLimit y }
+    ensures { result ≡ record { x = x; y = y } }
 {
-    Pt::of(coordinate(x), coordinate(y)).unwrap()
-}
-
-fn coordinate(field: &[u8]) -> i64
-    requires { IsCoordinate field.now }
-    ensures { result ≡ number_of field.now }
-{
-    number(field).unwrap()
+    Pt::of(x, y).unwrap()
 }

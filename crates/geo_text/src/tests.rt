@@ -1,10 +1,13 @@
 ghost use Rattle.std.specs.Prelude.{◌≡◌, ◌<◌, ◌+◌};
 
-use crate::{Bad, Command, Points, Script, put_bad, put_index, put_line_end, put_pt, put_word};
-use exact_plane::{Memory, Pt, Steps};
+use crate::{
+    Bad, Command, Points, Script, put_bad, put_hom, put_index, put_line_end, put_pt, put_word,
+};
+use exact_plane::{Hom, Memory, Pt, Steps};
 use itoa::Buffer;
 use std::alloc::{AllocError, Global};
 use std::marker::Brand;
+use std::process::Abort;
 use std::sync::ledger::{Blank, Ledger};
 use std::test::Fail;
 
@@ -120,10 +123,35 @@ fn point_texts(rt: HostRuntime) -> Result<(), Fail> {
         ("the opposite corner", -1_000_000, -1_000_000, b"at,-1000000,-1000000"),
     ];
     for (name, x, y, want) in cases {
-        let point = Pt::of(x, y).expect(&rt, "the row has a point");
+        let point = at(&rt, (x, y));
         assert_eq!(rt; point_text::<Brand>(rt.alloc(), &point, Blank::new(1))?.as_slice(), want, "{name}");
     }
     Ok(())
+}
+
+// Each row is two lines, by two points each, and the text of the point where they meet.
+#[test]
+#[rattlefmt::skip]
+fn rational_texts(rt: HostRuntime) -> Result<(), Fail> {
+    let cases = [
+        ("halves", (5, 1), (3, 2), (0, 0), (0, 1), b"at,0,7/2".as_slice()),
+        ("quarters", (0, 5), (3, 1), (0, 0), (6, 0), b"at,15/4,0"),
+        ("a minus", (-1, 0), (0, 1), (0, 0), (-1, 1), b"at,-1/2,1/2"),
+        ("whole numbers", (0, 0), (6, 2), (3, 0), (3, 5), b"at,3,1"),
+        ("the origin", (0, 0), (4, 0), (0, 0), (0, 3), b"at,0,0"),
+        ("long numbers", (-1_000_000, -1_000_000), (1_000_000, 999_999), (-1_000_000, 1_000_000), (999_999, -1_000_000),
+            b"at,-1000000/7999996000001,-3999999000000/7999996000001"),
+        ("past the limits", (-1_000_000, -1_000_000), (1_000_000, 999_999), (-1_000_000, -999_999), (999_999, 1_000_000), b"at,-3000000,-2999999"),
+    ];
+    for (name, a, b, c, d, want) in cases {
+        let (a, b, c, d) = (at(&rt, a), at(&rt, b), at(&rt, c), at(&rt, d));
+        assert_eq!(rt; meeting_text::<Brand>(rt.alloc(), &a, &b, &c, &d, Blank::new(1))?.as_slice(), want, "{name}");
+    }
+    Ok(())
+}
+
+fn at<R: Abort>(rt: &R, (x, y): (i64, i64)) -> Pt {
+    Pt::of(x, y).expect(rt, "within the limit")
 }
 
 // The front, then a part some times, then the end.
@@ -171,6 +199,28 @@ fn point_text<L: Ledger>(alloc: Global, point: &Pt, blank: Blank) -> Result<Vec<
     let mut out = Vec::new(alloc);
     put_word(&mut out, "at")?;
     put_counted(&mut out, point, &mut steps)?;
+    Ok(out)
+}
+
+// A word and the text of the point where two lines meet, if they do.
+fn meeting_text<L: Ledger>(
+    alloc: Global,
+    a: &Pt,
+    b: &Pt,
+    c: &Pt,
+    d: &Pt,
+    blank: Blank,
+) -> Result<Vec<u8>, Memory>
+    requires name { blank.name ≡ L.name }
+    requires parts { blank.parts ≡ L.parts }
+    requires countable { 0 < blank.parts }
+{
+    let mut steps = Steps::<L>::new(blank);
+    let mut out = Vec::new(alloc);
+    put_word(&mut out, "at")?;
+    if let Some(point) = Hom::meet(a, b, c, d, &mut steps) {
+        put_hom(&mut out, &point, &mut steps)?;
+    }
     Ok(out)
 }
 

@@ -5,4 +5,5 @@ pub mod Segments
 pub mod Meetings
 pub mod Nearness
 pub mod CornerLists
+pub mod Regions
 mod KnownFigures

@@ -1,10 +1,13 @@
 pub mod Beside
 pub mod Box
 pub mod Cone
+pub mod Convex
+pub mod Cut
 pub mod Line
 pub mod Order
 pub mod Point
 pub mod Region
 pub mod Segment
+pub mod Square
 pub mod Triangle
 pub mod Turn

@@ -1,1 +1,3 @@
 pub mod Neighbours
+pub mod Outward
+pub mod Search

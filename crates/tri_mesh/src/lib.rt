@@ -2,10 +2,13 @@
 #![tactic(auto)]
 
 mod mesh;
+mod outward;
+mod search;
 mod sides;
 mod sleeve;
 #[cfg(test)]
 mod tests;
 
 pub use mesh::Mesh;
+pub use outward::{Outward, Rooted};
 pub use sleeve::Sleeve;

@@ -4,30 +4,36 @@ ghost use Rattle.plane.specs.Point.{Point};
 ghost use Rattle.meshes.specs.Fits.{Fits, IsPieceEdge, IsSideOfOne, IsSideOfTwo};
 ghost use Rattle.meshes.specs.Mesh.{IsMesh, side_begin, side_end};
 ghost use Rattle.meshes.specs.Side.{HasSidesOnce, IsTree, tri_at};
+ghost use Rattle.tri_mesh.specs.Outward.{IsOutward, IsRooted};
 
+use crate::outward::{Outward, Rooted};
+use crate::search::Search;
 use crate::sides::neighbours;
 use exact_plane::Memory;
 use meshes::Tri;
 use std::alloc::Global;
 use std::marker::Model;
 
-/// Triangles that fit some polygon, and for each side the triangle on its other side.
+/// Triangles that fit some polygon, for each side the triangle on its other side, and an order outward from triangle 0.
 #[derive(Drop)]
 pub struct Mesh {
     tris: Vec<Tri>,
     neighbours: Vec<[Option<u32>; 3]>,
+    root: Search,
 }
 
 impl Model for Mesh {
     ghost use Rattle.std.specs.Prelude.{List};
     ghost use Rattle.meshes.specs.declared.tri.Tri.{Tri};
     ghost use Rattle.tri_mesh.specs.Neighbours.{KeepsNeighbours};
+    ghost use Rattle.tri_mesh.specs.Outward.{IsRooted};
 
     ghost Value = { List Tri };
 
     ghost view = { λ mesh. mesh.tris.items };
 
-    ghost invariant = { λ mesh. KeepsNeighbours mesh.tris.items mesh.neighbours.items };
+    ghost invariant = { λ mesh. KeepsNeighbours mesh.tris.items mesh.neighbours.items
+        × IsRooted mesh.tris.items 0 mesh.root.order.items mesh.root.places.items };
 }
 
 impl Mesh {
@@ -42,13 +48,19 @@ impl Mesh {
 
     // The mesh of triangles that are a tree and have their sides once.
     pub(crate) fn of_tree(alloc: Global, tris: Vec<Tri>) -> Result<Mesh, Memory>
+        requires some { 0 < vec_len tris }
         requires tree { IsTree tris.items }
         requires sides { HasSidesOnce tris.items }
         requires few { vec_len tris < 2 ^ 30 }
         ensures { IfOk result (λ mesh. mesh ≡ tris.items) }
     {
         let neighbours = neighbours(alloc, &tris)?;
-        Ok(Mesh { tris, neighbours })
+        let root = Search::from(alloc, &tris, &neighbours, 0)?;
+        Ok(Mesh {
+            tris,
+            neighbours,
+            root,
+        })
     }
 
     /// How many triangles there are.
@@ -85,5 +97,24 @@ impl Mesh {
             IsNone result ↔ IsPieceEdge (range_with_len 0 (length corners)) (side_begin t side) (side_end t side) }
     {
         self.neighbours[i as usize][side as usize]
+    }
+
+    /// The triangles outward from `home`: each shares a side with one before it. All sides are looked at once.
+    pub fn outward(&self, alloc: Global, home: u32) -> Result<Vec<Outward>, Memory>
+        requires { home < length self.now }
+        ensures { IfOk result (λ order. IsOutward self.now home order.items) }
+    {
+        let search = Search::from(alloc, &self.tris, &self.neighbours, home)?;
+        Ok(search.order)
+    }
+
+    /// The triangles outward from triangle 0, as the mesh keeps them, and the place of each.
+    pub fn rooted(&self) -> Rooted<'_>
+        ensures { IsRooted self.now 0 result.order.now result.places.now }
+    {
+        Rooted {
+            order: &self.root.order,
+            places: &self.root.places,
+        }
     }
 }

@@ -18,7 +18,7 @@ pub fn neighbours(alloc: Global, tris: &[Tri]) -> Result<Vec<[Option<u32>; 3]>, 
     ensures rows { IfOk result (λ rows. AreRowsOf tris.now rows.items) }
 {
     let sides = sides_of(alloc, tris)?;
-    let mut rows = Vec::new(alloc);
+    let mut rows = Vec::with_capacity(alloc, tris.len())?;
     for tri in tris {
         rows.push(row_of(&sides, tri))?;
     }

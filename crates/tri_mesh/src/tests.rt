@@ -2,7 +2,7 @@ ghost use Rattle.std.specs.Prelude.{◌≡◌, ◌<◌, ◌^◌, IfOk, vec_len};
 ghost use Rattle.meshes.specs.Mesh.{IsMesh};
 ghost use Rattle.meshes.specs.Side.{HasSidesOnce, IsTree};
 
-use crate::Mesh;
+use crate::{Mesh, Outward};
 use meshes::Tri;
 use std::alloc::{AllocError, Global};
 use std::process::Abort;
@@ -23,6 +23,8 @@ fn meshes(rt: HostRuntime) -> Result<(), Fail> {
         (tri(3, 4, 5), [None, None, Some(2)]),
     ];
     has_rows(&rt, &mesh, &rows);
+    let order = mesh.outward(rt.alloc(), 1)?;
+    is_order(&rt, &order, &[(1, 0, 0), (0, 0, 2), (2, 0, 0), (3, 2, 2)]);
     Ok(())
 }
 
@@ -39,8 +41,19 @@ fn has_rows<R: Abort>(rt: &R, mesh: &Mesh, rows: &[Row]) {
     }
 }
 
+// The order has these triangles, each with an earlier place and its side to the triangle there.
+fn is_order<R: Abort>(rt: &R, order: &[Outward], want: &[(u32, u32, u32)]) {
+    assert_eq!(rt; order.len(), want.len());
+    for (at, (tri, toward, side)) in order.iter().zip(want) {
+        assert_eq!(rt; at.tri, *tri);
+        assert_eq!(rt; at.toward, *toward, "of triangle {tri}");
+        assert_eq!(rt; at.side, *side, "of triangle {tri}");
+    }
+}
+
 // The L with vertices (0, 0), (4, 0), (4, 2), (2, 2), (2, 4), (0, 4), cut by the diagonals from vertex 3.
 fn l_shape(alloc: Global) -> Result<Vec<Tri>, AllocError>
+    ensures four { IfOk result (λ tris. vec_len tris ≡ 4) }
     ensures tree { IfOk result (λ tris. IsTree tris.items) }
     ensures sides { IfOk result (λ tris. HasSidesOnce tris.items) }
     ensures few { IfOk result (λ tris. vec_len tris < 2 ^ 30) }

@@ -1,8 +1,8 @@
 use Rattle.std.proofs.Common.{◌≡◌, sym, subst, ◌∙◌, ℕ, List, length}
 use Rattle.meshes.specs.Side.{IsWalkBetween}
 use Rattle.meshes.specs.Sleeve.{IsOneOf}
-use Rattle.dual_tree.proofs.SearchWalks.{if_ok_both, if_ok_map, no_diagonal, one_walk}
 use Rattle.dual_tree.proofs.SightLines.{sees_through}
+use Rattle.dual_tree.proofs.TreeWalks.{if_ok_both, if_ok_map, no_diagonal, one_walk}
 use Rattle.dual_tree.proofs.sleeves.sleeve.Goals as goal
 use Rattle.dual_tree.specs.Sight.{SeesThrough}
 
@@ -10,28 +10,28 @@ pub returns-clause-only : goal.returns-clause-only
 returns-clause-only c =
     let tris = c.args.mesh.now in
     let between = c.in_ok-walk.ensures in
-    if_ok_map c.of.result (λ sleeve. sleeve.walk ≡ c.deref.result.now)
+    if_ok_map c.of.result (λ sleeve. sleeve.walk ≡ c.in_ok-walk.walk.items)
     (λ sleeve. (walk : List ℕ) → IsWalkBetween tris c.args.from c.args.to walk → walk ≡ sleeve.walk)
     c.of.ensures.walk
     (λ sleeve is walk w.
-    one_walk tris c.args.from c.args.to c.count-count.ensures.tree c.requires.from c.requires.to c.in_ok-walk.walk.items walk between w
-    ∙ sym c.deref.ensures.value ∙ sym is)
+    one_walk tris c.args.from c.args.to c.count-count.ensures.tree c.requires.from c.requires.to
+    c.in_ok-walk.walk.items walk between w ∙ sym is)
 
 pub returns-clause-same : goal.returns-clause-same
 returns-clause-same c =
     let tris = c.args.mesh.now in
-    if_ok_both c.of.result (λ sleeve. sleeve.walk ≡ c.deref.result.now) (IsOneOf tris) (λ sleeve. c.args.from ≡ c.args.to → length sleeve.diagonals ≡ 0)
+    if_ok_both c.of.result (λ sleeve. sleeve.walk ≡ c.in_ok-walk.walk.items) (IsOneOf tris)
+    (λ sleeve. c.args.from ≡ c.args.to → length sleeve.diagonals ≡ 0)
     c.of.ensures.walk c.of.ensures.of_mesh
-    (λ sleeve is of_mesh same.
-    let walk : sleeve.walk ≡ c.in_ok-walk.walk.items = is ∙ c.deref.ensures.value in
+    (λ sleeve walk of_mesh same.
     let between = c.in_ok-walk.ensures in
     no_diagonal tris c.args.from c.count-count.ensures.tree c.requires.from sleeve of_mesh (rw (walk, same) (rw same at between)))
 
 pub returns-clause-sight : goal.returns-clause-sight
 returns-clause-sight c =
     let tris = c.args.mesh.now in
-    if_ok_both c.of.result (λ sleeve. sleeve.walk ≡ c.deref.result.now) (IsOneOf tris) (SeesThrough tris c.args.from c.args.to)
+    if_ok_both c.of.result (λ sleeve. sleeve.walk ≡ c.in_ok-walk.walk.items) (IsOneOf tris) (SeesThrough tris c.args.from c.args.to)
     c.of.ensures.walk c.of.ensures.of_mesh
-    (λ sleeve is of_mesh.
-    let walk : c.in_ok-walk.walk.items ≡ sleeve.walk = sym (is ∙ c.deref.ensures.value) in
-    sees_through tris sleeve of_mesh c.args.from c.args.to (subst (IsWalkBetween tris c.args.from c.args.to) walk c.in_ok-walk.ensures))
+    (λ sleeve walk of_mesh.
+    sees_through tris sleeve of_mesh c.args.from c.args.to
+    (subst (IsWalkBetween tris c.args.from c.args.to) (sym walk) c.in_ok-walk.ensures))

@@ -1,22 +1,20 @@
-use Rattle.std.proofs.Common.{refl, arith, sym, ◌∙◌}
-use Rattle.geo_text.proofs.Commands.{point_at}
-use Rattle.geo_text.proofs.Faults.{fixed_coordinate}
+use Rattle.std.proofs.Common.{FitsSigned, arith, refl, rules, w64}
+use Rattle.std.proofs.lemmas.Int.{to_z-of_z}
+use Rattle.geo_text.proofs.Commands.{point_read}
 use Rattle.geo_text.proofs.reading.path.Goals as goal
-use Rattle.geo_text.specs.Records.{plain_fields}
+use Rattle.geo_text.specs.Capped.{after_word}
 
-pub point-to-requires-clause-x : goal.point-to-requires-clause-x
-point-to-requires-clause-x c =
-    let none = sym c.fixed_fault.ensures ∙ c.in-None.is in
-    rw c.field-in-None-2.ensures (fixed_coordinate 4 (plain_fields c.args.row.now) 3 none (omega arith) (omega arith))
-
-pub point-to-requires-clause-y : goal.point-to-requires-clause-y
-point-to-requires-clause-y c =
-    let none = sym c.fixed_fault.ensures ∙ c.in-None.is in
-    rw c.field-in-None-3.ensures (fixed_coordinate 4 (plain_fields c.args.row.now) 4 none (omega arith) (omega arith))
-
-pub returns-in-None : goal.returns-in-None
-returns-in-None c =
-    let fields = plain_fields c.args.row.now in
-    let from = point_at fields 1 _ _ _ c.field.ensures c.field-in-None.ensures c.point-from.ensures in
-    let to = point_at fields 3 _ _ _ c.field-in-None-2.ensures c.field-in-None-3.ensures c.point-to.ensures in
-    rw (← c.fixed_fault.ensures, c.in-None.is, from, to) refl
+pub returns-in-Ok : goal.returns-in-Ok
+returns-in-Ok c =
+    let (none, read, small) = rw c.in-Ok.is at c.in_ok-numbers.ensures.numbers in
+    let count = rw c.in-Ok.is at c.in_ok-numbers.ensures.count in
+    let fields = after_word c.args.row.now in
+    let fits_1 : FitsSigned w64 c.index.result.now = search rules in
+    let fits_2 : FitsSigned w64 c.index-in-Ok.result.now = search rules in
+    let fits_3 : FitsSigned w64 c.index-in-Ok-2.result.now = search rules in
+    let fits_4 : FitsSigned w64 c.index-in-Ok-3.result.now = search rules in
+    let from = point_read fields c.in-Ok.numbers.items 0 _ _ _ read (omega arith)
+    c.index.ensures c.index-in-Ok.ensures (simp to_z-of_z at c.point-from.ensures) in
+    let to = point_read fields c.in-Ok.numbers.items 2 _ _ _ read (omega arith)
+    c.index-in-Ok-2.ensures c.index-in-Ok-3.ensures (simp to_z-of_z at c.point-to.ensures) in
+    rw (none, from, to) refl

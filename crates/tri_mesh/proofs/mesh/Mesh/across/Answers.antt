@@ -7,7 +7,7 @@ pub returns-clause-none : goal.returns-clause-none
 returns-clause-none c =
     let tris = c.args.self.now in
     let is : c.self.inside.tris.items ≡ tris = c.self.view_is in
-    let keeps = rw is at c.self.invariant in
+    let keeps = rw is at c.self.invariant.0 in
     let owner = kept_owner tris _ _ c.args.i c.args.side keeps c.requires.in_list c.requires.side c.index.ensures in
     none_iff_alone tris _ _ c.args.i keeps.sides c.requires.in_list (has_side_numbered (tri_at tris c.args.i) c.args.side c.requires.side) _ owner
 
@@ -15,7 +15,7 @@ pub returns-clause-some : goal.returns-clause-some
 returns-clause-some c =
     let tris = c.args.self.now in
     let is : c.self.inside.tris.items ≡ tris = c.self.view_is in
-    let keeps = rw is at c.self.invariant in
+    let keeps = rw is at c.self.invariant.0 in
     let owner = kept_owner tris _ _ c.args.i c.args.side keeps c.requires.in_list c.requires.side c.index.ensures in
     some_is_shared tris _ _ c.args.i keeps.sides c.requires.in_list (has_side_numbered (tri_at tris c.args.i) c.args.side c.requires.side) _ owner
 
@@ -23,7 +23,7 @@ pub returns-clause-edges : goal.returns-clause-edges
 returns-clause-edges c =
     let tris = c.args.self.now in
     let is : c.self.inside.tris.items ≡ tris = c.self.view_is in
-    let keeps = rw is at c.self.invariant in
+    let keeps = rw is at c.self.invariant.0 in
     let owner = kept_owner tris _ _ c.args.i c.args.side keeps c.requires.in_list c.requires.side c.index.ensures in
     let has = has_side_numbered (tri_at tris c.args.i) c.args.side c.requires.side in
     let alone = none_iff_alone tris _ _ c.args.i keeps.sides c.requires.in_list has _ owner in

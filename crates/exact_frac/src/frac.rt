@@ -1,0 +1,46 @@
+ghost use Rattle.std.specs.Int.{IsGcd};
+ghost use Rattle.std.specs.Prelude.{◌≡◌, ◌↔◌, ◌*ℤ◌, ◌<ℤ◌, IsTrue, pos};
+ghost use Rattle.exact_frac.specs.Lowest.{IsLowest};
+
+/// A fraction in lowest terms: the denominator is at least 1, and no number above 1 divides both parts.
+#[derive(Clone, Copy, Debug, PartialEq, Eq)]
+pub struct Frac {
+    pub num: i128,
+    pub den: i128,
+    pub ghost in_lowest_terms: { IsLowest num den },
+}
+
+impl Frac {
+    /// The fraction with the value `num` / `den`. Zero is 0 / 1.
+    pub fn lowest(num: i128, den: i128) -> Frac
+        requires { pos 0 <ℤ den }
+        ensures value { result.num *ℤ den ≡ num *ℤ result.den }
+        ensures zero { num ≡ pos 0 → (result.num ≡ pos 0) × (result.den ≡ pos 1) }
+    {
+        let divisor = common_divisor(num.unsigned_abs(), den.unsigned_abs()) as i128;
+        Frac {
+            num: num / divisor,
+            den: den / divisor,
+        }
+    }
+
+    /// Whether it is a whole number.
+    pub fn is_whole(&self) -> bool
+        ensures { IsTrue result ↔ (self.now.den ≡ pos 1) }
+    {
+        self.den == 1
+    }
+}
+
+// The greatest common divisor, by Euclid's algorithm.
+fn common_divisor(a: u128, b: u128) -> u128
+    ensures { IsGcd a b result }
+{
+    let (mut divisor, mut rest) = (a, b);
+    while rest != 0 {
+        let next = divisor % rest;
+        divisor = rest;
+        rest = next;
+    }
+    divisor
+}

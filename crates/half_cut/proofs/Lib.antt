@@ -1,0 +1,5 @@
+pub mod Blocks
+pub mod LeastCorners
+pub mod Links
+pub mod Tails
+pub mod TurnedBlocks

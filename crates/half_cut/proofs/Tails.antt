@@ -1,0 +1,167 @@
+-- What a cut adds to the corners that stay: the meetings of the two sides that it crosses, with their lines.
+use Rattle.std.proofs.Common.{◌≡◌, ◌≢◌, sym, subst, ap, ◌∙◌, ℕ, zero, suc, ◌-◌, ◌<◌, ◌≤◌, arith, false, IsTrue, List, [], ◌++◌, length, take, ℤ, pos, negsuc, ◌<ℤ◌, refl}
+use Rattle.std.proofs.lemmas.Int.{ints}
+use Rattle.std.proofs.lemmas.List.{get_or-take, get_or_append_left, length-take-le}
+use Rattle.std.specs.Prelude.{IfSome, None, Option, Some, is_some, option_to_list}
+use Rattle.integer_algebra.proofs.Signs.{is_negative, is_positive, is_zero, sign}
+use Rattle.plane.proofs.Regions.{Ends, at_corner, at_meeting, cut_of_polygon, cut_of_segment, meeting, not_parallel}
+use Rattle.plane.specs.Convex.{AreConvex, corner}
+use Rattle.plane.specs.Cut.{IsCut}
+use Rattle.plane.specs.Point.{IsPoint, Point, Triple, whole}
+use Rattle.plane.specs.Turn.{IsRight, IsStraight, determinant}
+use Rattle.exact_plane.proofs.Directions.{left_of_positive}
+use Rattle.exact_plane.specs.Direction.{direction_of, turn_of}
+use Rattle.exact_plane.specs.declared.direction.Direction.{Direction}
+use Rattle.exact_plane.specs.declared.direction.Direction.TheVariants.{Left}
+use Rattle.half_cut.proofs.Links.{on_at}
+use Rattle.half_cut.specs.Meeting.{IsFound}
+use Rattle.half_cut.specs.Outline.{AreLinked, AreLinkedRound, ComesRound, GoesOn, IsOnLine, Line, line_at}
+
+-- only a positive number is to the left
+positive_of_left : (z : ℤ) → direction_of z ≡ Left → pos 0 <ℤ z
+positive_of_left (pos zero) e = cc
+positive_of_left (pos (suc n)) e = omega (arith, ints)
+positive_of_left (negsuc n) e = cc
+
+module _ (a b : Point) (line : Line) (differ : line.0 ≢ line.1) (c d : Triple) (at_c : IsPoint c) (at_d : IsPoint d)
+    (on_c : IsOnLine line c)
+    (on_d : IsOnLine line d) (stays : ¬ (IsRight (whole a) (whole b) c)) (goes : IsRight (whole a) (whole b) d) (turn : Direction)
+    (is_turn : turn ≡ turn_of (whole a) (whole b) c) where
+  -- it is what a cut adds to the corner that stays
+  pub ends_found : (x : Option Triple) → IsFound a b line turn x → Ends (whole a) (whole b) c d (option_to_list x)
+  ends_found (Some x) found =
+      let left = positive_of_left (determinant (whole a) (whole b) c) (sym is_turn ∙ found.some refl) in
+      at_meeting x left (meeting a b line.0 line.1 c d at_c at_d differ on_c on_d left goes x found.rational found.on_line found.on_cut)
+      refl
+  ends_found None found = elim (sign (determinant (whole a) (whole b) c)) [
+    | is_negative h ↦ absurd (stays h)
+    | is_zero h ↦ at_corner h refl
+    | is_positive h ↦
+        let left = is_turn ∙ left_of_positive (determinant (whole a) (whole b) c) h in
+        absurd (not_parallel a b line.0 line.1 c d at_c at_d differ on_c on_d h goes (found.none refl left))
+  ]
+
+-- where nothing is added, the corner is on the line
+pub straight_of_none : (a b c d : Triple) (es : List Triple) → Ends a b c d es → es ≡ [] → IsStraight a b c
+straight_of_none a b c d es (at_corner straight none) e = straight
+straight_of_none a b c d es (at_meeting x left h one) e = absurd (cc (one, e))
+
+-- so the cut goes on from the last corner that stays, or from what is added
+pub goes_on_cut : (a b : Point) (cs : List Triple) (ls : List Line) (m : ℕ) (d : Triple) (x : Option Triple)
+    → Ends (whole a) (whole b) (corner cs (m - 1)) d (option_to_list x) → IfSome x (IsOnLine (line_at ls (m - 1)))
+    → IfSome x (IsStraight (whole a) (whole b)) → GoesOn cs ls m x (a, b)
+goes_on_cut a b cs ls m d None ends on_line on_cut = straight_of_none _ _ _ d [] ends refl
+goes_on_cut a b cs ls m d (Some x) ends on_line on_cut = (on_cut, on_line)
+
+-- where there is a meeting, the side's own line may go on from there
+goes_on_same : (cs : List Triple) (ls : List Line) (m : ℕ) (x : Option Triple) → IsTrue (is_some x) → IfSome x
+    (IsOnLine (line_at ls (m - 1)))
+    → GoesOn cs ls m x (line_at ls (m - 1))
+goes_on_same cs ls m None h on = absurd (cc h)
+goes_on_same cs ls m (Some x) h on = (on, on)
+
+-- nothing is no list
+nothing_to_list : (x : Option Triple) → is_some x ≡ false → option_to_list x ≡ []
+nothing_to_list None h = refl
+nothing_to_list (Some x) h = absurd (cc h)
+
+-- the line of the cut comes round to the first corner, or to what is added before it
+comes_round_cut : (a b : Point) (ds : List Triple) (ks : List Line) (line : Line) (c d : Triple) (x : Option Triple) → corner ds 0 ≡ c
+    → line_at ks (length ks - 1) ≡ (a, b) → Ends (whole a) (whole b) c d (option_to_list x) → IfSome x (IsOnLine line)
+    → IfSome x (IsStraight (whole a) (whole b)) → IsOnLine line c → ComesRound ds ks x line
+comes_round_cut a b ds ks line c d None same last ends on_line on_cut round = on_at last same
+    (straight_of_none (whole a) (whole b) c d [] ends refl)
+comes_round_cut a b ds ks line c d (Some x) same last ends on_line on_cut round =
+    (on_at {p = x} last refl on_cut, on_line, on_at {l = line} refl same round)
+
+-- corners of which some stay and some go are two, or three and more
+polygon_of : (cs : List Triple) (m : ℕ) → 0 < m → m < length cs → length cs ≢ 2 → 3 ≤ length cs
+polygon_of cs m some rest many = omega (arith, some, rest, many)
+
+-- ---- a whole cut, whose corners are read from the first that stays
+
+module _ (a b : Point) (cs : List Triple) (ls : List Line) (m : ℕ) (first last : Direction) (differ : a ≢ b) (convex : AreConvex cs)
+    (round : AreLinkedRound cs ls) (some : 0 < m) (rest : m < length cs)
+    (stay : (i : ℕ) → i < m → ¬ (IsRight (whole a) (whole b) (corner cs i)))
+    (go : (i : ℕ) → m ≤ i → i < length cs → IsRight (whole a) (whole b) (corner cs i))
+    (is_first : first ≡ turn_of (whole a) (whole b) (corner cs 0)) (is_last : last ≡ turn_of (whole a) (whole b) (corner cs (m - 1)))
+    (back : Option Triple) (found_back : IsFound a b (line_at ls (m - 1)) last back) where
+  linked : AreLinked cs ls
+  linked = round.linked
+
+  -- the end after the last corner that stays
+  pub ends_back : Ends (whole a) (whole b) (corner cs (m - 1)) (corner cs m) (option_to_list back)
+  ends_back =
+      ends_found a b (line_at ls (m - 1)) (linked.two_points (m - 1) (omega (arith, rest, linked.as_many))) (corner cs (m - 1))
+      (corner cs m)
+      (convex.rational (m - 1) (omega (arith, rest))) (convex.rational m rest) (linked.begins (m - 1) (omega (arith, rest)))
+      (on_at {l = line_at ls (m - 1)} refl (ap (λ k. corner cs k) (omega (arith, some)))
+      (linked.goes_on (m - 1) (omega (arith, some, rest))))
+      (stay (m - 1) (omega (arith, some))) (go m (omega arith) rest) last is_last back found_back
+
+  -- from it the line of the cut goes on
+  pub goes_on_whole : GoesOn cs ls m back (a, b)
+  goes_on_whole = goes_on_cut a b cs ls m (corner cs m) back ends_back found_back.on_line found_back.on_cut
+
+  -- or that of the side, where there is a meeting
+  pub goes_on_side : IsTrue (is_some back) → GoesOn cs ls m back (line_at ls (m - 1))
+  goes_on_side h = goes_on_same cs ls m back h found_back.on_line
+
+  -- the first corner stays the first
+  pub first_stays : corner (take m cs ++ option_to_list back) 0 ≡ corner cs 0
+  first_stays =
+      get_or_append_left (take m cs) (option_to_list back) _ 0 (omega (arith, some, length-take-le m cs (omega (arith, rest)))) ∙
+      get_or-take m cs 0 _ some
+
+  -- ---- a segment
+
+  module _ (two : length cs ≡ 2) where
+    one : m ≡ 1
+    one = omega (arith, two, some, rest)
+
+    -- what is left of it
+    pub segment_left : IsCut (whole a) (whole b) cs (take m cs ++ option_to_list back)
+    segment_left =
+        subst (λ k. IsCut (whole a) (whole b) cs (take k cs ++ option_to_list back)) (sym one)
+        (cut_of_segment (whole a) (whole b) cs convex two (stay 0 some) (go 1 (omega (arith, one)) (omega (arith, two)))
+        (option_to_list back)
+        (subst (λ k. Ends (whole a) (whole b) (corner cs (k - 1)) (corner cs k) (option_to_list back)) one ends_back))
+
+    -- the side's line comes back to the first corner,
+    pub side_comes_back : IsOnLine (line_at ls (m - 1)) (corner cs 0)
+    side_comes_back = subst (λ k. IsOnLine (line_at ls (k - 1)) (corner cs 0)) (sym one) (linked.begins 0 (omega (arith, two)))
+
+    -- and the line of the cut, where there is no meeting
+    pub cut_comes_back : is_some back ≡ false → IsOnLine (a, b) (corner cs 0)
+    cut_comes_back h =
+        subst (λ k. IsOnLine (a, b) (corner cs (k - 1))) one
+        (straight_of_none (whole a) (whole b) (corner cs (m - 1)) (corner cs m) (option_to_list back) ends_back (nothing_to_list back h))
+
+  -- ---- a polygon
+
+  module _ (many : length cs ≢ 2) (front : Option Triple) (found_front : IsFound a b (line_at ls (length ls - 1)) first front) where
+    three : 3 ≤ length cs
+    three = polygon_of cs m some rest many
+
+    -- the end before the first corner
+    pub ends_front : Ends (whole a) (whole b) (corner cs 0) (corner cs (length cs - 1)) (option_to_list front)
+    ends_front =
+        ends_found a b (line_at ls (length ls - 1)) (linked.two_points (length ls - 1) (omega (arith, rest, linked.as_many))) (corner cs 0)
+        (corner cs (length cs - 1)) (convex.rational 0 (omega (arith, rest))) (convex.rational (length cs - 1) (omega (arith, rest)))
+        (round.closes (omega (arith, rest)))
+        (on_at {p = corner cs (length cs - 1)} (ap (λ k. line_at ls (k - 1)) linked.as_many) refl
+        (linked.begins (length cs - 1) (omega (arith, rest))))
+        (stay 0 some) (go (length cs - 1) (omega (arith, rest)) (omega (arith, rest))) first is_first front found_front
+
+    -- what is left of it
+    pub polygon_left : IsCut (whole a) (whole b) cs ((take m cs ++ option_to_list back) ++ option_to_list front)
+    polygon_left = cut_of_polygon (whole a) (whole b) cs convex m some rest stay go three (option_to_list back) (option_to_list front)
+        ends_back ends_front
+
+    -- the last line comes round
+    pub comes_round_whole : (ds : List Triple) (ks : List Line) → corner ds 0 ≡ corner cs 0 → line_at ks (length ks - 1) ≡ (a, b)
+        → ComesRound ds ks front (line_at ls (length ls - 1))
+    comes_round_whole ds ks same ends =
+        comes_round_cut a b ds ks (line_at ls (length ls - 1)) (corner cs 0) (corner cs (length cs - 1)) front same ends ends_front
+        found_front.on_line
+        found_front.on_cut (round.closes (omega (arith, rest)))

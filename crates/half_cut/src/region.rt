@@ -1,0 +1,86 @@
+ghost use Rattle.std.specs.Prelude.{◌≡◌, ◌<◌, ◌≤◌, ◌^◌, IfOk, length};
+ghost use Rattle.plane.specs.Convex.{corner};
+ghost use Rattle.plane.specs.Point.{IsInLimit, whole};
+ghost use Rattle.plane.specs.Region.{AreCorners, IsCornerList};
+ghost use Rattle.plane.specs.Square.{IsInSquare};
+
+use exact_plane::{Hom, Memory, Pt};
+use plane::MAX_COORDINATE;
+use std::alloc::Global;
+use std::marker::Model;
+
+// A line through two whole-number points.
+pub(crate) type Line = (Pt, Pt);
+
+/// A closed convex region: nothing, a point, a segment, or a strictly convex polygon. Its corners run counterclockwise from the
+/// lexicographically least one; with each it keeps the line of the side to the next.
+#[derive(Drop)]
+pub struct Region {
+    pub(crate) corners: Vec<Hom>,
+    pub(crate) lines: Vec<Line>,
+}
+
+impl Model for Region {
+    ghost use Rattle.half_cut.specs.Outline.{IsOutline, Outline};
+
+    ghost Value = { Outline };
+
+    ghost view = { λ region. record { corners = region.corners.items; lines = region.lines.items } };
+
+    ghost invariant = { λ region. IsOutline region.corners.items region.lines.items };
+}
+
+const FAR: i64 = MAX_COORDINATE as i64;
+
+impl Region {
+    /// The square of all points whose coordinates are within the limit.
+    pub fn all(alloc: Global) -> Result<Region, Memory>
+        ensures square { IfOk result (λ region. IsCornerList IsInSquare region.corners) }
+        ensures four { IfOk result (λ region. length region.corners ≡ 4) }
+    {
+        let (a, b) = (corner_at(-FAR, -FAR), corner_at(FAR, -FAR));
+        let (c, d) = (corner_at(FAR, FAR), corner_at(-FAR, FAR));
+        let corners = Vec::from_array(alloc, [a, b, c, d])?;
+        let (a, b) = (point_at(-FAR, -FAR), point_at(FAR, -FAR));
+        let (c, d) = (point_at(FAR, FAR), point_at(-FAR, FAR));
+        let lines = Vec::from_array(alloc, [(a, b), (b, c), (c, d), (d, a)])?;
+        Ok(Region { corners, lines })
+    }
+
+    /// How many corners there are.
+    pub fn count(&self) -> u32
+        ensures number { result ≡ length self.now.corners }
+
+        // What holds of every region.
+        ensures corners { AreCorners self.now.corners }
+        ensures few { length self.now.corners ≤ 2 ^ 31 }
+    {
+        self.corners.len() as u32
+    }
+
+    /// Corner `i`.
+    pub fn corner(&self, i: u32) -> Hom
+        requires { i < length self.now.corners }
+        ensures { result ≡ corner self.now.corners i }
+    {
+        self.corners[i as usize]
+    }
+}
+
+// The corner with these coordinates.
+fn corner_at(x: i64, y: i64) -> Hom
+    requires x { IsInLimit x }
+    requires y { IsInLimit y }
+    ensures { result ≡ whole (record { x = x; y = y }) }
+{
+    Hom::of_whole(x, y).unwrap()
+}
+
+// The point with these coordinates.
+fn point_at(x: i64, y: i64) -> Pt
+    requires x { IsInLimit x }
+    requires y { IsInLimit y }
+    ensures { result ≡ record { x = x; y = y } }
+{
+    Pt::of(x, y).unwrap()
+}

@@ -1,0 +1,32 @@
+-- Closed convex regions by their corners, and what a cut along a line leaves of them.
+
+-- Corners in convex position: one more, the first some of them, and the corner list that they make.
+mod Corners
+pub use Rattle.plane.proofs.Regions.Corners.{corners_of_convex}
+-- The points that are right of no side of a polygon, by its corners one after another.
+mod Sides
+-- Signs of means of two and of three numbers, where some weights or numbers are not 0.
+mod Weighing
+-- Corners read from another one on: they are convex as before, and have the same region.
+mod Turned
+pub use Rattle.plane.proofs.Regions.Turned.{convex_turned, length_turned, region_turned}
+-- A point of a region is a mean of corners: in three corners or more, of the first and two neighbours.
+mod Fans
+pub use Rattle.plane.proofs.Regions.Fans.{region_not_right, region_right}
+-- Where a line through whole points meets another between two points of it, of which one is left of that and one right.
+mod LineMeetings
+pub use Rattle.plane.proofs.Regions.LineMeetings.{Ends, at_corner, at_meeting, meeting, not_parallel}
+-- The corners of a polygon of which a line cuts some away.
+mod CutCorners
+-- Corners, meetings and points beside lines.
+mod Beside
+-- A polygon of which a line cuts some corners away.
+mod CutPolygons
+-- A segment of which a line cuts the last end away.
+mod CutSegments
+-- A region cut along a line, whole: its corners, from wherever they are read, and its points.
+mod Cuts
+pub use Rattle.plane.proofs.Regions.Cuts.{all_cut, corners_of_cut, cut_from, cut_of_polygon, cut_of_segment, cut_to, none_cut, one_block}
+-- The square of the limit, by its corners.
+mod Squares
+pub use Rattle.plane.proofs.Regions.Squares.{square, square_corners}

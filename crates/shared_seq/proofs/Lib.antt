@@ -1,0 +1,4 @@
+pub mod Appends
+pub mod Digits
+pub mod Heights
+pub mod Opened

@@ -1,0 +1,7 @@
+-- The number of binary digits of a number.
+use Rattle.std.specs.Prelude.{ℕ, length}
+use Rattle.std.specs.Int.Digits.{digits_of}
+
+-- how many binary digits n has; 0 has none
+unfoldable pub binary_digits : ℕ → ℕ
+binary_digits n = length (digits_of 2 n)

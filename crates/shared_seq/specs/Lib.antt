@@ -1,0 +1,4 @@
+pub mod Digits
+pub mod Node
+pub mod Seq
+pub mod Tree

@@ -1,0 +1,10 @@
+//! Lists of numbers that share their nodes: each call makes a new list and leaves its arguments as they were.
+#![tactic(auto)]
+
+mod node;
+mod seq;
+#[cfg(test)]
+mod tests;
+mod tree;
+
+pub use seq::SharedSeq;

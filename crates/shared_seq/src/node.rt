@@ -1,0 +1,122 @@
+// A node of a height-balanced tree, with its values at the leaves. Making a node and opening one are steps; its height and
+// its count are told without one. No node is changed.
+ghost use Rattle.std.specs.Prelude.{◌≡◌, ◌+◌, ◌^◌, ◌<◌, ◌≤◌, [], ◌∷◌, IfOk, length};
+ghost use Rattle.shared_seq.specs.Tree.{DifferByAtMost, IsTree, forked};
+ghost use Rattle.shared_seq.specs.Node.{AreNear, tree_of};
+
+use exact_plane::{Memory, Steps};
+use std::alloc::Global;
+use std::marker::Model;
+use std::rc::Rc;
+use std::sync::ledger::Ledger;
+
+#[cycle(node)]
+#[derive(Drop)]
+pub(crate) struct Node {
+    held: Held,
+    height: u32,
+    count: usize,
+}
+
+// What a node holds: a value, or two nodes whose heights differ by at most one.
+#[cycle(node)]
+#[derive(Drop)]
+pub(crate) enum Held {
+    Leaf(u32),
+    Fork(Rc<Node>, Rc<Node>),
+}
+
+impl Model for Node {
+    ghost use Rattle.shared_seq.specs.Tree.{Tree};
+
+    ghost Value = { Tree };
+
+    ghost use Rattle.shared_seq.specs.Node.{IsNode, tree_of};
+
+    ghost view = { λ node. tree_of node.held };
+
+    ghost invariant = { λ node. IsNode node.held node.height node.count };
+
+    ghost size = { λ tree. tree.height };
+
+    ghost use Rattle.std.proofs.Common.{arith};
+
+    ghost size_decreases = { λ a h. Prim.grind arith };
+}
+
+impl Node {
+    // A leaf with one value.
+    pub(crate) fn leaf<L: Ledger>(
+        alloc: Global,
+        value: u32,
+        steps: &mut Steps<L>,
+    ) -> Result<Rc<Node>, Memory>
+        ensures items { IfOk result (λ node. node.value.items ≡ value ∷ []) }
+        ensures height { IfOk result (λ node. node.value.height ≡ 0) }
+        ensures steps { steps.new ≡ steps.old + 1 }
+    {
+        let leaf = Node {
+            held: Held::Leaf(value),
+            height: 0,
+            count: 1,
+        };
+        Node::made(alloc, leaf, steps)
+    }
+
+    // A fork over two nodes, the values of the left one first.
+    pub(crate) fn fork<L: Ledger>(
+        alloc: Global,
+        left: &Rc<Node>,
+        right: &Rc<Node>,
+        steps: &mut Steps<L>,
+    ) -> Result<Rc<Node>, Memory>
+        requires short { length left.now.value.items + length right.now.value.items < 2 ^ 31 }
+        requires near { DifferByAtMost 1 left.now.value.height right.now.value.height }
+        ensures tree { IfOk result (λ node. node.value ≡ forked left.now.value right.now.value) }
+        ensures steps { IfOk result (λ _. steps.new ≡ steps.old + 1) }
+        ensures memory { steps.new ≤ steps.old + 1 }
+    {
+        let fork = Node {
+            held: Held::Fork(left.clone()?, right.clone()?),
+            height: left.height().max(right.height()) + 1,
+            count: left.count() + right.count(),
+        };
+        Node::made(alloc, fork, steps)
+    }
+
+    // The node, to be shared.
+    fn made<L: Ledger>(alloc: Global, node: Node, steps: &mut Steps<L>) -> Result<Rc<Node>, Memory>
+        ensures node { IfOk result (λ made. made.value ≡ node) }
+        ensures steps { steps.new ≡ steps.old + 1 }
+    {
+        steps.tick();
+        Ok(Rc::new(alloc, node)?)
+    }
+
+    // What it holds.
+    pub(crate) fn open<L: Ledger>(&self, steps: &mut Steps<L>) -> &Held
+        ensures tree { tree_of result.now ≡ self.now }
+        ensures near { AreNear result.now }
+        ensures short { length self.now.items < 2 ^ 31 }
+        ensures steps { steps.new ≡ steps.old + 1 }
+    {
+        steps.tick();
+        &self.held
+    }
+
+    // How many forks are above the deepest leaf.
+    pub(crate) fn height(&self) -> u32
+        ensures number { result ≡ self.now.height }
+        ensures tree { IsTree self.now }
+    {
+        self.height
+    }
+
+    // How many values it has.
+    pub(crate) fn count(&self) -> usize
+        ensures number { result ≡ length self.now.items }
+        ensures tree { IsTree self.now }
+    {
+        self.count
+    }
+}

@@ -1,0 +1,148 @@
+ghost use Rattle.std.specs.Prelude.{◌≡◌, ◌<◌, ◌^◌, ◌↔◌, IfOk, IsTrue, OnOk, length};
+ghost use Rattle.meshes.specs.Mesh.{side_begin, side_end};
+ghost use Rattle.meshes.specs.Side.{HasSide, HasSidesOnce, tri_at};
+ghost use Rattle.tri_mesh.specs.Neighbours.{IsOwner, KeepsNeighbours};
+ghost use Rattle.tri_mesh.specs.Outward.{IsRooted, outward_at};
+ghost use Rattle.tri_mesh.specs.Search.{IsDone, IsGrown, IsReached, IsSearch, IsSideDone};
+
+use crate::outward::Outward;
+use exact_plane::Memory;
+use meshes::Tri;
+use std::alloc::Global;
+
+// The triangles that were reached, in their order, and for each of them its place in it.
+#[derive(Drop)]
+pub(crate) struct Search {
+    pub order: Vec<Outward>,
+    pub places: Vec<u32>,
+}
+
+impl Search {
+    // The search from one triangle that has reached all.
+    pub(crate) fn from(
+        alloc: Global,
+        tris: &[Tri],
+        rows: &[[Option<u32>; 3]],
+        home: u32,
+    ) -> Result<Search, Memory>
+        requires keeps { KeepsNeighbours tris.now rows.now }
+        requires home { home < length tris.now }
+        ensures { IfOk result (λ search. IsRooted tris.now home search.order.items search.places.items) }
+    {
+        let mut search = Search::start(alloc, tris, home)?;
+        let mut place = 0u32;
+        while (place as usize) < search.order.len() {
+            search.expand(tris, rows, place)?;
+            place += 1;
+        }
+        Ok(search)
+    }
+
+    // The search that has reached one triangle.
+    fn start(alloc: Global, tris: &[Tri], home: u32) -> Result<Search, Memory>
+        requires few { length tris.now < 2 ^ 30 }
+        requires home { home < length tris.now }
+        ensures search { IfOk result (λ search. IsSearch tris.now search.order.items search.places.items) }
+        ensures first { IfOk result (λ search. (outward_at search.order.items 0).tri ≡ home) }
+    {
+        let places = vec![in alloc; 0; tris.len()]?;
+        let mut order = Vec::with_capacity(alloc, tris.len())?;
+        order.push(Outward {
+            tri: home,
+            toward: 0,
+            side: 0,
+        })?;
+        Ok(Search { order, places })
+    }
+
+    // Reaches the triangles that share a side with the one at a place.
+    fn expand(&mut self, tris: &[Tri], rows: &[[Option<u32>; 3]], place: u32) -> Result<(), Memory>
+        requires keeps { KeepsNeighbours tris.now rows.now }
+        requires search { IsSearch tris.now self.old.order.items self.old.places.items }
+        requires place { place < length self.old.order.items }
+        ensures search { OnOk result (IsSearch tris.now self.new.order.items self.new.places.items) }
+        ensures grown { OnOk result (IsGrown self.old.order.items self.new.order.items) }
+        ensures done { OnOk result (IsDone tris.now self.new.order.items (outward_at self.old.order.items place).tri) }
+    {
+        let k = self.order[place as usize].tri;
+        let tri = tris[k as usize];
+        let row = rows[k as usize];
+        self.reach(tris, place, row[0], tri.b, tri.a)?;
+        self.reach(tris, place, row[1], tri.c, tri.b)?;
+        self.reach(tris, place, row[2], tri.a, tri.c)
+    }
+
+    // Reaches the triangle with the side from one corner to another, if there is one, from the triangle at a place, which
+    // has this side in the other direction.
+    fn reach(
+        &mut self,
+        tris: &[Tri],
+        place: u32,
+        owner: Option<u32>,
+        from: u32,
+        to: u32,
+    ) -> Result<(), Memory>
+        requires sides { HasSidesOnce tris.now }
+        requires search { IsSearch tris.now self.old.order.items self.old.places.items }
+        requires place { place < length self.old.order.items }
+        requires owner { IsOwner tris.now from to owner }
+        requires back { HasSide (tri_at tris.now (outward_at self.old.order.items place).tri) to from }
+        ensures search { OnOk result (IsSearch tris.now self.new.order.items self.new.places.items) }
+        ensures grown { OnOk result (IsGrown self.old.order.items self.new.order.items) }
+        ensures done { OnOk result (IsSideDone tris.now self.new.order.items from to) }
+    {
+        match owner {
+            Some(k) => self.add(tris, place, k, from, to),
+            None => Ok(()),
+        }
+    }
+
+    // Reaches a triangle with this side, where it is new.
+    fn add(&mut self, tris: &[Tri], place: u32, k: u32, from: u32, to: u32) -> Result<(), Memory>
+        requires search { IsSearch tris.now self.old.order.items self.old.places.items }
+        requires place { place < length self.old.order.items }
+        requires in_list { k < length tris.now }
+        requires has { HasSide (tri_at tris.now k) from to }
+        requires back { HasSide (tri_at tris.now (outward_at self.old.order.items place).tri) to from }
+        ensures search { OnOk result (IsSearch tris.now self.new.order.items self.new.places.items) }
+        ensures grown { OnOk result (IsGrown self.old.order.items self.new.order.items) }
+        ensures reached { OnOk result (IsReached self.new.order.items k) }
+    {
+        if !self.has(tris, k) {
+            let side = side_from(&tris[k as usize], from, to);
+            self.places[k as usize] = self.order.len() as u32;
+            self.order.push(Outward {
+                tri: k,
+                toward: place,
+                side,
+            })?;
+        }
+        Ok(())
+    }
+
+    // Whether a triangle was reached: then it is at its place.
+    fn has(&self, tris: &[Tri], k: u32) -> bool
+        requires search { IsSearch tris.now self.now.order.items self.now.places.items }
+        requires in_list { k < length tris.now }
+        ensures { IsTrue result ↔ IsReached self.now.order.items k }
+    {
+        let _count = tris.len();
+        self.order[self.places[k as usize] as usize].tri == k
+    }
+}
+
+// The number of the side from one corner to another.
+fn side_from(tri: &Tri, from: u32, to: u32) -> u32
+    requires { HasSide tri.now from to }
+    ensures number { result < 3 }
+    ensures from { side_begin tri.now result ≡ from }
+    ensures to { side_end tri.now result ≡ to }
+{
+    if tri.a == from && tri.b == to {
+        0
+    } else if tri.b == from && tri.c == to {
+        1
+    } else {
+        2
+    }
+}
