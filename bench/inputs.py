@@ -51,6 +51,41 @@ def saw(n):
     return [(0, 0), (width // 2, -1), (width, 0)] + [(x, 2 - x % 2) for x in reversed(range(width + 1))]
 
 
+def maze(n):
+    """The boundary of a maze without rounds: corridors of width 1 along a random tree."""
+    corners = {0: 4, 1: 2, 2: 2, 3: 2, 4: 4}
+    ways = [(1, 0), (0, 1), (-1, 0), (0, -1)]
+    draw, open_ways, missing = random.Random(n), {(0, 0): set()}, n - 4
+
+    def count(of):
+        return 0 if of in ({0, 2}, {1, 3}) else corners[len(of)]
+
+    while missing:
+        (x, y), way = draw.choice(list(open_ways)), draw.randrange(4)
+        there = (x + ways[way][0], y + ways[way][1])
+        more = count(open_ways[x, y] | {way}) - count(open_ways[x, y]) + 2
+        if there not in open_ways and more <= missing:
+            open_ways[x, y].add(way)
+            open_ways[there] = {(way + 2) % 4}
+            missing -= more
+    squares = {(2 * x, 2 * y) for x, y in open_ways}
+    squares |= {(2 * x + ways[way][0], 2 * y + ways[way][1]) for (x, y), out in open_ways.items() for way in out}
+    after = {}
+    for x, y in squares:
+        for way, begin, end in ((3, (x, y), (x + 1, y)), (0, (x + 1, y), (x + 1, y + 1)),
+                                (1, (x + 1, y + 1), (x, y + 1)), (2, (x, y + 1), (x, y))):
+            if (x + ways[way][0], y + ways[way][1]) not in squares:
+                after[begin] = end
+    first = min(after)
+    ring, here = [], first
+    while not ring or here != first:
+        before, here = here, after[here]
+        beyond = after[here]
+        if (here[0] - before[0], here[1] - before[1]) != (beyond[0] - here[0], beyond[1] - here[1]):
+            ring.append(here)
+    return ring
+
+
 def vertices(ring, count):
     """Vertices of a ring at random."""
     draw = random.Random(count)
