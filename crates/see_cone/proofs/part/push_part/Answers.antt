@@ -15,7 +15,7 @@ returns-in_ok-push-in-Some-clause-parts g c =
     let last = rw (c.corner-r.ensures, c.corner-l.ensures, c.len-n.ensures.number) at through.last in
     let cone = rw (c.corner-r.ensures, c.corner-l.ensures, c.len-n.ensures.number) at (sym c.narrowed.ensures.cone ∙ c.in-Some.is) in
     rw c.in_ok-push-in-Some.ensures.items
-    (first_part corners q c.args.i c.args.parts.now.items c.requires.before c.part_through.result through.edge
+    (first_part corners q c.args.i c.args.parts.now.items c.requires.before c.part_through.result (omega (arith, through.edge))
     (c.requires.told.part c.in-Some.cone cone c.part_through.result.first c.part_through.result.last first last))
 
 pub returns-in-None-clause-parts : goal.returns-in-None-clause-parts
