@@ -1,4 +1,4 @@
--- Walks in a tree: there is one between each two triangles, and each path is one.
+-- Walks in a tree: there is one between each two triangles.
 use Rattle.std.proofs.Common.{◌≡◌, refl, sym, ap, ◌∙◌, ℕ, ◌<◌, List, [], ◌∷◌, length, arith}
 use Rattle.std.specs.Prelude.{Err, IfOk, Ok, Result}
 use Rattle.meshes.proofs.Walks.{between_of_path}
