@@ -1,10 +1,9 @@
 -- Where a point is in the list that a ring was made of, and the line that says it.
-use Rattle.std.proofs.Common.{◌≡◌, ◌↔◌, Bool, true, false, if◌then◌else◌, List, refl}
-use Rattle.plane.specs.Point.{Point, Triple, whole}
+use Rattle.std.proofs.Common.{◌≡◌, ◌↔◌, List, refl}
+use Rattle.plane.specs.Point.{Point, whole}
 use Rattle.rings.proofs.Inside.{on_some_either}
 use Rattle.rings.specs.Edge.{IsOnSome, edges_of}
 use Rattle.rings.specs.Inside.{IsIn}
-use Rattle.rings.specs.Orientation.{turned_round}
 use Rattle.ring_check.specs.Oriented.{Oriented, given_of}
 use Rattle.inside_test.specs.declared.position.Position.{Position}
 use Rattle.inside_test.specs.declared.position.Position.TheVariants as position
