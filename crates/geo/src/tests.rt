@@ -80,7 +80,7 @@ fn plain(number: u32, script: &'static [u8], output: &'static [u8]) -> Row {
 #[test]
 #[rattlefmt::skip]
 fn worked_scripts(rt: HostRuntime) -> Result<(), Fail> {
-    let rows: [Row; 27] = [
+    let rows: [Row; 30] = [
         plain(1, b"polygon,0,0,4,0,4,2,2,2,2,4,0,4\n", b"polygon,6\n"),
         plain(2, b"", b""),
         plain(3, b"polygon,0,0,4,4,4,0,0,4\n", b"bad,clash,0,2\n"),
@@ -94,6 +94,10 @@ fn worked_scripts(rt: HostRuntime) -> Result<(), Fail> {
         plain(11, b"polygon,0,0,4,0,4,2,2,2,2,4,0,4\npath,1,1,1,1\npath,2,2,2,2\n", b"polygon,6\npath,1,1,1\npath,1,2,2\n"),
         plain(12, b"polygon,0,0,4,0,4,2,2,2,2,4,0,4\npath,3,3,1,1\npath,1,1,3,3\npath,3,3,3,3\n",
             b"polygon,6\nbad,outside,1\nbad,outside,2\nbad,outside,1\n"),
+        plain(14, b"polygon,0,0,5,0,5,2,3,2,3,5,0,5\nsee,5,1\n",
+            b"polygon,6\nsee,5\npart,0,0,0,5,0\npart,1,5,0,5,2\npart,2,5,2,3,2\npart,3,3,2,3,2\npart,5,0,7/2,0,0\n"),
+        plain(15, b"polygon,0,0,4,0,4,2,2,2,2,4,0,4\nkernel\npolygon,0,0,2,0,2,1,4,1,4,2,1,2,1,1,0,1\nkernel\npolygon,0,0,6,0,6,4,4,4,4,2,2,2,2,4,0,4\nkernel\n",
+            b"polygon,6\nkernel,4\ncorner,0,0\ncorner,2,0\ncorner,2,2\ncorner,0,2\npolygon,8\nkernel,2\ncorner,1,1\ncorner,2,1\npolygon,8\nkernel,0\n"),
         plain(17, b"polygon,0,0,4,0,4,2,2,2,2,4,0,4\ncheck,4,1,2,2,1,4\ncheck,4,0,2,2,0,4\n", b"polygon,6\ntaut\nnot,straight,1\n"),
         Row { failing_read: 2, room: 100, answer: Err(RunFault::ReadFault), ..plain(19, b"polygon,0,0", b"") },
         Row { failing_write: 3, room: 100, answer: Err(RunFault::WriteFault),
@@ -104,20 +108,19 @@ fn worked_scripts(rt: HostRuntime) -> Result<(), Fail> {
             b"polygon,6\ninside\nedge\nedge\noutside\ninside\n"),
         plain(22, b"polygon,0,0,4,0,4,2,2,2,2,4,0,4\ncheck,4,1,1,4\ncheck,4,1,4,1\ncheck,0,0,1,1,2,2\ncheck,4,2,2,2,0,0\ncheck,3,3\ncheck,1,1\n",
             b"polygon,6\nnot,leaves,0\nnot,repeat,0\nnot,not_reflex,1\nnot,wrong_side,1\nnot,leaves,0\ntaut\n"),
-        // without `kernel`
-        plain(23, b"frob,1\npolygon,0,0,1\npolygon,0,0,1,1\npolygon,0,0,x,0,0,9999999\npath,1,x,1,1\npath,1,2,3\ncheck\ninside,,1\ngeo,2\n",
-            b"bad,word\nbad,fields\nbad,few\nbad,number,3\nbad,number,2\nbad,fields\nbad,few\nbad,number,1\nbad,word\n"),
+        plain(23, b"frob,1\npolygon,0,0,1\npolygon,0,0,1,1\npolygon,0,0,x,0,0,9999999\nkernel\npath,1,x,1,1\npath,1,2,3\ncheck\ninside,,1\ngeo,2\n",
+            b"bad,word\nbad,fields\nbad,few\nbad,number,3\nbad,no_polygon\nbad,number,2\nbad,fields\nbad,few\nbad,number,1\nbad,word\n"),
         plain(24, b"polygon,0,0,4,0,4,2,2,2,2,4,0,4\npolygon,0,0,4,4,4,0,0,4\ninside,1,1\n", b"polygon,6\nbad,clash,0,2\ninside\n"),
-        // without `kernel`
-        plain(28, b"polygon,0,0,6,0,3,1,0,5\n", b"polygon,4\n"),
+        plain(27, b"polygon,0,0,2,0,2,1,4,1,4,2,1,2,1,1,0,1\nsee,0,1\n",
+            b"polygon,8\nsee,7\npart,0,0,0,2,0\npart,1,2,0,2,1\npart,2,2,1,4,1\npart,3,4,1,4,1\npart,5,1,1,1,1\npart,6,1,1,0,1\npart,7,0,1,0,0\n"),
+        plain(28, b"polygon,0,0,6,0,3,1,0,5\nkernel\n", b"polygon,4\nkernel,4\ncorner,0,0\ncorner,15/4,0\ncorner,3,1\ncorner,0,2\n"),
         plain(30, b"polygon,0,0,6,0,6,4,4,4,4,2,2,2,2,4,0,4\npath,5,4,1,4\n", b"polygon,8\npath,4,5,4,4,2,2,2,1,4\n"),
-        // without `see`
-        plain(31, b"polygon,0,5,3,5,3,2,5,2,5,0,0,0\n", b"polygon,6\n"),
+        plain(31, b"polygon,0,5,3,5,3,2,5,2,5,0,0,0\nsee,5,1\n",
+            b"polygon,6\nsee,5\npart,1,3,2,3,2\npart,2,3,2,5,2\npart,3,5,2,5,0\npart,4,5,0,0,0\npart,5,0,0,0,7/2\n"),
         plain(32, b"polygon,0,0,0,0,4,0,0,4\npolygon,1,1,1,1,1,1\n", b"bad,clash,0,1\nbad,clash,0,1\n"),
         plain(33, b"polygon,0,0,4,0,4,2,2,2,2,4,0,4\n path ,+4,01,1,004", b"polygon,6\npath,3,4,1,2,2,1,4\n"),
-        // without `kernel`
-        plain(34, b"polygon,0,0,9000,0,9000,4000,5000,4000,5000,4200,9000,4200,9000,8000,0,8000,0,4200,3000,4200,3000,4000,0,4000\npath,8000,1000,8000,7000\ninside,7000,4100\n",
-            b"polygon,12\npath,4,8000,1000,5000,4000,5000,4200,8000,7000\noutside\n"),
+        plain(34, b"polygon,0,0,9000,0,9000,4000,5000,4000,5000,4200,9000,4200,9000,8000,0,8000,0,4200,3000,4200,3000,4000,0,4000\npath,8000,1000,8000,7000\ninside,7000,4100\nkernel\n",
+            b"polygon,12\npath,4,8000,1000,5000,4000,5000,4200,8000,7000\noutside\nkernel,0\n"),
         // without `hull`
         plain(37, b"polygon,0,0,4,0,4,2,2,2,2,4,0,4\ninside,1000001,0\n", b"polygon,6\nbad,range,1\n"),
     ];
@@ -154,8 +157,8 @@ fn output(alloc: Global, script: &[u8]) -> Result<Vec<u8>, Memory> {
 #[test]
 #[rattlefmt::skip]
 fn more_scripts(rt: HostRuntime) -> Result<(), Fail> {
-    let rows: [(&str, &[u8], &[u8]); 14] = [
-        ("words that nothing answers yet", b"tree,1,1\nreach,1\nsee\nkernel,1\nhull\n", b"bad,later\nbad,later\nbad,later\nbad,later\nbad,later\n"),
+    let rows: [(&str, &[u8], &[u8]); 15] = [
+        ("words that nothing answers yet", b"tree,1,1\nreach,1\nhull\n", b"bad,later\nbad,later\nbad,later\n"),
         ("a polygon without points", b"polygon\n", b"bad,few\n"),
         ("blanks and signs", b" polygon ,+0,00,4, 0,\t4,4\t", b"polygon,3\n"),
         ("a refusal keeps what follows", b"polygon,0,0,4,4,4,0,0,4\npolygon,0,0,4,0,0,4\n", b"bad,clash,0,2\npolygon,3\n"),
@@ -175,6 +178,8 @@ fn more_scripts(rt: HostRuntime) -> Result<(), Fail> {
             b"polygon,6\npath,1,0,0\nbad,outside,1\n"),
         ("refusals of path", b"path,0,0,1,1\npath,0,0,1\npath,0,0,1,x\npath,0,0,1,1000001\n",
             b"bad,no_polygon\nbad,fields\nbad,number,4\nbad,range,4\n"),
+        ("refusals of see and kernel", b"see,0,0\nkernel\npolygon,0,0,4,0,4,2,2,2,2,4,0,4\nsee\nsee,1\nsee,1,x\nsee,1,1000001\nsee,3,3\nkernel,1\n",
+            b"bad,no_polygon\nbad,no_polygon\npolygon,6\nbad,fields\nbad,fields\nbad,number,2\nbad,range,2\nbad,outside,1\nbad,fields\n"),
         ("an open quote", b"\"frob,1", b"bad,word\n"),
     ];
     for (name, script, want) in rows {

@@ -7,4 +7,8 @@ mod SleeveRoom
 mod WalkedNames
 mod LocatedIn
 mod OneVerdict
+mod GivenView
+mod GivenKernel
+mod Fronts
+mod OneView
 mod OneAnswer

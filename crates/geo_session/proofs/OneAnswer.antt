@@ -13,9 +13,10 @@ use Rattle.geo_text.specs.declared.command.Command.TheVariants as command
 use Rattle.taut_check.specs.declared.verdict.Verdict.{Verdict}
 use Rattle.taut_check.specs.declared.verdict.Verdict.TheVariants as verdict
 use Rattle.geo_session.proofs.OneVerdict.{one_verdict}
-use Rattle.geo_session.specs.Answer.{AcceptsPolygon, IsInsideText, IsCheckText, IsPathIn, IsPathText, IsPlaceText, IsReadingAnswer}
-use Rattle.geo_session.specs.Answer.{IsVerdictText, RefusesPolygon, State, TellsPath, TellsVerdict, first_outside, found, inside, on_edge, outside}
-use Rattle.geo_session.specs.Answer.{path_text, second_outside}
+use Rattle.geo_session.proofs.OneView.{one_kernel, one_view}
+use Rattle.geo_session.specs.Answer.{AcceptsPolygon, IsInsideText, IsCheckText, IsKernelText, IsPathIn, IsPathText, IsPlaceText, IsReadingAnswer}
+use Rattle.geo_session.specs.Answer.{IsSeeText, IsVerdictText, IsViewIn, RefusesPolygon, State, TellsPath, TellsVerdict, first_outside, found}
+use Rattle.geo_session.specs.Answer.{inside, on_edge, outside, path_text, second_outside, sees, sees_nothing}
 use Rattle.geo_session.specs.Laws.{OneAnswerLaw, OneOutputLaw}
 use Rattle.geo_session.specs.Output.{AreAnswers}
 
@@ -82,6 +83,15 @@ module _ (ring : List Point) (s t : Point) (one other : List ℕ) where
   one_path_in (found _ within e) (second_outside _ out f) = absurd (out within)
   one_path_in (found _ _ e) (found _ _ f) = one_path e f
 
+-- ---- what a point sees, and the kernel
+
+module _ (ring : List Point) (q : Point) (one other : List ℕ) where
+  one_view_in : IsViewIn ring q one → IsViewIn ring q other → one ≡ other
+  one_view_in (sees_nothing _ e) (sees_nothing _ f) = both e f
+  one_view_in (sees_nothing out e) (sees within _) = absurd (out within)
+  one_view_in (sees within _) (sees_nothing out f) = absurd (out within)
+  one_view_in (sees _ e) (sees _ f) = one_view ring q one other e f
+
 -- ---- a command
 
 one_inside : (before : State) (p : Point) (one other : List ℕ) → IsInsideText before p one → IsInsideText before p other → one ≡ other
@@ -97,6 +107,14 @@ one_path_text : (before : State) (s t : Point) (one other : List ℕ) → IsPath
 one_path_text None s t one other e f = both e f
 one_path_text (Some ring) s t one other h g = one_path_in ring s t one other h g
 
+one_see : (before : State) (q : Point) (one other : List ℕ) → IsSeeText before q one → IsSeeText before q other → one ≡ other
+one_see None q one other e f = both e f
+one_see (Some ring) q one other h g = one_view_in ring q one other h g
+
+one_kernel_of : (before : State) (one other : List ℕ) → IsKernelText before one → IsKernelText before other → one ≡ other
+one_kernel_of None one other e f = both e f
+one_kernel_of (Some ring) one other h g = one_kernel ring one other h g
+
 pub one_answer : OneAnswerLaw
 one_answer before (command.Polygon ring) one other after after' (inl h) (inl g) = one_acceptance before ring one other after after' h g
 one_answer before (command.Polygon ring) one other after after' (inl h) (inr g) = absurd (no_least_clash ring g.i g.j h.simple g.least)
@@ -105,6 +123,8 @@ one_answer before (command.Polygon ring) one other after after' (inr h) (inr g) 
 one_answer before (command.Inside p) one other after after' h g = (one_inside before p one other h.0 g.0, h.1 ∙ sym g.1)
 one_answer before (command.Check points) one other after after' h g = (one_check before points one other h.0 g.0, h.1 ∙ sym g.1)
 one_answer before (command.Path s t) one other after after' h g = (one_path_text before s t one other h.0 g.0, h.1 ∙ sym g.1)
+one_answer before (command.See q) one other after after' h g = (one_see before q one other h.0 g.0, h.1 ∙ sym g.1)
+one_answer before command.Kernel one other after after' h g = (one_kernel_of before one other h.0 g.0, h.1 ∙ sym g.1)
 
 -- ---- a script
 

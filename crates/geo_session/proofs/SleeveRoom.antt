@@ -1,5 +1,5 @@
 -- How many diagonals a sleeve in the triangles of a ring has.
-use Rattle.std.proofs.Common.{ℕ, ◌+◌, ◌≤◌, List, length, arith}
+use Rattle.std.proofs.Common.{◌+◌, ◌≤◌, List, length, arith}
 use Rattle.plane.specs.Point.{Point}
 use Rattle.meshes.proofs.Sides.{two_fewer}
 use Rattle.meshes.specs.Fits.{Fits}

@@ -1,11 +1,14 @@
 -- What each command answers, and the state that it leaves. This project's own.
-use Rattle.std.specs.Prelude.{◌≡◌, ℕ, ◌⊎◌, ◌++◌, List, [], ◌∷◌, length, codes, Option, Some, None, Result, Ok, Err}
-use Rattle.plane.specs.Point.{Point, whole}
+use Rattle.std.specs.Prelude.{◌≡◌, ℕ, ◌⊎◌, ◌↔◌, ◌++◌, List, [], ◌∷◌, length, codes, flat_map, Option, Some, None, Result, Ok, Err}
+use Rattle.plane.specs.Point.{IsPoint, Point, Triple, whole}
 use Rattle.rings.specs.Chain.{IsPath}
 use Rattle.rings.specs.Edge.{IsOnSome, edges_of}
 use Rattle.rings.specs.Inside.{IsIn}
+use Rattle.rings.specs.Kernel.{IsKernel}
+use Rattle.rings.specs.Sees.{Sees}
 use Rattle.rings.specs.Simple.{IsLeastClash, IsSimple}
-use Rattle.geo_text.specs.Texts.{bad_text, index_text, pt_text}
+use Rattle.rings.specs.Visible.{AreParts, IsInView, Part}
+use Rattle.geo_text.specs.Texts.{bad_text, hom_text, index_text, pt_text}
 use Rattle.geo_text.specs.declared.command.Bad.{Bad}
 use Rattle.geo_text.specs.declared.command.Bad.TheVariants as bad
 use Rattle.geo_text.specs.declared.command.Command.{Command}
@@ -97,12 +100,58 @@ abbrev pub IsPathText : State → Point → Point → List ℕ → Type 0
 IsPathText None s t text = text ≡ bad_text bad.NoPolygon
 IsPathText (Some ring) s t text = IsPathIn ring s t text
 
+-- the line of a part of an edge: the number of the edge, and the ends of the part
+abbrev pub part_text : Part → List ℕ
+part_text part = codes "part" ++ index_text part.edge ++ hom_text part.first ++ hom_text part.last ++ codes "\n"
+
+-- the lines of what a point sees: how many parts there are, and then each
+abbrev pub see_text : List Part → List ℕ
+see_text parts = codes "see" ++ index_text (length parts) ++ codes "\n" ++ flat_map part_text parts
+
+-- the text is the lines of the parts of the edges that q sees; and what is in a triangle with one of them is all that it sees
+pub record TellsView (ring : List Point) (q : Point) (text : List ℕ) : Type 0 where
+  pub parts : List Part
+  pub seen : AreParts ring (whole q) parts
+  pub view : (x : Triple) → IsPoint x → IsIn ring x → Sees ring (whole q) x ↔ IsInView (whole q) parts x
+  pub told : text ≡ see_text parts
+
+-- a point that is not in the polygon is refused, and what another one sees is told
+pub data IsViewIn (ring : List Point) (q : Point) (text : List ℕ) : Type 0 where
+  sees_nothing : ¬ IsIn ring (whole q) → text ≡ bad_text (bad.Outside 1) → IsViewIn ring q text
+  sees : IsIn ring (whole q) → TellsView ring q text → IsViewIn ring q text
+
+-- so it is if there is a polygon
+abbrev pub IsSeeText : State → Point → List ℕ → Type 0
+IsSeeText None q text = text ≡ bad_text bad.NoPolygon
+IsSeeText (Some ring) q text = IsViewIn ring q text
+
+-- the line of a corner
+abbrev pub corner_text : Triple → List ℕ
+corner_text corner = codes "corner" ++ hom_text corner ++ codes "\n"
+
+-- the lines of a kernel: how many corners there are, and then each
+abbrev pub kernel_text : List Triple → List ℕ
+kernel_text corners = codes "kernel" ++ index_text (length corners) ++ codes "\n" ++ flat_map corner_text corners
+
+-- the text is the lines of the polygon's kernel
+pub record TellsKernel (ring : List Point) (text : List ℕ) : Type 0 where
+  pub corners : List Triple
+  pub kernel : IsKernel ring corners
+  pub told : text ≡ kernel_text corners
+
+-- the kernel is told if there is a polygon
+abbrev pub IsKernelText : State → List ℕ → Type 0
+IsKernelText None text = text ≡ bad_text bad.NoPolygon
+IsKernelText (Some ring) text = TellsKernel ring text
+
 -- the text is the command's answer in the state before, and leaves the state after
 abbrev pub IsAnswer : State → Command → List ℕ → State → Type 0
 IsAnswer before (command.Polygon ring) text after = AcceptsPolygon before ring text after ⊎ RefusesPolygon before ring text after
 IsAnswer before (command.Inside p) text after = IsInsideText before p text × (after ≡ before)
 IsAnswer before (command.Check points) text after = IsCheckText before points text × (after ≡ before)
 IsAnswer before (command.Path s t) text after = IsPathText before s t text × (after ≡ before)
+IsAnswer before (command.See q) text after = IsSeeText before q text × (after ≡ before)
+IsAnswer before command.Kernel text after = IsKernelText before text × (after ≡ before)
 
 -- the same of a record that is read as a command or as a refusal; a refused record gives its line and keeps the state
 abbrev pub IsReadingAnswer : State → Result Command Bad → List ℕ → State → Type 0

@@ -4,3 +4,4 @@ pub mod Output
 pub mod Session
 pub mod Path
 pub mod Place
+pub mod View

@@ -1,7 +1,9 @@
-ghost use Rattle.std.specs.Prelude.{◌≡◌, ◌+◌, ◌-◌, ◌*◌, ◌≤◌, ◌++◌, IfOk, OnErr, length, vec_capacity};
+ghost use Rattle.std.specs.Prelude.{◌≡◌, ◌+◌, ◌-◌, ◌*◌, ◌<◌, ◌≤◌, ◌++◌, ℕ, IfOk, IfSome, OnErr, length, vec_capacity};
 ghost use Rattle.plane.specs.Point.{whole};
 ghost use Rattle.plane.specs.declared.limits.TheConstants.{MAX_CHAIN, MAX_CORNERS};
 ghost use Rattle.rings.specs.Chain.{IsPath};
+ghost use Rattle.rings.specs.Kernel.{IsKernel};
+ghost use Rattle.rings.specs.Visible.{part_at};
 ghost use Rattle.meshes.specs.Fits.{Fits};
 ghost use Rattle.exact_plane.specs.Spot.{point_named};
 ghost use Rattle.ring_check.specs.Oriented.{given_of};
@@ -10,13 +12,16 @@ ghost use Rattle.dual_tree.specs.Location.{IsLeastHolding};
 ghost use Rattle.funnel_walk.specs.Names.{AreNamed, named_points};
 ghost use Rattle.geo_session.specs.Path.{IsChainIn};
 ghost use Rattle.geo_session.specs.Place.{IsPlace};
+ghost use Rattle.geo_session.specs.View.{IsViewOf, given_parts, turned_part, turned_parts};
 
 use cut_tri::triangulate;
 use dual_tree::{Board, locate, sleeve};
-use exact_plane::{Memory, Pt, Spot, Steps, Turns};
+use exact_plane::{Hom, Memory, Pt, Spot, Steps, Turns};
 use funnel_walk::{FunnelBox, walk};
 use inside_test::{Position, place};
 use ring_check::Ring;
+use see_cone::{Part, see};
+use star_kernel::kernel;
 use std::alloc::Global;
 use std::marker::Model;
 use std::sync::ledger::Ledger;
@@ -104,6 +109,38 @@ impl Held {
         let points = chain_between(alloc, &self.mesh, &self.ring, from, to, s, t, steps)?;
         Ok(Ok(points))
     }
+
+    // What a point of the polygon sees of the edges, or none where it is not in it.
+    pub(crate) fn view<L: Ledger>(
+        &self,
+        alloc: Global,
+        q: &Pt,
+        steps: &mut Steps<L>,
+    ) -> Result<Option<Vec<Part>>, Memory>
+        ensures view { IfOk result (IsViewOf (given_of self.now) q.now) }
+        ensures few { IfOk result (λ found. IfSome found (λ parts. length parts.items ≤ MAX_CORNERS)) }
+    {
+        let Some(home) = locate(&self.mesh, &self.ring, q, steps) else {
+            return Ok(None);
+        };
+        let _count = self.ring.len();
+        let parts = see(alloc, &self.ring, &self.mesh, home, q, steps)?;
+        let given = given_parts(alloc, parts, &self.ring)?;
+        Ok(Some(given))
+    }
+
+    // The corners of the polygon's kernel.
+    pub(crate) fn kernel<L: Ledger>(
+        &self,
+        alloc: Global,
+        steps: &mut Steps<L>,
+    ) -> Result<Vec<Hom>, Memory>
+        ensures kernel { IfOk result (λ corners. IsKernel (given_of self.now) corners.items) }
+        ensures few { IfOk result (λ corners. length corners.items ≤ MAX_CORNERS + 4) }
+    {
+        let _count = self.ring.len();
+        kernel(alloc, &self.ring, steps)
+    }
 }
 
 // The taut chain from a point in one triangle to a point in another.
@@ -146,5 +183,42 @@ fn put_points<'a>(points: &mut Vec<Pt>, names: &[Spot], board: &Board<'a>)
 {
     for name in names {
         points.push_reserved(board.point(*name));
+    }
+}
+
+// Parts of the edges of a ring, as parts of the edges of the list that it was made of.
+fn given_parts(alloc: Global, parts: Vec<Part>, ring: &Ring) -> Result<Vec<Part>, Memory>
+    requires { (k : ℕ) → k < length parts.items → (part_at parts.items k).edge < length ring.now.corners }
+    ensures { IfOk result (λ given. given.items ≡ given_parts ring.now parts.items) }
+{
+    if ring.is_turned() {
+        turned_parts(alloc, &parts, ring.len())
+    } else {
+        Ok(parts)
+    }
+}
+
+// Parts of the edges of a ring with this many vertices, where it is read the other way round.
+fn turned_parts(alloc: Global, parts: &[Part], size: u32) -> Result<Vec<Part>, Memory>
+    requires { (k : ℕ) → k < length parts.now → (part_at parts.now k).edge < size }
+    ensures { IfOk result (λ turned. turned.items ≡ turned_parts size parts.now) }
+{
+    let mut turned = Vec::with_capacity(alloc, parts.len())?;
+    for part in parts {
+        turned.push_reserved(turned_part(part, size));
+    }
+    turned.reverse();
+    Ok(turned)
+}
+
+// One part.
+fn turned_part(part: &Part, size: u32) -> Part
+    requires { part.now.edge < size }
+    ensures { result ≡ turned_part size part.now }
+{
+    Part {
+        edge: size - 1 - part.edge,
+        first: part.last,
+        last: part.first,
     }
 }

@@ -1,12 +1,15 @@
 // The lines that commands answer. Want of memory may leave the front of a line.
-ghost use Rattle.std.specs.Prelude.{◌≡◌, ◌≢◌, ◌+◌, ◌*◌, ◌≤◌, ◌<◌, ◌^◌, ◌++◌, length, take, OnOk, OnErr};
-ghost use Rattle.geo_session.specs.Answer.{IsVerdictText, broken_text, path_text, polygon_text};
+ghost use Rattle.std.specs.Prelude.{◌≡◌, ◌≢◌, ◌+◌, ◌*◌, ◌≤◌, ◌<◌, ◌^◌, ◌++◌, codes, length, take, OnOk, OnErr};
+ghost use Rattle.geo_text.specs.Texts.{index_text};
+ghost use Rattle.geo_session.specs.Answer.{IsVerdictText, broken_text, corner_text, kernel_text, part_text, path_text, polygon_text};
+ghost use Rattle.geo_session.specs.Answer.{see_text};
 ghost use Rattle.geo_session.specs.Place.{place_text};
 ghost use Rattle.geo_session.specs.Session.{AppendsSuch};
 
-use exact_plane::{Memory, Pt, Steps};
-use geo_text::{put_index, put_line_end, put_pt, put_word};
+use exact_plane::{Hom, Memory, Pt, Steps};
+use geo_text::{put_hom, put_index, put_line_end, put_pt, put_word};
 use inside_test::Position;
+use see_cone::Part;
 use std::sync::ledger::Ledger;
 use taut_check::Verdict;
 
@@ -76,5 +79,75 @@ pub fn put_path<L: Ledger>(
     for point in points {
         put_pt(out, point, steps)?;
     }
+    put_line_end(out)
+}
+
+// Appends the lines of the parts of the edges that a point sees.
+pub fn put_view<L: Ledger>(
+    out: &mut Vec<u8>,
+    parts: &[Part],
+    steps: &mut Steps<L>,
+) -> Result<(), Memory>
+    requires { length parts.now < 2 ^ 32 }
+    ensures ok { OnOk result (out.new.items ≡ out.old.items ++ see_text parts.now) }
+    ensures front { OnErr result (take (length out.old.items) out.new.items ≡ out.old.items) }
+{
+    put_count(out, "see", parts.len() as u32)?;
+    for part in parts {
+        put_part(out, part, steps)?;
+    }
+    Ok(())
+}
+
+// Appends the line of a part.
+fn put_part<L: Ledger>(out: &mut Vec<u8>, part: &Part, steps: &mut Steps<L>) -> Result<(), Memory>
+    ensures ok { OnOk result (out.new.items ≡ out.old.items ++ part_text part.now) }
+    ensures front { OnErr result (take (length out.old.items) out.new.items ≡ out.old.items) }
+{
+    put_word(out, "part")?;
+    put_index(out, part.edge)?;
+    put_hom(out, &part.first, steps)?;
+    put_hom(out, &part.last, steps)?;
+    put_line_end(out)
+}
+
+// Appends the lines of the corners of a kernel.
+pub fn put_kernel<L: Ledger>(
+    out: &mut Vec<u8>,
+    corners: &[Hom],
+    steps: &mut Steps<L>,
+) -> Result<(), Memory>
+    requires { length corners.now < 2 ^ 32 }
+    ensures ok { OnOk result (out.new.items ≡ out.old.items ++ kernel_text corners.now) }
+    ensures front { OnErr result (take (length out.old.items) out.new.items ≡ out.old.items) }
+{
+    put_count(out, "kernel", corners.len() as u32)?;
+    for corner in corners {
+        put_corner(out, corner, steps)?;
+    }
+    Ok(())
+}
+
+// Appends the line of a corner.
+fn put_corner<L: Ledger>(
+    out: &mut Vec<u8>,
+    corner: &Hom,
+    steps: &mut Steps<L>,
+) -> Result<(), Memory>
+    ensures ok { OnOk result (out.new.items ≡ out.old.items ++ corner_text corner.now) }
+    ensures front { OnErr result (take (length out.old.items) out.new.items ≡ out.old.items) }
+{
+    put_word(out, "corner")?;
+    put_hom(out, corner, steps)?;
+    put_line_end(out)
+}
+
+// Appends the line that says how many lines follow.
+fn put_count(out: &mut Vec<u8>, word: &str, count: u32) -> Result<(), Memory>
+    ensures ok { OnOk result (out.new.items ≡ out.old.items ++ (word.now ++ index_text count ++ codes "\n")) }
+    ensures front { OnErr result (take (length out.old.items) out.new.items ≡ out.old.items) }
+{
+    put_word(out, word)?;
+    put_index(out, count)?;
     put_line_end(out)
 }

@@ -7,7 +7,7 @@ ghost use Rattle.geo_session.specs.Answer.{AppendsAnswer, polygon_text};
 ghost use Rattle.geo_session.specs.Path.{IsChainAnswer, TakesPathSteps, size_of};
 
 use crate::held::{Held, Outside};
-use crate::lines::{put_path, put_place, put_polygon, put_verdict};
+use crate::lines::{put_kernel, put_path, put_place, put_polygon, put_verdict, put_view};
 use exact_plane::{Memory, Pt, Steps};
 use geo_text::{Bad, Command, Points, put_bad};
 use ring_check::{Ring, RingFault};
@@ -106,6 +106,8 @@ impl Session {
             Command::Inside(point) => self.answer_inside(&point, out, steps),
             Command::Check(points) => self.answer_check(alloc, points.as_slice(), out, steps),
             Command::Path(s, t) => self.answer_path(alloc, &s, &t, out, steps),
+            Command::See(q) => self.answer_see(alloc, &q, out, steps),
+            Command::Kernel => self.answer_kernel(alloc, out, steps),
         }
     }
 
@@ -196,6 +198,41 @@ impl Session {
             Ok(points) => put_path(out, &points, steps),
             Err(bad) => put_bad(out, &bad),
         }
+    }
+
+    fn answer_see<L: Ledger>(
+        &self,
+        alloc: Global,
+        q: &Pt,
+        out: &mut Vec<u8>,
+        steps: &mut Steps<L>,
+    ) -> Result<(), Memory>
+        ensures ok { OnOk result (AppendsAnswer self.now (Command.See q.now) out.old.items out.new.items self.now) }
+        ensures front { OnErr result (take (length out.old.items) out.new.items ≡ out.old.items) }
+    {
+        let Some(held) = &self.held else {
+            return put_bad(out, &Bad::NoPolygon);
+        };
+        match held.view(alloc, q, steps)? {
+            Some(parts) => put_view(out, &parts, steps),
+            None => put_bad(out, &Bad::Outside(1)),
+        }
+    }
+
+    fn answer_kernel<L: Ledger>(
+        &self,
+        alloc: Global,
+        out: &mut Vec<u8>,
+        steps: &mut Steps<L>,
+    ) -> Result<(), Memory>
+        ensures ok { OnOk result (AppendsAnswer self.now Command.Kernel out.old.items out.new.items self.now) }
+        ensures front { OnErr result (take (length out.old.items) out.new.items ≡ out.old.items) }
+    {
+        let Some(held) = &self.held else {
+            return put_bad(out, &Bad::NoPolygon);
+        };
+        let corners = held.kernel(alloc, steps)?;
+        put_kernel(out, &corners, steps)
     }
 }
 
