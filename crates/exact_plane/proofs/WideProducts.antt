@@ -20,26 +20,21 @@ module _ (x w v s : ℤ)
   weighted_second : unsigned_abs (v *ℤ s) < 2 ^ 73
   weighted_second = product_size v s (2 ^ 24) (2 ^ 49) small_v small_s
 
-  pub weighted_fits : FitsSigned w128 (wide (wide x *ℤ wide w) +ℤ wide (wide v *ℤ wide s))
-  weighted_fits =
+  weighted_is : wide (wide x *ℤ wide w) +ℤ wide (wide v *ℤ wide s) ≡ x *ℤ w +ℤ v *ℤ s
+  weighted_is =
       let fits_x : FitsSigned w128 x = omega (arith, ints) in
       let fits_w : FitsSigned w128 w = omega (arith, ints) in
       let fits_v : FitsSigned w128 v = omega (arith, ints) in
       let fits_s : FitsSigned w128 s = omega (arith, ints) in
       let fits_first : FitsSigned w128 (x *ℤ w) = omega (arith, ints, weighted_first) in
       let fits_second : FitsSigned w128 (v *ℤ s) = omega (arith, ints, weighted_second) in
-      simp to_z-of_z (omega (arith, ints, weighted_first, weighted_second))
+      simp to_z-of_z
+
+  pub weighted_fits : FitsSigned w128 (wide (wide x *ℤ wide w) +ℤ wide (wide v *ℤ wide s))
+  weighted_fits = rw weighted_is (omega (arith, ints, weighted_first, weighted_second))
 
   pub weighted_read : wide (wide (wide x *ℤ wide w) +ℤ wide (wide v *ℤ wide s)) ≡ x *ℤ w +ℤ v *ℤ s
-  weighted_read =
-      let fits_x : FitsSigned w128 x = omega (arith, ints) in
-      let fits_w : FitsSigned w128 w = omega (arith, ints) in
-      let fits_v : FitsSigned w128 v = omega (arith, ints) in
-      let fits_s : FitsSigned w128 s = omega (arith, ints) in
-      let fits_first : FitsSigned w128 (x *ℤ w) = omega (arith, ints, weighted_first) in
-      let fits_second : FitsSigned w128 (v *ℤ s) = omega (arith, ints, weighted_second) in
-      let fits_sum : FitsSigned w128 (x *ℤ w +ℤ v *ℤ s) = omega (arith, ints, weighted_first, weighted_second) in
-      simp to_z-of_z
+  weighted_read = to_z-of_z w128 _ weighted_fits ∙ weighted_is
 
   pub weighted_small : unsigned_abs (wide (wide (wide x *ℤ wide w) +ℤ wide (wide v *ℤ wide s))) < 2 ^ 74
   weighted_small = rw weighted_read (omega (arith, ints, weighted_first, weighted_second))
@@ -76,8 +71,8 @@ module _ (a b x y : ℤ)
   offsets_second : unsigned_abs (b *ℤ x) < 2 ^ 100
   offsets_second = product_size b x (2 ^ 24) (2 ^ 76) small_b small_x
 
-  pub offsets_fit : FitsSigned w128 (wide (wide (read a) *ℤ wide y) -ℤ wide (wide (read b) *ℤ wide x))
-  offsets_fit =
+  offsets_is : wide (wide (read a) *ℤ wide y) -ℤ wide (wide (read b) *ℤ wide x) ≡ a *ℤ y -ℤ b *ℤ x
+  offsets_is =
       let short_a : FitsSigned w64 a = omega (arith, ints) in
       let short_b : FitsSigned w64 b = omega (arith, ints) in
       let fits_a : FitsSigned w128 a = omega (arith, ints) in
@@ -86,20 +81,13 @@ module _ (a b x y : ℤ)
       let fits_y : FitsSigned w128 y = omega (arith, ints) in
       let fits_first : FitsSigned w128 (a *ℤ y) = omega (arith, ints, offsets_first) in
       let fits_second : FitsSigned w128 (b *ℤ x) = omega (arith, ints, offsets_second) in
-      simp to_z-of_z (omega (arith, ints, offsets_first, offsets_second))
+      simp to_z-of_z
+
+  pub offsets_fit : FitsSigned w128 (wide (wide (read a) *ℤ wide y) -ℤ wide (wide (read b) *ℤ wide x))
+  offsets_fit = rw offsets_is (omega (arith, ints, offsets_first, offsets_second))
 
   pub offsets_read : wide (wide (wide (read a) *ℤ wide y) -ℤ wide (wide (read b) *ℤ wide x)) ≡ a *ℤ y -ℤ b *ℤ x
-  offsets_read =
-      let short_a : FitsSigned w64 a = omega (arith, ints) in
-      let short_b : FitsSigned w64 b = omega (arith, ints) in
-      let fits_a : FitsSigned w128 a = omega (arith, ints) in
-      let fits_b : FitsSigned w128 b = omega (arith, ints) in
-      let fits_x : FitsSigned w128 x = omega (arith, ints) in
-      let fits_y : FitsSigned w128 y = omega (arith, ints) in
-      let fits_first : FitsSigned w128 (a *ℤ y) = omega (arith, ints, offsets_first) in
-      let fits_second : FitsSigned w128 (b *ℤ x) = omega (arith, ints, offsets_second) in
-      let fits_difference : FitsSigned w128 (a *ℤ y -ℤ b *ℤ x) = omega (arith, ints, offsets_first, offsets_second) in
-      simp to_z-of_z
+  offsets_read = to_z-of_z w128 _ offsets_fit ∙ offsets_is
 
   pub offsets_small : unsigned_abs (wide (wide (wide (read a) *ℤ wide y) -ℤ wide (wide (read b) *ℤ wide x))) < 2 ^ 101
   offsets_small = rw offsets_read (omega (arith, ints, offsets_first, offsets_second))

@@ -1,7 +1,7 @@
 -- What a cut adds to the corners that stay: the meetings of the two sides that it crosses, with their lines.
-use Rattle.std.proofs.Common.{◌≡◌, ◌≢◌, sym, subst, ap, ◌∙◌, ℕ, zero, suc, ◌-◌, ◌<◌, ◌≤◌, arith, false, IsTrue, List, [], ◌++◌, length, take, ℤ, pos, negsuc, ◌<ℤ◌, refl}
+use Rattle.std.proofs.Common.{◌≡◌, ◌≢◌, sym, subst, ap, ◌∙◌, ℕ, zero, suc, ◌-◌, ◌<◌, ◌≤◌, arith, false, IsTrue, List, [], ◌++◌, length, take, get_or, ℤ, pos, negsuc, ◌<ℤ◌, refl}
 use Rattle.std.proofs.lemmas.Int.{ints}
-use Rattle.std.proofs.lemmas.List.{get_or-take, get_or_append_left, length-take-le}
+use Rattle.std.proofs.lemmas.List.{get_or-take, get_or_append_left, get_or_read, length-take-le}
 use Rattle.std.specs.Prelude.{IfSome, None, Option, Some, is_some, option_to_list}
 use Rattle.integer_algebra.proofs.Signs.{is_negative, is_positive, is_zero, sign}
 use Rattle.plane.proofs.Regions.{Ends, at_corner, at_meeting, cut_of_polygon, cut_of_segment, meeting, not_parallel}
@@ -80,56 +80,98 @@ polygon_of cs m some rest many = omega (arith, some, rest, many)
 
 -- ---- a whole cut, whose corners are read from the first that stays
 
-module _ (a b : Point) (cs : List Triple) (ls : List Line) (m : ℕ) (first last : Direction) (differ : a ≢ b) (convex : AreConvex cs)
-    (round : AreLinkedRound cs ls) (some : 0 < m) (rest : m < length cs)
-    (stay : (i : ℕ) → i < m → ¬ (IsRight (whole a) (whole b) (corner cs i)))
-    (go : (i : ℕ) → m ≤ i → i < length cs → IsRight (whole a) (whole b) (corner cs i))
-    (is_first : first ≡ turn_of (whole a) (whole b) (corner cs 0)) (is_last : last ≡ turn_of (whole a) (whole b) (corner cs (m - 1)))
-    (back : Option Triple) (found_back : IsFound a b (line_at ls (m - 1)) last back) where
+-- the corners from number m on go. This is the line of the last that stays, and what it meets of the cut
+pub record IsTail (a b : Point) (cs : List Triple) (ls : List Line) (m : ℕ) (first last : Direction) (line : Line) (back : Option Triple)
+    : Type 0 where
+  pub differ : a ≢ b
+  pub convex : AreConvex cs
+  pub round : AreLinkedRound cs ls
+  pub some : 0 < m
+  pub rest : m < length cs
+  pub stay : (i : ℕ) → i < m → ¬ (IsRight (whole a) (whole b) (corner cs i))
+  pub go : (i : ℕ) → m ≤ i → i < length cs → IsRight (whole a) (whole b) (corner cs i)
+  pub is_first : first ≡ turn_of (whole a) (whole b) (corner cs 0)
+  pub is_last : last ≡ turn_of (whole a) (whole b) (corner cs (m - 1))
+  pub behind : line ≡ line_at ls (m - 1)
+  pub found : IsFound a b line last back
+
+-- where the line is read from the list
+pub tail_of : {a b : Point} {cs : List Triple} {ls : List Line} {m : ℕ} {first last : Direction} {line : Line} {back : Option Triple}
+    → a ≢ b → AreConvex cs → AreLinkedRound cs ls → 0 < m → m < length cs
+    → ((i : ℕ) → i < m → ¬ (IsRight (whole a) (whole b) (corner cs i)))
+    → ((i : ℕ) → m ≤ i → i < length cs → IsRight (whole a) (whole b) (corner cs i)) → first ≡ turn_of (whole a) (whole b) (corner cs 0)
+    → last ≡ turn_of (whole a) (whole b) (corner cs (m - 1)) → line ≡ get_or ls (m - 1) line → IsFound a b line last back
+    → IsTail a b cs ls m first last line back
+tail_of {ls = ls} {m = m} differ convex round some rest stay go is_first is_last is found = record {
+  differ = differ;
+  convex = convex;
+  round = round;
+  some = some;
+  rest = rest;
+  stay = stay;
+  go = go;
+  is_first = is_first;
+  is_last = is_last;
+  behind = get_or_read ls (m - 1) _ (omega (arith, rest, round.linked.as_many)) is _;
+  found = found;
+}
+
+-- the last line, where it is read from the list
+pub last_read : {cs : List Triple} {ls : List Line} {k : ℕ} {line : Line} → AreLinked cs ls → 0 < length cs → k ≡ length ls - 1
+    → line ≡ get_or ls k line → line ≡ line_at ls (length ls - 1)
+last_read {ls = ls} {line = line} linked some at_end is =
+    get_or_read ls (length ls - 1) line (omega (arith, some, linked.as_many)) (subst (λ i. line ≡ get_or ls i line) at_end is) _
+
+module _ {a b : Point} {cs : List Triple} {ls : List Line} {m : ℕ} {first last : Direction} {line : Line} {back : Option Triple}
+    (t : IsTail a b cs ls m first last line back) where
   linked : AreLinked cs ls
-  linked = round.linked
+  linked = t.round.linked
+
+  found_back : IsFound a b (line_at ls (m - 1)) last back
+  found_back = subst (λ (l : Line). IsFound a b l last back) t.behind t.found
 
   -- the end after the last corner that stays
   pub ends_back : Ends (whole a) (whole b) (corner cs (m - 1)) (corner cs m) (option_to_list back)
   ends_back =
-      ends_found a b (line_at ls (m - 1)) (linked.two_points (m - 1) (omega (arith, rest, linked.as_many))) (corner cs (m - 1))
+      ends_found a b (line_at ls (m - 1)) (linked.two_points (m - 1) (omega (arith, t.rest, linked.as_many))) (corner cs (m - 1))
       (corner cs m)
-      (convex.rational (m - 1) (omega (arith, rest))) (convex.rational m rest) (linked.begins (m - 1) (omega (arith, rest)))
-      (on_at {l = line_at ls (m - 1)} refl (ap (λ k. corner cs k) (omega (arith, some)))
-      (linked.goes_on (m - 1) (omega (arith, some, rest))))
-      (stay (m - 1) (omega (arith, some))) (go m (omega arith) rest) last is_last back found_back
+      (t.convex.rational (m - 1) (omega (arith, t.rest))) (t.convex.rational m t.rest) (linked.begins (m - 1) (omega (arith, t.rest)))
+      (on_at {l = line_at ls (m - 1)} refl (ap (λ k. corner cs k) (omega (arith, t.some)))
+      (linked.goes_on (m - 1) (omega (arith, t.some, t.rest))))
+      (t.stay (m - 1) (omega (arith, t.some))) (t.go m (omega arith) t.rest) last t.is_last back found_back
 
   -- from it the line of the cut goes on
   pub goes_on_whole : GoesOn cs ls m back (a, b)
   goes_on_whole = goes_on_cut a b cs ls m (corner cs m) back ends_back found_back.on_line found_back.on_cut
 
   -- or that of the side, where there is a meeting
-  pub goes_on_side : IsTrue (is_some back) → GoesOn cs ls m back (line_at ls (m - 1))
-  goes_on_side h = goes_on_same cs ls m back h found_back.on_line
+  pub goes_on_side : IsTrue (is_some back) → GoesOn cs ls m back line
+  goes_on_side h = rw t.behind (goes_on_same cs ls m back h found_back.on_line)
 
   -- the first corner stays the first
   pub first_stays : corner (take m cs ++ option_to_list back) 0 ≡ corner cs 0
   first_stays =
-      get_or_append_left (take m cs) (option_to_list back) _ 0 (omega (arith, some, length-take-le m cs (omega (arith, rest)))) ∙
-      get_or-take m cs 0 _ some
+      get_or_append_left (take m cs) (option_to_list back) _ 0 (omega (arith, t.some, length-take-le m cs (omega (arith, t.rest)))) ∙
+      get_or-take m cs 0 _ t.some
 
   -- ---- a segment
 
   module _ (two : length cs ≡ 2) where
     one : m ≡ 1
-    one = omega (arith, two, some, rest)
+    one = omega (arith, two, t.some, t.rest)
 
     -- what is left of it
     pub segment_left : IsCut (whole a) (whole b) cs (take m cs ++ option_to_list back)
     segment_left =
         subst (λ k. IsCut (whole a) (whole b) cs (take k cs ++ option_to_list back)) (sym one)
-        (cut_of_segment (whole a) (whole b) cs convex two (stay 0 some) (go 1 (omega (arith, one)) (omega (arith, two)))
+        (cut_of_segment (whole a) (whole b) cs t.convex two (t.stay 0 t.some) (t.go 1 (omega (arith, one)) (omega (arith, two)))
         (option_to_list back)
         (subst (λ k. Ends (whole a) (whole b) (corner cs (k - 1)) (corner cs k) (option_to_list back)) one ends_back))
 
     -- the side's line comes back to the first corner,
-    pub side_comes_back : IsOnLine (line_at ls (m - 1)) (corner cs 0)
-    side_comes_back = subst (λ k. IsOnLine (line_at ls (k - 1)) (corner cs 0)) (sym one) (linked.begins 0 (omega (arith, two)))
+    pub side_comes_back : IsOnLine line (corner cs 0)
+    side_comes_back =
+        rw t.behind (subst (λ k. IsOnLine (line_at ls (k - 1)) (corner cs 0)) (sym one) (linked.begins 0 (omega (arith, two))))
 
     -- and the line of the cut, where there is no meeting
     pub cut_comes_back : is_some back ≡ false → IsOnLine (a, b) (corner cs 0)
@@ -139,29 +181,33 @@ module _ (a b : Point) (cs : List Triple) (ls : List Line) (m : ℕ) (first last
 
   -- ---- a polygon
 
-  module _ (many : length cs ≢ 2) (front : Option Triple) (found_front : IsFound a b (line_at ls (length ls - 1)) first front) where
+  module _ (many : length cs ≢ 2) {end : Line} {front : Option Triple} (is_end : end ≡ line_at ls (length ls - 1))
+      (found_end : IsFound a b end first front) where
+    found_front : IsFound a b (line_at ls (length ls - 1)) first front
+    found_front = subst (λ (l : Line). IsFound a b l first front) is_end found_end
+
     three : 3 ≤ length cs
-    three = polygon_of cs m some rest many
+    three = polygon_of cs m t.some t.rest many
 
     -- the end before the first corner
     pub ends_front : Ends (whole a) (whole b) (corner cs 0) (corner cs (length cs - 1)) (option_to_list front)
     ends_front =
-        ends_found a b (line_at ls (length ls - 1)) (linked.two_points (length ls - 1) (omega (arith, rest, linked.as_many))) (corner cs 0)
-        (corner cs (length cs - 1)) (convex.rational 0 (omega (arith, rest))) (convex.rational (length cs - 1) (omega (arith, rest)))
-        (round.closes (omega (arith, rest)))
+        ends_found a b (line_at ls (length ls - 1)) (linked.two_points (length ls - 1) (omega (arith, t.rest, linked.as_many))) (corner cs 0)
+        (corner cs (length cs - 1)) (t.convex.rational 0 (omega (arith, t.rest))) (t.convex.rational (length cs - 1) (omega (arith, t.rest)))
+        (t.round.closes (omega (arith, t.rest)))
         (on_at {p = corner cs (length cs - 1)} (ap (λ k. line_at ls (k - 1)) linked.as_many) refl
-        (linked.begins (length cs - 1) (omega (arith, rest))))
-        (stay 0 some) (go (length cs - 1) (omega (arith, rest)) (omega (arith, rest))) first is_first front found_front
+        (linked.begins (length cs - 1) (omega (arith, t.rest))))
+        (t.stay 0 t.some) (t.go (length cs - 1) (omega (arith, t.rest)) (omega (arith, t.rest))) first t.is_first front found_front
 
     -- what is left of it
     pub polygon_left : IsCut (whole a) (whole b) cs ((take m cs ++ option_to_list back) ++ option_to_list front)
-    polygon_left = cut_of_polygon (whole a) (whole b) cs convex m some rest stay go three (option_to_list back) (option_to_list front)
+    polygon_left = cut_of_polygon (whole a) (whole b) cs t.convex m t.some t.rest t.stay t.go three (option_to_list back) (option_to_list front)
         ends_back ends_front
 
     -- the last line comes round
     pub comes_round_whole : (ds : List Triple) (ks : List Line) → corner ds 0 ≡ corner cs 0 → line_at ks (length ks - 1) ≡ (a, b)
-        → ComesRound ds ks front (line_at ls (length ls - 1))
+        → ComesRound ds ks front end
     comes_round_whole ds ks same ends =
-        comes_round_cut a b ds ks (line_at ls (length ls - 1)) (corner cs 0) (corner cs (length cs - 1)) front same ends ends_front
+        rw is_end (comes_round_cut a b ds ks (line_at ls (length ls - 1)) (corner cs 0) (corner cs (length cs - 1)) front same ends ends_front
         found_front.on_line
-        found_front.on_cut (round.closes (omega (arith, rest)))
+        found_front.on_cut (t.round.closes (omega (arith, t.rest))))

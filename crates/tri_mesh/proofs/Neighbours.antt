@@ -45,27 +45,19 @@ module _ (tris : List Tri) (i j k : ℕ) (sides : HasSidesOnce tris) (in_list : 
   }
 
   -- an answer that is none
-  pub none_iff_alone : (answer : Option ℕ) → IsOwner tris j i answer → IsNone answer ↔ IsSideOfOne tris i j k
+  none_iff_alone : (answer : Option ℕ) → IsOwner tris j i answer → IsNone answer ↔ IsSideOfOne tris i j k
   none_iff_alone None owner = (λ _. alone (owner.none refl), λ _. refl)
   none_iff_alone (Some l) owner =
       let is = owner.some l refl in
       (λ e. absurd cc, λ one. absurd ((shared l is.0 is.1).different (sym (one.only l is.0 (inr is.1)))))
 
   -- an answer that is some
-  pub some_is_shared : (answer : Option ℕ) → IsOwner tris j i answer → IfSome answer (IsSideOfTwo tris i j k)
+  some_is_shared : (answer : Option ℕ) → IsOwner tris j i answer → IfSome answer (IsSideOfTwo tris i j k)
   some_is_shared None owner = tt
   some_is_shared (Some l) owner = let is = owner.some l refl in shared l is.0 is.1
 
--- the answer that the table of a mesh has for a side of triangle k, by its row
-pub kept_owner : (tris : List Tri) (table : List (List (Option ℕ))) (row : List (Option ℕ)) (k side : ℕ) → KeepsNeighbours tris table
-    → k < length tris → side < 3 → row ≡ get_or table k row
-    → IsOwner tris (side_end (tri_at tris k) side) (side_begin (tri_at tris k) side) (slice_index_or row side None)
-kept_owner tris table row k side keeps in_list in_row is =
-    let below : k < length table = omega (arith, keeps.count) in
-    rw (get_or_read table k row below is []) (keeps.rows.across k side below in_row)
-
 -- where the triangles fit a ring, a side belongs to one triangle exactly where it is an edge of the ring
-pub alone_iff_edge : (corners : List Point) (tris : List Tri) (i j k : ℕ) → Fits corners tris → k < length tris → HasSide (tri_at tris k) i j
+alone_iff_edge : (corners : List Point) (tris : List Tri) (i j k : ℕ) → Fits corners tris → k < length tris → HasSide (tri_at tris k) i j
     → IsSideOfOne tris i j k ↔ IsPieceEdge (range_with_len 0 (length corners)) i j
 alone_iff_edge corners tris i j k fits in_list has = (
   λ one. elim (edge_or_not (range_with_len 0 (length corners)) i j) [
@@ -77,3 +69,32 @@ alone_iff_edge corners tris i j k fits in_list has = (
       let same : k ≡ one.0 = one.1.only k in_list (inl has) in
       rw same one.1,
 )
+
+-- the answer that the table of a mesh has for a side of triangle k, by its row
+module _ (tris : List Tri) (table : List (List (Option ℕ))) (row : List (Option ℕ)) (k side : ℕ) (keeps : KeepsNeighbours tris table)
+    (in_list : k < length tris) (in_row : side < 3) (is : row ≡ get_or table k row) where
+  abbrev begin : ℕ
+  begin = side_begin (tri_at tris k) side
+
+  abbrev end : ℕ
+  end = side_end (tri_at tris k) side
+
+  has : HasSide (tri_at tris k) begin end
+  has = has_side_numbered (tri_at tris k) side in_row
+
+  owner : IsOwner tris end begin (slice_index_or row side None)
+  owner =
+      let below : k < length table = omega (arith, keeps.count) in
+      rw (get_or_read table k row below is []) (keeps.rows.across k side below in_row)
+
+  pub kept_none : IsNone (slice_index_or row side None) ↔ IsSideOfOne tris begin end k
+  kept_none = none_iff_alone tris begin end k keeps.sides in_list has _ owner
+
+  pub kept_some : IfSome (slice_index_or row side None) (IsSideOfTwo tris begin end k)
+  kept_some = some_is_shared tris begin end k keeps.sides in_list has _ owner
+
+  pub kept_edge : (corners : List Point) → Fits corners tris
+      → IsNone (slice_index_or row side None) ↔ IsPieceEdge (range_with_len 0 (length corners)) begin end
+  kept_edge corners fits =
+      let edge = alone_iff_edge corners tris begin end k fits in_list has in
+      (λ none. edge.0 (kept_none.0 none), λ on_edge. kept_none.1 (edge.1 on_edge))

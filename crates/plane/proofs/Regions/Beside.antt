@@ -118,21 +118,20 @@ beside_right d e s w h hd hw hs = elim (lt_or_le e (pos 0)) [
 ]
 
 module _ (a b u v w p : Triple) (on_u : IsStraight a b u) (on_v : IsStraight a b v) (above : IsNotRight a b p) where
+  -- the sides of p are as those of w
+  same_sides : determinant u v p *ℤ determinant a b w ≡ determinant u v w *ℤ determinant a b p
+  same_sides =
+      two_on_line (determinant v p w) (determinant u p w) (determinant u v w) (determinant u v p) (determinant a b p) (determinant a b w)
+      _ _
+      on_u on_v (four_beside u v p w a b)
+
   -- p is not right of the way from u to v on the line, where what is left of the line is left of it,
   pub not_right_by_left : IsLeft u v w → IsLeft a b w → IsNotRight u v p
-  not_right_by_left turned left =
-      beside_left (determinant u v w) (determinant u v p) (determinant a b p) (determinant a b w)
-      (two_on_line (determinant v p w) (determinant u p w) (determinant u v w) (determinant u v p) (determinant a b p) (determinant a b w)
-      _ _
-      on_u on_v (four_beside u v p w a b)) turned left above
+  not_right_by_left turned left = beside_left _ _ _ _ same_sides turned left above
 
   -- or what is right of the one is right of the other
   pub not_right_by_right : IsRight u v w → IsRight a b w → IsNotRight u v p
-  not_right_by_right turned right =
-      beside_right (determinant u v w) (determinant u v p) (determinant a b p) (determinant a b w)
-      (two_on_line (determinant v p w) (determinant u p w) (determinant u v w) (determinant u v p) (determinant a b p) (determinant a b w)
-      _ _
-      on_u on_v (four_beside u v p w a b)) turned right above
+  not_right_by_right turned right = beside_right _ _ _ _ same_sides turned right above
 
 -- ---- means of three with a weight 0
 

@@ -115,21 +115,27 @@ module _ (a b : Triple) (cs : List Triple) (convex : AreConvex cs) (m : ℕ) (so
 
   -- ---- the lists
 
+  -- the corners that stay, and a point left of the way between any two
+  convex_with : (x : Triple) → IsPoint x → ((i j : ℕ) → i < j → j < m → IsLeft (c i) (c j) x) → (m ≡ 1 → ¬ (IsSame (c 0) x))
+      → AreConvex (take m cs ++ x ∷ [])
+  convex_with x at_x left differs =
+      convex_more (take m cs) x (convex_first cs m rest convex) at_x
+      (λ i j before less.
+      let in_m : j < m = omega (arith, less, length_first cs m rest) in
+      left_at (first_corner cs m rest i (omega (arith, before, in_m))) (first_corner cs m rest j in_m) refl (left i j before in_m))
+      (λ alone. subst (λ (t : Triple). ¬ (IsSame t x)) (sym (first_corner cs m rest 0 some))
+      (differs (omega (arith, alone, length_first cs m rest))))
+
   -- the corners that stay, and the meeting after the last
   pub convex_back : (es : List Triple) → Ends a b (c (m - 1)) (c m) es → AreConvex (take m cs ++ es)
   convex_back es (at_corner straight none) =
       subst AreConvex (sym (ap (λ t. take m cs ++ t) none ∙ append-nil (take m cs))) (convex_first cs m rest convex)
   convex_back es (at_meeting x left h one) =
       subst (λ (t : List Triple). AreConvex (take m cs ++ t)) (sym one)
-      (convex_more (take m cs) x (convex_first cs m rest convex) h.rational
-      (λ i j before less.
-      let in_m : j < m = omega (arith, less, length_first cs m rest) in
-      left_at (first_corner cs m rest i (omega (arith, before, in_m))) (first_corner cs m rest j in_m) refl
-      (left_of_back x h i j before in_m))
+      (convex_with x h.rational (left_of_back x h)
       (λ alone same.
-      let only : m - 1 ≡ 0 = omega (arith, alone, length_first cs m rest) in
-      left_not_straight a b (c (m - 1)) x h.rational left h.straight
-      (subst (λ (t : Triple). IsSame t x) (first_corner cs m rest 0 some ∙ ap (λ k. c k) (sym only)) same)))
+      let only : m - 1 ≡ 0 = omega (arith, alone) in
+      left_not_straight a b (c (m - 1)) x h.rational left h.straight (subst (λ k. IsSame (c k) x) (sym only) same)))
 
   -- and the meeting before the first
   pub convex_both : 3 ≤ length cs → (es fs : List Triple) → Ends a b (c (m - 1)) (c m) es → Ends a b (c 0) (c (n - 1)) fs
@@ -139,14 +145,7 @@ module _ (a b : Triple) (cs : List Triple) (convex : AreConvex cs) (m : ℕ) (so
   convex_both many es fs (at_corner straight none) (at_meeting y left h one) =
       subst (λ (t : List Triple). AreConvex ((take m cs ++ es) ++ t)) (sym one)
       (subst (λ (t : List Triple). AreConvex (t ++ y ∷ [])) (sym (ap (λ t. take m cs ++ t) none ∙ append-nil (take m cs)))
-      (convex_more (take m cs) y (convex_first cs m rest convex) h.rational
-      (λ i j before less.
-      let in_m : j < m = omega (arith, less, length_first cs m rest) in
-      left_at (first_corner cs m rest i (omega (arith, before, in_m))) (first_corner cs m rest j in_m) refl
-      (left_of_front y h i j before in_m))
-      (λ alone same.
-      left_not_straight a b (c 0) y h.rational left h.straight
-      (subst (λ (t : Triple). IsSame t y) (first_corner cs m rest 0 some) same))))
+      (convex_with y h.rational (left_of_front y h) (λ alone. left_not_straight a b (c 0) y h.rational left h.straight)))
   convex_both many es fs (at_meeting x left_x hx one_x) (at_meeting y left_y hy one_y) =
       let kept = take m cs in
       subst (λ (t : List Triple). AreConvex ((kept ++ es) ++ t)) (sym one_y)

@@ -77,20 +77,8 @@ module _ (k u v w z f g h : ℤ) (hk : pos 0 <ℤ k) (hu : pos 0 ≤ℤ u) (hv :
         ))
   ]
 
-  -- and none on the other, where that is negative too
-  pub no_middle_weight : f ≡ pos 0 → g <ℤ pos 0 → h ≤ℤ pos 0 → pos 0 ≤ℤ z → v ≡ pos 0
-  no_middle_weight ef hg hh hz = elim (sign v) [
-    | is_negative n ↦ absurd (not_both n hv)
-    | is_zero n ↦ n
-    | is_positive n ↦
-        absurd (omega (
-          arith,
-          ints,
-          e,
-          ap (λ t. u *ℤ t) ef,
-          mul-zero u,
-          mul_negative v g n hg,
-          mul_nonpositive w h hw hh,
-          mul_nonnegative k z (weak hk) hz,
-        ))
-  ]
+-- and none on the other, where that is negative too
+pub no_middle_weight : (k u v w z f g h : ℤ) → pos 0 <ℤ k → pos 0 ≤ℤ u → pos 0 ≤ℤ v → pos 0 ≤ℤ w → k *ℤ z ≡ u *ℤ f +ℤ v *ℤ g +ℤ w *ℤ h
+    → f ≡ pos 0 → g <ℤ pos 0 → h ≤ℤ pos 0 → pos 0 ≤ℤ z → v ≡ pos 0
+no_middle_weight k u v w z f g h hk hu hv hw e ef hg hh hz =
+    no_last_weight k u w v z f h g hk hu hw hv (omega (arith, ints, e)) ef hh hg hz
