@@ -1,18 +1,11 @@
 -- What a point sees of a ring that is read the other way round. No public clause cites this module.
-use Rattle.std.specs.Prelude.{◌↔◌, ℕ, ◌-◌, if◌then◌else◌, List, length, map, reverse, Option, None, Some, Vec}
+use Rattle.std.specs.Prelude.{◌↔◌, if◌then◌else◌, List, length, Option, None, Some, Vec}
 use Rattle.std.specs.declared.alloc.Global.{Global}
 use Rattle.plane.specs.Point.{IsPoint, Point, Triple, whole}
 use Rattle.rings.specs.Inside.{IsIn}
 use Rattle.rings.specs.Sees.{Sees}
-use Rattle.rings.specs.Visible.{AreParts, IsInView, Part}
+use Rattle.rings.specs.Visible.{AreParts, IsInView, Part, turned_parts}
 use Rattle.ring_check.specs.Oriented.{Oriented}
-
--- a part of an edge of n is a part of the same edge read backward, whose number is then counted from the end
-abbrev pub turned_part : ℕ → Part → Part
-turned_part n part = record { edge = n - 1 - part.edge; first = part.last; last = part.first }
-
-abbrev pub turned_parts : ℕ → List Part → List Part
-turned_parts n parts = reverse (map (turned_part n) parts)
 
 -- parts of the edges of a ring, as parts of the edges of the list that it was made of
 abbrev pub given_parts : Oriented → List Part → List Part

@@ -3,7 +3,7 @@ ghost use Rattle.plane.specs.Point.{whole};
 ghost use Rattle.plane.specs.declared.limits.TheConstants.{MAX_CHAIN, MAX_CORNERS};
 ghost use Rattle.rings.specs.Chain.{IsPath};
 ghost use Rattle.rings.specs.Kernel.{IsKernel};
-ghost use Rattle.rings.specs.Visible.{part_at};
+ghost use Rattle.rings.specs.Visible.{part_at, turned_part, turned_parts};
 ghost use Rattle.meshes.specs.Fits.{Fits};
 ghost use Rattle.exact_plane.specs.Spot.{point_named};
 ghost use Rattle.ring_check.specs.Oriented.{given_of};
@@ -12,7 +12,7 @@ ghost use Rattle.dual_tree.specs.Location.{IsLeastHolding};
 ghost use Rattle.funnel_walk.specs.Names.{AreNamed, named_points};
 ghost use Rattle.geo_session.specs.Path.{IsChainIn};
 ghost use Rattle.geo_session.specs.Place.{IsPlace};
-ghost use Rattle.geo_session.specs.View.{IsViewOf, given_parts, turned_part, turned_parts};
+ghost use Rattle.geo_session.specs.View.{IsViewOf, given_parts};
 
 use cut_tri::triangulate;
 use dual_tree::{Board, locate, sleeve};

@@ -1,6 +1,6 @@
 use Rattle.std.proofs.Common.{◌≡◌, ◌≤◌, length, map, take, vec_capacity}
+use Rattle.rings.specs.Visible.{turned_part}
 use Rattle.geo_session.proofs.held.turned_parts.Given as goal
-use Rattle.geo_session.specs.View.{turned_part}
 
 abbrev pub invariant-loop-part : goal.invariant-loop-part
 invariant-loop-part l = record {
