@@ -52,7 +52,7 @@ pub use Rattle.funnels.proofs.Chains.StepLeft.{step_left}
 mod LastPoints
 -- The corner of a triangle beyond the diagonal of an open funnel: the point of the funnel that it is reached from sees it, and the way there bends at that point.
 mod ReachedCorners
-pub use Rattle.funnels.proofs.Chains.ReachedCorners.{in_ring}
+pub use Rattle.funnels.proofs.Chains.ReachedCorners.{corner_differs, in_ring}
 -- The points of the next funnel see what is in their windows on the two other sides of a triangle, and the points beside them.
 mod NextSight
 -- To which side the chain turns at the apex of the next funnel on the left.
