@@ -16,7 +16,7 @@ first_stays [] x rest = refl
 first_stays (y ∷ before) x rest = refl
 
 -- so the way to the left begins where that to the apex does,
-first_left : (before ns : List Point) (a c : ℕ) (v : Point) → v ≡ point_at ns (a - c)
+pub first_left : (before ns : List Point) (a c : ℕ) (v : Point) → v ≡ point_at ns (a - c)
     → point_at (before ++ left_behind ns a c ++ v ∷ []) 0 ≡ point_at (before ++ point_at ns a ∷ []) 0
 first_left before ns a zero v is =
     let place : a - 0 ≡ a = omega arith in
@@ -26,7 +26,7 @@ first_left before ns a (suc c) v is =
     ∙ first_stays before (point_at ns a) (left_behind ns (a - 1) c ++ v ∷ [])
 
 -- and the way to the right
-first_right : (before ns : List Point) (a c : ℕ) (v : Point) → v ≡ point_at ns (a + c)
+pub first_right : (before ns : List Point) (a c : ℕ) (v : Point) → v ≡ point_at ns (a + c)
     → point_at (before ++ right_behind ns a c ++ v ∷ []) 0 ≡ point_at (before ++ point_at ns a ∷ []) 0
 first_right before ns a zero v is =
     let place : a + 0 ≡ a = omega arith in
