@@ -1,3 +1,4 @@
+pub mod Doors
 pub mod FirstFunnels
 pub mod Halving
 pub mod Lists
