@@ -4,5 +4,6 @@ pub mod Halving
 pub mod Lists
 pub mod Numbers
 pub mod ReachedBefore
+pub mod SourceNumber
 pub mod StepLeft
 pub mod StepRight
