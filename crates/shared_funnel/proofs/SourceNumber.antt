@@ -36,8 +36,8 @@ module _ (corners : List Point) (start : Point) (tris : List Tri) (i j d : ℕ) 
       let count = length-append way (point_at ns h ∷ []) in
       let bent = chain_to corners ns f.apex (vertex corners i) (vertex corners j) w.funnel.funnel w.funnel.sight w.before w.funnel.bent h
       (omega (arith, within, length-map f.list (point_of corners start))) in
-      let last : point_at chain (length chain - 1) ≡ start = get_or_push way (point_at ns h) origin (length chain - 1) (omega (arith, count))
-      ∙ point_there corners start f.list h within ∙ same in
+      let last : point_at chain (length chain - 1) ≡ start =
+      get_or_push way (point_at ns h) origin (length chain - 1) (omega (arith, count)) ∙ point_there corners start f.list h within ∙ same in
       let one = no_closed_chain corners (fitted_long corners tris fits) (fitted_simple corners tris fits) chain bent
       (way_begins w.before ns f.apex h ∙ w.begins ∙ sym last) in
       omega (arith, one, count)

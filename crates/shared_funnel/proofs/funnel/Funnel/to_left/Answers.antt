@@ -30,10 +30,10 @@ returns-clause-funnel g c corners start tris k i j next d fits beyond w reached 
     let f = c.args.self.now in
     let list_is : c.in_ok-list.list ≡ c.args.m ∷ drop c.args.place f.list =
     c.in_ok-list.ensures.list ∙ ap (λ l. c.args.m ∷ l) (c.in_ok-rest.ensures.back ∙ ap (λ l. drop c.args.place l.list) c.self.view_is) in
-    let apex_is : c.saturating_sub.result + 1 ≡ f.apex - c.args.place + 1 =
-    omega (arith, c.saturating_sub.ensures, ap (λ l. l.apex) c.self.view_is) in
-    subst (IsFunnelAt corners start c.args.m j (d + 1)) (λ t. record { list = sym list_is t; apex = sym apex_is t })
-    (funnel_to_left corners start tris k i j c.args.m next d fits beyond f w c.args.place reached shared)
+    subst (λ a. IsFunnelAt corners start c.args.m j (d + 1) (record { list = c.in_ok-list.list; apex = a }))
+    (omega (arith, c.saturating_sub.ensures, ap (λ l. l.apex) c.self.view_is))
+    (subst (λ l. IsFunnelAt corners start c.args.m j (d + 1) (record { list = l; apex = f.apex - c.args.place + 1 })) (sym list_is)
+    (funnel_to_left corners start tris k i j c.args.m next d fits beyond f w c.args.place reached shared))
 
 pub returns-clause-steps : goal.returns-clause-steps
 returns-clause-steps g c =
