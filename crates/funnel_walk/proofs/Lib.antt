@@ -11,7 +11,7 @@ mod NarrowedLeft
 mod NarrowedRight
 pub mod NextDiagonals
 mod Opened
-mod Passing
+pub mod Passing
 mod PathNames
 mod ShortWalks
-mod SideCorners
+pub mod SideCorners

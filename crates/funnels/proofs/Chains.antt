@@ -39,6 +39,7 @@ pub use Rattle.funnels.proofs.Chains.ReachedBends.{reached_bends}
 mod Ends
 -- At the corner of a triangle beyond the diagonal fans begin with the way back to the point of the funnel that it is reached from.
 mod EndFans
+pub use Rattle.funnels.proofs.Chains.EndFans.{corner_differs}
 -- A counterclockwise triangle at its side from l to r: its points are on the side, or right of the way from r to l.
 mod BeyondSide
 -- The step from an open funnel to the next, over one of the two sides from the corner beyond the diagonal: the point of the funnel that the corner is reached from sees it, and the way there bends at that point.

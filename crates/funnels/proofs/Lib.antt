@@ -6,3 +6,4 @@ pub mod Corners
 pub mod DeadEnds
 pub mod Passing
 pub mod OneChain
+pub mod Trees

@@ -5,6 +5,7 @@ pub mod Bend
 pub mod Chain
 pub mod Edge
 pub mod Events
+pub mod From
 pub mod Inside
 pub mod Kernel
 pub mod Orientation

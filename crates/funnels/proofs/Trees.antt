@@ -1,0 +1,10 @@
+-- What comes before the last point of a path: in the triangle of the source, and beyond the diagonal of an open funnel.
+
+-- The way from a source over the apex of a funnel to one of its points, and where it begins.
+mod Ways
+pub use Rattle.funnels.proofs.Trees.Ways.{first_left, first_right, way_begins, way_to}
+-- In a ring that triangles fit a chain with bends is the path between its ends, and its last point but one comes before the last.
+mod BentPaths
+-- Paths within one triangle; and beyond a diagonal: the path to the point of the funnel from which a point is reached, and on.
+mod ReachedPaths
+pub use Rattle.funnels.proofs.Trees.ReachedPaths.{before_at_home, before_corner, before_reached, path_reached}

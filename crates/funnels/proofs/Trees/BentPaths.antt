@@ -1,0 +1,53 @@
+-- In a ring that triangles fit a chain with bends is the path between its ends, and its last point but one comes before the last.
+use Rattle.std.proofs.Common.{◌≡◌, sym, subst, ap, ◌∙◌, List, [], ◌∷◌, ◌++◌, length, ◌-◌, arith}
+use Rattle.std.proofs.lemmas.List.{append_assoc, get_or_append_left, get_or_push, length-append}
+use Rattle.plane.specs.Point.{Point}
+use Rattle.rings.specs.Chain.{IsBentChain, IsPath, point_at}
+use Rattle.rings.specs.From.{IsBefore}
+use Rattle.rings.specs.Ring.{origin}
+use Rattle.meshes.specs.Fits.{Fits}
+use Rattle.meshes.specs.declared.tri.Tri.{Tri}
+use Rattle.funnels.proofs.OneChain.{no_closed_chain, one_taut_chain}
+use Rattle.funnels.proofs.Trees.Ways.{first_stays}
+use Rattle.funnels.proofs.Vertices.{fitted_long, fitted_simple}
+
+module _ (corners : List Point) (tris : List Tri) (fits : Fits corners tris) where
+  -- the chain is the path,
+  pub path_of_bent : (chain : List Point) → IsBentChain corners chain → (s t : Point) → point_at chain 0 ≡ s
+      → point_at chain (length chain - 1) ≡ t → IsPath corners s t chain
+  path_of_bent chain bent s t first last =
+      let three = fitted_long corners tris fits in
+      let simple = fitted_simple corners tris fits in
+      one_taut_chain corners three simple s t chain (record {
+        bent = bent;
+        first = first;
+        last = last;
+        single = λ same. no_closed_chain corners three simple chain bent (first ∙ same ∙ sym last);
+      })
+
+  module _ (way : List Point) (s : Point) where
+    -- where its last point follows others,
+    pub path_of_way : (t : Point) → IsBentChain corners (way ++ t ∷ []) → point_at (way ++ t ∷ []) 0 ≡ s
+        → IsPath corners s t (way ++ t ∷ [])
+    path_of_way t bent first =
+        path_of_bent (way ++ t ∷ []) bent s t first
+        (get_or_push way t origin (length (way ++ t ∷ []) - 1) (omega (arith, length-append way (t ∷ []))))
+
+    -- and the last but one is before the last
+    pub before_of_bent : (q y : Point) → IsBentChain corners (way ++ q ∷ y ∷ []) → point_at (way ++ q ∷ []) 0 ≡ s
+        → IsBefore corners s y q
+    before_of_bent q y bent first =
+        let front = way ++ q ∷ [] in
+        let all = front ++ y ∷ [] in
+        let same : all ≡ way ++ q ∷ y ∷ [] = append_assoc way (q ∷ []) (y ∷ []) in
+        let count = length-append front (y ∷ []) in
+        let front_count = length-append way (q ∷ []) in
+        record {
+          path = all;
+          is_path = path_of_bent all (subst (IsBentChain corners) (sym same) bent) s y
+              (ap (λ ps. point_at ps 0) same ∙ first_stays way q (y ∷ []) ∙ first)
+              (get_or_push front y origin (length all - 1) (omega (arith, count)));
+          more = omega (arith, count, front_count);
+          is = get_or_append_left front (y ∷ []) origin (length all - 2) (omega (arith, count, front_count))
+              ∙ get_or_push way q origin (length all - 2) (omega (arith, count, front_count));
+        }

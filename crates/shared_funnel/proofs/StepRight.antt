@@ -1,0 +1,90 @@
+-- The numbers of the next funnel on the right: those to the place from which the third corner is reached, and that corner's.
+use Rattle.std.proofs.Common.{◌≡◌, inl, inr, sym, ap, subst, ◌∙◌, List, [], ◌∷◌, ◌++◌, length, take, min, ℕ}
+use Rattle.std.proofs.Common.{◌+◌, ◌-◌, ◌<◌, ◌≤◌, slice_index, arith}
+use Rattle.std.proofs.lemmas.List.{get_or-take, get_or_append_left, length-append, length-map, length-take-le, map-append, take-map}
+use Rattle.std.proofs.lemmas.List.Elements.{All-append, All-take}
+use Rattle.plane.specs.Point.{Point, whole}
+use Rattle.rings.specs.Chain.{point_at}
+use Rattle.rings.specs.Ring.{vertex}
+use Rattle.meshes.proofs.Sides.{ends_below}
+use Rattle.meshes.specs.Fits.{Fits, IsSideOfTwo}
+use Rattle.meshes.specs.declared.tri.Tri.{Tri}
+use Rattle.funnels.proofs.Chains.{step_right}
+use Rattle.funnels.proofs.Funnels.{next_right_old}
+use Rattle.funnels.proofs.Trees.{first_left}
+use Rattle.funnels.specs.Funnel.{IsReachedFrom}
+use Rattle.funnels.specs.OpenFunnel.{IsOpenFunnel, left_behind}
+use Rattle.shared_funnel.proofs.Lists.{length_left, none_of_both, one_number}
+use Rattle.shared_funnel.proofs.Numbers.{corner_point}
+use Rattle.shared_funnel.specs.Listed.{IsBeyond, IsFunnelAt, Listed, point_of, points_of}
+
+module _ (corners : List Point) (start : Point) (tris : List Tri) (k i j m next d : ℕ) (fits : Fits corners tris)
+    (beyond : IsBeyond tris k i j m) (f : Listed) (w : IsFunnelAt corners start i j d f) (h : ℕ)
+    (reached : IsReachedFrom (points_of corners start f.list) f.apex h (whole (vertex corners m)))
+    (shared : IsSideOfTwo tris m i k next) where
+  -- the points, and the next list
+  abbrev ns : List Point
+  ns = points_of corners start f.list
+
+  abbrev list : List ℕ
+  list = take (h + 1) f.list ++ m ∷ []
+
+  -- the place is one of the list,
+  within : h < length f.list
+  within = omega (arith, reached.within, length-map f.list (point_of corners start))
+
+  apex_within : f.apex < length f.list
+  apex_within = omega (arith, w.funnel.funnel.apex_within, length-map f.list (point_of corners start))
+
+  -- the corner is a vertex,
+  corner_below : m < length corners
+  corner_below = (ends_below corners tris fits k m i shared.in_list shared.has).0
+
+  -- so the list stands for the points to the place, and the corner
+  points_are : points_of corners start list ≡ take (h + 1) ns ++ vertex corners m ∷ []
+  points_are = map-append (point_of corners start) (take (h + 1) f.list) (m ∷ [])
+      ∙ ap (λ ps. ps ++ point_of corners start m ∷ []) (sym (take-map (point_of corners start) (h + 1) f.list))
+      ∙ ap (λ v. take (h + 1) ns ++ v ∷ []) (corner_point corners start m corner_below)
+
+  -- the chain to it begins at the start,
+  begins_there : point_at (w.before ++ left_behind ns f.apex (f.apex - h) ++ point_at (points_of corners start list) (min f.apex h) ∷ []) 0
+      ≡ start
+  begins_there =
+      let place : min f.apex h ≡ f.apex - (f.apex - h) = omega arith in
+      first_left w.before ns f.apex (f.apex - h) (point_at (points_of corners start list) (min f.apex h))
+      (ap (λ ps. point_at ps (min f.apex h)) points_are
+      ∙ next_right_old ns (vertex corners m) h reached.within (min f.apex h) (omega arith) ∙ ap (point_at ns) place)
+      ∙ w.begins
+
+  -- with its own number where nothing is before it,
+  source_there : w.before ++ left_behind ns f.apex (f.apex - h) ≡ [] → slice_index list (min f.apex h) ≡ length corners
+  source_there none =
+      let both = none_of_both w.before (left_behind ns f.apex (f.apex - h)) none in
+      let place : min f.apex h ≡ f.apex = omega (arith, both.1, length_left ns f.apex (f.apex - h)) in
+      ap (slice_index list) place
+      ∙ get_or_append_left (take (h + 1) f.list) (m ∷ []) 0 f.apex
+      (omega (arith, length-take-le (h + 1) f.list (omega (arith, within)), place))
+      ∙ get_or-take (h + 1) f.list f.apex 0 (omega (arith, place)) ∙ w.source both.0
+
+  -- and it is the next funnel
+  pub funnel_to_right : IsFunnelAt corners start i m (d + 1) (record { list = list; apex = min f.apex h })
+  funnel_to_right = record {
+    before = w.before ++ left_behind ns f.apex (f.apex - h);
+    funnel = subst (λ ps. IsOpenFunnel corners (w.before ++ left_behind ns f.apex (f.apex - h)) ps (min f.apex h) i m) (sym points_are)
+        (step_right corners tris fits k i j m beyond.diagonal.in_list beyond.diagonal.has
+        beyond.right beyond.left (k, beyond.from, inl beyond.diagonal) w.before ns f.apex w.funnel h reached (k, next, inr shared));
+    begins = begins_there;
+    source = source_there;
+    numbers = All-append (λ n. n ≤ length corners) (take (h + 1) f.list) (m ∷ [])
+        (All-take (λ n. n ≤ length corners) (h + 1) f.list w.numbers) (one_number (length corners) m (omega (arith, corner_below)));
+    few = omega (
+      arith,
+      w.few,
+      within,
+      apex_within,
+      length-append w.before (left_behind ns f.apex (f.apex - h)),
+      length_left ns f.apex (f.apex - h),
+      length-append (take (h + 1) f.list) (m ∷ []),
+      length-take-le (h + 1) f.list (omega (arith, within)),
+    );
+  }

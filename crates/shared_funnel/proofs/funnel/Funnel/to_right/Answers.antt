@@ -1,0 +1,50 @@
+use Rattle.std.proofs.Common.{◌≡◌, sym, ap, subst, ◌∙◌, ◌+◌, [], ◌∷◌, ◌++◌, length, min, take, arith}
+use Rattle.std.proofs.lemmas.List.{length-take}
+use Rattle.shared_seq.proofs.Digits.{binary_digits_mono}
+use Rattle.shared_funnel.proofs.StepRight.{funnel_to_right}
+use Rattle.shared_funnel.proofs.funnel.Funnel.to_right.Goals as goal
+use Rattle.shared_funnel.specs.Listed.{IsFunnelAt}
+
+pub returns-in_err-front-clause-steps : goal.returns-in_err-front-clause-steps
+returns-in_err-front-clause-steps g c =
+    let n = length c.args.self.now.list in
+    let same = ap (λ l. length l.list) c.self.view_is in
+    omega (arith, c.split_at.ensures.steps, binary_digits_mono (length c.self.inside.list) (n + 1) (omega (arith, same)))
+
+pub returns-in_err-list-clause-steps : goal.returns-in_err-list-clause-steps
+returns-in_err-list-clause-steps g c =
+    let n = length c.args.self.now.list in
+    let same = ap (λ l. length l.list) c.self.view_is in
+    let front = ap length c.in_ok-front.ensures.front in
+    omega (
+      arith,
+      c.split_at.ensures.steps,
+      c.push_back.ensures.steps,
+      binary_digits_mono (length c.self.inside.list) (n + 1) (omega (arith, same)),
+      binary_digits_mono (length c.in_ok-front.front + 1) (n + 1)
+          (omega (arith, same, front, length-take (c.args.place + 1) c.self.inside.list)),
+    )
+
+pub returns-clause-funnel : goal.returns-clause-funnel
+returns-clause-funnel g c corners start tris k i j next d fits beyond w reached shared =
+    let f = c.args.self.now in
+    let list_is : c.in_ok-list.list ≡ take (c.args.place + 1) f.list ++ c.args.m ∷ [] =
+    c.in_ok-list.ensures.list
+    ∙ ap (λ l. l ++ c.args.m ∷ []) (c.in_ok-front.ensures.front ∙ ap (λ l. take (c.args.place + 1) l.list) c.self.view_is) in
+    let apex_is : c.min.result ≡ min f.apex c.args.place = c.min.ensures ∙ ap (λ l. min l.apex c.args.place) c.self.view_is in
+    subst (IsFunnelAt corners start i c.args.m (d + 1)) (λ t. record { list = sym list_is t; apex = sym apex_is t })
+    (funnel_to_right corners start tris k i j c.args.m next d fits beyond f w c.args.place reached shared)
+
+pub returns-clause-steps : goal.returns-clause-steps
+returns-clause-steps g c =
+    let n = length c.args.self.now.list in
+    let same = ap (λ l. length l.list) c.self.view_is in
+    let front = ap length c.in_ok-front.ensures.front in
+    omega (
+      arith,
+      c.split_at.ensures.steps,
+      c.push_back.ensures.steps,
+      binary_digits_mono (length c.self.inside.list) (n + 1) (omega (arith, same)),
+      binary_digits_mono (length c.in_ok-front.front + 1) (n + 1)
+          (omega (arith, same, front, length-take (c.args.place + 1) c.self.inside.list)),
+    )

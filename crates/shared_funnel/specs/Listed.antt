@@ -1,0 +1,43 @@
+-- Funnels as lists of numbers: corners by theirs, and the source by the count of the corners. This project's own.
+use Rattle.std.specs.List.{All}
+use Rattle.std.specs.Prelude.{◌≡◌, ℕ, ◌+◌, ◌≤◌, List, [], ◌∷◌, ◌++◌, length, map, slice_index}
+use Rattle.plane.specs.Point.{Point}
+use Rattle.rings.specs.Chain.{point_at}
+use Rattle.meshes.specs.Fits.{IsSideOfTwo}
+use Rattle.meshes.specs.Side.{HasSide, tri_at}
+use Rattle.meshes.specs.declared.tri.Tri.{Tri}
+use Rattle.funnels.specs.OpenFunnel.{IsOpenFunnel}
+
+-- the numbers from the left end to the right one, and the place of the apex
+pub record Listed : Type 0 where
+  pub list : List ℕ
+  pub apex : ℕ
+
+-- the point that a number stands for
+abbrev pub point_of : List Point → Point → ℕ → Point
+point_of corners start i = point_at (corners ++ start ∷ []) i
+
+-- and those of a list
+abbrev pub points_of : List Point → Point → List ℕ → List Point
+points_of corners start list = map (point_of corners start) list
+
+-- each stands for a point, among so many corners
+abbrev pub AreNumbers : ℕ → List ℕ → Type 0
+AreNumbers n list = All (λ i. i ≤ n) list
+
+-- triangle k is beyond the diagonal from corner i, on the left, to corner j, and m is its third corner
+pub record IsBeyond (tris : List Tri) (k i j m : ℕ) : Type 0 where
+  pub from : ℕ
+  pub diagonal : IsSideOfTwo tris i j k from
+  pub right : HasSide (tri_at tris k) j m
+  pub left : HasSide (tri_at tris k) m i
+
+-- the numbers stand for the funnel at the diagonal from corner i to corner j, after so many diagonals. The chain to it begins at
+-- the start, and where it has no points before the apex, that is the start by its own number
+pub record IsFunnelAt (corners : List Point) (start : Point) (i j diagonals : ℕ) (f : Listed) : Type 0 where
+  pub before : List Point
+  pub funnel : IsOpenFunnel corners before (points_of corners start f.list) f.apex i j
+  pub begins : point_at (before ++ point_at (points_of corners start f.list) f.apex ∷ []) 0 ≡ start
+  pub source : before ≡ [] → slice_index f.list f.apex ≡ length corners
+  pub numbers : AreNumbers (length corners) f.list
+  pub few : length before + length f.list ≤ diagonals + 2
