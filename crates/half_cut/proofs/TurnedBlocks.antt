@@ -77,7 +77,7 @@ module _ (a b : Point) (cs : List Triple) (turns : List Direction) (are : turns 
               (determinant (whole a) (whole b) (corner (from_place start cs) i)) right),
         ))
 
-  module _ (start count : ℕ) (block : IsBlock turns start count) (convex : AreConvex cs) where
+  module _ {start count : ℕ} (block : IsBlock turns start count) (convex : AreConvex cs) where
     in_start : start ≤ length cs
     in_start = omega (arith, block.within, as_many_turns)
 

@@ -6,16 +6,12 @@ use Rattle.half_cut.specs.Outline.{Outline}
 pub returns-in-All-clause-cut : goal.returns-in-All-clause-cut
 returns-in-All-clause-cut g c =
     let is : c.self.inside.corners.items ≡ c.args.self.corners = ap (λ (r : Outline). r.corners) c.self.view_is in
-    let turns = rw (c.deref.ensures.value, is) at c.in-Ok.ensures in
     let stay = rw (c.in-All.is, c.deref-2.ensures.value) at c.block_of.ensures in
-    let invariant = rw is at c.self.invariant in
-    blocks.list_of_all c.args.a.now c.args.b.now c.args.self.corners c.in-Ok.turns.items turns invariant.convex invariant.least stay
+    rw (← is) (blocks.list_of_all c.args.a.now c.args.b.now _ _ (rw c.deref.ensures.value at c.in-Ok.ensures) c.self.invariant.convex c.self.invariant.least stay)
 
 pub returns-in-Nothing-clause-cut : goal.returns-in-Nothing-clause-cut
 returns-in-Nothing-clause-cut g c =
     let is : c.self.inside.corners.items ≡ c.args.self.corners = ap (λ (r : Outline). r.corners) c.self.view_is in
-    let turns = rw (c.deref.ensures.value, is) at c.in-Ok.ensures in
     let go = rw (c.in-Nothing.is, c.deref-2.ensures.value) at c.block_of.ensures in
-    let invariant = rw is at c.self.invariant in
-    rw c.emptied.ensures.corners
-    (blocks.list_of_none c.args.a.now c.args.b.now c.args.self.corners c.in-Ok.turns.items turns invariant.convex invariant.least go)
+    rw (← is, c.emptied.ensures.corners)
+    (blocks.list_of_none c.args.a.now c.args.b.now _ _ (rw c.deref.ensures.value at c.in-Ok.ensures) c.self.invariant.convex c.self.invariant.least go)
