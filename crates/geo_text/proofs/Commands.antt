@@ -127,14 +127,14 @@ reading_is_well_sized (word ∷ fields) =
     (fixed_is_well_sized (fixed_fault 0 fields) command.Kernel tt)
     (either (list_any (λ later. bytes_eq later word) later_words) (Err bad.Later) (Err bad.Word) tt tt))))))
 
--- what a record asks for, by what its word asks for
-pub reading_by_word : {E : Type 0} (name : List ℕ) (asked : List (List ℕ) → Result Command Bad) → bytes_eq [] name ≡ false
-    → ((fields : List (List ℕ)) → asked fields ≡ reading_of (name ∷ fields)) → (fields : List (List ℕ)) → bytes_eq (get_or fields 0 []) name ≡ true
-    → (found : Result (Result Command Bad) E) → IfOk found (λ reading. reading ≡ asked (drop 1 fields)) → IfOk found (λ reading. reading ≡ reading_of fields)
-reading_by_word name asked some same [] e found h = absurd (true≢false (sym e ∙ some))
-reading_by_word name asked some same (word ∷ fields) e found h =
-    let is : word ≡ name = (bytes_eq-Decides word name).0 e in
-    IfOk-weaker found _ _ (λ reading read. read ∙ rw is (same fields)) h
+-- what a record asks for, by its word
+pub reading_by_word : {E : Type 0} (word : List ℕ) → bytes_eq [] word ≡ false → (fields : List (List ℕ))
+    → bytes_eq (get_or fields 0 []) word ≡ true → (found : Result (Result Command Bad) E)
+    → IfOk found (λ reading. reading ≡ reading_of (word ∷ drop 1 fields)) → IfOk found (λ reading. reading ≡ reading_of fields)
+reading_by_word word some [] e found h = absurd (true≢false (sym e ∙ some))
+reading_by_word word some (first ∷ fields) e found h =
+    let is : first ≡ word = (bytes_eq-Decides first word).0 e in
+    IfOk-weaker found _ _ (λ reading read. rw is read) h
 
 -- a record whose first field is no word that is answered, and a record with no field
 pub reading_of_other : (fields : List (List ℕ)) → bytes_eq (get_or fields 0 []) (codes "polygon") ≡ false
