@@ -24,5 +24,9 @@ returns-clause-few g c =
     let ring = c.self.inside.ring in
     let parts = c.in_ok-parts.parts.items in
     let is = ap length c.in_ok-given.ensures in
-    omega (arith, is, given_few ring (whole c.args.q.now) (given_parts ring parts)
-    (view_given ring (whole c.args.q.now) parts (record { seen = c.in_ok-parts.ensures.parts; view = c.in_ok-parts.ensures.view })))
+    omega (
+      arith,
+      is,
+      given_few ring (whole c.args.q.now) (given_parts ring parts)
+          (view_given ring (whole c.args.q.now) parts (record { seen = c.in_ok-parts.ensures.parts; view = c.in_ok-parts.ensures.view })),
+    )
