@@ -99,6 +99,26 @@ def places(ring, count):
     return [(draw.randint(left, right), draw.randint(low, high)) for _ in range(count)]
 
 
+def is_inside(ring, place):
+    """By the edges that a ray to the right crosses."""
+    (x, y), odd = place, False
+    for (a, b), (c, d) in zip(ring, ring[1:] + ring[:1]):
+        if (b <= y) != (d <= y) and ((c - a) * (y - b) - (d - b) * (x - a) > 0) == (b < d):
+            odd = not odd
+    return odd
+
+
+def inner_places(ring, count):
+    """Points at random in a ring."""
+    draw, found = random.Random(count), []
+    (left, low), (right, high) = map(min, zip(*ring)), map(max, zip(*ring))
+    while len(found) < count:
+        place = (draw.randint(left, right), draw.randint(low, high))
+        if is_inside(ring, place):
+            found.append(place)
+    return found
+
+
 def way_along_comb(n):
     """The taut chain from one end of the comb to the other."""
     k = n // 2 - 1
