@@ -38,6 +38,9 @@ impl Region {
         ensures few { IfOk result (λ rest. length rest.corners ≤ length self.corners + 1) }
         ensures memory { IfErr result (λ fault. fault ≡ CutFault.Memory self) }
     {
+        if self.corners.is_empty() {
+            return Ok(self);
+        }
         let Ok(turns) = turns(alloc, &self.corners, a, b, steps) else {
             return Err(CutFault::Memory(self));
         };
