@@ -6,6 +6,7 @@ pub mod Laws
 pub mod Normal
 pub mod OneSign
 pub mod Polynomial
+pub mod SameSigns
 pub mod SignSteps
 pub mod Signs
 pub mod Weights

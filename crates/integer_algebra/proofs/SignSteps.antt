@@ -3,7 +3,7 @@ use Rattle.std.proofs.Common.{◌≡◌, ap, ℕ, ℤ, pos, ◌+ℤ◌, ◌*ℤ�
 use Rattle.std.proofs.lemmas.Int.{ints}
 use Rattle.integer_algebra.proofs.Laws.{mul-neg, mul-zero}
 use Rattle.integer_algebra.proofs.Signs.{cancel_equal, factor_negative, factor_nonnegative, factor_nonpositive, factor_positive, mul_nonnegative}
-use Rattle.integer_algebra.proofs.Signs.{mul_nonpositive}
+use Rattle.integer_algebra.proofs.Signs.{mul_nonpositive, mul_positive}
 use Rattle.integer_algebra.proofs.Weights.{weighted_positive}
 
 -- ---- one number
@@ -129,6 +129,12 @@ pub not_negative_of_opposite : {z : ℤ} → neg_ℤ z ≤ℤ pos 0 → ¬ (z <�
 not_negative_of_opposite h k = omega (arith, ints)
 
 -- ---- a mean z of two numbers f and g, with the weights l and m
+
+-- it is positive where the first is not negative, and the second is positive and weighs
+pub mean_last_positive : (k l m z f g : ℤ) → pos 0 <ℤ k → pos 0 ≤ℤ l → pos 0 <ℤ m → k *ℤ z ≡ l *ℤ f +ℤ m *ℤ g → pos 0 ≤ℤ f → pos 0 <ℤ g
+    → pos 0 <ℤ z
+mean_last_positive k l m z f g hk hl hm e hf hg =
+    factor_positive k z hk (omega (arith, ints, e, mul_nonnegative l f hl hf, mul_positive m g hm hg))
 
 module _ (k l m z f g : ℤ) (hk : pos 0 <ℤ k) (hl : pos 0 ≤ℤ l) (hm : pos 0 ≤ℤ m) (e : k *ℤ z ≡ l *ℤ f +ℤ m *ℤ g) where
   -- it is not positive where neither of them is,
