@@ -3,7 +3,8 @@ use Rattle.std.proofs.Common.{◌≡◌, ◌⊎◌, inl, inr, [], ◌∷◌, ref
 use Rattle.std.proofs.lemmas.Int.{ints}
 use Rattle.integer_algebra.proofs.Laws.{mul-zero, mul_comm, neg-mul, zero-mul}
 use Rattle.integer_algebra.proofs.Polynomial.{var, ◌⊕◌, ◌⊖◌, ◌⊗◌, same_value, zero_value}
-use Rattle.integer_algebra.proofs.SignSteps.{weak, zero_not_negative}
+use Rattle.integer_algebra.proofs.SameSigns.{same_nonnegative}
+use Rattle.integer_algebra.proofs.SignSteps.{at_least_unless, weak, zero_not_negative, zero_of_both}
 use Rattle.integer_algebra.proofs.Signs.{factor_nonnegative, lt_or_le, mul_negative, mul_nonnegative, mul_positive}
 use Rattle.plane.proofs.Order.{NotAfter, not_after_antisym, not_after_from, rise, run}
 use Rattle.plane.proofs.Points.{same_sym}
@@ -26,34 +27,19 @@ pub record IsSide (set : Triple → Type 0) (a b : Triple) : Type 0 where
   pub none_right : (p : Triple) → IsPoint p → set p → ¬ IsRight a b p
   pub on_line : (p : Triple) → IsPoint p → set p → IsStraight a b p → On p a b
 
--- a number that is not negative, through a positive factor on each side
-not_negative_through : (x y v w : ℤ) → pos 0 <ℤ v → pos 0 <ℤ w → x *ℤ v ≡ y *ℤ w → ¬ (y <ℤ pos 0) → pos 0 ≤ℤ x
-not_negative_through x y v w hv hw e h = elim (lt_or_le x (pos 0)) [
-  | inr k ↦ k
-  | inl k ↦ elim (lt_or_le y (pos 0)) [
-    | inl n ↦ absurd (h n)
-    | inr n ↦ absurd (omega (arith, ints, mul_negative v x hv k, mul_comm v x, mul_nonnegative y w n (weak hw)))
-  ]
-]
-
--- what is neither right nor left is in line
-neither_side : (x y : ℤ) → y ≡ neg_ℤ x → ¬ (x <ℤ pos 0) → pos 0 ≤ℤ y → x ≡ pos 0
-neither_side x y e h k = elim (lt_or_le x (pos 0)) [ inl n ↦ absurd (h n) | inr n ↦ omega (arith, ints) ]
-
 module _ (set : Triple → Type 0) where
   module _ (a b c d : Triple) (one : IsSide set a b) (other : IsSide set c d) (same : IsSame a c) where
     -- the end of one side is not right of another that begins at the same point,
     not_beyond : pos 0 ≤ℤ determinant a d b
     not_beyond =
-        let at = determinant_same d b a c same in
-        let not = other.none_right b one.last_rational one.last_in_set in
-        let k = not_negative_through (determinant d b a) (determinant d b c) c.W a.W other.first_rational one.first_rational at
-        (λ h. not (subst (λ t. t <ℤ pos 0) (determinant_shift c d b) h)) in
+        let at = determinant_same d b c a (same_sym same) in
+        let not = at_least_unless (other.none_right b one.last_rational one.last_in_set) in
+        let k = same_nonnegative (determinant d b c) (determinant d b a) c.W a.W other.first_rational one.first_rational at (rw (determinant_shift c d b) not) in
         subst (λ t. pos 0 ≤ℤ t) (determinant_shift a d b) k
 
     -- so it is in line with it
     in_line : IsStraight a b d
-    in_line = neither_side _ _ (determinant_swap_last a b d) (one.none_right d other.last_rational other.last_in_set) not_beyond
+    in_line = zero_of_both (determinant_swap_last a b d) (at_least_unless (one.none_right d other.last_rational other.last_in_set)) not_beyond
 
   -- two sides that begin at one point end at one
   pub sides_agree : (a b c d : Triple) → IsSide set a b → IsSide set c d → IsSame a c → IsSame b d
@@ -91,10 +77,6 @@ weight_from : (k f m g r s : ℤ) → r ≡ pos 0 → k *ℤ f -ℤ m *ℤ g -�
 weight_from k f m g r s none e hk hf hg =
     factor_nonnegative g m hg (omega (arith, ints, mul_comm g m, mul_nonnegative k f (weak hk) hf, ap (λ z. z *ℤ s) none, zero-mul s))
 
--- what is not negative is not below 0
-not_right_is : {x : ℤ} → ¬ (x <ℤ pos 0) → pos 0 ≤ℤ x
-not_right_is h = grind (arith, ints)
-
 module _ (z a b d x : Triple) (at_a : IsPoint a) (at_b : IsPoint b) (at_x : IsPoint x)
     (turns_first : IsLeft z a b) (turns_last : IsLeft b d a) (not_first : ¬ IsRight z a x) (not_last : ¬ IsRight b d x)
     (straight : IsStraight a b x) where
@@ -105,8 +87,8 @@ module _ (z a b d x : Triple) (at_a : IsPoint a) (at_b : IsPoint b) (at_x : IsPo
       let first = weight_from (determinant a b d) (determinant z a x) (determinant a x d) (determinant z a b) (determinant a b x)
       (determinant z a d) straight
       (zero_value (det 1 2 4 ⊗ det 0 1 3 ⊖ det 1 3 4 ⊗ det 0 1 2 ⊖ det 1 2 3 ⊗ det 0 1 4) (parts (z ∷ a ∷ b ∷ x ∷ d ∷ []) []) refl)
-      turn (not_right_is not_first) turns_first in
-      let back : pos 0 ≤ℤ neg_ℤ (determinant b x d) = subst (λ t. pos 0 ≤ℤ t) (determinant_swap_last b x d) (not_right_is not_last) in
+      turn (at_least_unless not_first) turns_first in
+      let back : pos 0 ≤ℤ neg_ℤ (determinant b x d) = subst (λ t. pos 0 ≤ℤ t) (determinant_swap_last b x d) (at_least_unless not_last) in
       on_of_combination x a b at_x at_a at_b (record {
         k = determinant a b d;
         l = neg_ℤ (determinant b x d);
@@ -169,7 +151,7 @@ module _ (z a b x : Triple) (turns : IsLeft a b z) (not_first : ¬ IsRight z a x
   pub least_at_corner : NotAfter a x
   least_at_corner = not_after_from a x (λ h.
       no_way_back (determinant a b z) (determinant z a x) (determinant a b x) (run x a) (rise x a) (run b a) (rise b a) (run z a) (rise z a)
-      turns (not_right_is not_first) (not_right_is not_last) (way_forward a b after) (way_forward a z before)
+      turns (at_least_unless not_first) (at_least_unless not_last) (way_forward a b after) (way_forward a z before)
       (same_value (det 1 2 0 ⊗ (var 9 ⊗ var 5 ⊖ var 3 ⊗ var 11))
       (det 0 1 3 ⊗ (var 6 ⊗ var 5 ⊖ var 3 ⊗ var 8) ⊕ det 1 2 3 ⊗ (var 0 ⊗ var 5 ⊖ var 3 ⊗ var 2)) (parts (z ∷ a ∷ b ∷ x ∷ []) []) refl)
       (same_value (det 1 2 0 ⊗ (var 10 ⊗ var 5 ⊖ var 4 ⊗ var 11))

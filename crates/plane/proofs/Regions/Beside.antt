@@ -4,8 +4,9 @@ use Rattle.std.proofs.lemmas.Bool.{cases_eq, cases_lt}
 use Rattle.std.proofs.lemmas.Int.{ints}
 use Rattle.std.proofs.lemmas.List.{append-nil}
 use Rattle.integer_algebra.proofs.Laws.{mul-zero, mul_comm, zero-mul}
+use Rattle.integer_algebra.proofs.SameSigns.{same_nonnegative}
 use Rattle.integer_algebra.proofs.SignSteps.{mean_not_negative, weak, weak_order, zero_not_negative}
-use Rattle.integer_algebra.proofs.Signs.{factor_nonnegative, lt_or_le, mul_nonnegative, mul_negatives, mul_nonpositive}
+use Rattle.integer_algebra.proofs.Signs.{lt_or_le, mul_negatives, mul_nonpositive}
 use Rattle.plane.proofs.Regions.Corners.{all_more, left_shift, left_shift_back}
 use Rattle.plane.proofs.Regions.LineMeetings.{Ends, IsMeeting, at_corner, at_meeting}
 use Rattle.plane.proofs.Regions.Fans.{IsMeanOfThree, four_beside}
@@ -103,23 +104,20 @@ meeting_beside a b c d x y z h hc hd =
 -- ---- two points on the line
 
 -- the relation of four triples of which two are on a line
-two_on_line : (r t d e s w z v : ℤ) → z ≡ pos 0 → v ≡ pos 0 → r *ℤ z -ℤ t *ℤ v +ℤ d *ℤ s -ℤ e *ℤ w ≡ pos 0 → e *ℤ w ≡ d *ℤ s
-two_on_line r t d e s w z v hz hv h = omega (arith, ints, h, ap (λ k. r *ℤ k) hz, ap (λ k. t *ℤ k) hv, mul-zero r, mul-zero t)
+two_on_line : (r t d e s w z v : ℤ) → z ≡ pos 0 → v ≡ pos 0 → r *ℤ z -ℤ t *ℤ v +ℤ d *ℤ s -ℤ e *ℤ w ≡ pos 0 → s *ℤ d ≡ e *ℤ w
+two_on_line r t d e s w z v hz hv h =
+    omega (arith, ints, h, ap (λ k. r *ℤ k) hz, ap (λ k. t *ℤ k) hv, mul-zero r, mul-zero t, mul_comm d s)
 
--- of two products with one value
-beside_left : (d e s w : ℤ) → e *ℤ w ≡ d *ℤ s → pos 0 <ℤ d → pos 0 <ℤ w → pos 0 ≤ℤ s → pos 0 ≤ℤ e
-beside_left d e s w h hd hw hs = factor_nonnegative w e hw (omega (arith, ints, h, mul_comm w e, mul_nonnegative d s (weak hd) hs))
-
--- of the same with two negative numbers
-beside_right : (d e s w : ℤ) → e *ℤ w ≡ d *ℤ s → d <ℤ pos 0 → w <ℤ pos 0 → pos 0 ≤ℤ s → pos 0 ≤ℤ e
+-- numbers that agree through negative factors are not negative together
+beside_right : (d e s w : ℤ) → s *ℤ d ≡ e *ℤ w → d <ℤ pos 0 → w <ℤ pos 0 → pos 0 ≤ℤ s → pos 0 ≤ℤ e
 beside_right d e s w h hd hw hs = elim (lt_or_le e (pos 0)) [
   | inr n ↦ n
-  | inl n ↦ absurd (omega (arith, ints, h, mul_negatives e w n hw, mul_nonpositive s d hs (weak_order hd), mul_comm d s))
+  | inl n ↦ absurd (omega (arith, ints, h, mul_negatives e w n hw, mul_nonpositive s d hs (weak_order hd)))
 ]
 
 module _ (a b u v w p : Triple) (on_u : IsStraight a b u) (on_v : IsStraight a b v) (above : IsNotRight a b p) where
   -- the sides of p are as those of w
-  same_sides : determinant u v p *ℤ determinant a b w ≡ determinant u v w *ℤ determinant a b p
+  same_sides : determinant a b p *ℤ determinant u v w ≡ determinant u v p *ℤ determinant a b w
   same_sides =
       two_on_line (determinant v p w) (determinant u p w) (determinant u v w) (determinant u v p) (determinant a b p) (determinant a b w)
       _ _
@@ -127,7 +125,7 @@ module _ (a b u v w p : Triple) (on_u : IsStraight a b u) (on_v : IsStraight a b
 
   -- p is not right of the way from u to v on the line, where what is left of the line is left of it,
   pub not_right_by_left : IsLeft u v w → IsLeft a b w → IsNotRight u v p
-  not_right_by_left turned left = beside_left _ _ _ _ same_sides turned left above
+  not_right_by_left turned left = same_nonnegative _ _ (determinant a b w) (determinant u v w) left turned same_sides above
 
   -- or what is right of the one is right of the other
   pub not_right_by_right : IsRight u v w → IsRight a b w → IsNotRight u v p

@@ -2,10 +2,10 @@
 use Rattle.std.proofs.Common.{◌≡◌, ◌⊎◌, inl, inr, refl, sym, subst, ap, ◌∙◌, ℕ, ◌-◌, ◌<◌, ◌≤◌, arith, List, [], ◌∷◌, ◌++◌, length, take, pos, ◌≤ℤ◌, ◌<ℤ◌}
 use Rattle.std.proofs.lemmas.Bool.{cases_lt}
 use Rattle.std.proofs.lemmas.List.{append-nil, length_push}
-use Rattle.integer_algebra.proofs.SignSteps.{mean_not_negative, weak, zero_not_negative}
+use Rattle.integer_algebra.proofs.SignSteps.{mean_last_positive, mean_not_negative, weak, zero_not_negative}
 use Rattle.plane.proofs.Regions.Corners.{convex_first, convex_more, first_corner, left_at, left_shift, left_shift_back, length_first, new_corner, no_product, old_corner}
 use Rattle.plane.proofs.Regions.LineMeetings.{Ends, IsMeeting, at_corner, at_meeting}
-use Rattle.plane.proofs.Regions.Weighing.{mean_last_positive, mean_some_positive}
+use Rattle.plane.proofs.Regions.Weighing.{mean_some_positive}
 use Rattle.plane.proofs.Turns.{determinant_along, determinant_same, determinant_same_ends, determinant_same_last, determinant_shift_back}
 use Rattle.plane.specs.Convex.{AreConvex, corner}
 use Rattle.plane.specs.Point.{IsPoint, IsSame, Triple}

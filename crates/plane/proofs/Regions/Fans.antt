@@ -2,9 +2,10 @@
 -- one side of a line, the region is.
 use Rattle.std.proofs.Common.{◌≡◌, inl, inr, sym, subst, ◌∙◌, ℕ, zero, suc, ◌+◌, ◌-◌, ◌<◌, ◌≤◌, arith, List, [], ◌∷◌, length, ℤ, pos, ◌+ℤ◌, ◌-ℤ◌, ◌*ℤ◌, neg_ℤ, ◌≤ℤ◌, ◌<ℤ◌}
 use Rattle.std.proofs.lemmas.Int.{ints}
-use Rattle.integer_algebra.proofs.Laws.{neg-mul, mul_comm}
+use Rattle.integer_algebra.proofs.Laws.{neg-mul}
+use Rattle.integer_algebra.proofs.SameSigns.{same_negative, same_nonnegative}
 use Rattle.integer_algebra.proofs.SignSteps.{mean_negative, mean_not_negative, opposite_not_negative, turned_not_positive, weak}
-use Rattle.integer_algebra.proofs.Signs.{factor_negative, factor_nonnegative, lt_or_le, mul_negative, mul_nonnegative}
+use Rattle.integer_algebra.proofs.Signs.{lt_or_le}
 use Rattle.plane.proofs.Regions.Sides.{IsInSides, sides_of_region}
 use Rattle.plane.proofs.Regions.Weighing.{three_negative, three_not_negative}
 use Rattle.plane.proofs.Turns.{combination_of, determinant_along, determinant_is_linear, determinant_same, determinant_swap_first, four_triples}
@@ -98,21 +99,13 @@ fanned cs p convex many sides =
 
 -- ---- one side of a line
 
--- a number that is the same as another beside positive ones is not negative where that is not,
-same_not_negative : (x w z v : ℤ) → x *ℤ v ≡ z *ℤ w → pos 0 <ℤ v → pos 0 <ℤ w → pos 0 ≤ℤ z → pos 0 ≤ℤ x
-same_not_negative x w z v e hv hw h = factor_nonnegative v x hv (omega (arith, ints, e, mul_comm v x, mul_nonnegative z w h (weak hw)))
-
--- and negative where that is
-same_negative : (x w z v : ℤ) → x *ℤ v ≡ z *ℤ w → pos 0 <ℤ v → pos 0 <ℤ w → z <ℤ pos 0 → x <ℤ pos 0
-same_negative x w z v e hv hw h = factor_negative v x hv (omega (arith, ints, e, mul_comm v x, mul_comm z w, mul_negative w z hw h))
-
 module _ (x y : Triple) where
   -- where no corner is right of a line, the region is not
   pub region_not_right : (cs : List Triple) (p : Triple) → AreConvex cs → IsPoint p → IsInRegion cs p
       → ((i : ℕ) → i < length cs → pos 0 ≤ℤ determinant x y (corner cs i)) → pos 0 ≤ℤ determinant x y p
   region_not_right [] p convex at_p h all = absurd h
   region_not_right (a ∷ []) p convex at_p h all =
-      same_not_negative _ _ _ _ (determinant_same x y p a h) (convex.rational 0 (omega arith)) at_p (all 0 (omega arith))
+      same_nonnegative _ _ a.W p.W (convex.rational 0 (omega arith)) at_p (sym (determinant_same x y p a h)) (all 0 (omega arith))
   region_not_right (a ∷ b ∷ []) p convex at_p h all =
       let c = combination_of p a b at_p (convex.rational 0 (omega arith)) (convex.rational 1 (omega arith)) h in
       mean_not_negative c.k c.l c.m _ _ _ c.k_positive c.l_nonnegative c.m_nonnegative (determinant_along p a b c x y)
@@ -128,7 +121,7 @@ module _ (x y : Triple) where
       → ((i : ℕ) → i < length cs → IsRight x y (corner cs i)) → IsRight x y p
   region_right [] p convex at_p h all = absurd h
   region_right (a ∷ []) p convex at_p h all =
-      same_negative _ _ _ _ (determinant_same x y p a h) (convex.rational 0 (omega arith)) at_p (all 0 (omega arith))
+      same_negative _ _ a.W p.W (convex.rational 0 (omega arith)) at_p (sym (determinant_same x y p a h)) (all 0 (omega arith))
   region_right (a ∷ b ∷ []) p convex at_p h all =
       let c = combination_of p a b at_p (convex.rational 0 (omega arith)) (convex.rational 1 (omega arith)) h in
       mean_negative c.k c.l c.m _ _ _ c.k_positive c.l_nonnegative c.m_nonnegative (determinant_along p a b c x y)

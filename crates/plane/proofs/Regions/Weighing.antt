@@ -2,23 +2,16 @@
 use Rattle.std.proofs.Common.{◌≡◌, ◌⊎◌, inl, inr, ap, ◌∙◌, ℤ, pos, ◌+ℤ◌, ◌*ℤ◌, ◌<ℤ◌, ◌≤ℤ◌, arith}
 use Rattle.std.proofs.lemmas.Int.{ints}
 use Rattle.integer_algebra.proofs.Laws.{mul-zero, zero-mul}
-use Rattle.integer_algebra.proofs.SignSteps.{not_both, weak}
+use Rattle.integer_algebra.proofs.SignSteps.{mean_last_positive, not_both, weak}
 use Rattle.integer_algebra.proofs.Signs.{factor_negative, factor_nonnegative, factor_positive, is_negative, is_positive, is_zero, mul_negative}
 use Rattle.integer_algebra.proofs.Signs.{mul_nonnegative, mul_nonpositive, mul_positive, sign}
-
--- a mean with a last weight of two numbers of which the last is positive
-pub mean_last_positive : (k l m z f g : ℤ) → pos 0 <ℤ k → pos 0 ≤ℤ l → pos 0 <ℤ m → k *ℤ z ≡ l *ℤ f +ℤ m *ℤ g → pos 0 ≤ℤ f → pos 0 <ℤ g
-    → pos 0 <ℤ z
-mean_last_positive k l m z f g hk hl hm e hf hg =
-    factor_positive k z hk (omega (arith, ints, e, mul_nonnegative l f hl hf, mul_positive m g hm hg))
 
 -- a mean with both weights of two numbers of which one is positive
 pub mean_some_positive : (k l m z f g : ℤ) → pos 0 <ℤ k → pos 0 <ℤ l → pos 0 <ℤ m → k *ℤ z ≡ l *ℤ f +ℤ m *ℤ g → pos 0 ≤ℤ f → pos 0 ≤ℤ g
     → (pos 0 <ℤ f) ⊎ (pos 0 <ℤ g) → pos 0 <ℤ z
 mean_some_positive k l m z f g hk hl hm e hf hg (inl h) =
     factor_positive k z hk (omega (arith, ints, e, mul_positive l f hl h, mul_nonnegative m g (weak hm) hg))
-mean_some_positive k l m z f g hk hl hm e hf hg (inr h) =
-    factor_positive k z hk (omega (arith, ints, e, mul_nonnegative l f (weak hl) hf, mul_positive m g hm h))
+mean_some_positive k l m z f g hk hl hm e hf hg (inr h) = mean_last_positive k l m z f g hk (weak hl) hm e hf h
 
 -- a mean that is not negative, of 0 and a negative number, has no weight on that
 pub no_weight_below : (k l m z f g : ℤ) → pos 0 <ℤ k → pos 0 ≤ℤ m → k *ℤ z ≡ l *ℤ f +ℤ m *ℤ g → f ≡ pos 0 → g <ℤ pos 0 → pos 0 ≤ℤ z
