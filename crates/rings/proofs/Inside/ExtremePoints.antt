@@ -3,7 +3,8 @@ use Rattle.std.proofs.Common.{◌≡◌, ◌≢◌, ◌⊎◌, inl, inr, refl, �
 use Rattle.std.proofs.Common.{neg_ℤ, ◌<ℤ◌, ◌≤ℤ◌}
 use Rattle.std.proofs.lemmas.Int.{ints}
 use Rattle.std.specs.Prelude.{unsigned_abs}
-use Rattle.integer_algebra.proofs.Polynomial.{var, lit, ◌⊕◌, ◌⊖◌, ◌⊗◌, same_value, zero_value}
+use Rattle.integer_algebra.proofs.Laws.{sub-mul}
+use Rattle.integer_algebra.proofs.Polynomial.{var, lit, ◌⊕◌, ◌⊖◌, ◌⊗◌, same_value}
 use Rattle.integer_algebra.proofs.SignSteps.{natural_not_negative}
 use Rattle.integer_algebra.proofs.Signs.{is_negative, is_positive, is_zero, mul_order, mul_positive, sign, square_nonnegative, square_positive}
 use Rattle.plane.proofs.Order.{rise}
@@ -72,20 +73,19 @@ ahead α β some = elim (sign β) [
 
 -- ---- how far a point is beyond the point (X / W, Y / W), along (α, β)
 
+-- how far a point is along (α, β), times W
+pub how_far : (α β W x y : ℤ) → (α *ℤ W) *ℤ x +ℤ (β *ℤ W) *ℤ y ≡ (α *ℤ x +ℤ β *ℤ y) *ℤ W
+how_far α β W x y =
+    same_value ((var 0 ⊗ var 2) ⊗ var 3 ⊕ (var 1 ⊗ var 2) ⊗ var 4) ((var 0 ⊗ var 3 ⊕ var 1 ⊗ var 4) ⊗ var 2) (α ∷ β ∷ W ∷ x ∷ y ∷ []) refl
+
 -- a whole point that is not beyond it
 beyond_end : (α β X Y W x y : ℤ) → ((α *ℤ x +ℤ β *ℤ y) *ℤ W) ≤ℤ (α *ℤ X +ℤ β *ℤ Y)
     → ((α *ℤ W) *ℤ x +ℤ (β *ℤ W) *ℤ y +ℤ (pos 0 -ℤ (α *ℤ X +ℤ β *ℤ Y)) *ℤ pos 1) ≤ℤ pos 0
-beyond_end α β X Y W x y h =
-    let e =
-    same_value ((var 0 ⊗ var 2) ⊗ var 3 ⊕ (var 1 ⊗ var 2) ⊗ var 4) ((var 0 ⊗ var 3 ⊕ var 1 ⊗ var 4) ⊗ var 2)
-    (α ∷ β ∷ W ∷ x ∷ y ∷ []) refl in
-    omega (arith, ints, e)
+beyond_end α β X Y W x y h = omega (arith, ints, how_far α β W x y)
 
 -- the point itself
 beyond_itself : (α β X Y W : ℤ) → (α *ℤ W) *ℤ X +ℤ (β *ℤ W) *ℤ Y +ℤ (pos 0 -ℤ (α *ℤ X +ℤ β *ℤ Y)) *ℤ W ≡ pos 0
-beyond_itself α β X Y W =
-    zero_value ((var 0 ⊗ var 4) ⊗ var 2 ⊕ (var 1 ⊗ var 4) ⊗ var 3 ⊕ (lit (pos 0) ⊖ (var 0 ⊗ var 2 ⊕ var 1 ⊗ var 3)) ⊗ var 4)
-    (α ∷ β ∷ X ∷ Y ∷ W ∷ []) refl
+beyond_itself α β X Y W = omega (arith, ints, how_far α β W X Y, sub-mul (pos 0) (α *ℤ X +ℤ β *ℤ Y) W)
 
 -- the point t steps on, each of α to the right and s upward
 beyond_steps : (α β X Y W t s : ℤ) →

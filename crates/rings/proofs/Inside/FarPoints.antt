@@ -3,6 +3,7 @@
 use Rattle.std.proofs.Common.{◌≡◌, inl, inr, refl, ℕ, ◌+◌, ◌<◌, ◌≤◌, le_refl, List, [], ◌∷◌, arith, ℤ, pos, ◌+ℤ◌, ◌-ℤ◌, ◌*ℤ◌, ◌<ℤ◌, ◌≤ℤ◌}
 use Rattle.std.proofs.lemmas.Int.{ints}
 use Rattle.std.specs.Prelude.{unsigned_abs}
+use Rattle.integer_algebra.proofs.Laws.{sub-mul}
 use Rattle.integer_algebra.proofs.Polynomial.{var, lit, ◌⊕◌, ◌⊖◌, ◌⊗◌, same_value}
 use Rattle.integer_algebra.proofs.SignSteps.{natural_not_negative, not_both_positive, one_positive, weak, weak_order}
 use Rattle.integer_algebra.proofs.Decisions.{equal_or_not}
@@ -13,7 +14,7 @@ use Rattle.plane.proofs.Segments.{not_positive_between, on_first_end, on_same_po
 use Rattle.plane.proofs.Turns.{on_of_combination}
 use Rattle.plane.specs.Point.{IsPoint, IsSame, Point, Triple, whole}
 use Rattle.plane.specs.Segment.{On}
-use Rattle.rings.proofs.Inside.ExtremePoints.{below_abs, extreme_point}
+use Rattle.rings.proofs.Inside.ExtremePoints.{below_abs, extreme_point, how_far}
 use Rattle.rings.proofs.Inside.InRing.{not_in_from_even}
 use Rattle.rings.proofs.Simple.{same_or_not}
 use Rattle.rings.proofs.Vertices.{AllEnds, all_ends_map, closed_edges_of}
@@ -29,19 +30,11 @@ IsLessFar α β p v = ((α *ℤ v.x +ℤ β *ℤ v.y) *ℤ p.W) <ℤ (α *ℤ p.
 -- how far it is beyond, and one more
 not_beyond : (α β X Y W x y : ℤ) → ((α *ℤ x +ℤ β *ℤ y) *ℤ W) <ℤ (α *ℤ X +ℤ β *ℤ Y)
     → ((α *ℤ W) *ℤ x +ℤ (β *ℤ W) *ℤ y +ℤ (pos 1 -ℤ (α *ℤ X +ℤ β *ℤ Y)) *ℤ pos 1) ≤ℤ pos 0
-not_beyond α β X Y W x y h =
-    let e =
-    same_value ((var 0 ⊗ var 2) ⊗ var 3 ⊕ (var 1 ⊗ var 2) ⊗ var 4) ((var 0 ⊗ var 3 ⊕ var 1 ⊗ var 4) ⊗ var 2)
-    (α ∷ β ∷ W ∷ x ∷ y ∷ []) refl in
-    omega (arith, ints, e)
+not_beyond α β X Y W x y h = omega (arith, ints, how_far α β W x y)
 
 -- the same of the point itself
 one_more : (α β X Y W : ℤ) → pos 0 <ℤ W → pos 0 <ℤ ((α *ℤ W) *ℤ X +ℤ (β *ℤ W) *ℤ Y +ℤ (pos 1 -ℤ (α *ℤ X +ℤ β *ℤ Y)) *ℤ W)
-one_more α β X Y W h =
-    let e =
-    same_value ((var 0 ⊗ var 4) ⊗ var 2 ⊕ (var 1 ⊗ var 4) ⊗ var 3 ⊕ (lit (pos 1) ⊖ (var 0 ⊗ var 2 ⊕ var 1 ⊗ var 3)) ⊗ var 4) (var 4)
-    (α ∷ β ∷ X ∷ Y ∷ W ∷ []) refl in
-    omega (arith, ints, e)
+one_more α β X Y W h = omega (arith, ints, how_far α β W X Y, sub-mul (pos 1) (α *ℤ X +ℤ β *ℤ Y) W)
 
 module _ (α β : ℤ) (p : Triple) (at_p : IsPoint p) where
   -- a point that is farther along than all ends is on no edge,

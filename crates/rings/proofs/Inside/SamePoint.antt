@@ -1,32 +1,16 @@
 -- Crossings, windings and segments do not tell two triples of one rational point apart.
-use Rattle.std.proofs.Common.{◌≡◌, [], ◌∷◌, refl, sym, List, Bool, true, false, ℤ, pos, ◌-ℤ◌, ◌*ℤ◌, ◌<ℤ◌, ◌≤ℤ◌, arith}
+use Rattle.std.proofs.Common.{◌≡◌, [], ◌∷◌, refl, sym, List, Bool, true, false, ℤ, ◌-ℤ◌, ◌*ℤ◌, ◌<ℤ◌, ◌≤ℤ◌, arith}
 use Rattle.std.proofs.lemmas.Int.{ints}
 use Rattle.std.specs.Prelude.{◌||◌, count_by}
-use Rattle.integer_algebra.proofs.Laws.{mul_comm, sub-mul}
+use Rattle.integer_algebra.proofs.Laws.{sub-mul}
 use Rattle.integer_algebra.proofs.Polynomial.{var, ◌⊗◌, same_value}
-use Rattle.integer_algebra.proofs.Signs.{factor_negative, factor_nonpositive, factor_positive, mul_negative, mul_nonpositive, mul_positive}
+use Rattle.integer_algebra.proofs.SameSigns.{same_negative, same_nonpositive, same_positive}
 use Rattle.plane.proofs.Points.{same_sym}
 use Rattle.plane.proofs.Turns.{determinant_same}
 use Rattle.plane.specs.Point.{IsPoint, IsSame, Triple, whole}
 use Rattle.rings.proofs.Crossings.{crossed_down_facts, crossed_down_from, crossed_up_facts, crossed_up_from}
 use Rattle.rings.specs.Edge.{Edge}
 use Rattle.rings.specs.Inside.{crossings, is_crossed, is_crossed_down, is_crossed_up}
-
--- ---- signs through positive factors
-
-module _ (f g P Q : ℤ) (hP : pos 0 <ℤ P) (hQ : pos 0 <ℤ Q) (e : f *ℤ Q ≡ g *ℤ P) where
-  -- numbers that agree through positive factors are positive together,
-  same_positive : pos 0 <ℤ f → pos 0 <ℤ g
-  same_positive h = factor_positive P g hP (omega (arith, ints, mul_positive f Q h hQ, mul_comm P g))
-
-  -- negative together,
-  same_negative : f <ℤ pos 0 → g <ℤ pos 0
-  same_negative h = factor_negative P g hP (omega (arith, ints, mul_negative Q f hQ h, mul_comm Q f, mul_comm P g))
-
-  -- and not positive together
-  same_nonpositive : f ≤ℤ pos 0 → g ≤ℤ pos 0
-  same_nonpositive h =
-      factor_nonpositive P g hP (omega (arith, ints, mul_nonpositive Q f (omega (arith, ints)) h, mul_comm Q f, mul_comm P g))
 
 -- ---- heights
 

@@ -1,11 +1,11 @@
 -- The parts of the edges that a point sees, where the ring is read the other way round.
-use Rattle.std.proofs.Common.{◌≡◌, ◌⊎◌, ◌↔◌, inl, inr, sym, ap, subst, ◌∙◌, ℕ, ◌+◌, ◌-◌, ◌<◌, Bool, true, false, arith}
+use Rattle.std.proofs.Common.{◌≡◌, ◌⊎◌, ◌↔◌, inl, inr, ap, subst, ◌∙◌, ℕ, ◌+◌, ◌-◌, ◌<◌, Bool, true, false, arith}
 use Rattle.std.proofs.Common.{if◌then◌else◌, List, length, map, get_or}
 use Rattle.std.proofs.Math.ListN.{length-map}
 use Rattle.std.proofs.lemmas.List.{get_or-map, get_or-reverse, length-reverse}
 use Rattle.plane.proofs.Points.{whole_is_point}
 use Rattle.plane.proofs.Segments.{later_between, on_last_end, on_reversed}
-use Rattle.plane.specs.Point.{IsPoint, Point, Triple, whole}
+use Rattle.plane.specs.Point.{Point, Triple, whole}
 use Rattle.plane.specs.Segment.{On}
 use Rattle.rings.proofs.Inside.{sees_turned_iff}
 use Rattle.rings.proofs.Turned.{length-turned_round, turned_from, turned_to}
