@@ -1,7 +1,7 @@
 -- The way from a corner of a triangle to the end in it that is farthest from the opposite side meets the edges only at its ends.
 use Rattle.std.proofs.Common.{◌≡◌, ◌⊎◌, inl, inr, refl, sym, subst, List, ℤ, pos, ◌+ℤ◌, ◌-ℤ◌, ◌*ℤ◌, neg_ℤ, ◌<ℤ◌, ◌≤ℤ◌, arith}
 use Rattle.std.proofs.lemmas.Int.{ints}
-use Rattle.integer_algebra.proofs.SignSteps.{at_least_unless, mean_not_negative, mean_not_positive, not_below, not_both}
+use Rattle.integer_algebra.proofs.SignSteps.{at_least_unless, mean_last_positive, mean_not_negative, mean_not_positive, not_below, not_both}
 use Rattle.integer_algebra.proofs.SignSteps.{not_both_positive, positive_not_zero, weak, zero_not_negative}
 use Rattle.integer_algebra.proofs.Signs.{factor_positive, is_negative, is_positive, is_zero, lt_or_le, mul_positive, sign}
 use Rattle.integer_algebra.proofs.Weights.{offset_along, offset_from_last}
@@ -14,7 +14,6 @@ use Rattle.plane.specs.Triangle.{IsInTriangle, height_over}
 use Rattle.plane.specs.Turn.{IsLeft}
 use Rattle.rings.specs.Apart.{AreApart, IsCommonEnd, MeetAtEnds}
 use Rattle.rings.specs.Edge.{Edge, HasEdge, HasEnd, IsOn}
-use Rattle.ring_laws.proofs.Triangles.LeavingTriangle.{mean_rises}
 use Rattle.ring_laws.proofs.Triangles.SidesAtVertex.{at_first, at_last, at_middle, end_of_other, way_out}
 use Rattle.ring_laws.proofs.Triangles.Triangles.{height_of_first, height_of_last, height_of_middle, in_or_not, left_of_first, left_of_second}
 
@@ -87,13 +86,13 @@ module _ (es : List Edge) (apart : AreApart es) (u v w : Point) (left : IsLeft (
     -- off v it is strictly left of the first side,
     way_left_of_first : pos 0 <ℤ c.m → IsLeft (whole u) (whole v) x
     way_left_of_first some =
-        mean_rises c.k c.l c.m _ _ _ c.k_positive c.l_nonnegative some (determinant_along x (whole v) (whole z) c (whole u) (whole v))
+        mean_last_positive c.k c.l c.m _ _ _ c.k_positive c.l_nonnegative some (determinant_along x (whole v) (whole z) c (whole u) (whole v))
         (zero_not_negative (determinant_same_last (whole u) (whole v))) first_piece_turns
 
     -- and of the second
     way_left_of_second : pos 0 <ℤ c.m → IsLeft (whole v) (whole w) x
     way_left_of_second some =
-        mean_rises c.k c.l c.m _ _ _ c.k_positive c.l_nonnegative some (determinant_along x (whole v) (whole z) c (whole v) (whole w))
+        mean_last_positive c.k c.l c.m _ _ _ c.k_positive c.l_nonnegative some (determinant_along x (whole v) (whole z) c (whole v) (whole w))
         (zero_not_negative (determinant_same_ends (whole v) (whole w))) left_of_other
 
     -- and not below the third

@@ -1,9 +1,9 @@
 -- A way out of a closed triangle: the point at which it leaves, and the side that this point is on.
-use Rattle.std.proofs.Common.{◌≡◌, ◌⊎◌, inl, inr, refl, sym, subst, ◌∙◌, ℤ, pos, ◌+ℤ◌, ◌-ℤ◌, ◌*ℤ◌, ◌<ℤ◌, ◌≤ℤ◌, arith}
+use Rattle.std.proofs.Common.{◌≡◌, ◌⊎◌, inl, inr, refl, sym, subst, ◌∙◌, ℤ, pos, ◌-ℤ◌, ◌*ℤ◌, ◌<ℤ◌, ◌≤ℤ◌, arith}
 use Rattle.std.proofs.lemmas.Int.{ints}
 use Rattle.integer_algebra.proofs.Laws.{mul_comm}
-use Rattle.integer_algebra.proofs.SignSteps.{not_both, weak, weak_order, zero_not_negative}
-use Rattle.integer_algebra.proofs.Signs.{factor_positive, lt_or_le, mul_negative, mul_nonnegative, mul_positive}
+use Rattle.integer_algebra.proofs.SignSteps.{mean_last_positive, not_both, weak, weak_order, zero_not_negative}
+use Rattle.integer_algebra.proofs.Signs.{lt_or_le, mul_negative, mul_nonnegative}
 use Rattle.plane.proofs.Meetings.{no_value, zero_combination, zero_point}
 use Rattle.plane.proofs.Segments.{on_first_end, on_last_end, on_nested}
 use Rattle.plane.proofs.Turns.{determinant_along, on_of_combination}
@@ -19,10 +19,6 @@ use Rattle.ring_laws.proofs.Triangles.Triangles.{in_triangle, not_right_between}
 weights_apart : (f g v w : ℤ) → pos 0 ≤ℤ f → g <ℤ pos 0 → pos 0 <ℤ v → pos 0 <ℤ w → pos 0 <ℤ (f *ℤ w -ℤ g *ℤ v)
 weights_apart f g v w hf hg hv hw =
     omega (arith, ints, mul_nonnegative f w hf (weak hw), mul_negative v g hv hg, mul_comm v g)
-
--- a mean of a number that is not negative and a positive one that has weight
-pub mean_rises : (k l m z f g : ℤ) → pos 0 <ℤ k → pos 0 ≤ℤ l → pos 0 <ℤ m → k *ℤ z ≡ l *ℤ f +ℤ m *ℤ g → pos 0 ≤ℤ f → pos 0 <ℤ g → pos 0 <ℤ z
-mean_rises k l m z f g hk hl hm e hf hg = factor_positive k z hk (omega (arith, ints, e, mul_nonnegative l f hl hf, mul_positive m g hm hg))
 
 -- ---- the way up to where a determinant is 0
 
@@ -54,7 +50,7 @@ module _ (s t x y : Triple) (at_x : IsPoint x) (at_y : IsPoint y) (not_right : p
         not_right = zero_not_negative zero;
         ending = inl (zero, right);
         rises = λ up a b low high.
-            mean_rises c.k c.l c.m _ _ _ c.k_positive c.l_nonnegative up (determinant_along z x y c a b) low high;
+            mean_last_positive c.k c.l c.m _ _ _ c.k_positive c.l_nonnegative up (determinant_along z x y c a b) low high;
       }
 
   -- else it is y

@@ -3,7 +3,7 @@ use Rattle.std.proofs.Common.{◌≡◌, ◌⊎◌, inl, inr, refl, sym, subst, 
 use Rattle.std.proofs.lemmas.Int.{ints}
 use Rattle.integer_algebra.proofs.Decisions.{either_or_not}
 use Rattle.integer_algebra.proofs.Laws.{mul-zero, zero-mul}
-use Rattle.integer_algebra.proofs.SignSteps.{at_least_unless, mean_negative, mean_not_positive, not_both, not_both_positive}
+use Rattle.integer_algebra.proofs.SignSteps.{at_least_unless, mean_last_positive, mean_negative, mean_not_positive, not_both, not_both_positive}
 use Rattle.integer_algebra.proofs.SignSteps.{positive_not_zero, weak, weak_order, zero_not_negative, zero_not_positive}
 use Rattle.integer_algebra.proofs.Signs.{factor_nonpositive, is_negative, is_positive, is_zero, lt_or_le, mul_negative, mul_nonnegative}
 use Rattle.integer_algebra.proofs.Signs.{mul_nonpositive, sign}
@@ -18,7 +18,6 @@ use Rattle.plane.specs.Triangle.{IsInTriangle, height_over}
 use Rattle.plane.specs.Turn.{IsLeft, IsStraight, determinant}
 use Rattle.rings.specs.Apart.{AreApart, IsCommonEnd, MeetAtEnds}
 use Rattle.rings.specs.Edge.{Edge, HasEdge, HasEnd, IsOn}
-use Rattle.ring_laws.proofs.Triangles.LeavingTriangle.{mean_rises}
 use Rattle.ring_laws.proofs.Triangles.SidesAtVertex.{at_first, at_last, at_middle, meets_first, meets_second, way_out}
 use Rattle.ring_laws.proofs.Triangles.Triangles.{between_in_triangle, first_in_triangle, height_of_first, height_of_last, in_or_not}
 use Rattle.ring_laws.proofs.Triangles.Triangles.{last_in_triangle, on_first_side, on_second_side}
@@ -58,7 +57,7 @@ only_at_first s t a c x at_x line turns straight on =
       | is_negative h ↦ absurd (not_both h d.m_nonnegative)
       | is_zero none ↦ same_without_last x (whole a) (whole c) d none
       | is_positive some ↦ absurd (positive_not_zero
-          (mean_rises d.k d.l d.m _ _ _ d.k_positive d.l_nonnegative some (determinant_along x (whole a) (whole c) d s t)
+          (mean_last_positive d.k d.l d.m _ _ _ d.k_positive d.l_nonnegative some (determinant_along x (whole a) (whole c) d s t)
           (zero_not_negative line) turns) straight)
     ]
 
