@@ -2,8 +2,8 @@
 use Rattle.std.proofs.Common.{◌≡◌, ◌⊎◌, ◌↔◌, inl, inr, sym, subst, List, ℤ, pos, ◌-ℤ◌, neg_ℤ, ◌<ℤ◌, ◌≤ℤ◌, arith, Some, None}
 use Rattle.std.proofs.lemmas.Int.{ints}
 use Rattle.std.specs.Prelude.{Option}
-use Rattle.integer_algebra.proofs.SignSteps.{at_least_unless, at_most_unless, zero_not_negative}
-use Rattle.integer_algebra.proofs.SignSteps.{zero_not_positive}
+use Rattle.integer_algebra.proofs.SameSigns.{same_nonpositive}
+use Rattle.integer_algebra.proofs.SignSteps.{at_least_unless, at_most_unless, zero_not_negative, zero_not_positive}
 use Rattle.plane.proofs.Points.{same_sym, same_trans, whole_is_point}
 use Rattle.plane.proofs.Segments.{as_far, combination_of_same, later_between, on_first_end, on_is_straight, on_last_end, on_nested}
 use Rattle.plane.proofs.Segments.{on_one_side, on_same_point, one_meeting}
@@ -16,7 +16,7 @@ use Rattle.plane.specs.Turn.{IsRight, IsStraight, determinant}
 use Rattle.rings.specs.Sees.{Sees}
 use Rattle.ring_laws.proofs.Triangles.{not_right_between}
 use Rattle.meshes.proofs.Cones.Held.{end_on_side, held_between, not_left_between}
-use Rattle.meshes.proofs.Cones.RaySigns.{bound_side, same_not_positive, squeezed}
+use Rattle.meshes.proofs.Cones.RaySigns.{bound_side, squeezed}
 use Rattle.meshes.proofs.Cones.SideMeetings.{at_meeting, at_weights, before_meeting, meeting, meeting_on, meeting_on_ray}
 use Rattle.meshes.proofs.Cones.SideMeetings.{only_meeting, same_meeting}
 use Rattle.meshes.proofs.Cones.SideViews.{IsWindow, SideView, hidden, one_end, through_window, whole_side}
@@ -66,8 +66,8 @@ module _ (ring : List Point) (q l r : Point) (cone : Cone) (w : IsWindow ring q 
       let m = meeting q l r cone.right r w.right_ray a first in
       let value = bound_side _ _ _ (determinant Q A R) (determinant Q A L) (determinant Q B R) (determinant Q B L) (five_triples Q B A R L)
       (at_weights q l r cone.right r w.right_ray a first cone.left) (at_least_unless w.in_order) w.before in
-      same_not_positive _ _ _ _ (determinant_same Q A a m (same_meeting q l r cone.right r w.right_ray a first)) first.rational
-      (at_meeting q l r cone.right r w.right_ray a first) value
+      same_nonpositive _ _ m.W a.W (at_meeting q l r cone.right r w.right_ray a first) first.rational
+      (determinant_same Q A m a (same_sym (same_meeting q l r cone.right r w.right_ray a first))) value
 
   first_before_last : On a R b
   first_before_last = before_meeting q l r cone.left l w.left_ray b last a first.rational first_on first_not_left

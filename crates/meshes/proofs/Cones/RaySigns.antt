@@ -111,8 +111,3 @@ ahead_of d m s w e hm hs hw = omega (arith, ints, mul_comm s w, mul_negative w s
 pub bound_side : (f rl ba fr fl gr gl : ℤ) → ba *ℤ rl -ℤ gr *ℤ fl +ℤ gl *ℤ fr ≡ pos 0 → pos 1 *ℤ f ≡ neg_ℤ gr *ℤ fl +ℤ gl *ℤ fr
     → pos 0 ≤ℤ ba → pos 0 <ℤ rl → f ≤ℤ pos 0
 bound_side f rl ba fr fl gr gl e sum h up = omega (arith, ints, neg-mul gr fl, mul_nonnegative ba rl h (weak up))
-
--- a value at one triple of a point, by the value at another
-pub same_not_positive : (f g v w : ℤ) → f *ℤ w ≡ g *ℤ v → pos 0 <ℤ v → pos 0 <ℤ w → g ≤ℤ pos 0 → f ≤ℤ pos 0
-same_not_positive f g v w e hv hw h =
-    factor_nonpositive w f hw (omega (arith, ints, mul_comm w f, mul_comm g v, mul_nonpositive v g (weak hv) h))
