@@ -58,7 +58,7 @@ impl Pt {
     }
 
     /// That the coordinates are within the limit. It does nothing when it runs, and takes no step.
-    pub fn is_bounded(&self)
+    pub fn coordinate_bounds(&self)
         ensures { IsInBounds self.now }
     {
         let _ = &self.x;
