@@ -1,5 +1,5 @@
 -- The signs of products, and orders through a positive factor.
-use Rattle.std.proofs.Common.{◌≡◌, ◌≢◌, ◌⊎◌, zero, suc, ℤ, pos, negsuc, ◌-ℤ◌, ◌*ℤ◌, neg_ℤ, ◌<ℤ◌, ◌≤ℤ◌, arith, refl}
+use Rattle.std.proofs.Common.{◌≡◌, ◌≢◌, ◌⊎◌, zero, suc, ℤ, pos, negsuc, ◌+ℤ◌, ◌-ℤ◌, ◌*ℤ◌, neg_ℤ, ◌<ℤ◌, ◌≤ℤ◌, arith, refl}
 use Rattle.std.proofs.lemmas.Int.{ints}
 use Rattle.integer_algebra.proofs.Laws.{mul_comm, mul-sub}
 
@@ -66,6 +66,14 @@ square_nonnegative a = grind (arith, ints)
 -- and it is positive but at 0
 pub square_positive : (a : ℤ) → a ≢ pos 0 → pos 0 <ℤ (a *ℤ a)
 square_positive a h = grind (arith, ints, mul_positive a a, mul_negatives a a)
+
+-- the sum of two squares is positive, where one of the numbers is not 0
+pub squares_positive : (a b : ℤ) → ¬ ((a ≡ pos 0) × (b ≡ pos 0)) → pos 0 <ℤ (a *ℤ a +ℤ b *ℤ b)
+squares_positive a b some = elim (sign a) [
+  | is_negative h ↦ omega (arith, ints, square_nonnegative b, square_positive a (λ e. omega (arith, ints)))
+  | is_zero h ↦ omega (arith, ints, square_nonnegative a, square_positive b (λ e. some (h, e)))
+  | is_positive h ↦ omega (arith, ints, square_nonnegative b, square_positive a (λ e. omega (arith, ints)))
+]
 
 -- ---- the other factor beside a positive one, from the sign of the product
 

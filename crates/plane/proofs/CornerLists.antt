@@ -4,6 +4,7 @@
 mod SidesOfSets
 -- The corners of a polygon, by their numbers: each is in it, and so are its sides; the least corner is its first point.
 mod PolygonCorners
+pub use Rattle.plane.proofs.CornerLists.PolygonCorners.{IsNext, not_second_next}
 -- Two corner lists of one set have the same corners in the same order.
 mod OneList
 pub use Rattle.plane.proofs.CornerLists.OneList.{AreSameCorners, corner_in, corners_are_one}

@@ -36,7 +36,7 @@ not_own_next n i j three (inl e) same = omega arith
 not_own_next n i j three (inr e) same = omega (arith, e.0, e.1)
 
 -- nor to the next one
-not_second_next : (n i j k : ℕ) → 3 ≤ n → IsNext n i j → IsNext n j k → ¬ (i ≡ k)
+pub not_second_next : (n i j k : ℕ) → 3 ≤ n → IsNext n i j → IsNext n j k → ¬ (i ≡ k)
 not_second_next n i j k three (inl e) (inl f) same = omega arith
 not_second_next n i j k three (inl e) (inr f) same = omega (arith, f.0, f.1)
 not_second_next n i j k three (inr e) (inl f) same = omega (arith, e.0, e.1)

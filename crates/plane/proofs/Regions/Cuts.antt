@@ -2,7 +2,7 @@
 use Rattle.std.proofs.Common.{◌≡◌, inl, inr, subst, ℕ, ◌-◌, ◌<◌, ◌≤◌, arith, List, [], ◌++◌, length, take, ℤ, pos, ◌+ℤ◌, ◌-ℤ◌, ◌*ℤ◌, ◌≤ℤ◌, ◌<ℤ◌}
 use Rattle.std.proofs.lemmas.Bool.{cases_lt}
 use Rattle.std.proofs.lemmas.Int.{ints}
-use Rattle.integer_algebra.proofs.SignSteps.{weak}
+use Rattle.integer_algebra.proofs.SignSteps.{at_least_unless, weak}
 use Rattle.integer_algebra.proofs.Signs.{lt_or_le, mul_negative, mul_nonnegative}
 use Rattle.plane.proofs.Regions.Corners.{corners_of_convex}
 use Rattle.plane.proofs.Regions.CutCorners.{convex_back, convex_both}
@@ -10,7 +10,7 @@ use Rattle.plane.proofs.Regions.CutPolygons.{polygon_no_less, polygon_no_more}
 use Rattle.plane.proofs.Regions.CutSegments.{segment_no_less, segment_no_more}
 use Rattle.plane.proofs.Regions.Fans.{four_beside, region_not_right, region_right}
 use Rattle.plane.proofs.Regions.LineMeetings.{Ends}
-use Rattle.plane.proofs.Regions.Sides.{IsNotRight, at_least_zero, not_negative}
+use Rattle.plane.proofs.Regions.Sides.{IsNotRight, at_least_zero}
 use Rattle.plane.proofs.Regions.Turned.{convex_turned, region_turned}
 use Rattle.plane.specs.Convex.{AreConvex, corner}
 use Rattle.plane.specs.Cut.{IsCut, IsUncut}
@@ -27,7 +27,7 @@ module _ (a b : Triple) (cs : List Triple) (convex : AreConvex cs) where
   none_cut kept = record {
     convex = convex;
     exact = λ p at_p. (
-      λ h. (h, at_least_zero (region_not_right a b cs p convex at_p h (λ i less. not_negative (kept i less)))),
+      λ h. (h, at_least_zero (region_not_right a b cs p convex at_p h (λ i less. at_least_unless (kept i less)))),
       λ h. h.0,
     );
   }
@@ -76,7 +76,7 @@ one_block a b cs convex m some first right last j past within = elim (cases_lt j
           absurd (no_four _ _ _ _ _ _ _ _ (four_beside (corner cs 0) (corner cs m) (corner cs j) (corner cs n) a b)
           (convex.left m j n after more in_n) (convex.left 0 j n (omega (arith, after)) more in_n)
           (convex.left 0 m n some (omega (arith, after, more)) in_n) (convex.left 0 m j some after within)
-          (not_negative first) right left last)
+          (at_least_unless first) right left last)
     ]
   ]
 ]
@@ -84,7 +84,7 @@ one_block a b cs convex m some first right last j past within = elim (cases_lt j
 module _ (a b : Triple) (cs : List Triple) (convex : AreConvex cs) (m : ℕ) (some : 0 < m) (rest : m < length cs)
     (kept : (i : ℕ) → i < m → ¬ (IsRight a b (corner cs i))) (gone : (i : ℕ) → m ≤ i → i < length cs → IsRight a b (corner cs i)) where
   not_right_kept : (i : ℕ) → i < m → IsNotRight a b (corner cs i)
-  not_right_kept i less = not_negative (kept i less)
+  not_right_kept i less = at_least_unless (kept i less)
 
   -- of a polygon the first m corners stay, with the meetings on both sides
   pub cut_of_polygon : 3 ≤ length cs → (es fs : List Triple) → Ends a b (corner cs (m - 1)) (corner cs m) es
@@ -95,7 +95,7 @@ module _ (a b : Triple) (cs : List Triple) (convex : AreConvex cs) (m : ℕ) (so
       λ h.
           let part = polygon_no_more a b cs convex many m some rest not_right_kept gone es fs back front p at_p h in
           (part.0, at_least_zero part.1),
-      λ h. polygon_no_less a b cs convex many m some rest not_right_kept gone es fs back front p at_p h.0 (not_negative h.1),
+      λ h. polygon_no_less a b cs convex many m some rest not_right_kept gone es fs back front p at_p h.0 (at_least_unless h.1),
     );
   }
 
@@ -107,9 +107,9 @@ cut_of_segment a b cs convex two kept gone es back = record {
   convex = convex_back a b cs convex 1 (omega arith) (omega (arith, two)) es back;
   exact = λ p at_p. (
     λ h.
-        let part = segment_no_more a b cs convex two (not_negative kept) gone es back p at_p h in
+        let part = segment_no_more a b cs convex two (at_least_unless kept) gone es back p at_p h in
         (part.0, at_least_zero part.1),
-    λ h. segment_no_less a b cs convex two (not_negative kept) gone es back p at_p h.0 (not_negative h.1),
+    λ h. segment_no_less a b cs convex two (at_least_unless kept) gone es back p at_p h.0 (at_least_unless h.1),
   );
 }
 

@@ -2,10 +2,11 @@
 use Rattle.std.proofs.Common.{◌≡◌, ◌≢◌, inl, inr, List, [], ◌∷◌, refl, sym, ap, ◌∙◌, ℤ, pos, ◌+ℤ◌, ◌-ℤ◌, ◌*ℤ◌, neg_ℤ, ◌<ℤ◌, arith}
 use Rattle.std.proofs.lemmas.Int.{ints}
 use Rattle.integer_algebra.proofs.Decisions.{equal_or_not}
-use Rattle.integer_algebra.proofs.Laws.{eq_of_sub-zero, mul-zero, mul_comm, neg-mul, one-mul}
+use Rattle.integer_algebra.proofs.Laws.{eq_of_sub-zero, mul-zero, mul_comm, one-mul}
 use Rattle.integer_algebra.proofs.Polynomial.{Polynomial, var, lit, ◌⊕◌, ◌⊖◌, ◌⊗◌, same_value}
 use Rattle.integer_algebra.proofs.SignSteps.{mean_zero, opposite_positive, weak}
 use Rattle.integer_algebra.proofs.Signs.{factor_negative, factor_zero, mul_negative, mul_positive}
+use Rattle.plane.proofs.Meetings.{no_value}
 use Rattle.plane.proofs.Segments.{one_meeting}
 use Rattle.plane.proofs.Turns.{IsCombination, determinant_along, written_determinant}
 use Rattle.plane.specs.Line.{cross_product}
@@ -133,10 +134,6 @@ module _ (g f : ℤ) (c d : Triple) (at_c : IsPoint c) (at_d : IsPoint d) (hg : 
     in_W = coordinate_of x.W x.W (g *ℤ c.W +ℤ f *ℤ d.W) c.W d.W (mul_comm x.W (g *ℤ c.W +ℤ f *ℤ d.W));
   }
 
--- the two shares balance
-balanced : (z f e : ℤ) → pos 1 *ℤ z ≡ neg_ℤ e *ℤ f +ℤ f *ℤ e → z ≡ pos 0
-balanced z f e h = omega (arith, ints, h, neg-mul e f, mul_comm e f)
-
 module _ (a b p q : Point) (c d : Triple) (at_c : IsPoint c) (at_d : IsPoint d) (differ : p ≢ q)
     (on_c : IsStraight (whole p) (whole q) c) (on_d : IsStraight (whole p) (whole q) d)
     (left : IsLeft (whole a) (whole b) c) (right : IsRight (whole a) (whole b) d) where
@@ -156,7 +153,7 @@ module _ (a b p q : Point) (c d : Triple) (at_c : IsPoint c) (at_d : IsPoint d) 
       let m = divided_mean g f c d at_c at_d hg left in
       let on_first = mean_zero m.k m.l m.m _ _ _ m.k_positive m.l_nonnegative m.m_nonnegative
       (determinant_along _ c d m (whole p) (whole q)) on_c on_d in
-      let on_second = balanced _ f (determinant (whole a) (whole b) d) (determinant_along _ c d m (whole a) (whole b)) in
+      let on_second = no_value _ f (determinant (whole a) (whole b) d) (determinant_along _ c d m (whole a) (whole b)) in
       let same = one_meeting p q a b x (divided g f c d) not_parallel on_x on_first straight on_second in
       record {
         rational = at_x;

@@ -3,6 +3,7 @@ use Rattle.std.proofs.Common.{◌≡◌, inl, inr, sym, subst, ap, ◌∙◌, �
 use Rattle.std.proofs.lemmas.Bool.{cases_lt}
 use Rattle.std.proofs.lemmas.Int.{ints}
 use Rattle.std.proofs.lemmas.List.{length_push}
+use Rattle.integer_algebra.proofs.SignSteps.{at_least_unless}
 use Rattle.plane.proofs.Regions.Corners.{at_corner, at_first, first_corner, length_first, new_corner, old_corner}
 use Rattle.plane.specs.Convex.{corner}
 use Rattle.plane.specs.Point.{Triple}
@@ -18,11 +19,7 @@ pub record IsInSides (cs : List Triple) (p : Triple) : Type 0 where
   pub along : (i : ℕ) → i + 1 < length cs → IsNotRight (corner cs i) (corner cs (i + 1)) p
   pub closing : IsNotRight (corner cs (length cs - 1)) (corner cs 0) p
 
--- what is not negative is 0 or more
-pub not_negative : {z : ℤ} → ¬ (z <ℤ pos 0) → pos 0 ≤ℤ z
-not_negative h = grind (arith, ints)
-
--- and the other way round
+-- what is 0 or more is not negative
 pub at_least_zero : {z : ℤ} → pos 0 ≤ℤ z → ¬ (z <ℤ pos 0)
 at_least_zero h k = omega (arith, ints)
 
@@ -38,11 +35,11 @@ module _ (cs : List Triple) (p : Triple) where
   sides_of some none = record {
     along = λ i more.
         not_right_at p (sym (at_corner cs i (omega (arith, more)))) (sym (at_corner cs (i + 1) more))
-        (not_negative (none i (omega (arith, more))));
+        (at_least_unless (none i (omega (arith, more))));
     closing =
         not_right_at p (sym (at_corner cs (length cs - 1) (omega (arith, some))))
         (sym (at_first cs (length cs - 1 + 1) some (omega (arith, some))))
-        (not_negative (none (length cs - 1) (omega (arith, some))));
+        (at_least_unless (none (length cs - 1) (omega (arith, some))));
   }
 
   -- and back
