@@ -1,12 +1,12 @@
 -- A point that is farthest in some direction is wound round by no closed list of edges.
-use Rattle.std.proofs.Common.{◌≡◌, ◌≢◌, ◌⊎◌, inl, inr, refl, ◌∙◌, ℕ, ◌+◌, ◌<◌, ◌≤◌, le_refl, List, [], ◌∷◌, arith, ℤ, pos, negsuc, ◌+ℤ◌, ◌-ℤ◌, ◌*ℤ◌}
+use Rattle.std.proofs.Common.{◌≡◌, ◌⊎◌, inl, inr, refl, ◌∙◌, ℕ, ◌+◌, ◌<◌, ◌≤◌, le_refl, List, [], ◌∷◌, arith, ℤ, pos, negsuc, ◌+ℤ◌, ◌-ℤ◌, ◌*ℤ◌}
 use Rattle.std.proofs.Common.{neg_ℤ, ◌<ℤ◌, ◌≤ℤ◌}
 use Rattle.std.proofs.lemmas.Int.{ints}
 use Rattle.std.specs.Prelude.{unsigned_abs}
 use Rattle.integer_algebra.proofs.Laws.{sub-mul}
 use Rattle.integer_algebra.proofs.Polynomial.{var, lit, ◌⊕◌, ◌⊖◌, ◌⊗◌, same_value}
 use Rattle.integer_algebra.proofs.SignSteps.{natural_not_negative}
-use Rattle.integer_algebra.proofs.Signs.{is_negative, is_positive, is_zero, mul_order, mul_positive, sign, square_nonnegative, square_positive}
+use Rattle.integer_algebra.proofs.Signs.{is_negative, is_positive, is_zero, mul_order, mul_positive, sign, square_positive, squares_positive}
 use Rattle.plane.proofs.Order.{rise}
 use Rattle.plane.specs.Point.{IsPoint, Point, Triple, whole}
 use Rattle.rings.proofs.Crossings.{winding_law}
@@ -55,15 +55,11 @@ record Ahead (α β : ℤ) : Type 0 where
   not_level : (pos 0 <ℤ step) ⊎ (step <ℤ pos 0)
   forward : pos 0 <ℤ (α *ℤ α +ℤ β *ℤ step)
 
--- a square that is not 0 makes a sum of squares positive
-with_square : (α β : ℤ) → β ≢ pos 0 → pos 0 <ℤ (α *ℤ α +ℤ β *ℤ β)
-with_square α β h = omega (arith, ints, square_nonnegative α, square_positive β h)
-
 -- there is one for each direction
 ahead : (α β : ℤ) → ¬ ((α ≡ pos 0) × (β ≡ pos 0)) → Ahead α β
 ahead α β some = elim (sign β) [
-  | is_negative h ↦ record { step = β; not_level = inr h; forward = with_square α β (λ e. omega (arith, ints)) }
-  | is_positive h ↦ record { step = β; not_level = inl h; forward = with_square α β (λ e. omega (arith, ints)) }
+  | is_negative h ↦ record { step = β; not_level = inr h; forward = squares_positive α β some }
+  | is_positive h ↦ record { step = β; not_level = inl h; forward = squares_positive α β some }
   | is_zero h ↦ record {
     step = pos 1;
     not_level = inl (omega (arith, ints));

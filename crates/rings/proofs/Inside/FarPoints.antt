@@ -3,11 +3,10 @@
 use Rattle.std.proofs.Common.{◌≡◌, inl, inr, refl, ℕ, ◌+◌, ◌<◌, ◌≤◌, le_refl, List, [], ◌∷◌, arith, ℤ, pos, ◌+ℤ◌, ◌-ℤ◌, ◌*ℤ◌, ◌<ℤ◌, ◌≤ℤ◌}
 use Rattle.std.proofs.lemmas.Int.{ints}
 use Rattle.std.specs.Prelude.{unsigned_abs}
-use Rattle.integer_algebra.proofs.Laws.{sub-mul}
+use Rattle.integer_algebra.proofs.Laws.{eq_of_sub-zero, sub-mul}
 use Rattle.integer_algebra.proofs.Polynomial.{var, lit, ◌⊕◌, ◌⊖◌, ◌⊗◌, same_value}
 use Rattle.integer_algebra.proofs.SignSteps.{natural_not_negative, not_both_positive, one_positive, weak, weak_order}
-use Rattle.integer_algebra.proofs.Decisions.{equal_or_not}
-use Rattle.integer_algebra.proofs.Signs.{mul_nonnegative, mul_order, square_nonnegative, square_positive}
+use Rattle.integer_algebra.proofs.Signs.{mul_nonnegative, mul_order, squares_positive}
 use Rattle.plane.proofs.Order.{rise, run}
 use Rattle.plane.proofs.Points.{same_sym, whole_is_point}
 use Rattle.plane.proofs.Segments.{not_positive_between, on_first_end, on_same_point}
@@ -78,18 +77,11 @@ past α β X Y z n hn some h =
     ((var 0 ⊗ var 2 ⊕ var 1 ⊗ var 3) ⊕ var 4 ⊗ (var 0 ⊗ var 0 ⊕ var 1 ⊗ var 1)) (α ∷ β ∷ X ∷ Y ∷ n ∷ []) refl in
     omega (arith, ints, e, mul_order (pos 1) (α *ℤ α +ℤ β *ℤ β) n hn (omega (arith, ints)))
 
--- a direction has a positive square
-some_square : (α β : ℤ) → ¬ ((α ≡ pos 0) × (β ≡ pos 0)) → pos 0 <ℤ (α *ℤ α +ℤ β *ℤ β)
-some_square α β some = elim (equal_or_not β (pos 0)) [
-  | inl none ↦ omega (arith, ints, square_nonnegative β, square_positive α (λ e. some (e, none)))
-  | inr h ↦ omega (arith, ints, square_nonnegative α, square_positive β h)
-]
-
 module _ (α β : ℤ) (some : ¬ ((α ≡ pos 0) × (β ≡ pos 0))) (x : Triple) where
   -- one end
   past_end : (v : Point) (n : ℕ) → unsigned_abs (before α β x v) < n → IsLessFar α β (steps_on α β x n) v
   past_end v n h =
-      past α β x.X x.Y ((α *ℤ v.x +ℤ β *ℤ v.y) *ℤ x.W) (pos n) (natural_not_negative n) (some_square α β some) (below_abs _ n h)
+      past α β x.X x.Y ((α *ℤ v.x +ℤ β *ℤ v.y) *ℤ x.W) (pos n) (natural_not_negative n) (squares_positive α β some) (below_abs _ n h)
 
   -- all of them
   past_all : (es : List Edge) (n : ℕ) → enough α β x es ≤ n → AllEnds (IsLessFar α β (steps_on α β x n)) es
@@ -122,10 +114,6 @@ weight_between n w v =
 one_and_more : {z : ℤ} → pos 0 ≤ℤ z → pos 0 <ℤ (pos 1 +ℤ z)
 one_and_more h = omega (arith, ints)
 
--- nothing between two numbers makes them equal
-equal_from_none : (x y : ℤ) → x -ℤ y ≡ pos 0 → x ≡ y
-equal_from_none x y e = omega (arith, ints)
-
 module _ (ring : List Point) (q x : Triple) (at_q : IsPoint q) (at_x : IsPoint x) where
   -- there is one beyond another point,
   beyond : ¬ IsSame x q → Outside ring q x
@@ -135,7 +123,7 @@ module _ (ring : List Point) (q x : Triple) (at_q : IsPoint q) (at_x : IsPoint x
       let n : ℕ = enough α β x (edges_of ring) in
       let t = steps_on α β x n in
       let some = λ (h : (α ≡ pos 0) × (β ≡ pos 0)).
-      differ (record { same_x = equal_from_none _ _ h.0; same_y = equal_from_none _ _ h.1 }) in
+      differ (record { same_x = eq_of_sub-zero _ _ h.0; same_y = eq_of_sub-zero _ _ h.1 }) in
       record {
         point = t;
         rational = at_x;

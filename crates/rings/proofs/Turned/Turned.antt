@@ -86,3 +86,11 @@ module _ (ring : List Point) (i : ℕ) (h : i < length ring) where
   -- to its beginning
   pub turned_to : vertex (turned_round ring) (i + 1) ≡ vertex ring (length ring - 1 - i)
   turned_to = vertex-turned_round ring (i + 1) (omega arith) ∙ ap (vertex ring) (omega arith)
+
+  -- edge n - 1 - i goes from the end of edge i of the ring
+  pub turned_begin : vertex (turned_round ring) (length ring - 1 - i) ≡ vertex ring (i + 1)
+  turned_begin = vertex-turned_round ring (length ring - 1 - i) (omega arith) ∙ ap (vertex ring) (omega arith)
+
+  -- to its beginning
+  pub turned_end : vertex (turned_round ring) (length ring - 1 - i + 1) ≡ vertex ring i
+  turned_end = vertex-turned_round ring (length ring - 1 - i + 1) (omega arith) ∙ ap (vertex ring) (omega arith)

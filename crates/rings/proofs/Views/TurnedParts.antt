@@ -8,7 +8,7 @@ use Rattle.plane.proofs.Segments.{later_between, on_last_end, on_reversed}
 use Rattle.plane.specs.Point.{Point, Triple, whole}
 use Rattle.plane.specs.Segment.{On}
 use Rattle.rings.proofs.Inside.{sees_turned_iff}
-use Rattle.rings.proofs.Turned.{length-turned_round, turned_from, turned_to}
+use Rattle.rings.proofs.Turned.{length-turned_round, turned_begin, turned_end}
 use Rattle.rings.specs.Orientation.{turned_round}
 use Rattle.rings.specs.Ring.{IsOnEdge, origin, vertex}
 use Rattle.rings.specs.Visible.{AreParts, IsInTriangleOf, IsInView, IsPart, IsUnseen, Part, part_at, turned_part, turned_parts}
@@ -17,11 +17,11 @@ use Rattle.rings.specs.Visible.{AreParts, IsInTriangleOf, IsInView, IsPart, IsUn
 
 module _ (ring : List Point) (i : ℕ) (below : i < length ring) where
   -- it is read backward
-  begins : vertex (turned_round ring) (length ring - 1 - i) ≡ vertex ring (i + 1)
-  begins = turned_from ring (length ring - 1 - i) (omega arith) ∙ ap (λ k. vertex ring (k + 1)) (omega arith)
+  abbrev begins : vertex (turned_round ring) (length ring - 1 - i) ≡ vertex ring (i + 1)
+  begins = turned_begin ring i below
 
-  ends : vertex (turned_round ring) (length ring - 1 - i + 1) ≡ vertex ring i
-  ends = turned_to ring (length ring - 1 - i) (omega arith) ∙ ap (vertex ring) (omega arith)
+  abbrev ends : vertex (turned_round ring) (length ring - 1 - i + 1) ≡ vertex ring i
+  ends = turned_end ring i below
 
   on_edge_turned : (x : Triple) → IsOnEdge (turned_round ring) (length ring - 1 - i) x ↔ IsOnEdge ring i x
   on_edge_turned x =
