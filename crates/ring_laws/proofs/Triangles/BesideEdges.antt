@@ -1,8 +1,8 @@
 -- Points beside an edge, near a point strictly inside it: the segment between them crosses the edge and misses others.
-use Rattle.std.proofs.Common.{◌≡◌, [], ◌∷◌, refl, sym, List, ℤ, pos, ◌+ℤ◌, ◌-ℤ◌, ◌*ℤ◌, ◌<ℤ◌, arith, ℕ, ◌+◌}
+use Rattle.std.proofs.Common.{◌≡◌, [], ◌∷◌, refl, sym, List, pos, ◌+ℤ◌, ◌-ℤ◌, ◌*ℤ◌, arith, ℕ, ◌+◌}
 use Rattle.std.proofs.lemmas.Int.{ints}
 use Rattle.integer_algebra.proofs.Polynomial.{lit, var, ◌⊕◌, ◌⊖◌, ◌⊗◌, same_value}
-use Rattle.integer_algebra.proofs.Signs.{is_negative, is_positive, is_zero, sign, square_nonnegative, square_positive}
+use Rattle.integer_algebra.proofs.Signs.{squares_positive}
 use Rattle.plane.proofs.Nearness.{positive_at, toward, toward_is_point}
 use Rattle.plane.proofs.Order.{same_coordinates}
 use Rattle.plane.proofs.Points.{whole_is_point}
@@ -15,14 +15,6 @@ use Rattle.rings.proofs.Vertices.{misses_between, misses_eventually}
 use Rattle.rings.specs.Across.{CrossesRight, Misses}
 use Rattle.rings.specs.Edge.{Edge, IsOn, IsOnSome}
 use Rattle.ring_laws.proofs.Triangles.AcrossEdge.{crosses_near}
-
--- the sum of two squares is positive, where one number is not 0
-some_square : (x y : ℤ) → ¬ ((x ≡ pos 0) × (y ≡ pos 0)) → pos 0 <ℤ (x *ℤ x +ℤ y *ℤ y)
-some_square x y some = elim (sign x) [
-  | is_negative h ↦ omega (arith, ints, square_nonnegative y, square_positive x (λ e. omega (arith, ints)))
-  | is_zero h ↦ omega (arith, ints, square_nonnegative x, square_positive y (λ e. some (h, e)))
-  | is_positive h ↦ omega (arith, ints, square_nonnegative y, square_positive x (λ e. omega (arith, ints)))
-]
 
 -- the way from one point to another is not nothing
 some_way : (v z : Point) → ¬ (v ≡ z) → ¬ ((z.x -ℤ v.x ≡ pos 0) × (z.y -ℤ v.y ≡ pos 0))
@@ -46,7 +38,7 @@ left_side v z =
 
 -- so it leads to the left
 pub left_of_is_left : (v z : Point) → ¬ (v ≡ z) → IsLeft (whole v) (whole z) (whole (left_of v z))
-left_of_is_left v z differ = positive_at (left_side v z) (some_square (z.x -ℤ v.x) (z.y -ℤ v.y) (some_way v z differ))
+left_of_is_left v z differ = positive_at (left_side v z) (squares_positive (z.x -ℤ v.x) (z.y -ℤ v.y) (some_way v z differ))
 
 -- two points beside e, near the point x of it: the segment between them crosses e, and all edges gs are farther away
 pub record BesideEdge (e : Edge) (x : Triple) (gs : List Edge) : Type 0 where

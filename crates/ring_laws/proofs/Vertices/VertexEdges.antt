@@ -3,6 +3,7 @@ use Rattle.std.proofs.Common.{◌≡◌, ◌⊎◌, inl, inr, refl, sym, subst, 
 use Rattle.std.proofs.Math.Nat.{add-mod_right}
 use Rattle.std.proofs.lemmas.Bool.{cases_lt}
 use Rattle.std.specs.Prelude.{slice_index_or}
+use Rattle.plane.proofs.CornerLists.{IsNext, not_second_next}
 use Rattle.plane.specs.Point.{Point}
 use Rattle.rings.proofs.Vertices.{edge_at, edge_number, has_edge_at, vertex_round, one_to_one}
 use Rattle.rings.specs.Apart.{IsApartRing}
@@ -11,23 +12,12 @@ use Rattle.rings.specs.Ring.{origin, vertex}
 
 -- ---- numbers
 
--- j is the number after i, counted round n
-abbrev IsNext : ℕ → ℕ → ℕ → Type 0
-IsNext n i j = (i + 1 ≡ j) ⊎ ((i + 1 ≡ n) × (j ≡ 0))
-
--- it determines i
+-- the next number determines the one before
 one_before : (n i k j : ℕ) → i < n → k < n → IsNext n i j → IsNext n k j → i ≡ k
 one_before n i k j in_i in_k (inl e) (inl f) = omega arith
 one_before n i k j in_i in_k (inl e) (inr f) = absurd (omega (arith, f.1))
 one_before n i k j in_i in_k (inr e) (inl f) = absurd (omega (arith, e.1))
 one_before n i k j in_i in_k (inr e) (inr f) = omega (arith, e.0, f.0)
-
--- of three numbers or more the ones before and after one are different
-not_round : (n i j k : ℕ) → 3 ≤ n → IsNext n i j → IsNext n j k → ¬ (i ≡ k)
-not_round n i j k three (inl e) (inl f) same = omega arith
-not_round n i j k three (inl e) (inr f) same = omega (arith, f.0, f.1)
-not_round n i j k three (inr e) (inl f) same = omega (arith, e.0, e.1)
-not_round n i j k three (inr e) (inr f) same = omega (arith, e.0, e.1, f.0, f.1)
 
 -- ---- vertices
 
@@ -112,6 +102,6 @@ edges_at ring apart three r h =
                 inl (sym first ∙ ap (edge_at ring) (sym one) ∙ is_e)
           ];
       differ = λ same.
-          not_round (length ring) p.number r k three p.next next
+          not_second_next (length ring) p.number r k three p.next next
           (same_number ring apart p.number k p.in_ring in_k (p.is ∙ same ∙ is_k));
     }
