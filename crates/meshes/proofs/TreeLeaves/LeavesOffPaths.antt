@@ -1,7 +1,7 @@
 -- Where some number is not on a path of a tree, a leaf is not: one with a longest path past that number.
 use Rattle.std.proofs.Common.{refl, ◌≡◌, inl, inr, sym, subst, ◌∙◌, ℕ, zero, suc, ◌<◌, ◌≤◌, List, [], ◌∷◌, length, arith}
-use Rattle.std.proofs.lemmas.Bool.{cases_lt, cases_eq}
-use Rattle.meshes.proofs.TreeLeaves.TreeLeaves.{IsJoinedToOne, as_long, leaf_from}
+use Rattle.std.proofs.lemmas.Bool.{cases_lt}
+use Rattle.meshes.proofs.TreeLeaves.TreeLeaves.{IsJoinedToOne, as_long, leaf_from, new_or_on}
 use Rattle.meshes.proofs.Walks.{IsNew, IsPath, IsTreeOn, new_or_not}
 
 module _ (n : ℕ) (R : ℕ → ℕ → Type 0) (turn : (a b : ℕ) → R a b → R b a) (tree : IsTreeOn (λ a. a < n) R) where
@@ -13,18 +13,6 @@ module _ (n : ℕ) (R : ℕ → ℕ → Type 0) (turn : (a b : ℕ) → R a b �
   new_not_end : (x a : ℕ) (bs : List ℕ) (c : ℕ) → IsPath P R a bs c → IsNew x (a ∷ bs) → ¬ (x ≡ c)
   new_not_end x a [] c p new e = new.0 (e ∙ sym p)
   new_not_end x a (b ∷ bs) c p new e = new_not_end x b bs c p.3 new.1 e
-
-  -- from a number on a path, the rest of it has no number that is new to the path
-  rest_new : (x k a : ℕ) (bs : List ℕ) (c : ℕ) → IsPath P R a bs c → IsNew x (a ∷ bs) → ¬ IsNew k (a ∷ bs)
-      → (rest : List ℕ) × IsPath P R k rest c × IsNew x (k ∷ rest)
-  rest_new x k a [] c p new old = elim (cases_eq k a) [
-    | inl same ↦ ([], same ∙ p, subst (λ y. IsNew x (y ∷ [])) (sym same) new)
-    | inr differs ↦ absurd (old (differs, tt))
-  ]
-  rest_new x k a (b ∷ bs) c p new old = elim (cases_eq k a) [
-    | inl same ↦ (b ∷ bs, subst (λ y. IsPath P R y (b ∷ bs) c) (sym same) p, subst (λ y. IsNew x (y ∷ b ∷ bs)) (sym same) new)
-    | inr differs ↦ rest_new x k b bs c p.3 new.1 (λ later. old (differs, later))
-  ]
 
   -- of the numbers below m whose path to c visits x, k has the longest one
   record IsFarthestPast (x c m : ℕ) : Type 0 where
@@ -97,12 +85,11 @@ module _ (n : ℕ) (R : ℕ → ℕ → Type 0) (turn : (a b : ℕ) → R a b �
   pub leaf_off : (x a : ℕ) (bs : List ℕ) (c : ℕ) → x < n → c < n → IsPath P R a bs c → IsNew x (a ∷ bs) → IsLeafOff a bs
   leaf_off x a bs c at_x at_c p new =
       let f = farthest_past x c at_x at_c n (omega arith) in
-      elim (new_or_not f.k (a ∷ bs)) [
-        | inr old ↦
-            let (rest, q, rest_is_new) = rest_new x f.k a bs c p new old in
+      elim (new_or_on n R turn tree x f.k c a bs p new) [
+        | inr on ↦
             let one = tree f.k c f.within at_c in
-            let same : rest ≡ f.path = one.only rest q ∙ sym (one.only f.path f.is_path) in
-            absurd (f.past (subst (λ ys. IsNew x (f.k ∷ ys)) same rest_is_new))
+            let same : on.rest ≡ f.path = one.only on.rest on.path ∙ sym (one.only f.path f.is_path) in
+            absurd (f.past (subst (λ ys. IsNew x (f.k ∷ ys)) same on.new))
         | inl off ↦ by_path f.k f.path f.within f.is_path f.past (λ d h. f.most d h) off
       ]
     where

@@ -17,13 +17,13 @@ module _ (n : ℕ) (R : ℕ → ℕ → Type 0) (turn : (a b : ℕ) → R a b �
   P a = a < n
 
   -- the rest of a path from d on, where d is on it
-  record IsFrom (c d a : ℕ) : Type 0 where
-    rest : List ℕ
-    path : IsPath P R d rest a
-    new : IsNew c (d ∷ rest)
+  pub record IsFrom (c d a : ℕ) : Type 0 where
+    pub rest : List ℕ
+    pub path : IsPath P R d rest a
+    pub new : IsNew c (d ∷ rest)
 
   -- a number is new to a path or on it
-  new_or_on : (c d a b : ℕ) (bs : List ℕ) → IsPath P R b bs a → IsNew c (b ∷ bs) → IsNew d (b ∷ bs) ⊎ IsFrom c d a
+  pub new_or_on : (c d a b : ℕ) (bs : List ℕ) → IsPath P R b bs a → IsNew c (b ∷ bs) → IsNew d (b ∷ bs) ⊎ IsFrom c d a
   new_or_on c d a b [] p new = elim (cases_eq d b) [
     | inl same ↦ inr (record { rest = []; path = same ∙ p; new = subst (λ x. IsNew c (x ∷ [])) (sym same) new })
     | inr differs ↦ inl (differs, tt)
