@@ -25,11 +25,17 @@ one_sign_of_direction (negsuc m) (pos zero) e turns = cc
 one_sign_of_direction (negsuc m) (pos (suc n)) e turns = cc
 one_sign_of_direction (negsuc m) (negsuc n) e turns = inr (omega (arith, ints), omega (arith, ints))
 
--- a positive number is to the left
+-- a positive number is to the left,
 pub left_of_positive : (z : ℤ) → pos 0 <ℤ z → direction_of z ≡ Left
 left_of_positive (pos zero) h = absurd (omega (arith, ints))
 left_of_positive (pos (suc n)) h = refl
 left_of_positive (negsuc n) h = absurd (omega (arith, ints))
+
+-- and only a positive one
+pub positive_of_left : (z : ℤ) → direction_of z ≡ Left → pos 0 <ℤ z
+positive_of_left (pos zero) e = cc
+positive_of_left (pos (suc n)) e = omega (arith, ints)
+positive_of_left (negsuc n) e = cc
 
 -- a negative one is to the right,
 pub right_of_negative : (z : ℤ) → z <ℤ pos 0 → direction_of z ≡ Right
