@@ -3,6 +3,7 @@ use Rattle.std.proofs.Common.{◌≡◌, ◌≢◌, inl, inr, refl, sym, subst, 
 use Rattle.std.proofs.Math.Nat.{add-mod_left, mod-eq_of_lt, mod-lt, mod_self}
 use Rattle.std.proofs.lemmas.Bool.{cases_lt}
 use Rattle.std.proofs.lemmas.List.{get_or-append_right, get_or-drop, get_or-take, get_or_append_left, get_or_push, length-append, length-drop, length-take-le, length_push, take_more}
+use Rattle.plane.proofs.Regions.{new_corner, old_corner}
 use Rattle.plane.specs.Convex.{corner}
 use Rattle.plane.specs.Point.{Triple}
 use Rattle.half_cut.proofs.Blocks.{mod_add}
@@ -20,13 +21,6 @@ old_line ls line i less = get_or_append_left ls (line ∷ []) _ i less
 
 new_line : (ls : List Line) (line : Line) (i : ℕ) → length ls ≡ i → line_at (ls ++ line ∷ []) i ≡ line
 new_line ls line i e = get_or_push ls line _ i e
-
--- so it is with corners
-old_corner : (cs : List Triple) (x : Triple) (i : ℕ) → i < length cs → corner (cs ++ x ∷ []) i ≡ corner cs i
-old_corner cs x i less = get_or_append_left cs (x ∷ []) _ i less
-
-new_corner : (cs : List Triple) (x : Triple) (i : ℕ) → length cs ≡ i → corner (cs ++ x ∷ []) i ≡ x
-new_corner cs x i e = get_or_push cs x _ i e
 
 -- one more corner, which the line before comes to and this line begins with
 pub linked_more : (cs : List Triple) (ls : List Line) (x : Triple) (line : Line) → AreLinked cs ls → line.0 ≢ line.1 → IsOnLine line x

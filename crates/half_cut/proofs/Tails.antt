@@ -1,6 +1,5 @@
 -- What a cut adds to the corners that stay: the meetings of the two sides that it crosses, with their lines.
-use Rattle.std.proofs.Common.{◌≡◌, ◌≢◌, sym, subst, ap, ◌∙◌, ℕ, zero, suc, ◌-◌, ◌<◌, ◌≤◌, arith, false, IsTrue, List, [], ◌++◌, length, take, get_or, ℤ, pos, negsuc, ◌<ℤ◌, refl}
-use Rattle.std.proofs.lemmas.Int.{ints}
+use Rattle.std.proofs.Common.{◌≡◌, ◌≢◌, sym, subst, ap, ◌∙◌, ℕ, ◌-◌, ◌<◌, ◌≤◌, arith, false, IsTrue, List, [], ◌++◌, length, take, get_or, refl}
 use Rattle.std.proofs.lemmas.List.{get_or-take, get_or_append_left, get_or_read, length-take-le}
 use Rattle.std.specs.Prelude.{IfSome, None, Option, Some, is_some, option_to_list}
 use Rattle.integer_algebra.proofs.Signs.{is_negative, is_positive, is_zero, sign}
@@ -9,19 +8,12 @@ use Rattle.plane.specs.Convex.{AreConvex, corner}
 use Rattle.plane.specs.Cut.{IsCut}
 use Rattle.plane.specs.Point.{IsPoint, Point, Triple, whole}
 use Rattle.plane.specs.Turn.{IsRight, IsStraight, determinant}
-use Rattle.exact_plane.proofs.Directions.{left_of_positive}
-use Rattle.exact_plane.specs.Direction.{direction_of, turn_of}
+use Rattle.exact_plane.proofs.Directions.{left_of_positive, positive_of_left}
+use Rattle.exact_plane.specs.Direction.{turn_of}
 use Rattle.exact_plane.specs.declared.direction.Direction.{Direction}
-use Rattle.exact_plane.specs.declared.direction.Direction.TheVariants.{Left}
 use Rattle.half_cut.proofs.Links.{on_at}
 use Rattle.half_cut.specs.Meeting.{IsFound}
 use Rattle.half_cut.specs.Outline.{AreLinked, AreLinkedRound, ComesRound, GoesOn, IsOnLine, Line, line_at}
-
--- only a positive number is to the left
-positive_of_left : (z : ℤ) → direction_of z ≡ Left → pos 0 <ℤ z
-positive_of_left (pos zero) e = cc
-positive_of_left (pos (suc n)) e = omega (arith, ints)
-positive_of_left (negsuc n) e = cc
 
 module _ (a b : Point) (line : Line) (differ : line.0 ≢ line.1) (c d : Triple) (at_c : IsPoint c) (at_d : IsPoint d)
     (on_c : IsOnLine line c)
