@@ -1,6 +1,5 @@
 -- When two edges are one below the other, by the turns that were taken.
-use Rattle.std.proofs.Common.{◌≡◌, inl, inr, sym, subst, List, ℕ, zero, suc, ℤ, pos, negsuc, ◌<ℤ◌, arith}
-use Rattle.std.proofs.lemmas.Int.{ints}
+use Rattle.std.proofs.Common.{◌≡◌, inl, inr, sym, subst, List, ℕ}
 use Rattle.integer_algebra.proofs.SignSteps.{negative_not_zero, positive_not_zero}
 use Rattle.plane.proofs.Turns.{determinant_same_ends, determinant_same_last}
 use Rattle.plane.specs.Point.{Point, whole}
@@ -8,14 +7,6 @@ use Rattle.plane.specs.Turn.{IsStraight}
 use Rattle.rings.specs.Below.{EndsBelow, IsBelow, IsBelowAt, StartsBelow}
 use Rattle.rings.specs.Edge.{Edge, edge}
 use Rattle.rings.specs.Ring.{vertex}
-use Rattle.exact_plane.specs.Direction.{direction_of}
-use Rattle.exact_plane.specs.declared.direction.Direction.TheVariants.{Left}
-
--- only a positive number is on the left
-pub positive_of_left : (z : ℤ) → direction_of z ≡ Left → pos 0 <ℤ z
-positive_of_left (pos (suc n)) e = omega (arith, ints)
-positive_of_left (pos zero) e = absurd (cc)
-positive_of_left (negsuc n) e = absurd (cc)
 
 module _ (e f : Edge) where
   -- where one of two ends shows that one edge is strictly below the other, it is no common end

@@ -1,5 +1,5 @@
 -- A ring that is kept counterclockwise, against the list that it was made of.
-use Rattle.std.proofs.Common.{◌≡◌, ◌∙◌, sym, ap, refl, ℕ, ◌+◌, ◌-◌, ◌<◌, ◌%◌, ◌≤◌, ◌↔◌, ◌⊎◌, inl, inr, Bool, true, false, List, length, arith}
+use Rattle.std.proofs.Common.{◌≡◌, ◌∙◌, sym, ap, refl, ℕ, ◌-◌, ◌<◌, ◌%◌, ◌≤◌, ◌↔◌, ◌⊎◌, inl, inr, Bool, true, false, List, length, arith}
 use Rattle.std.proofs.lemmas.Int.{ints}
 use Rattle.std.specs.Prelude.{if◌then◌else◌}
 use Rattle.plane.specs.Point.{Point, Triple}
@@ -62,11 +62,3 @@ module _ (corners : List Point) (i : ℕ) (h : i < length corners) where
       ∙ vertex_mod (turned_round corners) (length corners - i)
       ∙ vertex-turned_round corners (length corners - i) (omega arith)
       ∙ ap (vertex corners) (omega arith)
-
-  -- the beginning of edge i
-  pub turned_begin : vertex (turned_round corners) (length corners - 1 - i) ≡ vertex corners (i + 1)
-  turned_begin = vertex-turned_round corners (length corners - 1 - i) (omega arith) ∙ ap (vertex corners) (omega arith)
-
-  -- and its end
-  pub turned_end : vertex (turned_round corners) (length corners - 1 - i + 1) ≡ vertex corners i
-  turned_end = vertex-turned_round corners (length corners - 1 - i + 1) (omega arith) ∙ ap (vertex corners) (omega arith)

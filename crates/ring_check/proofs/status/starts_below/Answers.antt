@@ -1,6 +1,6 @@
 use Rattle.std.proofs.Common.{inl, inr}
 use Rattle.exact_plane.proofs.Directions.{negative_of_right}
-use Rattle.ring_check.proofs.Below.{positive_of_left}
+use Rattle.exact_plane.proofs.Directions.{positive_of_left}
 use Rattle.ring_check.proofs.status.starts_below.Goals as goal
 
 pub returns-then-events-e : goal.returns-then-events-e

@@ -1,5 +1,5 @@
 use Rattle.std.proofs.Common.{◌≡◌, true}
-use Rattle.ring_check.proofs.Oriented.{turned_begin, turned_end}
+use Rattle.rings.proofs.Turned.{turned_begin, turned_end}
 use Rattle.ring_check.proofs.ring.Ring.given_edge.Goals as goal
 
 pub returns-then-self-clause-turned : goal.returns-then-self-clause-turned
