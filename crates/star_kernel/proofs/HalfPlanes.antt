@@ -1,17 +1,13 @@
 -- The square of all points, cut by the lines of the edges one after another: in the end it is the kernel.
-use Rattle.std.proofs.Common.{◌≡◌, ◌↔◌, inl, inr, subst, sym, ap, ◌∙◌, ℕ, ◌+◌, ◌%◌, ◌<◌, ◌≤◌, pos, List, length, arith}
-use Rattle.std.proofs.lemmas.Int.{ints}
+use Rattle.std.proofs.Common.{◌≡◌, ◌↔◌, inl, inr, subst, sym, ap, ◌∙◌, ℕ, ◌+◌, ◌%◌, ◌<◌, ◌≤◌, List, length, arith}
 use Rattle.std.proofs.lemmas.Bool.{cases_lt}
-use Rattle.integer_algebra.proofs.Laws.{neg-mul}
 use Rattle.plane.specs.Cut.{IsUncut}
 use Rattle.plane.specs.Point.{IsInBounds, IsPoint, Point, Triple, whole}
 use Rattle.plane.specs.Region.{IsCornerList}
-use Rattle.plane.specs.Square.{IsInSquare}
 use Rattle.plane.specs.Turn.{IsRight}
-use Rattle.plane.specs.declared.limits.TheConstants.{MAX_COORDINATE}
 use Rattle.rings.proofs.Simple.{apart_of_simple, proper_edges}
 use Rattle.rings.proofs.Vertices.{edge_at, has_edge_at, vertex_mod}
-use Rattle.rings.specs.Kernel.{IsInKernel, IsKernel, IsRightOfNoEdge}
+use Rattle.rings.specs.Kernel.{IsInKernel, IsKernel}
 use Rattle.rings.specs.Orientation.{IsCounterclockwise}
 use Rattle.rings.specs.Ring.{vertex}
 use Rattle.rings.specs.Simple.{IsSimple}
@@ -78,20 +74,10 @@ module _ (ring : List Point) (three : 3 ≤ length ring) (simple : IsSimple ring
   ends_differ k below from to is_from is_to same = differ k below (sym is_from ∙ same ∙ is_to)
 
   module _ (way : IsCounterclockwise ring) (bounds : (k : ℕ) → k < length ring → IsInBounds (vertex ring k)) where
-    -- what is right of no edge is in the square
-    in_square : (p : Triple) → IsPoint p → IsRightOfNoEdge ring p → IsInSquare p
-    in_square p at_p none =
-        let h = right_of_none_in_square ring three simple way MAX_COORDINATE (λ k below. ((bounds k below).x_in_limit, (bounds k below).y_in_limit))
-        p at_p none in
-        record {
-          x_within = record { not_below = omega (arith, ints, h.not_left, neg-mul (pos MAX_COORDINATE) p.W); not_above = h.not_right };
-          y_within = record { not_below = omega (arith, ints, h.not_below, neg-mul (pos MAX_COORDINATE) p.W); not_above = h.not_above };
-        }
-
     -- in the end it is the kernel
     pub all_edges : (corners : List Triple) → IsCornerList (IsLeftOfFirst ring (length ring)) corners → IsKernel ring corners
     all_edges = corners_with (IsLeftOfFirst ring (length ring)) (IsInKernel ring)
         (λ p at_p. (
           λ h. (kernel_law ring three simple way p at_p).1 h.1,
-          λ h. let none = (kernel_law ring three simple way p at_p).0 h in (in_square p at_p none, none),
+          λ h. let none = (kernel_law ring three simple way p at_p).0 h in (right_of_none_in_square ring three simple way bounds p at_p none, none),
         ))

@@ -31,7 +31,7 @@ fn inner_side<L: Ledger>(alloc: Global, ring: &Ring, steps: &mut Steps<L>) -> Re
     let mut region = Region::all(alloc)?;
     for i in 0..n {
         let from = ring.corner(i);
-        from.is_bounded();
+        from.coordinate_bounds();
         let Ok(rest) = region.cut(alloc, &from, &ring.corner((i + 1) % n), steps) else {
             return Err(Memory);
         };

@@ -19,7 +19,7 @@ loop-i-preserved g c =
           (c.corner.ensures ∙ next_vertex ring c.loop-i.i c.len-n.result c.len-n.ensures.number) c.loop-i.region.corners c.in-Ok.rest.corners
           c.loop-i.invariant.cut c.in-Ok.ensures.cut;
       few = omega (arith, c.in-Ok.ensures.few, c.loop-i.invariant.few);
-      bounds = bounds_more ring c.loop-i.i c.corner-from.result c.corner-from.ensures c.is_bounded.ensures c.loop-i.invariant.bounds;
+      bounds = bounds_more ring c.loop-i.i c.corner-from.result c.corner-from.ensures c.coordinate_bounds.ensures c.loop-i.invariant.bounds;
     }
 
 pub returns-clause-kernel : goal.returns-clause-kernel
