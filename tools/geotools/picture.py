@@ -175,7 +175,7 @@ def legend(rows, colours, top):
         x = SIDE + 2 * MARGIN
         kind = ' class="refused"' if row.is_refused else ''
         lines.append(f'<rect x="{x}" y="{y - 10}" width="11" height="11" fill="{"none" if row.is_refused else colour}"/>')
-        lines.append(f'<text x="{x + 18}" y="{y}"{kind}>{escape(short(row.record, 26))} → {escape(short(row.lines[0], 24))}</text>')
+        lines.append(f'<text x="{x + 18}" y="{y}"{kind}>{escape(short(row.record, 24))} → {escape(short(row.lines[0], 22))}</text>')
     return lines
 
 
