@@ -1,1 +1,2 @@
+pub mod Columns
 mod KnownCombs
