@@ -1,12 +1,14 @@
 -- The vertices of the comb and its edges by their numbers.
-use Rattle.std.proofs.Common.{◌≡◌, ◌⊎◌, inl, inr, sym, ap, ◌∙◌, ℕ, ◌+◌, ◌*◌, ◌-◌, ◌%◌, ◌<◌, ◌≤◌, pos, List, map, reverse, length, get_or, arith}
+use Rattle.std.proofs.Common.{◌≡◌, ◌⊎◌, inl, inr, sym, subst, ap, ◌∙◌, ℕ, ◌+◌, ◌*◌, ◌-◌, ◌%◌, ◌<◌, ◌≤◌, pos, List, map, reverse, length, get_or, arith}
 use Rattle.std.proofs.lemmas.Bool.{cases_eq, cases_order}
 use Rattle.std.proofs.lemmas.Int.{ints}
 use Rattle.std.proofs.lemmas.List.{get_or-append_right, get_or-reverse, get_or_append_left, length-append, length-reverse}
 use Rattle.std.proofs.lemmas.List.FromFn.{get_or-map-range_with_len, length-map-range_with_len}
 use Rattle.std.specs.List.{range_with_len}
-use Rattle.plane.specs.Point.{Point}
+use Rattle.plane.specs.Point.{Point, Triple, whole}
+use Rattle.plane.specs.Segment.{On}
 use Rattle.rings.proofs.Vertices.{vertex_in_range, vertex_round}
+use Rattle.rings.specs.Edge.{Edge, IsOn}
 use Rattle.rings.specs.Ring.{origin, vertex}
 use Rattle.geo_gen.specs.Comb.{above, comb_list, lower, upper}
 
@@ -77,6 +79,10 @@ kind k e h = elim (cases_order e k) [
     | inr not ↦ is_upper (2 * k - e) (omega arith) (omega arith)
   ]
 ]
+
+-- a point of a segment, whose ends are called otherwise
+pub on_between : (p : Triple) {a b c d : Point} → a ≡ c → b ≡ d → On p (whole a) (whole b) → On p (whole c) (whole d)
+on_between p e f on = subst (λ (q : Edge). IsOn q p) (λ t. record { from = e t; to = f t }) on
 
 -- ---- different corners
 

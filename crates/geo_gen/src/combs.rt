@@ -31,7 +31,6 @@ pub fn comb_start() -> Pt
 
 /// The middle of the right end of the comb of `k` teeth.
 pub fn comb_goal(k: u32) -> Pt
-    requires some { 1 ≤ k }
     requires few { k ≤ MAX_TEETH }
     ensures { result ≡ comb_goal k }
 {
