@@ -1,5 +1,5 @@
--- The points over a column of the comb, which is the strip from one place of the rows to the next.
-use Rattle.std.proofs.Common.{◌≡◌, ◌⊎◌, inl, inr, refl, sym, ap, subst, ◌∙◌, [], ◌∷◌, ℕ, ◌+◌, ◌*◌, ◌%◌, ◌<◌, ◌≤◌, ℤ, pos, ◌+ℤ◌, ◌-ℤ◌, ◌*ℤ◌, ◌<ℤ◌, ◌≤ℤ◌, arith}
+-- The points over a column of the comb, which goes from one place of the rows to the next.
+use Rattle.std.proofs.Common.{◌≡◌, inl, inr, refl, sym, ap, subst, ◌∙◌, [], ◌∷◌, ℕ, ◌+◌, ◌*◌, ◌%◌, ◌<◌, ◌≤◌, ℤ, pos, ◌+ℤ◌, ◌-ℤ◌, ◌*ℤ◌, ◌<ℤ◌, ◌≤ℤ◌, arith}
 use Rattle.std.proofs.lemmas.Bool.{cases_eq, cases_order}
 use Rattle.std.proofs.lemmas.Int.{ints}
 use Rattle.integer_algebra.proofs.Laws.{add-mul, eq_of_sub-zero, mul-zero, mul_comm, sub_self}
@@ -22,7 +22,7 @@ pub record IsAlong (X Y W u v s : ℤ) : Type 0 where
 module _ (k l m X Y W u v s : ℤ) (hk : pos 0 <ℤ k) (hl : pos 0 ≤ℤ l) (hm : pos 0 ≤ℤ m)
     (ex : k *ℤ X ≡ l *ℤ u +ℤ m *ℤ (u +ℤ pos 4)) (ey : k *ℤ Y ≡ l *ℤ v +ℤ m *ℤ (v +ℤ s))
     (ew : k *ℤ W ≡ l *ℤ pos 1 +ℤ m *ℤ pos 1) where
-  -- how far it is from the first end is a weight of the way to the other
+  -- the weights of the ends, taken from the first end on
   weighed_way : (z t : ℤ) → l *ℤ (z -ℤ z) +ℤ m *ℤ ((z +ℤ t) -ℤ z) ≡ t *ℤ m
   weighed_way z t =
       same_value (var 0 ⊗ (var 2 ⊖ var 2) ⊕ var 1 ⊗ ((var 2 ⊕ var 3) ⊖ var 2)) (var 3 ⊗ var 1) (l ∷ m ∷ z ∷ t ∷ []) refl
@@ -40,19 +40,24 @@ module _ (k l m X Y W u v s : ℤ) (hk : pos 0 <ℤ k) (hl : pos 0 ≤ℤ l) (hm
       let left = factor_nonnegative k d hk (omega (arith, ints, to_right)) in
       let right =
       factor_nonnegative k (pos 4 *ℤ W -ℤ d) hk
-      (omega (arith, ints, to_right, ew,
-       same_value (var 0 ⊗ (lit (pos 4) ⊗ var 1 ⊖ var 2)) (lit (pos 4) ⊗ (var 0 ⊗ var 1) ⊖ var 0 ⊗ var 2) (k ∷ W ∷ d ∷ []) refl))
+      (omega (
+        arith,
+        ints,
+        to_right,
+        ew,
+        same_value (var 0 ⊗ (lit (pos 4) ⊗ var 1 ⊖ var 2)) (lit (pos 4) ⊗ (var 0 ⊗ var 1) ⊖ var 0 ⊗ var 2) (k ∷ W ∷ d ∷ []) refl,
+      ))
       in
       record {
         not_left = omega (arith, ints, left);
         not_right = omega (arith, ints, right, add-mul u (pos 4) W);
         height = cancel_equal _ _ k hk (
-          same_value (var 0 ⊗ (lit (pos 4) ⊗ var 1)) (lit (pos 4) ⊗ (var 0 ⊗ var 1)) (k ∷ h ∷ []) refl
-          ∙ ap (λ z. pos 4 *ℤ z) upward
-          ∙ same_value (lit (pos 4) ⊗ (var 0 ⊗ var 1)) (var 0 ⊗ (lit (pos 4) ⊗ var 1)) (s ∷ m ∷ []) refl
-          ∙ ap (λ z. s *ℤ z) (sym to_right)
-          ∙ same_value (var 1 ⊗ (var 0 ⊗ var 2)) (var 0 ⊗ (var 1 ⊗ var 2)) (k ∷ s ∷ d ∷ []) refl
-        );
+            same_value (var 0 ⊗ (lit (pos 4) ⊗ var 1)) (lit (pos 4) ⊗ (var 0 ⊗ var 1)) (k ∷ h ∷ []) refl
+            ∙ ap (λ z. pos 4 *ℤ z) upward
+            ∙ same_value (lit (pos 4) ⊗ (var 0 ⊗ var 1)) (var 0 ⊗ (lit (pos 4) ⊗ var 1)) (s ∷ m ∷ []) refl
+            ∙ ap (λ z. s *ℤ z) (sym to_right)
+            ∙ same_value (var 1 ⊗ (var 0 ⊗ var 2)) (var 0 ⊗ (var 1 ⊗ var 2)) (k ∷ s ∷ d ∷ []) refl
+            );
       }
 
 -- a point on the segment from a is along it
@@ -62,13 +67,15 @@ on_along p a s at on =
     let c = combination_of_ends p a (record { x = a.x +ℤ pos 4; y = a.y +ℤ s }) at on in
     weighed_along c.k c.l c.m p.X p.Y p.W a.x a.y s c.k_positive c.l_nonnegative c.m_nonnegative c.in_X c.in_Y c.in_W
 
--- and one on an upright segment is over its foot
+-- ---- a point on an upright segment
+
 weighed_upright : (k l m X W u : ℤ) → pos 0 <ℤ k → k *ℤ X ≡ l *ℤ u +ℤ m *ℤ u → k *ℤ W ≡ l *ℤ pos 1 +ℤ m *ℤ pos 1 → X ≡ u *ℤ W
 weighed_upright k l m X W u hk ex ew =
     let none = same_value (var 0 ⊗ (var 2 ⊖ var 2) ⊕ var 1 ⊗ (var 2 ⊖ var 2)) (var 2 ⊖ var 2) (l ∷ m ∷ u ∷ []) refl in
     let way = cancel_equal (X -ℤ u *ℤ W) (pos 0) k hk (offset_along k l m X W u u ex ew u ∙ none ∙ sub_self u ∙ sym (mul-zero k)) in
     eq_of_sub-zero X (u *ℤ W) way
 
+-- it is over the foot of the segment
 pub on_upright : (p : Triple) (u v t : ℤ) → IsPoint p → On p (whole (record { x = u; y = v })) (whole (record { x = u; y = t }))
     → p.X ≡ u *ℤ p.W
 on_upright p u v t at on =
@@ -142,13 +149,13 @@ module _ (i y : ℕ) (p : Triple) (h : IsOver i y p) where
   not_behind : p.X ≤ℤ (pos (4 * (i + 1)) *ℤ p.W)
   not_behind = subst (λ (z : ℤ). p.X ≤ℤ (z *ℤ p.W)) (sym (next_x i)) h.not_right
 
--- a point that is not left of place j and not right of place i tells that j is not behind i
+-- where a point is not left of place j and not right of place i, j is not behind i
 in_order : (p : Triple) → IsPoint p → (i j : ℕ) → (pos (4 * j) *ℤ p.W) ≤ℤ p.X → p.X ≤ℤ (pos (4 * i) *ℤ p.W) → j ≤ i
 in_order p at i j h k =
     let e = cancel_order (pos (4 * j)) (pos (4 * i)) p.W at (omega (arith, ints, mul_comm p.W (pos (4 * j)), mul_comm p.W (pos (4 * i)))) in
     omega (arith, ints, e)
 
--- a corner over a place has one height
+-- a corner at a place has one height
 height_of_corner : (p : Triple) → IsPoint p → (i y z : ℕ) → IsSame p (whole (above i y)) → IsSame p (whole (above i z)) → y ≡ z
 height_of_corner p at i y z h k =
     let a = pos (6 * (i % 2) + y) in
@@ -198,6 +205,6 @@ module _ (p : Triple) (at : IsPoint p) where
     | inr (inr more) ↦ sym (heights_of_next j i z y more k h)
   ]
 
-  -- a point that is over two places tells that they are one
-  pub place_is_one : (i j : ℕ) → p.X ≡ pos (4 * i) *ℤ p.W → p.X ≡ pos (4 * j) *ℤ p.W → j ≤ i
-  place_is_one i j h k = in_order p at i j (omega (arith, ints, k)) (omega (arith, ints, h))
+  -- where a point is at two places, neither is behind the other
+  pub at_two_places : (i j : ℕ) → p.X ≡ pos (4 * i) *ℤ p.W → p.X ≡ pos (4 * j) *ℤ p.W → j ≤ i
+  at_two_places i j h k = in_order p at i j (omega (arith, ints, k)) (omega (arith, ints, h))

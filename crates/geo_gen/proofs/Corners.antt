@@ -1,5 +1,5 @@
 -- The vertices of the comb and its edges by their numbers.
-use Rattle.std.proofs.Common.{◌≡◌, ◌⊎◌, inl, inr, sym, subst, ap, ◌∙◌, ℕ, ◌+◌, ◌*◌, ◌-◌, ◌%◌, ◌<◌, ◌≤◌, pos, List, map, reverse, length, get_or, arith}
+use Rattle.std.proofs.Common.{◌≡◌, inl, inr, sym, subst, ap, ◌∙◌, ℕ, ◌+◌, ◌*◌, ◌-◌, ◌%◌, ◌<◌, ◌≤◌, pos, map, reverse, length, get_or, arith}
 use Rattle.std.proofs.lemmas.Bool.{cases_eq, cases_order}
 use Rattle.std.proofs.lemmas.Int.{ints}
 use Rattle.std.proofs.lemmas.List.{get_or-append_right, get_or-reverse, get_or_append_left, length-append, length-reverse}
@@ -34,7 +34,7 @@ module _ (k : ℕ) where
   lower_at i h =
       vertex_in_range (comb_list k) i origin (omega (arith, length_comb k))
       ∙ get_or_append_left (map lower (range_with_len 0 (k + 1))) (reverse (map upper (range_with_len 0 (k + 1)))) origin i
-        (omega (arith, length_row k 0))
+      (omega (arith, length_row k 0))
       ∙ row_at k 0 i h
 
   -- the others the upper row, back

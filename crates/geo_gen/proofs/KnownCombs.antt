@@ -1,6 +1,5 @@
 -- Combs that anyone can draw, so that a wrong definition does not check.
-use Rattle.std.proofs.Common.{◌≡◌, refl, pos, List, [], ◌∷◌, length}
-use Rattle.plane.specs.Point.{Point}
+use Rattle.std.proofs.Common.{◌≡◌, refl, pos, [], ◌∷◌, length}
 use Rattle.rings.specs.Orientation.{doubled_area}
 use Rattle.geo_gen.specs.Comb.{comb_goal, comb_list, comb_start}
 

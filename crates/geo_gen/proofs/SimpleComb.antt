@@ -1,10 +1,10 @@
 -- The comb is a simple ring: two of its edges share no more than the vertex between them.
-use Rattle.std.proofs.Common.{◌≡◌, inl, inr, sym, subst, ap, ◌∙◌, ℕ, ◌+◌, ◌*◌, ◌<◌, List, length, pos, ◌*ℤ◌, arith}
+use Rattle.std.proofs.Common.{◌≡◌, inl, inr, sym, subst, ap, ◌∙◌, ℕ, ◌+◌, ◌*◌, ◌<◌, length, pos, ◌*ℤ◌, arith}
 use Rattle.plane.proofs.Segments.{on_reversed}
 use Rattle.plane.specs.Point.{IsPoint, IsSame, Point, Triple, whole}
 use Rattle.rings.specs.Ring.{IsOnEdge, vertex}
-use Rattle.rings.specs.Simple.{Clash, IsSimple, SharesPoint}
-use Rattle.geo_gen.proofs.Columns.{IsOver, at_place, between_columns, height_is_one, on_over, on_upright, place_is_one}
+use Rattle.rings.specs.Simple.{IsSimple}
+use Rattle.geo_gen.proofs.Columns.{IsOver, at_place, at_two_places, between_columns, height_is_one, on_over, on_upright}
 use Rattle.geo_gen.proofs.Corners.{Kind, ends_differ, is_left, is_lower, is_right, is_upper, kind, length_comb, lower_at, on_between, round_at, upper_at}
 use Rattle.geo_gen.specs.Comb.{above, comb_list}
 
@@ -53,7 +53,7 @@ module _ (k : ℕ) (p : Triple) (at : IsPoint p) where
     shared (right last e) (high m in_row' sum h') =
         let (same, least, most) = at_place p at m k 2 h' e in
         not_next (above k 2) (upper_at k k j (omega arith) (omega arith)) (omega arith) same
-    shared (right last e) (left last' e') = let f = place_is_one p at 0 k e' e in absurd (omega arith)
+    shared (right last e) (left last' e') = let f = at_two_places p at 0 k e' e in absurd (omega arith)
     shared (high m in_row sum h) (low in_row' h') = absurd (omega arith)
     shared (high m in_row sum h) (right last' e') = absurd (omega arith)
     shared (high m in_row sum h) (high n in_row' sum' h') =

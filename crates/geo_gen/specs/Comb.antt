@@ -1,4 +1,4 @@
--- The comb: a strip of height 2 that goes up and down in zigzag, so that a path through it bends at each tooth. This project's own.
+-- The comb: a strip of height 2 that goes up and down in zigzag, a tooth at a time. This project's own.
 use Rattle.std.specs.List.{range_with_len}
 use Rattle.std.specs.Prelude.{ℕ, ◌+◌, ◌*◌, ◌%◌, pos, List, ◌++◌, map, reverse}
 use Rattle.plane.specs.Point.{Point}
