@@ -1,5 +1,6 @@
 -- The points over a column of the comb, which goes from one place of the rows to the next.
-use Rattle.std.proofs.Common.{◌≡◌, inl, inr, refl, sym, ap, subst, ◌∙◌, [], ◌∷◌, ℕ, ◌+◌, ◌*◌, ◌%◌, ◌<◌, ◌≤◌, ℤ, pos, ◌+ℤ◌, ◌-ℤ◌, ◌*ℤ◌, ◌<ℤ◌, ◌≤ℤ◌, arith}
+use Rattle.std.proofs.Common.{◌≡◌, inl, inr, refl, sym, ap, subst, ◌∙◌, [], ◌∷◌, ℕ, ◌+◌, ◌*◌, ◌%◌, ◌<◌, ◌≤◌, arith}
+use Rattle.std.proofs.Common.{ℤ, pos, ◌+ℤ◌, ◌-ℤ◌, ◌*ℤ◌, ◌<ℤ◌, ◌≤ℤ◌}
 use Rattle.std.proofs.lemmas.Bool.{cases_eq, cases_order}
 use Rattle.std.proofs.lemmas.Int.{ints}
 use Rattle.integer_algebra.proofs.Laws.{add-mul, eq_of_sub-zero, mul-zero, mul_comm, sub_self}
@@ -69,7 +70,8 @@ on_along p a s at on =
 
 -- ---- a point on an upright segment
 
-weighed_upright : (k l m X W u : ℤ) → pos 0 <ℤ k → k *ℤ X ≡ l *ℤ u +ℤ m *ℤ u → k *ℤ W ≡ l *ℤ pos 1 +ℤ m *ℤ pos 1 → X ≡ u *ℤ W
+weighed_upright : (k l m X W u : ℤ) → pos 0 <ℤ k → k *ℤ X ≡ l *ℤ u +ℤ m *ℤ u
+    → k *ℤ W ≡ l *ℤ pos 1 +ℤ m *ℤ pos 1 → X ≡ u *ℤ W
 weighed_upright k l m X W u hk ex ew =
     let none = same_value (var 0 ⊗ (var 2 ⊖ var 2) ⊕ var 1 ⊗ (var 2 ⊖ var 2)) (var 2 ⊖ var 2) (l ∷ m ∷ u ∷ []) refl in
     let way = cancel_equal (X -ℤ u *ℤ W) (pos 0) k hk (offset_along k l m X W u u ex ew u ∙ none ∙ sub_self u ∙ sym (mul-zero k)) in

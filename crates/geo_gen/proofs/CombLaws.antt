@@ -41,7 +41,8 @@ module _ (k : ℕ) (some : 0 < k) where
   first_is_least : IsLeastVertex (comb_list k) 0
   first_is_least j within before =
       let (i, y, in_row, low, is) = corner_at k j (omega (arith, length_comb k)) in
-      not_before_first i y (subst (IsBefore (above i y)) (lower_at k 0 (omega arith)) (subst (λ (v : Point). IsBefore v (vertex (comb_list k) 0)) is before))
+      let from_corner = subst (λ (v : Point). IsBefore v (vertex (comb_list k) 0)) is before in
+      not_before_first i y (subst (IsBefore (above i y)) (lower_at k 0 (omega arith)) from_corner)
 
   -- at the first vertex the comb turns left
   first_turn : turn_at (comb_list k) 0 ≡ pos 8
