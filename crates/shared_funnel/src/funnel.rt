@@ -146,6 +146,7 @@ impl Funnel {
     }
 
     /// The funnel at the side from the left end to the corner `m` beyond, which is reached from the point at `place`.
+    #[tactic(auto, using(shared_seq::proofs::Digits::binary_digits_sum))]
     pub fn to_right<L: Ledger>(
         &self,
         alloc: Global,
@@ -168,6 +169,7 @@ impl Funnel {
     }
 
     /// The funnel at the side from the corner `m` beyond to the right end.
+    #[tactic(auto, using(shared_seq::proofs::Digits::binary_digits_sum))]
     pub fn to_left<L: Ledger>(
         &self,
         alloc: Global,

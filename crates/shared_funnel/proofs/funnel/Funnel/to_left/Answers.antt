@@ -1,16 +1,9 @@
 use Rattle.std.proofs.Common.{◌≡◌, sym, ap, subst, ◌∙◌, ◌+◌, ◌-◌, ◌∷◌, length, drop, arith}
 use Rattle.std.proofs.lemmas.List.{length-drop}
-use Rattle.shared_seq.proofs.Digits.{binary_digits_mono}
 use Rattle.shared_funnel.proofs.StepCounts.{next_steps}
 use Rattle.shared_funnel.proofs.StepLeft.{funnel_to_left}
 use Rattle.shared_funnel.proofs.funnel.Funnel.to_left.Goals as goal
 use Rattle.shared_funnel.specs.Listed.{IsFunnelAt}
-
-pub returns-in_err-rest-clause-steps : goal.returns-in_err-rest-clause-steps
-returns-in_err-rest-clause-steps g c =
-    let n = length c.args.self.now.list in
-    let same = ap (λ l. length l.list) c.self.view_is in
-    omega (arith, c.split_at.ensures.steps, binary_digits_mono (length c.self.inside.list) (n + 1) (omega (arith, same)))
 
 pub returns-in_err-list-clause-steps : goal.returns-in_err-list-clause-steps
 returns-in_err-list-clause-steps g c =
