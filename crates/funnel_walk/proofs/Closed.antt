@@ -1,15 +1,16 @@
 -- The names from the start over the points that a walk leaves behind to the goal stand for a taut chain.
-use Rattle.std.proofs.Common.{◌≡◌, ◌≢◌, refl, sym, ap, subst, ◌∙◌, ℕ, ◌+◌, ◌-◌, ◌<◌, min, List, [], ◌∷◌, ◌++◌, length, arith}
+use Rattle.std.proofs.Common.{◌≡◌, ◌≢◌, refl, sym, ap, subst, ◌∙◌, ℕ, ◌-◌, ◌<◌, min, List, [], ◌∷◌, ◌++◌, length, arith}
 use Rattle.std.proofs.lemmas.List.{append_assoc, get_or_append_left, get_or_push, length-append, map-append}
 use Rattle.std.proofs.lemmas.List.Elements.{All-append}
 use Rattle.plane.specs.Point.{Point}
 use Rattle.rings.specs.Chain.{IsBentChain, IsTaut, point_at}
 use Rattle.rings.specs.Ring.{origin}
-use Rattle.funnels.specs.OpenFunnel.{left_behind, right_behind}
+use Rattle.funnels.proofs.Trees.{first_on_way, way_to}
+use Rattle.funnels.specs.OpenFunnel.{left_behind}
 use Rattle.exact_plane.specs.Spot.{IsNamed, point_named}
 use Rattle.exact_plane.specs.declared.turns.Spot.{Spot}
 use Rattle.exact_plane.specs.declared.turns.Spot.TheVariants.{Goal, Start}
-use Rattle.funnel_walk.proofs.FirstNames.{first_left, first_right, left_named, name_named, one_named, right_named}
+use Rattle.funnel_walk.proofs.FirstNames.{left_named, name_named, one_named, right_named}
 use Rattle.funnel_walk.proofs.NamedLists.{apex_below, left_points, named_push, point_of_name, right_points}
 use Rattle.funnel_walk.specs.Names.{AreNamed, left_names, name_at, named_points, right_names}
 use Rattle.funnel_walk.specs.Walked.{IsWalked}
@@ -17,10 +18,6 @@ use Rattle.funnel_walk.specs.Walked.{IsWalked}
 -- the names that are given and left behind on the way to place h
 abbrev pub names_on_way : List Spot → List Spot → ℕ → ℕ → List Spot
 names_on_way given names a h = given ++ left_names names a (a - h) ++ right_names names (min a h) (h - min a h)
-
--- and the points
-abbrev pub points_on_way : List Point → List Point → ℕ → ℕ → List Point
-points_on_way before ns a h = before ++ left_behind ns a (a - h) ++ right_behind ns (min a h) (h - min a h)
 
 -- names that begin with the start,
 begin : (ns : List Spot) → 0 < length ns → name_at ns 0 ≡ Start → (others : List Spot) × (ns ≡ Start ∷ others)
@@ -44,7 +41,7 @@ module _ (corners : List Point) (start goal : Point) (given names : List Spot) (
 
   -- and their points
   abbrev way_points : List Point
-  way_points = points_on_way (named_points at given) (named_points at names) a h
+  way_points = way_to (named_points at given) (named_points at names) a h
 
   -- the names on the way stand for the points on it,
   way_is : named_points at way ≡ way_points
@@ -64,12 +61,7 @@ module _ (corners : List Point) (start goal : Point) (given names : List Spot) (
 
   -- the way begins at the start
   way_starts : name_at (way ++ name_at names h ∷ []) 0 ≡ Start
-  way_starts =
-      let right_place : h ≡ min a h + (h - min a h) = omega arith in
-      let left_place : min a h ≡ a - (a - h) = omega arith in
-      first_right (given ++ left_names names a (a - h)) names (min a h) (h - min a h) (name_at names h) (ap (name_at names) right_place)
-      ∙ first_left given names a (a - h) (name_at names (min a h)) (ap (name_at names) left_place)
-      ∙ w.starts
+  way_starts = first_on_way Start given (name_at names) a h ∙ w.starts
 
   -- points are a taut chain where they bend, begin at the start and end at the goal
   taut_of : (points : List Point) → IsBentChain corners points → point_at points 0 ≡ start → point_at points (length points - 1) ≡ goal

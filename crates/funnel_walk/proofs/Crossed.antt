@@ -4,11 +4,12 @@ use Rattle.std.proofs.lemmas.List.{get_or_append_left, length-take-le, map-appen
 use Rattle.std.proofs.lemmas.List.Elements.{All-append}
 use Rattle.plane.specs.Point.{Point}
 use Rattle.rings.specs.Ring.{vertex}
+use Rattle.funnels.proofs.Trees.{first_left, first_right}
 use Rattle.funnels.specs.OpenFunnel.{IsOpenFunnel, left_behind, right_behind}
 use Rattle.exact_plane.specs.Spot.{IsNamed, point_named}
 use Rattle.exact_plane.specs.declared.turns.Spot.{Spot}
 use Rattle.exact_plane.specs.declared.turns.Spot.TheVariants.{Corner, Start}
-use Rattle.funnel_walk.proofs.FirstNames.{first_left, first_right, left_named, more_named, one_named, right_named}
+use Rattle.funnel_walk.proofs.FirstNames.{left_named, more_named, one_named, right_named}
 use Rattle.funnel_walk.proofs.NamedLists.{apex_below, front_named, left_points, name_behind, name_in_front, named_drop, named_push, named_take}
 use Rattle.funnel_walk.proofs.NamedLists.{rest_named, right_points}
 use Rattle.funnel_walk.specs.Names.{left_names, name_at, named_points, right_names}
@@ -55,7 +56,7 @@ module _ (corners : List Point) (start goal : Point) (given names : List Spot) (
       given_named = All-append (IsNamed corners) given _ w.given_named (left_named corners names w.named a (a - h) (apex_below w));
       named = All-append (IsNamed corners) (take (h + 1) names) (Corner m ∷ []) (front_named corners names (h + 1) w.named)
           (one_named corners (Corner m) m_below);
-      starts = first_left given names a (a - h) _ right_apex ∙ w.starts;
+      starts = first_left Start given (name_at names) a (a - h) _ right_apex ∙ w.starts;
     }
 
     -- ---- on the left
@@ -87,5 +88,5 @@ module _ (corners : List Point) (start goal : Point) (given names : List Spot) (
       given_named = All-append (IsNamed corners) given _ w.given_named
           (right_named corners names w.named a (h - a) (omega (arith, apex_below w)));
       named = more_named corners (Corner m) (drop h names) m_below (rest_named corners names h w.named);
-      starts = first_right given names a (h - a) _ left_apex ∙ w.starts;
+      starts = first_right Start given (name_at names) a (h - a) _ left_apex ∙ w.starts;
     }

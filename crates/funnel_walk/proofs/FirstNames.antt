@@ -1,37 +1,11 @@
--- The first of the names that a way gives, and that all of them stand for points.
-use Rattle.std.proofs.Common.{◌≡◌, refl, ap, ◌∙◌, ℕ, zero, suc, ◌+◌, ◌-◌, ◌<◌, ◌≤◌, List, [], ◌∷◌, ◌++◌, length, take, arith}
-use Rattle.std.proofs.lemmas.List.{append-nil, append_assoc}
+-- The names that a way gives: those of the front, and that all of them stand for points.
+use Rattle.std.proofs.Common.{◌≡◌, refl, ℕ, zero, suc, ◌+◌, ◌-◌, ◌<◌, ◌≤◌, List, [], ◌∷◌, length, take, arith}
 use Rattle.std.proofs.lemmas.List.Elements.{All-append}
 use Rattle.plane.specs.Point.{Point}
 use Rattle.exact_plane.specs.Spot.{IsNamed}
 use Rattle.exact_plane.specs.declared.turns.Spot.{Spot}
 use Rattle.funnel_walk.proofs.NamedLists.{name_in_front}
 use Rattle.funnel_walk.specs.Names.{AreNamed, left_names, name_at, right_names}
-
--- the first of some names stays first where others come after it
-first_stays : (given : List Spot) (x : Spot) (rest : List Spot) → name_at (given ++ x ∷ rest) 0 ≡ name_at (given ++ x ∷ []) 0
-first_stays [] x rest = refl
-first_stays (y ∷ given) x rest = refl
-
--- so the way to the left begins where the apex's does,
-pub first_left : (given names : List Spot) (a c : ℕ) (n : Spot) → n ≡ name_at names (a - c)
-    → name_at (given ++ left_names names a c ++ n ∷ []) 0 ≡ name_at (given ++ name_at names a ∷ []) 0
-first_left given names a zero n is =
-    let place : a - 0 ≡ a = omega arith in
-    ap (λ ns. name_at (ns ++ n ∷ []) 0) (append-nil given) ∙ ap (λ m. name_at (given ++ m ∷ []) 0) (is ∙ ap (name_at names) place)
-first_left given names a (suc c) n is =
-    ap (λ ns. name_at ns 0) (append_assoc given (left_names names a (suc c)) (n ∷ []))
-    ∙ first_stays given (name_at names a) (left_names names (a - 1) c ++ n ∷ [])
-
--- and the way to the right
-pub first_right : (given names : List Spot) (a c : ℕ) (n : Spot) → n ≡ name_at names (a + c)
-    → name_at (given ++ right_names names a c ++ n ∷ []) 0 ≡ name_at (given ++ name_at names a ∷ []) 0
-first_right given names a zero n is =
-    let place : a + 0 ≡ a = omega arith in
-    ap (λ ns. name_at (ns ++ n ∷ []) 0) (append-nil given) ∙ ap (λ m. name_at (given ++ m ∷ []) 0) (is ∙ ap (name_at names) place)
-first_right given names a (suc c) n is =
-    ap (λ ns. name_at ns 0) (append_assoc given (right_names names a (suc c)) (n ∷ []))
-    ∙ first_stays given (name_at names a) (right_names names (a + 1) c ++ n ∷ [])
 
 -- the names to the right are those of the front,
 pub right_in_front : (names : List Spot) (n a c : ℕ) → a + c ≤ n → right_names (take n names) a c ≡ right_names names a c

@@ -12,11 +12,12 @@ use Rattle.meshes.specs.Side.{tri_at}
 use Rattle.meshes.specs.Sleeve.{IsOneOf, Sleeve, diagonal_at}
 use Rattle.meshes.specs.declared.tri.Tri.{Tri}
 use Rattle.funnels.proofs.Chains.{chain_on, chain_to, reached_bends, sees_reached}
+use Rattle.funnels.proofs.Trees.{way_to}
 use Rattle.funnels.specs.Funnel.{IsReachedFrom}
 use Rattle.exact_plane.specs.Spot.{point_named}
 use Rattle.exact_plane.specs.declared.turns.Spot.{Spot}
 use Rattle.exact_plane.specs.declared.turns.Spot.TheVariants.{Goal, Start}
-use Rattle.funnel_walk.proofs.Closed.{named_at_goal, named_to_goal, names_on_way, points_on_way, starts_at_goal, starts_to_goal, taut_at_goal}
+use Rattle.funnel_walk.proofs.Closed.{named_at_goal, named_to_goal, names_on_way, starts_at_goal, starts_to_goal, taut_at_goal}
 use Rattle.funnel_walk.proofs.Closed.{taut_to_goal}
 use Rattle.funnel_walk.proofs.NamedLists.{length_named, point_of_name}
 use Rattle.funnel_walk.proofs.NextDiagonals.{enters, shared}
@@ -59,7 +60,7 @@ module _ (corners : List Point) (tris : List Tri) (fits : Fits corners tris) (sl
       w.funnel.sight h (whole goal) (whole_is_point goal) in_goal reached
 
   -- and the way there bends
-  goes_on : at (name_at names h) ≢ goal → IsBentChain corners (points_on_way before ns a h ++ point_at ns h ∷ goal ∷ [])
+  goes_on : at (name_at names h) ≢ goal → IsBentChain corners (way_to before ns a h ++ point_at ns h ∷ goal ∷ [])
   goes_on other =
       let k = get_or sleeve.walk (i + 1) 0 in
       let l = (diagonal_at sleeve i).left in

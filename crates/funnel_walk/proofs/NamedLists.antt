@@ -6,6 +6,7 @@ use Rattle.std.proofs.lemmas.List.{take-map}
 use Rattle.plane.specs.Point.{Point}
 use Rattle.rings.specs.Chain.{point_at}
 use Rattle.rings.specs.Ring.{origin}
+use Rattle.funnels.proofs.Trees.{length_leftward, length_rightward}
 use Rattle.funnels.specs.OpenFunnel.{left_behind, right_behind}
 use Rattle.exact_plane.specs.Spot.{IsNamed, point_named}
 use Rattle.exact_plane.specs.declared.turns.Spot.{Spot}
@@ -73,23 +74,13 @@ right_more names a (suc c) =
     ∙ ap (λ ns. name_at names a ∷ ns) (ap (λ k. right_names names (a + 1) k) (sym (add-one c)) ∙ rest
     ∙ ap (λ k. right_names names (a + 1) c ++ name_at names k ∷ []) e)
 
--- there are so many of them to the left,
-length_left : (names : List Spot) (a c : ℕ) → length (left_names names a c) ≡ c
-length_left names a zero = refl
-length_left names a (suc c) = ap suc (length_left names (a - 1) c)
-
--- and to the right,
-length_right : (names : List Spot) (a c : ℕ) → length (right_names names a c) ≡ c
-length_right names a zero = refl
-length_right names a (suc c) = ap suc (length_right names (a + 1) c)
-
--- also where they are added to others, to the left,
+-- there are so many of them, added to others, to the left,
 pub count_left : (given names : List Spot) (a c : ℕ) → length (given ++ left_names names a c) ≡ length given + c
-count_left given names a c = length-append given (left_names names a c) ∙ ap (λ n. length given + n) (length_left names a c)
+count_left given names a c = length-append given (left_names names a c) ∙ ap (λ n. length given + n) (length_leftward (name_at names) a c)
 
 -- or to the right
 pub count_right : (given names : List Spot) (a c : ℕ) → length (given ++ right_names names a c) ≡ length given + c
-count_right given names a c = length-append given (right_names names a c) ∙ ap (λ n. length given + n) (length_right names a c)
+count_right given names a c = length-append given (right_names names a c) ∙ ap (λ n. length given + n) (length_rightward (name_at names) a c)
 
 -- where all names from the apex on will be given, there is room for two names more,
 pub room_for_two : (given out names : List Spot) (a i room : ℕ) → out ≡ given ++ right_names names a (i - a) → a ≤ i → i < length names

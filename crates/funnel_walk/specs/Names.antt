@@ -1,8 +1,9 @@
 -- Names of points, those of a path among them, and parts of the names of a funnel. This project's own.
 use Rattle.std.specs.List.{All}
-use Rattle.std.specs.Prelude.{◌≡◌, ℕ, zero, suc, ◌+◌, ◌-◌, List, [], ◌∷◌, ◌++◌, map, slice_index_or}
+use Rattle.std.specs.Prelude.{◌≡◌, ℕ, List, [], ◌∷◌, ◌++◌, map, slice_index_or}
 use Rattle.plane.specs.Point.{Point}
 use Rattle.rings.specs.Chain.{IsPath}
+use Rattle.funnels.specs.OpenFunnel.{leftward, rightward}
 use Rattle.exact_plane.specs.Spot.{IsNamed, point_named}
 use Rattle.exact_plane.specs.declared.turns.Spot.{Spot}
 use Rattle.exact_plane.specs.declared.turns.Spot.TheVariants.{Start}
@@ -29,9 +30,7 @@ pub record AppendsPath (corners : List Point) (start goal : Point) (out out' : L
 
 -- so many names from the apex on, to the left, or to the right
 abbrev pub left_names : List Spot → ℕ → ℕ → List Spot
-left_names names a zero = []
-left_names names a (suc c) = name_at names a ∷ left_names names (a - 1) c
+left_names names a c = leftward (name_at names) a c
 
 abbrev pub right_names : List Spot → ℕ → ℕ → List Spot
-right_names names a zero = []
-right_names names a (suc c) = name_at names a ∷ right_names names (a + 1) c
+right_names names a c = rightward (name_at names) a c

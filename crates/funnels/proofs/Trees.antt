@@ -1,8 +1,8 @@
 -- What comes before the last point of a path: in the triangle of the source, and beyond the diagonal of an open funnel.
 
--- The way from a source over the apex of a funnel to one of its points, and where it begins.
+-- The way from a source over the apex of a funnel to one of its points: where it begins, and how long it is.
 mod Ways
-pub use Rattle.funnels.proofs.Trees.Ways.{first_left, first_right, way_begins, way_to}
+pub use Rattle.funnels.proofs.Trees.Ways.{first_left, first_on_way, first_right, length_leftward, length_rightward, way_begins, way_to}
 -- In a ring that triangles fit a chain with bends is the path between its ends, and its last point but one comes before the last.
 mod BentPaths
 -- Paths within one triangle; and beyond a diagonal: the path to the point of the funnel from which a point is reached, and on.

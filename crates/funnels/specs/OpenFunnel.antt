@@ -32,14 +32,21 @@ IsApexSide ns a q false = (0 < a)
     × (turning false (point_at ns a) (whole q) (whole (point_at ns (a - 1))) <ℤ pos 0)
     × (a + 1 < length ns → turning false (point_at ns a) (whole q) (whole (point_at ns (a + 1))) <ℤ pos 0)
 
--- the points that the way from the apex leaves behind: so many from the apex on to the left, or to the right
+-- what is at so many places, from place a on to the left, or to the right
+abbrev pub leftward : {A : Type 0} → (ℕ → A) → ℕ → ℕ → List A
+leftward at a zero = []
+leftward at a (suc c) = at a ∷ leftward at (a - 1) c
+
+abbrev pub rightward : {A : Type 0} → (ℕ → A) → ℕ → ℕ → List A
+rightward at a zero = []
+rightward at a (suc c) = at a ∷ rightward at (a + 1) c
+
+-- the points that the way from the apex leaves behind: so many from the apex on
 abbrev pub left_behind : List Point → ℕ → ℕ → List Point
-left_behind ns a zero = []
-left_behind ns a (suc c) = point_at ns a ∷ left_behind ns (a - 1) c
+left_behind ns a c = leftward (point_at ns) a c
 
 abbrev pub right_behind : List Point → ℕ → ℕ → List Point
-right_behind ns a zero = []
-right_behind ns a (suc c) = point_at ns a ∷ right_behind ns (a + 1) c
+right_behind ns a c = rightward (point_at ns) a c
 
 -- what the points of the funnel see: each sees what is in its window on the diagonal from l to r, and its edges lie in the ring
 pub record IsOpenSight (ring ns : List Point) (a : ℕ) (l r : Point) : Type 0 where

@@ -157,7 +157,7 @@ fn output(alloc: Global, script: &[u8]) -> Result<Vec<u8>, Memory> {
 #[test]
 #[rattlefmt::skip]
 fn more_scripts(rt: HostRuntime) -> Result<(), Fail> {
-    let rows: [(&str, &[u8], &[u8]); 15] = [
+    let rows: [(&str, &[u8], &[u8]); 20] = [
         ("words that nothing answers yet", b"tree,1,1\nreach,1\nhull\n", b"bad,later\nbad,later\nbad,later\n"),
         ("a polygon without points", b"polygon\n", b"bad,few\n"),
         ("blanks and signs", b" polygon ,+0,00,4, 0,\t4,4\t", b"polygon,3\n"),
@@ -180,6 +180,16 @@ fn more_scripts(rt: HostRuntime) -> Result<(), Fail> {
             b"bad,no_polygon\nbad,fields\nbad,number,4\nbad,range,4\n"),
         ("refusals of see and kernel", b"see,0,0\nkernel\npolygon,0,0,4,0,4,2,2,2,2,4,0,4\nsee\nsee,1\nsee,1,x\nsee,1,1000001\nsee,3,3\nkernel,1\n",
             b"bad,no_polygon\nbad,no_polygon\npolygon,6\nbad,fields\nbad,fields\nbad,number,2\nbad,range,2\nbad,outside,1\nbad,fields\n"),
+        ("what a corner of an L sees", b"polygon,0,0,4,0,4,2,2,2,2,4,0,4\nsee,1,1\n",
+            b"polygon,6\nsee,6\npart,0,0,0,4,0\npart,1,4,0,4,2\npart,2,4,2,2,2\npart,3,2,2,2,4\npart,4,2,4,0,4\npart,5,0,4,0,0\n"),
+        ("views beyond a side of a dart, at its last end and at its first", b"polygon,0,0,1,1,2,0,1,2\nsee,0,0\nsee,2,0\n",
+            b"polygon,4\nsee,4\npart,0,0,0,1,1\npart,1,1,1,1,1\npart,2,4/3,4/3,1,2\npart,3,1,2,0,0\nsee,4\npart,0,1,1,1,1\npart,1,1,1,2,0\npart,2,2,0,1,2\npart,3,1,2,2/3,4/3\n"),
+        ("a view from a side to a triangle that has the point", b"polygon,0,0,1,0,0,2,0,1\nsee,0,1\n",
+            b"polygon,4\nsee,4\npart,0,0,0,1,0\npart,1,1,0,0,2\npart,2,0,2,0,1\npart,3,0,1,0,0\n"),
+        ("views in a hook: an edge that is hidden, one ray along an edge and on", b"polygon,0,0,1,0,1,1,2,0,1,2\nsee,2,0\nsee,1,0\n",
+            b"polygon,5\nsee,4\npart,1,1,1,1,1\npart,2,1,1,2,0\npart,3,2,0,1,2\npart,4,1,2,2/3,4/3\nsee,5\npart,0,0,0,1,0\npart,1,1,0,1,1\npart,2,1,1,1,1\npart,3,1,2,1,2\npart,4,1,2,0,0\n"),
+        ("a view from a tooth of a comb", b"polygon,0,0,10,0,10,6,9,1,8,6,7,1,6,6,5,1,4,6,3,1,2,6,1,1,0,6\nsee,6,6\n",
+            b"polygon,13\nsee,5\npart,0,24/5,0,36/5,0\npart,4,7,1,7,1\npart,5,7,1,6,6\npart,6,6,6,5,1\npart,7,5,1,5,1\n"),
         ("an open quote", b"\"frob,1", b"bad,word\n"),
     ];
     for (name, script, want) in rows {

@@ -53,12 +53,14 @@ module _ (ns : List Point) (a : ℕ) (y : Triple) where
 -- ---- the rounds
 
 -- the number before a half has one binary digit less
-pub fewer_digits : (d e : ℕ) → 1 < d → 0 < e → e ≤ d - d / 2 → binary_digits (e - 1) + 1 ≤ binary_digits (d - 1)
+fewer_digits : (d e : ℕ) → 1 < d → 0 < e → e ≤ d - d / 2 → binary_digits (e - 1) + 1 ≤ binary_digits (d - 1)
 unfolding binary_digits
 fewer_digits d e more some half =
     let step = length-digits_of_step 2 (d - 1) (omega arith) (omega arith) in
     omega (arith, step, binary_digits_mono (e - 1) ((d - 1) / 2) (omega arith))
 
--- what a round takes is paid by a digit
-pub round_paid : (c x y : ℕ) → x + 1 ≤ y → x * c + c ≤ y * c
-round_paid c x y le = omega (arith, mul-le (x + 1) c y c le (omega arith))
+-- so a digit pays for what a round takes
+pub round_paid : (c d e : ℕ) → 1 < d → 0 < e → e ≤ d - d / 2 → binary_digits (e - 1) * c + c ≤ binary_digits (d - 1) * c
+round_paid c d e more some half =
+    let x = binary_digits (e - 1) in
+    omega (arith, mul-le (x + 1) c (binary_digits (d - 1)) c (fewer_digits d e more some half) (omega arith))

@@ -5,5 +5,6 @@ pub mod Lists
 pub mod Numbers
 pub mod ReachedBefore
 pub mod SourceNumber
+pub mod StepCounts
 pub mod StepLeft
 pub mod StepRight

@@ -1,16 +1,17 @@
--- Numbers of corners and of the source: the points that they stand for, and their names.
+-- Numbers of corners and of the source: the points that they stand for, their names, and the places of a list.
 use Rattle.std.proofs.Common.{◌≡◌, ◌≢◌, inl, inr, refl, sym, ap, subst, ◌∙◌, ℕ, ◌%◌, ◌<◌, ◌≤◌, List, []}
 use Rattle.std.proofs.Common.{◌∷◌, length, get_or, slice_index, arith}
 use Rattle.std.proofs.Math.Nat.{mod-eq_of_lt}
 use Rattle.std.proofs.lemmas.Bool.{cases_lt}
-use Rattle.std.proofs.lemmas.List.{get_or-map, get_or_append_left, get_or_push}
-use Rattle.plane.specs.Point.{Point}
+use Rattle.std.proofs.lemmas.List.{get_or-map, get_or_append_left, get_or_push, length-map}
+use Rattle.plane.specs.Point.{Point, Triple}
 use Rattle.rings.specs.Chain.{point_at}
 use Rattle.rings.specs.Ring.{origin, vertex}
+use Rattle.funnels.specs.Funnel.{IsReachedFrom}
 use Rattle.exact_plane.specs.Spot.{IsNamed, point_named}
 use Rattle.exact_plane.specs.declared.turns.Spot.{Spot}
 use Rattle.exact_plane.specs.declared.turns.Spot.TheVariants.{Corner, Start}
-use Rattle.shared_funnel.specs.Listed.{AreNumbers, point_of, points_of}
+use Rattle.shared_funnel.specs.Listed.{AreNumbers, IsFunnelAt, Listed, point_of, points_of}
 
 module _ (corners : List Point) (start : Point) where
   -- a corner's number stands for the vertex,
@@ -29,7 +30,7 @@ module _ (corners : List Point) (start : Point) where
   point_there list h below = get_or-map (point_of corners start) list h 0 origin below
 
   -- a number's name stands for its point
-  pub named : (goal : Point) (n i : ℕ) (s : Spot) → n ≡ length corners → i ≤ n → (i ≢ n → s ≡ Corner i) → (i ≡ n → s ≡ Start)
+  named : (goal : Point) (n i : ℕ) (s : Spot) → n ≡ length corners → i ≤ n → (i ≢ n → s ≡ Corner i) → (i ≡ n → s ≡ Start)
       → IsNamed corners s × (point_named corners start goal s ≡ point_of corners start i)
   named goal n i s count le corner source = elim (cases_lt i n) [
     | inl less ↦
@@ -45,11 +46,19 @@ module _ (corners : List Point) (start : Point) where
         )
   ]
 
-  -- so the name of the number at a place stands for the point there
-  pub named_there : (goal : Point) (n : ℕ) (list : List ℕ) (h i : ℕ) (s : Spot) → n ≡ length corners → AreNumbers n list → h < length list
-      → i ≡ slice_index list h → (i ≢ n → s ≡ Corner i) → (i ≡ n → s ≡ Start)
-      → IsNamed corners s × (point_named corners start goal s ≡ point_at (points_of corners start list) h)
-  named_there goal n list h i s count numbers below is corner source =
-      let le : i ≤ n = subst (λ k. k ≤ n) (sym is) (numbers h 0 below) in
-      let here = named goal n i s count le corner source in
-      (here.0, here.1 ∙ ap (point_of corners start) is ∙ sym (point_there list h below))
+  -- a place from which a point is reached is one of the list
+  pub place_within : (list : List ℕ) (a h : ℕ) (y : Triple) → IsReachedFrom (points_of corners start list) a h y → h < length list
+  place_within list a h y reached = omega (arith, reached.within, length-map list (point_of corners start))
+
+  -- and so is the place of an apex
+  pub apex_in_list : (i j d : ℕ) (f : Listed) → IsFunnelAt corners start i j d f → f.apex < length f.list
+  apex_in_list i j d f w = omega (arith, w.funnel.funnel.apex_within, length-map f.list (point_of corners start))
+
+-- so for all corners the name of the number at a place stands for the point there
+pub named_there : (n : ℕ) (list : List ℕ) (h i : ℕ) (s : Spot) → AreNumbers n list → h < length list → i ≡ slice_index list h
+    → (i ≢ n → s ≡ Corner i) → (i ≡ n → s ≡ Start) → (corners : List Point) (start goal : Point) → n ≡ length corners
+    → IsNamed corners s × (point_named corners start goal s ≡ point_at (points_of corners start list) h)
+named_there n list h i s numbers below is corner source corners start goal count =
+    let le : i ≤ n = subst (λ k. k ≤ n) (sym is) (numbers h 0 below) in
+    let here = named corners start goal n i s count le corner source in
+    (here.0, here.1 ∙ ap (point_of corners start) is ∙ sym (point_there corners start list h below))

@@ -1,6 +1,5 @@
 -- What comes before a point beyond the diagonal on its path: the point of the funnel from which it is reached.
-use Rattle.std.proofs.Common.{◌≡◌, inl, sym, List, ℕ, slice_index, subst, arith}
-use Rattle.std.proofs.lemmas.List.{length-map}
+use Rattle.std.proofs.Common.{◌≡◌, inl, sym, List, ℕ, slice_index, subst}
 use Rattle.plane.specs.Point.{Point, whole}
 use Rattle.rings.specs.From.{IsBefore}
 use Rattle.rings.specs.Ring.{vertex}
@@ -9,7 +8,7 @@ use Rattle.meshes.specs.Side.{tri_at}
 use Rattle.meshes.specs.declared.tri.Tri.{Tri}
 use Rattle.funnels.proofs.Trees.{before_corner, before_reached}
 use Rattle.funnels.specs.Funnel.{IsReachedFrom}
-use Rattle.shared_funnel.proofs.Numbers.{point_there}
+use Rattle.shared_funnel.proofs.Numbers.{place_within, point_there}
 use Rattle.shared_funnel.specs.Listed.{IsBeyond, IsFunnelAt, Listed, point_of, points_of}
 
 module _ (corners : List Point) (start : Point) (tris : List Tri) (k i j m d : ℕ) (fits : Fits corners tris)
@@ -22,7 +21,7 @@ module _ (corners : List Point) (start : Point) (tris : List Tri) (k i j m d : �
   pub before_point : (y : Point) → IsInTri corners (tri_at tris k) (whole y)
       → IsReachedFrom (points_of corners start f.list) f.apex h (whole y) → ¬ (there ≡ y) → IsBefore corners start y there
   before_point y inside reached differ =
-      let is = point_there corners start f.list h (omega (arith, reached.within, length-map f.list (point_of corners start))) in
+      let is = point_there corners start f.list h (place_within corners start f.list f.apex h _ reached) in
       subst (IsBefore corners start y) is
       (before_reached corners tris fits k beyond.diagonal.in_list i j m beyond.diagonal.has beyond.right beyond.left
       (k, beyond.from, inl beyond.diagonal) w.before (points_of corners start f.list) f.apex w.funnel start w.begins h y inside reached
@@ -32,7 +31,7 @@ module _ (corners : List Point) (start : Point) (tris : List Tri) (k i j m d : �
   pub before_third : IsReachedFrom (points_of corners start f.list) f.apex h (whole (vertex corners m))
       → IsBefore corners start (vertex corners m) there
   before_third reached =
-      let is = point_there corners start f.list h (omega (arith, reached.within, length-map f.list (point_of corners start))) in
+      let is = point_there corners start f.list h (place_within corners start f.list f.apex h _ reached) in
       subst (IsBefore corners start (vertex corners m)) is
       (before_corner corners tris fits k beyond.diagonal.in_list i j m beyond.diagonal.has beyond.right beyond.left
       (k, beyond.from, inl beyond.diagonal) w.before (points_of corners start f.list) f.apex w.funnel start w.begins h reached)

@@ -8,10 +8,9 @@ use Rattle.meshes.specs.Fits.{Fits}
 use Rattle.meshes.specs.declared.tri.Tri.{Tri}
 use Rattle.funnels.proofs.Chains.{chain_to}
 use Rattle.funnels.proofs.OneChain.{no_closed_chain}
-use Rattle.funnels.proofs.Trees.{way_begins, way_to}
+use Rattle.funnels.proofs.Trees.{length_leftward, length_rightward, way_begins, way_to}
 use Rattle.funnels.proofs.Vertices.{fitted_long, fitted_simple}
 use Rattle.funnels.specs.OpenFunnel.{left_behind, right_behind}
-use Rattle.shared_funnel.proofs.Lists.{length_left, length_right}
 use Rattle.shared_funnel.proofs.Numbers.{point_there}
 use Rattle.shared_funnel.specs.Listed.{IsFunnelAt, Listed, point_of, points_of}
 
@@ -50,7 +49,7 @@ module _ (corners : List Point) (start : Point) (tris : List Tri) (i j d : ℕ) 
       let right = right_behind ns (min f.apex h) (h - min f.apex h) in
       let all = length-append (w.before ++ left) right in
       let front = length-append w.before left in
-      let left_count = length_left ns f.apex (f.apex - h) in
-      let right_count = length_right ns (min f.apex h) (h - min f.apex h) in
+      let left_count = length_leftward (point_at ns) f.apex (f.apex - h) in
+      let right_count = length_rightward (point_at ns) (min f.apex h) (h - min f.apex h) in
       let place : h ≡ f.apex = omega (arith, none, all, front, left_count, right_count) in
       ap (slice_index f.list) place ∙ w.source (empty w.before (omega (arith, none, all, front)))

@@ -1,21 +1,21 @@
 -- The numbers of the next funnel on the left: that of the third corner, and those from the place on from which it is reached.
 use Rattle.std.proofs.Common.{◌≡◌, inl, inr, sym, ap, subst, ◌∙◌, List, [], ◌∷◌, ◌++◌, length, drop, ℕ, ◌+◌}
 use Rattle.std.proofs.Common.{◌-◌, ◌<◌, ◌≤◌, slice_index, add-one, arith}
-use Rattle.std.proofs.lemmas.List.{drop-map, get_or-drop, length-append, length-drop, length-map}
+use Rattle.std.proofs.lemmas.List.{drop-map, get_or-drop, length-append, length-drop}
 use Rattle.std.proofs.lemmas.List.Elements.{All-drop}
 use Rattle.plane.specs.Point.{Point, whole}
 use Rattle.rings.specs.Chain.{point_at}
-use Rattle.rings.specs.Ring.{vertex}
+use Rattle.rings.specs.Ring.{origin, vertex}
 use Rattle.meshes.proofs.Sides.{ends_below}
 use Rattle.meshes.specs.Fits.{Fits, IsSideOfTwo}
 use Rattle.meshes.specs.declared.tri.Tri.{Tri}
 use Rattle.funnels.proofs.Chains.{step_left}
 use Rattle.funnels.proofs.Funnels.{next_left_old}
-use Rattle.funnels.proofs.Trees.{first_right}
+use Rattle.funnels.proofs.Trees.{first_right, length_rightward}
 use Rattle.funnels.specs.Funnel.{IsReachedFrom}
 use Rattle.funnels.specs.OpenFunnel.{IsOpenFunnel, right_behind}
-use Rattle.shared_funnel.proofs.Lists.{length_right, more_numbers, none_of_both}
-use Rattle.shared_funnel.proofs.Numbers.{corner_point}
+use Rattle.shared_funnel.proofs.Lists.{more_numbers, none_of_both}
+use Rattle.shared_funnel.proofs.Numbers.{apex_in_list, corner_point, place_within}
 use Rattle.shared_funnel.specs.Listed.{IsBeyond, IsFunnelAt, Listed, point_of, points_of}
 
 module _ (corners : List Point) (start : Point) (tris : List Tri) (k i j m next d : ℕ) (fits : Fits corners tris)
@@ -28,13 +28,6 @@ module _ (corners : List Point) (start : Point) (tris : List Tri) (k i j m next 
 
   abbrev list : List ℕ
   list = m ∷ drop h f.list
-
-  -- the place is one of the list,
-  within : h < length f.list
-  within = omega (arith, reached.within, length-map f.list (point_of corners start))
-
-  apex_within : f.apex < length f.list
-  apex_within = omega (arith, w.funnel.funnel.apex_within, length-map f.list (point_of corners start))
 
   -- the corner is a vertex,
   corner_below : m < length corners
@@ -52,7 +45,7 @@ module _ (corners : List Point) (start : Point) (tris : List Tri) (k i j m next 
       point_at (w.before ++ right_behind ns f.apex (h - f.apex) ++ point_at (points_of corners start list) (f.apex - h + 1) ∷ []) 0 ≡ start
   begins_there =
       let place : h + (f.apex - h) ≡ f.apex + (h - f.apex) = omega arith in
-      first_right w.before ns f.apex (h - f.apex) (point_at (points_of corners start list) (f.apex - h + 1))
+      first_right origin w.before (point_at ns) f.apex (h - f.apex) (point_at (points_of corners start list) (f.apex - h + 1))
       (ap (λ ps. point_at ps (f.apex - h + 1)) points_are
       ∙ next_left_old ns (vertex corners m) h (f.apex - h) ∙ ap (point_at ns) place)
       ∙ w.begins
@@ -61,7 +54,7 @@ module _ (corners : List Point) (start : Point) (tris : List Tri) (k i j m next 
   source_there : w.before ++ right_behind ns f.apex (h - f.apex) ≡ [] → slice_index list (f.apex - h + 1) ≡ length corners
   source_there none =
       let both = none_of_both w.before (right_behind ns f.apex (h - f.apex)) none in
-      let place : h + (f.apex - h) ≡ f.apex = omega (arith, both.1, length_right ns f.apex (h - f.apex)) in
+      let place : h + (f.apex - h) ≡ f.apex = omega (arith, both.1, length_rightward (point_at ns) f.apex (h - f.apex)) in
       ap (slice_index list) (add-one (f.apex - h)) ∙ get_or-drop h f.list (f.apex - h) 0 ∙ ap (slice_index f.list) place
       ∙ w.source both.0
 
@@ -79,10 +72,10 @@ module _ (corners : List Point) (start : Point) (tris : List Tri) (k i j m next 
     few = omega (
       arith,
       w.few,
-      within,
-      apex_within,
+      place_within corners start f.list f.apex h (whole (vertex corners m)) reached,
+      apex_in_list corners start i j d f w,
       length-append w.before (right_behind ns f.apex (h - f.apex)),
-      length_right ns f.apex (h - f.apex),
+      length_rightward (point_at ns) f.apex (h - f.apex),
       length-drop h f.list,
     );
   }

@@ -1,21 +1,21 @@
 -- The numbers of the next funnel on the right: those to the place from which the third corner is reached, and that corner's.
 use Rattle.std.proofs.Common.{◌≡◌, inl, inr, sym, ap, subst, ◌∙◌, List, [], ◌∷◌, ◌++◌, length, take, min, ℕ}
 use Rattle.std.proofs.Common.{◌+◌, ◌-◌, ◌<◌, ◌≤◌, slice_index, arith}
-use Rattle.std.proofs.lemmas.List.{get_or-take, get_or_append_left, length-append, length-map, length-take-le, map-append, take-map}
+use Rattle.std.proofs.lemmas.List.{get_or-take, get_or_append_left, length-append, length-take-le, map-append, take-map}
 use Rattle.std.proofs.lemmas.List.Elements.{All-append, All-take}
 use Rattle.plane.specs.Point.{Point, whole}
 use Rattle.rings.specs.Chain.{point_at}
-use Rattle.rings.specs.Ring.{vertex}
+use Rattle.rings.specs.Ring.{origin, vertex}
 use Rattle.meshes.proofs.Sides.{ends_below}
 use Rattle.meshes.specs.Fits.{Fits, IsSideOfTwo}
 use Rattle.meshes.specs.declared.tri.Tri.{Tri}
 use Rattle.funnels.proofs.Chains.{step_right}
 use Rattle.funnels.proofs.Funnels.{next_right_old}
-use Rattle.funnels.proofs.Trees.{first_left}
+use Rattle.funnels.proofs.Trees.{first_left, length_leftward}
 use Rattle.funnels.specs.Funnel.{IsReachedFrom}
 use Rattle.funnels.specs.OpenFunnel.{IsOpenFunnel, left_behind}
-use Rattle.shared_funnel.proofs.Lists.{length_left, none_of_both, one_number}
-use Rattle.shared_funnel.proofs.Numbers.{corner_point}
+use Rattle.shared_funnel.proofs.Lists.{none_of_both, one_number}
+use Rattle.shared_funnel.proofs.Numbers.{apex_in_list, corner_point, place_within}
 use Rattle.shared_funnel.specs.Listed.{IsBeyond, IsFunnelAt, Listed, point_of, points_of}
 
 module _ (corners : List Point) (start : Point) (tris : List Tri) (k i j m next d : ℕ) (fits : Fits corners tris)
@@ -28,13 +28,6 @@ module _ (corners : List Point) (start : Point) (tris : List Tri) (k i j m next 
 
   abbrev list : List ℕ
   list = take (h + 1) f.list ++ m ∷ []
-
-  -- the place is one of the list,
-  within : h < length f.list
-  within = omega (arith, reached.within, length-map f.list (point_of corners start))
-
-  apex_within : f.apex < length f.list
-  apex_within = omega (arith, w.funnel.funnel.apex_within, length-map f.list (point_of corners start))
 
   -- the corner is a vertex,
   corner_below : m < length corners
@@ -51,7 +44,7 @@ module _ (corners : List Point) (start : Point) (tris : List Tri) (k i j m next 
       ≡ start
   begins_there =
       let place : min f.apex h ≡ f.apex - (f.apex - h) = omega arith in
-      first_left w.before ns f.apex (f.apex - h) (point_at (points_of corners start list) (min f.apex h))
+      first_left origin w.before (point_at ns) f.apex (f.apex - h) (point_at (points_of corners start list) (min f.apex h))
       (ap (λ ps. point_at ps (min f.apex h)) points_are
       ∙ next_right_old ns (vertex corners m) h reached.within (min f.apex h) (omega arith) ∙ ap (point_at ns) place)
       ∙ w.begins
@@ -60,10 +53,10 @@ module _ (corners : List Point) (start : Point) (tris : List Tri) (k i j m next 
   source_there : w.before ++ left_behind ns f.apex (f.apex - h) ≡ [] → slice_index list (min f.apex h) ≡ length corners
   source_there none =
       let both = none_of_both w.before (left_behind ns f.apex (f.apex - h)) none in
-      let place : min f.apex h ≡ f.apex = omega (arith, both.1, length_left ns f.apex (f.apex - h)) in
+      let place : min f.apex h ≡ f.apex = omega (arith, both.1, length_leftward (point_at ns) f.apex (f.apex - h)) in
       ap (slice_index list) place
       ∙ get_or_append_left (take (h + 1) f.list) (m ∷ []) 0 f.apex
-      (omega (arith, length-take-le (h + 1) f.list (omega (arith, within)), place))
+      (omega (arith, length-take-le (h + 1) f.list (omega (arith, place_within corners start f.list f.apex h (whole (vertex corners m)) reached)), place))
       ∙ get_or-take (h + 1) f.list f.apex 0 (omega (arith, place)) ∙ w.source both.0
 
   -- and it is the next funnel
@@ -80,11 +73,11 @@ module _ (corners : List Point) (start : Point) (tris : List Tri) (k i j m next 
     few = omega (
       arith,
       w.few,
-      within,
-      apex_within,
+      place_within corners start f.list f.apex h (whole (vertex corners m)) reached,
+      apex_in_list corners start i j d f w,
       length-append w.before (left_behind ns f.apex (f.apex - h)),
-      length_left ns f.apex (f.apex - h),
+      length_leftward (point_at ns) f.apex (f.apex - h),
       length-append (take (h + 1) f.list) (m ∷ []),
-      length-take-le (h + 1) f.list (omega (arith, within)),
+      length-take-le (h + 1) f.list (omega (arith, place_within corners start f.list f.apex h (whole (vertex corners m)) reached)),
     );
   }

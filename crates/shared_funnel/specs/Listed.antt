@@ -1,11 +1,13 @@
 -- Funnels as lists of numbers: corners by theirs, and the source by the count of the corners. This project's own.
 use Rattle.std.specs.List.{All}
 use Rattle.std.specs.Prelude.{◌≡◌, ℕ, ◌+◌, ◌≤◌, List, [], ◌∷◌, ◌++◌, length, map, slice_index}
-use Rattle.plane.specs.Point.{Point}
+use Rattle.plane.specs.Point.{Point, whole}
 use Rattle.rings.specs.Chain.{point_at}
-use Rattle.meshes.specs.Fits.{IsSideOfTwo}
+use Rattle.rings.specs.Ring.{vertex}
+use Rattle.meshes.specs.Fits.{Fits, IsSideOfTwo}
 use Rattle.meshes.specs.Side.{HasSide, tri_at}
 use Rattle.meshes.specs.declared.tri.Tri.{Tri}
+use Rattle.funnels.specs.Funnel.{IsReachedFrom}
 use Rattle.funnels.specs.OpenFunnel.{IsOpenFunnel}
 
 -- the numbers from the left end to the right one, and the place of the apex
@@ -41,3 +43,11 @@ pub record IsFunnelAt (corners : List Point) (start : Point) (i j diagonals : �
   pub source : before ≡ [] → slice_index f.list f.apex ≡ length corners
   pub numbers : AreNumbers (length corners) f.list
   pub few : length before + length f.list ≤ diagonals + 2
+
+-- f' is the next funnel after f, over a triangle beyond its diagonal whose third corner m is reached from the place: for each mesh,
+-- the funnel at the side with these ends, which come from those of the diagonal, where another triangle shares that side
+abbrev pub GoesOn : Listed → ℕ → ℕ → (ℕ → ℕ → ℕ × ℕ) → Listed → Type 0
+GoesOn f place m ends f' = (corners : List Point) (start : Point) (tris : List Tri) (k i j next d : ℕ)
+    → Fits corners tris → IsBeyond tris k i j m → IsFunnelAt corners start i j d f
+    → IsReachedFrom (points_of corners start f.list) f.apex place (whole (vertex corners m))
+    → IsSideOfTwo tris (ends i j).1 (ends i j).0 k next → IsFunnelAt corners start (ends i j).0 (ends i j).1 (d + 1) f'

@@ -1,13 +1,13 @@
 ghost use Rattle.std.specs.Prelude.{◌≡◌, ◌≢◌, ◌+◌, ◌*◌, ◌^◌, ◌<◌, ◌≤◌, ◌↔◌, ℕ, List, IfOk, IsTrue, length, slice_index};
 ghost use Rattle.plane.specs.Point.{Point, whole};
-ghost use Rattle.rings.specs.Ring.{vertex};
+ghost use Rattle.rings.specs.Chain.{point_at};
 ghost use Rattle.meshes.specs.Fits.{Fits, IsInTri, IsSideOfTwo};
 ghost use Rattle.meshes.specs.Side.{tri_at};
 ghost use Rattle.meshes.specs.declared.tri.Tri.{Tri};
 ghost use Rattle.funnels.specs.Funnel.{IsPassed, IsReachedFrom};
 ghost use Rattle.exact_plane.specs.Spot.{IsNamed, point_named};
 ghost use Rattle.shared_seq.specs.Digits.{binary_digits};
-ghost use Rattle.shared_funnel.specs.Listed.{AreNumbers, IsBeyond, IsFunnelAt, points_of};
+ghost use Rattle.shared_funnel.specs.Listed.{AreNumbers, GoesOn, IsFunnelAt, points_of};
 
 use crate::name::spot;
 use exact_plane::{Direction, Memory, Spot, Steps, Turns};
@@ -34,6 +34,7 @@ impl Model for Funnel {
 
 impl Funnel {
     /// The first funnel: of the start in a triangle, at a side that another shares. It takes at most 195 steps.
+    #[tactic(auto, using(crate::proofs::StepCounts::few_digits))]
     pub fn first<T: Turns, L: Ledger>(
         alloc: Global,
         board: &T,
@@ -123,8 +124,8 @@ impl Funnel {
             IsTrue result ↔ IsPassed (points_of (T.corners board.now) (T.start board.now) self.now.list) self.now.apex j (whole (at y)) }
         ensures steps { steps.new ≤ steps.old + 4 * binary_digits (length self.now.list) + 3 }
     {
-        let left = spot(self.number(j - 1, steps), n);
-        let right = spot(self.number(j, steps), n);
+        let left = self.name(n, j - 1, steps);
+        let right = self.name(n, j, steps);
         if j <= self.apex as usize {
             is_not_left(board.turn(right, left, y, steps))
         } else {
@@ -132,7 +133,20 @@ impl Funnel {
         }
     }
 
+    // The name of the point at a place.
+    fn name<L: Ledger>(&self, n: u32, place: usize, steps: &mut Steps<L>) -> Spot
+        requires place { place < length self.now.list }
+        requires numbers { AreNumbers n self.now.list }
+        ensures named { (corners : List Point) → n ≡ length corners → IsNamed corners result }
+        ensures point { (corners : List Point) (start goal : Point) → n ≡ length corners
+            → point_named corners start goal result ≡ point_at (points_of corners start self.now.list) place }
+        ensures steps { steps.new ≤ steps.old + 2 * binary_digits (length self.now.list) + 1 }
+    {
+        spot(self.number(place, steps), n)
+    }
+
     /// The funnel at the side from the left end to the corner `m` beyond, which is reached from the point at `place`.
+    #[tactic(auto, using(shared_seq::proofs::Digits::binary_digits_sum))]
     pub fn to_right<L: Ledger>(
         &self,
         alloc: Global,
@@ -143,10 +157,7 @@ impl Funnel {
         requires place { place < length self.now.list }
         requires apex { self.now.apex < length self.now.list }
         requires room { length self.now.list + 1 < 2 ^ 31 }
-        ensures funnel { IfOk result (λ f. (corners : List Point) (start : Point) (tris : List Tri) (k i j next d : ℕ)
-            → Fits corners tris → IsBeyond tris k i j m → IsFunnelAt corners start i j d self.now
-            → IsReachedFrom (points_of corners start self.now.list) self.now.apex place (whole (vertex corners m))
-            → IsSideOfTwo tris m i k next → IsFunnelAt corners start i m (d + 1) f) }
+        ensures funnel { IfOk result (λ f. GoesOn self.now place m (λ i j. (i, m)) f) }
         ensures steps { steps.new ≤ steps.old + 160 * (binary_digits (length self.now.list + 1) + 1) }
     {
         let (front, _) = self.list.split_at(alloc, place + 1, steps)?;
@@ -158,6 +169,7 @@ impl Funnel {
     }
 
     /// The funnel at the side from the corner `m` beyond to the right end.
+    #[tactic(auto, using(shared_seq::proofs::Digits::binary_digits_sum))]
     pub fn to_left<L: Ledger>(
         &self,
         alloc: Global,
@@ -168,10 +180,7 @@ impl Funnel {
         requires place { place < length self.now.list }
         requires apex { self.now.apex < length self.now.list }
         requires room { length self.now.list + 1 < 2 ^ 31 }
-        ensures funnel { IfOk result (λ f. (corners : List Point) (start : Point) (tris : List Tri) (k i j next d : ℕ)
-            → Fits corners tris → IsBeyond tris k i j m → IsFunnelAt corners start i j d self.now
-            → IsReachedFrom (points_of corners start self.now.list) self.now.apex place (whole (vertex corners m))
-            → IsSideOfTwo tris j m k next → IsFunnelAt corners start m j (d + 1) f) }
+        ensures funnel { IfOk result (λ f. GoesOn self.now place m (λ i j. (m, j)) f) }
         ensures steps { steps.new ≤ steps.old + 160 * (binary_digits (length self.now.list + 1) + 1) }
     {
         let (_, rest) = self.list.split_at(alloc, place, steps)?;

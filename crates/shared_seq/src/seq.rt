@@ -66,6 +66,7 @@ impl SharedSeq {
     }
 
     /// The left list followed by the right one.
+    #[tactic(auto, using(crate::proofs::Digits::binary_digits_sum))]
     pub fn join<L: Ledger>(
         alloc: Global,
         left: &SharedSeq,
@@ -164,6 +165,7 @@ impl SharedSeq {
     }
 
     /// The first i values, this value, and the rest.
+    #[tactic(auto, using(crate::proofs::Digits::binary_digits_sum))]
     pub fn insert_at<L: Ledger>(
         &self,
         alloc: Global,

@@ -45,7 +45,7 @@ module _ (corners : List Point) (tris : List Tri) (fits : Fits corners tris) whe
         record {
           path = all;
           is_path = path_of_bent all (subst (IsBentChain corners) (sym same) bent) s y
-              (ap (λ ps. point_at ps 0) same ∙ first_stays way q (y ∷ []) ∙ first)
+              (ap (λ ps. point_at ps 0) same ∙ first_stays origin way q (y ∷ []) ∙ first)
               (get_or_push front y origin (length all - 1) (omega (arith, count)));
           more = omega (arith, count, front_count);
           is = get_or_append_left front (y ∷ []) origin (length all - 2) (omega (arith, count, front_count))

@@ -5,7 +5,7 @@ use Rattle.plane.proofs.Points.{whole_is_point}
 use Rattle.plane.specs.Point.{Point, whole}
 use Rattle.rings.specs.Chain.{IsBentChain, IsPath, point_at}
 use Rattle.rings.specs.From.{IsBefore}
-use Rattle.rings.specs.Ring.{vertex}
+use Rattle.rings.specs.Ring.{origin, vertex}
 use Rattle.meshes.proofs.Sight.{sees_in_triangle, triangle_in_ring}
 use Rattle.meshes.specs.Fits.{Fits, IsInTri}
 use Rattle.meshes.specs.Side.{HasSide, tri_at}
@@ -67,7 +67,7 @@ module _ (corners : List Point) (tris : List Tri) (fits : Fits corners tris) (k 
           (path_of_way corners tris fits front s y
           (subst (IsBentChain corners) (sym (append_assoc (way_to before ns a h) (point_at ns h ∷ []) (y ∷ []))) chain)
           (ap (λ ps. point_at ps 0) (append_assoc (way_to before ns a h) (point_at ns h ∷ []) (y ∷ []))
-          ∙ first_stays (way_to before ns a h) (point_at ns h) (y ∷ []) ∙ begins_there))
+          ∙ first_stays origin (way_to before ns a h) (point_at ns h) (y ∷ []) ∙ begins_there))
 
     -- the third corner is reached in this way
     pub before_corner : IsReachedFrom ns a h (whole (vertex corners m)) → IsBefore corners s (vertex corners m) (point_at ns h)

@@ -1,21 +1,9 @@
-use Rattle.std.proofs.Common.{sym, ap, subst, ◌∙◌, ◌+◌, [], ◌∷◌, ◌++◌, length, arith}
+use Rattle.std.proofs.Common.{sym, ap, subst, ◌∙◌, [], ◌∷◌, ◌++◌, arith}
 use Rattle.std.proofs.lemmas.Bool.{false≢true}
 use Rattle.funnel_walk.proofs.SideCorners.{vertex_named}
-use Rattle.shared_seq.proofs.Digits.{binary_digits-le}
 use Rattle.shared_funnel.proofs.FirstFunnels.{first_at_left, first_at_right, first_between}
 use Rattle.shared_funnel.proofs.funnel.Funnel.first.Goals as goal
 use Rattle.shared_funnel.specs.Listed.{IsFunnelAt}
-
-pub returns-in_err-list-clause-steps : goal.returns-in_err-list-clause-steps
-returns-in_err-list-clause-steps g c =
-    let one = ap length c.in_ok-source.ensures.list in
-    omega (
-      arith,
-      c.single.ensures.steps,
-      c.same.ensures.steps,
-      c.push_back.ensures.steps,
-      binary_digits-le 2 (length c.in_ok-source.source + 1) (omega (arith, one)),
-    )
 
 pub returns-then-same-clause-funnel : goal.returns-then-same-clause-funnel
 returns-then-same-clause-funnel g c tris home next fits in_start shared =
@@ -27,28 +15,6 @@ returns-then-same-clause-funnel g c tris home next fits in_start shared =
     (sym (c.in_ok-list.ensures.list ∙ ap (λ l. l ++ c.args.right ∷ []) c.in_ok-source.ensures.list))
     (first_at_left corners start tris home next c.args.left c.args.right fits in_start shared c.args.n c.requires.count there)
 
-pub returns-then-same-clause-steps : goal.returns-then-same-clause-steps
-returns-then-same-clause-steps g c =
-    let one = ap length c.in_ok-source.ensures.list in
-    omega (
-      arith,
-      c.single.ensures.steps,
-      c.same.ensures.steps,
-      c.push_back.ensures.steps,
-      binary_digits-le 2 (length c.in_ok-source.source + 1) (omega (arith, one)),
-    )
-
-pub returns-in_err-front-clause-steps : goal.returns-in_err-front-clause-steps
-returns-in_err-front-clause-steps g c =
-    let one = ap length c.in_ok-source.ensures.list in
-    omega (
-      arith,
-      c.single.ensures.steps,
-      c.same.ensures.steps,
-      c.push_front.ensures.steps,
-      binary_digits-le 2 (length c.in_ok-source.source + 1) (omega (arith, one)),
-    )
-
 pub returns-then-same-2-clause-funnel : goal.returns-then-same-2-clause-funnel
 returns-then-same-2-clause-funnel g c tris home next fits in_start shared =
     let corners = g.T.Turns.corners c.args.board.now in
@@ -58,33 +24,6 @@ returns-then-same-2-clause-funnel g c tris home next fits in_start shared =
     subst (λ l. IsFunnelAt corners start c.args.left c.args.right 1 (record { list = l; apex = 1 }))
     (sym (c.in_ok-front.ensures.list ∙ ap (λ l. c.args.left ∷ l) c.in_ok-source.ensures.list))
     (first_at_right corners start tris home next c.args.left c.args.right fits in_start shared c.args.n c.requires.count there)
-
-pub returns-then-same-2-clause-steps : goal.returns-then-same-2-clause-steps
-returns-then-same-2-clause-steps g c =
-    let one = ap length c.in_ok-source.ensures.list in
-    omega (
-      arith,
-      c.single.ensures.steps,
-      c.same.ensures.steps,
-      c.push_front.ensures.steps,
-      c.same-2.ensures.steps,
-      binary_digits-le 2 (length c.in_ok-source.source + 1) (omega (arith, one)),
-    )
-
-pub returns-in_err-list-2-clause-steps : goal.returns-in_err-list-2-clause-steps
-returns-in_err-list-2-clause-steps g c =
-    let one = ap length c.in_ok-source.ensures.list in
-    let two = ap length c.in_ok-front.ensures.list in
-    omega (
-      arith,
-      c.single.ensures.steps,
-      c.same.ensures.steps,
-      c.push_front.ensures.steps,
-      c.same-2.ensures.steps,
-      c.push_back-2.ensures.steps,
-      binary_digits-le 2 (length c.in_ok-source.source + 1) (omega (arith, one)),
-      binary_digits-le 2 (length c.in_ok-front.front + 1) (omega (arith, one, two)),
-    )
 
 pub returns-clause-funnel : goal.returns-clause-funnel
 returns-clause-funnel g c tris home next fits in_start shared =
@@ -99,18 +38,3 @@ returns-clause-funnel g c tris home next fits in_start shared =
     (first_between corners start tris home next c.args.left c.args.right fits in_start shared c.args.n c.requires.count
     (λ same. false≢true (sym c.if-same.false ∙ c.same.ensures.same.1 (same ∙ left_is)))
     (λ same. false≢true (sym c.if-same-2.false ∙ c.same-2.ensures.same.1 (same ∙ right_is))))
-
-pub returns-clause-steps : goal.returns-clause-steps
-returns-clause-steps g c =
-    let one = ap length c.in_ok-source.ensures.list in
-    let two = ap length c.in_ok-front.ensures.list in
-    omega (
-      arith,
-      c.single.ensures.steps,
-      c.same.ensures.steps,
-      c.push_front.ensures.steps,
-      c.same-2.ensures.steps,
-      c.push_back-2.ensures.steps,
-      binary_digits-le 2 (length c.in_ok-source.source + 1) (omega (arith, one)),
-      binary_digits-le 2 (length c.in_ok-front.front + 1) (omega (arith, one, two)),
-    )

@@ -1,9 +1,8 @@
-use Rattle.std.proofs.Common.{◌≡◌, ◌↔◌, ◌-◌, ap, IsTrue, arith, rules}
+use Rattle.std.proofs.Common.{◌≡◌, ◌↔◌, ap, IsTrue, arith, rules}
 use Rattle.plane.specs.Point.{whole}
 use Rattle.exact_plane.specs.Spot.{point_named}
 use Rattle.exact_plane.specs.declared.direction.Direction.TheVariants.{Right}
 use Rattle.funnel_walk.proofs.Passing.{passed_left, passed_right}
-use Rattle.shared_funnel.proofs.Numbers.{named_there}
 use Rattle.shared_funnel.proofs.funnel.Funnel.is_passed.Goals as goal
 
 pub returns-then-j-self-clause-passed : goal.returns-then-j-self-clause-passed
@@ -11,14 +10,10 @@ returns-then-j-self-clause-passed g c =
     let corners = g.T.Turns.corners c.args.board.now in
     let start = g.T.Turns.start c.args.board.now in
     let end = g.T.Turns.goal c.args.board.now in
-    let list = c.args.self.now.list in
-    let left = named_there corners start end c.args.n list (c.args.j - 1) c.number.result c.spot-left.result c.requires.count
-    c.requires.numbers (omega (arith, c.requires.within)) c.number.ensures.number c.spot-left.ensures.corner c.spot-left.ensures.start in
-    let right = named_there corners start end c.args.n list c.args.j c.number-2.result c.spot-right.result c.requires.count
-    c.requires.numbers c.requires.within c.number-2.ensures.number c.spot-right.ensures.corner c.spot-right.ensures.start in
     let asked = rw c.turn.ensures.turn at c.is_not_left.ensures in
     let passed = passed_left _ c.args.self.now.apex c.args.j (whole (point_named corners start end c.args.y)) _ _
-    (omega (arith, c.if-j-self.true, ap (λ l. l.apex) c.self.view_is)) right.1 left.1 in
+    (omega (arith, c.if-j-self.true, ap (λ l. l.apex) c.self.view_is))
+    (c.name-right.ensures.point corners start end c.requires.count) (c.name-left.ensures.point corners start end c.requires.count) in
     (λ h. passed.0 (asked.0 h), λ h. asked.1 (passed.1 h))
 
 pub returns-else-j-self-clause-passed : goal.returns-else-j-self-clause-passed
@@ -26,13 +21,9 @@ returns-else-j-self-clause-passed g c =
     let corners = g.T.Turns.corners c.args.board.now in
     let start = g.T.Turns.start c.args.board.now in
     let end = g.T.Turns.goal c.args.board.now in
-    let list = c.args.self.now.list in
-    let left = named_there corners start end c.args.n list (c.args.j - 1) c.number.result c.spot-left.result c.requires.count
-    c.requires.numbers (omega (arith, c.requires.within)) c.number.ensures.number c.spot-left.ensures.corner c.spot-left.ensures.start in
-    let right = named_there corners start end c.args.n list c.args.j c.number-2.result c.spot-right.result c.requires.count
-    c.requires.numbers c.requires.within c.number-2.ensures.number c.spot-right.ensures.corner c.spot-right.ensures.start in
     let turns : IsTrue c.eq.result ↔ (c.turn-else-j-self.result ≡ Right) = search rules in
     let asked = rw c.turn-else-j-self.ensures.turn at turns in
     let passed = passed_right _ c.args.self.now.apex c.args.j (whole (point_named corners start end c.args.y)) _ _
-    (omega (arith, c.if-j-self.false, ap (λ l. l.apex) c.self.view_is)) left.1 right.1 in
+    (omega (arith, c.if-j-self.false, ap (λ l. l.apex) c.self.view_is))
+    (c.name-left.ensures.point corners start end c.requires.count) (c.name-right.ensures.point corners start end c.requires.count) in
     (λ h. passed.0 (asked.0 h), λ h. asked.1 (passed.1 h))

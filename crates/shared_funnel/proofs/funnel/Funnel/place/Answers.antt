@@ -1,4 +1,4 @@
-use Rattle.std.proofs.Common.{◌≡◌, sym, ap, subst, ◌∙◌, ◌+◌, ◌-◌, ◌*◌, ◌/◌, length, arith}
+use Rattle.std.proofs.Common.{◌≡◌, sym, ap, subst, ◌∙◌, ◌+◌, ◌-◌, ◌*◌, ◌/◌, ◌<◌, length, arith}
 use Rattle.std.proofs.lemmas.Bool.{false≢true}
 use Rattle.std.proofs.lemmas.List.{length-map}
 use Rattle.std.proofs.lemmas.Nat.{mul-le}
@@ -6,7 +6,7 @@ use Rattle.plane.specs.Point.{whole}
 use Rattle.exact_plane.specs.Spot.{point_named}
 use Rattle.shared_seq.proofs.Digits.{binary_digits_mono}
 use Rattle.shared_seq.specs.Digits.{binary_digits}
-use Rattle.shared_funnel.proofs.Halving.{IsHalved, fewer_digits, halving_ends, halving_starts, high_moves, low_moves, round_paid}
+use Rattle.shared_funnel.proofs.Halving.{IsHalved, halving_ends, halving_starts, high_moves, low_moves, round_paid}
 use Rattle.shared_funnel.proofs.funnel.Funnel.place.Goals as goal
 use Rattle.shared_funnel.specs.Listed.{point_of, points_of}
 
@@ -33,18 +33,17 @@ pub loop-high-preserved-then-is_passed : goal.loop-high-preserved-then-is_passed
 loop-high-preserved-then-is_passed g c =
     let low = c.loop-high.low in
     let high = c.loop-high.high in
-    let inv = c.loop-high.invariant in
     let middle = low + (high - low) / 2 in
-    let b = binary_digits (length c.args.self.now.list) in
-    let more = c.loop-high-test.true in
+    let takes = 4 * binary_digits (length c.args.self.now.list) + 3 in
+    let more : 1 < high - low = c.loop-high-test.true in
     record {
-      halved = low_moves _ _ _ low high inv.halved middle (omega (arith, more)) (c.is_passed.ensures.passed.0 c.if-is_passed.true);
+      halved = low_moves _ _ _ low high c.loop-high.invariant.halved middle (omega (arith, more))
+          (c.is_passed.ensures.passed.0 c.if-is_passed.true);
       steps = omega (
         arith,
         c.is_passed.ensures.steps,
-        inv.steps,
-        round_paid (4 * b + 3) (binary_digits (high - middle - 1)) (binary_digits (high - low - 1))
-            (fewer_digits (high - low) (high - middle) (omega (arith, more)) (omega (arith, more)) (omega (arith, more))),
+        c.loop-high.invariant.steps,
+        round_paid takes (high - low) (high - middle) more (omega (arith, more)) (omega (arith, more)),
       );
     }
 
@@ -52,19 +51,17 @@ pub loop-high-preserved : goal.loop-high-preserved
 loop-high-preserved g c =
     let low = c.loop-high.low in
     let high = c.loop-high.high in
-    let inv = c.loop-high.invariant in
     let middle = low + (high - low) / 2 in
-    let b = binary_digits (length c.args.self.now.list) in
-    let more = c.loop-high-test.true in
+    let takes = 4 * binary_digits (length c.args.self.now.list) + 3 in
+    let more : 1 < high - low = c.loop-high-test.true in
     record {
-      halved = high_moves _ _ _ low high inv.halved middle (omega (arith, more)) (omega (arith, more))
+      halved = high_moves _ _ _ low high c.loop-high.invariant.halved middle (omega (arith, more)) (omega (arith, more))
           (λ passed. false≢true (sym c.if-is_passed.false ∙ c.is_passed.ensures.passed.1 passed));
       steps = omega (
         arith,
         c.is_passed.ensures.steps,
-        inv.steps,
-        round_paid (4 * b + 3) (binary_digits (middle - low - 1)) (binary_digits (high - low - 1))
-            (fewer_digits (high - low) (middle - low) (omega (arith, more)) (omega (arith, more)) (omega (arith, more))),
+        c.loop-high.invariant.steps,
+        round_paid takes (high - low) (middle - low) more (omega (arith, more)) (omega (arith, more)),
       );
     }
 

@@ -1,29 +1,14 @@
 use Rattle.std.proofs.Common.{◌≡◌, sym, ap, subst, ◌∙◌, ◌+◌, ◌-◌, ◌∷◌, length, drop, arith}
 use Rattle.std.proofs.lemmas.List.{length-drop}
-use Rattle.shared_seq.proofs.Digits.{binary_digits_mono}
+use Rattle.shared_funnel.proofs.StepCounts.{next_steps}
 use Rattle.shared_funnel.proofs.StepLeft.{funnel_to_left}
 use Rattle.shared_funnel.proofs.funnel.Funnel.to_left.Goals as goal
 use Rattle.shared_funnel.specs.Listed.{IsFunnelAt}
 
-pub returns-in_err-rest-clause-steps : goal.returns-in_err-rest-clause-steps
-returns-in_err-rest-clause-steps g c =
-    let n = length c.args.self.now.list in
-    let same = ap (λ l. length l.list) c.self.view_is in
-    omega (arith, c.split_at.ensures.steps, binary_digits_mono (length c.self.inside.list) (n + 1) (omega (arith, same)))
-
 pub returns-in_err-list-clause-steps : goal.returns-in_err-list-clause-steps
 returns-in_err-list-clause-steps g c =
-    let n = length c.args.self.now.list in
-    let same = ap (λ l. length l.list) c.self.view_is in
-    let rest = ap length c.in_ok-rest.ensures.back in
-    omega (
-      arith,
-      c.split_at.ensures.steps,
-      c.push_front.ensures.steps,
-      binary_digits_mono (length c.self.inside.list) (n + 1) (omega (arith, same)),
-      binary_digits_mono (length c.in_ok-rest.rest + 1) (n + 1)
-          (omega (arith, same, rest, length-drop c.args.place c.self.inside.list)),
-    )
+    next_steps (length c.self.inside.list) (length c.args.self.now.list) (length c.in_ok-rest.rest) _ _ _ (ap (λ l. length l.list) c.self.view_is)
+    (omega (arith, ap length c.in_ok-rest.ensures.back, length-drop c.args.place c.self.inside.list)) c.split_at.ensures.steps c.push_front.ensures.steps
 
 pub returns-clause-funnel : goal.returns-clause-funnel
 returns-clause-funnel g c corners start tris k i j next d fits beyond w reached shared =
@@ -37,14 +22,5 @@ returns-clause-funnel g c corners start tris k i j next d fits beyond w reached 
 
 pub returns-clause-steps : goal.returns-clause-steps
 returns-clause-steps g c =
-    let n = length c.args.self.now.list in
-    let same = ap (λ l. length l.list) c.self.view_is in
-    let rest = ap length c.in_ok-rest.ensures.back in
-    omega (
-      arith,
-      c.split_at.ensures.steps,
-      c.push_front.ensures.steps,
-      binary_digits_mono (length c.self.inside.list) (n + 1) (omega (arith, same)),
-      binary_digits_mono (length c.in_ok-rest.rest + 1) (n + 1)
-          (omega (arith, same, rest, length-drop c.args.place c.self.inside.list)),
-    )
+    next_steps (length c.self.inside.list) (length c.args.self.now.list) (length c.in_ok-rest.rest) _ _ _ (ap (λ l. length l.list) c.self.view_is)
+    (omega (arith, ap length c.in_ok-rest.ensures.back, length-drop c.args.place c.self.inside.list)) c.split_at.ensures.steps c.push_front.ensures.steps
