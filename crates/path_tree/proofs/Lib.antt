@@ -1,0 +1,2 @@
+pub mod EnteredFunnels
+pub mod KeptNames

@@ -1,4 +1,4 @@
-ghost use Rattle.std.specs.Prelude.{◌≡◌, ◌+◌, ◌*◌, ◌<◌, ◌≤◌, ◌++◌, ◌∷◌, [], List, IfOk, drop, length, vec_capacity};
+ghost use Rattle.std.specs.Prelude.{◌≡◌, ℕ, ◌+◌, ◌*◌, ◌<◌, ◌≤◌, ◌++◌, ◌∷◌, [], List, IfOk, drop, length, vec_capacity};
 ghost use Rattle.plane.specs.Point.{Point, whole};
 ghost use Rattle.rings.specs.Chain.{IsPath};
 ghost use Rattle.rings.specs.From.{IsBefore};
@@ -8,7 +8,7 @@ ghost use Rattle.meshes.specs.Side.{tri_at};
 ghost use Rattle.meshes.specs.declared.tri.Tri.{Tri};
 ghost use Rattle.shared_seq.specs.Digits.{binary_digits};
 ghost use Rattle.funnel_walk.specs.Names.{AppendsPath, named_points};
-ghost use Rattle.path_tree.specs.Grown.{IsFromNamed, IsGrownFrom, IsKept, kept_point};
+ghost use Rattle.path_tree.specs.Grown.{IsEntered, IsFromNamed, IsGrownFrom, IsKept, kept_point};
 
 use crate::growth::Growth;
 use exact_plane::{Memory, Spot, Steps, Turns};
@@ -89,16 +89,9 @@ impl PathTree {
         ensures before { IsFromNamed (T.corners board.now) (T.start board.now) (T.goal board.now) result }
         ensures steps { let b = binary_digits (length (T.corners board.now)) in steps.new ≤ steps.old + 24 * (b * b) }
     {
-        let n = mesh.count() + 2;
-        let Some(funnel) = &self.funnels[tri as usize] else {
-            return self.straight(board, steps);
-        };
-        let place = funnel.place(board, n, Spot::Goal, steps);
-        let near = spot(funnel.number(place, steps), n);
-        if board.same(near, Spot::Goal, steps) {
-            self.before(near)
-        } else {
-            Some(near)
+        match &self.funnels[tri as usize] {
+            Some(funnel) => self.by_funnel(board, mesh, tri, funnel, steps),
+            None => self.straight(board, steps),
         }
     }
 
@@ -125,15 +118,51 @@ impl PathTree {
     }
 
     // What is before a corner; none before the start.
-    fn before(&self, at: Spot) -> Option<Spot> {
+    fn before(&self, at: Spot) -> Option<Spot>
+        requires kept { IsKept self.now at }
+        ensures before { (corners : List Point) (start : Point) (tris : List Tri) → IsGrownFrom corners start tris self.now
+            → IsFromNamed corners start (kept_point corners start at) result }
+    {
         match at {
             Spot::Corner(i) => self.parent(i),
             _ => None,
         }
     }
 
-    // What is before a goal in the home triangle.
-    fn straight<T: Turns, L: Ledger>(&self, board: &T, steps: &mut Steps<L>) -> Option<Spot> {
+    // What is before a goal in triangle `tri`, which is entered over a side, by the funnel there.
+    fn by_funnel<T: Turns, L: Ledger>(
+        &self,
+        board: &T,
+        mesh: &Mesh,
+        tri: u32,
+        funnel: &Funnel,
+        steps: &mut Steps<L>,
+    ) -> Option<Spot>
+        requires fits { Fits (T.corners board.now) mesh.now }
+        requires grown { IsGrownFrom (T.corners board.now) (T.start board.now) mesh.now self.now }
+        requires entered { IsEntered (T.corners board.now) (T.start board.now) mesh.now tri funnel.now }
+        requires goal { IsInTri (T.corners board.now) (tri_at mesh.now tri) (whole (T.goal board.now)) }
+        ensures before { IsFromNamed (T.corners board.now) (T.start board.now) (T.goal board.now) result }
+        ensures steps { let b = binary_digits (length (T.corners board.now)) in steps.new ≤ steps.old + 24 * (b * b) }
+    {
+        let n = mesh.count() + 2;
+        let place = funnel.place(board, n, Spot::Goal, steps);
+        let near = spot(funnel.number(place, steps), n);
+        if board.same(near, Spot::Goal, steps) {
+            self.before(near)
+        } else {
+            Some(near)
+        }
+    }
+
+    // What is before a goal in a triangle that has the start in it.
+    fn straight<T: Turns, L: Ledger>(&self, board: &T, steps: &mut Steps<L>) -> Option<Spot>
+        ensures before { (tris : List Tri) (k : ℕ) → Fits (T.corners board.now) tris → k < length tris
+            → IsInTri (T.corners board.now) (tri_at tris k) (whole (T.start board.now))
+            → IsInTri (T.corners board.now) (tri_at tris k) (whole (T.goal board.now))
+            → IsFromNamed (T.corners board.now) (T.start board.now) (T.goal board.now) result }
+        ensures steps { steps.new ≡ steps.old + 1 }
+    {
         if board.same(Spot::Start, Spot::Goal, steps) {
             None
         } else {
