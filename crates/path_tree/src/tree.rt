@@ -1,4 +1,4 @@
-ghost use Rattle.std.specs.Prelude.{◌≡◌, ℕ, ◌+◌, ◌*◌, ◌<◌, ◌≤◌, ◌++◌, ◌∷◌, [], List, IfOk, drop, length, vec_capacity};
+ghost use Rattle.std.specs.Prelude.{◌≡◌, ℕ, ◌+◌, ◌*◌, ◌<◌, ◌≤◌, ◌++◌, ◌∷◌, [], List, IfOk, drop, length, reverse, take, vec_capacity};
 ghost use Rattle.plane.specs.Point.{Point, whole};
 ghost use Rattle.rings.specs.Chain.{IsPath};
 ghost use Rattle.rings.specs.From.{IsBefore};
@@ -107,6 +107,8 @@ impl PathTree {
             → IsPath corners start t (named_points (kept_point corners start) (drop (length out.old.items) out.new.items) ++ t ∷ []) }
         ensures same_room { vec_capacity out.new ≡ vec_capacity out.old }
     {
+        // What holds of every tree is told with its parts: it is grown, so the way back ends.
+        let _ = &self.before;
         let given = out.len();
         let mut at = last;
         while let Some(before) = self.before(at) {
@@ -114,7 +116,7 @@ impl PathTree {
             at = before;
         }
         out.push_reserved(Spot::Start);
-        out[given..].reverse();
+        turn_round(out, given);
     }
 
     // What is before a corner; none before the start.
@@ -169,4 +171,13 @@ impl PathTree {
             Some(Spot::Start)
         }
     }
+}
+
+// Turns round the names from place `given` on.
+fn turn_round(names: &mut Vec<Spot>, given: usize)
+    requires given { given ≤ length names.old.items }
+    ensures turned { names.new.items ≡ take given names.old.items ++ reverse (drop given names.old.items) }
+    ensures same_room { vec_capacity names.new ≡ vec_capacity names.old }
+{
+    names[given..].reverse();
 }

@@ -32,6 +32,10 @@ module _ (corners : List Point) (tris : List Tri) (fits : Fits corners tris) (s 
       let equal : take (j + 1) path ≡ take (i + 1) path = (one (take (j + 1) path)).0 ((other (take (j + 1) path)).1 refl) in
       omega (arith, ap length equal, front_length path (i + 1) (omega arith), front_length path (j + 1) (omega arith))
 
+-- nothing comes before the start itself
+pub before_differs : (corners : List Point) (s t x : Point) → IsBefore corners s t x → ¬ (s ≡ t)
+before_differs corners s t x before same = omega (arith, before.more, ((before.is_path before.path).1 refl).single same)
+
 module _ (corners : List Point) (tris : List Tri) (fits : Fits corners tris) (s t x : Point) (before : IsBefore corners s t x)
     (path : List Point) (is : IsPath corners s x path) where
   -- the path to what comes before a point goes on to it
