@@ -5,6 +5,7 @@ use Rattle.std.proofs.lemmas.Bool.{cases_lt}
 use Rattle.std.proofs.lemmas.List.{get_or_read, length-map}
 use Rattle.std.proofs.lemmas.Nat.{mul-le}
 use Rattle.plane.specs.Point.{Point, whole}
+use Rattle.rings.specs.From.{IsBefore}
 use Rattle.meshes.proofs.Sides.{two_fewer}
 use Rattle.meshes.specs.Fits.{Fits, IsInTri}
 use Rattle.meshes.specs.Side.{tri_at}
@@ -18,7 +19,7 @@ use Rattle.shared_funnel.proofs.SourceNumber.{number_of_source}
 use Rattle.shared_funnel.specs.Listed.{Listed, point_of, points_of}
 use Rattle.shared_seq.proofs.Digits.{binary_digits_enough, binary_digits_mono}
 use Rattle.shared_seq.specs.Digits.{binary_digits}
-use Rattle.path_tree.specs.Grown.{IsEntered, IsFromNamed, IsGrownFrom, KeepsFunnel, Names, Tree, funnel_at}
+use Rattle.path_tree.specs.Grown.{IsEntered, IsGrownFrom, KeepsFunnel, Names, Tree, funnel_at}
 
 -- ---- names
 
@@ -59,26 +60,24 @@ module _ (corners : List Point) (start : Point) (tris : List Tri) (k : ℕ) (f :
   -- where a point of the triangle is reached from a place of it,
   module _ (fits : Fits corners tris) (h : ℕ) (y : Point) (reached : IsReachedFrom (points_of corners start f.list) f.apex h (whole y)) where
     -- the point there
-    abbrev pub near : Point
+    abbrev near : Point
     near = point_of corners start (slice_index f.list h)
 
-    -- has the name of its number,
-    pub near_names : (m i : ℕ) (s : Spot) → m ≡ length tris → i ≡ slice_index f.list h → (i ≢ m + 2 → s ≡ Corner i) → (i ≡ m + 2 → s ≡ Start)
-        → Names corners start s near
-    near_names m i s count is corner source =
+    -- has the name of its number, and comes before, where it is another
+    pub near_is : IsInTri corners (tri_at tris k) (whole y) → (m i : ℕ) (s : Spot) → m ≡ length tris → i ≡ slice_index f.list h
+        → (i ≢ m + 2 → s ≡ Corner i) → (i ≡ m + 2 → s ≡ Start)
+        → (x : Point) × Names corners start s x × (x ≢ y → IsBefore corners start y x)
+    near_is inside m i s count is corner source =
         let n : m + 2 ≡ length corners = omega (arith, count, two_fewer corners tris fits) in
         let within : h < length f.list = omega (arith, reached.within, length-map f.list (point_of corners start)) in
         let le : slice_index f.list h ≤ length corners = e.funnel.numbers h 0 within in
-        subst (λ k. Names corners start s (point_of corners start k)) is
-        (names_of_number corners start (m + 2) i s n (omega (arith, is, le, n)) corner source
-        (subst (λ k. point_of corners start k ≡ start → k ≡ length corners) (sym is)
-        (number_of_source corners start tris e.left e.right e.diagonals fits f e.funnel h within)))
-
-    -- and is what comes before, where it is another
-    pub near_before : (s : Spot) → IsInTri corners (tri_at tris k) (whole y) → ¬ (near ≡ y) → Names corners start s near
-        → IsFromNamed corners start y (Some s)
-    near_before s inside differ names =
-        (near, names, before_point corners start tris k e.left e.right e.third e.diagonals fits e.beyond f e.funnel h y inside reached differ)
+        let alone = number_of_source corners start tris e.left e.right e.diagonals fits f e.funnel h within in (
+          near,
+          subst (λ k. Names corners start s (point_of corners start k)) is
+              (names_of_number corners start (m + 2) i s n (omega (arith, is, le, n)) corner source
+              (subst (λ k. point_of corners start k ≡ start → k ≡ length corners) (sym is) alone)),
+          before_point corners start tris k e.left e.right e.third e.diagonals fits e.beyond f e.funnel h y inside reached,
+        )
 
 -- ---- steps
 

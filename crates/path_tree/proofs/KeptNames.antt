@@ -21,3 +21,8 @@ module _ (corners : List Point) (start : Point) (tris : List Tri) (tree : Tree) 
   kept_of_names (Corner i) x is =
       (omega (arith, is.0, grown.vertices), is.0, λ goal. sym (vertex_named corners start goal i is.0) ∙ is.1)
   kept_of_names Goal x none = absurd none
+
+  -- so a name that stands for the goal is the name of that point
+  pub kept_goal : (name : Spot) (x goal : Point) → Names corners start name x → point_named corners start goal name ≡ goal
+      → kept_point corners start name ≡ goal
+  kept_goal name x goal names at_goal = let kept = kept_of_names name x names in kept.2 start ∙ sym (kept.2 goal) ∙ at_goal

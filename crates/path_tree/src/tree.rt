@@ -1,4 +1,4 @@
-ghost use Rattle.std.specs.Prelude.{◌≡◌, ℕ, ◌+◌, ◌*◌, ◌<◌, ◌≤◌, ◌++◌, ◌∷◌, [], List, IfOk, drop, length, reverse, take, vec_capacity};
+ghost use Rattle.std.specs.Prelude.{◌≡◌, ◌≢◌, ℕ, ◌+◌, ◌*◌, ◌<◌, ◌≤◌, ◌++◌, ◌∷◌, [], List, IfOk, drop, length, reverse, take, vec_capacity};
 ghost use Rattle.plane.specs.Point.{Point, whole};
 ghost use Rattle.rings.specs.Chain.{IsPath};
 ghost use Rattle.rings.specs.From.{IsBefore};
@@ -8,7 +8,7 @@ ghost use Rattle.meshes.specs.Side.{tri_at};
 ghost use Rattle.meshes.specs.declared.tri.Tri.{Tri};
 ghost use Rattle.shared_seq.specs.Digits.{binary_digits};
 ghost use Rattle.funnel_walk.specs.Names.{AppendsPath, named_points};
-ghost use Rattle.path_tree.specs.Grown.{IsEntered, IsFromNamed, IsGrownFrom, IsKept, kept_point};
+ghost use Rattle.path_tree.specs.Grown.{IsEntered, IsFromNamed, IsGrownFrom, IsKept, Names, kept_point};
 
 use crate::growth::Growth;
 use exact_plane::{Memory, Spot, Steps, Turns};
@@ -89,9 +89,14 @@ impl PathTree {
         ensures before { IsFromNamed (T.corners board.now) (T.start board.now) (T.goal board.now) result }
         ensures steps { let b = binary_digits (length (T.corners board.now)) in steps.new ≤ steps.old + 24 * (b * b) }
     {
-        match &self.funnels[tri as usize] {
-            Some(funnel) => self.by_funnel(board, mesh, tri, funnel, steps),
-            None => self.straight(board, steps),
+        let Some(funnel) = &self.funnels[tri as usize] else {
+            return straight(board, steps);
+        };
+        let near = near_goal(board, mesh, tri, funnel, steps);
+        if board.same(near, Spot::Goal, steps) {
+            self.before(near)
+        } else {
+            Some(near)
         }
     }
 
@@ -130,47 +135,41 @@ impl PathTree {
             _ => None,
         }
     }
+}
 
-    // What is before a goal in triangle `tri`, which is entered over a side, by the funnel there.
-    fn by_funnel<T: Turns, L: Ledger>(
-        &self,
-        board: &T,
-        mesh: &Mesh,
-        tri: u32,
-        funnel: &Funnel,
-        steps: &mut Steps<L>,
-    ) -> Option<Spot>
-        requires fits { Fits (T.corners board.now) mesh.now }
-        requires grown { IsGrownFrom (T.corners board.now) (T.start board.now) mesh.now self.now }
-        requires entered { IsEntered (T.corners board.now) (T.start board.now) mesh.now tri funnel.now }
-        requires goal { IsInTri (T.corners board.now) (tri_at mesh.now tri) (whole (T.goal board.now)) }
-        ensures before { IsFromNamed (T.corners board.now) (T.start board.now) (T.goal board.now) result }
-        ensures steps { let b = binary_digits (length (T.corners board.now)) in steps.new ≤ steps.old + 24 * (b * b) }
-    {
-        let n = mesh.count() + 2;
-        let place = funnel.place(board, n, Spot::Goal, steps);
-        let near = spot(funnel.number(place, steps), n);
-        if board.same(near, Spot::Goal, steps) {
-            self.before(near)
-        } else {
-            Some(near)
-        }
+// What is before a goal in a triangle that has the start in it.
+fn straight<T: Turns, L: Ledger>(board: &T, steps: &mut Steps<L>) -> Option<Spot>
+    ensures before { (tris : List Tri) (k : ℕ) → Fits (T.corners board.now) tris → k < length tris
+        → IsInTri (T.corners board.now) (tri_at tris k) (whole (T.start board.now))
+        → IsInTri (T.corners board.now) (tri_at tris k) (whole (T.goal board.now))
+        → IsFromNamed (T.corners board.now) (T.start board.now) (T.goal board.now) result }
+    ensures steps { steps.new ≡ steps.old + 1 }
+{
+    if board.same(Spot::Start, Spot::Goal, steps) {
+        None
+    } else {
+        Some(Spot::Start)
     }
+}
 
-    // What is before a goal in a triangle that has the start in it.
-    fn straight<T: Turns, L: Ledger>(&self, board: &T, steps: &mut Steps<L>) -> Option<Spot>
-        ensures before { (tris : List Tri) (k : ℕ) → Fits (T.corners board.now) tris → k < length tris
-            → IsInTri (T.corners board.now) (tri_at tris k) (whole (T.start board.now))
-            → IsInTri (T.corners board.now) (tri_at tris k) (whole (T.goal board.now))
-            → IsFromNamed (T.corners board.now) (T.start board.now) (T.goal board.now) result }
-        ensures steps { steps.new ≡ steps.old + 1 }
-    {
-        if board.same(Spot::Start, Spot::Goal, steps) {
-            None
-        } else {
-            Some(Spot::Start)
-        }
-    }
+// The point from which a goal in triangle `tri` is reached over the side by which the triangle is entered: by the funnel there.
+fn near_goal<T: Turns, L: Ledger>(
+    board: &T,
+    mesh: &Mesh,
+    tri: u32,
+    funnel: &Funnel,
+    steps: &mut Steps<L>,
+) -> Spot
+    requires fits { Fits (T.corners board.now) mesh.now }
+    requires entered { IsEntered (T.corners board.now) (T.start board.now) mesh.now tri funnel.now }
+    requires goal { IsInTri (T.corners board.now) (tri_at mesh.now tri) (whole (T.goal board.now)) }
+    ensures near { (x : Point) × Names (T.corners board.now) (T.start board.now) result x
+        × (x ≢ T.goal board.now → IsBefore (T.corners board.now) (T.start board.now) (T.goal board.now) x) }
+    ensures steps { let b = binary_digits (length (T.corners board.now)) in steps.new < steps.old + 24 * (b * b) }
+{
+    let n = mesh.count() + 2;
+    let place = funnel.place(board, n, Spot::Goal, steps);
+    spot(funnel.number(place, steps), n)
 }
 
 // Turns round the names from place `given` on.

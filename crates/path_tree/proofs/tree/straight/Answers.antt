@@ -1,7 +1,7 @@
 use Rattle.std.proofs.Common.{refl, sym, ◌∙◌}
 use Rattle.std.proofs.lemmas.Bool.{false≢true}
 use Rattle.funnels.proofs.Trees.{before_at_home}
-use Rattle.path_tree.proofs.tree.PathTree.straight.Goals as goal
+use Rattle.path_tree.proofs.tree.straight.Goals as goal
 
 pub returns-else-same-clause-before : goal.returns-else-same-clause-before
 returns-else-same-clause-before g c tris k fits within in_start in_goal =
