@@ -53,7 +53,7 @@ module _ (corners : List Point) (start : Point) (tris : List Tri) (k : ℕ) (f :
   pub entered_some : 0 < length f.list
   entered_some = omega (arith, e.funnel.funnel.funnel.apex_within, length-map f.list (point_of corners start))
 
-  -- and no more than there are corners
+  -- and fewer than there are corners
   pub entered_few : length f.list + 1 ≤ length corners
   entered_few = omega (arith, e.funnel.few, e.few)
 
