@@ -2,6 +2,7 @@
 
 -- The front of a chain with bends is one.
 mod SubChains
+pub use Rattle.funnels.proofs.OneChain.SubChains.{front_and_last, front_at, front_bent, front_length}
 -- A bend stays one where the next point is another one on the same ray.
 mod RayBends
 -- The front of a chain with bends, and a chain with bends whose last step is shorter.

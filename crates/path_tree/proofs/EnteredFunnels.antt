@@ -1,0 +1,97 @@
+-- The funnel of a triangle that is entered over a side: its numbers, how many there are, and what comes before a point that is reached.
+use Rattle.std.proofs.Common.{◌≡◌, ◌≢◌, inl, inr, sym, ap, subst, ◌∙◌, ℕ, zero, suc, ◌+◌, ◌*◌, ◌^◌, ◌<◌, ◌≤◌, List, length, get_or, slice_index}
+use Rattle.std.proofs.Common.{Option, Some, None, arith}
+use Rattle.std.proofs.lemmas.Bool.{cases_lt}
+use Rattle.std.proofs.lemmas.List.{get_or_read, length-map}
+use Rattle.std.proofs.lemmas.Nat.{mul-le}
+use Rattle.plane.specs.Point.{Point, whole}
+use Rattle.rings.specs.From.{IsBefore}
+use Rattle.meshes.proofs.Sides.{two_fewer}
+use Rattle.meshes.specs.Fits.{Fits, IsInTri}
+use Rattle.meshes.specs.Side.{tri_at}
+use Rattle.meshes.specs.declared.tri.Tri.{Tri}
+use Rattle.funnels.specs.Funnel.{IsReachedFrom}
+use Rattle.exact_plane.specs.declared.turns.Spot.{Spot}
+use Rattle.exact_plane.specs.declared.turns.Spot.TheVariants.{Corner, Start}
+use Rattle.shared_funnel.proofs.Numbers.{corner_point, source_point}
+use Rattle.shared_funnel.proofs.ReachedBefore.{before_point}
+use Rattle.shared_funnel.proofs.SourceNumber.{number_of_source}
+use Rattle.shared_funnel.specs.Listed.{Listed, point_of, points_of}
+use Rattle.shared_seq.proofs.Digits.{binary_digits_enough, binary_digits_mono}
+use Rattle.shared_seq.specs.Digits.{binary_digits}
+use Rattle.path_tree.specs.Grown.{IsEntered, IsGrownFrom, KeepsFunnel, Names, Tree, funnel_at}
+
+-- ---- names
+
+-- the name of a number names its point, where that of the start has the source's number alone
+pub names_of_number : (corners : List Point) (start : Point) (n i : ℕ) (s : Spot) → n ≡ length corners → i ≤ n → (i ≢ n → s ≡ Corner i)
+    → (i ≡ n → s ≡ Start) → (point_of corners start i ≡ start → i ≡ length corners) → Names corners start s (point_of corners start i)
+names_of_number corners start n i s count le corner source alone = elim (cases_lt i n) [
+  | inl less ↦
+      let below : i < length corners = omega (arith, less, count) in
+      subst (λ name. Names corners start name (point_of corners start i)) (sym (corner (λ e. omega (arith, less, e))))
+      (below, sym (corner_point corners start i below), λ same. omega (arith, alone same, below))
+  | inr more ↦
+      let e : i ≡ length corners = omega (arith, le, more, count) in
+      subst (λ name. Names corners start name (point_of corners start i)) (sym (source (omega (arith, e, count))))
+      (subst (λ k. point_of corners start k ≡ start) (sym e) (source_point corners start))
+]
+
+-- ---- a triangle that is entered
+
+-- the funnel that is read at its number is its own
+pub entered_of_read : (corners : List Point) (start : Point) (tris : List Tri) (tree : Tree) → IsGrownFrom corners start tris tree
+    → (funnels : List (Option Listed)) → funnels ≡ tree.funnels → (k : ℕ) → k < length tris → (o : Option Listed) → o ≡ get_or funnels k o
+    → (f : Listed) → o ≡ Some f → IsEntered corners start tris k f
+entered_of_read corners start tris tree grown funnels same k below o read f some =
+    let inside : k < length funnels = omega (arith, below, grown.triangles, ap length same) in
+    let there : funnel_at tree k ≡ Some f = ap (λ fs. get_or fs k None) (sym same) ∙ sym (get_or_read funnels k o inside read None) ∙ some in
+    subst (KeepsFunnel corners start tris k) there (grown.funnels k below)
+
+module _ (corners : List Point) (start : Point) (tris : List Tri) (k : ℕ) (f : Listed) (e : IsEntered corners start tris k f) where
+  -- its funnel has a point,
+  pub entered_some : 0 < length f.list
+  entered_some = omega (arith, e.funnel.funnel.funnel.apex_within, length-map f.list (point_of corners start))
+
+  -- and fewer than there are corners
+  pub entered_few : length f.list + 1 ≤ length corners
+  entered_few = omega (arith, e.funnel.few, e.few)
+
+  -- where a point of the triangle is reached from a place of it,
+  module _ (fits : Fits corners tris) (h : ℕ) (y : Point) (reached : IsReachedFrom (points_of corners start f.list) f.apex h (whole y)) where
+    -- the point there
+    abbrev near : Point
+    near = point_of corners start (slice_index f.list h)
+
+    -- has the name of its number, and comes before, where it is another
+    pub near_is : IsInTri corners (tri_at tris k) (whole y) → (m i : ℕ) (s : Spot) → m ≡ length tris → i ≡ slice_index f.list h
+        → (i ≢ m + 2 → s ≡ Corner i) → (i ≡ m + 2 → s ≡ Start)
+        → (x : Point) × Names corners start s x × (x ≢ y → IsBefore corners start y x)
+    near_is inside m i s count is corner source =
+        let n : m + 2 ≡ length corners = omega (arith, count, two_fewer corners tris fits) in
+        let within : h < length f.list = omega (arith, reached.within, length-map f.list (point_of corners start)) in
+        let le : slice_index f.list h ≤ length corners = e.funnel.numbers h 0 within in
+        let alone = number_of_source corners start tris e.left e.right e.diagonals fits f e.funnel h within in (
+          near,
+          subst (λ k. Names corners start s (point_of corners start k)) is
+              (names_of_number corners start (m + 2) i s n (omega (arith, is, le, n)) corner source
+              (subst (λ k. point_of corners start k ≡ start → k ≡ length corners) (sym is) alone)),
+          before_point corners start tris k e.left e.right e.third e.diagonals fits e.beyond f e.funnel h y inside reached,
+        )
+
+-- ---- steps
+
+-- a number that is not 0 has a digit
+some_digit : (b n : ℕ) → 0 < n → n < 2 ^ b → 0 < b
+some_digit zero n some below = omega (arith, some, below)
+some_digit (suc b) n some below = omega arith
+
+-- what a search, a read and two tests take at some digits, by more of them,
+digits_paid : (c b : ℕ) → c ≤ b → 0 < b → c * (4 * c + 3) + (2 * c + 1) + 2 ≤ 24 * (b * b)
+digits_paid c b le some = omega (arith, mul-le c c b b le le, mul-le 1 b b b some (omega arith))
+
+-- and so in a list of fewer numbers than there are corners
+pub reach_paid : (m n : ℕ) → 0 < n → m ≤ n
+    → binary_digits m * (4 * binary_digits m + 3) + (2 * binary_digits m + 1) + 2 ≤ 24 * (binary_digits n * binary_digits n)
+reach_paid m n some le =
+    digits_paid (binary_digits m) (binary_digits n) (binary_digits_mono m n le) (some_digit (binary_digits n) n some (binary_digits_enough n))

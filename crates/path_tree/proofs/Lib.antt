@@ -1,0 +1,4 @@
+pub mod EnteredFunnels
+pub mod GoneBack
+pub mod GrownPaths
+pub mod KeptNames

@@ -1,0 +1,25 @@
+ghost use Rattle.std.specs.Prelude.{◌≡◌, ◌<◌};
+ghost use Rattle.meshes.specs.Mesh.{side_begin, side_end};
+ghost use Rattle.meshes.specs.Side.{tri_at};
+ghost use Rattle.shared_funnel.proofs.Doors.{side_third};
+
+use tri_mesh::{Mesh, Outward};
+
+// How a triangle is entered: the corners at the left and the right end of the diagonal, and the third corner.
+#[derive(Clone, Copy)]
+pub(crate) struct Door {
+    pub(crate) left: u32,
+    pub(crate) right: u32,
+    pub(crate) third: u32,
+}
+
+// The door of a triangle on the side from which it is reached.
+pub(crate) fn door_of(mesh: &Mesh, at: Outward) -> Door {
+    let tri = mesh.tri(at.tri);
+    let (left, right, third) = match at.side {
+        0 => (tri.a, tri.b, tri.c),
+        1 => (tri.b, tri.c, tri.a),
+        _ => (tri.c, tri.a, tri.b),
+    };
+    Door { left, right, third }
+}

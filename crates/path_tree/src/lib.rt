@@ -1,0 +1,8 @@
+//! The paths from a start to every vertex, by funnels that share their nodes.
+#![tactic(auto)]
+
+mod door;
+mod growth;
+mod tree;
+
+pub use tree::PathTree;
