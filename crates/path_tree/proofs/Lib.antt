@@ -1,0 +1,3 @@
+pub mod Entrances
+pub mod GrownOver
+pub mod NamedPoints
