@@ -15,7 +15,7 @@ use Rattle.path_tree.specs.Growing.{IsFromStart, IsFunnelTo}
 
 module _ (corners : List Point) (start : Point) (tris : List Tri) (order : List Outward) (from : IsFromStart corners start tris order) where
   -- the triangle at a place, the corners at the ends of the side over which it is entered, and the third one
-  abbrev pub at_place : ℕ → ℕ
+  abbrev at_place : ℕ → ℕ
   at_place p = (outward_at order p).tri
 
   abbrev pub left_of : ℕ → ℕ
