@@ -66,8 +66,8 @@ returns-clause-grown g c =
     c.loop-corner.invariant.vertices
     (ap length c.in_ok-funnels.ensures ∙ length-replicate c.count-count.result None ∙ c.count-count.ensures.number)
     (λ i has.
-        let (k, less, is) = corner_place c.tri-tri.result i (subst (λ t. HasCorner t i) (sym c.tri-tri.ensures) has) in
-        subst (HasParent corners start c.loop-corner.before.items) is
-        (c.loop-corner.invariant.parents k (omega (arith, less, c.loop-corner-test.false))))
+    let (k, less, is) = corner_place c.tri-tri.result i (subst (λ t. HasCorner t i) (sym c.tri-tri.ensures) has) in
+    subst (HasParent corners start c.loop-corner.before.items) is
+    (c.loop-corner.invariant.parents k (omega (arith, less, c.loop-corner-test.false))))
     (ap (λ fs. slice_index_or fs home None) c.in_ok-funnels.ensures
     ∙ get_or-replicate c.count-count.result home None None (omega (arith, in_list, c.count-count.ensures.number)))
