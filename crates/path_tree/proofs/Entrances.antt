@@ -1,12 +1,12 @@
 -- The triangles at the places of an order outward: each is entered over the side that it shares with the one from which it is reached.
-use Rattle.std.proofs.Common.{◌≡◌, sym, List, length, ℕ, ◌<◌, arith}
-use Rattle.plane.specs.Point.{Point}
+use Rattle.std.proofs.Common.{◌≡◌, sym, subst, List, length, ℕ, ◌<◌, arith}
+use Rattle.plane.specs.Point.{Point, whole}
 use Rattle.meshes.proofs.Sides.{ends_below}
-use Rattle.meshes.specs.Fits.{IsSideOfTwo}
+use Rattle.meshes.specs.Fits.{Fits, IsInTri, IsSideOfTwo}
 use Rattle.meshes.specs.Mesh.{side_begin, side_end}
 use Rattle.meshes.specs.Side.{tri_at}
 use Rattle.meshes.specs.declared.tri.Tri.{Tri}
-use Rattle.tri_mesh.specs.Outward.{outward_at}
+use Rattle.tri_mesh.specs.Outward.{IsOutward, outward_at}
 use Rattle.tri_mesh.specs.declared.outward.Outward.{Outward}
 use Rattle.shared_funnel.proofs.Doors.{beyond_of, has_numbered, side_of_both, third_numbered}
 use Rattle.shared_funnel.specs.Listed.{IsBeyond}
@@ -31,6 +31,17 @@ module _ (tris : List Tri) (order : List Outward) (p : ℕ) where
 -- and the place of the one from which it is reached
 abbrev pub toward : List Outward → ℕ → ℕ
 toward order p = (outward_at order p).toward
+
+-- an order outward from a triangle with the start in it
+pub from_start : (corners : List Point) (start : Point) (tris : List Tri) (home : ℕ) (order : List Outward) → Fits corners tris
+    → home < length tris → IsInTri corners (tri_at tris home) (whole start) → IsOutward tris home order
+    → IsFromStart corners start tris order
+from_start corners start tris home order fits within in_start outward = record {
+  fits = fits;
+  some = omega (arith, within, outward.count);
+  outward = subst (λ k. IsOutward tris k order) (sym outward.first) outward;
+  home = subst (λ k. IsInTri corners (tri_at tris k) (whole start)) (sym outward.first) in_start;
+}
 
 module _ (corners : List Point) (start : Point) (tris : List Tri) (order : List Outward) (from : IsFromStart corners start tris order) where
   -- triangles at two places differ

@@ -5,14 +5,14 @@ use Rattle.std.proofs.lemmas.List.{get_or-set_other, get_or-set_same, length-set
 use Rattle.plane.specs.Point.{Point, whole}
 use Rattle.rings.specs.Ring.{vertex}
 use Rattle.meshes.proofs.Sides.{one_at_edge, two_fewer}
-use Rattle.meshes.specs.Fits.{IsInTri}
+use Rattle.meshes.specs.Fits.{Fits, IsInTri}
 use Rattle.meshes.specs.Side.{tri_at}
 use Rattle.meshes.specs.declared.tri.Tri.{Tri}
-use Rattle.tri_mesh.specs.Outward.{outward_at}
+use Rattle.tri_mesh.specs.Outward.{IsOutward, outward_at}
 use Rattle.tri_mesh.specs.declared.outward.Outward.{Outward}
 use Rattle.exact_plane.specs.declared.turns.Spot.{Spot}
 use Rattle.shared_funnel.specs.Listed.{Listed}
-use Rattle.path_tree.proofs.Entrances.{apart, at_place, beyond_at, earlier, left_of, right_of, third_below, third_of, toward}
+use Rattle.path_tree.proofs.Entrances.{apart, at_place, beyond_at, from_start, left_of, right_of, third_below, third_of, toward}
 use Rattle.path_tree.proofs.Parents.{HasParent, parent_written}
 use Rattle.path_tree.proofs.TriCorners.{corner_cases, side_corners}
 use Rattle.path_tree.specs.Grown.{IsFromNamed, IsGrownFrom, KeepsFunnel, Tree, before_at, funnel_at}
@@ -100,7 +100,7 @@ module _ (corners : List Point) (start : Point) (tris : List Tri) (order : List 
   }
 
   -- and each vertex is a corner of some triangle: so at all places it has grown
-  pub grown_over_all : (tree : Tree) → IsGrownOver corners start tris order (length order) tree → IsGrownFrom corners start tris tree
+  grown_over_all : (tree : Tree) → IsGrownOver corners start tris order (length order) tree → IsGrownFrom corners start tris tree
   grown_over_all tree grown = record {
     vertices = grown.vertices;
     parents = λ i below.
@@ -114,3 +114,11 @@ module _ (corners : List Point) (start : Point) (tris : List Tri) (order : List 
         subst (λ l. KeepsFunnel corners start tris l (funnel_at tree l)) is
         (keeps p within (funnel_at tree (at_place order p)) (grown.funnels p within));
   }
+
+-- so one that has grown over all places of an order from a triangle with the start is grown from these corners
+pub grown_at_end : (corners : List Point) (start : Point) (tris : List Tri) (home : ℕ) (order : List Outward) (p : ℕ) (tree : Tree)
+    → Fits corners tris → home < length tris → IsInTri corners (tri_at tris home) (whole start) → IsOutward tris home order
+    → p ≡ length order → IsGrownOver corners start tris order p tree → IsGrownFrom corners start tris tree
+grown_at_end corners start tris home order p tree fits within in_start outward all grown =
+    grown_over_all corners start tris order (from_start corners start tris home order fits within in_start outward) tree
+    (subst (λ q. IsGrownOver corners start tris order q tree) all grown)
