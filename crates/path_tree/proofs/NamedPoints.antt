@@ -1,5 +1,5 @@
 -- Points of a funnel by their names: the source by its own, and the others as corners.
-use Rattle.std.proofs.Common.{◌≡◌, ◌≢◌, inl, inr, sym, ap, subst, ◌∙◌, List, length, ℕ, ◌<◌, ◌≤◌, slice_index, Some, arith}
+use Rattle.std.proofs.Common.{◌≡◌, ◌≢◌, inl, inr, sym, ap, subst, ◌∙◌, List, length, ℕ, ◌<◌, slice_index, Some, arith}
 use Rattle.std.proofs.lemmas.Bool.{cases_eq}
 use Rattle.plane.specs.Point.{Point, whole}
 use Rattle.rings.specs.Ring.{vertex}

@@ -11,8 +11,8 @@ use Rattle.tri_mesh.specs.Outward.{outward_at}
 use Rattle.tri_mesh.specs.declared.outward.Outward.{Outward}
 use Rattle.shared_funnel.proofs.Doors.{funnel_later, goes_on, third_numbered}
 use Rattle.shared_funnel.specs.Listed.{IsFunnelAt, Listed, point_of}
-use Rattle.path_tree.proofs.Entrances.{apart, at_place, beyond_at, earlier, ends_at, left_of, right_of, shared_at, shared_back, third_of, toward, toward_below}
-use Rattle.path_tree.specs.Grown.{Tree, funnel_at}
+use Rattle.path_tree.proofs.Entrances.{apart, at_place, earlier, left_of, right_of, shared_at, shared_back, third_of, toward, toward_below}
+use Rattle.path_tree.specs.Grown.{Tree}
 use Rattle.path_tree.specs.Growing.{IsFromStart, IsFunnelTo, IsGrownOver, KeepsFunnelTo}
 
 module _ (corners : List Point) (start : Point) (tris : List Tri) (order : List Outward) (from : IsFromStart corners start tris order) where

@@ -1,5 +1,5 @@
 -- What is before the vertices, in a list by their numbers: writes to it, and the corners of the home triangle.
-use Rattle.std.proofs.Common.{◌≡◌, ◌≢◌, inl, inr, sym, subst, List, length, ℕ, ◌+◌, ◌<◌, Option, None, set, slice_index, slice_index_or, arith}
+use Rattle.std.proofs.Common.{◌≢◌, inl, inr, sym, subst, List, length, ℕ, ◌+◌, ◌<◌, Option, None, set, slice_index, slice_index_or, arith}
 use Rattle.std.proofs.lemmas.Bool.{cases_eq}
 use Rattle.std.proofs.lemmas.List.{get_or-set_other, get_or-set_same}
 use Rattle.plane.specs.Point.{Point, whole}

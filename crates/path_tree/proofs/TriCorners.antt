@@ -1,5 +1,5 @@
 -- The corners of a triangle, and the ends of its sides.
-use Rattle.std.proofs.Common.{◌≡◌, ◌⊎◌, inl, inr, refl, sym, subst, List, [], ◌∷◌, length, ℕ, zero, suc, ◌<◌, slice_index, arith}
+use Rattle.std.proofs.Common.{◌≡◌, ◌⊎◌, inl, inr, refl, subst, List, [], ◌∷◌, length, ℕ, zero, suc, ◌<◌, slice_index, arith}
 use Rattle.plane.specs.Point.{Point, whole}
 use Rattle.rings.specs.Ring.{vertex}
 use Rattle.meshes.proofs.Sides.{ends_below}

@@ -1,6 +1,5 @@
 ghost use Rattle.std.specs.Prelude.{◌≡◌, ◌+◌, ◌*◌, ◌<◌, ◌≤◌, ℕ, IfOk, None, List, OnOk, length, replicate};
 ghost use Rattle.plane.specs.Point.{whole};
-ghost use Rattle.rings.specs.Ring.{vertex};
 ghost use Rattle.meshes.specs.Fits.{Fits, IsInTri};
 ghost use Rattle.meshes.specs.Side.{tri_at};
 ghost use Rattle.meshes.specs.declared.tri.Tri.{Tri};

@@ -1,4 +1,4 @@
-use Rattle.std.proofs.Common.{◌≡◌, sym, ap, subst, ◌∙◌, ◌+◌, ◌<◌, None, length, slice_index, slice_index_or, arith}
+use Rattle.std.proofs.Common.{sym, ap, subst, ◌∙◌, ◌+◌, None, length, slice_index, slice_index_or, arith}
 use Rattle.std.proofs.lemmas.List.{get_or-replicate, length-replicate, length-set}
 use Rattle.meshes.proofs.Sides.{two_fewer}
 use Rattle.tri_mesh.specs.Outward.{outward_at}

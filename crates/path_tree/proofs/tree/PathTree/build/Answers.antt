@@ -1,4 +1,4 @@
-use Rattle.std.proofs.Common.{◌≡◌, subst, ◌+◌, ◌*◌, ◌≤◌, length, arith}
+use Rattle.std.proofs.Common.{◌≡◌, subst, ◌+◌, ◌≤◌, length, arith}
 use Rattle.meshes.proofs.Sides.{two_fewer}
 use Rattle.shared_seq.specs.Digits.{binary_digits}
 use Rattle.path_tree.proofs.GrownOver.{grown_at_end}
