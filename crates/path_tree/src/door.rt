@@ -1,7 +1,7 @@
-ghost use Rattle.std.specs.Prelude.{◌≡◌, ◌<◌};
+ghost use Rattle.std.specs.Prelude.{◌≡◌, ◌<◌, length};
 ghost use Rattle.meshes.specs.Mesh.{side_begin, side_end};
 ghost use Rattle.meshes.specs.Side.{tri_at};
-ghost use Rattle.shared_funnel.proofs.Doors.{side_third};
+ghost use Rattle.shared_funnel.specs.Third.{side_third};
 
 use tri_mesh::{Mesh, Outward};
 
@@ -14,7 +14,13 @@ pub(crate) struct Door {
 }
 
 // The door of a triangle on the side from which it is reached.
-pub(crate) fn door_of(mesh: &Mesh, at: Outward) -> Door {
+pub(crate) fn door_of(mesh: &Mesh, at: Outward) -> Door
+    requires in_list { at.tri < length mesh.now }
+    requires side { at.side < 3 }
+    ensures left { result.left ≡ side_begin (tri_at mesh.now at.tri) at.side }
+    ensures right { result.right ≡ side_end (tri_at mesh.now at.tri) at.side }
+    ensures third { result.third ≡ side_third (tri_at mesh.now at.tri) at.side }
+{
     let tri = mesh.tri(at.tri);
     let (left, right, third) = match at.side {
         0 => (tri.a, tri.b, tri.c),

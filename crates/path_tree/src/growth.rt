@@ -1,3 +1,13 @@
+ghost use Rattle.std.specs.Prelude.{◌≡◌, ◌+◌, ◌*◌, ◌<◌, ◌≤◌, ℕ, IfOk, None, List, OnOk, length, replicate};
+ghost use Rattle.plane.specs.Point.{whole};
+ghost use Rattle.meshes.specs.Fits.{Fits, IsInTri};
+ghost use Rattle.meshes.specs.Side.{tri_at};
+ghost use Rattle.meshes.specs.declared.tri.Tri.{Tri};
+ghost use Rattle.exact_plane.specs.Spot.{IsNamed, point_named};
+ghost use Rattle.shared_seq.specs.Digits.{binary_digits};
+ghost use Rattle.path_tree.specs.Grown.{IsFromNamed};
+ghost use Rattle.path_tree.specs.Growing.{IsFromStart, IsFunnelTo, IsGrownOver};
+
 use crate::door::door_of;
 use exact_plane::{Memory, Spot, Steps, Turns};
 use shared_funnel::{Funnel, spot};
@@ -13,33 +23,31 @@ pub(crate) struct Growth {
 }
 
 impl Growth {
-    // The tree with what is before the corners of the home triangle, and no funnel.
+    // The tree with what is before the corners of the home triangle, and no funnel. It takes 3 steps.
     pub(crate) fn at_home<T: Turns, L: Ledger>(
         alloc: Global,
         board: &T,
         mesh: &Mesh,
-        home: u32,
+        order: &[Outward],
         steps: &mut Steps<L>,
-    ) -> Result<Growth, Memory> {
+    ) -> Result<Growth, Memory>
+        requires { IsFromStart (T.corners board.now) (T.start board.now) mesh.now order.now }
+        ensures grown { IfOk result (λ growth. IsGrownOver (T.corners board.now) (T.start board.now) mesh.now order.now 1
+            (record { before = growth.before.items; funnels = growth.funnels.items })) }
+        ensures steps { steps.new ≤ steps.old + 3 }
+    {
         let count = mesh.count() as usize;
-        let mut before = Vec::with_capacity(alloc, count + 2)?;
-        for _ in 0..count + 2 {
-            before.push(None)?;
-        }
-        let mut funnels = Vec::with_capacity(alloc, count)?;
-        for _ in 0..count {
-            funnels.push(None)?;
-        }
-        let tri = mesh.tri(home);
+        let mut before = none_each(alloc, count + 2)?;
+        let funnels = none_each(alloc, count)?;
+        let tri = mesh.tri(order[0].tri);
         for corner in [tri.a, tri.b, tri.c] {
-            if !board.same(Spot::Start, Spot::Corner(corner), steps) {
-                before[corner as usize] = Some(Spot::Start);
-            }
+            before[corner as usize] = straight(board, Spot::Corner(corner), steps);
         }
         Ok(Growth { before, funnels })
     }
 
-    // Goes on to the triangle at place `p`: its funnel, and what is before its third corner.
+    // Goes on to the triangle at place `p`: its funnel, and what is before its third corner. It takes at most 200 b b steps, b
+    // the number of binary digits of that of the corners.
     pub(crate) fn go_on<T: Turns, L: Ledger>(
         &mut self,
         alloc: Global,
@@ -48,7 +56,16 @@ impl Growth {
         order: &[Outward],
         p: usize,
         steps: &mut Steps<L>,
-    ) -> Result<(), Memory> {
+    ) -> Result<(), Memory>
+        requires start { IsFromStart (T.corners board.now) (T.start board.now) mesh.now order.now }
+        requires later { 0 < p }
+        requires within { p < length order.now }
+        requires grown { IsGrownOver (T.corners board.now) (T.start board.now) mesh.now order.now p
+            (record { before = self.old.before.items; funnels = self.old.funnels.items }) }
+        ensures grown { OnOk result (IsGrownOver (T.corners board.now) (T.start board.now) mesh.now order.now (p + 1)
+            (record { before = self.new.before.items; funnels = self.new.funnels.items })) }
+        ensures steps { let b = binary_digits (length (T.corners board.now)) in steps.new ≤ steps.old + 200 * (b * b) }
+    {
         let n = mesh.count() + 2;
         let third = door_of(mesh, order[p]).third;
         let funnel = self.next_funnel(alloc, board, mesh, order, p, steps)?;
@@ -67,7 +84,15 @@ impl Growth {
         order: &[Outward],
         p: usize,
         steps: &mut Steps<L>,
-    ) -> Result<Funnel, Memory> {
+    ) -> Result<Funnel, Memory>
+        requires start { IsFromStart (T.corners board.now) (T.start board.now) mesh.now order.now }
+        requires later { 0 < p }
+        requires within { p < length order.now }
+        requires grown { IsGrownOver (T.corners board.now) (T.start board.now) mesh.now order.now p
+            (record { before = self.now.before.items; funnels = self.now.funnels.items }) }
+        ensures funnel { IfOk result (IsFunnelTo (T.corners board.now) (T.start board.now) mesh.now order.now p) }
+        ensures steps { let b = binary_digits (length (T.corners board.now)) in steps.new ≤ steps.old + b * (4 * b + 3) + 160 * (b + 1) }
+    {
         let n = mesh.count() + 2;
         let here = door_of(mesh, order[p]);
         let from = order[order[p].toward as usize];
@@ -82,4 +107,32 @@ impl Growth {
             funnel.to_left(alloc, place, third, steps)
         }
     }
+}
+
+// What is before a point of the home triangle: the start, or nothing where both are one point. It takes one step.
+fn straight<T: Turns, L: Ledger>(board: &T, y: Spot, steps: &mut Steps<L>) -> Option<Spot>
+    requires { IsNamed (T.corners board.now) y }
+    ensures before { let at = point_named (T.corners board.now) (T.start board.now) (T.goal board.now) in
+        (tris : List Tri) (k : ℕ) → Fits (T.corners board.now) tris → k < length tris
+        → IsInTri (T.corners board.now) (tri_at tris k) (whole (T.start board.now))
+        → IsInTri (T.corners board.now) (tri_at tris k) (whole (at y))
+        → IsFromNamed (T.corners board.now) (T.start board.now) (at y) result }
+    ensures steps { steps.new ≡ steps.old + 1 }
+{
+    if board.same(Spot::Start, y, steps) {
+        None
+    } else {
+        Some(Spot::Start)
+    }
+}
+
+// So many times nothing.
+fn none_each<T: Drop>(alloc: Global, count: usize) -> Result<Vec<Option<T>>, Memory>
+    ensures { IfOk result (λ all. all.items ≡ replicate count None) }
+{
+    let mut all = Vec::with_capacity(alloc, count)?;
+    for _ in 0..count {
+        all.push(None)?;
+    }
+    Ok(all)
 }

@@ -53,7 +53,7 @@ impl PathTree {
         ensures steps { let n = length (T.corners board.now) in let b = binary_digits n in steps.new ≤ steps.old + 200 * n * (b * b) }
     {
         let order = mesh.outward(alloc, home)?;
-        let mut growth = Growth::at_home(alloc, board, mesh, home, steps)?;
+        let mut growth = Growth::at_home(alloc, board, mesh, &order, steps)?;
         for p in 1..order.len() {
             growth.go_on(alloc, board, mesh, &order, p, steps)?;
         }

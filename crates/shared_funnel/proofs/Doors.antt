@@ -1,5 +1,5 @@
 -- How a triangle of a mesh is entered from one with which it shares a side: the ends of the diagonal, and the third corner.
-use Rattle.std.proofs.Common.{◌≡◌, ◌⊎◌, inl, inr, refl, subst, List, [], ◌∷◌, length, ℕ, zero, suc, ◌<◌, ◌≤◌, slice_index_or, arith}
+use Rattle.std.proofs.Common.{◌≡◌, ◌⊎◌, inl, inr, refl, subst, List, length, ℕ, zero, suc, ◌<◌, ◌≤◌, arith}
 use Rattle.plane.specs.Point.{Point}
 use Rattle.meshes.proofs.Sides.{fitting_sides}
 use Rattle.meshes.proofs.TreeLeaves.{side_is_one}
@@ -8,14 +8,7 @@ use Rattle.meshes.specs.Mesh.{side_begin, side_end}
 use Rattle.meshes.specs.Side.{HasSide, tri_at}
 use Rattle.meshes.specs.declared.tri.Tri.{Tri}
 use Rattle.shared_funnel.specs.Listed.{IsBeyond, IsFunnelAt, Listed}
-
--- m is the corner across from the side from corner i to corner j
-abbrev pub IsThird : Tri → ℕ → ℕ → ℕ → Type 0
-IsThird t i j m = HasSide t j m × HasSide t m i
-
--- the corner across from side 0, 1 or 2
-abbrev pub side_third : Tri → ℕ → ℕ
-side_third t side = slice_index_or (t.c ∷ t.a ∷ t.b ∷ []) side 0
+use Rattle.shared_funnel.specs.Third.{IsThird, side_third}
 
 -- the triangle has the side,
 pub has_numbered : (t : Tri) (side : ℕ) → side < 3 → HasSide t (side_begin t side) (side_end t side)

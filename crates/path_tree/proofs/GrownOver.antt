@@ -1,0 +1,124 @@
+-- A tree of paths over the first places of an order outward: at home, at one more place, and at all.
+use Rattle.std.proofs.Common.{◌≡◌, ◌≢◌, inl, inr, refl, sym, subst, ◌∙◌, List, length, ℕ, ◌+◌, ◌%◌, ◌<◌, Option, Some, None, set, slice_index_or, arith}
+use Rattle.std.proofs.lemmas.Bool.{cases_eq}
+use Rattle.std.proofs.lemmas.List.{get_or-set_other, get_or-set_same, length-set}
+use Rattle.plane.specs.Point.{Point, whole}
+use Rattle.rings.specs.Ring.{vertex}
+use Rattle.meshes.proofs.Sides.{one_at_edge, two_fewer}
+use Rattle.meshes.specs.Fits.{Fits, IsInTri}
+use Rattle.meshes.specs.Side.{tri_at}
+use Rattle.meshes.specs.declared.tri.Tri.{Tri}
+use Rattle.tri_mesh.specs.Outward.{IsOutward, outward_at}
+use Rattle.tri_mesh.specs.declared.outward.Outward.{Outward}
+use Rattle.exact_plane.specs.declared.turns.Spot.{Spot}
+use Rattle.shared_funnel.specs.Listed.{Listed}
+use Rattle.path_tree.proofs.Entrances.{apart, at_place, beyond_at, from_start, left_of, right_of, third_below, third_of, toward}
+use Rattle.path_tree.proofs.Parents.{HasParent, parent_written}
+use Rattle.path_tree.proofs.TriCorners.{corner_cases, side_corners}
+use Rattle.path_tree.specs.Grown.{IsFromNamed, IsGrownFrom, KeepsFunnel, Tree, before_at, funnel_at}
+use Rattle.path_tree.specs.Growing.{HasCorner, IsFromStart, IsFunnelTo, IsGrownOver, KeepsFunnelTo}
+
+module _ (corners : List Point) (start : Point) (tris : List Tri) (order : List Outward) (from : IsFromStart corners start tris order) where
+  -- at home it has what is before the three corners, and no funnel
+  pub grown_at_home : (tree : Tree) → length tree.before ≡ length corners → length tree.funnels ≡ length tris
+      → ((i : ℕ) → HasCorner (tri_at tris (outward_at order 0).tri) i → IsFromNamed corners start (vertex corners i) (before_at tree i))
+      → funnel_at tree (outward_at order 0).tri ≡ None
+      → IsGrownOver corners start tris order 1 tree
+  grown_at_home tree vertices triangles parents none = record {
+    vertices = vertices;
+    parents = λ p i less has.
+        let home : p ≡ 0 = omega (arith, less) in
+        parents i (subst (λ q. HasCorner (tri_at tris (outward_at order q).tri) i) home has);
+    triangles = triangles;
+    funnels = λ p less.
+        let home : p ≡ 0 = omega (arith, less) in
+        subst (λ q. KeepsFunnelTo corners start tris order q (funnel_at tree (outward_at order q).tri)) (sym home)
+        (subst (KeepsFunnelTo corners start tris order 0) (sym none) refl);
+  }
+
+  module _ (p : ℕ) (later : 0 < p) (below : p < length order) (tree : Tree) (grown : IsGrownOver corners start tris order p tree) where
+    -- At one more place the ends of the side are corners of an earlier triangle, so all but the third corner have their parents,
+    corner_had : (q i : ℕ) → q < p + 1 → HasCorner (tri_at tris (at_place order q)) i → i ≢ third_of tris order p
+        → HasParent corners start tree.before i
+    corner_had q i less has other = elim (cases_eq q p) [
+      | inl same ↦
+          let joined = from.outward.joined p later below in
+          let t = tri_at tris (at_place order p) in
+          let here = subst (λ r. HasCorner (tri_at tris (at_place order r)) i) same has in
+          let shared = side_corners (tri_at tris (at_place order (toward order p))) (right_of tris order p) (left_of tris order p) joined.shared in
+          let had = λ (j : ℕ) (corner : HasCorner (tri_at tris (at_place order (toward order p))) j) (e : j ≡ i).
+          subst (HasParent corners start tree.before) e (grown.parents (toward order p) j joined.earlier corner) in
+          elim (corner_cases t (outward_at order p).side i joined.side here) [
+            | inl begin ↦ had (left_of tris order p) shared.1 begin
+            | inr (inl end) ↦ had (right_of tris order p) shared.0 end
+            | inr (inr third) ↦ absurd (other (sym third))
+          ]
+      | inr differ ↦ grown.parents q i (omega (arith, less, differ)) has
+    ]
+
+    -- and it has grown over that place with the parent of the third corner, and the funnel
+    pub grown_more : (m : ℕ) (value : Option Spot) (f : Listed) → m ≡ third_of tris order p → IsFromNamed corners start (vertex corners m) value
+        → IsFunnelTo corners start tris order p f
+        → IsGrownOver corners start tris order (p + 1)
+        (record { before = set tree.before m value; funnels = set tree.funnels (at_place order p) (Some f) })
+    grown_more m value f third right w =
+        let corner_within = third_below corners start tris order from p later below in
+        let within = from.outward.in_list p below in
+        record {
+          vertices = length-set tree.before m value ∙ grown.vertices;
+          parents = λ q i less has.
+              parent_written corners start tree.before m value (omega (arith, third, corner_within, grown.vertices)) right i
+              (λ differ. corner_had q i less has (λ e. differ (e ∙ sym third)));
+          triangles = length-set tree.funnels (at_place order p) (Some f) ∙ grown.triangles;
+          funnels = λ q less. elim (cases_eq q p) [
+            | inl same ↦
+                subst (λ r. KeepsFunnelTo corners start tris order r
+                (slice_index_or (set tree.funnels (at_place order p) (Some f)) (at_place order r) None)) (sym same)
+                (subst (KeepsFunnelTo corners start tris order p)
+                (sym (get_or-set_same tree.funnels (at_place order p) (Some f) None (omega (arith, within, grown.triangles))))
+                (later, w))
+            | inr differ ↦
+                let before : q < p = omega (arith, less, differ) in
+                subst (KeepsFunnelTo corners start tris order q)
+                (sym (get_or-set_other tree.funnels (at_place order p) (at_place order q) (Some f) None
+                (λ e. apart corners start tris order from p q before below (sym e)))) (grown.funnels q before)
+          ];
+        }
+
+  -- A triangle keeps a funnel of the tree,
+  keeps : (p : ℕ) → p < length order → (o : Option Listed) → KeepsFunnelTo corners start tris order p o
+      → KeepsFunnel corners start tris (at_place order p) o
+  keeps p below None home = subst (λ q. IsInTri corners (tri_at tris (at_place order q)) (whole start)) (sym home) from.home
+  keeps p below (Some f) w = record {
+    left = left_of tris order p;
+    right = right_of tris order p;
+    third = third_of tris order p;
+    beyond = beyond_at corners start tris order from p w.0 below;
+    diagonals = p;
+    few = omega (arith, below, from.outward.count, two_fewer corners tris from.fits);
+    funnel = w.1;
+  }
+
+  -- and each vertex is a corner of some triangle: so at all places it has grown
+  grown_over_all : (tree : Tree) → IsGrownOver corners start tris order (length order) tree → IsGrownFrom corners start tris tree
+  grown_over_all tree grown = record {
+    vertices = grown.vertices;
+    parents = λ i below.
+        let (k, one) = one_at_edge corners tris from.fits i below in
+        let (p, within, is) = from.outward.all k one.in_list in
+        let has = (side_corners (tri_at tris k) i ((i + 1) % length corners) one.has).0 in
+        grown.parents p i within (subst (λ l. HasCorner (tri_at tris l) i) (sym is) has);
+    triangles = grown.triangles;
+    funnels = λ k below.
+        let (p, within, is) = from.outward.all k below in
+        subst (λ l. KeepsFunnel corners start tris l (funnel_at tree l)) is
+        (keeps p within (funnel_at tree (at_place order p)) (grown.funnels p within));
+  }
+
+-- so one that has grown over all places of an order from a triangle with the start is grown from these corners
+pub grown_at_end : (corners : List Point) (start : Point) (tris : List Tri) (home : ℕ) (order : List Outward) (p : ℕ) (tree : Tree)
+    → Fits corners tris → home < length tris → IsInTri corners (tri_at tris home) (whole start) → IsOutward tris home order
+    → p ≡ length order → IsGrownOver corners start tris order p tree → IsGrownFrom corners start tris tree
+grown_at_end corners start tris home order p tree fits within in_start outward all grown =
+    grown_over_all corners start tris order (from_start corners start tris home order fits within in_start outward) tree
+    (subst (λ q. IsGrownOver corners start tris order q tree) all grown)

@@ -1,0 +1,120 @@
+-- The funnel at the side over which the triangle at a place is entered: from home, and from the funnel of the triangle from which it
+-- is reached.
+use Rattle.std.proofs.Common.{◌≡◌, ◌⊎◌, inl, inr, sym, subst, ◌∙◌, List, length, ℕ, ◌+◌, ◌<◌, ◌≤◌, Option, Some, None, slice_index_or, arith}
+use Rattle.std.proofs.lemmas.List.{get_or_read, length-map}
+use Rattle.plane.specs.Point.{Point, whole}
+use Rattle.meshes.proofs.Sides.{fitting_sides, two_fewer}
+use Rattle.meshes.specs.Fits.{Fits, IsInTri, IsSideOfTwo}
+use Rattle.meshes.specs.Side.{HasSide, tri_at}
+use Rattle.meshes.specs.declared.tri.Tri.{Tri}
+use Rattle.tri_mesh.specs.Outward.{outward_at}
+use Rattle.tri_mesh.specs.declared.outward.Outward.{Outward}
+use Rattle.shared_funnel.proofs.Doors.{funnel_later, goes_on, third_numbered}
+use Rattle.shared_funnel.specs.Listed.{IsFunnelAt, Listed, point_of}
+use Rattle.path_tree.proofs.Entrances.{apart, at_place, earlier, left_of, right_of, shared_at, shared_back, third_of, toward, toward_below}
+use Rattle.path_tree.specs.Grown.{Tree}
+use Rattle.path_tree.specs.Growing.{IsFromStart, IsFunnelTo, IsGrownOver, KeepsFunnelTo}
+
+module _ (corners : List Point) (start : Point) (tris : List Tri) (order : List Outward) (from : IsFromStart corners start tris order) where
+  -- a funnel there has its apex, and fewer points than there are corners
+  pub apex_in : (p : ℕ) (f : Listed) → IsFunnelTo corners start tris order p f → f.apex < length f.list
+  apex_in p f w = omega (arith, w.funnel.funnel.apex_within, length-map f.list (point_of corners start))
+
+  pub few_points : (p : ℕ) (f : Listed) → p < length order → IsFunnelTo corners start tris order p f → length f.list + 1 ≤ length corners
+  few_points p f below w = omega (arith, w.few, from.outward.count, two_fewer corners tris from.fits, below)
+
+  module _ (p : ℕ) (later : 0 < p) (below : p < length order) where
+    abbrev q : ℕ
+    q = toward order p
+
+    -- what was read in the tree is what it has there: nothing at home,
+    module _ (tree : Tree) (grown : IsGrownOver corners start tris order p tree) (o : Option Listed)
+        (read : o ≡ slice_index_or tree.funnels (at_place order q) o) where
+      kept : KeepsFunnelTo corners start tris order q o
+      kept =
+          let within : at_place order q < length tree.funnels =
+          omega (arith, from.outward.in_list q (toward_below corners start tris order from p later below), grown.triangles) in
+          subst (KeepsFunnelTo corners start tris order q) (sym (get_or_read tree.funnels (at_place order q) o within read None))
+          (grown.funnels q (earlier corners start tris order from p later below))
+
+      pub none_at_home : o ≡ None → q ≡ 0
+      none_at_home is = subst (KeepsFunnelTo corners start tris order q) is kept
+
+      -- and the funnel at a later place
+      pub some_later : (f : Listed) → o ≡ Some f → (0 < q) × IsFunnelTo corners start tris order q f
+      some_later f is = subst (KeepsFunnelTo corners start tris order q) is kept
+
+    -- From home the first funnel is the one,
+    pub funnel_from_home : q ≡ 0 → (left right : ℕ) (f : Listed) → left ≡ left_of tris order p → right ≡ right_of tris order p
+        → ((some : List Tri) (home next : ℕ) → Fits corners some → IsInTri corners (tri_at some home) (whole start)
+        → IsSideOfTwo some right left home next → IsFunnelAt corners start left right 1 f)
+        → IsFunnelTo corners start tris order p f
+    funnel_from_home home left right f left_is right_is first =
+        let side = subst (λ k. IsSideOfTwo tris (right_of tris order p) (left_of tris order p) (at_place order k) (at_place order p)) home
+        (shared_back corners start tris order from p later below) in
+        let there = subst (λ i. IsSideOfTwo tris right i (at_place order 0) (at_place order p)) (sym left_is)
+        (subst (λ j. IsSideOfTwo tris j (left_of tris order p) (at_place order 0) (at_place order p)) (sym right_is) side) in
+        funnel_later corners start (left_of tris order p) (right_of tris order p) 1 p f (omega (arith, later))
+        (subst (λ i. IsFunnelAt corners start i (right_of tris order p) 1 f) left_is
+        (subst (λ j. IsFunnelAt corners start left j 1 f) right_is (first tris (at_place order 0) (at_place order p) from.fits from.home there)))
+
+    module _ (inner : 0 < q) where
+      within : q < length order
+      within = toward_below corners start tris order from p later below
+
+      -- and from a later place the next on the right or on the left.
+      goes : ((left_of tris order p ≡ left_of tris order q) × (right_of tris order p ≡ third_of tris order q))
+          ⊎ ((left_of tris order p ≡ third_of tris order q) × (right_of tris order p ≡ right_of tris order q))
+      goes =
+          let before = earlier corners start tris order from p later below in
+          let joined = from.outward.joined q inner within in
+          goes_on corners tris from.fits (left_of tris order q) (right_of tris order q) (at_place order q) (at_place order (toward order q))
+          (third_of tris order q) (left_of tris order p) (right_of tris order p) (at_place order p)
+          (shared_at corners start tris order from q inner within)
+          (third_numbered (tri_at tris (at_place order q)) (outward_at order q).side joined.side)
+          (shared_at corners start tris order from p later below)
+          (apart corners start tris order from p (toward order q) (omega (arith, joined.earlier, before)) below)
+
+      -- The side does not end where it begins,
+      not_one : ¬ (left_of tris order p ≡ right_of tris order p)
+      not_one e =
+          let has = (shared_at corners start tris order from p later below).has in
+          let end = right_of tris order p in
+          let loop = subst (λ i. HasSide (tri_at tris (at_place order p)) i end) e has in
+          (fitting_sides corners tris from.fits).one_way end end (at_place order p) (from.outward.in_list p below) loop loop
+
+      -- so it is on the right where it ends at the third corner,
+      pub funnel_on_right : (right m : ℕ) (f : Listed) → right ≡ right_of tris order p → m ≡ third_of tris order q → right ≡ m
+          → (IsSideOfTwo tris m (left_of tris order q) (at_place order q) (at_place order p)
+          → IsFunnelAt corners start (left_of tris order q) m (q + 1) f)
+          → IsFunnelTo corners start tris order p f
+      funnel_on_right right m f right_is third_is same next =
+          let end : m ≡ right_of tris order p = sym same ∙ right_is in
+          let left : left_of tris order p ≡ left_of tris order q = elim goes [
+            | inl w ↦ w.0
+            | inr w ↦ absurd (not_one (w.0 ∙ sym third_is ∙ end))
+          ] in
+          let side = subst (λ i. IsSideOfTwo tris m i (at_place order q) (at_place order p)) left
+          (subst (λ j. IsSideOfTwo tris j (left_of tris order p) (at_place order q) (at_place order p)) (sym end)
+          (shared_back corners start tris order from p later below)) in
+          funnel_later corners start (left_of tris order p) (right_of tris order p) (q + 1) p f
+          (omega (arith, earlier corners start tris order from p later below))
+          (subst (λ i. IsFunnelAt corners start i (right_of tris order p) (q + 1) f) (sym left)
+          (subst (λ j. IsFunnelAt corners start (left_of tris order q) j (q + 1) f) end (next side)))
+
+      -- and on the left otherwise
+      pub funnel_on_left : (right m : ℕ) (f : Listed) → right ≡ right_of tris order p → m ≡ third_of tris order q → ¬ (right ≡ m)
+          → (IsSideOfTwo tris (right_of tris order q) m (at_place order q) (at_place order p)
+          → IsFunnelAt corners start m (right_of tris order q) (q + 1) f)
+          → IsFunnelTo corners start tris order p f
+      funnel_on_left right m f right_is third_is other next =
+          let both : (left_of tris order p ≡ third_of tris order q) × (right_of tris order p ≡ right_of tris order q) =
+          elim goes [ inl w ↦ absurd (other (right_is ∙ w.1 ∙ sym third_is)) | inr w ↦ w ] in
+          let begin : left_of tris order p ≡ m = both.0 ∙ sym third_is in
+          let side = subst (λ i. IsSideOfTwo tris (right_of tris order q) i (at_place order q) (at_place order p)) begin
+          (subst (λ j. IsSideOfTwo tris j (left_of tris order p) (at_place order q) (at_place order p)) both.1
+          (shared_back corners start tris order from p later below)) in
+          funnel_later corners start (left_of tris order p) (right_of tris order p) (q + 1) p f
+          (omega (arith, earlier corners start tris order from p later below))
+          (subst (λ i. IsFunnelAt corners start i (right_of tris order p) (q + 1) f) (sym begin)
+          (subst (λ j. IsFunnelAt corners start m j (q + 1) f) (sym both.1) (next side)))

@@ -1,0 +1,94 @@
+use Rattle.std.proofs.Common.{◌≡◌, subst, ◌+◌, ◌≤◌, length, arith}
+use Rattle.meshes.proofs.Sides.{two_fewer}
+use Rattle.shared_seq.specs.Digits.{binary_digits}
+use Rattle.path_tree.proofs.GrownOver.{grown_at_end}
+use Rattle.path_tree.proofs.TreeSteps.{home_steps, tree_steps}
+use Rattle.path_tree.proofs.tree.PathTree.build.Goals as goal
+use Rattle.path_tree.specs.Growing.{IsGrownOver}
+
+pub returns-in_err-growth-clause-steps : goal.returns-in_err-growth-clause-steps
+returns-in_err-growth-clause-steps g c =
+    let n = length (g.T.Turns.corners c.args.board.now) in
+    let count = two_fewer (g.T.Turns.corners c.args.board.now) c.args.mesh.now c.requires.fits in
+    omega (arith, c.at_home.ensures.steps, home_steps n (omega (arith, count)), tree_steps 1 n (binary_digits n) (omega (arith, count)))
+
+pub loop-p-init : goal.loop-p-init
+loop-p-init g c =
+    let corners = g.T.Turns.corners c.args.board.now in
+    let count = two_fewer corners c.args.mesh.now c.requires.fits in
+    record {
+      later = omega arith;
+      grown = subst (λ order. IsGrownOver corners (g.T.Turns.start c.args.board.now) c.args.mesh.now order 1
+          (record { before = c.in_ok-growth.growth.before.items; funnels = c.in_ok-growth.growth.funnels.items })) c.deref.ensures.value
+          c.in_ok-growth.ensures.grown;
+      steps = omega (arith, c.at_home.ensures.steps, home_steps (length corners) (omega (arith, count)));
+    }
+
+pub returns-in_err-go_on-clause-steps : goal.returns-in_err-go_on-clause-steps
+returns-in_err-go_on-clause-steps g c =
+    let n = length (g.T.Turns.corners c.args.board.now) in
+    let count = two_fewer (g.T.Turns.corners c.args.board.now) c.args.mesh.now c.requires.fits in
+    let p = c.loop-p.p in
+    let within : p + 1 ≤ n =
+    omega (arith, c.loop-p-test.true, c.len-p-end.ensures, c.in_ok-order.order.ok.0, c.in_ok-order.ensures.count, count) in
+    omega (arith, c.loop-p.invariant.steps, c.go_on.ensures.steps, tree_steps (p + 1) n (binary_digits n) within)
+
+pub loop-p-preserved : goal.loop-p-preserved
+loop-p-preserved g c =
+    let corners = g.T.Turns.corners c.args.board.now in
+    let before = c.loop-p.invariant in
+    record {
+      later = omega arith;
+      grown = subst (λ order. IsGrownOver corners (g.T.Turns.start c.args.board.now) c.args.mesh.now order (c.loop-p.p + 1)
+          (record { before = c.go_on.new.self.before.items; funnels = c.go_on.new.self.funnels.items })) c.deref-in-loop-p.ensures.value
+          c.in_ok-go_on.ensures.grown;
+      steps = omega (arith, before.steps, c.go_on.ensures.steps);
+    }
+
+pub invariant_of-result : goal.invariant_of-result
+invariant_of-result g c =
+    let corners = g.T.Turns.corners c.args.board.now in
+    let all : c.loop-p.p ≡ length c.in_ok-order.order.items =
+    omega (
+      arith,
+      c.loop-p.auto.p-end,
+      c.loop-p-test.false,
+      c.len-p-end.ensures,
+      c.in_ok-order.order.ok.0,
+      c.in_ok-order.ensures.count,
+      c.requires.home,
+    ) in
+    record {
+      corners = corners;
+      start = g.T.Turns.start c.args.board.now;
+      tris = c.args.mesh.now;
+      fits = c.requires.fits;
+      grown = grown_at_end corners (g.T.Turns.start c.args.board.now) c.args.mesh.now c.args.home c.in_ok-order.order.items c.loop-p.p
+          (record { before = c.loop-p.growth.before.items; funnels = c.loop-p.growth.funnels.items }) c.requires.fits c.requires.home
+          c.requires.start c.in_ok-order.ensures all c.loop-p.invariant.grown;
+    }
+
+pub returns-clause-grown : goal.returns-clause-grown
+returns-clause-grown g c =
+    let corners = g.T.Turns.corners c.args.board.now in
+    let all : c.loop-p.p ≡ length c.in_ok-order.order.items =
+    omega (
+      arith,
+      c.loop-p.auto.p-end,
+      c.loop-p-test.false,
+      c.len-p-end.ensures,
+      c.in_ok-order.order.ok.0,
+      c.in_ok-order.ensures.count,
+      c.requires.home,
+    ) in
+    grown_at_end corners (g.T.Turns.start c.args.board.now) c.args.mesh.now c.args.home c.in_ok-order.order.items c.loop-p.p
+    (record { before = c.loop-p.growth.before.items; funnels = c.loop-p.growth.funnels.items }) c.requires.fits c.requires.home
+    c.requires.start c.in_ok-order.ensures all c.loop-p.invariant.grown
+
+pub returns-clause-steps : goal.returns-clause-steps
+returns-clause-steps g c =
+    let n = length (g.T.Turns.corners c.args.board.now) in
+    let count = two_fewer (g.T.Turns.corners c.args.board.now) c.args.mesh.now c.requires.fits in
+    let p = c.loop-p.p in
+    let within : p ≤ n = omega (arith, c.len-p-end.ensures, c.in_ok-order.order.ok.0, c.in_ok-order.ensures.count, count) in
+    omega (arith, c.loop-p.invariant.steps, tree_steps p n (binary_digits n) within)
