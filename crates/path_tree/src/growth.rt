@@ -109,8 +109,12 @@ impl Growth {
     }
 }
 
-// What is before a point of the home triangle: the start, or nothing where both are one point. It takes one step.
-fn straight<T: Turns, L: Ledger>(board: &T, y: Spot, steps: &mut Steps<L>) -> Option<Spot>
+// What is before a point of a triangle with the start in it: the start, or nothing where both are one point. It takes one step.
+pub(crate) fn straight<T: Turns, L: Ledger>(
+    board: &T,
+    y: Spot,
+    steps: &mut Steps<L>,
+) -> Option<Spot>
     requires { IsNamed (T.corners board.now) y }
     ensures before { let at = point_named (T.corners board.now) (T.start board.now) (T.goal board.now) in
         (tris : List Tri) (k : ℕ) → Fits (T.corners board.now) tris → k < length tris

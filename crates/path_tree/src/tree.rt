@@ -10,7 +10,7 @@ ghost use Rattle.shared_seq.specs.Digits.{binary_digits};
 ghost use Rattle.funnel_walk.specs.Names.{AppendsPath, named_points};
 ghost use Rattle.path_tree.specs.Grown.{IsEntered, IsFromNamed, IsGrownFrom, IsKept, Names, kept_point};
 
-use crate::growth::Growth;
+use crate::growth::{Growth, straight};
 use exact_plane::{Memory, Spot, Steps, Turns};
 use shared_funnel::{Funnel, spot};
 use std::alloc::Global;
@@ -90,7 +90,7 @@ impl PathTree {
         ensures steps { let b = binary_digits (length (T.corners board.now)) in steps.new ≤ steps.old + 24 * (b * b) }
     {
         let Some(funnel) = &self.funnels[tri as usize] else {
-            return straight(board, steps);
+            return straight(board, Spot::Goal, steps);
         };
         let near = near_goal(board, mesh, tri, funnel, steps);
         if board.same(near, Spot::Goal, steps) {
@@ -134,21 +134,6 @@ impl PathTree {
             Spot::Corner(i) => self.parent(i),
             _ => None,
         }
-    }
-}
-
-// What is before a goal in a triangle that has the start in it.
-fn straight<T: Turns, L: Ledger>(board: &T, steps: &mut Steps<L>) -> Option<Spot>
-    ensures before { (tris : List Tri) (k : ℕ) → Fits (T.corners board.now) tris → k < length tris
-        → IsInTri (T.corners board.now) (tri_at tris k) (whole (T.start board.now))
-        → IsInTri (T.corners board.now) (tri_at tris k) (whole (T.goal board.now))
-        → IsFromNamed (T.corners board.now) (T.start board.now) (T.goal board.now) result }
-    ensures steps { steps.new ≡ steps.old + 1 }
-{
-    if board.same(Spot::Start, Spot::Goal, steps) {
-        None
-    } else {
-        Some(Spot::Start)
     }
 }
 
