@@ -1,7 +1,6 @@
 -- The funnel of a triangle that is entered over a side: its numbers, how many there are, and what comes before a point that is reached.
-use Rattle.std.proofs.Common.{◌≡◌, ◌≢◌, inl, inr, sym, ap, subst, ◌∙◌, ℕ, zero, suc, ◌+◌, ◌*◌, ◌^◌, ◌<◌, ◌≤◌, List, length, get_or, slice_index}
+use Rattle.std.proofs.Common.{◌≡◌, ◌≢◌, sym, ap, subst, ◌∙◌, ℕ, zero, suc, ◌+◌, ◌*◌, ◌^◌, ◌<◌, ◌≤◌, List, length, get_or, slice_index}
 use Rattle.std.proofs.Common.{Option, Some, None, arith}
-use Rattle.std.proofs.lemmas.Bool.{cases_lt}
 use Rattle.std.proofs.lemmas.List.{get_or_read, length-map}
 use Rattle.std.proofs.lemmas.Nat.{mul-le}
 use Rattle.plane.specs.Point.{Point, whole}
@@ -13,29 +12,12 @@ use Rattle.meshes.specs.declared.tri.Tri.{Tri}
 use Rattle.funnels.specs.Funnel.{IsReachedFrom}
 use Rattle.exact_plane.specs.declared.turns.Spot.{Spot}
 use Rattle.exact_plane.specs.declared.turns.Spot.TheVariants.{Corner, Start}
-use Rattle.shared_funnel.proofs.Numbers.{corner_point, source_point}
 use Rattle.shared_funnel.proofs.ReachedBefore.{before_point}
-use Rattle.shared_funnel.proofs.SourceNumber.{number_of_source}
 use Rattle.shared_funnel.specs.Listed.{Listed, point_of, points_of}
 use Rattle.shared_seq.proofs.Digits.{binary_digits_enough, binary_digits_mono}
 use Rattle.shared_seq.specs.Digits.{binary_digits}
+use Rattle.path_tree.proofs.NamedPoints.{named_by_number}
 use Rattle.path_tree.specs.Grown.{IsEntered, IsGrownFrom, KeepsFunnel, Names, Tree, funnel_at}
-
--- ---- names
-
--- the name of a number names its point, where that of the start has the source's number alone
-pub names_of_number : (corners : List Point) (start : Point) (n i : ℕ) (s : Spot) → n ≡ length corners → i ≤ n → (i ≢ n → s ≡ Corner i)
-    → (i ≡ n → s ≡ Start) → (point_of corners start i ≡ start → i ≡ length corners) → Names corners start s (point_of corners start i)
-names_of_number corners start n i s count le corner source alone = elim (cases_lt i n) [
-  | inl less ↦
-      let below : i < length corners = omega (arith, less, count) in
-      subst (λ name. Names corners start name (point_of corners start i)) (sym (corner (λ e. omega (arith, less, e))))
-      (below, sym (corner_point corners start i below), λ same. omega (arith, alone same, below))
-  | inr more ↦
-      let e : i ≡ length corners = omega (arith, le, more, count) in
-      subst (λ name. Names corners start name (point_of corners start i)) (sym (source (omega (arith, e, count))))
-      (subst (λ k. point_of corners start k ≡ start) (sym e) (source_point corners start))
-]
 
 -- ---- a triangle that is entered
 
@@ -69,13 +51,9 @@ module _ (corners : List Point) (start : Point) (tris : List Tri) (k : ℕ) (f :
         → (x : Point) × Names corners start s x × (x ≢ y → IsBefore corners start y x)
     near_is inside m i s count is corner source =
         let n : m + 2 ≡ length corners = omega (arith, count, two_fewer corners tris fits) in
-        let within : h < length f.list = omega (arith, reached.within, length-map f.list (point_of corners start)) in
-        let le : slice_index f.list h ≤ length corners = e.funnel.numbers h 0 within in
-        let alone = number_of_source corners start tris e.left e.right e.diagonals fits f e.funnel h within in (
+        let within : h < length f.list = omega (arith, reached.within, length-map f.list (point_of corners start)) in (
           near,
-          subst (λ k. Names corners start s (point_of corners start k)) is
-              (names_of_number corners start (m + 2) i s n (omega (arith, is, le, n)) corner source
-              (subst (λ k. point_of corners start k ≡ start → k ≡ length corners) (sym is) alone)),
+          named_by_number corners start tris e.left e.right e.diagonals fits f e.funnel h within (m + 2) i s n is corner source,
           before_point corners start tris k e.left e.right e.third e.diagonals fits e.beyond f e.funnel h y inside reached,
         )
 
