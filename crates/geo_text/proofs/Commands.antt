@@ -6,7 +6,7 @@ use Rattle.std.proofs.lemmas.List.{drop_more, get_or-drop, get_or-map, length-dr
 use Rattle.std.proofs.lemmas.Result.{IfOk-weaker}
 use Rattle.std.proofs.lemmas.Slice.Eq.{bytes_eq-Decides}
 use Rattle.std.specs.List.{list_any}
-use Rattle.std.specs.Prelude.{IfOk, codes, nat_lt}
+use Rattle.std.specs.Prelude.{IfOk, IsOkAnd, MatchResult, codes, nat_lt}
 use Rattle.std.specs.Str.{bytes_eq}
 use Rattle.plane.specs.Point.{Point}
 use Rattle.plane.specs.declared.limits.TheConstants.{MAX_CHAIN, MAX_CORNERS}
@@ -75,6 +75,15 @@ pub refused : {T U : Type 0} (fault : Option Bad) (value : T) (command : U) (fou
 refused None value command found e = cc
 refused (Some bad) value command found e = let same : found ≡ bad = cc in rw same refl
 
+-- so it is where a point is made to a command by `map`
+made_of_point : (make : Point → Command) (fault : Option Bad) (p : Point) (read : Result Point Bad) (reading : Result Command Bad)
+    → read ≡ unless fault p → MatchResult read (λ x. IsOkAnd reading (λ made. made ≡ make x)) (λ e. reading ≡ Err e) → reading ≡ unless fault (make p)
+made_of_point make None p (Ok x) (Ok made) is e = let same : x ≡ p = cc in ap Ok (e ∙ ap make same)
+made_of_point make None p (Ok x) (Err fault) is e = absurd e
+made_of_point make (Some fault) p (Ok x) reading is e = cc
+made_of_point make None p (Err fault) reading is e = cc
+made_of_point make (Some bad) p (Err fault) reading is e = let same : fault ≡ bad = cc in e ∙ ap Err same
+
 -- a list that is not refused is neither too short nor too long
 in_bounds : (odd few many : Bool) (rest : Option Bad)
     → (if odd then Some bad.Fields else if few then Some bad.Few else if many then Some bad.Many else rest) ≡ None
@@ -121,11 +130,15 @@ reading_is_well_sized (word ∷ fields) =
     (list_is_well_sized (λ points. command.Check points) 1 MAX_CHAIN fields (list_fault 1 MAX_CHAIN fields) (omega arith) (λ points h. h) refl)
     (either (bytes_eq word (codes "path")) _ _
     (fixed_is_well_sized (fixed_fault 4 fields) (command.Path (point_of fields) (point_of (drop 2 fields))) tt)
+    (either (bytes_eq word (codes "tree")) _ _
+    (fixed_is_well_sized (fixed_fault 2 fields) (command.Tree (point_of fields)) tt)
+    (either (bytes_eq word (codes "reach")) _ _
+    (fixed_is_well_sized (fixed_fault 2 fields) (command.Reach (point_of fields)) tt)
     (either (bytes_eq word (codes "see")) _ _
     (fixed_is_well_sized (fixed_fault 2 fields) (command.See (point_of fields)) tt)
     (either (bytes_eq word (codes "kernel")) _ _
     (fixed_is_well_sized (fixed_fault 0 fields) command.Kernel tt)
-    (either (list_any (λ later. bytes_eq later word) later_words) (Err bad.Later) (Err bad.Word) tt tt))))))
+    (either (list_any (λ later. bytes_eq later word) later_words) (Err bad.Later) (Err bad.Word) tt tt))))))))
 
 -- what a record asks for, by its word
 pub reading_by_word : {E : Type 0} (word : List ℕ) → bytes_eq [] word ≡ false → (fields : List (List ℕ))
@@ -136,15 +149,26 @@ reading_by_word word some (first ∷ fields) e found h =
     let is : first ≡ word = (bytes_eq-Decides first word).0 e in
     IfOk-weaker found _ _ (λ reading read. rw is read) h
 
+-- so it is of the one point that it has
+pub reading_of_point : (word : List ℕ) → bytes_eq [] word ≡ false → (fields : List (List ℕ)) → bytes_eq (get_or fields 0 []) word ≡ true
+    → (make : Point → Command) (read : Result Point Bad) (reading : Result Command Bad)
+    → reading_of (word ∷ drop 1 fields) ≡ unless (fixed_fault 2 (drop 1 fields)) (make (point_of (drop 1 fields)))
+    → read ≡ unless (fixed_fault 2 (drop 1 fields)) (point_of (drop 1 fields))
+    → MatchResult read (λ x. IsOkAnd reading (λ made. made ≡ make x)) (λ e. reading ≡ Err e) → reading ≡ reading_of fields
+reading_of_point word some fields is make read reading by_word one mapped =
+    reading_by_word {E = Bad} word some fields is (Ok reading)
+    (made_of_point make (fixed_fault 2 (drop 1 fields)) (point_of (drop 1 fields)) read reading one mapped ∙ sym by_word)
+
 -- a record whose first field is no word that is answered, and a record with no field
 pub reading_of_other : (fields : List (List ℕ)) → bytes_eq (get_or fields 0 []) (codes "polygon") ≡ false
     → bytes_eq (get_or fields 0 []) (codes "inside") ≡ false
     → bytes_eq (get_or fields 0 []) (codes "check") ≡ false → bytes_eq (get_or fields 0 []) (codes "path") ≡ false
+    → bytes_eq (get_or fields 0 []) (codes "tree") ≡ false → bytes_eq (get_or fields 0 []) (codes "reach") ≡ false
     → bytes_eq (get_or fields 0 []) (codes "see") ≡ false → bytes_eq (get_or fields 0 []) (codes "kernel") ≡ false
     → reading_of fields ≡ Err (if list_any (λ later. bytes_eq later (get_or fields 0 [])) later_words then bad.Later else bad.Word)
-reading_of_other [] no_polygon no_inside no_check no_path no_see no_kernel = refl
-reading_of_other (word ∷ fields) no_polygon no_inside no_check no_path no_see no_kernel =
-    rw (no_polygon, no_inside, no_check, no_path, no_see, no_kernel) (by_later (list_any (λ later. bytes_eq later word) later_words))
+reading_of_other [] no_polygon no_inside no_check no_path no_tree no_reach no_see no_kernel = refl
+reading_of_other (word ∷ fields) no_polygon no_inside no_check no_path no_tree no_reach no_see no_kernel =
+    rw (no_polygon, no_inside, no_check, no_path, no_tree, no_reach, no_see, no_kernel) (by_later (list_any (λ later. bytes_eq later word) later_words))
   where
     by_later : (b : Bool) → ◌≡◌ {A = Result Command Bad} (if b then Err bad.Later else Err bad.Word) (Err (if b then bad.Later else bad.Word))
     by_later true = refl

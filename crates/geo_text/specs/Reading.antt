@@ -13,7 +13,7 @@ use Rattle.geo_text.specs.declared.command.Command.TheVariants as command
 
 -- the words whose commands nothing answers yet
 abbrev pub later_words : List (List ℕ)
-later_words = codes "tree" ∷ codes "reach" ∷ codes "hull" ∷ []
+later_words = codes "hull" ∷ []
 
 -- the place of the first field that fails a test, counted from a given place on
 abbrev pub first_failing : (List ℕ → Bool) → ℕ → List (List ℕ) → Option ℕ
@@ -64,6 +64,8 @@ reading_of (word ∷ fields) =
     else if bytes_eq word (codes "inside") then unless (fixed_fault 2 fields) (command.Inside (point_of fields))
     else if bytes_eq word (codes "check") then unless (list_fault 1 MAX_CHAIN fields) (command.Check (points_of fields))
     else if bytes_eq word (codes "path") then unless (fixed_fault 4 fields) (command.Path (point_of fields) (point_of (drop 2 fields)))
+    else if bytes_eq word (codes "tree") then unless (fixed_fault 2 fields) (command.Tree (point_of fields))
+    else if bytes_eq word (codes "reach") then unless (fixed_fault 2 fields) (command.Reach (point_of fields))
     else if bytes_eq word (codes "see") then unless (fixed_fault 2 fields) (command.See (point_of fields))
     else if bytes_eq word (codes "kernel") then unless (fixed_fault 0 fields) command.Kernel
     else if list_any (λ later. bytes_eq later word) later_words then Err bad.Later
@@ -75,6 +77,8 @@ IsWellSized (command.Polygon points) = (3 ≤ length points) × (length points �
 IsWellSized (command.Inside point) = Unit {0}
 IsWellSized (command.Check points) = (1 ≤ length points) × (length points ≤ MAX_CHAIN)
 IsWellSized (command.Path from to) = Unit {0}
+IsWellSized (command.Tree point) = Unit {0}
+IsWellSized (command.Reach point) = Unit {0}
 IsWellSized (command.See point) = Unit {0}
 IsWellSized command.Kernel = Unit {0}
 

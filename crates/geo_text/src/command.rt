@@ -12,6 +12,10 @@ pub enum Command {
     Check(Points),
     /// Give the taut chain from the first point to the second.
     Path(Pt, Pt),
+    /// Give what comes before each vertex on its path from this point, and keep the point as the source of the tree.
+    Tree(Pt),
+    /// Give the taut chain from the source of the tree to this point.
+    Reach(Pt),
     /// Give the parts of the edges that this point sees.
     See(Pt),
     /// Give the corners of the polygon's kernel.
@@ -38,6 +42,8 @@ pub enum Bad {
     Clash(u32, u32),
     /// No polygon was accepted yet.
     NoPolygon,
+    /// There is a polygon, and no tree in it was accepted yet.
+    NoTree,
     /// The command's point with this number, counted from 1, is the first that is not in the polygon.
     Outside(u32),
     /// The word is known, and nothing answers it yet.

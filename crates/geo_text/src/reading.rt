@@ -19,7 +19,7 @@ use plane::{MAX_CHAIN, MAX_COORDINATE, MAX_CORNERS};
 use std::alloc::Global;
 
 // The words whose commands nothing answers yet.
-const LATER: [&[u8]; 3] = [b"tree", b"reach", b"hull"];
+const LATER: [&[u8]; 1] = [b"hull"];
 
 // The command that a record is, or why it is none.
 pub fn command(alloc: Global, row: &ByteRecord) -> Result<Result<Command, Bad>, Memory>
@@ -30,7 +30,7 @@ pub fn command(alloc: Global, row: &ByteRecord) -> Result<Result<Command, Bad>, 
         return polygon(alloc, row);
     }
     if word == b"inside".as_slice() {
-        return inside(alloc, row);
+        return Ok(one_point(alloc, row)?.map(Command::Inside));
     }
     if word == b"check".as_slice() {
         return check(alloc, row);
@@ -38,8 +38,14 @@ pub fn command(alloc: Global, row: &ByteRecord) -> Result<Result<Command, Bad>, 
     if word == b"path".as_slice() {
         return path(alloc, row);
     }
+    if word == b"tree".as_slice() {
+        return Ok(one_point(alloc, row)?.map(Command::Tree));
+    }
+    if word == b"reach".as_slice() {
+        return Ok(one_point(alloc, row)?.map(Command::Reach));
+    }
     if word == b"see".as_slice() {
-        return see(alloc, row);
+        return Ok(one_point(alloc, row)?.map(Command::See));
     }
     if word == b"kernel".as_slice() {
         return kernel(alloc, row);
@@ -54,17 +60,6 @@ fn polygon(alloc: Global, row: &ByteRecord) -> Result<Result<Command, Bad>, Memo
 {
     match points(alloc, row, 3, MAX_CORNERS)? {
         Ok(points) => Ok(Ok(Command::Polygon(points))),
-        Err(fault) => Ok(Err(fault)),
-    }
-}
-
-// An `inside` record as a command.
-fn inside(alloc: Global, row: &ByteRecord) -> Result<Result<Command, Bad>, Memory>
-    ensures { IfOk result (λ reading. reading ≡ unless (fixed_fault 2 (after_word row.now))
-        (Command.Inside (point_of (after_word row.now)))) }
-{
-    match fixed(alloc, row, 2)? {
-        Ok(numbers) => Ok(Ok(Command::Inside(point(numbers[0], numbers[1])))),
         Err(fault) => Ok(Err(fault)),
     }
 }
@@ -95,16 +90,6 @@ fn path(alloc: Global, row: &ByteRecord) -> Result<Result<Command, Bad>, Memory>
     }
 }
 
-// A `see` record as a command.
-fn see(alloc: Global, row: &ByteRecord) -> Result<Result<Command, Bad>, Memory>
-    ensures { IfOk result (λ reading. reading ≡ unless (fixed_fault 2 (after_word row.now)) (Command.See (point_of (after_word row.now)))) }
-{
-    match fixed(alloc, row, 2)? {
-        Ok(numbers) => Ok(Ok(Command::See(point(numbers[0], numbers[1])))),
-        Err(fault) => Ok(Err(fault)),
-    }
-}
-
 // A `kernel` record as a command.
 fn kernel(alloc: Global, row: &ByteRecord) -> Result<Result<Command, Bad>, Memory>
     ensures { IfOk result (λ reading. reading ≡ unless (fixed_fault 0 (after_word row.now)) Command.Kernel) }
@@ -123,6 +108,16 @@ fn word_fault(word: &[u8]) -> Bad
         Bad::Later
     } else {
         Bad::Word
+    }
+}
+
+// The point of a record that has just one.
+fn one_point(alloc: Global, row: &ByteRecord) -> Result<Result<Pt, Bad>, Memory>
+    ensures { IfOk result (λ reading. reading ≡ unless (fixed_fault 2 (after_word row.now)) (point_of (after_word row.now))) }
+{
+    match fixed(alloc, row, 2)? {
+        Ok(numbers) => Ok(Ok(point(numbers[0], numbers[1]))),
+        Err(fault) => Ok(Err(fault)),
     }
 }
 

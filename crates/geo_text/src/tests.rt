@@ -29,7 +29,7 @@ fn scripts(rt: HostRuntime) -> Result<(), Fail> {
         ("a blank before a quote", b" \"kernel\"\nkernel\n", b"bad,word\nkernel\n"),
         ("not text", b"\xFF\xFE\npolygon,0,0,\xFF,0,1,1\n", b"bad,word\nbad,number,3\n"),
         ("other words", b"Polygon\npolygons\n,\n\"\"\n \n", b"bad,word\nbad,word\nbad,word\nbad,word\nbad,word\n"),
-        ("later words", b"tree\nreach,0\nhull,x\n", b"bad,later\nbad,later\nbad,later\n"),
+        ("later words", b"hull\nhull,0\nhull,x\n", b"bad,later\nbad,later\nbad,later\n"),
         ("inside", b"inside,1,-2\ninside,1\ninside,1,2,3\ninside,x,1\ninside,1,1000001\ninside\n",
             b"inside 1,-2\nbad,fields\nbad,fields\nbad,number,1\nbad,range,2\nbad,fields\n"),
         ("check", b"check,1,-2\ncheck,1,2,3,4\ncheck\ncheck,1\ncheck,x,1\ncheck,1,1000001\n",
@@ -39,6 +39,10 @@ fn scripts(rt: HostRuntime) -> Result<(), Fail> {
         ("path of no numbers", b"path,x,2,3,4\npath,1,2,3,x\npath,1000001,2,,x\n", b"bad,number,1\nbad,number,4\nbad,number,3\n"),
         ("path past the limits", b"path,1000001,2,3,4\npath,1,2,3,-1000001\npath,1,-1000001,1000001,4\n", b"bad,range,1\nbad,range,4\nbad,range,2\n"),
         ("path at the limits", b"path,-1000000,1000000,1000000,-1000000\n", b"path -1000000,1000000 1000000,-1000000\n"),
+        ("tree", b"tree,1,-2\ntree,1\ntree,1,2,3\ntree,x,1\ntree,1,1000001\ntree\n",
+            b"tree 1,-2\nbad,fields\nbad,fields\nbad,number,1\nbad,range,2\nbad,fields\n"),
+        ("reach", b"reach,1,-2\nreach,1\nreach,1,2,3\nreach,1,x\nreach,1000001,1\nreach\n",
+            b"reach 1,-2\nbad,fields\nbad,fields\nbad,number,2\nbad,range,1\nbad,fields\n"),
         ("see", b"see,1,-2\nsee,1\nsee,1,2,3\nsee,x,1\nsee,1,1000001\nsee\n",
             b"see 1,-2\nbad,fields\nbad,fields\nbad,number,1\nbad,range,2\nbad,fields\n"),
         ("kernel", b"kernel\nkernel,0\nkernel,x\nkernel,\n", b"kernel\nbad,fields\nbad,fields\nbad,fields\n"),
@@ -91,6 +95,7 @@ fn refusals(rt: HostRuntime) -> Result<(), Fail> {
         (Bad::Range(8192), b"bad,range,8192\n"),
         (Bad::Clash(0, 4_294_967_295), b"bad,clash,0,4294967295\n"),
         (Bad::NoPolygon, b"bad,no_polygon\n"),
+        (Bad::NoTree, b"bad,no_tree\n"),
         (Bad::Outside(2), b"bad,outside,2\n"),
         (Bad::Later, b"bad,later\n"),
     ];
@@ -257,6 +262,14 @@ fn put_command<L: Ledger>(
             put_word(out, "path")?;
             put_point(out, &from, steps)?;
             put_point(out, &to, steps)?
+        }
+        Command::Tree(point) => {
+            put_word(out, "tree")?;
+            put_point(out, &point, steps)?
+        }
+        Command::Reach(point) => {
+            put_word(out, "reach")?;
+            put_point(out, &point, steps)?
         }
         Command::See(point) => {
             put_word(out, "see")?;
