@@ -1,4 +1,4 @@
-use Rattle.std.proofs.Common.{◌≡◌, sym, subst, ◌+◌, Some, length, arith}
+use Rattle.std.proofs.Common.{◌≡◌, sym, ap, subst, ◌∙◌, ◌+◌, Some, length, slice_index, arith}
 use Rattle.std.proofs.lemmas.List.{length-map}
 use Rattle.rings.specs.Ring.{vertex}
 use Rattle.meshes.proofs.Sides.{two_fewer}
@@ -48,9 +48,11 @@ returns-clause-grown g c =
     let w = c.in_ok-funnel.ensures.funnel in
     let reached = c.place_of_third-place.ensures.reached in
     let count : c.count.result + 2 ≡ length corners = omega (arith, two_fewer corners tris from.fits, c.count.ensures.number) in
+    let number : c.number.result ≡ slice_index f.list c.place_of_third-place.result =
+    c.number.ensures.number ∙ ap (slice_index f.list) (omega arith) in
     let named = third_named corners start tris (left_of tris order p) (right_of tris order p) p from.fits f w c.place_of_third-place.result
     (omega (arith, reached.within, length-map f.list (point_of corners start)))
-    (c.count.result + 2) c.number.result c.spot-near.result count c.number.ensures.number c.spot-near.ensures.corner
+    (c.count.result + 2) c.number.result c.spot-near.result count number c.spot-near.ensures.corner
     c.spot-near.ensures.start (at_place order p) (third_of tris order p)
     (beyond_at corners start tris order from p c.requires.later c.requires.within) reached in
     grown_more corners start tris order from p c.requires.later c.requires.within
