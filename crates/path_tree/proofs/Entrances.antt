@@ -3,34 +3,13 @@ use Rattle.std.proofs.Common.{◌≡◌, sym, subst, List, length, ℕ, ◌<◌,
 use Rattle.plane.specs.Point.{Point, whole}
 use Rattle.meshes.proofs.Sides.{ends_below}
 use Rattle.meshes.specs.Fits.{Fits, IsInTri, IsSideOfTwo}
-use Rattle.meshes.specs.Mesh.{side_begin, side_end}
 use Rattle.meshes.specs.Side.{tri_at}
 use Rattle.meshes.specs.declared.tri.Tri.{Tri}
 use Rattle.tri_mesh.specs.Outward.{IsOutward, outward_at}
 use Rattle.tri_mesh.specs.declared.outward.Outward.{Outward}
 use Rattle.shared_funnel.proofs.Doors.{beyond_of, has_numbered, side_of_both, third_numbered}
 use Rattle.shared_funnel.specs.Listed.{IsBeyond}
-use Rattle.shared_funnel.specs.Third.{side_third}
-use Rattle.path_tree.specs.Growing.{IsFromStart}
-
--- the triangle at a place,
-abbrev pub at_place : List Outward → ℕ → ℕ
-at_place order p = (outward_at order p).tri
-
--- the corners at the ends of the side over which it is entered, and the third one,
-module _ (tris : List Tri) (order : List Outward) (p : ℕ) where
-  abbrev pub left_of : ℕ
-  left_of = side_begin (tri_at tris (at_place order p)) (outward_at order p).side
-
-  abbrev pub right_of : ℕ
-  right_of = side_end (tri_at tris (at_place order p)) (outward_at order p).side
-
-  abbrev pub third_of : ℕ
-  third_of = side_third (tri_at tris (at_place order p)) (outward_at order p).side
-
--- and the place of the one from which it is reached
-abbrev pub toward : List Outward → ℕ → ℕ
-toward order p = (outward_at order p).toward
+use Rattle.path_tree.specs.Growing.{IsFromStart, at_place, left_of, right_of, third_of, toward}
 
 -- an order outward from a triangle with the start in it
 pub from_start : (corners : List Point) (start : Point) (tris : List Tri) (home : ℕ) (order : List Outward) → Fits corners tris

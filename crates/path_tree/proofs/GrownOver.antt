@@ -1,5 +1,5 @@
 -- A tree of paths over the first places of an order outward: at home, at one more place, and at all.
-use Rattle.std.proofs.Common.{◌≡◌, ◌≢◌, inl, inr, refl, sym, subst, ◌∙◌, List, length, ℕ, ◌+◌, ◌%◌, ◌<◌, Option, Some, None, set, slice_index_or, arith}
+use Rattle.std.proofs.Common.{◌≡◌, ◌≢◌, inl, inr, refl, sym, subst, ◌∙◌, List, length, ℕ, ◌+◌, ◌%◌, ◌<◌, ◌≤◌, Option, Some, None, set, slice_index_or, arith}
 use Rattle.std.proofs.lemmas.Bool.{cases_eq}
 use Rattle.std.proofs.lemmas.List.{get_or-set_other, get_or-set_same, length-set}
 use Rattle.plane.specs.Point.{Point, whole}
@@ -12,27 +12,27 @@ use Rattle.tri_mesh.specs.Outward.{IsOutward, outward_at}
 use Rattle.tri_mesh.specs.declared.outward.Outward.{Outward}
 use Rattle.exact_plane.specs.declared.turns.Spot.{Spot}
 use Rattle.shared_funnel.specs.Listed.{Listed}
-use Rattle.path_tree.proofs.Entrances.{apart, at_place, beyond_at, from_start, left_of, right_of, third_below, third_of, toward}
+use Rattle.path_tree.proofs.Entrances.{apart, beyond_at, from_start, third_below}
 use Rattle.path_tree.proofs.Parents.{HasParent, parent_written}
 use Rattle.path_tree.proofs.TriCorners.{corner_cases, side_corners}
 use Rattle.path_tree.specs.Grown.{IsFromNamed, IsGrownFrom, KeepsFunnel, Tree, before_at, funnel_at}
-use Rattle.path_tree.specs.Growing.{HasCorner, IsFromStart, IsFunnelTo, IsGrownOver, KeepsFunnelTo}
+use Rattle.path_tree.specs.Growing.{HasCorner, IsFromStart, IsFunnelTo, IsGrownOver, KeepsFunnelTo, at_place, left_of, right_of, third_of, toward}
 
 module _ (corners : List Point) (start : Point) (tris : List Tri) (order : List Outward) (from : IsFromStart corners start tris order) where
   -- at home it has what is before the three corners, and no funnel
   pub grown_at_home : (tree : Tree) → length tree.before ≡ length corners → length tree.funnels ≡ length tris
-      → ((i : ℕ) → HasCorner (tri_at tris (outward_at order 0).tri) i → IsFromNamed corners start (vertex corners i) (before_at tree i))
-      → funnel_at tree (outward_at order 0).tri ≡ None
+      → ((i : ℕ) → HasCorner (tri_at tris (at_place order 0)) i → IsFromNamed corners start (vertex corners i) (before_at tree i))
+      → funnel_at tree (at_place order 0) ≡ None
       → IsGrownOver corners start tris order 1 tree
   grown_at_home tree vertices triangles parents none = record {
     vertices = vertices;
     parents = λ p i less has.
         let home : p ≡ 0 = omega (arith, less) in
-        parents i (subst (λ q. HasCorner (tri_at tris (outward_at order q).tri) i) home has);
+        parents i (subst (λ q. HasCorner (tri_at tris (at_place order q)) i) home has);
     triangles = triangles;
     funnels = λ p less.
         let home : p ≡ 0 = omega (arith, less) in
-        subst (λ q. KeepsFunnelTo corners start tris order q (funnel_at tree (outward_at order q).tri)) (sym home)
+        subst (λ q. KeepsFunnelTo corners start tris order q (funnel_at tree (at_place order q))) (sym home)
         (subst (KeepsFunnelTo corners start tris order 0) (sym none) refl);
   }
 
@@ -115,10 +115,12 @@ module _ (corners : List Point) (start : Point) (tris : List Tri) (order : List 
         (keeps p within (funnel_at tree (at_place order p)) (grown.funnels p within));
   }
 
--- so one that has grown over all places of an order from a triangle with the start is grown from these corners
-pub grown_at_end : (corners : List Point) (start : Point) (tris : List Tri) (home : ℕ) (order : List Outward) (p : ℕ) (tree : Tree)
+-- so one that has grown up to the last place of an order from a triangle with the start is grown from these corners
+pub grown_at_end : (corners : List Point) (start : Point) (tris : List Tri) (home : ℕ) (order : List Outward) (p end : ℕ) (tree : Tree)
     → Fits corners tris → home < length tris → IsInTri corners (tri_at tris home) (whole start) → IsOutward tris home order
-    → p ≡ length order → IsGrownOver corners start tris order p tree → IsGrownFrom corners start tris tree
-grown_at_end corners start tris home order p tree fits within in_start outward all grown =
+    → end ≡ length order → end ≤ p → (1 ≤ end → p ≤ end) → IsGrownOver corners start tris order p tree
+    → IsGrownFrom corners start tris tree
+grown_at_end corners start tris home order p end tree fits within in_start outward count least most grown =
+    let last : p ≡ length order = omega (arith, count, least, most, outward.count, within) in
     grown_over_all corners start tris order (from_start corners start tris home order fits within in_start outward) tree
-    (subst (λ q. IsGrownOver corners start tris order q tree) all grown)
+    (subst (λ q. IsGrownOver corners start tris order q tree) last grown)

@@ -3,25 +3,44 @@
 use Rattle.std.proofs.Common.{◌≡◌, ◌⊎◌, inl, inr, sym, subst, ◌∙◌, List, length, ℕ, ◌+◌, ◌<◌, ◌≤◌, Option, Some, None, slice_index_or, arith}
 use Rattle.std.proofs.lemmas.List.{get_or_read, length-map}
 use Rattle.plane.specs.Point.{Point, whole}
+use Rattle.rings.specs.Ring.{vertex}
 use Rattle.meshes.proofs.Sides.{fitting_sides, two_fewer}
 use Rattle.meshes.specs.Fits.{Fits, IsInTri, IsSideOfTwo}
 use Rattle.meshes.specs.Side.{HasSide, tri_at}
 use Rattle.meshes.specs.declared.tri.Tri.{Tri}
 use Rattle.tri_mesh.specs.Outward.{outward_at}
 use Rattle.tri_mesh.specs.declared.outward.Outward.{Outward}
+use Rattle.funnels.specs.Funnel.{IsReachedFrom}
 use Rattle.shared_funnel.proofs.Doors.{funnel_later, goes_on, third_numbered}
-use Rattle.shared_funnel.specs.Listed.{IsFunnelAt, Listed, point_of}
-use Rattle.path_tree.proofs.Entrances.{apart, at_place, earlier, left_of, right_of, shared_at, shared_back, third_of, toward, toward_below}
+use Rattle.shared_funnel.specs.Listed.{IsBeyond, IsFunnelAt, Listed, point_of, points_of}
+use Rattle.shared_seq.proofs.Digits.{binary_digits_mono}
+use Rattle.shared_seq.specs.Digits.{binary_digits}
+use Rattle.path_tree.proofs.Entrances.{apart, beyond_at, earlier, shared_at, shared_back, toward_below}
+use Rattle.path_tree.proofs.TreeSteps.{three_digits}
 use Rattle.path_tree.specs.Grown.{Tree}
-use Rattle.path_tree.specs.Growing.{IsFromStart, IsFunnelTo, IsGrownOver, KeepsFunnelTo}
+use Rattle.path_tree.specs.Growing.{IsFromStart, IsFunnelTo, IsGrownOver, KeepsFunnelTo, at_place, left_of, right_of, third_of, toward}
 
 module _ (corners : List Point) (start : Point) (tris : List Tri) (order : List Outward) (from : IsFromStart corners start tris order) where
+  -- where there is a later place, there are four corners or more
+  pub later_digits : (p : ℕ) → 0 < p → p < length order → 3 ≤ binary_digits (length corners)
+  later_digits p later below =
+      three_digits (length corners) (omega (arith, later, below, from.outward.count, two_fewer corners tris from.fits))
+
   -- a funnel there has its apex, and fewer points than there are corners
   pub apex_in : (p : ℕ) (f : Listed) → IsFunnelTo corners start tris order p f → f.apex < length f.list
   apex_in p f w = omega (arith, w.funnel.funnel.apex_within, length-map f.list (point_of corners start))
 
   pub few_points : (p : ℕ) (f : Listed) → p < length order → IsFunnelTo corners start tris order p f → length f.list + 1 ≤ length corners
   few_points p f below w = omega (arith, w.few, from.outward.count, two_fewer corners tris from.fits, below)
+
+  -- so their number has no more digits
+  pub few_digits : (p : ℕ) (f : Listed) → p < length order → IsFunnelTo corners start tris order p f
+      → (binary_digits (length f.list) ≤ binary_digits (length corners)) × (binary_digits (length f.list + 1) ≤ binary_digits (length corners))
+  few_digits p f below w =
+      let few = few_points p f below w in (
+        binary_digits_mono (length f.list) (length corners) (omega (arith, few)),
+        binary_digits_mono (length f.list + 1) (length corners) few,
+      )
 
   module _ (p : ℕ) (later : 0 < p) (below : p < length order) where
     abbrev q : ℕ
@@ -83,38 +102,56 @@ module _ (corners : List Point) (start : Point) (tris : List Tri) (order : List 
           let loop = subst (λ i. HasSide (tri_at tris (at_place order p)) i end) e has in
           (fitting_sides corners tris from.fits).one_way end end (at_place order p) (from.outward.in_list p below) loop loop
 
-      -- so it is on the right where it ends at the third corner,
-      pub funnel_on_right : (right m : ℕ) (f : Listed) → right ≡ right_of tris order p → m ≡ third_of tris order q → right ≡ m
-          → (IsSideOfTwo tris m (left_of tris order q) (at_place order q) (at_place order p)
-          → IsFunnelAt corners start (left_of tris order q) m (q + 1) f)
-          → IsFunnelTo corners start tris order p f
-      funnel_on_right right m f right_is third_is same next =
-          let end : m ≡ right_of tris order p = sym same ∙ right_is in
-          let left : left_of tris order p ≡ left_of tris order q = elim goes [
-            | inl w ↦ w.0
-            | inr w ↦ absurd (not_one (w.0 ∙ sym third_is ∙ end))
-          ] in
-          let side = subst (λ i. IsSideOfTwo tris m i (at_place order q) (at_place order p)) left
-          (subst (λ j. IsSideOfTwo tris j (left_of tris order p) (at_place order q) (at_place order p)) (sym end)
-          (shared_back corners start tris order from p later below)) in
-          funnel_later corners start (left_of tris order p) (right_of tris order p) (q + 1) p f
-          (omega (arith, earlier corners start tris order from p later below))
-          (subst (λ i. IsFunnelAt corners start i (right_of tris order p) (q + 1) f) (sym left)
-          (subst (λ j. IsFunnelAt corners start (left_of tris order q) j (q + 1) f) end (next side)))
+      -- From the funnel there, and the place from which the third corner is reached,
+      module _ (old : Listed) (w : IsFunnelTo corners start tris order q old) (h : ℕ)
+          (reached : IsReachedFrom (points_of corners start old.list) old.apex h (whole (vertex corners (third_of tris order q))))
+          (right m : ℕ) (right_is : right ≡ right_of tris order p) (third_is : m ≡ third_of tris order q) (f : Listed) where
+        -- what the steps ask,
+        beyond : IsBeyond tris (at_place order q) (left_of tris order q) (right_of tris order q) m
+        beyond =
+            subst (IsBeyond tris (at_place order q) (left_of tris order q) (right_of tris order q)) (sym third_is)
+            (beyond_at corners start tris order from q inner within)
 
-      -- and on the left otherwise
-      pub funnel_on_left : (right m : ℕ) (f : Listed) → right ≡ right_of tris order p → m ≡ third_of tris order q → ¬ (right ≡ m)
-          → (IsSideOfTwo tris (right_of tris order q) m (at_place order q) (at_place order p)
-          → IsFunnelAt corners start m (right_of tris order q) (q + 1) f)
-          → IsFunnelTo corners start tris order p f
-      funnel_on_left right m f right_is third_is other next =
-          let both : (left_of tris order p ≡ third_of tris order q) × (right_of tris order p ≡ right_of tris order q) =
-          elim goes [ inl w ↦ absurd (other (right_is ∙ w.1 ∙ sym third_is)) | inr w ↦ w ] in
-          let begin : left_of tris order p ≡ m = both.0 ∙ sym third_is in
-          let side = subst (λ i. IsSideOfTwo tris (right_of tris order q) i (at_place order q) (at_place order p)) begin
-          (subst (λ j. IsSideOfTwo tris j (left_of tris order p) (at_place order q) (at_place order p)) both.1
-          (shared_back corners start tris order from p later below)) in
-          funnel_later corners start (left_of tris order p) (right_of tris order p) (q + 1) p f
-          (omega (arith, earlier corners start tris order from p later below))
-          (subst (λ i. IsFunnelAt corners start i (right_of tris order p) (q + 1) f) (sym begin)
-          (subst (λ j. IsFunnelAt corners start m j (q + 1) f) (sym both.1) (next side)))
+        reached_there : IsReachedFrom (points_of corners start old.list) old.apex h (whole (vertex corners m))
+        reached_there =
+            subst (λ k. IsReachedFrom (points_of corners start old.list) old.apex h (whole (vertex corners k))) (sym third_is) reached
+
+        -- the step on the right is the one where the side ends at the third corner,
+        pub funnel_on_right : right ≡ m
+            → (IsBeyond tris (at_place order q) (left_of tris order q) (right_of tris order q) m
+            → IsReachedFrom (points_of corners start old.list) old.apex h (whole (vertex corners m))
+            → IsSideOfTwo tris m (left_of tris order q) (at_place order q) (at_place order p)
+            → IsFunnelAt corners start (left_of tris order q) m (q + 1) f)
+            → IsFunnelTo corners start tris order p f
+        funnel_on_right same next =
+            let end : m ≡ right_of tris order p = sym same ∙ right_is in
+            let left : left_of tris order p ≡ left_of tris order q = elim goes [
+              | inl w ↦ w.0
+              | inr w ↦ absurd (not_one (w.0 ∙ sym third_is ∙ end))
+            ] in
+            let side = subst (λ i. IsSideOfTwo tris m i (at_place order q) (at_place order p)) left
+            (subst (λ j. IsSideOfTwo tris j (left_of tris order p) (at_place order q) (at_place order p)) (sym end)
+            (shared_back corners start tris order from p later below)) in
+            funnel_later corners start (left_of tris order p) (right_of tris order p) (q + 1) p f
+            (omega (arith, earlier corners start tris order from p later below))
+            (subst (λ i. IsFunnelAt corners start i (right_of tris order p) (q + 1) f) (sym left)
+            (subst (λ j. IsFunnelAt corners start (left_of tris order q) j (q + 1) f) end (next beyond reached_there side)))
+
+        -- and otherwise it is that on the left
+        pub funnel_on_left : ¬ (right ≡ m)
+            → (IsBeyond tris (at_place order q) (left_of tris order q) (right_of tris order q) m
+            → IsReachedFrom (points_of corners start old.list) old.apex h (whole (vertex corners m))
+            → IsSideOfTwo tris (right_of tris order q) m (at_place order q) (at_place order p)
+            → IsFunnelAt corners start m (right_of tris order q) (q + 1) f)
+            → IsFunnelTo corners start tris order p f
+        funnel_on_left other next =
+            let both : (left_of tris order p ≡ third_of tris order q) × (right_of tris order p ≡ right_of tris order q) =
+            elim goes [ inl w ↦ absurd (other (right_is ∙ w.1 ∙ sym third_is)) | inr w ↦ w ] in
+            let begin : left_of tris order p ≡ m = both.0 ∙ sym third_is in
+            let side = subst (λ i. IsSideOfTwo tris (right_of tris order q) i (at_place order q) (at_place order p)) begin
+            (subst (λ j. IsSideOfTwo tris j (left_of tris order p) (at_place order q) (at_place order p)) both.1
+            (shared_back corners start tris order from p later below)) in
+            funnel_later corners start (left_of tris order p) (right_of tris order p) (q + 1) p f
+            (omega (arith, earlier corners start tris order from p later below))
+            (subst (λ i. IsFunnelAt corners start i (right_of tris order p) (q + 1) f) (sym begin)
+            (subst (λ j. IsFunnelAt corners start m j (q + 1) f) (sym both.1) (next beyond reached_there side)))

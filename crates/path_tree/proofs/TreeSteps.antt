@@ -19,14 +19,13 @@ some_digits n some = omega (arith, one_has, binary_digits_mono 1 n some)
 pub three_digits : (n : ℕ) → 4 ≤ n → 3 ≤ binary_digits n
 three_digits n more = omega (arith, four_has, binary_digits_mono 4 n more)
 
--- for a search in a funnel, and the next one,
-pub next_steps : (b x y : ℕ) → x ≤ b → y ≤ b → x * (4 * x + 3) + 160 * (y + 1) ≤ b * (4 * b + 3) + 160 * (b + 1)
-next_steps b x y x_le y_le = omega (arith, y_le, mul-le x (4 * x + 3) b (4 * b + 3) x_le (omega (arith, x_le)))
+-- what a search in a funnel takes at some digits, by more of them,
+pub search_steps : (b x : ℕ) → x ≤ b → x * (4 * x + 3) ≤ b * (4 * b + 3)
+search_steps b x le = mul-le x (4 * x + 3) b (4 * b + 3) le (omega (arith, le))
 
--- and for one more search, there
-pub triangle_steps : (b x : ℕ) → 3 ≤ b → x ≤ b → b * (4 * b + 3) + 160 * (b + 1) + x * (4 * x + 3) + (2 * x + 1) ≤ 200 * (b * b)
-triangle_steps b x three le =
-    omega (arith, three, le, mul-le x (4 * x + 3) b (4 * b + 3) le (omega (arith, le)), mul-le 3 b b b three (omega arith))
+-- and two searches, a new funnel and a number
+pub triangle_steps : (b : ℕ) → 3 ≤ b → b * (4 * b + 3) + 160 * (b + 1) + b * (4 * b + 3) + (2 * b + 1) ≤ 200 * (b * b)
+triangle_steps b three = omega (arith, three, mul-le 3 b b b three (omega arith))
 
 -- At home it takes three,
 pub home_steps : (n : ℕ) → 1 ≤ n → 3 ≤ 200 * (binary_digits n * binary_digits n)

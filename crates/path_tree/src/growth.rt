@@ -9,6 +9,7 @@ ghost use Rattle.path_tree.specs.Grown.{IsFromNamed};
 ghost use Rattle.path_tree.specs.Growing.{IsFromStart, IsFunnelTo, IsGrownOver};
 
 use crate::door::door_of;
+use crate::onward::{funnel_from, place_of_third};
 use exact_plane::{Memory, Spot, Steps, Turns};
 use shared_funnel::{Funnel, spot};
 use std::alloc::Global;
@@ -66,16 +67,15 @@ impl Growth {
             (record { before = self.new.before.items; funnels = self.new.funnels.items })) }
         ensures steps { let b = binary_digits (length (T.corners board.now)) in steps.new ≤ steps.old + 200 * (b * b) }
     {
-        let n = mesh.count() + 2;
-        let third = door_of(mesh, order[p]).third;
         let funnel = self.next_funnel(alloc, board, mesh, order, p, steps)?;
-        let place = funnel.place(board, n, Spot::Corner(third), steps);
-        self.before[third as usize] = Some(spot(funnel.number(place, steps), n));
+        let place = place_of_third(board, mesh, order, p, &funnel, steps);
+        let near = spot(funnel.number(place, steps), mesh.count() + 2);
+        self.before[door_of(mesh, order[p]).third as usize] = Some(near);
         self.funnels[order[p].tri as usize] = Some(funnel);
         Ok(())
     }
 
-    // The funnel at the side over which the triangle at place `p` is entered, from that of the triangle before.
+    // The funnel at the side over which the triangle at place `p` is entered.
     fn next_funnel<T: Turns, L: Ledger>(
         &self,
         alloc: Global,
@@ -93,18 +93,12 @@ impl Growth {
         ensures funnel { IfOk result (IsFunnelTo (T.corners board.now) (T.start board.now) mesh.now order.now p) }
         ensures steps { let b = binary_digits (length (T.corners board.now)) in steps.new ≤ steps.old + b * (4 * b + 3) + 160 * (b + 1) }
     {
-        let n = mesh.count() + 2;
-        let here = door_of(mesh, order[p]);
-        let from = order[order[p].toward as usize];
-        let Some(funnel) = &self.funnels[from.tri as usize] else {
-            return Funnel::first(alloc, board, n, here.left, here.right, steps);
-        };
-        let third = door_of(mesh, from).third;
-        let place = funnel.place(board, n, Spot::Corner(third), steps);
-        if here.right == third {
-            funnel.to_right(alloc, place, third, steps)
-        } else {
-            funnel.to_left(alloc, place, third, steps)
+        match &self.funnels[order[order[p].toward as usize].tri as usize] {
+            Some(funnel) => funnel_from(alloc, board, mesh, order, p, funnel, steps),
+            None => {
+                let door = door_of(mesh, order[p]);
+                Funnel::first(alloc, board, mesh.count() + 2, door.left, door.right, steps)
+            }
         }
     }
 }

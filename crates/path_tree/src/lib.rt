@@ -3,6 +3,7 @@
 
 mod door;
 mod growth;
+mod onward;
 mod tree;
 
 pub use tree::PathTree;

@@ -1,4 +1,4 @@
-use Rattle.std.proofs.Common.{◌≡◌, subst, ◌+◌, ◌≤◌, length, arith}
+use Rattle.std.proofs.Common.{subst, ◌+◌, ◌≤◌, length, arith}
 use Rattle.meshes.proofs.Sides.{two_fewer}
 use Rattle.shared_seq.specs.Digits.{binary_digits}
 use Rattle.path_tree.proofs.GrownOver.{grown_at_end}
@@ -48,42 +48,24 @@ loop-p-preserved g c =
 pub invariant_of-result : goal.invariant_of-result
 invariant_of-result g c =
     let corners = g.T.Turns.corners c.args.board.now in
-    let all : c.loop-p.p ≡ length c.in_ok-order.order.items =
-    omega (
-      arith,
-      c.loop-p.auto.p-end,
-      c.loop-p-test.false,
-      c.len-p-end.ensures,
-      c.in_ok-order.order.ok.0,
-      c.in_ok-order.ensures.count,
-      c.requires.home,
-    ) in
     record {
       corners = corners;
       start = g.T.Turns.start c.args.board.now;
       tris = c.args.mesh.now;
       fits = c.requires.fits;
       grown = grown_at_end corners (g.T.Turns.start c.args.board.now) c.args.mesh.now c.args.home c.in_ok-order.order.items c.loop-p.p
-          (record { before = c.loop-p.growth.before.items; funnels = c.loop-p.growth.funnels.items }) c.requires.fits c.requires.home
-          c.requires.start c.in_ok-order.ensures all c.loop-p.invariant.grown;
+          c.len-p-end.result (record { before = c.loop-p.growth.before.items; funnels = c.loop-p.growth.funnels.items }) c.requires.fits
+          c.requires.home c.requires.start c.in_ok-order.ensures (omega (arith, c.len-p-end.ensures, c.in_ok-order.order.ok.0))
+          c.loop-p-test.false c.loop-p.auto.p-end c.loop-p.invariant.grown;
     }
 
 pub returns-clause-grown : goal.returns-clause-grown
 returns-clause-grown g c =
     let corners = g.T.Turns.corners c.args.board.now in
-    let all : c.loop-p.p ≡ length c.in_ok-order.order.items =
-    omega (
-      arith,
-      c.loop-p.auto.p-end,
-      c.loop-p-test.false,
-      c.len-p-end.ensures,
-      c.in_ok-order.order.ok.0,
-      c.in_ok-order.ensures.count,
-      c.requires.home,
-    ) in
     grown_at_end corners (g.T.Turns.start c.args.board.now) c.args.mesh.now c.args.home c.in_ok-order.order.items c.loop-p.p
-    (record { before = c.loop-p.growth.before.items; funnels = c.loop-p.growth.funnels.items }) c.requires.fits c.requires.home
-    c.requires.start c.in_ok-order.ensures all c.loop-p.invariant.grown
+    c.len-p-end.result (record { before = c.loop-p.growth.before.items; funnels = c.loop-p.growth.funnels.items }) c.requires.fits
+    c.requires.home c.requires.start c.in_ok-order.ensures (omega (arith, c.len-p-end.ensures, c.in_ok-order.order.ok.0))
+    c.loop-p-test.false c.loop-p.auto.p-end c.loop-p.invariant.grown
 
 pub returns-clause-steps : goal.returns-clause-steps
 returns-clause-steps g c =

@@ -1,0 +1,64 @@
+ghost use Rattle.std.specs.Prelude.{◌≡◌, ◌+◌, ◌*◌, ◌<◌, ◌≤◌, IfOk, length};
+ghost use Rattle.plane.specs.Point.{whole};
+ghost use Rattle.rings.specs.Ring.{vertex};
+ghost use Rattle.funnels.specs.Funnel.{IsReachedFrom};
+ghost use Rattle.shared_seq.specs.Digits.{binary_digits};
+ghost use Rattle.shared_funnel.specs.Listed.{points_of};
+ghost use Rattle.path_tree.specs.Growing.{IsFromStart, IsFunnelTo, third_of, toward};
+
+use crate::door::door_of;
+use exact_plane::{Memory, Spot, Steps, Turns};
+use shared_funnel::Funnel;
+use std::alloc::Global;
+use std::sync::ledger::Ledger;
+use tri_mesh::{Mesh, Outward};
+
+// The place of the funnel at the triangle at place `p` from which its third corner is reached.
+pub(crate) fn place_of_third<T: Turns, L: Ledger>(
+    board: &T,
+    mesh: &Mesh,
+    order: &[Outward],
+    p: usize,
+    funnel: &Funnel,
+    steps: &mut Steps<L>,
+) -> usize
+    requires start { IsFromStart (T.corners board.now) (T.start board.now) mesh.now order.now }
+    requires later { 0 < p }
+    requires within { p < length order.now }
+    requires funnel { IsFunnelTo (T.corners board.now) (T.start board.now) mesh.now order.now p funnel.now }
+    ensures reached { let third = vertex (T.corners board.now) (third_of mesh.now order.now p) in
+        IsReachedFrom (points_of (T.corners board.now) (T.start board.now) funnel.now.list) funnel.now.apex result (whole third) }
+    ensures steps { let b = binary_digits (length (T.corners board.now)) in steps.new ≤ steps.old + b * (4 * b + 3) }
+{
+    let third = door_of(mesh, order[p]).third;
+    funnel.place(board, mesh.count() + 2, Spot::Corner(third), steps)
+}
+
+// The funnel at the triangle at place `p`, from that at the triangle from which it is reached.
+pub(crate) fn funnel_from<T: Turns, L: Ledger>(
+    alloc: Global,
+    board: &T,
+    mesh: &Mesh,
+    order: &[Outward],
+    p: usize,
+    funnel: &Funnel,
+    steps: &mut Steps<L>,
+) -> Result<Funnel, Memory>
+    requires start { IsFromStart (T.corners board.now) (T.start board.now) mesh.now order.now }
+    requires later { 0 < p }
+    requires within { p < length order.now }
+    requires inner { 0 < toward order.now p }
+    requires funnel { IsFunnelTo (T.corners board.now) (T.start board.now) mesh.now order.now (toward order.now p) funnel.now }
+    ensures funnel { IfOk result (IsFunnelTo (T.corners board.now) (T.start board.now) mesh.now order.now p) }
+    ensures steps { let b = binary_digits (length (T.corners board.now)) in steps.new ≤ steps.old + b * (4 * b + 3) + 160 * (b + 1) }
+{
+    let _count = mesh.count();
+    let toward = order[p].toward as usize;
+    let third = door_of(mesh, order[toward]).third;
+    let place = place_of_third(board, mesh, order, toward, funnel, steps);
+    if door_of(mesh, order[p]).right == third {
+        funnel.to_right(alloc, place, third, steps)
+    } else {
+        funnel.to_left(alloc, place, third, steps)
+    }
+}
