@@ -1,0 +1,3 @@
+pub mod Hull
+pub mod PathTurn
+pub mod Table
