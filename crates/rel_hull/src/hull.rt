@@ -1,7 +1,7 @@
 ghost use Rattle.std.specs.Prelude.{IfOk};
 ghost use Rattle.rel_hull.specs.Table.{AreSides, IsTableOf, points_of};
 
-use crate::path_turn::path_turn;
+use crate::comparison::path_turn;
 use crate::table::ChainTable;
 use exact_plane::{Direction, Memory, Pt, Steps, on_segment};
 use ring_check::Ring;
