@@ -1,0 +1,2 @@
+mod OnLine
+mod PathTurns

@@ -1,6 +1,9 @@
-ghost use Rattle.std.specs.Prelude.{◌≡◌, ◌<◌, length};
+ghost use Rattle.std.specs.Prelude.{◌≡◌, ◌≢◌, ◌<◌, ◌≤◌, drop, length, take};
+ghost use Rattle.plane.specs.Point.{whole};
+ghost use Rattle.plane.specs.Segment.{On};
 ghost use Rattle.rings.specs.Chain.{point_at};
-ghost use Rattle.rel_hull.specs.PathTurn.{IsPathTurn, IsStepping, IsTurnAt};
+ghost use Rattle.exact_plane.specs.Direction.{turn_of};
+ghost use Rattle.rel_hull.specs.PathTurn.{IsPathTurn, IsStepping, IsTurnApart, IsTurnAt, turn_on};
 
 use exact_plane::{Direction, Pt, Steps, on_segment, order, turn};
 use std::cmp::Ordering;
@@ -20,7 +23,16 @@ pub fn path_turn<L: Ledger>(ab: &[Pt], ac: &[Pt], steps: &mut Steps<L>) -> Direc
 }
 
 // How many points the longest common front of two lists has.
-fn common_front<L: Ledger>(ab: &[Pt], ac: &[Pt], steps: &mut Steps<L>) -> usize {
+fn common_front<L: Ledger>(ab: &[Pt], ac: &[Pt], steps: &mut Steps<L>) -> usize
+    requires some { 0 < length ab.now }
+    requires others { 0 < length ac.now }
+    requires same { point_at ab.now 0 ≡ point_at ac.now 0 }
+    ensures some { 0 < result }
+    ensures within { result ≤ length ab.now }
+    ensures within_other { result ≤ length ac.now }
+    ensures same { take result ab.now ≡ take result ac.now }
+    ensures apart { result < length ab.now → result < length ac.now → point_at ab.now result ≢ point_at ac.now result }
+{
     let mut k = 1;
     while k < ab.len() && k < ac.len() && order(&ab[k], &ac[k], steps) == Ordering::Equal {
         k += 1;
@@ -29,7 +41,10 @@ fn common_front<L: Ledger>(ab: &[Pt], ac: &[Pt], steps: &mut Steps<L>) -> usize 
 }
 
 // The turn of two ways on from `v` that have no next point in common.
-fn turn_at<L: Ledger>(v: &Pt, first: &[Pt], second: &[Pt], steps: &mut Steps<L>) -> Direction {
+fn turn_at<L: Ledger>(v: &Pt, first: &[Pt], second: &[Pt], steps: &mut Steps<L>) -> Direction
+    requires { 0 < length first.now → 0 < length second.now → point_at first.now 0 ≢ point_at second.now 0 }
+    ensures { IsTurnAt v.now first.now second.now result }
+{
     let (Some(p), Some(q)) = (first.first(), second.first()) else {
         return Direction::Straight;
     };
@@ -40,7 +55,12 @@ fn turn_at<L: Ledger>(v: &Pt, first: &[Pt], second: &[Pt], steps: &mut Steps<L>)
 }
 
 // The same where the next points are on one line with `v`.
-fn turn_on_line<L: Ledger>(v: &Pt, first: &[Pt], second: &[Pt], steps: &mut Steps<L>) -> Direction {
+fn turn_on_line<L: Ledger>(v: &Pt, first: &[Pt], second: &[Pt], steps: &mut Steps<L>) -> Direction
+    requires some { 0 < length first.now }
+    requires others { 0 < length second.now }
+    requires straight { turn_of (whole v.now) (whole (point_at first.now 0)) (whole (point_at second.now 0)) ≡ Direction.Straight }
+    ensures { IsTurnApart v.now (point_at first.now 0) (drop 1 first.now) (point_at second.now 0) (drop 1 second.now) result }
+{
     let (p, q) = (&first[0], &second[0]);
     if on_segment(v, p, q, steps) {
         Direction::Straight
@@ -52,7 +72,10 @@ fn turn_on_line<L: Ledger>(v: &Pt, first: &[Pt], second: &[Pt], steps: &mut Step
 }
 
 // The turn from `v` over the first point of a way to the next one, if there is one.
-fn turn_on<L: Ledger>(v: &Pt, way: &[Pt], steps: &mut Steps<L>) -> Direction {
+fn turn_on<L: Ledger>(v: &Pt, way: &[Pt], steps: &mut Steps<L>) -> Direction
+    requires { 0 < length way.now }
+    ensures { result ≡ turn_on v.now (point_at way.now 0) (drop 1 way.now) }
+{
     match way.get(1) {
         Some(r) => turn(v, &way[0], r, steps),
         None => Direction::Straight,
