@@ -1,2 +1,4 @@
+mod OneTurn
 mod OnLine
+mod Paths
 mod PathTurns

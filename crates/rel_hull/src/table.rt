@@ -1,5 +1,7 @@
-ghost use Rattle.std.specs.Prelude.{◌≡◌, map};
-ghost use Rattle.rel_hull.specs.Table.{IsTableOf};
+ghost use Rattle.std.specs.Prelude.{◌≡◌, ◌<◌, length, map};
+ghost use Rattle.rings.specs.Chain.{point_at};
+ghost use Rattle.rel_hull.specs.PathTurn.{IsStepping};
+ghost use Rattle.rel_hull.specs.Table.{IsTableOf, chain_at, points_of};
 
 use exact_plane::Pt;
 use ring_check::Ring;
@@ -18,10 +20,13 @@ pub struct ChainTable {
 impl Model for ChainTable {
     ghost use Rattle.std.specs.Prelude.{map};
     ghost use Rattle.rel_hull.specs.Table.{Table};
+    ghost use Rattle.rel_hull.specs.Told.{KeepsChains};
 
     ghost Value = { Table };
 
     ghost view = { λ table. record { count = table.count; chains = map (λ chain. chain.items) table.chains.items } };
+
+    ghost invariant = { λ table. KeepsChains (record { count = table.count; chains = map (λ chain. chain.items) table.chains.items }) };
 }
 
 impl ChainTable {
@@ -35,12 +40,23 @@ impl ChainTable {
     }
 
     // How many points there are.
-    pub(crate) fn count(&self) -> u32 {
+    pub(crate) fn count(&self) -> u32
+        ensures { result ≡ self.now.count }
+    {
         self.count
     }
 
     // The path from one point to another.
-    pub(crate) fn chain(&self, i: u32, j: u32) -> &[Pt] {
+    pub(crate) fn chain(&self, i: u32, j: u32) -> &[Pt]
+        requires first { i < self.now.count }
+        requires second { j < self.now.count }
+        ensures chain { result.now ≡ chain_at self.now i j }
+
+        // What holds of every chain.
+        ensures some { 0 < length result.now }
+        ensures begins { point_at result.now 0 ≡ point_at (points_of self.now) i }
+        ensures stepping { IsStepping result.now }
+    {
         &self.chains[(i * self.count + j) as usize]
     }
 }
