@@ -1,4 +1,5 @@
 mod OneTurn
 mod OnLine
+mod Outer
 mod Paths
 mod PathTurns
