@@ -3,3 +3,6 @@ mod OnLine
 mod Outer
 mod Paths
 mod PathTurns
+mod SideLists
+mod TableInner
+mod TableSides
