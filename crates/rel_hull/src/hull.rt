@@ -131,13 +131,7 @@ fn is_side<L: Ledger>(
 }
 
 // Whether a point is one of the two, or to the left of the path from one to the other.
-fn is_left<L: Ledger>(
-    chains: &ChainTable,
-    s: u32,
-    t: u32,
-    u: u32,
-    steps: &mut Steps<L>,
-) -> bool
+fn is_left<L: Ledger>(chains: &ChainTable, s: u32, t: u32, u: u32, steps: &mut Steps<L>) -> bool
     requires first { s < chains.now.count }
     requires second { t < chains.now.count }
     requires third { u < chains.now.count }
