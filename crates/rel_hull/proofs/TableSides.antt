@@ -1,5 +1,5 @@
 -- The sides that the chains of a table of a ring tell are those of its points.
-use Rattle.std.proofs.Common.{◌≡◌, ◌≢◌, ℕ, ◌<◌, List, length, get_or, refl}
+use Rattle.std.proofs.Common.{ℕ, ◌<◌, List, length, get_or}
 use Rattle.std.proofs.lemmas.List.Elements.{Contains-get_or}
 use Rattle.std.specs.List.{Contains}
 use Rattle.exact_plane.specs.declared.direction.Direction.TheVariants.{Left}

@@ -1,6 +1,5 @@
 ghost use Rattle.std.specs.List.{Contains};
 ghost use Rattle.std.specs.Prelude.{◌+◌, ◌<◌, ◌↔◌, IfOk, IsTrue, OnOk, ℕ, length};
-ghost use Rattle.rings.specs.Chain.{point_at};
 ghost use Rattle.rel_hull.specs.Table.{AreSides, IsTableOf, points_of};
 ghost use Rattle.rel_hull.specs.Told.{AreOuterBelow, AreSidesBefore, IsLeftOf, IsOnChain, IsPassed, IsPassedFrom};
 
