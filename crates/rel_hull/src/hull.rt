@@ -22,11 +22,7 @@ pub fn sides<L: Ledger>(
     ensures { IfOk result (λ pairs. AreSides ring.now.corners (points_of chains.now) pairs.items) }
 {
     let outer = outer_points(alloc, chains, steps)?;
-    let mut sides = Vec::new(alloc);
-    for s in &outer {
-        put_sides(&mut sides, chains, &outer, *s, steps)?;
-    }
-    Ok(sides)
+    sides_among(alloc, chains, &outer, steps)
 }
 
 // The numbers of the points that aren't inner.
@@ -85,6 +81,23 @@ fn is_on<L: Ledger>(chain: &[Pt], point: &Pt, steps: &mut Steps<L>) -> bool
         }
     }
     false
+}
+
+// The sides between outer points.
+fn sides_among<L: Ledger>(
+    alloc: Global,
+    chains: &ChainTable,
+    outer: &[u32],
+    steps: &mut Steps<L>,
+) -> Result<Vec<(u32, u32)>, Memory>
+    requires { AreOuterBelow chains.now chains.now.count outer.now }
+    ensures { IfOk result (λ sides. AreSidesBefore chains.now outer.now (chains.now.count, 0) sides.items) }
+{
+    let mut sides = Vec::new(alloc);
+    for s in outer {
+        put_sides(&mut sides, chains, outer, *s, steps)?;
+    }
+    Ok(sides)
 }
 
 // Appends the sides that go from point `s`.
