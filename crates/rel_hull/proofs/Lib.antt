@@ -1,0 +1,9 @@
+mod OneTurn
+mod OnLine
+mod Outer
+mod Paths
+mod PathTurns
+mod SideLists
+mod TableInner
+mod TableReads
+mod TableSides
