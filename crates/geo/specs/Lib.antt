@@ -1,3 +1,5 @@
+pub mod CommandLine
 pub mod Fault
 pub mod Progress
 pub mod Run
+pub mod Words

@@ -4,6 +4,7 @@
 mod run;
 #[cfg(test)]
 mod tests;
+mod words;
 
 use geo_io::{StdSink, StdSource};
 use run::{RunFault, geo_main};

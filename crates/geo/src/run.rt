@@ -5,10 +5,12 @@ ghost use Rattle.geo_io.specs.Counts.{Rose};
 ghost use Rattle.geo_io.specs.Transfers.{GivesAtMost, GivesMoreThan};
 ghost use Rattle.geo_text.specs.Reading.{IsWellSized};
 ghost use Rattle.geo_session.specs.Answer.{AppendsReadingAnswer};
-ghost use Rattle.geo.specs.Fault.{fault_of, status_of};
+ghost use Rattle.clap.specs.Words.{kind_of};
+ghost use Rattle.geo.specs.Fault.{fault_of, status_of, words_fault};
 ghost use Rattle.geo.specs.Run.{AfterReading, WritesFirst, WritesFirstAndFront, WritesOutput};
 ghost use Rattle.geo.specs.declared.run.RunFault.TheVariants.{WriteFault, Memory as OutOfMemory};
 
+use clap::error::ErrorKind;
 use exact_plane::{Memory, Steps};
 use geo_io::{Failed, ReadEnd, Sink, Source, read_all, write_all};
 use geo_session::Session;
@@ -140,6 +142,17 @@ impl From<ReadEnd> for RunFault {
             ReadEnd::Fault => RunFault::ReadFault,
             ReadEnd::TooLong => RunFault::TooLong,
             ReadEnd::Memory => RunFault::Memory,
+        }
+    }
+}
+
+impl From<clap::Error> for RunFault {
+    ghost from_gives = { λ error fault. fault ≡ words_fault (kind_of error) };
+
+    fn from(error: clap::Error) -> RunFault {
+        match error.kind() {
+            ErrorKind::OutOfMemory => RunFault::Memory,
+            _ => RunFault::Usage,
         }
     }
 }
