@@ -6,3 +6,5 @@ mod Parsed
 mod Teeth
 mod Taken
 mod Asked
+mod Combs
+mod OneAsked

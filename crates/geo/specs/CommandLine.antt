@@ -5,13 +5,14 @@ use Rattle.std.specs.Str.{bytes_eq}
 use Rattle.clap.specs.Words.{App, Rule, Text, new_app, new_rule, with_rule}
 use Rattle.clap.specs.declared.builder.value_parser.ValueParser.{ValueParser}
 use Rattle.clap.specs.declared.builder.value_parser.ValueParser.TheVariants as parser
+use Rattle.geo_gen.specs.declared.combs.TheConstants.{MAX_TEETH}
 use Rattle.geo.specs.Words.{AsksComb, AsksScript}
 use Rattle.geo.specs.declared.words.Asked.{Asked}
 use Rattle.geo.specs.declared.words.Asked.TheVariants as asked
 
--- a number from 1 to 2,047
+-- a number of teeth that a comb may have
 abbrev pub comb_reader : ValueParser
-comb_reader = parser.Signed (pos 1) (pos 2047)
+comb_reader = parser.Signed (pos 1) (pos MAX_TEETH)
 
 -- one option, `--comb`, that takes such a number
 abbrev pub comb_option : Rule

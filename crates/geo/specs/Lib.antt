@@ -1,3 +1,4 @@
+pub mod Comb
 pub mod CommandLine
 pub mod Fault
 pub mod Progress

@@ -1,13 +1,14 @@
 -- What the words of the command line ask for: those after the program's name, each as its bytes. This project's own.
 use Rattle.std.specs.Prelude.{◌≡◌, ◌≤◌, ℕ, List, [], ◌∷◌, ◌++◌, codes}
 use Rattle.std.specs.Str.Parse.{IsNumeral, digits_value, without_leading_plus}
+use Rattle.geo_gen.specs.declared.combs.TheConstants.{MAX_TEETH}
 
--- the text is the number k, from 1 to 2,047: an optional plus sign, and one or more decimal digits
+-- the text is the number k, of teeth that a comb may have: an optional plus sign, and one or more decimal digits
 pub record IsTeeth (text : List ℕ) (k : ℕ) : Type 0 where
   pub digits : IsNumeral 10 (without_leading_plus text)
   pub value : k ≡ digits_value 10 (without_leading_plus text)
   pub least : 1 ≤ k
-  pub most : k ≤ 2047
+  pub most : k ≤ MAX_TEETH
 
 -- there is no word: the answers to a script are asked for
 abbrev pub AsksScript : List (List ℕ) → Type 0

@@ -1,6 +1,7 @@
 //! Answers questions about a simple polygon: a script of commands on standard input, the answers on standard output.
 #![tactic(auto)]
 
+mod comb_run;
 mod run;
 #[cfg(test)]
 mod tests;

@@ -6,6 +6,7 @@ ghost use Rattle.geo.specs.Words.{IsTaken};
 
 use crate::run::RunFault;
 use clap::{Arg, ArgMatches, Command, Error, value_parser};
+use geo_gen::MAX_TEETH;
 use std::alloc::{AllocError, Global};
 
 /// What a run is asked for.
@@ -54,7 +55,7 @@ fn comb_command<'a>(alloc: Global) -> Result<Command<'a>, AllocError>
 {
     let comb = Arg::new(alloc, "comb")
         .long("comb")
-        .value_parser(value_parser!(u32).range(1..2048));
+        .value_parser(value_parser!(u32).range(1..i64::from(MAX_TEETH) + 1));
     Command::new(alloc, "geo")
         .no_binary_name(true)
         .disable_help_flag(true)
