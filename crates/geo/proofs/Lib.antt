@@ -7,4 +7,4 @@ mod Teeth
 mod Taken
 mod Asked
 mod Combs
-mod OneAsked
+mod Refusals
