@@ -2,7 +2,6 @@
 use Rattle.std.proofs.Common.{◌≡◌, ◌≢◌, sym, ap, subst, ◌∙◌, ℕ, zero, suc, ◌+◌, ◌*◌, ◌^◌, ◌<◌, ◌≤◌, List, length, get_or, slice_index}
 use Rattle.std.proofs.Common.{Option, Some, None, arith}
 use Rattle.std.proofs.lemmas.List.{get_or_read, length-map}
-use Rattle.std.proofs.lemmas.Nat.{mul-le}
 use Rattle.plane.specs.Point.{Point, whole}
 use Rattle.rings.specs.From.{IsBefore}
 use Rattle.meshes.proofs.Sides.{two_fewer}
@@ -14,12 +13,8 @@ use Rattle.exact_plane.specs.declared.turns.Spot.{Spot}
 use Rattle.exact_plane.specs.declared.turns.Spot.TheVariants.{Corner, Start}
 use Rattle.shared_funnel.proofs.ReachedBefore.{before_point}
 use Rattle.shared_funnel.specs.Listed.{Listed, point_of, points_of}
-use Rattle.shared_seq.proofs.Digits.{binary_digits_enough, binary_digits_mono}
-use Rattle.shared_seq.specs.Digits.{binary_digits}
 use Rattle.path_tree.proofs.NamedPoints.{named_by_number}
 use Rattle.path_tree.specs.Grown.{IsEntered, IsGrownFrom, KeepsFunnel, Names, Tree, funnel_at}
-
--- ---- a triangle that is entered
 
 -- the funnel that is read at its number is its own
 pub entered_of_read : (corners : List Point) (start : Point) (tris : List Tri) (tree : Tree) → IsGrownFrom corners start tris tree
@@ -56,20 +51,3 @@ module _ (corners : List Point) (start : Point) (tris : List Tri) (k : ℕ) (f :
           named_by_number corners start tris e.left e.right e.diagonals fits f e.funnel h within (m + 2) i s n is corner source,
           before_point corners start tris k e.left e.right e.third e.diagonals fits e.beyond f e.funnel h y inside reached,
         )
-
--- ---- steps
-
--- a number that is not 0 has a digit
-some_digit : (b n : ℕ) → 0 < n → n < 2 ^ b → 0 < b
-some_digit zero n some below = omega (arith, some, below)
-some_digit (suc b) n some below = omega arith
-
--- what a search, a read and two tests take at some digits, by more of them,
-digits_paid : (c b : ℕ) → c ≤ b → 0 < b → c * (4 * c + 3) + (2 * c + 1) + 2 ≤ 24 * (b * b)
-digits_paid c b le some = omega (arith, mul-le c c b b le le, mul-le 1 b b b some (omega arith))
-
--- and so in a list of fewer numbers than there are corners
-pub reach_paid : (m n : ℕ) → 0 < n → m ≤ n
-    → binary_digits m * (4 * binary_digits m + 3) + (2 * binary_digits m + 1) + 2 ≤ 24 * (binary_digits n * binary_digits n)
-reach_paid m n some le =
-    digits_paid (binary_digits m) (binary_digits n) (binary_digits_mono m n le) (some_digit (binary_digits n) n some (binary_digits_enough n))

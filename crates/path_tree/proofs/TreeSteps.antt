@@ -1,5 +1,5 @@
--- How many steps a tree of paths takes for each triangle, by the number of binary digits of that of the corners.
-use Rattle.std.proofs.Common.{◌≡◌, refl, ℕ, ◌+◌, ◌*◌, ◌≤◌, arith}
+-- How many steps a tree of paths takes for each triangle, and to a goal, by the number of binary digits of that of the corners.
+use Rattle.std.proofs.Common.{◌≡◌, refl, ℕ, ◌+◌, ◌*◌, ◌<◌, ◌≤◌, arith}
 use Rattle.std.proofs.lemmas.Nat.{mul-le}
 use Rattle.shared_seq.proofs.Digits.{binary_digits_mono}
 use Rattle.shared_seq.specs.Digits.{binary_digits}
@@ -37,3 +37,12 @@ home_steps n some =
 -- and there are fewer triangles than corners
 pub tree_steps : (p n b : ℕ) → p ≤ n → p * (200 * (b * b)) ≤ 200 * n * (b * b)
 tree_steps p n b le = omega (arith, mul-le p (200 * (b * b)) n (200 * (b * b)) le (omega arith))
+
+-- To a goal a search, a number and two tests are enough
+pub reach_paid : (m n : ℕ) → 0 < n → m ≤ n
+    → binary_digits m * (4 * binary_digits m + 3) + (2 * binary_digits m + 1) + 2 ≤ 24 * (binary_digits n * binary_digits n)
+reach_paid m n some le =
+    let c = binary_digits m in
+    let b = binary_digits n in
+    let fewer = binary_digits_mono m n le in
+    omega (arith, fewer, mul-le c c b b fewer fewer, mul-le 1 b b b (some_digits n some) (omega arith))
