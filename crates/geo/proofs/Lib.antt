@@ -1,2 +1,10 @@
 mod Output
 mod NextRecord
+mod Dashes
+mod Turns
+mod Parsed
+mod Teeth
+mod Taken
+mod Asked
+mod Combs
+mod OneAsked

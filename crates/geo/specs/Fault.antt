@@ -1,5 +1,7 @@
 -- The fault of a run that a refusal below it stands for. This project's own.
 use Rattle.std.specs.Prelude.{ℕ}
+use Rattle.clap.specs.declared.error.kind.ErrorKind.{ErrorKind}
+use Rattle.clap.specs.declared.error.kind.ErrorKind.TheVariants as kind
 use Rattle.geo_io.specs.declared.source.ReadEnd.{ReadEnd}
 use Rattle.geo_io.specs.declared.source.ReadEnd.TheVariants as end
 use Rattle.geo.specs.declared.run.RunFault.{RunFault}
@@ -9,6 +11,11 @@ abbrev pub fault_of : ReadEnd → RunFault
 fault_of end.Fault = fault.ReadFault
 fault_of end.TooLong = fault.TooLong
 fault_of end.Memory = fault.Memory
+
+-- the same where the parser of the command line refuses the words
+abbrev pub words_fault : ErrorKind → RunFault
+words_fault kind.OutOfMemory = fault.Memory
+words_fault _ = fault.Usage
 
 -- the status that the program ends with
 abbrev pub status_of : RunFault → ℕ

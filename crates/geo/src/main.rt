@@ -1,9 +1,11 @@
 //! Answers questions about a simple polygon: a script of commands on standard input, the answers on standard output.
 #![tactic(auto)]
 
+mod comb_run;
 mod run;
 #[cfg(test)]
 mod tests;
+mod words;
 
 use geo_io::{StdSink, StdSource};
 use run::{RunFault, geo_main};

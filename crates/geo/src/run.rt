@@ -1,14 +1,21 @@
 ghost use Rattle.std.specs.Io.KnownBytes.{Keeps};
-ghost use Rattle.std.specs.Prelude.{◌≡◌, ◌≢◌, ◌<◌, ◌≤◌, ◌⊎◌, ◌↔◌, ℕ, [], List, Ok, Err, IsOk, IfOk, IfSome, OnOk, OnErr, length};
+ghost use Rattle.std.specs.Prelude.{◌≡◌, ◌<◌, ◌≤◌, ◌⊎◌, ℕ, List, Ok, Err, IsOk, IfOk, IfSome, OnOk, OnErr, length, map, string_bytes};
 ghost use Rattle.plane.specs.declared.limits.TheConstants.{MAX_SCRIPT};
 ghost use Rattle.geo_io.specs.Counts.{Rose};
 ghost use Rattle.geo_io.specs.Transfers.{GivesAtMost, GivesMoreThan};
 ghost use Rattle.geo_text.specs.Reading.{IsWellSized};
 ghost use Rattle.geo_session.specs.Answer.{AppendsReadingAnswer};
-ghost use Rattle.geo.specs.Fault.{fault_of, status_of};
+ghost use Rattle.clap.specs.Words.{kind_of};
+ghost use Rattle.geo_gen.specs.declared.combs.TheConstants.{MAX_TEETH};
+ghost use Rattle.geo.specs.Comb.{WritesComb, WritesCombFront};
+ghost use Rattle.geo.specs.Fault.{fault_of, status_of, words_fault};
 ghost use Rattle.geo.specs.Run.{AfterReading, WritesFirst, WritesFirstAndFront, WritesOutput};
+ghost use Rattle.geo.specs.Words.{AsksComb, AsksScript, IsTaken};
 ghost use Rattle.geo.specs.declared.run.RunFault.TheVariants.{WriteFault, Memory as OutOfMemory};
 
+use crate::comb_run::comb_line;
+use crate::words::{Asked, read_words};
+use clap::error::ErrorKind;
 use exact_plane::{Memory, Steps};
 use geo_io::{Failed, ReadEnd, Sink, Source, read_all, write_all};
 use geo_session::Session;
@@ -48,8 +55,8 @@ impl RunFault {
     }
 }
 
-/// Reads the whole script, then answers one record after another. The answer to a record is written whole before the
-/// next is answered. No word of a command line is taken yet.
+/// Without words it reads the whole script, then answers one record after another. The answer to a record is written whole
+/// before the next is answered. With `--comb K` it reads nothing, and writes one line on the comb of K.
 pub fn geo_main<S: Source, K: Sink>(
     alloc: Global,
     words: &[String],
@@ -57,32 +64,42 @@ pub fn geo_main<S: Source, K: Sink>(
     sink: &mut K,
 ) -> Result<(), RunFault>
     // The headline: whatever the script, the defined output is written, and only these faults stop it.
-    ensures ok { OnOk result (AfterReading (S.left source.old) (S.left source.new) (λ bytes. WritesOutput bytes (K.taken sink.old) (K.taken sink.new))) }
+    ensures ok { AsksScript (map string_bytes words.now) → OnOk result (AfterReading (S.left source.old) (S.left source.new) (λ bytes. WritesOutput bytes (K.taken sink.old) (K.taken sink.new))) }
+    ensures comb { (k : ℕ) → AsksComb (map string_bytes words.now) k → OnOk result (WritesComb k (K.taken sink.old) (K.taken sink.new)) }
     ensures counts { OnOk result ((S.faults source.new ≡ S.faults source.old) × (K.faults sink.new ≡ K.faults sink.old)) }
 
-    ensures usage { (result ≡ Err RunFault.Usage) ↔ (words.now ≢ []) }
-    ensures unread { result ≡ Err RunFault.Usage → (source.new ≡ source.old) × (sink.new ≡ sink.old) }
+    ensures usage { result ≡ Err RunFault.Usage → ¬ IsTaken (map string_bytes words.now) }
+    ensures refused { ¬ IsTaken (map string_bytes words.now) → (result ≡ Err RunFault.Usage) ⊎ (result ≡ Err RunFault.Memory) }
+    ensures untouched { ¬ IsTaken (map string_bytes words.now) → (source.new ≡ source.old) × (sink.new ≡ sink.old) }
+    ensures unread { (k : ℕ) → AsksComb (map string_bytes words.now) k → source.new ≡ source.old }
 
-    ensures read_fault { result ≡ Err RunFault.ReadFault → Rose (S.faults source.old) (S.faults source.new)
+    ensures read_fault { result ≡ Err RunFault.ReadFault → AsksScript (map string_bytes words.now) × Rose (S.faults source.old) (S.faults source.new)
         × GivesAtMost MAX_SCRIPT (S.left source.old) (S.left source.new) × (sink.new ≡ sink.old) }
-    ensures too_long { result ≡ Err RunFault.TooLong → GivesMoreThan MAX_SCRIPT (S.left source.old) (S.left source.new)
+    ensures too_long { result ≡ Err RunFault.TooLong → AsksScript (map string_bytes words.now) × GivesMoreThan MAX_SCRIPT (S.left source.old) (S.left source.new)
         × (S.faults source.new ≡ S.faults source.old) × (sink.new ≡ sink.old) }
-    ensures write_fault { result ≡ Err RunFault.WriteFault → Rose (K.faults sink.old) (K.faults sink.new)
-        × AfterReading (S.left source.old) (S.left source.new) (λ bytes. WritesFirstAndFront bytes (K.taken sink.old) (K.taken sink.new)) }
+    ensures write_fault { result ≡ Err RunFault.WriteFault → Rose (K.faults sink.old) (K.faults sink.new) }
+    ensures script_write_fault { AsksScript (map string_bytes words.now) → result ≡ Err RunFault.WriteFault
+        → AfterReading (S.left source.old) (S.left source.new) (λ bytes. WritesFirstAndFront bytes (K.taken sink.old) (K.taken sink.new)) }
+    ensures comb_write_fault { (k : ℕ) → AsksComb (map string_bytes words.now) k → result ≡ Err RunFault.WriteFault
+        → WritesCombFront k (K.taken sink.old) (K.taken sink.new) }
     ensures memory { result ≡ Err RunFault.Memory → (sink.new ≡ sink.old)
-        ⊎ AfterReading (S.left source.old) (S.left source.new) (λ bytes. WritesFirst bytes (K.taken sink.old) (K.taken sink.new)) }
+        ⊎ (AsksScript (map string_bytes words.now) × AfterReading (S.left source.old) (S.left source.new) (λ bytes. WritesFirst bytes (K.taken sink.old) (K.taken sink.new))) }
 
     // Where the bytes are known and no fault comes, the length alone decides, want of memory aside.
-    ensures complete { words.now ≡ [] → ¬ (Rose (S.faults source.old) (S.faults source.new)) → ¬ (Rose (K.faults sink.old) (K.faults sink.new)) →
+    ensures complete { AsksScript (map string_bytes words.now) → ¬ (Rose (S.faults source.old) (S.faults source.new)) → ¬ (Rose (K.faults sink.old) (K.faults sink.new)) →
         IfSome (S.left source.old) (λ bytes. length bytes ≤ MAX_SCRIPT → IsOk result ⊎ (result ≡ Err RunFault.Memory)) }
-    ensures long { words.now ≡ [] → ¬ (Rose (S.faults source.old) (S.faults source.new)) →
+    ensures long { AsksScript (map string_bytes words.now) → ¬ (Rose (S.faults source.old) (S.faults source.new)) →
         IfSome (S.left source.old) (λ bytes. MAX_SCRIPT < length bytes → (result ≡ Err RunFault.TooLong) ⊎ (result ≡ Err RunFault.Memory)) }
+    ensures comb_complete { (k : ℕ) → AsksComb (map string_bytes words.now) k → ¬ (Rose (K.faults sink.old) (K.faults sink.new)) →
+        IsOk result ⊎ (result ≡ Err RunFault.Memory) }
 {
-    if !words.is_empty() {
-        return Err(RunFault::Usage);
+    match read_words(alloc, words)? {
+        Asked::Script => {
+            let bytes = read_all(alloc, source, MAX_SCRIPT)?;
+            answer_script::<K, Brand>(alloc, &bytes, sink, Blank::new(1))
+        }
+        Asked::Comb(k) => write_comb::<K, Brand>(alloc, k, sink, Blank::new(1)),
     }
-    let bytes = read_all(alloc, source, MAX_SCRIPT)?;
-    answer_script::<K, Brand>(alloc, &bytes, sink, Blank::new(1))
 }
 
 // Answers the records of a script in turn, each as soon as it is read.
@@ -115,6 +132,31 @@ fn answer_script<K: Sink, L: Ledger>(
     Ok(())
 }
 
+// Writes the line of the comb of `k` teeth.
+fn write_comb<K: Sink, L: Ledger>(
+    alloc: Global,
+    k: u32,
+    sink: &mut K,
+    blank: Blank,
+) -> Result<(), RunFault>
+    requires some { 1 ≤ k }
+    requires few { k ≤ MAX_TEETH }
+    requires name { blank.name ≡ L.name }
+    requires parts { blank.parts ≡ L.parts }
+    requires countable { 0 < blank.parts }
+    ensures ok { OnOk result (WritesComb k (K.taken sink.old) (K.taken sink.new)) }
+    ensures counts { OnOk result (K.faults sink.new ≡ K.faults sink.old) }
+    ensures write_fault { result ≡ Err RunFault.WriteFault → Rose (K.faults sink.old) (K.faults sink.new)
+        × WritesCombFront k (K.taken sink.old) (K.taken sink.new) }
+    ensures memory { result ≡ Err RunFault.Memory → sink.new ≡ sink.old }
+    ensures only { OnErr result ((result ≡ Err RunFault.WriteFault) ⊎ (result ≡ Err RunFault.Memory)) }
+{
+    let mut steps = Steps::<L>::new(blank);
+    let line = comb_line(alloc, k, &mut steps)?;
+    write_all(sink, &line)?;
+    Ok(())
+}
+
 // Appends the answer to a record that was read.
 fn answer<L: Ledger>(
     alloc: Global,
@@ -140,6 +182,17 @@ impl From<ReadEnd> for RunFault {
             ReadEnd::Fault => RunFault::ReadFault,
             ReadEnd::TooLong => RunFault::TooLong,
             ReadEnd::Memory => RunFault::Memory,
+        }
+    }
+}
+
+impl From<clap::Error> for RunFault {
+    ghost from_gives = { λ error fault. fault ≡ words_fault (kind_of error) };
+
+    fn from(error: clap::Error) -> RunFault {
+        match error.kind() {
+            ErrorKind::OutOfMemory => RunFault::Memory,
+            _ => RunFault::Usage,
         }
     }
 }

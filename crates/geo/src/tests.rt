@@ -204,22 +204,48 @@ fn the_limit_of_a_script(rt: HostRuntime) -> Result<(), Fail> {
     Ok(())
 }
 
+// Words of the command line, how the run ends, and what it writes. Nothing is read.
 #[test]
-fn words_are_refused(rt: HostRuntime) -> Result<(), Fail> {
-    let lists: [&[&str]; 4] = [&["--comb", "0"], &["--comb", "2048"], &["x"], &["--"]];
-    for list in lists {
+#[rattlefmt::skip]
+fn words(rt: HostRuntime) -> Result<(), Fail> {
+    let rows: [(&[&str], Result<(), RunFault>, &[u8]); 26] = [
+        (&["--comb", "3"], Ok(()), b"comb,3,8,4\n"),
+        (&["--comb", "2047"], Ok(()), b"comb,2047,4096,2048\n"),
+        (&["--comb=1"], Ok(()), b"comb,1,4,2\n"),
+        (&["--comb", "+3"], Ok(()), b"comb,3,8,4\n"),
+        (&["--comb", "0000003"], Ok(()), b"comb,3,8,4\n"),
+        (&["--comb", "0"], Err(RunFault::Usage), b""),
+        (&["--comb", "2048"], Err(RunFault::Usage), b""),
+        (&["--comb", "99999999999999999999"], Err(RunFault::Usage), b""),
+        (&["--comb", "18446744073709551619"], Err(RunFault::Usage), b""),
+        (&["--comb", "-1"], Err(RunFault::Usage), b""),
+        (&["--comb", "+"], Err(RunFault::Usage), b""),
+        (&["--comb", ""], Err(RunFault::Usage), b""),
+        (&["--comb", "3 "], Err(RunFault::Usage), b""),
+        (&["--comb="], Err(RunFault::Usage), b""),
+        (&["--comb=3=4"], Err(RunFault::Usage), b""),
+        (&["--comb"], Err(RunFault::Usage), b""),
+        (&["--comb", "3", "--comb", "4"], Err(RunFault::Usage), b""),
+        (&["--comb", "--comb=3"], Err(RunFault::Usage), b""),
+        (&["--comb", "3", "x"], Err(RunFault::Usage), b""),
+        (&["--com", "3"], Err(RunFault::Usage), b""),
+        (&["--help"], Err(RunFault::Usage), b""),
+        (&["-h"], Err(RunFault::Usage), b""),
+        (&["--version"], Err(RunFault::Usage), b""),
+        (&["x"], Err(RunFault::Usage), b""),
+        (&["--"], Err(RunFault::Usage), b""),
+        (&["--comb", "3", "--"], Err(RunFault::Usage), b""),
+    ];
+    for (list, answer, output) in rows {
         let mut words = Vec::new(rt.alloc());
         for word in list {
             words.push(String::from_str(rt.alloc(), word)?)?;
         }
         let mut source = source(rt.alloc(), b"frob\n", 8, &[])?;
-        let mut sink = sink(rt.alloc(), 8, 8, &[])?;
-        assert_eq!(rt;
-            geo_main(rt.alloc(), &words, &mut source, &mut sink),
-            Err(RunFault::Usage)
-        );
-        assert_eq!(rt; source.left().len(), 5);
-        assert_eq!(rt; sink.taken().len(), 0);
+        let mut sink = sink(rt.alloc(), 64, 8, &[])?;
+        assert_eq!(rt; geo_main(rt.alloc(), &words, &mut source, &mut sink), answer, "{list:?}");
+        assert_eq!(rt; source.left().len(), 5, "{list:?}");
+        assert_eq!(rt; sink.taken(), output, "{list:?}");
     }
     Ok(())
 }

@@ -1,0 +1,53 @@
+-- What the value of the option that was found is asked for.
+use Rattle.std.proofs.Common.{◌≡◌, ◌^◌, ◌<◌, refl, sym, ap, subst, ◌∙◌, inl, inr, ◌⊎◌, ℕ, false, true, List, [], ◌∷◌, ◌++◌, codes, Option, Some, None, Result, Ok, Err, arith}
+use Rattle.std.specs.Str.Parse.{ParsesUnsigned, digits_value, without_leading_plus}
+use Rattle.clap.proofs.WalkLemmas.{one_text-rows}
+use Rattle.clap.specs.Faults.{fault_of}
+use Rattle.clap.specs.Lexer.{without_minus}
+use Rattle.clap.specs.Matches.{ReadsOne, one_text}
+use Rattle.clap.specs.ValueTests.{accepts}
+use Rattle.clap.specs.Walk.{Row, one_of, rows_of}
+use Rattle.clap.specs.Words.{matches_of}
+use Rattle.clap.specs.declared.parser.matches.Found.{Found}
+use Rattle.geo.proofs.Parsed.{IsRead, found, given, nothing, taken_is_read}
+use Rattle.geo.proofs.Taken.{no_hyphen}
+use Rattle.geo.proofs.Teeth.{accepted_is_teeth}
+use Rattle.geo.specs.CommandLine.{comb_command, comb_reader, has_dashes}
+use Rattle.geo.specs.Words.{AsksComb, AsksScript, IsTeeth, apart, joined}
+
+-- the number of teeth that is asked for, or none for a script
+abbrev pub Asks : List (List ℕ) → Option ℕ → Type 0
+Asks words None = AsksScript words
+Asks words (Some k) = AsksComb words k
+
+asks_comb : (words : List (List ℕ)) (text : List ℕ) (k : ℕ) → IsTeeth text k → (words ≡ codes "--comb" ∷ text ∷ []) ⊎ (words ≡ (codes "--comb=" ++ text) ∷ []) → AsksComb words k
+asks_comb words text k h (inl e) = apart text e h
+asks_comb words text k h (inr e) = joined text e h
+
+module _ (E : Type 0) (Gives : List ℕ → Result ℕ E → Type 0) (parses : (u : List ℕ) (x : Result ℕ E) → Gives u x → ParsesUnsigned 32 10 u x)
+    (words : List (List ℕ)) (f : Found) (rows : rows_of f ≡ matches_of comb_command words) (number : Option ℕ)
+    (absent : one_text f (codes "comb") ≡ None → number ≡ None) (present : (t : List ℕ) → one_text f (codes "comb") ≡ Some t → ReadsOne Gives t number) where
+  value_asks : (text : List ℕ) → (words ≡ codes "--comb" ∷ text ∷ []) ⊎ (words ≡ (codes "--comb=" ++ text) ∷ []) → accepts false comb_reader text ≡ true
+      → ReadsOne Gives text number → Asks words number
+  value_asks text form accepted = go number
+    where
+      go : (r : Option ℕ) → ReadsOne Gives text r → Asks words r
+      go (Some v) reads =
+          let teeth = (accepted_is_teeth text accepted).1 in
+          asks_comb words text v (subst (IsTeeth text) (sym (parses text (Ok v) reads).1) teeth) form
+      go None reads =
+          let teeth = (accepted_is_teeth text accepted).1 in
+          let most = teeth.most in
+          let small : digits_value 10 (without_leading_plus text) < 2 ^ 32 = omega arith in
+          absurd (parses text (Err reads.0) reads.1 (teeth.digits, small))
+
+  read_asks : IsRead words (rows_of f) → Asks words number
+  read_asks (nothing none empty) =
+      let is = absent (one_text-rows f (codes "comb") ∙ ap (one_of (codes "comb")) empty) in
+      rw is none
+  read_asks (given text form accepted one) =
+      let plain : without_minus text ≡ text = rw (no_hyphen text (accepted_is_teeth text accepted).0) refl in
+      value_asks text form accepted (present text (one_text-rows f (codes "comb") ∙ ap (one_of (codes "comb")) one ∙ ap (λ t. Some t) plain))
+
+  pub taken_asks : has_dashes words ≡ false → fault_of comb_command words ≡ [] → Asks words number
+  taken_asks d none = read_asks (subst (IsRead words) (sym rows) (taken_is_read words d none))

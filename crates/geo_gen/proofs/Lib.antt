@@ -1,0 +1,5 @@
+pub mod Columns
+pub mod Corners
+pub mod SimpleComb
+pub mod CombLaws
+mod KnownCombs

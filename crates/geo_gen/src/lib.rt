@@ -1,0 +1,10 @@
+//! Polygons made by a rule, on which the program shows how it does where a path is hardest.
+#![tactic(auto)]
+
+mod combs;
+mod laws;
+#[cfg(test)]
+mod tests;
+
+pub use combs::{MAX_TEETH, comb, comb_goal, comb_start};
+pub use laws::comb_ring;
