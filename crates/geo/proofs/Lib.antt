@@ -8,3 +8,4 @@ mod Taken
 mod Asked
 mod Combs
 mod OneAsked
+mod Told
