@@ -7,5 +7,5 @@ mod Teeth
 mod Taken
 mod Asked
 mod Combs
-mod Told
+mod NoFault
 mod Refusals

@@ -1,4 +1,4 @@
-use Rattle.geo.proofs.Told.{never_rises}
+use Rattle.geo.proofs.NoFault.{never_rises}
 use Rattle.geo.proofs.sure.sure_sink_main.Goals as goal
 
 pub returns-clause-untouched : goal.returns-clause-untouched
