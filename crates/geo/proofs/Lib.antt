@@ -7,4 +7,5 @@ mod Teeth
 mod Taken
 mod Asked
 mod Combs
+mod NoFault
 mod Refusals

@@ -1,7 +1,7 @@
 -- What a run without words leaves. `left` and `left'` are the bytes that the source has left at entry and at exit, and
 -- `taken` and `taken'` those that the sink has taken, where they tell them. This project's own.
 use Rattle.std.specs.Io.KnownBytes.{Appends, Consumes, IsAtEnd}
-use Rattle.std.specs.Prelude.{◌≡◌, ℕ, ◌≤◌, List, ◌∷◌, ◌++◌, length, take, None, Option}
+use Rattle.std.specs.Prelude.{◌≡◌, ℕ, ◌≤◌, List, [], ◌∷◌, ◌++◌, length, take, None, Option}
 use Rattle.plane.specs.declared.limits.TheConstants.{MAX_SCRIPT}
 use Rattle.geo_text.specs.Reading.{reading_of}
 use Rattle.geo_text.specs.Records.{records_of}
@@ -50,3 +50,8 @@ pub record AfterReading (left left' : Option (List ℕ)) (Holds : List ℕ → T
   pub bytes : List ℕ
   pub script : ReadsScript left left' bytes
   pub holds : Holds bytes
+
+-- of a source that tells its bytes: all of them were read, and they are not too many for a script
+pub record ReadsAll (bytes left' : List ℕ) : Type 0 where
+  pub end : left' ≡ []
+  pub within : length bytes ≤ MAX_SCRIPT

@@ -2,7 +2,10 @@
 #![tactic(auto)]
 
 mod comb_run;
+#[cfg(test)]
+mod fault_tests;
 mod run;
+mod sure;
 #[cfg(test)]
 mod tests;
 mod words;

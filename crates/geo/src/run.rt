@@ -157,8 +157,8 @@ fn write_comb<K: Sink, L: Ledger>(
     Ok(())
 }
 
-// Appends the answer to a record that was read.
-fn answer<L: Ledger>(
+/// Appends the answer to a record that was read.
+pub(crate) fn answer<L: Ledger>(
     alloc: Global,
     session: &mut Session,
     reading: Result<Command, Bad>,

@@ -4,19 +4,18 @@ ghost use Rattle.std.specs.Prelude.{◌≤◌};
 use crate::run::{RunFault, geo_main};
 use exact_plane::Memory;
 use geo_io::{MemorySink, MemorySource};
-use plane::MAX_SCRIPT;
 use std::alloc::{AllocError, Global};
 use std::test::Fail;
 
 // What a run answered, what the sink took, and how much the source has left.
 #[derive(Drop)]
-struct Outcome {
-    answer: Result<(), RunFault>,
-    taken: Vec<u8>,
-    left: usize,
+pub(crate) struct Outcome {
+    pub(crate) answer: Result<(), RunFault>,
+    pub(crate) taken: Vec<u8>,
+    pub(crate) left: usize,
 }
 
-fn run(
+pub(crate) fn run(
     alloc: Global,
     source: &mut MemorySource,
     sink: &mut MemorySink,
@@ -29,7 +28,7 @@ fn run(
     })
 }
 
-fn source(
+pub(crate) fn source(
     alloc: Global,
     script: &[u8],
     piece: usize,
@@ -44,7 +43,12 @@ fn source(
     ))
 }
 
-fn sink(alloc: Global, room: usize, piece: usize, failing: &[u64]) -> Result<MemorySink, Memory>
+pub(crate) fn sink(
+    alloc: Global,
+    room: usize,
+    piece: usize,
+    failing: &[u64],
+) -> Result<MemorySink, Memory>
     requires { 1 ≤ piece }
 {
     MemorySink::with_room(alloc, room, piece, Vec::from_slice(alloc, failing)?)
@@ -142,14 +146,21 @@ fn worked_scripts(rt: HostRuntime) -> Result<(), Fail> {
 }
 
 #[test]
-fn a_number_of_a_thousand_digits_is_out_of_range(rt: HostRuntime) -> Result<(), Fail> {
-    let mut script = Vec::from_slice(rt.alloc(), b"inside,")?;
-    script.extend_from_slice(&[b'9'; 1000])?;
-    script.extend_from_slice(b",0\n")?;
-    assert_eq!(rt;
-        output(rt.alloc(), &script)?.as_slice(),
-        b"bad,range,1\n".as_slice()
-    );
+fn numbers_of_a_thousand_digits(rt: HostRuntime) -> Result<(), Fail> {
+    let rows: [(u8, &[u8], &[u8]); 2] = [
+        (b'9', b",1\n", b"polygon,6\nbad,range,1\n"),
+        (b'0', b"1,1\n", b"polygon,6\ninside\n"),
+    ];
+    for (digit, rest, want) in rows {
+        let mut script = Vec::from_slice(rt.alloc(), b"polygon,0,0,4,0,4,2,2,2,2,4,0,4\ninside,")?;
+        script.extend_from_slice(&[digit; 1000])?;
+        script.extend_from_slice(rest)?;
+        assert_eq!(rt;
+            output(rt.alloc(), &script)?.as_slice(),
+            want,
+            "of the byte {digit}"
+        );
+    }
     Ok(())
 }
 
@@ -163,7 +174,7 @@ fn output(alloc: Global, script: &[u8]) -> Result<Vec<u8>, Memory> {
 #[test]
 #[rattlefmt::skip]
 fn more_scripts(rt: HostRuntime) -> Result<(), Fail> {
-    let rows: [(&str, &[u8], &[u8]); 21] = [
+    let rows: [(&str, &[u8], &[u8]); 24] = [
         ("words that nothing answers yet", b"hull,1,1\nhull,1\nhull\n", b"bad,later\nbad,later\nbad,later\n"),
         ("a polygon without points", b"polygon\n", b"bad,few\n"),
         ("blanks and signs", b" polygon ,+0,00,4, 0,\t4,4\t", b"polygon,3\n"),
@@ -199,25 +210,13 @@ fn more_scripts(rt: HostRuntime) -> Result<(), Fail> {
         ("refusals of tree and reach", b"tree,0,0\nreach,0,0\npolygon,0,0,4,0,4,2,2,2,2,4,0,4\nreach,9,9\ntree\ntree,1\ntree,1,x\ntree,1,1000001\ntree,3,3\nreach,9,9\ntree,1,1\nreach\nreach,x,1\nreach,1000001,1\nreach,3,3\n",
             b"bad,no_polygon\nbad,no_polygon\npolygon,6\nbad,no_tree\nbad,fields\nbad,fields\nbad,number,2\nbad,range,2\nbad,outside,1\nbad,no_tree\ntree,6\nfrom,0,s\nfrom,1,s\nfrom,2,s\nfrom,3,s\nfrom,4,s\nfrom,5,s\nbad,fields\nbad,number,1\nbad,range,1\nbad,outside,1\n"),
         ("an open quote", b"\"frob,1", b"bad,word\n"),
+        ("a byte that begins no character", b"\xff", b"bad,word\n"),
+        ("a number in quotes", b"polygon,0,0,4,0,4,2,2,2,2,4,0,4\ninside,\"1\",1\n", b"polygon,6\ninside\n"),
+        ("signs and blanks in numbers", b"polygon,0,0,4,0,4,2,2,2,2,4,0,4\ninside,+,1\ninside,--1,1\ninside,1 1,1\ninside,-0,1\n",
+            b"polygon,6\nbad,number,1\nbad,number,1\nbad,number,1\nedge\n"),
     ];
     for (name, script, want) in rows {
         assert_eq!(rt; output(rt.alloc(), script)?.as_slice(), want, "{name}");
-    }
-    Ok(())
-}
-
-#[test]
-fn the_limit_of_a_script(rt: HostRuntime) -> Result<(), Fail> {
-    for (count, want) in [
-        (MAX_SCRIPT, Ok(())),
-        (MAX_SCRIPT + 1, Err(RunFault::TooLong)),
-    ] {
-        let script = vec![in rt.alloc(); b'\n'; count]?;
-        let mut source = MemorySource::new(script, 1 << 20, Vec::new(rt.alloc()));
-        let mut sink = sink(rt.alloc(), 8, 8, &[])?;
-        let outcome = run(rt.alloc(), &mut source, &mut sink)?;
-        assert_eq!(rt; outcome.answer, want, "{count} line feeds");
-        assert_eq!(rt; outcome.taken.len(), 0, "{count} line feeds");
     }
     Ok(())
 }

@@ -7,6 +7,8 @@ mod sink;
 mod source;
 mod std_sink;
 mod std_source;
+mod sure_sink;
+mod sure_source;
 #[cfg(test)]
 mod tests;
 
@@ -16,6 +18,8 @@ pub use sink::{Sink, write_all};
 pub use source::{ReadEnd, Source, read_all};
 pub use std_sink::StdSink;
 pub use std_source::StdSource;
+pub use sure_sink::SureSink;
+pub use sure_source::SureSource;
 
 /// A read or a write failed.
 #[derive(Clone, Copy, Debug, PartialEq, Eq)]

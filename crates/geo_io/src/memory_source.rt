@@ -4,14 +4,14 @@ ghost use Rattle.geo_io.specs.Counts.{Rose, next_count};
 
 use crate::Failed;
 use crate::source::Source;
+use crate::sure_source::SureSource;
 use std::marker::Model;
 
 /// A source of given bytes, which fails at given calls. Its counts of calls and of faults stay at the greatest `u64`
 /// once they are there.
 #[derive(Drop)]
 pub struct MemorySource {
-    bytes: Vec<u8>,
-    given: usize,
+    bytes: SureSource,
     piece: usize,
     failing: Vec<u64>,
     calls: u64,
@@ -19,20 +19,20 @@ pub struct MemorySource {
 }
 
 impl Model for MemorySource {
-    ghost use Rattle.std.specs.Prelude.{◌≤◌, drop, vec_len};
+    ghost use Rattle.std.specs.Prelude.{◌≤◌};
     ghost use Rattle.geo_io.specs.InMemory.{SourceInMemory};
 
     ghost Value = { SourceInMemory };
 
     ghost view = { λ s. record {
-      left = drop s.given s.bytes.items;
+      left = s.bytes;
       piece = s.piece;
       failing = s.failing.items;
       calls = s.calls;
       faults = s.faults;
     } };
 
-    ghost invariant = { λ s. (s.given ≤ vec_len s.bytes) × (1 ≤ s.piece) };
+    ghost invariant = { λ s. 1 ≤ s.piece };
 }
 
 impl MemorySource {
@@ -49,8 +49,7 @@ impl MemorySource {
         } }
     {
         MemorySource {
-            bytes,
-            given: 0,
+            bytes: SureSource::new(bytes),
             piece,
             failing,
             calls: 0,
@@ -62,7 +61,7 @@ impl MemorySource {
     pub fn left(&self) -> &[u8]
         ensures { result.now ≡ self.now.left }
     {
-        &self.bytes[self.given..]
+        self.bytes.left()
     }
 }
 
@@ -94,10 +93,7 @@ impl Source for MemorySource {
             self.faults = self.faults.saturating_add(1);
             return Err(Failed);
         }
-        let left = &self.bytes[self.given..];
-        let count = left.len().min(self.piece.min(into.len()));
-        into[..count].copy_from_slice(&left[..count]);
-        self.given += count;
-        Ok(count)
+        let most = self.piece.min(into.len());
+        self.bytes.read_some(&mut into[..most])
     }
 }

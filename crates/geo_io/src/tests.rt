@@ -1,4 +1,7 @@
-use crate::{Failed, MemorySink, MemorySource, ReadEnd, read_all, write_all};
+use crate::{
+    Failed, MemorySink, MemorySource, ReadEnd, Sink, Source, SureSink, SureSource, read_all,
+    write_all,
+};
 use std::test::Fail;
 
 const BYTES: &[u8] = b"abcdefg";
@@ -55,5 +58,35 @@ fn writes_all_bytes_or_their_front(rt: HostRuntime) -> Result<(), Fail> {
         assert_eq!(rt; write_all(&mut sink, BYTES), written, "with room {room}");
         assert_eq!(rt; sink.taken(), taken.as_bytes());
     }
+    Ok(())
+}
+
+#[test]
+fn a_sure_source_gives_all_that_fits(rt: HostRuntime) -> Result<(), Fail> {
+    let alloc = rt.alloc();
+    let mut source = SureSource::new(BYTES.to_vec(alloc)?);
+    for (room, given, left) in [
+        (3, "abc", "defg"),
+        (1, "d", "efg"),
+        (9, "efg", ""),
+        (2, "", ""),
+    ] {
+        let mut into = vec![in alloc; 0u8; room]?;
+        assert!(rt; !into.is_empty());
+        assert_eq!(rt; source.read_some(&mut into), Ok(given.len()));
+        assert_eq!(rt; &into[..given.len()], given.as_bytes());
+        assert_eq!(rt; source.left(), left.as_bytes());
+    }
+    Ok(())
+}
+
+#[test]
+fn from_a_sure_source_to_a_sure_sink(rt: HostRuntime) -> Result<(), Fail> {
+    let alloc = rt.alloc();
+    let mut source = SureSource::new(BYTES.to_vec(alloc)?);
+    let bytes = read_all(alloc, &mut source, 7)?;
+    assert_eq!(rt; bytes.as_slice(), BYTES);
+    assert_eq!(rt; write_all(&mut SureSink::new(), &bytes), Ok(()));
+    assert_eq!(rt; SureSink::new().write_some(BYTES), Ok(7));
     Ok(())
 }

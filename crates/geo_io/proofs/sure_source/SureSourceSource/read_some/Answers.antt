@@ -1,7 +1,6 @@
-use Rattle.std.proofs.Common.{◌≡◌, ℕ, ◌+◌, List, ◌++◌, length, take, drop, min, ap, sym, arith}
+use Rattle.std.proofs.Common.{◌≡◌, ℕ, ◌+◌, List, ◌++◌, length, take, drop, min, sym, arith}
 use Rattle.std.proofs.lemmas.List.{take_at, drop-drop, take-append-drop, length-take-le, take_rest}
-use Rattle.geo_io.proofs.memory_source.MemorySourceSource.read_some.Goals as goal
-use Rattle.geo_io.specs.InMemory.{SourceInMemory}
+use Rattle.geo_io.proofs.sure_source.SureSourceSource.read_some.Goals as goal
 
 -- what was left is what was put at the front of a slice, and what is left then
 front_and_rest : (bytes copied behind : List ℕ) (given count most : ℕ) → count ≡ min (length (drop given bytes)) most
@@ -13,6 +12,6 @@ front_and_rest bytes copied behind given count most least same =
 
 pub returns-clause-gives : goal.returns-clause-gives
 returns-clause-gives c =
-    let least = rw (c.deref-2.ensures.value, take_rest) at c.min-count.ensures in
-    let same = rw (c.deref-2.ensures.value, take_rest) at c.copy_from_slice.ensures.after in
-    rw (← ap (λ (s : SourceInMemory). s.left) c.self.view_is) (front_and_rest _ _ _ _ _ _ least same)
+    let least = rw (c.deref.ensures.value, take_rest) at c.min-count.ensures in
+    let same = rw (c.deref.ensures.value, take_rest) at c.copy_from_slice.ensures.after in
+    rw (← c.self.view_is) (front_and_rest _ _ _ _ _ _ least same)
