@@ -1,6 +1,6 @@
 -- The comb as a session takes it.
 use Rattle.std.proofs.Common.{◌≡◌, inl, inr, ℕ, List, Result, Ok, Err, Vec, Global}
-use Rattle.std.specs.Prelude.{Some, IfOk}
+use Rattle.std.specs.Prelude.{None, Some}
 use Rattle.plane.specs.Point.{Point, whole}
 use Rattle.rings.proofs.Simple.{no_least_clash}
 use Rattle.rings.specs.Chain.{IsPath}
@@ -12,7 +12,8 @@ use Rattle.geo_session.specs.Answer.{AppendsAnswer, State}
 use Rattle.geo_session.specs.Path.{IsChainAnswer}
 
 -- a simple polygon is held once it is answered
-pub held_once_answered : (ring : List Point) (before after : State) (out out' : List ℕ) → IsSimple ring → AppendsAnswer before (command.Polygon ring) out out' after → after ≡ Some ring
+pub held_once_answered : (ring : List Point) (before after : State) (out out' : List ℕ) → IsSimple ring → AppendsAnswer before (command.Polygon ring) out out' after 
+    → after ≡ Some (record { ring = ring; source = None })
 held_once_answered ring before after out out' simple told = elim told.answer [
   | inl accepted ↦ accepted.state
   | inr refused ↦ absurd (no_least_clash ring refused.i refused.j simple refused.least)
@@ -20,7 +21,7 @@ held_once_answered ring before after out out' simple told = elim told.answer [
 
 -- between two points of the polygon that is held the path is answered, and none is refused
 module _ (state : State) (ring : List Point) (s t s' t' : Point) (found : Result (Vec Point Global) Bad) (answer : IsChainAnswer state s' t' found)
-    (held : state ≡ Some ring) (from : s' ≡ s) (to : t' ≡ t) where
+    (held : state ≡ Some (record { ring = ring; source = None })) (from : s' ≡ s) (to : t' ≡ t) where
   pub answers_path : (points : Vec Point Global) → found ≡ Ok points → IsPath ring s t points.items
   answers_path points is =
       let told = rw (held, from, to, is) at answer in

@@ -1,5 +1,5 @@
 // A run over the comb.
-ghost use Rattle.std.specs.Prelude.{◌≡◌, ◌+◌, ◌≤◌, Some, IfOk, length};
+ghost use Rattle.std.specs.Prelude.{◌≡◌, ◌+◌, ◌≤◌, None, Some, IfOk, length};
 ghost use Rattle.plane.specs.declared.limits.TheConstants.{MAX_CORNERS};
 ghost use Rattle.rings.specs.Chain.{IsPath};
 ghost use Rattle.geo_gen.specs.Comb.{comb_goal, comb_list, comb_start};
@@ -47,7 +47,7 @@ fn session_with<L: Ledger>(
     requires some { 1 ≤ k }
     requires few { k ≤ MAX_TEETH }
     requires comb { points.items ≡ comb_list k }
-    ensures { IfOk result (λ session. session ≡ Some (comb_list k)) }
+    ensures { IfOk result (λ session. session ≡ Some (record { ring = comb_list k; source = None })) }
 {
     comb_ring(k);
     let mut session = Session::new();
@@ -70,7 +70,7 @@ fn path_through<L: Ledger>(
 ) -> Result<Vec<Pt>, Memory>
     requires some { 1 ≤ k }
     requires few { k ≤ MAX_TEETH }
-    requires held { session.now ≡ Some (comb_list k) }
+    requires held { session.now ≡ Some (record { ring = comb_list k; source = None }) }
     ensures path { IfOk result (λ points. IsPath (comb_list k) comb_start (comb_goal k) points.items) }
     ensures few { IfOk result (λ points. length points.items ≤ MAX_CORNERS + 1) }
 {
