@@ -1,6 +1,6 @@
 -- What the value of the option that was found is asked for.
 use Rattle.std.proofs.Common.{◌≡◌, ◌^◌, ◌<◌, refl, sym, ap, subst, ◌∙◌, inl, inr, ◌⊎◌, ℕ, false, true, List, [], ◌∷◌, ◌++◌, codes, Option, Some, None, Result, Ok, Err, arith}
-use Rattle.std.specs.Str.Parse.{ParsesUnsigned, digits_value, without_leading_plus}
+use Rattle.std.specs.Str.Parse.{ExplainsUnsignedError, HasUnsignedDigitsIfOk, ParsesUnsigned, digits_value, without_leading_plus}
 use Rattle.clap.proofs.WalkLemmas.{one_text-rows}
 use Rattle.clap.specs.Faults.{fault_of}
 use Rattle.clap.specs.Lexer.{without_minus}
@@ -24,22 +24,25 @@ asks_comb : (words : List (List ℕ)) (text : List ℕ) (k : ℕ) → IsTeeth te
 asks_comb words text k h (inl e) = apart text e h
 asks_comb words text k h (inr e) = joined text e h
 
-module _ (E : Type 0) (Gives : List ℕ → Result ℕ E → Type 0) (parses : (u : List ℕ) (x : Result ℕ E) → Gives u x → ParsesUnsigned 32 10 u x)
-    (words : List (List ℕ)) (f : Found) (rows : rows_of f ≡ matches_of comb_command words) (number : Option ℕ)
-    (absent : one_text f (codes "comb") ≡ None → number ≡ None) (present : (t : List ℕ) → one_text f (codes "comb") ≡ Some t → ReadsOne Gives t number) where
+-- the number is what the text reads as
+abbrev IsReadOf : List ℕ → Option ℕ → Type 0
+IsReadOf = ReadsOne (λ u x. ParsesUnsigned 32 10 u x × ExplainsUnsignedError 10 u x × HasUnsignedDigitsIfOk u x)
+
+module _ (words : List (List ℕ)) (f : Found) (rows : rows_of f ≡ matches_of comb_command words) (number : Option ℕ)
+    (absent : one_text f (codes "comb") ≡ None → number ≡ None) (present : (t : List ℕ) → one_text f (codes "comb") ≡ Some t → IsReadOf t number) where
   value_asks : (text : List ℕ) → (words ≡ codes "--comb" ∷ text ∷ []) ⊎ (words ≡ (codes "--comb=" ++ text) ∷ []) → accepts false comb_reader text ≡ true
-      → ReadsOne Gives text number → Asks words number
+      → IsReadOf text number → Asks words number
   value_asks text form accepted = go number
     where
-      go : (r : Option ℕ) → ReadsOne Gives text r → Asks words r
+      go : (r : Option ℕ) → IsReadOf text r → Asks words r
       go (Some v) reads =
           let teeth = (accepted_is_teeth text accepted).1 in
-          asks_comb words text v (subst (IsTeeth text) (sym (parses text (Ok v) reads).1) teeth) form
+          asks_comb words text v (subst (IsTeeth text) (sym reads.0.1) teeth) form
       go None reads =
           let teeth = (accepted_is_teeth text accepted).1 in
           let most = teeth.most in
           let small : digits_value 10 (without_leading_plus text) < 2 ^ 32 = omega arith in
-          absurd (parses text (Err reads.0) reads.1 (teeth.digits, small))
+          absurd (reads.1.0 (teeth.digits, small))
 
   read_asks : IsRead words (rows_of f) → Asks words number
   read_asks (nothing none empty) =

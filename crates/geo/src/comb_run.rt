@@ -52,7 +52,12 @@ fn session_with<L: Ledger>(
     comb_ring(k);
     let mut session = Session::new();
     let mut answer = Vec::new(alloc);
-    session.answer(alloc, Command::Polygon(Points::of(points)), &mut answer, steps)?;
+    session.answer(
+        alloc,
+        Command::Polygon(Points::of(points)),
+        &mut answer,
+        steps,
+    )?;
     Ok(session)
 }
 

@@ -203,6 +203,15 @@ fn more_scripts(rt: HostRuntime) -> Result<(), Fail> {
     Ok(())
 }
 
+fn strings(alloc: Global, words: &[&str]) -> Result<Vec<String>, AllocError> {
+    let mut strings = Vec::new(alloc);
+    for word in words {
+        strings.push(String::from_str(alloc, word)?)?;
+    }
+    Ok(strings)
+}
+
+// Words of the command line, how the run ends, and what it writes. Nothing is read.
 #[test]
 #[rattlefmt::skip]
 fn words(rt: HostRuntime) -> Result<(), Fail> {
@@ -235,10 +244,7 @@ fn words(rt: HostRuntime) -> Result<(), Fail> {
         (&["--comb", "3", "--"], Err(RunFault::Usage), b""),
     ];
     for (list, answer, output) in rows {
-        let mut words = Vec::new(rt.alloc());
-        for word in list {
-            words.push(String::from_str(rt.alloc(), word)?)?;
-        }
+        let words = strings(rt.alloc(), list)?;
         let mut source = source(rt.alloc(), b"frob\n", 8, &[])?;
         let mut sink = sink(rt.alloc(), 64, 8, &[])?;
         assert_eq!(rt; geo_main(rt.alloc(), &words, &mut source, &mut sink), answer, "{list:?}");
