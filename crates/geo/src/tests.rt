@@ -80,7 +80,7 @@ fn plain(number: u32, script: &'static [u8], output: &'static [u8]) -> Row {
 #[test]
 #[rattlefmt::skip]
 fn worked_scripts(rt: HostRuntime) -> Result<(), Fail> {
-    let rows: [Row; 30] = [
+    let rows: [Row; 33] = [
         plain(1, b"polygon,0,0,4,0,4,2,2,2,2,4,0,4\n", b"polygon,6\n"),
         plain(2, b"", b""),
         plain(3, b"polygon,0,0,4,4,4,0,0,4\n", b"bad,clash,0,2\n"),
@@ -94,6 +94,8 @@ fn worked_scripts(rt: HostRuntime) -> Result<(), Fail> {
         plain(11, b"polygon,0,0,4,0,4,2,2,2,2,4,0,4\npath,1,1,1,1\npath,2,2,2,2\n", b"polygon,6\npath,1,1,1\npath,1,2,2\n"),
         plain(12, b"polygon,0,0,4,0,4,2,2,2,2,4,0,4\npath,3,3,1,1\npath,1,1,3,3\npath,3,3,3,3\n",
             b"polygon,6\nbad,outside,1\nbad,outside,2\nbad,outside,1\n"),
+        plain(13, b"polygon,0,0,4,0,4,2,2,2,2,4,0,4\nreach,1,4\ntree,4,1\nreach,1,4\n",
+            b"polygon,6\nbad,no_tree\ntree,6\nfrom,0,s\nfrom,1,s\nfrom,2,s\nfrom,3,s\nfrom,4,3\nfrom,5,3\npath,3,4,1,2,2,1,4\n"),
         plain(14, b"polygon,0,0,5,0,5,2,3,2,3,5,0,5\nsee,5,1\n",
             b"polygon,6\nsee,5\npart,0,0,0,5,0\npart,1,5,0,5,2\npart,2,5,2,3,2\npart,3,3,2,3,2\npart,5,0,7/2,0,0\n"),
         plain(15, b"polygon,0,0,4,0,4,2,2,2,2,4,0,4\nkernel\npolygon,0,0,2,0,2,1,4,1,4,2,1,2,1,1,0,1\nkernel\npolygon,0,0,6,0,6,4,4,4,4,2,2,2,2,4,0,4\nkernel\n",
@@ -102,8 +104,8 @@ fn worked_scripts(rt: HostRuntime) -> Result<(), Fail> {
         Row { failing_read: 2, room: 100, answer: Err(RunFault::ReadFault), ..plain(19, b"polygon,0,0", b"") },
         Row { failing_write: 3, room: 100, answer: Err(RunFault::WriteFault),
             ..plain(19, b"polygon,0,0,4,0,4,2,2,2,2,4,0,4\npath,4,1,1,4\n", b"polygon,6\npath,3,4,1") },
-        // without `tree`
-        plain(20, b"polygon,0,4,2,4,2,2,4,2,4,0,0,0\npath,4,1,1,4\n", b"polygon,6\npath,3,4,1,2,2,1,4\n"),
+        plain(20, b"polygon,0,4,2,4,2,2,4,2,4,0,0,0\npath,4,1,1,4\ntree,4,1\n",
+            b"polygon,6\npath,3,4,1,2,2,1,4\ntree,6\nfrom,0,2\nfrom,1,2\nfrom,2,s\nfrom,3,s\nfrom,4,s\nfrom,5,s\n"),
         plain(21, b"polygon,0,0,4,0,4,2,2,2,2,4,0,4\ninside,1,1\ninside,4,1\ninside,2,2\ninside,3,3\ninside,1,2\n",
             b"polygon,6\ninside\nedge\nedge\noutside\ninside\n"),
         plain(22, b"polygon,0,0,4,0,4,2,2,2,2,4,0,4\ncheck,4,1,1,4\ncheck,4,1,4,1\ncheck,0,0,1,1,2,2\ncheck,4,2,2,2,0,0\ncheck,3,3\ncheck,1,1\n",
@@ -111,6 +113,10 @@ fn worked_scripts(rt: HostRuntime) -> Result<(), Fail> {
         plain(23, b"frob,1\npolygon,0,0,1\npolygon,0,0,1,1\npolygon,0,0,x,0,0,9999999\nkernel\npath,1,x,1,1\npath,1,2,3\ncheck\ninside,,1\ngeo,2\n",
             b"bad,word\nbad,fields\nbad,few\nbad,number,3\nbad,no_polygon\nbad,number,2\nbad,fields\nbad,few\nbad,number,1\nbad,word\n"),
         plain(24, b"polygon,0,0,4,0,4,2,2,2,2,4,0,4\npolygon,0,0,4,4,4,0,0,4\ninside,1,1\n", b"polygon,6\nbad,clash,0,2\ninside\n"),
+        plain(25, b"polygon,0,0,4,0,4,2,2,2,2,4,0,4\ntree,4,1\ntree,3,3\nreach,1,4\npolygon,0,0,4,0,4,2,2,2,2,4,0,4\nreach,1,4\n",
+            b"polygon,6\ntree,6\nfrom,0,s\nfrom,1,s\nfrom,2,s\nfrom,3,s\nfrom,4,3\nfrom,5,3\nbad,outside,1\npath,3,4,1,2,2,1,4\npolygon,6\nbad,no_tree\n"),
+        plain(26, b"polygon,0,0,4,0,4,2,2,2,2,4,0,4\ntree,2,2\nreach,2,2\nreach,4,2\n",
+            b"polygon,6\ntree,6\nfrom,0,s\nfrom,1,s\nfrom,2,s\nfrom,3,-\nfrom,4,s\nfrom,5,s\npath,1,2,2\npath,2,2,2,4,2\n"),
         plain(27, b"polygon,0,0,2,0,2,1,4,1,4,2,1,2,1,1,0,1\nsee,0,1\n",
             b"polygon,8\nsee,7\npart,0,0,0,2,0\npart,1,2,0,2,1\npart,2,2,1,4,1\npart,3,4,1,4,1\npart,5,1,1,1,1\npart,6,1,1,0,1\npart,7,0,1,0,0\n"),
         plain(28, b"polygon,0,0,6,0,3,1,0,5\nkernel\n", b"polygon,4\nkernel,4\ncorner,0,0\ncorner,15/4,0\ncorner,3,1\ncorner,0,2\n"),
@@ -157,8 +163,8 @@ fn output(alloc: Global, script: &[u8]) -> Result<Vec<u8>, Memory> {
 #[test]
 #[rattlefmt::skip]
 fn more_scripts(rt: HostRuntime) -> Result<(), Fail> {
-    let rows: [(&str, &[u8], &[u8]); 15] = [
-        ("words that nothing answers yet", b"tree,1,1\nreach,1\nhull\n", b"bad,later\nbad,later\nbad,later\n"),
+    let rows: [(&str, &[u8], &[u8]); 16] = [
+        ("words that nothing answers yet", b"hull,1,1\nhull,1\nhull\n", b"bad,later\nbad,later\nbad,later\n"),
         ("a polygon without points", b"polygon\n", b"bad,few\n"),
         ("blanks and signs", b" polygon ,+0,00,4, 0,\t4,4\t", b"polygon,3\n"),
         ("a refusal keeps what follows", b"polygon,0,0,4,4,4,0,0,4\npolygon,0,0,4,0,0,4\n", b"bad,clash,0,2\npolygon,3\n"),
@@ -180,6 +186,8 @@ fn more_scripts(rt: HostRuntime) -> Result<(), Fail> {
             b"bad,no_polygon\nbad,fields\nbad,number,4\nbad,range,4\n"),
         ("refusals of see and kernel", b"see,0,0\nkernel\npolygon,0,0,4,0,4,2,2,2,2,4,0,4\nsee\nsee,1\nsee,1,x\nsee,1,1000001\nsee,3,3\nkernel,1\n",
             b"bad,no_polygon\nbad,no_polygon\npolygon,6\nbad,fields\nbad,fields\nbad,number,2\nbad,range,2\nbad,outside,1\nbad,fields\n"),
+        ("refusals of tree and reach", b"tree,0,0\nreach,0,0\npolygon,0,0,4,0,4,2,2,2,2,4,0,4\nreach,9,9\ntree\ntree,1\ntree,1,x\ntree,1,1000001\ntree,3,3\nreach,9,9\ntree,1,1\nreach\nreach,x,1\nreach,1000001,1\nreach,3,3\n",
+            b"bad,no_polygon\nbad,no_polygon\npolygon,6\nbad,no_tree\nbad,fields\nbad,fields\nbad,number,2\nbad,range,2\nbad,outside,1\nbad,no_tree\ntree,6\nfrom,0,s\nfrom,1,s\nfrom,2,s\nfrom,3,s\nfrom,4,s\nfrom,5,s\nbad,fields\nbad,number,1\nbad,range,1\nbad,outside,1\n"),
         ("an open quote", b"\"frob,1", b"bad,word\n"),
     ];
     for (name, script, want) in rows {

@@ -22,7 +22,7 @@ under_both (Err e) f h k = tt
 
 module _ (before : State) (ring : List Point) (out out' : List ℕ) where
   pub accepted : {E : Type 0} (after : State) (count : ℕ) (put : Result (Unit {0}) E) → IsSimple ring → count ≡ length ring
-      → OnOk put (out' ≡ out ++ polygon_text count) → OnOk put (after ≡ Some ring)
+      → OnOk put (out' ≡ out ++ polygon_text count) → OnOk put (after ≡ Some (record { ring = ring; source = None }))
       → OnOk put (AppendsAnswer before (command.Polygon ring) out out' after)
   accepted after count put simple counted = under_both put
       (λ written kept. record {
@@ -45,7 +45,7 @@ pub path_answered : {E : Type 0} (before : State) (s t : Point) (points : Vec Po
     → IsChainAnswer before s t (Ok points) → OnOk put (out' ≡ out ++ path_text points.items)
     → OnOk put (AppendsAnswer before (command.Path s t) out out' before)
 path_answered None s t points out out' put h = absurd cc
-path_answered (Some ring) s t points out out' put h = under_ok put
+path_answered (Some kept) s t points out out' put h = under_ok put
     (λ written. record {
       text = path_text points.items;
       answer = (found h.0 h.1 (record { points = points.items; path = h.2; told = refl }), refl);

@@ -1,11 +1,15 @@
 -- The answer to a command is a function of the state and the command, and the output one of the script.
-use Rattle.std.proofs.Common.{◌≡◌, inl, inr, refl, sym, ap, subst, ◌∙◌, ℕ, List, [], ◌∷◌, ◌++◌, Result, Ok, Err}
-use Rattle.std.specs.Prelude.{Some, None}
+use Rattle.std.proofs.Common.{◌≡◌, inl, inr, refl, sym, ap, subst, ◌∙◌, ℕ, ◌-◌, List, [], ◌∷◌, ◌++◌, length, Result, Ok, Err, arith}
+use Rattle.std.proofs.lemmas.List.{ext_get_or}
+use Rattle.std.specs.List.{concat}
+use Rattle.std.specs.Prelude.{Option, Some, None, codes}
 use Rattle.plane.specs.Point.{Point}
 use Rattle.rings.proofs.Simple.{least_clash_is_one, no_least_clash}
+use Rattle.rings.specs.Chain.{point_at}
+use Rattle.rings.specs.From.{IsBefore}
 use Rattle.geo_text.specs.Reading.{reading_of}
 use Rattle.geo_text.specs.Records.{records_of}
-use Rattle.geo_text.specs.Texts.{bad_text}
+use Rattle.geo_text.specs.Texts.{bad_text, index_text}
 use Rattle.geo_text.specs.declared.command.Bad.{Bad}
 use Rattle.geo_text.specs.declared.command.Bad.TheVariants as bad
 use Rattle.geo_text.specs.declared.command.Command.{Command}
@@ -14,9 +18,11 @@ use Rattle.taut_check.specs.declared.verdict.Verdict.{Verdict}
 use Rattle.taut_check.specs.declared.verdict.Verdict.TheVariants as verdict
 use Rattle.geo_session.proofs.OneVerdict.{one_verdict}
 use Rattle.geo_session.proofs.OneView.{one_kernel, one_view}
-use Rattle.geo_session.specs.Answer.{AcceptsPolygon, IsInsideText, IsCheckText, IsKernelText, IsPathIn, IsPathText, IsPlaceText, IsReadingAnswer}
-use Rattle.geo_session.specs.Answer.{IsSeeText, IsVerdictText, IsViewIn, RefusesPolygon, State, TellsPath, TellsVerdict, first_outside, found}
-use Rattle.geo_session.specs.Answer.{inside, on_edge, outside, path_text, second_outside, sees, sees_nothing}
+use Rattle.geo_session.specs.Answer.{AcceptsPolygon, IsInsideText, IsCheckText, IsFromText, IsKernelText, IsPathIn, IsPathText, IsPlaceText}
+use Rattle.geo_session.specs.Answer.{IsReachFrom, IsReachIn, IsReachText, IsReadingAnswer, IsSeeText, IsTreeIn, IsTreeText, IsVerdictText, IsViewIn}
+use Rattle.geo_session.specs.Answer.{Kept, RefusesPolygon, State, TellsPath, TellsTree, TellsVerdict, at_source, first_outside, found, from_source, from_text}
+use Rattle.geo_session.specs.Answer.{from_vertex, goal_outside, grown, inside, on_edge, outside, path_text, reached, second_outside, sees, sees_nothing}
+use Rattle.geo_session.specs.Answer.{source_outside}
 use Rattle.geo_session.specs.Laws.{OneAnswerLaw, OneOutputLaw}
 use Rattle.geo_session.specs.Output.{AreAnswers}
 
@@ -83,6 +89,61 @@ module _ (ring : List Point) (s t : Point) (one other : List ℕ) where
   one_path_in (found _ within e) (second_outside _ out f) = absurd (out within)
   one_path_in (found _ _ e) (found _ _ f) = one_path e f
 
+-- ---- the tree of a point, and the paths in it
+
+module _ (ring : List Point) (s t : Point) where
+  -- the path is the only one, so one point comes before its end,
+  one_before : (x y : Point) → IsBefore ring s t x → IsBefore ring s t y → x ≡ y
+  one_before x y h g =
+      let same : h.path ≡ g.path = (g.is_path h.path).0 ((h.is_path h.path).1 refl) in
+      sym h.is ∙ ap (λ path. point_at path (length path - 2)) same ∙ g.is
+
+  -- and none where the path begins there
+  none_before : t ≡ s → (x : Point) → ¬ IsBefore ring s t x
+  none_before same x h =
+      let taut = (h.is_path h.path).1 refl in
+      omega (arith, taut.single (sym same), h.more)
+
+module _ (ring : List Point) (s : Point) (i : ℕ) (one other : List ℕ) where
+  one_from_text : IsFromText ring s i one → IsFromText ring s i other → one ≡ other
+  one_from_text (at_source _ e) (at_source _ f) = both e f
+  one_from_text (at_source is e) (from_source before f) = absurd (none_before ring s _ is s before)
+  one_from_text (at_source is e) (from_vertex x _ before _ _ f) = absurd (none_before ring s _ is x before)
+  one_from_text (from_source before e) (at_source is f) = absurd (none_before ring s _ is s before)
+  one_from_text (from_source _ e) (from_source _ f) = both e f
+  one_from_text (from_source h e) (from_vertex x _ g off _ f) = absurd (off (one_before ring s _ x s g h))
+  one_from_text (from_vertex x _ before _ _ e) (at_source is f) = absurd (none_before ring s _ is x before)
+  one_from_text (from_vertex x _ h off _ e) (from_source g f) = absurd (off (one_before ring s _ x s h g))
+  one_from_text (from_vertex x j h _ is e) (from_vertex y k g _ is_too f) =
+      e ∙ ap (λ n. from_text i (index_text n)) (is_too.only j is.in_ring (is.at ∙ one_before ring s _ x y h g)) ∙ sym f
+
+module _ (ring : List Point) (s : Point) (one other : List ℕ) where
+  -- so each line is one
+  one_tree : TellsTree ring s one → TellsTree ring s other → one ≡ other
+  one_tree h g =
+      let same : h.lines ≡ g.lines = ext_get_or [] h.lines g.lines (h.one_each ∙ sym g.one_each)
+      (λ i below. one_from_text ring s i _ _ (h.each i (omega (arith, h.one_each, below))) (g.each i (omega (arith, h.one_each, below)))) in
+      h.told ∙ ap (λ (lines : List (List ℕ)). codes "tree" ++ index_text (length ring) ++ codes "\n" ++ concat lines) same ∙ sym g.told
+
+module _ (kept : Kept) (s : Point) (one other : List ℕ) (after after' : State) where
+  one_tree_in : IsTreeIn kept s one after → IsTreeIn kept s other after' → (one ≡ other) × (after ≡ after')
+  one_tree_in (source_outside _ e k) (source_outside _ f l) = (both e f, k ∙ sym l)
+  one_tree_in (source_outside out _ _) (grown within _ _) = absurd (out within)
+  one_tree_in (grown within _ _) (source_outside out _ _) = absurd (out within)
+  one_tree_in (grown _ e k) (grown _ f l) = (one_tree kept.ring s one other e f, k ∙ sym l)
+
+module _ (ring : List Point) (s t : Point) (one other : List ℕ) where
+  one_reach_from : IsReachFrom ring s t one → IsReachFrom ring s t other → one ≡ other
+  one_reach_from (goal_outside _ e) (goal_outside _ f) = both e f
+  one_reach_from (goal_outside out _) (reached within _) = absurd (out within)
+  one_reach_from (reached within _) (goal_outside out _) = absurd (out within)
+  one_reach_from (reached _ e) (reached _ f) = one_path ring s t one other e f
+
+one_reach_in : (ring : List Point) (source : Option Point) (t : Point) (one other : List ℕ) → IsReachIn ring source t one → IsReachIn ring source t other
+    → one ≡ other
+one_reach_in ring None t one other e f = both e f
+one_reach_in ring (Some s) t one other h g = one_reach_from ring s t one other h g
+
 -- ---- what a point sees, and the kernel
 
 module _ (ring : List Point) (q : Point) (one other : List ℕ) where
@@ -96,24 +157,33 @@ module _ (ring : List Point) (q : Point) (one other : List ℕ) where
 
 one_inside : (before : State) (p : Point) (one other : List ℕ) → IsInsideText before p one → IsInsideText before p other → one ≡ other
 one_inside None p one other e f = both e f
-one_inside (Some ring) p one other h g = one_place_text ring p one other h g
+one_inside (Some kept) p one other h g = one_place_text kept.ring p one other h g
 
 one_check : (before : State) (points : List Point) (one other : List ℕ) → IsCheckText before points one → IsCheckText before points other
     → one ≡ other
 one_check None points one other e f = both e f
-one_check (Some ring) points one other h g = one_judgement ring points one other h g
+one_check (Some kept) points one other h g = one_judgement kept.ring points one other h g
 
 one_path_text : (before : State) (s t : Point) (one other : List ℕ) → IsPathText before s t one → IsPathText before s t other → one ≡ other
 one_path_text None s t one other e f = both e f
-one_path_text (Some ring) s t one other h g = one_path_in ring s t one other h g
+one_path_text (Some kept) s t one other h g = one_path_in kept.ring s t one other h g
+
+one_tree_text : (before : State) (s : Point) (one other : List ℕ) (after after' : State) → IsTreeText before s one after
+    → IsTreeText before s other after' → (one ≡ other) × (after ≡ after')
+one_tree_text None s one other after after' h g = (both h.0 g.0, h.1 ∙ sym g.1)
+one_tree_text (Some kept) s one other after after' h g = one_tree_in kept s one other after after' h g
+
+one_reach : (before : State) (t : Point) (one other : List ℕ) → IsReachText before t one → IsReachText before t other → one ≡ other
+one_reach None t one other e f = both e f
+one_reach (Some kept) t one other h g = one_reach_in kept.ring kept.source t one other h g
 
 one_see : (before : State) (q : Point) (one other : List ℕ) → IsSeeText before q one → IsSeeText before q other → one ≡ other
 one_see None q one other e f = both e f
-one_see (Some ring) q one other h g = one_view_in ring q one other h g
+one_see (Some kept) q one other h g = one_view_in kept.ring q one other h g
 
 one_kernel_of : (before : State) (one other : List ℕ) → IsKernelText before one → IsKernelText before other → one ≡ other
 one_kernel_of None one other e f = both e f
-one_kernel_of (Some ring) one other h g = one_kernel ring one other h g
+one_kernel_of (Some kept) one other h g = one_kernel kept.ring one other h g
 
 pub one_answer : OneAnswerLaw
 one_answer before (command.Polygon ring) one other after after' (inl h) (inl g) = one_acceptance before ring one other after after' h g
@@ -123,6 +193,8 @@ one_answer before (command.Polygon ring) one other after after' (inr h) (inr g) 
 one_answer before (command.Inside p) one other after after' h g = (one_inside before p one other h.0 g.0, h.1 ∙ sym g.1)
 one_answer before (command.Check points) one other after after' h g = (one_check before points one other h.0 g.0, h.1 ∙ sym g.1)
 one_answer before (command.Path s t) one other after after' h g = (one_path_text before s t one other h.0 g.0, h.1 ∙ sym g.1)
+one_answer before (command.Tree s) one other after after' h g = one_tree_text before s one other after after' h g
+one_answer before (command.Reach t) one other after after' h g = (one_reach before t one other h.0 g.0, h.1 ∙ sym g.1)
 one_answer before (command.See q) one other after after' h g = (one_see before q one other h.0 g.0, h.1 ∙ sym g.1)
 one_answer before command.Kernel one other after after' h g = (one_kernel_of before one other h.0 g.0, h.1 ∙ sym g.1)
 

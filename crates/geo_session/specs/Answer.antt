@@ -1,10 +1,14 @@
 -- What each command answers, and the state that it leaves. This project's own.
-use Rattle.std.specs.Prelude.{◌≡◌, ℕ, ◌⊎◌, ◌↔◌, ◌++◌, List, [], ◌∷◌, length, codes, flat_map, Option, Some, None, Result, Ok, Err}
+use Rattle.std.specs.List.{concat}
+use Rattle.std.specs.Prelude.{◌≡◌, ◌≢◌, ℕ, ◌<◌, ◌⊎◌, ◌↔◌, ◌++◌, List, [], ◌∷◌, length, codes, flat_map, slice_index_or}
+use Rattle.std.specs.Prelude.{Option, Some, None, Result, Ok, Err}
 use Rattle.plane.specs.Point.{IsPoint, Point, Triple, whole}
 use Rattle.rings.specs.Chain.{IsPath}
 use Rattle.rings.specs.Edge.{IsOnSome, edges_of}
+use Rattle.rings.specs.From.{IsBefore}
 use Rattle.rings.specs.Inside.{IsIn}
 use Rattle.rings.specs.Kernel.{IsKernel}
+use Rattle.rings.specs.Ring.{vertex}
 use Rattle.rings.specs.Sees.{Sees}
 use Rattle.rings.specs.Simple.{IsLeastClash, IsSimple}
 use Rattle.rings.specs.Visible.{AreParts, IsInView, Part}
@@ -17,19 +21,24 @@ use Rattle.taut_check.specs.Verdict.{IsVerdict}
 use Rattle.taut_check.specs.declared.verdict.Verdict.{Verdict}
 use Rattle.taut_check.specs.declared.verdict.Verdict.TheVariants as verdict
 
--- the polygon that was accepted last, as it was given; none at first
+-- the polygon that was accepted last, as it was given, and the source of the last tree in it, if there is one
+pub record Kept : Type 0 where
+  pub ring : List Point
+  pub source : Option Point
+
+-- what is kept; nothing at first
 abbrev pub State : Type 0
-State = Option (List Point)
+State = Option Kept
 
 -- the line of an accepted polygon with this many vertices
 abbrev pub polygon_text : ℕ → List ℕ
 polygon_text count = codes "polygon" ++ index_text count ++ codes "\n"
 
--- a simple polygon is accepted, and takes the place of the one before
+-- a simple polygon is accepted, and takes the place of the one before; there is no tree in it yet
 pub record AcceptsPolygon (before : State) (ring : List Point) (text : List ℕ) (after : State) : Type 0 where
   pub simple : IsSimple ring
   pub answer : text ≡ polygon_text (length ring)
-  pub state : after ≡ Some ring
+  pub state : after ≡ Some (record { ring = ring; source = None })
 
 -- another one is refused by its least clash, and leaves the one before
 pub record RefusesPolygon (before : State) (ring : List Point) (text : List ℕ) (after : State) : Type 0 where
@@ -48,7 +57,7 @@ pub data IsPlaceText (ring : List Point) (p : Point) (text : List ℕ) : Type 0 
 -- the place of a point is told if there is a polygon
 abbrev pub IsInsideText : State → Point → List ℕ → Type 0
 IsInsideText None p text = text ≡ bad_text bad.NoPolygon
-IsInsideText (Some ring) p text = IsPlaceText ring p text
+IsInsideText (Some kept) p text = IsPlaceText kept.ring p text
 
 -- the line that names a broken rule and the place of the point
 abbrev pub broken_text : List ℕ → ℕ → List ℕ
@@ -73,7 +82,7 @@ pub record TellsVerdict (ring : List Point) (points : List Point) (text : List �
 -- the verdict is told if there is a polygon
 abbrev pub IsCheckText : State → List Point → List ℕ → Type 0
 IsCheckText None points text = text ≡ bad_text bad.NoPolygon
-IsCheckText (Some ring) points text = TellsVerdict ring points text
+IsCheckText (Some kept) points text = TellsVerdict kept.ring points text
 
 -- the line of some points: how many there are, and then each
 abbrev pub points_text : List Point → List ℕ
@@ -98,7 +107,57 @@ pub data IsPathIn (ring : List Point) (s t : Point) (text : List ℕ) : Type 0 w
 -- so it is if there is a polygon
 abbrev pub IsPathText : State → Point → Point → List ℕ → Type 0
 IsPathText None s t text = text ≡ bad_text bad.NoPolygon
-IsPathText (Some ring) s t text = IsPathIn ring s t text
+IsPathText (Some kept) s t text = IsPathIn kept.ring s t text
+
+-- the line that tells by some letters what comes before vertex i
+abbrev pub from_text : ℕ → List ℕ → List ℕ
+from_text i before = codes "from" ++ index_text i ++ before ++ codes "\n"
+
+-- vertex j is at x, and no other vertex is
+pub record IsNumber (ring : List Point) (x : Point) (j : ℕ) : Type 0 where
+  pub in_ring : j < length ring
+  pub at : vertex ring j ≡ x
+  pub only : (k : ℕ) → k < length ring → vertex ring k ≡ x → k ≡ j
+
+-- the line of vertex i in the tree of s: the vertex is at s, or s comes before it on its path from s, or another vertex, which is named
+pub data IsFromText (ring : List Point) (s : Point) (i : ℕ) (line : List ℕ) : Type 0 where
+  at_source : vertex ring i ≡ s → line ≡ from_text i (codes ",-") → IsFromText ring s i line
+  from_source : IsBefore ring s (vertex ring i) s → line ≡ from_text i (codes ",s") → IsFromText ring s i line
+  from_vertex : (x : Point) (j : ℕ) → IsBefore ring s (vertex ring i) x → x ≢ s → IsNumber ring x j → line ≡ from_text i (index_text j)
+      → IsFromText ring s i line
+
+-- the text is the lines of the tree of s: how many vertices there are, and then each
+pub record TellsTree (ring : List Point) (s : Point) (text : List ℕ) : Type 0 where
+  pub lines : List (List ℕ)
+  pub one_each : length lines ≡ length ring
+  pub each : (i : ℕ) → i < length ring → IsFromText ring s i (slice_index_or lines i [])
+  pub told : text ≡ codes "tree" ++ index_text (length ring) ++ codes "\n" ++ concat lines
+
+-- a point that is not in the polygon is refused, and of another one the tree is told; it is the source from then on
+pub data IsTreeIn (kept : Kept) (s : Point) (text : List ℕ) (after : State) : Type 0 where
+  source_outside : ¬ IsIn kept.ring (whole s) → text ≡ bad_text (bad.Outside 1) → after ≡ Some kept → IsTreeIn kept s text after
+  grown : IsIn kept.ring (whole s) → TellsTree kept.ring s text → after ≡ Some (record { ring = kept.ring; source = Some s })
+      → IsTreeIn kept s text after
+
+-- so it is if there is a polygon
+abbrev pub IsTreeText : State → Point → List ℕ → State → Type 0
+IsTreeText None s text after = (text ≡ bad_text bad.NoPolygon) × (after ≡ None)
+IsTreeText (Some kept) s text after = IsTreeIn kept s text after
+
+-- a point that is not in the polygon is refused, and to another one the path from s is told
+pub data IsReachFrom (ring : List Point) (s t : Point) (text : List ℕ) : Type 0 where
+  goal_outside : ¬ IsIn ring (whole t) → text ≡ bad_text (bad.Outside 1) → IsReachFrom ring s t text
+  reached : IsIn ring (whole t) → TellsPath ring s t text → IsReachFrom ring s t text
+
+-- so it is from the source of the tree, if there is one
+abbrev pub IsReachIn : List Point → Option Point → Point → List ℕ → Type 0
+IsReachIn ring None t text = text ≡ bad_text bad.NoTree
+IsReachIn ring (Some s) t text = IsReachFrom ring s t text
+
+-- and if there is a polygon
+abbrev pub IsReachText : State → Point → List ℕ → Type 0
+IsReachText None t text = text ≡ bad_text bad.NoPolygon
+IsReachText (Some kept) t text = IsReachIn kept.ring kept.source t text
 
 -- the line of a part of an edge: the number of the edge, and the ends of the part
 abbrev pub part_text : Part → List ℕ
@@ -123,7 +182,7 @@ pub data IsViewIn (ring : List Point) (q : Point) (text : List ℕ) : Type 0 whe
 -- so it is if there is a polygon
 abbrev pub IsSeeText : State → Point → List ℕ → Type 0
 IsSeeText None q text = text ≡ bad_text bad.NoPolygon
-IsSeeText (Some ring) q text = IsViewIn ring q text
+IsSeeText (Some kept) q text = IsViewIn kept.ring q text
 
 -- the line of a corner
 abbrev pub corner_text : Triple → List ℕ
@@ -142,7 +201,7 @@ pub record TellsKernel (ring : List Point) (text : List ℕ) : Type 0 where
 -- the kernel is told if there is a polygon
 abbrev pub IsKernelText : State → List ℕ → Type 0
 IsKernelText None text = text ≡ bad_text bad.NoPolygon
-IsKernelText (Some ring) text = TellsKernel ring text
+IsKernelText (Some kept) text = TellsKernel kept.ring text
 
 -- the text is the command's answer in the state before, and leaves the state after
 abbrev pub IsAnswer : State → Command → List ℕ → State → Type 0
@@ -150,6 +209,8 @@ IsAnswer before (command.Polygon ring) text after = AcceptsPolygon before ring t
 IsAnswer before (command.Inside p) text after = IsInsideText before p text × (after ≡ before)
 IsAnswer before (command.Check points) text after = IsCheckText before points text × (after ≡ before)
 IsAnswer before (command.Path s t) text after = IsPathText before s t text × (after ≡ before)
+IsAnswer before (command.Tree s) text after = IsTreeText before s text after
+IsAnswer before (command.Reach t) text after = IsReachText before t text × (after ≡ before)
 IsAnswer before (command.See q) text after = IsSeeText before q text × (after ≡ before)
 IsAnswer before command.Kernel text after = IsKernelText before text × (after ≡ before)
 

@@ -3,5 +3,6 @@ pub mod Laws
 pub mod Output
 pub mod Session
 pub mod Path
+pub mod Tree
 pub mod Place
 pub mod View

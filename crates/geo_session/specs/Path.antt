@@ -1,4 +1,4 @@
--- What `Session::chain` answers, and the steps of a `path` record. This project's own.
+-- What `Session::chain` answers, and the steps of the records that write paths. This project's own.
 use Rattle.std.specs.Prelude.{◌≡◌, ◌⊎◌, ℕ, ◌+◌, ◌*◌, ◌≤◌, List, [], ◌++◌, length, Some, None, Result, Ok, Err, Vec}
 use Rattle.std.specs.declared.alloc.Global.{Global}
 use Rattle.plane.specs.Point.{Point, whole}
@@ -17,15 +17,15 @@ IsChainIn no_start no_goal ring s t (Err fault) =
 -- if there is one
 abbrev pub IsChainAnswer : State → Point → Point → Result (Vec Point Global) Bad → Type 0
 IsChainAnswer None s t found = found ≡ Err bad.NoPolygon
-IsChainAnswer (Some ring) s t found = IsChainIn (bad.Outside 1) (bad.Outside 2) ring s t found
+IsChainAnswer (Some kept) s t found = IsChainIn (bad.Outside 1) (bad.Outside 2) kept.ring s t found
 
 -- how many vertices the polygon has
 abbrev pub size_of : State → ℕ
 size_of None = 0
-size_of (Some ring) = length ring
+size_of (Some kept) = length kept.ring
 
--- 16 steps for each vertex and 64 for each point whose line was appended are enough
-pub record TakesPathSteps (before : State) (out out' : List ℕ) (steps steps' : ℕ) : Type 0 where
+-- so many steps and 64 for each point whose line was appended are enough
+pub record TakesPathSteps (most : ℕ) (out out' : List ℕ) (steps steps' : ℕ) : Type 0 where
   pub points : List Point
   pub printed : (out' ≡ out ++ path_text points) ⊎ (points ≡ [])
-  pub bound : steps' ≤ steps + 16 * size_of before + 64 * length points
+  pub bound : steps' ≤ steps + most + 64 * length points

@@ -1,10 +1,11 @@
-ghost use Rattle.std.specs.Prelude.{◌≡◌, ◌+◌, ◌-◌, ◌*◌, ◌<◌, ◌≤◌, ◌++◌, ℕ, IfOk, IfSome, OnErr, length, vec_capacity};
+ghost use Rattle.std.specs.Prelude.{◌≡◌, ◌+◌, ◌-◌, ◌*◌, ◌<◌, ◌≤◌, ◌++◌, ℕ, IfOk, IfSome, None, OnErr, Some, length, vec_capacity};
 ghost use Rattle.plane.specs.Point.{whole};
 ghost use Rattle.plane.specs.declared.limits.TheConstants.{MAX_CHAIN, MAX_CORNERS};
 ghost use Rattle.rings.specs.Chain.{IsPath};
 ghost use Rattle.rings.specs.Kernel.{IsKernel};
 ghost use Rattle.rings.specs.Visible.{part_at, turned_part, turned_parts};
 ghost use Rattle.meshes.specs.Fits.{Fits};
+ghost use Rattle.shared_seq.specs.Digits.{binary_digits};
 ghost use Rattle.exact_plane.specs.Spot.{point_named};
 ghost use Rattle.ring_check.specs.Oriented.{given_of};
 ghost use Rattle.taut_check.specs.Verdict.{IsVerdict};
@@ -12,8 +13,10 @@ ghost use Rattle.dual_tree.specs.Location.{IsLeastHolding};
 ghost use Rattle.funnel_walk.specs.Names.{AreNamed, named_points};
 ghost use Rattle.geo_session.specs.Path.{IsChainIn};
 ghost use Rattle.geo_session.specs.Place.{IsPlace};
+ghost use Rattle.geo_session.specs.Tree.{IsGrownAt, IsReached, IsTreeOf};
 ghost use Rattle.geo_session.specs.View.{IsViewOf, given_parts};
 
+use crate::grown::{Grown, Unreached};
 use cut_tri::triangulate;
 use dual_tree::{Board, locate, sleeve};
 use exact_plane::{Hom, Memory, Pt, Spot, Steps, Turns};
@@ -28,11 +31,12 @@ use std::sync::ledger::Ledger;
 use taut_check::{Verdict, check};
 use tri_mesh::Mesh;
 
-// A triangulated polygon: a ring, with a mesh that fits it. What it answers is about the list that the ring was made of.
+// A triangulated polygon: a ring, with a mesh that fits it, and the tree of a source in it, if there is one. What it answers is about the list that the ring was made of.
 #[derive(Drop)]
 pub(crate) struct Held {
     ring: Ring,
     mesh: Mesh,
+    grown: Option<Grown>,
 }
 
 // The first of two points that is not in the polygon.
@@ -43,32 +47,42 @@ pub(crate) enum Outside {
 }
 
 impl Model for Held {
-    ghost use Rattle.meshes.specs.Fits.{Fits};
-    ghost use Rattle.ring_check.specs.Oriented.{Oriented};
+    ghost use Rattle.geo_session.specs.Tree.{HeldRing, IsHeld, source_of};
 
-    ghost Value = { Oriented };
+    ghost Value = { HeldRing };
 
-    ghost view = { λ held. held.ring };
+    ghost view = { λ held. record { ring = held.ring; tris = held.mesh; source = source_of held.grown } };
 
-    ghost invariant = { λ held. Fits held.ring.corners held.mesh };
+    ghost invariant = { λ held. IsHeld held.ring.corners held.mesh held.grown };
 }
 
 impl Held {
-    // The ring, cut into triangles.
+    // The ring, cut into triangles, with no tree.
     pub(crate) fn of<L: Ledger>(
         alloc: Global,
         ring: Ring,
         steps: &mut Steps<L>,
     ) -> Result<Held, Memory>
-        ensures { IfOk result (λ held. held ≡ ring) }
+        ensures { IfOk result (λ held. (held.ring ≡ ring) × (held.source ≡ None)) }
     {
         let mesh = triangulate(alloc, &ring, steps)?;
-        Ok(Held { ring, mesh })
+        Ok(Held {
+            ring,
+            mesh,
+            grown: None,
+        })
+    }
+
+    // The ring.
+    pub(crate) fn ring(&self) -> &Ring
+        ensures { result.now ≡ self.now.ring }
+    {
+        &self.ring
     }
 
     // Where a point is.
     pub(crate) fn place<L: Ledger>(&self, point: &Pt, steps: &mut Steps<L>) -> Position
-        ensures { IsPlace (given_of self.now) point.now result }
+        ensures { IsPlace (given_of self.now.ring) point.now result }
     {
         place(&self.ring, point, steps)
     }
@@ -81,7 +95,7 @@ impl Held {
         steps: &mut Steps<L>,
     ) -> Result<Verdict, Memory>
         requires { length points.now ≤ MAX_CHAIN }
-        ensures { IfOk result (IsVerdict (given_of self.now) points.now) }
+        ensures { IfOk result (IsVerdict (given_of self.now.ring) points.now) }
     {
         check(alloc, &self.ring, points, steps)
     }
@@ -95,10 +109,10 @@ impl Held {
         t: &Pt,
         steps: &mut Steps<L>,
     ) -> Result<Result<Vec<Pt>, Outside>, Memory>
-        ensures answer { IfOk result (IsChainIn Outside.Start Outside.Goal (given_of self.now) s.now t.now) }
+        ensures answer { IfOk result (IsChainIn Outside.Start Outside.Goal (given_of self.now.ring) s.now t.now) }
         ensures few { IfOk result (λ found. IfOk found (λ points. length points.items ≤ MAX_CORNERS + 1)) }
-        ensures steps { steps.new ≤ steps.old + 12 * length self.now.corners }
-        ensures memory { OnErr result (steps.new ≤ steps.old + 6 * (length self.now.corners - 2)) }
+        ensures steps { steps.new ≤ steps.old + 12 * length self.now.ring.corners }
+        ensures memory { OnErr result (steps.new ≤ steps.old + 6 * (length self.now.ring.corners - 2)) }
     {
         let Some(from) = locate(&self.mesh, &self.ring, s, steps) else {
             return Ok(Err(Outside::Start));
@@ -110,6 +124,52 @@ impl Held {
         Ok(Ok(points))
     }
 
+    // The tree of a point, or none where it is not in the polygon.
+    pub(crate) fn grow<L: Ledger>(
+        &self,
+        alloc: Global,
+        source: &Pt,
+        steps: &mut Steps<L>,
+    ) -> Result<Option<Grown>, Memory>
+        ensures grown { IfOk result (IsGrownAt self.now source.now) }
+        ensures steps { let n = length self.now.ring.corners in let b = binary_digits n in steps.new ≤ steps.old + (3 * n + 200 * n * (b * b)) }
+    {
+        let Some(home) = locate(&self.mesh, &self.ring, source, steps) else {
+            return Ok(None);
+        };
+        let grown = Grown::of(alloc, &self.ring, &self.mesh, home, source, steps)?;
+        Ok(Some(grown))
+    }
+
+    // Keeps a tree in the place of the one before.
+    pub(crate) fn keep(&mut self, grown: Grown)
+        requires { IsTreeOf self.old.ring.corners self.old.tris grown }
+        ensures { self.new ≡ record { ring = self.old.ring; tris = self.old.tris; source = Some grown.source } }
+    {
+        self.grown = Some(grown);
+    }
+
+    // The path from the source of the tree to a point, or why there is none.
+    pub(crate) fn reach<L: Ledger>(
+        &self,
+        alloc: Global,
+        t: &Pt,
+        steps: &mut Steps<L>,
+    ) -> Result<Result<Vec<Pt>, Unreached>, Memory>
+        ensures answer { IfOk result (IsReached (given_of self.now.ring) self.now.source t.now) }
+        ensures few { IfOk result (λ found. IfOk found (λ points. length points.items ≤ MAX_CORNERS + 3)) }
+        ensures steps { let n = length self.now.ring.corners in let b = binary_digits n in steps.new ≤ steps.old + (3 * n + 24 * (b * b)) }
+    {
+        let Some(grown) = &self.grown else {
+            return Ok(Err(Unreached::NoTree));
+        };
+        let Some(tri) = locate(&self.mesh, &self.ring, t, steps) else {
+            return Ok(Err(Unreached::Outside));
+        };
+        let points = grown.chain_to(alloc, &self.ring, &self.mesh, tri, t, steps)?;
+        Ok(Ok(points))
+    }
+
     // What a point of the polygon sees of the edges, or none where it is not in it.
     pub(crate) fn view<L: Ledger>(
         &self,
@@ -117,7 +177,7 @@ impl Held {
         q: &Pt,
         steps: &mut Steps<L>,
     ) -> Result<Option<Vec<Part>>, Memory>
-        ensures view { IfOk result (IsViewOf (given_of self.now) q.now) }
+        ensures view { IfOk result (IsViewOf (given_of self.now.ring) q.now) }
         ensures few { IfOk result (λ found. IfSome found (λ parts. length parts.items ≤ MAX_CORNERS)) }
     {
         let Some(home) = locate(&self.mesh, &self.ring, q, steps) else {
@@ -135,7 +195,7 @@ impl Held {
         alloc: Global,
         steps: &mut Steps<L>,
     ) -> Result<Vec<Hom>, Memory>
-        ensures kernel { IfOk result (λ corners. IsKernel (given_of self.now) corners.items) }
+        ensures kernel { IfOk result (λ corners. IsKernel (given_of self.now.ring) corners.items) }
         ensures few { IfOk result (λ corners. length corners.items ≤ MAX_CORNERS + 4) }
     {
         let _count = self.ring.len();
@@ -174,7 +234,7 @@ fn chain_between<L: Ledger>(
 }
 
 // Appends the points that the names stand for.
-fn put_points<'a>(points: &mut Vec<Pt>, names: &[Spot], board: &Board<'a>)
+pub(crate) fn put_points<'a>(points: &mut Vec<Pt>, names: &[Spot], board: &Board<'a>)
     requires named { AreNamed (⟦<Board<'a> as Turns>⟧.corners board.now) names.now }
     requires room { length points.old.items + length names.now ≤ vec_capacity points.old }
     ensures points { points.new.items ≡ points.old.items ++ named_points (point_named (⟦<Board<'a> as Turns>⟧.corners board.now)

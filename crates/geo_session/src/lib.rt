@@ -1,6 +1,7 @@
 //! What a run holds between two records, and the answer to each command.
 #![tactic(auto)]
 
+mod grown;
 mod held;
 mod laws;
 mod lines;

@@ -1,14 +1,19 @@
 // The lines that commands answer. Want of memory may leave the front of a line.
-ghost use Rattle.std.specs.Prelude.{◌≡◌, ◌≢◌, ◌+◌, ◌*◌, ◌≤◌, ◌<◌, ◌^◌, ◌++◌, codes, length, take, OnOk, OnErr};
+ghost use Rattle.std.specs.Prelude.{◌≡◌, ◌≢◌, ◌+◌, ◌*◌, ◌≤◌, ◌<◌, ◌^◌, ◌++◌, List, Some, codes, length, take, OnOk, OnErr};
+ghost use Rattle.meshes.specs.declared.tri.Tri.{Tri};
+ghost use Rattle.ring_check.specs.Oriented.{given_of};
 ghost use Rattle.geo_text.specs.Texts.{index_text};
 ghost use Rattle.geo_session.specs.Answer.{IsVerdictText, broken_text, corner_text, kernel_text, part_text, path_text, polygon_text};
-ghost use Rattle.geo_session.specs.Answer.{see_text};
+ghost use Rattle.geo_session.specs.Answer.{TellsTree, from_text, see_text};
 ghost use Rattle.geo_session.specs.Place.{place_text};
 ghost use Rattle.geo_session.specs.Session.{AppendsSuch};
+ghost use Rattle.geo_session.specs.Tree.{IsTreeOf, before_text};
 
-use exact_plane::{Hom, Memory, Pt, Steps};
+use crate::grown::Grown;
+use exact_plane::{Hom, Memory, Pt, Spot, Steps};
 use geo_text::{put_hom, put_index, put_line_end, put_pt, put_word};
 use inside_test::Position;
+use ring_check::Ring;
 use see_cone::Part;
 use std::sync::ledger::Ledger;
 use taut_check::Verdict;
@@ -78,6 +83,36 @@ pub fn put_path<L: Ledger>(
     put_index(out, points.len() as u32)?;
     for point in points {
         put_pt(out, point, steps)?;
+    }
+    put_line_end(out)
+}
+
+// Appends the lines of a tree of a ring, by the list that it was made of.
+pub(crate) fn put_tree(out: &mut Vec<u8>, ring: &Ring, grown: &Grown) -> Result<(), Memory>
+    requires { (tris : List Tri) × IsTreeOf ring.now.corners tris grown.now }
+    ensures ok { OnOk result (AppendsSuch (TellsTree (given_of ring.now) grown.now.source) out.old.items out.new.items) }
+    ensures front { OnErr result (take (length out.old.items) out.new.items ≡ out.old.items) }
+{
+    put_count(out, "tree", ring.len())?;
+    for i in 0..ring.len() {
+        put_from(out, i, grown.before(ring, i))?;
+    }
+    Ok(())
+}
+
+// Appends the line that tells what comes before vertex `i`.
+fn put_from(out: &mut Vec<u8>, i: u32, before: Option<Spot>) -> Result<(), Memory>
+    requires { before ≢ Some Spot.Goal }
+    ensures ok { OnOk result (out.new.items ≡ out.old.items ++ from_text i (before_text before)) }
+    ensures front { OnErr result (take (length out.old.items) out.new.items ≡ out.old.items) }
+{
+    put_word(out, "from")?;
+    put_index(out, i)?;
+    match before {
+        None => put_word(out, ",-")?,
+        Some(Spot::Start) => put_word(out, ",s")?,
+        Some(Spot::Corner(j)) => put_index(out, j)?,
+        Some(Spot::Goal) => unreachable!(),
     }
     put_line_end(out)
 }

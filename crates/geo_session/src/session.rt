@@ -1,13 +1,15 @@
-ghost use Rattle.std.specs.Prelude.{◌≡◌, ◌+◌, ◌-◌, ◌*◌, ◌≤◌, ◌++◌, length, take, Some, IfOk, OnOk, OnErr};
+ghost use Rattle.std.specs.Prelude.{◌≡◌, ◌+◌, ◌-◌, ◌*◌, ◌≤◌, ◌++◌, length, take, None, Some, IfOk, OnOk, OnErr};
 ghost use Rattle.plane.specs.Point.{Point};
 ghost use Rattle.plane.specs.declared.limits.TheConstants.{MAX_CHAIN, MAX_CORNERS};
 ghost use Rattle.geo_text.specs.Reading.{IsWellSized};
+ghost use Rattle.shared_seq.specs.Digits.{binary_digits};
 ghost use Rattle.ring_check.specs.Oriented.{given_of};
 ghost use Rattle.geo_session.specs.Answer.{AppendsAnswer, polygon_text};
 ghost use Rattle.geo_session.specs.Path.{IsChainAnswer, TakesPathSteps, size_of};
 
+use crate::grown::Unreached;
 use crate::held::{Held, Outside};
-use crate::lines::{put_kernel, put_path, put_place, put_polygon, put_verdict, put_view};
+use crate::lines::{put_kernel, put_path, put_place, put_polygon, put_tree, put_verdict, put_view};
 use exact_plane::{Memory, Pt, Steps};
 use geo_text::{Bad, Command, Points, put_bad};
 use ring_check::{Ring, RingFault};
@@ -15,7 +17,7 @@ use std::alloc::Global;
 use std::marker::Model;
 use std::sync::ledger::Ledger;
 
-/// The polygon that was accepted last.
+/// The polygon that was accepted last, and the last tree in it.
 #[derive(Drop)]
 pub struct Session {
     held: Option<Held>,
@@ -62,8 +64,9 @@ impl Session {
         }
     }
 
-    /// Appends the command's answer and takes the new state. After want of memory the session and `out` are as before. A
-    /// path takes at most 16 steps for each vertex of the polygon, and 64 for each point that is written.
+    /// Appends the command's answer and takes the new state. After want of memory the session and `out` are as before. With
+    /// n the number of vertices of the polygon and b that of its binary digits, a path takes at most 16 n steps, a tree
+    /// 3 n + 200 n b b and a path from its source 3 n + 24 b b, and a path 64 more for each point that is written.
     pub fn answer<L: Ledger>(
         &mut self,
         alloc: Global,
@@ -76,7 +79,11 @@ impl Session {
         ensures same_session { OnErr result (self.new ≡ self.old) }
         ensures same_out { OnErr result (out.new.items ≡ out.old.items) }
         ensures path_steps { (s t : Point) → command ≡ Command.Path s t
-            → OnOk result (TakesPathSteps self.old out.old.items out.new.items steps.old steps.new) }
+            → OnOk result (TakesPathSteps (16 * size_of self.old) out.old.items out.new.items steps.old steps.new) }
+        ensures tree_steps { (s : Point) → command ≡ Command.Tree s → let n = size_of self.old in let b = binary_digits n in
+            steps.new ≤ steps.old + (3 * n + 200 * n * (b * b)) }
+        ensures reach_steps { (t : Point) → command ≡ Command.Reach t → let n = size_of self.old in let b = binary_digits n in
+            OnOk result (TakesPathSteps (3 * n + 24 * (b * b)) out.old.items out.new.items steps.old steps.new) }
     {
         let start = out.len();
         let put = self.put_answer(alloc, command, out, steps);
@@ -99,13 +106,19 @@ impl Session {
         ensures same_session { OnErr result (self.new ≡ self.old) }
         ensures front { OnErr result (take (length out.old.items) out.new.items ≡ out.old.items) }
         ensures path_steps { (s t : Point) → command ≡ Command.Path s t
-            → OnOk result (TakesPathSteps self.old out.old.items out.new.items steps.old steps.new) }
+            → OnOk result (TakesPathSteps (16 * size_of self.old) out.old.items out.new.items steps.old steps.new) }
+        ensures tree_steps { (s : Point) → command ≡ Command.Tree s → let n = size_of self.old in let b = binary_digits n in
+            steps.new ≤ steps.old + (3 * n + 200 * n * (b * b)) }
+        ensures reach_steps { (t : Point) → command ≡ Command.Reach t → let n = size_of self.old in let b = binary_digits n in
+            OnOk result (TakesPathSteps (3 * n + 24 * (b * b)) out.old.items out.new.items steps.old steps.new) }
     {
         match command {
             Command::Polygon(points) => self.answer_polygon(alloc, points, out, steps),
             Command::Inside(point) => self.answer_inside(&point, out, steps),
             Command::Check(points) => self.answer_check(alloc, points.as_slice(), out, steps),
             Command::Path(s, t) => self.answer_path(alloc, &s, &t, out, steps),
+            Command::Tree(s) => self.answer_tree(alloc, &s, out, steps),
+            Command::Reach(t) => self.answer_reach(alloc, &t, out, steps),
             Command::See(q) => self.answer_see(alloc, &q, out, steps),
             Command::Kernel => self.answer_kernel(alloc, out, steps),
         }
@@ -139,7 +152,7 @@ impl Session {
         steps: &mut Steps<L>,
     ) -> Result<(), Memory>
         ensures line { OnOk result (out.new.items ≡ out.old.items ++ polygon_text (length ring.corners)) }
-        ensures held { OnOk result (self.new ≡ Some (given_of ring)) }
+        ensures held { OnOk result (self.new ≡ Some (record { ring = given_of ring; source = None })) }
         ensures same_session { OnErr result (self.new ≡ self.old) }
         ensures front { OnErr result (take (length out.old.items) out.new.items ≡ out.old.items) }
     {
@@ -192,11 +205,58 @@ impl Session {
     ) -> Result<(), Memory>
         ensures ok { OnOk result (AppendsAnswer self.now (Command.Path s.now t.now) out.old.items out.new.items self.now) }
         ensures front { OnErr result (take (length out.old.items) out.new.items ≡ out.old.items) }
-        ensures path_steps { OnOk result (TakesPathSteps self.now out.old.items out.new.items steps.old steps.new) }
+        ensures path_steps { OnOk result (TakesPathSteps (16 * size_of self.now) out.old.items out.new.items steps.old steps.new) }
     {
         match self.chain(alloc, s, t, steps)? {
             Ok(points) => put_path(out, &points, steps),
             Err(bad) => put_bad(out, &bad),
+        }
+    }
+
+    // Appends the lines of a tree, and keeps it in the place of the one before.
+    fn answer_tree<L: Ledger>(
+        &mut self,
+        alloc: Global,
+        s: &Pt,
+        out: &mut Vec<u8>,
+        steps: &mut Steps<L>,
+    ) -> Result<(), Memory>
+        ensures ok { OnOk result (AppendsAnswer self.old (Command.Tree s.now) out.old.items out.new.items self.new) }
+        ensures same_session { OnErr result (self.new ≡ self.old) }
+        ensures front { OnErr result (take (length out.old.items) out.new.items ≡ out.old.items) }
+        ensures tree_steps { let n = size_of self.old in let b = binary_digits n in
+            steps.new ≤ steps.old + (3 * n + 200 * n * (b * b)) }
+    {
+        let Some(held) = &mut self.held else {
+            return put_bad(out, &Bad::NoPolygon);
+        };
+        let Some(grown) = held.grow(alloc, s, steps)? else {
+            return put_bad(out, &Bad::Outside(1));
+        };
+        put_tree(out, held.ring(), &grown)?;
+        held.keep(grown);
+        Ok(())
+    }
+
+    fn answer_reach<L: Ledger>(
+        &self,
+        alloc: Global,
+        t: &Pt,
+        out: &mut Vec<u8>,
+        steps: &mut Steps<L>,
+    ) -> Result<(), Memory>
+        ensures ok { OnOk result (AppendsAnswer self.now (Command.Reach t.now) out.old.items out.new.items self.now) }
+        ensures front { OnErr result (take (length out.old.items) out.new.items ≡ out.old.items) }
+        ensures reach_steps { let n = size_of self.now in let b = binary_digits n in
+            OnOk result (TakesPathSteps (3 * n + 24 * (b * b)) out.old.items out.new.items steps.old steps.new) }
+    {
+        let Some(held) = &self.held else {
+            return put_bad(out, &Bad::NoPolygon);
+        };
+        match held.reach(alloc, t, steps)? {
+            Ok(points) => put_path(out, &points, steps),
+            Err(Unreached::NoTree) => put_bad(out, &Bad::NoTree),
+            Err(Unreached::Outside) => put_bad(out, &Bad::Outside(1)),
         }
     }
 

@@ -12,7 +12,7 @@ returns-in_default-locate-clause-answer g c =
     let ring = c.self.inside.ring in
     rw (← c.self.view_is)
     (inr (
-      held_in_given ring c.args.s.now c.self.inside.mesh c.in-Some.from c.self.invariant c.in-Some.ensures.least,
+      held_in_given ring c.args.s.now c.self.inside.mesh c.in-Some.from c.self.invariant.fits c.in-Some.ensures.least,
       out_of_given ring c.args.t.now (c.in_default-locate.ensures.none.0 refl),
       refl,
     ))
@@ -21,7 +21,7 @@ pub returns-clause-answer : goal.returns-clause-answer
 returns-clause-answer g c =
     let ring = c.self.inside.ring in
     rw (← c.self.view_is) (
-      held_in_given ring c.args.s.now c.self.inside.mesh c.in-Some.from c.self.invariant c.in-Some.ensures.least,
-      held_in_given ring c.args.t.now c.self.inside.mesh c.in-Some-locate.to c.self.invariant c.in-Some-locate.ensures.least,
+      held_in_given ring c.args.s.now c.self.inside.mesh c.in-Some.from c.self.invariant.fits c.in-Some.ensures.least,
+      held_in_given ring c.args.t.now c.self.inside.mesh c.in-Some-locate.to c.self.invariant.fits c.in-Some-locate.ensures.least,
       path_given ring c.args.s.now c.args.t.now c.in_ok-points.points.items c.in_ok-points.ensures.path,
     )

@@ -1,0 +1,58 @@
+-- How a polygon is held with the tree of a source in it. No public clause cites this module.
+use Rattle.std.specs.Prelude.{◌≡◌, ℕ, List, [], codes, Option, None, Some, Result, Ok, Err, Vec}
+use Rattle.std.specs.declared.alloc.Global.{Global}
+use Rattle.plane.specs.Point.{Point, whole}
+use Rattle.rings.specs.Chain.{IsPath}
+use Rattle.rings.specs.Inside.{IsIn}
+use Rattle.meshes.specs.Fits.{Fits}
+use Rattle.meshes.specs.declared.tri.Tri.{Tri}
+use Rattle.exact_plane.specs.declared.turns.Spot.{Spot}
+use Rattle.exact_plane.specs.declared.turns.Spot.TheVariants.{Corner, Goal, Start}
+use Rattle.geo_text.specs.Texts.{index_text}
+use Rattle.ring_check.specs.Oriented.{Oriented, given_of}
+use Rattle.path_tree.specs.Grown.{IsGrownFrom}
+use Rattle.geo_session.specs.declared.grown.Grown.{Grown}
+use Rattle.geo_session.specs.declared.grown.Unreached.{Unreached}
+use Rattle.geo_session.specs.declared.grown.Unreached.TheVariants as unreached
+
+-- a ring that is held, its triangles, and the source of the tree in it, if there is one
+pub record HeldRing : Type 0 where
+  pub ring : Oriented
+  pub tris : List Tri
+  pub source : Option Point
+
+-- the tree is grown from its source in these corners and triangles
+abbrev pub IsTreeOf : List Point → List Tri → Grown → Type 0
+IsTreeOf corners tris grown = IsGrownFrom corners grown.source tris grown.tree
+
+-- so it is if there is one
+abbrev pub KeepsTree : List Point → List Tri → Option Grown → Type 0
+KeepsTree corners tris None = Unit {0}
+KeepsTree corners tris (Some grown) = IsTreeOf corners tris grown
+
+abbrev pub source_of : Option Grown → Option Point
+source_of None = None
+source_of (Some grown) = Some grown.source
+
+-- the triangles fit the ring, and the tree is grown in them
+pub record IsHeld (corners : List Point) (tris : List Tri) (grown : Option Grown) : Type 0 where
+  pub fits : Fits corners tris
+  pub tree : KeepsTree corners tris grown
+
+-- the path from the source of the tree to t, or why there is none
+abbrev pub IsReached : List Point → Option Point → Point → Result (Vec Point Global) Unreached → Type 0
+IsReached ring None t found = found ≡ Err unreached.NoTree
+IsReached ring (Some s) t (Ok points) = IsIn ring (whole t) × IsPath ring s t points.items
+IsReached ring (Some s) t (Err fault) = (¬ IsIn ring (whole t)) × (fault ≡ unreached.Outside)
+
+-- the letters that tell what comes before a vertex; a goal comes before none
+abbrev pub before_text : Option Spot → List ℕ
+before_text None = codes ",-"
+before_text (Some Start) = codes ",s"
+before_text (Some (Corner j)) = index_text j
+before_text (Some Goal) = []
+
+-- the tree of s in a ring that is held, or none where s is not in the ring
+abbrev pub IsGrownAt : HeldRing → Point → Option Grown → Type 0
+IsGrownAt held s None = ¬ IsIn (given_of held.ring) (whole s)
+IsGrownAt held s (Some grown) = IsIn (given_of held.ring) (whole s) × (grown.source ≡ s) × IsTreeOf held.ring.corners held.tris grown
