@@ -28,8 +28,8 @@ impl Direction {
         }
     }
 
-    // The way that turns against this one.
-    pub(crate) fn opposite(self) -> Direction
+    /// The way that turns against this one.
+    pub fn opposite(self) -> Direction
         ensures { result ≡ opposite self }
     {
         match self {

@@ -1,0 +1,95 @@
+-- Lists of the outer points, one point after another, and their order.
+use Rattle.std.proofs.Common.{◌≡◌, ◌≢◌, ◌⊎◌, inl, inr, ℕ, ◌+◌, ◌<◌, ◌≤◌, List, [], ◌∷◌, ◌++◌, length, get_or, slice_index, sym, subst, ◌∙◌, arith}
+use Rattle.std.proofs.lemmas.Bool.{cases_eq, cases_lt}
+use Rattle.std.proofs.lemmas.List.{get_or_append_left, get_or_default, get_or_past, get_or_push, length_push}
+use Rattle.std.proofs.lemmas.List.Elements.{Contains-append_left, Contains-get_or, Contains-push, Contains-push_cases}
+use Rattle.std.specs.List.{Contains}
+use Rattle.rel_hull.specs.Table.{Table}
+use Rattle.rel_hull.specs.Told.{AreOuterBelow, IsPassed}
+
+-- an element stands at its place, at any default
+pub contained_at : (xs : List ℕ) (x : ℕ) → (inside : Contains xs x) → slice_index xs inside.0 ≡ x
+contained_at xs x inside = get_or_default xs inside.0 0 x inside.1 ∙ inside.2
+
+-- a list in order stays so where an element is appended that all others are before
+pub ordered_push : {X : Type 0} (R : X → X → Type 0) (xs : List X) (x d : X)
+    → ((k l : ℕ) → k < l → l < length xs → R (get_or xs k d) (get_or xs l d)) → ((y : X) → Contains xs y → R y x)
+    → (k l : ℕ) → k < l → l < length (xs ++ x ∷ []) → R (get_or (xs ++ x ∷ []) k d) (get_or (xs ++ x ∷ []) l d)
+ordered_push {X} R xs x d ordered before k l h in_list =
+    let more = length_push xs x in
+    let lesser : k < length xs = omega arith in
+    let first = get_or_append_left xs (x ∷ []) d k lesser in
+    elim (cases_lt l (length xs)) [
+      | inl below ↦ rw (first, get_or_append_left xs (x ∷ []) d l below) (ordered k l h below)
+      | inr last ↦
+          let at : length xs ≡ l = omega arith in
+          rw (first, get_or_push xs x d l at) (before (get_or xs k d) (Contains-get_or xs k d lesser))
+    ]
+
+module _ (table : Table) (n : ℕ) (outer : List ℕ) (are : AreOuterBelow table n outer) where
+  -- the next point is outer
+  pub outer_more : ¬ IsPassed table n → AreOuterBelow table (n + 1) (outer ++ n ∷ [])
+  outer_more not_passed = record {
+    below = λ s inside. elim (Contains-push_cases outer n s inside) [
+      | inl before ↦ let h = are.below s before in omega arith
+      | inr e ↦ omega arith
+    ];
+    not_passed = λ s inside. elim (Contains-push_cases outer n s inside) [
+      | inl before ↦ are.not_passed s before
+      | inr e ↦ subst (λ (point : ℕ). ¬ IsPassed table point) e not_passed
+    ];
+    all = λ s h not. elim (cases_eq n s) [
+      | inl e ↦ subst (λ (point : ℕ). Contains (outer ++ n ∷ []) point) e (Contains-push outer n)
+      | inr other ↦ Contains-append_left outer (n ∷ []) s (are.all s (omega arith) not)
+    ];
+    ascending = ordered_push ◌<◌ outer n 0 are.ascending are.below;
+  }
+
+  -- or it is not
+  pub outer_same : IsPassed table n → AreOuterBelow table (n + 1) outer
+  outer_same passed = record {
+    below = λ s inside. let h = are.below s inside in omega arith;
+    not_passed = are.not_passed;
+    all = λ s h not. elim (cases_eq n s) [
+      | inl e ↦ absurd (not (subst (λ (point : ℕ). IsPassed table point) e passed))
+      | inr other ↦ are.all s (omega arith) not
+    ];
+    ascending = are.ascending;
+  }
+
+-- ---- the order of a list of outer points
+
+module _ (outer : List ℕ) (n : ℕ) (below : (s : ℕ) → Contains outer s → s < n)
+    (ascending : (k l : ℕ) → k < l → l < length outer → slice_index outer k < slice_index outer l) where
+  -- a later point is not less
+  not_less : (k l : ℕ) → k ≤ l → l < length outer → slice_index outer k ≤ slice_index outer l
+  not_less k l h in_list = elim (cases_eq k l) [
+    | inl e ↦ rw e (omega arith)
+    | inr other ↦ let rises = ascending k l (omega arith) in_list in omega arith
+  ]
+
+  -- the first point is the least
+  pub first_least : (x : ℕ) → Contains outer x → get_or outer 0 n ≤ x
+  first_least x inside =
+      let least = not_less 0 inside.0 (omega arith) inside.1 in
+      let some : 0 < length outer = let h = inside.1 in omega arith in
+      rw (get_or_default outer 0 n 0 some) (rw (contained_at outer x inside) at least)
+
+  -- no point is between one and the next
+  pub none_between : (j x : ℕ) → j < length outer → Contains outer x → x < get_or outer (j + 1) n → x ≤ slice_index outer j
+  none_between j x at_j inside h = elim (cases_lt j inside.0) [
+    | inl after ↦
+        let next : j + 1 < length outer = let within = inside.1 in omega arith in
+        let later = not_less (j + 1) inside.0 (omega arith) inside.1 in
+        let is = contained_at outer x inside in
+        let less = rw (get_or_default outer (j + 1) n 0 next) at h in
+        absurd (omega arith)
+    | inr not_after ↦ rw (contained_at outer x inside) at (not_less inside.0 j not_after at_j)
+  ]
+
+  -- the next point is greater
+  pub next_greater : (j : ℕ) → j < length outer → slice_index outer j < get_or outer (j + 1) n
+  next_greater j at_j = elim (cases_lt (j + 1) (length outer)) [
+    | inl next ↦ rw (get_or_default outer (j + 1) n 0 next) (ascending j (j + 1) (omega arith) next)
+    | inr last ↦ rw (get_or_past outer (j + 1) n last) (below (slice_index outer j) (Contains-get_or outer j 0 at_j))
+  ]

@@ -1,0 +1,65 @@
+-- The chains of a table of a ring tell which points are inner.
+use Rattle.std.proofs.Common.{◌≡◌, ℕ, ◌+◌, ◌<◌, List, length, sym, subst}
+use Rattle.std.proofs.lemmas.List.FromFn.{length-map-range_with_len}
+use Rattle.plane.specs.Point.{Point}
+use Rattle.rel_hull.proofs.Paths.{one_path}
+use Rattle.rel_hull.specs.Hull.{IsInnerPoint, IsOnPath}
+use Rattle.rel_hull.specs.Table.{IsTableOf, Table, chain_at, points_of}
+use Rattle.rel_hull.specs.Told.{IsOnChain, IsPassed}
+use Rattle.rings.specs.Chain.{IsPath, point_at}
+
+-- there are as many points as the table says
+pub length-points_of : (table : Table) → length (points_of table) ≡ table.count
+length-points_of table = length-map-range_with_len (λ (i : ℕ). point_at (chain_at table i i) 0) 0 table.count
+
+module _ (ring : List Point) (table : Table) (is : IsTableOf ring table) where
+  -- what is on the chain is on the path,
+  on_path : (a b : ℕ) (x : Point) → a < table.count → b < table.count → IsOnChain (chain_at table a b) x
+      → IsOnPath ring (point_at (points_of table) a) (point_at (points_of table) b) x
+  on_path a b x at_a at_b on = record {
+    path = chain_at table a b;
+    is_path = is.paths a b at_a at_b;
+    place = on.place;
+    within = on.within;
+    on = on.on;
+  }
+
+  -- and the other way round
+  on_chain : (a b : ℕ) (x : Point) → a < table.count → b < table.count
+      → IsOnPath ring (point_at (points_of table) a) (point_at (points_of table) b) x → IsOnChain (chain_at table a b) x
+  on_chain a b x at_a at_b on =
+      subst (λ (chain : List Point). IsOnChain chain x) (one_path ring _ _ on.path (chain_at table a b) on.is_path (is.paths a b at_a at_b))
+      (record { place = on.place; within = on.within; on = on.on })
+
+  -- a point that a chain passes is inner,
+  pub inner_of_passed : (s : ℕ) → IsPassed table s → IsInnerPoint ring (points_of table) s
+  inner_of_passed s passed =
+      let from = passed.passes in
+      record {
+        a = passed.a;
+        b = from.b;
+        a_in_list = rw length-points_of passed.in_table;
+        b_in_list = rw length-points_of from.in_table;
+        different = λ e. from.not_a (sym e);
+        not_a = passed.not_s;
+        not_b = from.not_s;
+        passes = on_path passed.a from.b (point_at (points_of table) s) passed.in_table from.in_table from.on;
+      }
+
+  -- and the other way round
+  pub passed_of_inner : (s : ℕ) → IsInnerPoint ring (points_of table) s → IsPassed table s
+  passed_of_inner s inner =
+      let at_a = rw length-points_of at inner.a_in_list in
+      let at_b = rw length-points_of at inner.b_in_list in
+      record {
+        a = inner.a;
+        in_table = at_a;
+        not_s = inner.not_a;
+        passes = record {
+          b = inner.b;
+          in_table = at_b;
+          not_a = λ e. inner.different (sym e);
+          not_s = inner.not_b;
+          on = on_chain inner.a inner.b (point_at (points_of table) s) at_a at_b inner.passes;
+        };
+      }

@@ -1,0 +1,4 @@
+pub mod Hull
+pub mod PathTurn
+pub mod Table
+pub mod Told

@@ -1,0 +1,42 @@
+-- Tables of the paths between each two of some points, and the sides that one tells. This project's own.
+use Rattle.std.specs.List.{Contains, range_with_len}
+use Rattle.std.specs.Prelude.{◌≡◌, ◌⊎◌, ℕ, ◌+◌, ◌*◌, ◌<◌, ◌≤◌, List, [], length, map, slice_index_or}
+use Rattle.plane.specs.Point.{Point}
+use Rattle.rings.specs.Chain.{IsPath, point_at}
+use Rattle.rel_hull.specs.Hull.{AreDistinct, IsSide}
+use Rattle.rel_hull.specs.declared.table.TheConstants.{MAX_HULL}
+
+-- how many points there are, and the chains: chain i * count + j goes from point i to point j
+pub record Table : Type 0 where
+  pub count : ℕ
+  pub chains : List (List Point)
+
+abbrev pub chain_at : Table → ℕ → ℕ → List Point
+chain_at table i j = slice_index_or table.chains (i * table.count + j) []
+
+-- the points: chain i * count + i begins at point i
+abbrev pub points_of : Table → List Point
+points_of table = map (λ i. point_at (chain_at table i i) 0) (range_with_len 0 table.count)
+
+-- the table is one of a ring: its chains are the paths between its points, which are distinct
+pub record IsTableOf (ring : List Point) (table : Table) : Type 0 where
+  pub some : 1 ≤ table.count
+  pub few : table.count ≤ MAX_HULL
+  pub square : length table.chains ≡ table.count * table.count
+  pub distinct : AreDistinct (points_of table)
+  pub paths : (i j : ℕ) → i < table.count → j < table.count
+      → IsPath ring (point_at (points_of table) i) (point_at (points_of table) j) (chain_at table i j)
+
+-- the pair at a place
+abbrev pub pair_at : List (ℕ × ℕ) → ℕ → ℕ × ℕ
+pair_at pairs k = slice_index_or pairs k (0, 0)
+
+-- pairs are in order by their first numbers, then by their second
+abbrev pub IsPairBefore : ℕ × ℕ → ℕ × ℕ → Type 0
+IsPairBefore p q = (p.0 < q.0) ⊎ ((p.0 ≡ q.0) × (p.1 < q.1))
+
+-- the pairs are exactly the sides of the points, in order
+pub record AreSides (ring points : List Point) (pairs : List (ℕ × ℕ)) : Type 0 where
+  pub sides : (k : ℕ) → k < length pairs → IsSide ring points (pair_at pairs k).0 (pair_at pairs k).1
+  pub all : (s t : ℕ) → IsSide ring points s t → Contains pairs (s, t)
+  pub sorted : (k l : ℕ) → k < l → l < length pairs → IsPairBefore (pair_at pairs k) (pair_at pairs l)

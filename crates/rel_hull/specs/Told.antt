@@ -1,0 +1,65 @@
+-- What a table keeps of its chains, and which points are inner and which pairs are sides by the chains alone. No public clause
+-- cites it. This project's own.
+use Rattle.std.specs.List.{Contains}
+use Rattle.std.specs.Prelude.{◌≡◌, ◌≢◌, ℕ, ◌+◌, ◌*◌, ◌<◌, ◌≤◌, List, length, slice_index}
+use Rattle.plane.specs.Point.{Point, whole}
+use Rattle.plane.specs.Segment.{On}
+use Rattle.rings.specs.Chain.{point_at}
+use Rattle.exact_plane.specs.declared.direction.Direction.TheVariants.{Left}
+use Rattle.rel_hull.specs.PathTurn.{IsPathTurn, IsStepping}
+use Rattle.rel_hull.specs.Table.{IsPairBefore, Table, chain_at, pair_at, points_of}
+use Rattle.rel_hull.specs.declared.table.TheConstants.{MAX_HULL}
+
+-- what holds of every table: each chain begins at its point, and steps to another point at each place
+pub record KeepsChains (table : Table) : Type 0 where
+  pub few : table.count ≤ MAX_HULL
+  pub square : length table.chains ≡ table.count * table.count
+  pub some : (i j : ℕ) → i < table.count → j < table.count → 0 < length (chain_at table i j)
+  pub begins : (i j : ℕ) → i < table.count → j < table.count → point_at (chain_at table i j) 0 ≡ point_at (points_of table) i
+  pub stepping : (i j : ℕ) → i < table.count → j < table.count → IsStepping (chain_at table i j)
+
+-- x is on a chain
+pub record IsOnChain (chain : List Point) (x : Point) : Type 0 where
+  pub place : ℕ
+  pub within : place + 1 < length chain
+  pub on : On (whole x) (whole (point_at chain place)) (whole (point_at chain (place + 1)))
+
+-- point s is on the chain from point a to another
+pub record IsPassedFrom (table : Table) (a s : ℕ) : Type 0 where
+  pub b : ℕ
+  pub in_table : b < table.count
+  pub not_a : b ≢ a
+  pub not_s : b ≢ s
+  pub on : IsOnChain (chain_at table a b) (point_at (points_of table) s)
+
+-- point s is on the chain between two others
+pub record IsPassed (table : Table) (s : ℕ) : Type 0 where
+  pub a : ℕ
+  pub in_table : a < table.count
+  pub not_s : a ≢ s
+  pub passes : IsPassedFrom table a s
+
+-- the numbers below n are exactly those of points that are on no such chain, in order
+pub record AreOuterBelow (table : Table) (n : ℕ) (outer : List ℕ) : Type 0 where
+  pub below : (s : ℕ) → Contains outer s → s < n
+  pub not_passed : (s : ℕ) → Contains outer s → ¬ IsPassed table s
+  pub all : (s : ℕ) → s < n → ¬ IsPassed table s → Contains outer s
+  pub ascending : (k l : ℕ) → k < l → l < length outer → slice_index outer k < slice_index outer l
+
+-- point u is one of the ends of the chain from s to t, or to the left of it
+abbrev pub IsLeftOf : Table → ℕ → ℕ → ℕ → Type 0
+IsLeftOf table s t u = u ≢ s → u ≢ t → IsPathTurn (chain_at table s t) (chain_at table s u) Left
+
+-- a pair of different outer points is a side: all outer points are to the left of its chain
+pub record IsTold (table : Table) (outer : List ℕ) (pair : ℕ × ℕ) : Type 0 where
+  pub first : Contains outer pair.0
+  pub second : Contains outer pair.1
+  pub different : pair.0 ≢ pair.1
+  pub left : (u : ℕ) → Contains outer u → IsLeftOf table pair.0 pair.1 u
+
+-- the pairs are exactly the sides that come before a pair, in order
+pub record AreSidesBefore (table : Table) (outer : List ℕ) (bound : ℕ × ℕ) (pairs : List (ℕ × ℕ)) : Type 0 where
+  pub told : (pair : ℕ × ℕ) → Contains pairs pair → IsTold table outer pair
+  pub before : (pair : ℕ × ℕ) → Contains pairs pair → IsPairBefore pair bound
+  pub all : (pair : ℕ × ℕ) → IsTold table outer pair → IsPairBefore pair bound → Contains pairs pair
+  pub sorted : (k l : ℕ) → k < l → l < length pairs → IsPairBefore (pair_at pairs k) (pair_at pairs l)

@@ -1,0 +1,83 @@
+ghost use Rattle.std.specs.Prelude.{◌≡◌, ◌≢◌, ◌<◌, ◌≤◌, drop, length, take};
+ghost use Rattle.plane.specs.Point.{whole};
+ghost use Rattle.plane.specs.Segment.{On};
+ghost use Rattle.rings.specs.Chain.{point_at};
+ghost use Rattle.exact_plane.specs.Direction.{turn_of};
+ghost use Rattle.rel_hull.specs.PathTurn.{IsPathTurn, IsStepping, IsTurnApart, IsTurnAt, turn_on};
+
+use exact_plane::{Direction, Pt, Steps, on_segment, order, turn};
+use std::cmp::Ordering;
+use std::sync::ledger::Ledger;
+
+/// The turn from the path `ab` to the path `ac`, which begin at the same point: that of the two ways on from where they part.
+pub fn path_turn<L: Ledger>(ab: &[Pt], ac: &[Pt], steps: &mut Steps<L>) -> Direction
+    requires some { 0 < length ab.now }
+    requires others { 0 < length ac.now }
+    requires same { point_at ab.now 0 ≡ point_at ac.now 0 }
+    requires stepping { IsStepping ab.now }
+    requires others_stepping { IsStepping ac.now }
+    ensures { IsPathTurn ab.now ac.now result }
+{
+    let k = common_front(ab, ac, steps);
+    turn_at(&ab[k - 1], &ab[k..], &ac[k..], steps)
+}
+
+// How many points the longest common front of two lists has.
+fn common_front<L: Ledger>(ab: &[Pt], ac: &[Pt], steps: &mut Steps<L>) -> usize
+    requires some { 0 < length ab.now }
+    requires others { 0 < length ac.now }
+    requires same { point_at ab.now 0 ≡ point_at ac.now 0 }
+    ensures some { 0 < result }
+    ensures within { result ≤ length ab.now }
+    ensures within_other { result ≤ length ac.now }
+    ensures same { take result ab.now ≡ take result ac.now }
+    ensures apart { result < length ab.now → result < length ac.now → point_at ab.now result ≢ point_at ac.now result }
+{
+    let mut k = 1;
+    while k < ab.len() && k < ac.len() && order(&ab[k], &ac[k], steps) == Ordering::Equal {
+        k += 1;
+    }
+    k
+}
+
+// The turn of two ways on from `v` that have no next point in common.
+fn turn_at<L: Ledger>(v: &Pt, first: &[Pt], second: &[Pt], steps: &mut Steps<L>) -> Direction
+    requires { 0 < length first.now → 0 < length second.now → point_at first.now 0 ≢ point_at second.now 0 }
+    ensures { IsTurnAt v.now first.now second.now result }
+{
+    let (Some(p), Some(q)) = (first.first(), second.first()) else {
+        return Direction::Straight;
+    };
+    match turn(v, p, q, steps) {
+        Direction::Straight => turn_on_line(v, first, second, steps),
+        side => side,
+    }
+}
+
+// The same where the next points are on one line with `v`.
+fn turn_on_line<L: Ledger>(v: &Pt, first: &[Pt], second: &[Pt], steps: &mut Steps<L>) -> Direction
+    requires some { 0 < length first.now }
+    requires others { 0 < length second.now }
+    requires straight { turn_of (whole v.now) (whole (point_at first.now 0)) (whole (point_at second.now 0)) ≡ Direction.Straight }
+    ensures { IsTurnApart v.now (point_at first.now 0) (drop 1 first.now) (point_at second.now 0) (drop 1 second.now) result }
+{
+    let (p, q) = (&first[0], &second[0]);
+    if on_segment(v, p, q, steps) {
+        Direction::Straight
+    } else if on_segment(p, v, q, steps) {
+        turn_on(v, first, steps).opposite()
+    } else {
+        turn_on(v, second, steps)
+    }
+}
+
+// The turn from `v` over the first point of a way to the next one, if there is one.
+fn turn_on<L: Ledger>(v: &Pt, way: &[Pt], steps: &mut Steps<L>) -> Direction
+    requires { 0 < length way.now }
+    ensures { result ≡ turn_on v.now (point_at way.now 0) (drop 1 way.now) }
+{
+    match way.get(1) {
+        Some(r) => turn(v, &way[0], r, steps),
+        None => Direction::Straight,
+    }
+}

@@ -1,0 +1,10 @@
+//! The sides of the relative hull of some points in a simple polygon, from the paths between them.
+#![tactic(auto)]
+
+mod comparison;
+mod hull;
+mod table;
+
+pub use comparison::path_turn;
+pub use hull::sides;
+pub use table::ChainTable;

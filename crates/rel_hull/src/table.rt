@@ -1,0 +1,62 @@
+ghost use Rattle.std.specs.Prelude.{◌≡◌, ◌<◌, length, map};
+ghost use Rattle.rings.specs.Chain.{point_at};
+ghost use Rattle.rel_hull.specs.PathTurn.{IsStepping};
+ghost use Rattle.rel_hull.specs.Table.{IsTableOf, chain_at, points_of};
+
+use exact_plane::Pt;
+use ring_check::Ring;
+use std::marker::Model;
+
+/// How many points a hull has at most.
+pub const MAX_HULL: usize = 64;
+
+/// The paths between each two of some points of a ring.
+#[derive(Drop)]
+pub struct ChainTable {
+    count: u32,
+    chains: Vec<Vec<Pt>>,
+}
+
+impl Model for ChainTable {
+    ghost use Rattle.std.specs.Prelude.{map};
+    ghost use Rattle.rel_hull.specs.Table.{Table};
+    ghost use Rattle.rel_hull.specs.Told.{KeepsChains};
+
+    ghost Value = { Table };
+
+    ghost view = { λ table. record { count = table.count; chains = map (λ chain. chain.items) table.chains.items } };
+
+    ghost invariant = { λ table. KeepsChains (record { count = table.count; chains = map (λ chain. chain.items) table.chains.items }) };
+}
+
+impl ChainTable {
+    /// The table of `m` distinct points: chain `i * m + j` is the path from point i to point j in the ring.
+    pub fn of(ring: &Ring, m: u32, chains: Vec<Vec<Pt>>) -> ChainTable
+        requires { IsTableOf ring.now.corners (record { count = m; chains = map (λ chain. chain.items) chains.items }) }
+        ensures count { result.count ≡ m }
+        ensures chains { result.chains ≡ map (λ chain. chain.items) chains.items }
+    {
+        ChainTable { count: m, chains }
+    }
+
+    // How many points there are.
+    pub(crate) fn count(&self) -> u32
+        ensures { result ≡ self.now.count }
+    {
+        self.count
+    }
+
+    // The path from one point to another.
+    pub(crate) fn chain(&self, i: u32, j: u32) -> &[Pt]
+        requires first { i < self.now.count }
+        requires second { j < self.now.count }
+        ensures chain { result.now ≡ chain_at self.now i j }
+
+        // What holds of every chain.
+        ensures some { 0 < length result.now }
+        ensures begins { point_at result.now 0 ≡ point_at (points_of self.now) i }
+        ensures stepping { IsStepping result.now }
+    {
+        &self.chains[(i * self.count + j) as usize]
+    }
+}
