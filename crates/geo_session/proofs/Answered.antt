@@ -1,14 +1,15 @@
--- The answers to a polygon and to two points, as the code writes them.
-use Rattle.std.proofs.Common.{◌≡◌, ℕ, List, ◌++◌, length, Result, Ok, Err, inl, inr, refl, ap}
-use Rattle.std.specs.Prelude.{OnOk, None, Some, Vec}
+-- The answers to a polygon, and to points by a path, as the code writes them.
+use Rattle.std.proofs.Common.{◌≡◌, ℕ, ◌+◌, ◌≤◌, List, [], ◌++◌, length, Result, Ok, Err, inl, inr, refl, ap, arith}
+use Rattle.std.specs.Prelude.{OnOk, Option, None, Some, Vec}
 use Rattle.std.specs.declared.alloc.Global.{Global}
 use Rattle.plane.specs.Point.{Point}
 use Rattle.rings.specs.Simple.{IsLeastClash, IsSimple}
 use Rattle.geo_text.specs.Texts.{bad_text}
 use Rattle.geo_text.specs.declared.command.Bad.TheVariants as bad
 use Rattle.geo_text.specs.declared.command.Command.TheVariants as command
-use Rattle.geo_session.specs.Answer.{AppendsAnswer, State, found, path_text, polygon_text}
-use Rattle.geo_session.specs.Path.{IsChainAnswer}
+use Rattle.geo_session.specs.Answer.{AppendsAnswer, State, found, path_text, polygon_text, reached}
+use Rattle.geo_session.specs.Path.{IsChainAnswer, TakesPathSteps}
+use Rattle.geo_session.specs.Tree.{IsReached}
 
 -- what follows from a fact about an Ok follows under the Ok
 under_ok : {T E : Type 0} {P Q : Type 0} (r : Result T E) → (P → Q) → OnOk r P → OnOk r Q
@@ -51,3 +52,21 @@ path_answered (Some kept) s t points out out' put h = under_ok put
       answer = (found h.0 h.1 (record { points = points.items; path = h.2; told = refl }), refl);
       appended = written;
     })
+
+-- and so it answers a point of a ring with a tree
+pub reach_answered : {E : Type 0} (ring : List Point) (source : Option Point) (t : Point) (points : Vec Point Global) (out out' : List ℕ)
+    (put : Result (Unit {0}) E) → IsReached ring source t (Ok points) → OnOk put (out' ≡ out ++ path_text points.items)
+    → OnOk put (AppendsAnswer (Some (record { ring = ring; source = source })) (command.Reach t) out out' (Some (record { ring = ring; source = source })))
+reach_answered ring None t points out out' put h = absurd cc
+reach_answered ring (Some s) t points out out' put h = under_ok put
+    (λ written. record {
+      text = path_text points.items;
+      answer = (reached h.0 (record { points = points.items; path = h.1; told = refl }), refl);
+      appended = written;
+    })
+
+-- where no path is written, no steps are taken for points
+pub none_written : {E : Type 0} (put : Result (Unit {0}) E) (most : ℕ) (out out' : List ℕ) (steps steps' : ℕ) → steps' ≤ steps + most
+    → OnOk put (TakesPathSteps most out out' steps steps')
+none_written (Ok x) most out out' steps steps' few = record { points = []; printed = inr refl; bound = omega (arith, few) }
+none_written (Err e) most out out' steps steps' few = tt

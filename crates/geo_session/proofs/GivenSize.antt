@@ -9,7 +9,7 @@ use Rattle.geo_session.specs.Path.{size_of}
 use Rattle.geo_session.specs.Session.{state_of}
 use Rattle.geo_session.specs.Tree.{HeldRing}
 
-length_either : (turned : Bool) (ring : List Point) → length (if turned then turned_round ring else ring) ≡ length ring
+pub length_either : (turned : Bool) (ring : List Point) → length (if turned then turned_round ring else ring) ≡ length ring
 length_either true ring = length-turned_round ring
 length_either false ring = refl
 

@@ -3,6 +3,10 @@ mod Places
 mod Judged
 mod GivenPath
 mod GivenSize
+mod GivenTree
+mod AlonePath
+mod ReachedNames
+mod TreeLines
 mod SleeveRoom
 mod WalkedNames
 mod LocatedIn

@@ -3,6 +3,7 @@ use Rattle.std.specs.List.{concat}
 use Rattle.std.specs.Prelude.{◌≡◌, ℕ, ◌<◌, ◌++◌, List, [], codes, drop, length, slice_index_or, Option, None, Some}
 use Rattle.plane.specs.Point.{Point}
 use Rattle.ring_check.specs.Oriented.{given_of}
+use Rattle.geo_text.specs.Texts.{index_text}
 use Rattle.geo_session.specs.Answer.{IsFromText, State, path_text, points_text}
 use Rattle.geo_session.specs.Tree.{HeldRing}
 

@@ -67,7 +67,9 @@ impl Grown {
     {
         match self.tree.parent(ring.given_index(i)) {
             Some(Spot::Corner(c)) => Some(Spot::Corner(ring.given_index(c))),
-            before => before,
+            Some(Spot::Start) => Some(Spot::Start),
+            Some(Spot::Goal) => unreachable!(),
+            None => None,
         }
     }
 
@@ -92,12 +94,14 @@ impl Grown {
         let mut names = Vec::with_capacity(alloc, count + 2)?;
         let mut points = Vec::with_capacity(alloc, count + 3)?;
         let board = Board::new(ring, self.source, *goal);
-        let before = self.tree.reach(&board, mesh, tri, steps);
-        self.tree.chain_into(before.unwrap_or(Spot::Start), &mut names);
-        put_points(&mut points, &names, &board);
-        if before.is_some() {
-            points.push_reserved(*goal);
-        }
+        let Some(last) = self.tree.reach(&board, mesh, tri, steps) else {
+            points.push_reserved(self.source);
+            return Ok(points);
+        };
+        self.tree.chain_into(last, &mut names);
+        let on_the_way = Board::new(ring, self.source, self.source);
+        put_points(&mut points, &names, &on_the_way);
+        points.push_reserved(*goal);
         Ok(points)
     }
 }
