@@ -5,4 +5,5 @@ mod Paths
 mod PathTurns
 mod SideLists
 mod TableInner
+mod TableReads
 mod TableSides

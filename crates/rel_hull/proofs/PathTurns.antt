@@ -37,7 +37,7 @@ parted_after a b k m turn next in_first in_second same turned =
     let least : m ≤ k = omega arith in
     let front : take m b ≡ take m a = sym (take-take m k b least) ∙ ap (take m) (sym same) ∙ take-take m k a least in
     let last : point_at b m ≡ point_at a m =
-        sym (get_or-take k b m origin below) ∙ ap (λ (c : List Point). point_at c m) (sym same) ∙ get_or-take k a m origin below in
+    sym (get_or-take k b m origin below) ∙ ap (λ (c : List Point). point_at c m) (sym same) ∙ get_or-take k a m origin below in
     record {
       front = take m a;
       last = point_at a m;

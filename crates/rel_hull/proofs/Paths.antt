@@ -1,5 +1,5 @@
 -- The paths of a table: each is the one between its points.
-use Rattle.std.proofs.Common.{◌≡◌, ℕ, ◌+◌, ◌<◌, List, length, refl, arith, lit<, subst, sym}
+use Rattle.std.proofs.Common.{◌≡◌, ℕ, ◌<◌, List, refl}
 use Rattle.plane.specs.Point.{Point}
 use Rattle.rel_hull.specs.Table.{IsTableOf, Table, chain_at, points_of}
 use Rattle.rel_hull.specs.Told.{KeepsChains}

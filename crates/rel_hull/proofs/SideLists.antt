@@ -1,7 +1,6 @@
 -- Lists of the sides that come before a pair, one pair after another.
 use Rattle.std.proofs.Common.{◌≡◌, ◌⊎◌, ◌↔◌, inl, inr, ℕ, ◌+◌, ◌<◌, List, [], ◌∷◌, ◌++◌, length, get_or, refl, slice_index, subst, sym, arith}
-use Rattle.std.proofs.lemmas.Bool.{cases_eq, cases_lt}
-use Rattle.std.proofs.lemmas.List.{get_or_past}
+use Rattle.std.proofs.lemmas.Bool.{cases_eq}
 use Rattle.std.proofs.lemmas.List.Elements.{Contains-append_left, Contains-push, Contains-push_cases}
 use Rattle.std.specs.List.{Contains}
 use Rattle.rel_hull.proofs.Outer.{first_least, next_greater, none_between, ordered_push}
@@ -87,14 +86,12 @@ module _ (table : Table) (n : ℕ) (outer : List ℕ) (are : AreOuterBelow table
       )
 
   -- and ends where the next number's begins
-  pub row_ends : (s : ℕ) (pair : ℕ × ℕ) → IsTold table outer pair
-      → IsPairBefore pair (s, get_or outer (length outer) n) ↔ IsPairBefore pair (s + 1, 0)
+  pub row_ends : (s : ℕ) (pair : ℕ × ℕ) → IsTold table outer pair → IsPairBefore pair (s, n) ↔ IsPairBefore pair (s + 1, 0)
   row_ends s pair told =
-      let end = get_or_past outer (length outer) n (omega arith) in
       let within = are.below pair.1 told.second in (
         λ before. elim before [ inl row ↦ inl (omega arith) | inr h ↦ let same = h.0 in inl (omega arith) ],
         λ before. elim before [
-          | inl row ↦ elim (cases_eq pair.0 s) [ inl e ↦ inr (e, rw end within) | inr other ↦ inl (omega arith) ]
+          | inl row ↦ elim (cases_eq pair.0 s) [ inl e ↦ inr (e, within) | inr other ↦ inl (omega arith) ]
           | inr h ↦ let less = h.1 in absurd (omega arith)
         ],
       )
@@ -121,8 +118,6 @@ module _ (table : Table) (n : ℕ) (outer : List ℕ) (are : AreOuterBelow table
   }
 
   -- and all come before the row of n
-  pub all_sides : (pairs : List (ℕ × ℕ)) → AreSidesBefore table outer (get_or outer (length outer) n, 0) pairs
-      → (pair : ℕ × ℕ) → IsTold table outer pair → Contains pairs pair
-  all_sides pairs sides pair told =
-      let end = get_or_past outer (length outer) n (omega arith) in
-      sides.all pair told (inl (rw end (are.below pair.0 told.first)))
+  pub all_sides : (pairs : List (ℕ × ℕ)) → AreSidesBefore table outer (n, 0) pairs → (pair : ℕ × ℕ) → IsTold table outer pair
+      → Contains pairs pair
+  all_sides pairs sides pair told = sides.all pair told (inl (are.below pair.0 told.first))

@@ -1,5 +1,5 @@
 -- The sides that the chains of a table of a ring tell are those of its points.
-use Rattle.std.proofs.Common.{◌≡◌, ◌≢◌, ℕ, ◌<◌, List, length, get_or, refl}
+use Rattle.std.proofs.Common.{ℕ, ◌<◌, List}
 use Rattle.std.proofs.lemmas.List.Elements.{Contains-get_or}
 use Rattle.std.specs.List.{Contains}
 use Rattle.exact_plane.specs.declared.direction.Direction.TheVariants.{Left}
@@ -75,8 +75,7 @@ module _ (ring : List Point) (table : Table) (is : IsTableOf ring table) where
         }
 
     -- so a list of all pairs that are told is that of the sides
-    pub are_sides : (pairs : List (ℕ × ℕ)) → AreSidesBefore table outer (get_or outer (length outer) table.count, 0) pairs
-        → AreSides ring (points_of table) pairs
+    pub are_sides : (pairs : List (ℕ × ℕ)) → AreSidesBefore table outer (table.count, 0) pairs → AreSides ring (points_of table) pairs
     are_sides pairs sides = record {
       sides = λ k in_list. side_of_told (pair_at pairs k) (sides.told (pair_at pairs k) (Contains-get_or pairs k (0, 0) in_list));
       all = λ s t side. all_sides table table.count outer are pairs sides (s, t) (told_of_side s t side);

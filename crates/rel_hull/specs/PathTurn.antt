@@ -5,7 +5,7 @@ use Rattle.plane.specs.Segment.{On}
 use Rattle.rings.specs.Chain.{point_at}
 use Rattle.exact_plane.specs.Direction.{opposite, turn_of}
 use Rattle.exact_plane.specs.declared.direction.Direction.{Direction}
-use Rattle.exact_plane.specs.declared.direction.Direction.TheVariants.{Left, Right, Straight}
+use Rattle.exact_plane.specs.declared.direction.Direction.TheVariants.{Straight}
 
 -- the turn from v over p to the point after p, if there is one
 abbrev pub turn_on : Point → Point → List Point → Direction

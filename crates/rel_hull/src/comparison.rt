@@ -1,6 +1,5 @@
 ghost use Rattle.std.specs.Prelude.{◌≡◌, ◌≢◌, ◌<◌, ◌≤◌, drop, length, take};
 ghost use Rattle.plane.specs.Point.{whole};
-ghost use Rattle.plane.specs.Segment.{On};
 ghost use Rattle.rings.specs.Chain.{point_at};
 ghost use Rattle.exact_plane.specs.Direction.{turn_of};
 ghost use Rattle.rel_hull.specs.PathTurn.{IsPathTurn, IsStepping, IsTurnApart, IsTurnAt, turn_on};

@@ -1,6 +1,5 @@
 ghost use Rattle.std.specs.List.{Contains};
 ghost use Rattle.std.specs.Prelude.{◌+◌, ◌<◌, ◌↔◌, IfOk, IsTrue, OnOk, ℕ, length};
-ghost use Rattle.rings.specs.Chain.{point_at};
 ghost use Rattle.rel_hull.specs.Table.{AreSides, IsTableOf, points_of};
 ghost use Rattle.rel_hull.specs.Told.{AreOuterBelow, AreSidesBefore, IsLeftOf, IsOnChain, IsPassed, IsPassedFrom};
 
@@ -23,11 +22,7 @@ pub fn sides<L: Ledger>(
     ensures { IfOk result (λ pairs. AreSides ring.now.corners (points_of chains.now) pairs.items) }
 {
     let outer = outer_points(alloc, chains, steps)?;
-    let mut sides = Vec::new(alloc);
-    for s in &outer {
-        put_sides(&mut sides, chains, &outer, *s, steps)?;
-    }
-    Ok(sides)
+    sides_among(alloc, chains, &outer, steps)
 }
 
 // The numbers of the points that aren't inner.
@@ -88,6 +83,23 @@ fn is_on<L: Ledger>(chain: &[Pt], point: &Pt, steps: &mut Steps<L>) -> bool
     false
 }
 
+// The sides between outer points.
+fn sides_among<L: Ledger>(
+    alloc: Global,
+    chains: &ChainTable,
+    outer: &[u32],
+    steps: &mut Steps<L>,
+) -> Result<Vec<(u32, u32)>, Memory>
+    requires { AreOuterBelow chains.now chains.now.count outer.now }
+    ensures { IfOk result (λ sides. AreSidesBefore chains.now outer.now (chains.now.count, 0) sides.items) }
+{
+    let mut sides = Vec::new(alloc);
+    for s in outer {
+        put_sides(&mut sides, chains, outer, *s, steps)?;
+    }
+    Ok(sides)
+}
+
 // Appends the sides that go from point `s`.
 fn put_sides<L: Ledger>(
     sides: &mut Vec<(u32, u32)>,
@@ -131,13 +143,7 @@ fn is_side<L: Ledger>(
 }
 
 // Whether a point is one of the two, or to the left of the path from one to the other.
-fn is_left<L: Ledger>(
-    chains: &ChainTable,
-    s: u32,
-    t: u32,
-    u: u32,
-    steps: &mut Steps<L>,
-) -> bool
+fn is_left<L: Ledger>(chains: &ChainTable, s: u32, t: u32, u: u32, steps: &mut Steps<L>) -> bool
     requires first { s < chains.now.count }
     requires second { t < chains.now.count }
     requires third { u < chains.now.count }

@@ -4,6 +4,8 @@
 mod comparison;
 mod hull;
 mod table;
+#[cfg(test)]
+mod tests;
 
 pub use comparison::path_turn;
 pub use hull::sides;

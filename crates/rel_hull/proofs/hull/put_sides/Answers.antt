@@ -1,5 +1,5 @@
-use Rattle.std.proofs.Common.{◌≡◌, ◌+◌, arith, length, slice_index, sym}
-use Rattle.std.proofs.lemmas.List.{get_or_default}
+use Rattle.std.proofs.Common.{◌+◌, slice_index, sym}
+use Rattle.std.proofs.lemmas.List.{get_or_default, get_or_past}
 use Rattle.std.proofs.lemmas.List.Elements.{Contains-get_or}
 use Rattle.rel_hull.proofs.SideLists.{next_in_row, row_begins, row_ends, sides_push, sides_rebound, sides_skip}
 use Rattle.rel_hull.proofs.hull.put_sides.Goals as goal
@@ -46,6 +46,6 @@ pub returns : goal.returns
 returns g c =
     let table = c.args.chains.now in
     let outer = c.args.outer.now in
-    let end : c.loop-t.t-index ≡ length outer = omega arith in
-    sides_rebound table outer _ (c.args.s + 1, 0) c.loop-t.sides.items (row_ends table table.count outer c.requires.outer c.args.s)
-    (rw end at c.loop-t.invariant)
+    sides_rebound table outer (c.args.s, table.count) (c.args.s + 1, 0) c.loop-t.sides.items
+    (row_ends table table.count outer c.requires.outer c.args.s)
+    (rw (get_or_past outer c.loop-t.t-index table.count c.loop-t-test.false) at c.loop-t.invariant)
