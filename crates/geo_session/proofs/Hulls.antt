@@ -5,18 +5,22 @@ use Rattle.std.proofs.lemmas.List.{ext_get_or, get_or-map, length-map}
 use Rattle.std.proofs.lemmas.List.Elements.{Contains-get_or}
 use Rattle.std.proofs.lemmas.List.FromFn.{get_or-map-range_with_len, length-map-range_with_len}
 use Rattle.std.specs.List.{concat}
-use Rattle.std.specs.Prelude.{IfOk, codes, flat_map, map, slice_index, slice_index_or}
+use Rattle.std.specs.Prelude.{IfOk, OnOk, Option, Some, codes, flat_map, map, slice_index, slice_index_or}
 use Rattle.plane.specs.Point.{Point, whole}
 use Rattle.rings.specs.Chain.{IsPath, point_at}
 use Rattle.rings.specs.Ring.{origin}
-use Rattle.geo_text.specs.Texts.{index_text}
+use Rattle.geo_text.specs.Texts.{bad_text, index_text}
+use Rattle.geo_text.specs.declared.command.Bad.TheVariants as bad
+use Rattle.geo_text.specs.declared.command.Command.TheVariants as command
 use Rattle.ring_check.specs.Oriented.{Oriented, given_of}
 use Rattle.rel_hull.specs.Hull.{AreDistinct}
 use Rattle.rel_hull.specs.Table.{AreSides, IsPairBefore, IsTableOf, Table, chain_at, pair_at, points_of}
+use Rattle.geo_session.proofs.Answered.{under_ok}
 use Rattle.geo_session.proofs.GivenPath.{in_given_iff, path_given}
 use Rattle.geo_session.proofs.GivenSides.{sides_given}
 use Rattle.geo_session.proofs.Spanned.{chain_between_places}
-use Rattle.geo_session.specs.Hull.{AreAllIn, AreFirsts, IsFirstOutside, TellsHull, hull_text}
+use Rattle.geo_session.specs.Answer.{AppendsAnswer}
+use Rattle.geo_session.specs.Hull.{AreAllIn, AreFirsts, IsFirstOutside, TellsHull, hull_text, point_outside, spanned}
 use Rattle.geo_session.specs.Span.{AreChains, IsHullOf, IsShortPath, IsSpanned, line_of, numbered, span_text}
 use Rattle.geo_session.specs.declared.hull.Hull.{Hull}
 
@@ -57,7 +61,7 @@ module _ (points : List Point) (numbers : List ℕ) (firsts : AreFirsts points n
         ext_get_or origin (points_of table) (map (point_at points) numbers) (long ∙ count ∙ sym (length-map numbers (point_at points)))
         (λ i below.
         let at_i : i < table.count = omega (arith, long, below) in
-        get_or-map-range_with_len (λ (i : ℕ). point_at (chain_at table i i) 0) 0 table.count i i origin at_i refl
+        get_or-map-range_with_len (λ (i : ℕ). point_at (chain_at table i i) 0) 0 table.count i i origin at_i (omega arith)
         ∙ (((chain_of_table i i at_i at_i).is_path (chain_at table i i)).1 refl).first
         ∙ sym (at_number i (omega (arith, count, at_i))))
 
@@ -161,3 +165,22 @@ module _ (ring points : List Point) (hull : Hull) (is : IsHullOf ring points hul
         };
     told = rw (length-map hull.sides.items (line_of hull), ← joined_lines (line_of hull) hull.sides.items) refl;
   }
+
+module _ {E : Type 0} (ring points : List Point) (source : Option Point) (out out' : List ℕ) (put : Result (Unit {0}) E) where
+  -- so they answer the points,
+  pub hull_answered : (hull : Hull) → IsHullOf ring points hull → OnOk put (out' ≡ out ++ span_text hull)
+      → OnOk put (AppendsAnswer (Some (record { ring = ring; source = source })) (command.Hull points) out out' (Some (record { ring = ring; source = source })))
+  hull_answered hull is = under_ok put (λ written. record {
+    text = span_text hull;
+    answer = (spanned is.inside (hull_told ring points hull is), refl);
+    appended = written;
+  })
+
+  -- and so does the refusal of the first that is outside
+  pub outside_answered : (k : ℕ) → IsFirstOutside ring points k → OnOk put (out' ≡ out ++ bad_text (bad.Outside (k + 1)))
+      → OnOk put (AppendsAnswer (Some (record { ring = ring; source = source })) (command.Hull points) out out' (Some (record { ring = ring; source = source })))
+  outside_answered k is = under_ok put (λ written. record {
+    text = bad_text (bad.Outside (k + 1));
+    answer = (point_outside k is refl, refl);
+    appended = written;
+  })

@@ -68,11 +68,11 @@ module _ (ring points : List Point) where
   one_hull one other h g =
       let numbers : h.numbers ≡ g.numbers = one_firsts points h.numbers g.numbers h.firsts g.firsts in
       let are : AreSides ring (map (point_at points) g.numbers) h.sides =
-          subst (λ (ns : List ℕ). AreSides ring (map (point_at points) ns) h.sides) numbers h.are_sides in
+      subst (λ (ns : List ℕ). AreSides ring (map (point_at points) ns) h.sides) numbers h.are_sides in
       let sides : h.sides ≡ g.sides = one_sides ring (map (point_at points) g.numbers) h.sides g.sides are g.are_sides in
       let lines : AreLines g.numbers g.sides h.lines =
-          subst (λ (ps : List (ℕ × ℕ)). AreLines g.numbers ps h.lines) sides
-          (subst (λ (ns : List ℕ). AreLines ns h.sides h.lines) numbers (record { one_each = h.one_each; each = h.each })) in
+      subst (λ (ps : List (ℕ × ℕ)). AreLines g.numbers ps h.lines) sides
+      (subst (λ (ns : List ℕ). AreLines ns h.sides h.lines) numbers (record { one_each = h.one_each; each = h.each })) in
       h.told ∙ ap hull_text (one_lines g.numbers g.sides h.lines g.lines lines (record { one_each = g.one_each; each = g.each })) ∙ sym g.told
 
   -- one point is the first that is outside

@@ -10,11 +10,9 @@ use Rattle.rings.specs.Chain.{point_at}
 use Rattle.rings.specs.Inside.{IsIn}
 use Rattle.meshes.specs.Fits.{Fits}
 use Rattle.meshes.specs.declared.tri.Tri.{Tri}
-use Rattle.ring_check.specs.Oriented.{Oriented}
 use Rattle.dual_tree.specs.Location.{IsLeastHolding}
 use Rattle.rel_hull.proofs.Outer.{ordered_push}
-use Rattle.geo_session.proofs.GivenPath.{in_given_iff}
-use Rattle.geo_session.proofs.LocatedIn.{held_in_given}
+use Rattle.geo_session.proofs.LocatedIn.{held_in}
 use Rattle.geo_session.specs.Hull.{AreFirsts}
 use Rattle.geo_session.specs.Span.{AreChains, AreFirstsBelow, AreHeld, IsRepeated, IsShortPath, numbered}
 
@@ -73,19 +71,17 @@ module _ (points : List Point) where
 
 -- ---- the triangles
 
-module _ (ring : Oriented) (tris : List Tri) (points : List Point) (n : ℕ) (found : List ℕ) (are : AreHeld ring.corners tris points n found) where
+module _ (ring : List Point) (tris : List Tri) (points : List Point) (n : ℕ) (found : List ℕ) (are : AreHeld ring tris points n found) where
   -- the next point is in a triangle,
-  pub held_more : (tri : ℕ) → IsLeastHolding ring.corners tris (whole (point_at points n)) tri
-      → AreHeld ring.corners tris points (n + 1) (found ++ tri ∷ [])
+  pub held_more : (tri : ℕ) → IsLeastHolding ring tris (whole (point_at points n)) tri → AreHeld ring tris points (n + 1) (found ++ tri ∷ [])
   held_more tri holds = record {
     one_each = length_push found tri ∙ ap (λ (k : ℕ). k + 1) are.one_each;
-    each = each_push (λ k t. IsLeastHolding ring.corners tris (whole (point_at points k)) t) found tri 0 n are.one_each are.each holds;
+    each = each_push (λ k t. IsLeastHolding ring tris (whole (point_at points k)) t) found tri 0 n are.one_each are.each holds;
   }
 
   -- and those that are in one are in the ring
-  pub held_inside : Fits ring.corners tris → (k : ℕ) → k < n → IsIn ring.corners (whole (point_at points k))
-  held_inside fits k below =
-      (in_given_iff ring (whole (point_at points k))).0 (held_in_given ring (point_at points k) tris _ fits (are.each k below))
+  pub held_inside : Fits ring tris → (k : ℕ) → k < n → IsIn ring (whole (point_at points k))
+  held_inside fits k below = held_in ring (point_at points k) tris _ fits (are.each k below)
 
 -- ---- the chains
 

@@ -150,8 +150,8 @@ pub(crate) fn put_hull<L: Ledger>(
     ensures front { OnErr result (take (length out.old.items) out.new.items ≡ out.old.items) }
 {
     put_count(out, "hull", hull.sides.len() as u32)?;
-    for (s, t) in &hull.sides {
-        put_side(out, hull, *s, *t, steps)?;
+    for side in &hull.sides {
+        put_side(out, hull, side.0, side.1, steps)?;
     }
     Ok(())
 }

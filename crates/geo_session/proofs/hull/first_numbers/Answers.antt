@@ -14,14 +14,14 @@ loop-i-preserved g c =
     let few = c.loop-i.invariant.few in
     elim c.if-not-is_repeated.branch [
       | then-not-is_repeated+in_ok-push w ↦ record {
-          are = rw (w.numbers-is, w.in_ok-push.ensures.items)
-              (firsts_more points i numbers are (λ repeated. absurd (cc (c.is_repeated.ensures.1 repeated, w.if-not-is_repeated.true))));
-          few = rw (w.numbers-is, w.in_ok-push.ensures.items) (omega (arith, length_push numbers i, few));
-        }
+        are = rw (w.numbers-is, w.in_ok-push.ensures.items)
+            (firsts_more points i numbers are (λ repeated. absurd (cc (c.is_repeated.ensures.1 repeated, w.if-not-is_repeated.true))));
+        few = rw (w.numbers-is, w.in_ok-push.ensures.items) (omega (arith, length_push numbers i, few));
+      }
       | else-not-is_repeated w ↦ record {
-          are = rw w.numbers-is (firsts_same points i numbers are (c.is_repeated.ensures.0 w.if-not-is_repeated.false));
-          few = rw w.numbers-is (omega (arith, few));
-        }
+        are = rw w.numbers-is (firsts_same points i numbers are (c.is_repeated.ensures.0 w.if-not-is_repeated.false));
+        few = rw w.numbers-is (omega (arith, few));
+      }
     ]
 
 pub returns-clause-firsts : goal.returns-clause-firsts

@@ -4,7 +4,7 @@ use Rattle.geo_text.specs.Texts.{index_text}
 use Rattle.geo_session.proofs.hull.put_hull.Given as goal
 use Rattle.geo_session.specs.Span.{line_of}
 
-abbrev pub invariant-loop : goal.invariant-loop
-invariant-loop g l =
+abbrev pub invariant-loop-side : goal.invariant-loop-side
+invariant-loop-side g l =
     l.out.items
-    ≡ l.fn.out.items ++ (codes "hull" ++ index_text (length l.hull.sides.items) ++ codes "\n" ++ flat_map (line_of l.hull) (take l.index l.hull.sides.items))
+    ≡ l.fn.out.items ++ (codes "hull" ++ index_text (length l.hull.sides.items) ++ codes "\n" ++ flat_map (line_of l.hull) (take l.side-index l.side-items))
