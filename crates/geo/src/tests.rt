@@ -79,12 +79,12 @@ fn plain(number: u32, script: &'static [u8], output: &'static [u8]) -> Row {
     }
 }
 
-// The worked scripts, by number, with their whole outputs. A number that is left out is a script of commands that nothing
-// answers yet, or of words of the command line; where only some records are left out, it is said above the row.
+// The worked scripts, by number, with their whole outputs. A number that is left out is a script of words of the command line,
+// or of long records, which a test of its own has.
 #[test]
 #[rattlefmt::skip]
 fn worked_scripts(rt: HostRuntime) -> Result<(), Fail> {
-    let rows: [Row; 33] = [
+    let rows: [Row; 34] = [
         plain(1, b"polygon,0,0,4,0,4,2,2,2,2,4,0,4\n", b"polygon,6\n"),
         plain(2, b"", b""),
         plain(3, b"polygon,0,0,4,4,4,0,0,4\n", b"bad,clash,0,2\n"),
@@ -104,6 +104,8 @@ fn worked_scripts(rt: HostRuntime) -> Result<(), Fail> {
             b"polygon,6\nsee,5\npart,0,0,0,5,0\npart,1,5,0,5,2\npart,2,5,2,3,2\npart,3,3,2,3,2\npart,5,0,7/2,0,0\n"),
         plain(15, b"polygon,0,0,4,0,4,2,2,2,2,4,0,4\nkernel\npolygon,0,0,2,0,2,1,4,1,4,2,1,2,1,1,0,1\nkernel\npolygon,0,0,6,0,6,4,4,4,4,2,2,2,2,4,0,4\nkernel\n",
             b"polygon,6\nkernel,4\ncorner,0,0\ncorner,2,0\ncorner,2,2\ncorner,0,2\npolygon,8\nkernel,2\ncorner,1,1\ncorner,2,1\npolygon,8\nkernel,0\n"),
+        plain(16, b"polygon,0,0,4,0,4,2,2,2,2,4,0,4\nhull,4,2,2,4,1,2\n",
+            b"polygon,6\nhull,3\nside,0,1,3,4,2,2,2,2,4\nside,1,2,2,2,4,1,2\nside,2,0,2,1,2,4,2\n"),
         plain(17, b"polygon,0,0,4,0,4,2,2,2,2,4,0,4\ncheck,4,1,2,2,1,4\ncheck,4,0,2,2,0,4\n", b"polygon,6\ntaut\nnot,straight,1\n"),
         Row { failing_read: 2, room: 100, answer: Err(RunFault::ReadFault), ..plain(19, b"polygon,0,0", b"") },
         Row { failing_write: 3, room: 100, answer: Err(RunFault::WriteFault),
@@ -124,6 +126,8 @@ fn worked_scripts(rt: HostRuntime) -> Result<(), Fail> {
         plain(27, b"polygon,0,0,2,0,2,1,4,1,4,2,1,2,1,1,0,1\nsee,0,1\n",
             b"polygon,8\nsee,7\npart,0,0,0,2,0\npart,1,2,0,2,1\npart,2,2,1,4,1\npart,3,4,1,4,1\npart,5,1,1,1,1\npart,6,1,1,0,1\npart,7,0,1,0,0\n"),
         plain(28, b"polygon,0,0,6,0,3,1,0,5\nkernel\n", b"polygon,4\nkernel,4\ncorner,0,0\ncorner,15/4,0\ncorner,3,1\ncorner,0,2\n"),
+        plain(29, b"polygon,0,0,4,0,4,2,2,2,2,4,0,4\nhull,4,2,2,4\nhull,0,0,1,1,2,2\nhull,1,1,1,1\n",
+            b"polygon,6\nhull,2\nside,0,1,3,4,2,2,2,2,4\nside,1,0,3,2,4,2,2,4,2\nhull,2\nside,0,2,2,0,0,2,2\nside,2,0,2,2,2,0,0\nhull,0\n"),
         plain(30, b"polygon,0,0,6,0,6,4,4,4,4,2,2,2,2,4,0,4\npath,5,4,1,4\n", b"polygon,8\npath,4,5,4,4,2,2,2,1,4\n"),
         plain(31, b"polygon,0,5,3,5,3,2,5,2,5,0,0,0\nsee,5,1\n",
             b"polygon,6\nsee,5\npart,1,3,2,3,2\npart,2,3,2,5,2\npart,3,5,2,5,0\npart,4,5,0,0,0\npart,5,0,0,0,7/2\n"),
@@ -131,8 +135,6 @@ fn worked_scripts(rt: HostRuntime) -> Result<(), Fail> {
         plain(33, b"polygon,0,0,4,0,4,2,2,2,2,4,0,4\n path ,+4,01,1,004", b"polygon,6\npath,3,4,1,2,2,1,4\n"),
         plain(34, b"polygon,0,0,9000,0,9000,4000,5000,4000,5000,4200,9000,4200,9000,8000,0,8000,0,4200,3000,4200,3000,4000,0,4000\npath,8000,1000,8000,7000\ninside,7000,4100\nkernel\n",
             b"polygon,12\npath,4,8000,1000,5000,4000,5000,4200,8000,7000\noutside\nkernel,0\n"),
-        // without `hull`
-        plain(37, b"polygon,0,0,4,0,4,2,2,2,2,4,0,4\ninside,1000001,0\n", b"polygon,6\nbad,range,1\n"),
     ];
     for row in rows {
         let mut source = source(rt.alloc(), row.script, 11, &[row.failing_read])?;
@@ -145,21 +147,22 @@ fn worked_scripts(rt: HostRuntime) -> Result<(), Fail> {
     Ok(())
 }
 
+// Script 37: a hull of 65 points, a number just past the limit, and one of a thousand digits.
 #[test]
-fn numbers_of_a_thousand_digits(rt: HostRuntime) -> Result<(), Fail> {
-    let rows: [(u8, &[u8], &[u8]); 2] = [
-        (b'9', b",1\n", b"polygon,6\nbad,range,1\n"),
-        (b'0', b"1,1\n", b"polygon,6\ninside\n"),
+fn long_records(rt: HostRuntime) -> Result<(), Fail> {
+    let rows: [(&[u8], &[u8], usize, &[u8], &[u8]); 3] = [
+        (b"inside,", b"9", 1000, b",1\n", b"polygon,6\nbad,range,1\n"),
+        (b"inside,", b"0", 1000, b"1,1\n", b"polygon,6\ninside\n"),
+        (b"hull", b",1,1", 65, b"\n", b"polygon,6\nbad,many\n"),
     ];
-    for (digit, rest, want) in rows {
-        let mut script = Vec::from_slice(rt.alloc(), b"polygon,0,0,4,0,4,2,2,2,2,4,0,4\ninside,")?;
-        script.extend_from_slice(&[digit; 1000])?;
+    for (front, part, count, rest, want) in rows {
+        let mut script = Vec::from_slice(rt.alloc(), b"polygon,0,0,4,0,4,2,2,2,2,4,0,4\n")?;
+        script.extend_from_slice(front)?;
+        for _ in 0..count {
+            script.extend_from_slice(part)?;
+        }
         script.extend_from_slice(rest)?;
-        assert_eq!(rt;
-            output(rt.alloc(), &script)?.as_slice(),
-            want,
-            "of the byte {digit}"
-        );
+        assert_eq!(rt; output(rt.alloc(), &script)?.as_slice(), want);
     }
     Ok(())
 }
@@ -174,8 +177,11 @@ fn output(alloc: Global, script: &[u8]) -> Result<Vec<u8>, Memory> {
 #[test]
 #[rattlefmt::skip]
 fn more_scripts(rt: HostRuntime) -> Result<(), Fail> {
-    let rows: [(&str, &[u8], &[u8]); 24] = [
-        ("words that nothing answers yet", b"hull,1,1\nhull,1\nhull\n", b"bad,later\nbad,later\nbad,later\n"),
+    let rows: [(&str, &[u8], &[u8]); 25] = [
+        ("refusals of hull", b"hull,0,0\nhull\nhull,0\npolygon,0,0,4,0,4,2,2,2,2,4,0,4\nhull\nhull,1\nhull,1,x\nhull,1,1000001\nhull,1,1,3,3,9,9\n",
+            b"bad,no_polygon\nbad,few\nbad,fields\npolygon,6\nbad,few\nbad,fields\nbad,number,2\nbad,range,2\nbad,outside,2\n"),
+        ("a point that is given again", b"polygon,0,4,2,4,2,2,4,2,4,0,0,0\nhull,4,2,2,4,4,2,1,2,2,4\n",
+            b"polygon,6\nhull,3\nside,0,1,3,4,2,2,2,2,4\nside,1,3,2,2,4,1,2\nside,3,0,2,1,2,4,2\n"),
         ("a polygon without points", b"polygon\n", b"bad,few\n"),
         ("blanks and signs", b" polygon ,+0,00,4, 0,\t4,4\t", b"polygon,3\n"),
         ("a refusal keeps what follows", b"polygon,0,0,4,4,4,0,0,4\npolygon,0,0,4,0,0,4\n", b"bad,clash,0,2\npolygon,3\n"),

@@ -12,7 +12,7 @@ use Rattle.geo_session.specs.Path.{IsChainAnswer, TakesPathSteps}
 use Rattle.geo_session.specs.Tree.{IsReached}
 
 -- what follows from a fact about an Ok follows under the Ok
-under_ok : {T E : Type 0} {P Q : Type 0} (r : Result T E) → (P → Q) → OnOk r P → OnOk r Q
+pub under_ok : {T E : Type 0} {P Q : Type 0} (r : Result T E) → (P → Q) → OnOk r P → OnOk r Q
 under_ok (Ok x) f h = f h
 under_ok (Err e) f h = tt
 

@@ -15,4 +15,9 @@ mod GivenView
 mod GivenKernel
 mod Fronts
 mod OneView
+mod OneOrder
+mod OneHull
+mod GivenSides
+mod Spanned
+mod Hulls
 mod OneAnswer

@@ -16,9 +16,11 @@ use Rattle.geo_text.specs.declared.command.Command.{Command}
 use Rattle.geo_text.specs.declared.command.Command.TheVariants as command
 use Rattle.taut_check.specs.declared.verdict.Verdict.{Verdict}
 use Rattle.taut_check.specs.declared.verdict.Verdict.TheVariants as verdict
+use Rattle.geo_session.proofs.OneHull.{one_hull_in}
 use Rattle.geo_session.proofs.OneVerdict.{one_verdict}
 use Rattle.geo_session.proofs.OneView.{one_kernel, one_view}
 use Rattle.geo_session.specs.Answer.{AcceptsPolygon, IsInsideText, IsCheckText, IsFromText, IsKernelText, IsPathIn, IsPathText, IsPlaceText}
+use Rattle.geo_session.specs.Answer.{IsHullText}
 use Rattle.geo_session.specs.Answer.{IsReachFrom, IsReachIn, IsReachText, IsReadingAnswer, IsSeeText, IsTreeIn, IsTreeText, IsVerdictText, IsViewIn}
 use Rattle.geo_session.specs.Answer.{Kept, RefusesPolygon, State, TellsPath, TellsTree, TellsVerdict, at_source, first_outside, found, from_source, from_text}
 use Rattle.geo_session.specs.Answer.{from_vertex, goal_outside, grown, inside, on_edge, outside, path_text, reached, second_outside, sees, sees_nothing}
@@ -185,6 +187,10 @@ one_kernel_of : (before : State) (one other : List ℕ) → IsKernelText before 
 one_kernel_of None one other e f = both e f
 one_kernel_of (Some kept) one other h g = one_kernel kept.ring one other h g
 
+one_hull : (before : State) (points : List Point) (one other : List ℕ) → IsHullText before points one → IsHullText before points other → one ≡ other
+one_hull None points one other e f = both e f
+one_hull (Some kept) points one other h g = one_hull_in kept.ring points one other h g
+
 pub one_answer : OneAnswerLaw
 one_answer before (command.Polygon ring) one other after after' (inl h) (inl g) = one_acceptance before ring one other after after' h g
 one_answer before (command.Polygon ring) one other after after' (inl h) (inr g) = absurd (no_least_clash ring g.i g.j h.simple g.least)
@@ -197,6 +203,7 @@ one_answer before (command.Tree s) one other after after' h g = one_tree_text be
 one_answer before (command.Reach t) one other after after' h g = (one_reach before t one other h.0 g.0, h.1 ∙ sym g.1)
 one_answer before (command.See q) one other after after' h g = (one_see before q one other h.0 g.0, h.1 ∙ sym g.1)
 one_answer before command.Kernel one other after after' h g = (one_kernel_of before one other h.0 g.0, h.1 ∙ sym g.1)
+one_answer before (command.Hull points) one other after after' h g = (one_hull before points one other h.0 g.0, h.1 ∙ sym g.1)
 
 -- ---- a script
 

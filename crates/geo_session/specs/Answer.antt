@@ -12,6 +12,7 @@ use Rattle.rings.specs.Ring.{vertex}
 use Rattle.rings.specs.Sees.{Sees}
 use Rattle.rings.specs.Simple.{IsLeastClash, IsSimple}
 use Rattle.rings.specs.Visible.{AreParts, IsInView, Part}
+use Rattle.geo_session.specs.Hull.{IsHullIn}
 use Rattle.geo_text.specs.Texts.{bad_text, hom_text, index_text, pt_text}
 use Rattle.geo_text.specs.declared.command.Bad.{Bad}
 use Rattle.geo_text.specs.declared.command.Bad.TheVariants as bad
@@ -203,6 +204,11 @@ abbrev pub IsKernelText : State → List ℕ → Type 0
 IsKernelText None text = text ≡ bad_text bad.NoPolygon
 IsKernelText (Some kept) text = TellsKernel kept.ring text
 
+-- the hull is told if there is a polygon
+abbrev pub IsHullText : State → List Point → List ℕ → Type 0
+IsHullText None points text = text ≡ bad_text bad.NoPolygon
+IsHullText (Some kept) points text = IsHullIn kept.ring points text
+
 -- the text is the command's answer in the state before, and leaves the state after
 abbrev pub IsAnswer : State → Command → List ℕ → State → Type 0
 IsAnswer before (command.Polygon ring) text after = AcceptsPolygon before ring text after ⊎ RefusesPolygon before ring text after
@@ -213,6 +219,7 @@ IsAnswer before (command.Tree s) text after = IsTreeText before s text after
 IsAnswer before (command.Reach t) text after = IsReachText before t text × (after ≡ before)
 IsAnswer before (command.See q) text after = IsSeeText before q text × (after ≡ before)
 IsAnswer before command.Kernel text after = IsKernelText before text × (after ≡ before)
+IsAnswer before (command.Hull points) text after = IsHullText before points text × (after ≡ before)
 
 -- the same of a record that is read as a command or as a refusal; a refused record gives its line and keeps the state
 abbrev pub IsReadingAnswer : State → Result Command Bad → List ℕ → State → Type 0

@@ -1,4 +1,6 @@
 pub mod Answer
+pub mod Hull
+pub mod Span
 pub mod Laws
 pub mod Output
 pub mod Session

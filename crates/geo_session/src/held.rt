@@ -7,16 +7,19 @@ ghost use Rattle.rings.specs.Visible.{part_at, turned_part, turned_parts};
 ghost use Rattle.meshes.specs.Fits.{Fits};
 ghost use Rattle.shared_seq.specs.Digits.{binary_digits};
 ghost use Rattle.exact_plane.specs.Spot.{point_named};
+ghost use Rattle.geo_text.specs.declared.command.TheConstants.{MAX_HULL};
 ghost use Rattle.ring_check.specs.Oriented.{given_of};
 ghost use Rattle.taut_check.specs.Verdict.{IsVerdict};
 ghost use Rattle.dual_tree.specs.Location.{IsLeastHolding};
 ghost use Rattle.funnel_walk.specs.Names.{AreNamed, named_points};
 ghost use Rattle.geo_session.specs.Path.{IsChainIn};
 ghost use Rattle.geo_session.specs.Place.{IsPlace};
+ghost use Rattle.geo_session.specs.Span.{IsSpanned};
 ghost use Rattle.geo_session.specs.Tree.{IsGrownAt, IsReached, IsTreeOf};
 ghost use Rattle.geo_session.specs.View.{IsViewOf, given_parts};
 
 use crate::grown::{Grown, Unreached};
+use crate::hull::Hull;
 use cut_tri::triangulate;
 use dual_tree::{Board, locate, sleeve};
 use exact_plane::{Hom, Memory, Pt, Spot, Steps, Turns};
@@ -189,6 +192,20 @@ impl Held {
         Ok(Some(given))
     }
 
+    // The relative hull of some points, or the number of the first that is not in the polygon.
+    pub(crate) fn hull<L: Ledger>(
+        &self,
+        alloc: Global,
+        points: &[Pt],
+        steps: &mut Steps<L>,
+    ) -> Result<Result<Hull, u32>, Memory>
+        requires some { 1 ≤ length points.now }
+        requires few { length points.now ≤ MAX_HULL }
+        ensures { IfOk result (IsSpanned (given_of self.now.ring) points.now) }
+    {
+        Hull::of(alloc, &self.ring, &self.mesh, points, steps)
+    }
+
     // The corners of the polygon's kernel.
     pub(crate) fn kernel<L: Ledger>(
         &self,
@@ -204,7 +221,7 @@ impl Held {
 }
 
 // The taut chain from a point in one triangle to a point in another.
-fn chain_between<L: Ledger>(
+pub(crate) fn chain_between<L: Ledger>(
     alloc: Global,
     mesh: &Mesh,
     ring: &Ring,

@@ -3,6 +3,7 @@
 
 mod grown;
 mod held;
+mod hull;
 mod laws;
 mod lines;
 mod session;

@@ -178,7 +178,7 @@ fn put_corner<L: Ledger>(
 }
 
 // Appends the line that says how many lines follow.
-fn put_count(out: &mut Vec<u8>, word: &str, count: u32) -> Result<(), Memory>
+pub(crate) fn put_count(out: &mut Vec<u8>, word: &str, count: u32) -> Result<(), Memory>
     ensures ok { OnOk result (out.new.items ≡ out.old.items ++ (word.now ++ index_text count ++ codes "\n")) }
     ensures front { OnErr result (take (length out.old.items) out.new.items ≡ out.old.items) }
 {

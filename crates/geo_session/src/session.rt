@@ -2,6 +2,7 @@ ghost use Rattle.std.specs.Prelude.{◌≡◌, ◌+◌, ◌-◌, ◌*◌, ◌≤
 ghost use Rattle.plane.specs.Point.{Point};
 ghost use Rattle.plane.specs.declared.limits.TheConstants.{MAX_CHAIN, MAX_CORNERS};
 ghost use Rattle.geo_text.specs.Reading.{IsWellSized};
+ghost use Rattle.geo_text.specs.declared.command.TheConstants.{MAX_HULL};
 ghost use Rattle.shared_seq.specs.Digits.{binary_digits};
 ghost use Rattle.ring_check.specs.Oriented.{given_of};
 ghost use Rattle.geo_session.specs.Answer.{AppendsAnswer, polygon_text};
@@ -9,6 +10,7 @@ ghost use Rattle.geo_session.specs.Path.{IsChainAnswer, TakesPathSteps, size_of}
 
 use crate::grown::Unreached;
 use crate::held::{Held, Outside};
+use crate::hull::put_hull;
 use crate::lines::{put_kernel, put_path, put_place, put_polygon, put_tree, put_verdict, put_view};
 use exact_plane::{Memory, Pt, Steps};
 use geo_text::{Bad, Command, Points, put_bad};
@@ -121,6 +123,7 @@ impl Session {
             Command::Reach(t) => self.answer_reach(alloc, &t, out, steps),
             Command::See(q) => self.answer_see(alloc, &q, out, steps),
             Command::Kernel => self.answer_kernel(alloc, out, steps),
+            Command::Hull(points) => self.answer_hull(alloc, points.as_slice(), out, steps),
         }
     }
 
@@ -293,6 +296,26 @@ impl Session {
         };
         let corners = held.kernel(alloc, steps)?;
         put_kernel(out, &corners, steps)
+    }
+
+    fn answer_hull<L: Ledger>(
+        &self,
+        alloc: Global,
+        points: &[Pt],
+        out: &mut Vec<u8>,
+        steps: &mut Steps<L>,
+    ) -> Result<(), Memory>
+        requires { (1 ≤ length points.now) × (length points.now ≤ MAX_HULL) }
+        ensures ok { OnOk result (AppendsAnswer self.now (Command.Hull points.now) out.old.items out.new.items self.now) }
+        ensures front { OnErr result (take (length out.old.items) out.new.items ≡ out.old.items) }
+    {
+        let Some(held) = &self.held else {
+            return put_bad(out, &Bad::NoPolygon);
+        };
+        match held.hull(alloc, points, steps)? {
+            Ok(hull) => put_hull(out, &hull, steps),
+            Err(k) => put_bad(out, &Bad::Outside(k + 1)),
+        }
     }
 }
 

@@ -5,14 +5,14 @@ use Rattle.std.proofs.lemmas.Bool.Decides.{nat_tests}
 use Rattle.std.proofs.lemmas.List.{drop_more, get_or-drop, get_or-map, length-drop, length-map, nil_from_length}
 use Rattle.std.proofs.lemmas.Result.{IfOk-weaker}
 use Rattle.std.proofs.lemmas.Slice.Eq.{bytes_eq-Decides}
-use Rattle.std.specs.List.{list_any}
 use Rattle.std.specs.Prelude.{IfOk, IsOkAnd, MatchResult, codes, nat_lt}
 use Rattle.std.specs.Str.{bytes_eq}
 use Rattle.plane.specs.Point.{Point}
 use Rattle.plane.specs.declared.limits.TheConstants.{MAX_CHAIN, MAX_CORNERS}
 use Rattle.geo_text.specs.Capped.{pairs_of}
 use Rattle.geo_text.specs.Number.{number_of}
-use Rattle.geo_text.specs.Reading.{IsWellSized, fixed_fault, later_words, list_fault, number_fault, point_of, points_of, reading_of, unless}
+use Rattle.geo_text.specs.Reading.{IsWellSized, fixed_fault, list_fault, number_fault, point_of, points_of, reading_of, unless}
+use Rattle.geo_text.specs.declared.command.TheConstants.{MAX_HULL}
 use Rattle.geo_text.specs.declared.command.Bad.{Bad}
 use Rattle.geo_text.specs.declared.command.Bad.TheVariants as bad
 use Rattle.geo_text.specs.declared.command.Command.{Command}
@@ -138,7 +138,8 @@ reading_is_well_sized (word ∷ fields) =
     (fixed_is_well_sized (fixed_fault 2 fields) (command.See (point_of fields)) tt)
     (either (bytes_eq word (codes "kernel")) _ _
     (fixed_is_well_sized (fixed_fault 0 fields) command.Kernel tt)
-    (either (list_any (λ later. bytes_eq later word) later_words) (Err bad.Later) (Err bad.Word) tt tt))))))))
+    (either (bytes_eq word (codes "hull")) _ _
+    (list_is_well_sized (λ points. command.Hull points) 1 MAX_HULL fields (list_fault 1 MAX_HULL fields) (omega arith) (λ points h. h) refl) tt))))))))
 
 -- what a record asks for, by its word
 pub reading_by_word : {E : Type 0} (word : List ℕ) → bytes_eq [] word ≡ false → (fields : List (List ℕ))
@@ -165,11 +166,7 @@ pub reading_of_other : (fields : List (List ℕ)) → bytes_eq (get_or fields 0 
     → bytes_eq (get_or fields 0 []) (codes "check") ≡ false → bytes_eq (get_or fields 0 []) (codes "path") ≡ false
     → bytes_eq (get_or fields 0 []) (codes "tree") ≡ false → bytes_eq (get_or fields 0 []) (codes "reach") ≡ false
     → bytes_eq (get_or fields 0 []) (codes "see") ≡ false → bytes_eq (get_or fields 0 []) (codes "kernel") ≡ false
-    → reading_of fields ≡ Err (if list_any (λ later. bytes_eq later (get_or fields 0 [])) later_words then bad.Later else bad.Word)
-reading_of_other [] no_polygon no_inside no_check no_path no_tree no_reach no_see no_kernel = refl
-reading_of_other (word ∷ fields) no_polygon no_inside no_check no_path no_tree no_reach no_see no_kernel =
-    rw (no_polygon, no_inside, no_check, no_path, no_tree, no_reach, no_see, no_kernel) (by_later (list_any (λ later. bytes_eq later word) later_words))
-  where
-    by_later : (b : Bool) → ◌≡◌ {A = Result Command Bad} (if b then Err bad.Later else Err bad.Word) (Err (if b then bad.Later else bad.Word))
-    by_later true = refl
-    by_later false = refl
+    → bytes_eq (get_or fields 0 []) (codes "hull") ≡ false → reading_of fields ≡ Err bad.Word
+reading_of_other [] no_polygon no_inside no_check no_path no_tree no_reach no_see no_kernel no_hull = refl
+reading_of_other (word ∷ fields) no_polygon no_inside no_check no_path no_tree no_reach no_see no_kernel no_hull =
+    rw (no_polygon, no_inside, no_check, no_path, no_tree, no_reach, no_see, no_kernel, no_hull) refl

@@ -1,19 +1,15 @@
 -- What a record asks for: a command, or the first refusal that holds. This project's own.
-use Rattle.std.specs.List.{list_any}
 use Rattle.std.specs.Prelude.{◌≡◌, ℕ, ◌+◌, ◌*◌, ◌%◌, ◌≤◌, Bool, ◌==◌, nat_lt, if◌then◌else◌, List, [], ◌∷◌, length, codes, slice_index_or, drop}
 use Rattle.std.specs.Prelude.{Option, Some, None, Result, Ok, Err}
 use Rattle.std.specs.Str.{bytes_eq}
 use Rattle.plane.specs.Point.{Point}
 use Rattle.plane.specs.declared.limits.TheConstants.{MAX_CHAIN, MAX_CORNERS}
 use Rattle.geo_text.specs.Number.{is_coordinate, is_number, number_of}
+use Rattle.geo_text.specs.declared.command.TheConstants.{MAX_HULL}
 use Rattle.geo_text.specs.declared.command.Bad.{Bad}
 use Rattle.geo_text.specs.declared.command.Bad.TheVariants as bad
 use Rattle.geo_text.specs.declared.command.Command.{Command}
 use Rattle.geo_text.specs.declared.command.Command.TheVariants as command
-
--- the words whose commands nothing answers yet
-abbrev pub later_words : List (List ℕ)
-later_words = codes "hull" ∷ []
 
 -- the place of the first field that fails a test, counted from a given place on
 abbrev pub first_failing : (List ℕ → Bool) → ℕ → List (List ℕ) → Option ℕ
@@ -68,7 +64,7 @@ reading_of (word ∷ fields) =
     else if bytes_eq word (codes "reach") then unless (fixed_fault 2 fields) (command.Reach (point_of fields))
     else if bytes_eq word (codes "see") then unless (fixed_fault 2 fields) (command.See (point_of fields))
     else if bytes_eq word (codes "kernel") then unless (fixed_fault 0 fields) command.Kernel
-    else if list_any (λ later. bytes_eq later word) later_words then Err bad.Later
+    else if bytes_eq word (codes "hull") then unless (list_fault 1 MAX_HULL fields) (command.Hull (points_of fields))
     else Err bad.Word
 
 -- a list of points has as many as its command takes
@@ -81,6 +77,7 @@ IsWellSized (command.Tree point) = Unit {0}
 IsWellSized (command.Reach point) = Unit {0}
 IsWellSized (command.See point) = Unit {0}
 IsWellSized command.Kernel = Unit {0}
+IsWellSized (command.Hull points) = (1 ≤ length points) × (length points ≤ MAX_HULL)
 
 -- the next command was taken from the records that are left; `None` says that none is left
 abbrev pub TakesCommand : List (List (List ℕ)) → List (List (List ℕ)) → Option (Result Command Bad) → Type 0

@@ -39,7 +39,6 @@ fault_text (bad.Clash i j) = codes "clash" ++ index_text i ++ index_text j
 fault_text bad.NoPolygon = codes "no_polygon"
 fault_text bad.NoTree = codes "no_tree"
 fault_text (bad.Outside point) = codes "outside" ++ index_text point
-fault_text bad.Later = codes "later"
 
 -- the whole line of a refusal
 abbrev pub bad_text : Bad → List ℕ

@@ -1,6 +1,9 @@
 use crate::points::Points;
 use exact_plane::Pt;
 
+/// The most points that a `hull` has.
+pub const MAX_HULL: usize = 64;
+
 /// What a record asks for.
 #[derive(Drop)]
 pub enum Command {
@@ -20,10 +23,12 @@ pub enum Command {
     See(Pt),
     /// Give the corners of the polygon's kernel.
     Kernel,
+    /// Give the sides of the relative hull of these points, 1 to `MAX_HULL` of them.
+    Hull(Points),
 }
 
-/// Why a record is refused. `Later` is looked for after `Word`, and the others in this order. Places are those of fields,
-/// and the first field after the command word has place 1.
+/// Why a record is refused; the refusals are looked for in this order. Places are those of fields, and the first field after
+/// the command word has place 1.
 #[derive(Clone, Copy, Debug, PartialEq, Eq)]
 pub enum Bad {
     /// Field 0 is no command word.
@@ -46,6 +51,4 @@ pub enum Bad {
     NoTree,
     /// The command's point with this number, counted from 1, is the first that is not in the polygon.
     Outside(u32),
-    /// The word is known, and nothing answers it yet.
-    Later,
 }

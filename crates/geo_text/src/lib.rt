@@ -9,7 +9,7 @@ mod put;
 mod reading;
 mod script;
 
-pub use command::{Bad, Command};
+pub use command::{Bad, Command, MAX_HULL};
 pub use points::Points;
 pub use put::{put_bad, put_hom, put_index, put_line_end, put_pt, put_word};
 pub use script::Script;

@@ -134,7 +134,6 @@ fn put_line(out: &mut Vec<u8>, bad: &Bad) -> Result<(), Memory>
         Bad::NoPolygon => put_word(out, "no_polygon")?,
         Bad::NoTree => put_word(out, "no_tree")?,
         Bad::Outside(point) => put_with(out, "outside", *point)?,
-        Bad::Later => put_word(out, "later")?,
     }
     put_line_end(out)
 }

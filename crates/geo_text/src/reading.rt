@@ -1,15 +1,15 @@
 // A record as a command.
-ghost use Rattle.std.specs.List.{All, list_any};
+ghost use Rattle.std.specs.List.{All};
 ghost use Rattle.std.specs.Option.{option_or};
 ghost use Rattle.std.specs.Prelude.{◌≡◌, ◌≤◌, ◌<◌, ◌*◌, ◌^◌, IfNone, IfOk, drop, if◌then◌else◌, length, nat_le, unsigned_abs};
-ghost use Rattle.std.specs.Str.{bytes_eq};
 ghost use Rattle.plane.specs.Point.{IsInLimit};
 ghost use Rattle.plane.specs.declared.limits.TheConstants.{MAX_COORDINATE};
 ghost use Rattle.geo_text.specs.Capped.{Reads, after_word, pairs_of};
-ghost use Rattle.geo_text.specs.Reading.{fixed_fault, later_words, list_fault, number_fault, point_of, points_of, reading_of, unless};
+ghost use Rattle.geo_text.specs.Reading.{fixed_fault, list_fault, number_fault, point_of, points_of, reading_of, unless};
 ghost use Rattle.geo_text.specs.Records.{plain_fields};
+ghost use Rattle.geo_text.specs.declared.command.TheConstants.{MAX_HULL};
 
-use crate::command::{Bad, Command};
+use crate::command::{Bad, Command, MAX_HULL};
 use crate::fields::field;
 use crate::number::number;
 use crate::points::Points;
@@ -17,9 +17,6 @@ use csv::ByteRecord;
 use exact_plane::{Memory, Pt};
 use plane::{MAX_CHAIN, MAX_COORDINATE, MAX_CORNERS};
 use std::alloc::Global;
-
-// The words whose commands nothing answers yet.
-const LATER: [&[u8]; 1] = [b"hull"];
 
 // The command that a record is, or why it is none.
 pub fn command(alloc: Global, row: &ByteRecord) -> Result<Result<Command, Bad>, Memory>
@@ -50,7 +47,10 @@ pub fn command(alloc: Global, row: &ByteRecord) -> Result<Result<Command, Bad>, 
     if word == b"kernel".as_slice() {
         return kernel(alloc, row);
     }
-    Ok(Err(word_fault(word)))
+    if word == b"hull".as_slice() {
+        return hull(alloc, row);
+    }
+    Ok(Err(Bad::Word))
 }
 
 // A `polygon` record as a command.
@@ -100,14 +100,14 @@ fn kernel(alloc: Global, row: &ByteRecord) -> Result<Result<Command, Bad>, Memor
     }
 }
 
-// Why a record with this word is refused, if nothing answers the word.
-fn word_fault(word: &[u8]) -> Bad
-    ensures { result ≡ (if list_any (λ later. bytes_eq later word.now) later_words then Bad.Later else Bad.Word) }
+// A `hull` record as a command.
+fn hull(alloc: Global, row: &ByteRecord) -> Result<Result<Command, Bad>, Memory>
+    ensures { IfOk result (λ reading. reading ≡ unless (list_fault 1 MAX_HULL (after_word row.now))
+        (Command.Hull (points_of (after_word row.now)))) }
 {
-    if LATER.contains(&word) {
-        Bad::Later
-    } else {
-        Bad::Word
+    match points(alloc, row, 1, MAX_HULL)? {
+        Ok(points) => Ok(Ok(Command::Hull(points))),
+        Err(fault) => Ok(Err(fault)),
     }
 }
 

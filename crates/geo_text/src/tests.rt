@@ -29,7 +29,6 @@ fn scripts(rt: HostRuntime) -> Result<(), Fail> {
         ("a blank before a quote", b" \"kernel\"\nkernel\n", b"bad,word\nkernel\n"),
         ("not text", b"\xFF\xFE\npolygon,0,0,\xFF,0,1,1\n", b"bad,word\nbad,number,3\n"),
         ("other words", b"Polygon\npolygons\n,\n\"\"\n \n", b"bad,word\nbad,word\nbad,word\nbad,word\nbad,word\n"),
-        ("later words", b"hull\nhull,0\nhull,x\n", b"bad,later\nbad,later\nbad,later\n"),
         ("inside", b"inside,1,-2\ninside,1\ninside,1,2,3\ninside,x,1\ninside,1,1000001\ninside\n",
             b"inside 1,-2\nbad,fields\nbad,fields\nbad,number,1\nbad,range,2\nbad,fields\n"),
         ("check", b"check,1,-2\ncheck,1,2,3,4\ncheck\ncheck,1\ncheck,x,1\ncheck,1,1000001\n",
@@ -46,6 +45,8 @@ fn scripts(rt: HostRuntime) -> Result<(), Fail> {
         ("see", b"see,1,-2\nsee,1\nsee,1,2,3\nsee,x,1\nsee,1,1000001\nsee\n",
             b"see 1,-2\nbad,fields\nbad,fields\nbad,number,1\nbad,range,2\nbad,fields\n"),
         ("kernel", b"kernel\nkernel,0\nkernel,x\nkernel,\n", b"kernel\nbad,fields\nbad,fields\nbad,fields\n"),
+        ("hull", b"hull,1,-2\nhull,1,2,3,4,1,2\nhull\nhull,1\nhull,x,1\nhull,1,1000001\n",
+            b"hull 1,-2\nhull 1,2 3,4 1,2\nbad,few\nbad,fields\nbad,number,1\nbad,range,2\n"),
         ("odd count", b"polygon,0,0,1\npolygon,x\npolygon,0,0,0,0,0,0,0\n", b"bad,fields\nbad,fields\nbad,fields\n"),
         ("few", b"polygon\npolygon,0,0,1,1\npolygon,x,y\n", b"bad,few\nbad,few\nbad,few\n"),
         ("no numbers", b"polygon,+,0,0,0,0,0\npolygon,0,-,0,0,0,0\npolygon,0,0,,0,0,0\npolygon,0,0,0,+-1,0,0\npolygon,0,0,0,0,1 2,0\npolygon,0,0,0,0,0,1.0\n",
@@ -66,6 +67,7 @@ fn scripts(rt: HostRuntime) -> Result<(), Fail> {
 #[rattlefmt::skip]
 fn long_scripts(rt: HostRuntime) -> Result<(), Fail> {
     let greatest = repeated(rt.alloc(), b"polygon", b" 5,6", 4096, b"\n")?;
+    let widest = repeated(rt.alloc(), b"hull", b" 5,6", 64, b"\n")?;
     let cases = [
         ("a thousand nines", b"polygon,0,".as_slice(), b"9".as_slice(), 1000, b",0,0,0,0\n".as_slice(), b"bad,range,2\n".as_slice()),
         ("a thousand zeros", b"polygon,0,-", b"0", 1000, b"7,0,0,0,0\n", b"polygon 0,-7 0,0 0,0\n"),
@@ -74,6 +76,8 @@ fn long_scripts(rt: HostRuntime) -> Result<(), Fail> {
         ("4,097 points", b"polygon", b",5,6", 4097, b"\n", b"bad,many\n"),
         ("4,097 points of no numbers", b"polygon", b",x,y", 4097, b"\n", b"bad,many\n"),
         ("4,097 points to check", b"check", b",5,6", 4097, b"\n", b"bad,many\n"),
+        ("64 points of a hull", b"hull", b",5,6", 64, b"\n", widest.as_slice()),
+        ("65 points of a hull", b"hull", b",5,6", 65, b"\n", b"bad,many\n"),
         ("8,195 fields", b"polygon,5", b",x,y", 4097, b"\n", b"bad,fields\n"),
     ];
     for (name, front, part, count, end, want) in cases {
@@ -97,7 +101,6 @@ fn refusals(rt: HostRuntime) -> Result<(), Fail> {
         (Bad::NoPolygon, b"bad,no_polygon\n"),
         (Bad::NoTree, b"bad,no_tree\n"),
         (Bad::Outside(2), b"bad,outside,2\n"),
-        (Bad::Later, b"bad,later\n"),
     ];
     for (bad, want) in cases {
         let mut out = Vec::new(rt.alloc());
@@ -276,6 +279,10 @@ fn put_command<L: Ledger>(
             put_point(out, &point, steps)?
         }
         Command::Kernel => put_word(out, "kernel")?,
+        Command::Hull(points) => {
+            put_word(out, "hull")?;
+            put_points(out, points.into_vec().as_slice(), steps)?
+        }
     }
     put_line_end(out)
 }

@@ -38,11 +38,11 @@ home_steps n some =
 pub tree_steps : (p n b : ℕ) → p ≤ n → p * (200 * (b * b)) ≤ 200 * n * (b * b)
 tree_steps p n b le = omega (arith, mul-le p (200 * (b * b)) n (200 * (b * b)) le (omega arith))
 
--- To a goal a search, a number and two tests are enough
+-- To a goal a search, a number and two tests take less at some digits, by more of them,
+goal_steps : (c b : ℕ) → c ≤ b → 1 ≤ b → c * (4 * c + 3) + (2 * c + 1) + 2 ≤ 24 * (b * b)
+goal_steps c b le some = omega (arith, le, some, mul-le c c b b le le, mul-le 1 b b b some (omega arith))
+
+-- and so in a list of fewer numbers than there are corners
 pub reach_paid : (m n : ℕ) → 0 < n → m ≤ n
     → binary_digits m * (4 * binary_digits m + 3) + (2 * binary_digits m + 1) + 2 ≤ 24 * (binary_digits n * binary_digits n)
-reach_paid m n some le =
-    let c = binary_digits m in
-    let b = binary_digits n in
-    let fewer = binary_digits_mono m n le in
-    omega (arith, fewer, mul-le c c b b fewer fewer, mul-le 1 b b b (some_digits n some) (omega arith))
+reach_paid m n some le = goal_steps (binary_digits m) (binary_digits n) (binary_digits_mono m n le) (some_digits n some)

@@ -1,6 +1,6 @@
 mod OneTurn
 mod OnLine
-mod Outer
+pub mod Outer
 mod Paths
 mod PathTurns
 mod SideLists

@@ -1,10 +1,9 @@
 -- Tables of the paths between each two of some points, and the sides that one tells. This project's own.
 use Rattle.std.specs.List.{Contains, range_with_len}
-use Rattle.std.specs.Prelude.{◌≡◌, ◌⊎◌, ℕ, ◌+◌, ◌*◌, ◌<◌, ◌≤◌, List, [], length, map, slice_index_or}
+use Rattle.std.specs.Prelude.{◌≡◌, ◌⊎◌, ℕ, ◌+◌, ◌*◌, ◌^◌, ◌<◌, ◌≤◌, List, [], length, map, slice_index_or}
 use Rattle.plane.specs.Point.{Point}
 use Rattle.rings.specs.Chain.{IsPath, point_at}
 use Rattle.rel_hull.specs.Hull.{AreDistinct, IsSide}
-use Rattle.rel_hull.specs.declared.table.TheConstants.{MAX_HULL}
 
 -- how many points there are, and the chains: chain i * count + j goes from point i to point j
 pub record Table : Type 0 where
@@ -18,10 +17,10 @@ chain_at table i j = slice_index_or table.chains (i * table.count + j) []
 abbrev pub points_of : Table → List Point
 points_of table = map (λ i. point_at (chain_at table i i) 0) (range_with_len 0 table.count)
 
--- the table is one of a ring: its chains are the paths between its points, which are distinct
+-- the table is one of a ring: its chains are the paths between its points, which are distinct, and so few that numbers of chains fit
 pub record IsTableOf (ring : List Point) (table : Table) : Type 0 where
   pub some : 1 ≤ table.count
-  pub few : table.count ≤ MAX_HULL
+  pub few : table.count < 2 ^ 16
   pub square : length table.chains ≡ table.count * table.count
   pub distinct : AreDistinct (points_of table)
   pub paths : (i j : ℕ) → i < table.count → j < table.count

@@ -1,18 +1,17 @@
 -- What a table keeps of its chains, and which points are inner and which pairs are sides by the chains alone. No public clause
 -- cites it. This project's own.
 use Rattle.std.specs.List.{Contains}
-use Rattle.std.specs.Prelude.{◌≡◌, ◌≢◌, ℕ, ◌+◌, ◌*◌, ◌<◌, ◌≤◌, List, length, slice_index}
+use Rattle.std.specs.Prelude.{◌≡◌, ◌≢◌, ℕ, ◌+◌, ◌*◌, ◌^◌, ◌<◌, List, length, slice_index}
 use Rattle.plane.specs.Point.{Point, whole}
 use Rattle.plane.specs.Segment.{On}
 use Rattle.rings.specs.Chain.{point_at}
 use Rattle.exact_plane.specs.declared.direction.Direction.TheVariants.{Left}
 use Rattle.rel_hull.specs.PathTurn.{IsPathTurn, IsStepping}
 use Rattle.rel_hull.specs.Table.{IsPairBefore, Table, chain_at, pair_at, points_of}
-use Rattle.rel_hull.specs.declared.table.TheConstants.{MAX_HULL}
 
 -- what holds of every table: each chain begins at its point, and steps to another point at each place
 pub record KeepsChains (table : Table) : Type 0 where
-  pub few : table.count ≤ MAX_HULL
+  pub few : table.count < 2 ^ 16
   pub square : length table.chains ≡ table.count * table.count
   pub some : (i j : ℕ) → i < table.count → j < table.count → 0 < length (chain_at table i j)
   pub begins : (i j : ℕ) → i < table.count → j < table.count → point_at (chain_at table i j) 0 ≡ point_at (points_of table) i

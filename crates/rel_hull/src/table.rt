@@ -7,9 +7,6 @@ use exact_plane::Pt;
 use ring_check::Ring;
 use std::marker::Model;
 
-/// How many points a hull has at most.
-pub const MAX_HULL: usize = 64;
-
 /// The paths between each two of some points of a ring.
 #[derive(Drop)]
 pub struct ChainTable {
@@ -46,8 +43,8 @@ impl ChainTable {
         self.count
     }
 
-    // The path from one point to another.
-    pub(crate) fn chain(&self, i: u32, j: u32) -> &[Pt]
+    /// The path from one point to another.
+    pub fn chain(&self, i: u32, j: u32) -> &[Pt]
         requires first { i < self.now.count }
         requires second { j < self.now.count }
         ensures chain { result.now ≡ chain_at self.now i j }

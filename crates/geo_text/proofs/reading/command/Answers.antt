@@ -49,6 +49,11 @@ returns-then-eq-8 c =
     let is = rw (c.field-word.ensures, c.as_slice-8.ensures) at (sym c.eq-8.ensures ∙ c.if-eq-8.true) in
     reading_by_word (codes "kernel") refl (plain_fields c.args.row.now) is c.kernel.result c.kernel.ensures
 
+pub returns-then-eq-9 : goal.returns-then-eq-9
+returns-then-eq-9 c =
+    let is = rw (c.field-word.ensures, c.as_slice-9.ensures) at (sym c.eq-9.ensures ∙ c.if-eq-9.true) in
+    reading_by_word (codes "hull") refl (plain_fields c.args.row.now) is c.hull.result c.hull.ensures
+
 pub returns : goal.returns
 returns c =
     let no_polygon = rw (c.field-word.ensures, c.as_slice.ensures) at (sym c.eq.ensures ∙ c.if-eq.false) in
@@ -59,5 +64,5 @@ returns c =
     let no_reach = rw (c.field-word.ensures, c.as_slice-6.ensures) at (sym c.eq-6.ensures ∙ c.if-eq-6.false) in
     let no_see = rw (c.field-word.ensures, c.as_slice-7.ensures) at (sym c.eq-7.ensures ∙ c.if-eq-7.false) in
     let no_kernel = rw (c.field-word.ensures, c.as_slice-8.ensures) at (sym c.eq-8.ensures ∙ c.if-eq-8.false) in
-    let same = reading_of_other (plain_fields c.args.row.now) no_polygon no_inside no_check no_path no_tree no_reach no_see no_kernel in
-    rw (c.word_fault.ensures, c.field-word.ensures) (sym same)
+    let no_hull = rw (c.field-word.ensures, c.as_slice-9.ensures) at (sym c.eq-9.ensures ∙ c.if-eq-9.false) in
+    sym (reading_of_other (plain_fields c.args.row.now) no_polygon no_inside no_check no_path no_tree no_reach no_see no_kernel no_hull)

@@ -1,0 +1,34 @@
+use Rattle.std.proofs.Common.{◌≡◌, ◌<◌, arith, length, refl, subst, sym}
+use Rattle.std.proofs.lemmas.List.{get_or_read}
+use Rattle.plane.specs.Point.{whole}
+use Rattle.rings.specs.Inside.{IsIn}
+use Rattle.rings.specs.Ring.{origin}
+use Rattle.dual_tree.specs.Location.{IsLeastHolding}
+use Rattle.geo_session.proofs.Spanned.{held_inside, held_more}
+use Rattle.geo_session.proofs.hull.located.Goals as goal
+
+pub returns-in-None : goal.returns-in-None
+returns-in-None g c =
+    let ring = c.args.ring.now.corners in
+    let points = c.args.points.now in
+    let below : c.loop-k.k < length points = omega arith in
+    record {
+      in_list = below;
+      outside = subst (λ p. ¬ IsIn ring (whole p)) (get_or_read points c.loop-k.k c.index-points-k.result below c.index-points-k.is origin)
+          (c.in-None.ensures.none.0 refl);
+      before = held_inside ring c.args.mesh.now points c.loop-k.k c.loop-k.tris.items c.loop-k.invariant.held c.requires.fits;
+    }
+
+pub loop-k-preserved : goal.loop-k-preserved
+loop-k-preserved g c =
+    let ring = c.args.ring.now.corners in
+    let tris = c.args.mesh.now in
+    let points = c.args.points.now in
+    let below : c.loop-k.k < length points = omega arith in
+    record {
+      held = rw c.push_reserved.ensures.items
+          (held_more ring tris points c.loop-k.k c.loop-k.tris.items c.loop-k.invariant.held c.in-Some.tri
+          (subst (λ p. IsLeastHolding ring tris (whole p) c.in-Some.tri)
+          (get_or_read points c.loop-k.k c.index-points-k.result below c.index-points-k.is origin) c.in-Some.ensures.least));
+      room = rw c.push_reserved.ensures.capacity c.loop-k.invariant.room;
+    }
