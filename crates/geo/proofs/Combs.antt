@@ -12,7 +12,7 @@ use Rattle.geo_session.specs.Answer.{AppendsAnswer, State}
 use Rattle.geo_session.specs.Path.{IsChainAnswer}
 
 -- a simple polygon is held once it is answered
-pub held_once_answered : (ring : List Point) (before after : State) (out out' : List ℕ) → IsSimple ring → AppendsAnswer before (command.Polygon ring) out out' after 
+pub held_once_answered : (ring : List Point) (before after : State) (out out' : List ℕ) → IsSimple ring → AppendsAnswer before (command.Polygon ring) out out' after
     → after ≡ Some (record { ring = ring; source = None })
 held_once_answered ring before after out out' simple told = elim told.answer [
   | inl accepted ↦ accepted.state
