@@ -136,7 +136,9 @@ def draw_kernel(answered, panel, page, colour):
 def draw_hull(answered, panel, page, colour):
     points = answered.points
     sides = [page.line('way', pairs(line[4:]), colour) for line in answered.lines[1:]]
-    return sides + [page.dot(p, colour) for p in points] + [page.number(p, f'({i})', below=True) for i, p in enumerate(points)]
+    is_alone = sum(row.word == 'hull' for row in panel.rows) == 1
+    numbers = [page.number(p, f'({i})', below=True) for i, p in enumerate(points)] if is_alone else []
+    return sides + [page.dot(p, colour) for p in points] + numbers
 
 
 def ticks(low, length):
