@@ -129,7 +129,7 @@ fn sure(alloc: Global) -> Result<SureSource, AllocError> {
 
 // Records, each with its answer.
 #[rattlefmt::skip]
-const ASKED: [(&[u8], &[u8]); 9] = [
+const ASKED: [(&[u8], &[u8]); 16] = [
     (b"polygon,0,0,9000,0,9000,4000,5000,4000,5000,4200,9000,4200,9000,8000,0,8000,0,4200,3000,4200,3000,4000,0,4000", b"polygon,12\n"),
     (b"path,8000,1000,8000,7000", b"path,4,8000,1000,5000,4000,5000,4200,8000,7000\n"),
     (b"check,8000,1000,5000,4000,5000,4200,8000,7000", b"taut\n"),
@@ -139,6 +139,13 @@ const ASKED: [(&[u8], &[u8]); 9] = [
     (b"polygon,0,0,5,0,5,2,3,2,3,5,0,5", b"polygon,6\n"),
     (b"see,5,1", b"see,5\npart,0,0,0,5,0\npart,1,5,0,5,2\npart,2,5,2,3,2\npart,3,3,2,3,2\npart,5,0,7/2,0,0\n"),
     (b"frob,1", b"bad,word\n"),
+    (b"hull,1,1,4,1,1,4", b"hull,3\nside,0,1,2,1,1,4,1\nside,1,2,2,4,1,1,4\nside,2,0,2,1,4,1,1\n"),
+    (b"polygon,0,0,4,0,4,2,2,2,2,4,0,4", b"polygon,6\n"),
+    (b"tree,4,1", b"tree,6\nfrom,0,s\nfrom,1,s\nfrom,2,s\nfrom,3,s\nfrom,4,3\nfrom,5,3\n"),
+    (b"tree,3,3", b"bad,outside,1\n"),
+    (b"reach,1,4", b"path,3,4,1,2,2,1,4\n"),
+    (b"polygon,0,0,4,0,4,2,2,2,2,4,0,4", b"polygon,6\n"),
+    (b"reach,1,4", b"bad,no_tree\n"),
 ];
 
 // Where memory is refused, a session can be asked again. None is refused here: `checks/memory` refuses each allocation of
