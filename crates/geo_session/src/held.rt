@@ -34,7 +34,8 @@ use std::sync::ledger::Ledger;
 use taut_check::{Verdict, check};
 use tri_mesh::Mesh;
 
-// A triangulated polygon: a ring, with a mesh that fits it, and the tree of a source in it, if there is one. What it answers is about the list that the ring was made of.
+// A triangulated polygon: a ring, with a mesh that fits it, and the tree of a source in it, if there is one. What it answers is
+// about the list that the ring was made of.
 #[derive(Drop)]
 pub(crate) struct Held {
     ring: Ring,
