@@ -4,6 +4,7 @@
 mod LeafTaken
 -- The numbers of a list of triangles and of the list without one of them.
 mod Without
+pub use Rattle.meshes.proofs.Ears.Without.{is_rest}
 -- A piece without the tip of an ear: the triangles other than the ear lie in it, and none of them has the tip.
 mod EarCut
 -- The triangles other than an ear fit the piece without its tip.

@@ -2,21 +2,23 @@
 
 -- A piece read from another vertex on: the same triangles fit it.
 mod Rotated
-pub use Rattle.meshes.proofs.Joins.Rotated.{edge_rotated, fits_rotated, same_rotated}
+pub use Rattle.meshes.proofs.Joins.Rotated.{edge_rotated, fits_rotated, same_rotated, tri_of_same}
 -- Two lists of triangles one after the other: the numbers of the triangles, and the tree that they make together.
 mod TwoLists
 -- One of two meshes that are joined along a diagonal: the sides of its triangles in the joined list.
 mod Halves
-pub use Rattle.meshes.proofs.Joins.Halves.{AreEnds, between_at, between_back, between_ends}
+pub use Rattle.meshes.proofs.Joins.Halves.{AreEnds, between_at, between_back, between_ends, ends_back}
 -- Two meshes that fit the parts of a piece cut by a diagonal fit the piece together.
 mod Joined
 pub use Rattle.meshes.proofs.Joins.Joined.{fits_joined}
 -- A piece that is cut in two by a diagonal: its vertices and edges, and those of the two parts.
 mod Cuts
 pub use Rattle.meshes.proofs.Joins.Cuts.{IsCut, both_parts, contains_cases, contains_first, contains_first_part, contains_rest, contains_second_part}
-pub use Rattle.meshes.proofs.Joins.Cuts.{first_part, part_of_edge, place_of, second_diagonal, second_part, second_part_cases}
+pub use Rattle.meshes.proofs.Joins.Cuts.{first_diagonal, first_part, first_part_cases, part_of_edge, place_of, second_diagonal, second_part}
+pub use Rattle.meshes.proofs.Joins.Cuts.{second_part_cases}
 -- Two trees that one edge joins are one tree.
 mod JoinedTrees
+pub use Rattle.meshes.proofs.Joins.JoinedTrees.{Both, IsBridge, joined_tree}
 -- Points strictly inside triangles: those near them are so too, and some of them are off a given line.
 mod OffDiagonal
 pub use Rattle.meshes.proofs.Joins.OffDiagonal.{in_tri}
@@ -25,5 +27,6 @@ mod JoinedSides
 -- A mesh with one more triangle: an ear at a vertex of the piece.
 mod Ears
 pub use Rattle.meshes.proofs.Joins.Ears.{fits_ear}
--- The diagonal that cuts a piece in two is not an edge of it.
+-- The places that an edge of a piece goes from and to; the diagonal that cuts a piece in two is not an edge of it.
 mod Diagonals
+pub use Rattle.meshes.proofs.Joins.Diagonals.{edge_places, next_place, next_within}

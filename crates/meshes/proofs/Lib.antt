@@ -7,5 +7,7 @@ pub mod TreeLeaves
 pub mod Ears
 pub mod Triangulations
 pub mod Cones
+pub mod Boundaries
+pub mod Monotone
 pub mod KnownMeshes
 mod KnownCones

@@ -5,10 +5,10 @@ mod BaseTriangle
 pub use Rattle.meshes.proofs.Sides.BaseTriangle.{fits_triangle}
 -- In a list of triangles that fits a polygon each side belongs to one triangle in each direction, and to none in both.
 mod MeshSides
-pub use Rattle.meshes.proofs.Sides.MeshSides.{corners_differ, fitting_sides, left_apart}
+pub use Rattle.meshes.proofs.Sides.MeshSides.{corners_differ, fitting_sides, left_apart, one_direction}
 -- The edges of a piece, as the steps along its numbers and back to the first.
 mod PieceSteps
-pub use Rattle.meshes.proofs.Sides.PieceSteps.{edge_of_step, edge_or_not, has_side_or_not, step_after, step_before, step_cases, step_of_edge}
+pub use Rattle.meshes.proofs.Sides.PieceSteps.{IsStep, edge_of_step, edge_or_not, has_side_or_not, step_after, step_before, step_cases, step_of_edge}
 -- The vertices of a piece: they are different where it is simple.
 mod PieceVertices
 pub use Rattle.meshes.proofs.Sides.PieceVertices.{length_points, one_number, one_place, piece_points_all, vertex_of_piece}

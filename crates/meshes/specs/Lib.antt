@@ -1,3 +1,4 @@
+pub mod Boundary
 pub mod Cone
 pub mod Fits
 pub mod Laws
@@ -5,3 +6,4 @@ pub mod Mesh
 pub mod Piece
 pub mod Side
 pub mod Sleeve
+pub mod Tiling

@@ -1,4 +1,5 @@
 // Laws of lists of triangles that fit a polygon, each as the contract of a call that does nothing when it runs.
+ghost use Rattle.meshes.specs.Boundary.{BoundaryLaw, SidesCancelLaw};
 ghost use Rattle.meshes.specs.Laws.{EarLaw, LeafOffWalkLaw, LeavesLaw, PieceSleeveLaw, SeparationLaw, SleeveLaw, TriangulationLaw};
 
 /// The separation law: a point in a triangle of a walk and in a later one is on each side that the walk crosses between them.
@@ -35,4 +36,10 @@ pub fn ear()
 /// Each simple ring that runs counterclockwise has triangles that fit it, however many vertices it has.
 pub fn triangulation()
     ensures { TriangulationLaw }
+{}
+
+/// Counterclockwise triangles on the vertices of a simple piece fit it where their sides cancel to its boundary.
+pub fn boundary()
+    ensures fits { BoundaryLaw }
+    ensures cancel { SidesCancelLaw }
 {}

@@ -7,6 +7,7 @@ mod tri;
 
 pub use diagonal::Diagonal;
 pub use laws::{
-    ear, leaf_off_walk, leaves, separation, sight_in_piece, sight_in_sleeve, triangulation,
+    boundary, ear, leaf_off_walk, leaves, separation, sight_in_piece, sight_in_sleeve,
+    triangulation,
 };
 pub use tri::Tri;

@@ -20,7 +20,7 @@ use Rattle.meshes.proofs.Cones.PartEnds.{none_seen, part_seen}
 use Rattle.meshes.proofs.Cones.SideReach.{IsBeyondSide, end_below, is_beyond_side, sees_one_end}
 use Rattle.meshes.proofs.Cones.SideViews.{SideView, hidden, one_end, through_window, whole_side}
 use Rattle.meshes.proofs.Cones.WindowCones.{window_cone}
-use Rattle.meshes.proofs.Parts.{side_in}
+use Rattle.meshes.proofs.Parts.{side_in, paved}
 use Rattle.meshes.proofs.Sides.{edge_of_one}
 use Rattle.meshes.proofs.Sight.{sees_in_triangle, shared_from}
 use Rattle.meshes.specs.Cone.{Cone, IsConeOf, IsPartEnd, narrowed}
@@ -66,7 +66,7 @@ module _ (corners : List Point) (tris : List Tri) (fits : Fits corners tris) (q 
     view_out has outer =
         let k_below = end_below corners tris fits q home in_home k walk there in
         side_view corners tris k q (vertex corners j) (vertex corners i) (record {
-          side = side_in corners (range_with_len 0 (length corners)) tris fits k i j k_below (inl has);
+          side = side_in corners (range_with_len 0 (length corners)) tris (paved fits) k i j k_below (inl has);
           sees = sees_in_triangle corners tris fits k k_below;
           only = sees_one_end corners tris fits q home in_home k walk there i j has outer;
         }) sight cone

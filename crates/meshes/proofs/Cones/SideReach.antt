@@ -14,7 +14,7 @@ use Rattle.plane.specs.Turn.{IsRight, IsStraight, determinant}
 use Rattle.rings.specs.Ring.{vertex}
 use Rattle.rings.specs.Sees.{Sees}
 use Rattle.ring_laws.proofs.Triangles.{on_first_side}
-use Rattle.meshes.proofs.Parts.{opposite, side_in}
+use Rattle.meshes.proofs.Parts.{opposite, side_in, paved}
 use Rattle.meshes.proofs.Sight.{not_right_of_side, sees_before, sees_in_triangle, sees_on, sleeve_law}
 use Rattle.meshes.proofs.TreeLeaves.{closed_of_sides, next_corner, side_is_one, turns_left}
 use Rattle.meshes.specs.Fits.{Fits, IsInTri}
@@ -178,10 +178,10 @@ module _ (corners : List Point) (tris : List Tri) (fits : Fits corners tris) (q 
         let all = range_with_len 0 (length corners) in
         let crosses : CrossesSide tris walk place share.i share.j =
         record { has_next = before; of_this = inl share.of_first; of_next = share.of_second } in
-        let in_y = side_in corners all tris fits k i j k_below (inl has) y at_y on_y in
+        let in_y = side_in corners all tris (paved fits) k i j k_below (inl has) y at_y on_y in
         let meet = meets_over k walk there place share.i share.j crosses y at_y in_y sees in
         let z = meet.point in
-        let in_z = side_in corners all tris fits k share.i share.j k_below entry z meet.rational meet.on_second in
+        let in_z = side_in corners all tris (paved fits) k share.i share.j k_below entry z meet.rational meet.on_second in
         let same = first_end_on_line z y (whole q) L R meet.rational at_y (whole_is_point q) (on_reversed z (whole q) y meet.on_first)
         (on_is_straight y L R at_y (whole_is_point (vertex corners j)) (whole_is_point (vertex corners i)) (on_reversed y R L on_y))
         (turned_positive (determinant_swap_first R L (whole q)) right)

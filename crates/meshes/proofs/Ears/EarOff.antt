@@ -10,7 +10,7 @@ use Rattle.ring_laws.proofs.Triangles.{in_of_in_triangle, first_in_triangle, las
 use Rattle.meshes.proofs.Ears.EarCut.{ear_cut, ear_left, others_lie, rest_ring, tip_off}
 use Rattle.meshes.proofs.Ears.LeafTaken.{IsRest, rest_of_one, rest_of_shared, rest_of_two, rest_tree, same_new}
 use Rattle.meshes.proofs.Joins.{contains_cases, contains_first, contains_rest, part_of_edge, second_diagonal, second_part_cases}
-use Rattle.meshes.proofs.Parts.{side_in, inside_one}
+use Rattle.meshes.proofs.Parts.{side_in, inside_one, paved}
 use Rattle.meshes.proofs.Sides.{step_of_edge}
 use Rattle.meshes.proofs.TreeLeaves.{closed_of_sides, side_is_one}
 use Rattle.meshes.specs.Fits.{FitsPiece, IsInTri, IsPieceEdge, IsSideOfOne, IsSideOfTwo, IsStrictlyInTri, IsTriOf, piece_points}
@@ -147,7 +147,7 @@ module _ (corners : List Point) (u v w : ℕ) (ms : List ℕ) (tris : List Tri) 
             let in_ear = closed_of_sides corners (tri_at tris k) (fits.triangles k ear.base.in_list).counterclockwise u v w ear.first_side ear.second_side p
             (subst (λ x. IsInTri corners (tri_at tris x) p) same t) in
             let on = cut.common p at_p (in_of_in_triangle U V W (ear_left corners u v w ms tris fits k l ear) p at_p in_ear) h in
-            (l, ear.base.other_in_list, other, side_in corners (u ∷ v ∷ w ∷ ms) tris fits l u w ear.base.other_in_list (inl ear.base.other_has) p at_p on)
+            (l, ear.base.other_in_list, other, side_in corners (u ∷ v ∷ w ∷ ms) tris (paved fits) l u w ear.base.other_in_list (inl ear.base.other_has) p at_p on)
       ]
 
   -- the triangles of the rest cover it
@@ -170,7 +170,7 @@ module _ (corners : List Point) (u v w : ℕ) (ms : List ℕ) (tris : List Tri) 
   apart_rest p at_p m n less within h =
       let in_m : m < length rest = omega arith in
       let differ : ¬ (f m ≡ f n) = λ e. let same : m ≡ n = sym (r.back m) ∙ ap g e ∙ r.back n in omega arith in
-      inside_one corners (u ∷ v ∷ w ∷ ms) tris fits (f m) (f n) (r.old_in m in_m) (r.old_in n within) differ p at_p
+      inside_one corners (u ∷ v ∷ w ∷ ms) tris (paved fits) (f m) (f n) (r.old_in m in_m) (r.old_in n within) differ p at_p
       (subst (λ t. IsStrictlyInTri corners t p) (sym (r.same m in_m)) h.0) (subst (λ t. IsStrictlyInTri corners t p) (sym (r.same n within)) h.1)
 
   -- so they fit it

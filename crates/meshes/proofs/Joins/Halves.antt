@@ -19,6 +19,11 @@ pub between_back : {t : Tri} {i j : ℕ} → HasSideBetween t i j → HasSideBet
 between_back (inl h) = inr h
 between_back (inr h) = inl h
 
+-- the ends of one pair are those of the other
+pub ends_back : {a b i j : ℕ} → AreEnds a b i j → AreEnds i j a b
+ends_back (inl h) = inl (sym h.0, sym h.1)
+ends_back (inr h) = inr (sym h.1, sym h.0)
+
 -- a side between two numbers that are the ends of the diagonal is one between its ends
 pub between_at : {t : Tri} {a b i j : ℕ} → AreEnds a b i j → HasSideBetween t i j → HasSideBetween t a b
 between_at {t} {a} {b} {i} {j} (inl h) s = subst (λ x. HasSideBetween t x b) h.0 (subst (λ y. HasSideBetween t i y) h.1 s)

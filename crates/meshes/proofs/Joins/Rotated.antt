@@ -26,7 +26,7 @@ pub record IsSamePiece (corners : List Point) (piece other : List ℕ) : Type 0 
 
 module _ (corners : List Point) (piece other : List ℕ) (same : IsSamePiece corners piece other) (ts : List Tri) where
   -- a triangle of the one is one of the other
-  tri_of_same : (t : Tri) → IsTriOf corners piece t → IsTriOf corners other t
+  pub tri_of_same : (t : Tri) → IsTriOf corners piece t → IsTriOf corners other t
   tri_of_same t is = record {
     has_a = same.members t.a is.has_a;
     has_b = same.members t.b is.has_b;

@@ -1,17 +1,16 @@
--- The side that two triangles of a mesh share is a diagonal of the ring.
-use Rattle.std.proofs.Common.{◌≡◌, ◌⊎◌, inl, inr, refl, sym, subst, List, [], ◌∷◌, length, ℕ, ◌<◌, pos, arith, ap, get_or, ◌∙◌}
+-- The side that two triangles of a mesh, or of a part of one, share is a diagonal of the ring.
+use Rattle.std.proofs.Common.{◌≡◌, ◌⊎◌, inl, inr, refl, sym, List, [], ◌∷◌, length, ℕ, ◌<◌, pos, arith, ap, get_or, ◌∙◌}
 use Rattle.std.proofs.lemmas.Int.{ints}
-use Rattle.std.proofs.lemmas.List.{get_or_default}
 use Rattle.std.specs.List.{Contains}
 use Rattle.integer_algebra.proofs.SignSteps.{not_both, positive_not_negative}
 use Rattle.integer_algebra.proofs.Signs.{lt_or_le}
-use Rattle.plane.proofs.Segments.{on_first_end, on_reversed, on_same_point}
+use Rattle.plane.proofs.Segments.{on_reversed, on_same_point}
 use Rattle.plane.proofs.Turns.{determinant_swap_first}
 use Rattle.plane.specs.Point.{IsPoint, IsSame, Point, Triple, whole}
 use Rattle.plane.specs.Segment.{On}
 use Rattle.plane.specs.Turn.{IsRight, determinant}
 use Rattle.rings.proofs.Simple.{apart_of_simple, same_or_not}
-use Rattle.rings.proofs.Vertices.{edge_at, has_edge_at, on_some_of}
+use Rattle.rings.proofs.Vertices.{on_some_of}
 use Rattle.rings.specs.Apart.{IsApartRing}
 use Rattle.rings.specs.Edge.{Edge, HasEdge, HasEnd, IsOn, IsOnSome, edge, edges_of}
 use Rattle.rings.specs.Inside.{IsIn}
@@ -21,8 +20,10 @@ use Rattle.ring_laws.specs.Diagonal.{IsDiagonal}
 use Rattle.meshes.proofs.Joins.{between_ends}
 use Rattle.meshes.proofs.Parts.OpenRegions.{IsLeftOfAll, region_off_edges}
 use Rattle.meshes.proofs.Parts.Opposite.{IsOpposite, left_of_next, left_of_previous, opposite}
-use Rattle.meshes.proofs.Sides.{length_points, one_place, vertex_of_piece}
-use Rattle.meshes.specs.Fits.{FitsPiece, IsInTri, IsSideOfTwo, piece_points}
+use Rattle.meshes.proofs.Parts.Paved.{IsPaved}
+use Rattle.meshes.proofs.Parts.VertexPlaces.{edge_at_vertex, vertex_place}
+use Rattle.meshes.proofs.Sides.{length_points, one_place}
+use Rattle.meshes.specs.Fits.{IsInTri, IsSideOfTwo, piece_points}
 use Rattle.meshes.specs.Side.{tri_at}
 use Rattle.meshes.specs.declared.tri.Tri.{Tri}
 
@@ -67,61 +68,40 @@ module _ (corners : List Point) (t u : Tri) (a b c d : Point) (o : IsOpposite co
         ),
       )
 
--- ---- meshes
+-- ---- pieces
 
-module _ (corners : List Point) (piece : List ℕ) (tris : List Tri) (fits : FitsPiece corners piece tris) where
+module _ (corners : List Point) (piece : List ℕ) (tris : List Tri) {P : ℕ → Type 0} (fits : IsPaved corners piece tris P) where
   -- the edges of the piece are apart
   pub ring_apart : IsApartRing (piece_points corners piece)
   ring_apart = apart_of_simple (piece_points corners piece) fits.simple
 
-  -- the place of a vertex in the piece
-  pub vertex_place : (i : ℕ) → Contains piece i
-      → (r : ℕ) × (r < length (piece_points corners piece)) × (vertex (piece_points corners piece) r ≡ vertex corners i) × (get_or piece r 0 ≡ i)
-  vertex_place i (r, h, e) =
-      let is = get_or_default piece r 0 i h ∙ e in
-      (r, omega (arith, h, length_points corners piece), vertex_of_piece corners piece r h ∙ ap (vertex corners) is, is)
-
   -- vertices with different numbers are different
   pub one_vertex : (i j : ℕ) → Contains piece i → Contains piece j → vertex corners i ≡ vertex corners j → i ≡ j
   one_vertex i j h k same =
-      let (r, in_r, _, is_i) = vertex_place i h in
-      let (t, in_t, _, is_j) = vertex_place j k in
+      let (r, in_r, _, is_i) = vertex_place corners piece i h in
+      let (t, in_t, _, is_j) = vertex_place corners piece j k in
       let one = one_place corners piece fits.simple r t (omega (arith, in_r, length_points corners piece))
       (omega (arith, in_t, length_points corners piece)) (ap (vertex corners) is_i ∙ same ∙ sym (ap (vertex corners) is_j)) in
       sym is_i ∙ ap (λ n. get_or piece n 0) one ∙ is_j
-
-  -- an edge of the piece begins at a vertex of it
-  pub edge_at_vertex : (i : ℕ) → Contains piece i → (e : Edge) × HasEdge (edges_of (piece_points corners piece)) e × (e.from ≡ vertex corners i)
-  edge_at_vertex i h =
-      let (r, within, is, _) = vertex_place i h in
-      (edge_at (piece_points corners piece) r, has_edge_at (piece_points corners piece) r within, is)
-
-  -- the vertex is on that edge
-  pub on_from : (e : Edge) (v : Point) → e.from ≡ v → IsOn e (whole v)
-  on_from e v is = subst (λ (x : Point). IsOn e (whole x)) is (on_first_end (whole e.from) (whole e.to))
 
   -- a vertex on an edge is an end of it
   pub vertex_is_end : (i : ℕ) → Contains piece i → (e : Edge) → HasEdge (edges_of (piece_points corners piece)) e → IsOn e (whole (vertex corners i))
       → HasEnd e (vertex corners i)
   vertex_is_end i h e has on =
-      let (f, has_f, is) = edge_at_vertex i h in
+      let (f, has_f, is) = edge_at_vertex corners piece i h in
       end_of_other (edges_of (piece_points corners piece)) ring_apart.apart f e has_f has (vertex corners i) (inl is) on
 
-  -- and each vertex is on an edge
-  pub vertex_on_ring : (i : ℕ) → Contains piece i → IsOnSome (edges_of (piece_points corners piece)) (whole (vertex corners i))
-  vertex_on_ring i h =
-      let (f, has_f, is) = edge_at_vertex i h in
-      on_some_of (whole (vertex corners i)) f (edges_of (piece_points corners piece)) has_f (on_from f (vertex corners i) is)
-
-  -- a piece with a triangle has more than one vertex
-  pub ring_long : (k : ℕ) → k < length tris → 1 < length (piece_points corners piece)
-  ring_long k within = omega (arith, fits.count, length_points corners piece)
+  -- a piece has more than one vertex
+  pub ring_long : 1 < length (piece_points corners piece)
+  ring_long = omega (arith, fits.long, length_points corners piece)
 
 -- ---- a side of two triangles
 
 -- triangle k has the side from vertex i to vertex j, and triangle l has it in the other direction; c and d are opposite to it
-pub record IsShared (corners : List Point) (piece : List ℕ) (tris : List Tri) (i j k l : ℕ) : Type 0 where
+pub record IsShared (corners : List Point) (piece : List ℕ) (tris : List Tri) (P : ℕ → Type 0) (i j k l : ℕ) : Type 0 where
   pub two : IsSideOfTwo tris i j k l
+  pub near_in : P k
+  pub far_in : P l
   pub from_within : Contains piece i
   pub to_within : Contains piece j
   pub differ : ¬ (i ≡ j)
@@ -130,15 +110,18 @@ pub record IsShared (corners : List Point) (piece : List ℕ) (tris : List Tri) 
   pub near : IsOpposite corners (tri_at tris k) (vertex corners i) (vertex corners j) c
   pub far : IsOpposite corners (tri_at tris l) (vertex corners j) (vertex corners i) d
 
--- a side of two triangles of a mesh is so
-pub shared_of : (corners : List Point) (piece : List ℕ) (tris : List Tri) → FitsPiece corners piece tris → (i j k l : ℕ) → IsSideOfTwo tris i j k l → IsShared corners piece tris i j k l
-shared_of corners piece tris fits i j k l two =
-    let is = fits.triangles k two.in_list in
+-- a side of two triangles is so
+pub shared_of : (corners : List Point) (piece : List ℕ) (tris : List Tri) {P : ℕ → Type 0} → IsPaved corners piece tris P → (i j k l : ℕ)
+    → IsSideOfTwo tris i j k l → P k → P l → IsShared corners piece tris P i j k l
+shared_of corners piece tris fits i j k l two near_in far_in =
+    let is = fits.triangles k near_in in
     let ends = between_ends corners piece (tri_at tris k) is i j (inl two.has) in
     let (c, near) = opposite corners (tri_at tris k) is.counterclockwise i j two.has in
-    let (d, far) = opposite corners (tri_at tris l) (fits.triangles l two.other_in_list).counterclockwise j i two.other_has in
+    let (d, far) = opposite corners (tri_at tris l) (fits.triangles l far_in).counterclockwise j i two.other_has in
     record {
       two = two;
+      near_in = near_in;
+      far_in = far_in;
       from_within = ends.0;
       to_within = ends.1;
       differ = ends.2;
@@ -148,21 +131,22 @@ shared_of corners piece tris fits i j k l two =
       far = far;
     }
 
-module _ (corners : List Point) (piece : List ℕ) (tris : List Tri) (fits : FitsPiece corners piece tris) (i j k l : ℕ) (s : IsShared corners piece tris i j k l) where
+module _ (corners : List Point) (piece : List ℕ) (tris : List Tri) {P : ℕ → Type 0} (fits : IsPaved corners piece tris P) (i j k l : ℕ)
+    (s : IsShared corners piece tris P i j k l) where
   -- what is left of the outer sides is in the ring,
   beside_in : (y : Triple) → IsPoint y → IsLeftOfAll (outer_sides (vertex corners i) (vertex corners j) s.c s.d) y → IsIn (piece_points corners piece) y
   beside_in y at_y h =
       (fits.covers y at_y).1
       (elim (in_one corners (tri_at tris k) (tri_at tris l) (vertex corners i) (vertex corners j) s.c s.d s.near s.far y h) [
-        | inl t ↦ (k, s.two.in_list, t)
-        | inr t ↦ (l, s.two.other_in_list, t)
+        | inl t ↦ (k, s.near_in, t)
+        | inr t ↦ (l, s.far_in, t)
       ])
 
   -- so a point strictly inside the side is on no edge
   side_off_edges : (x : Triple) → IsPoint x → On x (whole (vertex corners i)) (whole (vertex corners j)) → ¬ IsSame x (whole (vertex corners i))
       → ¬ IsSame x (whole (vertex corners j)) → ¬ IsOnSome (edges_of (piece_points corners piece)) x
   side_off_edges x at_x on not_first not_last =
-      region_off_edges (piece_points corners piece) (ring_apart corners piece tris fits) (ring_long corners piece tris fits k s.two.in_list)
+      region_off_edges (piece_points corners piece) (ring_apart corners piece tris fits) (ring_long corners piece tris fits)
       (outer_sides (vertex corners i) (vertex corners j) s.c s.d) beside_in x at_x
       (left_of_outer corners (tri_at tris k) (tri_at tris l) (vertex corners i) (vertex corners j) s.c s.d s.near s.far x at_x on not_first not_last)
 
@@ -186,5 +170,5 @@ module _ (corners : List Point) (piece : List ℕ) (tris : List Tri) (fits : Fit
         | inr not_last ↦ absurd (side_off_edges x at_x on not_first not_last (on_some_of x e (edges_of (piece_points corners piece)) has on_e))
       ]
     ];
-    inside = λ x at_x on. (fits.covers x at_x).1 (k, s.two.in_list, s.near.side x at_x on);
+    inside = λ x at_x on. (fits.covers x at_x).1 (k, s.near_in, s.near.side x at_x on);
   }

@@ -1,5 +1,5 @@
 -- A ring that is split along a shared side of a mesh: each triangle lies in one piece as a whole.
-use Rattle.std.proofs.Common.{◌≡◌, ◌⊎◌, inl, inr, sym, ◌∙◌, List, length, ℕ, ◌+◌, ◌<◌, arith}
+use Rattle.std.proofs.Common.{◌≡◌, ◌⊎◌, inl, inr, sym, ◌∙◌, List, ℕ, ◌+◌, arith}
 use Rattle.std.proofs.lemmas.Bool.{cases_lt, cases_eq}
 use Rattle.std.specs.List.{Contains}
 use Rattle.plane.proofs.Nearness.{toward, toward_is_point}
@@ -13,10 +13,12 @@ use Rattle.rings.specs.Inside.{IsIn}
 use Rattle.rings.specs.Ring.{vertex}
 use Rattle.meshes.proofs.Joins.{in_tri}
 use Rattle.meshes.proofs.Parts.BetweenPieces.{IsCovered, covered_swapped, in_if_near, meets_between}
-use Rattle.meshes.proofs.Parts.MeshDiagonals.{IsShared, ring_apart, ring_long, vertex_on_ring}
+use Rattle.meshes.proofs.Parts.MeshDiagonals.{IsShared, ring_apart, ring_long}
 use Rattle.meshes.proofs.Parts.OpenRegions.{IsLeftOfAll, left_of_all_eventually, region_off_edges}
 use Rattle.meshes.proofs.Parts.Opposite.{IsOpposite, mean, mean_inside, mean_is_point, near_side, sides, toward_inside}
-use Rattle.meshes.specs.Fits.{FitsPiece, IsInTri, IsStrictlyInTri, piece_points}
+use Rattle.meshes.proofs.Parts.Paved.{IsPaved}
+use Rattle.meshes.proofs.Parts.VertexPlaces.{vertex_on_ring}
+use Rattle.meshes.specs.Fits.{IsInTri, IsStrictlyInTri, piece_points}
 use Rattle.meshes.specs.Side.{tri_at}
 use Rattle.meshes.specs.declared.tri.Tri.{Tri}
 
@@ -48,32 +50,32 @@ module _ (corners : List Point) (t : Tri) where
         left_of_third = stays_left z p q at_z at_p at_q on C A s.left_of_third r.left_of_third;
       }
 
-module _ (corners : List Point) (piece : List ℕ) (tris : List Tri) (fits : FitsPiece corners piece tris) where
+module _ (corners : List Point) (piece : List ℕ) (tris : List Tri) {P : ℕ → Type 0} (fits : IsPaved corners piece tris P) where
   -- a point strictly inside a triangle is on no edge of the ring,
-  pub inside_off_edges : (n : ℕ) → n < length tris → (y : Triple) → IsPoint y → IsStrictlyInTri corners (tri_at tris n) y → ¬ IsOnSome (edges_of (piece_points corners piece)) y
+  pub inside_off_edges : (n : ℕ) → P n → (y : Triple) → IsPoint y → IsStrictlyInTri corners (tri_at tris n) y → ¬ IsOnSome (edges_of (piece_points corners piece)) y
   inside_off_edges n within y at_y s =
       let t = tri_at tris n in
-      region_off_edges (piece_points corners piece) (ring_apart corners piece tris fits) (ring_long corners piece tris fits n within) (sides corners t)
+      region_off_edges (piece_points corners piece) (ring_apart corners piece tris fits) (ring_long corners piece tris fits) (sides corners t)
       (λ z at_z h. (fits.covers z at_z).1 (n, within, in_tri corners t z (inside_sides corners t z h)))
       y at_y (left_of_sides corners t y s)
 
   -- so it is no vertex,
-  inside_no_vertex : (n : ℕ) → n < length tris → (y : Triple) → IsPoint y → IsStrictlyInTri corners (tri_at tris n) y → (i : ℕ) → Contains piece i
+  inside_no_vertex : (n : ℕ) → P n → (y : Triple) → IsPoint y → IsStrictlyInTri corners (tri_at tris n) y → (i : ℕ) → Contains piece i
       → ¬ IsSame y (whole (vertex corners i))
   inside_no_vertex n within y at_y s i h same =
       inside_off_edges n within y at_y s
-      (on_some_same (whole (vertex corners i)) y (whole_is_point (vertex corners i)) (same_sym same) (edges_of (piece_points corners piece)) (vertex_on_ring corners piece tris fits i h))
+      (on_some_same (whole (vertex corners i)) y (whole_is_point (vertex corners i)) (same_sym same) (edges_of (piece_points corners piece)) (vertex_on_ring corners piece i h))
 
   -- and not strictly inside another one
-  pub inside_one : (m n : ℕ) → m < length tris → n < length tris → ¬ (m ≡ n) → (y : Triple) → IsPoint y
+  pub inside_one : (m n : ℕ) → P m → P n → ¬ (m ≡ n) → (y : Triple) → IsPoint y
       → IsStrictlyInTri corners (tri_at tris m) y → IsStrictlyInTri corners (tri_at tris n) y → ⊥
   inside_one m n in_m in_n differ y at_y s r = elim (cases_lt m n) [
-    | inl less ↦ fits.apart y at_y m n less in_n (s, r)
-    | inr more ↦ fits.apart y at_y n m (grind arith) in_m (r, s)
+    | inl less ↦ fits.apart y at_y m n less in_m in_n (s, r)
+    | inr more ↦ fits.apart y at_y n m (grind arith) in_n in_m (r, s)
   ]
 
   -- a point strictly inside a triangle is not strictly inside a side of another one
-  not_on_other : (m n : ℕ) → m < length tris → n < length tris → ¬ (m ≡ n) → (a b c : Point) → IsOpposite corners (tri_at tris m) a b c
+  not_on_other : (m n : ℕ) → P m → P n → ¬ (m ≡ n) → (a b c : Point) → IsOpposite corners (tri_at tris m) a b c
       → (y : Triple) → IsPoint y → On y (whole a) (whole b) → ¬ IsSame y (whole a) → ¬ IsSame y (whole b) → ¬ IsStrictlyInTri corners (tri_at tris n) y
   not_on_other m n in_m in_n differ a b c o y at_y on not_first not_last s =
       let near = near_side corners (tri_at tris m) a b c o y at_y on not_first not_last in
@@ -84,24 +86,24 @@ module _ (corners : List Point) (piece : List ℕ) (tris : List Tri) (fits : Fit
 
   -- ---- a shared side
 
-  module _ (i j k l : ℕ) (s : IsShared corners piece tris i j k l) where
+  module _ (i j k l : ℕ) (s : IsShared corners piece tris P i j k l) where
     -- no point strictly inside a triangle is on it
-    inside_off_side : (n : ℕ) → n < length tris → (y : Triple) → IsPoint y → IsStrictlyInTri corners (tri_at tris n) y
+    inside_off_side : (n : ℕ) → P n → (y : Triple) → IsPoint y → IsStrictlyInTri corners (tri_at tris n) y
         → ¬ On y (whole (vertex corners i)) (whole (vertex corners j))
     inside_off_side n within y at_y r on =
         let not_from = inside_no_vertex n within y at_y r i s.from_within in
         let not_to = inside_no_vertex n within y at_y r j s.to_within in
         elim (cases_eq k n) [
           | inr other ↦
-              not_on_other k n s.two.in_list within other (vertex corners i) (vertex corners j) s.c s.near y at_y on not_from not_to r
+              not_on_other k n s.near_in within other (vertex corners i) (vertex corners j) s.c s.near y at_y on not_from not_to r
           | inl same ↦
-              not_on_other l n s.two.other_in_list within (λ e. s.two.different (same ∙ sym e)) (vertex corners j) (vertex corners i) s.d s.far y at_y
+              not_on_other l n s.far_in within (λ e. s.two.different (same ∙ sym e)) (vertex corners j) (vertex corners i) s.d s.far y at_y
               (on_reversed y (whole (vertex corners i)) (whole (vertex corners j)) on) not_to not_from r
         ]
 
     module _ (first second : List Point) (c : IsCovered (piece_points corners piece) first second (whole (vertex corners i)) (whole (vertex corners j))) where
       -- a triangle whose mean is in a piece lies in it
-      lies_with_mean : (n : ℕ) → n < length tris → IsIn first (mean corners (tri_at tris n)) → LiesIn corners tris first n
+      lies_with_mean : (n : ℕ) → P n → IsIn first (mean corners (tri_at tris n)) → LiesIn corners tris first n
       lies_with_mean n within in_mean x at_x h =
           let t = tri_at tris n in
           let left = (fits.triangles n within).counterclockwise in
@@ -127,7 +129,7 @@ module _ (corners : List Point) (piece : List ℕ) (tris : List Tri) (fits : Fit
 
     -- so each triangle lies in one piece or the other
     pub lies_in_one : (first second : List Point) → IsCovered (piece_points corners piece) first second (whole (vertex corners i)) (whole (vertex corners j))
-        → (n : ℕ) → n < length tris → LiesIn corners tris first n ⊎ LiesIn corners tris second n
+        → (n : ℕ) → P n → LiesIn corners tris first n ⊎ LiesIn corners tris second n
     lies_in_one first second c n within =
         let t = tri_at tris n in
         let left = (fits.triangles n within).counterclockwise in
@@ -137,3 +139,15 @@ module _ (corners : List Point) (piece : List ℕ) (tris : List Tri) (fits : Fit
           | inl h ↦ inl (lies_with_mean first second c n within h)
           | inr h ↦ inr (lies_with_mean second first (covered_swapped c) n within h)
         ]
+
+    -- and in no more than one
+    pub lies_in_both : (first second : List Point)
+        → IsCovered (piece_points corners piece) first second (whole (vertex corners i)) (whole (vertex corners j)) → (n : ℕ) → P n → LiesIn corners tris first n → LiesIn corners tris second n → ⊥
+    lies_in_both first second c n within in_first in_second =
+        let t = tri_at tris n in
+        let left = (fits.triangles n within).counterclockwise in
+        let g = mean corners t in
+        let at_g = mean_is_point corners t left in
+        let inside_g = mean_inside corners t left in
+        let in_g = in_tri corners t g inside_g in
+        inside_off_side n within g at_g inside_g (c.common g at_g (in_first g at_g in_g) (in_second g at_g in_g))

@@ -45,7 +45,7 @@ split_back ring a b s = record {
 }
 
 -- the last edge of a ring
-last_edge : (v : Point) (ps : List Point) (z : Point) → HasEdge (edges_of (v ∷ (ps ++ z ∷ []))) (edge z v)
+pub last_edge : (v : Point) (ps : List Point) (z : Point) → HasEdge (edges_of (v ∷ (ps ++ z ∷ []))) (edge z v)
 last_edge v ps z =
     subst (λ es. HasEdge es (edge z v)) (sym (edges_of_first v ps z []))
     (has_right (edge z v) (edges_along v ps z) (edge z v ∷ []) (inl refl))

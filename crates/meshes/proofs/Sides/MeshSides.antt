@@ -20,7 +20,7 @@ left_apart a b c left = (
 )
 
 -- a triangle with three corners has no side in both directions
-one_direction : (a b c i j : ℕ) → a ≢ b → b ≢ c → c ≢ a → HasSide (record { a = a; b = b; c = c }) i j → ¬ HasSide (record { a = a; b = b; c = c }) j i
+pub one_direction : (a b c i j : ℕ) → a ≢ b → b ≢ c → c ≢ a → HasSide (record { a = a; b = b; c = c }) i j → ¬ HasSide (record { a = a; b = b; c = c }) j i
 one_direction a b c i j ab bc ca has back = grind arith
 
 -- the corners of a counterclockwise triangle differ

@@ -9,7 +9,7 @@ use Rattle.meshes.specs.Side.{HasSide}
 use Rattle.meshes.specs.declared.tri.Tri.{Tri}
 
 -- a step from i to j along some numbers and on to the last one
-abbrev IsStep : ℕ → List ℕ → ℕ → ℕ → ℕ → Type 0
+abbrev pub IsStep : ℕ → List ℕ → ℕ → ℕ → ℕ → Type 0
 IsStep a [] last i j = (a ≡ i) × (last ≡ j)
 IsStep a (b ∷ bs) last i j = ((a ≡ i) × (b ≡ j)) ⊎ IsStep b bs last i j
 

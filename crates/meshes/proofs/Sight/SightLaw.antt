@@ -8,7 +8,7 @@ use Rattle.rings.specs.Inside.{IsIn}
 use Rattle.rings.specs.Ring.{vertex}
 use Rattle.rings.specs.Sees.{Sees}
 use Rattle.ring_laws.proofs.Triangles.{between_in_triangle}
-use Rattle.meshes.proofs.Parts.{side_in}
+use Rattle.meshes.proofs.Parts.{side_in, paved}
 use Rattle.meshes.proofs.Sides.{piece_points_all}
 use Rattle.meshes.proofs.Sight.WalkSides.{meets_crossed, separated}
 use Rattle.meshes.specs.Fits.{FitsPiece, IsInTri, piece_points}
@@ -42,8 +42,10 @@ module _ (corners : List Point) (piece : List ℕ) (tris : List Tri) (fits : Fit
         let meet = meets r share.i share.j (record { has_next = next; of_this = inl share.of_first; of_next = share.of_second }) in
         let z = meet.point in
         let at_z = meet.rational in
-        let in_this = side_in corners piece tris fits (get_or walk r 0) share.i share.j (w.in_list r (omega arith)) (inl share.of_first) z at_z meet.on_second in
-        let in_next = side_in corners piece tris fits (get_or walk (r + 1) 0) share.i share.j (w.in_list (r + 1) next) share.of_second z at_z meet.on_second in
+        let in_this = side_in corners piece tris (paved fits) (get_or walk r 0) share.i share.j (w.in_list r (omega arith))
+        (inl share.of_first) z at_z meet.on_second in
+        let in_next = side_in corners piece tris (paved fits) (get_or walk (r + 1) 0) share.i share.j (w.in_list (r + 1) next)
+        share.of_second z at_z meet.on_second in
         let beyond = rest_in d (r + 1) (omega arith) z at_z meet.on_first in_next y at_y in
         elim (on_one_side z x p q at_z at_x at_p at_q meet.on_first on_x) [
           | inl earlier ↦

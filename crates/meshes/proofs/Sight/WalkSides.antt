@@ -7,8 +7,9 @@ use Rattle.rings.specs.Ring.{vertex}
 use Rattle.rings.specs.Sees.{Sees}
 use Rattle.rings.proofs.Vertices.{one_to_one}
 use Rattle.meshes.proofs.Joins.{between_back, between_at}
-use Rattle.meshes.proofs.Parts.{meets_between, IsShared, shared_of, IsParted, parted, shared_is_this, LiesIn, lies_in_one}
+use Rattle.meshes.proofs.Parts.{meets_between, IsShared, shared_of, IsParted, parted, shared_is_this, LiesIn, lies_in_one, paved}
 use Rattle.meshes.proofs.Sides.{edge_or_not}
+use Rattle.meshes.proofs.Walks.{IsPlace}
 use Rattle.meshes.specs.Fits.{FitsPiece, IsInTri, IsSideOfTwo, piece_points}
 use Rattle.meshes.specs.Laws.{CrossesSide, walk_tri}
 use Rattle.meshes.specs.Side.{HasSide, HasSideBetween, IsWalk, tri_at}
@@ -57,23 +58,23 @@ module _ (corners : List Point) (piece : List ℕ) (tris : List Tri) (fits : Fit
       ]
 
       -- it parts the mesh
-      shared : IsShared corners piece tris i j (at m) (at (m + 1))
-      shared = shared_of corners piece tris fits i j (at m) (at (m + 1)) two
+      shared : IsShared corners piece tris (IsPlace tris) i j (at m) (at (m + 1))
+      shared = shared_of corners piece tris (paved fits) i j (at m) (at (m + 1)) two two.in_list two.other_in_list
 
       walk_parted : IsParted corners piece tris i j (at m) (at (m + 1))
-      walk_parted = parted corners piece tris fits i j (at m) (at (m + 1)) shared
+      walk_parted = parted corners piece tris (paved fits) i j (at m) (at (m + 1)) shared
 
       module _ (p : IsParted corners piece tris i j (at m) (at (m + 1))) where
         -- a triangle before one in the first piece is in it,
         step_before : (r : ℕ) → r < m → LiesIn corners tris p.first (at (r + 1)) → LiesIn corners tris p.first (at r)
         step_before r less lies =
             let here = w.in_list r (omega arith) in
-            elim (lies_in_one corners piece tris fits i j (at m) (at (m + 1)) shared p.first p.second p.covered (at r) here) [
+            elim (lies_in_one corners piece tris (paved fits) i j (at m) (at (m + 1)) shared p.first p.second p.covered (at r) here) [
               | inl h ↦ h
               | inr h ↦
                   let share = w.sharing r (omega arith) in
-                  let ends = shared_is_this corners piece tris fits i j (at m) (at (m + 1)) shared p.first p.second p.covered (at (r + 1)) (at r)
-                  share.i share.j (w.in_list (r + 1) (omega arith)) here share.of_second (inl share.of_first) lies h in
+                  let ends = shared_is_this corners piece tris (paved fits) i j (at m) (at (m + 1)) shared p.first p.second p.covered
+                  (at (r + 1)) (at r) share.i share.j (w.in_list (r + 1) (omega arith)) here share.of_second (inl share.of_first) lies h in
                   absurd (not_again r (omega arith) (λ e. omega arith) (λ e. omega arith)
                   (between_at ends (inl share.of_first)))
             ]
@@ -82,12 +83,12 @@ module _ (corners : List Point) (piece : List ℕ) (tris : List Tri) (fits : Fit
         step_after : (r : ℕ) → m < r → r + 1 < length walk → LiesIn corners tris p.second (at r) → LiesIn corners tris p.second (at (r + 1))
         step_after r more within lies =
             let there = w.in_list (r + 1) within in
-            elim (lies_in_one corners piece tris fits i j (at m) (at (m + 1)) shared p.first p.second p.covered (at (r + 1)) there) [
+            elim (lies_in_one corners piece tris (paved fits) i j (at m) (at (m + 1)) shared p.first p.second p.covered (at (r + 1)) there) [
               | inr h ↦ h
               | inl h ↦
                   let share = w.sharing r within in
-                  let ends = shared_is_this corners piece tris fits i j (at m) (at (m + 1)) shared p.first p.second p.covered (at (r + 1)) (at r)
-                  share.i share.j there (w.in_list r (omega arith)) share.of_second (inl share.of_first) h lies in
+                  let ends = shared_is_this corners piece tris (paved fits) i j (at m) (at (m + 1)) shared p.first p.second p.covered
+                  (at (r + 1)) (at r) share.i share.j there (w.in_list r (omega arith)) share.of_second (inl share.of_first) h lies in
                   absurd (not_again (r + 1) within (λ e. omega arith) (λ e. omega arith)
                   (between_at ends share.of_second))
             ]

@@ -1,0 +1,46 @@
+-- Triangles whose sides cancel to the boundary of a piece.
+
+-- Sums over the sides of triangles, from the least that each triangle adds.
+mod Sums
+-- Some triangle of a list has a property, or none has.
+mod SomeTriangle
+-- The winding number of the piece is the sum of those of the triangles.
+mod Windings
+-- Near each rational point there is one that is off finitely many edges.
+mod OffEdges
+-- The triangles do not overlap, and a side in one direction belongs to one of them at most.
+mod Overlaps
+-- The step from one number to another, counted once in its direction and the opposite way back: its sums round triangles and pieces.
+mod SideSums
+-- So an edge of the piece is a side of one triangle, and any other side has one triangle in each direction.
+mod SideCounts
+-- And the points of the piece are those of the triangles.
+mod Covered
+-- Such triangles tile the piece.
+mod Tiles
+pub use Rattle.meshes.proofs.Boundaries.Tiles.{tiling}
+-- Of how many numbers below a bound something holds.
+mod Counts
+-- Triangles of a list, by their numbers, that tile a piece: all of them, or those in a part of a polygon that all of them tile.
+mod PartTilings
+-- The parts of a piece that a diagonal cuts in two, and the triangles that lie in them.
+mod PieceParts
+-- A piece that a shared side cuts in two parts: the triangles that lie in a part tile it.
+mod TiledParts
+-- A tiled piece that a shared side cuts in two parts: two trees are one tree.
+mod TwoParts
+-- A tiled piece that a shared side cuts from its first vertex to another one: the two parts, and the triangles beside the side in them.
+mod CutTilings
+-- A tiled piece with a triangle all of whose sides are edges of the piece: it has three vertices, and no other triangle.
+mod OneTriangle
+-- Triangles that tile a piece are a tree, two fewer than it has vertices.
+mod TiledTrees
+pub use Rattle.meshes.proofs.Boundaries.TiledTrees.{fits_tiled}
+-- Sums round a piece: read from another vertex on, and without one of the vertices.
+mod Rounds
+-- The sides of triangles that fit a piece cancel to its boundary.
+mod Cancelling
+pub use Rattle.meshes.proofs.Boundaries.Cancelling.{sides_cancel}
+-- So triangles whose sides cancel to the boundary fit.
+mod Bounded
+pub use Rattle.meshes.proofs.Boundaries.Bounded.{fits_bounded}
