@@ -5,4 +5,5 @@ pub mod Crossings
 pub mod Inside
 pub mod Sweeps
 pub mod Views
+pub mod Full
 mod KnownFigures

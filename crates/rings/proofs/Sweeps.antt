@@ -10,9 +10,10 @@ mod StackEdits
 pub use Rattle.rings.proofs.Sweeps.StackEdits.{edges_removed, inserted, removed, replaced}
 -- A ring is simple where a sweep has passed all its events.
 mod Swept
-pub use Rattle.rings.proofs.Sweeps.Swept.{empty_status, simple_of_swept}
+pub use Rattle.rings.proofs.Sweeps.Swept.{at_rank, empty_status, simple_of_swept}
 -- A chord from s to t with a point x between them, and the line ab on one side of all three.
 mod Chords
+pub use Rattle.rings.proofs.Sweeps.Chords.{same_of, way, written_rise, written_run}
 -- Lists in which each item is related to the next, after an edit: the pairs at the place are enough.
 mod Neighbours
 -- Edges over one place, each below the next: two of them share no more than a common end there.
@@ -21,12 +22,17 @@ mod Stacks
 mod Counts
 -- Points in lexicographic order, by their ranks, and where a point of an edge comes among them.
 mod Ascending
+pub use Rattle.rings.proofs.Sweeps.Ascending.{ascends, at_one_place, not_after_last, not_before_first, precedes_later, precedes_whole}
 -- Vectors that do not point backward in the lexicographic order: a sum of them with weights that are not negative is 0 only where each part is.
 mod ForwardSums
+pub use Rattle.rings.proofs.Sweeps.ForwardSums.{Part, none_gains}
 -- The events of a ring: the vertices beside a vertex, and the ends of an edge by their ranks.
 mod Events
+pub use Rattle.rings.proofs.Sweeps.Events.{edge_is, ends_are, ends_below, event_of, forward, next_below, next_differs, next_of_previous}
+pub use Rattle.rings.proofs.Sweeps.Events.{previous_below, previous_of_next, rank_below, ranks_are, vertex_after}
 -- One edge below another: where both run, what is on the lower edge or below it is below the upper one, but for a common end.
 mod StaysBelow
+pub use Rattle.rings.proofs.Sweeps.StaysBelow.{Spans, side, stays_below}
 -- The status before and after an event: what the edges at its vertex do, and no other.
 mod Passing
 pub use Rattle.rings.proofs.Sweeps.Passing.{both_enter, both_leave, u_follows, v_follows}

@@ -6,6 +6,7 @@ pub mod Chain
 pub mod Edge
 pub mod Events
 pub mod From
+pub mod Full
 pub mod Inside
 pub mod Kernel
 pub mod Orientation

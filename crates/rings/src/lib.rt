@@ -3,4 +3,4 @@
 
 mod laws;
 
-pub use laws::seen_in_parts;
+pub use laws::{one_full, seen_in_parts};

@@ -10,7 +10,7 @@ use Rattle.plane.specs.Point.{IsPoint, IsSame, Point, Triple, whole}
 use Rattle.plane.specs.Segment.{On}
 
 -- a whole point before another precedes it
-precedes_whole : (p q : Point) → IsBefore p q → Precedes (whole p) (whole q)
+pub precedes_whole : (p q : Point) → IsBefore p q → Precedes (whole p) (whole q)
 precedes_whole p q (inl h) = inl (omega (arith, ints))
 precedes_whole p q (inr h) = let e = h.0 in let k = h.1 in inr (omega (arith, ints), omega (arith, ints))
 

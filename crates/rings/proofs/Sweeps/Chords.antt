@@ -10,15 +10,15 @@ use Rattle.plane.specs.Turn.{determinant}
 use Rattle.rings.proofs.Sweeps.ForwardSums.{Part, none_gains}
 
 -- a run as a polynomial, of two triples by their numbers
-abbrev written_run : ℕ → ℕ → Polynomial
+abbrev pub written_run : ℕ → ℕ → Polynomial
 written_run v p = var (3 * v) ⊗ var (3 * p + 2) ⊖ var (3 * p) ⊗ var (3 * v + 2)
 
 -- a rise
-abbrev written_rise : ℕ → ℕ → Polynomial
+abbrev pub written_rise : ℕ → ℕ → Polynomial
 written_rise v p = var (3 * v + 1) ⊗ var (3 * p + 2) ⊖ var (3 * p + 1) ⊗ var (3 * v + 2)
 
 -- the way from a point to one that it is not after, with a weight
-abbrev way : (w : ℤ) → pos 0 ≤ℤ w → (p q : Triple) → NotAfter p q → Part
+abbrev pub way : (w : ℤ) → pos 0 ≤ℤ w → (p q : Triple) → NotAfter p q → Part
 way w h p q k = record {
   w = w;
   x = run q p;
@@ -28,7 +28,7 @@ way w h p q k = record {
 }
 
 -- where there is no way, the points are the same
-same_of : {p q : Triple} → (run q p ≡ pos 0) × (rise q p ≡ pos 0) → IsSame p q
+pub same_of : {p q : Triple} → (run q p ≡ pos 0) × (rise q p ≡ pos 0) → IsSame p q
 same_of h = let e = h.0 in let f = h.1 in record { same_x = omega (arith, ints); same_y = omega (arith, ints) }
 
 -- a way that is nothing has no weight, or its points are the same

@@ -87,7 +87,8 @@ module _ (ring : List Point) (events ranks : List ℕ) (are : AreEvents ring eve
       let k = next_below (length ranks) e h in
       elim (ends_are e h) [ inl s ↦ (omega (arith, s.0, h), omega (arith, s.1, k)) | inr s ↦ (omega (arith, s.0, k), omega (arith, s.1, h)) ]
 
-  vertex_after : (e : ℕ) → e < length ranks → vertex ring (after e) ≡ vertex ring (e + 1)
+  -- the vertex after, counted round
+  pub vertex_after : (e : ℕ) → e < length ranks → vertex ring (after e) ≡ vertex ring (e + 1)
   vertex_after e h = elim (next_cases (length ranks) e h) [
     | inl is ↦ ap (vertex ring) is
     | inr k ↦

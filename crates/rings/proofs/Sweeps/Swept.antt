@@ -47,7 +47,7 @@ module _ (ring : List Point) (events ranks : List ℕ) (are : AreEvents ring eve
   rising k h = let size = are.all_ranks in (are.each k (omega (arith, h, size))).before_next (omega (arith, h, size))
 
   -- a vertex is the event of its rank
-  at_rank : (v : ℕ) → v < n → vertex ring v ≡ z (slice_index ranks v)
+  pub at_rank : (v : ℕ) → v < n → vertex ring v ≡ z (slice_index ranks v)
   at_rank v h = ap (vertex ring) (sym (event_of ring events ranks are three v h))
 
   runs : (e : ℕ) → e < n → Runs z n (up e) (first_rank ranks e) (last_rank ranks e)
