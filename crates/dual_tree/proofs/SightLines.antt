@@ -4,7 +4,7 @@ use Rattle.std.specs.List.{range_with_len}
 use Rattle.plane.specs.Point.{Point, Triple, whole}
 use Rattle.plane.specs.Segment.{Meet}
 use Rattle.rings.specs.Ring.{vertex}
-use Rattle.meshes.proofs.Parts.{side_in}
+use Rattle.meshes.proofs.Parts.{side_in, paved}
 use Rattle.meshes.proofs.Sight.{separation_law, sleeve_law}
 use Rattle.meshes.specs.Fits.{Fits, IsInTri}
 use Rattle.meshes.specs.Laws.{CrossesSide}
@@ -33,9 +33,9 @@ module _ (tris : List Tri) (sleeve : Sleeve) (of_mesh : IsOneOf tris sleeve) whe
         let meet = meets m within in
         let d = diagonal_at sleeve m in
         let own = crosses_diagonal m within in
-        let in_this = side_in corners all tris fits (get_or walk m 0) d.left d.right (of_mesh.walk.in_list m (omega (arith, own.has_next)))
+        let in_this = side_in corners all tris (paved fits) (get_or walk m 0) d.left d.right (of_mesh.walk.in_list m (omega (arith, own.has_next)))
         own.of_this meet.point meet.rational meet.on_second in
-        let in_next = side_in corners all tris fits (get_or walk (m + 1) 0) d.left d.right (of_mesh.walk.in_list (m + 1) own.has_next)
+        let in_next = side_in corners all tris (paved fits) (get_or walk (m + 1) 0) d.left d.right (of_mesh.walk.in_list (m + 1) own.has_next)
         own.of_next meet.point meet.rational meet.on_second in
         record {
           point = meet.point;

@@ -1,3 +1,4 @@
 pub mod Location
 pub mod Sight
+pub mod Touched
 pub mod Ways

@@ -6,8 +6,10 @@ mod location;
 mod sleeves;
 #[cfg(test)]
 mod tests;
+mod touching;
 mod walk;
 
 pub use board::Board;
 pub use location::locate;
 pub use sleeves::sleeve;
+pub use touching::touched;

@@ -7,3 +7,4 @@ pub mod DeadEnds
 pub mod Passing
 pub mod OneChain
 pub mod Trees
+pub mod Touched

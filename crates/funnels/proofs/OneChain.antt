@@ -7,6 +7,7 @@ pub use Rattle.funnels.proofs.OneChain.SubChains.{front_and_last, front_at, fron
 mod RayBends
 -- The front of a chain with bends, and a chain with bends whose last step is shorter.
 mod ShorterSteps
+pub use Rattle.funnels.proofs.OneChain.ShorterSteps.{before_last, front, last_of, shorter_step}
 -- In a ring where two chains with bends that end at one point have come to it on one ray, such chains between two points are equal.
 mod SameChains
 -- The last step of a chain with bends along a walk, over the last side that the walk crosses.

@@ -5,3 +5,4 @@ pub mod Funnel
 pub mod OneChain
 pub mod OpenFunnel
 pub mod Passing
+pub mod Touched

@@ -9,7 +9,7 @@ use Rattle.plane.specs.Point.{Point, whole}
 use Rattle.plane.specs.Turn.{determinant}
 use Rattle.rings.specs.Ring.{vertex}
 use Rattle.ring_laws.proofs.Triangles.{on_first_side, on_second_side, on_third_side}
-use Rattle.meshes.proofs.Parts.{inside_off_edges, vertex_on_ring}
+use Rattle.meshes.proofs.Parts.{inside_off_edges, vertex_on_ring, paved}
 use Rattle.meshes.specs.Fits.{FitsPiece, IsInTri, IsStrictlyInTri}
 use Rattle.meshes.specs.Side.{HasSide, tri_at}
 use Rattle.meshes.specs.declared.tri.Tri.{Tri}
@@ -84,7 +84,7 @@ module _ (corners : List Point) (piece : List ℕ) (tris : List Tri) (fits : Fit
                 corner_of_end t.c t.a (inr (inr (refl, refl))) (side t.c t.a x within (inr (inr (refl, refl))) has on)
             | inl third ↦
                 let strictly : IsStrictlyInTri corners t V = record { left_of_first = first; left_of_second = second; left_of_third = third } in
-                absurd (inside_off_edges corners piece tris fits k within V at_V strictly (vertex_on_ring corners piece tris fits x has))
+                absurd (inside_off_edges corners piece tris (paved fits) k within V at_V strictly (vertex_on_ring corners piece x has))
           ]
         ]
       ]

@@ -9,7 +9,7 @@ use Rattle.plane.specs.Turn.{IsLeft}
 use Rattle.rings.specs.Bend.{AreNeighbours, IsBend}
 use Rattle.rings.specs.Orientation.{IsReflex, turn_at}
 use Rattle.rings.specs.Ring.{vertex}
-use Rattle.meshes.proofs.Parts.{one_vertex, side_numbers}
+use Rattle.meshes.proofs.Parts.{one_vertex, side_numbers, paved}
 use Rattle.meshes.proofs.TreeLeaves.{turns_left}
 use Rattle.meshes.specs.Fits.{Fits, IsPieceEdge}
 use Rattle.meshes.specs.Side.{tri_at}
@@ -43,8 +43,8 @@ module _ (corners : List Point) (tris : List Tri) (fits : Fits corners tris) (k 
     number_is : r ≡ v
     number_is =
         let piece = range_with_len 0 (length corners) in
-        let ends = side_numbers corners piece tris fits k v after within (inl corner.1) in
-        one_vertex corners piece tris fits r v (in_range (length corners) r in_ring) ends.0 is
+        let ends = side_numbers corners piece tris (paved fits) k v after within (inl corner.1) in
+        one_vertex corners piece tris (paved fits) r v (in_range (length corners) r in_ring) ends.0 is
 
     -- where the ring goes from one side of the triangle to the other, the turn there is the triangle's
     turn_along : IsPieceEdge (range_with_len 0 (length corners)) before v → IsPieceEdge (range_with_len 0 (length corners)) v after

@@ -9,7 +9,7 @@ use Rattle.plane.specs.Segment.{On}
 use Rattle.rings.proofs.Vertices.{has_edge_at}
 use Rattle.rings.specs.Edge.{HasEdge, edge, edges_of}
 use Rattle.rings.specs.Ring.{origin, vertex}
-use Rattle.meshes.proofs.Parts.{one_vertex, shared_of, vertex_is_end, end_of_side, parted, side_numbers}
+use Rattle.meshes.proofs.Parts.{one_vertex, shared_of, vertex_is_end, end_of_side, parted, side_numbers, paved}
 use Rattle.meshes.proofs.Sides.{edge_or_not, length_points, vertex_of_piece}
 use Rattle.meshes.specs.Fits.{FitsPiece, IsPieceEdge, piece_points}
 use Rattle.meshes.specs.Side.{HasSide, tri_at}
@@ -38,17 +38,17 @@ module _ (corners : List Point) (piece : List ℕ) (tris : List Tri) (fits : Fit
   pub end_of_its_side : (k i j x : ℕ) → k < length tris → HasSide (tri_at tris k) i j → Contains piece x
       → On (whole (vertex corners x)) (whole (vertex corners i)) (whole (vertex corners j)) → (x ≡ i) ⊎ (x ≡ j)
   end_of_its_side k i j x within has contains on =
-      let ends = side_numbers corners piece tris fits k i j within (inl has) in
+      let ends = side_numbers corners piece tris (paved fits) k i j within (inl has) in
       elim (edge_or_not piece i j) [
         | inl outer ↦
             let e = edge (vertex corners i) (vertex corners j) in
-            elim (vertex_is_end corners piece tris fits x contains e (edge_of_piece corners piece i j outer) on) [
-              | inl same ↦ inl (one_vertex corners piece tris fits x i contains ends.0 (sym same))
-              | inr same ↦ inr (one_vertex corners piece tris fits x j contains ends.1 (sym same))
+            elim (vertex_is_end corners piece tris (paved fits) x contains e (edge_of_piece corners piece i j outer) on) [
+              | inl same ↦ inl (one_vertex corners piece tris (paved fits) x i contains ends.0 (sym same))
+              | inr same ↦ inr (one_vertex corners piece tris (paved fits) x j contains ends.1 (sym same))
             ]
         | inr inner ↦
             let (l, two) = fits.inner_sides i j k within has inner in
-            let s = shared_of corners piece tris fits i j k l two in
-            let p = parted corners piece tris fits i j k l s in
-            end_of_side corners piece tris fits i j k l s p.first p.second p.covered x contains on
+            let s = shared_of corners piece tris (paved fits) i j k l two two.in_list two.other_in_list in
+            let p = parted corners piece tris (paved fits) i j k l s in
+            end_of_side corners piece tris (paved fits) i j k l s p.first p.second p.covered x contains on
       ]

@@ -9,7 +9,7 @@ use Rattle.plane.specs.Point.{IsPoint, IsSame, Point, Triple, whole}
 use Rattle.plane.specs.Segment.{On}
 use Rattle.rings.specs.Ring.{vertex}
 use Rattle.meshes.proofs.Joins.{AreEnds}
-use Rattle.meshes.proofs.Parts.{side_in}
+use Rattle.meshes.proofs.Parts.{side_in, paved}
 use Rattle.meshes.proofs.TreeLeaves.{side_is_one}
 use Rattle.meshes.specs.Fits.{Fits}
 use Rattle.meshes.specs.Side.{HasSideBetween, tri_at}
@@ -61,7 +61,7 @@ module _ (corners : List Point) (tris : List Tri) (fits : Fits corners tris) (k 
       let V = vertex corners v in
       let opposite = (corner_before corners tris fits k within true before v after corner).0 in
       let inside = in_angle corners tris fits k within true before v after corner z
-      (side_in corners (range_with_len 0 (length corners)) tris fits k after before within (inl opposite) z at_z side) in
+      (side_in corners (range_with_len 0 (length corners)) tris (paved fits) k after before within (inl opposite) z at_z side) in
       let ray : AreOnRay (whole V) z (whole y) = record {
         first_rational = at_z;
         last_rational = whole_is_point y;

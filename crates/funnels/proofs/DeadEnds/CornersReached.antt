@@ -9,7 +9,7 @@ use Rattle.plane.specs.Point.{Point, whole}
 use Rattle.rings.specs.Ring.{vertex}
 use Rattle.rings.specs.Sees.{Sees}
 use Rattle.meshes.proofs.Joins.{AreEnds, between_back}
-use Rattle.meshes.proofs.Parts.{side_in}
+use Rattle.meshes.proofs.Parts.{side_in, paved}
 use Rattle.meshes.proofs.Sight.{sleeve_law}
 use Rattle.meshes.specs.Fits.{Fits, IsInTri}
 use Rattle.meshes.specs.Laws.{CrossesSide, walk_tri}
@@ -25,8 +25,8 @@ module _ (corners : List Point) (tris : List Tri) (fits : Fits corners tris) whe
   -- the ends of a side are in the triangle: the first,
   pub first_in : (k i j : ℕ) → k < length tris → HasSideBetween (tri_at tris k) i j → IsInTri corners (tri_at tris k) (whole (vertex corners i))
   first_in k i j within has =
-      side_in corners (range_with_len 0 (length corners)) tris fits k i j within has (whole (vertex corners i)) (whole_is_point (vertex corners i))
-      (on_first_end (whole (vertex corners i)) (whole (vertex corners j)))
+      side_in corners (range_with_len 0 (length corners)) tris (paved fits) k i j within has (whole (vertex corners i))
+      (whole_is_point (vertex corners i)) (on_first_end (whole (vertex corners i)) (whole (vertex corners j)))
 
   -- and the last
   pub last_in : (k i j : ℕ) → k < length tris → HasSideBetween (tri_at tris k) i j → IsInTri corners (tri_at tris k) (whole (vertex corners j))

@@ -8,7 +8,7 @@ use Rattle.plane.proofs.Segments.{on_last_end, on_reversed, on_same_point}
 use Rattle.plane.specs.Point.{Point, Triple, whole}
 use Rattle.rings.specs.Ring.{vertex}
 use Rattle.rings.specs.Sees.{Sees}
-use Rattle.meshes.proofs.Parts.{side_in}
+use Rattle.meshes.proofs.Parts.{side_in, paved}
 use Rattle.meshes.specs.Fits.{Fits, IsInTri}
 use Rattle.meshes.specs.Laws.{walk_tri}
 use Rattle.meshes.specs.Side.{IsWalk}
@@ -47,7 +47,8 @@ module _ (corners : List Point) (tris : List Tri) (fits : Fits corners tris) (wa
       (whole_is_point y) (whole_is_point h) inside first.has sees in
       let x = meet.point in
       let all = range_with_len 0 (length corners) in
-      let in_next = side_in corners all tris fits (get_or walk (m + 1) 0) i j (w.in_list (m + 1) c.has_next) c.of_next x meet.rational meet.on_second in (
+      let in_next = side_in corners all tris (paved fits) (get_or walk (m + 1) 0) i j (w.in_list (m + 1) c.has_next) c.of_next x
+      meet.rational meet.on_second in (
         x,
         record {
           inside = subst (λ l. IsInTri corners (walk_tri tris walk l) x) e in_next;
@@ -55,8 +56,8 @@ module _ (corners : List Point) (tris : List Tri) (fits : Fits corners tris) (wa
             first_rational = meet.rational;
             last_rational = whole_is_point y;
             first_differs = λ same. first.least m (omega arith)
-                (side_in corners all tris fits (get_or walk m 0) i j (w.in_list m (omega (arith, c.has_next))) c.of_this (whole h) (whole_is_point h)
-                (on_same_point meet.rational same meet.on_second));
+                (side_in corners all tris (paved fits) (get_or walk m 0) i j (w.in_list m (omega (arith, c.has_next))) c.of_this (whole h)
+                (whole_is_point h) (on_same_point meet.rational same meet.on_second));
             last_differs = λ same. differ (same_whole y h same);
             on_ray = inl (on_reversed x (whole y) (whole h) meet.on_first);
           };

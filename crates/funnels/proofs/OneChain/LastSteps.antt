@@ -9,7 +9,7 @@ use Rattle.plane.specs.Segment.{Meet, On}
 use Rattle.plane.specs.Turn.{IsRight}
 use Rattle.rings.specs.Chain.{point_at}
 use Rattle.rings.specs.Ring.{vertex}
-use Rattle.meshes.proofs.Parts.{side_in}
+use Rattle.meshes.proofs.Parts.{side_in, paved}
 use Rattle.meshes.proofs.TreeLeaves.{next_corner}
 use Rattle.meshes.specs.Fits.{Fits}
 use Rattle.meshes.specs.Laws.{CrossesSide, walk_tri}
@@ -79,8 +79,8 @@ module _ (corners : List Point) (tris : List Tri) (fits : Fits corners tris) (wa
     off_side : ¬ On (whole t) (whole (vertex corners i)) (whole (vertex corners j))
     off_side on =
         ends.least n (omega arith)
-        (side_in corners (range_with_len 0 (length corners)) tris fits (get_or walk n 0) i j (w.in_list n (omega (arith, c.has_next))) c.of_this (whole t)
-        (whole_is_point t) on)
+        (side_in corners (range_with_len 0 (length corners)) tris (paved fits) (get_or walk n 0) i j (w.in_list n (omega (arith, c.has_next))) c.of_this
+        (whole t) (whole_is_point t) on)
 
     pub last_in_list : get_or walk (length walk - 1) 0 < length tris
     last_in_list = w.in_list (length walk - 1) (omega (arith, w.some))

@@ -9,7 +9,7 @@ use Rattle.plane.specs.Segment.{Meet, On}
 use Rattle.rings.specs.Chain.{IsInner, point_at}
 use Rattle.rings.specs.Ring.{vertex}
 use Rattle.rings.specs.Sees.{Sees}
-use Rattle.meshes.proofs.Parts.{side_in}
+use Rattle.meshes.proofs.Parts.{side_in, paved}
 use Rattle.meshes.specs.Fits.{Fits, IsInTri}
 use Rattle.meshes.specs.Laws.{CrossesSide, walk_tri}
 use Rattle.meshes.specs.Side.{IsWalk}
@@ -57,7 +57,8 @@ module _ (corners : List Point) (tris : List Tri) (fits : Fits corners tris) (wa
     -- the points where the two ways pass are in the triangle
     passed_in : (x : Triple) → IsPoint x → On x (whole (vertex corners s.far)) (whole (vertex corners s.own)) → IsInTri corners (walk_tri tris walk n) x
     passed_in x at_x on =
-        side_in corners (range_with_len 0 (length corners)) tris fits (get_or walk n 0) s.far s.own (w.in_list n in_walk) s.crossed.of_this x at_x on
+        side_in corners (range_with_len 0 (length corners)) tris (paved fits) (get_or walk n 0) s.far s.own (w.in_list n in_walk) s.crossed.of_this
+        x at_x on
 
     first_meets : (i j : ℕ) → CrossesSide tris walk m i j → Meet (whole (point_at c s.a)) s.x (whole (vertex corners i)) (whole (vertex corners j))
     first_meets =

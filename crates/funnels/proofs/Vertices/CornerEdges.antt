@@ -11,7 +11,7 @@ use Rattle.rings.specs.Ring.{vertex}
 use Rattle.ring_laws.proofs.Triangles.{end_is_on}
 use Rattle.ring_laws.specs.Diagonal.{IsDiagonal}
 use Rattle.meshes.proofs.Joins.{between_back}
-use Rattle.meshes.proofs.Parts.{one_vertex, ring_apart, ring_long, shared_is_diagonal, shared_of}
+use Rattle.meshes.proofs.Parts.{one_vertex, ring_apart, ring_long, shared_is_diagonal, shared_of, paved}
 use Rattle.meshes.specs.Fits.{FitsPiece, IsSideOfTwo, piece_points}
 use Rattle.meshes.specs.declared.tri.Tri.{Tri}
 use Rattle.ring_laws.proofs.Vertices.{edge_between, neighbours_differ}
@@ -78,13 +78,13 @@ module _ (corners : List Point) (piece : List ℕ) (tris : List Tri) (fits : Fit
       → ¬ (On (whole u) (whole (vertex corners i)) (whole (vertex corners j))
       ⊎ On (whole (vertex corners j)) (whole (vertex corners i)) (whole u))
   off_first k l i j two u n =
-      let s = shared_of corners piece tris fits i j k l two in
+      let s = shared_of corners piece tris (paved fits) i j k l two two.in_list two.other_in_list in
       let ring = piece_points corners piece in
-      let apart = ring_apart corners piece tris fits in
-      let some = ring_long corners piece tris fits k two.in_list in
+      let apart = ring_apart corners piece tris (paved fits) in
+      let some = ring_long corners piece tris (paved fits) in
       let differ : ¬ (vertex corners i ≡ vertex corners j) =
-      λ same. s.differ (one_vertex corners piece tris fits i j s.from_within s.to_within same) in
-      neighbour_off_diagonal ring (vertex corners i) (vertex corners j) (shared_is_diagonal corners piece tris fits i j k l s) differ u n
+      λ same. s.differ (one_vertex corners piece tris (paved fits) i j s.from_within s.to_within same) in
+      neighbour_off_diagonal ring (vertex corners i) (vertex corners j) (shared_is_diagonal corners piece tris (paved fits) i j k l s) differ u n
       (neighbours_differ ring apart some (vertex corners i) u n)
 
   -- so none of an end is on the ray along the side

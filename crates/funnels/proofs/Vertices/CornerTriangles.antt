@@ -11,7 +11,7 @@ use Rattle.rings.specs.Bend.{AreNeighbours}
 use Rattle.rings.specs.Edge.{edges_of}
 use Rattle.rings.specs.Ring.{vertex}
 use Rattle.ring_laws.proofs.Triangles.{left_at_first}
-use Rattle.meshes.proofs.Parts.{inside_off_edges}
+use Rattle.meshes.proofs.Parts.{inside_off_edges, paved}
 use Rattle.meshes.specs.Fits.{FitsPiece, IsStrictlyInTri, piece_points}
 use Rattle.meshes.specs.Side.{HasSide, tri_at}
 use Rattle.meshes.specs.declared.tri.Tri.{Tri}
@@ -52,5 +52,5 @@ module _ (corners : List Point) (piece : List ℕ) (tris : List Tri) (fits : Fit
       let inside = strictly_by_sides corners (tri_at tris k) left_turn j i m last next y
       (left_toward J I I U (determinant_same_last J I) (turned_positive (determinant_swap_first I J U) right) s)
       (left_toward I M I U (determinant_same_ends I M) left s) (near.from_start s (le_refl s)) in
-      inside_off_edges corners piece tris fits k within y (toward_is_point I U at_I at_U s) inside
+      inside_off_edges corners piece tris (paved fits) k within y (toward_is_point I U at_I at_U s) inside
       (on_some_of y e (edges_of (piece_points corners piece)) between.has (between.on y (toward_on I U at_I at_U s)))
