@@ -1,6 +1,9 @@
 mod AllReached
-mod NeighbourRows
 pub mod Neighbours
 pub mod Numbers
+mod RowPairs
+mod RowSteps
+mod RowsFilled
 mod SearchSteps
-mod SideMaps
+mod SideLists
+mod SideOrder

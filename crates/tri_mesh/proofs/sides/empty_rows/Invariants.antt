@@ -1,0 +1,6 @@
+use Rattle.std.proofs.Common.{◌≡◌, replicate}
+use Rattle.tri_mesh.proofs.sides.empty_rows.Given as goal
+use Rattle.tri_mesh.specs.Neighbours.{empty_row}
+
+abbrev pub invariant-loop : goal.invariant-loop
+invariant-loop l = l.rows.items ≡ replicate l.counter empty_row
