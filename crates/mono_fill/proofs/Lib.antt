@@ -1,0 +1,7 @@
+mod Bends
+mod Fans
+mod Fillings
+mod Outlines
+mod Stages
+mod Sums
+mod Turns

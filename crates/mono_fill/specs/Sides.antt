@@ -1,0 +1,31 @@
+-- The two chains of a monotone piece, and triangles along one of them. No public clause cites this module. This project's own.
+use Rattle.std.specs.Prelude.{ℕ, List, [], ◌∷◌}
+use Rattle.plane.specs.Point.{Point, whole}
+use Rattle.plane.specs.Turn.{IsLeft}
+use Rattle.rings.specs.Ring.{vertex}
+use Rattle.meshes.specs.declared.tri.Tri.{Tri}
+use Rattle.mono_fill.specs.declared.side.Side.{Side}
+use Rattle.mono_fill.specs.declared.side.Side.TheVariants.{Lower, Upper}
+
+abbrev pub opposite : Side → Side
+opposite Lower = Upper
+opposite Upper = Lower
+
+-- the triangle of vertices p and q of a chain, p before q, and a later vertex x
+abbrev pub triangle : Side → ℕ → ℕ → ℕ → Tri
+triangle Lower p q x = record { a = p; b = q; c = x }
+triangle Upper p q x = record { a = q; b = p; c = x }
+
+-- the triangles of x and each two neighbours of a list, p and the items behind it
+abbrev pub fan_from : Side → ℕ → ℕ → List ℕ → List Tri
+fan_from side x p [] = []
+fan_from side x p (q ∷ qs) = triangle side p q x ∷ fan_from side x q qs
+
+-- of a list
+abbrev pub fan : Side → ℕ → List ℕ → List Tri
+fan side x [] = []
+fan side x (p ∷ ps) = fan_from side x p ps
+
+-- the corners of the triangle run counterclockwise
+abbrev pub IsCounterclockwiseTri : List Point → Tri → Type 0
+IsCounterclockwiseTri corners t = IsLeft (whole (vertex corners t.a)) (whole (vertex corners t.b)) (whole (vertex corners t.c))

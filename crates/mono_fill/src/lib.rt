@@ -1,0 +1,11 @@
+//! Triangles of a monotone piece of a polygon, with one stack.
+#![tactic(auto)]
+
+mod chains;
+mod filling;
+mod side;
+mod stack;
+#[cfg(test)]
+mod tests;
+
+pub use filling::fill;
