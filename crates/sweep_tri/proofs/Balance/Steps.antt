@@ -1,0 +1,158 @@
+-- The balance before the next event, from that before this one, by what the sums gain.
+use Rattle.std.proofs.Common.{◌≡◌, inl, inr, refl, sym, ap, subst, ◌∙◌, ℕ, ◌+◌, ◌<◌, ◌≤◌, ℤ, pos, negsuc, ◌+ℤ◌, ◌-ℤ◌, ◌*ℤ◌, neg_ℤ, List, [], length}
+use Rattle.std.proofs.Common.{arith}
+use Rattle.std.proofs.lemmas.Int.{ints}
+use Rattle.std.specs.Prelude.{slice_index}
+use Rattle.integer_algebra.proofs.Laws.{mul-neg, neg-mul}
+use Rattle.plane.specs.Point.{Point}
+use Rattle.rings.specs.Events.{AreEvents, first_rank, next}
+use Rattle.meshes.specs.Boundary.{IsOdd, sum_sides}
+use Rattle.meshes.specs.declared.tri.Tri.{Tri}
+use Rattle.sweep_tri.proofs.Balance.EdgeSums.{sums_none}
+use Rattle.sweep_tri.proofs.Balance.Signs.{AreBeside, IsUnit, after, before, before_differs, before_is_edge, begins_at, edge_before, event}
+use Rattle.sweep_tri.proofs.Balance.Signs.{event_below, next_begins, placed, placed_other, placed_same, previous_begins, signs_after, sums_placed}
+use Rattle.sweep_tri.specs.Sums.{AreBalanced, sum_gaps}
+use Rattle.sweep_tri.specs.declared.gap.Gap.{Gap}
+
+-- the sum over the triangles and the open regions
+abbrev pub total : (ℕ → ℕ → ℤ) → List Gap → List Tri → ℤ
+total φ gaps tris = sum_sides φ tris +ℤ sum_gaps φ gaps
+
+-- before the first event there is nothing, and no edge has begun
+pub balanced_at_start : (ranks : List ℕ) → AreBalanced ranks 0 [] []
+balanced_at_start ranks = record {
+  signs = λ e. pos 0;
+  are_signs = record { begun = λ e h before. absurd (omega (arith, before)); to_come = λ e h from. refl };
+  balance = λ φ odd. sym (sums_none φ (length ranks) (length ranks));
+}
+
+-- the sums gain this from one state to the next
+abbrev pub Gains : List Gap → List Tri → List Gap → List Tri → ((ℕ → ℕ → ℤ) → ℤ) → Type 0
+Gains gaps tris others more gain = (φ : ℕ → ℕ → ℤ) → IsOdd φ → total φ others more ≡ total φ gaps tris +ℤ gain φ
+
+opposite_unit : (s : ℤ) → IsUnit s → IsUnit (neg_ℤ s)
+opposite_unit s (inl is) = inr (omega (arith, ints))
+opposite_unit s (inr is) = inl (omega (arith, ints))
+
+-- a value and its opposite, with opposite signs
+turned : (s x y : ℤ) → y ≡ neg_ℤ x → neg_ℤ s *ℤ y ≡ s *ℤ x
+turned s x y is = omega (arith, ints, ap (λ z. neg_ℤ s *ℤ z) is, mul-neg (neg_ℤ s) x, neg-mul s x)
+
+module _ (corners : List Point) (order ranks : List ℕ) (are : AreEvents corners order ranks) (three : 3 ≤ length corners)
+    (k : ℕ) (within : k < length corners) (gaps others : List Gap) (tris more : List Tri) (balanced : AreBalanced ranks k gaps tris) where
+  abbrev v : ℕ
+  v = event corners order ranks are three k within
+
+  abbrev a : ℕ
+  a = before corners order ranks are three k within
+
+  abbrev b : ℕ
+  b = after corners order ranks are three k within
+
+  -- where no edge begins, the sums stay
+  pub none_begins : slice_index ranks a ≤ k → slice_index ranks b ≤ k → Gains gaps tris others more (λ φ. pos 0)
+      → AreBalanced ranks (k + 1) others more
+  none_begins not_a not_b gains = record {
+    signs = balanced.signs;
+    are_signs =
+        signs_after corners order ranks are three k within balanced.signs balanced.signs balanced.are_signs (λ e h other. refl)
+        (λ e h is. elim (begins_at corners order ranks are three k within e h is) [
+          | inl r ↦ absurd (omega (arith, r.1, not_b))
+          | inr r ↦ absurd (omega (arith, r.1, not_a))
+        ]);
+    balance = λ φ odd. omega (arith, ints, gains φ odd, balanced.balance φ odd);
+  }
+
+  -- where one does, they gain its value, with a sign
+  one_edge : (e : ℕ) → e < length ranks → first_rank ranks e ≡ k → ((d : ℕ) → d < length ranks → first_rank ranks d ≡ k → d ≡ e) → (s : ℤ) → IsUnit s
+      → Gains gaps tris others more (λ φ. s *ℤ φ e (next (length ranks) e)) → AreBalanced ranks (k + 1) others more
+  one_edge e h begins only s unit gains =
+      let signs = placed balanced.signs e s in
+      record {
+        signs = signs;
+        are_signs =
+            signs_after corners order ranks are three k within balanced.signs signs balanced.are_signs
+            (λ d below other. placed_other balanced.signs e s d (λ is. other (ap (first_rank ranks) is ∙ begins)))
+            (λ d below is. subst IsUnit (sym (ap signs (only d below is) ∙ placed_same balanced.signs e s)) unit);
+        balance = λ φ odd.
+            let none = balanced.are_signs.to_come e h (omega (arith, begins)) in
+            omega (arith, ints, gains φ odd, balanced.balance φ odd, sums_placed φ (length ranks) balanced.signs e s none (length ranks) h);
+      }
+
+  -- that to the later of the vertices beside it
+  pub one_begins : (w u : ℕ) → AreBeside (length ranks) v w u → k < slice_index ranks w → slice_index ranks u ≤ k → (s : ℤ) → IsUnit s
+      → Gains gaps tris others more (λ φ. s *ℤ φ v w) → AreBalanced ranks (k + 1) others more
+  one_begins w u (inl (is_before, is_after)) later not s unit gains =
+      let beyond : k < slice_index ranks a = omega (arith, later, ap (slice_index ranks) is_before) in
+      let none : slice_index ranks b ≤ k = omega (arith, not, ap (slice_index ranks) is_after) in
+      one_edge a (before_is_edge corners order ranks are three k within) (previous_begins corners order ranks are three k within beyond)
+      (only_before none) (neg_ℤ s) (opposite_unit s unit)
+      (λ φ odd.
+      let back : φ a (next (length ranks) a) ≡ neg_ℤ (φ v w) =
+      ap (φ a) (edge_before corners order ranks are three k within) ∙ odd v a ∙ ap (λ i. neg_ℤ (φ v i)) (sym is_before) in
+      omega (arith, ints, gains φ odd, turned s (φ v w) (φ a (next (length ranks) a)) back))
+    where
+      only_before : slice_index ranks b ≤ k → (d : ℕ) → d < length ranks → first_rank ranks d ≡ k → d ≡ a
+      only_before none d below is = elim (begins_at corners order ranks are three k within d below is) [
+        | inl r ↦ absurd (omega (arith, r.1, none))
+        | inr r ↦ r.0
+      ]
+  one_begins w u (inr (is_after, is_before)) later not s unit gains =
+      let beyond : k < slice_index ranks b = omega (arith, later, ap (slice_index ranks) is_after) in
+      let none : slice_index ranks a ≤ k = omega (arith, not, ap (slice_index ranks) is_before) in
+      one_edge v (event_below corners order ranks are three k within) (next_begins corners order ranks are three k within beyond)
+      (only_after none) s unit
+      (λ φ odd. omega (arith, ints, gains φ odd, ap (λ i. s *ℤ φ v i) is_after))
+    where
+      only_after : slice_index ranks a ≤ k → (d : ℕ) → d < length ranks → first_rank ranks d ≡ k → d ≡ v
+      only_after none d below is = elim (begins_at corners order ranks are three k within d below is) [
+        | inl r ↦ r.0
+        | inr r ↦ absurd (omega (arith, r.1, none))
+      ]
+
+  -- where two do, one of them comes with the opposite sign of the other, as it is read from v
+  two_edges : k < slice_index ranks a → k < slice_index ranks b → (s : ℤ) → IsUnit s
+      → Gains gaps tris others more (λ φ. s *ℤ φ v b +ℤ s *ℤ φ a v) → AreBalanced ranks (k + 1) others more
+  two_edges later_a later_b s unit gains =
+      let one = placed balanced.signs v s in
+      let signs = placed one a s in
+      let a_edge = before_is_edge corners order ranks are three k within in
+      let v_edge = event_below corners order ranks are three k within in
+      let a_begins = previous_begins corners order ranks are three k within later_a in
+      let v_begins = next_begins corners order ranks are three k within later_b in
+      let differ = before_differs corners order ranks are three k within in
+      let at_a : signs a ≡ s = placed_same one a s in
+      let at_v : signs v ≡ s = placed_other one a s v (λ is. differ (sym is)) ∙ placed_same balanced.signs v s in
+      record {
+        signs = signs;
+        are_signs =
+            signs_after corners order ranks are three k within balanced.signs signs balanced.are_signs
+            (λ d below other.
+            placed_other one a s d (λ is. other (ap (first_rank ranks) is ∙ a_begins))
+            ∙ placed_other balanced.signs v s d (λ is. other (ap (first_rank ranks) is ∙ v_begins)))
+            (λ d below is. elim (begins_at corners order ranks are three k within d below is) [
+              | inl r ↦ subst IsUnit (sym (ap signs r.0 ∙ at_v)) unit
+              | inr r ↦ subst IsUnit (sym (ap signs r.0 ∙ at_a)) unit
+            ]);
+        balance = λ φ odd.
+            let none_v = balanced.are_signs.to_come v v_edge (omega (arith, v_begins)) in
+            let none_a = placed_other balanced.signs v s a differ ∙ balanced.are_signs.to_come a a_edge (omega (arith, a_begins)) in
+            let to = ap (λ i. s *ℤ φ a i) (edge_before corners order ranks are three k within) in
+            let with_v = sums_placed φ (length ranks) balanced.signs v s none_v (length ranks) v_edge in
+            let with_a = sums_placed φ (length ranks) one a s none_a (length ranks) a_edge in
+            omega (arith, ints, gains φ odd, balanced.balance φ odd, to, with_v, with_a);
+      }
+
+  -- those to both vertices beside it
+  pub two_begin : (w u : ℕ) → AreBeside (length ranks) v w u → k < slice_index ranks w → k < slice_index ranks u
+      → Gains gaps tris others more (λ φ. φ v w -ℤ φ v u) → AreBalanced ranks (k + 1) others more
+  two_begin w u (inl (is_before, is_after)) later_w later_u gains =
+      let later_a : k < slice_index ranks a = omega (arith, later_w, ap (slice_index ranks) is_before) in
+      let later_b : k < slice_index ranks b = omega (arith, later_u, ap (slice_index ranks) is_after) in
+      two_edges later_a later_b (negsuc 0) (inr refl)
+      (λ φ odd. omega (arith, ints, gains φ odd, ap (φ v) is_before, ap (φ v) is_after, odd v a))
+  two_begin w u (inr (is_after, is_before)) later_w later_u gains =
+      let later_a : k < slice_index ranks a = omega (arith, later_u, ap (slice_index ranks) is_before) in
+      let later_b : k < slice_index ranks b = omega (arith, later_w, ap (slice_index ranks) is_after) in
+      two_edges later_a later_b (pos 1) (inl refl)
+      (λ φ odd. omega (arith, ints, gains φ odd, ap (φ v) is_before, ap (φ v) is_after, odd v a))

@@ -1,0 +1,134 @@
+-- The edges that the sweep line meets after an event: those that end at its vertex give way to those that begin there.
+use Rattle.std.proofs.Common.{◌≡◌, inl, inr, refl, sym, ap, subst, ◌∙◌, ℕ, ◌+◌, ◌-◌, ◌<◌, ◌≤◌, List, length, arith}
+use Rattle.std.proofs.lemmas.Bool.{cases_lt}
+use Rattle.std.specs.Prelude.{slice_index}
+use Rattle.plane.specs.Point.{Point}
+use Rattle.rings.specs.Below.{IsBelow}
+use Rattle.rings.specs.Events.{AreEvents}
+use Rattle.rings.specs.Simple.{IsSimple}
+use Rattle.sweep_tri.proofs.Fronts.Beginning.{AreBegun}
+use Rattle.sweep_tri.proofs.Fronts.Beside.{rank_is_one}
+use Rattle.sweep_tri.proofs.Fronts.Entered.{entered_above, entered_below, goes_on}
+use Rattle.sweep_tri.proofs.Fronts.Met.{IsFront, ends_about}
+use Rattle.sweep_tri.proofs.Fronts.Parted.{IsParted}
+use Rattle.sweep_tri.proofs.Fronts.Sides.{above_no_end, under_no_end}
+use Rattle.sweep_tri.proofs.Fronts.Spliced.{IsSpliced}
+use Rattle.sweep_tri.specs.Frontier.{IsFrontier, IsMet, front_at, upward}
+use Rattle.sweep_tri.specs.Gaps.{Front, front_edge}
+
+module _ (corners : List Point) (order ranks : List ℕ) (are : AreEvents corners order ranks) (three : 3 ≤ length corners) (simple : IsSimple corners)
+    (k v : ℕ) (hv : v < length ranks) (rank_v : slice_index ranks v ≡ k) where
+  module _ (old new put : List Front) (first count : ℕ) (frontier : IsFrontier corners ranks k old) (parted : IsParted corners old v first count)
+      (begun : AreBegun corners ranks k v put) (splice : IsSpliced old new first count put) where
+    -- where an edge was before
+    data Origin (i : ℕ) : Type 0 where
+      before : i < first → front_at new i ≡ front_at old i → Origin i
+      between : (m : ℕ) → m < length put → i ≡ first + m → front_at new i ≡ front_at put m → Origin i
+      after : (m : ℕ) → first + count ≤ m → m < length old → i + count ≡ m + length put → front_at new i ≡ front_at old m → Origin i
+
+    origin : (i : ℕ) → i < length new → Origin i
+    origin i h =
+        let size = splice.size in
+        let inside = splice.inside in
+        elim (cases_lt i first) [
+          | inl less ↦ before less (splice.kept i less)
+          | inr not ↦ elim (cases_lt i (first + length put)) [
+            | inl less ↦
+                let m : ℕ = i - first in
+                let is : i ≡ first + m = omega (arith, not) in
+                between m (omega (arith, not, less)) is (ap (front_at new) is ∙ splice.at_place m (omega (arith, not, less)))
+            | inr late ↦
+                let m : ℕ = i - (first + length put) in
+                let is : i ≡ first + length put + m = omega (arith, late) in
+                after (first + count + m) (omega arith) (omega (arith, size, h, is)) (omega (arith, is))
+                (ap (front_at new) is ∙ splice.moved m (omega (arith, size, h, is)))
+          ]
+        ]
+
+    -- edges that v is above, or under
+    front_before : (i : ℕ) → i < first → IsFront ranks k (front_at old i)
+    front_before i h = let inside = parted.inside in frontier.edges i (omega (arith, h, inside))
+
+    goes_before : (i : ℕ) → i < first → ¬ ((front_at old i).to ≡ v)
+    goes_before i h = above_no_end corners (front_at old i) v (parted.above_first i h)
+
+    goes_after : (i : ℕ) → first + count ≤ i → i < length old → ¬ ((front_at old i).to ≡ v)
+    goes_after i late h = under_no_end corners (front_at old i) v (parted.under_rest i late h)
+
+    edges : (i : ℕ) → Origin i → IsFront ranks (k + 1) (front_at new i)
+    edges i (before h is) =
+        subst (IsFront ranks (k + 1)) (sym is)
+        (goes_on corners order ranks are three k v hv rank_v (front_at old i) (front_before i h) (goes_before i h))
+    edges i (between m h at is) = subst (IsFront ranks (k + 1)) (sym is) (begun.edges m h).0
+    edges i (after m late h at is) =
+        subst (IsFront ranks (k + 1)) (sym is)
+        (goes_on corners order ranks are three k v hv rank_v (front_at old m) (frontier.edges m h) (goes_after m late h))
+
+    -- two edges in their order
+    two_in_order : (i j : ℕ) (f g : Front) → front_at new i ≡ f → front_at new j ≡ g → IsBelow (front_edge corners f) (front_edge corners g)
+        → IsBelow (front_edge corners (front_at new i)) (front_edge corners (front_at new j))
+    two_in_order i j f g is_f is_g h = rw (is_f, is_g) h
+
+    in_order : (i j : ℕ) → i < j → Origin i → Origin j → IsBelow (front_edge corners (front_at new i)) (front_edge corners (front_at new j))
+    in_order i j less (before hi is_i) (before hj is_j) =
+        let inside = parted.inside in two_in_order i j _ _ is_i is_j (frontier.ordered i j less (omega (arith, hj, inside)))
+    in_order i j less (before hi is_i) (between n hn at_j is_j) =
+        let b = begun.edges n hn in
+        two_in_order i j _ _ is_i is_j
+        (entered_above corners order ranks are three simple k v hv rank_v (front_at old i) (front_at put n)
+        (front_before i hi) (goes_before i hi) b.0 b.1 (parted.above_first i hi))
+    in_order i j less (before hi is_i) (after n late hn at_j is_j) =
+        two_in_order i j _ _ is_i is_j (frontier.ordered i n (omega (arith, hi, late)) hn)
+    in_order i j less (between m hm at_i is_i) (before hj is_j) = absurd (omega (arith, less, at_i, hj))
+    in_order i j less (between m hm at_i is_i) (between n hn at_j is_j) =
+        two_in_order i j _ _ is_i is_j (begun.ordered m n (omega (arith, less, at_i, at_j)) hn)
+    in_order i j less (between m hm at_i is_i) (after n late hn at_j is_j) =
+        let b = begun.edges m hm in
+        two_in_order i j _ _ is_i is_j
+        (entered_below corners order ranks are three simple k v hv rank_v (front_at old n) (front_at put m)
+        (frontier.edges n hn) (goes_after n late hn) b.0 b.1 (parted.under_rest n late hn))
+    in_order i j less (after m late_m hm at_i is_i) (before hj is_j) = absurd (omega (arith, less, late_m, at_i, hj))
+    in_order i j less (after m late_m hm at_i is_i) (between n hn at_j is_j) = absurd (omega (arith, less, late_m, at_i, hn, at_j))
+    in_order i j less (after m late_m hm at_i is_i) (after n late hn at_j is_j) =
+        two_in_order i j _ _ is_i is_j (frontier.ordered m n (omega (arith, less, at_i, at_j)) hn)
+
+    -- each edge is there
+    all : (e : ℕ) → IsMet ranks (k + 1) e → (i : ℕ) × (i < length new) × (front_at new i ≡ upward ranks e)
+    all e met =
+        let size = splice.size in
+        let inside = parted.inside in
+        let started = met.begun in
+        let to_come = met.to_come in
+        elim (cases_lt (slice_index ranks (upward ranks e).from) k) [
+          | inl less ↦
+              let (m, h, is) = frontier.all e (record { is_edge = met.is_edge; begun = less; to_come = omega (arith, to_come) }) in
+              elim (cases_lt m first) [
+                | inl soon ↦ (m, omega (arith, soon, size, inside), splice.kept m soon ∙ is)
+                | inr not ↦ elim (cases_lt m (first + count)) [
+                  | inl ending ↦
+                      let to = parted.ends_next m not ending in
+                      absurd (omega (arith, to_come, rank_v, ap (slice_index ranks) (ap (λ (f : Front). f.to) (sym is) ∙ to)))
+                  | inr late ↦
+                      let d : ℕ = m - (first + count) in
+                      let at : first + count + d ≡ m = omega (arith, late) in (
+                        first + length put + d,
+                        omega (arith, size, h, at),
+                        splice.moved d (omega (arith, h, at)) ∙ ap (front_at old) at ∙ is,
+                      )
+                ]
+              ]
+          | inr not ↦
+              let starts : (upward ranks e).from ≡ v =
+              rank_is_one corners order ranks are three (upward ranks e).from v
+              (ends_about corners order ranks are three (k + 1) (upward ranks e) (e, met, refl)).from_below hv
+              (omega (arith, not, started, rank_v)) in
+              let (m, h, is) = begun.all e met starts in
+              (first + m, omega (arith, h, size, inside), splice.at_place m h ∙ is)
+        ]
+
+    pub passed : IsFrontier corners ranks (k + 1) new
+    passed = record {
+      edges = λ i h. edges i (origin i h);
+      all = all;
+      ordered = λ i j less h. in_order i j less (origin i (omega (arith, less, h))) (origin j h);
+    }

@@ -1,0 +1,32 @@
+-- The state of a sweep before the next event, from that before this one, by the kind of the event.
+
+-- What holds at an event.
+mod AtEvent
+pub use Rattle.sweep_tri.proofs.Swept.AtEvent.{IsAtEvent, both_turn, event_below, event_rank}
+-- The gaps of a list after an edit.
+mod Lists
+-- Gaps that stay open, since neither edge ends at the event.
+mod Kept
+-- Triangles that fit closed regions are triangles of the ring.
+mod Triangles
+-- The edges of the gaps that an event leaves.
+mod Edges
+-- Two edges begin: a gap starts, or is split.
+mod Starts
+pub use Rattle.sweep_tri.proofs.Swept.Starts.{swept_starts}
+mod Splits
+pub use Rattle.sweep_tri.proofs.Swept.Splits.{split_has_gap, swept_splits}
+-- One edge goes on in another: the edge below a gap, or the one above it.
+mod Follows
+pub use Rattle.sweep_tri.proofs.Swept.Follows.{low_closes, swept_follows_low, swept_follows_up, up_closes, up_has_gap}
+-- Two edges end: those of one gap, or those between two gaps.
+mod Ends
+pub use Rattle.sweep_tri.proofs.Swept.Ends.{end_closes, end_has_gap, swept_ends}
+mod Merges
+pub use Rattle.sweep_tri.proofs.Swept.Merges.{merge_closes_above, merge_closes_below, merge_some, swept_merges}
+-- Before the first event, and after the last one.
+mod Bounds
+pub use Rattle.sweep_tri.proofs.Swept.Bounds.{swept_at_end, swept_at_start}
+-- What the search and the regions of a gap need of the state.
+mod Reads
+pub use Rattle.sweep_tri.proofs.Swept.Reads.{gap_high_region, gap_low_region, swept_sorted}

@@ -1,0 +1,45 @@
+use Rattle.std.proofs.Common.{refl, sym, ◌∙◌, ◌+◌}
+use Rattle.std.proofs.lemmas.Bool.{false≢true}
+use Rattle.std.specs.Prelude.{slice_index}
+use Rattle.sweep_tri.proofs.Passes.{above_closes, above_inside, below_closes, low_some, on_ok_both, swept_of_above, swept_of_below, swept_same}
+use Rattle.sweep_tri.proofs.event.Sweep.go_on.Goals as goal
+
+pub low_ends-requires : goal.low_ends-requires
+low_ends-requires g c = record { some = λ inside. low_some c.requires.next c.args.j inside }
+
+pub go_on_below-requires-clause-place : goal.go_on_below-requires-clause-place
+go_on_below-requires-clause-place g c = (c.low_ends.ensures.ends.0 c.if-low_ends.true).0
+
+pub go_on_below-requires-clause-closed : goal.go_on_below-requires-clause-closed
+go_on_below-requires-clause-closed g c =
+    let ends = c.low_ends.ensures.ends.0 c.if-low_ends.true in
+    below_closes c.requires.next c.args.j c.requires.place c.args.w c.requires.goes_on ends.0 ends.1
+
+pub overflow_sub-j : goal.overflow_sub-j
+overflow_sub-j g c =
+    (above_inside c.requires.next c.args.j c.requires.place c.args.w c.requires.goes_on
+    (λ ends. false≢true (sym c.if-low_ends.false ∙ c.low_ends.ensures.ends.1 ends))).0
+
+pub go_on_above-requires-clause-place : goal.go_on_above-requires-clause-place
+go_on_above-requires-clause-place g c =
+    (above_inside c.requires.next c.args.j c.requires.place c.args.w c.requires.goes_on
+    (λ ends. false≢true (sym c.if-low_ends.false ∙ c.low_ends.ensures.ends.1 ends))).1
+
+pub go_on_above-requires-clause-closed : goal.go_on_above-requires-clause-closed
+go_on_above-requires-clause-closed g c =
+    above_closes c.requires.next c.args.j c.requires.place c.args.w c.requires.goes_on
+    (λ ends. false≢true (sym c.if-low_ends.false ∙ c.low_ends.ensures.ends.1 ends))
+
+pub returns-then-low_ends-clause-swept : goal.returns-then-low_ends-clause-swept
+returns-then-low_ends-clause-swept g c =
+    let ends = c.low_ends.ensures.ends.0 c.if-low_ends.true in
+    on_ok_both c.go_on_below.result c.go_on_below.ensures.gaps c.go_on_below.ensures.filled
+    (λ is filled. swept_same (g.T.Turns.corners c.args.board.now) c.args.rank.now (slice_index c.args.rank.now c.args.v + 1) is refl
+    (swept_of_below c.requires.next c.args.j c.requires.place c.args.w c.requires.goes_on ends.0 ends.1 c.go_on_below.new.self.tris.items filled))
+
+pub returns-else-low_ends-clause-swept : goal.returns-else-low_ends-clause-swept
+returns-else-low_ends-clause-swept g c =
+    on_ok_both c.go_on_above.result c.go_on_above.ensures.gaps c.go_on_above.ensures.filled
+    (λ is filled. swept_same (g.T.Turns.corners c.args.board.now) c.args.rank.now (slice_index c.args.rank.now c.args.v + 1) is refl
+    (swept_of_above c.requires.next c.args.j c.requires.place c.args.w c.requires.goes_on
+    (λ ends. false≢true (sym c.if-low_ends.false ∙ c.low_ends.ensures.ends.1 ends)) c.go_on_above.new.self.tris.items filled))

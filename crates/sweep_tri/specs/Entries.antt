@@ -1,0 +1,32 @@
+-- How many entries the chains of regions have in all: what bounds the work to close them. No public clause cites this module.
+use Rattle.std.specs.Prelude.{ℕ, ◌+◌, ◌*◌, Option, Some, None, List, [], ◌∷◌, length}
+use Rattle.shared_seq.specs.Digits.{binary_digits}
+use Rattle.sweep_tri.specs.Region.{Chains}
+use Rattle.sweep_tri.specs.declared.gap.Gap.{Gap}
+
+-- of one region
+abbrev pub entries : Chains → ℕ
+entries c = length c.lower + length c.upper
+
+-- of some
+abbrev pub entries_of_all : List Chains → ℕ
+entries_of_all [] = 0
+entries_of_all (c ∷ cs) = entries c + entries_of_all cs
+
+-- of a region that may be there
+abbrev pub entries_if : Option Chains → ℕ
+entries_if None = 0
+entries_if (Some c) = entries c
+
+-- of a gap
+abbrev pub gap_entries : Gap → ℕ
+gap_entries g = entries g.low + entries_if g.high
+
+-- of a list of gaps
+abbrev pub status_entries : List Gap → ℕ
+status_entries [] = 0
+status_entries (g ∷ gs) = gap_entries g + status_entries gs
+
+-- the steps that one event takes at most, but for the place of its vertex and for the entries of the regions that it closes
+abbrev pub event_work : List Gap → ℕ
+event_work gaps = 46 * binary_digits (length gaps + 1) + 100

@@ -1,0 +1,71 @@
+-- What an event does to the gaps beside it. This project's own. No public clause cites this module.
+use Rattle.std.specs.Prelude.{◌≡◌, ℕ, ◌-◌, nat_lt, if◌then◌else◌, Option, Some, None, List, [], ◌∷◌, ◌++◌, length, slice_index, take}
+use Rattle.plane.specs.Point.{Point}
+use Rattle.mono_fill.specs.Filled.{IsFilled}
+use Rattle.meshes.specs.declared.tri.Tri.{Tri}
+use Rattle.sweep_tri.specs.Gaps.{before_last, last}
+use Rattle.sweep_tri.specs.Region.{Chains, boundary}
+use Rattle.sweep_tri.specs.declared.gap.Gap.{Gap}
+
+-- a region with another vertex at the end of its lower chain, or of its upper one
+abbrev pub with_lower : Chains → ℕ → Chains
+with_lower c v = record { lower = c.lower ++ v ∷ []; upper = c.upper }
+
+abbrev pub with_upper : Chains → ℕ → Chains
+with_upper c v = record { lower = c.lower; upper = c.upper ++ v ∷ [] }
+
+-- where the lower edge of a gap ends at v: of two regions the low one is closed by a diagonal from the merge vertex to v
+abbrev pub closed_below : Chains → Option Chains → ℕ → List Chains
+closed_below low None v = []
+closed_below low (Some high) v = with_upper low v ∷ []
+
+-- and this one stays open
+abbrev pub left_above : Chains → Option Chains → ℕ → Chains
+left_above low None v = low
+left_above low (Some high) v = with_lower high v
+
+-- where the upper edge ends at v: the high one is closed,
+abbrev pub closed_above : Chains → Option Chains → ℕ → List Chains
+closed_above low None v = []
+closed_above low (Some high) v = with_lower high v ∷ []
+
+-- and the low one stays open
+abbrev pub left_below : Chains → Option Chains → ℕ → Chains
+left_below low None v = low
+left_below low (Some high) v = with_upper low v
+
+-- the gap of one region
+abbrev pub gap_of : Chains → Gap
+gap_of region = record { low = region; high = None }
+
+-- a split at vertex v, from where edges go to a and, above it, to b: of one region the diagonal comes from the later of the
+-- vertices where the edges below and above begin
+abbrev pub below_latest : List ℕ → Chains → ℕ → ℕ → Chains
+below_latest ranks c v a =
+    if nat_lt (slice_index ranks (before_last c.upper)) (slice_index ranks (before_last c.lower))
+    then record { lower = before_last c.lower ∷ last c.lower ∷ []; upper = before_last c.lower ∷ v ∷ a ∷ [] }
+    else record { lower = c.lower; upper = take (length c.upper - 1) c.upper ++ v ∷ a ∷ [] }
+
+abbrev pub above_latest : List ℕ → Chains → ℕ → ℕ → Chains
+above_latest ranks c v b =
+    if nat_lt (slice_index ranks (before_last c.upper)) (slice_index ranks (before_last c.lower))
+    then record { lower = take (length c.lower - 1) c.lower ++ v ∷ b ∷ []; upper = c.upper }
+    else record { lower = before_last c.upper ∷ v ∷ b ∷ []; upper = before_last c.upper ∷ last c.upper ∷ [] }
+
+-- the region below the split vertex, and the one above it
+abbrev pub split_below : List ℕ → Chains → Option Chains → ℕ → ℕ → Chains
+split_below ranks low None v a = below_latest ranks low v a
+split_below ranks low (Some high) v a = record { lower = low.lower; upper = low.upper ++ v ∷ a ∷ [] }
+
+abbrev pub split_above : List ℕ → Chains → Option Chains → ℕ → ℕ → Chains
+split_above ranks low None v b = above_latest ranks low v b
+split_above ranks low (Some high) v b = record { lower = high.lower ++ v ∷ b ∷ []; upper = high.upper }
+
+-- a region at the vertex v where it begins, with edges to a and, above it, to b
+abbrev pub region_from : ℕ → ℕ → ℕ → Chains
+region_from v a b = record { lower = v ∷ a ∷ []; upper = v ∷ b ∷ [] }
+
+-- triangles that fit the closed regions come after those that were there
+abbrev pub AreFilled : List Point → List Chains → List Tri → List Tri → Type 0
+AreFilled corners [] old new = new ≡ old
+AreFilled corners (c ∷ cs) old new = (between : List Tri) × IsFilled corners (boundary c) old between × AreFilled corners cs between new

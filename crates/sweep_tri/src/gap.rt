@@ -1,0 +1,361 @@
+// The open regions between two edges that the sweep line meets.
+ghost use Rattle.std.specs.Prelude.{◌≡◌, ◌+◌, ◌*◌, ◌-◌, ◌≤◌, ◌<◌, IfOk, OnOk, None, Some, [], ◌∷◌, ◌++◌, length, take};
+ghost use Rattle.std.specs.List.{All};
+ghost use Rattle.mono_fill.specs.Filled.{IsFilled};
+ghost use Rattle.sweep_tri.specs.Entries.{entries, entries_of_all};
+ghost use Rattle.sweep_tri.specs.Gaps.{before_last, highest, last, low_front, no_gap, up_front};
+ghost use Rattle.sweep_tri.specs.Meeting.{AreFilled, above_latest, below_latest, closed_above, closed_below, gap_of, left_above, left_below, region_from, split_above, split_below, with_lower, with_upper};
+ghost use Rattle.sweep_tri.specs.Ranked.{IsRanked};
+ghost use Rattle.sweep_tri.specs.Region.{IsClosedRegion, boundary};
+
+use exact_plane::{Memory, Steps, Turns};
+use meshes::Tri;
+use mono_fill::fill;
+use std::alloc::Global;
+use std::marker::Model;
+use std::sync::ledger::Ledger;
+
+// A region between a lower and an upper chain, which rise from their common first vertex.
+#[derive(Drop)]
+pub(crate) struct Region {
+    lower: Vec<u32>,
+    upper: Vec<u32>,
+}
+
+impl Model for Region {
+    ghost use Rattle.sweep_tri.specs.Region.{Chains};
+
+    ghost Value = { Chains };
+
+    ghost view = { λ region. record { lower = region.lower.items; upper = region.upper.items } };
+}
+
+// What lies between two edges: one region, or two that meet at a merge vertex.
+#[derive(Drop)]
+pub(crate) struct Gap {
+    pub(crate) low: Region,
+    pub(crate) high: Option<Region>,
+}
+
+// A vertex where two edges begin, and the vertices below and above where they end.
+#[derive(Clone, Copy)]
+pub(crate) struct Fork {
+    pub(crate) vertex: u32,
+    pub(crate) below: u32,
+    pub(crate) above: u32,
+}
+
+impl Region {
+    // Adds a vertex at the end of the lower chain.
+    pub(crate) fn extend_lower(&mut self, v: u32) -> Result<(), Memory>
+        ensures { OnOk result (self.new ≡ with_lower self.old v) }
+    {
+        self.lower.push(v)?;
+        Ok(())
+    }
+
+    // Adds a vertex at the end of the upper chain.
+    pub(crate) fn extend_upper(&mut self, v: u32) -> Result<(), Memory>
+        ensures { OnOk result (self.new ≡ with_upper self.old v) }
+    {
+        self.upper.push(v)?;
+        Ok(())
+    }
+
+    // Appends triangles of the region, which is closed.
+    pub(crate) fn close<T: Turns, L: Ledger>(
+        self,
+        alloc: Global,
+        board: &T,
+        rank: &[u32],
+        tris: &mut Vec<Tri>,
+        steps: &mut Steps<L>,
+    ) -> Result<(), Memory>
+        requires ranked { IsRanked (T.corners board.now) rank.now }
+        requires closed { IsClosedRegion (T.corners board.now) rank.now self }
+        ensures filled { OnOk result (IsFilled (T.corners board.now) (boundary self) tris.old.items tris.new.items) }
+        ensures steps { steps.new ≤ steps.old + 8 * entries self }
+    {
+        let piece = self.boundary()?;
+        fill(alloc, board, rank, &piece, tris, steps)
+    }
+
+    // The lower chain, and back along the upper one.
+    fn boundary(self) -> Result<Vec<u32>, Memory>
+        requires { 2 ≤ length self.upper }
+        ensures { IfOk result (λ piece. piece.items ≡ boundary self) }
+    {
+        let Region {
+            mut lower,
+            mut upper,
+        } = self;
+        upper.reverse();
+        lower.extend_from_slice(&upper[1..upper.len() - 1])?;
+        Ok(lower)
+    }
+
+    // The regions below and above a diagonal to the fork, from the later of the vertices where the edges below and above begin.
+    fn split(self, alloc: Global, rank: &[u32], fork: Fork) -> Result<(Region, Region), Memory>
+        requires lower { 2 ≤ length self.lower }
+        requires upper { 2 ≤ length self.upper }
+        requires lower_from { before_last self.lower < length rank.now }
+        requires upper_from { before_last self.upper < length rank.now }
+        ensures below { IfOk result (λ parts. parts.0 ≡ below_latest rank.now self fork.vertex fork.below) }
+        ensures above { IfOk result (λ parts. parts.1 ≡ above_latest rank.now self fork.vertex fork.above) }
+    {
+        let low_from = before_last(&self.lower);
+        let up_from = before_last(&self.upper);
+        if rank[up_from as usize] < rank[low_from as usize] {
+            self.split_from_lower(alloc, fork)
+        } else {
+            self.split_from_upper(alloc, fork)
+        }
+    }
+
+    // The diagonal from where the edge below begins.
+    fn split_from_lower(self, alloc: Global, fork: Fork) -> Result<(Region, Region), Memory>
+        requires { 2 ≤ length self.lower }
+        ensures below { IfOk result (λ parts. parts.0 ≡ record {
+          lower = before_last self.lower ∷ last self.lower ∷ [];
+          upper = before_last self.lower ∷ fork.vertex ∷ fork.below ∷ [];
+        }) }
+        ensures above { IfOk result (λ parts. parts.1 ≡ record {
+          lower = take (length self.lower - 1) self.lower ++ fork.vertex ∷ fork.above ∷ [];
+          upper = self.upper;
+        }) }
+    {
+        let Region { lower, upper } = self;
+        let (p, end) = (before_last(&lower), last(&lower));
+        let below = Region {
+            lower: two(alloc, p, end)?,
+            upper: three(alloc, p, fork.vertex, fork.below)?,
+        };
+        let lower = turned_to(lower, fork.vertex, fork.above)?;
+        Ok((below, Region { lower, upper }))
+    }
+
+    // The diagonal from where the edge above begins.
+    fn split_from_upper(self, alloc: Global, fork: Fork) -> Result<(Region, Region), Memory>
+        requires { 2 ≤ length self.upper }
+        ensures below { IfOk result (λ parts. parts.0 ≡ record {
+          lower = self.lower;
+          upper = take (length self.upper - 1) self.upper ++ fork.vertex ∷ fork.below ∷ [];
+        }) }
+        ensures above { IfOk result (λ parts. parts.1 ≡ record {
+          lower = before_last self.upper ∷ fork.vertex ∷ fork.above ∷ [];
+          upper = before_last self.upper ∷ last self.upper ∷ [];
+        }) }
+    {
+        let Region { lower, upper } = self;
+        let (q, end) = (before_last(&upper), last(&upper));
+        let above = Region {
+            lower: three(alloc, q, fork.vertex, fork.above)?,
+            upper: two(alloc, q, end)?,
+        };
+        let upper = turned_to(upper, fork.vertex, fork.below)?;
+        Ok((Region { lower, upper }, above))
+    }
+}
+
+impl Gap {
+    // A gap with nothing in it. It takes no memory.
+    pub(crate) fn none(alloc: Global) -> Gap
+        ensures { result ≡ no_gap }
+    {
+        Gap::of(Region {
+            lower: Vec::new(alloc),
+            upper: Vec::new(alloc),
+        })
+    }
+
+    // The gap of one region.
+    pub(crate) fn of(region: Region) -> Gap
+        ensures { result ≡ gap_of region }
+    {
+        Gap {
+            low: region,
+            high: None,
+        }
+    }
+
+    // The gap of two regions that meet at a merge vertex.
+    pub(crate) fn of_two(low: Region, high: Region) -> Gap
+        ensures { result ≡ record { low = low; high = Some high } }
+    {
+        Gap {
+            low,
+            high: Some(high),
+        }
+    }
+
+    // The gap that begins at a fork.
+    pub(crate) fn at(alloc: Global, fork: Fork) -> Result<Gap, Memory>
+        ensures { IfOk result (λ gap. gap ≡ gap_of (region_from fork.vertex fork.below fork.above)) }
+    {
+        Ok(Gap::of(Region {
+            lower: two(alloc, fork.vertex, fork.below)?,
+            upper: two(alloc, fork.vertex, fork.above)?,
+        }))
+    }
+
+    // The edge below the gap.
+    pub(crate) fn low_front(&self) -> (u32, u32)
+        requires { 2 ≤ length self.now.low.lower }
+        ensures from { result.0 ≡ (low_front self.now).from }
+        ensures to { result.1 ≡ (low_front self.now).to }
+    {
+        front_of(&self.low.lower)
+    }
+
+    // The edge above it.
+    pub(crate) fn up_front(&self) -> (u32, u32)
+        requires { 2 ≤ length (highest self.now.low self.now.high).upper }
+        ensures from { result.0 ≡ (up_front self.now).from }
+        ensures to { result.1 ≡ (up_front self.now).to }
+    {
+        match &self.high {
+            Some(high) => front_of(&high.upper),
+            None => front_of(&self.low.upper),
+        }
+    }
+
+    // The region that stays open where the edge below ends at v. A low region beside a high one is closed.
+    pub(crate) fn meet_below<T: Turns, L: Ledger>(
+        self,
+        alloc: Global,
+        board: &T,
+        rank: &[u32],
+        v: u32,
+        tris: &mut Vec<Tri>,
+        steps: &mut Steps<L>,
+    ) -> Result<Region, Memory>
+        requires ranked { IsRanked (T.corners board.now) rank.now }
+        requires closed { All (IsClosedRegion (T.corners board.now) rank.now) (closed_below self.low self.high v) }
+        ensures left { IfOk result (λ region. region ≡ left_above self.low self.high v) }
+        ensures filled { OnOk result (AreFilled (T.corners board.now) (closed_below self.low self.high v) tris.old.items tris.new.items) }
+        ensures steps { steps.new ≤ steps.old + 8 * entries_of_all (closed_below self.low self.high v) }
+    {
+        let Gap { mut low, high } = self;
+        match high {
+            None => Ok(low),
+            Some(mut high) => {
+                low.extend_upper(v)?;
+                low.close(alloc, board, rank, tris, steps)?;
+                high.extend_lower(v)?;
+                Ok(high)
+            }
+        }
+    }
+
+    // The region that stays open where the edge above ends at v. A high region is closed.
+    pub(crate) fn meet_above<T: Turns, L: Ledger>(
+        self,
+        alloc: Global,
+        board: &T,
+        rank: &[u32],
+        v: u32,
+        tris: &mut Vec<Tri>,
+        steps: &mut Steps<L>,
+    ) -> Result<Region, Memory>
+        requires ranked { IsRanked (T.corners board.now) rank.now }
+        requires closed { All (IsClosedRegion (T.corners board.now) rank.now) (closed_above self.low self.high v) }
+        ensures left { IfOk result (λ region. region ≡ left_below self.low self.high v) }
+        ensures filled { OnOk result (AreFilled (T.corners board.now) (closed_above self.low self.high v) tris.old.items tris.new.items) }
+        ensures steps { steps.new ≤ steps.old + 8 * entries_of_all (closed_above self.low self.high v) }
+    {
+        let Gap { mut low, high } = self;
+        match high {
+            None => Ok(low),
+            Some(mut high) => {
+                high.extend_lower(v)?;
+                high.close(alloc, board, rank, tris, steps)?;
+                low.extend_upper(v)?;
+                Ok(low)
+            }
+        }
+    }
+
+    // The gaps below and above a fork within this one.
+    pub(crate) fn split(self, alloc: Global, rank: &[u32], fork: Fork) -> Result<(Gap, Gap), Memory>
+        requires lower { 2 ≤ length self.low.lower }
+        requires upper { 2 ≤ length self.low.upper }
+        requires lower_from { before_last self.low.lower < length rank.now }
+        requires upper_from { before_last self.low.upper < length rank.now }
+        ensures below { IfOk result (λ gaps. gaps.0 ≡ gap_of (split_below rank.now self.low self.high fork.vertex fork.below)) }
+        ensures above { IfOk result (λ gaps. gaps.1 ≡ gap_of (split_above rank.now self.low self.high fork.vertex fork.above)) }
+    {
+        let Gap { low, high } = self;
+        let (below, above) = match high {
+            None => low.split(alloc, rank, fork)?,
+            Some(high) => part(low, high, fork)?,
+        };
+        Ok((Gap::of(below), Gap::of(above)))
+    }
+}
+
+// Two regions that meet at a merge vertex, each with the diagonal from there to the fork and an edge on from it.
+fn part(mut low: Region, mut high: Region, fork: Fork) -> Result<(Region, Region), Memory>
+    ensures below { IfOk result (λ parts. parts.0 ≡ record { lower = low.lower; upper = low.upper ++ fork.vertex ∷ fork.below ∷ [] }) }
+    ensures above { IfOk result (λ parts. parts.1 ≡ record { lower = high.lower ++ fork.vertex ∷ fork.above ∷ []; upper = high.upper }) }
+{
+    low.extend_upper(fork.vertex)?;
+    low.extend_upper(fork.below)?;
+    high.extend_lower(fork.vertex)?;
+    high.extend_lower(fork.above)?;
+    Ok((low, high))
+}
+
+// The last vertex of a chain.
+fn last(path: &[u32]) -> u32
+    requires { 1 ≤ length path.now }
+    ensures { result ≡ last path.now }
+{
+    path[path.len() - 1]
+}
+
+// The one before it.
+fn before_last(path: &[u32]) -> u32
+    requires { 2 ≤ length path.now }
+    ensures { result ≡ before_last path.now }
+{
+    path[path.len() - 2]
+}
+
+// The last edge of a chain.
+fn front_of(path: &[u32]) -> (u32, u32)
+    requires { 2 ≤ length path.now }
+    ensures from { result.0 ≡ before_last path.now }
+    ensures to { result.1 ≡ last path.now }
+{
+    (before_last(path), last(path))
+}
+
+// A chain of two vertices.
+fn two(alloc: Global, a: u32, b: u32) -> Result<Vec<u32>, Memory>
+    ensures { IfOk result (λ path. path.items ≡ a ∷ b ∷ []) }
+{
+    let mut path = Vec::with_capacity(alloc, 2)?;
+    path.push(a)?;
+    path.push(b)?;
+    Ok(path)
+}
+
+// A chain of three.
+fn three(alloc: Global, a: u32, b: u32, c: u32) -> Result<Vec<u32>, Memory>
+    ensures { IfOk result (λ path. path.items ≡ a ∷ b ∷ c ∷ []) }
+{
+    let mut path = two(alloc, a, b)?;
+    path.push(c)?;
+    Ok(path)
+}
+
+// The chain with the vertex v in place of its last, and on to a.
+fn turned_to(mut path: Vec<u32>, v: u32, a: u32) -> Result<Vec<u32>, Memory>
+    requires { 1 ≤ length path.items }
+    ensures { IfOk result (λ turned. turned.items ≡ take (length path.items - 1) path.items ++ v ∷ a ∷ []) }
+{
+    path.truncate(path.len() - 1);
+    path.push(v)?;
+    path.push(a)?;
+    Ok(path)
+}

@@ -1,0 +1,13 @@
+//! A triangulation of a polygon by a sweep over its vertices in lexicographic order.
+#![tactic(auto)]
+
+mod event;
+mod gap;
+mod order;
+mod status;
+#[cfg(test)]
+mod tests;
+mod triangulation;
+
+pub use order::lexical;
+pub use triangulation::sweep;

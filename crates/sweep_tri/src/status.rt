@@ -1,0 +1,159 @@
+// The gaps that the sweep line meets, upward.
+ghost use Rattle.std.specs.List.{insert, remove};
+ghost use Rattle.std.specs.Prelude.{◌≡◌, ◌+◌, ◌*◌, ◌^◌, ◌<◌, ◌≤◌, ◌↔◌, IfOk, IsTrue, OnOk, [], length, slice_set};
+ghost use Rattle.shared_seq.specs.Digits.{binary_digits};
+ghost use Rattle.sweep_tri.specs.Frontier.{IsAbove, IsPlace};
+ghost use Rattle.sweep_tri.specs.Gaps.{gap_at, low_front};
+ghost use Rattle.sweep_tri.specs.Slots.{AreSortedBy, HaveLowFronts};
+
+use crate::gap::Gap;
+use exact_plane::{Direction, Memory, Spot, Steps, Turns};
+use shared_seq::SharedSeq;
+use std::alloc::Global;
+use std::marker::Model;
+use std::mem;
+use std::sync::ledger::Ledger;
+
+// The gaps, each in a slot of its own, and the numbers of the slots of those that are open, in order. A slot that is left stays
+// empty.
+#[derive(Drop)]
+pub(crate) struct Status {
+    slots: Vec<Gap>,
+    numbers: SharedSeq,
+}
+
+impl Model for Status {
+    ghost use Rattle.std.specs.Prelude.{List};
+    ghost use Rattle.sweep_tri.specs.Slots.{AreNumbers, gaps_of};
+    ghost use Rattle.sweep_tri.specs.declared.gap.Gap.{Gap};
+
+    ghost Value = { List Gap };
+
+    ghost view = { λ status. gaps_of status.slots.items status.numbers };
+
+    ghost invariant = { λ status. AreNumbers status.slots.items status.numbers };
+}
+
+impl Status {
+    // No gap.
+    pub(crate) fn new(alloc: Global) -> Status
+        ensures { result ≡ [] }
+    {
+        Status {
+            slots: Vec::new(alloc),
+            numbers: SharedSeq::empty(),
+        }
+    }
+
+    // The number of gaps.
+    pub(crate) fn len(&self) -> usize
+        ensures { result ≡ length self.now }
+    {
+        self.numbers.len()
+    }
+
+    // The gap at a place.
+    pub(crate) fn get<L: Ledger>(&self, j: usize, steps: &mut Steps<L>) -> &Gap
+        requires { j < length self.now }
+        ensures gap { result.now ≡ gap_at self.now j }
+        ensures steps { steps.new ≤ steps.old + 2 * binary_digits (length self.now) + 1 }
+    {
+        &self.slots[self.numbers.get(j, steps) as usize]
+    }
+
+    // Puts a gap in the place of the one at `j`, which it answers.
+    pub(crate) fn replace<L: Ledger>(&mut self, j: usize, gap: Gap, steps: &mut Steps<L>) -> Gap
+        requires { j < length self.old }
+        ensures gap { result ≡ gap_at self.old j }
+        ensures gaps { self.new ≡ slice_set self.old j gap }
+        ensures steps { steps.new ≤ steps.old + 2 * binary_digits (length self.old) + 1 }
+    {
+        let number = self.numbers.get(j, steps) as usize;
+        mem::replace(&mut self.slots[number], gap)
+    }
+
+    // Inserts a gap before the one at `j`, or after all. It fails where memory is wanting, or a number for the slot.
+    pub(crate) fn insert<L: Ledger>(
+        &mut self,
+        alloc: Global,
+        j: usize,
+        gap: Gap,
+        steps: &mut Steps<L>,
+    ) -> Result<(), Memory>
+        requires place { j ≤ length self.old }
+        requires few { length self.old + 1 < 2 ^ 31 }
+        ensures gaps { OnOk result (self.new ≡ insert self.old j gap) }
+        ensures steps { steps.new ≤ steps.old + 24 * (binary_digits (length self.old + 1) + 1) }
+    {
+        let Ok(number) = u32::try_from(self.slots.len()) else {
+            return Err(Memory);
+        };
+        let numbers = self.numbers.insert_at(alloc, j, number, steps)?;
+        self.slots.push(gap)?;
+        self.numbers = numbers;
+        Ok(())
+    }
+
+    // Removes the gap at `j`, and answers it.
+    pub(crate) fn remove<L: Ledger>(
+        &mut self,
+        alloc: Global,
+        j: usize,
+        steps: &mut Steps<L>,
+    ) -> Result<Gap, Memory>
+        requires { j < length self.old }
+        ensures gap { IfOk result (λ gap. gap ≡ gap_at self.old j) }
+        ensures gaps { OnOk result (self.new ≡ remove self.old j) }
+        ensures steps { let b = binary_digits (length self.old) in steps.new ≤ steps.old + (40 * (b + 1) + 2 * b + 1) }
+    {
+        let number = self.numbers.get(j, steps) as usize;
+        let numbers = self.numbers.remove_at(alloc, j, steps)?;
+        self.numbers = numbers;
+        Ok(mem::replace(&mut self.slots[number], Gap::none(alloc)))
+    }
+
+    // The place of vertex `v`: the number of gaps whose lower edges it is above. It takes at most b (2 b + 2) steps, b the number
+    // of binary digits of that of the gaps.
+    pub(crate) fn place<T: Turns, L: Ledger>(
+        &self,
+        board: &T,
+        v: u32,
+        steps: &mut Steps<L>,
+    ) -> usize
+        requires v { v < length (T.corners board.now) }
+        requires fronts { HaveLowFronts (T.corners board.now) self.now }
+        requires sorted { AreSortedBy (T.corners board.now) self.now v }
+        ensures place { IsPlace (T.corners board.now) self.now v result }
+        ensures steps { let b = binary_digits (length self.now) in steps.new ≤ steps.old + b * (2 * b + 2) }
+    {
+        let mut low = 0;
+        let mut high = self.len();
+        while low < high {
+            let middle = low + (high - low) / 2;
+            if self.is_under(board, middle, v, steps) {
+                low = middle + 1;
+            } else {
+                high = middle;
+            }
+        }
+        low
+    }
+
+    // Whether vertex `v` is above the lower edge of the gap at `j`.
+    fn is_under<T: Turns, L: Ledger>(
+        &self,
+        board: &T,
+        j: usize,
+        v: u32,
+        steps: &mut Steps<L>,
+    ) -> bool
+        requires place { j < length self.now }
+        requires v { v < length (T.corners board.now) }
+        requires fronts { HaveLowFronts (T.corners board.now) self.now }
+        ensures above { IsTrue result ↔ IsAbove (T.corners board.now) (low_front (gap_at self.now j)) v }
+        ensures steps { steps.new ≤ steps.old + 2 * binary_digits (length self.now) + 2 }
+    {
+        let (from, to) = self.get(j, steps).low_front();
+        board.turn(Spot::Corner(from), Spot::Corner(to), Spot::Corner(v), steps) == Direction::Left
+    }
+}
