@@ -7,7 +7,6 @@ mod GivenTree
 mod AlonePath
 mod ReachedNames
 mod TreeLines
-mod SleeveRoom
 mod WalkedNames
 mod LocatedIn
 mod OneVerdict

@@ -20,7 +20,6 @@ ghost use Rattle.geo_session.specs.View.{IsViewOf, given_parts};
 
 use crate::grown::{Grown, Unreached};
 use crate::hull::Hull;
-use cut_tri::triangulate;
 use dual_tree::{Board, locate, sleeve};
 use exact_plane::{Hom, Memory, Pt, Spot, Steps, Turns};
 use funnel_walk::{FunnelBox, walk};
@@ -31,6 +30,7 @@ use star_kernel::kernel;
 use std::alloc::Global;
 use std::marker::Model;
 use std::sync::ledger::Ledger;
+use sweep_tri::{lexical, sweep};
 use taut_check::{Verdict, check};
 use tri_mesh::Mesh;
 
@@ -69,7 +69,7 @@ impl Held {
     ) -> Result<Held, Memory>
         ensures { IfOk result (λ held. (held.ring ≡ ring) × (held.source ≡ None)) }
     {
-        let mesh = triangulate(alloc, &ring, steps)?;
+        let mesh = mesh_of(alloc, &ring, steps)?;
         Ok(Held {
             ring,
             mesh,
@@ -262,6 +262,21 @@ pub(crate) fn put_points<'a>(points: &mut Vec<Pt>, names: &[Spot], board: &Board
     for name in names {
         points.push_reserved(board.point(*name));
     }
+}
+
+// A mesh that fits the ring, by a sweep.
+pub(crate) fn mesh_of<L: Ledger>(
+    alloc: Global,
+    ring: &Ring,
+    steps: &mut Steps<L>,
+) -> Result<Mesh, Memory>
+    ensures { IfOk result (Fits ring.now.corners) }
+{
+    let _size = ring.len();
+    let order = lexical(alloc, ring, steps)?;
+    let board = Board::new(ring, ring.corner(0), ring.corner(0));
+    let tris = sweep(alloc, &board, &order, steps)?;
+    Mesh::build(alloc, tris)
 }
 
 // Parts of the edges of a ring, as parts of the edges of the list that it was made of.

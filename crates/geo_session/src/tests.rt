@@ -1,8 +1,7 @@
 // A polygon and its triangles: where points are among them, and the chains between points.
 ghost use Rattle.std.specs.Prelude.{◌≡◌, ◌<◌};
 
-use crate::held::Held;
-use cut_tri::triangulate;
+use crate::held::{Held, mesh_of};
 use dual_tree::{Board, locate, sleeve};
 use exact_plane::{Direction, Memory, Pt, Spot, Steps, Turns};
 use ring_check::Ring;
@@ -55,17 +54,17 @@ fn ring_of<N: Ledger, R: Abort>(
     Ok(Ring::of(points, steps).ok().expect(rt, "a ring"))
 }
 
-// The triangles of an L have the corners 3, 0, 1 and 2, 3, 1 and 5, 0, 3 and 4, 5, 3.
+// The triangles of an L have the corners 5, 3, 4 and 5, 0, 3 and 3, 0, 1 and 3, 1, 2.
 fn places<N: Ledger, R: Abort>(rt: &R, alloc: Global, steps: &mut Steps<N>) -> Result<(), Memory> {
     let ring = ring_of(rt, alloc, &L, steps)?;
-    let mesh = triangulate(alloc, &ring, steps)?;
+    let mesh = mesh_of(alloc, &ring, steps)?;
     let cases = [
         ("outside", (3, 3), None),
         ("the corner of all four", (2, 2), Some(0)),
-        ("on a side of two", (3, 1), Some(0)),
-        ("inside the second", (3, 2), Some(1)),
-        ("on an edge", (0, 3), Some(2)),
-        ("a corner of the last", (2, 4), Some(3)),
+        ("on a side of two", (3, 1), Some(2)),
+        ("on an edge of the last", (3, 2), Some(3)),
+        ("on an edge of the second", (0, 3), Some(1)),
+        ("a corner of the first", (2, 4), Some(0)),
     ];
     for (name, point, want) in cases {
         let found = locate(&mesh, &ring, &at(rt, point), steps);
@@ -77,7 +76,7 @@ fn places<N: Ledger, R: Abort>(rt: &R, alloc: Global, steps: &mut Steps<N>) -> R
 // From each triangle of a U to each.
 fn sleeves<N: Ledger, R: Abort>(rt: &R, alloc: Global, steps: &mut Steps<N>) -> Result<(), Memory> {
     let ring = ring_of(rt, alloc, &U, steps)?;
-    let mesh = triangulate(alloc, &ring, steps)?;
+    let mesh = mesh_of(alloc, &ring, steps)?;
     assert_eq!(rt; mesh.count(), 6);
     for from in 0..mesh.count() {
         for to in 0..mesh.count() {

@@ -1,5 +1,5 @@
 use Rattle.std.proofs.Common.{arith}
-use Rattle.geo_session.proofs.SleeveRoom.{sleeve_few}
+use Rattle.dual_tree.proofs.SleeveRoom.{sleeve_few}
 use Rattle.geo_session.proofs.WalkedNames.{names_named, names_path}
 use Rattle.geo_session.proofs.held.chain_between.Goals as goal
 
