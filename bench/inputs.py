@@ -1,8 +1,10 @@
 """Rings and records to time the program on. They come out the same on each machine."""
 import math
 import random
+from fractions import Fraction
 
 L = [(0, 0), (4, 0), (4, 2), (2, 2), (2, 4), (0, 4)]
+WIDTH = 100  # of the corridors of mazes and spirals
 
 
 def comb(n):
@@ -42,7 +44,7 @@ def spiral(n):
     for i, (x, y) in enumerate(outer):
         dx, dy = [(1, 1), (-1, 1), (-1, -1), (1, -1)][i % 4]
         inner.append((x + dx, y + dy))
-    return outer + inner[::-1]
+    return [(WIDTH * x, WIDTH * y) for x, y in outer + inner[::-1]]
 
 
 def saw(n):
@@ -52,7 +54,7 @@ def saw(n):
 
 
 def maze(n):
-    """The boundary of a maze without rounds: corridors of width 1 along a random tree."""
+    """The boundary of a maze without rounds: corridors along a random tree."""
     corners = {0: 4, 1: 2, 2: 2, 3: 2, 4: 4}
     ways = [(1, 0), (0, 1), (-1, 0), (0, -1)]
     draw, open_ways, missing = random.Random(n), {(0, 0): set()}, n - 4
@@ -82,7 +84,7 @@ def maze(n):
         before, here = here, after[here]
         beyond = after[here]
         if (here[0] - before[0], here[1] - before[1]) != (beyond[0] - here[0], beyond[1] - here[1]):
-            ring.append(here)
+            ring.append((WIDTH * here[0], WIDTH * here[1]))
     return ring
 
 
@@ -99,24 +101,24 @@ def places(ring, count):
     return [(draw.randint(left, right), draw.randint(low, high)) for _ in range(count)]
 
 
-def is_inside(ring, place):
-    """By the edges that a ray to the right crosses."""
-    (x, y), odd = place, False
-    for (a, b), (c, d) in zip(ring, ring[1:] + ring[:1]):
-        if (b <= y) != (d <= y) and ((c - a) * (y - b) - (d - b) * (x - a) > 0) == (b < d):
-            odd = not odd
-    return odd
-
-
 def inner_places(ring, count):
-    """Points at random in a ring."""
+    """Points at random that are inside a ring and on no edge, some of them on a level."""
     draw, found = random.Random(count), []
-    (left, low), (right, high) = map(min, zip(*ring)), map(max, zip(*ring))
+    heights = {y for _, y in ring}
     while len(found) < count:
-        place = (draw.randint(left, right), draw.randint(low, high))
-        if is_inside(ring, place):
-            found.append(place)
-    return found
+        y = draw.randint(min(heights), max(heights))
+        rooms = [] if y in heights else rooms_at(ring, y)
+        found += [(draw.randint(*draw.choice(rooms)), y) for _ in range(20 if rooms else 0)]
+    draw.shuffle(found)
+    return found[:count]
+
+
+def rooms_at(ring, y):
+    """The least and the greatest whole x of each stretch inside a ring at a height where it has no vertex."""
+    walls = sorted(Fraction((c - a) * (y - b), d - b) + a
+                   for (a, b), (c, d) in zip(ring, ring[1:] + ring[:1]) if (b < y) != (d < y))
+    rooms = [(math.floor(left) + 1, math.ceil(right) - 1) for left, right in zip(walls[::2], walls[1::2])]
+    return [room for room in rooms if room[0] <= room[1]]
 
 
 def way_along_comb(n):

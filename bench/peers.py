@@ -1,0 +1,129 @@
+"""Programs that answer the same by other libraries: how they are asked, how long they say that they take, and whether their
+answers are those of `geo`."""
+import os
+import subprocess
+import tempfile
+from dataclasses import dataclass
+from fractions import Fraction
+from itertools import zip_longest
+from typing import Callable
+
+PROGRAMS = ['cgal', 'geos', 'boost', 'ppl', 'funnel']
+
+
+@dataclass(frozen=True)
+class Peer:
+    """A peer of a command: its name, its program and the job that it is asked. `theirs` makes of what it shows, so many times, the
+    lines that `geo` should answer, and `ours` takes from the answers what is compared with them; where there is nothing to
+    compare, there is no `theirs`. Of the steps of its time, `part` are those that do what is timed, and `whole` those that do
+    what the whole script does."""
+
+    name: str
+    program: str
+    job: str
+    theirs: Callable = None
+    ours: Callable = list
+    part: tuple = ('run',)
+    whole: tuple = ('load', 'prep', 'run')
+
+
+def same(shown, times):
+    return shown
+
+
+def places(shown, times):
+    return [line.split()[1] for line in shown]
+
+
+def views(shown, times):
+    """CGAL gives the vertices of the visibility polygon as exact fractions, and the peer tells of each edge the hull of those that
+    lie on it. That is the part, since what is seen of an edge is a segment, and its ends are such vertices."""
+    heads = [k for k, line in enumerate(shown) if line.startswith('see,')]
+    parts = [shown[k + 1:end] for k, end in zip(heads, heads[1:] + [len(shown)])]
+    return [line for part in parts for line in [f'see,{len(part)}', *part]]
+
+
+def kernels(shown, times):
+    """The corners in the order of `geo`: round the kernel, from the least. Those right of the way from the least to the greatest
+    come first."""
+    corners = sorted(tuple(map(Fraction, line.split(',')[1:])) for line in shown)
+    (a, b), (c, d) = (corners[0], corners[-1]) if corners else 2 * [(0, 0)]
+    left = [(x, y) for x, y in corners if (c - a) * (y - b) > (d - b) * (x - a)]
+    order = [corner for corner in corners if corner not in left] + left[::-1]
+    return times * [f'kernel,{len(order)}', *(f'corner,{x},{y}' for x, y in order)]
+
+
+def sides(lines):
+    """The sides of a hull as paths."""
+    return ['path,' + line.split(',', 3)[-1] for line in lines[1:]]
+
+
+THREE = [('CGAL', 'cgal'), ('GEOS', 'geos'), ('Boost', 'boost')]
+TEST = [Peer(f'{name}, testing', program, 'load', part=('load',)) for name, program in THREE]
+PEERS = {
+    'accept': TEST,
+    'polygon': [Peer('CGAL, testing and triangulating', 'cgal', 'tri:cdt', part=('load', 'run'))] + TEST,
+    'inside': [Peer(name, program, 'inside1000', places) for name, program in THREE],
+    'see': [Peer('CGAL, exact', 'cgal', 'see100:tev', views)],
+    'kernel': [Peer('CGAL, exact', 'cgal', 'kernel', kernels), Peer('PPL', 'ppl', 'kernel', kernels)],
+    'tree': [Peer('funnels over CGAL', 'funnel', 'tree', same)],
+    'reach': [Peer('funnels over CGAL', 'funnel', 'path1000', same)],
+    'path': [Peer('funnels over CGAL', 'funnel', 'path1000', same)],
+    'hull': [Peer('funnels over CGAL', 'funnel', 'path1000', same, sides, part=())],
+}
+
+
+class Folder:
+    """The programs of a folder that are there."""
+
+    def __init__(self, folder):
+        paths = {name: os.path.join(folder, 'bin', 'peer_' + name) for name in PROGRAMS}
+        self.programs = {name: path for name, path in paths.items() if folder and os.access(path, os.X_OK)}
+        self.missing = [name for name in PROGRAMS if name not in self.programs]
+
+    def of(self, job):
+        """The peers of a job's command. Where the job has no ring it has none."""
+        return [peer for peer in PEERS.get(job.command, []) if peer.program in self.programs and job.ring]
+
+    def ask(self, peer, job, shows=False):
+        """The words that a peer ends with, and before them its answers, where it shows them."""
+        with tempfile.NamedTemporaryFile('w', suffix='.txt') as file:
+            for name, points in (('polygon', job.ring), ('queries', job.queries)):
+                file.write(f'{name} {len(points)}\n' + ''.join(f'{x} {y}\n' for x, y in points))
+            file.flush()
+            around = {**os.environ, 'PEER_CAP': '600', **({'PEER_SHOW': '1'} if shows else {})}
+            ended = subprocess.run([self.programs[peer.program], file.name, peer.job], stdout=subprocess.PIPE, env=around)
+        *shown, last = ended.stdout.decode().splitlines() or ['']
+        told = dict(word.split('=', 1) for word in last.split() if '=' in word)
+        if ended.returncode or told.get('note') != '-' or told['done'] != told['of']:
+            raise RuntimeError(f'{peer.name} has no answer: {last or ended.returncode}')
+        return told, [line.strip() for line in shown]
+
+    def times(self, peer, job):
+        """How long a peer says that it took for what is timed, and for all."""
+        told, _ = self.ask(peer, job)
+        return tuple(sum(float(told[step]) for step in steps) for steps in (peer.part, peer.whole))
+
+    def difference(self, peer, job, lines):
+        """Where the answers of a peer are others than these, if they are."""
+        try:
+            told, shown = self.ask(peer, job, shows=True)
+        except RuntimeError as fault:
+            return str(fault)
+        if peer.job == 'load' and told['size'] != '1':
+            return f'{peer.name}: not simple'
+        if peer.theirs is None:
+            return None
+        return other_line(peer.name, peer.theirs(shown, job.times), 'geo', peer.ours(lines))
+
+
+def other_line(one, lines, another, others):
+    """The first line in which the answers of two differ, if there is one."""
+    for k, (line, other) in enumerate(zip_longest(lines, others), 1):
+        if line != other:
+            return f'in line {k} {one} has {short(line)}, and {another} {short(other)}'
+    return None
+
+
+def short(line):
+    return 'no line' if line is None else line if len(line) < 100 else line[:97] + '..'
