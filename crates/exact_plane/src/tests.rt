@@ -9,7 +9,10 @@ use std::marker::Brand;
 use std::process::Abort;
 use std::sync::ledger::{Blank, Ledger};
 
-const A: i64 = 1_000_000;
+const A: i64 = 8_388_607;
+
+// A lower limit, that of version 1 of the script.
+const N: i64 = 1_000_000;
 
 type At = (i64, i64);
 
@@ -31,6 +34,7 @@ const LIMITS: [(&str, i64, i64, bool); 10] = [
 fn limits(rt: HostRuntime) {
     for (name, x, y, want) in LIMITS {
         assert_eq!(rt; Pt::of(x, y).is_some(), want, "{name}");
+        assert_eq!(rt; Hom::of_whole(x, y).is_some(), want, "{name}");
     }
 }
 
@@ -69,7 +73,7 @@ fn coordinates<L: Ledger, R: Abort>(rt: &R, steps: &mut Steps<L>) {
 }
 
 #[rattlefmt::skip]
-const TURNS: [(&str, At, At, At, Direction); 8] = [
+const TURNS: [(&str, At, At, At, Direction); 11] = [
     ("upward", (0, 0), (2, 0), (2, 1), Direction::Left),
     ("downward", (0, 0), (2, 0), (2, -1), Direction::Right),
     ("back", (0, 0), (2, 2), (1, 1), Direction::Straight),
@@ -78,6 +82,9 @@ const TURNS: [(&str, At, At, At, Direction); 8] = [
     ("the widest left", (-A, -A), (A, -A), (-A, A), Direction::Left),
     ("the narrowest right", (-A, -A), (A, A), (A, A - 1), Direction::Right),
     ("the longest line", (-A, -A), (0, 0), (A, A), Direction::Straight),
+    ("the widest left within the lower limit", (-N, -N), (N, -N), (-N, N), Direction::Left),
+    ("the narrowest right within it", (-N, -N), (N, N), (N, N - 1), Direction::Right),
+    ("the longest line within it", (-N, -N), (0, 0), (N, N), Direction::Straight),
 ];
 
 fn turns<L: Ledger, R: Abort>(rt: &R, steps: &mut Steps<L>) {
@@ -157,8 +164,9 @@ fn common_ends<L: Ledger, R: Abort>(rt: &R, steps: &mut Steps<L>) {
 }
 
 #[rattlefmt::skip]
-const MEETINGS: [(&str, At, At, At, At, bool); 18] = [
+const MEETINGS: [(&str, At, At, At, At, bool); 19] = [
     ("the longest diagonals", (-A, -A), (A, A), (-A, A), (A, -A), true),
+    ("the longest within the lower limit", (-N, -N), (N, N), (-N, N), (N, -N), true),
     ("crossing between whole points", (0, 0), (1, 1), (0, 1), (1, 0), true),
     ("an end on the middle", (0, 0), (4, 0), (2, 0), (2, 3), true),
     ("the middle on an end", (2, 0), (2, 3), (0, 0), (4, 0), true),
@@ -239,10 +247,14 @@ fn triangles<L: Ledger, R: Abort>(rt: &R, steps: &mut Steps<L>) {
 
 // Where two lines meet, by three whole numbers.
 #[rattlefmt::skip]
-const LINE_MEETINGS: [(&str, At, At, At, At, Option<Parts>); 7] = [
+const LINE_MEETINGS: [(&str, At, At, At, At, Option<Parts>); 11] = [
     ("the longest diagonals", (-A, -A), (A, A), (-A, A), (A, -A), Some((0, 0, 1))),
-    ("the narrowest angle", (-A, -A), (A, A), (-A, 1 - A), (A, A), Some((1_000_000, 1_000_000, 1))),
+    ("the narrowest angle", (-A, -A), (A, A), (-A, 1 - A), (A, A), Some((B, B, 1))),
+    ("a long fraction in lowest terms", (-A, -A), (A, A - 1), (-A, A), (A - 1, -A), Some((-B, B - 4 * B * B, 8 * B * B - 4 * B + 1))),
     ("parallel", (-A, -A), (A, A), (-A, 1 - A), (A - 1, A), None),
+    ("the longest diagonals within the lower limit", (-N, -N), (N, N), (-N, N), (N, -N), Some((0, 0, 1))),
+    ("the narrowest angle within it", (-N, -N), (N, N), (-N, 1 - N), (N, N), Some((1_000_000, 1_000_000, 1))),
+    ("parallel within it", (-N, -N), (N, N), (-N, 1 - N), (N - 1, N), None),
     ("one line", (0, 0), (1, 2), (2, 4), (3, 6), None),
     ("one point for a line", (0, 0), (0, 0), (1, 0), (2, 5), None),
     ("beyond both ways", (0, 0), (1, 0), (0, 3), (1, 2), Some((3, 0, 1))),
@@ -275,7 +287,7 @@ fn line_meetings<L: Ledger, R: Abort>(rt: &R, steps: &mut Steps<L>) {
     }
 }
 
-// Parts as large as they may be, also those of meetings of lines whose coordinates are up to B in size.
+// Parts as large as they may be, and those of meetings of lines at the limit, which is B here too.
 const B: i128 = 8_388_607;
 
 const XY: i128 = (1 << 75) - 1;

@@ -6,7 +6,7 @@ ghost use Rattle.geo_gen.specs.declared.combs.TheConstants.{MAX_TEETH};
 use exact_plane::{Memory, Pt};
 use std::alloc::Global;
 
-/// The most teeth of a comb: one more would have more vertices than a polygon may have.
+/// The most teeth of a comb: one more would have more vertices than a polygon of version 1 of the script may have.
 pub const MAX_TEETH: u32 = 2047;
 
 /// The vertices of the comb of `k` teeth, counterclockwise from the left end of the lower row.

@@ -15,13 +15,13 @@ type At = (i64, i64);
 // X, Y and W of a corner, or multiples of them.
 type Parts = (i128, i128, i128);
 
-const A: i64 = 1_000_000;
+const A: i64 = 8_388_607;
 
-const B: i128 = 1_000_000;
+const B: i128 = 8_388_607;
 
 // The points, and the corners that are left.
 #[rattlefmt::skip]
-const CUTS: [(&str, &[At], &[Parts]); 16] = [
+const CUTS: [(&str, &[At], &[Parts]); 18] = [
     ("no edge", &[], &[(-B, -B, 1), (B, -B, 1), (B, B, 1), (-B, B, 1)]),
     ("a triangle", &[(0, 0), (4, 0), (0, 4)], &[(0, 0, 1), (4, 0, 1), (0, 4, 1)]),
     ("the same clockwise", &[(0, 0), (0, 4), (4, 0)], &[]),
@@ -39,6 +39,9 @@ const CUTS: [(&str, &[At], &[Parts]); 16] = [
     ("a star", &[(0, 0), (3, 1), (6, 0), (5, 3), (6, 6), (3, 5), (0, 6), (1, 3)],
         &[(1, 3, 1), (3, 3, 2), (3, 1, 1), (9, 3, 2), (5, 3, 1), (9, 9, 2), (3, 5, 1), (3, 9, 2)]),
     ("the diagonal of the limit", &[(-A, -A), (A, A), (-A, A)], &[(-B, -B, 1), (B, B, 1), (-B, B, 1)]),
+    ("a dart at the limit", &[(-A, -A), (A, -A), (0, -1), (-A, A)], &[(-B, -B, 1), (B * (B - 1), -B * (B + 1), B + 1), (0, -1, 1), (-B, B - 2, 1)]),
+    ("along the longest lines", &[(-A, A), (A, -A), (A, A), (1 - A, -A), (A, 1 - A)],
+        &[(B, -B, 4 * B - 1), (2 * B * B - 2 * B + 1, 2 * B - 2 * B * B - 1, 2 * B), (B, 1 - B, 1), (4 * B * B - B, B, 8 * B * B - 4 * B + 1)]),
 ];
 
 #[test]

@@ -9,7 +9,7 @@ use std::process::Abort;
 use std::sync::ledger::{Blank, Ledger};
 use std::test::Fail;
 
-const A: i64 = 1_000_000;
+const A: i64 = 8_388_607;
 
 type At = (i64, i64);
 
@@ -53,7 +53,7 @@ fn all_segments<L: Ledger, R: Abort>(rt: &R, alloc: Global, blank: Blank) -> Res
     requires countable { 0 < blank.parts }
 {
     let mut steps = Steps::<L>::new(blank);
-    let cases: [(&str, &[At], At, At, bool); 34] = [
+    let cases: [(&str, &[At], At, At, bool); 38] = [
         ("across the notch", &U_SHAPE, (0, 3), (6, 3), false),
         ("along the bottom of the notch", &U_SHAPE, (0, 2), (6, 2), true),
         ("along two tops, and out between", &U_SHAPE, (0, 4), (6, 4), false),
@@ -88,6 +88,10 @@ fn all_segments<L: Ledger, R: Abort>(rt: &R, alloc: Global, blank: Blank) -> Res
         ("under a narrow gap", &WIDE, (-A, -A), (A, -A), true),
         ("through a narrow gap", &WIDE, (-A, -A + 1), (A, -A + 1), true),
         ("over a narrow gap", &WIDE, (-A, -A + 2), (A, -A + 2), false),
+        ("aslant through a narrow gap", &WIDE, (-A, -A + 2), (A, -A), true),
+        ("aslant over a narrow gap", &WIDE, (-A, -A + 3), (A, -A), false),
+        ("beside the notch", &WIDE, (-A, A), (0, -A), true),
+        ("through the notch beside its edge", &WIDE, (-A, A), (1, -A), false),
     ];
     for (name, list, a, b, want) in cases {
         let ring = ring_of(rt, alloc, list, &mut steps)?;

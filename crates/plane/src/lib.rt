@@ -3,4 +3,4 @@
 
 mod limits;
 
-pub use limits::{MAX_CHAIN, MAX_COORDINATE, MAX_CORNERS, MAX_SCRIPT};
+pub use limits::{MAX_CHAIN, MAX_COORDINATE, MAX_CORNERS, MAX_HULL, MAX_SCRIPT};

@@ -12,8 +12,8 @@ read z = to_z w64 (of_z w64 z)
 
 module _ (a b : ℤ) (small_a : IsInLimit a) (small_b : IsInLimit b) where
   -- the size of a product of coordinates
-  product_size : unsigned_abs (a *ℤ b) < 2 ^ 48
-  product_size = rw unsigned_abs-mul (mul-lt _ _ (2 ^ 24) (2 ^ 24) (omega arith) (omega arith))
+  product_size : unsigned_abs (a *ℤ b) < 2 ^ 46
+  product_size = rw unsigned_abs-mul (mul-lt _ _ (2 ^ 23) (2 ^ 23) (omega arith) (omega arith))
 
   -- it is computed as it is
   product_read : read (read a *ℤ read b) ≡ a *ℤ b
@@ -25,7 +25,7 @@ module _ (a b : ℤ) (small_a : IsInLimit a) (small_b : IsInLimit b) where
 
 module _ (p q : Point) (in_p : IsInBounds p) (in_q : IsInBounds q) where
   -- the size of the area
-  pub swept_size : unsigned_abs (p.x *ℤ q.y -ℤ q.x *ℤ p.y) < 2 ^ 49
+  pub swept_size : unsigned_abs (p.x *ℤ q.y -ℤ q.x *ℤ p.y) < 2 ^ 47
   swept_size =
       let left = product_size p.x q.y in_p.x_in_limit in_q.y_in_limit in
       let right = product_size q.x p.y in_q.x_in_limit in_p.y_in_limit in

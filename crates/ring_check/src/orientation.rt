@@ -37,7 +37,7 @@ fn doubled_area<L: Ledger>(points: &[Pt], steps: &mut Steps<L>) -> i64
 #[tactic(auto, using(crate::proofs::SweptArea::swept_area))]
 fn swept<L: Ledger>(from: &Pt, to: &Pt, steps: &mut Steps<L>) -> i64
     ensures value { result ≡ (from.now.x *ℤ to.now.y) -ℤ (to.now.x *ℤ from.now.y) }
-    ensures small { unsigned_abs result < 2 ^ 49 }
+    ensures small { unsigned_abs result < 2 ^ 47 }
 {
     let (from_x, from_y) = from.parts(steps);
     let (to_x, to_y) = to.parts(steps);

@@ -10,6 +10,8 @@ use std::process::Abort;
 use std::sync::ledger::{Blank, Ledger};
 use std::test::Fail;
 
+const A: i64 = 8_388_607;
+
 type At = (i64, i64);
 
 const L_SHAPE: [At; 6] = [(0, 0), (4, 0), (4, 2), (2, 2), (2, 4), (0, 4)];
@@ -30,6 +32,7 @@ fn all_tables<L: Ledger, R: Abort>(rt: &R, alloc: Global, blank: Blank) -> Resul
 {
     let mut steps = Steps::<L>::new(blank);
     accepted_or_refused(rt, alloc, &mut steps)?;
+    long_lists(rt, alloc, &mut steps)?;
     numbers(rt, alloc, &mut steps)
 }
 
@@ -44,7 +47,7 @@ fn points_of<R: Abort>(rt: &R, alloc: Global, list: &[At]) -> Result<Vec<Pt>, Al
 // A ring is named by whether its list was turned round. The sweep knows each of them, which no contract says.
 #[rattlefmt::skip]
 fn accepted_or_refused<L: Ledger, R: Abort>(rt: &R, alloc: Global, steps: &mut Steps<L>) -> Result<(), AllocError> {
-    let cases: [(&str, &[At], Result<bool, RingFault>); 19] = [
+    let cases: [(&str, &[At], Result<bool, RingFault>); 25] = [
         ("an L", &L_SHAPE, Ok(false)),
         ("an L, backward", &L_BACKWARD, Ok(true)),
         ("a flat vertex", &[(0, 0), (2, 0), (4, 0), (0, 4)], Ok(false)),
@@ -64,6 +67,12 @@ fn accepted_or_refused<L: Ledger, R: Abort>(rt: &R, alloc: Global, steps: &mut S
         ("three points on a line", &[(0, 0), (2, 0), (4, 0)], Err(RingFault::Clash(0, 2))),
         ("three points on a vertical line", &[(0, 0), (0, 1), (0, 2)], Err(RingFault::Clash(0, 2))),
         ("two points", &[(0, 0), (4, 0)], Err(RingFault::Few)),
+        ("the square of the limit", &[(-A, -A), (A, -A), (A, A), (-A, A)], Ok(false)),
+        ("the longest sliver", &[(-A, -A), (A, A), (A, A - 1)], Ok(true)),
+        ("a vertex beside the longest edge", &[(-A, -A), (A, A - 1), (1 - A, 1 - A), (-A, A)], Ok(false)),
+        ("a vertex on the longest edge", &[(-A, -A), (A, A), (-A, A), (0, 0)], Err(RingFault::Clash(0, 2))),
+        ("a vertex beyond the longest edge", &[(-A, -A), (A, A - 1), (-A, A), (A - 1, A - 2)], Err(RingFault::Clash(0, 2))),
+        ("the longest diagonals", &[(-A, -A), (A, A), (A, -A), (-A, A)], Err(RingFault::Clash(0, 2))),
     ];
     for (name, list, want) in cases {
         let points = points_of(rt, alloc, list)?;
@@ -74,6 +83,31 @@ fn accepted_or_refused<L: Ledger, R: Abort>(rt: &R, alloc: Global, steps: &mut S
         assert_eq!(rt; is_turned, want, "{name}");
     }
     Ok(())
+}
+
+// A comb with the most vertices is a ring, and a longer one has too many.
+fn long_lists<L: Ledger, R: Abort>(
+    rt: &R,
+    alloc: Global,
+    steps: &mut Steps<L>,
+) -> Result<(), AllocError> {
+    for (count, want) in [(16_384, Ok(false)), (16_385, Err(RingFault::Many))] {
+        let is_turned = Ring::of(comb(rt, alloc, count)?, steps).map(|ring| ring.is_turned());
+        assert_eq!(rt; is_turned, want, "{count} points");
+    }
+    Ok(())
+}
+
+// The list of `count` points that goes along the upper side of the square of the limit and back by teeth, from its lower
+// side to its middle.
+fn comb<R: Abort>(rt: &R, alloc: Global, count: u32) -> Result<Vec<Pt>, AllocError> {
+    let mut points = points_of(rt, alloc, &[(A, A), (-A, A)])?;
+    for i in 2..count {
+        let x = (i as i64).wrapping_mul(1_023).wrapping_sub(A);
+        let y = if i % 2 == 0 { -A } else { 0 };
+        points.push(Pt::of(x, y).expect(rt, "within the limit"))?;
+    }
+    Ok(points)
 }
 
 // The vertices as they are kept, the numbers of vertices and of edges in the list, and the reflex vertex.

@@ -9,6 +9,10 @@ use std::process::Abort;
 use std::sync::ledger::{Blank, Ledger};
 use std::test::Fail;
 
+const A: i64 = 8_388_607;
+
+const B: i128 = 8_388_607;
+
 type At = (i64, i64);
 
 // X, Y and W.
@@ -28,7 +32,7 @@ fn all_kernels<L: Ledger, R: Abort>(rt: &R, alloc: Global, blank: Blank) -> Resu
     requires countable { 0 < blank.parts }
 {
     let mut steps = Steps::<L>::new(blank);
-    let cases: [(&str, &[At], &[Rational]); 13] = [
+    let cases: [(&str, &[At], &[Rational]); 16] = [
         ("an L", &[(0, 0), (4, 0), (4, 2), (2, 2), (2, 4), (0, 4)], &[(0, 0, 1), (2, 0, 1), (2, 2, 1), (0, 2, 1)]),
         ("a U", &[(0, 0), (6, 0), (6, 4), (4, 4), (4, 2), (2, 2), (2, 4), (0, 4)], &[]),
         ("a Z, a segment", &[(0, 0), (2, 0), (2, 1), (4, 1), (4, 2), (1, 2), (1, 1), (0, 1)], &[(1, 1, 1), (2, 1, 1)]),
@@ -41,6 +45,9 @@ fn all_kernels<L: Ledger, R: Abort>(rt: &R, alloc: Global, blank: Blank) -> Resu
         ("a triangle from its last corner", &[(1, 1), (0, 0), (1, 0)], &[(0, 0, 1), (1, 0, 1), (1, 1, 1)]),
         ("a triangle from its least corner", &[(0, 0), (1, 0), (2, 1)], &[(0, 0, 1), (1, 0, 1), (2, 1, 1)]),
         ("a triangle from another corner", &[(1, 0), (0, 1), (0, 0)], &[(0, 0, 1), (1, 0, 1), (0, 1, 1)]),
+        ("the square of the limit", &[(-A, -A), (A, -A), (A, A), (-A, A)], &[(-B, -B, 1), (B, -B, 1), (B, B, 1), (-B, B, 1)]),
+        ("half of it, clockwise", &[(-A, -A), (-A, A), (A, A)], &[(-B, -B, 1), (B, B, 1), (-B, B, 1)]),
+        ("a dart in it", &[(-A, -A), (A, -A), (0, -1), (-A, A)], &[(-B, -B, 1), (B * (B - 1), -B * (B + 1), B + 1), (0, -1, 1), (-B, B - 2, 1)]),
         ("a square with flat vertices", &[(0, 0), (1, 0), (2, 0), (2, 2), (1, 2), (0, 2)], &[(0, 0, 1), (2, 0, 1), (2, 2, 1), (0, 2, 1)]),
     ];
     for (name, list, want) in cases {

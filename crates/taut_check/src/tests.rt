@@ -30,7 +30,8 @@ fn both_ways<L: Ledger, R: Abort>(rt: &R, alloc: Global, blank: Blank) -> Result
 {
     let mut steps = Steps::<L>::new(blank);
     verdicts_in(rt, alloc, &L_SHAPE, &mut steps)?;
-    verdicts_in(rt, alloc, &L_BACKWARD, &mut steps)
+    verdicts_in(rt, alloc, &L_BACKWARD, &mut steps)?;
+    longest_list(rt, alloc, &mut steps)
 }
 
 // The list, and what it is in the L.
@@ -55,8 +56,28 @@ fn verdicts_in<L: Ledger, R: Abort>(rt: &R, alloc: Global, ring: &[At], steps: &
         ("a turn away from both walls", &[(1, 0), (2, 2), (0, 1)], Verdict::WrongSide(1)),
     ];
     for (name, list, want) in cases {
-        assert_eq!(rt; judged(rt, alloc, ring, list, steps)?, want, "{name}");
+        let points = points_of(rt, alloc, list)?;
+        assert_eq!(rt; judged(rt, alloc, ring, &points, steps)?, want, "{name}");
     }
+    Ok(())
+}
+
+// To the corner and back, as often as a list may have it.
+fn longest_list<L: Ledger, R: Abort>(
+    rt: &R,
+    alloc: Global,
+    steps: &mut Steps<L>,
+) -> Result<(), Memory> {
+    let there_and_back = points_of(rt, alloc, &[(4, 1), (2, 2)])?;
+    let mut points = Vec::new(alloc);
+    for _ in 0..8_192 {
+        points.extend_from_slice(&there_and_back)?;
+    }
+    assert_eq!(rt; points.len(), MAX_CHAIN);
+    assert_eq!(rt;
+        judged(rt, alloc, &L_SHAPE, &points, steps)?,
+        Verdict::Straight(1)
+    );
     Ok(())
 }
 
@@ -64,15 +85,14 @@ fn judged<L: Ledger, R: Abort>(
     rt: &R,
     alloc: Global,
     ring: &[At],
-    list: &[At],
+    points: &[Pt],
     steps: &mut Steps<L>,
 ) -> Result<Verdict, Memory> {
     let ring = Ring::of(points_of(rt, alloc, ring)?, steps)
         .ok()
         .expect(rt, "a ring");
-    let points = points_of(rt, alloc, list)?;
     assert!(rt; points.len() <= MAX_CHAIN);
-    check(alloc, &ring, &points, steps)
+    check(alloc, &ring, points, steps)
 }
 
 fn points_of<R: Abort>(rt: &R, alloc: Global, list: &[At]) -> Result<Vec<Pt>, AllocError> {

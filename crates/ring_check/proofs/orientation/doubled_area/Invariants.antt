@@ -6,4 +6,4 @@ use Rattle.ring_check.proofs.orientation.doubled_area.Given as goal
 
 -- what is swept out so far and what is left are the whole area
 abbrev pub invariant-loop-i : goal.invariant-loop-i
-invariant-loop-i g l = (l.area +ℤ rest l.points l.i ≡ doubled_area l.points) × (unsigned_abs l.area ≤ 2 ^ 49 * l.i)
+invariant-loop-i g l = (l.area +ℤ rest l.points l.i ≡ doubled_area l.points) × (unsigned_abs l.area ≤ 2 ^ 47 * l.i)
