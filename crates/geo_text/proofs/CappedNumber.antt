@@ -1,5 +1,6 @@
 -- Numbers as `number` reads them.
-use Rattle.std.proofs.Common.{◌≡◌, ◌+◌, ℕ, zero, suc, min, ℤ, pos, negsuc, neg_ℤ, ◌-ℤ◌, Bool, true, false, List, Some, None, if◌then◌else◌, refl, arith}
+use Rattle.std.proofs.Common.{◌≡◌, ◌≤◌, ◌+◌, ℕ, zero, suc, min, ℤ, pos, negsuc, neg_ℤ, ◌-ℤ◌, Bool, true, false, List, Some, None}
+use Rattle.std.proofs.Common.{if◌then◌else◌, refl, arith}
 use Rattle.std.proofs.lemmas.Bool.Decides.{nat_tests}
 use Rattle.std.proofs.lemmas.Int.{ints}
 use Rattle.std.specs.Prelude.{nat_le, unsigned_abs}
@@ -18,13 +19,14 @@ only_if true z w e = (refl, cc)
 only_if false z w e = cc
 
 -- a number past the limit is read as another past it
-within_limit : (z : ℤ) → nat_le (unsigned_abs (capped z)) MAX_COORDINATE ≡ nat_le (unsigned_abs z) MAX_COORDINATE
-within_limit (pos n) = grind (arith, nat_tests)
-within_limit (negsuc n) = grind (arith, nat_tests)
+within_limit : (limit : ℕ) (z : ℤ) → limit ≤ MAX_COORDINATE → nat_le (unsigned_abs (capped z)) limit ≡ nat_le (unsigned_abs z) limit
+within_limit limit (pos n) h = grind (arith, nat_tests)
+within_limit limit (negsuc n) h = grind (arith, nat_tests)
 
 -- what a number that was read says of its field
-pub number_read : (field : List ℕ) (z : ℤ) → Some z ≡ (if is_number field then Some (capped (number_of field)) else None)
-    → (is_number field ≡ true) × (z ≡ read_of field) × (nat_le (unsigned_abs z) MAX_COORDINATE ≡ is_coordinate field)
-number_read field z e =
+pub number_read : (limit : ℕ) (field : List ℕ) (z : ℤ) → limit ≤ MAX_COORDINATE
+    → Some z ≡ (if is_number field then Some (capped (number_of field)) else None)
+    → (is_number field ≡ true) × (z ≡ read_of field) × (nat_le (unsigned_abs z) limit ≡ is_coordinate limit field)
+number_read limit field z h e =
     let (number, read) = only_if (is_number field) z (capped (number_of field)) e in
-    (number, read, rw read (within_limit (number_of field)))
+    (number, read, rw read (within_limit limit (number_of field) h))

@@ -1,6 +1,6 @@
 -- Points and commands of a list of fields.
-use Rattle.std.proofs.Common.{◌≡◌, ◌≤◌, ◌<◌, ◌+◌, ◌*◌, ◌/◌, ◌%◌, ◌==◌, ℕ, ℤ, Bool, true, false, if◌then◌else◌, Option, Some, None, Result, Ok, Err, List, [], ◌∷◌}
-use Rattle.std.proofs.Common.{length, drop, get_or, map, add-zero, refl, sym, ◌∙◌, ap, arith, true≢false}
+use Rattle.std.proofs.Common.{◌≡◌, ◌≤◌, ◌<◌, ◌+◌, ◌*◌, ◌/◌, ◌%◌, ◌==◌, ◌&&◌, ℕ, ℤ, Bool, true, false, if◌then◌else◌}
+use Rattle.std.proofs.Common.{Option, Some, None, Result, Ok, Err, List, [], ◌∷◌, length, drop, get_or, map, add-zero, refl, sym, ◌∙◌, ap, arith, rules, true≢false}
 use Rattle.std.proofs.lemmas.Bool.Decides.{nat_tests}
 use Rattle.std.proofs.lemmas.List.{drop_more, get_or-drop, get_or-map, length-drop, length-map, nil_from_length}
 use Rattle.std.proofs.lemmas.Result.{IfOk-weaker}
@@ -8,15 +8,16 @@ use Rattle.std.proofs.lemmas.Slice.Eq.{bytes_eq-Decides}
 use Rattle.std.specs.Prelude.{IfOk, IsOkAnd, MatchResult, codes, nat_lt}
 use Rattle.std.specs.Str.{bytes_eq}
 use Rattle.plane.specs.Point.{Point}
-use Rattle.plane.specs.declared.limits.TheConstants.{MAX_CHAIN, MAX_CORNERS}
+use Rattle.plane.specs.declared.limits.TheConstants.{MAX_HULL}
 use Rattle.geo_text.specs.Capped.{pairs_of}
+use Rattle.geo_text.specs.Limits.{IsLimited, limits_of}
 use Rattle.geo_text.specs.Number.{number_of}
-use Rattle.geo_text.specs.Reading.{IsWellSized, fixed_fault, list_fault, number_fault, point_of, points_of, reading_of, unless}
-use Rattle.geo_text.specs.declared.command.TheConstants.{MAX_HULL}
+use Rattle.geo_text.specs.Reading.{IsWellSized, command_of, fixed_fault, list_fault, number_fault, point_of, points_of, reading_of, unless}
 use Rattle.geo_text.specs.declared.command.Bad.{Bad}
 use Rattle.geo_text.specs.declared.command.Bad.TheVariants as bad
 use Rattle.geo_text.specs.declared.command.Command.{Command}
 use Rattle.geo_text.specs.declared.command.Command.TheVariants as command
+use Rattle.geo_text.specs.declared.limits.Limits.{Limits}
 
 -- each two fields are a point
 length-points_of : (fields : List (List ℕ)) → length (points_of fields) ≡ length fields / 2
@@ -94,19 +95,20 @@ in_bounds false false true rest e = cc
 in_bounds false false false rest e = (refl, refl)
 
 -- so it has as many points as its command takes,
-list_in_bounds : (least most : ℕ) (fields : List (List ℕ)) → least ≤ most → list_fault least most fields ≡ None
+list_in_bounds : (limit least most : ℕ) (fields : List (List ℕ)) → least ≤ most → list_fault limit least most fields ≡ None
     → (least ≤ length (points_of fields)) × (length (points_of fields) ≤ most)
-list_in_bounds least most fields small e =
-    let (few, many) = in_bounds ((length fields % 2) == 1) (nat_lt (length fields) (2 * least)) (nat_lt (2 * most) (length fields)) (number_fault fields) e in
+list_in_bounds limit least most fields small e =
+    let (few, many) = in_bounds ((length fields % 2) == 1) (nat_lt (length fields) (2 * least)) (nat_lt (2 * most) (length fields))
+    (number_fault limit fields) e in
     let count = length-points_of fields in
     (grind (arith, nat_tests), grind (arith, nat_tests))
 
 -- and is well sized
-list_is_well_sized : (make : List Point → Command) (least most : ℕ) (fields : List (List ℕ)) (fault : Option Bad) → least ≤ most
+list_is_well_sized : (make : List Point → Command) (limit least most : ℕ) (fields : List (List ℕ)) (fault : Option Bad) → least ≤ most
     → ((points : List Point) → (least ≤ length points) × (length points ≤ most) → IsWellSized (make points))
-    → list_fault least most fields ≡ fault → IfOk (unless fault (make (points_of fields))) IsWellSized
-list_is_well_sized make least most fields (Some fault) small sized e = tt
-list_is_well_sized make least most fields None small sized e = sized (points_of fields) (list_in_bounds least most fields small e)
+    → list_fault limit least most fields ≡ fault → IfOk (unless fault (make (points_of fields))) IsWellSized
+list_is_well_sized make limit least most fields (Some fault) small sized e = tt
+list_is_well_sized make limit least most fields None small sized e = sized (points_of fields) (list_in_bounds limit least most fields small e)
 
 -- a refusal or a command that is well sized
 fixed_is_well_sized : (fault : Option Bad) (made : Command) → IsWellSized made → IfOk (unless fault made) IsWellSized
@@ -119,54 +121,65 @@ either true r s h k = h
 either false r s h k = k
 
 -- each command is well sized
-pub reading_is_well_sized : (fields : List (List ℕ)) → IfOk (reading_of fields) IsWellSized
-reading_is_well_sized [] = tt
-reading_is_well_sized (word ∷ fields) =
+command_is_well_sized : (limits : Limits) → IsLimited limits → (fields : List (List ℕ)) → IfOk (command_of limits fields) IsWellSized
+command_is_well_sized limits h [] = tt
+command_is_well_sized limits h (word ∷ fields) =
     either (bytes_eq word (codes "polygon")) _ _
-    (list_is_well_sized (λ points. command.Polygon points) 3 MAX_CORNERS fields (list_fault 3 MAX_CORNERS fields) (omega arith) (λ points h. h) refl)
+    (list_is_well_sized (λ points. command.Polygon points) limits.coordinate 3 limits.corners fields _ h.some_corners
+    (λ points sized. (sized.0, omega arith)) refl)
     (either (bytes_eq word (codes "inside")) _ _
-    (fixed_is_well_sized (fixed_fault 2 fields) (command.Inside (point_of fields)) tt)
+    (fixed_is_well_sized (fixed_fault limits.coordinate 2 fields) (command.Inside (point_of fields)) tt)
     (either (bytes_eq word (codes "check")) _ _
-    (list_is_well_sized (λ points. command.Check points) 1 MAX_CHAIN fields (list_fault 1 MAX_CHAIN fields) (omega arith) (λ points h. h) refl)
+    (list_is_well_sized (λ points. command.Check points) limits.coordinate 1 limits.chain fields _ h.some_chain
+    (λ points sized. (sized.0, omega arith)) refl)
     (either (bytes_eq word (codes "path")) _ _
-    (fixed_is_well_sized (fixed_fault 4 fields) (command.Path (point_of fields) (point_of (drop 2 fields))) tt)
+    (fixed_is_well_sized (fixed_fault limits.coordinate 4 fields) (command.Path (point_of fields) (point_of (drop 2 fields))) tt)
     (either (bytes_eq word (codes "tree")) _ _
-    (fixed_is_well_sized (fixed_fault 2 fields) (command.Tree (point_of fields)) tt)
+    (fixed_is_well_sized (fixed_fault limits.coordinate 2 fields) (command.Tree (point_of fields)) tt)
     (either (bytes_eq word (codes "reach")) _ _
-    (fixed_is_well_sized (fixed_fault 2 fields) (command.Reach (point_of fields)) tt)
+    (fixed_is_well_sized (fixed_fault limits.coordinate 2 fields) (command.Reach (point_of fields)) tt)
     (either (bytes_eq word (codes "see")) _ _
-    (fixed_is_well_sized (fixed_fault 2 fields) (command.See (point_of fields)) tt)
+    (fixed_is_well_sized (fixed_fault limits.coordinate 2 fields) (command.See (point_of fields)) tt)
     (either (bytes_eq word (codes "kernel")) _ _
-    (fixed_is_well_sized (fixed_fault 0 fields) command.Kernel tt)
+    (fixed_is_well_sized (fixed_fault limits.coordinate 0 fields) command.Kernel tt)
     (either (bytes_eq word (codes "hull")) _ _
-    (list_is_well_sized (λ points. command.Hull points) 1 MAX_HULL fields (list_fault 1 MAX_HULL fields) (omega arith) (λ points h. h) refl) tt))))))))
+    (list_is_well_sized (λ points. command.Hull points) limits.coordinate 1 MAX_HULL fields _ (omega arith) (λ points sized. sized) refl) tt))))))))
+
+-- in both versions
+limits_are_limited : (two : Bool) → IsLimited (limits_of two)
+limits_are_limited true = search rules
+limits_are_limited false = search rules
+
+-- of record k too
+pub reading_is_well_sized : (two : Bool) (k : ℕ) (fields : List (List ℕ)) → IfOk (reading_of two k fields) IsWellSized
+reading_is_well_sized two k fields = either (two && (k == 0)) _ _ tt (command_is_well_sized (limits_of two) (limits_are_limited two) fields)
 
 -- what a record asks for, by its word
-pub reading_by_word : {E : Type 0} (word : List ℕ) → bytes_eq [] word ≡ false → (fields : List (List ℕ))
+pub reading_by_word : {E : Type 0} (limits : Limits) (word : List ℕ) → bytes_eq [] word ≡ false → (fields : List (List ℕ))
     → bytes_eq (get_or fields 0 []) word ≡ true → (found : Result (Result Command Bad) E)
-    → IfOk found (λ reading. reading ≡ reading_of (word ∷ drop 1 fields)) → IfOk found (λ reading. reading ≡ reading_of fields)
-reading_by_word word some [] e found h = absurd (true≢false (sym e ∙ some))
-reading_by_word word some (first ∷ fields) e found h =
+    → IfOk found (λ reading. reading ≡ command_of limits (word ∷ drop 1 fields)) → IfOk found (λ reading. reading ≡ command_of limits fields)
+reading_by_word limits word some [] e found h = absurd (true≢false (sym e ∙ some))
+reading_by_word limits word some (first ∷ fields) e found h =
     let is : first ≡ word = (bytes_eq-Decides first word).0 e in
     IfOk-weaker found _ _ (λ reading read. rw is read) h
 
 -- so it is of the one point that it has
-pub reading_of_point : (word : List ℕ) → bytes_eq [] word ≡ false → (fields : List (List ℕ)) → bytes_eq (get_or fields 0 []) word ≡ true
-    → (make : Point → Command) (read : Result Point Bad) (reading : Result Command Bad)
-    → reading_of (word ∷ drop 1 fields) ≡ unless (fixed_fault 2 (drop 1 fields)) (make (point_of (drop 1 fields)))
-    → read ≡ unless (fixed_fault 2 (drop 1 fields)) (point_of (drop 1 fields))
-    → MatchResult read (λ x. IsOkAnd reading (λ made. made ≡ make x)) (λ e. reading ≡ Err e) → reading ≡ reading_of fields
-reading_of_point word some fields is make read reading by_word one mapped =
-    reading_by_word {E = Bad} word some fields is (Ok reading)
-    (made_of_point make (fixed_fault 2 (drop 1 fields)) (point_of (drop 1 fields)) read reading one mapped ∙ sym by_word)
+pub reading_of_point : (limits : Limits) (word : List ℕ) → bytes_eq [] word ≡ false → (fields : List (List ℕ))
+    → bytes_eq (get_or fields 0 []) word ≡ true → (make : Point → Command) (read : Result Point Bad) (reading : Result Command Bad)
+    → command_of limits (word ∷ drop 1 fields) ≡ unless (fixed_fault limits.coordinate 2 (drop 1 fields)) (make (point_of (drop 1 fields)))
+    → read ≡ unless (fixed_fault limits.coordinate 2 (drop 1 fields)) (point_of (drop 1 fields))
+    → MatchResult read (λ x. IsOkAnd reading (λ made. made ≡ make x)) (λ e. reading ≡ Err e) → reading ≡ command_of limits fields
+reading_of_point limits word some fields is make read reading by_word one mapped =
+    reading_by_word {E = Bad} limits word some fields is (Ok reading)
+    (made_of_point make (fixed_fault limits.coordinate 2 (drop 1 fields)) (point_of (drop 1 fields)) read reading one mapped ∙ sym by_word)
 
 -- a record whose first field is no word that is answered, and a record with no field
-pub reading_of_other : (fields : List (List ℕ)) → bytes_eq (get_or fields 0 []) (codes "polygon") ≡ false
+pub reading_of_other : (limits : Limits) (fields : List (List ℕ)) → bytes_eq (get_or fields 0 []) (codes "polygon") ≡ false
     → bytes_eq (get_or fields 0 []) (codes "inside") ≡ false
     → bytes_eq (get_or fields 0 []) (codes "check") ≡ false → bytes_eq (get_or fields 0 []) (codes "path") ≡ false
     → bytes_eq (get_or fields 0 []) (codes "tree") ≡ false → bytes_eq (get_or fields 0 []) (codes "reach") ≡ false
     → bytes_eq (get_or fields 0 []) (codes "see") ≡ false → bytes_eq (get_or fields 0 []) (codes "kernel") ≡ false
-    → bytes_eq (get_or fields 0 []) (codes "hull") ≡ false → reading_of fields ≡ Err bad.Word
-reading_of_other [] no_polygon no_inside no_check no_path no_tree no_reach no_see no_kernel no_hull = refl
-reading_of_other (word ∷ fields) no_polygon no_inside no_check no_path no_tree no_reach no_see no_kernel no_hull =
+    → bytes_eq (get_or fields 0 []) (codes "hull") ≡ false → command_of limits fields ≡ Err bad.Word
+reading_of_other limits [] no_polygon no_inside no_check no_path no_tree no_reach no_see no_kernel no_hull = refl
+reading_of_other limits (word ∷ fields) no_polygon no_inside no_check no_path no_tree no_reach no_see no_kernel no_hull =
     rw (no_polygon, no_inside, no_check, no_path, no_tree, no_reach, no_see, no_kernel, no_hull) refl

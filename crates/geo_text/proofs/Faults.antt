@@ -1,11 +1,12 @@
 -- Faults of a list of fields, from a place on.
-use Rattle.std.proofs.Common.{◌≡◌, ◌∙◌, ◌<◌, ◌+◌, ℕ, ℤ, pos, negsuc, Bool, true, false, Option, Some, None, Ok, List, [], ◌∷◌, ◌++◌, Vec, Global, length, drop, get_or, map}
-use Rattle.std.proofs.Common.{All, append-nil, append_assoc, if◌then◌else◌, refl, sym, ap, ap₂, arith}
+use Rattle.std.proofs.Common.{◌≡◌, ◌∙◌, ◌<◌, ◌≤◌, ◌+◌, ℕ, ℤ, pos, negsuc, Bool, true, false, Option, Some, None, Ok, List, [], ◌∷◌}
+use Rattle.std.proofs.Common.{◌++◌, Vec, Global, length, drop, get_or, map, All, append-nil, append_assoc, if◌then◌else◌, refl, sym, ap, ap₂, arith}
 use Rattle.std.proofs.lemmas.Bool.Decides.{nat_tests}
 use Rattle.std.proofs.lemmas.List.{at_drop_more}
 use Rattle.std.proofs.lemmas.List.Elements.{All-cons, All-nil}
 use Rattle.std.specs.Option.{option_or}
 use Rattle.plane.specs.Point.{IsInLimit}
+use Rattle.plane.specs.declared.limits.TheConstants.{MAX_COORDINATE}
 use Rattle.geo_text.specs.Capped.{Reads, capped, read_of}
 use Rattle.geo_text.specs.Number.{is_coordinate, is_number, number_of}
 use Rattle.geo_text.specs.Reading.{first_failing, first_fault, number_fault}
@@ -25,10 +26,12 @@ first_stays None true place rest = refl
 first_stays None false place rest = refl
 
 -- one more field is looked at for its size
-pub range_step : (range : Option Bad) (fields : List (List ℕ)) (place : ℕ) (fits : Bool) → place < length fields → fits ≡ is_coordinate (get_or fields place [])
-    → option_or range (first_fault None (first_failing is_coordinate place (drop place fields)))
-    ≡ option_or (option_or range (if fits then None else Some (bad.Range place))) (first_fault None (first_failing is_coordinate (place + 1) (drop (place + 1) fields)))
-range_step range fields place fits h e = rw (first_failing-drop is_coordinate fields place h, ← e) (first_stays range fits place _)
+pub range_step : (limit : ℕ) (range : Option Bad) (fields : List (List ℕ)) (place : ℕ) (fits : Bool) → place < length fields
+    → fits ≡ is_coordinate limit (get_or fields place [])
+    → option_or range (first_fault None (first_failing (is_coordinate limit) place (drop place fields)))
+    ≡ option_or (option_or range (if fits then None else Some (bad.Range place)))
+    (first_fault None (first_failing (is_coordinate limit) (place + 1) (drop (place + 1) fields)))
+range_step limit range fields place fits h e = rw (first_failing-drop (is_coordinate limit) fields place h, ← e) (first_stays range fits place _)
 
 -- where none fails from a field on, it passes, and none after it fails
 passes : {T : Type 0} (b : Bool) (rest : Option T) (fault : T) → (if b then rest else Some fault) ≡ None → (b ≡ true) × (rest ≡ None)
@@ -47,20 +50,21 @@ capped_within (pos n) h = ap pos (omega arith)
 capped_within (negsuc n) h = ap negsuc (omega arith)
 
 -- so are the numbers of fields of which none passes the limit
-read_exactly : (fields : List (List ℕ)) (place : ℕ) → first_failing is_coordinate place fields ≡ None
+read_exactly : (limit : ℕ) (fields : List (List ℕ)) (place : ℕ) → limit ≤ MAX_COORDINATE → first_failing (is_coordinate limit) place fields ≡ None
     → (map read_of fields ≡ map number_of fields) × All IsInLimit (map number_of fields)
-read_exactly [] place none = (refl, All-nil IsInLimit)
-read_exactly (field ∷ fields) place none =
-    let (here, rest) = passes (is_coordinate field) _ place none in
-    let (same, small) = read_exactly fields (place + 1) rest in
+read_exactly limit [] place h none = (refl, All-nil IsInLimit)
+read_exactly limit (field ∷ fields) place h none =
+    let (here, rest) = passes (is_coordinate limit field) _ place none in
+    let (same, small) = read_exactly limit fields (place + 1) h rest in
     let within : IsInLimit (number_of field) = grind (arith, nat_tests) in
     (ap₂ (λ (z : ℤ) (numbers : List ℤ). z ∷ numbers) (capped_within (number_of field) within) same, All-cons IsInLimit (number_of field) (map number_of fields) within small)
 
 -- where there is no fault, what was read are the numbers of the fields
-reads_numbers : (fields : List (List ℕ)) (numbers : Vec ℤ Global) → number_fault fields ≡ None → numbers.items ≡ map read_of fields
-    → Reads fields (number_fault fields) (Ok numbers)
-reads_numbers fields numbers none read =
-    let (same, small) = read_exactly fields 1 (no_fault (first_failing is_number 1 fields) (first_failing is_coordinate 1 fields) none).1 in
+reads_numbers : (limit : ℕ) (fields : List (List ℕ)) (numbers : Vec ℤ Global) → limit ≤ MAX_COORDINATE → number_fault limit fields ≡ None
+    → numbers.items ≡ map read_of fields → Reads fields (number_fault limit fields) (Ok numbers)
+reads_numbers limit fields numbers h none read =
+    let no_range = (no_fault (first_failing is_number 1 fields) (first_failing (is_coordinate limit) 1 fields) none).1 in
+    let (same, small) = read_exactly limit fields 1 h no_range in
     (none, read ∙ same, rw (read, same) small)
 
 -- one more field is read
@@ -70,12 +74,12 @@ read_step fields place z before after all h e pushed read =
     rw (pushed, append_assoc, e) (rw (at_drop_more (map read_of) fields place [] h) at read)
 
 -- all fields are read, and none has a fault
-pub all_read : (fields rest : List (List ℕ)) (place : ℕ) (numbers : Vec ℤ Global) → rest ≡ []
+pub all_read : (limit : ℕ) (fields rest : List (List ℕ)) (place : ℕ) (numbers : Vec ℤ Global) → limit ≤ MAX_COORDINATE → rest ≡ []
     → first_failing is_number 1 fields ≡ first_failing is_number place rest
-    → first_fault None (first_failing is_coordinate 1 fields) ≡ first_fault None (first_failing is_coordinate place rest)
-    → numbers.items ++ map read_of rest ≡ map read_of fields → Reads fields (number_fault fields) (Ok numbers)
-all_read fields rest place numbers ended number range read =
+    → first_fault None (first_failing (is_coordinate limit) 1 fields) ≡ first_fault None (first_failing (is_coordinate limit) place rest)
+    → numbers.items ++ map read_of rest ≡ map read_of fields → Reads fields (number_fault limit fields) (Ok numbers)
+all_read limit fields rest place numbers h ended number range read =
     let no_number : first_failing is_number 1 fields ≡ None = rw ended at number in
-    let no_range : first_fault None (first_failing is_coordinate 1 fields) ≡ None = rw ended at range in
+    let no_range : first_fault None (first_failing (is_coordinate limit) 1 fields) ≡ None = rw ended at range in
     let all : numbers.items ++ [] ≡ map read_of fields = rw ended at read in
-    reads_numbers fields numbers (rw no_number no_range) (sym (append-nil numbers.items) ∙ all)
+    reads_numbers limit fields numbers h (rw no_number no_range) (sym (append-nil numbers.items) ∙ all)

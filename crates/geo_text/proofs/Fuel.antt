@@ -1,6 +1,6 @@
 -- More fuel than the bytes of a text gives no more records.
-use Rattle.std.proofs.Common.{◌≡◌, ◌<◌, ◌+◌, ◌⊎◌, ℕ, zero, suc, Bool, true, false, Option, Some, None, List, [], ◌∷◌, length, refl, ap, subst, inl}
-use Rattle.std.proofs.Common.{inr, arith, add-one}
+use Rattle.std.proofs.Common.{◌≡◌, ◌<◌, ◌≤◌, ◌+◌, ◌⊎◌, ℕ, zero, suc, Bool, true, false, Option, Some, None, List, [], ◌∷◌}
+use Rattle.std.proofs.Common.{length, refl, ap, subst, inl, inr, arith, add-one}
 use Rattle.csv.specs.Machine.{Read, ends_at_end, field_after, fields_after, is_end, next_record, step}
 use Rattle.csv.specs.Reading.{records_from, records_next}
 use Rattle.csv.specs.declared.parser.Config.{Config}
@@ -72,3 +72,13 @@ records_taken cfg s xs p e = elim (record_shortens cfg s [] [] xs p e).by [
 pub records_none : (cfg : Config) (s : State) (xs : List ℕ) → next_record cfg s [] [] xs ≡ None → records_from cfg (length xs + 1) s xs ≡ []
 unfolding records_from
 records_none cfg s xs e = rw (add-one (length xs), e) refl
+
+-- no more records than fuel
+pub length-records_from : (cfg : Config) (n : ℕ) (s : State) (xs : List ℕ) → length (records_from cfg n s xs) ≤ n
+unfolding records_from
+length-records_from cfg zero s xs = omega arith
+length-records_from cfg (suc n) s xs = by_next (next_record cfg s [] [] xs) (λ p. length-records_from cfg n p.1 p.2)
+  where
+    by_next : (o : Option Read) → ((p : Read) → length (records_from cfg n p.1 p.2) ≤ n) → length (records_next (records_from cfg n) o) ≤ suc n
+    by_next None more = omega arith
+    by_next (Some p) more = omega (arith, more p)

@@ -1,14 +1,15 @@
 -- What a read of a record takes from the records that a reader has left.
-use Rattle.std.proofs.Common.{Bor, ◌≡◌, ◌∙◌, ◌==◌, ◌&&◌, ℕ, Bool, true, false, not, if◌then◌else◌, Option, Some, Result, Ok, Err, List, [], ◌∷◌, map}
-use Rattle.std.proofs.Common.{refl}
+use Rattle.std.proofs.Common.{Bor, ◌≡◌, ◌∙◌, ◌==◌, ◌&&◌, ◌+◌, ◌<◌, ◌≤◌, ◌^◌, ℕ, Bool, true, false, not, if◌then◌else◌}
+use Rattle.std.proofs.Common.{Option, Some, Result, Ok, Err, List, [], ◌∷◌, map, arith, length, refl}
+use Rattle.std.proofs.lemmas.List.{length-map}
 use Rattle.std.specs.Bool.{MatchBool}
 use Rattle.std.specs.Prelude.{IfOk, OnOk, option_map}
 use Rattle.std.specs.Result.{result_or}
-use Rattle.geo_text.proofs.Fuel.{records_none, records_taken}
+use Rattle.geo_text.proofs.Fuel.{length-records_from, records_none, records_taken}
 use Rattle.geo_text.specs.Records.{without_blanks}
 use Rattle.geo_text.specs.Script.{IsReading, TakesFields, records_after, records_left}
 use Rattle.csv.proofs.ReadFacts.{rows-end, rows-more}
-use Rattle.csv.specs.Reading.{Reached, ReadRecord, ReadsOn, Ready, buffered_of, default_config, has_failed, reader_trim, source_of, strip_bom}
+use Rattle.csv.specs.Reading.{Reached, ReadRecord, ReadsOn, Ready, buffered_of, default_config, has_failed, is_bom, reader_trim, source_of, strip_bom}
 use Rattle.csv.specs.declared.parser.State.{State}
 use Rattle.csv.specs.declared.reader.Reader.{Reader}
 use Rattle.csv.specs.declared.reader.Trim.TheVariants as trim
@@ -68,3 +69,21 @@ pub result_takes : {E M : Type 0} (r : Result Bool E) (m : M) (a b : Reader (Bor
     → IfOk (result_or r (Err m)) (λ found. MatchBool found (TakesFields a b (map without_blanks fields)) (records_left a ≡ []))
 result_takes (Ok found) m a b fields h read on goes = read_takes a b found fields h (read h.untrimmed h.ready) on goes
 result_takes (Err e) m a b fields h read on goes = tt
+
+-- to drop a mark adds no byte
+length-strip_bom : (bytes : List ℕ) → length (strip_bom bytes) ≤ length bytes
+unfolding strip_bom
+length-strip_bom [] = omega arith
+length-strip_bom (a ∷ []) = omega arith
+length-strip_bom (a ∷ b ∷ []) = omega arith
+length-strip_bom (a ∷ b ∷ c ∷ rest) = by_mark (is_bom a b c)
+  where
+    by_mark : (mark : Bool) → length (if mark then rest else a ∷ b ∷ c ∷ rest) ≤ length (a ∷ b ∷ c ∷ rest)
+    by_mark true = omega arith
+    by_mark false = omega arith
+
+-- so the records of a text can be counted
+pub few_records : (s : State) (bytes : List ℕ) → length bytes < 2 ^ 63 → length (records_after s (Some (strip_bom bytes))) ≤ 2 ^ 63
+few_records s bytes few =
+    let text = strip_bom bytes in
+    rw length-map (omega (arith, length-strip_bom bytes, length-records_from default_config (length text + 1) s text))

@@ -1,4 +1,5 @@
 pub mod Capped
+pub mod Limits
 pub mod Number
 pub mod Reading
 pub mod Records

@@ -3,7 +3,6 @@ use Rattle.std.specs.Char.{is_ascii_digit}
 use Rattle.std.specs.List.{list_all}
 use Rattle.std.specs.Prelude.{ℕ, ℤ, Bool, false, List, [], ◌∷◌, nat_le, unsigned_abs}
 use Rattle.std.specs.Str.Parse.{signed_digits_value, without_leading_sign}
-use Rattle.plane.specs.declared.limits.TheConstants.{MAX_COORDINATE}
 
 -- one or more decimal digits, and nothing else
 abbrev pub are_digits : List ℕ → Bool
@@ -19,5 +18,5 @@ abbrev pub number_of : List ℕ → ℤ
 number_of field = signed_digits_value 10 field
 
 -- the number is within the limit
-abbrev pub is_coordinate : List ℕ → Bool
-is_coordinate field = nat_le (unsigned_abs (number_of field)) MAX_COORDINATE
+abbrev pub is_coordinate : ℕ → List ℕ → Bool
+is_coordinate limit field = nat_le (unsigned_abs (number_of field)) limit

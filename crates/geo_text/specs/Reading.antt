@@ -1,15 +1,17 @@
 -- What a record asks for: a command, or the first refusal that holds. This project's own.
-use Rattle.std.specs.Prelude.{◌≡◌, ℕ, ◌+◌, ◌*◌, ◌%◌, ◌≤◌, Bool, ◌==◌, nat_lt, if◌then◌else◌, List, [], ◌∷◌, length, codes, slice_index_or, drop}
+use Rattle.std.specs.Prelude.{◌≡◌, ℕ, ◌+◌, ◌*◌, ◌%◌, ◌≤◌, Bool, false, ◌&&◌, ◌==◌, nat_lt, if◌then◌else◌, List, [], ◌∷◌, length, codes, slice_index_or, drop}
 use Rattle.std.specs.Prelude.{Option, Some, None, Result, Ok, Err}
 use Rattle.std.specs.Str.{bytes_eq}
 use Rattle.plane.specs.Point.{Point}
-use Rattle.plane.specs.declared.limits.TheConstants.{MAX_CHAIN, MAX_CORNERS}
+use Rattle.plane.specs.declared.limits.TheConstants.{MAX_CHAIN, MAX_CORNERS, MAX_HULL}
+use Rattle.geo_text.specs.Limits.{limits_of}
 use Rattle.geo_text.specs.Number.{is_coordinate, is_number, number_of}
-use Rattle.geo_text.specs.declared.command.TheConstants.{MAX_HULL}
+use Rattle.geo_text.specs.Records.{Unread}
 use Rattle.geo_text.specs.declared.command.Bad.{Bad}
 use Rattle.geo_text.specs.declared.command.Bad.TheVariants as bad
 use Rattle.geo_text.specs.declared.command.Command.{Command}
 use Rattle.geo_text.specs.declared.command.Command.TheVariants as command
+use Rattle.geo_text.specs.declared.limits.Limits.{Limits}
 
 -- the place of the first field that fails a test, counted from a given place on
 abbrev pub first_failing : (List ℕ → Bool) → ℕ → List (List ℕ) → Option ℕ
@@ -22,8 +24,8 @@ first_fault (Some place) too_great = Some (bad.Number place)
 first_fault None (Some place) = Some (bad.Range place)
 first_fault None None = None
 
-abbrev pub number_fault : List (List ℕ) → Option Bad
-number_fault fields = first_fault (first_failing is_number 1 fields) (first_failing is_coordinate 1 fields)
+abbrev pub number_fault : ℕ → List (List ℕ) → Option Bad
+number_fault limit fields = first_fault (first_failing is_number 1 fields) (first_failing (is_coordinate limit) 1 fields)
 
 -- each two fields are a point, x before y
 abbrev pub points_of : List (List ℕ) → List Point
@@ -37,38 +39,53 @@ unless None value = Ok value
 unless (Some fault) value = Err fault
 
 -- what is wrong with the fields of a list of points, if anything
-abbrev pub list_fault : ℕ → ℕ → List (List ℕ) → Option Bad
-list_fault least most fields =
+abbrev pub list_fault : ℕ → ℕ → ℕ → List (List ℕ) → Option Bad
+list_fault limit least most fields =
     if (length fields % 2) == 1 then Some bad.Fields
     else if nat_lt (length fields) (2 * least) then Some bad.Few
     else if nat_lt (2 * most) (length fields) then Some bad.Many
-    else number_fault fields
+    else number_fault limit fields
 
 -- what is wrong with the fields of a command that takes just so many, if anything
-abbrev pub fixed_fault : ℕ → List (List ℕ) → Option Bad
-fixed_fault count fields = if length fields == count then number_fault fields else Some bad.Fields
+abbrev pub fixed_fault : ℕ → ℕ → List (List ℕ) → Option Bad
+fixed_fault limit count fields = if length fields == count then number_fault limit fields else Some bad.Fields
 
 -- the first two fields are a point
 abbrev pub point_of : List (List ℕ) → Point
 point_of fields = record { x = number_of (slice_index_or fields 0 []); y = number_of (slice_index_or fields 1 []) }
 
--- the command that a record is, or why it is none
-abbrev pub reading_of : List (List ℕ) → Result Command Bad
-reading_of [] = Err bad.Word
-reading_of (word ∷ fields) =
-    if bytes_eq word (codes "polygon") then unless (list_fault 3 MAX_CORNERS fields) (command.Polygon (points_of fields))
-    else if bytes_eq word (codes "inside") then unless (fixed_fault 2 fields) (command.Inside (point_of fields))
-    else if bytes_eq word (codes "check") then unless (list_fault 1 MAX_CHAIN fields) (command.Check (points_of fields))
-    else if bytes_eq word (codes "path") then unless (fixed_fault 4 fields) (command.Path (point_of fields) (point_of (drop 2 fields)))
-    else if bytes_eq word (codes "tree") then unless (fixed_fault 2 fields) (command.Tree (point_of fields))
-    else if bytes_eq word (codes "reach") then unless (fixed_fault 2 fields) (command.Reach (point_of fields))
-    else if bytes_eq word (codes "see") then unless (fixed_fault 2 fields) (command.See (point_of fields))
-    else if bytes_eq word (codes "kernel") then unless (fixed_fault 0 fields) command.Kernel
-    else if bytes_eq word (codes "hull") then unless (list_fault 1 MAX_HULL fields) (command.Hull (points_of fields))
+-- the command that a record is by its word, or why it is none
+abbrev pub command_of : Limits → List (List ℕ) → Result Command Bad
+command_of limits [] = Err bad.Word
+command_of limits (word ∷ fields) =
+    if bytes_eq word (codes "polygon") then unless (list_fault limits.coordinate 3 limits.corners fields) (command.Polygon (points_of fields))
+    else if bytes_eq word (codes "inside") then unless (fixed_fault limits.coordinate 2 fields) (command.Inside (point_of fields))
+    else if bytes_eq word (codes "check") then unless (list_fault limits.coordinate 1 limits.chain fields) (command.Check (points_of fields))
+    else if bytes_eq word (codes "path") then unless (fixed_fault limits.coordinate 4 fields) (command.Path (point_of fields) (point_of (drop 2 fields)))
+    else if bytes_eq word (codes "tree") then unless (fixed_fault limits.coordinate 2 fields) (command.Tree (point_of fields))
+    else if bytes_eq word (codes "reach") then unless (fixed_fault limits.coordinate 2 fields) (command.Reach (point_of fields))
+    else if bytes_eq word (codes "see") then unless (fixed_fault limits.coordinate 2 fields) (command.See (point_of fields))
+    else if bytes_eq word (codes "kernel") then unless (fixed_fault limits.coordinate 0 fields) command.Kernel
+    else if bytes_eq word (codes "hull") then unless (list_fault limits.coordinate 1 MAX_HULL fields) (command.Hull (points_of fields))
     else Err bad.Word
+
+-- the record has just two fields, the word `geo` and the number 2
+abbrev pub asks_two : List (List ℕ) → Bool
+asks_two (word ∷ number ∷ []) = bytes_eq word (codes "geo") && bytes_eq number (codes "2")
+asks_two _ = false
+
+-- a script is of version 2 where its first record asks for it
+abbrev pub is_two : List (List (List ℕ)) → Bool
+is_two [] = false
+is_two (fields ∷ records) = asks_two fields
+
+-- the command that record k of a script of a version is, counted from 0, or why it is none
+abbrev pub reading_of : Bool → ℕ → List (List ℕ) → Result Command Bad
+reading_of two k fields = if two && (k == 0) then Ok command.Two else command_of (limits_of two) fields
 
 -- a list of points has as many as its command takes
 abbrev pub IsWellSized : Command → Type 0
+IsWellSized command.Two = Unit {0}
 IsWellSized (command.Polygon points) = (3 ≤ length points) × (length points ≤ MAX_CORNERS)
 IsWellSized (command.Inside point) = Unit {0}
 IsWellSized (command.Check points) = (1 ≤ length points) × (length points ≤ MAX_CHAIN)
@@ -79,7 +96,15 @@ IsWellSized (command.See point) = Unit {0}
 IsWellSized command.Kernel = Unit {0}
 IsWellSized (command.Hull points) = (1 ≤ length points) × (length points ≤ MAX_HULL)
 
--- the next command was taken from the records that are left; `None` says that none is left
-abbrev pub TakesCommand : List (List (List ℕ)) → List (List (List ℕ)) → Option (Result Command Bad) → Type 0
-TakesCommand before after None = (before ≡ []) × (after ≡ [])
-TakesCommand before after (Some reading) = (fields : List (List ℕ)) × (before ≡ fields ∷ after) × (reading ≡ reading_of fields)
+-- the next record was taken from a script, and read as this; the first one says of which version the script is
+pub record TakesRecord (before after : Unread) (reading : Result Command Bad) : Type 0 where
+  pub fields : List (List ℕ)
+  pub first : before.left ≡ fields ∷ after.left
+  pub counted : after.next ≡ before.next + 1
+  pub version : after.two ≡ (if before.next == 0 then asks_two fields else before.two)
+  pub reads : reading ≡ reading_of after.two before.next fields
+
+-- the next command was taken from a script; `None` says that no record is left
+abbrev pub TakesCommand : Unread → Unread → Option (Result Command Bad) → Type 0
+TakesCommand before after None = (before.left ≡ []) × (after ≡ before)
+TakesCommand before after (Some reading) = TakesRecord before after reading

@@ -24,7 +24,10 @@ plain_fields row = map without_blanks (fields_of row)
 abbrev pub records_of : List ℕ → List (List (List ℕ))
 records_of bytes = map (λ fields. map without_blanks fields) (records default_config (strip_bom bytes))
 
--- what is left of a script: its records, and whether it has failed
+-- what is left of a script: its records, the number of the next one, whether the script is of version 2, which its first record
+-- says, and whether it has failed
 pub record Unread : Type 0 where
   pub left : List (List (List ℕ))
+  pub next : ℕ
+  pub two : Bool
   pub failed : Bool

@@ -1,10 +1,7 @@
 -- How a script lays out what is left of it. No public clause cites this module.
 use Rattle.std.specs.Borrow.{Bor}
-use Rattle.std.specs.Prelude.{◌≡◌, ◌+◌, true, false, if◌then◌else◌, ℕ, List, [], ◌∷◌, length, map, Option, Some, None, Result}
-use Rattle.geo_text.specs.Reading.{reading_of}
+use Rattle.std.specs.Prelude.{◌≡◌, ◌+◌, ◌≤◌, ◌^◌, true, false, if◌then◌else◌, ℕ, List, [], ◌∷◌, length, map, Option, Some, None}
 use Rattle.geo_text.specs.Records.{Unread, without_blanks}
-use Rattle.geo_text.specs.declared.command.Bad.{Bad}
-use Rattle.geo_text.specs.declared.command.Command.{Command}
 use Rattle.geo_text.specs.declared.script.Script.TheInside.{Inside}
 use Rattle.csv.specs.Reading.{Ready, default_config, has_failed, is_flexible, reader_config, reader_state, reader_trim, records_from, source_of}
 use Rattle.csv.specs.declared.parser.State.{State}
@@ -33,14 +30,19 @@ pub record TakesFields (old new : Reader (Bor (List ℕ))) (fields : List (List 
   pub first : records_left old ≡ fields ∷ records_left new
   pub reads_on : IsReading new
 
--- the record that the next read took reads thus; `None` says that none was left
-abbrev pub TakesReading : Reader (Bor (List ℕ)) → Reader (Bor (List ℕ)) → Option (Result Command Bad) → Type 0
-TakesReading old new None = records_left old ≡ []
-TakesReading old new (Some reading) = (fields : List (List ℕ)) × TakesFields old new fields × (reading ≡ reading_of fields)
+-- the reader reads on, and what it has left can be counted from this number on
+pub record Counts (reader : Reader (Bor (List ℕ))) (next : ℕ) : Type 0 where
+  pub reads_on : IsReading reader
+  pub few : next + length (records_left reader) ≤ 2 ^ 63
 
--- a script that has neither failed nor come to its end reads on
+-- so it is in a script that has neither failed nor come to its end
 abbrev pub ReadsOn : Inside → Type 0
-ReadsOn script = script.failed ≡ false → script.ended ≡ false → IsReading script.reader
+ReadsOn script = script.failed ≡ false → script.ended ≡ false → Counts script.reader script.next
 
 abbrev pub unread : Inside → Unread
-unread script = record { left = if script.ended then [] else records_left script.reader; failed = script.failed }
+unread script = record {
+  left = if script.ended then [] else records_left script.reader;
+  next = script.next;
+  two = script.two;
+  failed = script.failed;
+}

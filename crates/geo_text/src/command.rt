@@ -1,12 +1,11 @@
 use crate::points::Points;
 use exact_plane::Pt;
 
-/// The most points that a `hull` has.
-pub const MAX_HULL: usize = 64;
-
 /// What a record asks for.
 #[derive(Drop)]
 pub enum Command {
+    /// Take version 2 of the script, with no polygon and no tree.
+    Two,
     /// Take the polygon with these vertices, 3 to `MAX_CORNERS` of them.
     Polygon(Points),
     /// Say where this point lies in the polygon.

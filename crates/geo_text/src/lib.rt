@@ -2,17 +2,23 @@
 #![tactic(auto)]
 
 mod command;
+mod coordinates;
 mod fields;
+mod limits;
 mod number;
 mod points;
 mod put;
 mod reading;
 mod script;
 
-pub use command::{Bad, Command, MAX_HULL};
+pub use command::{Bad, Command};
 pub use points::Points;
 pub use put::{put_bad, put_hom, put_index, put_line_end, put_pt, put_word};
 pub use script::Script;
 
+#[cfg(test)]
+mod script_tests;
+#[cfg(test)]
+mod test_readings;
 #[cfg(test)]
 mod tests;

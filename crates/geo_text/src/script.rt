@@ -1,11 +1,12 @@
 ghost use Rattle.std.specs.Bool.{MatchBool};
-ghost use Rattle.std.specs.Prelude.{◌≡◌, [], true, false, IfOk, IfSome, OnOk, OnErr};
-ghost use Rattle.geo_text.specs.Reading.{IsWellSized, TakesCommand};
+ghost use Rattle.std.specs.Prelude.{◌≡◌, ◌==◌, [], true, false, if◌then◌else◌, IfOk, IfSome, OnOk, OnErr};
+ghost use Rattle.geo_text.specs.Reading.{IsWellSized, TakesCommand, asks_two as is_asked, reading_of};
 ghost use Rattle.geo_text.specs.Records.{plain_fields, records_of};
-ghost use Rattle.geo_text.specs.Script.{IsReading, TakesFields, TakesReading, records_left};
+ghost use Rattle.geo_text.specs.Script.{IsReading, TakesFields, records_left};
 
 use crate::command::{Bad, Command};
-use crate::reading::command;
+use crate::limits::Limits;
+use crate::reading::{asks_two, command};
 use csv::{ByteRecord, Reader, ReaderBuilder};
 use exact_plane::Memory;
 use std::alloc::Global;
@@ -17,6 +18,8 @@ pub struct Script<'a> {
     reader: Reader<&'a [u8]>,
     row: ByteRecord,
     alloc: Global,
+    next: usize,
+    two: bool,
     ended: bool,
     failed: bool,
 }
@@ -34,9 +37,9 @@ impl<'a> Model for Script<'a> {
 }
 
 impl<'a> Script<'a> {
-    /// The script that these bytes are. It takes no memory, and keeps the allocator.
+    /// The script that these bytes are, before its first record. It takes no memory, and keeps the allocator.
     pub fn open(alloc: Global, bytes: &'a [u8]) -> Script<'a>
-        ensures { result ≡ record { left = records_of bytes.now; failed = false } }
+        ensures { result ≡ record { left = records_of bytes.now; next = 0; two = false; failed = false } }
     {
         Script {
             reader: ReaderBuilder::new()
@@ -45,16 +48,17 @@ impl<'a> Script<'a> {
                 .from_reader(alloc, bytes),
             row: ByteRecord::new(alloc),
             alloc,
+            next: 0,
+            two: false,
             ended: false,
             failed: false,
         }
     }
 
-    /// The next record's command or refusal, or `None` at the end. Once it answered want of memory, every later call
-    /// does.
-    #[tactic(auto, using(crate::proofs::Commands::reading_is_well_sized))]
+    /// The next record's command or refusal, or `None` at the end. The first record says of which version the script is. Once
+    /// it answered want of memory, every later call does.
     pub fn next_command(&mut self) -> Result<Option<Result<Command, Bad>>, Memory>
-        ensures takes { IfOk result (λ found. TakesCommand self.old.left self.new.left found) }
+        ensures takes { IfOk result (λ found. TakesCommand self.old self.new found) }
         ensures well_sized { IfOk result (λ found. IfSome found (λ reading. IfOk reading IsWellSized)) }
         ensures fails { OnErr result (self.new.failed ≡ true) }
         ensures goes_on { OnOk result ((self.old.failed ≡ false) × (self.new.failed ≡ false)) }
@@ -66,26 +70,39 @@ impl<'a> Script<'a> {
             return Ok(None);
         }
         self.failed = true;
-        let reading = next_reading(self.alloc, &mut self.reader, &mut self.row)?;
+        if !read(&mut self.reader, &mut self.row)? {
+            self.ended = true;
+            self.failed = false;
+            return Ok(None);
+        }
+        self.two = is_two(&self.row, self.next, self.two);
+        let reading = reading(self.alloc, &self.row, self.next, self.two)?;
+        self.next += 1;
         self.failed = false;
-        self.ended = reading.is_none();
-        Ok(reading)
+        Ok(Some(reading))
     }
 }
 
-// The next record's command or refusal, if there is a record.
-fn next_reading(
-    alloc: Global,
-    reader: &mut Reader<&[u8]>,
-    row: &mut ByteRecord,
-) -> Result<Option<Result<Command, Bad>>, Memory>
-    requires { IsReading reader.old }
-    ensures { IfOk result (λ found. TakesReading reader.old reader.new found) }
+// Whether a script is of version 2, once the record with this number was read.
+fn is_two(row: &ByteRecord, number: usize, two: bool) -> bool
+    ensures { result ≡ (if number == 0 then is_asked (plain_fields row.now) else two) }
 {
-    if read(reader, row)? {
-        Ok(Some(command(alloc, row)?))
+    if number == 0 { asks_two(row) } else { two }
+}
+
+// The command that the record with this number is in a script of this version, or why it is none.
+fn reading(
+    alloc: Global,
+    row: &ByteRecord,
+    number: usize,
+    two: bool,
+) -> Result<Result<Command, Bad>, Memory>
+    ensures { IfOk result (λ reading. reading ≡ reading_of two number (plain_fields row.now)) }
+{
+    if two && number == 0 {
+        Ok(Ok(Command::Two))
     } else {
-        Ok(None)
+        command(alloc, row, &Limits::of(two))
     }
 }
 

@@ -4,7 +4,7 @@ use Rattle.std.proofs.lemmas.List.{drop_all}
 use Rattle.geo_text.proofs.CappedNumber.{number_read}
 use Rattle.geo_text.proofs.Faults.{all_read, first_failing-drop, range_step, read_step}
 use Rattle.geo_text.proofs.FieldAt.{length-plain_fields}
-use Rattle.geo_text.proofs.reading.numbers.Goals as goal
+use Rattle.geo_text.proofs.coordinates.numbers.Goals as goal
 use Rattle.geo_text.specs.Capped.{after_word}
 use Rattle.geo_text.specs.Number.{is_number}
 use Rattle.geo_text.specs.Records.{plain_fields}
@@ -14,9 +14,10 @@ loop-place-preserved c =
     let fields = plain_fields c.args.row.now in
     let count = length-plain_fields c.args.row.now in
     let within : c.loop-place.place < length fields = omega arith in
-    let (is, same, fits_limit) = rw c.field.ensures at (number_read c.field.result.now c.in-Some.z (sym c.in-Some.is ∙ c.number.ensures)) in
+    let read = number_read c.args.limit c.field.result.now c.in-Some.z c.requires.limit (sym c.in-Some.is ∙ c.number.ensures) in
+    let (is, same, fits_limit) = rw c.field.ensures at read in
     let fits : FitsSigned w64 c.in-Some.z = search rules in
-    let step = range_step c.loop-place.range fields c.loop-place.place _ within fits_limit in
+    let step = range_step c.args.limit c.loop-place.range fields c.loop-place.place _ within fits_limit in
     let number = rw is at (first_failing-drop is_number fields c.loop-place.place within) in
     record {
       number = c.loop-place.invariant.number ∙ number;
@@ -29,5 +30,6 @@ returns-in-None c =
     let fields = plain_fields c.args.row.now in
     let count = length-plain_fields c.args.row.now in
     let past : length fields ≤ c.loop-place.place = omega arith in
-    all_read (after_word c.args.row.now) _ c.loop-place.place c.loop-place.numbers
-    (drop_all c.loop-place.place fields past) c.loop-place.invariant.number (rw c.in-None.is at c.loop-place.invariant.range) c.loop-place.invariant.read
+    all_read c.args.limit (after_word c.args.row.now) _ c.loop-place.place c.loop-place.numbers c.requires.limit
+    (drop_all c.loop-place.place fields past) c.loop-place.invariant.number
+    (rw c.in-None.is at c.loop-place.invariant.range) c.loop-place.invariant.read

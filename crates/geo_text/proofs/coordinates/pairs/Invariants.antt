@@ -1,5 +1,5 @@
 use Rattle.std.proofs.Common.{◌≡◌, ◌++◌, ◌*◌, drop}
-use Rattle.geo_text.proofs.reading.pairs.Given as goal
+use Rattle.geo_text.proofs.coordinates.pairs.Given as goal
 use Rattle.geo_text.specs.Capped.{pairs_of}
 
 abbrev pub invariant-loop-k : goal.invariant-loop-k
