@@ -1,4 +1,7 @@
+pub mod FullLists
+mod KnownLists
 pub mod LocationFits
+pub mod NoPointTwice
 pub mod OutwardWalks
 pub mod Searched
 pub mod SightLines

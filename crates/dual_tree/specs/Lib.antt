@@ -1,4 +1,6 @@
+pub mod Laws
 pub mod Location
 pub mod Sight
+pub mod Straight
 pub mod Touched
 pub mod Ways

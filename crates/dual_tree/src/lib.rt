@@ -2,6 +2,7 @@
 #![tactic(auto)]
 
 mod board;
+mod laws;
 mod location;
 mod sleeves;
 #[cfg(test)]
@@ -10,6 +11,7 @@ mod touching;
 mod walk;
 
 pub use board::Board;
+pub use laws::{full_without_straight, no_point_twice};
 pub use location::locate;
 pub use sleeves::sleeve;
 pub use touching::touched;

@@ -13,8 +13,8 @@ use std::cmp::Ordering;
 use std::sync::ledger::Ledger;
 use tri_mesh::{Mesh, Sleeve};
 
-/// Appends the points of a path and, in their order, all vertices of the ring that it touches. The path goes along the
-/// sleeve. It takes no memory, and at most 20 steps a vertex of the ring.
+/// Appends the points of a path and, in their order, all vertices of the ring that it touches: at most two points more than
+/// the ring has. The path goes along the sleeve. It takes no memory, and at most 20 steps a vertex of the ring.
 pub fn touched<L: Ledger>(
     ring: &Ring,
     mesh: &Mesh,
@@ -32,6 +32,7 @@ pub fn touched<L: Ledger>(
         (whole (point_at chain.now (length chain.now - 1))) }
     requires room { length out.old.items + length ring.now.corners + 2 ≤ vec_capacity out.old }
     ensures full { AppendsFull ring.now.corners chain.now out.old.items out.new.items }
+    ensures few { length out.new.items ≤ length out.old.items + length ring.now.corners + 2 }
     ensures same_out { vec_capacity out.new ≡ vec_capacity out.old }
     ensures steps { steps.new ≤ steps.old + 20 * length ring.now.corners }
 {

@@ -1,4 +1,6 @@
 use Rattle.std.proofs.Common.{◌≡◌, inl, inr, sym, subst, ap, ◌∙◌, ◌-◌, ◌<◌, ◌++◌, [], ◌∷◌, length, arith}
+use Rattle.std.proofs.lemmas.List.{length-append}
+use Rattle.plane.specs.Point.{Point}
 use Rattle.rings.specs.Chain.{point_at}
 use Rattle.rings.specs.Ring.{vertex}
 use Rattle.funnels.proofs.Touched.{point_cases}
@@ -24,8 +26,8 @@ loop-i-init g c =
     let chain = c.args.chain.now in
     let given = c.args.out.now.items in
     let first : c.index-chain-0.result ≡ point_at chain 0 = index_is chain 0 c.index-chain-0.result c.requires.some c.index-chain-0.is in
-    let search = searched_first c.args.ring.now.corners c.args.mesh.now c.requires.fits c.args.sleeve.now c.requires.of_mesh chain c.requires.path given
-    c.requires.start c.requires.goal in
+    let search = searched_first c.args.ring.now.corners c.args.mesh.now c.requires.fits c.args.sleeve.now c.requires.of_mesh chain c.requires.path
+    given c.requires.start c.requires.goal in
     record {
       searched = subst (λ xs. IsSearched c.args.ring.now.corners c.args.mesh.now c.args.sleeve.now chain given 0 0 c.index-chain-0.result xs)
           (sym c.push_reserved.ensures.items)
@@ -37,8 +39,8 @@ loop-i-init g c =
 pub look-nearer-requires-clause-room : goal.look-nearer-requires-clause-room
 look-nearer-requires-clause-room g c =
     let inv = c.loop-i.invariant in
-    let few = searched_few c.args.ring.now.corners c.args.mesh.now c.requires.fits c.args.sleeve.now c.requires.of_mesh c.args.chain.now c.requires.path
-    c.args.out.now.items c.loop-i.i _ _ _ inv.searched in
+    let few = searched_few c.args.ring.now.corners c.args.mesh.now c.requires.fits c.args.sleeve.now c.requires.of_mesh c.args.chain.now
+    c.requires.path c.args.out.now.items c.loop-i.i _ _ _ inv.searched in
     omega (arith, few, c.requires.room, inv.same_out)
 
 pub look-reached-requires-clause-place : goal.look-reached-requires-clause-place
@@ -49,8 +51,8 @@ look-reached-requires-clause-place g c =
     c.corner-left.ensures ∙ ap (vertex c.args.ring.now.corners) c.left.ensures in
     let first = subst (λ v. IsLookedAt c.args.chain.now v c.loop-i.reached.place c.loop-i.reached.last c.loop-i.out.items c.look-nearer.result.place
     c.look-nearer.result.last c.look-nearer.new.out.items) left c.look-nearer.ensures.looked in
-    half_within c.args.ring.now.corners c.args.mesh.now c.requires.fits c.args.sleeve.now c.requires.of_mesh c.args.chain.now c.requires.path
-    c.args.out.now.items c.loop-i.i _ _ _ inv.searched within _ _ _ first
+    half_within c.args.ring.now.corners c.args.mesh.now c.requires.fits c.args.sleeve.now c.requires.of_mesh c.args.chain.now
+    c.requires.path c.args.out.now.items c.loop-i.i _ _ _ inv.searched within _ _ _ first
 
 pub look-reached-requires-clause-room : goal.look-reached-requires-clause-room
 look-reached-requires-clause-room g c =
@@ -60,8 +62,8 @@ look-reached-requires-clause-room g c =
     c.corner-left.ensures ∙ ap (vertex c.args.ring.now.corners) c.left.ensures in
     let first = subst (λ v. IsLookedAt c.args.chain.now v c.loop-i.reached.place c.loop-i.reached.last c.loop-i.out.items c.look-nearer.result.place
     c.look-nearer.result.last c.look-nearer.new.out.items) left c.look-nearer.ensures.looked in
-    let few = half_few c.args.ring.now.corners c.args.mesh.now c.requires.fits c.args.sleeve.now c.requires.of_mesh c.args.chain.now c.requires.path
-    c.args.out.now.items c.loop-i.i _ _ _ inv.searched within _ _ _ first in
+    let few = half_few c.args.ring.now.corners c.args.mesh.now c.requires.fits c.args.sleeve.now c.requires.of_mesh c.args.chain.now
+    c.requires.path c.args.out.now.items c.loop-i.i _ _ _ inv.searched within _ _ _ first in
     omega (arith, few, c.requires.room, inv.same_out, c.look-nearer.ensures.same_out)
 
 pub loop-i-preserved : goal.loop-i-preserved
@@ -77,8 +79,8 @@ loop-i-preserved g c =
     let second = subst (λ v. IsLookedAt c.args.chain.now v c.look-nearer.result.place c.look-nearer.result.last c.look-nearer.new.out.items
     c.look-reached.result.place c.look-reached.result.last c.look-reached.new.out.items) right c.look-reached.ensures.looked in
     record {
-      searched = searched_next c.args.ring.now.corners c.args.mesh.now c.requires.fits c.args.sleeve.now c.requires.of_mesh c.args.chain.now c.requires.path
-          c.args.out.now.items c.loop-i.i _ _ _ inv.searched within _ _ _ first _ _ _ second;
+      searched = searched_next c.args.ring.now.corners c.args.mesh.now c.requires.fits c.args.sleeve.now c.requires.of_mesh c.args.chain.now
+          c.requires.path c.args.out.now.items c.loop-i.i _ _ _ inv.searched within _ _ _ first _ _ _ second;
       same_out = c.look-reached.ensures.same_out ∙ c.look-nearer.ensures.same_out ∙ inv.same_out;
       few_steps = omega (arith, c.look-reached.ensures.steps, c.look-nearer.ensures.steps, inv.few_steps);
     }
@@ -86,8 +88,8 @@ loop-i-preserved g c =
 pub finish-requires-clause-room : goal.finish-requires-clause-room
 finish-requires-clause-room g c =
     let inv = c.loop-i.invariant in
-    let few = searched_few c.args.ring.now.corners c.args.mesh.now c.requires.fits c.args.sleeve.now c.requires.of_mesh c.args.chain.now c.requires.path
-    c.args.out.now.items c.loop-i.i _ _ _ inv.searched in
+    let few = searched_few c.args.ring.now.corners c.args.mesh.now c.requires.fits c.args.sleeve.now c.requires.of_mesh c.args.chain.now
+    c.requires.path c.args.out.now.items c.loop-i.i _ _ _ inv.searched in
     omega (arith, few, c.requires.room, inv.same_out)
 
 pub returns-clause-full : goal.returns-clause-full
@@ -104,6 +106,16 @@ returns-clause-full g c =
           subst (AppendsFull c.args.ring.now.corners chain c.args.out.now.items) (sym (c.finish.ensures.short short))
           (searched_rest c.args.ring.now.corners c.args.mesh.now c.requires.fits c.args.sleeve.now c.requires.of_mesh chain c.requires.path
           c.args.out.now.items c.loop-i.i _ _ _ inv.searched all c.requires.goal short)
+    ]
+
+pub returns-clause-few : goal.returns-clause-few
+returns-clause-few g c =
+    let inv = c.loop-i.invariant in
+    let few = searched_few c.args.ring.now.corners c.args.mesh.now c.requires.fits c.args.sleeve.now c.requires.of_mesh c.args.chain.now
+    c.requires.path c.args.out.now.items c.loop-i.i _ _ _ inv.searched in
+    elim (point_cases c.loop-i.reached.last (point_at c.args.chain.now (length c.args.chain.now - 1))) [
+      | inl there ↦ omega (arith, few, ap length (c.finish.ensures.there there))
+      | inr short ↦ omega (arith, few, ap length (c.finish.ensures.short short), length-append {A = Point})
     ]
 
 pub returns-clause-steps : goal.returns-clause-steps
