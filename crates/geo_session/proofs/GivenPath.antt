@@ -16,7 +16,7 @@ taut_turned_iff ring s t points = (
 )
 
 -- so the path is the same
-path_either : (turned : Bool) (ring : List Point) (s t : Point) (path : List Point) → IsPath ring s t path
+pub path_either : (turned : Bool) (ring : List Point) (s t : Point) (path : List Point) → IsPath ring s t path
     → IsPath (if turned then turned_round ring else ring) s t path
 path_either true ring s t path is =
     λ chain. let same = taut_turned_iff ring s t chain in (λ h. (is chain).0 (same.0 h), λ e. same.1 ((is chain).1 e))

@@ -1,5 +1,5 @@
 -- The sides of points in a ring are those in the list that the ring was made of, since the paths are the same.
-use Rattle.std.proofs.Common.{◌≡◌, ◌≢◌, ℕ, List}
+use Rattle.std.proofs.Common.{ℕ, List}
 use Rattle.plane.specs.Point.{Point}
 use Rattle.rings.specs.Chain.{IsPath, point_at}
 use Rattle.exact_plane.specs.declared.direction.Direction.{Direction}

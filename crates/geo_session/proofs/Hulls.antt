@@ -1,81 +1,28 @@
--- A hull of points: its table of chains, its sides, and its lines.
-use Rattle.std.proofs.Common.{◌≡◌, ◌≢◌, ◌∙◌, inl, inr, refl, sym, ap, subst, ℕ, zero, suc, ◌+◌, ◌*◌, ◌-◌, ◌<◌, ◌≤◌, ◌^◌, List, [], ◌∷◌, ◌++◌, length, Result, Ok, Err, arith}
+-- The sides of a hull of points, and its lines.
+use Rattle.std.proofs.Common.{◌≡◌, ◌∙◌, inl, inr, refl, ap, sym, Bool, ℕ, zero, suc, ◌+◌, ◌*◌, ◌-◌, ◌<◌, ◌≤◌, ◌^◌, List, [], ◌∷◌, ◌++◌, length, get_or, Result, Ok, Err, arith}
 use Rattle.std.proofs.lemmas.Bool.{cases_lt}
-use Rattle.std.proofs.lemmas.List.{ext_get_or, get_or-map, length-map}
-use Rattle.std.proofs.lemmas.List.Elements.{Contains-get_or}
-use Rattle.std.proofs.lemmas.List.FromFn.{get_or-map-range_with_len, length-map-range_with_len}
-use Rattle.std.specs.List.{concat}
-use Rattle.std.specs.Prelude.{IfOk, OnOk, Option, Some, codes, flat_map, map, slice_index, slice_index_or}
+use Rattle.std.proofs.lemmas.List.{append-nil, append_assoc, get_or-map, get_or_read, length-map}
+use Rattle.std.proofs.lemmas.List.Folds.{concat-append}
+use Rattle.std.proofs.lemmas.List.FromFn.{get_or-map-range_with_len, length-map-range_with_len, map-range_with_len_more}
+use Rattle.std.specs.List.{concat, range_with_len}
+use Rattle.std.specs.Prelude.{IfOk, OnOk, Option, Vec, map}
+use Rattle.std.specs.declared.alloc.Global.{Global}
 use Rattle.plane.specs.Point.{Point, whole}
-use Rattle.rings.specs.Chain.{IsPath, point_at}
-use Rattle.rings.specs.Ring.{origin}
-use Rattle.geo_text.specs.Texts.{bad_text, index_text}
+use Rattle.rings.specs.Chain.{point_at}
+use Rattle.geo_text.specs.Texts.{bad_text}
 use Rattle.geo_text.specs.declared.command.Bad.TheVariants as bad
 use Rattle.geo_text.specs.declared.command.Command.TheVariants as command
 use Rattle.ring_check.specs.Oriented.{Oriented, given_of}
-use Rattle.rel_hull.specs.Hull.{AreDistinct}
-use Rattle.rel_hull.specs.Table.{AreSides, IsPairBefore, IsTableOf, Table, chain_at, pair_at, points_of}
-use Rattle.geo_session.proofs.Answered.{under_ok}
-use Rattle.geo_session.proofs.GivenPath.{in_given_iff, path_given}
+use Rattle.rel_hull.specs.Table.{AreSides, pair_at}
+use Rattle.geo_session.proofs.Answered.{holding, under_ok}
+use Rattle.geo_session.proofs.GivenFull.{shown_given}
+use Rattle.geo_session.proofs.GivenPath.{in_given_iff}
 use Rattle.geo_session.proofs.GivenSides.{sides_given}
-use Rattle.geo_session.proofs.Spanned.{chain_between_places}
+use Rattle.geo_session.proofs.HullTable.{side_numbered}
 use Rattle.geo_session.specs.Answer.{AppendsAnswer}
-use Rattle.geo_session.specs.Hull.{AreAllIn, AreFirsts, IsFirstOutside, TellsHull, hull_text, point_outside, spanned}
-use Rattle.geo_session.specs.Span.{AreChains, IsHullOf, IsShortPath, IsSpanned, line_of, numbered, span_text}
+use Rattle.geo_session.specs.Hull.{IsFirstOutside, TellsHull, point_outside, side_text, spanned}
+use Rattle.geo_session.specs.Span.{IsHullOf, IsSpanned, line_of, path_of, span_text}
 use Rattle.geo_session.specs.declared.hull.Hull.{Hull}
-
--- ---- the table
-
-module _ (points : List Point) (numbers : List ℕ) (firsts : AreFirsts points numbers) where
-  -- the first point has the first number
-  some_numbers : 1 ≤ length points → 1 ≤ length numbers
-  some_numbers some = let h = ((firsts.first 0).1 (omega arith, λ j less. absurd (omega (arith, less)))).1 in omega arith
-
-  -- each number is of a point,
-  pub number_in_list : (k : ℕ) → k < length numbers → slice_index numbers k < length points
-  number_in_list k below = ((firsts.first (slice_index numbers k)).0 (Contains-get_or numbers k 0 below)).0
-
-  at_number : (k : ℕ) → k < length numbers → point_at (map (point_at points) numbers) k ≡ numbered points numbers k
-  at_number k below = get_or-map (point_at points) numbers k 0 origin below
-
-  -- and no two are of equal ones
-  numbered_distinct : AreDistinct (map (point_at points) numbers)
-  numbered_distinct i j less below =
-      let at_j : j < length numbers = omega (arith, below, length-map numbers (point_at points)) in
-      let first = ((firsts.first (slice_index numbers j)).0 (Contains-get_or numbers j 0 at_j)).1 in
-      rw (at_number i (omega (arith, less, at_j)), at_number j at_j) (first (slice_index numbers i) (firsts.rising i j less at_j))
-
-  module _ (ring : List Point) (table : Table) (count : table.count ≡ length numbers)
-      (are : AreChains ring points numbers (length numbers * length numbers) table.chains) where
-    -- the chain from one place to another is the path between their points
-    pub chain_of_table : (s t : ℕ) → s < table.count → t < table.count
-        → IsShortPath ring (numbered points numbers s) (numbered points numbers t) (chain_at table s t)
-    chain_of_table s t at_s at_t =
-        subst (λ (m : ℕ). IsShortPath ring (numbered points numbers s) (numbered points numbers t) (slice_index_or table.chains (s * m + t) []))
-        (sym count) (chain_between_places ring points numbers table.chains are s t (rw count at at_s) (rw count at at_t))
-
-    -- so the points of the table are those with the numbers,
-    pub points_of_table : points_of table ≡ map (point_at points) numbers
-    points_of_table =
-        let long = length-map-range_with_len (λ (i : ℕ). point_at (chain_at table i i) 0) 0 table.count in
-        ext_get_or origin (points_of table) (map (point_at points) numbers) (long ∙ count ∙ sym (length-map numbers (point_at points)))
-        (λ i below.
-        let at_i : i < table.count = omega (arith, long, below) in
-        get_or-map-range_with_len (λ (i : ℕ). point_at (chain_at table i i) 0) 0 table.count i i origin at_i (omega arith)
-        ∙ (((chain_of_table i i at_i at_i).is_path (chain_at table i i)).1 refl).first
-        ∙ sym (at_number i (omega (arith, count, at_i))))
-
-    -- and it is a table of the ring
-    pub table_of_ring : 1 ≤ length points → table.count < 2 ^ 16 → IsTableOf ring table
-    table_of_ring some few = record {
-      some = omega (arith, count, some_numbers some);
-      few = few;
-      square = rw count are.count;
-      distinct = subst AreDistinct (sym points_of_table) numbered_distinct;
-      paths = λ i j at_i at_j.
-          subst (λ (ps : List Point). IsPath ring (point_at ps i) (point_at ps j) (chain_at table i j)) (sym points_of_table)
-          (rw (at_number i (omega (arith, count, at_i)), at_number j (omega (arith, count, at_j))) (chain_of_table i j at_i at_j).is_path);
-    }
 
 -- ---- the sides
 
@@ -92,7 +39,7 @@ module _ (ring points : List Point) (sides : List (ℕ × ℕ)) (are : AreSides 
         | inr h ↦ let same = h.0 in let less = h.1 in omega arith
       ]
 
-  pub sides_few : length sides < 2 ^ 32
+  sides_few : length sides < 2 ^ 32
   sides_few = elim (cases_lt 0 (length sides)) [
     | inl some ↦
         let last : length sides - 1 < length sides = omega arith in
@@ -102,9 +49,36 @@ module _ (ring points : List Point) (sides : List (ℕ × ℕ)) (are : AreSides 
     | inr none ↦ omega arith
   ]
 
+module _ (two : Bool) (ring points : List Point) (hull : Hull) (is : IsHullOf two ring points hull) where
+  pub hull_sides_few : length hull.sides.items < 2 ^ 32
+  hull_sides_few =
+      sides_few ring (map (point_at points) hull.numbers.items) hull.sides.items is.are_sides
+      (omega (arith, length-map hull.numbers.items (point_at points), is.few))
+
+  module _ (k : ℕ) (below : k < length hull.sides.items) where
+    -- the ends of a side that is read are numbered,
+    pub read_numbered : (side : ℕ × ℕ) → side ≡ get_or hull.sides.items k side → (side.0 < length hull.numbers.items) × (side.1 < length hull.numbers.items)
+    read_numbered side read =
+        rw (get_or_read hull.sides.items k side below read (0, 0)) (side_numbered ring points hull.numbers.items hull.sides.items is.are_sides k below)
+
+    -- what is told of it is read,
+    pub path_read : (path : Vec Point Global) → path ≡ get_or hull.paths.items k path → path.items ≡ path_of hull k
+    path_read path read =
+        let within : k < length hull.paths.items = rw is.one_each below in
+        ap (λ (v : Vec Point Global). v.items) read ∙ sym (get_or-map (λ (v : Vec Point Global). v.items) hull.paths.items k path [] within)
+
+    -- and so is its line
+    pub line_read : (side : ℕ × ℕ) (i j : ℕ) (path : Vec Point Global) → side ≡ get_or hull.sides.items k side → i ≡ get_or hull.numbers.items side.0 i
+        → j ≡ get_or hull.numbers.items side.1 j → path ≡ get_or hull.paths.items k path → side_text i j path.items ≡ line_of hull k
+    line_read side i j path read_side read_i read_j read_path =
+        let numbers = hull.numbers.items in
+        let (at_s, at_t) = read_numbered side read_side in
+        let at = get_or_read hull.sides.items k side below read_side (0, 0) in
+        rw (path_read path read_path, get_or_read numbers side.0 i at_s read_i 0, get_or_read numbers side.1 j at_t read_j 0, at) refl
+
 -- ---- the list that the ring was made of
 
-module _ (ring : Oriented) (points : List Point) where
+module _ (ring : Oriented) (two : Bool) (points : List Point) where
   first_given : (k : ℕ) → IsFirstOutside ring.corners points k → IsFirstOutside (given_of ring) points k
   first_given k h = record {
     in_list = h.in_list;
@@ -112,73 +86,68 @@ module _ (ring : Oriented) (points : List Point) where
     before = λ j less. (in_given_iff ring (whole (point_at points j))).1 (h.before j less);
   }
 
-  hull_given : (hull : Hull) → IsHullOf ring.corners points hull → IsHullOf (given_of ring) points hull
+  hull_given : (hull : Hull) → IsHullOf two ring.corners points hull → IsHullOf two (given_of ring) points hull
   hull_given hull h = record {
     inside = λ k below. (in_given_iff ring (whole (point_at points k))).1 (h.inside k below);
     firsts = h.firsts;
-    count = h.count;
     few = h.few;
     are_sides = sides_given ring (map (point_at points) hull.numbers.items) hull.sides.items h.are_sides;
-    paths = λ s t at_s at_t.
-        let short = h.paths s t at_s at_t in
-        record { is_path = path_given ring _ _ (chain_at hull.chains s t) short.is_path; short = short.short };
+    one_each = h.one_each;
+    paths = λ k below. let path = h.paths k below in record { shown = shown_given ring two _ _ (path_of hull k) path.shown; short = path.short };
   }
 
   -- a hull in the ring is one in that list
-  pub spanned_given : {E : Type 0} (found : Result (Result Hull ℕ) E) → IfOk found (IsSpanned ring.corners points)
-      → IfOk found (IsSpanned (given_of ring) points)
+  pub spanned_given : {E : Type 0} (found : Result (Result Hull ℕ) E) → IfOk found (IsSpanned two ring.corners points)
+      → IfOk found (IsSpanned two (given_of ring) points)
   spanned_given (Ok (Ok hull)) h = hull_given hull h
   spanned_given (Ok (Err k)) h = first_given k h
   spanned_given (Err e) h = tt
 
 -- ---- the lines
 
-joined_lines : {T : Type 0} (line : T → List ℕ) (xs : List T) → flat_map line xs ≡ concat (map line xs)
-joined_lines line [] = refl
-joined_lines line (x ∷ xs) = ap (λ (rest : List ℕ). line x ++ rest) (joined_lines line xs)
+-- one line more after some
+pub lines_more : (line : ℕ → List ℕ) (old front out out' : List ℕ) (k : ℕ) → out ≡ old ++ (front ++ concat (map line (range_with_len 0 k)))
+    → out' ≡ out ++ line k → out' ≡ old ++ (front ++ concat (map line (range_with_len 0 (k + 1))))
+lines_more line old front out out' k before more =
+    let lines = concat (map line (range_with_len 0 k)) in
+    let longer : concat (map line (range_with_len 0 (k + 1))) ≡ lines ++ line k =
+    ap concat (map-range_with_len_more line 0 k k (omega arith)) ∙ concat-append (map line (range_with_len 0 k)) (line k ∷ [])
+    ∙ ap (λ (end : List ℕ). lines ++ end) (append-nil (line k)) in
+    more ∙ rw (before, longer) (append_assoc old (front ++ lines) (line k) ∙ ap (λ (end : List ℕ). old ++ end) (append_assoc front lines (line k)))
 
-module _ (ring points : List Point) (hull : Hull) (is : IsHullOf ring points hull) where
-  -- the ends of a side are in the table
-  pub side_in_table : (k : ℕ) → k < length hull.sides.items
-      → ((pair_at hull.sides.items k).0 < hull.chains.count) × ((pair_at hull.sides.items k).1 < hull.chains.count)
-  side_in_table k below =
-      let side = is.are_sides.sides k below in
-      let long = length-map hull.numbers.items (point_at points) in
-      (omega (arith, side.s_in_list, long, is.count), omega (arith, side.t_in_list, long, is.count))
+-- the lines of a hull tell it
+hull_told : (two : Bool) (ring points : List Point) (hull : Hull) → IsHullOf two ring points hull → TellsHull two ring points (span_text hull)
+hull_told two ring points hull is =
+    let count = length hull.sides.items in
+    let long = length-map-range_with_len (line_of hull) 0 count in
+    record {
+      numbers = hull.numbers.items;
+      firsts = is.firsts;
+      sides = hull.sides.items;
+      are_sides = is.are_sides;
+      lines = map (line_of hull) (range_with_len 0 count);
+      one_each = long;
+      each = λ k below. record {
+        path = path_of hull k;
+        shown = (is.paths k below).shown;
+        told = get_or-map-range_with_len (line_of hull) 0 count k k [] below (omega arith);
+      };
+      told = rw long refl;
+    }
 
-  -- its lines tell it
-  pub hull_told : TellsHull ring points (span_text hull)
-  hull_told = record {
-    numbers = hull.numbers.items;
-    firsts = is.firsts;
-    sides = hull.sides.items;
-    are_sides = is.are_sides;
-    lines = map (line_of hull) hull.sides.items;
-    one_each = length-map hull.sides.items (line_of hull);
-    each = λ k below.
-        let side = pair_at hull.sides.items k in
-        let (at_s, at_t) = side_in_table k below in
-        record {
-          path = chain_at hull.chains side.0 side.1;
-          is_path = (is.paths side.0 side.1 at_s at_t).is_path;
-          told = get_or-map (line_of hull) hull.sides.items k (0, 0) [] below;
-        };
-    told = rw (length-map hull.sides.items (line_of hull), ← joined_lines (line_of hull) hull.sides.items) refl;
-  }
-
-module _ {E : Type 0} (ring points : List Point) (source : Option Point) (out out' : List ℕ) (put : Result (Unit {0}) E) where
+module _ {E : Type 0} (two : Bool) (ring points : List Point) (source : Option Point) (out out' : List ℕ) (put : Result (Unit {0}) E) where
   -- so they answer the points,
-  pub hull_answered : (hull : Hull) → IsHullOf ring points hull → OnOk put (out' ≡ out ++ span_text hull)
-      → OnOk put (AppendsAnswer (Some (record { ring = ring; source = source })) (command.Hull points) out out' (Some (record { ring = ring; source = source })))
+  pub hull_answered : (hull : Hull) → IsHullOf two ring points hull → OnOk put (out' ≡ out ++ span_text hull)
+      → OnOk put (AppendsAnswer (holding two ring source) (command.Hull points) out out' (holding two ring source))
   hull_answered hull is = under_ok put (λ written. record {
     text = span_text hull;
-    answer = (spanned is.inside (hull_told ring points hull is), refl);
+    answer = (spanned is.inside (hull_told two ring points hull is), refl);
     appended = written;
   })
 
   -- and so does the refusal of the first that is outside
   pub outside_answered : (k : ℕ) → IsFirstOutside ring points k → OnOk put (out' ≡ out ++ bad_text (bad.Outside (k + 1)))
-      → OnOk put (AppendsAnswer (Some (record { ring = ring; source = source })) (command.Hull points) out out' (Some (record { ring = ring; source = source })))
+      → OnOk put (AppendsAnswer (holding two ring source) (command.Hull points) out out' (holding two ring source))
   outside_answered k is = under_ok put (λ written. record {
     text = bad_text (bad.Outside (k + 1));
     answer = (point_outside k is refl, refl);

@@ -1,9 +1,12 @@
 mod Answered
+mod PlainAnswer
 mod Places
 mod Judged
 mod GivenPath
+mod GivenFull
 mod GivenSize
 mod GivenTree
+mod PathAlong
 mod AlonePath
 mod ReachedNames
 mod TreeLines
@@ -15,8 +18,10 @@ mod GivenKernel
 mod Fronts
 mod OneView
 mod OneOrder
+mod OneShown
 mod OneHull
 mod GivenSides
 mod Spanned
+mod HullTable
 mod Hulls
 mod OneAnswer

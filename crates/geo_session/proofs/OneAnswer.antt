@@ -1,5 +1,5 @@
 -- The answer to a command is a function of the state and the command, and the output one of the script.
-use Rattle.std.proofs.Common.{◌≡◌, inl, inr, refl, sym, ap, subst, ◌∙◌, ℕ, ◌-◌, List, [], ◌∷◌, ◌++◌, length, Result, Ok, Err, arith}
+use Rattle.std.proofs.Common.{◌≡◌, inl, inr, refl, sym, ap, ap₂, subst, ◌∙◌, Bool, ℕ, ◌+◌, ◌-◌, List, [], ◌∷◌, ◌++◌, length, Result, Ok, Err, arith}
 use Rattle.std.proofs.lemmas.List.{ext_get_or}
 use Rattle.std.specs.List.{concat}
 use Rattle.std.specs.Prelude.{Option, Some, None, codes}
@@ -7,7 +7,7 @@ use Rattle.plane.specs.Point.{Point}
 use Rattle.rings.proofs.Simple.{least_clash_is_one, no_least_clash}
 use Rattle.rings.specs.Chain.{point_at}
 use Rattle.rings.specs.From.{IsBefore}
-use Rattle.geo_text.specs.Reading.{reading_of}
+use Rattle.geo_text.specs.Reading.{is_two, reading_of}
 use Rattle.geo_text.specs.Records.{records_of}
 use Rattle.geo_text.specs.Texts.{bad_text, index_text}
 use Rattle.geo_text.specs.declared.command.Bad.{Bad}
@@ -17,10 +17,11 @@ use Rattle.geo_text.specs.declared.command.Command.TheVariants as command
 use Rattle.taut_check.specs.declared.verdict.Verdict.{Verdict}
 use Rattle.taut_check.specs.declared.verdict.Verdict.TheVariants as verdict
 use Rattle.geo_session.proofs.OneHull.{one_hull_in}
+use Rattle.geo_session.proofs.OneShown.{one_shown}
 use Rattle.geo_session.proofs.OneVerdict.{one_verdict}
 use Rattle.geo_session.proofs.OneView.{one_kernel, one_view}
 use Rattle.geo_session.specs.Answer.{AcceptsPolygon, IsInsideText, IsCheckText, IsFromText, IsKernelText, IsPathIn, IsPathText, IsPlaceText}
-use Rattle.geo_session.specs.Answer.{IsHullText}
+use Rattle.geo_session.specs.Answer.{IsHullText, IsPolygonText, first_state}
 use Rattle.geo_session.specs.Answer.{IsReachFrom, IsReachIn, IsReachText, IsReadingAnswer, IsSeeText, IsTreeIn, IsTreeText, IsVerdictText, IsViewIn}
 use Rattle.geo_session.specs.Answer.{Kept, RefusesPolygon, State, TellsPath, TellsTree, TellsVerdict, at_source, first_outside, found, from_source, from_text}
 use Rattle.geo_session.specs.Answer.{from_vertex, goal_outside, grown, inside, on_edge, outside, path_text, reached, second_outside, sees, sees_nothing}
@@ -34,7 +35,7 @@ both e f = e ∙ sym f
 
 -- ---- a polygon
 
-module _ (before : State) (ring : List Point) (one other : List ℕ) (after after' : State) where
+module _ (before : Option Kept) (ring : List Point) (one other : List ℕ) (after after' : Option Kept) where
   one_acceptance : AcceptsPolygon before ring one after → AcceptsPolygon before ring other after' → (one ≡ other) × (after ≡ after')
   one_acceptance h g = (both h.answer g.answer, h.state ∙ sym g.state)
 
@@ -75,12 +76,11 @@ one_judgement ring points one other h g =
 
 -- ---- two points
 
-module _ (ring : List Point) (s t : Point) (one other : List ℕ) where
-  -- the path is one, since it is the one taut chain
-  one_path : TellsPath ring s t one → TellsPath ring s t other → one ≡ other
-  one_path h g = h.told ∙ ap path_text ((g.path h.points).0 ((h.path h.points).1 refl)) ∙ sym g.told
+module _ (two : Bool) (ring : List Point) (s t : Point) (one other : List ℕ) where
+  one_path : TellsPath two ring s t one → TellsPath two ring s t other → one ≡ other
+  one_path h g = h.told ∙ ap path_text (one_shown two ring s t h.points g.points h.shown g.shown) ∙ sym g.told
 
-  one_path_in : IsPathIn ring s t one → IsPathIn ring s t other → one ≡ other
+  one_path_in : IsPathIn two ring s t one → IsPathIn two ring s t other → one ≡ other
   one_path_in (first_outside _ e) (first_outside _ f) = both e f
   one_path_in (first_outside out e) (second_outside within _ f) = absurd (out within)
   one_path_in (first_outside out e) (found within _ f) = absurd (out within)
@@ -127,24 +127,24 @@ module _ (ring : List Point) (s : Point) (one other : List ℕ) where
       (λ i below. one_from_text ring s i _ _ (h.each i (omega (arith, h.one_each, below))) (g.each i (omega (arith, h.one_each, below)))) in
       h.told ∙ ap (λ (lines : List (List ℕ)). codes "tree" ++ index_text (length ring) ++ codes "\n" ++ concat lines) same ∙ sym g.told
 
-module _ (kept : Kept) (s : Point) (one other : List ℕ) (after after' : State) where
+module _ (kept : Kept) (s : Point) (one other : List ℕ) (after after' : Option Kept) where
   one_tree_in : IsTreeIn kept s one after → IsTreeIn kept s other after' → (one ≡ other) × (after ≡ after')
   one_tree_in (source_outside _ e k) (source_outside _ f l) = (both e f, k ∙ sym l)
   one_tree_in (source_outside out _ _) (grown within _ _) = absurd (out within)
   one_tree_in (grown within _ _) (source_outside out _ _) = absurd (out within)
   one_tree_in (grown _ e k) (grown _ f l) = (one_tree kept.ring s one other e f, k ∙ sym l)
 
-module _ (ring : List Point) (s t : Point) (one other : List ℕ) where
-  one_reach_from : IsReachFrom ring s t one → IsReachFrom ring s t other → one ≡ other
+module _ (two : Bool) (ring : List Point) (s t : Point) (one other : List ℕ) where
+  one_reach_from : IsReachFrom two ring s t one → IsReachFrom two ring s t other → one ≡ other
   one_reach_from (goal_outside _ e) (goal_outside _ f) = both e f
   one_reach_from (goal_outside out _) (reached within _) = absurd (out within)
   one_reach_from (reached within _) (goal_outside out _) = absurd (out within)
-  one_reach_from (reached _ e) (reached _ f) = one_path ring s t one other e f
+  one_reach_from (reached _ e) (reached _ f) = one_path two ring s t one other e f
 
-one_reach_in : (ring : List Point) (source : Option Point) (t : Point) (one other : List ℕ) → IsReachIn ring source t one → IsReachIn ring source t other
-    → one ≡ other
-one_reach_in ring None t one other e f = both e f
-one_reach_in ring (Some s) t one other h g = one_reach_from ring s t one other h g
+one_reach_in : (two : Bool) (ring : List Point) (source : Option Point) (t : Point) (one other : List ℕ) → IsReachIn two ring source t one
+    → IsReachIn two ring source t other → one ≡ other
+one_reach_in two ring None t one other e f = both e f
+one_reach_in two ring (Some s) t one other h g = one_reach_from two ring s t one other h g
 
 -- ---- what a point sees, and the kernel
 
@@ -157,53 +157,68 @@ module _ (ring : List Point) (q : Point) (one other : List ℕ) where
 
 -- ---- a command
 
-one_inside : (before : State) (p : Point) (one other : List ℕ) → IsInsideText before p one → IsInsideText before p other → one ≡ other
+one_inside : (before : Option Kept) (p : Point) (one other : List ℕ) → IsInsideText before p one → IsInsideText before p other → one ≡ other
 one_inside None p one other e f = both e f
 one_inside (Some kept) p one other h g = one_place_text kept.ring p one other h g
 
-one_check : (before : State) (points : List Point) (one other : List ℕ) → IsCheckText before points one → IsCheckText before points other
+one_check : (before : Option Kept) (points : List Point) (one other : List ℕ) → IsCheckText before points one → IsCheckText before points other
     → one ≡ other
 one_check None points one other e f = both e f
 one_check (Some kept) points one other h g = one_judgement kept.ring points one other h g
 
-one_path_text : (before : State) (s t : Point) (one other : List ℕ) → IsPathText before s t one → IsPathText before s t other → one ≡ other
-one_path_text None s t one other e f = both e f
-one_path_text (Some kept) s t one other h g = one_path_in kept.ring s t one other h g
+one_path_text : (two : Bool) (before : Option Kept) (s t : Point) (one other : List ℕ) → IsPathText two before s t one → IsPathText two before s t other
+    → one ≡ other
+one_path_text two None s t one other e f = both e f
+one_path_text two (Some kept) s t one other h g = one_path_in two kept.ring s t one other h g
 
-one_tree_text : (before : State) (s : Point) (one other : List ℕ) (after after' : State) → IsTreeText before s one after
+one_tree_text : (before : Option Kept) (s : Point) (one other : List ℕ) (after after' : Option Kept) → IsTreeText before s one after
     → IsTreeText before s other after' → (one ≡ other) × (after ≡ after')
 one_tree_text None s one other after after' h g = (both h.0 g.0, h.1 ∙ sym g.1)
 one_tree_text (Some kept) s one other after after' h g = one_tree_in kept s one other after after' h g
 
-one_reach : (before : State) (t : Point) (one other : List ℕ) → IsReachText before t one → IsReachText before t other → one ≡ other
-one_reach None t one other e f = both e f
-one_reach (Some kept) t one other h g = one_reach_in kept.ring kept.source t one other h g
+one_reach : (two : Bool) (before : Option Kept) (t : Point) (one other : List ℕ) → IsReachText two before t one → IsReachText two before t other
+    → one ≡ other
+one_reach two None t one other e f = both e f
+one_reach two (Some kept) t one other h g = one_reach_in two kept.ring kept.source t one other h g
 
-one_see : (before : State) (q : Point) (one other : List ℕ) → IsSeeText before q one → IsSeeText before q other → one ≡ other
+one_see : (before : Option Kept) (q : Point) (one other : List ℕ) → IsSeeText before q one → IsSeeText before q other → one ≡ other
 one_see None q one other e f = both e f
 one_see (Some kept) q one other h g = one_view_in kept.ring q one other h g
 
-one_kernel_of : (before : State) (one other : List ℕ) → IsKernelText before one → IsKernelText before other → one ≡ other
+one_kernel_of : (before : Option Kept) (one other : List ℕ) → IsKernelText before one → IsKernelText before other → one ≡ other
 one_kernel_of None one other e f = both e f
 one_kernel_of (Some kept) one other h g = one_kernel kept.ring one other h g
 
-one_hull : (before : State) (points : List Point) (one other : List ℕ) → IsHullText before points one → IsHullText before points other → one ≡ other
-one_hull None points one other e f = both e f
-one_hull (Some kept) points one other h g = one_hull_in kept.ring points one other h g
+one_hull : (two : Bool) (before : Option Kept) (points : List Point) (one other : List ℕ) → IsHullText two before points one
+    → IsHullText two before points other → one ≡ other
+one_hull two None points one other e f = both e f
+one_hull two (Some kept) points one other h g = one_hull_in two kept.ring points one other h g
+
+one_polygon : (before : Option Kept) (ring : List Point) (one other : List ℕ) (after after' : Option Kept) → IsPolygonText before ring one after
+    → IsPolygonText before ring other after' → (one ≡ other) × (after ≡ after')
+one_polygon before ring one other after after' (inl h) (inl g) = one_acceptance before ring one other after after' h g
+one_polygon before ring one other after after' (inl h) (inr g) = absurd (no_least_clash ring g.i g.j h.simple g.least)
+one_polygon before ring one other after after' (inr h) (inl g) = absurd (no_least_clash ring h.i h.j g.simple h.least)
+one_polygon before ring one other after after' (inr h) (inr g) = one_refusal before ring one other after after' h g
+
+-- a text and what is kept are one, and so is the state where the version is as before
+with_version : (before after after' : State) (one other : List ℕ) → (one ≡ other) × (after.kept ≡ after'.kept) → after.two ≡ before.two
+    → after'.two ≡ before.two → (one ≡ other) × (after ≡ after')
+with_version before after after' one other h two two' = (h.0, ap₂ (λ (v : Bool) (kept : Option Kept). record { two = v; kept = kept }) (two ∙ sym two') h.1)
 
 pub one_answer : OneAnswerLaw
-one_answer before (command.Polygon ring) one other after after' (inl h) (inl g) = one_acceptance before ring one other after after' h g
-one_answer before (command.Polygon ring) one other after after' (inl h) (inr g) = absurd (no_least_clash ring g.i g.j h.simple g.least)
-one_answer before (command.Polygon ring) one other after after' (inr h) (inl g) = absurd (no_least_clash ring h.i h.j g.simple h.least)
-one_answer before (command.Polygon ring) one other after after' (inr h) (inr g) = one_refusal before ring one other after after' h g
-one_answer before (command.Inside p) one other after after' h g = (one_inside before p one other h.0 g.0, h.1 ∙ sym g.1)
-one_answer before (command.Check points) one other after after' h g = (one_check before points one other h.0 g.0, h.1 ∙ sym g.1)
-one_answer before (command.Path s t) one other after after' h g = (one_path_text before s t one other h.0 g.0, h.1 ∙ sym g.1)
-one_answer before (command.Tree s) one other after after' h g = one_tree_text before s one other after after' h g
-one_answer before (command.Reach t) one other after after' h g = (one_reach before t one other h.0 g.0, h.1 ∙ sym g.1)
-one_answer before (command.See q) one other after after' h g = (one_see before q one other h.0 g.0, h.1 ∙ sym g.1)
-one_answer before command.Kernel one other after after' h g = (one_kernel_of before one other h.0 g.0, h.1 ∙ sym g.1)
-one_answer before (command.Hull points) one other after after' h g = (one_hull before points one other h.0 g.0, h.1 ∙ sym g.1)
+one_answer before command.Two one other after after' h g = (both h.0 g.0, h.1 ∙ sym g.1)
+one_answer before (command.Polygon ring) one other after after' h g =
+    with_version before after after' one other (one_polygon before.kept ring one other after.kept after'.kept h.0 g.0) h.1 g.1
+one_answer before (command.Inside p) one other after after' h g = (one_inside before.kept p one other h.0 g.0, h.1 ∙ sym g.1)
+one_answer before (command.Check points) one other after after' h g = (one_check before.kept points one other h.0 g.0, h.1 ∙ sym g.1)
+one_answer before (command.Path s t) one other after after' h g = (one_path_text before.two before.kept s t one other h.0 g.0, h.1 ∙ sym g.1)
+one_answer before (command.Tree s) one other after after' h g =
+    with_version before after after' one other (one_tree_text before.kept s one other after.kept after'.kept h.0 g.0) h.1 g.1
+one_answer before (command.Reach t) one other after after' h g = (one_reach before.two before.kept t one other h.0 g.0, h.1 ∙ sym g.1)
+one_answer before (command.See q) one other after after' h g = (one_see before.kept q one other h.0 g.0, h.1 ∙ sym g.1)
+one_answer before command.Kernel one other after after' h g = (one_kernel_of before.kept one other h.0 g.0, h.1 ∙ sym g.1)
+one_answer before (command.Hull points) one other after after' h g = (one_hull before.two before.kept points one other h.0 g.0, h.1 ∙ sym g.1)
 
 -- ---- a script
 
@@ -212,13 +227,15 @@ one_reading : (before : State) (reading : Result Command Bad) (one other : List 
 one_reading before (Ok asked) one other after after' h g = one_answer before asked one other after after' h g
 one_reading before (Err fault) one other after after' h g = (both h.0 g.0, h.1 ∙ sym g.1)
 
-one_answers : (before : State) (records : List (List (List ℕ))) (one other : List ℕ) (after after' : State)
-    → AreAnswers before records one after → AreAnswers before records other after' → one ≡ other
-one_answers before [] one other after after' h g = both h.0 g.0
-one_answers before (fields ∷ records) one other after after' h g =
-    let (first, between) = one_reading before (reading_of fields) h.first g.first h.between g.between h.answer g.answer in
-    let rest = one_answers g.between records h.rest g.rest after after' (subst (λ s. AreAnswers s records h.rest after) between h.others) g.others in
+one_answers : (two : Bool) (k : ℕ) (before : State) (records : List (List (List ℕ))) (one other : List ℕ) (after after' : State)
+    → AreAnswers two k before records one after → AreAnswers two k before records other after' → one ≡ other
+one_answers two k before [] one other after after' h g = both h.0 g.0
+one_answers two k before (fields ∷ records) one other after after' h g =
+    let (first, between) = one_reading before (reading_of two k fields) h.first g.first h.between g.between h.answer g.answer in
+    let rest = one_answers two (k + 1) g.between records h.rest g.rest after after'
+    (subst (λ s. AreAnswers two (k + 1) s records h.rest after) between h.others) g.others in
     h.joined ∙ ap (λ f. f ++ h.rest) first ∙ ap (λ r. g.first ++ r) rest ∙ sym g.joined
 
 pub one_output : OneOutputLaw
-one_output bytes one other h g = one_answers None (records_of bytes) one other h.state g.state h.answers g.answers
+one_output bytes one other h g =
+    one_answers (is_two (records_of bytes)) 0 first_state (records_of bytes) one other h.state g.state h.answers g.answers

@@ -1,5 +1,5 @@
 -- What a hull answers is one text.
-use Rattle.std.proofs.Common.{◌≡◌, ◌∙◌, ◌⊎◌, inl, inr, refl, sym, ap, subst, ℕ, ◌+◌, ◌<◌, List, [], length, arith}
+use Rattle.std.proofs.Common.{◌≡◌, ◌∙◌, inl, inr, sym, ap, subst, Bool, ℕ, ◌+◌, ◌<◌, List, [], length, arith}
 use Rattle.std.proofs.lemmas.Bool.{cases_lt}
 use Rattle.std.proofs.lemmas.List.{ext_get_or, get_or_default}
 use Rattle.std.specs.List.{Contains}
@@ -11,6 +11,7 @@ use Rattle.geo_text.specs.declared.command.Bad.TheVariants as bad
 use Rattle.rel_hull.specs.Hull.{IsSide}
 use Rattle.rel_hull.specs.Table.{AreSides, IsPairBefore, pair_at}
 use Rattle.geo_session.proofs.OneOrder.{one_ordered}
+use Rattle.geo_session.proofs.OneShown.{one_shown}
 use Rattle.geo_session.specs.Hull.{AreFirsts, IsFirstOutside, IsHullIn, IsSideText, TellsHull, hull_text, point_outside, side_text, spanned}
 
 -- the numbers of the first points are one list,
@@ -47,16 +48,17 @@ module _ (ring points : List Point) where
       one_ordered IsPairBefore not_before_itself before_through (0, 0) sides others are.sorted are_too.sorted
       (listed_sides sides others are are_too) (listed_sides others sides are_too are)
 
-module _ (ring points : List Point) where
+module _ (two : Bool) (ring points : List Point) where
   -- the path of a side is one, so each line is
-  one_line : (i j : ℕ) (line other : List ℕ) → IsSideText ring points i j line → IsSideText ring points i j other → line ≡ other
-  one_line i j line other h g = h.told ∙ ap (side_text i j) ((g.is_path h.path).0 ((h.is_path h.path).1 refl)) ∙ sym g.told
+  one_line : (i j : ℕ) (line other : List ℕ) → IsSideText two ring points i j line → IsSideText two ring points i j other → line ≡ other
+  one_line i j line other h g =
+      h.told ∙ ap (side_text i j) (one_shown two ring (point_at points i) (point_at points j) h.path g.path h.shown g.shown) ∙ sym g.told
 
   -- these are the lines of some sides
   record AreLines (numbers : List ℕ) (sides : List (ℕ × ℕ)) (lines : List (List ℕ)) : Type 0 where
     pub one_each : length lines ≡ length sides
     pub each : (k : ℕ) → k < length sides
-        → IsSideText ring points (slice_index numbers (pair_at sides k).0) (slice_index numbers (pair_at sides k).1) (slice_index_or lines k [])
+        → IsSideText two ring points (slice_index numbers (pair_at sides k).0) (slice_index numbers (pair_at sides k).1) (slice_index_or lines k [])
 
   one_lines : (numbers : List ℕ) (sides : List (ℕ × ℕ)) (lines others : List (List ℕ)) → AreLines numbers sides lines → AreLines numbers sides others
       → lines ≡ others
@@ -64,7 +66,7 @@ module _ (ring points : List Point) where
       ext_get_or [] lines others (h.one_each ∙ sym g.one_each)
       (λ k below. let within : k < length sides = omega (arith, h.one_each, below) in one_line _ _ _ _ (h.each k within) (g.each k within))
 
-  one_hull : (one other : List ℕ) → TellsHull ring points one → TellsHull ring points other → one ≡ other
+  one_hull : (one other : List ℕ) → TellsHull two ring points one → TellsHull two ring points other → one ≡ other
   one_hull one other h g =
       let numbers : h.numbers ≡ g.numbers = one_firsts points h.numbers g.numbers h.firsts g.firsts in
       let are : AreSides ring (map (point_at points) g.numbers) h.sides =
@@ -82,7 +84,7 @@ module _ (ring points : List Point) where
     | inr not_less ↦ elim (cases_lt l k) [ inl less ↦ absurd (g.outside (h.before l less)) | inr same ↦ omega arith ]
   ]
 
-  pub one_hull_in : (one other : List ℕ) → IsHullIn ring points one → IsHullIn ring points other → one ≡ other
+  pub one_hull_in : (one other : List ℕ) → IsHullIn two ring points one → IsHullIn two ring points other → one ≡ other
   one_hull_in one other (point_outside k h e) (point_outside l g f) = e ∙ ap (λ (n : ℕ). bad_text (bad.Outside (n + 1))) (one_outside k l h g) ∙ sym f
   one_hull_in one other (point_outside k h e) (spanned all f) = absurd (h.outside (all k h.in_list))
   one_hull_in one other (spanned all e) (point_outside k h f) = absurd (h.outside (all k h.in_list))

@@ -1,5 +1,5 @@
 -- The points of a hull, one after the other: their first numbers, their triangles, and the chains between them.
-use Rattle.std.proofs.Common.{◌≡◌, ◌≢◌, ◌∙◌, ◌↔◌, inl, inr, refl, sym, ap, subst, ℕ, ◌+◌, ◌*◌, ◌/◌, ◌%◌, ◌<◌, ◌≤◌, List, [], ◌∷◌, ◌++◌, length, get_or, arith}
+use Rattle.std.proofs.Common.{◌≡◌, ◌≢◌, ◌∙◌, inl, inr, refl, sym, ap, subst, Bool, ℕ, ◌+◌, ◌*◌, ◌/◌, ◌%◌, ◌<◌, List, [], ◌∷◌, ◌++◌, length, get_or, arith}
 use Rattle.std.proofs.Math.Nat.{div-lt_iff_lt-mul, div-eq_of_lt, mod-eq_of_lt, mod-lt, mul-add-div_right, mul-add-mod_self_right}
 use Rattle.std.proofs.lemmas.Bool.{cases_eq, cases_lt}
 use Rattle.std.proofs.lemmas.List.{get_or_append_left, get_or_push, length_push}
@@ -12,9 +12,10 @@ use Rattle.meshes.specs.Fits.{Fits}
 use Rattle.meshes.specs.declared.tri.Tri.{Tri}
 use Rattle.dual_tree.specs.Location.{IsLeastHolding}
 use Rattle.rel_hull.proofs.Outer.{ordered_push}
+use Rattle.rel_hull.specs.Table.{Table, chain_at, pair_at}
 use Rattle.geo_session.proofs.LocatedIn.{held_in}
 use Rattle.geo_session.specs.Hull.{AreFirsts}
-use Rattle.geo_session.specs.Span.{AreChains, AreFirstsBelow, AreHeld, IsRepeated, IsShortPath, numbered}
+use Rattle.geo_session.specs.Span.{AreChains, AreFirstsBelow, AreHeld, AreTold, IsRepeated, IsShortPath, IsTold, numbered}
 
 -- what holds at each place of a list and at the next one holds at each place once that element is appended
 each_push : {X : Type 0} (P : ℕ → X → Type 0) (xs : List X) (x d : X) (n : ℕ) → length xs ≡ n → ((k : ℕ) → k < n → P k (get_or xs k d)) → P n x
@@ -94,6 +95,22 @@ module _ (ring points : List Point) (numbers : List ℕ) where
     each = each_push (λ k path. IsShortPath ring (numbered points numbers (k / length numbers)) (numbered points numbers (k % length numbers)) path)
         chains chain [] n are.count are.each is;
   }
+
+-- ---- what is told of the sides
+
+module _ (two : Bool) (ring : List Point) (chains : Table) (sides : List (ℕ × ℕ)) where
+  pub none_told : AreTold two ring chains sides 0 []
+  none_told = record { count = refl; each = λ k below. absurd (omega (arith, below)) }
+
+  -- the next path is told
+  pub told_more : (n : ℕ) (paths : List (List Point)) (path : List Point) → AreTold two ring chains sides n paths
+      → IsTold two ring (chain_at chains (pair_at sides n).0 (pair_at sides n).1) path → AreTold two ring chains sides (n + 1) (paths ++ path ∷ [])
+  told_more n paths path are is = record {
+    count = length_push paths path ∙ ap (λ (k : ℕ). k + 1) are.count;
+    each = each_push (λ k told. IsTold two ring (chain_at chains (pair_at sides k).0 (pair_at sides k).1) told) paths path [] n are.count are.each is;
+  }
+
+-- ---- the table by rows and columns
 
 -- the row and the column of a place of a table with m rows
 module _ (m k : ℕ) (below : k < m * m) where

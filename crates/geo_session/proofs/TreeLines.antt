@@ -52,6 +52,16 @@ module _ (ring : List Point) (s : Point) where
   from_told simple i (Some (Corner j)) (x, (below, at, other), before) = from_vertex x j before other (number_of ring simple x j below at) refl
   from_told simple i (Some Goal) (x, none, before) = absurd none
 
+  -- no line yet,
+  pub no_lines : (count : ℕ) (out now : List ℕ) → count ≡ length ring → now ≡ out ++ (codes "tree" ++ index_text count ++ codes "\n")
+      → IsTreeFront ring s 0 out now
+  no_lines count out now same put = record {
+    lines = [];
+    one_each = refl;
+    each = λ k below. absurd (omega (arith, below));
+    appended = put ∙ rw same (ap (λ t. out ++ t) (sym (append-nil (codes "tree" ++ index_text (length ring) ++ codes "\n"))));
+  }
+
   -- one more line,
   pub one_more_line : (i : ℕ) (out now next line : List ℕ) → IsTreeFront ring s i out now → IsFromText ring s i line → next ≡ now ++ line
       → IsTreeFront ring s (i + 1) out next

@@ -1,9 +1,8 @@
 -- What each command answers, and the state that it leaves. This project's own.
 use Rattle.std.specs.List.{concat}
 use Rattle.std.specs.Prelude.{◌≡◌, ◌≢◌, ℕ, ◌<◌, ◌⊎◌, ◌↔◌, ◌++◌, List, [], ◌∷◌, length, codes, flat_map, slice_index_or}
-use Rattle.std.specs.Prelude.{Option, Some, None, Result, Ok, Err}
+use Rattle.std.specs.Prelude.{Bool, true, false, Option, Some, None, Result, Ok, Err}
 use Rattle.plane.specs.Point.{IsPoint, Point, Triple, whole}
-use Rattle.rings.specs.Chain.{IsPath}
 use Rattle.rings.specs.Edge.{IsOnSome, edges_of}
 use Rattle.rings.specs.From.{IsBefore}
 use Rattle.rings.specs.Inside.{IsIn}
@@ -13,6 +12,7 @@ use Rattle.rings.specs.Sees.{Sees}
 use Rattle.rings.specs.Simple.{IsLeastClash, IsSimple}
 use Rattle.rings.specs.Visible.{AreParts, IsInView, Part}
 use Rattle.geo_session.specs.Hull.{IsHullIn}
+use Rattle.geo_session.specs.Shown.{IsShownPath}
 use Rattle.geo_text.specs.Texts.{bad_text, hom_text, index_text, pt_text}
 use Rattle.geo_text.specs.declared.command.Bad.{Bad}
 use Rattle.geo_text.specs.declared.command.Bad.TheVariants as bad
@@ -27,27 +27,36 @@ pub record Kept : Type 0 where
   pub ring : List Point
   pub source : Option Point
 
--- what is kept; nothing at first
-abbrev pub State : Type 0
-State = Option Kept
+-- whether the script is of version 2, and what is kept
+pub record State : Type 0 where
+  pub two : Bool
+  pub kept : Option Kept
+
+-- at first it is of version 1, and nothing is kept
+abbrev pub first_state : State
+first_state = record { two = false; kept = None }
 
 -- the line of an accepted polygon with this many vertices
 abbrev pub polygon_text : ℕ → List ℕ
 polygon_text count = codes "polygon" ++ index_text count ++ codes "\n"
 
 -- a simple polygon is accepted, and takes the place of the one before; there is no tree in it yet
-pub record AcceptsPolygon (before : State) (ring : List Point) (text : List ℕ) (after : State) : Type 0 where
+pub record AcceptsPolygon (before : Option Kept) (ring : List Point) (text : List ℕ) (after : Option Kept) : Type 0 where
   pub simple : IsSimple ring
   pub answer : text ≡ polygon_text (length ring)
   pub state : after ≡ Some (record { ring = ring; source = None })
 
 -- another one is refused by its least clash, and leaves the one before
-pub record RefusesPolygon (before : State) (ring : List Point) (text : List ℕ) (after : State) : Type 0 where
+pub record RefusesPolygon (before : Option Kept) (ring : List Point) (text : List ℕ) (after : Option Kept) : Type 0 where
   pub i : ℕ
   pub j : ℕ
   pub least : IsLeastClash ring i j
   pub answer : text ≡ bad_text (bad.Clash i j)
   pub state : after ≡ before
+
+-- one or the other
+abbrev pub IsPolygonText : Option Kept → List Point → List ℕ → Option Kept → Type 0
+IsPolygonText before ring text after = AcceptsPolygon before ring text after ⊎ RefusesPolygon before ring text after
 
 -- where a point lies in a polygon, in words
 pub data IsPlaceText (ring : List Point) (p : Point) (text : List ℕ) : Type 0 where
@@ -56,7 +65,7 @@ pub data IsPlaceText (ring : List Point) (p : Point) (text : List ℕ) : Type 0 
   outside : ¬ (IsIn ring (whole p)) → text ≡ codes "outside\n" → IsPlaceText ring p text
 
 -- the place of a point is told if there is a polygon
-abbrev pub IsInsideText : State → Point → List ℕ → Type 0
+abbrev pub IsInsideText : Option Kept → Point → List ℕ → Type 0
 IsInsideText None p text = text ≡ bad_text bad.NoPolygon
 IsInsideText (Some kept) p text = IsPlaceText kept.ring p text
 
@@ -81,7 +90,7 @@ pub record TellsVerdict (ring : List Point) (points : List Point) (text : List �
   pub told : IsVerdictText found text
 
 -- the verdict is told if there is a polygon
-abbrev pub IsCheckText : State → List Point → List ℕ → Type 0
+abbrev pub IsCheckText : Option Kept → List Point → List ℕ → Type 0
 IsCheckText None points text = text ≡ bad_text bad.NoPolygon
 IsCheckText (Some kept) points text = TellsVerdict kept.ring points text
 
@@ -94,21 +103,21 @@ abbrev pub path_text : List Point → List ℕ
 path_text points = codes "path" ++ index_text (length points) ++ points_text points ++ codes "\n"
 
 -- the text is the line of the path from s to t
-pub record TellsPath (ring : List Point) (s t : Point) (text : List ℕ) : Type 0 where
+pub record TellsPath (two : Bool) (ring : List Point) (s t : Point) (text : List ℕ) : Type 0 where
   pub points : List Point
-  pub path : IsPath ring s t points
+  pub shown : IsShownPath two ring s t points
   pub told : text ≡ path_text points
 
 -- the first of the two points that is not in the polygon is named, or else the path between them is told
-pub data IsPathIn (ring : List Point) (s t : Point) (text : List ℕ) : Type 0 where
-  first_outside : ¬ IsIn ring (whole s) → text ≡ bad_text (bad.Outside 1) → IsPathIn ring s t text
-  second_outside : IsIn ring (whole s) → ¬ IsIn ring (whole t) → text ≡ bad_text (bad.Outside 2) → IsPathIn ring s t text
-  found : IsIn ring (whole s) → IsIn ring (whole t) → TellsPath ring s t text → IsPathIn ring s t text
+pub data IsPathIn (two : Bool) (ring : List Point) (s t : Point) (text : List ℕ) : Type 0 where
+  first_outside : ¬ IsIn ring (whole s) → text ≡ bad_text (bad.Outside 1) → IsPathIn two ring s t text
+  second_outside : IsIn ring (whole s) → ¬ IsIn ring (whole t) → text ≡ bad_text (bad.Outside 2) → IsPathIn two ring s t text
+  found : IsIn ring (whole s) → IsIn ring (whole t) → TellsPath two ring s t text → IsPathIn two ring s t text
 
 -- so it is if there is a polygon
-abbrev pub IsPathText : State → Point → Point → List ℕ → Type 0
-IsPathText None s t text = text ≡ bad_text bad.NoPolygon
-IsPathText (Some kept) s t text = IsPathIn kept.ring s t text
+abbrev pub IsPathText : Bool → Option Kept → Point → Point → List ℕ → Type 0
+IsPathText two None s t text = text ≡ bad_text bad.NoPolygon
+IsPathText two (Some kept) s t text = IsPathIn two kept.ring s t text
 
 -- the line that tells by some letters what comes before vertex i
 abbrev pub from_text : ℕ → List ℕ → List ℕ
@@ -135,30 +144,30 @@ pub record TellsTree (ring : List Point) (s : Point) (text : List ℕ) : Type 0 
   pub told : text ≡ codes "tree" ++ index_text (length ring) ++ codes "\n" ++ concat lines
 
 -- a point that is not in the polygon is refused, and of another one the tree is told; it is the source from then on
-pub data IsTreeIn (kept : Kept) (s : Point) (text : List ℕ) (after : State) : Type 0 where
+pub data IsTreeIn (kept : Kept) (s : Point) (text : List ℕ) (after : Option Kept) : Type 0 where
   source_outside : ¬ IsIn kept.ring (whole s) → text ≡ bad_text (bad.Outside 1) → after ≡ Some kept → IsTreeIn kept s text after
   grown : IsIn kept.ring (whole s) → TellsTree kept.ring s text → after ≡ Some (record { ring = kept.ring; source = Some s })
       → IsTreeIn kept s text after
 
 -- so it is if there is a polygon
-abbrev pub IsTreeText : State → Point → List ℕ → State → Type 0
+abbrev pub IsTreeText : Option Kept → Point → List ℕ → Option Kept → Type 0
 IsTreeText None s text after = (text ≡ bad_text bad.NoPolygon) × (after ≡ None)
 IsTreeText (Some kept) s text after = IsTreeIn kept s text after
 
 -- a point that is not in the polygon is refused, and to another one the path from s is told
-pub data IsReachFrom (ring : List Point) (s t : Point) (text : List ℕ) : Type 0 where
-  goal_outside : ¬ IsIn ring (whole t) → text ≡ bad_text (bad.Outside 1) → IsReachFrom ring s t text
-  reached : IsIn ring (whole t) → TellsPath ring s t text → IsReachFrom ring s t text
+pub data IsReachFrom (two : Bool) (ring : List Point) (s t : Point) (text : List ℕ) : Type 0 where
+  goal_outside : ¬ IsIn ring (whole t) → text ≡ bad_text (bad.Outside 1) → IsReachFrom two ring s t text
+  reached : IsIn ring (whole t) → TellsPath two ring s t text → IsReachFrom two ring s t text
 
 -- so it is from the source of the tree, if there is one
-abbrev pub IsReachIn : List Point → Option Point → Point → List ℕ → Type 0
-IsReachIn ring None t text = text ≡ bad_text bad.NoTree
-IsReachIn ring (Some s) t text = IsReachFrom ring s t text
+abbrev pub IsReachIn : Bool → List Point → Option Point → Point → List ℕ → Type 0
+IsReachIn two ring None t text = text ≡ bad_text bad.NoTree
+IsReachIn two ring (Some s) t text = IsReachFrom two ring s t text
 
 -- and if there is a polygon
-abbrev pub IsReachText : State → Point → List ℕ → Type 0
-IsReachText None t text = text ≡ bad_text bad.NoPolygon
-IsReachText (Some kept) t text = IsReachIn kept.ring kept.source t text
+abbrev pub IsReachText : Bool → Option Kept → Point → List ℕ → Type 0
+IsReachText two None t text = text ≡ bad_text bad.NoPolygon
+IsReachText two (Some kept) t text = IsReachIn two kept.ring kept.source t text
 
 -- the line of a part of an edge: the number of the edge, and the ends of the part
 abbrev pub part_text : Part → List ℕ
@@ -181,7 +190,7 @@ pub data IsViewIn (ring : List Point) (q : Point) (text : List ℕ) : Type 0 whe
   sees : IsIn ring (whole q) → TellsView ring q text → IsViewIn ring q text
 
 -- so it is if there is a polygon
-abbrev pub IsSeeText : State → Point → List ℕ → Type 0
+abbrev pub IsSeeText : Option Kept → Point → List ℕ → Type 0
 IsSeeText None q text = text ≡ bad_text bad.NoPolygon
 IsSeeText (Some kept) q text = IsViewIn kept.ring q text
 
@@ -200,26 +209,27 @@ pub record TellsKernel (ring : List Point) (text : List ℕ) : Type 0 where
   pub told : text ≡ kernel_text corners
 
 -- the kernel is told if there is a polygon
-abbrev pub IsKernelText : State → List ℕ → Type 0
+abbrev pub IsKernelText : Option Kept → List ℕ → Type 0
 IsKernelText None text = text ≡ bad_text bad.NoPolygon
 IsKernelText (Some kept) text = TellsKernel kept.ring text
 
 -- the hull is told if there is a polygon
-abbrev pub IsHullText : State → List Point → List ℕ → Type 0
-IsHullText None points text = text ≡ bad_text bad.NoPolygon
-IsHullText (Some kept) points text = IsHullIn kept.ring points text
+abbrev pub IsHullText : Bool → Option Kept → List Point → List ℕ → Type 0
+IsHullText two None points text = text ≡ bad_text bad.NoPolygon
+IsHullText two (Some kept) points text = IsHullIn two kept.ring points text
 
 -- the text is the command's answer in the state before, and leaves the state after
 abbrev pub IsAnswer : State → Command → List ℕ → State → Type 0
-IsAnswer before (command.Polygon ring) text after = AcceptsPolygon before ring text after ⊎ RefusesPolygon before ring text after
-IsAnswer before (command.Inside p) text after = IsInsideText before p text × (after ≡ before)
-IsAnswer before (command.Check points) text after = IsCheckText before points text × (after ≡ before)
-IsAnswer before (command.Path s t) text after = IsPathText before s t text × (after ≡ before)
-IsAnswer before (command.Tree s) text after = IsTreeText before s text after
-IsAnswer before (command.Reach t) text after = IsReachText before t text × (after ≡ before)
-IsAnswer before (command.See q) text after = IsSeeText before q text × (after ≡ before)
-IsAnswer before command.Kernel text after = IsKernelText before text × (after ≡ before)
-IsAnswer before (command.Hull points) text after = IsHullText before points text × (after ≡ before)
+IsAnswer before command.Two text after = (text ≡ codes "geo,2\n") × (after ≡ record { two = true; kept = None })
+IsAnswer before (command.Polygon ring) text after = IsPolygonText before.kept ring text after.kept × (after.two ≡ before.two)
+IsAnswer before (command.Inside p) text after = IsInsideText before.kept p text × (after ≡ before)
+IsAnswer before (command.Check points) text after = IsCheckText before.kept points text × (after ≡ before)
+IsAnswer before (command.Path s t) text after = IsPathText before.two before.kept s t text × (after ≡ before)
+IsAnswer before (command.Tree s) text after = IsTreeText before.kept s text after.kept × (after.two ≡ before.two)
+IsAnswer before (command.Reach t) text after = IsReachText before.two before.kept t text × (after ≡ before)
+IsAnswer before (command.See q) text after = IsSeeText before.kept q text × (after ≡ before)
+IsAnswer before command.Kernel text after = IsKernelText before.kept text × (after ≡ before)
+IsAnswer before (command.Hull points) text after = IsHullText before.two before.kept points text × (after ≡ before)
 
 -- the same of a record that is read as a command or as a refusal; a refused record gives its line and keeps the state
 abbrev pub IsReadingAnswer : State → Result Command Bad → List ℕ → State → Type 0

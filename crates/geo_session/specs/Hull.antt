@@ -1,12 +1,13 @@
 -- What a hull answers: the lines of its sides. This project's own, after Toussaint 1986.
 use Rattle.std.specs.List.{Contains, concat}
-use Rattle.std.specs.Prelude.{◌≡◌, ◌≢◌, ◌↔◌, ℕ, ◌+◌, ◌<◌, ◌++◌, List, [], length, map, codes, flat_map, slice_index, slice_index_or}
+use Rattle.std.specs.Prelude.{◌≡◌, ◌≢◌, ◌↔◌, Bool, ℕ, ◌+◌, ◌<◌, ◌++◌, List, [], length, map, codes, flat_map, slice_index, slice_index_or}
 use Rattle.plane.specs.Point.{Point, whole}
-use Rattle.rings.specs.Chain.{IsPath, point_at}
+use Rattle.rings.specs.Chain.{point_at}
 use Rattle.rings.specs.Inside.{IsIn}
 use Rattle.geo_text.specs.Texts.{bad_text, index_text, pt_text}
 use Rattle.geo_text.specs.declared.command.Bad.TheVariants as bad
 use Rattle.rel_hull.specs.Table.{AreSides, pair_at}
+use Rattle.geo_session.specs.Shown.{IsShownPath}
 
 -- the numbers of the points that no earlier one is equal to, in order
 pub record AreFirsts (points : List Point) (numbers : List ℕ) : Type 0 where
@@ -18,9 +19,9 @@ abbrev pub side_text : ℕ → ℕ → List Point → List ℕ
 side_text i j path = codes "side" ++ index_text i ++ index_text j ++ index_text (length path) ++ flat_map pt_text path ++ codes "\n"
 
 -- the line tells the path from point i to point j
-pub record IsSideText (ring points : List Point) (i j : ℕ) (line : List ℕ) : Type 0 where
+pub record IsSideText (two : Bool) (ring points : List Point) (i j : ℕ) (line : List ℕ) : Type 0 where
   pub path : List Point
-  pub is_path : IsPath ring (point_at points i) (point_at points j) path
+  pub shown : IsShownPath two ring (point_at points i) (point_at points j) path
   pub told : line ≡ side_text i j path
 
 -- the lines of a hull: how many sides there are, and then the line of each
@@ -28,7 +29,7 @@ abbrev pub hull_text : List (List ℕ) → List ℕ
 hull_text lines = codes "hull" ++ index_text (length lines) ++ codes "\n" ++ concat lines
 
 -- the text is the lines of the sides of the points' relative hull, a point that is given again counting once, under its first number
-pub record TellsHull (ring points : List Point) (text : List ℕ) : Type 0 where
+pub record TellsHull (two : Bool) (ring points : List Point) (text : List ℕ) : Type 0 where
   pub numbers : List ℕ
   pub firsts : AreFirsts points numbers
   pub sides : List (ℕ × ℕ)
@@ -36,7 +37,7 @@ pub record TellsHull (ring points : List Point) (text : List ℕ) : Type 0 where
   pub lines : List (List ℕ)
   pub one_each : length lines ≡ length sides
   pub each : (k : ℕ) → k < length sides
-      → IsSideText ring points (slice_index numbers (pair_at sides k).0) (slice_index numbers (pair_at sides k).1) (slice_index_or lines k [])
+      → IsSideText two ring points (slice_index numbers (pair_at sides k).0) (slice_index numbers (pair_at sides k).1) (slice_index_or lines k [])
   pub told : text ≡ hull_text lines
 
 -- point k is not in the polygon, and each point before it is
@@ -50,6 +51,6 @@ abbrev pub AreAllIn : List Point → List Point → Type 0
 AreAllIn ring points = (k : ℕ) → k < length points → IsIn ring (whole (point_at points k))
 
 -- the first of the points that is not in the polygon is refused, by its number counted from 1, or else their hull is told
-pub data IsHullIn (ring points : List Point) (text : List ℕ) : Type 0 where
-  point_outside : (k : ℕ) → IsFirstOutside ring points k → text ≡ bad_text (bad.Outside (k + 1)) → IsHullIn ring points text
-  spanned : AreAllIn ring points → TellsHull ring points text → IsHullIn ring points text
+pub data IsHullIn (two : Bool) (ring points : List Point) (text : List ℕ) : Type 0 where
+  point_outside : (k : ℕ) → IsFirstOutside ring points k → text ≡ bad_text (bad.Outside (k + 1)) → IsHullIn two ring points text
+  spanned : AreAllIn ring points → TellsHull two ring points text → IsHullIn two ring points text

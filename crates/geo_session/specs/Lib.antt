@@ -1,9 +1,11 @@
+pub mod Along
 pub mod Answer
 pub mod Hull
 pub mod Span
 pub mod Laws
 pub mod Output
 pub mod Session
+pub mod Shown
 pub mod Path
 pub mod Tree
 pub mod Place

@@ -4,12 +4,12 @@ use Rattle.std.specs.Prelude.{◌≡◌, ℕ, ◌<◌, ◌++◌, List, [], codes
 use Rattle.plane.specs.Point.{Point}
 use Rattle.ring_check.specs.Oriented.{given_of}
 use Rattle.geo_text.specs.Texts.{index_text}
-use Rattle.geo_session.specs.Answer.{IsFromText, State, path_text, points_text}
+use Rattle.geo_session.specs.Answer.{IsFromText, Kept, path_text, points_text}
 use Rattle.geo_session.specs.Tree.{HeldRing}
 
-abbrev pub state_of : Option HeldRing → State
-state_of None = None
-state_of (Some held) = Some (record { ring = given_of held.ring; source = held.source })
+abbrev pub kept_of : Option HeldRing → Option Kept
+kept_of None = None
+kept_of (Some held) = Some (record { ring = given_of held.ring; source = held.source })
 
 -- a text of which this holds was appended
 pub record AppendsSuch (Holds : List ℕ → Type 0) (out out' : List ℕ) : Type 0 where

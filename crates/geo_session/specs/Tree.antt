@@ -1,8 +1,7 @@
 -- How a polygon is held with the tree of a source in it. No public clause cites this module.
-use Rattle.std.specs.Prelude.{◌≡◌, ℕ, List, [], codes, Option, None, Some, Result, Ok, Err, Vec}
+use Rattle.std.specs.Prelude.{◌≡◌, Bool, ℕ, List, [], codes, Option, None, Some, Result, Ok, Err, Vec}
 use Rattle.std.specs.declared.alloc.Global.{Global}
 use Rattle.plane.specs.Point.{Point, whole}
-use Rattle.rings.specs.Chain.{IsPath}
 use Rattle.rings.specs.Inside.{IsIn}
 use Rattle.meshes.specs.Fits.{Fits}
 use Rattle.meshes.specs.declared.tri.Tri.{Tri}
@@ -10,7 +9,9 @@ use Rattle.exact_plane.specs.declared.turns.Spot.{Spot}
 use Rattle.exact_plane.specs.declared.turns.Spot.TheVariants.{Corner, Goal, Start}
 use Rattle.geo_text.specs.Texts.{index_text}
 use Rattle.ring_check.specs.Oriented.{Oriented, given_of}
+use Rattle.dual_tree.specs.Location.{IsLeastHolding}
 use Rattle.path_tree.specs.Grown.{IsGrownFrom}
+use Rattle.geo_session.specs.Shown.{IsShownPath}
 use Rattle.geo_session.specs.declared.grown.Grown.{Grown}
 use Rattle.geo_session.specs.declared.grown.Unreached.{Unreached}
 use Rattle.geo_session.specs.declared.grown.Unreached.TheVariants as unreached
@@ -21,9 +22,10 @@ pub record HeldRing : Type 0 where
   pub tris : List Tri
   pub source : Option Point
 
--- the tree is grown from its source in these corners and triangles
-abbrev pub IsTreeOf : List Point → List Tri → Grown → Type 0
-IsTreeOf corners tris grown = IsGrownFrom corners grown.source tris grown.tree
+-- the tree is grown from its source, which is in its triangle, in these corners and triangles
+pub record IsTreeOf (corners : List Point) (tris : List Tri) (grown : Grown) : Type 0 where
+  pub home : IsLeastHolding corners tris (whole grown.source) grown.home
+  pub tree : IsGrownFrom corners grown.source tris grown.tree
 
 -- so it is if there is one
 abbrev pub KeepsTree : List Point → List Tri → Option Grown → Type 0
@@ -39,11 +41,11 @@ pub record IsHeld (corners : List Point) (tris : List Tri) (grown : Option Grown
   pub fits : Fits corners tris
   pub tree : KeepsTree corners tris grown
 
--- the path from the source of the tree to t, or why there is none
-abbrev pub IsReached : List Point → Option Point → Point → Result (Vec Point Global) Unreached → Type 0
-IsReached ring None t found = found ≡ Err unreached.NoTree
-IsReached ring (Some s) t (Ok points) = IsIn ring (whole t) × IsPath ring s t points.items
-IsReached ring (Some s) t (Err fault) = (¬ IsIn ring (whole t)) × (fault ≡ unreached.Outside)
+-- what is told of the path from the source of the tree to t, or why there is none
+abbrev pub IsReached : Bool → List Point → Option Point → Point → Result (Vec Point Global) Unreached → Type 0
+IsReached two ring None t found = found ≡ Err unreached.NoTree
+IsReached two ring (Some s) t (Ok points) = IsIn ring (whole t) × IsShownPath two ring s t points.items
+IsReached two ring (Some s) t (Err fault) = (¬ IsIn ring (whole t)) × (fault ≡ unreached.Outside)
 
 -- the letters that tell what comes before a vertex; a goal comes before none
 abbrev pub before_text : Option Spot → List ℕ

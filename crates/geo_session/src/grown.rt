@@ -1,5 +1,5 @@
 // The tree of a source in a polygon.
-ghost use Rattle.std.specs.Prelude.{◌≡◌, ◌+◌, ◌*◌, ◌<◌, ◌≤◌, List, IfOk, length};
+ghost use Rattle.std.specs.Prelude.{◌≡◌, ◌+◌, ◌*◌, ◌<◌, ◌≤◌, if◌then◌else◌, List, IfOk, length};
 ghost use Rattle.plane.specs.Point.{whole};
 ghost use Rattle.plane.specs.declared.limits.TheConstants.{MAX_CORNERS};
 ghost use Rattle.rings.specs.Chain.{IsPath};
@@ -9,10 +9,11 @@ ghost use Rattle.meshes.specs.declared.tri.Tri.{Tri};
 ghost use Rattle.shared_seq.specs.Digits.{binary_digits};
 ghost use Rattle.ring_check.specs.Oriented.{given_of};
 ghost use Rattle.dual_tree.specs.Location.{IsLeastHolding};
-ghost use Rattle.path_tree.specs.Grown.{IsFromNamed, IsGrownFrom};
+ghost use Rattle.path_tree.specs.Grown.{IsFromNamed};
+ghost use Rattle.geo_session.specs.Shown.{IsShownPath};
 ghost use Rattle.geo_session.specs.Tree.{IsTreeOf};
 
-use crate::held::put_points;
+use crate::along::{full_between, put_points};
 use dual_tree::Board;
 use exact_plane::{Memory, Pt, Spot, Steps};
 use path_tree::PathTree;
@@ -21,10 +22,11 @@ use std::alloc::Global;
 use std::sync::ledger::Ledger;
 use tri_mesh::Mesh;
 
-// A point of a polygon, and the paths from it to every vertex.
+// A point of a polygon, its triangle, and the paths from it to every vertex.
 #[derive(Drop)]
 pub(crate) struct Grown {
     source: Pt,
+    home: u32,
     tree: PathTree,
 }
 
@@ -48,13 +50,14 @@ impl Grown {
         requires fits { Fits ring.now.corners mesh.now }
         requires home { IsLeastHolding ring.now.corners mesh.now (whole source.now) home }
         ensures source { IfOk result (λ grown. grown.source ≡ source.now) }
-        ensures grown { IfOk result (λ grown. IsGrownFrom ring.now.corners source.now mesh.now grown.tree) }
+        ensures grown { IfOk result (IsTreeOf ring.now.corners mesh.now) }
         ensures steps { let n = length ring.now.corners in let b = binary_digits n in steps.new ≤ steps.old + 200 * n * (b * b) }
     {
         let board = Board::new(ring, *source, *source);
         let tree = PathTree::build(alloc, &board, mesh, home, steps)?;
         Ok(Grown {
             source: *source,
+            home,
             tree,
         })
     }
@@ -73,8 +76,35 @@ impl Grown {
         }
     }
 
+    // What is told of the path from the source to a point in triangle `tri`.
+    pub(crate) fn shown_to<L: Ledger>(
+        &self,
+        alloc: Global,
+        two: bool,
+        ring: &Ring,
+        mesh: &Mesh,
+        tri: u32,
+        goal: &Pt,
+        steps: &mut Steps<L>,
+    ) -> Result<Vec<Pt>, Memory>
+        requires fits { Fits ring.now.corners mesh.now }
+        requires grown { IsTreeOf ring.now.corners mesh.now self.now }
+        requires goal { IsLeastHolding ring.now.corners mesh.now (whole goal.now) tri }
+        ensures shown { IfOk result (λ points. IsShownPath two ring.now.corners self.now.source goal.now points.items) }
+        ensures few { IfOk result (λ points. length points.items ≤ MAX_CORNERS + 3) }
+        ensures steps { let n = length ring.now.corners in let b = binary_digits n in
+            steps.new ≤ steps.old + ((if two then 20 else 0) * n + 24 * (b * b)) }
+    {
+        let chain = self.chain_to(alloc, ring, mesh, tri, goal, steps)?;
+        if two {
+            full_between(alloc, mesh, ring, self.home, tri, &chain, steps)
+        } else {
+            Ok(chain)
+        }
+    }
+
     // The path from the source to a point in triangle `tri`. It takes all its memory first.
-    pub(crate) fn chain_to<L: Ledger>(
+    fn chain_to<L: Ledger>(
         &self,
         alloc: Global,
         ring: &Ring,

@@ -1,28 +1,23 @@
-ghost use Rattle.std.specs.Prelude.{◌≡◌, ◌+◌, ◌-◌, ◌*◌, ◌<◌, ◌≤◌, ◌++◌, ℕ, IfOk, IfSome, None, OnErr, Some, length, vec_capacity};
-ghost use Rattle.plane.specs.Point.{whole};
-ghost use Rattle.plane.specs.declared.limits.TheConstants.{MAX_CHAIN, MAX_CORNERS};
-ghost use Rattle.rings.specs.Chain.{IsPath};
+ghost use Rattle.std.specs.Prelude.{◌≡◌, ◌+◌, ◌-◌, ◌*◌, ◌<◌, ◌≤◌, false, if◌then◌else◌, ℕ, IfOk, IfSome, None, OnErr, Some, length};
+ghost use Rattle.plane.specs.declared.limits.TheConstants.{MAX_CHAIN, MAX_CORNERS, MAX_HULL};
 ghost use Rattle.rings.specs.Kernel.{IsKernel};
 ghost use Rattle.rings.specs.Visible.{part_at, turned_part, turned_parts};
 ghost use Rattle.meshes.specs.Fits.{Fits};
 ghost use Rattle.shared_seq.specs.Digits.{binary_digits};
-ghost use Rattle.exact_plane.specs.Spot.{point_named};
-ghost use Rattle.geo_text.specs.declared.command.TheConstants.{MAX_HULL};
 ghost use Rattle.ring_check.specs.Oriented.{given_of};
 ghost use Rattle.taut_check.specs.Verdict.{IsVerdict};
-ghost use Rattle.dual_tree.specs.Location.{IsLeastHolding};
-ghost use Rattle.funnel_walk.specs.Names.{AreNamed, named_points};
 ghost use Rattle.geo_session.specs.Path.{IsChainIn};
 ghost use Rattle.geo_session.specs.Place.{IsPlace};
+ghost use Rattle.geo_session.specs.Shown.{IsShownPath};
 ghost use Rattle.geo_session.specs.Span.{IsSpanned};
 ghost use Rattle.geo_session.specs.Tree.{IsGrownAt, IsReached, IsTreeOf};
 ghost use Rattle.geo_session.specs.View.{IsViewOf, given_parts};
 
+use crate::along::shown_between;
 use crate::grown::{Grown, Unreached};
 use crate::hull::Hull;
-use dual_tree::{Board, locate, sleeve};
-use exact_plane::{Hom, Memory, Pt, Spot, Steps, Turns};
-use funnel_walk::{FunnelBox, walk};
+use dual_tree::{Board, locate};
+use exact_plane::{Hom, Memory, Pt, Steps};
 use inside_test::{Position, place};
 use ring_check::Ring;
 use see_cone::{Part, see};
@@ -104,19 +99,21 @@ impl Held {
         check(alloc, &self.ring, points, steps)
     }
 
-    // The taut chain between two points of the polygon, or which of them is the first that is not in it. It takes all its
-    // memory before the walk.
+    // What is told of the taut chain between two points of the polygon, or which of them is the first that is not in it. In
+    // version 1 all memory is taken before the walk.
     pub(crate) fn chain<L: Ledger>(
         &self,
         alloc: Global,
+        two: bool,
         s: &Pt,
         t: &Pt,
         steps: &mut Steps<L>,
     ) -> Result<Result<Vec<Pt>, Outside>, Memory>
-        ensures answer { IfOk result (IsChainIn Outside.Start Outside.Goal (given_of self.now.ring) s.now t.now) }
-        ensures few { IfOk result (λ found. IfOk found (λ points. length points.items ≤ MAX_CORNERS + 1)) }
-        ensures steps { steps.new ≤ steps.old + 12 * length self.now.ring.corners }
-        ensures memory { OnErr result (steps.new ≤ steps.old + 6 * (length self.now.ring.corners - 2)) }
+        ensures answer { IfOk result (IsChainIn Outside.Start Outside.Goal (given_of self.now.ring) s.now t.now
+            (IsShownPath two (given_of self.now.ring) s.now t.now)) }
+        ensures few { IfOk result (λ found. IfOk found (λ points. length points.items ≤ MAX_CORNERS + (if two then 2 else 1))) }
+        ensures steps { steps.new ≤ steps.old + (if two then 30 else 10) * length self.now.ring.corners }
+        ensures memory { two ≡ false → OnErr result (steps.new ≤ steps.old + 6 * (length self.now.ring.corners - 2)) }
     {
         let Some(from) = locate(&self.mesh, &self.ring, s, steps) else {
             return Ok(Err(Outside::Start));
@@ -124,7 +121,7 @@ impl Held {
         let Some(to) = locate(&self.mesh, &self.ring, t, steps) else {
             return Ok(Err(Outside::Goal));
         };
-        let points = chain_between(alloc, &self.mesh, &self.ring, from, to, s, t, steps)?;
+        let points = shown_between(alloc, two, &self.mesh, &self.ring, from, to, s, t, steps)?;
         Ok(Ok(points))
     }
 
@@ -153,16 +150,18 @@ impl Held {
         self.grown = Some(grown);
     }
 
-    // The path from the source of the tree to a point, or why there is none.
+    // What is told of the path from the source of the tree to a point, or why there is none.
     pub(crate) fn reach<L: Ledger>(
         &self,
         alloc: Global,
+        two: bool,
         t: &Pt,
         steps: &mut Steps<L>,
     ) -> Result<Result<Vec<Pt>, Unreached>, Memory>
-        ensures answer { IfOk result (IsReached (given_of self.now.ring) self.now.source t.now) }
+        ensures answer { IfOk result (IsReached two (given_of self.now.ring) self.now.source t.now) }
         ensures few { IfOk result (λ found. IfOk found (λ points. length points.items ≤ MAX_CORNERS + 3)) }
-        ensures steps { let n = length self.now.ring.corners in let b = binary_digits n in steps.new ≤ steps.old + (3 * n + 24 * (b * b)) }
+        ensures steps { let n = length self.now.ring.corners in let b = binary_digits n in
+            steps.new ≤ steps.old + ((if two then 23 else 3) * n + 24 * (b * b)) }
     {
         let Some(grown) = &self.grown else {
             return Ok(Err(Unreached::NoTree));
@@ -170,7 +169,7 @@ impl Held {
         let Some(tri) = locate(&self.mesh, &self.ring, t, steps) else {
             return Ok(Err(Unreached::Outside));
         };
-        let points = grown.chain_to(alloc, &self.ring, &self.mesh, tri, t, steps)?;
+        let points = grown.shown_to(alloc, two, &self.ring, &self.mesh, tri, t, steps)?;
         Ok(Ok(points))
     }
 
@@ -193,18 +192,19 @@ impl Held {
         Ok(Some(given))
     }
 
-    // The relative hull of some points, or the number of the first that is not in the polygon.
+    // The relative hull of some points, with what is told of its sides, or the number of the first that is not in the polygon.
     pub(crate) fn hull<L: Ledger>(
         &self,
         alloc: Global,
+        two: bool,
         points: &[Pt],
         steps: &mut Steps<L>,
     ) -> Result<Result<Hull, u32>, Memory>
         requires some { 1 ≤ length points.now }
         requires few { length points.now ≤ MAX_HULL }
-        ensures { IfOk result (IsSpanned (given_of self.now.ring) points.now) }
+        ensures { IfOk result (IsSpanned two (given_of self.now.ring) points.now) }
     {
-        Hull::of(alloc, &self.ring, &self.mesh, points, steps)
+        Hull::of(alloc, two, &self.ring, &self.mesh, points, steps)
     }
 
     // The corners of the polygon's kernel.
@@ -218,49 +218,6 @@ impl Held {
     {
         let _count = self.ring.len();
         kernel(alloc, &self.ring, steps)
-    }
-}
-
-// The taut chain from a point in one triangle to a point in another.
-pub(crate) fn chain_between<L: Ledger>(
-    alloc: Global,
-    mesh: &Mesh,
-    ring: &Ring,
-    from: u32,
-    to: u32,
-    s: &Pt,
-    t: &Pt,
-    steps: &mut Steps<L>,
-) -> Result<Vec<Pt>, Memory>
-    requires fits { Fits ring.now.corners mesh.now }
-    requires from { IsLeastHolding ring.now.corners mesh.now (whole s.now) from }
-    requires to { IsLeastHolding ring.now.corners mesh.now (whole t.now) to }
-    ensures path { IfOk result (λ points. IsPath ring.now.corners s.now t.now points.items) }
-    ensures few { IfOk result (λ points. length points.items ≤ MAX_CORNERS + 1) }
-    ensures steps { steps.new ≤ steps.old + 4 * length ring.now.corners }
-    ensures memory { OnErr result (steps.new ≡ steps.old) }
-{
-    let _count = ring.len();
-    let sleeve = sleeve(alloc, mesh, from, to)?;
-    let mut room = FunnelBox::with_room(alloc, sleeve.len())?;
-    let mut names = Vec::with_capacity(alloc, sleeve.len() + 4)?;
-    let mut points = Vec::with_capacity(alloc, sleeve.len() + 4)?;
-    let board = Board::new(ring, *s, *t);
-    walk(&mut room, &board, mesh, &sleeve, &mut names, steps);
-    put_points(&mut points, &names, &board);
-    Ok(points)
-}
-
-// Appends the points that the names stand for.
-pub(crate) fn put_points<'a>(points: &mut Vec<Pt>, names: &[Spot], board: &Board<'a>)
-    requires named { AreNamed (⟦<Board<'a> as Turns>⟧.corners board.now) names.now }
-    requires room { length points.old.items + length names.now ≤ vec_capacity points.old }
-    ensures points { points.new.items ≡ points.old.items ++ named_points (point_named (⟦<Board<'a> as Turns>⟧.corners board.now)
-        (⟦<Board<'a> as Turns>⟧.start board.now) (⟦<Board<'a> as Turns>⟧.goal board.now)) names.now }
-    ensures same_room { vec_capacity points.new ≡ vec_capacity points.old }
-{
-    for name in names {
-        points.push_reserved(board.point(*name));
     }
 }
 

@@ -1,12 +1,14 @@
 // The relative hull of some points in a polygon.
-ghost use Rattle.std.specs.Prelude.{◌≡◌, ◌↔◌, ◌*◌, ◌≤◌, ◌<◌, ◌^◌, ◌++◌, ℕ, List, IfOk, IsTrue, OnErr, OnOk, length, map, slice_index, take};
+ghost use Rattle.std.specs.Prelude.{◌≡◌, ◌↔◌, ◌≤◌, ◌<◌, ◌+◌, ◌++◌, Bool, ℕ, List, IfOk, IsTrue, OnErr, OnOk, length, map, take};
 ghost use Rattle.plane.specs.Point.{Point};
 ghost use Rattle.meshes.specs.Fits.{Fits};
-ghost use Rattle.geo_text.specs.declared.command.TheConstants.{MAX_HULL};
-ghost use Rattle.geo_session.specs.Hull.{AreFirsts};
-ghost use Rattle.geo_session.specs.Span.{AreChains, AreHeld, AreLocated, IsHullOf, IsRepeated, IsSpanned, line_of, span_text};
+ghost use Rattle.plane.specs.declared.limits.TheConstants.{MAX_CORNERS, MAX_HULL};
+ghost use Rattle.geo_session.specs.Along.{IsPathBetween};
+ghost use Rattle.geo_session.specs.Hull.{AreFirsts, side_text};
+ghost use Rattle.geo_session.specs.Shown.{IsShown};
+ghost use Rattle.geo_session.specs.Span.{AreHeld, AreLocated, AreTold, AreWalked, IsHullOf, IsNumberedTable, IsRepeated, IsSpanned, span_text};
 
-use crate::held::chain_between;
+use crate::along::{chain_between, full_between};
 use crate::lines::put_count;
 use dual_tree::locate;
 use exact_plane::{Memory, Pt, Steps, order};
@@ -18,19 +20,20 @@ use std::cmp::Ordering;
 use std::sync::ledger::Ledger;
 use tri_mesh::Mesh;
 
-// The numbers of some points that are distinct, the paths between each two of them, and the sides of their hull, by their places
-// among these.
+// The numbers of some points that are distinct, the sides of their hull, by their places among these, and what is told of the
+// path of each side.
 #[derive(Drop)]
 pub(crate) struct Hull {
     numbers: Vec<u32>,
-    chains: ChainTable,
     sides: Vec<(u32, u32)>,
+    paths: Vec<Vec<Pt>>,
 }
 
 impl Hull {
     // The hull of some points in a ring, or the number of the first that is not in it.
     pub(crate) fn of<L: Ledger>(
         alloc: Global,
+        two: bool,
         ring: &Ring,
         mesh: &Mesh,
         points: &[Pt],
@@ -39,7 +42,7 @@ impl Hull {
         requires fits { Fits ring.now.corners mesh.now }
         requires some { 1 ≤ length points.now }
         requires few { length points.now ≤ MAX_HULL }
-        ensures { IfOk result (IsSpanned ring.now.corners points.now) }
+        ensures { IfOk result (IsSpanned two ring.now.corners points.now) }
     {
         let tris = match located(alloc, ring, mesh, points, steps)? {
             Ok(tris) => tris,
@@ -47,12 +50,14 @@ impl Hull {
         };
         let numbers = first_numbers(alloc, points, steps)?;
         let chains = chains(alloc, ring, mesh, points, &tris, &numbers, steps)?;
-        let chains = ChainTable::of(ring, numbers.len() as u32, chains);
         let sides = sides(alloc, ring, &chains, steps)?;
+        let paths = paths(
+            alloc, two, ring, mesh, &tris, &numbers, &chains, &sides, steps,
+        )?;
         Ok(Ok(Hull {
             numbers,
-            chains,
             sides,
+            paths,
         }))
     }
 }
@@ -111,7 +116,8 @@ fn is_repeated<L: Ledger>(points: &[Pt], i: usize, steps: &mut Steps<L>) -> bool
     false
 }
 
-// The paths between each two of the numbered points, row by row.
+// The table of the paths between each two of the numbered points.
+#[tactic(auto, using(crate::proofs::HullTable::number_in_list))]
 fn chains<L: Ledger>(
     alloc: Global,
     ring: &Ring,
@@ -120,13 +126,13 @@ fn chains<L: Ledger>(
     tris: &[u32],
     numbers: &[u32],
     steps: &mut Steps<L>,
-) -> Result<Vec<Vec<Pt>>, Memory>
+) -> Result<ChainTable, Memory>
     requires fits { Fits ring.now.corners mesh.now }
     requires held { AreHeld ring.now.corners mesh.now points.now (length points.now) tris.now }
-    requires numbers { (k : ℕ) → k < length numbers.now → slice_index numbers.now k < length points.now }
+    requires some { 1 ≤ length points.now }
+    requires firsts { AreFirsts points.now numbers.now }
     requires few { length numbers.now ≤ MAX_HULL }
-    ensures { IfOk result (λ chains. AreChains ring.now.corners points.now numbers.now (length numbers.now * length numbers.now)
-        (map (λ chain. chain.items) chains.items)) }
+    ensures { IfOk result (IsNumberedTable ring.now.corners points.now numbers.now) }
 {
     let m = numbers.len();
     let mut chains = Vec::with_capacity(alloc, m * m)?;
@@ -136,7 +142,58 @@ fn chains<L: Ledger>(
         let (s, t) = (&points[i], &points[j]);
         chains.push_reserved(chain_between(alloc, mesh, ring, tris[i], tris[j], s, t, steps)?);
     }
-    Ok(chains)
+    Ok(ChainTable::of(ring, m as u32, chains))
+}
+
+// What is told of the paths of the sides.
+fn paths<L: Ledger>(
+    alloc: Global,
+    two: bool,
+    ring: &Ring,
+    mesh: &Mesh,
+    tris: &[u32],
+    numbers: &[u32],
+    chains: &ChainTable,
+    sides: &[(u32, u32)],
+    steps: &mut Steps<L>,
+) -> Result<Vec<Vec<Pt>>, Memory>
+    requires fits { Fits ring.now.corners mesh.now }
+    requires count { chains.now.count ≡ length numbers.now }
+    requires walked { AreWalked ring.now.corners mesh.now tris.now numbers.now chains.now sides.now }
+    ensures { IfOk result (λ paths. AreTold two ring.now.corners chains.now sides.now (length sides.now) (map (λ path. path.items) paths.items)) }
+{
+    let mut paths = Vec::with_capacity(alloc, sides.len())?;
+    for side in sides {
+        let from = tris[numbers[side.0 as usize] as usize];
+        let to = tris[numbers[side.1 as usize] as usize];
+        let chain = chains.chain(side.0, side.1);
+        paths.push_reserved(told(alloc, two, ring, mesh, from, to, chain, steps)?);
+    }
+    Ok(paths)
+}
+
+// What is told of a path: its points, and in version 2 all vertices that it touches.
+fn told<L: Ledger>(
+    alloc: Global,
+    two: bool,
+    ring: &Ring,
+    mesh: &Mesh,
+    from: u32,
+    to: u32,
+    chain: &[Pt],
+    steps: &mut Steps<L>,
+) -> Result<Vec<Pt>, Memory>
+    requires fits { Fits ring.now.corners mesh.now }
+    requires path { IsPathBetween ring.now.corners mesh.now from to chain.now }
+    requires few { length chain.now ≤ MAX_CORNERS + 1 }
+    ensures told { IfOk result (λ points. IsShown two ring.now.corners chain.now points.items) }
+    ensures few { IfOk result (λ points. length points.items ≤ MAX_CORNERS + 2) }
+{
+    if two {
+        full_between(alloc, mesh, ring, from, to, chain, steps)
+    } else {
+        Ok(chain.to_vec(alloc)?)
+    }
 }
 
 // Appends the lines of a hull.
@@ -145,33 +202,31 @@ pub(crate) fn put_hull<L: Ledger>(
     hull: &Hull,
     steps: &mut Steps<L>,
 ) -> Result<(), Memory>
-    requires { (ring : List Point) × (points : List Point) × IsHullOf ring points hull.now }
+    requires { (two : Bool) × (ring : List Point) × (points : List Point) × IsHullOf two ring points hull.now }
     ensures ok { OnOk result (out.new.items ≡ out.old.items ++ span_text hull.now) }
     ensures front { OnErr result (take (length out.old.items) out.new.items ≡ out.old.items) }
 {
     put_count(out, "hull", hull.sides.len() as u32)?;
-    for side in &hull.sides {
-        put_side(out, hull, side.0, side.1, steps)?;
+    for k in 0..hull.sides.len() {
+        let (s, t) = hull.sides[k];
+        let (i, j) = (hull.numbers[s as usize], hull.numbers[t as usize]);
+        put_side(out, i, j, hull.paths[k].as_slice(), steps)?;
     }
     Ok(())
 }
 
-// Appends the line of a side.
+// Appends the line of the side from point i to point j.
 fn put_side<L: Ledger>(
     out: &mut Vec<u8>,
-    hull: &Hull,
-    s: u32,
-    t: u32,
+    i: u32,
+    j: u32,
+    path: &[Pt],
     steps: &mut Steps<L>,
 ) -> Result<(), Memory>
-    requires hull { (ring : List Point) × (points : List Point) × IsHullOf ring points hull.now }
-    requires start { s < hull.now.chains.count }
-    requires end { t < hull.now.chains.count }
-    ensures ok { OnOk result (out.new.items ≡ out.old.items ++ line_of hull.now (s, t)) }
+    requires { length path.now ≤ MAX_CORNERS + 2 }
+    ensures ok { OnOk result (out.new.items ≡ out.old.items ++ side_text i j path.now) }
     ensures front { OnErr result (take (length out.old.items) out.new.items ≡ out.old.items) }
 {
-    let (i, j) = (hull.numbers[s as usize], hull.numbers[t as usize]);
-    let path = hull.chains.chain(s, t);
     put_word(out, "side")?;
     put_index(out, i)?;
     put_index(out, j)?;

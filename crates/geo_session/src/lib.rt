@@ -1,6 +1,9 @@
 //! What a run holds between two records, and the answer to each command.
 #![tactic(auto)]
 
+mod along;
+#[cfg(test)]
+mod full_chains;
 mod grown;
 mod held;
 mod hull;

@@ -1,27 +1,27 @@
-ghost use Rattle.std.specs.Prelude.{◌≡◌, ◌+◌, ◌-◌, ◌*◌, ◌≤◌, ◌++◌, length, take, None, Some, IfOk, OnOk, OnErr};
+ghost use Rattle.std.specs.Prelude.{◌≡◌, ◌+◌, ◌-◌, ◌*◌, ◌≤◌, ◌++◌, false, if◌then◌else◌, length, take, None, Some, IfOk, OnOk, OnErr};
 ghost use Rattle.plane.specs.Point.{Point};
-ghost use Rattle.plane.specs.declared.limits.TheConstants.{MAX_CHAIN, MAX_CORNERS};
+ghost use Rattle.plane.specs.declared.limits.TheConstants.{MAX_CHAIN, MAX_CORNERS, MAX_HULL};
 ghost use Rattle.geo_text.specs.Reading.{IsWellSized};
-ghost use Rattle.geo_text.specs.declared.command.TheConstants.{MAX_HULL};
 ghost use Rattle.shared_seq.specs.Digits.{binary_digits};
 ghost use Rattle.ring_check.specs.Oriented.{given_of};
-ghost use Rattle.geo_session.specs.Answer.{AppendsAnswer, polygon_text};
-ghost use Rattle.geo_session.specs.Path.{IsChainAnswer, TakesPathSteps, size_of};
+ghost use Rattle.geo_session.specs.Answer.{AppendsAnswer, first_state, polygon_text};
+ghost use Rattle.geo_session.specs.Path.{IsChainAnswer, IsShownAnswer, TakesPathSteps, path_pace, reach_pace, size_of};
 
 use crate::grown::Unreached;
 use crate::held::{Held, Outside};
 use crate::hull::put_hull;
 use crate::lines::{put_kernel, put_path, put_place, put_polygon, put_tree, put_verdict, put_view};
 use exact_plane::{Memory, Pt, Steps};
-use geo_text::{Bad, Command, Points, put_bad};
+use geo_text::{Bad, Command, Points, put_bad, put_word};
 use ring_check::{Ring, RingFault};
 use std::alloc::Global;
 use std::marker::Model;
 use std::sync::ledger::Ledger;
 
-/// The polygon that was accepted last, and the last tree in it.
+/// The version of the script, the polygon that was accepted last, and the last tree in it.
 #[derive(Drop)]
 pub struct Session {
+    two: bool,
     held: Option<Held>,
 }
 
@@ -30,17 +30,20 @@ impl Model for Session {
 
     ghost Value = { State };
 
-    ghost use Rattle.geo_session.specs.Session.{state_of};
+    ghost use Rattle.geo_session.specs.Session.{kept_of};
 
-    ghost view = { λ s. state_of s.held };
+    ghost view = { λ s. record { two = s.two; kept = kept_of s.held } };
 }
 
 impl Session {
-    /// No polygon was accepted yet.
+    /// A script of version 1, with no polygon yet.
     pub fn new() -> Session
-        ensures { result ≡ None }
+        ensures { result ≡ first_state }
     {
-        Session { held: None }
+        Session {
+            two: false,
+            held: None,
+        }
     }
 
     /// The taut chain from one point to another, or why there is none. It takes all its memory before the walk: where memory
@@ -52,13 +55,30 @@ impl Session {
         t: &Pt,
         steps: &mut Steps<L>,
     ) -> Result<Result<Vec<Pt>, Bad>, Memory>
-        ensures answer { IfOk result (IsChainAnswer self.now s.now t.now) }
+        ensures answer { IfOk result (IsChainAnswer self.now.kept s.now t.now) }
         ensures few { IfOk result (λ found. IfOk found (λ points. length points.items ≤ MAX_CORNERS + 1)) }
-        ensures steps { steps.new ≤ steps.old + 12 * size_of self.now }
-        ensures memory { OnErr result (steps.new ≤ steps.old + 6 * (size_of self.now - 2)) }
+        ensures steps { steps.new ≤ steps.old + 12 * size_of self.now.kept }
+        ensures memory { OnErr result (steps.new ≤ steps.old + 6 * (size_of self.now.kept - 2)) }
+    {
+        self.shown_chain(alloc, false, s, t, steps)
+    }
+
+    // What is told of it, where the script is of version 2 or not.
+    fn shown_chain<L: Ledger>(
+        &self,
+        alloc: Global,
+        two: bool,
+        s: &Pt,
+        t: &Pt,
+        steps: &mut Steps<L>,
+    ) -> Result<Result<Vec<Pt>, Bad>, Memory>
+        ensures answer { IfOk result (IsShownAnswer two self.now.kept s.now t.now) }
+        ensures few { IfOk result (λ found. IfOk found (λ points. length points.items ≤ MAX_CORNERS + (if two then 2 else 1))) }
+        ensures steps { steps.new ≤ steps.old + (if two then 30 else 10) * size_of self.now.kept }
+        ensures memory { two ≡ false → OnErr result (steps.new ≤ steps.old + 6 * (size_of self.now.kept - 2)) }
     {
         match &self.held {
-            Some(held) => match held.chain(alloc, s, t, steps)? {
+            Some(held) => match held.chain(alloc, two, s, t, steps)? {
                 Ok(points) => Ok(Ok(points)),
                 Err(outside) => Ok(Err(outside_bad(outside))),
             },
@@ -67,8 +87,9 @@ impl Session {
     }
 
     /// Appends the command's answer and takes the new state. After want of memory the session and `out` are as before. With
-    /// n the number of vertices of the polygon and b that of its binary digits, a path takes at most 16 n steps, a tree
-    /// 3 n + 200 n b b and a path from its source 3 n + 24 b b, and a path 64 more for each point that is written.
+    /// n the number of vertices of the polygon and b that of its binary digits, a path takes at most 16 n steps in version 1
+    /// and 36 n in version 2, a tree 3 n + 200 n b b, and a path from its source 3 n + 24 b b in version 1 and 26 n + 24 b b in
+    /// version 2; a path takes 64 more for each point that is written.
     pub fn answer<L: Ledger>(
         &mut self,
         alloc: Global,
@@ -81,11 +102,11 @@ impl Session {
         ensures same_session { OnErr result (self.new ≡ self.old) }
         ensures same_out { OnErr result (out.new.items ≡ out.old.items) }
         ensures path_steps { (s t : Point) → command ≡ Command.Path s t
-            → OnOk result (TakesPathSteps (16 * size_of self.old) out.old.items out.new.items steps.old steps.new) }
-        ensures tree_steps { (s : Point) → command ≡ Command.Tree s → let n = size_of self.old in let b = binary_digits n in
+            → OnOk result (TakesPathSteps (path_pace self.old.two * size_of self.old.kept) out.old.items out.new.items steps.old steps.new) }
+        ensures tree_steps { (s : Point) → command ≡ Command.Tree s → let n = size_of self.old.kept in let b = binary_digits n in
             steps.new ≤ steps.old + (3 * n + 200 * n * (b * b)) }
-        ensures reach_steps { (t : Point) → command ≡ Command.Reach t → let n = size_of self.old in let b = binary_digits n in
-            OnOk result (TakesPathSteps (3 * n + 24 * (b * b)) out.old.items out.new.items steps.old steps.new) }
+        ensures reach_steps { (t : Point) → command ≡ Command.Reach t → let n = size_of self.old.kept in let b = binary_digits n in
+            OnOk result (TakesPathSteps (reach_pace self.old.two * n + 24 * (b * b)) out.old.items out.new.items steps.old steps.new) }
     {
         let start = out.len();
         let put = self.put_answer(alloc, command, out, steps);
@@ -108,13 +129,14 @@ impl Session {
         ensures same_session { OnErr result (self.new ≡ self.old) }
         ensures front { OnErr result (take (length out.old.items) out.new.items ≡ out.old.items) }
         ensures path_steps { (s t : Point) → command ≡ Command.Path s t
-            → OnOk result (TakesPathSteps (16 * size_of self.old) out.old.items out.new.items steps.old steps.new) }
-        ensures tree_steps { (s : Point) → command ≡ Command.Tree s → let n = size_of self.old in let b = binary_digits n in
+            → OnOk result (TakesPathSteps (path_pace self.old.two * size_of self.old.kept) out.old.items out.new.items steps.old steps.new) }
+        ensures tree_steps { (s : Point) → command ≡ Command.Tree s → let n = size_of self.old.kept in let b = binary_digits n in
             steps.new ≤ steps.old + (3 * n + 200 * n * (b * b)) }
-        ensures reach_steps { (t : Point) → command ≡ Command.Reach t → let n = size_of self.old in let b = binary_digits n in
-            OnOk result (TakesPathSteps (3 * n + 24 * (b * b)) out.old.items out.new.items steps.old steps.new) }
+        ensures reach_steps { (t : Point) → command ≡ Command.Reach t → let n = size_of self.old.kept in let b = binary_digits n in
+            OnOk result (TakesPathSteps (reach_pace self.old.two * n + 24 * (b * b)) out.old.items out.new.items steps.old steps.new) }
     {
         match command {
+            Command::Two => self.answer_two(out),
             Command::Polygon(points) => self.answer_polygon(alloc, points, out, steps),
             Command::Inside(point) => self.answer_inside(&point, out, steps),
             Command::Check(points) => self.answer_check(alloc, points.as_slice(), out, steps),
@@ -125,6 +147,18 @@ impl Session {
             Command::Kernel => self.answer_kernel(alloc, out, steps),
             Command::Hull(points) => self.answer_hull(alloc, points.as_slice(), out, steps),
         }
+    }
+
+    // Appends the line of version 2, and begins it.
+    fn answer_two(&mut self, out: &mut Vec<u8>) -> Result<(), Memory>
+        ensures ok { OnOk result (AppendsAnswer self.old Command.Two out.old.items out.new.items self.new) }
+        ensures same_session { OnErr result (self.new ≡ self.old) }
+        ensures front { OnErr result (take (length out.old.items) out.new.items ≡ out.old.items) }
+    {
+        put_word(out, "geo,2\n")?;
+        self.two = true;
+        self.held = None;
+        Ok(())
     }
 
     fn answer_polygon<L: Ledger>(
@@ -155,7 +189,7 @@ impl Session {
         steps: &mut Steps<L>,
     ) -> Result<(), Memory>
         ensures line { OnOk result (out.new.items ≡ out.old.items ++ polygon_text (length ring.corners)) }
-        ensures held { OnOk result (self.new ≡ Some (record { ring = given_of ring; source = None })) }
+        ensures held { OnOk result (self.new ≡ record { two = self.old.two; kept = Some (record { ring = given_of ring; source = None }) }) }
         ensures same_session { OnErr result (self.new ≡ self.old) }
         ensures front { OnErr result (take (length out.old.items) out.new.items ≡ out.old.items) }
     {
@@ -208,9 +242,9 @@ impl Session {
     ) -> Result<(), Memory>
         ensures ok { OnOk result (AppendsAnswer self.now (Command.Path s.now t.now) out.old.items out.new.items self.now) }
         ensures front { OnErr result (take (length out.old.items) out.new.items ≡ out.old.items) }
-        ensures path_steps { OnOk result (TakesPathSteps (16 * size_of self.now) out.old.items out.new.items steps.old steps.new) }
+        ensures path_steps { OnOk result (TakesPathSteps (path_pace self.now.two * size_of self.now.kept) out.old.items out.new.items steps.old steps.new) }
     {
-        match self.chain(alloc, s, t, steps)? {
+        match self.shown_chain(alloc, self.two, s, t, steps)? {
             Ok(points) => put_path(out, &points, steps),
             Err(bad) => put_bad(out, &bad),
         }
@@ -227,7 +261,7 @@ impl Session {
         ensures ok { OnOk result (AppendsAnswer self.old (Command.Tree s.now) out.old.items out.new.items self.new) }
         ensures same_session { OnErr result (self.new ≡ self.old) }
         ensures front { OnErr result (take (length out.old.items) out.new.items ≡ out.old.items) }
-        ensures tree_steps { let n = size_of self.old in let b = binary_digits n in
+        ensures tree_steps { let n = size_of self.old.kept in let b = binary_digits n in
             steps.new ≤ steps.old + (3 * n + 200 * n * (b * b)) }
     {
         let Some(held) = &mut self.held else {
@@ -250,13 +284,13 @@ impl Session {
     ) -> Result<(), Memory>
         ensures ok { OnOk result (AppendsAnswer self.now (Command.Reach t.now) out.old.items out.new.items self.now) }
         ensures front { OnErr result (take (length out.old.items) out.new.items ≡ out.old.items) }
-        ensures reach_steps { let n = size_of self.now in let b = binary_digits n in
-            OnOk result (TakesPathSteps (3 * n + 24 * (b * b)) out.old.items out.new.items steps.old steps.new) }
+        ensures reach_steps { let n = size_of self.now.kept in let b = binary_digits n in
+            OnOk result (TakesPathSteps (reach_pace self.now.two * n + 24 * (b * b)) out.old.items out.new.items steps.old steps.new) }
     {
         let Some(held) = &self.held else {
             return put_bad(out, &Bad::NoPolygon);
         };
-        match held.reach(alloc, t, steps)? {
+        match held.reach(alloc, self.two, t, steps)? {
             Ok(points) => put_path(out, &points, steps),
             Err(Unreached::NoTree) => put_bad(out, &Bad::NoTree),
             Err(Unreached::Outside) => put_bad(out, &Bad::Outside(1)),
@@ -312,7 +346,7 @@ impl Session {
         let Some(held) = &self.held else {
             return put_bad(out, &Bad::NoPolygon);
         };
-        match held.hull(alloc, points, steps)? {
+        match held.hull(alloc, self.two, points, steps)? {
             Ok(hull) => put_hull(out, &hull, steps),
             Err(k) => put_bad(out, &Bad::Outside(k + 1)),
         }

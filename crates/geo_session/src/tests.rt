@@ -1,6 +1,7 @@
 // A polygon and its triangles: where points are among them, and the chains between points.
 ghost use Rattle.std.specs.Prelude.{◌≡◌, ◌<◌};
 
+use crate::full_chains::full_chains;
 use crate::held::{Held, mesh_of};
 use dual_tree::{Board, locate, sleeve};
 use exact_plane::{Direction, Memory, Pt, Spot, Steps, Turns};
@@ -11,9 +12,9 @@ use std::process::Abort;
 use std::sync::ledger::{Blank, Ledger};
 use std::test::Fail;
 
-type At = (i64, i64);
+pub(crate) type At = (i64, i64);
 
-const L: [At; 6] = [(0, 0), (4, 0), (4, 2), (2, 2), (2, 4), (0, 4)];
+pub(crate) const L: [At; 6] = [(0, 0), (4, 0), (4, 2), (2, 2), (2, 4), (0, 4)];
 
 #[rattlefmt::skip]
 const U: [At; 8] = [(0, 0), (6, 0), (6, 4), (4, 4), (4, 2), (2, 2), (2, 4), (0, 4)];
@@ -118,16 +119,31 @@ fn chains<N: Ledger, R: Abort>(rt: &R, alloc: Global, steps: &mut Steps<N>) -> R
         ("round two corners", &U, &[(6, 4), (4, 2), (2, 2), (0, 4)]),
     ];
     for (name, list, want) in cases {
-        let ring = ring_of(rt, alloc, list, steps)?;
-        let held = Held::of(alloc, ring, steps)?;
-        let from = at(rt, *want.first().expect(rt, "a start"));
-        let to = at(rt, *want.last().expect(rt, "a goal"));
-        let found = held.chain(alloc, &from, &to, steps)?;
-        let points = found.ok().expect(rt, "both in the polygon");
-        let parts = parts_of(alloc, &points, steps)?;
-        assert_eq!(rt; parts.as_slice(), want, "{name}");
+        let found = told(rt, alloc, false, list, want, steps)?;
+        assert_eq!(rt; found.as_slice(), want, "{name}");
+    }
+    for (name, list, want) in full_chains() {
+        let found = told(rt, alloc, true, list, want, steps)?;
+        assert_eq!(rt; found.as_slice(), want, "{name}");
     }
     Ok(())
+}
+
+// What is told of the path between the ends of a list of points.
+fn told<N: Ledger, R: Abort>(
+    rt: &R,
+    alloc: Global,
+    two: bool,
+    ring: &[At],
+    ends: &[At],
+    steps: &mut Steps<N>,
+) -> Result<Vec<At>, Memory> {
+    let ring = ring_of(rt, alloc, ring, steps)?;
+    let held = Held::of(alloc, ring, steps)?;
+    let from = at(rt, *ends.first().expect(rt, "a start"));
+    let to = at(rt, *ends.last().expect(rt, "a goal"));
+    let found = held.chain(alloc, two, &from, &to, steps)?;
+    parts_of(alloc, &found.ok().expect(rt, "both in the polygon"), steps)
 }
 
 fn parts_of<N: Ledger>(

@@ -1,9 +1,10 @@
-use Rattle.std.proofs.Common.{◌≡◌, ◌∙◌, ◌<◌, ◌*◌, ◌/◌, ◌%◌, arith, length, slice_index, subst, sym}
+use Rattle.std.proofs.Common.{◌≡◌, ◌<◌, ◌*◌, ◌/◌, ◌%◌, arith, length, refl, slice_index, subst, sym}
 use Rattle.std.proofs.lemmas.List.{get_or_read, map_push}
 use Rattle.plane.specs.Point.{whole}
 use Rattle.rings.specs.Chain.{IsPath, point_at}
 use Rattle.rings.specs.Ring.{origin}
 use Rattle.dual_tree.specs.Location.{IsLeastHolding}
+use Rattle.geo_session.proofs.HullTable.{number_in_list, table_of_ring}
 use Rattle.geo_session.proofs.Spanned.{chains_more, column_below, row_below}
 use Rattle.geo_session.proofs.hull.chains.Goals as goal
 
@@ -12,7 +13,7 @@ chain_between-requires-clause-from g c =
     let points = c.args.points.now in
     let numbers = c.args.numbers.now in
     let i = slice_index numbers (c.loop-k.k / length numbers) in
-    let below : i < length points = c.requires.numbers _ (row_below (length numbers) c.loop-k.k (omega arith)) in
+    let below : i < length points = number_in_list points numbers c.requires.firsts _ (row_below (length numbers) c.loop-k.k (omega arith)) in
     let at = get_or_read points i c.index-points-i.result below c.index-points-i.is origin in
     subst (λ p. IsLeastHolding c.args.ring.now.corners c.args.mesh.now (whole p) (slice_index c.args.tris.now i)) (sym at) (c.requires.held.each i below)
 
@@ -21,7 +22,7 @@ chain_between-requires-clause-to g c =
     let points = c.args.points.now in
     let numbers = c.args.numbers.now in
     let j = slice_index numbers (c.loop-k.k % length numbers) in
-    let below : j < length points = c.requires.numbers _ (column_below (length numbers) c.loop-k.k (omega arith)) in
+    let below : j < length points = number_in_list points numbers c.requires.firsts _ (column_below (length numbers) c.loop-k.k (omega arith)) in
     let at = get_or_read points j c.index-points-j.result below c.index-points-j.is origin in
     subst (λ p. IsLeastHolding c.args.ring.now.corners c.args.mesh.now (whole p) (slice_index c.args.tris.now j)) (sym at) (c.requires.held.each j below)
 
@@ -32,8 +33,8 @@ loop-k-preserved g c =
     let numbers = c.args.numbers.now in
     let i = slice_index numbers (c.loop-k.k / length numbers) in
     let j = slice_index numbers (c.loop-k.k % length numbers) in
-    let i_below : i < length points = c.requires.numbers _ (row_below (length numbers) c.loop-k.k (omega arith)) in
-    let j_below : j < length points = c.requires.numbers _ (column_below (length numbers) c.loop-k.k (omega arith)) in
+    let i_below : i < length points = number_in_list points numbers c.requires.firsts _ (row_below (length numbers) c.loop-k.k (omega arith)) in
+    let j_below : j < length points = number_in_list points numbers c.requires.firsts _ (column_below (length numbers) c.loop-k.k (omega arith)) in
     let at_i = get_or_read points i c.index-points-i.result i_below c.index-points-i.is origin in
     let at_j = get_or_read points j c.index-points-j.result j_below c.index-points-j.is origin in
     let chain = c.in_ok-chain_between.field-0.items in
@@ -47,3 +48,10 @@ loop-k-preserved g c =
           }));
       room = rw c.push_reserved.ensures.capacity c.loop-k.invariant.room;
     }
+
+pub of-requires : goal.of-requires
+of-requires g c =
+    let numbers = c.args.numbers.now in
+    let end : c.loop-k.k ≡ length numbers * length numbers = omega arith in
+    table_of_ring c.args.points.now numbers c.requires.firsts c.args.ring.now.corners _
+    (record { count = refl; are = rw end at c.loop-k.invariant.are }) c.requires.some c.requires.few

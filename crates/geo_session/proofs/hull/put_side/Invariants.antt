@@ -1,4 +1,4 @@
-use Rattle.std.proofs.Common.{◌≡◌, ◌++◌, length, slice_index, take}
+use Rattle.std.proofs.Common.{◌≡◌, ◌++◌, length, take}
 use Rattle.std.specs.Prelude.{codes, flat_map}
 use Rattle.geo_text.specs.Texts.{index_text, pt_text}
 use Rattle.geo_session.proofs.hull.put_side.Given as goal

@@ -6,27 +6,27 @@ use Rattle.geo_session.proofs.grown.Grown.before.Goals as goal
 pub given_index-requires-in-Some-Corner : goal.given_index-requires-in-Some-Corner
 given_index-requires-in-Some-Corner c =
     number_below c.args.ring.now c.args.self.now.source c.args.i c.requires.vertex c.parent.result
-    (rw c.given_index.ensures.number at c.parent.ensures _ _ _ c.requires.grown.1) c.in-Some-Corner.c
+    (rw c.given_index.ensures.number at c.parent.ensures _ _ _ c.requires.grown.1.tree) c.in-Some-Corner.c
     (c.in-Some-Corner.is ∙ ap Some c.in-Some-Corner.field-0-is)
 
 pub returns-in-Some-Corner : goal.returns-in-Some-Corner
 returns-in-Some-Corner c =
     corner_given c.args.ring.now c.args.self.now.source c.args.i c.requires.vertex c.parent.result
-    (rw c.given_index.ensures.number at c.parent.ensures _ _ _ c.requires.grown.1) c.in-Some-Corner.c
+    (rw c.given_index.ensures.number at c.parent.ensures _ _ _ c.requires.grown.1.tree) c.in-Some-Corner.c
     (c.in-Some-Corner.is ∙ ap Some c.in-Some-Corner.field-0-is) c.given_index-in-Some-Corner.result
     c.given_index-in-Some-Corner.ensures.number c.given_index-in-Some-Corner.ensures.same
 
 pub returns-in-Some-Start : goal.returns-in-Some-Start
 returns-in-Some-Start c =
     start_given c.args.ring.now c.args.self.now.source c.args.i c.requires.vertex c.parent.result
-    (rw c.given_index.ensures.number at c.parent.ensures _ _ _ c.requires.grown.1) (c.in-Some-Start.is ∙ ap Some c.in-Some-Start.field-0-is)
+    (rw c.given_index.ensures.number at c.parent.ensures _ _ _ c.requires.grown.1.tree) (c.in-Some-Start.is ∙ ap Some c.in-Some-Start.field-0-is)
 
 pub unreachable-requires : goal.unreachable-requires
 unreachable-requires c =
     goal_not_given c.args.ring.now c.args.self.now.source c.args.i c.requires.vertex c.parent.result
-    (rw c.given_index.ensures.number at c.parent.ensures _ _ _ c.requires.grown.1) (c.in-Some-Goal.is ∙ ap Some c.in-Some-Goal.field-0-is)
+    (rw c.given_index.ensures.number at c.parent.ensures _ _ _ c.requires.grown.1.tree) (c.in-Some-Goal.is ∙ ap Some c.in-Some-Goal.field-0-is)
 
 pub returns-in-None : goal.returns-in-None
 returns-in-None c =
     none_given c.args.ring.now c.args.self.now.source c.args.i c.requires.vertex c.parent.result
-    (rw c.given_index.ensures.number at c.parent.ensures _ _ _ c.requires.grown.1) c.in-None.is
+    (rw c.given_index.ensures.number at c.parent.ensures _ _ _ c.requires.grown.1.tree) c.in-None.is

@@ -9,18 +9,20 @@ pub returns-in_default-clause-path : goal.returns-in_default-clause-path
 returns-in_default-clause-path g c =
     let same = sym c.new-board.ensures.goal ∙ c.in_default.ensures.before ∙ c.new-board.ensures.start in
     let within = held_in c.args.ring.now.corners c.args.goal.now c.args.mesh.now c.args.tri c.requires.fits c.requires.goal in
-    rw (c.push_reserved.ensures.items, c.in_ok-points.ensures.items) (alone_path c.args.ring.now.corners c.args.self.now.source c.args.goal.now same within)
+    rw (c.push_reserved.ensures.items, c.in_ok-points.ensures.items)
+    (alone_path c.args.ring.now.corners c.args.self.now.source c.args.goal.now same within)
 
 pub put_points-requires-clause-named : goal.put_points-requires-clause-named
 put_points-requires-clause-named g c =
-    let walked = c.chain_into.ensures.path c.args.ring.now.corners c.args.self.now.source c.args.mesh.now c.requires.fits c.requires.grown in
+    let walked = c.chain_into.ensures.path c.args.ring.now.corners c.args.self.now.source c.args.mesh.now c.requires.fits c.requires.grown.tree in
     rw (c.deref.ensures.value, c.new-on_the_way.ensures.corners) (names_named _ _ _ c.chain_into.new.out.items _ c.in_ok-names.ensures.items walked)
 
 pub returns-clause-path : goal.returns-clause-path
 returns-clause-path g c =
     let before = is_before c.args.ring.now.corners _ c.args.self.now.source _ c.args.goal.now _ c.in-Some.last
     c.new-board.ensures.corners c.new-board.ensures.start c.new-board.ensures.goal c.in-Some.ensures.before in
-    let on = c.chain_into.ensures.on c.args.ring.now.corners c.args.self.now.source c.args.mesh.now c.requires.fits c.requires.grown c.args.goal.now before in
+    let on = c.chain_into.ensures.on c.args.ring.now.corners c.args.self.now.source c.args.mesh.now c.requires.fits c.requires.grown.tree
+    c.args.goal.now before in
     rw (
       c.push_reserved-2.ensures.items,
       c.put_points.ensures.points,

@@ -1,5 +1,5 @@
 use Rattle.std.proofs.Common.{inl, inr, refl}
-use Rattle.geo_session.proofs.GivenPath.{path_given}
+use Rattle.geo_session.proofs.GivenFull.{shown_given}
 use Rattle.geo_session.proofs.LocatedIn.{held_in_given, out_of_given}
 use Rattle.geo_session.proofs.held.Held.chain.Goals as goal
 
@@ -23,5 +23,5 @@ returns-clause-answer g c =
     rw (← c.self.view_is) (
       held_in_given ring c.args.s.now c.self.inside.mesh c.in-Some.from c.self.invariant.fits c.in-Some.ensures.least,
       held_in_given ring c.args.t.now c.self.inside.mesh c.in-Some-locate.to c.self.invariant.fits c.in-Some-locate.ensures.least,
-      path_given ring c.args.s.now c.args.t.now c.in_ok-points.points.items c.in_ok-points.ensures.path,
+      shown_given ring c.args.two c.args.s.now c.args.t.now c.in_ok-points.points.items c.in_ok-points.ensures.shown,
     )

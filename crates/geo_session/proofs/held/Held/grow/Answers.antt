@@ -1,5 +1,4 @@
-use Rattle.std.proofs.Common.{refl, subst, sym}
-use Rattle.path_tree.specs.Grown.{IsGrownFrom}
+use Rattle.std.proofs.Common.{refl}
 use Rattle.geo_session.proofs.LocatedIn.{held_in_given, out_of_given}
 use Rattle.geo_session.proofs.held.Held.grow.Goals as goal
 
@@ -14,5 +13,5 @@ returns-clause-grown g c =
     rw (← c.self.view_is) (
       held_in_given ring c.args.source.now mesh c.in-Some.home c.self.invariant.fits c.in-Some.ensures.least,
       c.in_ok-grown.ensures.source,
-      subst (λ s. IsGrownFrom ring.corners s mesh c.in_ok-grown.grown.tree) (sym c.in_ok-grown.ensures.source) c.in_ok-grown.ensures.grown,
+      c.in_ok-grown.ensures.grown,
     )

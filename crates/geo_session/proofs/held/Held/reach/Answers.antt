@@ -1,5 +1,5 @@
 use Rattle.std.proofs.Common.{refl}
-use Rattle.geo_session.proofs.GivenPath.{path_given}
+use Rattle.geo_session.proofs.GivenFull.{shown_given}
 use Rattle.geo_session.proofs.LocatedIn.{held_in_given, out_of_given}
 use Rattle.geo_session.proofs.held.Held.reach.Goals as goal
 
@@ -13,5 +13,5 @@ returns-clause-answer g c =
     let ring = c.self.inside.ring in
     rw (← c.self.view_is, c.in-Some.is) (
       held_in_given ring c.args.t.now c.self.inside.mesh c.in-Some-locate.tri c.self.invariant.fits c.in-Some-locate.ensures.least,
-      path_given ring c.in-Some.grown.source c.args.t.now c.in_ok-points.points.items c.in_ok-points.ensures.path,
+      shown_given ring c.args.two c.in-Some.grown.source c.args.t.now c.in_ok-points.points.items c.in_ok-points.ensures.shown,
     )

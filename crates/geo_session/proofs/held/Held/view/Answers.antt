@@ -16,7 +16,8 @@ returns-clause-view g c =
     rw (← c.self.view_is) (
       held_in_given ring c.args.q.now c.self.inside.mesh c.in-Some.home c.self.invariant.fits c.in-Some.ensures.least,
       subst (IsView (given_of ring) (whole c.args.q.now)) (sym c.in_ok-given.ensures)
-          (view_given ring (whole c.args.q.now) c.in_ok-parts.parts.items (record { seen = c.in_ok-parts.ensures.parts; view = c.in_ok-parts.ensures.view })),
+          (view_given ring (whole c.args.q.now) c.in_ok-parts.parts.items
+          (record { seen = c.in_ok-parts.ensures.parts; view = c.in_ok-parts.ensures.view })),
     )
 
 pub returns-clause-few : goal.returns-clause-few

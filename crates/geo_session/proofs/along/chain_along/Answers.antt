@@ -1,11 +1,11 @@
 use Rattle.std.proofs.Common.{arith}
 use Rattle.dual_tree.proofs.SleeveRoom.{sleeve_few}
 use Rattle.geo_session.proofs.WalkedNames.{names_named, names_path}
-use Rattle.geo_session.proofs.held.chain_between.Goals as goal
+use Rattle.geo_session.proofs.along.chain_along.Goals as goal
 
 pub with_room-requires : goal.with_room-requires
 with_room-requires g c =
-    let few = sleeve_few c.args.ring.now.corners c.args.mesh.now c.in_ok-sleeve.sleeve c.requires.fits c.in_ok-sleeve.ensures.of_mesh in
+    let few = sleeve_few c.args.ring.now.corners c.args.mesh.now c.args.sleeve.now c.requires.fits c.requires.leads.of_mesh in
     omega (arith, few)
 
 pub put_points-requires-clause-named : goal.put_points-requires-clause-named
@@ -20,10 +20,10 @@ returns-clause-path g c =
 
 pub returns-clause-few : goal.returns-clause-few
 returns-clause-few g c =
-    let few = sleeve_few c.args.ring.now.corners c.args.mesh.now c.in_ok-sleeve.sleeve c.requires.fits c.in_ok-sleeve.ensures.of_mesh in
+    let few = sleeve_few c.args.ring.now.corners c.args.mesh.now c.args.sleeve.now c.requires.fits c.requires.leads.of_mesh in
     omega (arith, few, c.in_ok-points.ensures.exact)
 
 pub returns-clause-steps : goal.returns-clause-steps
 returns-clause-steps g c =
-    let few = sleeve_few c.args.ring.now.corners c.args.mesh.now c.in_ok-sleeve.sleeve c.requires.fits c.in_ok-sleeve.ensures.of_mesh in
+    let few = sleeve_few c.args.ring.now.corners c.args.mesh.now c.args.sleeve.now c.requires.fits c.requires.leads.of_mesh in
     omega (arith, few)
