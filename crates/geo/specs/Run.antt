@@ -1,12 +1,12 @@
 -- What a run without words leaves. `left` and `left'` are the bytes that the source has left at entry and at exit, and
 -- `taken` and `taken'` those that the sink has taken, where they tell them. This project's own.
 use Rattle.std.specs.Io.KnownBytes.{Appends, Consumes, IsAtEnd}
-use Rattle.std.specs.Prelude.{◌≡◌, ℕ, ◌≤◌, List, [], ◌∷◌, ◌++◌, length, take, None, Option}
+use Rattle.std.specs.Prelude.{◌≡◌, ℕ, ◌≤◌, List, [], ◌∷◌, ◌++◌, length, take, Option}
 use Rattle.plane.specs.declared.limits.TheConstants.{MAX_SCRIPT}
-use Rattle.geo_text.specs.Reading.{reading_of}
+use Rattle.geo_text.specs.Reading.{is_two, reading_of}
 use Rattle.geo_text.specs.Records.{records_of}
 use Rattle.geo_session.specs.Answer.{IsReadingAnswer, State}
-use Rattle.geo_session.specs.Output.{AreAnswers, IsOutput}
+use Rattle.geo_session.specs.Output.{AreFirstAnswers, IsOutput}
 
 -- these bytes are the whole script, and it is not too long
 pub record ReadsScript (left left' : Option (List ℕ)) (bytes : List ℕ) : Type 0 where
@@ -27,7 +27,7 @@ pub record WritesFirst (bytes : List ℕ) (taken taken' : Option (List ℕ)) : T
   pub records : records_of bytes ≡ first ++ rest
   pub output : List ℕ
   pub state : State
-  pub defined : AreAnswers None first output state
+  pub defined : AreFirstAnswers bytes first output state
   pub written : Appends taken taken' output
 
 -- the sink took the answers to some first records, then the front of the answer to the next, and nothing else
@@ -38,10 +38,10 @@ pub record WritesFirstAndFront (bytes : List ℕ) (taken taken' : Option (List �
   pub records : records_of bytes ≡ first ++ next ∷ rest
   pub output : List ℕ
   pub state : State
-  pub defined : AreAnswers None first output state
+  pub defined : AreFirstAnswers bytes first output state
   pub answer : List ℕ
   pub after : State
-  pub answered : IsReadingAnswer state (reading_of next) answer after
+  pub answered : IsReadingAnswer state (reading_of (is_two (records_of bytes)) (length first) next) answer after
   pub count : ℕ
   pub written : Appends taken taken' (output ++ take count answer)
 

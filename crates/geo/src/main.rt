@@ -8,6 +8,8 @@ mod run;
 mod sure;
 #[cfg(test)]
 mod tests;
+#[cfg(test)]
+mod version_tests;
 mod words;
 
 use geo_io::{StdSink, StdSource};

@@ -168,7 +168,7 @@ fn long_records(rt: HostRuntime) -> Result<(), Fail> {
 }
 
 // The output of a script that meets no fault.
-fn output(alloc: Global, script: &[u8]) -> Result<Vec<u8>, Memory> {
+pub(crate) fn output(alloc: Global, script: &[u8]) -> Result<Vec<u8>, Memory> {
     let mut source = source(alloc, script, 7, &[])?;
     let mut sink = sink(alloc, 4096, 5, &[])?;
     Ok(run(alloc, &mut source, &mut sink)?.taken)

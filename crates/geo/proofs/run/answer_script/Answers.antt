@@ -1,4 +1,4 @@
-use Rattle.geo.proofs.NextRecord.{written_front, written_whole}
+use Rattle.geo.proofs.NextRecord.{nothing_read, written_front, written_whole}
 use Rattle.geo.proofs.run.answer_script.Goals as goal
 
 pub returns-in_err-write_all-clause-write_fault : goal.returns-in_err-write_all-clause-write_fault
@@ -14,3 +14,7 @@ records-preserved g c =
     let written = rw c.deref.ensures.value at c.in_ok-write_all.ensures.all in
     rw c.clear.ensures.items
     (written_whole _ _ _ _ _ _ _ _ _ _ _ _ _ c.records.invariant takes c.in_ok-answer.ensures _ written c.in_ok-write_all.ensures.counts)
+
+pub records-init : goal.records-init
+records-init g c =
+    rw (c.open-script.ensures, c.new-session.ensures, c.new-out.ensures.items) (nothing_read c.args.bytes.now _ _)
