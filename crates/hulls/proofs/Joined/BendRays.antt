@@ -1,0 +1,58 @@
+-- A bend read backward, and one where a ray ends at another point.
+use Rattle.std.proofs.Common.{inl, inr, true, List}
+use Rattle.integer_algebra.proofs.SignSteps.{turned_negative, turned_positive}
+use Rattle.plane.proofs.Turns.{determinant_swap_last, straight_swap_last}
+use Rattle.plane.specs.Cone.{IsInCone}
+use Rattle.plane.specs.Point.{Point, Triple, whole}
+use Rattle.rings.specs.Bend.{IsBend}
+use Rattle.funnels.proofs.Bends.{AreOnRay, on_ray_back, turning_to_ray}
+
+-- ---- backward
+
+-- a cone has no first ray
+cone_back : (v a c u : Triple) → IsInCone v a c u → IsInCone v c a u
+cone_back v a c u (inl h) =
+    inr (
+      turned_negative (determinant_swap_last v a c) h.0,
+      (λ left. h.2 (turned_negative (determinant_swap_last v c u) left)),
+      λ left. h.1 (turned_negative (determinant_swap_last v u a) left),
+    )
+cone_back v a c u (inr h) =
+    inl (
+      turned_positive (determinant_swap_last v a c) h.0,
+      (λ right. h.2 (turned_positive (determinant_swap_last v c u) right)),
+      λ right. h.1 (turned_positive (determinant_swap_last v u a) right),
+    )
+
+module _ (ring : List Point) where
+  -- so the way back has a bend where the way has one
+  pub bend_back : (p v q : Point) → IsBend ring p v q → IsBend ring q v p
+  bend_back p v q bend = record {
+    reflex = bend.reflex;
+    turns = λ straight. bend.turns (straight_swap_last (whole v) (whole q) (whole p) straight);
+    in_cone = λ u beside. cone_back (whole v) (whole p) (whole q) (whole u) (bend.in_cone u beside);
+  }
+
+  -- ---- another point on a ray
+
+  -- a cone is one of rays
+  cone_to_ray : (v : Point) (a c d u : Triple) → AreOnRay (whole v) c d → IsInCone (whole v) a c u → IsInCone (whole v) a d u
+  cone_to_ray v a c d u ray cone =
+      let end = turning_to_ray v true c d a ray in
+      let back = turning_to_ray v true d c u (on_ray_back ray) in
+      elim cone [
+        | inl h ↦ inl (end.positive h.0, h.1, λ right. h.2 (back.negative right))
+        | inr h ↦ inr (end.negative h.0, h.1, λ left. h.2 (back.positive left))
+      ]
+
+  -- so a bend toward one point of a ray is one toward another,
+  pub bend_to_ray : (p v q r : Point) → AreOnRay (whole v) (whole q) (whole r) → IsBend ring p v q → IsBend ring p v r
+  bend_to_ray p v q r ray bend = record {
+    reflex = bend.reflex;
+    turns = λ straight. bend.turns ((turning_to_ray v true (whole r) (whole q) (whole p) (on_ray_back ray)).zero straight);
+    in_cone = λ u beside. cone_to_ray v (whole p) (whole q) (whole r) (whole u) ray (bend.in_cone u beside);
+  }
+
+  -- and a bend from there one from the other
+  pub bend_from_ray : (p r v q : Point) → AreOnRay (whole v) (whole p) (whole r) → IsBend ring p v q → IsBend ring r v q
+  bend_from_ray p r v q ray bend = bend_back q v r (bend_to_ray q v p r ray (bend_back p v q bend))

@@ -1,0 +1,64 @@
+-- Two rounds from one number are equal, and from each start there is one.
+use Rattle.std.proofs.Common.{◌≡◌, inl, inr, refl, sym, subst, ◌∙◌, ℕ, zero, suc, ◌+◌, ◌-◌, ◌<◌, List, length, slice_index, arith}
+use Rattle.std.proofs.lemmas.Bool.{cases_order}
+use Rattle.std.proofs.lemmas.List.{ext_get_or}
+use Rattle.hulls.proofs.Round.AllSides.{after_inner, after_last, closed_is_round, place_after}
+use Rattle.hulls.proofs.Round.Chains.{closes_from}
+use Rattle.hulls.proofs.Round.Sides.{one_end}
+use Rattle.hulls.specs.Round.{AreTurning, Follows, IsRoundOf, IsSideOf}
+
+module _ (n : ℕ) (Left : ℕ → ℕ → ℕ → Type 0) (turning : AreTurning n Left) where
+  -- a side goes from each number of a round to the one that follows
+  side_after : (round : List ℕ) → IsRoundOf n Left round → (i : ℕ) → i < length round
+      → IsSideOf n Left (slice_index round i) (slice_index round (place_after round i))
+  side_after round is i within = (is.sides _ _).1 (record { i = i; in_list = within; at = refl; next = refl })
+
+  module _ (one other : List ℕ) (is : IsRoundOf n Left one) (is_too : IsRoundOf n Left other) where
+    -- after equal numbers of two rounds equal ones follow
+    same_after : (i : ℕ) → i < length one → i < length other → slice_index one i ≡ slice_index other i
+        → slice_index one (place_after one i) ≡ slice_index other (place_after other i)
+    same_after i within within_too same = one_end n Left turning (slice_index other i) _ _
+        (subst (λ a. IsSideOf n Left a (slice_index one (place_after one i))) same (side_after one is i within))
+        (side_after other is_too i within_too)
+
+    module _ (first : slice_index one 0 ≡ slice_index other 0) where
+      -- so from equal ones on all are equal,
+      same_at : (i : ℕ) → i < length one → i < length other → slice_index one i ≡ slice_index other i
+      same_at zero within within_too = first
+      same_at (suc i) within within_too =
+          let next = same_after i (omega arith) (omega arith) (same_at i (omega arith) (omega arith)) in
+          let up : suc i ≡ i + 1 = omega arith in
+          rw up (rw (after_inner one i (omega arith), after_inner other i (omega arith)) at next)
+
+      -- and the second one is not longer, or its first number would come again
+      not_longer : 0 < length one → length one < length other → ⊥
+      not_longer some longer =
+          let m : ℕ = length one - 1 in
+          let next = same_after m (omega arith) (omega arith) (same_at m (omega arith) (omega arith)) in
+          let again = rw (after_last one m (omega arith), after_inner other m (omega arith)) at next in
+          is_too.distinct 0 (m + 1) (omega arith) (omega arith) (sym first ∙ again)
+
+  -- the round of a start is not empty
+  some_in_round : (round : List ℕ) (s t : ℕ) → IsRoundOf n Left round → IsSideOf n Left s t → 0 < length round
+  some_in_round round s t is side = let follows : Follows round s t = (is.sides s t).0 side in omega (arith, follows.in_list)
+
+  -- two rounds from one start are equal
+  same_rounds : (s t : ℕ) → IsSideOf n Left s t → (one other : List ℕ) → IsRoundOf n Left one → IsRoundOf n Left other
+      → slice_index one 0 ≡ s → slice_index other 0 ≡ s → one ≡ other
+  same_rounds s t side one other is is_too first first_too =
+      let firsts : slice_index one 0 ≡ slice_index other 0 = first ∙ sym first_too in
+      elim (cases_order (length one) (length other)) [
+        | inl same ↦ ext_get_or 0 one other same (λ i within. same_at one other is is_too firsts i within (omega arith))
+        | inr apart ↦ elim apart [
+          | inl longer ↦ absurd (not_longer one other is is_too firsts (some_in_round one s t is side) longer)
+          | inr shorter ↦ absurd (not_longer other one is_too is (sym firsts) (some_in_round other s t is_too side) shorter)
+        ]
+      ]
+
+-- from each start of a side there is just one round
+pub round_closes : (n : ℕ) (Left : ℕ → ℕ → ℕ → Type 0) → AreTurning n Left → (s t : ℕ) → IsSideOf n Left s t
+    → ((round : List ℕ) × IsRoundOf n Left round × (slice_index round 0 ≡ s))
+    × ((one other : List ℕ) → IsRoundOf n Left one → IsRoundOf n Left other → slice_index one 0 ≡ s → slice_index other 0 ≡ s → one ≡ other)
+round_closes n Left turning s t side =
+    let (round, closes, first) = closes_from n Left turning s t side in
+    ((round, closed_is_round n Left turning round closes, first), same_rounds n Left turning s t side)

@@ -1,0 +1,82 @@
+-- Where a number is in a list, how many numbers below a bound a list has, and a list with one more.
+use Rattle.std.proofs.Common.{◌≡◌, ◌≢◌, ◌⊎◌, inl, inr, true, false, sym, ◌∙◌, ℕ, zero, suc, ◌+◌, ◌<◌, ◌≤◌, List, [], ◌∷◌, ◌++◌, length, get_or, slice_index, arith, length-append}
+use Rattle.std.proofs.Math.Dec.{eqb}
+use Rattle.std.proofs.Math.ListN.{get_or-append}
+use Rattle.std.proofs.Math.Seq.{get_or-append_seam}
+use Rattle.std.proofs.lemmas.Bool.{cases_eq, cases_lt, ne_eqb, true≢false}
+use Rattle.std.proofs.lemmas.List.{get_or_default}
+use Rattle.std.proofs.lemmas.List.Elements.{All-from_get_or}
+use Rattle.std.proofs.lemmas.List.Folds.{list_any_none}
+use Rattle.std.proofs.lemmas.Map.Keys.{IsDistinct-from_apart}
+use Rattle.std.proofs.lemmas.Map.Steps.{length-le_from_distinct_below}
+use Rattle.std.specs.List.{list_any}
+
+-- the list has no number twice
+abbrev pub HasNoneTwice : List ℕ → Type 0
+HasNoneTwice list = (i j : ℕ) → i < j → j < length list → slice_index list i ≢ slice_index list j
+
+-- the number is in the list
+pub record IsIn (list : List ℕ) (x : ℕ) : Type 0 where
+  pub place : ℕ
+  pub within : place < length list
+  pub at : slice_index list place ≡ x
+
+module _ (list : List ℕ) (x : ℕ) where
+  -- it is among the first k, or it is not
+  in_first : (k : ℕ) → k ≤ length list → IsIn list x ⊎ ((i : ℕ) → i < k → slice_index list i ≢ x)
+  in_first zero _ = inr (λ i below. absurd (omega arith))
+  in_first (suc k) within = elim (in_first k (omega arith)) [
+    | inl found ↦ inl found
+    | inr none ↦ elim (cases_eq (slice_index list k) x) [
+      | inl same ↦ inl (record { place = k; within = omega arith; at = same })
+      | inr apart ↦ inr (λ i below. elim (cases_eq i k) [
+        | inl last ↦ rw last apart
+        | inr before ↦ none i (omega arith)
+      ])
+    ]
+  ]
+
+  -- a number is in a list, or it is not
+  pub is_in_or_not : IsIn list x ⊎ ((i : ℕ) → i < length list → slice_index list i ≢ x)
+  is_in_or_not = in_first (length list) (omega arith)
+
+module _ (list : List ℕ) (n : ℕ) (below : (i : ℕ) → i < length list → slice_index list i < n) where
+  -- a number that is among numbers below n is below n
+  below_of_any : (x : ℕ) → list_any (eqb x) list ≡ true → x < n
+  below_of_any x among = elim (cases_lt x n) [
+    | inl less ↦ less
+    | inr more ↦
+        let apart = λ (i : ℕ) (within : i < length list). ne_eqb x (slice_index list i) (λ same. omega (arith, below i within)) in
+        absurd (true≢false (sym among ∙ list_any_none (eqb x) list (All-from_get_or (λ y. eqb x y ≡ false) list 0 apart)))
+  ]
+
+  -- numbers below n with none twice are n at most
+  pub at_most : HasNoneTwice list → length list ≤ n
+  at_most once =
+      let differ = λ (i j d : ℕ) (before : i < j) (within : j < length list).
+      ne_eqb (get_or list i d) (get_or list j d) (λ same. once i j before within
+      (get_or_default list i 0 d (omega arith) ∙ same ∙ get_or_default list j d 0 within)) in
+      length-le_from_distinct_below list n (IsDistinct-from_apart eqb list differ) below_of_any
+
+module _ (list : List ℕ) (x : ℕ) where
+  -- a list with one more is one longer,
+  pub length_more : length (list ++ x ∷ []) ≡ length list + 1
+  length_more = simp length-append
+
+  -- has what it had,
+  pub more_at : (i : ℕ) → i < length list → slice_index (list ++ x ∷ []) i ≡ slice_index list i
+  more_at i within = get_or-append list (x ∷ []) 0 i within
+
+  -- and then the new one
+  pub more_last : slice_index (list ++ x ∷ []) (length list) ≡ x
+  more_last = get_or-append_seam list x [] 0
+
+  -- a list with none twice and a new number has none twice
+  pub more_once : HasNoneTwice list → ((i : ℕ) → i < length list → slice_index list i ≢ x) → HasNoneTwice (list ++ x ∷ [])
+  more_once once new i j before within same = elim (cases_lt j (length list)) [
+    | inl inside ↦ once i j before inside (sym (more_at i (omega arith)) ∙ same ∙ more_at j inside)
+    | inr past ↦
+        let last : j ≡ length list = omega (arith, length_more) in
+        let at_last = rw last at same in
+        new i (omega arith) (sym (more_at i (omega arith)) ∙ at_last ∙ more_last)
+  ]
