@@ -1,4 +1,5 @@
 """Rings and records to time the program on. They come out the same on each machine."""
+import functools
 import math
 import random
 from fractions import Fraction
@@ -57,18 +58,19 @@ def maze(n):
     """The boundary of a maze without rounds: corridors along a random tree."""
     corners = {0: 4, 1: 2, 2: 2, 3: 2, 4: 4}
     ways = [(1, 0), (0, 1), (-1, 0), (0, -1)]
-    draw, open_ways, missing = random.Random(n), {(0, 0): set()}, n - 4
+    draw, open_ways, rooms, missing = random.Random(n), {(0, 0): set()}, [(0, 0)], n - 4
 
     def count(of):
         return 0 if of in ({0, 2}, {1, 3}) else corners[len(of)]
 
     while missing:
-        (x, y), way = draw.choice(list(open_ways)), draw.randrange(4)
+        (x, y), way = draw.choice(rooms), draw.randrange(4)
         there = (x + ways[way][0], y + ways[way][1])
         more = count(open_ways[x, y] | {way}) - count(open_ways[x, y]) + 2
         if there not in open_ways and more <= missing:
             open_ways[x, y].add(way)
             open_ways[there] = {(way + 2) % 4}
+            rooms.append(there)
             missing -= more
     squares = {(2 * x, 2 * y) for x, y in open_ways}
     squares |= {(2 * x + ways[way][0], 2 * y + ways[way][1]) for (x, y), out in open_ways.items() for way in out}
@@ -133,5 +135,34 @@ def way_through_saw(n):
     return [(0, 1), (n - 4, 1)]
 
 
+def way_past_teeth(n):
+    """The level way with each tooth that it touches."""
+    begin, end = way_through_saw(n)
+    return [begin, *((x, 1) for x in range(1, n - 4, 2)), end]
+
+
 def record(word, points):
     return ','.join([word] + [f'{x},{y}' for x, y in points]) + '\n'
+
+
+def records(command, points, count=1):
+    """Records of so many points each."""
+    return ''.join(record(command, points[k:k + count]) for k in range(0, len(points), count))
+
+
+def answer(points):
+    """The answer to a `path` record."""
+    return record(f'path,{len(points)}', points)
+
+
+SHAPES = {shape.__name__: shape for shape in (comb, star, maze, spiral)}
+MORE_SHAPES = SHAPES | {shape.__name__: shape for shape in (skyline, saw)}
+WAYS = {'comb': way_along_comb, 'saw': way_past_teeth}
+
+
+@functools.cache
+def ends(shape, n, count):
+    """So many points inside a ring and as many vertices of it: two of these, two of those, and so on."""
+    ring = MORE_SHAPES[shape](n)
+    inner, corners = inner_places(ring, count), vertices(ring, count)
+    return [point for four in zip(inner[::2], inner[1::2], corners[::2], corners[1::2]) for point in four]

@@ -1,27 +1,26 @@
-"""What is timed: each command on rings of several shapes and sizes, the test of a ring alone, and scripts of up to 8 MiB."""
-import functools
+"""What is timed: each command on rings of several shapes and sizes, the test of a ring alone, scripts of up to 8 MiB, and in version
+2 of the script rings and paths."""
 from dataclasses import dataclass, field
 
 import inputs
-from inputs import record
+from inputs import MORE_SHAPES, SHAPES, WAYS, answer, ends, record, records
 
-SHAPES = {shape.__name__: shape for shape in (inputs.comb, inputs.star, inputs.maze, inputs.spiral)}
-MORE_SHAPES = SHAPES | {shape.__name__: shape for shape in (inputs.skyline, inputs.saw)}
-SIZES = [256, 1024, 4096]
+SIZES = {1: [256, 1024, 4096], 2: [4096, 16_384]}
 BYTES = [131_072, 524_288, 2_097_152, 8_388_608]
-PLACES, VIEWS, PATHS, LISTS, PEGS, TIMES = 1000, 100, 1000, 20, 16, 20
+PLACES, VIEWS, PATHS, LISTS, PEGS, TIMES, WALKS = 1000, 100, 1000, 20, 16, 20, 100
 
 
 @dataclass
 class Job:
-    """The records `timed`, after the records `before`, on a ring of a shape. `known` are the answers to all of them, where they
-    are known before. Peers are asked with the ring and the `queries`. What is timed is done so many `times`, and its part is
-    the time of one."""
+    """The records `timed`, after the records `before`, on a ring of a shape, in a script of a version. `known` are the answers to
+    all of them, where they are known before. Peers are asked with the ring and the `queries`. What is timed is done so many
+    `times`, and its part is the time of one."""
 
     command: str
     shape: str
     note: str
     size: int
+    version: int = 1
     ring: list = field(default_factory=list)
     queries: list = field(default_factory=list)
     before: str = ''
@@ -35,7 +34,17 @@ class Job:
 
     @property
     def name(self):
-        return f'{self.command} {self.shape}' + (f', {self.note}' if self.note else '')
+        return self.head.replace('\n', ' ') + f'{self.command} {self.shape}' + (f', {self.note}' if self.note else '')
+
+    @property
+    def head(self):
+        """The record that a script of version 2 begins with, which is its own answer."""
+        return 'geo,2\n' if self.version == 2 else ''
+
+    @property
+    def accepted(self):
+        """The answers to the head and the polygon."""
+        return f'{self.head}polygon,{self.size}\n'
 
     @property
     def script(self):
@@ -43,38 +52,27 @@ class Job:
 
 
 def jobs(sizes, only, ask):
-    """The jobs whose name has a text, those of one name together. `ask` gives the lines that answer a script."""
-    for command, note, shapes, fill in COMMANDS:
-        for shape, n in ((shape, n) for shape in shapes for n in sizes):
-            job = Job(command, shape, note, n)
+    """The jobs whose name has a text, those of one name together. `ask` gives the lines that answer a script. Each version has its
+    own sizes, or takes of those that are given the ones within its limit."""
+    for version, command, note, shapes, fill in COMMANDS:
+        for shape, n in ((shape, n) for shape in shapes for n in sizes or SIZES[version] if n <= SIZES[version][-1]):
+            job = Job(command, shape, note, n, version)
             if only in job.name:
                 job.ring = MORE_SHAPES[shape](n)
-                job.before = record('polygon', job.ring)
+                job.before = job.head + record('polygon', job.ring)
                 fill(job, ask)
                 yield job
-    for name, before, one, answer in SCRIPTS:
+    for name, before, one, line in SCRIPTS:
         for size in BYTES:
             count = (size - len(before)) // len(one)
-            job = Job('script of', name, '', size, [], [], before, count * one, ('polygon,6\n' if before else '') + count * answer)
+            known = ('polygon,6\n' if before else '') + count * line
+            job = Job('script of', name, '', size, before=before, timed=count * one, known=known)
             if only in job.name:
                 yield job
-
-
-@functools.cache
-def ends(shape, n):
-    """Points inside a ring and vertices of it: two of these, two of those, and so on."""
-    ring = MORE_SHAPES[shape](n)
-    inner, corners = inputs.inner_places(ring, PATHS), inputs.vertices(ring, PATHS)
-    return [point for four in zip(inner[::2], inner[1::2], corners[::2], corners[1::2]) for point in four]
-
-
-def records(command, points, count=1):
-    """Records of so many points each."""
-    return ''.join(record(command, points[k:k + count]) for k in range(0, len(points), count))
 
 
 def polygon(job, ask):
-    job.before, job.timed, job.known = '', job.before, f'polygon,{job.size}\n'
+    job.before, job.timed, job.known = job.head, record('polygon', job.ring), job.accepted
 
 
 def accept(job, ask):
@@ -96,27 +94,27 @@ def kernel(job, ask):
 
 
 def tree(job, ask):
-    job.queries = ends(job.shape, job.size)[:1]
+    job.queries = ends(job.shape, job.size, PATHS)[:1]
     job.timed = records('tree', job.queries)
 
 
 def reach(job, ask):
-    source, *goals = ends(job.shape, job.size)[:PATHS + 1]
+    source, *goals = ends(job.shape, job.size, PATHS)[:PATHS + 1]
     job.before += record('tree', [source])
     job.timed = records('reach', goals)
     job.queries = [point for goal in goals for point in (source, goal)]
 
 
 def path(job, ask):
-    job.queries = ends(job.shape, job.size)
+    job.queries = ends(job.shape, job.size, PATHS)
     job.timed = records('path', job.queries, 2)
 
 
 def check(job, ask):
     """Some paths as lists: each is taut."""
-    paths = ask(job.before + records('path', ends(job.shape, job.size)[:2 * LISTS], 2))[1:]
+    paths = ask(job.before + records('path', ends(job.shape, job.size, PATHS)[:2 * LISTS], 2))[1:]
     job.timed = ''.join(f'check,{line.split(",", 2)[-1]}\n' for line in paths)
-    job.known = f'polygon,{job.size}\n' + LISTS * 'taut\n'
+    job.known = job.accepted + LISTS * 'taut\n'
 
 
 def hull(job, ask):
@@ -132,25 +130,54 @@ def known_way(way, command):
         points = way(job.size)
         job.queries = [points[0], points[-1]]
         job.timed = record('path', job.queries) if command == 'path' else record('check', points)
-        job.known = f'polygon,{job.size}\n' + (record(f'path,{len(points)}', points) if command == 'path' else 'taut\n')
+        job.known = job.accepted + (answer(points) if command == 'path' else 'taut\n')
     return fill
 
 
+def far(job, ask):
+    """The way from end to end where it is known, else the ends of the path with the most points among those of the pairs."""
+    if job.shape in WAYS:
+        return WAYS[job.shape](job.size)
+    points = ends(job.shape, job.size, PATHS)
+    counts = [line.count(',') for line in ask(job.before + records('path', points, 2))[2:]]
+    return points[2 * counts.index(max(counts)):][:2] if counts else points[:2]
+
+
+def there_and_back(job, ask):
+    way = far(job, ask)
+    job.queries = WALKS * [way[0], way[-1], way[-1], way[0]]
+    job.timed = records('path', job.queries, 2)
+    if job.shape in WAYS:
+        job.known = job.accepted + WALKS * (answer(way) + answer(way[::-1]))
+
+
+def on_the_spot(job, ask):
+    """As many records with each end alone, so the ends are looked for as often and the answers are short."""
+    begin, *_, end = far(job, ask)
+    job.queries = WALKS * [begin, begin, end, end]
+    job.timed = records('path', job.queries, 2)
+    job.known = job.accepted + WALKS * (answer([begin]) + answer([end]))
+
+
 COMMANDS = [
-    ('polygon', '', MORE_SHAPES, polygon),
-    ('accept', '', SHAPES, accept),
-    ('inside', f'{PLACES:,} points', MORE_SHAPES, inside),
-    ('see', f'{VIEWS} points', SHAPES, see),
-    ('kernel', '', SHAPES, kernel),
-    ('tree', '', SHAPES, tree),
-    ('reach', f'{PATHS:,} points', SHAPES, reach),
-    ('path', f'{PATHS:,} pairs', SHAPES, path),
-    ('check', f'{LISTS} paths', SHAPES, check),
-    ('hull', f'{PEGS} points', SHAPES, hull),
-    ('path', 'end to end', ['comb'], known_way(inputs.way_along_comb, 'path')),
-    ('check', 'end to end', ['comb'], known_way(inputs.way_along_comb, 'check')),
-    ('path', 'along the teeth', ['saw'], known_way(inputs.way_through_saw, 'path')),
-    ('check', 'along the teeth', ['saw'], known_way(inputs.way_through_saw, 'check')),
+    (1, 'polygon', '', MORE_SHAPES, polygon),
+    (1, 'accept', '', SHAPES, accept),
+    (1, 'inside', f'{PLACES:,} points', MORE_SHAPES, inside),
+    (1, 'see', f'{VIEWS} points', SHAPES, see),
+    (1, 'kernel', '', SHAPES, kernel),
+    (1, 'tree', '', SHAPES, tree),
+    (1, 'reach', f'{PATHS:,} points', SHAPES, reach),
+    (1, 'path', f'{PATHS:,} pairs', SHAPES, path),
+    (1, 'check', f'{LISTS} paths', SHAPES, check),
+    (1, 'hull', f'{PEGS} points', SHAPES, hull),
+    (1, 'path', 'end to end', ['comb'], known_way(inputs.way_along_comb, 'path')),
+    (1, 'check', 'end to end', ['comb'], known_way(inputs.way_along_comb, 'check')),
+    (1, 'path', 'along the teeth', ['saw'], known_way(inputs.way_through_saw, 'path')),
+    (1, 'check', 'along the teeth', ['saw'], known_way(inputs.way_through_saw, 'check')),
+    (2, 'polygon', '', MORE_SHAPES, polygon),
+    (2, 'path', f'{PATHS:,} pairs', SHAPES, path),
+    (2, 'path', f'{WALKS} there and back', [*SHAPES, 'saw'], there_and_back),
+    (2, 'path', f'{WALKS} on the spot', [*SHAPES, 'saw'], on_the_spot),
 ]
 POLYGON = record('polygon', inputs.L)
 SCRIPTS = [

@@ -1,20 +1,24 @@
 """Programs that answer the same by other libraries: how they are asked, how long they say that they take, and whether their
 answers are those of `geo`."""
+import functools
 import os
 import subprocess
 import tempfile
+from bisect import bisect_left, bisect_right
 from dataclasses import dataclass
 from fractions import Fraction
 from itertools import zip_longest
 from typing import Callable
+
+from inputs import record
 
 PROGRAMS = ['cgal', 'geos', 'boost', 'ppl', 'funnel']
 
 
 @dataclass(frozen=True)
 class Peer:
-    """A peer of a command: its name, its program and the job that it is asked. `theirs` makes of what it shows, so many times, the
-    lines that `geo` should answer, and `ours` takes from the answers what is compared with them; where there is nothing to
+    """A peer of a command: its name, its program and the job that it is asked. `theirs` makes of what it shows for a job the lines
+    that `geo` should answer, and `ours` takes from the answers what is compared with them; where there is nothing to
     compare, there is no `theirs`. Of the steps of its time, `part` are those that do what is timed, and `whole` those that do
     what the whole script does."""
 
@@ -27,15 +31,46 @@ class Peer:
     whole: tuple = ('load', 'prep', 'run')
 
 
-def same(shown, times):
+def same(shown, job):
     return shown
 
 
-def places(shown, times):
+def paths(shown, job):
+    """In version 2 with each vertex that a path touches."""
+    if job.version == 1:
+        return shown
+    fill, lines = touched(job.ring), []
+    for line in shown:
+        numbers = list(map(int, line.split(',')[2:]))
+        chain = fill(list(zip(numbers[::2], numbers[1::2])))
+        lines.append(record(f'path,{len(chain)}', chain).strip())
+    return lines
+
+
+def touched(ring):
+    """What gives a chain with each vertex of a ring that it touches. Those on a segment lie between its ends, both in the order by x
+    and in that by y."""
+    by_x, by_y = sorted(ring), sorted(point[::-1] for point in ring)
+
+    def between(points, a, b):
+        return points[bisect_right(points, min(a, b)):bisect_left(points, max(a, b))]
+
+    @functools.cache
+    def within(a, b):
+        (p, q), (r, s) = a, b
+        found, others = between(by_x, a, b), between(by_y, (q, p), (s, r))
+        if len(others) < len(found):
+            found = [point[::-1] for point in others]
+        return sorted(((x, y) for x, y in found if (r - p) * (y - q) == (s - q) * (x - p)), reverse=b < a)
+
+    return lambda chain: chain[:1] + [point for a, b in zip(chain, chain[1:]) for point in [*within(a, b), b]]
+
+
+def places(shown, job):
     return [line.split()[1] for line in shown]
 
 
-def views(shown, times):
+def views(shown, job):
     """CGAL gives the vertices of the visibility polygon as exact fractions, and the peer tells of each edge the hull of those that
     lie on it. That is the part, since what is seen of an edge is a segment, and its ends are such vertices."""
     heads = [k for k, line in enumerate(shown) if line.startswith('see,')]
@@ -43,14 +78,14 @@ def views(shown, times):
     return [line for part in parts for line in [f'see,{len(part)}', *part]]
 
 
-def kernels(shown, times):
+def kernels(shown, job):
     """The corners in the order of `geo`: round the kernel, from the least. Those right of the way from the least to the greatest
     come first."""
     corners = sorted(tuple(map(Fraction, line.split(',')[1:])) for line in shown)
     (a, b), (c, d) = (corners[0], corners[-1]) if corners else 2 * [(0, 0)]
     left = [(x, y) for x, y in corners if (c - a) * (y - b) > (d - b) * (x - a)]
     order = [corner for corner in corners if corner not in left] + left[::-1]
-    return times * [f'kernel,{len(order)}', *(f'corner,{x},{y}' for x, y in order)]
+    return job.times * [f'kernel,{len(order)}', *(f'corner,{x},{y}' for x, y in order)]
 
 
 def sides(lines):
@@ -68,7 +103,7 @@ PEERS = {
     'kernel': [Peer('CGAL, exact', 'cgal', 'kernel', kernels), Peer('PPL', 'ppl', 'kernel', kernels)],
     'tree': [Peer('funnels over CGAL', 'funnel', 'tree', same)],
     'reach': [Peer('funnels over CGAL', 'funnel', 'path1000', same)],
-    'path': [Peer('funnels over CGAL', 'funnel', 'path1000', same)],
+    'path': [Peer('funnels over CGAL', 'funnel', 'path1000', paths)],
     'hull': [Peer('funnels over CGAL', 'funnel', 'path1000', same, sides, part=())],
 }
 
@@ -114,7 +149,7 @@ class Folder:
             return f'{peer.name}: not simple'
         if peer.theirs is None:
             return None
-        return other_line(peer.name, peer.theirs(shown, job.times), 'geo', peer.ours(lines))
+        return other_line(peer.name, peer.theirs(shown, job), 'geo', peer.ours(lines))
 
 
 def other_line(one, lines, another, others):

@@ -2,7 +2,7 @@
 import math
 import statistics
 
-HEAD = f'{"":36}{"size":>9}' + ''.join(f'{word:>8}' for word in ('least', 'middle', 'most', 'part', 'growth'))
+HEAD = f'{"":40}{"size":>9}' + ''.join(f'{word:>8}' for word in ('least', 'middle', 'most', 'part', 'growth'))
 
 
 def line(rows):
@@ -14,7 +14,7 @@ def line(rows):
     else:
         cells.append('-')
     beside = [figure(part) + (f' ({figure(whole)})' if whole else '') + f' {peer}' for peer, part, whole in row.ratios()]
-    return f'{row.job.name:36}{row.job.size:>9,}' + ''.join(f'{cell:>8}' for cell in cells) + '   ' + ' | '.join(beside)
+    return f'{row.job.name:40}{row.job.size:>9,}' + ''.join(f'{cell:>8}' for cell in cells) + '   ' + ' | '.join(beside)
 
 
 def milliseconds(time):
@@ -28,27 +28,51 @@ def figure(value):
     return f'{value:,.0f}' if value >= 9.95 else f'{value:.1f}' if value >= 0.995 else f'{value:.2f}'
 
 
-def markdown(rows, sizes):
+def markdown(rows):
+    """The tables of version 1, of long scripts and of version 2, as far as there are rows."""
+    rings = {version: [row for row in rows if row.job.ring and row.job.version == version] for version in (1, 2)}
+    scripts = [row for row in rows if not row.job.ring]
+    parts = of_rings(rings[1]) + (scripts and [by_size(scripts, 'bytes')])
+    return '\n\n'.join(parts + (rings[2] and ['Version 2 of the script.', *of_rings(rings[2]), *factors(rings[2])]))
+
+
+def of_rings(rows):
     """The times of the scripts by their sizes, and the parts and the ratios by the shapes."""
-    rings = [row for row in rows if row.job.ring]
-    return '\n\n'.join([
-        'Milliseconds for the whole script, the least and in brackets the middle:', by_size(rings, 'vertices'),
-        by_size([row for row in rows if not row.job.ring], 'bytes'),
-        f'Milliseconds for the part, {at(sizes)}:', by_shape(rings, lambda row: [('', milliseconds(row.part))]),
-        f'How many times as long as the peer for the part, {at(sizes)}:',
-        by_shape(rings, lambda row: [(peer, figure(part)) for peer, part, _ in row.ratios()]),
-        f'How many times as long as the peer for the whole, {at(sizes)}:',
-        by_shape(rings, lambda row: [(peer, figure(whole)) for peer, _, whole in row.ratios() if whole]),
-    ])
+    at = 'at ' + ', '.join(f'{n:,}' for n in sizes_of(rows)) + ' vertices'
+    return rows and [
+        'Milliseconds for the whole script, the least and in brackets the middle:', by_size(rows, 'vertices'),
+        f'Milliseconds for the part, {at}:', by_shape(rows, lambda row: [('', milliseconds(row.part))]),
+        f'How many times as long as the peer for the part, {at}:',
+        by_shape(rows, lambda row: [(peer, figure(part)) for peer, part, _ in row.ratios()]),
+        f'How many times as long as the peer for the whole, {at}:',
+        by_shape(rows, lambda row: [(peer, figure(whole)) for peer, _, whole in row.ratios() if whole]),
+    ]
 
 
-def at(sizes):
-    return 'at ' + ', '.join(f'{n:,}' for n in sizes) + ' vertices'
+def factors(rows):
+    """How many times as long each takes at the greatest size as at the least."""
+    sizes = sizes_of(rows)
+    if len(sizes) < 2:
+        return []
+    least, most = sizes[0], sizes[-1]
+    firsts = {row.job.name: row for row in rows if row.job.size == least}
+    lasts = [row for row in rows if row.job.size == most and row.job.name in firsts]
+
+    def factor(row):
+        first = firsts[row.job.name]
+        part = row.part and first.part and row.part / first.part
+        return [('', f'{figure(part)} ({figure(min(row.whole) / min(first.whole))})')]
+
+    return lasts and [f'How many times as long at {most:,} vertices as at {least:,}, the part and in brackets the whole:',
+                      by_shape(lasts, factor)]
+
+
+def sizes_of(rows):
+    return sorted({row.job.size for row in rows})
 
 
 def by_size(rows, unit):
-    sizes = sorted({row.job.size for row in rows})
-    cells = {}
+    sizes, cells = sizes_of(rows), {}
     for row in rows:
         text = f'{milliseconds(min(row.whole))} ({milliseconds(statistics.median(row.whole))})'
         cells.setdefault(row.job.name, {})[row.job.size] = text
@@ -70,4 +94,5 @@ def by_shape(rows, told):
 
 
 def table(head, lines):
-    return '\n'.join('| ' + ' | '.join(cells) + ' |' for cells in [head, ['---'] * len(head), *lines]).replace('|  |', '| |')
+    head, *lines = ('|' + ''.join(f' {cell} |' if cell else ' |' for cell in cells) for cells in [head, *lines])
+    return '\n'.join([head, '|' + head.count(' |') * '---|', *lines])

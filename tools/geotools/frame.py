@@ -4,7 +4,8 @@ import sys
 from dataclasses import dataclass
 from fractions import Fraction
 
-LIMIT = 1_000_000
+# the greatest size of a coordinate, by the version of the script
+LIMIT = {1: 1_000_000, 2: 8_388_607}
 
 
 @dataclass(frozen=True)
@@ -15,18 +16,18 @@ class Frame:
     y: Fraction
     scale: Fraction
 
-    def whole(self, point, rounds=False):
-        """A point of the data as whole numbers; it ends the run where one is none, unless it may be rounded."""
-        return tuple(self._whole(c, origin, rounds) for c, origin in zip(point, (self.x, self.y)))
+    def whole(self, point, rounds=False, version=1):
+        """A point of the data as whole numbers; it ends the run where one is none, unless it may be rounded, or is too great."""
+        return tuple(self._whole(c, origin, rounds, version) for c, origin in zip(point, (self.x, self.y)))
 
-    def _whole(self, coordinate, origin, rounds):
+    def _whole(self, coordinate, origin, rounds, version):
         value = (Fraction(coordinate) - origin) * self.scale
         if rounds:
             value = Fraction(round(value))
         if value.denominator != 1:
             sys.exit(f'{coordinate} less {text(origin)}, times {text(self.scale)}, is no whole number; --round rounds it')
-        if abs(value) > LIMIT:
-            sys.exit(f'{coordinate} less {text(origin)}, times {text(self.scale)}, is beyond {LIMIT}')
+        if abs(value) > LIMIT[version]:
+            sys.exit(f'{coordinate} less {text(origin)}, times {text(self.scale)}, is beyond {LIMIT[version]}, the limit of version {version}')
         return value.numerator
 
     def back(self, point):
@@ -42,21 +43,22 @@ def loads(source):
     return Frame(*map(Fraction, parts['origin']), Fraction(parts['scale']))
 
 
-def propose(points, rounds=False):
+def propose(points, rounds=False, version=1):
     """A frame for these points. The scale is the least power of ten that makes all whole; where they may be rounded, it is no
     more than keeps them within the limit. The origin is the middle of their box, with as few digits as do."""
+    limit = LIMIT[version]
     box = [(min(c), max(c)) for c in zip(*points)]
     scale = Fraction(10) ** max(decimal_digits(c) for point in points for c in point)
-    while rounds and max(high - low for low, high in box) * scale > 2 * LIMIT - 2:
+    while rounds and max(high - low for low, high in box) * scale > 2 * limit - 2:
         scale /= 10
-    return Frame(*(middle(low, high, scale) for low, high in box), scale)
+    return Frame(*(middle(low, high, scale, limit) for low, high in box), scale)
 
 
-def middle(low, high, scale):
+def middle(low, high, scale, limit):
     """A number near the middle of two, with as few digits as keep both within the limit, if any does."""
     for places in range(19):
         origin = Fraction(round((low + high) / 2 * 10**places), 10**places)
-        if max(high - origin, origin - low) * scale <= LIMIT:
+        if max(high - origin, origin - low) * scale <= limit:
             return origin
     return (low + high) / 2
 

@@ -1,12 +1,10 @@
 """Pictures of scripts with their answers, as SVG. What is drawn is read from records and answers; nothing is computed of the
 geometry but where a point comes on the page."""
-from fractions import Fraction
 from html import escape
 
-from .script import pairs
+from .page import MARGIN, SIDE, Page, axes
+from .script import pairs, version
 
-SIDE = 440  # the longer side of the picture of a polygon
-MARGIN = 46
 LEGEND = 350
 ROW = 19
 COLOURS = ('#0072b2', '#d55e00', '#009e73', '#cc79a7', '#e69f00', '#56b4e9', '#8c6d31')
@@ -21,8 +19,9 @@ STYLE = """
 class Panel:
     """A polygon, and the answers that come while it is kept. Before the first one there is none."""
 
-    def __init__(self, ring):
+    def __init__(self, ring, version):
         self.ring = ring
+        self.version = version
         self.rows = []
 
     @property
@@ -31,65 +30,30 @@ class Panel:
 
 
 def panels(answered):
-    """The answers, by the polygon that is kept."""
-    found = [Panel([])]
-    for row in answered:
+    """The answers, by the polygon that is kept. The version stands with the first of them."""
+    number = version(answered)
+    first, rest = (answered[:1], answered[1:]) if number == 2 else ([], answered)
+    found = [Panel([], number)]
+    for row in rest:
         if row.word == 'polygon' and not row.is_refused:
-            found.append(Panel(row.points))
+            found.append(Panel(row.points, number))
         found[-1].rows.append(row)
-    return [panel for panel in found if panel.rows]
-
-
-class Page:
-    """Where points of a panel come on the page: x to the right and y upward, and the same scale for both."""
-
-    def __init__(self, panel, top):
-        xs, ys = zip(*(panel.points or [(Fraction(0), Fraction(0))]))
-        self.left, self.low = min(xs), min(ys)
-        self.width, self.height = max(xs) - self.left, max(ys) - self.low
-        self.scale = Fraction(SIDE) / (max(self.width, self.height) or 1)
-        self.top = top + MARGIN / 2
-
-    def x(self, value):
-        return f'{float((value - self.left) * self.scale) + MARGIN:.1f}'.removesuffix('.0')
-
-    def y(self, value):
-        return f'{float((self.low + self.height - value) * self.scale) + self.top:.1f}'.removesuffix('.0')
-
-    def at(self, points):
-        return ' '.join(f'{self.x(x)},{self.y(y)}' for x, y in points)
-
-    @property
-    def bottom(self):
-        return float(self.height * self.scale) + self.top
-
-    def line(self, kind, points, colour):
-        return f'<polyline class="{kind}" points="{self.at(points)}" stroke="{colour}"/>'
-
-    def area(self, kind, points, colour='none'):
-        return f'<polygon class="{kind}" points="{self.at(points)}" fill="{colour}"/>'
-
-    def dot(self, point, colour, hollow=False):
-        x, y = point
-        fill = 'white' if hollow else colour
-        return f'<circle cx="{self.x(x)}" cy="{self.y(y)}" r="4" fill="{fill}" stroke="{colour}" stroke-width="1.5"/>'
-
-    def cross(self, point, colour):
-        x, y = self.x(point[0]), self.y(point[1])
-        return f'<path transform="translate({x} {y})" d="M-4-4L4 4M-4 4L4-4" stroke="{colour}" stroke-width="2"/>'
-
-    def number(self, point, text, below=False):
-        x, y = self.x(point[0]), self.y(point[1])
-        return f'<text class="number" x="{x}" y="{y}" dx="5" dy="{12 if below else -5}">{text}</text>'
+    shown = [panel for panel in found if panel.rows] or found
+    shown[0].rows[:0] = first
+    return [panel for panel in shown if panel.rows]
 
 
 def drawn(answered, panel, page, colour):
     """What an answer shows."""
     draw = {
-        'polygon': draw_ring, 'inside': draw_place, 'check': draw_list, 'path': draw_path, 'tree': draw_tree,
+        'geo': draw_nothing, 'polygon': draw_ring, 'inside': draw_place, 'check': draw_list, 'path': draw_path, 'tree': draw_tree,
         'reach': draw_path, 'see': draw_view, 'kernel': draw_kernel, 'hull': draw_hull,
     }
     return [] if answered.is_refused else draw[answered.word](answered, panel, page, colour)
+
+
+def draw_nothing(answered, panel, page, colour):
+    return []
 
 
 def draw_ring(answered, panel, page, colour):
@@ -110,7 +74,13 @@ def draw_list(answered, panel, page, colour):
 
 def draw_path(answered, panel, page, colour):
     points = pairs(answered.lines[0][2:])
-    return [page.line('way', points, colour), page.dot(points[0], colour, hollow=True), page.dot(points[-1], colour)]
+    way = [page.line('way', points, colour)] + touched(points, panel, page, colour)
+    return way + [page.dot(points[0], colour, hollow=True), page.dot(points[-1], colour)]
+
+
+def touched(points, panel, page, colour):
+    """In version 2 a small ring at each vertex that is told between the ends of a path."""
+    return [page.dot(p, colour, hollow=True, radius=2) for p in points[1:-1]] if panel.version == 2 else []
 
 
 def draw_tree(answered, panel, page, colour):
@@ -135,34 +105,12 @@ def draw_kernel(answered, panel, page, colour):
 
 def draw_hull(answered, panel, page, colour):
     points = answered.points
-    sides = [page.line('way', pairs(line[4:]), colour) for line in answered.lines[1:]]
+    paths = [pairs(line[4:]) for line in answered.lines[1:]]
+    sides = [page.line('way', path, colour) for path in paths]
+    vertices = [dot for path in paths for dot in touched(path, panel, page, colour)]
     is_alone = sum(row.word == 'hull' for row in panel.rows) == 1
     numbers = [page.number(p, f'({i})', below=True) for i, p in enumerate(points)] if is_alone else []
-    return sides + [page.dot(p, colour) for p in points] + numbers
-
-
-def ticks(low, length):
-    """Round numbers from low on, a few of them."""
-    if length == 0:
-        return [low]
-    step = Fraction(1)
-    while step * 8 < length:
-        step *= 10
-    step = next(s for s in (step / 5, step / 2, step) if s * 8 >= length)
-    step = max(step, Fraction(1)) if length >= 1 else step
-    first = -(-low // step) * step
-    return [first + k * step for k in range(int((low + length - first) / step) + 1)]
-
-
-def axes(page):
-    lines = []
-    for value in ticks(page.left, page.width):
-        x = page.x(value)
-        lines.append(f'<path d="M{x} {page.bottom:.1f}v6"/><text x="{x}" y="{page.bottom + 18:.1f}" text-anchor="middle">{value}</text>')
-    for value in ticks(page.low, page.height):
-        y = page.y(value)
-        lines.append(f'<path d="M{MARGIN}  {y}h-6"/><text x="{MARGIN - 9}" y="{y}" dy="4" text-anchor="end">{value}</text>')
-    return ['<g class="axis">', *lines, '</g>']
+    return sides + vertices + [page.dot(p, colour) for p in points] + numbers
 
 
 def short(fields, length):
@@ -186,7 +134,7 @@ def picture(answered):
     body, top = [], 10.0
     for panel in panels(answered):
         page = Page(panel, top)
-        colours = ['#444' if row.word == 'polygon' else COLOURS[k % len(COLOURS)] for k, row in enumerate(panel.rows, -1)]
+        colours = ['#444' if row.word in ('geo', 'polygon') else COLOURS[k % len(COLOURS)] for k, row in enumerate(panel.rows, -1)]
         shown = [shape for row, colour in zip(panel.rows, colours) for shape in drawn(row, panel, page, colour)]
         body += (axes(page) if panel.ring else []) + shown + legend(panel.rows, colours, top)
         top = max(page.bottom if panel.ring else top, top + ROW * (len(panel.rows) + 1)) + MARGIN

@@ -12,6 +12,9 @@ PROGRAM = Path(__file__).resolve().parents[2] / 'crates/geo/out/geo'
 # answers whose first line says how many more lines follow
 LONG = ('see', 'kernel', 'tree', 'hull')
 
+# the most vertices of a polygon, by the version of the script
+VERTICES = {1: 4096, 2: 16_384}
+
 
 @dataclass
 class Answered:
@@ -55,6 +58,11 @@ def paired(script, output):
         more = int(first[1]) if first[0] in LONG else 0
         answered.append(Answered(record, [first] + [next(lines) for _ in range(more)]))
     return answered
+
+
+def version(answered):
+    """The version of the script that these are the answers to: its first record is `geo,2` in version 2."""
+    return 2 if answered and answered[0].word == 'geo' and not answered[0].is_refused else 1
 
 
 def ask(script, program=PROGRAM):
