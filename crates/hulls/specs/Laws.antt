@@ -1,9 +1,12 @@
--- Laws of points that paths join over a point, as statements. This project's own.
-use Rattle.std.specs.Prelude.{◌↔◌, ◌≤◌, List, length}
+-- Laws of points that paths join over a point, and of how paths turn against each other, as statements. This project's own.
+use Rattle.std.specs.Prelude.{◌↔◌, ◌≤◌, ◌≢◌, ◌⊎◌, List, length}
 use Rattle.plane.specs.Point.{Point, whole}
 use Rattle.plane.specs.Turn.{IsLeft, IsRight, IsStraight}
+use Rattle.rings.specs.Chain.{IsPath}
 use Rattle.rings.specs.Simple.{IsSimple}
 use Rattle.hulls.specs.Joined.{AreJoined, IsFirstStep, IsOnPath}
+use Rattle.hulls.specs.Steps.{SeesSteps}
+use Rattle.hulls.specs.Turning.{AreFree, IsToLeft, IsToRight, StartsRight}
 
 -- v is on the path from a to b exactly if the first steps from v to the two are joined over it
 abbrev pub JoinedPathsLaw : Type 0
@@ -26,3 +29,23 @@ SameSideLaw = (ring : List Point) (v u w n : Point) → AreJoined ring v u w →
     → ¬ IsStraight (whole v) (whole u) (whole n) → ¬ IsStraight (whole v) (whole w) (whole n)
     → (IsLeft (whole u) (whole v) (whole n) ↔ IsLeft (whole v) (whole w) (whole n))
     × (IsRight (whole u) (whole v) (whole n) ↔ IsRight (whole v) (whole w) (whole n))
+
+-- seen from a, c is to the left of b exactly if b is to the right of c, and never to both sides
+abbrev pub ExchangeLaw : Type 0
+ExchangeLaw = (ring : List Point) (a b c : Point) → (IsToLeft ring a b c ↔ IsToRight ring a c b) × (IsToLeft ring a b c → ¬ IsToRight ring a b c)
+
+-- of a free triple in a simple ring, seen from one point, one of the others is to the left of the other
+abbrev pub OneWayLaw : Type 0
+OneWayLaw = (ring : List Point) → 3 ≤ length ring → IsSimple ring → (a b c : Point) (ab ac : List Point) → IsPath ring a b ab → IsPath ring a c ac
+    → AreFree ring a b c → IsToLeft ring a b c ⊎ IsToRight ring a b c
+
+-- seen from t, "to the left of" is one order of points to which the paths start along one ray or to the right of it
+abbrev pub OrderLaw : Type 0
+OrderLaw = (ring : List Point) → 3 ≤ length ring → IsSimple ring → (t e u v w : Point) → t ≢ e → StartsRight ring t e u → StartsRight ring t e v
+    → StartsRight ring t e w → IsToLeft ring t u v → IsToLeft ring t v w → IsToLeft ring t u w
+
+-- where each step past no vertex is seen from b as a path is, a free triple that turns left seen from a turns left seen from c
+abbrev pub ThirdLaw : Type 0
+ThirdLaw = (ring : List Point) → 3 ≤ length ring → IsSimple ring → (a b c : Point) → AreFree ring a b c → SeesSteps ring b
+    → (ab ac : List Point) → IsPath ring a b ab → IsPath ring a c ac
+    → (IsToLeft ring a b c → IsToLeft ring c a b) × (IsToRight ring a b c → IsToRight ring c a b)

@@ -1,3 +1,5 @@
 pub mod Joined
 pub mod Laws
 pub mod Round
+pub mod Steps
+pub mod Turning

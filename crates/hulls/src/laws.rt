@@ -1,5 +1,5 @@
 // Laws of hulls, each as the contract of a call that does nothing when it runs.
-ghost use Rattle.hulls.specs.Laws.{JoinedPathsLaw, NoThreeJoinedLaw, OneSideLaw, SameSideLaw};
+ghost use Rattle.hulls.specs.Laws.{ExchangeLaw, JoinedPathsLaw, NoThreeJoinedLaw, OneSideLaw, OneWayLaw, OrderLaw, SameSideLaw, ThirdLaw};
 ghost use Rattle.hulls.specs.Round.{RoundLaw};
 
 /// Where three points always turn round each other in one way, and seen from each end of a side the others are in one order, the
@@ -26,4 +26,28 @@ pub fn no_three_joined()
 /// A point that is joined with neither of two joined ones is on one side of the way between them.
 pub fn same_side()
     ensures { SameSideLaw }
+{}
+
+/// Seen from one point, of two others the second is to the left of the first exactly if the first is to the right of the second, and
+/// never to both sides.
+pub fn exchange()
+    ensures { ExchangeLaw }
+{}
+
+/// Of three points of a simple ring of which none is on the path between the two others, seen from one, one of the others is to the left
+/// of the other.
+pub fn one_way()
+    ensures { OneWayLaw }
+{}
+
+/// In a simple ring, seen from one point, "to the left of" is one order of points to which the paths start along one ray or to the right
+/// of it.
+pub fn one_order()
+    ensures { OrderLaw }
+{}
+
+/// Where each step past no vertex is seen from b as a path is, three points of a simple ring of which none is on the path between the two
+/// others turn to one side seen from a and from c.
+pub fn from_third()
+    ensures { ThirdLaw }
 {}

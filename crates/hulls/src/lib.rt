@@ -3,4 +3,7 @@
 
 mod laws;
 
-pub use laws::{joined_paths, no_three_joined, one_side, round_closes, same_side};
+pub use laws::{
+    exchange, from_third, joined_paths, no_three_joined, one_order, one_side, one_way,
+    round_closes, same_side,
+};

@@ -1,0 +1,105 @@
+-- Along a way of steps from one of three free points to another, seen from the third: first come steps towards that, and then one with a side.
+use Rattle.std.proofs.Common.{◌≡◌, ◌⊎◌, inl, inr, subst, ◌≤◌, List, [], ◌∷◌, length}
+use Rattle.plane.specs.Point.{Point, Triple}
+use Rattle.plane.specs.Turn.{IsLeft, IsRight}
+use Rattle.rings.specs.Simple.{IsSimple}
+use Rattle.hulls.proofs.Third.AlongAway.{reach_back, turns_at_end}
+use Rattle.hulls.proofs.Third.Cuts.{on_path_back}
+use Rattle.hulls.proofs.Third.Neighbours.{IsStrict, goes_away, goes_towards, on_other, on_side, sorts_left, sorts_right, towards_then_away}
+use Rattle.hulls.proofs.Third.Sides.{AreSides, left_and_right, right_and_left}
+use Rattle.hulls.proofs.Third.StepFacts.{Reaches, joined_first, sight_step, step_back, step_beyond}
+use Rattle.hulls.proofs.Third.TurnsOver.{turns_over}
+use Rattle.hulls.proofs.Third.Ways.{IsStepPast, IsWay, first_other, joined_ahead, last_other, on_path_ahead, parts_here, reach_end, way_begins}
+use Rattle.hulls.proofs.Third.Ways.{way_reaches}
+use Rattle.hulls.proofs.Cones.{joined_back}
+use Rattle.hulls.specs.Joined.{AreJoined, IsFirstStep, IsOnPath}
+use Rattle.hulls.specs.Steps.{SeesSteps}
+use Rattle.hulls.specs.Turning.{AreFree, IsTo, IsToLeft, IsToRight}
+
+-- seen from a, b is to one side of c, and seen from c it is to the other side of a
+abbrev pub AreFacing : List Point → Point → Point → Point → Type 0
+AreFacing ring a b c = (IsToLeft ring a c b × IsToRight ring c a b) ⊎ (IsToRight ring a c b × IsToLeft ring c a b)
+
+-- seen from a, b is to the side of c on which it is seen from x
+record Carries (ring : List Point) (a b c x : Point) : Type 0 where
+  left : IsToLeft ring x c b → IsToLeft ring a c b
+  right : IsToRight ring x c b → IsToRight ring a c b
+
+module _ (ring : List Point) (some : 3 ≤ length ring) (simple : IsSimple ring) (a b c : Point) (sees : SeesSteps ring b)
+    (not_c : ¬ IsOnPath ring a b c) where
+  -- where the way comes to a step with a side, it is that side at both its ends,
+  left_found : (x y : Point) (rest : List Point) → IsWay ring b c x y rest → Reaches ring y x a → Carries ring a b c x
+      → IsStrict IsLeft ring b x y → AreFacing ring a b c
+  left_found x y rest way reach carries strict =
+      let first = way_begins ring b c x y rest way in
+      inl (
+        carries.left (parts_here ring some simple b c x y first.clear (way_reaches ring some simple b c x y rest way) strict.p strict.first
+            IsLeft IsRight left_and_right strict.side_first),
+        turns_at_end ring some simple a b c sees IsLeft IsRight left_and_right (sorts_left ring some simple b) x y rest way reach strict,
+      )
+
+  right_found : (x y : Point) (rest : List Point) → IsWay ring b c x y rest → Reaches ring y x a → Carries ring a b c x
+      → IsStrict IsRight ring b x y → AreFacing ring a b c
+  right_found x y rest way reach carries strict =
+      let first = way_begins ring b c x y rest way in
+      inr (
+        carries.right (parts_here ring some simple b c x y first.clear (way_reaches ring some simple b c x y rest way) strict.p strict.first
+            IsRight IsLeft right_and_left strict.side_first),
+        turns_at_end ring some simple a b c sees IsRight IsLeft right_and_left (sorts_right ring some simple b) x y rest way reach strict,
+      )
+
+  -- the last step doesn't go towards b,
+  last_not_towards : (x y : Point) → IsStepPast ring b x y → Reaches ring y x a → y ≡ c → ¬ IsOnPath ring b x y
+  last_not_towards x y step reach end on =
+      let other = last_other ring b x y step in
+      let beyond = step_beyond ring some simple x y step.clear b other on in
+      not_c (subst (IsOnPath ring a b) end (on_path_back ring some simple b a y
+      (on_path_ahead ring some simple b a y x (step_back ring x y step.clear) reach beyond.0 beyond.1 other on)))
+
+  module _ (x y z : Point) (rest : List Point) (first : IsStepPast ring b x y) (joined : AreJoined ring y x z) (way : IsWay ring b c y z rest)
+      (on : IsOnPath ring b x y) (n : Point) (step : IsFirstStep ring y b n) where
+    -- and along a step towards it the side from its end is that from its begin
+    carries_on : (Side Other : Triple → Triple → Triple → Type 0) → AreSides Side Other → IsTo Side Other ring y c b → IsTo Side Other ring x c b
+    carries_on Side Other sides to =
+        let second = way_begins ring b c y z rest way in
+        turns_over Side Other sides ring some simple x y c b first.clear
+        (joined_ahead ring some simple b c y z second.clear (way_reaches ring some simple b c y z rest way) n step x joined)
+        (λ p step_too. joined_back ring y p x (joined_first ring some simple x y first.clear b (last_other ring b x y first) on
+        (sight_step ring some simple y x (step_back ring x y first.clear)) p step_too)) to
+
+  -- so where the first step doesn't go away, the two sides are one
+  faces_on : (x y : Point) (rest : List Point) → IsWay ring b c x y rest → Reaches ring y x a → ¬ IsOnPath ring b y x → Carries ring a b c x
+      → AreFacing ring a b c
+  faces_on x y [] way reach not_away carries = elim (sorts_left ring some simple b x y (sees x y way.0.clear way.0.off)) [
+    | goes_away on ↦ absurd (not_away on)
+    | goes_towards on ↦ absurd (last_not_towards x y way.0 reach way.1 on)
+    | on_side strict ↦ left_found x y [] way reach carries strict
+    | on_other strict ↦ right_found x y [] way reach carries strict
+  ]
+  faces_on x y (z ∷ rest) way reach not_away carries = elim (sorts_left ring some simple b x y (sees x y way.0.clear way.0.off)) [
+    | goes_away on ↦ absurd (not_away on)
+    | goes_towards on ↦
+        let second = way_begins ring b c y z rest way.2 in
+        let other = last_other ring b x y way.0 in
+        let beyond = step_beyond ring some simple x y way.0.clear b other on in
+        let n = beyond.0 in
+        let step = beyond.1 in
+        let on_left = carries_on x y z rest way.0 way.1 way.2 on n step IsLeft IsRight left_and_right in
+        let on_right = carries_on x y z rest way.0 way.1 way.2 on n step IsRight IsLeft right_and_left in
+        faces_on y z rest way.2 (reach_back ring some simple a b c x y z way.0 second way.1 reach)
+        (towards_then_away ring some simple b x y z n way.0.clear second.clear way.1 (first_other ring b x y way.0) other
+        (last_other ring b y z second) step on)
+        (record { left = λ to. carries.left (on_left to); right = λ to. carries.right (on_right to) })
+    | on_side strict ↦ left_found x y (z ∷ rest) way reach carries strict
+    | on_other strict ↦ right_found x y (z ∷ rest) way reach carries strict
+  ]
+
+-- where a way goes from one of three free points to another, the third is seen from the two on one side of the way
+pub faces : (ring : List Point) → 3 ≤ length ring → IsSimple ring → (a b c : Point) → SeesSteps ring b → AreFree ring a b c → (n : Point)
+    → IsFirstStep ring a b n → (y : Point) (rest : List Point) → IsWay ring b c a y rest → AreFacing ring a b c
+faces ring some simple a b c sees free n step y rest way =
+    let first = way_begins ring b c a y rest way in
+    let reach = way_reaches ring some simple b c a y rest way in
+    faces_on ring some simple a b c sees free.not_c a y rest way (reach_end ring some simple y a (step_back ring a y first.clear))
+    (λ on. free.not_a (on_path_ahead ring some simple b c a y first.clear reach n step (first_other ring b a y first) on))
+    (record { left = λ to. to; right = λ to. to })

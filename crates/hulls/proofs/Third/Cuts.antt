@@ -1,0 +1,134 @@
+-- Paths read backward, as lists that begin with their first step, and from a point on them to their end.
+use Rattle.std.proofs.Common.{◌≡◌, ◌≢◌, inl, inr, refl, sym, subst, ap, ◌∙◌, ◌+◌, ◌-◌, ◌<◌, ◌≤◌, List, [], ◌∷◌, length, reverse, drop, arith}
+use Rattle.std.proofs.lemmas.Bool.{cases_lt}
+use Rattle.std.proofs.lemmas.List.{length-drop, length-reverse}
+use Rattle.plane.proofs.Points.{whole_is_point}
+use Rattle.plane.proofs.Segments.{on_reversed}
+use Rattle.plane.specs.Point.{Point, whole}
+use Rattle.rings.specs.Chain.{IsPath, point_at}
+use Rattle.rings.specs.From.{IsBefore}
+use Rattle.rings.specs.Simple.{IsSimple}
+use Rattle.funnels.proofs.Touched.{point_cases}
+use Rattle.hulls.proofs.Joined.{back_at, back_bent, goes_on_step, path_is_taut, rest_at, rest_bent}
+use Rattle.hulls.proofs.Third.Prolonged.{bent_is_path, with_point, with_point_ends}
+use Rattle.hulls.proofs.Turning.{one_path}
+use Rattle.hulls.specs.Joined.{IsFirstStep, IsOnPath}
+
+-- ---- first steps
+
+-- a path goes first to one point
+pub same_step : (ring : List Point) (v a p q : Point) → IsFirstStep ring v a p → IsFirstStep ring v a q → p ≡ q
+same_step ring v a p q one other =
+    sym one.is_next ∙ ap (λ path. point_at path 1) (one_path ring v a one.path other.path one.is_path other.is_path) ∙ other.is_next
+
+-- what a list begins with is the first step,
+pub step_of_list : (ring : List Point) (v a p : Point) (rest : List Point) → IsPath ring v a (v ∷ p ∷ rest) → IsFirstStep ring v a p
+step_of_list ring v a p rest is = record { path = v ∷ p ∷ rest; is_path = is; more = omega arith; is_next = refl }
+
+-- and a path with a first step is a list that begins so
+list_of_path : (ring : List Point) (v a p : Point) (path : List Point) → IsPath ring v a path → 1 < length path → point_at path 1 ≡ p
+    → (rest : List Point) × IsPath ring v a (v ∷ p ∷ rest)
+list_of_path ring v a p [] is more next = absurd (omega (arith, more))
+list_of_path ring v a p (u ∷ []) is more next = absurd (omega (arith, more))
+list_of_path ring v a p (u ∷ w ∷ rest) is more next = (
+  rest,
+  subst (λ z. IsPath ring v a (z ∷ p ∷ rest)) (path_is_taut ring v a (u ∷ w ∷ rest) is).first
+      (subst (λ z. IsPath ring v a (u ∷ z ∷ rest)) next is),
+)
+
+pub list_of_step : (ring : List Point) (v a p : Point) → IsFirstStep ring v a p → (rest : List Point) × IsPath ring v a (v ∷ p ∷ rest)
+list_of_step ring v a p step = list_of_path ring v a p step.path step.is_path step.more step.is_next
+
+module _ (ring : List Point) (some : 3 ≤ length ring) (simple : IsSimple ring) where
+  -- ---- backward
+
+  -- a path read backward is the path back,
+  path_back : (s t : Point) (path : List Point) → IsPath ring s t path → IsPath ring t s (reverse path)
+  path_back s t path is =
+      let taut = path_is_taut ring s t path is in
+      let n = length-reverse path in
+      let more = taut.bent.chain.some in
+      bent_is_path ring some simple (reverse path) (back_bent ring path taut.bent) t s
+      (back_at path 0 (length path - 1) (omega arith) ∙ taut.last)
+      (back_at path (length (reverse path) - 1) 0 (omega arith) ∙ taut.first)
+
+  -- so a point on it is on that,
+  pub on_path_back : (a b v : Point) → IsOnPath ring a b v → IsOnPath ring b a v
+  on_path_back a b v on =
+      let n = length-reverse on.path in
+      let k = on.place in
+      let within = on.within in
+      let l = length on.path - 2 - k in
+      let here = back_at on.path l (k + 1) (omega arith) in
+      let next = back_at on.path (l + 1) k (omega arith) in
+      record {
+        path = reverse on.path;
+        is_path = path_back a b on.path on.is_path;
+        place = l;
+        within = omega arith;
+        on = rw (here, next) (on_reversed (whole v) (whole (point_at on.path k)) (whole (point_at on.path (k + 1))) on.on);
+      }
+
+  -- and the point before the last is the first one of the path back
+  pub step_of_before : (b x p : Point) → IsBefore ring b x p → IsFirstStep ring x b p
+  step_of_before b x p before =
+      let n = length-reverse before.path in
+      let more = before.more in
+      record {
+        path = reverse before.path;
+        is_path = path_back b x before.path before.is_path;
+        more = omega arith;
+        is_next = back_at before.path 1 (length before.path - 2) (omega arith) ∙ before.is;
+      }
+
+  -- ---- from a point on a path
+
+  module _ (a b v : Point) (on : IsOnPath ring a b v) (other : v ≢ b) where
+    -- within a step the path on goes to where the step ends,
+    cut_within : v ≢ point_at on.path (on.place + 1) → IsFirstStep ring v b (point_at on.path (on.place + 1))
+    cut_within differ =
+        let taut = path_is_taut ring a b on.path on.is_path in
+        let k = on.place in
+        let within = on.within in
+        let rest = drop (k + 1) on.path in
+        let count = length-drop (k + 1) on.path in
+        let there = rest_bent ring on.path taut.bent (k + 1) within in
+        let on_to = goes_on_step ring on.path taut.bent v k within on.on differ in
+        let v_in = taut.bent.chain.sees k within (whole v) (whole_is_point v) on.on in
+        let end = rest_at on.path (k + 1) (length rest - 1) (length on.path - 1) (omega arith) in
+        record {
+          path = v ∷ rest;
+          is_path = bent_is_path ring some simple (v ∷ rest) (with_point ring v rest there v_in on_to) v b refl
+              (with_point_ends ring v rest there v_in on_to ∙ end ∙ taut.last);
+          more = omega arith;
+          is_next = rest_at on.path (k + 1) 0 (k + 1) (omega arith);
+        }
+
+    -- and at its end to the next point,
+    cut_at : v ≡ point_at on.path (on.place + 1) → IsFirstStep ring v b (point_at on.path (on.place + 1 + 1))
+    cut_at same =
+        let taut = path_is_taut ring a b on.path on.is_path in
+        let k = on.place in
+        let within = on.within in
+        let rest = drop (k + 1) on.path in
+        let count = length-drop (k + 1) on.path in
+        let there = rest_bent ring on.path taut.bent (k + 1) within in
+        let end = rest_at on.path (k + 1) (length rest - 1) (length on.path - 1) (omega arith) in
+        record {
+          path = rest;
+          is_path = bent_is_path ring some simple rest there v b (rest_at on.path (k + 1) 0 (k + 1) (omega arith) ∙ sym same) (end ∙ taut.last);
+          more = elim (cases_lt (k + 1 + 1) (length on.path)) [
+            | inl less ↦ omega arith
+            | inr none ↦
+                let last : k + 1 ≡ length on.path - 1 = omega arith in
+                absurd (other (same ∙ ap (point_at on.path) last ∙ taut.last))
+          ];
+          is_next = rest_at on.path (k + 1) 1 (k + 1 + 1) (omega arith);
+        }
+
+    -- so there is a path on to the end
+    pub cut : (n : Point) × IsFirstStep ring v b n
+    cut = elim (point_cases v (point_at on.path (on.place + 1))) [
+      | inl same ↦ (point_at on.path (on.place + 1 + 1), cut_at same)
+      | inr differ ↦ (point_at on.path (on.place + 1), cut_within differ)
+    ]

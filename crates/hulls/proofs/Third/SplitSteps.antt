@@ -1,0 +1,175 @@
+-- Steps split at the vertices on them, one vertex after the other.
+use Rattle.std.proofs.Common.{◌≡◌, ◌≢◌, ◌⊎◌, inl, inr, refl, sym, subst, ℕ, suc, ◌<◌, List, [], ◌∷◌, arith}
+use Rattle.std.proofs.lemmas.Bool.{cases_lt}
+use Rattle.plane.proofs.Points.{same_whole, whole_is_point}
+use Rattle.plane.proofs.Segments.{later_between, on_antisym, on_first_end, on_last_end, on_nested, on_or_not, on_reversed}
+use Rattle.plane.specs.Point.{Point, whole}
+use Rattle.plane.specs.Segment.{On}
+use Rattle.rings.specs.Inside.{IsIn}
+use Rattle.rings.specs.Ring.{vertex}
+use Rattle.rings.specs.Sees.{Sees}
+use Rattle.meshes.proofs.Sight.{sees_before}
+use Rattle.funnels.proofs.Bends.{on_ray_back}
+use Rattle.funnels.proofs.Touched.{point_cases}
+use Rattle.hulls.proofs.Cones.{IsBetween, joined_back}
+use Rattle.hulls.proofs.Joined.{bend_from_ray, sees_back}
+use Rattle.hulls.proofs.Third.Rays.{ray_of_on}
+use Rattle.hulls.proofs.Third.Ways.{IsWayOf}
+use Rattle.hulls.specs.Joined.{AreJoined}
+
+-- a step that b is not on, past none of the first n vertices of the ring
+pub record IsStepPastFirst (ring : List Point) (b : Point) (n : ℕ) (x y : Point) : Type 0 where
+  pub x_in : IsIn ring (whole x)
+  pub y_in : IsIn ring (whole y)
+  pub differ : x ≢ y
+  pub sees : Sees ring (whole x) (whole y)
+  pub off : ¬ On (whole b) (whole x) (whole y)
+  pub clear : (i : ℕ) → i < n → ¬ IsBetween (vertex ring i) x y
+
+-- a point is strictly between two others or it is not
+between_or_not : (v x y : Point) → IsBetween v x y ⊎ ¬ IsBetween v x y
+between_or_not v x y = elim (point_cases v x) [
+  | inl same ↦ inr (λ between. between.0 same)
+  | inr not_x ↦ elim (point_cases v y) [
+    | inl same ↦ inr (λ between. between.1 same)
+    | inr not_y ↦ elim (on_or_not (whole v) (whole x) (whole y) (whole_is_point v) (whole_is_point x) (whole_is_point y)) [
+      | inl on ↦ inl (not_x, not_y, on)
+      | inr off ↦ inr (λ between. off between.2)
+    ]
+  ]
+]
+
+-- ---- one step
+
+-- what is on the way from x to a point of the way from x to y is on that
+on_part : (u x v y : Point) → On (whole v) (whole x) (whole y) → On (whole u) (whole x) (whole v) → On (whole u) (whole x) (whole y)
+on_part u x v y on on_u =
+    on_nested (whole u) (whole x) (whole v) (whole x) (whole y) (whole_is_point u) (whole_is_point x) (whole_is_point v) (whole_is_point x)
+    (whole_is_point y) (on_first_end (whole x) (whole y)) on on_u
+
+-- also what is strictly between
+between_part : (u x v y : Point) → IsBetween v x y → IsBetween u x v → IsBetween u x y
+between_part u x v y between in_part = (
+  in_part.0,
+  (λ same. in_part.1 (same_whole u v
+      (on_antisym (whole u) (whole v) (whole x) (whole_is_point u) (whole_is_point v) (whole_is_point x)
+      in_part.2 (subst (λ z. On (whole v) (whole x) (whole z)) (sym same) between.2)))),
+  on_part u x v y between.2 in_part.2,
+)
+
+-- what is strictly between two points is so in the other order
+turned : (x y v : Point) → IsBetween v y x → IsBetween v x y
+turned x y v between = (between.1, between.0, on_reversed (whole v) (whole y) (whole x) between.2)
+
+module _ (ring : List Point) (b : Point) (n : ℕ) where
+  -- a step read backward
+  first_back : (x y : Point) → IsStepPastFirst ring b n x y → IsStepPastFirst ring b n y x
+  first_back x y step = record {
+    x_in = step.y_in;
+    y_in = step.x_in;
+    differ = λ e. step.differ (sym e);
+    sees = sees_back ring x y step.sees;
+    off = λ on. step.off (on_reversed (whole b) (whole y) (whole x) on);
+    clear = λ i h between. step.clear i h (turned x y (vertex ring i) between);
+  }
+
+  -- a step without the next vertex on it goes past that too,
+  unsplit : (x y : Point) → IsStepPastFirst ring b n x y → ¬ IsBetween (vertex ring n) x y → IsStepPastFirst ring b (suc n) x y
+  unsplit x y step none = record {
+    x_in = step.x_in;
+    y_in = step.y_in;
+    differ = step.differ;
+    sees = step.sees;
+    off = step.off;
+    clear = λ i h. elim (cases_lt i n) [
+      | inl less ↦ step.clear i less
+      | inr not_less ↦ let last : n ≡ i = omega arith in subst (λ k. ¬ IsBetween (vertex ring k) x y) last none
+    ];
+  }
+
+  -- and so does the part to that vertex
+  part : (x y : Point) → IsStepPastFirst ring b n x y → IsBetween (vertex ring n) x y → IsStepPastFirst ring b (suc n) x (vertex ring n)
+  part x y step between =
+      let v = vertex ring n in
+      unsplit x v (record {
+        x_in = step.x_in;
+        y_in = step.sees (whole v) (whole_is_point v) between.2;
+        differ = λ e. between.0 (sym e);
+        sees = sees_before ring (whole x) (whole v) (whole y) (whole_is_point x) (whole_is_point v) (whole_is_point y) between.2 step.sees;
+        off = λ on. step.off (on_part b x v y between.2 on);
+        clear = λ i h in_part. step.clear i h (between_part (vertex ring i) x v y between in_part);
+      }) (λ in_part. in_part.1 refl)
+
+module _ (ring : List Point) (b : Point) (n : ℕ) where
+  -- and that from it
+  part_from : (x y : Point) → IsStepPastFirst ring b n x y → IsBetween (vertex ring n) x y → IsStepPastFirst ring b (suc n) (vertex ring n) y
+  part_from x y step between =
+      first_back ring b (suc n) y (vertex ring n) (part ring b n y x (first_back ring b n x y step) (turned y x (vertex ring n) between))
+
+-- points that are joined are so with a nearer point of a ray
+joined_nearer : (ring : List Point) (v x n z : Point) → On (whole x) (whole v) (whole n) → x ≢ v → AreJoined ring v n z → AreJoined ring v x z
+joined_nearer ring v x n z on differ (inl between) =
+    inl (
+      (λ e. differ (sym e)),
+      between.1,
+      later_between (whole x) (whole n) (whole v) (whole z) (whole_is_point x) (whole_is_point n) (whole_is_point v) (whole_is_point z)
+          (on_reversed (whole x) (whole v) (whole n) on) between.2,
+    )
+joined_nearer ring v x n z on differ (inr bend) = inr (bend_from_ray ring n x v z (on_ray_back (ray_of_on v x n on differ)) bend)
+
+-- ---- ways
+
+-- a way past the first n vertices that goes first to a point of the way from x to y
+pub record IsSplitWay (ring : List Point) (b : Point) (n : ℕ) (c x y : Point) : Type 0 where
+  pub next : Point
+  pub rest : List Point
+  pub way : IsWayOf (IsStepPastFirst ring b n) ring c x next rest
+  pub on : On (whole next) (whole x) (whole y)
+  pub differ : next ≢ x
+
+module _ (ring : List Point) (b : Point) (n : ℕ) (c : Point) where
+  -- a way past the first n vertices is split at the next
+  pub split : (x y : Point) (rest : List Point) → IsWayOf (IsStepPastFirst ring b n) ring c x y rest → IsSplitWay ring b (suc n) c x y
+  split x y [] way = elim (between_or_not (vertex ring n) x y) [
+    | inl between ↦ record {
+      next = vertex ring n;
+      rest = y ∷ [];
+      way = (part ring b n x y way.0 between, inl between, (part_from ring b n x y way.0 between, way.1));
+      on = between.2;
+      differ = between.0;
+    }
+    | inr none ↦ record {
+      next = y;
+      rest = [];
+      way = (unsplit ring b n x y way.0 none, way.1);
+      on = on_last_end (whole x) (whole y);
+      differ = λ e. way.0.differ (sym e);
+    }
+  ]
+  split x y (z ∷ rest) way =
+      let later = split y z rest way.2 in
+      let joined = joined_back ring y later.next x (joined_nearer ring y later.next z x later.on later.differ (joined_back ring y x z way.1)) in
+      elim (between_or_not (vertex ring n) x y) [
+        | inl between ↦ record {
+          next = vertex ring n;
+          rest = y ∷ later.next ∷ later.rest;
+          way = (
+            part ring b n x y way.0 between,
+            inl between,
+            (
+              part_from ring b n x y way.0 between,
+              joined_nearer ring y (vertex ring n) x later.next (on_reversed (whole (vertex ring n)) (whole x) (whole y) between.2) between.1 joined,
+              later.way,
+            ),
+          );
+          on = between.2;
+          differ = between.0;
+        }
+        | inr none ↦ record {
+          next = y;
+          rest = later.next ∷ later.rest;
+          way = (unsplit ring b n x y way.0 none, joined, later.way);
+          on = on_last_end (whole x) (whole y);
+          differ = λ e. way.0.differ (sym e);
+        }
+      ]
