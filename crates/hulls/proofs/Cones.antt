@@ -8,7 +8,7 @@ mod OneSide
 pub use Rattle.hulls.proofs.Cones.OneSide.{joined_one_side}
 -- Beside two joined points, a third that is joined with neither, nor on a line with one of them, has them on two sides.
 mod SameSide
-pub use Rattle.hulls.proofs.Cones.SameSide.{same_side_of_joined}
+pub use Rattle.hulls.proofs.Cones.SameSide.{ahead_of_none, same_side_of_joined}
 -- No three points are joined with each other over one point.
 mod NoThree
 pub use Rattle.hulls.proofs.Cones.NoThree.{no_three_joined}

@@ -1,6 +1,10 @@
 pub mod Cones
+pub mod Entrances
+pub mod Gates
 pub mod Joined
 pub mod Order
+pub mod Outer
 pub mod Round
+pub mod StepsSeen
 pub mod Third
 pub mod Turning

@@ -4,10 +4,12 @@
 mod Sides
 -- Where a number is in a list, how many numbers below a bound a list has, and a list with one more.
 mod Places
+pub use Rattle.hulls.proofs.Round.Places.{HasNoneTwice, IsIn, at_most, is_in_or_not}
 -- From a start the sides close to a round.
 mod Chains
 -- A closed chain has every side, so it is a round.
 mod AllSides
+pub use Rattle.hulls.proofs.Round.AllSides.{after_inner, after_last, place_after}
 -- Two rounds from one number are equal, and from each start there is one.
 mod OneRound
-pub use Rattle.hulls.proofs.Round.OneRound.{round_closes}
+pub use Rattle.hulls.proofs.Round.OneRound.{IsRoundBy, round_closes, same_rounds, side_after, some_in_round}

@@ -1,9 +1,11 @@
 -- Laws of points that paths join over a point, and of how paths turn against each other, as statements. This project's own.
-use Rattle.std.specs.Prelude.{◌↔◌, ◌≤◌, ◌≢◌, ◌⊎◌, List, length}
+use Rattle.std.specs.Prelude.{◌↔◌, ◌≤◌, ◌≢◌, ◌⊎◌, ℕ, List, length}
 use Rattle.plane.specs.Point.{Point, whole}
 use Rattle.plane.specs.Turn.{IsLeft, IsRight, IsStraight}
 use Rattle.rings.specs.Chain.{IsPath}
+use Rattle.rings.specs.Inside.{IsIn}
 use Rattle.rings.specs.Simple.{IsSimple}
+use Rattle.hulls.specs.Inner.{AreAllIn, AreDistinct, IsOuterPair}
 use Rattle.hulls.specs.Joined.{AreJoined, IsFirstStep, IsOnPath}
 use Rattle.hulls.specs.Steps.{SeesSteps}
 use Rattle.hulls.specs.Turning.{AreFree, IsToLeft, IsToRight, StartsRight}
@@ -49,3 +51,17 @@ abbrev pub ThirdLaw : Type 0
 ThirdLaw = (ring : List Point) → 3 ≤ length ring → IsSimple ring → (a b c : Point) → AreFree ring a b c → SeesSteps ring b
     → (ab ac : List Point) → IsPath ring a b ab → IsPath ring a c ac
     → (IsToLeft ring a b c → IsToLeft ring c a b) × (IsToRight ring a b c → IsToRight ring c a b)
+
+-- in a simple ring there is a path between each two points
+abbrev pub PathsLaw : Type 0
+PathsLaw = (ring : List Point) → 3 ≤ length ring → IsSimple ring → (s t : Point) → IsIn ring (whole s) → IsIn ring (whole t)
+    → (path : List Point) × IsPath ring s t path
+
+-- seen from a point of a simple ring, each step past no vertex goes away, or towards it, or has the ends of the paths on one side
+abbrev pub StepsLaw : Type 0
+StepsLaw = (ring : List Point) → 3 ≤ length ring → IsSimple ring → (b : Point) → IsIn ring (whole b) → SeesSteps ring b
+
+-- of two or more points of a simple ring some pair has all others to the left
+abbrev pub OuterPairLaw : Type 0
+OuterPairLaw = (ring : List Point) → 3 ≤ length ring → IsSimple ring → (points : List Point) → 2 ≤ length points → AreDistinct points → AreAllIn ring points
+    → (s : ℕ) × (t : ℕ) × IsOuterPair ring points s t

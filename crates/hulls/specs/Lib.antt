@@ -1,3 +1,4 @@
+pub mod Inner
 pub mod Joined
 pub mod Laws
 pub mod Round

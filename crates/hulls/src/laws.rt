@@ -1,5 +1,6 @@
 // Laws of hulls, each as the contract of a call that does nothing when it runs.
-ghost use Rattle.hulls.specs.Laws.{ExchangeLaw, JoinedPathsLaw, NoThreeJoinedLaw, OneSideLaw, OneWayLaw, OrderLaw, SameSideLaw, ThirdLaw};
+ghost use Rattle.hulls.specs.Laws.{ExchangeLaw, JoinedPathsLaw, NoThreeJoinedLaw, OneSideLaw, OneWayLaw, OrderLaw, OuterPairLaw, PathsLaw};
+ghost use Rattle.hulls.specs.Laws.{SameSideLaw, StepsLaw, ThirdLaw};
 ghost use Rattle.hulls.specs.Round.{RoundLaw};
 
 /// Where three points always turn round each other in one way, and seen from each end of a side the others are in one order, the
@@ -50,4 +51,21 @@ pub fn one_order()
 /// others turn to one side seen from a and from c.
 pub fn from_third()
     ensures { ThirdLaw }
+{}
+
+/// In a simple ring there is a path between each two points.
+pub fn paths()
+    ensures { PathsLaw }
+{}
+
+/// Seen from a point of a simple ring each step past no vertex that the point is not on goes away or towards it, or the paths from it
+/// come to both ends from one side.
+pub fn steps()
+    ensures { StepsLaw }
+{}
+
+/// Two or more points of a simple ring have a pair, neither of them on a path between two others, that has all others that are on none
+/// to the left.
+pub fn outer_pair()
+    ensures { OuterPairLaw }
 {}

@@ -4,6 +4,6 @@
 mod laws;
 
 pub use laws::{
-    exchange, from_third, joined_paths, no_three_joined, one_order, one_side, one_way,
-    round_closes, same_side,
+    exchange, from_third, joined_paths, no_three_joined, one_order, one_side, one_way, outer_pair,
+    paths, round_closes, same_side, steps,
 };

@@ -14,6 +14,7 @@ use Rattle.rings.specs.Ring.{origin}
 use Rattle.meshes.specs.Fits.{Fits}
 use Rattle.meshes.specs.declared.tri.Tri.{Tri}
 use Rattle.funnels.proofs.Trees.{before_differs, path_differs, path_goes_on, path_of_one}
+use Rattle.funnels.proofs.Vertices.{fitted_long, fitted_simple}
 use Rattle.exact_plane.specs.Spot.{IsNamed, point_named}
 use Rattle.exact_plane.specs.declared.turns.Spot.{Spot}
 use Rattle.exact_plane.specs.declared.turns.Spot.TheVariants.{Corner, Goal, Start}
@@ -86,7 +87,8 @@ back_on tree g last out out' (Corner i) name back from =
           let to_it = subst (λ p. IsPath corners start p path) ((kept_of_names corners start tris tree grown name x names).2 start) is in
           subst (IsPath corners start (kept_point corners start last))
           (append_assoc path (t ∷ []) (named_points (kept_point corners start) (corner_names back.numbers)))
-          (back.goes_on corners start tris fits grown (path ++ t ∷ []) (path_goes_on corners tris fits start t x before path to_it));
+          (back.goes_on corners start tris fits grown (path ++ t ∷ [])
+          (path_goes_on corners (fitted_long corners tris fits) (fitted_simple corners tris fits) start t x before path to_it));
     }
 back_on tree g last out out' Goal name back from = absurd back.kept
 
@@ -112,8 +114,8 @@ module _ (tree : Tree) (last at : Spot) (out out' : List Spot) (back : IsGoneBac
       let whole_path = back.goes_on g.corners g.start g.tris g.fits g.grown path is in
       few_numbers back.numbers (length tree.before) (λ i within. back.below i 0 within)
       (λ i j less within same.
-      path_differs g.corners g.tris g.fits g.start (kept last) (path ++ points) whole_path (length path + i) (length path + j)
-      (omega (arith, less)) (omega (arith, length-append path points, count, within))
+      path_differs g.corners (fitted_long g.corners g.tris g.fits) (fitted_simple g.corners g.tris g.fits) g.start (kept last)
+      (path ++ points) whole_path (length path + i) (length path + j) (omega (arith, less)) (omega (arith, length-append path points, count, within))
       (point_of_number kept path back.numbers i (omega (arith, less, within)) ∙ ap (λ n. kept (Corner n)) same
       ∙ sym (point_of_number kept path back.numbers j within)))
 
@@ -125,14 +127,8 @@ module _ (tree : Tree) (last at : Spot) (out out' : List Spot) (back : IsGoneBac
   pub back_room : IsGrown tree → length out' ≤ length out + length tree.before
   back_room g =
       let names = corner_names back.numbers in
-      omega (
-        arith,
-        ap length back.appended,
-        length-append out (reverse names),
-        length-reverse names,
-        length-map back.numbers (λ n. Corner n),
-        back_few g,
-      )
+      let count = length-reverse names ∙ length-map back.numbers (λ n. Corner n) in
+      omega (arith, ap length back.appended, length-append out (reverse names), count, back_few g)
 
   -- ---- at the start
 
@@ -162,7 +158,8 @@ module _ (tree : Tree) (last at : Spot) (out out' : List Spot) (back : IsGoneBac
       path_there =
           back.goes_on corners start tris fits grown (start ∷ [])
           (subst (λ p. IsPath corners start p (start ∷ [])) (sym (none corners start tris grown))
-          (path_of_one corners tris fits start (start_inside corners start tris fits tree grown)))
+          (path_of_one corners (fitted_long corners tris fits) (fitted_simple corners tris fits) start
+          (start_inside corners start tris fits tree grown)))
 
       -- with that for a goal,
       pub back_ends : AppendsPath corners start (kept_point corners start last) out final
@@ -186,5 +183,5 @@ module _ (tree : Tree) (last at : Spot) (out out' : List Spot) (back : IsGoneBac
           let rest : drop (length out) final ≡ names_from_start =
           ap (drop (length out)) appended_names ∙ drop-append_seam out names_from_start in
           subst (λ names. IsPath corners start t (named_points (kept_point corners start) names ++ t ∷ [])) (sym rest)
-          (path_goes_on corners tris fits start t (kept_point corners start last) before
-          (named_points (kept_point corners start) names_from_start) path_there)
+          (path_goes_on corners (fitted_long corners tris fits) (fitted_simple corners tris fits) start t
+          (kept_point corners start last) before (named_points (kept_point corners start) names_from_start) path_there)

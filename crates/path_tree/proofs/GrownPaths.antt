@@ -10,7 +10,7 @@ use Rattle.meshes.proofs.Sight.{triangle_in_ring}
 use Rattle.meshes.specs.Fits.{Fits}
 use Rattle.meshes.specs.declared.tri.Tri.{Tri}
 use Rattle.funnels.proofs.Trees.{path_of_one}
-use Rattle.funnels.proofs.Vertices.{fitted_long}
+use Rattle.funnels.proofs.Vertices.{fitted_long, fitted_simple}
 use Rattle.exact_plane.specs.declared.turns.Spot.{Spot}
 use Rattle.exact_plane.specs.declared.turns.Spot.TheVariants.{Corner, Goal, Start}
 use Rattle.shared_funnel.specs.Listed.{Listed}
@@ -25,11 +25,15 @@ module _ (corners : List Point) (start : Point) (tris : List Tri) (fits : Fits c
       let bent = entered.funnel.funnel.bent.chain in
       subst (λ p. IsIn corners (whole p)) entered.funnel.begins (bent.chain.inside 0 bent.chain.some)
 
-  -- there is a path to a point that something comes before, and to the start
+  -- the start is the path to itself,
+  start_alone : IsIn corners (whole start) → IsPath corners start start (start ∷ [])
+  start_alone = path_of_one corners (fitted_long corners tris fits) (fitted_simple corners tris fits) start
+
+  -- and there is a path to a point that something comes before
   path_of_from : IsIn corners (whole start) → (t : Point) (o : Option Spot) → IsFromNamed corners start t o
       → (path : List Point) × IsPath corners start t path
   path_of_from inside t None same =
-      (start ∷ [], subst (λ p. IsPath corners start p (start ∷ [])) (sym same) (path_of_one corners tris fits start inside))
+      (start ∷ [], subst (λ p. IsPath corners start p (start ∷ [])) (sym same) (start_alone inside))
   path_of_from inside t (Some name) from = (from.2.path, from.2.is_path)
 
   module _ (tree : Tree) (grown : IsGrownFrom corners start tris tree) where
@@ -41,7 +45,7 @@ module _ (corners : List Point) (start : Point) (tris : List Tri) (fits : Fits c
 
     -- and there is a path to each point with a name that is kept
     pub path_kept : (name : Spot) → IsKept tree name → (path : List Point) × IsPath corners start (kept_point corners start name) path
-    path_kept Start kept = (start ∷ [], path_of_one corners tris fits start start_inside)
+    path_kept Start kept = (start ∷ [], start_alone start_inside)
     path_kept (Corner i) below =
         let found = path_of_from start_inside (vertex corners i) (before_at tree i) (grown.parents i (omega (arith, below, grown.vertices))) in
         (found.0, subst (λ p. IsPath corners start p found.0) (kept_vertex corners start tris tree grown i below) found.1)

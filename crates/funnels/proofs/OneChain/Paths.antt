@@ -1,7 +1,7 @@
 -- In a simple ring a taut chain is the path between its ends, and a chain with bends is taut.
-use Rattle.std.proofs.Common.{◌↔◌, refl, subst, sym, ◌∙◌, ◌-◌, ◌≤◌, List, length}
+use Rattle.std.proofs.Common.{◌≡◌, ◌↔◌, refl, subst, sym, ◌∙◌, ◌-◌, ◌≤◌, List, length}
 use Rattle.plane.specs.Point.{Point}
-use Rattle.rings.specs.Chain.{IsBentChain, IsTaut, point_at}
+use Rattle.rings.specs.Chain.{IsBentChain, IsPath, IsTaut, point_at}
 use Rattle.rings.specs.Simple.{IsSimple}
 use Rattle.funnels.proofs.OneChain.OneChains.{no_closed_chain, one_bent_chain}
 use Rattle.funnels.specs.OneChain.{OneTautChainLaw}
@@ -20,3 +20,14 @@ taut_iff_bent ring some simple chain = (
   λ h. h.bent,
   λ bent. record { bent = bent; first = refl; last = refl; single = no_closed_chain ring some simple chain bent },
 )
+
+-- so it is the path between them
+pub bent_is_path : (ring : List Point) → 3 ≤ length ring → IsSimple ring → (chain : List Point) → IsBentChain ring chain → (s t : Point)
+    → point_at chain 0 ≡ s → point_at chain (length chain - 1) ≡ t → IsPath ring s t chain
+bent_is_path ring some simple chain bent s t first last =
+    one_taut_chain ring some simple s t chain (record {
+      bent = bent;
+      first = first;
+      last = last;
+      single = λ same. no_closed_chain ring some simple chain bent (first ∙ same ∙ sym last);
+    })

@@ -1,39 +1,32 @@
 -- In a ring that triangles fit a chain with bends is the path between its ends, and its last point but one comes before the last.
-use Rattle.std.proofs.Common.{◌≡◌, refl, sym, subst, ap, ◌∙◌, List, [], ◌∷◌, ◌++◌, length, ◌-◌, arith}
+use Rattle.std.proofs.Common.{◌≡◌, refl, sym, subst, ap, ◌∙◌, List, [], ◌∷◌, ◌++◌, length, ◌-◌, ◌≤◌, arith}
 use Rattle.std.proofs.lemmas.List.{append_assoc, get_or_append_left, get_or_push, length-append}
 use Rattle.plane.specs.Point.{Point, whole}
 use Rattle.rings.specs.Chain.{IsBentChain, IsPath, point_at}
 use Rattle.rings.specs.From.{IsBefore}
 use Rattle.rings.specs.Inside.{IsIn}
 use Rattle.rings.specs.Ring.{origin}
+use Rattle.rings.specs.Simple.{IsSimple}
 use Rattle.meshes.specs.Fits.{Fits}
 use Rattle.meshes.specs.declared.tri.Tri.{Tri}
 use Rattle.funnels.proofs.Chains.{bent_from_apex}
-use Rattle.funnels.proofs.OneChain.{no_closed_chain, one_taut_chain}
+use Rattle.funnels.proofs.OneChain.{bent_is_path}
 use Rattle.funnels.proofs.Trees.Ways.{first_stays}
 use Rattle.funnels.proofs.Vertices.{fitted_long, fitted_simple}
 
+-- a point of a ring alone is a chain with bends,
+pub bent_of_one : (ring : List Point) (s : Point) → IsIn ring (whole s) → IsBentChain ring (s ∷ [])
+bent_of_one ring s inside = (bent_from_apex ring (s ∷ []) 0 (omega arith) (omega arith) inside).chain
+
+-- and in a simple ring the path from it to itself
+pub path_of_one : (ring : List Point) → 3 ≤ length ring → IsSimple ring → (s : Point) → IsIn ring (whole s) → IsPath ring s s (s ∷ [])
+path_of_one ring some simple s inside = bent_is_path ring some simple (s ∷ []) (bent_of_one ring s inside) s s refl refl
+
 module _ (corners : List Point) (tris : List Tri) (fits : Fits corners tris) where
-  -- the chain is the path,
+  -- a chain with bends is the path,
   pub path_of_bent : (chain : List Point) → IsBentChain corners chain → (s t : Point) → point_at chain 0 ≡ s
       → point_at chain (length chain - 1) ≡ t → IsPath corners s t chain
-  path_of_bent chain bent s t first last =
-      let three = fitted_long corners tris fits in
-      let simple = fitted_simple corners tris fits in
-      one_taut_chain corners three simple s t chain (record {
-        bent = bent;
-        first = first;
-        last = last;
-        single = λ same. no_closed_chain corners three simple chain bent (first ∙ same ∙ sym last);
-      })
-
-  -- a point of the ring alone is one,
-  pub bent_of_one : (s : Point) → IsIn corners (whole s) → IsBentChain corners (s ∷ [])
-  bent_of_one s inside = (bent_from_apex corners (s ∷ []) 0 (omega arith) (omega arith) inside).chain
-
-  -- so it is the path from it to itself
-  pub path_of_one : (s : Point) → IsIn corners (whole s) → IsPath corners s s (s ∷ [])
-  path_of_one s inside = path_of_bent (s ∷ []) (bent_of_one s inside) s s refl refl
+  path_of_bent = bent_is_path corners (fitted_long corners tris fits) (fitted_simple corners tris fits)
 
   module _ (way : List Point) (s : Point) where
     -- where its last point follows others,

@@ -23,7 +23,7 @@ module _ (corners : List Point) (tris : List Tri) (fits : Fits corners tris) (k 
   pub before_at_home : (s y : Point) → IsInTri corners (tri_at tris k) (whole s) → IsInTri corners (tri_at tris k) (whole y)
       → ¬ (s ≡ y) → IsBefore corners s y s
   before_at_home s y in_s in_y differ =
-      let alone = bent_of_one corners tris fits s (triangle_in_ring corners tris fits k within (whole s) (whole_is_point s) in_s) in
+      let alone = bent_of_one corners s (triangle_in_ring corners tris fits k within (whole s) (whole_is_point s) in_s) in
       before_of_bent corners tris fits [] s s y
       (chain_more (s ∷ []) s y refl corners alone
       (sees_in_triangle corners tris fits k within (whole s) (whole y) (whole_is_point s) (whole_is_point y) in_s in_y)

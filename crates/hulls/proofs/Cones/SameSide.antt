@@ -22,7 +22,7 @@ module _ (side : Bool) (ring : List Point) (v n : Point) where
       (weak_order (turned_negative (turning_swap side v (whole n) (whole w)) ahead_w))
 
   -- so one of two joined points that are ahead of n is joined with it
-  ahead_of_none : (u w : Point) → AreJoined ring v u w → ¬ AreJoined ring v u n → ¬ AreJoined ring v w n
+  pub ahead_of_none : (u w : Point) → AreJoined ring v u w → ¬ AreJoined ring v u n → ¬ AreJoined ring v w n
       → pos 0 <ℤ turning side v (whole n) (whole u) → pos 0 <ℤ turning side v (whole n) (whole w) → ⊥
   ahead_of_none u w (inl between) not_u not_w ahead_u ahead_w = positive_not_negative ahead_w (across side v u w n between ahead_u)
   ahead_of_none u w (inr bend) not_u not_w ahead_u ahead_w = elim (sign (turning side v (whole u) (whole w))) [

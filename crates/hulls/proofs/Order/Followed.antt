@@ -67,7 +67,7 @@ module _ (ring : List Point) (some : 3 ≤ length ring) (simple : IsSimple ring)
 module _ (ring : List Point) (some : 3 ≤ length ring) (simple : IsSimple ring) (v q : Point) (second third : List Point)
     (bent : IsBentChain ring (v ∷ q ∷ second)) (bent_too : IsBentChain ring (v ∷ q ∷ third)) where
   -- a way that is to the left of another is to the left of what goes on with that
-  left_of_alike : (p : Point) (first : List Point) → HasFirst third → TurnsLeft v p first q second → TurnsLeft v p first q third
+  pub left_of_alike : (p : Point) (first : List Point) → HasFirst third → TurnsLeft v p first q second → TurnsLeft v p first q third
   left_of_alike p first more (apart left) = apart left
   left_of_alike p first more (first_nearer s rest on is right) = first_nearer s rest on is right
   left_of_alike p first more (second_nearer s rest on is left) =
@@ -76,7 +76,7 @@ module _ (ring : List Point) (some : 3 ≤ length ring) (simple : IsSimple ring)
       (bend_after ring v q more.r third more.rest bent_too more.is) left)
 
   -- and what goes on with one is to the right of what that is to the right of
-  right_of_alike : (r : Point) (last : List Point) → HasFirst second → TurnsLeft v q third r last → TurnsLeft v q second r last
+  pub right_of_alike : (r : Point) (last : List Point) → HasFirst second → TurnsLeft v q third r last → TurnsLeft v q second r last
   right_of_alike r last more (apart left) = apart left
   right_of_alike r last more (first_nearer s rest on is right) =
       first_nearer more.r more.rest on more.is

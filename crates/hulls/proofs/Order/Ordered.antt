@@ -4,7 +4,7 @@ use Rattle.plane.specs.Point.{Point}
 use Rattle.rings.specs.Chain.{IsBentChain, IsPath, point_at}
 use Rattle.rings.specs.Simple.{IsSimple}
 use Rattle.hulls.proofs.Joined.{path_is_taut, rest_at}
-use Rattle.hulls.proofs.Order.Followed.{left_follows}
+use Rattle.hulls.proofs.Order.Followed.{AreAhead, left_follows}
 use Rattle.hulls.proofs.Order.Starts.{IsRightOn, ahead_of_ray}
 use Rattle.hulls.proofs.Order.Ways.{IsLeftOf, TurnsLeft}
 use Rattle.hulls.specs.Turning.{IsToLeft, StartsRight}
@@ -76,17 +76,17 @@ first_and_rest (p ∷ rest) h = refl
 
 module _ (ring : List Point) (t u : Point) (path : List Point) (is : IsPath ring t u path) where
   -- the path from t begins with it
-  path_begins : path ≡ t ∷ drop 1 path
+  pub path_begins : path ≡ t ∷ drop 1 path
   path_begins =
       let taut = path_is_taut ring t u path is in
       first_and_rest path taut.bent.chain.some ∙ ap (λ x. x ∷ drop 1 path) taut.first
 
   -- and has bends
-  path_bent : IsBentChain ring (t ∷ drop 1 path)
+  pub path_bent : IsBentChain ring (t ∷ drop 1 path)
   path_bent = subst (IsBentChain ring) path_begins (path_is_taut ring t u path is).bent
 
   -- it is the only one
-  only_path : (other : List Point) → IsPath ring t u other → other ≡ path
+  pub only_path : (other : List Point) → IsPath ring t u other → other ≡ path
   only_path other is_too = (is other).0 (path_is_taut ring t u other is_too)
 
 -- the path begins where it starts to the right
@@ -97,7 +97,7 @@ next_is_right ring t e u starts =
 
 module _ (ring : List Point) (t u v : Point) (one other : List Point) (is : IsPath ring t u one) (is_other : IsPath ring t v other) where
   -- where v is to the left of u, the path to it is to the left of that to u,
-  left_of_paths : IsToLeft ring t u v → IsLeftOf t (drop 1 one) (drop 1 other)
+  pub left_of_paths : IsToLeft ring t u v → IsLeftOf t (drop 1 one) (drop 1 other)
   left_of_paths h =
       let same = only_path ring t u one is _ h.is_first in
       let same_other = only_path ring t v other is_other _ h.is_second in
@@ -107,7 +107,7 @@ module _ (ring : List Point) (t u v : Point) (one other : List Point) (is : IsPa
       (path_is_taut ring t u _ h.is_first).first (left_from_first h.v h.p h.q h.first h.second h.differ h.turns h.front)))
 
   -- and nowhere else
-  left_by_paths : IsLeftOf t (drop 1 one) (drop 1 other) → IsToLeft ring t u v
+  pub left_by_paths : IsLeftOf t (drop 1 one) (drop 1 other) → IsToLeft ring t u v
   left_by_paths left =
       let parting = parting_of t (drop 1 one) (drop 1 other) left in
       record {
@@ -123,7 +123,16 @@ module _ (ring : List Point) (t u v : Point) (one other : List Point) (is : IsPa
         turns = parting.turns;
       }
 
--- what is to the left of one that is to the left of another is to the left of that
+-- where three paths start ahead of one line, what is to the left of one that is to the left of another is to the left of that
+pub ordered_ahead : (ring : List Point) → 3 ≤ length ring → IsSimple ring → (t u v w : Point) (one two three : List Point) → IsPath ring t u one
+    → IsPath ring t v two → IsPath ring t w three → AreAhead t (point_at (drop 1 one) 0) (point_at (drop 1 two) 0) (point_at (drop 1 three) 0)
+    → IsToLeft ring t u v → IsToLeft ring t v w → IsToLeft ring t u w
+ordered_ahead ring some simple t u v w one two three is_one is_two is_three ahead h k =
+    left_by_paths ring t u w one three is_one is_three
+    (left_follows ring some simple t (drop 1 one) (drop 1 two) (drop 1 three) (path_bent ring t u one is_one) (path_bent ring t v two is_two)
+    (path_bent ring t w three is_three) ahead (left_of_paths ring t u v one two is_one is_two h) (left_of_paths ring t v w two three is_two is_three k))
+
+-- so it is where they start along one ray or to the right of it
 pub ordered : (ring : List Point) → 3 ≤ length ring → IsSimple ring → (t e u v w : Point) → t ≢ e → StartsRight ring t e u
     → StartsRight ring t e v → StartsRight ring t e w → IsToLeft ring t u v → IsToLeft ring t v w → IsToLeft ring t u w
 ordered ring some simple t e u v w differ right_u right_v right_w h k =
@@ -132,8 +141,4 @@ ordered ring some simple t e u v w differ right_u right_v right_w h k =
     let three = right_w.step in
     let ahead = ahead_of_ray t e differ _ _ _ (next_is_right ring t e u right_u) (next_is_right ring t e v right_v)
     (next_is_right ring t e w right_w) in
-    left_by_paths ring t u w one.path three.path one.is_path three.is_path
-    (left_follows ring some simple t (drop 1 one.path) (drop 1 two.path) (drop 1 three.path) (path_bent ring t u one.path one.is_path)
-    (path_bent ring t v two.path two.is_path) (path_bent ring t w three.path three.is_path) ahead
-    (left_of_paths ring t u v one.path two.path one.is_path two.is_path h)
-    (left_of_paths ring t v w two.path three.path two.is_path three.is_path k))
+    ordered_ahead ring some simple t u v w one.path two.path three.path one.is_path two.is_path three.is_path ahead h k

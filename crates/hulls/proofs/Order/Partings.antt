@@ -56,12 +56,12 @@ module _ (v n : Point) where
   }
 
 -- two points, each nearer to v than the other, are one
-nearer_each : (v p q : Point) → On (whole p) (whole v) (whole q) → On (whole q) (whole v) (whole p) → p ≡ q
+pub nearer_each : (v p q : Point) → On (whole p) (whole v) (whole q) → On (whole q) (whole v) (whole p) → p ≡ q
 nearer_each v p q on back =
     same_whole p q (on_antisym (whole p) (whole q) (whole v) (whole_is_point p) (whole_is_point q) (whole_is_point v) on back)
 
 -- from nearer to nearer
-nearer_on : (v p q r : Point) → On (whole p) (whole v) (whole q) → On (whole q) (whole v) (whole r) → On (whole p) (whole v) (whole r)
+pub nearer_on : (v p q r : Point) → On (whole p) (whole v) (whole q) → On (whole q) (whole v) (whole r) → On (whole p) (whole v) (whole r)
 nearer_on v p q r first last =
     on_nested (whole p) (whole v) (whole q) (whole v) (whole r) (whole_is_point p) (whole_is_point v) (whole_is_point q) (whole_is_point v)
     (whole_is_point r) (on_first_end (whole v) (whole r)) last first

@@ -1,7 +1,8 @@
--- Points on the ray from t through e, or to the right of it: all are ahead of one line through t.
+-- Points on the ray from t through e, or to the right of it, or to the left of it: all are ahead of one line through t.
 use Rattle.std.proofs.Common.{◌≡◌, ◌≢◌, ◌⊎◌, inl, inr, refl, sym, subst, ℤ, pos, neg_ℤ, ◌+ℤ◌, ◌-ℤ◌, ◌*ℤ◌, ◌<ℤ◌, ◌≤ℤ◌, [], ◌∷◌, arith}
 use Rattle.std.proofs.lemmas.Int.{ints}
 use Rattle.integer_algebra.proofs.Certificate.{product_zero}
+use Rattle.integer_algebra.proofs.Laws.{mul-neg, neg-mul}
 use Rattle.integer_algebra.proofs.Polynomial.{lit, neg, var, ◌⊕◌, ◌⊖◌, ◌⊗◌, same_value}
 use Rattle.integer_algebra.proofs.SignSteps.{opposite_not_negative, weak}
 use Rattle.integer_algebra.proofs.Signs.{lt_or_le, mul_order, squares_positive}
@@ -9,7 +10,7 @@ use Rattle.plane.proofs.Points.{same_whole, whole_is_point}
 use Rattle.plane.proofs.Turns.{on_of_combination, written_determinant}
 use Rattle.plane.specs.Point.{Point, whole}
 use Rattle.plane.specs.Segment.{On}
-use Rattle.plane.specs.Turn.{IsRight, IsStraight, determinant}
+use Rattle.plane.specs.Turn.{IsLeft, IsRight, IsStraight, determinant}
 use Rattle.hulls.proofs.Order.Followed.{AreAhead}
 
 -- ---- how far a point is ahead
@@ -41,6 +42,12 @@ outweighs : (n d f : ℤ) → pos 0 <ℤ n → pos 0 <ℤ (n +ℤ f) → d <ℤ 
 outweighs n d f hn h right =
     let far = mul_order d (neg_ℤ (pos 1)) n (weak hn) (omega (arith, ints)) in
     omega (arith, ints)
+
+-- and so does one of a number above 0, taken away
+outweighs_opposite : (n d f : ℤ) → pos 0 <ℤ n → pos 0 <ℤ (n +ℤ f) → pos 0 <ℤ d → pos 0 <ℤ (f -ℤ neg_ℤ n *ℤ d)
+outweighs_opposite n d f hn h left =
+    let far = outweighs n (neg_ℤ d) f hn h (omega (arith, ints)) in
+    omega (arith, ints, neg-mul n d, mul-neg n d)
 
 -- to every number there is one that isn't negative and outweighs it
 margin : (z : ℤ) → (n : ℤ) × (pos 0 ≤ℤ n) × (pos 0 ≤ℤ (n +ℤ z))
@@ -90,9 +97,17 @@ behind_on t e p differ straight back =
 
 -- ---- one line for three
 
--- the point is on the ray from t through e or to the right of it
+-- the point is on the ray from t through e
+abbrev pub IsOnRay : Point → Point → Point → Type 0
+IsOnRay t e p = IsStraight (whole t) (whole e) (whole p) × ¬ On (whole t) (whole e) (whole p)
+
+-- it is on that ray or to the right of it
 abbrev pub IsRightOn : Point → Point → Point → Type 0
-IsRightOn t e p = IsRight (whole t) (whole e) (whole p) ⊎ (IsStraight (whole t) (whole e) (whole p) × ¬ On (whole t) (whole e) (whole p))
+IsRightOn t e p = IsRight (whole t) (whole e) (whole p) ⊎ IsOnRay t e p
+
+-- it is on that ray or to the left of it
+abbrev pub IsLeftOn : Point → Point → Point → Type 0
+IsLeftOn t e p = IsLeft (whole t) (whole e) (whole p) ⊎ IsOnRay t e p
 
 module _ (t e : Point) (differ : t ≢ e) where
   -- what is so is ahead of the line to a point that is far enough behind
@@ -117,4 +132,28 @@ module _ (t e : Point) (differ : t ≢ e) where
         first = ahead_from n p some (omega (arith, ints)) first;
         second = ahead_from n q some (omega (arith, ints)) second;
         third = ahead_from n r some (omega (arith, ints)) third;
+      }
+
+  -- what is on the ray or to the left of it is ahead of the line to a point that is far enough ahead
+  ahead_from_left : (n : ℤ) (p : Point) → pos 0 <ℤ n → pos 0 <ℤ (n +ℤ along t e p) → IsLeftOn t e p
+      → pos 0 <ℤ determinant (whole t) (whole (behind t e (neg_ℤ n))) (whole p)
+  ahead_from_left n p hn h (inl left) = subst (λ z. pos 0 <ℤ z) (sym (ahead_is t e p (neg_ℤ n))) (outweighs_opposite n _ _ hn h left)
+  ahead_from_left n p hn h (inr on_ray) = elim (lt_or_le (pos 0) (along t e p)) [
+    | inl some ↦ subst (λ z. pos 0 <ℤ z) (sym (ahead_is t e p (neg_ℤ n))) (let none = product_zero (neg_ℤ n) on_ray.0 in omega (arith, ints))
+    | inr back ↦ absurd (on_ray.1 (behind_on t e p differ on_ray.0 back))
+  ]
+
+  -- so three such points are ahead of one line too
+  pub ahead_of_left : (p q r : Point) → IsLeftOn t e p → IsLeftOn t e q → IsLeftOn t e r → AreAhead t p q r
+  ahead_of_left p q r first second third =
+      let (k, k_some, k_more) = margin (along t e p) in
+      let (l, l_some, l_more) = margin (along t e q) in
+      let (m, m_some, m_more) = margin (along t e r) in
+      let n = pos 1 +ℤ k +ℤ l +ℤ m in
+      let some : pos 0 <ℤ n = omega (arith, ints) in
+      record {
+        n = behind t e (neg_ℤ n);
+        first = ahead_from_left n p some (omega (arith, ints)) first;
+        second = ahead_from_left n q some (omega (arith, ints)) second;
+        third = ahead_from_left n r some (omega (arith, ints)) third;
       }

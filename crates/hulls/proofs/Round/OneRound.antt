@@ -1,5 +1,5 @@
 -- Two rounds from one number are equal, and from each start there is one.
-use Rattle.std.proofs.Common.{◌≡◌, inl, inr, refl, sym, subst, ◌∙◌, ℕ, zero, suc, ◌+◌, ◌-◌, ◌<◌, List, length, slice_index, arith}
+use Rattle.std.proofs.Common.{◌≡◌, ◌≢◌, ◌↔◌, inl, inr, refl, sym, subst, ◌∙◌, ℕ, zero, suc, ◌+◌, ◌-◌, ◌<◌, List, length, slice_index, arith}
 use Rattle.std.proofs.lemmas.Bool.{cases_order}
 use Rattle.std.proofs.lemmas.List.{ext_get_or}
 use Rattle.hulls.proofs.Round.AllSides.{after_inner, after_last, closed_is_round, place_after}
@@ -7,19 +7,23 @@ use Rattle.hulls.proofs.Round.Chains.{closes_from}
 use Rattle.hulls.proofs.Round.Sides.{one_end}
 use Rattle.hulls.specs.Round.{AreTurning, Follows, IsRoundOf, IsSideOf}
 
-module _ (n : ℕ) (Left : ℕ → ℕ → ℕ → Type 0) (turning : AreTurning n Left) where
+-- a list has no number twice, and the pairs that follow each other in it are exactly the sides
+pub record IsRoundBy (Side : ℕ → ℕ → Type 0) (round : List ℕ) : Type 0 where
+  pub distinct : (i j : ℕ) → i < j → j < length round → slice_index round i ≢ slice_index round j
+  pub sides : (s t : ℕ) → Side s t ↔ Follows round s t
+
+module _ (Side : ℕ → ℕ → Type 0) (one_end : (s t u : ℕ) → Side s t → Side s u → t ≡ u) where
   -- a side goes from each number of a round to the one that follows
-  side_after : (round : List ℕ) → IsRoundOf n Left round → (i : ℕ) → i < length round
-      → IsSideOf n Left (slice_index round i) (slice_index round (place_after round i))
+  pub side_after : (round : List ℕ) → IsRoundBy Side round → (i : ℕ) → i < length round
+      → Side (slice_index round i) (slice_index round (place_after round i))
   side_after round is i within = (is.sides _ _).1 (record { i = i; in_list = within; at = refl; next = refl })
 
-  module _ (one other : List ℕ) (is : IsRoundOf n Left one) (is_too : IsRoundOf n Left other) where
+  module _ (one other : List ℕ) (is : IsRoundBy Side one) (is_too : IsRoundBy Side other) where
     -- after equal numbers of two rounds equal ones follow
     same_after : (i : ℕ) → i < length one → i < length other → slice_index one i ≡ slice_index other i
         → slice_index one (place_after one i) ≡ slice_index other (place_after other i)
-    same_after i within within_too same = one_end n Left turning (slice_index other i) _ _
-        (subst (λ a. IsSideOf n Left a (slice_index one (place_after one i))) same (side_after one is i within))
-        (side_after other is_too i within_too)
+    same_after i within within_too same = one_end (slice_index other i) _ _
+        (subst (λ a. Side a (slice_index one (place_after one i))) same (side_after one is i within)) (side_after other is_too i within_too)
 
     module _ (first : slice_index one 0 ≡ slice_index other 0) where
       -- so from equal ones on all are equal,
@@ -39,12 +43,12 @@ module _ (n : ℕ) (Left : ℕ → ℕ → ℕ → Type 0) (turning : AreTurning
           is_too.distinct 0 (m + 1) (omega arith) (omega arith) (sym first ∙ again)
 
   -- the round of a start is not empty
-  some_in_round : (round : List ℕ) (s t : ℕ) → IsRoundOf n Left round → IsSideOf n Left s t → 0 < length round
+  pub some_in_round : (round : List ℕ) (s t : ℕ) → IsRoundBy Side round → Side s t → 0 < length round
   some_in_round round s t is side = let follows : Follows round s t = (is.sides s t).0 side in omega (arith, follows.in_list)
 
   -- two rounds from one start are equal
-  same_rounds : (s t : ℕ) → IsSideOf n Left s t → (one other : List ℕ) → IsRoundOf n Left one → IsRoundOf n Left other
-      → slice_index one 0 ≡ s → slice_index other 0 ≡ s → one ≡ other
+  pub same_rounds : (s t : ℕ) → Side s t → (one other : List ℕ) → IsRoundBy Side one → IsRoundBy Side other → slice_index one 0 ≡ s
+      → slice_index other 0 ≡ s → one ≡ other
   same_rounds s t side one other is is_too first first_too =
       let firsts : slice_index one 0 ≡ slice_index other 0 = first ∙ sym first_too in
       elim (cases_order (length one) (length other)) [
@@ -61,4 +65,8 @@ pub round_closes : (n : ℕ) (Left : ℕ → ℕ → ℕ → Type 0) → AreTurn
     × ((one other : List ℕ) → IsRoundOf n Left one → IsRoundOf n Left other → slice_index one 0 ≡ s → slice_index other 0 ≡ s → one ≡ other)
 round_closes n Left turning s t side =
     let (round, closes, first) = closes_from n Left turning s t side in
-    ((round, closed_is_round n Left turning round closes, first), same_rounds n Left turning s t side)
+    (
+      (round, closed_is_round n Left turning round closes, first),
+      λ one other is is_too. same_rounds (IsSideOf n Left) (one_end n Left turning) s t side one other
+      (record { distinct = is.distinct; sides = is.sides }) (record { distinct = is_too.distinct; sides = is_too.sides }),
+    )

@@ -8,9 +8,10 @@ use Rattle.plane.specs.Point.{Point, whole}
 use Rattle.rings.specs.Chain.{IsPath, point_at}
 use Rattle.rings.specs.From.{IsBefore}
 use Rattle.rings.specs.Simple.{IsSimple}
+use Rattle.funnels.proofs.OneChain.{bent_is_path}
 use Rattle.funnels.proofs.Touched.{point_cases}
 use Rattle.hulls.proofs.Joined.{back_at, back_bent, goes_on_step, path_is_taut, rest_at, rest_bent}
-use Rattle.hulls.proofs.Third.Prolonged.{bent_is_path, with_point, with_point_ends}
+use Rattle.hulls.proofs.Third.Prolonged.{with_point, with_point_ends}
 use Rattle.hulls.proofs.Turning.{one_path}
 use Rattle.hulls.specs.Joined.{IsFirstStep, IsOnPath}
 

@@ -1,12 +1,12 @@
 -- Points farther along a ray: a point between the nearer one and a third is between the farther one and that, and so are joined points joined.
 use Rattle.std.proofs.Common.{◌≢◌, inl, inr, true, sym, subst, List}
 use Rattle.plane.proofs.Points.{same_whole, whole_is_point}
-use Rattle.plane.proofs.Segments.{on_antisym, on_first_end, on_is_straight, on_nested, on_reversed, on_total}
+use Rattle.plane.proofs.Segments.{later_between, on_antisym, on_first_end, on_is_straight, on_nested, on_reversed, on_total}
 use Rattle.plane.proofs.Turns.{straight_shift_back, straight_swap_last}
 use Rattle.plane.specs.Point.{Point, whole}
 use Rattle.plane.specs.Segment.{On}
 use Rattle.plane.specs.Turn.{IsStraight}
-use Rattle.funnels.proofs.Bends.{AreOnRay, turning_to_ray}
+use Rattle.funnels.proofs.Bends.{AreOnRay, on_ray_back, turning_to_ray}
 use Rattle.funnels.proofs.Touched.{only_point}
 use Rattle.hulls.proofs.Cones.{IsBetween}
 use Rattle.hulls.proofs.Joined.{bend_from_ray}
@@ -67,3 +67,13 @@ module _ (v x n z : Point) (between : IsBetween v x z) (on : On (whole x) (whole
 pub joined_on_ray : (ring : List Point) (v x n z : Point) → On (whole x) (whole v) (whole n) → x ≢ v → AreJoined ring v x z → AreJoined ring v n z
 joined_on_ray ring v x n z on differ (inl between) = inl (between_beyond v x n z between on)
 joined_on_ray ring v x n z on differ (inr bend) = inr (bend_from_ray ring x n v z (ray_of_on v x n on differ) bend)
+
+-- also with a nearer one
+pub joined_nearer : (ring : List Point) (v x n z : Point) → On (whole n) (whole v) (whole x) → n ≢ v → AreJoined ring v x z → AreJoined ring v n z
+joined_nearer ring v x n z on differ (inl between) = inl (
+  (λ e. differ (sym e)),
+  between.1,
+  later_between (whole n) (whole x) (whole v) (whole z) (whole_is_point n) (whole_is_point x) (whole_is_point v) (whole_is_point z)
+      (on_reversed (whole n) (whole v) (whole x) on) between.2,
+)
+joined_nearer ring v x n z on differ (inr bend) = inr (bend_from_ray ring x n v z (on_ray_back (ray_of_on v n x on differ)) bend)

@@ -7,7 +7,7 @@ use Rattle.plane.specs.Turn.{IsLeft, IsRight}
 use Rattle.hulls.specs.Turning.{IsTo, IsToLeft, IsToRight, TurnsTo, apart, first_nearer, second_nearer}
 
 -- a left turn is a right one to the points in the other order,
-right_of_left : (v p q : Triple) → IsLeft v p q → IsRight v q p
+pub right_of_left : (v p q : Triple) → IsLeft v p q → IsRight v q p
 right_of_left v p q h = turned_negative (determinant_swap_last v p q) h
 
 -- and a right one a left one

@@ -1,0 +1,88 @@
+-- The gate of a point comes before it on the path from b, where it is another point; so there is a path to each point of the ring.
+use Rattle.std.proofs.Common.{◌≡◌, inl, inr, sym, subst, ◌∙◌, List, [], ◌∷◌, ◌++◌, length, ◌-◌, ℕ, ◌<◌, arith}
+use Rattle.std.proofs.lemmas.List.{get_or_push, length-append}
+use Rattle.plane.proofs.Order.{point_or_other}
+use Rattle.plane.proofs.Points.{whole_is_point}
+use Rattle.plane.specs.Point.{Point, whole}
+use Rattle.rings.specs.Chain.{IsPath, point_at}
+use Rattle.rings.specs.From.{IsBefore}
+use Rattle.rings.specs.Inside.{IsIn}
+use Rattle.rings.specs.Ring.{origin, vertex}
+use Rattle.meshes.specs.Fits.{Fits, IsInTri}
+use Rattle.meshes.specs.Side.{tri_at}
+use Rattle.meshes.specs.declared.tri.Tri.{Tri}
+use Rattle.funnels.proofs.Chains.{chain_to}
+use Rattle.funnels.proofs.DeadEnds.{some_triangle}
+use Rattle.funnels.proofs.OneChain.{bent_is_path}
+use Rattle.funnels.proofs.Trees.{before_at_home, before_reached, path_of_one, way_begins, way_to}
+use Rattle.funnels.proofs.Vertices.{fitted_long, fitted_simple}
+use Rattle.hulls.proofs.Entrances.Crossings.{has_gate}
+use Rattle.hulls.proofs.Entrances.Trails.{Entrance, IsEntered, IsGate, IsTrail, last_of}
+use Rattle.hulls.proofs.Entrances.TrailsFound.{trail_to}
+
+module _ (corners : List Point) (tris : List Tri) (fits : Fits corners tris) (b : Point) (home : ℕ) (within : home < length tris)
+    (in_b : IsInTri corners (tri_at tris home) (whole b)) where
+  -- the gate comes before a point
+  pub before_gate : (trail : List Entrance) → IsTrail corners tris b home trail → (y g : Point)
+      → IsInTri corners (tri_at tris (last_of home trail)) (whole y) → IsGate b trail (whole y) g → ¬ (g ≡ y) → IsBefore corners b y g
+  before_gate [] is y g in_y gate differ =
+      subst (IsBefore corners b y) gate
+      (before_at_home corners tris fits home within b y in_b in_y (λ e. differ (sym gate ∙ e)))
+  before_gate (e ∷ trail) is y g in_y gate differ =
+      let w = is.0 in
+      let (h, reached, is_g) = gate in
+      subst (IsBefore corners b y) is_g
+      (before_reached corners tris fits e.triangle w.shared.other_in_list e.left e.right e.third w.shared.other_has w.to_third w.from_third
+      (last_of home trail, e.triangle, inr w.shared) w.before e.points e.apex w.funnel b w.begins h y in_y reached (λ e. differ (sym is_g ∙ e)))
+
+  -- there is a path to each point of a funnel,
+  path_to_place : (m : ℕ) (e : Entrance) → IsEntered corners tris b m e → (h : ℕ) → h < length e.points
+      → (path : List Point) × IsPath corners b (point_at e.points h) path
+  path_to_place m e w h below =
+      let three = fitted_long corners tris fits in
+      let simple = fitted_simple corners tris fits in
+      let way = way_to w.before e.points e.apex h in
+      let chain = way ++ point_at e.points h ∷ [] in
+      let bent = chain_to corners e.points e.apex (vertex corners e.left) (vertex corners e.right) w.funnel.funnel w.funnel.sight
+      w.before w.funnel.bent h below in
+      let first : point_at chain 0 ≡ b = way_begins w.before e.points e.apex h ∙ w.begins in
+      let last : point_at chain (length chain - 1) ≡ point_at e.points h =
+      get_or_push way (point_at e.points h) origin (length chain - 1) (omega (arith, length-append way (point_at e.points h ∷ []))) in (
+        chain,
+        bent_is_path corners three simple chain bent b (point_at e.points h) first last,
+      )
+
+  -- to each point of the last triangle of a trail,
+  path_on : (trail : List Entrance) → IsTrail corners tris b home trail → (y : Point)
+      → IsInTri corners (tri_at tris (last_of home trail)) (whole y) → IsIn corners (whole y) → (path : List Point) × IsPath corners b y path
+  path_on [] is y in_y inside = elim (point_or_other b y) [
+    | inl same ↦ (
+      b ∷ [],
+      subst (λ t. IsPath corners b t (b ∷ [])) same
+          (path_of_one corners (fitted_long corners tris fits) (fitted_simple corners tris fits) b
+          (subst (λ (p : Point). IsIn corners (whole p)) (sym same) inside)),
+    )
+    | inr differ ↦
+        let before = before_at_home corners tris fits home within b y in_b in_y differ in
+        (before.path, before.is_path)
+  ]
+  path_on (e ∷ trail) is y in_y inside =
+      let (g, gate) = has_gate corners tris b home (e ∷ trail) is (whole y) in
+      elim (point_or_other g y) [
+        | inl same ↦
+            let (h, reached, is_g) = gate in
+            let (path, is_path) = path_to_place (last_of home trail) e is.0 h reached.within in
+            (path, subst (λ t. IsPath corners b t path) (is_g ∙ same) is_path)
+        | inr differ ↦
+            let before = before_gate (e ∷ trail) is y g in_y gate differ in
+            (before.path, before.is_path)
+      ]
+
+-- and to each point of the ring
+pub path_between : (corners : List Point) (tris : List Tri) → Fits corners tris → (b y : Point) → IsIn corners (whole b) → IsIn corners (whole y)
+    → (path : List Point) × IsPath corners b y path
+path_between corners tris fits b y inside_b inside_y =
+    let (home, within, in_b) = some_triangle corners tris fits (whole b) (whole_is_point b) inside_b in
+    let (k, below, in_y) = some_triangle corners tris fits (whole y) (whole_is_point y) inside_y in
+    let (trail, is, leads) = trail_to corners tris fits b home within in_b k below in
+    path_on corners tris fits b home within in_b trail is y (subst (λ n. IsInTri corners (tri_at tris n) (whole y)) (sym leads) in_y) inside_y

@@ -1,0 +1,110 @@
+-- Where the way to a point that is not above the diagonal passes an edge of a funnel, it passes all edges before it: those to the place
+-- from which the point is reached, and no others.
+use Rattle.std.proofs.Common.{◌≡◌, inl, inr, refl, sym, subst, List, length, ℕ, zero, suc, ◌+◌, ◌-◌, ◌<◌, ◌≤◌, pos, ◌≤ℤ◌, arith}
+use Rattle.std.proofs.lemmas.Bool.{cases_lt}
+use Rattle.integer_algebra.proofs.SignSteps.{negative_not_zero, positive_not_zero}
+use Rattle.integer_algebra.proofs.Signs.{lt_or_le}
+use Rattle.plane.proofs.Turns.{determinant_same_ends}
+use Rattle.plane.specs.Point.{IsPoint, Point, Triple, whole}
+use Rattle.plane.specs.Turn.{IsLeft, IsRight, IsStraight, determinant}
+use Rattle.rings.specs.Chain.{point_at}
+use Rattle.funnels.proofs.Funnels.{IsFlat, left_of_apex, level, not_negative, right_of_apex, straight_on_line}
+use Rattle.funnels.specs.Funnel.{IsFunnel, IsPassed, IsReachedFrom, height}
+use Rattle.hulls.proofs.Gates.FallingEdges.{IsPassedAfter, falls_left, falls_right, opens, passed_after, passed_by_number, reaches_left}
+use Rattle.hulls.proofs.Gates.FallingEdges.{turns_left, turns_right}
+use Rattle.hulls.proofs.Gates.FlatEdges.{level_on_left, level_on_right}
+use Rattle.hulls.proofs.Gates.PassedPoints.{level_between, not_ends, outer_left, outer_right}
+
+-- ---- two edges at the apex
+
+module _ (ns : List Point) (i : ℕ) (l r : Point) (f : IsFunnel ns (i + 1) l r) where
+  -- where the apex is as high as the point before it, it is on the line of the diagonal
+  flat_where_level : height l r (whole (point_at ns (i + 1))) ≡ height l r (whole (point_at ns i)) → IsFlat ns l r (i + 1)
+  flat_where_level same =
+      let o = point_at ns (i + 1) in
+      let p = point_at ns i in
+      let ends = level o p l r (reaches_left ns (i + 1) l r f i (omega arith)) same in
+      straight_on_line o p (λ s. f.differ i f.apex_within (sym s)) (whole r) (whole l) (whole o) ends.1 ends.0
+      (determinant_same_ends (whole o) (whole p))
+
+  -- no point that is not above the diagonal is left of the left edge and right of the right one
+  not_between_edges : (y : Triple) → IsPoint y → height l r y ≤ℤ pos 0 → i + 1 + 1 < length ns
+      → IsRight (whole (point_at ns (i + 1))) (whole (point_at ns (i + 1 + 1))) y
+      → ¬ IsLeft (whole (point_at ns (i + 1))) (whole (point_at ns i)) y
+  not_between_edges y at_y low h right left =
+      let o = point_at ns (i + 1) in
+      let p = point_at ns i in
+      let q = point_at ns (i + 1 + 1) in
+      let above = not_negative ns (i + 1) l r f (i + 1) f.apex_within in
+      let opening = opens ns (i + 1) l r f i refl h in
+      let same = level_between p o q l r y at_y above low opening left right (falls_left ns (i + 1) l r f i (omega arith))
+      (falls_right ns (i + 1) l r f (i + 1) (omega arith) h) in
+      let flat = flat_where_level same in
+      not_ends p o q l r y at_y above low opening left right (left_of_apex ns (i + 1) l r f flat i refl)
+      (right_of_apex ns (i + 1) l r f flat h)
+
+-- ---- the edges of a funnel
+
+module _ (ns : List Point) (a : ℕ) (l r : Point) (f : IsFunnel ns a l r) (y : Triple) (at_y : IsPoint y) (low : height l r y ≤ℤ pos 0) where
+  -- points of the funnel on the line of the diagonal are in line with y, where it is there too
+  on_line : (i j : ℕ) → IsFlat ns l r i → IsFlat ns l r j → height l r y ≡ pos 0
+      → IsStraight (whole (point_at ns i)) (whole (point_at ns j)) y
+  on_line i j = straight_on_line r l (λ s. f.ends_differ (sym s)) (whole (point_at ns i)) (whole (point_at ns j)) y
+
+  -- of two left edges the one nearer to the left end is passed, where the other is,
+  before_left : (i : ℕ) → i + 1 < a → ¬ IsLeft (whole (point_at ns (i + 1 + 1))) (whole (point_at ns (i + 1))) y
+      → ¬ IsLeft (whole (point_at ns (i + 1))) (whole (point_at ns i)) y
+  before_left i h not_left left =
+      let within = f.apex_within in
+      let both = outer_left (point_at ns (i + 1 + 1)) (point_at ns (i + 1)) (point_at ns i) l r y at_y
+      (not_negative ns a l r f (i + 1) (omega arith)) low (turns_left ns a l r f i h)
+      (falls_left ns a l r f (i + 1) h) (falls_left ns a l r f i (omega arith)) not_left left in
+      positive_not_zero left (on_line (i + 1) i both.0 (level_on_left ns a l r f i (omega arith) both.0) both.1)
+
+  -- of two right edges the one nearer to the apex,
+  before_right : (i : ℕ) → a ≤ i → i + 1 + 1 < length ns → IsRight (whole (point_at ns (i + 1))) (whole (point_at ns (i + 1 + 1))) y
+      → IsRight (whole (point_at ns i)) (whole (point_at ns (i + 1))) y
+  before_right i h k right = elim (lt_or_le (determinant (whole (point_at ns i)) (whole (point_at ns (i + 1))) y) (pos 0)) [
+    | inl also ↦ also
+    | inr not ↦
+        let both = outer_right (point_at ns i) (point_at ns (i + 1)) (point_at ns (i + 1 + 1)) l r y at_y
+        (not_negative ns a l r f (i + 1) (omega arith)) low (turns_right ns a l r f i h k)
+        (falls_right ns a l r f i h (omega arith)) (falls_right ns a l r f (i + 1) (omega arith) k) not right in
+        absurd (negative_not_zero right
+        (on_line (i + 1) (i + 1 + 1) both.0 (level_on_right ns a l r f (i + 1) (omega arith) k both.0) both.1))
+  ]
+
+  -- and of two edges each the one before the other
+  before : (i : ℕ) → i + 1 + 1 < length ns → IsPassedAfter ns a y (i + 1) → IsPassedAfter ns a y i
+  before i h (inl k) = inl (omega (arith, k.0), before_left i k.0 k.1)
+  before i h (inr k) = elim (cases_lt i a) [
+    | inr right ↦ inr (right, before_right i right h k.1)
+    | inl apex ↦
+        let e : a ≡ i + 1 = omega (arith, k.0) in
+        inl (apex, not_between_edges ns i l r (subst (λ n. IsFunnel ns n l r) e f) y at_y low h k.1)
+  ]
+
+  -- so with an edge all so many places before it are passed,
+  passed_back : (k i : ℕ) → i + k + 1 < length ns → IsPassedAfter ns a y (i + k) → IsPassedAfter ns a y i
+  passed_back zero i h passed = let same : i + 0 ≡ i = omega arith in subst (IsPassedAfter ns a y) same passed
+  passed_back (suc k) i h passed =
+      let same : i + suc k ≡ i + k + 1 = omega arith in
+      passed_back k i (omega arith) (before (i + k) (omega arith) (subst (IsPassedAfter ns a y) same passed))
+
+  -- and all before it,
+  passed_each_before : (i k : ℕ) → i < k → k < length ns → IsPassed ns a k y → IsPassed ns a (i + 1) y
+  passed_each_before i k h within passed =
+      let last : k ≡ k - 1 + 1 = omega arith in
+      let far : k - 1 ≡ i + (k - 1 - i) = omega arith in
+      passed_by_number ns a y i (passed_back (k - 1 - i) i (omega arith)
+      (subst (IsPassedAfter ns a y) far (passed_after ns a y (k - 1) (subst (λ n. IsPassed ns a n y) last passed))))
+
+  module _ (h : ℕ) (reached : IsReachedFrom ns a h y) where
+    -- so it passes each edge before the place from which the point is reached,
+    pub passed_to_place : (i : ℕ) → i < h → IsPassed ns a (i + 1) y
+    passed_to_place i before = passed_each_before i h before reached.within (reached.passed (omega (arith, before)))
+
+    -- and none after it
+    pub not_passed_from_place : (i : ℕ) → h ≤ i → i + 1 < length ns → ¬ IsPassed ns a (i + 1) y
+    not_passed_from_place i after within passed =
+        reached.not_passed (omega (arith, after, within)) (passed_each_before h (i + 1) (omega (arith, after)) within passed)

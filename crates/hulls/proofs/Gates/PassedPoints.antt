@@ -1,0 +1,64 @@
+-- Two edges at a common point, and a point that is not above the diagonal: where it is left of the outer one alone, or right of it.
+use Rattle.std.proofs.Common.{◌≡◌, ℤ, pos, ◌-ℤ◌, ◌+ℤ◌, ◌*ℤ◌, ◌≤ℤ◌, arith}
+use Rattle.std.proofs.lemmas.Int.{ints}
+use Rattle.integer_algebra.proofs.SignSteps.{at_most_unless, turned_negative, turned_not_negative, weak, weak_order}
+use Rattle.plane.proofs.Turns.{determinant_swap_first, four_triples_in_W}
+use Rattle.plane.specs.Point.{IsPoint, Point, Triple, whole}
+use Rattle.plane.specs.Turn.{IsLeft, IsRight, determinant}
+use Rattle.funnels.proofs.Funnels.{four_on_line}
+use Rattle.funnels.specs.Funnel.{height}
+use Rattle.hulls.proofs.Gates.PassedSigns.{level_at_apex, level_left, level_right, not_beside_all}
+
+-- factors 1 may be left out
+drop_ones : (A B C D : ℤ) → A *ℤ pos 1 -ℤ B *ℤ pos 1 +ℤ C *ℤ pos 1 -ℤ D ≡ pos 0 → A -ℤ B +ℤ C -ℤ D ≡ pos 0
+drop_ones A B C D e = omega (arith, ints)
+
+module _ (p o q l r : Point) (y : Triple) (at_y : IsPoint y) where
+  -- the areas with y add up
+  pub areas : determinant (whole o) (whole q) y -ℤ determinant (whole p) (whole q) y
+      +ℤ determinant (whole p) (whole o) y -ℤ determinant (whole p) (whole o) (whole q) *ℤ y.W ≡ pos 0
+  areas =
+      drop_ones (determinant (whole o) (whole q) y) (determinant (whole p) (whole q) y) (determinant (whole p) (whole o) y)
+      (determinant (whole p) (whole o) (whole q) *ℤ y.W) (four_triples_in_W (whole p) (whole o) (whole q) y)
+
+  module _ (above : pos 0 ≤ℤ height l r (whole o)) (low : height l r y ≤ℤ pos 0) where
+    -- of two left edges y is left of the outer alone only on the line of the diagonal,
+    pub outer_left : IsLeft (whole p) (whole o) (whole q) → height l r (whole o) ≤ℤ height l r (whole p)
+        → height l r (whole q) ≤ℤ height l r (whole o) → ¬ IsLeft (whole p) (whole o) y → IsLeft (whole o) (whole q) y
+        → (height l r (whole o) ≡ pos 0) × (height l r y ≡ pos 0)
+    outer_left turn first second not_left left =
+        level_left (determinant (whole o) (whole q) y) (determinant (whole p) (whole q) y) (determinant (whole p) (whole o) y)
+        (determinant (whole p) (whole o) (whole q)) y.W (height l r (whole p)) (height l r (whole o)) (height l r (whole q)) (height l r y)
+        (four_on_line (whole r) (whole l) (whole p) (whole o) (whole q) y) areas at_y above low
+        (weak left) (at_most_unless not_left) turn first second
+
+    -- of two right edges it is right of the outer alone only there,
+    pub outer_right : IsRight (whole p) (whole o) (whole q) → height l r (whole o) ≤ℤ height l r (whole p)
+        → height l r (whole q) ≤ℤ height l r (whole o) → pos 0 ≤ℤ determinant (whole p) (whole o) y → IsRight (whole o) (whole q) y
+        → (height l r (whole o) ≡ pos 0) × (height l r y ≡ pos 0)
+    outer_right turn first second not_right right =
+        level_right (determinant (whole o) (whole q) y) (determinant (whole p) (whole q) y) (determinant (whole p) (whole o) y)
+        (determinant (whole p) (whole o) (whole q)) y.W (height l r (whole p)) (height l r (whole o)) (height l r (whole q)) (height l r y)
+        (four_on_line (whole r) (whole l) (whole p) (whole o) (whole q) y) areas at_y above low
+        (weak_order right) not_right turn first second
+
+    module _ (opening : ¬ IsLeft (whole o) (whole p) (whole q)) (left : IsLeft (whole o) (whole p) y) (right : IsRight (whole o) (whole q) y) where
+      -- and where it is left of the left edge at the apex, and right of the right one, the left one does not fall,
+      pub level_between : height l r (whole p) ≤ℤ height l r (whole o) → height l r (whole q) ≤ℤ height l r (whole o)
+          → height l r (whole o) ≡ height l r (whole p)
+      level_between first second =
+          level_at_apex (determinant (whole o) (whole q) y) (determinant (whole p) (whole q) y) (determinant (whole p) (whole o) y)
+          (determinant (whole p) (whole o) (whole q)) y.W (height l r (whole p)) (height l r (whole o)) (height l r (whole q)) (height l r y)
+          (four_on_line (whole r) (whole l) (whole p) (whole o) (whole q) y) areas at_y above low right
+          (weak_order (turned_negative (determinant_swap_first (whole o) (whole p) y) left))
+          (turned_not_negative (determinant_swap_first (whole o) (whole p) (whole q)) (at_most_unless opening)) first second
+
+      -- and their ends are not those of the diagonal
+      pub not_ends : p ≡ l → q ≡ r → ⊥
+      not_ends is_l is_r =
+          not_beside_all (determinant (whole o) (whole q) y) (determinant (whole p) (whole q) y) (determinant (whole p) (whole o) y)
+          (determinant (whole p) (whole o) (whole q)) y.W (height l r (whole p)) (height l r (whole o)) (height l r (whole q)) (height l r y)
+          (four_on_line (whole r) (whole l) (whole p) (whole o) (whole q) y) areas at_y right
+          (weak_order (turned_negative (determinant_swap_first (whole o) (whole p) y) left))
+          (turned_not_negative (determinant_swap_first (whole o) (whole p) (whole q)) (at_most_unless opening))
+          (rw (is_l, is_r) (turned_not_negative (determinant_swap_first (whole r) (whole l) y) low))

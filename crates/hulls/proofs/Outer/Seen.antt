@@ -1,0 +1,131 @@
+-- The order of points as seen from one: a point comes after those that it is to the left of, and after those on the path to it.
+use Rattle.std.proofs.Common.{◌≢◌, ◌⊎◌, inl, inr, sym, subst, ap, ◌∙◌, ℕ, ◌+◌, ◌-◌, ◌<◌, ◌≤◌, List, ◌∷◌, length, drop, arith}
+use Rattle.plane.proofs.Points.{whole_is_point}
+use Rattle.plane.proofs.Segments.{on_or_not}
+use Rattle.plane.specs.Point.{Point, whole}
+use Rattle.plane.specs.Segment.{On}
+use Rattle.rings.specs.Chain.{IsBentChain, IsPath, point_at}
+use Rattle.rings.specs.Simple.{IsSimple}
+use Rattle.funnels.proofs.OneChain.{last_of}
+use Rattle.hulls.proofs.Joined.{path_is_taut}
+use Rattle.hulls.proofs.Order.{AreAhead, left_by_paths, left_of_paths, ordered_ahead, path_begins}
+use Rattle.hulls.proofs.Outer.Fronts.{IsFrontOf, front_follows, fronts_are_one}
+use Rattle.hulls.proofs.Outer.FrontsLeft.{front_then_left, left_then_farther, not_front_and_left}
+use Rattle.hulls.proofs.Outer.Lasts.{some_or_none}
+use Rattle.hulls.proofs.Outer.OnFronts.{front_of_on_path, on_path_of_front}
+use Rattle.hulls.proofs.Turning.{exchanged_back, one_path, one_way}
+use Rattle.hulls.specs.Joined.{IsOnPath}
+use Rattle.hulls.specs.Turning.{IsToLeft}
+
+-- seen from t, v comes after u: it is to the left of u, or u is on the path to it
+abbrev pub ComesAfter : List Point → Point → Point → Point → Type 0
+ComesAfter ring t u v = IsToLeft ring t u v ⊎ IsOnPath ring t v u
+
+-- ---- on a path or not
+
+-- x is on a step of the list
+abbrev IsOnStep : Point → List Point → ℕ → Type 0
+IsOnStep x path k = On (whole x) (whole (point_at path k)) (whole (point_at path (k + 1)))
+
+-- or it is not
+on_step_or_not : (x : Point) (path : List Point) (k : ℕ) → IsOnStep x path k ⊎ (¬ IsOnStep x path k)
+on_step_or_not x path k =
+    on_or_not (whole x) (whole (point_at path k)) (whole (point_at path (k + 1))) (whole_is_point x) (whole_is_point (point_at path k))
+    (whole_is_point (point_at path (k + 1)))
+
+-- a point is on a path, or it is not
+pub on_path_or_not : (ring : List Point) (a b x : Point) (path : List Point) → IsPath ring a b path → IsOnPath ring a b x ⊎ (¬ IsOnPath ring a b x)
+on_path_or_not ring a b x path is = elim (some_or_none (IsOnStep x path) (length path - 1) (λ k _. on_step_or_not x path k)) [
+  | inl found ↦ inl (record { path = path; is_path = is; place = found.0; within = omega (arith, found.1); on = found.2 })
+  | inr none ↦ inr (λ h.
+      let same = one_path ring a b h.path path h.is_path is in
+      let within = subst (λ ps. h.place + 1 < length ps) same h.within in
+      none h.place (omega (arith, within))
+      (subst (λ ps. IsOnStep x ps h.place) same h.on))
+]
+
+-- ---- ways
+
+-- the path from t to u, by what comes after t
+pub record HasWay (ring : List Point) (t u : Point) : Type 0 where
+  pub way : List Point
+  pub is_path : IsPath ring t u (t ∷ way)
+
+-- each path is such
+pub way_of : (ring : List Point) (t u : Point) (path : List Point) → IsPath ring t u path → HasWay ring t u
+way_of ring t u path is = record { way = drop 1 path; is_path = subst (IsPath ring t u) (path_begins ring t u path is) is }
+
+module _ (ring : List Point) (some : 3 ≤ length ring) (simple : IsSimple ring) (t : Point) where
+  module _ (u v : Point) (to_u : HasWay ring t u) (to_v : HasWay ring t v) where
+    -- what comes after another is not on the path there,
+    pub not_on_path_before : u ≢ v → ComesAfter ring t u v → ¬ IsOnPath ring t u v
+    not_on_path_before differ after on =
+        let back = front_of_on_path ring some simple t v u to_v.way to_u.way to_v.is_path to_u.is_path on in
+        elim after [
+          | inl left ↦
+              not_front_and_left t to_u.way to_v.way
+              (left_of_paths ring t u v (t ∷ to_u.way) (t ∷ to_v.way) to_u.is_path to_v.is_path left) back
+          | inr on_too ↦
+              let front = front_of_on_path ring some simple t u v to_u.way to_v.way to_u.is_path to_v.is_path on_too in
+              differ (sym (path_is_taut ring t u (t ∷ to_u.way) to_u.is_path).last
+              ∙ ap (λ ps. last_of (t ∷ ps)) (fronts_are_one t to_u.way to_v.way front back)
+              ∙ (path_is_taut ring t v (t ∷ to_v.way) to_v.is_path).last)
+        ]
+
+    -- and of two points, where t is not on the path between them, one comes after the other
+    pub one_comes_after : t ≢ u → t ≢ v → u ≢ v → ¬ IsOnPath ring u v t → ComesAfter ring t u v ⊎ ComesAfter ring t v u
+    one_comes_after other_u other_v differ off = elim (on_path_or_not ring t v u (t ∷ to_v.way) to_v.is_path) [
+      | inl on ↦ inl (inr on)
+      | inr not_u ↦ elim (on_path_or_not ring t u v (t ∷ to_u.way) to_u.is_path) [
+        | inl on ↦ inr (inr on)
+        | inr not_v ↦
+            elim (one_way ring some simple t u v (t ∷ to_u.way) (t ∷ to_v.way) to_u.is_path to_v.is_path (record {
+              a_b = other_u;
+              b_c = differ;
+              a_c = other_v;
+              not_a = off;
+              not_b = not_u;
+              not_c = not_v;
+            })) [
+              | inl left ↦ inl (inl left)
+              | inr right ↦ inr (inl (exchanged_back ring t u v right))
+            ]
+      ]
+    ]
+
+  module _ (u v w : Point) (to_u : HasWay ring t u) (to_v : HasWay ring t v) (to_w : HasWay ring t w) (other : t ≢ u)
+      (ahead : AreAhead t (point_at to_u.way 0) (point_at to_v.way 0) (point_at to_w.way 0)) where
+    -- what comes after one that comes after another comes after that
+    pub after_follows : ComesAfter ring t u v → ComesAfter ring t v w → ComesAfter ring t u w
+    after_follows after after_too =
+        let bent_u : IsBentChain ring (t ∷ to_u.way) = (path_is_taut ring t u (t ∷ to_u.way) to_u.is_path).bent in
+        let bent_v : IsBentChain ring (t ∷ to_v.way) = (path_is_taut ring t v (t ∷ to_v.way) to_v.is_path).bent in
+        let bent_w : IsBentChain ring (t ∷ to_w.way) = (path_is_taut ring t w (t ∷ to_w.way) to_w.is_path).bent in
+        let by_left = left_by_paths ring t u w (t ∷ to_u.way) (t ∷ to_w.way) to_u.is_path to_w.is_path in
+        let by_front = λ (front : IsFrontOf t to_u.way to_w.way).
+        on_path_of_front ring some simple t u w to_u.way to_w.way to_u.is_path to_w.is_path other front in
+        elim after [
+          | inl left ↦
+              elim after_too [
+                | inl left_too ↦
+                    inl (ordered_ahead ring some simple t u v w (t ∷ to_u.way) (t ∷ to_v.way) (t ∷ to_w.way) to_u.is_path to_v.is_path to_w.is_path
+                    ahead left left_too)
+                | inr on ↦
+                    let one = left_of_paths ring t u v (t ∷ to_u.way) (t ∷ to_v.way) to_u.is_path to_v.is_path left in
+                    let front = front_of_on_path ring some simple t v w to_v.way to_w.way to_v.is_path to_w.is_path on in
+                    inl (by_left (left_then_farther ring some simple t to_u.way to_v.way to_w.way bent_v bent_w one front))
+              ]
+          | inr on ↦
+              let front = front_of_on_path ring some simple t u v to_u.way to_v.way to_u.is_path to_v.is_path on in
+              elim after_too [
+                | inl left_too ↦
+                    let two = left_of_paths ring t v w (t ∷ to_v.way) (t ∷ to_w.way) to_v.is_path to_w.is_path left_too in
+                    elim (front_then_left ring some simple t to_u.way to_v.way to_w.way bent_u bent_v front two) [
+                      | inl left ↦ inl (by_left left)
+                      | inr front_too ↦ inr (by_front front_too)
+                    ]
+                | inr on_too ↦
+                    let front_too = front_of_on_path ring some simple t v w to_v.way to_w.way to_v.is_path to_w.is_path on_too in
+                    inr (by_front (front_follows t to_u.way to_v.way to_w.way front front_too))
+              ]
+        ]

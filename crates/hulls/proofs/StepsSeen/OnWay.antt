@@ -1,0 +1,131 @@
+-- A step past no vertex in the triangles of a trail: its inner points there have gates that are one point, or all strictly on one side of the step,
+-- and so is what comes before its ends.
+use Rattle.std.proofs.Common.{◌≡◌, ◌⊎◌, inl, inr, sym, ℕ, ◌<◌, List, length}
+use Rattle.plane.proofs.Points.{whole_is_point}
+use Rattle.plane.proofs.Segments.{middle, middle_first, middle_is_point, middle_last, middle_on, on_reversed}
+use Rattle.plane.specs.Point.{Point, Triple, whole}
+use Rattle.plane.specs.Segment.{On}
+use Rattle.rings.specs.Full.{IsVertexBetween}
+use Rattle.rings.specs.Ring.{vertex}
+use Rattle.ring_laws.proofs.Triangles.{between_in_triangle}
+use Rattle.meshes.specs.Fits.{Fits, IsInTri}
+use Rattle.meshes.specs.Side.{tri_at}
+use Rattle.meshes.specs.declared.tri.Tri.{Tri}
+use Rattle.hulls.proofs.Entrances.{Entrance, IsBetween, IsGate, IsNamed, IsTrail, between_back, has_gate, last_of}
+use Rattle.hulls.proofs.StepsSeen.InnerPoints.{named_off}
+use Rattle.hulls.proofs.StepsSeen.Pairs.{alike_in_triangle, gate_named}
+use Rattle.hulls.proofs.StepsSeen.StepEnds.{Comes, comes_first, comes_on}
+
+-- ---- a step
+
+-- from x to y, past no vertex, with b not on it
+pub record IsClear (corners : List Point) (b x y : Point) : Type 0 where
+  pub differ : ¬ (x ≡ y)
+  pub clear : (v : Point) → ¬ IsVertexBetween corners x y v
+  pub off : ¬ On (whole b) (whole x) (whole y)
+
+-- so it is read backward
+pub clear_back : (corners : List Point) (b x y : Point) → IsClear corners b x y → IsClear corners b y x
+clear_back corners b x y step = record {
+  differ = λ same. step.differ (sym same);
+  clear = λ v between. step.clear v (record {
+    i = between.i;
+    in_ring = between.in_ring;
+    is_vertex = between.is_vertex;
+    on = on_reversed (whole v) (whole y) (whole x) between.on;
+    not_first = between.not_last;
+    not_last = between.not_first;
+  });
+  off = λ on. step.off (on_reversed (whole b) (whole y) (whole x) on);
+}
+
+-- some point is alike with what comes before both ends
+pub record ComesToBoth (corners : List Point) (b x y : Point) : Type 0 where
+  pub gate : Point
+  pub first : Comes corners b x y gate
+  pub last : Comes corners b y x gate
+
+module _ (corners : List Point) (tris : List Tri) (fits : Fits corners tris) (b : Point) (home : ℕ) (within : home < length tris)
+    (in_b : IsInTri corners (tri_at tris home) (whole b)) (x y : Point) (step : IsClear corners b x y) where
+  -- ---- in one triangle
+
+  -- an inner point with a gate that is alike with what comes before x
+  pub record HasComeTo (trail : List Entrance) (z : Triple) : Type 0 where
+    pub between : IsBetween x y z
+    pub inside : IsInTri corners (tri_at tris (last_of home trail)) z
+    pub gate : Point
+    pub is_gate : IsGate b trail z gate
+    pub first : Comes corners b x y gate
+
+  -- from x on there is one at each inner point,
+  from_first : (trail : List Entrance) → IsTrail corners tris b home trail → IsInTri corners (tri_at tris (last_of home trail)) (whole x)
+      → (z : Triple) → IsBetween x y z → IsInTri corners (tri_at tris (last_of home trail)) z → HasComeTo trail z
+  from_first trail is in_x z between in_z =
+      let (g, gate) = has_gate corners tris b home trail is z in
+      record {
+        between = between;
+        inside = in_z;
+        gate = g;
+        is_gate = gate;
+        first = comes_first corners tris fits b home within in_b x y step.clear step.off trail is in_x z between in_z g gate;
+      }
+
+  -- and so there is from another one on
+  from_inner : (trail : List Entrance) → IsTrail corners tris b home trail → (p : Triple) → HasComeTo trail p
+      → (z : Triple) → IsBetween x y z → IsInTri corners (tri_at tris (last_of home trail)) z → HasComeTo trail z
+  from_inner trail is p come z between in_z =
+      let (g, gate) = has_gate corners tris b home trail is z in
+      let off = λ (n : Point) (named : IsNamed corners b n). named_off corners b x y step.clear step.off n named p z come.between between in
+      record {
+        between = between;
+        inside = in_z;
+        gate = g;
+        is_gate = gate;
+        first = comes_on corners b x y come.gate g come.first
+            (alike_in_triangle corners tris fits b x y p z come.between.rational between.rational come.between.on between.on
+            home trail is come.inside in_z come.gate g come.is_gate gate
+            (off come.gate (gate_named corners tris b home trail is p come.gate come.is_gate))
+            (off g (gate_named corners tris b home trail is z g gate)));
+      }
+
+  -- the walk is at x, or at such a point
+  abbrev pub IsOnWay : List Entrance → Type 0
+  IsOnWay trail = IsInTri corners (tri_at tris (last_of home trail)) (whole x) ⊎ ((z : Triple) × HasComeTo trail z)
+
+  -- so it goes on to each inner point,
+  pub goes_on : (trail : List Entrance) → IsTrail corners tris b home trail → IsOnWay trail → (z : Triple) → IsBetween x y z
+      → IsInTri corners (tri_at tris (last_of home trail)) z → HasComeTo trail z
+  goes_on trail is (inl in_x) = from_first trail is in_x
+  goes_on trail is (inr (p, come)) = from_inner trail is p come
+
+  -- the middle is one,
+  middle_between : IsBetween x y (middle x y)
+  middle_between = record {
+    rational = middle_is_point x y;
+    on = middle_on x y;
+    not_first = λ same. step.differ (middle_first x y same);
+    not_last = λ same. step.differ (middle_last x y same);
+  }
+
+  -- and to the end
+  pub at_last : (trail : List Entrance) → IsTrail corners tris b home trail → IsOnWay trail
+      → IsInTri corners (tri_at tris (last_of home trail)) (whole y) → ComesToBoth corners b x y
+  at_last trail is way in_y =
+      let t = tri_at tris (last_of home trail) in
+      let inner : (z : Triple) × HasComeTo trail z = elim way [
+        | inl in_x ↦ (
+          middle x y,
+          from_first trail is in_x (middle x y) middle_between
+              (between_in_triangle (vertex corners t.a) (vertex corners t.b) (vertex corners t.c) (middle x y) (whole x) (whole y)
+              (middle_is_point x y) (whole_is_point x) (whole_is_point y) in_x in_y (middle_on x y)),
+        )
+        | inr inner ↦ inner
+      ] in
+      let (z, come) = inner in
+      let back = clear_back corners b x y step in
+      record {
+        gate = come.gate;
+        first = come.first;
+        last = comes_first corners tris fits b home within in_b y x back.clear back.off trail is in_y z
+            (between_back x y z come.between) come.inside come.gate come.is_gate;
+      }
