@@ -1,8 +1,11 @@
 -- The farthest of several candidates, one after another.
-use Rattle.std.proofs.Common.{◌≡◌, inl, inr, refl, sym, ap, subst, ◌∙◌, ℕ, ◌+◌, ◌-◌, ◌<◌, ◌≤◌, Option, Some, None, List, length, below_more, arith}
+use Rattle.std.proofs.Common.{◌≡◌, inl, inr, refl, sym, ap, subst, ◌∙◌, ℕ, ◌+◌, ◌-◌, ◌<◌, ◌≤◌, Option, Some, None, ℤ, ◌<ℤ◌, ◌≤ℤ◌, List}
+use Rattle.std.proofs.Common.{length, get_or, below_more, arith}
+use Rattle.std.proofs.lemmas.Bool.{cases_lt}
 use Rattle.std.proofs.lemmas.Int.{ints}
 use Rattle.plane.specs.Point.{Point}
-use Rattle.cut_tri.specs.Corner.{IsFarther, IsFartherOf, IsFarthestBelow, IsInCorner, candidate_at}
+use Rattle.cut_tri.specs.Cut.{IsFarthest, IsInCorner}
+use Rattle.cut_tri.specs.Corner.{IsFarther, IsFartherOf, IsFarthestBelow, candidate_at}
 use Rattle.cut_tri.specs.declared.farthest.Candidate.{Candidate}
 
 -- the best of the first n places, or none where none of their vertices is in the triangle
@@ -68,3 +71,24 @@ farthest_of_all corners piece n place all far = record {
   in_corner = far.in_corner;
   farthest = λ j h in_j. far.farthest j (omega (arith, in_j.before_last)) in_j;
 }
+
+-- ---- without candidates
+
+-- what is not less is at most
+pub at_most : (a b : ℤ) → ¬ (b <ℤ a) → a ≤ℤ b
+at_most a b h = grind (arith, ints)
+
+-- the farthest of all places is the farthest vertex in the corner, and has the least number
+pub is_farthest : (corners : List Point) (piece : List ℕ) (place : ℕ) → IsFarthestBelow corners piece (length piece) place
+    → IsFarthest corners piece place
+is_farthest corners piece place far =
+    let not_farther : (k : ℕ) → IsInCorner corners piece k → ¬ (IsFarther (candidate_at corners piece k) (candidate_at corners piece place)) =
+    λ k in_k. far.farthest k (omega (arith, in_k.before_last)) in_k in
+    record {
+      in_corner = far.in_corner;
+      farthest = λ k in_k. at_most _ _ (λ higher. not_farther k in_k (inl higher));
+      least = λ k in_k same. elim (cases_lt (get_or piece k 0) (get_or piece place 0)) [
+        | inl less ↦ absurd (not_farther k in_k (inr (same, less)))
+        | inr not_less ↦ not_less
+      ];
+    }

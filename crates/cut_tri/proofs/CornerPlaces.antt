@@ -11,7 +11,8 @@ use Rattle.ring_laws.proofs.Simple.{InTriangle, height}
 use Rattle.meshes.proofs.Triangulations.{points_are}
 use Rattle.meshes.specs.Fits.{piece_points}
 use Rattle.cut_tri.proofs.Shapes.{ends_length, last_is, middle_is}
-use Rattle.cut_tri.specs.Corner.{IsInCorner, candidate_at}
+use Rattle.cut_tri.specs.Cut.{IsInCorner}
+use Rattle.cut_tri.specs.Corner.{candidate_at}
 use Rattle.cut_tri.specs.Piece.{IsLeastBelow}
 
 -- a point of a piece is the vertex at a place

@@ -1,6 +1,5 @@
 -- A piece with vertices in the triangle at its first vertex: the diagonal to the farthest of them makes two pieces.
-use Rattle.std.proofs.Common.{◌≡◌, inl, refl, sym, ap, subst, ◌∙◌, ℕ, ◌+◌, ◌<◌, ℤ, ◌≤ℤ◌, ◌<ℤ◌, List, [], ◌∷◌, ◌++◌, length, get_or, take, drop, arith}
-use Rattle.std.proofs.lemmas.Int.{ints}
+use Rattle.std.proofs.Common.{◌≡◌, inl, refl, sym, ap, subst, ◌∙◌, ℕ, ◌+◌, ◌<◌, ◌≤ℤ◌, ◌<ℤ◌, List, [], ◌∷◌, ◌++◌, length, get_or, take, drop, arith}
 use Rattle.std.proofs.lemmas.List.{append_assoc, drop_at, get_or_at, length-append, map-append, take_at}
 use Rattle.plane.specs.Point.{Point}
 use Rattle.rings.proofs.Vertices.{HasPoint, Farthest, has_right}
@@ -10,16 +9,16 @@ use Rattle.ring_laws.proofs.Simple.{InTriangle, height}
 use Rattle.meshes.proofs.Joins.{both_parts, contains_first_part, contains_second_part, first_part, second_part}
 use Rattle.meshes.proofs.Triangulations.{CutsPoints, SplitAt, both_fit, farthest_cut, first_is_piece, second_is_piece}
 use Rattle.meshes.specs.Fits.{piece_points}
+use Rattle.cut_tri.proofs.Candidates.{at_most, is_farthest}
 use Rattle.cut_tri.proofs.CornerPlaces.{height_is, in_corner_from, in_triangle_from, none_before, place_of_point}
 use Rattle.cut_tri.proofs.Members.{members_of_numbers, numbers_of_members}
+use Rattle.cut_tri.proofs.Readings.{read_from_first}
 use Rattle.cut_tri.proofs.Shapes.{by_split, ends_length}
+use Rattle.cut_tri.specs.Cut.{IsCutInto}
+use Rattle.cut_tri.specs.Cut.IsCutInto.{parts}
 use Rattle.cut_tri.specs.Corner.{IsFarthestBelow, candidate_at}
 use Rattle.cut_tri.specs.Cutting.{AreParts}
 use Rattle.cut_tri.specs.Piece.{IsLeastBelow, IsPiece}
-
--- what is not less is at most
-at_most : (a b : ℤ) → ¬ (b <ℤ a) → a ≤ℤ b
-at_most a b h = grind (arith, ints)
 
 -- ---- the farthest vertex, as a point
 
@@ -54,6 +53,15 @@ module _ (corners : List Point) (v w : ℕ) (cs : List ℕ) (z : ℕ) (ds : List
 
   z_is : get_or others (length cs) 0 ≡ z
   z_is = get_or_at cs z ds 0 (length cs) refl
+
+  -- the places up to that of z, and those from there on
+  first_is : take (length cs + 2 + 1) (both_parts v (w ∷ cs) z (ds ++ u ∷ [])) ≡ first_part v (w ∷ cs) z
+  first_is =
+      ap (λ ys. take (length cs + 2 + 1) (v ∷ w ∷ ys)) (sym (append_assoc cs (z ∷ []) (ds ++ u ∷ [])))
+      ∙ take_at (v ∷ w ∷ (cs ++ z ∷ [])) (ds ++ u ∷ []) (length cs + 2 + 1) (omega (arith, length-append cs (z ∷ [])))
+
+  second_is : drop (length cs + 2) (both_parts v (w ∷ cs) z (ds ++ u ∷ [])) ≡ z ∷ (ds ++ u ∷ [])
+  second_is = drop_at (v ∷ w ∷ cs) (z ∷ (ds ++ u ∷ [])) (length cs + 2) (omega arith)
 
   -- their points
   others_points : piece_points corners others ≡ piece_points corners cs ++ vertex corners z ∷ piece_points corners ds
@@ -99,6 +107,13 @@ module _ (corners : List Point) (v w : ℕ) (cs : List ℕ) (z : ℕ) (ds : List
           };
           lengths = omega (arith, length-append cs (z ∷ []), length-append cs (z ∷ (ds ++ u ∷ [])));
           fits = both_fit corners v w cs z ds u polygon points_cut;
+          cut = λ ts us first_cut second_cut.
+              let xs = both_parts v (w ∷ cs) z (ds ++ u ∷ []) in
+              parts xs xs (length cs + 2) ts us
+              (read_from_first corners xs (omega arith) (subst (λ ys. IsLeastBelow corners ys (length ys) 0) regrouped least))
+              (is_farthest corners xs (length cs + 2) (subst (λ ys. IsFarthestBelow corners ys (length ys) (length cs + 2)) regrouped far))
+              (subst (λ ys. IsCutInto corners ys ts) (sym first_is) first_cut)
+              (subst (λ ys. IsCutInto corners (v ∷ ys) us) (sym second_is) second_cut);
         }
 
 -- ---- the parts of any piece
@@ -113,12 +128,8 @@ module _ (corners : List Point) where
   parts_at v w cs z ds u piece least far =
       let xs = both_parts v (w ∷ cs) z (ds ++ u ∷ []) in
       let back = sym (regrouped corners v w cs z ds u) in
-      let first_is : take (length cs + 2 + 1) xs ≡ first_part v (w ∷ cs) z =
-      ap (λ ys. take (length cs + 2 + 1) ys) (ap (λ ys. v ∷ w ∷ ys) (sym (append_assoc cs (z ∷ []) (ds ++ u ∷ []))))
-      ∙ take_at (v ∷ w ∷ (cs ++ z ∷ [])) (ds ++ u ∷ []) (length cs + 2 + 1) (omega (arith, length-append cs (z ∷ []))) in
-      let second_is : drop (length cs + 2) xs ≡ z ∷ (ds ++ u ∷ []) = drop_at (v ∷ w ∷ cs) (z ∷ (ds ++ u ∷ [])) (length cs + 2) (omega arith) in
-      subst (λ ys. AreParts corners xs ys (v ∷ drop (length cs + 2) xs)) (sym first_is)
-      (subst (λ ys. AreParts corners xs (first_part v (w ∷ cs) z) (v ∷ ys)) (sym second_is)
+      subst (λ ys. AreParts corners xs ys (v ∷ drop (length cs + 2) xs)) (sym (first_is corners v w cs z ds u))
+      (subst (λ ys. AreParts corners xs (first_part v (w ∷ cs) z) (v ∷ ys)) (sym (second_is corners v w cs z ds u))
       (are_parts corners v w cs z ds u (subst (IsPiece corners) back piece)
       (subst (λ ys. IsLeastBelow corners ys (length ys) 0) back least)
       (subst (λ ys. IsFarthestBelow corners ys (length ys) (length cs + 2)) back far)))

@@ -7,9 +7,11 @@ use Rattle.meshes.proofs.Triangulations.{ear_fits, rest_is_piece, triangle_fits}
 use Rattle.meshes.specs.Fits.{FitsPiece}
 use Rattle.cut_tri.proofs.CornerPlaces.{none_before, none_in_triangle}
 use Rattle.cut_tri.proofs.Members.{members_of_numbers, numbers_of_members}
-use Rattle.cut_tri.proofs.Shapes.{by_ends, first_tri_is}
-use Rattle.cut_tri.specs.Corner.{IsInCorner}
-use Rattle.cut_tri.specs.Cutting.{IsEar}
+use Rattle.cut_tri.proofs.Shapes.{by_ends, ends_length, first_tri_is}
+use Rattle.cut_tri.proofs.Readings.{read_from_first}
+use Rattle.cut_tri.specs.Cut.{IsInCorner}
+use Rattle.cut_tri.specs.Cut.IsCutInto.{ear, triangle}
+use Rattle.cut_tri.specs.Cutting.{IsEar, IsTriangle}
 use Rattle.cut_tri.specs.Piece.{IsLeastBelow, IsPiece, tri_at_first}
 
 -- ---- a piece of three vertices
@@ -24,11 +26,14 @@ module _ (corners : List Point) where
       (triangle_fits corners v w u piece.polygon (none_before corners v w [] u least))
   fits_itself v w (m ∷ ms) u piece least three = absurd (omega (arith, three, length-append ms (u ∷ [])))
 
-  -- so a piece of three vertices is fitted by the triangle at its first vertex
-  pub triangle_cut : (xs : List ℕ) → IsPiece corners xs → IsLeastBelow corners xs (length xs) 0 → length xs ≡ 3 → FitsPiece corners xs (tri_at_first xs ∷ [])
-  triangle_cut xs piece =
-      by_ends (λ xs. IsPiece corners xs → IsLeastBelow corners xs (length xs) 0 → length xs ≡ 3 → FitsPiece corners xs (tri_at_first xs ∷ []))
-      fits_itself xs piece.polygon.some piece
+  -- so a piece of three vertices is the triangle at its first vertex
+  pub triangle_cut : (xs : List ℕ) → IsPiece corners xs → IsLeastBelow corners xs (length xs) 0 → length xs ≡ 3
+      → IsTriangle corners xs (tri_at_first xs)
+  triangle_cut xs piece least three = record {
+    fits = by_ends (λ xs. IsPiece corners xs → IsLeastBelow corners xs (length xs) 0 → length xs ≡ 3 → FitsPiece corners xs (tri_at_first xs ∷ []))
+        fits_itself xs piece.polygon.some piece least three;
+    cut = triangle xs xs (read_from_first corners xs (omega (arith, three)) least) three;
+  }
 
 -- ---- ears
 
@@ -50,6 +55,10 @@ module _ (corners : List Point) (v w : ℕ) (ms : List ℕ) (u : ℕ) (piece : I
         fits = λ ts fit.
             subst (λ t. FitsPiece corners (v ∷ w ∷ (ms ++ u ∷ [])) (t ∷ ts)) (sym (first_tri_is v w ms u))
             (ear_fits corners v w ms u piece.polygon least_point some none_in ts fit);
+        cut = λ ts is_cut.
+            let xs = v ∷ w ∷ (ms ++ u ∷ []) in
+            ear xs xs ts (read_from_first corners xs (omega arith) least) (omega (arith, ends_length v w ms u))
+            (λ k in_corner. none k (omega (arith, in_corner.before_last)) in_corner) is_cut;
       }
 
 module _ (corners : List Point) where

@@ -1,5 +1,5 @@
 -- Numbers in a list and at its places, and pieces read from another vertex on.
-use Rattle.std.proofs.Common.{sym, subst, ℕ, ◌<◌, List, ◌++◌, length, get_or, arith}
+use Rattle.std.proofs.Common.{subst, ℕ, ◌<◌, List, ◌++◌, length, get_or}
 use Rattle.std.proofs.lemmas.List.Elements.{Contains-get_or}
 use Rattle.std.specs.List.{Contains}
 use Rattle.plane.specs.Point.{Point}

@@ -4,10 +4,11 @@ use Rattle.std.proofs.lemmas.List.{append_assoc, map-append, reverse-append}
 use Rattle.std.proofs.lemmas.List.FromFn.{length-range_with_len}
 use Rattle.std.specs.List.{range_with_len}
 use Rattle.plane.specs.Point.{Point}
-use Rattle.meshes.specs.Fits.{Fits, FitsPiece}
+use Rattle.meshes.specs.Fits.{Fits}
 use Rattle.meshes.specs.declared.tri.Tri.{Tri}
 use Rattle.cut_tri.proofs.Completion.{ArePieces, Completes, effort}
-use Rattle.cut_tri.specs.Cutting.{AreParts, IsCutOf, IsEar}
+use Rattle.cut_tri.specs.Cut.{IsCut}
+use Rattle.cut_tri.specs.Cutting.{AreParts, IsCutOf, IsEar, IsTriangle}
 use Rattle.cut_tri.specs.Piece.{IsPiece}
 use Rattle.cut_tri.specs.WorkList.{IsTakenOver, last_first}
 use Rattle.cut_tri.specs.declared.cut.Remains.{Remains}
@@ -28,14 +29,19 @@ pub record IsNearer (corners : List Point) (before : ℕ) (done : List Tri) (pie
 module _ (corners : List Point) (piece : List ℕ) (pieces : List (List ℕ)) (done : List Tri) (is_piece : IsPiece corners piece)
     (are_pieces : ArePieces corners pieces) (completes : Completes corners done (piece ∷ pieces)) where
   -- a triangle fits the piece
-  with_triangle : (tri : Tri) → FitsPiece corners piece (tri ∷ []) → IsNearer corners (effort (piece ∷ pieces)) (done ++ tri ∷ []) pieces
-  with_triangle tri fits = record { are_pieces = are_pieces; completes = completes (tri ∷ []) fits; less = omega (arith, is_piece.polygon.some) }
+  with_triangle : (tri : Tri) → IsTriangle corners piece tri → IsNearer corners (effort (piece ∷ pieces)) (done ++ tri ∷ []) pieces
+  with_triangle tri is = record {
+    are_pieces = are_pieces;
+    completes = completes (tri ∷ []) is.fits is.cut;
+    less = omega (arith, is_piece.polygon.some);
+  }
 
   -- a triangle is cut off
   with_ear : (tri : Tri) (rest : List ℕ) → IsEar corners piece tri rest → IsNearer corners (effort (piece ∷ pieces)) (done ++ tri ∷ []) (rest ∷ pieces)
   with_ear tri rest is = record {
     are_pieces = (is.rest_is_piece, are_pieces);
-    completes = λ ts fit. subst (λ us. Completes corners us pieces) (sym (append_assoc done (tri ∷ []) ts)) (completes (tri ∷ ts) (is.fits ts fit));
+    completes = λ ts fit cut.
+        subst (λ us. Completes corners us pieces) (sym (append_assoc done (tri ∷ []) ts)) (completes (tri ∷ ts) (is.fits ts fit) (is.cut ts cut));
     less = let some = is.rest_is_piece.polygon.some in omega (arith, is.shorter);
   }
 
@@ -43,8 +49,9 @@ module _ (corners : List Point) (piece : List ℕ) (pieces : List (List ℕ)) (d
   with_parts : (first second : List ℕ) → AreParts corners piece first second → IsNearer corners (effort (piece ∷ pieces)) done (first ∷ second ∷ pieces)
   with_parts first second are = record {
     are_pieces = (are.first_is_piece, (are.second_is_piece, are_pieces));
-    completes = λ ts fit us fit_too.
-        subst (λ vs. Completes corners vs pieces) (sym (append_assoc done ts us)) (completes (ts ++ us) (are.fits ts us fit fit_too));
+    completes = λ ts fit cut us fit_too cut_too.
+        subst (λ vs. Completes corners vs pieces) (sym (append_assoc done ts us))
+        (completes (ts ++ us) (are.fits ts us fit fit_too) (are.cut ts us cut cut_too));
     less = let some = are.first_is_piece.polygon.some in let more = are.second_is_piece.polygon.some in omega (arith, are.lengths);
   }
 
@@ -72,7 +79,7 @@ module _ (corners : List Point) where
       subst (λ ws. ArePieces corners (last_first ws) × Completes corners done (last_first ws)) (sym (work_is ∙ ap (λ ws. ws ++ piece ∷ []) none_is))
       (subst (λ xs. ArePieces corners (xs ∷ []) × Completes corners done (xs ∷ [])) (sym piece_is)
       (subst (λ ts. ArePieces corners (range_with_len 0 (length corners) ∷ []) × Completes corners ts (range_with_len 0 (length corners) ∷ [])) (sym done_is)
-      ((is_piece, tt), λ ts fit. fit)))
+      ((is_piece, tt), λ ts fit cut. (fit, cut))))
 
   module _ (work rest : List (Vec ℕ Global)) (piece : Vec ℕ Global) (done : List Tri) (is : work ≡ rest ++ piece ∷ [])
       (so_far : ArePieces corners (last_first work) × Completes corners done (last_first work)) where
@@ -92,8 +99,8 @@ module _ (corners : List Point) where
         (nearer corners piece.items (last_first rest) done last_is_piece (subst (ArePieces corners) pieces_are so_far.0).1
         (subst (Completes corners done) pieces_are so_far.1) remains done_after pieces_after is_cut taken)
 
-  -- in the end the triangles fit, as many as there are vertices but two
+  -- in the end the triangles fit, as many as there are vertices but two, and are those into which the ring is cut
   pub at_end : (work : List (Vec ℕ Global)) (done : List Tri) → length work ≡ 0 → Completes corners done (last_first work)
-      → Fits corners done × (length done + 2 ≡ length corners)
-  at_end [] done none fits = (fits, fits.count ∙ length-range_with_len 0 (length corners))
-  at_end (v ∷ work) done none fits = absurd (omega arith)
+      → Fits corners done × (length done + 2 ≡ length corners) × IsCut corners done
+  at_end [] done none (fits, cut) = (fits, fits.count ∙ length-range_with_len 0 (length corners), cut)
+  at_end (v ∷ work) done none completes = absurd (omega arith)

@@ -1,21 +1,13 @@
--- The vertices in the triangle at the first vertex of a piece, and the farthest of them. No public clause cites this module.
-use Rattle.std.specs.Prelude.{◌≡◌, ◌⊎◌, ℕ, ◌+◌, ◌-◌, ◌<◌, ◌≤◌, ◌<ℤ◌, Option, Some, List, length, slice_index_or}
-use Rattle.plane.specs.Point.{Point, whole}
-use Rattle.plane.specs.Triangle.{IsInTriangle, height_over}
-use Rattle.cut_tri.specs.Piece.{corner_at}
+-- The farthest of the vertices in the triangle at the first vertex of a piece. No public clause cites this module.
+use Rattle.std.specs.Prelude.{◌≡◌, ◌⊎◌, ℕ, ◌<◌, ◌<ℤ◌, Option, Some, List, slice_index_or}
+use Rattle.plane.specs.Point.{Point}
+use Rattle.cut_tri.specs.Cut.{IsInCorner, height_at}
 use Rattle.cut_tri.specs.declared.farthest.Candidate.{Candidate}
-
--- the place is none of the three at the corner, and its vertex is in the closed triangle there
-pub record IsInCorner (corners : List Point) (piece : List ℕ) (k : ℕ) : Type 0 where
-  pub after_second : 2 ≤ k
-  pub before_last : k + 1 < length piece
-  pub in_triangle : IsInTriangle (corner_at corners piece (length piece - 1)) (corner_at corners piece 0) (corner_at corners piece 1)
-      (whole (corner_at corners piece k))
 
 -- the vertex at place k, with its height over the line through the last and the second vertex
 abbrev pub candidate_at : List Point → List ℕ → ℕ → Candidate
 candidate_at corners piece k = record {
-  height = height_over (corner_at corners piece (length piece - 1)) (corner_at corners piece 1) (whole (corner_at corners piece k));
+  height = height_at corners piece k;
   number = slice_index_or piece k 0;
   place = k;
 }

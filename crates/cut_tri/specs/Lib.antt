@@ -1,4 +1,5 @@
 pub mod Corner
+pub mod Cut
 pub mod Cutting
 pub mod Piece
 pub mod WorkList

@@ -1,4 +1,4 @@
--- Pieces of a polygon: simple polygons with some of its vertices. No public clause cites this module.
+-- Pieces of a polygon: simple polygons with some of its vertices.
 use Rattle.std.specs.Prelude.{ℕ, ◌-◌, ◌<◌, List, length, slice_index_or}
 use Rattle.plane.specs.Order.{IsBefore}
 use Rattle.plane.specs.Point.{Point}

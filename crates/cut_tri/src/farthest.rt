@@ -4,7 +4,8 @@ ghost use Rattle.plane.specs.Point.{whole};
 ghost use Rattle.plane.specs.Triangle.{IsInTriangle, height_over};
 ghost use Rattle.plane.specs.Turn.{IsRight, determinant};
 ghost use Rattle.rings.specs.Ring.{vertex};
-ghost use Rattle.cut_tri.specs.Corner.{IsFarther, IsFartherOf, IsFarthestBelow, IsInCorner};
+ghost use Rattle.cut_tri.specs.Cut.{IsInCorner};
+ghost use Rattle.cut_tri.specs.Corner.{IsFarther, IsFartherOf, IsFarthestBelow};
 ghost use Rattle.cut_tri.specs.Piece.{HasNumbers};
 
 use exact_plane::{Direction, Pt, Steps, turn};

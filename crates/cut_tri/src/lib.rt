@@ -3,8 +3,10 @@
 
 mod cut;
 mod farthest;
+mod laws;
 #[cfg(test)]
 mod tests;
 mod triangulation;
 
+pub use laws::one_cut;
 pub use triangulation::triangulate;

@@ -1,6 +1,7 @@
 ghost use Rattle.std.specs.List.{range_with_len};
 ghost use Rattle.std.specs.Prelude.{◌≡◌, IfOk, OnOk, length};
 ghost use Rattle.meshes.specs.Fits.{Fits};
+ghost use Rattle.cut_tri.specs.Cut.{IsCut};
 ghost use Rattle.cut_tri.specs.WorkList.{IsTakenOver, last_first};
 
 use crate::cut::{Remains, cut};
@@ -11,13 +12,15 @@ use std::alloc::Global;
 use std::sync::ledger::Ledger;
 use tri_mesh::Mesh;
 
-/// A triangulation of the polygon. It is cut along one diagonal after another, until each piece is a triangle.
+/// The triangulation of the polygon that its vertices determine: pieces are cut at their lexicographically least vertex, along one
+/// diagonal after another, until each is a triangle.
 pub fn triangulate<L: Ledger>(
     alloc: Global,
     ring: &Ring,
     steps: &mut Steps<L>,
 ) -> Result<Mesh, Memory>
-    ensures fits { IfOk result (λ mesh. Fits ring.now.corners mesh) }
+    ensures fits { IfOk result (Fits ring.now.corners) }
+    ensures cut { IfOk result (IsCut ring.now.corners) }
 {
     let mut tris = Vec::with_capacity(alloc, ring.len() as usize - 2)?;
     let mut work = Vec::new(alloc);

@@ -23,3 +23,9 @@ build-requires-clause-few g c =
     let fits = at_end c.args.ring.now.corners c.loop-piece.work.items c.loop-piece.tris.items none c.loop-piece.invariant.1 in
     let size = c.loop-piece.tris.ok.0 in
     omega (arith, fits.1, c.len.ensures.size)
+
+pub returns-clause-cut : goal.returns-clause-cut
+returns-clause-cut g c =
+    let none : length c.loop-piece.work.items ≡ 0 = sym c.loop-piece.work.ok.0 ∙ c.in_default.ensures.cases.0 in
+    let is_cut = (at_end c.args.ring.now.corners c.loop-piece.work.items c.loop-piece.tris.items none c.loop-piece.invariant.1).2 in
+    grind (arith, is_cut, c.build.ensures)
