@@ -1,0 +1,11 @@
+mod ThreeClasses
+mod OneParting
+mod SomeParting
+mod CornerClasses
+mod GivenClasses
+mod ClassMembers
+mod GivenNumbers
+mod Choice
+mod Watched
+mod OneGuards
+mod KnownRows

@@ -1,0 +1,4 @@
+pub mod Guards
+pub mod Parting
+pub mod Rows
+pub mod Tally

@@ -1,0 +1,26 @@
+ghost use Rattle.std.specs.Prelude.{◌≤◌, ◌/◌, IfOk, length};
+ghost use Rattle.meshes.specs.Fits.{Fits};
+ghost use Rattle.ring_check.specs.Oriented.{given_of};
+ghost use Rattle.guards3.specs.Guards.{AreGuards, SeeAll};
+
+use crate::members::members;
+use crate::parting::classes_of;
+use crate::tally::Tally;
+use exact_plane::Memory;
+use ring_check::Ring;
+use std::alloc::Global;
+use tri_mesh::Mesh;
+
+/// The guards of a polygon with a mesh that fits it, by their numbers in the list that the ring was made of, rising. The
+/// vertices are parted into three classes, of which each triangle has one corner each; the guards are the class with the
+/// fewest vertices, of equal ones that with the least number.
+pub fn guards(alloc: Global, ring: &Ring, mesh: &Mesh) -> Result<Vec<u32>, Memory>
+    requires { Fits ring.now.corners mesh.now }
+    ensures guards { IfOk result (λ found. AreGuards ring.now mesh.now found.items) }
+    ensures few { IfOk result (λ found. length found.items ≤ length ring.now.corners / 3) }
+    ensures seen { IfOk result (λ found. SeeAll (given_of ring.now) found.items) }
+{
+    let classes = classes_of(alloc, ring, mesh)?;
+    let fewest = Tally::fewest(ring, &classes);
+    members(alloc, ring, &classes, fewest.class, fewest.count)
+}

@@ -1,0 +1,13 @@
+//! Guards of a triangulated polygon: at most a third of its vertices, which see all of it.
+#![tactic(auto)]
+
+mod guarding;
+mod laws;
+mod members;
+mod parting;
+mod tally;
+#[cfg(test)]
+mod tests;
+
+pub use guarding::guards;
+pub use laws::{one_guards, one_parting};
