@@ -1,0 +1,7 @@
+use Rattle.std.proofs.Common.{ℕ, ◌<◌}
+use Rattle.meshes.specs.Side.{tri_at}
+use Rattle.path_tree.specs.Growing.{HasCorner}
+use Rattle.pair_cut.proofs.rows.triangle_at.Given as goal
+
+abbrev pub invariant-loop-k : goal.invariant-loop-k
+invariant-loop-k l = (p : ℕ) → p < l.k → ¬ HasCorner (tri_at l.mesh p) l.i
