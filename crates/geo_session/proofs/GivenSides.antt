@@ -3,7 +3,9 @@ use Rattle.std.proofs.Common.{ℕ, List}
 use Rattle.plane.specs.Point.{Point}
 use Rattle.rings.specs.Chain.{IsPath, point_at}
 use Rattle.exact_plane.specs.declared.direction.Direction.{Direction}
-use Rattle.rel_hull.specs.Hull.{IsInnerPoint, IsOnPath, IsSide, IsTurnBetween}
+use Rattle.hulls.specs.Inner.{IsInnerPoint}
+use Rattle.hulls.specs.Joined.{IsOnPath}
+use Rattle.rel_hull.specs.Hull.{IsSide, IsTurnBetween}
 use Rattle.rel_hull.specs.Table.{AreSides}
 use Rattle.ring_check.specs.Oriented.{Oriented, given_of}
 use Rattle.geo_session.proofs.GivenPath.{path_given, path_held}

@@ -16,13 +16,13 @@ use Rattle.geo_session.proofs.GivenPath.{path_given}
 use Rattle.geo_session.proofs.GivenSize.{length_either}
 
 -- vertex i of the list is the ring's vertex with the number that i has in a list turned round
-vertex_either : (turned : Bool) (corners : List Point) (i : ℕ) → i < length corners
+pub vertex_either : (turned : Bool) (corners : List Point) (i : ℕ) → i < length corners
     → vertex (if turned then turned_round corners else corners) i ≡ vertex corners (if turned then (length corners - i) % length corners else i)
 vertex_either false corners i below = refl
 vertex_either true corners i below = vertex-turned_round corners i (omega arith) ∙ sym (vertex_mod corners (length corners - i))
 
 -- which is a number of the list
-number_either : (turned : Bool) (n i : ℕ) → i < n → (if turned then (n - i) % n else i) < n
+pub number_either : (turned : Bool) (n i : ℕ) → i < n → (if turned then (n - i) % n else i) < n
 number_either false n i below = below
 number_either true n i below = mod-lt (n - i) (omega arith)
 

@@ -8,7 +8,7 @@ use Rattle.plane.specs.Point.{Point}
 use Rattle.rings.specs.Chain.{IsPath, point_at}
 use Rattle.rings.specs.Ring.{origin}
 use Rattle.meshes.specs.declared.tri.Tri.{Tri}
-use Rattle.rel_hull.specs.Hull.{AreDistinct}
+use Rattle.hulls.specs.Inner.{AreDistinct}
 use Rattle.rel_hull.specs.Table.{AreSides, IsTableOf, Table, chain_at, pair_at, points_of}
 use Rattle.geo_session.proofs.Spanned.{chain_between_places}
 use Rattle.geo_session.specs.Hull.{AreFirsts}

@@ -17,7 +17,6 @@ mod GivenView
 mod GivenKernel
 mod Fronts
 mod OneView
-mod OneOrder
 mod OneShown
 mod OneHull
 mod GivenSides
@@ -25,3 +24,7 @@ mod Spanned
 mod HullTable
 mod Hulls
 mod OneAnswer
+mod GivenNumbers
+mod SortedPairs
+mod TurnedPairs
+mod GivenSights

@@ -8,9 +8,10 @@ use Rattle.plane.specs.Point.{Point}
 use Rattle.rings.specs.Chain.{point_at}
 use Rattle.geo_text.specs.Texts.{bad_text}
 use Rattle.geo_text.specs.declared.command.Bad.TheVariants as bad
+use Rattle.pair_cut.proofs.OneOrder.{one_ordered}
+use Rattle.pair_cut.proofs.PairOrder.{before_through, not_before_itself}
 use Rattle.rel_hull.specs.Hull.{IsSide}
 use Rattle.rel_hull.specs.Table.{AreSides, IsPairBefore, pair_at}
-use Rattle.geo_session.proofs.OneOrder.{one_ordered}
 use Rattle.geo_session.proofs.OneShown.{one_shown}
 use Rattle.geo_session.specs.Hull.{AreFirsts, IsFirstOutside, IsHullIn, IsSideText, TellsHull, hull_text, point_outside, side_text, spanned}
 
@@ -20,22 +21,7 @@ one_firsts points numbers others h g =
     one_ordered ◌<◌ (λ x less. omega (arith, less)) (λ x y z less more. omega (arith, less, more)) 0 numbers others h.rising g.rising
     (λ i inside. (g.first i).1 ((h.first i).0 inside)) (λ i inside. (h.first i).1 ((g.first i).0 inside))
 
--- and so are the sides, whose order is strict
-not_before_itself : (p : ℕ × ℕ) → ¬ IsPairBefore p p
-not_before_itself p before = elim before [ inl less ↦ omega (arith, less) | inr h ↦ let less = h.1 in omega (arith, less) ]
-
-before_through : (p q r : ℕ × ℕ) → IsPairBefore p q → IsPairBefore q r → IsPairBefore p r
-before_through p q r h g = elim h [
-  | inl less ↦ elim g [ inl more ↦ inl (omega arith) | inr both ↦ let same = both.0 in inl (omega arith) ]
-  | inr both ↦
-      let same = both.0 in
-      let less = both.1 in
-      elim g [
-        | inl more ↦ inl (omega arith)
-        | inr too ↦ let same_too = too.0 in let more = too.1 in inr (omega arith, omega arith)
-      ]
-]
-
+-- and so are the sides
 module _ (ring points : List Point) where
   listed_sides : (sides others : List (ℕ × ℕ)) → AreSides ring points sides → AreSides ring points others → (p : ℕ × ℕ) → Contains sides p
       → Contains others p

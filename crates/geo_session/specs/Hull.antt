@@ -4,6 +4,7 @@ use Rattle.std.specs.Prelude.{◌≡◌, ◌≢◌, ◌↔◌, Bool, ℕ, ◌+�
 use Rattle.plane.specs.Point.{Point, whole}
 use Rattle.rings.specs.Chain.{point_at}
 use Rattle.rings.specs.Inside.{IsIn}
+use Rattle.hulls.specs.Inner.{AreAllIn}
 use Rattle.geo_text.specs.Texts.{bad_text, index_text, pt_text}
 use Rattle.geo_text.specs.declared.command.Bad.TheVariants as bad
 use Rattle.rel_hull.specs.Table.{AreSides, pair_at}
@@ -45,10 +46,6 @@ pub record IsFirstOutside (ring points : List Point) (k : ℕ) : Type 0 where
   pub in_list : k < length points
   pub outside : ¬ IsIn ring (whole (point_at points k))
   pub before : (j : ℕ) → j < k → IsIn ring (whole (point_at points j))
-
--- each point is in the polygon
-abbrev pub AreAllIn : List Point → List Point → Type 0
-AreAllIn ring points = (k : ℕ) → k < length points → IsIn ring (whole (point_at points k))
 
 -- the first of the points that is not in the polygon is refused, by its number counted from 1, or else their hull is told
 pub data IsHullIn (two : Bool) (ring points : List Point) (text : List ℕ) : Type 0 where

@@ -6,12 +6,13 @@ use Rattle.std.specs.declared.alloc.Global.{Global}
 use Rattle.plane.specs.Point.{Point, whole}
 use Rattle.plane.specs.declared.limits.TheConstants.{MAX_CORNERS, MAX_HULL}
 use Rattle.rings.specs.Chain.{IsPath, point_at}
+use Rattle.hulls.specs.Inner.{AreAllIn}
 use Rattle.meshes.specs.declared.tri.Tri.{Tri}
 use Rattle.geo_text.specs.Texts.{index_text}
 use Rattle.dual_tree.specs.Location.{IsLeastHolding}
 use Rattle.rel_hull.specs.Table.{AreSides, Table, chain_at, pair_at}
 use Rattle.geo_session.specs.Along.{IsPathBetween}
-use Rattle.geo_session.specs.Hull.{AreAllIn, AreFirsts, IsFirstOutside, side_text}
+use Rattle.geo_session.specs.Hull.{AreFirsts, IsFirstOutside, side_text}
 use Rattle.geo_session.specs.Shown.{IsShown, IsShownPath}
 use Rattle.geo_session.specs.declared.hull.Hull.{Hull}
 

@@ -1,9 +1,13 @@
+pub mod Closing
+mod Exchanged
 mod OneTurn
 mod OnLine
 pub mod Outer
 mod Paths
 mod PathTurns
+mod SideEnds
 mod SideLists
 mod TableInner
 mod TableReads
 mod TableSides
+pub mod Turned

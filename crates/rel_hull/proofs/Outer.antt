@@ -1,11 +1,10 @@
--- Lists of the outer points, one point after another, and their order.
-use Rattle.std.proofs.Common.{◌≡◌, inl, inr, ℕ, ◌+◌, ◌<◌, ◌≤◌, List, [], ◌∷◌, ◌++◌, length, get_or, slice_index, subst, ◌∙◌, arith}
+-- Lists of the numbers that are not such, as those of outer points, one number after another, and their order.
+use Rattle.std.proofs.Common.{◌≡◌, ◌⊎◌, inl, inr, ℕ, zero, suc, ◌+◌, ◌<◌, ◌≤◌, List, [], ◌∷◌, ◌++◌, length, get_or, slice_index, subst, ◌∙◌, arith}
 use Rattle.std.proofs.lemmas.Bool.{cases_eq, cases_lt}
 use Rattle.std.proofs.lemmas.List.{get_or_append_left, get_or_default, get_or_past, get_or_push, length_push}
 use Rattle.std.proofs.lemmas.List.Elements.{Contains-append_left, Contains-get_or, Contains-push, Contains-push_cases}
 use Rattle.std.specs.List.{Contains}
-use Rattle.rel_hull.specs.Table.{Table}
-use Rattle.rel_hull.specs.Told.{AreOuterBelow, IsPassed}
+use Rattle.rel_hull.specs.Told.{AreOthersBelow}
 
 -- an element stands at its place, at any default
 pub contained_at : (xs : List ℕ) (x : ℕ) → (inside : Contains xs x) → slice_index xs inside.0 ≡ x
@@ -26,43 +25,62 @@ ordered_push {X} R xs x d ordered before k l h in_list =
           rw (first, get_or_push xs x d l at) (before (get_or xs k d) (Contains-get_or xs k d lesser))
     ]
 
-module _ (table : Table) (n : ℕ) (outer : List ℕ) (are : AreOuterBelow table n outer) where
-  -- the next point is outer
-  pub outer_more : ¬ IsPassed table n → AreOuterBelow table (n + 1) (outer ++ n ∷ [])
-  outer_more not_passed = record {
-    below = λ s inside. elim (Contains-push_cases outer n s inside) [
+module _ (Is : ℕ → Type 0) (n : ℕ) (others : List ℕ) (are : AreOthersBelow Is n others) where
+  -- the next number is not such
+  pub others_more : ¬ Is n → AreOthersBelow Is (n + 1) (others ++ n ∷ [])
+  others_more not = record {
+    below = λ s inside. elim (Contains-push_cases others n s inside) [
       | inl before ↦ let h = are.below s before in omega arith
       | inr e ↦ omega arith
     ];
-    not_passed = λ s inside. elim (Contains-push_cases outer n s inside) [
-      | inl before ↦ are.not_passed s before
-      | inr e ↦ subst (λ (point : ℕ). ¬ IsPassed table point) e not_passed
+    none = λ s inside. elim (Contains-push_cases others n s inside) [
+      | inl before ↦ are.none s before
+      | inr e ↦ subst (λ (k : ℕ). ¬ Is k) e not
     ];
-    all = λ s h not. elim (cases_eq n s) [
-      | inl e ↦ subst (λ (point : ℕ). Contains (outer ++ n ∷ []) point) e (Contains-push outer n)
-      | inr other ↦ Contains-append_left outer (n ∷ []) s (are.all s (omega arith) not)
+    all = λ s h other. elim (cases_eq n s) [
+      | inl e ↦ subst (λ (k : ℕ). Contains (others ++ n ∷ []) k) e (Contains-push others n)
+      | inr apart ↦ Contains-append_left others (n ∷ []) s (are.all s (omega arith) other)
     ];
-    ascending = ordered_push ◌<◌ outer n 0 are.ascending are.below;
+    ascending = ordered_push ◌<◌ others n 0 are.ascending are.below;
   }
 
-  -- or it is not
-  pub outer_same : IsPassed table n → AreOuterBelow table (n + 1) outer
-  outer_same passed = record {
+  -- or it is
+  pub others_same : Is n → AreOthersBelow Is (n + 1) others
+  others_same is = record {
     below = λ s inside. let h = are.below s inside in omega arith;
-    not_passed = are.not_passed;
-    all = λ s h not. elim (cases_eq n s) [
-      | inl e ↦ absurd (not (subst (λ (point : ℕ). IsPassed table point) e passed))
-      | inr other ↦ are.all s (omega arith) not
+    none = are.none;
+    all = λ s h other. elim (cases_eq n s) [
+      | inl e ↦ absurd (other (subst Is e is))
+      | inr apart ↦ are.all s (omega arith) other
     ];
     ascending = are.ascending;
   }
 
--- ---- the order of a list of outer points
+-- so there is such a list
+pub some_others : (Is : ℕ → Type 0) → ((s : ℕ) → Is s ⊎ (¬ Is s)) → (n : ℕ) → (others : List ℕ) × AreOthersBelow Is n others
+some_others Is decide zero = (
+  [],
+  record {
+    below = λ s inside. absurd (omega (arith, inside.1));
+    none = λ s inside. absurd (omega (arith, inside.1));
+    all = λ s h other. absurd (omega (arith, h));
+    ascending = λ k l less h. absurd (omega (arith, h));
+  },
+)
+some_others Is decide (suc n) =
+    let found = some_others Is decide n in
+    let next : n + 1 ≡ suc n = omega arith in
+    elim (decide n) [
+      | inl is ↦ (found.0, subst (λ (k : ℕ). AreOthersBelow Is k found.0) next (others_same Is n found.0 found.1 is))
+      | inr not ↦ (found.0 ++ n ∷ [], subst (λ (k : ℕ). AreOthersBelow Is k (found.0 ++ n ∷ [])) next (others_more Is n found.0 found.1 not))
+    ]
+
+-- ---- the order of such a list
 
 module _ (outer : List ℕ) (n : ℕ) (below : (s : ℕ) → Contains outer s → s < n)
     (ascending : (k l : ℕ) → k < l → l < length outer → slice_index outer k < slice_index outer l) where
   -- a later point is not less
-  not_less : (k l : ℕ) → k ≤ l → l < length outer → slice_index outer k ≤ slice_index outer l
+  pub not_less : (k l : ℕ) → k ≤ l → l < length outer → slice_index outer k ≤ slice_index outer l
   not_less k l h in_list = elim (cases_eq k l) [
     | inl e ↦ rw e (omega arith)
     | inr other ↦ let rises = ascending k l (omega arith) in_list in omega arith

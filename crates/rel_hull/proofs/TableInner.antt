@@ -1,9 +1,10 @@
 -- The chains of a table of a ring tell which points are inner.
 use Rattle.std.proofs.Common.{◌≡◌, ℕ, ◌<◌, List, length, sym, subst}
 use Rattle.std.proofs.lemmas.List.FromFn.{length-map-range_with_len}
+use Rattle.hulls.proofs.Turning.{one_path}
+use Rattle.hulls.specs.Inner.{IsInnerPoint}
+use Rattle.hulls.specs.Joined.{IsOnPath}
 use Rattle.plane.specs.Point.{Point}
-use Rattle.rel_hull.proofs.Paths.{one_path}
-use Rattle.rel_hull.specs.Hull.{IsInnerPoint, IsOnPath}
 use Rattle.rel_hull.specs.Table.{IsTableOf, Table, chain_at, points_of}
 use Rattle.rel_hull.specs.Told.{IsOnChain, IsPassed}
 use Rattle.rings.specs.Chain.{point_at}

@@ -3,11 +3,12 @@ use Rattle.std.proofs.Common.{ℕ, ◌<◌, List}
 use Rattle.std.proofs.lemmas.List.Elements.{Contains-get_or}
 use Rattle.std.specs.List.{Contains}
 use Rattle.exact_plane.specs.declared.direction.Direction.TheVariants.{Left}
+use Rattle.hulls.proofs.Turning.{one_path}
+use Rattle.hulls.specs.Inner.{IsInnerPoint}
 use Rattle.plane.specs.Point.{Point}
 use Rattle.rel_hull.proofs.TableInner.{inner_of_passed, length-points_of, passed_of_inner}
-use Rattle.rel_hull.proofs.Paths.{one_path}
 use Rattle.rel_hull.proofs.SideLists.{all_sides}
-use Rattle.rel_hull.specs.Hull.{IsInnerPoint, IsSide, IsTurnBetween}
+use Rattle.rel_hull.specs.Hull.{IsSide, IsTurnBetween}
 use Rattle.rel_hull.specs.PathTurn.{IsPathTurn}
 use Rattle.rel_hull.specs.Table.{AreSides, IsTableOf, Table, chain_at, pair_at, points_of}
 use Rattle.rel_hull.specs.Told.{AreOuterBelow, AreSidesBefore, IsTold}
@@ -38,14 +39,14 @@ module _ (ring : List Point) (table : Table) (is : IsTableOf ring table) where
   module _ (outer : List ℕ) (are : AreOuterBelow table table.count outer) where
     -- an outer point is one that isn't inner,
     not_inner : (s : ℕ) → Contains outer s → ¬ IsInnerPoint ring (points_of table) s
-    not_inner s inside inner = are.not_passed s inside (passed_of_inner ring table is s inner)
+    not_inner s inside inner = are.none s inside (passed_of_inner ring table is s inner)
 
     -- and the other way round
     is_outer : (s : ℕ) → s < table.count → ¬ IsInnerPoint ring (points_of table) s → Contains outer s
     is_outer s at_s outside = are.all s at_s (λ passed. outside (inner_of_passed ring table is s passed))
 
     -- a pair that is told is a side,
-    side_of_told : (pair : ℕ × ℕ) → IsTold table outer pair → IsSide ring (points_of table) pair.0 pair.1
+    pub side_of_told : (pair : ℕ × ℕ) → IsTold table outer pair → IsSide ring (points_of table) pair.0 pair.1
     side_of_told pair told =
         let at_s = are.below pair.0 told.first in
         let at_t = are.below pair.1 told.second in
@@ -61,7 +62,7 @@ module _ (ring : List Point) (table : Table) (is : IsTableOf ring table) where
         }
 
     -- and the other way round
-    told_of_side : (s t : ℕ) → IsSide ring (points_of table) s t → IsTold table outer (s, t)
+    pub told_of_side : (s t : ℕ) → IsSide ring (points_of table) s t → IsTold table outer (s, t)
     told_of_side s t side =
         let at_s = rw length-points_of at side.s_in_list in
         let at_t = rw length-points_of at side.t_in_list in

@@ -3,7 +3,8 @@ use Rattle.std.specs.List.{Contains, range_with_len}
 use Rattle.std.specs.Prelude.{◌≡◌, ◌⊎◌, ℕ, ◌+◌, ◌*◌, ◌^◌, ◌<◌, ◌≤◌, List, [], length, map, slice_index_or}
 use Rattle.plane.specs.Point.{Point}
 use Rattle.rings.specs.Chain.{IsPath, point_at}
-use Rattle.rel_hull.specs.Hull.{AreDistinct, IsSide}
+use Rattle.hulls.specs.Inner.{AreDistinct}
+use Rattle.rel_hull.specs.Hull.{IsSide}
 
 -- how many points there are, and the chains: chain i * count + j goes from point i to point j
 pub record Table : Type 0 where

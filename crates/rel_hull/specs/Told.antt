@@ -1,7 +1,7 @@
 -- What a table keeps of its chains, and which points are inner and which pairs are sides by the chains alone. No public clause
 -- cites it. This project's own.
 use Rattle.std.specs.List.{Contains}
-use Rattle.std.specs.Prelude.{◌≡◌, ◌≢◌, ℕ, ◌+◌, ◌*◌, ◌^◌, ◌<◌, List, length, slice_index}
+use Rattle.std.specs.Prelude.{◌≡◌, ◌≢◌, ◌⊎◌, ℕ, ◌+◌, ◌*◌, ◌^◌, ◌<◌, ◌≤◌, List, length, slice_index}
 use Rattle.plane.specs.Point.{Point, whole}
 use Rattle.plane.specs.Segment.{On}
 use Rattle.rings.specs.Chain.{point_at}
@@ -38,16 +38,24 @@ pub record IsPassed (table : Table) (s : ℕ) : Type 0 where
   pub not_s : a ≢ s
   pub passes : IsPassedFrom table a s
 
--- the numbers below n are exactly those of points that are on no such chain, in order
-pub record AreOuterBelow (table : Table) (n : ℕ) (outer : List ℕ) : Type 0 where
-  pub below : (s : ℕ) → Contains outer s → s < n
-  pub not_passed : (s : ℕ) → Contains outer s → ¬ IsPassed table s
-  pub all : (s : ℕ) → s < n → ¬ IsPassed table s → Contains outer s
-  pub ascending : (k l : ℕ) → k < l → l < length outer → slice_index outer k < slice_index outer l
+-- a list of the numbers below n that are not such, in order
+pub record AreOthersBelow (Is : ℕ → Type 0) (n : ℕ) (list : List ℕ) : Type 0 where
+  pub below : (s : ℕ) → Contains list s → s < n
+  pub none : (s : ℕ) → Contains list s → ¬ Is s
+  pub all : (s : ℕ) → s < n → ¬ Is s → Contains list s
+  pub ascending : (k l : ℕ) → k < l → l < length list → slice_index list k < slice_index list l
+
+-- the numbers below n of points that are on no such chain, in order
+abbrev pub AreOuterBelow : Table → ℕ → List ℕ → Type 0
+AreOuterBelow table = AreOthersBelow (IsPassed table)
 
 -- point u is one of the ends of the chain from s to t, or to the left of it
 abbrev pub IsLeftOf : Table → ℕ → ℕ → ℕ → Type 0
 IsLeftOf table s t u = u ≢ s → u ≢ t → IsPathTurn (chain_at table s t) (chain_at table s u) Left
+
+-- seen from s, another point t is not to the left of an end; s itself is none
+abbrev pub ComesFirst : Table → ℕ → ℕ → ℕ → Type 0
+ComesFirst table s end t = (t ≢ s) × ((end ≡ s) ⊎ (¬ IsLeftOf table s end t))
 
 -- a pair of different outer points is a side: all outer points are to the left of its chain
 pub record IsTold (table : Table) (outer : List ℕ) (pair : ℕ × ℕ) : Type 0 where
@@ -55,6 +63,15 @@ pub record IsTold (table : Table) (outer : List ℕ) (pair : ℕ × ℕ) : Type 
   pub second : Contains outer pair.1
   pub different : pair.0 ≢ pair.1
   pub left : (u : ℕ) → Contains outer u → IsLeftOf table pair.0 pair.1 u
+
+-- a side that is told goes from point s
+abbrev pub StartsTold : Table → List ℕ → ℕ → Type 0
+StartsTold table outer s = (t : ℕ) × IsTold table outer (s, t)
+
+-- point s is the least that one goes from
+pub record IsFirstStart (table : Table) (outer : List ℕ) (s : ℕ) : Type 0 where
+  pub starts : StartsTold table outer s
+  pub least : (r : ℕ) → StartsTold table outer r → s ≤ r
 
 -- the pairs are exactly the sides that come before a pair, in order
 pub record AreSidesBefore (table : Table) (outer : List ℕ) (bound : ℕ × ℕ) (pairs : List (ℕ × ℕ)) : Type 0 where

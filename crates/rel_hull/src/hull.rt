@@ -26,7 +26,7 @@ pub fn sides<L: Ledger>(
 }
 
 // The numbers of the points that aren't inner.
-fn outer_points<L: Ledger>(
+pub(crate) fn outer_points<L: Ledger>(
     alloc: Global,
     chains: &ChainTable,
     steps: &mut Steps<L>,
@@ -122,7 +122,7 @@ fn put_sides<L: Ledger>(
 }
 
 // Whether all other points are to the left of the path from one to another.
-fn is_side<L: Ledger>(
+pub(crate) fn is_side<L: Ledger>(
     chains: &ChainTable,
     outer: &[u32],
     s: u32,
@@ -143,7 +143,13 @@ fn is_side<L: Ledger>(
 }
 
 // Whether a point is one of the two, or to the left of the path from one to the other.
-fn is_left<L: Ledger>(chains: &ChainTable, s: u32, t: u32, u: u32, steps: &mut Steps<L>) -> bool
+pub(crate) fn is_left<L: Ledger>(
+    chains: &ChainTable,
+    s: u32,
+    t: u32,
+    u: u32,
+    steps: &mut Steps<L>,
+) -> bool
     requires first { s < chains.now.count }
     requires second { t < chains.now.count }
     requires third { u < chains.now.count }

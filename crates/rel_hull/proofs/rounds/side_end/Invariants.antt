@@ -1,0 +1,10 @@
+use Rattle.std.proofs.Common.{◌≢◌}
+use Rattle.std.specs.List.{Contains}
+use Rattle.rel_hull.proofs.SideEnds.{IsEndOfFirst}
+use Rattle.rel_hull.proofs.rounds.side_end.Given as goal
+
+abbrev pub invariant-loop-t : goal.invariant-loop-t
+invariant-loop-t g l = record {
+  other : l.end ≢ l.s → Contains l.outer l.end;
+  first : IsEndOfFirst l.chains l.outer l.s l.t-index l.end;
+}
