@@ -9,5 +9,4 @@ mod table;
 mod tests;
 
 pub use laws::one_sights;
-pub use rows::triangle_at;
 pub use table::{MAX_PAIRED, PairTable};

@@ -32,8 +32,8 @@ pub(crate) fn row_from<T: Turns, L: Ledger>(
     numbers_before(alloc, &tree, mesh.count() + 2, i)
 }
 
-/// A triangle with corner `i`, which some triangle has.
-pub fn triangle_at(mesh: &Mesh, i: u32) -> u32
+// A triangle with corner `i`.
+fn triangle_at(mesh: &Mesh, i: u32) -> u32
     requires { (k : ℕ) × (k < length mesh.now) × HasCorner (tri_at mesh.now k) i }
     ensures in_list { result < length mesh.now }
     ensures corner { HasCorner (tri_at mesh.now result) i }
