@@ -64,9 +64,8 @@ pub round_closes : (n : ℕ) (Left : ℕ → ℕ → ℕ → Type 0) → AreTurn
     → ((round : List ℕ) × IsRoundOf n Left round × (slice_index round 0 ≡ s))
     × ((one other : List ℕ) → IsRoundOf n Left one → IsRoundOf n Left other → slice_index one 0 ≡ s → slice_index other 0 ≡ s → one ≡ other)
 round_closes n Left turning s t side =
-    let (round, closes, first) = closes_from n Left turning s t side in
-    (
+    let (round, closes, first) = closes_from n Left turning s t side in (
       (round, closed_is_round n Left turning round closes, first),
       λ one other is is_too. same_rounds (IsSideOf n Left) (one_end n Left turning) s t side one other
-      (record { distinct = is.distinct; sides = is.sides }) (record { distinct = is_too.distinct; sides = is_too.sides }),
+          (record { distinct = is.distinct; sides = is.sides }) (record { distinct = is_too.distinct; sides = is_too.sides }),
     )
