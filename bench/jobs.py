@@ -1,11 +1,13 @@
 """What is timed: each command on rings of several shapes and sizes, the test of a ring alone, scripts of up to 8 MiB, and in version
 2 of the script rings and paths."""
+import random
 from dataclasses import dataclass, field
 
 import inputs
 from inputs import MORE_SHAPES, SHAPES, WAYS, answer, ends, record, records
 
 SIZES = {1: [256, 1024, 4096], 2: [4096, 16_384]}
+PAIRED = 1024  # the most vertices that `pair` and `sights` take
 BYTES = [131_072, 524_288, 2_097_152, 8_388_608]
 PLACES, VIEWS, PATHS, LISTS, PEGS, TIMES, WALKS = 1000, 100, 1000, 20, 16, 20, 100
 
@@ -55,7 +57,8 @@ def jobs(sizes, only, ask):
     """The jobs whose name has a text, those of one name together. `ask` gives the lines that answer a script. Each version has its
     own sizes, or takes of those that are given the ones within its limit."""
     for version, command, note, shapes, fill in COMMANDS:
-        for shape, n in ((shape, n) for shape in shapes for n in sizes or SIZES[version] if n <= SIZES[version][-1]):
+        most = PAIRED if command in ('pair', 'sights') else SIZES[version][-1]
+        for shape, n in ((shape, n) for shape in shapes for n in sizes or SIZES[version] if n <= most):
             job = Job(command, shape, note, n, version)
             if only in job.name:
                 job.ring = MORE_SHAPES[shape](n)
@@ -124,6 +127,36 @@ def hull(job, ask):
     job.queries = [tuple(map(int, point)) for side in sides for point in (side[:2], side[-2:])]
 
 
+def closed_round(job, ask):
+    """It is to follow the sides of the hull."""
+    places = inputs.inner_places(job.ring, PEGS)
+    sides = (line.split(',') for line in ask(job.before + record('hull', places)) if line.startswith('side,'))
+    after = {int(i): int(j) for _, i, j, *_ in sides}
+    way = [min(after)]
+    while after[way[-1]] != way[0]:
+        way.append(after[way[-1]])
+    job.timed = record('round', places)
+    job.known = job.accepted + ','.join(map(str, ['round', len(way), *way])) + '\n'
+
+
+def guards(job, ask):
+    job.timed, job.times = TIMES * 'guards\n', TIMES
+
+
+def pair(job, ask):
+    """The table of all pairs is there before."""
+    draw = random.Random(job.size)
+    ends = [draw.randrange(job.size) for _ in range(2 * PATHS)]
+    job.queries = [job.ring[i] for i in ends]
+    job.before += 'pair,0,0\n'
+    job.timed = ''.join(f'pair,{i},{j}\n' for i, j in zip(ends[::2], ends[1::2]))
+
+
+def sights(job, ask):
+    """The table of all pairs is made."""
+    job.queries, job.timed = job.ring, 'sights\n'
+
+
 def known_way(way, command):
     """A way that is known to be the path, to find or to check."""
     def fill(job, ask):
@@ -170,6 +203,10 @@ COMMANDS = [
     (1, 'path', f'{PATHS:,} pairs', SHAPES, path),
     (1, 'check', f'{LISTS} paths', SHAPES, check),
     (1, 'hull', f'{PEGS} points', SHAPES, hull),
+    (1, 'round', f'{PEGS} points', SHAPES, closed_round),
+    (1, 'guards', '', SHAPES, guards),
+    (1, 'pair', f'{PATHS:,} pairs', SHAPES, pair),
+    (1, 'sights', '', SHAPES, sights),
     (1, 'path', 'end to end', ['comb'], known_way(inputs.way_along_comb, 'path')),
     (1, 'check', 'end to end', ['comb'], known_way(inputs.way_along_comb, 'check')),
     (1, 'path', 'along the teeth', ['saw'], known_way(inputs.way_through_saw, 'path')),

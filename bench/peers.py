@@ -20,7 +20,8 @@ class Peer:
     """A peer of a command: its name, its program and the job that it is asked. `theirs` makes of what it shows for a job the lines
     that `geo` should answer, and `ours` takes from the answers what is compared with them; where there is nothing to
     compare, there is no `theirs`. Of the steps of its time, `part` are those that do what is timed, and `whole` those that do
-    what the whole script does."""
+    what the whole script does. Where it takes but so many queries at once, its `batch`, it is run once for each so many, and the
+    times of the job are added up; to load and prepare counts once."""
 
     name: str
     program: str
@@ -29,6 +30,7 @@ class Peer:
     ours: Callable = list
     part: tuple = ('run',)
     whole: tuple = ('load', 'prep', 'run')
+    batch: int = None
 
 
 def same(shown, job):
@@ -88,6 +90,13 @@ def kernels(shown, job):
     return job.times * [f'kernel,{len(order)}', *(f'corner,{x},{y}' for x, y in order)]
 
 
+def seen_pairs(shown, job):
+    """The pairs of vertices that see each other, by the tree of paths from each: in that of vertex i, vertex j comes straight from it."""
+    heads = [k for k, line in enumerate(shown) if line.startswith('tree,')]
+    found = [(i, j) for i, head in enumerate(heads) for j in range(i + 1, job.size) if shown[head + 1 + j] == f'from,{j},s']
+    return [f'sights,{len(found)}', *(f'sight,{i},{j}' for i, j in found)]
+
+
 def sides(lines):
     """The sides of a hull as paths."""
     return ['path,' + line.split(',', 3)[-1] for line in lines[1:]]
@@ -105,6 +114,9 @@ PEERS = {
     'reach': [Peer('funnels over CGAL', 'funnel', 'path1000', same)],
     'path': [Peer('funnels over CGAL', 'funnel', 'path1000', paths)],
     'hull': [Peer('funnels over CGAL', 'funnel', 'path1000', same, sides, part=())],
+    'pair': [Peer('funnels over CGAL', 'funnel', 'path1000', same)],
+    'sights': [Peer('CGAL, from each vertex', 'cgal', 'see100:tev', batch=100),
+               Peer('funnels over CGAL', 'funnel', 'tree', seen_pairs, batch=1)],
 }
 
 
@@ -122,8 +134,14 @@ class Folder:
 
     def ask(self, peer, job, shows=False):
         """The words that a peer ends with, and before them its answers, where it shows them."""
+        step = peer.batch or len(job.queries) or 1
+        every = [self.ask_once(peer, job, job.queries[first:first + step], shows) for first in range(0, max(1, len(job.queries)), step)]
+        told = {**every[0][0], 'run': sum(float(told['run']) for told, _ in every)}
+        return told, [line for _, shown in every for line in shown]
+
+    def ask_once(self, peer, job, queries, shows):
         with tempfile.NamedTemporaryFile('w', suffix='.txt') as file:
-            for name, points in (('polygon', job.ring), ('queries', job.queries)):
+            for name, points in (('polygon', job.ring), ('queries', queries)):
                 file.write(f'{name} {len(points)}\n' + ''.join(f'{x} {y}\n' for x, y in points))
             file.flush()
             around = {**os.environ, 'PEER_CAP': '600', **({'PEER_SHOW': '1'} if shows else {})}
@@ -142,7 +160,7 @@ class Folder:
     def difference(self, peer, job, lines):
         """Where the answers of a peer are others than these, if they are."""
         try:
-            told, shown = self.ask(peer, job, shows=True)
+            told, shown = self.ask(peer, job, shows=peer.theirs is not None)
         except RuntimeError as fault:
             return str(fault)
         if peer.job == 'load' and told['size'] != '1':

@@ -11,7 +11,7 @@ COLOURS = ('#0072b2', '#d55e00', '#009e73', '#cc79a7', '#e69f00', '#56b4e9', '#8
 STYLE = """
  text { font: 12px sans-serif; fill: #333 } .axis { stroke: #bbb } .axis text, .number { font-size: 10px; fill: #777; stroke: none }
  .ring { fill: #f4f1e8; stroke: #444; stroke-width: 1.5 } .way { fill: none; stroke-width: 2.5; stroke-linejoin: round }
- .branch { fill: none; stroke-width: 1.2 } .part { fill: none; stroke-width: 4; stroke-linecap: round } .seen { opacity: .18 }
+ .branch { fill: none; stroke-width: 1.2 } .sight { fill: none; stroke-width: .6 } .part { fill: none; stroke-width: 4; stroke-linecap: round } .seen { opacity: .18 }
  .refused { fill: #b00020 }
 """
 
@@ -47,7 +47,8 @@ def drawn(answered, panel, page, colour):
     """What an answer shows."""
     draw = {
         'geo': draw_nothing, 'polygon': draw_ring, 'inside': draw_place, 'check': draw_list, 'path': draw_path, 'tree': draw_tree,
-        'reach': draw_path, 'see': draw_view, 'kernel': draw_kernel, 'hull': draw_hull,
+        'reach': draw_path, 'see': draw_view, 'kernel': draw_kernel, 'hull': draw_hull, 'round': draw_round, 'guards': draw_guards,
+        'pair': draw_path, 'sights': draw_sights,
     }
     return [] if answered.is_refused else draw[answered.word](answered, panel, page, colour)
 
@@ -111,6 +112,19 @@ def draw_hull(answered, panel, page, colour):
     is_alone = sum(row.word == 'hull' for row in panel.rows) == 1
     numbers = [page.number(p, f'({i})', below=True) for i, p in enumerate(points)] if is_alone else []
     return sides + vertices + [page.dot(p, colour) for p in points] + numbers
+
+
+def draw_round(answered, panel, page, colour):
+    started = answered.numbers
+    return [page.dot(p, colour, hollow=i not in started) for i, p in enumerate(answered.points)]
+
+
+def draw_guards(answered, panel, page, colour):
+    return [page.dot(panel.ring[i], colour, radius=6) for i in answered.numbers]
+
+
+def draw_sights(answered, panel, page, colour):
+    return [page.line('sight', [panel.ring[int(i)], panel.ring[int(j)]], colour) for _, i, j in answered.lines[1:]]
 
 
 def short(fields, length):

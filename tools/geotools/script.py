@@ -10,7 +10,10 @@ from pathlib import Path
 PROGRAM = Path(__file__).resolve().parents[2] / 'crates/geo/out/geo'
 
 # answers whose first line says how many more lines follow
-LONG = ('see', 'kernel', 'tree', 'hull')
+LONG = ('see', 'kernel', 'tree', 'hull', 'sights')
+
+# commands whose fields are numbers of vertices, and no points
+NUMBERED = ('pair',)
 
 # the most vertices of a polygon, by the version of the script
 VERTICES = {1: 4096, 2: 16_384}
@@ -34,7 +37,17 @@ class Answered:
     @property
     def points(self):
         """The points of the record."""
-        return pairs(self.record[1:])
+        return points_of(self.record)
+
+    @property
+    def numbers(self):
+        """The numbers in the first line of the answer, behind their count."""
+        return [int(field) for field in self.lines[0][2:]]
+
+
+def points_of(record):
+    """The points of a record; there are none where its fields are numbers of vertices."""
+    return [] if record[0] in NUMBERED else pairs(record[1:])
 
 
 def pairs(fields):

@@ -1,4 +1,3 @@
-mod Output
 mod NextRecord
 mod Dashes
 mod Turns

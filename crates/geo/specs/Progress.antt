@@ -1,19 +1,18 @@
 -- How far a run has come. No public clause cites this module.
 use Rattle.std.specs.Io.KnownBytes.{Appends}
-use Rattle.std.specs.Prelude.{◌≡◌, ◌≢◌, ℕ, List, [], ◌++◌, Option, length}
-use Rattle.geo_text.specs.Reading.{is_two}
+use Rattle.std.specs.Prelude.{◌≡◌, false, ℕ, List, [], Option}
 use Rattle.geo_text.specs.Records.{Unread, records_of}
-use Rattle.geo_session.specs.Answer.{State}
-use Rattle.geo_session.specs.Output.{AreFirstAnswers}
+use Rattle.geo_session.specs.Answer.{State, first_state}
+use Rattle.geo_script.specs.Answered.{AnsweredSoFar}
 
--- the first records are answered, and the rest are left; the state is that after the answers, and no fault has come
-pub record AnsweredSoFar (bytes : List ℕ) (script : Unread) (state : State) (taken taken' : Option (List ℕ)) (faults faults' : ℕ) (out : List ℕ) : Type 0 where
-  pub first : List (List (List ℕ))
+-- a script before its first record
+abbrev pub whole_script : List ℕ → Unread
+whole_script bytes = record { left = records_of bytes; next = 0; two = false; failed = false }
+
+-- the first records are answered, their answers are written, and no fault has come
+pub record WrittenSoFar (bytes : List ℕ) (script : Unread) (state : State) (taken taken' : Option (List ℕ)) (faults faults' : ℕ) (out : List ℕ) : Type 0 where
   pub output : List ℕ
-  pub records : records_of bytes ≡ first ++ script.left
-  pub counted : script.next ≡ length first
-  pub version : first ≢ [] → script.two ≡ is_two (records_of bytes)
-  pub defined : AreFirstAnswers bytes first output state
+  pub answered : AnsweredSoFar (whole_script bytes) script first_state state output
   pub written : Appends taken taken' output
   pub no_fault : faults' ≡ faults
   pub all_written : out ≡ []

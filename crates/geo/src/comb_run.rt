@@ -47,7 +47,7 @@ fn session_with<L: Ledger>(
     requires some { 1 ≤ k }
     requires few { k ≤ MAX_TEETH }
     requires comb { points.items ≡ comb_list k }
-    ensures { IfOk result (λ session. session.kept ≡ Some (record { ring = comb_list k; source = None })) }
+    ensures { IfOk result (λ session. session.state.kept ≡ Some (record { ring = comb_list k; source = None })) }
 {
     comb_ring(k);
     let mut session = Session::new();
@@ -70,7 +70,7 @@ fn path_through<L: Ledger>(
 ) -> Result<Vec<Pt>, Memory>
     requires some { 1 ≤ k }
     requires few { k ≤ MAX_TEETH }
-    requires held { session.now.kept ≡ Some (record { ring = comb_list k; source = None }) }
+    requires held { session.now.state.kept ≡ Some (record { ring = comb_list k; source = None }) }
     ensures path { IfOk result (λ points. IsPath (comb_list k) comb_start (comb_goal k) points.items) }
     ensures few { IfOk result (λ points. length points.items ≤ MAX_CORNERS + 1) }
 {

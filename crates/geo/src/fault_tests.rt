@@ -1,11 +1,12 @@
 // Whole runs over torn streams: each call of the source and of the sink fails in turn, and each room is too small in turn.
 ghost use Rattle.std.specs.Prelude.{◌≡◌, ◌<◌};
 
-use crate::run::{RunFault, answer, geo_main};
+use crate::run::{RunFault, geo_main};
 use crate::sure::{sure_sink_main, sure_source_main};
 use crate::tests::{run, sink, source};
 use exact_plane::{Memory, Steps};
 use geo_io::{SureSink, SureSource};
+use geo_script::answer_next;
 use geo_session::Session;
 use geo_text::Script;
 use plane::MAX_SCRIPT;
@@ -129,23 +130,29 @@ fn sure(alloc: Global) -> Result<SureSource, AllocError> {
 
 // Records, each with its answer.
 #[rattlefmt::skip]
-const ASKED: [(&[u8], &[u8]); 16] = [
+const ASKED: [(&[u8], &[u8]); 22] = [
     (b"polygon,0,0,9000,0,9000,4000,5000,4000,5000,4200,9000,4200,9000,8000,0,8000,0,4200,3000,4200,3000,4000,0,4000", b"polygon,12\n"),
     (b"path,8000,1000,8000,7000", b"path,4,8000,1000,5000,4000,5000,4200,8000,7000\n"),
     (b"check,8000,1000,5000,4000,5000,4200,8000,7000", b"taut\n"),
     (b"inside,7000,4100", b"outside\n"),
     (b"polygon,0,0,4,4,4,0,0,4", b"bad,clash,0,2\n"),
     (b"kernel", b"kernel,0\n"),
+    (b"guards", b"guards,3,1,4,7\n"),
     (b"polygon,0,0,5,0,5,2,3,2,3,5,0,5", b"polygon,6\n"),
     (b"see,5,1", b"see,5\npart,0,0,0,5,0\npart,1,5,0,5,2\npart,2,5,2,3,2\npart,3,3,2,3,2\npart,5,0,7/2,0,0\n"),
     (b"frob,1", b"bad,word\n"),
     (b"hull,1,1,4,1,1,4", b"hull,3\nside,0,1,2,1,1,4,1\nside,1,2,2,4,1,1,4\nside,2,0,2,1,4,1,1\n"),
+    (b"round,1,1,4,1,1,4", b"round,3,0,1,2\n"),
     (b"polygon,0,0,4,0,4,2,2,2,2,4,0,4", b"polygon,6\n"),
     (b"tree,4,1", b"tree,6\nfrom,0,s\nfrom,1,s\nfrom,2,s\nfrom,3,s\nfrom,4,3\nfrom,5,3\n"),
     (b"tree,3,3", b"bad,outside,1\n"),
     (b"reach,1,4", b"path,3,4,1,2,2,1,4\n"),
     (b"polygon,0,0,4,0,4,2,2,2,2,4,0,4", b"polygon,6\n"),
     (b"reach,1,4", b"bad,no_tree\n"),
+    (b"pair,2,4", b"path,3,4,2,2,2,2,4\n"),
+    (b"sights", b"sights,12\nsight,0,1\nsight,0,2\nsight,0,3\nsight,0,4\nsight,0,5\nsight,1,2\nsight,1,3\nsight,1,5\nsight,2,3\nsight,3,4\nsight,3,5\nsight,4,5\n"),
+    (b"polygon,0,0,0,4,4,0", b"polygon,3\n"),
+    (b"sights", b"sights,3\nsight,0,1\nsight,0,2\nsight,1,2\n"),
 ];
 
 // Where memory is refused, a session can be asked again. None is refused here: `checks/memory` refuses each allocation of
@@ -182,8 +189,7 @@ fn ask<N: Ledger>(
     out: &mut Vec<u8>,
     steps: &mut Steps<N>,
 ) -> Result<(), Memory> {
-    match Script::open(alloc, record).next_command()? {
-        Some(reading) => answer(alloc, session, reading, out, steps),
-        None => Ok(()),
-    }
+    let mut script = Script::open(alloc, record);
+    answer_next(alloc, &mut script, session, out, steps)?;
+    Ok(())
 }

@@ -3,8 +3,6 @@ ghost use Rattle.std.specs.Prelude.{◌≡◌, ◌<◌, ◌≤◌, ◌⊎◌, �
 ghost use Rattle.plane.specs.declared.limits.TheConstants.{MAX_SCRIPT};
 ghost use Rattle.geo_io.specs.Counts.{Rose};
 ghost use Rattle.geo_io.specs.Transfers.{GivesAtMost, GivesMoreThan};
-ghost use Rattle.geo_text.specs.Reading.{IsWellSized};
-ghost use Rattle.geo_session.specs.Answer.{AppendsReadingAnswer};
 ghost use Rattle.clap.specs.Words.{kind_of};
 ghost use Rattle.geo_gen.specs.declared.combs.TheConstants.{MAX_TEETH};
 ghost use Rattle.geo.specs.Comb.{WritesComb, WritesCombFront};
@@ -18,8 +16,9 @@ use crate::words::{Asked, read_words};
 use clap::error::ErrorKind;
 use exact_plane::{Memory, Steps};
 use geo_io::{Failed, ReadEnd, Sink, Source, read_all, write_all};
+use geo_script::answer_next;
 use geo_session::Session;
-use geo_text::{Bad, Command, Script, put_bad};
+use geo_text::Script;
 use plane::MAX_SCRIPT;
 use std::alloc::Global;
 use std::marker::Brand;
@@ -124,8 +123,7 @@ fn answer_script<K: Sink, L: Ledger>(
     let mut script = Script::open(alloc, bytes);
     let mut session = Session::new();
     let mut out = Vec::new(alloc);
-    'records: while let Some(reading) = script.next_command()? {
-        answer(alloc, &mut session, reading, &mut out, &mut steps)?;
+    'records: while answer_next(alloc, &mut script, &mut session, &mut out, &mut steps)? {
         write_all(sink, &out)?;
         out.clear();
     }
@@ -155,23 +153,6 @@ fn write_comb<K: Sink, L: Ledger>(
     let line = comb_line(alloc, k, &mut steps)?;
     write_all(sink, &line)?;
     Ok(())
-}
-
-/// Appends the answer to a record that was read.
-pub(crate) fn answer<L: Ledger>(
-    alloc: Global,
-    session: &mut Session,
-    reading: Result<Command, Bad>,
-    out: &mut Vec<u8>,
-    steps: &mut Steps<L>,
-) -> Result<(), Memory>
-    requires { IfOk reading IsWellSized }
-    ensures { OnOk result (AppendsReadingAnswer session.old reading out.old.items out.new.items session.new) }
-{
-    match reading {
-        Ok(command) => session.answer(alloc, command, out, steps),
-        Err(bad) => put_bad(out, &bad),
-    }
 }
 
 impl From<ReadEnd> for RunFault {

@@ -147,13 +147,16 @@ fn worked_scripts(rt: HostRuntime) -> Result<(), Fail> {
     Ok(())
 }
 
-// Script 37: a hull of 65 points, a number just past the limit, and one of a thousand digits.
+// Script 37: a hull and a round of 65 points, and numbers of a thousand digits.
 #[test]
 fn long_records(rt: HostRuntime) -> Result<(), Fail> {
-    let rows: [(&[u8], &[u8], usize, &[u8], &[u8]); 3] = [
+    let rows: [(&[u8], &[u8], usize, &[u8], &[u8]); 6] = [
         (b"inside,", b"9", 1000, b",1\n", b"polygon,6\nbad,range,1\n"),
         (b"inside,", b"0", 1000, b"1,1\n", b"polygon,6\ninside\n"),
         (b"hull", b",1,1", 65, b"\n", b"polygon,6\nbad,many\n"),
+        (b"round", b",1,1", 65, b"\n", b"polygon,6\nbad,many\n"),
+        (b"round", b",1,1", 64, b"\n", b"polygon,6\nround,0\n"),
+        (b"pair,", b"9", 1000, b",1\n", b"polygon,6\nbad,range,1\n"),
     ];
     for (front, part, count, rest, want) in rows {
         let mut script = Vec::from_slice(rt.alloc(), b"polygon,0,0,4,0,4,2,2,2,2,4,0,4\n")?;
@@ -177,7 +180,7 @@ pub(crate) fn output(alloc: Global, script: &[u8]) -> Result<Vec<u8>, Memory> {
 #[test]
 #[rattlefmt::skip]
 fn more_scripts(rt: HostRuntime) -> Result<(), Fail> {
-    let rows: [(&str, &[u8], &[u8]); 25] = [
+    let rows: [(&str, &[u8], &[u8]); 38] = [
         ("refusals of hull", b"hull,0,0\nhull\nhull,0\npolygon,0,0,4,0,4,2,2,2,2,4,0,4\nhull\nhull,1\nhull,1,x\nhull,1,1000001\nhull,1,1,3,3,9,9\n",
             b"bad,no_polygon\nbad,few\nbad,fields\npolygon,6\nbad,few\nbad,fields\nbad,number,2\nbad,range,2\nbad,outside,2\n"),
         ("a point that is given again", b"polygon,0,4,2,4,2,2,4,2,4,0,0,0\nhull,4,2,2,4,4,2,1,2,2,4\n",
@@ -215,6 +218,29 @@ fn more_scripts(rt: HostRuntime) -> Result<(), Fail> {
             b"polygon,13\nsee,5\npart,0,24/5,0,36/5,0\npart,4,7,1,7,1\npart,5,7,1,6,6\npart,6,6,6,5,1\npart,7,5,1,5,1\n"),
         ("refusals of tree and reach", b"tree,0,0\nreach,0,0\npolygon,0,0,4,0,4,2,2,2,2,4,0,4\nreach,9,9\ntree\ntree,1\ntree,1,x\ntree,1,1000001\ntree,3,3\nreach,9,9\ntree,1,1\nreach\nreach,x,1\nreach,1000001,1\nreach,3,3\n",
             b"bad,no_polygon\nbad,no_polygon\npolygon,6\nbad,no_tree\nbad,fields\nbad,fields\nbad,number,2\nbad,range,2\nbad,outside,1\nbad,no_tree\ntree,6\nfrom,0,s\nfrom,1,s\nfrom,2,s\nfrom,3,s\nfrom,4,s\nfrom,5,s\nbad,fields\nbad,number,1\nbad,range,1\nbad,outside,1\n"),
+        ("rounds of points in an L", b"polygon,0,0,4,0,4,2,2,2,2,4,0,4\nround,4,2,2,4,0,0,1,1\nround,4,2,2,4\nround,1,1\nround,3,3\n",
+            b"polygon,6\nround,3,0,1,2\nround,2,0,1\nround,0\nbad,outside,1\n"),
+        ("rounds in an L that runs clockwise, with points that are given again", b"polygon,0,4,2,4,2,2,4,2,4,0,0,0\nround,4,2,2,4,4,2,1,2\nround,1,1,1,1\nround,1,2,1,2,2,4,4,2,2,4\n",
+            b"polygon,6\nround,3,0,1,3\nround,0\nround,3,0,3,2\n"),
+        ("a round that is not in the order of the points", b"polygon,0,0,400,0,400,300,280,300,280,160,120,160,120,300,0,300\nround,60,40,200,80,340,40,360,260,320,220,200,140,80,200,40,260\nround,40,260,60,40,320,220,340,40,360,260\n",
+            b"polygon,8\nround,5,0,2,3,4,7\nround,5,0,1,3,4,2\n"),
+        ("refusals of round", b"round,0,0\nround\nround,0\npolygon,0,0,4,0,4,2,2,2,2,4,0,4\nround\nround,1\nround,1,x\nround,1,1000001\nround,1,1,3,3,9,9\n",
+            b"bad,no_polygon\nbad,few\nbad,fields\npolygon,6\nbad,few\nbad,fields\nbad,number,2\nbad,range,2\nbad,outside,2\n"),
+        ("guards of an L, of a U and of two rooms", b"polygon,0,0,4,0,4,2,2,2,2,4,0,4\nguards\npolygon,0,0,6,0,6,4,4,4,4,2,2,2,2,4,0,4\nguards\npolygon,0,0,5000,0,5000,2000,5200,2000,5200,0,9000,0,9000,4000,5200,4000,5200,2900,5000,2900,5000,4000,0,4000\nguards\n",
+            b"polygon,6\nguards,1,3\npolygon,8\nguards,2,1,7\npolygon,12\nguards,3,1,5,9\n"),
+        ("guards of an L that runs clockwise", b"polygon,0,4,2,4,2,2,4,2,4,0,0,0\nguards\n", b"polygon,6\nguards,1,2\n"),
+        ("refusals of guards", b"guards\npolygon,0,0,4,0,0,4\nguards,1\nguards\n", b"bad,no_polygon\npolygon,3\nbad,fields\nguards,1,0\n"),
+        ("pairs of vertices of an L that see each other", b"polygon,0,0,4,0,4,2,2,2,2,4,0,4\nsights\n",
+            b"polygon,6\nsights,12\nsight,0,1\nsight,0,2\nsight,0,3\nsight,0,4\nsight,0,5\nsight,1,2\nsight,1,3\nsight,1,5\nsight,2,3\nsight,3,4\nsight,3,5\nsight,4,5\n"),
+        ("refusals of sights", b"sights\npolygon,0,0,4,0,4,2,2,2,2,4,0,4\nsights,1\n", b"bad,no_polygon\npolygon,6\nbad,fields\n"),
+        ("paths between vertices of an L and of a U", b"polygon,0,0,4,0,4,2,2,2,2,4,0,4\npair,2,4\npair,1,5\npair,3,3\npolygon,0,0,6,0,6,4,4,4,4,2,2,2,2,4,0,4\npair,2,7\n",
+            b"polygon,6\npath,3,4,2,2,2,2,4\npath,2,4,0,0,4\npath,1,2,2\npolygon,8\npath,4,6,4,4,2,2,2,0,4\n"),
+        ("refusals of pair", b"pair,0,0\npolygon,0,0,4,0,4,2,2,2,2,4,0,4\npair,0\npair,0,x\npair,9999999,0\npair,0,6\npair,-1,0\npair,6,-1\npair,+1,05\n",
+            b"bad,no_polygon\npolygon,6\nbad,fields\nbad,number,2\nbad,range,1\nbad,index,2\nbad,index,1\nbad,index,1\npath,2,4,0,0,4\n"),
+        ("pairs of vertices of an L that runs clockwise", b"polygon,0,4,2,4,2,2,4,2,4,0,0,0\nsights\npair,1,3\npair,0,4\npair,5,5\n",
+            b"polygon,6\nsights,12\nsight,0,1\nsight,0,2\nsight,0,4\nsight,0,5\nsight,1,2\nsight,1,5\nsight,2,3\nsight,2,4\nsight,2,5\nsight,3,4\nsight,3,5\nsight,4,5\npath,3,2,4,2,2,4,2\npath,2,0,4,4,0\npath,1,0,0\n"),
+        ("paths between vertices of another polygon than before", b"polygon,0,0,4,0,4,2,2,2,2,4,0,4\nsights\npolygon,0,0,4,0,0,4\npair,0,1\nsights\npolygon,0,0,4,0,4,2,2,2,2,4,0,4\npair,2,4\n",
+            b"polygon,6\nsights,12\nsight,0,1\nsight,0,2\nsight,0,3\nsight,0,4\nsight,0,5\nsight,1,2\nsight,1,3\nsight,1,5\nsight,2,3\nsight,3,4\nsight,3,5\nsight,4,5\npolygon,3\npath,2,0,0,4,0\nsights,3\nsight,0,1\nsight,0,2\nsight,1,2\npolygon,6\npath,3,4,2,2,2,2,4\n"),
         ("an open quote", b"\"frob,1", b"bad,word\n"),
         ("a byte that begins no character", b"\xff", b"bad,word\n"),
         ("a number in quotes", b"polygon,0,0,4,0,4,2,2,2,2,4,0,4\ninside,\"1\",1\n", b"polygon,6\ninside\n"),

@@ -1,15 +1,18 @@
 -- The answers to a polygon, and to points by a path, as the code writes them.
-use Rattle.std.proofs.Common.{◌≡◌, Bool, true, false, if◌then◌else◌, ℕ, ◌+◌, ◌*◌, ◌≤◌, List, [], ◌++◌, length, Result, Ok, Err, inl, inr, refl, ap, arith}
+use Rattle.std.proofs.Common.{◌≡◌, Bool, ℕ, List, ◌++◌, length, Result, Ok, Err, inl, inr, refl, ap}
 use Rattle.std.specs.Prelude.{OnOk, Option, None, Some, Vec}
 use Rattle.std.specs.declared.alloc.Global.{Global}
 use Rattle.plane.specs.Point.{Point}
 use Rattle.rings.specs.Simple.{IsLeastClash, IsSimple}
 use Rattle.geo_text.specs.Texts.{bad_text}
+use Rattle.geo_text.specs.declared.command.Bad.{Bad}
 use Rattle.geo_text.specs.declared.command.Bad.TheVariants as bad
 use Rattle.geo_text.specs.declared.command.Command.TheVariants as command
-use Rattle.geo_session.specs.Answer.{AppendsAnswer, Kept, State, found, path_text, polygon_text, reached}
-use Rattle.geo_session.specs.Path.{IsShownAnswer, TakesPathSteps, reach_pace}
-use Rattle.geo_session.specs.Tree.{IsReached}
+use Rattle.inside_test.specs.declared.position.Position.{Position}
+use Rattle.geo_session.proofs.Places.{placed_text}
+use Rattle.geo_session.specs.Answer.{AppendsAnswer, IsInsideText, IsReachIn, IsReachText, Kept, State, found, goal_outside, path_text, polygon_text, reached}
+use Rattle.geo_session.specs.Path.{IsReachAnswer, IsReachedIn, IsShownAnswer}
+use Rattle.geo_session.specs.Place.{IsPlaceAnswer, place_text}
 
 -- what follows from a fact about an Ok follows under the Ok
 pub under_ok : {T E : Type 0} {P Q : Type 0} (r : Result T E) → (P → Q) → OnOk r P → OnOk r Q
@@ -61,25 +64,68 @@ path_answered before s t points out out' put = by_kept before.kept refl
           appended = written;
         })
 
--- and so it answers a point of a ring with a tree
-pub reach_answered : {E : Type 0} (two : Bool) (ring : List Point) (source : Option Point) (t : Point) (points : Vec Point Global) (out out' : List ℕ)
-    (put : Result (Unit {0}) E) → IsReached two ring source t (Ok points) → OnOk put (out' ≡ out ++ path_text points.items)
-    → OnOk put (AppendsAnswer (holding two ring source) (command.Reach t) out out' (holding two ring source))
-reach_answered two ring None t points out out' put h = absurd cc
-reach_answered two ring (Some s) t points out out' put h = under_ok put
-    (λ written. record {
-      text = path_text points.items;
-      answer = (reached h.0 (record { points = points.items; shown = h.1; told = refl }), refl);
-      appended = written;
-    })
+-- and so it answers a point, from the source of a tree
+pub reach_answered : {E : Type 0} (before : State) (t : Point) (points : Vec Point Global) (out out' : List ℕ) (put : Result (Unit {0}) E)
+    → IsReachAnswer before.two before.kept t (Ok points) → OnOk put (out' ≡ out ++ path_text points.items)
+    → OnOk put (AppendsAnswer before (command.Reach t) out out' before)
+reach_answered before t points out out' put = by_kept before.kept refl
+  where
+    by_source : (ring : List Point) (source : Option Point) → before.kept ≡ Some (record { ring = ring; source = source })
+        → IsReachedIn bad.NoTree (bad.Outside 1) before.two ring source t (Ok points) → OnOk put (out' ≡ out ++ path_text points.items)
+        → OnOk put (AppendsAnswer before (command.Reach t) out out' before)
+    by_source ring None is h = absurd cc
+    by_source ring (Some s) is h = under_ok put
+        (λ written. record {
+          text = path_text points.items;
+          answer = (rw is (reached h.0 (record { points = points.items; shown = h.1; told = refl })), refl);
+          appended = written;
+        })
 
--- where no path is written, no steps are taken for points
-pub none_written : {E : Type 0} (put : Result (Unit {0}) E) (most : ℕ) (out out' : List ℕ) (steps steps' : ℕ) → steps' ≤ steps + most
-    → OnOk put (TakesPathSteps most out out' steps steps')
-none_written (Ok x) most out out' steps steps' few = record { points = []; printed = inr refl; bound = omega (arith, few) }
-none_written (Err e) most out out' steps steps' few = tt
+    by_kept : (kept : Option Kept) → before.kept ≡ kept → IsReachAnswer before.two kept t (Ok points) → OnOk put (out' ≡ out ++ path_text points.items)
+        → OnOk put (AppendsAnswer before (command.Reach t) out out' before)
+    by_kept None is h = absurd cc
+    by_kept (Some kept) is h = by_source kept.ring kept.source is h
 
--- the steps of telling a path from the source of a tree are few
-pub reach_within : (two : Bool) (n more : ℕ) → (if two then 23 else 3) * n + more ≤ reach_pace two * n + more
-reach_within true n more = omega arith
-reach_within false n more = omega arith
+-- or its refusal does
+pub reach_refused : {E : Type 0} (before : State) (t : Point) (fault : Bad) (out out' : List ℕ) (put : Result (Unit {0}) E)
+    → IsReachAnswer before.two before.kept t (Err fault) → OnOk put (out' ≡ out ++ bad_text fault)
+    → OnOk put (AppendsAnswer before (command.Reach t) out out' before)
+reach_refused before t fault out out' put h = under_ok put
+    (λ written. record { text = bad_text fault; answer = (by_kept before.kept h, refl); appended = written })
+  where
+    by_source : (ring : List Point) (source : Option Point) → IsReachedIn bad.NoTree (bad.Outside 1) before.two ring source t (Err fault)
+        → IsReachIn before.two ring source t (bad_text fault)
+    by_source ring None is =
+        let same : fault ≡ bad.NoTree = cc in
+        ap bad_text same
+    by_source ring (Some s) (out_of, is) = goal_outside out_of (ap bad_text is)
+
+    by_kept : (kept : Option Kept) → IsReachAnswer before.two kept t (Err fault) → IsReachText before.two kept t (bad_text fault)
+    by_kept None is =
+        let same : fault ≡ bad.NoPolygon = cc in
+        ap bad_text same
+    by_kept (Some kept) is = by_source kept.ring kept.source is
+
+-- the line of a place answers a point
+pub place_answered : {E : Type 0} (before : State) (p : Point) (place : Position) (out out' : List ℕ) (put : Result (Unit {0}) E)
+    → IsPlaceAnswer before.kept p (Ok place) → OnOk put (out' ≡ out ++ place_text place)
+    → OnOk put (AppendsAnswer before (command.Inside p) out out' before)
+place_answered before p place out out' put h = under_ok put
+    (λ written. record { text = place_text place; answer = (by_kept before.kept h, refl); appended = written })
+  where
+    by_kept : (kept : Option Kept) → IsPlaceAnswer kept p (Ok place) → IsInsideText kept p (place_text place)
+    by_kept None is = absurd cc
+    by_kept (Some kept) is = placed_text kept.ring p place is
+
+-- or its refusal does
+pub place_refused : {E : Type 0} (before : State) (p : Point) (fault : Bad) (out out' : List ℕ) (put : Result (Unit {0}) E)
+    → IsPlaceAnswer before.kept p (Err fault) → OnOk put (out' ≡ out ++ bad_text fault)
+    → OnOk put (AppendsAnswer before (command.Inside p) out out' before)
+place_refused before p fault out out' put h = under_ok put
+    (λ written. record { text = bad_text fault; answer = (by_kept before.kept h, refl); appended = written })
+  where
+    by_kept : (kept : Option Kept) → IsPlaceAnswer kept p (Err fault) → IsInsideText kept p (bad_text fault)
+    by_kept None is =
+        let same : fault ≡ bad.NoPolygon = cc in
+        ap bad_text same
+    by_kept (Some kept) is = absurd is

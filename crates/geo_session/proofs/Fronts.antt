@@ -18,3 +18,8 @@ pub front_after : {T E : Type 0} (r : Result T E) (old more out new : List ℕ) 
     → OnErr r (take (length old) new ≡ old)
 front_after (Ok x) old more out new appended front = tt
 front_after (Err e) old more out new appended front = front_of old more out new appended front
+
+-- and where nothing more was appended
+pub front_kept : {T E : Type 0} (r : Result T E) (old more out : List ℕ) → out ≡ old ++ more → OnErr r (take (length old) out ≡ old)
+front_kept (Ok x) old more out appended = tt
+front_kept (Err e) old more out appended = ap (take (length old)) appended ∙ take-append_seam old more

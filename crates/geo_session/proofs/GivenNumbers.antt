@@ -10,12 +10,12 @@ use Rattle.geo_session.proofs.GivenTree.{number_either, vertex_either}
 turned_cases : (n i : ℕ) → i < n → ((i ≡ 0) × ((n - i) % n ≡ 0)) ⊎ ((0 < i) × ((n - i) % n ≡ n - i))
 turned_cases n i below = elim (cases_lt 0 i) [
   | inl some ↦ inr (some, mod-eq_of_lt (omega arith))
-  | inr none ↦ let first : i ≡ 0 = omega arith in let all : n - i ≡ n = omega (arith, first) in inl (first, rw all (mod_self n))
+  | inr none ↦ let all : n - i ≡ n = omega arith in inl (omega arith, rw all (mod_self n))
 ]
 
 twice_turned : (n i : ℕ) → i < n → (n - (n - i) % n) % n ≡ i
 twice_turned n i below = elim (turned_cases n i below) [
-  | inl h ↦ let all : n - 0 ≡ n = omega arith in rw (h.1, h.0, all) (mod_self n)
+  | inl h ↦ let all : n - 0 ≡ n = omega arith in rw (h.1, all) (mod_self n ∙ sym h.0)
   | inr h ↦ let back : n - (n - i) ≡ i = omega arith in rw (h.1, back) (mod-eq_of_lt below)
 ]
 

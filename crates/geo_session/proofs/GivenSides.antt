@@ -53,11 +53,17 @@ module _ (ring other : List Point) (there : HasPathsOf other ring) (back : HasPa
         (h.left u in_list not_s not_t (λ inner. outer (inner_carried ring other there points u inner)));
   }
 
-module _ (ring : Oriented) (points : List Point) (pairs : List (ℕ × ℕ)) where
+module _ (ring : Oriented) (points : List Point) where
   -- so the sides of the ring are those of the list that it was made of
-  pub sides_given : AreSides ring.corners points pairs → AreSides (given_of ring) points pairs
-  sides_given are = record {
-    sides = λ k below. side_carried ring.corners (given_of ring) (path_given ring) (path_held ring) points _ _ (are.sides k below);
-    all = λ s t side. are.all s t (side_carried (given_of ring) ring.corners (path_held ring) (path_given ring) points s t side);
+  pub side_given : (s t : ℕ) → IsSide ring.corners points s t → IsSide (given_of ring) points s t
+  side_given = side_carried ring.corners (given_of ring) (path_given ring) (path_held ring) points
+
+  pub side_held : (s t : ℕ) → IsSide (given_of ring) points s t → IsSide ring.corners points s t
+  side_held = side_carried (given_of ring) ring.corners (path_held ring) (path_given ring) points
+
+  pub sides_given : (pairs : List (ℕ × ℕ)) → AreSides ring.corners points pairs → AreSides (given_of ring) points pairs
+  sides_given pairs are = record {
+    sides = λ k below. side_given _ _ (are.sides k below);
+    all = λ s t side. are.all s t (side_held s t side);
     sorted = are.sorted;
   }

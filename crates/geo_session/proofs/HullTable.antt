@@ -24,7 +24,7 @@ side_numbered ring points numbers sides are k below =
 
 module _ (points : List Point) (numbers : List ℕ) (firsts : AreFirsts points numbers) where
   -- the first point has the first number
-  some_numbers : 1 ≤ length points → 1 ≤ length numbers
+  pub some_numbers : 1 ≤ length points → 1 ≤ length numbers
   some_numbers some = let h = ((firsts.first 0).1 (omega arith, λ j less. absurd (omega (arith, less)))).1 in omega arith
 
   -- each number is of a point,
@@ -50,7 +50,7 @@ module _ (points : List Point) (numbers : List ℕ) (firsts : AreFirsts points n
         (sym is.count) (chain_between_places ring points numbers table.chains is.are s t at_s at_t)
 
     -- so the points of the table are those with the numbers,
-    points_of_table : points_of table ≡ map (point_at points) numbers
+    pub points_of_table : points_of table ≡ map (point_at points) numbers
     points_of_table =
         let long = length-map-range_with_len (λ (i : ℕ). point_at (chain_at table i i) 0) 0 table.count in
         ext_get_or origin (points_of table) (map (point_at points) numbers) (long ∙ is.count ∙ sym (length-map numbers (point_at points)))

@@ -79,7 +79,7 @@ module _ (two : Bool) (ring points : List Point) (hull : Hull) (is : IsHullOf tw
 -- ---- the list that the ring was made of
 
 module _ (ring : Oriented) (two : Bool) (points : List Point) where
-  first_given : (k : ℕ) → IsFirstOutside ring.corners points k → IsFirstOutside (given_of ring) points k
+  pub first_given : (k : ℕ) → IsFirstOutside ring.corners points k → IsFirstOutside (given_of ring) points k
   first_given k h = record {
     in_list = h.in_list;
     outside = λ inside. h.outside ((in_given_iff ring (whole (point_at points k))).0 inside);

@@ -3,6 +3,9 @@ use Rattle.std.proofs.Common.{◌≡◌, inl, inr, refl, sym, ap, ap₂, subst, 
 use Rattle.std.proofs.lemmas.List.{ext_get_or}
 use Rattle.std.specs.List.{concat}
 use Rattle.std.specs.Prelude.{Option, Some, None, codes}
+use Rattle.cut_tri.specs.Cut.{OneCutLaw}
+use Rattle.guards3.specs.Guards.{OneGuardsLaw}
+use Rattle.pair_cut.specs.Pairs.{OneSightsLaw}
 use Rattle.plane.specs.Point.{Point}
 use Rattle.rings.proofs.Simple.{least_clash_is_one, no_least_clash}
 use Rattle.rings.specs.Chain.{point_at}
@@ -17,14 +20,16 @@ use Rattle.geo_text.specs.declared.command.Command.TheVariants as command
 use Rattle.taut_check.specs.declared.verdict.Verdict.{Verdict}
 use Rattle.taut_check.specs.declared.verdict.Verdict.TheVariants as verdict
 use Rattle.geo_session.proofs.OneHull.{one_hull_in}
-use Rattle.geo_session.proofs.OneShown.{one_shown}
+use Rattle.geo_session.proofs.OneNumbers.{one_guards_text, one_round_text}
+use Rattle.geo_session.proofs.OneShown.{one_path}
+use Rattle.geo_session.proofs.OneSights.{one_pair_text, one_sights_text}
 use Rattle.geo_session.proofs.OneVerdict.{one_verdict}
 use Rattle.geo_session.proofs.OneView.{one_kernel, one_view}
 use Rattle.geo_session.specs.Answer.{AcceptsPolygon, IsInsideText, IsCheckText, IsFromText, IsKernelText, IsPathIn, IsPathText, IsPlaceText}
 use Rattle.geo_session.specs.Answer.{IsHullText, IsPolygonText, first_state}
 use Rattle.geo_session.specs.Answer.{IsReachFrom, IsReachIn, IsReachText, IsReadingAnswer, IsSeeText, IsTreeIn, IsTreeText, IsVerdictText, IsViewIn}
-use Rattle.geo_session.specs.Answer.{Kept, RefusesPolygon, State, TellsPath, TellsTree, TellsVerdict, at_source, first_outside, found, from_source, from_text}
-use Rattle.geo_session.specs.Answer.{from_vertex, goal_outside, grown, inside, on_edge, outside, path_text, reached, second_outside, sees, sees_nothing}
+use Rattle.geo_session.specs.Answer.{Kept, RefusesPolygon, State, TellsTree, TellsVerdict, at_source, first_outside, found, from_source, from_text}
+use Rattle.geo_session.specs.Answer.{from_vertex, goal_outside, grown, inside, on_edge, outside, reached, second_outside, sees, sees_nothing}
 use Rattle.geo_session.specs.Answer.{source_outside}
 use Rattle.geo_session.specs.Laws.{OneAnswerLaw, OneOutputLaw}
 use Rattle.geo_session.specs.Output.{AreAnswers}
@@ -77,9 +82,6 @@ one_judgement ring points one other h g =
 -- ---- two points
 
 module _ (two : Bool) (ring : List Point) (s t : Point) (one other : List ℕ) where
-  one_path : TellsPath two ring s t one → TellsPath two ring s t other → one ≡ other
-  one_path h g = h.told ∙ ap path_text (one_shown two ring s t h.points g.points h.shown g.shown) ∙ sym g.told
-
   one_path_in : IsPathIn two ring s t one → IsPathIn two ring s t other → one ≡ other
   one_path_in (first_outside _ e) (first_outside _ f) = both e f
   one_path_in (first_outside out e) (second_outside within _ f) = absurd (out within)
@@ -89,7 +91,7 @@ module _ (two : Bool) (ring : List Point) (s t : Point) (one other : List ℕ) w
   one_path_in (second_outside _ out e) (found _ within f) = absurd (out within)
   one_path_in (found within _ e) (first_outside out f) = absurd (out within)
   one_path_in (found _ within e) (second_outside _ out f) = absurd (out within)
-  one_path_in (found _ _ e) (found _ _ f) = one_path e f
+  one_path_in (found _ _ e) (found _ _ f) = one_path two ring s t one other e f
 
 -- ---- the tree of a point, and the paths in it
 
@@ -206,36 +208,41 @@ with_version : (before after after' : State) (one other : List ℕ) → (one ≡
     → after'.two ≡ before.two → (one ≡ other) × (after ≡ after')
 with_version before after after' one other h two two' = (h.0, ap₂ (λ (v : Bool) (kept : Option Kept). record { two = v; kept = kept }) (two ∙ sym two') h.1)
 
-pub one_answer : OneAnswerLaw
-one_answer before command.Two one other after after' h g = (both h.0 g.0, h.1 ∙ sym g.1)
-one_answer before (command.Polygon ring) one other after after' h g =
-    with_version before after after' one other (one_polygon before.kept ring one other after.kept after'.kept h.0 g.0) h.1 g.1
-one_answer before (command.Inside p) one other after after' h g = (one_inside before.kept p one other h.0 g.0, h.1 ∙ sym g.1)
-one_answer before (command.Check points) one other after after' h g = (one_check before.kept points one other h.0 g.0, h.1 ∙ sym g.1)
-one_answer before (command.Path s t) one other after after' h g = (one_path_text before.two before.kept s t one other h.0 g.0, h.1 ∙ sym g.1)
-one_answer before (command.Tree s) one other after after' h g =
-    with_version before after after' one other (one_tree_text before.kept s one other after.kept after'.kept h.0 g.0) h.1 g.1
-one_answer before (command.Reach t) one other after after' h g = (one_reach before.two before.kept t one other h.0 g.0, h.1 ∙ sym g.1)
-one_answer before (command.See q) one other after after' h g = (one_see before.kept q one other h.0 g.0, h.1 ∙ sym g.1)
-one_answer before command.Kernel one other after after' h g = (one_kernel_of before.kept one other h.0 g.0, h.1 ∙ sym g.1)
-one_answer before (command.Hull points) one other after after' h g = (one_hull before.two before.kept points one other h.0 g.0, h.1 ∙ sym g.1)
+module _ (one_cut : OneCutLaw) (one_guards : OneGuardsLaw) (one_sights : OneSightsLaw) where
+  pub one_answer : OneAnswerLaw
+  one_answer before command.Two one other after after' h g = (both h.0 g.0, h.1 ∙ sym g.1)
+  one_answer before (command.Polygon ring) one other after after' h g =
+      with_version before after after' one other (one_polygon before.kept ring one other after.kept after'.kept h.0 g.0) h.1 g.1
+  one_answer before (command.Inside p) one other after after' h g = (one_inside before.kept p one other h.0 g.0, h.1 ∙ sym g.1)
+  one_answer before (command.Check points) one other after after' h g = (one_check before.kept points one other h.0 g.0, h.1 ∙ sym g.1)
+  one_answer before (command.Path s t) one other after after' h g = (one_path_text before.two before.kept s t one other h.0 g.0, h.1 ∙ sym g.1)
+  one_answer before (command.Tree s) one other after after' h g =
+      with_version before after after' one other (one_tree_text before.kept s one other after.kept after'.kept h.0 g.0) h.1 g.1
+  one_answer before (command.Reach t) one other after after' h g = (one_reach before.two before.kept t one other h.0 g.0, h.1 ∙ sym g.1)
+  one_answer before (command.See q) one other after after' h g = (one_see before.kept q one other h.0 g.0, h.1 ∙ sym g.1)
+  one_answer before command.Kernel one other after after' h g = (one_kernel_of before.kept one other h.0 g.0, h.1 ∙ sym g.1)
+  one_answer before (command.Hull points) one other after after' h g = (one_hull before.two before.kept points one other h.0 g.0, h.1 ∙ sym g.1)
+  one_answer before (command.Round points) one other after after' h g = (one_round_text before.kept points one other h.0 g.0, h.1 ∙ sym g.1)
+  one_answer before command.Guards one other after after' h g = (one_guards_text one_cut one_guards before.kept one other h.0 g.0, h.1 ∙ sym g.1)
+  one_answer before (command.Pair i j) one other after after' h g = (one_pair_text before.two before.kept i j one other h.0 g.0, h.1 ∙ sym g.1)
+  one_answer before command.Sights one other after after' h g = (one_sights_text one_sights before.kept one other h.0 g.0, h.1 ∙ sym g.1)
 
--- ---- a script
+  -- ---- a script
 
-one_reading : (before : State) (reading : Result Command Bad) (one other : List ℕ) (after after' : State)
-    → IsReadingAnswer before reading one after → IsReadingAnswer before reading other after' → (one ≡ other) × (after ≡ after')
-one_reading before (Ok asked) one other after after' h g = one_answer before asked one other after after' h g
-one_reading before (Err fault) one other after after' h g = (both h.0 g.0, h.1 ∙ sym g.1)
+  one_reading : (before : State) (reading : Result Command Bad) (one other : List ℕ) (after after' : State)
+      → IsReadingAnswer before reading one after → IsReadingAnswer before reading other after' → (one ≡ other) × (after ≡ after')
+  one_reading before (Ok asked) one other after after' h g = one_answer before asked one other after after' h g
+  one_reading before (Err fault) one other after after' h g = (both h.0 g.0, h.1 ∙ sym g.1)
 
-one_answers : (two : Bool) (k : ℕ) (before : State) (records : List (List (List ℕ))) (one other : List ℕ) (after after' : State)
-    → AreAnswers two k before records one after → AreAnswers two k before records other after' → one ≡ other
-one_answers two k before [] one other after after' h g = both h.0 g.0
-one_answers two k before (fields ∷ records) one other after after' h g =
-    let (first, between) = one_reading before (reading_of two k fields) h.first g.first h.between g.between h.answer g.answer in
-    let rest = one_answers two (k + 1) g.between records h.rest g.rest after after'
-    (subst (λ s. AreAnswers two (k + 1) s records h.rest after) between h.others) g.others in
-    h.joined ∙ ap (λ f. f ++ h.rest) first ∙ ap (λ r. g.first ++ r) rest ∙ sym g.joined
+  one_answers : (two : Bool) (k : ℕ) (before : State) (records : List (List (List ℕ))) (one other : List ℕ) (after after' : State)
+      → AreAnswers two k before records one after → AreAnswers two k before records other after' → one ≡ other
+  one_answers two k before [] one other after after' h g = both h.0 g.0
+  one_answers two k before (fields ∷ records) one other after after' h g =
+      let (first, between) = one_reading before (reading_of two k fields) h.first g.first h.between g.between h.answer g.answer in
+      let rest = one_answers two (k + 1) g.between records h.rest g.rest after after'
+      (subst (λ s. AreAnswers two (k + 1) s records h.rest after) between h.others) g.others in
+      h.joined ∙ ap (λ f. f ++ h.rest) first ∙ ap (λ r. g.first ++ r) rest ∙ sym g.joined
 
-pub one_output : OneOutputLaw
-one_output bytes one other h g =
-    one_answers (is_two (records_of bytes)) 0 first_state (records_of bytes) one other h.state g.state h.answers g.answers
+  pub one_output : OneOutputLaw
+  one_output bytes one other h g =
+      one_answers (is_two (records_of bytes)) 0 first_state (records_of bytes) one other h.state g.state h.answers g.answers

@@ -16,12 +16,19 @@ use Rattle.geo_session.proofs.OneShown.{one_shown}
 use Rattle.geo_session.specs.Hull.{AreFirsts, IsFirstOutside, IsHullIn, IsSideText, TellsHull, hull_text, point_outside, side_text, spanned}
 
 -- the numbers of the first points are one list,
-one_firsts : (points : List Point) (numbers others : List ℕ) → AreFirsts points numbers → AreFirsts points others → numbers ≡ others
+pub one_firsts : (points : List Point) (numbers others : List ℕ) → AreFirsts points numbers → AreFirsts points others → numbers ≡ others
 one_firsts points numbers others h g =
     one_ordered ◌<◌ (λ x less. omega (arith, less)) (λ x y z less more. omega (arith, less, more)) 0 numbers others h.rising g.rising
     (λ i inside. (g.first i).1 ((h.first i).0 inside)) (λ i inside. (h.first i).1 ((g.first i).0 inside))
 
--- and so are the sides
+-- one point is the first that is outside,
+pub one_outside : (ring points : List Point) (k l : ℕ) → IsFirstOutside ring points k → IsFirstOutside ring points l → k ≡ l
+one_outside ring points k l h g = elim (cases_lt k l) [
+  | inl less ↦ absurd (h.outside (g.before k less))
+  | inr not_less ↦ elim (cases_lt l k) [ inl less ↦ absurd (g.outside (h.before l less)) | inr same ↦ omega arith ]
+]
+
+-- and the sides are one list
 module _ (ring points : List Point) where
   listed_sides : (sides others : List (ℕ × ℕ)) → AreSides ring points sides → AreSides ring points others → (p : ℕ × ℕ) → Contains sides p
       → Contains others p
@@ -63,15 +70,8 @@ module _ (two : Bool) (ring points : List Point) where
       (subst (λ (ns : List ℕ). AreLines ns h.sides h.lines) numbers (record { one_each = h.one_each; each = h.each })) in
       h.told ∙ ap hull_text (one_lines g.numbers g.sides h.lines g.lines lines (record { one_each = g.one_each; each = g.each })) ∙ sym g.told
 
-  -- one point is the first that is outside
-  one_outside : (k l : ℕ) → IsFirstOutside ring points k → IsFirstOutside ring points l → k ≡ l
-  one_outside k l h g = elim (cases_lt k l) [
-    | inl less ↦ absurd (h.outside (g.before k less))
-    | inr not_less ↦ elim (cases_lt l k) [ inl less ↦ absurd (g.outside (h.before l less)) | inr same ↦ omega arith ]
-  ]
-
   pub one_hull_in : (one other : List ℕ) → IsHullIn two ring points one → IsHullIn two ring points other → one ≡ other
-  one_hull_in one other (point_outside k h e) (point_outside l g f) = e ∙ ap (λ (n : ℕ). bad_text (bad.Outside (n + 1))) (one_outside k l h g) ∙ sym f
+  one_hull_in one other (point_outside k h e) (point_outside l g f) = e ∙ ap (λ (n : ℕ). bad_text (bad.Outside (n + 1))) (one_outside ring points k l h g) ∙ sym f
   one_hull_in one other (point_outside k h e) (spanned all f) = absurd (h.outside (all k h.in_list))
   one_hull_in one other (spanned all e) (point_outside k h f) = absurd (h.outside (all k h.in_list))
   one_hull_in one other (spanned all e) (spanned all_too f) = one_hull one other e f

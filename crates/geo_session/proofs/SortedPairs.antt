@@ -1,5 +1,5 @@
 -- Sorted pairs of numbers of which no two are the same are in order.
-use Rattle.std.proofs.Common.{◌≡◌, ◌⊎◌, inl, inr, ◌∙◌, ℕ, ◌<◌, ◌≤◌, Bool, true, false, if◌then◌else◌, List, length, arith}
+use Rattle.std.proofs.Common.{◌≡◌, ◌⊎◌, inl, inr, ◌∙◌, ℕ, ◌<◌, ◌≤◌, Bool, false, if◌then◌else◌, List, length, arith}
 use Rattle.std.proofs.lemmas.Bool.{cases_eq}
 use Rattle.std.proofs.lemmas.Bool.Decides.{nat_tests}
 use Rattle.std.proofs.lemmas.Cmp.{nat_cmp_total, on_total, then_total}
@@ -59,9 +59,11 @@ module _ (pairs sorted : List (ℕ × ℕ)) (apart : (k l : ℕ) → k < l → l
 
   pub pairs_in_order : (k l : ℕ) → k < l → l < length sorted → IsPairBefore (pair_at sorted k) (pair_at sorted l)
   pairs_in_order k l less within =
-      let other = differ _ _ _ _ (moved_apart k l less within) in
-      elim (not_before (pair_at sorted l).0 (pair_at sorted k).0 (pair_at sorted l).1 (pair_at sorted k).1 (sorted_far (λ p q. is_lt (pair_cmp p q)) (ranks_by pair_cmp_total (λ (p : ℕ × ℕ). p)) sorted up k l (0, 0)
+      let p = pair_at sorted k in
+      let q = pair_at sorted l in
+      let other = differ p.0 p.1 q.0 q.1 (moved_apart k l less within) in
+      elim (not_before q.0 p.0 q.1 p.1 (sorted_far (λ p q. is_lt (pair_cmp p q)) (ranks_by pair_cmp_total (λ (p : ℕ × ℕ). p)) sorted up k l (0, 0)
       (omega arith) within)) [
         | inl first ↦ inl first
-        | inr h ↦ let same = h.0 in let second = h.1 in let strict : ¬ ((pair_at sorted k).1 ≡ (pair_at sorted l).1) = other same in inr (same, omega arith)
+        | inr h ↦ let second = h.1 in let strict : ¬ (p.1 ≡ q.1) = other h.0 in inr (h.0, omega arith)
       ]

@@ -1,6 +1,6 @@
 -- What each command answers, and the state that it leaves. This project's own.
 use Rattle.std.specs.List.{concat}
-use Rattle.std.specs.Prelude.{◌≡◌, ◌≢◌, ℕ, ◌<◌, ◌⊎◌, ◌↔◌, ◌++◌, List, [], ◌∷◌, length, codes, flat_map, slice_index_or}
+use Rattle.std.specs.Prelude.{◌≡◌, ◌≢◌, ℕ, ℤ, ◌<◌, ◌⊎◌, ◌↔◌, ◌++◌, List, [], ◌∷◌, length, codes, flat_map, slice_index_or}
 use Rattle.std.specs.Prelude.{Bool, true, false, Option, Some, None, Result, Ok, Err}
 use Rattle.plane.specs.Point.{IsPoint, Point, Triple, whole}
 use Rattle.rings.specs.Edge.{IsOnSome, edges_of}
@@ -12,6 +12,8 @@ use Rattle.rings.specs.Sees.{Sees}
 use Rattle.rings.specs.Simple.{IsLeastClash, IsSimple}
 use Rattle.rings.specs.Visible.{AreParts, IsInView, Part}
 use Rattle.geo_session.specs.Hull.{IsHullIn}
+use Rattle.geo_session.specs.Numbers.{IsRoundIn, TellsGuards}
+use Rattle.geo_session.specs.Pairs.{AreSightsIn, IsIndex, IsSmall, IsVertexNumber}
 use Rattle.geo_session.specs.Shown.{IsShownPath}
 use Rattle.geo_text.specs.Texts.{bad_text, hom_text, index_text, pt_text}
 use Rattle.geo_text.specs.declared.command.Bad.{Bad}
@@ -218,6 +220,34 @@ abbrev pub IsHullText : Bool → Option Kept → List Point → List ℕ → Typ
 IsHullText two None points text = text ≡ bad_text bad.NoPolygon
 IsHullText two (Some kept) points text = IsHullIn two kept.ring points text
 
+-- the round is told if there is a polygon
+abbrev pub IsRoundText : Option Kept → List Point → List ℕ → Type 0
+IsRoundText None points text = text ≡ bad_text bad.NoPolygon
+IsRoundText (Some kept) points text = IsRoundIn kept.ring points text
+
+-- the guards are told if there is a polygon
+abbrev pub IsGuardsText : Option Kept → List ℕ → Type 0
+IsGuardsText None text = text ≡ bad_text bad.NoPolygon
+IsGuardsText (Some kept) text = TellsGuards kept.ring text
+
+-- a ring of too many vertices is refused, then the first of the numbers that is none of a vertex, or else the path between the two is told
+pub data IsPairIn (two : Bool) (ring : List Point) (i j : ℤ) (text : List ℕ) : Type 0 where
+  too_many : ¬ IsSmall ring → text ≡ bad_text bad.Large → IsPairIn two ring i j text
+  first_off : IsSmall ring → ¬ IsIndex ring i → text ≡ bad_text (bad.Index 1) → IsPairIn two ring i j text
+  second_off : IsSmall ring → IsIndex ring i → ¬ IsIndex ring j → text ≡ bad_text (bad.Index 2) → IsPairIn two ring i j text
+  joined : IsSmall ring → (k l : ℕ) → IsVertexNumber ring i k → IsVertexNumber ring j l → TellsPath two ring (vertex ring k) (vertex ring l) text
+      → IsPairIn two ring i j text
+
+-- so it is if there is a polygon
+abbrev pub IsPairText : Bool → Option Kept → ℤ → ℤ → List ℕ → Type 0
+IsPairText two None i j text = text ≡ bad_text bad.NoPolygon
+IsPairText two (Some kept) i j text = IsPairIn two kept.ring i j text
+
+-- the pairs of vertices that see each other are told if there is a polygon
+abbrev pub IsSightsText : Option Kept → List ℕ → Type 0
+IsSightsText None text = text ≡ bad_text bad.NoPolygon
+IsSightsText (Some kept) text = AreSightsIn kept.ring text
+
 -- the text is the command's answer in the state before, and leaves the state after
 abbrev pub IsAnswer : State → Command → List ℕ → State → Type 0
 IsAnswer before command.Two text after = (text ≡ codes "geo,2\n") × (after ≡ record { two = true; kept = None })
@@ -230,6 +260,10 @@ IsAnswer before (command.Reach t) text after = IsReachText before.two before.kep
 IsAnswer before (command.See q) text after = IsSeeText before.kept q text × (after ≡ before)
 IsAnswer before command.Kernel text after = IsKernelText before.kept text × (after ≡ before)
 IsAnswer before (command.Hull points) text after = IsHullText before.two before.kept points text × (after ≡ before)
+IsAnswer before (command.Round points) text after = IsRoundText before.kept points text × (after ≡ before)
+IsAnswer before command.Guards text after = IsGuardsText before.kept text × (after ≡ before)
+IsAnswer before (command.Pair i j) text after = IsPairText before.two before.kept i j text × (after ≡ before)
+IsAnswer before command.Sights text after = IsSightsText before.kept text × (after ≡ before)
 
 -- the same of a record that is read as a command or as a refusal; a refused record gives its line and keeps the state
 abbrev pub IsReadingAnswer : State → Result Command Bad → List ℕ → State → Type 0

@@ -1,12 +1,17 @@
 pub mod Along
 pub mod Answer
+pub mod Asked
 pub mod Hull
 pub mod Span
 pub mod Laws
+pub mod Numbers
 pub mod Output
+pub mod Pairs
 pub mod Session
 pub mod Shown
 pub mod Path
 pub mod Tree
 pub mod Place
+pub mod Prepared
+pub mod Rounded
 pub mod View

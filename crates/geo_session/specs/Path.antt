@@ -1,4 +1,4 @@
--- What `Session::chain` answers, and the steps of the records that write paths. This project's own.
+-- What `Session::chain`, `path` and `reach` answer, and the steps of the records that write paths. This project's own.
 use Rattle.std.specs.Prelude.{◌≡◌, ◌⊎◌, if◌then◌else◌, Bool, ℕ, ◌+◌, ◌*◌, ◌≤◌, List, [], ◌++◌, length, Option, Some, None, Result, Ok, Err, Vec}
 use Rattle.std.specs.declared.alloc.Global.{Global}
 use Rattle.plane.specs.Point.{Point, whole}
@@ -24,6 +24,17 @@ IsChainAnswer (Some kept) s t found = IsChainIn (bad.Outside 1) (bad.Outside 2) 
 abbrev pub IsShownAnswer : Bool → Option Kept → Point → Point → Result (Vec Point Global) Bad → Type 0
 IsShownAnswer two None s t found = found ≡ Err bad.NoPolygon
 IsShownAnswer two (Some kept) s t found = IsChainIn (bad.Outside 1) (bad.Outside 2) kept.ring s t (IsShownPath two kept.ring s t) found
+
+-- what is told of the path from the source of a tree in a polygon to t, or the word for why there is none: no tree, or t not in the polygon
+abbrev pub IsReachedIn : {F : Type 0} → F → F → Bool → List Point → Option Point → Point → Result (Vec Point Global) F → Type 0
+IsReachedIn no_tree outside two ring None t found = found ≡ Err no_tree
+IsReachedIn no_tree outside two ring (Some s) t (Ok points) = IsIn ring (whole t) × IsShownPath two ring s t points.items
+IsReachedIn no_tree outside two ring (Some s) t (Err fault) = (¬ IsIn ring (whole t)) × (fault ≡ outside)
+
+-- so it is if there is a polygon
+abbrev pub IsReachAnswer : Bool → Option Kept → Point → Result (Vec Point Global) Bad → Type 0
+IsReachAnswer two None t found = found ≡ Err bad.NoPolygon
+IsReachAnswer two (Some kept) t found = IsReachedIn bad.NoTree (bad.Outside 1) two kept.ring kept.source t found
 
 -- how many vertices the polygon has
 abbrev pub size_of : Option Kept → ℕ

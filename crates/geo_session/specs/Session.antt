@@ -1,6 +1,6 @@
 -- How a `Session` lays out its state, and how answers are put together. No public clause cites this module.
 use Rattle.std.specs.List.{concat}
-use Rattle.std.specs.Prelude.{◌≡◌, ℕ, ◌<◌, ◌++◌, List, [], codes, drop, length, slice_index_or, Option, None, Some}
+use Rattle.std.specs.Prelude.{◌≡◌, ℕ, ◌<◌, ◌++◌, Bool, false, List, [], codes, drop, length, slice_index_or, Option, None, Some}
 use Rattle.plane.specs.Point.{Point}
 use Rattle.ring_check.specs.Oriented.{given_of}
 use Rattle.geo_text.specs.Texts.{index_text}
@@ -10,6 +10,10 @@ use Rattle.geo_session.specs.Tree.{HeldRing}
 abbrev pub kept_of : Option HeldRing → Option Kept
 kept_of None = None
 kept_of (Some held) = Some (record { ring = given_of held.ring; source = held.source })
+
+abbrev pub prepared_of : Option HeldRing → Bool
+prepared_of None = false
+prepared_of (Some held) = held.prepared
 
 -- a text of which this holds was appended
 pub record AppendsSuch (Holds : List ℕ → Type 0) (out out' : List ℕ) : Type 0 where

@@ -1,9 +1,10 @@
 // Paths along the sleeve between two triangles of a mesh.
-ghost use Rattle.std.specs.Prelude.{◌≡◌, ◌+◌, ◌*◌, ◌≤◌, ◌++◌, false, if◌then◌else◌, IfOk, OnErr, length, vec_capacity};
+ghost use Rattle.std.specs.Prelude.{◌≡◌, ◌+◌, ◌*◌, ◌≤◌, ◌<◌, ◌++◌, false, if◌then◌else◌, IfOk, OnErr, length, vec_capacity};
 ghost use Rattle.plane.specs.Point.{whole};
 ghost use Rattle.plane.specs.declared.limits.TheConstants.{MAX_CORNERS};
 ghost use Rattle.rings.specs.Chain.{IsPath};
 ghost use Rattle.rings.specs.Full.{IsFull};
+ghost use Rattle.rings.specs.Ring.{vertex};
 ghost use Rattle.meshes.specs.Fits.{Fits};
 ghost use Rattle.exact_plane.specs.Spot.{point_named};
 ghost use Rattle.dual_tree.specs.Location.{IsLeastHolding};
@@ -14,6 +15,7 @@ ghost use Rattle.geo_session.specs.Shown.{IsShownPath};
 use dual_tree::{Board, sleeve, touched};
 use exact_plane::{Memory, Pt, Spot, Steps, Turns};
 use funnel_walk::{FunnelBox, walk};
+use pair_cut::triangle_at;
 use ring_check::Ring;
 use std::alloc::Global;
 use std::sync::ledger::Ledger;
@@ -87,6 +89,29 @@ pub(crate) fn full_between<L: Ledger>(
     ensures few { IfOk result (λ points. length points.items ≤ MAX_CORNERS + 2) }
     ensures steps { steps.new ≤ steps.old + 20 * length ring.now.corners }
 {
+    let sleeve = sleeve(alloc, mesh, from, to)?;
+    full_along(alloc, mesh, ring, &sleeve, chain, steps)
+}
+
+// The path between two vertices, with all vertices that it touches.
+pub(crate) fn full_at<L: Ledger>(
+    alloc: Global,
+    mesh: &Mesh,
+    ring: &Ring,
+    i: u32,
+    j: u32,
+    chain: &[Pt],
+    steps: &mut Steps<L>,
+) -> Result<Vec<Pt>, Memory>
+    requires fits { Fits ring.now.corners mesh.now }
+    requires first { i < length ring.now.corners }
+    requires second { j < length ring.now.corners }
+    requires path { IsPath ring.now.corners (vertex ring.now.corners i) (vertex ring.now.corners j) chain.now }
+    ensures full { IfOk result (λ points. IsFull ring.now.corners chain.now points.items) }
+    ensures few { IfOk result (λ points. length points.items ≤ MAX_CORNERS + 2) }
+    ensures steps { steps.new ≤ steps.old + 20 * length ring.now.corners }
+{
+    let (from, to) = (triangle_at(mesh, i), triangle_at(mesh, j));
     let sleeve = sleeve(alloc, mesh, from, to)?;
     full_along(alloc, mesh, ring, &sleeve, chain, steps)
 }

@@ -1,24 +1,32 @@
-ghost use Rattle.std.specs.Prelude.{◌≡◌, ◌+◌, ◌-◌, ◌*◌, ◌<◌, ◌≤◌, false, if◌then◌else◌, ℕ, IfOk, IfSome, None, OnErr, Some, length};
+ghost use Rattle.std.specs.Prelude.{◌≡◌, ◌+◌, ◌-◌, ◌*◌, ◌<◌, ◌≤◌, false, true, if◌then◌else◌, ℕ, IfNone, IfOk, IfSome, None, OnErr, Some, length};
 ghost use Rattle.plane.specs.declared.limits.TheConstants.{MAX_CHAIN, MAX_CORNERS, MAX_HULL};
 ghost use Rattle.rings.specs.Kernel.{IsKernel};
-ghost use Rattle.rings.specs.Visible.{part_at, turned_part, turned_parts};
 ghost use Rattle.meshes.specs.Fits.{Fits};
 ghost use Rattle.shared_seq.specs.Digits.{binary_digits};
 ghost use Rattle.ring_check.specs.Oriented.{given_of};
 ghost use Rattle.taut_check.specs.Verdict.{IsVerdict};
+ghost use Rattle.pair_cut.specs.Pairs.{IsMadeFor};
+ghost use Rattle.pair_cut.specs.declared.table.TheConstants.{MAX_PAIRED};
+ghost use Rattle.geo_session.specs.Numbers.{GuardRing};
 ghost use Rattle.geo_session.specs.Path.{IsChainIn};
 ghost use Rattle.geo_session.specs.Place.{IsPlace};
+ghost use Rattle.geo_session.specs.Rounded.{IsRounded};
 ghost use Rattle.geo_session.specs.Shown.{IsShownPath};
 ghost use Rattle.geo_session.specs.Span.{IsSpanned};
 ghost use Rattle.geo_session.specs.Tree.{IsGrownAt, IsReached, IsTreeOf};
-ghost use Rattle.geo_session.specs.View.{IsViewOf, given_parts};
+ghost use Rattle.geo_session.specs.View.{IsViewOf};
 
 use crate::along::shown_between;
 use crate::grown::{Grown, Unreached};
 use crate::hull::Hull;
+use crate::parts::given_parts;
+use crate::rounds::round_of;
+use cut_tri::triangulate;
 use dual_tree::{Board, locate};
 use exact_plane::{Hom, Memory, Pt, Steps};
+use guards3::guards;
 use inside_test::{Position, place};
+use pair_cut::PairTable;
 use ring_check::Ring;
 use see_cone::{Part, see};
 use star_kernel::kernel;
@@ -29,13 +37,14 @@ use sweep_tri::{lexical, sweep};
 use taut_check::{Verdict, check};
 use tri_mesh::Mesh;
 
-// A triangulated polygon: a ring, with a mesh that fits it, and the tree of a source in it, if there is one. What it answers is
-// about the list that the ring was made of.
+// A triangulated polygon: a ring, with a mesh that fits it, the tree of a source in it, if there is one, and the table of the
+// paths between all pairs of vertices, if there is one. What it answers is about the list that the ring was made of.
 #[derive(Drop)]
 pub(crate) struct Held {
-    ring: Ring,
-    mesh: Mesh,
+    pub(crate) ring: Ring,
+    pub(crate) mesh: Mesh,
     grown: Option<Grown>,
+    pairs: Option<PairTable>,
 }
 
 // The first of two points that is not in the polygon.
@@ -46,13 +55,13 @@ pub(crate) enum Outside {
 }
 
 impl Model for Held {
-    ghost use Rattle.geo_session.specs.Tree.{HeldRing, IsHeld, source_of};
+    ghost use Rattle.geo_session.specs.Tree.{HeldRing, IsHeld, is_there, source_of};
 
     ghost Value = { HeldRing };
 
-    ghost view = { λ held. record { ring = held.ring; tris = held.mesh; source = source_of held.grown } };
+    ghost view = { λ held. record { ring = held.ring; tris = held.mesh; source = source_of held.grown; prepared = is_there held.pairs } };
 
-    ghost invariant = { λ held. IsHeld held.ring.corners held.mesh held.grown };
+    ghost invariant = { λ held. IsHeld held.ring.corners held.mesh held.grown held.pairs };
 }
 
 impl Held {
@@ -62,13 +71,14 @@ impl Held {
         ring: Ring,
         steps: &mut Steps<L>,
     ) -> Result<Held, Memory>
-        ensures { IfOk result (λ held. (held.ring ≡ ring) × (held.source ≡ None)) }
+        ensures { IfOk result (λ held. (held.ring ≡ ring) × (held.source ≡ None) × (held.prepared ≡ false)) }
     {
         let mesh = mesh_of(alloc, &ring, steps)?;
         Ok(Held {
             ring,
             mesh,
             grown: None,
+            pairs: None,
         })
     }
 
@@ -145,7 +155,12 @@ impl Held {
     // Keeps a tree in the place of the one before.
     pub(crate) fn keep(&mut self, grown: Grown)
         requires { IsTreeOf self.old.ring.corners self.old.tris grown }
-        ensures { self.new ≡ record { ring = self.old.ring; tris = self.old.tris; source = Some grown.source } }
+        ensures { self.new ≡ record {
+          ring = self.old.ring;
+          tris = self.old.tris;
+          source = Some grown.source;
+          prepared = self.old.prepared;
+        } }
     {
         self.grown = Some(grown);
     }
@@ -207,6 +222,67 @@ impl Held {
         Hull::of(alloc, two, &self.ring, &self.mesh, points, steps)
     }
 
+    // The round of the sides of the relative hull of some points, by their numbers, or that of the first that is not in the
+    // polygon.
+    pub(crate) fn round<L: Ledger>(
+        &self,
+        alloc: Global,
+        points: &[Pt],
+        steps: &mut Steps<L>,
+    ) -> Result<Result<Vec<u32>, u32>, Memory>
+        requires some { 1 ≤ length points.now }
+        requires few { length points.now ≤ MAX_HULL }
+        ensures round { IfOk result (IsRounded (given_of self.now.ring) points.now) }
+        ensures few { IfOk result (λ found. IfOk found (λ numbers. length numbers.items ≤ MAX_HULL)) }
+    {
+        round_of(alloc, &self.ring, &self.mesh, points, steps)
+    }
+
+    // The guards of the polygon, by the triangles that its vertices determine.
+    pub(crate) fn guards<L: Ledger>(
+        &self,
+        alloc: Global,
+        steps: &mut Steps<L>,
+    ) -> Result<Vec<u32>, Memory>
+        ensures guards { IfOk result (λ numbers. GuardRing (given_of self.now.ring) numbers.items) }
+        ensures few { IfOk result (λ numbers. length numbers.items ≤ MAX_CORNERS) }
+    {
+        let _count = self.ring.len();
+        let mesh = triangulate(alloc, &self.ring, steps)?;
+        guards(alloc, &self.ring, &mesh)
+    }
+
+    // The table of all pairs of vertices, if there is one.
+    pub(crate) fn table(&self) -> Option<&PairTable>
+        ensures made { IfSome result (λ table. IsMadeFor self.now.ring.corners table.now) }
+        ensures there { IfSome result (λ table. self.now.prepared ≡ true) }
+        ensures not_there { IfNone result (self.now.prepared ≡ false) }
+    {
+        self.pairs.as_ref()
+    }
+
+    // A new one.
+    pub(crate) fn new_table<L: Ledger>(
+        &self,
+        alloc: Global,
+        steps: &mut Steps<L>,
+    ) -> Result<PairTable, Memory>
+        requires { length self.now.ring.corners ≤ MAX_PAIRED }
+        ensures made { IfOk result (IsMadeFor self.now.ring.corners) }
+        ensures steps { let n = length self.now.ring.corners in let b = binary_digits n in steps.new ≤ steps.old + 200 * (n * n) * (b * b) }
+    {
+        let board = Board::new(&self.ring, self.ring.corner(0), self.ring.corner(0));
+        PairTable::build(alloc, &board, &self.mesh, steps)
+    }
+
+    // Keeps a table.
+    pub(crate) fn prepare(&mut self, table: PairTable)
+        requires { IsMadeFor self.old.ring.corners table }
+        ensures { self.new ≡ record { ring = self.old.ring; tris = self.old.tris; source = self.old.source; prepared = true } }
+    {
+        self.pairs = Some(table);
+    }
+
     // The corners of the polygon's kernel.
     pub(crate) fn kernel<L: Ledger>(
         &self,
@@ -234,41 +310,4 @@ pub(crate) fn mesh_of<L: Ledger>(
     let board = Board::new(ring, ring.corner(0), ring.corner(0));
     let tris = sweep(alloc, &board, &order, steps)?;
     Mesh::build(alloc, tris)
-}
-
-// Parts of the edges of a ring, as parts of the edges of the list that it was made of.
-fn given_parts(alloc: Global, parts: Vec<Part>, ring: &Ring) -> Result<Vec<Part>, Memory>
-    requires { (k : ℕ) → k < length parts.items → (part_at parts.items k).edge < length ring.now.corners }
-    ensures { IfOk result (λ given. given.items ≡ given_parts ring.now parts.items) }
-{
-    if ring.is_turned() {
-        turned_parts(alloc, &parts, ring.len())
-    } else {
-        Ok(parts)
-    }
-}
-
-// Parts of the edges of a ring with this many vertices, where it is read the other way round.
-fn turned_parts(alloc: Global, parts: &[Part], size: u32) -> Result<Vec<Part>, Memory>
-    requires { (k : ℕ) → k < length parts.now → (part_at parts.now k).edge < size }
-    ensures { IfOk result (λ turned. turned.items ≡ turned_parts size parts.now) }
-{
-    let mut turned = Vec::with_capacity(alloc, parts.len())?;
-    for part in parts {
-        turned.push_reserved(turned_part(part, size));
-    }
-    turned.reverse();
-    Ok(turned)
-}
-
-// One part.
-fn turned_part(part: &Part, size: u32) -> Part
-    requires { part.now.edge < size }
-    ensures { result ≡ turned_part size part.now }
-{
-    Part {
-        edge: size - 1 - part.edge,
-        first: part.last,
-        last: part.first,
-    }
 }

@@ -63,7 +63,7 @@ impl Hull {
 }
 
 // The triangles of some points, or the number of the first that is in none.
-fn located<L: Ledger>(
+pub(crate) fn located<L: Ledger>(
     alloc: Global,
     ring: &Ring,
     mesh: &Mesh,
@@ -85,7 +85,7 @@ fn located<L: Ledger>(
 }
 
 // The numbers of the points that no earlier one is equal to.
-fn first_numbers<L: Ledger>(
+pub(crate) fn first_numbers<L: Ledger>(
     alloc: Global,
     points: &[Pt],
     steps: &mut Steps<L>,
@@ -118,7 +118,7 @@ fn is_repeated<L: Ledger>(points: &[Pt], i: usize, steps: &mut Steps<L>) -> bool
 
 // The table of the paths between each two of the numbered points.
 #[tactic(auto, using(crate::proofs::HullTable::number_in_list))]
-fn chains<L: Ledger>(
+pub(crate) fn chains<L: Ledger>(
     alloc: Global,
     ring: &Ring,
     mesh: &Mesh,

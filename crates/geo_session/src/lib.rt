@@ -9,6 +9,9 @@ mod held;
 mod hull;
 mod laws;
 mod lines;
+mod pairs;
+mod parts;
+mod rounds;
 mod session;
 #[cfg(test)]
 mod tests;

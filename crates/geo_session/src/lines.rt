@@ -5,6 +5,8 @@ ghost use Rattle.ring_check.specs.Oriented.{given_of};
 ghost use Rattle.geo_text.specs.Texts.{index_text};
 ghost use Rattle.geo_session.specs.Answer.{IsVerdictText, broken_text, corner_text, kernel_text, part_text, path_text, polygon_text};
 ghost use Rattle.geo_session.specs.Answer.{TellsTree, from_text, see_text};
+ghost use Rattle.geo_session.specs.Numbers.{numbers_text};
+ghost use Rattle.geo_session.specs.Pairs.{sight_text, sights_text};
 ghost use Rattle.geo_session.specs.Place.{place_text};
 ghost use Rattle.geo_session.specs.Session.{AppendsSuch};
 ghost use Rattle.geo_session.specs.Tree.{IsTreeOf, before_text};
@@ -184,5 +186,43 @@ pub(crate) fn put_count(out: &mut Vec<u8>, word: &str, count: u32) -> Result<(),
 {
     put_word(out, word)?;
     put_index(out, count)?;
+    put_line_end(out)
+}
+
+// Appends the line of a word and some numbers.
+pub(crate) fn put_numbers(out: &mut Vec<u8>, word: &str, numbers: &[u32]) -> Result<(), Memory>
+    requires { length numbers.now < 2 ^ 32 }
+    ensures ok { OnOk result (out.new.items ≡ out.old.items ++ numbers_text word.now numbers.now) }
+    ensures front { OnErr result (take (length out.old.items) out.new.items ≡ out.old.items) }
+{
+    put_word(out, word)?;
+    put_index(out, numbers.len() as u32)?;
+    for number in numbers {
+        put_index(out, *number)?;
+    }
+    put_line_end(out)
+}
+
+// Appends the lines of the pairs of vertices that see each other.
+pub(crate) fn put_sights(out: &mut Vec<u8>, pairs: &[(u32, u32)]) -> Result<(), Memory>
+    requires { length pairs.now < 2 ^ 32 }
+    ensures ok { OnOk result (out.new.items ≡ out.old.items ++ sights_text pairs.now) }
+    ensures front { OnErr result (take (length out.old.items) out.new.items ≡ out.old.items) }
+{
+    put_count(out, "sights", pairs.len() as u32)?;
+    for pair in pairs {
+        put_sight(out, *pair)?;
+    }
+    Ok(())
+}
+
+// Appends the line of one.
+fn put_sight(out: &mut Vec<u8>, pair: (u32, u32)) -> Result<(), Memory>
+    ensures ok { OnOk result (out.new.items ≡ out.old.items ++ sight_text pair) }
+    ensures front { OnErr result (take (length out.old.items) out.new.items ≡ out.old.items) }
+{
+    put_word(out, "sight")?;
+    put_index(out, pair.0)?;
+    put_index(out, pair.1)?;
     put_line_end(out)
 }

@@ -2,6 +2,8 @@ mod CappedNumber
 mod Commands
 mod Faults
 mod FieldAt
+mod FieldPoints
 mod Fuel
 pub mod HomTexts
 mod RecordsLeft
+mod WellSized

@@ -1,6 +1,6 @@
 -- What a record asks for: a command, or the first refusal that holds. This project's own.
-use Rattle.std.specs.Prelude.{◌≡◌, ℕ, ◌+◌, ◌*◌, ◌%◌, ◌≤◌, Bool, false, ◌&&◌, ◌==◌, nat_lt, if◌then◌else◌, List, [], ◌∷◌, length, codes, slice_index_or, drop}
-use Rattle.std.specs.Prelude.{Option, Some, None, Result, Ok, Err}
+use Rattle.std.specs.Prelude.{◌≡◌, ℕ, ℤ, ◌+◌, ◌*◌, ◌%◌, ◌≤◌, Bool, false, ◌&&◌, ◌==◌, nat_le, nat_lt, if◌then◌else◌, unsigned_abs}
+use Rattle.std.specs.Prelude.{List, [], ◌∷◌, length, codes, slice_index_or, drop, Option, Some, None, Result, Ok, Err}
 use Rattle.std.specs.Str.{bytes_eq}
 use Rattle.plane.specs.Point.{Point}
 use Rattle.plane.specs.declared.limits.TheConstants.{MAX_CHAIN, MAX_CORNERS, MAX_HULL}
@@ -27,6 +27,11 @@ first_fault None None = None
 abbrev pub number_fault : ℕ → List (List ℕ) → Option Bad
 number_fault limit fields = first_fault (first_failing is_number 1 fields) (first_failing (is_coordinate limit) 1 fields)
 
+-- the first of some numbers that passes the limit, by its place, which is counted from a given place on
+abbrev pub range_fault : ℕ → ℕ → List ℤ → Option Bad
+range_fault limit place [] = None
+range_fault limit place (z ∷ numbers) = if nat_le (unsigned_abs z) limit then range_fault limit (place + 1) numbers else Some (bad.Range place)
+
 -- each two fields are a point, x before y
 abbrev pub points_of : List (List ℕ) → List Point
 points_of [] = []
@@ -50,24 +55,37 @@ list_fault limit least most fields =
 abbrev pub fixed_fault : ℕ → ℕ → List (List ℕ) → Option Bad
 fixed_fault limit count fields = if length fields == count then number_fault limit fields else Some bad.Fields
 
+-- the number that the field at a place is
+abbrev pub number_at : ℕ → List (List ℕ) → ℤ
+number_at place fields = number_of (slice_index_or fields place [])
+
 -- the first two fields are a point
 abbrev pub point_of : List (List ℕ) → Point
-point_of fields = record { x = number_of (slice_index_or fields 0 []); y = number_of (slice_index_or fields 1 []) }
+point_of fields = record { x = number_at 0 fields; y = number_at 1 fields }
+
+-- the command that a word and just so many numbers are, or why they are none
+abbrev pub fixed_command_of : ℕ → List ℕ → List (List ℕ) → Result Command Bad
+fixed_command_of limit word fields =
+    if bytes_eq word (codes "inside") then unless (fixed_fault limit 2 fields) (command.Inside (point_of fields))
+    else if bytes_eq word (codes "path") then unless (fixed_fault limit 4 fields) (command.Path (point_of fields) (point_of (drop 2 fields)))
+    else if bytes_eq word (codes "tree") then unless (fixed_fault limit 2 fields) (command.Tree (point_of fields))
+    else if bytes_eq word (codes "reach") then unless (fixed_fault limit 2 fields) (command.Reach (point_of fields))
+    else if bytes_eq word (codes "see") then unless (fixed_fault limit 2 fields) (command.See (point_of fields))
+    else if bytes_eq word (codes "kernel") then unless (fixed_fault limit 0 fields) command.Kernel
+    else if bytes_eq word (codes "guards") then unless (fixed_fault limit 0 fields) command.Guards
+    else if bytes_eq word (codes "pair") then unless (fixed_fault limit 2 fields) (command.Pair (number_at 0 fields) (number_at 1 fields))
+    else if bytes_eq word (codes "sights") then unless (fixed_fault limit 0 fields) command.Sights
+    else Err bad.Word
 
 -- the command that a record is by its word, or why it is none
 abbrev pub command_of : Limits → List (List ℕ) → Result Command Bad
 command_of limits [] = Err bad.Word
 command_of limits (word ∷ fields) =
     if bytes_eq word (codes "polygon") then unless (list_fault limits.coordinate 3 limits.corners fields) (command.Polygon (points_of fields))
-    else if bytes_eq word (codes "inside") then unless (fixed_fault limits.coordinate 2 fields) (command.Inside (point_of fields))
     else if bytes_eq word (codes "check") then unless (list_fault limits.coordinate 1 limits.chain fields) (command.Check (points_of fields))
-    else if bytes_eq word (codes "path") then unless (fixed_fault limits.coordinate 4 fields) (command.Path (point_of fields) (point_of (drop 2 fields)))
-    else if bytes_eq word (codes "tree") then unless (fixed_fault limits.coordinate 2 fields) (command.Tree (point_of fields))
-    else if bytes_eq word (codes "reach") then unless (fixed_fault limits.coordinate 2 fields) (command.Reach (point_of fields))
-    else if bytes_eq word (codes "see") then unless (fixed_fault limits.coordinate 2 fields) (command.See (point_of fields))
-    else if bytes_eq word (codes "kernel") then unless (fixed_fault limits.coordinate 0 fields) command.Kernel
     else if bytes_eq word (codes "hull") then unless (list_fault limits.coordinate 1 MAX_HULL fields) (command.Hull (points_of fields))
-    else Err bad.Word
+    else if bytes_eq word (codes "round") then unless (list_fault limits.coordinate 1 MAX_HULL fields) (command.Round (points_of fields))
+    else fixed_command_of limits.coordinate word fields
 
 -- the record has just two fields, the word `geo` and the number 2
 abbrev pub asks_two : List (List ℕ) → Bool
@@ -95,6 +113,10 @@ IsWellSized (command.Reach point) = Unit {0}
 IsWellSized (command.See point) = Unit {0}
 IsWellSized command.Kernel = Unit {0}
 IsWellSized (command.Hull points) = (1 ≤ length points) × (length points ≤ MAX_HULL)
+IsWellSized (command.Round points) = (1 ≤ length points) × (length points ≤ MAX_HULL)
+IsWellSized command.Guards = Unit {0}
+IsWellSized (command.Pair i j) = Unit {0}
+IsWellSized command.Sights = Unit {0}
 
 -- the next record was taken from a script, and read as this; the first one says of which version the script is
 pub record TakesRecord (before after : Unread) (reading : Result Command Bad) : Type 0 where

@@ -1,6 +1,6 @@
 -- How a script lays out what is left of it. No public clause cites this module.
 use Rattle.std.specs.Borrow.{Bor}
-use Rattle.std.specs.Prelude.{◌≡◌, ◌+◌, ◌≤◌, ◌^◌, true, false, if◌then◌else◌, ℕ, List, [], ◌∷◌, length, map, Option, Some, None}
+use Rattle.std.specs.Prelude.{◌≡◌, ◌+◌, ◌<◌, ◌^◌, true, false, if◌then◌else◌, ℕ, List, [], ◌∷◌, length, map, Option, Some, None}
 use Rattle.geo_text.specs.Records.{Unread, without_blanks}
 use Rattle.geo_text.specs.declared.script.Script.TheInside.{Inside}
 use Rattle.csv.specs.Reading.{Ready, default_config, has_failed, is_flexible, reader_config, reader_state, reader_trim, records_from, source_of}
@@ -33,7 +33,7 @@ pub record TakesFields (old new : Reader (Bor (List ℕ))) (fields : List (List 
 -- the reader reads on, and what it has left can be counted from this number on
 pub record Counts (reader : Reader (Bor (List ℕ))) (next : ℕ) : Type 0 where
   pub reads_on : IsReading reader
-  pub few : next + length (records_left reader) ≤ 2 ^ 63
+  pub few : next + length (records_left reader) < 2 ^ 64
 
 -- so it is in a script that has neither failed nor come to its end
 abbrev pub ReadsOn : Inside → Type 0

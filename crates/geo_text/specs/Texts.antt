@@ -39,6 +39,8 @@ fault_text (bad.Clash i j) = codes "clash" ++ index_text i ++ index_text j
 fault_text bad.NoPolygon = codes "no_polygon"
 fault_text bad.NoTree = codes "no_tree"
 fault_text (bad.Outside point) = codes "outside" ++ index_text point
+fault_text (bad.Index place) = codes "index" ++ index_text place
+fault_text bad.Large = codes "large"
 
 -- the whole line of a refusal
 abbrev pub bad_text : Bad → List ℕ

@@ -24,10 +24,18 @@ pub enum Command {
     Kernel,
     /// Give the sides of the relative hull of these points, 1 to `MAX_HULL` of them.
     Hull(Points),
+    /// Give the numbers of these points, 1 to `MAX_HULL` of them, in the order in which the sides of their relative hull join them.
+    Round(Points),
+    /// Give the numbers of vertices that together see the whole polygon.
+    Guards,
+    /// Give the taut chain between the vertices of the polygon with these numbers.
+    Pair(i64, i64),
+    /// Give the pairs of vertices that see each other.
+    Sights,
 }
 
-/// Why a record is refused; the refusals are looked for in this order. Places are those of fields, and the first field after
-/// the command word has place 1.
+/// Why a record is refused; the refusals are looked for in this order, but `Large` before `Index`. Places are those of fields,
+/// and the first field after the command word has place 1.
 #[derive(Clone, Copy, Debug, PartialEq, Eq)]
 pub enum Bad {
     /// Field 0 is no command word.
@@ -50,4 +58,8 @@ pub enum Bad {
     NoTree,
     /// The command's point with this number, counted from 1, is the first that is not in the polygon.
     Outside(u32),
+    /// The field at this place is the first that is the number of no vertex of the polygon.
+    Index(u32),
+    /// The polygon has more vertices than the command takes.
+    Large,
 }

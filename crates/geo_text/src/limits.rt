@@ -1,6 +1,10 @@
-ghost use Rattle.std.specs.Prelude.{◌≡◌};
-ghost use Rattle.geo_text.specs.Limits.{limits_of};
+ghost use Rattle.std.specs.Prelude.{◌≡◌, ◌+◌, ◌<◌, ◌^◌, [], ◌∷◌};
+ghost use Rattle.geo_text.specs.Limits.{IsLimited, limits_of};
+ghost use Rattle.geo_text.specs.Reading.{range_fault, unless};
 
+use crate::command::Bad;
+use crate::coordinates::point;
+use exact_plane::Pt;
 use plane::{MAX_CHAIN, MAX_COORDINATE, MAX_CORNERS};
 
 // What version 1 takes. Version 2 takes what the plane does.
@@ -37,5 +41,21 @@ impl Limits {
                 chain: NARROW_CHAIN,
             }
         }
+    }
+
+    /// The point with these coordinates, or the refusal of the first that passes the limit. `place` is that of x, and y has the
+    /// next.
+    pub fn point(&self, place: u32, x: i64, y: i64) -> Result<Pt, Bad>
+        requires limited { IsLimited self.now }
+        requires few { place + 1 < 2 ^ 32 }
+        ensures { result ≡ unless (range_fault self.now.coordinate place (x ∷ y ∷ [])) (record { x = x; y = y }) }
+    {
+        if x.unsigned_abs() > self.coordinate {
+            return Err(Bad::Range(place));
+        }
+        if y.unsigned_abs() > self.coordinate {
+            return Err(Bad::Range(place + 1));
+        }
+        Ok(point(x, y))
     }
 }

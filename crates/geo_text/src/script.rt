@@ -1,5 +1,5 @@
 ghost use Rattle.std.specs.Bool.{MatchBool};
-ghost use Rattle.std.specs.Prelude.{◌≡◌, ◌==◌, [], true, false, if◌then◌else◌, IfOk, IfSome, OnOk, OnErr};
+ghost use Rattle.std.specs.Prelude.{◌≡◌, ◌≤◌, ◌==◌, [], true, false, if◌then◌else◌, IfOk, IfSome, OnOk, OnErr};
 ghost use Rattle.geo_text.specs.Reading.{IsWellSized, TakesCommand, asks_two as is_asked, reading_of};
 ghost use Rattle.geo_text.specs.Records.{plain_fields, records_of};
 ghost use Rattle.geo_text.specs.Script.{IsReading, TakesFields, records_left};
@@ -41,6 +41,21 @@ impl<'a> Script<'a> {
     pub fn open(alloc: Global, bytes: &'a [u8]) -> Script<'a>
         ensures { result ≡ record { left = records_of bytes.now; next = 0; two = false; failed = false } }
     {
+        Script::over(alloc, bytes, 0, false)
+    }
+
+    /// A later part of a script of version 2, or of version 1. No record of it is the script's first one.
+    pub fn resume(alloc: Global, bytes: &'a [u8], two: bool) -> Script<'a>
+        ensures { result ≡ record { left = records_of bytes.now; next = 1; two = two; failed = false } }
+    {
+        Script::over(alloc, bytes, 1, two)
+    }
+
+    // The records of these bytes, the first of which has a number.
+    fn over(alloc: Global, bytes: &'a [u8], next: usize, two: bool) -> Script<'a>
+        requires { next ≤ 1 }
+        ensures { result ≡ record { left = records_of bytes.now; next = next; two = two; failed = false } }
+    {
         Script {
             reader: ReaderBuilder::new()
                 .has_headers(false)
@@ -48,8 +63,8 @@ impl<'a> Script<'a> {
                 .from_reader(alloc, bytes),
             row: ByteRecord::new(alloc),
             alloc,
-            next: 0,
-            two: false,
+            next,
+            two,
             ended: false,
             failed: false,
         }

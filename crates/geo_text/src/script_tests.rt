@@ -40,6 +40,15 @@ fn scripts(rt: HostRuntime) -> Result<(), Fail> {
         ("kernel", b"kernel\nkernel,0\nkernel,x\nkernel,\n", b"kernel\nbad,fields\nbad,fields\nbad,fields\n"),
         ("hull", b"hull,1,-2\nhull,1,2,3,4,1,2\nhull\nhull,1\nhull,x,1\nhull,1,1000001\n",
             b"hull 1,-2\nhull 1,2 3,4 1,2\nbad,few\nbad,fields\nbad,number,1\nbad,range,2\n"),
+        ("round", b"round,1,-2\nround,1,2,3,4,1,2\nround\nround,1\nround,x,1\nround,1,1000001\nRound,1,-2\n",
+            b"round 1,-2\nround 1,2 3,4 1,2\nbad,few\nbad,fields\nbad,number,1\nbad,range,2\nbad,word\n"),
+        ("guards", b"guards\nguards,1\nguards,x\nguards,\nGuards\n", b"guards\nbad,fields\nbad,fields\nbad,fields\nbad,word\n"),
+        ("pair", b"pair,0,1\npair,-1,0\npair,0,0\npair,+7,-0\npair,1000000,-1000000\n",
+            b"pair 0,1\npair -1,0\npair 0,0\npair 7,0\npair 1000000,-1000000\n"),
+        ("pair of other counts", b"pair\npair,0\npair,0,1,2\npair,x\nPair,0,1\n", b"bad,fields\nbad,fields\nbad,fields\nbad,fields\nbad,word\n"),
+        ("pair of no numbers", b"pair,0,x\npair,,0\npair,9999999,x\n", b"bad,number,2\nbad,number,1\nbad,number,2\n"),
+        ("pair past the limits", b"pair,9999999,0\npair,0,-1000001\n", b"bad,range,1\nbad,range,2\n"),
+        ("sights", b"sights\nsights,1\nsights,x\nsights,\nSIGHTS\n", b"sights\nbad,fields\nbad,fields\nbad,fields\nbad,word\n"),
         ("odd count", b"polygon,0,0,1\npolygon,x\npolygon,0,0,0,0,0,0,0\n", b"bad,fields\nbad,fields\nbad,fields\n"),
         ("few", b"polygon\npolygon,0,0,1,1\npolygon,x,y\n", b"bad,few\nbad,few\nbad,few\n"),
         ("no numbers", b"polygon,+,0,0,0,0,0\npolygon,0,-,0,0,0,0\npolygon,0,0,,0,0,0\npolygon,0,0,0,+-1,0,0\npolygon,0,0,0,0,1 2,0\npolygon,0,0,0,0,0,1.0\n",
@@ -70,10 +79,12 @@ fn scripts_by_version(rt: HostRuntime) -> Result<(), Fail> {
         ("limits", b"geo,2\npolygon,0,0,8388607,0,0,8388608\npolygon,0,0,8388607,0,0,8388607\n",
             b"two\nbad,range,6\npolygon 0,0 8388607,0 0,8388607\n"),
         ("path at the limits", b"geo,2\npath,-8388607,8388607,8388607,-8388607\n", b"two\npath -8388607,8388607 8388607,-8388607\n"),
-        ("past the limits", b"geo,2\npath,0,0,0,-8388608\ninside,8388608,0\ncheck,0,-8388608\nhull,8388608,8388608\n",
-            b"two\nbad,range,4\nbad,range,1\nbad,range,2\nbad,range,1\n"),
+        ("past the limits", b"geo,2\npath,0,0,0,-8388608\ninside,8388608,0\ncheck,0,-8388608\nhull,8388608,8388608\nround,0,8388608\n",
+            b"two\nbad,range,4\nbad,range,1\nbad,range,2\nbad,range,1\nbad,range,2\n"),
         ("one point", b"geo,2\ntree,8388607,0\nreach,0,8388607\nsee,-8388607,0\nsee,-8388608,0\n",
             b"two\ntree 8388607,0\nreach 0,8388607\nsee -8388607,0\nbad,range,1\n"),
+        ("pair in version 2", b"geo,2\npair,8388607,-8388607\npair,8388608,0\npair,0,-8388608\nguards\nsights\n",
+            b"two\npair 8388607,-8388607\nbad,range,1\nbad,range,2\nguards\nsights\n"),
         ("past 64 bits", b"geo,2\npolygon,0,0,0,18446744073709551616,0,0\n", b"two\nbad,range,4\n"),
         ("no number", b"geo,2\npolygon,8388608,0,0,x,0,0\n", b"two\nbad,number,4\n"),
         ("again", b"geo,2\ngeo,2\ninside,8388607,0\n", b"two\nbad,word\ninside 8388607,0\n"),
@@ -99,6 +110,7 @@ fn scripts_by_version(rt: HostRuntime) -> Result<(), Fail> {
 fn long_scripts(rt: HostRuntime) -> Result<(), Fail> {
     let greatest = repeated(rt.alloc(), b"polygon", b" 5,6", 4096, b"\n")?;
     let widest = repeated(rt.alloc(), b"hull", b" 5,6", 64, b"\n")?;
+    let longest_round = repeated(rt.alloc(), b"round", b" 5,6", 64, b"\n")?;
     let greatest_of_two = repeated(rt.alloc(), b"two\npolygon", b" 5,6", 16_384, b"\n")?;
     let longest_of_two = repeated(rt.alloc(), b"two\ncheck", b" 5,6", 16_384, b"\n")?;
     let cases = [
@@ -111,11 +123,14 @@ fn long_scripts(rt: HostRuntime) -> Result<(), Fail> {
         ("4,097 points to check", b"check", b",5,6", 4097, b"\n", b"bad,many\n"),
         ("64 points of a hull", b"hull", b",5,6", 64, b"\n", widest.as_slice()),
         ("65 points of a hull", b"hull", b",5,6", 65, b"\n", b"bad,many\n"),
+        ("64 points of a round", b"round", b",5,6", 64, b"\n", longest_round.as_slice()),
+        ("65 points of a round", b"round", b",5,6", 65, b"\n", b"bad,many\n"),
         ("16,384 points in version 2", b"geo,2\npolygon", b",5,6", 16_384, b"\n", greatest_of_two.as_slice()),
         ("16,385 points in version 2", b"geo,2\npolygon", b",5,6", 16_385, b"\n", b"two\nbad,many\n"),
         ("16,384 points to check in version 2", b"geo,2\ncheck", b",5,6", 16_384, b"\n", longest_of_two.as_slice()),
         ("16,385 points to check in version 2", b"geo,2\ncheck", b",5,6", 16_385, b"\n", b"two\nbad,many\n"),
         ("65 points of a hull in version 2", b"geo,2\nhull", b",5,6", 65, b"\n", b"two\nbad,many\n"),
+        ("65 points of a round in version 2", b"geo,2\nround", b",5,6", 65, b"\n", b"two\nbad,many\n"),
         ("8,195 fields", b"polygon,5", b",x,y", 4097, b"\n", b"bad,fields\n"),
     ];
     for (name, front, part, count, end, want) in cases {

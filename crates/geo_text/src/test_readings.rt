@@ -26,7 +26,7 @@ pub fn readings<L: Ledger>(alloc: Global, bytes: &[u8], blank: Blank) -> Result<
     Ok(out)
 }
 
-// The word, and each point behind a space.
+// The word, and each point, or two numbers, behind a space.
 fn put_command<L: Ledger>(
     out: &mut Vec<u8>,
     command: Command,
@@ -68,6 +68,16 @@ fn put_command<L: Ledger>(
             put_word(out, "hull")?;
             put_points(out, points.into_vec().as_slice(), steps)?
         }
+        Command::Round(points) => {
+            put_word(out, "round")?;
+            put_points(out, points.into_vec().as_slice(), steps)?
+        }
+        Command::Guards => put_word(out, "guards")?,
+        Command::Pair(i, j) => {
+            put_word(out, "pair")?;
+            put_numbers(out, i, j)?
+        }
+        Command::Sights => put_word(out, "sights")?,
     }
     put_line_end(out)
 }
@@ -85,6 +95,10 @@ fn put_points<L: Ledger>(
 
 fn put_point<L: Ledger>(out: &mut Vec<u8>, point: &Pt, steps: &mut Steps<L>) -> Result<(), Memory> {
     let (x, y) = point.parts(steps);
+    put_numbers(out, x, y)
+}
+
+fn put_numbers(out: &mut Vec<u8>, x: i64, y: i64) -> Result<(), Memory> {
     put_word(out, " ")?;
     put_word(out, Buffer::new().format(x))?;
     put_word(out, ",")?;

@@ -22,6 +22,8 @@ fn refusals(rt: HostRuntime) -> Result<(), Fail> {
         (Bad::NoPolygon, b"bad,no_polygon\n"),
         (Bad::NoTree, b"bad,no_tree\n"),
         (Bad::Outside(2), b"bad,outside,2\n"),
+        (Bad::Index(1), b"bad,index,1\n"),
+        (Bad::Large, b"bad,large\n"),
     ];
     for (bad, want) in cases {
         let mut out = Vec::new(rt.alloc());

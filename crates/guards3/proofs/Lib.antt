@@ -7,5 +7,5 @@ mod ClassMembers
 mod GivenNumbers
 mod Choice
 mod Watched
-mod OneGuards
+pub mod OneGuards
 mod KnownRows

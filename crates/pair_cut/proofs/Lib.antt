@@ -1,6 +1,10 @@
+pub mod Climbs
+pub mod DoorFunnels
+pub mod FunnelPaths
 pub mod NumberedRows
 pub mod OneOrder
 pub mod PairOrder
+pub mod RowGrowth
 pub mod SightLists
 pub mod SightPaths
 pub mod TableRows

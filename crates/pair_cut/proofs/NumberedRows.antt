@@ -1,13 +1,12 @@
--- Rows of numbers by trees of paths, and the table that they make.
-use Rattle.std.proofs.Common.{◌≡◌, ◌≢◌, inl, inr, refl, sym, subst, ◌∙◌, ℕ, ◌+◌, ◌*◌, ◌<◌, ◌≤◌, List, []}
-use Rattle.std.proofs.Common.{◌∷◌, ◌++◌, length, map, get_or, arith, Option, Some, None}
+-- The numbers of a row, and the table that the rows make.
+use Rattle.std.proofs.Common.{◌≡◌, ◌≢◌, inl, inr, refl, sym, subst, ◌∙◌, ℕ, ◌*◌, ◌<◌, ◌≤◌, List, []}
+use Rattle.std.proofs.Common.{◌∷◌, ◌++◌, length, map, arith}
 use Rattle.std.proofs.lemmas.Bool.{cases_lt}
 use Rattle.std.proofs.lemmas.List.{get_or_append_left, get_or_push, length-map, length_push, map_push}
 use Rattle.std.proofs.lemmas.Nat.{mul-le}
 use Rattle.plane.specs.Point.{Point}
 use Rattle.rings.proofs.Simple.{apart_of_simple}
 use Rattle.rings.proofs.Vertices.{one_to_one}
-use Rattle.rings.specs.From.{IsBefore}
 use Rattle.rings.specs.Ring.{vertex}
 use Rattle.rings.specs.Simple.{IsSimple}
 use Rattle.meshes.proofs.Sides.{one_at_edge}
@@ -16,13 +15,10 @@ use Rattle.meshes.specs.Side.{tri_at}
 use Rattle.meshes.specs.declared.tri.Tri.{Tri}
 use Rattle.funnels.proofs.Trees.{before_differs}
 use Rattle.funnels.proofs.Vertices.{fitted_long, fitted_simple}
-use Rattle.exact_plane.specs.declared.turns.Spot.{Spot}
-use Rattle.exact_plane.specs.declared.turns.Spot.TheVariants.{Corner, Goal, Start}
 use Rattle.path_tree.proofs.TriCorners.{side_corners}
-use Rattle.path_tree.specs.Grown.{IsFromNamed, IsGrownFrom, Tree}
 use Rattle.path_tree.specs.Growing.{HasCorner}
 use Rattle.pair_cut.specs.Pairs.{IsBeforeVertex, IsMadeFor}
-use Rattle.pair_cut.specs.Rows.{AreRows, IsNumberBefore, IsRow, IsRowOf, number_of}
+use Rattle.pair_cut.specs.Rows.{AreRows, IsNumberBefore, IsRow}
 
 -- each vertex is a corner of a triangle of a mesh
 pub corner_of_some : (corners : List Point) (tris : List Tri) → Fits corners tris → (i : ℕ) → i < length corners
@@ -32,66 +28,20 @@ corner_of_some corners tris fits i h =
 
 -- ---- one number
 
--- the number of a name tells what it names
-pub number_told : (ring : List Point) (i j : ℕ) → i < length ring → (o : Option Spot) → IsFromNamed ring (vertex ring i) (vertex ring j) o
-    → IsNumberBefore ring i j (number_of i o)
-number_told ring i j h None same = inl (same, refl)
-number_told ring i j h (Some Start) (x, is, before) =
-    inr (record { in_ring = h; before = subst (IsBefore ring (vertex ring i) (vertex ring j)) is before })
-number_told ring i j h (Some (Corner c)) (x, is, before) =
-    inr (record { in_ring = is.0; before = subst (IsBefore ring (vertex ring i) (vertex ring j)) (sym is.1) before })
-number_told ring i j h (Some Goal) (x, none, before) = absurd none
-
 module _ (ring : List Point) (simple : IsSimple ring) (i x : ℕ) where
   -- before vertex i itself it is i,
-  itself_told : IsNumberBefore ring i i x → x ≡ i
+  pub itself_told : IsNumberBefore ring i i x → x ≡ i
   itself_told told = elim told [
     | inl at ↦ at.1
     | inr other ↦ absurd (before_differs ring (vertex ring i) (vertex ring i) (vertex ring x) other.before refl)
   ]
 
   -- and before another the one that comes before
-  other_told : (j : ℕ) → i < length ring → j < length ring → i ≢ j → IsNumberBefore ring i j x → IsBeforeVertex ring i j x
+  pub other_told : (j : ℕ) → i < length ring → j < length ring → i ≢ j → IsNumberBefore ring i j x → IsBeforeVertex ring i j x
   other_told j h k differ told = elim told [
     | inl at ↦ absurd (differ (one_to_one (vertex ring) (length ring) (apart_of_simple ring simple).distinct i j h k (sym at.0)))
     | inr other ↦ other
   ]
-
--- ---- one row
-
-module _ (tree : Tree) (i : ℕ) where
-  -- a row has no number at first,
-  pub row_none : IsRowOf tree i 0 []
-  row_none = record { long = refl; told = λ corners tris h grown j below. absurd (omega arith) }
-
-  -- and then one more
-  pub row_more : (count : ℕ) (row : List ℕ) (x : ℕ) → IsRowOf tree i count row
-      → ((corners : List Point) (tris : List Tri) → i < length corners → IsGrownFrom corners (vertex corners i) tris tree
-      → IsNumberBefore corners i count x) → IsRowOf tree i (count + 1) (row ++ x ∷ [])
-  row_more count row x is more = record {
-    long = omega (arith, length_push row x, is.long);
-    told = λ corners tris h grown j below. elim (cases_lt j count) [
-      | inl less ↦
-          subst (IsNumberBefore corners i j) (sym (get_or_append_left row (x ∷ []) 0 j (omega (arith, less, is.long))))
-          (is.told corners tris h grown j less)
-      | inr last ↦
-          let at : count ≡ j = omega (arith, below, last) in
-          subst (IsNumberBefore corners i j) (sym (get_or_push row x 0 j (is.long ∙ at)))
-          (subst (λ n. IsNumberBefore corners i n x) at (more corners tris h grown))
-    ];
-  }
-
-  -- of a simple ring it is the row of vertex i
-  pub row_of_tree : (ring : List Point) (tris : List Tri) → Fits ring tris → i < length ring → IsGrownFrom ring (vertex ring i) tris tree
-      → (count : ℕ) (row : List ℕ) → count ≡ length ring → IsRowOf tree i count row → IsRow ring i row
-  row_of_tree ring tris fits h grown count row all is =
-      let simple = fitted_simple ring tris fits in
-      record {
-        count = is.long ∙ all;
-        itself = itself_told ring simple i (get_or row i 0) (is.told ring tris h grown i (omega (arith, h, all)));
-        others = λ j k differ.
-            other_told ring simple i (get_or row j 0) j h k differ (is.told ring tris h grown j (omega (arith, k, all)));
-      }
 
 -- ---- all rows, as they are seen
 

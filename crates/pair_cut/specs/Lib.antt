@@ -1,3 +1,5 @@
+pub mod Climbs
+pub mod Doors
 pub mod Pairs
 pub mod Rows
 pub mod Sights

@@ -1,12 +1,8 @@
 -- Rows of a table of pairs: what comes before each vertex on its path from one of them. No public clause cites this module. This
 -- project's own.
-use Rattle.std.specs.Prelude.{◌≡◌, ◌≢◌, ◌⊎◌, ℕ, ◌<◌, ◌≤◌, List, [], length, slice_index_or, Option, Some, None}
+use Rattle.std.specs.Prelude.{◌≡◌, ◌≢◌, ◌⊎◌, ℕ, ◌<◌, ◌≤◌, List, [], length, slice_index_or}
 use Rattle.plane.specs.Point.{Point}
 use Rattle.rings.specs.Ring.{vertex}
-use Rattle.meshes.specs.declared.tri.Tri.{Tri}
-use Rattle.exact_plane.specs.declared.turns.Spot.{Spot}
-use Rattle.exact_plane.specs.declared.turns.Spot.TheVariants.{Corner, Goal, Start}
-use Rattle.path_tree.specs.Grown.{IsGrownFrom, Tree}
 use Rattle.pair_cut.specs.Pairs.{IsBeforeVertex, IsMadeFor}
 use Rattle.pair_cut.specs.declared.table.TheConstants.{MAX_PAIRED}
 
@@ -16,22 +12,9 @@ pub record IsTable (before : List (List ℕ)) : Type 0 where
   pub made : IsMadeFor ring before
   pub few : length before ≤ MAX_PAIRED
 
--- the number that a row from vertex i has for a name
-abbrev pub number_of : ℕ → Option Spot → ℕ
-number_of i None = i
-number_of i (Some Start) = i
-number_of i (Some (Corner c)) = c
-number_of i (Some Goal) = i
-
 -- vertex x comes before vertex j on its path from vertex i; or j is at i, and x is i
 abbrev pub IsNumberBefore : List Point → ℕ → ℕ → ℕ → Type 0
 IsNumberBefore ring i j x = ((vertex ring j ≡ vertex ring i) × (x ≡ i)) ⊎ IsBeforeVertex ring i j x
-
--- the row has so many numbers, by a tree that is grown from vertex i
-pub record IsRowOf (tree : Tree) (i count : ℕ) (row : List ℕ) : Type 0 where
-  pub long : length row ≡ count
-  pub told : (corners : List Point) (tris : List Tri) → i < length corners → IsGrownFrom corners (vertex corners i) tris tree
-      → (j : ℕ) → j < count → IsNumberBefore corners i j (slice_index_or row j 0)
 
 -- the row of vertex i
 pub record IsRow (ring : List Point) (i : ℕ) (row : List ℕ) : Type 0 where

@@ -1,7 +1,7 @@
 //! The paths between all pairs of vertices of a polygon, from one table; and which pairs see each other.
 #![tactic(auto)]
 
-mod board;
+mod climb;
 mod laws;
 mod rows;
 mod table;
@@ -9,4 +9,5 @@ mod table;
 mod tests;
 
 pub use laws::one_sights;
+pub use rows::triangle_at;
 pub use table::{MAX_PAIRED, PairTable};

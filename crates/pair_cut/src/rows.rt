@@ -1,19 +1,24 @@
-// Rows of a table of pairs, each by the tree of paths from one vertex.
-ghost use Rattle.std.specs.Prelude.{◌≡◌, ℕ, ◌*◌, ◌+◌, ◌<◌, ◌≤◌, IfOk, length};
+// Rows of a table of pairs: what comes before each vertex on its path from one of them.
+ghost use Rattle.std.specs.Prelude.{◌≡◌, ℕ, ◌^◌, ◌*◌, ◌+◌, ◌<◌, ◌≤◌, IfOk, List, length, replicate};
+ghost use Rattle.plane.specs.Point.{Point};
+ghost use Rattle.rings.specs.Ring.{vertex};
 ghost use Rattle.meshes.specs.Fits.{Fits};
 ghost use Rattle.meshes.specs.Side.{tri_at};
+ghost use Rattle.tri_mesh.specs.Outward.{IsOutward, outward_at};
 ghost use Rattle.shared_seq.specs.Digits.{binary_digits};
-ghost use Rattle.path_tree.specs.Growing.{HasCorner};
-ghost use Rattle.pair_cut.specs.Rows.{IsRow, IsRowOf, number_of};
+ghost use Rattle.path_tree.specs.Growing.{HasCorner, IsFromStart, at_place};
+ghost use Rattle.pair_cut.specs.Doors.{IsApex, IsGrownTo};
+ghost use Rattle.pair_cut.specs.Rows.{IsRow};
+ghost use Rattle.pair_cut.specs.declared.table.TheConstants.{MAX_PAIRED};
 
-use crate::board::FromCorner;
-use exact_plane::{Memory, Spot, Steps, Turns};
-use path_tree::PathTree;
+use crate::climb::{Tangent, tangent_of};
+use exact_plane::{Memory, Steps, Turns};
+use path_tree::door_of;
 use std::alloc::Global;
 use std::sync::ledger::Ledger;
-use tri_mesh::Mesh;
+use tri_mesh::{Mesh, Outward};
 
-// The row of vertex `i`: one tree.
+// The row of vertex `i`: outward from a triangle with that corner, the third corner of each is reached over its door.
 pub(crate) fn row_from<T: Turns, L: Ledger>(
     alloc: Global,
     board: &T,
@@ -22,18 +27,97 @@ pub(crate) fn row_from<T: Turns, L: Ledger>(
     steps: &mut Steps<L>,
 ) -> Result<Vec<u32>, Memory>
     requires fits { Fits (T.corners board.now) mesh.now }
+    requires few { length (T.corners board.now) ≤ MAX_PAIRED }
     requires vertex { i < length (T.corners board.now) }
     ensures row { IfOk result (λ row. IsRow (T.corners board.now) i row.items) }
     ensures steps { let n = length (T.corners board.now) in let b = binary_digits n in steps.new ≤ steps.old + 200 * n * (b * b) }
 {
     let home = triangle_at(mesh, i);
-    let own = FromCorner::new(board, i);
-    let tree = PathTree::build(alloc, &own, mesh, home, steps)?;
-    numbers_before(alloc, &tree, mesh.count() + 2, i)
+    let order = mesh.outward(alloc, home)?;
+    let mut row = Row::at_home(alloc, mesh.count() as usize, i)?;
+    for p in 1..order.len() {
+        row.go_on(board, mesh, &order, p, i, steps);
+    }
+    Ok(row.before)
 }
 
-// A triangle with corner `i`.
-fn triangle_at(mesh: &Mesh, i: u32) -> u32
+// A row that grows outward from the home triangle: what comes before the vertices so far, and the tangent at each place.
+#[derive(Drop)]
+struct Row {
+    before: Vec<u32>,
+    tangents: Vec<Tangent>,
+}
+
+impl Row {
+    // The row of vertex `i` at home: vertex i comes before the corners there.
+    fn at_home(alloc: Global, count: usize, i: u32) -> Result<Row, Memory>
+        requires { count + 2 < 2 ^ 32 }
+        ensures before { IfOk result (λ row. row.before.items ≡ replicate (count + 2) i) }
+        ensures tangents { IfOk result (λ row. length row.tangents.items ≡ count) }
+    {
+        let none = Tangent {
+            near: i,
+            right: i,
+            left: i,
+        };
+        Ok(Row {
+            before: vec![in alloc; i; count + 2]?,
+            tangents: vec![in alloc; none; count]?,
+        })
+    }
+
+    // Goes on to the triangle at place `p`: what comes before its third corner. It takes a step for each vertex at most.
+    fn go_on<T: Turns, L: Ledger>(
+        &mut self,
+        board: &T,
+        mesh: &Mesh,
+        order: &[Outward],
+        p: usize,
+        i: u32,
+        steps: &mut Steps<L>,
+    )
+        requires start { IsFromStart (T.corners board.now) (vertex (T.corners board.now) i) mesh.now order.now }
+        requires vertex { i < length (T.corners board.now) }
+        requires home { HasCorner (tri_at mesh.now (at_place order.now 0)) i }
+        requires later { 0 < p }
+        requires within { p < length order.now }
+        requires grown { IsGrownTo (T.corners board.now) i mesh.now order.now p self.old.before.items self.old.tangents.items }
+        ensures grown { IsGrownTo (T.corners board.now) i mesh.now order.now (p + 1) self.new.before.items self.new.tangents.items }
+        ensures steps { steps.new ≤ steps.old + length (T.corners board.now) }
+    {
+        let door = door_of(mesh, order[p]);
+        let apex = self.apex(mesh, order, p, i);
+        let tangent = tangent_of(board, &self.before, door, apex, steps);
+        self.before[door.third as usize] = tangent.near;
+        self.tangents[p] = tangent;
+    }
+
+    // The apex of the door of the triangle at place `p`.
+    fn apex(&self, mesh: &Mesh, order: &[Outward], p: usize, i: u32) -> u32
+        requires outward { IsOutward mesh.now (at_place order.now 0) order.now }
+        requires later { 0 < p }
+        requires within { p < length order.now }
+        requires places { length self.now.tangents.items ≡ length order.now }
+        ensures { (corners : List Point) → IsFromStart corners (vertex corners i) mesh.now order.now → i < length corners
+            → HasCorner (tri_at mesh.now (at_place order.now 0)) i
+            → IsGrownTo corners i mesh.now order.now p self.now.before.items self.now.tangents.items
+            → IsApex corners i mesh.now order.now p result }
+    {
+        let toward = order[p].toward as usize;
+        if toward == 0 {
+            return i;
+        }
+        let tangent = self.tangents[toward];
+        if door_of(mesh, order[p]).right == door_of(mesh, order[toward]).third {
+            tangent.right
+        } else {
+            tangent.left
+        }
+    }
+}
+
+/// A triangle with corner `i`, which some triangle has.
+pub fn triangle_at(mesh: &Mesh, i: u32) -> u32
     requires { (k : ℕ) × (k < length mesh.now) × HasCorner (tri_at mesh.now k) i }
     ensures in_list { result < length mesh.now }
     ensures corner { HasCorner (tri_at mesh.now result) i }
@@ -45,26 +129,4 @@ fn triangle_at(mesh: &Mesh, i: u32) -> u32
         }
     }
     unreachable!()
-}
-
-// The numbers of what the tree from vertex `i` has before each of so many vertices.
-fn numbers_before(alloc: Global, tree: &PathTree, count: u32, i: u32) -> Result<Vec<u32>, Memory>
-    requires { count ≡ length tree.now.before }
-    ensures { IfOk result (λ row. IsRowOf tree.now i count row.items) }
-{
-    let mut row = Vec::with_capacity(alloc, count as usize)?;
-    for j in 0..count {
-        row.push(number(tree.parent(j), i))?;
-    }
-    Ok(row)
-}
-
-// The number of the vertex with this name; of the start, and where there is none, `start`.
-fn number(name: Option<Spot>, start: u32) -> u32
-    ensures { result ≡ number_of start name }
-{
-    match name {
-        Some(Spot::Corner(c)) => c,
-        _ => start,
-    }
 }

@@ -1,4 +1,4 @@
--- How far a tree of paths has grown outward from the triangle of its start. No public clause cites this module. This project's own.
+-- How far a tree of paths has grown outward from the triangle of its start. This project's own.
 use Rattle.std.specs.Prelude.{◌≡◌, ◌⊎◌, ℕ, ◌<◌, List, length, Option, Some, None}
 use Rattle.plane.specs.Point.{Point, whole}
 use Rattle.rings.specs.Ring.{vertex}

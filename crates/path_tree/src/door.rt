@@ -5,16 +5,17 @@ ghost use Rattle.shared_funnel.specs.Third.{side_third};
 
 use tri_mesh::{Mesh, Outward};
 
-// How a triangle is entered: the corners at the left and the right end of the diagonal, and the third corner.
+/// The door of a triangle, the side over which it is entered: the corners at its left and its right end, and the third corner of
+/// the triangle, which is behind it.
 #[derive(Clone, Copy)]
-pub(crate) struct Door {
-    pub(crate) left: u32,
-    pub(crate) right: u32,
-    pub(crate) third: u32,
+pub struct Door {
+    pub left: u32,
+    pub right: u32,
+    pub third: u32,
 }
 
-// The door of a triangle on the side from which it is reached.
-pub(crate) fn door_of(mesh: &Mesh, at: Outward) -> Door
+/// The door of a triangle in an order outward: the side that it shares with the one from which it is reached.
+pub fn door_of(mesh: &Mesh, at: Outward) -> Door
     requires in_list { at.tri < length mesh.now }
     requires side { at.side < 3 }
     ensures left { result.left ≡ side_begin (tri_at mesh.now at.tri) at.side }

@@ -6,4 +6,5 @@ mod growth;
 mod onward;
 mod tree;
 
+pub use door::{Door, door_of};
 pub use tree::PathTree;

@@ -3,17 +3,17 @@ use Rattle.geo.proofs.run.answer_script.Goals as goal
 
 pub returns-in_err-write_all-clause-write_fault : goal.returns-in_err-write_all-clause-write_fault
 returns-in_err-write_all-clause-write_fault g c =
-    let takes = rw c.in-Some.is at c.in_ok-reading.ensures.takes in
+    let one = c.in_ok-answer_next.ensures.answered cc in
     let rose = rw c.records.invariant.no_fault at c.in_err-write_all.ensures.failed in
     let front = rw c.deref.ensures.value at c.in_err-write_all.ensures.front in
-    λ _. (rose, written_front _ _ _ _ _ _ _ _ _ _ _ _ _ c.records.invariant takes c.in_ok-answer.ensures front)
+    λ _. (rose, written_front _ _ _ _ _ _ _ _ _ _ _ _ c.records.invariant one front)
 
 pub records-preserved : goal.records-preserved
 records-preserved g c =
-    let takes = rw c.in-Some.is at c.in_ok-reading.ensures.takes in
+    let one = c.in_ok-answer_next.ensures.answered cc in
     let written = rw c.deref.ensures.value at c.in_ok-write_all.ensures.all in
     rw c.clear.ensures.items
-    (written_whole _ _ _ _ _ _ _ _ _ _ _ _ _ c.records.invariant takes c.in_ok-answer.ensures _ written c.in_ok-write_all.ensures.counts)
+    (written_whole _ _ _ _ _ _ _ _ _ _ _ _ c.records.invariant one _ written c.in_ok-write_all.ensures.counts)
 
 pub records-init : goal.records-init
 records-init g c =

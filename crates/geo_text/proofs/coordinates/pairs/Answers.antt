@@ -1,7 +1,7 @@
 use Rattle.std.proofs.Common.{FitsSigned, append_assoc, arith, get_or, pos, rules, w64, ◌*◌, ◌+◌}
 use Rattle.std.proofs.lemmas.Grind.{common_steps}
 use Rattle.std.proofs.lemmas.Int.{to_z-of_z}
-use Rattle.geo_text.proofs.Commands.{pairs_of_after, pairs_of_more}
+use Rattle.geo_text.proofs.FieldPoints.{pairs_of_after, pairs_of_more}
 use Rattle.geo_text.proofs.coordinates.pairs.Goals as goal
 
 pub loop-k-preserved : goal.loop-k-preserved

@@ -1,5 +1,5 @@
 use Rattle.std.proofs.Common.{◌∙◌, ap}
-use Rattle.geo_text.proofs.Commands.{points_read}
+use Rattle.geo_text.proofs.FieldPoints.{points_read}
 use Rattle.geo_text.proofs.coordinates.points.Goals as goal
 use Rattle.geo_text.specs.Capped.{after_word, pairs_of}
 

@@ -1,6 +1,6 @@
 use Rattle.std.proofs.Common.{FitsSigned, arith, refl, rules, w64}
 use Rattle.std.proofs.lemmas.Int.{to_z-of_z}
-use Rattle.geo_text.proofs.Commands.{point_read}
+use Rattle.geo_text.proofs.FieldPoints.{point_read}
 use Rattle.geo_text.proofs.reading.path.Goals as goal
 use Rattle.geo_text.specs.Capped.{after_word}
 

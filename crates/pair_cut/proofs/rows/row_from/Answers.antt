@@ -1,35 +1,73 @@
-use Rattle.std.proofs.Common.{ap, ◌≡◌, ◌+◌, length, arith}
-use Rattle.std.proofs.lemmas.Result.{IfOk-weaker}
+use Rattle.std.proofs.Common.{◌≡◌, sym, subst, ◌+◌, ◌≤◌, length, arith}
+use Rattle.rings.specs.Ring.{vertex}
 use Rattle.meshes.proofs.Sides.{two_fewer}
+use Rattle.meshes.specs.Side.{tri_at}
+use Rattle.path_tree.proofs.Entrances.{from_start}
 use Rattle.path_tree.proofs.TriCorners.{corner_in}
-use Rattle.pair_cut.proofs.NumberedRows.{corner_of_some, row_of_tree}
+use Rattle.path_tree.specs.Growing.{HasCorner}
+use Rattle.pair_cut.proofs.NumberedRows.{corner_of_some}
+use Rattle.pair_cut.proofs.RowGrowth.{grown_at_home, places_paid, row_of_grown}
 use Rattle.pair_cut.proofs.rows.row_from.Goals as goal
+use Rattle.pair_cut.specs.Doors.{IsGrownTo}
 
 pub triangle_at-home-requires : goal.triangle_at-home-requires
 triangle_at-home-requires g c = corner_of_some (g.T.Turns.corners c.args.board.now) c.args.mesh.now c.requires.fits c.args.i c.requires.vertex
 
-pub build-requires-clause-start : goal.build-requires-clause-start
-build-requires-clause-start g c =
-    rw (c.new-own.ensures.start, c.new-own.ensures.corners)
-    (corner_in (g.T.Turns.corners c.args.board.now) c.args.mesh.now c.requires.fits c.triangle_at-home.result
-    c.triangle_at-home.ensures.in_list c.args.i c.triangle_at-home.ensures.corner)
+pub loop-p-init : goal.loop-p-init
+loop-p-init g c =
+    let corners = g.T.Turns.corners c.args.board.now in
+    let tris = c.args.mesh.now in
+    let i = c.args.i in
+    let home = c.triangle_at-home.ensures in
+    let order = c.in_ok-order.order.items in
+    let from = from_start corners (vertex corners i) tris c.triangle_at-home.result order c.requires.fits home.in_list
+    (corner_in corners tris c.requires.fits c.triangle_at-home.result home.in_list i home.corner) c.in_ok-order.ensures in
+    let count = two_fewer corners tris c.requires.fits in
+    record {
+      later = omega arith;
+      grown = rw c.in_ok-row.ensures.before
+          (grown_at_home corners i tris order from c.requires.vertex
+          (subst (λ k. HasCorner (tri_at tris k) i) (sym c.in_ok-order.ensures.first) home.corner)
+          (c.count.result + 2) (omega (arith, count, c.count.ensures.number)) c.in_ok-row.row.tangents.items
+          (omega (arith, c.in_ok-row.ensures.tangents, c.count.ensures.number, c.in_ok-order.ensures.count)));
+      steps = omega arith;
+    }
 
-pub numbers_before-requires : goal.numbers_before-requires
-numbers_before-requires g c =
-    omega (
-      arith,
-      c.in_ok-tree.ensures.grown.vertices,
-      ap length c.new-own.ensures.corners,
-      two_fewer (g.T.Turns.corners c.args.board.now) c.args.mesh.now c.requires.fits,
-      c.count.ensures.number,
-    )
+pub go_on-requires-clause-start : goal.go_on-requires-clause-start
+go_on-requires-clause-start g c =
+    let corners = g.T.Turns.corners c.args.board.now in
+    let tris = c.args.mesh.now in
+    let home = c.triangle_at-home.ensures in
+    rw c.deref.ensures.value
+    (from_start corners (vertex corners c.args.i) tris c.triangle_at-home.result c.in_ok-order.order.items c.requires.fits home.in_list
+    (corner_in corners tris c.requires.fits c.triangle_at-home.result home.in_list c.args.i home.corner) c.in_ok-order.ensures)
 
 pub returns-clause-row : goal.returns-clause-row
 returns-clause-row g c =
     let corners = g.T.Turns.corners c.args.board.now in
-    let grown = rw (c.new-own.ensures.start, c.new-own.ensures.corners) at c.in_ok-tree.ensures.grown in
-    let all : c.count.result + 2 ≡ length corners = omega (arith, two_fewer corners c.args.mesh.now c.requires.fits, c.count.ensures.number) in
-    IfOk-weaker c.numbers_before.result _ _
-    (λ row is.
-    row_of_tree c.in_ok-tree.tree c.args.i corners c.args.mesh.now c.requires.fits c.requires.vertex grown (c.count.result + 2) row.items all is)
-    c.numbers_before.ensures
+    let tris = c.args.mesh.now in
+    let i = c.args.i in
+    let home = c.triangle_at-home.ensures in
+    let order = c.in_ok-order.order.items in
+    let from = from_start corners (vertex corners i) tris c.triangle_at-home.result order c.requires.fits home.in_list
+    (corner_in corners tris c.requires.fits c.triangle_at-home.result home.in_list i home.corner) c.in_ok-order.ensures in
+    let last : c.loop-p.p ≡ length order =
+    omega (
+      arith,
+      c.loop-p-test.false,
+      c.loop-p.auto.p-end,
+      c.len-p-end.ensures,
+      c.in_ok-order.order.ok.0,
+      c.in_ok-order.ensures.count,
+      home.in_list,
+    ) in
+    row_of_grown corners i tris order from c.requires.vertex c.loop-p.row.before.items c.loop-p.row.tangents.items
+    (subst (λ p. IsGrownTo corners i tris order p c.loop-p.row.before.items c.loop-p.row.tangents.items) last c.loop-p.invariant.grown)
+
+pub returns-clause-steps : goal.returns-clause-steps
+returns-clause-steps g c =
+    let n = length (g.T.Turns.corners c.args.board.now) in
+    let count = two_fewer (g.T.Turns.corners c.args.board.now) c.args.mesh.now c.requires.fits in
+    let p = c.loop-p.p in
+    let within : p ≤ n = omega (arith, c.loop-p.auto.p-end, c.len-p-end.ensures, c.in_ok-order.order.ok.0, c.in_ok-order.ensures.count, count) in
+    omega (arith, c.loop-p.invariant.steps, places_paid p n within c.requires.few)

@@ -4,4 +4,4 @@ use Rattle.geo_session.proofs.session.Session.chain.Goals as goal
 
 pub returns-clause-answer : goal.returns-clause-answer
 returns-clause-answer g c =
-    IfOk-weaker _ _ _ (λ found told. plain_answer c.args.self.now.kept c.args.s.now c.args.t.now found told) c.shown_chain.ensures.answer
+    IfOk-weaker _ _ _ (λ found told. plain_answer c.args.self.now.state.kept c.args.s.now c.args.t.now found told) c.shown_chain.ensures.answer

@@ -1,0 +1,3 @@
+pub mod NextRecord
+mod Limited
+mod Pieces

@@ -1,0 +1,179 @@
+ghost use Rattle.std.specs.Prelude.{◌≡◌, ◌↔◌, ◌+◌, ◌<◌, ◌≤◌, [], ◌∷◌, Err, IfOk, OnOk, false, if◌then◌else◌, length};
+ghost use Rattle.plane.specs.declared.limits.TheConstants.{MAX_CORNERS, MAX_SCRIPT};
+ghost use Rattle.geo_text.specs.Limits.{limits_of};
+ghost use Rattle.geo_text.specs.Records.{records_of};
+ghost use Rattle.geo_session.specs.Output.{IsOutput};
+ghost use Rattle.geo_session.specs.Path.{IsReachAnswer, IsShownAnswer};
+ghost use Rattle.geo_session.specs.Place.{IsPlaceAnswer};
+ghost use Rattle.geo_script.specs.Asked.{IsAskedWithin};
+ghost use Rattle.geo_script.specs.Dialog.{AnswersPiece, AnswersSome, first_talk};
+ghost use Rattle.geo_script.specs.declared.dialog.Stop.TheVariants.{Memory as OutOfMemory};
+
+use crate::next::answer_next;
+use exact_plane::{Memory, Pt, Steps};
+use geo_session::Session;
+use geo_text::{Bad, Limits, Script};
+use inside_test::Position;
+use plane::MAX_SCRIPT;
+use std::alloc::Global;
+use std::marker::Model;
+use std::sync::ledger::Ledger;
+
+/// A script that is handed in piece by piece, and the answers to its last piece. The first piece that has records says of which
+/// version the script is.
+#[derive(Drop)]
+pub struct Dialog {
+    session: Session,
+    begun: bool,
+    text: Vec<u8>,
+}
+
+/// Why a piece was not answered to its end.
+#[derive(Clone, Copy, Debug, PartialEq, Eq)]
+pub enum Stop {
+    /// The piece has more than `MAX_SCRIPT` bytes. Nothing has changed.
+    TooLong,
+    /// An allocation was refused. Some first records of the piece are answered, and the text is their answers, each whole.
+    Memory,
+}
+
+impl Model for Dialog {
+    ghost use Rattle.geo_script.specs.Dialog.{Talk};
+
+    ghost Value = { Talk };
+
+    ghost view = { λ d. record { begun = d.begun; state = d.session.state; text = d.text.items } };
+
+    ghost use Rattle.std.specs.Prelude.{◌≡◌, false};
+    ghost use Rattle.geo_session.specs.Answer.{first_state};
+
+    ghost invariant = { λ d. d.begun ≡ false → d.session.state ≡ first_state };
+}
+
+impl Dialog {
+    /// A script of which no piece was handed in yet. It takes no memory, and keeps the allocator.
+    pub fn new(alloc: Global) -> Dialog
+        ensures { result ≡ first_talk }
+    {
+        Dialog {
+            session: Session::new(),
+            begun: false,
+            text: Vec::new(alloc),
+        }
+    }
+
+    /// Answers the records of the next piece, in the place of those of the piece before.
+    pub fn answer<L: Ledger>(
+        &mut self,
+        alloc: Global,
+        piece: &[u8],
+        steps: &mut Steps<L>,
+    ) -> Result<(), Stop>
+        ensures ok { OnOk result (AnswersPiece self.old piece.now self.new) }
+        // The answers to the first piece are those to the script that it is.
+        ensures whole { self.old.begun ≡ false → OnOk result (IsOutput piece.now self.new.text) }
+        ensures too_long { (result ≡ Err Stop.TooLong) ↔ (MAX_SCRIPT < length piece.now) }
+        ensures same { result ≡ Err Stop.TooLong → self.new ≡ self.old }
+        ensures memory { result ≡ Err Stop.Memory → AnswersSome self.old piece.now self.new }
+    {
+        if piece.len() > MAX_SCRIPT {
+            return Err(Stop::TooLong);
+        }
+        let mut script = self.next_part(alloc, piece);
+        self.text.clear();
+        'records: while answer_next(alloc, &mut script, &mut self.session, &mut self.text, steps)? {
+            self.begun = true;
+        }
+        Ok(())
+    }
+
+    // The next part of the script, which is the first one where none had a record yet.
+    fn next_part<'a>(&self, alloc: Global, piece: &'a [u8]) -> Script<'a>
+        ensures { result ≡ record {
+          left = records_of piece.now;
+          next = if self.now.begun then 1 else 0;
+          two = self.now.state.two;
+          failed = false;
+        } }
+    {
+        if self.begun {
+            Script::resume(alloc, piece, self.session.is_two())
+        } else {
+            Script::open(alloc, piece)
+        }
+    }
+
+    /// The answers to the last piece.
+    pub fn text(&self) -> &[u8]
+        ensures { result.now ≡ self.now.text }
+    {
+        &self.text
+    }
+
+    /// Where a point lies in the polygon, or the refusal that an `inside` with these numbers gets.
+    pub fn inside<L: Ledger>(&self, x: i64, y: i64, steps: &mut Steps<L>) -> Result<Position, Bad>
+        ensures { IsAskedWithin self.now.state.two (x ∷ y ∷ []) (IsPlaceAnswer self.now.state.kept (record { x = x; y = y })) result }
+    {
+        let point = self.limits().point(1, x, y)?;
+        self.session.place(&point, steps)
+    }
+
+    /// What the version of the script tells of the path from one point to another, or the refusal that a `path` with these
+    /// numbers gets.
+    pub fn path<L: Ledger>(
+        &self,
+        alloc: Global,
+        from: (i64, i64),
+        to: (i64, i64),
+        steps: &mut Steps<L>,
+    ) -> Result<Result<Vec<Pt>, Bad>, Memory>
+        ensures answer { IfOk result (IsAskedWithin self.now.state.two (from.0 ∷ from.1 ∷ to.0 ∷ to.1 ∷ [])
+            (IsShownAnswer self.now.state.two self.now.state.kept (record { x = from.0; y = from.1 }) (record { x = to.0; y = to.1 }))) }
+        ensures few { IfOk result (λ found. IfOk found (λ points. length points.items ≤ MAX_CORNERS + 2)) }
+    {
+        let limits = self.limits();
+        let s = match limits.point(1, from.0, from.1) {
+            Ok(s) => s,
+            Err(bad) => return Ok(Err(bad)),
+        };
+        let t = match limits.point(3, to.0, to.1) {
+            Ok(t) => t,
+            Err(bad) => return Ok(Err(bad)),
+        };
+        self.session.path(alloc, &s, &t, steps)
+    }
+
+    /// What the version of the script tells of the path from the source of the tree to a point, or the refusal that a `reach`
+    /// with these numbers gets.
+    pub fn reach<L: Ledger>(
+        &self,
+        alloc: Global,
+        x: i64,
+        y: i64,
+        steps: &mut Steps<L>,
+    ) -> Result<Result<Vec<Pt>, Bad>, Memory>
+        ensures answer { IfOk result (IsAskedWithin self.now.state.two (x ∷ y ∷ [])
+            (IsReachAnswer self.now.state.two self.now.state.kept (record { x = x; y = y }))) }
+        ensures few { IfOk result (λ found. IfOk found (λ points. length points.items ≤ MAX_CORNERS + 3)) }
+    {
+        match self.limits().point(1, x, y) {
+            Ok(point) => self.session.reach(alloc, &point, steps),
+            Err(bad) => Ok(Err(bad)),
+        }
+    }
+
+    // What the version of the script takes.
+    fn limits(&self) -> Limits
+        ensures { result ≡ limits_of self.now.state.two }
+    {
+        Limits::of(self.session.is_two())
+    }
+}
+
+impl From<Memory> for Stop {
+    ghost from_gives = { λ _ stop. stop ≡ OutOfMemory };
+
+    fn from(_: Memory) -> Stop {
+        Stop::Memory
+    }
+}

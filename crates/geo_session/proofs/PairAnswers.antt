@@ -1,0 +1,68 @@
+-- The answer to a pair of vertices, and its steps, as the code writes them.
+use Rattle.std.proofs.Common.{◌≡◌, inl, inr, refl, Bool, true, false, if◌then◌else◌, ℕ, ℤ, ◌+◌, ◌*◌, ◌≤◌, List, ◌++◌, length, Result, Ok, Err, arith}
+use Rattle.std.specs.Prelude.{OnOk, Option, Some}
+use Rattle.plane.specs.Point.{Point}
+use Rattle.rings.specs.Ring.{vertex}
+use Rattle.shared_seq.specs.Digits.{binary_digits}
+use Rattle.geo_text.specs.Texts.{bad_text}
+use Rattle.geo_text.specs.declared.command.Bad.{Bad}
+use Rattle.geo_text.specs.declared.command.Command.TheVariants as command
+use Rattle.geo_session.proofs.Answered.{holding, under_ok}
+use Rattle.geo_session.proofs.GivenSize.{seen_of, size_held}
+use Rattle.geo_session.specs.Answer.{AppendsAnswer, IsPairIn, first_off, joined, path_text, second_off, too_many}
+use Rattle.geo_session.specs.Asked.{AreAsked}
+use Rattle.geo_session.specs.Path.{TakesPathSteps, size_of}
+use Rattle.geo_session.specs.Prepared.{TellsPair, pair_pace, table_steps}
+use Rattle.geo_session.specs.Session.{kept_of}
+use Rattle.geo_session.specs.Shown.{IsShownPath}
+use Rattle.geo_session.specs.Tree.{HeldRing}
+
+module _ (two : Bool) (ring : List Point) (source : Option Point) (i j : ℤ) where
+  -- the word for why there are no such vertices is the answer,
+  bad_pair : (fault : Bad) → AreAsked ring i j (Err fault) → IsPairIn two ring i j (bad_text fault)
+  bad_pair fault (inl h) = too_many h.0 (rw h.1 refl)
+  bad_pair fault (inr (inl h)) = first_off h.0 h.1 (rw h.2 refl)
+  bad_pair fault (inr (inr h)) = let (small, first, second, is) = h in second_off small first second (rw is refl)
+
+  -- and no path is told then
+  pub not_told : (fault : Bad) → AreAsked ring i j (Err fault) → ¬ TellsPair (Some (record { ring = ring; source = source })) i j
+  not_told fault (inl h) told = h.0 told.0
+  not_told fault (inr (inl h)) told = h.1 told.1
+  not_told fault (inr (inr h)) told = let (small, first, second, is) = h in second told.2
+
+  pub told_pair : (pair : ℕ × ℕ) → AreAsked ring i j (Ok pair) → TellsPair (Some (record { ring = ring; source = source })) i j
+  told_pair pair h = (h.0, (pair.0, h.1), (pair.1, h.2))
+
+  module _ {E : Type 0} (out out' : List ℕ) (put : Result (Unit {0}) E) where
+    pub refused_pair : (fault : Bad) → AreAsked ring i j (Err fault) → OnOk put (out' ≡ out ++ bad_text fault)
+        → OnOk put (AppendsAnswer (holding two ring source) (command.Pair i j) out out' (holding two ring source))
+    refused_pair fault h = under_ok put
+        (λ written. record { text = bad_text fault; answer = (bad_pair fault h, refl); appended = written })
+
+    -- the line of the path answers the pair
+    pub pair_answered : (pair : ℕ × ℕ) (points : List Point) → AreAsked ring i j (Ok pair)
+        → IsShownPath two ring (vertex ring pair.0) (vertex ring pair.1) points → OnOk put (out' ≡ out ++ path_text points)
+        → OnOk put (AppendsAnswer (holding two ring source) (command.Pair i j) out out' (holding two ring source))
+    pair_answered pair points h shown = under_ok put
+        (λ written. record {
+          text = path_text points;
+          answer = (joined h.0 pair.0 pair.1 h.1 h.2 (record { points = points; shown = shown; told = refl }), refl);
+          appended = written;
+        })
+
+-- where a path is written, steps are taken for its points
+pub path_written : {E : Type 0} (put : Result (Unit {0}) E) (points : List Point) (most : ℕ) (out out' : List ℕ) (steps steps' : ℕ)
+    → OnOk put (out' ≡ out ++ path_text points) → steps' ≤ steps + most + 64 * length points → OnOk put (TakesPathSteps most out out' steps steps')
+path_written put points most out out' steps steps' written few = under_ok put (λ is. record { points = points; printed = inl is; bound = few }) written
+
+module _ (two : Bool) (held : HeldRing) (start told done count : ℕ) where
+  -- where the table is there, telling the path takes few steps,
+  pub pair_room : held.prepared ≡ true → told ≤ start + (if two then 20 else 0) * length held.ring.corners → done ≤ told + 64 * count
+      → done ≤ start + (table_steps (seen_of two (Some held)) + pair_pace two * size_of (kept_of (Some held))) + 64 * count
+  pair_room there few more = rw (there, size_held held) (omega (arith, few, more))
+
+  -- and else those of making it more
+  pub new_pair_room : held.prepared ≡ false → (made : ℕ) → let n = length held.ring.corners in let b = binary_digits n in
+      made ≤ start + 200 * (n * n) * (b * b) → told ≤ made + (if two then 20 else 0) * n → done ≤ told + 64 * count
+      → done ≤ start + (table_steps (seen_of two (Some held)) + pair_pace two * size_of (kept_of (Some held))) + 64 * count
+  new_pair_room none made making few more = rw (none, size_held held) (omega (arith, making, few, more))

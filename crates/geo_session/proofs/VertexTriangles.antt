@@ -1,0 +1,35 @@
+-- Triangles with a vertex for a corner, and paths along the sleeve between two of them.
+use Rattle.std.proofs.Common.{ℕ, ◌<◌, List, length}
+use Rattle.plane.specs.Point.{Point}
+use Rattle.rings.specs.Chain.{IsPath}
+use Rattle.rings.specs.Ring.{vertex}
+use Rattle.meshes.proofs.Sides.{one_at_edge}
+use Rattle.meshes.specs.Fits.{Fits}
+use Rattle.meshes.specs.Side.{IsWalkBetween, tri_at}
+use Rattle.meshes.specs.Sleeve.{IsOneOf, Sleeve}
+use Rattle.meshes.specs.declared.tri.Tri.{Tri}
+use Rattle.path_tree.proofs.TriCorners.{corner_in, side_corners}
+use Rattle.path_tree.specs.Growing.{HasCorner}
+use Rattle.geo_session.specs.Along.{IsPathAlong}
+
+module _ (corners : List Point) (tris : List Tri) (fits : Fits corners tris) where
+  -- each vertex is a corner of a triangle
+  pub corner_somewhere : (i : ℕ) → i < length corners → (k : ℕ) × (k < length tris) × HasCorner (tri_at tris k) i
+  corner_somewhere i below =
+      let (k, one) = one_at_edge corners tris fits i below in
+      (k, one.in_list, (side_corners (tri_at tris k) i _ one.has).0)
+
+  -- the path between two vertices is along the sleeve between triangles with them
+  pub path_at : (sleeve : Sleeve) (from to i j : ℕ) (chain : List Point) → IsOneOf tris sleeve → IsWalkBetween tris from to sleeve.walk
+      → from < length tris → to < length tris → HasCorner (tri_at tris from) i → HasCorner (tri_at tris to) j
+      → IsPath corners (vertex corners i) (vertex corners j) chain → IsPathAlong corners tris sleeve chain
+  path_at sleeve from to i j chain of_mesh between from_in to_in at_i at_j is_path = record {
+    s = vertex corners i;
+    t = vertex corners j;
+    leads = record {
+      of_mesh = of_mesh;
+      start = rw between.first (corner_in corners tris fits from from_in i at_i);
+      goal = rw between.last (corner_in corners tris fits to to_in j at_j);
+    };
+    is_path = is_path;
+  }

@@ -1,0 +1,65 @@
+use Rattle.std.proofs.Common.{Ok, subst, w64}
+use Rattle.std.proofs.lemmas.Int.{to_z-of_z}
+use Rattle.std.specs.Prelude.{Some}
+use Rattle.ring_check.specs.Oriented.{given_of}
+use Rattle.geo_session.proofs.PairAnswers.{new_pair_room, not_told, pair_answered, pair_room, path_written, refused_pair}
+use Rattle.geo_session.proofs.PreparedAfter.{not_prepared}
+use Rattle.geo_session.proofs.session.Session.answer_pair.Goals as goal
+use Rattle.geo_session.specs.Asked.{AreAsked}
+use Rattle.geo_session.specs.Prepared.{TellsPair}
+
+pub returns-in-Err-clause-ok : goal.returns-in-Err-clause-ok
+returns-in-Err-clause-ok g c =
+    let held = c.in-Some.held in
+    let asked = rw (to_z-of_z w64 c.args.i c.ranges.i, to_z-of_z w64 c.args.j c.ranges.j) at c.asked.ensures in
+    rw (← c.self.view_is, c.in-Some.is)
+    (refused_pair c.self.inside.two (given_of held.ring) held.source c.args.i c.args.j c.args.out.now.items c.put_bad-in-Err.new.out.items
+    c.put_bad-in-Err.result c.in-Err.bad (subst (AreAsked (given_of held.ring) c.args.i c.args.j) c.in-Err.is asked) c.put_bad-in-Err.ensures.ok)
+
+pub returns-in-Err-clause-prepared : goal.returns-in-Err-clause-prepared
+returns-in-Err-clause-prepared g c =
+    let held = c.in-Some.held in
+    let asked = rw (to_z-of_z w64 c.args.i c.ranges.i, to_z-of_z w64 c.args.j c.ranges.j) at c.asked.ensures in
+    rw (← c.self.view_is, c.in-Some.is)
+    (not_prepared (TellsPair (Some (record { ring = given_of held.ring; source = held.source })) c.args.i c.args.j) held.prepared held.prepared
+    c.put_bad-in-Err.result
+    (not_told c.self.inside.two (given_of held.ring) held.source c.args.i c.args.j c.in-Err.bad
+    (subst (AreAsked (given_of held.ring) c.args.i c.args.j) c.in-Err.is asked)))
+
+pub returns-in-Some-table-clause-ok : goal.returns-in-Some-table-clause-ok
+returns-in-Some-table-clause-ok g c =
+    let held = c.in-Some.held in
+    let asked = rw (to_z-of_z w64 c.args.i c.ranges.i, to_z-of_z w64 c.args.j c.ranges.j) at c.asked.ensures in
+    rw (← c.self.view_is, c.in-Some.is)
+    (pair_answered c.self.inside.two (given_of held.ring) held.source c.args.i c.args.j c.args.out.now.items c.put_path.new.out.items
+    c.put_path.result c.in-Ok.asked c.in_ok-points.points.items
+    (subst (AreAsked (given_of held.ring) c.args.i c.args.j) c.in-Ok.is asked) c.in_ok-points.ensures.shown
+    (rw (← c.deref.ensures.value) c.put_path.ensures.ok))
+
+pub returns-in-Some-table-clause-pair_steps : goal.returns-in-Some-table-clause-pair_steps
+returns-in-Some-table-clause-pair_steps g c =
+    let held = c.in-Some.held in
+    rw (← c.self.view_is, c.in-Some.is)
+    (path_written c.put_path.result c.deref.result.now _ c.args.out.now.items c.put_path.new.out.items c.args.steps.now c.put_path.new.steps
+    c.put_path.ensures.ok
+    (pair_room c.self.inside.two held c.args.steps.now c.pair.new.steps c.put_path.new.steps _ c.in-Some-table.ensures.there c.in_ok-points.ensures.steps
+    c.put_path.ensures.steps))
+
+pub returns-clause-ok : goal.returns-clause-ok
+returns-clause-ok g c =
+    let held = c.in-Some.held in
+    let asked = rw (to_z-of_z w64 c.args.i c.ranges.i, to_z-of_z w64 c.args.j c.ranges.j) at c.asked.ensures in
+    rw (c.prepare.ensures, ← c.self.view_is, c.in-Some.is)
+    (pair_answered c.self.inside.two (given_of held.ring) held.source c.args.i c.args.j {E = Unit {0}} c.args.out.now.items c.put_path-2.new.out.items
+    (Ok tt) c.in-Ok.asked c.in_ok-points-2.points.items
+    (subst (AreAsked (given_of held.ring) c.args.i c.args.j) c.in-Ok.is asked) c.in_ok-points-2.ensures.shown
+    (rw (← c.deref-2.ensures.value) c.in_ok-put_path.ensures.ok))
+
+pub returns-clause-pair_steps : goal.returns-clause-pair_steps
+returns-clause-pair_steps g c =
+    let held = c.in-Some.held in
+    rw (← c.self.view_is, c.in-Some.is)
+    (path_written {E = Unit {0}} (Ok tt) c.deref-2.result.now _ c.args.out.now.items c.put_path-2.new.out.items c.args.steps.now c.put_path-2.new.steps
+    c.in_ok-put_path.ensures.ok
+    (new_pair_room c.self.inside.two held c.args.steps.now c.pair-2.new.steps c.put_path-2.new.steps _ c.in_default-table.ensures.not_there c.new_table.new.steps
+    c.in_ok-table.ensures.steps c.in_ok-points-2.ensures.steps c.put_path-2.ensures.steps))

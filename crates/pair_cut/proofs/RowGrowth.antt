@@ -1,0 +1,170 @@
+-- A row that grows outward from the home triangle: at home, at one more place, and at all.
+use Rattle.std.proofs.Common.{◌≡◌, ◌≢◌, inl, inr, refl, sym, ap, subst, ◌∙◌, ℕ, ◌+◌, ◌*◌, ◌<◌, ◌≤◌, List, length, replicate, set, slice_index, arith}
+use Rattle.std.proofs.lemmas.Bool.{cases_eq, cases_lt}
+use Rattle.std.proofs.lemmas.List.{get_or-replicate, get_or-set_other, get_or-set_same, length-map, length-replicate, length-set}
+use Rattle.std.proofs.lemmas.Nat.{mul-le}
+use Rattle.plane.specs.Point.{Point}
+use Rattle.rings.proofs.Simple.{apart_of_simple}
+use Rattle.rings.proofs.Vertices.{one_to_one}
+use Rattle.rings.specs.From.{IsBefore}
+use Rattle.rings.specs.Ring.{vertex}
+use Rattle.meshes.specs.Side.{tri_at}
+use Rattle.meshes.specs.declared.tri.Tri.{Tri}
+use Rattle.tri_mesh.specs.Outward.{outward_at}
+use Rattle.tri_mesh.specs.declared.outward.Outward.{Outward}
+use Rattle.funnels.proofs.Trees.{before_at_home}
+use Rattle.funnels.proofs.Vertices.{fitted_simple}
+use Rattle.shared_funnel.proofs.Numbers.{point_there}
+use Rattle.shared_funnel.proofs.ReachedBefore.{before_third}
+use Rattle.shared_funnel.specs.Listed.{point_of}
+use Rattle.shared_seq.specs.Digits.{binary_digits}
+use Rattle.path_tree.proofs.Entrances.{beyond_at, third_below}
+use Rattle.path_tree.proofs.TreeSteps.{home_steps, three_digits}
+use Rattle.path_tree.proofs.TriCorners.{corner_below, corner_cases, corner_in, side_corners}
+use Rattle.path_tree.specs.Growing.{HasCorner, IsFromStart, at_place, left_of, right_of, third_of, toward}
+use Rattle.pair_cut.proofs.NumberedRows.{corner_of_some, itself_told, other_told}
+use Rattle.pair_cut.specs.Doors.{IsGrownTo, IsOnWay, IsTangentTo, tangent_at}
+use Rattle.pair_cut.specs.Rows.{IsNumberBefore, IsRow}
+use Rattle.pair_cut.specs.declared.climb.Tangent.{Tangent}
+
+module _ (corners : List Point) (i : ℕ) (tris : List Tri) (order : List Outward) (from : IsFromStart corners (vertex corners i) tris order) where
+  abbrev start : Point
+  start = vertex corners i
+
+  -- what the row has is told
+  abbrev HasNumber : List ℕ → ℕ → Type 0
+  HasNumber before j = IsNumberBefore corners i j (slice_index before j)
+
+  -- ---- at home
+
+  -- vertex i comes before each corner there
+  home_told : i < length corners → HasCorner (tri_at tris (at_place order 0)) i → (j : ℕ) → HasCorner (tri_at tris (at_place order 0)) j
+      → IsNumberBefore corners i j i
+  home_told vertex_in home j has = elim (cases_eq j i) [
+    | inl same ↦ inl (ap (vertex corners) same, refl)
+    | inr other ↦
+        let simple = fitted_simple corners tris from.fits in
+        let home_in = from.outward.in_list 0 from.some in
+        let below = corner_below corners tris from.fits (at_place order 0) home_in j has in
+        inr (record {
+          in_ring = vertex_in;
+          before = before_at_home corners tris from.fits (at_place order 0) home_in start (vertex corners j) from.home
+              (corner_in corners tris from.fits (at_place order 0) home_in j has)
+              (λ same. other (one_to_one (vertex corners) (length corners) (apart_of_simple corners simple).distinct j i below vertex_in
+              (sym same)));
+        })
+  ]
+
+  -- so a row of that number alone has grown so far
+  pub grown_at_home : i < length corners → HasCorner (tri_at tris (at_place order 0)) i → (count : ℕ) → count ≡ length corners
+      → (tangents : List Tangent) → length tangents ≡ length order → IsGrownTo corners i tris order 1 (replicate count i) tangents
+  grown_at_home vertex_in home count all tangents places = record {
+    vertices = length-replicate count i ∙ all;
+    told = λ j on.
+        let (q, less, has) = on in
+        let first : q ≡ 0 = omega (arith, less) in
+        let at_home = subst (λ r. HasCorner (tri_at tris (at_place order r)) j) first has in
+        let below = corner_below corners tris from.fits (at_place order 0) (from.outward.in_list 0 from.some) j at_home in
+        subst (IsNumberBefore corners i j) (sym (get_or-replicate count j i 0 (omega (arith, below, all))))
+        (home_told vertex_in home j at_home);
+    places = places;
+    tangents_told = λ q later less. absurd (omega (arith, later, less));
+  }
+
+  -- ---- at one more place
+
+  module _ (p : ℕ) (later : 0 < p) (below : p < length order) (before : List ℕ) (tangents : List Tangent)
+      (grown : IsGrownTo corners i tris order p before tangents) where
+    -- the ends of the side are corners of an earlier triangle, so all but the third corner have their numbers,
+    corner_had : (j : ℕ) → IsOnWay tris order (p + 1) j → j ≢ third_of tris order p → HasNumber before j
+    corner_had j on other =
+        let (q, less, has) = on in
+        elim (cases_eq q p) [
+          | inl same ↦
+              let joined = from.outward.joined p later below in
+              let t = tri_at tris (at_place order p) in
+              let here = subst (λ r. HasCorner (tri_at tris (at_place order r)) j) same has in
+              let shared = side_corners (tri_at tris (at_place order (toward order p))) (right_of tris order p) (left_of tris order p) joined.shared in
+              let had = λ (k : ℕ) (corner : HasCorner (tri_at tris (at_place order (toward order p))) k) (e : k ≡ j).
+              subst (HasNumber before) e (grown.told k (toward order p, joined.earlier, corner)) in
+              elim (corner_cases t (outward_at order p).side j joined.side here) [
+                | inl begin ↦ had (left_of tris order p) shared.1 begin
+                | inr (inl end) ↦ had (right_of tris order p) shared.0 end
+                | inr (inr third) ↦ absurd (other (sym third))
+              ]
+          | inr differ ↦ grown.told j (q, omega (arith, less, differ), has)
+        ]
+
+    module _ (t : Tangent) (to : IsTangentTo corners i tris order p t) where
+      -- the vertex from which the third corner is reached comes before it,
+      third_told : IsNumberBefore corners i (third_of tris order p) t.near
+      third_told =
+          let h = to.tangent.place in
+          let inside : h < length to.f.list =
+          omega (arith, to.tangent.reached.within, length-map to.f.list (point_of corners start)) in
+          inr (record {
+            in_ring = to.tangent.near.0;
+            before = subst (IsBefore corners start (vertex corners (third_of tris order p)))
+                (sym (to.tangent.near.1 ∙ point_there corners start to.f.list h inside))
+                (before_third corners start tris (at_place order p) (left_of tris order p) (right_of tris order p) (third_of tris order p) p
+                from.fits (beyond_at corners start tris order from p later below) to.f to.has.funnel h to.tangent.reached);
+          })
+
+      -- and with it the row has grown over that place
+      pub grown_more : (m : ℕ) → m ≡ third_of tris order p
+          → IsGrownTo corners i tris order (p + 1) (set before m t.near) (set tangents p t)
+      grown_more m third =
+          let m_below = third_below corners start tris order from p later below in
+          record {
+            vertices = length-set before m t.near ∙ grown.vertices;
+            told = λ j on. elim (cases_eq j m) [
+              | inl same ↦
+                  subst (HasNumber (set before m t.near)) (sym same)
+                  (subst (IsNumberBefore corners i m) (sym (get_or-set_same before m t.near 0 (omega (arith, third, m_below, grown.vertices))))
+                  (subst (λ k. IsNumberBefore corners i k t.near) (sym third) third_told))
+              | inr other ↦
+                  subst (IsNumberBefore corners i j) (sym (get_or-set_other before m j t.near 0 other))
+                  (corner_had j on (λ e. other (e ∙ sym third)))
+            ];
+            places = length-set tangents p t ∙ grown.places;
+            tangents_told = λ q some less. elim (cases_eq q p) [
+              | inl same ↦
+                  subst (λ r. IsTangentTo corners i tris order r (tangent_at (set tangents p t) r)) (sym same)
+                  (subst (IsTangentTo corners i tris order p) (sym (get_or-set_same tangents p t _ (omega (arith, below, grown.places)))) to)
+              | inr differ ↦
+                  subst (IsTangentTo corners i tris order q) (sym (get_or-set_other tangents p q t _ differ))
+                  (grown.tangents_told q some (omega (arith, less, differ)))
+            ];
+          }
+
+  -- ---- at all places
+
+  -- each vertex is on the way, so it is the row of vertex i
+  pub row_of_grown : i < length corners → (before : List ℕ) (tangents : List Tangent)
+      → IsGrownTo corners i tris order (length order) before tangents → IsRow corners i before
+  row_of_grown vertex_in before tangents grown =
+      let simple = fitted_simple corners tris from.fits in
+      let told = λ (j : ℕ) (below : j < length corners).
+      let (k, within, has) = corner_of_some corners tris from.fits j below in
+      let (p, less, is) = from.outward.all k within in
+      grown.told j (p, less, subst (λ l. HasCorner (tri_at tris l) j) (sym is) has) in
+      record {
+        count = grown.vertices;
+        itself = itself_told corners simple i (slice_index before i) (told i vertex_in);
+        others = λ j below differ. other_told corners simple i (slice_index before j) j vertex_in below differ (told j below);
+      }
+
+-- A step for each vertex at each place is few at a thousand vertices or so.
+pub places_paid : (p n : ℕ) → p ≤ n → n ≤ 1024 → p * n ≤ 200 * n * (binary_digits n * binary_digits n)
+places_paid p n le few =
+    let b = binary_digits n in
+    let enough : p ≤ 200 * (binary_digits n * binary_digits n) = elim (cases_lt n 4) [
+      | inl small ↦ elim (cases_lt 0 n) [
+        | inl some ↦ omega (arith, le, small, home_steps n some)
+        | inr none ↦ omega (arith, le, none)
+      ]
+      | inr more ↦
+          let three = three_digits n more in
+          omega (arith, le, few, mul-le 3 3 b b three three)
+    ] in
+    omega (arith, mul-le p n (200 * (b * b)) n enough (omega arith))
