@@ -1,0 +1,523 @@
+"""Exact answers about one simple polygon with whole-number vertices, by the proved library `geo_c`.
+
+    import geo
+
+    with geo.Session([(0, 0), (4, 0), (4, 2), (2, 2), (2, 4), (0, 4)]) as session:
+        session.inside((2, 3))         # Place.EDGE
+        session.path((4, 1), (1, 4))   # [(4, 1), (2, 2), (1, 4)]
+        list(session.see((4, 1)))      # the parts of the edges that (4, 1) sees, with ends as fractions
+
+A *point* is a pair of numbers, a GeoJSON Point, or an object whose `__geo_interface__` is one, such as a point of Shapely. A *list
+of points* is an iterable of such pairs, or a LineString or MultiPoint; a *ring* is an iterable of pairs, or a Polygon, whose
+closing point is dropped. Numbers are whole: Python's and NumPy's integers, and floats such as 3.0. Other floats raise NotWhole, for
+nothing is rounded. Vertices, edges and points of lists are counted from 0.
+
+A question that can't be answered raises a Refusal, and changes nothing: the polygon stays, and so does the tree.
+
+The library is libgeo_c.so beside this file, or the file that GEO_LIBRARY names in the environment.
+"""
+from __future__ import annotations
+
+import ctypes
+import enum
+import io
+import numbers
+import operator
+import os
+import struct
+import threading
+import weakref
+from collections.abc import Iterable, Iterator, Mapping
+from fractions import Fraction
+from typing import Any, Dict, List, NamedTuple, Optional, Protocol, Sequence, SupportsIndex, Tuple, Type, Union
+
+
+class Place(enum.Enum):
+    """Where a point lies. The polygon is closed, so what is on its edge belongs to it."""
+
+    OUTSIDE = 0
+    INSIDE = 1
+    EDGE = 2
+
+
+class Rule(enum.Enum):
+    """A rule of taut chains, by what is wrong where it is broken."""
+
+    REPEAT = 'repeat'
+    LEAVES = 'leaves'
+    NOT_REFLEX = 'not_reflex'
+    STRAIGHT = 'straight'
+    WRONG_SIDE = 'wrong_side'
+
+
+class Before(enum.Enum):
+    """What comes just before a vertex on its path, where that is no vertex."""
+
+    SOURCE = 's'
+    NOTHING = '-'
+
+
+class Verdict(NamedTuple):
+    """The first rule that a list of points breaks, and the number of the point where it does; both are None where the list is a
+    taut chain. A verdict is true where it is one."""
+
+    rule: Optional[Rule] = None
+    place: Optional[int] = None
+
+    def __bool__(self) -> bool:
+        return self.rule is None
+
+
+Point = Tuple[int, int]
+Path = List[Point]
+ExactPoint = Tuple[Fraction, Fraction]
+
+
+class Part(NamedTuple):
+    """What is seen of an edge: from `first` to `last`, in the direction of the edge. Both are the same where it is one point."""
+
+    edge: int
+    first: ExactPoint
+    last: ExactPoint
+
+
+class Side(NamedTuple):
+    """A side of a relative hull: the path from point `start` to point `goal` of the list."""
+
+    start: int
+    goal: int
+    path: Path
+
+
+class HasGeoInterface(Protocol):
+    """A shape of another library, which says what it is in GeoJSON."""
+
+    @property
+    def __geo_interface__(self) -> Mapping[str, Any]: ...
+
+
+Coordinate = Union[SupportsIndex, float]
+AnyPoint = Union[Sequence[Coordinate], Mapping[str, Any], HasGeoInterface]
+AnyPoints = Union[Iterable[Sequence[Coordinate]], Mapping[str, Any], HasGeoInterface]
+
+
+class Refusal(ValueError):
+    """A question that can't be answered. `word` and `places` are those of the answer `bad,word,places`."""
+
+    word: str
+    cause: str
+
+    @property
+    def places(self) -> Tuple[int, ...]:
+        return self.args
+
+    def __str__(self) -> str:
+        return ','.join(['bad', self.word, *map(str, self.places)]) + ': ' + self.cause
+
+
+class Word(Refusal):
+    """There is no such command."""
+
+    word = 'word'
+    cause = 'there is no such command'
+
+
+class Fields(Refusal):
+    """The command has another count of fields."""
+
+    word = 'fields'
+    cause = 'the command has another count of fields'
+
+
+class Few(Refusal):
+    """There are fewer points than the command takes."""
+
+    word = 'few'
+    cause = 'there are fewer points than the command takes'
+
+
+class Many(Refusal):
+    """There are more points than the command takes."""
+
+    word = 'many'
+    cause = 'there are more points than the command takes'
+
+
+class Number(Refusal):
+    """The field at this place, counted from 1, is no number."""
+
+    word = 'number'
+    cause = 'the field at this place is no number'
+
+
+class Range(Refusal):
+    """The number at this place, counted from 1, is beyond the limit: 1,000,000, or 8,388,607 in a wide session."""
+
+    word = 'range'
+    cause = 'the number at this place is beyond the limit'
+
+
+class NoPolygon(Refusal):
+    """No polygon was taken yet."""
+
+    word = 'no_polygon'
+    cause = 'no polygon was taken yet'
+
+
+class Large(Refusal):
+    """The polygon has more than 1,024 vertices."""
+
+    word = 'large'
+    cause = 'the polygon has more than 1,024 vertices'
+
+
+class Index(Refusal):
+    """The number at this place, counted from 1, is that of no vertex."""
+
+    word = 'index'
+    cause = 'the number at this place is that of no vertex'
+
+
+class NoTree(Refusal):
+    """There is a polygon, and no tree in it yet."""
+
+    word = 'no_tree'
+    cause = 'there is no tree in this polygon yet'
+
+
+class Outside(Refusal):
+    """This point of the question, counted from 1, is not in the polygon."""
+
+    word = 'outside'
+    cause = 'this point of the question is not in the polygon'
+
+
+class Clash(Refusal):
+    """The polygon is not simple: the edges of these numbers share a point where they must not, or one has equal ends. They are the
+    least pair that does."""
+
+    word = 'clash'
+    cause = 'these edges share a point where they must not, or one has equal ends'
+
+
+class TooLong(ValueError):
+    """The text has more than 8,388,608 bytes. Nothing was answered."""
+
+
+class GeoMemoryError(MemoryError):
+    """The library was refused memory. `answered` is the text of the answers to some first records."""
+
+    def __init__(self, answered: bytes = b''):
+        super().__init__('the library was refused memory')
+        self.answered = answered
+
+
+class NotWhole(ValueError):
+    """A number that is not whole. `place` is its place among the numbers of the question, counted from 1."""
+
+    def __init__(self, number: Any, place: int):
+        super().__init__(f'the number at place {place} is not whole: {number}')
+        self.number = number
+        self.place = place
+
+
+class Holes(ValueError):
+    """A polygon with holes, where one ring is asked for."""
+
+
+class Session:
+    """A polygon, and what was asked about it.
+
+    `ring` is the polygon, if it is known by now. A session that is `wide` has the limits of version 2 of the script, coordinates up to
+    8,388,607 in size and polygons of up to 16,384 vertices, in the place of 1,000,000 and 4,096; and its paths have each vertex that
+    they touch, beside their ends and their bends.
+
+    A session owns memory of the library's. It is given back by `close`, at the end of a `with` block, or with the session itself. It
+    stays on the thread that made it: on another one each question raises RuntimeError, and no memory is given back. Sessions of
+    different threads don't wait for each other.
+    """
+
+    def __init__(self, ring: Optional[AnyPoints] = None, *, wide: bool = False):
+        self._handle = ctypes.byref(_Handle())
+        self._thread = threading.current_thread()
+        self._points = (ctypes.c_int64 * 128)()
+        self._free = weakref.finalize(self, _free, self._handle, self._thread)
+        self._free.atexit = False  # all is given back then
+        if wide:
+            self._ask('geo', [2])
+        if ring is not None:
+            self.polygon(ring)
+
+    def close(self) -> None:
+        """Gives the memory back. Then each question raises ValueError."""
+        if self._free.alive:
+            self._open()
+            self._free()
+
+    def __enter__(self) -> Session:
+        return self
+
+    def __exit__(self, *_: object) -> None:
+        self.close()
+
+    def polygon(self, ring: AnyPoints) -> int:
+        """Takes a polygon in the place of the one before, and gives how many vertices it has."""
+        return int(self._ask('polygon', _ring(ring)).split(',')[1])
+
+    def inside(self, point: AnyPoint) -> Place:
+        """Where a point lies."""
+        x, y = _point(point)
+        place = ctypes.c_uint8()
+        _check(_library.geo_session_inside(self._open(), x, y, place))
+        return _PLACES[place.value]
+
+    def path(self, start: AnyPoint, goal: AnyPoint) -> Path:
+        """The path between two points of the polygon, which goes as a pulled string does: both, and its bends between them."""
+        return self._chain(_library.geo_session_path, *_point(start), *_point(goal, 3))
+
+    def tree(self, source: AnyPoint) -> List[Union[int, Before]]:
+        """For each vertex what comes just before it on the path from the source: the number of a vertex, the source itself, or nothing
+        where the vertex is at the source. The source is kept for `reach`."""
+        return [_before(j) for _, j in self._rows('tree', _point(source))]
+
+    def reach(self, goal: AnyPoint) -> Path:
+        """The path from the source of the last tree."""
+        return self._chain(_library.geo_session_reach, *_point(goal))
+
+    def check(self, points: AnyPoints) -> Verdict:
+        """Whether the points are a taut chain, so the path between the first and the last of them."""
+        verdict = self._ask('check', _points(points)).rstrip().split(',')
+        return Verdict() if verdict == ['taut'] else Verdict(Rule(verdict[1]), int(verdict[2]))
+
+    def see(self, point: AnyPoint) -> Iterator[Part]:
+        """What a point of the polygon sees of the edges: a part for each edge of which it sees something, in their order."""
+        rows = self._rows('see', _point(point))
+        return (Part(int(i), (Fraction(a), Fraction(b)), (Fraction(c), Fraction(d))) for i, a, b, c, d in rows)
+
+    def kernel(self) -> List[ExactPoint]:
+        """The corners of the kernel, the set of points that see the whole polygon, counterclockwise from the least one."""
+        return [(Fraction(x), Fraction(y)) for x, y in self._rows('kernel')]
+
+    def hull(self, points: AnyPoints) -> Iterator[Side]:
+        """The sides of the relative hull of up to 64 points, sorted by their starts. A point that is given again has its first
+        number."""
+        rows = self._rows('hull', _points(points))
+        return (Side(int(i), int(j), _pairs(list(map(int, path)))) for i, j, _, *path in rows)
+
+    def round(self, points: AnyPoints) -> List[int]:
+        """The numbers of the points that start a side of the relative hull, in the order in which the sides follow each other."""
+        return self._numbers('round', _points(points))
+
+    def guards(self) -> List[int]:
+        """The numbers of at most a third of the vertices, which together see the whole polygon."""
+        return self._numbers('guards')
+
+    def pair(self, i: SupportsIndex, j: SupportsIndex) -> Path:
+        """The path between two vertices, by their numbers, in a polygon of at most 1,024."""
+        return _pairs(self._numbers('pair', map(_near, map(operator.index, (i, j)))))
+
+    def sights(self) -> Iterator[Tuple[int, int]]:
+        """The pairs of vertices that see each other, the lesser number first, in a polygon of at most 1,024."""
+        return ((int(i), int(j)) for i, j in self._rows('sights'))
+
+    def answer(self, records: Union[str, bytes]) -> bytes:
+        """The text of the answers to some records, as the program `geo` would answer them next. A refusal is a line of it."""
+        script = _bytes(records)
+        needed = ctypes.c_size_t()
+        handle = self._open()
+        status = _library.geo_session_answer(handle, script, len(script), needed)
+        text = ctypes.create_string_buffer(needed.value)
+        _library.geo_session_text(handle, text, needed.value)
+        answered = text.raw
+        _check(status, answered)
+        return answered
+
+    def _open(self) -> Any:
+        """The library's handle."""
+        if threading.current_thread() is not self._thread:
+            raise RuntimeError('a session stays on the thread that made it')
+        if not self._free.alive:
+            raise ValueError('the session is closed')
+        return self._handle
+
+    def _chain(self, ask: Any, *coordinates: int) -> Path:
+        """The path that a call of the library answers with. Where it has more points than there is room for, it is asked again."""
+        handle = self._open()
+        needed = ctypes.c_size_t()
+        while True:
+            room = len(self._points) // 2
+            _check(ask(handle, *coordinates, self._points, room, needed))
+            if needed.value <= room:
+                found: Iterator[Any] = struct.iter_unpack('qq', memoryview(self._points).cast('B')[:16 * needed.value])
+                return list(found)
+            self._points = (ctypes.c_int64 * (2 * needed.value))()
+
+    def _ask(self, word: str, fields: Iterable[int] = ()) -> str:
+        """The text of the answer to a record."""
+        text = self.answer(','.join([word, *map(str, fields)]))
+        refused = refusal(text)
+        if refused:
+            raise refused
+        return text.decode('ascii')
+
+    def _numbers(self, word: str, fields: Iterable[int] = ()) -> List[int]:
+        """The numbers of an answer of one line, behind their count."""
+        return list(map(int, self._ask(word, fields).split(',')[2:]))
+
+    def _rows(self, word: str, fields: Iterable[int] = ()) -> Iterator[List[str]]:
+        """The lines of an answer behind the first, each as its fields. They are taken apart one by one."""
+        lines = io.StringIO(self._ask(word, fields))
+        next(lines)
+        return (line.rstrip().split(',')[1:] for line in lines)
+
+
+def answer_script(script: Union[str, bytes]) -> bytes:
+    """The text that the program `geo` answers a whole script with. A refusal is a line of it."""
+    script = _bytes(script)
+    needed = ctypes.c_size_t()
+    room = 4 * len(script) + 4096
+    while True:
+        text = ctypes.create_string_buffer(room)
+        status = _library.geo_answer_script(script, len(script), text, room, needed)
+        if needed.value <= room:
+            answered = ctypes.string_at(text, needed.value)
+            _check(status, answered)
+            return answered
+        room = needed.value
+
+
+def refusal(answer: bytes) -> Optional[Refusal]:
+    """The refusal that a text of answers begins with, if it does."""
+    if not answer.startswith(b'bad,'):
+        return None
+    _, word, *places = answer.split(b'\n', 1)[0].decode('ascii').split(',')
+    return _REFUSALS[word](*map(int, places))
+
+
+def _bytes(text: Union[str, bytes]) -> bytes:
+    return text.encode() if isinstance(text, str) else text
+
+
+def _before(field: str) -> Union[int, Before]:
+    return int(field) if field.isdigit() else Before(field)
+
+
+def _pairs(numbers: List[int]) -> Path:
+    return list(zip(numbers[::2], numbers[1::2]))
+
+
+def _point(given: AnyPoint, place: int = 1) -> Point:
+    """A point as two whole numbers. Its first number has this place in the question."""
+    shape = _shape(given, 'Point')
+    x, y = shape['coordinates'][:2] if shape else given
+    return _whole(x, place), _whole(y, place + 1)
+
+
+def _points(given: AnyPoints) -> List[int]:
+    """The numbers of a list of points."""
+    shape = _shape(given, 'LineString', 'MultiPoint')
+    return _flat(_plane(shape['coordinates']) if shape else given)
+
+
+def _ring(given: AnyPoints) -> List[int]:
+    """The numbers of a ring, of a shape without those of the closing point."""
+    shape = _shape(given, 'Polygon', 'LinearRing')
+    if not shape:
+        return _flat(given)
+    rings = [shape['coordinates']] if shape['type'] == 'LinearRing' else shape['coordinates']
+    if len(rings) > 1:
+        raise Holes(f'the polygon has {len(rings) - 1} holes, and one of geo has one ring')
+    found = [number for ring in rings for number in _flat(_plane(ring))]
+    return found[:-2] if found[:2] == found[-2:] else found
+
+
+def _flat(points: Any) -> List[int]:
+    """The numbers of points one after another."""
+    return [number for k, (x, y) in enumerate(points) for number in (_whole(x, 2 * k + 1), _whole(y, 2 * k + 2))]
+
+
+def _plane(positions: Iterable[Sequence[Coordinate]]) -> Iterator[Sequence[Coordinate]]:
+    """Points of GeoJSON without their heights."""
+    return (position[:2] for position in positions)
+
+
+def _shape(given: Any, *kinds: str) -> Optional[Mapping[str, Any]]:
+    """A shape in GeoJSON that is of one of these kinds, or nothing where plain numbers are given. Of a feature it is the geometry."""
+    given = getattr(given, '__geo_interface__', given)
+    if not isinstance(given, Mapping):
+        return None
+    shape: Mapping[str, Any] = given
+    if shape['type'] == 'Feature':
+        shape = shape['geometry'] or {'type': 'feature without a geometry'}
+    if shape['type'] not in kinds:
+        raise TypeError(f'a {" or ".join(kinds)} is asked for, and a {shape["type"]} is given')
+    return shape
+
+
+def _whole(number: Any, place: int) -> int:
+    """A number as an integer."""
+    try:
+        return _near(operator.index(number))
+    except TypeError:
+        if not isinstance(number, numbers.Real):
+            raise TypeError(f'at place {place} is no number: {number!r}') from None
+    if number % 1 != 0:
+        raise NotWhole(number, place)
+    return _near(int(number))
+
+
+def _near(number: int) -> int:
+    """The integer itself where it fits in 64 bits with room to spare, else one that is beyond each limit too."""
+    return number if -_FAR < number < _FAR else _FAR if number > 0 else -_FAR
+
+
+def _check(status: int, answered: bytes = b'') -> None:
+    """Raises what a status says that isn't 0."""
+    if status == 3:
+        raise TooLong('the text has more than 8,388,608 bytes')
+    if status == 5:
+        raise GeoMemoryError(answered)
+    if status:
+        kind, places = _STATUSES[status]
+        raise kind(*places)
+
+
+class _Handle(ctypes.Structure):
+    """A session of the library's. Zero is one of which nothing was asked yet."""
+
+    _fields_ = [('at', ctypes.c_void_p)]
+
+
+def _free(handle: Any, thread: threading.Thread) -> None:
+    """Gives the memory of a session back, on its thread alone."""
+    if threading.current_thread() is thread:
+        _library.geo_session_clear(handle)
+
+
+def _load() -> ctypes.CDLL:
+    """The library, with the types of its calls."""
+    beside = os.path.join(os.path.dirname(os.path.abspath(__file__)), 'libgeo_c.so')
+    library = ctypes.CDLL(os.environ.get('GEO_LIBRARY', beside))
+    handle, text, size, number = ctypes.POINTER(_Handle), ctypes.c_char_p, ctypes.c_size_t, ctypes.c_int64
+    needed, points = ctypes.POINTER(ctypes.c_size_t), ctypes.POINTER(ctypes.c_int64)
+    library.geo_answer_script.argtypes = [text, size, text, size, needed]
+    library.geo_session_answer.argtypes = [handle, text, size, needed]
+    library.geo_session_text.argtypes = [handle, text, size]
+    library.geo_session_inside.argtypes = [handle, number, number, ctypes.POINTER(ctypes.c_uint8)]
+    library.geo_session_path.argtypes = [handle, number, number, number, number, points, size, needed]
+    library.geo_session_reach.argtypes = [handle, number, number, points, size, needed]
+    library.geo_session_clear.argtypes = [handle]
+    for name in 'geo_answer_script', 'geo_session_answer', 'geo_session_inside', 'geo_session_path', 'geo_session_reach':
+        getattr(library, name).restype = ctypes.c_uint8
+    library.geo_session_text.restype = library.geo_session_clear.restype = None
+    return library
+
+
+_FAR = 1 << 62
+_PLACES = tuple(Place)
+_REFUSALS: Dict[str, Type[Refusal]] = {kind.word: kind for kind in Refusal.__subclasses__()}
+_STATUSES: Dict[int, Tuple[Type[Refusal], Tuple[int, ...]]] = {
+    16: (NoPolygon, ()), 17: (NoTree, ()), 21: (Outside, (1,)), 22: (Outside, (2,)),
+    31: (Range, (1,)), 32: (Range, (2,)), 33: (Range, (3,)), 34: (Range, (4,)),
+}
+_library = _load()

@@ -1,0 +1,414 @@
+#!/usr/bin/env python3
+"""Tests of geo.py over the library, libgeo_c.so, which clients/python/build makes."""
+import gc
+import subprocess
+import sys
+import threading
+import unittest
+from fractions import Fraction
+from pathlib import Path
+
+import geo
+from geo import Before, Part, Place, Rule, Session, Side, Verdict
+
+try:
+    import numpy
+except ImportError:
+    numpy = None
+try:
+    import shapely.geometry as shapely
+except ImportError:
+    shapely = None
+
+HERE = Path(__file__).resolve().parent
+TOP = HERE.parents[1]
+sys.path.insert(0, str(TOP / 'tools'))
+from geotools import script
+
+L = [(0, 0), (4, 0), (4, 2), (2, 2), (2, 4), (0, 4)]
+EXAMPLES = [answers.with_suffix('') for answers in sorted((TOP / 'examples').glob('*.stdout')) if not answers.with_suffix('.args').exists()]
+
+
+def comb(n):
+    """A strip of n vertices that goes up and down."""
+    low = [(4 * i, 6 * (i % 2)) for i in range(n // 2)]
+    return low + [(x, y + 2) for x, y in reversed(low)]
+
+
+def geojson(kind, coordinates):
+    return {'type': kind, 'coordinates': coordinates}
+
+
+class Shape:
+    """A shape of another library."""
+
+    def __init__(self, kind, coordinates):
+        self.__geo_interface__ = geojson(kind, coordinates)
+
+
+class Lines:
+    """What the methods of a session answer, as lines of a script's answers."""
+
+    def __init__(self, session):
+        self.session = session
+
+    def answer(self, row):
+        """The lines that answer a record: by its method, or as they are where it has none or other fields than numbers in their count."""
+        if not hasattr(self, row.word) or row.lines[0][:2] in [['bad', 'fields'], ['bad', 'number']]:
+            return self.session.answer(','.join(row.record)).decode().splitlines()
+        try:
+            return getattr(self, row.word)(map(int, row.record[1:]) if row.word in script.NUMBERED else row.points)
+        except geo.Refusal as refused:
+            return [str(refused).split(':')[0]]
+
+    def polygon(self, points):
+        return [f'polygon,{self.session.polygon(points)}']
+
+    def inside(self, points):
+        return [self.session.inside(*points).name.lower()]
+
+    def path(self, points):
+        return [path_line('path', self.session.path(*points))]
+
+    def reach(self, points):
+        return [path_line('path', self.session.reach(*points))]
+
+    def pair(self, numbers):
+        return [path_line('path', self.session.pair(*numbers))]
+
+    def tree(self, points):
+        before = [j.value if isinstance(j, Before) else j for j in self.session.tree(*points)]
+        return [f'tree,{len(before)}'] + [f'from,{i},{j}' for i, j in enumerate(before)]
+
+    def check(self, points):
+        verdict = self.session.check(points)
+        return ['taut' if verdict else f'not,{verdict.rule.value},{verdict.place}']
+
+    def see(self, points):
+        parts = list(self.session.see(*points))
+        return [f'see,{len(parts)}'] + [f'part,{i},{a},{b},{c},{d}' for i, (a, b), (c, d) in parts]
+
+    def kernel(self, _):
+        corners = self.session.kernel()
+        return [f'kernel,{len(corners)}'] + [f'corner,{x},{y}' for x, y in corners]
+
+    def hull(self, points):
+        sides = list(self.session.hull(points))
+        return [f'hull,{len(sides)}'] + [path_line(f'side,{start},{goal}', path) for start, goal, path in sides]
+
+    def round(self, points):
+        return [line('round', self.session.round(points))]
+
+    def guards(self, _):
+        return [line('guards', self.session.guards())]
+
+    def sights(self, _):
+        pairs = list(self.session.sights())
+        return [f'sights,{len(pairs)}'] + [f'sight,{i},{j}' for i, j in pairs]
+
+
+def path_line(head, path):
+    return line(head, [f'{x},{y}' for x, y in path])
+
+
+def line(head, listed):
+    return ','.join([head, str(len(listed)), *map(str, listed)])
+
+
+class Examples(unittest.TestCase):
+    """The examples of the repository, with what the program must answer to them."""
+
+    def test_scripts(self):
+        for example in EXAMPLES:
+            with self.subTest(example.name):
+                self.assertEqual(geo.answer_script(example.read_bytes()), example.with_suffix('.stdout').read_bytes())
+
+    def test_records(self):
+        for example in EXAMPLES:
+            answered = script.paired(example.read_bytes(), example.with_suffix('.stdout').read_bytes())
+            wide = script.version(answered) == 2
+            with self.subTest(example.name), Session(wide=wide) as session:
+                for row in answered[1:] if wide else answered:
+                    self.assertEqual(Lines(session).answer(row), [','.join(fields) for fields in row.lines], row.record)
+
+    def test_pieces(self):
+        for example in EXAMPLES:
+            pieces = example.read_bytes().removeprefix(b'\xef\xbb\xbf').splitlines()
+            with self.subTest(example.name), Session() as session:
+                self.assertEqual(b''.join(map(session.answer, pieces)), example.with_suffix('.stdout').read_bytes())
+
+
+    def test_the_worked_example(self):
+        folder = TOP / 'examples/library'
+        ran = subprocess.run([sys.executable, folder / 'route.py'], capture_output=True, text=True)
+        self.assertEqual((ran.stdout, ran.stderr), ((folder / 'route.stdout').read_text(), ''))
+
+
+class Values(unittest.TestCase):
+    """What each method gives for the L."""
+
+    def setUp(self):
+        self.session = Session(L)
+        self.addCleanup(self.session.close)
+
+    def test_points(self):
+        self.assertEqual([self.session.inside(p) for p in [(1, 1), (3, 3), (2, 3)]], [Place.INSIDE, Place.OUTSIDE, Place.EDGE])
+        self.assertEqual(self.session.kernel(), [(0, 0), (2, 0), (2, 2), (0, 2)])
+        self.session.polygon([(0, 0), (6, 0), (3, 1), (0, 5)])
+        self.assertEqual(self.session.kernel()[1], (Fraction(15, 4), 0))
+
+    def test_paths(self):
+        self.assertEqual(self.session.path((4, 1), (1, 4)), [(4, 1), (2, 2), (1, 4)])
+        self.assertEqual(self.session.tree((4, 1)), 4 * [Before.SOURCE] + [3, 3])
+        self.assertEqual(self.session.reach((1, 4)), [(4, 1), (2, 2), (1, 4)])
+        self.assertEqual(self.session.tree((2, 2))[3], Before.NOTHING)
+        self.assertEqual(self.session.pair(2, 4), [(4, 2), (2, 2), (2, 4)])
+
+    def test_a_wide_session_tells_what_a_path_touches(self):
+        self.assertEqual(self.session.path((4, 0), (0, 4)), [(4, 0), (0, 4)])
+        with Session(L, wide=True) as wide:
+            self.assertEqual(wide.path((4, 0), (0, 4)), [(4, 0), (2, 2), (0, 4)])
+            self.assertEqual(wide.polygon([(0, 0), (8_388_607, 0), (0, 8_388_607)]), 3)
+
+    def test_a_path_of_many_points(self):
+        with Session(comb(4096)) as session:
+            path = session.path((0, 1), (4 * 2047, 7))
+        self.assertEqual(path, [(0, 1)] + [(4 * i, 6 if i % 2 else 2) for i in range(1, 2047)] + [(4 * 2047, 7)])
+
+    def test_verdicts(self):
+        verdicts = [self.session.check(points) for points in ([(4, 1), (2, 2), (1, 4)], [(4, 0), (2, 2), (0, 4)])]
+        self.assertEqual(verdicts, [Verdict(), Verdict(Rule.STRAIGHT, 1)])
+        self.assertEqual(list(map(bool, verdicts)), [True, False])
+
+    def test_long_answers_outlive_the_session(self):
+        parts, sides, pairs = self.session.see((4, 1)), self.session.hull([(4, 2), (2, 4), (1, 2)]), self.session.sights()
+        self.session.guards()
+        self.session.close()
+        self.assertEqual(list(parts)[3:], [Part(3, (2, 2), (2, 2)), Part(5, (0, 3), (0, 0))])
+        self.assertEqual(next(sides), Side(0, 1, [(4, 2), (2, 2), (2, 4)]))
+        self.assertEqual(list(pairs)[:5], [(0, j) for j in range(1, 6)])
+
+    def test_numbers_of_points_and_vertices(self):
+        self.assertEqual(self.session.round([(4, 2), (2, 4), (0, 0), (1, 1)]), [0, 1, 2])
+        self.assertEqual(self.session.guards(), [3])
+
+
+class Refusals(unittest.TestCase):
+    def setUp(self):
+        self.session = Session(L)
+        self.addCleanup(self.session.close)
+
+    def refuses(self, kind, places, ask, *given):
+        with self.assertRaises(kind) as refused:
+            ask(*given)
+        self.assertEqual(refused.exception.places, places)
+        self.assertIn(','.join(['bad', kind.word, *map(str, places)]), str(refused.exception))
+
+    def test_points(self):
+        far, path = 10**40, self.session.path
+        for kind, places, ask, *given in [
+            (geo.Outside, (1,), path, (3, 3), (1, 1)),
+            (geo.Outside, (2,), path, (1, 1), (3, 3)),
+            (geo.Outside, (3,), self.session.hull, [(1, 1), (0, 0), (3, 3)]),
+            (geo.Range, (1,), path, (1_000_001, far), (3, 3)),
+            (geo.Range, (2,), path, (1, -far), (3, 3)),
+            (geo.Range, (3,), path, (1, 1), (1 << 64, 3)),
+            (geo.Range, (4,), path, (1, 1), (3, -(1 << 63))),
+            (geo.Range, (2,), self.session.inside, (1, 1e300)),
+            (geo.Range, (2,), self.session.check, [(1, far)]),
+            (geo.NoTree, (), self.session.reach, (1, 4)),
+        ]:
+            self.refuses(kind, places, ask, *given)
+
+    def test_lists(self):
+        square = [(0, 0), (4, 4), (4, 0), (0, 4)]
+        self.refuses(geo.Clash, (0, 2), self.session.polygon, square)
+        self.refuses(geo.Few, (), self.session.polygon, square[:2])
+        self.refuses(geo.Few, (), self.session.check, [])
+        self.refuses(geo.Many, (), self.session.round, 65 * [(1, 1)])
+        self.refuses(geo.Many, (), self.session.polygon, comb(4098))
+        self.assertEqual(self.session.guards(), [3], 'the polygon before stays')
+
+    def test_numbers_of_vertices(self):
+        self.refuses(geo.Index, (2,), self.session.pair, 0, 6)
+        self.refuses(geo.Index, (1,), self.session.pair, -1, 0)
+        self.session.polygon(comb(1026))
+        self.refuses(geo.Large, (), self.session.pair, 0, 6)
+        self.refuses(geo.Large, (), self.session.sights)
+
+    def test_no_polygon(self):
+        with Session() as session:
+            for ask, *given in [(session.inside, (1, 1)), (session.path, (1, 1), (2, 2)), (session.reach, (1, 1)), (session.kernel,)]:
+                self.refuses(geo.NoPolygon, (), ask, *given)
+        with self.assertRaises(geo.Few):
+            Session([(0, 0)])
+
+    def test_records(self):
+        for record, kind, places in [
+            (b'circle,0,0,5', geo.Word, ()), ('inside,1', geo.Fields, ()), ('inside,1,one', geo.Number, (2,)), ('pair,0,6', geo.Index, (2,)),
+        ]:
+            refused = geo.refusal(self.session.answer(record))
+            self.assertEqual((type(refused), refused.places), (kind, places))
+        self.assertIsNone(geo.refusal(self.session.answer('inside,1,1')))
+
+    def test_each_refusal_of_the_manual_has_a_class(self):
+        words = [line.split('`')[1].split(',')[1] for line in (TOP / 'docs/SCRIPT.md').read_text().splitlines() if line.startswith('| `bad,')]
+        self.assertEqual(sorted(words), sorted(kind.word for kind in geo.Refusal.__subclasses__()))
+
+    def test_too_long(self):
+        self.assertEqual(geo.answer_script(b'\n' * 8_388_608), b'')
+        for ask in geo.answer_script, self.session.answer:
+            with self.assertRaises(geo.TooLong):
+                ask(b'\n' * 8_388_609)
+        self.assertEqual(self.session.guards(), [3])
+
+    def test_a_closed_session(self):
+        self.session.close()
+        self.session.close()
+        for ask in self.session.guards, lambda: self.session.inside((1, 1)), lambda: self.session.path((1, 1), (2, 2)):
+            with self.assertRaises(ValueError):
+                ask()
+
+
+class Shapes(unittest.TestCase):
+    """Points, lists and rings in other forms than pairs of integers."""
+
+    def setUp(self):
+        self.session = Session()
+        self.addCleanup(self.session.close)
+
+    def ask(self, ring, point, points):
+        self.assertEqual(self.session.polygon(ring), 6)
+        self.assertEqual(self.session.inside(point), Place.EDGE)
+        self.assertEqual(self.session.path(point, point), [(2, 3)])
+        self.assertEqual(self.session.round(points), [0, 1, 2])
+
+    def test_numbers(self):
+        self.ask(([float(x), y] for x, y in L), (2.0, Fraction(3)), iter([(4, 2), (2, 4), (0, 0)]))
+        for number, place, ask, given in [
+            (0.5, 4, self.session.polygon, [(0, 0), (4, 0.5)]),
+            (float('nan'), 1, self.session.inside, (float('nan'), 1)),
+            (float('inf'), 2, self.session.see, (1, float('inf'))),
+        ]:
+            with self.assertRaises(geo.NotWhole) as refused:
+                ask(given)
+            self.assertEqual((str(refused.exception.number), refused.exception.place), (str(number), place))
+
+    def test_no_numbers(self):
+        for given in ('12', ('1', '2'), (1, None), 7, None, (1,), (1, 2, 3), geojson('Polygon', [L])):
+            with self.assertRaises((TypeError, ValueError)):
+                self.session.inside(given)
+
+    def test_geojson(self):
+        closed = L + L[:1]
+        for kind in geojson, Shape:
+            for listed in 'LineString', 'MultiPoint':
+                self.ask(kind('Polygon', [closed]), kind('Point', (2.0, 3.0)), kind(listed, [[4, 2], [2, 4], [0, 0]]))
+        with_heights = [(x, y, 7) for x, y in closed]
+        self.ask(geojson('Polygon', [with_heights]), geojson('Point', (2, 3, 7)), geojson('LineString', [(4, 2, 7), (2, 4, 7), (0, 0, 7)]))
+        feature = {'type': 'Feature', 'properties': {}, 'geometry': geojson('Polygon', [closed])}
+        self.assertEqual(self.session.polygon(feature), 6)
+
+    def test_shapes_that_are_no_ring(self):
+        with self.assertRaises(geo.Holes):
+            self.session.polygon(geojson('Polygon', [[(0, 0), (9, 0), (0, 9), (0, 0)], [(1, 1), (2, 1), (1, 2), (1, 1)]]))
+        with self.assertRaises(geo.Few):
+            self.session.polygon(geojson('Polygon', []))
+        for other in geojson('MultiPolygon', [[L]]), geojson('Point', L[0]), {'type': 'Feature', 'geometry': None}:
+            with self.assertRaises(TypeError):
+                self.session.polygon(other)
+
+    @unittest.skipIf(numpy is None, 'without NumPy')
+    def test_numpy(self):
+        for kind in 'int16', 'int64', 'float32', 'float64':
+            self.ask(numpy.array(L, kind), numpy.array((2, 3), kind), numpy.array([(4, 2), (2, 4), (0, 0)], kind))
+
+    @unittest.skipIf(shapely is None, 'without Shapely')
+    def test_shapely(self):
+        for ring in shapely.Polygon(L), shapely.LinearRing(L):
+            self.ask(ring, shapely.Point(2, 3), shapely.LineString([(4, 2), (2, 4), (0, 0)]))
+        self.ask(shapely.Polygon(L), shapely.Point(2, 3), shapely.MultiPoint([(4, 2), (2, 4), (0, 0)]))
+        with self.assertRaises(geo.Holes):
+            self.session.polygon(shapely.Point(0, 0).buffer(9).difference(shapely.Point(0, 0).buffer(3)))
+        with self.assertRaises(geo.Few):
+            self.session.polygon(shapely.Polygon())
+
+
+class Threads(unittest.TestCase):
+    def on_another_thread(self, ask, *given):
+        """What is raised there, if anything is."""
+        raised = []
+
+        def run():
+            try:
+                ask(*given)
+            except Exception as error:
+                raised.append(type(error))
+
+        thread = threading.Thread(target=run)
+        thread.start()
+        thread.join()
+        return raised
+
+    def test_each_has_its_own_sessions(self):
+        found = {}
+
+        def ask(k):
+            with Session(comb(64)) as session:
+                found[k] = [session.path((0, 1), (4 * k, 6 * (k % 2))) for _ in range(100)]
+
+        threads = [threading.Thread(target=ask, args=(k,)) for k in range(1, 9)]
+        for thread in threads:
+            thread.start()
+        for thread in threads:
+            thread.join()
+        with Session(comb(64)) as session:
+            for k in range(1, 9):
+                self.assertEqual(found[k], 100 * [session.path((0, 1), (4 * k, 6 * (k % 2)))])
+
+    def test_a_session_stays_on_its_thread(self):
+        session = Session(L)
+        for ask, *given in (session.guards,), (session.inside, (1, 1)), (session.path, (1, 1), (2, 2)), (session.close,):
+            self.assertEqual(self.on_another_thread(ask, *given), [RuntimeError])
+        self.assertEqual(session.guards(), [3])
+        held = [session]
+        del session, ask, given
+        self.assertEqual(self.on_another_thread(held.clear), [])
+        self.assertEqual(self.on_another_thread(geo.answer_script, b'guards'), [])
+
+    def test_sessions_that_are_not_closed(self):
+        for _ in range(100):
+            Session(L)
+        gc.collect()
+
+
+LITTLE_MEMORY = '''
+import resource, geo
+low = [(4 * i, 6 * (i % 2)) for i in range(8192)]
+session = geo.Session(low + [(x, y + 2) for x, y in reversed(low)], wide=True)
+points = low[::128]
+pages = int(open('/proc/self/statm').read().split()[0])
+resource.setrlimit(resource.RLIMIT_AS, (pages * resource.getpagesize() + (32 << 20), resource.RLIM_INFINITY))
+try:
+    session.hull(points)
+except geo.GeoMemoryError as refused:
+    print('refused', refused.answered)
+print(session.inside(points[1]), len(session.path(points[0], points[1])))
+try:
+    geo.answer_script(b'inside,0,0\\n' * 500_000)
+except MemoryError:
+    print('refused')
+print(session.polygon(low[:2] + [(0, 9)]), session.kernel()[0])
+'''
+
+
+class Memory(unittest.TestCase):
+    @unittest.skipUnless(sys.platform == 'linux', 'without /proc')
+    def test_a_process_with_little_memory(self):
+        ran = subprocess.run([sys.executable, '-c', LITTLE_MEMORY], cwd=HERE, capture_output=True, text=True)
+        self.assertEqual((ran.returncode, ran.stderr), (0, ''))
+        self.assertEqual(ran.stdout.splitlines(), ["refused b''", 'Place.EDGE 129', 'refused', '3 (Fraction(0, 1), Fraction(0, 1))'])
+
+
+if __name__ == '__main__':
+    unittest.main()

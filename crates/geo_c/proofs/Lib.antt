@@ -1,0 +1,4 @@
+mod Crossed
+mod Filling
+mod Handles
+mod Values

@@ -1,0 +1,5 @@
+pub mod Filled
+pub mod Held
+pub mod Output
+pub mod Status
+pub mod Told

@@ -1,0 +1,32 @@
+-- The numbers that a call gives back. This project's own.
+use Rattle.std.specs.Prelude.{ℕ, ◌+◌, nat_lt, if◌then◌else◌}
+use Rattle.geo_text.specs.declared.command.Bad.{Bad}
+use Rattle.geo_text.specs.declared.command.Bad.TheVariants as bad
+use Rattle.inside_test.specs.declared.position.Position.{Position}
+use Rattle.inside_test.specs.declared.position.Position.TheVariants as position
+use Rattle.geo_c.specs.declared.status.TheConstants.{NO_POLYGON, NO_TREE, OTHER, OUTSIDE, RANGE}
+
+-- a status that has a place in its last digit
+abbrev pub with_place : ℕ → ℕ → ℕ
+with_place status place = if nat_lt place 10 then status + place else OTHER
+
+-- the status of a refusal
+abbrev pub status_of : Bad → ℕ
+status_of bad.NoPolygon = NO_POLYGON
+status_of bad.NoTree = NO_TREE
+status_of (bad.Outside number) = with_place OUTSIDE number
+status_of (bad.Range place) = with_place RANGE place
+status_of bad.Word = OTHER
+status_of bad.Fields = OTHER
+status_of bad.Few = OTHER
+status_of bad.Many = OTHER
+status_of (bad.Number place) = OTHER
+status_of (bad.Clash i j) = OTHER
+status_of (bad.Index place) = OTHER
+status_of bad.Large = OTHER
+
+-- the number of a place
+abbrev pub place_of : Position → ℕ
+place_of position.Outside = 0
+place_of position.Inside = 1
+place_of position.Edge = 2

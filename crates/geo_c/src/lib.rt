@@ -1,0 +1,17 @@
+//! `geo` for C: plain numbers and bytes in and out, and a handle of a script that is handed in piece by piece. `geo.h` declares
+//! these calls, and `docs/LIBRARY.md` says how a program links them.
+#![tactic(auto)]
+
+mod fill;
+mod handle;
+mod loose;
+mod point;
+mod questions;
+mod script;
+mod session;
+mod status;
+#[cfg(test)]
+mod tests;
+
+pub use handle::GeoSession;
+pub use point::GeoPoint;

@@ -1,0 +1,113 @@
+// Each call once, with its answer.
+
+use crate::handle::GeoSession;
+use crate::point::GeoPoint;
+use crate::script::geo_answer_script;
+use crate::session::{
+    geo_session_answer, geo_session_clear, geo_session_inside, geo_session_path, geo_session_reach,
+    geo_session_text,
+};
+use crate::status::{NO_POLYGON, NO_TREE, OK, TOO_LONG};
+use plane::MAX_SCRIPT;
+use std::process::Abort;
+use std::test::Fail;
+
+const L: &[u8] = b"polygon,0,0,4,0,4,2,2,2,2,4,0,4\n";
+
+#[test]
+fn a_script(rt: HostRuntime) -> Result<(), Fail> {
+    let script = b"polygon,0,0,4,0,4,2,2,2,2,4,0,4\npath,1,4,4,1\n";
+    let mut needed = 7;
+    let mut out = [b'?'; 36];
+    assert_eq!(rt;
+        geo_answer_script(rt.alloc(), script, &mut out, &mut needed),
+        OK
+    );
+    assert_eq!(rt; needed, 29);
+    assert_eq!(rt;
+        &out[..],
+        b"polygon,6\npath,3,1,4,2,2,4,1\n???????".as_slice()
+    );
+    let mut short = [b'?'; 9];
+    assert_eq!(rt;
+        geo_answer_script(rt.alloc(), script, &mut short, &mut needed),
+        OK
+    );
+    assert_eq!(rt; needed, 29);
+    assert_eq!(rt; &short[..], b"polygon,6".as_slice());
+    let longer = vec![in rt.alloc(); b'\n'; MAX_SCRIPT + 1]?;
+    assert_eq!(rt;
+        geo_answer_script(rt.alloc(), &longer, &mut short, &mut needed),
+        TOO_LONG
+    );
+    assert_eq!(rt; needed, 29);
+    Ok(())
+}
+
+#[test]
+fn a_session(rt: HostRuntime) -> Result<(), Fail> {
+    let alloc = rt.alloc();
+    let mut session = GeoSession::empty(alloc);
+    let mut place = 9;
+    let mut needed = 0;
+    let mut points = [GeoPoint { x: 7, y: 7 }; 4];
+    assert_eq!(rt;
+        geo_session_inside(alloc, &mut session, 1, 1, &mut place),
+        NO_POLYGON
+    );
+    assert_eq!(rt;
+        geo_session_inside(alloc, &mut session, 1, 1_000_001, &mut place),
+        32
+    );
+    assert_eq!(rt; place, 9);
+    assert_eq!(rt; geo_session_answer(alloc, &mut session, L, &mut needed), OK);
+    assert_eq!(rt; needed, 10);
+    let mut out = [b'?'; 12];
+    geo_session_text(alloc, &mut session, &mut out);
+    assert_eq!(rt; &out[..], b"polygon,6\n??".as_slice());
+    geo_session_text(alloc, &mut session, &mut out[..3]);
+    for (x, y, want) in [(1, 1, 1), (4, 1, 2), (3, 3, 0)] {
+        assert_eq!(rt;
+            geo_session_inside(alloc, &mut session, x, y, &mut place),
+            OK
+        );
+        assert_eq!(rt; place, want, "{x},{y}");
+    }
+    assert_eq!(rt;
+        geo_session_path(alloc, &mut session, 4, 1, 1, 4, &mut points, &mut needed),
+        OK
+    );
+    assert_eq!(rt; needed, 3);
+    check(&rt, &points, [(4, 1), (2, 2), (1, 4), (7, 7)]);
+    assert_eq!(rt;
+        geo_session_path(alloc, &mut session, 4, 1, 3, 3, &mut points, &mut needed),
+        22
+    );
+    assert_eq!(rt;
+        geo_session_reach(alloc, &mut session, 0, 4, &mut points[..2], &mut needed),
+        NO_TREE
+    );
+    assert_eq!(rt;
+        geo_session_answer(alloc, &mut session, b"tree,1,4\n", &mut needed),
+        OK
+    );
+    assert_eq!(rt;
+        geo_session_reach(alloc, &mut session, 4, 1, &mut points[..2], &mut needed),
+        OK
+    );
+    assert_eq!(rt; needed, 3);
+    check(&rt, &points, [(1, 4), (2, 2), (1, 4), (7, 7)]);
+    geo_session_clear(alloc, &mut session);
+    assert_eq!(rt;
+        geo_session_reach(alloc, &mut session, 4, 1, &mut points, &mut needed),
+        NO_POLYGON
+    );
+    Ok(())
+}
+
+fn check<R: Abort>(rt: &R, points: &[GeoPoint; 4], want: [(i64, i64); 4]) {
+    for i in 0..4 {
+        let point = &points[i];
+        assert_eq!(rt; (point.x, point.y), want[i]);
+    }
+}

@@ -1,0 +1,55 @@
+#!/usr/bin/env python3
+"""Ways and views in an office, whose floor plan is the GeoJSON file beside this one, in millimetres."""
+import itertools
+import json
+import math
+import sys
+from pathlib import Path
+
+HERE = Path(__file__).resolve().parent
+sys.path.insert(0, str(HERE.parents[1] / 'clients' / 'python'))
+import geo
+
+
+def main():
+    features = json.loads((HERE / 'office.geojson').read_text())['features']
+    places = {feature['properties']['name']: feature['geometry'] for feature in features}
+    with geo.Session(places.pop('floor')) as office:
+        print('From Ada to the printer:', way(office.path(places['Ada'], places['printer'])))
+
+        office.tree(places['entrance'])
+        print('\nFrom the entrance:')
+        for name in ('Ada', 'Bo', 'Cleo'):
+            print(f'  to {name}:', way(office.reach(places[name])))
+
+        print('\nWho sees whom:')
+        for (one, here), (other, there) in itertools.combinations(places.items(), 2):
+            if office.check([here['coordinates'], there['coordinates']]):
+                print(f'  {one} and {other}')
+
+        print('\nWhat Bo sees of the lower wall of the corridor, which is edge 0:')
+        for part in office.see(places['Bo']):
+            if part.edge == 0:
+                print(f'  from {exact(part.first)} to {exact(part.last)}')
+
+        print('\nOne lamp lights all:', 'yes' if office.kernel() else 'no')
+        print('Lamps at these corners do:', *office.guards())
+
+        try:
+            office.path(places['Ada'], (4000, 5000))
+        except geo.Outside as refused:
+            print('\nInto the wall:', refused)
+
+
+def way(path):
+    """A path and its length, which alone is rounded."""
+    length = sum(math.dist(a, b) for a, b in zip(path, path[1:]))
+    return f'{length / 1000:.2f} m, ' + ' '.join(map(exact, path))
+
+
+def exact(point):
+    return '({}, {})'.format(*point)
+
+
+if __name__ == '__main__':
+    main()
