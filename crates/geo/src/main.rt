@@ -1,19 +1,8 @@
 //! Answers questions about a simple polygon: a script of commands on standard input, the answers on standard output.
 #![tactic(auto)]
 
-mod comb_run;
-#[cfg(test)]
-mod fault_tests;
-mod run;
-mod sure;
-#[cfg(test)]
-mod tests;
-#[cfg(test)]
-mod version_tests;
-mod words;
-
 use geo_io::{StdSink, StdSource};
-use run::{RunFault, geo_main};
+use geo_run::geo_main;
 use std::env;
 use std::io::ErrorKind;
 use std::process::ExitCode;

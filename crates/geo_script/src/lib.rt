@@ -3,8 +3,6 @@
 
 mod dialog;
 mod next;
-#[cfg(test)]
-mod tests;
 
 pub use dialog::{Dialog, Stop};
 pub use next::answer_next;

@@ -1,0 +1,4 @@
+mod NextRecord
+mod Combs
+mod NoFault
+mod Refusals

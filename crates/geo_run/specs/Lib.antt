@@ -1,0 +1,4 @@
+pub mod Comb
+pub mod Fault
+pub mod Progress
+pub mod Run

@@ -1,0 +1,6 @@
+mod Dashes
+mod Turns
+mod Parsed
+mod Teeth
+mod Taken
+mod Value

@@ -1,0 +1,12 @@
+//! Tests of whole runs, by public calls alone. They stand in a crate of their own, so that no crate that has code is proved
+//! a second time for them.
+#![tactic(auto)]
+
+#[cfg(test)]
+mod faults;
+#[cfg(test)]
+mod pieces;
+#[cfg(test)]
+mod scripts;
+#[cfg(test)]
+mod versions;

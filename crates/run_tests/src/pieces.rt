@@ -1,0 +1,218 @@
+// Pieces with their answers.
+ghost use Rattle.std.specs.Prelude.{◌≡◌, ◌<◌};
+
+use crate::scripts::parts;
+use exact_plane::{Memory, Steps};
+use geo_script::{Dialog, Stop};
+use plane::MAX_SCRIPT;
+use std::alloc::Global;
+use std::marker::Brand;
+use std::process::Abort;
+use std::sync::ledger::{Blank, Ledger};
+use std::test::Fail;
+
+// Pieces in turn, each with the answers to it, as rows of `all_answered`; the name says whether it is the first piece of a
+// new script. `geo,2` is no command in a later piece than the first with a record.
+#[rattlefmt::skip]
+const PIECES: &str = "
+# a new script
+polygon,0,0,4,0,4,2,2,2,2,4,0,4
+=
+polygon,6
+
+# a later piece
+inside,1,1
+tree,4,1
+=
+inside
+tree,6
+from,0,s
+from,1,s
+from,2,s
+from,3,s
+from,4,3
+from,5,3
+
+# a later piece
+path,4,1,1,4
+reach,1,4=
+path,3,4,1,2,2,1,4
+path,3,4,1,2,2,1,4
+
+# a later piece
+inside,1000001,0
+=
+bad,range,1
+
+# a new script
+geo,2
+=
+geo,2
+
+# a later piece
+inside,8388607,0
+=
+bad,no_polygon
+
+# a later piece
+polygon,0,0,4,0,4,2,2,2,2,4,0,4
+path,4,0,0,4
+=
+polygon,6
+path,3,4,0,2,2,0,4
+
+# a later piece
+path,0,0,8388608,0
+=
+bad,range,3
+
+# a new script
+geo,2
+polygon,0,0,5,0,0,5
+=
+geo,2
+polygon,3
+
+# a later piece
+kernel
+=
+kernel,3
+corner,0,0
+corner,5,0
+corner,0,5
+
+# a later piece
+inside,8388607,0
+=
+outside
+
+# a new script
+=
+
+# a later piece
+
+\r
+=
+
+# a later piece
+geo,2
+inside,1000001,0
+=
+geo,2
+bad,no_polygon
+
+# a later piece
+=
+
+# a new script
+inside,1,1
+=
+bad,no_polygon
+
+# a later piece
+geo,2
+=
+bad,word
+
+# a later piece
+inside,1000001,0
+=
+bad,range,1
+
+# a new script
+geo,2
+=
+geo,2
+
+# a later piece
+geo,2
+=
+bad,word
+
+# a later piece
+inside,1000001,0
+=
+bad,no_polygon
+
+# a new script
+geo,3
+=
+bad,word
+
+# a later piece
+geo,2
+=
+bad,word
+
+# a later piece
+polygon,0,0,4,0,4,2,2,2,2,4,0,4
+=
+polygon,6
+
+# a later piece
+reach,1,1
+=
+bad,no_tree
+
+# a later piece
+=
+";
+
+#[test]
+fn pieces(rt: HostRuntime) -> Result<(), Fail> {
+    assert!(rt; PIECES.split("\n# ").skip(1).count() == 26);
+    all_pieces::<Brand>(&rt, rt.alloc(), Blank::new(1))?;
+    Ok(())
+}
+
+// With a counter over a ledger that nobody else counts in.
+fn all_pieces<N: Ledger>(rt: &impl Abort, alloc: Global, blank: Blank) -> Result<(), Memory>
+    requires name { blank.name ≡ N.name }
+    requires parts { blank.parts ≡ N.parts }
+    requires countable { 0 < blank.parts }
+{
+    let mut steps = Steps::<N>::new(blank);
+    let mut dialog = Dialog::new(alloc);
+    for row in PIECES.split("\n# ").skip(1) {
+        let (name, piece, want) = parts(row).unwrap_or((row, "", "no answers"));
+        if name == "a new script" {
+            dialog = Dialog::new(alloc);
+        }
+        answered(&mut dialog, alloc, piece.as_bytes(), &mut steps)?;
+        assert!(rt; dialog.text() == want.as_bytes(), "{piece}");
+    }
+    Ok(())
+}
+
+// The piece is answered to its end.
+fn answered<N: Ledger>(
+    dialog: &mut Dialog,
+    alloc: Global,
+    piece: &[u8],
+    steps: &mut Steps<N>,
+) -> Result<(), Memory> {
+    dialog.answer(alloc, piece, steps).or(Err(Memory))
+}
+
+#[test]
+fn the_limit_of_a_piece(rt: HostRuntime) -> Result<(), Fail> {
+    too_long::<Brand>(&rt, rt.alloc(), Blank::new(1))?;
+    Ok(())
+}
+
+fn too_long<N: Ledger>(rt: &impl Abort, alloc: Global, blank: Blank) -> Result<(), Memory>
+    requires name { blank.name ≡ N.name }
+    requires parts { blank.parts ≡ N.parts }
+    requires countable { 0 < blank.parts }
+{
+    let mut steps = Steps::<N>::new(blank);
+    let mut dialog = Dialog::new(alloc);
+    answered(&mut dialog, alloc, b"kernel\n", &mut steps)?;
+    let longest = vec![in alloc; b'\n'; MAX_SCRIPT]?;
+    let longer = vec![in alloc; b'\n'; MAX_SCRIPT + 1]?;
+    assert!(rt; dialog.answer(alloc, &longer, &mut steps) == Err(Stop::TooLong));
+    assert!(rt; dialog.text() == b"bad,no_polygon\n".as_slice());
+    assert!(rt; dialog.answer(alloc, &longest, &mut steps) == Ok(()));
+    assert!(rt; dialog.text().is_empty());
+    Ok(())
+}
