@@ -8,35 +8,50 @@ use std::marker::Brand;
 use std::process::Abort;
 use std::sync::ledger::{Blank, Ledger};
 
-#[rattlefmt::skip]
-const REFUSALS: [(Bad, &str); 12] = [
-    (Bad::Word, "bad,word\n"),
-    (Bad::Fields, "bad,fields\n"),
-    (Bad::Few, "bad,few\n"),
-    (Bad::Many, "bad,many\n"),
-    (Bad::Number(1), "bad,number,1\n"),
-    (Bad::Range(32_768), "bad,range,32768\n"),
-    (Bad::Clash(0, 4_294_967_295), "bad,clash,0,4294967295\n"),
-    (Bad::NoPolygon, "bad,no_polygon\n"),
-    (Bad::NoTree, "bad,no_tree\n"),
-    (Bad::Outside(2), "bad,outside,2\n"),
-    (Bad::Index(1), "bad,index,1\n"),
-    (Bad::Large, "bad,large\n"),
+const REFUSALS: [Bad; 12] = [
+    Bad::Word,
+    Bad::Fields,
+    Bad::Few,
+    Bad::Many,
+    Bad::Number(1),
+    Bad::Range(32_768),
+    Bad::Clash(0, 4_294_967_295),
+    Bad::NoPolygon,
+    Bad::NoTree,
+    Bad::Outside(2),
+    Bad::Index(1),
+    Bad::Large,
 ];
+
+// The lines of these refusals, in turn.
+const LINES: &str = "\
+bad,word
+bad,fields
+bad,few
+bad,many
+bad,number,1
+bad,range,32768
+bad,clash,0,4294967295
+bad,no_polygon
+bad,no_tree
+bad,outside,2
+bad,index,1
+bad,large
+";
 
 #[test]
 fn refusals(rt: HostRuntime) {
-    for (bad, want) in REFUSALS {
-        assert!(rt; is_text(rt.alloc(), &bad, want) == Some(true), "{want}");
-    }
+    assert!(rt; are_lines(rt.alloc()) == Some(true));
     assert!(rt; is_put(rt.alloc()) == Some(true));
     assert!(rt; Points::of(Vec::new(rt.alloc())).as_slice().is_empty());
 }
 
-fn is_text(alloc: Global, bad: &Bad, want: &str) -> Option<bool> {
+fn are_lines(alloc: Global) -> Option<bool> {
     let mut out = Vec::new(alloc);
-    put_bad(&mut out, bad).ok()?;
-    Some(out.as_slice() == want.as_bytes())
+    for bad in &REFUSALS {
+        put_bad(&mut out, bad).ok()?;
+    }
+    Some(out.as_slice() == LINES.as_bytes())
 }
 
 fn is_put(alloc: Global) -> Option<bool> {
@@ -78,7 +93,10 @@ fn all_points<L: Ledger, R: Abort>(rt: &R, alloc: Global, blank: Blank)
 {
     let mut steps = Steps::<L>::new(blank);
     for row in POINTS.split('\n') {
-        assert!(rt; is_point_text(alloc, row, &mut steps) == Some(true), "{row}");
+        assert!(rt;
+            is_point_text(alloc, row, &mut steps) == Some(true),
+            "{row}"
+        );
     }
 }
 

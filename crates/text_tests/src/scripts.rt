@@ -673,7 +673,10 @@ fn all_scripts<L: Ledger, R: Abort>(rt: &R, alloc: Global, blank: Blank)
         }
     }
     for (name, script, want) in OTHERS {
-        assert!(rt; reads_as(alloc, script, want, &mut steps) == Some(true), "{name}");
+        assert!(rt;
+            reads_as(alloc, script, want, &mut steps) == Some(true),
+            "{name}"
+        );
     }
 }
 

@@ -2,7 +2,8 @@
 ghost use Rattle.std.specs.Prelude.{◌≤◌};
 
 use geo_io::{
-    Failed, MemorySink, MemorySource, ReadEnd, Sink, Source, SureSink, SureSource, read_all, write_all,
+    Failed, MemorySink, MemorySource, ReadEnd, Sink, Source, SureSink, SureSource, read_all,
+    write_all,
 };
 use std::alloc::Global;
 
@@ -12,7 +13,10 @@ const TEXT: &str = "abcdefg";
 #[test]
 fn reads_all_bytes_within_the_limit(rt: HostRuntime) {
     for (piece, limit) in [(1, 7), (3, 7), (7, 8), (100, 7)] {
-        assert!(rt; reads(rt.alloc(), piece, limit) == Some(true), "in pieces of {piece}");
+        assert!(rt;
+            reads(rt.alloc(), piece, limit) == Some(true),
+            "in pieces of {piece}"
+        );
     }
 }
 
@@ -43,7 +47,10 @@ fn stops_at_a_fault_and_past_the_limit(rt: HostRuntime) {
         (7, 9, 6, ReadEnd::TooLong, ""),
         (1, 9, 0, ReadEnd::TooLong, "bcdefg"),
     ] {
-        assert!(rt; stops(rt.alloc(), piece, failing, limit, end, left) == Some(true), "at {left}");
+        assert!(rt;
+            stops(rt.alloc(), piece, failing, limit, end, left) == Some(true),
+            "at {left}"
+        );
     }
 }
 
