@@ -1,0 +1,76 @@
+// The kernels of polygons.
+ghost use Rattle.std.specs.Prelude.{◌≡◌, ◌<◌};
+
+use crate::reading::{ring_of, row_of};
+use exact_plane::{Hom, Steps};
+use star_kernel::kernel;
+use std::alloc::Global;
+use std::marker::Brand;
+use std::process::Abort;
+use std::sync::ledger::{Blank, Ledger};
+
+// A polygon, and the corners of its kernel: X, Y and W of each, or multiples of them.
+const KERNELS: &str = "\
+an L | 0,0 4,0 4,2 2,2 2,4 0,4 | 0,0,1 2,0,1 2,2,1 0,2,1
+a U | 0,0 6,0 6,4 4,4 4,2 2,2 2,4 0,4 | 
+a Z, a segment | 0,0 2,0 2,1 4,1 4,2 1,2 1,1 0,1 | 1,1,1 2,1,1
+a segment at the end of another | 0,0 1,0 1,1 2,0 1,3 1,2 | 1,1,1 1,2,1
+a segment that is cut at an end | 1,1 0,0 1,0 2,2 3,3 1,2 0,3 | 1,1,1 3,3,2
+three blades, a point | 1,0 3,0 -1,1 -3,3 -1,-1 -3,-3 | 0,0,1
+a dart | 0,0 6,0 3,1 0,5 | 0,0,1 15,0,4 3,1,1 0,2,1
+a dart that is given clockwise | 0,5 3,1 6,0 0,0 | 0,0,1 15,0,4 3,1,1 0,2,1
+corners on a later line | 1,2 0,0 1,0 1,1 2,0 | 2,4,3 1,1,1 1,2,1
+a triangle from its last corner | 1,1 0,0 1,0 | 0,0,1 1,0,1 1,1,1
+a triangle from its least corner | 0,0 1,0 2,1 | 0,0,1 1,0,1 2,1,1
+a triangle from another corner | 1,0 0,1 0,0 | 0,0,1 1,0,1 0,1,1
+the square of the limit | -8388607,-8388607 8388607,-8388607 8388607,8388607 -8388607,8388607 | -8388607,-8388607,1 8388607,-8388607,1 8388607,8388607,1 -8388607,8388607,1
+half of it, clockwise | -8388607,-8388607 -8388607,8388607 8388607,8388607 | -8388607,-8388607,1 8388607,8388607,1 -8388607,8388607,1
+a dart in it | -8388607,-8388607 8388607,-8388607 0,-1 -8388607,8388607 | -8388607,-8388607,1 70368719011842,-70368735789056,8388608 0,-1,1 -8388607,8388605,1
+a square with flat vertices | 0,0 1,0 2,0 2,2 1,2 0,2 | 0,0,1 2,0,1 2,2,1 0,2,1";
+
+#[test]
+fn kernels(rt: HostRuntime) {
+    all_kernels::<Brand, _>(&rt, rt.alloc(), Blank::new(1));
+}
+
+// With a counter over a ledger that nobody else counts in.
+fn all_kernels<L: Ledger, R: Abort>(rt: &R, alloc: Global, blank: Blank)
+    requires name { blank.name ≡ L.name }
+    requires parts { blank.parts ≡ L.parts }
+    requires countable { 0 < blank.parts }
+{
+    let mut steps = Steps::<L>::new(blank);
+    for row in KERNELS.split('\n') {
+        assert!(rt; is_kernel(alloc, row, &mut steps) == Some(true), "{row}");
+    }
+}
+
+fn is_kernel<L: Ledger>(alloc: Global, row: &str, steps: &mut Steps<L>) -> Option<bool> {
+    let (_, list, want) = row_of(row)?;
+    let ring = ring_of(alloc, list, steps)?;
+    let corners = kernel(alloc, &ring, steps).ok()?;
+    are_same(corners.as_slice(), want, steps)
+}
+
+fn are_same<L: Ledger>(corners: &[Hom], want: &str, steps: &mut Steps<L>) -> Option<bool> {
+    let mut count = 0;
+    for numbers in want.split_whitespace() {
+        if !is_same(corners.get(count)?, numbers, steps)? {
+            return None;
+        }
+        count += 1;
+    }
+    Some(count == corners.len())
+}
+
+fn is_same<L: Ledger>(p: &Hom, numbers: &str, steps: &mut Steps<L>) -> Option<bool> {
+    let (x, rest) = numbers.split_once(',')?;
+    let (y, w) = rest.split_once(',')?;
+    let (x, y, w) = (number_of(x)?, number_of(y)?, number_of(w)?);
+    let (px, py, pw) = p.parts(steps);
+    Some(px.wrapping_mul(w) == x.wrapping_mul(pw) && py.wrapping_mul(w) == y.wrapping_mul(pw))
+}
+
+fn number_of(word: &str) -> Option<i128> {
+    word.parse().ok()
+}
