@@ -2,7 +2,5 @@
 #![tactic(auto)]
 
 mod frac;
-#[cfg(test)]
-mod tests;
 
 pub use frac::Frac;

@@ -3,8 +3,6 @@
 
 mod combs;
 mod laws;
-#[cfg(test)]
-mod tests;
 
 pub use combs::{MAX_TEETH, comb, comb_goal, comb_start};
 pub use laws::comb_ring;

@@ -9,8 +9,6 @@ mod std_sink;
 mod std_source;
 mod sure_sink;
 mod sure_source;
-#[cfg(test)]
-mod tests;
 
 pub use memory_sink::MemorySink;
 pub use memory_source::MemorySource;

@@ -16,10 +16,3 @@ pub use limits::Limits;
 pub use points::Points;
 pub use put::{put_bad, put_hom, put_index, put_line_end, put_pt, put_word};
 pub use script::Script;
-
-#[cfg(test)]
-mod script_tests;
-#[cfg(test)]
-mod test_readings;
-#[cfg(test)]
-mod tests;

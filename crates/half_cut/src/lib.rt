@@ -6,8 +6,6 @@ mod cut;
 mod least;
 mod region;
 mod tail;
-#[cfg(test)]
-mod tests;
 
 pub use cut::CutFault;
 pub use region::Region;

@@ -6,8 +6,6 @@ mod crossing;
 mod level;
 mod position;
 mod segment;
-#[cfg(test)]
-mod tests;
 
 pub use position::{Position, place, place_hom};
 pub use segment::holds_segment;

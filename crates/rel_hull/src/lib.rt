@@ -6,8 +6,6 @@ mod hull;
 mod laws;
 mod rounds;
 mod table;
-#[cfg(test)]
-mod tests;
 
 pub use comparison::path_turn;
 pub use hull::sides;

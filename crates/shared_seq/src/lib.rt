@@ -3,8 +3,6 @@
 
 mod node;
 mod seq;
-#[cfg(test)]
-mod tests;
 mod tree;
 
 pub use seq::SharedSeq;

@@ -2,7 +2,5 @@
 #![tactic(auto)]
 
 mod half_planes;
-#[cfg(test)]
-mod tests;
 
 pub use half_planes::kernel;

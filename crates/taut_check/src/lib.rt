@@ -3,8 +3,6 @@
 
 mod bend;
 mod chain;
-#[cfg(test)]
-mod tests;
 mod verdict;
 
 pub use verdict::{Verdict, check};

@@ -1,4 +1,0 @@
-use Rattle.geo_gen.proofs.tests.combs.Given as goal
-
-abbrev pub ghosts-all_combs : goal.ghosts-all_combs
-ghosts-all_combs g a = record { name = a.blank.name; parts = a.blank.parts }

@@ -1,4 +1,0 @@
-use Rattle.geo_text.proofs.script_tests.long_scripts.Given as goal
-
-abbrev pub ghosts-readings : goal.ghosts-readings
-ghosts-readings g a = record { name = a.blank.name; parts = a.blank.parts }

@@ -1,4 +1,0 @@
-use Rattle.rel_hull.proofs.tests.path_turns.Given as goal
-
-abbrev pub ghosts-all_turns : goal.ghosts-all_turns
-ghosts-all_turns g a = record { name = a.blank.name; parts = a.blank.parts }

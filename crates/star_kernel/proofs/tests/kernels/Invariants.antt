@@ -1,4 +1,0 @@
-use Rattle.star_kernel.proofs.tests.kernels.Given as goal
-
-abbrev pub ghosts-all_kernels : goal.ghosts-all_kernels
-ghosts-all_kernels g a = record { name = a.blank.name; parts = a.blank.parts }
