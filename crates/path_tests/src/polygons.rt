@@ -17,18 +17,7 @@ pub(crate) type At = (i64, i64);
 
 const POLYGONS: &str = "triangle: 0,0 1,0 0,1
 L: 0,0 4,0 4,2 2,2 2,4 0,4
-L clockwise: 0,0 0,4 2,4 2,2 4,2 4,0
-U: 0,0 6,0 6,4 4,4 4,2 2,2 2,4 0,4
-Z: 0,0 2,0 2,1 4,1 4,2 1,2 1,1 0,1
-gate: 0,0 2,0 3,2 4,0 9,0 9,4 7,4 6,2 5,4 0,4
-flat: 0,0 2,0 4,0 6,0 6,4 0,4
-bend: 0,0 12,0 12,8 8,8 8,4 4,4 4,8 0,8 0,7 2,6 0,5
-bend clockwise: 0,0 0,5 2,6 0,7 0,8 4,8 4,4 8,4 8,8 12,8 12,0
-tips: 0,0 1,0 2,2 3,0 4,2 5,0 6,2 7,0 8,0 8,4 0,4
-three: 0,0 3,0 3,1 4,0 12,0 12,8 11,8 10,6 9,8 8,8 8,4 6,4 4,4 4,8 0,8 0,7 2,6 0,5
-fan: 0,0 4,0 5,2 6,0 10,0 10,4 8,5 6,6 4,6 2,5 0,4
-wide: -8388607,-8388607 0,-8388607 8388607,-8388607 8388607,8388607 -8388607,8388607
-slant: 0,0 2,-2 3,2 5,-1 8,-1 9,6 11,-1 13,8 13,12 7,12 6,4 5,12 0,12";
+U: 0,0 6,0 6,4 4,4 4,2 2,2 2,4 0,4";
 
 // The ring of the polygon with this name.
 pub(crate) fn ring_named<L: Ledger, R: Abort>(
@@ -42,7 +31,7 @@ pub(crate) fn ring_named<L: Ledger, R: Abort>(
 }
 
 // The polygon with this name.
-pub(crate) fn polygon<R: Abort>(rt: &R, alloc: Global, name: &str) -> Result<Vec<At>, Memory> {
+fn polygon<R: Abort>(rt: &R, alloc: Global, name: &str) -> Result<Vec<At>, Memory> {
     for row in POLYGONS.split("\n") {
         let (first, vertices) = row.split_once(": ").expect(rt, "a name");
         if first == name {
@@ -53,7 +42,7 @@ pub(crate) fn polygon<R: Abort>(rt: &R, alloc: Global, name: &str) -> Result<Vec
 }
 
 // The points of a text.
-pub(crate) fn ats_of<R: Abort>(rt: &R, alloc: Global, text: &str) -> Result<Vec<At>, Memory> {
+fn ats_of<R: Abort>(rt: &R, alloc: Global, text: &str) -> Result<Vec<At>, Memory> {
     let mut list = Vec::new(alloc);
     for point in text.split(" ") {
         let (x, y) = point.split_once(",").expect(rt, "two numbers");
@@ -79,7 +68,7 @@ pub(crate) fn ring_of<L: Ledger, R: Abort>(
     Ok(Ring::of(points, steps).ok().expect(rt, "a ring"))
 }
 
-pub(crate) fn points_of<R: Abort>(rt: &R, alloc: Global, list: &[At]) -> Result<Vec<Pt>, Memory>
+fn points_of<R: Abort>(rt: &R, alloc: Global, list: &[At]) -> Result<Vec<Pt>, Memory>
     ensures { IfOk result (λ points. points.items ≡ map point_of list.now) }
 {
     let mut points = Vec::new(alloc);
