@@ -11,7 +11,7 @@ use Rattle.plane.specs.Order.{IsBefore, Precedes}
 use Rattle.plane.specs.Point.{Point, whole}
 use Rattle.rings.proofs.Sweeps.{precedes_later}
 use Rattle.rings.specs.Ring.{vertex}
-use Rattle.mono_fill.specs.Monotone.{AreRanks, IsMonotone, Rises}
+use Rattle.mono_fill.specs.Monotone.{AreRanks, Rises}
 use Rattle.mesh_tests.specs.Pieces.{IsPieceRow}
 use Rattle.mesh_tests.specs.Rows.{point_of}
 
