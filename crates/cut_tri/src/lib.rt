@@ -4,8 +4,6 @@
 mod cut;
 mod farthest;
 mod laws;
-#[cfg(test)]
-mod tests;
 mod triangulation;
 
 pub use laws::one_cut;

@@ -5,8 +5,6 @@ mod board;
 mod laws;
 mod location;
 mod sleeves;
-#[cfg(test)]
-mod tests;
 mod touching;
 mod walk;
 

@@ -2,8 +2,6 @@
 #![tactic(auto)]
 
 mod along;
-#[cfg(test)]
-mod full_chains;
 mod grown;
 mod held;
 mod hull;
@@ -13,8 +11,6 @@ mod pairs;
 mod parts;
 mod rounds;
 mod session;
-#[cfg(test)]
-mod tests;
 
 pub use laws::{one_answer, one_output};
 pub use session::Session;

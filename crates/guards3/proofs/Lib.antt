@@ -8,4 +8,3 @@ mod GivenNumbers
 mod Choice
 mod Watched
 pub mod OneGuards
-mod KnownRows

@@ -1,4 +1,3 @@
 pub mod Guards
 pub mod Parting
-pub mod Rows
 pub mod Tally

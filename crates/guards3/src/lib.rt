@@ -6,8 +6,6 @@ mod laws;
 mod members;
 mod parting;
 mod tally;
-#[cfg(test)]
-mod tests;
 
 pub use guarding::guards;
 pub use laws::{one_guards, one_parting};

@@ -48,7 +48,7 @@ pub fn fill<T: Turns, L: Ledger>(
 }
 
 // Appends the triangles; some of them, where memory is refused.
-pub(crate) fn append<T: Turns, L: Ledger>(
+fn append<T: Turns, L: Ledger>(
     alloc: Global,
     board: &T,
     rank: &[u32],

@@ -5,7 +5,5 @@ mod chains;
 mod filling;
 mod side;
 mod stack;
-#[cfg(test)]
-mod tests;
 
 pub use filling::fill;

@@ -5,8 +5,6 @@ mod climb;
 mod laws;
 mod rows;
 mod table;
-#[cfg(test)]
-mod tests;
 
 pub use laws::one_sights;
 pub use rows::triangle_at;

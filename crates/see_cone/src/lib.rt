@@ -5,8 +5,6 @@ mod cone;
 mod cones;
 mod part;
 mod places;
-#[cfg(test)]
-mod tests;
 mod view;
 
 pub use part::Part;

@@ -5,8 +5,6 @@ mod event;
 mod gap;
 mod order;
 mod status;
-#[cfg(test)]
-mod tests;
 mod triangulation;
 
 pub use order::lexical;

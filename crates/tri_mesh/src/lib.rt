@@ -6,8 +6,6 @@ mod outward;
 mod search;
 mod sides;
 mod sleeve;
-#[cfg(test)]
-mod tests;
 
 pub use mesh::Mesh;
 pub use outward::{Outward, Rooted};

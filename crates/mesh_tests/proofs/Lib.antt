@@ -1,0 +1,2 @@
+mod KnownPieces
+pub mod KnownRows

@@ -1,0 +1,190 @@
+// Polygons and their triangles.
+ghost use Rattle.std.specs.Prelude.{◌≡◌, IfOk, map};
+ghost use Rattle.ring_check.specs.Oriented.{oriented};
+ghost use Rattle.mesh_tests.specs.Rows.{point_of};
+
+use exact_plane::{Memory, Pt, Steps};
+use meshes::Tri;
+use ring_check::Ring;
+use std::alloc::Global;
+use std::process::Abort;
+use std::sync::ledger::Ledger;
+
+pub(crate) type At = (i64, i64);
+
+// For each polygon its name, its vertices, and twice its area.
+pub(crate) const POLYGONS: &str = "an L
+0,0 4,0 4,2 2,2 2,4 0,4
+24
+
+a flat vertex
+0,0 2,0 4,0 0,4
+16
+
+a triangle
+0,0 8388607,-8388607 -8388607,8388606
+8388607
+
+flat sides
+0,0 1,0 2,0 3,0 3,1 3,2 3,3 2,3 1,3 0,3 0,2 0,1
+18
+
+a comb
+0,0 10,0 10,6 9,1 8,6 7,1 6,6 5,1 4,6 3,1 2,6 1,1 0,6
+70
+
+a comb from the left, clockwise
+0,0 0,1 6,1 0,2 6,2 0,3 6,3 7,0
+27
+
+a spiral
+0,0 7,0 7,7 1,7 1,2 5,2 5,5 3,5 3,4 4,4 4,3 2,3 2,6 6,6 6,1 0,1
+56
+
+spikes
+0,0 8388607,1 1,1 8388607,8388607 1,2 1,8388607 0,2 -8388607,8388607 -1,1 -8388607,-8388606
+58720247
+
+a row on the way from the least vertex
+0,0 9,-3 3,0 2,0 9,3
+15
+
+vertices as far as one another
+0,0 8,-8 5,-2 4,0 5,2 8,8
+64
+
+a vertex on the base
+0,0 4,-4 4,0 4,4
+32
+
+two vertices on the base
+0,0 4,-4 4,-1 4,1 4,4
+32
+
+flat and reflex vertices
+0,0 2,0 4,0 4,4 3,1 2,1 1,1 0,4 0,2
+14
+
+a merge vertex
+0,0 6,0 6,6 0,6 0,4 3,4 3,2 0,2
+60
+
+a split vertex
+0,0 6,0 6,2 3,2 3,4 6,4 6,6 0,6
+60
+
+a triangle with a flat vertex
+0,0 2,0 4,0 4,4
+16
+
+vertices over one another
+0,0 1,1 1,0 2,0 1,2
+3
+
+flat vertices side by side
+0,0 1,0 0,2 0,1
+2
+
+an edge that begins early
+0,0 3,0 2,2 2,3 1,1
+7
+
+two regions that end together
+0,0 2,1 0,2 1,1
+2
+
+a split beside a merge vertex
+0,0 1,1 1,0 2,0 1,2 1,3
+4
+
+a merge beside a merge vertex
+0,0 1,1 1,0 2,2 0,3 1,2
+4";
+
+// A row of the table: its name, its ring, and twice its area.
+pub(crate) fn row_of<'a, L: Ledger, R: Abort>(
+    rt: &R,
+    alloc: Global,
+    row: &'a str,
+    steps: &mut Steps<L>,
+) -> Result<(&'a str, Ring, i64), Memory> {
+    let (name, rest) = row.split_once("\n").expect(rt, "a name");
+    let (vertices, area) = rest.split_once("\n").expect(rt, "vertices");
+    let ring = ring_of(rt, alloc, &ats_of(rt, alloc, vertices)?, steps)?;
+    Ok((name, ring, number(rt, area)))
+}
+
+fn ats_of<R: Abort>(rt: &R, alloc: Global, text: &str) -> Result<Vec<At>, Memory> {
+    let mut list = Vec::new(alloc);
+    for point in text.split(" ") {
+        let (x, y) = point.split_once(",").expect(rt, "two numbers");
+        list.push((number(rt, x), number(rt, y)))?;
+    }
+    Ok(list)
+}
+
+fn number<R: Abort>(rt: &R, text: &str) -> i64 {
+    text.parse::<i64>().ok().expect(rt, "a number")
+}
+
+// The ring of this list.
+pub(crate) fn ring_of<L: Ledger, R: Abort>(
+    rt: &R,
+    alloc: Global,
+    list: &[At],
+    steps: &mut Steps<L>,
+) -> Result<Ring, Memory>
+    ensures { IfOk result (λ ring. ring ≡ oriented (map point_of list.now)) }
+{
+    let points = points_of(rt, alloc, list)?;
+    Ok(Ring::of(points, steps).ok().expect(rt, "a ring"))
+}
+
+pub(crate) fn points_of<R: Abort>(rt: &R, alloc: Global, list: &[At]) -> Result<Vec<Pt>, Memory>
+    ensures { IfOk result (λ points. points.items ≡ map point_of list.now) }
+{
+    let mut points = Vec::new(alloc);
+    for (x, y) in list {
+        points.push(Pt::of(*x, *y).expect(rt, "within the limit"))?;
+    }
+    Ok(points)
+}
+
+// The vertices of a ring, by its numbers.
+pub(crate) fn vertices_of<L: Ledger>(
+    alloc: Global,
+    ring: &Ring,
+    steps: &mut Steps<L>,
+) -> Result<Vec<At>, Memory> {
+    let mut list = Vec::new(alloc);
+    for i in 0..ring.len() {
+        list.push(ring.corner(i).parts(steps))?;
+    }
+    Ok(list)
+}
+
+// Twice the area of all triangles together, each of them counterclockwise.
+pub(crate) fn area_of<R: Abort>(rt: &R, list: &[At], tris: &[Tri]) -> i64 {
+    let mut sum: i64 = 0;
+    for tri in tris {
+        let area = doubled_area(
+            corner(rt, list, tri.a),
+            corner(rt, list, tri.b),
+            corner(rt, list, tri.c),
+        );
+        assert!(rt; area > 0, "{tri:?} is counterclockwise");
+        sum = sum.wrapping_add(area);
+    }
+    sum
+}
+
+fn doubled_area(a: At, b: At, c: At) -> i64 {
+    let (p_x, p_y) = (b.0.wrapping_sub(a.0), b.1.wrapping_sub(a.1));
+    let (q_x, q_y) = (c.0.wrapping_sub(a.0), c.1.wrapping_sub(a.1));
+    p_x.wrapping_mul(q_y).wrapping_sub(p_y.wrapping_mul(q_x))
+}
+
+fn corner<R: Abort>(rt: &R, list: &[At], i: u32) -> At {
+    assert!(rt; (i as usize) < list.len());
+    list[i as usize]
+}

@@ -1,4 +1,0 @@
-use Rattle.mono_fill.proofs.tests.fillings.Given as goal
-
-abbrev pub ghosts-all_pieces : goal.ghosts-all_pieces
-ghosts-all_pieces g a = record { name = a.blank.name; parts = a.blank.parts }

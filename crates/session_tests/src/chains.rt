@@ -1,0 +1,123 @@
+// Paths in polygons that a session holds, as each version tells them.
+ghost use Rattle.std.specs.Prelude.{◌≡◌, ◌<◌};
+
+use crate::full_chains::FULL_CHAINS;
+use crate::polygons::{At, at, ats_of, points_of, polygon};
+use exact_plane::{Memory, Pt, Steps};
+use geo_session::Session;
+use geo_text::{Command, Points};
+use plane::MAX_CORNERS;
+use std::alloc::Global;
+use std::marker::Brand;
+use std::process::Abort;
+use std::sync::ledger::{Blank, Ledger};
+use std::test::Fail;
+
+// In each row a name, a polygon, and the path between the first point and the last.
+const CHAINS: &str = "round a corner: L: 4,1 2,2 1,4
+and back: L: 1,4 2,2 4,1
+to the corner: L: 4,1 2,2
+from the corner: L: 2,2 1,4
+nowhere: L: 1,1
+in one triangle: L: 3,1 4,1
+along an edge: L: 0,0 4,0
+round two corners: U: 6,4 4,2 2,2 0,4";
+
+#[test]
+fn paths(rt: HostRuntime) -> Result<(), Fail> {
+    all_chains::<Brand, _>(&rt, rt.alloc(), Blank::new(1))?;
+    Ok(())
+}
+
+// With a counter over a ledger that nobody else counts in.
+fn all_chains<N: Ledger, R: Abort>(rt: &R, alloc: Global, blank: Blank) -> Result<(), Memory>
+    requires name { blank.name ≡ N.name }
+    requires parts { blank.parts ≡ N.parts }
+    requires countable { 0 < blank.parts }
+{
+    let mut steps = Steps::<N>::new(blank);
+    tells(rt, alloc, false, CHAINS, &mut steps)?;
+    tells(rt, alloc, true, FULL_CHAINS, &mut steps)
+}
+
+// In version 2 of the script, or in version 1, each row of a table is told.
+fn tells<N: Ledger, R: Abort>(
+    rt: &R,
+    alloc: Global,
+    two: bool,
+    table: &str,
+    steps: &mut Steps<N>,
+) -> Result<(), Memory> {
+    for row in table.split("\n") {
+        let (name, rest) = row.split_once(": ").expect(rt, "a name");
+        assert!(rt; is_told(rt, alloc, two, rest, steps)?, "{name}");
+    }
+    Ok(())
+}
+
+fn is_told<N: Ledger, R: Abort>(
+    rt: &R,
+    alloc: Global,
+    two: bool,
+    row: &str,
+    steps: &mut Steps<N>,
+) -> Result<bool, Memory> {
+    let (name, chain) = row.split_once(": ").expect(rt, "a polygon");
+    let session = session_in(rt, alloc, two, name, steps)?;
+    let want = ats_of(rt, alloc, chain)?;
+    let found = told(rt, alloc, &session, &want, steps)?;
+    Ok(parts_of(alloc, &found, steps)?.as_slice() == want.as_slice())
+}
+
+// A session of this version that holds the polygon with this name.
+fn session_in<N: Ledger, R: Abort>(
+    rt: &R,
+    alloc: Global,
+    two: bool,
+    name: &str,
+    steps: &mut Steps<N>,
+) -> Result<Session, Memory> {
+    let list = polygon(rt, alloc, name)?;
+    let points = points_of(rt, alloc, &list)?;
+    assert!(rt; points.len() >= 3);
+    assert!(rt; points.len() <= MAX_CORNERS);
+    let mut out = Vec::new(alloc);
+    let mut session = Session::new();
+    if two {
+        session.answer(alloc, Command::Two, &mut out, steps)?;
+    }
+    session.answer(alloc, Command::Polygon(Points::of(points)), &mut out, steps)?;
+    assert!(rt; session.is_two() == two);
+    Ok(session)
+}
+
+// What is told of the path between the ends of a list of points.
+fn told<N: Ledger, R: Abort>(
+    rt: &R,
+    alloc: Global,
+    session: &Session,
+    ends: &[At],
+    steps: &mut Steps<N>,
+) -> Result<Vec<Pt>, Memory> {
+    let first = ends.first().expect(rt, "a start");
+    let last = ends.last().expect(rt, "a goal");
+    let (from, to) = (at(rt, first.0, first.1), at(rt, last.0, last.1));
+    let found = if session.is_two() {
+        session.path(alloc, &from, &to, steps)?
+    } else {
+        session.chain(alloc, &from, &to, steps)?
+    };
+    Ok(found.ok().expect(rt, "both in the polygon"))
+}
+
+fn parts_of<N: Ledger>(
+    alloc: Global,
+    points: &[Pt],
+    steps: &mut Steps<N>,
+) -> Result<Vec<At>, Memory> {
+    let mut parts = Vec::new(alloc);
+    for point in points {
+        parts.push(point.parts(steps))?;
+    }
+    Ok(parts)
+}
