@@ -32,6 +32,9 @@ mod OneHull
 mod OneRound
 mod OneNumbers
 mod OneSights
+mod PacedAnswers
+mod SightAnswers
+mod ReachWords
 mod RoundPlaces
 mod Guarded
 mod GivenSides
