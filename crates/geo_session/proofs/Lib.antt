@@ -34,6 +34,7 @@ mod OneNumbers
 mod OneSights
 mod PacedAnswers
 mod SightAnswers
+mod PathLines
 mod ReachWords
 mod RoundPlaces
 mod Guarded
