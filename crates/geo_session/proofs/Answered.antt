@@ -7,10 +7,11 @@ use Rattle.rings.specs.Simple.{IsLeastClash, IsSimple}
 use Rattle.geo_text.specs.Texts.{bad_text}
 use Rattle.geo_text.specs.declared.command.Bad.{Bad}
 use Rattle.geo_text.specs.declared.command.Bad.TheVariants as bad
+use Rattle.geo_text.specs.declared.command.Command.{Command}
 use Rattle.geo_text.specs.declared.command.Command.TheVariants as command
 use Rattle.inside_test.specs.declared.position.Position.{Position}
 use Rattle.geo_session.proofs.Places.{placed_text}
-use Rattle.geo_session.specs.Answer.{AppendsAnswer, IsInsideText, IsReachIn, IsReachText, Kept, State, found, goal_outside, path_text, polygon_text, reached}
+use Rattle.geo_session.specs.Answer.{AppendsAnswer, IsAnswer, IsInsideText, IsReachIn, IsReachText, Kept, State, found, goal_outside, path_text, polygon_text, reached}
 use Rattle.geo_session.specs.Path.{IsReachAnswer, IsReachedIn, IsShownAnswer}
 use Rattle.geo_session.specs.Place.{IsPlaceAnswer, place_text}
 
@@ -23,6 +24,11 @@ under_ok (Err e) f h = tt
 under_both : {T E : Type 0} {P Q R : Type 0} (r : Result T E) → (P → Q → R) → OnOk r P → OnOk r Q → OnOk r R
 under_both (Ok x) f h k = f h k
 under_both (Err e) f h k = tt
+
+-- such a text is the answer that was appended
+pub told : {E : Type 0} (before : State) (asked : Command) (text : List ℕ) (after : State) (out out' : List ℕ) (put : Result (Unit {0}) E)
+    → IsAnswer before asked text after → OnOk put (out' ≡ out ++ text) → OnOk put (AppendsAnswer before asked out out' after)
+told before asked text after out out' put answer = under_ok put (λ written. record { text = text; answer = answer; appended = written })
 
 -- the state with this polygon and this source of a tree
 abbrev pub holding : Bool → List Point → Option Point → State

@@ -1,7 +1,7 @@
 -- Texts that begin as before.
-use Rattle.std.proofs.Common.{◌≡◌, ◌∙◌, sym, ap, ℕ, List, ◌++◌, length, take, drop, Result, Ok, Err, arith}
-use Rattle.std.specs.Prelude.{OnErr}
-use Rattle.std.proofs.Math.Seq.{take-append_seam}
+use Rattle.std.proofs.Common.{◌≡◌, ◌∙◌, sym, ap, append_assoc, ℕ, List, ◌++◌, length, take, drop, Result, Ok, Err, arith}
+use Rattle.std.specs.Prelude.{OnErr, OnOk}
+use Rattle.std.proofs.Math.Seq.{take-append_seam, take-length}
 use Rattle.std.proofs.lemmas.List.{length-append, take-append-drop, take-append-le}
 
 -- what begins with an appended text begins as the text before
@@ -23,3 +23,31 @@ front_after (Err e) old more out new appended front = front_of old more out new 
 pub front_kept : {T E : Type 0} (r : Result T E) (old more out : List ℕ) → out ≡ old ++ more → OnErr r (take (length old) out ≡ old)
 front_kept (Ok x) old more out appended = tt
 front_kept (Err e) old more out appended = ap (take (length old)) appended ∙ take-append_seam old more
+
+-- after a fault that left the text as it was
+pub front_same : {T E : Type 0} (r : Result T E) (old out : List ℕ) → out ≡ old → OnErr r (take (length old) out ≡ old)
+front_same (Ok x) old out same = tt
+front_same (Err e) old out same = ap (take (length old)) same ∙ take-length old
+
+-- or may have left it so
+pub front_fault : {T E : Type 0} (r : Result T E) (old more mid out : List ℕ) → mid ≡ old ++ more → OnErr r (out ≡ mid)
+    → OnErr r (take (length old) out ≡ old)
+front_fault (Ok x) old more mid out appended same = tt
+front_fault (Err e) old more mid out appended same = ap (take (length old)) (same ∙ appended) ∙ take-append_seam old more
+
+-- what was appended to an appended text
+pub then_written : (old a mid b out : List ℕ) → mid ≡ old ++ a → out ≡ mid ++ b → out ≡ old ++ (a ++ b)
+then_written old a mid b out first second = second ∙ ap (λ t. t ++ b) first ∙ append_assoc old a b
+
+-- what holds anyway holds under an Err, and under an Ok
+pub err_since : {T E P : Type 0} (r : Result T E) → P → OnErr r P
+err_since (Ok x) h = tt
+err_since (Err e) h = h
+
+pub ok_since : {T E P : Type 0} (r : Result T E) → P → OnOk r P
+ok_since (Ok x) h = h
+ok_since (Err e) h = tt
+
+pub front_same_under : {T E : Type 0} (r : Result T E) (old out : List ℕ) → OnErr r (out ≡ old) → OnErr r (take (length old) out ≡ old)
+front_same_under (Ok x) old out same = tt
+front_same_under (Err e) old out same = ap (take (length old)) same ∙ take-length old

@@ -32,6 +32,10 @@ mod OneHull
 mod OneRound
 mod OneNumbers
 mod OneSights
+mod PacedAnswers
+mod SightAnswers
+mod PathLines
+mod ReachWords
 mod RoundPlaces
 mod Guarded
 mod GivenSides

@@ -1,5 +1,5 @@
 -- The answer to a pair of vertices, and its steps, as the code writes them.
-use Rattle.std.proofs.Common.{◌≡◌, inl, inr, refl, Bool, true, false, if◌then◌else◌, ℕ, ℤ, ◌+◌, ◌*◌, ◌≤◌, List, ◌++◌, length, Result, Ok, Err, arith}
+use Rattle.std.proofs.Common.{◌≡◌, inl, inr, refl, Bool, true, false, if◌then◌else◌, ℕ, ℤ, ◌+◌, ◌*◌, ◌≤◌, List, [], ◌++◌, length, Result, Ok, Err, arith}
 use Rattle.std.specs.Prelude.{OnOk, Option, Some}
 use Rattle.plane.specs.Point.{Point}
 use Rattle.rings.specs.Ring.{vertex}
@@ -8,10 +8,11 @@ use Rattle.geo_text.specs.Texts.{bad_text}
 use Rattle.geo_text.specs.declared.command.Bad.{Bad}
 use Rattle.geo_text.specs.declared.command.Command.TheVariants as command
 use Rattle.geo_session.proofs.Answered.{holding, under_ok}
+use Rattle.geo_session.proofs.Fronts.{ok_since}
 use Rattle.geo_session.proofs.GivenSize.{seen_of, size_held}
 use Rattle.geo_session.specs.Answer.{AppendsAnswer, IsPairIn, first_off, joined, path_text, second_off, too_many}
 use Rattle.geo_session.specs.Asked.{AreAsked}
-use Rattle.geo_session.specs.Path.{TakesPathSteps, size_of}
+use Rattle.geo_session.specs.Path.{TakesPathSteps, path_pace, reach_pace, size_of}
 use Rattle.geo_session.specs.Prepared.{TellsPair, pair_pace, table_steps}
 use Rattle.geo_session.specs.Session.{kept_of}
 use Rattle.geo_session.specs.Shown.{IsShownPath}
@@ -66,3 +67,28 @@ module _ (two : Bool) (held : HeldRing) (start told done count : ℕ) where
       made ≤ start + 200 * (n * n) * (b * b) → told ≤ made + (if two then 20 else 0) * n → done ≤ told + 64 * count
       → done ≤ start + (table_steps (seen_of two (Some held)) + pair_pace two * size_of (kept_of (Some held))) + 64 * count
   new_pair_room none made making few more = rw (none, size_held held) (omega (arith, making, few, more))
+
+-- where none is, steps are taken for none
+pub none_written : {E : Type 0} (put : Result (Unit {0}) E) (most : ℕ) (out out' : List ℕ) (steps steps' : ℕ) → steps' ≤ steps + most
+    → OnOk put (TakesPathSteps most out out' steps steps')
+none_written put most out out' steps steps' few = ok_since put (record { points = []; printed = inr refl; bound = omega (arith, few) })
+
+-- telling a path and writing it takes as many steps as a record may
+pub path_room : (two : Bool) (n start told done count : ℕ) → told ≤ start + (if two then 30 else 10) * n → done ≤ told + 64 * count
+    → done ≤ start + path_pace two * n + 64 * count
+path_room true n start told done count few more = omega (arith, few, more)
+path_room false n start told done count few more = omega (arith, few, more)
+
+pub path_room_alone : (two : Bool) (n start told : ℕ) → told ≤ start + (if two then 30 else 10) * n → told ≤ start + path_pace two * n
+path_room_alone true n start told few = omega (arith, few)
+path_room_alone false n start told few = omega (arith, few)
+
+pub reach_room : (two : Bool) (n more start told done count : ℕ) → told ≤ start + ((if two then 23 else 3) * n + more) → done ≤ told + 64 * count
+    → done ≤ start + (reach_pace two * n + more) + 64 * count
+reach_room true n more start told done count few written = omega (arith, few, written)
+reach_room false n more start told done count few written = omega (arith, few, written)
+
+pub reach_room_alone : (two : Bool) (n more start told : ℕ) → told ≤ start + ((if two then 23 else 3) * n + more)
+    → told ≤ start + (reach_pace two * n + more)
+reach_room_alone true n more start told few = omega (arith, few)
+reach_room_alone false n more start told few = omega (arith, few)

@@ -6,6 +6,7 @@ pub mod Span
 pub mod Laws
 pub mod Numbers
 pub mod Output
+pub mod Paced
 pub mod Pairs
 pub mod Session
 pub mod Shown

@@ -6,6 +6,7 @@ ghost use Rattle.geo_text.specs.Reading.{IsWellSized};
 ghost use Rattle.shared_seq.specs.Digits.{binary_digits};
 ghost use Rattle.ring_check.specs.Oriented.{given_of};
 ghost use Rattle.geo_session.specs.Answer.{AppendsAnswer, polygon_text};
+ghost use Rattle.geo_session.specs.Paced.{IsPaced};
 ghost use Rattle.geo_session.specs.Path.{IsChainAnswer, IsReachAnswer, IsShownAnswer, TakesPathSteps, path_pace, reach_pace, size_of};
 ghost use Rattle.geo_session.specs.Place.{IsPlaceAnswer};
 ghost use Rattle.geo_session.specs.Prepared.{IsDroppedBy, IsPreparedAfter, IsPreparedBy, TellsAllPairs, TellsPair, first_seen, pair_pace, table_steps};
@@ -205,6 +206,24 @@ impl Session {
         ensures pair_steps { (i j : ℤ) → command ≡ Command.Pair i j → let n = size_of self.old.state.kept in
             OnOk result (TakesPathSteps (table_steps self.old + pair_pace self.old.state.two * n) out.old.items out.new.items steps.old steps.new) }
         ensures sights_steps { command ≡ Command.Sights → steps.new ≤ steps.old + table_steps self.old }
+    {
+        self.put_asked(alloc, command, out, steps)
+    }
+
+    // The same, with the bounds on steps as one clause.
+    fn put_asked<L: Ledger>(
+        &mut self,
+        alloc: Global,
+        command: Command,
+        out: &mut Vec<u8>,
+        steps: &mut Steps<L>,
+    ) -> Result<(), Memory>
+        requires { IsWellSized command }
+        ensures ok { OnOk result (AppendsAnswer self.old.state command out.old.items out.new.items self.new.state) }
+        ensures prepared { OnOk result (IsPreparedAfter self.old.state.kept command self.old.prepared self.new.prepared) }
+        ensures same_session { OnErr result (self.new ≡ self.old) }
+        ensures front { OnErr result (take (length out.old.items) out.new.items ≡ out.old.items) }
+        ensures paced { IsPaced self.old command result out.old.items out.new.items steps.old steps.new }
     {
         match command {
             Command::Two => self.answer_two(out),

@@ -32,3 +32,9 @@ returns-clause-path g c =
       c.new-on_the_way.ensures.start,
       c.new-on_the_way.ensures.goal,
     ) (rw c.in_ok-names.ensures.items at on)
+
+pub returns-clause-steps : goal.returns-clause-steps
+returns-clause-steps g c = rw c.new-board.ensures.corners at c.in-Some.ensures.steps
+
+pub returns-in_default-clause-steps : goal.returns-in_default-clause-steps
+returns-in_default-clause-steps g c = rw c.new-board.ensures.corners at c.in_default.ensures.steps

@@ -1,0 +1,30 @@
+use Rattle.std.proofs.Common.{◌∙◌}
+use Rattle.geo_session.proofs.Fronts.{front_fault, front_kept, front_same, then_written}
+use Rattle.geo_session.proofs.hull.put_side.Goals as goal
+
+pub returns-in_err-put_word-clause-front : goal.returns-in_err-put_word-clause-front
+returns-in_err-put_word-clause-front g c =
+    front_same _ c.args.out.now.items c.put_word.new.out.items c.in_err-put_word.ensures.err
+
+pub returns-in_err-put_index-clause-front : goal.returns-in_err-put_index-clause-front
+returns-in_err-put_index-clause-front g c =
+    front_kept _ c.args.out.now.items _ c.put_index.new.out.items (c.in_err-put_index.ensures.err ∙ c.in_ok-put_word.ensures.ok)
+
+pub returns-in_err-put_index-2-clause-front : goal.returns-in_err-put_index-2-clause-front
+returns-in_err-put_index-2-clause-front g c =
+    let w2 = then_written c.args.out.now.items _ c.put_word.new.out.items _ c.put_index.new.out.items c.in_ok-put_word.ensures.ok c.in_ok-put_index.ensures.ok in
+    front_kept _ c.args.out.now.items _ c.put_index-2.new.out.items (c.in_err-put_index-2.ensures.err ∙ w2)
+
+pub returns-in_err-put_index-3-clause-front : goal.returns-in_err-put_index-3-clause-front
+returns-in_err-put_index-3-clause-front g c =
+    let w2 = then_written c.args.out.now.items _ c.put_word.new.out.items _ c.put_index.new.out.items c.in_ok-put_word.ensures.ok c.in_ok-put_index.ensures.ok in
+    let w3 = then_written c.args.out.now.items _ c.put_index.new.out.items _ c.put_index-2.new.out.items w2 c.in_ok-put_index-2.ensures.ok in
+    front_kept _ c.args.out.now.items _ c.put_index-3.new.out.items (c.in_err-put_index-3.ensures.err ∙ w3)
+
+pub returns-in_err-put_pt-clause-front : goal.returns-in_err-put_pt-clause-front
+returns-in_err-put_pt-clause-front g c =
+    front_kept _ c.args.out.now.items _ c.put_pt.new.out.items (c.in_err-put_pt.ensures.err ∙ c.loop-point.invariant)
+
+pub returns-clause-front : goal.returns-clause-front
+returns-clause-front g c =
+    front_fault c.put_line_end.result c.args.out.now.items _ c.loop-point.out.items c.put_line_end.new.out.items c.loop-point.invariant c.put_line_end.ensures.err
