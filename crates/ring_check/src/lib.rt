@@ -10,8 +10,7 @@ mod ring;
 mod runs;
 mod status;
 mod sweep;
-#[cfg(test)]
-mod tests;
 
 pub use laws::{crossing_parity, winding_across};
 pub use ring::{Ring, RingFault};
+pub use sweep::sweep_finds_none;

@@ -1,4 +1,4 @@
-// A sweep in lexicographic order, which shows of most simple rings that they are simple. After Shamos and Hoey 1976.
+//! A sweep in lexicographic order, which shows of most simple rings that they are simple. After Shamos and Hoey 1976.
 ghost use Rattle.std.specs.Prelude.{◌≡◌, ◌+◌, ◌<◌, ◌≤◌, ◌^◌, IfOk, IsTrue, length};
 ghost use Rattle.rings.specs.Events.{previous};
 ghost use Rattle.rings.specs.Simple.{IsSimple};
@@ -10,12 +10,9 @@ use exact_plane::{Memory, Pt, Steps};
 use std::alloc::Global;
 use std::sync::ledger::Ledger;
 
-// Whether a sweep has shown that no two edges clash. Where it answers false, as for want of memory, nothing is known.
-pub(crate) fn sweep_finds_none<L: Ledger>(
-    alloc: Global,
-    points: &[Pt],
-    steps: &mut Steps<L>,
-) -> bool
+/// Whether a sweep has shown that no two edges of the list clash. Where it answers false, as for want of memory, nothing is
+/// known: `Ring::of` then looks at all pairs.
+pub fn sweep_finds_none<L: Ledger>(alloc: Global, points: &[Pt], steps: &mut Steps<L>) -> bool
     requires three { 3 ≤ length points.now }
     requires small { length points.now < 2 ^ 32 }
     ensures { IsTrue result → IsSimple points.now }
