@@ -117,7 +117,6 @@ fn is_repeated<L: Ledger>(points: &[Pt], i: usize, steps: &mut Steps<L>) -> bool
 }
 
 // The table of the paths between each two of the numbered points.
-#[tactic(auto, using(crate::proofs::HullTable::number_in_list))]
 pub(crate) fn chains<L: Ledger>(
     alloc: Global,
     ring: &Ring,

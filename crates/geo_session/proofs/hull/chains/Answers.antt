@@ -55,3 +55,21 @@ of-requires g c =
     let end : c.loop-k.k ≡ length numbers * length numbers = omega arith in
     table_of_ring c.args.points.now numbers c.requires.firsts c.args.ring.now.corners _
     (record { count = refl; are = rw end at c.loop-k.invariant.are }) c.requires.some c.requires.few
+
+pub bounds-points-i : goal.bounds-points-i
+bounds-points-i g c =
+    number_in_list c.args.points.now c.args.numbers.now c.requires.firsts _ (row_below (length c.args.numbers.now) c.loop-k.k (omega arith))
+
+pub bounds-points-j : goal.bounds-points-j
+bounds-points-j g c =
+    number_in_list c.args.points.now c.args.numbers.now c.requires.firsts _ (column_below (length c.args.numbers.now) c.loop-k.k (omega arith))
+
+pub bounds-tris-i : goal.bounds-tris-i
+bounds-tris-i g c =
+    rw c.requires.held.one_each
+    (number_in_list c.args.points.now c.args.numbers.now c.requires.firsts _ (row_below (length c.args.numbers.now) c.loop-k.k (omega arith)))
+
+pub bounds-tris-j : goal.bounds-tris-j
+bounds-tris-j g c =
+    rw c.requires.held.one_each
+    (number_in_list c.args.points.now c.args.numbers.now c.requires.firsts _ (column_below (length c.args.numbers.now) c.loop-k.k (omega arith)))

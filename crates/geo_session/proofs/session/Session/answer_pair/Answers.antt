@@ -1,9 +1,10 @@
-use Rattle.std.proofs.Common.{Ok, subst, w64}
+use Rattle.std.proofs.Common.{Ok, refl, subst, w64}
 use Rattle.std.proofs.lemmas.Int.{to_z-of_z}
 use Rattle.std.specs.Prelude.{Some}
 use Rattle.ring_check.specs.Oriented.{given_of}
-use Rattle.geo_session.proofs.PairAnswers.{new_pair_room, not_told, pair_answered, pair_room, path_written, refused_pair}
-use Rattle.geo_session.proofs.PreparedAfter.{not_prepared}
+use Rattle.geo_session.proofs.Fronts.{err_since, front_same_under}
+use Rattle.geo_session.proofs.PairAnswers.{new_pair_room, not_told, pair_answered, pair_room, path_written, refused_pair, told_pair}
+use Rattle.geo_session.proofs.PreparedAfter.{not_prepared, prepared}
 use Rattle.geo_session.proofs.session.Session.answer_pair.Goals as goal
 use Rattle.geo_session.specs.Asked.{AreAsked}
 use Rattle.geo_session.specs.Prepared.{TellsPair}
@@ -63,3 +64,29 @@ returns-clause-pair_steps g c =
     c.in_ok-put_path.ensures.ok
     (new_pair_room c.self.inside.two held c.args.steps.now c.pair-2.new.steps c.put_path-2.new.steps _ c.in_default-table.ensures.not_there c.new_table.new.steps
     c.in_ok-table.ensures.steps c.in_ok-points-2.ensures.steps c.put_path-2.ensures.steps))
+
+pub returns-in-Err-clause-same_session : goal.returns-in-Err-clause-same_session
+returns-in-Err-clause-same_session g c =
+    rw (← c.self.view_is, c.in-Some.is) (err_since c.put_bad-in-Err.result refl)
+
+pub returns-in-Err-clause-front : goal.returns-in-Err-clause-front
+returns-in-Err-clause-front g c =
+    front_same_under _ c.args.out.now.items _ c.put_bad-in-Err.ensures.err
+
+pub returns-in-Some-table-clause-same_session : goal.returns-in-Some-table-clause-same_session
+returns-in-Some-table-clause-same_session g c =
+    rw (← c.self.view_is, c.in-Some.is) (err_since c.put_path.result refl)
+
+pub returns-in-Some-table-clause-front : goal.returns-in-Some-table-clause-front
+returns-in-Some-table-clause-front g c =
+    c.put_path.ensures.front
+
+pub returns-in-Some-table-clause-prepared : goal.returns-in-Some-table-clause-prepared
+returns-in-Some-table-clause-prepared g c =
+    let held = c.in-Some.held in
+    let asked = rw (to_z-of_z w64 c.args.i c.ranges.i, to_z-of_z w64 c.args.j c.ranges.j) at c.asked.ensures in
+    rw (← c.self.view_is, c.in-Some.is)
+    (prepared (TellsPair (Some (record { ring = given_of held.ring; source = held.source })) c.args.i c.args.j) held.prepared held.prepared
+    c.put_path.result
+    (told_pair c.self.inside.two (given_of held.ring) held.source c.args.i c.args.j c.in-Ok.asked
+    (subst (AreAsked (given_of held.ring) c.args.i c.args.j) c.in-Ok.is asked)) c.in-Some-table.ensures.there)
