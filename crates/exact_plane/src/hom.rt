@@ -61,6 +61,31 @@ impl Hom {
         Some(Hom { x, y, w: 1 })
     }
 
+    /// The point with these parts, or `None` where W isn't positive or one of them is too large for a `Hom`. It takes no step,
+    /// since the caller names the parts.
+    pub fn of_parts(x: i128, y: i128, w: i128) -> Option<Hom>
+        ensures bounds { IsSome result ↔ IsSized (record { X = x; Y = y; W = w }) }
+        ensures point { IfSome result (λ p. p ≡ record { X = x; Y = y; W = w }) }
+    {
+        if x.unsigned_abs() < 1 << 75 && y.unsigned_abs() < 1 << 75 && 0 < w && w < 1 << 50 {
+            Some(Hom { x, y, w })
+        } else {
+            None
+        }
+    }
+
+    /// The same, but `None` also where the point is not narrow.
+    pub fn of_narrow_parts(x: i128, y: i128, w: i128) -> Option<Hom>
+        ensures bounds { IsSome result ↔ (IsPoint (record { X = x; Y = y; W = w }) × IsNarrow (record { X = x; Y = y; W = w })) }
+        ensures point { IfSome result (λ p. p ≡ record { X = x; Y = y; W = w }) }
+    {
+        if x.unsigned_abs() < 1 << 74 && y.unsigned_abs() < 1 << 74 && 0 < w && w < 1 << 49 {
+            Some(Hom { x, y, w })
+        } else {
+            None
+        }
+    }
+
     /// The point that is on the line through `a` and `b` and on the line through `c` and `d`; `None` where the cross
     /// product of the ways from `a` to `b` and from `c` to `d` is 0. It takes one step.
     pub fn meet<L: Ledger>(a: &Pt, b: &Pt, c: &Pt, d: &Pt, steps: &mut Steps<L>) -> Option<Hom>
@@ -184,29 +209,4 @@ fn cross_product(a: &Pt, b: &Pt, c: &Pt, d: &Pt) -> i64
     ensures small { unsigned_abs result < 2 ^ 49 }
 {
     a.to(b).cross(c.to(d))
-}
-
-#[cfg(test)]
-impl Hom {
-    // The point with these parts, or `None` where they are too large or W isn't positive.
-    pub(crate) fn of_parts(x: i128, y: i128, w: i128) -> Option<Hom> {
-        const LIMIT: i128 = 1 << 75;
-        if -LIMIT < x && x < LIMIT && -LIMIT < y && y < LIMIT && 0 < w && w < 1 << 50 {
-            Some(Hom { x, y, w })
-        } else {
-            None
-        }
-    }
-
-    // The same, but `None` also where the point is not narrow.
-    pub(crate) fn of_narrow_parts(x: i128, y: i128, w: i128) -> Option<Hom>
-        ensures { IfSome result IsNarrow }
-    {
-        const LIMIT: i128 = 1 << 74;
-        if -LIMIT < x && x < LIMIT && -LIMIT < y && y < LIMIT && 0 < w && w < 1 << 49 {
-            Some(Hom { x, y, w })
-        } else {
-            None
-        }
-    }
 }

@@ -9,8 +9,6 @@ mod memory;
 mod pt;
 mod segments;
 mod steps;
-#[cfg(test)]
-mod tests;
 mod triangle;
 mod turns;
 mod vector;

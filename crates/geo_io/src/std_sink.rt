@@ -8,9 +8,6 @@ use crate::sink::Sink;
 use std::io::Write;
 use std::marker::Model;
 
-#[cfg(test)]
-mod tests;
-
 /// A writer as a sink, which it flushes at each call. Each error of the writer is a fault, and so is a write that takes
 /// nothing. The count of faults stays at the greatest `u64` once it is there.
 #[derive(Drop)]
@@ -33,6 +30,20 @@ impl<W: Write> StdSink<W> {
         ensures { result ≡ record { inner = inner; faults = 0 } }
     {
         StdSink { inner, faults: 0 }
+    }
+
+    /// The writer.
+    pub fn get_ref(&self) -> &W
+        ensures { result.now ≡ self.now.inner }
+    {
+        &self.inner
+    }
+
+    /// How many writes have failed.
+    pub fn faults(&self) -> u64
+        ensures { result ≡ self.now.faults }
+    {
+        self.faults
     }
 }
 

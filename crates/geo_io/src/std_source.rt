@@ -7,9 +7,6 @@ use crate::source::Source;
 use std::io::Read;
 use std::marker::Model;
 
-#[cfg(test)]
-mod tests;
-
 /// A reader as a source, which tells what the reader tells. Each error of the reader is a fault, and the count of faults
 /// stays at the greatest `u64` once it is there.
 #[derive(Drop)]
@@ -32,6 +29,13 @@ impl<R: Read> StdSource<R> {
         ensures { result ≡ record { inner = inner; faults = 0 } }
     {
         StdSource { inner, faults: 0 }
+    }
+
+    /// How many reads have failed.
+    pub fn faults(&self) -> u64
+        ensures { result ≡ self.now.faults }
+    {
+        self.faults
     }
 }
 

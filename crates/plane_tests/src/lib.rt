@@ -10,6 +10,8 @@ mod meetings;
 #[cfg(test)]
 mod points;
 #[cfg(test)]
+mod rationals;
+#[cfg(test)]
 mod reading;
 #[cfg(test)]
 mod sequences;

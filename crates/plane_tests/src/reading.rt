@@ -15,7 +15,7 @@ pub(crate) fn yes_or_no(answer: bool) -> &'static str {
 }
 
 // A point is two numbers with a comma between them.
-fn point_of(word: &str) -> Option<Pt> {
+pub(crate) fn point_of(word: &str) -> Option<Pt> {
     let (x, y) = word.split_once(',')?;
     Pt::of(x.parse().ok()?, y.parse().ok()?)
 }
@@ -42,7 +42,10 @@ fn is_equal(one: (i128, i128), other: (i128, i128)) -> bool {
     one.0.wrapping_mul(other.1) == other.0.wrapping_mul(one.1)
 }
 
-fn parts_of(numbers: &str) -> Option<(i128, i128, i128)> {
+// X, Y and W of a rational point.
+pub(crate) type Parts = (i128, i128, i128);
+
+pub(crate) fn parts_of(numbers: &str) -> Option<Parts> {
     let (x, rest) = numbers.split_once(',')?;
     let (y, w) = rest.split_once(',')?;
     Some((number_of(x)?, number_of(y)?, number_of(w)?))

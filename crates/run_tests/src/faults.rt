@@ -247,7 +247,7 @@ fn ask_all<N: Ledger>(rt: &impl Abort, alloc: Global, blank: Blank) -> Result<()
     let mut steps = Steps::<N>::new(blank);
     let mut session = Session::new();
     for row in ASKED.split("\n# ").skip(1) {
-        let (record, want) = row.split_once('\n').unwrap_or((row, "no answer"));
+        let (record, want) = row.split_once("\n").unwrap_or((row, "no answer"));
         let mut out = Vec::new(alloc);
         if ask(alloc, &mut session, record, &mut out, &mut steps).is_err() {
             assert!(rt; out.is_empty(), "{record}");

@@ -3,9 +3,15 @@
 #![tactic(auto)]
 
 #[cfg(test)]
+mod chains;
+#[cfg(test)]
 mod faults;
 #[cfg(test)]
+mod full_chains;
+#[cfg(test)]
 mod pieces;
+#[cfg(test)]
+mod polygons;
 #[cfg(test)]
 mod scripts;
 #[cfg(test)]

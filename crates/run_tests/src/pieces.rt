@@ -208,11 +208,21 @@ fn too_long<N: Ledger>(rt: &impl Abort, alloc: Global, blank: Blank) -> Result<(
     let mut steps = Steps::<N>::new(blank);
     let mut dialog = Dialog::new(alloc);
     answered(&mut dialog, alloc, b"kernel\n", &mut steps)?;
-    let longest = vec![in alloc; b'\n'; MAX_SCRIPT]?;
-    let longer = vec![in alloc; b'\n'; MAX_SCRIPT + 1]?;
-    assert!(rt; dialog.answer(alloc, &longer, &mut steps) == Err(Stop::TooLong));
+    let longer = line_feeds(&mut dialog, alloc, MAX_SCRIPT + 1, &mut steps)?;
+    assert!(rt; longer == Err(Stop::TooLong));
     assert!(rt; dialog.text() == b"bad,no_polygon\n".as_slice());
-    assert!(rt; dialog.answer(alloc, &longest, &mut steps) == Ok(()));
-    assert!(rt; dialog.text().is_empty());
+    let longest = line_feeds(&mut dialog, alloc, MAX_SCRIPT, &mut steps)?;
+    assert!(rt; longest == Ok(()) && dialog.text().is_empty());
     Ok(())
+}
+
+// How a piece of so many line feeds is answered.
+fn line_feeds<N: Ledger>(
+    dialog: &mut Dialog,
+    alloc: Global,
+    count: usize,
+    steps: &mut Steps<N>,
+) -> Result<Result<(), Stop>, Memory> {
+    let piece = vec![in alloc; b'\n'; count]?;
+    Ok(dialog.answer(alloc, &piece, steps))
 }

@@ -50,7 +50,7 @@ pub(crate) fn is_answered(alloc: Global, script: &[u8], answers: &[u8]) -> Resul
 
 // The name, the script and the answers of a row.
 pub(crate) fn parts(row: &str) -> Option<(&str, &str, &str)> {
-    let (name, rest) = row.split_once('\n')?;
+    let (name, rest) = row.split_once("\n")?;
     let (script, answers) = rest.split_once("=\n")?;
     Some((name, script, answers))
 }
@@ -1056,7 +1056,7 @@ fn words(rt: HostRuntime) -> Result<(), Fail> {
 
 // Whether the run with the words of the row ends as the row says.
 fn is_taken_so(alloc: Global, row: &str) -> Result<bool, Memory> {
-    let (words, line) = row.split_once(';').unwrap_or((row, ""));
+    let (words, line) = row.split_once(";").unwrap_or((row, ""));
     let words = strings(alloc, words)?;
     let mut source = MemorySource::new(Vec::from_slice(alloc, b"frob\n")?, 8, Vec::new(alloc));
     let mut sink = MemorySink::with_room(alloc, 64, 8, Vec::new(alloc))?;

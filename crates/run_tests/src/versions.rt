@@ -240,13 +240,16 @@ fn put_comb(script: &mut Vec<u8>, k: u32) -> Result<(), Memory>
 {
     script.extend_from_slice(b"polygon")?;
     for i in 0..k + 1 {
-        put_index(script, 4 * i)?;
-        put_index(script, 6 * (i % 2))?;
+        put_vertex(script, 4 * i, 6 * (i % 2))?;
     }
     for j in 0..k + 1 {
-        put_index(script, 4 * (k - j))?;
-        put_index(script, 6 * ((k - j) % 2) + 2)?;
+        put_vertex(script, 4 * (k - j), 6 * ((k - j) % 2) + 2)?;
     }
     script.push(b'\n')?;
     Ok(())
+}
+
+fn put_vertex(script: &mut Vec<u8>, x: u32, y: u32) -> Result<(), Memory> {
+    put_index(script, x)?;
+    put_index(script, y)
 }

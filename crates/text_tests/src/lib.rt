@@ -8,4 +8,6 @@ mod readings;
 #[cfg(test)]
 mod scripts;
 #[cfg(test)]
+mod std_streams;
+#[cfg(test)]
 mod streams;

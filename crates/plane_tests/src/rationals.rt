@@ -1,7 +1,8 @@
 // Rational points that are given by their parts, with answers that were worked out by hand or with exact fractions.
 ghost use Rattle.std.specs.Prelude.{◌≡◌, ◌<◌};
 
-use crate::{Direction, Hom, Pt, Steps, order_hom, turn_hom};
+use crate::reading::{Parts, parts_of, point_of, row_of};
+use exact_plane::{Direction, Hom, Steps, order_hom, turn_hom};
 use std::cmp::Ordering;
 use std::marker::Brand;
 use std::process::Abort;
@@ -38,7 +39,7 @@ of the meetings of the widest lines | 0,0,562949819203592 140737454800898,140737
 of a point with itself | 7,8,3 7,8,3 | 14,16,6";
 
 #[test]
-fn rationals(rt: HostRuntime) {
+fn given_by_parts(rt: HostRuntime) {
     all_rationals::<Brand, _>(&rt, Blank::new(1));
 }
 
@@ -60,31 +61,9 @@ fn all_rationals<L: Ledger, R: Abort>(rt: &R, blank: Blank)
     }
 }
 
-// The name of a row, what is given, and what is wanted.
-fn row_of(row: &str) -> Option<(&str, &str, &str)> {
-    let (name, rest) = row.split_once(" | ")?;
-    let (given, want) = rest.split_once(" | ")?;
-    Some((name, given, want))
-}
-
-fn number_of(word: &str) -> Option<i128> {
-    word.parse().ok()
-}
-
-fn parts_of(numbers: &str) -> Option<(i128, i128, i128)> {
-    let (x, rest) = numbers.split_once(',')?;
-    let (y, w) = rest.split_once(',')?;
-    Some((number_of(x)?, number_of(y)?, number_of(w)?))
-}
-
 fn rational_of(numbers: &str) -> Option<Hom> {
     let (x, y, w) = parts_of(numbers)?;
     Hom::of_parts(x, y, w)
-}
-
-fn point_of(numbers: &str) -> Option<Pt> {
-    let (x, y) = numbers.split_once(',')?;
-    Pt::of(x.parse().ok()?, y.parse().ok()?)
 }
 
 fn is_ordered<L: Ledger>(row: &str, steps: &mut Steps<L>) -> Option<bool> {
@@ -115,8 +94,6 @@ fn has_mediant<L: Ledger>(row: &str, steps: &mut Steps<L>) -> Option<bool> {
     let (p, q) = list.split_once(' ')?;
     mediant(parts_of(p)?, parts_of(q)?, parts_of(want)?, steps)
 }
-
-type Parts = (i128, i128, i128);
 
 fn mediant<L: Ledger>(p: Parts, q: Parts, want: Parts, steps: &mut Steps<L>) -> Option<bool> {
     let p = Hom::of_narrow_parts(p.0, p.1, p.2)?;
