@@ -1,6 +1,6 @@
 //! What is left of the contract of `geo_main` over a source or a sink that never fails.
 ghost use Rattle.std.specs.Io.KnownBytes.{IsAtEnd};
-ghost use Rattle.std.specs.Prelude.{◌≡◌, ◌≢◌, ◌<◌, ◌≤◌, ◌⊎◌, ℕ, Err, IsOk, IfSome, OnOk, length, map, string_bytes};
+ghost use Rattle.std.specs.Prelude.{◌≡◌, ◌≢◌, ◌<◌, ◌≤◌, ◌⊎◌, ℕ, Err, IsOk, IfSome, OnOk, Some, length, map, string_bytes};
 ghost use Rattle.plane.specs.declared.limits.TheConstants.{MAX_SCRIPT};
 ghost use Rattle.geo_io.specs.Counts.{Rose};
 ghost use Rattle.geo_io.specs.Transfers.{GivesAtMost, GivesMoreThan};
@@ -30,7 +30,8 @@ pub fn sure_source_main<K: Sink>(
     ensures untouched { ¬ IsTaken (map string_bytes words.now) → (source.new ≡ source.old) × (sink.new ≡ sink.old) }
     ensures unread { (k : ℕ) → AsksComb (map string_bytes words.now) k → source.new ≡ source.old }
 
-    ensures too_long { result ≡ Err RunFault.TooLong → AsksScript (map string_bytes words.now) × (MAX_SCRIPT < length source.old) × (sink.new ≡ sink.old) }
+    ensures too_long { result ≡ Err RunFault.TooLong → AsksScript (map string_bytes words.now) × (MAX_SCRIPT < length source.old)
+        × GivesMoreThan MAX_SCRIPT (Some source.old) (Some source.new) × (sink.new ≡ sink.old) }
     ensures write_fault { result ≡ Err RunFault.WriteFault → Rose (K.faults sink.old) (K.faults sink.new) }
     ensures script_write_fault { AsksScript (map string_bytes words.now) → result ≡ Err RunFault.WriteFault
         → ReadsAll source.old source.new × WritesFirstAndFront source.old (K.taken sink.old) (K.taken sink.new) }
