@@ -4,7 +4,7 @@ ghost use Rattle.std.specs.Prelude.{◌≡◌, ◌<◌};
 use crate::polygons::{at, mesh_of, ring_named};
 use dual_tree::locate;
 use exact_plane::{Hom, Memory, Steps};
-use see_cone::see;
+use see_cone::{Part, see};
 use std::alloc::Global;
 use std::marker::Brand;
 use std::process::Abort;
@@ -33,24 +33,38 @@ fn sees_all_edges<L: Ledger, R: Abort>(rt: &R, alloc: Global, blank: Blank) -> R
     let q = at(rt, 1, 0);
     let home = locate(&mesh, &ring, &q, &mut steps).expect(rt, "in the triangle");
     let parts = see(alloc, &ring, &mesh, home, &q, &mut steps)?;
-    let want: [(End, End); 3] = [
-        ((0, 0, 1), (1, 0, 1)),
-        ((1, 0, 1), (0, 1, 1)),
-        ((0, 1, 1), (0, 0, 1)),
-    ];
-    assert!(rt; parts.len() == want.len());
-    for (edge, (part, (first, last))) in parts.iter().zip(want).enumerate() {
-        assert!(rt; part.edge as usize == edge);
-        assert!(rt;
-            is_at(&part.first, first, &mut steps),
-            "where the part of edge {edge} begins"
-        );
-        assert!(rt;
-            is_at(&part.last, last, &mut steps),
-            "where the part of edge {edge} ends"
-        );
-    }
+    assert!(rt; parts.len() == 3);
+    assert!(rt;
+        is_part(parts.first(), 0, (0, 0, 1), (1, 0, 1), &mut steps),
+        "edge 0"
+    );
+    assert!(rt;
+        is_part(parts.get(1), 1, (1, 0, 1), (0, 1, 1), &mut steps),
+        "edge 1"
+    );
+    assert!(rt;
+        is_part(parts.get(2), 2, (0, 1, 1), (0, 0, 1), &mut steps),
+        "edge 2"
+    );
     Ok(())
+}
+
+// Whether the part of an edge has these ends.
+fn is_part<L: Ledger>(
+    part: Option<&Part>,
+    edge: u32,
+    first: End,
+    last: End,
+    steps: &mut Steps<L>,
+) -> bool {
+    match part {
+        Some(part) => {
+            let begins = is_at(&part.first, first, steps);
+            let ends = is_at(&part.last, last, steps);
+            part.edge == edge && begins && ends
+        }
+        None => false,
+    }
 }
 
 // Whether a point is this one.
