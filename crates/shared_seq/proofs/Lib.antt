@@ -1,4 +1,6 @@
 pub mod Appends
+pub mod Cuts
 pub mod Digits
 pub mod Heights
 pub mod Opened
+pub mod Turned
