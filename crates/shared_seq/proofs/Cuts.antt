@@ -56,3 +56,14 @@ module _ (l r t : ℕ) (near : DifferByAtMost 1 l r) (high : t ≡ max l r + 1) 
       | inr fewer ↦ omega (arith, high, fewer, low)
     ],
   )
+
+-- the part of height l is one higher or as high, n, and k is the height of what is joined of it and the other part
+module _ (l r t : ℕ) (near : DifferByAtMost 1 l r) (high : t ≡ max l r + 1) (n : ℕ) (more : (l ≤ n) × (n ≤ l + 1)) where
+  pub higher_near : DifferByAtMost 2 n r
+  higher_near = (omega (arith, near.0, more.1), omega (arith, near.1, more.0))
+
+  pub higher_high : (k : ℕ) → max n r ≤ k → k ≤ max n r + 1 → (DifferByAtMost 1 n r → k ≡ max n r + 1) → (t ≤ k) × (k ≤ t + 1)
+  higher_high k low most fork = elim (cases_lt (r + 1) n) [
+    | inl apart ↦ (omega (arith, high, near.0, more.1, apart, low), omega (arith, high, near.0, more.1, apart, most))
+    | inr close ↦ (omega (arith, high, more.0, fork (close, omega (arith, near.1, more.0))), omega (arith, high, more.1, most))
+  ]
