@@ -1,5 +1,5 @@
 use Rattle.std.proofs.Common.{◌∙◌}
-use Rattle.geo_session.proofs.Fronts.{front_fault, front_kept, front_same, then_written}
+use Rattle.geo_session.proofs.Fronts.{front_fault, front_kept, front_same, then_written, ok_of_err}
 use Rattle.geo_session.proofs.hull.put_side.Goals as goal
 
 pub returns-in_err-put_word-clause-front : goal.returns-in_err-put_word-clause-front
@@ -28,3 +28,23 @@ returns-in_err-put_pt-clause-front g c =
 pub returns-clause-front : goal.returns-clause-front
 returns-clause-front g c =
     front_fault c.put_line_end.result c.args.out.now.items _ c.loop-point.out.items c.put_line_end.new.out.items c.loop-point.invariant c.put_line_end.ensures.err
+
+pub returns-in_err-put_word-clause-ok : goal.returns-in_err-put_word-clause-ok
+returns-in_err-put_word-clause-ok g c =
+    ok_of_err _ c.from_residual.result c.from_residual.ensures.0
+
+pub returns-in_err-put_index-clause-ok : goal.returns-in_err-put_index-clause-ok
+returns-in_err-put_index-clause-ok g c =
+    ok_of_err _ c.from_residual-in_err-put_index.result c.from_residual-in_err-put_index.ensures.0
+
+pub returns-in_err-put_index-2-clause-ok : goal.returns-in_err-put_index-2-clause-ok
+returns-in_err-put_index-2-clause-ok g c =
+    ok_of_err _ c.from_residual-in_err-put_index-2.result c.from_residual-in_err-put_index-2.ensures.0
+
+pub returns-in_err-put_index-3-clause-ok : goal.returns-in_err-put_index-3-clause-ok
+returns-in_err-put_index-3-clause-ok g c =
+    ok_of_err _ c.from_residual-in_err-put_index-3.result c.from_residual-in_err-put_index-3.ensures.0
+
+pub returns-in_err-put_pt-clause-ok : goal.returns-in_err-put_pt-clause-ok
+returns-in_err-put_pt-clause-ok g c =
+    ok_of_err _ c.from_residual-in_err-put_pt.result c.from_residual-in_err-put_pt.ensures.0
