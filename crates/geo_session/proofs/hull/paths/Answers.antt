@@ -1,5 +1,5 @@
 use Rattle.std.proofs.Common.{arith, ◌≡◌, length}
-use Rattle.std.proofs.lemmas.List.{map_push}
+use Rattle.std.proofs.lemmas.List.{length-map, map_push}
 use Rattle.geo_session.proofs.Spanned.{told_more}
 use Rattle.geo_session.proofs.hull.paths.Goals as goal
 use Rattle.geo_session.proofs.Fronts.{none_of_err}
@@ -46,3 +46,8 @@ pub returns : goal.returns
 returns g c =
     let end : c.loop-side.side-index ≡ length c.args.sides.now = omega (arith, c.loop-side.auto.side-index-end, c.loop-side-test.false) in
     rw end at c.loop-side.invariant.are
+
+pub push_reserved-requires : goal.push_reserved-requires
+push_reserved-requires g c =
+    let count = length-map c.loop-side.paths.items (λ path. path.items) in
+    omega (arith, count, c.loop-side.invariant.are.count, c.loop-side.invariant.room, c.loop-side-test.true, c.loop-side.paths.ok.0)
