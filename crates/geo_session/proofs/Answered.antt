@@ -1,8 +1,9 @@
 -- The answers to a polygon, and to points by a path, as the code writes them.
-use Rattle.std.proofs.Common.{◌≡◌, Bool, ℕ, List, ◌++◌, length, Result, Ok, Err, inl, inr, refl, ap}
+use Rattle.std.proofs.Common.{◌≡◌, Bool, ℕ, List, ◌++◌, length, Result, Ok, Err, inl, inr, refl, ap, subst}
 use Rattle.std.specs.Prelude.{OnOk, Option, None, Some, Vec}
 use Rattle.std.specs.declared.alloc.Global.{Global}
-use Rattle.plane.specs.Point.{Point}
+use Rattle.plane.specs.Point.{Point, whole}
+use Rattle.rings.specs.Inside.{IsIn}
 use Rattle.rings.specs.Simple.{IsLeastClash, IsSimple}
 use Rattle.geo_text.specs.Texts.{bad_text}
 use Rattle.geo_text.specs.declared.command.Bad.{Bad}
@@ -11,9 +12,10 @@ use Rattle.geo_text.specs.declared.command.Command.{Command}
 use Rattle.geo_text.specs.declared.command.Command.TheVariants as command
 use Rattle.inside_test.specs.declared.position.Position.{Position}
 use Rattle.geo_session.proofs.Places.{placed_text}
-use Rattle.geo_session.specs.Answer.{AppendsAnswer, IsAnswer, IsInsideText, IsReachIn, IsReachText, Kept, State, found, goal_outside, path_text, polygon_text, reached}
+use Rattle.geo_session.specs.Answer.{AppendsAnswer, IsAnswer, IsInsideText, IsReachIn, IsReachText, Kept, State, TellsTree, found, goal_outside, grown, path_text, polygon_text, reached}
 use Rattle.geo_session.specs.Path.{IsReachAnswer, IsReachedIn, IsShownAnswer}
 use Rattle.geo_session.specs.Place.{IsPlaceAnswer, place_text}
+use Rattle.geo_session.specs.Session.{AppendsSuch}
 
 -- what follows from a fact about an Ok follows under the Ok
 pub under_ok : {T E : Type 0} {P Q : Type 0} (r : Result T E) → (P → Q) → OnOk r P → OnOk r Q
@@ -135,3 +137,14 @@ place_refused before p fault out out' put h = under_ok put
         let same : fault ≡ bad.NoPolygon = cc in
         ap bad_text same
     by_kept (Some kept) is = absurd is
+
+-- the lines of the tree of a point in the polygon answer it
+pub tree_answered : (two : Bool) (ring : List Point) (source : Option Point) (s root : Point) (out out' : List ℕ) → IsIn ring (whole s) → root ≡ s
+    → AppendsSuch (TellsTree ring root) out out'
+    → AppendsAnswer (holding two ring source) (command.Tree s) out out' (holding two ring (Some root))
+tree_answered two ring source s root out out' within same are =
+    record {
+      text = are.text;
+      answer = (grown within (subst (λ p. TellsTree ring p are.text) same are.holds) (ap (λ p. Some (record { ring = ring; source = Some p })) same), refl);
+      appended = are.appended;
+    }

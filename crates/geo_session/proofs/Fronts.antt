@@ -1,6 +1,6 @@
 -- Texts that begin as before.
-use Rattle.std.proofs.Common.{◌≡◌, ◌∙◌, sym, ap, append_assoc, ℕ, List, ◌++◌, length, take, drop, Result, Ok, Err, arith}
-use Rattle.std.specs.Prelude.{OnErr, OnOk}
+use Rattle.std.proofs.Common.{◌≡◌, ◌∙◌, sym, ap, append_assoc, ℕ, ◌+◌, ◌≤◌, List, ◌++◌, length, take, drop, Result, Ok, Err, arith}
+use Rattle.std.specs.Prelude.{IfOk, IsErr, OnErr, OnOk}
 use Rattle.std.proofs.Math.Seq.{take-append_seam, take-length}
 use Rattle.std.proofs.lemmas.List.{length-append, take-append-drop, take-append-le}
 
@@ -51,3 +51,16 @@ ok_since (Err e) h = tt
 pub front_same_under : {T E : Type 0} (r : Result T E) (old out : List ℕ) → OnErr r (out ≡ old) → OnErr r (take (length old) out ≡ old)
 front_same_under (Ok x) old out same = tt
 front_same_under (Err e) old out same = ap (take (length old)) same ∙ take-length old
+
+-- nothing is asked of the value where there is none
+pub none_of_err : {T E : Type 0} (P : T → Type 0) (r : Result T E) → IsErr r → IfOk r P
+none_of_err P (Ok x) fault = absurd cc
+none_of_err P (Err e) fault = tt
+
+pub ok_of_err : {T E : Type 0} (P : Type 0) (r : Result T E) → IsErr r → OnOk r P
+ok_of_err P (Ok x) fault = absurd cc
+ok_of_err P (Err e) fault = tt
+
+-- what was taken is no more than with something beside it
+pub no_more : (n more : ℕ) → n ≤ n + more
+no_more n more = omega arith

@@ -35,6 +35,7 @@ mod OneSights
 mod PacedAnswers
 mod SightAnswers
 mod PathLines
+mod MapFront
 mod ReachWords
 mod RoundPlaces
 mod Guarded

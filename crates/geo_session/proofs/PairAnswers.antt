@@ -1,5 +1,5 @@
 -- The answer to a pair of vertices, and its steps, as the code writes them.
-use Rattle.std.proofs.Common.{◌≡◌, inl, inr, refl, Bool, true, false, if◌then◌else◌, ℕ, ℤ, ◌+◌, ◌*◌, ◌≤◌, List, [], ◌++◌, length, Result, Ok, Err, arith}
+use Rattle.std.proofs.Common.{◌≡◌, inl, inr, refl, Bool, true, false, if◌then◌else◌, ℕ, ℤ, ◌+◌, ◌-◌, ◌*◌, ◌≤◌, List, [], ◌++◌, length, Result, Ok, Err, arith}
 use Rattle.std.specs.Prelude.{OnOk, Option, Some}
 use Rattle.plane.specs.Point.{Point}
 use Rattle.rings.specs.Ring.{vertex}
@@ -92,3 +92,21 @@ pub reach_room_alone : (two : Bool) (n more start told : ℕ) → told ≤ start
     → told ≤ start + (reach_pace two * n + more)
 reach_room_alone true n more start told few = omega (arith, few)
 reach_room_alone false n more start told few = omega (arith, few)
+
+-- finding the ends of a path and telling it takes as many steps as a path may
+module _ (n start first : ℕ) (one : first ≤ start + 3 * (n - 2)) where
+  pub located_one : (two : Bool) → first ≤ start + (if two then 30 else 10) * n
+  located_one true = omega (arith, one)
+  located_one false = omega (arith, one)
+
+  module _ (second : ℕ) (other : second ≤ first + 3 * (n - 2)) where
+    pub located_two : (two : Bool) → second ≤ start + (if two then 30 else 10) * n
+    located_two true = omega (arith, one, other)
+    located_two false = omega (arith, one, other)
+
+    pub located_told : (two : Bool) (done : ℕ) → done ≤ second + (if two then 24 else 4) * n → done ≤ start + (if two then 30 else 10) * n
+    located_told true done more = omega (arith, one, other, more)
+    located_told false done more = omega (arith, one, other, more)
+
+    pub located_untold : (done : ℕ) → done ≡ second → done ≤ start + 6 * (n - 2)
+    located_untold done same = omega (arith, one, other, same)

@@ -1,4 +1,4 @@
-use Rattle.std.proofs.Common.{◌<◌, arith, length, refl, subst}
+use Rattle.std.proofs.Common.{◌≡◌, ◌<◌, arith, length, refl, subst}
 use Rattle.std.proofs.lemmas.List.{get_or_read}
 use Rattle.plane.specs.Point.{whole}
 use Rattle.rings.specs.Inside.{IsIn}
@@ -6,6 +6,7 @@ use Rattle.rings.specs.Ring.{origin}
 use Rattle.dual_tree.specs.Location.{IsLeastHolding}
 use Rattle.geo_session.proofs.Spanned.{held_inside, held_more}
 use Rattle.geo_session.proofs.hull.located.Goals as goal
+use Rattle.geo_session.proofs.Fronts.{none_of_err}
 
 pub returns-in-None : goal.returns-in-None
 returns-in-None g c =
@@ -32,3 +33,24 @@ loop-k-preserved g c =
           (get_or_read points c.loop-k.k c.index-points-k.result below c.index-points-k.is origin) c.in-Some.ensures.least));
       room = rw c.push_reserved.ensures.capacity c.loop-k.invariant.room;
     }
+
+pub locate-requires : goal.locate-requires
+locate-requires g c =
+    c.requires.fits
+
+pub push_reserved-requires : goal.push_reserved-requires
+push_reserved-requires g c =
+    omega (arith, c.loop-k.invariant.held.one_each, c.loop-k.invariant.room, c.loop-k-test.true, c.loop-k.tris.ok.0)
+
+pub returns-in_err-tris : goal.returns-in_err-tris
+returns-in_err-tris g c =
+    none_of_err _ c.from_residual.result c.from_residual.ensures.0
+
+pub returns : goal.returns
+returns g c =
+    let end : c.loop-k.k ≡ length c.args.points.now = omega arith in
+    rw end at c.loop-k.invariant.held
+
+pub bounds-points-k : goal.bounds-points-k
+bounds-points-k g c =
+    omega arith

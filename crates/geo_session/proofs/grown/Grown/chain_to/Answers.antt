@@ -1,9 +1,10 @@
-use Rattle.std.proofs.Common.{sym, ◌∙◌}
+use Rattle.std.proofs.Common.{sym, ◌∙◌, arith}
 use Rattle.geo_session.proofs.AlonePath.{alone_path}
 use Rattle.geo_session.proofs.LocatedIn.{held_in}
 use Rattle.geo_session.proofs.ReachedNames.{is_before}
 use Rattle.geo_session.proofs.WalkedNames.{names_named}
 use Rattle.geo_session.proofs.grown.Grown.chain_to.Goals as goal
+use Rattle.geo_session.proofs.Fronts.{none_of_err, no_more}
 
 pub returns-in_default-clause-path : goal.returns-in_default-clause-path
 returns-in_default-clause-path g c =
@@ -38,3 +39,41 @@ returns-clause-steps g c = rw c.new-board.ensures.corners at c.in-Some.ensures.s
 
 pub returns-in_default-clause-steps : goal.returns-in_default-clause-steps
 returns-in_default-clause-steps g c = rw c.new-board.ensures.corners at c.in_default.ensures.steps
+
+pub returns-in_err-names-clause-path : goal.returns-in_err-names-clause-path
+returns-in_err-names-clause-path g c =
+    none_of_err _ c.from_residual.result c.from_residual.ensures.0
+
+pub returns-in_err-names-clause-few : goal.returns-in_err-names-clause-few
+returns-in_err-names-clause-few g c =
+    none_of_err _ c.from_residual.result c.from_residual.ensures.0
+
+pub returns-in_err-names-clause-steps : goal.returns-in_err-names-clause-steps
+returns-in_err-names-clause-steps g c =
+    no_more c.args.steps.now _
+
+pub returns-in_err-points-clause-path : goal.returns-in_err-points-clause-path
+returns-in_err-points-clause-path g c =
+    none_of_err _ c.from_residual-in_err-points.result c.from_residual-in_err-points.ensures.0
+
+pub returns-in_err-points-clause-few : goal.returns-in_err-points-clause-few
+returns-in_err-points-clause-few g c =
+    none_of_err _ c.from_residual-in_err-points.result c.from_residual-in_err-points.ensures.0
+
+pub returns-in_err-points-clause-steps : goal.returns-in_err-points-clause-steps
+returns-in_err-points-clause-steps g c =
+    no_more c.args.steps.now _
+
+pub reach-requires : goal.reach-requires
+reach-requires g c =
+    rw (c.new-board.ensures.corners, c.new-board.ensures.start, c.new-board.ensures.goal)
+    (record {
+      fits = c.requires.fits;
+      grown = c.requires.grown.tree;
+      in_list = c.requires.goal.in_list;
+      goal = c.requires.goal.holds;
+    })
+
+pub push_reserved-requires : goal.push_reserved-requires
+push_reserved-requires g c =
+    omega (arith, c.in_ok-points.ensures.len, c.in_ok-points.ensures.capacity)

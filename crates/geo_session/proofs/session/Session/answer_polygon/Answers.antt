@@ -6,6 +6,7 @@ use Rattle.ring_check.specs.Oriented.{Oriented, given_of, oriented}
 use Rattle.geo_session.proofs.Answered.{accepted, refused}
 use Rattle.geo_session.proofs.PreparedAfter.{dropped, not_dropped}
 use Rattle.geo_session.proofs.session.Session.answer_polygon.Goals as goal
+use Rattle.geo_session.proofs.Fronts.{err_since, front_same_under}
 
 pub returns-in-Ok-clause-ok : goal.returns-in-Ok-clause-ok
 returns-in-Ok-clause-ok g c =
@@ -35,3 +36,19 @@ returns-in-Err-Clash-clause-prepared g c =
     rw c.into_vec.ensures at ((c.in-Err-Clash.ensures.clash c.in-Err-Clash.i c.in-Err-Clash.j).0 (ap Err c.in-Err-Clash.field-0-is)).2 in
     not_dropped (IsSimple c.args.points) c.args.self.now.prepared c.args.self.now.prepared c.put_bad.result
     (λ simple. no_least_clash c.args.points c.in-Err-Clash.i c.in-Err-Clash.j simple least)
+
+pub returns-in-Ok-clause-same_session : goal.returns-in-Ok-clause-same_session
+returns-in-Ok-clause-same_session g c =
+    c.accept.ensures.same_session
+
+pub returns-in-Ok-clause-front : goal.returns-in-Ok-clause-front
+returns-in-Ok-clause-front g c =
+    c.accept.ensures.front
+
+pub returns-in-Err-Clash-clause-same_session : goal.returns-in-Err-Clash-clause-same_session
+returns-in-Err-Clash-clause-same_session g c =
+    err_since c.put_bad.result refl
+
+pub returns-in-Err-Clash-clause-front : goal.returns-in-Err-Clash-clause-front
+returns-in-Err-Clash-clause-front g c =
+    front_same_under _ c.args.out.now.items _ c.put_bad.ensures.err

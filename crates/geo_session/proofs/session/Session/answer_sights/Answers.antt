@@ -1,11 +1,17 @@
 use Rattle.std.proofs.Common.{Ok, ap, refl}
 use Rattle.ring_check.specs.Oriented.{given_of}
-use Rattle.geo_session.proofs.Fronts.{err_since, front_same, front_same_under}
+use Rattle.geo_session.proofs.Fronts.{err_since, front_same, front_same_under, ok_of_err, ok_since, no_more}
 use Rattle.geo_session.proofs.PreparedAfter.{not_prepared, prepared}
 use Rattle.geo_session.proofs.SightAnswers.{refused_sights, sights_answered, small_of, table_room}
 use Rattle.geo_session.proofs.session.Session.answer_sights.Goals as goal
 use Rattle.geo_session.specs.Pairs.{IsSmall}
 use Rattle.geo_session.specs.Tree.{HeldRing}
+use Rattle.geo_session.proofs.Answered.{told}
+use Rattle.std.specs.Prelude.{None, false}
+use Rattle.geo_text.specs.Texts.{bad_text}
+use Rattle.geo_session.specs.Prepared.{TellsAllPairs}
+use Rattle.geo_text.specs.declared.command.Bad.TheVariants as bad
+use Rattle.geo_text.specs.declared.command.Command.TheVariants as command
 
 pub returns-then-is_large-clause-ok : goal.returns-then-is_large-clause-ok
 returns-then-is_large-clause-ok g c =
@@ -109,3 +115,77 @@ returns-in_err-pairs-clause-front g c = front_same c.from_residual.result c.args
 
 pub returns-in_err-pairs-2-clause-front : goal.returns-in_err-pairs-2-clause-front
 returns-in_err-pairs-2-clause-front g c = front_same c.from_residual-in_err-pairs-2.result c.args.out.now.items c.args.out.now.items refl
+
+pub returns-in_default-clause-ok : goal.returns-in_default-clause-ok
+returns-in_default-clause-ok g c =
+    rw (← c.self.view_is, c.in_default.is)
+    (told (record { two = c.self.inside.two; kept = None }) command.Sights (bad_text bad.NoPolygon) (record { two = c.self.inside.two; kept = None }) c.args.out.now.items c.put_bad.new.out.items c.put_bad.result (refl, refl)
+    c.put_bad.ensures.ok)
+
+pub returns-in_default-clause-prepared : goal.returns-in_default-clause-prepared
+returns-in_default-clause-prepared g c =
+    rw (← c.self.view_is, c.in_default.is) (not_prepared (TellsAllPairs None) false false c.put_bad.result (λ none. none))
+
+pub returns-in_default-clause-same_session : goal.returns-in_default-clause-same_session
+returns-in_default-clause-same_session g c =
+    err_since c.put_bad.result c.self.view_is
+
+pub returns-in_default-clause-front : goal.returns-in_default-clause-front
+returns-in_default-clause-front g c =
+    front_same_under _ c.args.out.now.items _ c.put_bad.ensures.err
+
+pub returns-in_default-clause-sights_steps : goal.returns-in_default-clause-sights_steps
+returns-in_default-clause-sights_steps g c =
+    no_more c.args.steps.now _
+
+pub returns-then-is_large-clause-sights_steps : goal.returns-then-is_large-clause-sights_steps
+returns-then-is_large-clause-sights_steps g c =
+    no_more c.args.steps.now _
+
+pub returns-in_err-pairs-clause-sights_steps : goal.returns-in_err-pairs-clause-sights_steps
+returns-in_err-pairs-clause-sights_steps g c =
+    no_more c.args.steps.now _
+
+pub returns-in-Some-table-clause-sights_steps : goal.returns-in-Some-table-clause-sights_steps
+returns-in-Some-table-clause-sights_steps g c =
+    no_more c.args.steps.now _
+
+pub returns-in_err-table-clause-ok : goal.returns-in_err-table-clause-ok
+returns-in_err-table-clause-ok g c =
+    ok_of_err _ c.from_residual-in_err-table.result c.from_residual-in_err-table.ensures.0
+
+pub returns-in_err-table-clause-prepared : goal.returns-in_err-table-clause-prepared
+returns-in_err-table-clause-prepared g c =
+    ok_of_err _ c.from_residual-in_err-table.result c.from_residual-in_err-table.ensures.0
+
+pub returns-in_err-pairs-clause-ok : goal.returns-in_err-pairs-clause-ok
+returns-in_err-pairs-clause-ok g c =
+    ok_of_err _ c.from_residual.result c.from_residual.ensures.0
+
+pub returns-in_err-pairs-clause-prepared : goal.returns-in_err-pairs-clause-prepared
+returns-in_err-pairs-clause-prepared g c =
+    ok_of_err _ c.from_residual.result c.from_residual.ensures.0
+
+pub returns-in_err-pairs-2-clause-ok : goal.returns-in_err-pairs-2-clause-ok
+returns-in_err-pairs-2-clause-ok g c =
+    ok_of_err _ c.from_residual-in_err-pairs-2.result c.from_residual-in_err-pairs-2.ensures.0
+
+pub returns-in_err-pairs-2-clause-prepared : goal.returns-in_err-pairs-2-clause-prepared
+returns-in_err-pairs-2-clause-prepared g c =
+    ok_of_err _ c.from_residual-in_err-pairs-2.result c.from_residual-in_err-pairs-2.ensures.0
+
+pub returns-in_err-put_sights-clause-ok : goal.returns-in_err-put_sights-clause-ok
+returns-in_err-put_sights-clause-ok g c =
+    ok_of_err _ c.from_residual-in_err-put_sights.result c.from_residual-in_err-put_sights.ensures.0
+
+pub returns-in_err-put_sights-clause-prepared : goal.returns-in_err-put_sights-clause-prepared
+returns-in_err-put_sights-clause-prepared g c =
+    ok_of_err _ c.from_residual-in_err-put_sights.result c.from_residual-in_err-put_sights.ensures.0
+
+pub returns-clause-same_session : goal.returns-clause-same_session
+returns-clause-same_session g c =
+    tt
+
+pub returns-clause-front : goal.returns-clause-front
+returns-clause-front g c =
+    tt
