@@ -2,10 +2,11 @@
 use Rattle.std.proofs.Common.{◌≡◌, ℕ, true, false}
 use Rattle.std.proofs.Common.{Option, Some, None, Result, Ok, Err, List, [], ◌∷◌, drop, get_or, refl, sym, ◌∙◌, ap, true≢false}
 use Rattle.std.proofs.lemmas.Slice.Eq.{bytes_eq-Decides}
-use Rattle.std.specs.Prelude.{IsOkAnd, MatchResult, codes}
+use Rattle.std.specs.Prelude.{IfOk, IsOkAnd, MatchResult, codes}
 use Rattle.std.specs.Str.{bytes_eq}
 use Rattle.geo_text.specs.Reading.{command_of, fixed_command_of, unless}
 use Rattle.geo_text.specs.declared.command.Bad.{Bad}
+use Rattle.geo_text.specs.declared.command.Bad.TheVariants as bad
 use Rattle.geo_text.specs.declared.command.Command.{Command}
 use Rattle.geo_text.specs.declared.limits.Limits.{Limits}
 
@@ -25,6 +26,22 @@ pub fixed_by_word : (limit : ℕ) (name word : List ℕ) (fields : List (List �
 fixed_by_word limit name word fields e reading h =
     let is : word ≡ name = (bytes_eq-Decides word name).0 e in
     rw is h
+
+-- the same where memory may be wanting
+pub fixed_ok_by_word : {E : Type 0} (limit : ℕ) (name word : List ℕ) (fields : List (List ℕ)) → bytes_eq word name ≡ true
+    → (read : Result (Result Command Bad) E) → IfOk read (λ reading. reading ≡ fixed_command_of limit name fields)
+    → IfOk read (λ reading. reading ≡ fixed_command_of limit word fields)
+fixed_ok_by_word limit name word fields e read h =
+    let is : word ≡ name = (bytes_eq-Decides word name).0 e in
+    rw is h
+
+-- a word that is none of them
+pub fixed_of_other : (limit : ℕ) (word : List ℕ) (fields : List (List ℕ)) → bytes_eq word (codes "inside") ≡ false
+    → bytes_eq word (codes "path") ≡ false → bytes_eq word (codes "tree") ≡ false → bytes_eq word (codes "reach") ≡ false
+    → bytes_eq word (codes "see") ≡ false → bytes_eq word (codes "kernel") ≡ false → bytes_eq word (codes "guards") ≡ false
+    → bytes_eq word (codes "pair") ≡ false → bytes_eq word (codes "sights") ≡ false → Err bad.Word ≡ fixed_command_of limit word fields
+fixed_of_other limit word fields no_inside no_path no_tree no_reach no_see no_kernel no_guards no_pair no_sights =
+    rw (no_inside, no_path, no_tree, no_reach, no_see, no_kernel, no_guards, no_pair, no_sights) refl
 
 -- what a record asks for, by its word
 pub reading_by_word : (limits : Limits) (word : List ℕ) → bytes_eq [] word ≡ false → (fields : List (List ℕ))

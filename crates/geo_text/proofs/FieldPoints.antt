@@ -1,8 +1,10 @@
 -- Points and numbers of a list of fields.
 use Rattle.std.proofs.Common.{◌≡◌, ◌≤◌, ◌<◌, ◌+◌, ◌*◌, ◌/◌, ℕ, ℤ}
-use Rattle.std.proofs.Common.{Option, None, Ok, List, [], ◌∷◌, length, drop, get_or, map, add-zero, refl, ◌∙◌, ap, arith}
+use Rattle.std.proofs.Common.{Option, None, Ok, List, [], ◌∷◌, length, drop, get_or, map, add-zero, refl, sym, subst, ◌∙◌, ap, arith, FitsSigned, w64}
+use Rattle.std.proofs.lemmas.Int.{ints}
 use Rattle.std.proofs.lemmas.List.{drop_more, get_or-drop, get_or-map, length-drop, length-map, nil_from_length}
-use Rattle.plane.specs.Point.{Point}
+use Rattle.std.specs.List.{All}
+use Rattle.plane.specs.Point.{IsInLimit, Point}
 use Rattle.geo_text.specs.Capped.{pairs_of}
 use Rattle.geo_text.specs.Number.{number_of}
 use Rattle.geo_text.specs.Reading.{point_of, points_of, unless}
@@ -53,3 +55,11 @@ point_read fields numbers i x y p read within first second e =
     let same_x : x ≡ number_of (get_or fields i []) = first ∙ ap (λ (zs : List ℤ). get_or zs i x) read ∙ get_or-map number_of fields i [] x (omega arith) in
     let same_y : y ≡ number_of (get_or fields (i + 1) []) = second ∙ ap (λ (zs : List ℤ). get_or zs (i + 1) y) read ∙ get_or-map number_of fields (i + 1) [] y (omega arith) in
     rw (get_or-drop i fields 0 [], get_or-drop i fields 1 [], add-zero i, ← same_x, ← same_y) e
+
+-- an item of numbers within the limit is so
+pub item_in_limit : (numbers : List ℤ) (i : ℕ) (x : ℤ) → All IsInLimit numbers → i < length numbers → x ≡ get_or numbers i x → IsInLimit x
+item_in_limit numbers i x small within is = subst IsInLimit (sym is) (small i x within)
+
+-- and fits
+pub limit_fits : (x : ℤ) → IsInLimit x → FitsSigned w64 x
+limit_fits x small = omega (arith, ints)

@@ -5,5 +5,6 @@ mod FieldAt
 mod FieldPoints
 mod Fuel
 pub mod HomTexts
+mod LineFronts
 mod RecordsLeft
 mod WellSized

@@ -15,6 +15,13 @@ module _ (a b : ℤ) (small_a : IsInLimit a) (small_b : IsInLimit b) where
   product_size : unsigned_abs (a *ℤ b) < 2 ^ 46
   product_size = rw unsigned_abs-mul (mul-lt _ _ (2 ^ 23) (2 ^ 23) (omega arith) (omega arith))
 
+  -- so it fits
+  pub product_fits : FitsSigned w64 (read a *ℤ read b)
+  product_fits =
+      let is_a = to_z-of_z w64 a (omega (arith, ints)) in
+      let is_b = to_z-of_z w64 b (omega (arith, ints)) in
+      rw (is_a, is_b) (omega (arith, ints, product_size))
+
   -- it is computed as it is
   product_read : read (read a *ℤ read b) ≡ a *ℤ b
   product_read =
@@ -25,7 +32,7 @@ module _ (a b : ℤ) (small_a : IsInLimit a) (small_b : IsInLimit b) where
 
 module _ (p q : Point) (in_p : IsInBounds p) (in_q : IsInBounds q) where
   -- the size of the area
-  pub swept_size : unsigned_abs (p.x *ℤ q.y -ℤ q.x *ℤ p.y) < 2 ^ 47
+  swept_size : unsigned_abs (p.x *ℤ q.y -ℤ q.x *ℤ p.y) < 2 ^ 47
   swept_size =
       let left = product_size p.x q.y in_p.x_in_limit in_q.y_in_limit in
       let right = product_size q.x p.y in_q.x_in_limit in_p.y_in_limit in
@@ -44,5 +51,6 @@ module _ (p q : Point) (in_p : IsInBounds p) (in_q : IsInBounds q) where
       let right = product_read q.x p.y in_q.x_in_limit in_p.y_in_limit in
       to_z-of_z w64 _ swept_fits ∙ (λ i. left i -ℤ right i)
 
--- what `swept` needs
-pub ruleset swept_area = (swept_fits, swept_read, swept_size)
+  -- within its size
+  pub swept_small : unsigned_abs (read (read (read p.x *ℤ read q.y) -ℤ read (read q.x *ℤ read p.y))) < 2 ^ 47
+  swept_small = rw swept_read swept_size

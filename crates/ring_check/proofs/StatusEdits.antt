@@ -1,0 +1,29 @@
+-- The numbers of edges in a list after one is put in, or takes the place of another.
+use Rattle.std.proofs.Common.{◌≡◌, ◌∙◌, sym, ap, ℕ, ◌+◌, ◌<◌, List, ◌∷◌, get_or, length, set, take, drop, arith}
+use Rattle.std.proofs.lemmas.List.Elements.{All-append, All-cons, All-drop, All-set, All-take}
+use Rattle.std.proofs.lemmas.List.Sums.{sum_by-insert, sum_by-set}
+use Rattle.std.specs.List.{All, insert}
+use Rattle.rings.specs.Status.{one, times}
+
+-- the items are below a number
+abbrev AreBelow : ℕ → List ℕ → Type 0
+AreBelow n xs = All (λ e. e < n) xs
+
+module _ {n m : ℕ} (size : n ≡ m) (xs : List ℕ) (edges : AreBelow n xs) where
+  pub edges_as : AreBelow m xs
+  edges_as = rw size at edges
+
+  pub edges_inserted : (i e : ℕ) → e < m → AreBelow m (insert xs i e)
+  edges_inserted i e edge =
+      All-append (λ k. k < m) (take i xs) (e ∷ drop i xs) (All-take (λ k. k < m) i xs edges_as)
+      (All-cons (λ k. k < m) e (drop i xs) edge (All-drop (λ k. k < m) i xs edges_as))
+
+  pub edges_replaced : (i e : ℕ) → e < m → AreBelow m (set xs i e)
+  edges_replaced i e edge = All-set (λ k. k < m) xs i e edge edges_as
+
+-- how often a number is there
+pub times_inserted : (xs : List ℕ) (i e x : ℕ) → times x (insert xs i e) ≡ times x xs + one x e
+times_inserted xs i e x = sum_by-insert (one x) xs i e
+
+pub times_replaced : (xs : List ℕ) (i e f d x : ℕ) → i < length xs → d ≡ get_or xs i d → d ≡ e → times x (set xs i f) + one x e ≡ times x xs + one x f
+times_replaced xs i e f d x within at is = omega (arith, sum_by-set (one x) xs i f d within, ap (one x) (sym at ∙ is))
