@@ -78,6 +78,7 @@ impl Hom {
     pub fn of_narrow_parts(x: i128, y: i128, w: i128) -> Option<Hom>
         ensures bounds { IsSome result ↔ (IsPoint (record { X = x; Y = y; W = w }) × IsNarrow (record { X = x; Y = y; W = w })) }
         ensures point { IfSome result (λ p. p ≡ record { X = x; Y = y; W = w }) }
+        ensures narrow { IfSome result IsNarrow }
     {
         if x.unsigned_abs() < 1 << 74 && y.unsigned_abs() < 1 << 74 && 0 < w && w < 1 << 49 {
             Some(Hom { x, y, w })
