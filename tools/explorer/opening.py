@@ -56,4 +56,8 @@ def example(name: str) -> Optional[Dict[str, Any]]:
     """An example by its name in the list, and no other file."""
     if name not in [listed['name'] for listed in examples()]:
         return None
-    return opened(name, (EXAMPLES / name).read_bytes())
+    data = (EXAMPLES / name).read_bytes()
+    try:
+        return opened(name, data)
+    except seam.NotRead:  # it is too fine for version 1
+        return opened(name, data, 2)
