@@ -9,7 +9,7 @@ import subprocess
 import threading
 import time
 from pathlib import Path
-from tempfile import TemporaryDirectory
+from tempfile import mkdtemp
 from typing import Any, Callable, Dict, List, Optional, Tuple
 
 NAMES = ('chromium', 'chromium-browser', 'google-chrome')
@@ -20,8 +20,8 @@ KEYS = {'Enter': 13, 'Escape': 27, 'PageUp': 33, 'PageDown': 34, 'ArrowLeft': 37
 
 def found() -> Optional[str]:
     """Where Chromium is, if it is anywhere."""
-    named = os.environ.get('CHROMIUM')
-    return named or next((path for path in map(shutil.which, NAMES) if path), None)
+    paths = [os.environ.get('CHROMIUM')] + [shutil.which(name) for name in NAMES]
+    return next((path for path in paths if path), None)
 
 
 class Browser:
@@ -30,13 +30,13 @@ class Browser:
     def __init__(self) -> None:
         program = found()
         assert program, 'there is no Chromium'
-        self._folder = TemporaryDirectory(ignore_cleanup_errors=True)
-        self.downloads = Path(self._folder.name) / 'downloads'
+        self._folder = Path(mkdtemp())
+        self.downloads = self._folder / 'downloads'
         to_read, self._write = os.pipe()
         self._read, to_write = os.pipe()
         words = [program, '--headless=new', '--no-sandbox', '--disable-gpu', '--disable-dev-shm-usage', '--no-first-run', '--hide-scrollbars',
                  '--disable-extensions', '--disable-background-networking', '--disable-component-update', '--remote-debugging-pipe',
-                 f'--user-data-dir={self._folder.name}/profile', 'about:blank']
+                 f'--user-data-dir={self._folder}/profile', 'about:blank']
         shell = f'exec "$@" 3<&{to_read} 4>&{to_write}'
         self._process = subprocess.Popen(['sh', '-c', shell, 'sh', *words], pass_fds=(to_read, to_write), stdin=subprocess.DEVNULL,
                                          stdout=subprocess.DEVNULL, stderr=subprocess.DEVNULL)
@@ -50,20 +50,17 @@ class Browser:
         self.command('Browser.setDownloadBehavior', behavior='allow', downloadPath=str(self.downloads))
 
     def _listen(self) -> None:
-        with os.fdopen(self._read, 'rb') as source:
-            rest = b''
-            while True:
-                block = source.raw.read(1 << 20)  # type: ignore[attr-defined]
-                if not block:
-                    break
-                *messages, rest = (rest + block).split(b'\0')
-                with self._came:
-                    for message in map(json.loads, messages):
-                        if 'id' in message:
-                            self._replies[message['id']] = message
-                        else:
-                            self.events.append(message)
-                    self._came.notify_all()
+        rest = b''
+        while block := os.read(self._read, 1 << 20):
+            *messages, rest = (rest + block).split(b'\0')
+            with self._came:
+                for message in map(json.loads, messages):
+                    if 'id' in message:
+                        self._replies[message['id']] = message
+                    else:
+                        self.events.append(message)
+                self._came.notify_all()
+        os.close(self._read)
 
     def send(self, method: str, session: str = '', **parameters: Any) -> int:
         """Sends a command, and gives its number."""
@@ -100,12 +97,11 @@ class Browser:
             self._process.kill()
             self._process.wait()
         os.close(self._write)
-        for _ in range(20):
-            try:
-                self._folder.cleanup()
+        for _ in range(20):  # its helpers still write for a moment
+            shutil.rmtree(self._folder, ignore_errors=True)
+            if not self._folder.exists():
                 break
-            except OSError:  # its helpers still write
-                time.sleep(0.1)
+            time.sleep(0.1)
 
 
 class Page:
@@ -187,7 +183,19 @@ class Page:
                          **(shown if kind == 'keyDown' else {}))
 
     def type(self, text: str) -> None:
+        """Types into what has the focus."""
         self.command('Input.insertText', text=text)
+
+    def choose(self, selector: str, file: Path) -> None:
+        """Chooses a file, as in a dialog."""
+        root = self.command('DOM.getDocument')['root']['nodeId']
+        node = self.command('DOM.querySelector', nodeId=root, selector=selector)['nodeId']
+        self.command('DOM.setFileInputFiles', nodeId=node, files=[str(file)])
+
+    def pick(self, selector: str, value: str) -> None:
+        """Takes an entry of a list."""
+        self.evaluate(f'(() => {{ const it = document.querySelector({json.dumps(selector)}); it.value = {json.dumps(value)}; '
+                      "it.dispatchEvent(new Event('change')); })()")
 
     def screenshot(self, file: Path, whole: bool = False) -> None:
         made = self.command('Page.captureScreenshot', format='png', captureBeyondViewport=whole)
