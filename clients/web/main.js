@@ -1,7 +1,7 @@
 // The page: puts together what it knows, what it asks, and what it shows.
 import {addressOf, readAddress, stateOf} from './address.js';
 import {Asker, answersTo} from './asker.js';
-import {drawAnswers, drawGrid, drawHandles, drawRing} from './drawing.js';
+import {Shown, drawGrid, drawHandles, drawRing} from './drawing.js';
 import {handles, hint} from './editing.js';
 import {Menu, fillExamples} from './menu.js';
 import {Points, Table, nameOf} from './panel.js';
@@ -29,7 +29,8 @@ export class App {
     this.points = new Points(this, by('points'));
     this.table = new Table(this, by('rows'));
     this.menu = new Menu(this);
-    this.drawn = {}; // what the layer below shows
+    this.shown = new Shown(by('shown'));
+    this.drawn = []; // what the layer below shows
     this.timers = {};
     new ResizeObserver(() => this.resized()).observe(by('canvas'));
   }
@@ -107,8 +108,7 @@ export class App {
     const {answered} = this.asker;
     this.renderBase();
     const {ring} = panel(state);
-    const shown = this.isOfRing() ? answered : [];
-    by('shown').innerHTML = drawAnswers(this.view, shown, ring, state.version);
+    this.shown.render(this.view, this.isOfRing() ? answered : [], ring, state.version);
     by('handles').innerHTML = drawHandles(this.view, handles(state), this.ui.held, this.ui.pen);
     this.points.render();
     this.table.render();

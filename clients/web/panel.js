@@ -126,7 +126,7 @@ export class Table {
   /** @param {string[]} row @param {string[] | null} lines @param {number} k */
   line(row, lines, k) {
     const record = text(row);
-    const short = record.length > 160 ? `${record.slice(0, 150)}…` : record;
+    const short = record.length > 100 ? `${record.slice(0, 90)}…` : record;
     const asked = element('td', {}, ...this.remover(k), coded(short));
     const told = element('td', {class: lines && isRefused(lines) ? 'refused' : ''}, ...(lines ? this.told(record, lines) : ['…']));
     return element('tr', {class: this.app.isNow(k) ? 'now' : ''}, asked, told);

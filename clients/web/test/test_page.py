@@ -61,8 +61,10 @@ class Opened(unittest.TestCase):
         start = opening.opened(self.opens, (EXAMPLES / self.opens).read_bytes()) if self.opens else None
         self.server = server.Server(0, '', make, who, start)
         thread = server.serve_aside(self.server)
-        for act in self.server.sessions.end_all, self.server.server_close, thread.join, self.server.shutdown:
-            self.addCleanup(act)
+        self.addCleanup(self.server.sessions.end_all)
+        self.addCleanup(self.server.server_close)
+        self.addCleanup(thread.join)
+        self.addCleanup(self.server.shutdown)
         self.page = browser.page()
         self.addCleanup(self.page.close)
         self.go()
