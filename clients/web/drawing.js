@@ -7,7 +7,8 @@ import {isRefused, pairs, pointsOf} from './records.js';
 
 const COLOURS = 7;
 const MOST_NUMBERS = 60; // vertices that have their numbers beside them
-const MOST_LINES = 20000; // lines of one answer that are drawn
+/** The most pairs of vertices that are drawn. */
+export const MOST_LINES = 20000;
 
 /** Where answers are drawn. @typedef {{view: View, ring: Point[], version: 1 | 2}} Page */
 

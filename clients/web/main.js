@@ -1,21 +1,39 @@
 // The page: puts together what it knows, what it asks, and what it shows.
 import {addressOf, readAddress, stateOf} from './address.js';
 import {Asker, answersTo} from './asker.js';
-import {Shown, drawGrid, drawHandles, drawRing} from './drawing.js';
+import {MOST_LINES, Shown, drawGrid, drawHandles, drawRing} from './drawing.js';
 import {handles, hint} from './editing.js';
 import {Menu, fillExamples} from './menu.js';
 import {Points, Table, nameOf} from './panel.js';
 import {Pointer} from './pointer.js';
-import {byRecord} from './records.js';
-import {START, Store, allRows, head, panel, panelsOf, pointsNow, questionRows} from './state.js';
+import {byRecord, number} from './records.js';
+import {MOST_VIEWS, START, Store, allRows, head, panel, panelsOf, pointsNow, questionRows} from './state.js';
 import {View} from './view.js';
 import {say} from './words.js';
 
 /** @typedef {import('./records.js').Point} Point */
 /** @typedef {import('./state.js').State} State */
 
+const LONGEST = 1000000; // characters of an address
+
 /** @param {string} id */
 export const by = (id) => /** @type {HTMLElement} */ (document.getElementById(id));
+
+/** What is said where an answer is too long to be drawn whole. @param {import('./records.js').Answered} answered */
+function left({lines: [line]}) {
+  const [word, count] = line.split(',', 2);
+  const most = {guards: MOST_VIEWS, sights: MOST_LINES}[word] ?? Infinity;
+  if (!(Number(count) > most)) return '';
+  const shown = most.toLocaleString('en');
+  return word === 'guards' ? ` What the first ${shown} see is shown.` : ` The first ${shown} are drawn.`;
+}
+
+/** The coordinates of the data, for reading. @param {Point} point @param {import('./state.js').Frame} frame */
+function inData(point, {origin, scale}) {
+  const unit = number(scale);
+  const digits = Math.max(0, Math.ceil(Math.log10(unit)));
+  return point.map((c, k) => (c / unit + number(origin[k])).toFixed(Math.min(digits, 12))).join(', ');
+}
 
 export class App {
   constructor() {
@@ -32,6 +50,7 @@ export class App {
     this.shown = new Shown(by('shown'));
     this.drawn = []; // what the layer below shows
     this.timers = {};
+    addEventListener('hashchange', () => this.addressChanged());
     new ResizeObserver(() => this.resized()).observe(by('canvas'));
   }
 
@@ -70,7 +89,21 @@ export class App {
     const {state} = this.store;
     if (this.ui.held !== null && this.ui.held >= handles(state).length) this.ui.held = null;
     this.ask();
-    this.later('address', 400, () => history.replaceState(null, '', `#${addressOf(this.store.state)}`));
+    this.later('address', 400, () => this.showAddress());
+  }
+
+  /** Puts the state in the address, where it is not too long for one. */
+  showAddress() {
+    const address = addressOf(this.store.state);
+    if (address.length < LONGEST) history.replaceState(null, '', `#${address}`);
+  }
+
+  /** The address was changed by hand. */
+  async addressChanged() {
+    const read = readAddress(location.hash.slice(1));
+    if (!read) return;
+    await this.take(read.rows, (answers) => stateOf(read, answers));
+    this.fit();
   }
 
   /** The records of the question that is being asked. */
@@ -154,7 +187,7 @@ export class App {
     const now = answered.slice(head(state).length + panel(state).kept.length);
     const guards = now.find(({row}) => row[0] === 'guards');
     const last = guards ?? now.at(-1) ?? polygon;
-    return last ? {text: say(last, state.version), refused: last.lines[0].startsWith('bad,')} : {text: hint(state), refused: false};
+    return last ? {text: say(last, state.version) + left(last), refused: last.lines[0].startsWith('bad,')} : {text: hint(state), refused: false};
   }
 
   /** @param {number} k whether record k of the table is of the question that is being asked */
@@ -189,7 +222,9 @@ export class App {
 
   /** @param {Point | null} point */
   showPlace(point) {
-    by('place').textContent = point ? `${point[0].toLocaleString('en')}, ${point[1].toLocaleString('en')}` : '';
+    const {frame} = this.store.state;
+    const data = point && frame ? ` = ${inData(point, frame)}` : '';
+    by('place').textContent = point ? point.map((c) => c.toLocaleString('en')).join(', ') + data : '';
   }
 
   /** Says something in a line below the script. @param {string} text */

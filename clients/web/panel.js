@@ -100,7 +100,7 @@ export class Table {
   constructor(app, body) {
     this.app = app;
     this.body = body;
-    /** @type {{row: string[] | null, lines: string[] | null, line: HTMLElement, mark: string}[]} */
+    /** @type {{lines: string[] | null, line: HTMLElement, mark: string}[]} */
     this.lines = [];
     /** @type {Set<string>} */
     this.opened = new Set();
@@ -111,14 +111,15 @@ export class Table {
     const count = Math.min(wanted.length, MOST_ROWS);
     while (this.lines.length > count) this.lines.pop()?.line.remove();
     for (let k = 0; k < count; k += 1) {
-      const lines = answered[k] && text(answered[k].row) === text(wanted[k]) ? answered[k].lines : null;
+      const record = text(wanted[k]);
+      const lines = answered[k] && text(answered[k].row) === record ? answered[k].lines : null;
       const last = this.lines[k];
-      const mark = `${this.app.keptPlace(k)} ${this.app.isNow(k)}`;
-      if (last && last.row === wanted[k] && last.lines === lines && last.mark === mark) continue;
+      const mark = `${this.app.keptPlace(k)} ${this.app.isNow(k)} ${record}`;
+      if (last && last.lines === lines && last.mark === mark) continue;
       const line = this.line(wanted[k], lines, k);
       if (last) last.line.replaceWith(line);
       else this.body.append(line);
-      this.lines[k] = {row: wanted[k], lines, line, mark};
+      this.lines[k] = {lines, line, mark};
     }
     this.body.parentElement?.classList.toggle('cut', wanted.length > MOST_ROWS);
   }

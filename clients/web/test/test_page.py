@@ -241,6 +241,25 @@ class Tools(Opened):
         self.assertIn('part,5,0,5/2,0,0', self.page.text('#rows tr:last-child td:last-child'))
         self.is_right()
 
+    def test_the_picture_is_shaded_where_the_point_sees(self) -> None:
+        self.page.pick('#examples', 'floor-plan')
+        self.page.until("app.store.state.name === 'floor-plan'")
+        self.tool('see')
+        self.click((1000, 1000))
+        polygon, see = self.script().split('\n')[0], self.script().split('\n')[-2].split(',')
+        grid = [(x, y) for x in range(400, 9000, 760) for y in range(330, 4000, 670)]
+
+        def sees(dx: int, dy: int) -> List[bool]:
+            script = polygon + '\n' + ''.join(f'path,{see[1]},{see[2]},{x + dx},{y + dy}\n' for x, y in grid)
+            return [line.startswith('path,2,') for line in answers_to(make, script).split('\n')[1:-1]]
+
+        told = [sees(dx, dy) for dx in (-60, 60) for dy in (-60, 60)]
+        seen = {place: all(four) for place, four in zip(grid, zip(*told)) if len(set(four)) == 1}
+        self.assertEqual((set(seen.values()), len(seen) > 50), ({True, False}, True))
+        self.page.mouse('mouseMoved', 700, 5)
+        shades = {is_seen: {self.page.colour(*self.at(place)) for place, it in seen.items() if it == is_seen} for is_seen in (True, False)}
+        self.assertEqual(shades[True] & shades[False], set(), shades)
+
     def test_the_way_in_a_tree_follows_the_mouse(self) -> None:
         self.tool('tree')
         self.click((4, 1))
