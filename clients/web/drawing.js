@@ -6,6 +6,7 @@ import {isRefused, pairs, pointsOf} from './records.js';
 /** @typedef {import('./view.js').View} View */
 
 const COLOURS = 7;
+const MOST_DOTS = 400; // vertices in sight that are drawn as dots
 const MOST_NUMBERS = 60; // vertices that have their numbers beside them
 /** The most pairs of vertices that are drawn. */
 export const MOST_LINES = 20000;
@@ -179,13 +180,16 @@ function drawList({view}, {row, lines: [line]}) {
   return path(verdict === 'taut' ? 'way' : 'way dashed', chain(view, points)) + left + dots(view, 'dot', points) + broken;
 }
 
-/** The polygon, with dots at its vertices and their numbers where there is room. @param {View} view @param {import('./state.js').Panel} panel
- *  @param {boolean} isDrawing */
+/** The polygon, with dots at its vertices where not too many are in sight, and their numbers where there is room.
+ *  @param {View} view @param {import('./state.js').Panel} panel @param {boolean} isDrawing */
 export function drawRing(view, {ring, closed}, isDrawing) {
   if (!ring.length) return '';
   const way = chain(view, ring);
-  const shape = closed ? path('ring', `${way}Z`) : path('ring open', way) + (ring.length > 2 ? path('closing', chain(view, [ring[ring.length - 1], ring[0]])) : '');
-  const vertices = ring.length <= 400 || isDrawing ? dots(view, isDrawing ? 'vertex held' : ring.length > MOST_NUMBERS ? 'vertex fine' : 'vertex', ring) : '';
+  const closing = ring.length > 2 ? path('closing', chain(view, [ring[ring.length - 1], ring[0]])) : '';
+  const shape = closed ? path(ring.length > MOST_DOTS ? 'ring many' : 'ring', `${way}Z`) : path('ring open', way) + closing;
+  const inSight = ring.filter((point) => view.hasInSight(point));
+  const kind = isDrawing ? 'vertex held' : ring.length > MOST_NUMBERS ? 'vertex fine' : 'vertex';
+  const vertices = inSight.length <= MOST_DOTS ? dots(view, kind, inSight) : '';
   return shape + vertices + `<g class="numbers">${numbers(view, ring)}</g>`;
 }
 

@@ -19,6 +19,12 @@ const LONGEST = 1000000; // characters of an address
 /** @param {string} id */
 export const by = (id) => /** @type {HTMLElement} */ (document.getElementById(id));
 
+/** Shows a text, where it is another one than before. @param {string} id @param {string} text */
+function show(id, text) {
+  const element = by(id);
+  if (element.textContent !== text) element.textContent = text;
+}
+
 /** What is said where an answer is too long to be drawn whole. @param {import('./records.js').Answered} answered */
 function left({lines: [line]}) {
   const [word, count] = line.split(',', 2);
@@ -39,8 +45,8 @@ export class App {
   constructor() {
     this.view = new View();
     /** What is on its way: the point that is held, the place of the mouse, and the pen of the keyboard.
-     *  @type {{held: number | null, hover: Point | null, pen: Point | null}} */
-    this.ui = {held: null, hover: null, pen: null};
+     *  @type {{held: number | null, hover: Point | null, pen: Point | null, place: Point | null}} */
+    this.ui = {held: null, hover: null, pen: null, place: null};
     this.store = new Store(START, () => this.stateChanged());
     this.asker = new Asker(() => this.answered(), (error) => this.failed(error));
     this.pointer = new Pointer(this, by('canvas'));
@@ -48,7 +54,11 @@ export class App {
     this.table = new Table(this, by('rows'));
     this.menu = new Menu(this);
     this.shown = new Shown(by('shown'));
-    this.drawn = []; // what the layer below shows
+    /** @type {Object<string, unknown[]>} */
+    this.drawn = {}; // what the layer below shows
+    this.marks = ''; // what the layer above shows
+    this.isStale = false; // whether something changed since all was drawn
+    this.frames = 0; // in which there were new answers
     this.timers = {};
     addEventListener('hashchange', () => this.addressChanged());
     new ResizeObserver(() => this.resized()).observe(by('canvas'));
@@ -78,7 +88,7 @@ export class App {
   async take(rows, make) {
     try {
       const answers = rows.length ? byRecord(await answersTo(rows)) : [];
-      this.ui = {held: null, hover: null, pen: null};
+      Object.assign(this.ui, {held: null, hover: null, pen: null});
       this.store.set(make(answers));
     } catch (error) {
       this.note(error instanceof Error ? error.message : String(error));
@@ -135,30 +145,49 @@ export class App {
     if (status !== undefined) this.note(/** @type {Error} */ (error).message);
   }
 
-  /** Shows all as it is now. */
+  /** Shows all as it is, once for the next frame, however much changes before it. */
   render() {
+    if (this.isStale) return;
+    this.isStale = true;
+    requestAnimationFrame(() => {
+      this.isStale = false;
+      this.draw();
+    });
+  }
+
+  draw() {
     const {state} = this.store;
-    const {answered} = this.asker;
+    const {answered, count} = this.asker;
+    if (count !== this.countDrawn) this.frames += 1;
+    this.countDrawn = count;
     this.renderBase();
     const {ring} = panel(state);
     this.shown.render(this.view, this.isOfRing() ? answered : [], ring, state.version);
-    by('handles').innerHTML = drawHandles(this.view, handles(state), this.ui.held, this.ui.pen);
+    const marks = drawHandles(this.view, handles(state), this.ui.held, this.ui.pen);
+    if (marks !== this.marks) by('handles').innerHTML = this.marks = marks;
     this.points.render();
     this.table.render();
     this.menu.render();
-    by('hint').textContent = hint(state);
+    show('hint', hint(state));
+    this.renderPlace();
     this.renderSaid();
   }
 
-  /** The polygon and the grid are drawn anew only where they changed. */
+  /** The grid and the polygon are drawn anew only where they changed. */
   renderBase() {
     const {state} = this.store;
     const it = panel(state);
     const {left, top, scale, width, height} = this.view;
-    const key = [it.ring, it.closed, state.drawing, left, top, scale, width, height];
-    if (key.every((value, k) => value === this.drawn[k])) return;
-    this.drawn = key;
-    by('base').innerHTML = drawGrid(this.view) + drawRing(this.view, it, state.drawing);
+    const frame = [left, top, scale, width, height];
+    this.renderPart('grid', frame, () => drawGrid(this.view));
+    this.renderPart('ring', [...frame, it.ring, it.closed, state.drawing], () => drawRing(this.view, it, state.drawing));
+  }
+
+  /** Draws a part of the layer below, where what it depends on changed. @param {string} id @param {unknown[]} key @param {() => string} make */
+  renderPart(id, key, make) {
+    if (key.every((value, k) => value === this.drawn[id]?.[k])) return;
+    this.drawn[id] = key;
+    by(id).innerHTML = make();
   }
 
   /** Whether the answers are about a polygon with as many vertices as the one that is shown. */
@@ -171,9 +200,9 @@ export class App {
   renderSaid() {
     const {state} = this.store;
     const words = this.words();
-    by('said').textContent = words.text;
+    show('said', words.text);
     by('answer').classList.toggle('refused', words.refused);
-    this.later('aloud', 500, () => { if (by('aloud').textContent !== words.text) by('aloud').textContent = words.text; });
+    this.later('aloud', 500, () => show('aloud', words.text));
     by('canvas').dataset.polygon = String(panel(state).ring.length);
   }
 
@@ -222,9 +251,14 @@ export class App {
 
   /** @param {Point | null} point */
   showPlace(point) {
-    const {frame} = this.store.state;
-    const data = point && frame ? ` = ${inData(point, frame)}` : '';
-    by('place').textContent = point ? point.map((c) => c.toLocaleString('en')).join(', ') + data : '';
+    this.ui.place = point;
+    this.render();
+  }
+
+  renderPlace() {
+    const {store: {state: {frame}}, ui: {place}} = this;
+    const data = place && frame ? ` = ${inData(place, frame)}` : '';
+    show('place', place ? place.map((c) => c.toLocaleString('en')).join(', ') + data : '');
   }
 
   /** Says something in a line below the script. @param {string} text */

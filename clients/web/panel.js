@@ -7,6 +7,7 @@ import {panel, withPanel} from './state.js';
 /** @typedef {import('./records.js').Answered} Answered */
 
 const MOST_POINTS = 64; // rows with numbers
+const FEW_POINTS = 9; // of more points, those near the one that is held
 const MOST_ROWS = 300; // records in the table
 const FEW_LINES = 8; // of an answer, before all are asked for
 const MANY_LINES = 5000;
@@ -48,9 +49,9 @@ export class Points {
   render() {
     const {store: {state}, ui} = this.app;
     const points = handles(state);
-    const around = Math.max(0, Math.min((ui.held ?? 0) - MOST_POINTS / 2, points.length - MOST_POINTS));
+    const count = points.length > MOST_POINTS ? FEW_POINTS : points.length;
+    const around = Math.max(0, Math.min((ui.held ?? 0) - (FEW_POINTS >> 1), points.length - count));
     this.first = around;
-    const count = Math.min(points.length, MOST_POINTS);
     while (this.rows.length < count) this.rows.push(this.row(this.rows.length));
     while (this.rows.length > count) this.rows.pop()?.item.remove();
     this.rows.forEach((row, at) => this.fill(row, at + around, points[at + around]));
@@ -79,7 +80,7 @@ export class Points {
       remove.setAttribute('aria-label', `Remove ${label}`);
     }
     item.classList.toggle('held', ui.held === k);
-    remove.disabled = !canRemove(state, k);
+    if (remove.disabled === canRemove(state, k)) remove.disabled = !remove.disabled;
     inputs.forEach((input, at) => {
       const isTyped = document.activeElement === input && (input.value === '' || Number(input.value) === point[at]);
       if (!isTyped && input.value !== String(point[at])) input.value = String(point[at]);

@@ -15,8 +15,13 @@ export class Pointer {
     this.isMoving = false; // a point
     this.isPanning = false;
     this.hasMoved = false; // whether this press changed something
+    /** @type {DOMRect | null} */
+    this.box = null; // where the picture is on the screen
     /** @type {Map<number, Point>} */
     this.fingers = new Map();
+    for (const kind of ['scroll', 'resize', 'pointerdown']) addEventListener(kind, () => { this.box = null; }, {capture: true, passive: true});
+    new ResizeObserver(() => { this.box = null; }).observe(canvas);
+    canvas.addEventListener('pointerenter', () => { this.box = null; });
     canvas.addEventListener('pointerdown', (event) => this.down(event));
     canvas.addEventListener('pointermove', (event) => this.move(event));
     canvas.addEventListener('pointerup', (event) => this.up(event));
@@ -28,10 +33,11 @@ export class Pointer {
     canvas.addEventListener('contextmenu', (event) => event.preventDefault());
   }
 
-  /** @param {MouseEvent} event @returns {Point} in pixels of the picture */
+  /** Where an event is, in pixels of the picture. Where the picture is on the screen is asked again only once it may have moved, since the
+   *  browser lays out the page for it. @param {MouseEvent} event @returns {Point} */
   place(event) {
-    const box = this.canvas.getBoundingClientRect();
-    return [event.clientX - box.left, event.clientY - box.top];
+    this.box ??= this.canvas.getBoundingClientRect();
+    return [event.clientX - this.box.left, event.clientY - this.box.top];
   }
 
   /** @param {PointerEvent} event */

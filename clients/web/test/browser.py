@@ -131,6 +131,10 @@ class Page:
         self.command('Page.navigate', url=address)
         self.until("document.documentElement?.dataset.ready === 'yes'")
 
+    def front(self) -> None:
+        """Comes before the other tabs. What is behind another tab draws nothing."""
+        self.command('Page.bringToFront')
+
     def evaluate(self, text: str) -> Any:
         """The value of an expression in the page."""
         made = self.command('Runtime.evaluate', expression=text, awaitPromise=True, returnByValue=True)

@@ -4,8 +4,8 @@
     clients/web/test/speed.py [--seconds N] [--sizes 1000,4096] [--program FILE]
 
 In the column `mouse` the mouse is moved by the browser's protocol, as by a hand: Chromium then tells its page of one move in a frame, so there
-are at most some 60 answers in a second. In the column `flood` the page is told of moves without a pause, and draws as many answers as it can;
-what comes while a question is on its way is passed over, but for the newest. `waiting` is the greatest number of questions that were on their
+are at most some 60 answers in a second. In the column `flood` the page is told of moves without a pause; it draws
+once in a frame, so that this has the same bound. What comes while a question is on its way is passed over, but for the newest. `waiting` is the greatest number of questions that were on their
 way at once. The answer at the end is compared with that of a new session.
 """
 from __future__ import annotations
@@ -26,16 +26,16 @@ from explorer import backends, server
 sys.path.insert(0, str(TOP / 'bench'))
 inputs: Any = importlib.import_module('inputs')
 Place = Tuple[int, int]
-SETTLED = 'app.asker.known() === app.asker.wanted.length && !app.asker.isBusy && app.asker.answered.length === app.asker.wanted.length'
+SETTLED = 'app.asker.known() === app.asker.wanted.length && !app.asker.isBusy && app.asker.answered.length === app.asker.wanted.length && !app.isStale'
 FLOOD = """new Promise((done) => {
   const canvas = document.getElementById('canvas');
   const places = PLACES;
   const end = performance.now() + SECONDS * 1000;
-  const before = app.asker.count;
+  const before = app.frames;
   const channel = new MessageChannel();
   let k = 0;
   channel.port1.onmessage = () => {
-    if (performance.now() > end) return done((app.asker.count - before) / SECONDS);
+    if (performance.now() > end) return done((app.frames - before) / SECONDS);
     const [clientX, clientY] = places[k++ % places.length];
     canvas.dispatchEvent(new PointerEvent('pointermove', {pointerId: 1, pointerType: 'mouse', clientX, clientY, buttons: 1}));
     setTimeout(() => channel.port2.postMessage(0), 1);
@@ -82,7 +82,7 @@ class Drag:
     def by_mouse(self, seconds: float) -> float:
         """Answers in a second while the mouse is moved some 125 times in a second."""
         places = round_trip(self.middle(), 9)
-        before, start, k = self.page.evaluate('app.asker.count'), time.monotonic(), 0
+        before, start, k = self.page.evaluate('app.frames'), time.monotonic(), 0
         sent = []
         while time.monotonic() - start < seconds:
             x, y = places[k % len(places)]
@@ -90,7 +90,7 @@ class Drag:
                                                button='left' if self.holds else 'none', buttons=int(self.holds)))
             k += 1
             time.sleep(max(0.0, start + k * 0.008 - time.monotonic()))
-        count = self.page.evaluate('app.asker.count') - before
+        count = self.page.evaluate('app.frames') - before
         taken = time.monotonic() - start
         for number in sent:
             self.page.browser.reply(number)

@@ -20,7 +20,7 @@ from explorer import backends, opening, seam, server
 
 Place = Tuple[int, int]
 L: List[Place] = [(0, 0), (4, 0), (4, 2), (2, 2), (2, 4), (0, 4)]
-SETTLED = 'app.asker.known() === app.asker.wanted.length && !app.asker.isBusy && app.asker.answered.length === app.asker.wanted.length'
+SETTLED = 'app.asker.known() === app.asker.wanted.length && !app.asker.isBusy && app.asker.answered.length === app.asker.wanted.length && !app.isStale'
 RATIO = """(() => {
   const probe = document.body.appendChild(document.createElement('span'));
   const light = (name) => {
@@ -503,10 +503,13 @@ class Tabs(Opened):
         other = browser.page()
         self.go(page=other)
         self.sessions(2)
+        self.page.front()
         self.tool('kernel')
         self.assertEqual(other.evaluate("app.asker.answered.at(-1).row[0]"), 'path')
+        other.front()
         other.evaluate("app.store.set({...app.store.state, version: 2, question: 'guards'})")
         self.settle(other)
+        self.page.front()
         self.is_right()
         self.assertEqual(other.faults(), [])
         other.close()
