@@ -24,7 +24,6 @@ TYPES = {
     'see': 'Polygon', 'kernel': 'Polygon', 'hull': 'Polygon', 'round': 'Polygon', 'guards': 'Point', 'pair': 'LineString',
     'sights': 'LineString',
 }
-DEFAULT_CRS = 'none is named; GeoJSON then has longitude and latitude in degrees, WGS 84'
 
 
 class Features:
@@ -40,16 +39,15 @@ class Features:
         if only and not any(it.row.word == only for it in found):
             raise Fault(f'--only {only}: the script has no record {only}')
         lines = [self.line(*feature, only) for it in found if only in (None, it.row.word) for feature in self.of(it)]
-        return f'{{"type": "FeatureCollection", {self.crs()}, "features": [\n' + ',\n'.join(lines) + '\n]}\n'
+        return f'{{"type": "FeatureCollection", "name": "answers", {self.crs()}, "features": [\n' + ',\n'.join(lines) + '\n]}\n'
 
     def crs(self) -> str:
-        """The CRS as the data names it, or that it names none."""
+        """The CRS as the data names it, or that it names none. In GeoJSON null says that there is none, and without a word it is as in the
+        data: longitude and latitude."""
         saved = self.saved
         if saved.crs is not None:
             return f'"crs": {json.dumps(saved.crs)}, "crs_of_data": {json.dumps(name_of(saved.crs))}'
-        if saved.form == 'GeoJSON':
-            return f'"crs_of_data": "{DEFAULT_CRS}"'
-        return '"crs": null, "crs_of_data": "none is named"'
+        return ('' if saved.form == 'GeoJSON' else '"crs": null, ') + '"crs_of_data": "none is named"'
 
     def line(self, properties: dict[str, Any], geometry: Geometry, only: Optional[str]) -> str:
         if only and geometry and geometry[0] != TYPES[only]:
@@ -77,6 +75,10 @@ class Features:
     def exact(self, points: Sequence[Point]) -> list[list[str]]:
         """Points in the units of the data, as decimals where these have an end and else as fractions."""
         return [[text(c) for c in self.saved.frame.back(point)] for point in points]
+
+    def flat(self, points: Sequence[Point]) -> list[str]:
+        """The coordinates of points one after another, as `exact` has them."""
+        return [c for point in self.exact(points) for c in point]
 
     def of(self, it: About) -> Iterator[Feature]:
         """The features of an answer."""
@@ -126,10 +128,10 @@ class Features:
         rows = it.row.lines[1:]
         parts = [pairs(row[2:]) for row in rows]
         seen = view(viewpoint, [(a, b) for a, b in parts])
-        properties: dict[str, Any] = {'viewpoint': self.exact([viewpoint])[0], 'edges': [self.vertex(it, int(row[1])) for row in rows],
-                                      'parts': [sum(self.exact(part), []) for part in parts]}
+        numbered: list[Any] = [[self.vertex(it, int(row[1])), *self.flat(part)] for row, part in zip(rows, parts)]
+        properties: dict[str, Any] = {'viewpoint': f'POINT ({" ".join(self.exact([viewpoint])[0])})', 'parts': numbered}
         if seen.spikes:
-            properties['spikes'] = [sum(self.exact(spike), []) for spike in seen.spikes]
+            properties['spikes'] = [self.flat(spike) for spike in seen.spikes]
         yield properties, area(seen.corners)
 
     def kernel(self, it: About) -> Iterator[Feature]:
@@ -141,7 +143,7 @@ class Features:
         yield {'sides': [[int(i), int(j)] for _, i, j, *_ in it.row.lines[1:]]}, bounded(chain, it)
 
     def round(self, it: About) -> Iterator[Feature]:
-        yield {'round': it.row.numbers}, bounded(self.chains[it.place], it)
+        yield {'round': ','.join(map(str, it.row.numbers))}, bounded(self.chains[it.place], it)
 
     def guards(self, it: About) -> Iterator[Feature]:
         numbers = it.row.numbers

@@ -16,6 +16,7 @@ SIZE = 12
 LINE, ENTRY = 15, 20  # from line to line, and from entry to entry
 SWATCH = 18
 LINES = 3  # of an entry at most
+IN_PLACE = ('outside', 'no_tree', 'no_polygon', 'clash')  # refusals of records whose points are numbers
 WITH_POINTS = ('path', 'reach', 'pair')  # answers whose first line has points
 
 
@@ -46,7 +47,7 @@ def record(it: About, frame: Optional[Frame]) -> str:
         return 'polygon,..'
     if row.word == 'polygon' and len(row.record) > 25:
         return shown([*row.record[:5], '..'])
-    if frame and not row.is_refused and row.word not in (*NUMBERED, 'geo'):
+    if frame and row.word not in (*NUMBERED, 'geo') and (not row.is_refused or row.lines[0][1] in IN_PLACE):
         return shown([row.word, *(text(c) for point in row.points for c in frame.back(point))])
     return shown(row.record)
 

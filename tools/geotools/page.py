@@ -43,11 +43,6 @@ class Page:
     def at(self, points: Sequence[Point]) -> str:
         return ' '.join(f'{short(self.x(x))},{short(self.y(y))}' for x, y in points)
 
-    def length(self, points: Sequence[Point]) -> float:
-        """How long a closed line is on the page."""
-        places = [(self.x(x), self.y(y)) for x, y in points]
-        return sum(math.dist(a, b) for a, b in zip(places, places[1:] + places[:1]))
-
     def line(self, kind: str, points: Sequence[Point], colour: str, more: str = '') -> str:
         return f'<polyline class="{kind}" points="{self.at(points)}" stroke="{colour}"{more}/>'
 
@@ -59,6 +54,19 @@ class Page:
         fill = 'white' if is_hollow else colour
         edge = f'stroke="{colour}" stroke-width="{short(min(1.5, radius / 2))}"'
         return f'<circle cx="{x}" cy="{y}" r="{short(radius)}" fill="{fill}" {edge}/>'
+
+    def lines(self, kind: str, parts: Sequence[Sequence[Point]], colour: str, more: str = '') -> str:
+        """Many lines as one. One that begins where another ends goes on from it."""
+        drawn, last = '', None
+        for first, *rest in parts:
+            drawn += ('' if first == last else f'M{self.at([first])}') + ''.join(f'L{self.at([point])}' for point in rest)
+            last = rest[-1] if rest else first
+        return f'<path class="{kind}" d="{drawn}" stroke="{colour}"{more}/>'
+
+    def dots(self, points: Sequence[Point], colour: str, radius: float) -> list[str]:
+        """Many small dots."""
+        at = [f'<circle cx="{short(self.x(x))}" cy="{short(self.y(y))}" r="{short(radius)}"/>' for x, y in points]
+        return [f'<g fill="{colour}">', *at, '</g>']
 
     def cross(self, point: Point, colour: str, radius: float = 4) -> str:
         x, y, r = short(self.x(point[0])), short(self.y(point[1])), short(radius)
@@ -81,11 +89,17 @@ class Page:
         return [f'<text class="number" x="{short(found[0])}" y="{short(found[1])}">{label}</text>'] if found else []
 
     def ticks(self, axis: int) -> list[Tuple[Fraction, str]]:
-        """Round numbers along an axis in the units of the frame, each with its text, by where they are in the script's."""
+        """Round numbers along an axis in the units of the frame, each with its text, by where they are in the script's. They are as many
+        as have room."""
         length = (self.wide, self.high)[axis]
         low, high = (self.frame.back((place, place))[axis] for place in (self.low[axis], self.low[axis] + length))
         origin = (self.frame.x, self.frame.y)[axis]
-        return [((value - origin) * self.frame.scale, text(value)) for value in round_numbers(low, high, self.frame is UNITS)]
+        for most in range(8, 0, -1):
+            values = round_numbers(low, high, self.frame is UNITS, most)
+            long = [width(text(value), SMALL) if axis == 0 else SMALL for value in values]
+            if len(values) < 2 or max(long) + 4 <= float((values[1] - values[0]) * self.frame.scale * self.scale):
+                break
+        return [((value - origin) * self.frame.scale, text(value)) for value in values]
 
     def margins(self) -> Tuple[float, float]:
         """How much room the axes want on the left and on the right."""
@@ -115,12 +129,12 @@ def short(value: float) -> str:
     return f'{value:.1f}'.removesuffix('.0')
 
 
-def round_numbers(low: Fraction, high: Fraction, is_whole: bool) -> list[Fraction]:
-    """Round numbers from one to another, at most nine of them."""
+def round_numbers(low: Fraction, high: Fraction, is_whole: bool, most: int) -> list[Fraction]:
+    """Round numbers from one to another, with at most so many steps."""
     if low == high:
         return [low]
     unit = Fraction(10) ** (math.floor(math.log10(high - low)) - 2)
-    step = next(it for k in range(4) for it in (unit * 10**k, 2 * unit * 10**k, 5 * unit * 10**k) if it * 8 >= high - low)
+    step = next(it for k in range(5) for it in (unit * 10**k, 2 * unit * 10**k, 5 * unit * 10**k) if it * most >= high - low)
     if is_whole:
         step = max(step, Fraction(1))
     first = math.ceil(low / step) * step

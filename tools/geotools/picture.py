@@ -33,9 +33,11 @@ class Panel:
     def points(self) -> list[Point]:
         return self.ring + [p for it in self.rows if not it.row.is_refused for p in it.row.points]
 
-    def radius(self, page: Page, most: float, count: int) -> float:
-        """How great dots are, so that so many of them along the outline leave it to be seen."""
-        return max(1.2, min(most, 0.4 * page.length(self.ring) / max(1, count)))
+    def radius(self, page: Page, most: float, numbers: Sequence[int]) -> float:
+        """How great dots at some vertices are, so that they leave the outline to be seen between them."""
+        places = [(page.x(self.ring[i][0]), page.y(self.ring[i][1])) for i in numbers]
+        apart = sorted(math.dist(a, b) for a, b in zip(places, places[1:] + places[:1]))
+        return max(1.2, min(most, 0.4 * apart[len(apart) // 4])) if len(places) > 1 else most
 
 
 def panels(found: Sequence[About]) -> list[Panel]:
@@ -126,7 +128,7 @@ def draw_tree(it: About, panel: Panel, page: Page, colour: str) -> list[str]:
     source = it.row.points[0]
     ends = [(panel.ring[i], line[2]) for i, line in enumerate(it.row.lines[1:])]
     ways = [[p, source if before == 's' else panel.ring[int(before)]] for p, before in ends if before != '-']
-    return [page.line('branch', way, colour) for way in ways] + [page.dot(source, colour, True)]
+    return [page.lines('branch', ways, colour), page.dot(source, colour, True)]
 
 
 def draw_view(it: About, panel: Panel, page: Page, colour: str) -> list[str]:
@@ -134,8 +136,8 @@ def draw_view(it: About, panel: Panel, page: Page, colour: str) -> list[str]:
     parts = [(a, b) for a, b in (pairs(line[2:]) for line in it.row.lines[1:])]
     seen = view(viewpoint, parts)
     spikes = [page.line('branch', spike, colour) for spike in seen.spikes]
-    edges = [page.line('part', part, colour) for part in parts]
-    return [page.area('seen', seen.corners, colour), *spikes, *edges, page.dot(viewpoint, colour)]
+    fine = ' style="stroke-width: 2"' if len(panel.ring) > FINE else ''
+    return [page.area('seen', seen.corners, colour), *spikes, page.lines('part', parts, colour, fine), page.dot(viewpoint, colour)]
 
 
 def draw_kernel(it: About, panel: Panel, page: Page, colour: str) -> list[str]:
@@ -159,12 +161,12 @@ def draw_round(it: About, panel: Panel, page: Page, colour: str) -> list[str]:
 
 
 def draw_guards(it: About, panel: Panel, page: Page, colour: str) -> list[str]:
-    radius = panel.radius(page, 6, len(it.row.numbers))
-    return [page.dot(panel.ring[i], colour, radius=radius) for i in it.row.numbers]
+    radius = panel.radius(page, 6, it.row.numbers)
+    return page.dots([panel.ring[i] for i in it.row.numbers], colour, radius)
 
 
 def draw_sights(it: About, panel: Panel, page: Page, colour: str) -> list[str]:
-    return [page.line('sight', [panel.ring[int(i)], panel.ring[int(j)]], colour) for _, i, j in it.row.lines[1:]]
+    return [page.lines('sight', [[panel.ring[int(i)], panel.ring[int(j)]] for _, i, j in it.row.lines[1:]], colour)]
 
 
 DRAW: dict[str, Draw] = {

@@ -93,8 +93,8 @@ class Answers(unittest.TestCase):
         self.assertEqual(found[0]['properties'], {'question': 1, 'record': 'kernel', 'refused': 'no_polygon'})
         self.assertEqual(found[1]['properties'], {'question': 2, 'record': 'polygon', 'polygon': 1, 'vertices': 3})
         self.assertEqual(found[1]['geometry']['coordinates'], [[[8, 0], [8.4, 0], [8.4, 0.4], [8, 0]]])
-        self.assertEqual(found[2]['properties']['parts'][0], ['241/30', '0', '8.4', '0'])
-        self.assertEqual(found[2]['geometry']['coordinates'][0][0], [241 / 30, 0])
+        self.assertEqual(found[2]['properties']['parts'][0], [0, '241/30', '0', '8.4', '0'])
+        self.assertEqual((found[2]['properties']['viewpoint'], found[2]['geometry']['coordinates'][0][0]), ('POINT (8.4 0.1)', [241 / 30, 0]))
         self.assertEqual(self.features('--digits', '2')[2]['geometry']['coordinates'][0][0], [8.03, 0])
 
     def test_lines_and_points_with_their_numbers(self) -> None:

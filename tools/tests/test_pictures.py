@@ -42,7 +42,7 @@ class Shown(unittest.TestCase):
         svg = drawn(SCRIPT, OUTPUT)
         for text in ('kernel → bad,no_polygon', 'see,4,1 → see,3', 'inside,9,9 → outside'):
             self.assertIn(text, svg)
-        self.assertEqual((svg.count('class="part"'), svg.count('class="seen"')), (3, 1))
+        self.assertEqual((svg.count('class="part"'), svg.count('class="seen"')), (1, 1))
 
     def test_version_2(self) -> None:
         answered = script.paired(SCRIPT_2, OUTPUT_2)
@@ -52,7 +52,7 @@ class Shown(unittest.TestCase):
 
     def test_points_and_lines(self) -> None:
         svg = drawn(SCRIPT_3, OUTPUT_3)
-        self.assertEqual([svg.count(text) for text in ('class="sight"', 'class="way"', 'r="6"')], [3, 2, 1])
+        self.assertEqual([svg.count(text) for text in ('class="sight"', 'class="way"', 'r="6"')], [1, 2, 1])
 
     def test_dots_are_small_where_they_are_many(self) -> None:
         count = 600
