@@ -140,10 +140,15 @@ class Features:
 
     def hull(self, it: About) -> Iterator[Feature]:
         chain = self.chains[it.place]
-        yield {'sides': [[int(i), int(j)] for _, i, j, *_ in it.row.lines[1:]]}, bounded(chain, it)
+        yield {'sides': [[int(i), int(j)] for _, i, j, *_ in it.row.lines[1:]], **self.twice(chain)}, bounded(chain, it)
 
     def round(self, it: About) -> Iterator[Feature]:
-        yield {'round': ','.join(map(str, it.row.numbers))}, bounded(self.chains[it.place], it)
+        chain = self.chains[it.place]
+        yield {'round': ','.join(map(str, it.row.numbers)), **self.twice(chain)}, bounded(chain, it)
+
+    def twice(self, chain: Chain) -> dict[str, Any]:
+        """What a chain that bounds an area goes along there and back beside it."""
+        return {'twice': [self.flat(segment) for segment in chain.twice]} if chain.rings and chain.twice else {}
 
     def guards(self, it: About) -> Iterator[Feature]:
         numbers = it.row.numbers
@@ -170,9 +175,10 @@ def area(corners: list[Point]) -> Geometry:
 
 
 def bounded(chain: Chain, it: About) -> Geometry:
-    """What a closed chain bounds; the chain itself where that is no area, or it touches itself."""
-    if chain.is_ring:
-        return area(chain.corners)
+    """What a closed chain bounds; the chain itself where that is no area."""
+    if chain.rings:
+        made = [area(ring) for ring in chain.rings]
+        return made[0] if len(made) == 1 else ('MultiPolygon', [it[1] for it in made if it])
     if len(chain.paths) < 2:
         return line(it.row.points)
     return line(chain.paths[0]) if len(chain.paths) == 2 else ('MultiLineString', chain.paths)

@@ -11,7 +11,7 @@ from .about import About, abouts
 from .exact import Point
 from .legend import legend, shown
 from .page import GAP, STYLE, Page, short
-from .saved import Saved
+from .saved import Known, Saved
 from .script import Answered, pairs, version
 from .view import view
 
@@ -28,6 +28,11 @@ class Panel:
     ring: list[Point]
     version: int
     rows: list[About] = field(default_factory=list)
+
+    @property
+    def known(self) -> Optional[Known]:
+        """Which polygon it is."""
+        return next((it.known for it in self.rows if it.known), None) if self.ring else None
 
     @property
     def points(self) -> list[Point]:
@@ -74,7 +79,7 @@ def draw_ring(it: About, panel: Panel, page: Page, colour: str) -> list[str]:
 def numbers(panel: Panel, page: Page) -> list[str]:
     """The numbers of the vertices, outside of the polygon as far as there is room."""
     ring, made = panel.ring, []
-    known = panel.rows[0].known
+    known = panel.known
     for i, point in enumerate(ring if len(ring) <= NUMBERED else []):
         away = outward(page, ring[i - 1], point, ring[(i + 1) % len(ring)], area(ring) > 0)
         made += page.number(point, str(known.vertex(i) if known else i), away, ring)
@@ -207,5 +212,4 @@ def picture_of(found: Sequence[About], saved: Optional[Saved]) -> str:
 
 def title(panel: Panel) -> str:
     """The name of a polygon, if it is known."""
-    known = panel.rows[0].known if panel.ring else None
-    return shown([known.name]) if known and known.name else ''
+    return shown([panel.known.name]) if panel.known and panel.known.name else ''

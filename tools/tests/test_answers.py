@@ -12,6 +12,7 @@ from typing import Any, Optional, Sequence, Tuple
 
 from .common import PROGRAM, WITHOUT, Word, run
 from geotools import frame, saved, script
+from geotools.chain import loops_of
 from geotools.exact import Point
 from geotools.outline import Outline
 from geotools.view import View, along, on_one_ray, turn, view
@@ -232,4 +233,11 @@ class Chains(unittest.TestCase):
     def test_chains_that_bound_none(self) -> None:
         self.assertEqual(self.geometries('hull,4,2,2,4', 'round,4,2,2,4', 'hull,1,1', 'round,1,1'),
                          2 * ['[[4, 2], [2, 2], [2, 4]]'] + 2 * ['[1, 1]'])
-        self.assertEqual(self.geometries('hull,4,2,2,4,1,2'), ['[[[4, 2], [2, 2], [2, 4]], [[2, 4], [1, 2]], [[1, 2], [4, 2]]]'])
+
+    def test_a_chain_that_meets_itself(self) -> None:
+        """It goes along the edge from (4, 2) to (2, 2) there and back, also where version 1 does not name (2, 2)."""
+        self.assertEqual(self.geometries('hull,4,2,2,4,1,2', 'geo,2', 'round,4,2,2,4,1,2'), ['[[[2, 2], [2, 4], [1, 2], [2, 2]]]', None] +
+                         ['[[[2, 2], [2, 4], [1, 2], [2, 2]]]'])
+        self.assertEqual(loops_of([point(*p) for p in [(4, 2), (2, 2), (2, 4), (1, 2), (2, 2)]]),
+                         [[(2, 2), (2, 4), (1, 2)], [(4, 2), (2, 2)]])
+        self.assertEqual(self.geometries('hull,4,1,4,2,2,4,1,4'), ['[[[[2, 2], [2, 4], [1, 4], [2, 2]]], [[[4, 1], [4, 2], [2, 2], [4, 1]]]]'])
