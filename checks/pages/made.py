@@ -23,7 +23,7 @@ def with_standing(crate, text):
 def page(path, text):
     """Returns a page as it has to be, but for the length of its lines."""
     if path == Path("docs/DEFINITIONS.md"):
-        return definitions.page()
+        return prose.wrap_page(definitions.page())
     if path.parts[0] == "crates" and path.parts[1] in sources.crates() and len(path.parts) == 3:
         text = with_standing(path.parts[1], text)
     return with_parts(text)
