@@ -90,7 +90,7 @@ def page():
             lines += ["", f"### {heading(module)}", "", *prose.wrap(module.head), ""]
             for it in module.definitions:
                 names = ", ".join(f"`{name}`" for name in it.names)
-                lines += prose.wrap(f"{names}: {sentence(it.comment)}" if it.comment else f"{names}.", "- ", "  ")
+                lines += prose.wrap(f"{names}: {sentence(it.comment)}" if it.comment else f"{names}: as said above.", "- ", "  ")
                 for name in it.names:
                     index[name].append(module)
     lines += ["", "## Layouts, and words of proofs", "", *prose.wrap(

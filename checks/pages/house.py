@@ -193,6 +193,16 @@ def rooms():
     return lines
 
 
+def edits():
+    """The table of the wrong programs, by their names."""
+    lines = ["| Crate | Its wrong programs |", "|---|---|"]
+    for crate in sources.crates():
+        names = [it.stem.replace("_", " ") for it in sources.files() if it.suffix == ".edit" and it.parts[:3] == ("crates", crate, "must-fail")]
+        if names:
+            lines.append(f"| `{crate}/must-fail/` | {'; '.join(names)} |")
+    return lines
+
+
 def standing(crate):
     """The last line of a crate's page."""
     below = sources.crates()[crate]
