@@ -35,10 +35,11 @@ def subjects():
 
 def place(module, every):
     """Returns the subject of a file: the one that names it, else the one that names its crate, else one at the end."""
-    for named in (f"{module.crate}/{module.name}", module.crate):
-        for subject in every:
-            if any(fnmatch.fnmatchcase(named, it) for it in subject.of):
-                return subject
+    for matches in (lambda name, it: name == it, fnmatch.fnmatchcase):
+        for named in (f"{module.crate}/{module.name}", module.crate):
+            for subject in every:
+                if any(matches(named, it) for it in subject.of):
+                    return subject
     if every[-1].title != "Other crates":
         every.append(Subject("Other crates"))
     return every[-1]

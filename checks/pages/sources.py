@@ -4,7 +4,7 @@ import re
 from pathlib import Path
 
 TOP = Path(__file__).resolve().parents[2]
-CODE = {".rt", ".antt", ".py", ".c", ".h", ".edit", ".in", ".js", ".html", ".css"}
+CODE = {".rt", ".antt", ".py", ".c", ".h", ".in", ".js", ".html", ".css"}
 LEFT_OUT = {".git", "out", "__pycache__", "node_modules"}
 WORD = re.compile(r"[A-Za-z_][A-Za-z0-9_]*")
 
@@ -27,9 +27,10 @@ def is_tests(crate):
 
 @functools.cache
 def is_room(crate):
-    """A room of laws has no wrong programs, since its calls have no body."""
-    folder = TOP / "crates" / crate
-    return (folder / "proofs").is_dir() and not (folder / "must-fail").is_dir() and not is_tests(crate)
+    """A room of laws has definitions and proofs, and no function with a body."""
+    code = "\n".join(text(it) for it in files() if it.suffix == ".rt" and it.parts[:3] == ("crates", crate, "src"))
+    functions, empty = re.findall(r"^\s*(?:pub )?(?:const )?fn \w", code, re.M), re.findall(r"^\s*\{\}$", code, re.M)
+    return (TOP / "crates" / crate / "proofs").is_dir() and len(functions) == len(empty) and not is_tests(crate)
 
 
 @functools.cache
