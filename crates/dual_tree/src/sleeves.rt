@@ -20,5 +20,5 @@ pub fn sleeve(alloc: Global, mesh: &Mesh, from: u32, to: u32) -> Result<Sleeve, 
 {
     let _count = mesh.count();
     let walk = walk_between(alloc, mesh, from, to)?;
-    Sleeve::of(alloc, mesh, walk)
+    Sleeve::of(alloc, mesh, &walk)
 }

@@ -48,9 +48,13 @@ negative_of_right (pos zero) e = cc
 negative_of_right (pos (suc n)) e = cc
 negative_of_right (negsuc n) e = omega (arith, ints)
 
--- both
+-- both,
 pub right_iff_negative : (z : ℤ) → (direction_of z ≡ Right) ↔ (z <ℤ pos 0)
 right_iff_negative z = (negative_of_right z, right_of_negative z)
+
+-- and a number is not to the left exactly if it is not positive
+pub not_left_iff : (z : ℤ) → (direction_of z ≢ Left) ↔ (¬ (pos 0 <ℤ z))
+not_left_iff z = (λ other more. other (left_of_positive z more), λ not_more left. not_more (positive_of_left z left))
 
 -- the two as rules
 pub ruleset right_turns = (negative_of_right, right_of_negative)

@@ -1,4 +1,5 @@
 pub mod Direction
+pub mod Names
 pub mod Outside
 pub mod Size
 pub mod Spot

@@ -7,12 +7,13 @@ use Rattle.rings.specs.Chain.{IsBentChain, IsTaut, point_at}
 use Rattle.rings.specs.Ring.{origin}
 use Rattle.funnels.proofs.Trees.{first_on_way, way_to}
 use Rattle.funnels.specs.OpenFunnel.{left_behind}
-use Rattle.exact_plane.specs.Spot.{IsNamed, point_named}
 use Rattle.exact_plane.specs.declared.turns.Spot.{Spot}
 use Rattle.exact_plane.specs.declared.turns.Spot.TheVariants.{Goal, Start}
+use Rattle.exact_plane.specs.Names.{AreNamed, name_at, named_points}
+use Rattle.exact_plane.specs.Spot.{IsNamed, point_named}
 use Rattle.funnel_walk.proofs.FirstNames.{left_named, name_named, one_named, right_named}
 use Rattle.funnel_walk.proofs.NamedLists.{apex_below, left_points, named_push, point_of_name, right_points}
-use Rattle.funnel_walk.specs.Names.{AreNamed, left_names, name_at, named_points, right_names}
+use Rattle.funnel_walk.specs.Names.{left_names, right_names}
 use Rattle.funnel_walk.specs.Walked.{IsWalked}
 
 -- the names that are given and left behind on the way to place h

@@ -6,13 +6,14 @@ use Rattle.plane.specs.Point.{Point}
 use Rattle.rings.specs.Ring.{vertex}
 use Rattle.funnels.proofs.Trees.{first_left, first_right}
 use Rattle.funnels.specs.OpenFunnel.{IsOpenFunnel, left_behind, right_behind}
-use Rattle.exact_plane.specs.Spot.{IsNamed, point_named}
 use Rattle.exact_plane.specs.declared.turns.Spot.{Spot}
 use Rattle.exact_plane.specs.declared.turns.Spot.TheVariants.{Corner, Start}
+use Rattle.exact_plane.specs.Names.{name_at, named_points}
+use Rattle.exact_plane.specs.Spot.{IsNamed, point_named}
 use Rattle.funnel_walk.proofs.FirstNames.{left_named, more_named, one_named, right_named}
 use Rattle.funnel_walk.proofs.NamedLists.{apex_below, front_named, left_points, name_behind, name_in_front, named_drop, named_push, named_take}
 use Rattle.funnel_walk.proofs.NamedLists.{rest_named, right_points}
-use Rattle.funnel_walk.specs.Names.{left_names, name_at, named_points, right_names}
+use Rattle.funnel_walk.specs.Names.{left_names, right_names}
 use Rattle.funnel_walk.specs.Walked.{IsWalked}
 
 module _ (corners : List Point) (start goal : Point) (given names : List Spot) (a i j : ℕ)

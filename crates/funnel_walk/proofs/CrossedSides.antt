@@ -2,6 +2,8 @@
 use Rattle.std.proofs.Common.{◌≡◌, ◌≢◌, inl, inr, sym, subst, ℕ, ◌+◌, ◌-◌, ◌<◌, ◌≤◌, min, List, [], ◌∷◌, ◌++◌, length, take, drop, get_or, arith}
 use Rattle.std.proofs.lemmas.List.{drop-append-le}
 use Rattle.plane.specs.Point.{Point, whole}
+use Rattle.rings.proofs.Vertices.{vertex_in_range}
+use Rattle.rings.specs.Ring.{origin}
 use Rattle.meshes.specs.Fits.{Fits}
 use Rattle.meshes.specs.Side.{HasSide, tri_at}
 use Rattle.meshes.specs.Sleeve.{IsOneOf, Sleeve, diagonal_at}
@@ -9,13 +11,14 @@ use Rattle.meshes.specs.declared.tri.Tri.{Tri}
 use Rattle.funnels.proofs.Chains.{step_left, step_right}
 use Rattle.funnels.proofs.Vertices.{IsSharedSide}
 use Rattle.funnels.specs.Funnel.{IsReachedFrom}
-use Rattle.exact_plane.specs.Spot.{point_named}
 use Rattle.exact_plane.specs.declared.turns.Spot.{Spot}
 use Rattle.exact_plane.specs.declared.turns.Spot.TheVariants.{Corner}
+use Rattle.exact_plane.specs.Names.{named_points}
+use Rattle.exact_plane.specs.Spot.{point_named}
 use Rattle.funnel_walk.proofs.Crossed.{walked_left, walked_right}
 use Rattle.funnel_walk.proofs.NextDiagonals.{next_diagonal, shared}
-use Rattle.funnel_walk.proofs.SideCorners.{diagonal_below, vertex_named}
-use Rattle.funnel_walk.specs.Names.{left_names, named_points, right_names}
+use Rattle.funnel_walk.proofs.SideCorners.{diagonal_below}
+use Rattle.funnel_walk.specs.Names.{left_names, right_names}
 use Rattle.funnel_walk.specs.Walked.{IsWalked}
 
 module _ (corners : List Point) (tris : List Tri) (fits : Fits corners tris) (sleeve : Sleeve) (of_mesh : IsOneOf tris sleeve)
@@ -53,7 +56,7 @@ module _ (corners : List Point) (tris : List Tri) (fits : Fits corners tris) (sl
       let h = n - 1 in
       let next = next_diagonal corners tris fits sleeve of_mesh i inner below in
       let m_below = (diagonal_below corners tris fits sleeve of_mesh i below).1 in
-      let m_is = vertex_named corners start goal m m_below in
+      let m_is = vertex_in_range corners m origin m_below in
       let count : h + 1 ≡ n = omega arith in
       let two = shared corners tris fits sleeve of_mesh i below in
       let sides : HasSide (tri_at tris (get_or sleeve.walk i 0)) r m × HasSide (tri_at tris (get_or sleeve.walk i 0)) m l = elim next.1 [
@@ -80,7 +83,7 @@ module _ (corners : List Point) (tris : List Tri) (fits : Fits corners tris) (sl
       let m = (diagonal_at sleeve i).left in
       let next = next_diagonal corners tris fits sleeve of_mesh i inner below in
       let m_below = (diagonal_below corners tris fits sleeve of_mesh i below).0 in
-      let m_is = vertex_named corners start goal m m_below in
+      let m_is = vertex_in_range corners m origin m_below in
       let two = shared corners tris fits sleeve of_mesh i below in
       elim next.1 [
         | inl left_stays ↦ absurd (other left_stays.0)

@@ -2,10 +2,11 @@
 use Rattle.std.proofs.Common.{◌≡◌, refl, ℕ, zero, suc, ◌+◌, ◌-◌, ◌<◌, ◌≤◌, List, [], ◌∷◌, length, take, arith}
 use Rattle.std.proofs.lemmas.List.Elements.{All-append}
 use Rattle.plane.specs.Point.{Point}
-use Rattle.exact_plane.specs.Spot.{IsNamed}
 use Rattle.exact_plane.specs.declared.turns.Spot.{Spot}
+use Rattle.exact_plane.specs.Names.{AreNamed, name_at}
+use Rattle.exact_plane.specs.Spot.{IsNamed}
 use Rattle.funnel_walk.proofs.NamedLists.{name_in_front}
-use Rattle.funnel_walk.specs.Names.{AreNamed, left_names, name_at, right_names}
+use Rattle.funnel_walk.specs.Names.{left_names, right_names}
 
 -- the names to the right are those of the front,
 pub right_in_front : (names : List Spot) (n a c : ℕ) → a + c ≤ n → right_names (take n names) a c ≡ right_names names a c

@@ -1,5 +1,6 @@
 -- The names from the start over the points that the way to the goal leaves behind stand for a taut chain.
 use Rattle.std.proofs.Common.{◌≡◌, ◌≢◌, refl, sym, ap, subst, ◌∙◌, ℕ, ◌+◌, ◌<◌, List, [], ◌∷◌, ◌++◌, length, get_or, arith}
+use Rattle.std.proofs.lemmas.List.{get_or_push, length-append}
 use Rattle.plane.proofs.Points.{whole_is_point}
 use Rattle.plane.specs.Point.{Point, whole}
 use Rattle.rings.specs.Chain.{IsBentChain, IsTaut, point_at}
@@ -14,14 +15,14 @@ use Rattle.meshes.specs.declared.tri.Tri.{Tri}
 use Rattle.funnels.proofs.Chains.{chain_on, chain_to, reached_bends, sees_reached}
 use Rattle.funnels.proofs.Trees.{way_to}
 use Rattle.funnels.specs.Funnel.{IsReachedFrom}
-use Rattle.exact_plane.specs.Spot.{point_named}
 use Rattle.exact_plane.specs.declared.turns.Spot.{Spot}
 use Rattle.exact_plane.specs.declared.turns.Spot.TheVariants.{Goal, Start}
+use Rattle.exact_plane.specs.Names.{AreNamed, name_at, named_points}
+use Rattle.exact_plane.specs.Spot.{point_named}
 use Rattle.funnel_walk.proofs.Closed.{named_at_goal, named_to_goal, names_on_way, starts_at_goal, starts_to_goal, taut_at_goal}
 use Rattle.funnel_walk.proofs.Closed.{taut_to_goal}
 use Rattle.funnel_walk.proofs.NamedLists.{length_named, point_of_name}
 use Rattle.funnel_walk.proofs.NextDiagonals.{enters, shared}
-use Rattle.funnel_walk.specs.Names.{AreNamed, name_at, named_points}
 use Rattle.funnel_walk.specs.Walked.{AppendsTaut, IsWalked}
 
 module _ (corners : List Point) (tris : List Tri) (fits : Fits corners tris) (sleeve : Sleeve) (of_mesh : IsOneOf tris sleeve)
@@ -73,15 +74,21 @@ module _ (corners : List Point) (tris : List Tri) (fits : Fits corners tris) (sl
       (reached_bends corners tris fits k l r third.0 k_below side third.1 third.2 (shared corners tris fits sleeve of_mesh i below)
       before ns a w.funnel.funnel w.funnel.bent w.funnel.ends h goal in_goal reached seen differs)
 
-  -- names that begin with the start and are a taut chain,
-  appends : (ms others : List Spot) → ms ≡ Start ∷ others → (out out' : List Spot) → out' ≡ out ++ ms
-      → AreNamed corners ms → IsTaut corners start goal (named_points at ms) → AppendsTaut corners start goal out out'
+  -- names that begin with the start, end with the goal and are a taut chain,
+  appends : (ms others : List Spot) → ms ++ Goal ∷ [] ≡ Start ∷ others → (out out' : List Spot) → out' ≡ out ++ (ms ++ Goal ∷ [])
+      → AreNamed corners (ms ++ Goal ∷ []) → IsTaut corners start goal (named_points at (ms ++ Goal ∷ []))
+      → AppendsTaut corners start goal out out'
   appends ms others first out out' appended named taut = record {
-    others = others;
-    appended = appended ∙ ap (λ l. out ++ l) first;
-    alone = λ same. absurd (differ same);
-    named = subst (AreNamed corners) first named;
-    taut = subst (λ l. IsTaut corners start goal (named_points at l)) first taut;
+    names = record {
+      others = others;
+      appended = appended ∙ ap (λ l. out ++ l) first;
+      alone = λ same. absurd (differ same);
+      named = subst (AreNamed corners) first named;
+      points = subst (λ l. IsTaut corners start goal (named_points at l)) first taut;
+    };
+    last = λ _.
+        let count : length ms ≡ length others = omega (arith, ap length first, length-append ms (Goal ∷ [])) in
+        ap (λ l. name_at l (length others)) (sym first) ∙ get_or_push ms Goal Start (length others) count;
   }
 
   -- where that point is the goal, its name is left out,
@@ -93,7 +100,7 @@ module _ (corners : List Point) (tris : List Tri) (fits : Fits corners tris) (sl
       let chain = chain_to corners ns a (vertex corners l) (vertex corners r) w.funnel.funnel w.funnel.sight before w.funnel.bent
       h reached.within in
       let first = starts_at_goal corners start goal given names a l r w differ h within at_goal chain in
-      appends (names_on_way given names a h ++ Goal ∷ []) first.0 first.1 out out' appended
+      appends (names_on_way given names a h) first.0 first.1 out out' appended
       (named_at_goal corners start goal given names a l r w differ h within at_goal chain)
       (taut_at_goal corners start goal given names a l r w differ h within at_goal chain)
 
@@ -105,6 +112,6 @@ module _ (corners : List Point) (tris : List Tri) (fits : Fits corners tris) (sl
       let r = (diagonal_at sleeve i).right in
       let chain = goes_on other in
       let first = starts_to_goal corners start goal given names a l r w differ h within chain in
-      appends (names_on_way given names a h ++ name_at names h ∷ [] ++ Goal ∷ []) first.0 first.1 out out' appended
+      appends (names_on_way given names a h ++ name_at names h ∷ []) first.0 first.1 out out' appended
       (named_to_goal corners start goal given names a l r w differ h within chain)
       (taut_to_goal corners start goal given names a l r w differ h within chain)

@@ -6,12 +6,11 @@ mod FirstNamed
 mod FirstNames
 mod GoalReached
 mod KeptNames
-pub mod NamedLists
+mod NamedLists
 mod NarrowedLeft
 mod NarrowedRight
-pub mod NextDiagonals
+mod NextDiagonals
 mod Opened
-pub mod Passing
 mod PathNames
 mod ShortWalks
-pub mod SideCorners
+mod SideCorners

@@ -8,10 +8,11 @@ use Rattle.rings.specs.Chain.{point_at}
 use Rattle.rings.specs.Ring.{origin}
 use Rattle.funnels.proofs.Trees.{length_leftward, length_rightward}
 use Rattle.funnels.specs.OpenFunnel.{left_behind, right_behind}
-use Rattle.exact_plane.specs.Spot.{IsNamed, point_named}
 use Rattle.exact_plane.specs.declared.turns.Spot.{Spot}
 use Rattle.exact_plane.specs.declared.turns.Spot.TheVariants.{Start}
-use Rattle.funnel_walk.specs.Names.{AreNamed, left_names, name_at, named_points, right_names}
+use Rattle.exact_plane.specs.Names.{AreNamed, name_at, named_points}
+use Rattle.exact_plane.specs.Spot.{IsNamed, point_named}
+use Rattle.funnel_walk.specs.Names.{left_names, right_names}
 use Rattle.funnel_walk.specs.Walked.{IsWalked}
 
 module _ (at : Spot → Point) where

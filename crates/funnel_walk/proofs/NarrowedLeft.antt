@@ -3,11 +3,12 @@ use Rattle.std.proofs.Common.{◌≡◌, ◌≢◌, sym, ap, subst, ◌∙◌, �
 use Rattle.std.proofs.lemmas.List.{append-nil, append_assoc, drop-drop, length-drop}
 use Rattle.plane.specs.Point.{Point, Triple}
 use Rattle.rings.specs.Chain.{point_at}
+use Rattle.funnels.proofs.Funnels.{passed_same}
 use Rattle.funnels.specs.Funnel.{IsPassed, IsReachedFrom}
 use Rattle.exact_plane.specs.declared.turns.Spot.{Spot}
+use Rattle.exact_plane.specs.Names.{name_at, named_points}
 use Rattle.funnel_walk.proofs.NamedLists.{length_named, name_behind, point_of_name, right_more}
-use Rattle.funnel_walk.proofs.Passing.{passed_same}
-use Rattle.funnel_walk.specs.Names.{name_at, named_points, right_names}
+use Rattle.funnel_walk.specs.Names.{right_names}
 
 -- names of a funnel are left from a place on, with the apex at place `now`, and the names behind are after the given ones
 pub record IsNarrowedLeft (at : Spot → Point) (old : List Spot) (apex : ℕ) (given : List Spot) (y : Triple) (names : List Spot) (now : ℕ)

@@ -3,11 +3,12 @@ use Rattle.std.proofs.Common.{◌≡◌, ◌≢◌, sym, ap, subst, ◌∙◌, �
 use Rattle.std.proofs.lemmas.List.{append-nil, append_assoc, length-take-le, take-take, take_all}
 use Rattle.plane.specs.Point.{Point, Triple}
 use Rattle.rings.specs.Chain.{point_at}
+use Rattle.funnels.proofs.Funnels.{passed_same}
 use Rattle.funnels.specs.Funnel.{IsPassed, IsReachedFrom}
 use Rattle.exact_plane.specs.declared.turns.Spot.{Spot}
+use Rattle.exact_plane.specs.Names.{name_at, named_points}
 use Rattle.funnel_walk.proofs.NamedLists.{left_more, length_named, name_in_front, point_of_name}
-use Rattle.funnel_walk.proofs.Passing.{passed_same}
-use Rattle.funnel_walk.specs.Names.{left_names, name_at, named_points}
+use Rattle.funnel_walk.specs.Names.{left_names}
 
 -- names of a funnel are left up to a last place, with the apex at place `now`, and the names behind are after the given ones
 pub record IsNarrowedRight (at : Spot → Point) (old : List Spot) (apex : ℕ) (given : List Spot) (y : Triple) (names : List Spot)

@@ -2,7 +2,8 @@
 use Rattle.std.proofs.Common.{◌≡◌, ◌≢◌, refl, sym, subst, ◌∙◌, ℕ, ◌<◌, List, [], ◌∷◌, length, get_or}
 use Rattle.std.proofs.lemmas.List.Elements.{All-nil}
 use Rattle.plane.specs.Point.{Point, whole}
-use Rattle.rings.specs.Ring.{vertex}
+use Rattle.rings.proofs.Vertices.{vertex_in_range}
+use Rattle.rings.specs.Ring.{origin, vertex}
 use Rattle.meshes.proofs.TreeLeaves.{next_corner}
 use Rattle.meshes.specs.Fits.{Fits, IsInTri}
 use Rattle.meshes.specs.Side.{HasSide, tri_at}
@@ -11,13 +12,13 @@ use Rattle.meshes.specs.declared.tri.Tri.{Tri}
 use Rattle.funnels.proofs.Chains.{start_at_left, start_at_right, start_between}
 use Rattle.funnels.proofs.Vertices.{IsSharedSide}
 use Rattle.funnels.specs.OpenFunnel.{IsOpenFunnel}
-use Rattle.exact_plane.specs.Spot.{IsNamed, point_named}
 use Rattle.exact_plane.specs.declared.turns.Spot.{Spot}
 use Rattle.exact_plane.specs.declared.turns.Spot.TheVariants.{Corner, Start}
+use Rattle.exact_plane.specs.Names.{AreNamed, name_at, named_points}
+use Rattle.exact_plane.specs.Spot.{IsNamed, point_named}
 use Rattle.funnel_walk.proofs.FirstNames.{more_named, one_named}
 use Rattle.funnel_walk.proofs.NextDiagonals.{leaves, shared}
-use Rattle.funnel_walk.proofs.SideCorners.{diagonal_below, vertex_named}
-use Rattle.funnel_walk.specs.Names.{AreNamed, name_at, named_points}
+use Rattle.funnel_walk.proofs.SideCorners.{diagonal_below}
 use Rattle.funnel_walk.specs.Walked.{IsWalked}
 
 module _ (corners : List Point) (tris : List Tri) (fits : Fits corners tris) (sleeve : Sleeve) (of_mesh : IsOneOf tris sleeve)
@@ -45,11 +46,11 @@ module _ (corners : List Point) (tris : List Tri) (fits : Fits corners tris) (sl
 
   -- they are vertices,
   left_is : vertex corners i ≡ at left
-  left_is = vertex_named corners start goal _ (diagonal_below corners tris fits sleeve of_mesh 0 some).0
+  left_is = vertex_in_range corners _ origin (diagonal_below corners tris fits sleeve of_mesh 0 some).0
 
   -- both of them,
   right_is : vertex corners j ≡ at right
-  right_is = vertex_named corners start goal _ (diagonal_below corners tris fits sleeve of_mesh 0 some).1
+  right_is = vertex_in_range corners _ origin (diagonal_below corners tris fits sleeve of_mesh 0 some).1
 
   -- so their names stand for points,
   left_named : IsNamed corners left

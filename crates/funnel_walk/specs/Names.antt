@@ -1,32 +1,17 @@
--- Names of points, those of a path among them, and parts of the names of a funnel. This project's own.
-use Rattle.std.specs.List.{All}
-use Rattle.std.specs.Prelude.{◌≡◌, ℕ, List, [], ◌∷◌, ◌++◌, map, slice_index_or}
+-- Names of a path, and parts of the names of a funnel. This project's own.
+use Rattle.std.specs.Prelude.{◌≢◌, ℕ, List}
 use Rattle.plane.specs.Point.{Point}
-use Rattle.rings.specs.Chain.{IsPath}
+use Rattle.rings.specs.Ring.{vertex}
 use Rattle.funnels.specs.OpenFunnel.{leftward, rightward}
-use Rattle.exact_plane.specs.Spot.{IsNamed, point_named}
 use Rattle.exact_plane.specs.declared.turns.Spot.{Spot}
-use Rattle.exact_plane.specs.declared.turns.Spot.TheVariants.{Start}
+use Rattle.exact_plane.specs.declared.turns.Spot.TheVariants.{Corner, Goal, Start}
+use Rattle.exact_plane.specs.Names.{name_at}
 
--- the name at a place
-abbrev pub name_at : List Spot → ℕ → Spot
-name_at names i = slice_index_or names i Start
-
--- the points that they stand for
-abbrev pub named_points : (Spot → Point) → List Spot → List Point
-named_points at names = map at names
-
--- each stands for a point
-abbrev pub AreNamed : List Point → List Spot → Type 0
-AreNamed corners names = All (IsNamed corners) names
-
--- the names of the path were appended: the start, alone where it is the goal's point, and then others
-pub record AppendsPath (corners : List Point) (start goal : Point) (out out' : List Spot) : Type 0 where
-  pub others : List Spot
-  pub appended : out' ≡ out ++ Start ∷ others
-  pub alone : start ≡ goal → others ≡ []
-  pub named : AreNamed corners (Start ∷ others)
-  pub path : IsPath corners start goal (named_points (point_named corners start goal) (Start ∷ others))
+-- a corner at the start's point or at the goal's is not named as a corner
+abbrev pub IsOwnName : List Point → Point → Point → Spot → Type 0
+IsOwnName corners start goal (Corner i) = (vertex corners i ≢ start) × (vertex corners i ≢ goal)
+IsOwnName corners start goal Start = Unit {0}
+IsOwnName corners start goal Goal = Unit {0}
 
 -- so many names from the apex on, to the left, or to the right
 abbrev pub left_names : List Spot → ℕ → ℕ → List Spot

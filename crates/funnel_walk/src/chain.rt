@@ -1,11 +1,14 @@
+ghost use Rattle.std.specs.List.{All};
 ghost use Rattle.std.specs.Prelude.{◌≡◌, ◌≢◌, [], ◌∷◌, ◌+◌, ◌-◌, ◌*◌, ◌<◌, ◌≤◌, ◌++◌, drop, length, slice_index_or, take, vec_capacity};
 ghost use Rattle.plane.specs.Point.{whole};
+ghost use Rattle.rings.specs.Chain.{IsPath};
 ghost use Rattle.meshes.specs.Fits.{Fits, IsInTri};
 ghost use Rattle.meshes.specs.Side.{tri_at};
 ghost use Rattle.meshes.specs.Sleeve.{IsOneOf, diagonal_at};
-ghost use Rattle.exact_plane.specs.Spot.{point_named};
 ghost use Rattle.exact_plane.specs.declared.turns.Spot.TheVariants.{Goal};
-ghost use Rattle.funnel_walk.specs.Names.{AppendsPath, AreNamed, name_at, right_names};
+ghost use Rattle.exact_plane.specs.Names.{AppendsNames, AreNamed, name_at};
+ghost use Rattle.exact_plane.specs.Spot.{point_named};
+ghost use Rattle.funnel_walk.specs.Names.{IsOwnName, right_names};
 ghost use Rattle.funnel_walk.specs.Walked.{AppendsTaut, IsWalked};
 
 use crate::funnel::{name_at, narrow_left, narrow_right};
@@ -15,8 +18,9 @@ use exact_plane::{Spot, Steps, Turns};
 use std::sync::ledger::Ledger;
 use tri_mesh::{Mesh, Sleeve};
 
-/// Appends the names of the taut chain from the start to the goal: the start alone where both are the same point. It takes
-/// no memory, and at most 4 (d + 2) steps, d the number of diagonals.
+/// Appends the names of the taut chain from the start to the goal: the start alone where both are the same point. A vertex at
+/// one of these points is named by it, and not as a corner. It takes no memory, and at most 4 (d + 2) steps, d the number of
+/// diagonals.
 pub fn walk<T: Turns, L: Ledger>(
     room: &mut FunnelBox,
     board: &T,
@@ -32,7 +36,10 @@ pub fn walk<T: Turns, L: Ledger>(
         (whole (T.goal board.now)) }
     requires box_room { length sleeve.now.diagonals ≤ room.old }
     requires out_room { length out.old.items + length sleeve.now.diagonals + 4 ≤ vec_capacity out.old }
-    ensures path { AppendsPath (T.corners board.now) (T.start board.now) (T.goal board.now) out.old.items out.new.items }
+    ensures path { AppendsNames (T.corners board.now) (T.start board.now) (T.goal board.now)
+        (IsPath (T.corners board.now) (T.start board.now) (T.goal board.now)) out.old.items out.new.items }
+    ensures own_names { All (IsOwnName (T.corners board.now) (T.start board.now) (T.goal board.now))
+        (drop (length out.old.items) out.new.items) }
     ensures same_room { room.new ≡ room.old }
     ensures same_out { vec_capacity out.new ≡ vec_capacity out.old }
     ensures steps { steps.new ≤ steps.old + 4 * (length sleeve.now.diagonals + 2) }

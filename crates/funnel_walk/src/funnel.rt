@@ -2,8 +2,9 @@
 ghost use Rattle.std.specs.Prelude.{◌≡◌, ◌≢◌, ◌+◌, ◌-◌, ◌<◌, ◌≤◌, ◌++◌, ◌↔◌, IsTrue, drop, length, min, take, vec_capacity};
 ghost use Rattle.plane.specs.Point.{whole};
 ghost use Rattle.funnels.specs.Funnel.{IsPassed, IsReachedFrom};
+ghost use Rattle.exact_plane.specs.Names.{AreNamed, name_at, named_points};
 ghost use Rattle.exact_plane.specs.Spot.{IsNamed, point_named};
-ghost use Rattle.funnel_walk.specs.Names.{AreNamed, left_names, name_at, named_points, right_names};
+ghost use Rattle.funnel_walk.specs.Names.{left_names, right_names};
 
 use circular_buffer::HeapCircularBuffer;
 use exact_plane::{Direction, Spot, Steps, Turns};

@@ -34,6 +34,10 @@ mod Heights
 pub use Rattle.funnels.proofs.Funnels.Heights.{level, lower, not_negative}
 -- Which edges of a funnel the way to a point beyond the diagonal passes: those from the left end to one place, and no others.
 mod PassedEdges
+-- The way passes an edge of a funnel as the side of its ends tells on which the goal is, and passes the same edges of a part of the
+-- funnel.
+mod EdgeTests
+pub use Rattle.funnels.proofs.Funnels.EdgeTests.{passed_left, passed_right, passed_same}
 -- The points of a funnel that begins with a point m and goes on with the points from place h on, and what holds of three of them.
 mod PointsLeft
 pub use Rattle.funnels.proofs.Funnels.PointsLeft.{left_new_at, left_old_at, left_on_left, left_on_right}

@@ -3,6 +3,10 @@ use Rattle.std.specs.List.{range_with_len}
 use Rattle.std.specs.Prelude.{ℕ, ◌+◌, ◌*◌, ◌%◌, pos, List, ◌++◌, map, reverse}
 use Rattle.plane.specs.Point.{Point}
 
+-- the most teeth, with which a comb has 4,096 vertices
+abbrev pub most_teeth : ℕ
+most_teeth = 2047
+
 -- the point y above the lower row, at its place i
 abbrev pub above : ℕ → ℕ → Point
 above i y = record { x = pos (4 * i); y = pos (6 * (i % 2) + y) }

@@ -1,4 +1,4 @@
-// The laws of the comb, as the contract of a call that does nothing when it runs.
+// The laws of the comb, each as the contract of a call that does nothing when it runs.
 ghost use Rattle.std.specs.Prelude.{ℕ, ◌≡◌, ◌+◌, ◌*◌, ◌<◌, ◌≤◌, length};
 ghost use Rattle.plane.specs.Point.{IsInBounds, whole};
 ghost use Rattle.plane.specs.declared.limits.TheConstants.{MAX_CORNERS};
@@ -6,8 +6,13 @@ ghost use Rattle.rings.specs.Inside.{IsIn};
 ghost use Rattle.rings.specs.Orientation.{IsCounterclockwise};
 ghost use Rattle.rings.specs.Ring.{vertex};
 ghost use Rattle.rings.specs.Simple.{IsSimple};
-ghost use Rattle.geo_gen.specs.Comb.{comb_goal, comb_list, comb_start};
+ghost use Rattle.geo_gen.specs.Comb.{comb_goal, comb_list, comb_start, most_teeth};
 ghost use Rattle.geo_gen.specs.declared.combs.TheConstants.{MAX_TEETH};
+
+/// Which number the limit of teeth is.
+pub fn limit_in_numbers()
+    ensures { MAX_TEETH ≡ most_teeth }
+{}
 
 /// The law of the comb: it is a polygon that the program accepts, it runs counterclockwise, and the ends of the path that is asked
 /// for are in it.

@@ -5,4 +5,4 @@ mod combs;
 mod laws;
 
 pub use combs::{MAX_TEETH, comb, comb_goal, comb_start};
-pub use laws::comb_ring;
+pub use laws::{comb_ring, limit_in_numbers};

@@ -8,8 +8,8 @@ use Rattle.meshes.specs.Fits.{Fits}
 use Rattle.meshes.specs.Side.{IsWalkBetween, tri_at}
 use Rattle.meshes.specs.Sleeve.{IsOneOf, Sleeve}
 use Rattle.meshes.specs.declared.tri.Tri.{Tri}
-use Rattle.path_tree.proofs.TriCorners.{corner_in, side_corners}
-use Rattle.path_tree.specs.Growing.{HasCorner}
+use Rattle.shared_funnel.proofs.TriCorners.{corner_in, side_corners}
+use Rattle.shared_funnel.specs.Entered.{HasCorner}
 use Rattle.geo_session.specs.Along.{IsPathAlong}
 
 module _ (corners : List Point) (tris : List Tri) (fits : Fits corners tris) where

@@ -8,7 +8,7 @@ ghost use Rattle.rings.specs.Ring.{vertex};
 ghost use Rattle.meshes.specs.Fits.{Fits};
 ghost use Rattle.exact_plane.specs.Spot.{point_named};
 ghost use Rattle.dual_tree.specs.Location.{IsLeastHolding};
-ghost use Rattle.funnel_walk.specs.Names.{AreNamed, named_points};
+ghost use Rattle.exact_plane.specs.Names.{AreNamed, named_points};
 ghost use Rattle.geo_session.specs.Along.{IsPathAlong, IsPathBetween, Leads};
 ghost use Rattle.geo_session.specs.Shown.{IsShownPath};
 

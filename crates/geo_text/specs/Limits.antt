@@ -2,12 +2,11 @@
 use Rattle.std.specs.Prelude.{◌≤◌, Bool, true, false}
 use Rattle.plane.specs.declared.limits.TheConstants.{MAX_CHAIN, MAX_COORDINATE, MAX_CORNERS}
 use Rattle.geo_text.specs.declared.limits.Limits.{Limits}
-use Rattle.geo_text.specs.declared.limits.TheConstants.{NARROW_CHAIN, NARROW_COORDINATE, NARROW_CORNERS}
 
 -- those of version 2, or of version 1
 abbrev pub limits_of : Bool → Limits
 limits_of true = record { coordinate = MAX_COORDINATE; corners = MAX_CORNERS; chain = MAX_CHAIN }
-limits_of false = record { coordinate = NARROW_COORDINATE; corners = NARROW_CORNERS; chain = NARROW_CHAIN }
+limits_of false = record { coordinate = 1000000; corners = 4096; chain = 4096 }
 
 -- no version takes more than version 2
 pub record IsLimited (limits : Limits) : Type 0 where

@@ -103,7 +103,6 @@ reading_of two k fields = if two && (k == 0) then Ok command.Two else command_of
 
 -- a list of points has as many as its command takes
 abbrev pub IsWellSized : Command → Type 0
-IsWellSized command.Two = Unit {0}
 IsWellSized (command.Polygon points) = (3 ≤ length points) × (length points ≤ MAX_CORNERS)
 IsWellSized (command.Inside point) = Unit {0}
 IsWellSized (command.Check points) = (1 ≤ length points) × (length points ≤ MAX_CHAIN)
@@ -113,6 +112,7 @@ IsWellSized (command.Reach point) = Unit {0}
 IsWellSized (command.See point) = Unit {0}
 IsWellSized command.Kernel = Unit {0}
 IsWellSized (command.Hull points) = (1 ≤ length points) × (length points ≤ MAX_HULL)
+IsWellSized command.Two = Unit {0}
 IsWellSized (command.Round points) = (1 ≤ length points) × (length points ≤ MAX_HULL)
 IsWellSized command.Guards = Unit {0}
 IsWellSized (command.Pair i j) = Unit {0}

@@ -37,8 +37,8 @@ fault_text (bad.Number place) = codes "number" ++ index_text place
 fault_text (bad.Range place) = codes "range" ++ index_text place
 fault_text (bad.Clash i j) = codes "clash" ++ index_text i ++ index_text j
 fault_text bad.NoPolygon = codes "no_polygon"
-fault_text bad.NoTree = codes "no_tree"
 fault_text (bad.Outside point) = codes "outside" ++ index_text point
+fault_text bad.NoTree = codes "no_tree"
 fault_text (bad.Index place) = codes "index" ++ index_text place
 fault_text bad.Large = codes "large"
 

@@ -4,8 +4,6 @@ use exact_plane::Pt;
 /// What a record asks for.
 #[derive(Drop)]
 pub enum Command {
-    /// Take version 2 of the script, with no polygon and no tree.
-    Two,
     /// Take the polygon with these vertices, 3 to `MAX_CORNERS` of them.
     Polygon(Points),
     /// Say where this point lies in the polygon.
@@ -24,6 +22,8 @@ pub enum Command {
     Kernel,
     /// Give the sides of the relative hull of these points, 1 to `MAX_HULL` of them.
     Hull(Points),
+    /// Take version 2 of the script, with no polygon and no tree.
+    Two,
     /// Give the numbers of these points, 1 to `MAX_HULL` of them, in the order in which the sides of their relative hull join them.
     Round(Points),
     /// Give the numbers of vertices that together see the whole polygon.
@@ -34,8 +34,8 @@ pub enum Command {
     Sights,
 }
 
-/// Why a record is refused; the refusals are looked for in this order, but `Large` before `Index`. Places are those of fields,
-/// and the first field after the command word has place 1.
+/// Why a record is refused. The refusals are looked for in this order, but `NoTree` before `Outside` and `Large` before `Index`.
+/// Places are those of fields, and the first field after the command word has place 1.
 #[derive(Clone, Copy, Debug, PartialEq, Eq)]
 pub enum Bad {
     /// Field 0 is no command word.
@@ -54,10 +54,10 @@ pub enum Bad {
     Clash(u32, u32),
     /// No polygon was accepted yet.
     NoPolygon,
-    /// There is a polygon, and no tree in it was accepted yet.
-    NoTree,
     /// The command's point with this number, counted from 1, is the first that is not in the polygon.
     Outside(u32),
+    /// There is a polygon, and no tree in it was accepted yet.
+    NoTree,
     /// The field at this place is the first that is the number of no vertex of the polygon.
     Index(u32),
     /// The polygon has more vertices than the command takes.

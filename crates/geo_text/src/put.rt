@@ -132,8 +132,8 @@ fn put_line(out: &mut Vec<u8>, bad: &Bad) -> Result<(), Memory>
             put_index(out, *j)?;
         }
         Bad::NoPolygon => put_word(out, "no_polygon")?,
-        Bad::NoTree => put_word(out, "no_tree")?,
         Bad::Outside(point) => put_with(out, "outside", *point)?,
+        Bad::NoTree => put_word(out, "no_tree")?,
         Bad::Index(place) => put_with(out, "index", *place)?,
         Bad::Large => put_word(out, "large")?,
     }

@@ -188,3 +188,25 @@ fn corner<R: Abort>(rt: &R, list: &[At], i: u32) -> At {
     assert!(rt; (i as usize) < list.len());
     list[i as usize]
 }
+
+// Whether the triangles are 0, 1, 3 and 1, 2, 3, in either order and each from any corner on.
+pub(crate) fn are_flat_triangles(tris: &[Tri]) -> bool {
+    match tris {
+        [one, other] => {
+            let (one, other) = (from_least(one), from_least(other));
+            (one == (0, 1, 3) && other == (1, 2, 3)) || (one == (1, 2, 3) && other == (0, 1, 3))
+        }
+        _ => false,
+    }
+}
+
+// The corners of a triangle in their order, the least one first.
+fn from_least(tri: &Tri) -> (u32, u32, u32) {
+    if tri.a < tri.b && tri.a < tri.c {
+        (tri.a, tri.b, tri.c)
+    } else if tri.b < tri.c {
+        (tri.b, tri.c, tri.a)
+    } else {
+        (tri.c, tri.a, tri.b)
+    }
+}

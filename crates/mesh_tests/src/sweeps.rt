@@ -1,10 +1,10 @@
 // Triangulations by a sweep.
 ghost use Rattle.std.specs.Prelude.{◌≡◌, ◌<◌};
 
-use crate::polygons::{POLYGONS, area_of, ring_of, row_of, vertices_of};
+use crate::polygons::{POLYGONS, are_flat_triangles, area_of, ring_of, row_of, vertices_of};
 use dual_tree::Board;
 use exact_plane::{Memory, Steps};
-use geo_gen::{MAX_TEETH, comb};
+use geo_gen::comb;
 use meshes::Tri;
 use ring_check::Ring;
 use std::alloc::Global;
@@ -69,22 +69,8 @@ fn has_flat_triangles<L: Ledger, R: Abort>(
     steps: &mut Steps<L>,
 ) -> Result<(), Memory> {
     let ring = ring_of(rt, alloc, &[(0, 0), (2, 0), (4, 0), (0, 4)], steps)?;
-    let tris = triangles_of(alloc, &ring, steps)?;
-    assert!(rt; tris.len() == 2);
-    assert!(rt; from_least(&tris[0]) == (0, 1, 3));
-    assert!(rt; from_least(&tris[1]) == (1, 2, 3));
+    assert!(rt; are_flat_triangles(&triangles_of(alloc, &ring, steps)?));
     Ok(())
-}
-
-// The corners of a triangle in their order, the least one first.
-fn from_least(tri: &Tri) -> (u32, u32, u32) {
-    if tri.a < tri.b && tri.a < tri.c {
-        (tri.a, tri.b, tri.c)
-    } else if tri.b < tri.c {
-        (tri.b, tri.c, tri.a)
-    } else {
-        (tri.c, tri.a, tri.b)
-    }
 }
 
 // The comb of 2,047 teeth has 4,096 vertices.
@@ -93,7 +79,7 @@ fn greatest_comb<L: Ledger, R: Abort>(
     alloc: Global,
     steps: &mut Steps<L>,
 ) -> Result<(), Memory> {
-    let points = comb(alloc, MAX_TEETH)?;
+    let points = comb(alloc, 2_047)?;
     let ring = Ring::of(points, steps).ok().expect(rt, "a ring");
     assert!(rt; triangles_of(alloc, &ring, steps)?.len() == 4_094);
     Ok(())

@@ -5,11 +5,12 @@ use Rattle.std.proofs.lemmas.Bool.{cases_lt}
 use Rattle.plane.specs.Point.{Point, whole}
 use Rattle.rings.specs.Chain.{point_at}
 use Rattle.rings.specs.Ring.{vertex}
+use Rattle.funnels.proofs.Funnels.{passed_left, passed_right}
 use Rattle.funnels.specs.Funnel.{IsPassed}
-use Rattle.exact_plane.specs.Direction.{turn_of}
+use Rattle.exact_plane.proofs.Directions.{not_left_iff, right_iff_negative}
 use Rattle.exact_plane.specs.declared.direction.Direction.{Direction}
 use Rattle.exact_plane.specs.declared.direction.Direction.TheVariants.{Left, Right}
-use Rattle.funnel_walk.proofs.Passing.{passed_left, passed_right}
+use Rattle.exact_plane.specs.Direction.{turn_of}
 use Rattle.pair_cut.specs.Climbs.{IsClimb, IsFound, IsTangent, IsVertexAt, from_left, from_right, turn_over}
 
 -- one has come up to a vertex in so many steps, and over none below it the turn to y is to the side
@@ -83,15 +84,18 @@ module _ (ring points : List Point) (a : ℕ) (within : a < length points) (y : 
   left_passed : (k : ℕ) → k < a → (turn_over (from_left points) y k ≢ Left) ↔ IsPassed points a (k + 1) (whole y)
   left_passed k less =
       let place : k ≡ k + 1 - 1 = omega arith in
-      passed_left points a (k + 1) (whole y) (point_at points (k + 1)) (point_at points k) (omega (arith, less)) refl (ap (point_at points) place)
+      let passed = passed_left points a (k + 1) (whole y) (point_at points (k + 1)) (point_at points k) (omega (arith, less)) refl
+      (ap (point_at points) place) in
+      (λ h. passed.0 ((not_left_iff _).0 h), λ h. (not_left_iff _).1 (passed.1 h))
 
   -- and on the right one where it is to the right
   right_passed : (k : ℕ) → k + 1 < length points - a
       → (turn_over (from_right points) y k ≡ Right) ↔ IsPassed points a (length points - 1 - k) (whole y)
   right_passed k less =
       let place : length points - 1 - (k + 1) ≡ length points - 1 - k - 1 = omega arith in
-      passed_right points a (length points - 1 - k) (whole y) (from_right points (k + 1)) (from_right points k) (omega (arith, less))
-      (ap (point_at points) place) refl
+      let passed = passed_right points a (length points - 1 - k) (whole y) (from_right points (k + 1)) (from_right points k)
+      (omega (arith, less)) (ap (point_at points) place) refl in
+      (λ h. passed.0 ((right_iff_negative _).0 h), λ h. (right_iff_negative _).1 (passed.1 h))
 
   module _ (apex : ℕ) (at_apex : IsVertexAt ring apex (point_at points a)) where
     -- what is found on the left is the tangent,

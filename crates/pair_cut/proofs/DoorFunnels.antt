@@ -16,15 +16,15 @@ use Rattle.meshes.specs.declared.tri.Tri.{Tri}
 use Rattle.tri_mesh.specs.declared.outward.Outward.{Outward}
 use Rattle.funnels.proofs.Trees.{before_differs}
 use Rattle.funnels.proofs.Vertices.{fitted_simple}
+use Rattle.shared_funnel.proofs.Entrances.{beyond_at, earlier, ends_at, toward_below}
 use Rattle.shared_funnel.proofs.FirstFunnels.{first_at_left, first_at_right, first_between}
+use Rattle.shared_funnel.proofs.NextFunnels.{few_points, funnel_from_home, funnel_on_left, funnel_on_right}
 use Rattle.shared_funnel.proofs.Numbers.{corner_point, point_there, source_point}
 use Rattle.shared_funnel.proofs.StepLeft.{funnel_to_left}
 use Rattle.shared_funnel.proofs.StepRight.{funnel_to_right}
+use Rattle.shared_funnel.proofs.TriCorners.{corner_below, side_corners}
+use Rattle.shared_funnel.specs.Entered.{HasCorner, IsFromStart, IsFunnelTo, at_place, left_of, right_of, third_of, toward}
 use Rattle.shared_funnel.specs.Listed.{Listed, point_of, points_of}
-use Rattle.path_tree.proofs.Entrances.{beyond_at, earlier, ends_at, toward_below}
-use Rattle.path_tree.proofs.NextFunnels.{few_points, funnel_from_home, funnel_on_left, funnel_on_right}
-use Rattle.path_tree.proofs.TriCorners.{corner_below, side_corners}
-use Rattle.path_tree.specs.Growing.{HasCorner, IsFromStart, IsFunnelTo, at_place, left_of, right_of, third_of, toward}
 use Rattle.pair_cut.proofs.FunnelPaths.{apex_alone, before_on_left, before_on_right, one_before}
 use Rattle.pair_cut.specs.Climbs.{AreClimbs, IsClimb, IsVertexAt, from_left, from_right}
 use Rattle.pair_cut.specs.Doors.{HasFunnel, IsApex, IsOnWay, IsSeen, IsTangentTo}

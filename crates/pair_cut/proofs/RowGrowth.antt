@@ -14,14 +14,14 @@ use Rattle.tri_mesh.specs.Outward.{outward_at}
 use Rattle.tri_mesh.specs.declared.outward.Outward.{Outward}
 use Rattle.funnels.proofs.Trees.{before_at_home}
 use Rattle.funnels.proofs.Vertices.{fitted_simple}
+use Rattle.shared_funnel.proofs.Entrances.{beyond_at, third_below}
 use Rattle.shared_funnel.proofs.Numbers.{point_there}
 use Rattle.shared_funnel.proofs.ReachedBefore.{before_third}
+use Rattle.shared_funnel.proofs.StepCounts.{home_steps, three_digits}
+use Rattle.shared_funnel.proofs.TriCorners.{corner_below, corner_cases, corner_in, side_corners}
+use Rattle.shared_funnel.specs.Entered.{HasCorner, IsFromStart, at_place, left_of, right_of, third_of, toward}
 use Rattle.shared_funnel.specs.Listed.{point_of}
 use Rattle.shared_seq.specs.Digits.{binary_digits}
-use Rattle.path_tree.proofs.Entrances.{beyond_at, third_below}
-use Rattle.path_tree.proofs.TreeSteps.{home_steps, three_digits}
-use Rattle.path_tree.proofs.TriCorners.{corner_below, corner_cases, corner_in, side_corners}
-use Rattle.path_tree.specs.Growing.{HasCorner, IsFromStart, at_place, left_of, right_of, third_of, toward}
 use Rattle.pair_cut.proofs.NumberedRows.{corner_of_some, itself_told, other_told}
 use Rattle.pair_cut.specs.Doors.{IsGrownTo, IsOnWay, IsTangentTo, tangent_at}
 use Rattle.pair_cut.specs.Rows.{IsNumberBefore, IsRow}

@@ -8,8 +8,8 @@ use Rattle.rings.specs.Ring.{vertex}
 use Rattle.meshes.specs.Side.{tri_at}
 use Rattle.meshes.specs.declared.tri.Tri.{Tri}
 use Rattle.tri_mesh.specs.declared.outward.Outward.{Outward}
+use Rattle.shared_funnel.specs.Entered.{HasCorner, IsFunnelTo, at_place, third_of}
 use Rattle.shared_funnel.specs.Listed.{Listed, points_of}
-use Rattle.path_tree.specs.Growing.{HasCorner, IsFunnelTo, at_place, third_of}
 use Rattle.pair_cut.specs.Climbs.{IsTangent, IsVertexAt}
 use Rattle.pair_cut.specs.Rows.{IsNumberBefore}
 use Rattle.pair_cut.specs.declared.climb.Tangent.{Tangent}

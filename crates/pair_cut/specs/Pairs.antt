@@ -9,6 +9,10 @@ use Rattle.rings.specs.Ring.{vertex}
 use Rattle.rings.specs.Sees.{Sees}
 use Rattle.rings.specs.Simple.{IsSimple}
 
+-- the most vertices of a ring whose table is made
+abbrev pub most_paired : ℕ
+most_paired = 1024
+
 -- what a table has for the pair of i and j
 abbrev pub before_at : List (List ℕ) → ℕ → ℕ → ℕ
 before_at before i j = slice_index_or (slice_index_or before i []) j 0

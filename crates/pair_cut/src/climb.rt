@@ -6,7 +6,7 @@ ghost use Rattle.exact_plane.specs.Direction.{turn_of};
 ghost use Rattle.pair_cut.specs.Climbs.{AreClimbs, IsClimb, IsFound, IsTangent};
 
 use exact_plane::{Direction, Spot, Steps, Turns};
-use path_tree::Door;
+use shared_funnel::Door;
 use std::sync::ledger::Ledger;
 
 // How the third corner behind a door is reached.

@@ -6,6 +6,6 @@ mod laws;
 mod rows;
 mod table;
 
-pub use laws::one_sights;
+pub use laws::{limit_in_numbers, one_sights};
 pub use rows::triangle_at;
 pub use table::{MAX_PAIRED, PairTable};

@@ -35,8 +35,8 @@ impl Model for PairTable {
 }
 
 impl PairTable {
-    /// The table of the board's corners, with a mesh that fits them: one tree of paths from each vertex. It takes at most
-    /// 200 n n b b steps, n the number of the corners and b that of its binary digits.
+    /// The table of the board's corners, with a mesh that fits them: a row from each vertex, outward over the triangles and with
+    /// no tree of funnels. It takes at most 200 n n b b steps, n the number of the corners and b that of its binary digits.
     pub fn build<T: Turns, L: Ledger>(
         alloc: Global,
         board: &T,

@@ -1,5 +1,5 @@
 -- The way back from a point of a tree to its start, by what comes before each point: the names that were given on it.
-use Rattle.std.proofs.Common.{◌≡◌, refl, sym, ap, subst, ◌∙◌, ℕ, ◌+◌, ◌<◌, ◌≤◌, List, [], ◌∷◌, ◌++◌}
+use Rattle.std.proofs.Common.{◌≡◌, ◌≢◌, refl, sym, ap, subst, ◌∙◌, ℕ, ◌+◌, ◌<◌, ◌≤◌, List, [], ◌∷◌, ◌++◌}
 use Rattle.std.proofs.Common.{length, map, reverse, take, drop, get_or, Some, None, arith}
 use Rattle.std.proofs.lemmas.List.{append-nil, append_assoc, get_or-append-add, get_or-map, length-append, length-map, length-reverse, nil_from_length}
 use Rattle.std.proofs.lemmas.List.{reverse-append, reverse-reverse}
@@ -15,10 +15,10 @@ use Rattle.meshes.specs.Fits.{Fits}
 use Rattle.meshes.specs.declared.tri.Tri.{Tri}
 use Rattle.funnels.proofs.Trees.{before_differs, path_differs, path_goes_on, path_of_one}
 use Rattle.funnels.proofs.Vertices.{fitted_long, fitted_simple}
-use Rattle.exact_plane.specs.Spot.{IsNamed, point_named}
 use Rattle.exact_plane.specs.declared.turns.Spot.{Spot}
 use Rattle.exact_plane.specs.declared.turns.Spot.TheVariants.{Corner, Goal, Start}
-use Rattle.funnel_walk.specs.Names.{AppendsPath, named_points}
+use Rattle.exact_plane.specs.Names.{AppendsNames, named_points}
+use Rattle.exact_plane.specs.Spot.{IsNamed, point_named}
 use Rattle.tri_mesh.proofs.Numbers.{few_numbers}
 use Rattle.path_tree.proofs.GrownPaths.{path_kept, start_inside}
 use Rattle.path_tree.proofs.KeptNames.{kept_of_names}
@@ -150,6 +150,16 @@ module _ (tree : Tree) (last at : Spot) (out out' : List Spot) (back : IsGoneBac
         is ∙ (λ t. take (count t) (all t) ++ reverse (drop (count t) (all t)))
         ∙ (λ t. take-append_seam out tail t ++ reverse (drop-append_seam out tail t)) ∙ ap (λ l. out ++ l) turned
 
+    rest_is : drop (length out) final ≡ names_from_start
+    rest_is = ap (drop (length out)) appended_names ∙ drop-append_seam out names_from_start
+
+    -- and none of them is the goal's
+    pub back_no_goal : All (λ name. name ≢ Goal) (drop (length out) final)
+    back_no_goal =
+        subst (All (λ name. name ≢ Goal)) (sym rest_is)
+        (All-cons (λ name. name ≢ Goal) Start (corner_names back.numbers) (λ is_goal. cc)
+        (All-map (λ name. name ≢ Goal) (λ i. Corner i) back.numbers (λ k d less is_goal. cc)))
+
     module _ (none : (corners : List Point) (start : Point) (tris : List Tri) → IsGrownFrom corners start tris tree
         → IsFromNamed corners start (kept_point corners start at) None) (corners : List Point) (start : Point) (tris : List Tri)
         (fits : Fits corners tris) (grown : IsGrownFrom corners start tris tree) where
@@ -162,7 +172,7 @@ module _ (tree : Tree) (last at : Spot) (out out' : List Spot) (back : IsGoneBac
           (start_inside corners start tris fits tree grown)))
 
       -- with that for a goal,
-      pub back_ends : AppendsPath corners start (kept_point corners start last) out final
+      pub back_ends : AppendsNames corners start (kept_point corners start last) (IsPath corners start (kept_point corners start last)) out final
       back_ends = record {
         others = corner_names back.numbers;
         appended = appended_names;
@@ -172,7 +182,7 @@ module _ (tree : Tree) (last at : Spot) (out out' : List Spot) (back : IsGoneBac
             (omega (arith, one, length-map (corner_names back.numbers) (kept_point corners start)));
         named = All-cons (IsNamed corners) Start (corner_names back.numbers) tt
             (All-map (IsNamed corners) (λ i. Corner i) back.numbers (subst (λ n. All (λ i. i < n) back.numbers) grown.vertices back.below));
-        path = subst (λ ps. IsPath corners start (kept_point corners start last) (start ∷ ps))
+        points = subst (λ ps. IsPath corners start (kept_point corners start last) (start ∷ ps))
             (points_same corners start (kept_point corners start last) back.numbers) path_there;
       }
 
@@ -180,8 +190,6 @@ module _ (tree : Tree) (last at : Spot) (out out' : List Spot) (back : IsGoneBac
       pub back_goes_on : (t : Point) → IsBefore corners start t (kept_point corners start last)
           → IsPath corners start t (named_points (kept_point corners start) (drop (length out) final) ++ t ∷ [])
       back_goes_on t before =
-          let rest : drop (length out) final ≡ names_from_start =
-          ap (drop (length out)) appended_names ∙ drop-append_seam out names_from_start in
-          subst (λ names. IsPath corners start t (named_points (kept_point corners start) names ++ t ∷ [])) (sym rest)
+          subst (λ names. IsPath corners start t (named_points (kept_point corners start) names ++ t ∷ [])) (sym rest_is)
           (path_goes_on corners (fitted_long corners tris fits) (fitted_simple corners tris fits) start t
           (kept_point corners start last) before (named_points (kept_point corners start) names_from_start) path_there)

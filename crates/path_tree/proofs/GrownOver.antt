@@ -11,12 +11,13 @@ use Rattle.meshes.specs.declared.tri.Tri.{Tri}
 use Rattle.tri_mesh.specs.Outward.{IsOutward, outward_at}
 use Rattle.tri_mesh.specs.declared.outward.Outward.{Outward}
 use Rattle.exact_plane.specs.declared.turns.Spot.{Spot}
+use Rattle.shared_funnel.proofs.Entrances.{apart, beyond_at, from_start, third_below}
+use Rattle.shared_funnel.proofs.TriCorners.{corner_cases, side_corners}
+use Rattle.shared_funnel.specs.Entered.{HasCorner, IsFromStart, IsFunnelTo, at_place, left_of, right_of, third_of, toward}
 use Rattle.shared_funnel.specs.Listed.{Listed}
-use Rattle.path_tree.proofs.Entrances.{apart, beyond_at, from_start, third_below}
 use Rattle.path_tree.proofs.Parents.{HasParent, parent_written}
-use Rattle.path_tree.proofs.TriCorners.{corner_cases, side_corners}
 use Rattle.path_tree.specs.Grown.{IsFromNamed, IsGrownFrom, KeepsFunnel, Tree, before_at, funnel_at}
-use Rattle.path_tree.specs.Growing.{HasCorner, IsFromStart, IsFunnelTo, IsGrownOver, KeepsFunnelTo, at_place, left_of, right_of, third_of, toward}
+use Rattle.path_tree.specs.Growing.{IsGrownOver, KeepsFunnelTo}
 
 module _ (corners : List Point) (start : Point) (tris : List Tri) (order : List Outward) (from : IsFromStart corners start tris order) where
   -- at home it has what is before the three corners, and no funnel

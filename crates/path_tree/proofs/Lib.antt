@@ -1,11 +1,9 @@
 pub mod EnteredFunnels
-pub mod Entrances
 pub mod GoneBack
 pub mod GrownOver
 pub mod GrownPaths
 pub mod KeptNames
 pub mod NamedPoints
-pub mod NextFunnels
 pub mod Parents
+pub mod TreeFunnels
 pub mod TreeSteps
-pub mod TriCorners

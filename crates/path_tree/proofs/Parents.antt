@@ -3,17 +3,17 @@ use Rattle.std.proofs.Common.{◌≢◌, inl, inr, sym, subst, List, length, ℕ
 use Rattle.std.proofs.lemmas.Bool.{cases_eq}
 use Rattle.std.proofs.lemmas.List.{get_or-set_other, get_or-set_same}
 use Rattle.plane.specs.Point.{Point, whole}
-use Rattle.rings.specs.Ring.{vertex}
+use Rattle.rings.proofs.Vertices.{vertex_in_range}
+use Rattle.rings.specs.Ring.{origin, vertex}
 use Rattle.meshes.specs.Fits.{Fits, IsInTri}
 use Rattle.meshes.specs.Side.{tri_at}
 use Rattle.meshes.specs.declared.tri.Tri.{Tri}
-use Rattle.exact_plane.specs.Spot.{point_named}
 use Rattle.exact_plane.specs.declared.turns.Spot.{Spot}
 use Rattle.exact_plane.specs.declared.turns.Spot.TheVariants.{Corner}
-use Rattle.funnel_walk.proofs.SideCorners.{vertex_named}
-use Rattle.path_tree.proofs.TriCorners.{corner_below, corner_in}
+use Rattle.exact_plane.specs.Spot.{point_named}
+use Rattle.shared_funnel.proofs.TriCorners.{corner_below, corner_in}
+use Rattle.shared_funnel.specs.Entered.{HasCorner}
 use Rattle.path_tree.specs.Grown.{IsFromNamed}
-use Rattle.path_tree.specs.Growing.{HasCorner}
 
 module _ (corners : List Point) (start : Point) where
   -- the list has what is before vertex i
@@ -50,6 +50,6 @@ module _ (corners : List Point) (start : Point) where
       → IsFromNamed corners start (point_named corners start goal (Corner i)) value)
       → IsFromNamed corners start (vertex corners i) value
   home_parent tris k i goal value fits within in_start has straight =
-      let named = vertex_named corners start goal i (corner_below corners tris fits k within i has) in
+      let named = vertex_in_range corners i origin (corner_below corners tris fits k within i has) in
       subst (λ y. IsFromNamed corners start y value) (sym named)
       (straight (subst (λ y. IsInTri corners (tri_at tris k) (whole y)) named (corner_in corners tris fits k within i has)))

@@ -1,40 +1,19 @@
 -- How many steps a tree of paths takes for each triangle, and to a goal, by the number of binary digits of that of the corners.
-use Rattle.std.proofs.Common.{◌≡◌, refl, ℕ, ◌+◌, ◌*◌, ◌<◌, ◌≤◌, arith}
+use Rattle.std.proofs.Common.{ℕ, ◌+◌, ◌*◌, ◌<◌, ◌≤◌, arith}
 use Rattle.std.proofs.lemmas.Nat.{mul-le}
+use Rattle.shared_funnel.proofs.StepCounts.{some_digits}
 use Rattle.shared_seq.proofs.Digits.{binary_digits_mono}
 use Rattle.shared_seq.specs.Digits.{binary_digits}
-
--- some corners have a digit or more, and four or more have three
-one_has : binary_digits 1 ≡ 1
-unfolding binary_digits
-one_has = refl
-
-four_has : binary_digits 4 ≡ 3
-unfolding binary_digits
-four_has = refl
-
-some_digits : (n : ℕ) → 1 ≤ n → 1 ≤ binary_digits n
-some_digits n some = omega (arith, one_has, binary_digits_mono 1 n some)
-
-pub three_digits : (n : ℕ) → 4 ≤ n → 3 ≤ binary_digits n
-three_digits n more = omega (arith, four_has, binary_digits_mono 4 n more)
 
 -- what a search in a funnel takes at some digits, by more of them,
 pub search_steps : (b x : ℕ) → x ≤ b → x * (4 * x + 3) ≤ b * (4 * b + 3)
 search_steps b x le = mul-le x (4 * x + 3) b (4 * b + 3) le (omega (arith, le))
 
--- and two searches, a new funnel and a number
-pub triangle_steps : (b : ℕ) → 3 ≤ b → b * (4 * b + 3) + 160 * (b + 1) + b * (4 * b + 3) + (2 * b + 1) ≤ 200 * (b * b)
+-- and two searches, a new funnel and a number take less than is promised
+pub triangle_steps : (b : ℕ) → 3 ≤ b → b * (4 * b + 3) + 160 * (b + 1) + b * (4 * b + 3) + (2 * b + 1) + 1 ≤ 200 * (b * b)
 triangle_steps b three = omega (arith, three, mul-le 3 b b b three (omega arith))
 
--- At home it takes three,
-pub home_steps : (n : ℕ) → 1 ≤ n → 3 ≤ 200 * (binary_digits n * binary_digits n)
-home_steps n some =
-    let b = binary_digits n in
-    let digits = some_digits n some in
-    omega (arith, mul-le 1 1 b b digits digits)
-
--- and there are fewer triangles than corners
+-- There are fewer triangles than corners
 pub tree_steps : (p n b : ℕ) → p ≤ n → p * (200 * (b * b)) ≤ 200 * n * (b * b)
 tree_steps p n b le = omega (arith, mul-le p (200 * (b * b)) n (200 * (b * b)) le (omega arith))
 

@@ -1,10 +1,8 @@
 //! The paths from a start to every vertex, by funnels that share their nodes.
 #![tactic(auto)]
 
-mod door;
 mod growth;
 mod onward;
 mod tree;
 
-pub use door::{Door, door_of};
 pub use tree::PathTree;

@@ -3,12 +3,11 @@ ghost use Rattle.plane.specs.Point.{whole};
 ghost use Rattle.rings.specs.Ring.{vertex};
 ghost use Rattle.funnels.specs.Funnel.{IsReachedFrom};
 ghost use Rattle.shared_seq.specs.Digits.{binary_digits};
+ghost use Rattle.shared_funnel.specs.Entered.{IsFromStart, IsFunnelTo, third_of, toward};
 ghost use Rattle.shared_funnel.specs.Listed.{points_of};
-ghost use Rattle.path_tree.specs.Growing.{IsFromStart, IsFunnelTo, third_of, toward};
 
-use crate::door::door_of;
 use exact_plane::{Memory, Spot, Steps, Turns};
-use shared_funnel::Funnel;
+use shared_funnel::{Funnel, door_of};
 use std::alloc::Global;
 use std::sync::ledger::Ledger;
 use tri_mesh::{Mesh, Outward};

@@ -1,3 +1,4 @@
+ghost use Rattle.std.specs.List.{All};
 ghost use Rattle.std.specs.Prelude.{◌≡◌, ◌≢◌, ℕ, ◌+◌, ◌*◌, ◌<◌, ◌≤◌, ◌++◌, ◌∷◌, [], List, IfOk, drop, length, reverse, take, vec_capacity};
 ghost use Rattle.plane.specs.Point.{Point, whole};
 ghost use Rattle.rings.specs.Chain.{IsPath};
@@ -7,7 +8,8 @@ ghost use Rattle.meshes.specs.Fits.{Fits, IsInTri};
 ghost use Rattle.meshes.specs.Side.{tri_at};
 ghost use Rattle.meshes.specs.declared.tri.Tri.{Tri};
 ghost use Rattle.shared_seq.specs.Digits.{binary_digits};
-ghost use Rattle.funnel_walk.specs.Names.{AppendsPath, named_points};
+ghost use Rattle.exact_plane.specs.declared.turns.Spot.TheVariants.{Goal};
+ghost use Rattle.exact_plane.specs.Names.{AppendsNames, named_points};
 ghost use Rattle.path_tree.specs.Grown.{IsEntered, IsFromNamed, IsGrownFrom, IsKept, Names, kept_point};
 
 use crate::growth::{Growth, straight};
@@ -101,15 +103,17 @@ impl PathTree {
     }
 
     /// Appends the path from the start to `last`, which is the start or a corner, by its names: the start alone where both are
-    /// one point. With any point that `last` comes before, it is the path to that.
+    /// one point. With any point that `last` comes before, it is the path to that. No name is `Goal`.
     pub fn chain_into(&self, last: Spot, out: &mut Vec<Spot>)
         requires kept { IsKept self.now last }
         requires room { length out.old.items + length self.now.before + 2 ≤ vec_capacity out.old }
         ensures path { (corners : List Point) (start : Point) (tris : List Tri) → Fits corners tris → IsGrownFrom corners start tris self.now
-            → AppendsPath corners start (kept_point corners start last) out.old.items out.new.items }
+            → AppendsNames corners start (kept_point corners start last) (IsPath corners start (kept_point corners start last))
+            out.old.items out.new.items }
         ensures on { (corners : List Point) (start : Point) (tris : List Tri) → Fits corners tris → IsGrownFrom corners start tris self.now
             → (t : Point) → IsBefore corners start t (kept_point corners start last)
             → IsPath corners start t (named_points (kept_point corners start) (drop (length out.old.items) out.new.items) ++ t ∷ []) }
+        ensures no_goal { All (λ name. name ≢ Goal) (drop (length out.old.items) out.new.items) }
         ensures same_room { vec_capacity out.new ≡ vec_capacity out.old }
     {
         // What holds of every tree is told with its parts: it is grown, so the way back ends.

@@ -3,6 +3,7 @@ pub mod Box
 pub mod Cone
 pub mod Convex
 pub mod Cut
+pub mod Limits
 pub mod Line
 pub mod Order
 pub mod Point

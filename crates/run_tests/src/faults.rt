@@ -8,7 +8,6 @@ use geo_run::{RunFault, geo_main, sure_sink_main, sure_source_main};
 use geo_script::answer_next;
 use geo_session::Session;
 use geo_text::Script;
-use plane::MAX_SCRIPT;
 use std::alloc::{AllocError, Global};
 use std::marker::Brand;
 use std::process::Abort;
@@ -96,13 +95,13 @@ fn faults_that_do_not_come(rt: HostRuntime) -> Result<(), Fail> {
 #[test]
 fn the_limit_of_a_script(rt: HostRuntime) -> Result<(), Fail> {
     let rows = [
-        (MAX_SCRIPT, (0, 1 << 20), Ok(()), 0),
-        (MAX_SCRIPT + 1, (0, 1 << 20), Err(RunFault::TooLong), 0),
+        (8_388_608, (0, 1 << 20), Ok(()), 0),
+        (8_388_609, (0, 1 << 20), Err(RunFault::TooLong), 0),
         (
-            MAX_SCRIPT + 1,
-            (1, MAX_SCRIPT + 1),
+            8_388_609,
+            (1, 8_388_609),
             Err(RunFault::ReadFault),
-            MAX_SCRIPT + 1,
+            8_388_609,
         ),
     ];
     for (count, read, answer, left) in rows {

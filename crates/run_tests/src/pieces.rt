@@ -4,7 +4,6 @@ ghost use Rattle.std.specs.Prelude.{◌≡◌, ◌<◌};
 use crate::scripts::parts;
 use exact_plane::{Memory, Steps};
 use geo_script::{Dialog, Stop};
-use plane::MAX_SCRIPT;
 use std::alloc::Global;
 use std::marker::Brand;
 use std::process::Abort;
@@ -208,10 +207,10 @@ fn too_long<N: Ledger>(rt: &impl Abort, alloc: Global, blank: Blank) -> Result<(
     let mut steps = Steps::<N>::new(blank);
     let mut dialog = Dialog::new(alloc);
     answered(&mut dialog, alloc, b"kernel\n", &mut steps)?;
-    let longer = line_feeds(&mut dialog, alloc, MAX_SCRIPT + 1, &mut steps)?;
+    let longer = line_feeds(&mut dialog, alloc, 8_388_609, &mut steps)?;
     assert!(rt; longer == Err(Stop::TooLong));
     assert!(rt; dialog.text() == b"bad,no_polygon\n".as_slice());
-    let longest = line_feeds(&mut dialog, alloc, MAX_SCRIPT, &mut steps)?;
+    let longest = line_feeds(&mut dialog, alloc, 8_388_608, &mut steps)?;
     assert!(rt; longest == Ok(()) && dialog.text().is_empty());
     Ok(())
 }

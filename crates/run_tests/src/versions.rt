@@ -1,9 +1,11 @@
 // Whole runs of scripts of version 2, and of others that begin almost like one.
 ghost use Rattle.std.specs.Prelude.{◌≤◌, ◌^◌};
 
-use crate::scripts::{all_answered, is_answered};
+use crate::scripts::{all_answered, is_answered, run};
 use exact_plane::Memory;
 use geo_text::put_index;
+use std::alloc::Global;
+use std::process::Abort;
 use std::test::Fail;
 
 #[rattlefmt::skip]
@@ -217,15 +219,13 @@ fn long_polygons(rt: HostRuntime) -> Result<(), Fail> {
     let rows = [
         (
             "geo,2\n",
-            "pair,0,1\npair,-1,0\npair,0,x\nsights\nsights,1\n",
+            "\npair,0,1\npair,-1,0\npair,0,x\nsights\nsights,1\n",
             "geo,2\npolygon,4098\nbad,large\nbad,large\nbad,number,2\nbad,large\nbad,fields\n",
         ),
-        ("", "pair,0,1\n", "bad,many\nbad,no_polygon\n"),
+        ("", "\npair,0,1\n", "bad,many\nbad,no_polygon\n"),
     ];
     for (front, rest, answers) in rows {
-        let mut script = Vec::from_slice(rt.alloc(), front.as_bytes())?;
-        put_comb(&mut script, 2048)?;
-        script.extend_from_slice(rest.as_bytes())?;
+        let script = with_comb(rt.alloc(), front, 2048, rest)?;
         assert!(rt;
             is_answered(rt.alloc(), &script, answers.as_bytes())?,
             "{front}"
@@ -234,7 +234,69 @@ fn long_polygons(rt: HostRuntime) -> Result<(), Fail> {
     Ok(())
 }
 
-// Appends the polygon of a comb with `k` teeth.
+// There is a table of all pairs of 1,024 vertices, and none of 1,025.
+#[test]
+fn the_limit_of_pairs(rt: HostRuntime) -> Result<(), Fail> {
+    let first = "polygon,1024\npath,2,0,0,0,2\npath,2,2044,6,2044,8\nsights,2556\n";
+    are_told(
+        &rt,
+        rt.alloc(),
+        "",
+        first,
+        "polygon,1025\nbad,large\nbad,large\n",
+    )?;
+    Ok(())
+}
+
+// As in version 1.
+#[test]
+fn the_limit_of_pairs_in_version_2(rt: HostRuntime) -> Result<(), Fail> {
+    let first = "geo,2\npolygon,1024\npath,2,0,0,0,2\npath,2,2044,6,2044,8\nsights,2556\n";
+    are_told(
+        &rt,
+        rt.alloc(),
+        "geo,2\n",
+        first,
+        "geo,2\npolygon,1025\nbad,large\nbad,large\n",
+    )?;
+    Ok(())
+}
+
+// The first lines of the answers where a comb has 1,024 vertices, and all answers where one more is on its last edge.
+fn are_told(
+    rt: &impl Abort,
+    alloc: Global,
+    front: &str,
+    first: &str,
+    refused: &str,
+) -> Result<(), Memory> {
+    let script = with_comb(alloc, front, 511, "\npair,0,1023\npair,511,512\nsights\n")?;
+    assert!(rt; has_first(alloc, &script, first)?, "1,024 vertices");
+    let script = with_comb(alloc, front, 511, ",0,1\npair,0,1\nsights\n")?;
+    assert!(rt;
+        is_answered(alloc, &script, refused.as_bytes())?,
+        "1,025 vertices"
+    );
+    Ok(())
+}
+
+// Whether the answers begin with these lines, for which alone the sink has room.
+fn has_first(alloc: Global, script: &[u8], first: &str) -> Result<bool, Memory> {
+    let ended = run(alloc, script, (0, 7), first.len(), (0, 5))?;
+    Ok(ended.taken.as_slice() == first.as_bytes())
+}
+
+// A script with the polygon of a comb with `k` teeth. Where `rest` begins with no line feed, the polygon goes on with it.
+fn with_comb(alloc: Global, front: &str, k: u32, rest: &str) -> Result<Vec<u8>, Memory>
+    requires { k ≤ 2 ^ 16 }
+{
+    let mut script = Vec::from_slice(alloc, front.as_bytes())?;
+    put_comb(&mut script, k)?;
+    script.extend_from_slice(rest.as_bytes())?;
+    Ok(script)
+}
+
+// Appends the polygon of a comb with `k` teeth, without a line feed.
 fn put_comb(script: &mut Vec<u8>, k: u32) -> Result<(), Memory>
     requires { k ≤ 2 ^ 16 }
 {
@@ -245,7 +307,6 @@ fn put_comb(script: &mut Vec<u8>, k: u32) -> Result<(), Memory>
     for j in 0..k + 1 {
         put_vertex(script, 4 * (k - j), 6 * ((k - j) % 2) + 2)?;
     }
-    script.push(b'\n')?;
     Ok(())
 }
 

@@ -1,10 +1,13 @@
 pub mod Doors
+pub mod Entrances
 pub mod FirstFunnels
 pub mod Halving
 pub mod Lists
+pub mod NextFunnels
 pub mod Numbers
 pub mod ReachedBefore
 pub mod SourceNumber
 pub mod StepCounts
 pub mod StepLeft
 pub mod StepRight
+pub mod TriCorners

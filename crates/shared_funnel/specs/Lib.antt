@@ -1,2 +1,3 @@
+pub mod Entered
 pub mod Listed
 pub mod Third

@@ -17,8 +17,8 @@ const REFUSALS: [Bad; 12] = [
     Bad::Range(32_768),
     Bad::Clash(0, 4_294_967_295),
     Bad::NoPolygon,
-    Bad::NoTree,
     Bad::Outside(2),
+    Bad::NoTree,
     Bad::Index(1),
     Bad::Large,
 ];
@@ -33,8 +33,8 @@ bad,number,1
 bad,range,32768
 bad,clash,0,4294967295
 bad,no_polygon
-bad,no_tree
 bad,outside,2
+bad,no_tree
 bad,index,1
 bad,large
 ";

@@ -29,7 +29,6 @@ fn put_command<L: Ledger>(
     steps: &mut Steps<L>,
 ) -> Result<(), Memory> {
     match command {
-        Command::Two => put_word(out, "two")?,
         Command::Polygon(points) => {
             put_word(out, "polygon")?;
             put_points(out, points.into_vec().as_slice(), steps)?
@@ -64,6 +63,7 @@ fn put_command<L: Ledger>(
             put_word(out, "hull")?;
             put_points(out, points.into_vec().as_slice(), steps)?
         }
+        Command::Two => put_word(out, "two")?,
         Command::Round(points) => {
             put_word(out, "round")?;
             put_points(out, points.into_vec().as_slice(), steps)?

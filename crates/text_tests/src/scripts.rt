@@ -572,6 +572,11 @@ polygon[,x,y*4097]
 =
 bad,many
 
+4,096 points to check
+check[,5,6*4096]
+=
+check[ 5,6*4096]
+
 4,097 points to check
 check[,5,6*4097]
 =
@@ -625,12 +630,26 @@ check[,5,6*16385]
 two
 bad,many
 
+64 points of a hull in version 2
+geo,2
+hull[,5,6*64]
+=
+two
+hull[ 5,6*64]
+
 65 points of a hull in version 2
 geo,2
 hull[,5,6*65]
 =
 two
 bad,many
+
+64 points of a round in version 2
+geo,2
+round[,5,6*64]
+=
+two
+round[ 5,6*64]
 
 65 points of a round in version 2
 geo,2

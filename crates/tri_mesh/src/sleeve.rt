@@ -28,17 +28,20 @@ impl Model for Sleeve {
 }
 
 impl Sleeve {
-    /// The sleeve of this walk. The walk is dropped where memory is refused.
-    pub fn of(alloc: Global, mesh: &Mesh, walk: Vec<u32>) -> Result<Sleeve, Memory>
-        requires { IsWalk mesh.now walk.items }
-        ensures walk { IfOk result (λ sleeve. sleeve.walk ≡ walk.items) }
+    /// The sleeve of this walk.
+    pub fn of(alloc: Global, mesh: &Mesh, walk: &[u32]) -> Result<Sleeve, Memory>
+        requires { IsWalk mesh.now walk.now }
+        ensures walk { IfOk result (λ sleeve. sleeve.walk ≡ walk.now) }
         ensures of_mesh { IfOk result (IsOneOf mesh.now) }
     {
         let mut diagonals = Vec::with_capacity(alloc, walk.len() - 1)?;
         for i in 1..walk.len() {
             diagonals.push(between(mesh, walk[i - 1], walk[i]))?;
         }
-        Ok(Sleeve { walk, diagonals })
+        Ok(Sleeve {
+            walk: walk.to_vec(alloc)?,
+            diagonals,
+        })
     }
 
     /// How many diagonals there are.

@@ -2,14 +2,14 @@ use Rattle.std.proofs.Common.{◌≡◌, inl, inr, sym, ap, subst, ◌∙◌, �
 use Rattle.std.proofs.lemmas.List.{append_assoc}
 use Rattle.plane.proofs.Order.{point_or_other}
 use Rattle.meshes.specs.Sleeve.{diagonal_at}
-use Rattle.exact_plane.specs.Spot.{point_named}
 use Rattle.exact_plane.specs.declared.turns.Spot.TheVariants.{Goal}
+use Rattle.exact_plane.specs.Names.{AreNamed, name_at}
+use Rattle.exact_plane.specs.Spot.{point_named}
 use Rattle.funnel_walk.proofs.Appended.{two_appended, way_appended}
 use Rattle.funnel_walk.proofs.Closed.{names_on_way}
 use Rattle.funnel_walk.proofs.GoalReached.{taut_on, taut_there}
 use Rattle.funnel_walk.proofs.NamedLists.{apex_below, front_named, name_in_front, no_more}
 use Rattle.funnel_walk.proofs.chain.walk_on.Goals as goal
-use Rattle.funnel_walk.specs.Names.{AreNamed, name_at}
 use Rattle.funnel_walk.specs.Walked.{IsWalked}
 
 pub loop-i-preserved : goal.loop-i-preserved

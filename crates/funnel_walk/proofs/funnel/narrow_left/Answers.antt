@@ -3,12 +3,12 @@ use Rattle.std.proofs.lemmas.Bool.{false≢true}
 use Rattle.std.proofs.lemmas.List.{length-drop}
 use Rattle.plane.specs.Point.{whole}
 use Rattle.funnels.specs.Funnel.{IsPassed}
+use Rattle.exact_plane.specs.Names.{named_points}
 use Rattle.exact_plane.specs.Spot.{point_named}
 use Rattle.funnel_walk.proofs.NamedLists.{count_right}
 use Rattle.funnel_walk.proofs.NarrowedLeft.{apex_goes, left_ends, other_goes}
 use Rattle.funnel_walk.proofs.funnel.narrow_left.Goals as goal
 use Rattle.funnel_walk.proofs.funnel.narrow_left.Goals.{else-apex-eq0, then-apex-eq0}
-use Rattle.funnel_walk.specs.Names.{named_points}
 
 pub push_reserved-requires : goal.push_reserved-requires
 push_reserved-requires g c =

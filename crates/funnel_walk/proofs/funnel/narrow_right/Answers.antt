@@ -2,12 +2,12 @@ use Rattle.std.proofs.Common.{◌≡◌, sym, ap, ◌∙◌, ◌-◌, length, ve
 use Rattle.std.proofs.lemmas.Bool.{false≢true}
 use Rattle.plane.specs.Point.{whole}
 use Rattle.funnels.specs.Funnel.{IsPassed}
+use Rattle.exact_plane.specs.Names.{name_at, named_points}
 use Rattle.exact_plane.specs.Spot.{point_named}
 use Rattle.funnel_walk.proofs.NamedLists.{count_left}
 use Rattle.funnel_walk.proofs.NarrowedRight.{apex_goes, other_goes, right_ends}
 use Rattle.funnel_walk.proofs.funnel.narrow_right.Goals as goal
 use Rattle.funnel_walk.proofs.funnel.narrow_right.Goals.{else-last-apex, then-last-apex}
-use Rattle.funnel_walk.specs.Names.{named_points}
 
 pub push_reserved-requires : goal.push_reserved-requires
 push_reserved-requires g c =
@@ -30,7 +30,11 @@ loop-last-preserved g c =
     false≢true (sym c.if-not-is_passed.true ∙ c.is_passed.ensures.passed.1 passed) in
     record {
       narrowed = rw c.pop_back.ensures.items (elim c.if-last-apex.branch [
-        | then-last-apex w ↦ rw (w.out-is, w.apex-is, w.push_reserved.ensures.items, w.name_at.ensures)
+        | then-last-apex w ↦
+            let here = w.name_at.ensures in
+            let at_apex = w.if-last-apex.true in
+            let named : w.name_at.result ≡ name_at left last = cc in
+            rw (w.out-is, w.apex-is, w.push_reserved.ensures.items, named)
             (apex_goes at names c.args.apex given y left last now out inv.narrowed c.loop-last-test.true past w.if-last-apex.true)
         | else-last-apex w ↦ rw (w.out-is, w.apex-is)
             (other_goes at names c.args.apex given y left last now out inv.narrowed c.loop-last-test.true past w.if-last-apex.false)

@@ -1,6 +1,6 @@
 use Rattle.std.proofs.Common.{◌≡◌, ◌++◌, take, vec_capacity}
 use Rattle.exact_plane.specs.Spot.{point_named}
-use Rattle.funnel_walk.specs.Names.{named_points}
+use Rattle.exact_plane.specs.Names.{named_points}
 use Rattle.geo_session.proofs.along.put_points.Given as goal
 
 abbrev pub invariant-loop-name : goal.invariant-loop-name

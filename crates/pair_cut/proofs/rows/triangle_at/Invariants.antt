@@ -1,6 +1,6 @@
 use Rattle.std.proofs.Common.{ℕ, ◌<◌}
 use Rattle.meshes.specs.Side.{tri_at}
-use Rattle.path_tree.specs.Growing.{HasCorner}
+use Rattle.shared_funnel.specs.Entered.{HasCorner}
 use Rattle.pair_cut.proofs.rows.triangle_at.Given as goal
 
 abbrev pub invariant-loop-k : goal.invariant-loop-k

@@ -1,10 +1,10 @@
 use Rattle.std.proofs.Common.{arith}
 use Rattle.std.proofs.lemmas.Result.{IfOk-weaker}
 use Rattle.meshes.proofs.Sides.{two_fewer}
-use Rattle.path_tree.proofs.Entrances.{toward_below}
-use Rattle.path_tree.proofs.NextFunnels.{apex_in, few_digits, few_points, funnel_on_left, funnel_on_right}
+use Rattle.shared_funnel.proofs.Entrances.{toward_below}
+use Rattle.shared_funnel.proofs.NextFunnels.{apex_in, few_digits, few_points, funnel_on_left, funnel_on_right}
+use Rattle.shared_funnel.specs.Entered.{IsFunnelTo, at_place, left_of, right_of, toward}
 use Rattle.path_tree.proofs.onward.funnel_from.Goals as goal
-use Rattle.path_tree.specs.Growing.{IsFunnelTo, at_place, left_of, right_of, toward}
 
 pub door_of-requires-clause-in_list : goal.door_of-requires-clause-in_list
 door_of-requires-clause-in_list g c = c.requires.start.outward.in_list c.args.p c.requires.within

@@ -1,13 +1,13 @@
 use Rattle.std.proofs.Common.{◌≡◌, sym, subst, ◌+◌, ◌<◌, length, arith}
 use Rattle.plane.specs.Point.{whole}
-use Rattle.rings.specs.Ring.{vertex}
+use Rattle.rings.proofs.Vertices.{vertex_in_range}
+use Rattle.rings.specs.Ring.{origin, vertex}
 use Rattle.meshes.proofs.Sides.{two_fewer}
 use Rattle.funnels.specs.Funnel.{IsReachedFrom}
-use Rattle.funnel_walk.proofs.SideCorners.{vertex_named}
 use Rattle.shared_seq.specs.Digits.{binary_digits}
+use Rattle.shared_funnel.proofs.Entrances.{third_below}
+use Rattle.shared_funnel.proofs.NextFunnels.{apex_in, few_digits}
 use Rattle.shared_funnel.specs.Listed.{AreNumbers, points_of}
-use Rattle.path_tree.proofs.Entrances.{third_below}
-use Rattle.path_tree.proofs.NextFunnels.{apex_in, few_digits}
 use Rattle.path_tree.proofs.TreeSteps.{search_steps}
 use Rattle.path_tree.proofs.onward.place_of_third.Goals as goal
 
@@ -47,7 +47,7 @@ returns-clause-reached g c =
     let below = third_below corners start c.args.mesh.now c.args.order.now c.requires.start c.args.p c.requires.later c.requires.within in
     subst (λ k. IsReachedFrom (points_of corners start f.list) f.apex c.place.result (whole (vertex corners k))) third_is
     (subst (λ y. IsReachedFrom (points_of corners start f.list) f.apex c.place.result (whole y))
-    (sym (vertex_named corners start (g.T.Turns.goal c.args.board.now) m (subst (λ k. k < length corners) (sym third_is) below)))
+    (sym (vertex_in_range corners m origin (subst (λ k. k < length corners) (sym third_is) below)))
     c.place.ensures.reached)
 
 pub returns-clause-steps : goal.returns-clause-steps

@@ -1,9 +1,9 @@
 use Rattle.std.proofs.Common.{sym, subst, ◌∙◌, arith}
 use Rattle.std.proofs.lemmas.List.{get_or_read}
+use Rattle.shared_funnel.specs.Entered.{toward}
 use Rattle.pair_cut.proofs.DoorFunnels.{apex_from_home, apex_on_left, apex_on_right}
 use Rattle.pair_cut.proofs.rows.Row.apex.Goals as goal
 use Rattle.pair_cut.specs.Doors.{IsTangentTo}
-use Rattle.path_tree.specs.Growing.{toward}
 
 pub returns-then-toward-eq0 : goal.returns-then-toward-eq0
 returns-then-toward-eq0 c = λ corners from below home grown.

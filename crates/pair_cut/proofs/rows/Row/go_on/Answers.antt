@@ -1,6 +1,6 @@
 use Rattle.std.proofs.Common.{sym, subst, ◌<◌, length, arith}
 use Rattle.rings.specs.Ring.{vertex}
-use Rattle.path_tree.proofs.Entrances.{third_below}
+use Rattle.shared_funnel.proofs.Entrances.{third_below}
 use Rattle.shared_funnel.specs.Listed.{points_of}
 use Rattle.pair_cut.proofs.DoorFunnels.{climbs}
 use Rattle.pair_cut.proofs.RowGrowth.{grown_more}

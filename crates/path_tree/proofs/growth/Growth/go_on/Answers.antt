@@ -3,15 +3,15 @@ use Rattle.std.proofs.lemmas.List.{length-map}
 use Rattle.rings.specs.Ring.{vertex}
 use Rattle.meshes.proofs.Sides.{two_fewer}
 use Rattle.shared_seq.specs.Digits.{binary_digits}
+use Rattle.shared_funnel.proofs.Entrances.{beyond_at, third_below}
+use Rattle.shared_funnel.proofs.NextFunnels.{few_digits, later_digits}
+use Rattle.shared_funnel.specs.Entered.{at_place, left_of, right_of, third_of}
 use Rattle.shared_funnel.specs.Listed.{point_of}
-use Rattle.path_tree.proofs.Entrances.{beyond_at, third_below}
 use Rattle.path_tree.proofs.GrownOver.{grown_more}
 use Rattle.path_tree.proofs.NamedPoints.{third_named}
-use Rattle.path_tree.proofs.NextFunnels.{few_digits, later_digits}
 use Rattle.path_tree.proofs.TreeSteps.{triangle_steps}
 use Rattle.path_tree.proofs.growth.Growth.go_on.Goals as goal
 use Rattle.path_tree.specs.Grown.{IsFromNamed}
-use Rattle.path_tree.specs.Growing.{at_place, left_of, right_of, third_of}
 
 pub returns-in_err-funnel-clause-steps : goal.returns-in_err-funnel-clause-steps
 returns-in_err-funnel-clause-steps g c =

@@ -1,10 +1,11 @@
 use Rattle.std.proofs.Common.{arith}
 use Rattle.std.proofs.lemmas.Result.{IfOk-weaker}
 use Rattle.meshes.proofs.Sides.{two_fewer}
-use Rattle.path_tree.proofs.Entrances.{ends_at}
-use Rattle.path_tree.proofs.NextFunnels.{funnel_from_home, later_digits, none_at_home, some_later}
+use Rattle.shared_funnel.proofs.Entrances.{ends_at}
+use Rattle.shared_funnel.proofs.NextFunnels.{funnel_from_home, later_digits}
+use Rattle.shared_funnel.specs.Entered.{IsFunnelTo}
+use Rattle.path_tree.proofs.TreeFunnels.{none_at_home, some_later}
 use Rattle.path_tree.proofs.growth.Growth.next_funnel.Goals as goal
-use Rattle.path_tree.specs.Growing.{IsFunnelTo}
 
 pub funnel_from-requires-clause-inner : goal.funnel_from-requires-clause-inner
 funnel_from-requires-clause-inner g c =

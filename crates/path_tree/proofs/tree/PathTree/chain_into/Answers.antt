@@ -1,7 +1,7 @@
 use Rattle.std.proofs.Common.{refl, sym, ap, subst, ◌∙◌, [], ◌∷◌, ◌++◌, length, arith}
 use Rattle.std.proofs.lemmas.List.{length-append}
 use Rattle.exact_plane.specs.declared.turns.Spot.TheVariants.{Start}
-use Rattle.path_tree.proofs.GoneBack.{IsGoneBack, back_begins, back_ends, back_goes_on, back_longer, back_on, back_room}
+use Rattle.path_tree.proofs.GoneBack.{IsGoneBack, back_begins, back_ends, back_goes_on, back_longer, back_no_goal, back_on, back_room}
 use Rattle.path_tree.specs.Grown.{IsGrown}
 use Rattle.path_tree.proofs.tree.PathTree.chain_into.Goals as goal
 
@@ -65,3 +65,9 @@ returns-clause-on c =
     back_goes_on c.args.self.now c.args.last c.loop-before.at c.args.out.now.items c.loop-before.out.items c.loop-before.invariant.0
     c.len-given.result c.loop-before.invariant.1 c.push_reserved-2.new.self.items c.turn_round.new.names.items
     c.push_reserved-2.ensures.items c.turn_round.ensures.turned c.in_default.ensures.before
+
+pub returns-clause-no_goal : goal.returns-clause-no_goal
+returns-clause-no_goal c =
+    back_no_goal c.args.self.now c.args.last c.loop-before.at c.args.out.now.items c.loop-before.out.items c.loop-before.invariant.0
+    c.len-given.result c.loop-before.invariant.1 c.push_reserved-2.new.self.items c.turn_round.new.names.items
+    c.push_reserved-2.ensures.items c.turn_round.ensures.turned

@@ -1,6 +1,7 @@
 use Rattle.std.proofs.Common.{sym, ap, subst, ◌∙◌, [], ◌∷◌, ◌++◌, arith}
 use Rattle.std.proofs.lemmas.Bool.{false≢true}
-use Rattle.funnel_walk.proofs.SideCorners.{vertex_named}
+use Rattle.rings.proofs.Vertices.{vertex_in_range}
+use Rattle.rings.specs.Ring.{origin}
 use Rattle.shared_funnel.proofs.FirstFunnels.{first_at_left, first_at_right, first_between}
 use Rattle.shared_funnel.proofs.funnel.Funnel.first.Goals as goal
 use Rattle.shared_funnel.specs.Listed.{IsFunnelAt}
@@ -10,7 +11,7 @@ returns-then-same-clause-funnel g c tris home next fits in_start shared =
     let corners = g.T.Turns.corners c.args.board.now in
     let start = g.T.Turns.start c.args.board.now in
     let there = c.same.ensures.same.0 c.if-same.true
-    ∙ sym (vertex_named corners start (g.T.Turns.goal c.args.board.now) c.args.left (omega (arith, c.requires.left, c.requires.count))) in
+    ∙ sym (vertex_in_range corners c.args.left origin (omega (arith, c.requires.left, c.requires.count))) in
     subst (λ l. IsFunnelAt corners start c.args.left c.args.right 1 (record { list = l; apex = 0 }))
     (sym (c.in_ok-list.ensures.list ∙ ap (λ l. l ++ c.args.right ∷ []) c.in_ok-source.ensures.list))
     (first_at_left corners start tris home next c.args.left c.args.right fits in_start shared c.args.n c.requires.count there)
@@ -20,7 +21,7 @@ returns-then-same-2-clause-funnel g c tris home next fits in_start shared =
     let corners = g.T.Turns.corners c.args.board.now in
     let start = g.T.Turns.start c.args.board.now in
     let there = c.same-2.ensures.same.0 c.if-same-2.true
-    ∙ sym (vertex_named corners start (g.T.Turns.goal c.args.board.now) c.args.right (omega (arith, c.requires.right, c.requires.count))) in
+    ∙ sym (vertex_in_range corners c.args.right origin (omega (arith, c.requires.right, c.requires.count))) in
     subst (λ l. IsFunnelAt corners start c.args.left c.args.right 1 (record { list = l; apex = 1 }))
     (sym (c.in_ok-front.ensures.list ∙ ap (λ l. c.args.left ∷ l) c.in_ok-source.ensures.list))
     (first_at_right corners start tris home next c.args.left c.args.right fits in_start shared c.args.n c.requires.count there)
@@ -29,9 +30,8 @@ pub returns-clause-funnel : goal.returns-clause-funnel
 returns-clause-funnel g c tris home next fits in_start shared =
     let corners = g.T.Turns.corners c.args.board.now in
     let start = g.T.Turns.start c.args.board.now in
-    let end = g.T.Turns.goal c.args.board.now in
-    let left_is = vertex_named corners start end c.args.left (omega (arith, c.requires.left, c.requires.count)) in
-    let right_is = vertex_named corners start end c.args.right (omega (arith, c.requires.right, c.requires.count)) in
+    let left_is = vertex_in_range corners c.args.left origin (omega (arith, c.requires.left, c.requires.count)) in
+    let right_is = vertex_in_range corners c.args.right origin (omega (arith, c.requires.right, c.requires.count)) in
     subst (λ l. IsFunnelAt corners start c.args.left c.args.right 1 (record { list = l; apex = 1 }))
     (sym (c.in_ok-list-2.ensures.list ∙ ap (λ l. l ++ c.args.right ∷ []) (c.in_ok-front.ensures.list
     ∙ ap (λ l. c.args.left ∷ l) c.in_ok-source.ensures.list)))

@@ -1,8 +1,9 @@
 use Rattle.std.proofs.Common.{◌≡◌, ◌↔◌, ap, IsTrue, arith, rules}
 use Rattle.plane.specs.Point.{whole}
-use Rattle.exact_plane.specs.Spot.{point_named}
+use Rattle.funnels.proofs.Funnels.{passed_left, passed_right}
+use Rattle.exact_plane.proofs.Directions.{not_left_iff, right_iff_negative}
 use Rattle.exact_plane.specs.declared.direction.Direction.TheVariants.{Right}
-use Rattle.funnel_walk.proofs.Passing.{passed_left, passed_right}
+use Rattle.exact_plane.specs.Spot.{point_named}
 use Rattle.shared_funnel.proofs.funnel.Funnel.is_passed.Goals as goal
 
 pub returns-then-j-self-clause-passed : goal.returns-then-j-self-clause-passed
@@ -14,7 +15,7 @@ returns-then-j-self-clause-passed g c =
     let passed = passed_left _ c.args.self.now.apex c.args.j (whole (point_named corners start end c.args.y)) _ _
     (omega (arith, c.if-j-self.true, ap (λ l. l.apex) c.self.view_is))
     (c.name-right.ensures.point corners start end c.requires.count) (c.name-left.ensures.point corners start end c.requires.count) in
-    (λ h. passed.0 (asked.0 h), λ h. asked.1 (passed.1 h))
+    (λ h. passed.0 ((not_left_iff _).0 (asked.0 h)), λ h. asked.1 ((not_left_iff _).1 (passed.1 h)))
 
 pub returns-else-j-self-clause-passed : goal.returns-else-j-self-clause-passed
 returns-else-j-self-clause-passed g c =
@@ -26,4 +27,4 @@ returns-else-j-self-clause-passed g c =
     let passed = passed_right _ c.args.self.now.apex c.args.j (whole (point_named corners start end c.args.y)) _ _
     (omega (arith, c.if-j-self.false, ap (λ l. l.apex) c.self.view_is))
     (c.name-left.ensures.point corners start end c.requires.count) (c.name-right.ensures.point corners start end c.requires.count) in
-    (λ h. passed.0 (asked.0 h), λ h. asked.1 (passed.1 h))
+    (λ h. passed.0 ((right_iff_negative _).0 (asked.0 h)), λ h. asked.1 ((right_iff_negative _).1 (passed.1 h)))

@@ -5,5 +5,5 @@ use Rattle.tri_mesh.proofs.sleeve.Sleeve.of.Given as goal
 abbrev pub invariant-loop-i : goal.invariant-loop-i
 invariant-loop-i l = record {
   count : length l.diagonals.items + 1 ≡ l.i;
-  along : LieAlong l.mesh l.walk.items l.diagonals.items;
+  along : LieAlong l.mesh l.walk l.diagonals.items;
 }

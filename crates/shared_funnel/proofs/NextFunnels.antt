@@ -1,7 +1,7 @@
 -- The funnel at the side over which the triangle at a place is entered: from home, and from the funnel of the triangle from which it
 -- is reached.
-use Rattle.std.proofs.Common.{◌≡◌, ◌⊎◌, inl, inr, sym, subst, ◌∙◌, List, length, ℕ, ◌+◌, ◌<◌, ◌≤◌, Option, Some, None, slice_index_or, arith}
-use Rattle.std.proofs.lemmas.List.{get_or_read, length-map}
+use Rattle.std.proofs.Common.{◌≡◌, ◌⊎◌, inl, inr, sym, subst, ◌∙◌, List, length, ℕ, ◌+◌, ◌<◌, ◌≤◌, arith}
+use Rattle.std.proofs.lemmas.List.{length-map}
 use Rattle.plane.specs.Point.{Point, whole}
 use Rattle.rings.specs.Ring.{vertex}
 use Rattle.meshes.proofs.Sides.{fitting_sides, two_fewer}
@@ -11,14 +11,13 @@ use Rattle.meshes.specs.declared.tri.Tri.{Tri}
 use Rattle.tri_mesh.specs.Outward.{outward_at}
 use Rattle.tri_mesh.specs.declared.outward.Outward.{Outward}
 use Rattle.funnels.specs.Funnel.{IsReachedFrom}
-use Rattle.shared_funnel.proofs.Doors.{funnel_later, goes_on, third_numbered}
-use Rattle.shared_funnel.specs.Listed.{IsBeyond, IsFunnelAt, Listed, point_of, points_of}
 use Rattle.shared_seq.proofs.Digits.{binary_digits_mono}
 use Rattle.shared_seq.specs.Digits.{binary_digits}
-use Rattle.path_tree.proofs.Entrances.{apart, beyond_at, earlier, shared_at, shared_back, toward_below}
-use Rattle.path_tree.proofs.TreeSteps.{three_digits}
-use Rattle.path_tree.specs.Grown.{Tree}
-use Rattle.path_tree.specs.Growing.{IsFromStart, IsFunnelTo, IsGrownOver, KeepsFunnelTo, at_place, left_of, right_of, third_of, toward}
+use Rattle.shared_funnel.proofs.Doors.{funnel_later, goes_on, third_numbered}
+use Rattle.shared_funnel.specs.Listed.{IsBeyond, IsFunnelAt, Listed, point_of, points_of}
+use Rattle.shared_funnel.proofs.Entrances.{apart, beyond_at, earlier, shared_at, shared_back, toward_below}
+use Rattle.shared_funnel.proofs.StepCounts.{three_digits}
+use Rattle.shared_funnel.specs.Entered.{IsFromStart, IsFunnelTo, at_place, left_of, right_of, third_of, toward}
 
 module _ (corners : List Point) (start : Point) (tris : List Tri) (order : List Outward) (from : IsFromStart corners start tris order) where
   -- where there is a later place, there are four corners or more
@@ -45,23 +44,6 @@ module _ (corners : List Point) (start : Point) (tris : List Tri) (order : List 
   module _ (p : ℕ) (later : 0 < p) (below : p < length order) where
     abbrev q : ℕ
     q = toward order p
-
-    -- what was read in the tree is what it has there: nothing at home,
-    module _ (tree : Tree) (grown : IsGrownOver corners start tris order p tree) (o : Option Listed)
-        (read : o ≡ slice_index_or tree.funnels (at_place order q) o) where
-      kept : KeepsFunnelTo corners start tris order q o
-      kept =
-          let within : at_place order q < length tree.funnels =
-          omega (arith, from.outward.in_list q (toward_below corners start tris order from p later below), grown.triangles) in
-          subst (KeepsFunnelTo corners start tris order q) (sym (get_or_read tree.funnels (at_place order q) o within read None))
-          (grown.funnels q (earlier corners start tris order from p later below))
-
-      pub none_at_home : o ≡ None → q ≡ 0
-      none_at_home is = subst (KeepsFunnelTo corners start tris order q) is kept
-
-      -- and the funnel at a later place
-      pub some_later : (f : Listed) → o ≡ Some f → (0 < q) × IsFunnelTo corners start tris order q f
-      some_later f is = subst (KeepsFunnelTo corners start tris order q) is kept
 
     -- From home the first funnel is the one,
     pub funnel_from_home : q ≡ 0 → (left right : ℕ) (f : Listed) → left ≡ left_of tris order p → right ≡ right_of tris order p

@@ -9,7 +9,7 @@ use Rattle.tri_mesh.specs.Outward.{IsOutward, outward_at}
 use Rattle.tri_mesh.specs.declared.outward.Outward.{Outward}
 use Rattle.shared_funnel.proofs.Doors.{beyond_of, has_numbered, side_of_both, third_numbered}
 use Rattle.shared_funnel.specs.Listed.{IsBeyond}
-use Rattle.path_tree.specs.Growing.{IsFromStart, at_place, left_of, right_of, third_of, toward}
+use Rattle.shared_funnel.specs.Entered.{IsFromStart, at_place, left_of, right_of, third_of, toward}
 
 -- an order outward from a triangle with the start in it
 pub from_start : (corners : List Point) (start : Point) (tris : List Tri) (home : ℕ) (order : List Outward) → Fits corners tris

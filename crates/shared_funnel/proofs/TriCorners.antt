@@ -9,7 +9,7 @@ use Rattle.meshes.specs.Side.{HasSide, tri_at}
 use Rattle.meshes.specs.declared.tri.Tri.{Tri}
 use Rattle.funnels.proofs.Bends.{first_end_in}
 use Rattle.shared_funnel.specs.Third.{side_third}
-use Rattle.path_tree.specs.Growing.{HasCorner}
+use Rattle.shared_funnel.specs.Entered.{HasCorner}
 
 -- the corners in their order
 abbrev pub corners_of : Tri → List ℕ

@@ -1,0 +1,208 @@
+// Answers as a picture. What is drawn is read from records and answers.
+import {isRefused, pairs, pointsOf} from './records.js';
+
+/** @typedef {import('./records.js').Point} Point */
+/** @typedef {import('./records.js').Answered} Answered */
+/** @typedef {import('./view.js').View} View */
+
+const COLOURS = 7;
+const MOST_NUMBERS = 200; // vertices that have their numbers beside them
+const MOST_LINES = 20000; // lines of one answer that are drawn
+
+/** Where answers are drawn. @typedef {{view: View, ring: Point[], version: 1 | 2, source: Point | null}} Page */
+
+/** @param {View} view @param {Point[]} points */
+const chain = (view, points) => `M${points.map((point) => view.at(point)).join('L')}`;
+/** @param {View} view @param {Point[][]} lines */
+const lines = (view, lines) => lines.map((line) => chain(view, line)).join('');
+/** @param {string} kind @param {string} way */
+const path = (kind, way) => (way ? `<path class="${kind}" d="${way}"/>` : '');
+
+/** Dots as one shape: pieces of no length with round ends. @param {View} view @param {string} kind @param {Point[]} points */
+const dots = (view, kind, points) => path(kind, points.map((point) => `M${view.at(point)}h0`).join(''));
+
+/** @param {View} view @param {string} kind @param {Point} point */
+function cross(view, kind, point) {
+  const [x, y] = view.place(point);
+  return path(kind, `M${x - 6} ${y - 6}L${x + 6} ${y + 6}M${x - 6} ${y + 6}L${x + 6} ${y - 6}`);
+}
+
+/** @param {View} view @param {Point} point @param {string | number} text */
+function label(view, point, text, dx = 8, dy = -8) {
+  const [x, y] = view.place(point);
+  return `<text x="${(x + dx).toFixed(1)}" y="${(y + dy).toFixed(1)}">${text}</text>`;
+}
+
+/** The answers to all that was asked of a polygon. @param {View} view @param {Answered[]} answered @param {Point[]} ring @param {1 | 2} version */
+export function drawAnswers(view, answered, ring, version) {
+  const page = {view, ring, version, source: null};
+  const shapes = [];
+  const above = []; // guards stand on what they see
+  let colour = 0;
+  for (const it of answered) {
+    if (isRefused(it.lines)) {
+      shapes.push(drawRefusal(page, it));
+      continue;
+    }
+    const draw = DRAWN[it.row[0]];
+    if (!draw) continue;
+    if (it.row[0] === 'tree') page.source = pointsOf(it.row)?.[0] ?? null;
+    const shape = `<g class="c${colour % COLOURS} ${it.row[0]}">${draw(page, it)}</g>`;
+    (it.row[0] === 'guards' ? above : shapes).push(shape);
+    colour += 1;
+  }
+  return [...shapes, ...above].join('');
+}
+
+/** What is wrong, where it is: the edges that clash, or the point outside. @param {Page} page @param {Answered} answered */
+function drawRefusal({view, ring}, {row, lines: [line]}) {
+  const [, cause, a, b] = line.split(',');
+  if (cause === 'clash' && row[0] === 'polygon') {
+    const edges = [Number(a), Number(b)].map((k) => [ring[k % ring.length], ring[(k + 1) % ring.length]]);
+    const marks = edges.map(([p, q], k) => label(view, [(p[0] + q[0]) / 2, (p[1] + q[1]) / 2], [a, b][k])).join('');
+    return `<g class="wrong">${path('edge', lines(view, edges))}${marks}</g>`;
+  }
+  const point = cause === 'outside' ? pointsOf(row)?.[Number(a) - 1] : null;
+  return point ? `<g class="wrong">${cross(view, 'cross', point)}</g>` : '';
+}
+
+/** @type {Object<string, (page: Page, answered: Answered) => string>} */
+const DRAWN = {
+  inside: drawPlace, check: drawList, path: drawPath, reach: drawPath, pair: drawPath, tree: drawTree, see: drawView, kernel: drawKernel,
+  hull: drawHull, round: drawRound, guards: drawGuards, sights: drawSights,
+};
+
+/** @param {Page} page @param {Answered} answered */
+function drawPlace({view}, {row, lines: [place]}) {
+  const [point] = pointsOf(row) ?? [];
+  if (place === 'outside') return cross(view, 'cross', point);
+  return dots(view, 'dot', [point]) + (place === 'edge' ? dots(view, 'hole', [point]) : '');
+}
+
+/** @param {Page} page @param {Answered} answered */
+function drawPath({view, version}, {lines: [line]}) {
+  const points = pairs(line.split(',').slice(2));
+  const ends = [points[0], points[points.length - 1]];
+  const touched = version === 2 ? dots(view, 'small', points.slice(1, -1)) + dots(view, 'small-hole', points.slice(1, -1)) : '';
+  return path('way', chain(view, points)) + touched + dots(view, 'dot', ends) + dots(view, 'hole', ends.slice(0, 1));
+}
+
+/** @param {Page} page @param {Answered} answered */
+function drawTree({view, ring}, {row, lines: told}) {
+  const [source] = pointsOf(row) ?? [];
+  const branches = [];
+  for (let k = 1; k < told.length; k += 1) {
+    const before = told[k].slice(told[k].lastIndexOf(',') + 1);
+    if (before !== '-') branches.push([ring[k - 1], before === 's' ? source : ring[Number(before)]]);
+  }
+  return path('branch', lines(view, branches)) + dots(view, 'dot', [source]) + dots(view, 'hole', [source]);
+}
+
+/** What is seen. The parts follow each other round the viewpoint, so their ends in order go round all that is seen.
+ *  @param {Page} page @param {Answered} answered */
+function drawView({view}, {row, lines: told}) {
+  const [viewpoint] = pointsOf(row) ?? [];
+  const parts = told.slice(1).map((line) => pairs(line.split(',').slice(2)));
+  const area = parts.length ? `${chain(view, parts.flat())}Z` : '';
+  return path('seen', area) + path('part', lines(view, parts)) + dots(view, 'dot', [viewpoint]);
+}
+
+/** @param {Page} page @param {Answered} answered */
+function drawKernel({view}, {lines: told}) {
+  const corners = told.slice(1).map((line) => pairs(line.split(',').slice(1))[0]);
+  return corners.length ? path('core', `${chain(view, corners)}Z`) + dots(view, 'dot', corners) : '';
+}
+
+/** @param {Page} page @param {Answered} answered */
+function drawHull({view, version}, {row, lines: told}) {
+  const sides = told.slice(1).map((line) => pairs(line.split(',').slice(4)));
+  const touched = version === 2 ? sides.flatMap((side) => side.slice(1, -1)) : [];
+  return path('way', lines(view, sides)) + dots(view, 'small', touched) + dots(view, 'small-hole', touched) + numbered(view, pointsOf(row) ?? []);
+}
+
+/** @param {View} view @param {Point[]} points */
+function numbered(view, points) {
+  return `${dots(view, 'dot', points)}<g class="numbers">${points.map((point, k) => label(view, point, k, 9, 16)).join('')}</g>`;
+}
+
+/** @param {Page} page @param {Answered} answered */
+function drawRound({view}, {row, lines: [line]}) {
+  const points = pointsOf(row) ?? [];
+  const numbers = line.split(',').slice(2).map(Number);
+  const others = points.filter((_, k) => !numbers.includes(k));
+  const order = numbers.map((k, place) => label(view, points[k], `${place + 1}.`, 9, -9)).join('');
+  return numbered(view, points) + dots(view, 'hole', others) + `<g class="strong">${order}</g>`;
+}
+
+/** @param {Page} page @param {Answered} answered */
+function drawGuards({view, ring}, {lines: [line]}) {
+  const numbers = line.split(',').slice(2).map(Number);
+  const names = numbers.length <= 40 ? numbers.map((k) => label(view, ring[k], k, 11, -10)).join('') : '';
+  return dots(view, 'great', numbers.map((k) => ring[k])) + `<g class="strong">${names}</g>`;
+}
+
+/** @param {Page} page @param {Answered} answered */
+function drawSights({view, ring}, {lines: told}) {
+  const seen = told.slice(1, MOST_LINES + 1).map((line) => line.split(',').slice(1).map((k) => ring[Number(k)]));
+  return path(seen.length > 300 ? 'sight many' : 'sight', lines(view, seen));
+}
+
+/** @param {Page} page @param {Answered} answered */
+function drawList({view}, {row, lines: [line]}) {
+  const points = pointsOf(row) ?? [];
+  const [verdict, rule, at] = line.split(',');
+  const place = Number(at);
+  const broken = verdict === 'not' ? cross(view, 'cross wrong', points[place]) : '';
+  const left = rule === 'leaves' && place + 1 < points.length ? path('edge wrong', chain(view, points.slice(place, place + 2))) : '';
+  return path(verdict === 'taut' ? 'way' : 'way dashed', chain(view, points)) + left + dots(view, 'dot', points) + broken;
+}
+
+/** The polygon, with dots at its vertices and their numbers where there is room. @param {View} view @param {import('./state.js').Panel} panel
+ *  @param {boolean} isDrawing */
+export function drawRing(view, {ring, closed}, isDrawing) {
+  if (!ring.length) return '';
+  const way = chain(view, ring);
+  const shape = closed ? path('ring', `${way}Z`) : path('ring open', way) + (ring.length > 2 ? path('closing', chain(view, [ring[ring.length - 1], ring[0]])) : '');
+  const vertices = ring.length <= 400 || isDrawing ? dots(view, isDrawing ? 'vertex held' : 'vertex', ring) : '';
+  return shape + vertices + `<g class="numbers">${numbers(view, ring)}</g>`;
+}
+
+/** The numbers of vertices, but for those that would stand on another one. @param {View} view @param {Point[]} ring */
+function numbers(view, ring) {
+  if (ring.length > MOST_NUMBERS) return '';
+  const taken = [];
+  return ring.map((point, k) => {
+    const [x, y] = view.place(point);
+    if (taken.some(([a, b]) => Math.abs(a - x) < 20 && Math.abs(b - y) < 12)) return '';
+    taken.push([x, y]);
+    return label(view, point, k, 6, -6);
+  }).join('');
+}
+
+/** Lines of a grid with their coordinates. @param {View} view */
+export function drawGrid(view) {
+  const step = view.step();
+  const [right, bottom] = [view.left + view.width / view.scale, view.top - view.height / view.scale];
+  const texts = [];
+  let way = '';
+  for (let x = Math.ceil(view.left / step) * step + 0; x <= right; x += step) {
+    const [px] = view.place([x, 0]);
+    way += `M${px.toFixed(1)} 0v${view.height}`;
+    texts.push(`<text class="across" x="${px.toFixed(1)}" y="${view.height - 6}">${x.toLocaleString('en')}</text>`);
+  }
+  for (let y = Math.ceil(bottom / step) * step + 0; y <= view.top; y += step) {
+    const [, py] = view.place([0, y]);
+    way += `M0 ${py.toFixed(1)}h${view.width}`;
+    if (py < view.height - 24 && py > 12) texts.push(`<text x="6" y="${(py - 4).toFixed(1)}">${y.toLocaleString('en')}</text>`);
+  }
+  return path('grid', way) + `<g class="axis">${texts.join('')}</g>`;
+}
+
+/** The points that can be moved, the one that is held, and the pen of the keyboard. @param {View} view @param {Point[]} points
+ *  @param {number | null} held @param {Point | null} pen */
+export function drawHandles(view, points, held, pen) {
+  const ring = held !== null && points[held] ? dots(view, 'halo', [points[held]]) : '';
+  if (!pen) return ring;
+  const [x, y] = view.place(pen);
+  return ring + path('pen', `M${x - 11} ${y}h8M${x + 3} ${y}h8M${x} ${y - 11}v8M${x} ${y + 3}v8`);
+}

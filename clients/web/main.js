@@ -1,0 +1,231 @@
+// The page: puts together what it knows, what it asks, and what it shows.
+import {addressOf, readAddress, stateOf} from './address.js';
+import {Asker, answersTo} from './asker.js';
+import {drawAnswers, drawGrid, drawHandles, drawRing} from './drawing.js';
+import {handles, hint} from './editing.js';
+import {Menu, fillExamples} from './menu.js';
+import {Points, Table, nameOf} from './panel.js';
+import {Pointer} from './pointer.js';
+import {byRecord} from './records.js';
+import {START, Store, allRows, head, panel, panelsOf, pointsNow, questionRows} from './state.js';
+import {View} from './view.js';
+import {say} from './words.js';
+
+/** @typedef {import('./records.js').Point} Point */
+/** @typedef {import('./state.js').State} State */
+
+/** @param {string} id */
+export const by = (id) => /** @type {HTMLElement} */ (document.getElementById(id));
+
+export class App {
+  constructor() {
+    this.view = new View();
+    /** What is on its way: the point that is held, the place of the mouse, and the pen of the keyboard.
+     *  @type {{held: number | null, hover: Point | null, pen: Point | null}} */
+    this.ui = {held: null, hover: null, pen: null};
+    this.store = new Store(START, () => this.stateChanged());
+    this.asker = new Asker(() => this.answered(), (error) => this.failed(error));
+    this.pointer = new Pointer(this, by('canvas'));
+    this.points = new Points(this, by('points'));
+    this.table = new Table(this, by('rows'));
+    this.menu = new Menu(this);
+    this.drawn = {}; // what the layer below shows
+    this.timers = {};
+    new ResizeObserver(() => this.resized()).observe(by('canvas'));
+  }
+
+  /** Begins with the state of the address, with what was opened, or with an example. */
+  async start() {
+    const {opened, examples, who} = await (await fetch('start')).json();
+    fillExamples(examples);
+    by('who').textContent = `Answered by ${who}. Coordinates are whole numbers, and answers are exact.`;
+    const read = readAddress(location.hash.slice(1));
+    if (read) await this.take(read.rows, (answers) => stateOf(read, answers));
+    else if (opened) await this.open(opened);
+    else this.store.set(START, false);
+    this.store.before = [];
+    this.fit();
+    document.documentElement.dataset.ready = 'yes';
+  }
+
+  /** Takes what was opened: a script, with the frame where it was made of data. */
+  async open({records, frame, name}) {
+    await this.take(records, (answers) => ({...this.store.state, ...panelsOf(records, answers), chosen: 0, drawing: false, points: {}, frame, name}));
+    this.fit();
+  }
+
+  /** Asks a whole script, and goes on with the state that is made of its answers. @param {string[][]} rows @param {(answers: string[][]) => State} make */
+  async take(rows, make) {
+    try {
+      const answers = rows.length ? byRecord(await answersTo(rows)) : [];
+      this.ui = {held: null, hover: null, pen: null};
+      this.store.set(make(answers));
+    } catch (error) {
+      this.note(error instanceof Error ? error.message : String(error));
+    }
+  }
+
+  stateChanged() {
+    const {state} = this.store;
+    if (this.ui.held !== null && this.ui.held >= handles(state).length) this.ui.held = null;
+    this.ask();
+    this.later('address', 400, () => history.replaceState(null, '', `#${addressOf(this.store.state)}`));
+  }
+
+  /** The records of the question that is being asked. */
+  now() {
+    const {state} = this.store;
+    return panel(state).closed || !panel(state).ring.length ? questionRows(state, this.ui.hover, this.asker.answered) : [];
+  }
+
+  /** Asks for all that is to be shown. */
+  ask() {
+    const {state} = this.store;
+    const first = head(state);
+    const kept = panel(state).closed || !panel(state).ring.length ? panel(state).kept : [];
+    this.asker.want([...first, ...kept, ...this.now()], first.length);
+    this.render();
+  }
+
+  /** There are new answers. What is asked may depend on them, as what guards see does. */
+  answered() {
+    if (this.asker.wanted.at(-1)?.[0] === 'guards') this.ask();
+    else this.render();
+  }
+
+  /** @param {unknown} error @returns {void} */
+  failed(error) {
+    const status = /** @type {{status?: number}} */ (error)?.status;
+    by('gone').hidden = error === null || status !== undefined;
+    by('gone').textContent = error === null ? '' : 'The server does not answer: tools/explore was ended, or is stopped. What is drawn here stays, and is asked again as soon as the server is back.';
+    if (status !== undefined) this.note(/** @type {Error} */ (error).message);
+  }
+
+  /** Shows all as it is now. */
+  render() {
+    const {state} = this.store;
+    const {answered} = this.asker;
+    this.renderBase();
+    const {ring} = panel(state);
+    const shown = this.isOfRing() ? answered : [];
+    by('shown').innerHTML = drawAnswers(this.view, shown, ring, state.version);
+    by('handles').innerHTML = drawHandles(this.view, handles(state), this.ui.held, this.ui.pen);
+    this.points.render();
+    this.table.render();
+    this.menu.render();
+    by('hint').textContent = hint(state);
+    this.renderSaid();
+  }
+
+  /** The polygon and the grid are drawn anew only where they changed. */
+  renderBase() {
+    const {state} = this.store;
+    const it = panel(state);
+    const {left, top, scale, width, height} = this.view;
+    const key = [it.ring, it.closed, state.drawing, left, top, scale, width, height];
+    if (key.every((value, k) => value === this.drawn[k])) return;
+    this.drawn = key;
+    by('base').innerHTML = drawGrid(this.view) + drawRing(this.view, it, state.drawing);
+  }
+
+  /** Whether the answers are about a polygon with as many vertices as the one that is shown. */
+  isOfRing() {
+    const asked = this.asker.answered.find(({row}) => row[0] === 'polygon');
+    return !asked || asked.row.length === 1 + 2 * panel(this.store.state).ring.length;
+  }
+
+  /** The answer in plain words, and aloud once it rests. */
+  renderSaid() {
+    const {state} = this.store;
+    const words = this.words();
+    by('said').textContent = words.text;
+    by('answer').classList.toggle('refused', words.refused);
+    this.later('aloud', 500, () => { if (by('aloud').textContent !== words.text) by('aloud').textContent = words.text; });
+    by('canvas').dataset.polygon = String(panel(state).ring.length);
+  }
+
+  /** What is to be said of all that was answered: what is wrong first, and else the last answer. */
+  words() {
+    const {state} = this.store;
+    const {answered} = this.asker;
+    if (this.asker.known() < this.asker.wanted.length && !answered.length) return {text: '…', refused: false};
+    const polygon = answered.find(({row}) => row[0] === 'polygon');
+    if (polygon?.lines[0].startsWith('bad,')) return {text: say(polygon, state.version), refused: true};
+    const now = answered.slice(head(state).length + panel(state).kept.length);
+    const guards = now.find(({row}) => row[0] === 'guards');
+    const last = guards ?? now.at(-1) ?? polygon;
+    return last ? {text: say(last, state.version), refused: last.lines[0].startsWith('bad,')} : {text: hint(state), refused: false};
+  }
+
+  /** @param {number} k whether record k of the table is of the question that is being asked */
+  isNow(k) {
+    const {state} = this.store;
+    return k >= head(state).length + panel(state).kept.length;
+  }
+
+  /** Which kept question record k of the table is. @param {number} k @returns {number | null} */
+  keptPlace(k) {
+    const place = k - head(this.store.state).length;
+    return place >= 0 && place < panel(this.store.state).kept.length ? place : null;
+  }
+
+  /** All polygons and questions as records. */
+  script() {
+    return allRows(this.store.state, this.now());
+  }
+
+  /** Holds a point, as by the keyboard. @param {number} k */
+  hold(k) {
+    this.ui.held = k;
+    this.ui.pen = null;
+    this.render();
+  }
+
+  sayHeld() {
+    const {state} = this.store;
+    const {held} = this.ui;
+    if (held !== null) by('aloud').textContent = `${nameOf(state, held)}: ${handles(state)[held].join(', ')}`;
+  }
+
+  /** @param {Point | null} point */
+  showPlace(point) {
+    by('place').textContent = point ? `${point[0].toLocaleString('en')}, ${point[1].toLocaleString('en')}` : '';
+  }
+
+  /** Says something in a line below the script. @param {string} text */
+  note(text) {
+    by('note').textContent = text;
+    this.later('note', 12000, () => { by('note').textContent = ''; });
+  }
+
+  fit() {
+    const {state} = this.store;
+    this.view.fit([...panel(state).ring, ...pointsNow(state)]);
+    this.isFitted = true;
+    this.render();
+  }
+
+  /** The user moved the picture. */
+  viewed() {
+    this.isFitted = false;
+    this.render();
+  }
+
+  resized() {
+    this.view.width = by('canvas').clientWidth;
+    this.view.height = by('canvas').clientHeight;
+    if (this.isFitted) this.fit();
+    else this.render();
+  }
+
+  /** Does something once it was not asked for again for a while. @param {string} name @param {number} wait @param {() => void} act */
+  later(name, wait, act) {
+    clearTimeout(this.timers[name]);
+    this.timers[name] = setTimeout(act, wait);
+  }
+}
+
+const app = new App();
+/** For the tests. */
+Object.assign(globalThis, {app});
+app.start().catch((error) => app.failed(error));

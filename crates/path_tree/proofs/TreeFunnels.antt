@@ -1,0 +1,33 @@
+-- What was read in a tree at the triangle from which one is reached is what the tree has there.
+use Rattle.std.proofs.Common.{◌≡◌, sym, subst, List, length, ℕ, ◌<◌, Option, Some, None, slice_index_or, arith}
+use Rattle.std.proofs.lemmas.List.{get_or_read}
+use Rattle.plane.specs.Point.{Point}
+use Rattle.meshes.specs.declared.tri.Tri.{Tri}
+use Rattle.tri_mesh.specs.declared.outward.Outward.{Outward}
+use Rattle.shared_funnel.proofs.Entrances.{earlier, toward_below}
+use Rattle.shared_funnel.specs.Entered.{IsFromStart, IsFunnelTo, at_place, toward}
+use Rattle.shared_funnel.specs.Listed.{Listed}
+use Rattle.path_tree.specs.Grown.{Tree}
+use Rattle.path_tree.specs.Growing.{IsGrownOver, KeepsFunnelTo}
+
+module _ (corners : List Point) (start : Point) (tris : List Tri) (order : List Outward) (from : IsFromStart corners start tris order)
+    (p : ℕ) (later : 0 < p) (below : p < length order) where
+  abbrev q : ℕ
+  q = toward order p
+
+  -- what was read in the tree is what it has there: nothing at home,
+  module _ (tree : Tree) (grown : IsGrownOver corners start tris order p tree) (o : Option Listed)
+      (read : o ≡ slice_index_or tree.funnels (at_place order q) o) where
+    kept : KeepsFunnelTo corners start tris order q o
+    kept =
+        let within : at_place order q < length tree.funnels =
+        omega (arith, from.outward.in_list q (toward_below corners start tris order from p later below), grown.triangles) in
+        subst (KeepsFunnelTo corners start tris order q) (sym (get_or_read tree.funnels (at_place order q) o within read None))
+        (grown.funnels q (earlier corners start tris order from p later below))
+
+    pub none_at_home : o ≡ None → q ≡ 0
+    none_at_home is = subst (KeepsFunnelTo corners start tris order q) is kept
+
+    -- and the funnel at a later place
+    pub some_later : (f : Listed) → o ≡ Some f → (0 < q) × IsFunnelTo corners start tris order q f
+    some_later f is = subst (KeepsFunnelTo corners start tris order q) is kept
