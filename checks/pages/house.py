@@ -203,6 +203,19 @@ def edits():
     return lines
 
 
+def laws():
+    """The table of the laws: public functions without a body, with the words above them."""
+    lines = ["| Law | Of | Says |", "|---|---|---|"]
+    shape = re.compile(r"((?:^///[^\n]*\n)+)(?:^#\[[^\n]*\n)*^pub fn (\w+)(?:<[^\n]*>)?\([^\n]*\n(?:^ [^\n]*\n|^\n)*?^\{\}$", re.M)
+    for crate in sources.crates():
+        for path in sources.files():
+            if path.suffix == ".rt" and path.parts[:3] == ("crates", crate, "src"):
+                for words, name in shape.findall(sources.text(path)):
+                    says = " ".join(it[3:].strip() for it in words.strip().split("\n"))
+                    lines.append(f"| `{name}` | `{crate}` | {says.replace('|', chr(92) + '|')} |")
+    return lines
+
+
 def standing(crate):
     """The last line of a crate's page."""
     below = sources.crates()[crate]

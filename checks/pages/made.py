@@ -4,7 +4,7 @@ from pathlib import Path
 
 from . import definitions, house, prose, sources
 
-PARTS = {"rooms": house.rooms, "standing": house.table, "edits": house.edits}
+PARTS = {"rooms": house.rooms, "standing": house.table, "edits": house.edits, "laws": house.laws}
 MARK = re.compile(r"(<!-- made: (\w+) -->\n).*?(\n<!-- end -->)", re.S)  # a table between blank lines
 
 
