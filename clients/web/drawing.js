@@ -6,10 +6,12 @@ import {isRefused, pairs, pointsOf} from './records.js';
 /** @typedef {import('./view.js').View} View */
 
 const COLOURS = 7;
-const MOST_NUMBERS = 200; // vertices that have their numbers beside them
-const MOST_LINES = 20000; // lines of one answer that are drawn
+const MOST_DOTS = 400; // vertices in sight that are drawn as dots
+const MOST_NUMBERS = 60; // vertices that have their numbers beside them
+/** The most pairs of vertices that are drawn. */
+export const MOST_LINES = 20000;
 
-/** Where answers are drawn. @typedef {{view: View, ring: Point[], version: 1 | 2, source: Point | null}} Page */
+/** Where answers are drawn. @typedef {{view: View, ring: Point[], version: 1 | 2}} Page */
 
 /** @param {View} view @param {Point[]} points */
 const chain = (view, points) => `M${points.map((point) => view.at(point)).join('L')}`;
@@ -33,25 +35,46 @@ function label(view, point, text, dx = 8, dy = -8) {
   return `<text x="${(x + dx).toFixed(1)}" y="${(y + dy).toFixed(1)}">${text}</text>`;
 }
 
-/** The answers to all that was asked of a polygon. @param {View} view @param {Answered[]} answered @param {Point[]} ring @param {1 | 2} version */
-export function drawAnswers(view, answered, ring, version) {
-  const page = {view, ring, version, source: null};
-  const shapes = [];
-  const above = []; // guards stand on what they see
-  let colour = 0;
-  for (const it of answered) {
-    if (isRefused(it.lines)) {
-      shapes.push(drawRefusal(page, it));
-      continue;
-    }
-    const draw = DRAWN[it.row[0]];
-    if (!draw) continue;
-    if (it.row[0] === 'tree') page.source = pointsOf(it.row)?.[0] ?? null;
-    const shape = `<g class="c${colour % COLOURS} ${it.row[0]}">${draw(page, it)}</g>`;
-    (it.row[0] === 'guards' ? above : shapes).push(shape);
-    colour += 1;
+/** The answers in the picture, each as a group of shapes. What did not change is not drawn anew. */
+export class Shown {
+  /** @param {Element} layer */
+  constructor(layer) {
+    this.layer = layer;
+    /** @type {{lines: string[], colour: number, group: Element}[]} */
+    this.groups = [];
+    this.key = [];
   }
-  return [...shapes, ...above].join('');
+
+  /** The answers to all that was asked of a polygon. Guards stand on what they see. @param {View} view @param {Answered[]} answered
+   *  @param {Point[]} ring @param {1 | 2} version */
+  render(view, answered, ring, version) {
+    const key = [view.left, view.top, view.scale, ring, version];
+    if (key.some((value, k) => value !== this.key[k])) this.cut(0);
+    this.key = key;
+    let count = 0;
+    const coloured = answered.map((it) => ({it, colour: isRefused(it.lines) || !DRAWN[it.row[0]] ? -1 : count++ % COLOURS}));
+    const isGuards = ({it}) => it.row[0] === 'guards';
+    const ordered = [...coloured.filter((one) => !isGuards(one)), ...coloured.filter(isGuards)];
+    ordered.forEach(({it, colour}, k) => this.put({view, ring, version}, it, colour, k));
+    this.cut(ordered.length);
+  }
+
+  /** @param {Page} page @param {Answered} answered @param {number} colour @param {number} k */
+  put(page, answered, colour, k) {
+    const last = this.groups[k];
+    if (last?.lines === answered.lines && last.colour === colour) return;
+    const group = last?.group ?? document.createElementNS('http://www.w3.org/2000/svg', 'g');
+    const word = answered.row[0];
+    group.setAttribute('class', colour < 0 ? 'wrong' : `c${colour} ${word}`);
+    group.innerHTML = colour >= 0 ? DRAWN[word](page, answered) : isRefused(answered.lines) ? drawRefusal(page, answered) : '';
+    if (!last) this.layer.append(group);
+    this.groups[k] = {lines: answered.lines, colour, group};
+  }
+
+  /** Takes the groups from a place on away. @param {number} count */
+  cut(count) {
+    while (this.groups.length > count) this.groups.pop()?.group.remove();
+  }
 }
 
 /** What is wrong, where it is: the edges that clash, or the point outside. @param {Page} page @param {Answered} answered */
@@ -60,10 +83,10 @@ function drawRefusal({view, ring}, {row, lines: [line]}) {
   if (cause === 'clash' && row[0] === 'polygon') {
     const edges = [Number(a), Number(b)].map((k) => [ring[k % ring.length], ring[(k + 1) % ring.length]]);
     const marks = edges.map(([p, q], k) => label(view, [(p[0] + q[0]) / 2, (p[1] + q[1]) / 2], [a, b][k])).join('');
-    return `<g class="wrong">${path('edge', lines(view, edges))}${marks}</g>`;
+    return path('edge', lines(view, edges)) + marks;
   }
   const point = cause === 'outside' ? pointsOf(row)?.[Number(a) - 1] : null;
-  return point ? `<g class="wrong">${cross(view, 'cross', point)}</g>` : '';
+  return point ? cross(view, 'cross', point) : '';
 }
 
 /** @type {Object<string, (page: Page, answered: Answered) => string>} */
@@ -157,13 +180,16 @@ function drawList({view}, {row, lines: [line]}) {
   return path(verdict === 'taut' ? 'way' : 'way dashed', chain(view, points)) + left + dots(view, 'dot', points) + broken;
 }
 
-/** The polygon, with dots at its vertices and their numbers where there is room. @param {View} view @param {import('./state.js').Panel} panel
- *  @param {boolean} isDrawing */
+/** The polygon, with dots at its vertices where not too many are in sight, and their numbers where there is room.
+ *  @param {View} view @param {import('./state.js').Panel} panel @param {boolean} isDrawing */
 export function drawRing(view, {ring, closed}, isDrawing) {
   if (!ring.length) return '';
   const way = chain(view, ring);
-  const shape = closed ? path('ring', `${way}Z`) : path('ring open', way) + (ring.length > 2 ? path('closing', chain(view, [ring[ring.length - 1], ring[0]])) : '');
-  const vertices = ring.length <= 400 || isDrawing ? dots(view, isDrawing ? 'vertex held' : 'vertex', ring) : '';
+  const closing = ring.length > 2 ? path('closing', chain(view, [ring[ring.length - 1], ring[0]])) : '';
+  const shape = closed ? path(ring.length > MOST_DOTS ? 'ring many' : 'ring', `${way}Z`) : path('ring open', way) + closing;
+  const inSight = ring.filter((point) => view.hasInSight(point));
+  const kind = isDrawing ? 'vertex held' : ring.length > MOST_NUMBERS ? 'vertex fine' : 'vertex';
+  const vertices = inSight.length <= MOST_DOTS ? dots(view, kind, inSight) : '';
   return shape + vertices + `<g class="numbers">${numbers(view, ring)}</g>`;
 }
 

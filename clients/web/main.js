@@ -1,36 +1,66 @@
 // The page: puts together what it knows, what it asks, and what it shows.
 import {addressOf, readAddress, stateOf} from './address.js';
 import {Asker, answersTo} from './asker.js';
-import {drawAnswers, drawGrid, drawHandles, drawRing} from './drawing.js';
+import {MOST_LINES, Shown, drawGrid, drawHandles, drawRing} from './drawing.js';
 import {handles, hint} from './editing.js';
 import {Menu, fillExamples} from './menu.js';
 import {Points, Table, nameOf} from './panel.js';
 import {Pointer} from './pointer.js';
-import {byRecord} from './records.js';
-import {START, Store, allRows, head, panel, panelsOf, pointsNow, questionRows} from './state.js';
+import {byRecord, number} from './records.js';
+import {MOST_VIEWS, START, Store, allRows, head, panel, panelsOf, pointsNow, questionRows} from './state.js';
 import {View} from './view.js';
 import {say} from './words.js';
 
 /** @typedef {import('./records.js').Point} Point */
 /** @typedef {import('./state.js').State} State */
 
+const LONGEST = 1000000; // characters of an address
+
 /** @param {string} id */
 export const by = (id) => /** @type {HTMLElement} */ (document.getElementById(id));
+
+/** Shows a text, where it is another one than before. @param {string} id @param {string} text */
+function show(id, text) {
+  const element = by(id);
+  if (element.textContent !== text) element.textContent = text;
+}
+
+/** What is said where an answer is too long to be drawn whole. @param {import('./records.js').Answered} answered */
+function left({lines: [line]}) {
+  const [word, count] = line.split(',', 2);
+  const most = {guards: MOST_VIEWS, sights: MOST_LINES}[word] ?? Infinity;
+  if (!(Number(count) > most)) return '';
+  const shown = most.toLocaleString('en');
+  return word === 'guards' ? ` What the first ${shown} see is shown.` : ` The first ${shown} are drawn.`;
+}
+
+/** The coordinates of the data, for reading. @param {Point} point @param {import('./state.js').Frame} frame */
+function inData(point, {origin, scale}) {
+  const unit = number(scale);
+  const digits = Math.max(0, Math.ceil(Math.log10(unit)));
+  return point.map((c, k) => (c / unit + number(origin[k])).toFixed(Math.min(digits, 12))).join(', ');
+}
 
 export class App {
   constructor() {
     this.view = new View();
     /** What is on its way: the point that is held, the place of the mouse, and the pen of the keyboard.
-     *  @type {{held: number | null, hover: Point | null, pen: Point | null}} */
-    this.ui = {held: null, hover: null, pen: null};
+     *  @type {{held: number | null, hover: Point | null, pen: Point | null, place: Point | null}} */
+    this.ui = {held: null, hover: null, pen: null, place: null};
     this.store = new Store(START, () => this.stateChanged());
     this.asker = new Asker(() => this.answered(), (error) => this.failed(error));
     this.pointer = new Pointer(this, by('canvas'));
     this.points = new Points(this, by('points'));
     this.table = new Table(this, by('rows'));
     this.menu = new Menu(this);
+    this.shown = new Shown(by('shown'));
+    /** @type {Object<string, unknown[]>} */
     this.drawn = {}; // what the layer below shows
+    this.marks = ''; // what the layer above shows
+    this.isStale = false; // whether something changed since all was drawn
+    this.frames = 0; // in which there were new answers
     this.timers = {};
+    addEventListener('hashchange', () => this.addressChanged());
     new ResizeObserver(() => this.resized()).observe(by('canvas'));
   }
 
@@ -58,7 +88,7 @@ export class App {
   async take(rows, make) {
     try {
       const answers = rows.length ? byRecord(await answersTo(rows)) : [];
-      this.ui = {held: null, hover: null, pen: null};
+      Object.assign(this.ui, {held: null, hover: null, pen: null});
       this.store.set(make(answers));
     } catch (error) {
       this.note(error instanceof Error ? error.message : String(error));
@@ -69,7 +99,21 @@ export class App {
     const {state} = this.store;
     if (this.ui.held !== null && this.ui.held >= handles(state).length) this.ui.held = null;
     this.ask();
-    this.later('address', 400, () => history.replaceState(null, '', `#${addressOf(this.store.state)}`));
+    this.later('address', 400, () => this.showAddress());
+  }
+
+  /** Puts the state in the address, where it is not too long for one. */
+  showAddress() {
+    const address = addressOf(this.store.state);
+    if (address.length < LONGEST) history.replaceState(null, '', `#${address}`);
+  }
+
+  /** The address was changed by hand. */
+  async addressChanged() {
+    const read = readAddress(location.hash.slice(1));
+    if (!read) return;
+    await this.take(read.rows, (answers) => stateOf(read, answers));
+    this.fit();
   }
 
   /** The records of the question that is being asked. */
@@ -101,31 +145,49 @@ export class App {
     if (status !== undefined) this.note(/** @type {Error} */ (error).message);
   }
 
-  /** Shows all as it is now. */
+  /** Shows all as it is, once for the next frame, however much changes before it. */
   render() {
+    if (this.isStale) return;
+    this.isStale = true;
+    requestAnimationFrame(() => {
+      this.isStale = false;
+      this.draw();
+    });
+  }
+
+  draw() {
     const {state} = this.store;
-    const {answered} = this.asker;
+    const {answered, count} = this.asker;
+    if (count !== this.countDrawn) this.frames += 1;
+    this.countDrawn = count;
     this.renderBase();
     const {ring} = panel(state);
-    const shown = this.isOfRing() ? answered : [];
-    by('shown').innerHTML = drawAnswers(this.view, shown, ring, state.version);
-    by('handles').innerHTML = drawHandles(this.view, handles(state), this.ui.held, this.ui.pen);
+    this.shown.render(this.view, this.isOfRing() ? answered : [], ring, state.version);
+    const marks = drawHandles(this.view, handles(state), this.ui.held, this.ui.pen);
+    if (marks !== this.marks) by('handles').innerHTML = this.marks = marks;
     this.points.render();
     this.table.render();
     this.menu.render();
-    by('hint').textContent = hint(state);
+    show('hint', hint(state));
+    this.renderPlace();
     this.renderSaid();
   }
 
-  /** The polygon and the grid are drawn anew only where they changed. */
+  /** The grid and the polygon are drawn anew only where they changed. */
   renderBase() {
     const {state} = this.store;
     const it = panel(state);
     const {left, top, scale, width, height} = this.view;
-    const key = [it.ring, it.closed, state.drawing, left, top, scale, width, height];
-    if (key.every((value, k) => value === this.drawn[k])) return;
-    this.drawn = key;
-    by('base').innerHTML = drawGrid(this.view) + drawRing(this.view, it, state.drawing);
+    const frame = [left, top, scale, width, height];
+    this.renderPart('grid', frame, () => drawGrid(this.view));
+    this.renderPart('ring', [...frame, it.ring, it.closed, state.drawing], () => drawRing(this.view, it, state.drawing));
+  }
+
+  /** Draws a part of the layer below, where what it depends on changed. @param {string} id @param {unknown[]} key @param {() => string} make */
+  renderPart(id, key, make) {
+    if (key.every((value, k) => value === this.drawn[id]?.[k])) return;
+    this.drawn[id] = key;
+    by(id).innerHTML = make();
   }
 
   /** Whether the answers are about a polygon with as many vertices as the one that is shown. */
@@ -138,9 +200,9 @@ export class App {
   renderSaid() {
     const {state} = this.store;
     const words = this.words();
-    by('said').textContent = words.text;
+    show('said', words.text);
     by('answer').classList.toggle('refused', words.refused);
-    this.later('aloud', 500, () => { if (by('aloud').textContent !== words.text) by('aloud').textContent = words.text; });
+    this.later('aloud', 500, () => show('aloud', words.text));
     by('canvas').dataset.polygon = String(panel(state).ring.length);
   }
 
@@ -154,7 +216,7 @@ export class App {
     const now = answered.slice(head(state).length + panel(state).kept.length);
     const guards = now.find(({row}) => row[0] === 'guards');
     const last = guards ?? now.at(-1) ?? polygon;
-    return last ? {text: say(last, state.version), refused: last.lines[0].startsWith('bad,')} : {text: hint(state), refused: false};
+    return last ? {text: say(last, state.version) + left(last), refused: last.lines[0].startsWith('bad,')} : {text: hint(state), refused: false};
   }
 
   /** @param {number} k whether record k of the table is of the question that is being asked */
@@ -189,7 +251,14 @@ export class App {
 
   /** @param {Point | null} point */
   showPlace(point) {
-    by('place').textContent = point ? `${point[0].toLocaleString('en')}, ${point[1].toLocaleString('en')}` : '';
+    this.ui.place = point;
+    this.render();
+  }
+
+  renderPlace() {
+    const {store: {state: {frame}}, ui: {place}} = this;
+    const data = place && frame ? ` = ${inData(place, frame)}` : '';
+    show('place', place ? place.map((c) => c.toLocaleString('en')).join(', ') + data : '');
   }
 
   /** Says something in a line below the script. @param {string} text */

@@ -7,6 +7,7 @@ import {panel, withPanel} from './state.js';
 /** @typedef {import('./records.js').Answered} Answered */
 
 const MOST_POINTS = 64; // rows with numbers
+const FEW_POINTS = 9; // of more points, those near the one that is held
 const MOST_ROWS = 300; // records in the table
 const FEW_LINES = 8; // of an answer, before all are asked for
 const MANY_LINES = 5000;
@@ -48,9 +49,9 @@ export class Points {
   render() {
     const {store: {state}, ui} = this.app;
     const points = handles(state);
-    const around = Math.max(0, Math.min((ui.held ?? 0) - MOST_POINTS / 2, points.length - MOST_POINTS));
+    const count = points.length > MOST_POINTS ? FEW_POINTS : points.length;
+    const around = Math.max(0, Math.min((ui.held ?? 0) - (FEW_POINTS >> 1), points.length - count));
     this.first = around;
-    const count = Math.min(points.length, MOST_POINTS);
     while (this.rows.length < count) this.rows.push(this.row(this.rows.length));
     while (this.rows.length > count) this.rows.pop()?.item.remove();
     this.rows.forEach((row, at) => this.fill(row, at + around, points[at + around]));
@@ -79,7 +80,7 @@ export class Points {
       remove.setAttribute('aria-label', `Remove ${label}`);
     }
     item.classList.toggle('held', ui.held === k);
-    remove.disabled = !canRemove(state, k);
+    if (remove.disabled === canRemove(state, k)) remove.disabled = !remove.disabled;
     inputs.forEach((input, at) => {
       const isTyped = document.activeElement === input && (input.value === '' || Number(input.value) === point[at]);
       if (!isTyped && input.value !== String(point[at])) input.value = String(point[at]);
@@ -100,7 +101,7 @@ export class Table {
   constructor(app, body) {
     this.app = app;
     this.body = body;
-    /** @type {{row: string[] | null, lines: string[] | null, line: HTMLElement, mark: string}[]} */
+    /** @type {{lines: string[] | null, line: HTMLElement, mark: string}[]} */
     this.lines = [];
     /** @type {Set<string>} */
     this.opened = new Set();
@@ -111,14 +112,15 @@ export class Table {
     const count = Math.min(wanted.length, MOST_ROWS);
     while (this.lines.length > count) this.lines.pop()?.line.remove();
     for (let k = 0; k < count; k += 1) {
-      const lines = answered[k] && text(answered[k].row) === text(wanted[k]) ? answered[k].lines : null;
+      const record = text(wanted[k]);
+      const lines = answered[k] && text(answered[k].row) === record ? answered[k].lines : null;
       const last = this.lines[k];
-      const mark = `${this.app.keptPlace(k)} ${this.app.isNow(k)}`;
-      if (last && last.row === wanted[k] && last.lines === lines && last.mark === mark) continue;
+      const mark = `${this.app.keptPlace(k)} ${this.app.isNow(k)} ${record}`;
+      if (last && last.lines === lines && last.mark === mark) continue;
       const line = this.line(wanted[k], lines, k);
       if (last) last.line.replaceWith(line);
       else this.body.append(line);
-      this.lines[k] = {row: wanted[k], lines, line, mark};
+      this.lines[k] = {lines, line, mark};
     }
     this.body.parentElement?.classList.toggle('cut', wanted.length > MOST_ROWS);
   }
@@ -126,7 +128,7 @@ export class Table {
   /** @param {string[]} row @param {string[] | null} lines @param {number} k */
   line(row, lines, k) {
     const record = text(row);
-    const short = record.length > 160 ? `${record.slice(0, 150)}…` : record;
+    const short = record.length > 100 ? `${record.slice(0, 90)}…` : record;
     const asked = element('td', {}, ...this.remover(k), coded(short));
     const told = element('td', {class: lines && isRefused(lines) ? 'refused' : ''}, ...(lines ? this.told(record, lines) : ['…']));
     return element('tr', {class: this.app.isNow(k) ? 'now' : ''}, asked, told);

@@ -1,6 +1,6 @@
 // The mouse, fingers and keys over the picture.
 import {added, edgeAt, finished, handleAt, handles, inserted, moved, removed} from './editing.js';
-import {QUESTIONS, panel} from './state.js';
+import {QUESTIONS, panel, pointsNow} from './state.js';
 
 /** @typedef {import('./records.js').Point} Point */
 /** @typedef {import('./main.js').App} App */
@@ -14,8 +14,14 @@ export class Pointer {
     this.canvas = canvas;
     this.isMoving = false; // a point
     this.isPanning = false;
+    this.hasMoved = false; // whether this press changed something
+    /** @type {DOMRect | null} */
+    this.box = null; // where the picture is on the screen
     /** @type {Map<number, Point>} */
     this.fingers = new Map();
+    for (const kind of ['scroll', 'resize', 'pointerdown']) addEventListener(kind, () => { this.box = null; }, {capture: true, passive: true});
+    new ResizeObserver(() => { this.box = null; }).observe(canvas);
+    canvas.addEventListener('pointerenter', () => { this.box = null; });
     canvas.addEventListener('pointerdown', (event) => this.down(event));
     canvas.addEventListener('pointermove', (event) => this.move(event));
     canvas.addEventListener('pointerup', (event) => this.up(event));
@@ -27,10 +33,11 @@ export class Pointer {
     canvas.addEventListener('contextmenu', (event) => event.preventDefault());
   }
 
-  /** @param {MouseEvent} event @returns {Point} in pixels of the picture */
+  /** Where an event is, in pixels of the picture. Where the picture is on the screen is asked again only once it may have moved, since the
+   *  browser lays out the page for it. @param {MouseEvent} event @returns {Point} */
   place(event) {
-    const box = this.canvas.getBoundingClientRect();
-    return [event.clientX - box.left, event.clientY - box.top];
+    this.box ??= this.canvas.getBoundingClientRect();
+    return [event.clientX - this.box.left, event.clientY - this.box.top];
   }
 
   /** @param {PointerEvent} event */
@@ -42,6 +49,7 @@ export class Pointer {
     this.app.ui.pen = null;
     this.isPanning = event.button === 1 || event.button === 2 || this.fingers.size > 1;
     if (this.isPanning) {
+      if (this.isMoving && this.hasMoved) this.app.store.undo(); // the first of two fingers set no point
       this.isMoving = false;
     } else if (!this.press(px, py, event.pointerType === 'touch' ? 24 : 11, event.pointerType === 'mouse')) {
       this.app.ui.held = null;
@@ -119,7 +127,8 @@ export class Pointer {
   hover(point, px, py) {
     const {store: {state}, ui, view} = this.app;
     this.canvas.classList.toggle('over', handleAt(state, view, px, py, 11) !== null);
-    const follows = !state.drawing && ['tree', 'path'].includes(state.question);
+    const {question} = state;
+    const follows = !state.drawing && (question === 'tree' || (question === 'path' && pointsNow(state).length === 1));
     if (!follows || (ui.hover && ui.hover[0] === point[0] && ui.hover[1] === point[1])) return;
     ui.hover = point;
     this.app.ask();

@@ -32,6 +32,9 @@ export const QUESTIONS = {
   check: {points: 'check', most: 16384},
 };
 
+/** The most guards of which it is asked what they see. */
+export const MOST_VIEWS = 400;
+
 /** @type {Point[]} */
 const L = [[0, 0], [4, 0], [4, 2], [2, 2], [2, 4], [0, 4]];
 
@@ -101,7 +104,7 @@ function guardViews(state, answered) {
   const place = head(state).length + kept.length;
   const found = answered[place];
   const isSame = found?.row[0] === 'guards' && !isRefused(found.lines) && text(polygonRow(ring)) === polygonText(answered);
-  return isSame ? found.lines[0].split(',').slice(2).map((k) => asking('see', [ring[Number(k)]])) : [];
+  return isSame ? found.lines[0].split(',').slice(2, 2 + MOST_VIEWS).map((k) => asking('see', [ring[Number(k)]])) : [];
 }
 
 /** @param {Answered[]} answered */

@@ -24,6 +24,12 @@ export class View {
     return `${((x - this.left) * this.scale).toFixed(1)} ${((this.top - y) * this.scale).toFixed(1)}`;
   }
 
+  /** Whether a point is in the picture. @param {Point} point */
+  hasInSight([x, y]) {
+    const [right, bottom] = [this.left + this.width / this.scale, this.top - this.height / this.scale];
+    return x >= this.left && x <= right && y <= this.top && y >= bottom;
+  }
+
   /** The whole numbers that are nearest to a place in the picture. @param {number} px @param {number} py @returns {Point} */
   whole(px, py) {
     return [Math.round(this.left + px / this.scale) + 0, Math.round(this.top - py / this.scale) + 0];

@@ -8,6 +8,7 @@ import shutil
 import subprocess
 import threading
 import time
+import zlib
 from pathlib import Path
 from tempfile import mkdtemp
 from typing import Any, Callable, Dict, List, Optional, Tuple
@@ -130,6 +131,10 @@ class Page:
         self.command('Page.navigate', url=address)
         self.until("document.documentElement?.dataset.ready === 'yes'")
 
+    def front(self) -> None:
+        """Comes before the other tabs. What is behind another tab draws nothing."""
+        self.command('Page.bringToFront')
+
     def evaluate(self, text: str) -> Any:
         """The value of an expression in the page."""
         made = self.command('Runtime.evaluate', expression=text, awaitPromise=True, returnByValue=True)
@@ -200,6 +205,18 @@ class Page:
     def screenshot(self, file: Path, whole: bool = False) -> None:
         made = self.command('Page.captureScreenshot', format='png', captureBeyondViewport=whole)
         file.write_bytes(base64.b64decode(made['data']))
+
+    def colour(self, x: float, y: float) -> Tuple[int, ...]:
+        """The colour of one pixel of the screen."""
+        clip = {'x': round(x), 'y': round(y), 'width': 1, 'height': 1, 'scale': 1}
+        data = base64.b64decode(self.command('Page.captureScreenshot', format='png', clip=clip)['data'])
+        packed, at = b'', 8
+        while at < len(data):
+            length = int.from_bytes(data[at:at + 4], 'big')
+            if data[at + 4:at + 8] == b'IDAT':
+                packed += data[at + 8:at + 8 + length]
+            at += 12 + length
+        return tuple(zlib.decompress(packed)[1:4])
 
     def faults(self) -> List[str]:
         """What the page's console was told."""

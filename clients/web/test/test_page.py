@@ -20,7 +20,7 @@ from explorer import backends, opening, seam, server
 
 Place = Tuple[int, int]
 L: List[Place] = [(0, 0), (4, 0), (4, 2), (2, 2), (2, 4), (0, 4)]
-SETTLED = 'app.asker.known() === app.asker.wanted.length && !app.asker.isBusy && app.asker.answered.length === app.asker.wanted.length'
+SETTLED = 'app.asker.known() === app.asker.wanted.length && !app.asker.isBusy && app.asker.answered.length === app.asker.wanted.length && !app.isStale'
 RATIO = """(() => {
   const probe = document.body.appendChild(document.createElement('span'));
   const light = (name) => {
@@ -61,8 +61,10 @@ class Opened(unittest.TestCase):
         start = opening.opened(self.opens, (EXAMPLES / self.opens).read_bytes()) if self.opens else None
         self.server = server.Server(0, '', make, who, start)
         thread = server.serve_aside(self.server)
-        for act in self.server.sessions.end_all, self.server.server_close, thread.join, self.server.shutdown:
-            self.addCleanup(act)
+        self.addCleanup(self.server.sessions.end_all)
+        self.addCleanup(self.server.server_close)
+        self.addCleanup(thread.join)
+        self.addCleanup(self.server.shutdown)
         self.page = browser.page()
         self.addCleanup(self.page.close)
         self.go()
@@ -238,6 +240,25 @@ class Tools(Opened):
         self.assertEqual(self.script().split('\n')[1], 'see,6,1')
         self.assertIn('part,5,0,5/2,0,0', self.page.text('#rows tr:last-child td:last-child'))
         self.is_right()
+
+    def test_the_picture_is_shaded_where_the_point_sees(self) -> None:
+        self.page.pick('#examples', 'floor-plan')
+        self.page.until("app.store.state.name === 'floor-plan'")
+        self.tool('see')
+        self.click((1000, 1000))
+        polygon, see = self.script().split('\n')[0], self.script().split('\n')[-2].split(',')
+        grid = [(x, y) for x in range(400, 9000, 760) for y in range(330, 4000, 670)]
+
+        def sees(dx: int, dy: int) -> List[bool]:
+            script = polygon + '\n' + ''.join(f'path,{see[1]},{see[2]},{x + dx},{y + dy}\n' for x, y in grid)
+            return [line.startswith('path,2,') for line in answers_to(make, script).split('\n')[1:-1]]
+
+        told = [sees(dx, dy) for dx in (-60, 60) for dy in (-60, 60)]
+        seen = {place: all(four) for place, four in zip(grid, zip(*told)) if len(set(four)) == 1}
+        self.assertEqual((set(seen.values()), len(seen) > 50), ({True, False}, True))
+        self.page.mouse('mouseMoved', 700, 5)
+        shades = {is_seen: {self.page.colour(*self.at(place)) for place, it in seen.items() if it == is_seen} for is_seen in (True, False)}
+        self.assertEqual(shades[True] & shades[False], set(), shades)
 
     def test_the_way_in_a_tree_follows_the_mouse(self) -> None:
         self.tool('tree')
@@ -482,10 +503,13 @@ class Tabs(Opened):
         other = browser.page()
         self.go(page=other)
         self.sessions(2)
+        self.page.front()
         self.tool('kernel')
         self.assertEqual(other.evaluate("app.asker.answered.at(-1).row[0]"), 'path')
+        other.front()
         other.evaluate("app.store.set({...app.store.state, version: 2, question: 'guards'})")
         self.settle(other)
+        self.page.front()
         self.is_right()
         self.assertEqual(other.faults(), [])
         other.close()

@@ -1,3 +1,5 @@
-pub mod NextRecord
 mod Limited
+pub mod NextRecord
 mod Pieces
+mod Together
+mod Versions

@@ -1,11 +1,17 @@
 -- How far a script is answered. This project's own.
-use Rattle.std.specs.Prelude.{◌≡◌, ◌≢◌, ◌==◌, ℕ, ◌+◌, Bool, if◌then◌else◌, List, ◌++◌, length, Result}
+use Rattle.std.specs.Prelude.{◌≡◌, ◌≢◌, ◌==◌, ℕ, ◌+◌, Bool, false, if◌then◌else◌, List, ◌++◌, length, Result}
 use Rattle.geo_text.specs.Reading.{TakesRecord, is_two}
 use Rattle.geo_text.specs.Records.{Unread}
 use Rattle.geo_text.specs.declared.command.Bad.{Bad}
 use Rattle.geo_text.specs.declared.command.Command.{Command}
 use Rattle.geo_session.specs.Answer.{AppendsReadingAnswer, State}
 use Rattle.geo_session.specs.Output.{AreAnswers}
+
+-- the next record was taken from a script, which reads on
+pub record TakesNext (before after : Unread) : Type 0 where
+  pub reading : Result Command Bad
+  pub taken : TakesRecord before after reading
+  pub goes_on : after.failed ≡ false
 
 -- the next record was taken from a script, and its answer appended to a text
 pub record AnswersRecord (before after : Unread) (state state' : State) (out out' : List ℕ) : Type 0 where

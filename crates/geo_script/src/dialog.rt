@@ -1,12 +1,12 @@
-ghost use Rattle.std.specs.Prelude.{◌≡◌, ◌↔◌, ◌+◌, ◌<◌, ◌≤◌, [], ◌∷◌, Err, IfOk, OnOk, false, if◌then◌else◌, length};
+ghost use Rattle.std.specs.Prelude.{◌≡◌, ◌↔◌, ◌+◌, ◌<◌, ◌≤◌, ℕ, List, [], ◌∷◌, ◌++◌, Err, IfOk, OnOk, false, if◌then◌else◌, length};
 ghost use Rattle.plane.specs.declared.limits.TheConstants.{MAX_CORNERS, MAX_SCRIPT};
 ghost use Rattle.geo_text.specs.Limits.{limits_of};
-ghost use Rattle.geo_text.specs.Records.{records_of};
+ghost use Rattle.geo_text.specs.Records.{AreWhole};
 ghost use Rattle.geo_session.specs.Output.{IsOutput};
 ghost use Rattle.geo_session.specs.Path.{IsReachAnswer, IsShownAnswer};
 ghost use Rattle.geo_session.specs.Place.{IsPlaceAnswer};
 ghost use Rattle.geo_script.specs.Asked.{IsAskedWithin};
-ghost use Rattle.geo_script.specs.Dialog.{AnswersPiece, AnswersSome, first_talk};
+ghost use Rattle.geo_script.specs.Dialog.{AnswersPiece, AnswersSome, IsTalkOf, first_talk, records_in};
 ghost use Rattle.geo_script.specs.declared.dialog.Stop.TheVariants.{Memory as OutOfMemory};
 
 use crate::next::answer_next;
@@ -19,12 +19,13 @@ use std::alloc::Global;
 use std::marker::Model;
 use std::sync::ledger::Ledger;
 
-/// A script that is handed in piece by piece, and the answers to its last piece. The first piece that has records says of which
-/// version the script is.
+/// A script that is handed in piece by piece, and the answers to its last piece. The first piece that has a record says of which
+/// version the script is, and a byte order mark is dropped at the front of the first piece that has a byte.
 #[derive(Drop)]
 pub struct Dialog {
     session: Session,
     begun: bool,
+    known: bool,
     text: Vec<u8>,
 }
 
@@ -33,7 +34,7 @@ pub struct Dialog {
 pub enum Stop {
     /// The piece has more than `MAX_SCRIPT` bytes. Nothing has changed.
     TooLong,
-    /// An allocation was refused. Some first records of the piece are answered, and the text is their answers, each whole.
+    /// Memory was wanted. Some first records of the piece are answered, and the text is their answers, each whole.
     Memory,
 }
 
@@ -42,22 +43,24 @@ impl Model for Dialog {
 
     ghost Value = { Talk };
 
-    ghost view = { λ d. record { begun = d.begun; state = d.session.state; text = d.text.items } };
+    ghost view = { λ d. record { begun = d.begun; known = d.known; state = d.session.state; text = d.text.items } };
 
     ghost use Rattle.std.specs.Prelude.{◌≡◌, false};
     ghost use Rattle.geo_session.specs.Answer.{first_state};
 
-    ghost invariant = { λ d. d.begun ≡ false → d.session.state ≡ first_state };
+    ghost invariant = { λ d. (d.begun ≡ false → d.known ≡ false) × (d.known ≡ false → d.session.state ≡ first_state) };
 }
 
 impl Dialog {
     /// A script of which no piece was handed in yet. It takes no memory, and keeps the allocator.
     pub fn new(alloc: Global) -> Dialog
-        ensures { result ≡ first_talk }
+        ensures first { result ≡ first_talk }
+        ensures nothing { IsTalkOf [] [] result }
     {
         Dialog {
             session: Session::new(),
             begun: false,
+            known: false,
             text: Vec::new(alloc),
         }
     }
@@ -72,6 +75,9 @@ impl Dialog {
         ensures ok { OnOk result (AnswersPiece self.old piece.now self.new) }
         // The answers to the first piece are those to the script that it is.
         ensures whole { self.old.begun ≡ false → OnOk result (IsOutput piece.now self.new.text) }
+        // Where the pieces before end at the end of a record, the answers to all pieces are those to the script that they are together.
+        ensures together { OnOk result ((earlier text : List ℕ) → IsTalkOf earlier text self.old → AreWhole earlier
+            → IsTalkOf (earlier ++ piece.now) (text ++ self.new.text) self.new) }
         ensures too_long { (result ≡ Err Stop.TooLong) ↔ (MAX_SCRIPT < length piece.now) }
         ensures same { result ≡ Err Stop.TooLong → self.new ≡ self.old }
         ensures memory { result ≡ Err Stop.Memory → AnswersSome self.old piece.now self.new }
@@ -83,21 +89,23 @@ impl Dialog {
         self.text.clear();
         'records: while answer_next(alloc, &mut script, &mut self.session, &mut self.text, steps)? {
             self.begun = true;
+            self.known = true;
         }
+        self.begun |= !piece.is_empty();
         Ok(())
     }
 
-    // The next part of the script, which is the first one where none had a record yet.
+    // The next part of the script, which is the first one where none had a byte yet.
     fn next_part<'a>(&self, alloc: Global, piece: &'a [u8]) -> Script<'a>
         ensures { result ≡ record {
-          left = records_of piece.now;
-          next = if self.now.begun then 1 else 0;
+          left = records_in self.now piece.now;
+          next = if self.now.known then 1 else 0;
           two = self.now.state.two;
           failed = false;
         } }
     {
         if self.begun {
-            Script::resume(alloc, piece, self.session.is_two())
+            Script::resume(alloc, piece, self.known, self.session.is_two())
         } else {
             Script::open(alloc, piece)
         }

@@ -1,8 +1,8 @@
 // The answer to the next record of a script.
-ghost use Rattle.std.specs.Prelude.{◌≡◌, [], Ok, IfOk, OnOk, OnErr, true, false};
+ghost use Rattle.std.specs.Prelude.{◌≡◌, ◌⊎◌, [], Ok, IfOk, OnOk, OnErr, true, false};
 ghost use Rattle.geo_text.specs.Reading.{IsWellSized};
 ghost use Rattle.geo_session.specs.Answer.{AppendsReadingAnswer};
-ghost use Rattle.geo_script.specs.Answered.{AnswersRecord};
+ghost use Rattle.geo_script.specs.Answered.{AnswersRecord, TakesNext};
 
 use exact_plane::{Memory, Steps};
 use geo_session::Session;
@@ -11,7 +11,8 @@ use std::alloc::Global;
 use std::sync::ledger::Ledger;
 
 /// Reads the next record of a script and appends its answer, and says whether there was one. After want of memory the session
-/// and `out` are as before, and the script has no more records to read.
+/// and `out` are as before. Where the record could not be read, no later one can; where its answer wanted memory, the script has
+/// those after it left.
 pub fn answer_next<L: Ledger>(
     alloc: Global,
     script: &mut Script,
@@ -25,6 +26,7 @@ pub fn answer_next<L: Ledger>(
     ensures same { result ≡ Ok false → (session.new ≡ session.old) × (out.new.items ≡ out.old.items) }
     ensures same_session { OnErr result (session.new ≡ session.old) }
     ensures same_out { OnErr result (out.new.items ≡ out.old.items) }
+    ensures script_after { OnErr result ((script.new.failed ≡ true) ⊎ TakesNext script.old script.new) }
 {
     let Some(reading) = script.next_command()? else {
         return Ok(false);

@@ -8,8 +8,8 @@ use Rattle.csv.specs.declared.parser.State.{State}
 use Rattle.csv.specs.declared.parser.State.TheVariants as st
 
 -- fewer bytes than before are left, or the text is at its end
-record Shortens (size : ℕ) (p : Read) : Type 0 where
-  by : (length p.2 < size) ⊎ ((p.1 ≡ st.StartRecord) × (p.2 ≡ []))
+pub record Shortens (size : ℕ) (p : Read) : Type 0 where
+  pub by : (length p.2 < size) ⊎ ((p.1 ≡ st.StartRecord) × (p.2 ≡ []))
 
 -- the record that was found is the same
 found : (p q : Read) (size : ℕ) → ◌≡◌ {A = Option Read} (Some p) (Some q) → Shortens size p → Shortens size q
@@ -20,7 +20,7 @@ longer : (size : ℕ) (p : Read) → Shortens size p → Shortens (suc size) p
 longer size p h = elim h.by [ inl fewer ↦ record { by = inl (omega arith) } | inr ended ↦ record { by = inr ended } ]
 
 -- a record takes a byte, or ends the text
-record_shortens : (cfg : Config) (s : State) (fields : List (List ℕ)) (field xs : List ℕ) (p : Read)
+pub record_shortens : (cfg : Config) (s : State) (fields : List (List ℕ)) (field xs : List ℕ) (p : Read)
     → next_record cfg s fields field xs ≡ Some p → Shortens (length xs) p
 unfolding next_record
 record_shortens cfg s fields field [] p e = at_end (ends_at_end s) refl
@@ -37,7 +37,7 @@ record_shortens cfg s fields field (c ∷ rest) p e = step_by (is_end (step cfg 
     step_by false goes more = longer _ p (more (rw goes at e))
 
 -- at its end a text has no record
-records_at_end : (cfg : Config) (n : ℕ) → records_from cfg n st.StartRecord [] ≡ []
+pub records_at_end : (cfg : Config) (n : ℕ) → records_from cfg n st.StartRecord [] ≡ []
 unfolding records_from next_record
 records_at_end cfg zero = refl
 records_at_end cfg (suc n) = refl

@@ -5,6 +5,7 @@ mod FieldAt
 mod FieldPoints
 mod Fuel
 pub mod HomTexts
+pub mod Joined
 mod LineFronts
 mod RecordsLeft
 mod WellSized

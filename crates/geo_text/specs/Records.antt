@@ -1,7 +1,10 @@
 -- The records of a script, as lists of fields. This project's own, over the records of `csv`.
-use Rattle.std.specs.Prelude.{ℕ, Bool, ◌||◌, ◌==◌, if◌then◌else◌, List, [], ◌∷◌, map, reverse}
+use Rattle.std.specs.Prelude.{◌≡◌, ℕ, Bool, false, ◌||◌, ◌==◌, if◌then◌else◌, List, [], ◌∷◌, map, reverse}
+use Rattle.csv.specs.Machine.{ends_at_end, step}
 use Rattle.csv.specs.Reading.{default_config, records, strip_bom}
 use Rattle.csv.specs.Records.{Row, fields_of}
+use Rattle.csv.specs.declared.parser.State.{State}
+use Rattle.csv.specs.declared.parser.State.TheVariants as st
 
 -- a space or a tab
 abbrev pub is_blank : ℕ → Bool
@@ -20,9 +23,23 @@ without_blanks field = reverse (without_front_blanks (reverse (without_front_bla
 abbrev pub plain_fields : Row → List (List ℕ)
 plain_fields row = map without_blanks (fields_of row)
 
--- the records that these bytes are: commas between fields, double quotes, records of any length, and no header
+-- the records that these bytes are in a script that has bytes before them: commas between fields, double quotes, records of any
+-- length, and no header; a byte order mark is text
+abbrev pub later_records_of : List ℕ → List (List (List ℕ))
+later_records_of bytes = map (λ fields. map without_blanks fields) (records default_config bytes)
+
+-- the records that these bytes are: so are they after a byte order mark at the front, which is dropped
 abbrev pub records_of : List ℕ → List (List (List ℕ))
-records_of bytes = map (λ fields. map without_blanks fields) (records default_config (strip_bom bytes))
+records_of bytes = later_records_of (strip_bom bytes)
+
+-- where `csv` stands after these bytes
+abbrev pub state_after : State → List ℕ → State
+state_after state [] = state
+state_after state (c ∷ bytes) = state_after (step default_config state c).0 bytes
+
+-- these bytes end at the end of a record: their end ends none, since the last one has ended by then
+abbrev pub AreWhole : List ℕ → Type 0
+AreWhole bytes = ends_at_end (state_after st.StartRecord (strip_bom bytes)) ≡ false
 
 -- what is left of a script: its records, the number of the next one, whether the script is of version 2, which its first record
 -- says, and whether it has failed

@@ -1,7 +1,7 @@
 ghost use Rattle.std.specs.Bool.{MatchBool};
-ghost use Rattle.std.specs.Prelude.{◌≡◌, ◌≤◌, ◌==◌, [], true, false, if◌then◌else◌, IfOk, IfSome, OnOk, OnErr};
+ghost use Rattle.std.specs.Prelude.{◌≡◌, ◌≤◌, ◌==◌, ◌++◌, [], true, false, if◌then◌else◌, length, IfOk, IfSome, OnOk, OnErr};
 ghost use Rattle.geo_text.specs.Reading.{IsWellSized, TakesCommand, asks_two as is_asked, reading_of};
-ghost use Rattle.geo_text.specs.Records.{plain_fields, records_of};
+ghost use Rattle.geo_text.specs.Records.{later_records_of, plain_fields, records_of};
 ghost use Rattle.geo_text.specs.Script.{IsReading, TakesFields, records_left};
 
 use crate::command::{Bad, Command};
@@ -10,12 +10,13 @@ use crate::reading::{asks_two, command};
 use csv::{ByteRecord, Reader, ReaderBuilder};
 use exact_plane::Memory;
 use std::alloc::Global;
+use std::io::{Chain, Read};
 use std::marker::Model;
 
 /// The records of a script that are left to read.
 #[derive(Drop)]
 pub struct Script<'a> {
-    reader: Reader<&'a [u8]>,
+    reader: Reader<Chain<&'a [u8], &'a [u8]>>,
     row: ByteRecord,
     alloc: Global,
     next: usize,
@@ -41,26 +42,29 @@ impl<'a> Script<'a> {
     pub fn open(alloc: Global, bytes: &'a [u8]) -> Script<'a>
         ensures { result ≡ record { left = records_of bytes.now; next = 0; two = false; failed = false } }
     {
-        Script::over(alloc, bytes, 0, false)
+        Script::over(alloc, b"".as_slice(), bytes, 0, false)
     }
 
-    /// A later part of a script of version 2, or of version 1. No record of it is the script's first one.
-    pub fn resume(alloc: Global, bytes: &'a [u8], two: bool) -> Script<'a>
-        ensures { result ≡ record { left = records_of bytes.now; next = 1; two = two; failed = false } }
+    /// A later part of a script, whose front is no front of the script: a byte order mark there is text. Where a record came
+    /// before, no record of it is the script's first one, and `two` says of which version the script is.
+    pub fn resume(alloc: Global, bytes: &'a [u8], started: bool, two: bool) -> Script<'a>
+        ensures { result ≡ record { left = later_records_of bytes.now; next = if started then 1 else 0; two = two; failed = false } }
     {
-        Script::over(alloc, bytes, 1, two)
+        // An empty line is no record, and `csv` drops a mark at the front alone.
+        Script::over(alloc, b"\n".as_slice(), bytes, started as usize, two)
     }
 
-    // The records of these bytes, the first of which has a number.
-    fn over(alloc: Global, bytes: &'a [u8], next: usize, two: bool) -> Script<'a>
-        requires { next ≤ 1 }
-        ensures { result ≡ record { left = records_of bytes.now; next = next; two = two; failed = false } }
+    // The records of these bytes, one part after the other. The first of them has a number.
+    fn over(alloc: Global, front: &'a [u8], bytes: &'a [u8], next: usize, two: bool) -> Script<'a>
+        requires short { length front.now ≤ 1 }
+        requires next { next ≤ 1 }
+        ensures { result ≡ record { left = records_of (front.now ++ bytes.now); next = next; two = two; failed = false } }
     {
         Script {
             reader: ReaderBuilder::new()
                 .has_headers(false)
                 .flexible(true)
-                .from_reader(alloc, bytes),
+                .from_reader(alloc, front.chain(bytes)),
             row: ByteRecord::new(alloc),
             alloc,
             next,
@@ -122,7 +126,7 @@ fn reading(
 }
 
 // Reads the next record into `row`, if there is one.
-fn read(reader: &mut Reader<&[u8]>, row: &mut ByteRecord) -> Result<bool, Memory>
+fn read(reader: &mut Reader<Chain<&[u8], &[u8]>>, row: &mut ByteRecord) -> Result<bool, Memory>
     requires { IsReading reader.old }
     ensures { IfOk result (λ found. MatchBool found (TakesFields reader.old reader.new (plain_fields row.new)) (records_left reader.old ≡ [])) }
 {

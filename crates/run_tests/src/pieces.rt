@@ -11,7 +11,8 @@ use std::sync::ledger::{Blank, Ledger};
 use std::test::Fail;
 
 // Pieces in turn, each with the answers to it, as rows of `all_answered`; the name says whether it is the first piece of a
-// new script. `geo,2` is no command in a later piece than the first with a record.
+// new script. `geo,2` is no command in a later piece than the first with a record, and a byte order mark is dropped at the front
+// of the first piece with a byte alone.
 #[rattlefmt::skip]
 const PIECES: &str = "
 # a new script
@@ -155,11 +156,76 @@ bad,no_tree
 
 # a later piece
 =
+
+# a new script
+kernel
+=
+bad,no_polygon
+
+# a later piece
+\u{FEFF}kernel
+=
+bad,word
+
+# a later piece
+kernel
+\u{FEFF}kernel
+=
+bad,no_polygon
+bad,word
+
+# a new script
+=
+
+# a later piece
+\u{FEFF}geo,2
+=
+geo,2
+
+# a later piece
+\u{FEFF}inside,1,1
+=
+bad,word
+
+# a new script
+
+=
+
+# a later piece
+\u{FEFF}geo,2
+=
+bad,word
+
+# a later piece
+geo,2
+=
+bad,word
+
+# a new script
+\u{FEFF}=
+
+# a later piece
+geo,2\r=
+geo,2
+
+# a later piece
+
+\u{FEFF}\u{FEFF}
+=
+bad,word
+
+# a new script
+\u{FEFF}=
+
+# a later piece
+\u{FEFF}geo,2
+=
+bad,word
 ";
 
 #[test]
 fn pieces(rt: HostRuntime) -> Result<(), Fail> {
-    assert!(rt; PIECES.split("\n# ").skip(1).count() == 26);
+    assert!(rt; PIECES.split("\n# ").skip(1).count() == 40);
     all_pieces::<Brand>(&rt, rt.alloc(), Blank::new(1))?;
     Ok(())
 }
