@@ -78,7 +78,7 @@ def wrong_name(span, page):
     """Returns the first name of a span that no code has where it may be."""
     where = known(span, page)
     for name in NAME.findall(span.text):
-        here = name in OTHERS or name in sources.crates() or (sources.TOP / name).exists() or (sources.TOP / "examples" / name).exists()
+        here = name in OTHERS or name in sources.crates() or name in sources.stems() or (sources.TOP / name).exists() or (sources.TOP / "examples" / name).exists()
         if len(name) > 2 and not here and not any(name in sources.words_below(it) for it in where):
             return name
     return None

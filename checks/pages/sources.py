@@ -92,6 +92,12 @@ def words_below(folder):
 
 
 @functools.cache
+def stems():
+    """Returns the names of the files of code, without their endings."""
+    return frozenset(it.stem for it in files() if is_code(it))
+
+
+@functools.cache
 def files_that_define(name):
     """Returns the files of code in which a function, a type or a definition has this name."""
     shape = re.compile(rf"\b(?:fn|struct|enum|trait|record|data|const|def|class|abbrev pub|type) {re.escape(name)}\b")
