@@ -12,6 +12,10 @@ from pathlib import Path
 from . import names, prose, sources
 
 LONG = re.compile(r"\s#\s.*\b(minutes?|hours?|seconds?)\b[^#]*$")
+# one that says so is refused, as the page shows
+REFUSED = re.compile(r"\s#\s.*\brefused\b[^#]*$")
+REMARK = re.compile(r"\s#\s[^#]*$")
+BUILTIN = {"cd", "echo", "for", "exit"}
 BUILT = re.compile(r"(crates/[a-z_]+/out/[A-Za-z0-9_./]+)")
 # what asks the toolchain or a compiler, or runs one of the repository's own checks
 HEAVY = re.compile(r"\brt (?!version|doc|--help)|\brt$|\.ci/run|\b(checks|bench|clients)/|\bunittest\b|\bcc -|examples/library/|^\./")
@@ -27,8 +31,13 @@ class Line:
 
     def wants(self):
         """What has to be built before this can run."""
-        program = ["crates/geo/out/geo"] if re.search(r"\btools/(?!records)", self.text) else []
+        program = ["crates/geo/out/geo"] if "tools/" in self.text else []
         return program + BUILT.findall(self.text)
+
+    def can_run(self):
+        """Whether what it wants is built, and each program that it names is there."""
+        named = re.findall(r"(?:^|[|;&(]\s*)([a-z][a-z0-9]*)(?=\s)", REMARK.sub("", self.text))
+        return all((sources.TOP / it).exists() for it in self.wants()) and all(it in BUILTIN or shutil.which(it) for it in named)
 
 
 def is_command(line):
@@ -60,14 +69,14 @@ def blocks_of(text):
 
 def wrong_paths(line):
     """The paths of a command line that do not exist, those that it makes itself left out."""
-    text = LONG.sub("", line.text)
+    text = REMARK.sub("", line.text)
     inside = re.match(r"\(?cd (\S+) && ", text)
     folder = Path(inside[1]) if inside else Path("")
     if inside and not (sources.TOP / folder).is_dir():
         return [str(folder)]
     made = set(re.findall(r"(?:>|-o|--save|--log|tee) ?([A-Za-z0-9_./-]+)", text))
     found = []
-    for word in re.findall(r"(?<![\w$\"'=,])(?:\.?[A-Za-z0-9_-]+|\.\.)/[A-Za-z0-9_./-]*", text):
+    for word in re.findall(r"(?<![\w$\"'=,/])(?:\.?[A-Za-z0-9_-]+|\.\.)/[A-Za-z0-9_./-]*", text):
         if word not in made and not names.MADE.search(word) and not word.startswith("dev/") and not (sources.TOP / folder / word).exists() and not (sources.TOP / word).exists():
             found.append(word)
     return found
@@ -80,10 +89,10 @@ def run(page, block, top):
         if not line.is_long and HEAVY.search(line.text):
             found.append((page, line.number, "no remark at the end of the command line says how long it takes"))
     for line in block:
-        if any(not (sources.TOP / it).exists() for it in line.wants()):
+        if not line.can_run():
             break
         if not line.is_long and not HEAVY.search(line.text):
-            script.append(f"{{ {line.text}\n}} || {{ echo 'LINE {line.number}' >&2; exit 1; }}")
+            script.append(f"{'! ' if REFUSED.search(line.text) else ''}{{ {line.text}\n}} || {{ echo 'LINE {line.number}' >&2; exit 1; }}")
             ran += 1
     if not script:
         return found, len(block)

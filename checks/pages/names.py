@@ -11,7 +11,7 @@ ENDINGS = (".rt", ".antt", ".md", ".svg", ".py", ".c", ".h", ".txt", ".edit", ".
 # what a command line of a page makes
 MADE = re.compile(r"\.(frame|script|log|so|a)$|^answers\.geojson$|^(building|panel|bracket|trees|plan)\.(geojson|svg|script)$|(^|/)out(/|$)")
 # names of the toolchain, and of programs that others wrote
-OTHERS = {"rt", "rattle", "antt", "std", "csv", "itoa", "clap", "circular_buffer", "std_alloc", "core", "unfolding", "is_simple_2"}
+OTHERS = {"rt", "rattle", "antt", "std", "csv", "itoa", "clap", "circular_buffer", "std_alloc", "core", "unfolding", "is_simple_2", "countries50"}
 
 
 class Span:

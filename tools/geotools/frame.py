@@ -1,11 +1,18 @@
 """How coordinates of the data become whole numbers, and answers become coordinates of the data again."""
-import json
-import sys
+from __future__ import annotations
+
 from dataclasses import dataclass
 from fractions import Fraction
+from typing import Optional, Sequence, Tuple
+
+from .exact import REACH, Point, digits, text
+from .fault import Fault
+from .shapes import Shape
 
 # the greatest size of a coordinate, by the version of the script
 LIMIT = {1: 1_000_000, 2: 8_388_607}
+
+Whole = Tuple[int, int]
 
 
 @dataclass(frozen=True)
@@ -16,72 +23,101 @@ class Frame:
     y: Fraction
     scale: Fraction
 
-    def whole(self, point, rounds=False, version=1):
-        """A point of the data as whole numbers; it ends the run where one is none, unless it may be rounded, or is too great."""
-        return tuple(self._whole(c, origin, rounds, version) for c, origin in zip(point, (self.x, self.y)))
+    def whole(self, point: Point, rounds: bool = False, version: int = 1) -> Whole:
+        """A point of the data as whole numbers. It is a fault where one is none, unless it may be rounded, or is too great."""
+        x, y = (self._whole(c, origin, rounds, version) for c, origin in zip(point, (self.x, self.y)))
+        return x, y
 
-    def _whole(self, coordinate, origin, rounds, version):
-        value = (Fraction(coordinate) - origin) * self.scale
-        if rounds:
-            value = Fraction(round(value))
-        if value.denominator != 1:
-            sys.exit(f'{coordinate} less {text(origin)}, times {text(self.scale)}, is no whole number; --round rounds it')
-        if abs(value) > LIMIT[version]:
-            sys.exit(f'{coordinate} less {text(origin)}, times {text(self.scale)}, is beyond {LIMIT[version]}, the limit of version {version}')
-        return value.numerator
+    def _whole(self, coordinate: Fraction, origin: Fraction, rounds: bool, version: int) -> int:
+        value = (coordinate - origin) * self.scale
+        if value.denominator != 1 and not rounds:
+            raise Fault(f'{text(coordinate)} lies between two steps of {text(1 / self.scale)}')
+        if abs(round(value)) > LIMIT[version]:
+            steps = f'steps of {text(1 / self.scale)} from {text(origin)}'
+            raise Fault(f'{text(coordinate)} is {abs(round(value)):,} {steps}, and version {version} has room for {LIMIT[version]:,}')
+        return round(value)
 
-    def back(self, point):
-        """A point of an answer in the data's units, as fractions."""
-        return tuple(c / self.scale + origin for c, origin in zip(point, (self.x, self.y)))
-
-    def dumps(self):
-        return json.dumps({'origin': [text(self.x), text(self.y)], 'scale': text(self.scale)}) + '\n'
+    def back(self, point: Tuple[Fraction, Fraction]) -> Point:
+        """A point of an answer in the data's units."""
+        return point[0] / self.scale + self.x, point[1] / self.scale + self.y
 
 
-def loads(source):
-    parts = json.loads(source)
-    return Frame(*map(Fraction, parts['origin']), Fraction(parts['scale']))
+@dataclass(frozen=True)
+class Wish:
+    """What is wished of a frame: nothing, an origin, a scale, or both; and whether it may round."""
+
+    origin: Optional[Point] = None
+    scale: Optional[Fraction] = None
+    rounds: bool = False
+    version: int = 1
 
 
-def propose(points, rounds=False, version=1):
-    """A frame for these points. The scale is the least power of ten that makes all whole; where they may be rounded, it is no
-    more than keeps them within the limit. The origin is the middle of their box, with as few digits as do."""
-    limit = LIMIT[version]
+def fitting(shapes: Sequence[Shape], wish: Wish, given: Optional[Frame] = None) -> Frame:
+    """A frame that makes each vertex of the polygons whole, or may round it: the one that is given, or else one by the wish. Where it
+    does not, the first vertex that does not fit is named, and what would do."""
+    chosen = given or proposed(shapes, wish)
+    found = misfit(shapes, chosen, wish)
+    if found:
+        raise Fault(f'{found}; {advice(shapes, wish, given)}')
+    return chosen
+
+
+def misfit(shapes: Sequence[Shape], chosen: Frame, wish: Wish) -> str:
+    """The first vertex that does not fit a frame, and why, or nothing where all fit."""
+    for shape in shapes:
+        for k, point in enumerate(shape.points):
+            try:
+                chosen.whole(point, wish.rounds, wish.version)
+            except Fault as fault:
+                return f'{shape}, vertex {k}: {fault}'
+    return ''
+
+
+def proposed(shapes: Sequence[Shape], wish: Wish) -> Frame:
+    """The frame by a wish. The scale is the least power of ten that makes all whole, or where that is less the greatest that keeps
+    them within the limit; the origin is near the middle of their box."""
+    points = [point for shape in shapes for point in shape.points]
     box = [(min(c), max(c)) for c in zip(*points)]
-    scale = Fraction(10) ** max(decimal_digits(c) for point in points for c in point)
-    while rounds and max(high - low for low, high in box) * scale > 2 * limit - 2:
+    scale = wish.scale or Fraction(10) ** max(digits(c) or 0 for point in points for c in point)
+    longest = max(high - low for low, high in box)
+    while not wish.scale and longest * scale > 2 * (LIMIT[wish.version] - wish.rounds):
         scale /= 10
-    return Frame(*(middle(low, high, scale, limit) for low, high in box), scale)
+    x, y = wish.origin or (middle(low, high, scale, wish) for low, high in box)
+    return Frame(x, y, scale)
 
 
-def middle(low, high, scale, limit):
-    """A number near the middle of two, with as few digits as keep both within the limit, if any does."""
-    for places in range(19):
-        origin = Fraction(round((low + high) / 2 * 10**places), 10**places)
-        if max(high - origin, origin - low) * scale <= limit:
-            return origin
-    return (low + high) / 2
+def middle(low: Fraction, high: Fraction, scale: Fraction, wish: Wish) -> Fraction:
+    """A number from which two are within the limit: 0 where a scale is wished and it does, else one near their middle with as few
+    digits as do. Where nothing is rounded the lesser of the two is a whole count of steps from it."""
+    limit = LIMIT[wish.version] / scale
+    if wish.scale and max(abs(low), abs(high)) <= limit and (wish.rounds or (low * scale).denominator == 1):
+        return Fraction(0)
+    origin = (low + high) / 2
+    for places in range(REACH):
+        near = Fraction(round(origin * 10**places), 10**places)
+        if max(high - near, near - low) <= limit:
+            origin = near
+            break
+    steps = (origin - low) * scale
+    return origin if wish.rounds or steps.denominator == 1 else low + int(steps) / scale
 
 
-def decimal_digits(value):
-    """How many digits a number with finitely many has after the point."""
-    count = 0
-    while (value * 10**count).denominator != 1:
-        count += 1
-    return count
-
-
-def text(value):
-    """A number as decimals where it has finitely many, and else as a fraction."""
-    rest = value.denominator
-    for prime in (2, 5):
-        while rest % prime == 0:
-            rest //= prime
-    return decimal(value, decimal_digits(value)) if rest == 1 else str(value)
-
-
-def decimal(value, places):
-    """A number with at most so many digits after the point, rounded to the nearest."""
-    scaled = round(value * 10**places)
-    sign, (whole, part) = '-' if scaled < 0 else '', divmod(abs(scaled), 10**places)
-    return f'{sign}{whole}' + (f'.{part:0{places}}'.rstrip('0').rstrip('.') if places else '')
+def advice(shapes: Sequence[Shape], wish: Wish, given: Optional[Frame]) -> str:
+    """What would do where a frame does not: a scale, the other version or rounding, each as far as it helps."""
+    exact: list[Tuple[str, str]] = []
+    rounded: list[Tuple[str, str]] = []
+    for version in range(wish.version, 3):
+        two = ['--two'] * (version > wish.version)
+        for rounds in [True] if wish.rounds else [False, True]:
+            scale = wish.scale if rounds and not wish.rounds else None
+            other = Wish(wish.origin, scale, rounds, version)
+            found = given or proposed(shapes, other)
+            words = two + ['--round'] * (rounds and not wish.rounds)
+            if wish.scale and found.scale != wish.scale:
+                words.append(f'--scale {text(found.scale)}')
+            if words and not misfit(shapes, found, other):
+                (rounded if rounds else exact).append((' '.join(words), text(1 / found.scale)))
+    ways = [f'{words} would do' for words, _ in exact[:1]] + [f'{words} would take the nearest {step}' for words, step in rounded]
+    if given:
+        ways.append('without --frame one is proposed')
+    return ', or '.join(ways) or ('another --origin would do' if wish.origin else 'a lesser --scale would do')
