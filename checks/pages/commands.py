@@ -11,14 +11,14 @@ from pathlib import Path
 
 from . import names, prose, sources
 
-LONG = re.compile(r"\s#\s.*\b(minutes?|hours?|seconds?)\b[^#]*$")
+LONG = re.compile(r"\s#\s.*\b(minutes?|hours?|seconds?|until)\b[^#]*$")
 # one that says so is refused, as the page shows
 REFUSED = re.compile(r"\s#\s.*\brefused\b[^#]*$")
 REMARK = re.compile(r"\s#\s[^#]*$")
 BUILTIN = {"cd", "echo", "for", "exit"}
 BUILT = re.compile(r"(crates/[a-z_]+/out/[A-Za-z0-9_./]+)")
 # what asks the toolchain or a compiler, or runs one of the repository's own checks
-HEAVY = re.compile(r"\brt (?!version|doc|--help)|\brt$|\.ci/run|\b(checks|bench|clients)/|\bunittest\b|\bcc -|examples/library/|^\./")
+HEAVY = re.compile(r"\brt (?!version|doc|--help)|\brt$|\.ci/run|\b(checks|bench|clients)/|\bunittest\b|\bcc -|examples/library/|^\./|tools/explore")
 SECONDS = 10
 
 
