@@ -1,0 +1,1 @@
+"""What checks/docs stands on: pages made of sources, and what is looked up in pages."""
