@@ -1,38 +1,45 @@
 """Rings and records to time the program on. They come out the same on each machine."""
+from __future__ import annotations
+
 import functools
 import math
 import random
 from fractions import Fraction
+from typing import Callable, Dict, List, Sequence, Tuple
+
+Point = Tuple[int, int]
+Ring = List[Point]
 
 L = [(0, 0), (4, 0), (4, 2), (2, 2), (2, 4), (0, 4)]
 WIDTH = 100  # of the corridors of mazes and spirals
 
 
-def comb(n):
+def comb(n: int) -> Ring:
     """A strip that goes up and down."""
     k = n // 2 - 1
     low = [(4 * i, 6 * (i % 2)) for i in range(k + 1)]
     return low + [(x, y + 2) for x, y in reversed(low)]
 
 
-def star(n):
+def star(n: int) -> Ring:
     """A ring that is seen whole from the origin, with vertices at random distances."""
     draw = random.Random(n)
     turns = [2 * math.pi * i / n for i in range(n)]
     return [(round(r * math.cos(t)), round(r * math.sin(t))) for t in turns for r in [draw.randint(400_000, 990_000)]]
 
 
-def skyline(n):
+def skyline(n: int) -> Ring:
     """A ring of upright and level edges: houses of random heights, wall to wall."""
     draw = random.Random(n)
-    roof, height = [], 0
+    roof: Ring = []
+    height = 0
     for i in reversed(range(n // 2 - 1)):
         height = draw.choice([h for h in range(1000, 900_000, 1000) if h != height])
         roof += [(400 * (i + 1), height), (400 * i, height)]
     return [(0, 0), (roof[0][0], 0)] + roof
 
 
-def spiral(n):
+def spiral(n: int) -> Ring:
     """A corridor that winds inward."""
     arms = n // 2
     outer = [(0, 0)]
@@ -48,19 +55,20 @@ def spiral(n):
     return [(WIDTH * x, WIDTH * y) for x, y in outer + inner[::-1]]
 
 
-def saw(n):
+def saw(n: int) -> Ring:
     """A ring whose teeth hang down to the height 1, where a level way touches the tip of each."""
     width = n - 4
     return [(0, 0), (width // 2, -1), (width, 0)] + [(x, 2 - x % 2) for x in reversed(range(width + 1))]
 
 
-def maze(n):
+def maze(n: int) -> Ring:
     """The boundary of a maze without rounds: corridors along a random tree."""
     corners = {0: 4, 1: 2, 2: 2, 3: 2, 4: 4}
     ways = [(1, 0), (0, 1), (-1, 0), (0, -1)]
-    draw, open_ways, rooms, missing = random.Random(n), {(0, 0): set()}, [(0, 0)], n - 4
+    draw, rooms, missing = random.Random(n), [(0, 0)], n - 4
+    open_ways: Dict[Point, set[int]] = {(0, 0): set()}
 
-    def count(of):
+    def count(of: set[int]) -> int:
         return 0 if of in ({0, 2}, {1, 3}) else corners[len(of)]
 
     while missing:
@@ -74,14 +82,15 @@ def maze(n):
             missing -= more
     squares = {(2 * x, 2 * y) for x, y in open_ways}
     squares |= {(2 * x + ways[way][0], 2 * y + ways[way][1]) for (x, y), out in open_ways.items() for way in out}
-    after = {}
+    after: Dict[Point, Point] = {}
     for x, y in squares:
         for way, begin, end in ((3, (x, y), (x + 1, y)), (0, (x + 1, y), (x + 1, y + 1)),
                                 (1, (x + 1, y + 1), (x, y + 1)), (2, (x, y + 1), (x, y))):
             if (x + ways[way][0], y + ways[way][1]) not in squares:
                 after[begin] = end
     first = min(after)
-    ring, here = [], first
+    ring: Ring = []
+    here = first
     while not ring or here != first:
         before, here = here, after[here]
         beyond = after[here]
@@ -90,22 +99,24 @@ def maze(n):
     return ring
 
 
-def vertices(ring, count):
+def vertices(ring: Ring, count: int) -> Ring:
     """Vertices of a ring at random."""
     draw = random.Random(count)
     return [draw.choice(ring) for _ in range(count)]
 
 
-def places(ring, count):
+def places(ring: Ring, count: int) -> Ring:
     """Points at random in the box round a ring."""
     draw = random.Random(count)
-    (left, low), (right, high) = map(min, zip(*ring)), map(max, zip(*ring))
+    xs, ys = zip(*ring)
+    left, low, right, high = min(xs), min(ys), max(xs), max(ys)
     return [(draw.randint(left, right), draw.randint(low, high)) for _ in range(count)]
 
 
-def inner_places(ring, count):
+def inner_places(ring: Ring, count: int) -> Ring:
     """Points at random that are inside a ring and on no edge, some of them on a level."""
-    draw, found = random.Random(count), []
+    draw = random.Random(count)
+    found: Ring = []
     heights = {y for _, y in ring}
     while len(found) < count:
         y = draw.randint(min(heights), max(heights))
@@ -115,7 +126,7 @@ def inner_places(ring, count):
     return found[:count]
 
 
-def rooms_at(ring, y):
+def rooms_at(ring: Ring, y: int) -> list[Tuple[int, int]]:
     """The least and the greatest whole x of each stretch inside a ring at a height where it has no vertex."""
     walls = sorted(Fraction((c - a) * (y - b), d - b) + a
                    for (a, b), (c, d) in zip(ring, ring[1:] + ring[:1]) if (b < y) != (d < y))
@@ -123,45 +134,46 @@ def rooms_at(ring, y):
     return [room for room in rooms if room[0] <= room[1]]
 
 
-def way_along_comb(n):
+def way_along_comb(n: int) -> Ring:
     """The taut chain from one end of the comb to the other."""
     k = n // 2 - 1
     ends = [(0, 1), (4 * k, 6 * (k % 2) + 1)]
     return ends[:1] + [(4 * i, 6 if i % 2 else 2) for i in range(1, k)] + ends[1:]
 
 
-def way_through_saw(n):
+def way_through_saw(n: int) -> Ring:
     """The level way that touches each tooth."""
     return [(0, 1), (n - 4, 1)]
 
 
-def way_past_teeth(n):
+def way_past_teeth(n: int) -> Ring:
     """The level way with each tooth that it touches."""
     begin, end = way_through_saw(n)
     return [begin, *((x, 1) for x in range(1, n - 4, 2)), end]
 
 
-def record(word, points):
+def record(word: str, points: Sequence[Tuple[object, object]]) -> str:
     return ','.join([word] + [f'{x},{y}' for x, y in points]) + '\n'
 
 
-def records(command, points, count=1):
+def records(command: str, points: Ring, count: int = 1) -> str:
     """Records of so many points each."""
     return ''.join(record(command, points[k:k + count]) for k in range(0, len(points), count))
 
 
-def answer(points):
+def answer(points: Sequence[Tuple[object, object]]) -> str:
     """The answer to a `path` record."""
     return record(f'path,{len(points)}', points)
 
 
-SHAPES = {shape.__name__: shape for shape in (comb, star, maze, spiral)}
-MORE_SHAPES = SHAPES | {shape.__name__: shape for shape in (skyline, saw)}
-WAYS = {'comb': way_along_comb, 'saw': way_past_teeth}
+Shape = Callable[[int], Ring]
+SHAPES: Dict[str, Shape] = {shape.__name__: shape for shape in (comb, star, maze, spiral)}
+MORE_SHAPES: Dict[str, Shape] = SHAPES | {shape.__name__: shape for shape in (skyline, saw)}
+WAYS: Dict[str, Shape] = {'comb': way_along_comb, 'saw': way_past_teeth}
 
 
 @functools.cache
-def ends(shape, n, count):
+def ends(shape: str, n: int, count: int) -> Ring:
     """So many points inside a ring and as many vertices of it: two of these, two of those, and so on."""
     ring = MORE_SHAPES[shape](n)
     inner, corners = inner_places(ring, count), vertices(ring, count)

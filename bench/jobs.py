@@ -1,10 +1,13 @@
 """What is timed: each command on rings of several shapes and sizes, the test of a ring alone, scripts of up to 8 MiB, and in version
 2 of the script rings and paths."""
+from __future__ import annotations
+
 import random
 from dataclasses import dataclass, field
+from typing import Callable, Iterable, Iterator, List, Optional, Tuple
 
 import inputs
-from inputs import MORE_SHAPES, SHAPES, WAYS, answer, ends, record, records
+from inputs import MORE_SHAPES, SHAPES, WAYS, Ring, answer, ends, record, records
 
 SIZES = {1: [256, 1024, 4096], 2: [4096, 16_384]}
 PAIRED = 1024  # the most vertices that `pair` and `sights` take
@@ -23,37 +26,41 @@ class Job:
     note: str
     size: int
     version: int = 1
-    ring: list = field(default_factory=list)
-    queries: list = field(default_factory=list)
+    ring: Ring = field(default_factory=list)
+    queries: Ring = field(default_factory=list)
     before: str = ''
     timed: str = ''
-    known: str = None
+    known: Optional[str] = None
     times: int = 1
 
     @property
-    def what(self):
+    def what(self) -> str:
         return f'{self.command}, {self.note}' if self.note else self.command
 
     @property
-    def name(self):
+    def name(self) -> str:
         return self.head.replace('\n', ' ') + f'{self.command} {self.shape}' + (f', {self.note}' if self.note else '')
 
     @property
-    def head(self):
+    def head(self) -> str:
         """The record that a script of version 2 begins with, which is its own answer."""
         return 'geo,2\n' if self.version == 2 else ''
 
     @property
-    def accepted(self):
+    def accepted(self) -> str:
         """The answers to the head and the polygon."""
         return f'{self.head}polygon,{self.size}\n'
 
     @property
-    def script(self):
+    def script(self) -> str:
         return self.before + self.timed
 
 
-def jobs(sizes, only, ask):
+Ask = Callable[[str], List[str]]
+Fill = Callable[[Job, Ask], None]
+
+
+def jobs(sizes: List[int], only: str, ask: Ask) -> Iterator[Job]:
     """The jobs whose name has a text, those of one name together. `ask` gives the lines that answer a script. Each version has its
     own sizes, or takes of those that are given the ones within its limit."""
     for version, command, note, shapes, fill in COMMANDS:
@@ -74,60 +81,60 @@ def jobs(sizes, only, ask):
                 yield job
 
 
-def polygon(job, ask):
+def polygon(job: Job, ask: Ask) -> None:
     job.before, job.timed, job.known = job.head, record('polygon', job.ring), job.accepted
 
 
-def accept(job, ask):
+def accept(job: Job, ask: Ask) -> None:
     job.before, job.timed, job.known, job.times = '', job.before, '', TIMES
 
 
-def inside(job, ask):
+def inside(job: Job, ask: Ask) -> None:
     job.queries = inputs.places(job.ring, PLACES)
     job.timed = records('inside', job.queries)
 
 
-def see(job, ask):
+def see(job: Job, ask: Ask) -> None:
     job.queries = inputs.inner_places(job.ring, VIEWS)
     job.timed = records('see', job.queries)
 
 
-def kernel(job, ask):
+def kernel(job: Job, ask: Ask) -> None:
     job.timed, job.times = TIMES * 'kernel\n', TIMES
 
 
-def tree(job, ask):
+def tree(job: Job, ask: Ask) -> None:
     job.queries = ends(job.shape, job.size, PATHS)[:1]
     job.timed = records('tree', job.queries)
 
 
-def reach(job, ask):
+def reach(job: Job, ask: Ask) -> None:
     source, *goals = ends(job.shape, job.size, PATHS)[:PATHS + 1]
     job.before += record('tree', [source])
     job.timed = records('reach', goals)
     job.queries = [point for goal in goals for point in (source, goal)]
 
 
-def path(job, ask):
+def path(job: Job, ask: Ask) -> None:
     job.queries = ends(job.shape, job.size, PATHS)
     job.timed = records('path', job.queries, 2)
 
 
-def check(job, ask):
+def check(job: Job, ask: Ask) -> None:
     """Some paths as lists: each is taut."""
     paths = ask(job.before + records('path', ends(job.shape, job.size, PATHS)[:2 * LISTS], 2))[1:]
     job.timed = ''.join(f'check,{line.split(",", 2)[-1]}\n' for line in paths)
     job.known = job.accepted + LISTS * 'taut\n'
 
 
-def hull(job, ask):
+def hull(job: Job, ask: Ask) -> None:
     """Its sides are to be the paths between their ends."""
     job.timed = record('hull', inputs.inner_places(job.ring, PEGS))
     sides = [line.split(',')[4:] for line in ask(job.script) if line.startswith('side,')]
-    job.queries = [tuple(map(int, point)) for side in sides for point in (side[:2], side[-2:])]
+    job.queries = [(int(x), int(y)) for side in sides for x, y in (side[:2], side[-2:])]
 
 
-def closed_round(job, ask):
+def closed_round(job: Job, ask: Ask) -> None:
     """It is to follow the sides of the hull."""
     places = inputs.inner_places(job.ring, PEGS)
     sides = (line.split(',') for line in ask(job.before + record('hull', places)) if line.startswith('side,'))
@@ -139,11 +146,11 @@ def closed_round(job, ask):
     job.known = job.accepted + ','.join(map(str, ['round', len(way), *way])) + '\n'
 
 
-def guards(job, ask):
+def guards(job: Job, ask: Ask) -> None:
     job.timed, job.times = TIMES * 'guards\n', TIMES
 
 
-def pair(job, ask):
+def pair(job: Job, ask: Ask) -> None:
     """The table of all pairs is there before."""
     draw = random.Random(job.size)
     ends = [draw.randrange(job.size) for _ in range(2 * PATHS)]
@@ -152,14 +159,14 @@ def pair(job, ask):
     job.timed = ''.join(f'pair,{i},{j}\n' for i, j in zip(ends[::2], ends[1::2]))
 
 
-def sights(job, ask):
+def sights(job: Job, ask: Ask) -> None:
     """The table of all pairs is made."""
     job.queries, job.timed = job.ring, 'sights\n'
 
 
-def known_way(way, command):
+def known_way(way: Callable[[int], Ring], command: str) -> Fill:
     """A way that is known to be the path, to find or to check."""
-    def fill(job, ask):
+    def fill(job: Job, ask: Ask) -> None:
         points = way(job.size)
         job.queries = [points[0], points[-1]]
         job.timed = record('path', job.queries) if command == 'path' else record('check', points)
@@ -167,7 +174,7 @@ def known_way(way, command):
     return fill
 
 
-def far(job, ask):
+def far(job: Job, ask: Ask) -> Ring:
     """The way from end to end where it is known, else the ends of the path with the most points among those of the pairs."""
     if job.shape in WAYS:
         return WAYS[job.shape](job.size)
@@ -176,7 +183,7 @@ def far(job, ask):
     return points[2 * counts.index(max(counts)):][:2] if counts else points[:2]
 
 
-def there_and_back(job, ask):
+def there_and_back(job: Job, ask: Ask) -> None:
     way = far(job, ask)
     job.queries = WALKS * [way[0], way[-1], way[-1], way[0]]
     job.timed = records('path', job.queries, 2)
@@ -184,7 +191,7 @@ def there_and_back(job, ask):
         job.known = job.accepted + WALKS * (answer(way) + answer(way[::-1]))
 
 
-def on_the_spot(job, ask):
+def on_the_spot(job: Job, ask: Ask) -> None:
     """As many records with each end alone, so the ends are looked for as often and the answers are short."""
     begin, *_, end = far(job, ask)
     job.queries = WALKS * [begin, begin, end, end]
@@ -192,7 +199,7 @@ def on_the_spot(job, ask):
     job.known = job.accepted + WALKS * (answer([begin]) + answer([end]))
 
 
-COMMANDS = [
+COMMANDS: List[Tuple[int, str, str, Iterable[str], Fill]] = [
     (1, 'polygon', '', MORE_SHAPES, polygon),
     (1, 'accept', '', SHAPES, accept),
     (1, 'inside', f'{PLACES:,} points', MORE_SHAPES, inside),

@@ -1,5 +1,7 @@
 """Programs that answer the same by other libraries: how they are asked, how long they say that they take, and whether their
 answers are those of `geo`."""
+from __future__ import annotations
+
 import functools
 import os
 import subprocess
@@ -8,9 +10,10 @@ from bisect import bisect_left, bisect_right
 from dataclasses import dataclass
 from fractions import Fraction
 from itertools import zip_longest
-from typing import Callable
+from typing import Callable, Dict, List, Optional, Sequence, Tuple
 
-from inputs import record
+from inputs import Point, Ring, record
+from jobs import Job
 
 PROGRAMS = ['cgal', 'geos', 'boost', 'ppl', 'funnel']
 
@@ -26,18 +29,18 @@ class Peer:
     name: str
     program: str
     job: str
-    theirs: Callable = None
-    ours: Callable = list
-    part: tuple = ('run',)
-    whole: tuple = ('load', 'prep', 'run')
-    batch: int = None
+    theirs: Optional[Callable[[List[str], Job], List[str]]] = None
+    ours: Callable[[List[str]], List[str]] = list
+    part: Tuple[str, ...] = ('run',)
+    whole: Tuple[str, ...] = ('load', 'prep', 'run')
+    batch: Optional[int] = None
 
 
-def same(shown, job):
+def same(shown: List[str], job: Job) -> List[str]:
     return shown
 
 
-def paths(shown, job):
+def paths(shown: List[str], job: Job) -> List[str]:
     """In version 2 with each vertex that a path touches."""
     if job.version == 1:
         return shown
@@ -49,30 +52,30 @@ def paths(shown, job):
     return lines
 
 
-def touched(ring):
+def touched(ring: Ring) -> Callable[[Ring], Ring]:
     """What gives a chain with each vertex of a ring that it touches. Those on a segment lie between its ends, both in the order by x
     and in that by y."""
-    by_x, by_y = sorted(ring), sorted(point[::-1] for point in ring)
+    by_x, by_y = sorted(ring), sorted((y, x) for x, y in ring)
 
-    def between(points, a, b):
+    def between(points: Ring, a: Point, b: Point) -> Ring:
         return points[bisect_right(points, min(a, b)):bisect_left(points, max(a, b))]
 
     @functools.cache
-    def within(a, b):
+    def within(a: Point, b: Point) -> Ring:
         (p, q), (r, s) = a, b
         found, others = between(by_x, a, b), between(by_y, (q, p), (s, r))
         if len(others) < len(found):
-            found = [point[::-1] for point in others]
+            found = [(x, y) for y, x in others]
         return sorted(((x, y) for x, y in found if (r - p) * (y - q) == (s - q) * (x - p)), reverse=b < a)
 
     return lambda chain: chain[:1] + [point for a, b in zip(chain, chain[1:]) for point in [*within(a, b), b]]
 
 
-def places(shown, job):
+def places(shown: List[str], job: Job) -> List[str]:
     return [line.split()[1] for line in shown]
 
 
-def views(shown, job):
+def views(shown: List[str], job: Job) -> List[str]:
     """CGAL gives the vertices of the visibility polygon as exact fractions, and the peer tells of each edge the hull of those that
     lie on it. That is the part, since what is seen of an edge is a segment, and its ends are such vertices."""
     heads = [k for k, line in enumerate(shown) if line.startswith('see,')]
@@ -80,31 +83,31 @@ def views(shown, job):
     return [line for part in parts for line in [f'see,{len(part)}', *part]]
 
 
-def kernels(shown, job):
+def kernels(shown: List[str], job: Job) -> List[str]:
     """The corners in the order of `geo`: round the kernel, from the least. Those right of the way from the least to the greatest
     come first."""
-    corners = sorted(tuple(map(Fraction, line.split(',')[1:])) for line in shown)
-    (a, b), (c, d) = (corners[0], corners[-1]) if corners else 2 * [(0, 0)]
+    corners = sorted((Fraction(x), Fraction(y)) for x, y in (line.split(',')[1:] for line in shown))
+    (a, b), (c, d) = (corners[0], corners[-1]) if corners else 2 * ((Fraction(0), Fraction(0)),)
     left = [(x, y) for x, y in corners if (c - a) * (y - b) > (d - b) * (x - a)]
     order = [corner for corner in corners if corner not in left] + left[::-1]
     return job.times * [f'kernel,{len(order)}', *(f'corner,{x},{y}' for x, y in order)]
 
 
-def seen_pairs(shown, job):
+def seen_pairs(shown: List[str], job: Job) -> List[str]:
     """The pairs of vertices that see each other, by the tree of paths from each: in that of vertex i, vertex j comes straight from it."""
     heads = [k for k, line in enumerate(shown) if line.startswith('tree,')]
     found = [(i, j) for i, head in enumerate(heads) for j in range(i + 1, job.size) if shown[head + 1 + j] == f'from,{j},s']
     return [f'sights,{len(found)}', *(f'sight,{i},{j}' for i, j in found)]
 
 
-def sides(lines):
+def sides(lines: List[str]) -> List[str]:
     """The sides of a hull as paths."""
     return ['path,' + line.split(',', 3)[-1] for line in lines[1:]]
 
 
 THREE = [('CGAL', 'cgal'), ('GEOS', 'geos'), ('Boost', 'boost')]
 TEST = [Peer(f'{name}, testing', program, 'load', part=('load',)) for name, program in THREE]
-PEERS = {
+PEERS: Dict[str, List[Peer]] = {
     'accept': TEST,
     'polygon': [Peer('CGAL, testing and triangulating', 'cgal', 'tri:cdt', part=('load', 'run'))] + TEST,
     'inside': [Peer(name, program, 'inside1000', places) for name, program in THREE],
@@ -123,23 +126,23 @@ PEERS = {
 class Folder:
     """The programs of a folder that are there."""
 
-    def __init__(self, folder):
+    def __init__(self, folder: str):
         paths = {name: os.path.join(folder, 'bin', 'peer_' + name) for name in PROGRAMS}
         self.programs = {name: path for name, path in paths.items() if folder and os.access(path, os.X_OK)}
         self.missing = [name for name in PROGRAMS if name not in self.programs]
 
-    def of(self, job):
+    def of(self, job: Job) -> List[Peer]:
         """The peers of a job's command. Where the job has no ring it has none."""
         return [peer for peer in PEERS.get(job.command, []) if peer.program in self.programs and job.ring]
 
-    def ask(self, peer, job, shows=False):
+    def ask(self, peer: Peer, job: Job, shows: bool = False) -> Tuple[Dict[str, str], List[str]]:
         """The words that a peer ends with, and before them its answers, where it shows them."""
         step = peer.batch or len(job.queries) or 1
         every = [self.ask_once(peer, job, job.queries[first:first + step], shows) for first in range(0, max(1, len(job.queries)), step)]
-        told = {**every[0][0], 'run': sum(float(told['run']) for told, _ in every)}
+        told = {**every[0][0], 'run': str(sum(float(told['run']) for told, _ in every))}
         return told, [line for _, shown in every for line in shown]
 
-    def ask_once(self, peer, job, queries, shows):
+    def ask_once(self, peer: Peer, job: Job, queries: Ring, shows: bool) -> Tuple[Dict[str, str], List[str]]:
         with tempfile.NamedTemporaryFile('w', suffix='.txt') as file:
             for name, points in (('polygon', job.ring), ('queries', queries)):
                 file.write(f'{name} {len(points)}\n' + ''.join(f'{x} {y}\n' for x, y in points))
@@ -152,12 +155,13 @@ class Folder:
             raise RuntimeError(f'{peer.name} has no answer: {last or ended.returncode}')
         return told, [line.strip() for line in shown]
 
-    def times(self, peer, job):
+    def times(self, peer: Peer, job: Job) -> Tuple[float, float]:
         """How long a peer says that it took for what is timed, and for all."""
         told, _ = self.ask(peer, job)
-        return tuple(sum(float(told[step]) for step in steps) for steps in (peer.part, peer.whole))
+        part, whole = (sum(float(told[step]) for step in steps) for steps in (peer.part, peer.whole))
+        return part, whole
 
-    def difference(self, peer, job, lines):
+    def difference(self, peer: Peer, job: Job, lines: List[str]) -> Optional[str]:
         """Where the answers of a peer are others than these, if they are."""
         try:
             told, shown = self.ask(peer, job, shows=peer.theirs is not None)
@@ -170,7 +174,7 @@ class Folder:
         return other_line(peer.name, peer.theirs(shown, job), 'geo', peer.ours(lines))
 
 
-def other_line(one, lines, another, others):
+def other_line(one: str, lines: Sequence[str], another: str, others: Sequence[str]) -> Optional[str]:
     """The first line in which the answers of two differ, if there is one."""
     for k, (line, other) in enumerate(zip_longest(lines, others), 1):
         if line != other:
@@ -178,5 +182,5 @@ def other_line(one, lines, another, others):
     return None
 
 
-def short(line):
+def short(line: Optional[str]) -> str:
     return 'no line' if line is None else line if len(line) < 100 else line[:97] + '..'

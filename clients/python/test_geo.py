@@ -1,22 +1,26 @@
 #!/usr/bin/env python3
 """Tests of geo.py over the library, libgeo_c.so, which clients/python/build makes."""
+from __future__ import annotations
+
 import gc
+import importlib
 import subprocess
 import sys
 import threading
 import unittest
 from fractions import Fraction
 from pathlib import Path
+from typing import Any, Callable, Iterable, List, Sequence, Tuple, Type
 
 import geo
 from geo import Before, Part, Place, Rule, Session, Side, Verdict
 
 try:
-    import numpy
+    numpy: Any = importlib.import_module('numpy')
 except ImportError:
     numpy = None
 try:
-    import shapely.geometry as shapely
+    shapely: Any = importlib.import_module('shapely.geometry')
 except ImportError:
     shapely = None
 
@@ -29,101 +33,106 @@ L = [(0, 0), (4, 0), (4, 2), (2, 2), (2, 4), (0, 4)]
 EXAMPLES = [answers.with_suffix('') for answers in sorted((TOP / 'examples').glob('*.stdout')) if not answers.with_suffix('.args').exists()]
 
 
-def comb(n):
+def comb(n: int) -> List[Tuple[int, int]]:
     """A strip of n vertices that goes up and down."""
     low = [(4 * i, 6 * (i % 2)) for i in range(n // 2)]
     return low + [(x, y + 2) for x, y in reversed(low)]
 
 
-def geojson(kind, coordinates):
+def geojson(kind: str, coordinates: Any) -> Any:
     return {'type': kind, 'coordinates': coordinates}
+
+
+def exact(x: int, y: int) -> Tuple[Fraction, Fraction]:
+    return Fraction(x), Fraction(y)
 
 
 class Shape:
     """A shape of another library."""
 
-    def __init__(self, kind, coordinates):
+    def __init__(self, kind: str, coordinates: Any):
         self.__geo_interface__ = geojson(kind, coordinates)
 
 
 class Lines:
     """What the methods of a session answer, as lines of a script's answers."""
 
-    def __init__(self, session):
+    def __init__(self, session: Session):
         self.session = session
 
-    def answer(self, row):
+    def answer(self, row: script.Answered) -> List[str]:
         """The lines that answer a record: by its method, or as they are where it has none or other fields than numbers in their count."""
         if not hasattr(self, row.word) or row.lines[0][:2] in [['bad', 'fields'], ['bad', 'number']]:
             return self.session.answer(','.join(row.record)).decode().splitlines()
         try:
-            return getattr(self, row.word)(map(int, row.record[1:]) if row.word in script.NUMBERED else row.points)
+            lines: List[str] = getattr(self, row.word)(map(int, row.record[1:]) if row.word in script.NUMBERED else row.points)
+            return lines
         except geo.Refusal as refused:
             return [str(refused).split(':')[0]]
 
-    def polygon(self, points):
+    def polygon(self, points: Any) -> List[str]:
         return [f'polygon,{self.session.polygon(points)}']
 
-    def inside(self, points):
+    def inside(self, points: Any) -> List[str]:
         return [self.session.inside(*points).name.lower()]
 
-    def path(self, points):
+    def path(self, points: Any) -> List[str]:
         return [path_line('path', self.session.path(*points))]
 
-    def reach(self, points):
+    def reach(self, points: Any) -> List[str]:
         return [path_line('path', self.session.reach(*points))]
 
-    def pair(self, numbers):
+    def pair(self, numbers: Any) -> List[str]:
         return [path_line('path', self.session.pair(*numbers))]
 
-    def tree(self, points):
+    def tree(self, points: Any) -> List[str]:
         before = [j.value if isinstance(j, Before) else j for j in self.session.tree(*points)]
         return [f'tree,{len(before)}'] + [f'from,{i},{j}' for i, j in enumerate(before)]
 
-    def check(self, points):
+    def check(self, points: Any) -> List[str]:
         verdict = self.session.check(points)
-        return ['taut' if verdict else f'not,{verdict.rule.value},{verdict.place}']
+        return [f'not,{verdict.rule.value},{verdict.place}' if verdict.rule else 'taut']
 
-    def see(self, points):
+    def see(self, points: Any) -> List[str]:
         parts = list(self.session.see(*points))
         return [f'see,{len(parts)}'] + [f'part,{i},{a},{b},{c},{d}' for i, (a, b), (c, d) in parts]
 
-    def kernel(self, _):
+    def kernel(self, _: Any) -> List[str]:
         corners = self.session.kernel()
         return [f'kernel,{len(corners)}'] + [f'corner,{x},{y}' for x, y in corners]
 
-    def hull(self, points):
+    def hull(self, points: Any) -> List[str]:
         sides = list(self.session.hull(points))
         return [f'hull,{len(sides)}'] + [path_line(f'side,{start},{goal}', path) for start, goal, path in sides]
 
-    def round(self, points):
+    def round(self, points: Any) -> List[str]:
         return [line('round', self.session.round(points))]
 
-    def guards(self, _):
+    def guards(self, _: Any) -> List[str]:
         return [line('guards', self.session.guards())]
 
-    def sights(self, _):
+    def sights(self, _: Any) -> List[str]:
         pairs = list(self.session.sights())
         return [f'sights,{len(pairs)}'] + [f'sight,{i},{j}' for i, j in pairs]
 
 
-def path_line(head, path):
+def path_line(head: str, path: Iterable[Tuple[object, object]]) -> str:
     return line(head, [f'{x},{y}' for x, y in path])
 
 
-def line(head, listed):
+def line(head: str, listed: Sequence[object]) -> str:
     return ','.join([head, str(len(listed)), *map(str, listed)])
 
 
 class Examples(unittest.TestCase):
     """The examples of the repository, with what the program must answer to them."""
 
-    def test_scripts(self):
+    def test_scripts(self) -> None:
         for example in EXAMPLES:
             with self.subTest(example.name):
                 self.assertEqual(geo.answer_script(example.read_bytes()), example.with_suffix('.stdout').read_bytes())
 
-    def test_records(self):
+    def test_records(self) -> None:
         for example in EXAMPLES:
             answered = script.paired(example.read_bytes(), example.with_suffix('.stdout').read_bytes())
             wide = script.version(answered) == 2
@@ -131,7 +140,7 @@ class Examples(unittest.TestCase):
                 for row in answered[1:] if wide else answered:
                     self.assertEqual(Lines(session).answer(row), [','.join(fields) for fields in row.lines], row.record)
 
-    def test_pieces(self):
+    def test_pieces(self) -> None:
         for example in EXAMPLES:
             pieces = example.read_bytes().splitlines(keepends=True)
             with self.subTest(example.name), Session() as session:
@@ -143,7 +152,7 @@ class Examples(unittest.TestCase):
         with Session() as session:
             self.assertEqual([session.answer(record), session.answer(record)], [b'bad,no_polygon\n', b'bad,word\n'])
 
-    def test_the_worked_example(self):
+    def test_the_worked_example(self) -> None:
         folder = TOP / 'examples/library'
         ran = subprocess.run([sys.executable, folder / 'route.py'], capture_output=True, text=True)
         self.assertEqual((ran.stdout, ran.stderr), ((folder / 'route.stdout').read_text(), ''))
@@ -152,66 +161,66 @@ class Examples(unittest.TestCase):
 class Values(unittest.TestCase):
     """What each method gives for the L."""
 
-    def setUp(self):
+    def setUp(self) -> None:
         self.session = Session(L)
         self.addCleanup(self.session.close)
 
-    def test_points(self):
+    def test_points(self) -> None:
         self.assertEqual([self.session.inside(p) for p in [(1, 1), (3, 3), (2, 3)]], [Place.INSIDE, Place.OUTSIDE, Place.EDGE])
         self.assertEqual(self.session.kernel(), [(0, 0), (2, 0), (2, 2), (0, 2)])
         self.session.polygon([(0, 0), (6, 0), (3, 1), (0, 5)])
         self.assertEqual(self.session.kernel()[1], (Fraction(15, 4), 0))
 
-    def test_paths(self):
+    def test_paths(self) -> None:
         self.assertEqual(self.session.path((4, 1), (1, 4)), [(4, 1), (2, 2), (1, 4)])
         self.assertEqual(self.session.tree((4, 1)), 4 * [Before.SOURCE] + [3, 3])
         self.assertEqual(self.session.reach((1, 4)), [(4, 1), (2, 2), (1, 4)])
         self.assertEqual(self.session.tree((2, 2))[3], Before.NOTHING)
         self.assertEqual(self.session.pair(2, 4), [(4, 2), (2, 2), (2, 4)])
 
-    def test_a_wide_session_tells_what_a_path_touches(self):
+    def test_a_wide_session_tells_what_a_path_touches(self) -> None:
         self.assertEqual(self.session.path((4, 0), (0, 4)), [(4, 0), (0, 4)])
         with Session(L, wide=True) as wide:
             self.assertEqual(wide.path((4, 0), (0, 4)), [(4, 0), (2, 2), (0, 4)])
             self.assertEqual(wide.polygon([(0, 0), (8_388_607, 0), (0, 8_388_607)]), 3)
 
-    def test_a_path_of_many_points(self):
+    def test_a_path_of_many_points(self) -> None:
         with Session(comb(4096)) as session:
             path = session.path((0, 1), (4 * 2047, 7))
         self.assertEqual(path, [(0, 1)] + [(4 * i, 6 if i % 2 else 2) for i in range(1, 2047)] + [(4 * 2047, 7)])
 
-    def test_verdicts(self):
+    def test_verdicts(self) -> None:
         verdicts = [self.session.check(points) for points in ([(4, 1), (2, 2), (1, 4)], [(4, 0), (2, 2), (0, 4)])]
         self.assertEqual(verdicts, [Verdict(), Verdict(Rule.STRAIGHT, 1)])
         self.assertEqual(list(map(bool, verdicts)), [True, False])
 
-    def test_long_answers_outlive_the_session(self):
+    def test_long_answers_outlive_the_session(self) -> None:
         parts, sides, pairs = self.session.see((4, 1)), self.session.hull([(4, 2), (2, 4), (1, 2)]), self.session.sights()
         self.session.guards()
         self.session.close()
-        self.assertEqual(list(parts)[3:], [Part(3, (2, 2), (2, 2)), Part(5, (0, 3), (0, 0))])
+        self.assertEqual(list(parts)[3:], [Part(3, exact(2, 2), exact(2, 2)), Part(5, exact(0, 3), exact(0, 0))])
         self.assertEqual(next(sides), Side(0, 1, [(4, 2), (2, 2), (2, 4)]))
         self.assertEqual(list(pairs)[:5], [(0, j) for j in range(1, 6)])
 
-    def test_numbers_of_points_and_vertices(self):
+    def test_numbers_of_points_and_vertices(self) -> None:
         self.assertEqual(self.session.round([(4, 2), (2, 4), (0, 0), (1, 1)]), [0, 1, 2])
         self.assertEqual(self.session.guards(), [3])
 
 
 class Refusals(unittest.TestCase):
-    def setUp(self):
+    def setUp(self) -> None:
         self.session = Session(L)
         self.addCleanup(self.session.close)
 
-    def refuses(self, kind, places, ask, *given):
+    def refuses(self, kind: Type[geo.Refusal], places: Tuple[int, ...], ask: Callable[..., object], *given: Any) -> None:
         with self.assertRaises(kind) as refused:
             ask(*given)
         self.assertEqual(refused.exception.places, places)
         self.assertIn(','.join(['bad', kind.word, *map(str, places)]), str(refused.exception))
 
-    def test_points(self):
+    def test_points(self) -> None:
         far, path = 10**40, self.session.path
-        for kind, places, ask, *given in [
+        cases: List[Any] = [
             (geo.Outside, (1,), path, (3, 3), (1, 1)),
             (geo.Outside, (2,), path, (1, 1), (3, 3)),
             (geo.Outside, (3,), self.session.hull, [(1, 1), (0, 0), (3, 3)]),
@@ -222,10 +231,11 @@ class Refusals(unittest.TestCase):
             (geo.Range, (2,), self.session.inside, (1, 1e300)),
             (geo.Range, (2,), self.session.check, [(1, far)]),
             (geo.NoTree, (), self.session.reach, (1, 4)),
-        ]:
+        ]
+        for kind, places, ask, *given in cases:
             self.refuses(kind, places, ask, *given)
 
-    def test_lists(self):
+    def test_lists(self) -> None:
         square = [(0, 0), (4, 4), (4, 0), (0, 4)]
         self.refuses(geo.Clash, (0, 2), self.session.polygon, square)
         self.refuses(geo.Few, (), self.session.polygon, square[:2])
@@ -234,43 +244,48 @@ class Refusals(unittest.TestCase):
         self.refuses(geo.Many, (), self.session.polygon, comb(4098))
         self.assertEqual(self.session.guards(), [3], 'the polygon before stays')
 
-    def test_numbers_of_vertices(self):
+    def test_numbers_of_vertices(self) -> None:
         self.refuses(geo.Index, (2,), self.session.pair, 0, 6)
         self.refuses(geo.Index, (1,), self.session.pair, -1, 0)
         self.session.polygon(comb(1026))
         self.refuses(geo.Large, (), self.session.pair, 0, 6)
         self.refuses(geo.Large, (), self.session.sights)
 
-    def test_no_polygon(self):
+    def test_no_polygon(self) -> None:
         with Session() as session:
-            for ask, *given in [(session.inside, (1, 1)), (session.path, (1, 1), (2, 2)), (session.reach, (1, 1)), (session.kernel,)]:
+            asked: List[Any] = [(session.inside, (1, 1)), (session.path, (1, 1), (2, 2)), (session.reach, (1, 1)), (session.kernel,)]
+            for ask, *given in asked:
                 self.refuses(geo.NoPolygon, (), ask, *given)
         with self.assertRaises(geo.Few):
             Session([(0, 0)])
 
-    def test_records(self):
-        for record, kind, places in [
+    def test_records(self) -> None:
+        cases: List[Any] = [
             (b'circle,0,0,5', geo.Word, ()), ('inside,1', geo.Fields, ()), ('inside,1,one', geo.Number, (2,)), ('pair,0,6', geo.Index, (2,)),
-        ]:
+        ]
+        for record, kind, places in cases:
             refused = geo.refusal(self.session.answer(record))
+            assert refused
             self.assertEqual((type(refused), refused.places), (kind, places))
         self.assertIsNone(geo.refusal(self.session.answer('inside,1,1')))
 
-    def test_each_refusal_of_the_manual_has_a_class(self):
+    def test_each_refusal_of_the_manual_has_a_class(self) -> None:
         words = [line.split('`')[1].split(',')[1] for line in (TOP / 'docs/SCRIPT.md').read_text().splitlines() if line.startswith('| `bad,')]
         self.assertEqual(sorted(words), sorted(kind.word for kind in geo.Refusal.__subclasses__()))
 
-    def test_too_long(self):
+    def test_too_long(self) -> None:
         self.assertEqual(geo.answer_script(b'\n' * 8_388_608), b'')
         for ask in geo.answer_script, self.session.answer:
             with self.assertRaises(geo.TooLong):
                 ask(b'\n' * 8_388_609)
         self.assertEqual(self.session.guards(), [3])
 
-    def test_a_closed_session(self):
+    def test_a_closed_session(self) -> None:
         self.session.close()
         self.session.close()
-        for ask in self.session.guards, lambda: self.session.inside((1, 1)), lambda: self.session.path((1, 1), (2, 2)):
+        asked: List[Callable[[], object]] = [
+            self.session.guards, lambda: self.session.inside((1, 1)), lambda: self.session.path((1, 1), (2, 2))]
+        for ask in asked:
             with self.assertRaises(ValueError):
                 ask()
 
@@ -278,33 +293,34 @@ class Refusals(unittest.TestCase):
 class Shapes(unittest.TestCase):
     """Points, lists and rings in other forms than pairs of integers."""
 
-    def setUp(self):
+    def setUp(self) -> None:
         self.session = Session()
         self.addCleanup(self.session.close)
 
-    def ask(self, ring, point, points):
+    def ask(self, ring: Any, point: Any, points: Any) -> None:
         self.assertEqual(self.session.polygon(ring), 6)
         self.assertEqual(self.session.inside(point), Place.EDGE)
         self.assertEqual(self.session.path(point, point), [(2, 3)])
         self.assertEqual(self.session.round(points), [0, 1, 2])
 
-    def test_numbers(self):
+    def test_numbers(self) -> None:
         self.ask(([float(x), y] for x, y in L), (2.0, Fraction(3)), iter([(4, 2), (2, 4), (0, 0)]))
-        for number, place, ask, given in [
+        cases: List[Any] = [
             (0.5, 4, self.session.polygon, [(0, 0), (4, 0.5)]),
             (float('nan'), 1, self.session.inside, (float('nan'), 1)),
             (float('inf'), 2, self.session.see, (1, float('inf'))),
-        ]:
+        ]
+        for number, place, ask, given in cases:
             with self.assertRaises(geo.NotWhole) as refused:
                 ask(given)
             self.assertEqual((str(refused.exception.number), refused.exception.place), (str(number), place))
 
-    def test_no_numbers(self):
+    def test_no_numbers(self) -> None:
         for given in ('12', ('1', '2'), (1, None), 7, None, (1,), (1, 2, 3), geojson('Polygon', [L])):
             with self.assertRaises((TypeError, ValueError)):
                 self.session.inside(given)
 
-    def test_geojson(self):
+    def test_geojson(self) -> None:
         closed = L + L[:1]
         for kind in geojson, Shape:
             for listed in 'LineString', 'MultiPoint':
@@ -314,7 +330,7 @@ class Shapes(unittest.TestCase):
         feature = {'type': 'Feature', 'properties': {}, 'geometry': geojson('Polygon', [closed])}
         self.assertEqual(self.session.polygon(feature), 6)
 
-    def test_shapes_that_are_no_ring(self):
+    def test_shapes_that_are_no_ring(self) -> None:
         with self.assertRaises(geo.Holes):
             self.session.polygon(geojson('Polygon', [[(0, 0), (9, 0), (0, 9), (0, 0)], [(1, 1), (2, 1), (1, 2), (1, 1)]]))
         with self.assertRaises(geo.Few):
@@ -324,12 +340,12 @@ class Shapes(unittest.TestCase):
                 self.session.polygon(other)
 
     @unittest.skipIf(numpy is None, 'without NumPy')
-    def test_numpy(self):
+    def test_numpy(self) -> None:
         for kind in 'int16', 'int64', 'float32', 'float64':
             self.ask(numpy.array(L, kind), numpy.array((2, 3), kind), numpy.array([(4, 2), (2, 4), (0, 0)], kind))
 
     @unittest.skipIf(shapely is None, 'without Shapely')
-    def test_shapely(self):
+    def test_shapely(self) -> None:
         for ring in shapely.Polygon(L), shapely.LinearRing(L):
             self.ask(ring, shapely.Point(2, 3), shapely.LineString([(4, 2), (2, 4), (0, 0)]))
         self.ask(shapely.Polygon(L), shapely.Point(2, 3), shapely.MultiPoint([(4, 2), (2, 4), (0, 0)]))
@@ -340,11 +356,11 @@ class Shapes(unittest.TestCase):
 
 
 class Threads(unittest.TestCase):
-    def on_another_thread(self, ask, *given):
+    def on_another_thread(self, ask: Callable[..., object], *given: Any) -> List[type]:
         """What is raised there, if anything is."""
         raised = []
 
-        def run():
+        def run() -> None:
             try:
                 ask(*given)
             except Exception as error:
@@ -355,10 +371,10 @@ class Threads(unittest.TestCase):
         thread.join()
         return raised
 
-    def test_each_has_its_own_sessions(self):
+    def test_each_has_its_own_sessions(self) -> None:
         found = {}
 
-        def ask(k):
+        def ask(k: int) -> None:
             with Session(comb(64)) as session:
                 found[k] = [session.path((0, 1), (4 * k, 6 * (k % 2))) for _ in range(100)]
 
@@ -371,17 +387,18 @@ class Threads(unittest.TestCase):
             for k in range(1, 9):
                 self.assertEqual(found[k], 100 * [session.path((0, 1), (4 * k, 6 * (k % 2)))])
 
-    def test_a_session_stays_on_its_thread(self):
+    def test_a_session_stays_on_its_thread(self) -> None:
         session = Session(L)
-        for ask, *given in (session.guards,), (session.inside, (1, 1)), (session.path, (1, 1), (2, 2)), (session.close,):
+        asked: List[Any] = [(session.guards,), (session.inside, (1, 1)), (session.path, (1, 1), (2, 2)), (session.close,)]
+        for ask, *given in asked:
             self.assertEqual(self.on_another_thread(ask, *given), [RuntimeError])
         self.assertEqual(session.guards(), [3])
         held = [session]
-        del session, ask, given
+        del session, ask, given, asked
         self.assertEqual(self.on_another_thread(held.clear), [])
         self.assertEqual(self.on_another_thread(geo.answer_script, b'guards'), [])
 
-    def test_sessions_that_are_not_closed(self):
+    def test_sessions_that_are_not_closed(self) -> None:
         for _ in range(100):
             Session(L)
         gc.collect()
@@ -409,7 +426,7 @@ print(session.polygon(low[:2] + [(0, 9)]), session.kernel()[0])
 
 class Memory(unittest.TestCase):
     @unittest.skipUnless(sys.platform == 'linux', 'without /proc')
-    def test_a_process_with_little_memory(self):
+    def test_a_process_with_little_memory(self) -> None:
         ran = subprocess.run([sys.executable, '-c', LITTLE_MEMORY], cwd=HERE, capture_output=True, text=True)
         self.assertEqual((ran.returncode, ran.stderr), (0, ''))
         self.assertEqual(ran.stdout.splitlines(), ["refused b''", 'Place.EDGE 129', 'refused', '3 (Fraction(0, 1), Fraction(0, 1))'])

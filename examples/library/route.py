@@ -1,17 +1,20 @@
 #!/usr/bin/env python3
 """Ways and views in an office, whose floor plan is the GeoJSON file beside this one, in millimetres."""
+from __future__ import annotations
+
 import itertools
 import json
 import math
 import sys
 from pathlib import Path
+from typing import Iterable, Sequence, Tuple
 
 HERE = Path(__file__).resolve().parent
 sys.path.insert(0, str(HERE.parents[1] / 'clients' / 'python'))
 import geo
 
 
-def main():
+def main() -> None:
     features = json.loads((HERE / 'office.geojson').read_text())['features']
     places = {feature['properties']['name']: feature['geometry'] for feature in features}
     with geo.Session(places.pop('floor')) as office:
@@ -41,13 +44,13 @@ def main():
             print('\nInto the wall:', refused)
 
 
-def way(path):
+def way(path: Sequence[Tuple[int, int]]) -> str:
     """A path and its length, which alone is rounded."""
     length = sum(math.dist(a, b) for a, b in zip(path, path[1:]))
     return f'{length / 1000:.2f} m, ' + ' '.join(map(exact, path))
 
 
-def exact(point):
+def exact(point: Iterable[object]) -> str:
     return '({}, {})'.format(*point)
 
 

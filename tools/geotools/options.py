@@ -5,7 +5,7 @@ import argparse
 import re
 from typing import Any, NoReturn, Optional, Sequence, Union
 
-from .fault import Fault
+from .fault import Fault, put
 
 
 class Parser(argparse.ArgumentParser):
@@ -17,6 +17,9 @@ class Parser(argparse.ArgumentParser):
 
     def error(self, message: str) -> NoReturn:
         raise Fault(message.replace('argument --', '--', 1), 2)
+
+    def print_help(self, file: Any = None) -> None:
+        put(self.format_help())
 
     def option(self, name: str, **how: Any) -> None:
         """Adds an option that is given once at most."""

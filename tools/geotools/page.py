@@ -63,6 +63,13 @@ class Page:
             last = rest[-1] if rest else first
         return f'<path class="{kind}" d="{drawn}" stroke="{colour}"{more}/>'
 
+    def net(self, kind: str, parts: Sequence[Sequence[Point]], colour: str, most: float) -> str:
+        """Many lines as one, so fine that they leave what is under them to be seen."""
+        long = sum(math.dist((self.x(a[0]), self.y(a[1])), (self.x(b[0]), self.y(b[1]))) for a, b in parts)
+        room = 0.2 * float(self.wide * self.high * self.scale * self.scale)
+        fine = max(0.01, room / long) if long else most
+        return self.lines(kind, parts, colour, f' style="stroke-width: {fine:.2g}"' if fine < most else '')
+
     def dots(self, points: Sequence[Point], colour: str, radius: float) -> list[str]:
         """Many small dots."""
         at = [f'<circle cx="{short(self.x(x))}" cy="{short(self.y(y))}" r="{short(radius)}"/>' for x, y in points]

@@ -18,6 +18,7 @@ from .view import view
 COLOURS = ('#0072b2', '#d55e00', '#009e73', '#cc79a7', '#e69f00', '#56b4e9', '#8c6d31')
 NUMBERED = 60  # the most vertices that are numbered
 APART = 14  # between a polygon with numbers and its axes
+BELOW = {'geo': 0, 'polygon': 0, 'tree': 1, 'sights': 1, 'see': 2, 'kernel': 2, 'hull': 3}  # what is drawn first; the rest is drawn as 4
 FINE = 300  # from so many vertices on the outline is a fine line
 
 
@@ -133,7 +134,7 @@ def draw_tree(it: About, panel: Panel, page: Page, colour: str) -> list[str]:
     source = it.row.points[0]
     ends = [(panel.ring[i], line[2]) for i, line in enumerate(it.row.lines[1:])]
     ways = [[p, source if before == 's' else panel.ring[int(before)]] for p, before in ends if before != '-']
-    return [page.lines('branch', ways, colour), page.dot(source, colour, True)]
+    return [page.net('branch', ways, colour, 1.2), page.dot(source, colour, True)]
 
 
 def draw_view(it: About, panel: Panel, page: Page, colour: str) -> list[str]:
@@ -171,7 +172,7 @@ def draw_guards(it: About, panel: Panel, page: Page, colour: str) -> list[str]:
 
 
 def draw_sights(it: About, panel: Panel, page: Page, colour: str) -> list[str]:
-    return [page.lines('sight', [[panel.ring[int(i)], panel.ring[int(j)]] for _, i, j in it.row.lines[1:]], colour)]
+    return [page.net('sight', [[panel.ring[int(i)], panel.ring[int(j)]] for _, i, j in it.row.lines[1:]], colour, 0.6)]
 
 
 DRAW: dict[str, Draw] = {
@@ -201,7 +202,8 @@ def picture_of(found: Sequence[About], saved: Optional[Saved]) -> str:
         page.left, page.top = left, top + GAP / 2
         colours = ['#444' if it.row.word in ('geo', 'polygon') else COLOURS[k % len(COLOURS)] for k, it in enumerate(panel.rows, -1)]
         lines, long, high = legend(panel.rows, colours, title(panel), frame)
-        shapes = [shape for it, colour in zip(panel.rows, colours) for shape in drawn(it, panel, page, colour)]
+        layers = sorted(zip(panel.rows, colours), key=lambda layer: BELOW.get(layer[0].row.word, 4))
+        shapes = [shape for it, colour in layers for shape in drawn(it, panel, page, colour)]
         body += (page.axes() if panel.ring else []) + shapes + (numbers(panel, page) if panel.ring else [])
         body += [f'<g transform="translate({short(beside)} {short(top)})">', *lines, '</g>']
         widest = max(widest, long)

@@ -10,10 +10,12 @@ from pathlib import Path
 from tempfile import TemporaryDirectory
 from typing import Any, Optional, Sequence, Tuple
 
-from .common import PROGRAM, WITHOUT, Word, run
+from .common import PROGRAM, TOP, WITHOUT, Word, run
 from geotools import frame, saved, script
-from geotools.chain import loops_of
-from geotools.exact import Point
+from geotools.about import abouts
+from geotools.chain import chains, loops_of
+from geotools.exact import Point, nearest
+from geotools.features import TYPES, Features
 from geotools.outline import Outline
 from geotools.view import View, along, on_one_ray, turn, view
 
@@ -194,6 +196,27 @@ class AskedViews(unittest.TestCase):
             for viewpoint, _, found in self.seen(ring):
                 shape = shapely.Polygon([(float(x), float(y)) for x, y in found.corners])
                 self.assertTrue(shape.is_valid and shape.area > 0, (name, viewpoint))
+
+
+@unittest.skipUnless(PROGRAM, WITHOUT)
+@unittest.skipIf(shapely is None, 'without Shapely')
+class Valid(unittest.TestCase):
+    """All answers to all examples, and those of one kind, which have one type of geometry."""
+
+    def test_shapely_calls_all_answers_valid(self) -> None:
+        unit = saved.Saved(frame.Frame(Fraction(0), Fraction(0), Fraction(1)))
+        for example in sorted((TOP / 'examples').glob('*.stdout')):
+            asked, kept = example.with_suffix(''), example.with_suffix('.frame')
+            if not asked.exists():
+                continue
+            answered = script.paired(asked.read_bytes(), example.read_bytes())
+            found = abouts(answered, saved.load(str(kept)) if kept.exists() else unit)
+            made = Features(saved.load(str(kept)) if kept.exists() else unit, chains(found, script.version(answered), PROGRAM), nearest)
+            for only in [None, *sorted({it.row.word for it in found} & set(TYPES))]:
+                for it in json.loads(made.collection(found, only))['features']:
+                    shape = shapely.shape(it['geometry']) if it['geometry'] else None
+                    self.assertTrue(shape is None or shape.is_valid and not shape.is_empty, (example.stem, it['properties']))
+                    self.assertTrue(shape is None or only is None or shape.geom_type == TYPES[only], (example.stem, it['properties']))
 
 
 def twice_the_area(ring: Sequence[Point]) -> Fraction:
