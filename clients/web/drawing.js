@@ -224,10 +224,11 @@ export function drawGrid(view) {
   return path('grid', way) + `<g class="axis">${texts.join('')}</g>`;
 }
 
-/** The points that can be moved, the one that is held, and the pen of the keyboard. @param {View} view @param {Point[]} points
- *  @param {number | null} held @param {Point | null} pen */
-export function drawHandles(view, points, held, pen) {
-  const ring = held !== null && points[held] ? dots(view, 'halo', [points[held]]) : '';
+/** The point that is held, the pen of the keyboard, and the next edge of a drawing. @param {View} view @param {Point[]} points
+ *  @param {number | null} held @param {Point | null} pen @param {Point[]} next */
+export function drawHandles(view, points, held, pen, next) {
+  const halo = held !== null && points[held] ? dots(view, 'halo', [points[held]]) : '';
+  const ring = halo + (next.length ? path('closing', chain(view, next)) : '');
   if (!pen) return ring;
   const [x, y] = view.place(pen);
   return ring + path('pen', `M${x - 11} ${y}h8M${x + 3} ${y}h8M${x} ${y - 11}v8M${x} ${y + 3}v8`);
