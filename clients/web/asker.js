@@ -75,16 +75,21 @@ export class Asker {
     if (this.isBusy || this.isGone) return;
     this.isBusy = true;
     try {
-      while (this.known() < this.wanted.length) await this.ask();
-      if (this.answered.length > this.wanted.length) {
-        this.answered = this.answered.slice(0, this.wanted.length);
-        this.changed();
+      while (this.known() < this.wanted.length || this.answered.length > this.wanted.length) {
+        if (this.known() < this.wanted.length) await this.ask();
+        else this.cut();
       }
     } catch (error) {
       this.fail(error);
     } finally {
       this.isBusy = false;
     }
+  }
+
+  /** Leaves away what is not wanted any more. */
+  cut() {
+    this.answered = this.answered.slice(0, this.wanted.length);
+    this.changed();
   }
 
   /** Asks the next piece. */

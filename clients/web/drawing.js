@@ -6,6 +6,7 @@ import {isRefused, pairs, pointsOf} from './records.js';
 /** @typedef {import('./view.js').View} View */
 
 const COLOURS = 7;
+const OF_RING = new Set(['polygon', 'tree', 'guards', 'sights']); // answers that are drawn with vertices by their numbers
 const MOST_DOTS = 400; // vertices in sight that are drawn as dots
 const MOST_NUMBERS = 60; // vertices that have their numbers beside them
 /** The most pairs of vertices that are drawn. */
@@ -15,6 +16,12 @@ export const MOST_LINES = 20000;
 
 /** @param {View} view @param {Point[]} points */
 const chain = (view, points) => `M${points.map((point) => view.at(point)).join('L')}`;
+/** The same in whole pixels, which is sooner written and drawn. @param {View} view @param {Point[]} points */
+function coarse(view, points) {
+  let way = 'M';
+  for (const [x, y] of points) way += `${Math.round((x - view.left) * view.scale)} ${Math.round((view.top - y) * view.scale)}L`;
+  return way.slice(0, -1);
+}
 /** @param {View} view @param {Point[][]} lines */
 const lines = (view, lines) => lines.map((line) => chain(view, line)).join('');
 /** @param {string} kind @param {string} way */
@@ -40,7 +47,7 @@ export class Shown {
   /** @param {Element} layer */
   constructor(layer) {
     this.layer = layer;
-    /** @type {{lines: string[], colour: number, group: Element}[]} */
+    /** @type {{lines: string[], ring: Point[], colour: number, group: Element}[]} */
     this.groups = [];
     this.key = [];
   }
@@ -48,7 +55,7 @@ export class Shown {
   /** The answers to all that was asked of a polygon. Guards stand on what they see. @param {View} view @param {Answered[]} answered
    *  @param {Point[]} ring @param {1 | 2} version */
   render(view, answered, ring, version) {
-    const key = [view.left, view.top, view.scale, ring, version];
+    const key = [view.left, view.top, view.scale, version];
     if (key.some((value, k) => value !== this.key[k])) this.cut(0);
     this.key = key;
     let count = 0;
@@ -62,13 +69,14 @@ export class Shown {
   /** @param {Page} page @param {Answered} answered @param {number} colour @param {number} k */
   put(page, answered, colour, k) {
     const last = this.groups[k];
-    if (last?.lines === answered.lines && last.colour === colour) return;
+    const isSame = last?.lines === answered.lines && last.colour === colour;
+    if (isSame && (last.ring === page.ring || !OF_RING.has(answered.row[0]))) return;
     const group = last?.group ?? document.createElementNS('http://www.w3.org/2000/svg', 'g');
     const word = answered.row[0];
     group.setAttribute('class', colour < 0 ? 'wrong' : `c${colour} ${word}`);
     group.innerHTML = colour >= 0 ? DRAWN[word](page, answered) : isRefused(answered.lines) ? drawRefusal(page, answered) : '';
     if (!last) this.layer.append(group);
-    this.groups[k] = {lines: answered.lines, colour, group};
+    this.groups[k] = {lines: answered.lines, ring: page.ring, colour, group};
   }
 
   /** Takes the groups from a place on away. @param {number} count */
@@ -118,7 +126,7 @@ function drawTree({view, ring}, {row, lines: told}) {
     const before = told[k].slice(told[k].lastIndexOf(',') + 1);
     if (before !== '-') branches.push([ring[k - 1], before === 's' ? source : ring[Number(before)]]);
   }
-  return path('branch', lines(view, branches)) + dots(view, 'dot', [source]) + dots(view, 'hole', [source]);
+  return path(branches.length > MOST_DOTS ? 'branch many' : 'branch', lines(view, branches)) + dots(view, 'dot', [source]) + dots(view, 'hole', [source]);
 }
 
 /** What is seen. The parts follow each other round the viewpoint, so their ends in order go round all that is seen.
@@ -184,7 +192,7 @@ function drawList({view}, {row, lines: [line]}) {
  *  @param {View} view @param {import('./state.js').Panel} panel @param {boolean} isDrawing */
 export function drawRing(view, {ring, closed}, isDrawing) {
   if (!ring.length) return '';
-  const way = chain(view, ring);
+  const way = ring.length > MOST_DOTS ? coarse(view, ring) : chain(view, ring);
   const closing = ring.length > 2 ? path('closing', chain(view, [ring[ring.length - 1], ring[0]])) : '';
   const shape = closed ? path(ring.length > MOST_DOTS ? 'ring many' : 'ring', `${way}Z`) : path('ring open', way) + closing;
   const inSight = ring.filter((point) => view.hasInSight(point));
@@ -224,10 +232,11 @@ export function drawGrid(view) {
   return path('grid', way) + `<g class="axis">${texts.join('')}</g>`;
 }
 
-/** The points that can be moved, the one that is held, and the pen of the keyboard. @param {View} view @param {Point[]} points
- *  @param {number | null} held @param {Point | null} pen */
-export function drawHandles(view, points, held, pen) {
-  const ring = held !== null && points[held] ? dots(view, 'halo', [points[held]]) : '';
+/** The point that is held, the pen of the keyboard, and the next edge of a drawing. @param {View} view @param {Point[]} points
+ *  @param {number | null} held @param {Point | null} pen @param {Point[]} next */
+export function drawHandles(view, points, held, pen, next) {
+  const halo = held !== null && points[held] ? dots(view, 'halo', [points[held]]) : '';
+  const ring = halo + (next.length ? path('closing', chain(view, next)) : '');
   if (!pen) return ring;
   const [x, y] = view.place(pen);
   return ring + path('pen', `M${x - 11} ${y}h8M${x + 3} ${y}h8M${x} ${y - 11}v8M${x} ${y + 3}v8`);

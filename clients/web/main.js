@@ -162,15 +162,24 @@ export class App {
     this.countDrawn = count;
     this.renderBase();
     const {ring} = panel(state);
-    this.shown.render(this.view, this.isOfRing() ? answered : [], ring, state.version);
-    const marks = drawHandles(this.view, handles(state), this.ui.held, this.ui.pen);
-    if (marks !== this.marks) by('handles').innerHTML = this.marks = marks;
+    this.shown.render(this.view, this.isOfRing() && !this.isOnlyOpen() ? answered : [], ring, state.version);
+    this.renderHandles();
     this.points.render();
     this.table.render();
     this.menu.render();
     show('hint', hint(state));
     this.renderPlace();
     this.renderSaid();
+  }
+
+  /** What shows where the mouse and the keyboard are. */
+  renderHandles() {
+    const {store: {state}, ui: {held, pen, hover}} = this;
+    const {ring, closed} = panel(state);
+    const next = state.drawing && !closed && ring.length && hover ? [ring[ring.length - 1], hover] : [];
+    const marks = drawHandles(this.view, handles(state), held, pen, next);
+    if (marks !== this.marks) by('handles').innerHTML = marks;
+    this.marks = marks;
   }
 
   /** The grid and the polygon are drawn anew only where they changed. */
@@ -196,6 +205,14 @@ export class App {
     return !asked || asked.row.length === 1 + 2 * panel(this.store.state).ring.length;
   }
 
+  /** Whether nothing is wrong but the edge that would close the drawing now. */
+  isOnlyOpen() {
+    const {ring, closed} = panel(this.store.state);
+    const polygon = this.asker.answered.find(({row}) => row[0] === 'polygon');
+    const [word, cause, , edge] = polygon?.lines[0].split(',') ?? [];
+    return !closed && word === 'bad' && cause === 'clash' && Number(edge) === ring.length - 1;
+  }
+
   /** The answer in plain words, and aloud once it rests. */
   renderSaid() {
     const {state} = this.store;
@@ -211,6 +228,7 @@ export class App {
     const {state} = this.store;
     const {answered} = this.asker;
     if (this.asker.known() < this.asker.wanted.length && !answered.length) return {text: '…', refused: false};
+    if (this.isOnlyOpen()) return {text: hint(state), refused: false};
     const polygon = answered.find(({row}) => row[0] === 'polygon');
     if (polygon?.lines[0].startsWith('bad,')) return {text: say(polygon, state.version), refused: true};
     const now = answered.slice(head(state).length + panel(state).kept.length);

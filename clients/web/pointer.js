@@ -128,7 +128,8 @@ export class Pointer {
     const {store: {state}, ui, view} = this.app;
     this.canvas.classList.toggle('over', handleAt(state, view, px, py, 11) !== null);
     const {question} = state;
-    const follows = !state.drawing && (question === 'tree' || (question === 'path' && pointsNow(state).length === 1));
+    const isOpen = state.drawing && !panel(state).closed;
+    const follows = isOpen || (!state.drawing && (question === 'tree' || (question === 'path' && pointsNow(state).length === 1)));
     if (!follows || (ui.hover && ui.hover[0] === point[0] && ui.hover[1] === point[1])) return;
     ui.hover = point;
     this.app.ask();

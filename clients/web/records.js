@@ -29,7 +29,11 @@ function quoted(field) {
 export const script = (rows) => rows.map((row) => `${text(row)}\n`).join('');
 
 /** A record of points. @param {string} word @param {Point[]} points @returns {Row} */
-export const asking = (word, points = []) => [word, ...points.flat().map(String)];
+export function asking(word, points = []) {
+  const row = [word, ...points.flat().map(String)];
+  texts.set(row, row.join(','));
+  return row;
+}
 
 /** The points of a record, where its fields are whole numbers in pairs. @param {Row} row @returns {Point[] | null} */
 export function pointsOf(row) {

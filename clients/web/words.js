@@ -18,9 +18,10 @@ const counted = (count, one, many = `${one}s`) => (count === 1 ? `one ${one}` : 
 
 /** @param {string[]} fields @param {number} most */
 function points(fields, most = 6) {
-  const all = [];
-  for (let k = 0; k + 1 < fields.length; k += 2) all.push(`(${fields[k]},\u00a0${fields[k + 1]})`);
-  return all.length > most ? `${all.slice(0, most - 1).join(' → ')} → … → ${all[all.length - 1]}` : all.join(' → ');
+  const count = fields.length >> 1;
+  const point = (/** @type {number} */ k) => `(${fields[2 * k]},\u00a0${fields[2 * k + 1]})`;
+  if (count <= most) return Array.from({length: count}, (_, k) => point(k)).join(' → ');
+  return [...Array.from({length: most - 1}, (_, k) => point(k)), '…', point(count - 1)].join(' → ');
 }
 
 /** @param {string[]} fields */

@@ -3,10 +3,10 @@
 
     clients/web/test/speed.py [--seconds N] [--sizes 1000,4096] [--program FILE]
 
-In the column `mouse` the mouse is moved by the browser's protocol, as by a hand: Chromium then tells its page of one move in a frame, so there
-are at most some 60 answers in a second. In the column `flood` the page is told of moves without a pause; it draws
-once in a frame, so that this has the same bound. What comes while a question is on its way is passed over, but for the newest. `waiting` is the greatest number of questions that were on their
-way at once. The answer at the end is compared with that of a new session.
+In the column `mouse` the mouse is moved by the browser's protocol, as by a hand; in the column `flood` the page is told of moves without a
+pause. The page draws once in a frame, so there are at most 60 answers in a second. What comes while a question is on its way is passed over,
+but for the newest: `waiting` is the greatest number of questions that were on their way at once. The answers at the end are compared with
+those of a new session.
 """
 from __future__ import annotations
 
@@ -144,7 +144,8 @@ def main() -> None:
                 mouse, flood = Drag(page, ring, tool).run(chosen.seconds)
                 waiting = page.evaluate('globalThis.most')
                 right = '' if is_right(page, make) else '  WRONG'
-                print(f'{name:10}{len(ring):9,}  {tool:8}{mouse:8.0f}{"" if math.isnan(flood) else format(flood, ".0f"):>8}{waiting:9}{right}', flush=True)
+                fast = '' if math.isnan(flood) else f'{flood:.0f}'
+                print(f'{name:10}{len(ring):9,}  {tool:8}{mouse:8.0f}{fast:>8}{waiting:9}{right}', flush=True)
     browser.close()
     served.shutdown()
 

@@ -271,6 +271,7 @@ class Tools(Opened):
     def test_guards_are_shown_with_what_each_sees(self) -> None:
         self.page.pick('#examples', 'guards')
         self.page.until('app.store.state.panels.length === 4')
+        self.settle()
         self.page.pick('#polygons', '3')
         self.tool('guards')
         self.page.until("app.asker.answered.filter(({row}) => row[0] === 'see').length === 3")
@@ -347,6 +348,7 @@ class Planner(Opened):
                 self.assertEqual(self.page.evaluate('app.store.state.panels[0].ring.length'), count)
                 self.is_right() if name == 'room.wkt' else None
         self.assertEqual(self.page.evaluate('[app.store.state.version, app.store.state.panels.length]'), [2, 2])
+        self.settle()
         self.page.pick('#polygons', '1')
         self.tool('kernel')
         self.assertEqual(self.script(), 'geo,2\npolygon,0,0,4,0,0,4\ninside,1,1\npolygon,0,0,4,0,4,4\nkernel\n')
@@ -477,6 +479,7 @@ class Looks(Opened):
     def test_nothing_is_wider_than_a_phone(self) -> None:
         self.page.pick('#examples', 'trees')
         self.page.until('app.store.state.panels.length === 3')
+        self.settle()
         for width in 400, 340:
             self.page.size(width, 800)
             self.page.until(f"document.getElementById('canvas').clientWidth === {width}")
