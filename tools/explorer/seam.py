@@ -15,6 +15,7 @@ TOOLS = Path(__file__).resolve().parents[1]
 SECONDS = 60  # the most that a tool may take
 
 _script: Any = importlib.import_module('geotools.script')
+_fault: Any = importlib.import_module('geotools.fault')
 
 Record = List[str]
 
@@ -27,8 +28,8 @@ def records(script: bytes) -> List[Record]:
     """The records of a script."""
     try:
         return [list(record) for record in _script.records(script)]
-    except (csv.Error, ValueError, SystemExit) as error:
-        raise NotRead(f'this script cannot be read: {error}') from None
+    except _fault.Fault as error:
+        raise NotRead(str(error)) from None
 
 
 def paired(script: bytes, answers: bytes) -> List[Tuple[Record, List[bytes]]]:
