@@ -103,6 +103,16 @@ def places(text, page, block):
     return sources.files_that_define(name) if NAME.fullmatch(name) else []
 
 
+def has_part(owner, name):
+    """Whether some file that names the owner defines a function of this name, or, of a variant or a constant, has it."""
+    defined = re.compile(rf"\b(?:fn|def) {name}\b")
+    for it in sources.files():
+        words = sources.words_of_code(it)
+        if owner in words and name in words and (name[0].isupper() or defined.search(sources.text(it))):
+            return True
+    return False
+
+
 def wrong(span, page):
     """Returns what is wrong with a span, if anything."""
     text = span.text
@@ -115,7 +125,7 @@ def wrong(span, page):
         if name:
             return f"no code has the name {name} of `{text}`"
         parts = text.split("(")[0].split("::")
-        if len(parts) > 1 and not any(parts[-2] in sources.words_of_code(it) and parts[-1] in sources.words_of_code(it) for it in sources.files()):
+        if len(parts) > 1 and parts[0] not in OTHERS and not has_part(parts[-2], parts[-1]):
             return f"no file has both parts of `{text}`"
         where = of_what(span.after)
         last = NAME.findall(text.split("(")[0])
