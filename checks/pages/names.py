@@ -113,6 +113,14 @@ def has_part(owner, name):
     return False
 
 
+def has_name(path, name):
+    """Whether a file of code has this as the name of something of its own: not where it is only cited."""
+    if name not in sources.words(path):
+        return False
+    own = rf"\b(?:fn|struct|enum|trait|record|data|const|static|def|class|type|mod|abbrev|pub|ensures|requires) {name}\b|^\s*{name}\s*[:,({{]"
+    return re.search(own, sources.text(path), re.M) is not None
+
+
 def wrong(span, page):
     """Returns what is wrong with a span, if anything."""
     text = span.text
@@ -131,7 +139,8 @@ def wrong(span, page):
         last = NAME.findall(text.split("(")[0])
         if where and last and text not in sources.crates():
             found = places(where, page, span.block)
-            if found and not any(last[-1] in sources.words(it) or it.stem == last[-1] or last[-1] in it.parts for it in found):
+            if found and not any(has_name(it, last[-1]) if where in sources.crates() else last[-1] in sources.words(it) for it in found) \
+                    and not any(it.stem == last[-1] or last[-1] in it.parts for it in found):
                 return f"`{text}` is not in `{where}`"
         return None
     if not re.match(r"rt ", text):
