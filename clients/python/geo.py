@@ -205,10 +205,10 @@ class TooLong(ValueError):
 
 
 class GeoMemoryError(MemoryError):
-    """The library was refused memory. `answered` is the text of the answers to some first records."""
+    """The library wanted memory. `answered` is the text of the answers to some first records."""
 
     def __init__(self, answered: bytes = b''):
-        super().__init__('the library was refused memory')
+        super().__init__('the library wanted memory')
         self.answered = answered
 
 
@@ -321,7 +321,11 @@ class Session:
         return ((int(i), int(j)) for i, j in self._rows('sights'))
 
     def answer(self, records: Union[str, bytes]) -> bytes:
-        """The text of the answers to some records, as the program `geo` would answer them next. A refusal is a line of it."""
+        """The text of the answers to some records, as the program `geo` would answer them next. A refusal is a line of it.
+
+        Where each text ends with the line end of a record, the answers to the texts are those to the script that they are together:
+        a byte order mark is dropped at the front of all that a session is asked, and text at that of a later one.
+        """
         script = _bytes(records)
         needed = ctypes.c_size_t()
         handle = self._open()

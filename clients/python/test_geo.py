@@ -133,10 +133,15 @@ class Examples(unittest.TestCase):
 
     def test_pieces(self):
         for example in EXAMPLES:
-            pieces = example.read_bytes().removeprefix(b'\xef\xbb\xbf').splitlines()
+            pieces = example.read_bytes().splitlines(keepends=True)
             with self.subTest(example.name), Session() as session:
                 self.assertEqual(b''.join(map(session.answer, pieces)), example.with_suffix('.stdout').read_bytes())
 
+    def test_a_mark_is_dropped_at_the_very_front_alone(self):
+        record = '\ufeffkernel\n'
+        self.assertEqual(geo.answer_script(2 * record), b'bad,no_polygon\nbad,word\n')
+        with Session() as session:
+            self.assertEqual([session.answer(record), session.answer(record)], [b'bad,no_polygon\n', b'bad,word\n'])
 
     def test_the_worked_example(self):
         folder = TOP / 'examples/library'

@@ -21,7 +21,7 @@ extern "C" {
 enum {
     GEO_OK = 0,
     GEO_TOO_LONG = 3,    /* the script or the piece has more than 8,388,608 bytes; nothing has changed */
-    GEO_MEMORY = 5,      /* an allocation was refused */
+    GEO_MEMORY = 5,      /* memory was wanted */
     GEO_NO_POLYGON = 16, /* bad,no_polygon: none was accepted yet */
     GEO_NO_TREE = 17,    /* bad,no_tree: there is a polygon, and no tree in it yet */
     GEO_OUTSIDE_1 = 21,  /* bad,outside,p: point p, counted from 1, is the first that is not in the polygon */
@@ -51,8 +51,10 @@ typedef struct GeoSession {
 uint8_t geo_answer_script(const uint8_t *script, size_t script_length, uint8_t *out, size_t out_length, size_t *needed);
 
 /* Answers the next piece of a session's script: whole records, one or many. The first piece that has a record says of which
-   version the script is. The session keeps the text of the answers until the next piece; *needed is its length. On GEO_MEMORY
-   some first records of the piece are answered, and the text is their answers, each whole. */
+   version the script is, and a byte order mark is dropped at the front of the first piece that has a byte alone. Where each piece
+   ends with the line end of a record, the answers are those to the script that the pieces are together. The session keeps the
+   text of the answers until the next piece; *needed is its length. On GEO_MEMORY some first records of the piece are answered,
+   and the text is their answers, each whole. */
 uint8_t geo_session_answer(GeoSession *session, const uint8_t *piece, size_t piece_length, size_t *needed);
 
 /* Copies the front of the text of the last answers, as much as fits; `out` is as before after that. */

@@ -1,4 +1,5 @@
 mod Crossed
 mod Filling
 mod Handles
+mod Together
 mod Values

@@ -1,11 +1,12 @@
 //! What the exports ask a handle, with a counter of steps that nobody else counts in.
-ghost use Rattle.std.specs.Prelude.{◌≡◌, ◌+◌, ◌<◌, ◌≤◌, ◌↔◌, [], ◌∷◌, Err, IfOk, OnOk, false, length};
+ghost use Rattle.std.specs.Prelude.{◌≡◌, ◌+◌, ◌<◌, ◌≤◌, ◌↔◌, ℕ, List, [], ◌∷◌, ◌++◌, Err, IfOk, OnOk, false, length};
 ghost use Rattle.plane.specs.declared.limits.TheConstants.{MAX_CORNERS, MAX_SCRIPT};
+ghost use Rattle.geo_text.specs.Records.{AreWhole};
 ghost use Rattle.geo_session.specs.Output.{IsOutput};
 ghost use Rattle.geo_session.specs.Path.{IsReachAnswer, IsShownAnswer};
 ghost use Rattle.geo_session.specs.Place.{IsPlaceAnswer};
 ghost use Rattle.geo_script.specs.Asked.{IsAskedWithin};
-ghost use Rattle.geo_script.specs.Dialog.{AnswersPiece, AnswersSome};
+ghost use Rattle.geo_script.specs.Dialog.{AnswersPiece, AnswersSome, IsTalkOf};
 ghost use Rattle.geo_c.specs.Filled.{filled_by};
 ghost use Rattle.geo_c.specs.Held.{talk_of};
 
@@ -32,6 +33,8 @@ impl GeoSession {
         requires countable { 0 < blank.parts }
         ensures ok { OnOk result (AnswersPiece (talk_of self.old.held) piece.now (talk_of self.new.held)) }
         ensures whole { (talk_of self.old.held).begun ≡ false → OnOk result (IsOutput piece.now (talk_of self.new.held).text) }
+        ensures together { OnOk result ((earlier text : List ℕ) → IsTalkOf earlier text (talk_of self.old.held) → AreWhole earlier
+            → IsTalkOf (earlier ++ piece.now) (text ++ (talk_of self.new.held).text) (talk_of self.new.held)) }
         ensures too_long { (result ≡ Err Stop.TooLong) ↔ (MAX_SCRIPT < length piece.now) }
         ensures same { result ≡ Err Stop.TooLong → self.new.held ≡ self.old.held }
         ensures memory { result ≡ Err Stop.Memory → AnswersSome (talk_of self.old.held) piece.now (talk_of self.new.held) }

@@ -1,8 +1,9 @@
 //! The calls on a handle.
-ghost use Rattle.std.specs.Prelude.{◌≡◌, ◌≢◌, ◌+◌, ◌<◌, ◌≤◌, ◌↔◌, ◌⊎◌, None, OnErr, false, length};
+ghost use Rattle.std.specs.Prelude.{◌≡◌, ◌≢◌, ◌+◌, ◌<◌, ◌≤◌, ◌↔◌, ◌⊎◌, ℕ, List, ◌++◌, None, OnErr, false, length};
 ghost use Rattle.plane.specs.declared.limits.TheConstants.{MAX_CORNERS, MAX_SCRIPT};
+ghost use Rattle.geo_text.specs.Records.{AreWhole};
 ghost use Rattle.geo_session.specs.Output.{IsOutput};
-ghost use Rattle.geo_script.specs.Dialog.{AnswersPiece, AnswersSome};
+ghost use Rattle.geo_script.specs.Dialog.{AnswersPiece, AnswersSome, IsTalkOf};
 ghost use Rattle.geo_c.specs.Filled.{filled_by};
 ghost use Rattle.geo_c.specs.Held.{talk_of};
 ghost use Rattle.geo_c.specs.Told.{ArePointsGiven, IsPlaceGiven, TellsPath, TellsPlace, TellsReach};
@@ -31,6 +32,9 @@ pub extern "C" fn geo_session_answer(
     ensures ok { result ≡ OK → AnswersPiece (talk_of session.old.held) piece.now (talk_of session.new.held) }
     // The answers to the first piece are those to the script that it is.
     ensures whole { (talk_of session.old.held).begun ≡ false → result ≡ OK → IsOutput piece.now (talk_of session.new.held).text }
+    // Where the pieces before end at the end of a record, the answers to all pieces are those to the script that they are together.
+    ensures together { result ≡ OK → (earlier text : List ℕ) → IsTalkOf earlier text (talk_of session.old.held) → AreWhole earlier
+        → IsTalkOf (earlier ++ piece.now) (text ++ (talk_of session.new.held).text) (talk_of session.new.held) }
     ensures too_long { (result ≡ TOO_LONG) ↔ (MAX_SCRIPT < length piece.now) }
     ensures same { result ≡ TOO_LONG → (session.new.held ≡ session.old.held) × (needed.new ≡ needed.old) }
     ensures memory { result ≡ MEMORY → AnswersSome (talk_of session.old.held) piece.now (talk_of session.new.held) }

@@ -12,7 +12,7 @@ pub(crate) const OK: u8 = 0;
 /// A script or a piece has more than `MAX_SCRIPT` bytes. Nothing has changed.
 pub(crate) const TOO_LONG: u8 = 3;
 
-/// An allocation was refused.
+/// Memory was wanted.
 pub(crate) const MEMORY: u8 = 5;
 
 /// A refusal that no question in whole numbers gets.

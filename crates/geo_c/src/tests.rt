@@ -97,6 +97,13 @@ fn a_session(rt: HostRuntime) -> Result<(), Fail> {
     );
     assert_eq!(rt; needed, 3);
     check(&rt, &points, [(1, 4), (2, 2), (1, 4), (7, 7)]);
+    assert_eq!(rt;
+        geo_session_answer(alloc, &mut session, b"\xEF\xBB\xBFkernel\n", &mut needed),
+        OK
+    );
+    assert_eq!(rt; needed, 9);
+    geo_session_text(alloc, &mut session, &mut out);
+    assert_eq!(rt; &out[..9], b"bad,word\n".as_slice());
     geo_session_clear(alloc, &mut session);
     assert_eq!(rt;
         geo_session_reach(alloc, &mut session, 4, 1, &mut points, &mut needed),

@@ -35,7 +35,7 @@ pub enum ReadEnd {
     Fault,
     /// The source gave more bytes than the limit.
     TooLong,
-    /// An allocation was refused.
+    /// Memory was wanted.
     Memory,
 }
 

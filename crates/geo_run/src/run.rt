@@ -31,9 +31,9 @@ pub enum RunFault {
     ReadFault,
     /// The source gave more than `MAX_SCRIPT` bytes. Nothing is written.
     TooLong,
-    /// The sink failed. The answers to the records before were written, and maybe the front of one more.
+    /// The sink failed. The answers to some first records were written, and maybe the front of one more.
     WriteFault,
-    /// An allocation was refused. The answers to the records before were written.
+    /// Memory was wanted. The answers to some first records were written, each whole, or nothing.
     Memory,
 }
 

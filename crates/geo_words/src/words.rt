@@ -24,7 +24,7 @@ pub enum Asked {
 pub enum WordsFault {
     /// They ask for nothing.
     Usage,
-    /// An allocation was refused.
+    /// Memory was wanted.
     Memory,
 }
 
