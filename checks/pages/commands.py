@@ -19,7 +19,7 @@ BUILTIN = {"cd", "echo", "for", "exit"}
 BUILT = re.compile(r"(crates/[a-z_]+/out/[A-Za-z0-9_./]+)")
 # what asks the toolchain or a compiler, or runs one of the repository's own checks
 HEAVY = re.compile(r"\brt (?!version|doc|--help)|\brt$|\.ci/run|\b(checks|bench|clients)/|\bunittest\b|\bcc -|examples/library/|^\./|tools/explore")
-SECONDS = 10
+SECONDS = 60
 
 
 class Line:

@@ -103,6 +103,24 @@ def places(text, page, block):
     return sources.files_that_define(name) if NAME.fullmatch(name) else []
 
 
+def has_part(owner, name):
+    """Whether some file that names the owner defines a function of this name, or, of a variant or a constant, has it."""
+    defined = re.compile(rf"\b(?:fn|def) {name}\b")
+    for it in sources.files():
+        words = sources.words_of_code(it)
+        if owner in words and name in words and (name[0].isupper() or defined.search(sources.text(it))):
+            return True
+    return False
+
+
+def has_name(path, name):
+    """Whether a file of code has this as the name of something of its own: not where it is only cited."""
+    if name not in sources.words(path):
+        return False
+    own = rf"\b(?:fn|struct|enum|trait|record|data|const|static|def|class|type|mod|abbrev|pub|ensures|requires) {name}\b|^\s*{name}\s*[:,({{]"
+    return re.search(own, sources.text(path), re.M) is not None
+
+
 def wrong(span, page):
     """Returns what is wrong with a span, if anything."""
     text = span.text
@@ -115,13 +133,14 @@ def wrong(span, page):
         if name:
             return f"no code has the name {name} of `{text}`"
         parts = text.split("(")[0].split("::")
-        if len(parts) > 1 and not any(parts[-2] in sources.words_of_code(it) and parts[-1] in sources.words_of_code(it) for it in sources.files()):
+        if len(parts) > 1 and parts[0] not in OTHERS and not has_part(parts[-2], parts[-1]):
             return f"no file has both parts of `{text}`"
         where = of_what(span.after)
         last = NAME.findall(text.split("(")[0])
         if where and last and text not in sources.crates():
             found = places(where, page, span.block)
-            if found and not any(last[-1] in sources.words(it) or it.stem == last[-1] or last[-1] in it.parts for it in found):
+            if found and not any(has_name(it, last[-1]) if where in sources.crates() else last[-1] in sources.words(it) for it in found) \
+                    and not any(it.stem == last[-1] or last[-1] in it.parts for it in found):
                 return f"`{text}` is not in `{where}`"
         return None
     if not re.match(r"rt ", text):
