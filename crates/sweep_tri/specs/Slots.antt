@@ -1,7 +1,7 @@
--- The gaps that the sweep line meets as they are kept: in slots, with the numbers of the slots of the open ones in order. No public
--- clause cites this module.
+-- The gaps that the sweep line meets as they are kept: in slots, with the numbers of the slots of the open ones in order, and those
+-- of the slots that are free. No public clause cites this module.
 use Rattle.std.specs.List.{All}
-use Rattle.std.specs.Prelude.{◌≢◌, ℕ, ◌<◌, ◌≤◌, List, length, map, slice_index}
+use Rattle.std.specs.Prelude.{◌≡◌, ◌≢◌, ℕ, ◌+◌, ◌<◌, ◌≤◌, List, length, map, slice_index}
 use Rattle.plane.specs.Point.{Point}
 use Rattle.sweep_tri.specs.Frontier.{IsAbove}
 use Rattle.sweep_tri.specs.Gaps.{gap_at, low_front}
@@ -15,6 +15,13 @@ gaps_of slots numbers = map (gap_at slots) numbers
 pub record AreNumbers (slots : List Gap) (numbers : List ℕ) : Type 0 where
   pub below : All (λ i. i < length slots) numbers
   pub apart : (i j : ℕ) → i < j → j < length numbers → slice_index numbers i ≢ slice_index numbers j
+
+-- each slot has an open gap or is free
+pub record AreSlots (slots : List Gap) (numbers free : List ℕ) : Type 0 where
+  pub taken : AreNumbers slots numbers
+  pub left : AreNumbers slots free
+  pub apart : All (λ s. All (λ n. n ≢ s) numbers) free
+  pub count : length slots ≡ length numbers + length free
 
 -- the lower edge of the gap has corners at its ends
 pub record HasLowFront (corners : List Point) (g : Gap) : Type 0 where

@@ -14,24 +14,25 @@ use std::marker::Model;
 use std::mem;
 use std::sync::ledger::Ledger;
 
-// The gaps, each in a slot of its own, and the numbers of the slots of those that are open, in order. A slot that is left stays
-// empty.
+// The gaps, each in a slot of its own, and the numbers of the slots of those that are open, in order. A slot that is left is free
+// for a later gap, so there are never more slots than there were open gaps at one time.
 #[derive(Drop)]
 pub(crate) struct Status {
     slots: Vec<Gap>,
     numbers: SharedSeq,
+    free: Vec<u32>,
 }
 
 impl Model for Status {
     ghost use Rattle.std.specs.Prelude.{List};
-    ghost use Rattle.sweep_tri.specs.Slots.{AreNumbers, gaps_of};
+    ghost use Rattle.sweep_tri.specs.Slots.{AreSlots, gaps_of};
     ghost use Rattle.sweep_tri.specs.declared.gap.Gap.{Gap};
 
     ghost Value = { List Gap };
 
     ghost view = { λ status. gaps_of status.slots.items status.numbers };
 
-    ghost invariant = { λ status. AreNumbers status.slots.items status.numbers };
+    ghost invariant = { λ status. AreSlots status.slots.items status.numbers status.free.items };
 }
 
 impl Status {
@@ -42,6 +43,7 @@ impl Status {
         Status {
             slots: Vec::new(alloc),
             numbers: SharedSeq::empty(),
+            free: Vec::new(alloc),
         }
     }
 
@@ -72,7 +74,7 @@ impl Status {
         mem::replace(&mut self.slots[number], gap)
     }
 
-    // Inserts a gap before the one at `j`, or after all. It fails where memory is wanting, or a number for the slot.
+    // Inserts a gap before the one at `j`, or after all.
     pub(crate) fn insert<L: Ledger>(
         &mut self,
         alloc: Global,
@@ -85,9 +87,16 @@ impl Status {
         ensures gaps { OnOk result (self.new ≡ insert self.old j gap) }
         ensures steps { steps.new ≤ steps.old + 24 * (binary_digits (length self.old + 1) + 1) }
     {
-        let Ok(number) = u32::try_from(self.slots.len()) else {
-            return Err(Memory);
-        };
+        let left = self.free.len();
+        if left > 0 {
+            let number = self.free[left - 1];
+            let numbers = self.numbers.insert_at(alloc, j, number, steps)?;
+            self.slots[number as usize] = gap;
+            self.free.pop();
+            self.numbers = numbers;
+            return Ok(());
+        }
+        let number = self.slots.len() as u32;
         let numbers = self.numbers.insert_at(alloc, j, number, steps)?;
         self.slots.push(gap)?;
         self.numbers = numbers;
@@ -106,10 +115,11 @@ impl Status {
         ensures gaps { OnOk result (self.new ≡ remove self.old j) }
         ensures steps { let b = binary_digits (length self.old) in steps.new ≤ steps.old + (40 * (b + 1) + 2 * b + 1) }
     {
-        let number = self.numbers.get(j, steps) as usize;
+        let number = self.numbers.get(j, steps);
         let numbers = self.numbers.remove_at(alloc, j, steps)?;
+        self.free.push(number)?;
         self.numbers = numbers;
-        Ok(mem::replace(&mut self.slots[number], Gap::none(alloc)))
+        Ok(mem::replace(&mut self.slots[number as usize], Gap::none(alloc)))
     }
 
     // The place of vertex `v`: the number of gaps whose lower edges it is above. It takes at most b (2 b + 2) steps, b the number

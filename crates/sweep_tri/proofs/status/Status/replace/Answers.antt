@@ -11,6 +11,6 @@ returns-clause-gaps g c =
     let j = c.args.j in
     let within : j < length numbers = omega (arith, c.requires, gaps_count slots numbers, ap length c.self.view_is) in
     ap (λ n. gaps_of (slice_set slots n c.replace.new.dest) numbers) c.get-number.ensures.value
-    ∙ gaps_replaced slots numbers c.self.invariant j within c.replace.new.dest
+    ∙ gaps_replaced slots numbers c.self.invariant.taken j within c.replace.new.dest
     ∙ ap (λ gaps. slice_set gaps j c.replace.new.dest) c.self.view_is
     ∙ ap (λ gap. slice_set c.args.self.now j gap) c.replace.ensures.after
