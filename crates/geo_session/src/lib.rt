@@ -1,7 +1,7 @@
 //! What a run holds between two records, and the answer to each command.
 #![tactic(auto)]
 
-mod along;
+mod ask;
 mod grown;
 mod held;
 mod hull;
@@ -9,8 +9,10 @@ mod laws;
 mod lines;
 mod pairs;
 mod parts;
-mod rounds;
+mod paths;
+mod reply;
 mod session;
 
-pub use laws::{one_answer, one_output};
+pub use laws::{one_answer, one_output, one_reply};
+pub use reply::{Before, Reply, Row, Side};
 pub use session::Session;
