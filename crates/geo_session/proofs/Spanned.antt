@@ -12,13 +12,15 @@ use Rattle.meshes.specs.Fits.{Fits}
 use Rattle.meshes.specs.declared.tri.Tri.{Tri}
 use Rattle.dual_tree.specs.Location.{IsLeastHolding}
 use Rattle.rel_hull.proofs.Outer.{ordered_push}
-use Rattle.rel_hull.specs.Table.{Table, chain_at, pair_at}
+use Rattle.rel_hull.specs.Table.{pair_at}
+use Rattle.geo_reply.specs.declared.reply.Side.{Side}
 use Rattle.geo_session.proofs.LocatedIn.{held_in}
 use Rattle.geo_session.specs.Hull.{AreFirsts}
-use Rattle.geo_session.specs.Span.{AreChains, AreFirstsBelow, AreHeld, AreTold, IsRepeated, IsShortPath, IsTold, numbered}
+use Rattle.geo_session.specs.Span.{AreChains, AreFirstsBelow, AreHeld, AreSidesTold, IsRepeated, IsShortPath, IsSideTold, numbered}
+use Rattle.geo_session.specs.declared.hull.Span.{Span}
 
 -- what holds at each place of a list and at the next one holds at each place once that element is appended
-each_push : {X : Type 0} (P : ℕ → X → Type 0) (xs : List X) (x d : X) (n : ℕ) → length xs ≡ n → ((k : ℕ) → k < n → P k (get_or xs k d)) → P n x
+pub each_push : {X : Type 0} (P : ℕ → X → Type 0) (xs : List X) (x d : X) (n : ℕ) → length xs ≡ n → ((k : ℕ) → k < n → P k (get_or xs k d)) → P n x
     → (k : ℕ) → k < n + 1 → P k (get_or (xs ++ x ∷ []) k d)
 each_push P xs x d n count each next k below = elim (cases_lt k n) [
   | inl before ↦ subst (P k) (sym (get_or_append_left xs (x ∷ []) d k (omega arith))) (each k before)
@@ -96,19 +98,16 @@ module _ (ring points : List Point) (numbers : List ℕ) where
         chains chain [] n are.count are.each is;
   }
 
--- ---- what is told of the sides
+-- ---- the sides
 
-module _ (two : Bool) (ring : List Point) (chains : Table) (sides : List (ℕ × ℕ)) where
-  pub none_told : AreTold two ring chains sides 0 []
-  none_told = record { count = refl; each = λ k below. absurd (omega (arith, below)) }
-
-  -- the next path is told
-  pub told_more : (n : ℕ) (paths : List (List Point)) (path : List Point) → AreTold two ring chains sides n paths
-      → IsTold two ring (chain_at chains (pair_at sides n).0 (pair_at sides n).1) path → AreTold two ring chains sides (n + 1) (paths ++ path ∷ [])
-  told_more n paths path are is = record {
-    count = length_push paths path ∙ ap (λ (k : ℕ). k + 1) are.count;
-    each = each_push (λ k told. IsTold two ring (chain_at chains (pair_at sides k).0 (pair_at sides k).1) told) paths path [] n are.count are.each is;
-  }
+-- the next side is told
+pub sides_more : (two : Bool) (ring : List Point) (span : Span) (pairs : List (ℕ × ℕ)) (n : ℕ) (told : List Side) (side : Side)
+    → AreSidesTold two ring span pairs n told → IsSideTold two ring span (pair_at pairs n) side
+    → AreSidesTold two ring span pairs (n + 1) (told ++ side ∷ [])
+sides_more two ring span pairs n told side are is = record {
+  count = length_push told side ∙ ap (λ (k : ℕ). k + 1) are.count;
+  each = each_push (λ k side. IsSideTold two ring span (pair_at pairs k) side) told side _ n are.count are.each is;
+}
 
 -- ---- the table by rows and columns
 

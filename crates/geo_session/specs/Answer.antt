@@ -4,9 +4,9 @@ use Rattle.geo_text.specs.Texts.{bad_text}
 use Rattle.geo_text.specs.declared.command.Bad.{Bad}
 use Rattle.geo_text.specs.declared.command.Command.{Command}
 use Rattle.geo_session.specs.Reply.{IsReply, state_after}
-use Rattle.geo_session.specs.ReplyText.{reply_text}
+use Rattle.geo_reply.specs.ReplyText.{reply_text}
 use Rattle.geo_session.specs.State.{State}
-use Rattle.geo_session.specs.declared.reply.Reply.{Reply}
+use Rattle.geo_reply.specs.declared.reply.Reply.{Reply}
 
 -- the text is the lines of the command's reply, and the state is the one after it
 pub record IsAnswer (before : State) (asked : Command) (text : List ℕ) (after : State) : Type 0 where

@@ -1,5 +1,5 @@
 -- What a command changes, and how its reply and its steps are known before anything is written. No public clause cites this module.
-use Rattle.std.specs.Prelude.{◌≡◌, ◌⊎◌, ℕ, ℤ, ◌+◌, ◌*◌, ◌≤◌, Bool, true, false, List, length, OnOk, Option, None, Some, Result, Ok, Err}
+use Rattle.std.specs.Prelude.{◌≡◌, ◌⊎◌, ℕ, ℤ, ◌+◌, ◌*◌, ◌≤◌, Bool, true, List, OnOk, Option, None, Some, Result, Ok, Err}
 use Rattle.plane.specs.Point.{Point}
 use Rattle.geo_text.specs.declared.command.Bad.{Bad}
 use Rattle.geo_text.specs.declared.command.Bad.TheVariants as bad
@@ -8,7 +8,7 @@ use Rattle.geo_text.specs.declared.command.Command.TheVariants as command
 use Rattle.shared_seq.specs.Digits.{binary_digits}
 use Rattle.pair_cut.specs.Pairs.{IsMadeFor}
 use Rattle.geo_session.specs.Held.{HeldRing, IsTreeOf, kept_of, prepared_of}
-use Rattle.geo_session.specs.Paced.{TakesPathSteps, TakesReplySteps, path_pace, points_of, reach_pace}
+use Rattle.geo_session.specs.Paced.{TakesPathSteps, TakesReplySteps, path_pace, reach_pace}
 use Rattle.geo_session.specs.Pairs.{IsIndex, IsSmall, IsVertexNumber}
 use Rattle.geo_session.specs.Prepared.{IsPreparedAfter, Seen, pair_pace, table_steps}
 use Rattle.geo_session.specs.Reply.{IsReply, state_after}
@@ -16,40 +16,38 @@ use Rattle.geo_session.specs.State.{State, size_of}
 use Rattle.geo_session.specs.declared.ask.Asked.{Asked}
 use Rattle.geo_session.specs.declared.ask.Change.{Change}
 use Rattle.geo_session.specs.declared.ask.Change.TheVariants as change
-use Rattle.geo_session.specs.declared.reply.Reply.{Reply}
-use Rattle.geo_session.specs.declared.reply.Reply.TheVariants as reply
 
 -- what contracts see of a session with these fields
 abbrev pub seen_of : Bool → Option HeldRing → Seen
 seen_of two held = record { state = record { two = two; kept = kept_of held }; prepared = prepared_of held }
 
 -- the fields after a change
-abbrev pub two_after : Bool → Change → Bool
-two_after two change.Two = true
-two_after two other = two
+abbrev pub two_after : Change → Bool → Bool
+two_after change.Two two = true
+two_after other two = two
 
-abbrev pub held_after : Option HeldRing → Change → Option HeldRing
-held_after held change.Nothing = held
-held_after held change.Two = None
-held_after held (change.Polygon new) = Some new
-held_after None (change.Tree grown) = None
-held_after (Some held) (change.Tree grown) = Some (record { ring = held.ring; tris = held.tris; source = Some grown.source; prepared = held.prepared })
-held_after None (change.Table table) = None
-held_after (Some held) (change.Table table) = Some (record { ring = held.ring; tris = held.tris; source = held.source; prepared = true })
+abbrev pub held_after : Change → Option HeldRing → Option HeldRing
+held_after change.Nothing held = held
+held_after change.Two held = None
+held_after (change.Polygon new) held = Some new
+held_after (change.Tree grown) None = None
+held_after (change.Tree grown) (Some held) = Some (record { ring = held.ring; tris = held.tris; source = Some grown.source; prepared = held.prepared })
+held_after (change.Table table) None = None
+held_after (change.Table table) (Some held) = Some (record { ring = held.ring; tris = held.tris; source = held.source; prepared = true })
 
 -- a new tree is one in the polygon that is held, and a new table is made for it
-abbrev pub Suits : Option HeldRing → Change → Type 0
-Suits (Some held) (change.Tree grown) = IsTreeOf held.ring.corners held.tris grown
-Suits (Some held) (change.Table table) = IsMadeFor held.ring.corners table
-Suits held other = Unit {0}
+abbrev pub Suits : Change → Option HeldRing → Type 0
+Suits (change.Tree grown) (Some held) = IsTreeOf held.ring.corners held.tris grown
+Suits (change.Table table) (Some held) = IsMadeFor held.ring.corners table
+Suits other held = Unit {0}
 
 -- the reply is the command's, and the change leads to what is there after it
 pub record IsAskedOf (two : Bool) (held : Option HeldRing) (asked : Command) (answer : Asked) : Type 0 where
   pub is_reply : IsReply (record { two = two; kept = kept_of held }) asked answer.reply
-  pub suits : Suits held answer.change
-  pub state : (seen_of (two_after two answer.change) (held_after held answer.change)).state
+  pub suits : Suits answer.change held
+  pub state : (seen_of (two_after answer.change two) (held_after answer.change held)).state
       ≡ state_after (record { two = two; kept = kept_of held }) asked answer.reply
-  pub prepared : IsPreparedAfter (kept_of held) asked (prepared_of held) (prepared_of (held_after held answer.change))
+  pub prepared : IsPreparedAfter (kept_of held) asked (prepared_of held) (prepared_of (held_after answer.change held))
 
 -- the command asks of a polygon
 abbrev pub AsksPolygon : Command → Type 0
@@ -72,13 +70,6 @@ AreAsked ring i j (Ok pair) = IsSmall ring × IsVertexNumber ring i pair.0 × Is
 AreAsked ring i j (Err fault) = ((¬ IsSmall ring) × (fault ≡ bad.Large))
     ⊎ (IsSmall ring × (¬ IsIndex ring i) × (fault ≡ bad.Index 1))
     ⊎ (IsSmall ring × IsIndex ring i × (¬ IsIndex ring j) × (fault ≡ bad.Index 2))
-
--- writing a reply takes 64 steps for each point of a path; those of a view, a kernel and a hull are not counted
-abbrev pub WritesSteps : Reply → ℕ → ℕ → Type 0
-WritesSteps (reply.View parts) steps steps' = Unit {0}
-WritesSteps (reply.Kernel corners) steps steps' = Unit {0}
-WritesSteps (reply.Hull sides) steps steps' = Unit {0}
-WritesSteps answered steps steps' = steps' ≤ steps + 64 * length (points_of answered)
 
 -- the bounds of a path, by what was written and by the reply
 abbrev pub TakesBoth : {E : Type 0} → State → Command → ℕ → Result (Unit {0}) E → List ℕ → List ℕ → ℕ → ℕ → Type 0

@@ -14,8 +14,8 @@ use Rattle.geo_session.specs.State.{Kept}
 use Rattle.geo_session.specs.Told.{RepliesWithin, Tells}
 use Rattle.geo_session.specs.View.{IsView}
 use Rattle.geo_session.specs.declared.grown.Grown.{Grown}
-use Rattle.geo_session.specs.declared.reply.Reply.{Reply}
-use Rattle.geo_session.specs.declared.reply.Reply.TheVariants as reply
+use Rattle.geo_reply.specs.declared.reply.Reply.{Reply}
+use Rattle.geo_reply.specs.declared.reply.Reply.TheVariants as reply
 
 -- a ring that is held, its triangles, the source of the tree in it, if there is one, and whether there is the table of all pairs
 pub record HeldRing : Type 0 where

@@ -5,7 +5,7 @@ use Rattle.plane.specs.Point.{Point}
 use Rattle.rings.specs.Chain.{point_at}
 use Rattle.rel_hull.specs.Table.{AreSides, pair_at}
 use Rattle.geo_session.specs.Shown.{IsShownPath}
-use Rattle.geo_session.specs.declared.reply.Side.{Side}
+use Rattle.geo_reply.specs.declared.reply.Side.{Side}
 
 -- the numbers of the points that no earlier one is equal to, in order
 pub record AreFirsts (points : List Point) (numbers : List ℕ) : Type 0 where

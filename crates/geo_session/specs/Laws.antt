@@ -4,9 +4,9 @@ use Rattle.geo_text.specs.declared.command.Command.{Command}
 use Rattle.geo_session.specs.Answer.{IsAnswer}
 use Rattle.geo_session.specs.Output.{IsOutput}
 use Rattle.geo_session.specs.Reply.{IsReply, state_after}
-use Rattle.geo_session.specs.ReplyText.{reply_text}
+use Rattle.geo_reply.specs.ReplyText.{reply_text}
 use Rattle.geo_session.specs.State.{State}
-use Rattle.geo_session.specs.declared.reply.Reply.{Reply}
+use Rattle.geo_reply.specs.declared.reply.Reply.{Reply}
 
 -- two replies to one command in one state have the same text, and leave the same state
 abbrev pub OneReplyLaw : Type 0

@@ -11,7 +11,6 @@ pub mod Round
 pub mod Guards
 pub mod Pairs
 pub mod Reply
-pub mod ReplyText
 pub mod Answer
 pub mod Output
 pub mod Prepared

@@ -6,10 +6,10 @@ use Rattle.geo_text.specs.declared.command.Command.TheVariants as command
 use Rattle.shared_seq.specs.Digits.{binary_digits}
 use Rattle.geo_session.specs.Prepared.{Seen, pair_pace, table_steps}
 use Rattle.geo_session.specs.Reply.{IsReply}
-use Rattle.geo_session.specs.ReplyText.{path_text}
+use Rattle.geo_reply.specs.ReplyText.{path_text}
+use Rattle.geo_reply.specs.Written.{points_of}
 use Rattle.geo_session.specs.State.{State, size_of}
-use Rattle.geo_session.specs.declared.reply.Reply.{Reply}
-use Rattle.geo_session.specs.declared.reply.Reply.TheVariants as reply
+use Rattle.geo_reply.specs.declared.reply.Reply.{Reply}
 
 -- so many steps a vertex are enough to tell a path from one point to another, beside those of its points,
 abbrev pub path_pace : Bool → ℕ
@@ -34,11 +34,6 @@ pub record TakesPathSteps (most : ℕ) (out out' : List ℕ) (steps steps' : ℕ
   pub points : List Point
   pub printed : (out' ≡ out ++ path_text points) ⊎ (points ≡ [])
   pub bound : steps' ≤ steps + most + 64 * length points
-
--- the points of a reply that is a path
-abbrev pub points_of : Reply → List Point
-points_of (reply.Path points) = points
-points_of other = []
 
 -- so many steps and 64 for each point of the reply are enough, also where want of memory cuts its line off
 abbrev pub TakesReplySteps : State → Command → ℕ → ℕ → ℕ → Type 0

@@ -7,8 +7,8 @@ use Rattle.pair_cut.specs.Pairs.{AreSights}
 use Rattle.pair_cut.specs.declared.table.TheConstants.{MAX_PAIRED}
 use Rattle.geo_session.specs.Path.{TellsPath}
 use Rattle.geo_session.specs.Told.{Tells}
-use Rattle.geo_session.specs.declared.reply.Reply.{Reply}
-use Rattle.geo_session.specs.declared.reply.Reply.TheVariants as reply
+use Rattle.geo_reply.specs.declared.reply.Reply.{Reply}
+use Rattle.geo_reply.specs.declared.reply.Reply.TheVariants as reply
 
 -- the ring has few enough vertices for the table of all pairs
 abbrev pub IsSmall : List Point → Type 0

@@ -5,8 +5,8 @@ use Rattle.plane.specs.Point.{Point}
 use Rattle.geo_text.specs.declared.command.Bad.TheVariants as bad
 use Rattle.geo_session.specs.Shown.{IsShownPath}
 use Rattle.geo_session.specs.Told.{RepliesWithin, Tells}
-use Rattle.geo_session.specs.declared.reply.Reply.{Reply}
-use Rattle.geo_session.specs.declared.reply.Reply.TheVariants as reply
+use Rattle.geo_reply.specs.declared.reply.Reply.{Reply}
+use Rattle.geo_reply.specs.declared.reply.Reply.TheVariants as reply
 
 -- what is told of the path from s to t
 abbrev pub TellsPath : Bool → List Point → Point → Point → Reply → Type 0

@@ -18,8 +18,8 @@ use Rattle.geo_session.specs.State.{Kept, State}
 use Rattle.geo_session.specs.Told.{RepliesWithin, Tells, reply_of}
 use Rattle.geo_session.specs.Tree.{AreFrom}
 use Rattle.geo_session.specs.View.{IsView}
-use Rattle.geo_session.specs.declared.reply.Reply.{Reply}
-use Rattle.geo_session.specs.declared.reply.Reply.TheVariants as reply
+use Rattle.geo_reply.specs.declared.reply.Reply.{Reply}
+use Rattle.geo_reply.specs.declared.reply.Reply.TheVariants as reply
 
 -- what the commands that ask of a polygon answer of it; the other two ask of none
 abbrev pub IsReplyIn : Bool → Kept → Command → Reply → Type 0

@@ -14,7 +14,7 @@ use Rattle.geo_session.specs.Hull.{AreFirsts, side_at}
 use Rattle.geo_session.specs.Shown.{IsShown}
 use Rattle.geo_session.specs.Told.{NamesOutside}
 use Rattle.geo_session.specs.declared.hull.Span.{Span}
-use Rattle.geo_session.specs.declared.reply.Side.{Side}
+use Rattle.geo_reply.specs.declared.reply.Side.{Side}
 
 -- an earlier point is equal to point i
 abbrev pub IsRepeated : List Point → ℕ → Type 0

@@ -7,8 +7,8 @@ use Rattle.rings.specs.Inside.{IsIn}
 use Rattle.hulls.specs.Inner.{AreAllIn}
 use Rattle.geo_text.specs.declared.command.Bad.{Bad}
 use Rattle.geo_text.specs.declared.command.Bad.TheVariants as bad
-use Rattle.geo_session.specs.declared.reply.Reply.{Reply}
-use Rattle.geo_session.specs.declared.reply.Reply.TheVariants as reply
+use Rattle.geo_reply.specs.declared.reply.Reply.{Reply}
+use Rattle.geo_reply.specs.declared.reply.Reply.TheVariants as reply
 
 -- the reply is of this kind, with a value of which this holds
 pub record Tells {V : Type 0} (kind : V → Reply) (Holds : V → Type 0) (answered : Reply) : Type 0 where

@@ -3,8 +3,8 @@ use Rattle.std.specs.Prelude.{◌≡◌, ◌≢◌, ℕ, ◌<◌, List, [], leng
 use Rattle.plane.specs.Point.{Point}
 use Rattle.rings.specs.From.{IsBefore}
 use Rattle.rings.specs.Ring.{vertex}
-use Rattle.geo_session.specs.declared.reply.Before.{Before}
-use Rattle.geo_session.specs.declared.reply.Before.TheVariants as before
+use Rattle.geo_reply.specs.declared.reply.Before.{Before}
+use Rattle.geo_reply.specs.declared.reply.Before.TheVariants as before
 
 -- vertex j is at x, and no other vertex is
 pub record IsNumber (ring : List Point) (x : Point) (j : ℕ) : Type 0 where

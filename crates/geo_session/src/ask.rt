@@ -9,8 +9,9 @@ ghost use Rattle.geo_session.specs.Reply.{IsReplyIn};
 
 use crate::grown::Grown;
 use crate::held::Held;
-use crate::reply::{Reply, path_reply};
+use crate::paths::path_reply;
 use exact_plane::{Memory, Steps};
+use geo_reply::Reply;
 use geo_text::{Bad, Command, Points};
 use pair_cut::PairTable;
 use ring_check::{Ring, RingFault};
@@ -145,9 +146,9 @@ impl Held {
 
 // Keeps what changes.
 pub(crate) fn commit(two: &mut bool, held: &mut Option<Held>, change: Change)
-    requires { Suits held.old change }
-    ensures two { two.new ≡ two_after two.old change }
-    ensures held { held.new ≡ held_after held.old change }
+    requires { Suits change held.old }
+    ensures two { two.new ≡ two_after change two.old }
+    ensures held { held.new ≡ held_after change held.old }
 {
     match change {
         Change::Nothing => {}

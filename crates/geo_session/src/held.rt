@@ -14,10 +14,10 @@ ghost use Rattle.geo_session.specs.Told.{Tells};
 
 use crate::grown::Grown;
 use crate::parts::given_parts;
-use crate::reply::{Reply, Row};
 use cut_tri::triangulate;
 use dual_tree::{Board, locate};
 use exact_plane::{Memory, Pt, Steps};
+use geo_reply::{Reply, Row};
 use geo_text::Bad;
 use guards3::guards;
 use inside_test::{Position, place};

@@ -9,8 +9,8 @@ ghost use Rattle.geo_session.specs.Span.{AreHeld, AreLocated, AreNumbered, AreSi
 ghost use Rattle.geo_session.specs.Told.{RepliesWithin, Tells};
 
 use crate::held::Held;
-use crate::reply::{Reply, Row, Side};
 use exact_plane::{Memory, Pt, Steps, order};
+use geo_reply::{Reply, Row, Side};
 use geo_text::Bad;
 use rel_hull::{ChainTable, round, sides};
 use std::alloc::Global;

@@ -6,13 +6,10 @@ mod grown;
 mod held;
 mod hull;
 mod laws;
-mod lines;
 mod pairs;
 mod parts;
 mod paths;
-mod reply;
 mod session;
 
 pub use laws::{one_answer, one_output, one_reply};
-pub use reply::{Before, Reply, Row, Side};
 pub use session::Session;

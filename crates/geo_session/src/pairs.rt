@@ -18,9 +18,9 @@ ghost use Rattle.geo_session.specs.Told.{Tells};
 
 use crate::ask::{Asked, Change, unchanged};
 use crate::held::Held;
-use crate::reply::{Reply, Row};
 use dual_tree::{Board, sleeve};
 use exact_plane::{Memory, Pt, Steps};
+use geo_reply::{Reply, Row};
 use geo_text::{Bad, Command};
 use pair_cut::{MAX_PAIRED, PairTable, triangle_at};
 use ring_check::Ring;

@@ -1,5 +1,5 @@
 // Paths between points of the polygon, and the vertices that they touch.
-ghost use Rattle.std.specs.Prelude.{◌≡◌, ◌+◌, ◌-◌, ◌*◌, ◌≤◌, ◌<◌, ◌++◌, false, if◌then◌else◌, IfOk, OnErr, length, vec_capacity};
+ghost use Rattle.std.specs.Prelude.{◌≡◌, ◌+◌, ◌-◌, ◌*◌, ◌≤◌, ◌<◌, ◌^◌, ◌++◌, false, if◌then◌else◌, IfOk, OnErr, length, vec_capacity};
 ghost use Rattle.plane.specs.Point.{whole};
 ghost use Rattle.plane.specs.declared.limits.TheConstants.{MAX_CORNERS};
 ghost use Rattle.rings.specs.Chain.{IsPath};
@@ -18,6 +18,7 @@ use crate::held::Held;
 use dual_tree::{Board, sleeve, touched};
 use exact_plane::{Memory, Pt, Spot, Steps, Turns};
 use funnel_walk::{FunnelBox, walk};
+use geo_reply::{Reply, Row};
 use geo_text::Bad;
 use std::alloc::Global;
 use std::sync::ledger::Ledger;
@@ -177,5 +178,16 @@ pub(crate) fn put_points<'a>(points: &mut Vec<Pt>, names: &[Spot], board: &Board
 {
     for name in names {
         points.push_reserved(board.point(*name));
+    }
+}
+
+// What is told of a path, or the refusal.
+pub(crate) fn path_reply(found: Result<Vec<Pt>, Bad>) -> Reply
+    requires { IfOk found (λ points. length points.items < 2 ^ 32) }
+    ensures { result ≡ reply_of path_of found }
+{
+    match found {
+        Ok(points) => Reply::Path(Row::of(points)),
+        Err(bad) => Reply::Refused(bad),
     }
 }

@@ -14,9 +14,8 @@ ghost use Rattle.geo_session.specs.State.{size_of};
 
 use crate::ask::{ask, commit};
 use crate::held::Held;
-use crate::lines::put_reply;
-use crate::reply::Reply;
 use exact_plane::{Memory, Pt, Steps};
+use geo_reply::{Reply, put_reply};
 use geo_text::{Bad, Command};
 use inside_test::Position;
 use std::alloc::Global;
