@@ -1,7 +1,7 @@
 -- The records of a piece are answered one by one.
 use Rattle.std.proofs.Common.{◌≡◌, ◌||◌, Bool, true, false, ℕ, List, [], ◌∷◌, ◌++◌, refl}
 use Rattle.geo_text.specs.Records.{Unread}
-use Rattle.geo_session.specs.Answer.{State}
+use Rattle.geo_session.specs.State.{State}
 use Rattle.geo_script.proofs.NextRecord.{first_and_one, no_first, none_answered, one_more}
 use Rattle.geo_script.specs.Answered.{AnswersRecord}
 use Rattle.geo_script.specs.Dialog.{Talk, is_some}

@@ -1,6 +1,6 @@
 -- What a point sees of a polygon. This project's own, after the visibility polygon.
 use Rattle.std.specs.Prelude.{◌↔◌, List}
-use Rattle.plane.specs.Point.{IsPoint, Triple}
+use Rattle.plane.specs.Point.{IsPoint, Point, Triple}
 use Rattle.rings.specs.Inside.{IsIn}
 use Rattle.rings.specs.Sees.{Sees}
 use Rattle.rings.specs.Visible.{AreParts, IsInView, Part}

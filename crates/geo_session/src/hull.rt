@@ -1,5 +1,6 @@
 // The relative hull of some points in the polygon, and its round.
-ghost use Rattle.std.specs.Prelude.{◌≡◌, ◌↔◌, ◌≤◌, ◌<◌, ◌+◌, ℕ, IfOk, IsTrue, length, map, slice_index};
+ghost use Rattle.std.specs.Prelude.{◌≡◌, ◌↔◌, ◌≤◌, ◌<◌, ◌+◌, ℕ, List, IfOk, IsTrue, length, map, slice_index};
+ghost use Rattle.plane.specs.Point.{Point};
 ghost use Rattle.plane.specs.declared.limits.TheConstants.{MAX_HULL};
 ghost use Rattle.ring_check.specs.Oriented.{given_of};
 ghost use Rattle.rel_hull.specs.Table.{AreSides, points_of};
