@@ -89,11 +89,11 @@ module _ (ring : List Point) (tris : List Tri) (points : List Point) (span : Spa
   pub span_table : IsTableOf ring span.chains
   span_table = table_of_ring points span.numbers.items is.firsts ring span.chains is.table is.some is.few
 
-  module _ (s t : ℕ) (at_s : s < length span.numbers.items) (at_t : t < length span.numbers.items) where
-    -- a number is of a point that is in a triangle
-    pub place_located : slice_index span.numbers.items s < length span.tris.items
-    place_located = rw is.held.one_each (number_in_list points span.numbers.items is.firsts s at_s)
+  -- a number is of a point that is in a triangle
+  pub place_located : (s : ℕ) → s < length span.numbers.items → slice_index span.numbers.items s < length span.tris.items
+  place_located s at_s = rw is.held.one_each (number_in_list points span.numbers.items is.firsts s at_s)
 
+  module _ (s t : ℕ) (at_s : s < length span.numbers.items) (at_t : t < length span.numbers.items) where
     pub short_chain : IsShortPath ring (numbered points span.numbers.items s) (numbered points span.numbers.items t) (chain_at span.chains s t)
     short_chain = chain_of_table points span.numbers.items is.firsts ring span.chains is.table s t at_s at_t
 

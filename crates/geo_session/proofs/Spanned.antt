@@ -1,12 +1,12 @@
 -- The points of a hull, one after the other: their first numbers, their triangles, and the chains between them.
-use Rattle.std.proofs.Common.{◌≡◌, ◌≢◌, ◌∙◌, inl, inr, refl, sym, ap, subst, Bool, ℕ, ◌+◌, ◌*◌, ◌/◌, ◌%◌, ◌<◌, List, [], ◌∷◌, ◌++◌, length, get_or, arith}
+use Rattle.std.proofs.Common.{◌≡◌, ◌≢◌, ◌∙◌, inl, inr, refl, sym, ap, subst, Bool, false, ℕ, ◌+◌, ◌*◌, ◌/◌, ◌%◌, ◌<◌, List, [], ◌∷◌, ◌++◌, length, get_or, arith}
 use Rattle.std.proofs.Math.Nat.{div-lt_iff_lt-mul, div-eq_of_lt, mod-eq_of_lt, mod-lt, mul-add-div_right, mul-add-mod_self_right}
 use Rattle.std.proofs.lemmas.Bool.{cases_eq, cases_lt}
 use Rattle.std.proofs.lemmas.List.{get_or_append_left, get_or_push, length_push}
 use Rattle.std.proofs.lemmas.List.Elements.{Contains-append_left, Contains-push, Contains-push_cases}
 use Rattle.std.specs.List.{Contains}
 use Rattle.plane.specs.Point.{Point, whole}
-use Rattle.rings.specs.Chain.{point_at}
+use Rattle.rings.specs.Chain.{IsPath, point_at}
 use Rattle.rings.specs.Inside.{IsIn}
 use Rattle.meshes.specs.Fits.{Fits}
 use Rattle.meshes.specs.declared.tri.Tri.{Tri}
@@ -16,6 +16,7 @@ use Rattle.rel_hull.specs.Table.{pair_at}
 use Rattle.geo_reply.specs.declared.reply.Side.{Side}
 use Rattle.geo_session.proofs.LocatedIn.{held_in}
 use Rattle.geo_session.specs.Hull.{AreFirsts}
+use Rattle.geo_session.specs.Shown.{IsShownPath}
 use Rattle.geo_session.specs.Span.{AreChains, AreFirstsBelow, AreHeld, AreSidesTold, IsRepeated, IsShortPath, IsSideTold, numbered}
 use Rattle.geo_session.specs.declared.hull.Span.{Span}
 
@@ -86,7 +87,19 @@ module _ (ring : List Point) (tris : List Tri) (points : List Point) (n : ℕ) (
   pub held_inside : Fits ring tris → (k : ℕ) → k < n → IsIn ring (whole (point_at points k))
   held_inside fits k below = held_in ring (point_at points k) tris _ fits (are.each k below)
 
+-- so does the next one, where all before it are
+pub inside_more : (ring points : List Point) (n : ℕ) → ((k : ℕ) → k < n → IsIn ring (whole (point_at points k))) → IsIn ring (whole (point_at points n))
+    → (k : ℕ) → k < n + 1 → IsIn ring (whole (point_at points k))
+inside_more ring points n each next k below = elim (cases_lt k n) [
+  | inl before ↦ each k before
+  | inr last ↦ let at : n ≡ k = omega arith in subst (λ (j : ℕ). IsIn ring (whole (point_at points j))) at next
+]
+
 -- ---- the chains
+
+-- in version 1 what is told of a path is the path
+pub plain_path : (ring : List Point) (s t : Point) (points : List Point) → IsShownPath false ring s t points → IsPath ring s t points
+plain_path ring s t points h = subst (IsPath ring s t) (sym h.is_shown) h.is_path
 
 module _ (ring points : List Point) (numbers : List ℕ) where
   pub chains_more : (n : ℕ) (chains : List (List Point)) (chain : List Point) → AreChains ring points numbers n chains

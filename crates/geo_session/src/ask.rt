@@ -110,7 +110,7 @@ impl Held {
         match command {
             Command::Two | Command::Polygon(_) => unreachable!(),
             Command::Tree(s) => self.tree(alloc, &s, steps),
-            Command::Pair(i, j) => self.pair(alloc, two, (i, j), steps),
+            Command::Pair(i, j) => self.pair(alloc, two, i, j, steps),
             Command::Sights => self.sights(alloc, steps),
             asked => Ok(unchanged(self.tell(alloc, two, asked, steps)?)),
         }

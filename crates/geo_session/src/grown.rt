@@ -68,13 +68,13 @@ impl Grown {
     {
         let mut befores = Vec::with_capacity(alloc, ring.len() as usize)?;
         for i in 0..ring.len() {
-            befores.push_reserved(self.before(ring, i));
+            befores.push_reserved(self.before_at(ring, i));
         }
         Ok(befores)
     }
 
     // What comes before vertex `i`.
-    fn before(&self, ring: &Ring, i: u32) -> Before
+    fn before_at(&self, ring: &Ring, i: u32) -> Before
         requires vertex { i < length ring.now.corners }
         requires grown { (tris : List Tri) × IsTreeOf ring.now.corners tris self.now }
         ensures { IsFrom (given_of ring.now) self.now.source (vertex (given_of ring.now) i) result }

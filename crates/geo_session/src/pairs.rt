@@ -33,13 +33,14 @@ impl Held {
         &self,
         alloc: Global,
         two: bool,
-        numbers: (i64, i64),
+        i: i64,
+        j: i64,
         steps: &mut Steps<L>,
     ) -> Result<Asked, Memory>
-        ensures asked { IfOk result (IsAskedOf two (Some self.now) (Command.Pair numbers.0 numbers.1)) }
-        ensures paced { IsPaced (seen_of two (Some self.now)) (Command.Pair numbers.0 numbers.1) steps.old steps.new }
+        ensures asked { IfOk result (IsAskedOf two (Some self.now) (Command.Pair i j)) }
+        ensures paced { IsPaced (seen_of two (Some self.now)) (Command.Pair i j) steps.old steps.new }
     {
-        let pair = match self.asked(numbers.0, numbers.1) {
+        let pair = match self.asked(i, j) {
             Ok(pair) => pair,
             Err(bad) => return Ok(unchanged(Reply::Refused(bad))),
         };

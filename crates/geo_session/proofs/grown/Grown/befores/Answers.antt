@@ -20,10 +20,10 @@ loop-i-preserved c =
     let ring = given_of c.args.ring.now in
     let old = c.loop-i.befores.items in
     record {
-      count = rw c.push_reserved.ensures.items (length_push old c.before.result ∙ ap (λ n. n + 1) c.loop-i.invariant.count);
+      count = rw c.push_reserved.ensures.items (length_push old c.before_at.result ∙ ap (λ n. n + 1) c.loop-i.invariant.count);
       each = rw c.push_reserved.ensures.items
-          (each_push (λ k found. IsFrom ring c.args.self.now.source (vertex ring k) found) old c.before.result before.Nothing c.loop-i.i
-          c.loop-i.invariant.count c.loop-i.invariant.each c.before.ensures);
+          (each_push (λ k found. IsFrom ring c.args.self.now.source (vertex ring k) found) old c.before_at.result before.Nothing c.loop-i.i
+          c.loop-i.invariant.count c.loop-i.invariant.each c.before_at.ensures);
       room = rw c.push_reserved.ensures.capacity c.loop-i.invariant.room;
     }
 

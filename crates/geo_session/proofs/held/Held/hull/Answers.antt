@@ -21,18 +21,18 @@ sides-requires g c =
 pub told_sides-requires : goal.told_sides-requires
 told_sides-requires g c =
     let is = rw (c.in-Ok.is, ← c.self.view_is) at c.in_ok-span.ensures in
-    (c.args.points.now, (is, rw c.deref.ensures.value c.in_ok-pairs.ensures))
+    rw (← c.self.view_is, c.deref.ensures.value) (c.args.points.now, (is, c.in_ok-pairs.ensures))
 
 pub of-requires : goal.of-requires
 of-requires g c =
     let is = rw (c.in-Ok.is, ← c.self.view_is) at c.in_ok-span.ensures in
-    let told = rw c.deref.ensures.value at c.in_ok-sides.ensures in
+    let told = rw (c.deref.ensures.value, ← c.self.view_is) at c.in_ok-sides.ensures in
     rw told.count (pairs_few c.self.inside.ring c.self.inside.mesh c.args.points.now c.in-Ok.span is c.in_ok-pairs.pairs.items c.in_ok-pairs.ensures)
 
 pub returns : goal.returns
 returns g c =
     let is = rw (c.in-Ok.is, ← c.self.view_is) at c.in_ok-span.ensures in
-    let told = rw c.deref.ensures.value at c.in_ok-sides.ensures in
+    let told = rw (c.deref.ensures.value, ← c.self.view_is) at c.in_ok-sides.ensures in
     rw (← c.self.view_is, c.of.ensures)
     (hull_within c.self.inside.ring c.self.inside.mesh c.args.points.now c.in-Ok.span is c.in_ok-pairs.pairs.items c.in_ok-pairs.ensures c.args.two
     c.in_ok-sides.sides.items told c.self.invariant.fits)

@@ -28,8 +28,8 @@ returns-then-two-clause-shown g c =
       told = refl;
     })
 
-pub returns-else-two-clause-shown : goal.returns-else-two-clause-shown
-returns-else-two-clause-shown g c =
+pub returns-clause-shown : goal.returns-clause-shown
+returns-clause-shown g c =
     let ring = c.self.inside.ring in
     let chain = c.in_ok-chain.chain.items in
     let from = c.given_index-from.result in

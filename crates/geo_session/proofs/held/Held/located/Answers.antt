@@ -1,11 +1,11 @@
-use Rattle.std.proofs.Common.{◌≡◌, ◌<◌, arith, length, refl, subst}
+use Rattle.std.proofs.Common.{◌≡◌, ◌<◌, ap, arith, length, refl, subst}
 use Rattle.std.proofs.lemmas.List.{get_or_read}
 use Rattle.plane.specs.Point.{whole}
 use Rattle.rings.specs.Inside.{IsIn}
 use Rattle.rings.specs.Ring.{origin}
 use Rattle.dual_tree.specs.Location.{IsLeastHolding}
 use Rattle.geo_session.proofs.GivenPath.{in_given_iff}
-use Rattle.geo_session.proofs.Spanned.{held_inside, held_more}
+use Rattle.geo_session.proofs.Spanned.{held_more, inside_more}
 use Rattle.geo_session.proofs.held.Held.located.Goals as goal
 use Rattle.geo_reply.proofs.Fronts.{none_of_err}
 
@@ -21,7 +21,7 @@ returns-in-Err g c =
         in_list = below;
         outside = subst (λ p. ¬ IsIn held.ring.corners (whole p)) (get_or_read points c.loop-k.k c.index-points-k.result below c.index-points-k.is origin)
             (λ inside. found.0 ((in_given_iff held.ring _).1 inside));
-        before = held_inside held.ring.corners held.tris points c.loop-k.k c.loop-k.tris.items c.loop-k.invariant.held c.loop-k.invariant.fits;
+        before = c.loop-k.invariant.inside;
       };
       named = found.1;
     }
@@ -37,6 +37,9 @@ loop-k-preserved g c =
           (held_more ring tris points c.loop-k.k c.loop-k.tris.items c.loop-k.invariant.held c.in-Ok.tri
           (subst (λ p. IsLeastHolding ring tris (whole p) c.in-Ok.tri)
           (get_or_read points c.loop-k.k c.index-points-k.result below c.index-points-k.is origin) (rw c.in-Ok.is at c.find.ensures.found).1));
+      inside = inside_more ring points c.loop-k.k c.loop-k.invariant.inside
+          (subst (λ p. IsIn ring (whole p)) (get_or_read points c.loop-k.k c.index-points-k.result below c.index-points-k.is origin)
+          ((in_given_iff c.args.self.now.ring _).0 (rw c.in-Ok.is at c.find.ensures.found).0));
       room = rw c.push_reserved.ensures.capacity c.loop-k.invariant.room;
     }
 
@@ -56,3 +59,10 @@ returns g c =
 pub bounds-points-k : goal.bounds-points-k
 bounds-points-k g c =
     omega arith
+
+pub loop-k-init : goal.loop-k-init
+loop-k-init g c = record {
+  held = record { one_each = ap length c.in_ok-tris.ensures.items; each = λ k below. absurd (omega (arith, below)) };
+  inside = λ j less. absurd (omega (arith, less));
+  room = c.in_ok-tris.ensures.capacity;
+}

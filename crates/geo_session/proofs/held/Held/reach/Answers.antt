@@ -23,7 +23,14 @@ returns-clause-answer g c =
       holds = shown_given ring c.args.two c.in-Some.grown.source c.args.t.now c.in_ok-points.points.items (record {
         chain = c.in_ok-chain.chain.items;
         is_path = c.in_ok-chain.ensures.path;
-        is_shown = c.in_ok-points.ensures.shown;
+        is_shown = rw (← c.self.view_is) at c.in_ok-points.ensures.shown;
       });
       told = refl;
     }))
+
+pub shown-requires : goal.shown-requires
+shown-requires g c =
+    let found = rw (c.in-Ok.is, ← c.self.view_is) at c.find.ensures.found in
+    let tree = rw c.in-Some.is at c.self.invariant.tree in
+    rw (← c.self.view_is)
+    (record { s = c.in-Some.grown.source; t = c.args.t.now; start = tree.home; goal = found.1; is_path = c.in_ok-chain.ensures.path })

@@ -5,8 +5,8 @@ use Rattle.geo_session.proofs.AskedVertices.{length_given}
 use Rattle.geo_session.proofs.FewSights.{sights_few}
 use Rattle.geo_session.proofs.held.Held.seeing.Goals as goal
 
-pub of-requires-then-is_turned : goal.of-requires-then-is_turned
-of-requires-then-is_turned c =
+pub of-requires : goal.of-requires
+of-requires c =
     let ring = c.self.inside.ring in
     let few : length (given_of ring) ≤ MAX_CORNERS = omega (arith, length_given ring, c.len-count.ensures.size.1) in
     sights_few (given_of ring) c.in_ok-given.given.items c.in_ok-given.ensures few

@@ -4,7 +4,7 @@ use Rattle.geo_session.proofs.held.Held.shown.Goals as goal
 pub full_along-requires : goal.full_along-requires
 full_along-requires g c =
     let between = rw (← c.self.view_is) at c.requires in
-    rw c.deref.ensures.value
+    rw (← c.self.view_is, c.deref.ensures.value)
     (record {
       s = between.s;
       t = between.t;

@@ -1,6 +1,7 @@
 use Rattle.std.proofs.Common.{◌≡◌, refl}
 use Rattle.std.specs.Prelude.{Some}
-use Rattle.ring_check.specs.Oriented.{given_of}
+use Rattle.geo_text.specs.declared.command.Command.TheVariants as command
+use Rattle.geo_session.specs.Asking.{seen_of}
 use Rattle.geo_session.proofs.Asks.{sights_made, sights_refused, sights_told, small_of}
 use Rattle.geo_session.proofs.Paces.{sights_paced, unpaced}
 use Rattle.geo_session.proofs.held.Held.sights.Goals as goal
@@ -10,4 +11,4 @@ returns-then-is_large-clause-asked g c =
     λ two. rw c.unchanged.ensures (sights_refused two c.args.self.now (c.is_large.ensures.0 c.if-is_large.true))
 
 pub returns-then-is_large-clause-paced : goal.returns-then-is_large-clause-paced
-returns-then-is_large-clause-paced g c = λ two. unpaced _ _ c.args.steps.now
+returns-then-is_large-clause-paced g c = λ two. unpaced (seen_of two (Some c.args.self.now)) command.Sights c.args.steps.now

@@ -1,5 +1,6 @@
 use Rattle.std.proofs.Common.{◌≡◌, ap, arith, length, refl}
 use Rattle.geo_reply.proofs.Fronts.{none_of_err}
+use Rattle.geo_session.proofs.Hulls.{ends_numbered}
 use Rattle.geo_session.proofs.Spanned.{sides_more}
 use Rattle.geo_session.proofs.held.Held.told_sides.Goals as goal
 
@@ -20,3 +21,13 @@ pub returns : goal.returns
 returns g c =
     let end : c.loop-pair.pair-index ≡ length c.args.pairs.now = omega (arith, c.loop-pair.auto.pair-index-end, c.loop-pair-test.false) in
     rw end at c.loop-pair.invariant.are
+
+pub told_side-requires-clause-start : goal.told_side-requires-clause-start
+told_side-requires-clause-start g c =
+    (ends_numbered c.args.self.now.ring c.args.self.now.tris c.requires.0 c.args.span.now c.requires.1.0 c.args.pairs.now c.requires.1.1
+    c.loop-pair.pair-index c.loop-pair-test.true).0
+
+pub told_side-requires-clause-end : goal.told_side-requires-clause-end
+told_side-requires-clause-end g c =
+    (ends_numbered c.args.self.now.ring c.args.self.now.tris c.requires.0 c.args.span.now c.requires.1.0 c.args.pairs.now c.requires.1.1
+    c.loop-pair.pair-index c.loop-pair-test.true).1

@@ -3,7 +3,7 @@ use Rattle.geo_reply.proofs.Fronts.{err_since, none_of_err, ok_of_err}
 use Rattle.geo_session.proofs.session.Session.ask.Goals as goal
 
 pub returns-in_err-asked-clause-same_session : goal.returns-in_err-asked-clause-same_session
-returns-in_err-asked-clause-same_session g c = err_since c.from_residual.result c.self.view_is
+returns-in_err-asked-clause-same_session g c = err_since c.from_residual.result refl
 
 pub returns-in_err-asked-clause-paced : goal.returns-in_err-asked-clause-paced
 returns-in_err-asked-clause-paced g c = rw (← c.self.view_is) c.ask.ensures.paced
@@ -18,7 +18,7 @@ pub returns-clause-state : goal.returns-clause-state
 returns-clause-state g c = rw (← c.self.view_is, c.commit.ensures.two, c.commit.ensures.held) c.in_ok-asked.ensures.asked.state
 
 pub returns-clause-prepared : goal.returns-clause-prepared
-returns-clause-prepared g c = rw (← c.self.view_is, c.commit.ensures.two, c.commit.ensures.held) c.in_ok-asked.ensures.asked.prepared
+returns-clause-prepared g c = rw (← c.self.view_is, c.commit.ensures.held) c.in_ok-asked.ensures.asked.prepared
 
 pub returns-clause-same_session : goal.returns-clause-same_session
 returns-clause-same_session g c = tt

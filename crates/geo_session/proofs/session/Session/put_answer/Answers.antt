@@ -12,7 +12,7 @@ pub returns-in_err-asked-clause-prepared : goal.returns-in_err-asked-clause-prep
 returns-in_err-asked-clause-prepared g c = ok_of_err _ c.from_residual.result c.from_residual.ensures.0
 
 pub returns-in_err-asked-clause-same_session : goal.returns-in_err-asked-clause-same_session
-returns-in_err-asked-clause-same_session g c = err_since c.from_residual.result c.self.view_is
+returns-in_err-asked-clause-same_session g c = err_since c.from_residual.result refl
 
 pub returns-in_err-asked-clause-same_out : goal.returns-in_err-asked-clause-same_out
 returns-in_err-asked-clause-same_out g c = err_since c.from_residual.result refl
@@ -30,7 +30,7 @@ pub returns-in_err-put_reply-clause-prepared : goal.returns-in_err-put_reply-cla
 returns-in_err-put_reply-clause-prepared g c = ok_of_err _ c.from_residual-in_err-put_reply.result c.from_residual-in_err-put_reply.ensures.0
 
 pub returns-in_err-put_reply-clause-same_session : goal.returns-in_err-put_reply-clause-same_session
-returns-in_err-put_reply-clause-same_session g c = err_since c.from_residual-in_err-put_reply.result c.self.view_is
+returns-in_err-put_reply-clause-same_session g c = err_since c.from_residual-in_err-put_reply.result refl
 
 pub returns-in_err-put_reply-clause-same_out : goal.returns-in_err-put_reply-clause-same_out
 returns-in_err-put_reply-clause-same_out g c = err_since c.from_residual-in_err-put_reply.result c.in_err-put_reply.ensures.same
@@ -57,7 +57,7 @@ returns-clause-ok g c =
     })
 
 pub returns-clause-prepared : goal.returns-clause-prepared
-returns-clause-prepared g c = rw (← c.self.view_is, c.commit.ensures.two, c.commit.ensures.held) c.in_ok-asked.ensures.asked.prepared
+returns-clause-prepared g c = rw (← c.self.view_is, c.commit.ensures.held) c.in_ok-asked.ensures.asked.prepared
 
 pub returns-clause-same_session : goal.returns-clause-same_session
 returns-clause-same_session g c = tt

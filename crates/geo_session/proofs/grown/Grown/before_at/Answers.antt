@@ -5,7 +5,7 @@ use Rattle.exact_plane.specs.declared.turns.Spot.TheVariants.{Corner, Start}
 use Rattle.ring_check.specs.Oriented.{given_of}
 use Rattle.geo_session.proofs.Befores.{from_named, simple_given}
 use Rattle.geo_session.proofs.GivenTree.{corner_given, goal_not_given, none_given, number_below, start_given}
-use Rattle.geo_session.proofs.grown.Grown.before.Goals as goal
+use Rattle.geo_session.proofs.grown.Grown.before_at.Goals as goal
 
 pub given_index-requires-in-Some-Corner : goal.given_index-requires-in-Some-Corner
 given_index-requires-in-Some-Corner c =
