@@ -1,5 +1,5 @@
 -- The lines of a tree, as a loop writes them.
-use Rattle.std.proofs.Common.{◌≡◌, ◌∙◌, refl, sym, ap, arith, append_assoc, ℕ, zero, suc, ◌+◌, ◌<◌, ◌≤◌, List, [], ◌∷◌, ◌++◌, get_or, length, take}
+use Rattle.std.proofs.Common.{◌≡◌, ◌∙◌, sym, ap, arith, append_assoc, ℕ, ◌+◌, ◌<◌, ◌≤◌, List, [], ◌∷◌, ◌++◌, get_or, length, take}
 use Rattle.std.proofs.lemmas.List.{append-nil, length-take-le, take_all, take_more}
 use Rattle.geo_reply.specs.ReplyText.{from_text, froms_text}
 use Rattle.geo_reply.specs.declared.reply.Before.{Before}

@@ -122,11 +122,7 @@ fn put_numbers(out: &mut Vec<u8>, word: &str, numbers: &[u32]) -> Result<(), Mem
 }
 
 // Appends the line of a path. It takes at most 64 steps a point.
-fn put_path<L: Ledger>(
-    out: &mut Vec<u8>,
-    points: &[Pt],
-    steps: &mut Steps<L>,
-) -> Result<(), Memory>
+fn put_path<L: Ledger>(out: &mut Vec<u8>, points: &[Pt], steps: &mut Steps<L>) -> Result<(), Memory>
     requires { length points.now < 2 ^ 32 }
     ensures ok { OnOk result (out.new.items ≡ out.old.items ++ points_text (codes "path") points.now) }
     ensures front { OnErr result (take (length out.old.items) out.new.items ≡ out.old.items) }

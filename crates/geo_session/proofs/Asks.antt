@@ -54,7 +54,10 @@ refused two (command.Hull points) asks = record { is_reply = refl; suits = tt; s
 refused two (command.Round points) asks = record { is_reply = refl; suits = tt; state = refl; prepared = refl }
 refused two command.Guards asks = record { is_reply = refl; suits = tt; state = refl; prepared = refl }
 refused two (command.Pair i j) asks = record {
-  is_reply = refl; suits = tt; state = refl; prepared = record { told = λ told. absurd told; refused = λ _. refl };
+  is_reply = refl;
+  suits = tt;
+  state = refl;
+  prepared = record { told = λ told. absurd told; refused = λ _. refl };
 }
 refused two command.Sights asks = record { is_reply = refl; suits = tt; state = refl; prepared = record { told = λ told. absurd told; refused = λ _. refl } }
 

@@ -1,5 +1,5 @@
 -- The reply to a command is one, or at least its text: rational points may be given by other triples.
-use Rattle.std.proofs.Common.{◌≡◌, ◌∙◌, inl, inr, refl, sym, ap, subst, Bool, ℕ, ℤ, pos, ◌+◌, ◌-◌, ◌<◌, List, [], ◌∷◌, length, arith}
+use Rattle.std.proofs.Common.{◌≡◌, ◌∙◌, inl, refl, sym, ap, subst, Bool, ℕ, ℤ, pos, ◌+◌, ◌-◌, List, [], ◌∷◌, length, arith}
 use Rattle.std.proofs.lemmas.Int.{ints}
 use Rattle.std.proofs.lemmas.List.{ext_get_or}
 use Rattle.std.specs.Prelude.{Option, Some, None}
@@ -35,7 +35,7 @@ use Rattle.geo_session.specs.Place.{IsPlace}
 use Rattle.geo_session.specs.Polygon.{IsPolygonReply, accepted, clashing}
 use Rattle.geo_session.specs.Reply.{IsReply, IsReplyIn, IsReplyOf, state_after}
 use Rattle.geo_session.specs.State.{Kept, State}
-use Rattle.geo_session.specs.Told.{IsFirstOutside, NamesOutside, RepliesWithin, Tells, outside, within}
+use Rattle.geo_session.specs.Told.{NamesOutside, RepliesWithin, Tells, outside, within}
 use Rattle.geo_session.specs.Tree.{AreFrom, IsFrom}
 
 -- ---- the two forms

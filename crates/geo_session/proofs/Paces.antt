@@ -1,5 +1,5 @@
 -- The bounds on steps: of replies, and of their lines.
-use Rattle.std.proofs.Common.{◌≡◌, ◌∙◌, inl, inr, refl, sym, ap, subst, Bool, true, false, if◌then◌else◌, ℕ, ℤ, ◌+◌, ◌-◌, ◌*◌, ◌≤◌, List, [], ◌∷◌, ◌++◌, length, Result, Ok, Err, arith}
+use Rattle.std.proofs.Common.{◌≡◌, ◌∙◌, inl, inr, refl, sym, ap, subst, Bool, true, false, if◌then◌else◌, ℕ, ℤ, ◌+◌, ◌-◌, ◌*◌, ◌≤◌, List, [], ◌∷◌, ◌++◌, length, Result, arith}
 use Rattle.std.specs.Prelude.{OnOk, Option, Some, None}
 use Rattle.plane.specs.Point.{Point}
 use Rattle.shared_seq.specs.Digits.{binary_digits}
@@ -8,7 +8,7 @@ use Rattle.geo_text.specs.declared.command.Bad.TheVariants as bad
 use Rattle.geo_text.specs.declared.command.Command.{Command}
 use Rattle.geo_text.specs.declared.command.Command.TheVariants as command
 use Rattle.geo_reply.proofs.Fronts.{no_more, ok_since, under_ok}
-use Rattle.geo_reply.specs.ReplyText.{path_text, reply_text}
+use Rattle.geo_reply.specs.ReplyText.{reply_text}
 use Rattle.geo_reply.specs.Written.{WritesSteps, points_of}
 use Rattle.geo_reply.specs.declared.reply.Before.{Before}
 use Rattle.geo_reply.specs.declared.reply.Reply.{Reply}
@@ -17,9 +17,9 @@ use Rattle.geo_session.proofs.GivenSize.{size_held}
 use Rattle.geo_session.proofs.OneReply.{one_pair_of, one_path_of, one_reach_of}
 use Rattle.geo_session.specs.Asking.{IsWrittenPaced, TakesBoth, seen_of}
 use Rattle.geo_session.specs.Held.{HeldRing}
-use Rattle.geo_session.specs.Paced.{IsPaced, TakesPathSteps, TakesReplySteps, path_pace, reach_pace}
+use Rattle.geo_session.specs.Paced.{IsPaced, path_pace, reach_pace}
 use Rattle.geo_session.specs.Pairs.{AreSightsReply, IsPairReply, first_off, joined, second_off, sighted, too_large, too_many}
-use Rattle.geo_session.specs.Path.{IsPathReply, IsReachReply, TellsPath}
+use Rattle.geo_session.specs.Path.{IsReachReply, TellsPath}
 use Rattle.geo_session.specs.Prepared.{Seen, pair_pace, table_steps}
 use Rattle.geo_session.specs.Reply.{IsReply, IsReplyOf}
 use Rattle.geo_session.specs.State.{Kept, State, size_of}

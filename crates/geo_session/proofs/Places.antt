@@ -1,5 +1,5 @@
 -- Where a point is in the list that a ring was made of.
-use Rattle.std.proofs.Common.{◌≡◌, ◌↔◌, List, refl}
+use Rattle.std.proofs.Common.{◌≡◌, ◌↔◌, refl}
 use Rattle.plane.specs.Point.{Point, whole}
 use Rattle.rings.proofs.Inside.{on_some_either}
 use Rattle.rings.specs.Edge.{IsOnSome, edges_of}

@@ -1,6 +1,6 @@
 -- The round of points: its places, the list that the ring was made of, and its line.
-use Rattle.std.proofs.Common.{◌≡◌, ◌≢◌, ◌∙◌, inl, inr, refl, sym, ap, subst, Bool, true, false, ℕ, ◌+◌, ◌<◌, ◌≤◌}
-use Rattle.std.proofs.Common.{◌==◌, if◌then◌else◌, List, [], ◌++◌, length, get_or, arith}
+use Rattle.std.proofs.Common.{◌≡◌, ◌≢◌, ◌∙◌, inl, inr, refl, sym, ap, subst, true, false, ℕ, ◌+◌, ◌<◌, ◌≤◌}
+use Rattle.std.proofs.Common.{◌==◌, if◌then◌else◌, List, [], length, get_or, arith}
 use Rattle.std.proofs.Math.Dec.{eqb}
 use Rattle.std.proofs.lemmas.Bool.{cases_eq, cases_lt, ne_eqb, true≢false}
 use Rattle.std.proofs.lemmas.List.{get_or_default, length-map}

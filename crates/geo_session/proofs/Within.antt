@@ -1,5 +1,5 @@
 -- Replies to points that are to be in the polygon.
-use Rattle.std.proofs.Common.{◌≡◌, inl, inr, refl, ℕ, ◌<◌, List, [], ◌∷◌, length, arith}
+use Rattle.std.proofs.Common.{◌≡◌, inl, inr, refl, List, [], ◌∷◌, arith}
 use Rattle.std.proofs.lemmas.Bool.{cases_lt}
 use Rattle.plane.specs.Point.{Point, whole}
 use Rattle.rings.specs.Chain.{point_at}
@@ -11,7 +11,7 @@ use Rattle.geo_reply.specs.declared.reply.Reply.{Reply}
 use Rattle.geo_reply.specs.declared.reply.Reply.TheVariants as reply
 use Rattle.ring_check.specs.Oriented.{Oriented, given_of}
 use Rattle.geo_session.proofs.GivenPath.{in_given_iff}
-use Rattle.geo_session.specs.Told.{IsFirstOutside, NamesOutside, RepliesWithin, outside, within}
+use Rattle.geo_session.specs.Told.{NamesOutside, RepliesWithin, outside, within}
 
 module _ (ring : List Point) (Holds : Reply → Type 0) where
   -- ---- to one point

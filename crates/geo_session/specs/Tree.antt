@@ -1,5 +1,5 @@
 -- What a tree answers: for each vertex what comes before it on its path from the source. This project's own, after Guibas and others 1987.
-use Rattle.std.specs.Prelude.{◌≡◌, ◌≢◌, ℕ, ◌<◌, List, [], length, slice_index_or}
+use Rattle.std.specs.Prelude.{◌≡◌, ◌≢◌, ℕ, ◌<◌, List, length, slice_index_or}
 use Rattle.plane.specs.Point.{Point}
 use Rattle.rings.specs.From.{IsBefore}
 use Rattle.rings.specs.Ring.{vertex}

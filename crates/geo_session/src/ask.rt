@@ -130,9 +130,17 @@ impl Held {
         ensures paced { IsPaced (seen_of two (Some self.now)) command steps.old steps.new }
     {
         match command {
-            Command::Two | Command::Polygon(_) | Command::Tree(_) | Command::Pair(_, _) | Command::Sights => unreachable!(),
+            Command::Two
+            | Command::Polygon(_)
+            | Command::Tree(_)
+            | Command::Pair(_, _)
+            | Command::Sights => unreachable!(),
             Command::Inside(point) => Ok(Reply::Place(self.place(&point, steps))),
-            Command::Check(points) => Ok(Reply::Verdict(self.judge(alloc, points.as_slice(), steps)?)),
+            Command::Check(points) => Ok(Reply::Verdict(self.judge(
+                alloc,
+                points.as_slice(),
+                steps,
+            )?)),
             Command::Path(s, t) => Ok(path_reply(self.path(alloc, two, &s, &t, steps)?)),
             Command::Reach(t) => Ok(path_reply(self.reach(alloc, two, &t, steps)?)),
             Command::See(q) => self.view(alloc, &q, steps),

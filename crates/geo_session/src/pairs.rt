@@ -114,11 +114,7 @@ impl Held {
     }
 
     // A table of all pairs.
-    fn new_table<L: Ledger>(
-        &self,
-        alloc: Global,
-        steps: &mut Steps<L>,
-    ) -> Result<PairTable, Memory>
+    fn new_table<L: Ledger>(&self, alloc: Global, steps: &mut Steps<L>) -> Result<PairTable, Memory>
         requires { length self.now.ring.corners ≤ MAX_PAIRED }
         ensures made { IfOk result (IsMadeFor self.now.ring.corners) }
         ensures steps { let n = length self.now.ring.corners in let b = binary_digits n in steps.new ≤ steps.old + 200 * (n * n) * (b * b) }

@@ -1,7 +1,7 @@
 use Rattle.std.proofs.Common.{◌∙◌, arith, length}
 use Rattle.geo_text.specs.Texts.{index_text, pt_text}
 use Rattle.std.specs.Prelude.{codes}
-use Rattle.geo_reply.proofs.Fronts.{err_since, front_fault, front_kept, front_same, ok_of_err, then_written, under_ok}
+use Rattle.geo_reply.proofs.Fronts.{front_fault, front_kept, front_same, then_written, under_ok}
 use Rattle.geo_reply.proofs.MapFront.{flat_none, flat_pushed, flat_whole}
 use Rattle.geo_reply.proofs.lines.put_points.Goals as goal
 

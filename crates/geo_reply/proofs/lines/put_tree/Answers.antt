@@ -1,7 +1,7 @@
-use Rattle.std.proofs.Common.{◌≡◌, ap, arith, length, refl}
+use Rattle.std.proofs.Common.{length, refl}
 use Rattle.std.specs.Prelude.{codes}
 use Rattle.geo_reply.proofs.Fronts.{front_after}
-use Rattle.geo_reply.proofs.FromLines.{froms_none, froms_pushed, froms_whole}
+use Rattle.geo_reply.proofs.FromLines.{froms_none, froms_pushed}
 use Rattle.geo_reply.proofs.lines.put_tree.Goals as goal
 use Rattle.geo_reply.specs.ReplyText.{count_text}
 

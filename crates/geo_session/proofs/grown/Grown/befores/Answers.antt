@@ -1,4 +1,4 @@
-use Rattle.std.proofs.Common.{◌≡◌, ◌∙◌, ◌+◌, ℕ, ap, arith, length, refl, subst, sym}
+use Rattle.std.proofs.Common.{◌≡◌, ◌∙◌, ◌+◌, ap, arith, length}
 use Rattle.std.proofs.lemmas.List.{length_push}
 use Rattle.rings.specs.Ring.{vertex}
 use Rattle.ring_check.specs.Oriented.{given_of}

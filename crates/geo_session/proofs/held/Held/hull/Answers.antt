@@ -1,10 +1,7 @@
 use Rattle.std.proofs.Common.{refl}
-use Rattle.std.specs.Prelude.{Ok}
-use Rattle.geo_reply.specs.declared.reply.Reply.TheVariants as reply
 use Rattle.geo_session.proofs.HullTable.{span_table}
 use Rattle.geo_session.proofs.Hulls.{hull_within, pairs_few}
 use Rattle.geo_session.proofs.Within.{named_given}
-use Rattle.geo_session.specs.Span.{AreNumbered, AreSidesTold, IsSpan}
 use Rattle.geo_session.specs.Told.{outside}
 use Rattle.geo_session.proofs.held.Held.hull.Goals as goal
 

@@ -1,4 +1,4 @@
-use Rattle.std.proofs.Common.{◌≡◌, ◌<◌, ap, arith, length, refl, subst}
+use Rattle.std.proofs.Common.{◌≡◌, ◌<◌, ap, arith, length, subst}
 use Rattle.std.proofs.lemmas.List.{get_or_read}
 use Rattle.plane.specs.Point.{whole}
 use Rattle.rings.specs.Inside.{IsIn}

@@ -1,4 +1,3 @@
-use Rattle.std.proofs.Common.{refl}
 use Rattle.geo_session.proofs.PathAlong.{leads}
 use Rattle.geo_session.proofs.held.Held.path_between.Goals as goal
 

@@ -1,4 +1,4 @@
-use Rattle.std.proofs.Common.{◌≤◌, ◌<◌, ◌^◌, arith, length, refl}
+use Rattle.std.proofs.Common.{◌≤◌, arith, length}
 use Rattle.plane.specs.declared.limits.TheConstants.{MAX_CORNERS}
 use Rattle.ring_check.specs.Oriented.{given_of}
 use Rattle.geo_session.proofs.AskedVertices.{length_given}

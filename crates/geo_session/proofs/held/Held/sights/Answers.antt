@@ -1,9 +1,8 @@
-use Rattle.std.proofs.Common.{◌≡◌, refl}
 use Rattle.std.specs.Prelude.{Some}
 use Rattle.geo_text.specs.declared.command.Command.TheVariants as command
 use Rattle.geo_session.specs.Asking.{seen_of}
-use Rattle.geo_session.proofs.Asks.{sights_made, sights_refused, sights_told, small_of}
-use Rattle.geo_session.proofs.Paces.{sights_paced, unpaced}
+use Rattle.geo_session.proofs.Asks.{sights_refused}
+use Rattle.geo_session.proofs.Paces.{unpaced}
 use Rattle.geo_session.proofs.held.Held.sights.Goals as goal
 
 pub returns-then-is_large-clause-asked : goal.returns-then-is_large-clause-asked

@@ -1,5 +1,4 @@
-use Rattle.std.proofs.Common.{◌≡◌, ap, arith, length, refl}
-use Rattle.geo_reply.proofs.Fronts.{none_of_err}
+use Rattle.std.proofs.Common.{◌≡◌, arith, length}
 use Rattle.geo_session.proofs.Hulls.{ends_numbered}
 use Rattle.geo_session.proofs.Spanned.{sides_more}
 use Rattle.geo_session.proofs.held.Held.told_sides.Goals as goal

@@ -1,8 +1,3 @@
-use Rattle.std.proofs.Common.{refl, length}
-use Rattle.std.specs.Prelude.{Some}
-use Rattle.ring_check.specs.Oriented.{given_of}
-use Rattle.geo_reply.proofs.Fronts.{none_of_err}
-use Rattle.geo_reply.specs.declared.reply.Reply.TheVariants as reply
 use Rattle.geo_session.proofs.Asks.{tree_kept, tree_refused}
 use Rattle.geo_session.proofs.Paces.{tree_found, tree_paced}
 use Rattle.geo_session.specs.Held.{HeldRing, is_there, source_of}

@@ -1,5 +1,5 @@
 use Rattle.std.proofs.Common.{refl}
-use Rattle.geo_reply.proofs.Fronts.{err_since, none_of_err, ok_of_err}
+use Rattle.geo_reply.proofs.Fronts.{err_since}
 use Rattle.geo_session.proofs.session.Session.ask.Goals as goal
 
 pub returns-in_err-asked-clause-same_session : goal.returns-in_err-asked-clause-same_session
