@@ -1,7 +1,7 @@
 -- What a call gives back for a whole script. This project's own.
 use Rattle.std.specs.Prelude.{◌≡◌, ℕ, List, ◌++◌}
 use Rattle.geo_text.specs.Records.{records_of}
-use Rattle.geo_session.specs.Answer.{State}
+use Rattle.geo_session.specs.State.{State}
 use Rattle.geo_session.specs.Output.{AreFirstAnswers, IsOutput}
 use Rattle.geo_c.specs.Filled.{IsFilledBy}
 

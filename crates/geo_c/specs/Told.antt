@@ -3,9 +3,11 @@ use Rattle.std.specs.Prelude.{◌≡◌, ℕ, List, [], ◌∷◌, Result, Ok, E
 use Rattle.std.specs.declared.alloc.Global.{Global}
 use Rattle.plane.specs.Point.{Point}
 use Rattle.geo_text.specs.declared.command.Bad.{Bad}
+use Rattle.geo_text.specs.declared.command.Command.TheVariants as command
 use Rattle.inside_test.specs.declared.position.Position.{Position}
-use Rattle.geo_session.specs.Path.{IsReachAnswer, IsShownAnswer}
-use Rattle.geo_session.specs.Place.{IsPlaceAnswer}
+use Rattle.geo_reply.specs.declared.reply.Reply.TheVariants as reply
+use Rattle.geo_session.specs.Path.{path_of}
+use Rattle.geo_session.specs.Reply.{IsFound}
 use Rattle.geo_script.specs.Asked.{IsAskedWithin}
 use Rattle.geo_script.specs.Dialog.{Talk}
 use Rattle.geo_c.specs.Filled.{IsFilledBy}
@@ -30,12 +32,12 @@ ArePointsGiven status needed needed' before after (Err bad) = (status ≡ status
 
 -- where a point lies in the polygon of a talk is given back like that
 abbrev pub TellsPlace : Talk → Point → (Result Position Bad → Type 0) → Type 0
-TellsPlace talk p IsGiven = Tells (IsAskedWithin talk.state.two (p.x ∷ p.y ∷ []) (IsPlaceAnswer talk.state.kept p)) IsGiven
+TellsPlace talk p IsGiven = Tells (IsAskedWithin talk.state.two (p.x ∷ p.y ∷ []) (IsFound talk.state (command.Inside p) reply.Place)) IsGiven
 
 -- so is the path from one point to another
 abbrev pub TellsPath : Talk → Point → Point → (Result (Vec Point Global) Bad → Type 0) → Type 0
-TellsPath talk s t IsGiven = Tells (IsAskedWithin talk.state.two (s.x ∷ s.y ∷ t.x ∷ t.y ∷ []) (IsShownAnswer talk.state.two talk.state.kept s t)) IsGiven
+TellsPath talk s t IsGiven = Tells (IsAskedWithin talk.state.two (s.x ∷ s.y ∷ t.x ∷ t.y ∷ []) (IsFound talk.state (command.Path s t) path_of)) IsGiven
 
 -- and the path from the source of the tree to a point
 abbrev pub TellsReach : Talk → Point → (Result (Vec Point Global) Bad → Type 0) → Type 0
-TellsReach talk t IsGiven = Tells (IsAskedWithin talk.state.two (t.x ∷ t.y ∷ []) (IsReachAnswer talk.state.two talk.state.kept t)) IsGiven
+TellsReach talk t IsGiven = Tells (IsAskedWithin talk.state.two (t.x ∷ t.y ∷ []) (IsFound talk.state (command.Reach t) path_of)) IsGiven

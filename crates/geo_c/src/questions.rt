@@ -3,8 +3,8 @@ ghost use Rattle.std.specs.Prelude.{◌≡◌, ◌+◌, ◌<◌, ◌≤◌, ◌�
 ghost use Rattle.plane.specs.declared.limits.TheConstants.{MAX_CORNERS, MAX_SCRIPT};
 ghost use Rattle.geo_text.specs.Records.{AreWhole};
 ghost use Rattle.geo_session.specs.Output.{IsOutput};
-ghost use Rattle.geo_session.specs.Path.{IsReachAnswer, IsShownAnswer};
-ghost use Rattle.geo_session.specs.Place.{IsPlaceAnswer};
+ghost use Rattle.geo_session.specs.Path.{path_of};
+ghost use Rattle.geo_session.specs.Reply.{IsFound};
 ghost use Rattle.geo_script.specs.Asked.{IsAskedWithin};
 ghost use Rattle.geo_script.specs.Dialog.{AnswersPiece, AnswersSome, IsTalkOf};
 ghost use Rattle.geo_c.specs.Filled.{filled_by};
@@ -13,8 +13,9 @@ ghost use Rattle.geo_c.specs.Held.{talk_of};
 use crate::fill::fill;
 use crate::handle::GeoSession;
 use exact_plane::{Memory, Pt, Steps};
+use geo_reply::Reply;
 use geo_script::{Dialog, Stop};
-use geo_text::Bad;
+use geo_text::{Bad, Command};
 use inside_test::Position;
 use plane::MAX_SCRIPT;
 use std::alloc::Global;
@@ -87,7 +88,7 @@ impl GeoSession {
         requires parts { blank.parts ≡ L.parts }
         requires countable { 0 < blank.parts }
         ensures answer { IsAskedWithin (talk_of self.old.held).state.two (x ∷ y ∷ [])
-            (IsPlaceAnswer (talk_of self.old.held).state.kept (record { x = x; y = y })) result }
+            (IsFound (talk_of self.old.held).state (Command.Inside (record { x = x; y = y })) Reply.Place) result }
         ensures same { self.new.held ≡ self.old.held }
     {
         let mut steps = Steps::<L>::new(blank);
@@ -108,7 +109,7 @@ impl GeoSession {
         steps: &mut Steps<L>,
     ) -> Result<Result<Vec<Pt>, Bad>, Memory>
         ensures answer { IfOk result (IsAskedWithin (talk_of self.old.held).state.two (from.0 ∷ from.1 ∷ to.0 ∷ to.1 ∷ [])
-            (IsShownAnswer (talk_of self.old.held).state.two (talk_of self.old.held).state.kept (record { x = from.0; y = from.1 }) (record { x = to.0; y = to.1 }))) }
+            (IsFound (talk_of self.old.held).state (Command.Path (record { x = from.0; y = from.1 }) (record { x = to.0; y = to.1 })) path_of)) }
         ensures few { IfOk result (λ found. IfOk found (λ points. length points.items ≤ MAX_CORNERS + 2)) }
         ensures same { self.new.held ≡ self.old.held }
     {
@@ -129,7 +130,7 @@ impl GeoSession {
         steps: &mut Steps<L>,
     ) -> Result<Result<Vec<Pt>, Bad>, Memory>
         ensures answer { IfOk result (IsAskedWithin (talk_of self.old.held).state.two (x ∷ y ∷ [])
-            (IsReachAnswer (talk_of self.old.held).state.two (talk_of self.old.held).state.kept (record { x = x; y = y }))) }
+            (IsFound (talk_of self.old.held).state (Command.Reach (record { x = x; y = y })) path_of)) }
         ensures few { IfOk result (λ found. IfOk found (λ points. length points.items ≤ MAX_CORNERS + 3)) }
         ensures same { self.new.held ≡ self.old.held }
     {

@@ -4,7 +4,7 @@ use Rattle.std.proofs.KnownBytes.{Appends-nil, Appends-trans}
 use Rattle.std.specs.Io.KnownBytes.{Appends}
 use Rattle.geo_io.specs.Transfers.{AppendsFront}
 use Rattle.geo_text.specs.Records.{Unread}
-use Rattle.geo_session.specs.Answer.{State, first_state}
+use Rattle.geo_session.specs.State.{State, first_state}
 use Rattle.geo_script.proofs.NextRecord.{all_records, answer_is, none_answered, one_more}
 use Rattle.geo_script.specs.Answered.{AnswersRecord}
 use Rattle.geo_run.specs.Progress.{WrittenSoFar, whole_script}

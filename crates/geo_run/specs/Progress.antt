@@ -2,7 +2,7 @@
 use Rattle.std.specs.Io.KnownBytes.{Appends}
 use Rattle.std.specs.Prelude.{◌≡◌, false, ℕ, List, [], Option}
 use Rattle.geo_text.specs.Records.{Unread, records_of}
-use Rattle.geo_session.specs.Answer.{State, first_state}
+use Rattle.geo_session.specs.State.{State, first_state}
 use Rattle.geo_script.specs.Answered.{AnsweredSoFar}
 
 -- a script before its first record

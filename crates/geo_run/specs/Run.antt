@@ -5,7 +5,8 @@ use Rattle.std.specs.Prelude.{◌≡◌, ℕ, ◌≤◌, List, [], ◌∷◌, �
 use Rattle.plane.specs.declared.limits.TheConstants.{MAX_SCRIPT}
 use Rattle.geo_text.specs.Reading.{is_two, reading_of}
 use Rattle.geo_text.specs.Records.{records_of}
-use Rattle.geo_session.specs.Answer.{IsReadingAnswer, State}
+use Rattle.geo_session.specs.Answer.{IsReadingAnswer}
+use Rattle.geo_session.specs.State.{State}
 use Rattle.geo_session.specs.Output.{AreFirstAnswers, IsOutput}
 
 -- these bytes are the whole script, and it is not too long

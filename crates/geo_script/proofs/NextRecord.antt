@@ -4,7 +4,8 @@ use Rattle.std.proofs.lemmas.Bool.{ne_eqb}
 use Rattle.std.proofs.lemmas.List.{length_push}
 use Rattle.geo_text.specs.Reading.{asks_two, is_two, reading_of}
 use Rattle.geo_text.specs.Records.{Unread}
-use Rattle.geo_session.specs.Answer.{IsReadingAnswer, State}
+use Rattle.geo_session.specs.Answer.{IsReadingAnswer}
+use Rattle.geo_session.specs.State.{State}
 use Rattle.geo_session.specs.Output.{AreAnswers}
 use Rattle.geo_script.specs.Answered.{AnsweredSoFar, AnswersRecord, version_of}
 

@@ -4,7 +4,7 @@ use Rattle.std.proofs.lemmas.Bool.{ne_eqb}
 use Rattle.geo_text.proofs.Joined.{no_later_records, no_records}
 use Rattle.geo_text.specs.Reading.{is_two}
 use Rattle.geo_text.specs.Records.{Unread, records_of}
-use Rattle.geo_session.specs.Answer.{State, first_state}
+use Rattle.geo_session.specs.State.{State, first_state}
 use Rattle.geo_session.specs.Output.{AreAnswers, AreFirstAnswers}
 use Rattle.geo_script.proofs.NextRecord.{first_and_one, no_first, none_answered, one_more}
 use Rattle.geo_script.specs.Answered.{AnswersRecord, version_of}

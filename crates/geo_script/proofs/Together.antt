@@ -4,7 +4,8 @@ use Rattle.std.proofs.lemmas.Bool.{ne_eqb}
 use Rattle.geo_text.proofs.Joined.{no_records, records_joined}
 use Rattle.geo_text.specs.Reading.{asks_two, is_two, reading_of}
 use Rattle.geo_text.specs.Records.{AreWhole, later_records_of, records_of}
-use Rattle.geo_session.specs.Answer.{IsReadingAnswer, State, first_state}
+use Rattle.geo_session.specs.Answer.{IsReadingAnswer}
+use Rattle.geo_session.specs.State.{State, first_state}
 use Rattle.geo_session.specs.Output.{AreAnswers, AreFirstAnswers}
 use Rattle.geo_script.proofs.Pieces.{first_answers}
 use Rattle.geo_script.proofs.Versions.{version_kept}

@@ -1,8 +1,9 @@
 -- The answers to a script keep its version.
-use Rattle.std.proofs.Common.{◌≡◌, ◌≢◌, ◌∙◌, ◌+◌, ℕ, Bool, true, false, if◌then◌else◌, List, [], ◌∷◌, Option, None, Some, Result, Ok, Err, ap, arith}
+use Rattle.std.proofs.Common.{◌≡◌, ◌≢◌, ◌∙◌, ◌+◌, ℕ, Bool, true, false, if◌then◌else◌, List, [], ◌∷◌, Option, None, Some, Result, Ok, Err, ap, arith, refl}
 use Rattle.std.proofs.lemmas.Bool.{ne_eqb}
 use Rattle.std.specs.Prelude.{IfOk, codes, drop}
 use Rattle.std.specs.Str.{bytes_eq}
+use Rattle.plane.specs.Point.{Point}
 use Rattle.plane.specs.declared.limits.TheConstants.{MAX_HULL}
 use Rattle.geo_text.specs.Limits.{limits_of}
 use Rattle.geo_text.specs.Reading.{command_of, fixed_command_of, fixed_fault, list_fault, number_at, point_of, points_of, reading_of, unless}
@@ -10,8 +11,12 @@ use Rattle.geo_text.specs.declared.command.Bad.{Bad}
 use Rattle.geo_text.specs.declared.command.Command.{Command}
 use Rattle.geo_text.specs.declared.command.Command.TheVariants as command
 use Rattle.geo_text.specs.declared.limits.Limits.{Limits}
-use Rattle.geo_session.specs.Answer.{IsAnswer, IsReadingAnswer, State, first_state}
+use Rattle.geo_session.specs.Answer.{IsAnswer, IsReadingAnswer}
+use Rattle.geo_session.specs.State.{State, first_state}
 use Rattle.geo_session.specs.Output.{AreAnswers}
+use Rattle.geo_session.specs.Reply.{state_after}
+use Rattle.geo_reply.specs.declared.reply.Reply.{Reply}
+use Rattle.geo_reply.specs.declared.reply.Reply.TheVariants as reply
 
 -- the command asks for no version
 abbrev IsPlain : Command → Type 0
@@ -60,22 +65,55 @@ command_is_plain limits (word ∷ fields) =
     (either (bytes_eq word (codes "round")) _ _ (plain_unless (list_fault limits.coordinate 1 MAX_HULL fields) (command.Round (points_of fields)) tt)
     (fixed_is_plain limits.coordinate word fields))))
 
--- a plain command keeps the version
+-- whatever is replied to a plain command, the version is kept
+after_polygon : (before : State) (ring : List Point) (answered : Reply) → (state_after before (command.Polygon ring) answered).two ≡ before.two
+after_polygon before ring reply.Two = refl
+after_polygon before ring (reply.Polygon count) = refl
+after_polygon before ring (reply.Refused fault) = refl
+after_polygon before ring (reply.Place place) = refl
+after_polygon before ring (reply.Verdict verdict) = refl
+after_polygon before ring (reply.Path points) = refl
+after_polygon before ring (reply.Tree befores) = refl
+after_polygon before ring (reply.View parts) = refl
+after_polygon before ring (reply.Kernel corners) = refl
+after_polygon before ring (reply.Hull sides) = refl
+after_polygon before ring (reply.Round numbers) = refl
+after_polygon before ring (reply.Guards numbers) = refl
+after_polygon before ring (reply.Sights pairs) = refl
+
+after_tree : (before : State) (s : Point) (answered : Reply) → (state_after before (command.Tree s) answered).two ≡ before.two
+after_tree before s reply.Two = refl
+after_tree before s (reply.Polygon count) = refl
+after_tree before s (reply.Refused fault) = refl
+after_tree before s (reply.Place place) = refl
+after_tree before s (reply.Verdict verdict) = refl
+after_tree before s (reply.Path points) = refl
+after_tree before s (reply.Tree befores) = refl
+after_tree before s (reply.View parts) = refl
+after_tree before s (reply.Kernel corners) = refl
+after_tree before s (reply.Hull sides) = refl
+after_tree before s (reply.Round numbers) = refl
+after_tree before s (reply.Guards numbers) = refl
+after_tree before s (reply.Sights pairs) = refl
+
+after_plain : (before : State) (asked : Command) (answered : Reply) → IsPlain asked → (state_after before asked answered).two ≡ before.two
+after_plain before command.Two answered plain = absurd plain
+after_plain before (command.Polygon ring) answered plain = after_polygon before ring answered
+after_plain before (command.Inside p) answered plain = refl
+after_plain before (command.Check points) answered plain = refl
+after_plain before (command.Path s t) answered plain = refl
+after_plain before (command.Tree s) answered plain = after_tree before s answered
+after_plain before (command.Reach t) answered plain = refl
+after_plain before (command.See q) answered plain = refl
+after_plain before command.Kernel answered plain = refl
+after_plain before (command.Hull points) answered plain = refl
+after_plain before (command.Round points) answered plain = refl
+after_plain before command.Guards answered plain = refl
+after_plain before (command.Pair i j) answered plain = refl
+after_plain before command.Sights answered plain = refl
+
 plain_keeps : (before : State) (asked : Command) (text : List ℕ) (after : State) → IsPlain asked → IsAnswer before asked text after → after.two ≡ before.two
-plain_keeps before command.Two text after plain told = absurd plain
-plain_keeps before (command.Polygon ring) text after plain told = told.1
-plain_keeps before (command.Inside p) text after plain told = ap (λ (s : State). s.two) told.1
-plain_keeps before (command.Check points) text after plain told = ap (λ (s : State). s.two) told.1
-plain_keeps before (command.Path s t) text after plain told = ap (λ (s : State). s.two) told.1
-plain_keeps before (command.Tree s) text after plain told = told.1
-plain_keeps before (command.Reach t) text after plain told = ap (λ (s : State). s.two) told.1
-plain_keeps before (command.See q) text after plain told = ap (λ (s : State). s.two) told.1
-plain_keeps before command.Kernel text after plain told = ap (λ (s : State). s.two) told.1
-plain_keeps before (command.Hull points) text after plain told = ap (λ (s : State). s.two) told.1
-plain_keeps before (command.Round points) text after plain told = ap (λ (s : State). s.two) told.1
-plain_keeps before command.Guards text after plain told = ap (λ (s : State). s.two) told.1
-plain_keeps before (command.Pair i j) text after plain told = ap (λ (s : State). s.two) told.1
-plain_keeps before command.Sights text after plain told = ap (λ (s : State). s.two) told.1
+plain_keeps before asked text after plain told = ap (λ (s : State). s.two) told.left ∙ after_plain before asked told.answered plain
 
 record_keeps : (before : State) (reading : Result Command Bad) (text : List ℕ) (after : State) → IfOk reading IsPlain → IsReadingAnswer before reading text after
     → after.two ≡ before.two
@@ -98,7 +136,7 @@ later_keep two k before after (fields ∷ records) text some told =
 -- and the first one says it
 first_says : (two : Bool) (fields : List (List ℕ)) (text : List ℕ) (after : State) → IsReadingAnswer first_state (reading_of two 0 fields) text after
     → after.two ≡ two
-first_says true fields text after told = ap (λ (s : State). s.two) told.1
+first_says true fields text after told = ap (λ (s : State). s.two) told.left
 first_says false fields text after told = record_keeps first_state (command_of (limits_of false) fields) text after (command_is_plain (limits_of false) fields) told
 
 pub version_kept : (two : Bool) (after : State) (fields : List (List ℕ)) (records : List (List (List ℕ))) (text : List ℕ)

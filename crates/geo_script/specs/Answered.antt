@@ -4,7 +4,8 @@ use Rattle.geo_text.specs.Reading.{TakesRecord, is_two}
 use Rattle.geo_text.specs.Records.{Unread}
 use Rattle.geo_text.specs.declared.command.Bad.{Bad}
 use Rattle.geo_text.specs.declared.command.Command.{Command}
-use Rattle.geo_session.specs.Answer.{AppendsReadingAnswer, State}
+use Rattle.geo_session.specs.Answer.{AppendsReadingAnswer}
+use Rattle.geo_session.specs.State.{State}
 use Rattle.geo_session.specs.Output.{AreAnswers}
 
 -- the next record was taken from a script, which reads on

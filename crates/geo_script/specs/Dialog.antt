@@ -2,7 +2,7 @@
 use Rattle.std.specs.Prelude.{◌≡◌, ◌||◌, Bool, true, false, if◌then◌else◌, ℕ, List, [], ◌∷◌, ◌++◌}
 use Rattle.geo_text.specs.Reading.{is_two}
 use Rattle.geo_text.specs.Records.{later_records_of, records_of}
-use Rattle.geo_session.specs.Answer.{State, first_state}
+use Rattle.geo_session.specs.State.{State, first_state}
 use Rattle.geo_session.specs.Output.{AreAnswers, IsOutput}
 
 -- whether a piece had a byte, whether one had a record, which says the version, the state, and the answers to the last piece

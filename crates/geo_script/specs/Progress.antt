@@ -1,7 +1,7 @@
 -- How far a piece of a script is answered. No public clause cites this module.
 use Rattle.std.specs.Prelude.{◌≡◌, ◌||◌, Bool, false, if◌then◌else◌, ℕ, List}
 use Rattle.geo_text.specs.Records.{Unread}
-use Rattle.geo_session.specs.Answer.{State}
+use Rattle.geo_session.specs.State.{State}
 use Rattle.geo_script.specs.Answered.{AnsweredSoFar}
 use Rattle.geo_script.specs.Dialog.{Talk, is_some, records_in}
 

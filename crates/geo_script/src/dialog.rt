@@ -3,16 +3,17 @@ ghost use Rattle.plane.specs.declared.limits.TheConstants.{MAX_CORNERS, MAX_SCRI
 ghost use Rattle.geo_text.specs.Limits.{limits_of};
 ghost use Rattle.geo_text.specs.Records.{AreWhole};
 ghost use Rattle.geo_session.specs.Output.{IsOutput};
-ghost use Rattle.geo_session.specs.Path.{IsReachAnswer, IsShownAnswer};
-ghost use Rattle.geo_session.specs.Place.{IsPlaceAnswer};
+ghost use Rattle.geo_session.specs.Path.{path_of};
+ghost use Rattle.geo_session.specs.Reply.{IsFound};
 ghost use Rattle.geo_script.specs.Asked.{IsAskedWithin};
 ghost use Rattle.geo_script.specs.Dialog.{AnswersPiece, AnswersSome, IsTalkOf, first_talk, records_in};
 ghost use Rattle.geo_script.specs.declared.dialog.Stop.TheVariants.{Memory as OutOfMemory};
 
 use crate::next::answer_next;
 use exact_plane::{Memory, Pt, Steps};
+use geo_reply::Reply;
 use geo_session::Session;
-use geo_text::{Bad, Limits, Script};
+use geo_text::{Bad, Command, Limits, Script};
 use inside_test::Position;
 use plane::MAX_SCRIPT;
 use std::alloc::Global;
@@ -46,7 +47,7 @@ impl Model for Dialog {
     ghost view = { λ d. record { begun = d.begun; known = d.known; state = d.session.state; text = d.text.items } };
 
     ghost use Rattle.std.specs.Prelude.{◌≡◌, false};
-    ghost use Rattle.geo_session.specs.Answer.{first_state};
+    ghost use Rattle.geo_session.specs.State.{first_state};
 
     ghost invariant = { λ d. (d.begun ≡ false → d.known ≡ false) × (d.known ≡ false → d.session.state ≡ first_state) };
 }
@@ -120,7 +121,7 @@ impl Dialog {
 
     /// Where a point lies in the polygon, or the refusal that an `inside` with these numbers gets.
     pub fn inside<L: Ledger>(&self, x: i64, y: i64, steps: &mut Steps<L>) -> Result<Position, Bad>
-        ensures { IsAskedWithin self.now.state.two (x ∷ y ∷ []) (IsPlaceAnswer self.now.state.kept (record { x = x; y = y })) result }
+        ensures { IsAskedWithin self.now.state.two (x ∷ y ∷ []) (IsFound self.now.state (Command.Inside (record { x = x; y = y })) Reply.Place) result }
     {
         let point = self.limits().point(1, x, y)?;
         self.session.place(&point, steps)
@@ -136,7 +137,7 @@ impl Dialog {
         steps: &mut Steps<L>,
     ) -> Result<Result<Vec<Pt>, Bad>, Memory>
         ensures answer { IfOk result (IsAskedWithin self.now.state.two (from.0 ∷ from.1 ∷ to.0 ∷ to.1 ∷ [])
-            (IsShownAnswer self.now.state.two self.now.state.kept (record { x = from.0; y = from.1 }) (record { x = to.0; y = to.1 }))) }
+            (IsFound self.now.state (Command.Path (record { x = from.0; y = from.1 }) (record { x = to.0; y = to.1 })) path_of)) }
         ensures few { IfOk result (λ found. IfOk found (λ points. length points.items ≤ MAX_CORNERS + 2)) }
     {
         let limits = self.limits();
@@ -161,7 +162,7 @@ impl Dialog {
         steps: &mut Steps<L>,
     ) -> Result<Result<Vec<Pt>, Bad>, Memory>
         ensures answer { IfOk result (IsAskedWithin self.now.state.two (x ∷ y ∷ [])
-            (IsReachAnswer self.now.state.two self.now.state.kept (record { x = x; y = y }))) }
+            (IsFound self.now.state (Command.Reach (record { x = x; y = y })) path_of)) }
         ensures few { IfOk result (λ found. IfOk found (λ points. length points.items ≤ MAX_CORNERS + 3)) }
     {
         match self.limits().point(1, x, y) {

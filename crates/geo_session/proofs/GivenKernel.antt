@@ -1,7 +1,5 @@
 -- The kernel of a ring is that of the list that the ring was made of.
-use Rattle.std.proofs.Common.{◌↔◌, Bool, true, false, if◌then◌else◌, List, Result, Ok, Err}
-use Rattle.std.specs.Prelude.{IfOk, Vec}
-use Rattle.std.specs.declared.alloc.Global.{Global}
+use Rattle.std.proofs.Common.{◌↔◌, Bool, true, false, if◌then◌else◌, List}
 use Rattle.plane.specs.Point.{Point, Triple}
 use Rattle.rings.proofs.Inside.{in_turned_iff, sees_turned_iff}
 use Rattle.rings.specs.Kernel.{IsInKernel, IsKernel}
@@ -33,7 +31,5 @@ kernel_either true ring corners list = record {
   );
 }
 
-pub kernel_given : {E : Type 0} (ring : Oriented) (found : Result (Vec Triple Global) E) → IfOk found (λ corners. IsKernel ring.corners corners.items)
-    → IfOk found (λ corners. IsKernel (given_of ring) corners.items)
-kernel_given ring (Ok corners) h = kernel_either ring.is_turned ring.corners corners.items h
-kernel_given ring (Err e) h = tt
+pub kernel_given : (ring : Oriented) (corners : List Triple) → IsKernel ring.corners corners → IsKernel (given_of ring) corners
+kernel_given ring corners h = kernel_either ring.is_turned ring.corners corners h

@@ -11,7 +11,8 @@ use Rattle.rings.specs.Orientation.{turned_round}
 use Rattle.rings.specs.Sees.{Sees}
 use Rattle.rings.specs.Visible.{AreParts, IsInView, Part, part_at, turned_parts}
 use Rattle.ring_check.specs.Oriented.{Oriented, given_of}
-use Rattle.geo_session.specs.View.{IsView, given_parts}
+use Rattle.geo_session.specs.Parts.{given_parts}
+use Rattle.geo_session.specs.View.{IsView}
 
 -- what is seen of a ring is in view of its parts, also where the ring and the parts are read the other way round
 view_either : (is_turned : Bool) (ring : List Point) (q : Triple) (parts : List Part) → IsView ring q parts → (x : Triple) → IsPoint x

@@ -1,8 +1,6 @@
 -- The guards of a ring are those of the list that the ring was made of.
-use Rattle.std.proofs.Common.{◌≡◌, ◌∙◌, sym, ap, subst, Bool, true, false, if◌then◌else◌, ℕ, ◌/◌, ◌≤◌, List, length, Result, Ok, Err, arith}
+use Rattle.std.proofs.Common.{◌≡◌, ◌∙◌, sym, ap, subst, Bool, true, false, if◌then◌else◌, ℕ, ◌/◌, ◌≤◌, List, length, arith}
 use Rattle.std.proofs.lemmas.Int.{ints}
-use Rattle.std.specs.Prelude.{IfOk, Vec}
-use Rattle.std.specs.declared.alloc.Global.{Global}
 use Rattle.plane.specs.Point.{Point}
 use Rattle.rings.proofs.Turned.{doubled_area-turned_round, turned_round-turned_round}
 use Rattle.rings.specs.Orientation.{IsCounterclockwise, is_clockwise, turned_round}
@@ -12,7 +10,7 @@ use Rattle.ring_check.specs.Oriented.{Oriented, given_of, oriented}
 use Rattle.cut_tri.specs.Cut.{IsCut}
 use Rattle.guards3.specs.Guards.{AreGuards, SeeAll}
 use Rattle.geo_session.proofs.GivenSize.{length_either}
-use Rattle.geo_session.specs.Numbers.{GuardRing}
+use Rattle.geo_session.specs.Guards.{GuardRing}
 
 -- a counterclockwise ring that is turned round runs clockwise
 turned_is_clockwise : (ring : List Point) → IsCounterclockwise ring → is_clockwise (turned_round ring) ≡ true
@@ -37,7 +35,7 @@ oriented_given : (ring : Oriented) → IsCounterclockwise ring.corners → orien
 oriented_given ring way = oriented_either ring.corners ring.is_turned way
 
 module _ (ring : Oriented) (way : IsCounterclockwise ring.corners) (tris : List Tri) (fits : Fits ring.corners tris) (cut : IsCut ring.corners tris) where
-  guard_ring : (guards : List ℕ) → AreGuards ring tris guards → length guards ≤ length ring.corners / 3 → SeeAll (given_of ring) guards
+  pub guard_ring : (guards : List ℕ) → AreGuards ring tris guards → length guards ≤ length ring.corners / 3 → SeeAll (given_of ring) guards
       → GuardRing (given_of ring) guards
   guard_ring guards are few seen =
       let same : ring ≡ oriented (given_of ring) = sym (oriented_given ring way) in
@@ -49,9 +47,3 @@ module _ (ring : Oriented) (way : IsCounterclockwise ring.corners) (tris : List 
         few = rw (length_either ring.is_turned ring.corners) few;
         seen = seen;
       }
-
-  pub guards_given : {E : Type 0} (found : Result (Vec ℕ Global) E) → IfOk found (λ guards. AreGuards ring tris guards.items)
-      → IfOk found (λ guards. length guards.items ≤ length ring.corners / 3) → IfOk found (λ guards. SeeAll (given_of ring) guards.items)
-      → IfOk found (λ guards. GuardRing (given_of ring) guards.items)
-  guards_given (Ok guards) are few seen = guard_ring guards.items are few seen
-  guards_given (Err e) are few seen = tt

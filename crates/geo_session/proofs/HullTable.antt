@@ -1,5 +1,5 @@
 -- The table of the chains between the points of a hull, and its sides.
-use Rattle.std.proofs.Common.{◌≡◌, ◌∙◌, refl, sym, subst, Bool, ℕ, ◌+◌, ◌*◌, ◌<◌, ◌≤◌, List, [], length, arith}
+use Rattle.std.proofs.Common.{◌≡◌, ◌∙◌, refl, sym, subst, ℕ, ◌+◌, ◌*◌, ◌<◌, ◌≤◌, List, [], length, arith}
 use Rattle.std.proofs.lemmas.List.{ext_get_or, get_or-map, length-map}
 use Rattle.std.proofs.lemmas.List.Elements.{Contains-get_or}
 use Rattle.std.proofs.lemmas.List.FromFn.{get_or-map-range_with_len, length-map-range_with_len}
@@ -12,7 +12,9 @@ use Rattle.hulls.specs.Inner.{AreDistinct}
 use Rattle.rel_hull.specs.Table.{AreSides, IsTableOf, Table, chain_at, pair_at, points_of}
 use Rattle.geo_session.proofs.Spanned.{chain_between_places}
 use Rattle.geo_session.specs.Hull.{AreFirsts}
-use Rattle.geo_session.specs.Span.{AreHeld, AreTold, AreWalked, IsNumberedTable, IsShortPath, IsShortShown, numbered}
+use Rattle.geo_session.specs.Sleeves.{IsPathBetween}
+use Rattle.geo_session.specs.Span.{IsNumberedTable, IsShortPath, IsSpan, numbered}
+use Rattle.geo_session.specs.declared.hull.Span.{Span}
 
 -- the ends of a side of the numbered points are numbered
 pub side_numbered : (ring points : List Point) (numbers : List ℕ) (sides : List (ℕ × ℕ)) → AreSides ring (map (point_at points) numbers) sides
@@ -75,45 +77,32 @@ module _ (points : List Point) (numbers : List ℕ) (firsts : AreFirsts points n
           (rw (at_number i within_i, at_number j within_j) (chain_of_table i j within_i within_j).is_path);
     }
 
-    module _ (sides : List (ℕ × ℕ)) (are : AreSides ring (points_of table) sides) where
-      -- its sides are those of the points with the numbers,
-      pub sides_numbered : AreSides ring (map (point_at points) numbers) sides
-      sides_numbered = subst (λ (ps : List Point). AreSides ring ps sides) points_of_table are
+    -- and its sides are those of the points with the numbers
+    pub sides_numbered : (sides : List (ℕ × ℕ)) → AreSides ring (points_of table) sides → AreSides ring (map (point_at points) numbers) sides
+    sides_numbered sides are = subst (λ (ps : List Point). AreSides ring ps sides) points_of_table are
 
-      -- their chains are the paths between the triangles of their ends,
-      pub sides_walked : (tris : List Tri) (found : List ℕ) → AreHeld ring tris points (length points) found
-          → AreWalked ring tris found numbers table sides
-      sides_walked tris found held k below =
-          let (at_s, at_t) = side_numbered ring points numbers sides sides_numbered k below in
-          let s_in_list = number_in_list _ at_s in
-          let t_in_list = number_in_list _ at_t in
-          let short = chain_of_table _ _ at_s at_t in
-          record {
-            start_numbered = at_s;
-            end_numbered = at_t;
-            start_located = rw held.one_each s_in_list;
-            end_located = rw held.one_each t_in_list;
-            is_path = record {
-              s = numbered points numbers (pair_at sides k).0;
-              t = numbered points numbers (pair_at sides k).1;
-              start = held.each _ s_in_list;
-              goal = held.each _ t_in_list;
-              is_path = short.is_path;
-            };
-            short = short.short;
-          }
+-- the chains of a span are the paths between the triangles of the points
+module _ (ring : List Point) (tris : List Tri) (points : List Point) (span : Span) (is : IsSpan ring tris points span) where
+  pub spanned_few : length span.numbers.items ≤ 64
+  spanned_few = is.few
 
-      -- and what is told of the chains is told of the paths between the points
-      pub paths_told : (two : Bool) (paths : List (List Point)) → AreTold two ring table sides (length sides) paths → (k : ℕ) → k < length sides
-          → IsShortShown two ring (numbered points numbers (pair_at sides k).0) (numbered points numbers (pair_at sides k).1) (slice_index_or paths k [])
-      paths_told two paths told k below =
-          let (at_s, at_t) = side_numbered ring points numbers sides sides_numbered k below in
-          let is_told = told.each k below in
-          record {
-            shown = record {
-              chain = chain_at table (pair_at sides k).0 (pair_at sides k).1;
-              is_path = (chain_of_table _ _ at_s at_t).is_path;
-              is_shown = is_told.shown;
-            };
-            short = is_told.short;
-          }
+  pub span_table : IsTableOf ring span.chains
+  span_table = table_of_ring points span.numbers.items is.firsts ring span.chains is.table is.some is.few
+
+  -- a number is of a point that is in a triangle
+  pub place_located : (s : ℕ) → s < length span.numbers.items → slice_index span.numbers.items s < length span.tris.items
+  place_located s at_s = rw is.held.one_each (number_in_list points span.numbers.items is.firsts s at_s)
+
+  module _ (s t : ℕ) (at_s : s < length span.numbers.items) (at_t : t < length span.numbers.items) where
+    pub short_chain : IsShortPath ring (numbered points span.numbers.items s) (numbered points span.numbers.items t) (chain_at span.chains s t)
+    short_chain = chain_of_table points span.numbers.items is.firsts ring span.chains is.table s t at_s at_t
+
+    pub walked : IsPathBetween ring tris (slice_index span.tris.items (slice_index span.numbers.items s))
+        (slice_index span.tris.items (slice_index span.numbers.items t)) (chain_at span.chains s t)
+    walked = record {
+      s = numbered points span.numbers.items s;
+      t = numbered points span.numbers.items t;
+      start = is.held.each _ (number_in_list points span.numbers.items is.firsts s at_s);
+      goal = is.held.each _ (number_in_list points span.numbers.items is.firsts t at_t);
+      is_path = short_chain.is_path;
+    }

@@ -1,19 +1,19 @@
--- What a hull answers is one text.
-use Rattle.std.proofs.Common.{◌≡◌, ◌∙◌, inl, inr, sym, ap, subst, Bool, ℕ, ◌+◌, ◌<◌, List, [], length, arith}
+-- The sides of a hull are one list.
+use Rattle.std.proofs.Common.{◌≡◌, ◌∙◌, inl, inr, sym, ap, subst, Bool, ℕ, ◌<◌, List, [], length, arith}
 use Rattle.std.proofs.lemmas.Bool.{cases_lt}
 use Rattle.std.proofs.lemmas.List.{ext_get_or, get_or_default}
 use Rattle.std.specs.List.{Contains}
-use Rattle.std.specs.Prelude.{map, slice_index, slice_index_or}
+use Rattle.std.specs.Prelude.{map, slice_index}
 use Rattle.plane.specs.Point.{Point}
 use Rattle.rings.specs.Chain.{point_at}
-use Rattle.geo_text.specs.Texts.{bad_text}
-use Rattle.geo_text.specs.declared.command.Bad.TheVariants as bad
 use Rattle.pair_cut.proofs.OneOrder.{one_ordered}
 use Rattle.pair_cut.proofs.PairOrder.{before_through, not_before_itself}
 use Rattle.rel_hull.specs.Hull.{IsSide}
 use Rattle.rel_hull.specs.Table.{AreSides, IsPairBefore, pair_at}
 use Rattle.geo_session.proofs.OneShown.{one_shown}
-use Rattle.geo_session.specs.Hull.{AreFirsts, IsFirstOutside, IsHullIn, IsSideText, TellsHull, hull_text, point_outside, side_text, spanned}
+use Rattle.geo_reply.specs.declared.reply.Side.{Side}
+use Rattle.geo_session.specs.Hull.{AreFirsts, AreSidesOf, IsSideFrom, side_at}
+use Rattle.geo_session.specs.Told.{IsFirstOutside}
 
 -- the numbers of the first points are one list,
 pub one_firsts : (points : List Point) (numbers others : List ℕ) → AreFirsts points numbers → AreFirsts points others → numbers ≡ others
@@ -42,36 +42,33 @@ module _ (ring points : List Point) where
       (listed_sides sides others are are_too) (listed_sides others sides are_too are)
 
 module _ (two : Bool) (ring points : List Point) where
-  -- the path of a side is one, so each line is
-  one_line : (i j : ℕ) (line other : List ℕ) → IsSideText two ring points i j line → IsSideText two ring points i j other → line ≡ other
-  one_line i j line other h g =
-      h.told ∙ ap (side_text i j) (one_shown two ring (point_at points i) (point_at points j) h.path g.path h.shown g.shown) ∙ sym g.told
+  -- the path of a side is one, so the side is
+  one_side : (i j : ℕ) (side other : Side) → IsSideFrom two ring points i j side → IsSideFrom two ring points i j other → side ≡ other
+  one_side i j side other h g =
+      let path = one_shown two ring (point_at points i) (point_at points j) side.path other.path h.shown g.shown in
+      ap (λ (k : ℕ). record { start = k; end = side.end; path = side.path }) (h.start ∙ sym g.start)
+      ∙ ap (λ (k : ℕ). record { start = other.start; end = k; path = side.path }) (h.end ∙ sym g.end)
+      ∙ ap (λ (points : List Point). record { start = other.start; end = other.end; path = points }) path
 
-  -- these are the lines of some sides
-  record AreLines (numbers : List ℕ) (sides : List (ℕ × ℕ)) (lines : List (List ℕ)) : Type 0 where
-    pub one_each : length lines ≡ length sides
+  -- these are told of some sides
+  record AreToldOf (numbers : List ℕ) (sides : List (ℕ × ℕ)) (told : List Side) : Type 0 where
+    pub one_each : length told ≡ length sides
     pub each : (k : ℕ) → k < length sides
-        → IsSideText two ring points (slice_index numbers (pair_at sides k).0) (slice_index numbers (pair_at sides k).1) (slice_index_or lines k [])
+        → IsSideFrom two ring points (slice_index numbers (pair_at sides k).0) (slice_index numbers (pair_at sides k).1) (side_at told k)
 
-  one_lines : (numbers : List ℕ) (sides : List (ℕ × ℕ)) (lines others : List (List ℕ)) → AreLines numbers sides lines → AreLines numbers sides others
-      → lines ≡ others
-  one_lines numbers sides lines others h g =
-      ext_get_or [] lines others (h.one_each ∙ sym g.one_each)
-      (λ k below. let within : k < length sides = omega (arith, h.one_each, below) in one_line _ _ _ _ (h.each k within) (g.each k within))
+  one_told : (numbers : List ℕ) (sides : List (ℕ × ℕ)) (told others : List Side) → AreToldOf numbers sides told → AreToldOf numbers sides others
+      → told ≡ others
+  one_told numbers sides told others h g =
+      ext_get_or (record { start = 0; end = 0; path = [] }) told others (h.one_each ∙ sym g.one_each)
+      (λ k below. let within : k < length sides = omega (arith, h.one_each, below) in one_side _ _ _ _ (h.each k within) (g.each k within))
 
-  one_hull : (one other : List ℕ) → TellsHull two ring points one → TellsHull two ring points other → one ≡ other
-  one_hull one other h g =
+  pub one_hull : (told others : List Side) → AreSidesOf two ring points told → AreSidesOf two ring points others → told ≡ others
+  one_hull told others h g =
       let numbers : h.numbers ≡ g.numbers = one_firsts points h.numbers g.numbers h.firsts g.firsts in
       let are : AreSides ring (map (point_at points) g.numbers) h.sides =
       subst (λ (ns : List ℕ). AreSides ring (map (point_at points) ns) h.sides) numbers h.are_sides in
       let sides : h.sides ≡ g.sides = one_sides ring (map (point_at points) g.numbers) h.sides g.sides are g.are_sides in
-      let lines : AreLines g.numbers g.sides h.lines =
-      subst (λ (ps : List (ℕ × ℕ)). AreLines g.numbers ps h.lines) sides
-      (subst (λ (ns : List ℕ). AreLines ns h.sides h.lines) numbers (record { one_each = h.one_each; each = h.each })) in
-      h.told ∙ ap hull_text (one_lines g.numbers g.sides h.lines g.lines lines (record { one_each = g.one_each; each = g.each })) ∙ sym g.told
-
-  pub one_hull_in : (one other : List ℕ) → IsHullIn two ring points one → IsHullIn two ring points other → one ≡ other
-  one_hull_in one other (point_outside k h e) (point_outside l g f) = e ∙ ap (λ (n : ℕ). bad_text (bad.Outside (n + 1))) (one_outside ring points k l h g) ∙ sym f
-  one_hull_in one other (point_outside k h e) (spanned all f) = absurd (h.outside (all k h.in_list))
-  one_hull_in one other (spanned all e) (point_outside k h f) = absurd (h.outside (all k h.in_list))
-  one_hull_in one other (spanned all e) (spanned all_too f) = one_hull one other e f
+      let of : AreToldOf g.numbers g.sides told =
+      subst (λ (ps : List (ℕ × ℕ)). AreToldOf g.numbers ps told) sides
+      (subst (λ (ns : List ℕ). AreToldOf ns h.sides told) numbers (record { one_each = h.one_each; each = h.each })) in
+      one_told g.numbers g.sides told others of (record { one_each = g.one_each; each = g.each })

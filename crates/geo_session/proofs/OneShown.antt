@@ -1,8 +1,7 @@
 -- What is told of a path is one list.
-use Rattle.std.proofs.Common.{◌≡◌, Bool, true, false, ℕ, List, refl, ap, sym, subst, ◌∙◌}
+use Rattle.std.proofs.Common.{◌≡◌, Bool, true, false, List, refl, sym, subst, ◌∙◌}
 use Rattle.plane.specs.Point.{Point}
 use Rattle.rings.proofs.Full.{one_full}
-use Rattle.geo_session.specs.Answer.{TellsPath, path_text}
 use Rattle.geo_session.specs.Shown.{IsShown, IsShownPath}
 
 -- of one chain
@@ -16,8 +15,3 @@ pub one_shown : (two : Bool) (ring : List Point) (s t : Point) (shown other : Li
 one_shown two ring s t shown other h g =
     let same : h.chain ≡ g.chain = (g.is_path h.chain).0 ((h.is_path h.chain).1 refl) in
     one_shown_of two ring g.chain shown other (subst (λ chain. IsShown two ring chain shown) same h.is_shown) g.is_shown
-
--- so its line is one text
-pub one_path : (two : Bool) (ring : List Point) (s t : Point) (one other : List ℕ) → TellsPath two ring s t one → TellsPath two ring s t other
-    → one ≡ other
-one_path two ring s t one other h g = h.told ∙ ap path_text (one_shown two ring s t h.points g.points h.shown g.shown) ∙ sym g.told

@@ -3,14 +3,13 @@ use Rattle.std.proofs.Common.{◌≡◌, ◌∙◌, refl, sym, ap, ap₂, ℕ, s
 use Rattle.std.proofs.Math.Nat.{mod-eq_of_lt}
 use Rattle.std.specs.Prelude.{codes, flat_map, slice_index_or}
 use Rattle.plane.proofs.CornerLists.{corners_are_one}
-use Rattle.plane.specs.Point.{IsPoint, IsSame, Point, Triple, whole}
+use Rattle.plane.specs.Point.{IsPoint, IsSame, Point, Triple}
 use Rattle.plane.specs.Region.{IsCornerList, corner_at}
 use Rattle.rings.proofs.Views.{parts_are_one}
-use Rattle.rings.specs.Kernel.{IsInKernel}
 use Rattle.rings.specs.Visible.{AreParts, Part, part_at}
 use Rattle.geo_text.proofs.HomTexts.{same_hom_text}
 use Rattle.geo_text.specs.Texts.{hom_text, index_text}
-use Rattle.geo_session.specs.Answer.{TellsKernel, TellsView, corner_text, kernel_text, part_text, see_text}
+use Rattle.geo_reply.specs.ReplyText.{corner_text, lines_text, part_text}
 
 -- two lists of lines are one text where each two lines are
 one_join : {T : Type 0} (line : T → List ℕ) (d : T) (xs ys : List T) → length xs ≡ length ys
@@ -32,7 +31,7 @@ one_part_text a b first last first_too last_too edge same_first same_last =
 
 module _ (ring : List Point) (q : Triple) (parts others : List Part) (are : AreParts ring q parts) (are_too : AreParts ring q others) where
   -- and so have all that a point sees
-  one_see_text : see_text parts ≡ see_text others
+  pub one_see_text : lines_text (codes "see") part_text parts ≡ lines_text (codes "see") part_text others
   one_see_text =
       let one = parts_are_one ring q parts others are are_too in
       ap₂ (λ (n : ℕ) (lines : List ℕ). codes "see" ++ index_text n ++ codes "\n" ++ lines) one.one_length
@@ -48,7 +47,7 @@ module _ (set : Triple → Type 0) (corners others : List Triple) (list : IsCorn
   corner_number cs k below = ap (λ j. slice_index_or cs j (record { X = pos 0; Y = pos 0; W = pos 1 })) (mod-eq_of_lt below)
 
   -- the corners of a set have one text
-  one_kernel_text : kernel_text corners ≡ kernel_text others
+  pub one_kernel_text : lines_text (codes "kernel") corner_text corners ≡ lines_text (codes "kernel") corner_text others
   one_kernel_text =
       let one = corners_are_one set corners others list list_too in
       ap₂ (λ (n : ℕ) (lines : List ℕ). codes "kernel" ++ index_text n ++ codes "\n" ++ lines) one.one_length
@@ -59,11 +58,3 @@ module _ (set : Triple → Type 0) (corners others : List Triple) (list : IsCorn
       (same_hom_text (corner_at corners k) (corner_at others k) (list.are_corners.rational k below) (list_too.are_corners.rational k below_too)
       (one.same_corner k below))
       ∙ ap corner_text (corner_number others k below_too)))
-
--- so what q sees is told by one text alone,
-pub one_view : (ring : List Point) (q : Point) (one other : List ℕ) → TellsView ring q one → TellsView ring q other → one ≡ other
-one_view ring q one other h g = h.told ∙ one_see_text ring (whole q) h.parts g.parts h.seen g.seen ∙ sym g.told
-
--- and so is the kernel
-pub one_kernel : (ring : List Point) (one other : List ℕ) → TellsKernel ring one → TellsKernel ring other → one ≡ other
-one_kernel ring one other h g = h.told ∙ one_kernel_text (IsInKernel ring) h.corners g.corners h.kernel g.kernel ∙ sym g.told

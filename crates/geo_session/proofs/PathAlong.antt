@@ -7,7 +7,7 @@ use Rattle.meshes.specs.Side.{IsWalkBetween, tri_at}
 use Rattle.meshes.specs.Sleeve.{IsOneOf, Sleeve}
 use Rattle.meshes.specs.declared.tri.Tri.{Tri}
 use Rattle.dual_tree.specs.Location.{IsLeastHolding}
-use Rattle.geo_session.specs.Along.{IsPathAlong, Leads}
+use Rattle.geo_session.specs.Sleeves.{IsPathAlong, Leads}
 
 module _ (corners : List Point) (tris : List Tri) (sleeve : Sleeve) where
   -- the sleeve between the triangles of two points leads from one to the other

@@ -1,5 +1,5 @@
--- Where a point is in the list that a ring was made of, and the line that says it.
-use Rattle.std.proofs.Common.{◌≡◌, ◌↔◌, List, refl}
+-- Where a point is in the list that a ring was made of.
+use Rattle.std.proofs.Common.{◌≡◌, ◌↔◌, refl}
 use Rattle.plane.specs.Point.{Point, whole}
 use Rattle.rings.proofs.Inside.{on_some_either}
 use Rattle.rings.specs.Edge.{IsOnSome, edges_of}
@@ -8,8 +8,7 @@ use Rattle.ring_check.specs.Oriented.{Oriented, given_of}
 use Rattle.inside_test.specs.declared.position.Position.{Position}
 use Rattle.inside_test.specs.declared.position.Position.TheVariants as position
 use Rattle.geo_session.proofs.GivenPath.{in_given_iff}
-use Rattle.geo_session.specs.Answer.{IsPlaceText, inside, on_edge, outside}
-use Rattle.geo_session.specs.Place.{IsPlace, place_text}
+use Rattle.geo_session.specs.Place.{IsPlace}
 
 -- in the list that the ring was made of a point is where it is in the ring
 pub placed_given : (ring : Oriented) (p : Point) (found : Position) → ((found ≡ position.Edge) ↔ IsOnSome (edges_of ring.corners) (whole p))
@@ -20,9 +19,3 @@ placed_given ring p position.Inside at_edge at_inside at_outside =
     let h = at_inside.0 refl in
     ((in_given_iff ring (whole p)).1 h.0, λ on. h.1 ((on_some_either (whole p) ring.is_turned ring.corners).0 on))
 placed_given ring p position.Outside at_edge at_inside at_outside = λ within. at_outside.0 refl ((in_given_iff ring (whole p)).0 within)
-
--- its line says so
-pub placed_text : (ring : List Point) (p : Point) (found : Position) → IsPlace ring p found → IsPlaceText ring p (place_text found)
-placed_text ring p position.Edge on = on_edge on refl
-placed_text ring p position.Inside h = inside h.0 h.1 refl
-placed_text ring p position.Outside out = outside out refl

@@ -1,6 +1,6 @@
 -- The round of points: its places, the list that the ring was made of, and its line.
-use Rattle.std.proofs.Common.{◌≡◌, ◌≢◌, ◌∙◌, inl, inr, refl, sym, ap, subst, Bool, true, false, ℕ, ◌+◌, ◌<◌, ◌≤◌}
-use Rattle.std.proofs.Common.{◌==◌, if◌then◌else◌, List, [], ◌++◌, length, get_or, arith}
+use Rattle.std.proofs.Common.{◌≡◌, ◌≢◌, ◌∙◌, inl, inr, refl, sym, ap, subst, true, false, ℕ, ◌+◌, ◌<◌, ◌≤◌}
+use Rattle.std.proofs.Common.{◌==◌, if◌then◌else◌, List, [], length, get_or, arith}
 use Rattle.std.proofs.Math.Dec.{eqb}
 use Rattle.std.proofs.lemmas.Bool.{cases_eq, cases_lt, ne_eqb, true≢false}
 use Rattle.std.proofs.lemmas.List.{get_or_default, length-map}
@@ -9,27 +9,25 @@ use Rattle.std.proofs.lemmas.List.Folds.{list_any_none}
 use Rattle.std.proofs.lemmas.Map.Keys.{IsDistinct-from_apart}
 use Rattle.std.proofs.lemmas.Map.Steps.{length-le_from_distinct_below}
 use Rattle.std.specs.List.{list_any}
-use Rattle.std.specs.Prelude.{IfOk, OnOk, Option, Result, Ok, Err, Vec, codes, map, slice_index}
-use Rattle.std.specs.declared.alloc.Global.{Global}
-use Rattle.plane.specs.Point.{Point, whole}
+use Rattle.std.specs.Prelude.{map, slice_index}
+use Rattle.plane.specs.Point.{Point}
 use Rattle.rings.specs.Chain.{point_at}
-use Rattle.geo_text.specs.Texts.{bad_text}
-use Rattle.geo_text.specs.declared.command.Bad.TheVariants as bad
-use Rattle.geo_text.specs.declared.command.Command.TheVariants as command
+use Rattle.meshes.specs.Fits.{Fits}
+use Rattle.meshes.specs.declared.tri.Tri.{Tri}
+use Rattle.geo_reply.specs.declared.reply.Reply.TheVariants as reply
 use Rattle.ring_check.specs.Oriented.{Oriented, given_of}
 use Rattle.rel_hull.specs.Hull.{IsSide}
 use Rattle.rel_hull.specs.Round.{IsRound}
 use Rattle.rel_hull.specs.Table.{Table, points_of}
-use Rattle.geo_session.proofs.Answered.{holding, under_ok}
-use Rattle.geo_session.proofs.GivenPath.{in_given_iff}
 use Rattle.geo_session.proofs.GivenSides.{side_given, side_held}
 use Rattle.geo_session.proofs.HullTable.{points_of_table, some_numbers}
-use Rattle.geo_session.proofs.Hulls.{first_given}
-use Rattle.geo_session.specs.Answer.{AppendsAnswer}
-use Rattle.geo_session.specs.Hull.{AreFirsts, IsFirstOutside}
-use Rattle.geo_session.specs.Numbers.{AreRound, closed, numbers_text, off_ring}
-use Rattle.geo_session.specs.Rounded.{IsRounded}
-use Rattle.geo_session.specs.Span.{IsNumberedTable}
+use Rattle.geo_session.proofs.Spanned.{held_inside}
+use Rattle.geo_session.proofs.Within.{all_given}
+use Rattle.geo_session.specs.Hull.{AreFirsts}
+use Rattle.geo_session.specs.Round.{AreRound}
+use Rattle.geo_session.specs.Span.{IsNumberedTable, IsSpan}
+use Rattle.geo_session.specs.Told.{RepliesWithin, Tells, within}
+use Rattle.geo_session.specs.declared.hull.Span.{Span}
 
 -- ---- its places
 
@@ -107,30 +105,21 @@ module _ (ring : Oriented) (points : List Point) where
     are = h.are;
   }
 
-  -- a round in the ring is one in that list
-  pub rounded_given : {E : Type 0} (found : Result (Result (Vec ℕ Global) ℕ) E) → IfOk found (IsRounded ring.corners points)
-      → IfOk found (IsRounded (given_of ring) points)
-  rounded_given (Ok (Ok numbers)) h = (λ k below. (in_given_iff ring (whole (point_at points k))).1 (h.0 k below), numbers_given numbers.items h.1)
-  rounded_given (Ok (Err k)) h = first_given ring true points k h
-  rounded_given (Err e) h = tt
-
--- ---- its line
-
-module _ {E : Type 0} (two : Bool) (ring points : List Point) (source : Option Point) (out out' : List ℕ) (put : Result (Unit {0}) E) where
-  -- the line of a round answers the points,
-  pub round_answered : (numbers : Vec ℕ Global) → IsRounded ring points (Ok numbers) → OnOk put (out' ≡ out ++ numbers_text (codes "round") numbers.items)
-      → OnOk put (AppendsAnswer (holding two ring source) (command.Round points) out out' (holding two ring source))
-  round_answered numbers is = under_ok put (λ written. record {
-    text = numbers_text (codes "round") numbers.items;
-    answer = (closed is.0 (record { round = numbers.items; are_round = is.1; told = refl }), refl);
-    appended = written;
-  })
-
-  -- and so does the refusal of the first that is outside
-  pub round_refused : (k : ℕ) → IsFirstOutside ring points k → OnOk put (out' ≡ out ++ bad_text (bad.Outside (k + 1)))
-      → OnOk put (AppendsAnswer (holding two ring source) (command.Round points) out out' (holding two ring source))
-  round_refused k is = under_ok put (λ written. record {
-    text = bad_text (bad.Outside (k + 1));
-    answer = (off_ring k is refl, refl);
-    appended = written;
-  })
+-- so it is told of them
+pub round_within : (ring : Oriented) (tris : List Tri) (points : List Point) (span : Span) → IsSpan ring.corners tris points span → Fits ring.corners tris
+    → (places round : List ℕ) → IsRound ring.corners (points_of span.chains) places → round ≡ map (slice_index span.numbers.items) places
+    → RepliesWithin (given_of ring) points (Tells reply.Round (AreRound (given_of ring) points)) (reply.Round round)
+round_within ring tris points span is fits places round closed are =
+    within (all_given ring points (held_inside ring.corners tris points (length points) span.tris.items is.held fits))
+    (record {
+      value = round;
+      holds = numbers_given ring points round (record {
+        some = is.some;
+        numbers = span.numbers.items;
+        firsts = is.firsts;
+        places = places;
+        is_round = round_numbered ring.corners points span.numbers.items is.firsts span.chains is.table places closed;
+        are = are;
+      });
+      told = refl;
+    })

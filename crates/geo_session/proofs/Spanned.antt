@@ -1,24 +1,27 @@
 -- The points of a hull, one after the other: their first numbers, their triangles, and the chains between them.
-use Rattle.std.proofs.Common.{◌≡◌, ◌≢◌, ◌∙◌, inl, inr, refl, sym, ap, subst, Bool, ℕ, ◌+◌, ◌*◌, ◌/◌, ◌%◌, ◌<◌, List, [], ◌∷◌, ◌++◌, length, get_or, arith}
+use Rattle.std.proofs.Common.{◌≡◌, ◌≢◌, ◌∙◌, inl, inr, sym, ap, subst, Bool, false, ℕ, ◌+◌, ◌*◌, ◌/◌, ◌%◌, ◌<◌, List, [], ◌∷◌, ◌++◌, length, get_or, arith}
 use Rattle.std.proofs.Math.Nat.{div-lt_iff_lt-mul, div-eq_of_lt, mod-eq_of_lt, mod-lt, mul-add-div_right, mul-add-mod_self_right}
 use Rattle.std.proofs.lemmas.Bool.{cases_eq, cases_lt}
 use Rattle.std.proofs.lemmas.List.{get_or_append_left, get_or_push, length_push}
 use Rattle.std.proofs.lemmas.List.Elements.{Contains-append_left, Contains-push, Contains-push_cases}
 use Rattle.std.specs.List.{Contains}
 use Rattle.plane.specs.Point.{Point, whole}
-use Rattle.rings.specs.Chain.{point_at}
+use Rattle.rings.specs.Chain.{IsPath, point_at}
 use Rattle.rings.specs.Inside.{IsIn}
 use Rattle.meshes.specs.Fits.{Fits}
 use Rattle.meshes.specs.declared.tri.Tri.{Tri}
 use Rattle.dual_tree.specs.Location.{IsLeastHolding}
 use Rattle.rel_hull.proofs.Outer.{ordered_push}
-use Rattle.rel_hull.specs.Table.{Table, chain_at, pair_at}
+use Rattle.rel_hull.specs.Table.{pair_at}
+use Rattle.geo_reply.specs.declared.reply.Side.{Side}
 use Rattle.geo_session.proofs.LocatedIn.{held_in}
 use Rattle.geo_session.specs.Hull.{AreFirsts}
-use Rattle.geo_session.specs.Span.{AreChains, AreFirstsBelow, AreHeld, AreTold, IsRepeated, IsShortPath, IsTold, numbered}
+use Rattle.geo_session.specs.Shown.{IsShownPath}
+use Rattle.geo_session.specs.Span.{AreChains, AreFirstsBelow, AreHeld, AreSidesTold, IsRepeated, IsShortPath, IsSideTold, numbered}
+use Rattle.geo_session.specs.declared.hull.Span.{Span}
 
 -- what holds at each place of a list and at the next one holds at each place once that element is appended
-each_push : {X : Type 0} (P : ℕ → X → Type 0) (xs : List X) (x d : X) (n : ℕ) → length xs ≡ n → ((k : ℕ) → k < n → P k (get_or xs k d)) → P n x
+pub each_push : {X : Type 0} (P : ℕ → X → Type 0) (xs : List X) (x d : X) (n : ℕ) → length xs ≡ n → ((k : ℕ) → k < n → P k (get_or xs k d)) → P n x
     → (k : ℕ) → k < n + 1 → P k (get_or (xs ++ x ∷ []) k d)
 each_push P xs x d n count each next k below = elim (cases_lt k n) [
   | inl before ↦ subst (P k) (sym (get_or_append_left xs (x ∷ []) d k (omega arith))) (each k before)
@@ -84,7 +87,19 @@ module _ (ring : List Point) (tris : List Tri) (points : List Point) (n : ℕ) (
   pub held_inside : Fits ring tris → (k : ℕ) → k < n → IsIn ring (whole (point_at points k))
   held_inside fits k below = held_in ring (point_at points k) tris _ fits (are.each k below)
 
+-- so does the next one, where all before it are
+pub inside_more : (ring points : List Point) (n : ℕ) → ((k : ℕ) → k < n → IsIn ring (whole (point_at points k))) → IsIn ring (whole (point_at points n))
+    → (k : ℕ) → k < n + 1 → IsIn ring (whole (point_at points k))
+inside_more ring points n each next k below = elim (cases_lt k n) [
+  | inl before ↦ each k before
+  | inr last ↦ let at : n ≡ k = omega arith in subst (λ (j : ℕ). IsIn ring (whole (point_at points j))) at next
+]
+
 -- ---- the chains
+
+-- in version 1 what is told of a path is the path
+pub plain_path : (ring : List Point) (s t : Point) (points : List Point) → IsShownPath false ring s t points → IsPath ring s t points
+plain_path ring s t points h = subst (IsPath ring s t) (sym h.is_shown) h.is_path
 
 module _ (ring points : List Point) (numbers : List ℕ) where
   pub chains_more : (n : ℕ) (chains : List (List Point)) (chain : List Point) → AreChains ring points numbers n chains
@@ -96,19 +111,16 @@ module _ (ring points : List Point) (numbers : List ℕ) where
         chains chain [] n are.count are.each is;
   }
 
--- ---- what is told of the sides
+-- ---- the sides
 
-module _ (two : Bool) (ring : List Point) (chains : Table) (sides : List (ℕ × ℕ)) where
-  pub none_told : AreTold two ring chains sides 0 []
-  none_told = record { count = refl; each = λ k below. absurd (omega (arith, below)) }
-
-  -- the next path is told
-  pub told_more : (n : ℕ) (paths : List (List Point)) (path : List Point) → AreTold two ring chains sides n paths
-      → IsTold two ring (chain_at chains (pair_at sides n).0 (pair_at sides n).1) path → AreTold two ring chains sides (n + 1) (paths ++ path ∷ [])
-  told_more n paths path are is = record {
-    count = length_push paths path ∙ ap (λ (k : ℕ). k + 1) are.count;
-    each = each_push (λ k told. IsTold two ring (chain_at chains (pair_at sides k).0 (pair_at sides k).1) told) paths path [] n are.count are.each is;
-  }
+-- the next side is told
+pub sides_more : (two : Bool) (ring : List Point) (span : Span) (pairs : List (ℕ × ℕ)) (n : ℕ) (told : List Side) (side : Side)
+    → AreSidesTold two ring span pairs n told → IsSideTold two ring span (pair_at pairs n) side
+    → AreSidesTold two ring span pairs (n + 1) (told ++ side ∷ [])
+sides_more two ring span pairs n told side are is = record {
+  count = length_push told side ∙ ap (λ (k : ℕ). k + 1) are.count;
+  each = each_push (λ k side. IsSideTold two ring span (pair_at pairs k) side) told side _ n are.count are.each is;
+}
 
 -- ---- the table by rows and columns
 

@@ -10,7 +10,7 @@ use Rattle.meshes.specs.Sleeve.{IsOneOf, Sleeve}
 use Rattle.meshes.specs.declared.tri.Tri.{Tri}
 use Rattle.shared_funnel.proofs.TriCorners.{corner_in, side_corners}
 use Rattle.shared_funnel.specs.Entered.{HasCorner}
-use Rattle.geo_session.specs.Along.{IsPathAlong}
+use Rattle.geo_session.specs.Sleeves.{IsPathAlong}
 
 module _ (corners : List Point) (tris : List Tri) (fits : Fits corners tris) where
   -- each vertex is a corner of a triangle

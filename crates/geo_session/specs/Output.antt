@@ -4,7 +4,8 @@ use Rattle.geo_text.specs.Reading.{is_two, reading_of}
 use Rattle.geo_text.specs.Records.{records_of}
 use Rattle.geo_text.specs.declared.command.Bad.{Bad}
 use Rattle.geo_text.specs.declared.command.Command.{Command}
-use Rattle.geo_session.specs.Answer.{IsReadingAnswer, State, first_state}
+use Rattle.geo_session.specs.Answer.{IsReadingAnswer}
+use Rattle.geo_session.specs.State.{State, first_state}
 
 -- the answer to the first record, and then the rest
 pub record AnswersFirst (Rest : State → List ℕ → Type 0) (before : State) (reading : Result Command Bad) (text : List ℕ) : Type 0 where

@@ -1,21 +1,41 @@
--- How many steps each command takes, by cases. No public clause cites this module.
-use Rattle.std.specs.Prelude.{ℕ, ◌+◌, ◌*◌, ◌≤◌, List, OnOk, Result}
+-- How many steps the commands take that write a path, a tree or a visibility graph. This project's own.
+use Rattle.std.specs.Prelude.{◌≡◌, ◌⊎◌, if◌then◌else◌, Bool, ℕ, ◌+◌, ◌*◌, ◌≤◌, List, [], ◌++◌, length}
+use Rattle.plane.specs.Point.{Point}
 use Rattle.geo_text.specs.declared.command.Command.{Command}
 use Rattle.geo_text.specs.declared.command.Command.TheVariants as command
 use Rattle.shared_seq.specs.Digits.{binary_digits}
-use Rattle.geo_session.specs.Path.{TakesPathSteps, path_pace, reach_pace, size_of}
 use Rattle.geo_session.specs.Prepared.{Seen, pair_pace, table_steps}
+use Rattle.geo_session.specs.Reply.{IsReply}
+use Rattle.geo_reply.specs.ReplyText.{path_text}
+use Rattle.geo_reply.specs.Written.{points_of}
+use Rattle.geo_session.specs.State.{State, size_of}
+use Rattle.geo_reply.specs.declared.reply.Reply.{Reply}
 
--- the steps from a path, a tree, a path from its source, a pair and a visibility graph are bounded
-abbrev pub IsPaced : {E : Type 0} → Seen → Command → Result (Unit {0}) E → List ℕ → List ℕ → ℕ → ℕ → Type 0
-IsPaced seen (command.Path s t) put out out' steps steps' =
-    OnOk put (TakesPathSteps (path_pace seen.state.two * size_of seen.state.kept) out out' steps steps')
-IsPaced seen (command.Tree s) put out out' steps steps' =
-    let n = size_of seen.state.kept in let b = binary_digits n in steps' ≤ steps + (3 * n + 200 * n * (b * b))
-IsPaced seen (command.Reach t) put out out' steps steps' =
-    let n = size_of seen.state.kept in let b = binary_digits n in
-    OnOk put (TakesPathSteps (reach_pace seen.state.two * n + 24 * (b * b)) out out' steps steps')
-IsPaced seen (command.Pair i j) put out out' steps steps' =
-    let n = size_of seen.state.kept in OnOk put (TakesPathSteps (table_steps seen + pair_pace seen.state.two * n) out out' steps steps')
-IsPaced seen command.Sights put out out' steps steps' = steps' ≤ steps + table_steps seen
-IsPaced seen other put out out' steps steps' = Unit {0}
+-- so many steps a vertex are enough to tell a path from one point to another, beside those of its points,
+abbrev pub path_pace : Bool → ℕ
+path_pace two = if two then 36 else 16
+
+-- and one from the source of the tree
+abbrev pub reach_pace : Bool → ℕ
+reach_pace two = if two then 26 else 3
+
+-- so many steps are enough for the reply to a command, before a line of it is written
+abbrev pub IsPaced : Seen → Command → ℕ → ℕ → Type 0
+IsPaced seen (command.Path s t) steps steps' = steps' ≤ steps + path_pace seen.state.two * size_of seen.state.kept
+IsPaced seen (command.Tree s) steps steps' = let n = size_of seen.state.kept in let b = binary_digits n in steps' ≤ steps + (3 * n + 200 * n * (b * b))
+IsPaced seen (command.Reach t) steps steps' =
+    let n = size_of seen.state.kept in let b = binary_digits n in steps' ≤ steps + (reach_pace seen.state.two * n + 24 * (b * b))
+IsPaced seen (command.Pair i j) steps steps' = let n = size_of seen.state.kept in steps' ≤ steps + (table_steps seen + pair_pace seen.state.two * n)
+IsPaced seen command.Sights steps steps' = steps' ≤ steps + table_steps seen
+IsPaced seen other steps steps' = Unit {0}
+
+-- so many steps and 64 for each point whose line was appended are enough
+pub record TakesPathSteps (most : ℕ) (out out' : List ℕ) (steps steps' : ℕ) : Type 0 where
+  pub points : List Point
+  pub printed : (out' ≡ out ++ path_text points) ⊎ (points ≡ [])
+  pub bound : steps' ≤ steps + most + 64 * length points
+
+-- so many steps and 64 for each point of the reply are enough, also where want of memory cuts its line off
+abbrev pub TakesReplySteps : State → Command → ℕ → ℕ → ℕ → Type 0
+TakesReplySteps before asked most steps steps' =
+    (answered : Reply) → IsReply before asked answered → steps' ≤ steps + most + 64 * length (points_of answered)

@@ -1,10 +1,14 @@
--- What `pair` and `sights` answer, and which records make the table of all pairs of vertices. This project's own.
-use Rattle.std.specs.Prelude.{◌≡◌, ℕ, ℤ, pos, ◌<◌, ◌≤◌, ◌++◌, List, length, codes, flat_map}
+-- What `pair` and `sights` answer. This project's own.
+use Rattle.std.specs.Prelude.{◌≡◌, ℕ, ℤ, pos, ◌<◌, ◌≤◌, Bool, List, length}
 use Rattle.plane.specs.Point.{Point}
-use Rattle.geo_text.specs.Texts.{bad_text, index_text}
+use Rattle.rings.specs.Ring.{vertex}
 use Rattle.geo_text.specs.declared.command.Bad.TheVariants as bad
 use Rattle.pair_cut.specs.Pairs.{AreSights}
 use Rattle.pair_cut.specs.declared.table.TheConstants.{MAX_PAIRED}
+use Rattle.geo_session.specs.Path.{TellsPath}
+use Rattle.geo_session.specs.Told.{Tells}
+use Rattle.geo_reply.specs.declared.reply.Reply.{Reply}
+use Rattle.geo_reply.specs.declared.reply.Reply.TheVariants as reply
 
 -- the ring has few enough vertices for the table of all pairs
 abbrev pub IsSmall : List Point → Type 0
@@ -19,21 +23,15 @@ pub record IsVertexNumber (ring : List Point) (z : ℤ) (k : ℕ) : Type 0 where
 abbrev pub IsIndex : List Point → ℤ → Type 0
 IsIndex ring z = (k : ℕ) × IsVertexNumber ring z k
 
--- the line of two vertices that see each other
-abbrev pub sight_text : ℕ × ℕ → List ℕ
-sight_text pair = codes "sight" ++ index_text pair.0 ++ index_text pair.1 ++ codes "\n"
+-- a ring of too many vertices is refused, then the first of the numbers that is none of a vertex, or else the path between the two is told
+pub data IsPairReply (two : Bool) (ring : List Point) (i j : ℤ) (answered : Reply) : Type 0 where
+  too_many : ¬ IsSmall ring → answered ≡ reply.Refused bad.Large → IsPairReply two ring i j answered
+  first_off : IsSmall ring → ¬ IsIndex ring i → answered ≡ reply.Refused (bad.Index 1) → IsPairReply two ring i j answered
+  second_off : IsSmall ring → IsIndex ring i → ¬ IsIndex ring j → answered ≡ reply.Refused (bad.Index 2) → IsPairReply two ring i j answered
+  joined : IsSmall ring → (k l : ℕ) → IsVertexNumber ring i k → IsVertexNumber ring j l → TellsPath two ring (vertex ring k) (vertex ring l) answered
+      → IsPairReply two ring i j answered
 
--- the lines of a visibility graph: how many pairs there are, and then each
-abbrev pub sights_text : List (ℕ × ℕ) → List ℕ
-sights_text pairs = codes "sights" ++ index_text (length pairs) ++ codes "\n" ++ flat_map sight_text pairs
-
--- the text is the lines of the pairs of vertices that see each other
-pub record TellsSights (ring : List Point) (text : List ℕ) : Type 0 where
-  pub pairs : List (ℕ × ℕ)
-  pub sights : AreSights ring pairs
-  pub told : text ≡ sights_text pairs
-
--- a ring of too many vertices is refused, and of another one the pairs are told
-pub data AreSightsIn (ring : List Point) (text : List ℕ) : Type 0 where
-  too_large : ¬ IsSmall ring → text ≡ bad_text bad.Large → AreSightsIn ring text
-  sighted : IsSmall ring → TellsSights ring text → AreSightsIn ring text
+-- a ring of too many vertices is refused, and of another one the pairs of vertices that see each other are told
+pub data AreSightsReply (ring : List Point) (answered : Reply) : Type 0 where
+  too_large : ¬ IsSmall ring → answered ≡ reply.Refused bad.Large → AreSightsReply ring answered
+  sighted : IsSmall ring → Tells reply.Sights (AreSights ring) answered → AreSightsReply ring answered

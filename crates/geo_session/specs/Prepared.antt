@@ -5,9 +5,8 @@ use Rattle.rings.specs.Simple.{IsSimple}
 use Rattle.geo_text.specs.declared.command.Command.{Command}
 use Rattle.geo_text.specs.declared.command.Command.TheVariants as command
 use Rattle.shared_seq.specs.Digits.{binary_digits}
-use Rattle.geo_session.specs.Answer.{Kept, State, first_state}
 use Rattle.geo_session.specs.Pairs.{IsIndex, IsSmall}
-use Rattle.geo_session.specs.Path.{size_of}
+use Rattle.geo_session.specs.State.{Kept, State, first_state, size_of}
 
 -- the state, and whether the table is there
 pub record Seen : Type 0 where

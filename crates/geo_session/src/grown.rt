@@ -1,5 +1,5 @@
-// The tree of a source in a polygon.
-ghost use Rattle.std.specs.Prelude.{◌≡◌, ◌+◌, ◌*◌, ◌<◌, ◌≤◌, if◌then◌else◌, List, IfOk, length};
+// The tree of a source in the polygon.
+ghost use Rattle.std.specs.Prelude.{◌≡◌, ◌+◌, ◌*◌, ◌<◌, ◌≤◌, Bool, List, IfOk, Some, length};
 ghost use Rattle.plane.specs.Point.{whole};
 ghost use Rattle.plane.specs.declared.limits.TheConstants.{MAX_CORNERS};
 ghost use Rattle.rings.specs.Chain.{IsPath};
@@ -9,13 +9,18 @@ ghost use Rattle.meshes.specs.declared.tri.Tri.{Tri};
 ghost use Rattle.shared_seq.specs.Digits.{binary_digits};
 ghost use Rattle.ring_check.specs.Oriented.{given_of};
 ghost use Rattle.dual_tree.specs.Location.{IsLeastHolding};
-ghost use Rattle.path_tree.specs.Grown.{IsFromNamed};
-ghost use Rattle.geo_session.specs.Shown.{IsShownPath};
-ghost use Rattle.geo_session.specs.Tree.{IsTreeOf};
+ghost use Rattle.geo_session.specs.Asking.{IsAskedOf, seen_of};
+ghost use Rattle.geo_session.specs.Held.{IsTreeOf};
+ghost use Rattle.geo_session.specs.Paced.{IsPaced};
+ghost use Rattle.geo_session.specs.Tree.{AreFrom, IsFrom};
 
-use crate::along::{full_between, put_points};
+use crate::ask::{Asked, Change, unchanged};
+use crate::held::Held;
+use crate::paths::put_points;
 use dual_tree::Board;
 use exact_plane::{Memory, Pt, Spot, Steps};
+use geo_reply::{Before, Reply, Row};
+use geo_text::Command;
 use path_tree::PathTree;
 use ring_check::Ring;
 use std::alloc::Global;
@@ -25,21 +30,14 @@ use tri_mesh::Mesh;
 // A point of a polygon, its triangle, and the paths from it to every vertex.
 #[derive(Drop)]
 pub(crate) struct Grown {
-    source: Pt,
-    home: u32,
+    pub(crate) source: Pt,
+    pub(crate) home: u32,
     tree: PathTree,
-}
-
-// Why a tree has no path to a point.
-#[derive(Clone, Copy)]
-pub(crate) enum Unreached {
-    NoTree,
-    Outside,
 }
 
 impl Grown {
     // The tree of a point in triangle `home`.
-    pub(crate) fn of<L: Ledger>(
+    fn of<L: Ledger>(
         alloc: Global,
         ring: &Ring,
         mesh: &Mesh,
@@ -62,49 +60,36 @@ impl Grown {
         })
     }
 
-    // What comes before vertex `i` on its path from the source, both with their numbers in the list that the ring was made of.
-    pub(crate) fn before(&self, ring: &Ring, i: u32) -> Option<Spot>
-        requires vertex { i < length ring.now.corners }
-        requires grown { (tris : List Tri) × IsTreeOf ring.now.corners tris self.now }
-        ensures { IsFromNamed (given_of ring.now) self.now.source (vertex (given_of ring.now) i) result }
+    // What comes before each vertex on its path from the source, by the list that the ring was made of.
+    fn befores(&self, alloc: Global, ring: &Ring) -> Result<Vec<Before>, Memory>
+        requires { (tris : List Tri) × IsTreeOf ring.now.corners tris self.now }
+        ensures from { IfOk result (λ befores. AreFrom (given_of ring.now) self.now.source befores.items) }
+        ensures few { IfOk result (λ befores. length befores.items ≤ MAX_CORNERS) }
     {
-        match self.tree.parent(ring.given_index(i)) {
-            Some(Spot::Corner(c)) => Some(Spot::Corner(ring.given_index(c))),
-            Some(Spot::Start) => Some(Spot::Start),
-            Some(Spot::Goal) => unreachable!(),
-            None => None,
+        let mut befores = Vec::with_capacity(alloc, ring.len() as usize)?;
+        for i in 0..ring.len() {
+            befores.push_reserved(self.before_at(ring, i));
         }
+        Ok(befores)
     }
 
-    // What is told of the path from the source to a point in triangle `tri`.
-    pub(crate) fn shown_to<L: Ledger>(
-        &self,
-        alloc: Global,
-        two: bool,
-        ring: &Ring,
-        mesh: &Mesh,
-        tri: u32,
-        goal: &Pt,
-        steps: &mut Steps<L>,
-    ) -> Result<Vec<Pt>, Memory>
-        requires fits { Fits ring.now.corners mesh.now }
-        requires grown { IsTreeOf ring.now.corners mesh.now self.now }
-        requires goal { IsLeastHolding ring.now.corners mesh.now (whole goal.now) tri }
-        ensures shown { IfOk result (λ points. IsShownPath two ring.now.corners self.now.source goal.now points.items) }
-        ensures few { IfOk result (λ points. length points.items ≤ MAX_CORNERS + 3) }
-        ensures steps { let n = length ring.now.corners in let b = binary_digits n in
-            steps.new ≤ steps.old + ((if two then 20 else 0) * n + 24 * (b * b)) }
+    // What comes before vertex `i`.
+    fn before_at(&self, ring: &Ring, i: u32) -> Before
+        requires vertex { i < length ring.now.corners }
+        requires grown { (tris : List Tri) × IsTreeOf ring.now.corners tris self.now }
+        ensures { IsFrom (given_of ring.now) self.now.source (vertex (given_of ring.now) i) result }
     {
-        let chain = self.chain_to(alloc, ring, mesh, tri, goal, steps)?;
-        if two {
-            full_between(alloc, mesh, ring, self.home, tri, &chain, steps)
-        } else {
-            Ok(chain)
+        let _count = ring.len();
+        match self.tree.parent(ring.given_index(i)) {
+            Some(Spot::Corner(c)) => Before::Vertex(ring.given_index(c)),
+            Some(Spot::Start) => Before::Source,
+            Some(Spot::Goal) => unreachable!(),
+            None => Before::Nothing,
         }
     }
 
     // The path from the source to a point in triangle `tri`. It takes all its memory first.
-    fn chain_to<L: Ledger>(
+    pub(crate) fn chain_to<L: Ledger>(
         &self,
         alloc: Global,
         ring: &Ring,
@@ -133,5 +118,29 @@ impl Grown {
         put_points(&mut points, &names, &on_the_way);
         points.push_reserved(*goal);
         Ok(points)
+    }
+}
+
+impl Held {
+    // What a tree is answered, and the tree to be kept.
+    pub(crate) fn tree<L: Ledger>(
+        &self,
+        alloc: Global,
+        source: &Pt,
+        steps: &mut Steps<L>,
+    ) -> Result<Asked, Memory>
+        ensures asked { (two : Bool) → IfOk result (IsAskedOf two (Some self.now) (Command.Tree source.now)) }
+        ensures paced { (two : Bool) → IsPaced (seen_of two (Some self.now)) (Command.Tree source.now) steps.old steps.new }
+    {
+        let home = match self.find(1, source, steps) {
+            Ok(home) => home,
+            Err(bad) => return Ok(unchanged(Reply::Refused(bad))),
+        };
+        let grown = Grown::of(alloc, &self.ring, &self.mesh, home, source, steps)?;
+        let befores = grown.befores(alloc, &self.ring)?;
+        Ok(Asked {
+            reply: Reply::Tree(Row::of(befores)),
+            change: Change::Tree(grown),
+        })
     }
 }

@@ -1,91 +1,191 @@
-// The relative hull of some points in a polygon.
-ghost use Rattle.std.specs.Prelude.{◌≡◌, ◌↔◌, ◌≤◌, ◌<◌, ◌+◌, ◌++◌, Bool, ℕ, List, IfOk, IsTrue, OnErr, OnOk, length, map, take};
+// The relative hull of some points in the polygon, and its round.
+ghost use Rattle.std.specs.Prelude.{◌≡◌, ◌↔◌, ◌≤◌, ◌<◌, ◌+◌, ℕ, List, IfOk, IsTrue, length, map, slice_index};
 ghost use Rattle.plane.specs.Point.{Point};
-ghost use Rattle.meshes.specs.Fits.{Fits};
-ghost use Rattle.plane.specs.declared.limits.TheConstants.{MAX_CORNERS, MAX_HULL};
-ghost use Rattle.geo_session.specs.Along.{IsPathBetween};
-ghost use Rattle.geo_session.specs.Hull.{AreFirsts, side_text};
-ghost use Rattle.geo_session.specs.Shown.{IsShown};
-ghost use Rattle.geo_session.specs.Span.{AreHeld, AreLocated, AreTold, AreWalked, IsHullOf, IsNumberedTable, IsRepeated, IsSpanned, span_text};
+ghost use Rattle.plane.specs.declared.limits.TheConstants.{MAX_HULL};
+ghost use Rattle.ring_check.specs.Oriented.{given_of};
+ghost use Rattle.rel_hull.specs.Table.{AreSides, points_of};
+ghost use Rattle.geo_session.specs.Hull.{AreFirsts, AreSidesOf};
+ghost use Rattle.geo_session.specs.Round.{AreRound};
+ghost use Rattle.geo_session.specs.Span.{AreHeld, AreLocated, AreNumbered, AreSidesTold, IsNumberedTable, IsRepeated, IsSideTold, IsSpan};
+ghost use Rattle.geo_session.specs.Told.{RepliesWithin, Tells};
 
-use crate::along::{chain_between, full_between};
-use crate::lines::put_count;
-use dual_tree::locate;
+use crate::held::Held;
 use exact_plane::{Memory, Pt, Steps, order};
-use geo_text::{put_index, put_line_end, put_pt, put_word};
-use rel_hull::{ChainTable, sides};
-use ring_check::Ring;
+use geo_reply::{Reply, Row, Side};
+use geo_text::Bad;
+use rel_hull::{ChainTable, round, sides};
 use std::alloc::Global;
 use std::cmp::Ordering;
 use std::sync::ledger::Ledger;
-use tri_mesh::Mesh;
 
-// The numbers of some points that are distinct, the sides of their hull, by their places among these, and what is told of the
-// path of each side.
+// The triangles of some points, the numbers of those that are distinct, and the paths between each two of these.
 #[derive(Drop)]
-pub(crate) struct Hull {
+struct Span {
+    tris: Vec<u32>,
     numbers: Vec<u32>,
-    sides: Vec<(u32, u32)>,
-    paths: Vec<Vec<Pt>>,
+    chains: ChainTable,
 }
 
-impl Hull {
-    // The hull of some points in a ring, or the number of the first that is not in it.
-    pub(crate) fn of<L: Ledger>(
+impl Held {
+    // The relative hull of some points, with what is told of its sides.
+    pub(crate) fn hull<L: Ledger>(
+        &self,
         alloc: Global,
         two: bool,
-        ring: &Ring,
-        mesh: &Mesh,
         points: &[Pt],
         steps: &mut Steps<L>,
-    ) -> Result<Result<Hull, u32>, Memory>
-        requires fits { Fits ring.now.corners mesh.now }
+    ) -> Result<Reply, Memory>
         requires some { 1 ≤ length points.now }
         requires few { length points.now ≤ MAX_HULL }
-        ensures { IfOk result (IsSpanned two ring.now.corners points.now) }
+        ensures { IfOk result (RepliesWithin (given_of self.now.ring) points.now (Tells Reply.Hull (AreSidesOf two (given_of self.now.ring) points.now))) }
     {
-        let tris = match located(alloc, ring, mesh, points, steps)? {
+        let span = match self.span(alloc, points, steps)? {
+            Ok(span) => span,
+            Err(bad) => return Ok(Reply::Refused(bad)),
+        };
+        let pairs = sides(alloc, &self.ring, &span.chains, steps)?;
+        let sides = self.told_sides(alloc, two, &span, &pairs, steps)?;
+        Ok(Reply::Hull(Row::of(sides)))
+    }
+
+    // The round of the sides of the relative hull of some points, by their numbers.
+    pub(crate) fn round<L: Ledger>(
+        &self,
+        alloc: Global,
+        points: &[Pt],
+        steps: &mut Steps<L>,
+    ) -> Result<Reply, Memory>
+        requires some { 1 ≤ length points.now }
+        requires few { length points.now ≤ MAX_HULL }
+        ensures { IfOk result (RepliesWithin (given_of self.now.ring) points.now (Tells Reply.Round (AreRound (given_of self.now.ring) points.now))) }
+    {
+        let span = match self.span(alloc, points, steps)? {
+            Ok(span) => span,
+            Err(bad) => return Ok(Reply::Refused(bad)),
+        };
+        let places = round(alloc, &self.ring, &span.chains, steps)?;
+        let numbers = at_places(alloc, &span.numbers, &places)?;
+        Ok(Reply::Round(Row::of(numbers)))
+    }
+
+    // What the sides of some points are found by, or the refusal of the first that is not in the polygon.
+    fn span<L: Ledger>(
+        &self,
+        alloc: Global,
+        points: &[Pt],
+        steps: &mut Steps<L>,
+    ) -> Result<Result<Span, Bad>, Memory>
+        requires some { 1 ≤ length points.now }
+        requires few { length points.now ≤ MAX_HULL }
+        ensures { IfOk result (AreNumbered self.now.ring.corners self.now.tris points.now) }
+    {
+        let tris = match self.located(alloc, points, steps)? {
             Ok(tris) => tris,
-            Err(outside) => return Ok(Err(outside)),
+            Err(bad) => return Ok(Err(bad)),
         };
         let numbers = first_numbers(alloc, points, steps)?;
-        let chains = chains(alloc, ring, mesh, points, &tris, &numbers, steps)?;
-        let sides = sides(alloc, ring, &chains, steps)?;
-        let paths = paths(
-            alloc, two, ring, mesh, &tris, &numbers, &chains, &sides, steps,
-        )?;
-        Ok(Ok(Hull {
+        let chains = self.chains(alloc, points, &tris, &numbers, steps)?;
+        Ok(Ok(Span {
+            tris,
             numbers,
-            sides,
-            paths,
+            chains,
         }))
     }
-}
 
-// The triangles of some points, or the number of the first that is in none.
-pub(crate) fn located<L: Ledger>(
-    alloc: Global,
-    ring: &Ring,
-    mesh: &Mesh,
-    points: &[Pt],
-    steps: &mut Steps<L>,
-) -> Result<Result<Vec<u32>, u32>, Memory>
-    requires fits { Fits ring.now.corners mesh.now }
-    requires few { length points.now ≤ MAX_HULL }
-    ensures { IfOk result (AreLocated ring.now.corners mesh.now points.now) }
-{
-    let mut tris = Vec::with_capacity(alloc, points.len())?;
-    for k in 0..points.len() {
-        match locate(mesh, ring, &points[k], steps) {
-            Some(tri) => tris.push_reserved(tri),
-            None => return Ok(Err(k as u32)),
+    // The triangles of some points, or the refusal of the first that is in none.
+    fn located<L: Ledger>(
+        &self,
+        alloc: Global,
+        points: &[Pt],
+        steps: &mut Steps<L>,
+    ) -> Result<Result<Vec<u32>, Bad>, Memory>
+        requires { length points.now ≤ MAX_HULL }
+        ensures { IfOk result (AreLocated self.now.ring.corners self.now.tris points.now) }
+    {
+        let mut tris = Vec::with_capacity(alloc, points.len())?;
+        for k in 0..points.len() {
+            match self.find(k as u32 + 1, &points[k], steps) {
+                Ok(tri) => tris.push_reserved(tri),
+                Err(bad) => return Ok(Err(bad)),
+            }
         }
+        Ok(Ok(tris))
     }
-    Ok(Ok(tris))
+
+    // The table of the paths between each two of the numbered points.
+    fn chains<L: Ledger>(
+        &self,
+        alloc: Global,
+        points: &[Pt],
+        tris: &[u32],
+        numbers: &[u32],
+        steps: &mut Steps<L>,
+    ) -> Result<ChainTable, Memory>
+        requires held { AreHeld self.now.ring.corners self.now.tris points.now (length points.now) tris.now }
+        requires some { 1 ≤ length points.now }
+        requires firsts { AreFirsts points.now numbers.now }
+        requires few { length numbers.now ≤ MAX_HULL }
+        ensures { IfOk result (IsNumberedTable self.now.ring.corners points.now numbers.now) }
+    {
+        let m = numbers.len();
+        let mut chains = Vec::with_capacity(alloc, m * m)?;
+        for k in 0..m * m {
+            let i = numbers[k / m] as usize;
+            let j = numbers[k % m] as usize;
+            let ends = (tris[i], tris[j]);
+            let chain = self.path_between(alloc, false, ends, &points[i], &points[j], steps)?;
+            chains.push_reserved(chain);
+        }
+        Ok(ChainTable::of(&self.ring, m as u32, chains))
+    }
+
+    // The sides between the numbered points at these places.
+    fn told_sides<L: Ledger>(
+        &self,
+        alloc: Global,
+        two: bool,
+        span: &Span,
+        pairs: &[(u32, u32)],
+        steps: &mut Steps<L>,
+    ) -> Result<Vec<Side>, Memory>
+        requires { (points : List Point) × (IsSpan self.now.ring.corners self.now.tris points span.now × AreSides self.now.ring.corners (points_of span.now.chains) pairs.now) }
+        ensures { IfOk result (λ told. AreSidesTold two self.now.ring.corners span.now pairs.now (length pairs.now) told.items) }
+    {
+        let mut told = Vec::with_capacity(alloc, pairs.len())?;
+        for pair in pairs {
+            told.push_reserved(self.told_side(alloc, two, span, *pair, steps)?);
+        }
+        Ok(told)
+    }
+
+    // One side.
+    fn told_side<L: Ledger>(
+        &self,
+        alloc: Global,
+        two: bool,
+        span: &Span,
+        pair: (u32, u32),
+        steps: &mut Steps<L>,
+    ) -> Result<Side, Memory>
+        requires span { (points : List Point) × IsSpan self.now.ring.corners self.now.tris points span.now }
+        requires start { pair.0 < length span.now.numbers.items }
+        requires end { pair.1 < length span.now.numbers.items }
+        ensures { IfOk result (IsSideTold two self.now.ring.corners span.now pair) }
+    {
+        let (start, end) = (span.numbers[pair.0 as usize], span.numbers[pair.1 as usize]);
+        let tris = (span.tris[start as usize], span.tris[end as usize]);
+        let chain = span.chains.chain(pair.0, pair.1).to_vec(alloc)?;
+        let path = self.shown(alloc, two, tris, chain, steps)?;
+        Ok(Side {
+            start,
+            end,
+            path: Row::of(path),
+        })
+    }
 }
 
 // The numbers of the points that no earlier one is equal to.
-pub(crate) fn first_numbers<L: Ledger>(
+fn first_numbers<L: Ledger>(
     alloc: Global,
     points: &[Pt],
     steps: &mut Steps<L>,
@@ -116,122 +216,14 @@ fn is_repeated<L: Ledger>(points: &[Pt], i: usize, steps: &mut Steps<L>) -> bool
     false
 }
 
-// The table of the paths between each two of the numbered points.
-pub(crate) fn chains<L: Ledger>(
-    alloc: Global,
-    ring: &Ring,
-    mesh: &Mesh,
-    points: &[Pt],
-    tris: &[u32],
-    numbers: &[u32],
-    steps: &mut Steps<L>,
-) -> Result<ChainTable, Memory>
-    requires fits { Fits ring.now.corners mesh.now }
-    requires held { AreHeld ring.now.corners mesh.now points.now (length points.now) tris.now }
-    requires some { 1 ≤ length points.now }
-    requires firsts { AreFirsts points.now numbers.now }
-    requires few { length numbers.now ≤ MAX_HULL }
-    ensures { IfOk result (IsNumberedTable ring.now.corners points.now numbers.now) }
+// The numbers at these places.
+fn at_places(alloc: Global, numbers: &[u32], places: &[u32]) -> Result<Vec<u32>, Memory>
+    requires { (k : ℕ) → k < length places.now → slice_index places.now k < length numbers.now }
+    ensures { IfOk result (λ found. found.items ≡ map (slice_index numbers.now) places.now) }
 {
-    let m = numbers.len();
-    let mut chains = Vec::with_capacity(alloc, m * m)?;
-    for k in 0..m * m {
-        let i = numbers[k / m] as usize;
-        let j = numbers[k % m] as usize;
-        let (s, t) = (&points[i], &points[j]);
-        chains.push_reserved(chain_between(alloc, mesh, ring, tris[i], tris[j], s, t, steps)?);
+    let mut found = Vec::with_capacity(alloc, places.len())?;
+    for place in places {
+        found.push_reserved(numbers[*place as usize]);
     }
-    Ok(ChainTable::of(ring, m as u32, chains))
-}
-
-// What is told of the paths of the sides.
-fn paths<L: Ledger>(
-    alloc: Global,
-    two: bool,
-    ring: &Ring,
-    mesh: &Mesh,
-    tris: &[u32],
-    numbers: &[u32],
-    chains: &ChainTable,
-    sides: &[(u32, u32)],
-    steps: &mut Steps<L>,
-) -> Result<Vec<Vec<Pt>>, Memory>
-    requires fits { Fits ring.now.corners mesh.now }
-    requires count { chains.now.count ≡ length numbers.now }
-    requires walked { AreWalked ring.now.corners mesh.now tris.now numbers.now chains.now sides.now }
-    ensures { IfOk result (λ paths. AreTold two ring.now.corners chains.now sides.now (length sides.now) (map (λ path. path.items) paths.items)) }
-{
-    let mut paths = Vec::with_capacity(alloc, sides.len())?;
-    for side in sides {
-        let from = tris[numbers[side.0 as usize] as usize];
-        let to = tris[numbers[side.1 as usize] as usize];
-        let chain = chains.chain(side.0, side.1);
-        paths.push_reserved(told(alloc, two, ring, mesh, from, to, chain, steps)?);
-    }
-    Ok(paths)
-}
-
-// What is told of a path: its points, and in version 2 all vertices that it touches.
-fn told<L: Ledger>(
-    alloc: Global,
-    two: bool,
-    ring: &Ring,
-    mesh: &Mesh,
-    from: u32,
-    to: u32,
-    chain: &[Pt],
-    steps: &mut Steps<L>,
-) -> Result<Vec<Pt>, Memory>
-    requires fits { Fits ring.now.corners mesh.now }
-    requires path { IsPathBetween ring.now.corners mesh.now from to chain.now }
-    requires few { length chain.now ≤ MAX_CORNERS + 1 }
-    ensures told { IfOk result (λ points. IsShown two ring.now.corners chain.now points.items) }
-    ensures few { IfOk result (λ points. length points.items ≤ MAX_CORNERS + 2) }
-{
-    if two {
-        full_between(alloc, mesh, ring, from, to, chain, steps)
-    } else {
-        Ok(chain.to_vec(alloc)?)
-    }
-}
-
-// Appends the lines of a hull.
-pub(crate) fn put_hull<L: Ledger>(
-    out: &mut Vec<u8>,
-    hull: &Hull,
-    steps: &mut Steps<L>,
-) -> Result<(), Memory>
-    requires { (two : Bool) × (ring : List Point) × (points : List Point) × IsHullOf two ring points hull.now }
-    ensures ok { OnOk result (out.new.items ≡ out.old.items ++ span_text hull.now) }
-    ensures front { OnErr result (take (length out.old.items) out.new.items ≡ out.old.items) }
-{
-    put_count(out, "hull", hull.sides.len() as u32)?;
-    for k in 0..hull.sides.len() {
-        let (s, t) = hull.sides[k];
-        let (i, j) = (hull.numbers[s as usize], hull.numbers[t as usize]);
-        put_side(out, i, j, hull.paths[k].as_slice(), steps)?;
-    }
-    Ok(())
-}
-
-// Appends the line of the side from point i to point j.
-fn put_side<L: Ledger>(
-    out: &mut Vec<u8>,
-    i: u32,
-    j: u32,
-    path: &[Pt],
-    steps: &mut Steps<L>,
-) -> Result<(), Memory>
-    requires { length path.now ≤ MAX_CORNERS + 2 }
-    ensures ok { OnOk result (out.new.items ≡ out.old.items ++ side_text i j path.now) }
-    ensures front { OnErr result (take (length out.old.items) out.new.items ≡ out.old.items) }
-{
-    put_word(out, "side")?;
-    put_index(out, i)?;
-    put_index(out, j)?;
-    put_index(out, path.len() as u32)?;
-    for point in path {
-        put_pt(out, point, steps)?;
-    }
-    put_line_end(out)
+    Ok(found)
 }

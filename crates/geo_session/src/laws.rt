@@ -1,5 +1,10 @@
 // Laws of the answers, each as the contract of a call that does nothing when it runs.
-ghost use Rattle.geo_session.specs.Laws.{OneAnswerLaw, OneOutputLaw};
+ghost use Rattle.geo_session.specs.Laws.{OneAnswerLaw, OneOutputLaw, OneReplyLaw};
+
+/// The reply to a command is one, but for the triples of a rational point: each has one text, and leaves one state.
+pub fn one_reply()
+    ensures { OneReplyLaw }
+{}
 
 /// The answer to a command is a function of the polygon and the command: the path between two points among them.
 pub fn one_answer()

@@ -1,16 +1,15 @@
 //! What a run holds between two records, and the answer to each command.
 #![tactic(auto)]
 
-mod along;
+mod ask;
 mod grown;
 mod held;
 mod hull;
 mod laws;
-mod lines;
 mod pairs;
 mod parts;
-mod rounds;
+mod paths;
 mod session;
 
-pub use laws::{one_answer, one_output};
+pub use laws::{one_answer, one_output, one_reply};
 pub use session::Session;

@@ -1,34 +1,92 @@
-// Pairs of vertices of a polygon, by their numbers in the list that it was made of: the paths between them, and which see each
-// other.
+// Pairs of vertices of the polygon, by their numbers in the list that the ring was made of: the paths between them, and which see
+// each other.
 ghost use Rattle.std.specs.List.{All};
-ghost use Rattle.std.specs.Prelude.{◌≡◌, ◌↔◌, ◌+◌, ◌*◌, ◌^◌, ◌≤◌, ◌<◌, if◌then◌else◌, IfNone, IfOk, IfSome, IsTrue, length, map};
+ghost use Rattle.std.specs.Prelude.{◌≡◌, ◌↔◌, ◌+◌, ◌*◌, ◌≤◌, ◌<◌, if◌then◌else◌, Bool, IfNone, IfOk, IfSome, IsTrue, Some, length, map};
 ghost use Rattle.plane.specs.declared.limits.TheConstants.{MAX_CORNERS};
+ghost use Rattle.rings.specs.Chain.{IsPath};
+ghost use Rattle.rings.specs.Full.{IsFull};
 ghost use Rattle.rings.specs.Ring.{vertex};
+ghost use Rattle.shared_seq.specs.Digits.{binary_digits};
 ghost use Rattle.pair_cut.specs.Pairs.{AreSights, IsMadeFor};
+ghost use Rattle.pair_cut.specs.declared.table.TheConstants.{MAX_PAIRED};
 ghost use Rattle.ring_check.specs.Oriented.{given_of};
-ghost use Rattle.geo_session.specs.Asked.{AreAsked};
+ghost use Rattle.geo_session.specs.Asking.{AreAsked, IsAskedOf, seen_of};
+ghost use Rattle.geo_session.specs.Paced.{IsPaced};
 ghost use Rattle.geo_session.specs.Pairs.{IsIndex, IsSmall, IsVertexNumber};
-ghost use Rattle.geo_session.specs.Shown.{IsShownPath};
+ghost use Rattle.geo_session.specs.Path.{TellsPath};
+ghost use Rattle.geo_session.specs.Told.{Tells};
 
-use crate::along::full_at;
+use crate::ask::{Asked, Change, unchanged};
 use crate::held::Held;
+use dual_tree::{Board, sleeve};
 use exact_plane::{Memory, Pt, Steps};
-use geo_text::Bad;
-use pair_cut::{MAX_PAIRED, PairTable};
+use geo_reply::{Reply, Row};
+use geo_text::{Bad, Command};
+use pair_cut::{MAX_PAIRED, PairTable, triangle_at};
 use ring_check::Ring;
 use std::alloc::Global;
 use std::sync::ledger::Ledger;
 
 impl Held {
+    // The path between two vertices, and the table of all pairs to be kept where it is new.
+    pub(crate) fn pair<L: Ledger>(
+        &self,
+        alloc: Global,
+        two: bool,
+        i: i64,
+        j: i64,
+        steps: &mut Steps<L>,
+    ) -> Result<Asked, Memory>
+        ensures asked { IfOk result (IsAskedOf two (Some self.now) (Command.Pair i j)) }
+        ensures paced { IsPaced (seen_of two (Some self.now)) (Command.Pair i j) steps.old steps.new }
+    {
+        let pair = match self.asked(i, j) {
+            Ok(pair) => pair,
+            Err(bad) => return Ok(unchanged(Reply::Refused(bad))),
+        };
+        if let Some(table) = &self.pairs {
+            return Ok(unchanged(self.joined(alloc, two, table, pair, steps)?));
+        }
+        let table = self.new_table(alloc, steps)?;
+        let reply = self.joined(alloc, two, &table, pair, steps)?;
+        Ok(Asked {
+            reply,
+            change: Change::Table(table),
+        })
+    }
+
+    // The pairs of vertices that see each other, and the table of all pairs to be kept where it is new.
+    pub(crate) fn sights<L: Ledger>(
+        &self,
+        alloc: Global,
+        steps: &mut Steps<L>,
+    ) -> Result<Asked, Memory>
+        ensures asked { (two : Bool) → IfOk result (IsAskedOf two (Some self.now) Command.Sights) }
+        ensures paced { (two : Bool) → IsPaced (seen_of two (Some self.now)) Command.Sights steps.old steps.new }
+    {
+        if self.is_large() {
+            return Ok(unchanged(Reply::Refused(Bad::Large)));
+        }
+        if let Some(table) = &self.pairs {
+            return Ok(unchanged(self.seeing(alloc, table)?));
+        }
+        let table = self.new_table(alloc, steps)?;
+        let reply = self.seeing(alloc, &table)?;
+        Ok(Asked {
+            reply,
+            change: Change::Table(table),
+        })
+    }
+
     // Whether there are too many vertices for a table of all pairs.
-    pub(crate) fn is_large(&self) -> bool
+    fn is_large(&self) -> bool
         ensures { IsTrue result ↔ (¬ IsSmall (given_of self.now.ring)) }
     {
         self.ring.len() > MAX_PAIRED
     }
 
     // The vertices with these two numbers, or why there are none.
-    pub(crate) fn asked(&self, i: i64, j: i64) -> Result<(u32, u32), Bad>
+    fn asked(&self, i: i64, j: i64) -> Result<(u32, u32), Bad>
         ensures { AreAsked (given_of self.now.ring) i j result }
     {
         if self.is_large() {
@@ -55,46 +113,76 @@ impl Held {
         }
     }
 
+    // A table of all pairs.
+    fn new_table<L: Ledger>(&self, alloc: Global, steps: &mut Steps<L>) -> Result<PairTable, Memory>
+        requires { length self.now.ring.corners ≤ MAX_PAIRED }
+        ensures made { IfOk result (IsMadeFor self.now.ring.corners) }
+        ensures steps { let n = length self.now.ring.corners in let b = binary_digits n in steps.new ≤ steps.old + 200 * (n * n) * (b * b) }
+    {
+        let board = Board::new(&self.ring, self.ring.corner(0), self.ring.corner(0));
+        PairTable::build(alloc, &board, &self.mesh, steps)
+    }
+
     // What is told of the path between two vertices, with the table of all pairs.
-    pub(crate) fn pair<L: Ledger>(
+    fn joined<L: Ledger>(
         &self,
         alloc: Global,
         two: bool,
         table: &PairTable,
-        i: u32,
-        j: u32,
+        pair: (u32, u32),
         steps: &mut Steps<L>,
-    ) -> Result<Vec<Pt>, Memory>
+    ) -> Result<Reply, Memory>
         requires made { IsMadeFor self.now.ring.corners table.now }
-        requires first { i < length self.now.ring.corners }
-        requires second { j < length self.now.ring.corners }
-        ensures shown { IfOk result (λ points. let ring = given_of self.now.ring in IsShownPath two ring (vertex ring i) (vertex ring j) points.items) }
-        ensures few { IfOk result (λ points. length points.items ≤ MAX_CORNERS + 2) }
+        requires first { pair.0 < length self.now.ring.corners }
+        requires second { pair.1 < length self.now.ring.corners }
+        ensures shown { IfOk result (let ring = given_of self.now.ring in TellsPath two ring (vertex ring pair.0) (vertex ring pair.1)) }
         ensures steps { steps.new ≤ steps.old + (if two then 20 else 0) * length self.now.ring.corners }
     {
         let _count = self.ring.len();
-        let (from, to) = (self.ring.given_index(i), self.ring.given_index(j));
+        let (from, to) = (self.ring.given_index(pair.0), self.ring.given_index(pair.1));
         let names = table.pair(alloc, from, to)?;
         let chain = corners_of(alloc, &self.ring, &names)?;
         if two {
-            full_at(alloc, &self.mesh, &self.ring, from, to, &chain, steps)
+            let points = self.full_at(alloc, from, to, &chain, steps)?;
+            Ok(Reply::Path(Row::of(points)))
         } else {
-            Ok(chain)
+            Ok(Reply::Path(Row::of(chain)))
         }
     }
 
+    // The path between two vertices, with all vertices that it touches.
+    fn full_at<L: Ledger>(
+        &self,
+        alloc: Global,
+        i: u32,
+        j: u32,
+        chain: &[Pt],
+        steps: &mut Steps<L>,
+    ) -> Result<Vec<Pt>, Memory>
+        requires first { i < length self.now.ring.corners }
+        requires second { j < length self.now.ring.corners }
+        requires path { IsPath self.now.ring.corners (vertex self.now.ring.corners i) (vertex self.now.ring.corners j) chain.now }
+        ensures full { IfOk result (λ points. IsFull self.now.ring.corners chain.now points.items) }
+        ensures few { IfOk result (λ points. length points.items ≤ MAX_CORNERS + 2) }
+        ensures steps { steps.new ≤ steps.old + 20 * length self.now.ring.corners }
+    {
+        let (from, to) = (triangle_at(&self.mesh, i), triangle_at(&self.mesh, j));
+        let sleeve = sleeve(alloc, &self.mesh, from, to)?;
+        self.full_along(alloc, &sleeve, chain, steps)
+    }
+
     // The pairs of vertices that see each other, with the table of all pairs.
-    pub(crate) fn sights(&self, alloc: Global, table: &PairTable) -> Result<Vec<(u32, u32)>, Memory>
-        requires made { IsMadeFor self.now.ring.corners table.now }
-        ensures sights { IfOk result (λ pairs. AreSights (given_of self.now.ring) pairs.items) }
-        ensures few { IfOk result (λ pairs. length pairs.items < 2 ^ 32) }
+    fn seeing(&self, alloc: Global, table: &PairTable) -> Result<Reply, Memory>
+        requires { IsMadeFor self.now.ring.corners table.now }
+        ensures { IfOk result (Tells Reply.Sights (AreSights (given_of self.now.ring))) }
     {
         let _count = self.ring.len();
         let pairs = table.sights(alloc)?;
         if self.ring.is_turned() {
-            turned_pairs(alloc, &self.ring, &pairs)
+            let given = turned_pairs(alloc, &self.ring, &pairs)?;
+            Ok(Reply::Sights(Row::of(given)))
         } else {
-            Ok(pairs)
+            Ok(Reply::Sights(Row::of(pairs)))
         }
     }
 }

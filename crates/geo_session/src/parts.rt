@@ -1,7 +1,7 @@
 // Parts of the edges of a ring that is kept the other way round.
 ghost use Rattle.std.specs.Prelude.{◌≡◌, ◌<◌, ℕ, IfOk, length};
 ghost use Rattle.rings.specs.Visible.{part_at, turned_part, turned_parts};
-ghost use Rattle.geo_session.specs.View.{given_parts};
+ghost use Rattle.geo_session.specs.Parts.{given_parts};
 
 use exact_plane::Memory;
 use ring_check::Ring;

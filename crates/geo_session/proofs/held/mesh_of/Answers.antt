@@ -3,7 +3,7 @@ use Rattle.std.proofs.lemmas.List.FromFn.{length-range_with_len}
 use Rattle.rings.specs.Simple.{IsSimple}
 use Rattle.meshes.specs.Fits.{Fits}
 use Rattle.geo_session.proofs.held.mesh_of.Goals as goal
-use Rattle.geo_session.proofs.Fronts.{none_of_err}
+use Rattle.geo_reply.proofs.Fronts.{none_of_err}
 
 pub sweep-requires-clause-simple : goal.sweep-requires-clause-simple
 sweep-requires-clause-simple g c = subst IsSimple (sym c.new-board.ensures.corners) c.len-size.ensures.simple

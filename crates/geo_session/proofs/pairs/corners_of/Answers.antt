@@ -1,6 +1,6 @@
 use Rattle.geo_session.proofs.pairs.corners_of.Goals as goal
-use Rattle.geo_session.proofs.MapFront.{map_pushed, map_room, map_whole}
-use Rattle.geo_session.proofs.Fronts.{none_of_err}
+use Rattle.geo_reply.proofs.MapFront.{map_pushed, map_room, map_whole}
+use Rattle.geo_reply.proofs.Fronts.{none_of_err}
 use Rattle.rings.specs.Ring.{vertex}
 use Rattle.std.proofs.Common.{arith}
 

@@ -1,6 +1,6 @@
 use Rattle.geo_session.proofs.parts.turned_parts.Goals as goal
-use Rattle.geo_session.proofs.MapFront.{map_pushed, map_room, map_whole}
-use Rattle.geo_session.proofs.Fronts.{none_of_err}
+use Rattle.geo_reply.proofs.MapFront.{map_pushed, map_room}
+use Rattle.geo_reply.proofs.Fronts.{none_of_err}
 use Rattle.rings.specs.Visible.{turned_part}
 use Rattle.std.proofs.Common.{◌∙◌, ap, arith}
 

@@ -1,5 +1,5 @@
 use Rattle.std.proofs.Common.{◌≡◌, not, false, rules}
-use Rattle.geo_session.specs.Answer.{first_state}
+use Rattle.geo_session.specs.State.{first_state}
 use Rattle.geo_script.proofs.Pieces.{all_answered, begins, goes_on, has_byte, or_none, still_sound}
 use Rattle.geo_script.proofs.Together.{talk_together}
 use Rattle.geo_script.proofs.dialog.Dialog.answer.Goals as goal

@@ -4,7 +4,7 @@ use Rattle.geo_session.proofs.LocatedIn.{held_in}
 use Rattle.geo_session.proofs.ReachedNames.{is_before}
 use Rattle.geo_session.proofs.WalkedNames.{names_named}
 use Rattle.geo_session.proofs.grown.Grown.chain_to.Goals as goal
-use Rattle.geo_session.proofs.Fronts.{none_of_err, no_more}
+use Rattle.geo_reply.proofs.Fronts.{none_of_err, no_more}
 
 pub returns-in_default-clause-path : goal.returns-in_default-clause-path
 returns-in_default-clause-path g c =

@@ -1,7 +1,14 @@
-use Rattle.geo_session.proofs.Guarded.{guards_given}
+use Rattle.std.proofs.Common.{refl}
+use Rattle.geo_session.proofs.Guarded.{guard_ring}
 use Rattle.geo_session.proofs.held.Held.guards.Goals as goal
 
-pub returns-clause-guards : goal.returns-clause-guards
-returns-clause-guards g c =
-    rw (← c.self.view_is) (guards_given c.self.inside.ring c.len-count.ensures.counterclockwise c.in_ok-mesh.mesh c.in_ok-mesh.ensures.fits
-    c.in_ok-mesh.ensures.cut c.guards.result c.guards.ensures.guards c.guards.ensures.few c.guards.ensures.seen)
+pub returns : goal.returns
+returns g c =
+    rw (← c.self.view_is)
+    (record {
+      value = c.of.result;
+      holds = rw c.of.ensures
+          (guard_ring c.self.inside.ring c.len-count.ensures.counterclockwise c.in_ok-mesh.mesh c.in_ok-mesh.ensures.fits c.in_ok-mesh.ensures.cut
+          c.in_ok-numbers.numbers.items c.in_ok-numbers.ensures.guards c.in_ok-numbers.ensures.few c.in_ok-numbers.ensures.seen);
+      told = refl;
+    })

@@ -1,53 +1,54 @@
-use Rattle.std.proofs.Common.{arith, false, refl, true}
-use Rattle.std.proofs.lemmas.List.{length-map}
-use Rattle.std.proofs.lemmas.Result.{IfOk-weaker}
-use Rattle.rings.specs.Chain.{IsPath}
-use Rattle.rings.specs.Full.{IsFull}
-use Rattle.rings.specs.Ring.{vertex}
-use Rattle.ring_check.specs.Oriented.{given_of}
-use Rattle.geo_session.proofs.PairPaths.{pair_few, pair_told}
+use Rattle.std.proofs.Common.{refl, w64}
+use Rattle.std.proofs.lemmas.Int.{to_z-of_z}
+use Rattle.std.specs.Prelude.{Some}
+use Rattle.geo_text.specs.declared.command.Command.TheVariants as command
+use Rattle.geo_session.proofs.Asks.{pair_made, pair_refused, pair_told}
+use Rattle.geo_session.proofs.Paces.{new_pair_paced, pair_paced, unpaced}
+use Rattle.geo_session.specs.Asking.{seen_of}
+use Rattle.geo_session.specs.Held.{HeldRing, is_there, source_of}
 use Rattle.geo_session.proofs.held.Held.pair.Goals as goal
-use Rattle.geo_session.specs.Shown.{IsShownPath}
 
-pub full_at-requires-clause-path : goal.full_at-requires-clause-path
-full_at-requires-clause-path g c =
-    let ring = c.self.inside.ring.corners in
-    rw (c.deref-then-two.ensures.value, c.in_ok-chain.ensures, c.deref.ensures.value)
-    (c.in_ok-names.ensures.path ring (rw (← c.self.view_is) at c.requires.made)).path
+pub returns-in-Err-clause-asked : goal.returns-in-Err-clause-asked
+returns-in-Err-clause-asked g c =
+    let asked = rw (to_z-of_z w64 c.args.i c.ranges.i, to_z-of_z w64 c.args.j c.ranges.j, c.in-Err.is) at c.asked.ensures in
+    rw c.unchanged.ensures (pair_refused c.args.two c.args.self.now c.args.i c.args.j c.in-Err.bad asked)
 
-pub returns-then-two-clause-shown : goal.returns-then-two-clause-shown
-returns-then-two-clause-shown g c =
-    let ring = c.self.inside.ring in
-    let i = c.args.i in
-    let j = c.args.j in
-    let from = c.given_index-from.result in
-    let to = c.given_index-to.result in
-    let chain = c.in_ok-chain.chain.items in
-    let path : IsPath ring.corners (vertex ring.corners from) (vertex ring.corners to) chain =
-    rw (c.in_ok-chain.ensures, c.deref.ensures.value) (c.in_ok-names.ensures.path ring.corners (rw (← c.self.view_is) at c.requires.made)).path in
-    rw (← c.self.view_is, c.if-two.true)
-    (IfOk-weaker c.full_at.result (λ points. IsFull ring.corners c.deref-then-two.result.now points.items)
-    (λ points. IsShownPath true (given_of ring) (vertex (given_of ring) i) (vertex (given_of ring) j) points.items)
-    (λ points full. pair_told ring i j from to (rw (← c.self.view_is) at c.requires.first) (rw (← c.self.view_is) at c.requires.second)
-    c.given_index-from.ensures.number c.given_index-to.ensures.number true chain points.items path (rw c.deref-then-two.ensures.value at full))
-    c.full_at.ensures.full)
+pub returns-in-Err-clause-paced : goal.returns-in-Err-clause-paced
+returns-in-Err-clause-paced g c = unpaced (seen_of c.args.two (Some c.args.self.now)) (command.Pair c.args.i c.args.j) c.args.steps.now
 
-pub returns-clause-shown : goal.returns-clause-shown
-returns-clause-shown g c =
-    let ring = c.self.inside.ring in
-    let from = c.given_index-from.result in
-    let to = c.given_index-to.result in
-    let chain = c.in_ok-chain.chain.items in
-    let path : IsPath ring.corners (vertex ring.corners from) (vertex ring.corners to) chain =
-    rw (c.in_ok-chain.ensures, c.deref.ensures.value) (c.in_ok-names.ensures.path ring.corners (rw (← c.self.view_is) at c.requires.made)).path in
-    rw (← c.self.view_is, c.if-two.false)
-    (pair_told ring c.args.i c.args.j from to (rw (← c.self.view_is) at c.requires.first) (rw (← c.self.view_is) at c.requires.second)
-    c.given_index-from.ensures.number c.given_index-to.ensures.number false chain chain path refl)
+pub returns-in-Some-clause-asked : goal.returns-in-Some-clause-asked
+returns-in-Some-clause-asked g c =
+    let asked = rw (to_z-of_z w64 c.args.i c.ranges.i, to_z-of_z w64 c.args.j c.ranges.j, c.in-Ok.is, ← c.self.view_is) at c.asked.ensures in
+    rw (← c.self.view_is, c.unchanged-in-Some.ensures)
+    (pair_told c.args.two _ c.args.i c.args.j c.in-Ok.pair c.in_ok-joined.field-0 asked (rw (← c.self.view_is) at c.in_ok-joined.ensures.shown)
+    (rw c.in-Some.is refl))
 
-pub returns-clause-few : goal.returns-clause-few
-returns-clause-few g c =
-    let ring = c.self.inside.ring.corners in
-    let names = c.in_ok-names.names.items in
-    let few = pair_few ring c.self.inside.mesh c.self.invariant.fits _ _ names
-    (c.in_ok-names.ensures.path ring (rw (← c.self.view_is) at c.requires.made)) in
-    rw (c.in_ok-chain.ensures, c.deref.ensures.value) (omega (arith, few, length-map names (vertex ring), c.len-count.ensures.size.1))
+pub returns-in-Some-clause-paced : goal.returns-in-Some-clause-paced
+returns-in-Some-clause-paced g c =
+    let held : HeldRing =
+    record { ring = c.self.inside.ring; tris = c.self.inside.mesh; source = source_of c.self.inside.grown; prepared = is_there c.self.inside.pairs } in
+    rw (← c.self.view_is)
+    (pair_paced c.args.two held c.args.steps.now c.joined.new.steps c.args.i c.args.j (rw c.in-Some.is refl) (rw (← c.self.view_is) at c.joined.ensures.steps))
+
+pub returns-clause-asked : goal.returns-clause-asked
+returns-clause-asked g c =
+    let asked = rw (to_z-of_z w64 c.args.i c.ranges.i, to_z-of_z w64 c.args.j c.ranges.j, c.in-Ok.is, ← c.self.view_is) at c.asked.ensures in
+    rw (← c.self.view_is)
+    (pair_made c.args.two _ c.args.i c.args.j c.in-Ok.pair c.in_ok-reply.reply asked (rw (← c.self.view_is) at c.in_ok-reply.ensures.shown)
+    c.in_ok-table.table (rw (← c.self.view_is) at c.in_ok-table.ensures.made))
+
+pub returns-clause-paced : goal.returns-clause-paced
+returns-clause-paced g c =
+    let held : HeldRing =
+    record { ring = c.self.inside.ring; tris = c.self.inside.mesh; source = source_of c.self.inside.grown; prepared = is_there c.self.inside.pairs } in
+    rw (← c.self.view_is)
+    (new_pair_paced c.args.two held c.args.steps.now c.joined-2.new.steps c.args.i c.args.j c.new_table.new.steps (rw c.in_default.is refl)
+    (rw (← c.self.view_is) at c.new_table.ensures.steps) (rw (← c.self.view_is) at c.joined-2.ensures.steps))
+
+pub returns-in_err-reply-clause-paced : goal.returns-in_err-reply-clause-paced
+returns-in_err-reply-clause-paced g c =
+    let held : HeldRing =
+    record { ring = c.self.inside.ring; tris = c.self.inside.mesh; source = source_of c.self.inside.grown; prepared = is_there c.self.inside.pairs } in
+    rw (← c.self.view_is)
+    (new_pair_paced c.args.two held c.args.steps.now c.joined-2.new.steps c.args.i c.args.j c.new_table.new.steps (rw c.in_default.is refl)
+    (rw (← c.self.view_is) at c.new_table.ensures.steps) (rw (← c.self.view_is) at c.joined-2.ensures.steps))

@@ -1,5 +1,48 @@
-use Rattle.geo_session.proofs.RoundPlaces.{rounded_given}
+use Rattle.std.proofs.Common.{◌∙◌, ap, arith, length, refl, slice_index}
+use Rattle.std.proofs.lemmas.List.{length-map}
+use Rattle.geo_session.proofs.HullTable.{span_table}
+use Rattle.geo_session.proofs.RoundPlaces.{place_below, places_few, round_numbered, round_within}
+use Rattle.geo_session.proofs.Within.{named_given}
+use Rattle.geo_session.specs.Told.{outside}
 use Rattle.geo_session.proofs.held.Held.round.Goals as goal
 
-pub returns-clause-round : goal.returns-clause-round
-returns-clause-round g c = rw (← c.self.view_is) (rounded_given c.self.inside.ring c.args.points.now c.round_of.result c.round_of.ensures.round)
+pub returns-in-Err : goal.returns-in-Err
+returns-in-Err g c =
+    let names = rw c.in-Err.is at c.in_ok-span.ensures in
+    outside c.in-Err.bad (named_given c.args.self.now.ring c.args.points.now c.in-Err.bad names) refl
+
+pub round-requires : goal.round-requires
+round-requires g c =
+    let is = rw (c.in-Ok.is, ← c.self.view_is) at c.in_ok-span.ensures in
+    span_table c.self.inside.ring.corners c.self.inside.mesh c.args.points.now c.in-Ok.span is
+
+pub at_places-requires : goal.at_places-requires
+at_places-requires g c =
+    let is = rw (c.in-Ok.is, ← c.self.view_is) at c.in_ok-span.ensures in
+    let points = c.args.points.now in
+    let numbers = c.in-Ok.span.numbers.items in
+    let ring = c.self.inside.ring.corners in
+    rw (c.deref.ensures.value, c.deref-2.ensures.value)
+    (place_below ring points numbers is.firsts is.some c.in_ok-places.places.items
+    (round_numbered ring points numbers is.firsts c.in-Ok.span.chains is.table c.in_ok-places.places.items c.in_ok-places.ensures))
+
+pub of-requires : goal.of-requires
+of-requires g c =
+    let is = rw (c.in-Ok.is, ← c.self.view_is) at c.in_ok-span.ensures in
+    let points = c.args.points.now in
+    let numbers = c.in-Ok.span.numbers.items in
+    let places = c.in_ok-places.places.items in
+    let ring = c.self.inside.ring.corners in
+    let few = places_few ring points numbers is.firsts is.some places
+    (round_numbered ring points numbers is.firsts c.in-Ok.span.chains is.table places c.in_ok-places.ensures) in
+    let are = rw (c.deref.ensures.value, c.deref-2.ensures.value) at c.in_ok-numbers.ensures in
+    let long = ap length are ∙ length-map places (slice_index numbers) in
+    omega (arith, few, long, is.few)
+
+pub returns : goal.returns
+returns g c =
+    let is = rw (c.in-Ok.is, ← c.self.view_is) at c.in_ok-span.ensures in
+    let are = rw (c.deref.ensures.value, c.deref-2.ensures.value) at c.in_ok-numbers.ensures in
+    rw (← c.self.view_is)
+    (round_within c.self.inside.ring c.self.inside.mesh c.args.points.now c.in-Ok.span is c.self.invariant.fits c.in_ok-places.places.items c.of.result
+    c.in_ok-places.ensures (c.of.ensures ∙ are))

@@ -1,27 +1,73 @@
-use Rattle.geo_session.proofs.PacedAnswers.{pair_paced, path_paced, reach_paced, sights_paced, tree_paced}
+use Rattle.std.proofs.Common.{refl}
+use Rattle.geo_reply.proofs.Fronts.{err_since, ok_of_err}
+use Rattle.geo_reply.specs.ReplyText.{reply_text}
+use Rattle.geo_session.proofs.Paces.{unwritten_paced, written_paced}
+use Rattle.geo_session.specs.Asking.{seen_of}
 use Rattle.geo_session.proofs.session.Session.put_answer.Goals as goal
 
-pub returns-clause-path_steps : goal.returns-clause-path_steps
-returns-clause-path_steps g c =
-    path_paced c.args.self.now c.args.command c.put_asked.result c.args.out.now.items c.put_asked.new.out.items c.args.steps.now c.put_asked.new.steps
-    c.put_asked.ensures.paced
+pub returns-in_err-asked-clause-ok : goal.returns-in_err-asked-clause-ok
+returns-in_err-asked-clause-ok g c = ok_of_err _ c.from_residual.result c.from_residual.ensures.0
 
-pub returns-clause-tree_steps : goal.returns-clause-tree_steps
-returns-clause-tree_steps g c =
-    tree_paced c.args.self.now c.args.command c.put_asked.result c.args.out.now.items c.put_asked.new.out.items c.args.steps.now c.put_asked.new.steps
-    c.put_asked.ensures.paced
+pub returns-in_err-asked-clause-prepared : goal.returns-in_err-asked-clause-prepared
+returns-in_err-asked-clause-prepared g c = ok_of_err _ c.from_residual.result c.from_residual.ensures.0
 
-pub returns-clause-reach_steps : goal.returns-clause-reach_steps
-returns-clause-reach_steps g c =
-    reach_paced c.args.self.now c.args.command c.put_asked.result c.args.out.now.items c.put_asked.new.out.items c.args.steps.now c.put_asked.new.steps
-    c.put_asked.ensures.paced
+pub returns-in_err-asked-clause-same_session : goal.returns-in_err-asked-clause-same_session
+returns-in_err-asked-clause-same_session g c = err_since c.from_residual.result refl
 
-pub returns-clause-pair_steps : goal.returns-clause-pair_steps
-returns-clause-pair_steps g c =
-    pair_paced c.args.self.now c.args.command c.put_asked.result c.args.out.now.items c.put_asked.new.out.items c.args.steps.now c.put_asked.new.steps
-    c.put_asked.ensures.paced
+pub returns-in_err-asked-clause-same_out : goal.returns-in_err-asked-clause-same_out
+returns-in_err-asked-clause-same_out g c = err_since c.from_residual.result refl
 
-pub returns-clause-sights_steps : goal.returns-clause-sights_steps
-returns-clause-sights_steps g c =
-    sights_paced c.args.self.now c.args.command c.put_asked.result c.args.out.now.items c.put_asked.new.out.items c.args.steps.now c.put_asked.new.steps
-    c.put_asked.ensures.paced
+pub returns-in_err-asked-clause-paced : goal.returns-in_err-asked-clause-paced
+returns-in_err-asked-clause-paced g c =
+    rw (← c.self.view_is)
+    (unwritten_paced (seen_of c.self.inside.two c.self.inside.held) c.from_residual.result c.args.out.now.items c.args.out.now.items c.args.steps.now
+    c.ask.new.steps c.ask.new.steps c.args.command c.ask.ensures.paced refl (ok_of_err _ c.from_residual.result c.from_residual.ensures.0))
+
+pub returns-in_err-put_reply-clause-ok : goal.returns-in_err-put_reply-clause-ok
+returns-in_err-put_reply-clause-ok g c = ok_of_err _ c.from_residual-in_err-put_reply.result c.from_residual-in_err-put_reply.ensures.0
+
+pub returns-in_err-put_reply-clause-prepared : goal.returns-in_err-put_reply-clause-prepared
+returns-in_err-put_reply-clause-prepared g c = ok_of_err _ c.from_residual-in_err-put_reply.result c.from_residual-in_err-put_reply.ensures.0
+
+pub returns-in_err-put_reply-clause-same_session : goal.returns-in_err-put_reply-clause-same_session
+returns-in_err-put_reply-clause-same_session g c = err_since c.from_residual-in_err-put_reply.result refl
+
+pub returns-in_err-put_reply-clause-same_out : goal.returns-in_err-put_reply-clause-same_out
+returns-in_err-put_reply-clause-same_out g c = err_since c.from_residual-in_err-put_reply.result c.in_err-put_reply.ensures.same
+
+pub returns-in_err-put_reply-clause-paced : goal.returns-in_err-put_reply-clause-paced
+returns-in_err-put_reply-clause-paced g c =
+    rw (← c.self.view_is)
+    (written_paced (seen_of c.self.inside.two c.self.inside.held) c.from_residual-in_err-put_reply.result c.args.out.now.items
+    c.put_reply.new.out.items c.args.steps.now c.ask.new.steps c.put_reply.new.steps c.args.command c.in_ok-asked.asked.reply
+    c.in_ok-asked.ensures.asked.is_reply c.in_ok-asked.ensures.paced c.in_err-put_reply.ensures.steps
+    (ok_of_err _ c.from_residual-in_err-put_reply.result c.from_residual-in_err-put_reply.ensures.0))
+
+pub commit-requires : goal.commit-requires
+commit-requires g c = c.in_ok-asked.ensures.asked.suits
+
+pub returns-clause-ok : goal.returns-clause-ok
+returns-clause-ok g c =
+    let asked = c.in_ok-asked.ensures.asked in
+    rw (← c.self.view_is, c.commit.ensures.two, c.commit.ensures.held)
+    (record {
+      text = reply_text c.in_ok-asked.asked.reply;
+      answer = record { answered = c.in_ok-asked.asked.reply; is_reply = asked.is_reply; told = refl; left = asked.state };
+      appended = c.in_ok-put_reply.ensures.ok;
+    })
+
+pub returns-clause-prepared : goal.returns-clause-prepared
+returns-clause-prepared g c = rw (← c.self.view_is, c.commit.ensures.held) c.in_ok-asked.ensures.asked.prepared
+
+pub returns-clause-same_session : goal.returns-clause-same_session
+returns-clause-same_session g c = tt
+
+pub returns-clause-same_out : goal.returns-clause-same_out
+returns-clause-same_out g c = tt
+
+pub returns-clause-paced : goal.returns-clause-paced
+returns-clause-paced g c =
+    rw (← c.self.view_is)
+    (written_paced (seen_of c.self.inside.two c.self.inside.held) _ c.args.out.now.items c.put_reply.new.out.items c.args.steps.now c.ask.new.steps
+    c.put_reply.new.steps c.args.command c.in_ok-asked.asked.reply c.in_ok-asked.ensures.asked.is_reply c.in_ok-asked.ensures.paced
+    c.in_ok-put_reply.ensures.steps c.in_ok-put_reply.ensures.ok)

@@ -1,0 +1,3 @@
+pub mod Fronts
+pub mod MapFront
+pub mod FromLines

@@ -1,0 +1,292 @@
+// The lines of replies. Want of memory may leave the front of a line, which `put_reply` takes away.
+ghost use Rattle.std.specs.Prelude.{◌≡◌, ◌+◌, ◌*◌, ◌≤◌, ◌<◌, ◌^◌, ◌++◌, codes, flat_map, length, take, OnOk, OnErr};
+ghost use Rattle.geo_text.specs.Texts.{index_text, pt_text};
+ghost use Rattle.geo_reply.specs.ReplyText.{broken_text, corner_text, count_text, from_text, froms_text, lines_text, numbers_text};
+ghost use Rattle.geo_reply.specs.ReplyText.{part_text, place_text, points_text, reply_text, side_text, sight_text, verdict_text};
+ghost use Rattle.geo_reply.specs.Written.{WritesSteps};
+
+use crate::reply::{Before, Reply, Side};
+use exact_plane::{Hom, Memory, Pt, Steps};
+use geo_text::{put_bad, put_hom, put_index, put_line_end, put_pt, put_word};
+use inside_test::Position;
+use see_cone::Part;
+use std::sync::ledger::Ledger;
+use taut_check::Verdict;
+
+/// Appends the lines of a reply. It takes at most 64 steps for each point of a path. After want of memory `out` is as it was.
+pub fn put_reply<L: Ledger>(
+    out: &mut Vec<u8>,
+    reply: &Reply,
+    steps: &mut Steps<L>,
+) -> Result<(), Memory>
+    ensures ok { OnOk result (out.new.items ≡ out.old.items ++ reply_text reply.now) }
+    ensures same { OnErr result (out.new.items ≡ out.old.items) }
+    ensures steps { WritesSteps reply.now steps.old steps.new }
+{
+    let start = out.len();
+    let put = put_lines(out, reply, steps);
+    if put.is_err() {
+        out.truncate(start);
+    }
+    put
+}
+
+// The same, but want of memory may leave the front of the lines.
+fn put_lines<L: Ledger>(
+    out: &mut Vec<u8>,
+    reply: &Reply,
+    steps: &mut Steps<L>,
+) -> Result<(), Memory>
+    ensures ok { OnOk result (out.new.items ≡ out.old.items ++ reply_text reply.now) }
+    ensures front { OnErr result (take (length out.old.items) out.new.items ≡ out.old.items) }
+    ensures steps { WritesSteps reply.now steps.old steps.new }
+{
+    match reply {
+        Reply::Two => put_word(out, "geo,2\n"),
+        Reply::Polygon(count) => put_count(out, "polygon", *count),
+        Reply::Refused(bad) => put_bad(out, bad),
+        Reply::Place(position) => put_place(out, *position),
+        Reply::Verdict(verdict) => put_verdict(out, *verdict),
+        Reply::Path(points) => put_path(out, points.as_slice(), steps),
+        Reply::Tree(befores) => put_tree(out, befores.as_slice()),
+        Reply::View(parts) => put_view(out, parts.as_slice(), steps),
+        Reply::Kernel(corners) => put_kernel(out, corners.as_slice(), steps),
+        Reply::Hull(sides) => put_hull(out, sides.as_slice(), steps),
+        Reply::Round(numbers) => put_numbers(out, "round", numbers.as_slice()),
+        Reply::Guards(numbers) => put_numbers(out, "guards", numbers.as_slice()),
+        Reply::Sights(pairs) => put_sights(out, pairs.as_slice()),
+    }
+}
+
+// Appends the word for where a point is.
+fn put_place(out: &mut Vec<u8>, position: Position) -> Result<(), Memory>
+    ensures ok { OnOk result (out.new.items ≡ out.old.items ++ place_text position) }
+    ensures front { OnErr result (take (length out.old.items) out.new.items ≡ out.old.items) }
+{
+    match position {
+        Position::Inside => put_word(out, "inside\n"),
+        Position::Edge => put_word(out, "edge\n"),
+        Position::Outside => put_word(out, "outside\n"),
+    }
+}
+
+// Appends the line of a verdict.
+fn put_verdict(out: &mut Vec<u8>, verdict: Verdict) -> Result<(), Memory>
+    ensures ok { OnOk result (out.new.items ≡ out.old.items ++ verdict_text verdict) }
+    ensures front { OnErr result (take (length out.old.items) out.new.items ≡ out.old.items) }
+{
+    match verdict {
+        Verdict::Taut => put_word(out, "taut\n"),
+        Verdict::Empty => Ok(()),
+        Verdict::Repeat(k) => put_broken(out, "repeat", k),
+        Verdict::Leaves(k) => put_broken(out, "leaves", k),
+        Verdict::NotReflex(k) => put_broken(out, "not_reflex", k),
+        Verdict::Straight(k) => put_broken(out, "straight", k),
+        Verdict::WrongSide(k) => put_broken(out, "wrong_side", k),
+    }
+}
+
+// Appends the line that names a broken rule and the place of the point.
+fn put_broken(out: &mut Vec<u8>, rule: &str, place: u32) -> Result<(), Memory>
+    ensures ok { OnOk result (out.new.items ≡ out.old.items ++ broken_text rule.now place) }
+    ensures front { OnErr result (take (length out.old.items) out.new.items ≡ out.old.items) }
+{
+    put_word(out, "not,")?;
+    put_word(out, rule)?;
+    put_index(out, place)?;
+    put_line_end(out)
+}
+
+// Appends the line of a word and a number.
+fn put_count(out: &mut Vec<u8>, word: &str, count: u32) -> Result<(), Memory>
+    ensures ok { OnOk result (out.new.items ≡ out.old.items ++ count_text word.now count) }
+    ensures front { OnErr result (take (length out.old.items) out.new.items ≡ out.old.items) }
+{
+    put_word(out, word)?;
+    put_index(out, count)?;
+    put_line_end(out)
+}
+
+// Appends the line of a word and some numbers.
+fn put_numbers(out: &mut Vec<u8>, word: &str, numbers: &[u32]) -> Result<(), Memory>
+    requires { length numbers.now < 2 ^ 32 }
+    ensures ok { OnOk result (out.new.items ≡ out.old.items ++ numbers_text word.now numbers.now) }
+    ensures front { OnErr result (take (length out.old.items) out.new.items ≡ out.old.items) }
+{
+    put_word(out, word)?;
+    put_index(out, numbers.len() as u32)?;
+    for number in numbers {
+        put_index(out, *number)?;
+    }
+    put_line_end(out)
+}
+
+// Appends the line of a path. It takes at most 64 steps a point.
+fn put_path<L: Ledger>(out: &mut Vec<u8>, points: &[Pt], steps: &mut Steps<L>) -> Result<(), Memory>
+    requires { length points.now < 2 ^ 32 }
+    ensures ok { OnOk result (out.new.items ≡ out.old.items ++ points_text (codes "path") points.now) }
+    ensures front { OnErr result (take (length out.old.items) out.new.items ≡ out.old.items) }
+    ensures steps { steps.new ≤ steps.old + 64 * length points.now }
+{
+    put_word(out, "path")?;
+    put_points(out, points, steps)
+}
+
+// Appends how many points there are, each of them, and the end of the line.
+fn put_points<L: Ledger>(
+    out: &mut Vec<u8>,
+    points: &[Pt],
+    steps: &mut Steps<L>,
+) -> Result<(), Memory>
+    requires { length points.now < 2 ^ 32 }
+    ensures ok { OnOk result (out.new.items ≡ out.old.items ++ (index_text (length points.now) ++ flat_map pt_text points.now ++ codes "\n")) }
+    ensures front { OnErr result (take (length out.old.items) out.new.items ≡ out.old.items) }
+    ensures steps { steps.new ≤ steps.old + 64 * length points.now }
+{
+    put_index(out, points.len() as u32)?;
+    for point in points {
+        put_pt(out, point, steps)?;
+    }
+    put_line_end(out)
+}
+
+// Appends the lines of a tree.
+fn put_tree(out: &mut Vec<u8>, befores: &[Before]) -> Result<(), Memory>
+    requires { length befores.now < 2 ^ 32 }
+    ensures ok { OnOk result (out.new.items ≡ out.old.items ++ (count_text (codes "tree") (length befores.now) ++ froms_text 0 befores.now)) }
+    ensures front { OnErr result (take (length out.old.items) out.new.items ≡ out.old.items) }
+{
+    let count = befores.len() as u32;
+    put_count(out, "tree", count)?;
+    for i in 0..count {
+        put_from(out, i, befores[i as usize])?;
+    }
+    Ok(())
+}
+
+// Appends the line that tells what comes before vertex `i`.
+fn put_from(out: &mut Vec<u8>, i: u32, before: Before) -> Result<(), Memory>
+    ensures ok { OnOk result (out.new.items ≡ out.old.items ++ from_text i before) }
+    ensures front { OnErr result (take (length out.old.items) out.new.items ≡ out.old.items) }
+{
+    put_word(out, "from")?;
+    put_index(out, i)?;
+    match before {
+        Before::Nothing => put_word(out, ",-")?,
+        Before::Source => put_word(out, ",s")?,
+        Before::Vertex(j) => put_index(out, j)?,
+    }
+    put_line_end(out)
+}
+
+// Appends the lines of the parts of the edges that a point sees.
+fn put_view<L: Ledger>(
+    out: &mut Vec<u8>,
+    parts: &[Part],
+    steps: &mut Steps<L>,
+) -> Result<(), Memory>
+    requires { length parts.now < 2 ^ 32 }
+    ensures ok { OnOk result (out.new.items ≡ out.old.items ++ lines_text (codes "see") part_text parts.now) }
+    ensures front { OnErr result (take (length out.old.items) out.new.items ≡ out.old.items) }
+{
+    put_count(out, "see", parts.len() as u32)?;
+    for part in parts {
+        put_part(out, part, steps)?;
+    }
+    Ok(())
+}
+
+// Appends the line of a part.
+fn put_part<L: Ledger>(out: &mut Vec<u8>, part: &Part, steps: &mut Steps<L>) -> Result<(), Memory>
+    ensures ok { OnOk result (out.new.items ≡ out.old.items ++ part_text part.now) }
+    ensures front { OnErr result (take (length out.old.items) out.new.items ≡ out.old.items) }
+{
+    put_word(out, "part")?;
+    put_index(out, part.edge)?;
+    put_hom(out, &part.first, steps)?;
+    put_hom(out, &part.last, steps)?;
+    put_line_end(out)
+}
+
+// Appends the lines of the corners of a kernel.
+fn put_kernel<L: Ledger>(
+    out: &mut Vec<u8>,
+    corners: &[Hom],
+    steps: &mut Steps<L>,
+) -> Result<(), Memory>
+    requires { length corners.now < 2 ^ 32 }
+    ensures ok { OnOk result (out.new.items ≡ out.old.items ++ lines_text (codes "kernel") corner_text corners.now) }
+    ensures front { OnErr result (take (length out.old.items) out.new.items ≡ out.old.items) }
+{
+    put_count(out, "kernel", corners.len() as u32)?;
+    for corner in corners {
+        put_corner(out, corner, steps)?;
+    }
+    Ok(())
+}
+
+// Appends the line of a corner.
+fn put_corner<L: Ledger>(
+    out: &mut Vec<u8>,
+    corner: &Hom,
+    steps: &mut Steps<L>,
+) -> Result<(), Memory>
+    ensures ok { OnOk result (out.new.items ≡ out.old.items ++ corner_text corner.now) }
+    ensures front { OnErr result (take (length out.old.items) out.new.items ≡ out.old.items) }
+{
+    put_word(out, "corner")?;
+    put_hom(out, corner, steps)?;
+    put_line_end(out)
+}
+
+// Appends the lines of the sides of a hull.
+fn put_hull<L: Ledger>(
+    out: &mut Vec<u8>,
+    sides: &[Side],
+    steps: &mut Steps<L>,
+) -> Result<(), Memory>
+    requires { length sides.now < 2 ^ 32 }
+    ensures ok { OnOk result (out.new.items ≡ out.old.items ++ lines_text (codes "hull") side_text sides.now) }
+    ensures front { OnErr result (take (length out.old.items) out.new.items ≡ out.old.items) }
+{
+    put_count(out, "hull", sides.len() as u32)?;
+    for side in sides {
+        put_side(out, side, steps)?;
+    }
+    Ok(())
+}
+
+// Appends the line of a side.
+fn put_side<L: Ledger>(out: &mut Vec<u8>, side: &Side, steps: &mut Steps<L>) -> Result<(), Memory>
+    ensures ok { OnOk result (out.new.items ≡ out.old.items ++ side_text side.now) }
+    ensures front { OnErr result (take (length out.old.items) out.new.items ≡ out.old.items) }
+{
+    put_word(out, "side")?;
+    put_index(out, side.start)?;
+    put_index(out, side.end)?;
+    put_points(out, side.path.as_slice(), steps)
+}
+
+// Appends the lines of the pairs of vertices that see each other.
+fn put_sights(out: &mut Vec<u8>, pairs: &[(u32, u32)]) -> Result<(), Memory>
+    requires { length pairs.now < 2 ^ 32 }
+    ensures ok { OnOk result (out.new.items ≡ out.old.items ++ lines_text (codes "sights") sight_text pairs.now) }
+    ensures front { OnErr result (take (length out.old.items) out.new.items ≡ out.old.items) }
+{
+    put_count(out, "sights", pairs.len() as u32)?;
+    for pair in pairs {
+        put_sight(out, *pair)?;
+    }
+    Ok(())
+}
+
+// Appends the line of one.
+fn put_sight(out: &mut Vec<u8>, pair: (u32, u32)) -> Result<(), Memory>
+    ensures ok { OnOk result (out.new.items ≡ out.old.items ++ sight_text pair) }
+    ensures front { OnErr result (take (length out.old.items) out.new.items ≡ out.old.items) }
+{
+    put_word(out, "sight")?;
+    put_index(out, pair.0)?;
+    put_index(out, pair.1)?;
+    put_line_end(out)
+}

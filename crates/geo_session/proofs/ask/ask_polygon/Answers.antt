@@ -1,0 +1,22 @@
+use Rattle.std.proofs.Common.{◌≡◌, Err, length, refl, ap, ◌∙◌}
+use Rattle.rings.specs.Simple.{IsLeastClash, IsSimple}
+use Rattle.ring_check.proofs.Oriented.{given_of-oriented, length-oriented}
+use Rattle.ring_check.specs.Oriented.{Oriented, given_of, oriented}
+use Rattle.geo_session.proofs.Asks.{clash, taken}
+use Rattle.geo_session.proofs.ask.ask_polygon.Goals as goal
+
+pub returns-in_ok-of-in-Ok : goal.returns-in_ok-of-in-Ok
+returns-in_ok-of-in-Ok g c =
+    let points = c.args.points in
+    let simple : IsSimple points = rw c.into_vec.ensures at (c.in-Ok.ensures.accepted.0 refl).2 in
+    let ring : c.in-Ok.ring ≡ oriented points = c.in-Ok.ensures.ring ∙ ap oriented c.into_vec.ensures in
+    let count : length c.in-Ok.ring.corners ≡ length points = ap (λ (r : Oriented). length r.corners) ring ∙ length-oriented points in
+    let given : given_of c.in-Ok.ring ≡ points = ap given_of ring ∙ given_of-oriented points in
+    let (same, none, not) = c.in_ok-of-in-Ok.ensures in
+    λ two held. taken two held points c.in_ok-of-in-Ok.field-0 c.len.result simple (c.len.ensures.number ∙ count) (ap given_of same ∙ given) none not
+
+pub returns-in-Err-Clash : goal.returns-in-Err-Clash
+returns-in-Err-Clash g c =
+    let least : IsLeastClash c.args.points c.in-Err-Clash.i c.in-Err-Clash.j =
+    rw c.into_vec.ensures at ((c.in-Err-Clash.ensures.clash c.in-Err-Clash.i c.in-Err-Clash.j).0 (ap Err c.in-Err-Clash.field-0-is)).2 in
+    λ two held. rw (c.unchanged.ensures, c.in-Err-Clash.field-0-is) (clash two held c.args.points c.in-Err-Clash.i c.in-Err-Clash.j least)

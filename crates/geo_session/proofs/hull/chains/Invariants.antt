@@ -1,9 +1,0 @@
-use Rattle.std.proofs.Common.{◌*◌, ◌≤◌, length, map, vec_capacity}
-use Rattle.geo_session.proofs.hull.chains.Given as goal
-use Rattle.geo_session.specs.Span.{AreChains}
-
-abbrev pub invariant-loop-k : goal.invariant-loop-k
-invariant-loop-k g l = record {
-  are : AreChains l.ring.corners l.points l.numbers l.k (map (λ chain. chain.items) l.chains.items);
-  room : length l.numbers * length l.numbers ≤ vec_capacity l.chains;
-}

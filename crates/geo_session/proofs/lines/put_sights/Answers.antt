@@ -1,6 +1,0 @@
-use Rattle.geo_session.proofs.Fronts.{front_after}
-use Rattle.geo_session.proofs.lines.put_sights.Goals as goal
-
-pub returns-in_err-put_sight-clause-front : goal.returns-in_err-put_sight-clause-front
-returns-in_err-put_sight-clause-front c =
-    front_after _ c.args.out.now.items _ c.loop-pair.out.items c.put_sight.new.out.items c.loop-pair.invariant c.in_err-put_sight.ensures.front

@@ -1,0 +1,92 @@
+-- What a command changes, and how its reply and its steps are known before anything is written. No public clause cites this module.
+use Rattle.std.specs.Prelude.{◌≡◌, ◌⊎◌, ℕ, ℤ, ◌+◌, ◌*◌, ◌≤◌, Bool, true, List, OnOk, Option, None, Some, Result, Ok, Err}
+use Rattle.plane.specs.Point.{Point}
+use Rattle.geo_text.specs.declared.command.Bad.{Bad}
+use Rattle.geo_text.specs.declared.command.Bad.TheVariants as bad
+use Rattle.geo_text.specs.declared.command.Command.{Command}
+use Rattle.geo_text.specs.declared.command.Command.TheVariants as command
+use Rattle.shared_seq.specs.Digits.{binary_digits}
+use Rattle.pair_cut.specs.Pairs.{IsMadeFor}
+use Rattle.geo_session.specs.Held.{HeldRing, IsTreeOf, kept_of, prepared_of}
+use Rattle.geo_session.specs.Paced.{TakesPathSteps, TakesReplySteps, path_pace, reach_pace}
+use Rattle.geo_session.specs.Pairs.{IsIndex, IsSmall, IsVertexNumber}
+use Rattle.geo_session.specs.Prepared.{IsPreparedAfter, Seen, pair_pace, table_steps}
+use Rattle.geo_session.specs.Reply.{IsReply, state_after}
+use Rattle.geo_session.specs.State.{State, size_of}
+use Rattle.geo_session.specs.declared.ask.Asked.{Asked}
+use Rattle.geo_session.specs.declared.ask.Change.{Change}
+use Rattle.geo_session.specs.declared.ask.Change.TheVariants as change
+
+-- what contracts see of a session with these fields
+abbrev pub seen_of : Bool → Option HeldRing → Seen
+seen_of two held = record { state = record { two = two; kept = kept_of held }; prepared = prepared_of held }
+
+-- the fields after a change
+abbrev pub two_after : Change → Bool → Bool
+two_after change.Two two = true
+two_after other two = two
+
+abbrev pub held_after : Change → Option HeldRing → Option HeldRing
+held_after change.Nothing held = held
+held_after change.Two held = None
+held_after (change.Polygon new) held = Some new
+held_after (change.Tree grown) None = None
+held_after (change.Tree grown) (Some held) = Some (record { ring = held.ring; tris = held.tris; source = Some grown.source; prepared = held.prepared })
+held_after (change.Table table) None = None
+held_after (change.Table table) (Some held) = Some (record { ring = held.ring; tris = held.tris; source = held.source; prepared = true })
+
+-- a new tree is one in the polygon that is held, and a new table is made for it
+abbrev pub Suits : Change → Option HeldRing → Type 0
+Suits (change.Tree grown) (Some held) = IsTreeOf held.ring.corners held.tris grown
+Suits (change.Table table) (Some held) = IsMadeFor held.ring.corners table
+Suits other held = Unit {0}
+
+-- the reply is the command's, and the change leads to what is there after it
+pub record IsAskedOf (two : Bool) (held : Option HeldRing) (asked : Command) (answer : Asked) : Type 0 where
+  pub is_reply : IsReply (record { two = two; kept = kept_of held }) asked answer.reply
+  pub suits : Suits answer.change held
+  pub state : (seen_of (two_after answer.change two) (held_after answer.change held)).state
+      ≡ state_after (record { two = two; kept = kept_of held }) asked answer.reply
+  pub prepared : IsPreparedAfter (kept_of held) asked (prepared_of held) (prepared_of (held_after answer.change held))
+
+-- the command asks of a polygon
+abbrev pub AsksPolygon : Command → Type 0
+AsksPolygon command.Two = ⊥
+AsksPolygon (command.Polygon ring) = ⊥
+AsksPolygon other = Unit {0}
+
+-- and changes nothing
+abbrev pub IsPlain : Command → Type 0
+IsPlain command.Two = ⊥
+IsPlain (command.Polygon ring) = ⊥
+IsPlain (command.Tree s) = ⊥
+IsPlain (command.Pair i j) = ⊥
+IsPlain command.Sights = ⊥
+IsPlain other = Unit {0}
+
+-- the vertices with these two numbers, or why there are none
+abbrev pub AreAsked : List Point → ℤ → ℤ → Result (ℕ × ℕ) Bad → Type 0
+AreAsked ring i j (Ok pair) = IsSmall ring × IsVertexNumber ring i pair.0 × IsVertexNumber ring j pair.1
+AreAsked ring i j (Err fault) = ((¬ IsSmall ring) × (fault ≡ bad.Large))
+    ⊎ (IsSmall ring × (¬ IsIndex ring i) × (fault ≡ bad.Index 1))
+    ⊎ (IsSmall ring × IsIndex ring i × (¬ IsIndex ring j) × (fault ≡ bad.Index 2))
+
+-- the bounds of a path, by what was written and by the reply
+abbrev pub TakesBoth : {E : Type 0} → State → Command → ℕ → Result (Unit {0}) E → List ℕ → List ℕ → ℕ → ℕ → Type 0
+TakesBoth before asked most put out out' steps steps' =
+    OnOk put (TakesPathSteps most out out' steps steps') × TakesReplySteps before asked most steps steps'
+
+-- the steps of a command with its lines, by cases
+abbrev pub IsWrittenPaced : {E : Type 0} → Seen → Command → Result (Unit {0}) E → List ℕ → List ℕ → ℕ → ℕ → Type 0
+IsWrittenPaced seen (command.Path s t) put out out' steps steps' =
+    TakesBoth seen.state (command.Path s t) (path_pace seen.state.two * size_of seen.state.kept) put out out' steps steps'
+IsWrittenPaced seen (command.Tree s) put out out' steps steps' =
+    let n = size_of seen.state.kept in let b = binary_digits n in steps' ≤ steps + (3 * n + 200 * n * (b * b))
+IsWrittenPaced seen (command.Reach t) put out out' steps steps' =
+    let n = size_of seen.state.kept in let b = binary_digits n in
+    TakesBoth seen.state (command.Reach t) (reach_pace seen.state.two * n + 24 * (b * b)) put out out' steps steps'
+IsWrittenPaced seen (command.Pair i j) put out out' steps steps' =
+    let n = size_of seen.state.kept in
+    TakesBoth seen.state (command.Pair i j) (table_steps seen + pair_pace seen.state.two * n) put out out' steps steps'
+IsWrittenPaced seen command.Sights put out out' steps steps' = steps' ≤ steps + table_steps seen
+IsWrittenPaced seen other put out out' steps steps' = Unit {0}

@@ -1,0 +1,179 @@
+// What a command is answered, and what changes once that is written.
+ghost use Rattle.std.specs.Prelude.{◌≡◌, ◌≤◌, IfOk, ℕ, Bool, Option, Some, length};
+ghost use Rattle.plane.specs.declared.limits.TheConstants.{MAX_CORNERS};
+ghost use Rattle.geo_text.specs.Reading.{IsWellSized};
+ghost use Rattle.geo_session.specs.Asking.{AsksPolygon, IsAskedOf, IsPlain, Suits, held_after, seen_of, two_after};
+ghost use Rattle.geo_session.specs.Held.{HeldRing, kept_in};
+ghost use Rattle.geo_session.specs.Paced.{IsPaced};
+ghost use Rattle.geo_session.specs.Reply.{IsReplyIn};
+
+use crate::grown::Grown;
+use crate::held::Held;
+use crate::paths::path_reply;
+use exact_plane::{Memory, Steps};
+use geo_reply::Reply;
+use geo_text::{Bad, Command, Points};
+use pair_cut::PairTable;
+use ring_check::{Ring, RingFault};
+use std::alloc::Global;
+use std::sync::ledger::Ledger;
+
+// The reply to a command, and what it changes.
+#[derive(Drop)]
+pub(crate) struct Asked {
+    pub(crate) reply: Reply,
+    pub(crate) change: Change,
+}
+
+// What is kept once a reply is written.
+#[derive(Drop)]
+pub(crate) enum Change {
+    Nothing,
+    // Version 2, with no polygon.
+    Two,
+    // A polygon, in the place of the one before.
+    Polygon(Held),
+    // A tree in the polygon, in the place of the one before.
+    Tree(Grown),
+    // The table of the paths between all pairs of vertices.
+    Table(PairTable),
+}
+
+// What a command is answered in this version, where this polygon is held.
+pub(crate) fn ask<L: Ledger>(
+    alloc: Global,
+    two: bool,
+    held: &Option<Held>,
+    command: Command,
+    steps: &mut Steps<L>,
+) -> Result<Asked, Memory>
+    requires { IsWellSized command }
+    ensures asked { IfOk result (IsAskedOf two held.now command) }
+    ensures paced { IsPaced (seen_of two held.now) command steps.old steps.new }
+{
+    match command {
+        Command::Two => Ok(Asked {
+            reply: Reply::Two,
+            change: Change::Two,
+        }),
+        Command::Polygon(points) => ask_polygon(alloc, points, steps),
+        asked => match held {
+            Some(held) => held.ask(alloc, two, asked, steps),
+            None => Ok(unchanged(Reply::Refused(Bad::NoPolygon))),
+        },
+    }
+}
+
+// A list of points is accepted, and held, or refused by its least clash.
+fn ask_polygon<L: Ledger>(
+    alloc: Global,
+    points: Points,
+    steps: &mut Steps<L>,
+) -> Result<Asked, Memory>
+    requires { (3 ≤ length points) × (length points ≤ MAX_CORNERS) }
+    ensures { IfOk result (λ asked. (two : Bool) → (held : Option HeldRing) → IsAskedOf two held (Command.Polygon points) asked) }
+{
+    match Ring::of(points.into_vec(), steps) {
+        Ok(ring) => Ok(Asked {
+            reply: Reply::Polygon(ring.len()),
+            change: Change::Polygon(Held::of(alloc, ring, steps)?),
+        }),
+        Err(RingFault::Clash(i, j)) => Ok(unchanged(Reply::Refused(Bad::Clash(i, j)))),
+        Err(RingFault::Few | RingFault::Many) => unreachable!(),
+    }
+}
+
+// A reply that changes nothing.
+pub(crate) fn unchanged(reply: Reply) -> Asked
+    ensures { result ≡ record { reply = reply; change = Change.Nothing } }
+{
+    Asked {
+        reply,
+        change: Change::Nothing,
+    }
+}
+
+impl Held {
+    // What a command is answered that asks of a polygon.
+    fn ask<L: Ledger>(
+        &self,
+        alloc: Global,
+        two: bool,
+        command: Command,
+        steps: &mut Steps<L>,
+    ) -> Result<Asked, Memory>
+        requires sized { IsWellSized command }
+        requires asks { AsksPolygon command }
+        ensures asked { IfOk result (IsAskedOf two (Some self.now) command) }
+        ensures paced { IsPaced (seen_of two (Some self.now)) command steps.old steps.new }
+    {
+        match command {
+            Command::Two | Command::Polygon(_) => unreachable!(),
+            Command::Tree(s) => self.tree(alloc, &s, steps),
+            Command::Pair(i, j) => self.pair(alloc, two, i, j, steps),
+            Command::Sights => self.sights(alloc, steps),
+            asked => Ok(unchanged(self.tell(alloc, two, asked, steps)?)),
+        }
+    }
+
+    // What a command is answered that changes nothing.
+    fn tell<L: Ledger>(
+        &self,
+        alloc: Global,
+        two: bool,
+        command: Command,
+        steps: &mut Steps<L>,
+    ) -> Result<Reply, Memory>
+        requires sized { IsWellSized command }
+        requires plain { IsPlain command }
+        ensures reply { IfOk result (IsReplyIn two (kept_in self.now) command) }
+        ensures paced { IsPaced (seen_of two (Some self.now)) command steps.old steps.new }
+    {
+        match command {
+            Command::Two
+            | Command::Polygon(_)
+            | Command::Tree(_)
+            | Command::Pair(_, _)
+            | Command::Sights => unreachable!(),
+            Command::Inside(point) => Ok(Reply::Place(self.place(&point, steps))),
+            Command::Check(points) => Ok(Reply::Verdict(self.judge(
+                alloc,
+                points.as_slice(),
+                steps,
+            )?)),
+            Command::Path(s, t) => Ok(path_reply(self.path(alloc, two, &s, &t, steps)?)),
+            Command::Reach(t) => Ok(path_reply(self.reach(alloc, two, &t, steps)?)),
+            Command::See(q) => self.view(alloc, &q, steps),
+            Command::Kernel => self.kernel(alloc, steps),
+            Command::Hull(points) => self.hull(alloc, two, points.as_slice(), steps),
+            Command::Round(points) => self.round(alloc, points.as_slice(), steps),
+            Command::Guards => self.guards(alloc, steps),
+        }
+    }
+}
+
+// Keeps what changes.
+pub(crate) fn commit(two: &mut bool, held: &mut Option<Held>, change: Change)
+    requires { Suits change held.old }
+    ensures two { two.new ≡ two_after change two.old }
+    ensures held { held.new ≡ held_after change held.old }
+{
+    match change {
+        Change::Nothing => {}
+        Change::Two => {
+            *two = true;
+            *held = None;
+        }
+        Change::Polygon(new) => *held = Some(new),
+        Change::Tree(grown) => {
+            if let Some(held) = held {
+                held.keep(grown);
+            }
+        }
+        Change::Table(table) => {
+            if let Some(held) = held {
+                held.prepare(table);
+            }
+        }
+    }
+}

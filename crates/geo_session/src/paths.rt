@@ -1,0 +1,193 @@
+// Paths between points of the polygon, and the vertices that they touch.
+ghost use Rattle.std.specs.Prelude.{◌≡◌, ◌+◌, ◌-◌, ◌*◌, ◌≤◌, ◌<◌, ◌^◌, ◌++◌, false, if◌then◌else◌, IfOk, OnErr, length, vec_capacity};
+ghost use Rattle.plane.specs.Point.{whole};
+ghost use Rattle.plane.specs.declared.limits.TheConstants.{MAX_CORNERS};
+ghost use Rattle.rings.specs.Chain.{IsPath};
+ghost use Rattle.rings.specs.Full.{IsFull};
+ghost use Rattle.shared_seq.specs.Digits.{binary_digits};
+ghost use Rattle.ring_check.specs.Oriented.{given_of};
+ghost use Rattle.exact_plane.specs.Spot.{point_named};
+ghost use Rattle.dual_tree.specs.Location.{IsLeastHolding};
+ghost use Rattle.exact_plane.specs.Names.{AreNamed, named_points};
+ghost use Rattle.geo_session.specs.Path.{IsPathReply, IsReachReply, path_of};
+ghost use Rattle.geo_session.specs.Shown.{IsShown, IsShownPath};
+ghost use Rattle.geo_session.specs.Sleeves.{IsPathAlong, IsPathBetween, Leads};
+ghost use Rattle.geo_session.specs.Told.{reply_of};
+
+use crate::held::Held;
+use dual_tree::{Board, sleeve, touched};
+use exact_plane::{Memory, Pt, Spot, Steps, Turns};
+use funnel_walk::{FunnelBox, walk};
+use geo_reply::{Reply, Row};
+use geo_text::Bad;
+use std::alloc::Global;
+use std::sync::ledger::Ledger;
+use tri_mesh::Sleeve;
+
+impl Held {
+    // What is told of the taut chain from one point to another. In version 1 all memory is taken before the walk.
+    pub(crate) fn path<L: Ledger>(
+        &self,
+        alloc: Global,
+        two: bool,
+        s: &Pt,
+        t: &Pt,
+        steps: &mut Steps<L>,
+    ) -> Result<Result<Vec<Pt>, Bad>, Memory>
+        ensures answer { IfOk result (λ found. IsPathReply two (given_of self.now.ring) s.now t.now (reply_of path_of found)) }
+        ensures few { IfOk result (λ found. IfOk found (λ points. length points.items ≤ MAX_CORNERS + (if two then 2 else 1))) }
+        ensures steps { steps.new ≤ steps.old + (if two then 30 else 10) * length self.now.ring.corners }
+        ensures memory { two ≡ false → OnErr result (steps.new ≤ steps.old + 6 * (length self.now.ring.corners - 2)) }
+    {
+        let from = match self.find(1, s, steps) {
+            Ok(from) => from,
+            Err(bad) => return Ok(Err(bad)),
+        };
+        let to = match self.find(2, t, steps) {
+            Ok(to) => to,
+            Err(bad) => return Ok(Err(bad)),
+        };
+        let points = self.path_between(alloc, two, (from, to), s, t, steps)?;
+        Ok(Ok(points))
+    }
+
+    // What is told of the taut chain from the source of the tree to a point.
+    pub(crate) fn reach<L: Ledger>(
+        &self,
+        alloc: Global,
+        two: bool,
+        t: &Pt,
+        steps: &mut Steps<L>,
+    ) -> Result<Result<Vec<Pt>, Bad>, Memory>
+        ensures answer { IfOk result (λ found. IsReachReply two (given_of self.now.ring) self.now.source t.now (reply_of path_of found)) }
+        ensures few { IfOk result (λ found. IfOk found (λ points. length points.items ≤ MAX_CORNERS + 3)) }
+        ensures steps { let n = length self.now.ring.corners in let b = binary_digits n in
+            steps.new ≤ steps.old + ((if two then 23 else 3) * n + 24 * (b * b)) }
+    {
+        let Some(grown) = &self.grown else {
+            return Ok(Err(Bad::NoTree));
+        };
+        let tri = match self.find(1, t, steps) {
+            Ok(tri) => tri,
+            Err(bad) => return Ok(Err(bad)),
+        };
+        let chain = grown.chain_to(alloc, &self.ring, &self.mesh, tri, t, steps)?;
+        let points = self.shown(alloc, two, (grown.home, tri), chain, steps)?;
+        Ok(Ok(points))
+    }
+
+    // What is told of the taut chain from a point in one triangle to a point in another.
+    pub(crate) fn path_between<L: Ledger>(
+        &self,
+        alloc: Global,
+        two: bool,
+        tris: (u32, u32),
+        s: &Pt,
+        t: &Pt,
+        steps: &mut Steps<L>,
+    ) -> Result<Vec<Pt>, Memory>
+        requires from { IsLeastHolding self.now.ring.corners self.now.tris (whole s.now) tris.0 }
+        requires to { IsLeastHolding self.now.ring.corners self.now.tris (whole t.now) tris.1 }
+        ensures shown { IfOk result (λ points. IsShownPath two self.now.ring.corners s.now t.now points.items) }
+        ensures few { IfOk result (λ points. length points.items ≤ MAX_CORNERS + (if two then 2 else 1)) }
+        ensures steps { steps.new ≤ steps.old + (if two then 24 else 4) * length self.now.ring.corners }
+        ensures memory { two ≡ false → OnErr result (steps.new ≡ steps.old) }
+    {
+        let sleeve = sleeve(alloc, &self.mesh, tris.0, tris.1)?;
+        let chain = self.chain_along(alloc, &sleeve, s, t, steps)?;
+        if two {
+            self.full_along(alloc, &sleeve, &chain, steps)
+        } else {
+            Ok(chain)
+        }
+    }
+
+    // What is told of a taut chain from a point in one triangle to a point in another.
+    pub(crate) fn shown<L: Ledger>(
+        &self,
+        alloc: Global,
+        two: bool,
+        tris: (u32, u32),
+        chain: Vec<Pt>,
+        steps: &mut Steps<L>,
+    ) -> Result<Vec<Pt>, Memory>
+        requires { IsPathBetween self.now.ring.corners self.now.tris tris.0 tris.1 chain.items }
+        ensures shown { IfOk result (λ points. IsShown two self.now.ring.corners chain.items points.items) }
+        ensures few { length chain.items ≤ MAX_CORNERS + 3 → IfOk result (λ points. length points.items ≤ MAX_CORNERS + 3) }
+        ensures steps { steps.new ≤ steps.old + (if two then 20 else 0) * length self.now.ring.corners }
+    {
+        if two {
+            let sleeve = sleeve(alloc, &self.mesh, tris.0, tris.1)?;
+            self.full_along(alloc, &sleeve, &chain, steps)
+        } else {
+            Ok(chain)
+        }
+    }
+
+    // The taut chain from one point to another along a sleeve. It takes all its memory before the walk.
+    fn chain_along<L: Ledger>(
+        &self,
+        alloc: Global,
+        sleeve: &Sleeve,
+        s: &Pt,
+        t: &Pt,
+        steps: &mut Steps<L>,
+    ) -> Result<Vec<Pt>, Memory>
+        requires { Leads self.now.ring.corners self.now.tris sleeve.now s.now t.now }
+        ensures path { IfOk result (λ points. IsPath self.now.ring.corners s.now t.now points.items) }
+        ensures few { IfOk result (λ points. length points.items ≤ MAX_CORNERS + 1) }
+        ensures steps { steps.new ≤ steps.old + 4 * length self.now.ring.corners }
+        ensures memory { OnErr result (steps.new ≡ steps.old) }
+    {
+        let _count = self.ring.len();
+        let mut room = FunnelBox::with_room(alloc, sleeve.len())?;
+        let mut names = Vec::with_capacity(alloc, sleeve.len() + 4)?;
+        let mut points = Vec::with_capacity(alloc, sleeve.len() + 4)?;
+        let board = Board::new(&self.ring, *s, *t);
+        walk(&mut room, &board, &self.mesh, sleeve, &mut names, steps);
+        put_points(&mut points, &names, &board);
+        Ok(points)
+    }
+
+    // A taut chain along a sleeve, with all vertices that it touches.
+    pub(crate) fn full_along<L: Ledger>(
+        &self,
+        alloc: Global,
+        sleeve: &Sleeve,
+        chain: &[Pt],
+        steps: &mut Steps<L>,
+    ) -> Result<Vec<Pt>, Memory>
+        requires { IsPathAlong self.now.ring.corners self.now.tris sleeve.now chain.now }
+        ensures full { IfOk result (λ points. IsFull self.now.ring.corners chain.now points.items) }
+        ensures few { IfOk result (λ points. length points.items ≤ MAX_CORNERS + 2) }
+        ensures steps { steps.new ≤ steps.old + 20 * length self.now.ring.corners }
+    {
+        let mut points = Vec::with_capacity(alloc, self.ring.len() as usize + 2)?;
+        touched(&self.ring, &self.mesh, sleeve, chain, &mut points, steps);
+        Ok(points)
+    }
+}
+
+// Appends the points that the names stand for.
+pub(crate) fn put_points<'a>(points: &mut Vec<Pt>, names: &[Spot], board: &Board<'a>)
+    requires named { AreNamed (⟦<Board<'a> as Turns>⟧.corners board.now) names.now }
+    requires room { length points.old.items + length names.now ≤ vec_capacity points.old }
+    ensures points { points.new.items ≡ points.old.items ++ named_points (point_named (⟦<Board<'a> as Turns>⟧.corners board.now)
+        (⟦<Board<'a> as Turns>⟧.start board.now) (⟦<Board<'a> as Turns>⟧.goal board.now)) names.now }
+    ensures same_room { vec_capacity points.new ≡ vec_capacity points.old }
+{
+    for name in names {
+        points.push_reserved(board.point(*name));
+    }
+}
+
+// What is told of a path, or the refusal.
+pub(crate) fn path_reply(found: Result<Vec<Pt>, Bad>) -> Reply
+    requires { IfOk found (λ points. length points.items < 2 ^ 32) }
+    ensures { result ≡ reply_of path_of found }
+{
+    match found {
+        Ok(points) => Reply::Path(Row::of(points)),
+        Err(bad) => Reply::Refused(bad),
+    }
+}
