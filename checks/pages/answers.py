@@ -1,6 +1,9 @@
 """Looks whether the tables of worked records in docs/SCRIPT.md say what the files of examples/ say."""
+from __future__ import annotations
+
 import re
 from pathlib import Path
+from typing import Iterator, Optional
 
 from . import prose, sources
 
@@ -8,7 +11,7 @@ PAGE = Path("docs/SCRIPT.md")
 MORE = ("tree", "see", "kernel", "hull", "sights")  # whose first line says how many more follow
 
 
-def answered(name):
+def answered(name: str) -> Iterator[tuple[str, list[str]]]:
     """Yields each record of an example with the lines of its answer."""
     records = [it for it in re.split(r"\r\n|\n|\r", sources.text(f"examples/{name}")) if it.strip()]
     lines = sources.text(f"examples/{name}.stdout").splitlines()
@@ -21,9 +24,9 @@ def answered(name):
         at += 1 + more
 
 
-def tables(text):
+def tables(text: str) -> Iterator[tuple[str, list[list[str]], int]]:
     """Yields the name of the example that was named last, the rows of a table below it, and the number of its first line."""
-    name = None
+    name: Optional[str] = None
     for kind, lines, start in prose.blocks(text):
         for found in re.findall(r"examples/([a-z0-9-]+)", "\n".join(lines)) if kind in ("prose", "code") else []:
             if (sources.TOP / f"examples/{found}.stdout").exists() and (sources.TOP / f"examples/{found}").exists():
@@ -34,11 +37,13 @@ def tables(text):
             yield name, [re.split(r"(?<!\\)\|", it)[1:-1] for it in lines[2:]], start + 2
 
 
-def look(text):
+def look(text: str) -> Iterator[tuple[int, str]]:
     """Yields (line, what is wrong)."""
     for name, rows, start in tables(text):
         pairs = list(answered(name))
-        record, told, line = None, [], 0
+        record: Optional[str] = None
+        told: list[str] = []
+        line = 0
         for k, row in enumerate([*rows, ["`end`", ""]]):
             spans = [re.findall(r"`([^`]*)`", cell) for cell in row]
             if spans[0]:

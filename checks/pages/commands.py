@@ -1,5 +1,7 @@
 """Runs the command lines of the pages. Those that end with a remark on seconds, minutes or hours are long, and only looked at; what proves, builds
 or measures has to have one, and is never run from here."""
+from __future__ import annotations
+
 import os
 import re
 import shutil
@@ -8,6 +10,7 @@ import subprocess
 import tempfile
 from concurrent.futures import ThreadPoolExecutor
 from pathlib import Path
+from typing import Iterator, Tuple
 
 from . import names, prose, sources
 
@@ -20,37 +23,40 @@ BUILT = re.compile(r"(crates/[a-z_]+/out/[A-Za-z0-9_./]+)")
 # what asks the toolchain or a compiler, or runs one of the repository's own checks
 HEAVY = re.compile(r"\brt (?!version|doc|--help)|\brt$|\.ci/run|\b(checks|bench|clients)/|\bunittest\b|\bcc -|examples/library/|^\./|tools/explore")
 SECONDS = 60
+# a page, the number of a line, and what is wrong there
+Wrong = Tuple[Path, int, str]
 
 
 class Line:
     """A command line of a page. A backslash at its end joins the next one to it."""
 
-    def __init__(self, number, text):
+    def __init__(self, number: int, text: str) -> None:
         self.number, self.text = number, text
         self.is_long = LONG.search(text) is not None
 
-    def wants(self):
+    def wants(self) -> list[str]:
         """What has to be built before this can run."""
         program = ["crates/geo/out/geo"] if "tools/" in self.text else []
         return program + BUILT.findall(self.text)
 
-    def can_run(self):
+    def can_run(self) -> bool:
         """Whether what it wants is built, and each program that it names is there."""
         named = re.findall(r"(?:^|[|;&(]\s*)([a-z][a-z0-9]*)(?=\s)", REMARK.sub("", self.text))
         return all((sources.TOP / it).exists() for it in self.wants()) and all(it in BUILTIN or shutil.which(it) for it in named)
 
 
-def is_command(line):
+def is_command(line: str) -> bool:
     first = re.sub(r"^(\(\s*|\{\s*|(cd \S+ && ))+", "", line).split(" ")[0]
     return re.match(r"(\(cd|cd|for|\w+=|\{) ?", line) is not None or "/" in first and not first.startswith(("+", "|")) or first == "rt" or shutil.which(first) is not None
 
 
-def blocks_of(text):
+def blocks_of(text: str) -> Iterator[list[Line]]:
     """Yields the command lines of each block of code of a page."""
     for kind, lines, start in prose.blocks(text):
         if kind != "code" or lines[0].startswith("```") and lines[0].strip("` ") not in ("", "sh"):
             continue
-        found, joined, before = [], "", 0
+        found: list[Line] = []
+        joined, before = "", 0
         for k, line in enumerate(lines):
             line = line.strip()
             if line.startswith("```") or not line:
@@ -67,7 +73,7 @@ def blocks_of(text):
         yield found
 
 
-def wrong_paths(line):
+def wrong_paths(line: Line) -> list[str]:
     """The paths of a command line that do not exist, those that it makes itself left out."""
     text = REMARK.sub("", line.text)
     inside = re.match(r"\(?cd (\S+) && ", text)
@@ -82,9 +88,11 @@ def wrong_paths(line):
     return found
 
 
-def run(page, block, top):
+def run(page: Path, block: list[Line], top: Path) -> tuple[list[Wrong], int]:
     """Runs the lines of a block in one shell, in a folder that stands for the top. Returns what is wrong, and how many did not run."""
-    script, ran, found = [], 0, []
+    script: list[str] = []
+    found: list[Wrong] = []
+    ran = 0
     for line in block:
         if not line.is_long and HEAVY.search(line.text):
             found.append((page, line.number, "no remark at the end of the command line says how long it takes"))
@@ -110,16 +118,17 @@ def run(page, block, top):
     return found, len(block) - ran
 
 
-def look(pages):
+def look(pages: list[Path]) -> tuple[list[Wrong], int, int]:
     """Returns what is wrong with the command lines of these pages, how many there are, and how many did not run."""
-    found, total, left = [], 0, 0
+    found: list[Wrong] = []
+    total, left = 0, 0
 
-    def page_run(job):
+    def page_run(job: tuple[Path, list[list[Line]], Path]) -> list[tuple[list[Wrong], int]]:
         page, blocks, top = job
         return [run(page, block, top) for block in blocks]
 
     with tempfile.TemporaryDirectory() as made:
-        jobs = []
+        jobs: list[tuple[Path, list[list[Line]], Path]] = []
         for page in pages:
             blocks = [it for it in blocks_of(sources.text(page)) if it]
             for line in (it for block in blocks for it in block):

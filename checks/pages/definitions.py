@@ -1,4 +1,6 @@
 """Makes docs/DEFINITIONS.md of the comments in the files of definitions."""
+from __future__ import annotations
+
 import fnmatch
 import re
 from collections import defaultdict
@@ -17,12 +19,15 @@ in the textbooks" or names authors, the definition is theirs. What a file import
 
 
 class Subject:
-    def __init__(self, title):
-        self.title, self.of, self.words, self.modules = title, [], [], []
+    def __init__(self, title: str) -> None:
+        self.title = title
+        self.of: list[str] = []
+        self.words: list[str] = []
+        self.modules: list[sources.Module] = []
 
 
-def subjects():
-    found = []
+def subjects() -> list[Subject]:
+    found: list[Subject] = []
     for line in re.sub(r"<!--.*?-->", "", (Path(__file__).parent / "subjects.md").read_text(), flags=re.S).splitlines():
         if line.startswith("## "):
             found.append(Subject(line[3:]))
@@ -33,41 +38,41 @@ def subjects():
     return found
 
 
-def place(module, every):
+def place(module: sources.Module, every: list[Subject]) -> Subject:
     """Returns the subject of a file: the one that names it, else the one that names its crate, else one at the end."""
-    for matches in (lambda name, it: name == it, fnmatch.fnmatchcase):
+    for whole in (True, False):
         for named in (f"{module.crate}/{module.name}", module.crate):
             for subject in every:
-                if any(matches(named, it) for it in subject.of):
+                if any(named == it if whole else fnmatch.fnmatchcase(named, it) for it in subject.of):
                     return subject
     if every[-1].title != "Other crates":
         every.append(Subject("Other crates"))
     return every[-1]
 
 
-def anchor(title):
+def anchor(title: str) -> str:
     return re.sub(r"[^a-z0-9 _-]", "", title.lower()).replace(" ", "-")
 
 
-def heading(module):
+def heading(module: sources.Module) -> str:
     return f"`{module.path}`"
 
 
-def sentence(comment):
+def sentence(comment: str) -> str:
     """A comment as a sentence of its own."""
     return comment if comment.endswith((".", ":")) else comment + "."
 
 
-def without_private(head):
+def without_private(head: str) -> str:
     head = re.sub(r"[^.]*[Nn]o public clause( --)? cites[^.]*\.?", "", head)
     return head.replace("This project's own.", "").strip()
 
 
-def joined(lines):
+def joined(lines: list[str]) -> list[str]:
     return prose.wrap(" ".join(it.strip() for it in lines if it.strip()))
 
 
-def page():
+def page() -> str:
     every = subjects()
     private = [it for it in sources.modules() if it.is_private()]
     for module in sources.modules():
@@ -79,7 +84,7 @@ def page():
         if count:
             lines.append(f"- [{subject.title}](#{anchor(subject.title)}): {count}")
     lines += ["- [Layouts, and words of proofs](#layouts-and-words-of-proofs)", "- [Index by name](#index-by-name)"]
-    index = defaultdict(list)
+    index: defaultdict[str, list[sources.Module]] = defaultdict(list)
     for subject in every:
         if not subject.modules:
             continue
@@ -99,7 +104,7 @@ def page():
         "| File | What it has |", "|---|---|"]
     lines += [f"| `{it.path}` | {without_private(it.head)} |" for it in private]
     lines += ["", "## Index by name", ""]
-    letters = defaultdict(list)
+    letters: defaultdict[str, list[str]] = defaultdict(list)
     for name in sorted(index, key=lambda it: (it.lower(), it)):
         for module in index[name]:
             where = f"[{module.crate} {module.name}](#{anchor(heading(module))})"

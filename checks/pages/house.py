@@ -1,6 +1,8 @@
 """What crates.txt says of what stands on what: the drawing of the house, the table, and the last line of a crate's page."""
+from __future__ import annotations
+
 import re
-from collections import defaultdict
+from typing import Callable
 
 from . import prose, sources
 
@@ -9,47 +11,48 @@ GAP = {(True, True): 18, (True, False): 12, (False, True): 12, (False, False): 9
 KINDS = {"room": ("#e6dcc6", "laws"), "code": ("#cfdfee", "code"), "top": ("#bfe0c4", "programs")}
 
 
-def kind(crate):
+def kind(crate: str) -> str:
     if sources.is_room(crate):
         return "room"
     above = [it for it, below in sources.crates().items() if crate in below and not sources.is_tests(it)]
     return "code" if above else "top"
 
 
-def own(crate):
+def own(crate: str) -> list[str]:
     return [it for it in sources.crates()[crate] if it in sources.crates()]
 
 
-def direct(crate):
+def direct(crate: str) -> list[str]:
     """Returns the crates below that no other one below stands on: the lines of the drawing."""
     below = own(crate)
     return [it for it in below if not any(it in sources.all_below(other) for other in below)]
 
 
-def level(crate):
+def level(crate: str) -> int:
     return 1 + max((level(it) for it in direct(crate)), default=-1)
 
 
 class Node:
     """A crate in its layer, or the place at which a line passes a layer."""
 
-    def __init__(self, crate, layer):
+    def __init__(self, crate: str, layer: int) -> None:
         self.crate, self.layer, self.x, self.place = crate, layer, 0.0, 0
-        self.above, self.below = [], []
+        self.above: list[Node] = []
+        self.below: list[Node] = []
 
-    def half(self):
+    def half(self) -> float:
         return WIDTH / 2 if self.crate else 1
 
 
-def join(high, low):
+def join(high: Node, low: Node) -> None:
     high.below.append(low)
     low.above.append(high)
 
 
-def graph(names):
+def graph(names: list[str]) -> list[list[Node]]:
     """Returns the layers, lowest first, in which each line passes every layer between its ends."""
     nodes = {it: Node(it, level(it)) for it in names}
-    rows = [[] for _ in range(1 + max(it.layer for it in nodes.values()))]
+    rows: list[list[Node]] = [[] for _ in range(1 + max(it.layer for it in nodes.values()))]
     for it in nodes.values():
         rows[it.layer].append(it)
     for it in nodes.values():
@@ -64,12 +67,12 @@ def graph(names):
     return rows
 
 
-def number(row):
+def number(row: list[Node]) -> None:
     for k, it in enumerate(row):
         it.place = k
 
 
-def crossings(rows):
+def crossings(rows: list[list[Node]]) -> int:
     count = 0
     for row in rows:
         ends = [(it.place, low.place) for it in row for low in it.below]
@@ -77,37 +80,39 @@ def crossings(rows):
     return count
 
 
-def order(rows):
+def order(rows: list[list[Node]]) -> None:
     """Orders each layer by the means of the places next to it, and keeps the order with the fewest crossings."""
     for row in rows:
         number(row)
-    best = None
+    least, best = crossings(rows), [list(row) for row in rows]
     for turn in range(40):
         for row in rows if turn % 2 == 0 else rows[::-1]:
             near = {it: (it.below if turn % 2 == 0 else it.above) for it in row}
             row.sort(key=lambda it: sum(other.place for other in near[it]) / len(near[it]) if near[it] else it.place)
             number(row)
         found = crossings(rows)
-        if best is None or found < best[0]:
-            best = (found, [list(row) for row in rows])
-    for row, kept in zip(rows, best[1]):
+        if found < least:
+            least, best = found, [list(row) for row in rows]
+    for row, kept in zip(rows, best):
         row[:] = kept
         number(row)
 
 
-def settle(row, wanted):
+def settle(row: list[Node], wanted: list[float]) -> None:
     """Puts a layer as near to the wanted places as its order and the gaps allow: the least sum of squares."""
-    offset, offsets = 0.0, []
+    offset = 0.0
+    offsets: list[float] = []
     for k, it in enumerate(row):
         if k:
             offset += row[k - 1].half() + it.half() + GAP[bool(row[k - 1].crate), bool(it.crate)]
         offsets.append(offset)
-    pools = []
+    pools: list[tuple[float, int]] = []
     for k in range(len(row)):
-        pools.append([wanted[k] - offsets[k], 1])
+        pools.append((wanted[k] - offsets[k], 1))
         while len(pools) > 1 and pools[-2][0] > pools[-1][0]:
             value, count = pools.pop()
-            pools[-1] = [(pools[-1][0] * pools[-1][1] + value * count) / (pools[-1][1] + count), pools[-1][1] + count]
+            before, many = pools.pop()
+            pools.append(((before * many + value * count) / (many + count), many + count))
     k = 0
     for value, count in pools:
         for _ in range(count):
@@ -115,7 +120,7 @@ def settle(row, wanted):
             k += 1
 
 
-def spread(rows):
+def spread(rows: list[list[Node]]) -> None:
     for row in rows:
         settle(row, [0.0] * len(row))
     for turn in range(60):
@@ -124,7 +129,7 @@ def spread(rows):
             settle(row, [sum(other.x for other in around) / len(around) if around else it.x for it, around in zip(row, near)])
 
 
-def curve(it, low, y):
+def curve(it: Node, low: Node, y: Callable[[int], int]) -> str:
     """Returns the line from a node down to one in the layer below it."""
     straight = "" if it.crate else f"M{it.x:.0f} {y(it.layer):.0f}V{y(it.layer) + HEIGHT:.0f}"
     top, foot = y(it.layer) + HEIGHT, y(low.layer)
@@ -132,7 +137,7 @@ def curve(it, low, y):
     return f"{straight}M{it.x:.0f} {top:.0f}C{it.x:.0f} {middle:.0f} {low.x:.0f} {middle:.0f} {low.x:.0f} {foot:.0f}"
 
 
-def drawing():
+def drawing() -> str:
     """The crates but those of tests, each above those that it stands on. No line is drawn that others say already."""
     rows = graph([it for it in sources.crates() if not sources.is_tests(it)])
     order(rows)
@@ -144,7 +149,7 @@ def drawing():
         it.x -= left
     height = 2 * MARGIN + len(rows) * ROW + 8
 
-    def y(layer):
+    def y(layer: int) -> int:
         return MARGIN + (len(rows) - 1 - layer) * ROW
 
     made = [f'<svg xmlns="http://www.w3.org/2000/svg" viewBox="0 0 {width} {height}" font-family="sans-serif" font-size="12">',
@@ -164,16 +169,16 @@ def drawing():
     return "\n".join(made) + "\n</svg>\n"
 
 
-def first_sentence(crate):
+def first_sentence(crate: str) -> str:
     page = sources.text(f"crates/{crate}/README.md").split("\n\n")[1]
     return re.split(r"(?<=[a-z0-9`)])\.\s", page + "\n")[0].replace("\n", " ").rstrip(".")
 
 
-def listed(names):
+def listed(names: list[str]) -> str:
     return ", ".join(f"`{it}`" for it in names)
 
 
-def table():
+def table() -> list[str]:
     """The table of what stands on what."""
     lines = ["| Crate | Does | Code that it stands on | Rooms |", "|---|---|---|---|"]
     for crate, below in sources.crates().items():
@@ -184,7 +189,7 @@ def table():
     return lines
 
 
-def rooms():
+def rooms() -> list[str]:
     """The table of the rooms of laws."""
     lines = ["| Room | Has | Stands on |", "|---|---|---|"]
     for crate, below in sources.crates().items():
@@ -193,7 +198,7 @@ def rooms():
     return lines
 
 
-def edits():
+def edits() -> list[str]:
     """The table of the wrong programs, by their names."""
     lines = ["| Crate | Its wrong programs |", "|---|---|"]
     for crate in sources.crates():
@@ -203,7 +208,7 @@ def edits():
     return lines
 
 
-def laws():
+def laws() -> list[str]:
     """The table of the laws: public functions without a body, with the words above them."""
     lines = ["| Law | Of | Says |", "|---|---|---|"]
     shape = re.compile(r"((?:^///[^\n]*\n)+)(?:^#\[[^\n]*\n)*^pub fn (\w+)(?:<[^\n]*>)?\([^\n]*\n(?:^ [^\n]*\n|^\n)*?^\{\}$", re.M)
@@ -216,7 +221,7 @@ def laws():
     return lines
 
 
-def standing(crate):
+def standing(crate: str) -> list[str]:
     """The last line of a crate's page."""
     below = sources.crates()[crate]
     words = f"It stands on {listed(below)}." if below else "It stands on nothing."

@@ -1,6 +1,9 @@
 """Looks whether what a page has between backticks exists: paths, crates, and names in the code; and whether its links lead somewhere."""
+from __future__ import annotations
+
 import re
 from pathlib import Path
+from typing import Iterator, Optional
 
 from . import definitions, prose, sources
 
@@ -15,11 +18,11 @@ OTHERS = {"rt", "rattle", "antt", "std", "csv", "itoa", "clap", "circular_buffer
 
 
 class Span:
-    def __init__(self, text, line, after, block):
+    def __init__(self, text: str, line: int, after: str, block: str) -> None:
         self.text, self.line, self.after, self.block = text, line, after, block
 
 
-def spans(page):
+def spans(page: str) -> Iterator[Span]:
     """Yields what stands between backticks, but not in blocks of code."""
     for kind, lines, start in prose.blocks(page):
         if kind in ("code", "blank"):
@@ -29,19 +32,19 @@ def spans(page):
                 yield Span(re.sub(r"\s+", " ", found[2]), start + row + text.count("\n", 0, found.start()), text[found.end():], text)
 
 
-def is_path(text):
+def is_path(text: str) -> bool:
     if re.search(r"[\s,(){}<>|=\"*:;]", text) or text.startswith(("-", "/dev", "http")) or text in ENDINGS:
         return False
     return text.endswith(ENDINGS) or text.endswith("/") or re.fullmatch(r"[A-Za-z0-9_.-]+/[A-Za-z0-9_./-]+", text) is not None and not re.fullmatch(r"-?\d+/-?\w+|a/d", text)
 
 
-def named_crates(block, page):
+def named_crates(block: str, page: Path) -> list[str]:
     """The crates that a block of a page may speak of without their folder: the page's own, and those that it names."""
     own = [page.parts[1]] if page.parts[0] == "crates" else []
     return own + [it for it in re.findall(r"`([a-z0-9_]+)`", block) if it in sources.crates()]
 
 
-def found_path(text, page, block=""):
+def found_path(text: str, page: Path, block: str = "") -> Optional[Path]:
     """Returns the file or folder that a path stands for, if there is one. A module of definitions or proofs may lack its ending."""
     bare = re.sub(r"^(\.\./)+", "", text.rstrip("/"))
     begins = [Path(""), page.parent, Path("crates"), Path("docs"), *(Path("crates") / it for it in named_crates(block, page))]
@@ -52,7 +55,7 @@ def found_path(text, page, block=""):
     return None
 
 
-def found_below(text, page, block):
+def found_below(text: str, page: Path, block: str) -> list[Path]:
     """Returns the files that have this name, or end so, in the crates that the block may speak of; in a page of no crate, in all."""
     inside = tuple(f"crates/{it}/" for it in named_crates(block, page)) if page.parts[0] == "crates" else ("",)
     bare = text.rstrip("/")
@@ -60,11 +63,11 @@ def found_below(text, page, block):
     return [it for it in sources.files() if str(it).startswith(inside) and (f"/{it}".endswith(ends) or f"/{bare}/" in f"/{it}")]
 
 
-def exists(text, page, block):
-    return MADE.search(text) or found_path(text, page, block) is not None or found_below(text, page, block) != []
+def exists(text: str, page: Path, block: str) -> bool:
+    return MADE.search(text) is not None or found_path(text, page, block) is not None or found_below(text, page, block) != []
 
 
-def known(span, page):
+def known(span: Span, page: Path) -> list[str]:
     """The folders whose names a span may use: of a crate's page the crate, those below it and those named beside it; else all."""
     if page.parts[0] != "crates":
         return [""]
@@ -74,23 +77,23 @@ def known(span, page):
     return [*(f"crates/{it}" for it in sorted(crates)), "checks", "tools", "examples", "clients", "bench"]
 
 
-def wrong_name(span, page):
+def wrong_name(span: Span, page: Path) -> Optional[str]:
     """Returns the first name of a span that no code has where it may be."""
     where = known(span, page)
     for name in NAME.findall(span.text):
         here = name in OTHERS or name in sources.crates() or name in sources.stems() or (sources.TOP / name).exists() or (sources.TOP / "examples" / name).exists()
         if len(name) > 2 and not here and not any(name in sources.words_below(it) for it in where):
-            return name
+            return str(name)
     return None
 
 
-def of_what(after):
+def of_what(after: str) -> Optional[str]:
     """The span that says where a name is: `name` of `crate`, `name` in `path`, with nothing but other names between."""
     found = re.match(r"(?:(?:,| and|,? or)\s+`[^`]+`)*\s+(?:of|in)\s+`([^`]+)`", after)
     return re.sub(r"\s+", " ", found[1]) if found else None
 
 
-def places(text, page, block):
+def places(text: str, page: Path, block: str) -> list[Path]:
     """The files of code that a span names: by a path, a crate, or a function or type that they define."""
     if text in sources.crates():
         text = f"crates/{text}"
@@ -103,7 +106,7 @@ def places(text, page, block):
     return sources.files_that_define(name) if NAME.fullmatch(name) else []
 
 
-def has_part(owner, name):
+def has_part(owner: str, name: str) -> bool:
     """Whether some file that names the owner defines a function of this name, or, of a variant or a constant, has it."""
     defined = re.compile(rf"\b(?:fn|def) {name}\b")
     for it in sources.files():
@@ -113,7 +116,7 @@ def has_part(owner, name):
     return False
 
 
-def has_name(path, name):
+def has_name(path: Path, name: str) -> bool:
     """Whether a file of code has this as the name of something of its own: not where it is only cited."""
     if name not in sources.words(path):
         return False
@@ -121,7 +124,7 @@ def has_name(path, name):
     return re.search(own, sources.text(path), re.M) is not None
 
 
-def wrong(span, page):
+def wrong(span: Span, page: Path) -> Optional[str]:
     """Returns what is wrong with a span, if anything."""
     text = span.text
     if is_path(text):
@@ -150,11 +153,11 @@ def wrong(span, page):
     return None
 
 
-def anchors(text):
+def anchors(text: str) -> set[str]:
     return {definitions.anchor(line.lstrip("# ")) for line in text.split("\n") if line.startswith("#")}
 
 
-def look(page, text):
+def look(page: Path, text: str) -> Iterator[tuple[int, str]]:
     """Yields (line, what is wrong) for a page."""
     for span in spans(text):
         found = wrong(span, page)

@@ -1,12 +1,15 @@
 """Pages as blocks: prose, code, tables; and prose in lines of at most 140 columns."""
+from __future__ import annotations
+
 import re
+from typing import Iterator
 
 COLUMNS = 140
 ITEM = re.compile(r"( *)([-*]|\d+\.) ")
 QUOTE = re.compile(r"> ?")
 
 
-def blocks(page):
+def blocks(page: str) -> Iterator[tuple[str, list[str], int]]:
     """Yields (kind, lines, number of the first line), with the kinds prose, code, table, heading, other and blank."""
     lines, at = page.split("\n"), 0
     while at < len(lines):
@@ -43,7 +46,7 @@ def blocks(page):
         yield kind, lines[start:at], start + 1
 
 
-def pieces(text):
+def pieces(text: str) -> list[str]:
     """Splits at blanks, but not between backticks, nor in the text of a link."""
     found, open_tick, open_link = [""], False, 0
     for k, letter in enumerate(text):
@@ -60,14 +63,15 @@ def pieces(text):
     return [it for it in found if it]
 
 
-def is_start(piece):
+def is_start(piece: str) -> bool:
     """Whether a line that begins with this would be read as an item, a heading, a quotation or a table."""
     return re.match(r"([-*+>#|]+|\d+[.)])$", piece) is not None
 
 
-def wrap(text, first="", rest=""):
+def wrap(text: str, first: str = "", rest: str = "") -> list[str]:
     """Returns a paragraph in lines, with these letters before the first and before the others."""
-    lines, line, empty = [], first, True
+    lines: list[str] = []
+    line, empty = first, True
     words = pieces(text)
     for k, word in enumerate(words):
         short = len(line) + (not empty) + len(word) <= COLUMNS
@@ -79,7 +83,7 @@ def wrap(text, first="", rest=""):
     return lines + [line]
 
 
-def wrap_block(lines):
+def wrap_block(lines: list[str]) -> list[str]:
     item = ITEM.match(lines[0])
     quote = QUOTE.match(lines[0])
     if item:
@@ -91,9 +95,9 @@ def wrap_block(lines):
     return wrap(" ".join(it.strip() for it in lines))
 
 
-def wrap_page(page):
+def wrap_page(page: str) -> str:
     """Returns the page with its prose in lines of at most 140 columns."""
-    made = []
+    made: list[str] = []
     for kind, lines, _ in blocks(page):
         if kind == "prose" and any(len(it) > COLUMNS for it in lines):
             lines = wrap_block(lines)
@@ -101,9 +105,9 @@ def wrap_page(page):
     return "\n".join(made)
 
 
-def overlong(page):
+def overlong(page: str) -> list[int]:
     """Returns the numbers of the lines of prose with more columns. One that has no blank to break at is let be."""
-    found = []
+    found: list[int] = []
     for kind, lines, start in blocks(page):
         if kind == "prose":
             found += [start + k for k, it in enumerate(lines) if len(it) > COLUMNS and len(pieces(it.strip())) > 2]

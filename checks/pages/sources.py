@@ -1,4 +1,6 @@
 """The repository as the pages speak of it: its crates, its definitions, its names."""
+from __future__ import annotations
+
 import functools
 import re
 from pathlib import Path
@@ -10,9 +12,9 @@ WORD = re.compile(r"[A-Za-z_][A-Za-z0-9_]*")
 
 
 @functools.cache
-def crates():
+def crates() -> dict[str, list[str]]:
     """Returns each crate with the crates that it stands on, as crates.txt has them, lowest first."""
-    found = {}
+    found: dict[str, list[str]] = {}
     for line in (TOP / "crates.txt").read_text().splitlines():
         line = line.split("#")[0].strip()
         if line:
@@ -21,12 +23,12 @@ def crates():
     return found
 
 
-def is_tests(crate):
+def is_tests(crate: str) -> bool:
     return crate.endswith("_tests")
 
 
 @functools.cache
-def is_room(crate):
+def is_room(crate: str) -> bool:
     """A room of laws has definitions and proofs, and no function with a body."""
     code = "\n".join(text(it) for it in files() if it.suffix == ".rt" and it.parts[:3] == ("crates", crate, "src"))
     functions, empty = re.findall(r"^\s*(?:pub )?(?:const )?fn \w", code, re.M), re.findall(r"^\s*\{\}$", code, re.M)
@@ -34,9 +36,9 @@ def is_room(crate):
 
 
 @functools.cache
-def all_below(crate):
+def all_below(crate: str) -> frozenset[str]:
     """Returns all crates of the repository on which this one stands, directly or not."""
-    found = set()
+    found: set[str] = set()
     for it in crates().get(crate, []):
         if it in crates():
             found |= {it} | all_below(it)
@@ -44,9 +46,9 @@ def all_below(crate):
 
 
 @functools.cache
-def files():
+def files() -> list[Path]:
     """Returns each file of the repository, by its path from the top, but what is made by a build."""
-    found = []
+    found: list[Path] = []
     stack = [TOP]
     while stack:
         for it in stack.pop().iterdir():
@@ -60,18 +62,18 @@ def files():
 
 
 @functools.cache
-def text(path):
+def text(path: Path | str) -> str:
     return (TOP / path).read_text(errors="replace")
 
 
-def is_code(path):
+def is_code(path: Path) -> bool:
     if path.suffix in CODE:
         return True
     return path.suffix == "" and path.parts[0] in ("checks", "tools", "bench", "clients", ".ci")
 
 
 @functools.cache
-def words(path):
+def words(path: Path) -> frozenset[str]:
     """Returns the names in a file of code, those in comments left out."""
     code = text(path)
     if path.suffix == ".rt":
@@ -82,9 +84,9 @@ def words(path):
 
 
 @functools.cache
-def words_below(folder):
+def words_below(folder: str) -> frozenset[str]:
     """Returns the names in the code below a folder of the repository, as `crates/rings`; of all of it for the empty name."""
-    found = set()
+    found: set[str] = set()
     for path in files():
         if is_code(path) and (not folder or str(path).startswith(folder + "/")):
             found |= words(path)
@@ -92,13 +94,13 @@ def words_below(folder):
 
 
 @functools.cache
-def stems():
+def stems() -> frozenset[str]:
     """Returns the names of the files of code, without their endings."""
     return frozenset(it.stem for it in files() if is_code(it))
 
 
 @functools.cache
-def files_that_define(name):
+def files_that_define(name: str) -> list[Path]:
     """Returns the files of code in which a function, a type or a definition has this name."""
     shape = re.compile(rf"\b(?:fn|struct|enum|trait|record|data|const|def|class|abbrev pub|type) {re.escape(name)}\b")
     return [path for path in files() if path.suffix in (".rt", ".antt", ".h", ".py") and name in words(path) and shape.search(text(path))]
@@ -107,23 +109,25 @@ def files_that_define(name):
 class Definition:
     """Names that one comment of a file of definitions stands above."""
 
-    def __init__(self, names, comment):
+    def __init__(self, names: list[str], comment: str) -> None:
         self.names, self.comment = names, comment
 
 
 class Module:
     """A file of definitions: its head, which says where they come from, and its definitions."""
 
-    def __init__(self, path):
+    def __init__(self, path: Path) -> None:
         self.path = path
         self.crate, self.name = path.parts[1], "/".join(path.with_suffix("").parts[3:])
-        self.head, self.definitions = [], []
-        comment, lines = [], text(path).split("\n")
+        self.definitions: list[Definition] = []
+        head: list[str] = []
+        comment: list[str] = []
+        lines = text(path).split("\n")
         at = 0
         while at < len(lines) and lines[at].startswith("--"):
-            self.head.append(lines[at][2:].strip())
+            head.append(lines[at][2:].strip())
             at += 1
-        self.head = " ".join(self.head)
+        self.head = " ".join(head)
         for line in lines[at:]:
             found = re.match(r"(?:abbrev pub|pub record|pub data|pub abbrev) (\S+)", line)
             if line.startswith("--"):
@@ -136,12 +140,12 @@ class Module:
             elif line.strip() == "":
                 comment = []
 
-    def is_private(self):
+    def is_private(self) -> bool:
         return re.search(r"[Nn]o public clause cites", self.head) is not None
 
 
 @functools.cache
-def modules():
+def modules() -> list[Module]:
     """Returns the files of definitions, crate by crate from the lowest on."""
     found = [path for path in files() if len(path.parts) > 3 and path.parts[2] == "specs" and path.suffix == ".antt" and path.name != "Lib.antt"]
     order = list(crates())
@@ -149,5 +153,5 @@ def modules():
     return [Module(path) for path in sorted(found, key=lambda it: (place.get(it.parts[1], len(order)), str(it)))]
 
 
-def words_of_code(path):
+def words_of_code(path: Path) -> frozenset[str]:
     return words(path) if is_code(path) else frozenset()
