@@ -146,7 +146,7 @@ class Examples(unittest.TestCase):
             with self.subTest(example.name), Session() as session:
                 self.assertEqual(b''.join(map(session.answer, pieces)), example.with_suffix('.stdout').read_bytes())
 
-    def test_a_mark_is_dropped_at_the_very_front_alone(self):
+    def test_a_mark_is_dropped_at_the_very_front_alone(self) -> None:
         record = '\ufeffkernel\n'
         self.assertEqual(geo.answer_script(2 * record), b'bad,no_polygon\nbad,word\n')
         with Session() as session:

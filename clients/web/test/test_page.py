@@ -16,7 +16,7 @@ from typing import Any, Dict, List, Optional, Tuple
 from browser import Browser, Page, found
 from places import EXAMPLES, TOP, answering, answers_to
 
-from explorer import backends, opening, seam, server
+from explorer import opening, seam, server
 
 Place = Tuple[int, int]
 L: List[Place] = [(0, 0), (4, 0), (4, 2), (2, 2), (2, 4), (0, 4)]
