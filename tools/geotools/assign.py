@@ -11,7 +11,7 @@ from .fault import Fault
 from .frame import Frame, Whole, Wish
 from .outline import Outline
 from .question import PAIR, Question
-from .saved import Saved, dumps, loads
+from .saved import dumps, loads
 from .script import BYTES, Answered, ask, bytes_of
 
 # questions that have an answer for points outside
@@ -128,7 +128,3 @@ def everything(asked: Sequence[Asked], outlines: Sequence[Outline]) -> Taken:
     """As if the program had taken each polygon, and each had all points."""
     points = {point for it in asked for point in it.points}
     return Taken({it.number: points for it in outlines})
-
-
-def saved_of(frame: Frame, outlines: Sequence[Outline]) -> Saved:
-    return loads(dumps(frame, outlines=outlines))

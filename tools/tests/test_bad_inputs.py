@@ -10,6 +10,7 @@ from tempfile import TemporaryDirectory
 from typing import Tuple, Union
 
 from .common import SQUARE, TOOLS, L, collection, feature, forked, geojson
+from geotools.outline import checksum
 
 Case = Tuple[str, Union[str, bytes], int, str]  # words, standard input, status, what the line has
 
@@ -215,6 +216,9 @@ ANSWERS: list[Case] = [
     ('geojson --frame {folder}/frame --program {folder}/false', 'kernel\n', 1, 'ended with status 1'),
     ('geojson --frame {folder}/frame --program {folder}/babble', 'kernel\n', 1, 'are no answers of geo'),
     ('geojson --frame {folder}/frame --program {folder}/short', 'polygon,0,0,1,0,0,1\nsee,0,0\n', 1, 'are no answers of geo'),
+    ('geojson --frame {folder}/names --program {folder}/bad', 'kernel\n', 1, 'names: is no frame'),
+    ('geojson --frame {folder}/vertices --program {folder}/bad', 'kernel\n', 1, 'vertices: is no frame'),
+    ('geojson --frame {folder}/few --program {folder}/three', 'polygon,0,0,1,0,0,1\n', 1, 'the frame has other vertices of polygon 1 than the script'),
     ('draw {folder}/none', '', 1, 'none: no such file'),
     ('draw', '', 1, 'the script has no record'),
     ('draw --frame {folder}/list', 'kernel\n', 1, 'is no frame'),
@@ -223,14 +227,23 @@ ANSWERS: list[Case] = [
     ('draw --size 3', 'kernel\n', 2, 'unrecognized arguments: --size'),
 ]
 
+
+def frame_of(entry: str) -> bytes:
+    """A frame with the polygon 0,0,1,0,0,1."""
+    head = '{"origin": ["0", "0"], "scale": "1", "polygons": [{"polygon": 1, "points": "%s", ' % checksum([(0, 0), (1, 0), (0, 1)])
+    return (head + entry + '}]}').encode()
+
+
 FILES = {
     'zip': b'PK\x03\x04', 'utf16': L.encode('utf-16'), 'frame': b'{"origin": ["0", "0"], "scale": "1"}', 'cut': b'{"origin": ["0", ',
-    'list': b'[1, 2]', 'scale0': b'{"origin": ["0", "0"], "scale": "0"}',
+    'names': frame_of('"name": [1], "id": null'), 'vertices': frame_of('"name": null, "id": null, "vertices": ["a"]'),
+    'few': frame_of('"name": null, "id": null, "vertices": [1, 2]'), 'list': b'[1, 2]', 'scale0': b'{"origin": ["0", "0"], "scale": "0"}',
 }
 PROGRAMS = {
     'false': b'#!/bin/sh\nexit 1\n', 'long': b'#!/bin/sh\nexit 3\n', 'killed': b'#!/bin/sh\nkill -9 $$\n', 'noexec': b'\x00\x01\x02',
     'babble': b'#!/bin/sh\ncat > /dev/null\nyes see,many | head\n', 'noise': b'#!/bin/sh\ncat > /dev/null\nprintf "\\377\\376"\n',
     'quiet': b'#!/bin/sh\ncat > /dev/null\n', 'bad': b'#!/bin/sh\ncat > /dev/null\necho bad,no_polygon\n',
+    'three': b'#!/bin/sh\ncat > /dev/null\necho polygon,3\n',
     'short': b'#!/bin/sh\ncat > /dev/null\necho polygon,3\necho see,3\n',
 }
 
