@@ -8,7 +8,7 @@ from typing import Iterator, Optional, Sequence, Union
 from .about import abouts, refusals
 from .exact import text
 from .fault import Fault
-from .frame import Frame, Whole, Wish
+from .frame import BETWEEN, Frame, Whole, Wish
 from .outline import Outline
 from .question import PAIR, Question
 from .saved import dumps, loads
@@ -44,7 +44,7 @@ def whole_question(question: Question, frame: Frame, wish: Wish) -> Asked:
     try:
         return Asked(question, [frame.whole(point, wish.rounds, wish.version) for point in question.points])
     except Fault as fault:
-        hint = '; --round takes the nearest' if 'between' in str(fault) else ''
+        hint = '; --round takes the nearest' if BETWEEN in str(fault) else ''
         raise Fault(f'{question}: {fault}{hint}') from None
 
 

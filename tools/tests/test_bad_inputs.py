@@ -116,8 +116,8 @@ RECORDS: list[Case] = [
     ('records', '<kml/>', 1, "neither GeoJSON nor WKT: '<kml/>' at line 1, column 1"),
     ('records', f'{L} #', 1, "'#' at line 1"),
     # the frame
-    ('records', FAR, 1, 'polygon 1, vertex 2: 1 lies between two steps of 10; --two would do'),
-    ('records', FINE, 1, 'vertex 1: 0.00000000001 lies between two steps of 0.000001; --round would take the nearest 0.000001'),
+    ('records', FAR, 1, 'polygon 1, vertex 2: 1 lies between two steps of 10, the finest for which version 1 has room; --two would do'),
+    ('records', FINE, 1, 'vertex 1: 0.00000000001 lies between two steps of 0.000001, the finest for which version 1 has room; --round would'),
     ('records --scale 10', 'POLYGON ((0.25 0, 1 0, 0 1))', 1, 'vertex 0: 0.25 lies between two steps of 0.1; --scale 100 would do'),
     ('records --scale 1000000000', L, 1, 'steps of 0.000000001 from 2'),
     ('records --origin 9000000,0 --scale 1', L, 1, '9,000,000 steps of 1 from 9000000'),
