@@ -8,10 +8,10 @@ from typing import Iterator, Optional, Sequence, Union
 from .about import abouts, refusals
 from .exact import text
 from .fault import Fault
-from .frame import Frame, Whole, Wish
+from .frame import BETWEEN, Frame, Whole, Wish
 from .outline import Outline
 from .question import PAIR, Question
-from .saved import Saved, dumps, loads
+from .saved import dumps, loads
 from .script import BYTES, Answered, ask, bytes_of
 
 # questions that have an answer for points outside
@@ -44,7 +44,7 @@ def whole_question(question: Question, frame: Frame, wish: Wish) -> Asked:
     try:
         return Asked(question, [frame.whole(point, wish.rounds, wish.version) for point in question.points])
     except Fault as fault:
-        hint = '; --round takes the nearest' if 'between' in str(fault) else ''
+        hint = '; --round takes the nearest' if BETWEEN in str(fault) else ''
         raise Fault(f'{question}: {fault}{hint}') from None
 
 
@@ -128,7 +128,3 @@ def everything(asked: Sequence[Asked], outlines: Sequence[Outline]) -> Taken:
     """As if the program had taken each polygon, and each had all points."""
     points = {point for it in asked for point in it.points}
     return Taken({it.number: points for it in outlines})
-
-
-def saved_of(frame: Frame, outlines: Sequence[Outline]) -> Saved:
-    return loads(dumps(frame, outlines=outlines))

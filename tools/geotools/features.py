@@ -33,6 +33,7 @@ class Features:
         self.saved = saved
         self.chains = chains
         self.write = write
+        self.written: dict[Point, str] = {}  # points that were written, which are often those of before
 
     def collection(self, found: Sequence[About], only: Optional[str] = None) -> str:
         """The text of all features, or of those of one kind."""
@@ -58,8 +59,10 @@ class Features:
     def coordinates(self, value: Any) -> str:
         """Points, as deep in lists as they are, in the units of the data."""
         if isinstance(value, tuple):
-            x, y = self.saved.frame.back((value[0], value[1]))
-            return f'[{self.write(x)}, {self.write(y)}]'
+            point = (value[0], value[1])
+            if point not in self.written:
+                self.written[point] = f'[{", ".join(map(self.write, self.saved.frame.back(point)))}]'
+            return self.written[point]
         return f'[{", ".join(map(self.coordinates, value))}]'
 
     def wkt(self, geometry: Tuple[str, Any]) -> str:

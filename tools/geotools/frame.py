@@ -12,6 +12,8 @@ from .shapes import Shape
 # the greatest size of a coordinate, by the version of the script
 LIMIT = {1: 1_000_000, 2: 8_388_607}
 
+BETWEEN = 'lies between two steps of'
+
 Whole = Tuple[int, int]
 
 
@@ -31,7 +33,7 @@ class Frame:
     def _whole(self, coordinate: Fraction, origin: Fraction, rounds: bool, version: int) -> int:
         value = (coordinate - origin) * self.scale
         if value.denominator != 1 and not rounds:
-            raise Fault(f'{text(coordinate)} lies between two steps of {text(1 / self.scale)}')
+            raise Fault(f'{text(coordinate)} {BETWEEN} {text(1 / self.scale)}')
         if abs(round(value)) > LIMIT[version]:
             steps = f'steps of {text(1 / self.scale)} from {text(origin)}'
             raise Fault(f'{text(coordinate)} is {abs(round(value)):,} {steps}, and version {version} has room for {LIMIT[version]:,}')
@@ -58,7 +60,8 @@ def fitting(shapes: Sequence[Shape], wish: Wish, given: Optional[Frame] = None) 
     chosen = given or proposed(shapes, wish)
     found = misfit(shapes, chosen, wish)
     if found:
-        raise Fault(f'{found}; {advice(shapes, wish, given)}')
+        finest = '' if given or wish.scale or BETWEEN not in found else f', the finest for which version {wish.version} has room'
+        raise Fault(f'{found}{finest}; {advice(shapes, wish, given)}')
     return chosen
 
 

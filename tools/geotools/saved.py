@@ -43,7 +43,10 @@ class Saved:
     def known(self, points: Sequence[Sequence[object]], number: int) -> Known:
         """Which polygon has these points, as the next of equal ones; where none has, it has its number in the script."""
         found = self.polygons.get(checksum(points), [])
-        return found.pop(0) if len(found) > 1 else found[0] if found else Known(number)
+        known = found.pop(0) if len(found) > 1 else found[0] if found else Known(number)
+        if known.numbers and len(known.numbers) != len(points):
+            raise Fault(f'the frame has other vertices of {known} than the script')
+        return known
 
 
 def dumps(frame: Frame, form: str = '', crs: Any = None, outlines: Sequence[Outline] = ()) -> str:
@@ -68,9 +71,18 @@ def loads(written: str) -> Saved:
     frame = Frame(x, y, positive(ratio(parts['scale'])))
     found = Saved(frame, parts.get('form', ''), parts.get('crs'))
     for it in parts.get('polygons', []):
-        known = Known(int(it['polygon']), it['name'], it['id'], it.get('vertices'))
-        found.polygons.setdefault(it['points'], []).append(known)
+        found.polygons.setdefault(it['points'], []).append(known_of(it))
     return found
+
+
+def known_of(it: Any) -> Known:
+    """What an entry says. It is a ValueError where that is nothing that `entry` makes."""
+    known = Known(it['polygon'], it['name'], it['id'], it.get('vertices'))
+    numbers = known.numbers if isinstance(known.numbers, list) else [known.numbers or 0]
+    if not (isinstance(known.name, (str, type(None))) and isinstance(known.ident, (str, int, type(None)))
+            and all(isinstance(number, int) for number in [known.number, *numbers])):
+        raise ValueError
+    return known
 
 
 def positive(scale: Fraction) -> Fraction:

@@ -10,6 +10,7 @@ from tempfile import TemporaryDirectory
 from typing import Tuple, Union
 
 from .common import SQUARE, TOOLS, L, collection, feature, forked, geojson
+from geotools.outline import checksum
 
 Case = Tuple[str, Union[str, bytes], int, str]  # words, standard input, status, what the line has
 
@@ -115,8 +116,8 @@ RECORDS: list[Case] = [
     ('records', '<kml/>', 1, "neither GeoJSON nor WKT: '<kml/>' at line 1, column 1"),
     ('records', f'{L} #', 1, "'#' at line 1"),
     # the frame
-    ('records', FAR, 1, 'polygon 1, vertex 2: 1 lies between two steps of 10; --two would do'),
-    ('records', FINE, 1, 'vertex 1: 0.00000000001 lies between two steps of 0.000001; --round would take the nearest 0.000001'),
+    ('records', FAR, 1, 'polygon 1, vertex 2: 1 lies between two steps of 10, the finest for which version 1 has room; --two would do'),
+    ('records', FINE, 1, 'vertex 1: 0.00000000001 lies between two steps of 0.000001, the finest for which version 1 has room; --round would'),
     ('records --scale 10', 'POLYGON ((0.25 0, 1 0, 0 1))', 1, 'vertex 0: 0.25 lies between two steps of 0.1; --scale 100 would do'),
     ('records --scale 1000000000', L, 1, 'steps of 0.000000001 from 2'),
     ('records --origin 9000000,0 --scale 1', L, 1, '9,000,000 steps of 1 from 9000000'),
@@ -215,6 +216,9 @@ ANSWERS: list[Case] = [
     ('geojson --frame {folder}/frame --program {folder}/false', 'kernel\n', 1, 'ended with status 1'),
     ('geojson --frame {folder}/frame --program {folder}/babble', 'kernel\n', 1, 'are no answers of geo'),
     ('geojson --frame {folder}/frame --program {folder}/short', 'polygon,0,0,1,0,0,1\nsee,0,0\n', 1, 'are no answers of geo'),
+    ('geojson --frame {folder}/names --program {folder}/bad', 'kernel\n', 1, 'names: is no frame'),
+    ('geojson --frame {folder}/vertices --program {folder}/bad', 'kernel\n', 1, 'vertices: is no frame'),
+    ('geojson --frame {folder}/few --program {folder}/three', 'polygon,0,0,1,0,0,1\n', 1, 'the frame has other vertices of polygon 1 than the script'),
     ('draw {folder}/none', '', 1, 'none: no such file'),
     ('draw', '', 1, 'the script has no record'),
     ('draw --frame {folder}/list', 'kernel\n', 1, 'is no frame'),
@@ -223,14 +227,23 @@ ANSWERS: list[Case] = [
     ('draw --size 3', 'kernel\n', 2, 'unrecognized arguments: --size'),
 ]
 
+
+def frame_of(entry: str) -> bytes:
+    """A frame with the polygon 0,0,1,0,0,1."""
+    head = '{"origin": ["0", "0"], "scale": "1", "polygons": [{"polygon": 1, "points": "%s", ' % checksum([(0, 0), (1, 0), (0, 1)])
+    return (head + entry + '}]}').encode()
+
+
 FILES = {
     'zip': b'PK\x03\x04', 'utf16': L.encode('utf-16'), 'frame': b'{"origin": ["0", "0"], "scale": "1"}', 'cut': b'{"origin": ["0", ',
-    'list': b'[1, 2]', 'scale0': b'{"origin": ["0", "0"], "scale": "0"}',
+    'names': frame_of('"name": [1], "id": null'), 'vertices': frame_of('"name": null, "id": null, "vertices": ["a"]'),
+    'few': frame_of('"name": null, "id": null, "vertices": [1, 2]'), 'list': b'[1, 2]', 'scale0': b'{"origin": ["0", "0"], "scale": "0"}',
 }
 PROGRAMS = {
     'false': b'#!/bin/sh\nexit 1\n', 'long': b'#!/bin/sh\nexit 3\n', 'killed': b'#!/bin/sh\nkill -9 $$\n', 'noexec': b'\x00\x01\x02',
     'babble': b'#!/bin/sh\ncat > /dev/null\nyes see,many | head\n', 'noise': b'#!/bin/sh\ncat > /dev/null\nprintf "\\377\\376"\n',
     'quiet': b'#!/bin/sh\ncat > /dev/null\n', 'bad': b'#!/bin/sh\ncat > /dev/null\necho bad,no_polygon\n',
+    'three': b'#!/bin/sh\ncat > /dev/null\necho polygon,3\n',
     'short': b'#!/bin/sh\ncat > /dev/null\necho polygon,3\necho see,3\n',
 }
 
