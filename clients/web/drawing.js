@@ -90,7 +90,7 @@ function drawRefusal({view, ring}, {row, lines: [line]}) {
   const [, cause, a, b] = line.split(',');
   if (cause === 'clash' && row[0] === 'polygon') {
     const edges = [Number(a), Number(b)].map((k) => [ring[k % ring.length], ring[(k + 1) % ring.length]]);
-    const marks = edges.map(([p, q], k) => label(view, [(p[0] + q[0]) / 2, (p[1] + q[1]) / 2], [a, b][k])).join('');
+    const marks = edges.map(([p, q], k) => label(view, [p[0] + (q[0] - p[0]) * 0.3, p[1] + (q[1] - p[1]) * 0.3], [a, b][k])).join('');
     return path('edge', lines(view, edges)) + marks;
   }
   const point = cause === 'outside' ? pointsOf(row)?.[Number(a) - 1] : null;

@@ -382,6 +382,10 @@ class Teacher(Opened):
         self.go(address)
         self.assertEqual((self.script(), self.shown()), (script, shown))
         self.page.until(f'location.href === {json.dumps(address)}')
+        self.page.evaluate("location.hash = '#tool=kernel&script=polygon,0,0,9,0,0,9'")
+        self.page.until("app.store.state.question === 'kernel'")
+        self.settle()
+        self.assertEqual(self.script(), 'polygon,0,0,9,0,0,9\nkernel\n')
         for fault in ['#tool=%', '#tool=path&script=polygon,%zz', '#x', '#tool=nothing&points=a,b&frame=1,2&polygon=99', '#tool=path&script=__proto__']:
             self.go(self.server.address + fault)
             self.assertTrue(self.page.text('#said'))
