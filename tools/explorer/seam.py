@@ -15,6 +15,7 @@ TOOLS = Path(__file__).resolve().parents[1]
 SECONDS = 60  # the most that a tool may take
 
 _script: Any = importlib.import_module('geotools.script')
+csv.field_size_limit(8_388_608)  # a field may be as long as a script
 
 Record = List[str]
 
