@@ -19,8 +19,15 @@ def opened(name: str, data: bytes, version: int = 1, rounds: bool = False) -> Di
     frame: Optional[Dict[str, Any]] = None
     if is_data(data):
         data, frame = seam.script_of_data(data, version, rounds)
-    records = [[field.encode('latin-1').decode('utf-8', 'replace') for field in record] for record in seam.records(data)]
-    return {'name': name, 'records': records, 'frame': frame}
+    return {'name': name, 'records': [[shown(field) for field in record] for record in seam.records(data)], 'frame': frame}
+
+
+def shown(field: str) -> str:
+    """A field, whose bytes were read as Latin-1, as the text that it most likely is."""
+    try:
+        return field.encode('latin-1').decode('utf-8', 'replace')
+    except UnicodeEncodeError:
+        return field
 
 
 def is_data(data: bytes) -> bool:
