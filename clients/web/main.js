@@ -79,8 +79,9 @@ export class App {
   }
 
   /** Takes what was opened: a script, with the frame where it was made of data. */
-  async open({records, frame, name}) {
+  async open({records, frame, name, note}) {
     await this.take(records, (answers) => ({...this.store.state, ...panelsOf(records, answers), chosen: 0, drawing: false, points: {}, frame, name}));
+    if (note) this.note(note);
     this.fit();
   }
 

@@ -64,7 +64,9 @@ def example(name: str) -> Optional[Dict[str, Any]]:
     if name not in [listed['name'] for listed in examples()]:
         return None
     data = (EXAMPLES / name).read_bytes()
-    try:
-        return opened(name, data)
-    except seam.NotRead:  # it is too fine for version 1
-        return opened(name, data, 2)
+    for version in 1, 2:
+        try:
+            return opened(name, data, version)
+        except seam.NotRead:  # it is too fine for this version
+            pass
+    return {**opened(name, data, 2, True), 'note': 'Its coordinates are rounded.'}
