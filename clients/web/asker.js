@@ -5,7 +5,7 @@ import {byRecord, isRefused, script, text} from './records.js';
 /** @typedef {import('./records.js').Answered} Answered */
 
 const FIRST = 4096; // the most records of a first piece
-const NEXT = 32; // and of another
+const NEXT = 32; // and of another, unless very many are left
 const PATIENCE = 6000; // milliseconds that the server may be silent
 
 /** A refusal of the server, by its status. */
@@ -98,7 +98,7 @@ export class Asker {
     const trees = this.treesBefore(known);
     const begins = !this.isBegun || known < this.head || trees === null;
     const from = begins ? 0 : known;
-    const rows = this.wanted.slice(from, from + (begins ? FIRST : NEXT));
+    const rows = this.wanted.slice(from, from + (begins || this.wanted.length - from > FIRST ? FIRST : NEXT));
     const first = begins ? [] : trees ?? [];
     const reply = await this.send(begins, script([...first, ...rows]));
     if (reply === null) return;

@@ -7,6 +7,7 @@ import {isRefused, pairs, pointsOf} from './records.js';
 
 const COLOURS = 7;
 const OF_RING = new Set(['polygon', 'tree', 'guards', 'sights']); // answers that are drawn with vertices by their numbers
+const MOST_ANSWERS = 2000; // that are drawn
 const MOST_DOTS = 400; // vertices in sight that are drawn as dots
 const MOST_NUMBERS = 60; // vertices that have their numbers beside them
 /** The most pairs of vertices that are drawn. */
@@ -59,7 +60,7 @@ export class Shown {
     if (key.some((value, k) => value !== this.key[k])) this.cut(0);
     this.key = key;
     let count = 0;
-    const coloured = answered.map((it) => ({it, colour: isRefused(it.lines) || !DRAWN[it.row[0]] ? -1 : count++ % COLOURS}));
+    const coloured = answered.slice(0, MOST_ANSWERS).map((it) => ({it, colour: isRefused(it.lines) || !DRAWN[it.row[0]] ? -1 : count++ % COLOURS}));
     const isGuards = ({it}) => it.row[0] === 'guards';
     const ordered = [...coloured.filter((one) => !isGuards(one)), ...coloured.filter(isGuards)];
     ordered.forEach(({it, colour}, k) => this.put({view, ring, version}, it, colour, k));
@@ -90,7 +91,7 @@ function drawRefusal({view, ring}, {row, lines: [line]}) {
   const [, cause, a, b] = line.split(',');
   if (cause === 'clash' && row[0] === 'polygon') {
     const edges = [Number(a), Number(b)].map((k) => [ring[k % ring.length], ring[(k + 1) % ring.length]]);
-    const marks = edges.map(([p, q], k) => label(view, [(p[0] + q[0]) / 2, (p[1] + q[1]) / 2], [a, b][k])).join('');
+    const marks = edges.map(([p, q], k) => label(view, [p[0] + (q[0] - p[0]) * 0.3, p[1] + (q[1] - p[1]) * 0.3], [a, b][k])).join('');
     return path('edge', lines(view, edges)) + marks;
   }
   const point = cause === 'outside' ? pointsOf(row)?.[Number(a) - 1] : null;
@@ -169,7 +170,7 @@ function drawRound({view}, {row, lines: [line]}) {
 function drawGuards({view, ring}, {lines: [line]}) {
   const numbers = line.split(',').slice(2).map(Number);
   const names = numbers.length <= 40 ? numbers.map((k) => label(view, ring[k], k, 11, -10)).join('') : '';
-  return dots(view, 'great', numbers.map((k) => ring[k])) + `<g class="strong">${names}</g>`;
+  return dots(view, numbers.length > MOST_NUMBERS ? 'small' : 'great', numbers.map((k) => ring[k])) + `<g class="strong">${names}</g>`;
 }
 
 /** @param {Page} page @param {Answered} answered */

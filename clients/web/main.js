@@ -6,7 +6,7 @@ import {handles, hint} from './editing.js';
 import {Menu, fillExamples} from './menu.js';
 import {Points, Table, nameOf} from './panel.js';
 import {Pointer} from './pointer.js';
-import {byRecord, number} from './records.js';
+import {byRecord, number, text} from './records.js';
 import {MOST_VIEWS, START, Store, allRows, head, panel, panelsOf, pointsNow, questionRows} from './state.js';
 import {View} from './view.js';
 import {say} from './words.js';
@@ -14,7 +14,7 @@ import {say} from './words.js';
 /** @typedef {import('./records.js').Point} Point */
 /** @typedef {import('./state.js').State} State */
 
-const LONGEST = 1000000; // characters of an address
+const LONGEST = 600000; // characters of a script that is put in the address
 
 /** @param {string} id */
 export const by = (id) => /** @type {HTMLElement} */ (document.getElementById(id));
@@ -79,8 +79,9 @@ export class App {
   }
 
   /** Takes what was opened: a script, with the frame where it was made of data. */
-  async open({records, frame, name}) {
+  async open({records, frame, name, note}) {
     await this.take(records, (answers) => ({...this.store.state, ...panelsOf(records, answers), chosen: 0, drawing: false, points: {}, frame, name}));
+    if (note) this.note(note);
     this.fit();
   }
 
@@ -104,8 +105,8 @@ export class App {
 
   /** Puts the state in the address, where it is not too long for one. */
   showAddress() {
-    const address = addressOf(this.store.state);
-    if (address.length < LONGEST) history.replaceState(null, '', `#${address}`);
+    const size = this.script().reduce((sum, row) => sum + text(row).length, 0);
+    if (size < LONGEST) history.replaceState(null, '', `#${addressOf(this.store.state)}`);
   }
 
   /** The address was changed by hand. */

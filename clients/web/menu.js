@@ -1,5 +1,5 @@
 // The buttons and lists round the picture.
-import {answersTo, post} from './asker.js';
+import {Refused, answersTo, post} from './asker.js';
 import {addressOf} from './address.js';
 import {emptied} from './editing.js';
 import {element} from './panel.js';
@@ -10,7 +10,8 @@ import {QUESTIONS, panel, withPanel, withPoints} from './state.js';
 /** @typedef {import('./main.js').App} App */
 
 const NO_FRAME = {origin: ['0', '0'], scale: '1'};
-const LIMIT = 8388608;
+const LIMIT = 8388608; // bytes of a script
+const UNREADABLE = 422; // the status of data that can't be read
 
 /** @param {string} id */
 const by = (id) => /** @type {HTMLInputElement} */ (document.getElementById(id));
@@ -127,19 +128,25 @@ export class Menu {
       this.app.note(`${file.name} has more than ${LIMIT.toLocaleString('en')} bytes.`);
       return;
     }
-    await this.tried(async () => this.app.open({...await this.opened(file, ''), name: file.name}));
+    await this.tried(async () => this.app.open({...await this.opened(file), name: file.name}));
   }
 
-  /** @param {File} file @param {string} rounds @returns {Promise<any>} */
-  async opened(file, rounds) {
-    try {
-      return await (await post(`open?version=${this.app.store.state.version}${rounds}`, file)).json();
-    } catch (error) {
-      const words = error instanceof Error ? error.message : '';
-      const mayRound = !rounds && words.includes('--round');
-      if (mayRound && confirm('The coordinates do not come out as whole numbers within the limit. Round them?')) return this.opened(file, '&round=yes');
-      throw error;
+  /** What a file has. Where version 1 does not take it, version 2 may; and where neither does, it is asked whether to round.
+   *  @param {File} file @returns {Promise<any>} */
+  async opened(file) {
+    /** @type {Refused | null} */
+    let refused = null;
+    for (let version = this.app.store.state.version; version <= 2; version += 1) {
+      try {
+        return await (await post(`open?version=${version}`, file)).json();
+      } catch (error) {
+        if (!(error instanceof Refused) || error.status !== UNREADABLE) throw error;
+        refused ??= error;
+      }
     }
+    const mayRound = refused?.message.includes('--round');
+    if (!mayRound || !confirm('The coordinates do not come out as whole numbers within the limit. Round them?')) throw refused;
+    return (await post('open?version=2&round=yes', file)).json();
   }
 
   async example() {

@@ -69,8 +69,8 @@ function sayKernel(count) {
 
 /** @param {number} count @param {string[]} numbers */
 function sayGuards(count, numbers) {
-  const shown = numbers.length > 12 ? `${numbers.slice(0, 12).join(', ')}, …` : numbers.join(', ');
-  return count === 1 ? `One guard sees everything: vertex ${shown}.` : `${count} guards see everything together: the vertices ${shown}.`;
+  const shown = numbers.length > 12 ? `${numbers.slice(0, 12).join(', ')} and more` : numbers.join(', ');
+  return count === 1 ? `One guard sees everything: vertex ${shown}.` : `${count.toLocaleString('en')} guards see everything together: the vertices ${shown}.`;
 }
 
 const POINTS = {

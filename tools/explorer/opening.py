@@ -19,8 +19,15 @@ def opened(name: str, data: bytes, version: int = 1, rounds: bool = False) -> Di
     frame: Optional[Dict[str, Any]] = None
     if is_data(data):
         data, frame = seam.script_of_data(data, version, rounds)
-    records = [[field.encode('latin-1').decode('utf-8', 'replace') for field in record] for record in seam.records(data)]
-    return {'name': name, 'records': records, 'frame': frame}
+    return {'name': name, 'records': [[shown(field) for field in record] for record in seam.records(data)], 'frame': frame}
+
+
+def shown(field: str) -> str:
+    """A field, whose bytes were read as Latin-1, as the text that it most likely is."""
+    try:
+        return field.encode('latin-1').decode('utf-8', 'replace')
+    except UnicodeEncodeError:
+        return field
 
 
 def is_data(data: bytes) -> bool:
@@ -57,9 +64,9 @@ def example(name: str) -> Optional[Dict[str, Any]]:
     if name not in [listed['name'] for listed in examples()]:
         return None
     data = (EXAMPLES / name).read_bytes()
-    for version in (1, 2):
+    for version in 1, 2:
         try:
             return opened(name, data, version)
         except seam.NotRead:  # it is too fine for this version
-            continue
-    return opened(name, data, rounds=True)
+            pass
+    return {**opened(name, data, 2, True), 'note': 'Its coordinates are rounded.'}

@@ -333,7 +333,8 @@ class Planner(Opened):
     def test_a_file_is_chosen(self) -> None:
         with TemporaryDirectory() as folder:
             for name, text, count, told in [
-                ('room.wkt', 'POLYGON ((0 0, 5.25 0, 5.25 4, 0 4))', 4, ''), ('hole.geojson', HOLE, 4, 'holes'), ('none.geojson', '{', 4, ''),
+                ('room.wkt', 'POLYGON ((0 0, 5.25 0, 5.25 4, 0 4))', 4, ''), ('hole.geojson', HOLE, 4, 'hole'), ('none.geojson', '{', 4, ''),
+                ('fine.wkt', 'POLYGON ((0 0, 2400 0, 2400.125 800, 0 800.5, -1 3))', 5, ''),
                 ('two.script', 'geo,2\npolygon,0,0,4,0,0,4\ninside,1,1\npolygon,0,0,4,0,4,4\n', 3, ''),
             ]:
                 file = Path(folder) / name
@@ -346,12 +347,24 @@ class Planner(Opened):
                     self.assertEqual(self.script(), before)
                     self.page.evaluate("document.getElementById('note').textContent = ''")
                 self.assertEqual(self.page.evaluate('app.store.state.panels[0].ring.length'), count)
-                self.is_right() if name == 'room.wkt' else None
+                self.is_right() if name in ('room.wkt', 'fine.wkt') else None
         self.assertEqual(self.page.evaluate('[app.store.state.version, app.store.state.panels.length]'), [2, 2])
         self.settle()
         self.page.pick('#polygons', '1')
         self.tool('kernel')
         self.assertEqual(self.script(), 'geo,2\npolygon,0,0,4,0,0,4\ninside,1,1\npolygon,0,0,4,0,4,4\nkernel\n')
+
+
+    def test_it_is_asked_whether_to_round(self) -> None:
+        with TemporaryDirectory() as folder:
+            file = Path(folder) / 'far.wkt'
+            file.write_text('POLYGON ((0 0, 0.123456789 0, 3 4))')
+            for answer, count in [('false', 200), ('true', 3)]:
+                self.page.evaluate(f"document.getElementById('note').textContent = ''; window.confirm = () => {answer}")
+                self.page.choose('#file', file)
+                self.page.until("app.store.state.name === 'far.wkt' || document.getElementById('note').textContent")
+                self.assertEqual(self.page.evaluate('app.store.state.panels[0].ring.length'), count)
+        self.is_right()
 
 
 ROOMS: List[Place] = [(123394, 86778), (129393, 88453)]
@@ -382,6 +395,10 @@ class Teacher(Opened):
         self.go(address)
         self.assertEqual((self.script(), self.shown()), (script, shown))
         self.page.until(f'location.href === {json.dumps(address)}')
+        self.page.evaluate("location.hash = '#tool=kernel&script=polygon,0,0,9,0,0,9'")
+        self.page.until("app.store.state.question === 'kernel'")
+        self.settle()
+        self.assertEqual(self.script(), 'polygon,0,0,9,0,0,9\nkernel\n')
         for fault in ['#tool=%', '#tool=path&script=polygon,%zz', '#x', '#tool=nothing&points=a,b&frame=1,2&polygon=99', '#tool=path&script=__proto__']:
             self.go(self.server.address + fault)
             self.assertTrue(self.page.text('#said'))

@@ -305,6 +305,7 @@ class Opening(Served):
             ('\ufeffPOLYGON ((0 0, 4 0, 4 4, 0 0))', [['polygon', '-2', '-2', '2', '-2', '2', '2']]),
             ('polygon\nPOINT,1\n', [['polygon'], ['POINT', '1']]),
             ('', []),
+            ('"' + 'x' * 200_000, [['x' * 200_000]]),
             ('caf\u00e9,1\n', [['caf\u00e9', '1']]),
         ]:
             status, said, _ = self.ask('open', text)
