@@ -144,7 +144,7 @@ export class Menu {
         refused ??= error;
       }
     }
-    const mayRound = refused?.message.includes('--round');
+    const mayRound = /--round|is beyond/.test(refused?.message ?? '');
     if (!mayRound || !confirm('The coordinates do not come out as whole numbers within the limit. Round them?')) throw refused;
     return (await post('open?version=2&round=yes', file)).json();
   }
