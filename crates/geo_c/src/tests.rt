@@ -97,18 +97,28 @@ fn a_session(rt: HostRuntime) -> Result<(), Fail> {
     );
     assert_eq!(rt; needed, 3);
     check(&rt, &points, [(1, 4), (2, 2), (1, 4), (7, 7)]);
-    assert_eq!(rt;
-        geo_session_answer(alloc, &mut session, b"\xEF\xBB\xBFkernel\n", &mut needed),
-        OK
-    );
-    assert_eq!(rt; needed, 9);
-    geo_session_text(alloc, &mut session, &mut out);
-    assert_eq!(rt; &out[..9], b"bad,word\n".as_slice());
     geo_session_clear(alloc, &mut session);
     assert_eq!(rt;
         geo_session_reach(alloc, &mut session, 4, 1, &mut points, &mut needed),
         NO_POLYGON
     );
+    Ok(())
+}
+
+#[test]
+fn a_mark_in_a_later_piece_is_text(rt: HostRuntime) -> Result<(), Fail> {
+    let alloc = rt.alloc();
+    let mut session = GeoSession::empty(alloc);
+    let mut needed = 0;
+    let mut out = [b'?'; 9];
+    let marked = b"\xEF\xBB\xBFkernel\n";
+    assert!(rt; geo_session_answer(alloc, &mut session, marked, &mut needed) == OK);
+    assert!(rt; needed == 15, "{needed}");
+    assert!(rt; geo_session_answer(alloc, &mut session, marked, &mut needed) == OK);
+    assert!(rt; needed == 9, "{needed}");
+    geo_session_text(alloc, &mut session, &mut out);
+    assert!(rt; &out[..] == b"bad,word\n".as_slice());
+    geo_session_clear(alloc, &mut session);
     Ok(())
 }
 
