@@ -21,7 +21,7 @@ REMARK = re.compile(r"\s#\s[^#]*$")
 BUILTIN = {"cd", "echo", "for", "exit"}
 BUILT = re.compile(r"(crates/[a-z_]+/out/[A-Za-z0-9_./]+)")
 # what asks the toolchain or a compiler, or runs one of the repository's own checks
-HEAVY = re.compile(r"\brt (?!version|doc|--help)|\brt$|\.ci/run|\b(checks|bench|clients)/|\bunittest\b|\bcc -|examples/library/|^\./|tools/explore")
+HEAVY = re.compile(r"\brt (?!version|doc|--help)|\brt$|\.ci/run|\b(checks|bench|clients)/|\bunittest\b|\b(cc|c\+\+) -|examples/library/|^\./|tools/(explore|install|release)")
 SECONDS = 60
 # a page, the number of a line, and what is wrong there
 Wrong = Tuple[Path, int, str]

@@ -10,9 +10,9 @@ from . import definitions, prose, sources
 SPAN = re.compile(r"(`+)(.+?)\1", re.S)
 LINK = re.compile(r"\]\(([^)\s]+)\)")
 NAME = re.compile(r"[A-Za-z_][A-Za-z0-9_]*")
-ENDINGS = (".rt", ".antt", ".md", ".svg", ".py", ".c", ".h", ".txt", ".edit", ".stdout", ".args", ".geojson", ".wkt", ".so", ".a", ".html", ".js")
+ENDINGS = (".rt", ".antt", ".md", ".svg", ".py", ".c", ".h", ".cpp", ".hpp", ".txt", ".edit", ".stdout", ".args", ".geojson", ".wkt", ".so", ".a", ".html", ".js")
 # what a command line of a page makes
-MADE = re.compile(r"\.(frame|script|log|so|a)$|^answers\.geojson$|^(building|panel|bracket|trees|plan)\.(geojson|svg|script)$|(^|/)out(/|$)")
+MADE = re.compile(r"\.(frame|script|log|so|so\.1|a|pc)$|^(bin|include|lib|share)/|^answers\.geojson$|^(building|panel|bracket|trees|plan)\.(geojson|svg|script)$|(^|/)out(/|$)")
 # names of the toolchain, and of programs that others wrote
 OTHERS = {"rt", "rattle", "antt", "std", "csv", "itoa", "clap", "circular_buffer", "std_alloc", "core", "unfolding", "is_simple_2", "countries50"}
 

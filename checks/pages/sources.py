@@ -6,7 +6,7 @@ import re
 from pathlib import Path
 
 TOP = Path(__file__).resolve().parents[2]
-CODE = {".rt", ".antt", ".py", ".c", ".h", ".in", ".js", ".html", ".css"}
+CODE = {".rt", ".antt", ".py", ".c", ".h", ".cpp", ".hpp", ".in", ".js", ".html", ".css"}
 LEFT_OUT = {".git", "out", "__pycache__", "node_modules"}
 WORD = re.compile(r"[A-Za-z_][A-Za-z0-9_]*")
 
@@ -103,7 +103,7 @@ def stems() -> frozenset[str]:
 def files_that_define(name: str) -> list[Path]:
     """Returns the files of code in which a function, a type or a definition has this name."""
     shape = re.compile(rf"\b(?:fn|struct|enum|trait|record|data|const|def|class|abbrev pub|type) {re.escape(name)}\b")
-    return [path for path in files() if path.suffix in (".rt", ".antt", ".h", ".py") and name in words(path) and shape.search(text(path))]
+    return [path for path in files() if path.suffix in (".rt", ".antt", ".h", ".hpp", ".py") and name in words(path) and shape.search(text(path))]
 
 
 class Definition:
