@@ -83,8 +83,10 @@ fn path(limits: &Limits, numbers: &[i64]) -> Result<Command, Bad>
     match numbers {
         [a, b, c, d] => {
             let from = limits.point(1, *a, *b)?;
-            let to = limits.point(3, *c, *d)?;
-            Ok(Command::Path(from, to))
+            match limits.point(3, *c, *d) {
+                Ok(to) => Ok(Command::Path(from, to)),
+                Err(bad) => Err(bad),
+            }
         }
         _ => Err(Bad::Fields),
     }
@@ -190,7 +192,16 @@ fn pairs(alloc: Global, numbers: &[i64]) -> Result<Vec<Pt>, Memory>
     let count = numbers.len() / 2;
     let mut points = Vec::with_capacity(alloc, count)?;
     for k in 0..count {
-        points.push(Pt::of(numbers[2 * k], numbers[2 * k + 1]).unwrap())?;
+        points.push(point_within(numbers[2 * k], numbers[2 * k + 1]))?;
     }
     Ok(points)
+}
+
+// The point with coordinates within the limit.
+fn point_within(x: i64, y: i64) -> Pt
+    requires x { IsInLimit x }
+    requires y { IsInLimit y }
+    ensures { result ≡ record { x = x; y = y } }
+{
+    Pt::of(x, y).unwrap()
 }
