@@ -2,4 +2,6 @@ mod Crossed
 mod Filling
 mod Handles
 mod Together
+mod Twos
 mod Values
+mod Words

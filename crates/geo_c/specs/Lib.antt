@@ -1,4 +1,5 @@
 pub mod Filled
+pub mod Fractions
 pub mod Held
 pub mod Output
 pub mod Status

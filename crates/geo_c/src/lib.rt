@@ -3,6 +3,7 @@
 #![tactic(auto)]
 
 mod fill;
+mod fractions;
 mod handle;
 mod loose;
 mod point;
@@ -13,5 +14,6 @@ mod status;
 #[cfg(test)]
 mod tests;
 
+pub use fractions::GeoFraction;
 pub use handle::GeoSession;
 pub use point::GeoPoint;
