@@ -134,6 +134,7 @@ uint8_t geo_session_ask(GeoSession *session, uint8_t word, const int64_t *fields
 /* Each copies the front of what the last reply holds, as much as fits; `out` is as before after that. The session is as before. */
 void geo_session_numbers(GeoSession *session, uint32_t *out, size_t out_length);
 void geo_session_points(GeoSession *session, GeoPoint *out, size_t out_length);
+void geo_session_fractions(GeoSession *session, GeoFraction *out, size_t out_length);
 
 /* The next three ask what `inside`, `path` and `reach` ask, of the polygon and the tree that the session has. They leave the
    session as it was, with the text of the last answers and the last reply. On a refusal or GEO_MEMORY what the other pointers point to is as before. */

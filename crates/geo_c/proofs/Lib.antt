@@ -1,6 +1,9 @@
+mod Counting
 mod Crossed
 mod Filling
 mod Handles
 mod Putting
 mod Together
+mod Twos
 mod Values
+mod Words

@@ -1,5 +1,6 @@
 pub mod Contents
 pub mod Filled
+pub mod Fractions
 pub mod Held
 pub mod Output
 pub mod Put

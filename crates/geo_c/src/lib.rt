@@ -7,6 +7,7 @@ mod counts;
 mod desk;
 mod few;
 mod fill;
+mod fractions;
 mod handle;
 mod loose;
 mod numbers;
@@ -20,5 +21,6 @@ mod tests;
 
 pub use counts::GeoCounts;
 pub use desk::Desk;
+pub use fractions::GeoFraction;
 pub use handle::GeoSession;
 pub use point::GeoPoint;
