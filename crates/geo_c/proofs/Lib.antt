@@ -1,6 +1,10 @@
+mod Behind
 mod Crossed
 mod Filling
 mod Handles
+mod Pairs
+mod Paths
+mod Places
 mod Together
 mod Twos
 mod Values

@@ -63,7 +63,11 @@ impl GeoFraction {
 }
 
 /// Copies the first fractions of some points, two of each, as many as fit.
-pub(crate) fn fill_corners<L: Ledger>(out: &mut [GeoFraction], corners: &[Hom], steps: &mut Steps<L>)
+pub(crate) fn fill_corners<L: Ledger>(
+    out: &mut [GeoFraction],
+    corners: &[Hom],
+    steps: &mut Steps<L>,
+)
     ensures { out.new ≡ filled_by (fractions_of_corners corners.now) out.old }
 {
     'fractions: for i in 0..out.len() {

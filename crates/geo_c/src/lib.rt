@@ -6,6 +6,7 @@ mod fill;
 mod fractions;
 mod handle;
 mod loose;
+mod many;
 mod point;
 mod questions;
 mod script;
