@@ -1,7 +1,11 @@
+mod Behind
 mod Counting
 mod Crossed
 mod Filling
 mod Handles
+mod Pairs
+mod Paths
+mod Places
 mod Putting
 mod Together
 mod Twos

@@ -10,6 +10,7 @@ mod fill;
 mod fractions;
 mod handle;
 mod loose;
+mod many;
 mod numbers;
 mod point;
 mod questions;

@@ -183,10 +183,25 @@ impl GeoSession {
         ensures same { self.new.held ≡ self.old.held }
     {
         let mut steps = Steps::<L>::new(blank);
+        self.place(alloc, x, y, &mut steps)
+    }
+
+    /// The same, for a counter of steps that stands.
+    pub(crate) fn place<L: Ledger>(
+        &mut self,
+        alloc: Global,
+        x: i64,
+        y: i64,
+        steps: &mut Steps<L>,
+    ) -> Result<Position, Bad>
+        ensures answer { IsAskedWithin (talk_of self.old.held).state.two (x ∷ y ∷ [])
+            (IsFound (talk_of self.old.held).state (Command.Inside (record { x = x; y = y })) Reply.Place) result }
+        ensures same { self.new.held ≡ self.old.held }
+    {
         let Some(desk) = self.take(alloc) else {
-            return Dialog::new(alloc).inside(x, y, &mut steps);
+            return Dialog::new(alloc).inside(x, y, steps);
         };
-        let found = desk.dialog.inside(x, y, &mut steps);
+        let found = desk.dialog.inside(x, y, steps);
         self.put(desk);
         found
     }
