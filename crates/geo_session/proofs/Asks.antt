@@ -1,7 +1,6 @@
 -- What commands are answered, with what changes.
-use Rattle.std.proofs.Common.{◌≡◌, ◌↔◌, inl, inr, refl, ap, ap₂, true, false, ℕ, ℤ, ◌≤◌, List, length, Ok, Err, arith}
-use Rattle.std.proofs.lemmas.Bool.{cases_lt}
-use Rattle.std.specs.Prelude.{IsTrue, Option, Some, None}
+use Rattle.std.proofs.Common.{◌≡◌, inl, inr, refl, ap, ap₂, true, false, ℕ, ℤ, List, length, Ok, Err}
+use Rattle.std.specs.Prelude.{Option, Some, None}
 use Rattle.plane.specs.Point.{Point, whole}
 use Rattle.rings.proofs.Simple.{no_least_clash}
 use Rattle.rings.specs.Inside.{IsIn}
@@ -13,20 +12,18 @@ use Rattle.geo_text.specs.declared.command.Bad.TheVariants as bad
 use Rattle.geo_text.specs.declared.command.Command.{Command}
 use Rattle.geo_text.specs.declared.command.Command.TheVariants as command
 use Rattle.geo_text.specs.declared.version.Version.{Version}
-use Rattle.pair_cut.specs.Pairs.{AreSights, IsMadeFor}
-use Rattle.pair_cut.specs.declared.table.TheConstants.{MAX_PAIRED}
+use Rattle.pair_cut.specs.Pairs.{IsMadeFor}
 use Rattle.geo_reply.specs.declared.reply.Before.{Before}
 use Rattle.geo_reply.specs.declared.reply.Reply.{Reply}
 use Rattle.geo_reply.specs.declared.reply.Reply.TheVariants as reply
 use Rattle.geo_session.proofs.Within.{one_in, one_out}
 use Rattle.geo_session.specs.Asking.{AreAsked, AsksPolygon, IsAskedOf, IsPlain}
 use Rattle.geo_session.specs.Held.{HeldRing, IsTreeOf, kept_in}
-use Rattle.geo_session.specs.Pairs.{IsPairReply, IsSmall, first_off, joined, second_off, sighted, too_large, too_many}
+use Rattle.geo_session.specs.Pairs.{IsPairReply, IsSmall, first_off, joined, second_off, too_large, too_many}
 use Rattle.geo_session.specs.Path.{TellsPath}
 use Rattle.geo_session.specs.Polygon.{accepted, clashing}
 use Rattle.geo_session.specs.Reply.{IsReplyIn}
 use Rattle.geo_session.specs.Prepared.{TellsPair}
-use Rattle.geo_session.specs.Told.{Tells}
 use Rattle.geo_session.specs.Tree.{AreFrom}
 use Rattle.geo_session.specs.declared.ask.Asked.{Asked}
 use Rattle.geo_session.specs.declared.ask.Change.TheVariants as change

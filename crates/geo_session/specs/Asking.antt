@@ -1,5 +1,5 @@
 -- What a command changes, and how its reply and its steps are known before anything is written. No public clause cites this module.
-use Rattle.std.specs.Prelude.{◌≡◌, ◌⊎◌, ℕ, ℤ, ◌+◌, ◌*◌, ◌≤◌, Bool, true, List, OnOk, Option, None, Some, Result, Ok, Err}
+use Rattle.std.specs.Prelude.{◌≡◌, ◌⊎◌, ℕ, ℤ, ◌+◌, ◌*◌, ◌≤◌, true, List, OnOk, Option, None, Some, Result, Ok, Err}
 use Rattle.plane.specs.Point.{Point}
 use Rattle.geo_text.specs.declared.command.Bad.{Bad}
 use Rattle.geo_text.specs.declared.command.Bad.TheVariants as bad
