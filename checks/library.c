@@ -263,6 +263,15 @@ static size_t single_paths(GeoSession *session, Paths *paths) {
     return at;
 }
 
+/* Whether all that stands behind so many points and paths is as memset left it. */
+static int is_untouched_after(const Paths *paths, size_t points, size_t done) {
+    Paths blank;
+    memset(&blank, 77, sizeof blank);
+    return memcmp(paths->points + points, blank.points, (4 * PAIRS - points) * sizeof *blank.points) == 0 &&
+           memcmp(paths->statuses + done, blank.statuses, PAIRS - done) == 0 &&
+           memcmp(paths->lengths + done, blank.lengths, (PAIRS - done) * sizeof *blank.lengths) == 0;
+}
+
 /* Many paths in one call, into less room than all of them want, and for some first pairs. Whether an allocation was refused. */
 static int compare_paths(GeoSession *session, const Paths *wanted, size_t room, size_t pairs, long refused) {
     Paths found;
@@ -284,6 +293,7 @@ static int compare_paths(GeoSession *session, const Paths *wanted, size_t room, 
         at += found.lengths[i];
     }
     check(memcmp(found.points, wanted->points, at * sizeof *found.points) == 0, "the points of paths", room);
+    check(is_untouched_after(&found, at, done), "what stands behind paths", room);
     return was_refused;
 }
 
