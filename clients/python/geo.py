@@ -393,7 +393,8 @@ class Session:
         asked = array('q', fields)
         status = _library.geo_session_ask(self._open(), _WORDS[word], _at(asked), len(asked), self._counts)
         told = array('I', bytes(4 * self._counts.numbers))
-        _library.geo_session_numbers(self._handle, _at(told), len(told))
+        if told:
+            _library.geo_session_numbers(self._handle, _at(told), len(told))
         _check(status, places=told)
         return told
 
