@@ -1,5 +1,6 @@
 mod Crossed
 mod Filling
 mod Handles
+mod Putting
 mod Together
 mod Values

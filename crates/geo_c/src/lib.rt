@@ -2,9 +2,14 @@
 //! these calls, and `docs/LIBRARY.md` says how a program links them.
 #![tactic(auto)]
 
+mod ask;
+mod counts;
+mod desk;
+mod few;
 mod fill;
 mod handle;
 mod loose;
+mod numbers;
 mod point;
 mod questions;
 mod script;
@@ -13,5 +18,7 @@ mod status;
 #[cfg(test)]
 mod tests;
 
+pub use counts::GeoCounts;
+pub use desk::Desk;
 pub use handle::GeoSession;
 pub use point::GeoPoint;
