@@ -2,7 +2,7 @@
 
    Who calls owes what follows; nothing checks it.
    - A pointer is valid for its length, and not NULL, also where the length is 0. What a call writes to, `session`, `out`, `points`,
-     `place`, `needed` and `counts`, is memory that no other pointer of the call leads to.
+     `place`, `places`, `needed`, `counts`, `statuses`, `lengths` and `done`, is memory that no other pointer of the call leads to.
    - A handle is zeroed before its first call, never copied, and stays on the thread of that call. Different threads may have
      handles of their own. No call comes from a signal handler, or from the forked child of a process with threads.
    - malloc, realloc and free are one allocator, which aligns as C wants it. */
@@ -134,9 +134,11 @@ uint8_t geo_session_ask(GeoSession *session, uint8_t word, const int64_t *fields
 /* Each copies the front of what the last reply holds, as much as fits; `out` is as before after that. The session is as before. */
 void geo_session_numbers(GeoSession *session, uint32_t *out, size_t out_length);
 void geo_session_points(GeoSession *session, GeoPoint *out, size_t out_length);
+void geo_session_fractions(GeoSession *session, GeoFraction *out, size_t out_length);
 
 /* The next three ask what `inside`, `path` and `reach` ask, of the polygon and the tree that the session has. They leave the
-   session as it was, with the text of the last answers and the last reply. On a refusal or GEO_MEMORY what the other pointers point to is as before. */
+   session as it was, with the text of the last answers and the last reply. On a refusal or GEO_MEMORY what the other pointers point
+   to is as before. */
 
 /* *place is where the point lies. */
 uint8_t geo_session_inside(GeoSession *session, int64_t x, int64_t y, uint8_t *place);
@@ -147,6 +149,19 @@ uint8_t geo_session_path(GeoSession *session, int64_t from_x, int64_t from_y, in
 
 /* So does this, for the path from the source of the tree: at most 16,387 points. */
 uint8_t geo_session_reach(GeoSession *session, int64_t to_x, int64_t to_y, GeoPoint *points, size_t points_length, size_t *needed);
+
+/* Many questions in one call. They leave the session as it was, too. */
+
+/* Where each of the points lies: for each a place, or the status of its refusal, as many as fit both arrays. `places` is as before
+   after that. */
+void geo_session_places(GeoSession *session, const GeoPoint *points, size_t points_length, uint8_t *places, size_t places_length);
+
+/* The paths between pairs of points, ends[2 * k] and ends[2 * k + 1]: in turn, as many as fit `statuses` and `lengths`, and while
+   the points of the next one fit what is left of `points`. *done is how many are told. For each there is a status in statuses[k],
+   the count of its points in lengths[k], 0 with a refusal, and its points behind those of the paths before; after that the buffers
+   are as before. Any one path fits 16,386 points. On GEO_MEMORY the paths of *done pairs are whole; else the status is GEO_OK. */
+uint8_t geo_session_paths(GeoSession *session, const GeoPoint *ends, size_t ends_length, GeoPoint *points, size_t points_length,
+                          uint8_t *statuses, size_t statuses_length, size_t *lengths, size_t lengths_length, size_t *done);
 
 /* Frees what the session owns; it is { 0 } then, and may be used again. */
 void geo_session_clear(GeoSession *session);

@@ -8,7 +8,7 @@ use Rattle.geo_c.specs.Put.{IsPut}
 
 -- at first none is put
 pub none_put : {X : Type 0} (before : List X) → IsPut [] before before 0
-none_put before = record { filled = refl; place = omega arith }
+none_put {X = X} before = record { filled = ap (λ (l : List X). l ++ before) (sym (take_all (length before) [] (omega arith))); place = omega arith }
 
 module _ {X : Type 0} (items before now : List X) (next : ℕ) (so : IsPut items before now next) where
   length_now : length now ≡ length before

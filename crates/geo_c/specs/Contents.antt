@@ -1,5 +1,5 @@
 -- What a reply holds: numbers, points and fractions. This project's own.
-use Rattle.std.specs.Prelude.{ℕ, ◌*◌, List, [], ◌∷◌, length, map, flat_map}
+use Rattle.std.specs.Prelude.{ℕ, List, [], ◌∷◌, length, map, flat_map}
 use Rattle.plane.specs.Point.{Point}
 use Rattle.rings.specs.Visible.{Part}
 use Rattle.geo_text.specs.declared.command.Bad.{Bad}
@@ -11,6 +11,7 @@ use Rattle.geo_reply.specs.declared.reply.Before.TheVariants as before
 use Rattle.geo_reply.specs.declared.reply.Reply.{Reply}
 use Rattle.geo_reply.specs.declared.reply.Reply.TheVariants as reply
 use Rattle.geo_reply.specs.declared.reply.Side.{Side}
+use Rattle.geo_c.specs.Fractions.{Fraction, fractions_of_corners, fractions_of_parts}
 use Rattle.geo_c.specs.Status.{place_of}
 use Rattle.geo_c.specs.declared.counts.GeoCounts.{GeoCounts}
 use Rattle.geo_c.specs.declared.numbers.TheConstants.{NOTHING, SOURCE}
@@ -79,13 +80,15 @@ points_of (reply.Path points) = points
 points_of (reply.Hull sides) = flat_map side_points sides
 points_of other = []
 
+-- ---- fractions: x and y of both ends of each part, or of each corner of a kernel
+
+abbrev pub fractions_of : Reply → List Fraction
+fractions_of (reply.View parts) = fractions_of_parts parts
+fractions_of (reply.Kernel corners) = fractions_of_corners corners
+fractions_of other = []
+
 -- ---- how much it is
 
--- two for each end of a part, and for each corner of a kernel: x and y
-abbrev pub fraction_count : Reply → ℕ
-fraction_count (reply.View parts) = 4 * length parts
-fraction_count (reply.Kernel corners) = 2 * length corners
-fraction_count other = 0
-
 abbrev pub counts_of : Reply → GeoCounts
-counts_of answered = record { numbers = length (numbers_of answered); points = length (points_of answered); fractions = fraction_count answered }
+counts_of answered =
+    record { numbers = length (numbers_of answered); points = length (points_of answered); fractions = length (fractions_of answered) }

@@ -1,13 +1,14 @@
 //! The calls that ask records in numbers, and copy what the replies hold.
 ghost use Rattle.std.specs.Prelude.{◌≡◌, ◌≢◌};
 ghost use Rattle.geo_script.specs.AskedTalk.{IsReadingReply, asked_in, asked_talk};
-ghost use Rattle.geo_c.specs.Contents.{counts_of, numbers_of, points_of};
+ghost use Rattle.geo_c.specs.Contents.{counts_of, fractions_of, numbers_of, points_of};
 ghost use Rattle.geo_c.specs.Filled.{filled_by};
 ghost use Rattle.geo_c.specs.Held.{last_reply, talk_of};
 ghost use Rattle.geo_c.specs.Status.{reply_status};
 ghost use Rattle.geo_c.specs.declared.status.TheConstants.{MEMORY};
 
 use crate::counts::GeoCounts;
+use crate::fractions::GeoFraction;
 use crate::handle::GeoSession;
 use crate::point::GeoPoint;
 use crate::status::MEMORY;
@@ -61,4 +62,17 @@ pub extern "C" fn geo_session_points(alloc: Global, session: &mut GeoSession, ou
     ensures same { session.new.held ≡ session.old.held }
 {
     session.copy_points::<Brand>(alloc, out, Blank::new(1));
+}
+
+/// Copies the first fractions of the last reply, as many as fit.
+#[unsafe(no_mangle)]
+pub extern "C" fn geo_session_fractions(
+    alloc: Global,
+    session: &mut GeoSession,
+    out: &mut [GeoFraction],
+)
+    ensures fractions { out.new ≡ filled_by (fractions_of (last_reply session.old.held)) out.old }
+    ensures same { session.new.held ≡ session.old.held }
+{
+    session.copy_fractions::<Brand>(alloc, out, Blank::new(1));
 }

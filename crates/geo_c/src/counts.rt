@@ -1,6 +1,6 @@
 //! How much a reply holds.
 ghost use Rattle.std.specs.Prelude.{◌≡◌, ◌<◌, ◌^◌, flat_map, length};
-ghost use Rattle.geo_c.specs.Contents.{counts_of, fraction_count, numbers_of, points_of, side_points};
+ghost use Rattle.geo_c.specs.Contents.{counts_of, fractions_of, numbers_of, points_of, side_points};
 
 use crate::few::Few;
 use geo_reply::{Reply, Side};
@@ -65,7 +65,7 @@ fn count_side_points(sides: &[Side]) -> usize
 }
 
 fn count_fractions(reply: &Reply) -> usize
-    ensures { result ≡ fraction_count reply.now }
+    ensures { result ≡ length (fractions_of reply.now) }
 {
     match reply {
         Reply::View(parts) => 4 * parts.as_slice().len(),

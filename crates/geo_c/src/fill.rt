@@ -1,10 +1,11 @@
 //! Answers that are copied into a buffer of the caller.
 ghost use Rattle.std.specs.Prelude.{◌≡◌, List, ◌++◌, [], ◌∷◌, flat_map};
 ghost use Rattle.plane.specs.Point.{Point};
-ghost use Rattle.geo_c.specs.Contents.{points_of, side_points};
+ghost use Rattle.geo_c.specs.Contents.{fractions_of, points_of, side_points};
 ghost use Rattle.geo_c.specs.Filled.{filled_by};
 ghost use Rattle.geo_c.specs.Put.{IsPut};
 
+use crate::fractions::{GeoFraction, fill_corners, fill_parts};
 use crate::point::GeoPoint;
 use exact_plane::{Pt, Steps};
 use geo_reply::{Reply, Side};
@@ -51,6 +52,21 @@ pub(crate) fn fill_reply_points<L: Ledger>(
     match reply {
         Reply::Path(points) => fill_points(out, points.as_slice(), steps),
         Reply::Hull(sides) => fill_side_points(out, sides.as_slice(), steps),
+        _ => {}
+    }
+}
+
+/// Copies the first fractions of a reply, as many as fit.
+pub(crate) fn fill_reply_fractions<L: Ledger>(
+    out: &mut [GeoFraction],
+    reply: &Reply,
+    steps: &mut Steps<L>,
+)
+    ensures { out.new ≡ filled_by (fractions_of reply.now) out.old }
+{
+    match reply {
+        Reply::View(parts) => fill_parts(out, parts.as_slice(), steps),
+        Reply::Kernel(corners) => fill_corners(out, corners.as_slice(), steps),
         _ => {}
     }
 }

@@ -7,8 +7,10 @@ mod counts;
 mod desk;
 mod few;
 mod fill;
+mod fractions;
 mod handle;
 mod loose;
+mod many;
 mod numbers;
 mod point;
 mod questions;
@@ -20,5 +22,6 @@ mod tests;
 
 pub use counts::GeoCounts;
 pub use desk::Desk;
+pub use fractions::GeoFraction;
 pub use handle::GeoSession;
 pub use point::GeoPoint;

@@ -8,14 +8,15 @@ ghost use Rattle.geo_session.specs.Reply.{IsFound};
 ghost use Rattle.geo_script.specs.Asked.{IsAskedWithin};
 ghost use Rattle.geo_script.specs.AskedTalk.{IsReadingReply, asked_in, asked_talk};
 ghost use Rattle.geo_script.specs.Dialog.{AnswersPiece, AnswersSome, IsTalkOf};
-ghost use Rattle.geo_c.specs.Contents.{counts_of, numbers_of, points_of};
+ghost use Rattle.geo_c.specs.Contents.{counts_of, fractions_of, numbers_of, points_of};
 ghost use Rattle.geo_c.specs.Filled.{filled_by};
 ghost use Rattle.geo_c.specs.Held.{last_reply, talk_of};
 ghost use Rattle.geo_c.specs.Status.{reply_status};
 ghost use Rattle.geo_c.specs.declared.status.TheConstants.{MEMORY};
 
 use crate::counts::GeoCounts;
-use crate::fill::{fill, fill_reply_points};
+use crate::fill::{fill, fill_reply_fractions, fill_reply_points};
+use crate::fractions::GeoFraction;
 use crate::handle::GeoSession;
 use crate::numbers::fill_numbers;
 use crate::point::GeoPoint;
@@ -122,6 +123,26 @@ impl GeoSession {
         }
     }
 
+    /// Copies the first fractions of the last reply, as many as fit.
+    pub(crate) fn copy_fractions<L: Ledger>(
+        &mut self,
+        alloc: Global,
+        out: &mut [GeoFraction],
+        blank: Blank,
+    )
+        requires name { blank.name ≡ L.name }
+        requires parts { blank.parts ≡ L.parts }
+        requires countable { 0 < blank.parts }
+        ensures fractions { out.new ≡ filled_by (fractions_of (last_reply self.old.held)) out.old }
+        ensures same { self.new.held ≡ self.old.held }
+    {
+        if let Some(desk) = self.take(alloc) {
+            let mut steps = Steps::<L>::new(blank);
+            fill_reply_fractions(out, &desk.reply, &mut steps);
+            self.put(desk);
+        }
+    }
+
     /// The length of the text of the last answers.
     pub(crate) fn text_length(&mut self, alloc: Global) -> usize
         ensures length { result ≡ length (talk_of self.old.held).text }
@@ -162,10 +183,25 @@ impl GeoSession {
         ensures same { self.new.held ≡ self.old.held }
     {
         let mut steps = Steps::<L>::new(blank);
+        self.place(alloc, x, y, &mut steps)
+    }
+
+    /// The same, for a counter of steps that stands.
+    pub(crate) fn place<L: Ledger>(
+        &mut self,
+        alloc: Global,
+        x: i64,
+        y: i64,
+        steps: &mut Steps<L>,
+    ) -> Result<Position, Bad>
+        ensures answer { IsAskedWithin (talk_of self.old.held).state.two (x ∷ y ∷ [])
+            (IsFound (talk_of self.old.held).state (Command.Inside (record { x = x; y = y })) Reply.Place) result }
+        ensures same { self.new.held ≡ self.old.held }
+    {
         let Some(desk) = self.take(alloc) else {
-            return Dialog::new(alloc).inside(x, y, &mut steps);
+            return Dialog::new(alloc).inside(x, y, steps);
         };
-        let found = desk.dialog.inside(x, y, &mut steps);
+        let found = desk.dialog.inside(x, y, steps);
         self.put(desk);
         found
     }
