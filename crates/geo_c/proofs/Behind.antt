@@ -1,5 +1,5 @@
 -- What is put behind the items that fill the front of a buffer.
-use Rattle.std.proofs.Common.{◌≡◌, refl, sym, ap, subst, ℕ, zero, suc, ◌+◌, ◌-◌, List, [], ◌∷◌, ◌++◌, length, map, ◌∙◌, ◌<◌, ◌≤◌, slice_set, slice_index_or, add-one, arith}
+use Rattle.std.proofs.Common.{◌≡◌, refl, sym, ap, subst, ℕ, zero, suc, ◌+◌, List, [], ◌∷◌, ◌++◌, length, map, ◌∙◌, ◌<◌, ◌≤◌, slice_set, slice_index_or, arith}
 use Rattle.std.proofs.lemmas.List.{length-map, map-append}
 use Rattle.std.specs.List.{AllZip}
 use Rattle.std.specs.Prelude.{take, drop}

@@ -1,5 +1,5 @@
 -- Points two by two, and the pairs of them that are asked about.
-use Rattle.std.proofs.Common.{◌≡◌, refl, sym, ap, ap₂, subst, ℕ, zero, suc, ◌+◌, ◌*◌, ◌/◌, List, [], ◌∷◌, length, ◌∙◌, ◌<◌, slice_index_or, inl, inr, arith}
+use Rattle.std.proofs.Common.{◌≡◌, refl, sym, ap₂, subst, ℕ, zero, suc, ◌+◌, ◌*◌, ◌/◌, List, [], ◌∷◌, length, ◌∙◌, ◌<◌, slice_index_or, inl, inr, arith}
 use Rattle.std.proofs.lemmas.List.{get_or-take, length-take}
 use Rattle.std.specs.Ordering.{ord_min, nat_cmp}
 use Rattle.std.specs.Prelude.{take}

@@ -1,5 +1,5 @@
 -- Pairs of points that have their paths in the buffers of a call.
-use Rattle.std.proofs.Common.{◌≡◌, refl, sym, ap, subst, ◌∙◌, ℕ, zero, suc, ◌+◌, ◌-◌, List, [], ◌∷◌, ◌++◌, length, map, ◌<◌, ◌≤◌, slice_set, slice_index_or, Some, None, inl, inr, add-one, append-nil, arith}
+use Rattle.std.proofs.Common.{◌≡◌, refl, sym, ap, subst, ◌∙◌, ℕ, zero, suc, ◌+◌, ◌-◌, List, [], ◌∷◌, ◌++◌, length, ◌<◌, ◌≤◌, slice_set, slice_index_or, Some, None, inl, inr, add-one, append-nil, arith}
 use Rattle.std.proofs.lemmas.List.{length-append, length-drop, take-append-drop, take_all}
 use Rattle.std.proofs.lemmas.List.Concat.{flat_map-append}
 use Rattle.std.proofs.Math.ListN.{drop_of_length-le}
@@ -12,7 +12,7 @@ use Rattle.plane.specs.Point.{Point}
 use Rattle.geo_text.specs.declared.command.Bad.{Bad}
 use Rattle.geo_script.specs.Dialog.{Talk}
 use Rattle.geo_c.specs.Filled.{filled_by}
-use Rattle.geo_c.specs.Many.{ArePathsTold, Buffers, IsPathFound, IsTooLong, path_length, path_points, path_status}
+use Rattle.geo_c.specs.Many.{ArePathsTold, Buffers, IsPathFound, path_length, path_points, path_status}
 use Rattle.geo_c.specs.Room.{IsPathPut}
 use Rattle.geo_c.specs.Told.{Tells}
 use Rattle.geo_c.specs.declared.status.TheConstants.{MEMORY, OK}

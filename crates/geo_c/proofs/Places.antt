@@ -1,5 +1,5 @@
 -- Points that have their places in a buffer.
-use Rattle.std.proofs.Common.{◌≡◌, sym, subst, ◌∙◌, ℕ, ◌+◌, List, [], ◌∷◌, ◌++◌, length, ◌<◌, ◌≤◌, slice_set, slice_index_or, inl, inr, arith}
+use Rattle.std.proofs.Common.{◌≡◌, sym, subst, ◌∙◌, ℕ, ◌+◌, List, [], ◌∷◌, ◌++◌, length, ◌<◌, slice_set, slice_index_or, inl, inr, arith}
 use Rattle.std.proofs.lemmas.List.{length-take, take_all}
 use Rattle.std.specs.Ordering.{ord_min, nat_cmp}
 use Rattle.std.specs.Prelude.{take}

@@ -1,5 +1,5 @@
 -- A buffer into which items are put one by one.
-use Rattle.std.proofs.Common.{◌≡◌, ◌∙◌, refl, ap, sym, subst, ℕ, ◌+◌, ◌*◌, ◌<◌, ◌≤◌, List, [], ◌∷◌, ◌++◌, append_assoc, append-nil, arith, drop, get_or, length, length-append, map, min, slice_set, take}
+use Rattle.std.proofs.Common.{◌≡◌, ◌∙◌, ap, sym, subst, ℕ, ◌+◌, ◌<◌, ◌≤◌, List, [], ◌∷◌, ◌++◌, append_assoc, append-nil, arith, drop, get_or, length, length-append, map, slice_set, take}
 use Rattle.std.proofs.lemmas.Grind.{flat_map-append}
 use Rattle.std.proofs.lemmas.List.{drop_all, drop_more, length-drop, length-take, map_more, set_at, take-append-le, take_all, take_more}
 use Rattle.std.specs.Prelude.{flat_map}

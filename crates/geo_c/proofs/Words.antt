@@ -1,11 +1,11 @@
 -- A numerator and its two words.
-use Rattle.std.proofs.Common.{◌≡◌, ℕ, zero, suc, ◌+◌, ◌-◌, ◌*◌, ◌/◌, ◌%◌, ◌^◌, ◌<◌, ◌≤◌, ℤ, pos, negsuc, ◌+ℤ◌, ◌*ℤ◌, ◌<ℤ◌, neg_ℤ, Fits, FitsSigned, w64, T, to_z, of_z}
+use Rattle.std.proofs.Common.{◌≡◌, ℕ, suc, ◌+◌, ◌-◌, ◌*◌, ◌/◌, ◌%◌, ◌^◌, ◌<◌, ◌≤◌, ℤ, pos, negsuc, ◌+ℤ◌, ◌*ℤ◌, ◌<ℤ◌, neg_ℤ, Fits, FitsSigned, w64, T, to_z, of_z}
 use Rattle.std.proofs.Common.{refl, sym, ap, subst, arith, lit<, lt_of_le_of_lt}
 use Rattle.std.proofs.Math.Nat.{div-le_self}
 use Rattle.std.proofs.lemmas.Int.{ints, to_z-of_z}
 use Rattle.std.proofs.lemmas.Nat.{div-add-mod', div-mul-add, mod-mul-add, mod_below, shr_below}
 use Rattle.std.specs.Int.{int_div_euclid, int_rem_euclid, w128}
-use Rattle.std.specs.Prelude.{int_div, unsigned_abs}
+use Rattle.std.specs.Prelude.{unsigned_abs}
 use lib.Signed.{non_neg}
 use Rattle.exact_frac.specs.Lowest.{common_divisor, lowest_den}
 use Rattle.geo_c.specs.Fractions.{Fraction, high_word, low_word}

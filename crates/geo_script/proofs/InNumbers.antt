@@ -1,5 +1,5 @@
 -- A record in numbers, number by number.
-use Rattle.std.proofs.Common.{◌≡◌, ◌∙◌, ◌<◌, ◌≤◌, ◌+◌, ◌*◌, ◌/◌, ◌%◌, ◌==◌, Bool, true, false, if◌then◌else◌, ℕ, ℤ, pos, List, [], ◌∷◌, length, drop, get_or, Option, Some, None, Result, Ok, Err, ap, arith, refl, sym, rules}
+use Rattle.std.proofs.Common.{◌≡◌, ◌∙◌, ◌<◌, ◌≤◌, ◌+◌, ◌*◌, ◌/◌, ◌%◌, ◌==◌, Bool, true, false, if◌then◌else◌, ℕ, ℤ, pos, List, [], ◌∷◌, length, drop, get_or, Option, Some, None, Result, Ok, Err, ap, arith, refl, rules}
 use Rattle.std.proofs.lemmas.Bool.Decides.{nat_tests}
 use Rattle.std.proofs.lemmas.List.{at_drop_more, drop_all, drop_more, length-drop, nil_from_length}
 use Rattle.std.specs.Option.{option_or}
@@ -15,7 +15,7 @@ use Rattle.geo_text.specs.declared.command.Command.TheVariants as command
 use Rattle.geo_text.specs.declared.limits.Limits.{Limits}
 use Rattle.geo_text.specs.declared.version.Version.{Version}
 use Rattle.geo_text.specs.declared.version.Version.TheVariants as version
-use Rattle.geo_script.specs.InNumbers.{bare_in, command_of_word, each_two, made_of, pair_in, path_in, point_in, points_fault, points_in, two_in}
+use Rattle.geo_script.specs.InNumbers.{bare_in, command_of_word, each_two, made_of, pair_in, path_in, point_in, points_fault, two_in}
 use Rattle.geo_script.specs.declared.word.Word.{Word}
 use Rattle.geo_script.specs.declared.word.Word.TheVariants as word
 

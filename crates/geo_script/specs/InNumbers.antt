@@ -1,5 +1,5 @@
 -- A record in numbers: a number for its word, and the numbers of its fields. This project's own.
-use Rattle.std.specs.Prelude.{ℕ, ℤ, ◌*◌, ◌%◌, ◌==◌, nat_lt, Bool, true, false, if◌then◌else◌}
+use Rattle.std.specs.Prelude.{ℕ, ℤ, ◌*◌, ◌%◌, ◌==◌, nat_lt, Bool, false, if◌then◌else◌}
 use Rattle.std.specs.Prelude.{List, [], ◌∷◌, length, Option, Some, None, Result, Ok, Err}
 use Rattle.plane.specs.Point.{Point}
 use Rattle.plane.specs.declared.limits.TheConstants.{MAX_HULL}

@@ -1,7 +1,7 @@
-use Rattle.std.proofs.Common.{◌≡◌, ◌+◌, ◌*◌, ◌/◌, ◌<◌, ◌≤◌, ◌∙◌, List, ap, sym, inl, arith, length, slice_index_or, slice_set}
-use Rattle.geo_c.specs.Fractions.{Fraction, fraction_x, fraction_y, fractions_of_parts}
+use Rattle.std.proofs.Common.{◌≡◌, ◌+◌, ◌*◌, ◌/◌, ◌<◌, ◌≤◌, ◌∙◌, List, ap, inl, arith, length, slice_index_or, slice_set}
+use Rattle.geo_c.specs.Fractions.{Fraction, fractions_of_parts}
 use Rattle.geo_c.proofs.Filling.{all_of, one_more}
-use Rattle.geo_c.proofs.Twos.{fractions_length, fraction_of, length_twos, two_of}
+use Rattle.geo_c.proofs.Twos.{fractions_length, fraction_of}
 use Rattle.geo_c.proofs.fractions.fill_parts.Goals as goal
 
 pub fractions-preserved : goal.fractions-preserved

@@ -1,4 +1,4 @@
-use Rattle.std.proofs.Common.{◌≡◌, ◌∙◌, ◌<◌, ◌/◌, ℕ, None, Option, Some, List, ap, refl, subst, sym, arith, length, rules}
+use Rattle.std.proofs.Common.{◌≡◌, ◌∙◌, ◌<◌, ◌/◌, ℕ, Option, ap, refl, subst, sym, arith, length}
 use Rattle.plane.specs.Point.{Point}
 use Rattle.geo_c.specs.Held.{talk_of}
 use Rattle.geo_c.specs.Many.{ArePathsTold, Buffers, IsPathFound, asked_pairs}

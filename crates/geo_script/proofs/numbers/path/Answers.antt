@@ -1,6 +1,6 @@
-use Rattle.std.proofs.Common.{◌≡◌, ◌∙◌, FitsSigned, get_or, pos, rules, sym, w64}
+use Rattle.std.proofs.Common.{◌∙◌, FitsSigned, get_or, pos, rules, sym, w64}
 use Rattle.std.proofs.lemmas.Int.{to_z-of_z}
-use Rattle.geo_script.proofs.InNumbers.{both_taken, just_four, path_is, point_at, second_refused}
+use Rattle.geo_script.proofs.InNumbers.{both_taken, just_four, path_is, second_refused}
 use Rattle.geo_script.proofs.numbers.path.Goals as goal
 
 pub returns-in-Ok : goal.returns-in-Ok

@@ -1,5 +1,5 @@
-use Rattle.std.proofs.Common.{◌≡◌, ◌∙◌, ◌<◌, ◌≤◌, ◌+◌, All, arith, get_or, length, pos, rules, subst, sym, unsigned_abs}
-use Rattle.std.proofs.lemmas.List.{drop_all, take_all}
+use Rattle.std.proofs.Common.{◌∙◌, ◌<◌, ◌≤◌, ◌+◌, All, arith, get_or, length, pos, rules, subst, sym, unsigned_abs}
+use Rattle.std.proofs.lemmas.List.{take_all}
 use Rattle.std.proofs.lemmas.List.Elements.{All-more}
 use Rattle.plane.specs.Point.{IsInLimit}
 use Rattle.geo_script.proofs.InNumbers.{range_at_end, range_found, range_passed}
