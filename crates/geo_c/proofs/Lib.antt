@@ -1,10 +1,12 @@
 mod Behind
+mod Counting
 mod Crossed
 mod Filling
 mod Handles
 mod Pairs
 mod Paths
 mod Places
+mod Putting
 mod Together
 mod Twos
 mod Values
