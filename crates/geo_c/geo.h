@@ -157,9 +157,10 @@ uint8_t geo_session_reach(GeoSession *session, int64_t to_x, int64_t to_y, GeoPo
 void geo_session_places(GeoSession *session, const GeoPoint *points, size_t points_length, uint8_t *places, size_t places_length);
 
 /* The paths between pairs of points, ends[2 * k] and ends[2 * k + 1]: in turn, as many as fit `statuses` and `lengths`, and while
-   the points of the next one fit what is left of `points`. *done is how many are told. For each there is a status in statuses[k],
-   the count of its points in lengths[k], 0 with a refusal, and its points behind those of the paths before; after that the buffers
-   are as before. Any one path fits 16,386 points. On GEO_MEMORY the paths of *done pairs are whole; else the status is GEO_OK. */
+   the points of the next one fit what is left of `points`. *done is how many are told; ask for the rest from ends[2 * *done] on.
+   For each there is a status in statuses[k], the count of its points in lengths[k], 0 with a refusal, and its points behind those
+   of the paths before; after that the buffers are as before. Any one path fits 16,386 points, so with that much room *done is at
+   least 1. On GEO_MEMORY the paths of *done pairs are whole; else the status is GEO_OK. */
 uint8_t geo_session_paths(GeoSession *session, const GeoPoint *ends, size_t ends_length, GeoPoint *points, size_t points_length,
                           uint8_t *statuses, size_t statuses_length, size_t *lengths, size_t lengths_length, size_t *done);
 

@@ -425,7 +425,7 @@ fn many_questions(rt: HostRuntime) -> Result<(), Fail> {
         (0, 0),
     ]
     .map(at);
-    let mut told = [(7, 7); 5].map(at);
+    let mut told = [(7, 7); 6].map(at);
     let (mut statuses, mut lengths, mut done) = ([9; 5], [9; 5], 9);
     let status = geo_session_paths(
         alloc,
@@ -438,7 +438,7 @@ fn many_questions(rt: HostRuntime) -> Result<(), Fail> {
     );
     assert!(rt; status == OK && done == 3);
     assert!(rt; statuses == [OK, 22, OK, 9, 9] && lengths == [3, 0, 2, 9, 9]);
-    assert!(rt; are(&told, &[(4, 1), (2, 2), (1, 4), (0, 0), (4, 0)]));
+    assert!(rt; are(&told, &[(4, 1), (2, 2), (1, 4), (0, 0), (4, 0), (7, 7)]));
     geo_session_clear(alloc, &mut session);
     large_fractions::<_, Brand>(&rt, Blank::new(1));
     Ok(())
