@@ -187,6 +187,12 @@ def way_along_comb(n: int) -> Ring:
     return ends[:1] + [(4 * i, 6 if i % 2 else 2) for i in range(1, k)] + ends[1:]
 
 
+def corners_of_comb(n: int, count: int) -> Ring:
+    """So many corners of the comb round which no path bends, half of them at each end."""
+    outer = [(4 * i, 8 * (i % 2)) for i in range(n // 2)]
+    return outer[:count // 2] + outer[-(count // 2):]
+
+
 def way_through_saw(n: int) -> Ring:
     """The level way that touches each tooth."""
     return [(0, 1), (n - 4, 1)]

@@ -14,7 +14,7 @@ PAIRED = [256, 1024]  # for `pair` and `sights`, which take no more vertices
 MOST = {1: 4096, 2: 16_384}  # vertices in a version of the script
 BYTES = [1_048_576, 8_388_608]
 PLACES, VIEWS, LONG_VIEWS, PATHS, LISTS, PEGS, MOST_PEGS, TIMES, WALKS = 1000, 100, 10, 400, 10, 16, 64, 20, 50
-ENOUGH, REPEATS = 0.03, 200
+ENOUGH, REPEATS = 0.03, 512
 
 
 @dataclass(frozen=True)
@@ -123,9 +123,11 @@ def jobs(sizes: List[int], only: str, ask: Ask) -> Iterator[Job]:
 
 
 def repeat(job: Job, one: str, ask: Ask, line: Optional[str] = None) -> None:
-    """One record over and over, as often as it takes to see its time, and its answer where that is known."""
-    spent = ask(job.before + one).processor - ask(job.before).processor
-    job.times = max(1, min(REPEATS, int(ENOUGH / max(spent, 0.0001))))
+    """One record over and over, until that takes some 30 milliseconds and as long as all before it, and its answer where that is known."""
+    rest = min(ask(job.before).processor for _ in range(2))
+    job.times = 1
+    while job.times < REPEATS and (spent := ask(job.before + job.times * one).processor - rest) < max(ENOUGH, rest):
+        job.times = min(REPEATS, job.times * (2 if 2 * spent > ENOUGH else 8))
     job.timed = job.times * one
     if line is not None:
         job.known = (job.accepted if job.before != job.head else job.head) + job.times * line
@@ -239,7 +241,7 @@ def check_way(way: Callable[[int], Ring]) -> Fill:
 
 def hull(job: Job, ask: Ask) -> None:
     """Its sides are to be the paths between their ends."""
-    one = record('hull', inputs.inner_places(job.ring, pegs(job)))
+    one = record('hull', pegs(job))
     sides = [line.split(',')[4:] for line in ask(job.before + one).lines if line.startswith('side,')]
     job.queries = [(int(x), int(y)) for side in sides for x, y in (side[:2], side[-2:])]
     repeat(job, one, ask)
@@ -247,7 +249,7 @@ def hull(job: Job, ask: Ask) -> None:
 
 def closed_round(job: Job, ask: Ask) -> None:
     """It is to follow the sides of the hull."""
-    places = inputs.inner_places(job.ring, pegs(job))
+    places = pegs(job)
     sides = (line.split(',') for line in ask(job.before + record('hull', places)).lines if line.startswith('side,'))
     after = {int(i): int(j) for _, i, j, *_ in sides}
     way = [min(after)]
@@ -256,8 +258,10 @@ def closed_round(job: Job, ask: Ask) -> None:
     repeat(job, record('round', places), ask, ','.join(map(str, ['round', len(way), *way])) + '\n')
 
 
-def pegs(job: Job) -> int:
-    return MOST_PEGS if job.hostile else PEGS
+def pegs(job: Job) -> Ring:
+    """Some points inside. Where the job is hostile, as many as a record takes, half at each end of the comb, and none on a path between
+    others."""
+    return inputs.corners_of_comb(job.size, MOST_PEGS) if job.hostile else inputs.inner_places(job.ring, PEGS)
 
 
 def guards(job: Job, ask: Ask) -> None:

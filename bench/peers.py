@@ -16,7 +16,7 @@ from inputs import Point, Ring, numbers, record
 from jobs import Job
 
 PROGRAMS = ['cgal', 'geos', 'boost', 'ppl', 'funnel']
-LONGEST = 10  # seconds by the clock, after which a peer is left out
+LONGEST = 5  # seconds by the clock, after which a peer is left out
 SAMPLE = 8  # batches that are timed where there are more
 
 
@@ -146,6 +146,9 @@ class Folder:
         peers = PEERS.get(job.command, []) if job.ring and job.note != 'refused' else []
         return [peer for peer in peers if peer.program in self.programs and (peer.name, job.name) not in self.slow]
 
+    def tell(self, peer: Peer, what: str) -> None:
+        self.told.append(f'{peer.name}: more than {LONGEST} seconds; {what}, here and at greater sizes')
+
     def notes(self) -> List[str]:
         """What is to be told since this was asked before."""
         told, self.told = self.told, []
@@ -167,8 +170,10 @@ class Folder:
                 file.write(f'{name} {len(points)}\n' + ''.join(f'{x} {y}\n' for x, y in points))
             file.flush()
             around = {**os.environ, 'PEER_CAP': '600', 'PEER_CLOCK': 'processor', **({'PEER_SHOW': '1'} if shows else {})}
+            command = [self.programs[peer.program], file.name, peer.job]
             try:
-                ended = subprocess.run([self.programs[peer.program], file.name, peer.job], stdout=subprocess.PIPE, env=around, timeout=LONGEST)
+                # not by a limit of the system on processor time, which makes that clock of the peer a coarse one
+                ended = subprocess.run(command, stdout=subprocess.PIPE, env=around, timeout=LONGEST)
             except subprocess.TimeoutExpired as late:
                 raise TooLong(peer.name) from late
         *shown, last = ended.stdout.decode().splitlines() or ['']
@@ -183,7 +188,7 @@ class Folder:
             told, _ = self.ask(peer, job)
         except TooLong:
             self.slow.add((peer.name, job.name))
-            self.told.append(f'{peer.name}: more than {LONGEST} seconds, left out here and at greater sizes')
+            self.tell(peer, 'left out')
             raise
         part, whole = (sum(float(told[step]) for step in steps) for steps in (peer.part, peer.whole))
         return part, whole
@@ -198,7 +203,7 @@ class Folder:
             return str(fault)
         except TooLong:
             self.silent.add((peer.name, job.name))
-            self.told.append(f'{peer.name}: more than {LONGEST} seconds to show its answers; they are not compared here and at greater sizes')
+            self.tell(peer, 'its answers are not compared')
             return None
         if peer.job == 'load' and told['size'] != '1':
             return f'{peer.name}: not simple'

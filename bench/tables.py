@@ -60,8 +60,8 @@ class Row:
         asked = self.job.asked
         for peer, times in self.peers.items():
             part, whole = (min(time) for time in zip(*times))
-            all_of_it = (self.rest + asked * (self.one or 0)) / whole if self.job.before != self.job.head else None
-            yield peer, self.one and self.one * asked / part, all_of_it
+            all_of_it = (self.rest + asked * (self.one or 0)) / whole if self.job.before != self.job.head and whole else None
+            yield peer, self.one * asked / part if self.one and part else None, all_of_it
 
 
 def line(rows: List[Row]) -> str:
@@ -69,9 +69,11 @@ def line(rows: List[Row]) -> str:
     row, before = rows[-1], rows[-2] if len(rows) > 1 else None
     cells = [figure(1000 * time) for time in (row.least, row.most, row.clock)] + [microseconds(row.one), growth(before, row)]
     beside = [figure(one) + (f' ({figure(whole)})' if whole else '') + f' {peer}' for peer, one, whole in row.ratios()]
-    told = f'{row.job.name:44}{row.job.size:>10,}{row.job.times:>9,}' + ''.join(f'{cell:>10}' for cell in cells) + '   ' + ' | '.join(beside)
+    told = f'{row.job.name:44}{row.job.size:>10,}{row.job.times:>9,}' + ''.join(f'{cell:>10}' for cell in cells) + '   '
+    told += ' | '.join(beside)
     if row.job.hostile:
-        told += f'\n    a record of {row.bytes:,} bytes and an answer of {row.job.answer:,}; 8 MiB of them, as computed: {duration(row.script)}'
+        told += f'\n    a record of {row.bytes:,} bytes, an answer of {row.job.answer:,}; '
+        told += f'8 MiB of them, as computed: {duration(row.script)}'
     return told.rstrip()
 
 
@@ -101,8 +103,8 @@ def duration(seconds: float) -> str:
 
 
 def markdown(rows: List[Row]) -> str:
-    """A line for each command, with the microseconds of one record at the two greatest sizes for each shape, the worst record, and what 8 MiB
-    of it would take; below it, for each kind of peers, how many times as long as the best of them it took."""
+    """A line for each command, with the microseconds of one record at the two greatest sizes for each shape, the worst record, and what
+    8 MiB of it would take; below it, for each kind of peers, how many times as long as the best of them it took."""
     shapes = list(dict.fromkeys(row.job.shape for row in rows if row.job.ring and not row.job.hostile))
     lines: Dict[Tuple[str, str], Dict[str, List[str]]] = {}
     for row in of_two_sizes(rows):
