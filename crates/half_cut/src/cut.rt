@@ -19,7 +19,7 @@ use std::sync::ledger::Ledger;
 /// Why a region is not cut.
 #[derive(Drop)]
 pub enum CutFault {
-    /// Memory was wanted. This is the old region, as it was.
+    /// An allocation was refused. This is the old region, as it was.
     Memory(Region),
 }
 
