@@ -1,5 +1,5 @@
 -- The comb as a session takes it.
-use Rattle.std.proofs.Common.{◌≡◌, ◌∙◌, inl, inr, ap, subst, sym, false, ℕ, ◌<◌, List, [], ◌∷◌, Result, Ok, Err, Vec, Global, arith}
+use Rattle.std.proofs.Common.{◌≡◌, ◌∙◌, inl, inr, ap, subst, sym, ℕ, ◌<◌, List, [], ◌∷◌, Result, Ok, Err, Vec, Global, arith}
 use Rattle.std.proofs.lemmas.Bool.{cases_lt}
 use Rattle.std.specs.Prelude.{None, Some}
 use Rattle.plane.specs.Point.{Point, whole}
@@ -33,7 +33,7 @@ module _ (state : State) (ring : List Point) (s t s' t' : Point) (found : Result
   pub answers_path : (points : Vec Point Global) → found ≡ Ok points → IsPath ring s t points.items
   answers_path points is = by_reply (rw (held, from, to, is) at answer)
     where
-      by_reply : IsPathReply false ring s t (reply.Path points.items) → IsPath ring s t points.items
+      by_reply : IsPathReply version.One ring s t (reply.Path points.items) → IsPath ring s t points.items
       by_reply (outside fault h e) = absurd cc
       by_reply (within all h) =
           let same : points.items ≡ h.value = cc in
@@ -48,6 +48,6 @@ module _ (state : State) (ring : List Point) (s t s' t' : Point) (found : Result
         | inr more ↦ let last : k ≡ 1 = omega (arith, more, below) in rw last goal
       ]
 
-      by_reply : IsPathReply false ring s t (reply.Refused fault) → ⊥
+      by_reply : IsPathReply version.One ring s t (reply.Refused fault) → ⊥
       by_reply (outside name h e) = h.first.outside (both h.k h.first.in_list)
       by_reply (within all h) = absurd cc
