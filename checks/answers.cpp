@@ -69,7 +69,8 @@ static bool ask(geo::Session &session, const Record &asked) {
     const std::size_t count = asked.fields.size();
     const std::string &word = asked.word;
     if (word == "polygon" && count % 2 == 0) {
-        std::cout << "polygon," << session.polygon(asked.points()) << '\n';
+        const std::uint32_t vertices = session.polygon(asked.points());
+        std::cout << "polygon," << vertices << '\n';
     } else if (word == "inside" && count == 2) {
         std::cout << places[static_cast<int>(session.inside(asked.point(0)))] << '\n';
     } else if (word == "path" && count == 4) {
