@@ -29,15 +29,15 @@ use Rattle.std.specs.contracts.impls.GlobalAllocator.TheImpl.{ghosts}
 use Rattle.std.proofs.alloc.Global.TheLaws as heap_laws
 use Rattle.std.proofs.GlobalToken.{dealloc_token-Testable}
 use Rattle.std_alloc.specs.Box.Ownership.{box_owns}
-use Rattle.geo_script.specs.Dialog.{Talk}
-use Rattle.geo_script.specs.contracts.dialog.Dialog as dialog
 use Rattle.geo_c.specs.Held.{held_at}
+use Rattle.geo_c.specs.declared.desk.Desk.{Desk}
+use Rattle.geo_c.specs.contracts.desk.Desk as desk
 use Rattle.geo_c.specs.contracts.handle.GeoSession as handle
 use Rattle.geo_c.proofs.Values.{both, both_tt}
 
--- the dialog's row, the allocator's, and the handle's
+-- the desk's row, the allocator's, and the handle's
 abbrev pub R : RattleType
-R = dialog.the_row
+R = desk.the_row
 
 abbrev pub Z : RattleType
 Z = heap.the_row
@@ -48,8 +48,8 @@ LZ = heap_laws.the_row_laws
 abbrev pub Handle : RattleType
 Handle = handle.the_row
 
-abbrev pub boxed : Global → Ptr → Talk → Fml
-boxed alloc p talk = box_owns (ghosts.dealloc_token alloc) R p talk
+abbrev pub boxed : Global → Ptr → Desk → Fml
+boxed alloc p content = box_owns (ghosts.dealloc_token alloc) R p content
 
 pub handle_good : (p : Ptr) (h : Val) → Good (layout Z) h → Good (layout Handle) (both (ptr_val p) h)
 handle_good p h fits = let g = Ptr-Good p in (both_tt (has_ty ty_ptr (ptr_val p)) (has_ty (layout Z) h) g.0 fits.0, (g.1, (fits.1, tt)))
@@ -59,7 +59,7 @@ heap_al = record { row = Z; laws = LZ; g = ghosts; d = impl [] tnil dnil; drops 
 
 module _ {M : Type 1} {𝓤 : Ura M} {𝓛 : Logic 𝓤} {K : Type 0} {Γ : List (Item 𝓤)} {G : Goal 𝓤 𝓛.H} where
   -- put together
-  pub handle_in : K → (p : Ptr) (h : Val) (a : Global) (held : Option Talk)
+  pub handle_in : K → (p : Ptr) (h : Val) (a : Global) (held : Option Desk)
       → Step K 𝓛 (‵ (Handle.own_val (record { at = p; alloc = a; held = held }) (both (ptr_val p) h ∷ [])) ∷ Γ) G (‵ (held_at a p held) ∷ ‵ (Z.own_val a (h ∷ [])) ∷ Γ) G
   handle_in t p h a held = step (λ s. let v : Val = both (ptr_val p) h in
       nothing t $ move t (2 ∷ 0 ∷ []) $ fjoin t $ feq_i t (List Val) (ptr_val p ∷ []) (ptr_val p ∷ []) refl $ fjoin t $ feq_i t (List Val) (v ∷ []) (v ∷ []) refl $ fjoin t $
@@ -74,14 +74,14 @@ module _ {M : Type 1} {𝓤 : Ura M} {𝓛 : Logic 𝓤} {K : Type 0} {Γ : List
       (subst (λ (ws : List Val). vs ≡ vstruct (of_list (ptr_val d.at ∷ (ws ++ []))) ∷ []) ea (subst (λ (ps : List Val). vs ≡ vstruct (of_list (ps ++ (vss.1.0 ++ []))) ∷ []) ep ev)) fits))))
 
   -- nothing at null, or a box whose pointer may be compared with null
-  pub either_held : K → (a : Global) (p : Ptr) (held : Option Talk) → (p ≡ null_ptr → held ≡ None → Seq K 𝓛 Γ G)
-      → ((b o : ℕ) (talk : Talk) → p ≡ block_ptr b o → held ≡ Some talk → Testable (block_ptr b o) → Seq K 𝓛 (‵ (boxed a (block_ptr b o) talk) ∷ Γ) G)
+  pub either_held : K → (a : Global) (p : Ptr) (held : Option Desk) → (p ≡ null_ptr → held ≡ None → Seq K 𝓛 Γ G)
+      → ((b o : ℕ) (content : Desk) → p ≡ block_ptr b o → held ≡ Some content → Testable (block_ptr b o) → Seq K 𝓛 (‵ (boxed a (block_ptr b o) content) ∷ Γ) G)
       → Seq K 𝓛 (‵ (held_at a p held) ∷ Γ) G
   either_held t a null_ptr None k j = drop t $ k refl refl
-  either_held t a null_ptr (Some talk) k j = use1 𝓛 (given ⊥ (‵ ftrue)) (never_e 𝓤 _) $ learn t (λ wrong. absurd wrong)
+  either_held t a null_ptr (Some content) k j = use1 𝓛 (given ⊥ (‵ ftrue)) (never_e 𝓤 _) $ learn t (λ wrong. absurd wrong)
   either_held t a (block_ptr b o) None k j = use1 𝓛 (given ⊥ (‵ ftrue)) (never_e 𝓤 _) $ learn t (λ wrong. absurd wrong)
-  either_held t a (block_ptr b o) (Some talk) k j =
-      let p = block_ptr b o in let B = sem 𝓛 (boxed a p talk) in
-      use1 𝓛 (given (Testable p) (‵ (boxed a p talk)))
-      (fact_use 𝓤 (Testable p) (via 𝓤 _ (snd∗ 𝓤 (sem 𝓛 (lies_at R full_share p talk)) (sem 𝓛 (ghosts.dealloc_token a (bare (lone R.mir)) p))) (dealloc_token-Testable 𝓛 a (bare (lone R.mir)) p)) (guard_i 𝓤 (Testable p) B)) $
-      learn t (λ tested. j b o talk refl refl tested)
+  either_held t a (block_ptr b o) (Some content) k j =
+      let p = block_ptr b o in let B = sem 𝓛 (boxed a p content) in
+      use1 𝓛 (given (Testable p) (‵ (boxed a p content)))
+      (fact_use 𝓤 (Testable p) (via 𝓤 _ (snd∗ 𝓤 (sem 𝓛 (lies_at R full_share p content)) (sem 𝓛 (ghosts.dealloc_token a (bare (lone R.mir)) p))) (dealloc_token-Testable 𝓛 a (bare (lone R.mir)) p)) (guard_i 𝓤 (Testable p) B)) $
+      learn t (λ tested. j b o content refl refl tested)

@@ -1,5 +1,13 @@
+mod Behind
+mod Counting
 mod Crossed
 mod Filling
 mod Handles
+mod Pairs
+mod Paths
+mod Places
+mod Putting
 mod Together
+mod Twos
 mod Values
+mod Words

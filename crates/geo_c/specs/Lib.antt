@@ -1,5 +1,10 @@
+pub mod Contents
 pub mod Filled
+pub mod Fractions
 pub mod Held
+pub mod Many
 pub mod Output
+pub mod Put
+pub mod Room
 pub mod Status
 pub mod Told

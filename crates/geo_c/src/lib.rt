@@ -2,9 +2,16 @@
 //! these calls, and `docs/LIBRARY.md` says how a program links them.
 #![tactic(auto)]
 
+mod ask;
+mod counts;
+mod desk;
+mod few;
 mod fill;
+mod fractions;
 mod handle;
 mod loose;
+mod many;
+mod numbers;
 mod point;
 mod questions;
 mod script;
@@ -13,5 +20,8 @@ mod status;
 #[cfg(test)]
 mod tests;
 
+pub use counts::GeoCounts;
+pub use desk::Desk;
+pub use fractions::GeoFraction;
 pub use handle::GeoSession;
 pub use point::GeoPoint;

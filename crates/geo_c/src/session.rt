@@ -5,9 +5,9 @@ ghost use Rattle.geo_text.specs.Records.{AreWhole};
 ghost use Rattle.geo_session.specs.Output.{IsOutput};
 ghost use Rattle.geo_script.specs.Dialog.{AnswersPiece, AnswersSome, IsTalkOf};
 ghost use Rattle.geo_c.specs.Filled.{filled_by};
-ghost use Rattle.geo_c.specs.Held.{talk_of};
+ghost use Rattle.geo_c.specs.Held.{last_reply, talk_of};
 ghost use Rattle.geo_c.specs.Told.{ArePointsGiven, IsPlaceGiven, TellsPath, TellsPlace, TellsReach};
-ghost use Rattle.geo_c.specs.declared.status.TheConstants.{MEMORY, OK, OTHER, TOO_LONG};
+ghost use Rattle.geo_c.specs.declared.status.TheConstants.{MEMORY, OK, TOO_LONG, WORD};
 
 use crate::fill::fill_points;
 use crate::handle::GeoSession;
@@ -21,7 +21,7 @@ use std::marker::Brand;
 use std::sync::ledger::{Blank, Ledger};
 
 /// Answers the records of the next piece of the script, in the place of those of the piece before. The handle keeps the text of
-/// the answers, and `needed` is its length.
+/// the answers, and `needed` is its length. The last reply to a record in numbers stays.
 #[unsafe(no_mangle)]
 pub extern "C" fn geo_session_answer(
     alloc: Global,
@@ -38,6 +38,7 @@ pub extern "C" fn geo_session_answer(
     ensures too_long { (result ≡ TOO_LONG) ↔ (MAX_SCRIPT < length piece.now) }
     ensures same { result ≡ TOO_LONG → (session.new.held ≡ session.old.held) × (needed.new ≡ needed.old) }
     ensures memory { result ≡ MEMORY → AnswersSome (talk_of session.old.held) piece.now (talk_of session.new.held) }
+    ensures reply { last_reply session.new.held ≡ last_reply session.old.held }
     ensures needed { result ≢ TOO_LONG → needed.new ≡ length (talk_of session.new.held).text }
     ensures only { (result ≡ OK) ⊎ (result ≡ TOO_LONG) ⊎ (result ≡ MEMORY) }
 {
@@ -186,7 +187,7 @@ fn give<L: Ledger>(
     steps: &mut Steps<L>,
 ) -> u8
     ensures given { ArePointsGiven result needed.old needed.new points.old points.new found }
-    ensures refused { OnErr found (OTHER ≤ result) }
+    ensures refused { OnErr found (WORD ≤ result) }
     ensures not_memory { result ≢ MEMORY }
 {
     match found {

@@ -1,3 +1,4 @@
+mod InNumbers
 mod Limited
 pub mod NextRecord
 mod Pieces

@@ -1,4 +1,6 @@
 pub mod Answered
 pub mod Asked
+pub mod AskedTalk
 pub mod Dialog
+pub mod InNumbers
 pub mod Progress

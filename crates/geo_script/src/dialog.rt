@@ -1,4 +1,4 @@
-ghost use Rattle.std.specs.Prelude.{◌≡◌, ◌↔◌, ◌+◌, ◌<◌, ◌≤◌, ℕ, List, [], ◌∷◌, ◌++◌, Err, IfOk, OnOk, false, if◌then◌else◌, length};
+ghost use Rattle.std.specs.Prelude.{◌≡◌, ◌↔◌, ◌+◌, ◌<◌, ◌≤◌, ℕ, List, [], ◌∷◌, ◌++◌, Err, IfOk, OnErr, OnOk, false, if◌then◌else◌, length};
 ghost use Rattle.plane.specs.declared.limits.TheConstants.{MAX_CORNERS, MAX_SCRIPT};
 ghost use Rattle.geo_text.specs.Limits.{limits_of};
 ghost use Rattle.geo_text.specs.Records.{AreWhole};
@@ -6,10 +6,12 @@ ghost use Rattle.geo_session.specs.Output.{IsOutput};
 ghost use Rattle.geo_session.specs.Path.{path_of};
 ghost use Rattle.geo_session.specs.Reply.{IsFound};
 ghost use Rattle.geo_script.specs.Asked.{IsAskedWithin};
+ghost use Rattle.geo_script.specs.AskedTalk.{IsReadingReply, asked_in, asked_talk};
 ghost use Rattle.geo_script.specs.Dialog.{AnswersPiece, AnswersSome, IsTalkOf, first_talk, records_in};
 ghost use Rattle.geo_script.specs.declared.dialog.Stop.TheVariants.{Memory as OutOfMemory};
 
-use crate::next::answer_next;
+use crate::next::{answer_next, reply};
+use crate::numbers::command;
 use exact_plane::{Memory, Pt, Steps};
 use geo_reply::Reply;
 use geo_session::Session;
@@ -117,6 +119,28 @@ impl Dialog {
         ensures { result.now ≡ self.now.text }
     {
         &self.text
+    }
+
+    /// The reply to a record in numbers, which are that of its word (`Word`) and those of its fields: to the command that they are, or
+    /// the first refusal of a record with these fields. It is a record of the script as any other. The first record of a script says
+    /// of which version it is: 2 where it is `Two`, which takes no field, and else 1; a later `Two` is no word. The text is that of
+    /// the last piece still. After want of memory all is as before.
+    pub fn ask<L: Ledger>(
+        &mut self,
+        alloc: Global,
+        word: u8,
+        fields: &[i64],
+        steps: &mut Steps<L>,
+    ) -> Result<Reply, Memory>
+        ensures reply { IfOk result (IsReadingReply self.old.state (asked_in self.old word fields.now)) }
+        ensures talk { IfOk result (λ reply. self.new ≡ asked_talk self.old (asked_in self.old word fields.now) reply) }
+        ensures same { OnErr result (self.new ≡ self.old) }
+    {
+        let reading = command(alloc, self.session.is_two(), self.known, word, fields)?;
+        let reply = reply(alloc, &mut self.session, reading, steps)?;
+        self.begun = true;
+        self.known = true;
+        Ok(reply)
     }
 
     /// Where a point lies in the polygon, or the refusal that an `inside` with these numbers gets.

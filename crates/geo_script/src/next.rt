@@ -1,10 +1,12 @@
-// The answer to the next record of a script.
+// The answer to the next record of a script, and the reply to one that was read.
 ghost use Rattle.std.specs.Prelude.{◌≡◌, ◌⊎◌, [], Ok, IfOk, OnOk, OnErr, true, false};
 ghost use Rattle.geo_text.specs.Reading.{IsWellSized};
 ghost use Rattle.geo_session.specs.Answer.{AppendsReadingAnswer};
 ghost use Rattle.geo_script.specs.Answered.{AnswersRecord, TakesNext};
+ghost use Rattle.geo_script.specs.AskedTalk.{IsReadingReply, state_after_reading};
 
 use exact_plane::{Memory, Steps};
+use geo_reply::Reply;
 use geo_session::Session;
 use geo_text::{Bad, Command, Script, put_bad};
 use std::alloc::Global;
@@ -51,5 +53,23 @@ fn answer<L: Ledger>(
     match reading {
         Ok(command) => session.answer(alloc, command, out, steps),
         Err(bad) => put_bad(out, &bad),
+    }
+}
+
+// The reply to a record that was read.
+pub(crate) fn reply<L: Ledger>(
+    alloc: Global,
+    session: &mut Session,
+    reading: Result<Command, Bad>,
+    steps: &mut Steps<L>,
+) -> Result<Reply, Memory>
+    requires { IfOk reading IsWellSized }
+    ensures reply { IfOk result (IsReadingReply session.old.state reading) }
+    ensures state { IfOk result (λ reply. session.new.state ≡ state_after_reading session.old.state reading reply) }
+    ensures same_session { OnErr result (session.new ≡ session.old) }
+{
+    match reading {
+        Ok(command) => session.ask(alloc, command, steps),
+        Err(bad) => Ok(Reply::Refused(bad)),
     }
 }

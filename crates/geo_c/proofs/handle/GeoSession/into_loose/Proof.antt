@@ -54,8 +54,8 @@ into_loose_spec 𝓤 𝓛 𝓜 𝓡 wired =
     use0 𝓛 (raw (fact 𝓤 (v.held ≡ None))) (fact_i 𝓤 (v.held ≡ None) (emp 𝓤) none) $ nothing ! $ nothing ! $ fjoin ! $
     returns ! (look_at ! 0 refl) $ free_all ! refl $ keep ! (5 ∷ 0 ∷ 2 ∷ 1 ∷ []) $ by ! (leaves 𝓛 En stayed c z (live 0 vnil) None (tt, tt) (tt, tt)))
     (λ wrong. absurd wrong)))
-    (λ b o talk is some tested. let p = block_ptr b o in let w : Val = both (vptr b o) h in let is_w = ws ∙ ap (λ (q : Ptr). both (ptr_val q) h ∷ []) is in
-    let typed = loose_good R Z LZ ghosts b o h fits in let v₁ : Val = live 1 (vcons w vnil) in let d : Lr.Denot = record { at = p; alloc = a; value = talk } in
+    (λ b o content is some tested. let p = block_ptr b o in let w : Val = both (vptr b o) h in let is_w = ws ∙ ap (λ (q : Ptr). both (ptr_val q) h ∷ []) is in
+    let typed = loose_good R Z LZ ghosts b o h fits in let v₁ : Val = live 1 (vcons w vnil) in let d : Lr.Denot = record { at = p; alloc = a; value = content } in
     let good : Good (layout Out) v₁ = (and_tt _ typed.0, (record { fits = lit< tt }, (typed.1, tt))) in
     suffices ! (Run (w ∷ [])) (subst (λ (us : List Val). ent 𝓤 (Run (w ∷ [])) (Run us)) (sym (λ i. is_w i ++ [])) (id⊢ 𝓤 (Run (w ∷ [])))) $
     enter ! 𝓣.C 𝓣.Λ fn (w ∷ []) Post $ alloc_all ! (λ l. pass_all ! refl (handle_good p h fits, tt) $ let Ev = env fn.locals l in
@@ -64,7 +64,7 @@ into_loose_spec 𝓤 𝓛 𝓜 𝓡 wired =
     -- the cast
     sets ! (of_opd ! (get ! refl)) refl (tt, tt) $
     sets ! (agg ! (and_then ! (get ! refl) (and_then ! (get ! refl) (no_more !)))) refl typed $ sets_last ! (agg ! (and_then ! (lit ! tt) (and_then ! (get ! refl) (no_more !)))) refl good $
-    exec ! 𝓣.C 𝓣.Λ Ev (after 4 fn.body) (at_ret Ev Post) $ sets ! (of_opd ! (get ! refl)) refl good $ loose_in R Z LZ ghosts ! b o h a talk $
+    exec ! 𝓣.C 𝓣.Λ Ev (after 4 fn.body) (at_ret Ev Post) $ sets ! (of_opd ! (get ! refl)) refl good $ loose_in R Z LZ ghosts ! b o h a content $
     use1 𝓛 (‵ (Out.own_val (Some d) (v₁ ∷ []))) (Some-of 𝓛 Lr d w) $
-    use0 𝓛 (raw (fact 𝓤 (v.held ≡ Some talk))) (fact_i 𝓤 (v.held ≡ Some talk) (emp 𝓤) some) $ nothing ! $ nothing ! $ fjoin ! $
+    use0 𝓛 (raw (fact 𝓤 (v.held ≡ Some content))) (fact_i 𝓤 (v.held ≡ Some content) (emp 𝓤) some) $ nothing ! $ nothing ! $ fjoin ! $
     returns ! (look_at ! 0 refl) $ free_all ! refl $ keep ! (4 ∷ 0 ∷ 2 ∷ 1 ∷ []) $ by ! (leaves 𝓛 En stayed c z v₁ (Some d) (tt, tt) (tt, tt)))))))
