@@ -3,8 +3,9 @@
        geo::Session session({{0, 0}, {4, 0}, {4, 2}, {2, 2}, {2, 4}, {0, 4}});
        for (geo::Point point : session.path({1, 4}, {4, 1})) ..
 
-   - A question that can't be answered throws a Refusal, which has the kind and the numbers of the line `bad,..`, and changes nothing.
-     Want of memory throws OutOfMemory, a std::bad_alloc, and a text past 8,388,608 bytes TooLong, a std::length_error.
+   - A question that can't be answered throws a Refusal, which has the kind and the numbers of the line `bad,..`; the polygon and
+     the tree stay. Want of memory throws OutOfMemory, a std::bad_alloc, and a text past 8,388,608 bytes TooLong, a
+     std::length_error.
    - A session can be moved and not copied. It stays on the thread of its first question; nothing checks that.
    - Of two forms of a question the one with a Span writes the front of the answer to it, as much as fits, and returns how much there
      is. It allocates nothing here. */
