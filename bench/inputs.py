@@ -2,6 +2,7 @@
 from __future__ import annotations
 
 import functools
+import itertools
 import math
 import random
 from fractions import Fraction
@@ -99,6 +100,51 @@ def maze(n: int) -> Ring:
     return ring
 
 
+def short_vectors(count: int) -> Ring:
+    """So many whole vectors that go upward and to the right, of which no two have one direction: the shortest, by their directions,
+    counterclockwise."""
+    far = math.isqrt(3 * count) + 3
+    found = [(x, y) for x in range(1, far) for y in range(1, far) if math.gcd(x, y) == 1]
+    found.sort(key=lambda vector: (vector[0] ** 2 + vector[1] ** 2, vector))
+    return sorted(found[:count], key=lambda vector: Fraction(vector[1], vector[0]))
+
+
+def sums(start: Point, steps: Sequence[Point]) -> Ring:
+    """Where each of some steps ends that begin at a point."""
+    return list(itertools.accumulate(steps, lambda at, step: (at[0] + step[0], at[1] + step[1]), initial=start))
+
+
+def convex(n: int) -> Ring:
+    """A ring that turns at each vertex, with short edges. Four go into n."""
+    quarter = [(4 * x, 4 * y) for x, y in short_vectors(n // 4)]
+    half = quarter + [(-y, x) for x, y in quarter]
+    return sums((0, 0), half + [(-x, -y) for x, y in half])[:-1]
+
+
+def moon(n: int) -> Ring:
+    """Two arcs that bulge to the same side: the outer one turns left at each vertex, and the inner one right. Four go into n."""
+    up = short_vectors(n // 4)
+    way = up + [(-x, y) for x, y in reversed(up)]
+    outer, inner = (sums((0, 0), [(wide * x, 4 * y) for x, y in way]) for wide in (8, 4))
+    return outer + inner[-2:0:-1]
+
+
+def arch(n: int) -> Ring:
+    """A ring whose teeth hang down to a convex curve, so that the way from end to end bends at each tip."""
+    chain = way_along_arch(n)
+    valleys = [((a + c) // 2, (b + d) // 2 + n) for (a, b), (c, d) in zip(chain, chain[1:])]
+    roof = [point for both in zip(chain, valleys) for point in both] + chain[-1:]
+    low, right = min(y for _, y in chain) - n, chain[-1][0]
+    return [(0, low), (right // 2, low - 1), (right, low)] + roof[::-1]
+
+
+def zigzag(n: int) -> Ring:
+    """Long slanted edges side by side, of which the last ones clash: the edges n - 6 and n - 4 are the least pair."""
+    last = n - 3
+    rises = [(k + n * (k % 2), n * (k % 2)) for k in range(last)]
+    return rises + [(last - 3 + n, n), (4 * n, -2), (-1, -1)]
+
+
 def vertices(ring: Ring, count: int) -> Ring:
     """Vertices of a ring at random."""
     draw = random.Random(count)
@@ -141,6 +187,12 @@ def way_along_comb(n: int) -> Ring:
     return ends[:1] + [(4 * i, 6 if i % 2 else 2) for i in range(1, k)] + ends[1:]
 
 
+def corners_of_comb(n: int, count: int) -> Ring:
+    """So many corners of the comb round which no path bends, half of them at each end."""
+    outer = [(4 * i, 8 * (i % 2)) for i in range(n // 2)]
+    return outer[:count // 2] + outer[-(count // 2):]
+
+
 def way_through_saw(n: int) -> Ring:
     """The level way that touches each tooth."""
     return [(0, 1), (n - 4, 1)]
@@ -150,6 +202,27 @@ def way_past_teeth(n: int) -> Ring:
     """The level way with each tooth that it touches."""
     begin, end = way_through_saw(n)
     return [begin, *((x, 1) for x in range(1, n - 4, 2)), end]
+
+
+def way_along_arch(n: int) -> Ring:
+    """The taut chain past the tips of the teeth of the arch. An even number of teeth."""
+    up = short_vectors((n - 4) // 4)
+    return sums((0, 0), [(2 * x, 2 * y) for x, y in [(x, -y) for x, y in reversed(up)] + up])
+
+
+def shifted(ring: Ring, origin: Point) -> Ring:
+    """A ring moved so that a point comes to (0, 0)."""
+    return [(x - origin[0], y - origin[1]) for x, y in ring]
+
+
+def bends(chain: Ring) -> Ring:
+    """A chain without the points at which it goes straight on."""
+    found = chain[:1]
+    for here, beyond in zip(chain[1:], chain[2:] + [(0, 0)]):
+        (a, b), (p, q), (r, s) = found[-1], here, beyond
+        if here == chain[-1] or (p - a) * (s - b) != (q - b) * (r - a):
+            found.append(here)
+    return found
 
 
 def record(word: str, points: Sequence[Tuple[object, object]]) -> str:
@@ -166,15 +239,27 @@ def answer(points: Sequence[Tuple[object, object]]) -> str:
     return record(f'path,{len(points)}', points)
 
 
+def numbers(line: str) -> Ring:
+    """The points of an answer `path`."""
+    found = list(map(int, line.split(',')[2:]))
+    return list(zip(found[::2], found[1::2]))
+
+
 Shape = Callable[[int], Ring]
 SHAPES: Dict[str, Shape] = {shape.__name__: shape for shape in (comb, star, maze, spiral)}
-MORE_SHAPES: Dict[str, Shape] = SHAPES | {shape.__name__: shape for shape in (skyline, saw)}
+SIX_SHAPES: Dict[str, Shape] = SHAPES | {shape.__name__: shape for shape in (convex, moon)}
+MORE_SHAPES: Dict[str, Shape] = SIX_SHAPES | {shape.__name__: shape for shape in (skyline, saw, arch, zigzag)}
 WAYS: Dict[str, Shape] = {'comb': way_along_comb, 'saw': way_past_teeth}
+
+
+@functools.cache
+def ring_of(shape: str, n: int) -> Ring:
+    return MORE_SHAPES[shape](n)
 
 
 @functools.cache
 def ends(shape: str, n: int, count: int) -> Ring:
     """So many points inside a ring and as many vertices of it: two of these, two of those, and so on."""
-    ring = MORE_SHAPES[shape](n)
+    ring = ring_of(shape, n)
     inner, corners = inner_places(ring, count), vertices(ring, count)
     return [point for four in zip(inner[::2], inner[1::2], corners[::2], corners[1::2]) for point in four]

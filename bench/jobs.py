@@ -1,37 +1,57 @@
-"""What is timed: each command on rings of several shapes and sizes, the test of a ring alone, scripts of up to 8 MiB, and in version
-2 of the script rings and paths."""
+"""What is timed: each command on rings of several shapes and sizes, for each the worst record that is known, the test of a ring alone, and
+scripts of up to 8 MiB."""
 from __future__ import annotations
 
 import random
 from dataclasses import dataclass, field
-from typing import Callable, Iterable, Iterator, List, Optional, Tuple
+from typing import Callable, Iterable, Iterator, List, Optional
 
 import inputs
-from inputs import MORE_SHAPES, SHAPES, WAYS, Ring, answer, ends, record, records
+from inputs import SHAPES, SIX_SHAPES, WAYS, Ring, answer, ends, record, records, ring_of
 
-SIZES = {1: [256, 1024, 4096], 2: [4096, 16_384]}
-PAIRED = 1024  # the most vertices that `pair` and `sights` take
-BYTES = [131_072, 524_288, 2_097_152, 8_388_608]
-PLACES, VIEWS, PATHS, LISTS, PEGS, TIMES, WALKS = 1000, 100, 1000, 20, 16, 20, 100
+SIZES = [1024, 4096, 16_384]
+PAIRED = [256, 1024]  # for `pair` and `sights`, which take no more vertices
+MOST = {1: 4096, 2: 16_384}  # vertices in a version of the script
+BYTES = [1_048_576, 8_388_608]
+PLACES, VIEWS, LONG_VIEWS, PATHS, LISTS, PEGS, MOST_PEGS, TIMES, WALKS = 1000, 100, 10, 400, 10, 16, 64, 20, 50
+ENOUGH, REPEATS = 0.03, 512
+
+
+@dataclass(frozen=True)
+class Ran:
+    """A run of the program: the seconds of the processor, its own and those of the system for it, the seconds from its start to its
+    end, and what it wrote, with the status where that is not 0."""
+
+    processor: float
+    clock: float
+    text: str
+
+    @property
+    def lines(self) -> List[str]:
+        return self.text.splitlines()
 
 
 @dataclass
 class Job:
-    """The records `timed`, after the records `before`, on a ring of a shape, in a script of a version. `known` are the answers to
-    all of them, where they are known before. Peers are asked with the ring and the `queries`. What is timed is done so many
-    `times`, and its part is the time of one."""
+    """The records `timed`, after the records `before`, on a ring of a shape. `known` are the answers to all of them, where they are known
+    before. What is timed are so many records, its `times`, and its part is the time of one. Peers are asked with the ring and
+    the `queries`, which are those of all `times`, or of one where that is done over and over; so many are `asked`. The job is
+    `hostile` where its record is the worst that is known."""
 
     command: str
     shape: str
     note: str
     size: int
-    version: int = 1
+    version: int = 2
+    hostile: bool = False
     ring: Ring = field(default_factory=list)
     queries: Ring = field(default_factory=list)
     before: str = ''
     timed: str = ''
     known: Optional[str] = None
     times: int = 1
+    asked: int = 1
+    answer: int = 0  # bytes that answer one, once they were looked at
 
     @property
     def what(self) -> str:
@@ -39,7 +59,7 @@ class Job:
 
     @property
     def name(self) -> str:
-        return self.head.replace('\n', ' ') + f'{self.command} {self.shape}' + (f', {self.note}' if self.note else '')
+        return ('hostile ' if self.hostile else '') + f'{self.command} {self.shape}' + (f', {self.note}' if self.note else '')
 
     @property
     def head(self) -> str:
@@ -55,34 +75,80 @@ class Job:
     def script(self) -> str:
         return self.before + self.timed
 
+    def ask_each(self, timed: str) -> None:
+        """Times these records, which the peers are asked too."""
+        self.timed, self.times = timed, timed.count('\n')
+        self.asked = self.times
 
-Ask = Callable[[str], List[str]]
+
+Ask = Callable[[str], Ran]
 Fill = Callable[[Job, Ask], None]
 
 
+@dataclass(frozen=True)
+class Kind:
+    """Jobs of a command on some shapes, in a version of the script."""
+
+    command: str
+    shapes: Iterable[str]
+    fill: Fill
+    note: str = ''
+    version: int = 2
+    hostile: bool = False
+
+    def sizes(self, given: List[int]) -> List[int]:
+        paired = self.command in ('pair', 'sights')
+        most = PAIRED[-1] if paired else MOST[self.version]
+        return [n for n in given or (PAIRED if paired else SIZES[1:] if self.hostile else SIZES) if n <= most]
+
+
 def jobs(sizes: List[int], only: str, ask: Ask) -> Iterator[Job]:
-    """The jobs whose name has a text, those of one name together. `ask` gives the lines that answer a script. Each version has its
-    own sizes, or takes of those that are given the ones within its limit."""
-    for version, command, note, shapes, fill in COMMANDS:
-        most = PAIRED if command in ('pair', 'sights') else SIZES[version][-1]
-        for shape, n in ((shape, n) for shape in shapes for n in sizes or SIZES[version] if n <= most):
-            job = Job(command, shape, note, n, version)
-            if only in job.name:
-                job.ring = MORE_SHAPES[shape](n)
-                job.before = job.head + record('polygon', job.ring)
-                fill(job, ask)
-                yield job
+    """The jobs whose name has a text, those of one name together. `ask` runs a script."""
+    for kind in KINDS:
+        for shape in kind.shapes:
+            for n in kind.sizes(sizes):
+                job = Job(kind.command, shape, kind.note, n, kind.version, kind.hostile)
+                if only in job.name:
+                    job.ring = ring_of(shape, n)
+                    job.before = job.head + record('polygon', job.ring)
+                    kind.fill(job, ask)
+                    yield job
     for name, before, one, line in SCRIPTS:
         for size in BYTES:
             count = (size - len(before)) // len(one)
             known = ('polygon,6\n' if before else '') + count * line
-            job = Job('script of', name, '', size, before=before, timed=count * one, known=known)
+            job = Job('script of', name, '', size, before=before, timed=count * one, known=known, times=count)
             if only in job.name:
                 yield job
 
 
+def repeat(job: Job, one: str, ask: Ask, line: Optional[str] = None) -> None:
+    """One record over and over, until that takes some 30 milliseconds and as long as all before it, and its answer where that is known."""
+    rest = min(ask(job.before).processor for _ in range(2))
+    job.times = 1
+    while job.times < REPEATS and (spent := ask(job.before + job.times * one).processor - rest) < max(ENOUGH, rest):
+        job.times = min(REPEATS, job.times * (2 if 2 * spent > ENOUGH else 8))
+    job.timed = job.times * one
+    if line is not None:
+        job.known = (job.accepted if job.before != job.head else job.head) + job.times * line
+
+
+def move(job: Job, ring: Ring, *points: inputs.Point) -> List[inputs.Point]:
+    """Takes a ring that is moved so that the last of some points is (0, 0), as a record with short numbers is the worst, and gives these
+    points, moved with it."""
+    job.ring = inputs.shifted(ring, points[-1])
+    job.before = job.head + record('polygon', job.ring)
+    return inputs.shifted(list(points), points[-1])
+
+
 def polygon(job: Job, ask: Ask) -> None:
-    job.before, job.timed, job.known = job.head, record('polygon', job.ring), job.accepted
+    job.before = job.head
+    repeat(job, record('polygon', job.ring), ask, f'polygon,{job.size}\n')
+
+
+def refused(job: Job, ask: Ask) -> None:
+    job.before = job.head
+    repeat(job, record('polygon', job.ring), ask, f'bad,clash,{job.size - 6},{job.size - 4}\n')
 
 
 def accept(job: Job, ask: Ask) -> None:
@@ -91,63 +157,115 @@ def accept(job: Job, ask: Ask) -> None:
 
 def inside(job: Job, ask: Ask) -> None:
     job.queries = inputs.places(job.ring, PLACES)
-    job.timed = records('inside', job.queries)
+    job.ask_each(records('inside', job.queries))
+
+
+def inside_again(job: Job, ask: Ask) -> None:
+    job.queries = move(job, job.ring, *inputs.places(job.ring, 1))
+    repeat(job, record('inside', job.queries), ask)
 
 
 def see(job: Job, ask: Ask) -> None:
-    job.queries = inputs.inner_places(job.ring, VIEWS)
-    job.timed = records('see', job.queries)
+    job.queries = inputs.inner_places(job.ring, LONG_VIEWS if job.shape == 'convex' else VIEWS)
+    job.ask_each(records('see', job.queries))
+    if job.shape == 'convex':
+        job.known = job.accepted + job.times * whole_view(job.ring)
+
+
+def see_all(job: Job, ask: Ask) -> None:
+    move(job, job.ring, *inputs.inner_places(job.ring, 1))
+    repeat(job, 'see,0,0\n', ask, whole_view(job.ring))
+
+
+def whole_view(ring: Ring) -> str:
+    """The answer to `see` where each edge is seen whole."""
+    parts = (record(f'part,{i}', edge) for i, edge in enumerate(zip(ring, ring[1:] + ring[:1])))
+    return f'see,{len(ring)}\n' + ''.join(parts)
 
 
 def kernel(job: Job, ask: Ask) -> None:
-    job.timed, job.times = TIMES * 'kernel\n', TIMES
+    least = job.ring.index(min(job.ring))
+    corners = ''.join(record('corner', [corner]) for corner in job.ring[least:] + job.ring[:least])
+    repeat(job, 'kernel\n', ask, f'kernel,{job.size}\n' + corners if job.shape == 'convex' else None)
 
 
 def tree(job: Job, ask: Ask) -> None:
     job.queries = ends(job.shape, job.size, PATHS)[:1]
-    job.timed = records('tree', job.queries)
+    repeat(job, record('tree', job.queries), ask)
+
+
+def tree_again(job: Job, ask: Ask) -> None:
+    job.queries = move(job, job.ring, job.ring[0])
+    repeat(job, record('tree', job.queries), ask)
 
 
 def reach(job: Job, ask: Ask) -> None:
     source, *goals = ends(job.shape, job.size, PATHS)[:PATHS + 1]
     job.before += record('tree', [source])
-    job.timed = records('reach', goals)
+    job.ask_each(records('reach', goals))
     job.queries = [point for goal in goals for point in (source, goal)]
+
+
+def reach_far(job: Job, ask: Ask) -> None:
+    """Between the ends of the spiral."""
+    job.queries = move(job, job.ring, job.ring[job.size // 2], job.ring[0])
+    job.before += record('tree', job.queries[:1])
+    repeat(job, record('reach', job.queries[1:]), ask)
 
 
 def path(job: Job, ask: Ask) -> None:
     job.queries = ends(job.shape, job.size, PATHS)
-    job.timed = records('path', job.queries, 2)
+    job.ask_each(records('path', job.queries, 2))
+
+
+def path_far(job: Job, ask: Ask) -> None:
+    """Between the ends of the spiral."""
+    job.queries = move(job, job.ring, job.ring[job.size // 2], job.ring[0])
+    repeat(job, record('path', job.queries), ask)
 
 
 def check(job: Job, ask: Ask) -> None:
-    """Some paths as lists: each is taut."""
-    paths = ask(job.before + records('path', ends(job.shape, job.size, PATHS)[:2 * LISTS], 2))[1:]
-    job.timed = ''.join(f'check,{line.split(",", 2)[-1]}\n' for line in paths)
+    """Some paths of version 1 as lists, which have no touched vertices: each is taut."""
+    points = ends(job.shape, job.size, PATHS)[:2 * LISTS]
+    lists = [inputs.bends(inputs.numbers(line)) for line in ask(job.before + records('path', points, 2)).lines[2:]]
+    job.ask_each(''.join(record('check', points) for points in lists))
     job.known = job.accepted + LISTS * 'taut\n'
+
+
+def check_way(way: Callable[[int], Ring]) -> Fill:
+    """A way that is known to be taut."""
+    def fill(job: Job, ask: Ask) -> None:
+        repeat(job, record('check', way(job.size)), ask, 'taut\n')
+    return fill
 
 
 def hull(job: Job, ask: Ask) -> None:
     """Its sides are to be the paths between their ends."""
-    job.timed = record('hull', inputs.inner_places(job.ring, PEGS))
-    sides = [line.split(',')[4:] for line in ask(job.script) if line.startswith('side,')]
+    one = record('hull', pegs(job))
+    sides = [line.split(',')[4:] for line in ask(job.before + one).lines if line.startswith('side,')]
     job.queries = [(int(x), int(y)) for side in sides for x, y in (side[:2], side[-2:])]
+    repeat(job, one, ask)
 
 
 def closed_round(job: Job, ask: Ask) -> None:
     """It is to follow the sides of the hull."""
-    places = inputs.inner_places(job.ring, PEGS)
-    sides = (line.split(',') for line in ask(job.before + record('hull', places)) if line.startswith('side,'))
+    places = pegs(job)
+    sides = (line.split(',') for line in ask(job.before + record('hull', places)).lines if line.startswith('side,'))
     after = {int(i): int(j) for _, i, j, *_ in sides}
     way = [min(after)]
     while after[way[-1]] != way[0]:
         way.append(after[way[-1]])
-    job.timed = record('round', places)
-    job.known = job.accepted + ','.join(map(str, ['round', len(way), *way])) + '\n'
+    repeat(job, record('round', places), ask, ','.join(map(str, ['round', len(way), *way])) + '\n')
+
+
+def pegs(job: Job) -> Ring:
+    """Some points inside. Where the job is hostile, as many as a record takes, half at each end of the comb, and none on a path between
+    others."""
+    return inputs.corners_of_comb(job.size, MOST_PEGS) if job.hostile else inputs.inner_places(job.ring, PEGS)
 
 
 def guards(job: Job, ask: Ask) -> None:
-    job.timed, job.times = TIMES * 'guards\n', TIMES
+    repeat(job, 'guards\n', ask)
 
 
 def pair(job: Job, ask: Ask) -> None:
@@ -156,22 +274,28 @@ def pair(job: Job, ask: Ask) -> None:
     ends = [draw.randrange(job.size) for _ in range(2 * PATHS)]
     job.queries = [job.ring[i] for i in ends]
     job.before += 'pair,0,0\n'
-    job.timed = ''.join(f'pair,{i},{j}\n' for i, j in zip(ends[::2], ends[1::2]))
+    job.ask_each(''.join(f'pair,{i},{j}\n' for i, j in zip(ends[::2], ends[1::2])))
+
+
+def pair_far(job: Job, ask: Ask) -> None:
+    """Between the ends of the spiral."""
+    job.queries = [job.ring[0], job.ring[job.size // 2]]
+    job.before += 'pair,0,0\n'
+    repeat(job, f'pair,0,{job.size // 2}\n', ask)
 
 
 def sights(job: Job, ask: Ask) -> None:
-    """The table of all pairs is made."""
+    """The table of all pairs is made, so the record is asked once."""
     job.queries, job.timed = job.ring, 'sights\n'
 
 
-def known_way(way: Callable[[int], Ring], command: str) -> Fill:
-    """A way that is known to be the path, to find or to check."""
-    def fill(job: Job, ask: Ask) -> None:
-        points = way(job.size)
-        job.queries = [points[0], points[-1]]
-        job.timed = record('path', job.queries) if command == 'path' else record('check', points)
-        job.known = job.accepted + (answer(points) if command == 'path' else 'taut\n')
-    return fill
+def sights_again(job: Job, ask: Ask) -> None:
+    """All vertices of a convex ring see each other, and the table is there before."""
+    n = job.size
+    job.before += 'pair,0,0\n'
+    answer = f'sights,{n * (n - 1) // 2}\n' + ''.join(f'sight,{i},{j}\n' for i in range(n) for j in range(i + 1, n))
+    repeat(job, 'sights\n', ask)
+    job.known = f'{job.accepted}path,1,{job.ring[0][0]},{job.ring[0][1]}\n' + job.times * answer
 
 
 def far(job: Job, ask: Ask) -> Ring:
@@ -179,14 +303,14 @@ def far(job: Job, ask: Ask) -> Ring:
     if job.shape in WAYS:
         return WAYS[job.shape](job.size)
     points = ends(job.shape, job.size, PATHS)
-    counts = [line.count(',') for line in ask(job.before + records('path', points, 2))[2:]]
+    counts = [line.count(',') for line in ask(job.before + records('path', points, 2)).lines[2:]]
     return points[2 * counts.index(max(counts)):][:2] if counts else points[:2]
 
 
 def there_and_back(job: Job, ask: Ask) -> None:
     way = far(job, ask)
     job.queries = WALKS * [way[0], way[-1], way[-1], way[0]]
-    job.timed = records('path', job.queries, 2)
+    job.ask_each(records('path', job.queries, 2))
     if job.shape in WAYS:
         job.known = job.accepted + WALKS * (answer(way) + answer(way[::-1]))
 
@@ -195,33 +319,42 @@ def on_the_spot(job: Job, ask: Ask) -> None:
     """As many records with each end alone, so the ends are looked for as often and the answers are short."""
     begin, *_, end = far(job, ask)
     job.queries = WALKS * [begin, begin, end, end]
-    job.timed = records('path', job.queries, 2)
+    job.ask_each(records('path', job.queries, 2))
     job.known = job.accepted + WALKS * (answer([begin]) + answer([end]))
 
 
-COMMANDS: List[Tuple[int, str, str, Iterable[str], Fill]] = [
-    (1, 'polygon', '', MORE_SHAPES, polygon),
-    (1, 'accept', '', SHAPES, accept),
-    (1, 'inside', f'{PLACES:,} points', MORE_SHAPES, inside),
-    (1, 'see', f'{VIEWS} points', SHAPES, see),
-    (1, 'kernel', '', SHAPES, kernel),
-    (1, 'tree', '', SHAPES, tree),
-    (1, 'reach', f'{PATHS:,} points', SHAPES, reach),
-    (1, 'path', f'{PATHS:,} pairs', SHAPES, path),
-    (1, 'check', f'{LISTS} paths', SHAPES, check),
-    (1, 'hull', f'{PEGS} points', SHAPES, hull),
-    (1, 'round', f'{PEGS} points', SHAPES, closed_round),
-    (1, 'guards', '', SHAPES, guards),
-    (1, 'pair', f'{PATHS:,} pairs', SHAPES, pair),
-    (1, 'sights', '', SHAPES, sights),
-    (1, 'path', 'end to end', ['comb'], known_way(inputs.way_along_comb, 'path')),
-    (1, 'check', 'end to end', ['comb'], known_way(inputs.way_along_comb, 'check')),
-    (1, 'path', 'along the teeth', ['saw'], known_way(inputs.way_through_saw, 'path')),
-    (1, 'check', 'along the teeth', ['saw'], known_way(inputs.way_through_saw, 'check')),
-    (2, 'polygon', '', MORE_SHAPES, polygon),
-    (2, 'path', f'{PATHS:,} pairs', SHAPES, path),
-    (2, 'path', f'{WALKS} there and back', [*SHAPES, 'saw'], there_and_back),
-    (2, 'path', f'{WALKS} on the spot', [*SHAPES, 'saw'], on_the_spot),
+KINDS = [
+    Kind('polygon', [*SIX_SHAPES, 'skyline', 'saw'], polygon),
+    Kind('accept', SHAPES, accept, version=1),
+    Kind('inside', [*SIX_SHAPES, 'skyline', 'saw'], inside),
+    Kind('see', SIX_SHAPES, see),
+    Kind('kernel', SIX_SHAPES, kernel),
+    Kind('tree', SIX_SHAPES, tree),
+    Kind('reach', SIX_SHAPES, reach),
+    Kind('path', SIX_SHAPES, path),
+    Kind('path', SIX_SHAPES, path, 'version 1', version=1),
+    Kind('path', [*SIX_SHAPES, 'saw'], there_and_back, 'there and back'),
+    Kind('path', [*SIX_SHAPES, 'saw'], on_the_spot, 'on the spot'),
+    Kind('check', SIX_SHAPES, check),
+    Kind('hull', SIX_SHAPES, hull, f'{PEGS} points'),
+    Kind('round', SIX_SHAPES, closed_round, f'{PEGS} points'),
+    Kind('guards', SIX_SHAPES, guards),
+    Kind('pair', SIX_SHAPES, pair),
+    Kind('sights', SIX_SHAPES, sights),
+    Kind('polygon', ['zigzag'], refused, 'refused', hostile=True),
+    Kind('inside', ['maze'], inside_again, hostile=True),
+    Kind('see', ['convex'], see_all, hostile=True),
+    Kind('kernel', ['convex'], kernel, hostile=True),
+    Kind('tree', ['spiral'], tree_again, hostile=True),
+    Kind('reach', ['spiral'], reach_far, hostile=True),
+    Kind('path', ['spiral'], path_far, hostile=True),
+    Kind('check', ['saw'], check_way(inputs.way_through_saw), 'two points', hostile=True),
+    Kind('check', ['arch'], check_way(inputs.way_along_arch), 'each tip', hostile=True),
+    Kind('hull', ['comb'], hull, f'{MOST_PEGS} points', hostile=True),
+    Kind('round', ['comb'], closed_round, f'{MOST_PEGS} points', hostile=True),
+    Kind('guards', ['convex'], guards, hostile=True),
+    Kind('pair', ['spiral'], pair_far, hostile=True),
+    Kind('sights', ['convex'], sights_again, hostile=True),
 ]
 POLYGON = record('polygon', inputs.L)
 SCRIPTS = [

@@ -1,135 +1,161 @@
-"""The figures of a run: a line for each job, and tables in Markdown."""
+"""The figures of a run: a line for each job, two for a hostile one, and a table in Markdown."""
 from __future__ import annotations
 
 import math
-import statistics
 from dataclasses import dataclass, field
-from typing import Callable, Dict, Iterator, List, Optional, Tuple
+from typing import Dict, Iterator, List, Optional, Tuple
 
-from jobs import Job
+from jobs import Job, Ran
+from peers import PEERS
 
-HEAD = f'{"":40}{"size":>9}' + ''.join(f'{word:>8}' for word in ('least', 'middle', 'most', 'part', 'growth'))
+HEAD = f'{"":44}{"size":>10}{"records":>9}' + ''.join(f'{word:>10}' for word in ('least', 'most', 'clock', 'one', 'growth'))
+SCRIPT = 8_388_608  # bytes that a script may have
+UNITS = [('days', 86_400), ('hours', 3600), ('minutes', 60), ('s', 1)]
 
 
 @dataclass
 class Row:
-    """The times of a job, in seconds: of the whole script, of the script before what is timed, and of each peer, as pairs of
-    its part and its whole."""
+    """What the whole script of a job takes, what the script before that which is timed, and for each peer its part and its whole in
+    seconds of the processor."""
 
     job: Job
-    whole: List[float] = field(default_factory=list)
-    before: List[float] = field(default_factory=list)
+    whole: List[Ran] = field(default_factory=list)
+    before: List[Ran] = field(default_factory=list)
     peers: Dict[str, List[Tuple[float, float]]] = field(default_factory=dict)
 
     @property
-    def part(self) -> Optional[float]:
-        """The time of one of what is timed, where it is long enough to tell."""
-        part = min(self.whole) - min(self.before)
-        return part / self.job.times if part > max(0.0003, 0.03 * min(self.whole)) else None
+    def most(self) -> float:
+        return max(ran.processor for ran in self.whole)
 
     @property
-    def once(self) -> float:
-        """The time of the script with one of what is timed."""
-        return min(self.whole) if self.job.times == 1 else min(self.before) + (self.part or 0)
+    def least(self) -> float:
+        return min(ran.processor for ran in self.whole)
+
+    @property
+    def clock(self) -> float:
+        return min(ran.clock for ran in self.whole)
+
+    @property
+    def rest(self) -> float:
+        return min(ran.processor for ran in self.before)
+
+    @property
+    def one(self) -> Optional[float]:
+        """The time of one record of what is timed, where all are long enough to tell."""
+        part = self.least - self.rest
+        return part / self.job.times if part > max(0.0003, 0.03 * self.least) else None
+
+    @property
+    def bytes(self) -> int:
+        """How long its record is, or the mean of its records."""
+        return len(self.job.timed) // self.job.times
+
+    @property
+    def script(self) -> float:
+        """What a script of 8 MiB would take that has as many of the records as fit behind what is before them."""
+        return self.rest + (SCRIPT - len(self.job.before)) // self.bytes * (self.one or 0)
 
     def ratios(self) -> Iterator[Tuple[str, Optional[float], Optional[float]]]:
-        """For each peer, how many times as long the program took for the part, and for the whole where that does more."""
+        """For each peer, how many times as long the program took for one, and for the whole with one where that does more."""
+        asked = self.job.asked
         for peer, times in self.peers.items():
             part, whole = (min(time) for time in zip(*times))
-            yield peer, self.part and self.part / part, self.once / whole if self.job.before != self.job.head else None
+            all_of_it = (self.rest + asked * (self.one or 0)) / whole if self.job.before != self.job.head and whole else None
+            yield peer, self.one * asked / part if self.one and part else None, all_of_it
 
 
 def line(rows: List[Row]) -> str:
     """The last row as a line. It grew since the row before, where that is of the same job."""
     row, before = rows[-1], rows[-2] if len(rows) > 1 else None
-    cells = [milliseconds(time) for time in (min(row.whole), statistics.median(row.whole), max(row.whole), row.part)]
-    if before and before.job.name == row.job.name and before.part and row.part:
-        cells.append(f'{math.log(row.part / before.part) / math.log(row.job.size / before.job.size):.1f}')
-    else:
-        cells.append('-')
-    beside = [figure(part) + (f' ({figure(whole)})' if whole else '') + f' {peer}' for peer, part, whole in row.ratios()]
-    return f'{row.job.name:40}{row.job.size:>9,}' + ''.join(f'{cell:>8}' for cell in cells) + '   ' + ' | '.join(beside)
+    cells = [figure(1000 * time) for time in (row.least, row.most, row.clock)] + [microseconds(row.one), growth(before, row)]
+    beside = [figure(one) + (f' ({figure(whole)})' if whole else '') + f' {peer}' for peer, one, whole in row.ratios()]
+    told = f'{row.job.name:44}{row.job.size:>10,}{row.job.times:>9,}' + ''.join(f'{cell:>10}' for cell in cells) + '   '
+    told += ' | '.join(beside)
+    if row.job.hostile:
+        told += f'\n    a record of {row.bytes:,} bytes, an answer of {row.job.answer:,}; '
+        told += f'8 MiB of them, as computed: {duration(row.script)}'
+    return told.rstrip()
 
 
-def milliseconds(time: Optional[float]) -> str:
-    return figure(time and 1000 * time)
+def growth(before: Optional[Row], row: Row) -> str:
+    """How many times as long one takes as in a row of the same job at a lesser size."""
+    if before and before.job.name == row.job.name and before.one and row.one:
+        return figure(row.one / before.one)
+    return '-'
+
+
+def microseconds(time: Optional[float]) -> str:
+    return figure(time and 1_000_000 * time)
 
 
 def figure(value: Optional[float]) -> str:
     """A number with two digits that count."""
     if not value:
         return '-'
-    return f'{value:,.0f}' if value >= 9.95 else f'{value:.1f}' if value >= 0.995 else f'{value:.2f}'
+    if value < 9.95:
+        return f'{value:.1f}' if value >= 0.995 else f'{value:.2f}'
+    return f'{round(value, 1 - math.floor(math.log10(value))):,.0f}'
+
+
+def duration(seconds: float) -> str:
+    unit, length = next((it for it in UNITS if seconds >= 2 * it[1]), UNITS[-1])
+    return f'{figure(seconds / length)} {unit}'
 
 
 def markdown(rows: List[Row]) -> str:
-    """The tables of version 1, of long scripts and of version 2, as far as there are rows."""
-    rings = {version: [row for row in rows if row.job.ring and row.job.version == version] for version in (1, 2)}
-    scripts = [row for row in rows if not row.job.ring]
-    parts = of_rings(rings[1])
-    if scripts:
-        parts.append(by_size(scripts, 'bytes'))
-    if rings[2]:
-        parts += ['Version 2 of the script.', *of_rings(rings[2]), *factors(rings[2])]
-    return '\n\n'.join(parts)
+    """A line for each command, with the microseconds of one record at the two greatest sizes for each shape, the worst record, and what
+    8 MiB of it would take; below it, for each kind of peers, how many times as long as the best of them it took."""
+    shapes = list(dict.fromkeys(row.job.shape for row in rows if row.job.ring and not row.job.hostile))
+    lines: Dict[Tuple[str, str], Dict[str, List[str]]] = {}
+    for row in of_two_sizes(rows):
+        lines.setdefault((row.job.what, ''), {}).setdefault(row.job.shape, []).append(microseconds(row.one))
+        for kind, ratio in best_of(row):
+            lines.setdefault((row.job.what, kind), {}).setdefault(row.job.shape, []).append(figure(ratio))
+    texts = []
+    for (what, kind), cells in lines.items():
+        first = f'{what}, beside {kind}' if kind else f'`{what}`' if what.isalpha() else what
+        worst = worst_of(rows, what.split(',')[0]) if not kind and what == first_of(lines, what) else ['', '']
+        texts.append([first, *(', '.join(cells.get(shape, [])) for shape in shapes), *worst])
+    return '\n'.join([table(['What', *shapes, 'Worst record', '8 MiB of it'], texts), '', *scripts(rows)])
 
 
-def of_rings(rows: List[Row]) -> List[str]:
-    """The times of the scripts by their sizes, and the parts and the ratios by the shapes."""
-    at = 'at ' + ', '.join(f'{n:,}' for n in sizes_of(rows)) + ' vertices'
-    return [] if not rows else [
-        'Milliseconds for the whole script, the least and in brackets the middle:', by_size(rows, 'vertices'),
-        f'Milliseconds for the part, {at}:', by_shape(rows, lambda row: [('', milliseconds(row.part))]),
-        f'How many times as long as the peer for the part, {at}:',
-        by_shape(rows, lambda row: [(peer, figure(part)) for peer, part, _ in row.ratios()]),
-        f'How many times as long as the peer for the whole, {at}:',
-        by_shape(rows, lambda row: [(peer, figure(whole)) for peer, _, whole in row.ratios() if whole]),
-    ]
+def of_two_sizes(rows: List[Row]) -> List[Row]:
+    """The rows of rings and of no worst record, of each job those of the two greatest sizes."""
+    kept = [row for row in rows if row.job.ring and not row.job.hostile]
+    sizes = {row.job.name: sorted(it.job.size for it in kept if it.job.name == row.job.name)[-2:] for row in kept}
+    return [row for row in kept if row.job.size in sizes[row.job.name]]
 
 
-def factors(rows: List[Row]) -> List[str]:
-    """How many times as long each takes at the greatest size as at the least."""
-    sizes = sizes_of(rows)
-    if len(sizes) < 2:
-        return []
-    least, most = sizes[0], sizes[-1]
-    firsts = {row.job.name: row for row in rows if row.job.size == least}
-    lasts = [row for row in rows if row.job.size == most and row.job.name in firsts]
-
-    def factor(row: Row) -> List[Tuple[str, str]]:
-        first = firsts[row.job.name]
-        part = row.part and first.part and row.part / first.part
-        return [('', f'{figure(part)} ({figure(min(row.whole) / min(first.whole))})')]
-
-    return [] if not lasts else [f'How many times as long at {most:,} vertices as at {least:,}, the part and in brackets the whole:',
-                      by_shape(lasts, factor)]
+def first_of(lines: Dict[Tuple[str, str], Dict[str, List[str]]], what: str) -> str:
+    """The first line of the command."""
+    return next(it for it, _ in lines if it.split(',')[0] == what.split(',')[0])
 
 
-def sizes_of(rows: List[Row]) -> List[int]:
-    return sorted({row.job.size for row in rows})
+def best_of(row: Row) -> Iterator[Tuple[str, Optional[float]]]:
+    """For each kind of peers their names, and how many times as long as the best of them the program took."""
+    kinds: Dict[str, List[str]] = {}
+    for peer in PEERS.get(row.job.command, []):
+        if peer.part:
+            kinds.setdefault(peer.kind, []).append(peer.name)
+    ratios = {peer: ratio for peer, ratio, _ in row.ratios()}
+    for names in kinds.values():
+        found = [ratio for name in names if (ratio := ratios.get(name))]
+        yield (f'the best of {", ".join(name.split(",")[0] for name in names)}' if len(names) > 1 else names[0]), max(found, default=None)
 
 
-def by_size(rows: List[Row], unit: str) -> str:
-    sizes = sizes_of(rows)
-    cells: Dict[str, Dict[int, str]] = {}
-    for row in rows:
-        text = f'{milliseconds(min(row.whole))} ({milliseconds(statistics.median(row.whole))})'
-        cells.setdefault(row.job.name, {})[row.job.size] = text
-    head = ['Script', *(f'{n:,}' + (f' {unit}' if n == sizes[0] else '') for n in sizes)]
-    return table(head, [[name, *(by.get(n, '') for n in sizes)] for name, by in cells.items()])
+def worst_of(rows: List[Row], command: str) -> List[str]:
+    """The worst record of a command at the greatest size: its ring, its time, by how much that grew, and what 8 MiB of it would take."""
+    hostile = [(before, row) for before, row in zip([None, *rows], rows) if row.job.hostile and row.job.command == command]
+    if not hostile:
+        return ['', '']
+    before, row = max(hostile, key=lambda pair: pair[1].script)
+    return [f'{row.job.shape} {row.job.size:,}: {microseconds(row.one)}, {growth(before, row)} times', duration(row.script)]
 
 
-def by_shape(rows: List[Row], told: Callable[[Row], List[Tuple[str, str]]]) -> str:
-    """What is told of each row, pairs of a peer and a text: a line for each command and peer, a column for each shape, and in
-    each cell the sizes in turn."""
-    shapes = list(dict.fromkeys(row.job.shape for row in rows))
-    cells: Dict[Tuple[str, str], Dict[str, List[str]]] = {}
-    for row in rows:
-        for peer, text in told(row):
-            cells.setdefault((row.job.what, peer), {}).setdefault(row.job.shape, []).append(text)
-    has_peers = any(peer for _, peer in cells)
-    lines = [[what] + ([peer] if has_peers else []) + [', '.join(by.get(shape, [])) for shape in shapes] for (what, peer), by in cells.items()]
-    return table(['What'] + (['Beside'] if has_peers else []) + shapes, lines)
+def scripts(rows: List[Row]) -> List[str]:
+    """The megabytes that are read and answered in a second of the longest scripts."""
+    longest = {row.job.shape: row for row in rows if not row.job.ring}
+    return [f'Script of {name}: {figure(len(row.job.timed) / 1e6 / (row.least - row.rest))} MB/s' for name, row in longest.items()]
 
 
 def table(head: List[str], lines: List[List[str]]) -> str:

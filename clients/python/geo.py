@@ -20,16 +20,19 @@ from __future__ import annotations
 
 import ctypes
 import enum
-import io
+import importlib
 import numbers
 import operator
 import os
 import struct
+import sys
 import threading
 import weakref
+from array import array
 from collections.abc import Iterable, Iterator, Mapping
 from fractions import Fraction
-from typing import Any, Dict, List, NamedTuple, Optional, Protocol, Sequence, SupportsIndex, Tuple, Type, Union
+from itertools import accumulate, islice
+from typing import Any, Dict, List, Literal, NamedTuple, Optional, Protocol, Sequence, SupportsIndex, Tuple, Type, Union, overload
 
 
 class Place(enum.Enum):
@@ -89,6 +92,17 @@ class Side(NamedTuple):
     path: Path
 
 
+class Array(Protocol):
+    """An array of NumPy."""
+
+    @property
+    def shape(self) -> Tuple[int, ...]: ...
+    @property
+    def dtype(self) -> Any: ...
+    def __getitem__(self, index: Any) -> Any: ...
+    def tolist(self) -> Any: ...
+
+
 class HasGeoInterface(Protocol):
     """A shape of another library, which says what it is in GeoJSON."""
 
@@ -99,20 +113,24 @@ class HasGeoInterface(Protocol):
 Coordinate = Union[SupportsIndex, float]
 AnyPoint = Union[Sequence[Coordinate], Mapping[str, Any], HasGeoInterface]
 AnyPoints = Union[Iterable[Sequence[Coordinate]], Mapping[str, Any], HasGeoInterface]
+AnyPairs = Iterable[Sequence[AnyPoint]]
 
 
 class Refusal(ValueError):
-    """A question that can't be answered. `word` and `places` are those of the answer `bad,word,places`."""
+    """A question that can't be answered. `word` and `places` are those of the answer `bad,word,places`. Of many questions in one call
+    it is the first that can't be, and `question` is its number, counted from 0."""
 
     word: str
     cause: str
+    question: Optional[int] = None
 
     @property
     def places(self) -> Tuple[int, ...]:
         return self.args
 
     def __str__(self) -> str:
-        return ','.join(['bad', self.word, *map(str, self.places)]) + ': ' + self.cause
+        which = '' if self.question is None else f', of question {self.question}'
+        return ','.join(['bad', self.word, *map(str, self.places)]) + ': ' + self.cause + which
 
 
 class Word(Refusal):
@@ -240,11 +258,11 @@ class Session:
     def __init__(self, ring: Optional[AnyPoints] = None, *, wide: bool = False):
         self._handle = ctypes.byref(_Handle())
         self._thread = threading.current_thread()
-        self._points = (ctypes.c_int64 * 128)()
+        self._counts = _Counts()
         self._free = weakref.finalize(self, _free, self._handle, self._thread)
         self._free.atexit = False  # all is given back then
         if wide:
-            self._ask('geo', [2])
+            self._ask('geo')
         if ring is not None:
             self.polygon(ring)
 
@@ -262,63 +280,89 @@ class Session:
 
     def polygon(self, ring: AnyPoints) -> int:
         """Takes a polygon in the place of the one before, and gives how many vertices it has."""
-        return int(self._ask('polygon', _ring(ring)).split(',')[1])
+        return self._ask('polygon', _ring(ring))[0]
 
     def inside(self, point: AnyPoint) -> Place:
         """Where a point lies."""
-        x, y = _point(point)
-        place = ctypes.c_uint8()
-        _check(_library.geo_session_inside(self._open(), x, y, place))
-        return _PLACES[place.value]
+        return _PLACES[self._ask('inside', _point(point))[0]]
+
+    @overload
+    def places(self, points: Array) -> Array: ...
+    @overload
+    def places(self, points: AnyPoints) -> List[Place]: ...
+    def places(self, points: Any) -> Any:
+        """Where each of the points lies. For an array of NumPy this is one too, of the values of the places."""
+        asked = _points(points)
+        found = bytearray(len(asked) // 2)
+        _library.geo_session_places(self._open(), _at(asked), len(found), _at(found), len(found))
+        _check_each(found, answers=b'\0\1\2')
+        return _numpy().frombuffer(found, 'u1') if _is_array(points) else [_PLACES[place] for place in found]
 
     def path(self, start: AnyPoint, goal: AnyPoint) -> Path:
         """The path between two points of the polygon, which goes as a pulled string does: both, and its bends between them."""
-        return self._chain(_library.geo_session_path, *_point(start), *_point(goal, 3))
+        return self._path('path', _point(start) + _point(goal, 3))
+
+    @overload
+    def paths(self, pairs: AnyPairs, *, arrays: Literal[False] = False) -> List[Path]: ...
+    @overload
+    def paths(self, pairs: AnyPairs, *, arrays: Literal[True]) -> Tuple[Array, Array]: ...
+    def paths(self, pairs: AnyPairs, *, arrays: bool = False) -> Any:
+        """The path between the points of each pair. As arrays of NumPy these are the points of all, one path after another, and the
+        offsets, where path k is points[offsets[k]:offsets[k + 1]]."""
+        found, lengths = self._all_paths(_ends(pairs))
+        if arrays:
+            return _numpy().frombuffer(found, 'i8').reshape(-1, 2), _numpy().array(array('q', accumulate(lengths, initial=0)))
+        points = _unpacked('qq', found)
+        return [list(islice(points, length)) for length in lengths]
 
     def tree(self, source: AnyPoint) -> List[Union[int, Before]]:
         """For each vertex what comes just before it on the path from the source: the number of a vertex, the source itself, or nothing
         where the vertex is at the source. The source is kept for `reach`."""
-        return [_before(j) for _, j in self._rows('tree', _point(source))]
+        return [_BEFORE.get(j, j) for j in self._ask('tree', _point(source))]
 
     def reach(self, goal: AnyPoint) -> Path:
         """The path from the source of the last tree."""
-        return self._chain(_library.geo_session_reach, *_point(goal))
+        return self._path('reach', _point(goal))
 
     def check(self, points: AnyPoints) -> Verdict:
         """Whether the points are a taut chain, so the path between the first and the last of them."""
-        verdict = self._ask('check', _points(points)).rstrip().split(',')
-        return Verdict() if verdict == ['taut'] else Verdict(Rule(verdict[1]), int(verdict[2]))
+        rule, *place = self._ask('check', _points(points))
+        return Verdict(_RULES[rule - 1], *place) if rule else Verdict()
 
     def see(self, point: AnyPoint) -> Iterator[Part]:
         """What a point of the polygon sees of the edges: a part for each edge of which it sees something, in their order."""
-        rows = self._rows('see', _point(point))
-        return (Part(int(i), (Fraction(a), Fraction(b)), (Fraction(c), Fraction(d))) for i, a, b, c, d in rows)
+        edges = self._ask('see', _point(point))
+        ends = self._exact_points()
+        return map(Part, edges, ends, ends)
 
     def kernel(self) -> List[ExactPoint]:
         """The corners of the kernel, the set of points that see the whole polygon, counterclockwise from the least one."""
-        return [(Fraction(x), Fraction(y)) for x, y in self._rows('kernel')]
+        self._ask('kernel')
+        return list(self._exact_points())
 
     def hull(self, points: AnyPoints) -> Iterator[Side]:
         """The sides of the relative hull of up to 64 points, sorted by their starts. A point that is given again has its first
         number."""
-        rows = self._rows('hull', _points(points))
-        return (Side(int(i), int(j), _pairs(list(map(int, path)))) for i, j, _, *path in rows)
+        told = iter(self._ask('hull', _points(points)))
+        found = self._points()
+        return (Side(start, goal, list(islice(found, length))) for start, goal, length in zip(told, told, told))
 
     def round(self, points: AnyPoints) -> List[int]:
         """The numbers of the points that start a side of the relative hull, in the order in which the sides follow each other."""
-        return self._numbers('round', _points(points))
+        return self._ask('round', _points(points)).tolist()
 
     def guards(self) -> List[int]:
         """The numbers of at most a third of the vertices, which together see the whole polygon."""
-        return self._numbers('guards')
+        return self._ask('guards').tolist()
 
     def pair(self, i: SupportsIndex, j: SupportsIndex) -> Path:
         """The path between two vertices, by their numbers, in a polygon of at most 1,024."""
-        return _pairs(self._numbers('pair', map(_near, map(operator.index, (i, j)))))
+        return self._path('pair', map(_near, map(operator.index, (i, j))))
 
     def sights(self) -> Iterator[Tuple[int, int]]:
         """The pairs of vertices that see each other, the lesser number first, in a polygon of at most 1,024."""
-        return ((int(i), int(j)) for i, j in self._rows('sights'))
+        told = iter(self._ask('sights'))
+        return zip(told, told)
 
     def answer(self, records: Union[str, bytes]) -> bytes:
         """The text of the answers to some records, as the program `geo` would answer them next. A refusal is a line of it.
@@ -344,35 +388,51 @@ class Session:
             raise ValueError('the session is closed')
         return self._handle
 
-    def _chain(self, ask: Any, *coordinates: int) -> Path:
-        """The path that a call of the library answers with. Where it has more points than there is room for, it is asked again."""
-        handle = self._open()
-        needed = ctypes.c_size_t()
-        while True:
-            room = len(self._points) // 2
-            _check(ask(handle, *coordinates, self._points, room, needed))
-            if needed.value <= room:
-                found: Iterator[Any] = struct.iter_unpack('qq', memoryview(self._points).cast('B')[:16 * needed.value])
-                return list(found)
-            self._points = (ctypes.c_int64 * (2 * needed.value))()
+    def _ask(self, word: str, fields: Iterable[int] = ()) -> array[int]:
+        """Asks a record in numbers, and gives the numbers of the reply. The session keeps its points and fractions."""
+        asked = array('q', fields)
+        status = _library.geo_session_ask(self._open(), _WORDS[word], _at(asked), len(asked), self._counts)
+        told = array('I', bytes(4 * self._counts.numbers))
+        if told:
+            _library.geo_session_numbers(self._handle, _at(told), len(told))
+        _check(status, places=told)
+        return told
 
-    def _ask(self, word: str, fields: Iterable[int] = ()) -> str:
-        """The text of the answer to a record."""
-        text = self.answer(','.join([word, *map(str, fields)]))
-        refused = refusal(text)
-        if refused:
-            raise refused
-        return text.decode('ascii')
+    def _path(self, word: str, fields: Iterable[int]) -> Path:
+        """The path that answers a record."""
+        self._ask(word, fields)
+        return list(self._points())
 
-    def _numbers(self, word: str, fields: Iterable[int] = ()) -> List[int]:
-        """The numbers of an answer of one line, behind their count."""
-        return list(map(int, self._ask(word, fields).split(',')[2:]))
+    def _all_paths(self, ends: array[int]) -> Tuple[bytearray, array[int]]:
+        """The points of the paths between ends of four numbers each, one path after another, and how many each has. Where the room
+        for them is full, the library is asked again for those that are left."""
+        handle, count, done = self._open(), len(ends) // 4, ctypes.c_size_t()
+        statuses, lengths, room, found = bytearray(count), array('Q', bytes(8 * count)), bytearray(16 * _ROOM), bytearray()
+        first = 0
+        while first < count:
+            left = count - first
+            _check(_library.geo_session_paths(handle, _at(ends, 32 * first), 2 * left, _at(room), _ROOM, _at(statuses, first), left,
+                                              _at(lengths, 8 * first), left, done))
+            last = first + done.value
+            _check_each(statuses[first:last], first)
+            found += memoryview(room)[:16 * sum(lengths[first:last])]
+            first = last
+        return found, lengths
 
-    def _rows(self, word: str, fields: Iterable[int] = ()) -> Iterator[List[str]]:
-        """The lines of an answer behind the first, each as its fields. They are taken apart one by one."""
-        lines = io.StringIO(self._ask(word, fields))
-        next(lines)
-        return (line.rstrip().split(',')[1:] for line in lines)
+    def _points(self) -> Iterator[Point]:
+        """The points of the last reply."""
+        count = self._counts.points
+        held = bytearray(16 * count)
+        _library.geo_session_points(self._handle, _at(held), count)
+        return _unpacked('qq', held)
+
+    def _exact_points(self) -> Iterator[ExactPoint]:
+        """The fractions of the last reply, each two of them as a point."""
+        count = self._counts.fractions
+        held = bytearray(24 * count)
+        _library.geo_session_fractions(self._handle, _at(held), count)
+        fractions = (Fraction((high << 64) + low, denominator) for high, low, denominator in _unpacked('qQQ', held))
+        return zip(fractions, fractions)
 
 
 def answer_script(script: Union[str, bytes]) -> bytes:
@@ -402,12 +462,8 @@ def _bytes(text: Union[str, bytes]) -> bytes:
     return text.encode() if isinstance(text, str) else text
 
 
-def _before(field: str) -> Union[int, Before]:
-    return int(field) if field.isdigit() else Before(field)
-
-
-def _pairs(numbers: List[int]) -> Path:
-    return list(zip(numbers[::2], numbers[1::2]))
+def _unpacked(layout: str, held: bytearray) -> Iterator[Any]:
+    return struct.iter_unpack(layout, held)
 
 
 def _point(given: AnyPoint, place: int = 1) -> Point:
@@ -417,13 +473,19 @@ def _point(given: AnyPoint, place: int = 1) -> Point:
     return _whole(x, place), _whole(y, place + 1)
 
 
-def _points(given: AnyPoints) -> List[int]:
+def _points(given: AnyPoints) -> array[int]:
     """The numbers of a list of points."""
     shape = _shape(given, 'LineString', 'MultiPoint')
     return _flat(_plane(shape['coordinates']) if shape else given)
 
 
-def _ring(given: AnyPoints) -> List[int]:
+def _ends(pairs: AnyPairs) -> array[int]:
+    """The numbers of pairs of points."""
+    return _whole_array(pairs, 2, 2) or array('q', (
+        number for k, (start, goal) in enumerate(pairs) for number in _point(start, 4 * k + 1) + _point(goal, 4 * k + 3)))
+
+
+def _ring(given: AnyPoints) -> array[int]:
     """The numbers of a ring, of a shape without those of the closing point."""
     shape = _shape(given, 'Polygon', 'LinearRing')
     if not shape:
@@ -431,13 +493,39 @@ def _ring(given: AnyPoints) -> List[int]:
     rings = [shape['coordinates']] if shape['type'] == 'LinearRing' else shape['coordinates']
     if len(rings) > 1:
         raise Holes(f'the polygon has {len(rings) - 1} holes, and one of geo has one ring')
-    found = [number for ring in rings for number in _flat(_plane(ring))]
+    found = _flat(position for ring in rings for position in _plane(ring))
     return found[:-2] if found[:2] == found[-2:] else found
 
 
-def _flat(points: Any) -> List[int]:
+def _flat(points: Any) -> array[int]:
     """The numbers of points one after another."""
-    return [number for k, (x, y) in enumerate(points) for number in (_whole(x, 2 * k + 1), _whole(y, 2 * k + 2))]
+    return _whole_array(points, 2) or array('q', (
+        number for k, (x, y) in enumerate(points) for number in (_whole(x, 2 * k + 1), _whole(y, 2 * k + 2))))
+
+
+def _numpy() -> Any:
+    return importlib.import_module('numpy')
+
+
+def _is_array(given: Any) -> bool:
+    """Whether this is an array of NumPy. Where nobody has imported that, nothing is one."""
+    return isinstance(given, getattr(sys.modules.get('numpy'), 'ndarray', ()))
+
+
+def _whole_array(given: Any, *row: int) -> Optional[array[int]]:
+    """The numbers of an array of NumPy as `_whole` takes each, where it has rows of this shape."""
+    if not _is_array(given) or given.shape[1:] != row or given.dtype.kind not in 'iuf':
+        return None
+    found = given.ravel()
+    if found.dtype.kind == 'f':
+        is_whole = _numpy().isfinite(found) & (_numpy().floor(found) == found)
+        if not is_whole.all():
+            at = int(is_whole.argmin())
+            raise NotWhole(found[at], at + 1)
+        found = found.astype('f8').clip(-_FAR, _FAR)
+    elif found.dtype.kind == 'u':
+        found = found.astype('u8').clip(None, _FAR)
+    return array('q', found.astype('i8').tobytes())
 
 
 def _plane(positions: Iterable[Sequence[Coordinate]]) -> Iterator[Sequence[Coordinate]]:
@@ -475,21 +563,40 @@ def _near(number: int) -> int:
     return number if -_FAR < number < _FAR else _FAR if number > 0 else -_FAR
 
 
-def _check(status: int, answered: bytes = b'') -> None:
+def _check(status: int, answered: bytes = b'', places: Iterable[int] = (), question: Optional[int] = None) -> None:
     """Raises what a status says that isn't 0."""
     if status == 3:
         raise TooLong('the text has more than 8,388,608 bytes')
     if status == 5:
         raise GeoMemoryError(answered)
     if status:
-        kind, places = _STATUSES[status]
-        raise kind(*places)
+        refused = _STATUSES[status if status < 20 else status - status % 10](*places)
+        refused.question = question
+        raise refused
+
+
+def _check_each(statuses: bytes, first: int = 0, answers: bytes = b'\0') -> None:
+    """Raises what the first status says that is no answer. They are those of the questions from this one on."""
+    rest = statuses.lstrip(answers)
+    if rest:
+        _check(rest[0], places=[rest[0] % 10] if rest[0] > 20 else [], question=first + len(statuses) - len(rest))
 
 
 class _Handle(ctypes.Structure):
     """A session of the library's. Zero is one of which nothing was asked yet."""
 
     _fields_ = [('at', ctypes.c_void_p)]
+
+
+class _Counts(ctypes.Structure):
+    """How much a reply holds."""
+
+    _fields_ = [('numbers', ctypes.c_size_t), ('points', ctypes.c_size_t), ('fractions', ctypes.c_size_t)]
+
+
+def _at(held: Any, offset: int = 0) -> Any:
+    """Where an array or a bytearray stands in memory. For an empty one this is a place too, as the library wants it."""
+    return _START.from_buffer(held or _SOME, offset)
 
 
 def _free(handle: Any, thread: threading.Thread) -> None:
@@ -502,26 +609,36 @@ def _load() -> ctypes.CDLL:
     """The library, with the types of its calls."""
     beside = os.path.join(os.path.dirname(os.path.abspath(__file__)), 'libgeo_c.so')
     library = ctypes.CDLL(os.environ.get('GEO_LIBRARY', beside))
-    handle, text, size, number = ctypes.POINTER(_Handle), ctypes.c_char_p, ctypes.c_size_t, ctypes.c_int64
-    needed, points = ctypes.POINTER(ctypes.c_size_t), ctypes.POINTER(ctypes.c_int64)
-    library.geo_answer_script.argtypes = [text, size, text, size, needed]
-    library.geo_session_answer.argtypes = [handle, text, size, needed]
-    library.geo_session_text.argtypes = [handle, text, size]
-    library.geo_session_inside.argtypes = [handle, number, number, ctypes.POINTER(ctypes.c_uint8)]
-    library.geo_session_path.argtypes = [handle, number, number, number, number, points, size, needed]
-    library.geo_session_reach.argtypes = [handle, number, number, points, size, needed]
-    library.geo_session_clear.argtypes = [handle]
-    for name in 'geo_answer_script', 'geo_session_answer', 'geo_session_inside', 'geo_session_path', 'geo_session_reach':
-        getattr(library, name).restype = ctypes.c_uint8
-    library.geo_session_text.restype = library.geo_session_clear.restype = None
+    handle, text, size, place = ctypes.POINTER(_Handle), ctypes.c_char_p, ctypes.c_size_t, ctypes.c_void_p
+    needed, status = ctypes.POINTER(ctypes.c_size_t), ctypes.c_uint8
+    calls: Dict[str, Tuple[Any, List[Any]]] = {
+        'geo_answer_script': (status, [text, size, text, size, needed]),
+        'geo_session_answer': (status, [handle, text, size, needed]),
+        'geo_session_text': (None, [handle, text, size]),
+        'geo_session_ask': (status, [handle, status, place, size, ctypes.POINTER(_Counts)]),
+        'geo_session_numbers': (None, [handle, place, size]),
+        'geo_session_points': (None, [handle, place, size]),
+        'geo_session_fractions': (None, [handle, place, size]),
+        'geo_session_places': (None, [handle, place, size, place, size]),
+        'geo_session_paths': (status, [handle, place, size, place, size, place, size, place, size, needed]),
+        'geo_session_clear': (None, [handle]),
+    }
+    for name, (result, arguments) in calls.items():
+        call = getattr(library, name)
+        call.restype, call.argtypes = result, arguments
     return library
 
 
 _FAR = 1 << 62
+_ROOM = 16_386  # the most points of a path
+_START, _SOME = ctypes.c_char * 0, array('q', [0])
 _PLACES = tuple(Place)
+_RULES = tuple(Rule)
+_BEFORE: Dict[int, Before] = {0xffff_fffe: Before.SOURCE, 0xffff_ffff: Before.NOTHING}
+_WORDS = {word: k for k, word in enumerate(
+    ('polygon', 'inside', 'check', 'path', 'tree', 'reach', 'see', 'kernel', 'hull', 'geo', 'round', 'guards', 'pair', 'sights'))}
 _REFUSALS: Dict[str, Type[Refusal]] = {kind.word: kind for kind in Refusal.__subclasses__()}
-_STATUSES: Dict[int, Tuple[Type[Refusal], Tuple[int, ...]]] = {
-    16: (NoPolygon, ()), 17: (NoTree, ()), 21: (Outside, (1,)), 22: (Outside, (2,)),
-    31: (Range, (1,)), 32: (Range, (2,)), 33: (Range, (3,)), 34: (Range, (4,)),
+_STATUSES: Dict[int, Type[Refusal]] = {
+    10: Word, 11: Fields, 12: Few, 13: Many, 14: Clash, 16: NoPolygon, 17: NoTree, 18: Large, 20: Outside, 30: Range, 40: Index,
 }
 _library = _load()

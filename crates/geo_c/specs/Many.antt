@@ -19,7 +19,7 @@ use Rattle.geo_c.specs.declared.status.TheConstants.{OK}
 
 -- where a point lies in the polygon of a talk, or the refusal
 abbrev pub IsPlaceFound : Talk → Point → Result Position Bad → Type 0
-IsPlaceFound talk p found = IsAskedWithin talk.state.two (p.x ∷ p.y ∷ []) (IsFound talk.state (command.Inside p) reply.Place) found
+IsPlaceFound talk p found = IsAskedWithin talk.state.version (p.x ∷ p.y ∷ []) (IsFound talk.state (command.Inside p) reply.Place) found
 
 -- the number of the place, or the status of the refusal
 abbrev pub place_number : Result Position Bad → ℕ
@@ -43,7 +43,7 @@ pairs_of (s ∷ t ∷ rest) = (s, t) ∷ pairs_of rest
 -- what is told of the path between the points of a pair, or the refusal
 abbrev pub IsPathFound : Talk → Point × Point → Result (Vec Point Global) Bad → Type 0
 IsPathFound talk ends found =
-    IsAskedWithin talk.state.two (ends.0.x ∷ ends.0.y ∷ ends.1.x ∷ ends.1.y ∷ []) (IsFound talk.state (command.Path ends.0 ends.1) path_of) found
+    IsAskedWithin talk.state.version (ends.0.x ∷ ends.0.y ∷ ends.1.x ∷ ends.1.y ∷ []) (IsFound talk.state (command.Path ends.0 ends.1) path_of) found
 
 abbrev pub path_status : Result (Vec Point Global) Bad → ℕ
 path_status (Ok points) = OK

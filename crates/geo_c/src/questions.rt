@@ -178,7 +178,7 @@ impl GeoSession {
         requires name { blank.name ≡ L.name }
         requires parts { blank.parts ≡ L.parts }
         requires countable { 0 < blank.parts }
-        ensures answer { IsAskedWithin (talk_of self.old.held).state.two (x ∷ y ∷ [])
+        ensures answer { IsAskedWithin (talk_of self.old.held).state.version (x ∷ y ∷ [])
             (IsFound (talk_of self.old.held).state (Command.Inside (record { x = x; y = y })) Reply.Place) result }
         ensures same { self.new.held ≡ self.old.held }
     {
@@ -194,7 +194,7 @@ impl GeoSession {
         y: i64,
         steps: &mut Steps<L>,
     ) -> Result<Position, Bad>
-        ensures answer { IsAskedWithin (talk_of self.old.held).state.two (x ∷ y ∷ [])
+        ensures answer { IsAskedWithin (talk_of self.old.held).state.version (x ∷ y ∷ [])
             (IsFound (talk_of self.old.held).state (Command.Inside (record { x = x; y = y })) Reply.Place) result }
         ensures same { self.new.held ≡ self.old.held }
     {
@@ -214,7 +214,7 @@ impl GeoSession {
         to: (i64, i64),
         steps: &mut Steps<L>,
     ) -> Result<Result<Vec<Pt>, Bad>, Memory>
-        ensures answer { IfOk result (IsAskedWithin (talk_of self.old.held).state.two (from.0 ∷ from.1 ∷ to.0 ∷ to.1 ∷ [])
+        ensures answer { IfOk result (IsAskedWithin (talk_of self.old.held).state.version (from.0 ∷ from.1 ∷ to.0 ∷ to.1 ∷ [])
             (IsFound (talk_of self.old.held).state (Command.Path (record { x = from.0; y = from.1 }) (record { x = to.0; y = to.1 })) path_of)) }
         ensures few { IfOk result (λ found. IfOk found (λ points. length points.items ≤ MAX_CORNERS + 2)) }
         ensures same { self.new.held ≡ self.old.held }
@@ -235,7 +235,7 @@ impl GeoSession {
         y: i64,
         steps: &mut Steps<L>,
     ) -> Result<Result<Vec<Pt>, Bad>, Memory>
-        ensures answer { IfOk result (IsAskedWithin (talk_of self.old.held).state.two (x ∷ y ∷ [])
+        ensures answer { IfOk result (IsAskedWithin (talk_of self.old.held).state.version (x ∷ y ∷ [])
             (IsFound (talk_of self.old.held).state (Command.Reach (record { x = x; y = y })) path_of)) }
         ensures few { IfOk result (λ found. IfOk found (λ points. length points.items ≤ MAX_CORNERS + 3)) }
         ensures same { self.new.held ≡ self.old.held }

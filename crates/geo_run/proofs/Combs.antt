@@ -9,6 +9,7 @@ use Rattle.rings.specs.Inside.{IsIn}
 use Rattle.rings.specs.Simple.{IsSimple}
 use Rattle.geo_text.specs.declared.command.Bad.{Bad}
 use Rattle.geo_text.specs.declared.command.Command.TheVariants as command
+use Rattle.geo_text.specs.declared.version.Version.TheVariants as version
 use Rattle.geo_reply.specs.declared.reply.Reply.TheVariants as reply
 use Rattle.geo_session.specs.Answer.{AppendsAnswer}
 use Rattle.geo_session.specs.Path.{IsPathReply, path_of}
@@ -27,7 +28,7 @@ held_once_answered ring before after out out' simple told = elim told.answer.is_
 
 -- between two points of the polygon that is held the path is answered, and none is refused
 module _ (state : State) (ring : List Point) (s t s' t' : Point) (found : Result (Vec Point Global) Bad)
-    (answer : IsFound (record { two = false; kept = state.kept }) (command.Path s' t') path_of found)
+    (answer : IsFound (record { version = version.One; kept = state.kept }) (command.Path s' t') path_of found)
     (held : state.kept ≡ Some (record { ring = ring; source = None })) (from : s' ≡ s) (to : t' ≡ t) where
   pub answers_path : (points : Vec Point Global) → found ≡ Ok points → IsPath ring s t points.items
   answers_path points is = by_reply (rw (held, from, to, is) at answer)

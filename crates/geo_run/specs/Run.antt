@@ -3,7 +3,7 @@
 use Rattle.std.specs.Io.KnownBytes.{Appends, Consumes, IsAtEnd}
 use Rattle.std.specs.Prelude.{◌≡◌, ℕ, ◌≤◌, List, [], ◌∷◌, ◌++◌, length, take, Option}
 use Rattle.plane.specs.declared.limits.TheConstants.{MAX_SCRIPT}
-use Rattle.geo_text.specs.Reading.{is_two, reading_of}
+use Rattle.geo_text.specs.Reading.{reading_of, script_version}
 use Rattle.geo_text.specs.Records.{records_of}
 use Rattle.geo_session.specs.Answer.{IsReadingAnswer}
 use Rattle.geo_session.specs.State.{State}
@@ -42,7 +42,7 @@ pub record WritesFirstAndFront (bytes : List ℕ) (taken taken' : Option (List �
   pub defined : AreFirstAnswers bytes first output state
   pub answer : List ℕ
   pub after : State
-  pub answered : IsReadingAnswer state (reading_of (is_two (records_of bytes)) (length first) next) answer after
+  pub answered : IsReadingAnswer state (reading_of (script_version (records_of bytes)) (length first) next) answer after
   pub count : ℕ
   pub written : Appends taken taken' (output ++ take count answer)
 

@@ -13,6 +13,8 @@ use Rattle.geo_text.specs.declared.command.Bad.TheVariants as bad
 use Rattle.geo_text.specs.declared.command.Command.{Command}
 use Rattle.geo_text.specs.declared.command.Command.TheVariants as command
 use Rattle.geo_text.specs.declared.limits.Limits.{Limits}
+use Rattle.geo_text.specs.declared.version.Version.{Version}
+use Rattle.geo_text.specs.declared.version.Version.TheVariants as version
 use Rattle.geo_script.specs.InNumbers.{bare_in, command_of_word, each_two, made_of, pair_in, path_in, point_in, points_fault, two_in}
 use Rattle.geo_script.specs.declared.word.Word.{Word}
 use Rattle.geo_script.specs.declared.word.Word.TheVariants as word
@@ -186,14 +188,14 @@ word_is_well_sized limits h known word.Pair numbers = pair_is_well_sized limits.
 word_is_well_sized limits h known word.Sights numbers = bare_is_well_sized command.Sights numbers tt
 
 -- in both versions
-limits_are_limited : (two : Bool) → IsLimited (limits_of two)
-limits_are_limited true = search rules
-limits_are_limited false = search rules
+limits_are_limited : (version : Version) → IsLimited (limits_of version)
+limits_are_limited version.One = search rules
+limits_are_limited version.Two = search rules
 
 -- each command in numbers is
-pub well_sized_if : {E : Type 0} (two known : Bool) (limits : Limits) (w : Word) (numbers : List ℤ) (r : Result (Result Command Bad) E) → limits ≡ limits_of two
+pub well_sized_if : {E : Type 0} (version : Version) (known : Bool) (limits : Limits) (w : Word) (numbers : List ℤ) (r : Result (Result Command Bad) E) → limits ≡ limits_of version
     → IfOk r (λ reading. reading ≡ command_of_word limits known w numbers) → IfOk r (λ reading. IfOk reading IsWellSized)
-well_sized_if two known limits w numbers (Ok reading) version is =
-    let sized = word_is_well_sized (limits_of two) (limits_are_limited two) known w numbers in
-    rw (is, version) sized
-well_sized_if two known limits w numbers (Err e) version is = tt
+well_sized_if version known limits w numbers (Ok reading) limited is =
+    let sized = word_is_well_sized (limits_of version) (limits_are_limited version) known w numbers in
+    rw (is, limited) sized
+well_sized_if version known limits w numbers (Err e) limited is = tt

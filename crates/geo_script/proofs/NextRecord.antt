@@ -1,52 +1,53 @@
 -- One record more of a script is answered.
-use Rattle.std.proofs.Common.{◌≡◌, ◌≢◌, ◌+◌, ◌==◌, ℕ, zero, suc, Bool, if◌then◌else◌, List, [], ◌∷◌, ◌++◌, length, refl, sym, ap, subst, append_assoc, append-nil, ◌∙◌, arith}
+use Rattle.std.proofs.Common.{◌≡◌, ◌≢◌, ◌+◌, ◌==◌, ℕ, zero, suc, if◌then◌else◌, List, [], ◌∷◌, ◌++◌, length, refl, sym, ap, subst, append_assoc, append-nil, ◌∙◌, arith}
 use Rattle.std.proofs.lemmas.Bool.{ne_eqb}
 use Rattle.std.proofs.lemmas.List.{length_push}
-use Rattle.geo_text.specs.Reading.{asks_two, is_two, reading_of}
+use Rattle.geo_text.specs.Reading.{asked_version, reading_of, script_version}
 use Rattle.geo_text.specs.Records.{Unread}
+use Rattle.geo_text.specs.declared.version.Version.{Version}
 use Rattle.geo_session.specs.Answer.{IsReadingAnswer}
 use Rattle.geo_session.specs.State.{State}
 use Rattle.geo_session.specs.Output.{AreAnswers}
 use Rattle.geo_script.specs.Answered.{AnsweredSoFar, AnswersRecord, version_of}
 
 -- the answer to one record more
-answers_and_one : (two : Bool) (k : ℕ) (before middle after : State) (records : List (List (List ℕ))) (fields : List (List ℕ)) (text answer : List ℕ)
-    → AreAnswers two k before records text middle → (j : ℕ) → j ≡ k + length records → IsReadingAnswer middle (reading_of two j fields) answer after
-    → AreAnswers two k before (records ++ fields ∷ []) (text ++ answer) after
-answers_and_one two k before middle after [] fields text answer done j at next =
+answers_and_one : (version : Version) (k : ℕ) (before middle after : State) (records : List (List (List ℕ))) (fields : List (List ℕ)) (text answer : List ℕ)
+    → AreAnswers version k before records text middle → (j : ℕ) → j ≡ k + length records → IsReadingAnswer middle (reading_of version j fields) answer after
+    → AreAnswers version k before (records ++ fields ∷ []) (text ++ answer) after
+answers_and_one version k before middle after [] fields text answer done j at next =
     let same : j ≡ k = omega (arith, at) in
     rw (done.0) (record {
       first = answer;
       rest = [];
       between = after;
-      answer = subst (λ (i : ℕ). IsReadingAnswer before (reading_of two i fields) answer after) same (rw (sym done.1) next);
+      answer = subst (λ (i : ℕ). IsReadingAnswer before (reading_of version i fields) answer after) same (rw (sym done.1) next);
       others = (refl, refl);
       joined = sym (append-nil answer);
     })
-answers_and_one two k before middle after (earlier ∷ records) fields text answer done j at next = record {
+answers_and_one version k before middle after (earlier ∷ records) fields text answer done j at next = record {
   first = done.first;
   rest = done.rest ++ answer;
   between = done.between;
   answer = done.answer;
-  others = answers_and_one two (k + 1) done.between middle after records fields done.rest answer done.others j (omega (arith, at)) next;
+  others = answers_and_one version (k + 1) done.between middle after records fields done.rest answer done.others j (omega (arith, at)) next;
   joined = rw done.joined (append_assoc done.first done.rest answer);
 }
 
 -- a record that is not the script's first one changes no version
-later : (next : ℕ) (asked two two' : Bool) → next ≢ 0 → two' ≡ (if next == 0 then asked else two) → two' ≡ two
-later next asked two two' some is = rw (ne_eqb next 0 some) at is
+later : (next : ℕ) (asked version version' : Version) → next ≢ 0 → version' ≡ (if next == 0 then asked else version) → version' ≡ version
+later next asked version version' some is = rw (ne_eqb next 0 some) at is
 
 -- the script's first record says of which version it is, and the later ones keep that
-version_after : (first left : List (List (List ℕ))) (fields : List (List ℕ)) (start next : ℕ) (was two two' : Bool) → next ≡ start + length first
-    → (next ≢ 0 → two ≡ (if start == 0 then is_two (first ++ fields ∷ left) else was)) → two' ≡ (if next == 0 then asks_two fields else two)
-    → two' ≡ (if start == 0 then is_two (first ++ fields ∷ left) else was)
-version_after [] left fields zero next was two two' counted same is = is ∙ rw counted refl
-version_after [] left fields (suc start) next was two two' counted same is =
+version_after : (first left : List (List (List ℕ))) (fields : List (List ℕ)) (start next : ℕ) (was version version' : Version) → next ≡ start + length first
+    → (next ≢ 0 → version ≡ (if start == 0 then script_version (first ++ fields ∷ left) else was)) → version' ≡ (if next == 0 then asked_version fields else version)
+    → version' ≡ (if start == 0 then script_version (first ++ fields ∷ left) else was)
+version_after [] left fields zero next was version version' counted same is = is ∙ rw counted refl
+version_after [] left fields (suc start) next was version version' counted same is =
     let some : next ≢ 0 = λ e. omega (arith, counted, e) in
-    later next (asks_two fields) two two' some is ∙ same some
-version_after (earlier ∷ first) left fields start next was two two' counted same is =
+    later next (asked_version fields) version version' some is ∙ same some
+version_after (earlier ∷ first) left fields start next was version version' counted same is =
     let some : next ≢ 0 = λ e. omega (arith, counted, e) in
-    later next (asks_two fields) two two' some is ∙ same some
+    later next (asked_version fields) version version' some is ∙ same some
 
 module _ (start script script' : Unread) (before state after : State) (text out out' : List ℕ) (done : AnsweredSoFar start script before state text)
     (one : AnswersRecord script script' state after out out') where
@@ -54,8 +55,8 @@ module _ (start script script' : Unread) (before state after : State) (text out 
   pub all_records : start.left ≡ done.first ++ one.taken.fields ∷ script'.left
   all_records = done.records ∙ ap (λ l. done.first ++ l) one.taken.first
 
-  version : script'.two ≡ version_of start
-  version = rw all_records (version_after done.first script'.left one.taken.fields start.next script.next start.two script.two script'.two done.counted
+  version : script'.version ≡ version_of start
+  version = rw all_records (version_after done.first script'.left one.taken.fields start.next script.next start.version script.version script'.version done.counted
       (rw all_records at done.version) one.taken.version)
 
   -- the answer is that to the record with its number

@@ -2,8 +2,9 @@
 use Rattle.std.proofs.Common.{◌≡◌, ◌||◌, ◌==◌, ◌∙◌, Bool, true, false, not, if◌then◌else◌, ℕ, List, [], ◌∷◌, ◌++◌, length, append-nil, ap, arith, refl, subst, sym}
 use Rattle.std.proofs.lemmas.Bool.{ne_eqb}
 use Rattle.geo_text.proofs.Joined.{no_later_records, no_records}
-use Rattle.geo_text.specs.Reading.{is_two}
+use Rattle.geo_text.specs.Reading.{script_version}
 use Rattle.geo_text.specs.Records.{Unread, records_of}
+use Rattle.geo_text.specs.declared.version.Version.{Version}
 use Rattle.geo_session.specs.State.{State, first_state}
 use Rattle.geo_session.specs.Output.{AreAnswers, AreFirstAnswers}
 use Rattle.geo_script.proofs.NextRecord.{first_and_one, no_first, none_answered, one_more}
@@ -34,11 +35,11 @@ no_records_in talk = by_begun talk.begun
 
 -- the version is that of the part of the script that the piece is
 version_is : (talk : Talk) (piece : List ℕ) → version_of (part_of talk piece) ≡ version_with talk (records_in talk piece)
-version_is talk piece = by_known talk.known talk.state.two (is_two (records_in talk piece))
+version_is talk piece = by_known talk.known talk.state.version (script_version (records_in talk piece))
   where
-    by_known : (known two asked : Bool) → (if (if known then 1 else 0) == 0 then asked else two) ≡ (if known then two else asked)
-    by_known true two asked = refl
-    by_known false two asked = refl
+    by_known : (known : Bool) (version asked : Version) → (if (if known then 1 else 0) == 0 then asked else version) ≡ (if known then version else asked)
+    by_known true version asked = refl
+    by_known false version asked = refl
 
 -- a piece that is not empty has a byte
 pub has_byte : (piece : List ℕ) (begun empty : Bool) → empty ≡ (length piece == 0) → (begun || not empty) ≡ (begun || is_some piece)
@@ -50,10 +51,10 @@ or_none true b e = cc
 or_none false b e = (refl, e)
 
 -- where none of some first records is answered, the state is as before
-unmoved : (two : Bool) (k : ℕ) (before after : State) (first : List (List (List ℕ))) (text : List ℕ) → is_some first ≡ false
-    → AreAnswers two k before first text after → after ≡ before
-unmoved two k before after [] text none told = told.1
-unmoved two k before after (fields ∷ first) text none told = cc none
+unmoved : (version : Version) (k : ℕ) (before after : State) (first : List (List (List ℕ))) (text : List ℕ) → is_some first ≡ false
+    → AreAnswers version k before first text after → after ≡ before
+unmoved version k before after [] text none told = told.1
+unmoved version k before after (fields ∷ first) text none told = cc none
 
 module _ (before : Talk) (piece : List ℕ) (script : Unread) (begun known : Bool) (state : State) (text : List ℕ)
     (done : PieceSoFar before piece script begun known state text) where

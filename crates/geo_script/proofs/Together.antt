@@ -2,8 +2,10 @@
 use Rattle.std.proofs.Common.{◌≡◌, ◌≢◌, ◌∙◌, ◌+◌, ◌||◌, ℕ, Bool, false, if◌then◌else◌, List, [], ◌∷◌, ◌++◌, append_assoc, arith, refl, subst, sym}
 use Rattle.std.proofs.lemmas.Bool.{ne_eqb}
 use Rattle.geo_text.proofs.Joined.{no_records, records_joined}
-use Rattle.geo_text.specs.Reading.{asks_two, is_two, reading_of}
+use Rattle.geo_text.specs.Reading.{asked_version, reading_of, script_version}
 use Rattle.geo_text.specs.Records.{AreWhole, later_records_of, records_of}
+use Rattle.geo_text.specs.declared.version.Version.{Version}
+use Rattle.geo_text.specs.declared.version.Version.TheVariants as version
 use Rattle.geo_session.specs.Answer.{IsReadingAnswer}
 use Rattle.geo_session.specs.State.{State, first_state}
 use Rattle.geo_session.specs.Output.{AreAnswers, AreFirstAnswers}
@@ -12,50 +14,51 @@ use Rattle.geo_script.proofs.Versions.{version_kept}
 use Rattle.geo_script.specs.Dialog.{AnswersPiece, IsTalkOf, Talk, is_some}
 
 -- each record but the first one is read the same
-same_reading : (two : Bool) (j k : ℕ) (fields : List (List ℕ)) → j ≢ 0 → k ≢ 0 → reading_of two j fields ≡ reading_of two k fields
-same_reading two j k fields some some' = rw (ne_eqb j 0 some, ne_eqb k 0 some') refl
+same_reading : (version : Version) (j k : ℕ) (fields : List (List ℕ)) → j ≢ 0 → k ≢ 0 → reading_of version j fields ≡ reading_of version k fields
+same_reading version.One j k fields some some' = refl
+same_reading version.Two j k fields some some' = rw (ne_eqb j 0 some, ne_eqb k 0 some') refl
 
-renumbered : (two : Bool) (j k : ℕ) (before after : State) (records : List (List (List ℕ))) (text : List ℕ) → j ≢ 0 → k ≢ 0
-    → AreAnswers two j before records text after → AreAnswers two k before records text after
-renumbered two j k before after [] text some some' told = told
-renumbered two j k before after (fields ∷ records) text some some' told = record {
+renumbered : (version : Version) (j k : ℕ) (before after : State) (records : List (List (List ℕ))) (text : List ℕ) → j ≢ 0 → k ≢ 0
+    → AreAnswers version j before records text after → AreAnswers version k before records text after
+renumbered version j k before after [] text some some' told = told
+renumbered version j k before after (fields ∷ records) text some some' told = record {
   first = told.first;
   rest = told.rest;
   between = told.between;
-  answer = subst (λ reading. IsReadingAnswer before reading told.first told.between) (same_reading two j k fields some some') told.answer;
-  others = renumbered two (j + 1) (k + 1) told.between after records told.rest (λ e. omega (arith, e)) (λ e. omega (arith, e)) told.others;
+  answer = subst (λ reading. IsReadingAnswer before reading told.first told.between) (same_reading version j k fields some some') told.answer;
+  others = renumbered version (j + 1) (k + 1) told.between after records told.rest (λ e. omega (arith, e)) (λ e. omega (arith, e)) told.others;
   joined = told.joined;
 }
 
 -- answers to some records, and then to those after them
-joined : (two : Bool) (k : ℕ) (before between after : State) (records more : List (List (List ℕ))) (text text' : List ℕ)
-    → AreAnswers two k before records text between → ((n : ℕ) → n ≢ 0 → AreAnswers two n between more text' after)
-    → (records ≡ [] → AreAnswers two k between more text' after) → AreAnswers two k before (records ++ more) (text ++ text') after
-joined two k before between after [] more text text' told later none =
+joined : (version : Version) (k : ℕ) (before between after : State) (records more : List (List (List ℕ))) (text text' : List ℕ)
+    → AreAnswers version k before records text between → ((n : ℕ) → n ≢ 0 → AreAnswers version n between more text' after)
+    → (records ≡ [] → AreAnswers version k between more text' after) → AreAnswers version k before (records ++ more) (text ++ text') after
+joined version k before between after [] more text text' told later none =
     rw (told.0, sym told.1) (none refl)
-joined two k before between after (fields ∷ records) more text text' told later none = record {
+joined version k before between after (fields ∷ records) more text text' told later none = record {
   first = told.first;
   rest = told.rest ++ text';
   between = told.between;
   answer = told.answer;
-  others = joined two (k + 1) told.between between after records more told.rest text' told.others later (λ e. later (k + 1) (λ e. omega (arith, e)));
+  others = joined version (k + 1) told.between between after records more told.rest text' told.others later (λ e. later (k + 1) (λ e. omega (arith, e)));
   joined = rw told.joined (append_assoc told.first told.rest text');
 }
 
 -- the answers to the first records of a script, and then those to the rest, by the version that is known by then
 both_answered : (records more : List (List (List ℕ))) (text text' : List ℕ) (between after : State) (known : Bool) → known ≡ is_some records
-    → AreAnswers (is_two records) 0 first_state records text between
-    → AreAnswers (if known then between.two else is_two more) (if known then 1 else 0) between more text' after
-    → AreAnswers (is_two (records ++ more)) 0 first_state (records ++ more) (text ++ text') after
+    → AreAnswers (script_version records) 0 first_state records text between
+    → AreAnswers (if known then between.version else script_version more) (if known then 1 else 0) between more text' after
+    → AreAnswers (script_version (records ++ more)) 0 first_state (records ++ more) (text ++ text') after
 both_answered [] more text text' between after known is told told' =
     let more_told = rw (is, told.1) at told' in
     rw told.0 more_told
 both_answered (fields ∷ records) more text text' between after known is told told' =
-    let same : between.two ≡ asks_two fields = version_kept (asks_two fields) between fields records text told in
-    let in_version : AreAnswers between.two 1 between more text' after = rw is at told' in
-    let later = subst (λ (two : Bool). AreAnswers two 1 between more text' after) same in_version in
-    joined (asks_two fields) 0 first_state between after (fields ∷ records) more text text' told
-    (λ n some. renumbered (asks_two fields) 1 n between after more text' (λ e. omega (arith, e)) some later) (λ e. cc e)
+    let same : between.version ≡ asked_version fields = version_kept (asked_version fields) between fields records text told in
+    let in_version : AreAnswers between.version 1 between more text' after = rw is at told' in
+    let later = subst (λ (version : Version). AreAnswers version 1 between more text' after) same in_version in
+    joined (asked_version fields) 0 first_state between after (fields ∷ records) more text text' told
+    (λ n some. renumbered (asked_version fields) 1 n between after more text' (λ e. omega (arith, e)) some later) (λ e. cc e)
 
 some_append : (records more : List (List (List ℕ))) → (is_some records || is_some more) ≡ is_some (records ++ more)
 some_append [] more = refl

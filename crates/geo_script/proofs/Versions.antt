@@ -11,6 +11,8 @@ use Rattle.geo_text.specs.declared.command.Bad.{Bad}
 use Rattle.geo_text.specs.declared.command.Command.{Command}
 use Rattle.geo_text.specs.declared.command.Command.TheVariants as command
 use Rattle.geo_text.specs.declared.limits.Limits.{Limits}
+use Rattle.geo_text.specs.declared.version.Version.{Version}
+use Rattle.geo_text.specs.declared.version.Version.TheVariants as version
 use Rattle.geo_session.specs.Answer.{IsAnswer, IsReadingAnswer}
 use Rattle.geo_session.specs.State.{State, first_state}
 use Rattle.geo_session.specs.Output.{AreAnswers}
@@ -66,7 +68,7 @@ command_is_plain limits (word ∷ fields) =
     (fixed_is_plain limits.coordinate word fields))))
 
 -- whatever is replied to a plain command, the version is kept
-after_polygon : (before : State) (ring : List Point) (answered : Reply) → (state_after before (command.Polygon ring) answered).two ≡ before.two
+after_polygon : (before : State) (ring : List Point) (answered : Reply) → (state_after before (command.Polygon ring) answered).version ≡ before.version
 after_polygon before ring reply.Two = refl
 after_polygon before ring (reply.Polygon count) = refl
 after_polygon before ring (reply.Refused fault) = refl
@@ -81,7 +83,7 @@ after_polygon before ring (reply.Round numbers) = refl
 after_polygon before ring (reply.Guards numbers) = refl
 after_polygon before ring (reply.Sights pairs) = refl
 
-after_tree : (before : State) (s : Point) (answered : Reply) → (state_after before (command.Tree s) answered).two ≡ before.two
+after_tree : (before : State) (s : Point) (answered : Reply) → (state_after before (command.Tree s) answered).version ≡ before.version
 after_tree before s reply.Two = refl
 after_tree before s (reply.Polygon count) = refl
 after_tree before s (reply.Refused fault) = refl
@@ -96,7 +98,7 @@ after_tree before s (reply.Round numbers) = refl
 after_tree before s (reply.Guards numbers) = refl
 after_tree before s (reply.Sights pairs) = refl
 
-after_plain : (before : State) (asked : Command) (answered : Reply) → IsPlain asked → (state_after before asked answered).two ≡ before.two
+after_plain : (before : State) (asked : Command) (answered : Reply) → IsPlain asked → (state_after before asked answered).version ≡ before.version
 after_plain before command.Two answered plain = absurd plain
 after_plain before (command.Polygon ring) answered plain = after_polygon before ring answered
 after_plain before (command.Inside p) answered plain = refl
@@ -112,34 +114,34 @@ after_plain before command.Guards answered plain = refl
 after_plain before (command.Pair i j) answered plain = refl
 after_plain before command.Sights answered plain = refl
 
-plain_keeps : (before : State) (asked : Command) (text : List ℕ) (after : State) → IsPlain asked → IsAnswer before asked text after → after.two ≡ before.two
-plain_keeps before asked text after plain told = ap (λ (s : State). s.two) told.left ∙ after_plain before asked told.answered plain
+plain_keeps : (before : State) (asked : Command) (text : List ℕ) (after : State) → IsPlain asked → IsAnswer before asked text after → after.version ≡ before.version
+plain_keeps before asked text after plain told = ap (λ (s : State). s.version) told.left ∙ after_plain before asked told.answered plain
 
 record_keeps : (before : State) (reading : Result Command Bad) (text : List ℕ) (after : State) → IfOk reading IsPlain → IsReadingAnswer before reading text after
-    → after.two ≡ before.two
+    → after.version ≡ before.version
 record_keeps before (Ok asked) text after plain told = plain_keeps before asked text after plain told
-record_keeps before (Err fault) text after plain told = ap (λ (s : State). s.two) told.1
+record_keeps before (Err fault) text after plain told = ap (λ (s : State). s.version) told.1
 
 -- no record but the first one asks for a version
-later_is_plain : (two : Bool) (k : ℕ) (fields : List (List ℕ)) → k ≢ 0 → IfOk (reading_of two k fields) IsPlain
-later_is_plain true k fields some = rw (ne_eqb k 0 some) (command_is_plain (limits_of true) fields)
-later_is_plain false k fields some = command_is_plain (limits_of false) fields
+later_is_plain : (version : Version) (k : ℕ) (fields : List (List ℕ)) → k ≢ 0 → IfOk (reading_of version k fields) IsPlain
+later_is_plain version.Two k fields some = rw (ne_eqb k 0 some) (command_is_plain (limits_of version.Two) fields)
+later_is_plain version.One k fields some = command_is_plain (limits_of version.One) fields
 
 -- so all of them keep it
-later_keep : (two : Bool) (k : ℕ) (before after : State) (records : List (List (List ℕ))) (text : List ℕ) → k ≢ 0 → AreAnswers two k before records text after
-    → after.two ≡ before.two
-later_keep two k before after [] text some told = ap (λ (s : State). s.two) told.1
-later_keep two k before after (fields ∷ records) text some told =
-    later_keep two (k + 1) told.between after records told.rest (λ e. omega (arith, e)) told.others
-    ∙ record_keeps before (reading_of two k fields) told.first told.between (later_is_plain two k fields some) told.answer
+later_keep : (version : Version) (k : ℕ) (before after : State) (records : List (List (List ℕ))) (text : List ℕ) → k ≢ 0 → AreAnswers version k before records text after
+    → after.version ≡ before.version
+later_keep version k before after [] text some told = ap (λ (s : State). s.version) told.1
+later_keep version k before after (fields ∷ records) text some told =
+    later_keep version (k + 1) told.between after records told.rest (λ e. omega (arith, e)) told.others
+    ∙ record_keeps before (reading_of version k fields) told.first told.between (later_is_plain version k fields some) told.answer
 
 -- and the first one says it
-first_says : (two : Bool) (fields : List (List ℕ)) (text : List ℕ) (after : State) → IsReadingAnswer first_state (reading_of two 0 fields) text after
-    → after.two ≡ two
-first_says true fields text after told = ap (λ (s : State). s.two) told.left
-first_says false fields text after told = record_keeps first_state (command_of (limits_of false) fields) text after (command_is_plain (limits_of false) fields) told
+first_says : (version : Version) (fields : List (List ℕ)) (text : List ℕ) (after : State) → IsReadingAnswer first_state (reading_of version 0 fields) text after
+    → after.version ≡ version
+first_says version.Two fields text after told = ap (λ (s : State). s.version) told.left
+first_says version.One fields text after told = record_keeps first_state (command_of (limits_of version.One) fields) text after (command_is_plain (limits_of version.One) fields) told
 
-pub version_kept : (two : Bool) (after : State) (fields : List (List ℕ)) (records : List (List (List ℕ))) (text : List ℕ)
-    → AreAnswers two 0 first_state (fields ∷ records) text after → after.two ≡ two
-version_kept two after fields records text told =
-    later_keep two 1 told.between after records told.rest (λ e. omega (arith, e)) told.others ∙ first_says two fields told.first told.between told.answer
+pub version_kept : (version : Version) (after : State) (fields : List (List ℕ)) (records : List (List (List ℕ))) (text : List ℕ)
+    → AreAnswers version 0 first_state (fields ∷ records) text after → after.version ≡ version
+version_kept version after fields records text told =
+    later_keep version 1 told.between after records told.rest (λ e. omega (arith, e)) told.others ∙ first_says version fields told.first told.between told.answer

@@ -1,9 +1,10 @@
 -- How far a script is answered. This project's own.
-use Rattle.std.specs.Prelude.{◌≡◌, ◌≢◌, ◌==◌, ℕ, ◌+◌, Bool, false, if◌then◌else◌, List, ◌++◌, length, Result}
-use Rattle.geo_text.specs.Reading.{TakesRecord, is_two}
+use Rattle.std.specs.Prelude.{◌≡◌, ◌≢◌, ◌==◌, ℕ, ◌+◌, false, if◌then◌else◌, List, ◌++◌, length, Result}
+use Rattle.geo_text.specs.Reading.{TakesRecord, script_version}
 use Rattle.geo_text.specs.Records.{Unread}
 use Rattle.geo_text.specs.declared.command.Bad.{Bad}
 use Rattle.geo_text.specs.declared.command.Command.{Command}
+use Rattle.geo_text.specs.declared.version.Version.{Version}
 use Rattle.geo_session.specs.Answer.{AppendsReadingAnswer}
 use Rattle.geo_session.specs.State.{State}
 use Rattle.geo_session.specs.Output.{AreAnswers}
@@ -21,13 +22,13 @@ pub record AnswersRecord (before after : Unread) (state state' : State) (out out
   pub answered : AppendsReadingAnswer state reading out out' state'
 
 -- of which version a script is; its first record says it, where that is left
-abbrev pub version_of : Unread → Bool
-version_of script = if script.next == 0 then is_two script.left else script.two
+abbrev pub version_of : Unread → Version
+version_of script = if script.next == 0 then script_version script.left else script.version
 
 -- the first of the records that were left in a script are answered, from a state on, and the others are left still
 pub record AnsweredSoFar (before after : Unread) (state state' : State) (text : List ℕ) : Type 0 where
   pub first : List (List (List ℕ))
   pub records : before.left ≡ first ++ after.left
   pub counted : after.next ≡ before.next + length first
-  pub version : after.next ≢ 0 → after.two ≡ version_of before
+  pub version : after.next ≢ 0 → after.version ≡ version_of before
   pub answers : AreAnswers (version_of before) before.next state first text state'

@@ -1,7 +1,8 @@
 -- A script that is handed in piece by piece. This project's own.
 use Rattle.std.specs.Prelude.{◌≡◌, ◌||◌, Bool, true, false, if◌then◌else◌, ℕ, List, [], ◌∷◌, ◌++◌}
-use Rattle.geo_text.specs.Reading.{is_two}
+use Rattle.geo_text.specs.Reading.{script_version}
 use Rattle.geo_text.specs.Records.{later_records_of, records_of}
+use Rattle.geo_text.specs.declared.version.Version.{Version}
 use Rattle.geo_session.specs.State.{State, first_state}
 use Rattle.geo_session.specs.Output.{AreAnswers, IsOutput}
 
@@ -26,12 +27,12 @@ abbrev pub records_in : Talk → List ℕ → List (List (List ℕ))
 records_in talk piece = if talk.begun then later_records_of piece else records_of piece
 
 -- of which version the script is with these records of the next piece; its first record says it
-abbrev pub version_with : Talk → List (List (List ℕ)) → Bool
-version_with talk records = if talk.known then talk.state.two else is_two records
+abbrev pub version_with : Talk → List (List (List ℕ)) → Version
+version_with talk records = if talk.known then talk.state.version else script_version records
 
 -- the text is the answers to these records of the next piece, in a script of a version, and the state is that after them
-pub record AnswersRecords (two : Bool) (before : Talk) (records : List (List (List ℕ))) (after : Talk) : Type 0 where
-  pub answers : AreAnswers two (if before.known then 1 else 0) before.state records after.text after.state
+pub record AnswersRecords (version : Version) (before : Talk) (records : List (List (List ℕ))) (after : Talk) : Type 0 where
+  pub answers : AreAnswers version (if before.known then 1 else 0) before.state records after.text after.state
   pub known : after.known ≡ (before.known || is_some records)
 
 -- so it is with all records of the piece

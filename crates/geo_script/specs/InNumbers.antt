@@ -10,6 +10,7 @@ use Rattle.geo_text.specs.declared.command.Bad.TheVariants as bad
 use Rattle.geo_text.specs.declared.command.Command.{Command}
 use Rattle.geo_text.specs.declared.command.Command.TheVariants as command
 use Rattle.geo_text.specs.declared.limits.Limits.{Limits}
+use Rattle.geo_text.specs.declared.version.Version.{Version}
 use Rattle.geo_script.specs.declared.word.Word.{Word}
 use Rattle.geo_script.specs.declared.word.Word.TheVariants as word
 
@@ -108,5 +109,5 @@ command_of_some limits known (Some word) numbers = command_of_word limits known 
 command_of_some limits known None numbers = Err bad.Word
 
 -- the command that a record in numbers is in a script of a version, where it was known before or not, or the first refusal
-abbrev pub command_in_numbers : Bool → Bool → ℕ → List ℤ → Result Command Bad
-command_in_numbers two known number numbers = command_of_some (limits_of two) known (word_of number) numbers
+abbrev pub command_in_numbers : Version → Bool → ℕ → List ℤ → Result Command Bad
+command_in_numbers version known number numbers = command_of_some (limits_of version) known (word_of number) numbers

@@ -7,7 +7,7 @@ use Rattle.geo_script.specs.Dialog.{Talk, is_some, records_in}
 
 -- the part of the script that the next piece is, before its first record
 abbrev pub part_of : Talk → List ℕ → Unread
-part_of talk piece = record { left = records_in talk piece; next = if talk.known then 1 else 0; two = talk.state.two; failed = false }
+part_of talk piece = record { left = records_in talk piece; next = if talk.known then 1 else 0; version = talk.state.version; failed = false }
 
 -- the first records of the piece are answered, and the rest are left
 pub record PieceSoFar (before : Talk) (piece : List ℕ) (script : Unread) (begun' known' : Bool) (state : State) (text : List ℕ) : Type 0 where

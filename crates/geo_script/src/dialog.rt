@@ -103,12 +103,12 @@ impl Dialog {
         ensures { result ≡ record {
           left = records_in self.now piece.now;
           next = if self.now.known then 1 else 0;
-          two = self.now.state.two;
+          version = self.now.state.version;
           failed = false;
         } }
     {
         if self.begun {
-            Script::resume(alloc, piece, self.known, self.session.is_two())
+            Script::resume(alloc, piece, self.known, self.session.version())
         } else {
             Script::open(alloc, piece)
         }
@@ -136,7 +136,7 @@ impl Dialog {
         ensures talk { IfOk result (λ reply. self.new ≡ asked_talk self.old (asked_in self.old word fields.now) reply) }
         ensures same { OnErr result (self.new ≡ self.old) }
     {
-        let reading = command(alloc, self.session.is_two(), self.known, word, fields)?;
+        let reading = command(alloc, self.session.version(), self.known, word, fields)?;
         let reply = reply(alloc, &mut self.session, reading, steps)?;
         self.begun = true;
         self.known = true;
@@ -145,7 +145,7 @@ impl Dialog {
 
     /// Where a point lies in the polygon, or the refusal that an `inside` with these numbers gets.
     pub fn inside<L: Ledger>(&self, x: i64, y: i64, steps: &mut Steps<L>) -> Result<Position, Bad>
-        ensures { IsAskedWithin self.now.state.two (x ∷ y ∷ []) (IsFound self.now.state (Command.Inside (record { x = x; y = y })) Reply.Place) result }
+        ensures { IsAskedWithin self.now.state.version (x ∷ y ∷ []) (IsFound self.now.state (Command.Inside (record { x = x; y = y })) Reply.Place) result }
     {
         let point = self.limits().point(1, x, y)?;
         self.session.place(&point, steps)
@@ -160,7 +160,7 @@ impl Dialog {
         to: (i64, i64),
         steps: &mut Steps<L>,
     ) -> Result<Result<Vec<Pt>, Bad>, Memory>
-        ensures answer { IfOk result (IsAskedWithin self.now.state.two (from.0 ∷ from.1 ∷ to.0 ∷ to.1 ∷ [])
+        ensures answer { IfOk result (IsAskedWithin self.now.state.version (from.0 ∷ from.1 ∷ to.0 ∷ to.1 ∷ [])
             (IsFound self.now.state (Command.Path (record { x = from.0; y = from.1 }) (record { x = to.0; y = to.1 })) path_of)) }
         ensures few { IfOk result (λ found. IfOk found (λ points. length points.items ≤ MAX_CORNERS + 2)) }
     {
@@ -185,7 +185,7 @@ impl Dialog {
         y: i64,
         steps: &mut Steps<L>,
     ) -> Result<Result<Vec<Pt>, Bad>, Memory>
-        ensures answer { IfOk result (IsAskedWithin self.now.state.two (x ∷ y ∷ [])
+        ensures answer { IfOk result (IsAskedWithin self.now.state.version (x ∷ y ∷ [])
             (IsFound self.now.state (Command.Reach (record { x = x; y = y })) path_of)) }
         ensures few { IfOk result (λ found. IfOk found (λ points. length points.items ≤ MAX_CORNERS + 3)) }
     {
@@ -197,9 +197,9 @@ impl Dialog {
 
     // What the version of the script takes.
     fn limits(&self) -> Limits
-        ensures { result ≡ limits_of self.now.state.two }
+        ensures { result ≡ limits_of self.now.state.version }
     {
-        Limits::of(self.session.is_two())
+        Limits::of(self.session.version())
     }
 }
 

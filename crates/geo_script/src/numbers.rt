@@ -11,23 +11,23 @@ ghost use Rattle.geo_script.specs.InNumbers.{points_fault, points_in, two_in};
 
 use crate::word::Word;
 use exact_plane::{Memory, Pt};
-use geo_text::{Bad, Command, Limits, Points};
+use geo_text::{Bad, Command, Limits, Points, Version};
 use plane::MAX_HULL;
 use std::alloc::Global;
 
 // The command that a record in numbers is in a script of this version, where that was known before it or not; or why it is none.
 pub fn command(
     alloc: Global,
-    two: bool,
+    version: Version,
     known: bool,
     word: u8,
     numbers: &[i64],
 ) -> Result<Result<Command, Bad>, Memory>
-    ensures command { IfOk result (λ reading. reading ≡ command_in_numbers two known word numbers.now) }
+    ensures command { IfOk result (λ reading. reading ≡ command_in_numbers version known word numbers.now) }
     ensures well_sized { IfOk result (λ reading. IfOk reading IsWellSized) }
 {
     match Word::of(word) {
-        Some(word) => of_word(alloc, &Limits::of(two), known, word, numbers),
+        Some(word) => of_word(alloc, &Limits::of(version), known, word, numbers),
         None => Ok(Err(Bad::Word)),
     }
 }

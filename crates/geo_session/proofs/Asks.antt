@@ -1,7 +1,6 @@
 -- What commands are answered, with what changes.
-use Rattle.std.proofs.Common.{◌≡◌, ◌↔◌, inl, inr, refl, ap, ap₂, Bool, true, false, ℕ, ℤ, ◌≤◌, List, length, Ok, Err, arith}
-use Rattle.std.proofs.lemmas.Bool.{cases_lt}
-use Rattle.std.specs.Prelude.{IsTrue, Option, Some, None}
+use Rattle.std.proofs.Common.{◌≡◌, inl, inr, refl, ap, ap₂, true, false, ℕ, ℤ, List, length, Ok, Err}
+use Rattle.std.specs.Prelude.{Option, Some, None}
 use Rattle.plane.specs.Point.{Point, whole}
 use Rattle.rings.proofs.Simple.{no_least_clash}
 use Rattle.rings.specs.Inside.{IsIn}
@@ -12,20 +11,19 @@ use Rattle.geo_text.specs.declared.command.Bad.{Bad}
 use Rattle.geo_text.specs.declared.command.Bad.TheVariants as bad
 use Rattle.geo_text.specs.declared.command.Command.{Command}
 use Rattle.geo_text.specs.declared.command.Command.TheVariants as command
-use Rattle.pair_cut.specs.Pairs.{AreSights, IsMadeFor}
-use Rattle.pair_cut.specs.declared.table.TheConstants.{MAX_PAIRED}
+use Rattle.geo_text.specs.declared.version.Version.{Version}
+use Rattle.pair_cut.specs.Pairs.{IsMadeFor}
 use Rattle.geo_reply.specs.declared.reply.Before.{Before}
 use Rattle.geo_reply.specs.declared.reply.Reply.{Reply}
 use Rattle.geo_reply.specs.declared.reply.Reply.TheVariants as reply
 use Rattle.geo_session.proofs.Within.{one_in, one_out}
 use Rattle.geo_session.specs.Asking.{AreAsked, AsksPolygon, IsAskedOf, IsPlain}
 use Rattle.geo_session.specs.Held.{HeldRing, IsTreeOf, kept_in}
-use Rattle.geo_session.specs.Pairs.{IsPairReply, IsSmall, first_off, joined, second_off, sighted, too_large, too_many}
+use Rattle.geo_session.specs.Pairs.{IsPairReply, IsSmall, first_off, joined, second_off, too_large, too_many}
 use Rattle.geo_session.specs.Path.{TellsPath}
 use Rattle.geo_session.specs.Polygon.{accepted, clashing}
 use Rattle.geo_session.specs.Reply.{IsReplyIn}
 use Rattle.geo_session.specs.Prepared.{TellsPair}
-use Rattle.geo_session.specs.Told.{Tells}
 use Rattle.geo_session.specs.Tree.{AreFrom}
 use Rattle.geo_session.specs.declared.ask.Asked.{Asked}
 use Rattle.geo_session.specs.declared.ask.Change.TheVariants as change
@@ -36,65 +34,65 @@ abbrev pub still : Reply → Asked
 still answered = record { reply = answered; change = change.Nothing }
 
 -- version 2 is begun
-pub begun : (two : Bool) (held : Option HeldRing) → IsAskedOf two held command.Two (record { reply = reply.Two; change = change.Two })
-begun two held = record { is_reply = refl; suits = tt; state = refl; prepared = refl }
+pub begun : (version : Version) (held : Option HeldRing) → IsAskedOf version held command.Two (record { reply = reply.Two; change = change.Two })
+begun version held = record { is_reply = refl; suits = tt; state = refl; prepared = refl }
 
 -- where there is no polygon, what asks of one is refused
-pub refused : (two : Bool) (asked : Command) → AsksPolygon asked → IsAskedOf two None asked (still (reply.Refused bad.NoPolygon))
-refused two command.Two asks = absurd asks
-refused two (command.Polygon ring) asks = absurd asks
-refused two (command.Inside p) asks = record { is_reply = refl; suits = tt; state = refl; prepared = refl }
-refused two (command.Check points) asks = record { is_reply = refl; suits = tt; state = refl; prepared = refl }
-refused two (command.Path s t) asks = record { is_reply = refl; suits = tt; state = refl; prepared = refl }
-refused two (command.Tree s) asks = record { is_reply = refl; suits = tt; state = refl; prepared = refl }
-refused two (command.Reach t) asks = record { is_reply = refl; suits = tt; state = refl; prepared = refl }
-refused two (command.See q) asks = record { is_reply = refl; suits = tt; state = refl; prepared = refl }
-refused two command.Kernel asks = record { is_reply = refl; suits = tt; state = refl; prepared = refl }
-refused two (command.Hull points) asks = record { is_reply = refl; suits = tt; state = refl; prepared = refl }
-refused two (command.Round points) asks = record { is_reply = refl; suits = tt; state = refl; prepared = refl }
-refused two command.Guards asks = record { is_reply = refl; suits = tt; state = refl; prepared = refl }
-refused two (command.Pair i j) asks = record {
+pub refused : (version : Version) (asked : Command) → AsksPolygon asked → IsAskedOf version None asked (still (reply.Refused bad.NoPolygon))
+refused version command.Two asks = absurd asks
+refused version (command.Polygon ring) asks = absurd asks
+refused version (command.Inside p) asks = record { is_reply = refl; suits = tt; state = refl; prepared = refl }
+refused version (command.Check points) asks = record { is_reply = refl; suits = tt; state = refl; prepared = refl }
+refused version (command.Path s t) asks = record { is_reply = refl; suits = tt; state = refl; prepared = refl }
+refused version (command.Tree s) asks = record { is_reply = refl; suits = tt; state = refl; prepared = refl }
+refused version (command.Reach t) asks = record { is_reply = refl; suits = tt; state = refl; prepared = refl }
+refused version (command.See q) asks = record { is_reply = refl; suits = tt; state = refl; prepared = refl }
+refused version command.Kernel asks = record { is_reply = refl; suits = tt; state = refl; prepared = refl }
+refused version (command.Hull points) asks = record { is_reply = refl; suits = tt; state = refl; prepared = refl }
+refused version (command.Round points) asks = record { is_reply = refl; suits = tt; state = refl; prepared = refl }
+refused version command.Guards asks = record { is_reply = refl; suits = tt; state = refl; prepared = refl }
+refused version (command.Pair i j) asks = record {
   is_reply = refl;
   suits = tt;
   state = refl;
   prepared = record { told = λ told. absurd told; refused = λ _. refl };
 }
-refused two command.Sights asks = record { is_reply = refl; suits = tt; state = refl; prepared = record { told = λ told. absurd told; refused = λ _. refl } }
+refused version command.Sights asks = record { is_reply = refl; suits = tt; state = refl; prepared = record { told = λ told. absurd told; refused = λ _. refl } }
 
 -- what changes nothing is answered so
-pub plain : (two : Bool) (held : HeldRing) (asked : Command) (answered : Reply) → IsPlain asked → IsReplyIn two (kept_in held) asked answered
-    → IsAskedOf two (Some held) asked (still answered)
-plain two held command.Two answered not h = absurd not
-plain two held (command.Polygon ring) answered not h = absurd not
-plain two held (command.Inside p) answered is h = record { is_reply = h; suits = tt; state = refl; prepared = refl }
-plain two held (command.Check points) answered is h = record { is_reply = h; suits = tt; state = refl; prepared = refl }
-plain two held (command.Path s t) answered is h = record { is_reply = h; suits = tt; state = refl; prepared = refl }
-plain two held (command.Tree s) answered not h = absurd not
-plain two held (command.Reach t) answered is h = record { is_reply = h; suits = tt; state = refl; prepared = refl }
-plain two held (command.See q) answered is h = record { is_reply = h; suits = tt; state = refl; prepared = refl }
-plain two held command.Kernel answered is h = record { is_reply = h; suits = tt; state = refl; prepared = refl }
-plain two held (command.Hull points) answered is h = record { is_reply = h; suits = tt; state = refl; prepared = refl }
-plain two held (command.Round points) answered is h = record { is_reply = h; suits = tt; state = refl; prepared = refl }
-plain two held command.Guards answered is h = record { is_reply = h; suits = tt; state = refl; prepared = refl }
-plain two held (command.Pair i j) answered not h = absurd not
-plain two held command.Sights answered not h = absurd not
+pub plain : (version : Version) (held : HeldRing) (asked : Command) (answered : Reply) → IsPlain asked → IsReplyIn version (kept_in held) asked answered
+    → IsAskedOf version (Some held) asked (still answered)
+plain version held command.Two answered not h = absurd not
+plain version held (command.Polygon ring) answered not h = absurd not
+plain version held (command.Inside p) answered is h = record { is_reply = h; suits = tt; state = refl; prepared = refl }
+plain version held (command.Check points) answered is h = record { is_reply = h; suits = tt; state = refl; prepared = refl }
+plain version held (command.Path s t) answered is h = record { is_reply = h; suits = tt; state = refl; prepared = refl }
+plain version held (command.Tree s) answered not h = absurd not
+plain version held (command.Reach t) answered is h = record { is_reply = h; suits = tt; state = refl; prepared = refl }
+plain version held (command.See q) answered is h = record { is_reply = h; suits = tt; state = refl; prepared = refl }
+plain version held command.Kernel answered is h = record { is_reply = h; suits = tt; state = refl; prepared = refl }
+plain version held (command.Hull points) answered is h = record { is_reply = h; suits = tt; state = refl; prepared = refl }
+plain version held (command.Round points) answered is h = record { is_reply = h; suits = tt; state = refl; prepared = refl }
+plain version held command.Guards answered is h = record { is_reply = h; suits = tt; state = refl; prepared = refl }
+plain version held (command.Pair i j) answered not h = absurd not
+plain version held command.Sights answered not h = absurd not
 
 -- ---- a polygon
 
-module _ (two : Bool) (held : Option HeldRing) (ring : List Point) where
+module _ (version : Version) (held : Option HeldRing) (ring : List Point) where
   -- it is taken, with no tree and no table,
   pub taken : (new : HeldRing) (count : ℕ) → IsSimple ring → count ≡ length ring → given_of new.ring ≡ ring → new.source ≡ None → new.prepared ≡ false
-      → IsAskedOf two held (command.Polygon ring) (record { reply = reply.Polygon count; change = change.Polygon new })
+      → IsAskedOf version held (command.Polygon ring) (record { reply = reply.Polygon count; change = change.Polygon new })
   taken new count simple counted same none not = record {
     is_reply = accepted simple (ap reply.Polygon counted);
     suits = tt;
     state = ap₂ (λ (points : List Point) (source : Option Point).
-        record { two = two; kept = Some (record { ring = points; source = source }) }) same none;
+        record { version = version; kept = Some (record { ring = points; source = source }) }) same none;
     prepared = record { accepted = λ _. not; refused = λ wrong. absurd (wrong simple) };
   }
 
   -- or refused
-  pub clash : (i j : ℕ) → IsLeastClash ring i j → IsAskedOf two held (command.Polygon ring) (still (reply.Refused (bad.Clash i j)))
+  pub clash : (i j : ℕ) → IsLeastClash ring i j → IsAskedOf version held (command.Polygon ring) (still (reply.Refused (bad.Clash i j)))
   clash i j least = record {
     is_reply = clashing i j least refl;
     suits = tt;
@@ -104,10 +102,10 @@ module _ (two : Bool) (held : Option HeldRing) (ring : List Point) where
 
 -- ---- a tree
 
-module _ (two : Bool) (held : HeldRing) (s : Point) where
+module _ (version : Version) (held : HeldRing) (s : Point) where
   -- is refused where its source is not in the polygon,
   pub tree_refused : (fault : Bad) → ¬ IsIn (given_of held.ring) (whole s) → fault ≡ bad.Outside 1
-      → IsAskedOf two (Some held) (command.Tree s) (still (reply.Refused fault))
+      → IsAskedOf version (Some held) (command.Tree s) (still (reply.Refused fault))
   tree_refused fault out is = record {
     is_reply = one_out (given_of held.ring) _ s fault out is;
     suits = tt;
@@ -118,19 +116,19 @@ module _ (two : Bool) (held : HeldRing) (s : Point) where
   -- or kept
   pub tree_kept : (grown : Grown) (befores : List Before) → IsIn (given_of held.ring) (whole s) → grown.source ≡ s
       → IsTreeOf held.ring.corners held.tris grown → AreFrom (given_of held.ring) s befores
-      → IsAskedOf two (Some held) (command.Tree s) (record { reply = reply.Tree befores; change = change.Tree grown })
+      → IsAskedOf version (Some held) (command.Tree s) (record { reply = reply.Tree befores; change = change.Tree grown })
   tree_kept grown befores inside same tree from = record {
     is_reply = one_in (given_of held.ring) _ s (reply.Tree befores) inside (record { value = befores; holds = from; told = refl });
     suits = tree;
-    state = ap (λ (p : Point). record { two = two; kept = Some (record { ring = given_of held.ring; source = Some p }) }) same;
+    state = ap (λ (p : Point). record { version = version; kept = Some (record { ring = given_of held.ring; source = Some p }) }) same;
     prepared = refl;
   }
 
 -- ---- pairs of vertices
 
-module _ (two : Bool) (held : HeldRing) (i j : ℤ) where
+module _ (version : Version) (held : HeldRing) (i j : ℤ) where
   pub pair_refused : (fault : Bad) → AreAsked (given_of held.ring) i j (Err fault)
-      → IsAskedOf two (Some held) (command.Pair i j) (still (reply.Refused fault))
+      → IsAskedOf version (Some held) (command.Pair i j) (still (reply.Refused fault))
   pair_refused fault is = record {
     is_reply = why fault is;
     suits = tt;
@@ -138,7 +136,7 @@ module _ (two : Bool) (held : HeldRing) (i j : ℤ) where
     prepared = record { told = λ told. absurd (not_told fault is told); refused = λ _. refl };
   }
     where
-      why : (fault : Bad) → AreAsked (given_of held.ring) i j (Err fault) → IsPairReply two (given_of held.ring) i j (reply.Refused fault)
+      why : (fault : Bad) → AreAsked (given_of held.ring) i j (Err fault) → IsPairReply version (given_of held.ring) i j (reply.Refused fault)
       why fault (inl h) = too_many h.0 (ap reply.Refused h.1)
       why fault (inr (inl h)) = first_off h.0 h.1 (ap reply.Refused h.2)
       why fault (inr (inr h)) = second_off h.0 h.1 h.2 (ap reply.Refused h.3)
@@ -149,12 +147,12 @@ module _ (two : Bool) (held : HeldRing) (i j : ℤ) where
       not_told fault (inr (inr h)) told = h.2 told.2
 
   module _ (pair : ℕ × ℕ) (answered : Reply) (is : AreAsked (given_of held.ring) i j (Ok pair))
-      (told : TellsPath two (given_of held.ring) (vertex (given_of held.ring) pair.0) (vertex (given_of held.ring) pair.1) answered) where
-    joins : IsPairReply two (given_of held.ring) i j answered
+      (told : TellsPath version (given_of held.ring) (vertex (given_of held.ring) pair.0) (vertex (given_of held.ring) pair.1) answered) where
+    joins : IsPairReply version (given_of held.ring) i j answered
     joins = joined is.0 pair.0 pair.1 is.1 is.2 told
 
     -- with the table that is there,
-    pub pair_told : held.prepared ≡ true → IsAskedOf two (Some held) (command.Pair i j) (still answered)
+    pub pair_told : held.prepared ≡ true → IsAskedOf version (Some held) (command.Pair i j) (still answered)
     pair_told there = record {
       is_reply = joins;
       suits = tt;
@@ -164,7 +162,7 @@ module _ (two : Bool) (held : HeldRing) (i j : ℤ) where
 
     -- or a new one
     pub pair_made : (table : List (List ℕ)) → IsMadeFor held.ring.corners table
-        → IsAskedOf two (Some held) (command.Pair i j) (record { reply = answered; change = change.Table table })
+        → IsAskedOf version (Some held) (command.Pair i j) (record { reply = answered; change = change.Table table })
     pair_made table made = record {
       is_reply = joins;
       suits = made;
@@ -172,38 +170,11 @@ module _ (two : Bool) (held : HeldRing) (i j : ℤ) where
       prepared = record { told = λ _. refl; refused = λ wrong. absurd (wrong (is.0, (pair.0, is.1), (pair.1, is.2))) };
     }
 
-module _ (two : Bool) (held : HeldRing) where
-  pub sights_refused : ¬ IsSmall (given_of held.ring) → IsAskedOf two (Some held) command.Sights (still (reply.Refused bad.Large))
+module _ (version : Version) (held : HeldRing) where
+  pub sights_refused : ¬ IsSmall (given_of held.ring) → IsAskedOf version (Some held) command.Sights (still (reply.Refused bad.Large))
   sights_refused large = record {
     is_reply = too_large large refl;
     suits = tt;
     state = refl;
     prepared = record { told = λ small. absurd (large small); refused = λ _. refl };
   }
-
-  module _ (answered : Reply) (small : IsSmall (given_of held.ring)) (told : Tells reply.Sights (AreSights (given_of held.ring)) answered) where
-    pub sights_told : held.prepared ≡ true → IsAskedOf two (Some held) command.Sights (still answered)
-    sights_told there = record {
-      is_reply = sighted small told;
-      suits = tt;
-      state = refl;
-      prepared = record { told = λ _. there; refused = λ wrong. absurd (wrong small) };
-    }
-
-    pub sights_made : (table : List (List ℕ)) → IsMadeFor held.ring.corners table
-        → IsAskedOf two (Some held) command.Sights (record { reply = answered; change = change.Table table })
-    sights_made table made = record {
-      is_reply = sighted small told;
-      suits = made;
-      state = refl;
-      prepared = record { told = λ _. refl; refused = λ wrong. absurd (wrong small) };
-    }
-
--- a ring that is not called large is small
-pub small_of : (ring : List Point) (large : Bool) → large ≡ false → IsTrue large ↔ (¬ IsSmall ring) → IsSmall ring
-small_of ring large is iff = elim (cases_lt MAX_PAIRED (length ring)) [
-  | inl more ↦
-      let so : large ≡ true = iff.1 (λ (small : length ring ≤ MAX_PAIRED). omega (arith, small, more)) in
-      absurd cc
-  | inr small ↦ small
-]

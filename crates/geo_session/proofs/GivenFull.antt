@@ -5,6 +5,8 @@ use Rattle.rings.proofs.Turned.{length-turned_round, turned_round-turned_round, 
 use Rattle.rings.proofs.Vertices.{vertex_mod}
 use Rattle.rings.specs.Full.{AreTouched, IsFull, IsVertexBetween}
 use Rattle.rings.specs.Orientation.{turned_round}
+use Rattle.geo_text.specs.declared.version.Version.{Version}
+use Rattle.geo_text.specs.declared.version.Version.TheVariants as version
 use Rattle.ring_check.specs.Oriented.{Oriented, given_of}
 use Rattle.geo_session.proofs.GivenPath.{path_either}
 use Rattle.geo_session.specs.Shown.{IsShown, IsShownPath}
@@ -54,19 +56,19 @@ full_either true ring chain full is = full_turned ring chain full is
 full_either false ring chain full is = is
 
 -- and are told of a path, in each version
-told_either : (two turned : Bool) (ring chain shown : List Point) → IsShown two ring chain shown
-    → IsShown two (if turned then turned_round ring else ring) chain shown
-told_either true turned ring chain shown is = full_either turned ring chain shown is
-told_either false turned ring chain shown is = is
+told_either : (version : Version) (turned : Bool) (ring chain shown : List Point) → IsShown version ring chain shown
+    → IsShown version (if turned then turned_round ring else ring) chain shown
+told_either version.Two turned ring chain shown is = full_either turned ring chain shown is
+told_either version.One turned ring chain shown is = is
 
-shown_either : (two turned : Bool) (ring : List Point) (s t : Point) (shown : List Point) → IsShownPath two ring s t shown
-    → IsShownPath two (if turned then turned_round ring else ring) s t shown
-shown_either two turned ring s t shown is = record {
+shown_either : (version : Version) (turned : Bool) (ring : List Point) (s t : Point) (shown : List Point) → IsShownPath version ring s t shown
+    → IsShownPath version (if turned then turned_round ring else ring) s t shown
+shown_either version turned ring s t shown is = record {
   chain = is.chain;
   is_path = path_either turned ring s t is.chain is.is_path;
-  is_shown = told_either two turned ring is.chain shown is.is_shown;
+  is_shown = told_either version turned ring is.chain shown is.is_shown;
 }
 
-pub shown_given : (ring : Oriented) (two : Bool) (s t : Point) (shown : List Point) → IsShownPath two ring.corners s t shown
-    → IsShownPath two (given_of ring) s t shown
-shown_given ring two s t shown is = shown_either two ring.is_turned ring.corners s t shown is
+pub shown_given : (ring : Oriented) (version : Version) (s t : Point) (shown : List Point) → IsShownPath version ring.corners s t shown
+    → IsShownPath version (given_of ring) s t shown
+shown_given ring version s t shown is = shown_either version ring.is_turned ring.corners s t shown is

@@ -83,9 +83,6 @@ module _ (points : List Point) (numbers : List ℕ) (firsts : AreFirsts points n
 
 -- the chains of a span are the paths between the triangles of the points
 module _ (ring : List Point) (tris : List Tri) (points : List Point) (span : Span) (is : IsSpan ring tris points span) where
-  pub spanned_few : length span.numbers.items ≤ 64
-  spanned_few = is.few
-
   pub span_table : IsTableOf ring span.chains
   span_table = table_of_ring points span.numbers.items is.firsts ring span.chains is.table is.some is.few
 

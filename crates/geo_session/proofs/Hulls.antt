@@ -1,5 +1,5 @@
 -- The sides of a hull of points, in the list that the ring was made of.
-use Rattle.std.proofs.Common.{inl, inr, refl, Bool, ℕ, zero, suc, ◌+◌, ◌*◌, ◌-◌, ◌<◌, ◌≤◌, ◌^◌, List, length, arith}
+use Rattle.std.proofs.Common.{inl, inr, refl, ℕ, zero, suc, ◌+◌, ◌*◌, ◌-◌, ◌<◌, ◌≤◌, ◌^◌, List, length, arith}
 use Rattle.std.proofs.lemmas.Bool.{cases_lt}
 use Rattle.std.proofs.lemmas.List.{length-map}
 use Rattle.std.specs.Prelude.{map}
@@ -7,6 +7,7 @@ use Rattle.plane.specs.Point.{Point}
 use Rattle.rings.specs.Chain.{point_at}
 use Rattle.meshes.specs.declared.tri.Tri.{Tri}
 use Rattle.meshes.specs.Fits.{Fits}
+use Rattle.geo_text.specs.declared.version.Version.{Version}
 use Rattle.geo_reply.specs.declared.reply.Reply.TheVariants as reply
 use Rattle.geo_reply.specs.declared.reply.Side.{Side}
 use Rattle.ring_check.specs.Oriented.{Oriented, given_of}
@@ -62,8 +63,8 @@ module _ (ring : Oriented) (tris : List Tri) (points : List Point) (span : Span)
       (omega (arith, length-map span.numbers.items (point_at points), is.few))
 
   -- and what is told of the sides are the sides of the points
-  module _ (two : Bool) (told : List Side) (all : AreSidesTold two ring.corners span pairs (length pairs) told) where
-    sides_of : AreSidesOf two (given_of ring) points told
+  module _ (version : Version) (told : List Side) (all : AreSidesTold version ring.corners span pairs (length pairs) told) where
+    sides_of : AreSidesOf version (given_of ring) points told
     sides_of = record {
       numbers = span.numbers.items;
       firsts = is.firsts;
@@ -75,7 +76,7 @@ module _ (ring : Oriented) (tris : List Tri) (points : List Point) (span : Span)
           let (at_s, at_t) = ends_numbered k below in record {
             start = side.start;
             end = side.end;
-            shown = shown_given ring two _ _ _ (record {
+            shown = shown_given ring version _ _ _ (record {
               chain = _;
               is_path = (short_chain ring.corners tris points span is _ _ at_s at_t).is_path;
               is_shown = side.shown;
@@ -84,7 +85,7 @@ module _ (ring : Oriented) (tris : List Tri) (points : List Point) (span : Span)
     }
 
     pub hull_within : Fits ring.corners tris
-        → RepliesWithin (given_of ring) points (Tells reply.Hull (AreSidesOf two (given_of ring) points)) (reply.Hull told)
+        → RepliesWithin (given_of ring) points (Tells reply.Hull (AreSidesOf version (given_of ring) points)) (reply.Hull told)
     hull_within fits =
         within (all_given ring points (held_inside ring.corners tris points (length points) span.tris.items is.held fits))
         (record { value = told; holds = sides_of; told = refl })

@@ -1,11 +1,12 @@
 -- The sides of a hull are one list.
-use Rattle.std.proofs.Common.{◌≡◌, ◌∙◌, inl, inr, sym, ap, subst, Bool, ℕ, ◌<◌, List, [], length, arith}
+use Rattle.std.proofs.Common.{◌≡◌, ◌∙◌, inl, inr, sym, ap, subst, ℕ, ◌<◌, List, [], length, arith}
 use Rattle.std.proofs.lemmas.Bool.{cases_lt}
 use Rattle.std.proofs.lemmas.List.{ext_get_or, get_or_default}
 use Rattle.std.specs.List.{Contains}
 use Rattle.std.specs.Prelude.{map, slice_index}
 use Rattle.plane.specs.Point.{Point}
 use Rattle.rings.specs.Chain.{point_at}
+use Rattle.geo_text.specs.declared.version.Version.{Version}
 use Rattle.pair_cut.proofs.OneOrder.{one_ordered}
 use Rattle.pair_cut.proofs.PairOrder.{before_through, not_before_itself}
 use Rattle.rel_hull.specs.Hull.{IsSide}
@@ -41,11 +42,11 @@ module _ (ring points : List Point) where
       one_ordered IsPairBefore not_before_itself before_through (0, 0) sides others are.sorted are_too.sorted
       (listed_sides sides others are are_too) (listed_sides others sides are_too are)
 
-module _ (two : Bool) (ring points : List Point) where
+module _ (version : Version) (ring points : List Point) where
   -- the path of a side is one, so the side is
-  one_side : (i j : ℕ) (side other : Side) → IsSideFrom two ring points i j side → IsSideFrom two ring points i j other → side ≡ other
+  one_side : (i j : ℕ) (side other : Side) → IsSideFrom version ring points i j side → IsSideFrom version ring points i j other → side ≡ other
   one_side i j side other h g =
-      let path = one_shown two ring (point_at points i) (point_at points j) side.path other.path h.shown g.shown in
+      let path = one_shown version ring (point_at points i) (point_at points j) side.path other.path h.shown g.shown in
       ap (λ (k : ℕ). record { start = k; end = side.end; path = side.path }) (h.start ∙ sym g.start)
       ∙ ap (λ (k : ℕ). record { start = other.start; end = k; path = side.path }) (h.end ∙ sym g.end)
       ∙ ap (λ (points : List Point). record { start = other.start; end = other.end; path = points }) path
@@ -54,7 +55,7 @@ module _ (two : Bool) (ring points : List Point) where
   record AreToldOf (numbers : List ℕ) (sides : List (ℕ × ℕ)) (told : List Side) : Type 0 where
     pub one_each : length told ≡ length sides
     pub each : (k : ℕ) → k < length sides
-        → IsSideFrom two ring points (slice_index numbers (pair_at sides k).0) (slice_index numbers (pair_at sides k).1) (side_at told k)
+        → IsSideFrom version ring points (slice_index numbers (pair_at sides k).0) (slice_index numbers (pair_at sides k).1) (side_at told k)
 
   one_told : (numbers : List ℕ) (sides : List (ℕ × ℕ)) (told others : List Side) → AreToldOf numbers sides told → AreToldOf numbers sides others
       → told ≡ others
@@ -62,7 +63,7 @@ module _ (two : Bool) (ring points : List Point) where
       ext_get_or (record { start = 0; end = 0; path = [] }) told others (h.one_each ∙ sym g.one_each)
       (λ k below. let within : k < length sides = omega (arith, h.one_each, below) in one_side _ _ _ _ (h.each k within) (g.each k within))
 
-  pub one_hull : (told others : List Side) → AreSidesOf two ring points told → AreSidesOf two ring points others → told ≡ others
+  pub one_hull : (told others : List Side) → AreSidesOf version ring points told → AreSidesOf version ring points others → told ≡ others
   one_hull told others h g =
       let numbers : h.numbers ≡ g.numbers = one_firsts points h.numbers g.numbers h.firsts g.firsts in
       let are : AreSides ring (map (point_at points) g.numbers) h.sides =

@@ -1,5 +1,5 @@
 -- The reply to a command is one, or at least its text: rational points may be given by other triples.
-use Rattle.std.proofs.Common.{◌≡◌, ◌∙◌, inl, refl, sym, ap, subst, Bool, ℕ, ℤ, pos, ◌+◌, ◌-◌, List, [], ◌∷◌, length, arith}
+use Rattle.std.proofs.Common.{◌≡◌, ◌∙◌, inl, refl, sym, ap, subst, ℕ, ℤ, pos, ◌+◌, ◌-◌, List, [], ◌∷◌, length, arith}
 use Rattle.std.proofs.lemmas.Int.{ints}
 use Rattle.std.proofs.lemmas.List.{ext_get_or}
 use Rattle.std.specs.Prelude.{Option, Some, None}
@@ -13,6 +13,7 @@ use Rattle.geo_text.specs.declared.command.Bad.{Bad}
 use Rattle.geo_text.specs.declared.command.Bad.TheVariants as bad
 use Rattle.geo_text.specs.declared.command.Command.{Command}
 use Rattle.geo_text.specs.declared.command.Command.TheVariants as command
+use Rattle.geo_text.specs.declared.version.Version.{Version}
 use Rattle.inside_test.specs.declared.position.Position.{Position}
 use Rattle.inside_test.specs.declared.position.Position.TheVariants as position
 use Rattle.cut_tri.specs.Cut.{OneCutLaw}
@@ -60,11 +61,11 @@ module _ (Like : Reply → Reply → Type 0) (like : (one other : Reply) → one
   one_within ring points Holds single one other (within all h) (within all_too g) = single one other h g
 
   -- and so are those to a command
-  one_of : (two : Bool) (kept : Option Kept) (asked : Command) (one other : Reply)
-      → ((k : Kept) → IsReplyIn two k asked one → IsReplyIn two k asked other → Like one other) → IsReplyOf two kept asked one
-      → IsReplyOf two kept asked other → Like one other
-  one_of two None asked one other each h g = like one other (h ∙ sym g)
-  one_of two (Some kept) asked one other each h g = each kept h g
+  one_of : (version : Version) (kept : Option Kept) (asked : Command) (one other : Reply)
+      → ((k : Kept) → IsReplyIn version k asked one → IsReplyIn version k asked other → Like one other) → IsReplyOf version kept asked one
+      → IsReplyOf version kept asked other → Like one other
+  one_of version None asked one other each h g = like one other (h ∙ sym g)
+  one_of version (Some kept) asked one other each h g = each kept h g
 
 -- replies may be the same,
 abbrev Same : Reply → Reply → Type 0
@@ -103,33 +104,33 @@ one_place ring p position.Outside position.Outside out out_too = refl
 
 -- ---- paths
 
-one_path : (two : Bool) (ring : List Point) (s t : Point) (one other : Reply) → TellsPath two ring s t one → TellsPath two ring s t other → one ≡ other
-one_path two ring s t = one_told reply.Path _ (one_shown two ring s t)
+one_path : (version : Version) (ring : List Point) (s t : Point) (one other : Reply) → TellsPath version ring s t one → TellsPath version ring s t other → one ≡ other
+one_path version ring s t = one_told reply.Path _ (one_shown version ring s t)
 
-one_path_reply : (two : Bool) (ring : List Point) (s t : Point) (one other : Reply) → IsPathReply two ring s t one → IsPathReply two ring s t other
+one_path_reply : (version : Version) (ring : List Point) (s t : Point) (one other : Reply) → IsPathReply version ring s t one → IsPathReply version ring s t other
     → one ≡ other
-one_path_reply two ring s t = one_within Same same ring (s ∷ t ∷ []) _ (one_path two ring s t)
+one_path_reply version ring s t = one_within Same same ring (s ∷ t ∷ []) _ (one_path version ring s t)
 
-one_reach_reply : (two : Bool) (ring : List Point) (source : Option Point) (t : Point) (one other : Reply) → IsReachReply two ring source t one
-    → IsReachReply two ring source t other → one ≡ other
-one_reach_reply two ring None t one other h g = h ∙ sym g
-one_reach_reply two ring (Some s) t one other h g = one_within Same same ring (t ∷ []) _ (one_path two ring s t) one other h g
+one_reach_reply : (version : Version) (ring : List Point) (source : Option Point) (t : Point) (one other : Reply) → IsReachReply version ring source t one
+    → IsReachReply version ring source t other → one ≡ other
+one_reach_reply version ring None t one other h g = h ∙ sym g
+one_reach_reply version ring (Some s) t one other h g = one_within Same same ring (t ∷ []) _ (one_path version ring s t) one other h g
 
 -- a number is of one vertex
 one_vertex : (ring : List Point) (z : ℤ) (k l : ℕ) → IsVertexNumber ring z k → IsVertexNumber ring z l → k ≡ l
 one_vertex ring z k l h g = let same : pos k ≡ pos l = sym h.is ∙ g.is in omega (arith, ints, same)
 
-module _ (two : Bool) (ring : List Point) (i j : ℤ) (one other : Reply) where
+module _ (version : Version) (ring : List Point) (i j : ℤ) (one other : Reply) where
   one_joined : (k l m n : ℕ) → IsVertexNumber ring i k → IsVertexNumber ring j l → IsVertexNumber ring i m → IsVertexNumber ring j n
-      → TellsPath two ring (vertex ring k) (vertex ring l) one → TellsPath two ring (vertex ring m) (vertex ring n) other → one ≡ other
+      → TellsPath version ring (vertex ring k) (vertex ring l) one → TellsPath version ring (vertex ring m) (vertex ring n) other → one ≡ other
   one_joined k l m n at_i at_j at_i_too at_j_too h g =
       let start : k ≡ m = one_vertex ring i k m at_i at_i_too in
       let end : l ≡ n = one_vertex ring j l n at_j at_j_too in
-      one_path two ring (vertex ring m) (vertex ring n) one other
-      (subst (λ (v : ℕ). TellsPath two ring (vertex ring m) (vertex ring v) one) end
-      (subst (λ (v : ℕ). TellsPath two ring (vertex ring v) (vertex ring l) one) start h)) g
+      one_path version ring (vertex ring m) (vertex ring n) one other
+      (subst (λ (v : ℕ). TellsPath version ring (vertex ring m) (vertex ring v) one) end
+      (subst (λ (v : ℕ). TellsPath version ring (vertex ring v) (vertex ring l) one) start h)) g
 
-  one_pair_reply : IsPairReply two ring i j one → IsPairReply two ring i j other → one ≡ other
+  one_pair_reply : IsPairReply version ring i j one → IsPairReply version ring i j other → one ≡ other
   one_pair_reply (too_many _ e) (too_many _ f) = e ∙ sym f
   one_pair_reply (too_many large e) (first_off small _ f) = absurd (large small)
   one_pair_reply (too_many large e) (second_off small _ _ f) = absurd (large small)
@@ -151,17 +152,17 @@ module _ (two : Bool) (ring : List Point) (i j : ℤ) (one other : Reply) where
 pub one_path_of : (before : State) (s t : Point) (one other : Reply) → IsReply before (command.Path s t) one → IsReply before (command.Path s t) other
     → one ≡ other
 one_path_of before s t one other h g =
-    one_of Same same before.two before.kept (command.Path s t) one other (λ k. one_path_reply before.two k.ring s t one other) h g
+    one_of Same same before.version before.kept (command.Path s t) one other (λ k. one_path_reply before.version k.ring s t one other) h g
 
 pub one_reach_of : (before : State) (t : Point) (one other : Reply) → IsReply before (command.Reach t) one → IsReply before (command.Reach t) other
     → one ≡ other
 one_reach_of before t one other h g =
-    one_of Same same before.two before.kept (command.Reach t) one other (λ k. one_reach_reply before.two k.ring k.source t one other) h g
+    one_of Same same before.version before.kept (command.Reach t) one other (λ k. one_reach_reply before.version k.ring k.source t one other) h g
 
 pub one_pair_of : (before : State) (i j : ℤ) (one other : Reply) → IsReply before (command.Pair i j) one → IsReply before (command.Pair i j) other
     → one ≡ other
 one_pair_of before i j one other h g =
-    one_of Same same before.two before.kept (command.Pair i j) one other (λ k. one_pair_reply before.two k.ring i j one other) h g
+    one_of Same same before.version before.kept (command.Pair i j) one other (λ k. one_pair_reply before.version k.ring i j one other) h g
 
 -- ---- a tree
 
@@ -218,20 +219,20 @@ module _ (one_cut : OneCutLaw) (one_guards : OneGuardsLaw) (one_sights : OneSigh
   one_reply before (command.Polygon ring) one other h g = alike before (command.Polygon ring) one other (one_polygon ring one other h g)
   one_reply before (command.Inside p) one other h g =
       alike before (command.Inside p) one other
-      (one_of Same same before.two before.kept (command.Inside p) one other (λ k. one_told reply.Place _ (one_place k.ring p) one other) h g)
+      (one_of Same same before.version before.kept (command.Inside p) one other (λ k. one_told reply.Place _ (one_place k.ring p) one other) h g)
   one_reply before (command.Check points) one other h g =
       alike before (command.Check points) one other
-      (one_of Same same before.two before.kept (command.Check points) one other (λ k. one_told reply.Verdict _ (one_verdict k.ring points) one other) h g)
+      (one_of Same same before.version before.kept (command.Check points) one other (λ k. one_told reply.Verdict _ (one_verdict k.ring points) one other) h g)
   one_reply before (command.Path s t) one other h g =
       alike before (command.Path s t) one other (one_path_of before s t one other h g)
   one_reply before (command.Tree s) one other h g =
       alike before (command.Tree s) one other
-      (one_of Same same before.two before.kept (command.Tree s) one other
+      (one_of Same same before.version before.kept (command.Tree s) one other
       (λ k. one_within Same same k.ring (s ∷ []) _ (one_told reply.Tree _ (one_befores k.ring s)) one other) h g)
   one_reply before (command.Reach t) one other h g =
       alike before (command.Reach t) one other (one_reach_of before t one other h g)
   one_reply before (command.See q) one other h g = (
-    one_of SameText same_text before.two before.kept (command.See q) one other
+    one_of SameText same_text before.version before.kept (command.See q) one other
         (λ k. one_within SameText same_text k.ring (q ∷ []) _
         (λ a b seen seen_too. ap reply_text seen.told
         ∙ one_see_text k.ring (whole q) seen.value seen_too.value seen.holds.seen seen_too.holds.seen
@@ -239,7 +240,7 @@ module _ (one_cut : OneCutLaw) (one_guards : OneGuardsLaw) (one_sights : OneSigh
     refl,
   )
   one_reply before command.Kernel one other h g = (
-    one_of SameText same_text before.two before.kept command.Kernel one other
+    one_of SameText same_text before.version before.kept command.Kernel one other
         (λ k is is_too. ap reply_text is.told
         ∙ one_kernel_text (IsInKernel k.ring) is.value is_too.value is.holds is_too.holds
         ∙ sym (ap reply_text is_too.told)) h g,
@@ -247,17 +248,17 @@ module _ (one_cut : OneCutLaw) (one_guards : OneGuardsLaw) (one_sights : OneSigh
   )
   one_reply before (command.Hull points) one other h g =
       alike before (command.Hull points) one other
-      (one_of Same same before.two before.kept (command.Hull points) one other
-      (λ k. one_within Same same k.ring points _ (one_told reply.Hull _ (one_hull before.two k.ring points)) one other) h g)
+      (one_of Same same before.version before.kept (command.Hull points) one other
+      (λ k. one_within Same same k.ring points _ (one_told reply.Hull _ (one_hull before.version k.ring points)) one other) h g)
   one_reply before (command.Round points) one other h g =
       alike before (command.Round points) one other
-      (one_of Same same before.two before.kept (command.Round points) one other
+      (one_of Same same before.version before.kept (command.Round points) one other
       (λ k. one_within Same same k.ring points _ (one_told reply.Round _ (one_numbers k.ring points)) one other) h g)
   one_reply before command.Guards one other h g =
       alike before command.Guards one other
-      (one_of Same same before.two before.kept command.Guards one other (λ k. one_told reply.Guards _ (one_guarding one_cut one_guards k.ring) one other) h g)
+      (one_of Same same before.version before.kept command.Guards one other (λ k. one_told reply.Guards _ (one_guarding one_cut one_guards k.ring) one other) h g)
   one_reply before (command.Pair i j) one other h g =
       alike before (command.Pair i j) one other (one_pair_of before i j one other h g)
   one_reply before command.Sights one other h g =
       alike before command.Sights one other
-      (one_of Same same before.two before.kept command.Sights one other (λ k. one_sights_reply one_sights k.ring one other) h g)
+      (one_of Same same before.version before.kept command.Sights one other (λ k. one_sights_reply one_sights k.ring one other) h g)

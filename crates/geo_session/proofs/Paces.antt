@@ -1,12 +1,15 @@
 -- The bounds on steps: of replies, and of their lines.
-use Rattle.std.proofs.Common.{◌≡◌, ◌∙◌, inl, inr, refl, sym, ap, subst, Bool, true, false, if◌then◌else◌, ℕ, ℤ, ◌+◌, ◌-◌, ◌*◌, ◌≤◌, List, [], ◌∷◌, ◌++◌, length, Result, arith}
+use Rattle.std.proofs.Common.{◌≡◌, ◌∙◌, inl, inr, refl, sym, ap, subst, true, false, ℕ, ℤ, ◌+◌, ◌-◌, ◌*◌, ◌≤◌, List, [], ◌∷◌, ◌++◌, length, Result, arith}
 use Rattle.std.specs.Prelude.{OnOk, Option, Some, None}
 use Rattle.plane.specs.Point.{Point}
 use Rattle.shared_seq.specs.Digits.{binary_digits}
+use Rattle.geo_text.specs.Version.{by_version}
 use Rattle.geo_text.specs.declared.command.Bad.{Bad}
 use Rattle.geo_text.specs.declared.command.Bad.TheVariants as bad
 use Rattle.geo_text.specs.declared.command.Command.{Command}
 use Rattle.geo_text.specs.declared.command.Command.TheVariants as command
+use Rattle.geo_text.specs.declared.version.Version.{Version}
+use Rattle.geo_text.specs.declared.version.Version.TheVariants as version
 use Rattle.geo_reply.proofs.Fronts.{no_more, ok_since, under_ok}
 use Rattle.geo_reply.specs.ReplyText.{reply_text}
 use Rattle.geo_reply.specs.Written.{WritesSteps, points_of}
@@ -44,64 +47,40 @@ unpaced seen command.Guards steps = tt
 unpaced seen (command.Pair i j) steps = no_more steps _
 unpaced seen command.Sights steps = no_more steps _
 
-path_room : (two : Bool) (n start done : ℕ) → done ≤ start + (if two then 30 else 10) * n → done ≤ start + path_pace two * n
-path_room true n start done few = omega (arith, few)
-path_room false n start done few = omega (arith, few)
-
-reach_room : (two : Bool) (n more start done : ℕ) → done ≤ start + ((if two then 23 else 3) * n + more) → done ≤ start + (reach_pace two * n + more)
-reach_room true n more start done few = omega (arith, few)
-reach_room false n more start done few = omega (arith, few)
-
-module _ (two : Bool) (held : HeldRing) (start done : ℕ) where
-  pub path_paced : (s t : Point) → done ≤ start + (if two then 30 else 10) * length held.ring.corners
-      → IsPaced (seen_of two (Some held)) (command.Path s t) start done
-  path_paced s t few = rw (size_held held) (path_room two (length held.ring.corners) start done few)
-
-  pub reach_paced : (t : Point) → let n = length held.ring.corners in let b = binary_digits n in
-      done ≤ start + ((if two then 23 else 3) * n + 24 * (b * b)) → IsPaced (seen_of two (Some held)) (command.Reach t) start done
-  reach_paced t few = rw (size_held held) (reach_room two (length held.ring.corners) _ start done few)
-
+module _ (version : Version) (held : HeldRing) (start done : ℕ) where
   -- a point is found, and a tree is grown there
-  pub tree_found : (s : Point) → done ≤ start + 3 * (length held.ring.corners - 2) → IsPaced (seen_of two (Some held)) (command.Tree s) start done
+  pub tree_found : (s : Point) → done ≤ start + 3 * (length held.ring.corners - 2) → IsPaced (seen_of version (Some held)) (command.Tree s) start done
   tree_found s few = rw (size_held held) (omega (arith, few))
 
   pub tree_paced : (s : Point) (found : ℕ) → found ≤ start + 3 * (length held.ring.corners - 2) → let n = length held.ring.corners in
-      let b = binary_digits n in done ≤ found + 200 * n * (b * b) → IsPaced (seen_of two (Some held)) (command.Tree s) start done
+      let b = binary_digits n in done ≤ found + 200 * n * (b * b) → IsPaced (seen_of version (Some held)) (command.Tree s) start done
   tree_paced s found few more = rw (size_held held) (omega (arith, few, more))
 
   -- where the table is there, telling the path takes few steps,
-  pub pair_paced : (i j : ℤ) → held.prepared ≡ true → done ≤ start + (if two then 20 else 0) * length held.ring.corners
-      → IsPaced (seen_of two (Some held)) (command.Pair i j) start done
+  pub pair_paced : (i j : ℤ) → held.prepared ≡ true → done ≤ start + by_version version 0 20 * length held.ring.corners
+      → IsPaced (seen_of version (Some held)) (command.Pair i j) start done
   pair_paced i j there few = rw (there, size_held held) (omega (arith, few))
 
   -- and else those of making it more
   pub new_pair_paced : (i j : ℤ) (made : ℕ) → held.prepared ≡ false → let n = length held.ring.corners in let b = binary_digits n in
-      made ≤ start + 200 * (n * n) * (b * b) → done ≤ made + (if two then 20 else 0) * n → IsPaced (seen_of two (Some held)) (command.Pair i j) start done
+      made ≤ start + 200 * (n * n) * (b * b) → done ≤ made + by_version version 0 20 * n → IsPaced (seen_of version (Some held)) (command.Pair i j) start done
   new_pair_paced i j made none making few = rw (none, size_held held) (omega (arith, making, few))
-
-  pub made_paced : (i j : ℤ) → held.prepared ≡ false → let n = length held.ring.corners in let b = binary_digits n in
-      done ≤ start + 200 * (n * n) * (b * b) → IsPaced (seen_of two (Some held)) (command.Pair i j) start done
-  made_paced i j none making = rw (none, size_held held) (omega (arith, making))
-
-  pub sights_paced : held.prepared ≡ false → let n = length held.ring.corners in let b = binary_digits n in
-      done ≤ start + 200 * (n * n) * (b * b) → IsPaced (seen_of two (Some held)) command.Sights start done
-  sights_paced none making = rw (none, size_held held) making
 
 -- ---- finding the ends of a path and telling it
 
 module _ (n start first : ℕ) (one : first ≤ start + 3 * (n - 2)) where
-  pub located_one : (two : Bool) → first ≤ start + (if two then 30 else 10) * n
-  located_one true = omega (arith, one)
-  located_one false = omega (arith, one)
+  pub located_one : (version : Version) → first ≤ start + by_version version 10 30 * n
+  located_one version.Two = omega (arith, one)
+  located_one version.One = omega (arith, one)
 
   module _ (second : ℕ) (other : second ≤ first + 3 * (n - 2)) where
-    pub located_two : (two : Bool) → second ≤ start + (if two then 30 else 10) * n
-    located_two true = omega (arith, one, other)
-    located_two false = omega (arith, one, other)
+    pub located_two : (version : Version) → second ≤ start + by_version version 10 30 * n
+    located_two version.Two = omega (arith, one, other)
+    located_two version.One = omega (arith, one, other)
 
-    pub located_told : (two : Bool) (done : ℕ) → done ≤ second + (if two then 24 else 4) * n → done ≤ start + (if two then 30 else 10) * n
-    located_told true done more = omega (arith, one, other, more)
-    located_told false done more = omega (arith, one, other, more)
+    pub located_told : (version : Version) (done : ℕ) → done ≤ second + by_version version 4 24 * n → done ≤ start + by_version version 10 30 * n
+    located_told version.Two done more = omega (arith, one, other, more)
+    located_told version.One done more = omega (arith, one, other, more)
 
     pub located_untold : (done : ℕ) → done ≡ second → done ≤ start + 6 * (n - 2)
     located_untold done same = omega (arith, one, other, same)
@@ -113,36 +92,36 @@ data IsPathOrRefused (answered : Reply) : Type 0 where
   path : (points : List Point) → answered ≡ reply.Path points → IsPathOrRefused answered
   refusal : (fault : Bad) → answered ≡ reply.Refused fault → IsPathOrRefused answered
 
-told_path : (two : Bool) (ring : List Point) (s t : Point) (answered : Reply) → TellsPath two ring s t answered → IsPathOrRefused answered
-told_path two ring s t answered h = path h.value h.told
+told_path : (version : Version) (ring : List Point) (s t : Point) (answered : Reply) → TellsPath version ring s t answered → IsPathOrRefused answered
+told_path version ring s t answered h = path h.value h.told
 
-within_path : (two : Bool) (ring points : List Point) (s t : Point) (answered : Reply) → RepliesWithin ring points (TellsPath two ring s t) answered
+within_path : (version : Version) (ring points : List Point) (s t : Point) (answered : Reply) → RepliesWithin ring points (TellsPath version ring s t) answered
     → IsPathOrRefused answered
-within_path two ring points s t answered (outside fault h e) = refusal fault e
-within_path two ring points s t answered (within all h) = told_path two ring s t answered h
+within_path version ring points s t answered (outside fault h e) = refusal fault e
+within_path version ring points s t answered (within all h) = told_path version ring s t answered h
 
-reached_path : (two : Bool) (ring : List Point) (source : Option Point) (t : Point) (answered : Reply) → IsReachReply two ring source t answered
+reached_path : (version : Version) (ring : List Point) (source : Option Point) (t : Point) (answered : Reply) → IsReachReply version ring source t answered
     → IsPathOrRefused answered
-reached_path two ring None t answered e = refusal bad.NoTree e
-reached_path two ring (Some s) t answered h = within_path two ring (t ∷ []) s t answered h
+reached_path version ring None t answered e = refusal bad.NoTree e
+reached_path version ring (Some s) t answered h = within_path version ring (t ∷ []) s t answered h
 
-paired_path : (two : Bool) (ring : List Point) (i j : ℤ) (answered : Reply) → IsPairReply two ring i j answered → IsPathOrRefused answered
-paired_path two ring i j answered (too_many _ e) = refusal bad.Large e
-paired_path two ring i j answered (first_off _ _ e) = refusal (bad.Index 1) e
-paired_path two ring i j answered (second_off _ _ _ e) = refusal (bad.Index 2) e
-paired_path two ring i j answered (joined _ k l _ _ h) = told_path two ring _ _ answered h
+paired_path : (version : Version) (ring : List Point) (i j : ℤ) (answered : Reply) → IsPairReply version ring i j answered → IsPathOrRefused answered
+paired_path version ring i j answered (too_many _ e) = refusal bad.Large e
+paired_path version ring i j answered (first_off _ _ e) = refusal (bad.Index 1) e
+paired_path version ring i j answered (second_off _ _ _ e) = refusal (bad.Index 2) e
+paired_path version ring i j answered (joined _ k l _ _ h) = told_path version ring _ _ answered h
 
-path_of_kept : (two : Bool) (kept : Option Kept) (s t : Point) (answered : Reply) → IsReplyOf two kept (command.Path s t) answered → IsPathOrRefused answered
-path_of_kept two None s t answered e = refusal bad.NoPolygon e
-path_of_kept two (Some kept) s t answered h = within_path two kept.ring (s ∷ t ∷ []) s t answered h
+path_of_kept : (version : Version) (kept : Option Kept) (s t : Point) (answered : Reply) → IsReplyOf version kept (command.Path s t) answered → IsPathOrRefused answered
+path_of_kept version None s t answered e = refusal bad.NoPolygon e
+path_of_kept version (Some kept) s t answered h = within_path version kept.ring (s ∷ t ∷ []) s t answered h
 
-reach_of_kept : (two : Bool) (kept : Option Kept) (t : Point) (answered : Reply) → IsReplyOf two kept (command.Reach t) answered → IsPathOrRefused answered
-reach_of_kept two None t answered e = refusal bad.NoPolygon e
-reach_of_kept two (Some kept) t answered h = reached_path two kept.ring kept.source t answered h
+reach_of_kept : (version : Version) (kept : Option Kept) (t : Point) (answered : Reply) → IsReplyOf version kept (command.Reach t) answered → IsPathOrRefused answered
+reach_of_kept version None t answered e = refusal bad.NoPolygon e
+reach_of_kept version (Some kept) t answered h = reached_path version kept.ring kept.source t answered h
 
-pair_of_kept : (two : Bool) (kept : Option Kept) (i j : ℤ) (answered : Reply) → IsReplyOf two kept (command.Pair i j) answered → IsPathOrRefused answered
-pair_of_kept two None i j answered e = refusal bad.NoPolygon e
-pair_of_kept two (Some kept) i j answered h = paired_path two kept.ring i j answered h
+pair_of_kept : (version : Version) (kept : Option Kept) (i j : ℤ) (answered : Reply) → IsReplyOf version kept (command.Pair i j) answered → IsPathOrRefused answered
+pair_of_kept version None i j answered e = refusal bad.NoPolygon e
+pair_of_kept version (Some kept) i j answered h = paired_path version kept.ring i j answered h
 
 -- the lines of a path or a refusal take few steps, by what was written and by the reply
 module _ {E : Type 0} (before : State) (asked : Command) (most : ℕ) (put : Result (Unit {0}) E) (out out' : List ℕ) (steps told done : ℕ)
@@ -175,11 +154,11 @@ quiet_tree ring points Holds answered told done (outside fault h e) more =
 quiet_tree ring points Holds answered told done (within all h) more =
     let wrote : done ≤ told + 64 * 0 = subst (λ (r : Reply). WritesSteps r told done) h.told more in omega (arith, wrote)
 
-quiet_tree_of : (two : Bool) (kept : Option Kept) (s : Point) (answered : Reply) (told done : ℕ) → IsReplyOf two kept (command.Tree s) answered
+quiet_tree_of : (version : Version) (kept : Option Kept) (s : Point) (answered : Reply) (told done : ℕ) → IsReplyOf version kept (command.Tree s) answered
     → WritesSteps answered told done → done ≤ told
-quiet_tree_of two None s answered told done e more =
+quiet_tree_of version None s answered told done e more =
     let wrote : done ≤ told + 64 * 0 = subst (λ (r : Reply). WritesSteps r told done) e more in omega (arith, wrote)
-quiet_tree_of two (Some kept) s answered told done h more = quiet_tree kept.ring (s ∷ []) _ answered told done h more
+quiet_tree_of version (Some kept) s answered told done h more = quiet_tree kept.ring (s ∷ []) _ answered told done h more
 
 quiet_sights : (ring : List Point) (answered : Reply) (told done : ℕ) → AreSightsReply ring answered → WritesSteps answered told done → done ≤ told
 quiet_sights ring answered told done (too_large _ e) more =
@@ -187,11 +166,11 @@ quiet_sights ring answered told done (too_large _ e) more =
 quiet_sights ring answered told done (sighted _ h) more =
     let wrote : done ≤ told + 64 * 0 = subst (λ (r : Reply). WritesSteps r told done) h.told more in omega (arith, wrote)
 
-quiet_sights_of : (two : Bool) (kept : Option Kept) (answered : Reply) (told done : ℕ) → IsReplyOf two kept command.Sights answered
+quiet_sights_of : (version : Version) (kept : Option Kept) (answered : Reply) (told done : ℕ) → IsReplyOf version kept command.Sights answered
     → WritesSteps answered told done → done ≤ told
-quiet_sights_of two None answered told done e more =
+quiet_sights_of version None answered told done e more =
     let wrote : done ≤ told + 64 * 0 = subst (λ (r : Reply). WritesSteps r told done) e more in omega (arith, wrote)
-quiet_sights_of two (Some kept) answered told done h more = quiet_sights kept.ring answered told done h more
+quiet_sights_of version (Some kept) answered told done h more = quiet_sights kept.ring answered told done h more
 
 module _ {E : Type 0} (seen : Seen) (put : Result (Unit {0}) E) (out out' : List ℕ) (steps told done : ℕ) where
   -- so a command is paced with its lines,
@@ -203,12 +182,12 @@ module _ {E : Type 0} (seen : Seen) (put : Result (Unit {0}) E) (out out' : List
   written_paced (command.Check points) answered h paced more written = tt
   written_paced (command.Path s t) answered h paced more written =
       takes_both seen.state (command.Path s t) _ put out out' steps told done paced answered
-      (path_of_kept seen.state.two seen.state.kept s t answered h) (λ other g. one_path_of seen.state s t answered other h g) more written
+      (path_of_kept seen.state.version seen.state.kept s t answered h) (λ other g. one_path_of seen.state s t answered other h g) more written
   written_paced (command.Tree s) answered h paced more written =
-      let none = quiet_tree_of seen.state.two seen.state.kept s answered told done h more in omega (arith, paced, none)
+      let none = quiet_tree_of seen.state.version seen.state.kept s answered told done h more in omega (arith, paced, none)
   written_paced (command.Reach t) answered h paced more written =
       takes_both seen.state (command.Reach t) _ put out out' steps told done paced answered
-      (reach_of_kept seen.state.two seen.state.kept t answered h) (λ other g. one_reach_of seen.state t answered other h g) more written
+      (reach_of_kept seen.state.version seen.state.kept t answered h) (λ other g. one_reach_of seen.state t answered other h g) more written
   written_paced (command.See q) answered h paced more written = tt
   written_paced command.Kernel answered h paced more written = tt
   written_paced (command.Hull points) answered h paced more written = tt
@@ -216,9 +195,9 @@ module _ {E : Type 0} (seen : Seen) (put : Result (Unit {0}) E) (out out' : List
   written_paced command.Guards answered h paced more written = tt
   written_paced (command.Pair i j) answered h paced more written =
       takes_both seen.state (command.Pair i j) _ put out out' steps told done paced answered
-      (pair_of_kept seen.state.two seen.state.kept i j answered h) (λ other g. one_pair_of seen.state i j answered other h g) more written
+      (pair_of_kept seen.state.version seen.state.kept i j answered h) (λ other g. one_pair_of seen.state i j answered other h g) more written
   written_paced command.Sights answered h paced more written =
-      let none = quiet_sights_of seen.state.two seen.state.kept answered told done h more in omega (arith, paced, none)
+      let none = quiet_sights_of seen.state.version seen.state.kept answered told done h more in omega (arith, paced, none)
 
   -- also where no reply was found
   pub unwritten_paced : (asked : Command) → IsPaced seen asked steps told → done ≡ told → OnOk put ⊥ → IsWrittenPaced seen asked put out out' steps done
@@ -242,7 +221,7 @@ module _ {E : Type 0} (seen : Seen) (put : Result (Unit {0}) E) (out out' : List
 module _ {E : Type 0} (seen : Seen) (asked : Command) (put : Result (Unit {0}) E) (out out' : List ℕ) (steps done : ℕ)
     (paced : IsWrittenPaced seen asked put out out' steps done) where
   pub path_clause : (s t : Point) → asked ≡ command.Path s t
-      → TakesBoth seen.state asked (path_pace seen.state.two * size_of seen.state.kept) put out out' steps done
+      → TakesBoth seen.state asked (path_pace seen.state.version * size_of seen.state.kept) put out out' steps done
   path_clause s t is = rw is (rw is at paced)
 
   pub tree_clause : (s : Point) → asked ≡ command.Tree s → let n = size_of seen.state.kept in let b = binary_digits n in
@@ -250,11 +229,11 @@ module _ {E : Type 0} (seen : Seen) (asked : Command) (put : Result (Unit {0}) E
   tree_clause s is = rw is at paced
 
   pub reach_clause : (t : Point) → asked ≡ command.Reach t → let n = size_of seen.state.kept in let b = binary_digits n in
-      TakesBoth seen.state asked (reach_pace seen.state.two * n + 24 * (b * b)) put out out' steps done
+      TakesBoth seen.state asked (reach_pace seen.state.version * n + 24 * (b * b)) put out out' steps done
   reach_clause t is = rw is (rw is at paced)
 
   pub pair_clause : (i j : ℤ) → asked ≡ command.Pair i j → let n = size_of seen.state.kept in
-      TakesBoth seen.state asked (table_steps seen + pair_pace seen.state.two * n) put out out' steps done
+      TakesBoth seen.state asked (table_steps seen + pair_pace seen.state.version * n) put out out' steps done
   pair_clause i j is = rw is (rw is at paced)
 
   pub sights_clause : asked ≡ command.Sights → done ≤ steps + table_steps seen

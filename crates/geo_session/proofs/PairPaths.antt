@@ -1,5 +1,5 @@
 -- The path between two vertices: it has no more points than the ring, and what is told of it.
-use Rattle.std.proofs.Common.{◌≡◌, ◌∙◌, sym, ap, Bool, ℕ, ◌<◌, ◌≤◌, List, get_or, length, map, arith}
+use Rattle.std.proofs.Common.{◌≡◌, ◌∙◌, sym, ap, ℕ, ◌<◌, ◌≤◌, List, get_or, length, map, arith}
 use Rattle.std.proofs.lemmas.List.{get_or-map, length-map}
 use Rattle.plane.specs.Point.{Point}
 use Rattle.rings.specs.Chain.{IsPath, point_at}
@@ -9,6 +9,7 @@ use Rattle.meshes.specs.declared.tri.Tri.{Tri}
 use Rattle.funnels.proofs.Trees.{path_differs}
 use Rattle.funnels.proofs.Vertices.{fitted_long, fitted_simple}
 use Rattle.tri_mesh.proofs.Numbers.{few_numbers}
+use Rattle.geo_text.specs.declared.version.Version.{Version}
 use Rattle.ring_check.specs.Oriented.{Oriented, given_index, given_of}
 use Rattle.pair_cut.specs.Pairs.{IsPairPath}
 use Rattle.geo_session.proofs.GivenFull.{shown_given}
@@ -31,8 +32,8 @@ module _ (corners : List Point) (tris : List Tri) (fits : Fits corners tris) (i 
 module _ (ring : Oriented) (i j from to : ℕ) (i_below : i < length ring.corners) (j_below : j < length ring.corners) (first : from ≡ given_index ring i)
     (last : to ≡ given_index ring j) where
   -- what is told of it in the ring is told of it in the list that the ring was made of
-  pub pair_told : (two : Bool) (chain points : List Point) → IsPath ring.corners (vertex ring.corners from) (vertex ring.corners to) chain
-      → IsShown two ring.corners chain points → IsShownPath two (given_of ring) (vertex (given_of ring) i) (vertex (given_of ring) j) points
-  pair_told two chain points is_path is_shown =
+  pub pair_told : (version : Version) (chain points : List Point) → IsPath ring.corners (vertex ring.corners from) (vertex ring.corners to) chain
+      → IsShown version ring.corners chain points → IsShownPath version (given_of ring) (vertex (given_of ring) i) (vertex (given_of ring) j) points
+  pair_told version chain points is_path is_shown =
       rw (vertex_there ring i i_below, vertex_there ring j j_below, ← first, ← last)
-      (shown_given ring two (vertex ring.corners from) (vertex ring.corners to) points (record { chain = chain; is_path = is_path; is_shown = is_shown }))
+      (shown_given ring version (vertex ring.corners from) (vertex ring.corners to) points (record { chain = chain; is_path = is_path; is_shown = is_shown }))

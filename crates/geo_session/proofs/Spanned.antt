@@ -1,5 +1,5 @@
 -- The points of a hull, one after the other: their first numbers, their triangles, and the chains between them.
-use Rattle.std.proofs.Common.{◌≡◌, ◌≢◌, ◌∙◌, inl, inr, sym, ap, subst, Bool, false, ℕ, ◌+◌, ◌*◌, ◌/◌, ◌%◌, ◌<◌, List, [], ◌∷◌, ◌++◌, length, get_or, arith}
+use Rattle.std.proofs.Common.{◌≡◌, ◌≢◌, ◌∙◌, inl, inr, sym, ap, subst, ℕ, ◌+◌, ◌*◌, ◌/◌, ◌%◌, ◌<◌, List, [], ◌∷◌, ◌++◌, length, get_or, arith}
 use Rattle.std.proofs.Math.Nat.{div-lt_iff_lt-mul, div-eq_of_lt, mod-eq_of_lt, mod-lt, mul-add-div_right, mul-add-mod_self_right}
 use Rattle.std.proofs.lemmas.Bool.{cases_eq, cases_lt}
 use Rattle.std.proofs.lemmas.List.{get_or_append_left, get_or_push, length_push}
@@ -10,6 +10,8 @@ use Rattle.rings.specs.Chain.{IsPath, point_at}
 use Rattle.rings.specs.Inside.{IsIn}
 use Rattle.meshes.specs.Fits.{Fits}
 use Rattle.meshes.specs.declared.tri.Tri.{Tri}
+use Rattle.geo_text.specs.declared.version.Version.{Version}
+use Rattle.geo_text.specs.declared.version.Version.TheVariants as version
 use Rattle.dual_tree.specs.Location.{IsLeastHolding}
 use Rattle.rel_hull.proofs.Outer.{ordered_push}
 use Rattle.rel_hull.specs.Table.{pair_at}
@@ -98,7 +100,7 @@ inside_more ring points n each next k below = elim (cases_lt k n) [
 -- ---- the chains
 
 -- in version 1 what is told of a path is the path
-pub plain_path : (ring : List Point) (s t : Point) (points : List Point) → IsShownPath false ring s t points → IsPath ring s t points
+pub plain_path : (ring : List Point) (s t : Point) (points : List Point) → IsShownPath version.One ring s t points → IsPath ring s t points
 plain_path ring s t points h = subst (IsPath ring s t) (sym h.is_shown) h.is_path
 
 module _ (ring points : List Point) (numbers : List ℕ) where
@@ -114,12 +116,12 @@ module _ (ring points : List Point) (numbers : List ℕ) where
 -- ---- the sides
 
 -- the next side is told
-pub sides_more : (two : Bool) (ring : List Point) (span : Span) (pairs : List (ℕ × ℕ)) (n : ℕ) (told : List Side) (side : Side)
-    → AreSidesTold two ring span pairs n told → IsSideTold two ring span (pair_at pairs n) side
-    → AreSidesTold two ring span pairs (n + 1) (told ++ side ∷ [])
-sides_more two ring span pairs n told side are is = record {
+pub sides_more : (version : Version) (ring : List Point) (span : Span) (pairs : List (ℕ × ℕ)) (n : ℕ) (told : List Side) (side : Side)
+    → AreSidesTold version ring span pairs n told → IsSideTold version ring span (pair_at pairs n) side
+    → AreSidesTold version ring span pairs (n + 1) (told ++ side ∷ [])
+sides_more version ring span pairs n told side are is = record {
   count = length_push told side ∙ ap (λ (k : ℕ). k + 1) are.count;
-  each = each_push (λ k side. IsSideTold two ring span (pair_at pairs k) side) told side _ n are.count are.each is;
+  each = each_push (λ k side. IsSideTold version ring span (pair_at pairs k) side) told side _ n are.count are.each is;
 }
 
 -- ---- the table by rows and columns

@@ -1,10 +1,12 @@
 -- What a command changes, and how its reply and its steps are known before anything is written. No public clause cites this module.
-use Rattle.std.specs.Prelude.{◌≡◌, ◌⊎◌, ℕ, ℤ, ◌+◌, ◌*◌, ◌≤◌, Bool, true, List, OnOk, Option, None, Some, Result, Ok, Err}
+use Rattle.std.specs.Prelude.{◌≡◌, ◌⊎◌, ℕ, ℤ, ◌+◌, ◌*◌, ◌≤◌, true, List, OnOk, Option, None, Some, Result, Ok, Err}
 use Rattle.plane.specs.Point.{Point}
 use Rattle.geo_text.specs.declared.command.Bad.{Bad}
 use Rattle.geo_text.specs.declared.command.Bad.TheVariants as bad
 use Rattle.geo_text.specs.declared.command.Command.{Command}
 use Rattle.geo_text.specs.declared.command.Command.TheVariants as command
+use Rattle.geo_text.specs.declared.version.Version.{Version}
+use Rattle.geo_text.specs.declared.version.Version.TheVariants as version
 use Rattle.shared_seq.specs.Digits.{binary_digits}
 use Rattle.pair_cut.specs.Pairs.{IsMadeFor}
 use Rattle.geo_session.specs.Held.{HeldRing, IsTreeOf, kept_of, prepared_of}
@@ -18,13 +20,13 @@ use Rattle.geo_session.specs.declared.ask.Change.{Change}
 use Rattle.geo_session.specs.declared.ask.Change.TheVariants as change
 
 -- what contracts see of a session with these fields
-abbrev pub seen_of : Bool → Option HeldRing → Seen
-seen_of two held = record { state = record { two = two; kept = kept_of held }; prepared = prepared_of held }
+abbrev pub seen_of : Version → Option HeldRing → Seen
+seen_of version held = record { state = record { version = version; kept = kept_of held }; prepared = prepared_of held }
 
 -- the fields after a change
-abbrev pub two_after : Change → Bool → Bool
-two_after change.Two two = true
-two_after other two = two
+abbrev pub version_after : Change → Version → Version
+version_after change.Two before = version.Two
+version_after other before = before
 
 abbrev pub held_after : Change → Option HeldRing → Option HeldRing
 held_after change.Nothing held = held
@@ -42,11 +44,11 @@ Suits (change.Table table) (Some held) = IsMadeFor held.ring.corners table
 Suits other held = Unit {0}
 
 -- the reply is the command's, and the change leads to what is there after it
-pub record IsAskedOf (two : Bool) (held : Option HeldRing) (asked : Command) (answer : Asked) : Type 0 where
-  pub is_reply : IsReply (record { two = two; kept = kept_of held }) asked answer.reply
+pub record IsAskedOf (version : Version) (held : Option HeldRing) (asked : Command) (answer : Asked) : Type 0 where
+  pub is_reply : IsReply (record { version = version; kept = kept_of held }) asked answer.reply
   pub suits : Suits answer.change held
-  pub state : (seen_of (two_after answer.change two) (held_after answer.change held)).state
-      ≡ state_after (record { two = two; kept = kept_of held }) asked answer.reply
+  pub state : (seen_of (version_after answer.change version) (held_after answer.change held)).state
+      ≡ state_after (record { version = version; kept = kept_of held }) asked answer.reply
   pub prepared : IsPreparedAfter (kept_of held) asked (prepared_of held) (prepared_of (held_after answer.change held))
 
 -- the command asks of a polygon
@@ -79,14 +81,14 @@ TakesBoth before asked most put out out' steps steps' =
 -- the steps of a command with its lines, by cases
 abbrev pub IsWrittenPaced : {E : Type 0} → Seen → Command → Result (Unit {0}) E → List ℕ → List ℕ → ℕ → ℕ → Type 0
 IsWrittenPaced seen (command.Path s t) put out out' steps steps' =
-    TakesBoth seen.state (command.Path s t) (path_pace seen.state.two * size_of seen.state.kept) put out out' steps steps'
+    TakesBoth seen.state (command.Path s t) (path_pace seen.state.version * size_of seen.state.kept) put out out' steps steps'
 IsWrittenPaced seen (command.Tree s) put out out' steps steps' =
     let n = size_of seen.state.kept in let b = binary_digits n in steps' ≤ steps + (3 * n + 200 * n * (b * b))
 IsWrittenPaced seen (command.Reach t) put out out' steps steps' =
     let n = size_of seen.state.kept in let b = binary_digits n in
-    TakesBoth seen.state (command.Reach t) (reach_pace seen.state.two * n + 24 * (b * b)) put out out' steps steps'
+    TakesBoth seen.state (command.Reach t) (reach_pace seen.state.version * n + 24 * (b * b)) put out out' steps steps'
 IsWrittenPaced seen (command.Pair i j) put out out' steps steps' =
     let n = size_of seen.state.kept in
-    TakesBoth seen.state (command.Pair i j) (table_steps seen + pair_pace seen.state.two * n) put out out' steps steps'
+    TakesBoth seen.state (command.Pair i j) (table_steps seen + pair_pace seen.state.version * n) put out out' steps steps'
 IsWrittenPaced seen command.Sights put out out' steps steps' = steps' ≤ steps + table_steps seen
 IsWrittenPaced seen other put out out' steps steps' = Unit {0}

@@ -1,8 +1,10 @@
 -- How many steps the commands take that write a path, a tree or a visibility graph. This project's own.
-use Rattle.std.specs.Prelude.{◌≡◌, ◌⊎◌, if◌then◌else◌, Bool, ℕ, ◌+◌, ◌*◌, ◌≤◌, List, [], ◌++◌, length}
+use Rattle.std.specs.Prelude.{◌≡◌, ◌⊎◌, ℕ, ◌+◌, ◌*◌, ◌≤◌, List, [], ◌++◌, length}
 use Rattle.plane.specs.Point.{Point}
+use Rattle.geo_text.specs.Version.{by_version}
 use Rattle.geo_text.specs.declared.command.Command.{Command}
 use Rattle.geo_text.specs.declared.command.Command.TheVariants as command
+use Rattle.geo_text.specs.declared.version.Version.{Version}
 use Rattle.shared_seq.specs.Digits.{binary_digits}
 use Rattle.geo_session.specs.Prepared.{Seen, pair_pace, table_steps}
 use Rattle.geo_session.specs.Reply.{IsReply}
@@ -12,20 +14,20 @@ use Rattle.geo_session.specs.State.{State, size_of}
 use Rattle.geo_reply.specs.declared.reply.Reply.{Reply}
 
 -- so many steps a vertex are enough to tell a path from one point to another, beside those of its points,
-abbrev pub path_pace : Bool → ℕ
-path_pace two = if two then 36 else 16
+abbrev pub path_pace : Version → ℕ
+path_pace version = by_version version 16 36
 
 -- and one from the source of the tree
-abbrev pub reach_pace : Bool → ℕ
-reach_pace two = if two then 26 else 3
+abbrev pub reach_pace : Version → ℕ
+reach_pace version = by_version version 3 26
 
 -- so many steps are enough for the reply to a command, before a line of it is written
 abbrev pub IsPaced : Seen → Command → ℕ → ℕ → Type 0
-IsPaced seen (command.Path s t) steps steps' = steps' ≤ steps + path_pace seen.state.two * size_of seen.state.kept
+IsPaced seen (command.Path s t) steps steps' = steps' ≤ steps + path_pace seen.state.version * size_of seen.state.kept
 IsPaced seen (command.Tree s) steps steps' = let n = size_of seen.state.kept in let b = binary_digits n in steps' ≤ steps + (3 * n + 200 * n * (b * b))
 IsPaced seen (command.Reach t) steps steps' =
-    let n = size_of seen.state.kept in let b = binary_digits n in steps' ≤ steps + (reach_pace seen.state.two * n + 24 * (b * b))
-IsPaced seen (command.Pair i j) steps steps' = let n = size_of seen.state.kept in steps' ≤ steps + (table_steps seen + pair_pace seen.state.two * n)
+    let n = size_of seen.state.kept in let b = binary_digits n in steps' ≤ steps + (reach_pace seen.state.version * n + 24 * (b * b))
+IsPaced seen (command.Pair i j) steps steps' = let n = size_of seen.state.kept in steps' ≤ steps + (table_steps seen + pair_pace seen.state.version * n)
 IsPaced seen command.Sights steps steps' = steps' ≤ steps + table_steps seen
 IsPaced seen other steps steps' = Unit {0}
 

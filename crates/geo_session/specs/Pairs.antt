@@ -1,8 +1,9 @@
 -- What `pair` and `sights` answer. This project's own.
-use Rattle.std.specs.Prelude.{◌≡◌, ℕ, ℤ, pos, ◌<◌, ◌≤◌, Bool, List, length}
+use Rattle.std.specs.Prelude.{◌≡◌, ℕ, ℤ, pos, ◌<◌, ◌≤◌, List, length}
 use Rattle.plane.specs.Point.{Point}
 use Rattle.rings.specs.Ring.{vertex}
 use Rattle.geo_text.specs.declared.command.Bad.TheVariants as bad
+use Rattle.geo_text.specs.declared.version.Version.{Version}
 use Rattle.pair_cut.specs.Pairs.{AreSights}
 use Rattle.pair_cut.specs.declared.table.TheConstants.{MAX_PAIRED}
 use Rattle.geo_session.specs.Path.{TellsPath}
@@ -24,12 +25,12 @@ abbrev pub IsIndex : List Point → ℤ → Type 0
 IsIndex ring z = (k : ℕ) × IsVertexNumber ring z k
 
 -- a ring of too many vertices is refused, then the first of the numbers that is none of a vertex, or else the path between the two is told
-pub data IsPairReply (two : Bool) (ring : List Point) (i j : ℤ) (answered : Reply) : Type 0 where
-  too_many : ¬ IsSmall ring → answered ≡ reply.Refused bad.Large → IsPairReply two ring i j answered
-  first_off : IsSmall ring → ¬ IsIndex ring i → answered ≡ reply.Refused (bad.Index 1) → IsPairReply two ring i j answered
-  second_off : IsSmall ring → IsIndex ring i → ¬ IsIndex ring j → answered ≡ reply.Refused (bad.Index 2) → IsPairReply two ring i j answered
-  joined : IsSmall ring → (k l : ℕ) → IsVertexNumber ring i k → IsVertexNumber ring j l → TellsPath two ring (vertex ring k) (vertex ring l) answered
-      → IsPairReply two ring i j answered
+pub data IsPairReply (version : Version) (ring : List Point) (i j : ℤ) (answered : Reply) : Type 0 where
+  too_many : ¬ IsSmall ring → answered ≡ reply.Refused bad.Large → IsPairReply version ring i j answered
+  first_off : IsSmall ring → ¬ IsIndex ring i → answered ≡ reply.Refused (bad.Index 1) → IsPairReply version ring i j answered
+  second_off : IsSmall ring → IsIndex ring i → ¬ IsIndex ring j → answered ≡ reply.Refused (bad.Index 2) → IsPairReply version ring i j answered
+  joined : IsSmall ring → (k l : ℕ) → IsVertexNumber ring i k → IsVertexNumber ring j l → TellsPath version ring (vertex ring k) (vertex ring l) answered
+      → IsPairReply version ring i j answered
 
 -- a ring of too many vertices is refused, and of another one the pairs of vertices that see each other are told
 pub data AreSightsReply (ring : List Point) (answered : Reply) : Type 0 where

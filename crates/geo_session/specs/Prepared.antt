@@ -2,8 +2,10 @@
 -- project's own.
 use Rattle.std.specs.Prelude.{◌≡◌, ℕ, ℤ, ◌*◌, if◌then◌else◌, Bool, true, false, Option, None, Some}
 use Rattle.rings.specs.Simple.{IsSimple}
+use Rattle.geo_text.specs.Version.{by_version}
 use Rattle.geo_text.specs.declared.command.Command.{Command}
 use Rattle.geo_text.specs.declared.command.Command.TheVariants as command
+use Rattle.geo_text.specs.declared.version.Version.{Version}
 use Rattle.shared_seq.specs.Digits.{binary_digits}
 use Rattle.geo_session.specs.Pairs.{IsIndex, IsSmall}
 use Rattle.geo_session.specs.State.{Kept, State, first_state, size_of}
@@ -59,5 +61,5 @@ abbrev pub table_steps : Seen → ℕ
 table_steps seen = let n = size_of seen.state.kept in let b = binary_digits n in if seen.prepared then 0 else 200 * (n * n) * (b * b)
 
 -- and so many more for the vertices that the path of a pair touches, which version 2 tells
-abbrev pub pair_pace : Bool → ℕ
-pair_pace two = if two then 20 else 0
+abbrev pub pair_pace : Version → ℕ
+pair_pace version = by_version version 0 20

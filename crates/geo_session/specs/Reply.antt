@@ -1,11 +1,13 @@
 -- What each command answers, as a value, and the state that it leaves. This project's own.
-use Rattle.std.specs.Prelude.{◌≡◌, Bool, true, [], ◌∷◌, Option, None, Some, Result}
+use Rattle.std.specs.Prelude.{◌≡◌, [], ◌∷◌, Option, None, Some, Result}
 use Rattle.plane.specs.Point.{Point, whole}
 use Rattle.rings.specs.Kernel.{IsKernel}
 use Rattle.geo_text.specs.declared.command.Bad.{Bad}
 use Rattle.geo_text.specs.declared.command.Bad.TheVariants as bad
 use Rattle.geo_text.specs.declared.command.Command.{Command}
 use Rattle.geo_text.specs.declared.command.Command.TheVariants as command
+use Rattle.geo_text.specs.declared.version.Version.{Version}
+use Rattle.geo_text.specs.declared.version.Version.TheVariants as version
 use Rattle.taut_check.specs.Verdict.{IsVerdict}
 use Rattle.geo_session.specs.Guards.{GuardRing}
 use Rattle.geo_session.specs.Hull.{AreSidesOf}
@@ -22,31 +24,31 @@ use Rattle.geo_reply.specs.declared.reply.Reply.{Reply}
 use Rattle.geo_reply.specs.declared.reply.Reply.TheVariants as reply
 
 -- what the commands that ask of a polygon answer of it; the other two ask of none
-abbrev pub IsReplyIn : Bool → Kept → Command → Reply → Type 0
-IsReplyIn two kept (command.Inside p) answered = Tells reply.Place (IsPlace kept.ring p) answered
-IsReplyIn two kept (command.Check points) answered = Tells reply.Verdict (IsVerdict kept.ring points) answered
-IsReplyIn two kept (command.Path s t) answered = IsPathReply two kept.ring s t answered
-IsReplyIn two kept (command.Tree s) answered = RepliesWithin kept.ring (s ∷ []) (Tells reply.Tree (AreFrom kept.ring s)) answered
-IsReplyIn two kept (command.Reach t) answered = IsReachReply two kept.ring kept.source t answered
-IsReplyIn two kept (command.See q) answered = RepliesWithin kept.ring (q ∷ []) (Tells reply.View (IsView kept.ring (whole q))) answered
-IsReplyIn two kept command.Kernel answered = Tells reply.Kernel (IsKernel kept.ring) answered
-IsReplyIn two kept (command.Hull points) answered = RepliesWithin kept.ring points (Tells reply.Hull (AreSidesOf two kept.ring points)) answered
-IsReplyIn two kept (command.Round points) answered = RepliesWithin kept.ring points (Tells reply.Round (AreRound kept.ring points)) answered
-IsReplyIn two kept command.Guards answered = Tells reply.Guards (GuardRing kept.ring) answered
-IsReplyIn two kept (command.Pair i j) answered = IsPairReply two kept.ring i j answered
-IsReplyIn two kept command.Sights answered = AreSightsReply kept.ring answered
-IsReplyIn two kept other answered = ⊥
+abbrev pub IsReplyIn : Version → Kept → Command → Reply → Type 0
+IsReplyIn version kept (command.Inside p) answered = Tells reply.Place (IsPlace kept.ring p) answered
+IsReplyIn version kept (command.Check points) answered = Tells reply.Verdict (IsVerdict kept.ring points) answered
+IsReplyIn version kept (command.Path s t) answered = IsPathReply version kept.ring s t answered
+IsReplyIn version kept (command.Tree s) answered = RepliesWithin kept.ring (s ∷ []) (Tells reply.Tree (AreFrom kept.ring s)) answered
+IsReplyIn version kept (command.Reach t) answered = IsReachReply version kept.ring kept.source t answered
+IsReplyIn version kept (command.See q) answered = RepliesWithin kept.ring (q ∷ []) (Tells reply.View (IsView kept.ring (whole q))) answered
+IsReplyIn version kept command.Kernel answered = Tells reply.Kernel (IsKernel kept.ring) answered
+IsReplyIn version kept (command.Hull points) answered = RepliesWithin kept.ring points (Tells reply.Hull (AreSidesOf version kept.ring points)) answered
+IsReplyIn version kept (command.Round points) answered = RepliesWithin kept.ring points (Tells reply.Round (AreRound kept.ring points)) answered
+IsReplyIn version kept command.Guards answered = Tells reply.Guards (GuardRing kept.ring) answered
+IsReplyIn version kept (command.Pair i j) answered = IsPairReply version kept.ring i j answered
+IsReplyIn version kept command.Sights answered = AreSightsReply kept.ring answered
+IsReplyIn version kept other answered = ⊥
 
 -- so they do if there is a polygon
-abbrev pub IsReplyOf : Bool → Option Kept → Command → Reply → Type 0
-IsReplyOf two None asked answered = answered ≡ reply.Refused bad.NoPolygon
-IsReplyOf two (Some kept) asked answered = IsReplyIn two kept asked answered
+abbrev pub IsReplyOf : Version → Option Kept → Command → Reply → Type 0
+IsReplyOf version None asked answered = answered ≡ reply.Refused bad.NoPolygon
+IsReplyOf version (Some kept) asked answered = IsReplyIn version kept asked answered
 
 -- what a command answers in a state
 abbrev pub IsReply : State → Command → Reply → Type 0
 IsReply before command.Two answered = answered ≡ reply.Two
 IsReply before (command.Polygon ring) answered = IsPolygonReply ring answered
-IsReply before asked answered = IsReplyOf before.two before.kept asked answered
+IsReply before asked answered = IsReplyOf before.version before.kept asked answered
 
 -- the polygon with this source of a tree in it, if there is a polygon
 abbrev pub with_source : Point → Option Kept → Option Kept
@@ -56,9 +58,9 @@ with_source s (Some kept) = Some (record { ring = kept.ring; source = Some s })
 -- the state after a reply: version 2 begins with no polygon, an accepted polygon takes the place of the one before, with no tree in it yet,
 -- a tree that is told leaves its source, and nothing else changes the state
 abbrev pub state_after : State → Command → Reply → State
-state_after before command.Two answered = record { two = true; kept = None }
-state_after before (command.Polygon ring) (reply.Polygon count) = record { two = before.two; kept = Some (record { ring = ring; source = None }) }
-state_after before (command.Tree s) (reply.Tree befores) = record { two = before.two; kept = with_source s before.kept }
+state_after before command.Two answered = record { version = version.Two; kept = None }
+state_after before (command.Polygon ring) (reply.Polygon count) = record { version = before.version; kept = Some (record { ring = ring; source = None }) }
+state_after before (command.Tree s) (reply.Tree befores) = record { version = before.version; kept = with_source s before.kept }
 state_after before asked answered = before
 
 -- what a call gives back for a command, a value or a refusal, is such a reply

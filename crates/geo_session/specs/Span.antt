@@ -1,13 +1,14 @@
 -- What is known of a hull while it is found. No public clause cites this module.
 use Rattle.std.specs.List.{Contains}
 use Rattle.std.specs.Prelude.{◌≡◌, ◌≢◌, ◌↔◌, ℕ, ◌+◌, ◌*◌, ◌/◌, ◌%◌, ◌<◌, ◌≤◌, List, [], length, slice_index, slice_index_or}
-use Rattle.std.specs.Prelude.{Bool, Result, Ok, Err, Vec}
+use Rattle.std.specs.Prelude.{Result, Ok, Err, Vec}
 use Rattle.std.specs.declared.alloc.Global.{Global}
 use Rattle.plane.specs.Point.{Point, whole}
 use Rattle.plane.specs.declared.limits.TheConstants.{MAX_CORNERS, MAX_HULL}
 use Rattle.rings.specs.Chain.{IsPath, point_at}
 use Rattle.meshes.specs.declared.tri.Tri.{Tri}
 use Rattle.geo_text.specs.declared.command.Bad.{Bad}
+use Rattle.geo_text.specs.declared.version.Version.{Version}
 use Rattle.dual_tree.specs.Location.{IsLeastHolding}
 use Rattle.rel_hull.specs.Table.{Table, chain_at, pair_at}
 use Rattle.geo_session.specs.Hull.{AreFirsts, side_at}
@@ -69,12 +70,12 @@ AreNumbered ring tris points (Ok span) = IsSpan ring tris points span
 AreNumbered ring tris points (Err fault) = NamesOutside ring points fault
 
 -- the side joins the numbered points at two places, with what is told of the chain between these
-pub record IsSideTold (two : Bool) (ring : List Point) (span : Span) (pair : ℕ × ℕ) (side : Side) : Type 0 where
+pub record IsSideTold (version : Version) (ring : List Point) (span : Span) (pair : ℕ × ℕ) (side : Side) : Type 0 where
   pub start : side.start ≡ slice_index span.numbers.items pair.0
   pub end : side.end ≡ slice_index span.numbers.items pair.1
-  pub shown : IsShown two ring (chain_at span.chains pair.0 pair.1) side.path
+  pub shown : IsShown version ring (chain_at span.chains pair.0 pair.1) side.path
 
 -- so do the first n sides
-pub record AreSidesTold (two : Bool) (ring : List Point) (span : Span) (pairs : List (ℕ × ℕ)) (n : ℕ) (told : List Side) : Type 0 where
+pub record AreSidesTold (version : Version) (ring : List Point) (span : Span) (pairs : List (ℕ × ℕ)) (n : ℕ) (told : List Side) : Type 0 where
   pub count : length told ≡ n
-  pub each : (k : ℕ) → k < n → IsSideTold two ring span (pair_at pairs k) (side_at told k)
+  pub each : (k : ℕ) → k < n → IsSideTold version ring span (pair_at pairs k) (side_at told k)

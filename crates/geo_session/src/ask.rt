@@ -1,8 +1,9 @@
 // What a command is answered, and what changes once that is written.
-ghost use Rattle.std.specs.Prelude.{◌≡◌, ◌≤◌, IfOk, ℕ, Bool, Option, Some, length};
+ghost use Rattle.std.specs.Prelude.{◌≡◌, ◌≤◌, IfOk, Option, Some, length};
 ghost use Rattle.plane.specs.declared.limits.TheConstants.{MAX_CORNERS};
 ghost use Rattle.geo_text.specs.Reading.{IsWellSized};
-ghost use Rattle.geo_session.specs.Asking.{AsksPolygon, IsAskedOf, IsPlain, Suits, held_after, seen_of, two_after};
+ghost use Rattle.geo_text.specs.Version.{version_of};
+ghost use Rattle.geo_session.specs.Asking.{AsksPolygon, IsAskedOf, IsPlain, Suits, held_after, seen_of, version_after};
 ghost use Rattle.geo_session.specs.Held.{HeldRing, kept_in};
 ghost use Rattle.geo_session.specs.Paced.{IsPaced};
 ghost use Rattle.geo_session.specs.Reply.{IsReplyIn};
@@ -12,7 +13,7 @@ use crate::held::Held;
 use crate::paths::path_reply;
 use exact_plane::{Memory, Steps};
 use geo_reply::Reply;
-use geo_text::{Bad, Command, Points};
+use geo_text::{Bad, Command, Points, Version};
 use pair_cut::PairTable;
 use ring_check::{Ring, RingFault};
 use std::alloc::Global;
@@ -42,14 +43,14 @@ pub(crate) enum Change {
 // What a command is answered in this version, where this polygon is held.
 pub(crate) fn ask<L: Ledger>(
     alloc: Global,
-    two: bool,
+    version: Version,
     held: &Option<Held>,
     command: Command,
     steps: &mut Steps<L>,
 ) -> Result<Asked, Memory>
     requires { IsWellSized command }
-    ensures asked { IfOk result (IsAskedOf two held.now command) }
-    ensures paced { IsPaced (seen_of two held.now) command steps.old steps.new }
+    ensures asked { IfOk result (IsAskedOf version held.now command) }
+    ensures paced { IsPaced (seen_of version held.now) command steps.old steps.new }
 {
     match command {
         Command::Two => Ok(Asked {
@@ -58,7 +59,7 @@ pub(crate) fn ask<L: Ledger>(
         }),
         Command::Polygon(points) => ask_polygon(alloc, points, steps),
         asked => match held {
-            Some(held) => held.ask(alloc, two, asked, steps),
+            Some(held) => held.ask(alloc, version, asked, steps),
             None => Ok(unchanged(Reply::Refused(Bad::NoPolygon))),
         },
     }
@@ -71,7 +72,7 @@ fn ask_polygon<L: Ledger>(
     steps: &mut Steps<L>,
 ) -> Result<Asked, Memory>
     requires { (3 ≤ length points) × (length points ≤ MAX_CORNERS) }
-    ensures { IfOk result (λ asked. (two : Bool) → (held : Option HeldRing) → IsAskedOf two held (Command.Polygon points) asked) }
+    ensures { IfOk result (λ asked. (version : Version) → (held : Option HeldRing) → IsAskedOf version held (Command.Polygon points) asked) }
 {
     match Ring::of(points.into_vec(), steps) {
         Ok(ring) => Ok(Asked {
@@ -98,21 +99,21 @@ impl Held {
     fn ask<L: Ledger>(
         &self,
         alloc: Global,
-        two: bool,
+        version: Version,
         command: Command,
         steps: &mut Steps<L>,
     ) -> Result<Asked, Memory>
         requires sized { IsWellSized command }
         requires asks { AsksPolygon command }
-        ensures asked { IfOk result (IsAskedOf two (Some self.now) command) }
-        ensures paced { IsPaced (seen_of two (Some self.now)) command steps.old steps.new }
+        ensures asked { IfOk result (IsAskedOf version (Some self.now) command) }
+        ensures paced { IsPaced (seen_of version (Some self.now)) command steps.old steps.new }
     {
         match command {
             Command::Two | Command::Polygon(_) => unreachable!(),
             Command::Tree(s) => self.tree(alloc, &s, steps),
-            Command::Pair(i, j) => self.pair(alloc, two, i, j, steps),
+            Command::Pair(i, j) => self.pair(alloc, version, i, j, steps),
             Command::Sights => self.sights(alloc, steps),
-            asked => Ok(unchanged(self.tell(alloc, two, asked, steps)?)),
+            asked => Ok(unchanged(self.tell(alloc, version, asked, steps)?)),
         }
     }
 
@@ -120,14 +121,14 @@ impl Held {
     fn tell<L: Ledger>(
         &self,
         alloc: Global,
-        two: bool,
+        version: Version,
         command: Command,
         steps: &mut Steps<L>,
     ) -> Result<Reply, Memory>
         requires sized { IsWellSized command }
         requires plain { IsPlain command }
-        ensures reply { IfOk result (IsReplyIn two (kept_in self.now) command) }
-        ensures paced { IsPaced (seen_of two (Some self.now)) command steps.old steps.new }
+        ensures reply { IfOk result (IsReplyIn version (kept_in self.now) command) }
+        ensures paced { IsPaced (seen_of version (Some self.now)) command steps.old steps.new }
     {
         match command {
             Command::Two
@@ -141,11 +142,11 @@ impl Held {
                 points.as_slice(),
                 steps,
             )?)),
-            Command::Path(s, t) => Ok(path_reply(self.path(alloc, two, &s, &t, steps)?)),
-            Command::Reach(t) => Ok(path_reply(self.reach(alloc, two, &t, steps)?)),
+            Command::Path(s, t) => Ok(path_reply(self.path(alloc, version, &s, &t, steps)?)),
+            Command::Reach(t) => Ok(path_reply(self.reach(alloc, version, &t, steps)?)),
             Command::See(q) => self.view(alloc, &q, steps),
             Command::Kernel => self.kernel(alloc, steps),
-            Command::Hull(points) => self.hull(alloc, two, points.as_slice(), steps),
+            Command::Hull(points) => self.hull(alloc, version, points.as_slice(), steps),
             Command::Round(points) => self.round(alloc, points.as_slice(), steps),
             Command::Guards => self.guards(alloc, steps),
         }
@@ -155,7 +156,7 @@ impl Held {
 // Keeps what changes.
 pub(crate) fn commit(two: &mut bool, held: &mut Option<Held>, change: Change)
     requires { Suits change held.old }
-    ensures two { two.new ≡ two_after change two.old }
+    ensures version { version_of two.new ≡ version_after change (version_of two.old) }
     ensures held { held.new ≡ held_after change held.old }
 {
     match change {

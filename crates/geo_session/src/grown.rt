@@ -1,5 +1,5 @@
 // The tree of a source in the polygon.
-ghost use Rattle.std.specs.Prelude.{◌≡◌, ◌+◌, ◌*◌, ◌<◌, ◌≤◌, Bool, List, IfOk, Some, length};
+ghost use Rattle.std.specs.Prelude.{◌≡◌, ◌+◌, ◌*◌, ◌<◌, ◌≤◌, List, IfOk, Some, length};
 ghost use Rattle.plane.specs.Point.{whole};
 ghost use Rattle.plane.specs.declared.limits.TheConstants.{MAX_CORNERS};
 ghost use Rattle.rings.specs.Chain.{IsPath};
@@ -7,6 +7,7 @@ ghost use Rattle.rings.specs.Ring.{vertex};
 ghost use Rattle.meshes.specs.Fits.{Fits};
 ghost use Rattle.meshes.specs.declared.tri.Tri.{Tri};
 ghost use Rattle.shared_seq.specs.Digits.{binary_digits};
+ghost use Rattle.geo_text.specs.declared.version.Version.{Version};
 ghost use Rattle.ring_check.specs.Oriented.{given_of};
 ghost use Rattle.dual_tree.specs.Location.{IsLeastHolding};
 ghost use Rattle.geo_session.specs.Asking.{IsAskedOf, seen_of};
@@ -129,8 +130,8 @@ impl Held {
         source: &Pt,
         steps: &mut Steps<L>,
     ) -> Result<Asked, Memory>
-        ensures asked { (two : Bool) → IfOk result (IsAskedOf two (Some self.now) (Command.Tree source.now)) }
-        ensures paced { (two : Bool) → IsPaced (seen_of two (Some self.now)) (Command.Tree source.now) steps.old steps.new }
+        ensures asked { (version : Version) → IfOk result (IsAskedOf version (Some self.now) (Command.Tree source.now)) }
+        ensures paced { (version : Version) → IsPaced (seen_of version (Some self.now)) (Command.Tree source.now) steps.old steps.new }
     {
         let home = match self.find(1, source, steps) {
             Ok(home) => home,

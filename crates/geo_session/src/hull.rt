@@ -12,7 +12,7 @@ ghost use Rattle.geo_session.specs.Told.{RepliesWithin, Tells};
 use crate::held::Held;
 use exact_plane::{Memory, Pt, Steps, order};
 use geo_reply::{Reply, Row, Side};
-use geo_text::Bad;
+use geo_text::{Bad, Version};
 use rel_hull::{ChainTable, round, sides};
 use std::alloc::Global;
 use std::cmp::Ordering;
@@ -31,20 +31,20 @@ impl Held {
     pub(crate) fn hull<L: Ledger>(
         &self,
         alloc: Global,
-        two: bool,
+        version: Version,
         points: &[Pt],
         steps: &mut Steps<L>,
     ) -> Result<Reply, Memory>
         requires some { 1 ≤ length points.now }
         requires few { length points.now ≤ MAX_HULL }
-        ensures { IfOk result (RepliesWithin (given_of self.now.ring) points.now (Tells Reply.Hull (AreSidesOf two (given_of self.now.ring) points.now))) }
+        ensures { IfOk result (RepliesWithin (given_of self.now.ring) points.now (Tells Reply.Hull (AreSidesOf version (given_of self.now.ring) points.now))) }
     {
         let span = match self.span(alloc, points, steps)? {
             Ok(span) => span,
             Err(bad) => return Ok(Reply::Refused(bad)),
         };
         let pairs = sides(alloc, &self.ring, &span.chains, steps)?;
-        let sides = self.told_sides(alloc, two, &span, &pairs, steps)?;
+        let sides = self.told_sides(alloc, version, &span, &pairs, steps)?;
         Ok(Reply::Hull(Row::of(sides)))
     }
 
@@ -133,7 +133,14 @@ impl Held {
             let i = numbers[k / m] as usize;
             let j = numbers[k % m] as usize;
             let ends = (tris[i], tris[j]);
-            let chain = self.path_between(alloc, false, ends, &points[i], &points[j], steps)?;
+            let chain = self.path_between(
+                alloc,
+                Version::One,
+                ends,
+                &points[i],
+                &points[j],
+                steps,
+            )?;
             chains.push_reserved(chain);
         }
         Ok(ChainTable::of(&self.ring, m as u32, chains))
@@ -143,17 +150,17 @@ impl Held {
     fn told_sides<L: Ledger>(
         &self,
         alloc: Global,
-        two: bool,
+        version: Version,
         span: &Span,
         pairs: &[(u32, u32)],
         steps: &mut Steps<L>,
     ) -> Result<Vec<Side>, Memory>
         requires { (points : List Point) × (IsSpan self.now.ring.corners self.now.tris points span.now × AreSides self.now.ring.corners (points_of span.now.chains) pairs.now) }
-        ensures { IfOk result (λ told. AreSidesTold two self.now.ring.corners span.now pairs.now (length pairs.now) told.items) }
+        ensures { IfOk result (λ told. AreSidesTold version self.now.ring.corners span.now pairs.now (length pairs.now) told.items) }
     {
         let mut told = Vec::with_capacity(alloc, pairs.len())?;
         for pair in pairs {
-            told.push_reserved(self.told_side(alloc, two, span, *pair, steps)?);
+            told.push_reserved(self.told_side(alloc, version, span, *pair, steps)?);
         }
         Ok(told)
     }
@@ -162,7 +169,7 @@ impl Held {
     fn told_side<L: Ledger>(
         &self,
         alloc: Global,
-        two: bool,
+        version: Version,
         span: &Span,
         pair: (u32, u32),
         steps: &mut Steps<L>,
@@ -170,12 +177,12 @@ impl Held {
         requires span { (points : List Point) × IsSpan self.now.ring.corners self.now.tris points span.now }
         requires start { pair.0 < length span.now.numbers.items }
         requires end { pair.1 < length span.now.numbers.items }
-        ensures { IfOk result (IsSideTold two self.now.ring.corners span.now pair) }
+        ensures { IfOk result (IsSideTold version self.now.ring.corners span.now pair) }
     {
         let (start, end) = (span.numbers[pair.0 as usize], span.numbers[pair.1 as usize]);
         let tris = (span.tris[start as usize], span.tris[end as usize]);
         let chain = span.chains.chain(pair.0, pair.1).to_vec(alloc)?;
-        let path = self.shown(alloc, two, tris, chain, steps)?;
+        let path = self.shown(alloc, version, tris, chain, steps)?;
         Ok(Side {
             start,
             end,

@@ -1,11 +1,11 @@
 // Pairs of vertices of the polygon, by their numbers in the list that the ring was made of: the paths between them, and which see
 // each other.
 ghost use Rattle.std.specs.List.{All};
-ghost use Rattle.std.specs.Prelude.{◌≡◌, ◌↔◌, ◌+◌, ◌*◌, ◌≤◌, ◌<◌, if◌then◌else◌, Bool, IfNone, IfOk, IfSome, IsTrue, Some, length, map};
+ghost use Rattle.std.specs.Prelude.{◌≡◌, ◌↔◌, ◌+◌, ◌*◌, ◌≤◌, ◌<◌, IfNone, IfOk, IfSome, IsTrue, Some, length, map};
 ghost use Rattle.plane.specs.declared.limits.TheConstants.{MAX_CORNERS};
 ghost use Rattle.rings.specs.Chain.{IsPath};
-ghost use Rattle.rings.specs.Full.{IsFull};
 ghost use Rattle.rings.specs.Ring.{vertex};
+ghost use Rattle.geo_text.specs.Version.{by_version};
 ghost use Rattle.shared_seq.specs.Digits.{binary_digits};
 ghost use Rattle.pair_cut.specs.Pairs.{AreSights, IsMadeFor};
 ghost use Rattle.pair_cut.specs.declared.table.TheConstants.{MAX_PAIRED};
@@ -14,6 +14,7 @@ ghost use Rattle.geo_session.specs.Asking.{AreAsked, IsAskedOf, seen_of};
 ghost use Rattle.geo_session.specs.Paced.{IsPaced};
 ghost use Rattle.geo_session.specs.Pairs.{IsIndex, IsSmall, IsVertexNumber};
 ghost use Rattle.geo_session.specs.Path.{TellsPath};
+ghost use Rattle.geo_session.specs.Shown.{IsShown};
 ghost use Rattle.geo_session.specs.Told.{Tells};
 
 use crate::ask::{Asked, Change, unchanged};
@@ -21,7 +22,7 @@ use crate::held::Held;
 use dual_tree::{Board, sleeve};
 use exact_plane::{Memory, Pt, Steps};
 use geo_reply::{Reply, Row};
-use geo_text::{Bad, Command};
+use geo_text::{Bad, Command, Version};
 use pair_cut::{MAX_PAIRED, PairTable, triangle_at};
 use ring_check::Ring;
 use std::alloc::Global;
@@ -32,23 +33,23 @@ impl Held {
     pub(crate) fn pair<L: Ledger>(
         &self,
         alloc: Global,
-        two: bool,
+        version: Version,
         i: i64,
         j: i64,
         steps: &mut Steps<L>,
     ) -> Result<Asked, Memory>
-        ensures asked { IfOk result (IsAskedOf two (Some self.now) (Command.Pair i j)) }
-        ensures paced { IsPaced (seen_of two (Some self.now)) (Command.Pair i j) steps.old steps.new }
+        ensures asked { IfOk result (IsAskedOf version (Some self.now) (Command.Pair i j)) }
+        ensures paced { IsPaced (seen_of version (Some self.now)) (Command.Pair i j) steps.old steps.new }
     {
         let pair = match self.asked(i, j) {
             Ok(pair) => pair,
             Err(bad) => return Ok(unchanged(Reply::Refused(bad))),
         };
         if let Some(table) = &self.pairs {
-            return Ok(unchanged(self.joined(alloc, two, table, pair, steps)?));
+            return Ok(unchanged(self.joined(alloc, version, table, pair, steps)?));
         }
         let table = self.new_table(alloc, steps)?;
-        let reply = self.joined(alloc, two, &table, pair, steps)?;
+        let reply = self.joined(alloc, version, &table, pair, steps)?;
         Ok(Asked {
             reply,
             change: Change::Table(table),
@@ -61,8 +62,8 @@ impl Held {
         alloc: Global,
         steps: &mut Steps<L>,
     ) -> Result<Asked, Memory>
-        ensures asked { (two : Bool) → IfOk result (IsAskedOf two (Some self.now) Command.Sights) }
-        ensures paced { (two : Bool) → IsPaced (seen_of two (Some self.now)) Command.Sights steps.old steps.new }
+        ensures asked { (version : Version) → IfOk result (IsAskedOf version (Some self.now) Command.Sights) }
+        ensures paced { (version : Version) → IsPaced (seen_of version (Some self.now)) Command.Sights steps.old steps.new }
     {
         if self.is_large() {
             return Ok(unchanged(Reply::Refused(Bad::Large)));
@@ -127,7 +128,7 @@ impl Held {
     fn joined<L: Ledger>(
         &self,
         alloc: Global,
-        two: bool,
+        version: Version,
         table: &PairTable,
         pair: (u32, u32),
         steps: &mut Steps<L>,
@@ -135,40 +136,44 @@ impl Held {
         requires made { IsMadeFor self.now.ring.corners table.now }
         requires first { pair.0 < length self.now.ring.corners }
         requires second { pair.1 < length self.now.ring.corners }
-        ensures shown { IfOk result (let ring = given_of self.now.ring in TellsPath two ring (vertex ring pair.0) (vertex ring pair.1)) }
-        ensures steps { steps.new ≤ steps.old + (if two then 20 else 0) * length self.now.ring.corners }
+        ensures shown { IfOk result (let ring = given_of self.now.ring in TellsPath version ring (vertex ring pair.0) (vertex ring pair.1)) }
+        ensures steps { steps.new ≤ steps.old + by_version version 0 20 * length self.now.ring.corners }
     {
         let _count = self.ring.len();
         let (from, to) = (self.ring.given_index(pair.0), self.ring.given_index(pair.1));
         let names = table.pair(alloc, from, to)?;
         let chain = corners_of(alloc, &self.ring, &names)?;
-        if two {
-            let points = self.full_at(alloc, from, to, &chain, steps)?;
-            Ok(Reply::Path(Row::of(points)))
-        } else {
-            Ok(Reply::Path(Row::of(chain)))
-        }
+        let points = self.shown_at(alloc, version, (from, to), chain, steps)?;
+        Ok(Reply::Path(Row::of(points)))
     }
 
-    // The path between two vertices, with all vertices that it touches.
-    fn full_at<L: Ledger>(
+    // What is told of the path between two vertices.
+    fn shown_at<L: Ledger>(
         &self,
         alloc: Global,
-        i: u32,
-        j: u32,
-        chain: &[Pt],
+        version: Version,
+        pair: (u32, u32),
+        chain: Vec<Pt>,
         steps: &mut Steps<L>,
     ) -> Result<Vec<Pt>, Memory>
-        requires first { i < length self.now.ring.corners }
-        requires second { j < length self.now.ring.corners }
-        requires path { IsPath self.now.ring.corners (vertex self.now.ring.corners i) (vertex self.now.ring.corners j) chain.now }
-        ensures full { IfOk result (λ points. IsFull self.now.ring.corners chain.now points.items) }
-        ensures few { IfOk result (λ points. length points.items ≤ MAX_CORNERS + 2) }
-        ensures steps { steps.new ≤ steps.old + 20 * length self.now.ring.corners }
+        requires first { pair.0 < length self.now.ring.corners }
+        requires second { pair.1 < length self.now.ring.corners }
+        requires path { IsPath self.now.ring.corners (vertex self.now.ring.corners pair.0) (vertex self.now.ring.corners pair.1) chain.items }
+        ensures shown { IfOk result (λ points. IsShown version self.now.ring.corners chain.items points.items) }
+        ensures few { length chain.items ≤ MAX_CORNERS → IfOk result (λ points. length points.items ≤ MAX_CORNERS + 2) }
+        ensures steps { steps.new ≤ steps.old + by_version version 0 20 * length self.now.ring.corners }
     {
-        let (from, to) = (triangle_at(&self.mesh, i), triangle_at(&self.mesh, j));
-        let sleeve = sleeve(alloc, &self.mesh, from, to)?;
-        self.full_along(alloc, &sleeve, chain, steps)
+        match version {
+            Version::One => Ok(chain),
+            Version::Two => {
+                let (from, to) = (
+                    triangle_at(&self.mesh, pair.0),
+                    triangle_at(&self.mesh, pair.1),
+                );
+                let sleeve = sleeve(alloc, &self.mesh, from, to)?;
+                self.full_along(alloc, &sleeve, &chain, steps)
+            }
+        }
     }
 
     // The pairs of vertices that see each other, with the table of all pairs.

@@ -1,10 +1,11 @@
 // Paths between points of the polygon, and the vertices that they touch.
-ghost use Rattle.std.specs.Prelude.{◌≡◌, ◌+◌, ◌-◌, ◌*◌, ◌≤◌, ◌<◌, ◌^◌, ◌++◌, false, if◌then◌else◌, IfOk, OnErr, length, vec_capacity};
+ghost use Rattle.std.specs.Prelude.{◌≡◌, ◌+◌, ◌-◌, ◌*◌, ◌≤◌, ◌<◌, ◌^◌, ◌++◌, IfOk, OnErr, length, vec_capacity};
 ghost use Rattle.plane.specs.Point.{whole};
 ghost use Rattle.plane.specs.declared.limits.TheConstants.{MAX_CORNERS};
 ghost use Rattle.rings.specs.Chain.{IsPath};
 ghost use Rattle.rings.specs.Full.{IsFull};
 ghost use Rattle.shared_seq.specs.Digits.{binary_digits};
+ghost use Rattle.geo_text.specs.Version.{by_version};
 ghost use Rattle.ring_check.specs.Oriented.{given_of};
 ghost use Rattle.exact_plane.specs.Spot.{point_named};
 ghost use Rattle.dual_tree.specs.Location.{IsLeastHolding};
@@ -19,7 +20,7 @@ use dual_tree::{Board, sleeve, touched};
 use exact_plane::{Memory, Pt, Spot, Steps, Turns};
 use funnel_walk::{FunnelBox, walk};
 use geo_reply::{Reply, Row};
-use geo_text::Bad;
+use geo_text::{Bad, Version};
 use std::alloc::Global;
 use std::sync::ledger::Ledger;
 use tri_mesh::Sleeve;
@@ -29,15 +30,15 @@ impl Held {
     pub(crate) fn path<L: Ledger>(
         &self,
         alloc: Global,
-        two: bool,
+        version: Version,
         s: &Pt,
         t: &Pt,
         steps: &mut Steps<L>,
     ) -> Result<Result<Vec<Pt>, Bad>, Memory>
-        ensures answer { IfOk result (λ found. IsPathReply two (given_of self.now.ring) s.now t.now (reply_of path_of found)) }
-        ensures few { IfOk result (λ found. IfOk found (λ points. length points.items ≤ MAX_CORNERS + (if two then 2 else 1))) }
-        ensures steps { steps.new ≤ steps.old + (if two then 30 else 10) * length self.now.ring.corners }
-        ensures memory { two ≡ false → OnErr result (steps.new ≤ steps.old + 6 * (length self.now.ring.corners - 2)) }
+        ensures answer { IfOk result (λ found. IsPathReply version (given_of self.now.ring) s.now t.now (reply_of path_of found)) }
+        ensures few { IfOk result (λ found. IfOk found (λ points. length points.items ≤ MAX_CORNERS + by_version version 1 2)) }
+        ensures steps { steps.new ≤ steps.old + by_version version 10 30 * length self.now.ring.corners }
+        ensures memory { version ≡ Version.One → OnErr result (steps.new ≤ steps.old + 6 * (length self.now.ring.corners - 2)) }
     {
         let from = match self.find(1, s, steps) {
             Ok(from) => from,
@@ -47,7 +48,7 @@ impl Held {
             Ok(to) => to,
             Err(bad) => return Ok(Err(bad)),
         };
-        let points = self.path_between(alloc, two, (from, to), s, t, steps)?;
+        let points = self.path_between(alloc, version, (from, to), s, t, steps)?;
         Ok(Ok(points))
     }
 
@@ -55,14 +56,14 @@ impl Held {
     pub(crate) fn reach<L: Ledger>(
         &self,
         alloc: Global,
-        two: bool,
+        version: Version,
         t: &Pt,
         steps: &mut Steps<L>,
     ) -> Result<Result<Vec<Pt>, Bad>, Memory>
-        ensures answer { IfOk result (λ found. IsReachReply two (given_of self.now.ring) self.now.source t.now (reply_of path_of found)) }
+        ensures answer { IfOk result (λ found. IsReachReply version (given_of self.now.ring) self.now.source t.now (reply_of path_of found)) }
         ensures few { IfOk result (λ found. IfOk found (λ points. length points.items ≤ MAX_CORNERS + 3)) }
         ensures steps { let n = length self.now.ring.corners in let b = binary_digits n in
-            steps.new ≤ steps.old + ((if two then 23 else 3) * n + 24 * (b * b)) }
+            steps.new ≤ steps.old + (by_version version 3 23 * n + 24 * (b * b)) }
     {
         let Some(grown) = &self.grown else {
             return Ok(Err(Bad::NoTree));
@@ -72,7 +73,7 @@ impl Held {
             Err(bad) => return Ok(Err(bad)),
         };
         let chain = grown.chain_to(alloc, &self.ring, &self.mesh, tri, t, steps)?;
-        let points = self.shown(alloc, two, (grown.home, tri), chain, steps)?;
+        let points = self.shown(alloc, version, (grown.home, tri), chain, steps)?;
         Ok(Ok(points))
     }
 
@@ -80,7 +81,7 @@ impl Held {
     pub(crate) fn path_between<L: Ledger>(
         &self,
         alloc: Global,
-        two: bool,
+        version: Version,
         tris: (u32, u32),
         s: &Pt,
         t: &Pt,
@@ -88,17 +89,16 @@ impl Held {
     ) -> Result<Vec<Pt>, Memory>
         requires from { IsLeastHolding self.now.ring.corners self.now.tris (whole s.now) tris.0 }
         requires to { IsLeastHolding self.now.ring.corners self.now.tris (whole t.now) tris.1 }
-        ensures shown { IfOk result (λ points. IsShownPath two self.now.ring.corners s.now t.now points.items) }
-        ensures few { IfOk result (λ points. length points.items ≤ MAX_CORNERS + (if two then 2 else 1)) }
-        ensures steps { steps.new ≤ steps.old + (if two then 24 else 4) * length self.now.ring.corners }
-        ensures memory { two ≡ false → OnErr result (steps.new ≡ steps.old) }
+        ensures shown { IfOk result (λ points. IsShownPath version self.now.ring.corners s.now t.now points.items) }
+        ensures few { IfOk result (λ points. length points.items ≤ MAX_CORNERS + by_version version 1 2) }
+        ensures steps { steps.new ≤ steps.old + by_version version 4 24 * length self.now.ring.corners }
+        ensures memory { version ≡ Version.One → OnErr result (steps.new ≡ steps.old) }
     {
         let sleeve = sleeve(alloc, &self.mesh, tris.0, tris.1)?;
         let chain = self.chain_along(alloc, &sleeve, s, t, steps)?;
-        if two {
-            self.full_along(alloc, &sleeve, &chain, steps)
-        } else {
-            Ok(chain)
+        match version {
+            Version::One => Ok(chain),
+            Version::Two => self.full_along(alloc, &sleeve, &chain, steps),
         }
     }
 
@@ -106,21 +106,22 @@ impl Held {
     pub(crate) fn shown<L: Ledger>(
         &self,
         alloc: Global,
-        two: bool,
+        version: Version,
         tris: (u32, u32),
         chain: Vec<Pt>,
         steps: &mut Steps<L>,
     ) -> Result<Vec<Pt>, Memory>
         requires { IsPathBetween self.now.ring.corners self.now.tris tris.0 tris.1 chain.items }
-        ensures shown { IfOk result (λ points. IsShown two self.now.ring.corners chain.items points.items) }
+        ensures shown { IfOk result (λ points. IsShown version self.now.ring.corners chain.items points.items) }
         ensures few { length chain.items ≤ MAX_CORNERS + 3 → IfOk result (λ points. length points.items ≤ MAX_CORNERS + 3) }
-        ensures steps { steps.new ≤ steps.old + (if two then 20 else 0) * length self.now.ring.corners }
+        ensures steps { steps.new ≤ steps.old + by_version version 0 20 * length self.now.ring.corners }
     {
-        if two {
-            let sleeve = sleeve(alloc, &self.mesh, tris.0, tris.1)?;
-            self.full_along(alloc, &sleeve, &chain, steps)
-        } else {
-            Ok(chain)
+        match version {
+            Version::One => Ok(chain),
+            Version::Two => {
+                let sleeve = sleeve(alloc, &self.mesh, tris.0, tris.1)?;
+                self.full_along(alloc, &sleeve, &chain, steps)
+            }
         }
     }
 

@@ -1,8 +1,9 @@
 // What a run holds between two records.
-ghost use Rattle.std.specs.Prelude.{◌≡◌, ◌+◌, ◌-◌, ◌*◌, ◌≤◌, ℤ, false, if◌then◌else◌, length, IfOk, OnOk, OnErr};
+ghost use Rattle.std.specs.Prelude.{◌≡◌, ◌+◌, ◌-◌, ◌*◌, ◌≤◌, ℤ, length, IfOk, OnOk, OnErr};
 ghost use Rattle.plane.specs.Point.{Point};
 ghost use Rattle.plane.specs.declared.limits.TheConstants.{MAX_CORNERS};
 ghost use Rattle.geo_text.specs.Reading.{IsWellSized};
+ghost use Rattle.geo_text.specs.Version.{by_version};
 ghost use Rattle.shared_seq.specs.Digits.{binary_digits};
 ghost use Rattle.geo_session.specs.Answer.{AppendsAnswer};
 ghost use Rattle.geo_session.specs.Asking.{IsWrittenPaced};
@@ -16,7 +17,7 @@ use crate::ask::{ask, commit};
 use crate::held::Held;
 use exact_plane::{Memory, Pt, Steps};
 use geo_reply::{Reply, put_reply};
-use geo_text::{Bad, Command};
+use geo_text::{Bad, Command, Version};
 use inside_test::Position;
 use std::alloc::Global;
 use std::marker::Model;
@@ -35,9 +36,10 @@ impl Model for Session {
 
     ghost Value = { Seen };
 
+    ghost use Rattle.geo_text.specs.Version.{version_of};
     ghost use Rattle.geo_session.specs.Held.{kept_of, prepared_of};
 
-    ghost view = { λ s. record { state = record { two = s.two; kept = kept_of s.held }; prepared = prepared_of s.held } };
+    ghost view = { λ s. record { state = record { version = version_of s.two; kept = kept_of s.held }; prepared = prepared_of s.held } };
 }
 
 impl Session {
@@ -51,11 +53,11 @@ impl Session {
         }
     }
 
-    /// Whether the script is of version 2.
-    pub fn is_two(&self) -> bool
-        ensures { result ≡ self.now.state.two }
+    /// The version of the script.
+    pub fn version(&self) -> Version
+        ensures { result ≡ self.now.state.version }
     {
-        self.two
+        Version::of(self.two)
     }
 
     /// The taut chain from one point to another, or why there is none. It takes all its memory before the walk: where memory
@@ -67,12 +69,12 @@ impl Session {
         t: &Pt,
         steps: &mut Steps<L>,
     ) -> Result<Result<Vec<Pt>, Bad>, Memory>
-        ensures answer { IfOk result (IsFound (record { two = false; kept = self.now.state.kept }) (Command.Path s.now t.now) path_of) }
+        ensures answer { IfOk result (IsFound (record { version = Version.One; kept = self.now.state.kept }) (Command.Path s.now t.now) path_of) }
         ensures few { IfOk result (λ found. IfOk found (λ points. length points.items ≤ MAX_CORNERS + 1)) }
         ensures steps { steps.new ≤ steps.old + 12 * size_of self.now.state.kept }
         ensures memory { OnErr result (steps.new ≤ steps.old + 6 * (size_of self.now.state.kept - 2)) }
     {
-        self.path_in(alloc, false, s, t, steps)
+        self.path_in(alloc, Version::One, s, t, steps)
     }
 
     /// Where a point lies in the polygon, or the refusal where there is none.
@@ -94,28 +96,28 @@ impl Session {
         steps: &mut Steps<L>,
     ) -> Result<Result<Vec<Pt>, Bad>, Memory>
         ensures answer { IfOk result (IsFound self.now.state (Command.Path s.now t.now) path_of) }
-        ensures few { IfOk result (λ found. IfOk found (λ points. length points.items ≤ MAX_CORNERS + (if self.now.state.two then 2 else 1))) }
-        ensures steps { steps.new ≤ steps.old + (if self.now.state.two then 30 else 10) * size_of self.now.state.kept }
+        ensures few { IfOk result (λ found. IfOk found (λ points. length points.items ≤ MAX_CORNERS + by_version self.now.state.version 1 2)) }
+        ensures steps { steps.new ≤ steps.old + by_version self.now.state.version 10 30 * size_of self.now.state.kept }
     {
-        self.path_in(alloc, self.two, s, t, steps)
+        self.path_in(alloc, self.version(), s, t, steps)
     }
 
-    // The same, where the script is of version 2 or not.
+    // The same, in this version.
     fn path_in<L: Ledger>(
         &self,
         alloc: Global,
-        two: bool,
+        version: Version,
         s: &Pt,
         t: &Pt,
         steps: &mut Steps<L>,
     ) -> Result<Result<Vec<Pt>, Bad>, Memory>
-        ensures answer { IfOk result (IsFound (record { two = two; kept = self.now.state.kept }) (Command.Path s.now t.now) path_of) }
-        ensures few { IfOk result (λ found. IfOk found (λ points. length points.items ≤ MAX_CORNERS + (if two then 2 else 1))) }
-        ensures steps { steps.new ≤ steps.old + (if two then 30 else 10) * size_of self.now.state.kept }
-        ensures memory { two ≡ false → OnErr result (steps.new ≤ steps.old + 6 * (size_of self.now.state.kept - 2)) }
+        ensures answer { IfOk result (IsFound (record { version = version; kept = self.now.state.kept }) (Command.Path s.now t.now) path_of) }
+        ensures few { IfOk result (λ found. IfOk found (λ points. length points.items ≤ MAX_CORNERS + by_version version 1 2)) }
+        ensures steps { steps.new ≤ steps.old + by_version version 10 30 * size_of self.now.state.kept }
+        ensures memory { version ≡ Version.One → OnErr result (steps.new ≤ steps.old + 6 * (size_of self.now.state.kept - 2)) }
     {
         match &self.held {
-            Some(held) => held.path(alloc, two, s, t, steps),
+            Some(held) => held.path(alloc, version, s, t, steps),
             None => Ok(Err(Bad::NoPolygon)),
         }
     }
@@ -130,10 +132,10 @@ impl Session {
         ensures answer { IfOk result (IsFound self.now.state (Command.Reach t.now) path_of) }
         ensures few { IfOk result (λ found. IfOk found (λ points. length points.items ≤ MAX_CORNERS + 3)) }
         ensures steps { let n = size_of self.now.state.kept in let b = binary_digits n in
-            steps.new ≤ steps.old + ((if self.now.state.two then 23 else 3) * n + 24 * (b * b)) }
+            steps.new ≤ steps.old + (by_version self.now.state.version 3 23 * n + 24 * (b * b)) }
     {
         match &self.held {
-            Some(held) => held.reach(alloc, self.two, t, steps),
+            Some(held) => held.reach(alloc, self.version(), t, steps),
             None => Ok(Err(Bad::NoPolygon)),
         }
     }
@@ -152,7 +154,7 @@ impl Session {
         ensures same_session { OnErr result (self.new ≡ self.old) }
         ensures paced { IsPaced self.old command steps.old steps.new }
     {
-        let asked = ask(alloc, self.two, &self.held, command, steps)?;
+        let asked = ask(alloc, self.version(), &self.held, command, steps)?;
         commit(&mut self.two, &mut self.held, asked.change);
         Ok(asked.reply)
     }
@@ -176,22 +178,22 @@ impl Session {
         ensures same_session { OnErr result (self.new ≡ self.old) }
         ensures same_out { OnErr result (out.new.items ≡ out.old.items) }
         ensures path_steps { (s t : Point) → command ≡ Command.Path s t
-            → OnOk result (TakesPathSteps (path_pace self.old.state.two * size_of self.old.state.kept) out.old.items out.new.items steps.old steps.new) }
+            → OnOk result (TakesPathSteps (path_pace self.old.state.version * size_of self.old.state.kept) out.old.items out.new.items steps.old steps.new) }
         ensures tree_steps { (s : Point) → command ≡ Command.Tree s → let n = size_of self.old.state.kept in let b = binary_digits n in
             steps.new ≤ steps.old + (3 * n + 200 * n * (b * b)) }
         ensures reach_steps { (t : Point) → command ≡ Command.Reach t → let n = size_of self.old.state.kept in let b = binary_digits n in
-            OnOk result (TakesPathSteps (reach_pace self.old.state.two * n + 24 * (b * b)) out.old.items out.new.items steps.old steps.new) }
+            OnOk result (TakesPathSteps (reach_pace self.old.state.version * n + 24 * (b * b)) out.old.items out.new.items steps.old steps.new) }
         ensures pair_steps { (i j : ℤ) → command ≡ Command.Pair i j → let n = size_of self.old.state.kept in
-            OnOk result (TakesPathSteps (table_steps self.old + pair_pace self.old.state.two * n) out.old.items out.new.items steps.old steps.new) }
+            OnOk result (TakesPathSteps (table_steps self.old + pair_pace self.old.state.version * n) out.old.items out.new.items steps.old steps.new) }
         ensures sights_steps { command ≡ Command.Sights → steps.new ≤ steps.old + table_steps self.old }
 
         // Also where memory is refused.
         ensures path_steps_always { (s t : Point) → command ≡ Command.Path s t
-            → TakesReplySteps self.old.state command (path_pace self.old.state.two * size_of self.old.state.kept) steps.old steps.new }
+            → TakesReplySteps self.old.state command (path_pace self.old.state.version * size_of self.old.state.kept) steps.old steps.new }
         ensures reach_steps_always { (t : Point) → command ≡ Command.Reach t → let n = size_of self.old.state.kept in let b = binary_digits n in
-            TakesReplySteps self.old.state command (reach_pace self.old.state.two * n + 24 * (b * b)) steps.old steps.new }
+            TakesReplySteps self.old.state command (reach_pace self.old.state.version * n + 24 * (b * b)) steps.old steps.new }
         ensures pair_steps_always { (i j : ℤ) → command ≡ Command.Pair i j → let n = size_of self.old.state.kept in
-            TakesReplySteps self.old.state command (table_steps self.old + pair_pace self.old.state.two * n) steps.old steps.new }
+            TakesReplySteps self.old.state command (table_steps self.old + pair_pace self.old.state.version * n) steps.old steps.new }
     {
         self.put_answer(alloc, command, out, steps)
     }
@@ -211,7 +213,7 @@ impl Session {
         ensures same_out { OnErr result (out.new.items ≡ out.old.items) }
         ensures paced { IsWrittenPaced self.old command result out.old.items out.new.items steps.old steps.new }
     {
-        let asked = ask(alloc, self.two, &self.held, command, steps)?;
+        let asked = ask(alloc, self.version(), &self.held, command, steps)?;
         put_reply(out, &asked.reply, steps)?;
         commit(&mut self.two, &mut self.held, asked.change);
         Ok(())

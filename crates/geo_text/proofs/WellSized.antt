@@ -1,5 +1,5 @@
 -- Commands of a list of fields are well sized.
-use Rattle.std.proofs.Common.{◌≡◌, ◌≤◌, ◌*◌, ◌%◌, ◌==◌, ◌&&◌, ℕ, Bool, true, false, if◌then◌else◌}
+use Rattle.std.proofs.Common.{◌≡◌, ◌≤◌, ◌*◌, ◌%◌, ◌==◌, ℕ, Bool, true, false, if◌then◌else◌}
 use Rattle.std.proofs.Common.{Option, Some, None, Result, List, [], ◌∷◌, length, drop, refl, arith, rules}
 use Rattle.std.proofs.lemmas.Bool.Decides.{nat_tests}
 use Rattle.std.specs.Prelude.{IfOk, codes, nat_lt}
@@ -15,6 +15,8 @@ use Rattle.geo_text.specs.declared.command.Bad.TheVariants as bad
 use Rattle.geo_text.specs.declared.command.Command.{Command}
 use Rattle.geo_text.specs.declared.command.Command.TheVariants as command
 use Rattle.geo_text.specs.declared.limits.Limits.{Limits}
+use Rattle.geo_text.specs.declared.version.Version.{Version}
+use Rattle.geo_text.specs.declared.version.Version.TheVariants as version
 
 -- a list that is not refused is neither too short nor too long
 in_bounds : (odd few many : Bool) (rest : Option Bad)
@@ -83,10 +85,12 @@ command_is_well_sized limits h (word ∷ fields) =
     (fixed_command_is_well_sized limits.coordinate word fields))))
 
 -- in both versions
-limits_are_limited : (two : Bool) → IsLimited (limits_of two)
-limits_are_limited true = search rules
-limits_are_limited false = search rules
+limits_are_limited : (v : Version) → IsLimited (limits_of v)
+limits_are_limited version.One = search rules
+limits_are_limited version.Two = search rules
 
 -- of record k too
-pub reading_is_well_sized : (two : Bool) (k : ℕ) (fields : List (List ℕ)) → IfOk (reading_of two k fields) IsWellSized
-reading_is_well_sized two k fields = either (two && (k == 0)) _ _ tt (command_is_well_sized (limits_of two) (limits_are_limited two) fields)
+pub reading_is_well_sized : (v : Version) (k : ℕ) (fields : List (List ℕ)) → IfOk (reading_of v k fields) IsWellSized
+reading_is_well_sized version.One k fields = command_is_well_sized (limits_of version.One) (limits_are_limited version.One) fields
+reading_is_well_sized version.Two k fields =
+    either (k == 0) _ _ tt (command_is_well_sized (limits_of version.Two) (limits_are_limited version.Two) fields)

@@ -5,3 +5,4 @@ pub mod Reading
 pub mod Records
 pub mod Script
 pub mod Texts
+pub mod Version

@@ -7,11 +7,14 @@ use Rattle.plane.specs.declared.limits.TheConstants.{MAX_CHAIN, MAX_CORNERS, MAX
 use Rattle.geo_text.specs.Limits.{limits_of}
 use Rattle.geo_text.specs.Number.{is_coordinate, is_number, number_of}
 use Rattle.geo_text.specs.Records.{Unread}
+use Rattle.geo_text.specs.Version.{version_of}
 use Rattle.geo_text.specs.declared.command.Bad.{Bad}
 use Rattle.geo_text.specs.declared.command.Bad.TheVariants as bad
 use Rattle.geo_text.specs.declared.command.Command.{Command}
 use Rattle.geo_text.specs.declared.command.Command.TheVariants as command
 use Rattle.geo_text.specs.declared.limits.Limits.{Limits}
+use Rattle.geo_text.specs.declared.version.Version.{Version}
+use Rattle.geo_text.specs.declared.version.Version.TheVariants as version
 
 -- the place of the first field that fails a test, counted from a given place on
 abbrev pub first_failing : (List ℕ → Bool) → ℕ → List (List ℕ) → Option ℕ
@@ -92,14 +95,19 @@ abbrev pub asks_two : List (List ℕ) → Bool
 asks_two (word ∷ number ∷ []) = bytes_eq word (codes "geo") && bytes_eq number (codes "2")
 asks_two _ = false
 
--- a script is of version 2 where its first record asks for it
-abbrev pub is_two : List (List (List ℕ)) → Bool
-is_two [] = false
-is_two (fields ∷ records) = asks_two fields
+-- the version of a script that begins with this record
+abbrev pub asked_version : List (List ℕ) → Version
+asked_version fields = version_of (asks_two fields)
 
--- the command that record k of a script of a version is, counted from 0, or why it is none
-abbrev pub reading_of : Bool → ℕ → List (List ℕ) → Result Command Bad
-reading_of two k fields = if two && (k == 0) then Ok command.Two else command_of (limits_of two) fields
+-- a script is of version 2 where its first record asks for it
+abbrev pub script_version : List (List (List ℕ)) → Version
+script_version [] = version.One
+script_version (fields ∷ records) = asked_version fields
+
+-- the command that record k of a script of a version is, counted from 0, or why it is none: the first one of version 2 has asked for it
+abbrev pub reading_of : Version → ℕ → List (List ℕ) → Result Command Bad
+reading_of version.One k fields = command_of (limits_of version.One) fields
+reading_of version.Two k fields = if k == 0 then Ok command.Two else command_of (limits_of version.Two) fields
 
 -- a list of points has as many as its command takes
 abbrev pub IsWellSized : Command → Type 0
@@ -123,8 +131,8 @@ pub record TakesRecord (before after : Unread) (reading : Result Command Bad) : 
   pub fields : List (List ℕ)
   pub first : before.left ≡ fields ∷ after.left
   pub counted : after.next ≡ before.next + 1
-  pub version : after.two ≡ (if before.next == 0 then asks_two fields else before.two)
-  pub reads : reading ≡ reading_of after.two before.next fields
+  pub version : after.version ≡ (if before.next == 0 then asked_version fields else before.version)
+  pub reads : reading ≡ reading_of after.version before.next fields
 
 -- the next command was taken from a script; `None` says that no record is left
 abbrev pub TakesCommand : Unread → Unread → Option (Result Command Bad) → Type 0

@@ -5,6 +5,7 @@ use Rattle.csv.specs.Reading.{default_config, records, strip_bom}
 use Rattle.csv.specs.Records.{Row, fields_of}
 use Rattle.csv.specs.declared.parser.State.{State}
 use Rattle.csv.specs.declared.parser.State.TheVariants as st
+use Rattle.geo_text.specs.declared.version.Version.{Version}
 
 -- a space or a tab
 abbrev pub is_blank : ℕ → Bool
@@ -41,10 +42,10 @@ state_after state (c ∷ bytes) = state_after (step default_config state c).0 by
 abbrev pub AreWhole : List ℕ → Type 0
 AreWhole bytes = ends_at_end (state_after st.StartRecord (strip_bom bytes)) ≡ false
 
--- what is left of a script: its records, the number of the next one, whether the script is of version 2, which its first record
--- says, and whether it has failed
+-- what is left of a script: its records, the number of the next one, the version of the script, which its first record says, and
+-- whether it has failed
 pub record Unread : Type 0 where
   pub left : List (List (List ℕ))
   pub next : ℕ
-  pub two : Bool
+  pub version : Version
   pub failed : Bool

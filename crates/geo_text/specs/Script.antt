@@ -53,6 +53,6 @@ abbrev pub unread : Inside → Unread
 unread script = record {
   left = if script.ended then [] else records_left script.reader;
   next = script.next;
-  two = script.two;
+  version = script.version;
   failed = script.failed;
 }

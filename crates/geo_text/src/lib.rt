@@ -10,9 +10,11 @@ mod points;
 mod put;
 mod reading;
 mod script;
+mod version;
 
 pub use command::{Bad, Command};
 pub use limits::Limits;
 pub use points::Points;
 pub use put::{put_bad, put_hom, put_index, put_line_end, put_pt, put_word};
 pub use script::Script;
+pub use version::Version;

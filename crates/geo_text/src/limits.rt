@@ -4,6 +4,7 @@ ghost use Rattle.geo_text.specs.Reading.{range_fault, unless};
 
 use crate::command::Bad;
 use crate::coordinates::point;
+use crate::version::Version;
 use exact_plane::Pt;
 use plane::{MAX_CHAIN, MAX_COORDINATE, MAX_CORNERS};
 
@@ -24,22 +25,21 @@ pub struct Limits {
 }
 
 impl Limits {
-    /// The limits of version 2, or of version 1.
-    pub fn of(two: bool) -> Limits
-        ensures { result ≡ limits_of two }
+    /// The limits of a version.
+    pub fn of(version: Version) -> Limits
+        ensures { result ≡ limits_of version }
     {
-        if two {
-            Limits {
-                coordinate: MAX_COORDINATE,
-                corners: MAX_CORNERS,
-                chain: MAX_CHAIN,
-            }
-        } else {
-            Limits {
+        match version {
+            Version::One => Limits {
                 coordinate: NARROW_COORDINATE,
                 corners: NARROW_CORNERS,
                 chain: NARROW_CHAIN,
-            }
+            },
+            Version::Two => Limits {
+                coordinate: MAX_COORDINATE,
+                corners: MAX_CORNERS,
+                chain: MAX_CHAIN,
+            },
         }
     }
 

@@ -1,12 +1,13 @@
 ghost use Rattle.std.specs.Bool.{MatchBool};
 ghost use Rattle.std.specs.Prelude.{◌≡◌, ◌≤◌, ◌==◌, ◌++◌, [], true, false, if◌then◌else◌, length, IfOk, IfSome, OnOk, OnErr};
-ghost use Rattle.geo_text.specs.Reading.{IsWellSized, TakesCommand, asks_two as is_asked, reading_of};
+ghost use Rattle.geo_text.specs.Reading.{IsWellSized, TakesCommand, asked_version, reading_of};
 ghost use Rattle.geo_text.specs.Records.{later_records_of, plain_fields, records_of};
 ghost use Rattle.geo_text.specs.Script.{IsReading, TakesFields, records_left};
 
 use crate::command::{Bad, Command};
 use crate::limits::Limits;
 use crate::reading::{asks_two, command};
+use crate::version::Version;
 use csv::{ByteRecord, Reader, ReaderBuilder};
 use exact_plane::Memory;
 use std::alloc::Global;
@@ -20,7 +21,7 @@ pub struct Script<'a> {
     row: ByteRecord,
     alloc: Global,
     next: usize,
-    two: bool,
+    version: Version,
     ended: bool,
     failed: bool,
 }
@@ -40,25 +41,31 @@ impl<'a> Model for Script<'a> {
 impl<'a> Script<'a> {
     /// The script that these bytes are, before its first record. It takes no memory, and keeps the allocator.
     pub fn open(alloc: Global, bytes: &'a [u8]) -> Script<'a>
-        ensures { result ≡ record { left = records_of bytes.now; next = 0; two = false; failed = false } }
+        ensures { result ≡ record { left = records_of bytes.now; next = 0; version = Version.One; failed = false } }
     {
-        Script::over(alloc, b"".as_slice(), bytes, 0, false)
+        Script::over(alloc, b"".as_slice(), bytes, 0, Version::One)
     }
 
     /// A later part of a script, whose front is no front of the script: a byte order mark there is text. Where a record came
-    /// before, no record of it is the script's first one, and `two` says of which version the script is.
-    pub fn resume(alloc: Global, bytes: &'a [u8], started: bool, two: bool) -> Script<'a>
-        ensures { result ≡ record { left = later_records_of bytes.now; next = if started then 1 else 0; two = two; failed = false } }
+    /// before, no record of it is the script's first one, and `version` is that of the script.
+    pub fn resume(alloc: Global, bytes: &'a [u8], started: bool, version: Version) -> Script<'a>
+        ensures { result ≡ record { left = later_records_of bytes.now; next = if started then 1 else 0; version = version; failed = false } }
     {
         // An empty line is no record, and `csv` drops a mark at the front alone.
-        Script::over(alloc, b"\n".as_slice(), bytes, started as usize, two)
+        Script::over(alloc, b"\n".as_slice(), bytes, started as usize, version)
     }
 
     // The records of these bytes, one part after the other. The first of them has a number.
-    fn over(alloc: Global, front: &'a [u8], bytes: &'a [u8], next: usize, two: bool) -> Script<'a>
+    fn over(
+        alloc: Global,
+        front: &'a [u8],
+        bytes: &'a [u8],
+        next: usize,
+        version: Version,
+    ) -> Script<'a>
         requires short { length front.now ≤ 1 }
         requires next { next ≤ 1 }
-        ensures { result ≡ record { left = records_of (front.now ++ bytes.now); next = next; two = two; failed = false } }
+        ensures { result ≡ record { left = records_of (front.now ++ bytes.now); next = next; version = version; failed = false } }
     {
         Script {
             reader: ReaderBuilder::new()
@@ -68,7 +75,7 @@ impl<'a> Script<'a> {
             row: ByteRecord::new(alloc),
             alloc,
             next,
-            two,
+            version,
             ended: false,
             failed: false,
         }
@@ -94,19 +101,23 @@ impl<'a> Script<'a> {
             self.failed = false;
             return Ok(None);
         }
-        self.two = is_two(&self.row, self.next, self.two);
-        let reading = reading(self.alloc, &self.row, self.next, self.two)?;
+        self.version = version(&self.row, self.next, self.version);
+        let reading = reading(self.alloc, &self.row, self.next, self.version)?;
         self.next += 1;
         self.failed = false;
         Ok(Some(reading))
     }
 }
 
-// Whether a script is of version 2, once the record with this number was read.
-fn is_two(row: &ByteRecord, number: usize, two: bool) -> bool
-    ensures { result ≡ (if number == 0 then is_asked (plain_fields row.now) else two) }
+// Of which version a script is, once the record with this number was read: it was of this one before.
+fn version(row: &ByteRecord, number: usize, before: Version) -> Version
+    ensures { result ≡ (if number == 0 then asked_version (plain_fields row.now) else before) }
 {
-    if number == 0 { asks_two(row) } else { two }
+    if number == 0 {
+        Version::of(asks_two(row))
+    } else {
+        before
+    }
 }
 
 // The command that the record with this number is in a script of this version, or why it is none.
@@ -114,14 +125,14 @@ fn reading(
     alloc: Global,
     row: &ByteRecord,
     number: usize,
-    two: bool,
+    version: Version,
 ) -> Result<Result<Command, Bad>, Memory>
-    ensures { IfOk result (λ reading. reading ≡ reading_of two number (plain_fields row.now)) }
+    ensures { IfOk result (λ reading. reading ≡ reading_of version number (plain_fields row.now)) }
 {
-    if two && number == 0 {
+    if version == Version::Two && number == 0 {
         Ok(Ok(Command::Two))
     } else {
-        command(alloc, row, &Limits::of(two))
+        command(alloc, row, &Limits::of(version))
     }
 }
 

@@ -5,7 +5,7 @@ use crate::full_chains::FULL_CHAINS;
 use crate::polygons::{At, at, ats_of, points_of, polygon};
 use exact_plane::{Memory, Pt, Steps};
 use geo_session::Session;
-use geo_text::{Command, Points};
+use geo_text::{Command, Points, Version};
 use plane::MAX_CORNERS;
 use std::alloc::Global;
 use std::marker::Brand;
@@ -36,21 +36,21 @@ fn all_chains<N: Ledger, R: Abort>(rt: &R, alloc: Global, blank: Blank) -> Resul
     requires countable { 0 < blank.parts }
 {
     let mut steps = Steps::<N>::new(blank);
-    tells(rt, alloc, false, CHAINS, &mut steps)?;
-    tells(rt, alloc, true, FULL_CHAINS, &mut steps)
+    tells(rt, alloc, Version::One, CHAINS, &mut steps)?;
+    tells(rt, alloc, Version::Two, FULL_CHAINS, &mut steps)
 }
 
-// In version 2 of the script, or in version 1, each row of a table is told.
+// In this version of the script each row of a table is told.
 fn tells<N: Ledger, R: Abort>(
     rt: &R,
     alloc: Global,
-    two: bool,
+    version: Version,
     table: &str,
     steps: &mut Steps<N>,
 ) -> Result<(), Memory> {
     for row in table.split("\n") {
         let (name, rest) = row.split_once(": ").expect(rt, "a name");
-        assert!(rt; is_told(rt, alloc, two, rest, steps)?, "{name}");
+        assert!(rt; is_told(rt, alloc, version, rest, steps)?, "{name}");
     }
     Ok(())
 }
@@ -58,12 +58,12 @@ fn tells<N: Ledger, R: Abort>(
 fn is_told<N: Ledger, R: Abort>(
     rt: &R,
     alloc: Global,
-    two: bool,
+    version: Version,
     row: &str,
     steps: &mut Steps<N>,
 ) -> Result<bool, Memory> {
     let (name, chain) = row.split_once(": ").expect(rt, "a polygon");
-    let session = session_in(rt, alloc, two, name, steps)?;
+    let session = session_in(rt, alloc, version, name, steps)?;
     let want = ats_of(rt, alloc, chain)?;
     let found = told(rt, alloc, &session, &want, steps)?;
     Ok(parts_of(alloc, &found, steps)?.as_slice() == want.as_slice())
@@ -73,7 +73,7 @@ fn is_told<N: Ledger, R: Abort>(
 fn session_in<N: Ledger, R: Abort>(
     rt: &R,
     alloc: Global,
-    two: bool,
+    version: Version,
     name: &str,
     steps: &mut Steps<N>,
 ) -> Result<Session, Memory> {
@@ -83,11 +83,11 @@ fn session_in<N: Ledger, R: Abort>(
     assert!(rt; points.len() <= MAX_CORNERS);
     let mut out = Vec::new(alloc);
     let mut session = Session::new();
-    if two {
+    if version == Version::Two {
         session.answer(alloc, Command::Two, &mut out, steps)?;
     }
     session.answer(alloc, Command::Polygon(Points::of(points)), &mut out, steps)?;
-    assert!(rt; session.is_two() == two);
+    assert!(rt; session.version() == version);
     Ok(session)
 }
 
@@ -102,10 +102,9 @@ fn told<N: Ledger, R: Abort>(
     let first = ends.first().expect(rt, "a start");
     let last = ends.last().expect(rt, "a goal");
     let (from, to) = (at(rt, first.0, first.1), at(rt, last.0, last.1));
-    let found = if session.is_two() {
-        session.path(alloc, &from, &to, steps)?
-    } else {
-        session.chain(alloc, &from, &to, steps)?
+    let found = match session.version() {
+        Version::One => session.chain(alloc, &from, &to, steps)?,
+        Version::Two => session.path(alloc, &from, &to, steps)?,
     };
     Ok(found.ok().expect(rt, "both in the polygon"))
 }

@@ -13,10 +13,10 @@ returns-in_ok-of-in-Ok g c =
     let count : length c.in-Ok.ring.corners ≡ length points = ap (λ (r : Oriented). length r.corners) ring ∙ length-oriented points in
     let given : given_of c.in-Ok.ring ≡ points = ap given_of ring ∙ given_of-oriented points in
     let (same, none, not) = c.in_ok-of-in-Ok.ensures in
-    λ two held. taken two held points c.in_ok-of-in-Ok.field-0 c.len.result simple (c.len.ensures.number ∙ count) (ap given_of same ∙ given) none not
+    λ version held. taken version held points c.in_ok-of-in-Ok.field-0 c.len.result simple (c.len.ensures.number ∙ count) (ap given_of same ∙ given) none not
 
 pub returns-in-Err-Clash : goal.returns-in-Err-Clash
 returns-in-Err-Clash g c =
     let least : IsLeastClash c.args.points c.in-Err-Clash.i c.in-Err-Clash.j =
     rw c.into_vec.ensures at ((c.in-Err-Clash.ensures.clash c.in-Err-Clash.i c.in-Err-Clash.j).0 (ap Err c.in-Err-Clash.field-0-is)).2 in
-    λ two held. rw (c.unchanged.ensures, c.in-Err-Clash.field-0-is) (clash two held c.args.points c.in-Err-Clash.i c.in-Err-Clash.j least)
+    λ version held. rw (c.unchanged.ensures, c.in-Err-Clash.field-0-is) (clash version held c.args.points c.in-Err-Clash.i c.in-Err-Clash.j least)

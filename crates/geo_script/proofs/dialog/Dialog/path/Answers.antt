@@ -14,7 +14,7 @@ returns-in-Err-point-clause-answer g c =
     let fits_b : FitsSigned w64 c.args.from.1 = search rules in
     let fits_c : FitsSigned w64 c.args.to.0 = search rules in
     let fits_d : FitsSigned w64 c.args.to.1 = search rules in
-    second_past c.args.self.now.state.two c.args.from.0 c.args.from.1 c.args.to.0 c.args.to.1 c.in-Ok.s c.in-Err-point.bad _
+    second_past c.args.self.now.state.version c.args.from.0 c.args.from.1 c.args.to.0 c.args.to.1 c.in-Ok.s c.in-Err-point.bad _
     (sym c.in-Ok.is ∙ (rw (c.limits-limits.ensures, to_z-of_z w64 c.args.from.0 fits_a, to_z-of_z w64 c.args.from.1 fits_b) at c.point.ensures))
     (sym c.in-Err-point.is ∙ (rw (c.limits-limits.ensures, to_z-of_z w64 c.args.to.0 fits_c, to_z-of_z w64 c.args.to.1 fits_d) at c.point-2.ensures))
 
@@ -25,10 +25,10 @@ returns-clause-answer g c =
     let fits_c : FitsSigned w64 c.args.to.0 = search rules in
     let fits_d : FitsSigned w64 c.args.to.1 = search rules in
     let state = c.args.self.now.state in
-    two_points state.two c.args.from.0 c.args.from.1 c.args.to.0 c.args.to.1 c.in-Ok.s c.in-Ok-point.t (λ s t. IsFound state (command.Path s t) path_of) c.path.result
+    two_points state.version c.args.from.0 c.args.from.1 c.args.to.0 c.args.to.1 c.in-Ok.s c.in-Ok-point.t (λ s t. IsFound state (command.Path s t) path_of) c.path.result
     (sym c.in-Ok.is ∙ (rw (c.limits-limits.ensures, to_z-of_z w64 c.args.from.0 fits_a, to_z-of_z w64 c.args.from.1 fits_b) at c.point.ensures))
     (sym c.in-Ok-point.is ∙ (rw (c.limits-limits.ensures, to_z-of_z w64 c.args.to.0 fits_c, to_z-of_z w64 c.args.to.1 fits_d) at c.point-2.ensures))
     (rw (ap (λ (talk : Talk). talk.state) c.self.view_is) at c.path.ensures.answer)
 
 pub returns-clause-few : goal.returns-clause-few
-returns-clause-few g c = few_points c.self.inside.session.state.two MAX_CORNERS c.path.result c.path.ensures.few
+returns-clause-few g c = few_points c.self.inside.session.state.version MAX_CORNERS c.path.result c.path.ensures.few

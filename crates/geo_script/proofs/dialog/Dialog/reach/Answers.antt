@@ -10,6 +10,6 @@ use Rattle.geo_script.proofs.dialog.Dialog.reach.Goals as goal
 pub returns-in-Ok-clause-answer : goal.returns-in-Ok-clause-answer
 returns-in-Ok-clause-answer g c =
     let state = c.args.self.now.state in
-    one_point state.two c.args.x c.args.y c.in-Ok.point (λ t. IsFound state (command.Reach t) path_of) c.reach.result
+    one_point state.version c.args.x c.args.y c.in-Ok.point (λ t. IsFound state (command.Reach t) path_of) c.reach.result
     (sym c.in-Ok.is ∙ (rw (c.limits.ensures, to_z-of_z w64 c.args.x c.ranges.x, to_z-of_z w64 c.args.y c.ranges.y) at c.point.ensures))
     (rw (ap (λ (talk : Talk). talk.state) c.self.view_is) at c.reach.ensures.answer)

@@ -31,5 +31,5 @@ returns g c =
     let is = rw (c.in-Ok.is, ← c.self.view_is) at c.in_ok-span.ensures in
     let told = rw (c.deref.ensures.value, ← c.self.view_is) at c.in_ok-sides.ensures in
     rw (← c.self.view_is, c.of.ensures)
-    (hull_within c.self.inside.ring c.self.inside.mesh c.args.points.now c.in-Ok.span is c.in_ok-pairs.pairs.items c.in_ok-pairs.ensures c.args.two
+    (hull_within c.self.inside.ring c.self.inside.mesh c.args.points.now c.in-Ok.span is c.in_ok-pairs.pairs.items c.in_ok-pairs.ensures c.args.version
     c.in_ok-sides.sides.items told c.self.invariant.fits)

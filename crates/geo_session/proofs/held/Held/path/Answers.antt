@@ -25,7 +25,7 @@ returns-clause-answer g c =
     let second = rw c.in-Ok-find.is at c.find-2.ensures.found in
     two_in (given_of ring) _ c.args.s.now c.args.t.now (reply.Path c.in_ok-points.points.items) first.0 second.0 (record {
       value = c.in_ok-points.points.items;
-      holds = shown_given ring c.args.two c.args.s.now c.args.t.now c.in_ok-points.points.items c.in_ok-points.ensures.shown;
+      holds = shown_given ring c.args.version c.args.s.now c.args.t.now c.in_ok-points.points.items c.in_ok-points.ensures.shown;
       told = refl;
     })
 
@@ -37,7 +37,7 @@ returns-in_err-points-clause-few g c = none_of_err _ c.from_residual.result c.fr
 
 pub returns-in-Err-clause-steps : goal.returns-in-Err-clause-steps
 returns-in-Err-clause-steps g c =
-    located_one (length c.args.self.now.ring.corners) c.args.steps.now c.find.new.steps c.find.ensures.steps c.args.two
+    located_one (length c.args.self.now.ring.corners) c.args.steps.now c.find.new.steps c.find.ensures.steps c.args.version
 
 pub returns-in-Err-clause-memory : goal.returns-in-Err-clause-memory
 returns-in-Err-clause-memory g c = λ _. tt
@@ -45,7 +45,7 @@ returns-in-Err-clause-memory g c = λ _. tt
 pub returns-in-Err-find-clause-steps : goal.returns-in-Err-find-clause-steps
 returns-in-Err-find-clause-steps g c =
     located_two (length c.args.self.now.ring.corners) c.args.steps.now c.find.new.steps c.find.ensures.steps c.find-2.new.steps c.find-2.ensures.steps
-    c.args.two
+    c.args.version
 
 pub returns-in-Err-find-clause-memory : goal.returns-in-Err-find-clause-memory
 returns-in-Err-find-clause-memory g c = λ _. tt
@@ -53,7 +53,7 @@ returns-in-Err-find-clause-memory g c = λ _. tt
 pub returns-clause-steps : goal.returns-clause-steps
 returns-clause-steps g c =
     located_told (length c.args.self.now.ring.corners) c.args.steps.now c.find.new.steps c.find.ensures.steps c.find-2.new.steps c.find-2.ensures.steps
-    c.args.two c.path_between.new.steps c.path_between.ensures.steps
+    c.args.version c.path_between.new.steps c.path_between.ensures.steps
 
 pub returns-clause-memory : goal.returns-clause-memory
 returns-clause-memory g c = λ _. tt
@@ -61,7 +61,7 @@ returns-clause-memory g c = λ _. tt
 pub returns-in_err-points-clause-steps : goal.returns-in_err-points-clause-steps
 returns-in_err-points-clause-steps g c =
     located_told (length c.args.self.now.ring.corners) c.args.steps.now c.find.new.steps c.find.ensures.steps c.find-2.new.steps c.find-2.ensures.steps
-    c.args.two c.path_between.new.steps c.path_between.ensures.steps
+    c.args.version c.path_between.new.steps c.path_between.ensures.steps
 
 pub returns-in_err-points-clause-memory : goal.returns-in_err-points-clause-memory
 returns-in_err-points-clause-memory g c =

@@ -20,7 +20,7 @@ returns-clause-answer g c =
     rw (← c.self.view_is, c.in-Some.is)
     (one_in (given_of ring) _ c.args.t.now (reply.Path c.in_ok-points.points.items) found.0 (record {
       value = c.in_ok-points.points.items;
-      holds = shown_given ring c.args.two c.in-Some.grown.source c.args.t.now c.in_ok-points.points.items (record {
+      holds = shown_given ring c.args.version c.in-Some.grown.source c.args.t.now c.in_ok-points.points.items (record {
         chain = c.in_ok-chain.chain.items;
         is_path = c.in_ok-chain.ensures.path;
         is_shown = rw (← c.self.view_is) at c.in_ok-points.ensures.shown;

@@ -8,7 +8,7 @@ full_along-requires g c =
     (record {
       s = between.s;
       t = between.t;
-      leads = leads c.self.inside.ring.corners c.self.inside.mesh c.in_ok-sleeve.sleeve c.args.tris.0 c.args.tris.1 between.s between.t
-          c.in_ok-sleeve.ensures.of_mesh c.in_ok-sleeve.ensures.between between.start between.goal;
+      leads = leads c.self.inside.ring.corners c.self.inside.mesh c.in_ok-sleeve-in-Two.sleeve c.args.tris.0 c.args.tris.1 between.s between.t
+          c.in_ok-sleeve-in-Two.ensures.of_mesh c.in_ok-sleeve-in-Two.ensures.between between.start between.goal;
       is_path = between.is_path;
     })

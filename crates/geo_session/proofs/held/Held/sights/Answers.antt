@@ -7,7 +7,7 @@ use Rattle.geo_session.proofs.held.Held.sights.Goals as goal
 
 pub returns-then-is_large-clause-asked : goal.returns-then-is_large-clause-asked
 returns-then-is_large-clause-asked g c =
-    λ two. rw c.unchanged.ensures (sights_refused two c.args.self.now (c.is_large.ensures.0 c.if-is_large.true))
+    λ version. rw c.unchanged.ensures (sights_refused version c.args.self.now (c.is_large.ensures.0 c.if-is_large.true))
 
 pub returns-then-is_large-clause-paced : goal.returns-then-is_large-clause-paced
-returns-then-is_large-clause-paced g c = λ two. unpaced (seen_of two (Some c.args.self.now)) command.Sights c.args.steps.now
+returns-then-is_large-clause-paced g c = λ version. unpaced (seen_of version (Some c.args.self.now)) command.Sights c.args.steps.now

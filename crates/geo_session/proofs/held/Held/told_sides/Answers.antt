@@ -7,7 +7,7 @@ pub loop-pair-preserved : goal.loop-pair-preserved
 loop-pair-preserved g c =
     record {
       are = rw c.push_reserved.ensures.items
-          (sides_more c.args.two c.args.self.now.ring.corners c.args.span.now c.args.pairs.now c.loop-pair.pair-index c.loop-pair.told.items
+          (sides_more c.args.version c.args.self.now.ring.corners c.args.span.now c.args.pairs.now c.loop-pair.pair-index c.loop-pair.told.items
           c.in_ok-told_side.field-0 c.loop-pair.invariant.are c.in_ok-told_side.ensures);
       room = rw c.push_reserved.ensures.capacity c.loop-pair.invariant.room;
     }

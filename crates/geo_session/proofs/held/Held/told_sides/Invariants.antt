@@ -4,6 +4,6 @@ use Rattle.geo_session.proofs.held.Held.told_sides.Given as goal
 
 abbrev pub invariant-loop-pair : goal.invariant-loop-pair
 invariant-loop-pair g l = record {
-  are : AreSidesTold l.two l.self.ring.corners l.span l.pairs l.pair-index l.told.items;
+  are : AreSidesTold l.version l.self.ring.corners l.span l.pairs l.pair-index l.told.items;
   room : length l.pairs ≤ vec_capacity l.told;
 }

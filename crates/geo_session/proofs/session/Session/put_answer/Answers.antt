@@ -1,4 +1,5 @@
-use Rattle.std.proofs.Common.{refl}
+use Rattle.std.proofs.Common.{◌≡◌, refl, rules}
+use Rattle.geo_text.specs.Version.{version_of}
 use Rattle.geo_reply.proofs.Fronts.{err_since, ok_of_err}
 use Rattle.geo_reply.specs.ReplyText.{reply_text}
 use Rattle.geo_session.proofs.Paces.{unwritten_paced, written_paced}
@@ -19,9 +20,10 @@ returns-in_err-asked-clause-same_out g c = err_since c.from_residual.result refl
 
 pub returns-in_err-asked-clause-paced : goal.returns-in_err-asked-clause-paced
 returns-in_err-asked-clause-paced g c =
+    let is : c.version.result ≡ version_of c.self.inside.two = search rules in
     rw (← c.self.view_is)
-    (unwritten_paced (seen_of c.self.inside.two c.self.inside.held) c.from_residual.result c.args.out.now.items c.args.out.now.items c.args.steps.now
-    c.ask.new.steps c.ask.new.steps c.args.command c.ask.ensures.paced refl (ok_of_err _ c.from_residual.result c.from_residual.ensures.0))
+    (unwritten_paced (seen_of (version_of c.self.inside.two) c.self.inside.held) c.from_residual.result c.args.out.now.items c.args.out.now.items c.args.steps.now
+    c.ask.new.steps c.ask.new.steps c.args.command (rw is at c.ask.ensures.paced) refl (ok_of_err _ c.from_residual.result c.from_residual.ensures.0))
 
 pub returns-in_err-put_reply-clause-ok : goal.returns-in_err-put_reply-clause-ok
 returns-in_err-put_reply-clause-ok g c = ok_of_err _ c.from_residual-in_err-put_reply.result c.from_residual-in_err-put_reply.ensures.0
@@ -37,10 +39,11 @@ returns-in_err-put_reply-clause-same_out g c = err_since c.from_residual-in_err-
 
 pub returns-in_err-put_reply-clause-paced : goal.returns-in_err-put_reply-clause-paced
 returns-in_err-put_reply-clause-paced g c =
+    let is : c.version.result ≡ version_of c.self.inside.two = search rules in
     rw (← c.self.view_is)
-    (written_paced (seen_of c.self.inside.two c.self.inside.held) c.from_residual-in_err-put_reply.result c.args.out.now.items
+    (written_paced (seen_of (version_of c.self.inside.two) c.self.inside.held) c.from_residual-in_err-put_reply.result c.args.out.now.items
     c.put_reply.new.out.items c.args.steps.now c.ask.new.steps c.put_reply.new.steps c.args.command c.in_ok-asked.asked.reply
-    c.in_ok-asked.ensures.asked.is_reply c.in_ok-asked.ensures.paced c.in_err-put_reply.ensures.steps
+    (rw is at c.in_ok-asked.ensures.asked.is_reply) (rw is at c.in_ok-asked.ensures.paced) c.in_err-put_reply.ensures.steps
     (ok_of_err _ c.from_residual-in_err-put_reply.result c.from_residual-in_err-put_reply.ensures.0))
 
 pub commit-requires : goal.commit-requires
@@ -48,8 +51,9 @@ commit-requires g c = c.in_ok-asked.ensures.asked.suits
 
 pub returns-clause-ok : goal.returns-clause-ok
 returns-clause-ok g c =
-    let asked = c.in_ok-asked.ensures.asked in
-    rw (← c.self.view_is, c.commit.ensures.two, c.commit.ensures.held)
+    let is : c.version.result ≡ version_of c.self.inside.two = search rules in
+    let asked = rw is at c.in_ok-asked.ensures.asked in
+    rw (← c.self.view_is, c.commit.ensures.version, c.commit.ensures.held)
     (record {
       text = reply_text c.in_ok-asked.asked.reply;
       answer = record { answered = c.in_ok-asked.asked.reply; is_reply = asked.is_reply; told = refl; left = asked.state };
@@ -67,7 +71,8 @@ returns-clause-same_out g c = tt
 
 pub returns-clause-paced : goal.returns-clause-paced
 returns-clause-paced g c =
+    let is : c.version.result ≡ version_of c.self.inside.two = search rules in
     rw (← c.self.view_is)
-    (written_paced (seen_of c.self.inside.two c.self.inside.held) _ c.args.out.now.items c.put_reply.new.out.items c.args.steps.now c.ask.new.steps
-    c.put_reply.new.steps c.args.command c.in_ok-asked.asked.reply c.in_ok-asked.ensures.asked.is_reply c.in_ok-asked.ensures.paced
+    (written_paced (seen_of (version_of c.self.inside.two) c.self.inside.held) _ c.args.out.now.items c.put_reply.new.out.items c.args.steps.now c.ask.new.steps
+    c.put_reply.new.steps c.args.command c.in_ok-asked.asked.reply (rw is at c.in_ok-asked.ensures.asked.is_reply) (rw is at c.in_ok-asked.ensures.paced)
     c.in_ok-put_reply.ensures.steps c.in_ok-put_reply.ensures.ok)

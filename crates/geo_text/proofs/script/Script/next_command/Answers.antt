@@ -11,10 +11,10 @@ returns-clause-takes c =
       fields = plain_fields c.read.new.row;
       first = rw c.if-self-2.false taken.first;
       counted = refl;
-      version = c.is_two-self-inside.ensures;
+      version = c.version-self-inside.ensures;
       reads = c.in_ok-reading.ensures;
     })
 
 pub returns-clause-well_sized : goal.returns-clause-well_sized
 returns-clause-well_sized c =
-    rw c.in_ok-reading.ensures (reading_is_well_sized c.is_two-self-inside.result c.self.inside.next (plain_fields c.read.new.row))
+    rw c.in_ok-reading.ensures (reading_is_well_sized c.version-self-inside.result c.self.inside.next (plain_fields c.read.new.row))
