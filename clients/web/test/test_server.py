@@ -355,6 +355,11 @@ $1 == "kernel" || $1 == "see" { print $1, "0"; next }
 """
 
 
+def heed_ctrl_c() -> None:
+    """A shell has what it runs in the background ignore Ctrl-C, and a child takes that over."""
+    signal.signal(signal.SIGINT, signal.SIG_DFL)
+
+
 class Programs(unittest.TestCase):
     def setUp(self) -> None:
         folder = TemporaryDirectory()
@@ -387,7 +392,7 @@ class Programs(unittest.TestCase):
 
     def test_ctrl_c_ends_it_cleanly(self) -> None:
         words = [sys.executable, str(TOP / 'tools/explore'), '--no-browser', '--program', str(self.program)]
-        with subprocess.Popen(words, stdout=subprocess.PIPE, stderr=subprocess.PIPE, text=True) as made:
+        with subprocess.Popen(words, stdout=subprocess.PIPE, stderr=subprocess.PIPE, text=True, preexec_fn=heed_ctrl_c) as made:
             assert made.stdout
             address = made.stdout.readline().strip()
             found = re.fullmatch(r'http://127\.0\.0\.1:(\d+)(/[\w-]{20,}/)', address)
