@@ -13,7 +13,7 @@ SIZES = [1024, 4096, 16_384]
 PAIRED = [256, 1024]  # for `pair` and `sights`, which take no more vertices
 MOST = {1: 4096, 2: 16_384}  # vertices in a version of the script
 BYTES = [1_048_576, 8_388_608]
-PLACES, VIEWS, LONG_VIEWS, PATHS, LISTS, PEGS, MOST_PEGS, TIMES, WALKS = 1000, 100, 10, 400, 10, 16, 64, 20, 50
+PLACES, VIEWS, LONG_VIEWS, PATHS, LISTS, PEGS, MOST_PEGS, TIMES, WALKS = 1000, 100, 10, 200, 10, 16, 64, 20, 10
 ENOUGH, REPEATS = 0.03, 512
 
 
@@ -34,9 +34,9 @@ class Ran:
 @dataclass
 class Job:
     """The records `timed`, after the records `before`, on a ring of a shape. `known` are the answers to all of them, where they are known
-    before. What is timed are so many records, its `times`, and its part is the time of one. Peers are asked with the ring and
-    the `queries`, which are those of all `times`, or of one where that is done over and over; so many are `asked`. The job is
-    `hostile` where its record is the worst that is known."""
+    before. What is timed are so many records, its `times`, and its part is the time of one. So many of them are `asked` until they begin
+    anew; peers are asked these once, with the ring and the `queries`. The job is `hostile` where its record is the worst that is
+    known."""
 
     command: str
     shape: str
@@ -74,11 +74,6 @@ class Job:
     @property
     def script(self) -> str:
         return self.before + self.timed
-
-    def ask_each(self, timed: str) -> None:
-        """Times these records, which the peers are asked too."""
-        self.timed, self.times = timed, timed.count('\n')
-        self.asked = self.times
 
 
 Ask = Callable[[str], Ran]
@@ -122,15 +117,16 @@ def jobs(sizes: List[int], only: str, ask: Ask) -> Iterator[Job]:
                 yield job
 
 
-def repeat(job: Job, one: str, ask: Ask, line: Optional[str] = None) -> None:
-    """One record over and over, until that takes some 30 milliseconds and as long as all before it, and its answer where that is known."""
-    rest = min(ask(job.before).processor for _ in range(2))
-    job.times = 1
-    while job.times < REPEATS and (spent := ask(job.before + job.times * one).processor - rest) < max(ENOUGH, rest):
-        job.times = min(REPEATS, job.times * (2 if 2 * spent > ENOUGH else 8))
-    job.timed = job.times * one
-    if line is not None:
-        job.known = (job.accepted if job.before != job.head else job.head) + job.times * line
+def repeat(job: Job, one: str, ask: Ask, answer: Optional[str] = None) -> None:
+    """Some records over and over, until that takes some 30 milliseconds and as long as all before them, and their answers where they are
+    known. Where there are more than one, the peers are asked each of them."""
+    rest, count = min(ask(job.before).processor for _ in range(2)), 1
+    while count < REPEATS and (spent := ask(job.before + count * one).processor - rest) < max(ENOUGH, rest):
+        count = min(REPEATS, count * (2 if 2 * spent > ENOUGH else 8))
+    job.asked = one.count('\n')
+    job.times, job.timed = count * job.asked, count * one
+    if answer is not None:
+        job.known = (job.accepted if job.before != job.head else job.head) + count * answer
 
 
 def move(job: Job, ring: Ring, *points: inputs.Point) -> List[inputs.Point]:
@@ -157,7 +153,7 @@ def accept(job: Job, ask: Ask) -> None:
 
 def inside(job: Job, ask: Ask) -> None:
     job.queries = inputs.places(job.ring, PLACES)
-    job.ask_each(records('inside', job.queries))
+    repeat(job, records('inside', job.queries), ask)
 
 
 def inside_again(job: Job, ask: Ask) -> None:
@@ -167,9 +163,8 @@ def inside_again(job: Job, ask: Ask) -> None:
 
 def see(job: Job, ask: Ask) -> None:
     job.queries = inputs.inner_places(job.ring, LONG_VIEWS if job.shape == 'convex' else VIEWS)
-    job.ask_each(records('see', job.queries))
-    if job.shape == 'convex':
-        job.known = job.accepted + job.times * whole_view(job.ring)
+    seen = len(job.queries) * whole_view(job.ring) if job.shape == 'convex' else None
+    repeat(job, records('see', job.queries), ask, seen)
 
 
 def see_all(job: Job, ask: Ask) -> None:
@@ -202,7 +197,7 @@ def tree_again(job: Job, ask: Ask) -> None:
 def reach(job: Job, ask: Ask) -> None:
     source, *goals = ends(job.shape, job.size, PATHS)[:PATHS + 1]
     job.before += record('tree', [source])
-    job.ask_each(records('reach', goals))
+    repeat(job, records('reach', goals), ask)
     job.queries = [point for goal in goals for point in (source, goal)]
 
 
@@ -215,7 +210,7 @@ def reach_far(job: Job, ask: Ask) -> None:
 
 def path(job: Job, ask: Ask) -> None:
     job.queries = ends(job.shape, job.size, PATHS)
-    job.ask_each(records('path', job.queries, 2))
+    repeat(job, records('path', job.queries, 2), ask)
 
 
 def path_far(job: Job, ask: Ask) -> None:
@@ -228,8 +223,7 @@ def check(job: Job, ask: Ask) -> None:
     """Some paths of version 1 as lists, which have no touched vertices: each is taut."""
     points = ends(job.shape, job.size, PATHS)[:2 * LISTS]
     lists = [inputs.bends(inputs.numbers(line)) for line in ask(job.before + records('path', points, 2)).lines[2:]]
-    job.ask_each(''.join(record('check', points) for points in lists))
-    job.known = job.accepted + LISTS * 'taut\n'
+    repeat(job, ''.join(record('check', points) for points in lists), ask, LISTS * 'taut\n')
 
 
 def check_way(way: Callable[[int], Ring]) -> Fill:
@@ -274,7 +268,7 @@ def pair(job: Job, ask: Ask) -> None:
     ends = [draw.randrange(job.size) for _ in range(2 * PATHS)]
     job.queries = [job.ring[i] for i in ends]
     job.before += 'pair,0,0\n'
-    job.ask_each(''.join(f'pair,{i},{j}\n' for i, j in zip(ends[::2], ends[1::2])))
+    repeat(job, ''.join(f'pair,{i},{j}\n' for i, j in zip(ends[::2], ends[1::2])), ask)
 
 
 def pair_far(job: Job, ask: Ask) -> None:
@@ -310,17 +304,15 @@ def far(job: Job, ask: Ask) -> Ring:
 def there_and_back(job: Job, ask: Ask) -> None:
     way = far(job, ask)
     job.queries = WALKS * [way[0], way[-1], way[-1], way[0]]
-    job.ask_each(records('path', job.queries, 2))
-    if job.shape in WAYS:
-        job.known = job.accepted + WALKS * (answer(way) + answer(way[::-1]))
+    known = WALKS * (answer(way) + answer(way[::-1])) if job.shape in WAYS else None
+    repeat(job, records('path', job.queries, 2), ask, known)
 
 
 def on_the_spot(job: Job, ask: Ask) -> None:
     """As many records with each end alone, so the ends are looked for as often and the answers are short."""
     begin, *_, end = far(job, ask)
     job.queries = WALKS * [begin, begin, end, end]
-    job.ask_each(records('path', job.queries, 2))
-    job.known = job.accepted + WALKS * (answer([begin]) + answer([end]))
+    repeat(job, records('path', job.queries, 2), ask, WALKS * (answer([begin]) + answer([end])))
 
 
 KINDS = [
@@ -352,7 +344,7 @@ KINDS = [
     Kind('check', ['arch'], check_way(inputs.way_along_arch), 'each tip', hostile=True),
     Kind('hull', ['comb'], hull, f'{MOST_PEGS} points', hostile=True),
     Kind('round', ['comb'], closed_round, f'{MOST_PEGS} points', hostile=True),
-    Kind('guards', ['convex'], guards, hostile=True),
+    Kind('guards', ['comb', 'convex'], guards, hostile=True),
     Kind('pair', ['spiral'], pair_far, hostile=True),
     Kind('sights', ['convex'], sights_again, hostile=True),
 ]
