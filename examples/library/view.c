@@ -10,7 +10,9 @@
 #define WIDTH 7
 #define HEIGHT 6
 
-static void print_whole(unsigned __int128 number) {
+__extension__ typedef unsigned __int128 Wide; /* of gcc and clang */
+
+static void print_whole(Wide number) {
     if (number > 9) {
         print_whole(number / 10);
     }
@@ -19,7 +21,7 @@ static void print_whole(unsigned __int128 number) {
 
 /* The numerator has up to 128 bits, and is negative where `high` is. */
 static void print_fraction(GeoFraction it) {
-    unsigned __int128 numerator = (unsigned __int128)(uint64_t)it.high << 64 | it.low;
+    Wide numerator = (Wide)(uint64_t)it.high << 64 | it.low;
     if (it.high < 0) {
         putchar('-');
         numerator = -numerator;
