@@ -1,0 +1,106 @@
+"""Points in other units than whole numbers."""
+from __future__ import annotations
+
+import math
+from fractions import Fraction
+from typing import Any, Optional, Sequence, Tuple
+
+from .errors import NotWhole
+from .reading import corners
+from .units import Exact, Given, Units, near, numpy, parts
+from .values import Point
+
+LIMITS = {False: 1_000_000, True: 8_388_607}
+
+
+class Frame(Units):
+    """A number c of the caller's stands for (c - origin) * scale, and answers come back in the caller's units: as floats, each the
+    nearest one to the exact value, or where the frame is `exact` as fractions.
+
+    A number must stand for a whole one, or be the float that is nearest to one that does, such as 0.1 where the scale is 10. With
+    `snap` any other is moved to the nearest step; without it is NotWhole. `origin` and `scale` are taken as they are written: 0.1 is
+    a tenth."""
+
+    def __init__(self, origin: Sequence[Given] = (0, 0), scale: Given = 1, *, snap: bool = False, exact: bool = False):
+        x, y = map(ratio, origin)
+        self.origin, self.scale = (x, y), ratio(scale)
+        if self.scale <= 0:
+            raise ValueError(f'a scale is above 0, and this is {self.scale}')
+        self.snap, self.exact = snap, exact
+        # a whole number n is (n * step + start) / unit
+        self._axes = tuple(
+            (self.scale.denominator * o.denominator, o.numerator * self.scale.numerator, o.denominator * self.scale.numerator)
+            for o in (x, y))
+
+    @classmethod
+    def of(cls, shape: Any, digits: Optional[int] = None, *, wide: bool = False, snap: bool = False, exact: bool = False) -> Frame:
+        """A frame for a ring or a polygon whose steps are those of so many digits after the point; of as many as there is room for,
+        up to 9, where `digits` is left out. Its origin is 0, or where that is too far a round number near the middle."""
+        points = list(corners(shape))
+        if not points:
+            raise ValueError('a frame of no points')
+        box = [(min(axis), max(axis)) for axis in zip(*points)]
+        limit = LIMITS[wide]
+        for count in range(9, -10, -1) if digits is None else [digits]:
+            scale = Fraction(10) ** count
+            origin = [middle(low, high, limit / scale) for low, high in box]
+            if all(o is not None for o in origin):
+                return cls([o or 0 for o in origin], scale, snap=snap, exact=exact)
+        longest = max(high - low for low, high in box)
+        raise ValueError(f'{digits} digits are {math.ceil(longest * scale):,} steps from side to side, and there is room for {2 * limit:,}')
+
+    def __repr__(self) -> str:
+        flags = ''.join(f', {name}=True' for name in ('snap', 'exact') if getattr(self, name))
+        return f'Frame(({self.origin[0]}, {self.origin[1]}), {self.scale}{flags})'
+
+    def __eq__(self, other: object) -> bool:
+        return isinstance(other, Frame) and vars(self) == vars(other)
+
+    def __hash__(self) -> int:
+        return hash((self.origin, self.scale, self.snap, self.exact))
+
+    def take(self, number: Any, place: int) -> int:
+        step, start, unit = self._axes[1 - place % 2]
+        over, under = parts(number, place)
+        over, under = over * unit - start * under, under * step
+        found = (2 * over + under) // (2 * under)
+        if found * under != over and not self.snap and not (isinstance(number, float) and (found * step + start) / unit == number):
+            raise NotWhole(number, place, f'the number lies between two steps of {1 / self.scale}')
+        return near(found)
+
+    def take_array(self, given: Any) -> Any:
+        return numpy().array([self.take(number, k + 1) for k, number in enumerate(given.ravel().tolist())], 'i8')
+
+    def give(self, point: Tuple[Exact, Exact]) -> Point:
+        if self.exact:
+            return point[0] / self.scale + self.origin[0], point[1] / self.scale + self.origin[1]
+        return self._float(point[0], 0), self._float(point[1], 1)
+
+    def give_array(self, points: Any) -> Any:
+        if self.exact:
+            return numpy().array([self.give(point) for point in points.tolist()], object).reshape(-1, 2)
+        columns = [[(n * step + start) / unit for n in points[:, k].tolist()] for k, (step, start, unit) in enumerate(self._axes)]
+        return numpy().array(columns, 'f8').T
+
+    def _float(self, number: Exact, axis: int) -> float:
+        step, start, unit = self._axes[axis]
+        return (number.numerator * step + start * number.denominator) / (unit * number.denominator)
+
+
+def ratio(number: Given) -> Fraction:
+    """A number as it is written."""
+    return Fraction(repr(float(number)) if isinstance(number, float) else number)  # type: ignore[arg-type]
+
+
+def middle(low: Fraction, high: Fraction, reach: Fraction) -> Optional[Fraction]:
+    """A number from which two are within reach: 0, or one between them with as few digits as do. Nothing where they are too far apart."""
+    if max(-low, high) <= reach:
+        return Fraction(0)
+    if high - low > 2 * reach:
+        return None
+    exact = (low + high) / 2
+    for count in range(-len(str(int(exact))), 99):
+        found = round(exact * Fraction(10) ** count) / Fraction(10) ** count
+        if max(high - found, found - low) <= reach:
+            return found
+    return exact

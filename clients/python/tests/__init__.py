@@ -1,0 +1,1 @@
+"""Tests of the package geo over the library, libgeo_c.so, which clients/python/build makes."""
