@@ -3,9 +3,9 @@ from __future__ import annotations
 
 import enum
 from fractions import Fraction
-from typing import Any, List, NamedTuple, Optional, Protocol, Tuple, Union
+from typing import Any, List, NamedTuple, Optional, Protocol, Tuple
 
-Coordinate = Union[int, float, Fraction]
+Coordinate = Any  # an int; a Fraction where an answer is no whole number; in a frame a float, or a Fraction where it is exact
 Point = Tuple[Coordinate, Coordinate]
 Path = List[Point]
 ExactPoint = Tuple[Fraction, Fraction]

@@ -4,7 +4,7 @@ from __future__ import annotations
 import unittest
 from fractions import Fraction
 
-from geo import Before, Part, Place, Rule, Session, Side, Verdict
+from geo import Before, Clash, Part, Place, Rule, Session, Side, Verdict
 from .rings import L, comb, exact
 
 
@@ -55,3 +55,43 @@ class Values(unittest.TestCase):
     def test_numbers_of_points_and_vertices(self) -> None:
         self.assertEqual(self.session.round([(4, 2), (2, 4), (0, 0), (1, 1)]), [0, 1, 2])
         self.assertEqual(self.session.guards(), [3])
+
+    def test_long_answers_are_sequences(self) -> None:
+        parts, sides, pairs = self.session.see((4, 1)), self.session.hull([(4, 2), (2, 4), (1, 2)]), self.session.sights()
+        self.assertEqual((len(parts), len(sides), len(pairs)), (5, 3, 13))
+        self.assertEqual(parts[-1], list(parts)[4])
+        self.assertEqual((pairs[:2], pairs[-1]), ([(0, 1), (0, 2)], (4, 5)))
+        self.assertEqual(sides, list(sides))
+        self.assertNotEqual(sides, list(sides)[:2])
+        self.assertIn((0, 3), pairs)
+        with self.assertRaises(IndexError):
+            parts[5]
+        self.assertEqual(repr(pairs), '[(0, 1), (0, 2), (0, 3), .. 10 more]')
+
+    def test_what_a_session_says_of_itself(self) -> None:
+        self.assertEqual((self.session.ring, self.session.source, self.session.wide, self.session.frame), (L, None, False, None))
+        self.assertEqual(repr(self.session), '<geo.Session: 6 vertices>')
+        self.session.tree((4, 1))
+        self.assertEqual((self.session.source, repr(self.session)), ((4, 1), '<geo.Session: 6 vertices, source (4, 1)>'))
+        with self.assertRaises(Clash):
+            self.session.polygon([(0, 0), (4, 4), (4, 0), (0, 4)])
+        self.assertEqual((self.session.ring, self.session.source), (L, (4, 1)), 'a refusal changes nothing')
+        self.session.polygon(L[:3])
+        self.assertEqual((self.session.ring, self.session.source), (L[:3], None))
+        self.session.close()
+        self.assertEqual(repr(self.session), '<geo.Session: closed>')
+        with Session(wide=True) as session:
+            self.assertEqual((session.ring, repr(session)), (None, '<geo.Session: no polygon, wide>'))
+
+    def test_what_a_session_says_after_text(self) -> None:
+        self.session.tree((4, 1))
+        self.session.answer('inside,1,1\npolygon,0,0,1,1\ntree,9,9\n')
+        self.assertEqual((self.session.ring, self.session.source), (L, (4, 1)), 'nothing was taken')
+        self.session.answer('tree,1,1\n')
+        self.assertEqual((self.session.ring, self.session.source), (L, None))
+        self.session.tree((4, 1))
+        self.session.answer('polygon,0,0,1,0,0,1\n')
+        self.assertEqual((self.session.ring, self.session.source, self.session.wide), (None, None, False))
+        with Session() as session:
+            self.assertEqual(session.answer('geo,2\nguards\n'), b'geo,2\nbad,no_polygon\n')
+            self.assertTrue(session.wide)

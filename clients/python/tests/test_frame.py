@@ -1,0 +1,123 @@
+"""Points in other units than whole numbers."""
+from __future__ import annotations
+
+import random
+import unittest
+from decimal import Decimal
+from fractions import Fraction
+from typing import Any, List
+
+import geo
+from geo import Before, Frame, Place, Session
+from .rings import L, geojson, numpy, shapely
+
+# an L of some centimetres, far from the origin
+FAR = 3_500_000.25, -0.75
+SMALL = [(FAR[0] + x / 100, FAR[1] + y / 100) for x, y in L]
+CENTIMETRES = Frame(FAR, 100)
+
+
+class Frames(unittest.TestCase):
+    def test_answers_in_the_units_of_the_questions(self) -> None:
+        points = dict(zip(L, SMALL))
+        start, goal, bend = (FAR[0] + .04, FAR[1] + .01), (FAR[0] + .01, FAR[1] + .04), points[2, 2]
+        with Session(SMALL, frame=CENTIMETRES) as session:
+            self.assertEqual(session.ring, SMALL)
+            self.assertEqual(session.frame, CENTIMETRES)
+            self.assertEqual(session.path(start, goal), [start, bend, goal])
+            self.assertEqual(session.paths([(start, goal), (goal, goal)]), [[start, bend, goal], [goal]])
+            self.assertEqual(session.tree(start), 4 * [Before.SOURCE] + [3, 3])
+            self.assertEqual((session.source, session.reach(goal)), (start, [start, bend, goal]))
+            self.assertEqual(session.kernel(), [points[0, 0], (FAR[0] + .02, FAR[1]), bend, (FAR[0], FAR[1] + .02)])
+            self.assertEqual(session.pair(2, 4), [points[4, 2], bend, points[2, 4]])
+            self.assertEqual(session.see(points[0, 0])[1], (1, points[4, 0], points[4, 2]))
+            self.assertEqual(session.hull([points[4, 2], points[2, 4], points[0, 0]])[0].path, [points[4, 2], bend, points[2, 4]])
+            self.assertEqual(session.places([start, (FAR[0] + .03, FAR[1] + .03)]), [Place.EDGE, Place.OUTSIDE])
+            self.assertEqual(session.answer('inside,4,1'), b'edge\n')
+
+    def test_exact_answers(self) -> None:
+        thirds = Frame((Fraction(1, 7), 0), 3, exact=True)
+        ring = [(Fraction(1, 7) + Fraction(x, 3), Fraction(y, 3)) for x, y in [(0, 0), (6, 0), (3, 1), (0, 5)]]
+        with Session(ring, frame=thirds) as session:
+            self.assertEqual(session.ring, ring)
+            self.assertEqual(session.kernel()[1], (Fraction(1, 7) + Fraction(15, 4) / 3, 0))
+        with Session(ring, frame=Frame((Fraction(1, 7), 0), 3)) as session:
+            self.assertEqual(session.kernel()[1], (float(Fraction(1, 7) + Fraction(15, 4) / 3), 0.0))
+
+    def test_what_lies_between_two_steps(self) -> None:
+        tenths, nearest = Frame(scale=10), Frame(scale=10, snap=True)
+        taken: List[Any] = [0.3, .1 + .2, .25, .35, -.25, 1e-9, Decimal('0.3'), Decimal('0.31'), Fraction(3, 10), Fraction(1, 3), 2, 1e300, float('inf')]
+        snapped = [3, 3, 3, 4, -2, 0, 3, 3, 3, 3, 20, 1 << 62, None]
+        exact = [3, None, None, None, None, None, 3, None, 3, None, 20, 1 << 62, None]
+        for number, near, whole in zip(taken, snapped, exact):
+            for frame, wanted in (nearest, near), (tenths, whole):
+                if wanted is None:
+                    with self.assertRaises(geo.NotWhole):
+                        frame.take(number, 1)
+                else:
+                    self.assertEqual(frame.take(number, 1), wanted, (number, frame))
+        with self.assertRaisesRegex(geo.NotWhole, 'at place 4 the number lies between two steps of 1/10: 0.25'):
+            Session([(0, 0), (1, .25)], frame=tenths)
+        for given in '0.3', None, 1j:
+            with self.assertRaises(geo.NotANumber):
+                nearest.take(given, 1)
+
+    def test_each_step_is_taken_back(self) -> None:
+        draw = random.Random(1)
+        for _ in range(2000):
+            frame = Frame([draw.uniform(-1e7, 1e7), round(draw.uniform(-9, 9), 3)], draw.choice([1, 100, .001, 3, Fraction(7, 9), 1000]))
+            point = draw.randint(-10**6, 10**6), draw.randint(-10**6, 10**6)
+            x, y = frame.give(point)
+            self.assertEqual((frame.take(x, 1), frame.take(y, 2)), point, frame)
+
+    def test_proposed(self) -> None:
+        ring = [(0, 0), (12.5, 0), (12.5, 7.25)]
+        self.assertEqual(Frame.of(ring, digits=2), Frame(scale=100))
+        self.assertEqual(Frame.of(geojson('Polygon', [ring + ring[:1]]), 2, snap=True), Frame(scale=100, snap=True))
+        self.assertEqual(Frame.of(ring), Frame(scale=10_000), 'the finest with room for 1,000,000 steps')
+        self.assertEqual(Frame.of(ring, wide=True), Frame(scale=100_000))
+        far = [(x + 3_512_345.5, y - 70_000) for x, y in ring]
+        self.assertEqual(Frame.of(far, digits=2), Frame((3_510_000, -70_000), 100))
+        self.assertEqual(Frame.of(far, digits=1), Frame((3_500_000, 0), 10))
+        for frame in Frame.of(far, digits=2), Frame.of(far), Frame.of(far, wide=True):
+            with Session(far, frame=frame, wide=True) as session:
+                self.assertEqual(session.ring, far)
+        with self.assertRaisesRegex(ValueError, '2,500,000 steps .* 2,000,000'):
+            Frame.of([(0, 0), (25, 0), (0, 1)], digits=5)
+        with self.assertRaises(geo.NotAShape):
+            Frame.of('POLYGON EMPTY')
+        with self.assertRaises(ValueError):
+            Frame.of([])
+
+    def test_what_is_no_frame(self) -> None:
+        for origin, scale in ((0, 0), 0), ((0, 0), -1), ((0,), 1), ((0, float('nan')), 1):
+            with self.assertRaises(ValueError):
+                Frame(origin, scale)
+        self.assertNotEqual(Frame(), Frame(snap=True))
+        self.assertEqual(len({Frame(), Frame((0, 0), 1), Frame(scale=1.0)}), 1)
+        self.assertEqual(repr(Frame((.1, 2), 10, snap=True)), 'Frame((1/10, 2), 10, snap=True)')
+
+    @unittest.skipIf(numpy is None, 'without NumPy')
+    def test_arrays(self) -> None:
+        start, goal = (FAR[0] + .04, FAR[1] + .01), (FAR[0] + .01, FAR[1] + .04)
+        for frame in CENTIMETRES, Frame(FAR, 100, exact=True):
+            with Session(numpy.array(SMALL), frame=frame) as session:
+                self.assertEqual(session.places(numpy.array(SMALL)).tolist(), 6 * [2])
+                points, offsets = session.paths(numpy.array([(start, goal), (goal, goal)]), arrays=True)
+                self.assertEqual([[tuple(it) for it in points.tolist()]], [sum(session.paths([(start, goal), (goal, goal)]), [])])
+                self.assertEqual(offsets.tolist(), [0, 3, 4])
+        with self.assertRaises(geo.NotWhole) as raised:
+            Session(numpy.array([(0, .5), (1, .25)]), frame=Frame(scale=2))
+        self.assertEqual(raised.exception.place, 4)
+
+    @unittest.skipIf(shapely is None, 'without Shapely')
+    def test_shapely(self) -> None:
+        disc = shapely.Point(3.14, 2.72).buffer(1)
+        with self.assertRaises(geo.NotWhole):
+            Session(disc, frame=Frame.of(disc, digits=3))
+        with Session(disc, frame=Frame.of(disc, digits=3, snap=True)) as session:
+            ring = session.ring or []
+            self.assertEqual(len(ring), len(disc.exterior.coords) - 1)
+            for snapped, given in zip(ring, disc.exterior.coords):
+                for here, there in zip(snapped, given):
+                    self.assertEqual(here, round(there, 3))
