@@ -3,10 +3,10 @@ from __future__ import annotations
 
 import math
 from fractions import Fraction
-from typing import Any, Optional, Sequence, Tuple
+from typing import Any, Iterable, Optional, Sequence, Tuple
 
 from .errors import NotWhole
-from .reading import corners
+from .reading import AnyPoints, corners
 from .units import Exact, Given, Units, near, numpy, parts
 from .values import Point
 
@@ -33,21 +33,36 @@ class Frame(Units):
             for o in (x, y))
 
     @classmethod
-    def of(cls, shape: Any, digits: Optional[int] = None, *, wide: bool = False, snap: bool = False, exact: bool = False) -> Frame:
-        """A frame for a ring or a polygon whose steps are those of so many digits after the point; of as many as there is room for,
-        up to 9, where `digits` is left out. Its origin is 0, or where that is too far a round number near the middle."""
-        points = list(corners(shape))
-        if not points:
+    def of(cls, shape: AnyPoints, digits: Optional[int] = None, *, wide: bool = False, snap: bool = False, exact: bool = False) -> Frame:
+        """A frame for a ring or a polygon whose steps are those of so many digits after the point. Where `digits` is left out, they are
+        as many as the vertices have, up to 9, or as there is room for. Its origin is 0, or where that is too far a round number near the
+        middle."""
+        numbers = [(number, k % 2 + 1) for k, number in enumerate(number for point in corners(shape) for number in point)]
+        if not numbers:
             raise ValueError('a frame of no points')
-        box = [(min(axis), max(axis)) for axis in zip(*points)]
-        limit = LIMITS[wide]
-        for count in range(9, -10, -1) if digits is None else [digits]:
+        exacts = [Fraction(*parts(number, place)) for number, place in numbers]
+        box = [(min(axis), max(axis)) for axis in (exacts[::2], exacts[1::2])]
+        limit, found = LIMITS[wide], None
+        for count in [digits] if digits is not None else [*range(10)]:
             scale = Fraction(10) ** count
             origin = [middle(low, high, limit / scale) for low, high in box]
-            if all(o is not None for o in origin):
-                return cls([o or 0 for o in origin], scale, snap=snap, exact=exact)
-        longest = max(high - low for low, high in box)
-        raise ValueError(f'{digits} digits are {math.ceil(longest * scale):,} steps from side to side, and there is room for {2 * limit:,}')
+            if None in origin:
+                break
+            found = cls([o or 0 for o in origin], scale, snap=snap, exact=exact)
+            if found.takes(numbers):
+                return found
+        if found is None:
+            longest = max(high - low for low, high in box)
+            raise ValueError(f'{count} digits are {math.ceil(longest * scale):,} steps from side to side, and there is room for {2 * limit:,}')
+        return found
+
+    def takes(self, numbers: Iterable[Tuple[Any, int]]) -> bool:
+        """Whether each of these numbers, with its place, stands for a whole one as it is."""
+        exactly = Frame(self.origin, self.scale)
+        try:
+            return all(exactly.take(*it) is not None for it in numbers)
+        except NotWhole:
+            return False
 
     def __repr__(self) -> str:
         flags = ''.join(f', {name}=True' for name in ('snap', 'exact') if getattr(self, name))

@@ -3,11 +3,10 @@ from __future__ import annotations
 
 from array import array
 from collections.abc import Iterable, Iterator, Mapping
-from fractions import Fraction
 from typing import Any, Optional, Protocol, Sequence, Tuple, Union
 
 from .errors import Holes, NotAPoint, NotAShape
-from .units import Given, Units, is_array, parts
+from .units import Given, Units, is_array
 from .values import Whole
 
 
@@ -56,12 +55,10 @@ def ring(given: AnyPoints, units: Units) -> array[int]:
     return found[:-2] if found[:2] == found[-2:] else found
 
 
-def corners(given: AnyPoints) -> Iterator[Tuple[Fraction, Fraction]]:
-    """The points of a ring or a polygon, exact."""
+def corners(given: AnyPoints) -> Iterator[Tuple[Any, Any]]:
+    """The points of a ring or a polygon, as they are given."""
     shape = shape_of(given, *RING)
-    for k, it in enumerate(items(outline(shape, given))):
-        x, y = position(it, 2 * k + 1, bool(shape))
-        yield Fraction(*parts(x, 2 * k + 1)), Fraction(*parts(y, 2 * k + 2))
+    return (position(it, 2 * k + 1, bool(shape)) for k, it in enumerate(items(outline(shape, given))))
 
 
 def outline(shape: Optional[Mapping[str, Any]], given: Any) -> Any:

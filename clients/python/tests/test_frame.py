@@ -47,7 +47,7 @@ class Frames(unittest.TestCase):
     def test_what_lies_between_two_steps(self) -> None:
         tenths, nearest = Frame(scale=10), Frame(scale=10, snap=True)
         taken: List[Any] = [0.3, .1 + .2, .25, .35, -.25, 1e-9, Decimal('0.3'), Decimal('0.31'), Fraction(3, 10), Fraction(1, 3), 2, 1e300, float('inf')]
-        snapped = [3, 3, 3, 4, -2, 0, 3, 3, 3, 3, 20, 1 << 62, None]
+        snapped = [3, 3, 3, 3, -2, 0, 3, 3, 3, 3, 20, 1 << 62, None]
         exact = [3, None, None, None, None, None, 3, None, 3, None, 20, 1 << 62, None]
         for number, near, whole in zip(taken, snapped, exact):
             for frame, wanted in (nearest, near), (tenths, whole):
@@ -65,7 +65,8 @@ class Frames(unittest.TestCase):
     def test_each_step_is_taken_back(self) -> None:
         draw = random.Random(1)
         for _ in range(2000):
-            frame = Frame([draw.uniform(-1e7, 1e7), round(draw.uniform(-9, 9), 3)], draw.choice([1, 100, .001, 3, Fraction(7, 9), 1000]))
+            scale: Any = draw.choice([1, 100, .001, 3, Fraction(7, 9), 1000])
+            frame = Frame([draw.uniform(-1e7, 1e7), round(draw.uniform(-9, 9), 3)], scale)
             point = draw.randint(-10**6, 10**6), draw.randint(-10**6, 10**6)
             x, y = frame.give(point)
             self.assertEqual((frame.take(x, 1), frame.take(y, 2)), point, frame)
@@ -74,18 +75,21 @@ class Frames(unittest.TestCase):
         ring = [(0, 0), (12.5, 0), (12.5, 7.25)]
         self.assertEqual(Frame.of(ring, digits=2), Frame(scale=100))
         self.assertEqual(Frame.of(geojson('Polygon', [ring + ring[:1]]), 2, snap=True), Frame(scale=100, snap=True))
-        self.assertEqual(Frame.of(ring), Frame(scale=10_000), 'the finest with room for 1,000,000 steps')
-        self.assertEqual(Frame.of(ring, wide=True), Frame(scale=100_000))
+        self.assertEqual(Frame.of(ring), Frame(scale=100), 'as many digits as there are')
+        noise = [(x / 3, y / 3) for x, y in ring]
+        self.assertEqual(Frame.of(noise), Frame(scale=100_000), 'as many as there is room for')
+        self.assertEqual(Frame.of(noise, wide=True).scale, 1_000_000)
         far = [(x + 3_512_345.5, y - 70_000) for x, y in ring]
         self.assertEqual(Frame.of(far, digits=2), Frame((3_510_000, -70_000), 100))
         self.assertEqual(Frame.of(far, digits=1), Frame((3_500_000, 0), 10))
-        for frame in Frame.of(far, digits=2), Frame.of(far), Frame.of(far, wide=True):
+        for frame in Frame.of(far, digits=2), Frame.of(far), Frame.of(far, 4, wide=True):
             with Session(far, frame=frame, wide=True) as session:
                 self.assertEqual(session.ring, far)
         with self.assertRaisesRegex(ValueError, '2,500,000 steps .* 2,000,000'):
             Frame.of([(0, 0), (25, 0), (0, 1)], digits=5)
+        text: Any = 'POLYGON EMPTY'
         with self.assertRaises(geo.NotAShape):
-            Frame.of('POLYGON EMPTY')
+            Frame.of(text)
         with self.assertRaises(ValueError):
             Frame.of([])
 
