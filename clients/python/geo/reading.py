@@ -1,6 +1,7 @@
 """What callers give for points, lists, pairs and rings, as the numbers that the library takes, one after another."""
 from __future__ import annotations
 
+import numbers
 from array import array
 from collections.abc import Iterable, Iterator, Mapping
 from typing import Any, Optional, Protocol, Sequence, Tuple, Union
@@ -66,11 +67,12 @@ def outline(shape: Optional[Mapping[str, Any]], given: Any) -> Any:
     listed = coordinates(shape, given)
     if not shape or shape['type'] == 'LinearRing':
         return listed
-    rings = list(items(listed))
-    if len(rings) != 1:
-        found = f'the polygon has {len(rings) - 1} holes, and one of geo has one ring'
-        raise Holes(given, cause=found) if rings else NotAShape(given, cause='the Polygon is empty')
-    return rings[0]
+    first, *holes = items(listed)
+    if isinstance(first, (list, tuple)) and first and isinstance(first[0], numbers.Number):
+        raise NotAShape(given, cause='the Polygon has points where its rings should be')
+    if holes:
+        raise Holes(given, cause=f'the polygon has holes, {len(holes)} of them, and one of geo has one ring')
+    return first
 
 
 def flat(given: Any, units: Units, is_shape: bool) -> array[int]:
@@ -97,8 +99,8 @@ def position(given: Any, place: int, is_shape: bool = False) -> Tuple[Any, Any]:
     if type(given) is tuple and len(given) == 2:
         return given[0], given[1]
     shape = shape_of(given, 'Point', place=place)
-    numbers = coordinates(shape, given, place)
-    return two(numbers[:2] if shape or is_shape and isinstance(numbers, (list, tuple)) else numbers, place)
+    found = coordinates(shape, given, place)
+    return two(found[:2] if shape or is_shape and isinstance(found, (list, tuple)) else found, place)
 
 
 def two(given: Any, place: int) -> Tuple[Any, Any]:
@@ -134,7 +136,10 @@ def shape_of(given: Any, *kinds: str, place: int = 1) -> Optional[Mapping[str, A
     """A shape in GeoJSON that is of one of these kinds, or nothing where plain numbers are given. Of a feature it is the geometry."""
     if isinstance(given, (str, bytes)):
         raise NotAShape(given, place, 'a text is no shape: shapely.wkt.loads, say, reads one')
-    shape: Any = getattr(given, '__geo_interface__', given)
+    try:
+        shape: Any = getattr(given, '__geo_interface__', given)
+    except Exception as error:  # an empty Point of Shapely has none
+        raise NotAShape(given, place, 'the shape is empty, or can not say what it is') from error
     if not isinstance(shape, Mapping):
         return None
     if shape.get('type') == 'Feature':

@@ -21,8 +21,10 @@ class Lines:
         self.session = session
 
     def answer(self, row: script.Answered) -> List[str]:
-        """The lines that answer a record: by its method, or as they are where it has none or other fields than numbers in their count."""
-        if not hasattr(self, row.word) or row.lines[0][:2] in [['bad', 'fields'], ['bad', 'number']]:
+        """The lines that answer a record: by its method, or as they are where it has none or other fields than numbers in their count, or
+        where the method takes a closed ring, which is refused in a record."""
+        closed = row.word == 'polygon' and row.record[1:3] == row.record[-2:]
+        if closed or not hasattr(self, row.word) or row.lines[0][:2] in [['bad', 'fields'], ['bad', 'number']]:
             return self.session.answer(','.join(row.record)).decode().splitlines()
         try:
             lines: List[str] = getattr(self, row.word)(map(int, row.record[1:]) if row.word in script.NUMBERED else row.points)

@@ -84,7 +84,7 @@ class Shapes(unittest.TestCase):
                 self.session.polygon(ring)
         with self.assertRaises(geo.Clash) as refused:
             self.session.polygon(closed + closed[:1])
-        self.assertEqual(refused.exception.places, (5, 6), 'it is dropped once')
+        self.assertEqual(refused.exception.places, (0, 5), 'it is dropped once')
 
     def test_geojson(self) -> None:
         closed = L + L[:1]
@@ -112,7 +112,7 @@ class Shapes(unittest.TestCase):
             (geo.NotAShape, {}),
             (geo.NotAShape, None),
             (geo.NotAShape, 7),
-            (geo.NotAPoint, geojson('Polygon', closed)),
+            (geo.NotAShape, geojson('Polygon', closed)),
             (geo.NotAPoint, geojson('Polygon', [[[closed]]])),
             (geo.NotANumber, geojson('Polygon', [[(0, 0), (4, 'x')]])),
         ]

@@ -58,7 +58,7 @@ class Values(unittest.TestCase):
 
     def test_long_answers_are_sequences(self) -> None:
         parts, sides, pairs = self.session.see((4, 1)), self.session.hull([(4, 2), (2, 4), (1, 2)]), self.session.sights()
-        self.assertEqual((len(parts), len(sides), len(pairs)), (5, 3, 13))
+        self.assertEqual((len(parts), len(sides), len(pairs)), (5, 3, 12))
         self.assertEqual(parts[-1], list(parts)[4])
         self.assertEqual((pairs[:2], pairs[-1]), ([(0, 1), (0, 2)], (4, 5)))
         self.assertEqual(sides, list(sides))
@@ -66,7 +66,7 @@ class Values(unittest.TestCase):
         self.assertIn((0, 3), pairs)
         with self.assertRaises(IndexError):
             parts[5]
-        self.assertEqual(repr(pairs), '[(0, 1), (0, 2), (0, 3), .. 10 more]')
+        self.assertEqual(repr(pairs), '[(0, 1), (0, 2), (0, 3), .. 9 more]')
 
     def test_what_a_session_says_of_itself(self) -> None:
         self.assertEqual((self.session.ring, self.session.source, self.session.wide, self.session.frame), (L, None, False, None))
