@@ -145,7 +145,7 @@ def choose(program: str) -> Tuple[str, Callable[[], Backend]]:
         sys.path.insert(0, str(PYTHON_CLIENT))
         geo = importlib.import_module('geo')
         return 'the library geo_c', lambda: LibraryBackend(geo)
-    except (ImportError, OSError):
+    except ImportError:
         pass  # it isn't built
     if PROGRAM.is_file():
         return 'the program geo', lambda: ProgramBackend(PROGRAM)

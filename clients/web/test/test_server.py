@@ -418,7 +418,7 @@ class Programs(unittest.TestCase):
 
     def test_where_nothing_is_built_it_is_said_how_to_build(self) -> None:
         with TemporaryDirectory() as folder, mock.patch.object(backends, 'PROGRAM', Path(folder) / 'geo'), \
-                mock.patch('importlib.import_module', side_effect=OSError):
+                mock.patch('importlib.import_module', side_effect=ImportError):
             with self.assertRaises(SystemExit) as caught:
                 backends.choose('')
         self.assertIn('clients/python/build', str(caught.exception))
