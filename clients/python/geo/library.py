@@ -14,7 +14,7 @@ from typing import Any, Deque, Dict, List, Tuple, Type
 from .errors import (Clash, Few, Fields, GeoMemoryError, Index, Large, LibraryMissing, Many, NoPolygon, NoTree, Outside, Range, Refusal, TooLong,
                      Word)
 
-MISSING = """the library libgeo_c.so is not there: {error}
+MISSING = """the library libgeo_c.so is not there, or not that of this package: {error}
 In the repository of geo
     clients/python/build
 makes it, with the kit. A file in another place is named by GEO_LIBRARY in the environment."""
@@ -122,12 +122,16 @@ def unpacked(layout: str, held: bytearray) -> Iterator[Any]:
 
 
 def load() -> ctypes.CDLL:
-    """The library, with the types of its calls."""
+    """The library of this package, or the one that is named."""
     beside = os.path.join(os.path.dirname(os.path.abspath(__file__)), 'libgeo_c.so')
     try:
-        loaded = ctypes.CDLL(os.environ.get('GEO_LIBRARY', beside))
-    except OSError as error:
+        return typed(ctypes.CDLL(os.environ.get('GEO_LIBRARY', beside)))
+    except (OSError, AttributeError) as error:  # where there is no such file, or one without these calls
         raise LibraryMissing(MISSING.format(error=error)) from None
+
+
+def typed(loaded: ctypes.CDLL) -> ctypes.CDLL:
+    """The library, with the types of its calls."""
     handle, text, size, place = ctypes.POINTER(Handle), ctypes.c_char_p, ctypes.c_size_t, ctypes.c_void_p
     needed, status = ctypes.POINTER(ctypes.c_size_t), ctypes.c_uint8
     calls: Dict[str, Tuple[Any, List[Any]]] = {
