@@ -20,13 +20,14 @@ from .errors import (Clash, Few, Fields, GeoMemoryError, Holes, Index, Large, Li
                      NotAShape, NotTaken, NotWhole, Number, Outside, Range, Refusal, TooLong, Word)
 from .frame import Frame
 from .listed import Listed
+from .region import Region
 from .script import answer_script, refusal
 from .session import Session
 from .values import Before, Part, Place, Rule, Side, Verdict
 
 __version__ = '1.0.0'
 __all__ = [
-    'Before', 'Clash', 'Few', 'Fields', 'Frame', 'GeoMemoryError', 'Holes', 'Index', 'Large', 'LibraryMissing', 'Listed', 'Many', 'NoPolygon',
-    'NoTree', 'NotANumber', 'NotAPoint', 'NotAShape', 'NotTaken', 'NotWhole', 'Number', 'Outside', 'Part', 'Place', 'Range', 'Refusal', 'Rule',
-    'Session', 'Side', 'TooLong', 'Verdict', 'Word', 'answer_script', 'refusal',
+    'Before', 'Clash', 'Few', 'Fields', 'Frame', 'GeoMemoryError', 'Holes', 'Index', 'Large', 'LibraryMissing', 'Listed', 'Many',
+    'NoPolygon', 'NoTree', 'NotANumber', 'NotAPoint', 'NotAShape', 'NotTaken', 'NotWhole', 'Number', 'Outside', 'Part', 'Place', 'Range',
+    'Refusal', 'Region', 'Rule', 'Session', 'Side', 'TooLong', 'Verdict', 'Word', 'answer_script', 'refusal',
 ]

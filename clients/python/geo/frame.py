@@ -8,7 +8,7 @@ from typing import Any, Iterable, Optional, Sequence, Tuple
 from .errors import NotWhole
 from .reading import AnyPoints, corners
 from .units import Exact, Given, Units, near, numpy, parts
-from .values import Point
+from .values import Coordinate, Point
 
 LIMITS = {False: 1_000_000, True: 8_388_607}
 
@@ -96,6 +96,10 @@ class Frame(Units):
             return numpy().array([self.give(point) for point in points.tolist()], object).reshape(-1, 2)
         columns = [[(n * step + start) / unit for n in points[:, k].tolist()] for k, (step, start, unit) in enumerate(self._axes)]
         return numpy().array(columns, 'f8').T
+
+    def give_area(self, area: Exact) -> Coordinate:
+        found = area / self.scale ** 2
+        return found if self.exact else float(found)
 
     def _float(self, number: Exact, axis: int) -> float:
         step, start, unit = self._axes[axis]

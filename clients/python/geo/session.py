@@ -16,6 +16,7 @@ from .frame import Frame
 from .library import ROOM, Counts, at, check, check_each, library, owner, unpacked
 from .listed import Listed
 from .reading import AnyPairs, AnyPoint, AnyPoints
+from .region import Region, way_round, with_touches
 from .script import bytes_of
 from .units import PLAIN, Units, is_array, near, numpy
 from .values import Array, Before, ExactPoint, Part, Path, Place, Point, Rule, Side, Verdict, Whole
@@ -164,8 +165,7 @@ class Session:
     def kernel(self) -> List[Point]:
         """The corners of the kernel, the set of points that see the whole polygon, counterclockwise from the least one."""
         self._ask('kernel')
-        corners = self._fractions()
-        return [self._units.give(corners(i)) for i in range(self._counts.fractions // 2)]
+        return list(map(self._units.give, self._corners()))
 
     def hull(self, points: AnyPoints) -> Listed[Side]:
         """The sides of the relative hull of up to 64 points, sorted by their starts. A point that is given again has its first
@@ -191,6 +191,22 @@ class Session:
         """The pairs of vertices that see each other, the lesser number first, in a polygon of at most 1,024."""
         told = self._ask('sights')
         return Listed(len(told) // 2, lambda i: (told[2 * i], told[2 * i + 1]))
+
+    def view_polygon(self, point: AnyPoint) -> Region:
+        """What a point of the polygon sees: its visibility polygon, and as lines what it sees along one ray alone."""
+        self._ask('see', self._point(point))
+        return Region.of_walk(self._corners(), self._units)
+
+    def kernel_polygon(self) -> Region:
+        """The kernel: a polygon, a line, a point or nothing."""
+        self._ask('kernel')
+        return Region.of_walk(self._corners(), self._units)
+
+    def hull_polygon(self, points: AnyPoints) -> Region:
+        """The relative hull of up to 64 points: polygons, the lines between them, or one of these alone, or a point."""
+        asked = reading.points(points, self._units)
+        walk = way_round(self._ask('hull', asked), list(pairs_of(self._points()))) or list(pairs_of(asked[:2]))
+        return Region.of_walk(walk if self._wide else with_touches(walk), self._units)
 
     def answer(self, records: Union[str, bytes]) -> bytes:
         """The text of the answers to some records, as the program `geo` would answer them next, in whole numbers whatever the frame. A
@@ -267,6 +283,10 @@ class Session:
         held = array('q', bytes(16 * self._counts.points))
         library.geo_session_points(self._handle, at(held), self._counts.points)
         return held
+
+    def _corners(self) -> List[ExactPoint]:
+        """The fractions of the last reply as points."""
+        return list(map(self._fractions(), range(self._counts.fractions // 2)))
 
     def _fractions(self) -> Any:
         """The fractions of the last reply, each two of them as a point, by its number."""

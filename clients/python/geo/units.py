@@ -10,7 +10,7 @@ from fractions import Fraction
 from typing import Any, SupportsIndex, Tuple, Union
 
 from .errors import NotANumber, NotWhole
-from .values import Point
+from .values import Coordinate, Point
 
 Given = Union[SupportsIndex, float, Fraction, Decimal]
 Exact = Union[int, Fraction]
@@ -50,6 +50,10 @@ class Units:
     def give_array(self, points: Any) -> Any:
         """The same for an array of points."""
         return points
+
+    def give_area(self, area: Exact) -> Coordinate:
+        """An area in the caller's square units."""
+        return area
 
 
 PLAIN = Units()
