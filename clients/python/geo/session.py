@@ -12,6 +12,7 @@ from itertools import accumulate, islice
 from typing import Any, Dict, List, Literal, Optional, SupportsIndex, Tuple, Union, overload
 
 from . import reading
+from .drawing import MOST, Answer, svg
 from .frame import Frame
 from .library import ROOM, Counts, at, check, check_each, library, owner, unpacked
 from .listed import Listed
@@ -50,6 +51,7 @@ class Session:
         self._units: Units = frame or PLAIN
         self._ring: Optional[array[int]] = None
         self._source: Optional[Whole] = None
+        self._last: Optional[Tuple[str, array[int], Any, Any]] = None
         if wide:
             self._ask('geo')
         if ring is not None:
@@ -71,6 +73,15 @@ class Session:
         size = 'no polygon' if self._ring is None else f'{len(self._ring) // 2:,} vertices'
         source = [] if self._source is None else [f'source {self.source}']
         return f'<geo.Session: {", ".join([size] + ["wide"] * self._wide + source)}>'
+
+    def _repr_svg_(self) -> Optional[str]:
+        """A picture of the polygon and the last answer, for notebooks."""
+        if self._ring is None or not self._close.alive:
+            return None
+        self._open()
+        word, asked, told, found = self._last or ('', self._ring[:0], [], None)
+        points = pairs_of(self._points()) if found is None else unpacked('qq', found)
+        return svg(list(pairs_of(self._ring)), Answer(word, list(pairs_of(asked)), told, points, self._corners()))
 
     @property
     def wide(self) -> bool:
@@ -119,6 +130,7 @@ class Session:
         found = bytearray(len(asked) // 2)
         library.geo_session_places(self._open(), at(asked), len(found), at(found), len(found))
         check_each(found, answers=b'\0\1\2')
+        self._last = 'places', asked[:2 * MOST], found, None
         return numpy().frombuffer(found, 'u1') if is_array(points) else [PLACES[place] for place in found]
 
     def path(self, start: AnyPoint, goal: AnyPoint) -> Path:
@@ -133,6 +145,7 @@ class Session:
         """The path between the points of each pair. As arrays of NumPy these are the points of all, one path after another, and the
         offsets, where path k is points[offsets[k]:offsets[k + 1]]."""
         found, lengths = self._all_paths(reading.pairs(pairs, self._units))
+        self._last = 'paths', array('q'), lengths, found[:16 * MOST + 16]
         if arrays:
             points = self._units.give_array(numpy().frombuffer(found, 'i8').reshape(-1, 2))
             return points, numpy().array(array('q', accumulate(lengths, initial=0)))
@@ -229,6 +242,7 @@ class Session:
 
     def _changed(self, answered: bytes) -> None:
         """Keeps up with what a text of answers says was taken."""
+        self._last = None
         words = {line.split(b',', 1)[0] for line in answered.splitlines()}
         self._wide |= b'geo' in words
         if words & {b'polygon', b'tree'}:
@@ -250,11 +264,13 @@ class Session:
     def _ask(self, word: str, fields: Iterable[int] = ()) -> array[int]:
         """Asks a record in numbers, and gives the numbers of the reply. The session keeps its points and fractions."""
         asked = array('q', fields)
+        self._last = None
         status = library.geo_session_ask(self._open(), WORDS[word], at(asked), len(asked), self._counts)
         told = array('I', bytes(4 * self._counts.numbers))
         if told:
             library.geo_session_numbers(self._handle, at(told), len(told))
         check(status, places=told)
+        self._last = word, asked, told, None
         return told
 
     def _path(self, word: str, fields: Iterable[int]) -> Path:
