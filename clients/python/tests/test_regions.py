@@ -14,6 +14,7 @@ SQUARE = [(0, 0), (4, 0), (4, 4), (0, 4)]
 ROOMS = [(0, 0), (2, 0), (2, 1), (4, 1), (4, 2), (1, 2), (1, 1), (0, 1)]
 U = [(0, 0), (6, 0), (6, 4), (4, 4), (4, 2), (2, 2), (2, 4), (0, 4)]
 NOTCHED = [(9, -6), (9, -1), (0, 0), (9, 1), (9, 6), (-1, 6), (-1, -6)]
+NOTCHED_TWICE = [(9, -6), (9, -1), (0, 0), (9, 1), (9, 5), (0, 6), (9, 7), (9, 12), (-1, 12), (-1, -6)]
 PINWHEEL = [(2, 0), (4, 0), (-2, 2), (-4, 4), (-2, -2), (-4, -4)]
 ZIGZAG = [(0, 0), (4, 6), (8, 0), (12, 6), (12, 8), (8, 2), (4, 8), (0, 2)]
 
@@ -59,6 +60,8 @@ class Regions(unittest.TestCase):
 
     def test_hulls(self) -> None:
         ends = [[(0, 0), (4, 6), (0, 2)], [(8, 2), (12, 6), (12, 8)]]
+        lobes = [[(0, -5), (5, -5), (0, 0)], [(0, 0), (5, 3), (0, 6)], [(0, 6), (5, 11), (0, 11)]]
+        mirrored = [[(-5, -5), (0, -5), (0, 0)], [(-5, 3), (0, 0), (0, 6)], [(-5, 11), (0, 6), (0, 11)]]
         cases: List[Any] = [
             (L, [(1, 1)], [], [], [(1, 1)], 0),
             (L, [(1, 1), (1, 1)], [], [], [(1, 1)], 0),
@@ -70,6 +73,8 @@ class Regions(unittest.TestCase):
             (ZIGZAG, [(12, 8), (0, 0), (0, 2), (12, 6)], ends, [[(4, 6), (8, 2)]], [], 8),
             (ZIGZAG, [(12, 8), (0, 0), (0, 2)], ends[:1], [[(4, 6), (8, 2), (12, 8)]], [], 4),
             (NOTCHED, [(0, -5), (5, -5), (5, 5), (0, 5)], [[(0, -5), (5, -5), (0, 0)], [(0, 0), (5, 5), (0, 5)]], [], [], 25),
+            (NOTCHED_TWICE, [(0, -5), (5, -5), (5, 3), (5, 11), (0, 11)], lobes, [], [], 40),
+            ([(-x, y) for x, y in NOTCHED_TWICE], [(0, -5), (-5, -5), (-5, 3), (-5, 11), (0, 11)], mirrored, [], [], 40),
         ]
         for ring, asked, polygons, lines, points, area in cases:
             for wide in False, True:
@@ -121,11 +126,16 @@ class Walks(unittest.TestCase):
         self.is_same([(0, 0), (4, 0), (4, 9), (4, 4), (0, 4)], [SQUARE], [[(4, 4), (4, 9)]])
         self.is_same([(0, 0), (4, 0), (9, 0), (9, 3), (9, 0), (4, 0), (4, 4), (0, 4)], [SQUARE], [[(4, 0), (9, 0), (9, 3)]])
 
+    def test_lines_part_at_corners(self) -> None:
+        self.is_same([(0, 0), (4, 0), (4, 4), (9, 4), (4, 4), (4, 9), (4, 4), (0, 4)], [SQUARE], [[(4, 4), (4, 9)], [(4, 4), (9, 4)]])
+
     def test_loops(self) -> None:
         self.is_same([(0, 0), (2, 1), (0, 2), (0, 0), (-2, -1), (0, -2)], [[(-2, -1), (0, -2), (0, 0)], [(0, 0), (2, 1), (0, 2)]], [])
         around = [(0, 0), (1, 0), (5, 0), (7, -1), (7, 1), (5, 0), (2, 0), (0, 3)]
         self.is_same(around, [[(0, 0), (2, 0), (0, 3)], [(5, 0), (7, -1), (7, 1)]], [[(2, 0), (5, 0)]])
         self.is_same([(0, 0), (3, 0), (5, -1), (5, 1), (3, 0), (1, 0)], [[(3, 0), (5, -1), (5, 1)]], [[(0, 0), (3, 0)]])
+        round_a_hole = Region.of_walk([(0, 0), (4, 0), (2, 1), (0, 0), (2, -3), (4, 0), (2, -1)])
+        self.assertEqual(round_a_hole.polygons, [[(0, 0), (2, -3), (4, 0), (2, -1)], [(0, 0), (4, 0), (2, 1)]])
 
     def test_lines(self) -> None:
         self.is_same([(0, 0), (1, 2), (0, 0), (3, 0), (0, 0), (-1, -1)], [], [[(-1, -1), (0, 0)], [(0, 0), (1, 2)], [(0, 0), (3, 0)]])
@@ -147,6 +157,7 @@ class Shapes(unittest.TestCase):
         self.assertNotEqual(square, Region.of_walk(SQUARE[:3]))
         self.assertNotEqual(square, Region.of_walk([*SQUARE, (-1, 4), (0, 4)]))
         self.assertNotEqual(square, SQUARE)
+        self.assertNotEqual(Region.of_walk([(1, 2)]), Region.of_walk([(1, 3)]))
         self.assertTrue(square and Region.of_walk(SQUARE[:2]) and Region.of_walk(SQUARE[:1]))
         self.assertFalse(Region())
         self.assertEqual(repr(square), '<Region: a polygon of 4 corners>')
