@@ -5,11 +5,9 @@ from collections.abc import Callable, Iterable, Sequence
 from itertools import islice
 from typing import Dict, List, NamedTuple, Tuple
 
-from .region import way_round
-from .units import Exact
+from .region import Corner, way_round
 from .values import Whole
 
-Spot = Tuple[Exact, Exact]
 Drawn = Tuple[List[str], str]  # shapes, and what they are in words
 
 SIDE, MARGIN = 440, 14  # the longer side of the box that is shown, and the room round it
@@ -25,7 +23,7 @@ class Answer(NamedTuple):
     asked: Sequence[Whole] = ()
     told: Sequence[int] = ()
     points: Iterable[Whole] = ()
-    corners: Sequence[Spot] = ()
+    corners: Sequence[Corner] = ()
 
 
 def svg(ring: Sequence[Whole], answer: Answer) -> str:
@@ -49,15 +47,15 @@ class Page:
         self.wide, self.high = wide * self.scale + 2 * MARGIN, high * self.scale + 2 * MARGIN
         self.left_out = 0
 
-    def at(self, spot: Spot) -> str:
+    def at(self, spot: Corner) -> str:
         right, down = float(spot[0] - self.left), float(self.top - spot[1])
         return f'{right * self.scale + MARGIN:.2f} {down * self.scale + MARGIN:.2f}'.replace('.00', '')
 
-    def line(self, spots: Iterable[Spot]) -> str:
+    def line(self, spots: Iterable[Corner]) -> str:
         return 'M' + ' '.join(map(self.at, spots))
 
-    def lines(self, count: int, each: Iterable[Sequence[Spot]], wide: float = 2.5, more: str = '') -> List[str]:
-        """Of so many lines the first ones, as far as there is room."""
+    def lines(self, count: int, each: Iterable[Sequence[Corner]], wide: float = 2.5, more: str = '') -> List[str]:
+        """Of so many lines the first ones, as far as there is room. Many are fine, so that they leave what is under them to be seen."""
         drawn, room = list[str](), MOST
         for spots in each:
             room -= len(spots)
@@ -65,36 +63,37 @@ class Page:
                 break
             drawn.append(self.line(spots))
         self.left_out += count - len(drawn)
-        look = f'fill="none" stroke="{BLUE}" stroke-width="{wide}" stroke-linejoin="round"{more}'
+        look = f'fill="none" stroke="{BLUE}" stroke-width="{min(wide, 1000 / (count or 1)):.2g}" stroke-linejoin="round"{more}'
         return [f'<path {look} d="{"".join(drawn)}"/>'] if drawn else []
 
-    def area(self, walk: Sequence[Spot]) -> List[str]:
+    def area(self, walk: Sequence[Corner]) -> List[str]:
         """What a closed walk goes round, and its lines."""
-        return [f'<path fill="{BLUE}" fill-opacity=".2" stroke="{BLUE}" stroke-width="2" d="{self.line(walk)}Z"/>'] if walk else []
+        look = f'fill="{BLUE}" fill-opacity=".2" stroke="{BLUE}" stroke-width="{2 if len(walk) < 300 else .8}"'
+        return [f'<path {look} d="{self.line(walk)}Z"/>'] if walk else []
 
-    def dots(self, spots: Sequence[Spot], radius: float = 4, colour: str = BLUE) -> List[str]:
-        """A dot at each point, smaller where there are many."""
-        wide = 2 * max(1.2, min(radius, 200 / (len(spots) or 1)))
+    def dots(self, spots: Sequence[Corner], radius: float = 4, colour: str = BLUE) -> List[str]:
         drawn = ''.join(f'M{self.at(spot)}h0' for spot in spots)
-        return [f'<path stroke="{colour}" stroke-width="{wide:.1f}" stroke-linecap="round" d="{drawn}"/>'] if drawn else []
+        return [f'<path stroke="{colour}" stroke-width="{2 * radius:.1f}" stroke-linecap="round" d="{drawn}"/>'] if drawn else []
 
-    def rings(self, spots: Sequence[Spot]) -> List[str]:
-        return self.dots(spots) + self.dots(spots, 2.5, 'white')
+    def rings(self, spots: Sequence[Corner], radius: float = 4) -> List[str]:
+        return self.dots(spots, radius) + self.dots(spots, 0.6 * radius, 'white')
 
-    def crosses(self, spots: Sequence[Spot]) -> List[str]:
-        drawn = ''.join(f'M{self.at(spot)}m-4-4l8 8m-8 0l8-8' for spot in spots)
-        return [f'<path stroke="{RED}" stroke-width="2" d="{drawn}"/>'] if drawn else []
+    def crosses(self, spots: Sequence[Corner], radius: float = 4) -> List[str]:
+        cross = 'm-{0}-{0}l{1} {1}m0-{1}l-{1} {1}'.format(radius, 2 * radius)
+        drawn = ''.join(f'M{self.at(spot)}{cross}' for spot in spots)
+        return [f'<path stroke="{RED}" stroke-width="{radius / 2:.2g}" d="{drawn}"/>'] if drawn else []
 
 
 def draw_places(page: Page, ring: Sequence[Whole], answer: Answer) -> Drawn:
     outside, inside, edge = ([spot for spot, it in zip(answer.asked, answer.told) if it == place] for place in range(3))
     page.left_out += len(answer.told) - len(answer.asked)
-    return page.dots(inside) + page.rings(edge) + page.crosses(outside), many(len(answer.told), 'place')
+    radius = round(max(1.2, min(4, 200 / (len(answer.asked) or 1))), 1)
+    return page.dots(inside, radius) + page.rings(edge, radius) + page.crosses(outside, radius), many(len(answer.told), 'place')
 
 
 def draw_path(page: Page, ring: Sequence[Whole], answer: Answer) -> Drawn:
     path = list(answer.points)
-    shapes = page.lines(1, [path]) + page.dots(path[1:-1], 3) + page.rings(path[:1]) + page.dots(path[-1:])
+    shapes = page.lines(1, [path]) + page.dots(path[1:-1], max(1.2, min(3, 200 / len(path)))) + page.rings(path[:1]) + page.dots(path[-1:])
     return shapes, f'a path of {many(len(path), "point")}'
 
 
@@ -116,7 +115,7 @@ def draw_tree(page: Page, ring: Sequence[Whole], answer: Answer) -> Drawn:
 
 
 def draw_region(page: Page, ring: Sequence[Whole], answer: Answer) -> Drawn:
-    walk: Sequence[Spot] = answer.corners if answer.word != 'hull' else way_round(answer.told, list(answer.points))
+    walk: Sequence[Corner] = answer.corners if answer.word != 'hull' else way_round(answer.told, list(answer.points))
     words = {'see': 'what a point sees', 'kernel': f'a kernel of {many(len(walk), "corner")}', 'hull': 'a relative hull'}
     return page.area(walk) + page.dots(answer.asked or walk), words[answer.word]
 

@@ -31,7 +31,7 @@ def dots(points: Iterable[Spot]) -> str:
 
 
 def crosses(points: Iterable[Spot]) -> str:
-    return ''.join(f'{line(point)}m-4-4l8 8m-8 0l8-8' for point in points)
+    return ''.join(f'{line(point)}m-4-4l8 8m0-8l-8 8' for point in points)
 
 
 def path(start: Spot, bend: Spot, goal: Spot) -> Shapes:
