@@ -1,5 +1,5 @@
 -- Commands of a record, by its word.
-use Rattle.std.proofs.Common.{◌≡◌, ◌∙◌, ℕ, ℤ, Option, Some, None, Result, Ok, Err, List, [], ◌∷◌, length, map, refl, sym, ap, subst}
+use Rattle.std.proofs.Common.{◌≡◌, ◌∙◌, ℕ, ℤ, Option, Some, None, Result, Ok, Err, List, [], ◌∷◌, drop, get_or, length, map, refl, sym, ap, subst}
 use Rattle.std.proofs.lemmas.List.{length-map}
 use Rattle.std.specs.Option.{option_or}
 use Rattle.std.specs.Prelude.{IfOk}
@@ -16,6 +16,16 @@ use Rattle.geo_text.specs.declared.command.Bad.{Bad}
 use Rattle.geo_text.specs.declared.command.Command.{Command}
 use Rattle.geo_text.specs.declared.limits.Limits.{Limits}
 use Rattle.geo_text.specs.declared.word.Word.{Word}
+
+-- ---- the word
+
+-- the command of a record is that of its word
+pub read_by_word : {E : Type 0} (limits : Limits) (fields : List (List ℕ)) (asked : Word) (read : Result (Result Command Bad) E)
+    → Some asked ≡ word_named (get_or fields 0 []) → IfOk read (λ reading. reading ≡ command_in_text limits asked (drop 1 fields))
+    → IfOk read (λ reading. reading ≡ command_of limits fields)
+read_by_word limits [] asked read is holds = cc is
+read_by_word limits (name ∷ fields) asked read is holds =
+    subst (λ (found : Option Word). IfOk read (λ reading. reading ≡ by_word found (λ it. command_in_text limits it fields))) is holds
 
 -- ---- the faults, in their order
 

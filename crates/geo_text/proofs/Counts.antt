@@ -1,11 +1,11 @@
 -- Counts of fields, and commands of as many.
-use Rattle.std.proofs.Common.{◌≡◌, ◌≤◌, ◌<◌, ◌^◌, ◌/◌, ◌%◌, ◌-◌, ◌==◌, ◌∙◌, ℕ, ℤ, Bool, true, false, if◌then◌else◌}
-use Rattle.std.proofs.Common.{Option, Some, None, Result, List, length, map, refl, sym, ap, subst, arith, rules}
+use Rattle.std.proofs.Common.{◌≡◌, ◌≤◌, ◌/◌, ◌%◌, ◌-◌, ◌==◌, ◌∙◌, ℕ, ℤ, Bool, true, false, if◌then◌else◌}
+use Rattle.std.proofs.Common.{Option, Some, None, List, length, refl, sym, ap, subst, arith}
 use Rattle.std.proofs.lemmas.Bool.Decides.{nat_tests}
-use Rattle.std.proofs.lemmas.List.{length-drop, length-map}
+use Rattle.std.proofs.lemmas.List.{length-drop}
 use Rattle.std.specs.Option.{option_or}
 use Rattle.std.specs.Prelude.{IfOk, nat_lt}
-use Rattle.plane.specs.declared.limits.TheConstants.{MAX_CORNERS, MAX_HULL}
+use Rattle.plane.specs.declared.limits.TheConstants.{MAX_HULL}
 use Rattle.geo_text.proofs.FieldAt.{length-plain_fields}
 use Rattle.geo_text.proofs.NumberPoints.{length-pairs_of}
 use Rattle.geo_text.specs.Capped.{after_word}
@@ -15,9 +15,7 @@ use Rattle.geo_text.specs.Records.{plain_fields}
 use Rattle.geo_text.specs.Words.{IsCountOf, count_fault, takes_of}
 use Rattle.geo_text.specs.declared.command.Bad.{Bad}
 use Rattle.geo_text.specs.declared.command.Bad.TheVariants as bad
-use Rattle.geo_text.specs.declared.command.Command.{Command}
 use Rattle.geo_text.specs.declared.limits.Limits.{Limits}
-use Rattle.geo_text.specs.declared.takes.Takes.{Takes}
 use Rattle.geo_text.specs.declared.takes.Takes.TheVariants as takes
 use Rattle.geo_text.specs.declared.word.Word.{Word}
 use Rattle.geo_text.specs.declared.word.Word.TheVariants as word
@@ -27,7 +25,7 @@ use Rattle.csv.specs.Records.{Row, fields_of}
 pub length-after_word : (row : Row) → length (after_word row) ≡ length (fields_of row) - 1
 length-after_word row = length-drop 1 (plain_fields row) ∙ ap (λ (n : ℕ). n - 1) (length-plain_fields row)
 
--- a count without a fault is one of the word,
+-- a count without a fault is one of the word
 pub count_is : (limits : Limits) → IsLimited limits → (asked : Word) (count same : ℕ) → None ≡ count_fault (takes_of limits asked) count → same ≡ count
     → IsCountOf asked same
 count_is limits limited asked count same none is = record {
@@ -36,7 +34,7 @@ count_is limits limited asked count same none is = record {
   right = subst (λ (n : ℕ). count_fault (takes_of limits asked) n ≡ None) (sym is) (sym none);
 }
 
--- ---- what no count without a fault passes
+-- ---- a command of as many numbers as its word takes is well sized
 
 in_bounds : (odd few many : Bool) → (if odd then Some bad.Fields else if few then Some bad.Few else if many then Some bad.Many else None) ≡ None
     → (few ≡ false) × (many ≡ false)
@@ -49,26 +47,6 @@ points_counted : (least most count : ℕ) → count_fault (takes.Points least mo
 points_counted least most count e =
     let (few, many) = in_bounds ((count % 2) == 1) (nat_lt (count / 2) least) (nat_lt most (count / 2)) e in
     (grind (arith, nat_tests), grind (arith, nat_tests))
-
-few_points : (least most count : ℕ) → most ≤ MAX_CORNERS → count_fault (takes.Points least most) count ≡ None → count < 2 ^ 31
-few_points least most count few e =
-    let counted = points_counted least most count e in
-    omega arith
-
-few_numbers : (wanted count : ℕ) → wanted ≤ 4 → count_fault (takes.Numbers wanted) count ≡ None → count < 2 ^ 31
-few_numbers wanted count few e = grind (arith, nat_tests)
-
-few_within : (limits : Limits) → IsLimited limits → (asked : Word) (count : ℕ) → count_fault (takes_of limits asked) count ≡ None → count < 2 ^ 31
-few_within limits h word.Polygon count e = few_points 3 limits.corners count h.corners e
-few_within limits h word.Check count e = few_points 1 limits.chain count (omega arith) e
-few_within limits h word.Hull count e = few_points 1 MAX_HULL count (omega arith) e
-few_within limits h word.Round count e = few_points 1 MAX_HULL count (omega arith) e
-few_within limits h _ count e = few_numbers _ count (omega arith) e
-
-pub few_fields : (asked : Word) (count : ℕ) → IsCountOf asked count → count < 2 ^ 31
-few_fields asked count is = few_within is.limits is.limited asked count is.right
-
--- ---- a command of as many numbers as its word takes is well sized
 
 list_in_bounds : (least most : ℕ) (numbers : List ℤ) → count_fault (takes.Points least most) (length numbers) ≡ None
     → (least ≤ length (pairs_of numbers)) × (length (pairs_of numbers) ≤ most)

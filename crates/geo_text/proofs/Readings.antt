@@ -1,5 +1,5 @@
 -- The readings of a script's records.
-use Rattle.std.proofs.Common.{◌≡◌, ◌≢◌, ◌==◌, ℕ, ℤ, Bool, true, false, Option, Some, None, Result, Ok, List, [], ◌∷◌, map, if◌then◌else◌, refl, rules}
+use Rattle.std.proofs.Common.{◌≢◌, ◌==◌, ℕ, ℤ, Bool, true, false, Option, Some, None, Ok, List, [], ◌∷◌, map, if◌then◌else◌, refl, rules}
 use Rattle.std.proofs.lemmas.Bool.{ne_eqb}
 use Rattle.std.specs.Option.{option_or}
 use Rattle.std.specs.Prelude.{IfOk, codes, length}
