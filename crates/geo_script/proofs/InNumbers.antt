@@ -1,5 +1,5 @@
 -- A record in numbers, by its word.
-use Rattle.std.proofs.Common.{◌≡◌, ◌≢◌, Bool, true, false, ℤ, List, [], ◌∷◌, Result, Ok, Err, refl, subst, sym}
+use Rattle.std.proofs.Common.{◌≡◌, ◌≢◌, Bool, true, false, ℤ, List, [], ◌∷◌, Result, refl, subst, sym}
 use Rattle.std.specs.Prelude.{IfOk}
 use Rattle.geo_text.specs.Limits.{limits_of}
 use Rattle.geo_text.specs.Reading.{IsWellSized, command_in_numbers}
