@@ -7,7 +7,7 @@ use Rattle.geo_session.specs.State.{State}
 use Rattle.geo_reply.specs.declared.reply.Reply.{Reply}
 use Rattle.geo_reply.specs.declared.reply.Reply.TheVariants as reply
 use Rattle.geo_script.specs.Dialog.{Talk}
-use Rattle.geo_script.specs.InNumbers.{command_in_numbers}
+use Rattle.geo_script.specs.InNumbers.{record_in_numbers}
 
 -- the reply to a record that is read as a command or as a refusal
 abbrev pub IsReadingReply : State → Result Command Bad → Reply → Type 0
@@ -21,7 +21,7 @@ state_after_reading before (Err fault) answered = before
 
 -- the command that a record in numbers is in a talk, or why it is none
 abbrev pub asked_in : Talk → ℕ → List ℤ → Result Command Bad
-asked_in talk word numbers = command_in_numbers talk.state.version talk.known word numbers
+asked_in talk word numbers = record_in_numbers talk.state.version talk.known word numbers
 
 -- the talk after a record in numbers and its reply: a record came, the state is the one after it, and the text is that of the last piece still
 abbrev pub asked_talk : Talk → Result Command Bad → Reply → Talk

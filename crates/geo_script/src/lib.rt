@@ -4,8 +4,6 @@
 mod dialog;
 mod next;
 mod numbers;
-mod word;
 
 pub use dialog::{Dialog, Stop};
 pub use next::answer_next;
-pub use word::Word;

@@ -18,15 +18,15 @@ pub only_if : (b : Bool) (z w : ℤ) → Some z ≡ (if b then Some w else None)
 only_if true z w e = (refl, cc)
 only_if false z w e = cc
 
+-- what a number that was read says of its field
+pub number_read : (field : List ℕ) (z : ℤ) → Some z ≡ (if is_number field then Some (capped (number_of field)) else None)
+    → (is_number field ≡ true) × (z ≡ read_of field)
+number_read field z e = only_if (is_number field) z (capped (number_of field)) e
+
 -- a number past the limit is read as another past it
 within_limit : (limit : ℕ) (z : ℤ) → limit ≤ MAX_COORDINATE → nat_le (unsigned_abs (capped z)) limit ≡ nat_le (unsigned_abs z) limit
 within_limit limit (pos n) h = grind (arith, nat_tests)
 within_limit limit (negsuc n) h = grind (arith, nat_tests)
 
--- what a number that was read says of its field
-pub number_read : (limit : ℕ) (field : List ℕ) (z : ℤ) → limit ≤ MAX_COORDINATE
-    → Some z ≡ (if is_number field then Some (capped (number_of field)) else None)
-    → (is_number field ≡ true) × (z ≡ read_of field) × (nat_le (unsigned_abs z) limit ≡ is_coordinate limit field)
-number_read limit field z h e =
-    let (number, read) = only_if (is_number field) z (capped (number_of field)) e in
-    (number, read, rw read (within_limit limit (number_of field) h))
+pub read_within : (limit : ℕ) → limit ≤ MAX_COORDINATE → (field : List ℕ) → nat_le (unsigned_abs (read_of field)) limit ≡ is_coordinate limit field
+read_within limit h field = within_limit limit (number_of field) h

@@ -1,61 +1,125 @@
--- Commands of a list of fields.
-use Rattle.std.proofs.Common.{◌≡◌, ℕ, true, false}
-use Rattle.std.proofs.Common.{Option, Some, None, Result, Ok, Err, List, [], ◌∷◌, drop, get_or, refl, sym, ◌∙◌, ap, true≢false}
-use Rattle.std.proofs.lemmas.Slice.Eq.{bytes_eq-Decides}
-use Rattle.std.specs.Prelude.{IfOk, IsOkAnd, MatchResult, codes}
-use Rattle.std.specs.Str.{bytes_eq}
-use Rattle.geo_text.specs.Reading.{command_of, fixed_command_of, unless}
+-- Commands of a record, by its word.
+use Rattle.std.proofs.Common.{◌≡◌, ◌∙◌, ℕ, ℤ, Option, Some, None, Result, Ok, Err, List, [], ◌∷◌, drop, get_or, length, map, refl, sym, ap, subst}
+use Rattle.std.proofs.lemmas.List.{length-map}
+use Rattle.std.specs.Option.{option_or}
+use Rattle.std.specs.Prelude.{IfOk}
+use Rattle.geo_text.proofs.CappedNumber.{read_within}
+use Rattle.geo_text.proofs.Counts.{unless_well_sized}
+use Rattle.geo_text.proofs.Faults.{range_of_fields, read_exactly}
+use Rattle.geo_text.specs.Capped.{read_of}
+use Rattle.geo_text.specs.Limits.{IsLimited}
+use Rattle.geo_text.specs.Number.{is_coordinate, is_number, number_of}
+use Rattle.geo_text.specs.Reading.{IsWellSized, OneReadingLaw, by_word, command_in_numbers, command_in_text, command_of, command_with}
+use Rattle.geo_text.specs.Reading.{first_failing, first_fault, number_fault, range_fault, unless}
+use Rattle.geo_text.specs.Words.{count_fault, takes_of, word_named}
 use Rattle.geo_text.specs.declared.command.Bad.{Bad}
-use Rattle.geo_text.specs.declared.command.Bad.TheVariants as bad
 use Rattle.geo_text.specs.declared.command.Command.{Command}
 use Rattle.geo_text.specs.declared.limits.Limits.{Limits}
+use Rattle.geo_text.specs.declared.word.Word.{Word}
 
--- a command is made of what was read, or refused as that was
-pub made_of : {T : Type 0} (make : T → Command) (fault : Option Bad) (value : T) (read : Result T Bad) (reading : Result Command Bad)
-    → read ≡ unless fault value → MatchResult read (λ x. IsOkAnd reading (λ made. made ≡ make x)) (λ e. reading ≡ Err e)
-    → reading ≡ unless fault (make value)
-made_of make None value (Ok x) (Ok made) is e = let same : x ≡ value = cc in ap Ok (e ∙ ap make same)
-made_of make None value (Ok x) (Err fault) is e = absurd e
-made_of make (Some fault) value (Ok x) reading is e = cc
-made_of make None value (Err fault) reading is e = cc
-made_of make (Some bad) value (Err fault) reading is e = let same : fault ≡ bad = cc in e ∙ ap Err same
+-- ---- the word
 
--- what a word and just so many numbers ask for, by the word
-pub fixed_by_word : (limit : ℕ) (name word : List ℕ) (fields : List (List ℕ)) → bytes_eq word name ≡ true → (reading : Result Command Bad)
-    → reading ≡ fixed_command_of limit name fields → reading ≡ fixed_command_of limit word fields
-fixed_by_word limit name word fields e reading h =
-    let is : word ≡ name = (bytes_eq-Decides word name).0 e in
-    rw is h
+-- the command of a record is that of its word
+pub read_by_word : {E : Type 0} (limits : Limits) (fields : List (List ℕ)) (asked : Word) (read : Result (Result Command Bad) E)
+    → Some asked ≡ word_named (get_or fields 0 []) → IfOk read (λ reading. reading ≡ command_in_text limits asked (drop 1 fields))
+    → IfOk read (λ reading. reading ≡ command_of limits fields)
+read_by_word limits [] asked read is holds = cc is
+read_by_word limits (name ∷ fields) asked read is holds =
+    subst (λ (found : Option Word). IfOk read (λ reading. reading ≡ by_word found (λ it. command_in_text limits it fields))) is holds
 
--- the same where memory may be wanting
-pub fixed_ok_by_word : {E : Type 0} (limit : ℕ) (name word : List ℕ) (fields : List (List ℕ)) → bytes_eq word name ≡ true
-    → (read : Result (Result Command Bad) E) → IfOk read (λ reading. reading ≡ fixed_command_of limit name fields)
-    → IfOk read (λ reading. reading ≡ fixed_command_of limit word fields)
-fixed_ok_by_word limit name word fields e read h =
-    let is : word ≡ name = (bytes_eq-Decides word name).0 e in
-    rw is h
+-- ---- the faults, in their order
 
--- a word that is none of them
-pub fixed_of_other : (limit : ℕ) (word : List ℕ) (fields : List (List ℕ)) → bytes_eq word (codes "inside") ≡ false
-    → bytes_eq word (codes "path") ≡ false → bytes_eq word (codes "tree") ≡ false → bytes_eq word (codes "reach") ≡ false
-    → bytes_eq word (codes "see") ≡ false → bytes_eq word (codes "kernel") ≡ false → bytes_eq word (codes "guards") ≡ false
-    → bytes_eq word (codes "pair") ≡ false → bytes_eq word (codes "sights") ≡ false → Err bad.Word ≡ fixed_command_of limit word fields
-fixed_of_other limit word fields no_inside no_path no_tree no_reach no_see no_kernel no_guards no_pair no_sights =
-    rw (no_inside, no_path, no_tree, no_reach, no_see, no_kernel, no_guards, no_pair, no_sights) refl
+-- a count that is wrong is refused,
+wrong_count : (count other : Option Bad) (made : Command) (fault : Bad) → Some fault ≡ count → Err fault ≡ unless (option_or count other) made
+wrong_count None other made fault is = cc
+wrong_count (Some found) other made fault is = cc
 
--- what a record asks for, by its word
-pub reading_by_word : (limits : Limits) (word : List ℕ) → bytes_eq [] word ≡ false → (fields : List (List ℕ))
-    → bytes_eq (get_or fields 0 []) word ≡ true → (reading : Result Command Bad)
-    → reading ≡ command_of limits (word ∷ drop 1 fields) → reading ≡ command_of limits fields
-reading_by_word limits word some [] e reading h = absurd (true≢false (sym e ∙ some))
-reading_by_word limits word some (first ∷ fields) e reading h =
-    let is : first ≡ word = (bytes_eq-Decides first word).0 e in
-    rw is h
+pub refused_count : (limits : Limits) (asked : Word) (fields : List (List ℕ)) (fault : Bad) → Some fault ≡ count_fault (takes_of limits asked) (length fields)
+    → Err fault ≡ command_in_text limits asked fields
+refused_count limits asked fields fault is =
+    wrong_count (count_fault (takes_of limits asked) (length fields)) (number_fault limits.coordinate fields) (command_with asked (map number_of fields)) fault is
 
--- a record whose word takes no list, and a record with no field
-pub reading_of_other : (limits : Limits) (fields : List (List ℕ)) → bytes_eq (get_or fields 0 []) (codes "polygon") ≡ false
-    → bytes_eq (get_or fields 0 []) (codes "check") ≡ false → bytes_eq (get_or fields 0 []) (codes "hull") ≡ false
-    → bytes_eq (get_or fields 0 []) (codes "round") ≡ false
-    → command_of limits fields ≡ fixed_command_of limits.coordinate (get_or fields 0 []) (drop 1 fields)
-reading_of_other limits [] no_polygon no_check no_hull no_round = refl
-reading_of_other limits (word ∷ fields) no_polygon no_check no_hull no_round = rw (no_polygon, no_check, no_hull, no_round) refl
+-- then a field that is no number,
+no_number : (count : Option Bad) (number range : Option ℕ) (made : Command) (fault : Bad) → None ≡ count → first_fault number None ≡ Some fault
+    → Err fault ≡ unless (option_or count (first_fault number range)) made
+no_number None (Some place) range made fault none is = cc
+no_number None None range made fault none is = cc
+no_number (Some other) number range made fault none is = cc
+
+pub refused_field : (limits : Limits) (asked : Word) (fields : List (List ℕ)) (fault : Bad) → None ≡ count_fault (takes_of limits asked) (length fields)
+    → first_fault (first_failing is_number 1 fields) None ≡ Some fault → Err fault ≡ command_in_text limits asked fields
+refused_field limits asked fields fault none is =
+    no_number (count_fault (takes_of limits asked) (length fields)) (first_failing is_number 1 fields) (first_failing (is_coordinate limits.coordinate) 1 fields)
+    (command_with asked (map number_of fields)) fault none is
+
+-- and then a number past the limit
+in_order : (count : Option Bad) (number range : Option ℕ) (asked : Word) (fault : Option Bad) (read exact : List ℤ) → None ≡ count → number ≡ None
+    → fault ≡ first_fault None range → (range ≡ None → read ≡ exact)
+    → unless fault (command_with asked read) ≡ unless (option_or count (first_fault number range)) (command_with asked exact)
+in_order None None None asked fault read exact right numbers is same = rw is (ap Ok (ap (command_with asked) (same refl)))
+in_order None None (Some place) asked fault read exact right numbers is same = rw is refl
+in_order None (Some place) range asked fault read exact right numbers is same = cc
+in_order (Some other) number range asked fault read exact right numbers is same = cc
+
+-- so a record is read by the numbers that its fields are read as
+pub read_in_text : {E : Type 0} (limits : Limits) → IsLimited limits → (asked : Word) (fields : List (List ℕ)) (numbers : List ℤ)
+    → None ≡ count_fault (takes_of limits asked) (length fields) → first_failing is_number 1 fields ≡ None → numbers ≡ map read_of fields
+    → (read : Result (Result Command Bad) E) → IfOk read (λ reading. reading ≡ unless (range_fault limits.coordinate 1 numbers) (command_with asked numbers))
+    → IfOk read (λ reading. reading ≡ command_in_text limits asked fields)
+read_in_text limits limited asked fields numbers right none are (Err e) is = tt
+read_in_text limits limited asked fields numbers right none are (Ok reading) is =
+    let limit = limits.coordinate in
+    is ∙ in_order (count_fault (takes_of limits asked) (length fields)) (first_failing is_number 1 fields) (first_failing (is_coordinate limit) 1 fields)
+    asked (range_fault limit 1 numbers) numbers (map number_of fields) right none
+    (ap (range_fault limit 1) are ∙ range_of_fields limit read_of (read_within limit limited.coordinate) 1 fields)
+    (λ passed. are ∙ read_exactly limit fields 1 limited.coordinate passed)
+
+-- in numbers it is the same, without the fields
+pub read_in_numbers : {E : Type 0} (limits : Limits) (asked : Word) (numbers : List ℤ) → None ≡ count_fault (takes_of limits asked) (length numbers)
+    → (read : Result (Result Command Bad) E) → IfOk read (λ reading. reading ≡ unless (range_fault limits.coordinate 1 numbers) (command_with asked numbers))
+    → IfOk read (λ reading. reading ≡ command_in_numbers limits asked numbers)
+read_in_numbers limits asked numbers right read is =
+    subst (λ (count : Option Bad). IfOk read (λ reading. reading ≡ unless (option_or count (range_fault limits.coordinate 1 numbers)) (command_with asked numbers))) right is
+
+-- ---- the law of the two readings
+
+by_each : {T : Type 0} (found : Option Word) (read read' : Word → Result T Bad) → ((asked : Word) → read asked ≡ read' asked) → by_word found read ≡ by_word found read'
+by_each None read read' same = refl
+by_each (Some asked) read read' same = same asked
+
+same_faults : (count count' : Option Bad) (number range : Option ℕ) (fault : Option Bad) (made : Command) → count' ≡ count → number ≡ None
+    → fault ≡ first_fault None range → unless (option_or count (first_fault number range)) made ≡ unless (option_or count' fault) made
+same_faults count count' number range fault made same none is = rw (same, none, is) refl
+
+pub one_reading_law : OneReadingLaw
+one_reading_law limits name fields none =
+    by_each (word_named name) (λ asked. command_in_text limits asked fields) (λ asked. command_in_numbers limits asked (map number_of fields)) (λ asked.
+    same_faults (count_fault (takes_of limits asked) (length fields)) (count_fault (takes_of limits asked) (length (map number_of fields)))
+    (first_failing is_number 1 fields) (first_failing (is_coordinate limits.coordinate) 1 fields)
+    (range_fault limits.coordinate 1 (map number_of fields)) (command_with asked (map number_of fields))
+    (ap (count_fault (takes_of limits asked)) (length-map fields number_of)) none
+    (range_of_fields limits.coordinate number_of (λ field. refl) 1 fields))
+
+-- ---- sizes
+
+-- what holds of each reading by a word holds of the reading
+pub holds_by_word : {T : Type 0} (P : T → Type 0) (found : Option Word) (read : Word → Result T Bad) → ((asked : Word) → found ≡ Some asked → IfOk (read asked) P)
+    → IfOk (by_word found read) P
+holds_by_word P None read holds = tt
+holds_by_word P (Some asked) read holds = holds asked refl
+
+-- each command is well sized
+pub command_is_well_sized : (limits : Limits) → IsLimited limits → (fields : List (List ℕ)) → IfOk (command_of limits fields) IsWellSized
+command_is_well_sized limits limited [] = tt
+command_is_well_sized limits limited (name ∷ fields) =
+    holds_by_word IsWellSized (word_named name) (λ asked. command_in_text limits asked fields) (λ asked is.
+    unless_well_sized limits limited asked (map number_of fields) (count_fault (takes_of limits asked) (length fields)) (number_fault limits.coordinate fields)
+    (ap (count_fault (takes_of limits asked)) (sym (length-map fields number_of))))
+
+-- in numbers too
+pub numbers_are_well_sized : {E : Type 0} (limits : Limits) → IsLimited limits → (asked : Word) (numbers : List ℤ) (read : Result (Result Command Bad) E)
+    → IfOk read (λ reading. reading ≡ command_in_numbers limits asked numbers) → IfOk read (λ reading. IfOk reading IsWellSized)
+numbers_are_well_sized limits limited asked numbers (Err e) is = tt
+numbers_are_well_sized limits limited asked numbers (Ok reading) is =
+    subst (λ (it : Result Command Bad). IfOk it IsWellSized) (sym is)
+    (unless_well_sized limits limited asked numbers (count_fault (takes_of limits asked) (length numbers)) (range_fault limits.coordinate 1 numbers) refl)

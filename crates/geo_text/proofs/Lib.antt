@@ -1,11 +1,12 @@
 mod CappedNumber
 mod Commands
+mod Counts
 mod Faults
 mod FieldAt
-mod FieldPoints
 mod Fuel
 pub mod HomTexts
 pub mod Joined
 mod LineFronts
+mod NumberPoints
+pub mod Readings
 mod RecordsLeft
-mod WellSized

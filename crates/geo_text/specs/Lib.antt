@@ -6,3 +6,4 @@ pub mod Records
 pub mod Script
 pub mod Texts
 pub mod Version
+pub mod Words

@@ -1,6 +1,7 @@
 -- What a record asks for: a command, or the first refusal that holds. This project's own.
-use Rattle.std.specs.Prelude.{◌≡◌, ℕ, ℤ, ◌+◌, ◌*◌, ◌%◌, ◌≤◌, Bool, false, ◌&&◌, ◌==◌, nat_le, nat_lt, if◌then◌else◌, unsigned_abs}
-use Rattle.std.specs.Prelude.{List, [], ◌∷◌, length, codes, slice_index_or, drop, Option, Some, None, Result, Ok, Err}
+use Rattle.std.specs.Option.{option_or}
+use Rattle.std.specs.Prelude.{◌≡◌, ℕ, ℤ, pos, ◌+◌, ◌≤◌, Bool, false, ◌&&◌, ◌==◌, nat_le, if◌then◌else◌, unsigned_abs}
+use Rattle.std.specs.Prelude.{List, [], ◌∷◌, length, map, codes, slice_index_or, Option, Some, None, Result, Ok, Err}
 use Rattle.std.specs.Str.{bytes_eq}
 use Rattle.plane.specs.Point.{Point}
 use Rattle.plane.specs.declared.limits.TheConstants.{MAX_CHAIN, MAX_CORNERS, MAX_HULL}
@@ -8,6 +9,7 @@ use Rattle.geo_text.specs.Limits.{limits_of}
 use Rattle.geo_text.specs.Number.{is_coordinate, is_number, number_of}
 use Rattle.geo_text.specs.Records.{Unread}
 use Rattle.geo_text.specs.Version.{version_of}
+use Rattle.geo_text.specs.Words.{count_fault, takes_of, word_named}
 use Rattle.geo_text.specs.declared.command.Bad.{Bad}
 use Rattle.geo_text.specs.declared.command.Bad.TheVariants as bad
 use Rattle.geo_text.specs.declared.command.Command.{Command}
@@ -15,6 +17,8 @@ use Rattle.geo_text.specs.declared.command.Command.TheVariants as command
 use Rattle.geo_text.specs.declared.limits.Limits.{Limits}
 use Rattle.geo_text.specs.declared.version.Version.{Version}
 use Rattle.geo_text.specs.declared.version.Version.TheVariants as version
+use Rattle.geo_text.specs.declared.word.Word.{Word}
+use Rattle.geo_text.specs.declared.word.Word.TheVariants as word
 
 -- the place of the first field that fails a test, counted from a given place on
 abbrev pub first_failing : (List ℕ → Bool) → ℕ → List (List ℕ) → Option ℕ
@@ -35,60 +39,70 @@ abbrev pub range_fault : ℕ → ℕ → List ℤ → Option Bad
 range_fault limit place [] = None
 range_fault limit place (z ∷ numbers) = if nat_le (unsigned_abs z) limit then range_fault limit (place + 1) numbers else Some (bad.Range place)
 
--- each two fields are a point, x before y
-abbrev pub points_of : List (List ℕ) → List Point
-points_of [] = []
-points_of (x ∷ []) = []
-points_of (x ∷ y ∷ fields) = record { x = number_of x; y = number_of y } ∷ points_of fields
-
 -- a refusal, if there is one
 abbrev pub unless : {T : Type 0} → Option Bad → T → Result T Bad
 unless None value = Ok value
 unless (Some fault) value = Err fault
 
--- what is wrong with the fields of a list of points, if anything
-abbrev pub list_fault : ℕ → ℕ → ℕ → List (List ℕ) → Option Bad
-list_fault limit least most fields =
-    if (length fields % 2) == 1 then Some bad.Fields
-    else if nat_lt (length fields) (2 * least) then Some bad.Few
-    else if nat_lt (2 * most) (length fields) then Some bad.Many
-    else number_fault limit fields
+-- ---- the command of a word and the numbers of its fields
 
--- what is wrong with the fields of a command that takes just so many, if anything
-abbrev pub fixed_fault : ℕ → ℕ → List (List ℕ) → Option Bad
-fixed_fault limit count fields = if length fields == count then number_fault limit fields else Some bad.Fields
+-- each two numbers are a point, x before y
+abbrev pub pairs_of : List ℤ → List Point
+pairs_of [] = []
+pairs_of (x ∷ []) = []
+pairs_of (x ∷ y ∷ numbers) = record { x = x; y = y } ∷ pairs_of numbers
 
--- the number that the field at a place is
-abbrev pub number_at : ℕ → List (List ℕ) → ℤ
-number_at place fields = number_of (slice_index_or fields place [])
+-- the number at a place, which is counted from 0
+abbrev pub number_at : ℕ → List ℤ → ℤ
+number_at place numbers = slice_index_or numbers place (pos 0)
 
--- the first two fields are a point
-abbrev pub point_of : List (List ℕ) → Point
-point_of fields = record { x = number_at 0 fields; y = number_at 1 fields }
+-- the number at a place and the next one are a point
+abbrev pub point_at : ℕ → List ℤ → Point
+point_at place numbers = record { x = number_at place numbers; y = number_at (place + 1) numbers }
 
--- the command that a word and just so many numbers are, or why they are none
-abbrev pub fixed_command_of : ℕ → List ℕ → List (List ℕ) → Result Command Bad
-fixed_command_of limit word fields =
-    if bytes_eq word (codes "inside") then unless (fixed_fault limit 2 fields) (command.Inside (point_of fields))
-    else if bytes_eq word (codes "path") then unless (fixed_fault limit 4 fields) (command.Path (point_of fields) (point_of (drop 2 fields)))
-    else if bytes_eq word (codes "tree") then unless (fixed_fault limit 2 fields) (command.Tree (point_of fields))
-    else if bytes_eq word (codes "reach") then unless (fixed_fault limit 2 fields) (command.Reach (point_of fields))
-    else if bytes_eq word (codes "see") then unless (fixed_fault limit 2 fields) (command.See (point_of fields))
-    else if bytes_eq word (codes "kernel") then unless (fixed_fault limit 0 fields) command.Kernel
-    else if bytes_eq word (codes "guards") then unless (fixed_fault limit 0 fields) command.Guards
-    else if bytes_eq word (codes "pair") then unless (fixed_fault limit 2 fields) (command.Pair (number_at 0 fields) (number_at 1 fields))
-    else if bytes_eq word (codes "sights") then unless (fixed_fault limit 0 fields) command.Sights
-    else Err bad.Word
+-- the command of a word and numbers, which are as many as it takes
+abbrev pub command_with : Word → List ℤ → Command
+command_with word.Polygon numbers = command.Polygon (pairs_of numbers)
+command_with word.Inside numbers = command.Inside (point_at 0 numbers)
+command_with word.Check numbers = command.Check (pairs_of numbers)
+command_with word.Path numbers = command.Path (point_at 0 numbers) (point_at 2 numbers)
+command_with word.Tree numbers = command.Tree (point_at 0 numbers)
+command_with word.Reach numbers = command.Reach (point_at 0 numbers)
+command_with word.See numbers = command.See (point_at 0 numbers)
+command_with word.Kernel numbers = command.Kernel
+command_with word.Hull numbers = command.Hull (pairs_of numbers)
+command_with word.Two numbers = command.Two
+command_with word.Round numbers = command.Round (pairs_of numbers)
+command_with word.Guards numbers = command.Guards
+command_with word.Pair numbers = command.Pair (number_at 0 numbers) (number_at 1 numbers)
+command_with word.Sights numbers = command.Sights
+
+-- the command that a word and some numbers are, or the first refusal
+abbrev pub command_in_numbers : Limits → Word → List ℤ → Result Command Bad
+command_in_numbers limits asked numbers =
+    unless (option_or (count_fault (takes_of limits asked) (length numbers)) (range_fault limits.coordinate 1 numbers)) (command_with asked numbers)
+
+-- the command that a word and some fields are, or the first refusal
+abbrev pub command_in_text : Limits → Word → List (List ℕ) → Result Command Bad
+command_in_text limits asked fields =
+    unless (option_or (count_fault (takes_of limits asked) (length fields)) (number_fault limits.coordinate fields)) (command_with asked (map number_of fields))
+
+-- ---- records
+
+-- what is read of a word, or a refusal where there is none
+abbrev pub by_word : {T : Type 0} → Option Word → (Word → Result T Bad) → Result T Bad
+by_word None read = Err bad.Word
+by_word (Some asked) read = read asked
 
 -- the command that a record is by its word, or why it is none
 abbrev pub command_of : Limits → List (List ℕ) → Result Command Bad
 command_of limits [] = Err bad.Word
-command_of limits (word ∷ fields) =
-    if bytes_eq word (codes "polygon") then unless (list_fault limits.coordinate 3 limits.corners fields) (command.Polygon (points_of fields))
-    else if bytes_eq word (codes "check") then unless (list_fault limits.coordinate 1 limits.chain fields) (command.Check (points_of fields))
-    else if bytes_eq word (codes "hull") then unless (list_fault limits.coordinate 1 MAX_HULL fields) (command.Hull (points_of fields))
-    else if bytes_eq word (codes "round") then unless (list_fault limits.coordinate 1 MAX_HULL fields) (command.Round (points_of fields))
-    else fixed_command_of limits.coordinate word fields
+command_of limits (name ∷ fields) = by_word (word_named name) (λ asked. command_in_text limits asked fields)
+
+-- a record of which all fields are numbers is read as the record in these numbers
+abbrev pub OneReadingLaw : Type 0
+OneReadingLaw = (limits : Limits) (name : List ℕ) (fields : List (List ℕ)) → first_failing is_number 1 fields ≡ None
+    → command_of limits (name ∷ fields) ≡ by_word (word_named name) (λ asked. command_in_numbers limits asked (map number_of fields))
 
 -- the record has just two fields, the word `geo` and the number 2
 abbrev pub asks_two : List (List ℕ) → Bool

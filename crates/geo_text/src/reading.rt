@@ -1,20 +1,19 @@
 // A record as a command.
-ghost use Rattle.std.specs.Prelude.{◌≡◌, ℕ, ◌≤◌, IfOk, drop};
-ghost use Rattle.plane.specs.declared.limits.TheConstants.{MAX_COORDINATE, MAX_HULL};
+ghost use Rattle.std.specs.Prelude.{◌≡◌, IfOk, length};
 ghost use Rattle.geo_text.specs.Capped.{after_word};
 ghost use Rattle.geo_text.specs.Limits.{IsLimited};
-ghost use Rattle.geo_text.specs.Reading.{asks_two as is_asked, command_of, fixed_command_of, fixed_fault, list_fault, number_at};
-ghost use Rattle.geo_text.specs.Reading.{point_of, points_of, unless};
+ghost use Rattle.geo_text.specs.Reading.{IsWellSized, asks_two as is_asked, command_in_numbers as read_in_numbers, command_in_text, command_of};
+ghost use Rattle.geo_text.specs.Reading.{command_with, range_fault as fault_of_range, unless};
 ghost use Rattle.geo_text.specs.Records.{plain_fields};
+ghost use Rattle.geo_text.specs.Words.{IsCountOf};
 
 use crate::command::{Bad, Command};
-use crate::coordinates::{fixed, point, points};
+use crate::coordinates::{numbers, range_fault};
 use crate::fields::field;
 use crate::limits::Limits;
-use crate::points::Points;
+use crate::word::Word;
 use csv::ByteRecord;
-use exact_plane::{Memory, Pt};
-use plane::MAX_HULL;
+use exact_plane::Memory;
 use std::alloc::Global;
 
 // The record asks for version 2: it has just two fields, the word `geo` and the number 2.
@@ -33,118 +32,61 @@ pub fn command(
     requires { IsLimited limits.now }
     ensures { IfOk result (λ reading. reading ≡ command_of limits.now (plain_fields row.now)) }
 {
-    let word = field(row, 0);
-    if word == b"polygon".as_slice() {
-        let read = points(alloc, row, limits.coordinate, 3, limits.corners)?;
-        return Ok(read.map(Command::Polygon));
+    match Word::named(field(row, 0)) {
+        Some(word) => in_text(alloc, limits, word, row),
+        None => Ok(Err(Bad::Word)),
     }
-    if word == b"check".as_slice() {
-        let read = points(alloc, row, limits.coordinate, 1, limits.chain)?;
-        return Ok(read.map(Command::Check));
-    }
-    if word == b"hull".as_slice() {
-        return Ok(spanned(alloc, row, limits.coordinate)?.map(Command::Hull));
-    }
-    if word == b"round".as_slice() {
-        return Ok(spanned(alloc, row, limits.coordinate)?.map(Command::Round));
-    }
-    fixed_command(alloc, word, row, limits.coordinate)
 }
 
-// The points of a record that has as many as a relative hull may have.
-fn spanned(alloc: Global, row: &ByteRecord, limit: u64) -> Result<Result<Points, Bad>, Memory>
-    requires { limit ≤ MAX_COORDINATE }
-    ensures { IfOk result (λ reading. reading ≡ unless (list_fault limit 1 MAX_HULL (after_word row.now)) (points_of (after_word row.now))) }
-{
-    points(alloc, row, limit, 1, MAX_HULL)
-}
-
-// The command that a word and just so many numbers are, or why they are none.
-fn fixed_command(
+// The command that a word and the fields after it are, or the first refusal.
+fn in_text(
     alloc: Global,
-    word: &[u8],
+    limits: &Limits,
+    word: Word,
     row: &ByteRecord,
-    limit: u64,
 ) -> Result<Result<Command, Bad>, Memory>
-    requires { limit ≤ MAX_COORDINATE }
-    ensures { IfOk result (λ reading. reading ≡ fixed_command_of limit word.now (after_word row.now)) }
+    requires { IsLimited limits.now }
+    ensures { IfOk result (λ reading. reading ≡ command_in_text limits.now word (after_word row.now)) }
 {
-    if word == b"inside".as_slice() {
-        return Ok(one_point(alloc, row, limit)?.map(Command::Inside));
+    if let Some(fault) = word.takes(limits).fault(row.len().saturating_sub(1)) {
+        return Ok(Err(fault));
     }
-    if word == b"path".as_slice() {
-        return path(alloc, row, limit);
-    }
-    if word == b"tree".as_slice() {
-        return Ok(one_point(alloc, row, limit)?.map(Command::Tree));
-    }
-    if word == b"reach".as_slice() {
-        return Ok(one_point(alloc, row, limit)?.map(Command::Reach));
-    }
-    if word == b"see".as_slice() {
-        return Ok(one_point(alloc, row, limit)?.map(Command::See));
-    }
-    if word == b"kernel".as_slice() {
-        return Ok(bare(row, Command::Kernel));
-    }
-    if word == b"guards".as_slice() {
-        return Ok(bare(row, Command::Guards));
-    }
-    if word == b"pair".as_slice() {
-        return pair(alloc, row, limit);
-    }
-    if word == b"sights".as_slice() {
-        return Ok(bare(row, Command::Sights));
-    }
-    Ok(Err(Bad::Word))
-}
-
-// A `path` record as a command.
-fn path(alloc: Global, row: &ByteRecord, limit: u64) -> Result<Result<Command, Bad>, Memory>
-    requires { limit ≤ MAX_COORDINATE }
-    ensures { IfOk result (λ reading. reading ≡ unless (fixed_fault limit 4 (after_word row.now))
-        (Command.Path (point_of (after_word row.now)) (point_of (drop 2 (after_word row.now))))) }
-{
-    match fixed(alloc, row, limit, 4)? {
-        Ok(numbers) => {
-            let from = point(numbers[0], numbers[1]);
-            let to = point(numbers[2], numbers[3]);
-            Ok(Ok(Command::Path(from, to)))
-        }
+    match numbers(alloc, row)? {
+        Ok(numbers) => within(alloc, limits, word, &numbers),
         Err(fault) => Ok(Err(fault)),
     }
 }
 
-// A `pair` record as a command.
-fn pair(alloc: Global, row: &ByteRecord, limit: u64) -> Result<Result<Command, Bad>, Memory>
-    requires { limit ≤ MAX_COORDINATE }
-    ensures { IfOk result (λ reading. reading ≡ unless (fixed_fault limit 2 (after_word row.now))
-        (Command.Pair (number_at 0 (after_word row.now)) (number_at 1 (after_word row.now)))) }
+/// The command that a word and the numbers of its fields are, or the first refusal of a record with these fields.
+pub fn command_in_numbers(
+    alloc: Global,
+    limits: &Limits,
+    word: Word,
+    numbers: &[i64],
+) -> Result<Result<Command, Bad>, Memory>
+    requires { IsLimited limits.now }
+    ensures command { IfOk result (λ reading. reading ≡ read_in_numbers limits.now word numbers.now) }
+    ensures well_sized { IfOk result (λ reading. IfOk reading IsWellSized) }
 {
-    match fixed(alloc, row, limit, 2)? {
-        Ok(numbers) => Ok(Ok(Command::Pair(numbers[0], numbers[1]))),
-        Err(fault) => Ok(Err(fault)),
+    match word.takes(limits).fault(numbers.len()) {
+        Some(fault) => Ok(Err(fault)),
+        None => within(alloc, limits, word, numbers),
     }
 }
 
-// The command that a word without fields is.
-fn bare(row: &ByteRecord, command: Command) -> Result<Command, Bad>
-    ensures { (limit : ℕ) → result ≡ unless (fixed_fault limit 0 (after_word row.now)) command }
+// The command of a word and numbers, which are as many as it takes, or the first number that passes the limit.
+fn within(
+    alloc: Global,
+    limits: &Limits,
+    word: Word,
+    numbers: &[i64],
+) -> Result<Result<Command, Bad>, Memory>
+    requires limited { IsLimited limits.now }
+    requires right { IsCountOf word (length numbers.now) }
+    ensures { IfOk result (λ reading. reading ≡ unless (fault_of_range limits.now.coordinate 1 numbers.now) (command_with word numbers.now)) }
 {
-    if row.len() <= 1 {
-        Ok(command)
-    } else {
-        Err(Bad::Fields)
-    }
-}
-
-// The point of a record that has just one.
-fn one_point(alloc: Global, row: &ByteRecord, limit: u64) -> Result<Result<Pt, Bad>, Memory>
-    requires { limit ≤ MAX_COORDINATE }
-    ensures { IfOk result (λ reading. reading ≡ unless (fixed_fault limit 2 (after_word row.now)) (point_of (after_word row.now))) }
-{
-    match fixed(alloc, row, limit, 2)? {
-        Ok(numbers) => Ok(Ok(point(numbers[0], numbers[1]))),
-        Err(fault) => Ok(Err(fault)),
+    match range_fault(limits.coordinate, numbers) {
+        Some(fault) => Ok(Err(fault)),
+        None => Ok(Ok(word.command(alloc, numbers)?)),
     }
 }

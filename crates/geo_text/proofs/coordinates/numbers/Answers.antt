@@ -2,7 +2,7 @@ use Rattle.std.proofs.Common.{◌<◌, ◌≤◌, FitsSigned, arith, length, rul
 use Rattle.std.proofs.lemmas.Int.{to_z-of_z}
 use Rattle.std.proofs.lemmas.List.{drop_all}
 use Rattle.geo_text.proofs.CappedNumber.{number_read}
-use Rattle.geo_text.proofs.Faults.{all_read, first_failing-drop, range_step, read_step}
+use Rattle.geo_text.proofs.Faults.{all_read, first_failing-drop, read_step}
 use Rattle.geo_text.proofs.FieldAt.{length-plain_fields}
 use Rattle.geo_text.proofs.coordinates.numbers.Goals as goal
 use Rattle.geo_text.specs.Capped.{after_word}
@@ -14,22 +14,18 @@ loop-place-preserved c =
     let fields = plain_fields c.args.row.now in
     let count = length-plain_fields c.args.row.now in
     let within : c.loop-place.place < length fields = omega arith in
-    let read = number_read c.args.limit c.field.result.now c.in-Some.z c.requires.limit (sym c.in-Some.is ∙ c.number.ensures) in
-    let (is, same, fits_limit) = rw c.field.ensures at read in
+    let read = number_read c.field.result.now c.in-Some.z (sym c.in-Some.is ∙ c.number.ensures) in
+    let (is, same) = rw c.field.ensures at read in
     let fits : FitsSigned w64 c.in-Some.z = search rules in
-    let step = range_step c.args.limit c.loop-place.range fields c.loop-place.place _ within fits_limit in
-    let number = rw is at (first_failing-drop is_number fields c.loop-place.place within) in
     record {
-      number = c.loop-place.invariant.number ∙ number;
-      range = c.loop-place.invariant.range ∙ step ∙ simp (c.or-range.ensures, c.range_fault.ensures, to_z-of_z);
+      number = c.loop-place.invariant.number ∙ (rw is at (first_failing-drop is_number fields c.loop-place.place within));
       read = read_step fields c.loop-place.place _ _ _ _ within same (c.in_ok-push.ensures.items ∙ simp to_z-of_z) c.loop-place.invariant.read;
     }
 
-pub returns-in-None : goal.returns-in-None
-returns-in-None c =
+pub returns : goal.returns
+returns c =
     let fields = plain_fields c.args.row.now in
     let count = length-plain_fields c.args.row.now in
     let past : length fields ≤ c.loop-place.place = omega arith in
-    all_read c.args.limit (after_word c.args.row.now) _ c.loop-place.place c.loop-place.numbers c.requires.limit
-    (drop_all c.loop-place.place fields past) c.loop-place.invariant.number
-    (rw c.in-None.is at c.loop-place.invariant.range) c.loop-place.invariant.read
+    all_read (after_word c.args.row.now) _ c.loop-place.place c.loop-place.numbers (drop_all c.loop-place.place fields past)
+    c.loop-place.invariant.number c.loop-place.invariant.read

@@ -1,11 +1,11 @@
-use Rattle.std.proofs.Common.{◌∙◌, ap}
-use Rattle.geo_text.proofs.FieldPoints.{points_read}
+use Rattle.std.proofs.Common.{append_assoc, arith, ◌*◌, ◌∙◌}
+use Rattle.geo_text.proofs.NumberPoints.{all_pairs, pairs_of_more}
 use Rattle.geo_text.proofs.coordinates.points.Goals as goal
-use Rattle.geo_text.specs.Capped.{after_word, pairs_of}
 
-pub returns-in_ok-pairs-in-Ok : goal.returns-in_ok-pairs-in-Ok
-returns-in_ok-pairs-in-Ok c =
-    let (none, read, small) = rw c.in-Ok.is at c.in_ok-numbers.ensures in
-    let same = rw c.in_default.is at c.list_shape.ensures.fault c.args.limit in
-    points_read (after_word c.args.row.now) _ _ _ (same ∙ none) read
-    (c.of.ensures ∙ c.in_ok-pairs-in-Ok.ensures ∙ ap pairs_of c.deref.ensures.value)
+pub loop-k-preserved : goal.loop-k-preserved
+loop-k-preserved c =
+    let more = pairs_of_more c.args.numbers.now c.loop-k.k (omega arith) in
+    rw (c.in_ok-push.ensures.items, append_assoc, c.point_from.ensures) (rw more at c.loop-k.invariant)
+
+pub returns : goal.returns
+returns c = c.of.ensures ∙ all_pairs c.args.numbers.now (2 * c.loop-k.k) c.loop-k.points.items (omega arith) c.loop-k.invariant

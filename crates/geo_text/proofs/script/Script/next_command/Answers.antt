@@ -1,5 +1,5 @@
 use Rattle.std.proofs.Common.{◌≡◌, true, refl, rules}
-use Rattle.geo_text.proofs.WellSized.{reading_is_well_sized}
+use Rattle.geo_text.proofs.Readings.{reading_is_well_sized}
 use Rattle.geo_text.proofs.script.Script.next_command.Goals as goal
 use Rattle.geo_text.specs.Records.{plain_fields}
 

@@ -2,8 +2,8 @@ use Rattle.std.proofs.Common.{◌∙◌, ◌<◌, ◌≤◌, ◌+◌, All, arith
 use Rattle.std.proofs.lemmas.List.{take_all}
 use Rattle.std.proofs.lemmas.List.Elements.{All-more}
 use Rattle.plane.specs.Point.{IsInLimit}
-use Rattle.geo_script.proofs.InNumbers.{range_at_end, range_found, range_passed}
-use Rattle.geo_script.proofs.numbers.range_fault.Goals as goal
+use Rattle.geo_text.proofs.Faults.{range_at_end, range_found, range_passed}
+use Rattle.geo_text.proofs.coordinates.range_fault.Goals as goal
 
 pub loop-place-preserved : goal.loop-place-preserved
 loop-place-preserved c =

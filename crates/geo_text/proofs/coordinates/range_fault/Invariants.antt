@@ -2,7 +2,7 @@ use Rattle.std.proofs.Common.{◌≡◌, ◌+◌, drop, take}
 use Rattle.std.specs.List.{All}
 use Rattle.plane.specs.Point.{IsInLimit}
 use Rattle.geo_text.specs.Reading.{range_fault as fault_of_range}
-use Rattle.geo_script.proofs.numbers.range_fault.Given as goal
+use Rattle.geo_text.proofs.coordinates.range_fault.Given as goal
 
 -- those so far are within the limit
 abbrev pub invariant-loop-place : goal.invariant-loop-place
