@@ -277,7 +277,9 @@ def client_of(processes: int, scheduler: str) -> Iterator[Any]:
         return
     distributed = wanted('distributed', 'asks on many processes')
     with contextlib.ExitStack() as opened:
-        where = scheduler or opened.enter_context(distributed.LocalCluster(processes, threads_per_worker=1, dashboard_address=None))
+        where: Any = scheduler
+        if processes:
+            where = opened.enter_context(distributed.LocalCluster(processes, threads_per_worker=1, dashboard_address='localhost:0'))
         yield opened.enter_context(distributed.Client(where))
 
 

@@ -246,7 +246,7 @@ class ManyProcesses(unittest.TestCase):
     def setUpClass(cls) -> None:
         opened = contextlib.ExitStack()
         cls.addClassCleanup(opened.close)
-        quiet = {'dashboard_address': None, 'silence_logs': logging.CRITICAL}
+        quiet = {'dashboard_address': 'localhost:0', 'silence_logs': logging.CRITICAL}
         cls.cluster = opened.enter_context(distributed.LocalCluster(2, threads_per_worker=1, **quiet))
         cls.client = opened.enter_context(distributed.Client(cls.cluster))
         cls.alone = list(bags.answers(city(), Session.guards))
