@@ -96,7 +96,7 @@ def whole_array(given: Any, units: Units, *row: int) -> Optional[array[int]]:
 
 def position(given: Any, place: int, is_shape: bool = False) -> Tuple[Any, Any]:
     """The two numbers of a point, as they are given."""
-    if type(given) is tuple and len(given) == 2:
+    if type(given) in (tuple, list) and len(given) == 2:
         return given[0], given[1]
     shape = shape_of(given, 'Point', place=place)
     found = coordinates(shape, given, place)
@@ -143,7 +143,10 @@ def shape_of(given: Any, *kinds: str, place: int = 1) -> Optional[Mapping[str, A
     if not isinstance(shape, Mapping):
         return None
     if shape.get('type') == 'Feature':
-        shape = shape.get('geometry') or {'type': 'feature without a geometry'}
+        geometry = shape.get('geometry')
+        shape = getattr(geometry, '__geo_interface__', geometry)
+        if not isinstance(shape, Mapping):
+            raise NotAShape(given, place, 'a feature without a geometry is given')
     kind = shape.get('type', 'shape without a type')
     if kind not in kinds:
         raise NotAShape(given, place, f'a {" or ".join(kinds)} is asked for, and a {kind} is given')
