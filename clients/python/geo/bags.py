@@ -119,10 +119,10 @@ def answers(shapes: Any, ask: Callable[[Taken], V], *, wide: bool = False, frame
     if batch < 1:
         raise ValueError(f'a batch has a polygon or more, and not {batch}')
     bar = wanted('tqdm', 'draws the bar of progress').tqdm if progress else None
-    one = functools.partial(answer_of, ask=ask, wide=wide, frame=frame)
-    told = itertools.starmap(one, enumerate(each(shapes))) if client is None else over(client, one, batches(each(shapes), batch))
-    found = before_stop(told)
-    return iter(bar(found, total=len(shapes) if isinstance(shapes, Sized) else None, unit=' polygons')) if bar else found
+    one, given = functools.partial(answer_of, ask=ask, wide=wide, frame=frame), each(shapes)
+    found = before_stop(itertools.starmap(one, enumerate(given)) if client is None else over(client, one, batches(given, batch)))
+    total = next((len(it) for it in (given, shapes) if isinstance(it, Sized)), None)
+    return iter(bar(found, total=total, unit=' polygons')) if bar else found
 
 
 def read(file: File) -> Iterator[Any]:
