@@ -32,6 +32,7 @@ from typing import IO, Any, Deque, Generic, List, Optional, Sequence, Tuple, Typ
 from .errors import GeoMemoryError, NotTaken, Refusal
 from .frame import Frame
 from .listed import Listed
+from .reading import geojson
 from .session import Session
 
 V = TypeVar('V')
@@ -144,11 +145,11 @@ def parts(shapes: Any) -> Iterator[Any]:
     for shape in each(shapes):
         try:
             whole = geojson(parsed(shape))
-        except NotJson:
-            whole = None
-        feature = whole if whole and whole.get('type') == 'Feature' else {'type': 'Feature', 'geometry': whole}
-        geometry = geojson(feature.get('geometry')) or {}
-        polygons = geometry.get('coordinates') if geometry.get('type') == 'MultiPolygon' else None
+            feature = whole if is_a('Feature', whole) else {'type': 'Feature', 'geometry': whole}
+            geometry = geojson(feature.get('geometry'))
+            polygons = geometry.get('coordinates') if is_a('MultiPolygon', geometry) else None
+        except NotTaken:
+            polygons = None
         if isinstance(polygons, (list, tuple)) and polygons:
             yield from ({**feature, 'geometry': {'type': 'Polygon', 'coordinates': rings}} for rings in polygons)
         else:
@@ -177,10 +178,8 @@ def each(shapes: Any) -> Iterable[Any]:
     return found
 
 
-def geojson(shape: Any) -> Optional[Mapping[str, Any]]:
-    """What a shape says that it is, where it does."""
-    found = getattr(shape, '__geo_interface__', shape)
-    return found if isinstance(found, Mapping) else None
+def is_a(kind: str, shape: Any) -> bool:
+    return isinstance(shape, Mapping) and shape.get('type') == kind
 
 
 def parsed(shape: Any) -> Any:

@@ -132,19 +132,23 @@ def coordinates(shape: Optional[Mapping[str, Any]], given: Any, place: int = 1) 
     return found
 
 
+def geojson(given: Any, place: int = 1) -> Any:
+    """What a shape of another library says that it is, or else what was given."""
+    try:
+        return getattr(given, '__geo_interface__', given)
+    except Exception as error:  # an empty Point of Shapely has none
+        raise NotAShape(given, place, 'the shape is empty, or can not say what it is') from error
+
+
 def shape_of(given: Any, *kinds: str, place: int = 1) -> Optional[Mapping[str, Any]]:
     """A shape in GeoJSON that is of one of these kinds, or nothing where plain numbers are given. Of a feature it is the geometry."""
     if isinstance(given, (str, bytes)):
         raise NotAShape(given, place, 'a text is no shape: shapely.wkt.loads, say, reads one')
-    try:
-        shape: Any = getattr(given, '__geo_interface__', given)
-    except Exception as error:  # an empty Point of Shapely has none
-        raise NotAShape(given, place, 'the shape is empty, or can not say what it is') from error
+    shape = geojson(given, place)
     if not isinstance(shape, Mapping):
         return None
     if shape.get('type') == 'Feature':
-        geometry = shape.get('geometry')
-        shape = getattr(geometry, '__geo_interface__', geometry)
+        shape = geojson(shape.get('geometry'), place)
         if not isinstance(shape, Mapping):
             raise NotAShape(given, place, 'a feature without a geometry is given')
     kind = shape.get('type', 'shape without a type')

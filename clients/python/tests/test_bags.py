@@ -8,6 +8,7 @@ import io
 import json
 import logging
 import os
+import pickle
 import random
 import signal
 import subprocess
@@ -18,6 +19,7 @@ from pathlib import Path
 from typing import Any, Iterator, List
 from unittest import mock
 
+import geo
 from geo import Frame, Session, bags
 from .rings import PACKAGE, L, Shape, comb, geojson, shapely, strip
 
@@ -149,6 +151,17 @@ class OneProcess(unittest.TestCase):
             self.assertEqual(next(asked), bags.Answered(count - 1, None, [3]))
             self.assertEqual(len(read), count)
 
+    def test_exceptions_travel(self) -> None:
+        of_many = geo.Outside(2)
+        of_many.question = 4
+        raised: List[Exception] = [
+            geo.Clash(1, 3), of_many, geo.GeoMemoryError(b'inside'), geo.TooLong('long'), geo.NotWhole(0.5, 3),
+            geo.Holes(HOLES, cause='has holes'), bags.NotJson('no JSON', 7), bags.Stopped(range(3, 5), 'lost'),
+        ]
+        for error in raised:
+            found = pickle.loads(pickle.dumps(error))
+            self.assertEqual((type(found), vars(found), str(found)), (type(error), vars(error), str(error)))
+
     def test_parts_of_multi_polygons(self) -> None:
         broken = bags.Line(4, b'{')
         given = [feature('both', TWO, height=3), TWO, L, broken, feature(4, geojson('MultiPolygon', []))]
@@ -228,12 +241,13 @@ class Command(unittest.TestCase):
 class Tables(unittest.TestCase):
     @unittest.skipIf(geopandas is None or shapely is None, 'GeoPandas is not there')
     def test_idents_are_the_index(self) -> None:
-        shapes = [shapely.Polygon(L), shapely.Polygon(BOWTIE), None, shapely.Polygon(comb(8))]
-        table = geopandas.GeoDataFrame({'height': range(4)}, geometry=shapes, index=[f'row {k}' for k in range(4)])
+        shapes = [shapely.Polygon(L), shapely.Polygon(BOWTIE), None, shapely.Point(), shapely.Polygon(), shapely.Polygon(comb(8))]
+        wanted = [6, 'Clash', 'NotAShape', 'NotAShape', 'NotAShape', 8]
+        table = geopandas.GeoDataFrame({'height': range(6)}, geometry=shapes, index=[f'row {k}' for k in range(6)])
         for given in (table, table.geometry):
-            found = list(bags.answers(given, lambda session: len(session.ring or [])))
-            self.assertEqual([(it.number, it.ident) for it in found], [(k, f'row {k}') for k in range(4)])
-            self.assertEqual([it.answer if isinstance(it, bags.Answered) else it.kind for it in found], [6, 'Clash', 'NotAShape', 8])
+            for found in (bags.answers(it, lambda session: len(session.ring or [])) for it in (given, bags.parts(given))):
+                kinds = [(it.number, it.ident, it.answer if isinstance(it, bags.Answered) else it.kind) for it in found]
+                self.assertEqual(kinds, [(k, f'row {k}', what) for k, what in enumerate(wanted)])
 
 
 @unittest.skipIf(distributed is None, "Dask's distributed is not there")
