@@ -25,9 +25,9 @@ import pickle
 import sys
 import traceback
 from collections import deque
-from collections.abc import Callable, Iterable, Iterator, Mapping, Sized
+from collections.abc import Iterable, Iterator, Mapping, Sized
 from dataclasses import dataclass
-from typing import IO, Any, Deque, Generic, List, Optional, Sequence, Tuple, TypeVar, Union
+from typing import IO, Any, Callable, Deque, Generic, List, Optional, Sequence, Tuple, TypeVar, Union
 
 from .errors import GeoMemoryError, NotTaken, Refusal
 from .frame import Frame
@@ -114,8 +114,8 @@ def answers(shapes: Any, ask: Callable[[Taken], V], *, wide: bool = False, frame
     With a `client` of Dask's `distributed` a task is a batch of polygons, of fewer where they are large. A few batches for each
     worker are under way. What a lost worker had is asked again elsewhere. `progress` shows the bar of tqdm.
 
-    What `ask` or `frame` raises is refused where it is a Refusal or NotTaken. All else is a bug, and raises Stopped with the number
-    of the polygon, after the answers before it.
+    A polygon is refused where it is not taken, where `ask` or `frame` raises a Refusal or NotTaken, or where the library wants memory.
+    What they raise else is a bug, and raises Stopped with the number of the polygon, after the answers before it.
     """
     if batch < 1:
         raise ValueError(f'a batch has a polygon or more, and not {batch}')
@@ -268,18 +268,12 @@ def wanted(name: str, what: str) -> Any:
         raise ImportError(WANTED.format(name=name, what=what)) from None
 
 
-@contextlib.contextmanager
-def client_of(processes: int, scheduler: str) -> Iterator[Any]:
-    """A client of so many processes of this machine, of a scheduler, or none."""
+def client_of(processes: int, scheduler: str) -> Any:
+    """A client of so many processes of this machine or of a scheduler, or none, to be used in a `with`."""
     if not processes and not scheduler:
-        yield None
-        return
-    distributed = wanted('distributed', 'asks on many processes')
-    with contextlib.ExitStack() as opened:
-        where: Any = scheduler
-        if processes:
-            where = opened.enter_context(distributed.LocalCluster(processes, threads_per_worker=1, dashboard_address='localhost:0'))
-        yield opened.enter_context(distributed.Client(where))
+        return contextlib.nullcontext()
+    client = wanted('distributed', 'asks on many processes').Client
+    return client(scheduler) if scheduler else client(n_workers=processes, threads_per_worker=1, dashboard_address='localhost:0')
 
 
 def shown(it: Union[Answered[Any], Refused]) -> str:
@@ -300,6 +294,7 @@ def main(words: Optional[Sequence[str]] = None) -> None:
     counts = {Answered: 0, Refused: 0}
     try:
         shapes = read(sys.stdin.buffer if options.file == '-' else options.file)
+        shapes = parts(shapes) if options.parts else shapes
         with client_of(options.processes, options.scheduler) as client:
             for it in answers(shapes, ASKS[options.ask], wide=options.wide, frame=frame, client=client,
                               batch=options.batch, progress=options.progress):
@@ -316,6 +311,7 @@ def arguments() -> argparse.ArgumentParser:
     parser.add_argument('--ask', choices=ASKS, required=True)
     parser.add_argument('--digits', type=int, metavar='N', help='round coordinates to so many digits after the point; else they are whole')
     parser.add_argument('--wide', action='store_true', help='the limits of version 2: 16,384 vertices, coordinates up to 8,388,607 steps')
+    parser.add_argument('--parts', action='store_true', help='ask about each polygon of a MultiPolygon, which is refused else')
     where = parser.add_mutually_exclusive_group()
     where.add_argument('--processes', type=int, default=0, metavar='N', help='on so many processes of this machine, by Dask')
     where.add_argument('--scheduler', default='', metavar='ADDRESS', help="on the workers of this scheduler of Dask's, as tcp://host:8786")

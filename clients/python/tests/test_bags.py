@@ -224,6 +224,17 @@ class Command(unittest.TestCase):
                 self.assertEqual(ran.stderr.decode(), f'{3 - len(last)} answered, {len(last)} refused\n')
                 self.assertEqual(ran.returncode, 0)
 
+    def test_parts(self) -> None:
+        with tempfile.TemporaryDirectory() as folder, contextlib.redirect_stdout(io.StringIO()) as told:
+            path = Path(folder) / 'city.geojsonl'
+            path.write_text(json.dumps(feature('both', TWO)))
+            with contextlib.redirect_stderr(io.StringIO()):
+                bags.main([str(path), '--ask', 'sights', '--parts', '--wide'])
+        first, second = map(json.loads, told.getvalue().splitlines())
+        with Session(L) as session:
+            self.assertEqual(first, {'number': 0, 'id': 'both', 'answer': list(map(list, session.sights()))})
+        self.assertEqual((second['number'], second['id']), (1, 'both'))
+
     def said(self, *words: str) -> str:
         """What the command ends with."""
         with contextlib.redirect_stdout(io.StringIO()), self.assertRaises(SystemExit) as ended:
