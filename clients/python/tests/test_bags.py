@@ -232,7 +232,7 @@ class Command(unittest.TestCase):
                 bags.main([str(path), '--ask', 'sights', '--parts', '--wide'])
         first, second = map(json.loads, told.getvalue().splitlines())
         with Session(L) as session:
-            self.assertEqual(first, {'number': 0, 'id': 'both', 'answer': list(map(list, session.sights()))})
+            self.assertEqual(first, {'number': 0, 'id': 'both', 'answer': [list(pair) for pair in session.sights()]})
         self.assertEqual((second['number'], second['id']), (1, 'both'))
 
     def said(self, *words: str) -> str:
@@ -271,6 +271,8 @@ class ManyProcesses(unittest.TestCase):
     def setUpClass(cls) -> None:
         opened = contextlib.ExitStack()
         cls.addClassCleanup(opened.close)
+        # how long answers may be looked for on a worker that is lost
+        opened.enter_context(importlib.import_module('dask.config').set({'distributed.comm.timeouts.connect': '4s'}))
         quiet = {'dashboard_address': 'localhost:0', 'silence_logs': logging.CRITICAL}
         cls.cluster = opened.enter_context(distributed.LocalCluster(2, threads_per_worker=1, **quiet))
         cls.client = opened.enter_context(distributed.Client(cls.cluster))
