@@ -274,7 +274,7 @@ class ManyProcesses(unittest.TestCase):
         # how long answers may be looked for on a worker that is lost
         opened.enter_context(importlib.import_module('dask.config').set({'distributed.comm.timeouts.connect': '4s'}))
         quiet = {'dashboard_address': 'localhost:0', 'silence_logs': logging.CRITICAL}
-        cls.cluster = opened.enter_context(distributed.LocalCluster(2, threads_per_worker=1, **quiet))
+        cls.cluster = opened.enter_context(distributed.LocalCluster(n_workers=2, threads_per_worker=1, **quiet))
         cls.client = opened.enter_context(distributed.Client(cls.cluster))
         cls.alone = list(bags.answers(city(), Session.guards))
 
