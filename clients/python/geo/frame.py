@@ -5,7 +5,7 @@ import math
 from fractions import Fraction
 from typing import Any, Iterable, Optional, Sequence, Tuple
 
-from .errors import NotWhole
+from .errors import NotAShape, NotWhole
 from .reading import AnyPoints, corners
 from .units import Exact, Given, Units, near, numpy, parts
 from .values import Coordinate, Point
@@ -39,9 +39,9 @@ class Frame(Units):
         middle."""
         numbers = [(number, k % 2 + 1) for k, number in enumerate(number for point in corners(shape) for number in point)]
         if not numbers:
-            raise ValueError('a frame of no points')
-        exacts = [Fraction(*parts(number, place)) for number, place in numbers]
-        box = [(min(axis), max(axis)) for axis in (exacts[::2], exacts[1::2])]
+            raise NotAShape(shape, cause='has no points')
+        exacts = [exact_of(*it) for it in numbers]
+        box = [(Fraction(min(axis)), Fraction(max(axis))) for axis in (exacts[::2], exacts[1::2])]
         limit, found = LIMITS[wide], None
         for count in [digits] if digits is not None else [*range(10)]:
             scale = Fraction(10) ** count
@@ -49,11 +49,12 @@ class Frame(Units):
             if None in origin:
                 break
             found = cls([o or 0 for o in origin], scale, snap=snap, exact=exact)
-            if found.takes(numbers):
+            if digits is not None or found.takes(numbers):
                 return found
         if found is None:
             longest = max(high - low for low, high in box)
-            raise ValueError(f'{count} digits are {math.ceil(longest * scale):,} steps from side to side, and there is room for {2 * limit:,}')
+            steps = f'{count} digits are {math.ceil(longest * scale):,} steps from side to side, and there is room for {2 * limit:,}'
+            raise NotAShape(shape, cause=f'the shape is too wide, since {steps}')
         return found
 
     def takes(self, numbers: Iterable[Tuple[Any, int]]) -> bool:
@@ -104,6 +105,12 @@ class Frame(Units):
     def _float(self, number: Exact, axis: int) -> float:
         step, start, unit = self._axes[axis]
         return (number.numerator * step + start * number.denominator) / (unit * number.denominator)
+
+
+def exact_of(number: Any, place: int) -> Any:
+    """A number that is none but itself, of a kind that compares with others exactly."""
+    found = parts(number, place)
+    return number if isinstance(number, (int, float)) else Fraction(*found)
 
 
 def ratio(number: Given) -> Fraction:

@@ -96,7 +96,7 @@ def whole_array(given: Any, units: Units, *row: int) -> Optional[array[int]]:
 
 def position(given: Any, place: int, is_shape: bool = False) -> Tuple[Any, Any]:
     """The two numbers of a point, as they are given."""
-    if type(given) is tuple and len(given) == 2:
+    if type(given) in (tuple, list) and len(given) == 2:
         return given[0], given[1]
     shape = shape_of(given, 'Point', place=place)
     found = coordinates(shape, given, place)
@@ -132,18 +132,25 @@ def coordinates(shape: Optional[Mapping[str, Any]], given: Any, place: int = 1) 
     return found
 
 
+def geojson(given: Any, place: int = 1) -> Any:
+    """What a shape of another library says that it is, or else what was given."""
+    try:
+        return getattr(given, '__geo_interface__', given)
+    except Exception as error:  # an empty Point of Shapely has none
+        raise NotAShape(given, place, 'the shape is empty, or can not say what it is') from error
+
+
 def shape_of(given: Any, *kinds: str, place: int = 1) -> Optional[Mapping[str, Any]]:
     """A shape in GeoJSON that is of one of these kinds, or nothing where plain numbers are given. Of a feature it is the geometry."""
     if isinstance(given, (str, bytes)):
         raise NotAShape(given, place, 'a text is no shape: shapely.wkt.loads, say, reads one')
-    try:
-        shape: Any = getattr(given, '__geo_interface__', given)
-    except Exception as error:  # an empty Point of Shapely has none
-        raise NotAShape(given, place, 'the shape is empty, or can not say what it is') from error
+    shape = geojson(given, place)
     if not isinstance(shape, Mapping):
         return None
     if shape.get('type') == 'Feature':
-        shape = shape.get('geometry') or {'type': 'feature without a geometry'}
+        shape = geojson(shape.get('geometry'), place)
+        if not isinstance(shape, Mapping):
+            raise NotAShape(given, place, 'a feature without a geometry is given')
     kind = shape.get('type', 'shape without a type')
     if kind not in kinds:
         raise NotAShape(given, place, f'a {" or ".join(kinds)} is asked for, and a {kind} is given')
