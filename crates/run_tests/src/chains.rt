@@ -63,32 +63,49 @@ fn is_told<N: Ledger, R: Abort>(
     steps: &mut Steps<N>,
 ) -> Result<bool, Memory> {
     let (name, chain) = row.split_once(": ").expect(rt, "a polygon");
-    let session = session_in(rt, alloc, version, name, steps)?;
     let want = ats_of(rt, alloc, chain)?;
-    let found = told(rt, alloc, &session, &want, steps)?;
-    Ok(parts_of(alloc, &found, steps)?.as_slice() == want.as_slice())
+    let found = told_in(rt, alloc, version, name, &want, steps)?;
+    Ok(found.as_slice() == want.as_slice())
 }
 
-// A session of this version that holds the polygon with this name.
-fn session_in<N: Ledger, R: Abort>(
+// What a session of this version that holds the polygon with this name tells of the path between the ends of a list of points.
+fn told_in<N: Ledger, R: Abort>(
     rt: &R,
     alloc: Global,
     version: Version,
     name: &str,
+    ends: &[At],
     steps: &mut Steps<N>,
-) -> Result<Session, Memory> {
-    let list = polygon(rt, alloc, name)?;
-    let points = points_of(rt, alloc, &list)?;
+) -> Result<Vec<At>, Memory> {
+    let mut session = Session::new();
+    hold(rt, alloc, &mut session, version, name, steps)?;
+    told(rt, alloc, &session, ends, steps)
+}
+
+// The session is of this version and holds the polygon with this name.
+fn hold<N: Ledger, R: Abort>(
+    rt: &R,
+    alloc: Global,
+    session: &mut Session,
+    version: Version,
+    name: &str,
+    steps: &mut Steps<N>,
+) -> Result<(), Memory> {
+    let points = points_named(rt, alloc, name)?;
     assert!(rt; points.len() >= 3);
     assert!(rt; points.len() <= MAX_CORNERS);
     let mut out = Vec::new(alloc);
-    let mut session = Session::new();
     if version == Version::Two {
         session.answer(alloc, Command::Two, &mut out, steps)?;
     }
     session.answer(alloc, Command::Polygon(Points::of(points)), &mut out, steps)?;
     assert!(rt; session.version() == version);
-    Ok(session)
+    Ok(())
+}
+
+fn points_named<R: Abort>(rt: &R, alloc: Global, name: &str) -> Result<Vec<Pt>, Memory> {
+    let list = polygon(rt, alloc, name)?;
+    points_of(rt, alloc, &list)
 }
 
 // What is told of the path between the ends of a list of points.
@@ -98,7 +115,7 @@ fn told<N: Ledger, R: Abort>(
     session: &Session,
     ends: &[At],
     steps: &mut Steps<N>,
-) -> Result<Vec<Pt>, Memory> {
+) -> Result<Vec<At>, Memory> {
     let first = ends.first().expect(rt, "a start");
     let last = ends.last().expect(rt, "a goal");
     let (from, to) = (at(rt, first.0, first.1), at(rt, last.0, last.1));
@@ -106,7 +123,7 @@ fn told<N: Ledger, R: Abort>(
         Version::One => session.chain(alloc, &from, &to, steps)?,
         Version::Two => session.path(alloc, &from, &to, steps)?,
     };
-    Ok(found.ok().expect(rt, "both in the polygon"))
+    parts_of(alloc, &found.ok().expect(rt, "both in the polygon"), steps)
 }
 
 fn parts_of<N: Ledger>(

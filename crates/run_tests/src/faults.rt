@@ -1,9 +1,8 @@
 // Whole runs over torn streams: each call of the source and of the sink fails in turn, and each room is too small in turn.
 ghost use Rattle.std.specs.Prelude.{◌≡◌, ◌<◌, ◌≤◌};
 
-use crate::scripts::{Tear, run};
 use exact_plane::{Memory, Steps};
-use geo_io::{SureSink, SureSource};
+use geo_io::{MemorySink, MemorySource, SureSink, SureSource};
 use geo_run::{RunFault, geo_main, sure_sink_main, sure_source_main};
 use geo_script::answer_next;
 use geo_session::Session;
@@ -17,6 +16,40 @@ use std::test::Fail;
 const SCRIPT: &[u8] = b"polygon,0,0,4,0,4,2,2,2,2,4,0,4\npath,4,1,1,4\n";
 
 const ANSWERS: &[u8] = b"polygon,6\npath,3,4,1,2,2,1,4\n";
+
+// The number of a call that fails (none does at 0), and how many bytes a call moves at most.
+type Tear = (u64, usize);
+
+// What a run answered, what the sink took, and how much the source has left.
+#[derive(Drop)]
+struct Outcome {
+    answer: Result<(), RunFault>,
+    taken: Vec<u8>,
+    left: usize,
+}
+
+// A run over the script, with a sink of some room.
+fn run(
+    alloc: Global,
+    script: &[u8],
+    read: Tear,
+    room: usize,
+    write: Tear,
+) -> Result<Outcome, Memory>
+    requires read { 1 ≤ read.1 }
+    requires write { 1 ≤ write.1 }
+{
+    let failing = Vec::from_slice(alloc, &[read.0])?;
+    let mut source = MemorySource::new(Vec::from_slice(alloc, script)?, read.1, failing);
+    let failing = Vec::from_slice(alloc, &[write.0])?;
+    let mut sink = MemorySink::with_room(alloc, room, write.1, failing)?;
+    let answer = geo_main(alloc, &[], &mut source, &mut sink);
+    Ok(Outcome {
+        answer,
+        taken: Vec::from_slice(alloc, sink.taken())?,
+        left: source.left().len(),
+    })
+}
 
 // How a run over the script ends: the answer, how many bytes of the output were written, and how many were not read.
 type Ends = (Result<(), RunFault>, usize, usize);
@@ -32,6 +65,19 @@ fn ends(alloc: Global, read: Tear, room: usize, write: Tear, want: Ends) -> Resu
             && ended.left == want.2
             && Some(ended.taken.as_slice()) == ANSWERS.get(..want.1),
     )
+}
+
+// The second read fails, and the third write of another script.
+#[test]
+fn a_read_and_a_write_fail(rt: HostRuntime) -> Result<(), Fail> {
+    let torn = run(rt.alloc(), b"polygon,0,0", (2, 11), 100, (0, 10))?;
+    assert!(rt; torn.answer == Err(RunFault::ReadFault) && torn.left == 0);
+    assert!(rt; torn.taken.is_empty());
+    let script = b"polygon,0,0,4,0,4,2,2,2,2,4,0,4\npath,4,1,1,4\n";
+    let torn = run(rt.alloc(), script, (0, 11), 100, (3, 10))?;
+    assert!(rt; torn.answer == Err(RunFault::WriteFault) && torn.left == 0);
+    assert!(rt; torn.taken.as_slice() == b"polygon,6\npath,3,4,1".as_slice());
+    Ok(())
 }
 
 #[test]
@@ -245,12 +291,21 @@ fn ask_all<N: Ledger>(rt: &impl Abort, alloc: Global, blank: Blank) -> Result<()
 {
     let mut steps = Steps::<N>::new(blank);
     let mut session = Session::new();
+    ask_each(rt, alloc, &mut session, &mut steps)
+}
+
+fn ask_each<N: Ledger>(
+    rt: &impl Abort,
+    alloc: Global,
+    session: &mut Session,
+    steps: &mut Steps<N>,
+) -> Result<(), Memory> {
     for row in ASKED.split("\n# ").skip(1) {
         let (record, want) = row.split_once("\n").unwrap_or((row, "no answer"));
         let mut out = Vec::new(alloc);
-        if ask(alloc, &mut session, record, &mut out, &mut steps).is_err() {
+        if ask(alloc, session, record, &mut out, steps).is_err() {
             assert!(rt; out.is_empty(), "{record}");
-            ask(alloc, &mut session, record, &mut out, &mut steps)?;
+            ask(alloc, session, record, &mut out, steps)?;
         }
         assert!(rt; out.as_slice() == want.as_bytes(), "{record}");
     }

@@ -1,5 +1,5 @@
-//! Tests of whole runs, by public calls alone. They stand in a crate of their own, so that no crate that has code is proved
-//! a second time for them.
+//! Tests of runs over torn streams, of pieces of scripts and of sessions, by public calls alone. They stand in a crate of their own,
+//! so that no crate that has code is proved a second time for them.
 #![tactic(auto)]
 
 #[cfg(test)]
@@ -12,7 +12,3 @@ mod full_chains;
 mod pieces;
 #[cfg(test)]
 mod polygons;
-#[cfg(test)]
-mod scripts;
-#[cfg(test)]
-mod versions;

@@ -1,7 +1,6 @@
 // Pieces with their answers.
 ghost use Rattle.std.specs.Prelude.{◌≡◌, ◌<◌};
 
-use crate::scripts::parts;
 use exact_plane::{Memory, Steps};
 use geo_script::{Dialog, Stop};
 use std::alloc::Global;
@@ -10,9 +9,9 @@ use std::process::Abort;
 use std::sync::ledger::{Blank, Ledger};
 use std::test::Fail;
 
-// Pieces in turn, each with the answers to it, as rows of `all_answered`; the name says whether it is the first piece of a
-// new script. `geo,2` is no command in a later piece than the first with a record, and a byte order mark is dropped at the front
-// of the first piece with a byte alone.
+// Pieces in turn, each with the answers to it. A row is a line `# NAME`, the piece up to a `=`, and after a line feed the answers;
+// an empty line is before each next row. The name says whether it is the first piece of a new script. `geo,2` is no command in a
+// later piece than the first with a record, and a byte order mark is dropped at the front of the first piece with a byte alone.
 #[rattlefmt::skip]
 const PIECES: &str = "
 # a new script
@@ -238,15 +237,31 @@ fn all_pieces<N: Ledger>(rt: &impl Abort, alloc: Global, blank: Blank) -> Result
 {
     let mut steps = Steps::<N>::new(blank);
     let mut dialog = Dialog::new(alloc);
+    each_answered(rt, alloc, &mut dialog, &mut steps)
+}
+
+fn each_answered<N: Ledger>(
+    rt: &impl Abort,
+    alloc: Global,
+    dialog: &mut Dialog,
+    steps: &mut Steps<N>,
+) -> Result<(), Memory> {
     for row in PIECES.split("\n# ").skip(1) {
         let (name, piece, want) = parts(row).unwrap_or((row, "", "no answers"));
         if name == "a new script" {
-            dialog = Dialog::new(alloc);
+            *dialog = Dialog::new(alloc);
         }
-        answered(&mut dialog, alloc, piece.as_bytes(), &mut steps)?;
+        answered(dialog, alloc, piece.as_bytes(), steps)?;
         assert!(rt; dialog.text() == want.as_bytes(), "{piece}");
     }
     Ok(())
+}
+
+// The name, the piece and the answers of a row.
+fn parts(row: &str) -> Option<(&str, &str, &str)> {
+    let (name, rest) = row.split_once("\n")?;
+    let (piece, answers) = rest.split_once("=\n")?;
+    Some((name, piece, answers))
 }
 
 // The piece is answered to its end.
@@ -272,11 +287,20 @@ fn too_long<N: Ledger>(rt: &impl Abort, alloc: Global, blank: Blank) -> Result<(
 {
     let mut steps = Steps::<N>::new(blank);
     let mut dialog = Dialog::new(alloc);
-    answered(&mut dialog, alloc, b"kernel\n", &mut steps)?;
-    let longer = line_feeds(&mut dialog, alloc, 8_388_609, &mut steps)?;
+    longest_and_longer(rt, alloc, &mut dialog, &mut steps)
+}
+
+fn longest_and_longer<N: Ledger>(
+    rt: &impl Abort,
+    alloc: Global,
+    dialog: &mut Dialog,
+    steps: &mut Steps<N>,
+) -> Result<(), Memory> {
+    answered(dialog, alloc, b"kernel\n", steps)?;
+    let longer = line_feeds(dialog, alloc, 8_388_609, steps)?;
     assert!(rt; longer == Err(Stop::TooLong));
     assert!(rt; dialog.text() == b"bad,no_polygon\n".as_slice());
-    let longest = line_feeds(&mut dialog, alloc, 8_388_608, &mut steps)?;
+    let longest = line_feeds(dialog, alloc, 8_388_608, steps)?;
     assert!(rt; longest == Ok(()) && dialog.text().is_empty());
     Ok(())
 }
