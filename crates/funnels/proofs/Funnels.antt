@@ -51,7 +51,7 @@ mod NewEdge
 pub use Rattle.funnels.proofs.Funnels.NewEdge.{reaches_new}
 -- How far four points are from a line; points on one line, and a point of the line between the ends of a segment.
 mod OnOneLine
-pub use Rattle.funnels.proofs.Funnels.OnOneLine.{four_on_line, in_proportion, straight_on_line}
+pub use Rattle.funnels.proofs.Funnels.OnOneLine.{in_proportion, straight_on_line}
 -- The funnel of the diagonal from a point beyond to the right end: the point, and the points from the place that it is reached from.
 mod FunnelLeft
 pub use Rattle.funnels.proofs.Funnels.FunnelLeft.{funnel_left}

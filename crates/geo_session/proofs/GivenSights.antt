@@ -5,6 +5,7 @@ use Rattle.std.proofs.lemmas.List.Elements.{Contains-get_or}
 use Rattle.std.proofs.lemmas.List.Sorted.{Contains-permutation, IsPermutation-sym}
 use Rattle.std.specs.List.{Contains}
 use Rattle.std.specs.Prelude.{IsPermutation, IsSorted}
+use Rattle.plane.specs.Pairs.{IsPairBefore, pair_at}
 use Rattle.plane.specs.Point.{Point, Triple, whole}
 use Rattle.rings.proofs.Inside.{sees_turned_iff}
 use Rattle.rings.specs.Orientation.{turned_round}
@@ -12,7 +13,7 @@ use Rattle.rings.specs.Ring.{vertex}
 use Rattle.rings.specs.Sees.{Sees}
 use Rattle.hulls.proofs.Joined.{sees_back}
 use Rattle.ring_check.specs.Oriented.{Oriented, given_index, given_of}
-use Rattle.pair_cut.specs.Pairs.{AreSights, IsPairBefore, IsSight, pair_at}
+use Rattle.pair_cut.specs.Pairs.{AreSights, IsSight}
 use Rattle.geo_session.proofs.AskedVertices.{length_given}
 use Rattle.geo_session.proofs.GivenNumbers.{given_below, given_twice, vertex_back, vertex_there}
 use Rattle.geo_session.proofs.SortedPairs.{pair_cmp, pairs_in_order}

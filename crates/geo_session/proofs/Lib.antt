@@ -31,7 +31,6 @@ mod OneVerdict
 mod OneShown
 mod OneView
 mod OneHull
-mod OneRound
 mod OneNumbers
 mod OneReply
 mod OneAnswer

@@ -2,12 +2,13 @@
 -- cites it. This project's own.
 use Rattle.std.specs.List.{Contains}
 use Rattle.std.specs.Prelude.{◌≡◌, ◌≢◌, ◌⊎◌, ℕ, ◌+◌, ◌*◌, ◌^◌, ◌<◌, ◌≤◌, List, length, slice_index}
+use Rattle.plane.specs.Pairs.{IsPairBefore, pair_at}
 use Rattle.plane.specs.Point.{Point, whole}
 use Rattle.plane.specs.Segment.{On}
 use Rattle.rings.specs.Chain.{point_at}
 use Rattle.exact_plane.specs.declared.direction.Direction.TheVariants.{Left}
 use Rattle.rel_hull.specs.PathTurn.{IsPathTurn, IsStepping}
-use Rattle.rel_hull.specs.Table.{IsPairBefore, Table, chain_at, pair_at, points_of}
+use Rattle.rel_hull.specs.Table.{Table, chain_at, points_of}
 
 -- what holds of every table: each chain begins at its point, and steps to another point at each place
 pub record KeepsChains (table : Table) : Type 0 where

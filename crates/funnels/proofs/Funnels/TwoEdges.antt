@@ -1,10 +1,11 @@
 -- Two edges at a common point, and a point that is not above the diagonal: where it is left of the outer one alone, or right of it.
 use Rattle.std.proofs.Common.{◌≡◌, pos, ◌≤ℤ◌}
 use Rattle.integer_algebra.proofs.SignSteps.{at_most_unless, turned_negative, turned_not_negative, weak, weak_order}
-use Rattle.plane.proofs.Turns.{determinant_swap_first, four_triples_in_W}
+use Rattle.plane.proofs.Regions.{four_beside}
+use Rattle.plane.proofs.Turns.{determinant_swap_first}
 use Rattle.plane.specs.Point.{IsPoint, Point, Triple, whole}
 use Rattle.plane.specs.Turn.{IsLeft, IsRight, determinant}
-use Rattle.funnels.proofs.Funnels.OnOneLine.{areas_with, four_on_line}
+use Rattle.funnels.proofs.Funnels.OnOneLine.{areas_with}
 use Rattle.funnels.proofs.Funnels.TestSigns.{level_at_apex, level_left, level_right, not_beside_all}
 use Rattle.funnels.specs.Funnel.{height}
 
@@ -16,7 +17,7 @@ module _ (p o q l r : Point) (y : Triple) (at_y : IsPoint y) (above : pos 0 ≤�
   outer_left turn first second not_left left =
       level_left (determinant (whole o) (whole q) y) (determinant (whole p) (whole q) y) (determinant (whole p) (whole o) y)
       (determinant (whole p) (whole o) (whole q)) y.W (height l r (whole p)) (height l r (whole o)) (height l r (whole q)) (height l r y)
-      (four_on_line (whole r) (whole l) (whole p) (whole o) (whole q) y) (areas_with p o q y) at_y above low
+      (four_beside (whole p) (whole o) (whole q) y (whole r) (whole l)) (areas_with p o q y) at_y above low
       (weak left) (at_most_unless not_left) turn first second
 
   -- of two right edges it is right of the outer alone only there,
@@ -26,7 +27,7 @@ module _ (p o q l r : Point) (y : Triple) (at_y : IsPoint y) (above : pos 0 ≤�
   outer_right turn first second not_right right =
       level_right (determinant (whole o) (whole q) y) (determinant (whole p) (whole q) y) (determinant (whole p) (whole o) y)
       (determinant (whole p) (whole o) (whole q)) y.W (height l r (whole p)) (height l r (whole o)) (height l r (whole q)) (height l r y)
-      (four_on_line (whole r) (whole l) (whole p) (whole o) (whole q) y) (areas_with p o q y) at_y above low
+      (four_beside (whole p) (whole o) (whole q) y (whole r) (whole l)) (areas_with p o q y) at_y above low
       (weak_order right) not_right turn first second
 
   module _ (opening : ¬ IsLeft (whole o) (whole p) (whole q)) (left : IsLeft (whole o) (whole p) y) (right : IsRight (whole o) (whole q) y) where
@@ -36,7 +37,7 @@ module _ (p o q l r : Point) (y : Triple) (at_y : IsPoint y) (above : pos 0 ≤�
     level_between first second =
         level_at_apex (determinant (whole o) (whole q) y) (determinant (whole p) (whole q) y) (determinant (whole p) (whole o) y)
         (determinant (whole p) (whole o) (whole q)) y.W (height l r (whole p)) (height l r (whole o)) (height l r (whole q)) (height l r y)
-        (four_on_line (whole r) (whole l) (whole p) (whole o) (whole q) y) (areas_with p o q y) at_y above low right
+        (four_beside (whole p) (whole o) (whole q) y (whole r) (whole l)) (areas_with p o q y) at_y above low right
         (weak_order (turned_negative (determinant_swap_first (whole o) (whole p) y) left))
         (turned_not_negative (determinant_swap_first (whole o) (whole p) (whole q)) (at_most_unless opening)) first second
 
@@ -45,7 +46,7 @@ module _ (p o q l r : Point) (y : Triple) (at_y : IsPoint y) (above : pos 0 ≤�
     not_ends is_l is_r =
         not_beside_all (determinant (whole o) (whole q) y) (determinant (whole p) (whole q) y) (determinant (whole p) (whole o) y)
         (determinant (whole p) (whole o) (whole q)) y.W (height l r (whole p)) (height l r (whole o)) (height l r (whole q)) (height l r y)
-        (four_on_line (whole r) (whole l) (whole p) (whole o) (whole q) y) (areas_with p o q y) at_y right
+        (four_beside (whole p) (whole o) (whole q) y (whole r) (whole l)) (areas_with p o q y) at_y right
         (weak_order (turned_negative (determinant_swap_first (whole o) (whole p) y) left))
         (turned_not_negative (determinant_swap_first (whole o) (whole p) (whole q)) (at_most_unless opening))
         (rw (is_l, is_r) (turned_not_negative (determinant_swap_first (whole r) (whole l) y) low))

@@ -9,18 +9,14 @@ use Rattle.rings.specs.Ring.{origin}
 use Rattle.rings.specs.Simple.{IsSimple}
 use Rattle.meshes.specs.Fits.{Fits}
 use Rattle.meshes.specs.declared.tri.Tri.{Tri}
-use Rattle.funnels.proofs.Chains.{bent_from_apex}
+use Rattle.funnels.proofs.Chains.{one_bent}
 use Rattle.funnels.proofs.OneChain.{bent_is_path}
 use Rattle.funnels.proofs.Trees.Ways.{first_stays}
 use Rattle.funnels.proofs.Vertices.{fitted_long, fitted_simple}
 
--- a point of a ring alone is a chain with bends,
-pub bent_of_one : (ring : List Point) (s : Point) → IsIn ring (whole s) → IsBentChain ring (s ∷ [])
-bent_of_one ring s inside = (bent_from_apex ring (s ∷ []) 0 (omega arith) (omega arith) inside).chain
-
 -- and in a simple ring the path from it to itself
 pub path_of_one : (ring : List Point) → 3 ≤ length ring → IsSimple ring → (s : Point) → IsIn ring (whole s) → IsPath ring s s (s ∷ [])
-path_of_one ring some simple s inside = bent_is_path ring some simple (s ∷ []) (bent_of_one ring s inside) s s refl refl
+path_of_one ring some simple s inside = bent_is_path ring some simple (s ∷ []) (one_bent ring s inside) s s refl refl
 
 module _ (corners : List Point) (tris : List Tri) (fits : Fits corners tris) where
   -- a chain with bends is the path,

@@ -11,8 +11,8 @@ use Rattle.meshes.specs.Fits.{Fits, IsInTri}
 use Rattle.meshes.specs.Side.{HasSide, tri_at}
 use Rattle.meshes.specs.declared.tri.Tri.{Tri}
 use Rattle.funnels.proofs.Bends.{chain_more, last_end_in}
-use Rattle.funnels.proofs.Chains.{chain_on, chain_to, corner_differs, reached_bends, sees_reached}
-use Rattle.funnels.proofs.Trees.BentPaths.{before_of_bent, bent_of_one, path_of_way}
+use Rattle.funnels.proofs.Chains.{chain_on, chain_to, corner_differs, one_bent, reached_bends, sees_reached}
+use Rattle.funnels.proofs.Trees.BentPaths.{before_of_bent, path_of_way}
 use Rattle.funnels.proofs.Trees.Ways.{first_stays, way_begins, way_to}
 use Rattle.funnels.proofs.Vertices.{IsSharedSide}
 use Rattle.funnels.specs.Funnel.{IsReachedFrom}
@@ -23,7 +23,7 @@ module _ (corners : List Point) (tris : List Tri) (fits : Fits corners tris) (k 
   pub before_at_home : (s y : Point) → IsInTri corners (tri_at tris k) (whole s) → IsInTri corners (tri_at tris k) (whole y)
       → ¬ (s ≡ y) → IsBefore corners s y s
   before_at_home s y in_s in_y differ =
-      let alone = bent_of_one corners s (triangle_in_ring corners tris fits k within (whole s) (whole_is_point s) in_s) in
+      let alone = one_bent corners s (triangle_in_ring corners tris fits k within (whole s) (whole_is_point s) in_s) in
       before_of_bent corners tris fits [] s s y
       (chain_more (s ∷ []) s y refl corners alone
       (sees_in_triangle corners tris fits k within (whole s) (whole y) (whole_is_point s) (whole_is_point y) in_s in_y)

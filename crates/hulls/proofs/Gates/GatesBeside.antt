@@ -2,7 +2,7 @@
 use Rattle.std.proofs.Common.{◌≡◌, inl, inr, sym, subst, List, length, ℕ, ◌+◌, ◌-◌, ◌<◌, ◌≤◌, ℤ, pos, ◌<ℤ◌, ◌≤ℤ◌, arith}
 use Rattle.std.proofs.lemmas.Bool.{cases_lt}
 use Rattle.std.proofs.lemmas.Int.{ints}
-use Rattle.integer_algebra.proofs.SignSteps.{not_both_positive, positive_not_negative}
+use Rattle.integer_algebra.proofs.SignSteps.{not_both_positive, positive_not_negative, zero_of_neither}
 use Rattle.integer_algebra.proofs.Signs.{lt_or_le}
 use Rattle.plane.proofs.Points.{whole_is_point}
 use Rattle.plane.specs.Point.{IsPoint, Point, Triple, whole}
@@ -16,10 +16,6 @@ use Rattle.funnels.specs.Funnel.{IsFunnel, IsPassed, IsReachedFrom, height}
 use Rattle.hulls.proofs.Gates.FlatEdges.{not_passed_along, passed_along}
 use Rattle.hulls.proofs.Gates.PartedByEdges.{end_not_left, ends_right, first_on_line, left_end_not_left, right_end_not_left, second_on_line}
 use Rattle.hulls.proofs.Gates.PastDiagonals.{IsPastDiagonal, past_not_above, past_on_line}
-
--- a number between 0 and 0 is 0,
-zero_of_low : {z : ℤ} → pos 0 ≤ℤ z → z ≤ℤ pos 0 → z ≡ pos 0
-zero_of_low h k = omega (arith, ints)
 
 -- and what is not positive is below a positive number, and what is negative below one that is not
 apart_left : {d e : ℤ} → pos 0 <ℤ d → ¬ (pos 0 <ℤ e) → e <ℤ d
@@ -49,8 +45,8 @@ module _ (ns : List Point) (a : ℕ) (l r : Point) (f : IsFunnel ns a l r) (x y 
   -- a place on the way from x to y is on the line of the diagonal
   flat_on : (i : ℕ) → i < length ns → On (whole (point_at ns i)) x y → IsFlat ns l r i
   flat_on i within on =
-      zero_of_low (not_negative ns a l r f i within)
-      (not_left_between (whole r) (whole l) (whole (point_at ns i)) x y (whole_is_point (point_at ns i)) at_x at_y low_x low_y on)
+      zero_of_neither (not_left_between (whole r) (whole l) (whole (point_at ns i)) x y (whole_is_point (point_at ns i)) at_x at_y low_x low_y on)
+      (not_negative ns a l r f i within)
 
   module _ (off_j : j < a → ¬ On (whole (point_at ns j)) x y) (off_k : a < k → ¬ On (whole (point_at ns k)) x y)
       (i : ℕ) (after : j ≤ i) (before : i < k) where
@@ -81,7 +77,7 @@ module _ (ns : List Point) (a : ℕ) (l r : Point) (f : IsFunnel ns a l r) (x y 
                 end_not_left p q l r x y at_x at_y (positive_not_negative x_left) y_not_left low_x low_y (apart_left x_left y_not_left) above
                 (not_negative ns a l r f i (omega arith)) (lower_left ns a l r f i on_left)
             | inr low ↦
-                let flat = zero_of_low (not_negative ns a l r f (i + 1) (omega arith)) low in
+                let flat = zero_of_neither low (not_negative ns a l r f (i + 1) (omega arith)) in
                 elim (cases_lt (i + 1) a) [
                   | inl inner ↦ absurd (not_passed_first i after (omega arith) (passed_along ns a l r f i x low_x inner flat))
                   | inr top ↦
@@ -136,7 +132,7 @@ module _ (ns : List Point) (a : ℕ) (l r : Point) (f : IsFunnel ns a l r) (x y 
                 (apart_right x_not_right y_right) above (not_negative ns a l r f (i + 1) (omega arith))
                 (lower_right ns a l r f i on_right (omega arith))
             | inr low ↦
-                let flat = zero_of_low (not_negative ns a l r f i (omega arith)) low in
+                let flat = zero_of_neither low (not_negative ns a l r f i (omega arith)) in
                 elim (cases_lt a i) [
                   | inl inner ↦
                       let same : i ≡ i - 1 + 1 = omega arith in

@@ -1,10 +1,10 @@
 -- The last point seen from a base is not inner, and is a base.
 use Rattle.std.proofs.Common.{◌≢◌, inl, inr, sym, subst, ap, ◌∙◌, ℕ, ◌<◌, ◌≤◌, List, length}
+use Rattle.plane.proofs.Order.{point_or_other}
 use Rattle.plane.specs.Point.{Point, whole}
 use Rattle.rings.specs.Chain.{point_at}
 use Rattle.rings.specs.Inside.{IsIn}
 use Rattle.rings.specs.Simple.{IsSimple}
-use Rattle.funnels.proofs.Touched.{point_cases}
 use Rattle.hulls.proofs.Joined.{joined_of_on_path, on_path_of_joined}
 use Rattle.hulls.proofs.Order.{IsLeftOn, ahead_of_left}
 use Rattle.hulls.proofs.Outer.Bases.{IsBase, IsLastSeen, IsOther, points_differ, step_of_way, way_to}
@@ -70,7 +70,7 @@ module _ (ring : List Point) (some : 3 ≤ length ring) (simple : IsSimple ring)
 
   -- on the ray of the first step to the base, or to the left of it
   starts : (u : ℕ) → IsOther points z u → (f : Point) → IsFirstStep ring z (point_at points u) f → IsLeftOn z e f
-  starts u is f step_too = elim (point_cases (point_at points u) x) [
+  starts u is f step_too = elim (point_or_other (point_at points u) x) [
     | inl same ↦ inr (starts_there ring some simple z x (point_at points u) e f step step_too same)
     | inr other ↦
         let differ = other_number u is.1 in
@@ -116,11 +116,11 @@ module _ (ring : List Point) (some : 3 ≤ length ring) (simple : IsSimple ring)
       let c = inner.a in
       let d = inner.b in
       let apart = points_differ points distinct c d inner.a_in_list inner.b_in_list inner.different in
-      elim (point_cases (point_at points c) x) [
+      elim (point_or_other (point_at points c) x) [
         | inl same ↦
             not_before d (inner.b_in_list, λ same_too. apart (same ∙ sym same_too)) inner.not_b
             (subst (λ p. IsOnPath ring p (point_at points d) z) same inner.passes)
-        | inr other ↦ elim (point_cases (point_at points d) x) [
+        | inr other ↦ elim (point_or_other (point_at points d) x) [
           | inl same ↦
               not_before c (inner.a_in_list, other) inner.not_a
               (on_path_back ring some simple (point_at points c) x z (subst (λ p. IsOnPath ring (point_at points c) p z) same inner.passes))

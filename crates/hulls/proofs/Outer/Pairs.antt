@@ -1,9 +1,9 @@
 -- The last point seen from the least point, and the last one seen from that, are an outer pair.
 use Rattle.std.proofs.Common.{◌≢◌, inl, inr, sym, ◌∙◌, ℕ, ◌<◌, ◌≤◌, List, length, arith}
+use Rattle.plane.proofs.Order.{point_or_other}
 use Rattle.plane.specs.Point.{Point}
 use Rattle.rings.specs.Chain.{point_at}
 use Rattle.rings.specs.Simple.{IsSimple}
-use Rattle.funnels.proofs.Touched.{point_cases}
 use Rattle.hulls.proofs.Outer.Bases.{IsBase, IsLastSeen, IsOther, last_seen, points_differ, way_to}
 use Rattle.hulls.proofs.Outer.LeastBases.{least_base}
 use Rattle.hulls.proofs.Outer.LeastPoints.{least_point}
@@ -16,7 +16,7 @@ use Rattle.hulls.specs.Turning.{IsToLeft}
 
 -- of two different points one is another than x
 one_differs : (points : List Point) → 2 ≤ length points → AreDistinct points → (x : Point) → (u : ℕ) × IsOther points x u
-one_differs points two distinct x = elim (point_cases (point_at points 0) x) [
+one_differs points two distinct x = elim (point_or_other (point_at points 0) x) [
   | inr differ ↦ (0, (omega (arith, two), differ))
   | inl same ↦
       let apart = points_differ points distinct 0 1 (omega (arith, two)) (omega (arith, two)) (λ e. omega (arith, e)) in
