@@ -11,4 +11,4 @@ mod PathFronts
 pub use Rattle.funnels.proofs.Trees.PathFronts.{before_differs, front_is_path, path_differs, path_goes_on}
 -- Paths within one triangle; and beyond a diagonal: the path to the point of the funnel from which a point is reached, and on.
 mod ReachedPaths
-pub use Rattle.funnels.proofs.Trees.ReachedPaths.{before_at_home, before_corner, before_reached, path_reached}
+pub use Rattle.funnels.proofs.Trees.ReachedPaths.{before_at_home, before_corner, before_reached}

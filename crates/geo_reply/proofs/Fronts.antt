@@ -48,10 +48,6 @@ pub ok_since : {T E P : Type 0} (r : Result T E) → P → OnOk r P
 ok_since (Ok x) h = h
 ok_since (Err e) h = tt
 
-pub front_same_under : {T E : Type 0} (r : Result T E) (old out : List ℕ) → OnErr r (out ≡ old) → OnErr r (take (length old) out ≡ old)
-front_same_under (Ok x) old out same = tt
-front_same_under (Err e) old out same = ap (take (length old)) same ∙ take-length old
-
 -- nothing is asked of the value where there is none
 pub none_of_err : {T E : Type 0} (P : T → Type 0) (r : Result T E) → IsErr r → IfOk r P
 none_of_err P (Ok x) fault = absurd cc

@@ -9,7 +9,7 @@ use Rattle.geo_session.specs.State.{State, first_state}
 use Rattle.geo_session.specs.Output.{AreAnswers, AreFirstAnswers}
 use Rattle.geo_script.proofs.NextRecord.{first_and_one, no_first, none_answered, one_more}
 use Rattle.geo_script.specs.Answered.{AnswersRecord, version_of}
-use Rattle.geo_script.specs.Dialog.{AnswersPiece, AnswersRecords, AnswersSome, IsTalkOf, Talk, first_talk, is_some, records_in, version_with}
+use Rattle.geo_script.specs.Dialog.{AnswersPiece, AnswersRecords, IsTalkOf, Talk, first_talk, is_some, records_in, version_with}
 use Rattle.geo_script.specs.Progress.{PieceSoFar, part_of}
 
 -- a record was answered
@@ -86,16 +86,6 @@ module _ (before : Talk) (piece : List ℕ) (script : Unread) (begun known : Boo
   first_answered : (begun' : Bool) → AnswersRecords (version_with before (records_in before piece)) before done.answered.first
       (record { begun = begun'; known = known; state = state; text = text })
   first_answered begun' = record { answers = rw (sym (version_is before piece)) done.answered.answers; known = done.known }
-
-  -- the first records of the piece are answered
-  pub some_answered : (state' : State) (text' : List ℕ) → state' ≡ state → text' ≡ text
-      → AnswersSome before piece (record { begun = begun; known = known; state = state'; text = text' })
-  some_answered state' text' same_state same_text = rw (same_state, same_text) (record {
-    first = done.answered.first;
-    rest = script.left;
-    records = done.answered.records;
-    answered = first_answered begun;
-    begun = done.begun;
   })
 
   -- all of them are

@@ -35,12 +35,6 @@ each_push P xs x d n count each next k below = elim (cases_lt k n) [
 -- ---- the first numbers
 
 module _ (points : List Point) where
-  pub no_firsts : AreFirstsBelow points 0 []
-  no_firsts = record {
-    rising = λ k l h below. absurd (omega (arith, below));
-    first = λ i. (λ inside. let h = inside.1 in absurd (omega arith), λ h. let less = h.0 in absurd (omega arith));
-  }
-
   module _ (n : ℕ) (numbers : List ℕ) (are : AreFirstsBelow points n numbers) where
     -- the next point is a first one,
     pub firsts_more : ¬ IsRepeated points n → AreFirstsBelow points (n + 1) (numbers ++ n ∷ [])

@@ -9,7 +9,7 @@ mod Sides
 mod Weighing
 -- Corners read from another one on: they are convex as before, and have the same region.
 mod Turned
-pub use Rattle.plane.proofs.Regions.Turned.{convex_turned, length_turned, region_turned}
+pub use Rattle.plane.proofs.Regions.Turned.{convex_turned, region_turned}
 -- A point of a region is a mean of corners: in three corners or more, of the first and two neighbours.
 mod Fans
 pub use Rattle.plane.proofs.Regions.Fans.{four_beside, region_not_right, region_right}

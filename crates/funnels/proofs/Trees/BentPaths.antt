@@ -25,13 +25,6 @@ module _ (corners : List Point) (tris : List Tri) (fits : Fits corners tris) whe
   path_of_bent = bent_is_path corners (fitted_long corners tris fits) (fitted_simple corners tris fits)
 
   module _ (way : List Point) (s : Point) where
-    -- where its last point follows others,
-    pub path_of_way : (t : Point) → IsBentChain corners (way ++ t ∷ []) → point_at (way ++ t ∷ []) 0 ≡ s
-        → IsPath corners s t (way ++ t ∷ [])
-    path_of_way t bent first =
-        path_of_bent (way ++ t ∷ []) bent s t first
-        (get_or_push way t origin (length (way ++ t ∷ []) - 1) (omega (arith, length-append way (t ∷ []))))
-
     -- and the last but one is before the last
     pub before_of_bent : (q y : Point) → IsBentChain corners (way ++ q ∷ y ∷ []) → point_at (way ++ q ∷ []) 0 ≡ s
         → IsBefore corners s y q

@@ -6,6 +6,7 @@ use Rattle.plane.specs.Point.{Point, whole}
 use Rattle.rings.specs.Chain.{IsPath, point_at}
 use Rattle.rings.specs.Inside.{IsIn}
 use Rattle.rings.specs.Simple.{IsSimple}
+use Rattle.hulls.proofs.Entrances.{paths}
 use Rattle.hulls.proofs.Joined.{path_is_taut}
 use Rattle.hulls.proofs.Order.{AreAhead}
 use Rattle.hulls.proofs.Outer.Lasts.{IsLast, last_of_some}
@@ -13,7 +14,6 @@ use Rattle.hulls.proofs.Outer.Seen.{ComesAfter, HasWay, after_follows, one_comes
 use Rattle.hulls.proofs.Third.{step_of_list}
 use Rattle.hulls.specs.Inner.{AreAllIn, AreDistinct}
 use Rattle.hulls.specs.Joined.{IsFirstStep, IsOnPath}
-use Rattle.hulls.specs.Laws.{PathsLaw}
 
 -- ---- points of a list
 
@@ -62,7 +62,7 @@ pub step_of_way : (ring : List Point) (x y : Point) (way : List Point) → IsPat
 step_of_way ring x y [] is differ = absurd (differ (path_is_taut ring x y (x ∷ []) is).last)
 step_of_way ring x y (p ∷ rest) is differ = step_of_list ring x y p rest is
 
-module _ (ring : List Point) (some : 3 ≤ length ring) (simple : IsSimple ring) (paths : PathsLaw) (points : List Point)
+module _ (ring : List Point) (some : 3 ≤ length ring) (simple : IsSimple ring) (points : List Point)
     (distinct : AreDistinct points) (all_in : AreAllIn ring points) where
   -- there is a path to each point of the list
   pub way_to : (x : Point) → IsIn ring (whole x) → (u : ℕ) → u < length points → HasWay ring x (point_at points u)

@@ -1,10 +1,8 @@
 -- Points have one round.
 use Rattle.std.proofs.Common.{◌≡◌, inl, inr, refl, sym, ◌∙◌, ℕ, ◌≤◌, List, [], length, arith}
 use Rattle.std.proofs.lemmas.Bool.{cases_lt}
-use Rattle.hulls.proofs.Entrances.{paths}
 use Rattle.hulls.proofs.Outer.{inner_or_not, outer_pair}
 use Rattle.hulls.proofs.Round.{IsRoundBy, same_rounds}
-use Rattle.hulls.proofs.StepsSeen.{steps}
 use Rattle.hulls.specs.Inner.{AreAllIn, AreDistinct, IsInnerPoint}
 use Rattle.plane.specs.Point.{Point}
 use Rattle.rel_hull.proofs.Outer.{some_others}
@@ -41,7 +39,7 @@ module _ (ring : List Point) (some : 3 ≤ length ring) (simple : IsSimple ring)
   some_closed : 2 ≤ length points → (round : List ℕ) × IsClosed ring points round
   some_closed two =
       let (outer, are) = some_others (IsInnerPoint ring points) (inner_or_not ring some simple points distinct all_in) (length points) in
-      let (s, t, pair) = outer_pair paths steps ring some simple points two distinct all_in in
+      let (s, t, pair) = outer_pair ring some simple points two distinct all_in in
       let (i, j, at_s, at_t, side) = places_of_pair ring points outer are s t pair in
       let (round, from) = round_from_least (length outer) (IsLeftAt ring points outer)
       (are_turning ring points outer are some simple distinct all_in) i j side in
