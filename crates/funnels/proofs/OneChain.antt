@@ -20,4 +20,4 @@ mod OneChains
 pub use Rattle.funnels.proofs.OneChain.OneChains.{no_closed_chain, one_bent_chain}
 -- In a simple ring a taut chain is the path between its ends, and a chain with bends is taut.
 mod Paths
-pub use Rattle.funnels.proofs.OneChain.Paths.{bent_is_path, one_taut_chain, taut_iff_bent}
+pub use Rattle.funnels.proofs.OneChain.Paths.{bent_is_path, one_before, one_taut_chain, taut_iff_bent}

@@ -2,7 +2,6 @@ mod Within
 mod GivenPath
 mod GivenSize
 mod GivenTree
-mod GivenNumbers
 mod GivenFull
 mod GivenView
 mod GivenKernel

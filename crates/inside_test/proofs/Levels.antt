@@ -91,10 +91,6 @@ level_is part w f g small_part small_w small_f small_g below opposite =
 
 -- ---- points
 
--- a coordinate passes through a register
-pub coordinate_read : (z : ℤ) → IsInLimit z → read z ≡ z
-coordinate_read z small = to_z-of_z w64 z (omega (arith, ints, small))
-
 -- equal coordinates make the same point
 pub same_from : (v : Point) (p : Triple) → v.x *ℤ p.W ≡ p.X → v.y *ℤ p.W ≡ p.Y → IsSame (whole v) p
 same_from v p across height = record { same_x = omega (arith, ints, across); same_y = omega (arith, ints, height) }
