@@ -1,16 +1,13 @@
 -- Fans of triangles at a vertex, and the bends that they make.
 
--- A bend at a vertex grows where its last ray turns on, over no neighbour.
 mod GrownTurnings
 -- Signs that follow from the relation of four directions, over plain integers: ab is positive where b is left of a.
 mod FanSigns
 pub use Rattle.funnels.proofs.Bends.FanSigns.{Relation, negative_unless, right_of_third}
--- A fan at a vertex of a ring: one begins within a step, and one more step makes it longer.
 mod FannedSteps
 -- A triangle of a mesh at one of its corners: its points are in the angle there, and the corner sees them.
 mod CornerSights
 pub use Rattle.funnels.proofs.Bends.CornerSights.{first_end_in, in_angle, last_end_in}
--- At a vertex of a simple ring that is not reflex, directions toward which the ring is open turn by a half turn at most.
 mod NarrowFans
 -- The two neighbours of a vertex in a simple ring are on two rays from it.
 mod TwoRays
@@ -26,8 +23,7 @@ mod WiderBends
 pub use Rattle.funnels.proofs.Bends.WiderBends.{wider_bend}
 -- A triangle of a mesh at one of its corners, seen from either side: its mirror image, how its sides turn, and which ways no ring neighbour goes.
 mod CornerTurns
-pub use Rattle.funnels.proofs.Bends.CornerTurns.{corner_back, corner_in_ring, corner_turns, in_piece, neighbour_differs, not_inside}
-pub use Rattle.funnels.proofs.Bends.CornerTurns.{not_swept}
+pub use Rattle.funnels.proofs.Bends.CornerTurns.{corner_back, corner_in_ring, corner_turns, in_piece, neighbour_differs, not_inside, not_swept}
 pub use Rattle.funnels.proofs.Bends.CornerTurns.{on_after, on_before, within_back}
 -- Bends by the turning on one side of their vertex: the neighbours in the ring are not ahead of the one ray, nor behind the other.
 mod BendTurnings
@@ -37,13 +33,9 @@ mod Turnings
 pub use Rattle.funnels.proofs.Bends.Turnings.{not_ahead_of_itself, turning_along, turning_four, turning_not, turning_swap}
 -- Directions in line with each other, seen from a vertex on either side: of two different lines only the vertex is on both, and what is to one side of a line is on one ray.
 mod InLine
-pub use Rattle.funnels.proofs.Bends.InLine.{level_is_vertex, ray_ahead, ray_behind, turning_differs, turning_differs_first}
-pub use Rattle.funnels.proofs.Bends.InLine.{turning_straight}
--- The cone that a fan leaves: where it turns by more than a half turn, all neighbours are in the closed angle from its end to its start.
+pub use Rattle.funnels.proofs.Bends.InLine.{level_is_vertex, ray_ahead, ray_behind, turning_differs, turning_differs_first, turning_straight}
 mod FanCones
--- Fans: longer ones, what their steps keep, and that they turn.
 mod Fans
--- Directions of one closed half-plane turn by a half turn at most.
 mod HalfPlaneTurns
 -- Fans of the triangles of a mesh at one of their corners, on either side: one begins in a triangle, goes on over one, and has a last step in one.
 mod TriangleFans
@@ -51,7 +43,6 @@ pub use Rattle.funnels.proofs.Bends.TriangleFans.{fan_begins, fan_begins_in, fan
 -- A bend at a corner of a mesh, with a shared side on its last ray, grows over the triangle beyond the side, and turns the same way.
 mod GrownBends
 pub use Rattle.funnels.proofs.Bends.GrownBends.{grown_bend, grown_turning}
--- Parts of the steps of a fan: from a direction within a step to its end, and from its start to a direction within it.
 mod PartialSteps
 -- A chain with bends goes on to one more point that its last point sees.
 mod LongerChains

@@ -21,7 +21,6 @@ pub use Rattle.funnels.proofs.Corners.CornerNeighbours.{neighbour_within}
 -- A vertex of the ring in a closed triangle of a mesh is a corner of it.
 mod CornerPoints
 pub use Rattle.funnels.proofs.Corners.CornerPoints.{IsCorner, at_corner, begin_is_corner, corner_of, end_is_corner}
--- The closed cone between two rays within the angle of a triangle is within it.
 mod WithinCones
 -- There is no bend between two rays within the angle of a triangle of a mesh: the ring turns there as the triangle does.
 mod NoBendInTriangle

@@ -1,6 +1,5 @@
 -- A chain with bends along a walk: its inner points are corners there, in order.
 
--- In a tree a walk, and another one from its end that does not turn back, make one walk.
 mod JoinedWalks
 -- Parts of a walk over triangles, and the first of its triangles with a point.
 mod WalkParts
@@ -15,14 +14,11 @@ pub use Rattle.funnels.proofs.DeadEnds.CrossedSides.{opposite_side, some_crossed
 -- The ray from a corner of a triangle of a walk to a point in sight in an earlier triangle is in the angle there, where none before has the corner.
 mod WithinCorners
 pub use Rattle.funnels.proofs.DeadEnds.WithinCorners.{within_before}
--- A walk to where a chain goes after a bend begins with the walk to the bend, and goes on over a side there.
 mod PassedCorners
--- How a way comes to a corner of a triangle at the end of a walk, and how one leaves it at the start of a walk.
 mod CornersReached
 -- The bends of a chain, and walks to them.
 mod ChainBends
 pub use Rattle.funnels.proofs.DeadEnds.ChainBends.{front_to, some_triangle}
--- The first points of a chain along a walk of triangles, and one more.
 mod ChainPlaces
 -- A chain with bends follows each walk of triangles from a triangle with its first point to one with its last: it enters no dead end.
 mod DeadEnds

@@ -18,7 +18,6 @@ mod ThreePoints
 pub use Rattle.funnels.proofs.Funnels.ThreePoints.{by_points, turns_left, turns_right}
 -- The signs behind the test of the edges of a funnel: three points, and one beyond a line that is not above them.
 mod TestSigns
--- Between two points that are not left of a line no point is left of it; and none is right of it between two that are not.
 mod SidesBetween
 -- The two edges at the apex of a funnel: no point beyond the diagonal is to the left of the left one and to the right of the right one.
 mod EdgesAtApex
@@ -28,7 +27,6 @@ pub use Rattle.funnels.proofs.Funnels.NextWindows.{old_window_left, old_window_r
 -- The edges of the next funnel by their numbers: old ones of the last funnel, and a new one to m.
 mod NextEdges
 pub use Rattle.funnels.proofs.Funnels.NextEdges.{left_place, new_edge_left, new_edge_right, old_edge_left, old_edge_right}
--- A way from a point left of a line to one right of it crosses the line; weights of the points of a line.
 mod LineCrossed
 -- How high the points of a funnel are over the diagonal: they fall along each chain from the apex, and none is beyond.
 mod Heights
@@ -57,7 +55,6 @@ mod FunnelLeft
 pub use Rattle.funnels.proofs.Funnels.FunnelLeft.{funnel_left}
 -- Two edges of a funnel at a common point, and a point beyond the diagonal: to which sides of them it is.
 mod TwoEdges
--- A point on the line of a diagonal: on which sides of the ways from it to the ends the points beyond the diagonal are.
 mod LineOfDiagonal
 -- The edges of a funnel at its places, and the window of the place from which a point is reached.
 mod FunnelEdges

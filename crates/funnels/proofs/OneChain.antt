@@ -9,11 +9,8 @@ pub use Rattle.funnels.proofs.OneChain.RayBends.{bend_back, bend_from_ray, bend_
 -- The front of a chain with bends, and a chain with bends whose last step is shorter.
 mod ShorterSteps
 pub use Rattle.funnels.proofs.OneChain.ShorterSteps.{before_last, front, last_of, shorter_step}
--- In a ring where two chains with bends that end at one point have come to it on one ray, such chains between two points are equal.
 mod SameChains
--- The last step of a chain with bends along a walk, over the last side that the walk crosses.
 mod LastSteps
--- In a ring that triangles fit, two chains with bends between two points come to the last one on one ray.
 mod ComeTogether
 -- In a simple ring there is one chain with bends between two points, and none that ends where it begins.
 mod OneChains

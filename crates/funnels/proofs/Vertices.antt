@@ -5,7 +5,6 @@ mod NearVertices
 -- A side that two triangles of a mesh share, at one of its ends: no neighbour of the end in the ring is on the ray along the side.
 mod CornerEdges
 pub use Rattle.funnels.proofs.Vertices.CornerEdges.{IsSharedSide, off_shared, shared_side_back}
--- Left of an edge of a ring that runs clockwise: not all points near the middle of the edge, toward a point on its left, are in the ring.
 mod LeftOfEdges
 -- A ring that triangles fit is simple, has three vertices or more, and runs counterclockwise: the points of a triangle beside its first edge are in it, and they are on the left.
 mod FittedRings

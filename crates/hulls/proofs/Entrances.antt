@@ -4,9 +4,7 @@
 -- is the point of the funnel from which it is reached.
 mod Trails
 pub use Rattle.hulls.proofs.Entrances.Trails.{Entrance, IsBetween, IsEntered, IsGate, IsNamed, IsTrail, between_back, last_of}
--- The funnel of a point at a side of the triangle that has it: from which place a point of the side is reached.
 mod FirstEntrances
--- From a triangle that is entered over a side, its neighbours at the two other sides are entered with the next funnel.
 mod NextEntrances
 -- From the last triangle of a trail over a shared side to a neighbour: back to the triangle before, or on to one more. The points of the side
 -- have the same gates there.

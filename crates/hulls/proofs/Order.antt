@@ -1,6 +1,5 @@
 -- The order of the points as seen from one: to the left of one another, where the paths begin on one side.
 
--- Two bends over one point, with one way to it: the ways on are to one side of that.
 mod TurnedAlike
 -- Ways on from one point, of which one is to the left of the other where they part.
 mod Ways

@@ -1,11 +1,9 @@
 -- The round of the sides of points that turn round one another.
 
--- A start of a side has one end, an end has one start, and each end is a start.
 mod Sides
 -- Where a number is in a list, how many numbers below a bound a list has, and a list with one more.
 mod Places
 pub use Rattle.hulls.proofs.Round.Places.{HasNoneTwice, IsIn, at_most, is_in_or_not}
--- From a start the sides close to a round.
 mod Chains
 -- A closed chain has every side, so it is a round.
 mod AllSides

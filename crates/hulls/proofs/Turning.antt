@@ -3,7 +3,6 @@
 -- Where two paths from one point change places, the second is to the other side of the first.
 mod Exchanged
 pub use Rattle.hulls.proofs.Turning.Exchanged.{exchanged, exchanged_back, right_of_left}
--- Where two lists from one point part, and that they do so once.
 mod Forks
 -- Of two paths from one point the second is not to both sides of the first.
 mod NotBoth
@@ -11,7 +10,6 @@ pub use Rattle.hulls.proofs.Turning.NotBoth.{not_both, one_path}
 -- Chains that part at a point: the points there, the bends, and which of three points on a line is between the others.
 mod Partings
 pub use Rattle.hulls.proofs.Turning.Partings.{goes_on, one_between}
--- Where paths from one point part, they do not go on to the two ends of a segment through the point, unless it is on the path between their ends.
 mod NotBetween
 -- Where two paths from one point go on along one ray, the one whose next point is nearer turns to a side there.
 mod Nearer

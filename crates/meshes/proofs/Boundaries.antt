@@ -11,7 +11,6 @@ mod Windings
 mod OffEdges
 -- The triangles do not overlap, and a side in one direction belongs to one of them at most.
 mod Overlaps
--- The step from one number to another, counted once in its direction and the opposite way back: its sums round triangles and pieces.
 mod SideSums
 -- So an edge of the piece is a side of one triangle, and any other side has one triangle in each direction.
 mod SideCounts
@@ -20,19 +19,13 @@ mod Covered
 -- Such triangles tile the piece.
 mod Tiles
 pub use Rattle.meshes.proofs.Boundaries.Tiles.{tiling}
--- Of how many numbers below a bound something holds.
 mod Counts
--- Triangles of a list, by their numbers, that tile a piece: all of them, or those in a part of a polygon that all of them tile.
 mod PartTilings
--- The parts of a piece that a diagonal cuts in two, and the triangles that lie in them.
 mod PieceParts
--- A piece that a shared side cuts in two parts: the triangles that lie in a part tile it.
 mod TiledParts
 -- A tiled piece that a shared side cuts in two parts: two trees are one tree.
 mod TwoParts
--- A tiled piece that a shared side cuts from its first vertex to another one: the two parts, and the triangles beside the side in them.
 mod CutTilings
--- A tiled piece with a triangle all of whose sides are edges of the piece: it has three vertices, and no other triangle.
 mod OneTriangle
 -- Triangles that tile a piece are a tree, two fewer than it has vertices.
 mod TiledTrees

@@ -3,7 +3,6 @@
 -- A piece read from another vertex on: the same triangles fit it.
 mod Rotated
 pub use Rattle.meshes.proofs.Joins.Rotated.{edge_rotated, fits_rotated, same_rotated, tri_of_same}
--- Two lists of triangles one after the other: the numbers of the triangles, and the tree that they make together.
 mod TwoLists
 -- One of two meshes that are joined along a diagonal: the sides of its triangles in the joined list.
 mod Halves
@@ -22,7 +21,6 @@ pub use Rattle.meshes.proofs.Joins.JoinedTrees.{Both, IsBridge, joined_tree}
 -- Points strictly inside triangles: those near them are so too, and some of them are off a given line.
 mod OffDiagonal
 pub use Rattle.meshes.proofs.Joins.OffDiagonal.{in_tri}
--- The triangles and sides of two meshes that fit the parts of a piece cut by a diagonal.
 mod JoinedSides
 -- A mesh with one more triangle: an ear at a vertex of the piece.
 mod Ears

@@ -25,8 +25,7 @@ mod Splits
 pub use Rattle.meshes.proofs.Parts.Splits.{last_edge}
 -- A ring that is split along a shared side of a mesh: each triangle lies in one piece as a whole.
 mod PieceOfTriangle
-pub use Rattle.meshes.proofs.Parts.PieceOfTriangle.{LiesIn, inside_off_edges, inside_one, inside_sides, left_of_sides, lies_in_both}
-pub use Rattle.meshes.proofs.Parts.PieceOfTriangle.{lies_in_one}
+pub use Rattle.meshes.proofs.Parts.PieceOfTriangle.{LiesIn, inside_off_edges, inside_one, inside_sides, left_of_sides, lies_in_both, lies_in_one}
 -- Two rings that share only points of a segment: a way from one to the other, in both together, meets the segment.
 mod BetweenPieces
 pub use Rattle.meshes.proofs.Parts.BetweenPieces.{IsCovered, covered_swapped, meets_between}

@@ -1,8 +1,6 @@
 -- Leaves of the tree of triangles, and that they are ears.
 
--- A tree of at least two numbers has two leaves: the last numbers of longest paths.
 mod TreeLeaves
--- Where some number is not on a path of a tree, a leaf is not: one with a longest path past that number.
 mod LeavesOffPaths
 -- Two sides of a triangle by the numbers of their ends: its turn, its points and its other side.
 mod TwoSides

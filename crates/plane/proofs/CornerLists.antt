@@ -1,6 +1,5 @@
 -- Corner lists: a set of points has one at most.
 
--- Sides and first corners of a set of points: where two sides begin at one point they end at one, and there is one first corner.
 mod SidesOfSets
 -- The corners of a polygon, by their numbers: each is in it, and so are its sides; the least corner is its first point.
 mod PolygonCorners

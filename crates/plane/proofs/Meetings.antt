@@ -17,7 +17,6 @@ pub use Rattle.plane.proofs.Meetings.MeetOnlyAt.{elsewhere_not_only, meet_elsewh
 mod FirstMeeting
 pub use Rattle.plane.proofs.Meetings.FirstMeeting.{First, no_value, values_apart, weights_apart, zero_point}
 unfoldable pub use Rattle.plane.proofs.Meetings.FirstMeeting.{zero_combination}
--- The first point of a segment on the way from one point of its line to another.
 mod FirstOnLine
 -- On the way from one rational point to another there is a first point of a segment, or the way does not meet it.
 mod FirstOnSegment

@@ -1,6 +1,5 @@
 -- Points near a point, on the way to another.
 
--- Near a rational point: on the way from it to another point, what is apart from it is left behind.
 mod Nearness
 unfoldable pub use Rattle.plane.proofs.Nearness.Nearness.{combination_toward}
 pub use Rattle.plane.proofs.Nearness.Nearness.{Eventually, apart_eventually, left_eventually, no_meet_across, outweighs, toward, toward_differs}

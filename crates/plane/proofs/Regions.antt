@@ -3,9 +3,7 @@
 -- Corners in convex position: one more, the first some of them, and the corner list that they make.
 mod Corners
 pub use Rattle.plane.proofs.Regions.Corners.{corners_of_convex, new_corner, old_corner}
--- The points that are right of no side of a polygon, by its corners one after another.
 mod Sides
--- Signs of means of two and of three numbers, where some weights or numbers are not 0.
 mod Weighing
 -- Corners read from another one on: they are convex as before, and have the same region.
 mod Turned

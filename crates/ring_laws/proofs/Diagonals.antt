@@ -15,7 +15,6 @@ pub use Rattle.ring_laws.proofs.Diagonals.CutRule.{farthest_diagonal}
 -- The cut rule at a least vertex with a right turn, from the ring read the other way round.
 mod CutRuleMirrored
 pub use Rattle.ring_laws.proofs.Diagonals.CutRuleMirrored.{base_diagonal}
--- The vertices in the triangle at a corner of a ring, by their numbers and as points.
 mod CornerNumbers
 -- The cut rule at any vertex of a ring: the cut at its least vertex is a diagonal.
 mod CutAtVertex

@@ -7,7 +7,6 @@ pub use Rattle.ring_laws.proofs.Ears.RunsOnce.{LeftTurnLaw, counterclockwise_rot
 mod UpToOne
 pub use Rattle.ring_laws.proofs.Ears.UpToOne.{IsUnit, IsZeroOrOne, both_up_to_one, greater_is_one, no_units, not_twice, not_zero_and_one, odd_unit}
 pub use Rattle.ring_laws.proofs.Ears.UpToOne.{one_and_none, one_and_two, one_is, same_units, smaller_is_zero, sum_is, sum_value}
--- A ring with an ear: where the ring without the ear winds round each point not at all or once, so does the ring.
 mod EarWinding
 -- A ring read from one of its vertices on, with the vertices beside it.
 mod OtherStarts
@@ -15,7 +14,6 @@ pub use Rattle.ring_laws.proofs.Ears.OtherStarts.{ReadFrom, apart_from, read_fro
 -- A ring at its first vertex v, with w after it and u before it: its edges there, and the ring without it.
 mod Corner
 pub use Rattle.ring_laws.proofs.Ears.Corner.{area_corner, distinct_corner, has_edge_of_corner, on_some_corner, swept_triangle, winding_corner}
--- The ring without an ear does not wind round the points of the ear.
 mod EarBase
 -- A ring with an ear at its least vertex runs counterclockwise, where the ring without the ear runs round once.
 mod EarStep
@@ -26,9 +24,6 @@ pub use Rattle.ring_laws.proofs.Ears.LeastVertex.{NoneBefore, least_vertex, none
 -- The turn at the least vertex of a ring, which is never straight.
 mod LeastTurn
 pub use Rattle.ring_laws.proofs.Ears.LeastTurn.{turn_at_first}
--- The ends of the first of some closed edges are as far to the right as those of the others.
 mod BaseEnds
--- The ring without an ear winds once round the points just beyond the ear's base.
 mod EarSign
--- The theorem of the ear: a ring winds round each point not at all or once, where it does so without an ear at its least vertex.
 mod Ears

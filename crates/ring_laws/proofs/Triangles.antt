@@ -9,12 +9,10 @@ pub use Rattle.ring_laws.proofs.Triangles.BeyondLine.{farthest_right}
 -- A counterclockwise triangle winds once round the points inside, and not round those outside.
 mod TriangleWinding
 pub use Rattle.ring_laws.proofs.Triangles.TriangleWinding.{on_sides_in, triangle, triangle_values, winding_inside, winding_outside}
--- No edge enters an empty triangle at a vertex: it meets the triangle at ends of the third side at most, and so does each edge that side.
 mod NoneEnters
 -- Points strictly inside an edge: near each point of it, and on no other edge of a ring.
 mod InsideEdge
 pub use Rattle.ring_laws.proofs.Triangles.InsideEdge.{InsideNear, inside_near, off_others, other_edges}
--- A way out of a closed triangle: the point at which it leaves, and the side that this point is on.
 mod LeavingTriangle
 -- Edges that are apart, two of which are the sides of a triangle at one vertex: how another edge can meet these sides.
 mod SidesAtVertex
@@ -23,7 +21,6 @@ pub use Rattle.ring_laws.proofs.Triangles.SidesAtVertex.{end_is_on, end_of_other
 mod TrianglePlaces
 pub use Rattle.ring_laws.proofs.Triangles.TrianglePlaces.{IsBeyond, IsInside, Place, inside, on_border, on_first, on_second, on_third, outside}
 pub use Rattle.ring_laws.proofs.Triangles.TrianglePlaces.{outside_not_in, place_of}
--- The way from a corner of a triangle to the end in it that is farthest from the opposite side meets the edges only at its ends.
 mod FarthestVertex
 -- A corner among edges that are apart, with a left turn: what meets the triangle there, and the farthest end in it.
 mod CornerLaws
@@ -38,6 +35,5 @@ pub use Rattle.ring_laws.proofs.Triangles.TriangleRing.{in_of_in_triangle, in_tr
 -- Closed triangles: their corners, the points on their sides, segments within them, and heights over a side.
 mod Triangles
 pub use Rattle.ring_laws.proofs.Triangles.Triangles.{between_in_triangle, first_in_triangle, in_or_not, in_triangle, last_in_triangle, left_at_first}
-pub use Rattle.ring_laws.proofs.Triangles.Triangles.{left_at_last, left_of_first, middle_in_triangle, not_right_between}
-pub use Rattle.ring_laws.proofs.Triangles.Triangles.{of_side, on_first_side}
+pub use Rattle.ring_laws.proofs.Triangles.Triangles.{left_at_last, left_of_first, middle_in_triangle, not_right_between, of_side, on_first_side}
 pub use Rattle.ring_laws.proofs.Triangles.Triangles.{on_second_side, on_third_side}

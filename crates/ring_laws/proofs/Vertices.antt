@@ -9,5 +9,4 @@ pub use Rattle.ring_laws.proofs.Vertices.VertexNeighbours.{beside_differs, besid
 pub use Rattle.ring_laws.proofs.Vertices.VertexNeighbours.{neighbours_differ, neighbours_not_on_ray, vertex_beside}
 -- Beside an edge of a ring that runs counterclockwise: a point from which the way to a point strictly inside the edge meets no other edge is in the ring on the left of the edge, and not on its right.
 mod EdgeSides
-pub use Rattle.ring_laws.proofs.Vertices.EdgeSides.{IsStrictlyOn, left_is_in, rest_is_edge, rest_of, right_is_out, strictly_from}
-pub use Rattle.ring_laws.proofs.Vertices.EdgeSides.{strictly_to}
+pub use Rattle.ring_laws.proofs.Vertices.EdgeSides.{IsStrictlyOn, left_is_in, rest_is_edge, rest_of, right_is_out, strictly_from, strictly_to}

@@ -13,7 +13,6 @@ mod EdgeSigns
 -- The number of crossed edges is odd exactly if the winding number is.
 mod Parity
 pub use Rattle.rings.proofs.Crossings.Parity.{crossings_even, crossings_odd, other_parity, winding_odd}
--- The signed crossing of an edge over plain integers, and its value by the heights of the edge's ends.
 mod SignedCrossing
 -- What it says that the ray from a point to the right crosses an edge, upward or downward.
 mod Crossings
@@ -22,7 +21,6 @@ pub use Rattle.rings.proofs.Crossings.Crossings.{crossed_up_from, crossing_cases
 -- Crossings and winding numbers of lists of edges: appended lists, and edges read backward.
 mod CrossingSums
 pub use Rattle.rings.proofs.Crossings.CrossingSums.{crossings-append, crossings-backward, crossings-cons, winding-append, winding-backward}
--- A segment and an edge in numbers: the heights of their ends over one another, and the sides of their lines.
 mod EdgeFigure
 -- The signed crossings of an edge from the two ends of a segment that it does not meet, over plain integers. The names of the integers are those of `EdgeSigns`.
 mod EdgeCases

@@ -8,12 +8,10 @@ pub use Rattle.rings.proofs.Inside.Rotated.{winding_rotated, winding_swapped}
 -- A point that is farthest in some direction is wound round by no closed list of edges.
 mod ExtremePoints
 pub use Rattle.rings.proofs.Inside.ExtremePoints.{below_abs, extreme_point}
--- A segment along which a linear functional rises misses edges at whose ends it is not positive.
 mod Rising
 -- What the laws of crossings say of the points in a ring.
 mod InRing
 pub use Rattle.rings.proofs.Inside.InRing.{both_odd, in_from_odd, in_or_not, in_same, not_in_from_even, on_some_or_not, vertex_in}
--- Crossings, windings and segments do not tell two triples of one rational point apart.
 mod SamePoint
 -- Points from which no edge is crossed: above all ends of the edges, or below all.
 mod FarAway

@@ -14,11 +14,8 @@ pub use Rattle.rings.proofs.Sweeps.Swept.{at_rank, empty_status, simple_of_swept
 -- A chord from s to t with a point x between them, and the line ab on one side of all three.
 mod Chords
 pub use Rattle.rings.proofs.Sweeps.Chords.{same_of, way, written_rise, written_run}
--- Lists in which each item is related to the next, after an edit: the pairs at the place are enough.
 mod Neighbours
--- Edges over one place, each below the next: two of them share no more than a common end there.
 mod Stacks
--- How often an item is in a list.
 mod Counts
 -- Points in lexicographic order, by their ranks, and where a point of an edge comes among them.
 mod Ascending

@@ -38,7 +38,7 @@ module _ (corners : List Point) (order ranks : List ℕ) (are : AreEvents corner
       (ascends z (length corners) rising (slice_index ranks v) (slice_index ranks w) at_most (rank_below corners order ranks are three w hw))
 
   -- vertices of one rank are one
-  one_by_rank : (v w : ℕ) → v < length ranks → w < length ranks → slice_index ranks v ≡ slice_index ranks w → v ≡ w
+  pub one_by_rank : (v w : ℕ) → v < length ranks → w < length ranks → slice_index ranks v ≡ slice_index ranks w → v ≡ w
   one_by_rank v w hv hw same =
       sym (event_of corners order ranks are three v hv) ∙ ap (slice_index order) same ∙ event_of corners order ranks are three w hw
 

@@ -1,5 +1,5 @@
 -- A search by halves for the place of a vertex among the gaps: the places that are left, how many rounds it has, and its test.
-use Rattle.std.proofs.Common.{◌≡◌, ◌↔◌, sym, ap, subst, ◌∙◌, Option, Some, None, ℕ, ◌+◌, ◌-◌, ◌*◌, ◌/◌, ◌<◌, ◌≤◌, List, length, inl, inr, arith}
+use Rattle.std.proofs.Common.{◌≡◌, ◌↔◌, sym, ap, subst, ◌∙◌, ℕ, ◌+◌, ◌-◌, ◌*◌, ◌/◌, ◌<◌, ◌≤◌, List, length, inl, inr, arith}
 use Rattle.std.proofs.lemmas.Bool.{cases_eq}
 use Rattle.std.proofs.lemmas.Int.Digits.{length-digits_of_step}
 use Rattle.std.proofs.lemmas.Nat.{mul-le}
@@ -15,10 +15,11 @@ use Rattle.exact_plane.specs.declared.direction.Direction.TheVariants.{Left}
 use Rattle.exact_plane.specs.declared.turns.Spot.TheVariants.{Corner}
 use Rattle.shared_seq.proofs.Digits.{binary_digits_mono}
 use Rattle.shared_seq.specs.Digits.{binary_digits}
+use Rattle.sweep_tri.proofs.Swept.{low_region}
 use Rattle.sweep_tri.specs.Frontier.{IsAbove, IsPlace}
 use Rattle.sweep_tri.specs.Gaps.{gap_at, low_front}
-use Rattle.sweep_tri.specs.Open.{IsOpen, IsOpenGap}
-use Rattle.sweep_tri.specs.Region.{Chains, IsRegion}
+use Rattle.sweep_tri.specs.Open.{IsOpenGap}
+use Rattle.sweep_tri.specs.Region.{IsRegion}
 use Rattle.sweep_tri.specs.Slots.{AreSortedBy, HasLowFront, HaveLowFronts}
 use Rattle.sweep_tri.specs.declared.gap.Gap.{Gap}
 
@@ -91,12 +92,6 @@ round_paid c d e some half =
     omega (arith, mul-le (binary_digits e + 1) c (binary_digits d) c (half_digits d e some half) (omega arith))
 
 -- ---- the lower edges
-
--- a gap that is open before an event has a lower edge,
-low_region : (corners : List Point) (ranks : List ℕ) (k : ℕ) (low : Chains) (high : Option Chains) → IsOpen corners ranks k low high
-    → IsRegion corners ranks low
-low_region corners ranks k low None is = is.is_region
-low_region corners ranks k low (Some high) are = are.low_is_region
 
 pub open_has_low_front : (corners : List Point) (ranks : List ℕ) (k : ℕ) (g : Gap) → IsOpenGap corners ranks k g → HasLowFront corners g
 open_has_low_front corners ranks k g is =

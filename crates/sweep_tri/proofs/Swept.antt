@@ -29,4 +29,4 @@ mod Bounds
 pub use Rattle.sweep_tri.proofs.Swept.Bounds.{swept_at_end, swept_at_start}
 -- What the search and the regions of a gap need of the state.
 mod Reads
-pub use Rattle.sweep_tri.proofs.Swept.Reads.{gap_high_region, gap_low_region, swept_sorted}
+pub use Rattle.sweep_tri.proofs.Swept.Reads.{gap_high_region, gap_low_region, low_region, swept_sorted}

@@ -1,11 +1,9 @@
 -- The cone that a fan leaves: where it turns by more than a half turn, all neighbours are in the closed angle from its end to its start.
 use Rattle.std.proofs.Common.{◌≡◌, ◌⊎◌, inl, inr, subst, sym, List, [], ◌∷◌, ℤ, pos, ◌+ℤ◌, ◌-ℤ◌, ◌*ℤ◌, neg_ℤ, ◌<ℤ◌, ◌≤ℤ◌}
-use Rattle.integer_algebra.proofs.SignSteps.{not_both, not_both_positive, own_opposite, turned_not_positive, weak, weak_order}
-use Rattle.integer_algebra.proofs.SignSteps.{zero_not_negative}
+use Rattle.integer_algebra.proofs.SignSteps.{not_both, not_both_positive, own_opposite, turned_not_positive, weak, weak_order, zero_not_negative}
 use Rattle.integer_algebra.proofs.Signs.{lt_or_le}
-use Rattle.funnels.proofs.Bends.FanSigns.{end_in_line, in_line_with_start, left_of_middle, left_of_start, not_left_of_start}
-use Rattle.funnels.proofs.Bends.FanSigns.{not_negative_unless, not_positive_before, not_positive_unless, not_right_of_end}
-use Rattle.funnels.proofs.Bends.FanSigns.{positive_unless, relation}
+use Rattle.funnels.proofs.Bends.FanSigns.{end_in_line, in_line_with_start, left_of_middle, left_of_start, not_left_of_start, not_negative_unless}
+use Rattle.funnels.proofs.Bends.FanSigns.{not_positive_before, not_positive_unless, not_right_of_end, positive_unless, relation}
 use Rattle.funnels.proofs.Bends.Fans.{along_fan}
 use Rattle.funnels.specs.Fan.{IsFan, IsFanStep, IsLastStep}
 

@@ -2,8 +2,7 @@
 use Rattle.std.proofs.Common.{◌≡◌, ◌⊎◌, refl, sym, subst, Bool, ℤ, pos, ◌+ℤ◌, ◌-ℤ◌, ◌*ℤ◌, ◌<ℤ◌, ◌≤ℤ◌, List, arith}
 use Rattle.std.proofs.lemmas.Int.{ints}
 use Rattle.integer_algebra.proofs.Certificate.{product_zero}
-use Rattle.integer_algebra.proofs.SignSteps.{negative_not_zero, not_both, not_both_positive, turned_not_negative, turned_positive}
-use Rattle.integer_algebra.proofs.SignSteps.{turned_zero}
+use Rattle.integer_algebra.proofs.SignSteps.{negative_not_zero, not_both, not_both_positive, turned_not_negative, turned_positive, turned_zero}
 use Rattle.integer_algebra.proofs.Signs.{factor_zero, is_negative, is_positive, is_zero, sign}
 use Rattle.plane.proofs.Points.{whole_is_point}
 use Rattle.plane.specs.Point.{IsSame, Point, Triple, whole}

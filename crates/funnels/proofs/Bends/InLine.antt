@@ -1,12 +1,10 @@
 -- Directions in line with each other, seen from a vertex on either side: of two different lines only the vertex is on both, and what
 -- is to one side of a line is on one ray.
-use Rattle.std.proofs.Common.{◌≡◌, ◌≢◌, ◌⊎◌, Bool, true, false, not, [], ◌∷◌, refl, sym, subst, ap, ◌∙◌, ℤ, pos, ◌+ℤ◌, ◌-ℤ◌, ◌*ℤ◌, neg_ℤ}
-use Rattle.std.proofs.Common.{◌<ℤ◌, arith}
+use Rattle.std.proofs.Common.{◌≡◌, ◌≢◌, ◌⊎◌, Bool, true, false, not, [], ◌∷◌, refl, sym, subst, ap, ◌∙◌, ℤ, pos, ◌+ℤ◌, ◌-ℤ◌, ◌*ℤ◌, neg_ℤ, ◌<ℤ◌, arith}
 use Rattle.std.proofs.lemmas.Int.{ints}
 use Rattle.integer_algebra.proofs.Laws.{eq_of_sub-zero, neg-mul, zero-mul}
 use Rattle.integer_algebra.proofs.Polynomial.{lit, var, ◌⊖◌, ◌⊗◌, same_value}
-use Rattle.integer_algebra.proofs.SignSteps.{negative_not_zero, negative_of_opposite, positive_not_zero, positive_of_opposite}
-use Rattle.integer_algebra.proofs.SignSteps.{zero_of_opposite}
+use Rattle.integer_algebra.proofs.SignSteps.{negative_not_zero, negative_of_opposite, positive_not_zero, positive_of_opposite, zero_of_opposite}
 use Rattle.integer_algebra.proofs.Signs.{factor_zero}
 use Rattle.plane.proofs.Points.{whole_is_point}
 use Rattle.plane.proofs.Segments.{ray_on_left, ray_on_right, same_straight}

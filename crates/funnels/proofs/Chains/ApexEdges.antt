@@ -1,7 +1,6 @@
 -- A point that is reached from the apex of a funnel, beyond the diagonal: the way to it turns at the apex as those to both edges do.
 use Rattle.std.proofs.Common.{◌≡◌, ◌⊎◌, inl, inr, true, false, refl, sym, subst, ap, List, length, ℕ, ◌+◌, ◌-◌, ◌<◌, pos, ◌<ℤ◌, ◌≤ℤ◌, arith}
-use Rattle.integer_algebra.proofs.SignSteps.{at_least_unless, at_most_unless, opposite_not_negative, opposite_not_positive}
-use Rattle.integer_algebra.proofs.SignSteps.{turned_not_negative}
+use Rattle.integer_algebra.proofs.SignSteps.{at_least_unless, at_most_unless, opposite_not_negative, opposite_not_positive, turned_not_negative}
 use Rattle.plane.proofs.Turns.{determinant_swap_last}
 use Rattle.plane.specs.Point.{Point, whole}
 use Rattle.plane.specs.Segment.{On}

@@ -5,8 +5,7 @@ use Rattle.integer_algebra.proofs.Signs.{is_negative, is_positive, is_zero, lt_o
 use Rattle.plane.proofs.Points.{whole_is_point}
 use Rattle.plane.proofs.Regions.{four_beside}
 use Rattle.plane.proofs.Segments.{on_is_straight}
-use Rattle.plane.proofs.Turns.{areas_add, determinant_same_ends, determinant_swap_last, straight_swap_first, combination_of}
-use Rattle.plane.proofs.Turns.{weights_positive}
+use Rattle.plane.proofs.Turns.{areas_add, combination_of, determinant_same_ends, determinant_swap_last, straight_swap_first, weights_positive}
 use Rattle.plane.specs.Point.{Point, whole}
 use Rattle.plane.specs.Segment.{On}
 use Rattle.plane.specs.Turn.{IsStraight, determinant}

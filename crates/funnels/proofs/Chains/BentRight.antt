@@ -1,6 +1,5 @@
 -- How the chains bend on the way to the points of the next funnel on the right: the points to the place that the corner is reached from.
-use Rattle.std.proofs.Common.{◌≡◌, refl, inl, inr, sym, subst, Bool, true, List, [], ◌∷◌, ◌++◌, length, take, ℕ, ◌+◌, ◌-◌, ◌<◌, ◌≤◌, min}
-use Rattle.std.proofs.Common.{arith}
+use Rattle.std.proofs.Common.{◌≡◌, refl, inl, inr, sym, subst, Bool, true, List, [], ◌∷◌, ◌++◌, length, take, ℕ, ◌+◌, ◌-◌, ◌<◌, ◌≤◌, min, arith}
 use Rattle.std.proofs.lemmas.Bool.{cases_lt}
 use Rattle.plane.specs.Point.{Point, whole}
 use Rattle.rings.specs.Bend.{IsBend}

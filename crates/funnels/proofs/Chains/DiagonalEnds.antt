@@ -11,9 +11,8 @@ use Rattle.rings.specs.Sees.{Sees}
 use Rattle.meshes.specs.Fits.{Fits, IsInTri}
 use Rattle.meshes.specs.Side.{tri_at}
 use Rattle.meshes.specs.declared.tri.Tri.{Tri}
-use Rattle.funnels.proofs.Bends.{AreOnRay, bend_of_fan, corner_in_ring, corner_turns, grown_bend, grown_turning, in_angle, last_step}
-use Rattle.funnels.proofs.Bends.{on_after, on_ray_back}
-use Rattle.funnels.proofs.Bends.{turning_differs_first, turning_swap, turning_to_ray, wider_bend}
+use Rattle.funnels.proofs.Bends.{AreOnRay, bend_of_fan, corner_in_ring, corner_turns, grown_bend, grown_turning, in_angle, last_step, on_after}
+use Rattle.funnels.proofs.Bends.{on_ray_back, turning_differs_first, turning_swap, turning_to_ray, wider_bend}
 use Rattle.funnels.proofs.Vertices.{IsSharedSide, fitted_counterclockwise, fitted_long, fitted_simple}
 use Rattle.funnels.specs.Corner.{HasCornerOn, IsInAngle}
 use Rattle.funnels.specs.Fanned.{IsFanned, turning}

@@ -1,7 +1,6 @@
 -- The ends of the next funnel, on the side from the corner beyond the diagonal to its right end, or to its left end.
-use Rattle.std.proofs.Common.{◌≡◌, inl, inr, sym, ap, subst, ◌∙◌, true, false, List, [], ◌∷◌, ◌++◌, length, drop, take, ℕ, ◌+◌, ◌-◌, ◌<◌}
-use Rattle.std.proofs.Common.{min}
-use Rattle.std.proofs.Common.{pos, ◌<ℤ◌, arith}
+use Rattle.std.proofs.Common.{◌≡◌, inl, inr, sym, ap, subst, ◌∙◌, true, false, List, [], ◌∷◌, ◌++◌, length, drop, take, ℕ, ◌+◌, ◌-◌, ◌<◌, min, pos}
+use Rattle.std.proofs.Common.{◌<ℤ◌, arith}
 use Rattle.std.proofs.lemmas.Bool.{cases_lt}
 use Rattle.integer_algebra.proofs.SignSteps.{positive_not_negative}
 use Rattle.plane.specs.Point.{Point, whole}

@@ -110,50 +110,43 @@ abbrev pub IsLeftOn : Point → Point → Point → Type 0
 IsLeftOn t e p = IsLeft (whole t) (whole e) (whole p) ⊎ IsOnRay t e p
 
 module _ (t e : Point) (differ : t ≢ e) where
-  -- what is so is ahead of the line to a point that is far enough behind
-  ahead_from : (n : ℤ) (p : Point) → pos 0 <ℤ n → pos 0 <ℤ (n +ℤ along t e p) → IsRightOn t e p
-      → pos 0 <ℤ determinant (whole t) (whole (behind t e n)) (whole p)
-  ahead_from n p hn h (inl right) = subst (λ z. pos 0 <ℤ z) (sym (ahead_is t e p n)) (outweighs n _ _ hn h right)
-  ahead_from n p hn h (inr on_ray) = elim (lt_or_le (pos 0) (along t e p)) [
+  -- a point of the ray is ahead of the line to each point behind or ahead,
+  on_ray_ahead : (n : ℤ) (p : Point) → IsOnRay t e p → pos 0 <ℤ determinant (whole t) (whole (behind t e n)) (whole p)
+  on_ray_ahead n p on_ray = elim (lt_or_le (pos 0) (along t e p)) [
     | inl some ↦ subst (λ z. pos 0 <ℤ z) (sym (ahead_is t e p n)) (let none = product_zero n on_ray.0 in omega (arith, ints))
     | inr back ↦ absurd (on_ray.1 (behind_on t e p differ on_ray.0 back))
   ]
 
-  -- so three such points are ahead of one line
-  pub ahead_of_ray : (p q r : Point) → IsRightOn t e p → IsRightOn t e q → IsRightOn t e r → AreAhead t p q r
-  ahead_of_ray p q r first second third =
-      let (k, k_some, k_more) = margin (along t e p) in
-      let (l, l_some, l_more) = margin (along t e q) in
-      let (m, m_some, m_more) = margin (along t e r) in
-      let n = pos 1 +ℤ k +ℤ l +ℤ m in
-      let some : pos 0 <ℤ n = omega (arith, ints) in
-      record {
-        n = behind t e n;
-        first = ahead_from n p some (omega (arith, ints)) first;
-        second = ahead_from n q some (omega (arith, ints)) second;
-        third = ahead_from n r some (omega (arith, ints)) third;
-      }
+  -- what is on it or to the right is ahead of that to one far enough behind,
+  ahead_from : (n : ℤ) (p : Point) → pos 0 <ℤ n → pos 0 <ℤ (n +ℤ along t e p) → IsRightOn t e p
+      → pos 0 <ℤ determinant (whole t) (whole (behind t e n)) (whole p)
+  ahead_from n p hn h (inl right) = subst (λ z. pos 0 <ℤ z) (sym (ahead_is t e p n)) (outweighs n _ _ hn h right)
+  ahead_from n p hn h (inr on_ray) = on_ray_ahead n p on_ray
 
-  -- what is on the ray or to the left of it is ahead of the line to a point that is far enough ahead
+  -- and what is on it or to the left of that to one far enough ahead
   ahead_from_left : (n : ℤ) (p : Point) → pos 0 <ℤ n → pos 0 <ℤ (n +ℤ along t e p) → IsLeftOn t e p
       → pos 0 <ℤ determinant (whole t) (whole (behind t e (neg_ℤ n))) (whole p)
   ahead_from_left n p hn h (inl left) = subst (λ z. pos 0 <ℤ z) (sym (ahead_is t e p (neg_ℤ n))) (outweighs_opposite n _ _ hn h left)
-  ahead_from_left n p hn h (inr on_ray) = elim (lt_or_le (pos 0) (along t e p)) [
-    | inl some ↦ subst (λ z. pos 0 <ℤ z) (sym (ahead_is t e p (neg_ℤ n))) (let none = product_zero (neg_ℤ n) on_ray.0 in omega (arith, ints))
-    | inr back ↦ absurd (on_ray.1 (behind_on t e p differ on_ray.0 back))
-  ]
+  ahead_from_left n p hn h (inr on_ray) = on_ray_ahead (neg_ℤ n) p on_ray
 
-  -- so three such points are ahead of one line too
-  pub ahead_of_left : (p q r : Point) → IsLeftOn t e p → IsLeftOn t e q → IsLeftOn t e r → AreAhead t p q r
-  ahead_of_left p q r first second third =
+  -- so three such points are ahead of one line
+  all_ahead : (Is : Point → Type 0) (s : ℤ → ℤ) → ((n : ℤ) (p : Point) → pos 0 <ℤ n → pos 0 <ℤ (n +ℤ along t e p) → Is p
+      → pos 0 <ℤ determinant (whole t) (whole (behind t e (s n))) (whole p)) → (p q r : Point) → Is p → Is q → Is r → AreAhead t p q r
+  all_ahead Is s far p q r first second third =
       let (k, k_some, k_more) = margin (along t e p) in
       let (l, l_some, l_more) = margin (along t e q) in
       let (m, m_some, m_more) = margin (along t e r) in
       let n = pos 1 +ℤ k +ℤ l +ℤ m in
       let some : pos 0 <ℤ n = omega (arith, ints) in
       record {
-        n = behind t e (neg_ℤ n);
-        first = ahead_from_left n p some (omega (arith, ints)) first;
-        second = ahead_from_left n q some (omega (arith, ints)) second;
-        third = ahead_from_left n r some (omega (arith, ints)) third;
+        n = behind t e (s n);
+        first = far n p some (omega (arith, ints)) first;
+        second = far n q some (omega (arith, ints)) second;
+        third = far n r some (omega (arith, ints)) third;
       }
+
+  pub ahead_of_ray : (p q r : Point) → IsRightOn t e p → IsRightOn t e q → IsRightOn t e r → AreAhead t p q r
+  ahead_of_ray = all_ahead (IsRightOn t e) (λ n. n) ahead_from
+
+  pub ahead_of_left : (p q r : Point) → IsLeftOn t e p → IsLeftOn t e q → IsLeftOn t e r → AreAhead t p q r
+  ahead_of_left = all_ahead (IsLeftOn t e) neg_ℤ ahead_from_left

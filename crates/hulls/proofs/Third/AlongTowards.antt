@@ -5,7 +5,7 @@ use Rattle.plane.specs.Turn.{IsLeft, IsRight}
 use Rattle.rings.specs.Simple.{IsSimple}
 use Rattle.hulls.proofs.Third.AlongAway.{reach_back, turns_at_end}
 use Rattle.hulls.proofs.Third.Cuts.{on_path_back}
-use Rattle.hulls.proofs.Third.Neighbours.{IsStrict, goes_away, goes_towards, on_other, on_side, sorts_left, sorts_right, towards_then_away}
+use Rattle.hulls.proofs.Third.Neighbours.{IsStrict, Sorts, goes_away, goes_towards, on_other, on_side, sorts_left, sorts_right, towards_then_away}
 use Rattle.hulls.proofs.Third.Sides.{AreSides, left_and_right, right_and_left}
 use Rattle.hulls.proofs.Third.StepFacts.{Reaches, joined_first, sight_step, step_back, step_beyond}
 use Rattle.hulls.proofs.Third.TurnsOver.{turns_over}
@@ -28,24 +28,13 @@ record Carries (ring : List Point) (a b c x : Point) : Type 0 where
 module _ (ring : List Point) (some : 3 ≤ length ring) (simple : IsSimple ring) (a b c : Point) (sees : SeesSteps ring b)
     (not_c : ¬ IsOnPath ring a b c) where
   -- where the way comes to a step with a side, it is that side at both its ends,
-  left_found : (x y : Point) (rest : List Point) → IsWay ring b c x y rest → Reaches ring y x a → Carries ring a b c x
-      → IsStrict IsLeft ring b x y → AreFacing ring a b c
-  left_found x y rest way reach carries strict =
-      let first = way_begins ring b c x y rest way in
-      inl (
-        carries.left (parts_here ring some simple b c x y first.clear (way_reaches ring some simple b c x y rest way) strict.p strict.first
-            IsLeft IsRight left_and_right strict.side_first),
-        turns_at_end ring some simple a b c sees IsLeft IsRight left_and_right (sorts_left ring some simple b) x y rest way reach strict,
-      )
-
-  right_found : (x y : Point) (rest : List Point) → IsWay ring b c x y rest → Reaches ring y x a → Carries ring a b c x
-      → IsStrict IsRight ring b x y → AreFacing ring a b c
-  right_found x y rest way reach carries strict =
-      let first = way_begins ring b c x y rest way in
-      inr (
-        carries.right (parts_here ring some simple b c x y first.clear (way_reaches ring some simple b c x y rest way) strict.p strict.first
-            IsRight IsLeft right_and_left strict.side_first),
-        turns_at_end ring some simple a b c sees IsRight IsLeft right_and_left (sorts_right ring some simple b) x y rest way reach strict,
+  side_found : (Side Other : Triple → Triple → Triple → Type 0) → AreSides Side Other → Sorts Side Other ring b → (x y : Point) (rest : List Point)
+      → IsWay ring b c x y rest → Reaches ring y x a → (strict : IsStrict Side ring b x y) → IsTo Side Other ring x c b × IsTo Other Side ring c a b
+  side_found Side Other sides sorts x y rest way reach strict =
+      let first = way_begins ring b c x y rest way in (
+        parts_here ring some simple b c x y first.clear (way_reaches ring some simple b c x y rest way) strict.p strict.first Side Other sides
+            strict.side_first,
+        turns_at_end ring some simple a b c sees Side Other sides sorts x y rest way reach strict,
       )
 
   -- the last step doesn't go towards b,
@@ -73,8 +62,12 @@ module _ (ring : List Point) (some : 3 ≤ length ring) (simple : IsSimple ring)
   faces_on x y [] way reach not_away carries = elim (sorts_left ring some simple b x y (sees x y way.0.clear way.0.off)) [
     | goes_away on ↦ absurd (not_away on)
     | goes_towards on ↦ absurd (last_not_towards x y way.0 reach way.1 on)
-    | on_side strict ↦ left_found x y [] way reach carries strict
-    | on_other strict ↦ right_found x y [] way reach carries strict
+    | on_side strict ↦
+        let both = side_found IsLeft IsRight left_and_right (sorts_left ring some simple b) x y [] way reach strict in
+        inl (carries.left both.0, both.1)
+    | on_other strict ↦
+        let both = side_found IsRight IsLeft right_and_left (sorts_right ring some simple b) x y [] way reach strict in
+        inr (carries.right both.0, both.1)
   ]
   faces_on x y (z ∷ rest) way reach not_away carries = elim (sorts_left ring some simple b x y (sees x y way.0.clear way.0.off)) [
     | goes_away on ↦ absurd (not_away on)
@@ -90,8 +83,12 @@ module _ (ring : List Point) (some : 3 ≤ length ring) (simple : IsSimple ring)
         (towards_then_away ring some simple b x y z n way.0.clear second.clear way.1 (first_other ring b x y way.0) other
         (last_other ring b y z second) step on)
         (record { left = λ to. carries.left (on_left to); right = λ to. carries.right (on_right to) })
-    | on_side strict ↦ left_found x y (z ∷ rest) way reach carries strict
-    | on_other strict ↦ right_found x y (z ∷ rest) way reach carries strict
+    | on_side strict ↦
+        let both = side_found IsLeft IsRight left_and_right (sorts_left ring some simple b) x y (z ∷ rest) way reach strict in
+        inl (carries.left both.0, both.1)
+    | on_other strict ↦
+        let both = side_found IsRight IsLeft right_and_left (sorts_right ring some simple b) x y (z ∷ rest) way reach strict in
+        inr (carries.right both.0, both.1)
   ]
 
 -- where a way goes from one of three free points to another, the third is seen from the two on one side of the way

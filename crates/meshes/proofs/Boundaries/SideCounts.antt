@@ -1,7 +1,6 @@
 -- Triangles whose sides cancel to the boundary of a simple piece: each edge of the piece is a side of one triangle, and any other
 -- side has one triangle in each direction.
-use Rattle.std.proofs.Common.{◌≡◌, inl, inr, sym, subst, ◌∙◌, ℕ, ◌+◌, ◌%◌, ◌<◌, ◌≤◌, ℤ, pos, negsuc, ◌≤ℤ◌}
-use Rattle.std.proofs.Common.{List, length, arith}
+use Rattle.std.proofs.Common.{◌≡◌, inl, inr, sym, subst, ◌∙◌, ℕ, ◌+◌, ◌%◌, ◌<◌, ◌≤◌, ℤ, pos, negsuc, ◌≤ℤ◌, List, length, arith}
 use Rattle.std.proofs.lemmas.Int.{ints}
 use Rattle.plane.specs.Point.{Point}
 use Rattle.rings.specs.Simple.{IsSimple}

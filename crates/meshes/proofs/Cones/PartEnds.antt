@@ -7,8 +7,7 @@ use Rattle.integer_algebra.proofs.SignSteps.{at_least_unless, at_most_unless, ze
 use Rattle.plane.proofs.Points.{same_sym, same_trans, whole_is_point}
 use Rattle.plane.proofs.Segments.{as_far, combination_of_same, later_between, on_first_end, on_is_straight, on_last_end, on_nested}
 use Rattle.plane.proofs.Segments.{on_one_side, on_same_point, one_meeting}
-use Rattle.plane.proofs.Turns.{combination_of, determinant_same, determinant_same_last, determinant_swap_last, five_triples}
-use Rattle.plane.proofs.Turns.{straight_swap_last}
+use Rattle.plane.proofs.Turns.{combination_of, determinant_same, determinant_same_last, determinant_swap_last, five_triples, straight_swap_last}
 use Rattle.plane.specs.Line.{cross_product}
 use Rattle.plane.specs.Point.{IsPoint, IsSame, Point, Triple, whole}
 use Rattle.plane.specs.Segment.{On}
@@ -17,8 +16,7 @@ use Rattle.rings.specs.Sees.{Sees}
 use Rattle.ring_laws.proofs.Triangles.{not_right_between}
 use Rattle.meshes.proofs.Cones.Held.{end_on_side, held_between, not_left_between}
 use Rattle.meshes.proofs.Cones.RaySigns.{bound_side}
-use Rattle.meshes.proofs.Cones.SideMeetings.{at_meeting, at_weights, before_meeting, meeting, meeting_on, meeting_on_ray}
-use Rattle.meshes.proofs.Cones.SideMeetings.{only_meeting, same_meeting}
+use Rattle.meshes.proofs.Cones.SideMeetings.{at_meeting, at_weights, before_meeting, meeting, meeting_on, meeting_on_ray, only_meeting, same_meeting}
 use Rattle.meshes.proofs.Cones.SideViews.{IsWindow, SideView, hidden, one_end, through_window, whole_side}
 use Rattle.meshes.specs.Cone.{Cone, IsPartEnd}
 

@@ -4,8 +4,7 @@ use Rattle.std.proofs.lemmas.Int.{ints}
 use Rattle.integer_algebra.proofs.SignSteps.{zero_not_negative, zero_of_neither}
 use Rattle.plane.proofs.Meetings.{no_value, values_apart, zero_combination, zero_point}
 use Rattle.plane.proofs.Points.{same_sym, whole_is_point}
-use Rattle.plane.proofs.Segments.{as_far, on_is_straight, on_last_end, on_one_side, on_reversed}
-use Rattle.plane.proofs.Segments.{on_same_point, one_meeting}
+use Rattle.plane.proofs.Segments.{as_far, on_is_straight, on_last_end, on_one_side, on_reversed, on_same_point, one_meeting}
 use Rattle.plane.proofs.Turns.{IsCombination, determinant_along, on_of_combination}
 use Rattle.plane.specs.Line.{cross_product}
 use Rattle.plane.specs.Point.{IsPoint, IsSame, Point, Triple, whole}

@@ -2,15 +2,13 @@
 use Rattle.std.proofs.Common.{◌≡◌, inr, List, ℤ, pos, ◌+ℤ◌, ◌-ℤ◌, ◌*ℤ◌, neg_ℤ, ◌<ℤ◌, ◌≤ℤ◌, arith}
 use Rattle.std.proofs.lemmas.Int.{ints}
 use Rattle.integer_algebra.proofs.Laws.{neg-mul}
-use Rattle.integer_algebra.proofs.SignSteps.{at_least_unless, at_most_unless, one_positive, opposite_not_negative}
-use Rattle.integer_algebra.proofs.SignSteps.{positive_not_zero, positive_of_not_zero, turned_negative, turned_not_positive, weak}
-use Rattle.integer_algebra.proofs.SignSteps.{zero_not_negative, zero_not_positive}
+use Rattle.integer_algebra.proofs.SignSteps.{at_least_unless, at_most_unless, one_positive, opposite_not_negative, positive_not_zero}
+use Rattle.integer_algebra.proofs.SignSteps.{positive_of_not_zero, turned_negative, turned_not_positive, weak, zero_not_negative, zero_not_positive}
 use Rattle.plane.proofs.Meetings.{values_apart, zero_combination, zero_point}
 use Rattle.plane.proofs.Points.{whole_is_point}
 use Rattle.plane.proofs.Segments.{on_is_straight, on_same_point, same_without_last}
 use Rattle.plane.proofs.Turns.{IsCombination, areas_add, combination_of, determinant_along, determinant_same_ends, determinant_shift}
-use Rattle.plane.proofs.Turns.{determinant_swap_first, five_triples, four_triples_in_W, four_triples_in_X, four_triples_in_Y}
-use Rattle.plane.proofs.Turns.{on_of_combination}
+use Rattle.plane.proofs.Turns.{determinant_swap_first, five_triples, four_triples_in_W, four_triples_in_X, four_triples_in_Y, on_of_combination}
 use Rattle.plane.specs.Point.{IsPoint, Point, Triple, whole}
 use Rattle.plane.specs.Segment.{On}
 use Rattle.plane.specs.Turn.{IsLeft, IsRight, determinant}

@@ -1,6 +1,5 @@
 -- The edges of a piece, as the steps along its numbers and back to the first.
-use Rattle.std.proofs.Common.{◌≡◌, ◌⊎◌, inl, inr, refl, sym, subst, ◌∙◌, ℕ, zero, suc, ◌+◌, ◌<◌, List, [], ◌∷◌, ◌++◌, length, get_or}
-use Rattle.std.proofs.Common.{arith}
+use Rattle.std.proofs.Common.{◌≡◌, ◌⊎◌, inl, inr, refl, sym, subst, ◌∙◌, ℕ, zero, suc, ◌+◌, ◌<◌, List, [], ◌∷◌, ◌++◌, length, get_or, arith}
 use Rattle.std.proofs.lemmas.Bool.{cases_eq}
 use Rattle.integer_algebra.proofs.Decisions.{both_or_not, either_or_not}
 use Rattle.rings.proofs.Vertices.{next_round}

@@ -9,8 +9,7 @@ use Rattle.integer_algebra.proofs.Signs.{factor_nonnegative, lt_or_le, mul_negat
 use Rattle.plane.proofs.Order.{NotAfter, not_after_antisym, not_after_from, rise, run}
 use Rattle.plane.proofs.Points.{same_sym}
 use Rattle.plane.proofs.Segments.{on_antisym, on_first_end, on_last_end, on_nested, on_same_point}
-use Rattle.plane.proofs.Turns.{determinant as det, determinant_same, determinant_shift, determinant_swap_last}
-use Rattle.plane.proofs.Turns.{four_triples_in_W, four_triples_in_X}
+use Rattle.plane.proofs.Turns.{determinant as det, determinant_same, determinant_shift, determinant_swap_last, four_triples_in_W, four_triples_in_X}
 use Rattle.plane.proofs.Turns.{four_triples_in_Y, on_of_combination, parts}
 use Rattle.plane.specs.Order.{Precedes}
 use Rattle.plane.specs.Point.{IsPoint, IsSame, Triple}

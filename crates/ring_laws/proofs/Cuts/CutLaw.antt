@@ -11,7 +11,7 @@ use Rattle.rings.proofs.Vertices.{closed_edges_of, on_some_cases, on_some_right,
 use Rattle.rings.specs.Apart.{IsApartRing}
 use Rattle.rings.specs.Edge.{Edge, IsOn, IsOnSome, edge, edges_along, edges_of}
 use Rattle.rings.specs.Inside.{IsIn}
-use Rattle.ring_laws.proofs.Cuts.CutDirection.{WindTogether, wind_together}
+use Rattle.ring_laws.proofs.Cuts.CutDirection.{wind_together}
 use Rattle.ring_laws.proofs.Cuts.PiecesWind.{on_edge_not_wound}
 use Rattle.ring_laws.proofs.Diagonals.{in_if_wound, wound}
 use Rattle.ring_laws.proofs.Ears.{not_twice, one_is, sum_is}
@@ -21,10 +21,6 @@ use Rattle.ring_laws.specs.Diagonal.{IsDiagonal}
 
 module _ (v : Point) (ps : List Point) (z : Point) (qs : List Point) (apart : IsApartRing (v ∷ (ps ++ z ∷ qs)))
     (diagonal : IsDiagonal (v ∷ (ps ++ z ∷ qs)) v z) where
-  -- the ring and its pieces wind in one direction
-  together : WindTogether (v ∷ (ps ++ z ∷ qs)) (v ∷ (ps ++ z ∷ [])) (v ∷ z ∷ qs)
-  together = wind_together v ps z qs apart diagonal
-
   -- its length is enough
   enough : 1 < length (v ∷ (ps ++ z ∷ qs))
   enough = omega (arith, length-append ps (z ∷ qs))
@@ -45,7 +41,7 @@ module _ (v : Point) (ps : List Point) (z : Point) (qs : List Point) (apart : Is
         go (inl on) k = inl (inl on)
         go (inr off_p) (inl on) = inr (inl on)
         go (inr off_p) (inr off_q) =
-            let w = together in
+            let w = wind_together v ps z qs apart diagonal in
             let once = wound w.s (v ∷ (ps ++ z ∷ qs)) w.whole_winds x at (off_ring x off_p off_q) h in
             elim (one_is w.s _ _ _ (winding_cut v ps z qs x) once (w.first_winds x at off_p)) [
               | inl k ↦ inl (in_if_wound w.s w.unit (v ∷ (ps ++ z ∷ [])) x k)
@@ -70,7 +66,7 @@ module _ (v : Point) (ps : List Point) (z : Point) (qs : List Point) (apart : Is
     off_first_in : ¬ IsOnSome (edges_of (v ∷ (ps ++ z ∷ []))) x → ¬ IsOnSome (edges_of (v ∷ z ∷ qs)) x → IsIn (v ∷ (ps ++ z ∷ [])) x
         → IsIn (v ∷ (ps ++ z ∷ qs)) x
     off_first_in off_p off_q h =
-        let w = together in
+        let w = wind_together v ps z qs apart diagonal in
         in_if_wound w.s w.unit (v ∷ (ps ++ z ∷ qs)) x (sum_is w.s _ _ _ w.unit (winding_cut v ps z qs x)
         (w.whole_winds x at (off_ring x off_p off_q)) (w.second_winds x at off_q) (wound w.s (v ∷ (ps ++ z ∷ [])) w.first_winds x at off_p h))
 
@@ -78,7 +74,7 @@ module _ (v : Point) (ps : List Point) (z : Point) (qs : List Point) (apart : Is
     off_second_in : ¬ IsOnSome (edges_of (v ∷ (ps ++ z ∷ []))) x → ¬ IsOnSome (edges_of (v ∷ z ∷ qs)) x → IsIn (v ∷ z ∷ qs) x
         → IsIn (v ∷ (ps ++ z ∷ qs)) x
     off_second_in off_p off_q h =
-        let w = together in
+        let w = wind_together v ps z qs apart diagonal in
         in_if_wound w.s w.unit (v ∷ (ps ++ z ∷ qs)) x (sum_is w.s _ _ _ w.unit (winding_cut v ps z qs x ∙ omega (arith, ints))
         (w.whole_winds x at (off_ring x off_p off_q)) (w.first_winds x at off_p) (wound w.s (v ∷ z ∷ qs) w.second_winds x at off_q h))
 
@@ -120,7 +116,7 @@ module _ (v : Point) (ps : List Point) (z : Point) (qs : List Point) (apart : Is
     -- a point of the way there that is in the second piece is on its edges,
     there_not_in_second : IsOnSome (edges_along v ps z) x → ¬ IsOnSome (edges_of (v ∷ z ∷ qs)) x → ¬ IsIn (v ∷ z ∷ qs) x
     there_not_in_second there off_q h =
-        let w = together in
+        let w = wind_together v ps z qs apart diagonal in
         let (e, has, on) = edge_with x (edges_along v ps z) there in
         on_edge_not_wound (v ∷ (ps ++ z ∷ qs)) apart enough w.s w.unit (edges_of (v ∷ z ∷ qs)) (edges_of (v ∷ (ps ++ z ∷ [])))
         (λ y. winding_cut v ps z qs y ∙ omega (arith, ints)) (closed_edges_of (v ∷ z ∷ qs)) w.whole_winds w.first_winds
@@ -131,7 +127,7 @@ module _ (v : Point) (ps : List Point) (z : Point) (qs : List Point) (apart : Is
   back_not_in_first : (x : Triple) → IsPoint x → IsOnSome (edges_along z qs v) x → ¬ IsOnSome (edges_of (v ∷ (ps ++ z ∷ []))) x
       → ¬ IsIn (v ∷ (ps ++ z ∷ [])) x
   back_not_in_first x at back off_p h =
-      let w = together in
+      let w = wind_together v ps z qs apart diagonal in
       let (e, has, on) = edge_with x (edges_along z qs v) back in
       on_edge_not_wound (v ∷ (ps ++ z ∷ qs)) apart enough w.s w.unit (edges_of (v ∷ (ps ++ z ∷ []))) (edges_of (v ∷ z ∷ qs))
       (winding_cut v ps z qs) (closed_edges_of (v ∷ (ps ++ z ∷ []))) w.whole_winds w.second_winds
@@ -154,6 +150,6 @@ module _ (v : Point) (ps : List Point) (z : Point) (qs : List Point) (apart : Is
         | inr on_diagonal ↦ on_diagonal
       ]
       go (inr off_p) (inr off_q) =
-          let w = together in
+          let w = wind_together v ps z qs apart diagonal in
           absurd (not_twice w.s _ _ _ w.unit (winding_cut v ps z qs x) (w.whole_winds x at (off_ring x off_p off_q))
           (wound w.s (v ∷ (ps ++ z ∷ [])) w.first_winds x at off_p in_p) (wound w.s (v ∷ z ∷ qs) w.second_winds x at off_q in_q))

@@ -6,8 +6,7 @@ use Rattle.integer_algebra.proofs.SignSteps.{mean_not_negative, not_both, zero_n
 use Rattle.integer_algebra.proofs.Signs.{lt_or_le}
 use Rattle.plane.proofs.Nearness.{right_toward, toward, toward_is_point, toward_on}
 use Rattle.plane.proofs.Points.{same_sym, same_trans, whole_is_point}
-use Rattle.plane.proofs.Segments.{later_between, middle, middle_first, middle_is_point, middle_last, middle_on}
-use Rattle.plane.proofs.Segments.{on_first_end, on_is_straight}
+use Rattle.plane.proofs.Segments.{later_between, middle, middle_first, middle_is_point, middle_last, middle_on, on_first_end, on_is_straight}
 use Rattle.plane.proofs.Segments.{on_last_end, on_nested, on_reversed, on_same_point}
 use Rattle.plane.proofs.Turns.{combination_of, determinant_along}
 use Rattle.plane.specs.Point.{IsPoint, IsSame, Point, Triple, whole}
@@ -16,8 +15,7 @@ use Rattle.plane.specs.Turn.{IsRight, determinant}
 use Rattle.rings.proofs.Crossings.{in_law, misses_swapped}
 use Rattle.rings.proofs.Inside.{in_or_not}
 use Rattle.rings.proofs.Simple.{apart_of_simple, proper_edges, same_or_not}
-use Rattle.rings.proofs.Vertices.{FirstHit, edge_at, edge_number, edge_with, first_hit_or_misses, has_edge_at}
-use Rattle.rings.proofs.Vertices.{misses_eventually, on_some_from}
+use Rattle.rings.proofs.Vertices.{FirstHit, edge_at, edge_number, edge_with, first_hit_or_misses, has_edge_at, misses_eventually, on_some_from}
 use Rattle.rings.proofs.Vertices.{vertex_mod}
 use Rattle.rings.specs.Edge.{Edge, HasEdge, IsOnSome, edges_of}
 use Rattle.rings.specs.Inside.{IsIn}

@@ -2,8 +2,7 @@
 use Rattle.std.proofs.Common.{◌≡◌, ◌⊎◌, inl, inr, ap, ℤ, pos, ◌+ℤ◌, ◌-ℤ◌, ◌*ℤ◌, neg_ℤ, ◌≤ℤ◌, arith}
 use Rattle.std.proofs.lemmas.Int.{ints}
 use Rattle.integer_algebra.proofs.Laws.{neg-mul, zero-mul}
-use Rattle.integer_algebra.proofs.SignSteps.{at_least_unless, mean_not_negative, not_below, positive_of_not_zero, weak}
-use Rattle.integer_algebra.proofs.SignSteps.{zero_not_negative}
+use Rattle.integer_algebra.proofs.SignSteps.{at_least_unless, mean_not_negative, not_below, positive_of_not_zero, weak, zero_not_negative}
 use Rattle.integer_algebra.proofs.Signs.{lt_or_le}
 use Rattle.plane.proofs.Points.{whole_is_point}
 use Rattle.plane.proofs.Turns.{determinant_same_ends, determinant_same_last, determinant_shift, determinant_shift_back, determinant_swap_first}

@@ -4,9 +4,8 @@ use Rattle.std.proofs.Common.{◌≡◌, inl, inr, sym, subst, ap, ◌∙◌, �
 use Rattle.std.proofs.lemmas.Int.{ints}
 use Rattle.plane.proofs.Nearness.{toward, toward_differs, toward_is_point, toward_on}
 use Rattle.plane.proofs.Points.{whole_is_point}
-use Rattle.plane.proofs.Segments.{on_first_end, on_last_end, on_reversed, on_same_point, on_antisym, on_nested}
-use Rattle.plane.proofs.Segments.{middle, middle_first, middle_is_point}
-use Rattle.plane.proofs.Segments.{middle_last, middle_on, left_not_on, right_not_on, within_from}
+use Rattle.plane.proofs.Segments.{left_not_on, middle, middle_first, middle_is_point, middle_last, middle_on, on_antisym, on_first_end, on_last_end}
+use Rattle.plane.proofs.Segments.{on_nested, on_reversed, on_same_point, right_not_on, within_from}
 use Rattle.plane.specs.Point.{IsPoint, IsSame, Point, Triple, whole}
 use Rattle.plane.specs.Turn.{IsLeft, IsRight}
 use Rattle.rings.proofs.Crossings.{winding-append}

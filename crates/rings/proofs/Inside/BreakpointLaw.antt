@@ -23,10 +23,6 @@ use Rattle.rings.specs.Sees.{Sees}
 
 module _ (ring : List Point) (a b : Triple) (at_a : IsPoint a) (at_b : IsPoint b) (point : ℕ → Triple) (n : ℕ)
     (breaks : AreBreakpoints ring a b point n) where
-  -- earlier points are not after later ones
-  earlier : (j k : ℕ) → j ≤ k → k < n → NotAfter (point j) (point k)
-  earlier = by_number ring a b at_a at_b point n breaks
-
   -- ---- a gap between two points, of which the first is before the second
 
   module _ (k : ℕ) (below : k + 1 < n) (strict : Precedes (point k) (point (k + 1))) (x : Triple) (at_x : IsPoint x) (on_x : On x a b)
@@ -68,8 +64,8 @@ module _ (ring : List Point) (a b : Triple) (at_a : IsPoint a) (at_b : IsPoint b
         let s = breaks.on_segment in
         let at_u = p u (omega arith) in
         let at_v = p v v_below in
-        let low = not_after_trans (point u) (point k) x at_u (p k (omega arith)) at_x (earlier u k hu (omega arith)) first in
-        let high = not_after_trans x (point (k + 1)) (point v) at_x (p (k + 1) below) at_v last (earlier (k + 1) v (omega arith) v_below) in
+        let low = not_after_trans (point u) (point k) x at_u (p k (omega arith)) at_x (by_number ring a b at_a at_b point n breaks u k hu (omega arith)) first in
+        let high = not_after_trans x (point (k + 1)) (point v) at_x (p (k + 1) below) at_v last (by_number ring a b at_a at_b point n breaks (k + 1) v (omega arith) v_below) in
         let straight = straight_on (point u) (point v) x a b at_u at_v at_x at_a at_b (s u (omega arith)) (s v v_below) on_x in
         let on = on_from_order x (point u) (point v) straight at_x at_u at_v low high in
         let c = whole (vertex ring i) in
@@ -94,9 +90,9 @@ module _ (ring : List Point) (a b : Triple) (at_a : IsPoint a) (at_b : IsPoint b
         let at_u = p e.j e.j_below in
         let at_v = p e.k e.k_below in
         let early = λ (u : ℕ) (at_u : IsPoint (point u)) (hu : u ≤ k) (h : NotAfter z (point u)).
-        not_at_first i within z at_z on_z on_edge (not_after_trans z (point u) (point k) at_z at_u at_p h (earlier u k hu (omega arith))) in
+        not_at_first i within z at_z on_z on_edge (not_after_trans z (point u) (point k) at_z at_u at_p h (by_number ring a b at_a at_b point n breaks u k hu (omega arith))) in
         let late = λ (u : ℕ) (at_u : IsPoint (point u)) (below_u : u < n) (hu : k < u) (h : NotAfter (point u) z).
-        not_at_last i within z at_z on_z on_edge (not_after_trans (point (k + 1)) (point u) z at_q at_u at_z (earlier (k + 1) u (omega arith) below_u) h) in
+        not_at_last i within z at_z on_z on_edge (not_after_trans (point (k + 1)) (point u) z at_q at_u at_z (by_number ring a b at_a at_b point n breaks (k + 1) u (omega arith) below_u) h) in
         elim (cases_lt k e.j) [
           | inl first_late ↦ elim (cases_lt k e.k) [
             | inl last_late ↦ elim (on_not_before z (point e.j) (point e.k) at_z at_u at_v e.between) [

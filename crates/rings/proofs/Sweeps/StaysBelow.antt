@@ -1,7 +1,6 @@
 -- One edge below another: where both run, what is on the lower edge or below it is below the upper one, but for a common end.
 use Rattle.std.proofs.Common.{◌≡◌, ◌⊎◌, inl, inr, refl, sym, subst, pos, ◌<ℤ◌, ◌≤ℤ◌, ℤ}
-use Rattle.integer_algebra.proofs.SignSteps.{negative_not_zero, positive_not_zero, weak, weak_order, zero_not_negative}
-use Rattle.integer_algebra.proofs.SignSteps.{zero_not_positive}
+use Rattle.integer_algebra.proofs.SignSteps.{negative_not_zero, positive_not_zero, weak, weak_order, zero_not_negative, zero_not_positive}
 use Rattle.integer_algebra.proofs.Signs.{is_negative, is_positive, is_zero, lt_or_le, sign}
 use Rattle.plane.proofs.Order.{NotAfter, not_after_facts, not_after_of_precedes, not_after_of_same, not_after_trans, precedes_differs}
 use Rattle.plane.proofs.Points.{same_sym, same_trans, whole_is_point}

@@ -2,8 +2,7 @@
 use Rattle.std.proofs.Common.{inl, inr, ℕ, ◌+◌, ◌-◌, ◌<◌, List, length, ap, sym, ◌∙◌, subst, arith}
 use Rattle.plane.proofs.Segments.{on_reversed}
 use Rattle.plane.specs.Point.{IsSame, Point, Triple, whole}
-use Rattle.rings.proofs.Turned.Turned.{length-turned_round, turned_from, turned_to, vertex-turned_round}
-use Rattle.rings.proofs.Turned.Turned.{vertex-turned_round-zero}
+use Rattle.rings.proofs.Turned.Turned.{length-turned_round, turned_from, turned_to, vertex-turned_round, vertex-turned_round-zero}
 use Rattle.rings.specs.Orientation.{turned_round}
 use Rattle.rings.specs.Ring.{IsOnEdge, vertex}
 use Rattle.rings.specs.Simple.{Clash, HasEqualEnds, IsSimple, SharesPoint}

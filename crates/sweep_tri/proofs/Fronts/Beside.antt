@@ -2,8 +2,9 @@
 use Rattle.std.proofs.Common.{◌≡◌, ◌⊎◌, inl, inr, sym, ap, ◌∙◌, ℕ, ◌<◌, ◌≤◌, List, length, arith}
 use Rattle.std.specs.Prelude.{slice_index}
 use Rattle.plane.specs.Point.{Point}
-use Rattle.rings.proofs.Sweeps.{ends_are, event_of, next_below, next_differs, next_of_previous, previous_below, previous_of_next}
+use Rattle.rings.proofs.Sweeps.{ends_are, next_below, next_differs, next_of_previous, previous_below, previous_of_next}
 use Rattle.rings.specs.Events.{AreEvents, first_end, last_end, next, previous}
+use Rattle.sweep_tri.proofs.RankOrder.{one_by_rank}
 use Rattle.sweep_tri.specs.Frontier.{upward}
 use Rattle.sweep_tri.specs.Gaps.{Front}
 pub use Rattle.sweep_tri.specs.Passing.{AreBeside}
@@ -31,11 +32,6 @@ module _ (corners : List Point) (order ranks : List ℕ) (are : AreEvents corner
   pub event_vertex : (k : ℕ) → k < length corners → (slice_index order k < length ranks) × (slice_index ranks (slice_index order k) ≡ k)
   event_vertex k within =
       let size = are.all_ranks in (omega (arith, size, are.vertices k 0 (omega (arith, within, are.all_events))), (are.each k within).rank_of_event)
-
-  -- vertices of one rank are one
-  pub rank_is_one : (v w : ℕ) → v < length ranks → w < length ranks → slice_index ranks v ≡ slice_index ranks w → v ≡ w
-  rank_is_one v w hv hw same =
-      sym (event_of corners order ranks are three v hv) ∙ ap (slice_index order) same ∙ event_of corners order ranks are three w hw
 
   module _ (v : ℕ) (hv : v < length ranks) where
     -- the edge from the vertex before
@@ -114,7 +110,7 @@ module _ (corners : List Point) (order ranks : List ℕ) (are : AreEvents corner
 
       -- each is before v or after it
       pub beside_rank_differs : ¬ (slice_index ranks s ≡ slice_index ranks v)
-      beside_rank_differs same = beside_not (rank_is_one s v beside_below.0 hv same)
+      beside_rank_differs same = beside_not (one_by_rank s v beside_below.0 hv same)
 
       -- there is an edge to each,
       pub edge_to : (e : ℕ) × IsEdgeTo ranks v s e

@@ -8,9 +8,8 @@ use Rattle.rings.specs.Below.{IsBelow}
 use Rattle.rings.specs.Events.{AreEvents}
 use Rattle.rings.specs.Simple.{IsSimple}
 use Rattle.meshes.proofs.Monotone.{enters_above, enters_below}
-use Rattle.sweep_tri.proofs.Fronts.Beside.{rank_is_one}
 use Rattle.sweep_tri.proofs.Fronts.Met.{IsFront, ends_about, fronts_apart}
-use Rattle.sweep_tri.proofs.RankOrder.{before_by_rank}
+use Rattle.sweep_tri.proofs.RankOrder.{before_by_rank, one_by_rank}
 use Rattle.sweep_tri.specs.Frontier.{IsAbove, IsUnder, upward}
 use Rattle.sweep_tri.specs.Gaps.{Front, front_edge}
 
@@ -25,7 +24,7 @@ module _ (corners : List Point) (order ranks : List ℕ) (are : AreEvents corner
       let to_come = ends.to_come in
       elim (cases_lt k (slice_index ranks f.to)) [
         | inl h ↦ h
-        | inr h ↦ absurd (not (rank_is_one corners order ranks are three f.to v ends.to_below hv (omega (arith, h, to_come, rank_v))))
+        | inr h ↦ absurd (not (one_by_rank corners order ranks are three f.to v ends.to_below hv (omega (arith, h, to_come, rank_v))))
       ]
 
   -- so it goes on

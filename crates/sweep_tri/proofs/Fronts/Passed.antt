@@ -7,12 +7,12 @@ use Rattle.rings.specs.Below.{IsBelow}
 use Rattle.rings.specs.Events.{AreEvents}
 use Rattle.rings.specs.Simple.{IsSimple}
 use Rattle.sweep_tri.proofs.Fronts.Beginning.{AreBegun}
-use Rattle.sweep_tri.proofs.Fronts.Beside.{rank_is_one}
 use Rattle.sweep_tri.proofs.Fronts.Entered.{entered_above, entered_below, goes_on}
 use Rattle.sweep_tri.proofs.Fronts.Met.{IsFront, ends_about}
 use Rattle.sweep_tri.proofs.Fronts.Parted.{IsParted}
 use Rattle.sweep_tri.proofs.Fronts.Sides.{above_no_end, under_no_end}
 use Rattle.sweep_tri.proofs.Fronts.Spliced.{IsSpliced}
+use Rattle.sweep_tri.proofs.RankOrder.{one_by_rank}
 use Rattle.sweep_tri.specs.Frontier.{IsFrontier, IsMet, front_at, upward}
 use Rattle.sweep_tri.specs.Gaps.{Front, front_edge}
 
@@ -119,7 +119,7 @@ module _ (corners : List Point) (order ranks : List ℕ) (are : AreEvents corner
               ]
           | inr not ↦
               let starts : (upward ranks e).from ≡ v =
-              rank_is_one corners order ranks are three (upward ranks e).from v
+              one_by_rank corners order ranks are three (upward ranks e).from v
               (ends_about corners order ranks are three (k + 1) (upward ranks e) (e, met, refl)).from_below hv
               (omega (arith, not, started, rank_v)) in
               let (m, h, is) = begun.all e met starts in

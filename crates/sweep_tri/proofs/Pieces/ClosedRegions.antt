@@ -9,7 +9,7 @@ use Rattle.rings.specs.Simple.{IsSimple}
 use Rattle.meshes.proofs.Sides.{length_points}
 use Rattle.meshes.specs.Fits.{piece_points}
 use Rattle.meshes.specs.Piece.{IsPolygonPiece}
-use Rattle.mono_fill.specs.Monotone.{AreRanks, IsMonotone, Rises}
+use Rattle.mono_fill.specs.Monotone.{IsMonotone, Rises}
 use Rattle.sweep_tri.proofs.Pieces.Boundaries.{all_boundary, goes_round, length-boundary, monotone_of_chains, path_at}
 use Rattle.sweep_tri.proofs.Pieces.ChainRings.{AreChains, GoesRound, counterclockwise_of_chains, simple_of_chains, three_of_chains}
 use Rattle.sweep_tri.proofs.RankOrder.{number_is_one, ranks_are}
@@ -20,13 +20,10 @@ step_at : (path : List ℕ) (k : ℕ) → k + 1 < length path → IsStep path (g
 step_at path k h = record { place = k; in_path = h; from = refl; to = refl }
 
 module _ (corners : List Point) (order ranks : List ℕ) (are : AreEvents corners order ranks) (three : 3 ≤ length corners) where
-  ranked : AreRanks corners ranks
-  ranked = ranks_are corners order ranks are three
-
   -- a path that rises by rank does so in lexicographic order
   rises_by : (path : List ℕ) → All (λ v. v < length corners) path → RisesBy ranks path → Rises corners path
   rises_by path numbers rises k h =
-      (ranked.order (get_or path k 0) (get_or path (k + 1) 0) (numbers k 0 (omega arith)) (numbers (k + 1) 0 h)).0
+      ((ranks_are corners order ranks are three).order (get_or path k 0) (get_or path (k + 1) 0) (numbers k 0 (omega arith)) (numbers (k + 1) 0 h)).0
       (rises (get_or path k 0) (get_or path (k + 1) 0) (step_at path k h))
 
   module _ (c : Chains) (closed : IsClosedRegion corners ranks c) where
@@ -61,8 +58,8 @@ module _ (corners : List Point) (order ranks : List ℕ) (are : AreEvents corner
           below = λ i j i_in j_in h k.
               region.below (get_or c.lower i 0) (get_or c.lower (i + 1) 0) (get_or c.upper j 0) (get_or c.upper (j + 1) 0)
               (step_at c.lower i i_in) (step_at c.upper j j_in)
-              ((ranked.order (get_or c.lower i 0) (get_or c.upper (j + 1) 0) (low i 0 (omega arith)) (high (j + 1) 0 j_in)).1 h)
-              ((ranked.order (get_or c.upper j 0) (get_or c.lower (i + 1) 0) (high j 0 (omega arith)) (low (i + 1) 0 i_in)).1 k);
+              (((ranks_are corners order ranks are three).order (get_or c.lower i 0) (get_or c.upper (j + 1) 0) (low i 0 (omega arith)) (high (j + 1) 0 j_in)).1 h)
+              (((ranks_are corners order ranks are three).order (get_or c.upper j 0) (get_or c.lower (i + 1) 0) (high j 0 (omega arith)) (low (i + 1) 0 i_in)).1 k);
         }
 
     round : GoesRound (piece_points corners (boundary c)) (path_at corners c.lower) (path_at corners c.upper) (length c.lower) (length c.upper)

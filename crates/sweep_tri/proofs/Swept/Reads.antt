@@ -15,7 +15,7 @@ use Rattle.sweep_tri.specs.declared.gap.Gap.{Gap}
 
 -- the regions of an open gap
 module _ (corners : List Point) (ranks : List ℕ) (k : ℕ) where
-  low_region : (low : Chains) (high : Option Chains) → IsOpen corners ranks k low high → IsRegion corners ranks low
+  pub low_region : (low : Chains) (high : Option Chains) → IsOpen corners ranks k low high → IsRegion corners ranks low
   low_region low None gap = gap.is_region
   low_region low (Some high) gap = gap.low_is_region
 
