@@ -168,19 +168,19 @@ one_pair_of before i j one other h g =
 
 module _ (ring : List Point) (s t : Point) where
   -- and none where the path begins there
-  none_before ring s t : t ≡ s → (x : Point) → ¬ IsBefore ring s t x
-  none_before ring s t same x h =
+  none_before : t ≡ s → (x : Point) → ¬ IsBefore ring s t x
+  none_before same x h =
       let taut = (h.is_path h.path).1 refl in
       omega (arith, taut.single (sym same), h.more)
 
   one_from : (one other : Before) → IsFrom ring s t one → IsFrom ring s t other → one ≡ other
   one_from before.Nothing before.Nothing h g = refl
-  one_from before.Nothing before.Source at h = absurd (none_before ring s t at s h)
-  one_from before.Nothing (before.Vertex j) at h = absurd (none_before ring s t at h.x h.before)
-  one_from before.Source before.Nothing h at = absurd (none_before ring s t at s h)
+  one_from before.Nothing before.Source at h = absurd (none_before at s h)
+  one_from before.Nothing (before.Vertex j) at h = absurd (none_before at h.x h.before)
+  one_from before.Source before.Nothing h at = absurd (none_before at s h)
   one_from before.Source before.Source h g = refl
   one_from before.Source (before.Vertex j) h g = absurd (g.not_source (one_before ring s t g.x s g.before h))
-  one_from (before.Vertex j) before.Nothing h at = absurd (none_before ring s t at h.x h.before)
+  one_from (before.Vertex j) before.Nothing h at = absurd (none_before at h.x h.before)
   one_from (before.Vertex j) before.Source h g = absurd (h.not_source (one_before ring s t h.x s h.before g))
   one_from (before.Vertex j) (before.Vertex k) h g =
       ap before.Vertex (g.number.only j h.number.in_ring (h.number.at ∙ one_before ring s t h.x g.x h.before g.before))
