@@ -56,7 +56,7 @@ module _ (φ : ℕ → ℕ → ℤ) where
   sides_reversed [] = refl
   sides_reversed (t ∷ ts) =
       let e = ap (sum_sides φ) (reverse-append (t ∷ []) ts) in
-      let f = sides_append (reverse ts) (t ∷ []) in
+      let f = sides_append φ (reverse ts) (t ∷ []) in
       let g = sides_reversed ts in
       omega (arith, ints)
 

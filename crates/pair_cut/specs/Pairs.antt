@@ -1,7 +1,7 @@
 -- What comes before each vertex on its path from each other one, and the pairs of vertices that see each other: the visibility graph.
 -- Paths: Guibas, Hershberger, Leven, Sharir and Tarjan 1987.
 use Rattle.std.specs.List.{All, Contains}
-use Rattle.std.specs.Prelude.{◌≡◌, ◌≢◌, ◌⊎◌, ◌↔◌, ℕ, ◌<◌, ◌≤◌, List, [], length, map, slice_index_or}
+use Rattle.std.specs.Prelude.{◌≡◌, ◌≢◌, ◌↔◌, ℕ, ◌<◌, ◌≤◌, List, [], length, map, slice_index_or}
 use Rattle.plane.specs.Pairs.{pair_at, IsPairBefore}
 use Rattle.plane.specs.Point.{Point, whole}
 use Rattle.rings.specs.Chain.{IsPath}

@@ -1,8 +1,7 @@
 -- How one path turns against another that begins at the same point. This project's own, after Toussaint 1986.
-use Rattle.std.specs.Prelude.{◌≡◌, ◌≢◌, ℕ, ◌+◌, ◌<◌, List, [], ◌∷◌, ◌++◌, length}
+use Rattle.std.specs.Prelude.{◌≡◌, ◌≢◌, List, [], ◌∷◌, ◌++◌}
 use Rattle.plane.specs.Point.{Point, whole}
 use Rattle.plane.specs.Segment.{On}
-use Rattle.rings.specs.Chain.{point_at}
 use Rattle.exact_plane.specs.Direction.{opposite, turn_of}
 use Rattle.exact_plane.specs.declared.direction.Direction.{Direction}
 use Rattle.exact_plane.specs.declared.direction.Direction.TheVariants.{Straight}

@@ -1,6 +1,6 @@
 -- Tables of the paths between each two of some points, and the sides that one tells. This project's own.
 use Rattle.std.specs.List.{Contains, range_with_len}
-use Rattle.std.specs.Prelude.{◌≡◌, ◌⊎◌, ℕ, ◌+◌, ◌*◌, ◌^◌, ◌<◌, ◌≤◌, List, [], length, map, slice_index_or}
+use Rattle.std.specs.Prelude.{◌≡◌, ℕ, ◌+◌, ◌*◌, ◌^◌, ◌<◌, ◌≤◌, List, [], length, map, slice_index_or}
 use Rattle.plane.specs.Pairs.{pair_at, IsPairBefore}
 use Rattle.plane.specs.Point.{Point}
 use Rattle.rings.specs.Chain.{IsPath, point_at}

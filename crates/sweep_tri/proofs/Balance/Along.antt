@@ -26,7 +26,7 @@ last_of_front c two =
 module _ (φ : ℕ → ℕ → ℤ) where
   pub along_split : (xs : List ℕ) (x : ℕ) (ys : List ℕ) → sum_along φ (xs ++ x ∷ ys) ≡ sum_along φ (xs ++ x ∷ []) +ℤ sum_along φ (x ∷ ys)
   along_split [] x ys = omega (arith, ints)
-  along_split (i ∷ xs) x ys = sum_parted i xs x ys
+  along_split (i ∷ xs) x ys = sum_parted φ i xs x ys
 
   -- with another item, or two, at the end
   pub along_push : (c : List ℕ) (v : ℕ) → 1 ≤ length c → sum_along φ (c ++ v ∷ []) ≡ sum_along φ c +ℤ φ (last c) v

@@ -110,7 +110,7 @@ module _ (corners : List Point) (order ranks : List ℕ) (are : AreEvents corner
 
       -- each is before v or after it
       pub beside_rank_differs : ¬ (slice_index ranks s ≡ slice_index ranks v)
-      beside_rank_differs same = beside_not (one_by_rank s v beside_below.0 hv same)
+      beside_rank_differs same = beside_not (one_by_rank corners order ranks are three s v beside_below.0 hv same)
 
       -- there is an edge to each,
       pub edge_to : (e : ℕ) × IsEdgeTo ranks v s e
