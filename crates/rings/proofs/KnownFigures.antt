@@ -42,9 +42,4 @@ highest_height = refl
 
 -- from the middle to a third beyond the right side, that side is crossed from left to right
 out_of_square : CrossesRight (at (pos 1) (pos 1) (pos 1)) (at (pos 7) (pos 3) (pos 3)) (edge_at square 1)
-out_of_square = record {
-  starts_left = lt_z_yes tt;
-  ends_right = lt_z_yes tt;
-  from_right = lt_z_yes tt;
-  to_left = lt_z_yes tt;
-}
+out_of_square = record { starts_left = lt_z_yes tt; ends_right = lt_z_yes tt; from_right = lt_z_yes tt; to_left = lt_z_yes tt }

@@ -49,10 +49,7 @@ one_of_two_lines v a c x some first last =
     let in_X = multiple_of _ _ _ _ v.X a.X x.X c.X last first (four_triples_in_X v a x c) in
     let in_Y = multiple_of _ _ _ _ v.Y a.Y x.Y c.Y last first (four_triples_in_Y v a x c) in
     let in_W = multiple_of _ _ _ _ v.W a.W x.W c.W last first (four_triples_in_W v a x c) in
-    record {
-      same_x = in_proportion _ _ x.X x.W v.X v.W some in_X in_W;
-      same_y = in_proportion _ _ x.Y x.W v.Y v.W some in_Y in_W;
-    }
+    record { same_x = in_proportion _ _ x.X x.W v.X v.W some in_X in_W; same_y = in_proportion _ _ x.Y x.W v.Y v.W some in_Y in_W }
 
 module _ (side : Bool) (v : Point) where
   -- so where c is left of a, and x is in line with both, x is v;

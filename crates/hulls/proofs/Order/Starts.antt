@@ -21,10 +21,7 @@ along t e p = (e.x -ℤ t.x) *ℤ (p.x -ℤ t.x) +ℤ (e.y -ℤ t.y) *ℤ (p.y -
 
 -- a point to the right of the ray to e, the farther behind the greater n is
 abbrev behind : Point → Point → ℤ → Point
-behind t e n = record {
-  x = t.x -ℤ n *ℤ (e.x -ℤ t.x) +ℤ (e.y -ℤ t.y);
-  y = t.y -ℤ n *ℤ (e.y -ℤ t.y) -ℤ (e.x -ℤ t.x);
-}
+behind t e n = record { x = t.x -ℤ n *ℤ (e.x -ℤ t.x) +ℤ (e.y -ℤ t.y); y = t.y -ℤ n *ℤ (e.y -ℤ t.y) -ℤ (e.x -ℤ t.x) }
 
 -- what is ahead of the line to it
 ahead_is : (t e p : Point) (n : ℤ) →

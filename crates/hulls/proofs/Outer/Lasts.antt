@@ -54,11 +54,7 @@ module _ (Is : ℕ → Type 0) (decide : (u : ℕ) → Is u ⊎ (¬ Is u)) (Afte
     | inl is_n ↦ elim (last_or_none n) [
       | inr none ↦ inl (
         n,
-        record {
-          below = omega arith;
-          is = is_n;
-          last = λ u h is differ. absurd (none u (omega (arith, h)) is);
-        },
+        record { below = omega arith; is = is_n; last = λ u h is differ. absurd (none u (omega (arith, h)) is) },
       )
       | inl found ↦
           let b = found.0 in

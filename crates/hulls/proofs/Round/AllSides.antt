@@ -136,7 +136,4 @@ module _ (n : ℕ) (Left : ℕ → ℕ → ℕ → Type 0) (turning : AreTurning
 
     -- so it is a round
     pub closed_is_round : IsRoundOf n Left round
-    closed_is_round = record {
-      distinct = closes.distinct;
-      sides = λ p q. (side_follows p q, following_side p q);
-    }
+    closed_is_round = record { distinct = closes.distinct; sides = λ p q. (side_follows p q, following_side p q) }

@@ -126,11 +126,7 @@ module _ (n : ℕ) (Left : ℕ → ℕ → ℕ → Type 0) (turning : AreTurning
     first_below : (k : ℕ) → k ≤ n → (r : ℕ) × IsFirstBelow n Left t k r
     first_below zero within = (
       s,
-      record {
-        in_list = side.s_in;
-        different = apart_back s t side.different;
-        left = λ u below. absurd (omega arith);
-      },
+      record { in_list = side.s_in; different = apart_back s t side.different; left = λ u below. absurd (omega arith) },
     )
     first_below (suc k) within =
         let (r, first) = first_below k (omega arith) in

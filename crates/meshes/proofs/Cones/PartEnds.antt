@@ -101,10 +101,7 @@ module _ (ring : List Point) (q l r : Point) (cone : Cone) (w : IsWindow ring q 
         )
 
   window_part : IsPartOfSide ring q l r a b
-  window_part = record {
-    in_order = first_before_last;
-    seen = λ x at_x. (λ h. seen_between x at_x h.0 h.1, between_seen x at_x);
-  }
+  window_part = record { in_order = first_before_last; seen = λ x at_x. (λ h. seen_between x at_x h.0 h.1, between_seen x at_x) }
 
 -- ---- in line with the side
 

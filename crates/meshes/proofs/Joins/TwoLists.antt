@@ -61,16 +61,8 @@ module _ (ts us : List Tri) where
   -- the two lists are the parts of the whole one
   pub are_parts : AreParts (ts ++ us) ts us as_first (as_second ts)
   are_parts = record {
-    first = record {
-      in_list = λ k h. omega (arith, length-append ts us);
-      same = at_first;
-      once = λ k l e. e;
-    };
-    second = record {
-      in_list = λ k h. omega (arith, length-append ts us);
-      same = λ k h. at_second k;
-      once = λ k l e. omega arith;
-    };
+    first = record { in_list = λ k h. omega (arith, length-append ts us); same = at_first; once = λ k l e. e };
+    second = record { in_list = λ k h. omega (arith, length-append ts us); same = λ k h. at_second k; once = λ k l e. omega arith };
     apart = λ k l h i e. omega arith;
     cases = number_cases;
   }

@@ -58,12 +58,7 @@ module _ (ring first second : List Point) (s t : Triple) (c : IsCovered ring fir
                     absurd (not (in_law second y p at_y at_p (misses_swapped p y (edges_of second) before) k))
               ];
         }) in
-        record {
-          point = x;
-          rational = at_x;
-          on_first = hit.on_way;
-          on_second = c.common x at_x in_first (inl hit.on_edge);
-        }
+        record { point = x; rational = at_x; on_first = hit.on_way; on_second = c.common x at_x in_first (inl hit.on_edge) }
 
     -- so a way from one to the other meets the segment
     pub meets_between : Meet p q s t

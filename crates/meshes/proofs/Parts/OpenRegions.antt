@@ -28,10 +28,7 @@ left_of_all_eventually x c [] h = record { start = 0; from_start = λ n above. t
 left_of_all_eventually x c (e ∷ es) h =
     let first = left_eventually x c (whole e.from) (whole e.to) h.0 in
     let rest = left_of_all_eventually x c es h.1 in
-    record {
-      start = first.start + rest.start;
-      from_start = λ n above. (first.from_start n (omega arith), rest.from_start n (omega arith));
-    }
+    record { start = first.start + rest.start; from_start = λ n above. (first.from_start n (omega arith), rest.from_start n (omega arith)) }
 
 -- ---- points toward the inside of a segment
 

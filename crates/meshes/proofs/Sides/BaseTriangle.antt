@@ -65,11 +65,7 @@ module _ (t : Tri) where
 
   -- so one triangle is a tree
   single_tree : IsTree (t ∷ [])
-  single_tree = tree_of_paths (t ∷ []) (λ a c h k. record {
-    path = [];
-    is_path = omega arith;
-    only = λ other p. no_step a other c h p;
-  })
+  single_tree = tree_of_paths (t ∷ []) (λ a c h k. record { path = []; is_path = omega arith; only = λ other p. no_step a other c h p })
 
 -- ---- the piece
 
@@ -80,11 +76,7 @@ module _ (corners : List Point) (i j k : ℕ) (left : IsLeft (whole (vertex corn
 
   -- a side of it
   side_of_one : (x y : ℕ) → HasSide the_tri x y → IsSideOfOne (the_tri ∷ []) x y 0
-  side_of_one x y s = record {
-    in_list = omega arith;
-    has = s;
-    only = λ l h t. omega arith;
-  }
+  side_of_one x y s = record { in_list = omega arith; has = s; only = λ l h t. omega arith }
 
   -- is an edge of the piece
   edge_of_side : (x y l : ℕ) → l < 1 → HasSide (tri_at (the_tri ∷ []) l) x y → IsPieceEdge (i ∷ j ∷ k ∷ []) x y

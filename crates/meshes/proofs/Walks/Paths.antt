@@ -75,14 +75,7 @@ module _ (P : ℕ → Type 0) (R : ℕ → ℕ → Type 0) (Q : ℕ → Type 0) 
 -- the names go both ways
 renames_back : (P : ℕ → Type 0) (R : ℕ → ℕ → Type 0) (Q : ℕ → Type 0) (S : ℕ → ℕ → Type 0) (f g : ℕ → ℕ)
     → Renames P R Q S f g → Renames Q S P R g f
-renames_back P R Q S f g r = record {
-  goes = r.comes;
-  comes = r.goes;
-  there = r.back;
-  back = r.there;
-  joins = r.joined;
-  joined = r.joins;
-}
+renames_back P R Q S f g r = record { goes = r.comes; comes = r.goes; there = r.back; back = r.there; joins = r.joined; joined = r.joins }
 
 -- so a tree is one under the other names
 pub tree_renamed : (P : ℕ → Type 0) (R : ℕ → ℕ → Type 0) (Q : ℕ → Type 0) (S : ℕ → ℕ → Type 0) (f g : ℕ → ℕ)

@@ -116,11 +116,7 @@ module _ (tris : List Tri) where
 
   -- a path as a walk from one triangle to another
   pub between_of_path : (a : ℕ) (bs : List ℕ) (c : ℕ) → IsPlace tris a → IsPath (IsPlace tris) (Touch tris) a bs c → IsWalkBetween tris a c (a ∷ bs)
-  between_of_path a bs c at_a p = record {
-    is_walk = walk_of_path a bs c at_a p;
-    first = refl;
-    last = last_place a bs ∙ path_last a bs c p;
-  }
+  between_of_path a bs c at_a p = record { is_walk = walk_of_path a bs c at_a p; first = refl; last = last_place a bs ∙ path_last a bs c p }
 
   -- a walk from one triangle to another as a path
   path_of_between : (a : ℕ) (bs : List ℕ) (c : ℕ) → IsWalkBetween tris a c (a ∷ bs) → IsPath (IsPlace tris) (Touch tris) a bs c

@@ -144,10 +144,7 @@ module _ (set : Triple → Type 0) where
   -- so they are one list
   one_polygon : (c d : List Triple) → IsCornerList set c → IsCornerList set d → 3 ≤ length c → 3 ≤ length d → AreSameCorners c d
   one_polygon c d one other three three_too = elim (cases_order (length c) (length d)) [
-    | inl e ↦ record {
-      one_length = e;
-      same_corner = λ i h. same_corners c d one other three three_too i h (omega arith);
-    }
+    | inl e ↦ record { one_length = e; same_corner = λ i h. same_corners c d one other three three_too i h (omega arith) }
     | inr (inl less) ↦ absurd (no_more_corners c d one other three three_too less)
     | inr (inr more) ↦ absurd (no_more_corners d c other one three_too three more)
   ]

@@ -63,10 +63,7 @@ module _ (a b c d : Point) (h : BoxesMeet a b c d) where
 
   -- the two may change places
   pub boxes_swapped : BoxesMeet c d a b
-  boxes_swapped = record {
-    in_x = intervals_swapped a.x b.x c.x d.x h.in_x;
-    in_y = intervals_swapped a.y b.y c.y d.y h.in_y;
-  }
+  boxes_swapped = record { in_x = intervals_swapped a.x b.x c.x d.x h.in_x; in_y = intervals_swapped a.y b.y c.y d.y h.in_y }
 
 -- the second segment may be read backward too
 pub boxes_reversed_second : (a b c d : Point) → BoxesMeet a b c d → BoxesMeet a b d c

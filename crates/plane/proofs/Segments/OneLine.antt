@@ -24,21 +24,11 @@ pub record OnOneLine (a b c d : Triple) : Type 0 where
 module _ (a b c d : Triple) (h : OnOneLine a b c d) where
   -- so they are where the first two change places
   line_reversed_first : OnOneLine b a c d
-  line_reversed_first = record {
-    abc = straight_swap_first a b c h.abc;
-    abd = straight_swap_first a b d h.abd;
-    acd = h.bcd;
-    bcd = h.acd;
-  }
+  line_reversed_first = record { abc = straight_swap_first a b c h.abc; abd = straight_swap_first a b d h.abd; acd = h.bcd; bcd = h.acd }
 
   -- where the last two do
   line_reversed_second : OnOneLine a b d c
-  line_reversed_second = record {
-    abc = h.abd;
-    abd = h.abc;
-    acd = straight_swap_last a c d h.acd;
-    bcd = straight_swap_last b c d h.bcd;
-  }
+  line_reversed_second = record { abc = h.abd; abd = h.abc; acd = straight_swap_last a c d h.acd; bcd = straight_swap_last b c d h.bcd }
 
   -- and where the first two go to the end
   line_swapped : OnOneLine c d a b

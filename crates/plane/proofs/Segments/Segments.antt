@@ -79,13 +79,7 @@ on_last_end a b = on_reversed b b a (on_first_end b a)
 
 -- the same point is on the segment
 pub on_same_point : {p q a b : Triple} → IsPoint p → IsSame p q → On p a b → On q a b
-on_same_point h s on = record {
-  i = on.i;
-  j = on.j;
-  positive = on.positive;
-  within = on.within;
-  same = same_trans h (same_sym s) on.same;
-}
+on_same_point h s on = record { i = on.i; j = on.j; positive = on.positive; within = on.within; same = same_trans h (same_sym s) on.same }
 
 -- ---- the line through a segment
 

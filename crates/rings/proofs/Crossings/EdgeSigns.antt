@@ -90,24 +90,15 @@ turned_sum u w x y z h e = omega (arith, ints, mul-neg u y, mul-neg w x)
 module _ (u w d e f g i j h : ℤ) (r : Relations u w d e f g i j h) where
   -- in a mirror
   mirrored : Relations (neg_ℤ u) (neg_ℤ w) (neg_ℤ d) (neg_ℤ e) f g i j h
-  mirrored = record {
-    over_lower = negated_sum u w f g d h r.over_lower;
-    over_higher = negated_sum u w i j e h r.over_higher;
-  }
+  mirrored = record { over_lower = negated_sum u w f g d h r.over_lower; over_higher = negated_sum u w i j e h r.over_higher }
 
   -- with the edge read backward
   pub relations_backward : Relations w u (neg_ℤ d) (neg_ℤ e) g f j i h
-  relations_backward = record {
-    over_lower = backward_sum u w f g d h r.over_lower;
-    over_higher = backward_sum u w i j e h r.over_higher;
-  }
+  relations_backward = record { over_lower = backward_sum u w f g d h r.over_lower; over_higher = backward_sum u w i j e h r.over_higher }
 
   -- turned upside down
   pub turned : Relations w u e d (neg_ℤ j) (neg_ℤ i) (neg_ℤ g) (neg_ℤ f) h
-  turned = record {
-    over_lower = turned_sum u w i j e h r.over_higher;
-    over_higher = turned_sum u w f g d h r.over_lower;
-  }
+  turned = record { over_lower = turned_sum u w i j e h r.over_higher; over_higher = turned_sum u w f g d h r.over_lower }
 
 -- ---- which sides agree
 

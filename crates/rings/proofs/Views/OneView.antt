@@ -88,9 +88,4 @@ module _ (ring : List Point) (q : Triple) where
       let other = are_too.parts_seen k (within_too k h) in
       same_part ring q (edge_of parts k) _ _ _ _ one
       (subst (λ i. IsPart ring q i (part_at others k).first (part_at others k).last) (sym (same k h)) other) in
-      record {
-        one_length = long;
-        same_edge = same;
-        same_first = λ k h. (ends k h).0;
-        same_last = λ k h. (ends k h).1;
-      }
+      record { one_length = long; same_edge = same; same_first = λ k h. (ends k h).0; same_last = λ k h. (ends k h).1 }
