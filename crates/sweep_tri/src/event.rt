@@ -1,22 +1,23 @@
 // The events of the sweep: what the state becomes at each vertex.
 ghost use Rattle.std.specs.List.{All, insert, remove};
-ghost use Rattle.std.specs.Prelude.{◌≡◌, ◌+◌, ◌*◌, ◌-◌, ◌^◌, ◌≤◌, ◌<◌, ◌↔◌, OnOk, IsTrue, Some, [], ◌∷◌, ◌++◌, length, slice_index, slice_set};
+ghost use Rattle.std.specs.Prelude.{◌≡◌, ◌+◌, ◌*◌, ◌-◌, ◌^◌, ◌≤◌, ◌<◌, ◌↔◌, IfOk, OnOk, IsTrue, Some, [], ◌∷◌, ◌++◌, length, slice_index, slice_set};
 ghost use Rattle.rings.specs.Events.{next, previous};
 ghost use Rattle.shared_seq.specs.Digits.{binary_digits};
-ghost use Rattle.sweep_tri.specs.Entries.{event_work, status_entries};
+ghost use Rattle.sweep_tri.specs.Entries.{IsPaid, IsWithin, entries, event_work, meet_last_work, meet_work};
 ghost use Rattle.sweep_tri.specs.Forks.{IsForkAt};
 ghost use Rattle.sweep_tri.specs.Frontier.{IsPlace, IsUnder};
-ghost use Rattle.sweep_tri.specs.Gaps.{before_last, gap_at, highest, low_front, up_front};
-ghost use Rattle.sweep_tri.specs.Meeting.{AreFilled, closed_above, closed_below, gap_of, left_above, left_below, region_from, split_above, split_below, with_lower, with_upper};
+ghost use Rattle.sweep_tri.specs.Gaps.{before_last, gap_at, highest, low_front, no_gap, up_front};
+ghost use Rattle.sweep_tri.specs.Meeting.{AreFilled, closed_at, gap_of, left_at, region_from, split_above, split_below, with_vertex};
 ghost use Rattle.sweep_tri.specs.Passing.{Begins, Finishes, GoesOn, IsNextEvent, placed_work};
 ghost use Rattle.sweep_tri.specs.Ranked.{IsRanked};
 ghost use Rattle.sweep_tri.specs.Region.{IsClosedRegion};
 ghost use Rattle.sweep_tri.specs.Swept.{IsSwept};
 
-use crate::gap::{Fork, Gap};
+use crate::gap::{Fork, Gap, Region};
 use crate::status::Status;
 use exact_plane::{Direction, Memory, Spot, Steps, Turns};
 use meshes::Tri;
+use mono_fill::Side;
 use std::alloc::Global;
 use std::sync::ledger::Ledger;
 
@@ -50,9 +51,8 @@ impl Sweep {
     ) -> Result<(), Memory>
         requires next { IsNextEvent (T.corners board.now) rank.now self.old.status self.old.tris.items v }
         ensures swept { OnOk result (IsSwept (T.corners board.now) rank.now (slice_index rank.now v + 1) self.new.status self.new.tris.items) }
-        ensures work { steps.new ≤ steps.old + 8 * status_entries self.old.status + 200 * binary_digits (length (T.corners board.now)) }
-        ensures paid { OnOk result (steps.new + 8 * status_entries self.new.status
-            ≤ steps.old + 8 * status_entries self.old.status + 200 * binary_digits (length (T.corners board.now))) }
+        ensures work { IsWithin self.old.status (200 * binary_digits (length (T.corners board.now))) steps.old steps.new }
+        ensures paid { OnOk result (IsPaid self.old.status self.new.status (200 * binary_digits (length (T.corners board.now))) steps.old steps.new) }
     {
         let j = self.status.place(board, v, steps);
         let (a, b) = neighbours(rank.len() as u32, v);
@@ -83,9 +83,8 @@ impl Sweep {
         requires place { IsPlace (T.corners board.now) self.old.status fork.vertex j }
         requires begins { Begins (T.corners board.now) rank.now fork }
         ensures swept { OnOk result (IsSwept (T.corners board.now) rank.now (slice_index rank.now fork.vertex + 1) self.new.status self.new.tris.items) }
-        ensures work { steps.new ≤ steps.old + 8 * status_entries self.old.status + placed_work self.old.status }
-        ensures paid { OnOk result (steps.new + 8 * status_entries self.new.status
-            ≤ steps.old + 8 * status_entries self.old.status + placed_work self.old.status) }
+        ensures work { IsWithin self.old.status (placed_work self.old.status) steps.old steps.new }
+        ensures paid { OnOk result (IsPaid self.old.status self.new.status (placed_work self.old.status) steps.old steps.new) }
     {
         if 0 < j && self.is_under(board, j - 1, fork.vertex, steps) {
             self.split(alloc, rank, j - 1, fork, steps)
@@ -109,14 +108,13 @@ impl Sweep {
         requires place { IsPlace (T.corners board.now) self.old.status v j }
         requires goes_on { GoesOn rank.now v w }
         ensures swept { OnOk result (IsSwept (T.corners board.now) rank.now (slice_index rank.now v + 1) self.new.status self.new.tris.items) }
-        ensures work { steps.new ≤ steps.old + 8 * status_entries self.old.status + placed_work self.old.status }
-        ensures paid { OnOk result (steps.new + 8 * status_entries self.new.status
-            ≤ steps.old + 8 * status_entries self.old.status + placed_work self.old.status) }
+        ensures work { IsWithin self.old.status (placed_work self.old.status) steps.old steps.new }
+        ensures paid { OnOk result (IsPaid self.old.status self.new.status (placed_work self.old.status) steps.old steps.new) }
     {
         if self.low_ends(j, v, steps) {
-            self.go_on_below(alloc, board, rank, j, v, w, steps)
+            self.go_on_at(alloc, board, rank, Side::Lower, j, v, w, steps)
         } else {
-            self.go_on_above(alloc, board, rank, j - 1, v, w, steps)
+            self.go_on_at(alloc, board, rank, Side::Upper, j - 1, v, w, steps)
         }
     }
 
@@ -134,9 +132,8 @@ impl Sweep {
         requires place { IsPlace (T.corners board.now) self.old.status v j }
         requires finishes { Finishes rank.now v }
         ensures swept { OnOk result (IsSwept (T.corners board.now) rank.now (slice_index rank.now v + 1) self.new.status self.new.tris.items) }
-        ensures work { steps.new ≤ steps.old + 8 * status_entries self.old.status + placed_work self.old.status }
-        ensures paid { OnOk result (steps.new + 8 * status_entries self.new.status
-            ≤ steps.old + 8 * status_entries self.old.status + placed_work self.old.status) }
+        ensures work { IsWithin self.old.status (placed_work self.old.status) steps.old steps.new }
+        ensures paid { OnOk result (IsPaid self.old.status self.new.status (placed_work self.old.status) steps.old steps.new) }
     {
         if self.status.get(j, steps).up_front().1 == v {
             self.end(alloc, board, rank, j, v, steps)
@@ -188,8 +185,7 @@ impl Sweep {
         ensures gaps { OnOk result (self.new.status ≡ insert self.old.status j (gap_of (region_from fork.vertex fork.below fork.above))) }
         ensures triangles { self.new.tris.items ≡ self.old.tris.items }
         ensures work { steps.new ≤ steps.old + event_work self.old.status }
-        ensures paid { OnOk result (steps.new + 8 * status_entries self.new.status
-            ≤ steps.old + 8 * status_entries self.old.status + event_work self.old.status) }
+        ensures paid { OnOk result (IsPaid self.old.status self.new.status (event_work self.old.status) steps.old steps.new) }
     {
         self.status.insert(alloc, j, Gap::at(alloc, fork)?, steps)
     }
@@ -214,8 +210,7 @@ impl Sweep {
             (gap_of (split_above rank.now g.low g.high fork.vertex fork.above))) }
         ensures triangles { self.new.tris.items ≡ self.old.tris.items }
         ensures work { steps.new ≤ steps.old + event_work self.old.status }
-        ensures paid { OnOk result (steps.new + 8 * status_entries self.new.status
-            ≤ steps.old + 8 * status_entries self.old.status + event_work self.old.status) }
+        ensures paid { OnOk result (IsPaid self.old.status self.new.status (event_work self.old.status) steps.old steps.new) }
     {
         let gap = self.status.replace(j, Gap::none(alloc), steps);
         let (below, above) = gap.split(alloc, rank, fork)?;
@@ -223,12 +218,13 @@ impl Sweep {
         self.status.insert(alloc, j + 1, above, steps)
     }
 
-    // The edge below gap j ends at v, and one goes on from there to w.
-    fn go_on_below<T: Turns, L: Ledger>(
+    // The edge of gap j on this side ends at v, and one goes on from there to w.
+    fn go_on_at<T: Turns, L: Ledger>(
         &mut self,
         alloc: Global,
         board: &T,
         rank: &[u32],
+        side: Side,
         j: usize,
         v: u32,
         w: u32,
@@ -236,47 +232,16 @@ impl Sweep {
     ) -> Result<(), Memory>
         requires ranked { IsRanked (T.corners board.now) rank.now }
         requires place { j < length self.old.status }
-        requires closed { let g = gap_at self.old.status j in All (IsClosedRegion (T.corners board.now) rank.now) (closed_below g.low g.high v) }
+        requires closed { let g = gap_at self.old.status j in All (IsClosedRegion (T.corners board.now) rank.now) (closed_at side g.low g.high v) }
         ensures gaps { OnOk result (let g = gap_at self.old.status j in
-            self.new.status ≡ slice_set self.old.status j (gap_of (with_lower (left_above g.low g.high v) w))) }
+            self.new.status ≡ slice_set self.old.status j (gap_of (with_vertex side (left_at side g.low g.high v) w))) }
         ensures filled { OnOk result (let g = gap_at self.old.status j in
-            AreFilled (T.corners board.now) (closed_below g.low g.high v) self.old.tris.items self.new.tris.items) }
-        ensures work { steps.new ≤ steps.old + 8 * status_entries self.old.status + event_work self.old.status }
-        ensures paid { OnOk result (steps.new + 8 * status_entries self.new.status
-            ≤ steps.old + 8 * status_entries self.old.status + event_work self.old.status) }
+            AreFilled (T.corners board.now) (closed_at side g.low g.high v) self.old.tris.items self.new.tris.items) }
+        ensures work { IsWithin self.old.status (event_work self.old.status) steps.old steps.new }
+        ensures paid { OnOk result (IsPaid self.old.status self.new.status (event_work self.old.status) steps.old steps.new) }
     {
-        let gap = self.status.replace(j, Gap::none(alloc), steps);
-        let mut region = gap.meet_below(alloc, board, rank, v, &mut self.tris, steps)?;
-        region.extend_lower(w)?;
-        self.status.replace(j, Gap::of(region), steps);
-        Ok(())
-    }
-
-    // The edge above gap j ends at v, and one goes on from there to w.
-    fn go_on_above<T: Turns, L: Ledger>(
-        &mut self,
-        alloc: Global,
-        board: &T,
-        rank: &[u32],
-        j: usize,
-        v: u32,
-        w: u32,
-        steps: &mut Steps<L>,
-    ) -> Result<(), Memory>
-        requires ranked { IsRanked (T.corners board.now) rank.now }
-        requires place { j < length self.old.status }
-        requires closed { let g = gap_at self.old.status j in All (IsClosedRegion (T.corners board.now) rank.now) (closed_above g.low g.high v) }
-        ensures gaps { OnOk result (let g = gap_at self.old.status j in
-            self.new.status ≡ slice_set self.old.status j (gap_of (with_upper (left_below g.low g.high v) w))) }
-        ensures filled { OnOk result (let g = gap_at self.old.status j in
-            AreFilled (T.corners board.now) (closed_above g.low g.high v) self.old.tris.items self.new.tris.items) }
-        ensures work { steps.new ≤ steps.old + 8 * status_entries self.old.status + event_work self.old.status }
-        ensures paid { OnOk result (steps.new + 8 * status_entries self.new.status
-            ≤ steps.old + 8 * status_entries self.old.status + event_work self.old.status) }
-    {
-        let gap = self.status.replace(j, Gap::none(alloc), steps);
-        let mut region = gap.meet_above(alloc, board, rank, v, &mut self.tris, steps)?;
-        region.extend_upper(w)?;
+        let mut region = self.meet(alloc, board, rank, side, j, v, steps)?;
+        region.extend(side, w)?;
         self.status.replace(j, Gap::of(region), steps);
         Ok(())
     }
@@ -293,16 +258,15 @@ impl Sweep {
     ) -> Result<(), Memory>
         requires ranked { IsRanked (T.corners board.now) rank.now }
         requires place { j < length self.old.status }
-        requires closed { let g = gap_at self.old.status j in All (IsClosedRegion (T.corners board.now) rank.now) (closed_above g.low g.high v ++ left_below g.low g.high v ∷ []) }
+        requires closed { let g = gap_at self.old.status j in
+            All (IsClosedRegion (T.corners board.now) rank.now) (closed_at Side.Upper g.low g.high v ++ left_at Side.Upper g.low g.high v ∷ []) }
         ensures gaps { OnOk result (self.new.status ≡ remove self.old.status j) }
         ensures filled { OnOk result (let g = gap_at self.old.status j in
-            AreFilled (T.corners board.now) (closed_above g.low g.high v ++ left_below g.low g.high v ∷ []) self.old.tris.items self.new.tris.items) }
-        ensures work { steps.new ≤ steps.old + 8 * status_entries self.old.status + event_work self.old.status }
-        ensures paid { OnOk result (steps.new + 8 * status_entries self.new.status
-            ≤ steps.old + 8 * status_entries self.old.status + event_work self.old.status) }
+            AreFilled (T.corners board.now) (closed_at Side.Upper g.low g.high v ++ left_at Side.Upper g.low g.high v ∷ []) self.old.tris.items self.new.tris.items) }
+        ensures work { IsWithin self.old.status (event_work self.old.status) steps.old steps.new }
+        ensures paid { OnOk result (IsPaid self.old.status self.new.status (event_work self.old.status) steps.old steps.new) }
     {
-        let gap = self.status.remove(alloc, j, steps)?;
-        let region = gap.meet_above(alloc, board, rank, v, &mut self.tris, steps)?;
+        let region = self.meet_last(alloc, board, rank, Side::Upper, j, v, steps)?;
         region.close(alloc, board, rank, &mut self.tris, steps)
     }
 
@@ -319,23 +283,70 @@ impl Sweep {
         requires ranked { IsRanked (T.corners board.now) rank.now }
         requires first { 0 < j }
         requires place { j < length self.old.status }
-        requires closed_below { let g = gap_at self.old.status j in All (IsClosedRegion (T.corners board.now) rank.now) (closed_below g.low g.high v) }
-        requires closed_above { let g = gap_at self.old.status (j - 1) in All (IsClosedRegion (T.corners board.now) rank.now) (closed_above g.low g.high v) }
+        requires closed_below { let g = gap_at self.old.status j in All (IsClosedRegion (T.corners board.now) rank.now) (closed_at Side.Lower g.low g.high v) }
+        requires closed_above { let g = gap_at self.old.status (j - 1) in All (IsClosedRegion (T.corners board.now) rank.now) (closed_at Side.Upper g.low g.high v) }
         ensures gaps { OnOk result (let g = gap_at self.old.status (j - 1) in let h = gap_at self.old.status j in
             self.new.status ≡ slice_set (remove self.old.status j) (j - 1)
-            (record { low = left_below g.low g.high v; high = Some (left_above h.low h.high v) })) }
+            (record { low = left_at Side.Upper g.low g.high v; high = Some (left_at Side.Lower h.low h.high v) })) }
         ensures filled { OnOk result (let g = gap_at self.old.status (j - 1) in let h = gap_at self.old.status j in
-            AreFilled (T.corners board.now) (closed_below h.low h.high v ++ closed_above g.low g.high v) self.old.tris.items self.new.tris.items) }
-        ensures work { steps.new ≤ steps.old + 8 * status_entries self.old.status + event_work self.old.status }
-        ensures paid { OnOk result (steps.new + 8 * status_entries self.new.status
-            ≤ steps.old + 8 * status_entries self.old.status + event_work self.old.status) }
+            AreFilled (T.corners board.now) (closed_at Side.Lower h.low h.high v ++ closed_at Side.Upper g.low g.high v) self.old.tris.items self.new.tris.items) }
+        ensures work { IsWithin self.old.status (event_work self.old.status) steps.old steps.new }
+        ensures paid { OnOk result (IsPaid self.old.status self.new.status (event_work self.old.status) steps.old steps.new) }
     {
-        let gap = self.status.remove(alloc, j, steps)?;
-        let high = gap.meet_below(alloc, board, rank, v, &mut self.tris, steps)?;
-        let gap = self.status.replace(j - 1, Gap::none(alloc), steps);
-        let low = gap.meet_above(alloc, board, rank, v, &mut self.tris, steps)?;
+        let high = self.meet_last(alloc, board, rank, Side::Lower, j, v, steps)?;
+        let low = self.meet(alloc, board, rank, Side::Upper, j - 1, v, steps)?;
         self.status.replace(j - 1, Gap::of_two(low, high), steps);
         Ok(())
+    }
+
+    // The region that stays open where the edge of gap j on this side ends at v. Nothing is left in the gap.
+    fn meet<T: Turns, L: Ledger>(
+        &mut self,
+        alloc: Global,
+        board: &T,
+        rank: &[u32],
+        side: Side,
+        j: usize,
+        v: u32,
+        steps: &mut Steps<L>,
+    ) -> Result<Region, Memory>
+        requires ranked { IsRanked (T.corners board.now) rank.now }
+        requires place { j < length self.old.status }
+        requires closed { let g = gap_at self.old.status j in All (IsClosedRegion (T.corners board.now) rank.now) (closed_at side g.low g.high v) }
+        ensures gaps { self.new.status ≡ slice_set self.old.status j no_gap }
+        ensures left { IfOk result (λ region. let g = gap_at self.old.status j in region ≡ left_at side g.low g.high v) }
+        ensures filled { OnOk result (let g = gap_at self.old.status j in
+            AreFilled (T.corners board.now) (closed_at side g.low g.high v) self.old.tris.items self.new.tris.items) }
+        ensures work { IsWithin self.old.status (meet_work self.old.status) steps.old steps.new }
+        ensures paid { IfOk result (λ region. IsPaid self.old.status self.new.status (meet_work self.old.status) steps.old (steps.new + 8 * entries region)) }
+    {
+        let gap = self.status.replace(j, Gap::none(alloc), steps);
+        gap.meet(alloc, board, rank, side, v, &mut self.tris, steps)
+    }
+
+    // The same, and the gap is removed.
+    fn meet_last<T: Turns, L: Ledger>(
+        &mut self,
+        alloc: Global,
+        board: &T,
+        rank: &[u32],
+        side: Side,
+        j: usize,
+        v: u32,
+        steps: &mut Steps<L>,
+    ) -> Result<Region, Memory>
+        requires ranked { IsRanked (T.corners board.now) rank.now }
+        requires place { j < length self.old.status }
+        requires closed { let g = gap_at self.old.status j in All (IsClosedRegion (T.corners board.now) rank.now) (closed_at side g.low g.high v) }
+        ensures gaps { OnOk result (self.new.status ≡ remove self.old.status j) }
+        ensures left { IfOk result (λ region. let g = gap_at self.old.status j in region ≡ left_at side g.low g.high v) }
+        ensures filled { OnOk result (let g = gap_at self.old.status j in
+            AreFilled (T.corners board.now) (closed_at side g.low g.high v) self.old.tris.items self.new.tris.items) }
+        ensures work { IsWithin self.old.status (meet_last_work self.old.status) steps.old steps.new }
+        ensures paid { IfOk result (λ region. IsPaid self.old.status self.new.status (meet_last_work self.old.status) steps.old (steps.new + 8 * entries region)) }
+    {
+        let gap = self.status.remove(alloc, j, steps)?;
+        gap.meet(alloc, board, rank, side, v, &mut self.tris, steps)
     }
 }
 
