@@ -16,7 +16,7 @@ use Rattle.sweep_tri.proofs.Swept.Lists.{all_removed}
 use Rattle.sweep_tri.proofs.Swept.Triangles.{of_ring-all_filled}
 use Rattle.sweep_tri.specs.Gaps.{gap_at, up_front}
 use Rattle.sweep_tri.specs.Meeting.{AreFilled, closed_at, left_at}
-use Rattle.mono_fill.specs.declared.side.Side.TheVariants.{Lower, Upper}
+use Rattle.mono_fill.specs.declared.side.Side.TheVariants.{Upper}
 use Rattle.sweep_tri.specs.Open.{IsOpenGap}
 use Rattle.sweep_tri.specs.Region.{Chains, IsClosedRegion}
 use Rattle.sweep_tri.specs.Sums.{AreBalanced}

@@ -1,4 +1,4 @@
-use Rattle.std.proofs.Common.{◌∷◌, [], ◌++◌, ap, arith}
+use Rattle.std.proofs.Common.{◌∷◌, [], ◌++◌, arith}
 use Rattle.std.proofs.lemmas.Result.{on_ok_weaker}
 use Rattle.mono_fill.specs.Filled.{IsFilled}
 use Rattle.mono_fill.specs.declared.side.Side.TheVariants.{Upper}

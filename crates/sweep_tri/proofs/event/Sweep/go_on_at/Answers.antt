@@ -1,4 +1,4 @@
-use Rattle.std.proofs.Common.{◌≡◌, ap, ◌∙◌, ◌+◌, ◌<◌, length, set, arith}
+use Rattle.std.proofs.Common.{ap, ◌∙◌, ◌<◌, length, set, arith}
 use Rattle.shared_seq.specs.Digits.{binary_digits}
 use Rattle.sweep_tri.proofs.Entries.{entries_with}
 use Rattle.sweep_tri.proofs.Work.{as_many, more_digits, put_entries, replaced_twice}
