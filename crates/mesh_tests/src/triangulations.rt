@@ -1,10 +1,13 @@
-// Triangulations by diagonals.
+// Triangulations by diagonals, and by a sweep.
 ghost use Rattle.std.specs.Prelude.{◌≡◌, ◌<◌};
 
-use crate::polygons::{POLYGONS, are_flat_triangles, area_of, ring_of, row_of, vertices_of};
+use crate::polygons::{POLYGONS, are_flat_triangles, area_of, row_of, vertices_of};
+use crate::rings::{ring_of, swept_mesh};
 use cut_tri::triangulate;
 use exact_plane::{Memory, Steps};
+use geo_gen::comb;
 use meshes::Tri;
+use ring_check::Ring;
 use std::alloc::Global;
 use std::marker::Brand;
 use std::process::Abort;
@@ -12,36 +15,75 @@ use std::sync::ledger::{Blank, Ledger};
 use std::test::Fail;
 use tri_mesh::Mesh;
 
+#[derive(Clone, Copy)]
+enum Method {
+    Diagonals,
+    Sweep,
+}
+
+impl Method {
+    fn mesh_of<L: Ledger>(
+        self,
+        alloc: Global,
+        ring: &Ring,
+        steps: &mut Steps<L>,
+    ) -> Result<Mesh, Memory> {
+        match self {
+            Method::Diagonals => triangulate(alloc, ring, steps),
+            Method::Sweep => swept_mesh(alloc, ring, steps),
+        }
+    }
+}
+
 #[test]
-fn triangulations(rt: HostRuntime) -> Result<(), Fail> {
-    all_polygons::<Brand, _>(&rt, rt.alloc(), Blank::new(1))?;
+fn diagonals_triangulate_each_polygon(rt: HostRuntime) -> Result<(), Fail> {
+    all_polygons::<Brand, _>(&rt, rt.alloc(), Method::Diagonals, Blank::new(1))?;
+    Ok(())
+}
+
+#[test]
+fn sweep_triangulates_each_polygon_and_the_greatest_comb(rt: HostRuntime) -> Result<(), Fail> {
+    all_polygons::<Brand, _>(&rt, rt.alloc(), Method::Sweep, Blank::new(1))?;
     Ok(())
 }
 
 // With a counter over a ledger that nobody else counts in.
-fn all_polygons<L: Ledger, R: Abort>(rt: &R, alloc: Global, blank: Blank) -> Result<(), Memory>
+fn all_polygons<L: Ledger, R: Abort>(
+    rt: &R,
+    alloc: Global,
+    method: Method,
+    blank: Blank,
+) -> Result<(), Memory>
     requires name { blank.name ≡ L.name }
     requires parts { blank.parts ≡ L.parts }
     requires countable { 0 < blank.parts }
 {
     let mut steps = Steps::<L>::new(blank);
     for row in POLYGONS.split("\n\n") {
-        is_triangulated(rt, alloc, row, &mut steps)?;
+        is_triangulated(rt, alloc, method, row, &mut steps)?;
     }
-    has_flat_triangles(rt, alloc, &mut steps)
+    has_flat_triangles(rt, alloc, method, &mut steps)?;
+    match method {
+        Method::Diagonals => Ok(()),
+        Method::Sweep => greatest_comb(rt, alloc, &mut steps),
+    }
 }
 
 fn is_triangulated<L: Ledger, R: Abort>(
     rt: &R,
     alloc: Global,
+    method: Method,
     row: &str,
     steps: &mut Steps<L>,
 ) -> Result<(), Memory> {
-    let (name, ring, area) = row_of(rt, alloc, row, steps)?;
-    let mesh = triangulate(alloc, &ring, steps)?;
+    let (name, ring, area) = row_of(rt, alloc, row, steps);
+    let mesh = method.mesh_of(alloc, &ring, steps)?;
     let list = vertices_of(alloc, &ring, steps)?;
     let tris = triangles_of(alloc, &mesh)?;
-    assert!(rt; mesh.count() + 2 == ring.len(), "triangles of {name}");
+    assert!(rt;
+        tris.len() + 2 == ring.len() as usize,
+        "triangles of {name}"
+    );
     assert!(rt; area_of(rt, &list, &tris) == area, "area of {name}");
     assert!(rt;
         outer_sides(rt, &mesh) == ring.len(),
@@ -97,10 +139,23 @@ fn has_side(tri: &Tri, from: u32, to: u32) -> bool {
 fn has_flat_triangles<L: Ledger, R: Abort>(
     rt: &R,
     alloc: Global,
+    method: Method,
     steps: &mut Steps<L>,
 ) -> Result<(), Memory> {
-    let ring = ring_of(rt, alloc, &[(0, 0), (2, 0), (4, 0), (0, 4)], steps)?;
-    let mesh = triangulate(alloc, &ring, steps)?;
+    let ring = ring_of(alloc, &[(0, 0), (2, 0), (4, 0), (0, 4)], steps).expect(rt, "a ring");
+    let mesh = method.mesh_of(alloc, &ring, steps)?;
     assert!(rt; are_flat_triangles(&triangles_of(alloc, &mesh)?));
+    Ok(())
+}
+
+// The comb of 2,047 teeth has 4,096 vertices.
+fn greatest_comb<L: Ledger, R: Abort>(
+    rt: &R,
+    alloc: Global,
+    steps: &mut Steps<L>,
+) -> Result<(), Memory> {
+    let points = comb(alloc, 2_047)?;
+    let ring = Ring::of(points, steps).ok().expect(rt, "a ring");
+    assert!(rt; swept_mesh(alloc, &ring, steps)?.count() == 4_094);
     Ok(())
 }
