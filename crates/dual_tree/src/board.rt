@@ -24,6 +24,15 @@ impl<'a> Board<'a> {
         Board { ring, start, goal }
     }
 
+    /// The board of a ring's vertices alone: its start and its goal are vertex 0.
+    pub fn without_ends(ring: &'a Ring) -> Board<'a>
+        ensures { ⟦<Board<'a> as Turns>⟧.corners result ≡ ring.now.corners }
+    {
+        let _ring_has_vertices = ring.len();
+        let first = ring.corner(0);
+        Board::new(ring, first, first)
+    }
+
     /// The point with this name.
     pub fn point(&self, spot: Spot) -> Pt
         requires { IsNamed (⟦<Board<'a> as Turns>⟧.corners self.now) spot }

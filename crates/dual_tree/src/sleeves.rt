@@ -18,6 +18,7 @@ pub fn sleeve(alloc: Global, mesh: &Mesh, from: u32, to: u32) -> Result<Sleeve, 
     ensures only { IfOk result (λ sleeve. (walk : List ℕ) → IsWalkBetween mesh.now from to walk → walk ≡ sleeve.walk) }
     ensures sight { IfOk result (SeesThrough mesh.now from to) }
 {
+    // The prover learns from this call how many triangles there can be.
     let _count = mesh.count();
     let walk = walk_between(alloc, mesh, from, to)?;
     Sleeve::of(alloc, mesh, &walk)

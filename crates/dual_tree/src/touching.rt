@@ -36,6 +36,7 @@ pub fn touched<L: Ledger>(
     ensures same_out { vec_capacity out.new ≡ vec_capacity out.old }
     ensures steps { steps.new ≤ steps.old + 20 * length ring.now.corners }
 {
+    // The prover learns from this call how many triangles there can be.
     let _count = mesh.count();
     let first = chain[0];
     let mut reached = Reached {

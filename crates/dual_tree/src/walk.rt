@@ -76,6 +76,7 @@ pub(crate) fn walk_between(
     requires to { to < length mesh.now }
     ensures { IfOk result (λ walk. IsWalkBetween mesh.now from to walk.items) }
 {
+    // The prover learns from this call how many triangles there can be.
     let _count = mesh.count();
     let rooted = mesh.rooted();
     let mut front = Way::new(alloc, rooted.places[from as usize]);

@@ -1,14 +1,13 @@
 //! Asks whether memory suffices for triangulations, and whether their triangles are those that were worked out by hand: for
-//! `tri_mesh`, `cut_tri`, `mono_fill` and `sweep_tri`.
+//! `tri_mesh`, `cut_tri`, `mono_fill` and `sweep_tri`. `rings` makes rings and meshes for these tests and others.
 #![tactic(auto)]
 
-#[cfg(test)]
-mod diagonals;
 #[cfg(test)]
 mod monotone_pieces;
 #[cfg(test)]
 mod polygons;
-#[cfg(test)]
-mod sweeps;
+pub mod rings;
 #[cfg(test)]
 mod triangles;
+#[cfg(test)]
+mod triangulations;

@@ -5,7 +5,8 @@ ghost use Rattle.rings.specs.Ring.{vertex};
 ghost use Rattle.exact_plane.specs.Spot.{IsNamed, point_named};
 ghost use Rattle.mesh_tests.specs.Pieces.{IsPieceRow};
 
-use crate::polygons::{At, area_of, points_of};
+use crate::polygons::area_of;
+use crate::rings::{At, points_of};
 use exact_plane::{Direction, Memory, Pt, Spot, Steps, Turns, order, turn};
 use meshes::Tri;
 use mono_fill::fill;
@@ -53,7 +54,7 @@ impl<'a> Turns for Corners<'a> {
 }
 
 #[test]
-fn fillings(rt: HostRuntime) -> Result<(), Fail> {
+fn monotone_pieces_are_filled(rt: HostRuntime) -> Result<(), Fail> {
     all_pieces::<Brand, _>(&rt, rt.alloc(), Blank::new(1))?;
     Ok(())
 }
@@ -106,13 +107,13 @@ fn filled<L: Ledger, R: Abort>(
 ) -> Result<Vec<Tri>, Memory>
     requires row { IsPieceRow list.now piece.now }
 {
-    let points = points_of(rt, alloc, list)?;
+    let points = points_of(alloc, list).expect(rt, "points");
     assert!(rt; points.len() < 100);
     let rank = numbers(alloc, points.len() as u32)?;
     let outline = outline_of(alloc, &points, piece)?;
     let ring = Ring::of(outline, steps).ok().expect(rt, "a ring");
     assert!(rt; !ring.is_turned());
-    let _size = ring.len();
+    let _ring_is_simple = ring.len();
     let board = Corners {
         points: &points,
         first: Pt::of(0, 0).expect(rt, "within the limit"),

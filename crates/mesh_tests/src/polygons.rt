@@ -1,16 +1,11 @@
-// Polygons and their triangles.
-ghost use Rattle.std.specs.Prelude.{◌≡◌, IfOk, map};
-ghost use Rattle.ring_check.specs.Oriented.{oriented};
-ghost use Rattle.mesh_tests.specs.Rows.{point_of};
-
-use exact_plane::{Memory, Pt, Steps};
+// Polygons with their areas, and how areas are added.
+use crate::rings::{At, ats_of, ring_of};
+use exact_plane::{Memory, Steps};
 use meshes::Tri;
 use ring_check::Ring;
 use std::alloc::Global;
 use std::process::Abort;
 use std::sync::ledger::Ledger;
-
-pub(crate) type At = (i64, i64);
 
 // For each polygon its name, its vertices, and twice its area.
 pub(crate) const POLYGONS: &str = "an L
@@ -107,47 +102,16 @@ pub(crate) fn row_of<'a, L: Ledger, R: Abort>(
     alloc: Global,
     row: &'a str,
     steps: &mut Steps<L>,
-) -> Result<(&'a str, Ring, i64), Memory> {
+) -> (&'a str, Ring, i64) {
     let (name, rest) = row.split_once("\n").expect(rt, "a name");
     let (vertices, area) = rest.split_once("\n").expect(rt, "vertices");
-    let ring = ring_of(rt, alloc, &ats_of(rt, alloc, vertices)?, steps)?;
-    Ok((name, ring, number(rt, area)))
-}
-
-fn ats_of<R: Abort>(rt: &R, alloc: Global, text: &str) -> Result<Vec<At>, Memory> {
-    let mut list = Vec::new(alloc);
-    for point in text.split(" ") {
-        let (x, y) = point.split_once(",").expect(rt, "two numbers");
-        list.push((number(rt, x), number(rt, y)))?;
-    }
-    Ok(list)
+    let list = ats_of(alloc, vertices).expect(rt, "points");
+    let ring = ring_of(alloc, &list, steps).expect(rt, "a ring");
+    (name, ring, number(rt, area))
 }
 
 fn number<R: Abort>(rt: &R, text: &str) -> i64 {
     text.parse::<i64>().ok().expect(rt, "a number")
-}
-
-// The ring of this list.
-pub(crate) fn ring_of<L: Ledger, R: Abort>(
-    rt: &R,
-    alloc: Global,
-    list: &[At],
-    steps: &mut Steps<L>,
-) -> Result<Ring, Memory>
-    ensures { IfOk result (λ ring. ring ≡ oriented (map point_of list.now)) }
-{
-    let points = points_of(rt, alloc, list)?;
-    Ok(Ring::of(points, steps).ok().expect(rt, "a ring"))
-}
-
-pub(crate) fn points_of<R: Abort>(rt: &R, alloc: Global, list: &[At]) -> Result<Vec<Pt>, Memory>
-    ensures { IfOk result (λ points. points.items ≡ map point_of list.now) }
-{
-    let mut points = Vec::new(alloc);
-    for (x, y) in list {
-        points.push(Pt::of(*x, *y).expect(rt, "within the limit"))?;
-    }
-    Ok(points)
 }
 
 // The vertices of a ring, by its numbers.

@@ -1,12 +1,9 @@
 // Meshes of triangles that are written down, with what is across their sides.
-ghost use Rattle.std.specs.Prelude.{◌≡◌, ◌<◌, ◌^◌, IfOk, length, map, vec_len};
-ghost use Rattle.meshes.specs.Fits.{Fits};
-ghost use Rattle.mesh_tests.specs.Rows.{Suit, SuitRow, tri_of};
+ghost use Rattle.std.specs.Prelude.{◌≡◌, ◌<◌, ◌^◌, length};
+ghost use Rattle.mesh_tests.specs.Rows.{SuitRow};
 
-use crate::polygons::{At, ring_of};
+use crate::rings::{At, Corners, mesh_with, ring_of};
 use exact_plane::{Memory, Steps};
-use meshes::Tri;
-use ring_check::Ring;
 use std::alloc::Global;
 use std::marker::Brand;
 use std::process::Abort;
@@ -14,10 +11,8 @@ use std::sync::ledger::{Blank, Ledger};
 use std::test::Fail;
 use tri_mesh::{Mesh, Outward};
 
-type Corners = (u32, u32, u32);
-
 #[test]
-fn meshes(rt: HostRuntime) -> Result<(), Fail> {
+fn meshes_know_their_neighbours(rt: HostRuntime) -> Result<(), Fail> {
     all_meshes::<Brand, _>(&rt, rt.alloc(), Blank::new(1))?;
     Ok(())
 }
@@ -84,31 +79,6 @@ fn mesh_of<L: Ledger, R: Abort>(
     requires few { length tris.now < 2 ^ 30 }
     requires suit { SuitRow points.now tris.now }
 {
-    let ring = ring_of(rt, alloc, points, steps)?;
-    mesh_with(alloc, &ring, tris_of(alloc, tris)?)
-}
-
-// The mesh of triangles that suit a ring.
-fn mesh_with(alloc: Global, ring: &Ring, tris: Vec<Tri>) -> Result<Mesh, Memory>
-    requires few { vec_len tris < 2 ^ 30 }
-    requires suit { Suit ring.now.corners tris.items }
-    ensures { IfOk result (Fits ring.now.corners) }
-{
-    let _count = ring.len();
-    Mesh::build(alloc, tris)
-}
-
-// These triangles.
-fn tris_of(alloc: Global, tris: &[Corners]) -> Result<Vec<Tri>, Memory>
-    ensures { IfOk result (λ list. list.items ≡ map tri_of tris.now) }
-{
-    let mut list = Vec::new(alloc);
-    for (a, b, c) in tris {
-        list.push(Tri {
-            a: *a,
-            b: *b,
-            c: *c,
-        })?;
-    }
-    Ok(list)
+    let ring = ring_of(alloc, points, steps).expect(rt, "a ring");
+    mesh_with(alloc, &ring, tris)
 }

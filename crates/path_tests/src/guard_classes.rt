@@ -1,21 +1,15 @@
 // Guards of polygons with triangles that are written down.
-ghost use Rattle.std.specs.Prelude.{◌≡◌, ◌<◌, ◌^◌, IfOk, length, map, vec_len};
-ghost use Rattle.meshes.specs.Fits.{Fits};
-ghost use Rattle.mesh_tests.specs.Rows.{Suit, SuitRow, tri_of};
+ghost use Rattle.std.specs.Prelude.{◌≡◌, ◌<◌, ◌^◌, length};
+ghost use Rattle.mesh_tests.specs.Rows.{SuitRow};
 
-use crate::polygons::{At, ring_of};
 use exact_plane::{Memory, Steps};
 use guards3::guards;
-use meshes::Tri;
-use ring_check::Ring;
+use mesh_tests::rings::{At, Corners, mesh_with, ring_of};
 use std::alloc::Global;
 use std::marker::Brand;
 use std::process::Abort;
 use std::sync::ledger::{Blank, Ledger};
 use std::test::Fail;
-use tri_mesh::Mesh;
-
-type Corners = (u32, u32, u32);
 
 #[test]
 fn meshes_have_guards(rt: HostRuntime) -> Result<(), Fail> {
@@ -53,33 +47,8 @@ fn has_guards<L: Ledger, R: Abort>(
     requires few { length tris.now < 2 ^ 30 }
     requires suit { SuitRow points.now tris.now }
 {
-    let ring = ring_of(rt, alloc, points, steps)?;
-    let mesh = mesh_with(alloc, &ring, tris_of(alloc, tris)?)?;
+    let ring = ring_of(alloc, points, steps).expect(rt, "a ring");
+    let mesh = mesh_with(alloc, &ring, tris)?;
     assert!(rt; guards(alloc, &ring, &mesh)?.as_slice() == want, "{name}");
     Ok(())
-}
-
-// The mesh of triangles that suit a ring.
-fn mesh_with(alloc: Global, ring: &Ring, tris: Vec<Tri>) -> Result<Mesh, Memory>
-    requires few { vec_len tris < 2 ^ 30 }
-    requires suit { Suit ring.now.corners tris.items }
-    ensures { IfOk result (Fits ring.now.corners) }
-{
-    let _count = ring.len();
-    Mesh::build(alloc, tris)
-}
-
-// These triangles.
-fn tris_of(alloc: Global, tris: &[Corners]) -> Result<Vec<Tri>, Memory>
-    ensures { IfOk result (λ list. list.items ≡ map tri_of tris.now) }
-{
-    let mut list = Vec::with_capacity(alloc, tris.len())?;
-    for (a, b, c) in tris {
-        list.push(Tri {
-            a: *a,
-            b: *b,
-            c: *c,
-        })?;
-    }
-    Ok(list)
 }

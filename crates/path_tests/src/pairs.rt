@@ -1,9 +1,10 @@
 // The paths between pairs of vertices, and which of them see each other.
 ghost use Rattle.std.specs.Prelude.{◌≡◌, ◌<◌, IfOk, length};
 
-use crate::polygons::{mesh_of, ring_named};
+use crate::polygons::ring_named;
 use dual_tree::Board;
 use exact_plane::{Memory, Steps};
+use mesh_tests::rings::swept_mesh;
 use pair_cut::{MAX_PAIRED, PairTable};
 use ring_check::Ring;
 use std::alloc::Global;
@@ -17,7 +18,7 @@ const L_SIGHTS: [(u32, u32); 12] =
     [(0, 1), (0, 2), (0, 3), (0, 4), (0, 5), (1, 2), (1, 3), (1, 5), (2, 3), (3, 4), (3, 5), (4, 5)];
 
 #[test]
-fn pairs(rt: HostRuntime) -> Result<(), Fail> {
+fn paths_and_sights_of_all_pairs(rt: HostRuntime) -> Result<(), Fail> {
     all_tables::<Brand, _>(&rt, rt.alloc(), Blank::new(1))?;
     Ok(())
 }
@@ -29,7 +30,7 @@ fn all_tables<N: Ledger, R: Abort>(rt: &R, alloc: Global, blank: Blank) -> Resul
     requires countable { 0 < blank.parts }
 {
     let mut steps = Steps::<N>::new(blank);
-    let ring = ring_named(rt, alloc, "L", &mut steps)?;
+    let ring = ring_named(rt, alloc, "L", &mut steps);
     let sights = table_of(rt, alloc, &ring, &mut steps)?.sights(alloc)?;
     assert!(rt; sights.as_slice() == L_SIGHTS.as_slice());
     paths(rt, alloc, &mut steps)
@@ -58,7 +59,7 @@ fn pair_in<N: Ledger, R: Abort>(
     j: u32,
     steps: &mut Steps<N>,
 ) -> Result<Vec<u32>, Memory> {
-    let ring = ring_named(rt, alloc, polygon, steps)?;
+    let ring = ring_named(rt, alloc, polygon, steps);
     let table = table_of(rt, alloc, &ring, steps)?;
     assert!(rt; i < ring.len());
     assert!(rt; j < ring.len());
@@ -74,7 +75,7 @@ fn table_of<N: Ledger, R: Abort>(
     ensures { IfOk result (λ table. length table ≡ length ring.now.corners) }
 {
     assert!(rt; ring.len() <= MAX_PAIRED);
-    let mesh = mesh_of(alloc, ring, steps)?;
-    let board = Board::new(ring, ring.corner(0), ring.corner(0));
+    let mesh = swept_mesh(alloc, ring, steps)?;
+    let board = Board::without_ends(ring);
     PairTable::build(alloc, &board, &mesh, steps)
 }

@@ -1,9 +1,10 @@
 // Where points are among the triangles of a polygon, the sleeves between these, and the turns at the vertices.
 ghost use Rattle.std.specs.Prelude.{◌≡◌, ◌<◌};
 
-use crate::polygons::{At, at, mesh_of, ring_named};
+use crate::polygons::{at, ring_named};
 use dual_tree::{Board, locate, sleeve};
 use exact_plane::{Direction, Memory, Spot, Steps, Turns};
+use mesh_tests::rings::{At, swept_mesh};
 use std::alloc::Global;
 use std::marker::Brand;
 use std::process::Abort;
@@ -11,7 +12,7 @@ use std::sync::ledger::{Blank, Ledger};
 use std::test::Fail;
 
 #[test]
-fn polygons(rt: HostRuntime) -> Result<(), Fail> {
+fn places_sleeves_and_turns(rt: HostRuntime) -> Result<(), Fail> {
     all_tables::<Brand, _>(&rt, rt.alloc(), Blank::new(1))?;
     Ok(())
 }
@@ -31,8 +32,8 @@ fn all_tables<N: Ledger, R: Abort>(rt: &R, alloc: Global, blank: Blank) -> Resul
 
 // The triangles of an L have the corners 5, 3, 4 and 5, 0, 3 and 3, 0, 1 and 3, 1, 2.
 fn places<N: Ledger, R: Abort>(rt: &R, alloc: Global, steps: &mut Steps<N>) -> Result<(), Memory> {
-    let ring = ring_named(rt, alloc, "L", steps)?;
-    let mesh = mesh_of(alloc, &ring, steps)?;
+    let ring = ring_named(rt, alloc, "L", steps);
+    let mesh = swept_mesh(alloc, &ring, steps)?;
     let cases: [(&str, At, Option<u32>); 6] = [
         ("outside", (3, 3), None),
         ("the corner of all four", (2, 2), Some(0)),
@@ -56,8 +57,8 @@ fn sleeves<N: Ledger, R: Abort>(
     count: u32,
     steps: &mut Steps<N>,
 ) -> Result<(), Memory> {
-    let ring = ring_named(rt, alloc, name, steps)?;
-    let mesh = mesh_of(alloc, &ring, steps)?;
+    let ring = ring_named(rt, alloc, name, steps);
+    let mesh = swept_mesh(alloc, &ring, steps)?;
     assert!(rt; mesh.count() == count);
     for from in 0..mesh.count() {
         for to in 0..mesh.count() {
@@ -71,7 +72,7 @@ fn sleeves<N: Ledger, R: Abort>(
 
 // The vertices of an L, a start in it and a goal at its reflex vertex.
 fn board<N: Ledger, R: Abort>(rt: &R, alloc: Global, steps: &mut Steps<N>) -> Result<(), Memory> {
-    let ring = ring_named(rt, alloc, "L", steps)?;
+    let ring = ring_named(rt, alloc, "L", steps);
     assert!(rt; ring.len() == 6);
     let board = Board::new(&ring, at(rt, 1, 1), at(rt, 2, 2));
     let (second, third, fourth) = (Spot::Corner(2), Spot::Corner(3), Spot::Corner(4));

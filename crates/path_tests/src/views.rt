@@ -1,9 +1,10 @@
 // What points see of the edges.
 ghost use Rattle.std.specs.Prelude.{◌≡◌, ◌<◌};
 
-use crate::polygons::{at, mesh_of, ring_named};
+use crate::polygons::{at, ring_named};
 use dual_tree::locate;
 use exact_plane::{Hom, Memory, Steps};
+use mesh_tests::rings::swept_mesh;
 use see_cone::{Part, see};
 use std::alloc::Global;
 use std::marker::Brand;
@@ -28,8 +29,8 @@ fn sees_all_edges<L: Ledger, R: Abort>(rt: &R, alloc: Global, blank: Blank) -> R
     requires countable { 0 < blank.parts }
 {
     let mut steps = Steps::<L>::new(blank);
-    let ring = ring_named(rt, alloc, "triangle", &mut steps)?;
-    let mesh = mesh_of(alloc, &ring, &mut steps)?;
+    let ring = ring_named(rt, alloc, "triangle", &mut steps);
+    let mesh = swept_mesh(alloc, &ring, &mut steps)?;
     let q = at(rt, 1, 0);
     let home = locate(&mesh, &ring, &q, &mut steps).expect(rt, "in the triangle");
     let parts = see(alloc, &ring, &mesh, home, &q, &mut steps)?;

@@ -51,6 +51,7 @@ pub(crate) fn funnel_from<T: Turns, L: Ledger>(
     ensures funnel { IfOk result (IsFunnelTo (T.corners board.now) (T.start board.now) mesh.now order.now p) }
     ensures steps { let b = binary_digits (length (T.corners board.now)) in steps.new ≤ steps.old + b * (4 * b + 3) + 160 * (b + 1) }
 {
+    // The prover learns from this call how many triangles there can be.
     let _count = mesh.count();
     let toward = order[p].toward as usize;
     let third = door_of(mesh, order[toward]).third;

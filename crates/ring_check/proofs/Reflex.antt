@@ -1,8 +1,7 @@
 -- In a counterclockwise ring the reflex vertices are those with a turn to the right.
-use Rattle.std.proofs.Common.{◌≡◌, ℕ, ◌+◌, ◌-◌, ◌<◌, ◌%◌, ◌↔◌, pos, ◌<ℤ◌, inl, inr, List, length, arith}
+use Rattle.std.proofs.Common.{◌≡◌, ℕ, ◌+◌, ◌-◌, ◌↔◌, pos, ◌<ℤ◌, inl, inr, List, length, arith}
 use Rattle.std.proofs.lemmas.Int.{ints}
 use Rattle.plane.specs.Point.{Point, whole}
-use Rattle.rings.proofs.Vertices.{vertex_mod}
 use Rattle.rings.specs.Orientation.{IsCounterclockwise, IsReflex, turn_at}
 use Rattle.rings.specs.Ring.{vertex}
 use Rattle.exact_plane.proofs.Directions.{right_iff_negative}
@@ -16,11 +15,10 @@ reflex_iff_negative ring i way = (
   λ h. inl (way, h),
 )
 
--- the vertices before and after are looked up with a number that is counted round
-pub reflex_iff_right : (ring : List Point) (i : ℕ) → 0 < length ring → IsCounterclockwise ring
-    → IsReflex ring i ↔ (turn_of (whole (vertex ring ((i + length ring - 1) % length ring))) (whole (vertex ring i)) (whole (vertex ring ((i + 1) % length ring))) ≡ Right)
-reflex_iff_right ring i some way =
-    let before : i + length ring - 1 ≡ i + (length ring - 1) = omega arith in
+-- as the vertices beside it tell
+pub reflex_iff_right : (ring : List Point) (i : ℕ) → IsCounterclockwise ring
+    → IsReflex ring i ↔ (turn_of (whole (vertex ring (i + (length ring - 1)))) (whole (vertex ring i)) (whole (vertex ring (i + 1))) ≡ Right)
+reflex_iff_right ring i way =
     let is = right_iff_negative (turn_at ring i) in
     let reflex = reflex_iff_negative ring i way in
-    rw (vertex_mod ring (i + length ring - 1), vertex_mod ring (i + 1), before) (λ h. is.1 (reflex.0 h), λ h. reflex.1 (is.0 h))
+    (λ h. is.1 (reflex.0 h), λ h. reflex.1 (is.0 h))

@@ -1,4 +1,4 @@
-ghost use Rattle.std.specs.Prelude.{◌≡◌, ◌+◌, ◌<◌, ◌≤◌, ◌↔◌, ℕ, IfOk, IsOk, IsTrue, Err, false, length, vec_len};
+ghost use Rattle.std.specs.Prelude.{◌≡◌, ◌+◌, ◌-◌, ◌<◌, ◌≤◌, ◌↔◌, ℕ, IfOk, IsOk, IsTrue, Err, false, length, vec_len};
 ghost use Rattle.plane.specs.Point.{whole};
 ghost use Rattle.plane.specs.declared.limits.TheConstants.{MAX_CORNERS};
 ghost use Rattle.rings.specs.Orientation.{IsCounterclockwise, IsReflex};
@@ -98,6 +98,26 @@ impl Ring {
         self.corners[i as usize]
     }
 
+    /// The vertex after vertex `i`, round the ring.
+    #[tactic(auto, using(rings::proofs::Vertices::vertex_mod))]
+    pub fn next(&self, i: u32) -> Pt
+        requires { i < length self.now.corners }
+        ensures { result ≡ vertex self.now.corners (i + 1) }
+    {
+        let n = self.len();
+        self.corner((i + 1) % n)
+    }
+
+    /// The vertex before it.
+    #[tactic(auto, using(rings::proofs::Vertices::vertex_mod))]
+    pub fn previous(&self, i: u32) -> Pt
+        requires { i < length self.now.corners }
+        ensures { result ≡ vertex self.now.corners (i + (length self.now.corners - 1)) }
+    {
+        let n = self.len();
+        self.corner((i + (n - 1)) % n)
+    }
+
     /// Whether the list ran clockwise.
     pub fn is_turned(&self) -> bool
         ensures { result ≡ self.now.is_turned }
@@ -137,10 +157,8 @@ impl Ring {
         ensures reflex { IsTrue result ↔ IsReflex self.now.corners i }
         ensures steps { steps.new ≡ steps.old + 1 }
     {
-        let n = self.len();
-        let before = self.corner((i + n - 1) % n);
-        let after = self.corner((i + 1) % n);
-        turns_right(&before, &self.corner(i), &after, steps)
+        let _is_counterclockwise = self.len();
+        turns_right(&self.previous(i), &self.corner(i), &self.next(i), steps)
     }
 }
 

@@ -1,6 +1,8 @@
 -- A height-balanced tree as its values in order and its height (Adelson-Velsky and Landis 1962, with the values at the
 -- leaves). No public clause cites it.
-use Rattle.std.specs.Prelude.{◌≡◌, ℕ, ◌+◌, ◌*◌, ◌^◌, ◌<◌, ◌≤◌, max, List, ◌++◌, length}
+use Rattle.std.specs.Prelude.{◌≡◌, ℕ, ◌+◌, ◌*◌, ◌^◌, ◌<◌, ◌≤◌, max, List, ◌++◌, drop, length, take}
+use Rattle.shared_seq.specs.declared.side.Side.{Side}
+use Rattle.shared_seq.specs.declared.side.Side.TheVariants.{Left, Right}
 
 pub record Tree : Type 0 where
   pub items : List ℕ
@@ -21,13 +23,57 @@ DifferByAtMost by l r = (l ≤ r + by) × (r ≤ l + by)
 abbrev pub forked : Tree → Tree → Tree
 forked l r = record { items = l.items ++ r.items; height = max l.height r.height + 1 }
 
--- a tree with the values of two, as high as the higher one or one more; where the two differ by at most one, as high as a
--- fork over them
-pub record IsJoined (l r tree : Tree) : Type 0 where
-  pub items : tree.items ≡ l.items ++ r.items
-  pub not_lower : max l.height r.height ≤ tree.height
-  pub at_most_one_higher : tree.height ≤ max l.height r.height + 1
-  pub as_fork : DifferByAtMost 1 l.height r.height → tree.height ≡ max l.height r.height + 1
+abbrev pub opposite : Side → Side
+opposite Left = Right
+opposite Right = Left
+
+-- two lists, one after the other, the first one given on this side
+abbrev pub beside : Side → List ℕ → List ℕ → List ℕ
+beside Left xs ys = xs ++ ys
+beside Right xs ys = ys ++ xs
+
+-- c and d are a and b, the left one first if a is the one on this side, and so the other way round
+abbrev pub IsOrdered : Side → Tree → Tree → Tree → Tree → Type 0
+IsOrdered Left a b c d = (c ≡ a) × (d ≡ b)
+IsOrdered Right a b c d = (c ≡ b) × (d ≡ a)
+
+-- a tree is a fork over two, the first one given on this side
+pub record IsFork (side : Side) (one other tree : Tree) : Type 0 where
+  pub items : tree.items ≡ beside side one.items other.items
+  pub height : tree.height ≡ max one.height other.height + 1
+  pub near : DifferByAtMost 1 one.height other.height
+  pub long : length tree.items ≡ length one.items + length other.items
+  pub short : length tree.items < 2 ^ 31
+
+-- where place i of two lists is, the first one given on this side: at this place of that one
+abbrev pub IsPlace : Side → List ℕ → List ℕ → ℕ → ℕ → Type 0
+IsPlace Left part other i at = (at ≡ i) × (i < length part)
+IsPlace Right part other i at = i ≡ length other + at
+
+-- the part of a fork, on this side, that place i of the tree is in, at this place, and the other part
+pub record IsWay (tree : Tree) (i : ℕ) (side : Side) (part other : Tree) (at : ℕ) : Type 0 where
+  pub fork : IsFork side part other tree
+  pub place : IsPlace side part.items other.items i at
+
+-- a tree of one value
+pub record IsLeaf (tree : Tree) : Type 0 where
+  pub one : length tree.items ≡ 1
+  pub flat : tree.height ≡ 0
+
+-- a tree with the values of two, the first one given on this side, as high as the higher one or one more; where the two
+-- differ by at most one, as high as a fork over them
+pub record IsJoined (side : Side) (one other tree : Tree) : Type 0 where
+  pub items : tree.items ≡ beside side one.items other.items
+  pub not_lower : max one.height other.height ≤ tree.height
+  pub at_most_one_higher : tree.height ≤ max one.height other.height + 1
+  pub as_fork : DifferByAtMost 1 one.height other.height → tree.height ≡ max one.height other.height + 1
+
+-- the first i values of a tree and the rest, neither higher than it
+pub record IsCut (tree : Tree) (i : ℕ) (front back : Tree) : Type 0 where
+  pub front_items : front.items ≡ take i tree.items
+  pub back_items : back.items ≡ drop i tree.items
+  pub front_height : front.height ≤ tree.height
+  pub back_height : back.height ≤ tree.height
 
 -- the height after one more value: as before, or one more
 abbrev pub IsGrown : ℕ → ℕ → Type 0

@@ -3,6 +3,7 @@
 
 mod node;
 mod seq;
+mod side;
 mod tree;
 
 pub use seq::SharedSeq;

@@ -3,6 +3,7 @@ ghost use Rattle.std.specs.List.{insert, remove};
 ghost use Rattle.shared_seq.specs.Digits.{binary_digits};
 
 use crate::node::Node;
+use crate::side::Side;
 use crate::tree;
 use exact_plane::{Memory, Steps};
 use std::alloc::Global;
@@ -83,7 +84,7 @@ impl SharedSeq {
         if right.len == 0 {
             return left.share();
         }
-        Ok(SharedSeq::of(tree::join(alloc, left.tree(), right.tree(), steps)?))
+        Ok(SharedSeq::of(tree::join(alloc, Side::Left, left.tree(), right.tree(), steps)?))
     }
 
     /// The first i values, and the rest.

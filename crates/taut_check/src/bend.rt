@@ -89,6 +89,6 @@ fn neighbours(ring: &Ring, i: u32) -> (Pt, Pt)
     requires { i < length ring.now.corners }
     ensures { (u : Point) → AreNeighbours ring.now.corners (vertex ring.now.corners i) u ↔ ((u ≡ result.0) ⊎ (u ≡ result.1)) }
 {
-    let n = ring.len();
-    (ring.corner((i + (n - 1)) % n), ring.corner((i + 1) % n))
+    let _ring_is_simple = ring.len();
+    (ring.previous(i), ring.next(i))
 }

@@ -4,4 +4,4 @@ use Rattle.path_tests.proofs.pairs.table_of.Goals as goal
 
 pub returns : goal.returns
 returns g c =
-    IfOk-weaker c.build.result _ _ (λ table made. made.rows ∙ ap length c.new-board.ensures.corners) c.build.ensures.made
+    IfOk-weaker c.build.result _ _ (λ table made. made.rows ∙ ap length c.without_ends-board.ensures) c.build.ensures.made

@@ -1,0 +1,161 @@
+// Triangulations by diagonals, and by a sweep.
+ghost use Rattle.std.specs.Prelude.{◌≡◌, ◌<◌};
+
+use crate::polygons::{POLYGONS, are_flat_triangles, area_of, row_of, vertices_of};
+use crate::rings::{ring_of, swept_mesh};
+use cut_tri::triangulate;
+use exact_plane::{Memory, Steps};
+use geo_gen::comb;
+use meshes::Tri;
+use ring_check::Ring;
+use std::alloc::Global;
+use std::marker::Brand;
+use std::process::Abort;
+use std::sync::ledger::{Blank, Ledger};
+use std::test::Fail;
+use tri_mesh::Mesh;
+
+#[derive(Clone, Copy)]
+enum Method {
+    Diagonals,
+    Sweep,
+}
+
+impl Method {
+    fn mesh_of<L: Ledger>(
+        self,
+        alloc: Global,
+        ring: &Ring,
+        steps: &mut Steps<L>,
+    ) -> Result<Mesh, Memory> {
+        match self {
+            Method::Diagonals => triangulate(alloc, ring, steps),
+            Method::Sweep => swept_mesh(alloc, ring, steps),
+        }
+    }
+}
+
+#[test]
+fn diagonals_triangulate_each_polygon(rt: HostRuntime) -> Result<(), Fail> {
+    all_polygons::<Brand, _>(&rt, rt.alloc(), Method::Diagonals, Blank::new(1))?;
+    Ok(())
+}
+
+#[test]
+fn sweep_triangulates_each_polygon_and_the_greatest_comb(rt: HostRuntime) -> Result<(), Fail> {
+    all_polygons::<Brand, _>(&rt, rt.alloc(), Method::Sweep, Blank::new(1))?;
+    Ok(())
+}
+
+// With a counter over a ledger that nobody else counts in.
+fn all_polygons<L: Ledger, R: Abort>(
+    rt: &R,
+    alloc: Global,
+    method: Method,
+    blank: Blank,
+) -> Result<(), Memory>
+    requires name { blank.name ≡ L.name }
+    requires parts { blank.parts ≡ L.parts }
+    requires countable { 0 < blank.parts }
+{
+    let mut steps = Steps::<L>::new(blank);
+    for row in POLYGONS.split("\n\n") {
+        is_triangulated(rt, alloc, method, row, &mut steps)?;
+    }
+    has_flat_triangles(rt, alloc, method, &mut steps)?;
+    match method {
+        Method::Diagonals => Ok(()),
+        Method::Sweep => greatest_comb(rt, alloc, &mut steps),
+    }
+}
+
+fn is_triangulated<L: Ledger, R: Abort>(
+    rt: &R,
+    alloc: Global,
+    method: Method,
+    row: &str,
+    steps: &mut Steps<L>,
+) -> Result<(), Memory> {
+    let (name, ring, area) = row_of(rt, alloc, row, steps);
+    let mesh = method.mesh_of(alloc, &ring, steps)?;
+    let list = vertices_of(alloc, &ring, steps)?;
+    let tris = triangles_of(alloc, &mesh)?;
+    assert!(rt;
+        tris.len() + 2 == ring.len() as usize,
+        "triangles of {name}"
+    );
+    assert!(rt; area_of(rt, &list, &tris) == area, "area of {name}");
+    assert!(rt;
+        outer_sides(rt, &mesh) == ring.len(),
+        "outer sides of {name}"
+    );
+    Ok(())
+}
+
+fn triangles_of(alloc: Global, mesh: &Mesh) -> Result<Vec<Tri>, Memory> {
+    let mut tris = Vec::new(alloc);
+    for i in 0..mesh.count() {
+        tris.push(mesh.tri(i))?;
+    }
+    Ok(tris)
+}
+
+// How many sides have no triangle across. Across each other side is a triangle with that side in the other direction.
+fn outer_sides<R: Abort>(rt: &R, mesh: &Mesh) -> u32 {
+    let mut count: u32 = 0;
+    for i in 0..mesh.count() {
+        for side in 0..3 {
+            match mesh.across(i, side) {
+                None => count = count.wrapping_add(1),
+                Some(k) => {
+                    assert!(rt; k < mesh.count());
+                    let (from, to) = ends_of(&mesh.tri(i), side);
+                    assert!(rt;
+                        has_side(&mesh.tri(k), to, from),
+                        "side {side} of triangle {i}"
+                    );
+                }
+            }
+        }
+    }
+    count
+}
+
+fn ends_of(tri: &Tri, side: u32) -> (u32, u32) {
+    match side {
+        0 => (tri.a, tri.b),
+        1 => (tri.b, tri.c),
+        _ => (tri.c, tri.a),
+    }
+}
+
+fn has_side(tri: &Tri, from: u32, to: u32) -> bool {
+    (tri.a == from && tri.b == to)
+        || (tri.b == from && tri.c == to)
+        || (tri.c == from && tri.a == to)
+}
+
+// A flat vertex is a corner of both triangles beside the diagonal from it.
+fn has_flat_triangles<L: Ledger, R: Abort>(
+    rt: &R,
+    alloc: Global,
+    method: Method,
+    steps: &mut Steps<L>,
+) -> Result<(), Memory> {
+    let ring = ring_of(alloc, &[(0, 0), (2, 0), (4, 0), (0, 4)], steps).expect(rt, "a ring");
+    let mesh = method.mesh_of(alloc, &ring, steps)?;
+    assert!(rt; are_flat_triangles(&triangles_of(alloc, &mesh)?));
+    Ok(())
+}
+
+// The comb of 2,047 teeth has 4,096 vertices.
+fn greatest_comb<L: Ledger, R: Abort>(
+    rt: &R,
+    alloc: Global,
+    steps: &mut Steps<L>,
+) -> Result<(), Memory> {
+    let points = comb(alloc, 2_047)?;
+    let ring = Ring::of(points, steps).ok().expect(rt, "a ring");
+    assert!(rt; swept_mesh(alloc, &ring, steps)?.count() == 4_094);
+    Ok(())
+}
