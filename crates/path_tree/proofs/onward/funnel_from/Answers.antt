@@ -12,6 +12,18 @@ door_of-requires-clause-in_list g c = c.requires.start.outward.in_list c.args.p 
 pub door_of-requires-clause-side : goal.door_of-requires-clause-side
 door_of-requires-clause-side g c = (c.requires.start.outward.joined c.args.p c.requires.later c.requires.within).side
 
+pub bounds-order-toward : goal.bounds-order-toward
+bounds-order-toward g c =
+    toward_below (g.T.Turns.corners c.args.board.now) (g.T.Turns.start c.args.board.now) c.args.mesh.now c.args.order.now c.requires.start
+    c.args.p c.requires.later c.requires.within
+
+pub door_of-third-requires-clause-side : goal.door_of-third-requires-clause-side
+door_of-third-requires-clause-side g c =
+    let below =
+    toward_below (g.T.Turns.corners c.args.board.now) (g.T.Turns.start c.args.board.now) c.args.mesh.now c.args.order.now c.requires.start
+    c.args.p c.requires.later c.requires.within in
+    (c.requires.start.outward.joined (toward c.args.order.now c.args.p) c.requires.inner below).side
+
 pub to_right-requires-clause-apex : goal.to_right-requires-clause-apex
 to_right-requires-clause-apex g c =
     apex_in (g.T.Turns.corners c.args.board.now) (g.T.Turns.start c.args.board.now) c.args.mesh.now c.args.order.now c.requires.start
@@ -64,7 +76,7 @@ returns-then-door_of-third-clause-funnel g c =
     let old = c.args.funnel.now in
     IfOk-weaker c.to_right.result _ (IsFunnelTo corners start tris order p)
     (λ f next. funnel_on_right corners start tris order from p c.requires.later c.requires.within c.requires.inner old c.requires.funnel
-    c.place_of_third-place.result c.place_of_third-place.ensures.reached c.door_of.result.right c.door_of-third.result.third
+    c.args.place c.requires.place c.door_of.result.right c.door_of-third.result.third
     c.door_of.ensures.right c.door_of-third.ensures.third f c.if-door_of-third.true
     (λ beyond reached side. next corners start tris (at_place order q) (left_of tris order q) (right_of tris order q) (at_place order p)
     q from.fits beyond c.requires.funnel reached side))
@@ -80,7 +92,7 @@ returns-then-door_of-third-clause-steps g c =
     let p = c.args.p in
     let few = few_digits corners start tris order from (toward order p) c.args.funnel.now
     (toward_below corners start tris order from p c.requires.later c.requires.within) c.requires.funnel in
-    omega (arith, c.place_of_third-place.ensures.steps, c.to_right.ensures.steps, few.1)
+    omega (arith, c.to_right.ensures.steps, few.1)
 
 pub returns-else-door_of-third-clause-funnel : goal.returns-else-door_of-third-clause-funnel
 returns-else-door_of-third-clause-funnel g c =
@@ -94,7 +106,7 @@ returns-else-door_of-third-clause-funnel g c =
     let old = c.args.funnel.now in
     IfOk-weaker c.to_left.result _ (IsFunnelTo corners start tris order p)
     (λ f next. funnel_on_left corners start tris order from p c.requires.later c.requires.within c.requires.inner old c.requires.funnel
-    c.place_of_third-place.result c.place_of_third-place.ensures.reached c.door_of.result.right c.door_of-third.result.third
+    c.args.place c.requires.place c.door_of.result.right c.door_of-third.result.third
     c.door_of.ensures.right c.door_of-third.ensures.third f c.if-door_of-third.false
     (λ beyond reached side. next corners start tris (at_place order q) (left_of tris order q) (right_of tris order q) (at_place order p)
     q from.fits beyond c.requires.funnel reached side))
@@ -110,4 +122,4 @@ returns-else-door_of-third-clause-steps g c =
     let p = c.args.p in
     let few = few_digits corners start tris order from (toward order p) c.args.funnel.now
     (toward_below corners start tris order from p c.requires.later c.requires.within) c.requires.funnel in
-    omega (arith, c.place_of_third-place.ensures.steps, c.to_left.ensures.steps, few.1)
+    omega (arith, c.to_left.ensures.steps, few.1)
