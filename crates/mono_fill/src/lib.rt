@@ -7,3 +7,4 @@ mod side;
 mod stack;
 
 pub use filling::fill;
+pub use side::Side;

@@ -3,17 +3,18 @@ ghost use Rattle.mono_fill.specs.Sides.{opposite, triangle};
 
 use meshes::Tri;
 
-// One of the two chains of a monotone piece, from its least vertex to its greatest.
+/// One of the two chains of a monotone piece, from its least vertex to its greatest.
 #[derive(Clone, Copy, PartialEq, Eq)]
-pub(crate) enum Side {
-    // The chain that the piece is above.
+pub enum Side {
+    /// The chain that the piece is above.
     Lower,
-    // The chain that the piece is under.
+    /// The chain that the piece is under.
     Upper,
 }
 
 impl Side {
-    pub(crate) fn opposite(self) -> Side
+    /// The other one.
+    pub fn opposite(self) -> Side
         ensures { result ≡ opposite self }
     {
         match self {

@@ -50,7 +50,7 @@ pub(crate) fn funnel_from<T: Turns, L: Ledger>(
     ensures funnel { IfOk result (IsFunnelTo (T.corners board.now) (T.start board.now) mesh.now order.now p) }
     ensures steps { let b = binary_digits (length (T.corners board.now)) in steps.new ≤ steps.old + 160 * (b + 1) }
 {
-    let _count = mesh.count();
+    let _count = mesh.count(); // so that the prover knows how many triangles there can be
     let toward = order[p].toward as usize;
     let third = door_of(mesh, order[toward]).third;
     if door_of(mesh, order[p]).right == third {

@@ -5,22 +5,19 @@ use Rattle.plane.specs.Point.{Point}
 use Rattle.meshes.specs.declared.tri.Tri.{Tri}
 use Rattle.mono_fill.specs.Filled.{IsFilled}
 use Rattle.sweep_tri.proofs.Balance.{filled-append}
-use Rattle.sweep_tri.specs.Meeting.{AreFilled, closed_above, closed_below, with_lower, with_upper}
+use Rattle.sweep_tri.specs.Meeting.{AreFilled, at_edge, closed_at, with_vertex}
+use Rattle.mono_fill.specs.Sides.{opposite}
+use Rattle.mono_fill.specs.declared.side.Side.{Side}
 use Rattle.sweep_tri.specs.Region.{Chains, boundary}
 
 -- of a list of one
 only_one : (P : Chains → Type 0) (c : Chains) → All P (c ∷ []) → P c
 only_one P c all = all 0 c (omega arith)
 
--- the low region beside a high one, where the edge below ends
-pub closed_low : (P : Chains → Type 0) (low : Chains) (high : Option Chains) (h : Chains) (v : ℕ) → high ≡ Some h → All P (closed_below low high v)
-    → P (with_upper low v)
-closed_low P low high h v is all = only_one P (with_upper low v) (subst (λ o. All P (closed_below low o v)) is all)
-
--- the high one, where the edge above ends
-pub closed_high : (P : Chains → Type 0) (low : Chains) (high : Option Chains) (h : Chains) (v : ℕ) → high ≡ Some h → All P (closed_above low high v)
-    → P (with_lower h v)
-closed_high P low high h v is all = only_one P (with_lower h v) (subst (λ o. All P (closed_above low o v)) is all)
+-- of two regions the one at the edge that ends
+pub closed_one : (P : Chains → Type 0) (side : Side) (low : Chains) (high : Option Chains) (h : Chains) (v : ℕ) → high ≡ Some h
+    → All P (closed_at side low high v) → P (with_vertex (opposite side) (at_edge side low h) v)
+closed_one P side low high h v is all = only_one P _ (subst (λ o. All P (closed_at side low o v)) is all)
 
 -- of the first regions, and of the last
 pub all_but_last : (P : Chains → Type 0) (cs : List Chains) (c : Chains) → All P (cs ++ c ∷ []) → All P cs

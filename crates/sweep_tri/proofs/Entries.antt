@@ -6,7 +6,9 @@ use Rattle.std.specs.List.{insert, remove}
 use Rattle.std.specs.Prelude.{slice_index}
 use Rattle.sweep_tri.specs.Entries.{entries, entries_of_all, gap_entries, status_entries}
 use Rattle.sweep_tri.specs.Gaps.{before_last, gap_at, last, no_gap}
-use Rattle.sweep_tri.specs.Meeting.{closed_above, closed_below, left_above, left_below, split_above, split_below, with_lower, with_upper}
+use Rattle.sweep_tri.specs.Meeting.{closed_at, left_at, split_above, split_below, with_vertex}
+use Rattle.mono_fill.specs.declared.side.Side.{Side}
+use Rattle.mono_fill.specs.declared.side.Side.TheVariants.{Lower, Upper}
 use Rattle.sweep_tri.specs.Region.{Chains}
 use Rattle.sweep_tri.specs.declared.gap.Gap.{Gap}
 
@@ -51,23 +53,16 @@ module _ (gaps : List Gap) (j : ℕ) where
 
 -- ---- regions that are closed, and those that are left
 
-pub entries_with_lower : (c : Chains) (v : ℕ) → entries (with_lower c v) ≡ entries c + 1
-entries_with_lower c v = omega (arith, length-append c.lower (v ∷ []))
+pub entries_with : (side : Side) (c : Chains) (v : ℕ) → entries (with_vertex side c v) ≡ entries c + 1
+entries_with Lower c v = omega (arith, length-append c.lower (v ∷ []))
+entries_with Upper c v = omega (arith, length-append c.upper (v ∷ []))
 
-pub entries_with_upper : (c : Chains) (v : ℕ) → entries (with_upper c v) ≡ entries c + 1
-entries_with_upper c v = omega (arith, length-append c.upper (v ∷ []))
-
--- where the edge below a gap ends
-pub entries_met_below : (low : Chains) (high : Option Chains) (v : ℕ)
-    → entries_of_all (closed_below low high v) + entries (left_above low high v) ≤ gap_entries (record { low = low; high = high }) + 2
-entries_met_below low None v = omega arith
-entries_met_below low (Some high) v = omega (arith, entries_with_upper low v, entries_with_lower high v)
-
--- where the edge above it ends
-pub entries_met_above : (low : Chains) (high : Option Chains) (v : ℕ)
-    → entries_of_all (closed_above low high v) + entries (left_below low high v) ≤ gap_entries (record { low = low; high = high }) + 2
-entries_met_above low None v = omega arith
-entries_met_above low (Some high) v = omega (arith, entries_with_upper low v, entries_with_lower high v)
+-- where an edge of a gap ends
+pub entries_met : (side : Side) (low : Chains) (high : Option Chains) (v : ℕ)
+    → entries_of_all (closed_at side low high v) + entries (left_at side low high v) ≤ gap_entries (record { low = low; high = high }) + 2
+entries_met side low None v = omega arith
+entries_met Lower low (Some high) v = omega (arith, entries_with Upper low v, entries_with Lower high v)
+entries_met Upper low (Some high) v = omega (arith, entries_with Upper low v, entries_with Lower high v)
 
 -- ---- a split
 

@@ -5,11 +5,12 @@ use Rattle.std.proofs.lemmas.List.Edits.{get_or-remove_below, length-remove}
 use Rattle.std.specs.List.{insert, remove}
 use Rattle.shared_seq.proofs.Digits.{binary_digits_mono}
 use Rattle.shared_seq.specs.Digits.{binary_digits}
-use Rattle.sweep_tri.proofs.Entries.{entries_inserted, entries_removed, entries_replaced, entries_split, entries_within}
-use Rattle.sweep_tri.specs.Entries.{entries, entries_of_all, event_work, gap_entries, status_entries}
+use Rattle.sweep_tri.proofs.Entries.{entries_inserted, entries_met, entries_replaced, entries_split, entries_within}
+use Rattle.sweep_tri.specs.Entries.{IsPaid, IsWithin, entries, entries_of_all, event_work, gap_entries, status_entries}
 use Rattle.sweep_tri.specs.Gaps.{gap_at, no_gap}
-use Rattle.sweep_tri.specs.Meeting.{gap_of, region_from, split_above, split_below}
+use Rattle.sweep_tri.specs.Meeting.{closed_at, gap_of, left_at, region_from, split_above, split_below}
 use Rattle.sweep_tri.specs.Region.{Chains}
+use Rattle.mono_fill.specs.declared.side.Side.{Side}
 use Rattle.sweep_tri.specs.declared.gap.Gap.{Gap}
 
 -- the digits of one gap more
@@ -32,34 +33,28 @@ still_there gaps i j less within = get_or-remove_below gaps j no_gap i less with
 pub fewer_digits : (gaps : List Gap) (j : ℕ) → j < length gaps → binary_digits (length (remove gaps j)) ≤ binary_digits (length gaps)
 fewer_digits gaps j within = binary_digits_mono (length (remove gaps j)) (length gaps) (omega (arith, length-remove gaps j within))
 
--- the steps s after an event that began at s_old are paid for, with the entries of the gaps that are left
-abbrev pub IsPaid : List Gap → List Gap → ℕ → ℕ → Type 0
-IsPaid old new s_old s = s + 8 * status_entries new ≤ s_old + 8 * status_entries old + event_work old
-
--- and without them
-abbrev pub IsWithin : List Gap → ℕ → ℕ → Type 0
-IsWithin old s_old s = s ≤ s_old + 8 * status_entries old + event_work old
+-- a gap put at a place brings no more entries than it has
+pub put_entries : (gaps gaps' : List Gap) (j : ℕ) (g : Gap) → j < length gaps → gaps' ≡ set gaps j g
+    → status_entries gaps' ≤ status_entries gaps + gap_entries g
+put_entries gaps gaps' j g within is = omega (arith, ap status_entries is, entries_replaced gaps j g within)
 
 module _ (gaps : List Gap) (j : ℕ) (s0 : ℕ) where
-  abbrev digits : ℕ
-  digits = binary_digits (length gaps)
-
   -- ---- a gap begins
 
   pub starts_paid : (v a b s : ℕ) → s ≤ s0 + 24 * (binary_digits (length gaps + 1) + 1)
-      → IsPaid gaps (insert gaps j (gap_of (region_from v a b))) s0 s
+      → IsPaid gaps (insert gaps j (gap_of (region_from v a b))) (event_work gaps) s0 s
   starts_paid v a b s most = omega (arith, most, entries_inserted gaps j (gap_of (region_from v a b)))
 
   module _ (within : j < length gaps) where
     -- ---- a gap is split
 
-    module _ (ranks : List ℕ) (v a b : ℕ) (s1 s2 s3 : ℕ) (first : s1 ≤ s0 + 2 * digits + 1) (second : s2 ≤ s1 + 2 * digits + 1)
-        (third : s3 ≤ s2 + 24 * (binary_digits (length gaps + 1) + 1)) where
+    module _ (ranks : List ℕ) (v a b : ℕ) (s1 s2 s3 : ℕ) (first : s1 ≤ s0 + 2 * binary_digits (length gaps) + 1)
+        (second : s2 ≤ s1 + 2 * binary_digits (length gaps) + 1) (third : s3 ≤ s2 + 24 * (binary_digits (length gaps + 1) + 1)) where
       pub splits_work : s3 ≤ s0 + event_work gaps
       splits_work = omega (arith, first, second, third, more_digits gaps)
 
-      pub splits_paid : let g = gap_at gaps j in
-          IsPaid gaps (insert (set gaps j (gap_of (split_below ranks g.low g.high v a))) (j + 1) (gap_of (split_above ranks g.low g.high v b))) s0 s3
+      pub splits_paid : let g = gap_at gaps j in IsPaid gaps
+          (insert (set gaps j (gap_of (split_below ranks g.low g.high v a))) (j + 1) (gap_of (split_above ranks g.low g.high v b))) (event_work gaps) s0 s3
       splits_paid =
           let g = gap_at gaps j in
           let below = gap_of (split_below ranks g.low g.high v a) in
@@ -76,70 +71,16 @@ module _ (gaps : List Gap) (j : ℕ) (s0 : ℕ) where
             entries_split ranks v a b g.low g.high,
           )
 
-    -- ---- one of its edges ends, so that some regions are closed and one is left
+    -- ---- an edge of the gap ends, so that some regions are closed and one is left; the gap is taken away in some steps more
 
-    module _ (cs : List Chains) (c : Chains) (cost : entries_of_all cs + entries c ≤ gap_entries (gap_at gaps j) + 2) where
-      module _ (s1 s2 : ℕ) (first : s1 ≤ s0 + 2 * digits + 1) (met : s2 ≤ s1 + 8 * entries_of_all cs) where
-        pub meets_work : IsWithin gaps s0 s2
-        meets_work = omega (arith, first, met, cost, more_digits gaps, entries_within gaps j within)
+    module _ (side : Side) (v : ℕ) (more s1 s2 work : ℕ) (enough : more + 16 ≤ work) (first : s1 ≤ s0 + more)
+        (met : let g = gap_at gaps j in s2 ≤ s1 + 8 * entries_of_all (closed_at side g.low g.high v)) where
+      cost : let g = gap_at gaps j in entries_of_all (closed_at side g.low g.high v) + entries (left_at side g.low g.high v) ≤ gap_entries g + 2
+      cost = let g = gap_at gaps j in entries_met side g.low g.high v
 
-        -- the other goes on
-        module _ (s3 : ℕ) (last : s3 ≤ s2 + 2 * digits + 1) where
-          pub goes_on_work : IsWithin gaps s0 s3
-          goes_on_work = omega (arith, first, met, last, cost, more_digits gaps, entries_within gaps j within)
+      pub meets_work : IsWithin gaps work s0 s2
+      meets_work = omega (arith, enough, first, met, cost, entries_within gaps j within)
 
-          pub goes_on_paid : (d : Chains) → entries d ≡ entries c + 1 → IsPaid gaps (set gaps j (gap_of d)) s0 s3
-          goes_on_paid d one = omega (arith, first, met, last, cost, one, more_digits gaps, entries_replaced gaps j (gap_of d) within)
-
-      -- ---- both end (the gap is removed first), so that what is left is closed too
-
-      module _ (s1 s2 : ℕ) (first : s1 ≤ s0 + (40 * (digits + 1) + 2 * digits + 1)) (met : s2 ≤ s1 + 8 * entries_of_all cs) where
-        pub ends_work : IsWithin gaps s0 s2
-        ends_work = omega (arith, first, met, cost, more_digits gaps, entries_within gaps j within)
-
-        pub ends_all_work : (s3 : ℕ) → s3 ≤ s2 + 8 * entries c → IsWithin gaps s0 s3
-        ends_all_work s3 last = omega (arith, first, met, last, cost, more_digits gaps, entries_within gaps j within)
-
-        pub ends_paid : (s3 : ℕ) → s3 ≤ s2 + 8 * entries c → IsPaid gaps (remove gaps j) s0 s3
-        ends_paid s3 last = omega (arith, first, met, last, cost, more_digits gaps, entries_removed gaps j within)
-
-        -- ---- two gaps meet
-
-        module _ (i : ℕ) (less : i < j) (ds : List Chains) (d : Chains) (cost_d : entries_of_all ds + entries d ≤ gap_entries (gap_at gaps i) + 2)
-            (s3 s4 : ℕ) (third : s3 ≤ s2 + 2 * digits + 1) (met_d : s4 ≤ s3 + 8 * entries_of_all ds) where
-          within_rest : i < length (remove gaps j)
-          within_rest = omega (arith, less, within, length-remove gaps j within)
-
-          both_entries : gap_entries (gap_at gaps i) + gap_entries (gap_at gaps j) ≤ status_entries gaps
-          both_entries =
-              omega (
-                arith,
-                entries_removed gaps j within,
-                entries_within (remove gaps j) i within_rest,
-                ap gap_entries (still_there gaps i j less within),
-              )
-
-          pub merges_work : IsWithin gaps s0 s4
-          merges_work = omega (arith, first, met, third, met_d, cost, cost_d, more_digits gaps, both_entries)
-
-          pub merges_all_work : (s5 : ℕ) → s5 ≤ s4 + 2 * digits + 1 → IsWithin gaps s0 s5
-          merges_all_work s5 last = omega (arith, first, met, third, met_d, last, cost, cost_d, more_digits gaps, both_entries)
-
-          pub merges_paid : (s5 : ℕ) (g : Gap) → s5 ≤ s4 + 2 * digits + 1 → gap_entries g ≡ entries d + entries c
-              → IsPaid gaps (set (remove gaps j) i g) s0 s5
-          merges_paid s5 g last is =
-              omega (
-                arith,
-                first,
-                met,
-                third,
-                met_d,
-                last,
-                is,
-                cost,
-                cost_d,
-                more_digits gaps,
-                entries_removed gaps j within,
-                entries_replaced (remove gaps j) i g within_rest,
-                ap gap_entries (still_there gaps i j less within),
-              )
+      pub meets_paid : (new : List Gap) → status_entries new + gap_entries (gap_at gaps j) ≡ status_entries gaps
+          → (region : Chains) → (let g = gap_at gaps j in region ≡ left_at side g.low g.high v) → IsPaid gaps new work s0 (s2 + 8 * entries region)
+      meets_paid new gone region is = omega (arith, enough, first, met, cost, gone, ap entries is)

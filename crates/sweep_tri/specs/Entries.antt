@@ -1,5 +1,5 @@
 -- How many entries the chains of regions have in all: what bounds the work to close them. No public clause cites this module.
-use Rattle.std.specs.Prelude.{ℕ, ◌+◌, ◌*◌, Option, Some, None, List, [], ◌∷◌, length}
+use Rattle.std.specs.Prelude.{ℕ, ◌+◌, ◌*◌, ◌≤◌, Option, Some, None, List, [], ◌∷◌, length}
 use Rattle.shared_seq.specs.Digits.{binary_digits}
 use Rattle.sweep_tri.specs.Region.{Chains}
 use Rattle.sweep_tri.specs.declared.gap.Gap.{Gap}
@@ -30,3 +30,18 @@ status_entries (g ∷ gs) = gap_entries g + status_entries gs
 -- the steps that one event takes at most, but for the place of its vertex and for the entries of the regions that it closes
 abbrev pub event_work : List Gap → ℕ
 event_work gaps = 46 * binary_digits (length gaps + 1) + 100
+
+-- those to meet at a gap, and with its removal
+abbrev pub meet_work : List Gap → ℕ
+meet_work gaps = 2 * binary_digits (length gaps) + 17
+
+abbrev pub meet_last_work : List Gap → ℕ
+meet_last_work gaps = 42 * binary_digits (length gaps) + 57
+
+-- the steps s after an event that began at s_old are paid for by the entries of the gaps that were there, eight for each, and some more
+abbrev pub IsWithin : List Gap → ℕ → ℕ → ℕ → Type 0
+IsWithin old more s_old s = s ≤ s_old + 8 * status_entries old + more
+
+-- and by those that are gone
+abbrev pub IsPaid : List Gap → List Gap → ℕ → ℕ → ℕ → Type 0
+IsPaid old new more s_old s = s + 8 * status_entries new ≤ s_old + 8 * status_entries old + more

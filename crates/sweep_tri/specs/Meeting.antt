@@ -2,37 +2,33 @@
 use Rattle.std.specs.Prelude.{◌≡◌, ℕ, ◌-◌, nat_lt, if◌then◌else◌, Option, Some, None, List, [], ◌∷◌, ◌++◌, length, slice_index, take}
 use Rattle.plane.specs.Point.{Point}
 use Rattle.mono_fill.specs.Filled.{IsFilled}
+use Rattle.mono_fill.specs.Sides.{opposite}
+use Rattle.mono_fill.specs.declared.side.Side.{Side}
+use Rattle.mono_fill.specs.declared.side.Side.TheVariants.{Lower, Upper}
 use Rattle.meshes.specs.declared.tri.Tri.{Tri}
 use Rattle.sweep_tri.specs.Gaps.{before_last, last}
 use Rattle.sweep_tri.specs.Region.{Chains, boundary}
 use Rattle.sweep_tri.specs.declared.gap.Gap.{Gap}
 
--- a region with another vertex at the end of its lower chain, or of its upper one
-abbrev pub with_lower : Chains → ℕ → Chains
-with_lower c v = record { lower = c.lower ++ v ∷ []; upper = c.upper }
+-- a region with another vertex at the end of its chain on this side
+abbrev pub with_vertex : Side → Chains → ℕ → Chains
+with_vertex Lower c v = record { lower = c.lower ++ v ∷ []; upper = c.upper }
+with_vertex Upper c v = record { lower = c.lower; upper = c.upper ++ v ∷ [] }
 
-abbrev pub with_upper : Chains → ℕ → Chains
-with_upper c v = record { lower = c.lower; upper = c.upper ++ v ∷ [] }
+-- of two regions of a gap the one at its edge on this side
+abbrev pub at_edge : Side → Chains → Chains → Chains
+at_edge Lower low high = low
+at_edge Upper low high = high
 
--- where the lower edge of a gap ends at v: of two regions the low one is closed by a diagonal from the merge vertex to v
-abbrev pub closed_below : Chains → Option Chains → ℕ → List Chains
-closed_below low None v = []
-closed_below low (Some high) v = with_upper low v ∷ []
+-- where the edge of a gap on this side ends at v: of two regions the one there is closed by a diagonal from the merge vertex to v
+abbrev pub closed_at : Side → Chains → Option Chains → ℕ → List Chains
+closed_at side low None v = []
+closed_at side low (Some high) v = with_vertex (opposite side) (at_edge side low high) v ∷ []
 
--- and this one stays open
-abbrev pub left_above : Chains → Option Chains → ℕ → Chains
-left_above low None v = low
-left_above low (Some high) v = with_lower high v
-
--- where the upper edge ends at v: the high one is closed,
-abbrev pub closed_above : Chains → Option Chains → ℕ → List Chains
-closed_above low None v = []
-closed_above low (Some high) v = with_lower high v ∷ []
-
--- and the low one stays open
-abbrev pub left_below : Chains → Option Chains → ℕ → Chains
-left_below low None v = low
-left_below low (Some high) v = with_upper low v
+-- and the other one stays open
+abbrev pub left_at : Side → Chains → Option Chains → ℕ → Chains
+left_at side low None v = low
+left_at side low (Some high) v = with_vertex side (at_edge (opposite side) low high) v
 
 -- the gap of one region
 abbrev pub gap_of : Chains → Gap

@@ -1,19 +1,22 @@
-// The events of the sweep: what the state becomes at each vertex.
-ghost use Rattle.std.specs.List.{All, insert, remove};
-ghost use Rattle.std.specs.Prelude.{◌≡◌, ◌+◌, ◌*◌, ◌-◌, ◌^◌, ◌≤◌, ◌<◌, ◌↔◌, OnOk, IsTrue, Some, [], ◌∷◌, ◌++◌, length, slice_index, slice_set};
+// The events of the sweep: what the state becomes at each vertex, by its kind.
+ghost use Rattle.std.specs.Prelude.{◌≡◌, ◌+◌, ◌*◌, ◌≤◌, ◌<◌, ◌↔◌, OnOk, IsTrue, [], length, slice_index};
 ghost use Rattle.rings.specs.Events.{next, previous};
 ghost use Rattle.shared_seq.specs.Digits.{binary_digits};
-ghost use Rattle.sweep_tri.specs.Entries.{event_work, status_entries};
+ghost use Rattle.sweep_tri.specs.Entries.{IsPaid, IsWithin};
 ghost use Rattle.sweep_tri.specs.Forks.{IsForkAt};
 ghost use Rattle.sweep_tri.specs.Frontier.{IsPlace, IsUnder};
-ghost use Rattle.sweep_tri.specs.Gaps.{before_last, gap_at, highest, low_front, up_front};
-ghost use Rattle.sweep_tri.specs.Meeting.{AreFilled, closed_above, closed_below, gap_of, left_above, left_below, region_from, split_above, split_below, with_lower, with_upper};
-ghost use Rattle.sweep_tri.specs.Passing.{Begins, Finishes, GoesOn, IsNextEvent, placed_work};
-ghost use Rattle.sweep_tri.specs.Ranked.{IsRanked};
-ghost use Rattle.sweep_tri.specs.Region.{IsClosedRegion};
+ghost use Rattle.sweep_tri.specs.Gaps.{gap_at, highest, up_front};
+ghost use Rattle.sweep_tri.specs.Passing.{Begins, Finishes, IsNextEvent, placed_work};
 ghost use Rattle.sweep_tri.specs.Swept.{IsSwept};
 
-use crate::gap::{Fork, Gap};
+mod end;
+mod meeting;
+mod merge;
+mod regular;
+mod split;
+mod start;
+
+use crate::gap::Fork;
 use crate::status::Status;
 use exact_plane::{Direction, Memory, Spot, Steps, Turns};
 use meshes::Tri;
@@ -50,9 +53,8 @@ impl Sweep {
     ) -> Result<(), Memory>
         requires next { IsNextEvent (T.corners board.now) rank.now self.old.status self.old.tris.items v }
         ensures swept { OnOk result (IsSwept (T.corners board.now) rank.now (slice_index rank.now v + 1) self.new.status self.new.tris.items) }
-        ensures work { steps.new ≤ steps.old + 8 * status_entries self.old.status + 200 * binary_digits (length (T.corners board.now)) }
-        ensures paid { OnOk result (steps.new + 8 * status_entries self.new.status
-            ≤ steps.old + 8 * status_entries self.old.status + 200 * binary_digits (length (T.corners board.now))) }
+        ensures work { IsWithin self.old.status (200 * binary_digits (length (T.corners board.now))) steps.old steps.new }
+        ensures paid { OnOk result (IsPaid self.old.status self.new.status (200 * binary_digits (length (T.corners board.now))) steps.old steps.new) }
     {
         let j = self.status.place(board, v, steps);
         let (a, b) = neighbours(rank.len() as u32, v);
@@ -83,40 +85,13 @@ impl Sweep {
         requires place { IsPlace (T.corners board.now) self.old.status fork.vertex j }
         requires begins { Begins (T.corners board.now) rank.now fork }
         ensures swept { OnOk result (IsSwept (T.corners board.now) rank.now (slice_index rank.now fork.vertex + 1) self.new.status self.new.tris.items) }
-        ensures work { steps.new ≤ steps.old + 8 * status_entries self.old.status + placed_work self.old.status }
-        ensures paid { OnOk result (steps.new + 8 * status_entries self.new.status
-            ≤ steps.old + 8 * status_entries self.old.status + placed_work self.old.status) }
+        ensures work { IsWithin self.old.status (placed_work self.old.status) steps.old steps.new }
+        ensures paid { OnOk result (IsPaid self.old.status self.new.status (placed_work self.old.status) steps.old steps.new) }
     {
         if 0 < j && self.is_under(board, j - 1, fork.vertex, steps) {
             self.split(alloc, rank, j - 1, fork, steps)
         } else {
             self.start(alloc, j, fork, steps)
-        }
-    }
-
-    // One edge ends at v, and one goes on from there to w.
-    fn go_on<T: Turns, L: Ledger>(
-        &mut self,
-        alloc: Global,
-        board: &T,
-        rank: &[u32],
-        j: usize,
-        v: u32,
-        w: u32,
-        steps: &mut Steps<L>,
-    ) -> Result<(), Memory>
-        requires next { IsNextEvent (T.corners board.now) rank.now self.old.status self.old.tris.items v }
-        requires place { IsPlace (T.corners board.now) self.old.status v j }
-        requires goes_on { GoesOn rank.now v w }
-        ensures swept { OnOk result (IsSwept (T.corners board.now) rank.now (slice_index rank.now v + 1) self.new.status self.new.tris.items) }
-        ensures work { steps.new ≤ steps.old + 8 * status_entries self.old.status + placed_work self.old.status }
-        ensures paid { OnOk result (steps.new + 8 * status_entries self.new.status
-            ≤ steps.old + 8 * status_entries self.old.status + placed_work self.old.status) }
-    {
-        if self.low_ends(j, v, steps) {
-            self.go_on_below(alloc, board, rank, j, v, w, steps)
-        } else {
-            self.go_on_above(alloc, board, rank, j - 1, v, w, steps)
         }
     }
 
@@ -134,24 +109,14 @@ impl Sweep {
         requires place { IsPlace (T.corners board.now) self.old.status v j }
         requires finishes { Finishes rank.now v }
         ensures swept { OnOk result (IsSwept (T.corners board.now) rank.now (slice_index rank.now v + 1) self.new.status self.new.tris.items) }
-        ensures work { steps.new ≤ steps.old + 8 * status_entries self.old.status + placed_work self.old.status }
-        ensures paid { OnOk result (steps.new + 8 * status_entries self.new.status
-            ≤ steps.old + 8 * status_entries self.old.status + placed_work self.old.status) }
+        ensures work { IsWithin self.old.status (placed_work self.old.status) steps.old steps.new }
+        ensures paid { OnOk result (IsPaid self.old.status self.new.status (placed_work self.old.status) steps.old steps.new) }
     {
         if self.status.get(j, steps).up_front().1 == v {
             self.end(alloc, board, rank, j, v, steps)
         } else {
             self.merge(alloc, board, rank, j, v, steps)
         }
-    }
-
-    // Whether there is a gap j, and the edge below it ends at v.
-    fn low_ends<L: Ledger>(&self, j: usize, v: u32, steps: &mut Steps<L>) -> bool
-        requires some { j < length self.now.status → 2 ≤ length (gap_at self.now.status j).low.lower }
-        ensures ends { IsTrue result ↔ ((j < length self.now.status) × ((low_front (gap_at self.now.status j)).to ≡ v)) }
-        ensures steps { steps.new ≤ steps.old + 2 * binary_digits (length self.now.status) + 1 }
-    {
-        j < self.status.len() && self.status.get(j, steps).low_front().1 == v
     }
 
     // Whether vertex v is under the upper edge of gap j.
@@ -173,169 +138,6 @@ impl Sweep {
         let (from, to) = self.status.get(j, steps).up_front();
         let turn = board.turn(Spot::Corner(from), Spot::Corner(to), Spot::Corner(v), steps);
         turn == Direction::Right
-    }
-
-    // A gap begins at place j.
-    fn start<L: Ledger>(
-        &mut self,
-        alloc: Global,
-        j: usize,
-        fork: Fork,
-        steps: &mut Steps<L>,
-    ) -> Result<(), Memory>
-        requires place { j ≤ length self.old.status }
-        requires few { length self.old.status + 1 < 2 ^ 31 }
-        ensures gaps { OnOk result (self.new.status ≡ insert self.old.status j (gap_of (region_from fork.vertex fork.below fork.above))) }
-        ensures triangles { self.new.tris.items ≡ self.old.tris.items }
-        ensures work { steps.new ≤ steps.old + event_work self.old.status }
-        ensures paid { OnOk result (steps.new + 8 * status_entries self.new.status
-            ≤ steps.old + 8 * status_entries self.old.status + event_work self.old.status) }
-    {
-        self.status.insert(alloc, j, Gap::at(alloc, fork)?, steps)
-    }
-
-    // Gap j is split.
-    fn split<L: Ledger>(
-        &mut self,
-        alloc: Global,
-        rank: &[u32],
-        j: usize,
-        fork: Fork,
-        steps: &mut Steps<L>,
-    ) -> Result<(), Memory>
-        requires place { j < length self.old.status }
-        requires few { length self.old.status + 1 < 2 ^ 31 }
-        requires lower { 2 ≤ length (gap_at self.old.status j).low.lower }
-        requires upper { 2 ≤ length (gap_at self.old.status j).low.upper }
-        requires lower_from { before_last (gap_at self.old.status j).low.lower < length rank.now }
-        requires upper_from { before_last (gap_at self.old.status j).low.upper < length rank.now }
-        ensures gaps { OnOk result (let g = gap_at self.old.status j in self.new.status
-            ≡ insert (slice_set self.old.status j (gap_of (split_below rank.now g.low g.high fork.vertex fork.below))) (j + 1)
-            (gap_of (split_above rank.now g.low g.high fork.vertex fork.above))) }
-        ensures triangles { self.new.tris.items ≡ self.old.tris.items }
-        ensures work { steps.new ≤ steps.old + event_work self.old.status }
-        ensures paid { OnOk result (steps.new + 8 * status_entries self.new.status
-            ≤ steps.old + 8 * status_entries self.old.status + event_work self.old.status) }
-    {
-        let gap = self.status.replace(j, Gap::none(alloc), steps);
-        let (below, above) = gap.split(alloc, rank, fork)?;
-        self.status.replace(j, below, steps);
-        self.status.insert(alloc, j + 1, above, steps)
-    }
-
-    // The edge below gap j ends at v, and one goes on from there to w.
-    fn go_on_below<T: Turns, L: Ledger>(
-        &mut self,
-        alloc: Global,
-        board: &T,
-        rank: &[u32],
-        j: usize,
-        v: u32,
-        w: u32,
-        steps: &mut Steps<L>,
-    ) -> Result<(), Memory>
-        requires ranked { IsRanked (T.corners board.now) rank.now }
-        requires place { j < length self.old.status }
-        requires closed { let g = gap_at self.old.status j in All (IsClosedRegion (T.corners board.now) rank.now) (closed_below g.low g.high v) }
-        ensures gaps { OnOk result (let g = gap_at self.old.status j in
-            self.new.status ≡ slice_set self.old.status j (gap_of (with_lower (left_above g.low g.high v) w))) }
-        ensures filled { OnOk result (let g = gap_at self.old.status j in
-            AreFilled (T.corners board.now) (closed_below g.low g.high v) self.old.tris.items self.new.tris.items) }
-        ensures work { steps.new ≤ steps.old + 8 * status_entries self.old.status + event_work self.old.status }
-        ensures paid { OnOk result (steps.new + 8 * status_entries self.new.status
-            ≤ steps.old + 8 * status_entries self.old.status + event_work self.old.status) }
-    {
-        let gap = self.status.replace(j, Gap::none(alloc), steps);
-        let mut region = gap.meet_below(alloc, board, rank, v, &mut self.tris, steps)?;
-        region.extend_lower(w)?;
-        self.status.replace(j, Gap::of(region), steps);
-        Ok(())
-    }
-
-    // The edge above gap j ends at v, and one goes on from there to w.
-    fn go_on_above<T: Turns, L: Ledger>(
-        &mut self,
-        alloc: Global,
-        board: &T,
-        rank: &[u32],
-        j: usize,
-        v: u32,
-        w: u32,
-        steps: &mut Steps<L>,
-    ) -> Result<(), Memory>
-        requires ranked { IsRanked (T.corners board.now) rank.now }
-        requires place { j < length self.old.status }
-        requires closed { let g = gap_at self.old.status j in All (IsClosedRegion (T.corners board.now) rank.now) (closed_above g.low g.high v) }
-        ensures gaps { OnOk result (let g = gap_at self.old.status j in
-            self.new.status ≡ slice_set self.old.status j (gap_of (with_upper (left_below g.low g.high v) w))) }
-        ensures filled { OnOk result (let g = gap_at self.old.status j in
-            AreFilled (T.corners board.now) (closed_above g.low g.high v) self.old.tris.items self.new.tris.items) }
-        ensures work { steps.new ≤ steps.old + 8 * status_entries self.old.status + event_work self.old.status }
-        ensures paid { OnOk result (steps.new + 8 * status_entries self.new.status
-            ≤ steps.old + 8 * status_entries self.old.status + event_work self.old.status) }
-    {
-        let gap = self.status.replace(j, Gap::none(alloc), steps);
-        let mut region = gap.meet_above(alloc, board, rank, v, &mut self.tris, steps)?;
-        region.extend_upper(w)?;
-        self.status.replace(j, Gap::of(region), steps);
-        Ok(())
-    }
-
-    // Gap j ends at v.
-    fn end<T: Turns, L: Ledger>(
-        &mut self,
-        alloc: Global,
-        board: &T,
-        rank: &[u32],
-        j: usize,
-        v: u32,
-        steps: &mut Steps<L>,
-    ) -> Result<(), Memory>
-        requires ranked { IsRanked (T.corners board.now) rank.now }
-        requires place { j < length self.old.status }
-        requires closed { let g = gap_at self.old.status j in All (IsClosedRegion (T.corners board.now) rank.now) (closed_above g.low g.high v ++ left_below g.low g.high v ∷ []) }
-        ensures gaps { OnOk result (self.new.status ≡ remove self.old.status j) }
-        ensures filled { OnOk result (let g = gap_at self.old.status j in
-            AreFilled (T.corners board.now) (closed_above g.low g.high v ++ left_below g.low g.high v ∷ []) self.old.tris.items self.new.tris.items) }
-        ensures work { steps.new ≤ steps.old + 8 * status_entries self.old.status + event_work self.old.status }
-        ensures paid { OnOk result (steps.new + 8 * status_entries self.new.status
-            ≤ steps.old + 8 * status_entries self.old.status + event_work self.old.status) }
-    {
-        let gap = self.status.remove(alloc, j, steps)?;
-        let region = gap.meet_above(alloc, board, rank, v, &mut self.tris, steps)?;
-        region.close(alloc, board, rank, &mut self.tris, steps)
-    }
-
-    // The gap before gap j and gap j meet at v.
-    fn merge<T: Turns, L: Ledger>(
-        &mut self,
-        alloc: Global,
-        board: &T,
-        rank: &[u32],
-        j: usize,
-        v: u32,
-        steps: &mut Steps<L>,
-    ) -> Result<(), Memory>
-        requires ranked { IsRanked (T.corners board.now) rank.now }
-        requires first { 0 < j }
-        requires place { j < length self.old.status }
-        requires closed_below { let g = gap_at self.old.status j in All (IsClosedRegion (T.corners board.now) rank.now) (closed_below g.low g.high v) }
-        requires closed_above { let g = gap_at self.old.status (j - 1) in All (IsClosedRegion (T.corners board.now) rank.now) (closed_above g.low g.high v) }
-        ensures gaps { OnOk result (let g = gap_at self.old.status (j - 1) in let h = gap_at self.old.status j in
-            self.new.status ≡ slice_set (remove self.old.status j) (j - 1)
-            (record { low = left_below g.low g.high v; high = Some (left_above h.low h.high v) })) }
-        ensures filled { OnOk result (let g = gap_at self.old.status (j - 1) in let h = gap_at self.old.status j in
-            AreFilled (T.corners board.now) (closed_below h.low h.high v ++ closed_above g.low g.high v) self.old.tris.items self.new.tris.items) }
-        ensures work { steps.new ≤ steps.old + 8 * status_entries self.old.status + event_work self.old.status }
-        ensures paid { OnOk result (steps.new + 8 * status_entries self.new.status
-            ≤ steps.old + 8 * status_entries self.old.status + event_work self.old.status) }
-    {
-        let gap = self.status.remove(alloc, j, steps)?;
-        let high = gap.meet_below(alloc, board, rank, v, &mut self.tris, steps)?;
-        let gap = self.status.replace(j - 1, Gap::none(alloc), steps);
-        let low = gap.meet_above(alloc, board, rank, v, &mut self.tris, steps)?;
-        self.status.replace(j - 1, Gap::of_two(low, high), steps);
-        Ok(())
     }
 }
 

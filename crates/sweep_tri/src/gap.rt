@@ -2,15 +2,16 @@
 ghost use Rattle.std.specs.Prelude.{◌≡◌, ◌+◌, ◌*◌, ◌-◌, ◌≤◌, ◌<◌, IfOk, OnOk, None, Some, [], ◌∷◌, ◌++◌, length, take};
 ghost use Rattle.std.specs.List.{All};
 ghost use Rattle.mono_fill.specs.Filled.{IsFilled};
+ghost use Rattle.mono_fill.specs.Sides.{opposite};
 ghost use Rattle.sweep_tri.specs.Entries.{entries, entries_of_all};
 ghost use Rattle.sweep_tri.specs.Gaps.{before_last, highest, last, low_front, no_gap, up_front};
-ghost use Rattle.sweep_tri.specs.Meeting.{AreFilled, above_latest, below_latest, closed_above, closed_below, gap_of, left_above, left_below, region_from, split_above, split_below, with_lower, with_upper};
+ghost use Rattle.sweep_tri.specs.Meeting.{AreFilled, above_latest, at_edge, below_latest, closed_at, gap_of, left_at, region_from, split_above, split_below, with_vertex};
 ghost use Rattle.sweep_tri.specs.Ranked.{IsRanked};
 ghost use Rattle.sweep_tri.specs.Region.{IsClosedRegion, boundary};
 
 use exact_plane::{Memory, Steps, Turns};
 use meshes::Tri;
-use mono_fill::fill;
+use mono_fill::{Side, fill};
 use std::alloc::Global;
 use std::marker::Model;
 use std::sync::ledger::Ledger;
@@ -46,20 +47,14 @@ pub(crate) struct Fork {
 }
 
 impl Region {
-    // Adds a vertex at the end of the lower chain.
-    pub(crate) fn extend_lower(&mut self, v: u32) -> Result<(), Memory>
-        ensures { OnOk result (self.new ≡ with_lower self.old v) }
+    // Adds a vertex at the end of the chain on this side.
+    pub(crate) fn extend(&mut self, side: Side, v: u32) -> Result<(), Memory>
+        ensures { OnOk result (self.new ≡ with_vertex side self.old v) }
     {
-        self.lower.push(v)?;
-        Ok(())
-    }
-
-    // Adds a vertex at the end of the upper chain.
-    pub(crate) fn extend_upper(&mut self, v: u32) -> Result<(), Memory>
-        ensures { OnOk result (self.new ≡ with_upper self.old v) }
-    {
-        self.upper.push(v)?;
-        Ok(())
+        match side {
+            Side::Lower => Ok(self.lower.push(v)?),
+            Side::Upper => Ok(self.upper.push(v)?),
+        }
     }
 
     // Appends triangles of the region, which is closed.
@@ -219,58 +214,32 @@ impl Gap {
         }
     }
 
-    // The region that stays open where the edge below ends at v. A low region beside a high one is closed.
-    pub(crate) fn meet_below<T: Turns, L: Ledger>(
+    // The region that stays open where the edge on this side ends at v. Of two regions the one there is closed.
+    pub(crate) fn meet<T: Turns, L: Ledger>(
         self,
         alloc: Global,
         board: &T,
         rank: &[u32],
+        side: Side,
         v: u32,
         tris: &mut Vec<Tri>,
         steps: &mut Steps<L>,
     ) -> Result<Region, Memory>
         requires ranked { IsRanked (T.corners board.now) rank.now }
-        requires closed { All (IsClosedRegion (T.corners board.now) rank.now) (closed_below self.low self.high v) }
-        ensures left { IfOk result (λ region. region ≡ left_above self.low self.high v) }
-        ensures filled { OnOk result (AreFilled (T.corners board.now) (closed_below self.low self.high v) tris.old.items tris.new.items) }
-        ensures steps { steps.new ≤ steps.old + 8 * entries_of_all (closed_below self.low self.high v) }
+        requires closed { All (IsClosedRegion (T.corners board.now) rank.now) (closed_at side self.low self.high v) }
+        ensures left { IfOk result (λ region. region ≡ left_at side self.low self.high v) }
+        ensures filled { OnOk result (AreFilled (T.corners board.now) (closed_at side self.low self.high v) tris.old.items tris.new.items) }
+        ensures steps { steps.new ≤ steps.old + 8 * entries_of_all (closed_at side self.low self.high v) }
     {
-        let Gap { mut low, high } = self;
+        let Gap { low, high } = self;
         match high {
             None => Ok(low),
-            Some(mut high) => {
-                low.extend_upper(v)?;
-                low.close(alloc, board, rank, tris, steps)?;
-                high.extend_lower(v)?;
-                Ok(high)
-            }
-        }
-    }
-
-    // The region that stays open where the edge above ends at v. A high region is closed.
-    pub(crate) fn meet_above<T: Turns, L: Ledger>(
-        self,
-        alloc: Global,
-        board: &T,
-        rank: &[u32],
-        v: u32,
-        tris: &mut Vec<Tri>,
-        steps: &mut Steps<L>,
-    ) -> Result<Region, Memory>
-        requires ranked { IsRanked (T.corners board.now) rank.now }
-        requires closed { All (IsClosedRegion (T.corners board.now) rank.now) (closed_above self.low self.high v) }
-        ensures left { IfOk result (λ region. region ≡ left_below self.low self.high v) }
-        ensures filled { OnOk result (AreFilled (T.corners board.now) (closed_above self.low self.high v) tris.old.items tris.new.items) }
-        ensures steps { steps.new ≤ steps.old + 8 * entries_of_all (closed_above self.low self.high v) }
-    {
-        let Gap { mut low, high } = self;
-        match high {
-            None => Ok(low),
-            Some(mut high) => {
-                high.extend_lower(v)?;
-                high.close(alloc, board, rank, tris, steps)?;
-                low.extend_upper(v)?;
-                Ok(low)
+            Some(high) => {
+                let (mut closed, mut left) = ordered(side, low, high);
+                closed.extend(side.opposite(), v)?;
+                closed.close(alloc, board, rank, tris, steps)?;
+                left.extend(side, v)?;
+                Ok(left)
             }
         }
     }
@@ -298,11 +267,22 @@ fn part(mut low: Region, mut high: Region, fork: Fork) -> Result<(Region, Region
     ensures below { IfOk result (λ parts. parts.0 ≡ record { lower = low.lower; upper = low.upper ++ fork.vertex ∷ fork.below ∷ [] }) }
     ensures above { IfOk result (λ parts. parts.1 ≡ record { lower = high.lower ++ fork.vertex ∷ fork.above ∷ []; upper = high.upper }) }
 {
-    low.extend_upper(fork.vertex)?;
-    low.extend_upper(fork.below)?;
-    high.extend_lower(fork.vertex)?;
-    high.extend_lower(fork.above)?;
+    low.extend(Side::Upper, fork.vertex)?;
+    low.extend(Side::Upper, fork.below)?;
+    high.extend(Side::Lower, fork.vertex)?;
+    high.extend(Side::Lower, fork.above)?;
     Ok((low, high))
+}
+
+// Of the two regions of a gap the one at its edge on this side, and the other one.
+fn ordered(side: Side, low: Region, high: Region) -> (Region, Region)
+    ensures at { result.0 ≡ at_edge side low high }
+    ensures other { result.1 ≡ at_edge (opposite side) low high }
+{
+    match side {
+        Side::Lower => (low, high),
+        Side::Upper => (high, low),
+    }
 }
 
 // The last vertex of a chain.

@@ -8,8 +8,10 @@ use Rattle.plane.specs.Point.{Point}
 use Rattle.sweep_tri.proofs.Balance.Along.{along_front, along_push, along_push_two, along_turned}
 use Rattle.sweep_tri.proofs.Balance.Closed.{sum_regions}
 use Rattle.sweep_tri.specs.Gaps.{before_last, highest, last}
-use Rattle.sweep_tri.specs.Meeting.{closed_above, closed_below, left_above, left_below, region_from, split_above, split_below, with_lower}
-use Rattle.sweep_tri.specs.Meeting.{with_upper}
+use Rattle.sweep_tri.specs.Meeting.{closed_at, left_at, region_from, split_above, split_below, with_vertex}
+use Rattle.mono_fill.specs.declared.side.Side.TheVariants.{Lower, Upper}
+use Rattle.sweep_tri.specs.Meeting.{with_vertex}
+use Rattle.mono_fill.specs.declared.side.Side.TheVariants.{Lower, Upper}
 use Rattle.sweep_tri.specs.Open.{IsOpen}
 use Rattle.sweep_tri.specs.Region.{Chains}
 use Rattle.sweep_tri.specs.Sums.{sum_high, sum_region}
@@ -34,20 +36,20 @@ pub last_pushed : (c : List ℕ) (v : ℕ) → last (c ++ v ∷ []) ≡ v
 last_pushed c v = get_or_push c v 0 (length (c ++ v ∷ []) - 1) (omega (arith, length-append c (v ∷ [])))
 
 -- the region that stays open ends at v on the side where the edge ended
-pub left_above_ends : (low : Chains) (high : Option Chains) (v : ℕ) → last low.lower ≡ v → last (left_above low high v).lower ≡ v
+pub left_above_ends : (low : Chains) (high : Option Chains) (v : ℕ) → last low.lower ≡ v → last (left_at Lower low high v).lower ≡ v
 left_above_ends low None v end = end
 left_above_ends low (Some high) v end = last_pushed high.lower v
 
-pub left_below_ends : (low : Chains) (high : Option Chains) (v : ℕ) → last (highest low high).upper ≡ v → last (left_below low high v).upper ≡ v
+pub left_below_ends : (low : Chains) (high : Option Chains) (v : ℕ) → last (highest low high).upper ≡ v → last (left_at Upper low high v).upper ≡ v
 left_below_ends low None v end = end
 left_below_ends low (Some high) v end = last_pushed low.upper v
 
 -- and it has a vertex on each side
-pub left_above_some : (low : Chains) (high : Option Chains) (v : ℕ) → AreJoined low high → 1 ≤ length (left_above low high v).lower
+pub left_above_some : (low : Chains) (high : Option Chains) (v : ℕ) → AreJoined low high → 1 ≤ length (left_at Lower low high v).lower
 left_above_some low None v (two, _) = omega (arith, two)
 left_above_some low (Some high) v joined = omega (arith, length-append high.lower (v ∷ []))
 
-pub left_below_some : (low : Chains) (high : Option Chains) (v : ℕ) → AreJoined low high → 1 ≤ length (left_below low high v).upper
+pub left_below_some : (low : Chains) (high : Option Chains) (v : ℕ) → AreJoined low high → 1 ≤ length (left_at Upper low high v).upper
 left_below_some low None v (_, two) = omega (arith, two)
 left_below_some low (Some high) v joined = omega (arith, length-append low.upper (v ∷ []))
 
@@ -55,10 +57,10 @@ module _ (φ : ℕ → ℕ → ℤ) where
   -- ---- one region
 
   -- a region whose lower chain goes on, or its upper one
-  pub with_lower_sum : (c : Chains) (v : ℕ) → 1 ≤ length c.lower → sum_region φ (with_lower c v) ≡ sum_region φ c +ℤ φ (last c.lower) v
+  pub with_lower_sum : (c : Chains) (v : ℕ) → 1 ≤ length c.lower → sum_region φ (with_vertex Lower c v) ≡ sum_region φ c +ℤ φ (last c.lower) v
   with_lower_sum c v some = omega (arith, ints, along_push φ c.lower v some)
 
-  pub with_upper_sum : (c : Chains) (v : ℕ) → 1 ≤ length c.upper → sum_region φ (with_upper c v) ≡ sum_region φ c -ℤ φ (last c.upper) v
+  pub with_upper_sum : (c : Chains) (v : ℕ) → 1 ≤ length c.upper → sum_region φ (with_vertex Upper c v) ≡ sum_region φ c -ℤ φ (last c.upper) v
   with_upper_sum c v some = omega (arith, ints, along_push φ c.upper v some)
 
   -- one that begins
@@ -69,18 +71,18 @@ module _ (φ : ℕ → ℕ → ℤ) where
 
   -- two regions that meet at a merge vertex, with the diagonal from there to v in both
   with_diagonal : (low high : Chains) (v : ℕ) → 1 ≤ length low.upper → 1 ≤ length high.lower → last low.upper ≡ last high.lower
-      → sum_region φ (with_upper low v) +ℤ sum_region φ (with_lower high v) ≡ sum_region φ low +ℤ sum_region φ high
+      → sum_region φ (with_vertex Upper low v) +ℤ sum_region φ (with_vertex Lower high v) ≡ sum_region φ low +ℤ sum_region φ high
   with_diagonal low high v some_low some_high merge =
       omega (arith, ints, with_upper_sum low v some_low, with_lower_sum high v some_high, ap (λ m. φ m v) merge)
 
   pub met_below_sum : (low : Chains) (high : Option Chains) (v : ℕ) → AreJoined low high
-      → sum_regions φ (closed_below low high v) +ℤ sum_region φ (left_above low high v) ≡ sum_region φ low +ℤ sum_high φ high
+      → sum_regions φ (closed_at Lower low high v) +ℤ sum_region φ (left_at Lower low high v) ≡ sum_region φ low +ℤ sum_high φ high
   met_below_sum low None v joined = omega (arith, ints)
   met_below_sum low (Some high) v (_, some_low, some_high, _, merge) =
       omega (arith, ints, with_diagonal low high v (omega (arith, some_low)) (omega (arith, some_high)) merge)
 
   pub met_above_sum : (low : Chains) (high : Option Chains) (v : ℕ) → AreJoined low high
-      → sum_regions φ (closed_above low high v) +ℤ sum_region φ (left_below low high v) ≡ sum_region φ low +ℤ sum_high φ high
+      → sum_regions φ (closed_at Upper low high v) +ℤ sum_region φ (left_at Upper low high v) ≡ sum_region φ low +ℤ sum_high φ high
   met_above_sum low None v joined = omega (arith, ints)
   met_above_sum low (Some high) v (_, some_low, some_high, _, merge) =
       omega (arith, ints, with_diagonal low high v (omega (arith, some_low)) (omega (arith, some_high)) merge)

@@ -16,8 +16,10 @@ use Rattle.sweep_tri.proofs.Balance.Lists.{gaps_inserted, gaps_removed, gaps_rep
 use Rattle.sweep_tri.proofs.Balance.Signs.{AreBeside}
 use Rattle.sweep_tri.proofs.Balance.Steps.{none_begins, one_begins, two_begin}
 use Rattle.sweep_tri.specs.Gaps.{gap_at, highest, last, no_gap}
-use Rattle.sweep_tri.specs.Meeting.{AreFilled, closed_above, closed_below, gap_of, left_above, left_below, region_from, split_above, split_below}
-use Rattle.sweep_tri.specs.Meeting.{with_lower, with_upper}
+use Rattle.sweep_tri.specs.Meeting.{AreFilled, closed_at, gap_of, left_at, region_from, split_above, split_below}
+use Rattle.mono_fill.specs.declared.side.Side.TheVariants.{Lower, Upper}
+use Rattle.sweep_tri.specs.Meeting.{with_vertex}
+use Rattle.mono_fill.specs.declared.side.Side.TheVariants.{Lower, Upper}
 use Rattle.sweep_tri.specs.Open.{IsOpenGap}
 use Rattle.sweep_tri.specs.Region.{Chains, IsClosedRegion}
 use Rattle.sweep_tri.specs.Sums.{AreBalanced, sum_gap}
@@ -93,32 +95,32 @@ module _ (corners : List Point) (order ranks : List ℕ) (are : AreEvents corner
   module _ (w u : ℕ) (beside : AreBeside (length ranks) v w u) (later_w : k < slice_index ranks w) (not_u : slice_index ranks u ≤ k) where
     -- below gap j
     pub balanced_goes_on_lower : (j : ℕ) → j < length gaps → IsOpenAt j → last (low j).lower ≡ v → (new : List Tri)
-        → AreFilledClosed corners ranks (closed_below (low j) (high j) v) tris new
-        → AreBalanced ranks (k + 1) (set gaps j (gap_of (with_lower (left_above (low j) (high j) v) w))) new
+        → AreFilledClosed corners ranks (closed_at Lower (low j) (high j) v) tris new
+        → AreBalanced ranks (k + 1) (set gaps j (gap_of (with_vertex Lower (left_at Lower (low j) (high j) v) w))) new
     balanced_goes_on_lower j inside open_j end new fill =
-        let left = left_above (low j) (high j) v in
-        let goes_on = gap_of (with_lower left w) in
+        let left = left_at Lower (low j) (high j) v in
+        let goes_on = gap_of (with_vertex Lower left w) in
         let some = left_above_some (low j) (high j) v (joined j open_j) in
         one_begins corners order ranks are three k within gaps (set gaps j goes_on) tris new balanced w u beside later_w not_u (pos 1) (inl refl)
         (λ φ odd.
         let replaced = gaps_replaced φ gaps j goes_on inside in
-        let closed = filled φ odd (closed_below (low j) (high j) v) new fill in
+        let closed = filled φ odd (closed_at Lower (low j) (high j) v) new fill in
         let met = met_below_sum φ (low j) (high j) v (joined j open_j) in
         let from = ap (λ i. φ i w) (left_above_ends (low j) (high j) v end) in
         omega (arith, ints, replaced, closed, met, with_lower_sum φ left w some, from))
 
     -- above gap j
     pub balanced_goes_on_upper : (j : ℕ) → j < length gaps → IsOpenAt j → last (highest (low j) (high j)).upper ≡ v → (new : List Tri)
-        → AreFilledClosed corners ranks (closed_above (low j) (high j) v) tris new
-        → AreBalanced ranks (k + 1) (set gaps j (gap_of (with_upper (left_below (low j) (high j) v) w))) new
+        → AreFilledClosed corners ranks (closed_at Upper (low j) (high j) v) tris new
+        → AreBalanced ranks (k + 1) (set gaps j (gap_of (with_vertex Upper (left_at Upper (low j) (high j) v) w))) new
     balanced_goes_on_upper j inside open_j end new fill =
-        let left = left_below (low j) (high j) v in
-        let goes_on = gap_of (with_upper left w) in
+        let left = left_at Upper (low j) (high j) v in
+        let goes_on = gap_of (with_vertex Upper left w) in
         let some = left_below_some (low j) (high j) v (joined j open_j) in
         one_begins corners order ranks are three k within gaps (set gaps j goes_on) tris new balanced w u beside later_w not_u (negsuc 0) (inr refl)
         (λ φ odd.
         let replaced = gaps_replaced φ gaps j goes_on inside in
-        let closed = filled φ odd (closed_above (low j) (high j) v) new fill in
+        let closed = filled φ odd (closed_at Upper (low j) (high j) v) new fill in
         let met = met_above_sum φ (low j) (high j) v (joined j open_j) in
         let from = ap (λ i. φ i w) (left_below_ends (low j) (high j) v end) in
         omega (arith, ints, replaced, closed, met, with_upper_sum φ left w some, from))
@@ -128,11 +130,11 @@ module _ (corners : List Point) (order ranks : List ℕ) (are : AreEvents corner
   module _ (not_before : slice_index ranks (previous (length ranks) v) ≤ k) (not_after : slice_index ranks (next (length ranks) v) ≤ k) where
     -- gap j ends
     pub balanced_ends : (j : ℕ) → j < length gaps → IsOpenAt j → (new : List Tri)
-        → AreFilledClosed corners ranks (closed_above (low j) (high j) v ++ left_below (low j) (high j) v ∷ []) tris new
+        → AreFilledClosed corners ranks (closed_at Upper (low j) (high j) v ++ left_at Upper (low j) (high j) v ∷ []) tris new
         → AreBalanced ranks (k + 1) (remove gaps j) new
     balanced_ends j inside open_j new fill =
-        let above = closed_above (low j) (high j) v in
-        let left = left_below (low j) (high j) v in
+        let above = closed_at Upper (low j) (high j) v in
+        let left = left_at Upper (low j) (high j) v in
         none_begins corners order ranks are three k within gaps (remove gaps j) tris new balanced not_before not_after
         (λ φ odd.
         let closed = filled φ odd (above ++ left ∷ []) new fill in
@@ -141,13 +143,13 @@ module _ (corners : List Point) (order ranks : List ℕ) (are : AreEvents corner
 
     -- gap i and, above it, gap j meet
     pub balanced_merges : (i j : ℕ) → i < j → j < length gaps → IsOpenAt i → IsOpenAt j → (new : List Tri)
-        → AreFilledClosed corners ranks (closed_below (low j) (high j) v ++ closed_above (low i) (high i) v) tris new
+        → AreFilledClosed corners ranks (closed_at Lower (low j) (high j) v ++ closed_at Upper (low i) (high i) v) tris new
         → AreBalanced ranks (k + 1)
-        (set (remove gaps j) i (record { low = left_below (low i) (high i) v; high = Some (left_above (low j) (high j) v) })) new
+        (set (remove gaps j) i (record { low = left_at Upper (low i) (high i) v; high = Some (left_at Lower (low j) (high j) v) })) new
     balanced_merges i j less inside open_i open_j new fill =
-        let both : Gap = record { low = left_below (low i) (high i) v; high = Some (left_above (low j) (high j) v) } in
-        let below = closed_below (low j) (high j) v in
-        let above = closed_above (low i) (high i) v in
+        let both : Gap = record { low = left_at Upper (low i) (high i) v; high = Some (left_at Lower (low j) (high j) v) } in
+        let below = closed_at Lower (low j) (high j) v in
+        let above = closed_at Upper (low i) (high i) v in
         let inside_i : i < length (remove gaps j) = omega (arith, less, inside, length-remove gaps j inside) in
         let kept : gap_at (remove gaps j) i ≡ gap_at gaps i = get_or-remove_below gaps j no_gap i less inside in
         none_begins corners order ranks are three k within gaps (set (remove gaps j) i both) tris new balanced not_before not_after

@@ -8,7 +8,8 @@ use Rattle.sweep_tri.proofs.Passes.Ready.{at_event}
 use Rattle.sweep_tri.proofs.Swept.{low_closes, swept_follows_low, swept_follows_up, up_closes, up_has_gap}
 use Rattle.sweep_tri.specs.Frontier.{IsPlace}
 use Rattle.sweep_tri.specs.Gaps.{gap_at, low_front}
-use Rattle.sweep_tri.specs.Meeting.{AreFilled, closed_above, closed_below, gap_of, left_above, left_below, with_lower, with_upper}
+use Rattle.sweep_tri.specs.Meeting.{AreFilled, closed_at, gap_of, left_at, with_vertex}
+use Rattle.mono_fill.specs.declared.side.Side.TheVariants.{Lower, Upper}
 use Rattle.sweep_tri.specs.Passing.{GoesOn, IsNextEvent}
 use Rattle.sweep_tri.specs.Region.{IsClosedRegion}
 use Rattle.sweep_tri.specs.Swept.{IsSwept}
@@ -20,15 +21,15 @@ module _ {corners : List Point} {ranks : List ℕ} {gaps : List Gap} {tris : Lis
 
   module _ (inside : j < length gaps) (to : (low_front (gap_at gaps j)).to ≡ v) where
     -- what is closed is a closed region,
-    pub below_closes : let g = gap_at gaps j in All (IsClosedRegion corners ranks) (closed_below g.low g.high v)
+    pub below_closes : let g = gap_at gaps j in All (IsClosedRegion corners ranks) (closed_at Lower g.low g.high v)
     below_closes =
         low_closes corners is.ranked.order ranks (slice_index ranks v) v gaps tris j (at_event is j place) goes.from w goes.beside goes.not_later
         goes.later inside to
 
     -- and the rest goes on
-    pub swept_of_below : (new : List Tri) → (let g = gap_at gaps j in AreFilled corners (closed_below g.low g.high v) tris new)
+    pub swept_of_below : (new : List Tri) → (let g = gap_at gaps j in AreFilled corners (closed_at Lower g.low g.high v) tris new)
         → (let g = gap_at gaps j in
-        IsSwept corners ranks (slice_index ranks v + 1) (slice_set gaps j (gap_of (with_lower (left_above g.low g.high v) w))) new)
+        IsSwept corners ranks (slice_index ranks v + 1) (slice_set gaps j (gap_of (with_vertex Lower (left_at Lower g.low g.high v) w))) new)
     swept_of_below =
         swept_follows_low corners is.ranked.order ranks (slice_index ranks v) v gaps tris j (at_event is j place) goes.from w goes.beside
         goes.not_later goes.later inside to
@@ -41,14 +42,14 @@ module _ {corners : List Point} {ranks : List ℕ} {gaps : List Gap} {tris : Lis
         up_has_gap corners is.ranked.order ranks (slice_index ranks v) v gaps tris j (at_event is j place) goes.from w goes.beside goes.not_later
         goes.later not
 
-    pub above_closes : let g = gap_at gaps (j - 1) in All (IsClosedRegion corners ranks) (closed_above g.low g.high v)
+    pub above_closes : let g = gap_at gaps (j - 1) in All (IsClosedRegion corners ranks) (closed_at Upper g.low g.high v)
     above_closes =
         up_closes corners is.ranked.order ranks (slice_index ranks v) v gaps tris j (at_event is j place) goes.from w goes.beside goes.not_later
         goes.later not
 
-    pub swept_of_above : (new : List Tri) → (let g = gap_at gaps (j - 1) in AreFilled corners (closed_above g.low g.high v) tris new)
+    pub swept_of_above : (new : List Tri) → (let g = gap_at gaps (j - 1) in AreFilled corners (closed_at Upper g.low g.high v) tris new)
         → (let g = gap_at gaps (j - 1) in
-        IsSwept corners ranks (slice_index ranks v + 1) (slice_set gaps (j - 1) (gap_of (with_upper (left_below g.low g.high v) w))) new)
+        IsSwept corners ranks (slice_index ranks v + 1) (slice_set gaps (j - 1) (gap_of (with_vertex Upper (left_at Upper g.low g.high v) w))) new)
     swept_of_above =
         swept_follows_up corners is.ranked.order ranks (slice_index ranks v) v gaps tris j (at_event is j place) goes.from w goes.beside
         goes.not_later goes.later not

@@ -16,7 +16,8 @@ use Rattle.sweep_tri.proofs.Regions.Starts.{starts_open}
 use Rattle.sweep_tri.proofs.Regions.Ways.{AreOpen, IsShort, Way, closed_of, down, one_of, open_of, region_of, up}
 use Rattle.sweep_tri.specs.Frontier.{IsAbove, IsUnder}
 use Rattle.sweep_tri.specs.Gaps.{Front, front_edge, front_of, highest, last}
-use Rattle.sweep_tri.specs.Meeting.{closed_above, closed_below, left_above, left_below, region_from, with_lower, with_upper}
+use Rattle.sweep_tri.specs.Meeting.{closed_at, left_at, region_from, with_vertex}
+use Rattle.mono_fill.specs.declared.side.Side.TheVariants.{Lower, Upper}
 use Rattle.sweep_tri.specs.Open.{AreTwoRegions, IsOneRegion, IsOpen}
 use Rattle.sweep_tri.specs.Region.{Chains, IsClosedRegion}
 
@@ -49,14 +50,14 @@ module _ (corners : List Point) (order ranks : List ℕ) (are : AreEvents corner
     f_up = front_of (highest low high).upper
 
     -- its lower edge ends at v: where there are two regions, the low one is closed,
-    pub closes_below : last low.lower ≡ v → All (λ c. IsClosedRegion corners ranks c) (closed_below low high v)
+    pub closes_below : last low.lower ≡ v → All (λ c. IsClosedRegion corners ranks c) (closed_at Lower low high v)
     closes_below is = below_closed corners ranks k v v_within v_rank low high gap is
 
     -- and where another edge goes on from there, to w, the rest stays open
     pub goes_on_lower : last low.lower ≡ v → IsUnder corners f_up v → (w : ℕ) → w < length corners → k < slice_index ranks w
-        → IsBelow (edge (point v) (point w)) (front_edge corners f_up) → IsOneRegion corners ranks (k + 1) (with_lower (left_above low high v) w)
+        → IsBelow (edge (point v) (point w)) (front_edge corners f_up) → IsOneRegion corners ranks (k + 1) (with_vertex Lower (left_at Lower low high v) w)
     goes_on_lower is under w w_within w_later below =
-        let c : Chains = left_above low high v in
+        let c : Chains = left_at Lower low high v in
         let upper : (highest low high).upper ≡ c.upper = sym (above_upper corners ranks k v v_within v_rank low high) in
         one_of corners ranks (k + 1) up (c.lower ++ w ∷ []) c.upper
         (continued corners order ranks are three k v v_within v_rank up c.lower c.upper
@@ -66,13 +67,13 @@ module _ (corners : List Point) (order ranks : List ℕ) (are : AreEvents corner
         (subst (λ path. IsBelow (edge (point v) (point w)) (front_edge corners (front_of path))) upper below))
 
     -- its upper edge ends at v: likewise
-    pub closes_above : last (highest low high).upper ≡ v → All (λ c. IsClosedRegion corners ranks c) (closed_above low high v)
+    pub closes_above : last (highest low high).upper ≡ v → All (λ c. IsClosedRegion corners ranks c) (closed_at Upper low high v)
     closes_above is = above_closed corners ranks k v v_within v_rank low high gap is
 
     pub goes_on_upper : last (highest low high).upper ≡ v → IsAbove corners f_low v → (w : ℕ) → w < length corners → k < slice_index ranks w
-        → IsBelow (front_edge corners f_low) (edge (point v) (point w)) → IsOneRegion corners ranks (k + 1) (with_upper (left_below low high v) w)
+        → IsBelow (front_edge corners f_low) (edge (point v) (point w)) → IsOneRegion corners ranks (k + 1) (with_vertex Upper (left_at Upper low high v) w)
     goes_on_upper is above w w_within w_later below =
-        let c : Chains = left_below low high v in
+        let c : Chains = left_at Upper low high v in
         let lower : low.lower ≡ c.lower = sym (below_lower corners ranks k v v_within v_rank low high) in
         one_of corners ranks (k + 1) down (c.upper ++ w ∷ []) c.lower
         (continued corners order ranks are three k v v_within v_rank down c.upper c.lower
@@ -82,9 +83,9 @@ module _ (corners : List Point) (order ranks : List ℕ) (are : AreEvents corner
         (subst (λ path. IsBelow (front_edge corners (front_of path)) (edge (point v) (point w))) lower below))
 
     -- both edges end at v: all that is left is closed too
-    pub ends : last low.lower ≡ v → last (highest low high).upper ≡ v → IsClosedRegion corners ranks (left_below low high v)
+    pub ends : last low.lower ≡ v → last (highest low high).upper ≡ v → IsClosedRegion corners ranks (left_at Upper low high v)
     ends lower_is upper_is =
-        let c : Chains = left_below low high v in
+        let c : Chains = left_at Upper low high v in
         closed_of corners ranks down c.upper c.lower
         ((below_open corners ranks k v v_within v_rank low high gap upper_is (inr lower_is)).pair)
         (below_to_v corners ranks k v v_within v_rank low high upper_is ∙ sym lower_is
@@ -149,9 +150,9 @@ module _ (corners : List Point) (order ranks : List ℕ) (are : AreEvents corner
   pub merges : (low low' : Chains) (high high' : Option Chains) → IsOpen corners ranks k low high → IsOpen corners ranks k low' high'
       → last (highest low high).upper ≡ v → IsAbove corners (front_of low.lower) v
       → last low'.lower ≡ v → IsUnder corners (front_of (highest low' high').upper) v
-      → AreTwoRegions corners ranks (k + 1) (left_below low high v) (left_above low' high' v)
+      → AreTwoRegions corners ranks (k + 1) (left_at Upper low high v) (left_at Lower low' high' v)
   merges low low' high high' gap gap' is above is' under =
-      meets (left_below low high v) (left_above low' high' v)
+      meets (left_at Upper low high v) (left_at Lower low' high' v)
       (below_open corners ranks k v v_within v_rank low high gap is (inl above))
       (above_open corners ranks k v v_within v_rank low' high' gap' is' (inl under))
       (below_to_v corners ranks k v v_within v_rank low high is)

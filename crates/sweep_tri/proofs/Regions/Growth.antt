@@ -9,7 +9,8 @@ use Rattle.rings.specs.Ring.{vertex}
 use Rattle.sweep_tri.proofs.Regions.Paths.{item_cases, last_step, length_grown, old_item, step_cases}
 use Rattle.sweep_tri.proofs.Regions.Ways.{AreNearer, ArePair, IsNearer, Way, down, pair_of, region_of, up}
 use Rattle.sweep_tri.specs.Gaps.{before_last, front_edge, front_of, last}
-use Rattle.sweep_tri.specs.Meeting.{with_lower, with_upper}
+use Rattle.sweep_tri.specs.Meeting.{with_vertex}
+use Rattle.mono_fill.specs.declared.side.Side.TheVariants.{Lower, Upper}
 use Rattle.sweep_tri.specs.Region.{Chains, IsRegion, IsStep, RisesBy, ShareEnds}
 
 -- x follows the last vertex of the near chain
@@ -98,11 +99,11 @@ module _ (corners : List Point) (ranks : List ℕ) (way : Way) (near far : List 
 
 module _ (corners : List Point) (ranks : List ℕ) (c : Chains) (x : ℕ) (region : IsRegion corners ranks c) where
   -- at the end of its lower chain
-  pub grown_lower : CanGrow corners ranks up c.lower c.upper x → IsRegion corners ranks (with_lower c x)
+  pub grown_lower : CanGrow corners ranks up c.lower c.upper x → IsRegion corners ranks (with_vertex Lower c x)
   grown_lower can =
       region_of corners ranks up _ _ (grown corners ranks up c.lower c.upper x (pair_of corners ranks up c.lower c.upper region) can)
 
   -- and of its upper one
-  pub grown_upper : CanGrow corners ranks down c.upper c.lower x → IsRegion corners ranks (with_upper c x)
+  pub grown_upper : CanGrow corners ranks down c.upper c.lower x → IsRegion corners ranks (with_vertex Upper c x)
   grown_upper can =
       region_of corners ranks down _ _ (grown corners ranks down c.upper c.lower x (pair_of corners ranks down c.upper c.lower region) can)

@@ -15,7 +15,8 @@ use Rattle.sweep_tri.proofs.Swept.Kept.{gap_kept}
 use Rattle.sweep_tri.proofs.Swept.Lists.{all_removed}
 use Rattle.sweep_tri.proofs.Swept.Triangles.{of_ring-all_filled}
 use Rattle.sweep_tri.specs.Gaps.{gap_at, up_front}
-use Rattle.sweep_tri.specs.Meeting.{AreFilled, closed_above, left_below}
+use Rattle.sweep_tri.specs.Meeting.{AreFilled, closed_at, left_at}
+use Rattle.mono_fill.specs.declared.side.Side.TheVariants.{Upper}
 use Rattle.sweep_tri.specs.Open.{IsOpenGap}
 use Rattle.sweep_tri.specs.Region.{Chains, IsClosedRegion}
 use Rattle.sweep_tri.specs.Sums.{AreBalanced}
@@ -53,13 +54,13 @@ module _ (corners : List Point) (order ranks : List ℕ) (k v : ℕ) (gaps : Lis
         before_s before_t to
 
     -- what is closed are closed regions,
-    pub end_closes : let g = gap_at gaps j in All (IsClosedRegion corners ranks) (closed_above g.low g.high v ++ left_below g.low g.high v ∷ [])
+    pub end_closes : let g = gap_at gaps j in All (IsClosedRegion corners ranks) (closed_at Upper g.low g.high v ++ left_at Upper g.low g.high v ∷ [])
     end_closes =
         let g = gap_at gaps j in
         let open_g = at.swept.gaps_open j end_has_gap in
-        let left = left_below g.low g.high v in
+        let left = left_at Upper g.low g.high v in
         let Is : Chains → Type 0 = IsClosedRegion corners ranks in
-        All-append Is (closed_above g.low g.high v) (left ∷ [])
+        All-append Is (closed_at Upper g.low g.high v) (left ∷ [])
         (closes_above corners order ranks at.are at.three k v (event_below at).1 (event_rank at) g.low g.high open_g to)
         (All-cons Is left []
         (region_ends corners order ranks at.are at.three k v (event_below at).1 (event_rank at) g.low g.high open_g is_end.low_ends_here to)
@@ -67,7 +68,7 @@ module _ (corners : List Point) (order ranks : List ℕ) (k v : ℕ) (gaps : Lis
 
     -- and the gap is gone
     pub swept_ends : (new : List Tri)
-        → (let g = gap_at gaps j in AreFilled corners (closed_above g.low g.high v ++ left_below g.low g.high v ∷ []) tris new)
+        → (let g = gap_at gaps j in AreFilled corners (closed_at Upper g.low g.high v ++ left_at Upper g.low g.high v ∷ []) tris new)
         → IsSwept corners ranks (k + 1) (remove gaps j) new
     swept_ends new filled =
         let g = gap_at gaps j in
@@ -78,11 +79,11 @@ module _ (corners : List Point) (order ranks : List ℕ) (k v : ℕ) (gaps : Lis
           gaps_open = all_removed (IsOpenGap corners ranks (k + 1)) gaps j end_has_gap (λ i h other. gap_kept at i h (is_end.others_go_on i h other));
           frontier = is_end.frontier_after;
           triangles =
-              of_ring-all_filled corners order ranks at.are at.three (closed_above g.low g.high v ++ left_below g.low g.high v ∷ []) end_closes
+              of_ring-all_filled corners order ranks at.are at.three (closed_at Upper g.low g.high v ++ left_at Upper g.low g.high v ∷ []) end_closes
               tris new filled at.swept.triangles;
           balanced =
               subst (λ x. slice_index ranks (previous (length ranks) x) ≤ k → slice_index ranks (next (length ranks) x) ≤ k
-              → AreFilledClosed corners ranks (closed_above g.low g.high x ++ left_below g.low g.high x ∷ []) tris new
+              → AreFilledClosed corners ranks (closed_at Upper g.low g.high x ++ left_at Upper g.low g.high x ∷ []) tris new
               → AreBalanced ranks (k + 1) (remove gaps j) new) at.event
               (λ before after fill. balanced_ends corners order ranks at.are at.three k at.within gaps tris at.swept.balanced before after
               j end_has_gap open_g new fill) none.0 none.1 (end_closes, filled);

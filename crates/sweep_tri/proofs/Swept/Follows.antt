@@ -15,7 +15,8 @@ use Rattle.sweep_tri.proofs.Swept.Kept.{gap_kept}
 use Rattle.sweep_tri.proofs.Swept.Lists.{all_replaced}
 use Rattle.sweep_tri.proofs.Swept.Triangles.{of_ring-all_filled}
 use Rattle.sweep_tri.specs.Gaps.{front_of, gap_at, highest, last, low_front}
-use Rattle.sweep_tri.specs.Meeting.{AreFilled, closed_above, closed_below, gap_of, left_above, left_below, with_lower, with_upper}
+use Rattle.sweep_tri.specs.Meeting.{AreFilled, closed_at, gap_of, left_at, with_vertex}
+use Rattle.mono_fill.specs.declared.side.Side.TheVariants.{Lower, Upper}
 use Rattle.sweep_tri.specs.Open.{IsOpenGap}
 use Rattle.sweep_tri.specs.Region.{IsClosedRegion}
 use Rattle.sweep_tri.specs.Sums.{AreBalanced}
@@ -35,18 +36,18 @@ module _ (corners : List Point) (order ranks : List ℕ) (k v : ℕ) (gaps : Lis
         (earlier at u w beside not_later) later inside to
 
     -- what is closed is a closed region,
-    pub low_closes : let g = gap_at gaps j in All (IsClosedRegion corners ranks) (closed_below g.low g.high v)
+    pub low_closes : let g = gap_at gaps j in All (IsClosedRegion corners ranks) (closed_at Lower g.low g.high v)
     low_closes =
         let g = gap_at gaps j in
         closes_below corners order ranks at.are at.three k v (event_below at).1 (event_rank at) g.low g.high (at.swept.gaps_open j inside) to
 
     -- and the rest goes on
-    pub swept_follows_low : (new : List Tri) → (let g = gap_at gaps j in AreFilled corners (closed_below g.low g.high v) tris new)
-        → (let g = gap_at gaps j in IsSwept corners ranks (k + 1) (slice_set gaps j (gap_of (with_lower (left_above g.low g.high v) w))) new)
+    pub swept_follows_low : (new : List Tri) → (let g = gap_at gaps j in AreFilled corners (closed_at Lower g.low g.high v) tris new)
+        → (let g = gap_at gaps j in IsSwept corners ranks (k + 1) (slice_set gaps j (gap_of (with_vertex Lower (left_at Lower g.low g.high v) w))) new)
     swept_follows_low new filled =
         let g = gap_at gaps j in
-        let left = left_above g.low g.high v in
-        let goes = gap_of (with_lower left w) in
+        let left = left_at Lower g.low g.high v in
+        let goes = gap_of (with_vertex Lower left w) in
         let open_g = at.swept.gaps_open j inside in
         let some = left_above_some g.low g.high v (open_joined corners ranks k g.low g.high open_g) in
         record {
@@ -60,10 +61,10 @@ module _ (corners : List Point) (order ranks : List ℕ) (k v : ℕ) (gaps : Lis
               next_low.frontier_after goes (front_grown left.lower v w some (left_above_ends g.low g.high v to))
               (ap front_of (above_upper corners ranks k v (event_below at).1 (event_rank at) g.low g.high));
           triangles =
-              of_ring-all_filled corners order ranks at.are at.three (closed_below g.low g.high v) low_closes tris new filled at.swept.triangles;
+              of_ring-all_filled corners order ranks at.are at.three (closed_at Lower g.low g.high v) low_closes tris new filled at.swept.triangles;
           balanced =
-              subst (λ x. AreBeside (length ranks) x w u → last g.low.lower ≡ x → AreFilledClosed corners ranks (closed_below g.low g.high x) tris new
-              → AreBalanced ranks (k + 1) (slice_set gaps j (gap_of (with_lower (left_above g.low g.high x) w))) new) at.event
+              subst (λ x. AreBeside (length ranks) x w u → last g.low.lower ≡ x → AreFilledClosed corners ranks (closed_at Lower g.low g.high x) tris new
+              → AreBalanced ranks (k + 1) (slice_set gaps j (gap_of (with_vertex Lower (left_at Lower g.low g.high x) w))) new) at.event
               (λ b end fill. balanced_goes_on_lower corners order ranks at.are at.three k at.within gaps tris at.swept.balanced w u b later not_later
               j inside open_g end new fill) (beside_swapped (length ranks) v u w beside) to (low_closes, filled);
         }
@@ -83,7 +84,7 @@ module _ (corners : List Point) (order ranks : List ℕ) (k v : ℕ) (gaps : Lis
 
     -- what is closed of it is a closed region,
 
-    pub up_closes : let g = gap_at gaps (j - 1) in All (IsClosedRegion corners ranks) (closed_above g.low g.high v)
+    pub up_closes : let g = gap_at gaps (j - 1) in All (IsClosedRegion corners ranks) (closed_at Upper g.low g.high v)
     up_closes =
         let g = gap_at gaps (j - 1) in
         closes_above corners order ranks at.are at.three k v (event_below at).1 (event_rank at) g.low g.high
@@ -91,16 +92,16 @@ module _ (corners : List Point) (order ranks : List ℕ) (k v : ℕ) (gaps : Lis
 
     -- and the rest goes on
 
-    pub swept_follows_up : (new : List Tri) → (let g = gap_at gaps (j - 1) in AreFilled corners (closed_above g.low g.high v) tris new)
+    pub swept_follows_up : (new : List Tri) → (let g = gap_at gaps (j - 1) in AreFilled corners (closed_at Upper g.low g.high v) tris new)
         → (let g = gap_at gaps (j - 1) in
-        IsSwept corners ranks (k + 1) (slice_set gaps (j - 1) (gap_of (with_upper (left_below g.low g.high v) w))) new)
+        IsSwept corners ranks (k + 1) (slice_set gaps (j - 1) (gap_of (with_vertex Upper (left_at Upper g.low g.high v) w))) new)
     swept_follows_up new filled =
         let i : ℕ = j - 1 in
         let inside = next_up.has_gap in
         let to = next_up.up_ends_here in
         let g = gap_at gaps i in
-        let left = left_below g.low g.high v in
-        let goes = gap_of (with_upper left w) in
+        let left = left_at Upper g.low g.high v in
+        let goes = gap_of (with_vertex Upper left w) in
         let open_g = at.swept.gaps_open i inside in
         let some = left_below_some g.low g.high v (open_joined corners ranks k g.low g.high open_g) in
         record {
@@ -114,11 +115,11 @@ module _ (corners : List Point) (order ranks : List ℕ) (k v : ℕ) (gaps : Lis
               next_up.frontier_after goes (ap front_of (below_lower corners ranks k v (event_below at).1 (event_rank at) g.low g.high))
               (front_grown left.upper v w some (left_below_ends g.low g.high v to));
           triangles =
-              of_ring-all_filled corners order ranks at.are at.three (closed_above g.low g.high v) up_closes tris new filled at.swept.triangles;
+              of_ring-all_filled corners order ranks at.are at.three (closed_at Upper g.low g.high v) up_closes tris new filled at.swept.triangles;
           balanced =
               subst (λ x. AreBeside (length ranks) x w u → last (highest g.low g.high).upper ≡ x
-              → AreFilledClosed corners ranks (closed_above g.low g.high x) tris new
-              → AreBalanced ranks (k + 1) (slice_set gaps i (gap_of (with_upper (left_below g.low g.high x) w))) new) at.event
+              → AreFilledClosed corners ranks (closed_at Upper g.low g.high x) tris new
+              → AreBalanced ranks (k + 1) (slice_set gaps i (gap_of (with_vertex Upper (left_at Upper g.low g.high x) w))) new) at.event
               (λ b end fill. balanced_goes_on_upper corners order ranks at.are at.three k at.within gaps tris at.swept.balanced w u b later not_later
               i inside open_g end new fill) (beside_swapped (length ranks) v u w beside) to (up_closes, filled);
         }

@@ -17,7 +17,8 @@ use Rattle.sweep_tri.proofs.Swept.Kept.{gap_kept}
 use Rattle.sweep_tri.proofs.Swept.Lists.{all_joined}
 use Rattle.sweep_tri.proofs.Swept.Triangles.{of_ring-all_filled}
 use Rattle.sweep_tri.specs.Gaps.{front_of, gap_at, up_front}
-use Rattle.sweep_tri.specs.Meeting.{AreFilled, closed_above, closed_below, left_above, left_below}
+use Rattle.sweep_tri.specs.Meeting.{AreFilled, closed_at, left_at}
+use Rattle.mono_fill.specs.declared.side.Side.TheVariants.{Lower, Upper}
 use Rattle.sweep_tri.specs.Open.{IsOpenGap}
 use Rattle.sweep_tri.specs.Region.{Chains, IsClosedRegion}
 use Rattle.sweep_tri.specs.Sums.{AreBalanced}
@@ -44,13 +45,13 @@ module _ (corners : List Point) (order ranks : List ℕ) (k v : ℕ) (gaps : Lis
   first_inside = omega (arith, merge_some, inside)
 
   -- what is closed are closed regions
-  pub merge_closes_below : let h = gap_at gaps j in All (IsClosedRegion corners ranks) (closed_below h.low h.high v)
+  pub merge_closes_below : let h = gap_at gaps j in All (IsClosedRegion corners ranks) (closed_at Lower h.low h.high v)
   merge_closes_below =
       let h = gap_at gaps j in
       closes_below corners order ranks at.are at.three k v (event_below at).1 (event_rank at) h.low h.high (at.swept.gaps_open j inside)
       is_merge.low_ends_here
 
-  pub merge_closes_above : let g = gap_at gaps (j - 1) in All (IsClosedRegion corners ranks) (closed_above g.low g.high v)
+  pub merge_closes_above : let g = gap_at gaps (j - 1) in All (IsClosedRegion corners ranks) (closed_at Upper g.low g.high v)
   merge_closes_above =
       let g = gap_at gaps (j - 1) in
       closes_above corners order ranks at.are at.three k v (event_below at).1 (event_rank at) g.low g.high
@@ -59,18 +60,18 @@ module _ (corners : List Point) (order ranks : List ℕ) (k v : ℕ) (gaps : Lis
   -- and the rest is one gap
   pub swept_merges : (new : List Tri)
       → (let g = gap_at gaps (j - 1) in let h = gap_at gaps j in
-      AreFilled corners (closed_below h.low h.high v ++ closed_above g.low g.high v) tris new)
+      AreFilled corners (closed_at Lower h.low h.high v ++ closed_at Upper g.low g.high v) tris new)
       → (let g = gap_at gaps (j - 1) in let h = gap_at gaps j in IsSwept corners ranks (k + 1)
-      (slice_set (remove gaps j) (j - 1) (record { low = left_below g.low g.high v; high = Some (left_above h.low h.high v) })) new)
+      (slice_set (remove gaps j) (j - 1) (record { low = left_at Upper g.low g.high v; high = Some (left_at Lower h.low h.high v) })) new)
   swept_merges new filled =
       let i : ℕ = j - 1 in
       let g = gap_at gaps i in
       let h = gap_at gaps j in
       let open_g = at.swept.gaps_open i first_inside in
       let open_h = at.swept.gaps_open j inside in
-      let both : Gap = record { low = left_below g.low g.high v; high = Some (left_above h.low h.high v) } in
+      let both : Gap = record { low = left_at Upper g.low g.high v; high = Some (left_at Lower h.low h.high v) } in
       let Is : Chains → Type 0 = IsClosedRegion corners ranks in
-      let closed = All-append Is (closed_below h.low h.high v) (closed_above g.low g.high v) merge_closes_below merge_closes_above in
+      let closed = All-append Is (closed_at Lower h.low h.high v) (closed_at Upper g.low g.high v) merge_closes_below merge_closes_above in
       let none = none_later (length ranks) ranks k v s t beside not_s not_t in
       record {
         few = omega (arith, at.swept.few, length-set (remove gaps j) i both, length-remove gaps j inside);
@@ -83,13 +84,13 @@ module _ (corners : List Point) (order ranks : List ℕ) (k v : ℕ) (gaps : Lis
             is_merge.frontier_after both (ap front_of (below_lower corners ranks k v (event_below at).1 (event_rank at) g.low g.high))
             (ap front_of (above_upper corners ranks k v (event_below at).1 (event_rank at) h.low h.high));
         triangles =
-            of_ring-all_filled corners order ranks at.are at.three (closed_below h.low h.high v ++ closed_above g.low g.high v) closed
+            of_ring-all_filled corners order ranks at.are at.three (closed_at Lower h.low h.high v ++ closed_at Upper g.low g.high v) closed
             tris new filled at.swept.triangles;
         balanced =
             subst (λ x. slice_index ranks (previous (length ranks) x) ≤ k → slice_index ranks (next (length ranks) x) ≤ k
-            → AreFilledClosed corners ranks (closed_below h.low h.high x ++ closed_above g.low g.high x) tris new
+            → AreFilledClosed corners ranks (closed_at Lower h.low h.high x ++ closed_at Upper g.low g.high x) tris new
             → AreBalanced ranks (k + 1)
-            (slice_set (remove gaps j) i (record { low = left_below g.low g.high x; high = Some (left_above h.low h.high x) })) new) at.event
+            (slice_set (remove gaps j) i (record { low = left_at Upper g.low g.high x; high = Some (left_at Lower h.low h.high x) })) new) at.event
             (λ before after fill. balanced_merges corners order ranks at.are at.three k at.within gaps tris at.swept.balanced before after
             i j (omega (arith, merge_some)) inside open_g open_h new fill) none.0 none.1 (closed, filled);
       }

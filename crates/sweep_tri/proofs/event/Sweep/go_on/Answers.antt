@@ -7,11 +7,11 @@ use Rattle.sweep_tri.proofs.event.Sweep.go_on.Goals as goal
 pub low_ends-requires : goal.low_ends-requires
 low_ends-requires g c = record { some = λ inside. low_some c.requires.next c.args.j inside }
 
-pub go_on_below-requires-clause-place : goal.go_on_below-requires-clause-place
-go_on_below-requires-clause-place g c = (c.low_ends.ensures.ends.0 c.if-low_ends.true).0
+pub go_on_at-requires-clause-place : goal.go_on_at-requires-clause-place
+go_on_at-requires-clause-place g c = (c.low_ends.ensures.ends.0 c.if-low_ends.true).0
 
-pub go_on_below-requires-clause-closed : goal.go_on_below-requires-clause-closed
-go_on_below-requires-clause-closed g c =
+pub go_on_at-requires-clause-closed : goal.go_on_at-requires-clause-closed
+go_on_at-requires-clause-closed g c =
     let ends = c.low_ends.ensures.ends.0 c.if-low_ends.true in
     below_closes c.requires.next c.args.j c.requires.place c.args.w c.requires.goes_on ends.0 ends.1
 
@@ -20,26 +20,26 @@ overflow_sub-j g c =
     (above_inside c.requires.next c.args.j c.requires.place c.args.w c.requires.goes_on
     (λ ends. false≢true (sym c.if-low_ends.false ∙ c.low_ends.ensures.ends.1 ends))).0
 
-pub go_on_above-requires-clause-place : goal.go_on_above-requires-clause-place
-go_on_above-requires-clause-place g c =
+pub go_on_at-requires-else-low_ends-clause-place : goal.go_on_at-requires-else-low_ends-clause-place
+go_on_at-requires-else-low_ends-clause-place g c =
     (above_inside c.requires.next c.args.j c.requires.place c.args.w c.requires.goes_on
     (λ ends. false≢true (sym c.if-low_ends.false ∙ c.low_ends.ensures.ends.1 ends))).1
 
-pub go_on_above-requires-clause-closed : goal.go_on_above-requires-clause-closed
-go_on_above-requires-clause-closed g c =
+pub go_on_at-requires-else-low_ends-clause-closed : goal.go_on_at-requires-else-low_ends-clause-closed
+go_on_at-requires-else-low_ends-clause-closed g c =
     above_closes c.requires.next c.args.j c.requires.place c.args.w c.requires.goes_on
     (λ ends. false≢true (sym c.if-low_ends.false ∙ c.low_ends.ensures.ends.1 ends))
 
 pub returns-then-low_ends-clause-swept : goal.returns-then-low_ends-clause-swept
 returns-then-low_ends-clause-swept g c =
     let ends = c.low_ends.ensures.ends.0 c.if-low_ends.true in
-    on_ok_both c.go_on_below.result c.go_on_below.ensures.gaps c.go_on_below.ensures.filled
+    on_ok_both c.go_on_at.result c.go_on_at.ensures.gaps c.go_on_at.ensures.filled
     (λ is filled. swept_same (g.T.Turns.corners c.args.board.now) c.args.rank.now (slice_index c.args.rank.now c.args.v + 1) is refl
-    (swept_of_below c.requires.next c.args.j c.requires.place c.args.w c.requires.goes_on ends.0 ends.1 c.go_on_below.new.self.tris.items filled))
+    (swept_of_below c.requires.next c.args.j c.requires.place c.args.w c.requires.goes_on ends.0 ends.1 c.go_on_at.new.self.tris.items filled))
 
 pub returns-else-low_ends-clause-swept : goal.returns-else-low_ends-clause-swept
 returns-else-low_ends-clause-swept g c =
-    on_ok_both c.go_on_above.result c.go_on_above.ensures.gaps c.go_on_above.ensures.filled
+    on_ok_both c.go_on_at-else-low_ends.result c.go_on_at-else-low_ends.ensures.gaps c.go_on_at-else-low_ends.ensures.filled
     (λ is filled. swept_same (g.T.Turns.corners c.args.board.now) c.args.rank.now (slice_index c.args.rank.now c.args.v + 1) is refl
     (swept_of_above c.requires.next c.args.j c.requires.place c.args.w c.requires.goes_on
-    (λ ends. false≢true (sym c.if-low_ends.false ∙ c.low_ends.ensures.ends.1 ends)) c.go_on_above.new.self.tris.items filled))
+    (λ ends. false≢true (sym c.if-low_ends.false ∙ c.low_ends.ensures.ends.1 ends)) c.go_on_at-else-low_ends.new.self.tris.items filled))

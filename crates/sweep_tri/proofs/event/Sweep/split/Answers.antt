@@ -1,9 +1,10 @@
 use Rattle.std.proofs.Common.{◌≡◌, ◌+◌, sym, ap, subst, ◌∙◌, set, arith}
 use Rattle.std.proofs.lemmas.Result.{on_ok_weaker}
 use Rattle.std.specs.List.{insert}
-use Rattle.sweep_tri.proofs.Work.{IsPaid, as_many, more_digits, replaced_twice, splits_paid, splits_work}
+use Rattle.sweep_tri.proofs.Work.{as_many, more_digits, replaced_twice, splits_paid, splits_work}
 use Rattle.sweep_tri.specs.Gaps.{gap_at}
 use Rattle.sweep_tri.specs.Meeting.{gap_of, split_above, split_below}
+use Rattle.sweep_tri.specs.Entries.{IsPaid, event_work}
 use Rattle.sweep_tri.proofs.event.Sweep.split.Goals as goal
 
 pub returns-in_err-below-clause-work : goal.returns-in_err-below-clause-work
@@ -39,8 +40,8 @@ returns-clause-paid g c =
     replaced_twice gaps c.replace-gap.new.self c.replace.new.self j c.none.result c.in_ok-below.below
     c.replace-gap.ensures.gaps c.replace.ensures.gaps ∙ ap (set gaps j) below_is in
     on_ok_weaker {P = c.insert.new.self ≡ insert c.replace.new.self (j + 1) c.in_ok-below.above}
-    {Q = IsPaid gaps c.insert.new.self c.args.steps.now c.insert.new.steps} c.insert.result
-    (λ is. subst (λ gs. IsPaid gaps gs c.args.steps.now c.insert.new.steps)
+    {Q = IsPaid gaps c.insert.new.self (event_work gaps) c.args.steps.now c.insert.new.steps} c.insert.result
+    (λ is. subst (λ gs. IsPaid gaps gs (event_work gaps) c.args.steps.now c.insert.new.steps)
     (sym (is ∙ ap (λ gs. insert gs (j + 1) c.in_ok-below.above) now ∙ ap (insert (set gaps j below) (j + 1)) above_is))
     (splits_paid gaps j c.args.steps.now c.requires.place c.args.rank.now fork.vertex fork.below fork.above
     c.replace-gap.new.steps c.replace.new.steps c.insert.new.steps c.replace-gap.ensures.steps second third))

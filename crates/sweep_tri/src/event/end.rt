@@ -1,0 +1,41 @@
+// An end vertex: the two edges of a gap end.
+ghost use Rattle.std.specs.List.{All, remove};
+ghost use Rattle.std.specs.Prelude.{◌≡◌, ◌<◌, OnOk, [], ◌∷◌, ◌++◌, length};
+ghost use Rattle.sweep_tri.specs.Entries.{IsPaid, IsWithin, event_work};
+ghost use Rattle.sweep_tri.specs.Gaps.{gap_at};
+ghost use Rattle.sweep_tri.specs.Meeting.{AreFilled, closed_at, left_at};
+ghost use Rattle.sweep_tri.specs.Ranked.{IsRanked};
+ghost use Rattle.sweep_tri.specs.Region.{IsClosedRegion};
+
+use super::Sweep;
+use crate::gap::Gap;
+use exact_plane::{Memory, Steps, Turns};
+use mono_fill::Side;
+use std::alloc::Global;
+use std::sync::ledger::Ledger;
+
+impl Sweep {
+    // Gap j ends at v.
+    pub(super) fn end<T: Turns, L: Ledger>(
+        &mut self,
+        alloc: Global,
+        board: &T,
+        rank: &[u32],
+        j: usize,
+        v: u32,
+        steps: &mut Steps<L>,
+    ) -> Result<(), Memory>
+        requires ranked { IsRanked (T.corners board.now) rank.now }
+        requires place { j < length self.old.status }
+        requires closed { let g = gap_at self.old.status j in
+            All (IsClosedRegion (T.corners board.now) rank.now) (closed_at Side.Upper g.low g.high v ++ left_at Side.Upper g.low g.high v ∷ []) }
+        ensures gaps { OnOk result (self.new.status ≡ remove self.old.status j) }
+        ensures filled { OnOk result (let g = gap_at self.old.status j in
+            AreFilled (T.corners board.now) (closed_at Side.Upper g.low g.high v ++ left_at Side.Upper g.low g.high v ∷ []) self.old.tris.items self.new.tris.items) }
+        ensures work { IsWithin self.old.status (event_work self.old.status) steps.old steps.new }
+        ensures paid { OnOk result (IsPaid self.old.status self.new.status (event_work self.old.status) steps.old steps.new) }
+    {
+        let region = self.meet_last(alloc, board, rank, Side::Upper, j, v, steps)?;
+        region.close(alloc, board, rank, &mut self.tris, steps)
+    }
+}

@@ -1,0 +1,46 @@
+// A merge vertex: two gaps meet where the edges between them end.
+ghost use Rattle.std.specs.List.{All, remove};
+ghost use Rattle.std.specs.Prelude.{◌≡◌, ◌-◌, ◌<◌, OnOk, Some, ◌++◌, length, slice_set};
+ghost use Rattle.sweep_tri.specs.Entries.{IsPaid, IsWithin, event_work};
+ghost use Rattle.sweep_tri.specs.Gaps.{gap_at};
+ghost use Rattle.sweep_tri.specs.Meeting.{AreFilled, closed_at, left_at};
+ghost use Rattle.sweep_tri.specs.Ranked.{IsRanked};
+ghost use Rattle.sweep_tri.specs.Region.{IsClosedRegion};
+
+use super::Sweep;
+use crate::gap::Gap;
+use exact_plane::{Memory, Steps, Turns};
+use mono_fill::Side;
+use std::alloc::Global;
+use std::sync::ledger::Ledger;
+
+impl Sweep {
+    // The gap before gap j and gap j meet at v.
+    pub(super) fn merge<T: Turns, L: Ledger>(
+        &mut self,
+        alloc: Global,
+        board: &T,
+        rank: &[u32],
+        j: usize,
+        v: u32,
+        steps: &mut Steps<L>,
+    ) -> Result<(), Memory>
+        requires ranked { IsRanked (T.corners board.now) rank.now }
+        requires first { 0 < j }
+        requires place { j < length self.old.status }
+        requires closed_below { let g = gap_at self.old.status j in All (IsClosedRegion (T.corners board.now) rank.now) (closed_at Side.Lower g.low g.high v) }
+        requires closed_above { let g = gap_at self.old.status (j - 1) in All (IsClosedRegion (T.corners board.now) rank.now) (closed_at Side.Upper g.low g.high v) }
+        ensures gaps { OnOk result (let g = gap_at self.old.status (j - 1) in let h = gap_at self.old.status j in
+            self.new.status ≡ slice_set (remove self.old.status j) (j - 1)
+            (record { low = left_at Side.Upper g.low g.high v; high = Some (left_at Side.Lower h.low h.high v) })) }
+        ensures filled { OnOk result (let g = gap_at self.old.status (j - 1) in let h = gap_at self.old.status j in
+            AreFilled (T.corners board.now) (closed_at Side.Lower h.low h.high v ++ closed_at Side.Upper g.low g.high v) self.old.tris.items self.new.tris.items) }
+        ensures work { IsWithin self.old.status (event_work self.old.status) steps.old steps.new }
+        ensures paid { OnOk result (IsPaid self.old.status self.new.status (event_work self.old.status) steps.old steps.new) }
+    {
+        let high = self.meet_last(alloc, board, rank, Side::Lower, j, v, steps)?;
+        let low = self.meet(alloc, board, rank, Side::Upper, j - 1, v, steps)?;
+        self.status.replace(j - 1, Gap::of_two(low, high), steps);
+        Ok(())
+    }
+}
