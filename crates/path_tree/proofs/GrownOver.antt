@@ -1,7 +1,7 @@
 -- A tree of paths over the first places of an order outward: at home, at one more place, and at all.
-use Rattle.std.proofs.Common.{◌≡◌, ◌≢◌, inl, inr, refl, sym, subst, ◌∙◌, List, length, ℕ, ◌+◌, ◌%◌, ◌<◌, ◌≤◌, Option, Some, None, set, slice_index_or, arith}
+use Rattle.std.proofs.Common.{◌≡◌, ◌≢◌, inl, inr, refl, sym, subst, ◌∙◌, List, [], ◌∷◌, ◌++◌, length, ℕ, ◌+◌, ◌%◌, ◌<◌, ◌≤◌, Option, Some, None, set, slice_index, slice_index_or, arith}
 use Rattle.std.proofs.lemmas.Bool.{cases_eq}
-use Rattle.std.proofs.lemmas.List.{get_or-set_other, get_or-set_same, length-set}
+use Rattle.std.proofs.lemmas.List.{get_or-set_other, get_or-set_same, get_or_append_left, get_or_at, length-append, length-set}
 use Rattle.plane.specs.Point.{Point, whole}
 use Rattle.rings.specs.Ring.{vertex}
 use Rattle.meshes.proofs.Sides.{one_at_edge, two_fewer}
@@ -17,7 +17,7 @@ use Rattle.shared_funnel.specs.Entered.{HasCorner, IsFromStart, IsFunnelTo, at_p
 use Rattle.shared_funnel.specs.Listed.{Listed}
 use Rattle.path_tree.proofs.Parents.{HasParent, parent_written}
 use Rattle.path_tree.specs.Grown.{IsFromNamed, IsGrownFrom, KeepsFunnel, Tree, before_at, funnel_at}
-use Rattle.path_tree.specs.Growing.{IsGrownOver, KeepsFunnelTo}
+use Rattle.path_tree.specs.Growing.{AreThirdPlaces, IsGrownOver, IsThirdFrom, KeepsFunnelTo}
 
 module _ (corners : List Point) (start : Point) (tris : List Tri) (order : List Outward) (from : IsFromStart corners start tris order) where
   -- at home it has what is before the three corners, and no funnel
@@ -83,6 +83,33 @@ module _ (corners : List Point) (start : Point) (tris : List Tri) (order : List 
                 subst (KeepsFunnelTo corners start tris order q)
                 (sym (get_or-set_other tree.funnels (at_place order p) (at_place order q) (Some f) None
                 (λ e. apart corners start tris order from p q before below (sym e)))) (grown.funnels q before)
+          ];
+        }
+
+    -- and so are the places from which third corners are reached, with that of this one
+    pub thirds_more : (places : List ℕ) → AreThirdPlaces corners start tris order p tree places → (m : ℕ) (value : Option Spot) (f : Listed)
+        (place : ℕ) → IsThirdFrom corners start tris order p f place
+        → AreThirdPlaces corners start tris order (p + 1)
+        (record { before = set tree.before m value; funnels = set tree.funnels (at_place order p) (Some f) }) (places ++ place ∷ [])
+    thirds_more places before m value f place here =
+        let within = from.outward.in_list p below in
+        record {
+          each = length-append places (place ∷ []) ∙ omega (arith, before.each);
+          reached = λ q less g is. elim (cases_eq q p) [
+            | inl same ↦
+                let at : Some f ≡ Some g =
+                sym (get_or-set_same tree.funnels (at_place order p) (Some f) None (omega (arith, within, grown.triangles)))
+                ∙ subst (λ r. slice_index_or (set tree.funnels (at_place order p) (Some f)) (at_place order r) None ≡ Some g) same is in
+                let g_is : f ≡ g = cc at in
+                let last : slice_index (places ++ place ∷ []) p ≡ place = get_or_at places place [] 0 p before.each in
+                subst (λ r. IsThirdFrom corners start tris order r g (slice_index (places ++ place ∷ []) r)) (sym same)
+                (subst (IsThirdFrom corners start tris order p g) (sym last) (subst (λ h. IsThirdFrom corners start tris order p h place) g_is here))
+            | inr differ ↦
+                let earlier : q < p = omega (arith, less, differ) in
+                let was = sym (get_or-set_other tree.funnels (at_place order p) (at_place order q) (Some f) None
+                (λ e. apart corners start tris order from p q earlier below (sym e))) ∙ is in
+                subst (IsThirdFrom corners start tris order q g) (sym (get_or_append_left places (place ∷ []) 0 q (omega (arith, before.each, earlier))))
+                (before.reached q earlier g was)
           ];
         }
 

@@ -9,8 +9,8 @@ use Rattle.shared_seq.specs.Digits.{binary_digits}
 pub search_steps : (b x : ℕ) → x ≤ b → x * (4 * x + 3) ≤ b * (4 * b + 3)
 search_steps b x le = mul-le x (4 * x + 3) b (4 * b + 3) le (omega (arith, le))
 
--- and two searches, a new funnel and a number take less than is promised
-pub triangle_steps : (b : ℕ) → 3 ≤ b → b * (4 * b + 3) + 160 * (b + 1) + b * (4 * b + 3) + (2 * b + 1) + 1 ≤ 200 * (b * b)
+-- and a new funnel, a search and a number take less than is promised
+pub triangle_steps : (b : ℕ) → 3 ≤ b → 160 * (b + 1) + b * (4 * b + 3) + (2 * b + 1) + 1 ≤ 200 * (b * b)
 triangle_steps b three = omega (arith, three, mul-le 3 b b b three (omega arith))
 
 -- There are fewer triangles than corners

@@ -1,12 +1,13 @@
 -- How far a tree of paths has grown outward from the triangle of its start. This project's own.
-use Rattle.std.specs.Prelude.{◌≡◌, ℕ, ◌<◌, List, length, Option, Some, None}
-use Rattle.plane.specs.Point.{Point}
+use Rattle.std.specs.Prelude.{◌≡◌, ℕ, ◌<◌, List, length, slice_index, Option, Some, None}
+use Rattle.plane.specs.Point.{Point, whole}
 use Rattle.rings.specs.Ring.{vertex}
 use Rattle.meshes.specs.Side.{tri_at}
 use Rattle.meshes.specs.declared.tri.Tri.{Tri}
 use Rattle.tri_mesh.specs.declared.outward.Outward.{Outward}
-use Rattle.shared_funnel.specs.Entered.{HasCorner, IsFunnelTo, at_place}
-use Rattle.shared_funnel.specs.Listed.{Listed}
+use Rattle.funnels.specs.Funnel.{IsReachedFrom}
+use Rattle.shared_funnel.specs.Entered.{HasCorner, IsFunnelTo, at_place, third_of}
+use Rattle.shared_funnel.specs.Listed.{Listed, points_of}
 use Rattle.path_tree.specs.Grown.{IsFromNamed, Tree, before_at, funnel_at}
 
 -- the home has no funnel, and the triangle at a later place has that one
@@ -21,3 +22,15 @@ pub record IsGrownOver (corners : List Point) (start : Point) (tris : List Tri) 
       → IsFromNamed corners start (vertex corners i) (before_at tree i)
   pub triangles : length tree.funnels ≡ length tris
   pub funnels : (p : ℕ) → p < count → KeepsFunnelTo corners start tris order p (funnel_at tree (at_place order p))
+
+-- the third corner of the triangle at a place is reached from this place of its funnel
+abbrev pub IsThirdFrom : List Point → Point → List Tri → List Outward → ℕ → Listed → ℕ → Type 0
+IsThirdFrom corners start tris order p f place =
+    IsReachedFrom (points_of corners start f.list) f.apex place (whole (vertex corners (third_of tris order p)))
+
+-- for each of the triangles at the first places, so many of them, this is the place of its funnel from which its third corner is reached
+pub record AreThirdPlaces (corners : List Point) (start : Point) (tris : List Tri) (order : List Outward) (count : ℕ) (tree : Tree)
+    (places : List ℕ) : Type 0 where
+  pub each : length places ≡ count
+  pub reached : (p : ℕ) → p < count → (f : Listed) → funnel_at tree (at_place order p) ≡ Some f
+      → IsThirdFrom corners start tris order p f (slice_index places p)

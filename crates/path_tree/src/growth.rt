@@ -7,7 +7,7 @@ ghost use Rattle.exact_plane.specs.Spot.{IsNamed, point_named};
 ghost use Rattle.shared_seq.specs.Digits.{binary_digits};
 ghost use Rattle.shared_funnel.specs.Entered.{IsFromStart, IsFunnelTo};
 ghost use Rattle.path_tree.specs.Grown.{IsFromNamed};
-ghost use Rattle.path_tree.specs.Growing.{IsGrownOver};
+ghost use Rattle.path_tree.specs.Growing.{AreThirdPlaces, IsGrownOver};
 
 use crate::onward::{funnel_from, place_of_third};
 use exact_plane::{Memory, Spot, Steps, Turns};
@@ -16,11 +16,13 @@ use std::alloc::Global;
 use std::sync::ledger::Ledger;
 use tri_mesh::{Mesh, Outward};
 
-// A tree that grows outward from the home triangle: what is before the vertices of the triangles so far, and their funnels.
+// A tree that grows outward from the home triangle: what is before the vertices of the triangles so far, and their funnels; and
+// for each of these triangles, in their order, the place of its funnel from which its third corner is reached.
 #[derive(Drop)]
 pub(crate) struct Growth {
     pub(crate) before: Vec<Option<Spot>>,
     pub(crate) funnels: Vec<Option<Funnel>>,
+    pub(crate) thirds: Vec<usize>,
 }
 
 impl Growth {
@@ -35,16 +37,25 @@ impl Growth {
         requires { IsFromStart (T.corners board.now) (T.start board.now) mesh.now order.now }
         ensures grown { IfOk result (λ growth. IsGrownOver (T.corners board.now) (T.start board.now) mesh.now order.now 1
             (record { before = growth.before.items; funnels = growth.funnels.items })) }
+        ensures thirds { IfOk result (λ growth. AreThirdPlaces (T.corners board.now) (T.start board.now) mesh.now order.now 1
+            (record { before = growth.before.items; funnels = growth.funnels.items }) growth.thirds.items) }
         ensures steps { steps.new ≤ steps.old + 3 }
     {
         let count = mesh.count() as usize;
         let mut before = none_each(alloc, count + 2)?;
         let funnels = none_each(alloc, count)?;
+        // The home has no funnel, so no place in one.
+        let mut thirds = Vec::with_capacity(alloc, count)?;
+        thirds.push(0)?;
         let tri = mesh.tri(order[0].tri);
         for corner in [tri.a, tri.b, tri.c] {
             before[corner as usize] = straight(board, Spot::Corner(corner), steps);
         }
-        Ok(Growth { before, funnels })
+        Ok(Growth {
+            before,
+            funnels,
+            thirds,
+        })
     }
 
     // Goes on to the triangle at place `p`: its funnel, and what is before its third corner. It takes at most 200 b b steps, b
@@ -63,13 +74,18 @@ impl Growth {
         requires within { p < length order.now }
         requires grown { IsGrownOver (T.corners board.now) (T.start board.now) mesh.now order.now p
             (record { before = self.old.before.items; funnels = self.old.funnels.items }) }
+        requires thirds { AreThirdPlaces (T.corners board.now) (T.start board.now) mesh.now order.now p
+            (record { before = self.old.before.items; funnels = self.old.funnels.items }) self.old.thirds.items }
         ensures grown { OnOk result (IsGrownOver (T.corners board.now) (T.start board.now) mesh.now order.now (p + 1)
             (record { before = self.new.before.items; funnels = self.new.funnels.items })) }
+        ensures thirds { OnOk result (AreThirdPlaces (T.corners board.now) (T.start board.now) mesh.now order.now (p + 1)
+            (record { before = self.new.before.items; funnels = self.new.funnels.items }) self.new.thirds.items) }
         ensures steps { let b = binary_digits (length (T.corners board.now)) in steps.new ≤ steps.old + 200 * (b * b) }
     {
         let funnel = self.next_funnel(alloc, board, mesh, order, p, steps)?;
         let place = place_of_third(board, mesh, order, p, &funnel, steps);
         let near = spot(funnel.number(place, steps), mesh.count() + 2);
+        self.thirds.push(place)?;
         self.before[door_of(mesh, order[p]).third as usize] = Some(near);
         self.funnels[order[p].tri as usize] = Some(funnel);
         Ok(())
@@ -90,11 +106,17 @@ impl Growth {
         requires within { p < length order.now }
         requires grown { IsGrownOver (T.corners board.now) (T.start board.now) mesh.now order.now p
             (record { before = self.now.before.items; funnels = self.now.funnels.items }) }
+        requires thirds { AreThirdPlaces (T.corners board.now) (T.start board.now) mesh.now order.now p
+            (record { before = self.now.before.items; funnels = self.now.funnels.items }) self.now.thirds.items }
         ensures funnel { IfOk result (IsFunnelTo (T.corners board.now) (T.start board.now) mesh.now order.now p) }
-        ensures steps { let b = binary_digits (length (T.corners board.now)) in steps.new ≤ steps.old + b * (4 * b + 3) + 160 * (b + 1) }
+        ensures steps { let b = binary_digits (length (T.corners board.now)) in steps.new ≤ steps.old + 160 * (b + 1) }
     {
-        match &self.funnels[order[order[p].toward as usize].tri as usize] {
-            Some(funnel) => funnel_from(alloc, board, mesh, order, p, funnel, steps),
+        let toward = order[p].toward as usize;
+        match &self.funnels[order[toward].tri as usize] {
+            Some(funnel) => {
+                let place = self.thirds[toward];
+                funnel_from(alloc, board, mesh, order, p, funnel, place, steps)
+            }
             None => {
                 let door = door_of(mesh, order[p]);
                 Funnel::first(alloc, board, mesh.count() + 2, door.left, door.right, steps)

@@ -1,10 +1,7 @@
 ghost use Rattle.std.specs.Prelude.{◌≡◌, ◌+◌, ◌*◌, ◌<◌, ◌≤◌, IfOk, length};
-ghost use Rattle.plane.specs.Point.{whole};
-ghost use Rattle.rings.specs.Ring.{vertex};
-ghost use Rattle.funnels.specs.Funnel.{IsReachedFrom};
 ghost use Rattle.shared_seq.specs.Digits.{binary_digits};
-ghost use Rattle.shared_funnel.specs.Entered.{IsFromStart, IsFunnelTo, third_of, toward};
-ghost use Rattle.shared_funnel.specs.Listed.{points_of};
+ghost use Rattle.shared_funnel.specs.Entered.{IsFromStart, IsFunnelTo, toward};
+ghost use Rattle.path_tree.specs.Growing.{IsThirdFrom};
 
 use exact_plane::{Memory, Spot, Steps, Turns};
 use shared_funnel::{Funnel, door_of};
@@ -25,15 +22,15 @@ pub(crate) fn place_of_third<T: Turns, L: Ledger>(
     requires later { 0 < p }
     requires within { p < length order.now }
     requires funnel { IsFunnelTo (T.corners board.now) (T.start board.now) mesh.now order.now p funnel.now }
-    ensures reached { let third = vertex (T.corners board.now) (third_of mesh.now order.now p) in
-        IsReachedFrom (points_of (T.corners board.now) (T.start board.now) funnel.now.list) funnel.now.apex result (whole third) }
+    ensures reached { IsThirdFrom (T.corners board.now) (T.start board.now) mesh.now order.now p funnel.now result }
     ensures steps { let b = binary_digits (length (T.corners board.now)) in steps.new ≤ steps.old + b * (4 * b + 3) }
 {
     let third = door_of(mesh, order[p]).third;
     funnel.place(board, mesh.count() + 2, Spot::Corner(third), steps)
 }
 
-// The funnel at the triangle at place `p`, from that at the triangle from which it is reached.
+// The funnel at the triangle at place `p`, from that at the triangle from which it is reached, and the place of that one from which
+// the third corner there is reached.
 pub(crate) fn funnel_from<T: Turns, L: Ledger>(
     alloc: Global,
     board: &T,
@@ -41,6 +38,7 @@ pub(crate) fn funnel_from<T: Turns, L: Ledger>(
     order: &[Outward],
     p: usize,
     funnel: &Funnel,
+    place: usize,
     steps: &mut Steps<L>,
 ) -> Result<Funnel, Memory>
     requires start { IsFromStart (T.corners board.now) (T.start board.now) mesh.now order.now }
@@ -48,14 +46,14 @@ pub(crate) fn funnel_from<T: Turns, L: Ledger>(
     requires within { p < length order.now }
     requires inner { 0 < toward order.now p }
     requires funnel { IsFunnelTo (T.corners board.now) (T.start board.now) mesh.now order.now (toward order.now p) funnel.now }
+    requires place { IsThirdFrom (T.corners board.now) (T.start board.now) mesh.now order.now (toward order.now p) funnel.now place }
     ensures funnel { IfOk result (IsFunnelTo (T.corners board.now) (T.start board.now) mesh.now order.now p) }
-    ensures steps { let b = binary_digits (length (T.corners board.now)) in steps.new ≤ steps.old + b * (4 * b + 3) + 160 * (b + 1) }
+    ensures steps { let b = binary_digits (length (T.corners board.now)) in steps.new ≤ steps.old + 160 * (b + 1) }
 {
     // The prover learns from this call how many triangles there can be.
     let _count = mesh.count();
     let toward = order[p].toward as usize;
     let third = door_of(mesh, order[toward]).third;
-    let place = place_of_third(board, mesh, order, toward, funnel, steps);
     if door_of(mesh, order[p]).right == third {
         funnel.to_right(alloc, place, third, steps)
     } else {

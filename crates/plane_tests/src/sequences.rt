@@ -125,8 +125,8 @@ fn made_by<L: Ledger>(
     }
     match word {
         "share" => list.share().ok(),
-        "front" => Some(list.split_at(alloc, at, steps).ok()?.0),
-        "rest" => Some(list.split_at(alloc, at, steps).ok()?.1),
+        "front" => list.take(alloc, at, steps).ok(),
+        "rest" => list.skip(alloc, at, steps).ok(),
         "single" => SharedSeq::single(alloc, value, steps).ok(),
         "push_front" => list.push_front(alloc, value, steps).ok(),
         "insert_at" => list.insert_at(alloc, at, value, steps).ok(),

@@ -160,7 +160,7 @@ impl Funnel {
         ensures funnel { IfOk result (λ f. GoesOn self.now place m (λ i j. (i, m)) f) }
         ensures steps { steps.new ≤ steps.old + 160 * (binary_digits (length self.now.list + 1) + 1) }
     {
-        let (front, _) = self.list.split_at(alloc, place + 1, steps)?;
+        let front = self.list.take(alloc, place + 1, steps)?;
         let list = front.push_back(alloc, m, steps)?;
         Ok(Funnel {
             list,
@@ -183,7 +183,7 @@ impl Funnel {
         ensures funnel { IfOk result (λ f. GoesOn self.now place m (λ i j. (m, j)) f) }
         ensures steps { steps.new ≤ steps.old + 160 * (binary_digits (length self.now.list + 1) + 1) }
     {
-        let (_, rest) = self.list.split_at(alloc, place, steps)?;
+        let rest = self.list.skip(alloc, place, steps)?;
         let list = rest.push_front(alloc, m, steps)?;
         Ok(Funnel {
             list,

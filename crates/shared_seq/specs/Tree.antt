@@ -75,6 +75,15 @@ pub record IsCut (tree : Tree) (i : ℕ) (front back : Tree) : Type 0 where
   pub front_height : front.height ≤ tree.height
   pub back_height : back.height ≤ tree.height
 
+-- the first i values of a tree, where the left side is kept, or the rest, not higher than it
+abbrev pub kept_items : Side → ℕ → List ℕ → List ℕ
+kept_items Left i items = take i items
+kept_items Right i items = drop i items
+
+pub record IsPiece (kept : Side) (tree : Tree) (i : ℕ) (piece : Tree) : Type 0 where
+  pub items : piece.items ≡ kept_items kept i tree.items
+  pub not_higher : piece.height ≤ tree.height
+
 -- the height after one more value: as before, or one more
 abbrev pub IsGrown : ℕ → ℕ → Type 0
 IsGrown before after = (before ≤ after) × (after ≤ before + 1)

@@ -109,6 +109,46 @@ impl SharedSeq {
         Ok((SharedSeq::of(front), SharedSeq::of(back)))
     }
 
+    /// The first i values.
+    pub fn take<L: Ledger>(
+        &self,
+        alloc: Global,
+        i: usize,
+        steps: &mut Steps<L>,
+    ) -> Result<SharedSeq, Memory>
+        requires inside { i ≤ length self.now }
+        ensures list { IfOk result (λ list. list ≡ take i self.now) }
+        ensures steps { steps.new ≤ steps.old + 128 * (binary_digits (length self.now) + 1) }
+    {
+        if i == 0 {
+            return Ok(SharedSeq::empty());
+        }
+        if i == self.len {
+            return self.share();
+        }
+        Ok(SharedSeq::of(tree::piece(alloc, Side::Left, self.tree(), i, steps)?))
+    }
+
+    /// The list without its first i values.
+    pub fn skip<L: Ledger>(
+        &self,
+        alloc: Global,
+        i: usize,
+        steps: &mut Steps<L>,
+    ) -> Result<SharedSeq, Memory>
+        requires inside { i ≤ length self.now }
+        ensures list { IfOk result (λ list. list ≡ drop i self.now) }
+        ensures steps { steps.new ≤ steps.old + 128 * (binary_digits (length self.now) + 1) }
+    {
+        if i == 0 {
+            return self.share();
+        }
+        if i == self.len {
+            return Ok(SharedSeq::empty());
+        }
+        Ok(SharedSeq::of(tree::piece(alloc, Side::Right, self.tree(), i, steps)?))
+    }
+
     /// The value, and then the list.
     pub fn push_front<L: Ledger>(
         &self,

@@ -5,7 +5,7 @@ use crate::node::Node;
 use std::rc::Rc;
 
 // Which of two trees stands first.
-#[derive(Clone, Copy)]
+#[derive(Clone, Copy, PartialEq, Eq)]
 pub(crate) enum Side {
     Left,
     Right,

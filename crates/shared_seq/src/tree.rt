@@ -2,7 +2,7 @@
 ghost use Rattle.std.specs.Prelude.{◌≡◌, ◌+◌, ◌-◌, ◌*◌, ◌^◌, ◌<◌, ◌≤◌, IfOk, length, OnErr, slice_index, slice_set};
 ghost use Rattle.std.specs.List.{insert, remove};
 ghost use Rattle.shared_seq.specs.Seq.{IsShrunk, listed};
-ghost use Rattle.shared_seq.specs.Tree.{DifferByAtMost, IsCut, IsGrown, IsJoined};
+ghost use Rattle.shared_seq.specs.Tree.{DifferByAtMost, IsCut, IsGrown, IsJoined, IsPiece};
 
 use crate::node::{Held, Node, Way};
 use crate::side::Side;
@@ -150,6 +150,44 @@ pub(crate) fn split<L: Ledger>(
     let (outer, inner) = side.order(front, back);
     let inner = join(alloc, side, &inner, other, steps)?;
     Ok(side.order(outer, inner))
+}
+
+// The first i values, where the left side is kept, or else the rest: neither is empty. What is not kept is not made.
+pub(crate) fn piece<L: Ledger>(
+    alloc: Global,
+    kept: Side,
+    tree: &Rc<Node>,
+    i: usize,
+    steps: &mut Steps<L>,
+) -> Result<Rc<Node>, Memory>
+    requires some { 0 < i }
+    requires inside { i < length tree.now.value.items }
+    ensures piece { IfOk result (λ piece. IsPiece kept tree.now.value i piece.value) }
+    ensures steps { IfOk result (λ piece. steps.new ≤ steps.old + 8 * tree.now.value.height + 6 * piece.value.height) }
+    ensures steps_of_refusal { OnErr result (steps.new ≤ steps.old + 14 * tree.now.value.height) }
+{
+    let Some(
+        Way {
+            side,
+            part,
+            other,
+            at,
+        },
+    ) = Node::way(tree, i, steps)
+    else {
+        unreachable!()
+    };
+    if at == 0 {
+        return match kept {
+            Side::Left => Ok(other.clone()?),
+            Side::Right => Ok(part.clone()?),
+        };
+    }
+    let inner = piece(alloc, kept, part, at, steps)?;
+    if kept == side {
+        return Ok(inner);
+    }
+    join(alloc, side, &inner, other, steps)
 }
 
 // The same values but for the one at i.

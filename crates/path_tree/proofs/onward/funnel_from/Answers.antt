@@ -12,6 +12,14 @@ door_of-requires-clause-in_list g c = c.requires.start.outward.in_list c.args.p 
 pub door_of-requires-clause-side : goal.door_of-requires-clause-side
 door_of-requires-clause-side g c = (c.requires.start.outward.joined c.args.p c.requires.later c.requires.within).side
 
+pub bounds-order-toward : goal.bounds-order-toward
+bounds-order-toward g c = toward_below _ _ _ _ c.requires.start c.args.p c.requires.later c.requires.within
+
+pub door_of-third-requires-clause-side : goal.door_of-third-requires-clause-side
+door_of-third-requires-clause-side g c =
+    let below = toward_below _ _ _ _ c.requires.start c.args.p c.requires.later c.requires.within in
+    (c.requires.start.outward.joined (toward c.args.order.now c.args.p) c.requires.inner below).side
+
 pub to_right-requires-clause-apex : goal.to_right-requires-clause-apex
 to_right-requires-clause-apex g c = apex_in _ _ _ _ c.requires.start (toward c.args.order.now c.args.p) _ c.requires.funnel
 
@@ -40,7 +48,7 @@ returns-then-door_of-third-clause-funnel g c =
     let q = toward order p in
     IfOk-weaker c.to_right.result _ (IsFunnelTo corners start tris order p)
     (λ f next. funnel_on_right _ _ _ _ c.requires.start p c.requires.later c.requires.within c.requires.inner c.args.funnel.now c.requires.funnel
-    _ c.place_of_third-place.ensures.reached _ _ c.door_of.ensures.right c.door_of-third.ensures.third f c.if-door_of-third.true
+    c.args.place c.requires.place _ _ c.door_of.ensures.right c.door_of-third.ensures.third f c.if-door_of-third.true
     (λ beyond reached side. next corners start tris (at_place order q) (left_of tris order q) (right_of tris order q) (at_place order p)
     q c.requires.start.fits beyond c.requires.funnel reached side))
     c.to_right.ensures.funnel
@@ -49,7 +57,7 @@ pub returns-then-door_of-third-clause-steps : goal.returns-then-door_of-third-cl
 returns-then-door_of-third-clause-steps g c =
     let below = toward_below _ _ _ _ c.requires.start c.args.p c.requires.later c.requires.within in
     let few = few_digits _ _ _ _ c.requires.start (toward c.args.order.now c.args.p) c.args.funnel.now below c.requires.funnel in
-    omega (arith, c.place_of_third-place.ensures.steps, c.to_right.ensures.steps, few.1)
+    omega (arith, c.to_right.ensures.steps, few.1)
 
 pub returns-else-door_of-third-clause-funnel : goal.returns-else-door_of-third-clause-funnel
 returns-else-door_of-third-clause-funnel g c =
@@ -61,7 +69,7 @@ returns-else-door_of-third-clause-funnel g c =
     let q = toward order p in
     IfOk-weaker c.to_left.result _ (IsFunnelTo corners start tris order p)
     (λ f next. funnel_on_left _ _ _ _ c.requires.start p c.requires.later c.requires.within c.requires.inner c.args.funnel.now c.requires.funnel
-    _ c.place_of_third-place.ensures.reached _ _ c.door_of.ensures.right c.door_of-third.ensures.third f c.if-door_of-third.false
+    c.args.place c.requires.place _ _ c.door_of.ensures.right c.door_of-third.ensures.third f c.if-door_of-third.false
     (λ beyond reached side. next corners start tris (at_place order q) (left_of tris order q) (right_of tris order q) (at_place order p)
     q c.requires.start.fits beyond c.requires.funnel reached side))
     c.to_left.ensures.funnel
@@ -70,4 +78,4 @@ pub returns-else-door_of-third-clause-steps : goal.returns-else-door_of-third-cl
 returns-else-door_of-third-clause-steps g c =
     let below = toward_below _ _ _ _ c.requires.start c.args.p c.requires.later c.requires.within in
     let few = few_digits _ _ _ _ c.requires.start (toward c.args.order.now c.args.p) c.args.funnel.now below c.requires.funnel in
-    omega (arith, c.place_of_third-place.ensures.steps, c.to_left.ensures.steps, few.1)
+    omega (arith, c.to_left.ensures.steps, few.1)

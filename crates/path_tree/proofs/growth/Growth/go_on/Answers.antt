@@ -7,7 +7,7 @@ use Rattle.shared_funnel.proofs.Entrances.{beyond_at, third_below}
 use Rattle.shared_funnel.proofs.NextFunnels.{few_digits, later_digits}
 use Rattle.shared_funnel.specs.Entered.{at_place, left_of, right_of, third_of}
 use Rattle.shared_funnel.specs.Listed.{point_of}
-use Rattle.path_tree.proofs.GrownOver.{grown_more}
+use Rattle.path_tree.proofs.GrownOver.{grown_more, thirds_more}
 use Rattle.path_tree.proofs.NamedPoints.{third_named}
 use Rattle.path_tree.proofs.TreeSteps.{triangle_steps}
 use Rattle.path_tree.proofs.growth.Growth.go_on.Goals as goal
@@ -59,6 +59,36 @@ returns-clause-grown g c =
     (record { before = c.args.self.now.before.items; funnels = c.args.self.now.funnels.items }) c.requires.grown c.door_of.result.third
     (Some c.spot-near.result) f c.door_of.ensures.third
     (subst (λ m. IsFromNamed corners start (vertex corners m) (Some c.spot-near.result)) (sym c.door_of.ensures.third) named) w
+
+pub returns-clause-thirds : goal.returns-clause-thirds
+returns-clause-thirds g c =
+    let corners = g.T.Turns.corners c.args.board.now in
+    let start = g.T.Turns.start c.args.board.now in
+    let tris = c.args.mesh.now in
+    let order = c.args.order.now in
+    let p = c.args.p in
+    rw c.in_ok-push.ensures.items
+    (thirds_more corners start tris order c.requires.start p c.requires.later c.requires.within
+    (record { before = c.args.self.now.before.items; funnels = c.args.self.now.funnels.items }) c.requires.grown c.args.self.now.thirds.items
+    c.requires.thirds c.door_of.result.third (Some c.spot-near.result) c.in_ok-funnel.funnel c.place_of_third-place.result
+    c.place_of_third-place.ensures.reached)
+
+pub returns-in_err-push-clause-steps : goal.returns-in_err-push-clause-steps
+returns-in_err-push-clause-steps g c =
+    let corners = g.T.Turns.corners c.args.board.now in
+    let f = c.in_ok-funnel.funnel in
+    let three = later_digits corners (g.T.Turns.start c.args.board.now) c.args.mesh.now c.args.order.now c.requires.start c.args.p
+    c.requires.later c.requires.within in
+    let few = few_digits corners (g.T.Turns.start c.args.board.now) c.args.mesh.now c.args.order.now c.requires.start c.args.p f
+    c.requires.within c.in_ok-funnel.ensures.funnel in
+    omega (
+      arith,
+      c.next_funnel.ensures.steps,
+      c.place_of_third-place.ensures.steps,
+      c.number.ensures.steps,
+      triangle_steps (binary_digits (length corners)) three,
+      few.0,
+    )
 
 pub returns-clause-steps : goal.returns-clause-steps
 returns-clause-steps g c =

@@ -4,7 +4,7 @@ use Rattle.meshes.proofs.Sides.{two_fewer}
 use Rattle.shared_funnel.proofs.Entrances.{ends_at}
 use Rattle.shared_funnel.proofs.NextFunnels.{funnel_from_home, later_digits}
 use Rattle.shared_funnel.specs.Entered.{IsFunnelTo}
-use Rattle.path_tree.proofs.TreeFunnels.{none_at_home, some_later}
+use Rattle.path_tree.proofs.TreeFunnels.{none_at_home, some_later, third_place}
 use Rattle.path_tree.proofs.growth.Growth.next_funnel.Goals as goal
 
 pub funnel_from-requires-clause-inner : goal.funnel_from-requires-clause-inner
@@ -20,6 +20,13 @@ funnel_from-requires-clause-funnel g c =
     c.args.p c.requires.later c.requires.within
     (record { before = c.args.self.now.before.items; funnels = c.args.self.now.funnels.items }) c.requires.grown c.index.result.now
     c.index.ensures c.in-Some.funnel c.in-Some.is).1
+
+pub funnel_from-requires-clause-place : goal.funnel_from-requires-clause-place
+funnel_from-requires-clause-place g c =
+    third_place (g.T.Turns.corners c.args.board.now) (g.T.Turns.start c.args.board.now) c.args.mesh.now c.args.order.now c.requires.start
+    c.args.p c.requires.later c.requires.within
+    (record { before = c.args.self.now.before.items; funnels = c.args.self.now.funnels.items }) c.requires.grown c.index.result.now
+    c.index.ensures c.args.self.now.thirds.items c.requires.thirds c.in-Some.funnel c.in-Some.is c.index-place.result.now c.index-place.ensures
 
 pub first-requires-clause-count : goal.first-requires-clause-count
 first-requires-clause-count g c =

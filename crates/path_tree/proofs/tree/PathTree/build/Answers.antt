@@ -5,7 +5,7 @@ use Rattle.shared_funnel.proofs.StepCounts.{home_steps}
 use Rattle.path_tree.proofs.GrownOver.{grown_at_end}
 use Rattle.path_tree.proofs.TreeSteps.{tree_steps}
 use Rattle.path_tree.proofs.tree.PathTree.build.Goals as goal
-use Rattle.path_tree.specs.Growing.{IsGrownOver}
+use Rattle.path_tree.specs.Growing.{AreThirdPlaces, IsGrownOver}
 
 pub returns-in_err-growth-clause-steps : goal.returns-in_err-growth-clause-steps
 returns-in_err-growth-clause-steps g c =
@@ -22,6 +22,9 @@ loop-p-init g c =
       grown = subst (λ order. IsGrownOver corners (g.T.Turns.start c.args.board.now) c.args.mesh.now order 1
           (record { before = c.in_ok-growth.growth.before.items; funnels = c.in_ok-growth.growth.funnels.items })) c.deref.ensures.value
           c.in_ok-growth.ensures.grown;
+      thirds = subst (λ order. AreThirdPlaces corners (g.T.Turns.start c.args.board.now) c.args.mesh.now order 1
+          (record { before = c.in_ok-growth.growth.before.items; funnels = c.in_ok-growth.growth.funnels.items })
+          c.in_ok-growth.growth.thirds.items) c.deref.ensures.value c.in_ok-growth.ensures.thirds;
       steps = omega (arith, c.at_home.ensures.steps, home_steps (length corners) (omega (arith, count)));
     }
 
@@ -43,6 +46,9 @@ loop-p-preserved g c =
       grown = subst (λ order. IsGrownOver corners (g.T.Turns.start c.args.board.now) c.args.mesh.now order (c.loop-p.p + 1)
           (record { before = c.go_on.new.self.before.items; funnels = c.go_on.new.self.funnels.items })) c.deref-in-loop-p.ensures.value
           c.in_ok-go_on.ensures.grown;
+      thirds = subst (λ order. AreThirdPlaces corners (g.T.Turns.start c.args.board.now) c.args.mesh.now order (c.loop-p.p + 1)
+          (record { before = c.go_on.new.self.before.items; funnels = c.go_on.new.self.funnels.items }) c.go_on.new.self.thirds.items)
+          c.deref-in-loop-p.ensures.value c.in_ok-go_on.ensures.thirds;
       steps = omega (arith, before.steps, c.go_on.ensures.steps);
     }
 

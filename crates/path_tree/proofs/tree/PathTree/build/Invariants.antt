@@ -1,7 +1,7 @@
 use Rattle.std.proofs.Common.{◌+◌, ◌*◌, ◌<◌, ◌≤◌, length}
 use Rattle.shared_seq.specs.Digits.{binary_digits}
 use Rattle.path_tree.proofs.tree.PathTree.build.Given as goal
-use Rattle.path_tree.specs.Growing.{IsGrownOver}
+use Rattle.path_tree.specs.Growing.{AreThirdPlaces, IsGrownOver}
 
 abbrev pub invariant-loop-p : goal.invariant-loop-p
 invariant-loop-p g l =
@@ -11,5 +11,7 @@ invariant-loop-p g l =
       later : 0 < l.p;
       grown : IsGrownOver corners (g.T.Turns.start l.board) l.mesh l.order.items l.p
           (record { before = l.growth.before.items; funnels = l.growth.funnels.items });
+      thirds : AreThirdPlaces corners (g.T.Turns.start l.board) l.mesh l.order.items l.p
+          (record { before = l.growth.before.items; funnels = l.growth.funnels.items }) l.growth.thirds.items;
       steps : l.steps ≤ l.fn.steps + l.p * (200 * (b * b));
     }
