@@ -2,7 +2,6 @@ pub mod FullLists
 mod KnownLists
 pub mod LocationFits
 pub mod NoPointTwice
-pub mod OutwardWalks
 pub mod Searched
 pub mod SightLines
 pub mod SleeveRoom

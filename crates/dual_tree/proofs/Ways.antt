@@ -55,7 +55,7 @@ behind_nearer order p q (k ∷ ks) before behind =
 
 module _ (tris : List Tri) (tree : IsTree tris) (from to : ℕ) (from_below : from < length tris) (to_below : to < length tris) where
   -- two paths from one triangle that are apart are a walk, the first read backward
-  walk_over : (front : List ℕ) (k : ℕ) (back : List ℕ) → k < length tris → IsPath (IsPlace tris) (Touch tris) k front from
+  pub walk_over : (front : List ℕ) (k : ℕ) (back : List ℕ) → k < length tris → IsPath (IsPlace tris) (Touch tris) k front from
       → IsPath (IsPlace tris) (Touch tris) k back to → AreApart front back → IsWalkBetween tris from to (reverse front ++ k ∷ back)
   walk_over [] k back k_below p q apart =
       subst (λ l. IsWalkBetween tris from to (l ∷ back)) (sym p)

@@ -1,6 +1,6 @@
 -- The parts of the first edges of a ring: none, one more edge of which nothing or a part is seen, and in the end all.
-use Rattle.std.proofs.Common.{◌≡◌, refl, sym, ap, subst, ◌∙◌, ℕ, ◌+◌, ◌<◌, ◌⊎◌, inl, inr, List, [], ◌∷◌, ◌++◌, length, length-append, arith}
-use Rattle.std.proofs.lemmas.Bool.{cases_eq}
+use Rattle.std.proofs.Common.{◌≡◌, refl, sym, ap, subst, ◌∙◌, ℕ, ◌+◌, ◌<◌, ◌≤◌, ◌⊎◌, inl, inr, List, [], ◌∷◌, ◌++◌, length, length-append, arith}
+use Rattle.std.proofs.lemmas.Bool.{cases_eq, cases_lt}
 use Rattle.std.proofs.lemmas.List.{get_or_append_left, get_or_push}
 use Rattle.plane.specs.Point.{Point, Triple, whole}
 use Rattle.rings.specs.Ring.{origin}
@@ -39,17 +39,22 @@ module _ (ring : List Point) (q : Triple) where
   parts_of_all parts are = record { in_ring = are.in_front; parts_seen = are.parts_seen; rising = are.rising; complete = are.complete }
 
   module _ (count : ℕ) (parts : List Part) (are : AreFirstParts ring q count parts) where
-    -- one more edge is unseen
-    pub first_unseen : IsUnseen ring q count → AreFirstParts ring q (count + 1) parts
-    first_unseen unseen = record {
+    -- of some more edges nothing is seen,
+    pub first_gap : (above : ℕ) → count ≤ above → ((i : ℕ) → count ≤ i → i < above → IsUnseen ring q i) → AreFirstParts ring q above parts
+    first_gap above more unseen = record {
       in_front = λ k h. omega (arith, are.in_front k h);
       parts_seen = are.parts_seen;
       rising = are.rising;
-      complete = λ i h. elim (cases_eq i count) [
-        | inl last ↦ inr (subst (IsUnseen ring q) (sym last) unseen)
-        | inr other ↦ are.complete i (omega arith)
+      complete = λ i h. elim (cases_lt i count) [
+        | inl before ↦ are.complete i before
+        | inr after ↦ inr (unseen i after h)
       ];
     }
+
+    -- as of the next one
+    pub first_unseen : IsUnseen ring q count → AreFirstParts ring q (count + 1) parts
+    first_unseen unseen =
+        first_gap (count + 1) (omega arith) (λ i after below. let same : count ≡ i = omega arith in subst (IsUnseen ring q) same unseen)
 
     module _ (part : Part) (here : part.edge ≡ count) (seen : IsPart ring q count part.first part.last) where
       abbrev more : List Part

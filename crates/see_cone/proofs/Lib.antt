@@ -1,4 +1,8 @@
-mod ConesOutward
-mod EdgePlaces
+mod EdgesMore
+mod EdgesTold
 mod FirstParts
+mod ReachedAll
+mod ReachedMore
+mod SidesBeyond
 mod TurnTests
+mod WaysHome

@@ -1,2 +1,2 @@
-pub mod Cones
+pub mod Reached
 pub mod Told

@@ -2,9 +2,9 @@
 #![tactic(auto)]
 
 mod cone;
-mod cones;
+mod edges;
 mod part;
-mod places;
+mod reached;
 mod view;
 
 pub use part::Part;

@@ -5,12 +5,11 @@ ghost use Rattle.rings.specs.Sees.{Sees};
 ghost use Rattle.rings.specs.Visible.{AreParts, IsInView};
 ghost use Rattle.meshes.specs.Fits.{Fits, IsInTri};
 ghost use Rattle.meshes.specs.Side.{tri_at};
-ghost use Rattle.see_cone.specs.Told.{AllTold};
+ghost use Rattle.see_cone.specs.Told.{AreTold};
 
-use crate::cone::Cone;
-use crate::cones::cones_outward;
+use crate::edges::{Placed, edges_of};
 use crate::part::{Part, push_part};
-use crate::places::edge_places;
+use crate::reached::{Reached, reach_seen};
 use exact_plane::{Memory, Pt, Steps};
 use ring_check::Ring;
 use std::alloc::Global;
@@ -37,35 +36,28 @@ pub fn see<L: Ledger>(
         → Sees ring.now.corners (whole q.now) x ↔ IsInView (whole q.now) parts.items x) }
     ensures steps { steps.new ≤ steps.old + 14 * length ring.now.corners }
 {
-    let order = mesh.outward(alloc, home)?;
-    let cones = cones_outward(alloc, ring, mesh, &order, q, steps)?;
-    let places = edge_places(alloc, ring, mesh, &order)?;
-    parts_through(alloc, ring, &cones, &places, q, steps)
+    let reached = reach_seen(alloc, ring, mesh, home, q, steps)?;
+    let edges = edges_of(alloc, mesh, &reached)?;
+    parts_through(alloc, ring, &reached, &edges, q, steps)
 }
 
-// The parts that the cones at these places tell. It takes at most 9 steps an edge.
+// The parts of these edges. It takes at most 9 steps an edge.
 fn parts_through<L: Ledger>(
     alloc: Global,
     ring: &Ring,
-    cones: &[Option<Cone>],
-    places: &[u32],
+    reached: &[Reached],
+    edges: &[Placed],
     q: &Pt,
     steps: &mut Steps<L>,
 ) -> Result<Vec<Part>, Memory>
-    requires { AllTold ring.now.corners q.now cones.now places.now }
+    requires { AreTold ring.now.corners q.now reached.now edges.now }
     ensures parts { IfOk result (λ parts. AreParts ring.now.corners (whole q.now) parts.items) }
     ensures steps { steps.new ≤ steps.old + 9 * length ring.now.corners }
 {
     let mut parts = Vec::new(alloc);
-    for i in 0..ring.len() {
-        push_part(
-            &mut parts,
-            ring,
-            i,
-            &cones[places[i as usize] as usize],
-            q,
-            steps,
-        )?;
+    for placed in edges {
+        let cone = &reached[placed.place].cone;
+        push_part(&mut parts, ring, placed.edge, cone, q, steps)?;
     }
     Ok(parts)
 }

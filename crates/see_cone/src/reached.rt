@@ -1,0 +1,138 @@
+ghost use Rattle.std.specs.Prelude.{◌≡◌, ◌+◌, ◌*◌, ◌<◌, ◌≤◌, IfOk, OnOk, length};
+ghost use Rattle.plane.specs.Point.{whole};
+ghost use Rattle.meshes.specs.Fits.{Fits, IsInTri};
+ghost use Rattle.meshes.specs.Mesh.{side_begin, side_end};
+ghost use Rattle.meshes.specs.Side.{tri_at};
+ghost use Rattle.see_cone.specs.Reached.{AreAllReached, AreDone, AreNewBeyond, AreReached, IsBeyond, IsGrown, IsSideDone, tri_there};
+
+use crate::cone::{Cone, narrowed};
+use exact_plane::{Memory, Pt, Steps};
+use meshes::Tri;
+use ring_check::Ring;
+use std::alloc::Global;
+use std::sync::ledger::Ledger;
+use tri_mesh::Mesh;
+
+// A triangle that was reached, the one from which it was, and the cone through which it is seen, if it is.
+#[derive(Clone, Copy)]
+pub(crate) struct Reached {
+    pub tri: u32,
+    // At the home it is the home itself.
+    pub from: u32,
+    pub cone: Option<Cone>,
+}
+
+// The triangles of which `q` sees something and those beside them, outward from `home`, which has `q`. It takes at most 5 steps
+// for each of them.
+pub(crate) fn reach_seen<L: Ledger>(
+    alloc: Global,
+    ring: &Ring,
+    mesh: &Mesh,
+    home: u32,
+    q: &Pt,
+    steps: &mut Steps<L>,
+) -> Result<Vec<Reached>, Memory>
+    requires fits { Fits ring.now.corners mesh.now }
+    requires home { home < length mesh.now }
+    requires place { IsInTri ring.now.corners (tri_at mesh.now home) (whole q.now) }
+    ensures reached { IfOk result (λ reached. AreAllReached ring.now.corners mesh.now q.now reached.items) }
+    ensures steps { steps.new ≤ steps.old + 5 * length ring.now.corners }
+{
+    let mut reached = Vec::new(alloc);
+    reached.push(Reached {
+        tri: home,
+        from: home,
+        cone: Some(Cone {
+            left: *q,
+            right: *q,
+        }),
+    })?;
+    let mut place = 0usize;
+    while place < reached.len() {
+        reach_around(&mut reached, ring, mesh, place, q, steps)?;
+        place += 1;
+    }
+    Ok(reached)
+}
+
+// Reaches what is beside the triangle at a place, where that is seen. It takes at most 15 steps, and 5 for each triangle that is
+// new.
+fn reach_around<L: Ledger>(
+    reached: &mut Vec<Reached>,
+    ring: &Ring,
+    mesh: &Mesh,
+    place: usize,
+    q: &Pt,
+    steps: &mut Steps<L>,
+) -> Result<(), Memory>
+    requires fits { Fits ring.now.corners mesh.now }
+    requires place { place < length reached.old.items }
+    requires reached { AreReached ring.now.corners mesh.now q.now reached.old.items place }
+    requires done { AreDone mesh.now reached.old.items place }
+    ensures longer { OnOk result (length reached.old.items ≤ length reached.new.items) }
+    ensures reached { OnOk result (AreReached ring.now.corners mesh.now q.now reached.new.items (place + 1)) }
+    ensures done { OnOk result (AreDone mesh.now reached.new.items (place + 1)) }
+    ensures each { OnOk result (steps.new + 5 * length reached.old.items ≤ steps.old + 5 * length reached.new.items) }
+    ensures steps { steps.new ≤ steps.old + 15 }
+{
+    if reached[place].cone.is_none() {
+        return Ok(());
+    }
+    for side in 0..3 {
+        reach_over(reached, ring, mesh, place, side, q, steps)?;
+    }
+    Ok(())
+}
+
+// Reaches the triangle beyond a side of the one at a place, if there is one and that was not reached from it. It takes at most 5
+// steps, and none where nothing is new.
+fn reach_over<L: Ledger>(
+    reached: &mut Vec<Reached>,
+    ring: &Ring,
+    mesh: &Mesh,
+    place: usize,
+    side: u32,
+    q: &Pt,
+    steps: &mut Steps<L>,
+) -> Result<(), Memory>
+    requires fits { Fits ring.now.corners mesh.now }
+    requires place { place < length reached.old.items }
+    requires side { side < 3 }
+    requires reached { AreReached ring.now.corners mesh.now q.now reached.old.items (place + 1) }
+    requires new { AreNewBeyond mesh.now reached.old.items place side }
+    ensures grown { OnOk result (IsGrown reached.old.items reached.new.items (IsBeyond mesh.now (tri_there reached.old.items place) side)) }
+    ensures reached { OnOk result (AreReached ring.now.corners mesh.now q.now reached.new.items (place + 1)) }
+    ensures done { OnOk result (IsSideDone mesh.now reached.new.items (tri_there reached.old.items place) side) }
+    ensures each { OnOk result (steps.new + 5 * length reached.old.items ≤ steps.old + 5 * length reached.new.items) }
+    ensures steps { steps.new ≤ steps.old + 5 }
+{
+    let here = reached[place];
+    match mesh.across(here.tri, side) {
+        Some(tri) => {
+            if tri != here.from {
+                let (begin, end) = side_ends(&mesh.tri(here.tri), side);
+                let cone = narrowed(q, &here.cone, &ring.corner(end), &ring.corner(begin), steps);
+                reached.push(Reached {
+                    tri,
+                    from: here.tri,
+                    cone,
+                })?;
+            }
+            Ok(())
+        }
+        None => Ok(()),
+    }
+}
+
+// Where side 0, 1 or 2 of a triangle begins, and where it ends.
+pub(crate) fn side_ends(tri: &Tri, side: u32) -> (u32, u32)
+    requires { side < 3 }
+    ensures begin { result.0 ≡ side_begin tri.now side }
+    ensures end { result.1 ≡ side_end tri.now side }
+{
+    match side {
+        0 => (tri.a, tri.b),
+        1 => (tri.b, tri.c),
+        _ => (tri.c, tri.a),
+    }
+}
