@@ -1,3 +1,4 @@
+pub mod Bounds
 pub mod Direction
 pub mod Names
 pub mod Outside

@@ -2,6 +2,7 @@
 //! coordinate leaves this crate but by `Pt::parts`.
 #![tactic(auto)]
 
+mod bounds;
 mod cone;
 mod direction;
 mod hom;
@@ -14,6 +15,7 @@ mod turns;
 mod vector;
 mod wide;
 
+pub use bounds::Bounds;
 pub use cone::in_cone;
 pub use direction::{Direction, turn};
 pub use hom::{Hom, order_hom, turn_hom};

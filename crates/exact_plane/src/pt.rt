@@ -79,6 +79,16 @@ impl Pt {
         (self.x as i128, self.y as i128)
     }
 
+    // The same in 32 bits.
+    pub(crate) fn short_coordinates(&self) -> (i32, i32)
+        ensures x { result.0 ≡ self.now.x }
+        ensures y { result.1 ≡ self.now.y }
+        ensures x_is_small { unsigned_abs self.now.x < 2 ^ 23 }
+        ensures y_is_small { unsigned_abs self.now.y < 2 ^ 23 }
+    {
+        (self.x, self.y)
+    }
+
     // The way to another point.
     pub(crate) fn to(&self, other: &Pt) -> Vector
         ensures x { result.x ≡ other.now.x -ℤ self.now.x }

@@ -98,6 +98,13 @@ impl Ring {
         self.corners[i as usize]
     }
 
+    /// The vertices, in their order.
+    pub fn corners(&self) -> &[Pt]
+        ensures { result.now ≡ self.now.corners }
+    {
+        &self.corners
+    }
+
     /// Whether the list ran clockwise.
     pub fn is_turned(&self) -> bool
         ensures { result ≡ self.now.is_turned }
