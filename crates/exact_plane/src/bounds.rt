@@ -1,4 +1,4 @@
-ghost use Rattle.std.specs.Prelude.{◌≡◌, ◌+◌, ◌<◌, ◌^◌, ◌≤ℤ◌, ℕ, length, slice_index_or, unsigned_abs};
+ghost use Rattle.std.specs.Prelude.{◌≡◌, ◌+◌, ◌*◌, ◌<◌, ◌^◌, ◌≤ℤ◌, ℕ, length, slice_index_or, unsigned_abs};
 ghost use Rattle.plane.specs.Point.{IsInBounds, Point};
 ghost use Rattle.exact_plane.specs.Bounds.{IsWithin};
 
@@ -24,17 +24,17 @@ pub struct Bounds {
 }
 
 impl Bounds {
-    /// Columns and rows between which all of these points lie. It takes a step a point.
+    /// Columns and rows between which all of these points lie. They are coordinates, so it takes 64 steps a point, as `Pt::parts` does.
     pub fn of<L: Ledger>(points: &[Pt], steps: &mut Steps<L>) -> Bounds
         ensures within { (k : ℕ) → k < length points.now → (other : Point) → IsWithin result.west result.east result.south result.north (slice_index_or points.now k other) }
 
         // What holds of every point.
         ensures limits { (k : ℕ) → k < length points.now → (other : Point) → IsInBounds (slice_index_or points.now k other) }
-        ensures steps { steps.new ≡ steps.old + length points.now }
+        ensures steps { steps.new ≡ steps.old + 64 * length points.now }
     {
-        steps.add(points.len() as u64);
         let mut bounds = Bounds::empty();
         for k in 0..points.len() {
+            steps.add(64);
             bounds = bounds.with(&points[k]);
         }
         bounds

@@ -1,5 +1,5 @@
 //! Exact predicates on points with whole-number coordinates. Each question about coordinates takes a step, and no
-//! coordinate leaves this crate but by `Pt::parts`.
+//! coordinate leaves this crate but by `Pt::parts` and `Bounds::of`.
 #![tactic(auto)]
 
 mod bounds;

@@ -10,23 +10,26 @@ at_or_below : (k n : ℕ) → k < n + 1 → (k < n) ⊎ (k ≡ n)
 at_or_below k n h = grind arith
 
 pub loop-k-preserved : goal.loop-k-preserved
-loop-k-preserved g c j below other =
-    let points = c.args.points.now in
-    let new = c.with-bounds.result in
-    let more = c.with-bounds.ensures in
-    let at : c.index-points-k.result ≡ get_or points c.loop-k.k other = get_or_read points c.loop-k.k _ c.loop-k-test.true c.index-points-k.is other in
-    elim (at_or_below j c.loop-k.k below) [
-      | inl earlier ↦
-          let (old, limits) = c.loop-k.invariant j earlier other in (
-            record {
-              from_west = omega (arith, ints, old.from_west, more.west);
-              to_east = omega (arith, ints, old.to_east, more.east);
-              from_south = omega (arith, ints, old.from_south, more.south);
-              to_north = omega (arith, ints, old.to_north, more.north);
-            },
-            limits,
-          )
-      | inr last ↦
-          subst (λ (i : ℕ). IsWithin new.west new.east new.south new.north (get_or points i other) × IsInBounds (get_or points i other)) (sym last)
-          (subst (λ (p : Point). IsWithin new.west new.east new.south new.north p × IsInBounds p) at (more.new, more.limits))
-    ]
+loop-k-preserved g c = (
+  λ j below other.
+      let points = c.args.points.now in
+      let new = c.with-bounds.result in
+      let more = c.with-bounds.ensures in
+      let at : c.index-points-k.result ≡ get_or points c.loop-k.k other = get_or_read points c.loop-k.k _ c.loop-k-test.true c.index-points-k.is other in
+      elim (at_or_below j c.loop-k.k below) [
+        | inl earlier ↦
+            let (old, limits) = c.loop-k.invariant.0 j earlier other in (
+              record {
+                from_west = omega (arith, ints, old.from_west, more.west);
+                to_east = omega (arith, ints, old.to_east, more.east);
+                from_south = omega (arith, ints, old.from_south, more.south);
+                to_north = omega (arith, ints, old.to_north, more.north);
+              },
+              limits,
+            )
+        | inr last ↦
+            subst (λ (i : ℕ). IsWithin new.west new.east new.south new.north (get_or points i other) × IsInBounds (get_or points i other)) (sym last)
+            (subst (λ (p : Point). IsWithin new.west new.east new.south new.north p × IsInBounds p) at (more.new, more.limits))
+      ],
+  omega (arith, c.loop-k.invariant.1, c.add.ensures),
+)
