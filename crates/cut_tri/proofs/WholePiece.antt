@@ -1,20 +1,12 @@
 -- The piece of all vertices of a ring.
-use Rattle.std.proofs.Common.{◌≡◌, sym, ap, ◌∙◌, ℕ, ◌+◌, ◌≤◌, List, [], ◌∷◌, ◌++◌, length, arith}
-use Rattle.std.proofs.lemmas.List.{map-id}
-use Rattle.std.proofs.lemmas.List.FromFn.{get_or-range_with_len, length-range_with_len, map-range_with_len_more}
+use Rattle.std.proofs.Common.{◌≤◌, List, length, arith}
+use Rattle.std.proofs.lemmas.List.FromFn.{get_or-range_with_len, length-range_with_len}
 use Rattle.std.specs.List.{range_with_len}
 use Rattle.plane.specs.Point.{Point}
 use Rattle.rings.specs.Orientation.{IsCounterclockwise}
 use Rattle.rings.specs.Simple.{IsSimple}
 use Rattle.meshes.proofs.Triangulations.{ring_is_piece}
 use Rattle.cut_tri.specs.Piece.{IsPiece}
-
--- one more number at the end
-pub range_more : (n : ℕ) → range_with_len 0 (n + 1) ≡ range_with_len 0 n ++ n ∷ []
-range_more n =
-    sym (map-id (range_with_len 0 (n + 1)))
-    ∙ map-range_with_len_more (λ k. k) 0 n n (omega arith)
-    ∙ ap (λ xs. xs ++ n ∷ []) (map-id (range_with_len 0 n))
 
 -- all vertices of a simple ring with a positive area are a piece
 pub all_is_piece : (corners : List Point) → 3 ≤ length corners → IsSimple corners → IsCounterclockwise corners → IsPiece corners (range_with_len 0 (length corners))

@@ -1,6 +1,6 @@
 -- A funnel from which names on the left are taken away, one after another.
 use Rattle.std.proofs.Common.{◌≡◌, ◌≢◌, sym, ap, subst, ◌∙◌, ℕ, ◌+◌, ◌-◌, ◌<◌, ◌≤◌, List, [], ◌∷◌, ◌++◌, length, drop, arith}
-use Rattle.std.proofs.lemmas.List.{append-nil, append_assoc, drop-drop, length-drop}
+use Rattle.std.proofs.lemmas.List.{append_assoc, drop-drop, length-drop}
 use Rattle.plane.specs.Point.{Point, Triple}
 use Rattle.rings.specs.Chain.{point_at}
 use Rattle.funnels.proofs.Funnels.{passed_same}
@@ -21,17 +21,6 @@ pub record IsNarrowedLeft (at : Spot → Point) (old : List Spot) (apex : ℕ) (
   pub passed : 0 < length old - length names → IsPassed (named_points at old) apex (length old - length names) y
 
 module _ (at : Spot → Point) (old : List Spot) (apex : ℕ) (given : List Spot) (y : Triple) where
-  -- at the start nothing is taken away
-  pub left_starts : apex < length old → IsNarrowedLeft at old apex given y old apex given
-  left_starts within = let none : length old - length old ≡ 0 = omega arith in record {
-    some = omega arith;
-    fewer = omega arith;
-    kept = ap (λ k. drop k old) (sym none);
-    apex_is = omega arith;
-    behind = let all : (length old - length old) - apex ≡ 0 = omega arith in rw all (sym (append-nil given));
-    passed = λ inner. absurd (omega arith);
-  }
-
   module _ (names : List Spot) (now : ℕ) (out : List Spot) (so_far : IsNarrowedLeft at old apex given y names now out) where
     -- the names that are left are those of the whole funnel, so many places further on,
     same_name : (i : ℕ) → name_at names i ≡ name_at old ((length old - length names) + i)

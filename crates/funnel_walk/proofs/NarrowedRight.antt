@@ -1,6 +1,6 @@
 -- A funnel from which names on the right are taken away, one after another.
 use Rattle.std.proofs.Common.{◌≡◌, ◌≢◌, sym, ap, subst, ◌∙◌, ℕ, ◌+◌, ◌-◌, ◌<◌, ◌≤◌, min, List, [], ◌∷◌, ◌++◌, length, take, arith}
-use Rattle.std.proofs.lemmas.List.{append-nil, append_assoc, length-take-le, take-take, take_all}
+use Rattle.std.proofs.lemmas.List.{append_assoc, length-take-le, take-take}
 use Rattle.plane.specs.Point.{Point, Triple}
 use Rattle.rings.specs.Chain.{point_at}
 use Rattle.funnels.proofs.Funnels.{passed_same}
@@ -21,17 +21,6 @@ pub record IsNarrowedRight (at : Spot → Point) (old : List Spot) (apex : ℕ) 
   pub not_passed : last + 1 < length old → ¬ IsPassed (named_points at old) apex (last + 1) y
 
 module _ (at : Spot → Point) (old : List Spot) (apex : ℕ) (given : List Spot) (y : Triple) where
-  -- at the start nothing is taken away
-  pub right_starts : apex < length old → IsNarrowedRight at old apex given y old (length old - 1) apex given
-  right_starts within = record {
-    size = omega arith;
-    within = omega arith;
-    kept = sym (take_all (length old - 1 + 1) old (omega arith));
-    apex_is = omega arith;
-    behind = let none : apex - (length old - 1) ≡ 0 = omega arith in rw none (sym (append-nil given));
-    not_passed = λ more. absurd (omega arith);
-  }
-
   module _ (names : List Spot) (last now : ℕ) (out : List Spot) (so_far : IsNarrowedRight at old apex given y names last now out) where
     -- the names that are left are those of the whole funnel, in the same places,
     same_name : (i : ℕ) → i ≤ last → name_at names i ≡ name_at old i

@@ -8,7 +8,7 @@ mod WayChains
 pub use Rattle.funnels.proofs.Chains.WayChains.{chain_on, chain_to}
 -- A walk begins in a triangle of a mesh: its points see each other and its sides, and with no points before the apex nothing bends.
 mod FirstSights
-pub use Rattle.funnels.proofs.Chains.FirstSights.{bent_from_apex}
+pub use Rattle.funnels.proofs.Chains.FirstSights.{bent_from_apex, one_bent}
 -- How the chains bend on the way to the points of the next funnel on the left: the points from the place that the corner is reached from.
 mod BentLeft
 -- At an end of a shared side: a bend to the other end goes on to each point of the triangle beyond, and turns the same way; and a fan round to the side makes a bend to a point past it.

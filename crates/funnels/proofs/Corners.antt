@@ -5,7 +5,7 @@ mod TurningSigns
 pub use Rattle.funnels.proofs.Corners.TurningSigns.{left_of_line, left_of_second, not_right_of_first}
 -- The edges of a piece as edges of its points, and a vertex on a side of a triangle.
 mod PieceEdges
-pub use Rattle.funnels.proofs.Corners.PieceEdges.{end_of_its_side, in_range}
+pub use Rattle.funnels.proofs.Corners.PieceEdges.{end_of_its_side}
 -- The edges of a ring by the numbers of their ends, and the neighbours of a vertex on one ray.
 mod RingSteps
 pub use Rattle.funnels.proofs.Corners.RingSteps.{IsRingStep}

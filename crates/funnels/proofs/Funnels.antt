@@ -5,7 +5,8 @@ mod EdgeLine
 pub use Rattle.funnels.proofs.Funnels.EdgeLine.{IsEnd}
 -- Points of a funnel without height: they are between the ends of the diagonal, but for an apex that sees nothing beyond.
 mod FlatFunnels
-pub use Rattle.funnels.proofs.Funnels.FlatFunnels.{IsFlat, IsOnDiagonal, flat_off_apex, on_at_first, on_at_last}
+pub use Rattle.funnels.proofs.Funnels.FlatFunnels.{IsFlat, IsOnDiagonal, flat_left, flat_off_apex, flat_right, on_at_first, on_at_last, turn_left}
+pub use Rattle.funnels.proofs.Funnels.FlatFunnels.{turn_right}
 -- An apex without height is on the diagonal, or nothing beyond the diagonal is in its window.
 mod FlatApex
 pub use Rattle.funnels.proofs.Funnels.FlatApex.{flat_apex, left_of_apex, right_of_apex}
@@ -31,9 +32,10 @@ pub use Rattle.funnels.proofs.Funnels.NextEdges.{left_place, new_edge_left, new_
 mod LineCrossed
 -- How high the points of a funnel are over the diagonal: they fall along each chain from the apex, and none is beyond.
 mod Heights
-pub use Rattle.funnels.proofs.Funnels.Heights.{level, lower, not_negative}
+pub use Rattle.funnels.proofs.Funnels.Heights.{level, lower, lower_left, lower_right, not_negative, reaches_left, reaches_right}
 -- Which edges of a funnel the way to a point beyond the diagonal passes: those from the left end to one place, and no others.
 mod PassedEdges
+pub use Rattle.funnels.proofs.Funnels.PassedEdges.{IsPassedFrom, not_passed_from, passed_from, passed_of, passed_to}
 -- The way passes an edge of a funnel as the side of its ends tells on which the goal is, and passes the same edges of a part of the
 -- funnel.
 mod EdgeTests
@@ -49,7 +51,7 @@ mod NewEdge
 pub use Rattle.funnels.proofs.Funnels.NewEdge.{reaches_new}
 -- How far four points are from a line; points on one line, and a point of the line between the ends of a segment.
 mod OnOneLine
-pub use Rattle.funnels.proofs.Funnels.OnOneLine.{four_on_line, straight_on_line}
+pub use Rattle.funnels.proofs.Funnels.OnOneLine.{in_proportion, straight_on_line}
 -- The funnel of the diagonal from a point beyond to the right end: the point, and the points from the place that it is reached from.
 mod FunnelLeft
 pub use Rattle.funnels.proofs.Funnels.FunnelLeft.{funnel_left}
@@ -69,8 +71,6 @@ pub use Rattle.funnels.proofs.Funnels.CrossingDiagonal.{crossing_in_window}
 -- On which side of the way over a place of a funnel a point is that is reached from there, where the place is not the apex.
 mod ReachedWays
 pub use Rattle.funnels.proofs.Funnels.ReachedWays.{left_of_way, right_of_way}
--- On the way from a place of a funnel to a point beyond the diagonal all edges before the place are passed, and none after it.
-mod PassedPlaces
 -- The points of the next funnel by their places: some first points and then m, or m and then some last points.
 mod NextPoints
 pub use Rattle.funnels.proofs.Funnels.NextPoints.{next_left_length, next_left_old, next_right_last, next_right_length, next_right_old}

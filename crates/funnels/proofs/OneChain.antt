@@ -3,8 +3,9 @@
 -- The front of a chain with bends is one.
 mod SubChains
 pub use Rattle.funnels.proofs.OneChain.SubChains.{front_and_last, front_at, front_bent, front_length}
--- A bend stays one where the next point is another one on the same ray.
+-- A bend read backward, and one where a point beside it is another one on the same ray.
 mod RayBends
+pub use Rattle.funnels.proofs.OneChain.RayBends.{bend_back, bend_from_ray, bend_on_ray}
 -- The front of a chain with bends, and a chain with bends whose last step is shorter.
 mod ShorterSteps
 pub use Rattle.funnels.proofs.OneChain.ShorterSteps.{before_last, front, last_of, shorter_step}
@@ -19,4 +20,4 @@ mod OneChains
 pub use Rattle.funnels.proofs.OneChain.OneChains.{no_closed_chain, one_bent_chain}
 -- In a simple ring a taut chain is the path between its ends, and a chain with bends is taut.
 mod Paths
-pub use Rattle.funnels.proofs.OneChain.Paths.{bent_is_path, one_taut_chain, taut_iff_bent}
+pub use Rattle.funnels.proofs.OneChain.Paths.{bent_is_path, one_before, one_taut_chain, taut_iff_bent}

@@ -5,7 +5,7 @@ mod TouchedCorners
 pub use Rattle.funnels.proofs.Touched.TouchedCorners.{IsEndBetween, corner_not_between, end_between, side_in_triangle}
 -- Whether a point is ahead on the way to the next point of a chain; parts of a segment between whole points.
 mod AheadCases
-pub use Rattle.funnels.proofs.Touched.AheadCases.{ahead_cases, only_point, point_cases}
+pub use Rattle.funnels.proofs.Touched.AheadCases.{ahead_cases, only_point}
 -- A search for the vertices that a chain along a walk touches looks at an end of a side that the walk crosses.
 mod LookedAt
 pub use Rattle.funnels.proofs.Touched.LookedAt.{IsClear, IsEntered, IsNow, looked_at, none_between}

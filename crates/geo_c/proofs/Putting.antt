@@ -1,14 +1,11 @@
 -- A buffer into which items are put one by one.
-use Rattle.std.proofs.Common.{◌≡◌, ◌∙◌, ap, sym, subst, ℕ, ◌+◌, ◌<◌, ◌≤◌, List, [], ◌∷◌, ◌++◌, append_assoc, append-nil, arith, drop, get_or, length, length-append, map, slice_set, take}
+use Rattle.std.proofs.Common.{◌≡◌, ◌∙◌, ap, sym, subst, ℕ, ◌+◌, ◌<◌, List, [], ◌∷◌, ◌++◌, append_assoc, append-nil, arith, drop, get_or, length}
+use Rattle.std.proofs.Common.{length-append, slice_set, take}
 use Rattle.std.proofs.lemmas.Grind.{flat_map-append}
-use Rattle.std.proofs.lemmas.List.{drop_all, drop_more, length-drop, length-take, map_more, set_at, take-append-le, take_all, take_more}
+use Rattle.std.proofs.lemmas.List.{drop_more, length-drop, length-take, set_at, take_all, take_more}
 use Rattle.std.specs.Prelude.{flat_map}
 use Rattle.geo_c.specs.Filled.{filled_by}
 use Rattle.geo_c.specs.Put.{IsPut}
-
--- at first none is put
-pub none_put : {X : Type 0} (before : List X) → IsPut [] before before 0
-none_put {X = X} before = record { filled = ap (λ (l : List X). l ++ before) (sym (take_all (length before) [] (omega arith))); place = omega arith }
 
 module _ {X : Type 0} (items before now : List X) (next : ℕ) (so : IsPut items before now next) where
   length_now : length now ≡ length before
@@ -39,40 +36,14 @@ module _ {X : Type 0} (items before now : List X) (next : ℕ) (so : IsPut items
       ap (λ (l : List X). l ++ drop (length (items ++ x ∷ [])) before) all ∙ ap (λ (n : ℕ). (items ++ x ∷ []) ++ drop n before) count ∙ append_assoc items (x ∷ []) rest in
       record { filled = is ∙ set ∙ sym filled; place = omega (arith, is', here, count, room) }
 
-  -- and else it changes nothing
-  pub put_past : (x : X) → length now ≤ next → IsPut (items ++ x ∷ []) before now next
-  put_past x full =
-      let count = length_push x in
-      let past : length before ≤ length items = omega (arith, so.place, length_now, full) in
-      let front = take-append-le (length before) items (x ∷ []) past in
-      let back : drop (length items) before ≡ drop (length (items ++ x ∷ [])) before =
-      drop_all (length items) before past ∙ sym (drop_all (length (items ++ x ∷ [])) before (omega (arith, count, past))) in
-      record {
-        filled = so.filled ∙ ap (λ (l : List X). l ++ drop (length items) before) (sym front) ∙ ap (λ (l : List X). take (length before) (items ++ x ∷ []) ++ l) back;
-        place = omega (arith, so.place, past, count);
-      }
-
--- the same items, written in another way
-pub same_put : {X : Type 0} (items items' before now : List X) (next : ℕ) → items ≡ items' → IsPut items before now next → IsPut items' before now next
-same_put items items' before now next same so = subst (λ (l : List _). IsPut l before now next) same so
-
 -- all items that a function makes of a list
 module _ {X Y : Type 0} (xs : List X) (k : ℕ) (before now : List Y) (next : ℕ) where
-  pub map_put : (f : X → Y) (d : X) → k < length xs → IsPut (map f (take k xs) ++ f (get_or xs k d) ∷ []) before now next → IsPut (map f (take (k + 1) xs)) before now next
-  map_put f d below so = subst (λ (l : List Y). IsPut l before now next) (sym (map_more f xs k d below)) so
-
-  pub map_all_put : (f : X → Y) → length xs ≤ k → IsPut (map f (take k xs)) before now next → now ≡ filled_by (map f xs) before
-  map_all_put f ended so = so.filled ∙ ap (λ (l : List X). filled_by (map f l) before) (take_all k xs ended)
-
   pub flat_put : (f : X → List Y) (d : X) → k < length xs → IsPut (flat_map f (take k xs) ++ f (get_or xs k d)) before now next → IsPut (flat_map f (take (k + 1) xs)) before now next
   flat_put f d below so =
       let x = get_or xs k d in
       let one : flat_map f (take (k + 1) xs) ≡ flat_map f (take k xs) ++ f x =
       ap (flat_map f) (take_more xs k d below) ∙ flat_map-append f (take k xs) (x ∷ []) ∙ ap (λ (l : List Y). flat_map f (take k xs) ++ l) (append-nil (f x)) in
       subst (λ (l : List Y). IsPut l before now next) (sym one) so
-
-  pub flat_all_put : (f : X → List Y) → length xs ≤ k → IsPut (flat_map f (take k xs)) before now next → now ≡ filled_by (flat_map f xs) before
-  flat_all_put f ended so = so.filled ∙ ap (λ (l : List X). filled_by (flat_map f l) before) (take_all k xs ended)
 
 -- some items more of a list
 pub items_put : {X : Type 0} (items xs : List X) (k : ℕ) (d : X) (before now : List X) (next : ℕ) → k < length xs
@@ -81,7 +52,3 @@ items_put {X = X} items xs k d before now next below so =
     let more : items ++ take k xs ++ get_or xs k d ∷ [] ≡ items ++ take (k + 1) xs =
     append_assoc items (take k xs) (get_or xs k d ∷ []) ∙ ap (λ (l : List X). items ++ l) (sym (take_more xs k d below)) in
     subst (λ (l : List X). IsPut l before now next) more so
-
-pub all_items_put : {X : Type 0} (items xs : List X) (k : ℕ) (before now : List X) (next : ℕ) → length xs ≤ k
-    → IsPut (items ++ take k xs) before now next → IsPut (items ++ xs) before now next
-all_items_put {X = X} items xs k before now next ended so = subst (λ (l : List X). IsPut (items ++ l) before now next) (take_all k xs ended) so

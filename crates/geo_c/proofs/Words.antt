@@ -3,30 +3,12 @@ use Rattle.std.proofs.Common.{◌≡◌, ℕ, suc, ◌+◌, ◌-◌, ◌*◌, �
 use Rattle.std.proofs.Common.{refl, sym, ap, subst, arith, lit<, lt_of_le_of_lt}
 use Rattle.std.proofs.Math.Nat.{div-le_self}
 use Rattle.std.proofs.lemmas.Int.{ints, to_z-of_z}
-use Rattle.std.proofs.lemmas.Nat.{div-add-mod', div-mul-add, mod-mul-add, mod_below, shr_below}
+use Rattle.std.proofs.lemmas.Nat.{div-add-mod', mod_below, shr_below}
 use Rattle.std.specs.Int.{int_div_euclid, int_rem_euclid, w128}
 use Rattle.std.specs.Prelude.{unsigned_abs}
 use lib.Signed.{non_neg}
 use Rattle.exact_frac.specs.Lowest.{common_divisor, lowest_den}
-use Rattle.geo_c.specs.Fractions.{Fraction, high_word, low_word}
-
--- a number below 0 by its two words
-below_zero : (n w l : ℕ) → l < w → neg_ℤ (pos (suc n * w)) +ℤ pos l ≡ negsuc (n * w + (w - 1 - l))
-below_zero n w l small = omega (arith, ints)
-
-words_of : (h : ℤ) (w l : ℕ) → l < w
-    → (int_div_euclid (h *ℤ pos w +ℤ pos l) (pos w) ≡ h) × (unsigned_abs (int_rem_euclid (h *ℤ pos w +ℤ pos l) (pos w)) ≡ l)
-words_of (pos n) w l small = (ap pos (div-mul-add n w l small), mod-mul-add n w l small)
-words_of (negsuc n) w l small =
-    let rest : w - 1 - l < w = omega (arith, small) in
-    let high = div-mul-add n w (w - 1 - l) rest in
-    let low = mod-mul-add n w (w - 1 - l) rest in
-    let back : w - 1 - (w - 1 - l) ≡ l = omega (arith, small) in
-    rw (below_zero n w l small) (ap negsuc high, rw low back)
-
--- the words are those of the number that they make
-pub words_of_sum : (h : ℤ) (l : ℕ) → l < 2 ^ 64 → (high_word (h *ℤ pos (2 ^ 64) +ℤ pos l) ≡ h) × (low_word (h *ℤ pos (2 ^ 64) +ℤ pos l) ≡ l)
-words_of_sum h l small = words_of h (2 ^ 64) l small
+use Rattle.geo_c.specs.Fractions.{Fraction, high_word}
 
 under_zero : (q r w n : ℕ) → q * w + r ≡ n → r < w → neg_ℤ (pos (suc q * w)) +ℤ pos (w - 1 - r) ≡ negsuc n
 under_zero q r w n is small = omega (arith, ints)

@@ -1,6 +1,6 @@
 -- The lines of a tree, as a loop writes them.
-use Rattle.std.proofs.Common.{◌≡◌, ◌∙◌, sym, ap, arith, append_assoc, ℕ, ◌+◌, ◌<◌, ◌≤◌, List, [], ◌∷◌, ◌++◌, get_or, length, take}
-use Rattle.std.proofs.lemmas.List.{append-nil, length-take-le, take_all, take_more}
+use Rattle.std.proofs.Common.{◌≡◌, ◌∙◌, sym, ap, arith, append_assoc, ℕ, ◌+◌, ◌<◌, List, [], ◌∷◌, ◌++◌, get_or, length, take}
+use Rattle.std.proofs.lemmas.List.{append-nil, length-take-le, take_more}
 use Rattle.geo_reply.specs.ReplyText.{from_text, froms_text}
 use Rattle.geo_reply.specs.declared.reply.Before.{Before}
 
@@ -30,6 +30,3 @@ module _ (befores : List Before) (old front : List ℕ) where
         ∙ ap (λ t. t ++ from_text k before) inside
         ∙ append_assoc old (front ++ froms_text 0 (take k befores)) (from_text k before)
         ∙ ap (λ t. old ++ t) (append_assoc front (froms_text 0 (take k befores)) (from_text k before) ∙ ap (λ t. front ++ t) (sym line))
-
-    pub froms_whole : length befores ≤ k → mid ≡ old ++ (front ++ froms_text 0 befores)
-    froms_whole end = inside ∙ ap (λ l. old ++ (front ++ froms_text 0 l)) (take_all k befores end)

@@ -1,23 +1,8 @@
 -- Texts that begin as before.
-use Rattle.std.proofs.Common.{◌≡◌, ◌∙◌, sym, ap, append_assoc, ℕ, ◌+◌, ◌≤◌, List, ◌++◌, length, take, drop, Result, Ok, Err, arith}
+use Rattle.std.proofs.Common.{◌≡◌, ◌∙◌, ap, append_assoc, ℕ, ◌+◌, ◌≤◌, List, ◌++◌, length, take, Result, Ok, Err, arith}
 use Rattle.std.specs.Prelude.{IfOk, IsErr, OnErr, OnOk}
 use Rattle.std.proofs.Math.Seq.{take-append_seam, take-length}
-use Rattle.std.proofs.lemmas.List.{length-append, take-append-drop, take-append-le}
-
--- what begins with an appended text begins as the text before
-front_of : (old more out new : List ℕ) → out ≡ old ++ more → take (length out) new ≡ out → take (length old) new ≡ old
-front_of old more out new appended front =
-    let rest = drop (length out) new in
-    let whole : new ≡ (old ++ more) ++ rest = sym (take-append-drop (length out) new) ∙ ap (λ (t : List ℕ). t ++ rest) (front ∙ appended) in
-    ap (take (length old)) whole
-    ∙ take-append-le (length old) (old ++ more) rest (omega (arith, length-append old more))
-    ∙ take-append_seam old more
-
--- so it does after a fault
-pub front_after : {T E : Type 0} (r : Result T E) (old more out new : List ℕ) → out ≡ old ++ more → take (length out) new ≡ out
-    → OnErr r (take (length old) new ≡ old)
-front_after (Ok x) old more out new appended front = tt
-front_after (Err e) old more out new appended front = front_of old more out new appended front
+use Rattle.geo_text.proofs.LineFronts.{front_of}
 
 -- and where nothing more was appended
 pub front_kept : {T E : Type 0} (r : Result T E) (old more out : List ℕ) → out ≡ old ++ more → OnErr r (take (length old) out ≡ old)
@@ -47,10 +32,6 @@ err_since (Err e) h = h
 pub ok_since : {T E P : Type 0} (r : Result T E) → P → OnOk r P
 ok_since (Ok x) h = h
 ok_since (Err e) h = tt
-
-pub front_same_under : {T E : Type 0} (r : Result T E) (old out : List ℕ) → OnErr r (out ≡ old) → OnErr r (take (length old) out ≡ old)
-front_same_under (Ok x) old out same = tt
-front_same_under (Err e) old out same = ap (take (length old)) same ∙ take-length old
 
 -- nothing is asked of the value where there is none
 pub none_of_err : {T E : Type 0} (P : T → Type 0) (r : Result T E) → IsErr r → IfOk r P

@@ -1,6 +1,6 @@
 -- The records of a piece are answered one by one.
 use Rattle.std.proofs.Common.{◌≡◌, ◌||◌, ◌==◌, ◌∙◌, Bool, true, false, not, if◌then◌else◌, ℕ, List, [], ◌∷◌, ◌++◌, length, append-nil, ap, arith, refl, subst, sym}
-use Rattle.std.proofs.lemmas.Bool.{ne_eqb}
+use Rattle.std.proofs.lemmas.Bool.{ne_eqb, or_parts}
 use Rattle.geo_text.proofs.Joined.{no_later_records, no_records}
 use Rattle.geo_text.specs.Reading.{script_version}
 use Rattle.geo_text.specs.Records.{Unread, records_of}
@@ -9,7 +9,7 @@ use Rattle.geo_session.specs.State.{State, first_state}
 use Rattle.geo_session.specs.Output.{AreAnswers, AreFirstAnswers}
 use Rattle.geo_script.proofs.NextRecord.{first_and_one, no_first, none_answered, one_more}
 use Rattle.geo_script.specs.Answered.{AnswersRecord, version_of}
-use Rattle.geo_script.specs.Dialog.{AnswersPiece, AnswersRecords, AnswersSome, IsTalkOf, Talk, first_talk, is_some, records_in, version_with}
+use Rattle.geo_script.specs.Dialog.{AnswersPiece, AnswersRecords, IsTalkOf, Talk, first_talk, is_some, records_in, version_with}
 use Rattle.geo_script.specs.Progress.{PieceSoFar, part_of}
 
 -- a record was answered
@@ -46,10 +46,6 @@ pub has_byte : (piece : List ℕ) (begun empty : Bool) → empty ≡ (length pie
 has_byte [] begun empty is = rw is refl
 has_byte (c ∷ piece) begun empty is = rw (is, ne_eqb (length (c ∷ piece)) 0 (λ e. omega (arith, e))) refl
 
-pub or_none : (a b : Bool) → (a || b) ≡ false → (a ≡ false) × (b ≡ false)
-or_none true b e = cc
-or_none false b e = (refl, e)
-
 -- where none of some first records is answered, the state is as before
 unmoved : (version : Version) (k : ℕ) (before after : State) (first : List (List (List ℕ))) (text : List ℕ) → is_some first ≡ false
     → AreAnswers version k before first text after → after ≡ before
@@ -76,26 +72,16 @@ module _ (before : Talk) (piece : List ℕ) (script : Unread) (begun known : Boo
   still_sound sound state' begun' same less =
       let first = done.answered.first in (
         (λ e.
-            let none = or_none before.begun (is_some first) (sym done.begun ∙ less e) in
+            let none = or_parts before.begun (is_some first) (sym done.begun ∙ less e) in
             rw (done.known, sound.0 none.0, none.1) refl),
         (λ e.
-            let none = or_none before.known (is_some first) (sym done.known ∙ e) in
+            let none = or_parts before.known (is_some first) (sym done.known ∙ e) in
             same ∙ unmoved (version_of (part_of before piece)) (part_of before piece).next before.state state first text none.1 done.answered.answers ∙ sound.1 none.0),
       )
 
   first_answered : (begun' : Bool) → AnswersRecords (version_with before (records_in before piece)) before done.answered.first
       (record { begun = begun'; known = known; state = state; text = text })
   first_answered begun' = record { answers = rw (sym (version_is before piece)) done.answered.answers; known = done.known }
-
-  -- the first records of the piece are answered
-  pub some_answered : (state' : State) (text' : List ℕ) → state' ≡ state → text' ≡ text
-      → AnswersSome before piece (record { begun = begun; known = known; state = state'; text = text' })
-  some_answered state' text' same_state same_text = rw (same_state, same_text) (record {
-    first = done.answered.first;
-    rest = script.left;
-    records = done.answered.records;
-    answered = first_answered begun;
-    begun = done.begun;
   })
 
   -- all of them are

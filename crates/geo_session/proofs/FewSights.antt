@@ -2,9 +2,10 @@
 use Rattle.std.proofs.Common.{inl, inr, ℕ, zero, suc, ◌+◌, ◌*◌, ◌-◌, ◌<◌, ◌≤◌, ◌^◌, List, length, arith}
 use Rattle.std.proofs.lemmas.Bool.{cases_lt}
 use Rattle.std.proofs.lemmas.List.Elements.{Contains-get_or}
+use Rattle.plane.specs.Pairs.{pair_at}
 use Rattle.plane.specs.Point.{Point}
 use Rattle.plane.specs.declared.limits.TheConstants.{MAX_CORNERS}
-use Rattle.pair_cut.specs.Pairs.{AreSights, IsSight, pair_at}
+use Rattle.pair_cut.specs.Pairs.{AreSights, IsSight}
 
 module _ (ring : List Point) (pairs : List (ℕ × ℕ)) (are : AreSights ring pairs) (few : length ring ≤ MAX_CORNERS) where
   sight : (k : ℕ) → k < length pairs → IsSight ring (pair_at pairs k).0 (pair_at pairs k).1

@@ -1,8 +1,7 @@
 -- What a path touches in a ring is what it touches in the list that the ring was made of.
-use Rattle.std.proofs.Common.{◌↔◌, ◌-◌, ◌%◌, ◌∙◌, Bool, true, false, if◌then◌else◌, sym, subst, List, [], ◌∷◌, length, arith}
+use Rattle.std.proofs.Common.{◌↔◌, ◌-◌, Bool, true, false, if◌then◌else◌, sym, subst, List, [], ◌∷◌}
 use Rattle.plane.specs.Point.{Point}
-use Rattle.rings.proofs.Turned.{length-turned_round, turned_round-turned_round, vertex-turned_round}
-use Rattle.rings.proofs.Vertices.{vertex_mod}
+use Rattle.rings.proofs.Turned.{between_turned, turned_round-turned_round}
 use Rattle.rings.specs.Full.{AreTouched, IsFull, IsVertexBetween}
 use Rattle.rings.specs.Orientation.{turned_round}
 use Rattle.geo_text.specs.declared.version.Version.{Version}
@@ -12,19 +11,6 @@ use Rattle.geo_session.proofs.GivenPath.{path_either}
 use Rattle.geo_session.specs.Shown.{IsShown, IsShownPath}
 
 -- ---- a ring read the other way round
-
--- what is a vertex of it between two points is one of the ring,
-between_turned : (ring : List Point) (a b v : Point) → IsVertexBetween (turned_round ring) a b v → IsVertexBetween ring a b v
-between_turned ring a b v between = record {
-  i = (length ring - between.i) % length ring;
-  in_ring = omega (arith, length-turned_round ring);
-  is_vertex = vertex_mod ring (length ring - between.i)
-      ∙ sym (vertex-turned_round ring between.i (omega (arith, length-turned_round ring)))
-      ∙ between.is_vertex;
-  on = between.on;
-  not_first = between.not_first;
-  not_last = between.not_last;
-}
 
 -- and the other way,
 between_turned_iff : (ring : List Point) (a b v : Point) → IsVertexBetween (turned_round ring) a b v ↔ IsVertexBetween ring a b v

@@ -2,18 +2,11 @@
 use Rattle.std.proofs.Common.{◌↔◌, Bool, true, false, if◌then◌else◌, List}
 use Rattle.plane.specs.Point.{Point, Triple}
 use Rattle.rings.proofs.Inside.{in_either}
-use Rattle.rings.specs.Chain.{IsPath, IsTaut}
+use Rattle.rings.specs.Chain.{IsPath}
 use Rattle.rings.specs.Inside.{IsIn}
 use Rattle.rings.specs.Orientation.{turned_round}
-use Rattle.ring_laws.proofs.Simple.{bent_turned_iff}
+use Rattle.ring_laws.proofs.Simple.{taut_turned_iff}
 use Rattle.ring_check.specs.Oriented.{Oriented, given_of}
-
--- the same chains are taut in a ring that is read the other way round,
-taut_turned_iff : (ring : List Point) (s t : Point) (points : List Point) → IsTaut (turned_round ring) s t points ↔ IsTaut ring s t points
-taut_turned_iff ring s t points = (
-  λ h. record { bent = (bent_turned_iff ring points).0 h.bent; first = h.first; last = h.last; single = h.single },
-  λ h. record { bent = (bent_turned_iff ring points).1 h.bent; first = h.first; last = h.last; single = h.single },
-)
 
 -- so the path is the same
 pub path_either : (turned : Bool) (ring : List Point) (s t : Point) (path : List Point) → IsPath ring s t path

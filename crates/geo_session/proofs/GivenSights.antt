@@ -5,6 +5,7 @@ use Rattle.std.proofs.lemmas.List.Elements.{Contains-get_or}
 use Rattle.std.proofs.lemmas.List.Sorted.{Contains-permutation, IsPermutation-sym}
 use Rattle.std.specs.List.{Contains}
 use Rattle.std.specs.Prelude.{IsPermutation, IsSorted}
+use Rattle.plane.specs.Pairs.{IsPairBefore, pair_at}
 use Rattle.plane.specs.Point.{Point, Triple, whole}
 use Rattle.rings.proofs.Inside.{sees_turned_iff}
 use Rattle.rings.specs.Orientation.{turned_round}
@@ -12,11 +13,12 @@ use Rattle.rings.specs.Ring.{vertex}
 use Rattle.rings.specs.Sees.{Sees}
 use Rattle.hulls.proofs.Joined.{sees_back}
 use Rattle.ring_check.specs.Oriented.{Oriented, given_index, given_of}
-use Rattle.pair_cut.specs.Pairs.{AreSights, IsPairBefore, IsSight, pair_at}
+use Rattle.pair_cut.specs.Pairs.{AreSights, IsSight}
 use Rattle.geo_session.proofs.AskedVertices.{length_given}
-use Rattle.geo_session.proofs.GivenNumbers.{given_below, given_twice, vertex_back, vertex_there}
+use Rattle.geo_session.proofs.GivenTree.{vertex_given}
 use Rattle.geo_session.proofs.SortedPairs.{pair_cmp, pairs_in_order}
 use Rattle.geo_session.proofs.TurnedPairs.{order_cases, pairs_differ, renumbered, renumbered_twice}
+use Rattle.guards3.proofs.GivenNumbers.{given_below, given_twice, given_vertex}
 
 -- the same points see each other
 sees_either : (turned : Bool) (ring : List Point) (p q : Triple) → Sees (if turned then turned_round ring else ring) p q ↔ Sees ring p q
@@ -42,7 +44,7 @@ module _ (ring : Oriented) where
     i_below = omega (arith, sight.order, sight.in_ring)
 
     sees : Sees (given_of ring) (whole (vertex (given_of ring) (given_index ring i))) (whole (vertex (given_of ring) (given_index ring j)))
-    sees = rw (vertex_back ring i i_below, vertex_back ring j sight.in_ring)
+    sees = rw (given_vertex ring i i_below, given_vertex ring j sight.in_ring)
         ((sees_either ring.is_turned ring.corners (whole (vertex ring.corners i)) (whole (vertex ring.corners j))).1 sight.sees)
 
     -- a pair of the ring is one of the list,
@@ -64,7 +66,7 @@ module _ (ring : Oriented) where
 
     sees_too : Sees ring.corners (whole (vertex ring.corners (given_index ring i))) (whole (vertex ring.corners (given_index ring j)))
     sees_too = (sees_either ring.is_turned ring.corners _ _).0
-        (rw (← vertex_there ring i first_below, ← vertex_there ring j below) sight.sees)
+        (rw (← vertex_given ring i first_below, ← vertex_given ring j below) sight.sees)
 
     sight_held : IsSight ring.corners (given_pair (i, j)).0 (given_pair (i, j)).1
     sight_held = elim (order_cases (length ring.corners) (given_index ring) (given_twice ring) i j sight.order below) [

@@ -26,19 +26,20 @@ pub number_either : (turned : Bool) (n i : ℕ) → i < n → (if turned then (n
 number_either false n i below = below
 number_either true n i below = mod-lt (n - i) (omega arith)
 
+-- a vertex of the list is the ring's vertex with its number
+pub vertex_given : (ring : Oriented) (i : ℕ) → i < length ring.corners → vertex (given_of ring) i ≡ vertex ring.corners (given_index ring i)
+vertex_given ring i below = vertex_either ring.is_turned ring.corners i below
+
 module _ (ring : Oriented) (s : Point) (i : ℕ) (below : i < length ring.corners) (found : Option Spot)
     (from : IsFromNamed ring.corners s (vertex ring.corners (given_index ring i)) found) where
-  vertex_given : vertex (given_of ring) i ≡ vertex ring.corners (given_index ring i)
-  vertex_given = vertex_either ring.is_turned ring.corners i below
-
   -- what comes before a point does so in the list
   before_given : (x : Point) → IsBefore ring.corners s (vertex ring.corners (given_index ring i)) x → IsBefore (given_of ring) s (vertex (given_of ring) i) x
-  before_given x h = subst (λ t. IsBefore (given_of ring) s t x) (sym vertex_given)
+  before_given x h = subst (λ t. IsBefore (given_of ring) s t x) (sym (vertex_given ring i below))
       (record { path = h.path; is_path = path_given ring s _ h.path h.is_path; more = h.more; is = h.is })
 
   -- nothing,
   pub none_given : found ≡ None → IsFromNamed (given_of ring) s (vertex (given_of ring) i) None
-  none_given e = vertex_given ∙ (rw e at from)
+  none_given e = vertex_given ring i below ∙ (rw e at from)
 
   -- the source,
   pub start_given : found ≡ Some Start → IsFromNamed (given_of ring) s (vertex (given_of ring) i) (Some Start)

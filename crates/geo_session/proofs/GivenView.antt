@@ -1,15 +1,15 @@
 -- What a point sees of a ring is what it sees of the list that the ring was made of: the same parts of the edges, by their numbers in
 -- the list and in its direction.
-use Rattle.std.proofs.Common.{◌≡◌, ◌↔◌, inl, inr, refl, subst, ℕ, zero, suc, ◌+◌, ◌-◌, ◌<◌, ◌≤◌, Bool, true, false, if◌then◌else◌, List, length, arith}
+use Rattle.std.proofs.Common.{◌≡◌, ◌↔◌, inl, inr, subst, ℕ, zero, suc, ◌+◌, ◌-◌, ◌<◌, ◌≤◌, Bool, true, false, if◌then◌else◌, List, length, arith}
 use Rattle.std.proofs.lemmas.Bool.{cases_lt}
 use Rattle.plane.specs.Point.{IsPoint, Point, Triple}
 use Rattle.rings.proofs.Inside.{in_turned_iff, sees_turned_iff}
-use Rattle.rings.proofs.Turned.{length-turned_round}
 use Rattle.rings.proofs.Views.{parts_either, view_turned}
 use Rattle.rings.specs.Inside.{IsIn}
 use Rattle.rings.specs.Orientation.{turned_round}
 use Rattle.rings.specs.Sees.{Sees}
 use Rattle.rings.specs.Visible.{AreParts, IsInView, Part, part_at, turned_parts}
+use Rattle.geo_session.proofs.GivenSize.{length_either}
 use Rattle.ring_check.specs.Oriented.{Oriented, given_of}
 use Rattle.geo_session.specs.Parts.{given_parts}
 use Rattle.geo_session.specs.View.{IsView}
@@ -50,9 +50,5 @@ parts_few ring q parts are = elim (cases_lt 0 (length parts)) [
       omega (arith, number_below ring q parts are last (omega arith), are.in_ring last (omega arith))
 ]
 
-length-given : (is_turned : Bool) (ring : List Point) → length (if is_turned then turned_round ring else ring) ≡ length ring
-length-given true ring = length-turned_round ring
-length-given false ring = refl
-
 pub given_few : (ring : Oriented) (q : Triple) (parts : List Part) → IsView (given_of ring) q parts → length parts ≤ length ring.corners
-given_few ring q parts is = omega (arith, parts_few (given_of ring) q parts is.seen, length-given ring.is_turned ring.corners)
+given_few ring q parts is = omega (arith, parts_few (given_of ring) q parts is.seen, length_either ring.is_turned ring.corners)

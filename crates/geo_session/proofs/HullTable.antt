@@ -4,12 +4,13 @@ use Rattle.std.proofs.lemmas.List.{ext_get_or, get_or-map, length-map}
 use Rattle.std.proofs.lemmas.List.Elements.{Contains-get_or}
 use Rattle.std.proofs.lemmas.List.FromFn.{get_or-map-range_with_len, length-map-range_with_len}
 use Rattle.std.specs.Prelude.{map, slice_index, slice_index_or}
+use Rattle.plane.specs.Pairs.{pair_at}
 use Rattle.plane.specs.Point.{Point}
 use Rattle.rings.specs.Chain.{IsPath, point_at}
 use Rattle.rings.specs.Ring.{origin}
 use Rattle.meshes.specs.declared.tri.Tri.{Tri}
 use Rattle.hulls.specs.Inner.{AreDistinct}
-use Rattle.rel_hull.specs.Table.{AreSides, IsTableOf, Table, chain_at, pair_at, points_of}
+use Rattle.rel_hull.specs.Table.{AreSides, IsTableOf, Table, chain_at, points_of}
 use Rattle.geo_session.proofs.Spanned.{chain_between_places}
 use Rattle.geo_session.specs.Hull.{AreFirsts}
 use Rattle.geo_session.specs.Sleeves.{IsPathBetween}

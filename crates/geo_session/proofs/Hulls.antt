@@ -3,6 +3,7 @@ use Rattle.std.proofs.Common.{inl, inr, refl, ℕ, zero, suc, ◌+◌, ◌*◌, 
 use Rattle.std.proofs.lemmas.Bool.{cases_lt}
 use Rattle.std.proofs.lemmas.List.{length-map}
 use Rattle.std.specs.Prelude.{map}
+use Rattle.plane.specs.Pairs.{pair_at}
 use Rattle.plane.specs.Point.{Point}
 use Rattle.rings.specs.Chain.{point_at}
 use Rattle.meshes.specs.declared.tri.Tri.{Tri}
@@ -11,7 +12,7 @@ use Rattle.geo_text.specs.declared.version.Version.{Version}
 use Rattle.geo_reply.specs.declared.reply.Reply.TheVariants as reply
 use Rattle.geo_reply.specs.declared.reply.Side.{Side}
 use Rattle.ring_check.specs.Oriented.{Oriented, given_of}
-use Rattle.rel_hull.specs.Table.{AreSides, pair_at, points_of}
+use Rattle.rel_hull.specs.Table.{AreSides, points_of}
 use Rattle.geo_session.proofs.GivenFull.{shown_given}
 use Rattle.geo_session.proofs.GivenSides.{sides_given}
 use Rattle.geo_session.proofs.HullTable.{short_chain, side_numbered, sides_numbered}

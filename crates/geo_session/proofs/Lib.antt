@@ -2,7 +2,6 @@ mod Within
 mod GivenPath
 mod GivenSize
 mod GivenTree
-mod GivenNumbers
 mod GivenFull
 mod GivenView
 mod GivenKernel
@@ -31,7 +30,6 @@ mod OneVerdict
 mod OneShown
 mod OneView
 mod OneHull
-mod OneRound
 mod OneNumbers
 mod OneReply
 mod OneAnswer

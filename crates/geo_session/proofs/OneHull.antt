@@ -4,13 +4,13 @@ use Rattle.std.proofs.lemmas.Bool.{cases_lt}
 use Rattle.std.proofs.lemmas.List.{ext_get_or, get_or_default}
 use Rattle.std.specs.List.{Contains}
 use Rattle.std.specs.Prelude.{map, slice_index}
+use Rattle.plane.proofs.Lists.{before_through, not_before_itself, one_ordered}
+use Rattle.plane.specs.Pairs.{IsPairBefore, pair_at}
 use Rattle.plane.specs.Point.{Point}
 use Rattle.rings.specs.Chain.{point_at}
 use Rattle.geo_text.specs.declared.version.Version.{Version}
-use Rattle.pair_cut.proofs.OneOrder.{one_ordered}
-use Rattle.pair_cut.proofs.PairOrder.{before_through, not_before_itself}
 use Rattle.rel_hull.specs.Hull.{IsSide}
-use Rattle.rel_hull.specs.Table.{AreSides, IsPairBefore, pair_at}
+use Rattle.rel_hull.specs.Table.{AreSides}
 use Rattle.geo_session.proofs.OneShown.{one_shown}
 use Rattle.geo_reply.specs.declared.reply.Side.{Side}
 use Rattle.geo_session.specs.Hull.{AreFirsts, AreSidesOf, IsSideFrom, side_at}

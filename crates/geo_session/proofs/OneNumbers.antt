@@ -10,10 +10,10 @@ use Rattle.meshes.specs.declared.tri.Tri.{Tri}
 use Rattle.ring_check.specs.Oriented.{oriented}
 use Rattle.cut_tri.specs.Cut.{OneCutLaw}
 use Rattle.guards3.specs.Guards.{AreGuards, OneGuardsLaw}
+use Rattle.rel_hull.proofs.Closing.{only_round}
 use Rattle.rel_hull.specs.Round.{IsRound}
 use Rattle.geo_session.proofs.HullTable.{some_numbers}
 use Rattle.geo_session.proofs.OneHull.{one_firsts}
-use Rattle.geo_session.proofs.OneRound.{one_round}
 use Rattle.geo_session.specs.Guards.{GuardRing}
 use Rattle.geo_session.specs.Round.{AreRound}
 
@@ -27,7 +27,7 @@ module _ (ring points : List Point) where
       let is : IsRound ring (map (point_at points) g.numbers) h.places =
       subst (λ (ns : List ℕ). IsRound ring (map (point_at points) ns) h.places) numbers h.is_round in
       let some = some_numbers points g.numbers g.firsts g.some in
-      let places : h.places ≡ g.places = one_round ring (map (point_at points) g.numbers)
+      let places : h.places ≡ g.places = only_round ring (map (point_at points) g.numbers)
       (omega (arith, length-map g.numbers (point_at points), some)) h.places g.places is g.is_round in
       h.are ∙ ap₂ (λ (ns ps : List ℕ). map (slice_index ns) ps) numbers places ∙ sym g.are
 

@@ -1,14 +1,14 @@
 -- The reply to a command is one, or at least its text: rational points may be given by other triples.
-use Rattle.std.proofs.Common.{◌≡◌, ◌∙◌, inl, refl, sym, ap, subst, ℕ, ℤ, pos, ◌+◌, ◌-◌, List, [], ◌∷◌, length, arith}
+use Rattle.std.proofs.Common.{◌≡◌, ◌∙◌, inl, refl, sym, ap, subst, ℕ, ℤ, pos, ◌+◌, List, [], ◌∷◌, arith}
 use Rattle.std.proofs.lemmas.Int.{ints}
 use Rattle.std.proofs.lemmas.List.{ext_get_or}
 use Rattle.std.specs.Prelude.{Option, Some, None}
 use Rattle.plane.specs.Point.{Point, whole}
 use Rattle.rings.proofs.Simple.{least_clash_is_one, no_least_clash}
-use Rattle.rings.specs.Chain.{point_at}
 use Rattle.rings.specs.From.{IsBefore}
 use Rattle.rings.specs.Kernel.{IsInKernel}
 use Rattle.rings.specs.Ring.{vertex}
+use Rattle.funnels.proofs.OneChain.{one_before}
 use Rattle.geo_text.specs.declared.command.Bad.{Bad}
 use Rattle.geo_text.specs.declared.command.Bad.TheVariants as bad
 use Rattle.geo_text.specs.declared.command.Command.{Command}
@@ -167,29 +167,23 @@ one_pair_of before i j one other h g =
 -- ---- a tree
 
 module _ (ring : List Point) (s t : Point) where
-  -- the path is the only one, so one point comes before its end,
-  one_before : (x y : Point) → IsBefore ring s t x → IsBefore ring s t y → x ≡ y
-  one_before x y h g =
-      let same : h.path ≡ g.path = (g.is_path h.path).0 ((h.is_path h.path).1 refl) in
-      sym h.is ∙ ap (λ path. point_at path (length path - 2)) same ∙ g.is
-
   -- and none where the path begins there
-  none_before : t ≡ s → (x : Point) → ¬ IsBefore ring s t x
-  none_before same x h =
+  none_before ring s t : t ≡ s → (x : Point) → ¬ IsBefore ring s t x
+  none_before ring s t same x h =
       let taut = (h.is_path h.path).1 refl in
       omega (arith, taut.single (sym same), h.more)
 
   one_from : (one other : Before) → IsFrom ring s t one → IsFrom ring s t other → one ≡ other
   one_from before.Nothing before.Nothing h g = refl
-  one_from before.Nothing before.Source at h = absurd (none_before at s h)
-  one_from before.Nothing (before.Vertex j) at h = absurd (none_before at h.x h.before)
-  one_from before.Source before.Nothing h at = absurd (none_before at s h)
+  one_from before.Nothing before.Source at h = absurd (none_before ring s t at s h)
+  one_from before.Nothing (before.Vertex j) at h = absurd (none_before ring s t at h.x h.before)
+  one_from before.Source before.Nothing h at = absurd (none_before ring s t at s h)
   one_from before.Source before.Source h g = refl
-  one_from before.Source (before.Vertex j) h g = absurd (g.not_source (one_before g.x s g.before h))
-  one_from (before.Vertex j) before.Nothing h at = absurd (none_before at h.x h.before)
-  one_from (before.Vertex j) before.Source h g = absurd (h.not_source (one_before h.x s h.before g))
+  one_from before.Source (before.Vertex j) h g = absurd (g.not_source (one_before ring s t g.x s g.before h))
+  one_from (before.Vertex j) before.Nothing h at = absurd (none_before ring s t at h.x h.before)
+  one_from (before.Vertex j) before.Source h g = absurd (h.not_source (one_before ring s t h.x s h.before g))
   one_from (before.Vertex j) (before.Vertex k) h g =
-      ap before.Vertex (g.number.only j h.number.in_ring (h.number.at ∙ one_before h.x g.x h.before g.before))
+      ap before.Vertex (g.number.only j h.number.in_ring (h.number.at ∙ one_before ring s t h.x g.x h.before g.before))
 
 -- so what comes before each vertex is one list
 one_befores : (ring : List Point) (s : Point) (befores others : List Before) → AreFrom ring s befores → AreFrom ring s others → befores ≡ others

@@ -13,7 +13,7 @@ use Rattle.geo_text.specs.declared.version.Version.{Version}
 use Rattle.ring_check.specs.Oriented.{Oriented, given_index, given_of}
 use Rattle.pair_cut.specs.Pairs.{IsPairPath}
 use Rattle.geo_session.proofs.GivenFull.{shown_given}
-use Rattle.geo_session.proofs.GivenNumbers.{vertex_there}
+use Rattle.geo_session.proofs.GivenTree.{vertex_given}
 use Rattle.geo_session.specs.Shown.{IsShown, IsShownPath}
 
 module _ (corners : List Point) (tris : List Tri) (fits : Fits corners tris) (i j : ℕ) (names : List ℕ) (is : IsPairPath corners i j names) where
@@ -35,5 +35,5 @@ module _ (ring : Oriented) (i j from to : ℕ) (i_below : i < length ring.corner
   pub pair_told : (version : Version) (chain points : List Point) → IsPath ring.corners (vertex ring.corners from) (vertex ring.corners to) chain
       → IsShown version ring.corners chain points → IsShownPath version (given_of ring) (vertex (given_of ring) i) (vertex (given_of ring) j) points
   pair_told version chain points is_path is_shown =
-      rw (vertex_there ring i i_below, vertex_there ring j j_below, ← first, ← last)
+      rw (vertex_given ring i i_below, vertex_given ring j j_below, ← first, ← last)
       (shown_given ring version (vertex ring.corners from) (vertex ring.corners to) points (record { chain = chain; is_path = is_path; is_shown = is_shown }))

@@ -12,7 +12,7 @@ use Rattle.std.specs.List.{IsDistinct}
 use Rattle.std.specs.Ordering.{is_lt, nat_cmp, ordering_then}
 use Rattle.std.specs.Prelude.{IsPermutation, IsSorted, nat_eq}
 use Rattle.std.specs.declared.cmp.Ordering.{Ordering}
-use Rattle.pair_cut.specs.Pairs.{IsPairBefore, pair_at}
+use Rattle.plane.specs.Pairs.{IsPairBefore, pair_at}
 
 -- the order by the first number, and then by the second
 abbrev pub pair_cmp : ℕ × ℕ → ℕ × ℕ → Ordering

@@ -5,6 +5,8 @@ use Rattle.std.proofs.lemmas.Bool.{cases_eq, cases_lt}
 use Rattle.std.proofs.lemmas.List.{get_or_append_left, get_or_push, length_push}
 use Rattle.std.proofs.lemmas.List.Elements.{Contains-append_left, Contains-push, Contains-push_cases}
 use Rattle.std.specs.List.{Contains}
+use Rattle.plane.proofs.Lists.{ordered_push}
+use Rattle.plane.specs.Pairs.{pair_at}
 use Rattle.plane.specs.Point.{Point, whole}
 use Rattle.rings.specs.Chain.{IsPath, point_at}
 use Rattle.rings.specs.Inside.{IsIn}
@@ -13,8 +15,6 @@ use Rattle.meshes.specs.declared.tri.Tri.{Tri}
 use Rattle.geo_text.specs.declared.version.Version.{Version}
 use Rattle.geo_text.specs.declared.version.Version.TheVariants as version
 use Rattle.dual_tree.specs.Location.{IsLeastHolding}
-use Rattle.rel_hull.proofs.Outer.{ordered_push}
-use Rattle.rel_hull.specs.Table.{pair_at}
 use Rattle.geo_reply.specs.declared.reply.Side.{Side}
 use Rattle.geo_session.proofs.LocatedIn.{held_in}
 use Rattle.geo_session.specs.Hull.{AreFirsts}
@@ -35,12 +35,6 @@ each_push P xs x d n count each next k below = elim (cases_lt k n) [
 -- ---- the first numbers
 
 module _ (points : List Point) where
-  pub no_firsts : AreFirstsBelow points 0 []
-  no_firsts = record {
-    rising = λ k l h below. absurd (omega (arith, below));
-    first = λ i. (λ inside. let h = inside.1 in absurd (omega arith), λ h. let less = h.0 in absurd (omega arith));
-  }
-
   module _ (n : ℕ) (numbers : List ℕ) (are : AreFirstsBelow points n numbers) where
     -- the next point is a first one,
     pub firsts_more : ¬ IsRepeated points n → AreFirstsBelow points (n + 1) (numbers ++ n ∷ [])

@@ -3,22 +3,15 @@ use Rattle.std.proofs.Common.{ℕ, ◌<◌, List, length}
 use Rattle.plane.specs.Point.{Point}
 use Rattle.rings.specs.Chain.{IsPath}
 use Rattle.rings.specs.Ring.{vertex}
-use Rattle.meshes.proofs.Sides.{one_at_edge}
 use Rattle.meshes.specs.Fits.{Fits}
 use Rattle.meshes.specs.Side.{IsWalkBetween, tri_at}
 use Rattle.meshes.specs.Sleeve.{IsOneOf, Sleeve}
 use Rattle.meshes.specs.declared.tri.Tri.{Tri}
-use Rattle.shared_funnel.proofs.TriCorners.{corner_in, side_corners}
+use Rattle.shared_funnel.proofs.TriCorners.{corner_in}
 use Rattle.shared_funnel.specs.Entered.{HasCorner}
 use Rattle.geo_session.specs.Sleeves.{IsPathAlong}
 
 module _ (corners : List Point) (tris : List Tri) (fits : Fits corners tris) where
-  -- each vertex is a corner of a triangle
-  pub corner_somewhere : (i : ℕ) → i < length corners → (k : ℕ) × (k < length tris) × HasCorner (tri_at tris k) i
-  corner_somewhere i below =
-      let (k, one) = one_at_edge corners tris fits i below in
-      (k, one.in_list, (side_corners (tri_at tris k) i _ one.has).0)
-
   -- the path between two vertices is along the sleeve between triangles with them
   pub path_at : (sleeve : Sleeve) (from to i j : ℕ) (chain : List Point) → IsOneOf tris sleeve → IsWalkBetween tris from to sleeve.walk
       → from < length tris → to < length tris → HasCorner (tri_at tris from) i → HasCorner (tri_at tris to) j

@@ -1,10 +1,11 @@
 -- What a hull answers: its sides, each with what is told of its path. This project's own, after Toussaint 1986.
 use Rattle.std.specs.List.{Contains}
 use Rattle.std.specs.Prelude.{◌≡◌, ◌≢◌, ◌↔◌, ℕ, ◌<◌, List, [], length, map, slice_index, slice_index_or}
+use Rattle.plane.specs.Pairs.{pair_at}
 use Rattle.plane.specs.Point.{Point}
 use Rattle.rings.specs.Chain.{point_at}
 use Rattle.geo_text.specs.declared.version.Version.{Version}
-use Rattle.rel_hull.specs.Table.{AreSides, pair_at}
+use Rattle.rel_hull.specs.Table.{AreSides}
 use Rattle.geo_session.specs.Shown.{IsShownPath}
 use Rattle.geo_reply.specs.declared.reply.Side.{Side}
 

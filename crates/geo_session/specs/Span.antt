@@ -3,6 +3,7 @@ use Rattle.std.specs.List.{Contains}
 use Rattle.std.specs.Prelude.{◌≡◌, ◌≢◌, ◌↔◌, ℕ, ◌+◌, ◌*◌, ◌/◌, ◌%◌, ◌<◌, ◌≤◌, List, [], length, slice_index, slice_index_or}
 use Rattle.std.specs.Prelude.{Result, Ok, Err, Vec}
 use Rattle.std.specs.declared.alloc.Global.{Global}
+use Rattle.plane.specs.Pairs.{pair_at}
 use Rattle.plane.specs.Point.{Point, whole}
 use Rattle.plane.specs.declared.limits.TheConstants.{MAX_CORNERS, MAX_HULL}
 use Rattle.rings.specs.Chain.{IsPath, point_at}
@@ -10,7 +11,7 @@ use Rattle.meshes.specs.declared.tri.Tri.{Tri}
 use Rattle.geo_text.specs.declared.command.Bad.{Bad}
 use Rattle.geo_text.specs.declared.version.Version.{Version}
 use Rattle.dual_tree.specs.Location.{IsLeastHolding}
-use Rattle.rel_hull.specs.Table.{Table, chain_at, pair_at}
+use Rattle.rel_hull.specs.Table.{Table, chain_at}
 use Rattle.geo_session.specs.Hull.{AreFirsts, side_at}
 use Rattle.geo_session.specs.Shown.{IsShown}
 use Rattle.geo_session.specs.Told.{NamesOutside}

@@ -6,7 +6,7 @@ mod FieldAt
 mod Fuel
 pub mod HomTexts
 pub mod Joined
-mod LineFronts
+pub mod LineFronts
 mod NumberPoints
 pub mod Readings
 mod RecordsLeft

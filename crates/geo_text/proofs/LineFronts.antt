@@ -10,7 +10,7 @@ front_same (Ok x) old more mid out appended same = tt
 front_same (Err e) old more mid out appended same = ap (take (length old)) (same ∙ appended) ∙ take-append_seam old more
 
 -- where it left the front of that text
-front_of : (old more mid out : List ℕ) → mid ≡ old ++ more → take (length mid) out ≡ mid → take (length old) out ≡ old
+pub front_of : (old more mid out : List ℕ) → mid ≡ old ++ more → take (length mid) out ≡ mid → take (length old) out ≡ old
 front_of old more mid out appended front =
     let rest = drop (length mid) out in
     let whole : out ≡ (old ++ more) ++ rest = sym (take-append-drop (length mid) out) ∙ ap (λ (t : List ℕ). t ++ rest) (front ∙ appended) in
@@ -18,7 +18,7 @@ front_of old more mid out appended front =
     ∙ take-append-le (length old) (old ++ more) rest (omega (arith, length-append old more))
     ∙ take-append_seam old more
 
-pub front_kept : {T E : Type 0} (r : Result T E) (old more mid out : List ℕ) → mid ≡ old ++ more → take (length mid) out ≡ mid
+pub front_after : {T E : Type 0} (r : Result T E) (old more mid out : List ℕ) → mid ≡ old ++ more → take (length mid) out ≡ mid
     → OnErr r (take (length old) out ≡ old)
-front_kept (Ok x) old more mid out appended front = tt
-front_kept (Err e) old more mid out appended front = front_of old more mid out appended front
+front_after (Ok x) old more mid out appended front = tt
+front_after (Err e) old more mid out appended front = front_of old more mid out appended front

@@ -1,5 +1,7 @@
 -- What the parse of a command line takes, and what it finds.
-use Rattle.std.proofs.Common.{◌≡◌, ◌⊎◌, ◌||◌, inl, inr, refl, sym, subst, ◌∙◌, Bool, true, false, true≢false, cond, List, [], ◌∷◌, ◌++◌, codes, Option, Some, None, fold, bytes_eq}
+use Rattle.std.proofs.Common.{◌≡◌, ◌⊎◌, inl, inr, refl, sym, subst, ◌∙◌, Bool, true, false, cond, List, [], ◌∷◌, ◌++◌, codes, Option, Some, None}
+use Rattle.std.proofs.Common.{fold, bytes_eq}
+use Rattle.std.proofs.lemmas.Bool.{or_parts}
 use Rattle.clap.specs.Faults.{fault_of, settle_fault, turn_fault, walk_fault}
 use Rattle.clap.specs.Kinds.{or_else, value_kinds}
 use Rattle.clap.specs.ValueTests.{accepts}
@@ -20,10 +22,6 @@ pub data IsRead (words : List Text) (rows : List Row) : Type 0 where
   nothing : words ≡ [] → rows ≡ [] → IsRead words rows
   given : (text : Text) → (words ≡ codes "--comb" ∷ text ∷ []) ⊎ (words ≡ (codes "--comb=" ++ text) ∷ [])
       → accepts false comb_reader text ≡ true → rows ≡ found text ∷ [] → IsRead words rows
-
-neither : (a b : Bool) → (a || b) ≡ false → (a ≡ false) × (b ≡ false)
-neither true b h = absurd (true≢false h)
-neither false b h = (refl, h)
 
 accepted : (text : Text) → or_else (value_kinds false comb_reader text) [] ≡ [] → accepts false comb_reader text ≡ true
 accepted text = go (accepts false comb_reader text)
@@ -51,7 +49,7 @@ Reads all words w = walk_fault top [] w words ≡ [] → settle_fault options fa
 -- the option stands there a second time, with a value,
 twice_with_value : (first second : Text) (words : List Text) → has_dashes words ≡ false → Fails words (at (held (found first ∷ []) (Some (codes "comb", second ∷ []))) idle)
 twice_with_value first second [] d f g = no_fault_is g
-twice_with_value first second (word ∷ words) d f g = go (next_turn (found first ∷ []) (Some (codes "comb", second ∷ [])) idle word words (neither _ _ d).0 f).0
+twice_with_value first second (word ∷ words) d f g = go (next_turn (found first ∷ []) (Some (codes "comb", second ∷ [])) idle word words (or_parts _ _ d).0 f).0
   where
     go : {after : Walk} → Turn (held (found first ∷ []) (Some (codes "comb", second ∷ []))) idle word after → ⊥
     go (joined text is f s) = no_fault_is f
@@ -62,34 +60,34 @@ twice_with_value first second (word ∷ words) d f g = go (next_turn (found firs
 twice : (first : Text) (words : List Text) → has_dashes words ≡ false → Fails words (at (held (found first ∷ []) (Some (codes "comb", []))) (option (codes "comb")))
 twice first [] d f g = no_fault_is g
 twice first (word ∷ words) d f g =
-    let step = next_turn (found first ∷ []) (Some (codes "comb", [])) (option (codes "comb")) word words (neither _ _ d).0 f in
+    let step = next_turn (found first ∷ []) (Some (codes "comb", [])) (option (codes "comb")) word words (or_parts _ _ d).0 f in
     go _ step.0 step.1 g
   where
     go : (after : Walk) → Turn (held (found first ∷ []) (Some (codes "comb", []))) (option (codes "comb")) word after → Fails words after
     go after (joined text is f s) = absurd (no_fault_is f)
     go after (named is f s) = absurd (no_fault_is f)
-    go after (valued s) = subst (Fails words) (sym s) (twice_with_value first word words (neither _ _ d).1)
+    go after (valued s) = subst (Fails words) (sym s) (twice_with_value first word words (or_parts _ _ d).1)
 
 -- a word after the one word with a value
 after_joined : (first word : Text) (words : List Text) → has_dashes (word ∷ words) ≡ false → Fails (word ∷ words) (at (held (found first ∷ []) None) idle)
 after_joined first word words d f g =
-    let step = next_turn (found first ∷ []) None idle word words (neither _ _ d).0 f in
+    let step = next_turn (found first ∷ []) None idle word words (or_parts _ _ d).0 f in
     go _ step.0 step.1 g
   where
     go : (after : Walk) → Turn (held (found first ∷ []) None) idle word after → Fails words after
     go after (joined text is f s) = absurd (no_fault_is f)
-    go after (named is f s) = subst (Fails words) (sym s) (twice first words (neither _ _ d).1)
+    go after (named is f s) = subst (Fails words) (sym s) (twice first words (or_parts _ _ d).1)
     go after (valued s) = absurd s
 
 -- a word after the two words
 after_value : (first word : Text) (words : List Text) → has_dashes (word ∷ words) ≡ false → Fails (word ∷ words) (at (held [] (Some (codes "comb", first ∷ []))) idle)
 after_value first word words d f g =
-    let step = next_turn [] (Some (codes "comb", first ∷ [])) idle word words (neither _ _ d).0 f in
+    let step = next_turn [] (Some (codes "comb", first ∷ [])) idle word words (or_parts _ _ d).0 f in
     go _ step.0 step.1 g
   where
     go : (after : Walk) → Turn (held [] (Some (codes "comb", first ∷ []))) idle word after → Fails words after
     go after (joined text is f s) = absurd (no_fault_is (both_pass (settle_fault options false (held [] (Some (codes "comb", first ∷ [])))) _ f).1)
-    go after (named is f s) = subst (Fails words) (sym s) (twice first words (neither _ _ d).1)
+    go after (named is f s) = subst (Fails words) (sym s) (twice first words (or_parts _ _ d).1)
     go after (valued s) = absurd s
 
 -- the second word is a value, and the last word
@@ -101,13 +99,13 @@ value_read text (word ∷ words) d f g = absurd (after_value text word words d f
 name_read : (words : List Text) → has_dashes words ≡ false → Reads (codes "--comb" ∷ words) words (at (held [] (Some (codes "comb", []))) (option (codes "comb")))
 name_read [] d f g = absurd (no_fault_is g)
 name_read (word ∷ words) d f g =
-    let step = next_turn [] (Some (codes "comb", [])) (option (codes "comb")) word words (neither _ _ d).0 f in
+    let step = next_turn [] (Some (codes "comb", [])) (option (codes "comb")) word words (or_parts _ _ d).0 f in
     go _ step.0 step.1 g
   where
     go : (after : Walk) → Turn (held [] (Some (codes "comb", []))) (option (codes "comb")) word after → Reads (codes "--comb" ∷ word ∷ words) words after
     go after (joined text is f s) = absurd (no_fault_is f)
     go after (named is f s) = absurd (no_fault_is f)
-    go after (valued s) = subst (Reads (codes "--comb" ∷ word ∷ words) words) (sym s) (value_read word words (neither _ _ d).1)
+    go after (valued s) = subst (Reads (codes "--comb" ∷ word ∷ words) words) (sym s) (value_read word words (or_parts _ _ d).1)
 
 -- the first word has a value, and is the last word
 joined_read : (text : Text) (words : List Text) → has_dashes words ≡ false → accepts false comb_reader text ≡ true → Reads ((codes "--comb=" ++ text) ∷ words) words (at (held (found text ∷ []) None) idle)
@@ -117,16 +115,16 @@ joined_read text (word ∷ words) d a f g = absurd (after_joined text word words
 words_read : (words : List Text) → has_dashes words ≡ false → Reads words words (walk_from nothing_held)
 words_read [] d f g = nothing refl refl
 words_read (word ∷ words) d f g =
-    let step = next_turn [] None idle word words (neither _ _ d).0 f in
+    let step = next_turn [] None idle word words (or_parts _ _ d).0 f in
     go _ step.0 step.1 g
   where
     go : (after : Walk) → Turn (held [] None) idle word after → Reads (word ∷ words) words after
     go after (joined text is f s) =
         subst (λ w. Reads (word ∷ words) words w) (sym s)
-        (subst (λ (w : Text). Reads (w ∷ words) words (at (held (found text ∷ []) None) idle)) (sym is) (joined_read text words (neither _ _ d).1 (accepted text f)))
+        (subst (λ (w : Text). Reads (w ∷ words) words (at (held (found text ∷ []) None) idle)) (sym is) (joined_read text words (or_parts _ _ d).1 (accepted text f)))
     go after (named is f s) =
         subst (λ w. Reads (word ∷ words) words w) (sym s)
-        (subst (λ (w : Text). Reads (w ∷ words) words (at (held [] (Some (codes "comb", []))) (option (codes "comb")))) (sym is) (name_read words (neither _ _ d).1))
+        (subst (λ (w : Text). Reads (w ∷ words) words (at (held [] (Some (codes "comb", []))) (option (codes "comb")))) (sym is) (name_read words (or_parts _ _ d).1))
     go after (valued s) = absurd s
 
 -- words without `--` that the parser takes are read so

@@ -4,7 +4,7 @@ mod SomeParting
 mod CornerClasses
 mod GivenClasses
 mod ClassMembers
-mod GivenNumbers
+pub mod GivenNumbers
 mod Choice
 mod Watched
 pub mod OneGuards

@@ -2,7 +2,7 @@
 
 -- Joined points, in either order: with the point between them a line through it has them on two sides, and else there is a bend.
 mod JoinedPoints
-pub use Rattle.hulls.proofs.Cones.JoinedPoints.{IsBetween, bend_of_joined, between_of_joined, joined_back}
+pub use Rattle.hulls.proofs.Cones.JoinedPoints.{IsBetween, bend_of_joined, between_back, between_of_joined, joined_back}
 -- Points that are joined with one point are not strictly on two sides of the line to it.
 mod OneSide
 pub use Rattle.hulls.proofs.Cones.OneSide.{joined_one_side}

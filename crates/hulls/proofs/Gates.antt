@@ -10,18 +10,9 @@ mod PastSides
 pub use Rattle.hulls.proofs.Gates.PastSides.{past_of_triangle}
 -- The signs behind the gates of two points past a diagonal that a falling edge tells apart: on which side of the way between them its ends are.
 mod GateSigns
--- The edges of a funnel by the places of their ends: how they fall, and what it is that the way to a point passes them.
-mod FallingEdges
 -- Edges of a funnel on the line of its diagonal, off the apex: the way to a point that is not above the diagonal passes those on the left, and
 -- none on the right.
 mod FlatEdges
--- The signs behind the test of two edges of a funnel at a common point, for a point that is not above the diagonal.
-mod PassedSigns
--- Two edges at a common point, and a point that is not above the diagonal: where it is left of the outer one alone, or right of it.
-mod PassedPoints
--- Where the way to a point that is not above the diagonal passes an edge of a funnel, it passes all edges before it: those to the place
--- from which the point is reached, and no others.
-mod PassedBefore
 -- Two points that are not above a diagonal, one not right of an edge that falls to it and one not left of it: the ends of the edge are right of
 -- the way from the one to the other.
 mod PartedByEdges

@@ -1,13 +1,11 @@
 -- Points that a path joins over a point.
 
--- A bend read backward, and one where a ray ends at another point.
-mod BendRays
-pub use Rattle.hulls.proofs.Joined.BendRays.{bend_back, bend_from_ray, bend_to_ray}
 -- Chains with bends: one of one point, one read backward, and one without its first points.
 mod PartChains
-pub use Rattle.hulls.proofs.Joined.PartChains.{back_at, back_bent, one_bent, rest_at, rest_bent, sees_back}
+pub use Rattle.hulls.proofs.Joined.PartChains.{back_at, back_bent, rest_at, rest_bent, sees_back}
 -- A chain with bends that goes on to another.
 mod LinkedChains
+pub use Rattle.hulls.proofs.Joined.LinkedChains.{at_first, at_second, both_length}
 -- Two chains with bends from points that see each other: the one read backward goes on to the other.
 mod ChainsOver
 pub use Rattle.hulls.proofs.Joined.ChainsOver.{GoesOnTo, goes_on_beyond, goes_on_step, on_path_over, over_begins, over_bent, over_ends}

@@ -7,7 +7,7 @@ mod Ways
 pub use Rattle.hulls.proofs.Order.Ways.{HasFirst, IsLeftOf, TurnsLeft, first_of_one, first_of_other}
 -- Three ways on from one point, with their next points ahead of a line: to be to the left goes on from one to the next.
 mod Partings
-pub use Rattle.hulls.proofs.Order.Partings.{nearer_each, nearer_on}
+pub use Rattle.hulls.proofs.Order.Partings.{same_first}
 -- Three ways on from one point, each to the left of the one before: the last is to the left of the first.
 mod Followed
 pub use Rattle.hulls.proofs.Order.Followed.{AreAhead, left_follows, left_of_alike, right_of_alike}

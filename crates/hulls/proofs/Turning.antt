@@ -10,7 +10,7 @@ mod NotBoth
 pub use Rattle.hulls.proofs.Turning.NotBoth.{not_both, one_path}
 -- Chains that part at a point: the points there, the bends, and which of three points on a line is between the others.
 mod Partings
-pub use Rattle.hulls.proofs.Turning.Partings.{all_length, at_front, at_rest, goes_on, one_between}
+pub use Rattle.hulls.proofs.Turning.Partings.{goes_on, one_between}
 -- Where paths from one point part, they do not go on to the two ends of a segment through the point, unless it is on the path between their ends.
 mod NotBetween
 -- Where two paths from one point go on along one ray, the one whose next point is nearer turns to a side there.

@@ -46,9 +46,9 @@ abbrev pub OrderLaw : Type 0
 OrderLaw = (ring : List Point) → 3 ≤ length ring → IsSimple ring → (t e u v w : Point) → t ≢ e → StartsRight ring t e u → StartsRight ring t e v
     → StartsRight ring t e w → IsToLeft ring t u v → IsToLeft ring t v w → IsToLeft ring t u w
 
--- where each step past no vertex is seen from b as a path is, a free triple that turns left seen from a turns left seen from c
+-- in a simple ring a free triple that turns left seen from a turns left seen from c
 abbrev pub ThirdLaw : Type 0
-ThirdLaw = (ring : List Point) → 3 ≤ length ring → IsSimple ring → (a b c : Point) → AreFree ring a b c → SeesSteps ring b
+ThirdLaw = (ring : List Point) → 3 ≤ length ring → IsSimple ring → (a b c : Point) → AreFree ring a b c
     → (ab ac : List Point) → IsPath ring a b ab → IsPath ring a c ac
     → (IsToLeft ring a b c → IsToLeft ring c a b) × (IsToRight ring a b c → IsToRight ring c a b)
 

@@ -47,8 +47,8 @@ pub fn one_order()
     ensures { OrderLaw }
 {}
 
-/// Where each step past no vertex is seen from b as a path is, three points of a simple ring of which none is on the path between the two
-/// others turn to one side seen from a and from c.
+/// Three points of a simple ring of which none is on the path between the two others turn to one side seen from the first and from the
+/// third.
 pub fn from_third()
     ensures { ThirdLaw }
 {}

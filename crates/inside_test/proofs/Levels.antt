@@ -91,11 +91,7 @@ level_is part w f g small_part small_w small_f small_g below opposite =
 
 -- ---- points
 
--- a coordinate passes through a register
-pub coordinate_read : (z : ℤ) → IsInLimit z → read z ≡ z
-coordinate_read z small = to_z-of_z w64 z (omega (arith, ints, small))
-
--- and a bound of coordinates through a shorter one
+-- a bound of coordinates passes through a register
 pub bound_read : (z : ℤ) → unsigned_abs z < 2 ^ 31 → short z ≡ z
 bound_read z small = to_z-of_z w32 z (omega (arith, ints, small))
 

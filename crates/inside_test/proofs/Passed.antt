@@ -5,7 +5,7 @@ use Rattle.std.specs.Int.Signed.{le_z, lt_z}
 use Rattle.std.specs.Prelude.{◌&&◌}
 use Rattle.integer_algebra.proofs.Laws.{mul_comm, zero-mul}
 use Rattle.integer_algebra.proofs.Polynomial.{var, lit, ◌⊕◌, ◌⊖◌, ◌⊗◌, same_value}
-use Rattle.integer_algebra.proofs.SignSteps.{weak}
+use Rattle.integer_algebra.proofs.SignSteps.{difference_positive, weak, without_less}
 use Rattle.integer_algebra.proofs.Signs.{cancel_equal, factor_negative, factor_positive, mul_nonpositive, mul_nonpositives, mul_positive}
 use Rattle.plane.proofs.Points.{whole_is_point}
 use Rattle.plane.proofs.Segments.{on_is_straight, on_reversed}
@@ -46,10 +46,6 @@ module _ (x y s t : ℤ) (low : y ≤ℤ pos 0) (high : pos 0 <ℤ t) where
       less : (a b : ℤ) → a <ℤ pos 0 → pos 0 ≤ℤ b → (a -ℤ b) <ℤ pos 0
       less a b h k = omega (arith, ints)
 
--- a part that is 0 and is taken away may be left out
-without_less : {x y d : ℤ} → x ≡ y -ℤ d → d ≡ pos 0 → x ≡ y
-without_less e h = omega (arith, ints)
-
 -- the difference of equal numbers
 pub no_offset : {x y : ℤ} → x ≡ y → x -ℤ y ≡ pos 0
 no_offset e = omega (arith, ints)
@@ -84,10 +80,6 @@ rises_high low high y h = grind (arith, ints)
 pub not_falling : (low high y : ℤ) → IsTrue (le_z low y && lt_z y high) → (le_z high y && lt_z y low) ≡ false
 not_falling low high y h = grind (arith, ints)
 
--- differences
-difference_positive : (a b : ℤ) → b <ℤ a → pos 0 <ℤ (a -ℤ b)
-difference_positive a b h = omega (arith, ints)
-
 difference_negative : (a b : ℤ) → a <ℤ b → (a -ℤ b) <ℤ pos 0
 difference_negative a b h = omega (arith, ints)
 
@@ -97,7 +89,7 @@ module _ (low high : Point) (p : Triple) (at_p : IsPoint p) (rise : IsTrue (rise
   left_of_rise first last =
       let sign =
       positive_beside (low.x *ℤ p.W -ℤ p.X) (low.y *ℤ p.W -ℤ p.Y) (high.x *ℤ p.W -ℤ p.X) (high.y *ℤ p.W -ℤ p.Y)
-      (rises_low (low.y *ℤ p.W) (high.y *ℤ p.W) p.Y rise) (rises_high (low.y *ℤ p.W) (high.y *ℤ p.W) p.Y rise) (difference_positive _ _ first) (difference_positive _ _ last) in
+      (rises_low (low.y *ℤ p.W) (high.y *ℤ p.W) p.Y rise) (rises_high (low.y *ℤ p.W) (high.y *ℤ p.W) p.Y rise) (difference_positive first) (difference_positive last) in
       sym (left_of_positive _ (factor_positive p.W (determinant (whole low) (whole high) p) at_p (rw (beside_is low high p) sign)))
 
   -- to the right, where both are left of it

@@ -49,10 +49,6 @@ mul-zero a = omega (arith, ints)
 pub one-mul : (a : ℤ) → pos 1 *ℤ a ≡ a
 one-mul a = omega (arith, ints)
 
--- a number times one
-pub mul-one : (a : ℤ) → a *ℤ pos 1 ≡ a
-mul-one a = omega (arith, ints)
-
 -- a product with minus one
 pub minus_one-mul : (a : ℤ) → negsuc 0 *ℤ a ≡ neg_ℤ a
 minus_one-mul a = omega (arith, ints)

@@ -1,5 +1,5 @@
 -- Small steps on signs, so that no tactic need read the large terms whose signs they are, and the signs of means.
-use Rattle.std.proofs.Common.{◌≡◌, ap, ℕ, ℤ, pos, ◌+ℤ◌, ◌*ℤ◌, neg_ℤ, ◌<ℤ◌, ◌≤ℤ◌, arith}
+use Rattle.std.proofs.Common.{◌≡◌, ap, ℕ, ℤ, pos, ◌+ℤ◌, ◌*ℤ◌, neg_ℤ, ◌<ℤ◌, ◌≤ℤ◌, arith, ◌-ℤ◌}
 use Rattle.std.proofs.lemmas.Int.{ints}
 use Rattle.integer_algebra.proofs.Laws.{mul-neg, mul-zero}
 use Rattle.integer_algebra.proofs.Signs.{cancel_equal, factor_negative, factor_nonnegative, factor_nonpositive, factor_positive, mul_nonnegative}
@@ -43,6 +43,14 @@ not_both_positive h k = omega (arith, ints)
 -- a number that is neither negative nor 0 is positive
 pub positive_of_not_zero : {z : ℤ} → pos 0 ≤ℤ z → ¬ (z ≡ pos 0) → pos 0 <ℤ z
 positive_of_not_zero h n = omega (arith, ints)
+
+-- and negative where it is neither positive nor 0
+pub negative_of_not_zero : {z : ℤ} → z ≤ℤ pos 0 → ¬ (z ≡ pos 0) → z <ℤ pos 0
+negative_of_not_zero h n = omega (arith, ints)
+
+-- it is 0 where it is neither positive nor negative
+pub zero_of_neither : {z : ℤ} → z ≤ℤ pos 0 → pos 0 ≤ℤ z → z ≡ pos 0
+zero_of_neither h k = omega (arith, ints)
 
 -- one that is not positive is 0 or less
 pub at_most_unless : {z : ℤ} → ¬ (pos 0 <ℤ z) → z ≤ℤ pos 0
@@ -164,3 +172,17 @@ module _ (k l m z f g : ℤ) (hk : pos 0 <ℤ k) (hl : pos 0 ≤ℤ l) (hm : pos
     mean_negative hf hg =
         let rest = weighted_positive l m hl hm some (neg_ℤ f) (neg_ℤ g) (opposite_positive hf) (opposite_positive hg) in
         factor_negative k z hk (omega (arith, ints, e, rest, mul-neg l f, mul-neg m g))
+
+-- ---- sums and differences
+
+-- a sum of opposites is the opposite of the sum
+pub opposite_sum : (a b c d : ℤ) → c ≡ neg_ℤ a → d ≡ neg_ℤ b → c +ℤ d ≡ neg_ℤ (a +ℤ b)
+opposite_sum a b c d h k = omega (arith, ints)
+
+-- a part that is 0 and is taken away may be left out
+pub without_less : {x y d : ℤ} → x ≡ y -ℤ d → d ≡ pos 0 → x ≡ y
+without_less e h = omega (arith, ints)
+
+-- a greater number less a smaller one is positive
+pub difference_positive : {x y : ℤ} → x <ℤ y → pos 0 <ℤ (y -ℤ x)
+difference_positive h = omega (arith, ints)

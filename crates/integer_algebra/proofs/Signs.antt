@@ -101,10 +101,6 @@ factor_zero a b h k = grind (arith, ints, mul_positive a b, mul_positive (neg_�
 pub mul_zero_cases : (a b : ℤ) → a *ℤ b ≡ pos 0 → (a ≡ pos 0) ⊎ (b ≡ pos 0)
 mul_zero_cases a b h = grind (arith, ints, mul_positive a b, mul_negative a b, mul_negative b a, mul_comm a b, mul_negatives a b)
 
--- where a product is positive, its factors have one sign
-pub mul_positive_cases : (a b : ℤ) → pos 0 <ℤ (a *ℤ b) → ((pos 0 <ℤ a) × (pos 0 <ℤ b)) ⊎ ((a <ℤ pos 0) × (b <ℤ pos 0))
-mul_positive_cases a b h = grind (arith, ints, mul_comm a b)
-
 -- where it is negative, they have two
 pub mul_negative_cases : (a b : ℤ) → (a *ℤ b) <ℤ pos 0 → ((pos 0 <ℤ a) × (b <ℤ pos 0)) ⊎ ((a <ℤ pos 0) × (pos 0 <ℤ b))
 mul_negative_cases a b h = grind (arith, ints, mul_comm a b)
@@ -126,7 +122,3 @@ cancel_equal a b c h k = grind (arith, ints, mul_strict a b c h, mul_strict b a 
 -- of an order
 pub cancel_order : (a b c : ℤ) → pos 0 <ℤ c → (c *ℤ a) ≤ℤ (c *ℤ b) → a ≤ℤ b
 cancel_order a b c h k = grind (arith, ints, mul_strict b a c h)
-
--- and of a strict order
-pub cancel_strict : (a b c : ℤ) → pos 0 <ℤ c → (c *ℤ a) <ℤ (c *ℤ b) → a <ℤ b
-cancel_strict a b c h k = grind (arith, ints, mul_order b a c)

@@ -6,9 +6,9 @@ use Rattle.std.proofs.lemmas.List.FromFn.{get_or-range_with_len, length-range_wi
 use Rattle.std.proofs.lemmas.List.Folds.{list_all_at}
 use Rattle.std.specs.List.{All, list_all, range_with_len}
 use Rattle.std.specs.Prelude.{◌&&◌, ◌||◌, not, ℤ, int_lt, map, pos, negsuc, reverse, slice_index, slice_index_or}
-use Rattle.plane.proofs.Order.{before_asym, before_differs}
-use Rattle.plane.specs.Order.{IsBefore, Precedes}
-use Rattle.plane.specs.Point.{Point, whole}
+use Rattle.plane.proofs.Order.{before_asym, before_differs, before_of_precedes}
+use Rattle.plane.specs.Order.{IsBefore}
+use Rattle.plane.specs.Point.{Point}
 use Rattle.rings.proofs.Sweeps.{precedes_later}
 use Rattle.rings.specs.Ring.{vertex}
 use Rattle.mono_fill.specs.Monotone.{AreRanks, Rises}
@@ -57,11 +57,6 @@ path_rises corners path is k h =
     rw next (next_rises corners path is k (omega arith))
 
 -- ---- the numbers of points in order are their ranks
-
--- a whole point that precedes another is before it
-before_of_precedes : (p q : Point) → Precedes (whole p) (whole q) → IsBefore p q
-before_of_precedes p q (inl h) = inl (omega (arith, ints))
-before_of_precedes p q (inr h) = let e = h.0 in let k = h.1 in inr (omega (arith, ints), omega (arith, ints))
 
 module _ (corners : List Point) (is : rises corners (range_with_len 0 (length corners)) ≡ true) where
   abbrev pub numbers : List ℕ

@@ -1,11 +1,11 @@
 -- Rings with meshes that anyone can draw. That the triangles suit the ring is computed, but for the sides that cancel.
-use Rattle.std.proofs.Common.{◌≡◌, ◌∙◌, refl, sym, ℕ, ◌<◌, ◌≤◌, Bool, true, List, [], ◌∷◌, length, ltb, arith}
+use Rattle.std.proofs.Common.{◌≡◌, ◌∙◌, refl, sym, ℕ, ◌≤◌, Bool, true, List, [], ◌∷◌, length, ltb, arith}
 use Rattle.std.proofs.lemmas.Bool.{false≢true, ltb-true, true_from_ne_false}
 use Rattle.std.proofs.lemmas.Int.{ints}
-use Rattle.std.proofs.lemmas.List.FromFn.{get_or-range_with_len, length-range_with_len}
 use Rattle.std.proofs.lemmas.List.Folds.{list_all_at}
 use Rattle.std.specs.List.{Contains, list_all, range_with_len}
 use Rattle.std.specs.Prelude.{◌&&◌, ℤ, int_lt, pos}
+use Rattle.plane.proofs.Lists.{in_range}
 use Rattle.plane.specs.Point.{Point, whole}
 use Rattle.plane.specs.Turn.{determinant}
 use Rattle.rings.specs.Orientation.{IsCounterclockwise}
@@ -30,10 +30,6 @@ is_good corners t =
 -- four tests that are true together
 four_true : (p q r s : Bool) → (p && (q && (r && s))) ≡ true → (p ≡ true) × (q ≡ true) × (r ≡ true) × (s ≡ true)
 four_true p q r s all = grind arith
-
--- a number below n is among them
-in_range : (n x : ℕ) → x < n → Contains (range_with_len 0 n) x
-in_range n x below = (x, omega (arith, length-range_with_len 0 n), omega (arith, get_or-range_with_len 0 n x x below))
 
 -- so it is one of the ring
 tri_of_good : (corners : List Point) (t : Tri) → is_good corners t ≡ true → IsTriOf corners (range_with_len 0 (length corners)) t

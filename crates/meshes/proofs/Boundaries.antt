@@ -2,6 +2,7 @@
 
 -- Sums over the sides of triangles, from the least that each triangle adds.
 mod Sums
+pub use Rattle.meshes.proofs.Boundaries.Sums.{sides_append}
 -- Some triangle of a list has a property, or none has.
 mod SomeTriangle
 -- The winding number of the piece is the sum of those of the triangles.
@@ -38,6 +39,7 @@ mod TiledTrees
 pub use Rattle.meshes.proofs.Boundaries.TiledTrees.{fits_tiled}
 -- Sums round a piece: read from another vertex on, and without one of the vertices.
 mod Rounds
+pub use Rattle.meshes.proofs.Boundaries.Rounds.{sum_parted, sum_rotated}
 -- The sides of triangles that fit a piece cancel to its boundary.
 mod Cancelling
 pub use Rattle.meshes.proofs.Boundaries.Cancelling.{sides_cancel}

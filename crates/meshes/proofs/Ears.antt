@@ -11,4 +11,4 @@ mod EarCut
 mod EarOff
 -- The law of ears, for a piece that is read from any vertex.
 mod EarTurned
-pub use Rattle.meshes.proofs.Ears.EarTurned.{ear_law}
+pub use Rattle.meshes.proofs.Ears.EarTurned.{ear_law, edge_ends}

@@ -1,9 +1,10 @@
 -- Sums over directed pairs: along joined lists, round a list that is read from another place, and over fans of triangles.
 use Rattle.std.proofs.Common.{◌≡◌, refl, sym, ap, ◌∙◌, ℕ, suc, ◌-◌, ◌<◌, ℤ, ◌+ℤ◌, neg_ℤ, List, [], ◌∷◌, ◌++◌, length, get_or, reverse, append_assoc}
-use Rattle.std.proofs.Common.{append-nil, arith}
+use Rattle.std.proofs.Common.{arith}
 use Rattle.std.proofs.lemmas.Int.{ints}
 use Rattle.std.proofs.lemmas.List.{reverse-append}
-use Rattle.meshes.specs.Boundary.{IsOdd, sum_along, sum_from, sum_round, sum_sides}
+use Rattle.meshes.proofs.Boundaries.{sides_append, sum_parted}
+use Rattle.meshes.specs.Boundary.{IsOdd, sum_along, sum_from, sum_sides}
 use Rattle.meshes.specs.declared.tri.Tri.{Tri}
 use Rattle.mono_fill.specs.Sides.{fan_from, triangle}
 use Rattle.mono_fill.specs.Stacks.{last_of}
@@ -49,28 +50,7 @@ module _ (φ : ℕ → ℕ → ℤ) where
   pub along_push : (xs : List ℕ) (y : ℕ) → 0 < length xs → sum_along φ (xs ++ y ∷ []) ≡ sum_along φ xs +ℤ φ (last_of xs) y
   along_push xs y some = let e = along_append xs (y ∷ []) some in omega (arith, ints)
 
-  -- through an item between
-  pub from_through : (i j : ℕ) (xs ys : List ℕ) → sum_from φ i (xs ++ j ∷ ys) ≡ sum_from φ i (xs ++ j ∷ []) +ℤ sum_from φ j ys
-  from_through i j [] ys = omega (arith, ints)
-  from_through i j (x ∷ xs) ys = let e = from_through x j xs ys in omega (arith, ints)
-
-  -- ---- a list read from another place on
-
-  pub round_rotated : (xs ys : List ℕ) → sum_round φ (xs ++ ys) ≡ sum_round φ (ys ++ xs)
-  round_rotated [] ys = ap (sum_round φ) (sym (append-nil ys))
-  round_rotated (x ∷ xs) [] = ap (λ zs. sum_round φ (x ∷ zs)) (append-nil xs)
-  round_rotated (x ∷ xs) (y ∷ ys) =
-      let a = ap (sum_from φ x) (append_assoc xs (y ∷ ys) (x ∷ [])) in
-      let b = from_through x y xs (ys ++ x ∷ []) in
-      let c = ap (sum_from φ y) (append_assoc ys (x ∷ xs) (y ∷ [])) in
-      let d = from_through y x ys (xs ++ y ∷ []) in
-      omega (arith, ints)
-
   -- ---- triangles
-
-  pub sides_append : (ts us : List Tri) → sum_sides φ (ts ++ us) ≡ sum_sides φ ts +ℤ sum_sides φ us
-  sides_append [] us = omega (arith, ints)
-  sides_append (t ∷ ts) us = let e = sides_append ts us in omega (arith, ints)
 
   pub sides_reversed : (ts : List Tri) → sum_sides φ (reverse ts) ≡ sum_sides φ ts
   sides_reversed [] = refl
@@ -87,7 +67,7 @@ module _ (φ : ℕ → ℕ → ℤ) where
     from_backward i j (x ∷ xs) =
         let a = ap (λ zs. sum_from φ i (zs ++ j ∷ [])) (reverse-append (x ∷ []) xs) in
         let b = ap (sum_from φ i) (append_assoc (reverse xs) (x ∷ []) (j ∷ [])) in
-        let c = from_through i x (reverse xs) (j ∷ []) in
+        let c = sum_parted φ i (reverse xs) x (j ∷ []) in
         let d = from_backward i x xs in
         let e = odd j x in
         omega (arith, ints)

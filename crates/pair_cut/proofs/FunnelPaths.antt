@@ -1,5 +1,5 @@
 -- The paths to the points of a funnel: what comes before each of them is the next one toward the apex.
-use Rattle.std.proofs.Common.{◌≡◌, refl, sym, ap, subst, ◌∙◌, ℕ, zero, suc, ◌+◌, ◌-◌, ◌<◌, min, List, [], ◌∷◌, ◌++◌, length, arith}
+use Rattle.std.proofs.Common.{◌≡◌, refl, ap, subst, ◌∙◌, ℕ, zero, suc, ◌+◌, ◌-◌, ◌<◌, min, List, [], ◌∷◌, ◌++◌, length, arith}
 use Rattle.std.proofs.lemmas.List.{get_or-append-add, get_or_append_left, get_or_push, length-append}
 use Rattle.plane.specs.Point.{Point}
 use Rattle.rings.specs.Chain.{IsPath, point_at}
@@ -28,12 +28,6 @@ rightward_at at b (suc c) zero less = let place : b ≡ b + 0 = omega arith in a
 rightward_at at b (suc c) (suc k) less =
     let place : b + 1 + k ≡ b + suc k = omega arith in
     rightward_at at (b + 1) c k (omega (arith, less)) ∙ ap at place
-
--- only one point comes before another
-pub one_before : (ring : List Point) (s t x y : Point) → IsBefore ring s t x → IsBefore ring s t y → x ≡ y
-one_before ring s t x y one other =
-    let same : one.path ≡ other.path = sym ((one.is_path other.path).0 ((other.is_path other.path).1 refl)) in
-    sym one.is ∙ ap (λ ps. point_at ps (length ps - 2)) same ∙ other.is
 
 module _ (corners : List Point) (tris : List Tri) (fits : Fits corners tris) (before ns : List Point) (a i j : ℕ)
     (o : IsOpenFunnel corners before ns a i j) (s : Point) (begins : point_at (before ++ point_at ns a ∷ []) 0 ≡ s) where

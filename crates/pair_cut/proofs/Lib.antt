@@ -2,7 +2,6 @@ pub mod Climbs
 pub mod DoorFunnels
 pub mod FunnelPaths
 pub mod NumberedRows
-pub mod OneOrder
 pub mod PairOrder
 pub mod RowGrowth
 pub mod SightLists

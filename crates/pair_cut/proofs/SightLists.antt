@@ -1,29 +1,14 @@
 -- Lists of the pairs of vertices that see each other, one pair after another.
-use Rattle.std.proofs.Common.{◌≡◌, ◌⊎◌, ◌↔◌, inl, inr, refl, sym, subst, ℕ, ◌+◌, ◌<◌, ◌≤◌, List, [], ◌∷◌, ◌++◌, length, get_or, arith}
-use Rattle.std.proofs.lemmas.Bool.{cases_eq, cases_lt}
-use Rattle.std.proofs.lemmas.List.{get_or_append_left, get_or_push, length_push}
-use Rattle.std.proofs.lemmas.List.Elements.{Contains-append_left, Contains-get_or, Contains-push, Contains-push_cases}
+use Rattle.std.proofs.Common.{◌≡◌, ◌⊎◌, ◌↔◌, inl, inr, refl, sym, subst, ℕ, ◌+◌, ◌<◌, ◌≤◌, List, [], ◌∷◌, ◌++◌, length, arith}
+use Rattle.std.proofs.lemmas.Bool.{cases_eq}
+use Rattle.std.proofs.lemmas.List.Elements.{Contains-append_left, Contains-push, Contains-push_cases}
 use Rattle.std.specs.List.{Contains}
+use Rattle.plane.proofs.Lists.{ordered_push}
+use Rattle.plane.specs.Pairs.{IsPairBefore}
 use Rattle.plane.specs.Point.{Point}
 use Rattle.pair_cut.proofs.SightPaths.{first_of_sees, sees_first}
-use Rattle.pair_cut.specs.Pairs.{AreSights, IsMadeFor, IsPairBefore, IsSight}
+use Rattle.pair_cut.specs.Pairs.{AreSights, IsMadeFor, IsSight}
 use Rattle.pair_cut.specs.Sights.{AreToldBefore, IsTold}
-
--- a list in order stays so where a pair is appended that all others are before
-ordered_push : (pairs : List (ℕ × ℕ)) (p : ℕ × ℕ)
-    → ((k l : ℕ) → k < l → l < length pairs → IsPairBefore (get_or pairs k (0, 0)) (get_or pairs l (0, 0)))
-    → ((q : ℕ × ℕ) → Contains pairs q → IsPairBefore q p) → (k l : ℕ) → k < l → l < length (pairs ++ p ∷ [])
-    → IsPairBefore (get_or (pairs ++ p ∷ []) k (0, 0)) (get_or (pairs ++ p ∷ []) l (0, 0))
-ordered_push pairs p ordered before k l h in_list =
-    let more = length_push pairs p in
-    let lesser : k < length pairs = omega arith in
-    let first = get_or_append_left pairs (p ∷ []) (0, 0) k lesser in
-    elim (cases_lt l (length pairs)) [
-      | inl below ↦ rw (first, get_or_append_left pairs (p ∷ []) (0, 0) l below) (ordered k l h below)
-      | inr last ↦
-          let at : length pairs ≡ l = omega arith in
-          rw (first, get_or_push pairs p (0, 0) l at) (before (get_or pairs k (0, 0)) (Contains-get_or pairs k (0, 0) lesser))
-    ]
 
 -- before the next pair of a row comes what is before a pair, and that
 next_in_row : (i j : ℕ) (p : ℕ × ℕ) → IsPairBefore p (i, j + 1) ↔ (IsPairBefore p (i, j) ⊎ (p ≡ (i, j)))
@@ -67,7 +52,7 @@ module _ (before : List (List ℕ)) where
         | inl less ↦ Contains-append_left pairs ((i, j) ∷ []) p (are.all p told less)
         | inr e ↦ subst (λ (q : ℕ × ℕ). Contains (pairs ++ (i, j) ∷ []) q) (sym e) (Contains-push pairs (i, j))
       ];
-      sorted = ordered_push pairs (i, j) are.sorted are.earlier;
+      sorted = ordered_push IsPairBefore pairs (i, j) (0, 0) are.sorted are.earlier;
     }
 
     -- and another pair is left out

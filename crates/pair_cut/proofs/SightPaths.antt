@@ -9,8 +9,9 @@ use Rattle.rings.specs.Inside.{IsIn}
 use Rattle.rings.specs.Ring.{vertex}
 use Rattle.rings.specs.Sees.{Sees}
 use Rattle.funnels.proofs.Bends.{chain_more}
+use Rattle.funnels.proofs.Chains.{one_bent}
 use Rattle.funnels.proofs.OneChain.{bent_is_path}
-use Rattle.funnels.proofs.Trees.{bent_of_one, path_differs}
+use Rattle.funnels.proofs.Trees.{path_differs}
 use Rattle.pair_cut.specs.Pairs.{IsMadeFor, before_at}
 
 module _ (ring : List Point) (before : List (List ℕ)) (made : IsMadeFor ring before) where
@@ -63,7 +64,7 @@ module _ (ring : List Point) (before : List (List ℕ)) (made : IsMadeFor ring b
         let some = taut.bent.chain.some in
         let s_in = subst (λ p. IsIn ring (whole p)) taut.first (inside 0 some) in
         let t_in = subst (λ p. IsIn ring (whole p)) taut.last (inside (length path - 1) (omega (arith, some))) in
-        chain_more (s ∷ []) s t refl ring (bent_of_one ring s s_in) sees (λ same. differ (one_vertex i j h k same)) t_in
+        chain_more (s ∷ []) s t refl ring (one_bent ring s s_in) sees (λ same. differ (one_vertex i j h k same)) t_in
         (λ two. absurd (omega (arith, two)))
 
     -- so these two are the path, and the first comes before the second

@@ -5,11 +5,9 @@ use Rattle.std.proofs.lemmas.Bool.{cases_eq}
 use Rattle.std.proofs.lemmas.List.{append_assoc, get_or-append-add, get_or-map, length-append, length-map, length-reverse, reverse-append}
 use Rattle.std.proofs.lemmas.List.Elements.{All-cons, All-nil}
 use Rattle.std.specs.List.{All}
-use Rattle.plane.proofs.Segments.{on_first_end}
-use Rattle.plane.specs.Point.{Point, whole}
-use Rattle.rings.proofs.Vertices.{on_some_from}
+use Rattle.plane.specs.Point.{Point}
+use Rattle.rings.proofs.Inside.{vertex_in}
 use Rattle.rings.specs.Chain.{IsPath}
-use Rattle.rings.specs.Inside.{IsIn}
 use Rattle.rings.specs.Ring.{origin, vertex}
 use Rattle.funnels.proofs.OneChain.{front_and_last}
 use Rattle.funnels.proofs.Trees.{path_differs, path_goes_on, path_of_one}
@@ -26,10 +24,6 @@ GoesOn ring i last at numbers = (front : List Point) → IsPath ring (vertex rin
 pub record IsGoneBack (before : List (List ℕ)) (i last at : ℕ) (names : List ℕ) : Type 0 where
   pub below : All (λ k. k < length before) (at ∷ reverse names)
   pub goes_on : (ring : List Point) → IsMadeFor ring before → GoesOn ring i last at (reverse names)
-
--- a vertex is in the ring
-vertex_in : (ring : List Point) (i : ℕ) → i < length ring → IsIn ring (whole (vertex ring i))
-vertex_in ring i h = inl (on_some_from (whole (vertex ring i)) ring i h (on_first_end (whole (vertex ring i)) (whole (vertex ring (i + 1)))))
 
 module _ (before : List (List ℕ)) (table : IsTable before) (i : ℕ) (first : i < length before) where
   -- the first vertex alone is the path to itself,

@@ -2,6 +2,7 @@
 -- Paths: Guibas, Hershberger, Leven, Sharir and Tarjan 1987.
 use Rattle.std.specs.List.{All, Contains}
 use Rattle.std.specs.Prelude.{◌≡◌, ◌≢◌, ◌⊎◌, ◌↔◌, ℕ, ◌<◌, ◌≤◌, List, [], length, map, slice_index_or}
+use Rattle.plane.specs.Pairs.{pair_at, IsPairBefore}
 use Rattle.plane.specs.Point.{Point, whole}
 use Rattle.rings.specs.Chain.{IsPath}
 use Rattle.rings.specs.From.{IsBefore}
@@ -41,14 +42,6 @@ pub record IsSight (ring : List Point) (i j : ℕ) : Type 0 where
   pub order : i < j
   pub in_ring : j < length ring
   pub sees : Sees ring (whole (vertex ring i)) (whole (vertex ring j))
-
--- the pair at a place
-abbrev pub pair_at : List (ℕ × ℕ) → ℕ → ℕ × ℕ
-pair_at pairs k = slice_index_or pairs k (0, 0)
-
--- pairs are in order by their first numbers, then by their second
-abbrev pub IsPairBefore : ℕ × ℕ → ℕ × ℕ → Type 0
-IsPairBefore p q = (p.0 < q.0) ⊎ ((p.0 ≡ q.0) × (p.1 < q.1))
 
 -- the pairs are exactly those of vertices that see each other, in order
 pub record AreSights (ring : List Point) (pairs : List (ℕ × ℕ)) : Type 0 where

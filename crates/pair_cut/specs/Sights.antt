@@ -1,7 +1,8 @@
 -- Which pairs see each other by a table alone. No public clause cites this module. This project's own.
 use Rattle.std.specs.List.{Contains}
 use Rattle.std.specs.Prelude.{◌≡◌, ℕ, ◌<◌, List, length}
-use Rattle.pair_cut.specs.Pairs.{IsPairBefore, before_at, pair_at}
+use Rattle.plane.specs.Pairs.{IsPairBefore, pair_at}
+use Rattle.pair_cut.specs.Pairs.{before_at}
 
 -- of two vertices the first comes before the second
 pub record IsTold (before : List (List ℕ)) (pair : ℕ × ℕ) : Type 0 where

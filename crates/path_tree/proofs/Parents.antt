@@ -44,12 +44,11 @@ module _ (corners : List Point) (start : Point) where
       ])
 
   -- what is before each point of a triangle with the start is so before its corners
-  pub home_parent : (tris : List Tri) (k i : ℕ) (goal : Point) (value : Option Spot) → Fits corners tris → k < length tris
-      → IsInTri corners (tri_at tris k) (whole start) → HasCorner (tri_at tris k) i
+  pub home_parent : (tris : List Tri) (k i : ℕ) (goal : Point) (value : Option Spot) → Fits corners tris → k < length tris → HasCorner (tri_at tris k) i
       → (IsInTri corners (tri_at tris k) (whole (point_named corners start goal (Corner i)))
       → IsFromNamed corners start (point_named corners start goal (Corner i)) value)
       → IsFromNamed corners start (vertex corners i) value
-  home_parent tris k i goal value fits within in_start has straight =
+  home_parent tris k i goal value fits within has straight =
       let named = vertex_in_range corners i origin (corner_below corners tris fits k within i has) in
       subst (λ y. IsFromNamed corners start y value) (sym named)
       (straight (subst (λ y. IsInTri corners (tri_at tris k) (whole y)) named (corner_in corners tris fits k within i has)))

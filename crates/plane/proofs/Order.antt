@@ -7,9 +7,9 @@ pub use Rattle.plane.proofs.Order.Precedence.{not_after_facts, not_after_from, n
 pub use Rattle.plane.proofs.Order.Precedence.{not_after_trans, precedence, precedes, precedes_asym, precedes_differs, same}
 -- Laws of the order of whole points.
 mod Order
-pub use Rattle.plane.proofs.Order.Order.{Comparison, after, before, before_asym, before_differs, before_irrefl, before_or_not, before_trans, point_or_other}
-pub use Rattle.plane.proofs.Order.Order.{between_equal, between_reversed, compare_points, equal, not_after_last, not_before_first, same_coordinates}
-pub use Rattle.plane.proofs.Order.Order.{x_at_most, y_at_most}
+pub use Rattle.plane.proofs.Order.Order.{Comparison, after, before, before_asym, before_differs, before_irrefl, before_of_precedes, before_or_not}
+pub use Rattle.plane.proofs.Order.Order.{before_trans, between_equal, between_reversed, compare_points, equal, not_after_last, not_before_first}
+pub use Rattle.plane.proofs.Order.Order.{point_or_other, same_coordinates, x_at_most, y_at_most}
 -- How far one point is above another, and to the right of it, by their triples.
 mod Rises
 unfoldable pub use Rattle.plane.proofs.Order.Rises.{written_rise}

@@ -26,7 +26,7 @@ pub use Rattle.plane.proofs.Segments.Lengthwise.{along, along_from_square, along
 pub use Rattle.plane.proofs.Segments.Lengthwise.{square_not_negative, square_swapped, weighed_W, weighed_X_on_line, weighed_Y_on_line}
 -- The order of the points along a segment: which of them is nearer to the first end.
 mod Along
-pub use Rattle.plane.proofs.Segments.Along.{on_antisym, on_total}
+pub use Rattle.plane.proofs.Segments.Along.{nearer_each, nearer_on, on_antisym, on_total}
 -- Two points of a segment: the one is between the first end and the other, or between the other and the last end.
 mod Between
 pub use Rattle.plane.proofs.Segments.Between.{later_between, on_one_side}

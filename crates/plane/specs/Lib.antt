@@ -6,6 +6,7 @@ pub mod Cut
 pub mod Limits
 pub mod Line
 pub mod Order
+pub mod Pairs
 pub mod Point
 pub mod Region
 pub mod Segment

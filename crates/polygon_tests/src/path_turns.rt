@@ -1,6 +1,5 @@
 // How two lists of points turn against each other.
 ghost use Rattle.std.specs.Prelude.{◌≡◌, ◌<◌, IsTrue, length};
-ghost use Rattle.rel_hull.specs.PathTurn.{IsStepping};
 
 use crate::reading::{points_of, row_of};
 use exact_plane::{Direction, Pt, Steps, order};
@@ -52,25 +51,9 @@ fn turned<L: Ledger>(ab: &[Pt], ac: &[Pt], steps: &mut Steps<L>) -> Option<&'sta
     if ab.is_empty() || ac.is_empty() || order(&ab[0], &ac[0], steps) != Ordering::Equal {
         return None;
     }
-    if !is_stepping(ab, steps) || !is_stepping(ac, steps) {
-        return None;
-    }
     match path_turn(ab, ac, steps) {
         Direction::Left => Some("left"),
         Direction::Right => Some("right"),
         Direction::Straight => Some("straight"),
     }
-}
-
-// Whether no two points that follow one another are equal.
-fn is_stepping<L: Ledger>(points: &[Pt], steps: &mut Steps<L>) -> bool
-    requires { 0 < length points.now }
-    ensures { IsTrue result → IsStepping points.now }
-{
-    for k in 0..points.len() - 1 {
-        if order(&points[k], &points[k + 1], steps) == Ordering::Equal {
-            return false;
-        }
-    }
-    true
 }

@@ -8,7 +8,7 @@ mod Least
 mod Numbers
 -- Points have one round.
 mod OneRound
-pub use Rattle.rel_hull.proofs.Closing.OneRound.{one_round}
+pub use Rattle.rel_hull.proofs.Closing.OneRound.{one_round, only_round}
 -- Fronts of a closed round, which grow along its sides until the first number comes again.
 mod Fronts
 pub use Rattle.rel_hull.proofs.Closing.Fronts.{IsFrontTo, front_fits, next_in_list}

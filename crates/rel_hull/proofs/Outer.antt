@@ -1,29 +1,15 @@
 -- Lists of the numbers that are not such, as those of outer points, one number after another, and their order.
 use Rattle.std.proofs.Common.{◌≡◌, ◌⊎◌, inl, inr, ℕ, zero, suc, ◌+◌, ◌<◌, ◌≤◌, List, [], ◌∷◌, ◌++◌, length, get_or, slice_index, subst, ◌∙◌, arith}
 use Rattle.std.proofs.lemmas.Bool.{cases_eq, cases_lt}
-use Rattle.std.proofs.lemmas.List.{get_or_append_left, get_or_default, get_or_past, get_or_push, length_push}
+use Rattle.std.proofs.lemmas.List.{get_or_default, get_or_past}
 use Rattle.std.proofs.lemmas.List.Elements.{Contains-append_left, Contains-get_or, Contains-push, Contains-push_cases}
 use Rattle.std.specs.List.{Contains}
+use Rattle.plane.proofs.Lists.{ordered_push}
 use Rattle.rel_hull.specs.Told.{AreOthersBelow}
 
 -- an element stands at its place, at any default
 pub contained_at : (xs : List ℕ) (x : ℕ) → (inside : Contains xs x) → slice_index xs inside.0 ≡ x
 contained_at xs x inside = get_or_default xs inside.0 0 x inside.1 ∙ inside.2
-
--- a list in order stays so where an element is appended that all others are before
-pub ordered_push : {X : Type 0} (R : X → X → Type 0) (xs : List X) (x d : X)
-    → ((k l : ℕ) → k < l → l < length xs → R (get_or xs k d) (get_or xs l d)) → ((y : X) → Contains xs y → R y x)
-    → (k l : ℕ) → k < l → l < length (xs ++ x ∷ []) → R (get_or (xs ++ x ∷ []) k d) (get_or (xs ++ x ∷ []) l d)
-ordered_push {X} R xs x d ordered before k l h in_list =
-    let more = length_push xs x in
-    let lesser : k < length xs = omega arith in
-    let first = get_or_append_left xs (x ∷ []) d k lesser in
-    elim (cases_lt l (length xs)) [
-      | inl below ↦ rw (first, get_or_append_left xs (x ∷ []) d l below) (ordered k l h below)
-      | inr last ↦
-          let at : length xs ≡ l = omega arith in
-          rw (first, get_or_push xs x d l at) (before (get_or xs k d) (Contains-get_or xs k d lesser))
-    ]
 
 module _ (Is : ℕ → Type 0) (n : ℕ) (others : List ℕ) (are : AreOthersBelow Is n others) where
   -- the next number is not such

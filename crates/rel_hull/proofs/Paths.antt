@@ -19,5 +19,4 @@ module _ (ring : List Point) (table : Table) (is : IsTableOf ring table) where
     square = is.square;
     some = λ i j at_i at_j. (taut_chain i j at_i at_j).bent.chain.some;
     begins = λ i j at_i at_j. (taut_chain i j at_i at_j).first;
-    stepping = λ i j at_i at_j. (taut_chain i j at_i at_j).bent.chain.distinct;
   }

@@ -3,8 +3,10 @@ use Rattle.std.proofs.Common.{◌≡◌, ◌⊎◌, ◌↔◌, inl, inr, ℕ, �
 use Rattle.std.proofs.lemmas.Bool.{cases_eq}
 use Rattle.std.proofs.lemmas.List.Elements.{Contains-append_left, Contains-push, Contains-push_cases}
 use Rattle.std.specs.List.{Contains}
-use Rattle.rel_hull.proofs.Outer.{first_least, next_greater, none_between, ordered_push}
-use Rattle.rel_hull.specs.Table.{IsPairBefore, Table}
+use Rattle.plane.proofs.Lists.{ordered_push}
+use Rattle.plane.specs.Pairs.{IsPairBefore}
+use Rattle.rel_hull.proofs.Outer.{first_least, next_greater, none_between}
+use Rattle.rel_hull.specs.Table.{Table}
 use Rattle.rel_hull.specs.Told.{AreOuterBelow, AreSidesBefore, IsTold}
 
 -- before a pair comes what is before another, and that

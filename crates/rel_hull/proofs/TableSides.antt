@@ -2,6 +2,7 @@
 use Rattle.std.proofs.Common.{ℕ, ◌<◌, List}
 use Rattle.std.proofs.lemmas.List.Elements.{Contains-get_or}
 use Rattle.std.specs.List.{Contains}
+use Rattle.plane.specs.Pairs.{pair_at}
 use Rattle.exact_plane.specs.declared.direction.Direction.TheVariants.{Left}
 use Rattle.hulls.proofs.Turning.{one_path}
 use Rattle.hulls.specs.Inner.{IsInnerPoint}
@@ -10,7 +11,7 @@ use Rattle.rel_hull.proofs.TableInner.{inner_of_passed, length-points_of, passed
 use Rattle.rel_hull.proofs.SideLists.{all_sides}
 use Rattle.rel_hull.specs.Hull.{IsSide, IsTurnBetween}
 use Rattle.rel_hull.specs.PathTurn.{IsPathTurn}
-use Rattle.rel_hull.specs.Table.{AreSides, IsTableOf, Table, chain_at, pair_at, points_of}
+use Rattle.rel_hull.specs.Table.{AreSides, IsTableOf, Table, chain_at, points_of}
 use Rattle.rel_hull.specs.Told.{AreOuterBelow, AreSidesBefore, IsTold}
 use Rattle.rings.specs.Chain.{point_at}
 

@@ -37,7 +37,3 @@ pub record IsPathTurn (first second : List Point) (turn : Direction) : Type 0 wh
   pub is_first : first ≡ front ++ last ∷ first_rest
   pub is_second : second ≡ front ++ last ∷ second_rest
   pub turned : IsTurnAt last first_rest second_rest turn
-
--- no two points that follow one another are equal
-abbrev pub IsStepping : List Point → Type 0
-IsStepping points = (k : ℕ) → k + 1 < length points → point_at points k ≢ point_at points (k + 1)

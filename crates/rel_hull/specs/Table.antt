@@ -1,6 +1,7 @@
 -- Tables of the paths between each two of some points, and the sides that one tells. This project's own.
 use Rattle.std.specs.List.{Contains, range_with_len}
 use Rattle.std.specs.Prelude.{◌≡◌, ◌⊎◌, ℕ, ◌+◌, ◌*◌, ◌^◌, ◌<◌, ◌≤◌, List, [], length, map, slice_index_or}
+use Rattle.plane.specs.Pairs.{pair_at, IsPairBefore}
 use Rattle.plane.specs.Point.{Point}
 use Rattle.rings.specs.Chain.{IsPath, point_at}
 use Rattle.hulls.specs.Inner.{AreDistinct}
@@ -26,14 +27,6 @@ pub record IsTableOf (ring : List Point) (table : Table) : Type 0 where
   pub distinct : AreDistinct (points_of table)
   pub paths : (i j : ℕ) → i < table.count → j < table.count
       → IsPath ring (point_at (points_of table) i) (point_at (points_of table) j) (chain_at table i j)
-
--- the pair at a place
-abbrev pub pair_at : List (ℕ × ℕ) → ℕ → ℕ × ℕ
-pair_at pairs k = slice_index_or pairs k (0, 0)
-
--- pairs are in order by their first numbers, then by their second
-abbrev pub IsPairBefore : ℕ × ℕ → ℕ × ℕ → Type 0
-IsPairBefore p q = (p.0 < q.0) ⊎ ((p.0 ≡ q.0) × (p.1 < q.1))
 
 -- the pairs are exactly the sides of the points, in order
 pub record AreSides (ring points : List Point) (pairs : List (ℕ × ℕ)) : Type 0 where

@@ -2,20 +2,20 @@
 -- cites it. This project's own.
 use Rattle.std.specs.List.{Contains}
 use Rattle.std.specs.Prelude.{◌≡◌, ◌≢◌, ◌⊎◌, ℕ, ◌+◌, ◌*◌, ◌^◌, ◌<◌, ◌≤◌, List, length, slice_index}
+use Rattle.plane.specs.Pairs.{IsPairBefore, pair_at}
 use Rattle.plane.specs.Point.{Point, whole}
 use Rattle.plane.specs.Segment.{On}
 use Rattle.rings.specs.Chain.{point_at}
 use Rattle.exact_plane.specs.declared.direction.Direction.TheVariants.{Left}
-use Rattle.rel_hull.specs.PathTurn.{IsPathTurn, IsStepping}
-use Rattle.rel_hull.specs.Table.{IsPairBefore, Table, chain_at, pair_at, points_of}
+use Rattle.rel_hull.specs.PathTurn.{IsPathTurn}
+use Rattle.rel_hull.specs.Table.{Table, chain_at, points_of}
 
--- what holds of every table: each chain begins at its point, and steps to another point at each place
+-- what holds of every table: each chain begins at its point
 pub record KeepsChains (table : Table) : Type 0 where
   pub few : table.count < 2 ^ 16
   pub square : length table.chains ≡ table.count * table.count
   pub some : (i j : ℕ) → i < table.count → j < table.count → 0 < length (chain_at table i j)
   pub begins : (i j : ℕ) → i < table.count → j < table.count → point_at (chain_at table i j) 0 ≡ point_at (points_of table) i
-  pub stepping : (i j : ℕ) → i < table.count → j < table.count → IsStepping (chain_at table i j)
 
 -- x is on a chain
 pub record IsOnChain (chain : List Point) (x : Point) : Type 0 where

@@ -2,7 +2,7 @@ ghost use Rattle.std.specs.Prelude.{◌≡◌, ◌≢◌, ◌<◌, ◌≤◌, dr
 ghost use Rattle.plane.specs.Point.{whole};
 ghost use Rattle.rings.specs.Chain.{point_at};
 ghost use Rattle.exact_plane.specs.Direction.{turn_of};
-ghost use Rattle.rel_hull.specs.PathTurn.{IsPathTurn, IsStepping, IsTurnApart, IsTurnAt, turn_on};
+ghost use Rattle.rel_hull.specs.PathTurn.{IsPathTurn, IsTurnApart, IsTurnAt, turn_on};
 
 use exact_plane::{Direction, Pt, Steps, on_segment, order, turn};
 use std::cmp::Ordering;
@@ -13,8 +13,6 @@ pub fn path_turn<L: Ledger>(ab: &[Pt], ac: &[Pt], steps: &mut Steps<L>) -> Direc
     requires some { 0 < length ab.now }
     requires others { 0 < length ac.now }
     requires same { point_at ab.now 0 ≡ point_at ac.now 0 }
-    requires stepping { IsStepping ab.now }
-    requires others_stepping { IsStepping ac.now }
     ensures { IsPathTurn ab.now ac.now result }
 {
     let k = common_front(ab, ac, steps);

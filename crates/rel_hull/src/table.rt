@@ -1,6 +1,5 @@
 ghost use Rattle.std.specs.Prelude.{◌≡◌, ◌<◌, length, map};
 ghost use Rattle.rings.specs.Chain.{point_at};
-ghost use Rattle.rel_hull.specs.PathTurn.{IsStepping};
 ghost use Rattle.rel_hull.specs.Table.{IsTableOf, chain_at, points_of};
 
 use exact_plane::Pt;
@@ -52,7 +51,6 @@ impl ChainTable {
         // What holds of every chain.
         ensures some { 0 < length result.now }
         ensures begins { point_at result.now 0 ≡ point_at (points_of self.now) i }
-        ensures stepping { IsStepping result.now }
     {
         &self.chains[(i * self.count + j) as usize]
     }

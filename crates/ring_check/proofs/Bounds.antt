@@ -17,7 +17,7 @@ abbrev read : ℤ → ℤ
 read z = to_z w64 (of_z w64 z)
 
 -- a coordinate is read as it is
-read_is : (z : ℤ) → IsInLimit z → read z ≡ z
+pub read_is : (z : ℤ) → IsInLimit z → read z ≡ z
 read_is z small = to_z-of_z w64 z (omega (arith, ints))
 
 -- the lesser of two coordinates, as it is read, is in the limit and at most both

@@ -1,6 +1,6 @@
 mod AreaSoFar
 mod Below
-mod Bounds
+pub mod Bounds
 mod EdgeEnds
 mod EdgeRuns
 pub mod Oriented

@@ -11,4 +11,4 @@ mod SimpleRings
 pub use Rattle.ring_laws.proofs.Simple.SimpleRings.{left_turn_law, runs_round, simple_ring_law, triangle_law, winds_once}
 -- A simple ring runs one way or the other; turned round it is simple, runs the other way, and has the same chains with bends.
 mod TwoWays
-pub use Rattle.ring_laws.proofs.Simple.TwoWays.{bent_kept, bent_turned_iff, kept_ring, two_ways}
+pub use Rattle.ring_laws.proofs.Simple.TwoWays.{bent_kept, bent_turned_iff, kept_ring, taut_turned_iff, two_ways}

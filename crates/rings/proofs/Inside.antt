@@ -12,7 +12,7 @@ pub use Rattle.rings.proofs.Inside.ExtremePoints.{below_abs, extreme_point}
 mod Rising
 -- What the laws of crossings say of the points in a ring.
 mod InRing
-pub use Rattle.rings.proofs.Inside.InRing.{both_odd, in_from_odd, in_or_not, in_same, not_in_from_even, on_some_or_not}
+pub use Rattle.rings.proofs.Inside.InRing.{both_odd, in_from_odd, in_or_not, in_same, not_in_from_even, on_some_or_not, vertex_in}
 -- Crossings, windings and segments do not tell two triples of one rational point apart.
 mod SamePoint
 -- Points from which no edge is crossed: above all ends of the edges, or below all.

@@ -10,13 +10,6 @@ use Rattle.meshes.specs.declared.tri.Tri.{Tri}
 use Rattle.shared_funnel.specs.Listed.{IsBeyond, IsFunnelAt, Listed}
 use Rattle.shared_funnel.specs.Third.{IsThird, side_third}
 
--- the triangle has the side,
-pub has_numbered : (t : Tri) (side : ℕ) → side < 3 → HasSide t (side_begin t side) (side_end t side)
-has_numbered t zero below = inl (refl, refl)
-has_numbered t (suc zero) below = inr (inl (refl, refl))
-has_numbered t (suc (suc zero)) below = inr (inr (refl, refl))
-has_numbered t (suc (suc (suc n))) below = absurd (omega (arith, below))
-
 -- and that corner is the third
 pub third_numbered : (t : Tri) (side : ℕ) → side < 3 → IsThird t (side_begin t side) (side_end t side) (side_third t side)
 third_numbered t zero below = (inr (inl (refl, refl)), inr (inr (refl, refl)))

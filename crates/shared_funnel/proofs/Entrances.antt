@@ -7,9 +7,10 @@ use Rattle.meshes.specs.Side.{tri_at}
 use Rattle.meshes.specs.declared.tri.Tri.{Tri}
 use Rattle.tri_mesh.specs.Outward.{IsOutward, outward_at}
 use Rattle.tri_mesh.specs.declared.outward.Outward.{Outward}
-use Rattle.shared_funnel.proofs.Doors.{beyond_of, has_numbered, side_of_both, third_numbered}
+use Rattle.shared_funnel.proofs.Doors.{beyond_of, side_of_both, third_numbered}
 use Rattle.shared_funnel.specs.Listed.{IsBeyond}
 use Rattle.shared_funnel.specs.Entered.{IsFromStart, at_place, left_of, right_of, third_of, toward}
+use Rattle.tri_mesh.proofs.Neighbours.{has_side_numbered}
 
 -- an order outward from a triangle with the start in it
 pub from_start : (corners : List Point) (start : Point) (tris : List Tri) (home : ℕ) (order : List Outward) → Fits corners tris
@@ -43,7 +44,7 @@ module _ (corners : List Point) (start : Point) (tris : List Tri) (order : List 
         let joined = from.outward.joined p later below in
         side_of_both corners tris from.fits (left_of tris order p) (right_of tris order p) (at_place order p) (at_place order (toward order p)) (from.outward.in_list p below)
         (from.outward.in_list (toward order p) toward_below) (apart p (toward order p) earlier below)
-        (has_numbered (tri_at tris (at_place order p)) (outward_at order p).side joined.side) joined.shared
+        (has_side_numbered (tri_at tris (at_place order p)) (outward_at order p).side joined.side) joined.shared
 
     pub shared_back : IsSideOfTwo tris (right_of tris order p) (left_of tris order p) (at_place order (toward order p)) (at_place order p)
     shared_back =
@@ -51,7 +52,7 @@ module _ (corners : List Point) (start : Point) (tris : List Tri) (order : List 
         side_of_both corners tris from.fits (right_of tris order p) (left_of tris order p) (at_place order (toward order p)) (at_place order p)
         (from.outward.in_list (toward order p) toward_below) (from.outward.in_list p below)
         (λ same. apart p (toward order p) earlier below (sym same)) joined.shared
-        (has_numbered (tri_at tris (at_place order p)) (outward_at order p).side joined.side)
+        (has_side_numbered (tri_at tris (at_place order p)) (outward_at order p).side joined.side)
 
     -- the triangle is beyond it,
     pub beyond_at : IsBeyond tris (at_place order p) (left_of tris order p) (right_of tris order p) (third_of tris order p)

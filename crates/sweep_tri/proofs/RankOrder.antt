@@ -1,20 +1,14 @@
 -- The vertices of a ring in lexicographic order, by their ranks.
 use Rattle.std.proofs.Common.{◌≡◌, inl, inr, sym, ap, ◌∙◌, ℕ, ◌+◌, ◌<◌, ◌≤◌, List, length, arith}
 use Rattle.std.proofs.lemmas.Bool.{cases_order}
-use Rattle.std.proofs.lemmas.Int.{ints}
 use Rattle.std.specs.Prelude.{slice_index}
-use Rattle.plane.proofs.Order.{NotAfter, before_asym, before_differs}
+use Rattle.plane.proofs.Order.{NotAfter, before_asym, before_differs, before_of_precedes}
 use Rattle.plane.specs.Order.{IsBefore, Precedes}
 use Rattle.plane.specs.Point.{Point, whole}
 use Rattle.rings.proofs.Sweeps.{ascends, at_rank, event_of, precedes_later, rank_below}
 use Rattle.rings.specs.Events.{AreEvents}
 use Rattle.rings.specs.Ring.{vertex}
 use Rattle.mono_fill.specs.Monotone.{AreRanks}
-
--- a whole point that precedes another is before it
-before_of_precedes : (p q : Point) → Precedes (whole p) (whole q) → IsBefore p q
-before_of_precedes p q (inl h) = inl (omega (arith, ints))
-before_of_precedes p q (inr h) = let e = h.0 in let k = h.1 in inr (omega (arith, ints), omega (arith, ints))
 
 module _ (corners : List Point) (order ranks : List ℕ) (are : AreEvents corners order ranks) (three : 3 ≤ length corners) where
   -- the vertex of rank k

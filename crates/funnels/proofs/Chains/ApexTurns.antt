@@ -3,6 +3,7 @@ use Rattle.std.proofs.Common.{◌≡◌, ◌⊎◌, inl, inr, Bool, true, false,
 use Rattle.integer_algebra.proofs.SignSteps.{mean_negative, negative_not_zero, not_both_positive, zero_not_positive, weak_order}
 use Rattle.integer_algebra.proofs.Signs.{is_negative, is_positive, is_zero, lt_or_le, sign}
 use Rattle.plane.proofs.Points.{whole_is_point}
+use Rattle.plane.proofs.Regions.{four_beside}
 use Rattle.plane.proofs.Segments.{on_is_straight}
 use Rattle.plane.proofs.Turns.{areas_add, determinant_same_ends, determinant_swap_last, straight_swap_first, combination_of}
 use Rattle.plane.proofs.Turns.{weights_positive}
@@ -11,7 +12,7 @@ use Rattle.plane.specs.Segment.{On}
 use Rattle.plane.specs.Turn.{IsStraight, determinant}
 use Rattle.funnels.proofs.Bends.{turning_along, turning_four, turning_straight}
 use Rattle.funnels.proofs.Chains.ApexSigns.{behind_too, both_at_most, far_below, from_relations, same_sign, same_sign_opposite}
-use Rattle.funnels.proofs.Funnels.{level, lower, four_on_line, straight_on_line}
+use Rattle.funnels.proofs.Funnels.{level, lower, straight_on_line}
 use Rattle.funnels.specs.Fanned.{turning}
 use Rattle.funnels.specs.Funnel.{Reaches, height}
 
@@ -22,7 +23,7 @@ module _ (l r o p y : Point) (straight : IsStraight (whole o) (whole p) (whole y
   as_they_fall : (q : Point) → determinant (whole o) (whole q) (whole p) *ℤ (height l r (whole o) -ℤ height l r (whole y))
       ≡ determinant (whole o) (whole q) (whole y) *ℤ (height l r (whole o) -ℤ height l r (whole p))
   as_they_fall q =
-      from_relations _ _ _ _ _ _ _ _ _ _ (four_on_line (whole r) (whole l) (whole o) (whole p) (whole y) (whole q)) (areas_add o p y q)
+      from_relations _ _ _ _ _ _ _ _ _ _ (four_beside (whole o) (whole p) (whole y) (whole q) (whole r) (whole l)) (areas_add o p y q)
       (determinant_swap_last (whole o) (whole q) (whole y)) (determinant_swap_last (whole o) (whole q) (whole p)) straight
 
   -- so they are on one side of each way from o, where they are both lower than o

@@ -17,8 +17,8 @@ use Rattle.funnels.proofs.Chains.LastPoints.{no_last}
 use Rattle.funnels.specs.OpenFunnel.{IsBentFunnel, IsOpenSight}
 
 -- a point of the ring is a chain, with no bend
-one_point : (ring : List Point) (p : Point) → IsIn ring (whole p) → IsBentChain ring (p ∷ [])
-one_point ring p inside = record {
+pub one_bent : (ring : List Point) (p : Point) → IsIn ring (whole p) → IsBentChain ring (p ∷ [])
+one_bent ring p inside = record {
   chain = record {
     some = omega arith;
     inside = λ k less.
@@ -34,7 +34,7 @@ one_point ring p inside = record {
 pub bent_from_apex : (ring ns : List Point) (a : ℕ) → a ≤ 1 → length ns ≤ a + 2 → IsIn ring (whole (point_at ns a))
     → IsBentFunnel ring [] ns a
 bent_from_apex ring ns a left right inside = record {
-  chain = one_point ring (point_at ns a) inside;
+  chain = one_bent ring (point_at ns a) inside;
   left_bends = λ h some less. absurd (omega (arith, some, less));
   right_bends = λ h some less. absurd (omega (arith, some, less));
   apex_left = λ q last some. absurd (no_last q last);

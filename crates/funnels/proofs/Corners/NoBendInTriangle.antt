@@ -2,6 +2,7 @@
 use Rattle.std.proofs.Common.{◌≡◌, inl, inr, true, sym, subst, ap, ◌∙◌, ℕ, ◌+◌, ◌<◌, pos, ◌<ℤ◌, ◌≤ℤ◌, List, length}
 use Rattle.std.specs.List.{range_with_len}
 use Rattle.integer_algebra.proofs.SignSteps.{weak}
+use Rattle.plane.proofs.Lists.{in_range}
 use Rattle.plane.proofs.Segments.{on_last_end}
 use Rattle.plane.specs.Point.{Point, whole}
 use Rattle.plane.specs.Segment.{On}
@@ -16,7 +17,6 @@ use Rattle.meshes.specs.Side.{tri_at}
 use Rattle.meshes.specs.declared.tri.Tri.{Tri}
 use Rattle.funnels.proofs.Bends.{corner_in_ring, corner_turns, not_ahead_of_itself, not_reflex, two_rays}
 use Rattle.funnels.proofs.Corners.CornerNeighbours.{IsBesideCorner, neighbour_within}
-use Rattle.funnels.proofs.Corners.PieceEdges.{in_range}
 use Rattle.funnels.proofs.Corners.RingSteps.{step_neighbours, step_vertex}
 use Rattle.funnels.proofs.Corners.WithinCones.{within_cone}
 use Rattle.ring_laws.proofs.Vertices.{neighbour_is}

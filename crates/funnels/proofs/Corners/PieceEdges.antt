@@ -2,8 +2,7 @@
 use Rattle.std.proofs.Common.{◌≡◌, ◌⊎◌, inl, inr, ap, subst, sym, ◌∙◌, ℕ, ◌+◌, ◌%◌, ◌<◌, List, length, get_or, arith}
 use Rattle.std.proofs.Math.Nat.{mod-lt}
 use Rattle.std.proofs.lemmas.List.{get_or-map}
-use Rattle.std.proofs.lemmas.List.FromFn.{get_or-range_with_len, length-range_with_len}
-use Rattle.std.specs.List.{Contains, range_with_len}
+use Rattle.std.specs.List.{Contains}
 use Rattle.plane.specs.Point.{Point, whole}
 use Rattle.plane.specs.Segment.{On}
 use Rattle.rings.proofs.Vertices.{has_edge_at}
@@ -14,10 +13,6 @@ use Rattle.meshes.proofs.Sides.{edge_or_not, length_points, vertex_of_piece}
 use Rattle.meshes.specs.Fits.{FitsPiece, IsPieceEdge, piece_points}
 use Rattle.meshes.specs.Side.{HasSide, tri_at}
 use Rattle.meshes.specs.declared.tri.Tri.{Tri}
-
--- the piece of all vertices has each number below their count
-pub in_range : (n x : ℕ) → x < n → Contains (range_with_len 0 n) x
-in_range n x h = (x, omega (arith, length-range_with_len 0 n), omega (arith, get_or-range_with_len 0 n x x h))
 
 -- an edge of a piece is an edge of its points
 pub edge_of_piece : (corners : List Point) (piece : List ℕ) (i j : ℕ) → IsPieceEdge piece i j

@@ -3,6 +3,7 @@ use Rattle.std.proofs.Common.{◌≡◌, inl, inr, true, sym, subst, ap, ◌∙�
 use Rattle.std.proofs.lemmas.Grind.{get_or_after_one}
 use Rattle.std.proofs.lemmas.List.{get_or-append-add, get_or_append_left, length-drop}
 use Rattle.std.specs.List.{range_with_len}
+use Rattle.plane.proofs.Lists.{in_range}
 use Rattle.plane.specs.Point.{Point, whole}
 use Rattle.rings.specs.Bend.{IsBend}
 use Rattle.rings.specs.Ring.{vertex}
@@ -11,7 +12,7 @@ use Rattle.meshes.specs.Fits.{Fits, IsInTri}
 use Rattle.meshes.specs.Laws.{CrossesSide, walk_tri}
 use Rattle.meshes.specs.Side.{HasSideBetween, IsWalk, IsWalkBetween, tri_at}
 use Rattle.meshes.specs.declared.tri.Tri.{Tri}
-use Rattle.funnels.proofs.Corners.{at_corner, corner_of, no_bend, in_range}
+use Rattle.funnels.proofs.Corners.{at_corner, corner_of, no_bend}
 use Rattle.funnels.proofs.DeadEnds.CornersReached.{arrives, departs, first_in}
 use Rattle.funnels.proofs.DeadEnds.JoinedWalks.{joined_walks}
 use Rattle.funnels.specs.Corner.{HasCornerOn}

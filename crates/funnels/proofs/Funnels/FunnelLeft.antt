@@ -1,7 +1,8 @@
 -- The funnel of the diagonal from a point beyond to the right end: the point, and the points from the place that it is reached from.
 use Rattle.std.proofs.Common.{◌≡◌, refl, inl, inr, sym, subst, ◌∙◌, List, ◌∷◌, length, drop, ℕ, ◌+◌, ◌-◌, ◌<◌, ◌≤◌, pos, ◌<ℤ◌, arith}
 use Rattle.std.proofs.lemmas.Bool.{cases_lt}
-use Rattle.integer_algebra.proofs.SignSteps.{negative_not_zero, not_both, turned_negative}
+use Rattle.integer_algebra.proofs.SignSteps.{negative_not_zero, not_both, turned_negative, weak_order}
+use Rattle.plane.proofs.Points.{whole_is_point}
 use Rattle.plane.proofs.Turns.{determinant_same_ends, determinant_same_last, determinant_swap_last}
 use Rattle.plane.specs.Point.{Point, whole}
 use Rattle.rings.specs.Chain.{point_at}
@@ -10,7 +11,7 @@ use Rattle.funnels.proofs.Funnels.Heights.{not_negative}
 use Rattle.funnels.proofs.Funnels.NewEdge.{reaches_new}
 use Rattle.funnels.proofs.Funnels.NextEdges.{new_edge_left, old_edge_left}
 use Rattle.funnels.proofs.Funnels.NextPoints.{next_left_length, next_left_old}
-use Rattle.funnels.proofs.Funnels.PassedPlaces.{not_passed_from}
+use Rattle.funnels.proofs.Funnels.PassedEdges.{not_passed_from}
 use Rattle.funnels.proofs.Funnels.PointsLeft.{left_ends_at, left_keeps, left_old_at, left_on_left, left_on_right}
 use Rattle.funnels.proofs.Funnels.ReachedWays.{left_of_way}
 use Rattle.funnels.proofs.Funnels.ThreePoints.{by_points, turns_left, turns_not_left, turns_right}
@@ -79,7 +80,7 @@ module _ (ns : List Point) (a : ℕ) (l r : Point) (f : IsFunnel ns a l r) (h : 
             let e = h + j - 1 in
             record {
               not_right = not_passed_not_right ns a (whole m) e u w at
-                  (not_passed_from ns a l r f h m beyond reached e (omega arith) (omega arith));
+                  (not_passed_from ns a l r f (whole m) (whole_is_point m) (weak_order beyond) h reached e (omega arith) (omega arith));
               not_left = (f.reaches e u w (omega arith) (omega arith) at).not_left;
             }
         | inr first ↦

@@ -1,9 +1,8 @@
 -- The funnel of the diagonal from the left end to a point beyond: the points to the place that the point is reached from, and the point.
-use Rattle.std.proofs.Common.{◌≡◌, refl, inl, inr, sym, subst, ◌∙◌, List, [], ◌∷◌, ◌++◌, length, take, ℕ, ◌+◌, ◌-◌, ◌<◌, ◌≤◌, min, pos}
-use Rattle.std.proofs.Common.{◌<ℤ◌}
-use Rattle.std.proofs.Common.{arith}
+use Rattle.std.proofs.Common.{◌≡◌, refl, inl, inr, sym, subst, ◌∙◌, List, ◌∷◌, ◌++◌, length, take, ℕ, ◌+◌, ◌-◌, ◌<◌, ◌≤◌, min, pos, ◌<ℤ◌, arith, []}
 use Rattle.std.proofs.lemmas.Bool.{cases_lt}
-use Rattle.integer_algebra.proofs.SignSteps.{negative_not_zero, not_both, positive_not_zero}
+use Rattle.integer_algebra.proofs.SignSteps.{negative_not_zero, not_both, positive_not_zero, weak_order}
+use Rattle.plane.proofs.Points.{whole_is_point}
 use Rattle.plane.proofs.Turns.{determinant_same_last}
 use Rattle.plane.specs.Point.{Point, whole}
 use Rattle.rings.specs.Chain.{point_at}
@@ -12,7 +11,7 @@ use Rattle.funnels.proofs.Funnels.Heights.{not_negative}
 use Rattle.funnels.proofs.Funnels.NewEdge.{reaches_new}
 use Rattle.funnels.proofs.Funnels.NextEdges.{new_edge_right, old_edge_right}
 use Rattle.funnels.proofs.Funnels.NextPoints.{next_right_last, next_right_length, next_right_old}
-use Rattle.funnels.proofs.Funnels.PassedPlaces.{passed_to}
+use Rattle.funnels.proofs.Funnels.PassedEdges.{passed_to}
 use Rattle.funnels.proofs.Funnels.PointsRight.{right_ends_at, right_keeps, right_new_at, right_on_left, right_on_right}
 use Rattle.funnels.proofs.Funnels.ReachedWays.{right_of_way}
 use Rattle.funnels.proofs.Funnels.ThreePoints.{by_points, turns_left, turns_not_left, turns_right}
@@ -57,7 +56,7 @@ module _ (ns : List Point) (a : ℕ) (l r : Point) (f : IsFunnel ns a l r) (h : 
           | inr last ↦
               right_ends_at ns h m ks old new turns_not_left (min a h) (min a h - 1) (min a h + 1) h (h - 1)
               (omega arith) (omega arith) (omega arith) (omega arith) (omega arith)
-              (elim (passed_to ns a l r f h m beyond reached h (omega arith) (omega arith)) [
+              (elim (passed_to ns a l r f (whole m) (whole_is_point m) (weak_order beyond) h reached h (omega arith) (omega arith)) [
                 | inl k ↦ k.1
                 | inr k ↦ absurd (omega (arith, k.0))
               ])
@@ -74,7 +73,7 @@ module _ (ns : List Point) (a : ℕ) (l r : Point) (f : IsFunnel ns a l r) (h : 
             let at = old_edge_right ns a h m u w top j below edge in
             record {
               not_right = (f.reaches j u w some (omega arith) at).not_right;
-              not_left = passed_not_left ns a (whole m) j u w at (passed_to ns a l r f h m beyond reached j some below);
+              not_left = passed_not_left ns a (whole m) j u w at (passed_to ns a l r f (whole m) (whole_is_point m) (weak_order beyond) h reached j some below);
             }
         | inl last ↦
             let place : j ≡ h + 1 = omega arith in

@@ -1,8 +1,8 @@
 -- A point on the line of a diagonal: on which sides of the ways from it to the ends the points beyond the diagonal are.
-use Rattle.std.proofs.Common.{◌≡◌, ◌⊎◌, inl, inr, ap, ℤ, pos, ◌-ℤ◌, ◌+ℤ◌, ◌*ℤ◌, ◌<ℤ◌, arith}
+use Rattle.std.proofs.Common.{◌≡◌, ◌⊎◌, inl, inr, ℤ, pos, ◌*ℤ◌, ◌<ℤ◌, arith}
 use Rattle.std.proofs.lemmas.Int.{ints}
-use Rattle.integer_algebra.proofs.Laws.{mul_comm, zero-mul}
-use Rattle.integer_algebra.proofs.SignSteps.{not_both, not_both_positive, turned_negative, turned_positive}
+use Rattle.integer_algebra.proofs.Laws.{mul_comm}
+use Rattle.integer_algebra.proofs.SignSteps.{not_both, not_both_positive, turned_negative}
 use Rattle.integer_algebra.proofs.Signs.{lt_or_le, mul_negative, mul_negatives, mul_nonpositive, mul_nonpositives}
 use Rattle.plane.proofs.Segments.{on_reversed}
 use Rattle.plane.proofs.Turns.{determinant_same_last, determinant_shift, determinant_swap_first, straight_shift_back, straight_swap_first}
@@ -11,7 +11,7 @@ use Rattle.plane.specs.Point.{Point, Triple, whole}
 use Rattle.plane.specs.Segment.{On}
 use Rattle.plane.specs.Turn.{IsLeft, IsRight, IsStraight, determinant}
 use Rattle.ring_laws.proofs.Triangles.{left_of, left_of_is_left}
-use Rattle.funnels.proofs.Funnels.OnOneLine.{areas_with, in_proportion, on_by_sides}
+use Rattle.funnels.proofs.Funnels.OnOneLine.{in_proportion, on_by_sides}
 use Rattle.funnels.specs.Funnel.{height}
 
 -- where negative factors make two numbers equal, the one is positive where the other is,
@@ -27,10 +27,6 @@ also_negative h k D E nh nk e some = elim (lt_or_le E (pos 0)) [
   | inl less ↦ less
   | inr more ↦ absurd (omega (arith, ints, mul_negatives h D nh some, mul_comm k E, mul_nonpositive E k more (omega (arith, ints))))
 ]
-
--- the sum of three positive numbers is not 0
-none_left : (A B C D w : ℤ) → pos 0 <ℤ A → B <ℤ pos 0 → pos 0 <ℤ C → D ≡ pos 0 → A -ℤ B +ℤ C -ℤ D *ℤ w ≡ pos 0 → ⊥
-none_left A B C D w a b c d e = omega (arith, ints, ap (λ z. z *ℤ w) d, zero-mul w)
 
 module _ (l r n : Point) (flat : height l r (whole n) ≡ pos 0) where
   -- the ends of the diagonal are on one line with it
@@ -70,10 +66,3 @@ module _ (l r n : Point) (flat : height l r (whole n) ≡ pos 0) where
               (λ h. not_both_positive h (rw (← determinant_shift z (whole n) (whole l)) not_left))))
         ]
       ]
-
-  -- and nothing beyond is both
-  pub not_both_sides : (y : Triple) → height l r y <ℤ pos 0 → IsLeft (whole n) (whole l) y → ¬ IsRight (whole n) (whole r) y
-  not_both_sides y beyond left right =
-      none_left (determinant (whole l) (whole r) y) (determinant (whole n) (whole r) y) (determinant (whole n) (whole l) y)
-      (determinant (whole n) (whole l) (whole r)) y.W (turned_positive (determinant_swap_first (whole r) (whole l) y) beyond)
-      right left on_line (areas_with n l r y)

@@ -1,26 +1,18 @@
 -- How far four points are from a line; points on one line, and a point of the line between the ends of a segment.
-use Rattle.std.proofs.Common.{◌≡◌, [], ◌∷◌, refl, ℤ, pos, ◌+ℤ◌, ◌-ℤ◌, ◌*ℤ◌, ◌<ℤ◌, arith}
+use Rattle.std.proofs.Common.{◌≡◌, ℤ, pos, ◌+ℤ◌, ◌-ℤ◌, ◌*ℤ◌, ◌<ℤ◌, arith}
 use Rattle.std.proofs.lemmas.Int.{ints}
 use Rattle.integer_algebra.proofs.Certificate.{product_zero}
 use Rattle.integer_algebra.proofs.Laws.{mul_comm}
-use Rattle.integer_algebra.proofs.Polynomial.{◌⊕◌, ◌⊖◌, ◌⊗◌, zero_value}
 use Rattle.integer_algebra.proofs.SignSteps.{not_both, positive_not_zero, turned_positive, zero_not_negative}
 use Rattle.integer_algebra.proofs.Signs.{factor_zero}
 use Rattle.plane.proofs.Points.{whole_is_point}
+use Rattle.plane.proofs.Regions.{four_beside}
 use Rattle.plane.proofs.Segments.{on_reversed}
-use Rattle.plane.proofs.Turns.{determinant_shift, determinant_swap_last, four_triples_in_W, parts, determinant as det}
+use Rattle.plane.proofs.Turns.{determinant as det, determinant_shift, determinant_swap_last, four_triples_in_W}
 use Rattle.plane.specs.Point.{Point, Triple, whole}
 use Rattle.plane.specs.Segment.{On}
 use Rattle.plane.specs.Turn.{IsLeft, IsRight, IsStraight, determinant}
 use Rattle.ring_laws.proofs.Triangles.{left_of, left_of_is_left, on_first_side}
-
--- how far four triples are from the line from a to b
-pub four_on_line : (a b p q s z : Triple) →
-    determinant q s z *ℤ determinant a b p -ℤ determinant p s z *ℤ determinant a b q
-    +ℤ determinant p q z *ℤ determinant a b s -ℤ determinant p q s *ℤ determinant a b z ≡ pos 0
-four_on_line a b p q s z =
-    zero_value (det 3 4 5 ⊗ det 0 1 2 ⊖ det 2 4 5 ⊗ det 0 1 3 ⊕ det 2 3 5 ⊗ det 0 1 4 ⊖ det 2 3 4 ⊗ det 0 1 5)
-    (parts (a ∷ b ∷ p ∷ q ∷ s ∷ z ∷ []) []) refl
 
 -- factors 1 may be left out
 drop_ones : (A B C D : ℤ) → A *ℤ pos 1 -ℤ B *ℤ pos 1 +ℤ C *ℤ pos 1 -ℤ D ≡ pos 0 → A -ℤ B +ℤ C -ℤ D ≡ pos 0
@@ -49,7 +41,7 @@ straight_on_line a b differ p q s on_p on_q on_s =
     let z = whole (left_of a b) in
     let far = determinant (whole a) (whole b) in
     last_zero (determinant q s z) (determinant p s z) (determinant p q z) (determinant p q s) (far p) (far q) (far s) (far z)
-    (left_of_is_left a b differ) on_p on_q on_s (four_on_line (whole a) (whole b) p q s z)
+    (left_of_is_left a b differ) on_p on_q on_s (four_beside p q s z (whole a) (whole b))
 
 -- two products agree where the other two are 0
 last_equal : (A B C D p q s z : ℤ) → p ≡ pos 0 → q ≡ pos 0 → A *ℤ p -ℤ B *ℤ q +ℤ C *ℤ s -ℤ D *ℤ z ≡ pos 0 → C *ℤ s ≡ D *ℤ z
@@ -61,7 +53,7 @@ pub in_proportion : (a b p q s z : Triple) → IsStraight a b p → IsStraight a
 in_proportion a b p q s z on_p on_q =
     let far = determinant a b in
     last_equal (determinant q s z) (determinant p s z) (determinant p q z) (determinant p q s) (far p) (far q) (far s) (far z)
-    on_p on_q (four_on_line a b p q s z)
+    on_p on_q (four_beside p q s z a b)
 
 -- ---- a point between the ends of a segment
 

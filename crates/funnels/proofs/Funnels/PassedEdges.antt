@@ -1,14 +1,18 @@
--- Which edges of a funnel the way to a point beyond the diagonal passes: those from the left end to one place, and no others.
-use Rattle.std.proofs.Common.{◌≡◌, ◌⊎◌, inl, inr, subst, List, length, ℕ, ◌+◌, ◌-◌, ◌<◌, ◌≤◌, pos, ◌<ℤ◌, arith}
+-- Where the way to a point that is not above the diagonal passes an edge of a funnel, it passes all edges before it: those to the place
+-- from which the point is reached, and no others.
+use Rattle.std.proofs.Common.{◌≡◌, ◌⊎◌, inl, inr, sym, subst, List, length, ℕ, zero, suc, ◌+◌, ◌-◌, ◌<◌, ◌≤◌, pos, ◌≤ℤ◌, arith}
 use Rattle.std.proofs.lemmas.Bool.{cases_lt}
+use Rattle.integer_algebra.proofs.SignSteps.{negative_not_zero, positive_not_zero}
+use Rattle.integer_algebra.proofs.Signs.{lt_or_le}
 use Rattle.plane.specs.Point.{IsPoint, Point, Triple, whole}
-use Rattle.plane.specs.Turn.{IsLeft, IsRight}
+use Rattle.plane.specs.Turn.{IsLeft, IsRight, IsStraight, determinant}
 use Rattle.rings.specs.Chain.{point_at}
 use Rattle.funnels.proofs.Funnels.EdgesAtApex.{not_between_edges}
-use Rattle.funnels.proofs.Funnels.FlatFunnels.{turn_left, turn_right}
+use Rattle.funnels.proofs.Funnels.FlatFunnels.{IsFlat, flat_left, flat_right, turn_left, turn_right}
 use Rattle.funnels.proofs.Funnels.Heights.{lower_left, lower_right, not_negative}
-use Rattle.funnels.proofs.Funnels.TwoEdges.{left_of_both, right_of_both}
-use Rattle.funnels.specs.Funnel.{IsFunnel, IsPassed, height}
+use Rattle.funnels.proofs.Funnels.OnOneLine.{straight_on_line}
+use Rattle.funnels.proofs.Funnels.TwoEdges.{outer_left, outer_right}
+use Rattle.funnels.specs.Funnel.{IsFunnel, IsPassed, IsReachedFrom, height}
 
 -- ---- the test of one edge
 
@@ -39,44 +43,70 @@ module _ (ns : List Point) (a : ℕ) (y : Triple) where
 
 -- ---- the tests of two edges
 
-module _ (ns : List Point) (a : ℕ) (l r : Point) (f : IsFunnel ns a l r) where
-  module _ (y : Triple) (at_y : IsPoint y) (beyond : height l r y <ℤ pos 0) where
-    -- of two left edges the one nearer to the left end is passed, where the other is,
-    next_left : (i : ℕ) → i + 1 < a → ¬ IsLeft (whole (point_at ns (i + 1 + 1))) (whole (point_at ns (i + 1))) y
-        → ¬ IsLeft (whole (point_at ns (i + 1))) (whole (point_at ns i)) y
-    next_left i h =
-        let within = f.apex_within in
-        left_of_both (point_at ns (i + 1 + 1)) (point_at ns (i + 1)) (point_at ns i) l r y at_y
-        (not_negative ns a l r f (i + 1) (omega arith)) beyond (turn_left ns a l r f i h)
-        (lower_left ns a l r f (i + 1) h) (lower_left ns a l r f i (omega arith))
+module _ (ns : List Point) (a : ℕ) (l r : Point) (f : IsFunnel ns a l r) (y : Triple) (at_y : IsPoint y) (low : height l r y ≤ℤ pos 0) where
+  -- points of the funnel on the line of the diagonal are in line with y, where it is there too
+  on_line : (i j : ℕ) → IsFlat ns l r i → IsFlat ns l r j → height l r y ≡ pos 0
+      → IsStraight (whole (point_at ns i)) (whole (point_at ns j)) y
+  on_line i j = straight_on_line r l (λ s. f.ends_differ (sym s)) (whole (point_at ns i)) (whole (point_at ns j)) y
 
-    -- of two right edges the one nearer to the apex,
-    next_right : (i : ℕ) → a ≤ i → i + 1 + 1 < length ns → IsRight (whole (point_at ns (i + 1))) (whole (point_at ns (i + 1 + 1))) y
-        → IsRight (whole (point_at ns i)) (whole (point_at ns (i + 1))) y
-    next_right i h k =
-        right_of_both (point_at ns i) (point_at ns (i + 1)) (point_at ns (i + 1 + 1)) l r y at_y
-        (not_negative ns a l r f (i + 1) (omega arith)) beyond (turn_right ns a l r f i h k)
-        (lower_right ns a l r f i h (omega arith)) (lower_right ns a l r f (i + 1) (omega arith) k)
+  -- of two left edges the one nearer to the left end is passed, where the other is,
+  before_left : (i : ℕ) → i + 1 < a → ¬ IsLeft (whole (point_at ns (i + 1 + 1))) (whole (point_at ns (i + 1))) y
+      → ¬ IsLeft (whole (point_at ns (i + 1))) (whole (point_at ns i)) y
+  before_left i h not_left left =
+      let within = f.apex_within in
+      let both = outer_left (point_at ns (i + 1 + 1)) (point_at ns (i + 1)) (point_at ns i) l r y at_y
+      (not_negative ns a l r f (i + 1) (omega arith)) low (turn_left ns a l r f i h)
+      (lower_left ns a l r f (i + 1) h) (lower_left ns a l r f i (omega arith)) not_left left in
+      positive_not_zero left (on_line (i + 1) i both.0 (flat_left ns a l r f i (omega arith) both.0) both.1)
 
-    -- and of two edges each the one before the other
-    next : (i : ℕ) → i + 1 + 1 < length ns → IsPassedFrom ns a y (i + 1) → IsPassedFrom ns a y i
-    next i h (inl k) = inl (omega (arith, k.0), next_left i k.0 k.1)
-    next i h (inr k) = elim (cases_lt i a) [
-      | inr right ↦ inr (right, next_right i right h k.1)
-      | inl apex ↦
-          let e : a ≡ i + 1 = omega (arith, k.0) in
-          inl (apex, not_between_edges ns i l r (subst (λ n. IsFunnel ns n l r) e f) y at_y beyond h k.1)
+  -- of two right edges the one nearer to the apex,
+  before_right : (i : ℕ) → a ≤ i → i + 1 + 1 < length ns → IsRight (whole (point_at ns (i + 1))) (whole (point_at ns (i + 1 + 1))) y
+      → IsRight (whole (point_at ns i)) (whole (point_at ns (i + 1))) y
+  before_right i h k right = elim (lt_or_le (determinant (whole (point_at ns i)) (whole (point_at ns (i + 1))) y) (pos 0)) [
+    | inl also ↦ also
+    | inr not ↦
+        let both = outer_right (point_at ns i) (point_at ns (i + 1)) (point_at ns (i + 1 + 1)) l r y at_y
+        (not_negative ns a l r f (i + 1) (omega arith)) low (turn_right ns a l r f i h k)
+        (lower_right ns a l r f i h (omega arith)) (lower_right ns a l r f (i + 1) (omega arith) k) not right in
+        absurd (negative_not_zero right
+        (on_line (i + 1) (i + 1 + 1) both.0 (flat_right ns a l r f (i + 1) (omega arith) k both.0) both.1))
+  ]
+
+  -- and of two edges each the one before the other
+  before : (i : ℕ) → i + 1 + 1 < length ns → IsPassedFrom ns a y (i + 1) → IsPassedFrom ns a y i
+  before i h (inl k) = inl (omega (arith, k.0), before_left i k.0 k.1)
+  before i h (inr k) = elim (cases_lt i a) [
+    | inr right ↦ inr (right, before_right i right h k.1)
+    | inl apex ↦
+        let e : a ≡ i + 1 = omega (arith, k.0) in
+        inl (apex, not_between_edges ns i l r (subst (λ n. IsFunnel ns n l r) e f) y at_y low h k.1)
+  ]
+
+  -- so with an edge all so many places before it are passed,
+  passed_back : (k i : ℕ) → i + k + 1 < length ns → IsPassedFrom ns a y (i + k) → IsPassedFrom ns a y i
+  passed_back zero i h passed = let same : i + 0 ≡ i = omega arith in subst (IsPassedFrom ns a y) same passed
+  passed_back (suc k) i h passed =
+      let same : i + suc k ≡ i + k + 1 = omega arith in
+      passed_back k i (omega arith) (before (i + k) (omega arith) (subst (IsPassedFrom ns a y) same passed))
+
+  -- and all before it,
+  passed_each_before : (i k : ℕ) → i < k → k < length ns → IsPassed ns a k y → IsPassed ns a (i + 1) y
+  passed_each_before i k h within passed =
+      let last : k ≡ k - 1 + 1 = omega arith in
+      let far : k - 1 ≡ i + (k - 1 - i) = omega arith in
+      passed_of ns a y i (passed_back (k - 1 - i) i (omega arith)
+      (subst (IsPassedFrom ns a y) far (passed_from ns a y (k - 1) (subst (λ n. IsPassed ns a n y) last passed))))
+
+  module _ (h : ℕ) (reached : IsReachedFrom ns a h y) where
+    -- so it passes each edge to the place from which the point is reached,
+    pub passed_to : (j : ℕ) → 0 < j → j ≤ h → IsPassed ns a j y
+    passed_to j some at = elim (cases_lt j h) [
+      | inl before ↦
+          let same : j - 1 + 1 ≡ j = omega arith in
+          subst (λ n. IsPassed ns a n y) same (passed_each_before (j - 1) h (omega arith) reached.within (reached.passed (omega arith)))
+      | inr last ↦ let same : h ≡ j = omega arith in subst (λ n. IsPassed ns a n y) same (reached.passed (omega arith))
     ]
 
-  -- where an edge is passed, the one before it is
-  pub monotone : (j : ℕ) → 0 < j → j + 1 < length ns → (y : Triple) → IsPoint y → height l r y <ℤ pos 0 → IsPassed ns a (j + 1) y
-      → IsPassed ns a j y
-  monotone j some h y at_y beyond =
-      let e : j - 1 + 1 ≡ j = omega arith in
-      subst (λ n. IsPassed ns a (n + 1) y → IsPassed ns a n y) e
-      (λ passed. passed_of ns a y (j - 1) (next y at_y beyond (j - 1) (omega arith) (passed_from ns a y (j - 1 + 1) passed)))
-
-  -- and where one is not, nor is the next
-  pub not_passed_after : (j : ℕ) → 0 < j → j + 1 < length ns → (y : Triple) → IsPoint y → height l r y <ℤ pos 0 → ¬ IsPassed ns a j y
-      → ¬ IsPassed ns a (j + 1) y
-  not_passed_after j some h y at_y beyond not passed = not (monotone j some h y at_y beyond passed)
+    -- and none after it
+    pub not_passed_from : (j : ℕ) → h < j → j < length ns → ¬ IsPassed ns a j y
+    not_passed_from j after within passed = reached.not_passed (omega arith) (passed_each_before h j after within passed)

@@ -1,28 +1,21 @@
 -- Whether a point is ahead on the way to the next point of a chain; parts of a segment between whole points.
-use Rattle.std.proofs.Common.{◌≡◌, ◌⊎◌, inl, inr, refl, subst, ℕ, ◌+◌, List, length, arith}
+use Rattle.std.proofs.Common.{◌≡◌, ◌⊎◌, inl, inr, ℕ, ◌+◌, List, length, arith}
 use Rattle.std.proofs.lemmas.Bool.{cases_lt}
-use Rattle.plane.proofs.Points.{same_whole, whole_is_point}
-use Rattle.plane.proofs.Segments.{later_between, on_antisym, on_first_end, on_last_end, on_nested, on_or_not, on_reversed}
-use Rattle.plane.specs.Point.{IsSame, Point, whole}
+use Rattle.plane.proofs.Order.{point_or_other}
+use Rattle.plane.proofs.Points.{whole_is_point}
+use Rattle.plane.proofs.Segments.{later_between, nearer_each, on_first_end, on_last_end, on_nested, on_or_not, on_reversed}
+use Rattle.plane.specs.Point.{Point, whole}
 use Rattle.plane.specs.Segment.{On}
-use Rattle.rings.proofs.Simple.{same_or_not}
 use Rattle.rings.specs.Chain.{point_at}
 use Rattle.funnels.specs.Touched.{IsAhead}
 
 -- ---- points on one segment
 
--- two points are one or not
-pub point_cases : (p q : Point) → (p ≡ q) ⊎ (¬ (p ≡ q))
-point_cases p q = elim (same_or_not (whole p) (whole q)) [
-  | inl same ↦ inl (same_whole p q same)
-  | inr differ ↦ inr (λ e. differ (subst (λ x. IsSame (whole p) (whole x)) e (record { same_x = refl; same_y = refl })))
-]
-
 -- a point is ahead or not
 pub ahead_cases : (chain : List Point) (k : ℕ) (last v : Point) → IsAhead chain k last v ⊎ (¬ IsAhead chain k last v)
 ahead_cases chain k last v = elim (cases_lt (k + 1) (length chain)) [
   | inr short ↦ inr (λ a. omega (arith, a.more))
-  | inl more ↦ elim (point_cases v last) [
+  | inl more ↦ elim (point_or_other v last) [
     | inl same ↦ inr (λ a. a.differ same)
     | inr differ ↦ elim (on_or_not (whole v) (whole last) (whole (point_at chain (k + 1))) (whole_is_point v) (whole_is_point last) (whole_is_point (point_at chain (k + 1)))) [
       | inl on ↦ inl (record { more = more; on = on; differ = differ })
@@ -33,12 +26,6 @@ ahead_cases chain k last v = elim (cases_lt (k + 1) (length chain)) [
 
 -- points of a segment of whole points
 module _ (a b p q : Point) where
-  -- within a part of it,
-  pub on_part : On (whole q) (whole a) (whole b) → On (whole p) (whole a) (whole q) → On (whole p) (whole a) (whole b)
-  on_part on_q on_p =
-      on_nested (whole p) (whole a) (whole q) (whole a) (whole b) (whole_is_point p) (whole_is_point a) (whole_is_point q) (whole_is_point a) (whole_is_point b)
-      (on_first_end (whole a) (whole b)) on_q on_p
-
   -- within its last part,
   pub on_last_part : On (whole q) (whole a) (whole b) → On (whole p) (whole q) (whole b) → On (whole p) (whole a) (whole b)
   on_last_part on_q on_p =
@@ -56,10 +43,6 @@ module _ (a b p q : Point) where
       (later_between (whole q) (whole b) (whole p) (whole a) (whole_is_point q) (whole_is_point b) (whole_is_point p) (whole_is_point a)
       (on_reversed (whole q) (whole p) (whole b) on_q) (on_reversed (whole p) (whole a) (whole b) on_p))
 
--- neither before the other
-pub one_point : (a p q : Point) → On (whole p) (whole a) (whole q) → On (whole q) (whole a) (whole p) → p ≡ q
-one_point a p q on_p on_q = same_whole p q (on_antisym (whole p) (whole q) (whole a) (whole_is_point p) (whole_is_point q) (whole_is_point a) on_p on_q)
-
 -- only a point is between it and itself
 pub only_point : (a p : Point) → On (whole p) (whole a) (whole a) → p ≡ a
-only_point a p on = one_point a p a on (on_first_end (whole a) (whole p))
+only_point a p on = nearer_each a p a on (on_first_end (whole a) (whole p))

@@ -1,8 +1,9 @@
 -- A chain with bends in a simple ring comes to no point twice, so a search finds no vertex twice.
 use Rattle.std.proofs.Common.{◌≡◌, inl, inr, refl, sym, subst, ap, ◌∙◌, ℕ, ◌+◌, ◌-◌, ◌<◌, ◌≤◌, List, [], ◌∷◌, ◌++◌, length, take, arith}
 use Rattle.std.proofs.lemmas.List.{get_or_append_left, length-append}
+use Rattle.plane.proofs.Order.{point_or_other}
 use Rattle.plane.proofs.Points.{whole_is_point}
-use Rattle.plane.proofs.Segments.{on_last_end, on_reversed}
+use Rattle.plane.proofs.Segments.{nearer_each, nearer_on, on_last_end, on_reversed}
 use Rattle.plane.specs.Point.{Point, whole}
 use Rattle.plane.specs.Segment.{On}
 use Rattle.rings.proofs.Full.{no_more}
@@ -12,7 +13,7 @@ use Rattle.rings.specs.Edge.{Has}
 use Rattle.rings.specs.Ring.{origin}
 use Rattle.rings.specs.Simple.{IsSimple}
 use Rattle.funnels.proofs.OneChain.{before_last, front, front_at, front_bent, front_length, last_of, one_bent_chain, shorter_step}
-use Rattle.funnels.proofs.Touched.AheadCases.{ahead_cases, before_last_part, on_last_part, on_part, one_point, only_point, point_cases}
+use Rattle.funnels.proofs.Touched.AheadCases.{ahead_cases, before_last_part, on_last_part, only_point}
 use Rattle.funnels.specs.Touched.{IsAhead, IsLookedAt}
 
 -- u is on the step of the chain from place m on, and not where it begins
@@ -140,7 +141,7 @@ module _ (ring : List Point) (some : 3 ≤ length ring) (simple : IsSimple ring)
       is_new has =
           let f = once.each v has in
           let same : f.step ≡ k = one_step f.step k v f.on_step on_step in
-          ahead.differ (one_point a v last (f.before same) last_before)
+          ahead.differ (nearer_each a v last (f.before same) last_before)
 
       abbrev rest : List Point
       rest = once.rest ++ v ∷ []
@@ -168,7 +169,7 @@ module _ (ring : List Point) (some : 3 ≤ length ring) (simple : IsSimple ring)
               step = f.step;
               not_later = f.not_later;
               on_step = f.on_step;
-              before = λ e. on_part a v u last last_before (f.before e);
+              before = λ e. nearer_on a u last v (f.before e) last_before;
             }) u has (record { vertex = vertex; step = k; not_later = omega arith; on_step = on_step; before = λ e. on_last_end (whole a) (whole v) });
       }
 
@@ -192,7 +193,7 @@ module _ (ring : List Point) (some : 3 ≤ length ring) (simple : IsSimple ring)
     pub once_looked : (k' : ℕ) (last' : Point) (found' : List Point) → IsLookedAt chain v k last found k' last' found' → IsFoundOnce ring chain k' last' found'
     once_looked k' last' found' look = elim (ahead_cases chain k last v) [
       | inr behind ↦ let (ek, el, ef) = look.stays behind in rw (ek, el, ef) once
-      | inl ahead ↦ let (el, ef) = look.found_more ahead in elim (point_cases v (point_at chain (k + 1))) [
+      | inl ahead ↦ let (el, ef) = look.found_more ahead in elim (point_or_other v (point_at chain (k + 1))) [
         | inl there ↦ rw (look.arrives ahead there, el, ef) (once_there ahead)
         | inr short ↦ rw (look.passes ahead short, el, ef) (once_nearer ahead)
       ]

@@ -2,8 +2,9 @@
 use Rattle.std.proofs.Common.{◌≡◌, inl, inr, refl, sym, subst, ap, ◌∙◌, ◌↔◌, ℕ, ◌+◌, ◌-◌, ◌<◌, ◌≤◌, List, [], ◌∷◌, ◌++◌, length, take, arith}
 use Rattle.std.proofs.lemmas.Bool.{cases_lt}
 use Rattle.std.proofs.lemmas.List.{append-nil, append_assoc, take_more}
+use Rattle.plane.proofs.Order.{point_or_other}
 use Rattle.plane.proofs.Points.{same_whole, whole_is_point}
-use Rattle.plane.proofs.Segments.{on_first_end, on_last_end, on_nested, on_reversed, on_total}
+use Rattle.plane.proofs.Segments.{nearer_each, nearer_on, on_first_end, on_last_end, on_nested, on_reversed, on_total}
 use Rattle.plane.specs.Point.{Point, whole}
 use Rattle.plane.specs.Segment.{On}
 use Rattle.rings.proofs.Full.{full_more, in_order_more}
@@ -16,7 +17,7 @@ use Rattle.meshes.specs.Fits.{Fits, IsInTri}
 use Rattle.meshes.specs.Laws.{CrossesSide, walk_tri}
 use Rattle.meshes.specs.Side.{IsWalk}
 use Rattle.meshes.specs.declared.tri.Tri.{Tri}
-use Rattle.funnels.proofs.Touched.AheadCases.{ahead_cases, before_last_part, beyond, on_last_part, on_part, one_point, only_point, point_cases}
+use Rattle.funnels.proofs.Touched.AheadCases.{ahead_cases, before_last_part, beyond, on_last_part, only_point}
 use Rattle.funnels.proofs.Touched.TouchedCorners.{end_between, side_in_triangle}
 use Rattle.funnels.specs.Touched.{HasCome, IsAhead, IsEndAt, IsLookedAt, IsOpen, IsPassed}
 
@@ -70,7 +71,7 @@ module _ (corners : List Point) (tris : List Tri) (fits : Fits corners tris) (wa
     none_between u vertex_u on_u differ =
         elim (on_total (whole u) (whole last) (whole s) (whole t) (whole_is_point u) (whole_is_point last) (whole_is_point s) (whole_is_point t) vertex_u.on on_last) [
           | inl before ↦ before
-          | inr after ↦ elim (point_cases u last) [
+          | inr after ↦ elim (point_or_other u last) [
             | inl same ↦ subst (λ p. On (whole u) (whole s) (whole p)) same (on_last_end (whole s) (whole u))
             | inr far ↦
                 let is = vertex_u.is_vertex in
@@ -149,8 +150,8 @@ module _ (corners : List Point) (tris : List Tri) (fits : Fits corners tris) (wa
       since_nearer u has =
           let p = (now.passed u).0 has in
           record {
-            on = on_part a v u last last_on p.on;
-            differ = λ e. ahead.differ (one_point a v last (subst (λ q. On (whole q) (whole a) (whole last)) e p.on) last_on);
+            on = nearer_on a u last v p.on last_on;
+            differ = λ e. ahead.differ (nearer_each a v last (subst (λ q. On (whole q) (whole a) (whole last)) e p.on) last_on);
           }
 
       -- ---- on the way to the next point of the chain
@@ -166,7 +167,7 @@ module _ (corners : List Point) (tris : List Tri) (fits : Fits corners tris) (wa
             | inr (inl e) ↦ subst (IsPassed corners chain k v) e (record { more = ahead.more; between = v_between; on = on_last_end (whole a) (whole v) })
             | inr (inr none) ↦ absurd none
           ]),
-          (λ p. elim (point_cases u v) [
+          (λ p. elim (point_or_other u v) [
             | inl e ↦ has_right u now.since (v ∷ []) (inl (sym e))
             | inr differ ↦ has_left u now.since (v ∷ []) ((now.passed u).1 (record { more = p.more; between = p.between; on = behind u p.between p.on differ }))
           ]),
@@ -177,7 +178,7 @@ module _ (corners : List Point) (tris : List Tri) (fits : Fits corners tris) (wa
         ahead_before u h = record {
           more = h.more;
           on = on_last_part last b u v ahead.on h.on;
-          differ = λ e. h.differ (e ∙ sym (one_point b v last (on_reversed _ _ _ ahead.on) (on_reversed _ _ _ (subst (λ q. On (whole q) (whole v) (whole b)) e h.on))));
+          differ = λ e. h.differ (e ∙ sym (nearer_each b v last (on_reversed _ _ _ ahead.on) (on_reversed _ _ _ (subst (λ q. On (whole q) (whole v) (whole b)) e h.on))));
         }
 
         come_nearer : HasCome corners from to start chain i (i + 1) k v (found ++ v ∷ [])
@@ -297,7 +298,7 @@ module _ (corners : List Point) (tris : List Tri) (fits : Fits corners tris) (wa
         → IsNow corners tris walk from to start chain i k last x k' last' found'
     looked_at k' last' found' look = elim (ahead_cases chain k last v) [
       | inr behind ↦ let (ek, el, ef) = look.stays behind in rw (ek, el, ef) (now_still behind)
-      | inl ahead ↦ let (el, ef) = look.found_more ahead in elim (point_cases v b) [
+      | inl ahead ↦ let (el, ef) = look.found_more ahead in elim (point_or_other v b) [
         | inl there ↦ rw (look.arrives ahead there, el, ef) (now_there ahead there)
         | inr short ↦ rw (look.passes ahead short, el, ef) (now_nearer ahead short)
       ]

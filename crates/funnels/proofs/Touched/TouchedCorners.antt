@@ -4,6 +4,7 @@ use Rattle.std.proofs.lemmas.Int.{ints}
 use Rattle.std.specs.List.{range_with_len}
 use Rattle.integer_algebra.proofs.SignSteps.{mean_last_positive}
 use Rattle.integer_algebra.proofs.Signs.{lt_or_le}
+use Rattle.plane.proofs.Lists.{in_range}
 use Rattle.plane.proofs.Points.{same_sym, whole_is_point}
 use Rattle.plane.proofs.Segments.{later_between, on_first_end, on_nested, on_reversed, on_same_point, on_total, within_from}
 use Rattle.plane.proofs.Turns.{determinant_along, determinant_same_ends, determinant_same_last, determinant_shift}
@@ -20,7 +21,7 @@ use Rattle.meshes.specs.Laws.{CrossesSide, walk_tri}
 use Rattle.meshes.specs.Side.{HasSideBetween, IsWalk, tri_at}
 use Rattle.meshes.specs.declared.tri.Tri.{Tri}
 use Rattle.funnels.proofs.Bends.{corner_turns, in_angle, level_is_vertex}
-use Rattle.funnels.proofs.Corners.{IsCorner, at_corner, corner_of, end_of_its_side, in_range}
+use Rattle.funnels.proofs.Corners.{IsCorner, at_corner, corner_of, end_of_its_side}
 use Rattle.funnels.proofs.DeadEnds.{meets_on_part}
 
 -- where a mean of numbers that are not negative is 0, one that weighs is 0

@@ -9,18 +9,14 @@ use Rattle.rings.specs.Ring.{origin}
 use Rattle.rings.specs.Simple.{IsSimple}
 use Rattle.meshes.specs.Fits.{Fits}
 use Rattle.meshes.specs.declared.tri.Tri.{Tri}
-use Rattle.funnels.proofs.Chains.{bent_from_apex}
+use Rattle.funnels.proofs.Chains.{one_bent}
 use Rattle.funnels.proofs.OneChain.{bent_is_path}
 use Rattle.funnels.proofs.Trees.Ways.{first_stays}
 use Rattle.funnels.proofs.Vertices.{fitted_long, fitted_simple}
 
--- a point of a ring alone is a chain with bends,
-pub bent_of_one : (ring : List Point) (s : Point) → IsIn ring (whole s) → IsBentChain ring (s ∷ [])
-bent_of_one ring s inside = (bent_from_apex ring (s ∷ []) 0 (omega arith) (omega arith) inside).chain
-
 -- and in a simple ring the path from it to itself
 pub path_of_one : (ring : List Point) → 3 ≤ length ring → IsSimple ring → (s : Point) → IsIn ring (whole s) → IsPath ring s s (s ∷ [])
-path_of_one ring some simple s inside = bent_is_path ring some simple (s ∷ []) (bent_of_one ring s inside) s s refl refl
+path_of_one ring some simple s inside = bent_is_path ring some simple (s ∷ []) (one_bent ring s inside) s s refl refl
 
 module _ (corners : List Point) (tris : List Tri) (fits : Fits corners tris) where
   -- a chain with bends is the path,
@@ -29,13 +25,6 @@ module _ (corners : List Point) (tris : List Tri) (fits : Fits corners tris) whe
   path_of_bent = bent_is_path corners (fitted_long corners tris fits) (fitted_simple corners tris fits)
 
   module _ (way : List Point) (s : Point) where
-    -- where its last point follows others,
-    pub path_of_way : (t : Point) → IsBentChain corners (way ++ t ∷ []) → point_at (way ++ t ∷ []) 0 ≡ s
-        → IsPath corners s t (way ++ t ∷ [])
-    path_of_way t bent first =
-        path_of_bent (way ++ t ∷ []) bent s t first
-        (get_or_push way t origin (length (way ++ t ∷ []) - 1) (omega (arith, length-append way (t ∷ []))))
-
     -- and the last but one is before the last
     pub before_of_bent : (q y : Point) → IsBentChain corners (way ++ q ∷ y ∷ []) → point_at (way ++ q ∷ []) 0 ≡ s
         → IsBefore corners s y q

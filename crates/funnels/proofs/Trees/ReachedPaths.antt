@@ -1,19 +1,18 @@
 -- Paths within one triangle; and beyond a diagonal: the path to the point of the funnel from which a point is reached, and on.
-use Rattle.std.proofs.Common.{◌≡◌, refl, sym, subst, ap, List, [], ◌∷◌, ◌++◌, ◌∙◌, length, ℕ, ◌<◌, arith}
-use Rattle.std.proofs.lemmas.List.{append_assoc}
+use Rattle.std.proofs.Common.{◌≡◌, refl, List, [], ◌∷◌, ◌++◌, ◌∙◌, length, ℕ, ◌<◌, arith}
 use Rattle.plane.proofs.Points.{whole_is_point}
 use Rattle.plane.specs.Point.{Point, whole}
-use Rattle.rings.specs.Chain.{IsBentChain, IsPath, point_at}
+use Rattle.rings.specs.Chain.{IsBentChain, point_at}
 use Rattle.rings.specs.From.{IsBefore}
-use Rattle.rings.specs.Ring.{origin, vertex}
+use Rattle.rings.specs.Ring.{vertex}
 use Rattle.meshes.proofs.Sight.{sees_in_triangle, triangle_in_ring}
 use Rattle.meshes.specs.Fits.{Fits, IsInTri}
 use Rattle.meshes.specs.Side.{HasSide, tri_at}
 use Rattle.meshes.specs.declared.tri.Tri.{Tri}
 use Rattle.funnels.proofs.Bends.{chain_more, last_end_in}
-use Rattle.funnels.proofs.Chains.{chain_on, chain_to, corner_differs, reached_bends, sees_reached}
-use Rattle.funnels.proofs.Trees.BentPaths.{before_of_bent, bent_of_one, path_of_way}
-use Rattle.funnels.proofs.Trees.Ways.{first_stays, way_begins, way_to}
+use Rattle.funnels.proofs.Chains.{chain_on, corner_differs, one_bent, reached_bends, sees_reached}
+use Rattle.funnels.proofs.Trees.BentPaths.{before_of_bent}
+use Rattle.funnels.proofs.Trees.Ways.{way_begins, way_to}
 use Rattle.funnels.proofs.Vertices.{IsSharedSide}
 use Rattle.funnels.specs.Funnel.{IsReachedFrom}
 use Rattle.funnels.specs.OpenFunnel.{IsOpenFunnel}
@@ -23,7 +22,7 @@ module _ (corners : List Point) (tris : List Tri) (fits : Fits corners tris) (k 
   pub before_at_home : (s y : Point) → IsInTri corners (tri_at tris k) (whole s) → IsInTri corners (tri_at tris k) (whole y)
       → ¬ (s ≡ y) → IsBefore corners s y s
   before_at_home s y in_s in_y differ =
-      let alone = bent_of_one corners s (triangle_in_ring corners tris fits k within (whole s) (whole_is_point s) in_s) in
+      let alone = one_bent corners s (triangle_in_ring corners tris fits k within (whole s) (whole_is_point s) in_s) in
       before_of_bent corners tris fits [] s s y
       (chain_more (s ∷ []) s y refl corners alone
       (sees_in_triangle corners tris fits k within (whole s) (whole y) (whole_is_point s) (whole_is_point y) in_s in_y)
@@ -51,22 +50,6 @@ module _ (corners : List Point) (tris : List Tri) (fits : Fits corners tris) (k 
       pub before_reached : IsBefore corners s y (point_at ns h)
       before_reached =
           before_of_bent corners tris fits (way_to before ns a h) s (point_at ns h) y chain (way_begins before ns a h ∙ begins)
-
-      -- and its path is the path to that point, and on
-      pub path_reached : (path : List Point) → IsPath corners s (point_at ns h) path → IsPath corners s y (path ++ y ∷ [])
-      path_reached path is =
-          let l = vertex corners i in
-          let r = vertex corners j in
-          let front = way_to before ns a h ++ point_at ns h ∷ [] in
-          let to_it = chain_to corners ns a l r o.funnel o.sight before o.bent h reached.within in
-          let begins_there = way_begins before ns a h ∙ begins in
-          let same : path ≡ front = ((path_of_way corners tris fits (way_to before ns a h) s (point_at ns h) to_it begins_there) path).0
-          ((is path).1 refl) in
-          subst (λ ps. IsPath corners s y (ps ++ y ∷ [])) (sym same)
-          (path_of_way corners tris fits front s y
-          (subst (IsBentChain corners) (sym (append_assoc (way_to before ns a h) (point_at ns h ∷ []) (y ∷ []))) chain)
-          (ap (λ ps. point_at ps 0) (append_assoc (way_to before ns a h) (point_at ns h ∷ []) (y ∷ []))
-          ∙ first_stays origin (way_to before ns a h) (point_at ns h) (y ∷ []) ∙ begins_there))
 
     -- the third corner is reached in this way
     pub before_corner : IsReachedFrom ns a h (whole (vertex corners m)) → IsBefore corners s (vertex corners m) (point_at ns h)

@@ -1,6 +1,5 @@
 -- At a vertex of a simple ring that is not reflex, the ring is in the half-planes of both edges.
 use Rattle.std.proofs.Common.{inl, inr, refl, subst, le_refl, ℕ, ◌+◌, ◌-◌, ◌<◌, ◌≤◌, pos, ◌≤ℤ◌, List, length, arith}
-use Rattle.std.proofs.lemmas.Int.{ints}
 use Rattle.integer_algebra.proofs.SignSteps.{zero_not_negative}
 use Rattle.integer_algebra.proofs.Signs.{lt_or_le}
 use Rattle.plane.proofs.Nearness.{toward}
@@ -16,16 +15,9 @@ use Rattle.rings.specs.Orientation.{IsCounterclockwise, IsReflex, turn_at}
 use Rattle.rings.specs.Ring.{vertex}
 use Rattle.rings.specs.Simple.{IsSimple}
 use Rattle.rings.specs.Winding.{WindsUpTo}
-use Rattle.ring_laws.proofs.Simple.{runs_round}
+use Rattle.ring_laws.proofs.Kernels.{counterclockwise_winds}
 use Rattle.ring_laws.proofs.Vertices.{HasEdgesAt, IsStrictlyOn, edges_at, strictly_from, strictly_to}
 use Rattle.funnels.proofs.Vertices.NearVertices.{IsNotRightOf, near_is_out}
-
--- a simple ring that runs counterclockwise winds up to once
-winds_up_to_one : (ring : List Point) → IsSimple ring → 3 ≤ length ring → IsCounterclockwise ring → WindsUpTo (pos 1) (edges_of ring)
-winds_up_to_one ring simple three runs = elim (runs_round ring three (apart_of_simple ring simple)) [
-  | inl h ↦ h.windings
-  | inr h ↦ let area = h.area in absurd (omega (arith, ints, runs, area))
-]
 
 -- a turn at a vertex that is not reflex is not to the right
 turn_not_negative : (ring : List Point) → IsCounterclockwise ring → (r : ℕ) → ¬ IsReflex ring r → pos 0 ≤ℤ turn_at ring r
@@ -83,7 +75,7 @@ pub convex_vertex : (ring : List Point) → IsSimple ring → 3 ≤ length ring 
 convex_vertex ring simple three runs r h convex z at_z near =
     let apart = apart_of_simple ring simple in
     let at = edges_at ring apart three r h in
-    let winds = winds_up_to_one ring simple three runs in
+    let winds = counterclockwise_winds ring three simple runs in
     let turn = turn_not_negative ring runs r convex in
     right_of_none ring apart (omega arith) winds (vertex ring (r + (length ring - 1))) (vertex ring r)
     (vertex ring (r + 1)) at turn z at_z near

@@ -2,17 +2,17 @@
 use Rattle.std.proofs.Common.{◌≡◌, ◌≢◌, inl, inr, refl, Bool, true, false, ℤ, pos, ◌+ℤ◌, ◌*ℤ◌, ◌<ℤ◌, List, arith}
 use Rattle.std.proofs.lemmas.Int.{ints}
 use Rattle.integer_algebra.proofs.Certificate.{product_zero}
-use Rattle.integer_algebra.proofs.SignSteps.{positive_of_not_zero, turned_negative, turned_positive, turned_zero}
+use Rattle.integer_algebra.proofs.SignSteps.{positive_of_not_zero, turned_zero}
 use Rattle.integer_algebra.proofs.Signs.{factor_negative, mul_positive}
 use Rattle.plane.proofs.Points.{same_whole, whole_is_point}
 use Rattle.plane.proofs.Segments.{on_is_straight, on_reversed, same_without_first, same_without_last}
-use Rattle.plane.proofs.Turns.{combination_of_ends, determinant_same_ends, determinant_swap_last, straight_shift_back, straight_swap_last}
-use Rattle.plane.specs.Cone.{IsInCone}
-use Rattle.plane.specs.Point.{Point, Triple, whole}
+use Rattle.plane.proofs.Turns.{combination_of_ends, determinant_same_ends, straight_shift_back}
+use Rattle.plane.specs.Point.{Point, whole}
 use Rattle.plane.specs.Segment.{On}
 use Rattle.plane.specs.Turn.{IsStraight}
 use Rattle.rings.specs.Bend.{IsBend}
 use Rattle.funnels.proofs.Bends.{turning_along}
+use Rattle.funnels.proofs.OneChain.{bend_back}
 use Rattle.funnels.specs.Fanned.{turning}
 use Rattle.hulls.specs.Joined.{AreJoined}
 
@@ -46,29 +46,6 @@ across side v p q n h ahead =
     let l = positive_of_not_zero c.l_nonnegative (λ none. h.1 (same_whole v q (same_without_first (whole v) (whole p) (whole q) c none))) in
     let m = positive_of_not_zero c.m_nonnegative (λ none. h.0 (same_whole v p (same_without_last (whole v) (whole p) (whole q) c none))) in
     other_is_negative c.k c.l c.m _ _ _ l m (own_end side v n) (turning_along side (whole v) (whole p) (whole q) c v (whole n)) ahead
-
--- ---- bends
-
--- the rays of a cone may change places,
-cone_back : (v p q u : Triple) → IsInCone v p q u → IsInCone v q p u
-cone_back v p q u (inl h) = inr (
-  turned_negative (determinant_swap_last v p q) h.0,
-  λ left. h.2 (turned_negative (determinant_swap_last v q u) left),
-  λ left. h.1 (turned_negative (determinant_swap_last v u p) left),
-)
-cone_back v p q u (inr h) = inl (
-  turned_positive (determinant_swap_last v p q) h.0,
-  λ right. h.2 (turned_positive (determinant_swap_last v q u) right),
-  λ right. h.1 (turned_positive (determinant_swap_last v u p) right),
-)
-
--- and so may the ends of a bend
-pub bend_back : (ring : List Point) (p v q : Point) → IsBend ring p v q → IsBend ring q v p
-bend_back ring p v q bend = record {
-  reflex = bend.reflex;
-  turns = λ straight. bend.turns (straight_swap_last (whole v) (whole q) (whole p) straight);
-  in_cone = λ u n. cone_back (whole v) (whole p) (whole q) (whole u) (bend.in_cone u n);
-}
 
 -- ---- joined points
 

@@ -2,7 +2,7 @@
 use Rattle.std.proofs.Common.{◌≡◌, ◌⊎◌, inl, inr, sym, subst, true, ℤ, pos, neg_ℤ, ◌+ℤ◌, ◌-ℤ◌, ◌*ℤ◌, ◌<ℤ◌, ◌≤ℤ◌, ◌≤◌, List, length, arith}
 use Rattle.std.proofs.lemmas.Int.{ints}
 use Rattle.integer_algebra.proofs.Certificate.{product_zero}
-use Rattle.integer_algebra.proofs.SignSteps.{negative_not_zero, turned_negative, turned_positive}
+use Rattle.integer_algebra.proofs.SignSteps.{negative_not_zero, negative_of_not_zero, turned_negative, turned_positive}
 use Rattle.integer_algebra.proofs.Signs.{factor_zero}
 use Rattle.plane.proofs.Points.{same_whole, whole_is_point}
 use Rattle.plane.proofs.Segments.{on_first_end}
@@ -13,7 +13,8 @@ use Rattle.plane.specs.Turn.{IsLeft, IsRight, determinant}
 use Rattle.rings.specs.Bend.{AreNeighbours, IsBend}
 use Rattle.rings.specs.Simple.{IsSimple}
 use Rattle.funnels.proofs.Bends.{level_is_vertex, ray_behind, turning_four, turnings_of_bend, two_rays}
-use Rattle.hulls.proofs.Cones.JoinedPoints.{bend_back, bend_of_joined}
+use Rattle.funnels.proofs.OneChain.{bend_back}
+use Rattle.hulls.proofs.Cones.JoinedPoints.{bend_of_joined}
 use Rattle.hulls.specs.Joined.{AreJoined}
 
 -- two directions in line with a third, beside a fourth that is not, are in line
@@ -22,10 +23,6 @@ in_line po ab pa ob pb oa e behind level_a level_b =
     let middle = product_zero pa level_b in
     let last = product_zero pb level_a in
     factor_zero po ab (negative_not_zero behind) (omega (arith, ints))
-
--- a number that is not positive nor 0 is negative
-negative_unless_zero : {z : ℤ} → z ≤ℤ pos 0 → ¬ (z ≡ pos 0) → z <ℤ pos 0
-negative_unless_zero h n = omega (arith, ints)
 
 -- and one that is not positive is 0 where its opposite is not
 both_level : {z w : ℤ} → w ≡ neg_ℤ z → z ≤ℤ pos 0 → w ≤ℤ pos 0 → z ≡ pos 0
@@ -42,7 +39,7 @@ module _ (ring : List Point) (v p o q : Point) (first : IsBend ring p v o) (last
   -- and behind p
   behind_first : (a : Point) → AreNeighbours ring v a → ¬ (a ≡ v) → determinant (whole v) (whole p) (whole a) <ℤ pos 0
   behind_first a n other =
-      negative_unless_zero (turnings_of_bend true ring p v o behind first a n).0
+      negative_of_not_zero (turnings_of_bend true ring p v o behind first a n).0
       (λ straight. other (same_whole a v
       (level_is_vertex true v (whole o) (whole p) (whole a) (turned_positive (determinant_swap_last (whole v) (whole p) (whole o)) behind)
       (level a n) (straight_swap_last (whole v) (whole p) (whole a) straight))))

@@ -9,8 +9,9 @@ use Rattle.plane.specs.Point.{Point, whole}
 use Rattle.plane.specs.Turn.{IsLeft, IsRight, IsStraight, determinant}
 use Rattle.rings.specs.Bend.{IsBend}
 use Rattle.funnels.proofs.Bends.{turning_straight, turning_swap, wider_bend}
+use Rattle.funnels.proofs.OneChain.{bend_back}
 use Rattle.funnels.specs.Fanned.{turning}
-use Rattle.hulls.proofs.Cones.JoinedPoints.{across, bend_back}
+use Rattle.hulls.proofs.Cones.JoinedPoints.{across}
 use Rattle.hulls.specs.Joined.{AreJoined}
 
 module _ (side : Bool) (ring : List Point) (v n : Point) where

@@ -1,12 +1,12 @@
 -- A simple ring and the ring that is kept of it, counterclockwise, have the same paths; so in a simple ring there is a path between each two
 -- points.
-use Rattle.std.proofs.Common.{◌≡◌, ◌⊎◌, ◌↔◌, inl, inr, sym, subst, List}
+use Rattle.std.proofs.Common.{◌≡◌, ◌⊎◌, inl, inr, sym, subst, List}
 use Rattle.plane.specs.Point.{Point, Triple, whole}
 use Rattle.rings.proofs.Inside.{in_turned_iff}
-use Rattle.rings.specs.Chain.{IsPath, IsTaut}
+use Rattle.rings.specs.Chain.{IsPath}
 use Rattle.rings.specs.Inside.{IsIn}
 use Rattle.rings.specs.Orientation.{turned_round}
-use Rattle.ring_laws.proofs.Simple.{bent_turned_iff, kept_ring}
+use Rattle.ring_laws.proofs.Simple.{kept_ring, taut_turned_iff}
 use Rattle.meshes.proofs.Triangulations.{triangulation}
 use Rattle.hulls.specs.Laws.{PathsLaw}
 use Rattle.hulls.proofs.Entrances.PathsFound.{path_between}
@@ -19,17 +19,10 @@ of_kept ring kept one_of P turned p = elim one_of [
   | inr e ↦ turned (subst P e p)
 ]
 
--- the same chains are taut in a ring turned round,
-taut_turned : (ring : List Point) (s t : Point) (chain : List Point) → IsTaut (turned_round ring) s t chain ↔ IsTaut ring s t chain
-taut_turned ring s t chain = (
-  λ h. record { bent = (bent_turned_iff ring chain).0 h.bent; first = h.first; last = h.last; single = h.single },
-  λ h. record { bent = (bent_turned_iff ring chain).1 h.bent; first = h.first; last = h.last; single = h.single },
-)
-
 -- so a path there is one in the ring
 pub path_turned : (ring : List Point) (s t : Point) (path : List Point) → IsPath (turned_round ring) s t path → IsPath ring s t path
 path_turned ring s t path is =
-    λ chain. let same = taut_turned ring s t chain in (λ h. (is chain).0 (same.1 h), λ e. same.0 ((is chain).1 e))
+    λ chain. let same = taut_turned_iff ring s t chain in (λ h. (is chain).0 (same.1 h), λ e. same.0 ((is chain).1 e))
 
 -- and a point of the ring is in it
 pub in_kept : (ring kept : List Point) → (kept ≡ ring) ⊎ (kept ≡ turned_round ring) → (x : Triple) → IsIn ring x → IsIn kept x

@@ -1,8 +1,6 @@
 -- Edges of a funnel on the line of its diagonal, off the apex: the way to a point that is not above the diagonal passes those on the left, and
 -- none on the right.
-use Rattle.std.proofs.Common.{◌≡◌, inl, inr, sym, List, length, ℕ, ◌+◌, ◌<◌, ◌≤◌, ℤ, pos, ◌-ℤ◌, ◌+ℤ◌, ◌*ℤ◌, ◌<ℤ◌, ◌≤ℤ◌, arith}
-use Rattle.std.proofs.lemmas.Int.{ints}
-use Rattle.integer_algebra.proofs.Certificate.{product_zero}
+use Rattle.std.proofs.Common.{◌≡◌, inl, inr, sym, List, length, ℕ, ◌+◌, ◌<◌, ◌≤◌, pos, ◌*ℤ◌, ◌<ℤ◌, ◌≤ℤ◌, arith}
 use Rattle.integer_algebra.proofs.Laws.{mul_comm}
 use Rattle.integer_algebra.proofs.SignSteps.{negative_not_zero, not_both, not_both_positive, positive_not_zero, positive_of_not_zero, weak}
 use Rattle.integer_algebra.proofs.SignSteps.{weak_order}
@@ -11,15 +9,9 @@ use Rattle.plane.proofs.Turns.{determinant_shift}
 use Rattle.plane.specs.Point.{Point, Triple, whole}
 use Rattle.plane.specs.Turn.{IsLeft, IsRight, IsStraight, determinant}
 use Rattle.rings.specs.Chain.{point_at}
-use Rattle.funnels.proofs.Funnels.{IsFlat, four_on_line, not_negative, straight_on_line}
+use Rattle.funnels.proofs.Funnels.{IsFlat, flat_left, in_proportion, not_negative, passed_from, passed_of, straight_on_line, turn_left, turn_right}
+use Rattle.funnels.proofs.Funnels.{flat_right}
 use Rattle.funnels.specs.Funnel.{IsFunnel, IsPassed, height}
-use Rattle.hulls.proofs.Gates.FallingEdges.{falls_left, falls_right, passed_after, passed_by_number, turns_left, turns_right}
-
--- ---- three points and one more
-
--- where two of four products are 0, so is the difference of the others
-two_products : (A B C D o q p y : ℤ) → o ≡ pos 0 → q ≡ pos 0 → A *ℤ o -ℤ B *ℤ q +ℤ C *ℤ p -ℤ D *ℤ y ≡ pos 0 → p *ℤ C ≡ D *ℤ y
-two_products A B C D o q p y eo eq e = omega (arith, ints, product_zero A eo, product_zero B eq, mul_comm C p)
 
 module _ (l r p o q : Point) (y : Triple) (differ : ¬ (l ≡ r)) (low : height l r y ≤ℤ pos 0) (high : pos 0 ≤ℤ height l r (whole p))
     (at_o : height l r (whole o) ≡ pos 0) (at_q : height l r (whole q) ≡ pos 0) where
@@ -27,10 +19,8 @@ module _ (l r p o q : Point) (y : Triple) (differ : ¬ (l ≡ r)) (low : height 
   -- a point is as far from that as it is from the line, times one factor
   along_line : height l r (whole p) *ℤ determinant (whole o) (whole q) y ≡ determinant (whole p) (whole o) (whole q) *ℤ height l r y
   along_line =
-      rw (← determinant_shift (whole p) (whole o) (whole q))
-      (two_products (determinant (whole q) (whole p) y) (determinant (whole o) (whole p) y) (determinant (whole o) (whole q) y)
-      (determinant (whole o) (whole q) (whole p)) (height l r (whole o)) (height l r (whole q)) (height l r (whole p)) (height l r y)
-      at_o at_q (four_on_line (whole r) (whole l) (whole o) (whole q) (whole p) y))
+      rw (mul_comm (height l r (whole p)) (determinant (whole o) (whole q) y), ← determinant_shift (whole p) (whole o) (whole q))
+      (in_proportion (whole r) (whole l) (whole o) (whole q) (whole p) y at_o at_q)
 
   -- the edge comes from above
   from_above : ¬ IsStraight (whole p) (whole o) (whole q) → pos 0 <ℤ height l r (whole p)
@@ -53,39 +43,24 @@ module _ (l r p o q : Point) (y : Triple) (differ : ¬ (l ≡ r)) (low : height 
 
 -- ---- the edges of a funnel
 
--- a number between 0 and 0 is 0
-squeezed : {h k : ℤ} → pos 0 ≤ℤ k → k ≤ℤ h → h ≡ pos 0 → k ≡ pos 0
-squeezed m n e = omega (arith, ints)
-
-module _ (ns : List Point) (a : ℕ) (l r : Point) (f : IsFunnel ns a l r) (i : ℕ) where
-  -- from a place on the line of the diagonal an edge goes along it, on the left,
-  pub level_on_left : i < a → IsFlat ns l r (i + 1) → IsFlat ns l r i
-  level_on_left h flat =
+module _ (ns : List Point) (a : ℕ) (l r : Point) (f : IsFunnel ns a l r) (i : ℕ) (y : Triple) (low : height l r y ≤ℤ pos 0) where
+  -- from a place on the line of the diagonal an edge goes along it; on the left it is passed, where its place is not the apex,
+  pub passed_along : i + 1 < a → IsFlat ns l r (i + 1) → IsPassed ns a (i + 1) y
+  passed_along h flat =
       let within = f.apex_within in
-      squeezed (not_negative ns a l r f i (omega arith)) (falls_left ns a l r f i h) flat
+      passed_of ns a y i (inl (
+        omega (arith, h),
+        not_left_along l r (point_at ns (i + 1 + 1)) (point_at ns (i + 1)) (point_at ns i) y f.ends_differ low
+            (not_negative ns a l r f (i + 1 + 1) (omega arith)) flat (flat_left ns a l r f i (omega arith) flat) (turn_left ns a l r f i h),
+      ))
 
-  -- and on the right
-  pub level_on_right : a ≤ i → i + 1 < length ns → IsFlat ns l r i → IsFlat ns l r (i + 1)
-  level_on_right h k flat = squeezed (not_negative ns a l r f (i + 1) k) (falls_right ns a l r f i h k) flat
-
-  module _ (y : Triple) (low : height l r y ≤ℤ pos 0) where
-    -- such an edge is passed on the left, where its place is not the apex,
-    pub passed_along : i + 1 < a → IsFlat ns l r (i + 1) → IsPassed ns a (i + 1) y
-    passed_along h flat =
-        let within = f.apex_within in
-        passed_by_number ns a y i (inl (
-          omega (arith, h),
-          not_left_along l r (point_at ns (i + 1 + 1)) (point_at ns (i + 1)) (point_at ns i) y f.ends_differ low
-              (not_negative ns a l r f (i + 1 + 1) (omega arith)) flat (level_on_left (omega arith) flat) (turns_left ns a l r f i h),
-        ))
-
-    -- and not on the right
-    pub not_passed_along : a ≤ i → i + 1 + 1 < length ns → IsFlat ns l r (i + 1) → ¬ IsPassed ns a (i + 1 + 1) y
-    not_passed_along h k flat passed = elim (passed_after ns a y (i + 1) passed) [
-      | inl left ↦ omega (arith, left.0, h)
-      | inr right ↦
-          not_right_along l r (point_at ns i) (point_at ns (i + 1)) (point_at ns (i + 1 + 1)) y f.ends_differ low
-          (not_negative ns a l r f i (omega arith)) flat
-          (squeezed (not_negative ns a l r f (i + 1 + 1) k) (falls_right ns a l r f (i + 1) (omega (arith, h)) k) flat)
-          (turns_right ns a l r f i h k) right.1
-    ]
+  -- and not on the right
+  pub not_passed_along : a ≤ i → i + 1 + 1 < length ns → IsFlat ns l r (i + 1) → ¬ IsPassed ns a (i + 1 + 1) y
+  not_passed_along h k flat passed = elim (passed_from ns a y (i + 1) passed) [
+    | inl left ↦ omega (arith, left.0, h)
+    | inr right ↦
+        not_right_along l r (point_at ns i) (point_at ns (i + 1)) (point_at ns (i + 1 + 1)) y f.ends_differ low
+        (not_negative ns a l r f i (omega arith)) flat
+        (flat_right ns a l r f (i + 1) (omega (arith, h)) k flat)
+        (turn_right ns a l r f i h k) right.1
+  ]

@@ -2,7 +2,7 @@
 use Rattle.std.proofs.Common.{◌≡◌, inl, inr, sym, subst, List, length, ℕ, ◌+◌, ◌-◌, ◌<◌, ◌≤◌, ℤ, pos, ◌<ℤ◌, ◌≤ℤ◌, arith}
 use Rattle.std.proofs.lemmas.Bool.{cases_lt}
 use Rattle.std.proofs.lemmas.Int.{ints}
-use Rattle.integer_algebra.proofs.SignSteps.{not_both_positive, positive_not_negative}
+use Rattle.integer_algebra.proofs.SignSteps.{not_both_positive, positive_not_negative, zero_of_neither}
 use Rattle.integer_algebra.proofs.Signs.{lt_or_le}
 use Rattle.plane.proofs.Points.{whole_is_point}
 use Rattle.plane.specs.Point.{IsPoint, Point, Triple, whole}
@@ -10,17 +10,12 @@ use Rattle.plane.specs.Segment.{On}
 use Rattle.plane.specs.Turn.{IsLeft, IsRight, determinant}
 use Rattle.rings.specs.Chain.{point_at}
 use Rattle.meshes.proofs.Cones.{not_left_between}
-use Rattle.funnels.proofs.Funnels.{IsFlat, left_of_apex, not_negative, right_of_apex}
+use Rattle.funnels.proofs.Funnels.{IsFlat, flat_left, flat_right, left_of_apex, lower_left, lower_right, not_negative, not_passed_from, passed_from}
+use Rattle.funnels.proofs.Funnels.{passed_of, passed_to, right_of_apex}
 use Rattle.funnels.specs.Funnel.{IsFunnel, IsPassed, IsReachedFrom, height}
-use Rattle.hulls.proofs.Gates.FallingEdges.{falls_left, falls_right, passed_after, passed_by_number}
-use Rattle.hulls.proofs.Gates.FlatEdges.{level_on_left, level_on_right, not_passed_along, passed_along}
+use Rattle.hulls.proofs.Gates.FlatEdges.{not_passed_along, passed_along}
 use Rattle.hulls.proofs.Gates.PartedByEdges.{end_not_left, ends_right, first_on_line, left_end_not_left, right_end_not_left, second_on_line}
-use Rattle.hulls.proofs.Gates.PassedBefore.{not_passed_from_place, passed_to_place}
 use Rattle.hulls.proofs.Gates.PastDiagonals.{IsPastDiagonal, past_not_above, past_on_line}
-
--- a number between 0 and 0 is 0,
-zero_of_low : {z : ℤ} → pos 0 ≤ℤ z → z ≤ℤ pos 0 → z ≡ pos 0
-zero_of_low h k = omega (arith, ints)
 
 -- and what is not positive is below a positive number, and what is negative below one that is not
 apart_left : {d e : ℤ} → pos 0 <ℤ d → ¬ (pos 0 <ℤ e) → e <ℤ d
@@ -41,17 +36,17 @@ module _ (ns : List Point) (a : ℕ) (l r : Point) (f : IsFunnel ns a l r) (x y 
 
   -- the way to y passes each edge before place k,
   passed_second : (i : ℕ) → i < k → IsPassed ns a (i + 1) y
-  passed_second = passed_to_place ns a l r f y at_y low_y k from_y
+  passed_second i before = passed_to ns a l r f y at_y low_y k from_y (i + 1) (omega arith) (omega (arith, before))
 
   -- and that to x none after place j
   not_passed_first : (i : ℕ) → j ≤ i → i + 1 < length ns → ¬ IsPassed ns a (i + 1) x
-  not_passed_first = not_passed_from_place ns a l r f x at_x low_x j from_x
+  not_passed_first i after within = not_passed_from ns a l r f x at_x low_x j from_x (i + 1) (omega (arith, after)) within
 
   -- a place on the way from x to y is on the line of the diagonal
   flat_on : (i : ℕ) → i < length ns → On (whole (point_at ns i)) x y → IsFlat ns l r i
   flat_on i within on =
-      zero_of_low (not_negative ns a l r f i within)
-      (not_left_between (whole r) (whole l) (whole (point_at ns i)) x y (whole_is_point (point_at ns i)) at_x at_y low_x low_y on)
+      zero_of_neither (not_left_between (whole r) (whole l) (whole (point_at ns i)) x y (whole_is_point (point_at ns i)) at_x at_y low_x low_y on)
+      (not_negative ns a l r f i within)
 
   module _ (off_j : j < a → ¬ On (whole (point_at ns j)) x y) (off_k : a < k → ¬ On (whole (point_at ns k)) x y)
       (i : ℕ) (after : j ≤ i) (before : i < k) where
@@ -64,12 +59,12 @@ module _ (ns : List Point) (a : ℕ) (l r : Point) (f : IsFunnel ns a l r) (x y 
         | inl is ↦ is
         | inr none ↦
             let within = from_y.within in
-            absurd (not_passed_first i after (omega arith) (passed_by_number ns a x i (inl (on_left, λ left. not_both_positive left none))))
+            absurd (not_passed_first i after (omega arith) (passed_of ns a x i (inl (on_left, λ left. not_both_positive left none))))
       ]
 
       -- and y not,
       y_not_left : ¬ IsLeft (whole (point_at ns (i + 1))) (whole (point_at ns i)) y
-      y_not_left = elim (passed_after ns a y i (passed_second i before)) [ inl is ↦ is.1 | inr is ↦ absurd (omega (arith, is.0, on_left)) ]
+      y_not_left = elim (passed_from ns a y i (passed_second i before)) [ inl is ↦ is.1 | inr is ↦ absurd (omega (arith, is.0, on_left)) ]
 
       -- and ends not left of the way,
       left_end_low : determinant (whole (point_at ns i)) x y ≤ℤ pos 0
@@ -80,16 +75,16 @@ module _ (ns : List Point) (a : ℕ) (l r : Point) (f : IsFunnel ns a l r) (x y 
           elim (lt_or_le (pos 0) (height l r (whole p))) [
             | inl above ↦
                 end_not_left p q l r x y at_x at_y (positive_not_negative x_left) y_not_left low_x low_y (apart_left x_left y_not_left) above
-                (not_negative ns a l r f i (omega arith)) (falls_left ns a l r f i on_left)
+                (not_negative ns a l r f i (omega arith)) (lower_left ns a l r f i on_left)
             | inr low ↦
-                let flat = zero_of_low (not_negative ns a l r f (i + 1) (omega arith)) low in
+                let flat = zero_of_neither low (not_negative ns a l r f (i + 1) (omega arith)) in
                 elim (cases_lt (i + 1) a) [
                   | inl inner ↦ absurd (not_passed_first i after (omega arith) (passed_along ns a l r f i x low_x inner flat))
                   | inr top ↦
                       let same : i + 1 ≡ a = omega arith in
                       let end = left_of_apex ns a l r f (subst (IsFlat ns l r) same flat) i same in
                       let level = second_on_line p q l r x y at_x at_y (positive_not_negative x_left) y_not_left low_x low_y flat
-                      (level_on_left ns a l r f i on_left flat) x_left in
+                      (flat_left ns a l r f i on_left flat) x_left in
                       rw end (left_end_not_left l r x y at_y (past_on_line l r y past_y level) low_x)
                 ]
           ]
@@ -119,11 +114,11 @@ module _ (ns : List Point) (a : ℕ) (l r : Point) (f : IsFunnel ns a l r) (x y 
       -- it has x not on its right,
       x_not_right : ¬ IsRight (whole (point_at ns i)) (whole (point_at ns (i + 1))) x
       x_not_right right =
-          let within = from_y.within in not_passed_first i after (omega arith) (passed_by_number ns a x i (inr (on_right, right)))
+          let within = from_y.within in not_passed_first i after (omega arith) (passed_of ns a x i (inr (on_right, right)))
 
       -- and y on it,
       y_right : IsRight (whole (point_at ns i)) (whole (point_at ns (i + 1))) y
-      y_right = elim (passed_after ns a y i (passed_second i before)) [ inr is ↦ is.1 | inl is ↦ absurd (omega (arith, is.0, on_right)) ]
+      y_right = elim (passed_from ns a y i (passed_second i before)) [ inr is ↦ is.1 | inl is ↦ absurd (omega (arith, is.0, on_right)) ]
 
       -- and ends not left of the way,
       right_end_low : determinant (whole (point_at ns (i + 1))) x y ≤ℤ pos 0
@@ -135,9 +130,9 @@ module _ (ns : List Point) (a : ℕ) (l r : Point) (f : IsFunnel ns a l r) (x y 
             | inl above ↦
                 end_not_left p q l r x y at_x at_y x_not_right (λ h. positive_not_negative h y_right) low_x low_y
                 (apart_right x_not_right y_right) above (not_negative ns a l r f (i + 1) (omega arith))
-                (falls_right ns a l r f i on_right (omega arith))
+                (lower_right ns a l r f i on_right (omega arith))
             | inr low ↦
-                let flat = zero_of_low (not_negative ns a l r f i (omega arith)) low in
+                let flat = zero_of_neither low (not_negative ns a l r f i (omega arith)) in
                 elim (cases_lt a i) [
                   | inl inner ↦
                       let same : i ≡ i - 1 + 1 = omega arith in
@@ -148,7 +143,7 @@ module _ (ns : List Point) (a : ℕ) (l r : Point) (f : IsFunnel ns a l r) (x y 
                       let at_a = subst (IsFlat ns l r) same flat in
                       let end = subst (λ n. point_at ns (n + 1) ≡ r) (sym same) (right_of_apex ns a l r f at_a (omega arith)) in
                       let level = first_on_line p q l r x y at_x at_y x_not_right (λ h. positive_not_negative h y_right) low_x low_y flat
-                      (level_on_right ns a l r f i on_right (omega arith) flat) y_right in
+                      (flat_right ns a l r f i on_right (omega arith) flat) y_right in
                       rw end (right_end_not_left l r x y at_x (past_on_line l r x past_x level) low_y)
                 ]
           ]

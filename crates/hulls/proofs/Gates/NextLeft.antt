@@ -10,10 +10,9 @@ use Rattle.plane.specs.Point.{IsPoint, IsSame, Point, Triple, whole}
 use Rattle.plane.specs.Segment.{On}
 use Rattle.rings.specs.Chain.{point_at}
 use Rattle.meshes.proofs.Cones.{not_left_between}
-use Rattle.funnels.proofs.Funnels.{left_old_at, next_left_length, next_left_old, reaches_new}
+use Rattle.funnels.proofs.Funnels.{left_old_at, next_left_length, next_left_old, not_passed_from, passed_from, passed_of, passed_same, reaches_left}
+use Rattle.funnels.proofs.Funnels.{reaches_new, reaches_right}
 use Rattle.funnels.specs.Funnel.{IsFunnel, IsPassed, IsReachedFrom, height}
-use Rattle.hulls.proofs.Gates.FallingEdges.{passed_after, passed_by_number, passed_moved, reaches_left, reaches_right}
-use Rattle.hulls.proofs.Gates.PassedBefore.{not_passed_from_place}
 use Rattle.hulls.proofs.Gates.Towards.{right_towards}
 
 module _ (ns : List Point) (a : ℕ) (l r : Point) (f : IsFunnel ns a l r) (h : ℕ) (m : Point) (beyond : height l r (whole m) <ℤ pos 0)
@@ -28,9 +27,9 @@ module _ (ns : List Point) (a : ℕ) (l r : Point) (f : IsFunnel ns a l r) (h : 
     passed_here : (i : ℕ) → i + 1 ≡ h → IsPassed ns a (i + 1) z
     passed_here i same =
         let within = reached.within in
-        elim (passed_after ns a (whole m) i (subst (λ n. IsPassed ns a n (whole m)) (sym same) (reached.passed (omega (arith, same))))) [
+        elim (passed_from ns a (whole m) i (subst (λ n. IsPassed ns a n (whole m)) (sym same) (reached.passed (omega (arith, same))))) [
           | inl left ↦
-              passed_by_number ns a z i (inl (
+              passed_of ns a z i (inl (
                 left.0,
                 λ is.
                     not_both_positive is
@@ -38,7 +37,7 @@ module _ (ns : List Point) (a : ℕ) (l r : Point) (f : IsFunnel ns a l r) (h : 
                     (whole_is_point r) (at_most_unless left.1) (at_most_unless (reaches_left ns a l r f i left.0).not_left) on),
               ))
           | inr right ↦
-              passed_by_number ns a z i (inr (
+              passed_of ns a z i (inr (
                 right.0,
                 right_towards (whole (point_at ns i)) (whole (point_at ns (i + 1))) z (whole r) (whole m) at_z (whole_is_point r)
                     (whole_is_point m) (on_reversed z (whole m) (whole r) on) other
@@ -53,7 +52,7 @@ module _ (ns : List Point) (a : ℕ) (l r : Point) (f : IsFunnel ns a l r) (h : 
       | inl before ↦
           let same : h - 1 + 1 ≡ h = omega arith in
           let within = reached.within in
-          absurd (not_passed_from_place ns a l r f z at_z low j from_z (h - 1) (omega arith) (omega arith) (passed_here (h - 1) same))
+          absurd (not_passed_from ns a l r f z at_z low j from_z (h - 1 + 1) (omega arith) (omega arith) (passed_here (h - 1) same))
     ]
 
     -- the new edge is passed too,
@@ -61,7 +60,7 @@ module _ (ns : List Point) (a : ℕ) (l r : Point) (f : IsFunnel ns a l r) (h : 
     new_passed =
         let first : point_at (m ∷ drop h ns) (0 + 1) ≡ point_at ns h =
         left_old_at ns h m (m ∷ drop h ns) refl (next_left_old ns m h) 1 h (omega arith) (omega arith) in
-        passed_by_number (m ∷ drop h ns) (a - h + 1) z 0 (inl (
+        passed_of (m ∷ drop h ns) (a - h + 1) z 0 (inl (
           omega arith,
           rw first
               (λ is.
@@ -86,13 +85,13 @@ module _ (ns : List Point) (a : ℕ) (l r : Point) (f : IsFunnel ns a l r) (h : 
           within = omega arith;
           passed = λ _. elim (cases_lt h j) [
             | inl later ↦
-                passed_moved ns ks a b j g z (λ k. omega arith) (λ k. omega arith) (sym (old g j (omega arith) (omega arith)))
+                passed_same ns ks a b j g z (λ k. omega arith) (λ k. omega arith) (sym (old g j (omega arith) (omega arith)))
                 (sym (old (g - 1) (j - 1) (omega arith) (omega arith))) (from_z.passed (omega arith))
             | inr here ↦ let first : 1 ≡ g = omega arith in subst (λ n. IsPassed ks b n z) first new_passed
           ];
           not_passed = λ more passed.
               from_z.not_passed (omega arith)
-              (passed_moved ks ns b a (g + 1) (j + 1) z (λ k. omega arith) (λ k. omega arith)
+              (passed_same ks ns b a (g + 1) (j + 1) z (λ k. omega arith) (λ k. omega arith)
               (old (g + 1) (j + 1) (omega arith) (omega arith)) (old (g + 1 - 1) (j + 1 - 1) (omega arith) (omega arith)) passed);
         }
 

@@ -1,5 +1,5 @@
 -- A point of the side beyond a diagonal, from its left end to m: in the funnel of the points to place h, and m, it is reached from the same place.
-use Rattle.std.proofs.Common.{◌≡◌, inl, inr, sym, subst, List, [], ◌∷◌, ◌++◌, length, take, ℕ, ◌+◌, ◌-◌, ◌<◌, ◌≤◌, min, pos, ◌<ℤ◌, ◌≤ℤ◌, arith}
+use Rattle.std.proofs.Common.{◌≡◌, inl, inr, sym, subst, List, ◌∷◌, ◌++◌, length, take, ℕ, ◌+◌, ◌-◌, ◌<◌, ◌≤◌, min, pos, ◌<ℤ◌, ◌≤ℤ◌, arith, []}
 use Rattle.std.proofs.lemmas.Bool.{cases_lt}
 use Rattle.integer_algebra.proofs.SignSteps.{at_least_unless, not_both, not_both_positive, weak_order, zero_not_negative, zero_not_positive}
 use Rattle.integer_algebra.proofs.Signs.{lt_or_le}
@@ -11,10 +11,9 @@ use Rattle.plane.specs.Turn.{determinant}
 use Rattle.rings.specs.Chain.{point_at}
 use Rattle.ring_laws.proofs.Triangles.{not_right_between}
 use Rattle.meshes.proofs.Cones.{not_left_between}
-use Rattle.funnels.proofs.Funnels.{next_right_last, next_right_length, next_right_old, reaches_new}
+use Rattle.funnels.proofs.Funnels.{next_right_last, next_right_length, next_right_old, passed_from, passed_of, passed_same, passed_to, reaches_left}
+use Rattle.funnels.proofs.Funnels.{reaches_new, reaches_right}
 use Rattle.funnels.specs.Funnel.{IsFunnel, IsPassed, IsReachedFrom, height}
-use Rattle.hulls.proofs.Gates.FallingEdges.{passed_after, passed_by_number, passed_moved, reaches_left, reaches_right}
-use Rattle.hulls.proofs.Gates.PassedBefore.{passed_to_place}
 use Rattle.hulls.proofs.Gates.Towards.{left_towards}
 
 module _ (ns : List Point) (a : ℕ) (l r : Point) (f : IsFunnel ns a l r) (h : ℕ) (m : Point) (beyond : height l r (whole m) <ℤ pos 0)
@@ -27,7 +26,7 @@ module _ (ns : List Point) (a : ℕ) (l r : Point) (f : IsFunnel ns a l r) (h : 
 
     -- the edge after h is not passed on the way to z, as it is not on that to m,
     not_passed_here : h + 1 < length ns → ¬ IsPassed ns a (h + 1) z
-    not_passed_here within passed = elim (passed_after ns a z h passed) [
+    not_passed_here within passed = elim (passed_from ns a z h passed) [
       | inl left ↦
           left.1 (left_towards (whole (point_at ns (h + 1))) (whole (point_at ns h)) z (whole l) (whole m) at_z (whole_is_point l)
           (whole_is_point m) on other (reaches_left ns a l r f h left.0).not_right
@@ -35,18 +34,18 @@ module _ (ns : List Point) (a : ℕ) (l r : Point) (f : IsFunnel ns a l r) (h : 
             | inl is ↦ is
             | inr none ↦
                 absurd (reached.not_passed within
-                (passed_by_number ns a (whole m) h (inl (left.0, λ is. not_both_positive is none))))
+                (passed_of ns a (whole m) h (inl (left.0, λ is. not_both_positive is none))))
           ]))
       | inr right ↦
           not_both right.1
           (not_right_between (whole (point_at ns h)) (whole (point_at ns (h + 1))) z (whole l) (whole m) at_z (whole_is_point l)
           (whole_is_point m) (at_least_unless (reaches_right ns a l r f h right.0 within).not_right)
-          (at_least_unless (λ is. reached.not_passed within (passed_by_number ns a (whole m) h (inr (right.0, is))))) on)
+          (at_least_unless (λ is. reached.not_passed within (passed_of ns a (whole m) h (inr (right.0, is))))) on)
     ]
 
     -- nor is the new edge,
     new_not_passed : ¬ IsPassed (take (h + 1) ns ++ m ∷ []) (min a h) (h + 1) z
-    new_not_passed passed = elim (passed_after (take (h + 1) ns ++ m ∷ []) (min a h) z h passed) [
+    new_not_passed passed = elim (passed_from (take (h + 1) ns ++ m ∷ []) (min a h) z h passed) [
       | inl left ↦ omega (arith, left.0)
       | inr right ↦
           not_both (rw (next_right_old ns m h reached.within h (omega arith), next_right_last ns m h reached.within) at right.1)
@@ -61,7 +60,7 @@ module _ (ns : List Point) (a : ℕ) (l r : Point) (f : IsFunnel ns a l r) (h : 
       | inr le ↦ le
       | inl later ↦
           let within = from_z.within in
-          absurd (not_passed_here (omega arith) (passed_to_place ns a l r f z at_z low j from_z h later))
+          absurd (not_passed_here (omega arith) (passed_to ns a l r f z at_z low j from_z (h + 1) (omega arith) (omega (arith, later))))
     ]
 
     -- and in the funnel of the points to place h, and m, from the same place
@@ -74,12 +73,12 @@ module _ (ns : List Point) (a : ℕ) (l r : Point) (f : IsFunnel ns a l r) (h : 
         record {
           within = omega (arith, next_right_length ns m h top);
           passed = λ some.
-              passed_moved ns ks a (min a h) j j z (λ k. omega arith) (λ k. omega arith) (sym (old j le)) (sym (old (j - 1) (omega arith)))
+              passed_same ns ks a (min a h) j j z (λ k. omega arith) (λ k. omega arith) (sym (old j le)) (sym (old (j - 1) (omega arith)))
               (from_z.passed some);
           not_passed = λ more passed. elim (cases_lt j h) [
             | inl before ↦
                 from_z.not_passed (omega arith)
-                (passed_moved ks ns (min a h) a (j + 1) (j + 1) z (λ k. omega arith) (λ k. omega arith) (old (j + 1) (omega arith))
+                (passed_same ks ns (min a h) a (j + 1) (j + 1) z (λ k. omega arith) (λ k. omega arith) (old (j + 1) (omega arith))
                 (old (j + 1 - 1) (omega arith)) passed)
             | inr last ↦
                 let same : j ≡ h = omega arith in

@@ -6,8 +6,8 @@ use Rattle.integer_algebra.proofs.Signs.{lt_or_le}
 use Rattle.plane.specs.Point.{IsPoint, Point, Triple, whole}
 use Rattle.plane.specs.Turn.{determinant}
 use Rattle.rings.specs.Chain.{point_at}
+use Rattle.funnels.proofs.Funnels.{not_passed_from, passed_to}
 use Rattle.funnels.specs.Funnel.{IsFunnel, IsPassed, IsReachedFrom, height}
-use Rattle.hulls.proofs.Gates.PassedBefore.{not_passed_from_place, passed_to_place}
 use Rattle.hulls.proofs.Gates.PastDiagonals.{IsPastDiagonal, past_not_above}
 
 -- ---- some place
@@ -46,8 +46,8 @@ module _ (ns : List Point) (a : ℕ) (l r : Point) (f : IsFunnel ns a l r) (z : 
   not_twice : (j k : ℕ) → IsReachedFrom ns a j z → IsReachedFrom ns a k z → ¬ (j < k)
   not_twice j k first second less =
       let within = second.within in
-      not_passed_from_place ns a l r f z at_z low j first j (omega arith) (omega (arith, less, within))
-      (passed_to_place ns a l r f z at_z low k second j less)
+      not_passed_from ns a l r f z at_z low j first (j + 1) (omega arith) (omega (arith, less, within))
+      (passed_to ns a l r f z at_z low k second (j + 1) (omega arith) (omega (arith, less)))
 
   -- so two places from which it is reached are one
   one_gate_low : (j k : ℕ) → IsReachedFrom ns a j z → IsReachedFrom ns a k z → j ≡ k

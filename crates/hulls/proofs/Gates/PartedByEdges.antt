@@ -3,15 +3,15 @@
 use Rattle.std.proofs.Common.{◌≡◌, ap, ℤ, pos, ◌-ℤ◌, ◌+ℤ◌, ◌*ℤ◌, neg_ℤ, ◌<ℤ◌, ◌≤ℤ◌, arith}
 use Rattle.std.proofs.lemmas.Int.{ints}
 use Rattle.integer_algebra.proofs.Laws.{neg-mul, zero-mul}
-use Rattle.integer_algebra.proofs.SignSteps.{at_least_unless, at_most_unless, mean_not_positive, opposite_not_negative, opposite_positive}
-use Rattle.integer_algebra.proofs.SignSteps.{zero_not_positive}
+use Rattle.integer_algebra.proofs.SignSteps.{at_least_unless, at_most_unless, mean_not_positive, negative_of_not_zero, opposite_not_negative}
+use Rattle.integer_algebra.proofs.SignSteps.{opposite_positive, zero_not_positive}
 use Rattle.plane.proofs.Points.{whole_is_point}
+use Rattle.plane.proofs.Regions.{four_beside}
 use Rattle.plane.proofs.Turns.{combination_of_ends, determinant_along, determinant_same_ends, determinant_same_last, determinant_shift}
 use Rattle.plane.proofs.Turns.{determinant_shift_back, four_triples_in_W, four_triples_in_X, four_triples_in_Y, on_of_combination}
 use Rattle.plane.specs.Point.{IsPoint, Point, Triple, whole}
 use Rattle.plane.specs.Segment.{On}
 use Rattle.plane.specs.Turn.{IsLeft, IsRight, determinant}
-use Rattle.funnels.proofs.Funnels.{four_on_line}
 use Rattle.funnels.specs.Funnel.{height}
 use Rattle.hulls.proofs.Gates.GateSigns.{first_level, grows, not_left_of_way, second_level}
 
@@ -28,10 +28,6 @@ combined A C D E p q x y none e = omega (arith, ints, ap (λ n. n *ℤ p) none, 
 -- what is below something that is not positive is negative,
 below_low : {a c : ℤ} → a <ℤ c → c ≤ℤ pos 0 → a <ℤ pos 0
 below_low less low = omega (arith, ints)
-
--- and what is not positive is negative, where it is not 0
-negative_unless : {c : ℤ} → c ≤ℤ pos 0 → ¬ (c ≡ pos 0) → c <ℤ pos 0
-negative_unless low some = omega (arith, ints)
 
 -- ---- an edge from p to q, and the points x and y
 
@@ -70,7 +66,7 @@ module _ (p q l r : Point) (x y : Triple) (at_x : IsPoint x) (at_y : IsPoint y) 
     end_not_left =
         not_left_of_way (determinant (whole p) x y) (determinant (whole q) x y) (determinant (whole p) (whole q) x)
         (determinant (whole p) (whole q) y) (height l r (whole p)) (height l r (whole q)) (height l r x) (height l r y) x.W y.W
-        (four_on_line (whole r) (whole l) (whole p) (whole q) x y) areas at_x at_y (at_least_unless not_right) (at_most_unless not_left)
+        (four_beside (whole p) (whole q) x y (whole r) (whole l)) areas at_x at_y (at_least_unless not_right) (at_most_unless not_left)
         low_x low_y
 
     module _ (at_p : height l r (whole p) ≡ pos 0) (at_q : height l r (whole q) ≡ pos 0) where
@@ -79,7 +75,7 @@ module _ (p q l r : Point) (x y : Triple) (at_x : IsPoint x) (at_y : IsPoint y) 
       second_on_line =
           second_level (determinant (whole p) x y) (determinant (whole q) x y) (determinant (whole p) (whole q) x)
           (determinant (whole p) (whole q) y) (height l r (whole p)) (height l r (whole q)) (height l r x) (height l r y) x.W y.W
-          (four_on_line (whole r) (whole l) (whole p) (whole q) x y) areas at_x at_y (at_least_unless not_right) (at_most_unless not_left)
+          (four_beside (whole p) (whole q) x y (whole r) (whole l)) areas at_x at_y (at_least_unless not_right) (at_most_unless not_left)
           low_x low_y at_p at_q
 
       -- and x is, if y is right of it
@@ -87,7 +83,7 @@ module _ (p q l r : Point) (x y : Triple) (at_x : IsPoint x) (at_y : IsPoint y) 
       first_on_line =
           first_level (determinant (whole p) x y) (determinant (whole q) x y) (determinant (whole p) (whole q) x)
           (determinant (whole p) (whole q) y) (height l r (whole p)) (height l r (whole q)) (height l r x) (height l r y) x.W y.W
-          (four_on_line (whole r) (whole l) (whole p) (whole q) x y) areas at_x at_y (at_least_unless not_right) (at_most_unless not_left)
+          (four_beside (whole p) (whole q) x y (whole r) (whole l)) areas at_x at_y (at_least_unless not_right) (at_most_unless not_left)
           low_x low_y at_p at_q
 
     -- where q is not left of the way, and not between x and y, both ends of the edge are right of it
@@ -96,10 +92,10 @@ module _ (p q l r : Point) (x y : Triple) (at_x : IsPoint x) (at_y : IsPoint y) 
     ends_right apart low not_on =
         let more = grows (determinant (whole p) x y) (determinant (whole q) x y) (determinant (whole p) (whole q) x)
         (determinant (whole p) (whole q) y) (height l r (whole p)) (height l r (whole q)) (height l r x) (height l r y) x.W y.W
-        (four_on_line (whole r) (whole l) (whole p) (whole q) x y) areas at_x at_y (at_least_unless not_right) (at_most_unless not_left)
+        (four_beside (whole p) (whole q) x y (whole r) (whole l)) areas at_x at_y (at_least_unless not_right) (at_most_unless not_left)
         apart in
         let right : IsRight x y (whole p) = rw (determinant_shift (whole p) x y) (below_low more low) in
-        (right, rw (determinant_shift (whole q) x y) (negative_unless low (λ none. not_on (on_way right none))))
+        (right, rw (determinant_shift (whole q) x y) (negative_of_not_zero low (λ none. not_on (on_way right none))))
 
 -- ---- the ends of the diagonal
 

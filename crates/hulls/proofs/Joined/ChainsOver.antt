@@ -11,9 +11,8 @@ use Rattle.rings.specs.Sees.{Sees}
 use Rattle.rings.specs.Simple.{IsSimple}
 use Rattle.meshes.proofs.Sight.{sees_before, sees_on}
 use Rattle.funnels.proofs.Bends.{AreOnRay, on_ray_back}
-use Rattle.funnels.proofs.OneChain.{last_of, one_taut_chain, taut_iff_bent}
+use Rattle.funnels.proofs.OneChain.{bend_back, bend_from_ray, last_of, one_taut_chain, taut_iff_bent}
 use Rattle.funnels.proofs.Touched.{only_point}
-use Rattle.hulls.proofs.Joined.BendRays.{bend_back, bend_from_ray}
 use Rattle.hulls.proofs.Joined.LinkedChains.{IsLinked, at_first, at_second, both_length, linked_bent}
 use Rattle.hulls.proofs.Joined.PartChains.{back_at, back_bent, rest_at, sees_back}
 use Rattle.hulls.specs.Joined.{IsOnPath}

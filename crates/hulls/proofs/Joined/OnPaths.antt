@@ -2,6 +2,7 @@
 use Rattle.std.proofs.Common.{◌≡◌, ◌↔◌, inl, inr, sym, subst, ap, ◌∙◌, ℕ, ◌+◌, ◌-◌, ◌<◌, ◌≤◌, List, length, reverse, arith}
 use Rattle.std.proofs.lemmas.Bool.{cases_lt}
 use Rattle.std.proofs.lemmas.List.{length-reverse}
+use Rattle.plane.proofs.Order.{point_or_other}
 use Rattle.plane.proofs.Segments.{on_first_end, on_last_end, on_reversed}
 use Rattle.plane.specs.Point.{Point, whole}
 use Rattle.plane.specs.Segment.{On}
@@ -9,7 +10,6 @@ use Rattle.rings.specs.Bend.{IsBend}
 use Rattle.rings.specs.Chain.{IsBentChain, point_at}
 use Rattle.rings.specs.Simple.{IsSimple}
 use Rattle.funnels.proofs.OneChain.{last_of}
-use Rattle.funnels.proofs.Touched.{point_cases}
 use Rattle.hulls.proofs.Joined.OverPoints.{on_path_of_joined, path_is_taut, step_along, step_differs}
 use Rattle.hulls.proofs.Joined.PartChains.{back_at, back_bent}
 use Rattle.hulls.specs.Joined.{AreJoined, IsFirstStep, IsOnPath}
@@ -46,7 +46,7 @@ module _ (ring : List Point) (some : 3 ≤ length ring) (simple : IsSimple ring)
 
     -- and within a step they are its ends
     joined_on : (k : ℕ) → k + 1 < length path → On (whole v) (whole (point_at path k)) (whole (point_at path (k + 1))) → AreJoined ring v p q
-    joined_on k h on = elim (point_cases v (point_at path k)) [
+    joined_on k h on = elim (point_or_other v (point_at path k)) [
       | inl first ↦
           bend_at k (elim (cases_lt 0 k) [
             | inl less ↦ less
@@ -54,7 +54,7 @@ module _ (ring : List Point) (some : 3 ≤ length ring) (simple : IsSimple ring)
                 let start : k ≡ 0 = omega arith in
                 absurd (step_differs ring v a p step (first ∙ ap (point_at path) start ∙ begins))
           ]) h (sym first)
-      | inr differ ↦ elim (point_cases v (point_at path (k + 1))) [
+      | inr differ ↦ elim (point_or_other v (point_at path (k + 1))) [
         | inl last ↦
             bend_at (k + 1) (omega arith) (elim (cases_lt (k + 1 + 1) (length path)) [
               | inl less ↦ less

@@ -8,10 +8,10 @@ use Rattle.plane.specs.Segment.{On}
 use Rattle.rings.specs.Bend.{IsBend}
 use Rattle.rings.specs.Chain.{IsBentChain, IsPath, IsTaut, point_at}
 use Rattle.rings.specs.Simple.{IsSimple}
-use Rattle.funnels.proofs.OneChain.{last_of, one_bent_chain}
-use Rattle.hulls.proofs.Joined.BendRays.{bend_back}
+use Rattle.funnels.proofs.Chains.{one_bent}
+use Rattle.funnels.proofs.OneChain.{bend_back, last_of, one_bent_chain}
 use Rattle.hulls.proofs.Joined.ChainsOver.{GoesOnTo, goes_on_beyond, goes_on_step, on_path_over, over_bent, over_ends}
-use Rattle.hulls.proofs.Joined.PartChains.{one_bent, rest_at, rest_bent, sees_back}
+use Rattle.hulls.proofs.Joined.PartChains.{rest_at, rest_bent, sees_back}
 use Rattle.hulls.specs.Joined.{AreJoined, IsFirstStep, IsOnPath}
 
 -- ---- paths

@@ -1,13 +1,12 @@
 -- Chains with bends: one of one point, one read backward, and one without its first points.
-use Rattle.std.proofs.Common.{◌≡◌, refl, sym, subst, ap, ◌∙◌, ℕ, ◌+◌, ◌-◌, ◌<◌, List, [], ◌∷◌, length, reverse, drop, arith}
+use Rattle.std.proofs.Common.{◌≡◌, refl, sym, ap, ◌∙◌, ℕ, ◌+◌, ◌-◌, ◌<◌, List, length, reverse, drop, arith}
 use Rattle.std.proofs.lemmas.List.{get_or-drop, get_or-reverse, length-drop, length-reverse}
 use Rattle.plane.proofs.Segments.{on_reversed}
 use Rattle.plane.specs.Point.{Point, whole}
 use Rattle.rings.specs.Chain.{IsBentChain, point_at}
-use Rattle.rings.specs.Inside.{IsIn}
 use Rattle.rings.specs.Ring.{origin}
 use Rattle.rings.specs.Sees.{Sees}
-use Rattle.hulls.proofs.Joined.BendRays.{bend_back}
+use Rattle.funnels.proofs.OneChain.{bend_back}
 
 -- ---- places
 
@@ -25,18 +24,6 @@ module _ (chain : List Point) where
 -- sight goes both ways
 pub sees_back : (ring : List Point) (p q : Point) → Sees ring (whole p) (whole q) → Sees ring (whole q) (whole p)
 sees_back ring p q sees x at_x on = sees x at_x (on_reversed x (whole q) (whole p) on)
-
--- a point in the ring is a chain with bends
-pub one_bent : (ring : List Point) (v : Point) → IsIn ring (whole v) → IsBentChain ring (v ∷ [])
-one_bent ring v inside = record {
-  chain = record {
-    some = omega arith;
-    inside = λ k h. let first : 0 ≡ k = omega arith in subst (λ n. IsIn ring (whole (point_at (v ∷ []) n))) first inside;
-    distinct = λ k h. absurd (omega arith);
-    sees = λ k h. absurd (omega arith);
-  };
-  bends = λ k inner. absurd (omega (arith, inner.not_first, inner.not_last));
-}
 
 module _ (ring : List Point) (chain : List Point) (bent : IsBentChain ring chain) where
   -- read backward a chain with bends is one

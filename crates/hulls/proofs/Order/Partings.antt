@@ -3,8 +3,9 @@ use Rattle.std.proofs.Common.{◌≡◌, ◌≢◌, ◌⊎◌, inl, inr, sym, ap
 use Rattle.std.proofs.lemmas.Int.{ints}
 use Rattle.integer_algebra.proofs.SignSteps.{positive_not_negative, positive_not_zero}
 use Rattle.integer_algebra.proofs.Signs.{factor_positive, mul_positive}
-use Rattle.plane.proofs.Points.{same_whole, whole_is_point}
-use Rattle.plane.proofs.Segments.{on_antisym, on_first_end, on_nested, on_total}
+use Rattle.plane.proofs.Order.{point_or_other}
+use Rattle.plane.proofs.Points.{whole_is_point}
+use Rattle.plane.proofs.Segments.{nearer_each, nearer_on, on_total}
 use Rattle.plane.proofs.Turns.{determinant_same_last}
 use Rattle.plane.specs.Point.{Point, whole}
 use Rattle.plane.specs.Segment.{On}
@@ -13,7 +14,6 @@ use Rattle.rings.specs.Bend.{IsBend}
 use Rattle.rings.specs.Chain.{IsBentChain, point_at}
 use Rattle.rings.specs.Simple.{IsSimple}
 use Rattle.funnels.proofs.Bends.{AreOnRay, turning_differs, turning_four, turning_from_ray, turning_to_ray}
-use Rattle.funnels.proofs.Touched.{point_cases}
 use Rattle.hulls.proofs.Order.TurnedAlike.{not_both_sides}
 use Rattle.hulls.proofs.Order.Ways.{IsLeftOf, TurnsLeft}
 use Rattle.hulls.specs.Turning.{apart, first_nearer, second_nearer}
@@ -40,8 +40,8 @@ bend_after ring v p s first rest bent is =
     chain.bends 1 (record { not_first = omega arith; not_last = omega arith })
 
 -- lists that begin with r and with s
-same_first : (ps : List Point) (r s : Point) (rest last : List Point) → ps ≡ r ∷ rest → ps ≡ s ∷ last → r ≡ s
-same_first ps r s rest last e f = ap (λ points. point_at points 0) (sym e ∙ f)
+pub same_first : {r s : Point} {rest last ps : List Point} → ps ≡ r ∷ rest → ps ≡ s ∷ last → r ≡ s
+same_first e f = ap (λ points. point_at points 0) (sym e ∙ f)
 
 module _ (v n : Point) where
   -- what is ahead of it is not v
@@ -54,17 +54,6 @@ module _ (v n : Point) where
     last_differs = turning_differs true v (whole n) (whole q) ahead_q;
     on_ray = on;
   }
-
--- two points, each nearer to v than the other, are one
-pub nearer_each : (v p q : Point) → On (whole p) (whole v) (whole q) → On (whole q) (whole v) (whole p) → p ≡ q
-nearer_each v p q on back =
-    same_whole p q (on_antisym (whole p) (whole q) (whole v) (whole_is_point p) (whole_is_point q) (whole_is_point v) on back)
-
--- from nearer to nearer
-pub nearer_on : (v p q r : Point) → On (whole p) (whole v) (whole q) → On (whole q) (whole v) (whole r) → On (whole p) (whole v) (whole r)
-nearer_on v p q r first last =
-    on_nested (whole p) (whole v) (whole q) (whole v) (whole r) (whole_is_point p) (whole_is_point v) (whole_is_point q) (whole_is_point v)
-    (whole_is_point r) (on_first_end (whole v) (whole r)) last first
 
 module _ (ring : List Point) (some : 3 ≤ length ring) (simple : IsSimple ring) (v n p q r : Point) (first second third : List Point)
     (bent : IsBentChain ring (v ∷ p ∷ first)) (bent_last : IsBentChain ring (v ∷ r ∷ third))
@@ -81,7 +70,7 @@ module _ (ring : List Point) (some : 3 ≤ length ring) (simple : IsSimple ring)
   both_nearer : (s t : Point) (rest last : List Point) → On (whole p) (whole v) (whole q) → On (whole r) (whole v) (whole q)
       → first ≡ s ∷ rest → IsRight (whole v) (whole p) (whole s) → third ≡ t ∷ last → IsLeft (whole v) (whole r) (whole t)
       → IsLeftOf v (p ∷ first) (r ∷ third)
-  both_nearer s t rest last on_p on_r is right is_too left = elim (point_cases p r) [
+  both_nearer s t rest last on_p on_r is right is_too left = elim (point_or_other p r) [
     | inl e ↦
         absurd (not_both_sides ring some simple v r t s (bend_after ring v r t third last bent_last is_too)
         (subst (λ x. IsBend ring v x s) e (bend_after ring v p s first rest bent is)) left
@@ -114,7 +103,7 @@ module _ (ring : List Point) (some : 3 ≤ length ring) (simple : IsSimple ring)
   left_at_once (first_nearer s rest on is right) (second_nearer t last on_too is_too left) =
       both_nearer s t rest last on on_too is right is_too left
   left_at_once (second_nearer s rest on is left) (first_nearer t last on_too is_too right) =
-      absurd (positive_not_negative left (subst (λ x. IsRight (whole v) (whole q) (whole x)) (same_first second t s last rest is_too is) right))
+      absurd (positive_not_negative left (subst (λ x. IsRight (whole v) (whole q) (whole x)) (same_first is_too is) right))
   left_at_once (second_nearer s rest on is left) (second_nearer t last on_too is_too left_too) =
       inl (
         (λ e. differ_too (nearer_each v q r (subst (λ x. On (whole q) (whole v) (whole x)) e on) on_too)),

@@ -7,8 +7,8 @@ use Rattle.plane.specs.Point.{Point, whole}
 use Rattle.plane.specs.Turn.{IsLeft, IsRight, determinant}
 use Rattle.rings.specs.Bend.{IsBend}
 use Rattle.rings.specs.Simple.{IsSimple}
+use Rattle.funnels.proofs.OneChain.{bend_back}
 use Rattle.hulls.proofs.Cones.{joined_one_side}
-use Rattle.hulls.proofs.Joined.{bend_back}
 
 module _ (ring : List Point) (some : 3 ≤ length ring) (simple : IsSimple ring) (v q r s : Point) (bend : IsBend ring v q r)
     (bend_too : IsBend ring v q s) where

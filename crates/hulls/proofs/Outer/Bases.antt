@@ -1,11 +1,12 @@
 -- A point that is not between points of a list, and from which the paths to them start on one side of a line: one of them is the last seen.
 use Rattle.std.proofs.Common.{◌≢◌, ◌⊎◌, inl, inr, sym, ℕ, ◌<◌, ◌≤◌, List, [], ◌∷◌, length, arith}
 use Rattle.std.proofs.lemmas.Bool.{cases_lt}
+use Rattle.plane.proofs.Order.{point_or_other}
 use Rattle.plane.specs.Point.{Point, whole}
 use Rattle.rings.specs.Chain.{IsPath, point_at}
 use Rattle.rings.specs.Inside.{IsIn}
 use Rattle.rings.specs.Simple.{IsSimple}
-use Rattle.funnels.proofs.Touched.{point_cases}
+use Rattle.hulls.proofs.Entrances.{paths}
 use Rattle.hulls.proofs.Joined.{path_is_taut}
 use Rattle.hulls.proofs.Order.{AreAhead}
 use Rattle.hulls.proofs.Outer.Lasts.{IsLast, last_of_some}
@@ -13,7 +14,6 @@ use Rattle.hulls.proofs.Outer.Seen.{ComesAfter, HasWay, after_follows, one_comes
 use Rattle.hulls.proofs.Third.{step_of_list}
 use Rattle.hulls.specs.Inner.{AreAllIn, AreDistinct}
 use Rattle.hulls.specs.Joined.{IsFirstStep, IsOnPath}
-use Rattle.hulls.specs.Laws.{PathsLaw}
 
 -- ---- points of a list
 
@@ -25,7 +25,7 @@ IsOther points x u = (u < length points) × (point_at points u ≢ x)
 other_or_not : (points : List Point) (x : Point) (u : ℕ) → IsOther points x u ⊎ (¬ IsOther points x u)
 other_or_not points x u = elim (cases_lt u (length points)) [
   | inr none ↦ inr (λ h. omega (arith, h.0))
-  | inl below ↦ elim (point_cases (point_at points u) x) [
+  | inl below ↦ elim (point_or_other (point_at points u) x) [
     | inl same ↦ inr (λ h. h.1 same)
     | inr differ ↦ inl (below, differ)
   ]
@@ -62,7 +62,7 @@ pub step_of_way : (ring : List Point) (x y : Point) (way : List Point) → IsPat
 step_of_way ring x y [] is differ = absurd (differ (path_is_taut ring x y (x ∷ []) is).last)
 step_of_way ring x y (p ∷ rest) is differ = step_of_list ring x y p rest is
 
-module _ (ring : List Point) (some : 3 ≤ length ring) (simple : IsSimple ring) (paths : PathsLaw) (points : List Point)
+module _ (ring : List Point) (some : 3 ≤ length ring) (simple : IsSimple ring) (points : List Point)
     (distinct : AreDistinct points) (all_in : AreAllIn ring points) where
   -- there is a path to each point of the list
   pub way_to : (x : Point) → IsIn ring (whole x) → (u : ℕ) → u < length points → HasWay ring x (point_at points u)

@@ -1,9 +1,9 @@
 -- Ways on from one point that go no farther than another.
 use Rattle.std.proofs.Common.{◌≡◌, ◌⊎◌, inl, inr, refl, sym, ap, subst, ◌∙◌, List, [], ◌∷◌, length, arith}
-use Rattle.plane.proofs.Segments.{on_last_end}
+use Rattle.plane.proofs.Segments.{nearer_each, nearer_on, on_last_end}
 use Rattle.plane.specs.Point.{Point, whole}
 use Rattle.plane.specs.Segment.{On}
-use Rattle.hulls.proofs.Order.{HasFirst, nearer_each, nearer_on}
+use Rattle.hulls.proofs.Order.{HasFirst}
 
 -- a way on from v goes no farther than another: it ends where that is, or on the way to its next point
 abbrev pub IsFrontOf : Point → List Point → List Point → Type 0

@@ -1,8 +1,9 @@
 -- Ways on from one point of which one goes no farther than another, and that parts from a third, or a third from it, to the left.
 use Rattle.std.proofs.Common.{◌≡◌, ◌≢◌, ◌⊎◌, inl, inr, refl, sym, subst, ◌∙◌, true, ◌≤◌, List, [], ◌∷◌, length, arith}
 use Rattle.integer_algebra.proofs.SignSteps.{positive_not_zero}
+use Rattle.plane.proofs.Order.{point_or_other}
 use Rattle.plane.proofs.Points.{whole_is_point}
-use Rattle.plane.proofs.Segments.{on_is_straight, on_last_end, on_total}
+use Rattle.plane.proofs.Segments.{nearer_each, nearer_on, on_is_straight, on_last_end, on_total}
 use Rattle.plane.proofs.Turns.{determinant_same_ends, determinant_same_last}
 use Rattle.plane.specs.Point.{Point, whole}
 use Rattle.plane.specs.Segment.{On}
@@ -10,9 +11,8 @@ use Rattle.plane.specs.Turn.{IsLeft}
 use Rattle.rings.specs.Chain.{IsBentChain}
 use Rattle.rings.specs.Simple.{IsSimple}
 use Rattle.funnels.proofs.Bends.{on_ray_back, turning_from_ray, turning_to_ray}
-use Rattle.funnels.proofs.Touched.{point_cases}
 use Rattle.hulls.proofs.Joined.{rest_bent}
-use Rattle.hulls.proofs.Order.{IsLeftOf, TurnsLeft, first_of_other, left_of_alike, nearer_each, nearer_on, right_of_alike}
+use Rattle.hulls.proofs.Order.{IsLeftOf, TurnsLeft, first_of_other, left_of_alike, right_of_alike}
 use Rattle.hulls.proofs.Outer.Fronts.{IsFrontOf, ends_or_goes_on, no_first}
 use Rattle.hulls.proofs.Third.{ray_of_on}
 use Rattle.hulls.specs.Turning.{apart, first_nearer, second_nearer}
@@ -62,7 +62,7 @@ module _ (v p q r : Point) (first second third : List Point) where
   left_of_ended none on other (inl (differ, second_nearer s rest on_too is left)) =
       elim (on_total (whole p) (whole r) (whole v) (whole q) (whole_is_point p) (whole_is_point r) (whole_is_point v) (whole_is_point q) on on_too) [
         | inl before ↦ inr (inr (none, before))
-        | inr after ↦ elim (point_cases p r) [
+        | inr after ↦ elim (point_or_other p r) [
           | inl e ↦ inr (inr (none, subst (λ x. On (whole p) (whole v) (whole x)) e (on_last_end (whole v) (whole p))))
           | inr apart_too ↦ inl (inl (apart_too, second_nearer s rest after is left))
         ]

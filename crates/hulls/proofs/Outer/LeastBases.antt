@@ -23,7 +23,6 @@ use Rattle.hulls.proofs.Outer.LeastPoints.{IsLeastPoint}
 use Rattle.hulls.proofs.Third.{list_of_step}
 use Rattle.hulls.specs.Inner.{AreAllIn, AreDistinct}
 use Rattle.hulls.specs.Joined.{AreJoined, IsFirstStep}
-use Rattle.hulls.specs.Laws.{PathsLaw}
 
 -- ---- points after a point
 
@@ -93,12 +92,12 @@ module _ (ring : List Point) (some : 3 ≤ length ring) (simple : IsSimple ring)
   none_joined_over p q h k (inr bend) = not_reflex bend.reflex
 
   -- and it is a base
-  pub least_base : PathsLaw → AreDistinct points → AreAllIn ring points → IsBase ring points w
-  least_base paths distinct all_in = record {
+  pub least_base : AreDistinct points → AreAllIn ring points → IsBase ring points w
+  least_base distinct all_in = record {
     x_in = least.w_in;
     not_between = λ u v is_u is_v differ on.
-        let to_u = way_to ring some simple paths points distinct all_in w least.w_in u is_u.0 in
-        let to_v = way_to ring some simple paths points distinct all_in w least.w_in v is_v.0 in
+        let to_u = way_to ring some simple points distinct all_in w least.w_in u is_u.0 in
+        let to_v = way_to ring some simple points distinct all_in w least.w_in v is_v.0 in
         let step_u = step_of_way ring w (point_at points u) to_u.way to_u.is_path (λ same. is_u.1 (sym same)) in
         let step_v = step_of_way ring w (point_at points v) to_v.way to_v.is_path (λ same. is_v.1 (sym same)) in
         none_joined_over _ _ (goes_forward u is_u.0 _ step_u) (goes_forward v is_v.0 _ step_v)

@@ -2,15 +2,15 @@
 use Rattle.std.proofs.Common.{◌≡◌, inl, inr, refl, sym, subst, ap, ◌∙◌, ℕ, ◌+◌, ◌-◌, ◌<◌, ◌≤◌, List, ◌++◌, length, arith}
 use Rattle.std.proofs.lemmas.Bool.{cases_eq, cases_lt}
 use Rattle.plane.proofs.Order.{after, before, before_asym, before_or_not, before_trans, compare_points, equal}
-use Rattle.plane.proofs.Segments.{on_first_end}
 use Rattle.plane.specs.Order.{IsBefore}
 use Rattle.plane.specs.Point.{Point, whole}
-use Rattle.rings.proofs.Vertices.{on_some_from, vertex_in_range}
+use Rattle.rings.proofs.Inside.{vertex_in}
+use Rattle.rings.proofs.Vertices.{vertex_in_range}
 use Rattle.rings.specs.Chain.{point_at}
 use Rattle.rings.specs.Inside.{IsIn}
 use Rattle.rings.specs.Ring.{origin, vertex}
+use Rattle.hulls.proofs.Joined.{at_first, at_second, both_length}
 use Rattle.hulls.proofs.Outer.Lasts.{last_of_some}
-use Rattle.hulls.proofs.Turning.{all_length, at_front, at_rest}
 use Rattle.hulls.specs.Inner.{AreAllIn}
 
 -- no vertex and none of the points is before w, which is in the ring
@@ -18,10 +18,6 @@ pub record IsLeastPoint (ring points : List Point) (w : Point) : Type 0 where
   pub w_in : IsIn ring (whole w)
   pub no_vertex : (i : ℕ) → i < length ring → ¬ IsBefore (vertex ring i) w
   pub no_point : (i : ℕ) → i < length points → ¬ IsBefore (point_at points i) w
-
--- a vertex is in the ring
-vertex_in : (ring : List Point) (i : ℕ) → i < length ring → IsIn ring (whole (vertex ring i))
-vertex_in ring i h = inl (on_some_from (whole (vertex ring i)) ring i h (on_first_end (whole (vertex ring i)) (whole (vertex ring (i + 1)))))
 
 -- what is not after a point that is not after another is not after that
 not_after_follows : (p q r : Point) → ¬ IsBefore p q → ¬ IsBefore q r → ¬ IsBefore p r
@@ -37,11 +33,11 @@ module _ (ring : List Point) (some : 3 ≤ length ring) (points : List Point) (a
 
   -- the vertices are among them,
   at_vertex : (i : ℕ) → i < length ring → point_at all i ≡ vertex ring i
-  at_vertex i h = at_front ring points i h ∙ sym (vertex_in_range ring i origin h)
+  at_vertex i h = at_first ring points i h ∙ sym (vertex_in_range ring i origin h)
 
   -- and the points
   at_point : (i : ℕ) → point_at all (length ring + i) ≡ point_at points i
-  at_point i = at_rest ring points (length ring + i) i refl
+  at_point i = at_second ring points (length ring + i) i refl
 
   -- each is in the ring
   each_in : (i : ℕ) → i < length all → IsIn ring (whole (point_at all i))
@@ -49,7 +45,7 @@ module _ (ring : List Point) (some : 3 ≤ length ring) (points : List Point) (a
     | inl below ↦ subst (λ p. IsIn ring (whole p)) (sym (at_vertex i below)) (vertex_in ring i below)
     | inr more ↦
         let k = i - length ring in
-        let size = all_length ring points in
+        let size = both_length ring points in
         let is : length ring + k ≡ i = omega arith in
         subst (λ p. IsIn ring (whole p)) (sym (at_point k) ∙ ap (point_at all) is) (all_in k (omega (arith, size, h)))
   ]
@@ -57,7 +53,7 @@ module _ (ring : List Point) (some : 3 ≤ length ring) (points : List Point) (a
   -- so one of them is least
   pub least_point : (w : Point) × IsLeastPoint ring points w
   least_point =
-      let size = all_length ring points in
+      let size = both_length ring points in
       let found = last_of_some (λ u. Unit {0}) (λ u. inl tt) (λ u v. ¬ IsBefore (point_at all u) (point_at all v))
       (λ u v is_u is_v differ. elim (before_or_not (point_at all u) (point_at all v)) [
         | inl h ↦ inr (before_asym (point_at all u) (point_at all v) h)

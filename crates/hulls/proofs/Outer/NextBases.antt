@@ -1,10 +1,11 @@
 -- The last point seen from a base is not inner, and is a base.
 use Rattle.std.proofs.Common.{◌≢◌, inl, inr, sym, subst, ap, ◌∙◌, ℕ, ◌<◌, ◌≤◌, List, length}
+use Rattle.plane.proofs.Order.{point_or_other}
 use Rattle.plane.specs.Point.{Point, whole}
 use Rattle.rings.specs.Chain.{point_at}
 use Rattle.rings.specs.Inside.{IsIn}
 use Rattle.rings.specs.Simple.{IsSimple}
-use Rattle.funnels.proofs.Touched.{point_cases}
+use Rattle.hulls.proofs.Entrances.{paths}
 use Rattle.hulls.proofs.Joined.{joined_of_on_path, on_path_of_joined}
 use Rattle.hulls.proofs.Order.{IsLeftOn, ahead_of_left}
 use Rattle.hulls.proofs.Outer.Bases.{IsBase, IsLastSeen, IsOther, points_differ, step_of_way, way_to}
@@ -13,10 +14,9 @@ use Rattle.hulls.proofs.Outer.Seen.{HasWay, not_on_path_before, on_path_or_not, 
 use Rattle.hulls.proofs.Third.{from_third, on_path_back}
 use Rattle.hulls.specs.Inner.{AreAllIn, AreDistinct, IsInnerPoint}
 use Rattle.hulls.specs.Joined.{AreJoined, IsFirstStep, IsOnPath}
-use Rattle.hulls.specs.Laws.{PathsLaw, StepsLaw}
 use Rattle.hulls.specs.Turning.{IsToLeft}
 
-module _ (ring : List Point) (some : 3 ≤ length ring) (simple : IsSimple ring) (paths : PathsLaw) (steps : StepsLaw) (points : List Point)
+module _ (ring : List Point) (some : 3 ≤ length ring) (simple : IsSimple ring) (points : List Point)
     (distinct : AreDistinct points) (all_in : AreAllIn ring points) (x : Point) (base : IsBase ring points x) (b : ℕ)
     (last : IsLastSeen ring points x b) where
   abbrev at : ℕ → Point
@@ -29,7 +29,7 @@ module _ (ring : List Point) (some : 3 ≤ length ring) (simple : IsSimple ring)
   z_in = all_in b last.below
 
   to : (u : ℕ) → u < length points → HasWay ring x (point_at points u)
-  to u h = way_to ring some simple paths points distinct all_in x base.x_in u h
+  to u h = way_to ring some simple points distinct all_in x base.x_in u h
 
   other_number : (u : ℕ) → point_at points u ≢ z → u ≢ b
   other_number u differ e = differ (ap (point_at points) e)
@@ -66,11 +66,11 @@ module _ (ring : List Point) (some : 3 ≤ length ring) (simple : IsSimple ring)
         not_a = base.not_between u b is last.is differ;
         not_b = off;
         not_c = not_before u is differ;
-      }) (steps ring some simple (point_at points u) (all_in u is.0)) _ _ to_u.is_path to_z.is_path left
+      }) _ _ to_u.is_path to_z.is_path left
 
   -- on the ray of the first step to the base, or to the left of it
   starts : (u : ℕ) → IsOther points z u → (f : Point) → IsFirstStep ring z (point_at points u) f → IsLeftOn z e f
-  starts u is f step_too = elim (point_cases (point_at points u) x) [
+  starts u is f step_too = elim (point_or_other (point_at points u) x) [
     | inl same ↦ inr (starts_there ring some simple z x (point_at points u) e f step step_too same)
     | inr other ↦
         let differ = other_number u is.1 in
@@ -101,8 +101,8 @@ module _ (ring : List Point) (some : 3 ≤ length ring) (simple : IsSimple ring)
   none_joined u v is_u is_v differ_u differ_v on =
       let apart_u = points_differ points distinct u b is_u.0 last.below differ_u in
       let apart_v = points_differ points distinct v b is_v.0 last.below differ_v in
-      let to_u = way_to ring some simple paths points distinct all_in z z_in u is_u.0 in
-      let to_v = way_to ring some simple paths points distinct all_in z z_in v is_v.0 in
+      let to_u = way_to ring some simple points distinct all_in z z_in u is_u.0 in
+      let to_v = way_to ring some simple points distinct all_in z z_in v is_v.0 in
       let step_u = step_of_way ring z (point_at points u) to_u.way to_u.is_path (λ same. apart_u (sym same)) in
       let step_v = step_of_way ring z (point_at points v) to_v.way to_v.is_path (λ same. apart_v (sym same)) in
       one_joined_with_first ring z e (first_differs ring z x e step) _ _ (first_differs ring z _ _ step_u) (first_differs ring z _ _ step_v)
@@ -116,11 +116,11 @@ module _ (ring : List Point) (some : 3 ≤ length ring) (simple : IsSimple ring)
       let c = inner.a in
       let d = inner.b in
       let apart = points_differ points distinct c d inner.a_in_list inner.b_in_list inner.different in
-      elim (point_cases (point_at points c) x) [
+      elim (point_or_other (point_at points c) x) [
         | inl same ↦
             not_before d (inner.b_in_list, λ same_too. apart (same ∙ sym same_too)) inner.not_b
             (subst (λ p. IsOnPath ring p (point_at points d) z) same inner.passes)
-        | inr other ↦ elim (point_cases (point_at points d) x) [
+        | inr other ↦ elim (point_or_other (point_at points d) x) [
           | inl same ↦
               not_before c (inner.a_in_list, other) inner.not_a
               (on_path_back ring some simple (point_at points c) x z (subst (λ p. IsOnPath ring (point_at points c) p z) same inner.passes))

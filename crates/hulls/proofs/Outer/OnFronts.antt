@@ -1,5 +1,6 @@
 -- A point is on the path from t to another exactly if the path to it is a front of the path there.
 use Rattle.std.proofs.Common.{◌≡◌, ◌≢◌, inl, inr, refl, sym, subst, ap, ◌∙◌, ℕ, zero, suc, ◌+◌, ◌-◌, ◌<◌, ◌≤◌, List, [], ◌∷◌, length, drop, arith}
+use Rattle.plane.proofs.Order.{point_or_other}
 use Rattle.plane.proofs.Points.{whole_is_point}
 use Rattle.plane.proofs.Segments.{on_last_end}
 use Rattle.plane.specs.Point.{Point, whole}
@@ -9,9 +10,9 @@ use Rattle.rings.specs.Chain.{IsBentChain, IsPath, point_at}
 use Rattle.rings.specs.Simple.{IsSimple}
 use Rattle.meshes.proofs.Sight.{sees_before}
 use Rattle.funnels.proofs.Bends.{on_ray_back}
-use Rattle.funnels.proofs.OneChain.{bent_is_path, last_of}
-use Rattle.funnels.proofs.Touched.{point_cases}
-use Rattle.hulls.proofs.Joined.{GoesOnTo, bend_to_ray, one_bent, path_is_taut, rest_at, rest_bent}
+use Rattle.funnels.proofs.Chains.{one_bent}
+use Rattle.funnels.proofs.OneChain.{bend_on_ray, bent_is_path, last_of}
+use Rattle.hulls.proofs.Joined.{GoesOnTo, path_is_taut, rest_at, rest_bent}
 use Rattle.hulls.proofs.Outer.Fronts.{IsFrontOf}
 use Rattle.hulls.proofs.Third.{ray_of_on, with_point, with_point_ends}
 use Rattle.hulls.proofs.Turning.{one_path}
@@ -39,7 +40,7 @@ module _ (ring : List Point) where
   front_bends v q (x ∷ xs) (y ∷ ys) bent bent_one (inl h) some =
       subst (IsBend ring v q) (sym h.0) (bent.bends 1 (record { not_first = omega arith; not_last = omega arith }))
   front_bends v q (x ∷ xs) (y ∷ ys) bent bent_one (inr h) some =
-      bend_to_ray ring v q y x (on_ray_back (ray_of_on q x y h.1 (λ e. bent_one.chain.distinct 0 (omega arith) (sym e))))
+      bend_on_ray ring v q y x (on_ray_back (ray_of_on q x y h.1 (λ e. bent_one.chain.distinct 0 (omega arith) (sym e))))
       (bent.bends 1 (record { not_first = omega arith; not_last = omega arith }))
 
   module _ (v q : Point) (second : List Point) (bent : IsBentChain ring (v ∷ q ∷ second)) where
@@ -76,7 +77,7 @@ module _ (ring : List Point) where
   front_to : (k : ℕ) (v u : Point) (way : List Point) → IsBentChain ring (v ∷ way) → k + 1 < length (v ∷ way)
       → On (whole u) (whole (point_at (v ∷ way) k)) (whole (point_at (v ∷ way) (k + 1))) → HasFrontTo v u way
   front_to k v u [] bent h on = absurd (omega (arith, h))
-  front_to zero v u (q ∷ second) bent h on = elim (point_cases u v) [
+  front_to zero v u (q ∷ second) bent h on = elim (point_or_other u v) [
     | inl e ↦ record { one = []; bent = one_bent ring v (bent.chain.inside 0 (omega arith)); ends = sym e; front = tt }
     | inr differ ↦ first_front v q second bent u on differ
   ]

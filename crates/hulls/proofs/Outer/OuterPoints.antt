@@ -8,7 +8,6 @@ use Rattle.hulls.proofs.Entrances.{paths}
 use Rattle.hulls.proofs.Outer.Bases.{points_differ, way_to}
 use Rattle.hulls.proofs.Outer.Lasts.{some_or_none}
 use Rattle.hulls.proofs.Outer.Seen.{HasWay, on_path_or_not}
-use Rattle.hulls.proofs.StepsSeen.{steps}
 use Rattle.hulls.proofs.Third.{from_third}
 use Rattle.hulls.proofs.Turning.{exchanged_back, one_way}
 use Rattle.hulls.specs.Inner.{AreAllIn, AreDistinct, IsInnerPoint}
@@ -93,7 +92,7 @@ module _ (ring : List Point) (some : 3 ≤ length ring) (simple : IsSimple ring)
   -- from each there is a path to each
   pub way : (s t : ℕ) → IsOuter ring points s → IsOuter ring points t → HasWay ring (point_at points s) (point_at points t)
   way s t is_s is_t =
-      way_to ring some simple paths points distinct all_in (point_at points s) (all_in s is_s.in_list) t is_t.in_list
+      way_to ring some simple points distinct all_in (point_at points s) (all_in s is_s.in_list) t is_t.in_list
 
   -- ---- three
 
@@ -151,8 +150,7 @@ module _ (ring : List Point) (some : 3 ≤ length ring) (simple : IsSimple ring)
     left_from_last left =
         let to_t = way s t three.first three.second in
         let to_u = way s u three.first three.third in
-        from_third ring some simple (point_at points s) (point_at points t) (point_at points u) free
-        (steps ring some simple (point_at points t) (all_in t three.second.in_list)) _ _ to_t.is_path to_u.is_path left
+        from_third ring some simple (point_at points s) (point_at points t) (point_at points u) free _ _ to_t.is_path to_u.is_path left
 
   -- and from the one after the first
   pub left_from_next : (s t u : ℕ) → AreOuter ring points s t u → IsToLeft ring (point_at points s) (point_at points t) (point_at points u)

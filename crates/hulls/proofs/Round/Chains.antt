@@ -1,7 +1,8 @@
 -- From a start the sides close to a round.
 use Rattle.std.proofs.Common.{◌≡◌, ◌≢◌, inl, inr, refl, sym, subst, ◌∙◌, ℕ, zero, suc, ◌+◌, ◌-◌, ◌<◌, List, [], ◌∷◌, ◌++◌, length, slice_index, arith}
 use Rattle.std.proofs.lemmas.Bool.{cases_eq, cases_lt}
-use Rattle.hulls.proofs.Round.Places.{HasNoneTwice, IsIn, at_most, is_in_or_not, length_more, more_at, more_last, more_once}
+use Rattle.std.proofs.lemmas.List.{length_push}
+use Rattle.hulls.proofs.Round.Places.{HasNoneTwice, IsIn, at_most, is_in_or_not, more_at, more_last, more_once}
 use Rattle.hulls.proofs.Round.Sides.{end_starts, one_start}
 use Rattle.hulls.specs.Round.{AreTurning, IsSideOf}
 
@@ -40,17 +41,17 @@ module _ (n : ℕ) (Left : ℕ → ℕ → ℕ → Type 0) (turning : AreTurning
   longer_chain : (chain : List ℕ) (t u : ℕ) → IsChain n Left chain t → ((i : ℕ) → i < length chain → slice_index chain i ≢ t)
       → IsSideOf n Left t u → IsChain n Left (chain ++ t ∷ []) u
   longer_chain chain t u is new side = record {
-    some = omega (arith, length_more chain t);
+    some = omega (arith, length_push chain t);
     distinct = more_once chain t is.distinct new;
     steps = λ i within. elim (cases_lt (i + 1) (length chain)) [
       | inl inner ↦ rw (more_at chain t i (omega arith), more_at chain t (i + 1) inner) (is.steps i inner)
       | inr past ↦
-          let at_last : i ≡ length chain - 1 = omega (arith, length_more chain t) in
-          let next : i + 1 ≡ length chain = omega (arith, length_more chain t, is.some) in
+          let at_last : i ≡ length chain - 1 = omega (arith, length_push chain t) in
+          let next : i + 1 ≡ length chain = omega (arith, length_push chain t, is.some) in
           rw (more_at chain t i (omega arith), next, more_last chain t, at_last) is.last
     ];
     last =
-        let end : length chain ≡ length (chain ++ t ∷ []) - 1 = omega (arith, length_more chain t) in
+        let end : length chain ≡ length (chain ++ t ∷ []) - 1 = omega (arith, length_push chain t) in
         rw (← end, more_last chain t) side;
   }
 
@@ -62,7 +63,7 @@ module _ (n : ℕ) (Left : ℕ → ℕ → ℕ → Type 0) (turning : AreTurning
     | inl found ↦ (chain, subst (IsChain n Left chain) (sym (ends_at_first chain t is found)) is, refl)
     | inr new ↦
         let (u, side) = end_starts n Left turning _ t is.last in
-        let (round, closes, first) = closed_chain k (chain ++ t ∷ []) u (omega (arith, length_more chain t)) (longer_chain chain t u is new side) in
+        let (round, closes, first) = closed_chain k (chain ++ t ∷ []) u (omega (arith, length_push chain t)) (longer_chain chain t u is new side) in
         (round, closes, first ∙ more_at chain t 0 is.some)
   ]
 

@@ -1,10 +1,10 @@
 -- Two rounds from one number are equal, and from each start there is one.
-use Rattle.std.proofs.Common.{◌≡◌, ◌≢◌, ◌↔◌, inl, inr, refl, sym, subst, ◌∙◌, ℕ, zero, suc, ◌+◌, ◌-◌, ◌<◌, List, length, slice_index, arith}
+use Rattle.std.proofs.Common.{◌≡◌, ◌≢◌, ◌↔◌, inl, inr, refl, sym, ◌∙◌, ℕ, zero, suc, ◌+◌, ◌-◌, ◌<◌, List, length, slice_index, arith, ap}
 use Rattle.std.proofs.lemmas.Bool.{cases_order}
 use Rattle.std.proofs.lemmas.List.{ext_get_or}
 use Rattle.hulls.proofs.Round.AllSides.{after_inner, after_last, closed_is_round, place_after}
 use Rattle.hulls.proofs.Round.Chains.{closes_from}
-use Rattle.hulls.proofs.Round.Sides.{one_end}
+use Rattle.hulls.proofs.Round.Places.{one_place}
 use Rattle.hulls.specs.Round.{AreTurning, Follows, IsRoundOf, IsSideOf}
 
 -- a list has no number twice, and the pairs that follow each other in it are exactly the sides
@@ -12,7 +12,7 @@ pub record IsRoundBy (Side : ℕ → ℕ → Type 0) (round : List ℕ) : Type 0
   pub distinct : (i j : ℕ) → i < j → j < length round → slice_index round i ≢ slice_index round j
   pub sides : (s t : ℕ) → Side s t ↔ Follows round s t
 
-module _ (Side : ℕ → ℕ → Type 0) (one_end : (s t u : ℕ) → Side s t → Side s u → t ≡ u) where
+module _ (Side : ℕ → ℕ → Type 0) where
   -- a side goes from each number of a round to the one that follows
   pub side_after : (round : List ℕ) → IsRoundBy Side round → (i : ℕ) → i < length round
       → Side (slice_index round i) (slice_index round (place_after round i))
@@ -22,8 +22,10 @@ module _ (Side : ℕ → ℕ → Type 0) (one_end : (s t u : ℕ) → Side s t �
     -- after equal numbers of two rounds equal ones follow
     same_after : (i : ℕ) → i < length one → i < length other → slice_index one i ≡ slice_index other i
         → slice_index one (place_after one i) ≡ slice_index other (place_after other i)
-    same_after i within within_too same = one_end (slice_index other i) _ _
-        (subst (λ a. Side a (slice_index one (place_after one i))) same (side_after one is i within)) (side_after other is_too i within_too)
+    same_after i within within_too same =
+        let follows : Follows other (slice_index one i) (slice_index one (place_after one i)) = (is_too.sides _ _).0 (side_after one is i within) in
+        let at = one_place other is_too.distinct follows.i i follows.in_list within_too (follows.at ∙ same) in
+        sym follows.next ∙ ap (λ k. slice_index other (place_after other k)) at
 
     module _ (first : slice_index one 0 ≡ slice_index other 0) where
       -- so from equal ones on all are equal,
@@ -66,6 +68,6 @@ pub round_closes : (n : ℕ) (Left : ℕ → ℕ → ℕ → Type 0) → AreTurn
 round_closes n Left turning s t side =
     let (round, closes, first) = closes_from n Left turning s t side in (
       (round, closed_is_round n Left turning round closes, first),
-      λ one other is is_too. same_rounds (IsSideOf n Left) (one_end n Left turning) s t side one other
+      λ one other is is_too. same_rounds (IsSideOf n Left) s t side one other
           (record { distinct = is.distinct; sides = is.sides }) (record { distinct = is_too.distinct; sides = is_too.sides }),
     )

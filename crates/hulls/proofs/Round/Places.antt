@@ -1,10 +1,11 @@
 -- Where a number is in a list, how many numbers below a bound a list has, and a list with one more.
-use Rattle.std.proofs.Common.{◌≡◌, ◌≢◌, ◌⊎◌, inl, inr, true, false, sym, ◌∙◌, ℕ, zero, suc, ◌+◌, ◌<◌, ◌≤◌, List, [], ◌∷◌, ◌++◌, length, get_or, slice_index, arith, length-append}
+use Rattle.std.proofs.Common.{◌≡◌, ◌≢◌, ◌⊎◌, inl, inr, true, false, sym, ◌∙◌, ℕ, zero, suc, ◌+◌, ◌<◌, ◌≤◌, List, [], ◌∷◌, ◌++◌, length, get_or}
+use Rattle.std.proofs.Common.{slice_index, arith}
 use Rattle.std.proofs.Math.Dec.{eqb}
 use Rattle.std.proofs.Math.ListN.{get_or-append}
 use Rattle.std.proofs.Math.Seq.{get_or-append_seam}
-use Rattle.std.proofs.lemmas.Bool.{cases_eq, cases_lt, ne_eqb, true≢false}
-use Rattle.std.proofs.lemmas.List.{get_or_default}
+use Rattle.std.proofs.lemmas.Bool.{cases_eq, cases_lt, ne_eqb, true≢false, cases_order}
+use Rattle.std.proofs.lemmas.List.{get_or_default, length_push}
 use Rattle.std.proofs.lemmas.List.Elements.{All-from_get_or}
 use Rattle.std.proofs.lemmas.List.Folds.{list_any_none}
 use Rattle.std.proofs.lemmas.Map.Keys.{IsDistinct-from_apart}
@@ -14,6 +15,17 @@ use Rattle.std.specs.List.{list_any}
 -- the list has no number twice
 abbrev pub HasNoneTwice : List ℕ → Type 0
 HasNoneTwice list = (i j : ℕ) → i < j → j < length list → slice_index list i ≢ slice_index list j
+
+-- in such a list a number has one place
+pub one_place : (list : List ℕ) → HasNoneTwice list → (k l : ℕ) → k < length list → l < length list → slice_index list k ≡ slice_index list l
+    → k ≡ l
+one_place list distinct k l within within_too same = elim (cases_order k l) [
+  | inl is ↦ is
+  | inr apart ↦ elim apart [
+    | inl less ↦ absurd (distinct k l less within_too same)
+    | inr more ↦ absurd (distinct l k more within (sym same))
+  ]
+]
 
 -- the number is in the list
 pub record IsIn (list : List ℕ) (x : ℕ) : Type 0 where
@@ -59,10 +71,6 @@ module _ (list : List ℕ) (n : ℕ) (below : (i : ℕ) → i < length list → 
       length-le_from_distinct_below list n (IsDistinct-from_apart eqb list differ) below_of_any
 
 module _ (list : List ℕ) (x : ℕ) where
-  -- a list with one more is one longer,
-  pub length_more : length (list ++ x ∷ []) ≡ length list + 1
-  length_more = simp length-append
-
   -- has what it had,
   pub more_at : (i : ℕ) → i < length list → slice_index (list ++ x ∷ []) i ≡ slice_index list i
   more_at i within = get_or-append list (x ∷ []) 0 i within
@@ -76,7 +84,7 @@ module _ (list : List ℕ) (x : ℕ) where
   more_once once new i j before within same = elim (cases_lt j (length list)) [
     | inl inside ↦ once i j before inside (sym (more_at i (omega arith)) ∙ same ∙ more_at j inside)
     | inr past ↦
-        let last : j ≡ length list = omega (arith, length_more) in
+        let last : j ≡ length list = omega (arith, length_push list x) in
         let at_last = rw last at same in
         new i (omega arith) (sym (more_at i (omega arith)) ∙ at_last ∙ more_last)
   ]

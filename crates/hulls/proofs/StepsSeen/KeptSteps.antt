@@ -1,11 +1,10 @@
 -- In a simple ring each step past no vertex that a point of the ring is not on is seen from that point in one of four ways.
-use Rattle.std.proofs.Common.{◌≡◌, ◌⊎◌, inl, inr, sym, subst, ◌∙◌, ◌-◌, ◌%◌, List, length, arith}
+use Rattle.std.proofs.Common.{◌≡◌, ◌⊎◌, inl, inr, sym, subst, ◌∙◌, List}
 use Rattle.plane.proofs.Points.{whole_is_point}
 use Rattle.plane.specs.Point.{Point, whole}
 use Rattle.plane.specs.Segment.{On}
 use Rattle.rings.proofs.Inside.{sees_turned_iff}
-use Rattle.rings.proofs.Turned.{length-turned_round, vertex-turned_round}
-use Rattle.rings.proofs.Vertices.{vertex_mod}
+use Rattle.rings.proofs.Turned.{between_turned}
 use Rattle.rings.specs.From.{IsBefore}
 use Rattle.rings.specs.Full.{IsVertexBetween}
 use Rattle.rings.specs.Inside.{IsIn}
@@ -45,19 +44,6 @@ seen_in_mesh corners tris fits b x y in_b step off =
 -- ---- a ring turned round
 
 module _ (ring : List Point) where
-  -- a vertex between two points is one in the ring turned round,
-  between_turned : (a b v : Point) → IsVertexBetween (turned_round ring) a b v → IsVertexBetween ring a b v
-  between_turned a b v between = record {
-    i = (length ring - between.i) % length ring;
-    in_ring = omega (arith, between.in_ring, length-turned_round ring);
-    is_vertex = vertex_mod ring (length ring - between.i)
-        ∙ sym (vertex-turned_round ring between.i (omega (arith, between.in_ring, length-turned_round ring)))
-        ∙ between.is_vertex;
-    on = between.on;
-    not_first = between.not_first;
-    not_last = between.not_last;
-  }
-
   -- what comes before a point in it does so in the ring,
   before_turned : (b t n : Point) → IsBefore (turned_round ring) b t n → IsBefore ring b t n
   before_turned b t n before =

@@ -4,6 +4,7 @@ use Rattle.std.proofs.Common.{◌≡◌, ◌⊎◌, inl, inr, sym, subst, ap, �
 use Rattle.std.proofs.lemmas.Bool.{cases_lt}
 use Rattle.std.specs.List.{range_with_len}
 use Rattle.integer_algebra.proofs.SignSteps.{negative_not_zero, not_both, positive_not_zero, turned_negative}
+use Rattle.plane.proofs.Lists.{in_range}
 use Rattle.plane.proofs.Points.{whole_is_point}
 use Rattle.plane.proofs.Turns.{determinant_same_ends, determinant_same_last, determinant_swap_first}
 use Rattle.plane.specs.Point.{Point, Triple, whole}
@@ -15,7 +16,7 @@ use Rattle.meshes.proofs.Sight.{not_right_of_side}
 use Rattle.meshes.specs.Fits.{Fits, IsInTri}
 use Rattle.meshes.specs.Side.{tri_at}
 use Rattle.meshes.specs.declared.tri.Tri.{Tri}
-use Rattle.funnels.proofs.Corners.{end_of_its_side, in_range}
+use Rattle.funnels.proofs.Corners.{end_of_its_side}
 use Rattle.funnels.proofs.Funnels.{left_of_apex, not_negative, right_of_apex}
 use Rattle.funnels.specs.Funnel.{IsFunnel, IsReachedFrom, height}
 use Rattle.hulls.proofs.Gates.{past_of_triangle}

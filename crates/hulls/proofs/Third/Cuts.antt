@@ -2,6 +2,7 @@
 use Rattle.std.proofs.Common.{◌≡◌, ◌≢◌, inl, inr, refl, sym, subst, ap, ◌∙◌, ◌+◌, ◌-◌, ◌<◌, ◌≤◌, List, [], ◌∷◌, length, reverse, drop, arith}
 use Rattle.std.proofs.lemmas.Bool.{cases_lt}
 use Rattle.std.proofs.lemmas.List.{length-drop, length-reverse}
+use Rattle.plane.proofs.Order.{point_or_other}
 use Rattle.plane.proofs.Points.{whole_is_point}
 use Rattle.plane.proofs.Segments.{on_reversed}
 use Rattle.plane.specs.Point.{Point, whole}
@@ -9,7 +10,6 @@ use Rattle.rings.specs.Chain.{IsPath, point_at}
 use Rattle.rings.specs.From.{IsBefore}
 use Rattle.rings.specs.Simple.{IsSimple}
 use Rattle.funnels.proofs.OneChain.{bent_is_path}
-use Rattle.funnels.proofs.Touched.{point_cases}
 use Rattle.hulls.proofs.Joined.{back_at, back_bent, goes_on_step, path_is_taut, rest_at, rest_bent}
 use Rattle.hulls.proofs.Third.Prolonged.{with_point, with_point_ends}
 use Rattle.hulls.proofs.Turning.{one_path}
@@ -129,7 +129,7 @@ module _ (ring : List Point) (some : 3 ≤ length ring) (simple : IsSimple ring)
 
     -- so there is a path on to the end
     pub cut : (n : Point) × IsFirstStep ring v b n
-    cut = elim (point_cases v (point_at on.path (on.place + 1))) [
+    cut = elim (point_or_other v (point_at on.path (on.place + 1))) [
       | inl same ↦ (point_at on.path (on.place + 1 + 1), cut_at same)
       | inr differ ↦ (point_at on.path (on.place + 1), cut_within differ)
     ]

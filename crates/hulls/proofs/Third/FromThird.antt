@@ -1,10 +1,12 @@
 -- Of three free points, where c is to a side of b, seen from a, b is to that side of a, seen from c.
-use Rattle.std.proofs.Common.{◌≡◌, inl, inr, refl, sym, ◌∙◌, ◌-◌, ◌≤◌, List, length, arith}
+use Rattle.std.proofs.Common.{◌≡◌, inl, inr, refl, sym, ◌∙◌, ◌-◌, ◌≤◌, List, length, arith, subst}
 use Rattle.std.proofs.lemmas.Bool.{cases_lt}
-use Rattle.plane.specs.Point.{Point}
+use Rattle.plane.specs.Point.{Point, whole}
 use Rattle.rings.specs.Chain.{IsPath, point_at}
+use Rattle.rings.specs.Inside.{IsIn}
 use Rattle.rings.specs.Simple.{IsSimple}
 use Rattle.hulls.proofs.Joined.{path_is_taut}
+use Rattle.hulls.proofs.StepsSeen.{steps}
 use Rattle.hulls.proofs.Third.AlongTowards.{AreFacing, faces}
 use Rattle.hulls.proofs.Third.WaysFound.{way_of_path}
 use Rattle.hulls.proofs.Turning.{exchanged, exchanged_back, not_both}
@@ -12,7 +14,7 @@ use Rattle.hulls.specs.Joined.{IsFirstStep}
 use Rattle.hulls.specs.Steps.{SeesSteps}
 use Rattle.hulls.specs.Turning.{AreFree, IsToLeft, IsToRight}
 
-module _ (ring : List Point) (some : 3 ≤ length ring) (simple : IsSimple ring) (a b c : Point) (free : AreFree ring a b c) (sees : SeesSteps ring b)
+module _ (ring : List Point) (some : 3 ≤ length ring) (simple : IsSimple ring) (a b c : Point) (free : AreFree ring a b c)
     (ab ac : List Point) (to_b : IsPath ring a b ab) (to_c : IsPath ring a c ac) where
   -- the path between different points has a step
   first_of_path : IsFirstStep ring a b (point_at ab 1)
@@ -30,7 +32,15 @@ module _ (ring : List Point) (some : 3 ≤ length ring) (simple : IsSimple ring)
         is_next = refl;
       }
 
-  -- b is seen from a and from c on one side of the path between them
+  -- each step past no vertex is seen from b, which is in the ring,
+  sees : SeesSteps ring b
+  sees =
+      let taut = path_is_taut ring a b ab to_b in
+      let some_points = taut.bent.chain.some in
+      steps ring some simple b
+      (subst (λ (p : Point). IsIn ring (whole p)) taut.last (taut.bent.chain.inside (length ab - 1) (omega arith)))
+
+  -- so b is seen from a and from c on one side of the path between them
   facing : AreFacing ring a b c
   facing =
       let found = way_of_path ring b c a ac to_c free.a_c free.not_b in

@@ -6,9 +6,10 @@ use Rattle.rings.specs.Bend.{IsBend}
 use Rattle.rings.specs.Chain.{IsBentChain, IsPath, point_at}
 use Rattle.rings.specs.Inside.{IsIn}
 use Rattle.rings.specs.Simple.{IsSimple}
+use Rattle.funnels.proofs.Chains.{one_bent}
 use Rattle.funnels.proofs.OneChain.{bent_is_path, last_of}
 use Rattle.hulls.proofs.Cones.{IsBetween}
-use Rattle.hulls.proofs.Joined.{GoesOnTo, goes_on_beyond, goes_on_step, one_bent, over_bent, over_ends, path_is_taut, rest_at, rest_bent, sees_back}
+use Rattle.hulls.proofs.Joined.{GoesOnTo, goes_on_beyond, goes_on_step, over_bent, over_ends, path_is_taut, rest_at, rest_bent, sees_back}
 use Rattle.hulls.specs.Joined.{AreJoined}
 use Rattle.hulls.specs.Steps.{IsOpenStep}
 

@@ -7,9 +7,9 @@ use Rattle.plane.specs.Point.{Point, whole}
 use Rattle.plane.specs.Segment.{On}
 use Rattle.plane.specs.Turn.{IsStraight}
 use Rattle.funnels.proofs.Bends.{AreOnRay, on_ray_back, turning_to_ray}
+use Rattle.funnels.proofs.OneChain.{bend_from_ray}
 use Rattle.funnels.proofs.Touched.{only_point}
 use Rattle.hulls.proofs.Cones.{IsBetween}
-use Rattle.hulls.proofs.Joined.{bend_from_ray}
 use Rattle.hulls.proofs.Turning.{one_between}
 use Rattle.hulls.specs.Joined.{AreJoined}
 

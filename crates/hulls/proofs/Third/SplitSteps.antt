@@ -1,21 +1,19 @@
 -- Steps split at the vertices on them, one vertex after the other.
 use Rattle.std.proofs.Common.{◌≡◌, ◌≢◌, ◌⊎◌, inl, inr, refl, sym, subst, ℕ, suc, ◌<◌, List, [], ◌∷◌, arith}
 use Rattle.std.proofs.lemmas.Bool.{cases_lt}
+use Rattle.plane.proofs.Order.{point_or_other}
 use Rattle.plane.proofs.Points.{same_whole, whole_is_point}
-use Rattle.plane.proofs.Segments.{later_between, on_antisym, on_first_end, on_last_end, on_nested, on_or_not, on_reversed}
+use Rattle.plane.proofs.Segments.{nearer_on, on_antisym, on_last_end, on_or_not, on_reversed}
 use Rattle.plane.specs.Point.{Point, whole}
 use Rattle.plane.specs.Segment.{On}
 use Rattle.rings.specs.Inside.{IsIn}
 use Rattle.rings.specs.Ring.{vertex}
 use Rattle.rings.specs.Sees.{Sees}
 use Rattle.meshes.proofs.Sight.{sees_before}
-use Rattle.funnels.proofs.Bends.{on_ray_back}
-use Rattle.funnels.proofs.Touched.{point_cases}
-use Rattle.hulls.proofs.Cones.{IsBetween, joined_back}
-use Rattle.hulls.proofs.Joined.{bend_from_ray, sees_back}
-use Rattle.hulls.proofs.Third.Rays.{ray_of_on}
+use Rattle.hulls.proofs.Cones.{IsBetween, between_back, joined_back}
+use Rattle.hulls.proofs.Joined.{sees_back}
+use Rattle.hulls.proofs.Third.Rays.{joined_nearer}
 use Rattle.hulls.proofs.Third.Ways.{IsWayOf}
-use Rattle.hulls.specs.Joined.{AreJoined}
 
 -- a step that b is not on, past none of the first n vertices of the ring
 pub record IsStepPastFirst (ring : List Point) (b : Point) (n : ℕ) (x y : Point) : Type 0 where
@@ -28,9 +26,9 @@ pub record IsStepPastFirst (ring : List Point) (b : Point) (n : ℕ) (x y : Poin
 
 -- a point is strictly between two others or it is not
 between_or_not : (v x y : Point) → IsBetween v x y ⊎ ¬ IsBetween v x y
-between_or_not v x y = elim (point_cases v x) [
+between_or_not v x y = elim (point_or_other v x) [
   | inl same ↦ inr (λ between. between.0 same)
-  | inr not_x ↦ elim (point_cases v y) [
+  | inr not_x ↦ elim (point_or_other v y) [
     | inl same ↦ inr (λ between. between.1 same)
     | inr not_y ↦ elim (on_or_not (whole v) (whole x) (whole y) (whole_is_point v) (whole_is_point x) (whole_is_point y)) [
       | inl on ↦ inl (not_x, not_y, on)
@@ -41,12 +39,6 @@ between_or_not v x y = elim (point_cases v x) [
 
 -- ---- one step
 
--- what is on the way from x to a point of the way from x to y is on that
-on_part : (u x v y : Point) → On (whole v) (whole x) (whole y) → On (whole u) (whole x) (whole v) → On (whole u) (whole x) (whole y)
-on_part u x v y on on_u =
-    on_nested (whole u) (whole x) (whole v) (whole x) (whole y) (whole_is_point u) (whole_is_point x) (whole_is_point v) (whole_is_point x)
-    (whole_is_point y) (on_first_end (whole x) (whole y)) on on_u
-
 -- also what is strictly between
 between_part : (u x v y : Point) → IsBetween v x y → IsBetween u x v → IsBetween u x y
 between_part u x v y between in_part = (
@@ -54,12 +46,8 @@ between_part u x v y between in_part = (
   (λ same. in_part.1 (same_whole u v
       (on_antisym (whole u) (whole v) (whole x) (whole_is_point u) (whole_is_point v) (whole_is_point x)
       in_part.2 (subst (λ z. On (whole v) (whole x) (whole z)) (sym same) between.2)))),
-  on_part u x v y between.2 in_part.2,
+  nearer_on x u v y in_part.2 between.2,
 )
-
--- what is strictly between two points is so in the other order
-turned : (x y v : Point) → IsBetween v y x → IsBetween v x y
-turned x y v between = (between.1, between.0, on_reversed (whole v) (whole y) (whole x) between.2)
 
 module _ (ring : List Point) (b : Point) (n : ℕ) where
   -- a step read backward
@@ -70,7 +58,7 @@ module _ (ring : List Point) (b : Point) (n : ℕ) where
     differ = λ e. step.differ (sym e);
     sees = sees_back ring x y step.sees;
     off = λ on. step.off (on_reversed (whole b) (whole y) (whole x) on);
-    clear = λ i h between. step.clear i h (turned x y (vertex ring i) between);
+    clear = λ i h between. step.clear i h (between_back between);
   }
 
   -- a step without the next vertex on it goes past that too,
@@ -96,7 +84,7 @@ module _ (ring : List Point) (b : Point) (n : ℕ) where
         y_in = step.sees (whole v) (whole_is_point v) between.2;
         differ = λ e. between.0 (sym e);
         sees = sees_before ring (whole x) (whole v) (whole y) (whole_is_point x) (whole_is_point v) (whole_is_point y) between.2 step.sees;
-        off = λ on. step.off (on_part b x v y between.2 on);
+        off = λ on. step.off (nearer_on x b v y on between.2);
         clear = λ i h in_part. step.clear i h (between_part (vertex ring i) x v y between in_part);
       }) (λ in_part. in_part.1 refl)
 
@@ -104,18 +92,7 @@ module _ (ring : List Point) (b : Point) (n : ℕ) where
   -- and that from it
   part_from : (x y : Point) → IsStepPastFirst ring b n x y → IsBetween (vertex ring n) x y → IsStepPastFirst ring b (suc n) (vertex ring n) y
   part_from x y step between =
-      first_back ring b (suc n) y (vertex ring n) (part ring b n y x (first_back ring b n x y step) (turned y x (vertex ring n) between))
-
--- points that are joined are so with a nearer point of a ray
-joined_nearer : (ring : List Point) (v x n z : Point) → On (whole x) (whole v) (whole n) → x ≢ v → AreJoined ring v n z → AreJoined ring v x z
-joined_nearer ring v x n z on differ (inl between) =
-    inl (
-      (λ e. differ (sym e)),
-      between.1,
-      later_between (whole x) (whole n) (whole v) (whole z) (whole_is_point x) (whole_is_point n) (whole_is_point v) (whole_is_point z)
-          (on_reversed (whole x) (whole v) (whole n) on) between.2,
-    )
-joined_nearer ring v x n z on differ (inr bend) = inr (bend_from_ray ring n x v z (on_ray_back (ray_of_on v x n on differ)) bend)
+      first_back ring b (suc n) y (vertex ring n) (part ring b n y x (first_back ring b n x y step) (between_back between))
 
 -- ---- ways
 
@@ -148,7 +125,7 @@ module _ (ring : List Point) (b : Point) (n : ℕ) (c : Point) where
   ]
   split x y (z ∷ rest) way =
       let later = split y z rest way.2 in
-      let joined = joined_back ring y later.next x (joined_nearer ring y later.next z x later.on later.differ (joined_back ring y x z way.1)) in
+      let joined = joined_back ring y later.next x (joined_nearer ring y z later.next x later.on later.differ (joined_back ring y x z way.1)) in
       elim (between_or_not (vertex ring n) x y) [
         | inl between ↦ record {
           next = vertex ring n;
@@ -158,7 +135,7 @@ module _ (ring : List Point) (b : Point) (n : ℕ) (c : Point) where
             inl between,
             (
               part_from ring b n x y way.0 between,
-              joined_nearer ring y (vertex ring n) x later.next (on_reversed (whole (vertex ring n)) (whole x) (whole y) between.2) between.1 joined,
+              joined_nearer ring y x (vertex ring n) later.next (on_reversed (whole (vertex ring n)) (whole x) (whole y) between.2) between.1 joined,
               later.way,
             ),
           );

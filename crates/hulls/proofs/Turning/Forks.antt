@@ -1,8 +1,8 @@
 -- Where two lists from one point part, and that they do so once.
 use Rattle.std.proofs.Common.{◌≡◌, ◌≢◌, inl, inr, refl, sym, subst, ap, ◌∙◌, ◌<◌, List, [], ◌∷◌, ◌++◌, length, drop, arith}
+use Rattle.plane.proofs.Order.{point_or_other}
 use Rattle.plane.specs.Point.{Point}
 use Rattle.rings.specs.Chain.{point_at}
-use Rattle.funnels.proofs.Touched.{point_cases}
 
 -- ---- where they part
 
@@ -27,7 +27,7 @@ fork_of_rests : (u : Point) (xs ys : List Point) → Fork (u ∷ xs) (u ∷ ys)
 fork_of_rests u [] [] = alike refl
 fork_of_rests u [] (y ∷ ys) = first_ends y ys refl
 fork_of_rests u (x ∷ xs) [] = second_ends x xs refl
-fork_of_rests u (x ∷ xs) (y ∷ ys) = elim (point_cases x y) [
+fork_of_rests u (x ∷ xs) (y ∷ ys) = elim (point_or_other x y) [
   | inl same ↦ subst (λ z. Fork (u ∷ x ∷ xs) (u ∷ z ∷ ys)) same (fork_after u (x ∷ xs) (x ∷ ys) (fork_of_rests x xs ys))
   | inr differ ↦ parted [] u x y xs ys refl refl differ
 ]

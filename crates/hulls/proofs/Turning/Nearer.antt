@@ -7,8 +7,8 @@ use Rattle.plane.specs.Point.{Point, Triple, whole}
 use Rattle.plane.specs.Segment.{On}
 use Rattle.plane.specs.Turn.{IsLeft, IsRight, determinant}
 use Rattle.rings.specs.Chain.{IsPath, point_at}
-use Rattle.hulls.proofs.Joined.{path_is_taut}
-use Rattle.hulls.proofs.Turning.Partings.{all_length, at_front, at_rest, bend_next}
+use Rattle.hulls.proofs.Joined.{at_first, at_second, both_length, path_is_taut}
+use Rattle.hulls.proofs.Turning.Partings.{bend_next}
 use Rattle.hulls.specs.Joined.{IsOnPath}
 use Rattle.hulls.specs.Turning.{IsTo, IsToLeft, IsToRight, TurnsTo, first_nearer}
 
@@ -20,12 +20,12 @@ ends_on ring a b c x path rest is is_longer =
     let longer = path ++ x ∷ rest in
     let place = length path - 1 in
     let some = taut.bent.chain.some in
-    let at : point_at longer place ≡ b = at_front path (x ∷ rest) place (omega arith) ∙ taut.last in
+    let at : point_at longer place ≡ b = at_first path (x ∷ rest) place (omega arith) ∙ taut.last in
     record {
       path = longer;
       is_path = is_longer;
       place = place;
-      within = omega (arith, all_length path (x ∷ rest));
+      within = omega (arith, both_length path (x ∷ rest));
       on = rw at (on_first_end (whole b) (whole (point_at longer (place + 1))));
     }
 
@@ -33,12 +33,12 @@ module _ (ring : List Point) (a b c v p q : Point) where
   -- where b is on the step from v of the path to c, it is on that path
   on_step : (front second : List Point) → IsPath ring a c (front ++ v ∷ q ∷ second) → On (whole b) (whole v) (whole q) → IsOnPath ring a c b
   on_step front second is on =
-      let at = at_rest front (v ∷ q ∷ second) in
+      let at = at_second front (v ∷ q ∷ second) in
       record {
         path = front ++ v ∷ q ∷ second;
         is_path = is;
         place = length front;
-        within = omega (arith, all_length front (v ∷ q ∷ second));
+        within = omega (arith, both_length front (v ∷ q ∷ second));
         on = rw (at (length front) 0 (omega arith), at (length front + 1) 1 (omega arith)) on;
       }
 
@@ -64,7 +64,7 @@ module _ (ring : List Point) (a b c v p q : Point) where
   nearer front [] second is_first is_second differ on not_on =
       let path = front ++ v ∷ p ∷ [] in
       let taut = path_is_taut ring a b path is_first in
-      let at = at_rest front (v ∷ p ∷ []) (length path - 1) 1 (omega (arith, all_length front (v ∷ p ∷ []))) in
+      let at = at_second front (v ∷ p ∷ []) (length path - 1) 1 (omega (arith, both_length front (v ∷ p ∷ []))) in
       absurd (not_on (on_step front second is_second (subst (λ z. On (whole z) (whole v) (whole q)) (sym at ∙ taut.last) on)))
   nearer front (r ∷ rest) second is_first is_second differ on not_on =
       let bend = bend_next ring front v p r rest (path_is_taut ring a b (front ++ v ∷ p ∷ r ∷ rest) is_first).bent in

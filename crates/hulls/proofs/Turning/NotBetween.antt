@@ -11,8 +11,9 @@ use Rattle.plane.specs.Turn.{IsLeft, IsRight, IsStraight, determinant}
 use Rattle.rings.specs.Bend.{IsBend}
 use Rattle.rings.specs.Chain.{IsPath, point_at}
 use Rattle.rings.specs.Simple.{IsSimple}
+use Rattle.funnels.proofs.OneChain.{bend_back}
 use Rattle.hulls.proofs.Cones.{joined_one_side}
-use Rattle.hulls.proofs.Joined.{bend_back, on_path_of_joined, path_is_taut}
+use Rattle.hulls.proofs.Joined.{on_path_of_joined, path_is_taut}
 use Rattle.hulls.proofs.Turning.Partings.{bend_here, goes_on}
 use Rattle.hulls.specs.Joined.{IsOnPath}
 

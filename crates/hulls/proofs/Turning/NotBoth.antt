@@ -1,5 +1,5 @@
 -- Of two paths from one point the second is not to both sides of the first.
-use Rattle.std.proofs.Common.{◌≡◌, ◌≢◌, refl, sym, subst, ap, ◌∙◌, List, ◌∷◌, ◌++◌}
+use Rattle.std.proofs.Common.{◌≡◌, ◌≢◌, refl, subst, List, ◌∷◌, ◌++◌}
 use Rattle.integer_algebra.proofs.SignSteps.{negative_not_zero, positive_not_negative, positive_not_zero}
 use Rattle.plane.proofs.Points.{same_whole, whole_is_point}
 use Rattle.plane.proofs.Segments.{on_antisym, on_is_straight}
@@ -7,17 +7,14 @@ use Rattle.plane.proofs.Turns.{straight_swap_last}
 use Rattle.plane.specs.Point.{Point, whole}
 use Rattle.plane.specs.Segment.{On}
 use Rattle.plane.specs.Turn.{IsLeft, IsRight, IsStraight}
-use Rattle.rings.specs.Chain.{IsPath, point_at}
+use Rattle.rings.specs.Chain.{IsPath}
+use Rattle.hulls.proofs.Order.{same_first}
 use Rattle.hulls.proofs.Turning.Forks.{one_fork}
 use Rattle.hulls.specs.Turning.{IsToLeft, IsToRight, TurnsTo, apart, first_nearer, second_nearer}
 
 -- the ends of a segment and a point of it are on one line
 straight_of_on : (v p q : Point) → On (whole p) (whole v) (whole q) → IsStraight (whole v) (whole q) (whole p)
 straight_of_on v p q on = on_is_straight (whole p) (whole v) (whole q) (whole_is_point p) (whole_is_point v) (whole_is_point q) on
-
--- lists that are one begin with one point
-same_next : {r s : Point} {rest rest_too first : List Point} → first ≡ r ∷ rest → first ≡ s ∷ rest_too → r ≡ s
-same_next e f = ap (λ xs. point_at xs 0) (sym e ∙ f)
 
 module _ (v p : Point) (first : List Point) (q : Point) (second : List Point) where
   -- two points on one ray aren't each before the other,
@@ -40,12 +37,12 @@ module _ (v p : Point) (first : List Point) (q : Point) (second : List Point) wh
   ways_not_both differ (apart h) (second_nearer r rest on e k) = positive_not_zero h (second_not_apart on)
   ways_not_both differ (first_nearer r rest on e h) (apart k) = negative_not_zero k (first_not_apart on)
   ways_not_both differ (first_nearer r rest on e h) (first_nearer s rest_too on_too f k) =
-      positive_not_negative k (subst (λ z. IsRight (whole v) (whole p) (whole z)) (same_next e f) h)
+      positive_not_negative k (subst (λ z. IsRight (whole v) (whole p) (whole z)) (same_first e f) h)
   ways_not_both differ (first_nearer r rest on e h) (second_nearer s rest_too on_too f k) = nearer_one differ on on_too
   ways_not_both differ (second_nearer r rest on e h) (apart k) = negative_not_zero k (second_not_apart on)
   ways_not_both differ (second_nearer r rest on e h) (first_nearer s rest_too on_too f k) = nearer_one differ on_too on
   ways_not_both differ (second_nearer r rest on e h) (second_nearer s rest_too on_too f k) =
-      positive_not_negative (subst (λ z. IsLeft (whole v) (whole q) (whole z)) (same_next e f) h) k
+      positive_not_negative (subst (λ z. IsLeft (whole v) (whole q) (whole z)) (same_first e f) h) k
 
 -- there is one path
 pub one_path : (ring : List Point) (s t : Point) (path other : List Point) → IsPath ring s t path → IsPath ring s t other → path ≡ other

@@ -1,6 +1,5 @@
 -- Chains that part at a point: the points there, the bends, and which of three points on a line is between the others.
-use Rattle.std.proofs.Common.{◌≡◌, ◌⊎◌, inl, inr, subst, ap, ◌∙◌, ℕ, ◌+◌, ◌-◌, ◌<◌, List, ◌∷◌, ◌++◌, length, arith}
-use Rattle.std.proofs.lemmas.List.{get_or-append_right, get_or_append_left, length-append}
+use Rattle.std.proofs.Common.{◌≡◌, ◌⊎◌, inl, inr, subst, ◌+◌, ◌-◌, ◌<◌, List, ◌∷◌, ◌++◌, length, arith}
 use Rattle.plane.proofs.Order.{NotAfter, not_after_of_precedes, not_after_or_precedes}
 use Rattle.plane.proofs.Points.{whole_is_point}
 use Rattle.plane.proofs.Segments.{on_from_order, on_reversed}
@@ -10,22 +9,7 @@ use Rattle.plane.specs.Segment.{On}
 use Rattle.plane.specs.Turn.{IsStraight}
 use Rattle.rings.specs.Bend.{IsBend}
 use Rattle.rings.specs.Chain.{IsBentChain, point_at}
-use Rattle.rings.specs.Ring.{origin}
-
--- ---- places
-
-module _ (front rest : List Point) where
-  -- the points of the front,
-  pub at_front : (k : ℕ) → k < length front → point_at (front ++ rest) k ≡ point_at front k
-  at_front k h = get_or_append_left front rest origin k h
-
-  -- and those after it
-  pub at_rest : (k l : ℕ) → length front + l ≡ k → point_at (front ++ rest) k ≡ point_at rest l
-  at_rest k l e = get_or-append_right front rest (length front) k origin (λ i. length front) (omega arith) ∙ ap (point_at rest) (omega arith)
-
-  -- which are together as many as both lists have
-  pub all_length : length (front ++ rest) ≡ length front + length rest
-  all_length = length-append front rest
+use Rattle.hulls.proofs.Joined.{at_first, at_second, both_length}
 
 -- ---- chains
 
@@ -34,10 +18,10 @@ module _ (ring front : List Point) (v p : Point) where
   pub goes_on : (first : List Point) → IsBentChain ring (front ++ v ∷ p ∷ first) → ¬ (v ≡ p)
   goes_on first bent =
       let n = length front in
-      let at = at_rest front (v ∷ p ∷ first) in
+      let at = at_second front (v ∷ p ∷ first) in
       subst (λ z. ¬ (v ≡ z)) (at (n + 1) 1 (omega arith))
       (subst (λ z. ¬ (z ≡ point_at (front ++ v ∷ p ∷ first) (n + 1))) (at n 0 (omega arith))
-      (bent.chain.distinct n (omega (arith, all_length front (v ∷ p ∷ first)))))
+      (bent.chain.distinct n (omega (arith, both_length front (v ∷ p ∷ first)))))
 
   -- with a bend there after a point before it,
   pub bend_here : (first : List Point) → IsBentChain ring (front ++ v ∷ p ∷ first) → 0 < length front
@@ -46,22 +30,22 @@ module _ (ring front : List Point) (v p : Point) where
       let n = length front in
       let chain = front ++ v ∷ p ∷ first in
       let o = point_at front (n - 1) in
-      let at = at_rest front (v ∷ p ∷ first) in
+      let at = at_second front (v ∷ p ∷ first) in
       subst (λ z. IsBend ring o v z) (at (n + 1) 1 (omega arith))
       (subst (λ z. IsBend ring o z (point_at chain (n + 1))) (at n 0 (omega arith))
-      (subst (λ z. IsBend ring z (point_at chain n) (point_at chain (n + 1))) (at_front front (v ∷ p ∷ first) (n - 1) (omega arith))
-      (bent.bends n (record { not_first = some; not_last = omega (arith, all_length front (v ∷ p ∷ first)) }))))
+      (subst (λ z. IsBend ring z (point_at chain n) (point_at chain (n + 1))) (at_first front (v ∷ p ∷ first) (n - 1) (omega arith))
+      (bent.bends n (record { not_first = some; not_last = omega (arith, both_length front (v ∷ p ∷ first)) }))))
 
   -- and one at the next point before another
   pub bend_next : (r : Point) (rest : List Point) → IsBentChain ring (front ++ v ∷ p ∷ r ∷ rest) → IsBend ring v p r
   bend_next r rest bent =
       let n = length front in
       let chain = front ++ v ∷ p ∷ r ∷ rest in
-      let at = at_rest front (v ∷ p ∷ r ∷ rest) in
+      let at = at_second front (v ∷ p ∷ r ∷ rest) in
       subst (λ z. IsBend ring v p z) (at (n + 1 + 1) 2 (omega arith))
       (subst (λ z. IsBend ring v z (point_at chain (n + 1 + 1))) (at (n + 1) 1 (omega arith))
       (subst (λ z. IsBend ring z (point_at chain (n + 1)) (point_at chain (n + 1 + 1))) (at (n + 1 - 1) 0 (omega arith))
-      (bent.bends (n + 1) (record { not_first = omega arith; not_last = omega (arith, all_length front (v ∷ p ∷ r ∷ rest)) }))))
+      (bent.bends (n + 1) (record { not_first = omega arith; not_last = omega (arith, both_length front (v ∷ p ∷ r ∷ rest)) }))))
 
 -- ---- three points on a line
 

@@ -1,6 +1,5 @@
 -- The parts of a piece that a diagonal cuts in two, and the triangles that lie in them.
-use Rattle.std.proofs.Common.{◌⊎◌, sym, ◌∙◌, ℕ, ◌+◌, ◌%◌, ◌<◌, ◌≤◌, List, length, arith, mod-lt}
-use Rattle.std.proofs.lemmas.List.{get_or_default}
+use Rattle.std.proofs.Common.{◌⊎◌, ℕ, ◌≤◌, List, length}
 use Rattle.std.specs.List.{Contains}
 use Rattle.plane.specs.Point.{IsPoint, Point, Triple, whole}
 use Rattle.rings.specs.Inside.{IsIn}
@@ -38,12 +37,3 @@ LiesInPart corners tris P part n = P n × LiesIn corners tris (piece_points corn
 pub record IsBeside (corners : List Point) (tris : List Tri) (P : ℕ → Type 0) (part : List ℕ) (a b n : ℕ) : Type 0 where
   pub in_part : LiesInPart corners tris P part n
   pub has : HasSideBetween (tri_at tris n) a b
-
--- an edge goes from a vertex of the piece to another one
-pub edge_ends : (piece : List ℕ) (i j : ℕ) → IsPieceEdge piece i j → Contains piece i × Contains piece j
-edge_ends piece i j e =
-    let next = (e.place + 1) % length piece in
-    let next_in : next < length piece = mod-lt (e.place + 1) (omega (arith, e.in_piece)) in (
-      (e.place, e.in_piece, sym (get_or_default piece e.place 0 i e.in_piece) ∙ e.from),
-      (next, next_in, sym (get_or_default piece next 0 j next_in) ∙ e.to),
-    )

@@ -1,5 +1,6 @@
 -- Sums round a piece: read from another vertex on, and without one of the vertices.
 use Rattle.std.proofs.Common.{◌≡◌, inl, inr, sym, ap, ◌∙◌, ℕ, ℤ, pos, ◌+ℤ◌, neg_ℤ, List, [], ◌∷◌, ◌++◌, arith}
+use Rattle.std.proofs.Math.IntN.{+ℤ_comm}
 use Rattle.std.proofs.lemmas.Int.{ints}
 use Rattle.std.proofs.lemmas.List.{append-nil, append_assoc}
 use Rattle.rings.specs.Edge.{Has}
@@ -7,10 +8,6 @@ use Rattle.meshes.proofs.Sides.{IsStep}
 use Rattle.meshes.specs.Boundary.{IsOdd, sum_from, sum_round}
 
 -- ---- numbers
-
--- sums in another order
-sum_order : (a b : ℤ) → a +ℤ b ≡ b +ℤ a
-sum_order a b = omega (arith, ints)
 
 -- a sum of three
 sum_apart : (a b c s : ℤ) → s ≡ b +ℤ c → a +ℤ s ≡ (a +ℤ b) +ℤ c
@@ -60,7 +57,7 @@ module _ (v a : ℕ) (bs : List ℕ) (new : ¬ Has (a ∷ bs) v) where
 
 module _ (φ : ℕ → ℕ → ℤ) where
   -- the sum up to a number and from it on
-  sum_parted : (a : ℕ) (bs : List ℕ) (z : ℕ) (cs : List ℕ) → sum_from φ a (bs ++ z ∷ cs) ≡ sum_from φ a (bs ++ z ∷ []) +ℤ sum_from φ z cs
+  pub sum_parted : (a : ℕ) (bs : List ℕ) (z : ℕ) (cs : List ℕ) → sum_from φ a (bs ++ z ∷ cs) ≡ sum_from φ a (bs ++ z ∷ []) +ℤ sum_from φ z cs
   sum_parted a [] z cs = nothing_beside (φ a z) (sum_from φ z cs)
   sum_parted a (b ∷ bs) z cs = sum_apart (φ a b) (sum_from φ b (bs ++ z ∷ [])) (sum_from φ z cs) (sum_from φ b (bs ++ z ∷ cs)) (sum_parted b bs z cs)
 
@@ -79,7 +76,7 @@ module _ (φ : ℕ → ℕ → ℤ) where
   sum_rotated [] ys = ap (sum_round φ) (sym (append-nil ys))
   sum_rotated (x ∷ xs) [] = ap (sum_round φ) (append-nil (x ∷ xs))
   sum_rotated (x ∷ xs) (y ∷ ys) =
-      sum_of_both x xs y ys ∙ sum_order (sum_from φ x (xs ++ y ∷ [])) (sum_from φ y (ys ++ x ∷ [])) ∙ sym (sum_of_both y ys x xs)
+      sum_of_both x xs y ys ∙ +ℤ_comm (sum_from φ x (xs ++ y ∷ [])) (sum_from φ y (ys ++ x ∷ [])) ∙ sym (sum_of_both y ys x xs)
 
   -- with one vertex more it has the sum round a triangle more
   pub sum_with_vertex : IsOdd φ → (v w : ℕ) (ms : List ℕ)

@@ -4,6 +4,7 @@ use Rattle.std.proofs.Common.{arith, refl}
 use Rattle.std.proofs.lemmas.Bool.{cases_eq}
 use Rattle.std.proofs.lemmas.Int.{ints}
 use Rattle.integer_algebra.proofs.Decisions.{both_or_not}
+use Rattle.integer_algebra.proofs.SignSteps.{opposite_sum}
 use Rattle.meshes.proofs.Boundaries.Sums.{both_parts, sum_of_tri}
 use Rattle.meshes.proofs.Sides.{IsStep, edge_of_step, step_of_edge}
 use Rattle.meshes.specs.Boundary.{IsOdd, sum_from, sum_round}
@@ -127,10 +128,6 @@ opposite_low s r e h = omega (arith, ints)
 opposite_one : (s r : ℤ) → r ≡ neg_ℤ s → pos 1 ≤ℤ r → s ≤ℤ negsuc 0
 opposite_one s r e h = omega (arith, ints)
 
--- opposite parts
-opposite_parts : (a s b r : ℤ) → b ≡ neg_ℤ a → r ≡ neg_ℤ s → b +ℤ r ≡ neg_ℤ (a +ℤ s)
-opposite_parts a s b r e d = omega (arith, ints)
-
 module _ (i j : ℕ) where
   -- the sum is negative only where there is the step back,
   along_low : (a : ℕ) (bs : List ℕ) (last : ℕ) → ¬ IsStep a bs last j i → pos 0 ≤ℤ sum_from (step i j) a (bs ++ last ∷ [])
@@ -150,7 +147,7 @@ module _ (i j : ℕ) where
   -- in the other order of the two numbers it is the opposite
   from_swapped : (a : ℕ) (bs : List ℕ) → sum_from (step j i) a bs ≡ neg_ℤ (sum_from (step i j) a bs)
   from_swapped a [] = refl
-  from_swapped a (b ∷ bs) = opposite_parts (step i j a b) (sum_from (step i j) b bs) _ _ (step_swapped i j a b) (from_swapped b bs)
+  from_swapped a (b ∷ bs) = opposite_sum (step i j a b) (sum_from (step i j) b bs) _ _ (step_swapped i j a b) (from_swapped b bs)
 
 module _ (i j : ℕ) where
   -- so it is round a piece: positive only with the edge,

@@ -1,5 +1,6 @@
 -- Sums over the sides of triangles, from the least that each triangle adds.
-use Rattle.std.proofs.Common.{◌≡◌, ℕ, zero, suc, ◌<◌, ℤ, pos, ◌+ℤ◌, ◌≤ℤ◌, List, [], ◌∷◌, length, arith, refl}
+use Rattle.std.proofs.Common.{◌≡◌, ℕ, zero, suc, ◌<◌, ℤ, pos, ◌+ℤ◌, ◌≤ℤ◌, List, [], ◌∷◌, length, arith, refl, ◌++◌}
+use Rattle.std.proofs.Math.IntN.{+ℤ_comm}
 use Rattle.std.proofs.lemmas.Int.{ints}
 use Rattle.meshes.specs.Boundary.{sum_sides}
 use Rattle.meshes.specs.Side.{tri_at}
@@ -15,10 +16,6 @@ sum_of_tri φ t = φ t.a t.b +ℤ (φ t.b t.c +ℤ φ t.c t.a)
 pub both_parts : (a b m n k : ℤ) → m ≤ℤ a → n ≤ℤ b → k ≡ m +ℤ n → k ≤ℤ (a +ℤ b)
 both_parts a b m n k h g e = omega (arith, ints)
 
--- two parts of nothing
-no_parts : (a b : ℤ) → a ≡ pos 0 → b ≡ pos 0 → a +ℤ b ≡ pos 0
-no_parts a b h g = omega (arith, ints)
-
 -- sums with 0 and in another order
 nothing_first : (n : ℤ) → n ≡ pos 0 +ℤ n
 nothing_first n = omega (arith, ints)
@@ -26,13 +23,15 @@ nothing_first n = omega (arith, ints)
 nothing_last : (n : ℤ) → n ≡ n +ℤ pos 0
 nothing_last n = omega (arith, ints)
 
-other_order : (m n : ℤ) → m +ℤ n ≡ n +ℤ m
-other_order m n = omega (arith, ints)
-
 module _ (φ : ℕ → ℕ → ℤ) where
   -- triangle m of a list adds at least n, where it has that number,
   abbrev pub AddsAtLeast : List Tri → ℤ → ℕ → Type 0
   AddsAtLeast tris n m = n ≤ℤ sum_of_tri φ (tri_at tris m)
+
+  -- triangles and more triangles
+  pub sides_append : (ts us : List Tri) → sum_sides φ (ts ++ us) ≡ sum_sides φ ts +ℤ sum_sides φ us
+  sides_append [] us = omega (arith, ints)
+  sides_append (t ∷ ts) us = omega (arith, ints, sides_append ts us)
 
   -- ---- each triangle
 
@@ -40,7 +39,8 @@ module _ (φ : ℕ → ℕ → ℤ) where
   pub sum_zero : (tris : List Tri) → ((m : ℕ) → m < length tris → sum_of_tri φ (tri_at tris m) ≡ pos 0) → sum_sides φ tris ≡ pos 0
   sum_zero [] h = refl
   sum_zero (t ∷ ts) h =
-      no_parts (sum_of_tri φ t) (sum_sides φ ts) (h 0 (omega arith)) (sum_zero ts (λ m within. h (suc m) (omega (arith, within))))
+      let others = sum_zero ts (λ m within. h (suc m) (omega (arith, within))) in
+      omega (arith, ints, h 0 (omega arith), others)
 
   -- where no triangle adds a negative number, the sum is none
   pub sum_not_negative : (tris : List Tri) → ((m : ℕ) → m < length tris → AddsAtLeast tris (pos 0) m) → pos 0 ≤ℤ sum_sides φ tris
@@ -76,7 +76,7 @@ module _ (φ : ℕ → ℕ → ℤ) where
   sum_with_two (t ∷ ts) n m (suc k) zero k_below l_below differ first second others =
       both_parts (sum_of_tri φ t) (sum_sides φ ts) m n (n +ℤ m) second
       (sum_with_one ts n k (omega (arith, k_below)) first
-      (λ o within not. others (suc o) (omega (arith, within)) (λ e. not (omega (arith, e))) (λ e. omega (arith, e)))) (other_order n m)
+      (λ o within not. others (suc o) (omega (arith, within)) (λ e. not (omega (arith, e))) (λ e. omega (arith, e)))) (+ℤ_comm n m)
   sum_with_two (t ∷ ts) n m (suc k) (suc l) k_below l_below differ first second others =
       both_parts (sum_of_tri φ t) (sum_sides φ ts) (pos 0) (n +ℤ m) (n +ℤ m)
       (others 0 (omega arith) (λ e. omega (arith, e)) (λ e. omega (arith, e)))

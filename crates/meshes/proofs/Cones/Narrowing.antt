@@ -1,5 +1,6 @@
 -- The cases of a cone that is narrowed to a side, by the signs that the turns tell.
 use Rattle.std.proofs.Common.{◌≡◌, ◌⊎◌, inl, inr, refl, Bool, true, false, ℤ, pos, ◌<ℤ◌, ◌≤ℤ◌, arith, Some, None}
+use Rattle.std.proofs.lemmas.Bool.{or_parts}
 use Rattle.std.proofs.lemmas.Int.{ints}
 use Rattle.std.specs.Int.Signed.{lt_z}
 use Rattle.std.specs.Prelude.{◌||◌, if◌then◌else◌, Option}
@@ -36,18 +37,13 @@ either : (b c : Bool) → (b || c) ≡ true → (b ≡ true) ⊎ (c ≡ true)
 either true c h = inl refl
 either false c h = inr h
 
--- or neither
-neither : (b c : Bool) → (b || c) ≡ false → (b ≡ false) × (c ≡ false)
-neither true c h = cc
-neither false c h = (refl, h)
-
 -- ---- what a cone holds
 
 module _ (q : Point) (cone : Cone) (x : Point) where
   -- as its test says
   held : is_off q cone x ≡ false → Holds q cone (whole x)
   held h =
-      let both = neither _ _ h in
+      let both = or_parts _ _ h in
       record {
         not_left = λ left. not_both_positive left (not_positive _ both.0);
         not_right = λ right. not_both right (not_negative _ both.1);
@@ -98,5 +94,5 @@ module _ (q : Point) (cone : Cone) (l r : Point) (P : Option Cone → Type 0) wh
         | inr right ↦ past_right (not_negative _ h) (negative _ right)
       ])
       (λ reached.
-      let both = neither _ _ reached in
+      let both = or_parts _ _ reached in
       within (not_negative _ h) (not_positive _ both.0) (not_negative _ both.1)))

@@ -1,8 +1,7 @@
 -- A triangle beyond a side of which a point sees points on one ray alone: in the triangle it sees that ray. And one that has the point.
 use Rattle.std.proofs.Common.{◌≡◌, ◌⊎◌, ◌↔◌, inl, inr, List}
-use Rattle.integer_algebra.proofs.SignSteps.{at_least_unless, at_most_unless, mean_not_negative, mean_not_positive, mean_zero}
-use Rattle.integer_algebra.proofs.SignSteps.{negative_not_zero, positive_of_not_zero}
-use Rattle.integer_algebra.proofs.SignSteps.{turned_not_positive, zero_not_negative, zero_not_positive}
+use Rattle.integer_algebra.proofs.SignSteps.{at_least_unless, at_most_unless, mean_not_negative, mean_not_positive, mean_zero, negative_not_zero}
+use Rattle.integer_algebra.proofs.SignSteps.{positive_of_not_zero, turned_not_positive, zero_not_negative, zero_not_positive, zero_of_neither}
 use Rattle.plane.proofs.Points.{same_refl, whole_is_point}
 use Rattle.plane.proofs.Segments.{combination_of_same, on_first_end, on_is_straight, on_last_end, on_same_point, ray_on_left}
 use Rattle.plane.proofs.Segments.{same_straight, same_without_last}
@@ -17,7 +16,7 @@ use Rattle.rings.specs.Sees.{Sees}
 use Rattle.ring_laws.proofs.Triangles.{in_or_not}
 use Rattle.meshes.proofs.Cones.Fronts.{triangle_in_front}
 use Rattle.meshes.proofs.Cones.Held.{end_on_side, held}
-use Rattle.meshes.proofs.Cones.RaySigns.{in_line, in_line_ahead, in_line_too, squeezed}
+use Rattle.meshes.proofs.Cones.RaySigns.{in_line, in_line_ahead, in_line_too}
 use Rattle.meshes.proofs.Cones.SideReach.{IsBeyondSide}
 use Rattle.meshes.proofs.Sight.{sees_before, sees_on}
 use Rattle.meshes.specs.Cone.{Holds, IsSeenThrough}
@@ -118,7 +117,7 @@ module _ (corners : List Point) (t : Tri) (q l r : Point) (beyond : IsBeyondSide
         (λ y at_y on sees. same_straight Q C y C at_c ((seen y at_y on).0 sees) (determinant_same_last Q C))
         (determinant_same_last Q C)
         (λ x at_x in_x. (
-          λ h. squeezed (at_most_unless h.not_left) (at_least_unless h.not_right),
+          λ h. zero_of_neither (at_most_unless h.not_left) (at_least_unless h.not_right),
           λ straight. held (zero_not_positive straight) (zero_not_negative straight),
         ))
 

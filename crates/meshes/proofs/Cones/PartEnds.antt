@@ -3,7 +3,7 @@ use Rattle.std.proofs.Common.{◌≡◌, ◌⊎◌, ◌↔◌, inl, inr, sym, su
 use Rattle.std.proofs.lemmas.Int.{ints}
 use Rattle.std.specs.Prelude.{Option}
 use Rattle.integer_algebra.proofs.SameSigns.{same_nonpositive}
-use Rattle.integer_algebra.proofs.SignSteps.{at_least_unless, at_most_unless, zero_not_negative, zero_not_positive}
+use Rattle.integer_algebra.proofs.SignSteps.{at_least_unless, at_most_unless, zero_not_negative, zero_not_positive, zero_of_neither}
 use Rattle.plane.proofs.Points.{same_sym, same_trans, whole_is_point}
 use Rattle.plane.proofs.Segments.{as_far, combination_of_same, later_between, on_first_end, on_is_straight, on_last_end, on_nested}
 use Rattle.plane.proofs.Segments.{on_one_side, on_same_point, one_meeting}
@@ -16,7 +16,7 @@ use Rattle.plane.specs.Turn.{IsRight, IsStraight, determinant}
 use Rattle.rings.specs.Sees.{Sees}
 use Rattle.ring_laws.proofs.Triangles.{not_right_between}
 use Rattle.meshes.proofs.Cones.Held.{end_on_side, held_between, not_left_between}
-use Rattle.meshes.proofs.Cones.RaySigns.{bound_side, squeezed}
+use Rattle.meshes.proofs.Cones.RaySigns.{bound_side}
 use Rattle.meshes.proofs.Cones.SideMeetings.{at_meeting, at_weights, before_meeting, meeting, meeting_on, meeting_on_ray}
 use Rattle.meshes.proofs.Cones.SideMeetings.{only_meeting, same_meeting}
 use Rattle.meshes.proofs.Cones.SideViews.{IsWindow, SideView, hidden, one_end, through_window, whole_side}
@@ -89,7 +89,7 @@ module _ (ring : List Point) (q l r : Point) (cone : Cone) (w : IsWindow ring q 
           | inl near ↦
               let down = not_left_between Q B x R a at_x (whole_is_point r) first.rational w.right_ray.not_past_right
               (zero_not_positive first_on_ray) near in
-              let straight = squeezed down (at_least_unless holds.not_right) in
+              let straight = zero_of_neither down (at_least_unless holds.not_right) in
               on_same_point first.rational (same_sym (only_meeting q l r cone.right r w.right_ray a first x at_x on straight))
               (on_first_end a b)
         ]

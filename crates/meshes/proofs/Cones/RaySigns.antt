@@ -99,10 +99,6 @@ module _ (k l m y z x : ℤ) (hm : pos 0 <ℤ m) (none : z ≡ pos 0) (e : k *�
 
 -- ---- numbers
 
--- one that is neither positive nor negative is 0
-pub squeezed : {z : ℤ} → z ≤ℤ pos 0 → pos 0 ≤ℤ z → z ≡ pos 0
-squeezed h k = omega (arith, ints)
-
 -- a number less a negative multiple of a positive one
 pub ahead_of : (d m s w : ℤ) → d ≡ m -ℤ s *ℤ w → pos 0 ≤ℤ m → s <ℤ pos 0 → pos 0 <ℤ w → pos 0 <ℤ d
 ahead_of d m s w e hm hs hw = omega (arith, ints, mul_comm s w, mul_negative w s hw hs)

@@ -1,7 +1,7 @@
 -- Where a ray meets a side that it reaches, and which points of the side are before the meeting.
 use Rattle.std.proofs.Common.{◌≡◌, inl, inr, ℤ, pos, ◌+ℤ◌, ◌-ℤ◌, ◌*ℤ◌, neg_ℤ, ◌<ℤ◌, ◌≤ℤ◌, arith}
 use Rattle.std.proofs.lemmas.Int.{ints}
-use Rattle.integer_algebra.proofs.SignSteps.{zero_not_negative}
+use Rattle.integer_algebra.proofs.SignSteps.{zero_not_negative, zero_of_neither}
 use Rattle.plane.proofs.Meetings.{no_value, values_apart, zero_combination, zero_point}
 use Rattle.plane.proofs.Points.{same_sym, whole_is_point}
 use Rattle.plane.proofs.Segments.{as_far, on_is_straight, on_last_end, on_one_side, on_reversed}
@@ -12,7 +12,6 @@ use Rattle.plane.specs.Point.{IsPoint, IsSame, Point, Triple, whole}
 use Rattle.plane.specs.Segment.{On}
 use Rattle.plane.specs.Turn.{IsStraight, determinant}
 use Rattle.ring_laws.proofs.Triangles.{not_right_between}
-use Rattle.meshes.proofs.Cones.RaySigns.{squeezed}
 use Rattle.meshes.proofs.Cones.SideViews.{ReachesSide}
 use Rattle.meshes.specs.Cone.{IsPartEnd}
 
@@ -87,5 +86,5 @@ module _ (q l r c e : Point) (reach : ReachesSide q l r c) (m : Triple) (end : I
       | inr after ↦
           let up = not_right_between Q C y m L at_y end.rational (whole_is_point l) (zero_not_negative meeting_on_ray)
           reach.not_past_left after in
-          on_same_point end.rational (same_sym (only_meeting y at_y on (squeezed h up))) (on_last_end R m)
+          on_same_point end.rational (same_sym (only_meeting y at_y on (zero_of_neither h up))) (on_last_end R m)
     ]

@@ -16,7 +16,7 @@ use Rattle.meshes.specs.Laws.{EarLaw, IsEar, IsEarOff, IsLeaf, without}
 use Rattle.meshes.specs.declared.tri.Tri.{Tri}
 
 -- the ends of an edge are numbers of the piece
-edge_ends : (piece : List ℕ) (i j : ℕ) → IsPieceEdge piece i j → Contains piece i × Contains piece j
+pub edge_ends : (piece : List ℕ) (i j : ℕ) → IsPieceEdge piece i j → Contains piece i × Contains piece j
 edge_ends piece i j e =
     let next : (e.place + 1) % length piece < length piece = mod-lt (e.place + 1) (omega (arith, e.in_piece)) in (
       (e.place, e.in_piece, get_or_default piece e.place i 0 e.in_piece ∙ e.from),

@@ -13,6 +13,7 @@ use Rattle.rings.proofs.Vertices.{meet_swapped, reverse-cons}
 use Rattle.rings.specs.Apart.{MeetAtEnds}
 use Rattle.rings.specs.Edge.{edge}
 use Rattle.rings.specs.Ring.{vertex}
+use Rattle.meshes.proofs.Boundaries.{sum_parted}
 use Rattle.meshes.specs.Boundary.{IsOdd, sum_along, sum_from, sum_round}
 use Rattle.meshes.specs.Piece.{IsPolygonPiece}
 use Rattle.mono_fill.specs.Cursors.{along}
@@ -22,7 +23,7 @@ use Rattle.mono_fill.specs.declared.side.Side.{Side}
 use Rattle.mono_fill.specs.declared.side.Side.TheVariants.{Lower, Upper}
 use Rattle.mono_fill.proofs.Outlines.Around.{contains_at, edges_meet, first_inward, upper_at, vertices_differ}
 use Rattle.mono_fill.proofs.Outlines.Outlines.{at, IsOutline, point_at, rank_at, sum_up_to}
-use Rattle.mono_fill.proofs.Sums.{from_backward, from_through, met}
+use Rattle.mono_fill.proofs.Sums.{from_backward, met}
 
 -- a number is below another, or that is at most the first
 lt_or_ge : (a b : ℕ) → (a < b) ⊎ (b ≤ a)
@@ -86,7 +87,7 @@ module _ (s : ℕ) (lower : List ℕ) (t : ℕ) (upper : List ℕ) where
         let c = from_met s (reverse upper ++ t ∷ []) in
         let d = from_backward φ odd s t upper in
         let e = ap (sum_from φ s) (append_assoc lower (t ∷ upper) (s ∷ [])) in
-        let f = from_through φ s t lower (upper ++ s ∷ []) in
+        let f = sum_parted φ s lower t (upper ++ s ∷ []) in
         omega (arith, ints)
 
   -- ---- the outline

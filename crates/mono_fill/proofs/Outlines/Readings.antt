@@ -7,6 +7,7 @@ use Rattle.std.proofs.lemmas.List.Elements.{Contains-append_cases, Contains-appe
 use Rattle.std.specs.Prelude.{slice_index}
 use Rattle.plane.specs.Point.{Point}
 use Rattle.ring_laws.proofs.Kernels.{counterclockwise_winds}
+use Rattle.meshes.proofs.Boundaries.{sum_rotated}
 use Rattle.meshes.proofs.Sides.{length_points}
 use Rattle.meshes.proofs.Triangulations.{piece_rotated}
 use Rattle.meshes.specs.Boundary.{sum_round}
@@ -19,7 +20,6 @@ use Rattle.mono_fill.specs.declared.side.Side.{Side}
 use Rattle.mono_fill.specs.declared.side.Side.TheVariants.{Lower, Upper}
 use Rattle.mono_fill.proofs.Outlines.Outlines.{IsOutline}
 use Rattle.mono_fill.proofs.Outlines.Paths.{above_least, outline, path, ring_of}
-use Rattle.mono_fill.proofs.Sums.{round_rotated}
 
 -- two numbers compare
 nat_compare : (a b : ℕ) → ((a < b) ⊎ (a ≡ b)) ⊎ (b < a)
@@ -71,7 +71,7 @@ module _ (corners : List Point) (ranks piece : List ℕ) (f : IsFillable corners
       (piece_rotated corners turned.front turned.back (subst (IsPolygonPiece corners) turned.parts (fillable_polygon corners ranks piece f)))
 
   same_sums : (φ : ℕ → ℕ → ℤ) → sum_round φ ring ≡ sum_round φ piece
-  same_sums φ = ap (sum_round φ) (sym turned.read) ∙ round_rotated φ turned.back turned.front ∙ ap (sum_round φ) (sym turned.parts)
+  same_sums φ = ap (sum_round φ) (sym turned.read) ∙ sum_rotated φ turned.back turned.front ∙ ap (sum_round φ) (sym turned.parts)
 
   rises : (side : Side) → Rises corners (path f.monotone.least f.monotone.lower f.monotone.greatest f.monotone.upper side)
   rises Lower = f.monotone.lower_rises

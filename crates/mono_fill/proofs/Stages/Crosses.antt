@@ -8,6 +8,7 @@ use Rattle.std.specs.Prelude.{slice_index}
 use Rattle.plane.specs.Order.{IsBefore}
 use Rattle.plane.specs.Point.{Point}
 use Rattle.rings.specs.Ring.{vertex}
+use Rattle.meshes.proofs.Boundaries.{sides_append}
 use Rattle.meshes.specs.Boundary.{HaveBoundary, IsOdd, sum_along, sum_round, sum_sides}
 use Rattle.meshes.specs.Fits.{IsTriOf}
 use Rattle.meshes.specs.declared.tri.Tri.{Tri}
@@ -20,7 +21,7 @@ use Rattle.mono_fill.proofs.Fans.{corners_in, fan_each, tri_of}
 use Rattle.mono_fill.proofs.Stages.GoesOn.{bend_of_triangle, bends_at, sum_more}
 use Rattle.mono_fill.proofs.Outlines.{at, before, ends_of, IsInward, IsOutline, sum_up_to}
 use Rattle.mono_fill.proofs.Stages.Stages.{below_top, IsStage}
-use Rattle.mono_fill.proofs.Sums.{fan_sum, met, odd_met, sides_append}
+use Rattle.mono_fill.proofs.Sums.{fan_sum, met, odd_met}
 
 -- along the other chain pairs are met the other way round
 met_opposite : (side : Side) (φ : ℕ → ℕ → ℤ) (i j : ℕ) → met (opposite side) φ i j ≡ met side φ j i

@@ -8,6 +8,7 @@ use Rattle.std.proofs.lemmas.List.{take_more}
 use Rattle.std.proofs.lemmas.List.Elements.{All-append, All-cons, All-drop, All-get_or, All-push, All-take}
 use Rattle.std.specs.Prelude.{slice_index}
 use Rattle.plane.specs.Point.{Point}
+use Rattle.meshes.proofs.Boundaries.{sides_append}
 use Rattle.meshes.specs.Boundary.{IsOdd, sum_along, sum_sides}
 use Rattle.meshes.specs.Fits.{IsTriOf}
 use Rattle.meshes.specs.declared.tri.Tri.{Tri}
@@ -19,7 +20,7 @@ use Rattle.mono_fill.specs.declared.side.Side.TheVariants.{Lower, Upper}
 use Rattle.mono_fill.proofs.Fans.{all_reversed, corners_in, fan_each, HasCornersIn, tri_of}
 use Rattle.mono_fill.proofs.Outlines.{at, IsInward, IsOutline, sum_up_to}
 use Rattle.mono_fill.proofs.Stages.Stages.{below_top, IsStage}
-use Rattle.mono_fill.proofs.Sums.{along_append, along_push, fan_sum, last_append, last_push, met, odd_met, sides_append, sides_reversed}
+use Rattle.mono_fill.proofs.Sums.{along_append, along_push, fan_sum, last_append, last_push, met, odd_met, sides_reversed}
 
 -- a triangle is counterclockwise exactly where its corner is inward
 pub bend_of_triangle : (corners : List Point) (side : Side) (p q x : ℕ)

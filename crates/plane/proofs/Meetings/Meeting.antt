@@ -1,5 +1,6 @@
 -- A rational point against a line through whole points, the meeting of two such lines, and mediants.
 use Rattle.std.proofs.Common.{◌≡◌, [], ◌∷◌, refl, ◌∙◌, ℤ, pos, ◌+ℤ◌, ◌-ℤ◌, ◌*ℤ◌, neg_ℤ, arith}
+use Rattle.std.proofs.Math.IntN.{+ℤ_comm}
 use Rattle.std.proofs.lemmas.Int.{ints}
 use Rattle.integer_algebra.proofs.Laws.{add-mul, mul-add, mul_comm}
 use Rattle.integer_algebra.proofs.Polynomial.{lit, var, ◌⊕◌, ◌⊖◌, ◌⊗◌, same_value}
@@ -60,10 +61,6 @@ module _ (a b c d : Point) where
 
 -- ---- mediants
 
--- sums may be read backward
-add_comm : (a b : ℤ) → a +ℤ b ≡ b +ℤ a
-add_comm a b = omega (arith, ints)
-
 -- one coordinate of a mediant that is the same as its first point: x and w of that point, u and v of the other
 first_cancels : (x w u v : ℤ) → (x +ℤ u) *ℤ w ≡ x *ℤ (w +ℤ v) → x *ℤ v ≡ u *ℤ w
 first_cancels x w u v h = omega (arith, ints, add-mul x u w, mul-add x w v)
@@ -94,6 +91,6 @@ module _ (p q : Triple) where
 pub mediant_not_second : (p q : Triple) → ¬ IsSame p q → ¬ IsSame (mediant p q) q
 mediant_not_second p q differ s =
     mediant_not_first q p (λ t. differ (same_sym t)) (record {
-      same_x = (λ i. add_comm q.X p.X i *ℤ q.W) ∙ s.same_x ∙ (λ i. q.X *ℤ add_comm p.W q.W i);
-      same_y = (λ i. add_comm q.Y p.Y i *ℤ q.W) ∙ s.same_y ∙ (λ i. q.Y *ℤ add_comm p.W q.W i);
+      same_x = (λ i. +ℤ_comm q.X p.X i *ℤ q.W) ∙ s.same_x ∙ (λ i. q.X *ℤ +ℤ_comm p.W q.W i);
+      same_y = (λ i. +ℤ_comm q.Y p.Y i *ℤ q.W) ∙ s.same_y ∙ (λ i. q.Y *ℤ +ℤ_comm p.W q.W i);
     })

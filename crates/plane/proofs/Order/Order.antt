@@ -2,8 +2,8 @@
 use Rattle.std.proofs.Common.{◌≡◌, ◌⊎◌, inl, inr, subst, ◌-ℤ◌, ◌≤ℤ◌, arith, sym}
 use Rattle.std.proofs.lemmas.Int.{ints}
 use Rattle.integer_algebra.proofs.Signs.{Sign, is_negative, is_positive, is_zero, sign}
-use Rattle.plane.specs.Order.{IsBefore, IsBetween}
-use Rattle.plane.specs.Point.{Point}
+use Rattle.plane.specs.Order.{IsBefore, IsBetween, Precedes}
+use Rattle.plane.specs.Point.{Point, whole}
 
 -- how two points compare
 pub data Comparison (p q : Point) : Type 0 where
@@ -48,6 +48,11 @@ before_or_not p q = elim (compare_points p q) [
   | equal e ↦ inr (λ h. before_differs p q h e)
   | after h ↦ inr (before_asym q p h)
 ]
+
+-- a whole point that precedes another is before it
+pub before_of_precedes : (p q : Point) → Precedes (whole p) (whole q) → IsBefore p q
+before_of_precedes p q (inl h) = inl (omega (arith, ints))
+before_of_precedes p q (inr h) = let e = h.0 in let k = h.1 in inr (omega (arith, ints), omega (arith, ints))
 
 -- two points are one or not
 pub point_or_other : (p q : Point) → (p ≡ q) ⊎ (¬ (p ≡ q))

@@ -27,12 +27,6 @@ region_of_one [] p one h = absurd (omega (arith, one))
 region_of_one (a ∷ []) p one h = h
 region_of_one (a ∷ b ∷ cs) p one h = absurd (omega (arith, one))
 
--- and the other way round
-pub one_of_region : (cs : List Triple) (p : Triple) → length cs ≡ 1 → IsInRegion cs p → IsSame p (corner cs 0)
-one_of_region [] p one h = absurd (omega (arith, one))
-one_of_region (a ∷ []) p one h = h
-one_of_region (a ∷ b ∷ cs) p one h = absurd (omega (arith, one))
-
 -- the region of two corners is the segment between them
 pub region_of_two : (cs : List Triple) (p : Triple) → length cs ≡ 2 → On p (corner cs 0) (corner cs 1) → IsInRegion cs p
 region_of_two [] p two h = absurd (omega (arith, two))

@@ -116,8 +116,8 @@ module _ (cs : List Triple) where
   at_corner i less = ap (λ k. corner cs k) (mod-eq_of_lt less)
 
   -- after the last comes the first
-  pub at_first : (i : ℕ) → 0 < length cs → i ≡ length cs → corner_at cs i ≡ corner cs 0
-  at_first i some end = ap (λ k. corner cs k) (ap (λ k. k % length cs) end ∙ mod_self (length cs))
+  pub at_first : (i : ℕ) → i ≡ length cs → corner_at cs i ≡ corner cs 0
+  at_first i end = ap (λ k. corner cs k) (ap (λ k. k % length cs) end ∙ mod_self (length cs))
 
   -- all others are left of a side
   left_of_side : AreConvex cs → (i j : ℕ) → i < length cs → j < length cs → j ≢ i → j ≢ (i + 1) % length cs
@@ -133,7 +133,7 @@ module _ (cs : List Triple) where
         let last : i + 1 ≡ length cs = omega (arith, end, in_i) in
         let round : (i + 1) % length cs ≡ 0 = ap (λ k. k % length cs) last ∙ mod_self (length cs) in
         let apart : j ≢ 0 = λ e. next (e ∙ sym round) in
-        left_at (at_corner i in_i) (at_first (i + 1) (omega (arith, in_i)) last) (at_corner j in_j)
+        left_at (at_corner i in_i) (at_first (i + 1) last) (at_corner j in_j)
         (left_shift_back (corner cs 0) (corner cs j) (corner cs i)
         (convex.left 0 j i (omega (arith, apart)) (omega (arith, in_j, last, other)) in_i))
   ]

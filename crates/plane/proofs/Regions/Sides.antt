@@ -38,7 +38,7 @@ module _ (cs : List Triple) (p : Triple) where
         (at_least_unless (none i (omega (arith, more))));
     closing =
         not_right_at p (sym (at_corner cs (length cs - 1) (omega (arith, some))))
-        (sym (at_first cs (length cs - 1 + 1) some (omega (arith, some))))
+        (sym (at_first cs (length cs - 1 + 1) (omega (arith, some))))
         (at_least_unless (none (length cs - 1) (omega (arith, some))));
   }
 
@@ -48,7 +48,7 @@ module _ (cs : List Triple) (p : Triple) where
     | inl more ↦ at_least_zero (not_right_at p (at_corner cs i less) (at_corner cs (i + 1) more) (sides.along i more))
     | inr end ↦
         let last : i ≡ length cs - 1 = omega (arith, end, less) in
-        at_least_zero (not_right_at p (at_corner cs i less) (at_first cs (i + 1) (omega (arith, less)) (omega (arith, end, less)))
+        at_least_zero (not_right_at p (at_corner cs i less) (at_first cs (i + 1) (omega (arith, end, less)))
         (subst (λ k. IsNotRight (corner cs k) (corner cs 0) p) (sym last) sides.closing))
   ]
 

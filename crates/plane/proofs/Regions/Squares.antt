@@ -1,5 +1,5 @@
 -- The square of the limit, by its corners.
-use Rattle.std.proofs.Common.{ℕ, zero, suc, ◌+◌, ◌-◌, ◌<◌, arith, List, [], ◌∷◌, length, ℤ, pos, negsuc}
+use Rattle.std.proofs.Common.{ℕ, zero, suc, ◌+◌, ◌-◌, ◌<◌, arith, List, [], ◌∷◌, ℤ, pos, negsuc}
 use Rattle.std.proofs.lemmas.Int.{ints}
 use Rattle.plane.proofs.Regions.Corners.{corners_of_convex}
 use Rattle.plane.proofs.Regions.Sides.{IsInSides, IsNotRight, region_of_sides, sides_of_region}
@@ -69,10 +69,6 @@ inside_square p sides =
 -- they are convex,
 pub square_convex : AreConvex square
 square_convex = record { rational = square_rational; left = square_left; different = λ two. absurd (omega (arith, two)) }
-
--- begin with the least,
-pub square_from_least : (i : ℕ) → i < length square → ¬ (Precedes (corner square i) (corner square 0))
-square_from_least = square_least
 
 -- and are the corner list of the square
 pub square_corners : IsCornerList IsInSquare square

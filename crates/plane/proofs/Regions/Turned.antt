@@ -12,10 +12,6 @@ use Rattle.plane.specs.Region.{IsInRegion}
 use Rattle.plane.specs.Turn.{IsLeft}
 
 module _ (xs ys : List Triple) where
-  -- the number of corners stays
-  pub length_turned : length (ys ++ xs) ≡ length (xs ++ ys)
-  length_turned = omega (arith, length-append xs ys, length-append ys xs)
-
   -- first come those that were last,
   turned_first : (i k : ℕ) → i < length ys → k ≡ length xs + i → corner (ys ++ xs) i ≡ corner (xs ++ ys) k
   turned_first i k less e = get_or_append_left ys xs _ i less ∙ sym (ap (λ n. corner (xs ++ ys) n) e ∙ get_or-append-add xs ys i _)

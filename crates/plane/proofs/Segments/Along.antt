@@ -7,11 +7,11 @@ use Rattle.integer_algebra.proofs.Polynomial.{var, ◌⊕◌, ◌⊖◌, ◌⊗�
 use Rattle.integer_algebra.proofs.SignSteps.{not_both, weak, weak_order}
 use Rattle.integer_algebra.proofs.Signs.{cancel_equal, is_negative, is_positive, is_zero, lt_or_le, mul_nonnegative, mul_nonpositive, mul_positive}
 use Rattle.integer_algebra.proofs.Signs.{sign}
-use Rattle.plane.proofs.Points.{same_sym, same_trans}
-use Rattle.plane.proofs.Segments.Combinations.{combination_of_same, same_without_first, same_without_last}
+use Rattle.plane.proofs.Points.{same_sym, same_trans, same_whole, whole_is_point}
+use Rattle.plane.proofs.Segments.Combinations.{combination_of_same, on_nested, same_without_first, same_without_last}
 use Rattle.plane.proofs.Segments.Segments.{on_first_end, on_same_point}
 use Rattle.plane.proofs.Turns.{IsCombination, combination_of, on_of_combination, weights_positive}
-use Rattle.plane.specs.Point.{IsPoint, IsSame, Triple}
+use Rattle.plane.specs.Point.{IsPoint, IsSame, Point, Triple, whole}
 use Rattle.plane.specs.Segment.{On}
 
 -- ---- one point is between the first end and the other
@@ -125,3 +125,16 @@ module _ (p q y : Triple) (at_p : IsPoint p) (at_q : IsPoint q) (at_y : IsPoint 
         | is_zero none ↦ same_sym (same_without_first q y p d none)
         | is_negative n ↦ absurd (not_both n d.l_nonnegative)
       ]
+
+-- ---- points nearer to v than others
+
+-- two points, each nearer to v than the other, are one
+pub nearer_each : (v p q : Point) → On (whole p) (whole v) (whole q) → On (whole q) (whole v) (whole p) → p ≡ q
+nearer_each v p q on back =
+    same_whole p q (on_antisym (whole p) (whole q) (whole v) (whole_is_point p) (whole_is_point q) (whole_is_point v) on back)
+
+-- from nearer to nearer
+pub nearer_on : (v p q r : Point) → On (whole p) (whole v) (whole q) → On (whole q) (whole v) (whole r) → On (whole p) (whole v) (whole r)
+nearer_on v p q r first last =
+    on_nested (whole p) (whole v) (whole q) (whole v) (whole r) (whole_is_point p) (whole_is_point v) (whole_is_point q) (whole_is_point v)
+    (whole_is_point r) (on_first_end (whole v) (whole r)) last first

@@ -3,6 +3,7 @@ use Rattle.std.proofs.Common.{◌≡◌, ◌⊎◌, inl, inr, [], ◌∷◌, ref
 use Rattle.std.proofs.lemmas.Int.{ints}
 use Rattle.integer_algebra.proofs.Fractions.{fraction_le_lt_trans, fraction_lt_le_trans}
 use Rattle.integer_algebra.proofs.Polynomial.{var, ◌⊕◌, ◌⊖◌, ◌⊗◌, same_value, lit}
+use Rattle.integer_algebra.proofs.SignSteps.{difference_positive, without_less}
 use Rattle.integer_algebra.proofs.Weights.{Forward, no_balance}
 use Rattle.plane.proofs.Order.{NotAfter, follows, not_after_antisym, not_after_facts, not_after_of_same, not_after_or_precedes, not_after_trans}
 use Rattle.plane.proofs.Order.{precedence, precedes, same}
@@ -101,10 +102,6 @@ weights x w u v s t =
 without : (x y d : ℤ) → x ≡ y +ℤ d → d ≡ pos 0 → x ≡ y
 without x y d e h = omega (arith, ints)
 
--- also one that is taken away
-without_less : (x y d : ℤ) → x ≡ y -ℤ d → d ≡ pos 0 → x ≡ y
-without_less x y d e h = omega (arith, ints)
-
 -- what is not after another is not to its right
 at_most : (p q : Triple) → NotAfter p q → pos 0 ≤ℤ across q p
 at_most p q (inl h) = omega (arith, ints)
@@ -114,10 +111,6 @@ at_most p q (inr h) = let e = h.0 in omega (arith, ints)
 at_most_upward : (p q : Triple) → ¬ ((p.X *ℤ q.W) <ℤ (q.X *ℤ p.W)) → NotAfter p q → pos 0 ≤ℤ upward q p
 at_most_upward p q n (inl h) = absurd (n h)
 at_most_upward p q n (inr h) = let e = h.1 in omega (arith, ints)
-
--- a greater number less a smaller one is positive
-difference_positive : (x y : ℤ) → x <ℤ y → pos 0 <ℤ (y -ℤ x)
-difference_positive x y h = omega (arith, ints)
 
 module _ (p a b : Triple) (straight : IsStraight a b p) where
   -- the other coordinate, where the way across weighs
@@ -131,7 +124,7 @@ module _ (p a b : Triple) (straight : IsStraight a b p) where
   -- and where the way upward does
   other_X : upward b a *ℤ p.X ≡ upward b p *ℤ a.X +ℤ upward p a *ℤ b.X
   other_X =
-      without_less _ _ _
+      without_less
       (same_value ((var 4 ⊗ var 2 ⊖ var 1 ⊗ var 5) ⊗ var 6)
       ((var 4 ⊗ var 8 ⊖ var 7 ⊗ var 5) ⊗ var 0 ⊕ (var 7 ⊗ var 2 ⊖ var 1 ⊗ var 8) ⊗ var 3 ⊖ det 0 1 2)
       (parts (a ∷ b ∷ p ∷ []) []) refl) straight
@@ -143,7 +136,7 @@ module _ (p a b : Triple) (straight : IsStraight a b p) where
       k = across b a;
       l = across b p;
       m = across p a;
-      k_positive = difference_positive _ _ h;
+      k_positive = difference_positive h;
       l_nonnegative = at_most p b last;
       m_nonnegative = at_most a p first;
       in_X = weighing p.X p.W a.X a.W b.X b.W;
@@ -171,7 +164,7 @@ module _ (p a b : Triple) (straight : IsStraight a b p) where
       k = upward b a;
       l = upward b p;
       m = upward p a;
-      k_positive = difference_positive _ _ h;
+      k_positive = difference_positive h;
       l_nonnegative = at_most_upward p b (not_left e) last;
       m_nonnegative = at_most_upward a p (not_right e) first;
       in_X = other_X;

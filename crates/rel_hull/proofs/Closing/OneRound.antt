@@ -1,45 +1,37 @@
 -- Points have one round.
 use Rattle.std.proofs.Common.{◌≡◌, inl, inr, refl, sym, ◌∙◌, ℕ, ◌≤◌, List, [], length, arith}
-use Rattle.std.proofs.lemmas.Bool.{cases_eq, cases_lt}
-use Rattle.hulls.proofs.Entrances.{paths}
+use Rattle.std.proofs.lemmas.Bool.{cases_lt}
 use Rattle.hulls.proofs.Outer.{inner_or_not, outer_pair}
 use Rattle.hulls.proofs.Round.{IsRoundBy, same_rounds}
-use Rattle.hulls.proofs.StepsSeen.{steps}
-use Rattle.hulls.proofs.Turning.{exchanged, not_both}
 use Rattle.hulls.specs.Inner.{AreAllIn, AreDistinct, IsInnerPoint}
 use Rattle.plane.specs.Point.{Point}
 use Rattle.rel_hull.proofs.Outer.{some_others}
 use Rattle.rel_hull.proofs.Closing.Least.{round_from_least}
 use Rattle.rel_hull.proofs.Closing.Numbers.{numbers_closed}
 use Rattle.rel_hull.proofs.Closing.Turning.{IsLeftAt, are_turning, places_of_pair}
-use Rattle.rel_hull.proofs.Turned.{left_of_turn}
 use Rattle.rel_hull.specs.Hull.{IsSide}
 use Rattle.rel_hull.specs.Round.{IsClosed, IsRound, OneRoundLaw}
 use Rattle.rings.specs.Simple.{IsSimple}
 
--- a start has one end
-pub one_end : (ring points : List Point) (s t u : ℕ) → IsSide ring points s t → IsSide ring points s u → t ≡ u
-one_end ring points s t u side other = elim (cases_eq t u) [
-  | inl same ↦ same
-  | inr apart ↦
-      absurd (not_both ring _ _ _
-      (left_of_turn ring _ _ _ (side.left u other.t_in_list (λ e. other.different (sym e)) (λ e. apart (sym e)) other.t_outer))
-      (exchanged ring _ _ _ (left_of_turn ring _ _ _ (other.left t side.t_in_list (λ e. side.different (sym e)) apart side.t_outer))))
-]
-
 -- a closed round is one of the sides
-pub round_by : (ring points : List Point) (round : List ℕ) → IsClosed ring points round → IsRoundBy (IsSide ring points) round
+round_by : (ring points : List Point) (round : List ℕ) → IsClosed ring points round → IsRoundBy (IsSide ring points) round
 round_by ring points round is = record { distinct = is.distinct; sides = is.sides }
 
--- two closed rounds are equal
-one_closed : (ring points : List Point) (one other : List ℕ) → IsClosed ring points one → IsClosed ring points other → one ≡ other
-one_closed ring points one other is is_too =
-    let starts = is.starts in
-    let starts_too = is_too.starts in
-    let less = is.least _ starts_too in
-    let less_too = is_too.least _ starts in
-    same_rounds (IsSide ring points) (one_end ring points) _ _ starts.1 one other (round_by ring points one is) (round_by ring points other is_too) refl
-    (omega (arith, less, less_too))
+-- of one point or more there is only one round
+pub only_round : (ring points : List Point) → 1 ≤ length points → (one other : List ℕ) → IsRound ring points one → IsRound ring points other
+    → one ≡ other
+only_round ring points some one other h g = elim (cases_lt 1 (length points)) [
+  | inl two ↦
+      let is = h.closed two in
+      let is_too = g.closed two in
+      let less = is.least _ is_too.starts in
+      let less_too = is_too.least _ is.starts in
+      same_rounds (IsSide ring points) _ _ is.starts.1 one other (round_by ring points one is) (round_by ring points other is_too) refl
+      (omega (arith, less, less_too))
+  | inr not ↦
+      let alone : length points ≡ 1 = omega arith in
+      h.alone alone ∙ sym (g.alone alone)
+]
 
 module _ (ring : List Point) (some : 3 ≤ length ring) (simple : IsSimple ring) (points : List Point) (distinct : AreDistinct points)
     (all_in : AreAllIn ring points) where
@@ -47,7 +39,7 @@ module _ (ring : List Point) (some : 3 ≤ length ring) (simple : IsSimple ring)
   some_closed : 2 ≤ length points → (round : List ℕ) × IsClosed ring points round
   some_closed two =
       let (outer, are) = some_others (IsInnerPoint ring points) (inner_or_not ring some simple points distinct all_in) (length points) in
-      let (s, t, pair) = outer_pair paths steps ring some simple points two distinct all_in in
+      let (s, t, pair) = outer_pair ring some simple points two distinct all_in in
       let (i, j, at_s, at_t, side) = places_of_pair ring points outer are s t pair in
       let (round, from) = round_from_least (length outer) (IsLeftAt ring points outer)
       (are_turning ring points outer are some simple distinct all_in) i j side in
@@ -62,16 +54,7 @@ module _ (ring : List Point) (some : 3 ≤ length ring) (simple : IsSimple ring)
     | inr not ↦ ([], record { alone = λ _. refl; closed = λ two. absurd (omega arith) })
   ]
 
-  -- and only one
-  same_round : 1 ≤ length points → (one other : List ℕ) → IsRound ring points one → IsRound ring points other → one ≡ other
-  same_round some_points one other is is_too = elim (cases_lt 1 (length points)) [
-    | inl two ↦ one_closed ring points one other (is.closed two) (is_too.closed two)
-    | inr not ↦
-        let alone : length points ≡ 1 = omega arith in
-        is.alone alone ∙ sym (is_too.alone alone)
-  ]
-
 -- points of a simple ring have just one round
 pub one_round : OneRoundLaw
 one_round ring some simple points one distinct all_in =
-    (some_round ring some simple points distinct all_in one, same_round ring some simple points distinct all_in one)
+    (some_round ring some simple points distinct all_in one, only_round ring points one)

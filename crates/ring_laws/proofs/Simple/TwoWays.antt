@@ -6,7 +6,7 @@ use Rattle.rings.proofs.Inside.{neighbours_turned_iff, reflex_turned_iff, sees_t
 use Rattle.rings.proofs.Simple.{apart_of_simple}
 use Rattle.rings.proofs.Turned.{length-turned_round, turned_round-turned_round, doubled_area-turned_round, simple_turned}
 use Rattle.rings.specs.Bend.{IsBend}
-use Rattle.rings.specs.Chain.{IsBentChain, IsChain}
+use Rattle.rings.specs.Chain.{IsBentChain, IsChain, IsTaut}
 use Rattle.rings.specs.Orientation.{IsClockwise, IsCounterclockwise, turned_round}
 use Rattle.rings.specs.Simple.{IsSimple}
 use Rattle.ring_laws.proofs.Simple.SimpleRings.{runs_round}
@@ -80,3 +80,10 @@ bent_kept ring kept is c h = elim is.one_of [
   | inl e ↦ subst (λ (vs : List Point). IsBentChain vs c) (sym e) h
   | inr e ↦ subst (λ (vs : List Point). IsBentChain vs c) (sym e) (bent_chain_turned ring c h)
 ]
+
+-- the same chains are taut in a ring that is read the other way round,
+pub taut_turned_iff : (ring : List Point) (s t : Point) (points : List Point) → IsTaut (turned_round ring) s t points ↔ IsTaut ring s t points
+taut_turned_iff ring s t points = (
+  λ h. record { bent = (bent_turned_iff ring points).0 h.bent; first = h.first; last = h.last; single = h.single },
+  λ h. record { bent = (bent_turned_iff ring points).1 h.bent; first = h.first; last = h.last; single = h.single },
+)

@@ -1,17 +1,14 @@
 -- Crossings and winding numbers of lists of edges: appended lists, and edges read backward.
-use Rattle.std.proofs.Common.{◌≡◌, refl, ◌∙◌, sym, ◌+◌, ℤ, ◌+ℤ◌, neg_ℤ, List, [], ◌∷◌, ◌++◌, arith}
+use Rattle.std.proofs.Common.{◌≡◌, refl, ◌∙◌, sym, ◌+◌, ◌+ℤ◌, neg_ℤ, List, [], ◌∷◌, ◌++◌, arith}
 use Rattle.std.proofs.lemmas.Int.{ints}
 use Rattle.std.proofs.lemmas.List.Sums.{sum_by-append, sum_by-cons}
 use Rattle.std.specs.Prelude.{cond}
+use Rattle.integer_algebra.proofs.SignSteps.{opposite_sum}
 use Rattle.plane.specs.Point.{Triple}
 use Rattle.rings.proofs.Crossings.Crossings.{crossing_reversed, is_crossed_reversed}
 use Rattle.rings.proofs.Vertices.{backward, reversed, sum_regrouped}
 use Rattle.rings.specs.Edge.{Edge}
 use Rattle.rings.specs.Inside.{crossing, crossings, is_crossed, winding}
-
--- a sum of opposites is the opposite of the sum
-opposite_sum : (a b c d : ℤ) → c ≡ neg_ℤ a → d ≡ neg_ℤ b → c +ℤ d ≡ neg_ℤ (a +ℤ b)
-opposite_sum a b c d h k = omega (arith, ints)
 
 module _ (p : Triple) where
   -- crossings add up

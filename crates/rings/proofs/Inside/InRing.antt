@@ -1,15 +1,16 @@
 -- What the laws of crossings say of the points in a ring.
-use Rattle.std.proofs.Common.{◌≡◌, ◌⊎◌, inl, inr, sym, ap, ◌∙◌, ℕ, ◌+◌, ◌%◌, ℤ, pos, ◌+ℤ◌, ◌*ℤ◌, arith, List, [], ◌∷◌}
+use Rattle.std.proofs.Common.{◌≡◌, ◌⊎◌, inl, inr, sym, ap, ◌∙◌, ℕ, ◌+◌, ◌%◌, ℤ, pos, ◌+ℤ◌, ◌*ℤ◌, arith, List, [], ◌∷◌, ◌<◌, length}
 use Rattle.std.proofs.lemmas.Bool.{cases_eq}
 use Rattle.integer_algebra.proofs.Decisions.{either_or_not}
 use Rattle.plane.proofs.Points.{whole_is_point}
-use Rattle.plane.proofs.Segments.{on_or_not}
+use Rattle.plane.proofs.Segments.{on_first_end, on_or_not}
 use Rattle.plane.specs.Point.{IsPoint, IsSame, Point, Triple, whole}
 use Rattle.rings.proofs.Crossings.{crossings_even, crossings_odd}
 use Rattle.rings.proofs.Inside.SamePoint.{crossings_same}
-use Rattle.rings.proofs.Vertices.{on_some_same}
+use Rattle.rings.proofs.Vertices.{on_some_from, on_some_same}
 use Rattle.rings.specs.Edge.{Edge, IsOnSome, edges_of}
 use Rattle.rings.specs.Inside.{IsIn, crossings, winding}
+use Rattle.rings.specs.Ring.{vertex}
 
 -- ---- one point or another
 
@@ -44,3 +45,7 @@ not_in_from_even ring p z off e (inr odd) = let even = crossings_even (edges_of 
 -- of two numbers of different parity not both are odd
 pub both_odd : (m n : ℕ) → m % 2 ≡ (n + 1) % 2 → m % 2 ≡ 1 → n % 2 ≡ 1 → ⊥
 both_odd m n e h k = omega arith
+
+-- a vertex is in the ring
+pub vertex_in : (ring : List Point) (i : ℕ) → i < length ring → IsIn ring (whole (vertex ring i))
+vertex_in ring i h = inl (on_some_from (whole (vertex ring i)) ring i h (on_first_end (whole (vertex ring i)) (whole (vertex ring (i + 1)))))

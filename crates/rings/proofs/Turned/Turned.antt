@@ -1,11 +1,12 @@
 -- A ring read the other way round: its edges are those of the ring, the last one first, each read backward.
-use Rattle.std.proofs.Common.{◌≡◌, ℕ, suc, ◌+◌, ◌-◌, ◌<◌, ◌≤◌, List, [], ◌∷◌, ◌++◌, length, reverse, inl, inr, zero, refl, ap, sym, ◌∙◌, arith}
+use Rattle.std.proofs.Common.{◌≡◌, ℕ, suc, ◌+◌, ◌-◌, ◌<◌, ◌≤◌, List, [], ◌∷◌, ◌++◌, length, reverse, inl, inr, zero, refl, ap, sym, ◌∙◌, arith, ◌%◌}
 use Rattle.std.proofs.lemmas.Bool.{cases_lt}
 use Rattle.std.proofs.lemmas.List.{get_or-reverse, length-reverse, reverse-reverse}
 use Rattle.std.specs.Prelude.{slice_index_or}
 use Rattle.plane.specs.Point.{Point}
-use Rattle.rings.proofs.Vertices.{backward, reverse-cons, vertex_in_range, vertex_round, edges_along_append}
+use Rattle.rings.proofs.Vertices.{backward, edges_along_append, reverse-cons, vertex_in_range, vertex_mod, vertex_round}
 use Rattle.rings.specs.Edge.{Edge, edges_along, edges_of}
+use Rattle.rings.specs.Full.{IsVertexBetween}
 use Rattle.rings.specs.Orientation.{turned_round}
 use Rattle.rings.specs.Ring.{origin, vertex}
 
@@ -94,3 +95,16 @@ module _ (ring : List Point) (i : ℕ) (h : i < length ring) where
   -- to its beginning
   pub turned_end : vertex (turned_round ring) (length ring - 1 - i + 1) ≡ vertex ring i
   turned_end = vertex-turned_round ring (length ring - 1 - i + 1) (omega arith) ∙ ap (vertex ring) (omega arith)
+
+-- what is a vertex of it between two points is one of the ring,
+pub between_turned : (ring : List Point) (a b v : Point) → IsVertexBetween (turned_round ring) a b v → IsVertexBetween ring a b v
+between_turned ring a b v between = record {
+  i = (length ring - between.i) % length ring;
+  in_ring = omega (arith, length-turned_round ring);
+  is_vertex = vertex_mod ring (length ring - between.i)
+      ∙ sym (vertex-turned_round ring between.i (omega (arith, length-turned_round ring)))
+      ∙ between.is_vertex;
+  on = between.on;
+  not_first = between.not_first;
+  not_last = between.not_last;
+}

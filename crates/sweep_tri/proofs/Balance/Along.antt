@@ -2,7 +2,8 @@
 use Rattle.std.proofs.Common.{◌≡◌, sym, ap, ◌∙◌, ℕ, ◌+◌, ◌-◌, ◌≤◌, ℤ, ◌+ℤ◌, neg_ℤ, List, [], ◌∷◌, ◌++◌, length, take, get_or, reverse, arith}
 use Rattle.std.proofs.lemmas.Int.{ints}
 use Rattle.std.proofs.lemmas.List.{append_assoc, get_or-take, length-take-le, reverse-append, take_all, take_more}
-use Rattle.meshes.specs.Boundary.{IsOdd, sum_along, sum_from}
+use Rattle.meshes.proofs.Boundaries.{sum_parted}
+use Rattle.meshes.specs.Boundary.{IsOdd, sum_along}
 use Rattle.sweep_tri.specs.Gaps.{before_last, last}
 
 -- ---- the end of a list
@@ -23,14 +24,9 @@ last_of_front c two =
 -- ---- sums
 
 module _ (φ : ℕ → ℕ → ℤ) where
-  -- a sum goes to an item of the list, and on from there
-  pub from_split : (i : ℕ) (xs : List ℕ) (x : ℕ) (ys : List ℕ) → sum_from φ i (xs ++ x ∷ ys) ≡ sum_from φ i (xs ++ x ∷ []) +ℤ sum_from φ x ys
-  from_split i [] x ys = omega (arith, ints)
-  from_split i (j ∷ xs) x ys = omega (arith, ints, from_split j xs x ys)
-
   pub along_split : (xs : List ℕ) (x : ℕ) (ys : List ℕ) → sum_along φ (xs ++ x ∷ ys) ≡ sum_along φ (xs ++ x ∷ []) +ℤ sum_along φ (x ∷ ys)
   along_split [] x ys = omega (arith, ints)
-  along_split (i ∷ xs) x ys = from_split i xs x ys
+  along_split (i ∷ xs) x ys = sum_parted i xs x ys
 
   -- with another item, or two, at the end
   pub along_push : (c : List ℕ) (v : ℕ) → 1 ≤ length c → sum_along φ (c ++ v ∷ []) ≡ sum_along φ c +ℤ φ (last c) v

@@ -9,9 +9,8 @@ use Rattle.plane.specs.Point.{Point}
 use Rattle.meshes.specs.Boundary.{IsOdd, sum_along, sum_from, sum_round, sum_sides}
 use Rattle.meshes.specs.declared.tri.Tri.{Tri}
 use Rattle.mono_fill.specs.Filled.{IsFilled}
-use Rattle.sweep_tri.proofs.Balance.Along.{along_reverse, from_split, with_last}
-use Rattle.meshes.proofs.Boundaries.{sides_cancel}
-use Rattle.sweep_tri.proofs.Balance.Lists.{sides-append}
+use Rattle.sweep_tri.proofs.Balance.Along.{along_reverse, with_last}
+use Rattle.meshes.proofs.Boundaries.{sides_append, sides_cancel, sum_parted}
 use Rattle.sweep_tri.specs.Gaps.{last}
 use Rattle.sweep_tri.specs.Meeting.{AreFilled}
 use Rattle.sweep_tri.specs.Region.{Chains, IsClosedRegion, boundary}
@@ -46,7 +45,7 @@ module _ (φ : ℕ → ℕ → ℤ) (odd : IsOdd φ) where
       reverse-append (f ∷ []) (up ++ l ∷ []) ∙ ap (λ xs. xs ++ f ∷ []) (reverse-append up (l ∷ [])) in
       let along_back : sum_along φ (l ∷ back) ≡ sum_along φ (reverse (f ∷ (up ++ l ∷ []))) = ap (sum_along φ) (sym backward) in
       ap (sum_from φ f) read
-      ∙ omega (arith, ints, from_split φ f low l back, along_back, along_reverse φ odd (f ∷ (up ++ l ∷ [])))
+      ∙ omega (arith, ints, sum_parted φ f low l back, along_back, along_reverse φ odd (f ∷ (up ++ l ∷ [])))
 
   -- so the boundary of a closed region has its sum
   pub closed_round : (c : Chains) → 2 ≤ length c.lower → 2 ≤ length c.upper → get_or c.lower 0 0 ≡ get_or c.upper 0 0 → last c.lower ≡ last c.upper
@@ -73,7 +72,7 @@ module _ (φ : ℕ → ℕ → ℤ) (odd : IsOdd φ) where
         let region = closed.is_region in
         let round = closed_round c region.lower_some region.upper_some region.first closed.last in
         ap (sum_sides φ) after
-        ∙ omega (arith, ints, sides-append φ old tris, sides_cancel corners (boundary c) tris fits φ odd, round)
+        ∙ omega (arith, ints, sides_append φ old tris, sides_cancel corners (boundary c) tris fits φ odd, round)
 
     -- and those that fill several have their sums
     pub all_filled_sum : (cs : List Chains) (old new : List Tri) → All (IsClosedRegion corners ranks) cs → AreFilled corners cs old new

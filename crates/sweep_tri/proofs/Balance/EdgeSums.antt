@@ -1,12 +1,12 @@
 -- Sums over the edges of a ring, each with a sign: where the signs agree, and where all are 1 or -1.
 use Rattle.std.proofs.Common.{◌≡◌, inl, inr, refl, sym, ap, ◌∙◌, ℕ, zero, suc, ◌+◌, ◌-◌, ◌<◌, ◌≤◌, ℤ, pos, negsuc, ◌+ℤ◌, ◌-ℤ◌, ◌*ℤ◌, neg_ℤ}
-use Rattle.std.proofs.Common.{if◌then◌else◌, nat_lt, [], ◌∷◌, ◌++◌, length, get_or, arith}
+use Rattle.std.proofs.Common.{if◌then◌else◌, nat_lt, length, get_or, arith}
 use Rattle.std.proofs.lemmas.Bool.{cases_lt}
 use Rattle.std.proofs.lemmas.Int.{ints}
-use Rattle.std.proofs.lemmas.List.{map-id}
-use Rattle.std.proofs.lemmas.List.FromFn.{get_or-range_with_len, length-range_with_len, map-range_with_len_more}
+use Rattle.std.proofs.lemmas.List.FromFn.{get_or-range_with_len, length-range_with_len}
 use Rattle.std.specs.List.{range_with_len}
 use Rattle.integer_algebra.proofs.Laws.{neg-mul}
+use Rattle.plane.proofs.Lists.{range_more}
 use Rattle.meshes.specs.Boundary.{IsOdd, sum_along, sum_round}
 use Rattle.rings.specs.Events.{next}
 use Rattle.sweep_tri.proofs.Balance.Along.{along_push}
@@ -19,13 +19,6 @@ next_inside n m h = grind arith
 
 pub next_at_end : (n m : ℕ) → m + 1 ≡ n → next n m ≡ 0
 next_at_end n m h = grind arith
-
--- one number more
-range_more : (n : ℕ) → range_with_len 0 (n + 1) ≡ range_with_len 0 n ++ n ∷ []
-range_more n =
-    sym (map-id (range_with_len 0 (n + 1)))
-    ∙ map-range_with_len_more (λ (i : ℕ). i) 0 n n (omega arith)
-    ∙ ap (λ xs. xs ++ n ∷ []) (map-id (range_with_len 0 n))
 
 -- the last of n + 1 numbers
 last_number : (n : ℕ) → last (range_with_len 0 (n + 1)) ≡ n

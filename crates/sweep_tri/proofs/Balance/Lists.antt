@@ -3,21 +3,11 @@ use Rattle.std.proofs.Common.{◌≡◌, sym, ap, ◌∙◌, ℕ, suc, ◌+◌, 
 use Rattle.std.proofs.lemmas.Int.{ints}
 use Rattle.std.proofs.lemmas.List.{drop_more, set_split, take-append-drop}
 use Rattle.std.specs.List.{insert, remove}
-use Rattle.meshes.specs.Boundary.{sum_sides}
-use Rattle.meshes.specs.declared.tri.Tri.{Tri}
 use Rattle.sweep_tri.specs.Gaps.{gap_at, no_gap}
 use Rattle.sweep_tri.specs.Sums.{sum_gap, sum_gaps}
 use Rattle.sweep_tri.specs.declared.gap.Gap.{Gap}
 
 module _ (φ : ℕ → ℕ → ℤ) where
-  -- ---- triangles
-
-  pub sides-append : (ts us : List Tri) → sum_sides φ (ts ++ us) ≡ sum_sides φ ts +ℤ sum_sides φ us
-  sides-append [] us = omega (arith, ints)
-  sides-append (t ∷ ts) us = omega (arith, ints, sides-append ts us)
-
-  -- ---- gaps
-
   gaps-append : (gs hs : List Gap) → sum_gaps φ (gs ++ hs) ≡ sum_gaps φ gs +ℤ sum_gaps φ hs
   gaps-append [] hs = omega (arith, ints)
   gaps-append (g ∷ gs) hs = omega (arith, ints, gaps-append gs hs)

@@ -3,8 +3,8 @@ use Rattle.std.proofs.Common.{◌≡◌, inl, inr, ap, sym, ◌∙◌, subst, �
 use Rattle.std.proofs.lemmas.Bool.{cases_lt}
 use Rattle.std.proofs.lemmas.List.{get_or-append-add, get_or_append_left, length-append}
 use Rattle.std.proofs.lemmas.List.Elements.{All-contains, All-head, All-tail}
-use Rattle.std.proofs.lemmas.List.FromFn.{get_or-range_with_len, length-range_with_len}
 use Rattle.std.specs.List.{All, Contains, range_with_len}
+use Rattle.plane.proofs.Lists.{in_range}
 use Rattle.plane.specs.Point.{Point}
 use Rattle.meshes.specs.Fits.{IsTriOf}
 use Rattle.meshes.specs.Side.{tri_at}
@@ -14,10 +14,6 @@ use Rattle.rings.specs.Events.{AreEvents}
 use Rattle.sweep_tri.proofs.Pieces.{boundary_numbers}
 use Rattle.sweep_tri.specs.Meeting.{AreFilled}
 use Rattle.sweep_tri.specs.Region.{Chains, IsClosedRegion, boundary}
-
--- each number below n is in the list of all
-in_range : (n x : ℕ) → x < n → Contains (range_with_len 0 n) x
-in_range n x h = (x, omega (arith, h, length-range_with_len 0 n), omega (arith, get_or-range_with_len 0 n x x h))
 
 -- a triangle of some of the vertices is one of the ring
 tri_of_ring : (corners : List Point) (piece : List ℕ) (t : Tri) → All (λ v. v < length corners) piece → IsTriOf corners piece t

@@ -1,5 +1,5 @@
 use Rattle.std.proofs.Common.{sym, ap, ◌∙◌, ◌++◌, ◌∷◌, []}
-use Rattle.cut_tri.proofs.WholePiece.{range_more}
+use Rattle.plane.proofs.Lists.{range_more}
 use Rattle.cut_tri.proofs.triangulation.whole_piece.Goals as goal
 
 pub loop-i-preserved : goal.loop-i-preserved

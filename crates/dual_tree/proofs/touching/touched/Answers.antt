@@ -1,9 +1,9 @@
 use Rattle.std.proofs.Common.{◌≡◌, inl, inr, sym, subst, ap, ◌∙◌, ◌-◌, ◌<◌, ◌++◌, [], ◌∷◌, length, arith}
 use Rattle.std.proofs.lemmas.List.{length-append}
+use Rattle.plane.proofs.Order.{point_or_other}
 use Rattle.plane.specs.Point.{Point}
 use Rattle.rings.specs.Chain.{point_at}
 use Rattle.rings.specs.Ring.{vertex}
-use Rattle.funnels.proofs.Touched.{point_cases}
 use Rattle.funnels.specs.Touched.{IsLookedAt}
 use Rattle.dual_tree.proofs.Searched.{IsSearched, half_few, half_within, index_is, left_below, lefts, right_below, rights, searched_all, searched_few}
 use Rattle.dual_tree.proofs.Searched.{searched_first, searched_next, searched_rest}
@@ -97,7 +97,7 @@ returns-clause-full g c =
     let inv = c.loop-i.invariant in
     let chain = c.args.chain.now in
     let all : c.loop-i.i ≡ length c.args.sleeve.now.diagonals = omega (arith, c.loop-i.auto.i-end, c.loop-i-test.false, c.len-i-end.ensures.number) in
-    elim (point_cases c.loop-i.reached.last (point_at chain (length chain - 1))) [
+    elim (point_or_other c.loop-i.reached.last (point_at chain (length chain - 1))) [
       | inl there ↦
           subst (AppendsFull c.args.ring.now.corners chain c.args.out.now.items) (sym (c.finish.ensures.there there))
           (searched_all c.args.ring.now.corners c.args.mesh.now c.requires.fits c.args.sleeve.now c.requires.of_mesh chain c.requires.path
@@ -113,7 +113,7 @@ returns-clause-few g c =
     let inv = c.loop-i.invariant in
     let few = searched_few c.args.ring.now.corners c.args.mesh.now c.requires.fits c.args.sleeve.now c.requires.of_mesh c.args.chain.now
     c.requires.path c.args.out.now.items c.loop-i.i _ _ _ inv.searched in
-    elim (point_cases c.loop-i.reached.last (point_at c.args.chain.now (length c.args.chain.now - 1))) [
+    elim (point_or_other c.loop-i.reached.last (point_at c.args.chain.now (length c.args.chain.now - 1))) [
       | inl there ↦ omega (arith, few, ap length (c.finish.ensures.there there))
       | inr short ↦ omega (arith, few, ap length (c.finish.ensures.short short), length-append {A = Point})
     ]

@@ -1,10 +1,11 @@
-use Rattle.geo_reply.proofs.Fronts.{front_after, ok_of_err, err_since}
+use Rattle.geo_reply.proofs.Fronts.{err_since, ok_of_err}
 use Rattle.geo_reply.proofs.lines.put_hull.Goals as goal
 use Rattle.geo_reply.proofs.MapFront.{flat_none, flat_pushed, flat_whole}
 use Rattle.std.proofs.Common.{◌++◌, arith, length}
 use Rattle.std.specs.Prelude.{codes}
 use Rattle.geo_text.specs.Texts.{index_text}
 use Rattle.geo_reply.specs.ReplyText.{side_text}
+use Rattle.geo_text.proofs.LineFronts.{front_after}
 
 pub returns-in_err-put_side-clause-front : goal.returns-in_err-put_side-clause-front
 returns-in_err-put_side-clause-front g c =

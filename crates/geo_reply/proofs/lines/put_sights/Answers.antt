@@ -1,5 +1,5 @@
-use Rattle.geo_reply.proofs.Fronts.{front_after}
 use Rattle.geo_reply.proofs.lines.put_sights.Goals as goal
+use Rattle.geo_text.proofs.LineFronts.{front_after}
 
 pub returns-in_err-put_sight-clause-front : goal.returns-in_err-put_sight-clause-front
 returns-in_err-put_sight-clause-front c =

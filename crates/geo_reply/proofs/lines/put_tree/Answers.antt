@@ -1,9 +1,9 @@
 use Rattle.std.proofs.Common.{length, refl}
 use Rattle.std.specs.Prelude.{codes}
-use Rattle.geo_reply.proofs.Fronts.{front_after}
 use Rattle.geo_reply.proofs.FromLines.{froms_none, froms_pushed}
 use Rattle.geo_reply.proofs.lines.put_tree.Goals as goal
 use Rattle.geo_reply.specs.ReplyText.{count_text}
+use Rattle.geo_text.proofs.LineFronts.{front_after}
 
 pub returns-in_err-put_from-clause-front : goal.returns-in_err-put_from-clause-front
 returns-in_err-put_from-clause-front c =

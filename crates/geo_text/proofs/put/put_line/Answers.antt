@@ -1,4 +1,4 @@
-use Rattle.geo_text.proofs.LineFronts.{front_kept, front_same}
+use Rattle.geo_text.proofs.LineFronts.{front_after, front_same}
 use Rattle.geo_text.proofs.put.put_line.Goals as goal
 
 pub returns-in_err-put_word-in-Word-clause-err : goal.returns-in_err-put_word-in-Word-clause-err
@@ -23,16 +23,16 @@ pub returns-in_err-put_word-in-Large-clause-err : goal.returns-in_err-put_word-i
 returns-in_err-put_word-in-Large-clause-err c = front_same _ c.args.out.now.items _ _ _ c.in_ok-put_word.ensures.ok c.in_err-put_word-in-Large.ensures.err
 
 pub returns-in_err-put_with-in-Number-clause-err : goal.returns-in_err-put_with-in-Number-clause-err
-returns-in_err-put_with-in-Number-clause-err c = front_kept _ c.args.out.now.items _ _ _ c.in_ok-put_word.ensures.ok c.in_err-put_with-in-Number.ensures.err
+returns-in_err-put_with-in-Number-clause-err c = front_after _ c.args.out.now.items _ _ _ c.in_ok-put_word.ensures.ok c.in_err-put_with-in-Number.ensures.err
 
 pub returns-in_err-put_with-in-Range-clause-err : goal.returns-in_err-put_with-in-Range-clause-err
-returns-in_err-put_with-in-Range-clause-err c = front_kept _ c.args.out.now.items _ _ _ c.in_ok-put_word.ensures.ok c.in_err-put_with-in-Range.ensures.err
+returns-in_err-put_with-in-Range-clause-err c = front_after _ c.args.out.now.items _ _ _ c.in_ok-put_word.ensures.ok c.in_err-put_with-in-Range.ensures.err
 
 pub returns-in_err-put_with-in-Clash-clause-err : goal.returns-in_err-put_with-in-Clash-clause-err
-returns-in_err-put_with-in-Clash-clause-err c = front_kept _ c.args.out.now.items _ _ _ c.in_ok-put_word.ensures.ok c.in_err-put_with-in-Clash.ensures.err
+returns-in_err-put_with-in-Clash-clause-err c = front_after _ c.args.out.now.items _ _ _ c.in_ok-put_word.ensures.ok c.in_err-put_with-in-Clash.ensures.err
 
 pub returns-in_err-put_with-in-Outside-clause-err : goal.returns-in_err-put_with-in-Outside-clause-err
-returns-in_err-put_with-in-Outside-clause-err c = front_kept _ c.args.out.now.items _ _ _ c.in_ok-put_word.ensures.ok c.in_err-put_with-in-Outside.ensures.err
+returns-in_err-put_with-in-Outside-clause-err c = front_after _ c.args.out.now.items _ _ _ c.in_ok-put_word.ensures.ok c.in_err-put_with-in-Outside.ensures.err
 
 pub returns-in_err-put_with-in-Index-clause-err : goal.returns-in_err-put_with-in-Index-clause-err
-returns-in_err-put_with-in-Index-clause-err c = front_kept _ c.args.out.now.items _ _ _ c.in_ok-put_word.ensures.ok c.in_err-put_with-in-Index.ensures.err
+returns-in_err-put_with-in-Index-clause-err c = front_after _ c.args.out.now.items _ _ _ c.in_ok-put_word.ensures.ok c.in_err-put_with-in-Index.ensures.err

@@ -1,6 +1,7 @@
 use Rattle.std.proofs.Common.{◌≡◌, not, false, rules}
+use Rattle.std.proofs.lemmas.Bool.{or_parts}
 use Rattle.geo_session.specs.State.{first_state}
-use Rattle.geo_script.proofs.Pieces.{all_answered, begins, goes_on, has_byte, or_none, still_sound}
+use Rattle.geo_script.proofs.Pieces.{all_answered, begins, goes_on, has_byte, still_sound}
 use Rattle.geo_script.proofs.Together.{talk_together}
 use Rattle.geo_script.proofs.dialog.Dialog.answer.Goals as goal
 
@@ -19,7 +20,7 @@ invariant_of-self g c =
 pub invariant_of-self-2 : goal.invariant_of-self-2
 invariant_of-self-2 g c =
     let sound : (c.args.self.now.begun ≡ false → c.args.self.now.known ≡ false) × (c.args.self.now.known ≡ false → c.args.self.now.state ≡ first_state) = rw (← c.self.view_is) c.self.invariant in
-    still_sound c.args.self.now c.args.piece.now _ _ _ _ _ c.records.invariant sound c.answer_next.new.session.state _ (search rules) (λ e. (or_none c.records.self-inside.begun (not c.is_empty.result) e).0)
+    still_sound c.args.self.now c.args.piece.now _ _ _ _ _ c.records.invariant sound c.answer_next.new.session.state _ (search rules) (λ e. (or_parts c.records.self-inside.begun (not c.is_empty.result) e).0)
 
 pub returns-clause-ok : goal.returns-clause-ok
 returns-clause-ok g c =

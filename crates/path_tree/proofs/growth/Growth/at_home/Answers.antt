@@ -48,7 +48,7 @@ loop-corner-preserved g c =
       vertices = length-set c.loop-corner.before.items i c.straight.result ∙ c.loop-corner.invariant.vertices;
       parents = parents_more corners start c.loop-corner.before.items (corners_of c.tri-tri.result) c.loop-corner.corner-index c.straight.result
           (omega (arith, below, c.loop-corner.invariant.vertices))
-          (home_parent corners start tris home i (g.T.Turns.goal c.args.board.now) c.straight.result c.requires.fits in_list c.requires.home has
+          (home_parent corners start tris home i (g.T.Turns.goal c.args.board.now) c.straight.result c.requires.fits in_list has
           (c.straight.ensures.before tris home c.requires.fits in_list c.requires.home))
           c.loop-corner.invariant.parents;
       steps = omega (arith, c.straight.ensures.steps, c.loop-corner.invariant.steps);

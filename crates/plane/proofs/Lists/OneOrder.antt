@@ -1,7 +1,24 @@
--- A list in a strict order is the only one with its members.
-use Rattle.std.proofs.Common.{◌≡◌, ◌⊎◌, inl, inr, refl, sym, subst, ◌∙◌, ap₂, ℕ, zero, suc, ◌<◌, List, [], ◌∷◌, length, get_or, arith}
-use Rattle.std.proofs.lemmas.List.{get_or_default}
+-- Lists in order: one more at the end, and that a list in a strict order is the only one with its members.
+use Rattle.std.proofs.Common.{◌≡◌, ◌⊎◌, inl, inr, refl, sym, subst, ◌∙◌, ap₂, ℕ, zero, suc, ◌<◌, List, [], ◌∷◌, length, get_or, arith, ◌++◌}
+use Rattle.std.proofs.lemmas.Bool.{cases_lt}
+use Rattle.std.proofs.lemmas.List.{get_or_default, length_push, get_or_append_left, get_or_push}
+use Rattle.std.proofs.lemmas.List.Elements.{Contains-get_or}
 use Rattle.std.specs.List.{Contains}
+
+-- a list in order stays so where an element is appended that all others are before
+pub ordered_push : {X : Type 0} (R : X → X → Type 0) (xs : List X) (x d : X)
+    → ((k l : ℕ) → k < l → l < length xs → R (get_or xs k d) (get_or xs l d)) → ((y : X) → Contains xs y → R y x)
+    → (k l : ℕ) → k < l → l < length (xs ++ x ∷ []) → R (get_or (xs ++ x ∷ []) k d) (get_or (xs ++ x ∷ []) l d)
+ordered_push {X} R xs x d ordered before k l h in_list =
+    let more = length_push xs x in
+    let lesser : k < length xs = omega arith in
+    let first = get_or_append_left xs (x ∷ []) d k lesser in
+    elim (cases_lt l (length xs)) [
+      | inl below ↦ rw (first, get_or_append_left xs (x ∷ []) d l below) (ordered k l h below)
+      | inr last ↦
+          let at : length xs ≡ l = omega arith in
+          rw (first, get_or_push xs x d l at) (before (get_or xs k d) (Contains-get_or xs k d lesser))
+    ]
 
 module _ {X : Type 0} where
   -- a member of a list is its first element or one of the others
