@@ -4,7 +4,7 @@ use Rattle.std.proofs.lemmas.Int.{clamps, ints, to_z-of_z}
 use Rattle.std.specs.Int.{int_max, int_min}
 use Rattle.std.specs.Prelude.{FitsSigned, unsigned_abs}
 use mir.Syntax.{w32}
-use Rattle.exact_plane.proofs.Registers.{short}
+use Rattle.exact_plane.proofs.Registers.{short, short_is}
 
 module _ (a b m : ℤ) (fits_a : FitsSigned w32 a) (fits_b : FitsSigned w32 b) where
   -- the lesser is read as it is,
@@ -34,16 +34,11 @@ module _ (a b m : ℤ) (small_a : unsigned_abs a < 2 ^ 31) (small_b : unsigned_a
       let is = greater_read a b m (omega (arith, ints)) (omega (arith, ints)) e in
       (omega (arith, ints, clamps), omega (arith, ints, clamps), omega (arith, ints, clamps))
 
--- bounds of a coordinate that stand in registers
-module _ (m x z : ℤ) (small_m : unsigned_abs m < 2 ^ 31) (small_z : unsigned_abs z < 2 ^ 23) (is : x ≡ z) where
-  pub at_most_short : m ≤ℤ short x → short m ≤ℤ z
-  at_most_short h =
-      let read_m = to_z-of_z w32 m (omega (arith, ints)) in
-      let read_x = to_z-of_z w32 x (omega (arith, ints)) in
-      omega (arith, ints)
+-- a side that is at most another one is at most what that is,
+module _ (m x z : ℤ) (small_m : unsigned_abs m < 2 ^ 31) (small_x : unsigned_abs x < 2 ^ 31) where
+  pub at_most_short : m ≤ℤ short x → x ≤ℤ z → short m ≤ℤ z
+  at_most_short h k = omega (arith, ints, short_is m small_m, short_is x small_x)
 
-  pub at_least_short : short x ≤ℤ m → z ≤ℤ short m
-  at_least_short h =
-      let read_m = to_z-of_z w32 m (omega (arith, ints)) in
-      let read_x = to_z-of_z w32 x (omega (arith, ints)) in
-      omega (arith, ints)
+  -- and one that is at least another one at least what that is
+  pub at_least_short : short x ≤ℤ m → z ≤ℤ x → z ≤ℤ short m
+  at_least_short h k = omega (arith, ints, short_is m small_m, short_is x small_x)

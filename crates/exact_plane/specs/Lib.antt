@@ -1,4 +1,4 @@
-pub mod Bounds
+pub mod Boxes
 pub mod Direction
 pub mod Names
 pub mod Outside

@@ -13,14 +13,14 @@ use Rattle.rings.proofs.Vertices.{vertex_in_range}
 use Rattle.rings.specs.Edge.{edge, edges_of}
 use Rattle.rings.specs.Inside.{is_crossed}
 use Rattle.rings.specs.Ring.{origin, vertex}
-use Rattle.exact_plane.specs.Bounds.{IsWithin}
-use Rattle.exact_plane.specs.declared.bounds.Bounds.{Bounds}
+use Rattle.exact_plane.specs.Boxes.{Encloses}
+use Rattle.exact_plane.specs.declared.bounding_box.BoundingBox.{BoundingBox}
 use Rattle.inside_test.proofs.ApartEdges.{not_on_above, not_on_below}
 use Rattle.inside_test.proofs.CrossedEdges.{crossed_backward, crossed_from_left, crossed_from_right, not_crossed_unpassed}
 use Rattle.inside_test.proofs.Odd.{odd_step}
 use Rattle.inside_test.proofs.Passed.{left_of_rise, not_falling, right_of_rise, test_fails_high, test_fails_low}
 use Rattle.inside_test.proofs.Touched.{follows_right, precedes_left}
-use Rattle.inside_test.specs.Block.{AreMissed, AreRight, OfAllWithin}
+use Rattle.inside_test.specs.Block.{AreMissed, AreRight, OfAllEnclosed}
 use Rattle.inside_test.specs.Meeting.{rises}
 use Rattle.inside_test.specs.Odd.{OddSoFar}
 
@@ -149,20 +149,20 @@ module _ (ring : List Point) (p : Triple) (above : ℕ → Bool) (first : ℕ) (
       subst (λ n. OddSoFar (take n (edges_of ring)) p (not (beq odd (is_between_ends (above first) (above n))))) more
       (subst (OddSoFar (take (k + 1) (edges_of ring)) p) is step)
 
--- ---- a block of edges whose ends are within bounds
+-- ---- a block of edges whose ends are in a box
 
 -- where a count is the rest, the sum is the whole
 sum_is : (first end : ℕ) → first < end → first + (end - first) ≡ end
 sum_is first end h = omega arith
 
-module _ (ring : List Point) (p : Triple) (at_p : IsPoint p) (first end : ℕ) (some : first < end) (within : end < length ring) (b : Bounds)
+module _ (ring : List Point) (p : Triple) (at_p : IsPoint p) (first end : ℕ) (some : first < end) (within : end < length ring) (b : BoundingBox)
     (enclosed : (k : ℕ) → k < length (take (end + 1 - first) (drop first ring)) → (other : Point)
-    → IsWithin b.west b.east b.south b.north (get_or (take (end + 1 - first) (drop first ring)) k other))
+    → Encloses b (get_or (take (end + 1 - first) (drop first ring)) k other))
     (limits : (k : ℕ) → k < length (take (end + 1 - first) (drop first ring)) → (other : Point)
     → IsInBounds (get_or (take (end + 1 - first) (drop first ring)) k other))
     (odd : Bool) (before : OddSoFar (take first (edges_of ring)) p odd) where
-  -- what all points within the bounds have, the ends have
-  of_end : (P : Point → Type 0) → OfAllWithin b P → (i : ℕ) → first ≤ i → i ≤ end → P (vertex ring i)
+  -- what all points in the box have, the ends have
+  of_end : (P : Point → Type 0) → OfAllEnclosed b P → (i : ℕ) → first ≤ i → i ≤ end → P (vertex ring i)
   of_end P all i from to =
       let k : ℕ = i - first in
       let size : length (take (end + 1 - first) (drop first ring)) ≡ end + 1 - first =

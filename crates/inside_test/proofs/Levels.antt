@@ -3,12 +3,12 @@ use Rattle.std.proofs.Common.{◌≡◌, ◌↔◌, ◌<◌, ◌≤◌, ◌^◌,
 use Rattle.std.proofs.lemmas.Int.{clamps, ints, to_z-of_z}
 use Rattle.std.specs.Int.{int_div_euclid, int_max, int_min, int_rem_euclid}
 use Rattle.std.specs.Prelude.{FitsSigned, unsigned_abs}
-use mir.Syntax.{w32, w128}
+use mir.Syntax.{w128}
 use Rattle.integer_algebra.proofs.Laws.{neg-mul}
 use Rattle.integer_algebra.proofs.Polynomial.{var, lit, ◌⊖◌, ◌⊗◌, same_value}
 use Rattle.integer_algebra.proofs.Signs.{comparison, is_above, is_below, is_equal, mul_nonnegative}
 use Rattle.plane.specs.Point.{IsInLimit, IsSame, Point, Triple, whole}
-use Rattle.exact_plane.proofs.Registers.{read, short, wide}
+use Rattle.exact_plane.proofs.Registers.{read, wide}
 use Rattle.inside_test.specs.Level.{IsLevel}
 
 -- q is the quotient of a number by w, rounded down, and r the remainder
@@ -90,10 +90,6 @@ level_is part w f g small_part small_w small_f small_g below opposite =
     }
 
 -- ---- points
-
--- a bound of coordinates passes through a register
-pub bound_read : (z : ℤ) → unsigned_abs z < 2 ^ 31 → short z ≡ z
-bound_read z small = to_z-of_z w32 z (omega (arith, ints, small))
 
 -- equal coordinates make the same point
 pub same_from : (v : Point) (p : Triple) → v.x *ℤ p.W ≡ p.X → v.y *ℤ p.W ≡ p.Y → IsSame (whole v) p

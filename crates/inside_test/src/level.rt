@@ -4,7 +4,7 @@ ghost use Rattle.plane.specs.Point.{IsInLimit, IsPoint, IsSame, Triple, whole};
 ghost use Rattle.inside_test.specs.Block.{AreMissed, AreRight};
 ghost use Rattle.inside_test.specs.Level.{AreLevels, IsLevel};
 
-use exact_plane::{Bounds, Hom, Pt, Steps};
+use exact_plane::{BoundingBox, Hom, Pt, Steps};
 use std::sync::ledger::Ledger;
 
 // The greatest whole number that is not above part / weight, and the least that is not below it; where they would be
@@ -121,20 +121,20 @@ impl Levels {
         self.across.is_above(v.parts(steps).0)
     }
 
-    // Whether all that is within these bounds is above the point, below it or left of it: a ray to the right misses it.
-    pub(crate) fn misses(&self, bounds: &Bounds) -> bool
-        ensures { IsTrue result → (p : Triple) → AreLevels self.now p → AreMissed bounds.now p }
+    // Whether all that is in this box is above the point, below it or left of it: a ray to the right misses it.
+    pub(crate) fn misses(&self, around: &BoundingBox) -> bool
+        ensures { IsTrue result → (p : Triple) → AreLevels self.now p → AreMissed around.now p }
     {
-        self.height.is_below_from(bounds.south)
-            || self.height.is_above_to(bounds.north)
-            || self.across.is_above_to(bounds.east)
+        self.height.is_below_from(around.south)
+            || self.height.is_above_to(around.north)
+            || self.across.is_above_to(around.east)
     }
 
-    // Whether all of it is right of the point.
-    pub(crate) fn is_left_of_all(&self, bounds: &Bounds) -> bool
-        ensures { IsTrue result → (p : Triple) → AreLevels self.now p → AreRight bounds.now p }
+    // Whether all of the box is right of the point.
+    pub(crate) fn is_left_of_all(&self, around: &BoundingBox) -> bool
+        ensures { IsTrue result → (p : Triple) → AreLevels self.now p → AreRight around.now p }
     {
-        self.across.is_below_from(bounds.west)
+        self.across.is_below_from(around.west)
     }
 
     // Whether it is at the height of one.

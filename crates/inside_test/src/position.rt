@@ -8,7 +8,7 @@ ghost use Rattle.inside_test.specs.Odd.{OddSoFar};
 
 use crate::crossing::{Meeting, Vertex, meeting_of};
 use crate::level::Levels;
-use exact_plane::{Bounds, Hom, Pt, Steps};
+use exact_plane::{BoundingBox, Hom, Pt, Steps};
 use ring_check::Ring;
 use std::sync::ledger::Ledger;
 
@@ -80,11 +80,11 @@ fn pass<L: Ledger>(
 {
     if end < ring.len() {
         let vertices = &ring.corners()[first as usize..end as usize + 1];
-        let bounds = Bounds::of(vertices, steps);
-        if levels.misses(&bounds) {
+        let around = BoundingBox::of(vertices, steps);
+        if levels.misses(&around) {
             return Some(is_odd);
         }
-        if levels.is_left_of_all(&bounds) {
+        if levels.is_left_of_all(&around) {
             let begins_above = levels.is_below(&ring.corner(first), steps);
             let ends_above = levels.is_below(&ring.corner(end), steps);
             return Some(is_odd != (begins_above != ends_above));

@@ -1,8 +1,0 @@
-use Rattle.std.proofs.Common.{◌≡◌, ◌+◌, ◌*◌, ◌<◌, ℕ, get_or}
-use Rattle.plane.specs.Point.{IsInBounds, Point}
-use Rattle.exact_plane.specs.Bounds.{IsWithin}
-use Rattle.exact_plane.proofs.bounds.Bounds.of.Given as goal
-
-abbrev pub invariant-loop-k : goal.invariant-loop-k
-invariant-loop-k g l = ((j : ℕ) → j < l.k → (other : Point) → IsWithin l.bounds.west l.bounds.east l.bounds.south l.bounds.north (get_or l.points j other)
-    × IsInBounds (get_or l.points j other)) × (l.steps ≡ l.fn.steps + 64 * l.k)
