@@ -1,3 +1,4 @@
+pub mod Boxes
 pub mod Direction
 pub mod Names
 pub mod Outside

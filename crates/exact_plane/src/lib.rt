@@ -1,7 +1,9 @@
 //! Exact predicates on points with whole-number coordinates. Each question about coordinates takes a step, and no
-//! coordinate leaves this crate but by `Pt::parts`.
+//! coordinate leaves this crate but by `Pt::parts` and `BoundingBox::of`.
 #![tactic(auto)]
 
+mod bounding_box;
+mod boxes;
 mod cone;
 mod direction;
 mod hom;
@@ -14,6 +16,7 @@ mod turns;
 mod vector;
 mod wide;
 
+pub use bounding_box::BoundingBox;
 pub use cone::in_cone;
 pub use direction::{Direction, turn};
 pub use hom::{Hom, order_hom, turn_hom};

@@ -3,7 +3,7 @@ ghost use Rattle.exact_plane.specs.declared.memory.Memory.{Memory};
 
 use std::alloc::{AllocError, AllocFailed};
 
-/// Want of memory: an allocation was refused.
+/// Memory was wanted. When an allocation is refused no contract says.
 #[derive(Clone, Copy, Debug, PartialEq, Eq)]
 pub struct Memory;
 

@@ -16,8 +16,8 @@ use std::sync::ledger::Ledger;
 /// about only by calls that take a step.
 #[derive(Clone, Copy)]
 pub struct Pt {
-    x: i64,
-    y: i64,
+    x: i32,
+    y: i32,
 }
 
 impl Model for Pt {
@@ -40,7 +40,10 @@ impl Pt {
         ensures point { IfSome result (λ p. p ≡ record { x = x; y = y }) }
     {
         if is_in_limit(x) && is_in_limit(y) {
-            Some(Pt { x, y })
+            Some(Pt {
+                x: x as i32,
+                y: y as i32,
+            })
         } else {
             None
         }
@@ -54,7 +57,7 @@ impl Pt {
         ensures steps { steps.new ≡ steps.old + 64 }
     {
         steps.add(64);
-        (self.x, self.y)
+        (self.x as i64, self.y as i64)
     }
 
     /// That the coordinates are within the limit. It does nothing when it runs, and takes no step.
@@ -76,14 +79,24 @@ impl Pt {
         (self.x as i128, self.y as i128)
     }
 
+    // The same in 32 bits.
+    pub(crate) fn short_coordinates(&self) -> (i32, i32)
+        ensures x { result.0 ≡ self.now.x }
+        ensures y { result.1 ≡ self.now.y }
+        ensures x_is_small { unsigned_abs self.now.x < 2 ^ 23 }
+        ensures y_is_small { unsigned_abs self.now.y < 2 ^ 23 }
+    {
+        (self.x, self.y)
+    }
+
     // The way to another point.
     pub(crate) fn to(&self, other: &Pt) -> Vector
         ensures x { result.x ≡ other.now.x -ℤ self.now.x }
         ensures y { result.y ≡ other.now.y -ℤ self.now.y }
     {
         Vector {
-            x: other.x - self.x,
-            y: other.y - self.y,
+            x: (other.x - self.x) as i64,
+            y: (other.y - self.y) as i64,
         }
     }
 
@@ -103,7 +116,7 @@ impl Pt {
 }
 
 // Whether a number is less than three others, or greater than them.
-fn is_outside(z: i64, a: i64, b: i64, c: i64) -> bool
+fn is_outside(z: i32, a: i32, b: i32, c: i32) -> bool
     ensures { IsTrue result ↔ IsOutside z a b c }
 {
     z < a && z < b && z < c || a < z && b < z && c < z
@@ -111,21 +124,21 @@ fn is_outside(z: i64, a: i64, b: i64, c: i64) -> bool
 
 // Whether the interval between two numbers shares a number with that between two others. The ends of the second are not
 // put in order, which is more work than these comparisons.
-fn intervals_meet(a: i64, b: i64, c: i64, d: i64) -> bool
+fn intervals_meet(a: i32, b: i32, c: i32, d: i32) -> bool
     ensures { IsTrue result ↔ IntervalsMeet a b c d }
 {
     is_at_most_either(a.min(b), c, d) && is_at_least_either(a.max(b), c, d)
 }
 
 // Whether a number is at most the greater of two others.
-fn is_at_most_either(z: i64, c: i64, d: i64) -> bool
+fn is_at_most_either(z: i32, c: i32, d: i32) -> bool
     ensures { IsTrue result ↔ (z ≤ℤ int_max c d) }
 {
     z <= c || z <= d
 }
 
 // Whether it is at least the lesser of two others.
-fn is_at_least_either(z: i64, c: i64, d: i64) -> bool
+fn is_at_least_either(z: i32, c: i32, d: i32) -> bool
     ensures { IsTrue result ↔ (int_min c d ≤ℤ z) }
 {
     c <= z || d <= z

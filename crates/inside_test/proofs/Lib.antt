@@ -1,4 +1,5 @@
 mod ApartEdges
+mod Blocks
 mod CrossedEdges
 mod Levels
 mod Meetings

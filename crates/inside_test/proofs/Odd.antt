@@ -4,14 +4,10 @@ use Rattle.std.specs.Bool.{beq}
 use Rattle.std.specs.Prelude.{not}
 use Rattle.plane.specs.Point.{Point, Triple}
 use Rattle.rings.proofs.Vertices.{crossings_more, edge_at, on_some_more, take_all_edges}
-use Rattle.rings.specs.Edge.{Edge, IsOnSome, edges_of}
-use Rattle.rings.specs.Inside.{IsIn, crossings, is_crossed}
+use Rattle.rings.specs.Edge.{edges_of}
+use Rattle.rings.specs.Inside.{IsIn, is_crossed}
 use Rattle.rings.specs.Ring.{IsOnEdge}
-
--- the point is on none of these edges, and the flag says whether an odd number of them is crossed
-pub record OddSoFar (es : List Edge) (p : Triple) (is_odd : Bool) : Type 0 where
-  pub on_none : IsOnSome es p → ⊥
-  pub odd : (is_odd ≡ true) ↔ (crossings es p % 2 ≡ 1)
+use Rattle.inside_test.specs.Odd.{OddSoFar}
 
 -- one more, or not
 odd_more : (n : ℕ) (odd more : Bool) → (odd ≡ true) ↔ (n % 2 ≡ 1) → (not (beq odd more) ≡ true) ↔ ((n + cond more 1 0) % 2 ≡ 1)
@@ -39,7 +35,7 @@ module _ (ring : List Point) (p : Triple) where
   odd_start = record { on_none = λ on. on; odd = (λ e. cc, λ e. cc) }
 
   -- edge i, which the point is not on
-  odd_step : (i : ℕ) (is_odd : Bool) → i < length ring → OddSoFar (take i (edges_of ring)) p is_odd → (IsOnEdge ring i p → ⊥)
+  pub odd_step : (i : ℕ) (is_odd : Bool) → i < length ring → OddSoFar (take i (edges_of ring)) p is_odd → (IsOnEdge ring i p → ⊥)
       → OddSoFar (take (i + 1) (edges_of ring)) p (not (beq is_odd (is_crossed (edge_at ring i) p)))
   odd_step i is_odd within before beside = record {
     on_none = λ on. elim ((on_some_more ring i within p).0 on) [ inl earlier ↦ before.on_none earlier | inr here ↦ beside here ];

@@ -77,7 +77,7 @@ rises_high : (low high y : ℤ) → IsTrue (le_z low y && lt_z y high) → pos 0
 rises_high low high y h = grind (arith, ints)
 
 -- an edge that rises past a height does not fall past it
-not_falling : (low high y : ℤ) → IsTrue (le_z low y && lt_z y high) → (le_z high y && lt_z y low) ≡ false
+pub not_falling : (low high y : ℤ) → IsTrue (le_z low y && lt_z y high) → (le_z high y && lt_z y low) ≡ false
 not_falling low high y h = grind (arith, ints)
 
 difference_negative : (a b : ℤ) → a <ℤ b → (a -ℤ b) <ℤ pos 0
@@ -169,10 +169,10 @@ test_passes : (low high y : ℤ) → low ≤ℤ y → y <ℤ high → (le_z low 
 test_passes low high y h k = grind (arith, ints)
 
 -- and where one does not
-test_fails_low : (low high y : ℤ) → y <ℤ low → (le_z low y && lt_z y high) ≡ false
+pub test_fails_low : (low high y : ℤ) → y <ℤ low → (le_z low y && lt_z y high) ≡ false
 test_fails_low low high y h = grind (arith, ints)
 
-test_fails_high : (low high y : ℤ) → high ≤ℤ y → (le_z low y && lt_z y high) ≡ false
+pub test_fails_high : (low high y : ℤ) → high ≤ℤ y → (le_z low y && lt_z y high) ≡ false
 test_fails_high low high y h = grind (arith, ints)
 
 module _ (v : Vertex) (p : Triple) (beside : IsBeside v p) where

@@ -18,10 +18,10 @@ use Rattle.inside_test.specs.Meeting.{AreAround, IsTouched}
 
 module _ (v : Point) (p : Triple) where
   -- a vertex to the left comes before the point in the order of points, and one to the right after it
-  precedes_left : (v.x *ℤ p.W) <ℤ p.X → Precedes (whole v) p
+  pub precedes_left : (v.x *ℤ p.W) <ℤ p.X → Precedes (whole v) p
   precedes_left h = inl (omega (arith, ints))
 
-  follows_right : p.X <ℤ (v.x *ℤ p.W) → Precedes p (whole v)
+  pub follows_right : p.X <ℤ (v.x *ℤ p.W) → Precedes p (whole v)
   follows_right h = inl (omega (arith, ints))
 
   -- one at its height does so only there

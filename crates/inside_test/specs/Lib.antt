@@ -1,3 +1,5 @@
+pub mod Block
 pub mod Breakpoints
 pub mod Level
 pub mod Meeting
+pub mod Odd

@@ -1,9 +1,10 @@
 // A rational number among the whole numbers, and a rational point among the vertices.
-ghost use Rattle.std.specs.Prelude.{◌≡◌, ◌↔◌, ◌<◌, ◌≤◌, ◌^◌, ◌<ℤ◌, ◌*ℤ◌, ℤ, IsTrue, pos, unsigned_abs};
+ghost use Rattle.std.specs.Prelude.{◌≡◌, ◌↔◌, ◌<◌, ◌≤◌, ◌^◌, ◌<ℤ◌, ◌≤ℤ◌, ◌*ℤ◌, ℤ, IsTrue, pos, unsigned_abs};
 ghost use Rattle.plane.specs.Point.{IsInLimit, IsPoint, IsSame, Triple, whole};
+ghost use Rattle.inside_test.specs.Block.{AreMissed, AreRight};
 ghost use Rattle.inside_test.specs.Level.{AreLevels, IsLevel};
 
-use exact_plane::{Hom, Pt, Steps};
+use exact_plane::{BoundingBox, Hom, Pt, Steps};
 use std::sync::ledger::Ledger;
 
 // The greatest whole number that is not above part / weight, and the least that is not below it; where they would be
@@ -42,6 +43,20 @@ impl Level {
         ensures { (part weight : ℤ) → IsLevel self.now part weight → IsTrue result ↔ ((z *ℤ weight) <ℤ part) }
     {
         z < self.ceiling
+    }
+
+    // Whether it is below all coordinates from this number on.
+    fn is_below_from(&self, z: i32) -> bool
+        ensures { IsTrue result → (part weight y : ℤ) → IsLevel self.now part weight → IsInLimit y → z ≤ℤ y → part <ℤ (y *ℤ weight) }
+    {
+        self.floor < z as i64
+    }
+
+    // Whether it is above all coordinates up to this number.
+    fn is_above_to(&self, z: i32) -> bool
+        ensures { IsTrue result → (part weight y : ℤ) → IsLevel self.now part weight → IsInLimit y → y ≤ℤ z → (y *ℤ weight) <ℤ part }
+    {
+        (z as i64) < self.ceiling
     }
 }
 
@@ -104,6 +119,22 @@ impl Levels {
         ensures { (p : Triple) → AreLevels self.now p → IsTrue result ↔ ((v.now.x *ℤ p.W) <ℤ p.X) }
     {
         self.across.is_above(v.parts(steps).0)
+    }
+
+    // Whether all that is in this box is above the point, below it or left of it: a ray to the right misses it.
+    pub(crate) fn misses(&self, around: &BoundingBox) -> bool
+        ensures { IsTrue result → (p : Triple) → AreLevels self.now p → AreMissed around.now p }
+    {
+        self.height.is_below_from(around.south)
+            || self.height.is_above_to(around.north)
+            || self.across.is_above_to(around.east)
+    }
+
+    // Whether all of the box is right of the point.
+    pub(crate) fn is_left_of_all(&self, around: &BoundingBox) -> bool
+        ensures { IsTrue result → (p : Triple) → AreLevels self.now p → AreRight around.now p }
+    {
+        self.across.is_below_from(around.west)
     }
 
     // Whether it is at the height of one.

@@ -4,12 +4,14 @@ use Rattle.std.proofs.lemmas.Bool.{cases_lt}
 use Rattle.plane.specs.Point.{Point}
 use Rattle.rings.specs.Simple.{Clash, HasEqualEnds, SharesPoint}
 use Rattle.ring_check.proofs.Bounds.{edge_in_wider, overlap_of_shared}
-use Rattle.ring_check.specs.Boxes.{Bounds, Encloses, EnclosesEdge}
+use Rattle.exact_plane.specs.Boxes.{Encloses}
+use Rattle.exact_plane.specs.declared.bounding_box.BoundingBox.{BoundingBox}
+use Rattle.ring_check.specs.Boxes.{EnclosesEdge}
 use Rattle.ring_check.specs.Runs.{IsInABox, IsRun, Reaches}
 use Rattle.ring_check.specs.declared.runs.Run.{Run}
 
 -- what is in the first box is in the second
-abbrev pub IsWider : Bounds → Bounds → Type 0
+abbrev pub IsWider : BoundingBox → BoundingBox → Type 0
 IsWider b c = (q : Point) → Encloses b q → Encloses c q
 
 -- what is in a box is so where each is wider
@@ -55,7 +57,7 @@ run_of_both ring a b c follows first end east north west south in_a in_b = recor
 }
 
 -- the box of an edge that shares a point with one of a run reaches the run
-reaches_of_shared : (ring : List Point) (run : Run) (box : Bounds) (i j : ℕ)
+reaches_of_shared : (ring : List Point) (run : Run) (box : BoundingBox) (i j : ℕ)
     → EnclosesEdge ring box i → IsInABox ring run j → SharesPoint ring i j → Reaches run box
 reaches_of_shared ring run box i j edge within shared = elim within [
   | inl h ↦ inl (overlap_of_shared ring box run.eastward i j edge h shared)
@@ -65,7 +67,7 @@ reaches_of_shared ring run box i j edge within shared = elim within [
 ]
 
 -- so no edge of a run clashes with one whose box does not reach it
-pub clear_of_apart : (ring : List Point) (run : Run) (box : Bounds) (i : ℕ)
+pub clear_of_apart : (ring : List Point) (run : Run) (box : BoundingBox) (i : ℕ)
     → IsRun ring run → EnclosesEdge ring box i → (HasEqualEnds ring i → ⊥) → ¬ (Reaches run box)
     → (l : ℕ) → run.first ≤ l → l < run.end → Clash ring i l → ⊥
 clear_of_apart ring run box i is_run edge differ apart l above below clash = elim clash [

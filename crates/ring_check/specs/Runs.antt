@@ -2,7 +2,9 @@
 use Rattle.std.specs.Prelude.{ℕ, ◌<◌, ◌≤◌, ◌⊎◌, List}
 use Rattle.plane.specs.Point.{Point}
 use Rattle.rings.specs.Simple.{HasEqualEnds}
-use Rattle.ring_check.specs.Boxes.{Bounds, EnclosesEdge, Overlap}
+use Rattle.exact_plane.specs.Boxes.{Overlap}
+use Rattle.exact_plane.specs.declared.bounding_box.BoundingBox.{BoundingBox}
+use Rattle.ring_check.specs.Boxes.{EnclosesEdge}
 use Rattle.ring_check.specs.declared.runs.Run.{Run}
 
 -- both ends of edge e are in one of the boxes
@@ -17,6 +19,6 @@ pub record IsRun (ring : List Point) (run : Run) : Type 0 where
   pub differ : (e : ℕ) → run.first ≤ e → e < run.end → HasEqualEnds ring e → ⊥
 
 -- the box shares a point with one of the boxes
-abbrev pub Reaches : Run → Bounds → Type 0
+abbrev pub Reaches : Run → BoundingBox → Type 0
 Reaches run box =
     Overlap box run.eastward ⊎ Overlap box run.northward ⊎ Overlap box run.westward ⊎ Overlap box run.southward

@@ -4,7 +4,7 @@ ghost use Rattle.rings.specs.Ring.{vertex};
 ghost use Rattle.rings.specs.Simple.{Clash, HasEqualEnds, IsLeastClash, IsSimple, SharesPoint};
 ghost use Rattle.ring_check.specs.Runs.{IsRun};
 
-use crate::boxes::BoundingBox;
+use crate::boxes::box_of_edge;
 use crate::runs::{Run, clear_to, runs_of};
 use crate::sweep::sweep_finds_none;
 use exact_plane::{Pt, Steps, meet_only_at, order, segments_meet};
@@ -67,7 +67,7 @@ fn least_clash_with<L: Ledger>(
     ensures least { IfSome result (λ j. (l : ℕ) → i < l → l < j → Clash points.now i l → ⊥) }
     ensures none { IfNone result ((l : ℕ) → i < l → l < length points.now → Clash points.now i l → ⊥) }
 {
-    let bounds = BoundingBox::of_edge(points, i, steps);
+    let bounds = box_of_edge(points, i, steps);
     let mut j = i + 1;
     while j < points.len() {
         let end = clear_to(points, i, &bounds, runs, j);

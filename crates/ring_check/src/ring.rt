@@ -118,6 +118,13 @@ impl Ring {
         self.corner((i + (n - 1)) % n)
     }
 
+    /// The vertices, in their order.
+    pub fn corners(&self) -> &[Pt]
+        ensures { result.now ≡ self.now.corners }
+    {
+        &self.corners
+    }
+
     /// Whether the list ran clockwise.
     pub fn is_turned(&self) -> bool
         ensures { result ≡ self.now.is_turned }

@@ -6,9 +6,9 @@ ghost use Rattle.rings.specs.Simple.{Clash, HasEqualEnds};
 ghost use Rattle.ring_check.specs.Boxes.{EnclosesEdge};
 ghost use Rattle.ring_check.specs.Runs.{IsRun, Reaches};
 
-use crate::boxes::BoundingBox;
+use crate::boxes::box_of_edge;
 use crate::clash::{corner, has_equal_ends};
-use exact_plane::{Memory, Pt, Steps};
+use exact_plane::{BoundingBox, Memory, Pt, Steps};
 use std::alloc::Global;
 use std::sync::ledger::Ledger;
 
@@ -75,7 +75,7 @@ impl Run {
         ensures run { IsRun points.now result }
         ensures end { result.end ≡ e + 1 }
     {
-        let bounds = BoundingBox::of_edge(points, e, steps);
+        let bounds = box_of_edge(points, e, steps);
         let run = Run {
             end: e + 1,
             ..*self

@@ -1,11 +1,10 @@
-use Rattle.std.proofs.Common.{◌≡◌, take}
+use Rattle.std.proofs.Common.{◌≤◌, ◌-◌, length, take}
 use Rattle.rings.specs.Edge.{edges_of}
-use Rattle.rings.specs.Ring.{vertex}
-use Rattle.inside_test.proofs.Odd.{OddSoFar}
 use Rattle.inside_test.proofs.position.place_hom.Given as goal
-use Rattle.inside_test.specs.Meeting.{IsBeside}
+use Rattle.inside_test.specs.Odd.{OddSoFar}
 
-abbrev pub invariant-loop-i : goal.invariant-loop-i
-invariant-loop-i g l = OddSoFar (take l.i (edges_of l.ring.corners)) l.p l.is_odd
-    × (l.a.at ≡ vertex l.ring.corners l.i)
-    × IsBeside l.a l.p
+abbrev pub invariant-loop-first : goal.invariant-loop-first
+invariant-loop-first g l = OddSoFar (take l.first (edges_of l.ring.corners)) l.p l.is_odd × (l.first ≤ length l.ring.corners)
+
+abbrev pub decreases-loop-first : goal.decreases-loop-first
+decreases-loop-first g l = l.n - l.first

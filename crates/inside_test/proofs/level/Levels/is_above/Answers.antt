@@ -1,5 +1,5 @@
 use Rattle.inside_test.proofs.level.Levels.is_above.Goals as goal
-use Rattle.ring_check.proofs.Bounds.{read_is}
+use Rattle.exact_plane.proofs.Registers.{read_is}
 
 pub returns : goal.returns
 returns g c = λ p levels.

@@ -1,0 +1,218 @@
+-- Edges to one side of a point: it is on none of them, and whether they are crossed is told by their ends.
+use Rattle.std.proofs.Common.{◌≡◌, ◌⊎◌, inl, inr, refl, sym, ap, subst, ◌∙◌, ℕ, ◌+◌, ◌-◌, ◌<◌, ◌≤◌, ◌↔◌, IsTrue, zero, suc, ℤ, ◌*ℤ◌, ◌<ℤ◌, Bool, true, false, List, length, take, drop, get_or, arith}
+use Rattle.std.proofs.lemmas.Int.{ints}
+use Rattle.std.proofs.lemmas.List.{get_or-drop, get_or-take, length-drop, length-take-le}
+use Rattle.std.specs.Bool.{beq}
+use Rattle.std.specs.Int.Signed.{le_z, lt_z}
+use Rattle.std.specs.Prelude.{◌&&◌, not}
+use Rattle.plane.proofs.Points.{whole_is_point}
+use Rattle.plane.proofs.Segments.{not_after_both, not_before_both}
+use Rattle.plane.specs.Point.{IsInBounds, IsPoint, Point, Triple, whole}
+use Rattle.plane.specs.Segment.{On}
+use Rattle.rings.proofs.Vertices.{vertex_in_range}
+use Rattle.rings.specs.Edge.{edge, edges_of}
+use Rattle.rings.specs.Inside.{is_crossed}
+use Rattle.rings.specs.Ring.{origin, vertex}
+use Rattle.exact_plane.specs.Boxes.{Encloses}
+use Rattle.exact_plane.specs.declared.bounding_box.BoundingBox.{BoundingBox}
+use Rattle.inside_test.proofs.ApartEdges.{not_on_above, not_on_below}
+use Rattle.inside_test.proofs.CrossedEdges.{crossed_backward, crossed_from_left, crossed_from_right, not_crossed_unpassed}
+use Rattle.inside_test.proofs.Odd.{odd_step}
+use Rattle.inside_test.proofs.Passed.{left_of_rise, not_falling, right_of_rise, test_fails_high, test_fails_low}
+use Rattle.inside_test.proofs.Touched.{follows_right, precedes_left}
+use Rattle.inside_test.specs.Block.{AreMissed, AreRight, OfAllEnclosed}
+use Rattle.inside_test.specs.Meeting.{rises}
+use Rattle.inside_test.specs.Odd.{OddSoFar}
+
+-- whether one of two numbers is above a third, and the other is not
+abbrev pub is_between_ends : Bool → Bool → Bool
+is_between_ends first last = not (beq first last)
+
+-- a number that is at most another
+at_most : (x y : ℤ) → x <ℤ y → (y <ℤ x → ⊥)
+at_most x y h k = omega (arith, ints)
+
+-- where an edge rises past a height, its ends are on both sides of it,
+ends_of_rise : (low high y : ℤ) → (le_z low y && lt_z y high) ≡ true → is_between_ends (lt_z y low) (lt_z y high) ≡ true
+ends_of_rise low high y h = grind (arith, ints)
+
+-- so they are where it falls,
+ends_of_fall : (low high y : ℤ) → (le_z low y && lt_z y high) ≡ true → is_between_ends (lt_z y high) (lt_z y low) ≡ true
+ends_of_fall low high y h = grind (arith, ints)
+
+-- and else they are not
+ends_beside : (a b y : ℤ) → (le_z a y && lt_z y b) ≡ false → (le_z b y && lt_z y a) ≡ false → is_between_ends (lt_z y a) (lt_z y b) ≡ false
+ends_beside a b y h k = grind (arith, ints)
+
+-- an edge is passed by at a point: it is on no point of it, and it is crossed or not
+pub record IsPassed (a b : Point) (p : Triple) (crossed : Bool) : Type 0 where
+  pub off : ¬ (On p (whole a) (whole b))
+  pub is : is_crossed (edge a b) p ≡ crossed
+
+-- the two ways of a test
+is_or_not : (b : Bool) → (b ≡ true) ⊎ (b ≡ false)
+is_or_not true = inl refl
+is_or_not false = inr refl
+
+module _ (a b : Point) (p : Triple) (at_p : IsPoint p) where
+  -- above the point,
+  pub passed_above : p.Y <ℤ (a.y *ℤ p.W) → p.Y <ℤ (b.y *ℤ p.W) → IsPassed a b p false
+  passed_above first last = record {
+    off = not_on_above a b p at_p first last;
+    is = not_crossed_unpassed (edge a b) p (test_fails_low _ _ _ first) (test_fails_low _ _ _ last);
+  }
+
+  -- below it,
+  pub passed_below : (a.y *ℤ p.W) <ℤ p.Y → (b.y *ℤ p.W) <ℤ p.Y → IsPassed a b p false
+  passed_below first last = record {
+    off = not_on_below a b p at_p first last;
+    is = not_crossed_unpassed (edge a b) p (test_fails_high (a.y *ℤ p.W) (b.y *ℤ p.W) p.Y (omega (arith, ints, last)))
+        (test_fails_high (b.y *ℤ p.W) (a.y *ℤ p.W) p.Y (omega (arith, ints, first)));
+  }
+
+  -- left of it,
+  pub passed_left : (a.x *ℤ p.W) <ℤ p.X → (b.x *ℤ p.W) <ℤ p.X → IsPassed a b p false
+  passed_left first last = record {
+    off = λ on. not_after_both p (whole a) (whole b) at_p (whole_is_point a) (whole_is_point b) on (precedes_left a p first, precedes_left b p last);
+    is = elim (is_or_not (rises a b p)) [
+      | inl up ↦ crossed_from_right (edge a b) p (sym (right_of_rise a b p at_p up first last)) ∙ not_falling (a.y *ℤ p.W) (b.y *ℤ p.W) p.Y up
+      | inr not_up ↦ elim (is_or_not (rises b a p)) [
+        | inl down ↦
+            sym (crossed_backward a b p) ∙ crossed_from_right (edge b a) p (sym (right_of_rise b a p at_p down last first)) ∙ not_falling (b.y *ℤ p.W) (a.y *ℤ p.W) p.Y down
+        | inr not_down ↦ not_crossed_unpassed (edge a b) p not_up not_down
+      ]
+    ];
+  }
+
+  -- and right of it
+  pub passed_right : p.X <ℤ (a.x *ℤ p.W) → p.X <ℤ (b.x *ℤ p.W)
+      → IsPassed a b p (is_between_ends (lt_z p.Y (a.y *ℤ p.W)) (lt_z p.Y (b.y *ℤ p.W)))
+  passed_right first last = record {
+    off = λ on. not_before_both p (whole a) (whole b) at_p (whole_is_point a) (whole_is_point b) on (follows_right a p first, follows_right b p last);
+    is = elim (is_or_not (rises a b p)) [
+      | inl up ↦
+          crossed_from_left (edge a b) p (sym (left_of_rise a b p at_p up first last)) ∙ up ∙ sym (ends_of_rise (a.y *ℤ p.W) (b.y *ℤ p.W) p.Y up)
+      | inr not_up ↦ elim (is_or_not (rises b a p)) [
+        | inl down ↦
+            sym (crossed_backward a b p) ∙ crossed_from_left (edge b a) p (sym (left_of_rise b a p at_p down last first)) ∙ down
+            ∙ sym (ends_of_fall (b.y *ℤ p.W) (a.y *ℤ p.W) p.Y down)
+        | inr not_down ↦ not_crossed_unpassed (edge a b) p not_up not_down ∙ sym (ends_beside (a.y *ℤ p.W) (b.y *ℤ p.W) p.Y not_up not_down)
+      ]
+    ];
+  }
+
+-- ---- edges of a ring that follow one another
+
+-- two changes of sides make one
+one_change : (odd a b c : Bool)
+    → not (beq (not (beq odd (is_between_ends a b))) (is_between_ends b c)) ≡ not (beq odd (is_between_ends a c))
+one_change true true true true = refl
+one_change true true true false = refl
+one_change true true false true = refl
+one_change true true false false = refl
+one_change true false true true = refl
+one_change true false true false = refl
+one_change true false false true = refl
+one_change true false false false = refl
+one_change false true true true = refl
+one_change false true true false = refl
+one_change false true false true = refl
+one_change false true false false = refl
+one_change false false true true = refl
+one_change false false true false = refl
+one_change false false false true = refl
+one_change false false false false = refl
+
+-- no change
+no_change : (odd a : Bool) → not (beq odd (is_between_ends a a)) ≡ odd
+no_change true true = refl
+no_change true false = refl
+no_change false true = refl
+no_change false false = refl
+
+module _ (ring : List Point) (p : Triple) (above : ℕ → Bool) (first : ℕ) (odd : Bool) (before : OddSoFar (take first (edges_of ring)) p odd) where
+  -- where each is crossed or not by whether its ends are on both sides, all of them are by whether the first and the last are
+  pub passed_all : (count : ℕ) → first + count ≤ length ring
+      → ((k : ℕ) → first ≤ k → k < first + count → IsPassed (vertex ring k) (vertex ring (k + 1)) p (is_between_ends (above k) (above (k + 1))))
+      → OddSoFar (take (first + count) (edges_of ring)) p (not (beq odd (is_between_ends (above first) (above (first + count)))))
+  passed_all zero within passed =
+      let same : first + zero ≡ first = omega arith in
+      subst (λ n. OddSoFar (take n (edges_of ring)) p (not (beq odd (is_between_ends (above first) (above n))))) (sym same)
+      (subst (OddSoFar (take first (edges_of ring)) p) (sym (no_change odd (above first))) before)
+  passed_all (suc count) within passed =
+      let k : ℕ = first + count in
+      let more : k + 1 ≡ first + suc count = omega arith in
+      let earlier = passed_all count (omega arith) (λ j from below. passed j from (omega (arith, below))) in
+      let here = passed k (omega arith) (omega arith) in
+      let step = odd_step ring p k _ (omega (arith, within)) earlier here.off in
+      let is = ap (λ b. not (beq (not (beq odd (is_between_ends (above first) (above k)))) b)) here.is ∙ one_change odd (above first) (above k) (above (k + 1)) in
+      subst (λ n. OddSoFar (take n (edges_of ring)) p (not (beq odd (is_between_ends (above first) (above n))))) more
+      (subst (OddSoFar (take (k + 1) (edges_of ring)) p) is step)
+
+-- ---- a block of edges whose ends are in a box
+
+-- where a count is the rest, the sum is the whole
+sum_is : (first end : ℕ) → first < end → first + (end - first) ≡ end
+sum_is first end h = omega arith
+
+module _ (ring : List Point) (p : Triple) (at_p : IsPoint p) (first end : ℕ) (some : first < end) (within : end < length ring) (b : BoundingBox)
+    (enclosed : (k : ℕ) → k < length (take (end + 1 - first) (drop first ring)) → (other : Point)
+    → Encloses b (get_or (take (end + 1 - first) (drop first ring)) k other))
+    (limits : (k : ℕ) → k < length (take (end + 1 - first) (drop first ring)) → (other : Point)
+    → IsInBounds (get_or (take (end + 1 - first) (drop first ring)) k other))
+    (odd : Bool) (before : OddSoFar (take first (edges_of ring)) p odd) where
+  -- what all points in the box have, the ends have
+  of_end : (P : Point → Type 0) → OfAllEnclosed b P → (i : ℕ) → first ≤ i → i ≤ end → P (vertex ring i)
+  of_end P all i from to =
+      let k : ℕ = i - first in
+      let size : length (take (end + 1 - first) (drop first ring)) ≡ end + 1 - first =
+      length-take-le (end + 1 - first) (drop first ring) (omega (arith, length-drop first ring)) in
+      let below : k < end + 1 - first = omega arith in
+      let in_block : k < length (take (end + 1 - first) (drop first ring)) = omega (arith, size, below) in
+      let sum : first + k ≡ i = omega arith in
+      let at : get_or (take (end + 1 - first) (drop first ring)) k origin ≡ vertex ring i =
+      get_or-take (end + 1 - first) (drop first ring) k origin below ∙ get_or-drop first ring k origin ∙ ap (λ j. get_or ring j origin) sum
+      ∙ sym (vertex_in_range ring i origin (omega (arith, within))) in
+      subst P at (all _ (limits k in_block origin) (enclosed k in_block origin))
+
+  -- so where each edge is passed by in a way that its ends tell, all of them are
+  all_by_ends : (above : ℕ → Bool)
+      → ((k : ℕ) → first ≤ k → k < end → IsPassed (vertex ring k) (vertex ring (k + 1)) p (is_between_ends (above k) (above (k + 1))))
+      → OddSoFar (take end (edges_of ring)) p (not (beq odd (is_between_ends (above first) (above end))))
+  all_by_ends above passed =
+      let count : ℕ = end - first in
+      let sum = sum_is first end some in
+      subst (λ n. OddSoFar (take n (edges_of ring)) p (not (beq odd (is_between_ends (above first) (above n))))) sum
+      (passed_all ring p above first odd before count (omega (arith, within)) (λ k from below. passed k from (omega (arith, below))))
+
+  -- those that the ray misses change nothing,
+  none_by_ends : ((k : ℕ) → first ≤ k → k < end → IsPassed (vertex ring k) (vertex ring (k + 1)) p false)
+      → OddSoFar (take end (edges_of ring)) p odd
+  none_by_ends passed = subst (OddSoFar (take end (edges_of ring)) p) (no_change odd true) (all_by_ends (λ _. true) passed)
+
+  pub block_missed : AreMissed b p → OddSoFar (take end (edges_of ring)) p odd
+  block_missed (inl above) =
+      let of = of_end (λ v. p.Y <ℤ (v.y *ℤ p.W)) above in
+      none_by_ends (λ k from below. passed_above (vertex ring k) (vertex ring (k + 1)) p at_p (of k from (omega arith)) (of (k + 1) (omega arith) (omega arith)))
+  block_missed (inr (inl below)) =
+      let of = of_end (λ v. (v.y *ℤ p.W) <ℤ p.Y) below in
+      none_by_ends (λ k from less. passed_below (vertex ring k) (vertex ring (k + 1)) p at_p (of k from (omega arith)) (of (k + 1) (omega arith) (omega arith)))
+  block_missed (inr (inr left)) =
+      let of = of_end (λ v. (v.x *ℤ p.W) <ℤ p.X) left in
+      none_by_ends (λ k from less. passed_left (vertex ring k) (vertex ring (k + 1)) p at_p (of k from (omega arith)) (of (k + 1) (omega arith) (omega arith)))
+
+  -- and those right of the point do where the first end and the last are on both sides of its height
+  pub block_crossed : AreRight b p → (first_above last_above : Bool) → IsTrue first_above ↔ (p.Y <ℤ (Point.y (vertex ring first) *ℤ p.W))
+      → IsTrue last_above ↔ (p.Y <ℤ (Point.y (vertex ring end) *ℤ p.W))
+      → OddSoFar (take end (edges_of ring)) p (not (beq odd (not (beq first_above last_above))))
+  block_crossed right first_above last_above first_is last_is =
+      let of = of_end (λ v. p.X <ℤ (v.x *ℤ p.W)) right in
+      let above : ℕ → Bool = λ k. lt_z p.Y (Point.y (vertex ring k) *ℤ p.W) in
+      let all = all_by_ends above (λ k from less. passed_right (vertex ring k) (vertex ring (k + 1)) p at_p (of k from (omega arith)) (of (k + 1) (omega arith) (omega arith))) in
+      subst (λ f. OddSoFar (take end (edges_of ring)) p (not (beq odd (not (beq f last_above))))) (test_is first_above _ _ first_is)
+      (subst (λ l. OddSoFar (take end (edges_of ring)) p (not (beq odd (not (beq (above first) l))))) (test_is last_above _ _ last_is) all)
+    where
+      -- a flag that says whether a number is above another is the test of it
+      test_is : (flag : Bool) (x y : ℤ) → IsTrue flag ↔ (x <ℤ y) → lt_z x y ≡ flag
+      test_is true x y h = let k = h.0 refl in grind (arith, ints)
+      test_is false x y h = grind (arith, ints)
