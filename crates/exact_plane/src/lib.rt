@@ -12,6 +12,7 @@ mod steps;
 mod triangle;
 mod turns;
 mod vector;
+mod ways;
 mod wide;
 
 pub use cone::in_cone;
@@ -23,4 +24,5 @@ pub use segments::{meet_only_at, on_segment, segments_meet};
 pub use steps::Steps;
 pub use triangle::in_triangle;
 pub use turns::{Spot, Turns};
+pub use ways::turn_of_ways;
 pub use wide::compare;
