@@ -37,10 +37,12 @@ pub(crate) fn is_right_at<L: Ledger>(
     turn_hom(a, b, &corners[i], steps) == Direction::Right
 }
 
-// The corners that are not right of the line. It looks at those that are and at one beside them on each hand.
+// The corners that are not right of the line. It looks at those that are, at one beside them on each hand, and at those on the way
+// to them from the place `near`.
 pub(crate) fn block_of<L: Ledger>(
     corners: &VecDeque<Hom>,
     lines: &VecDeque<Line>,
+    near: &mut usize,
     a: &Pt,
     b: &Pt,
     steps: &mut Steps<L>,
@@ -50,7 +52,7 @@ pub(crate) fn block_of<L: Ledger>(
     requires beside { AreBeside corners.now.items lines.now.items }
     ensures { AreKept (whole a.now) (whole b.now) corners.now.items result }
 {
-    let Some(gone) = seek(corners, lines, a, b, steps) else {
+    let Some(gone) = seek(corners, lines, near, a, b, steps) else {
         return Kept::All;
     };
     let n = corners.len();

@@ -43,12 +43,14 @@ impl Region {
             mut corners,
             mut lines,
             least,
+            mut near,
         } = self;
-        match block_of(&corners, &lines, a, b, steps) {
+        match block_of(&corners, &lines, &mut near, a, b, steps) {
             Kept::All => Ok(Region {
                 corners,
                 lines,
                 least,
+                near,
             }),
             Kept::Nothing => Ok(emptied(corners, lines)),
             Kept::Block { start, count } => {
@@ -57,13 +59,16 @@ impl Region {
                         corners,
                         lines,
                         least,
+                        near,
                     }));
                 }
                 let least = keep_block(&mut corners, &mut lines, least, start, count, a, b, steps);
+                let near = corners.len();
                 Ok(Region {
                     corners,
                     lines,
                     least,
+                    near,
                 })
             }
         }
@@ -80,6 +85,7 @@ fn emptied(mut corners: VecDeque<Hom>, mut lines: VecDeque<Line>) -> Region
         corners,
         lines,
         least: 0,
+        near: 0,
     }
 }
 

@@ -17,11 +17,13 @@ pub(crate) type Line = (Pt, Pt);
 /// lexicographically least one; with each it keeps the line of the side to the next.
 #[derive(Drop)]
 pub struct Region {
-    // They stand as the last cut left them, so that the next one finds both ends of its side at the ends.
+    // They stand as the last cut left them: both ends of its side at the ends.
     pub(crate) corners: VecDeque<Hom>,
     pub(crate) lines: VecDeque<Line>,
     // The place of the least corner.
     pub(crate) least: usize,
+    // Where the next cut looks first, or past the end: beside the last cut, or where the last one was seen to cut nothing.
+    pub(crate) near: usize,
 }
 
 impl Model for Region {
@@ -52,6 +54,7 @@ impl Region {
             corners: VecDeque::from_vec(corners),
             lines: VecDeque::from_vec(lines),
             least: 0,
+            near: 0,
         })
     }
 

@@ -28,11 +28,12 @@ pub(crate) enum Seen {
     Flat,
 }
 
-// The place of a corner that is right of the line from `a` to `b`. It goes toward the right from corner to corner, from where the
-// last cut was made.
+// The place of a corner that is right of the line from `a` to `b`. It goes toward the right from corner to corner, from this place
+// on. Where there is none, it keeps the place where it saw that.
 pub(crate) fn seek<L: Ledger>(
     corners: &VecDeque<Hom>,
     lines: &VecDeque<Line>,
+    near: &mut usize,
     a: &Pt,
     b: &Pt,
     steps: &mut Steps<L>,
@@ -45,11 +46,14 @@ pub(crate) fn seek<L: Ledger>(
     ensures none { IfNone result ((i : ℕ) → i < length corners.now.items → ¬ IsRight (whole a.now) (whole b.now) (corner corners.now.items i)) }
 {
     let n = corners.len();
-    let mut at = n.saturating_sub(1);
+    let mut at = (*near).min(n.saturating_sub(1));
     for _ in 0..n {
         match look(corners, lines, at, a, b, steps) {
             Seen::Here => return Some(at),
-            Seen::Nowhere => return None,
+            Seen::Nowhere => {
+                *near = at;
+                return None;
+            }
             Seen::Ahead => at = (at + 1) % n,
             Seen::Back => at = (at + (n - 1)) % n,
             Seen::Flat => break,
