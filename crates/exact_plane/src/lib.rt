@@ -14,6 +14,7 @@ mod steps;
 mod triangle;
 mod turns;
 mod vector;
+mod ways;
 mod wide;
 
 pub use bounding_box::BoundingBox;
@@ -26,4 +27,5 @@ pub use segments::{meet_only_at, on_segment, segments_meet};
 pub use steps::Steps;
 pub use triangle::in_triangle;
 pub use turns::{Spot, Turns};
+pub use ways::turn_of_ways;
 pub use wide::compare;

@@ -1,21 +1,12 @@
--- Turns counted round, and the block of those that are not to the right.
-use Rattle.std.proofs.Common.{◌≡◌, ◌≢◌, inl, inr, refl, sym, subst, ap, ◌∙◌, ℕ, ◌+◌, ◌-◌, ◌*◌, ◌/◌, ◌%◌, ◌<◌, arith, rules, Bool, true, false, List, length}
-use Rattle.std.proofs.Math.Nat.{add-mod_left, add-mul-mod_self_left, div-add-mod, mod-lt}
+-- Corners counted round, and the block of those that a cut leaves.
+use Rattle.std.proofs.Common.{◌≡◌, inl, inr, sym, subst, ap, ◌∙◌, ℕ, ◌+◌, ◌-◌, ◌*◌, ◌/◌, ◌%◌, ◌<◌, ◌≤◌, arith, List, length}
+use Rattle.std.proofs.Math.Nat.{add-mod_left, add-mul-mod_self_left, div-add-mod, mod-eq_of_lt, mod-lt}
 use Rattle.std.proofs.lemmas.Bool.{cases_eq, cases_lt}
-use Rattle.std.specs.Prelude.{IfNone, IsSome, None, Option, Some, slice_index_or}
-use Rattle.exact_plane.specs.declared.direction.Direction.{Direction}
-use Rattle.exact_plane.specs.declared.direction.Direction.TheVariants.{Straight}
-use Rattle.half_cut.specs.Block.{IsBlock, is_right, right_at}
-
--- what is not true is false
-pub not_true : (t : Bool) → t ≢ true → t ≡ false
-not_true true h = absurd (h refl)
-not_true false h = refl
-
--- and what is not false is true
-pub not_false : (t : Bool) → t ≢ false → t ≡ true
-not_false true h = refl
-not_false false h = absurd (h refl)
+use Rattle.plane.specs.Convex.{corner}
+use Rattle.plane.specs.Point.{Triple}
+use Rattle.plane.specs.Region.{corner_at}
+use Rattle.plane.specs.Turn.{IsRight}
+use Rattle.half_cut.specs.Block.{IsBlock}
 
 -- a number may be counted round before another is added
 pub mod_add : (x i n : ℕ) → (x % n + i) % n ≡ (x + i) % n
@@ -31,58 +22,79 @@ all_round P n from once within all i less = elim (cases_lt i from) [
   | inr after ↦ subst P (omega (arith, after)) (all (i - from) (omega (arith, less)))
 ]
 
-module _ (turns : List Direction) where
-  -- once round is the same turn
-  pub once_round : (i : ℕ) → right_at turns (length turns + i) ≡ right_at turns i
-  once_round i = ap (λ k. is_right (slice_index_or turns k Straight)) (add-mod_left (length turns) i)
+module _ (cs : List Triple) where
+  -- once round is the same corner,
+  pub once_round : (i : ℕ) → corner_at cs (length cs + i) ≡ corner_at cs i
+  once_round i = ap (λ k. corner cs k) (add-mod_left (length cs) i)
 
-  -- and so is one that was counted round before
-  pub counted_round : (x i : ℕ) → right_at turns (x % length turns + i) ≡ right_at turns (x + i)
-  counted_round x i = ap (λ k. is_right (slice_index_or turns k Straight)) (mod_add x i (length turns))
+  -- so is one that was counted round before,
+  pub counted_round : (x i : ℕ) → corner_at cs (x % length cs + i) ≡ corner_at cs (x + i)
+  counted_round x i = ap (λ k. corner cs k) (mod_add x i (length cs))
 
-  -- none is to the right, or each is, where no other is found from a place on
-  pub all_alike : (t : Bool) (from : ℕ) → from < length turns → ((i : ℕ) → i < length turns → right_at turns (from + i) ≡ t)
-      → (i : ℕ) → i < length turns → right_at turns i ≡ t
-  all_alike t from within = all_round (λ i. right_at turns i ≡ t) (length turns) from (λ i h. sym (once_round i) ∙ h) within
+  -- and one that need not be counted round
+  pub not_round : (i : ℕ) → i < length cs → corner_at cs i ≡ corner cs i
+  not_round i less = ap (λ k. corner cs k) (mod-eq_of_lt less)
 
-  -- the next that is not to the right after one that is begins a block
-  module _ (gone ahead : ℕ) (in_gone : gone < length turns) (in_ahead : ahead < length turns) (right : right_at turns gone ≡ true)
-      (here : right_at turns (gone + ahead) ≡ false) (between : (i : ℕ) → i < ahead → right_at turns (gone + i) ≢ false) where
-    -- the one before it is to the right
-    pub before_block : right_at turns ((gone + ahead) % length turns + (length turns - 1)) ≡ true
-    before_block =
-        let some : 0 < ahead = elim (cases_eq ahead 0) [
-          | inl e ↦
-              let same : gone ≡ gone + ahead = omega (arith, e) in
-              absurd (cc (right, here, ap (λ k. right_at turns k) same))
-          | inr n ↦ omega (arith, n)
-        ] in
-        let back : gone + ahead + (length turns - 1) ≡ length turns + (gone + (ahead - 1)) = omega (arith, some, in_gone) in
-        counted_round (gone + ahead) (length turns - 1) ∙ ap (λ k. right_at turns k) back ∙ once_round (gone + (ahead - 1))
-        ∙ not_false _ (between (ahead - 1) (omega (arith, some)))
+  -- what holds of all corners from one on holds of all
+  pub all_from : (P : Triple → Type 0) (from : ℕ) → from < length cs → ((i : ℕ) → i < length cs → P (corner_at cs (from + i)))
+      → (i : ℕ) → i < length cs → P (corner cs i)
+  all_from P from within all i less =
+      subst P (not_round i less)
+      (all_round (λ k. P (corner_at cs k)) (length cs) from (λ k h. subst P (once_round k) h) within all i less)
 
-    -- with as many as there are up to the next to the right
-    pub block_at : (count : ℕ) → count < length turns → right_at turns ((gone + ahead) % length turns + count) ≡ true
-        → ((i : ℕ) → i < count → right_at turns ((gone + ahead) % length turns + i) ≢ true) → IsBlock turns
-        ((gone + ahead) % length turns) count
-    block_at count rest next stay = record {
-      within = mod-lt (gone + ahead) (omega (arith, in_gone));
-      some = elim (cases_eq count 0) [
-        | inl e ↦
-            let start : right_at turns ((gone + ahead) % length turns + 0) ≡ false =
-            counted_round (gone + ahead) 0 ∙ ap (λ k. right_at turns k) (omega arith) ∙ here in
-            absurd (cc (start, next, ap (λ k. right_at turns ((gone + ahead) % length turns + k)) e))
-        | inr n ↦ omega (arith, n)
-      ];
-      rest = rest;
-      stay = λ i less. not_true _ (stay i less);
-      next = next;
-      before = before_block;
-    }
+module _ (a b : Triple) (cs : List Triple) (gone ahead back : ℕ) (within : gone < length cs) (here : IsRight a b (corner cs gone))
+    (right_ahead : (k : ℕ) → k < ahead → IsRight a b (corner_at cs (gone + k)))
+    (end_ahead : ¬ (IsRight a b (corner_at cs (gone + ahead)))) (in_ahead : ahead < length cs)
+    (in_back : back ≤ length cs)
+    (right_back : (k : ℕ) → k < back → IsRight a b (corner_at cs (gone + (length cs - k)))) where
+  first_right : IsRight a b (corner_at cs gone)
+  first_right = subst (IsRight a b) (sym (not_round cs gone within)) here
 
--- a search that would have found the last finds one
-pub some_found : (turns : List Direction) (start : ℕ) (found : Option ℕ)
-    → IfNone found ((i : ℕ) → i < length turns → right_at turns (start + i) ≢ true) → 0 < length turns
-    → right_at turns (start + (length turns - 1)) ≡ true → IsSome found
-some_found turns start None none some last = absurd (none (length turns - 1) (omega (arith, some)) last)
-some_found turns start (Some k) none some last = search rules
+  -- the walk ahead takes a step at least,
+  pub some_ahead : 0 < ahead
+  some_ahead = elim (cases_eq ahead 0) [
+    | inl e ↦ absurd (end_ahead (subst (λ k. IsRight a b (corner_at cs k)) (omega (arith, e)) first_right))
+    | inr n ↦ omega (arith, n)
+  ]
+
+  -- and the walk back does not pass the corner where that ended
+  pub back_ends : ahead + back ≤ length cs
+  back_ends = elim (cases_lt (length cs - ahead) back) [
+    | inr not ↦ omega (arith, not, in_ahead)
+    | inl past ↦
+        absurd (end_ahead (subst (λ k. IsRight a b (corner_at cs k)) (omega (arith, in_ahead)) (right_back (length cs - ahead) past)))
+  ]
+
+  module _ (end_back : ¬ (IsRight a b (corner_at cs (gone + (length cs - back))))) where
+    some_back : 0 < back
+    some_back = elim (cases_eq back 0) [
+      | inl e ↦
+          absurd (end_back (subst (λ k. IsRight a b (corner_at cs (gone + (length cs - k)))) (sym e)
+          (subst (IsRight a b) (sym (once_round cs gone) ∙ ap (λ k. corner_at cs k) (omega arith)) first_right)))
+      | inr n ↦ omega (arith, n)
+    ]
+
+    -- what is between the two ends is the block that stays
+    pub block_between : IsBlock a b cs ((gone + ahead) % length cs) (length cs + 1 - ahead - back)
+    block_between =
+        let n = length cs in
+        let count = n + 1 - ahead - back in
+        let start = (gone + ahead) % n in
+        record {
+          within = mod-lt (gone + ahead) (omega (arith, within));
+          some = omega (arith, back_ends);
+          rest = omega (arith, some_ahead, some_back, back_ends);
+          first = λ h. end_ahead (subst (IsRight a b) (ap (λ k. corner_at cs k) (omega arith) ∙ counted_round cs (gone + ahead) 0 ∙ ap (λ k. corner_at cs k) (omega arith)) h);
+          last = λ h.
+              let place : gone + ahead + (count - 1) ≡ gone + (n - back) = omega (arith, back_ends) in
+              end_back (subst (IsRight a b) (counted_round cs (gone + ahead) (count - 1) ∙ ap (λ k. corner_at cs k) place) h);
+          next =
+              let place : gone + ahead + count ≡ gone + (n - (back - 1)) = omega (arith, back_ends, some_back) in
+              subst (IsRight a b) (sym (counted_round cs (gone + ahead) count ∙ ap (λ k. corner_at cs k) place))
+              (right_back (back - 1) (omega (arith, some_back)));
+          before =
+              let place : gone + ahead + (n - 1) ≡ n + (gone + (ahead - 1)) = omega (arith, some_ahead, within) in
+              subst (IsRight a b)
+              (sym (counted_round cs (gone + ahead) (n - 1) ∙ ap (λ k. corner_at cs k) place ∙ once_round cs (gone + (ahead - 1))))
+              (right_ahead (ahead - 1) (omega (arith, some_ahead)));
+        }

@@ -124,7 +124,7 @@ length_rotated xs t in_t = omega (arith, length-append (drop t xs) (take t xs), 
 -- linked round, they are so from another one on
 module _ (cs : List Triple) (ls : List Line) (t : ℕ) (h : AreLinkedRound cs ls) (in_t : t ≤ length cs) where
   -- each line comes to the next corner, counted round
-  comes_to : (k : ℕ) → k < length cs → IsOnLine (line_at ls k) (corner cs ((k + 1) % length cs))
+  pub comes_to : (k : ℕ) → k < length cs → IsOnLine (line_at ls k) (corner cs ((k + 1) % length cs))
   comes_to k in_k = elim (cases_lt (k + 1) (length cs)) [
     | inl more ↦ on_at {l = line_at ls k} refl (ap (λ n. corner cs n) (mod-eq_of_lt more)) (h.linked.goes_on k more)
     | inr end ↦

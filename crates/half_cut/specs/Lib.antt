@@ -1,3 +1,4 @@
 pub mod Block
 pub mod Meeting
 pub mod Outline
+pub mod Seek

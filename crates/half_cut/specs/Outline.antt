@@ -1,9 +1,9 @@
 -- What a region keeps: its corners, and for each the line along which its side goes on to the next. This project's own.
-use Rattle.std.specs.Prelude.{◌≡◌, ◌≢◌, ℕ, ◌+◌, ◌-◌, ◌^◌, ◌<◌, ◌≤◌, List, None, Option, Some, length, pos, slice_index_or}
+use Rattle.std.specs.Prelude.{◌≡◌, ◌≢◌, ℕ, ◌+◌, ◌-◌, ◌^◌, ◌<◌, ◌≤◌, ◌⊎◌, ◌++◌, List, None, Option, Some, drop, length, pos, slice_index_or, take}
 use Rattle.plane.specs.Convex.{AreConvex, corner}
 use Rattle.plane.specs.Order.{Precedes}
 use Rattle.plane.specs.Point.{Point, Triple, whole}
-use Rattle.plane.specs.Turn.{IsStraight}
+use Rattle.plane.specs.Turn.{IsRight, IsStraight}
 
 -- two points of a line
 abbrev pub Line : Type 0
@@ -45,9 +45,25 @@ ComesRound corners lines None line = IsOnLine (line_at lines (length lines - 1))
 ComesRound corners lines (Some x) line =
     IsOnLine (line_at lines (length lines - 1)) x × IsOnLine line x × IsOnLine line (corner corners 0)
 
--- what holds of every region
-pub record IsOutline (corners : List Triple) (lines : List Line) : Type 0 where
+-- no corner is right of a line
+abbrev pub AreBeside : List Triple → List Line → Type 0
+AreBeside corners lines = (i j : ℕ) → i < length lines → j < length corners
+    → ¬ IsRight (whole (line_at lines i).0) (whole (line_at lines i).1) (corner corners j)
+
+-- each of the lines is one of the old ones, or the new one
+abbrev pub AreOf : (old : List Line) → Line → List Line → Type 0
+AreOf old new lines = (i : ℕ) → i < length lines → ((j : ℕ) × (j < length old × (line_at lines i ≡ line_at old j))) ⊎ (line_at lines i ≡ new)
+
+-- a list that is read from this place on, and round
+abbrev pub from_place : {X : Type 0} → ℕ → List X → List X
+from_place t xs = drop t xs ++ take t xs
+
+-- what holds of every region, as its corners and lines stand, and of the place of the least
+pub record IsKept (corners : List Triple) (lines : List Line) (place : ℕ) : Type 0 where
   pub convex : AreConvex corners
-  pub least : (i : ℕ) → i < length corners → ¬ (Precedes (corner corners i) (corner corners 0))
+  pub within : place ≤ length corners
+  pub some : 0 < length corners → place < length corners
+  pub least : (i : ℕ) → i < length corners → ¬ (Precedes (corner corners i) (corner corners place))
   pub round : AreLinkedRound corners lines
+  pub beside : AreBeside corners lines
   pub few : length corners ≤ 2 ^ 31

@@ -1,11 +1,16 @@
 // Which corners a cut leaves: those that are not right of the line, which follow one another.
-ghost use Rattle.std.specs.Prelude.{◌≡◌, ◌≢◌, ◌+◌, ◌%◌, ◌<◌, ℕ, IfOk, IfSome, IfNone, length, map, slice_index_or};
+ghost use Rattle.std.specs.Prelude.{◌≡◌, ◌+◌, ◌-◌, ◌%◌, ◌<◌, ◌≤◌, ◌↔◌, ℕ, IsTrue, length};
+ghost use Rattle.plane.specs.Convex.{AreConvex, corner};
 ghost use Rattle.plane.specs.Point.{whole};
-ghost use Rattle.exact_plane.specs.Direction.{turn_of};
-ghost use Rattle.half_cut.specs.Block.{AreKept, right_at};
+ghost use Rattle.plane.specs.Region.{corner_at};
+ghost use Rattle.plane.specs.Turn.{IsRight};
+ghost use Rattle.half_cut.specs.Block.{AreKept};
+ghost use Rattle.half_cut.specs.Outline.{AreBeside, AreLinkedRound};
 
-use exact_plane::{Direction, Hom, Memory, Pt, Steps, turn_hom};
-use std::alloc::Global;
+use crate::region::Line;
+use crate::seek::seek;
+use exact_plane::{Direction, Hom, Pt, Steps, turn_hom};
+use std::collections::VecDeque;
 use std::sync::ledger::Ledger;
 
 // The corners that a cut leaves.
@@ -17,69 +22,91 @@ pub(crate) enum Kept {
     Block { start: usize, count: usize },
 }
 
-// On which side of the line from `a` to `b` each corner is.
-pub(crate) fn turns<L: Ledger>(
-    alloc: Global,
-    corners: &[Hom],
+// Whether this corner is right of the line from `a` to `b`.
+#[tactic(auto, using(exact_plane::proofs::Directions::right_turns))]
+pub(crate) fn is_right_at<L: Ledger>(
+    corners: &VecDeque<Hom>,
+    i: usize,
     a: &Pt,
     b: &Pt,
     steps: &mut Steps<L>,
-) -> Result<Vec<Direction>, Memory>
-    ensures { IfOk result (λ turns. turns.items ≡ map (turn_of (whole a.now) (whole b.now)) corners.now) }
+) -> bool
+    requires { i < length corners.now.items }
+    ensures { IsTrue result ↔ IsRight (whole a.now) (whole b.now) (corner corners.now.items i) }
 {
-    let mut turns = Vec::with_capacity(alloc, corners.len())?;
-    for corner in corners {
-        turns.push(turn_hom(a, b, corner, steps))?;
+    turn_hom(a, b, &corners[i], steps) == Direction::Right
+}
+
+// The corners that are not right of the line. It looks at those that are, at one beside them on each hand, and at those on the way
+// to them from the place `near`.
+pub(crate) fn block_of<L: Ledger>(
+    corners: &VecDeque<Hom>,
+    lines: &VecDeque<Line>,
+    near: &mut usize,
+    a: &Pt,
+    b: &Pt,
+    steps: &mut Steps<L>,
+) -> Kept
+    requires convex { AreConvex corners.now.items }
+    requires linked { AreLinkedRound corners.now.items lines.now.items }
+    requires beside { AreBeside corners.now.items lines.now.items }
+    ensures { AreKept (whole a.now) (whole b.now) corners.now.items result }
+{
+    let Some(gone) = seek(corners, lines, near, a, b, steps) else {
+        return Kept::All;
+    };
+    let n = corners.len();
+    let ahead = run_ahead(corners, gone, a, b, steps);
+    if ahead == n {
+        return Kept::Nothing;
     }
-    Ok(turns)
+    let back = run_back(corners, gone, a, b, steps);
+    Kept::Block {
+        start: (gone + ahead) % n,
+        count: n + 1 - ahead - back,
+    }
 }
 
-// The turn to the corner with this number, counted round.
-pub(crate) fn turn_at(turns: &[Direction], i: usize) -> Direction
-    requires { 0 < length turns.now }
-    ensures { result ≡ slice_index_or turns.now (i % length turns.now) Direction.Straight }
+// How many corners from this one on are right of the line, up to the first that is not.
+fn run_ahead<L: Ledger>(
+    corners: &VecDeque<Hom>,
+    from: usize,
+    a: &Pt,
+    b: &Pt,
+    steps: &mut Steps<L>,
+) -> usize
+    requires { from < length corners.now.items }
+    ensures within { result ≤ length corners.now.items }
+    ensures right { (k : ℕ) → k < result → IsRight (whole a.now) (whole b.now) (corner_at corners.now.items (from + k)) }
+    ensures end { result < length corners.now.items → ¬ IsRight (whole a.now) (whole b.now) (corner_at corners.now.items (from + result)) }
 {
-    turns[i % turns.len()]
-}
-
-// Whether the corner with this number, counted round, is right of the line.
-fn is_right(turns: &[Direction], i: usize) -> bool
-    requires { 0 < length turns.now }
-    ensures { result ≡ right_at turns.now i }
-{
-    turn_at(turns, i) == Direction::Right
-}
-
-// How far it is from corner `from` on to the next that is right of the line, or that is not.
-fn next(turns: &[Direction], from: usize, right: bool) -> Option<usize>
-    requires { from < length turns.now }
-    ensures within { IfSome result (λ k. k < length turns.now) }
-    ensures here { IfSome result (λ k. right_at turns.now (from + k) ≡ right) }
-    ensures not_before { IfSome result (λ k. (i : ℕ) → i < k → right_at turns.now (from + i) ≢ right) }
-    ensures none { IfNone result ((i : ℕ) → i < length turns.now → right_at turns.now (from + i) ≢ right) }
-{
-    for k in 0..turns.len() {
-        if is_right(turns, from + k) == right {
-            return Some(k);
+    let n = corners.len();
+    for k in 0..n {
+        if !is_right_at(corners, (from + k) % n, a, b, steps) {
+            return k;
         }
     }
-    None
+    n
 }
 
-// The corners that are not right of the line.
-pub(crate) fn block_of(turns: &[Direction]) -> Kept
-    ensures { AreKept turns.now result }
+// The same backward.
+fn run_back<L: Ledger>(
+    corners: &VecDeque<Hom>,
+    from: usize,
+    a: &Pt,
+    b: &Pt,
+    steps: &mut Steps<L>,
+) -> usize
+    requires { from < length corners.now.items }
+    ensures within { result ≤ length corners.now.items }
+    ensures right { (k : ℕ) → k < result → IsRight (whole a.now) (whole b.now) (corner_at corners.now.items (from + (length corners.now.items - k))) }
+    ensures end { result < length corners.now.items → ¬ IsRight (whole a.now) (whole b.now) (corner_at corners.now.items (from + (length corners.now.items - result))) }
 {
-    if turns.is_empty() {
-        return Kept::All;
+    let n = corners.len();
+    for k in 0..n {
+        if !is_right_at(corners, (from + (n - k)) % n, a, b, steps) {
+            return k;
+        }
     }
-    let Some(gone) = next(turns, 0, true) else {
-        return Kept::All;
-    };
-    let Some(ahead) = next(turns, gone, false) else {
-        return Kept::Nothing;
-    };
-    let start = (gone + ahead) % turns.len();
-    let count = next(turns, start, true).unwrap();
-    Kept::Block { start, count }
+    n
 }

@@ -5,6 +5,7 @@ mod block;
 mod cut;
 mod least;
 mod region;
+mod seek;
 mod tail;
 
 pub use cut::CutFault;

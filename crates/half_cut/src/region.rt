@@ -7,6 +7,7 @@ ghost use Rattle.plane.specs.Square.{IsInSquare};
 use exact_plane::{Hom, Memory, Pt};
 use plane::MAX_COORDINATE;
 use std::alloc::Global;
+use std::collections::VecDeque;
 use std::marker::Model;
 
 // A line through two whole-number points.
@@ -16,18 +17,23 @@ pub(crate) type Line = (Pt, Pt);
 /// lexicographically least one; with each it keeps the line of the side to the next.
 #[derive(Drop)]
 pub struct Region {
-    pub(crate) corners: Vec<Hom>,
-    pub(crate) lines: Vec<Line>,
+    // They stand as the last cut left them: both ends of its side at the ends.
+    pub(crate) corners: VecDeque<Hom>,
+    pub(crate) lines: VecDeque<Line>,
+    // The place of the least corner.
+    pub(crate) least: usize,
+    // Where the next cut looks first, or past the end: beside the last cut, or where the last one was seen to cut nothing.
+    pub(crate) near: usize,
 }
 
 impl Model for Region {
-    ghost use Rattle.half_cut.specs.Outline.{IsOutline, Outline};
+    ghost use Rattle.half_cut.specs.Outline.{IsKept, Outline, from_place};
 
     ghost Value = { Outline };
 
-    ghost view = { λ region. record { corners = region.corners.items; lines = region.lines.items } };
+    ghost view = { λ region. record { corners = from_place region.least region.corners.items; lines = from_place region.least region.lines.items } };
 
-    ghost invariant = { λ region. IsOutline region.corners.items region.lines.items };
+    ghost invariant = { λ region. IsKept region.corners.items region.lines.items region.least };
 }
 
 const FAR: i64 = MAX_COORDINATE as i64;
@@ -44,7 +50,12 @@ impl Region {
         let (a, b) = (point_at(-FAR, -FAR), point_at(FAR, -FAR));
         let (c, d) = (point_at(FAR, FAR), point_at(-FAR, FAR));
         let lines = Vec::from_array(alloc, [(a, b), (b, c), (c, d), (d, a)])?;
-        Ok(Region { corners, lines })
+        Ok(Region {
+            corners: VecDeque::from_vec(corners),
+            lines: VecDeque::from_vec(lines),
+            least: 0,
+            near: 0,
+        })
     }
 
     /// How many corners there are.
@@ -63,7 +74,7 @@ impl Region {
         requires { i < length self.now.corners }
         ensures { result ≡ corner self.now.corners i }
     {
-        self.corners[i as usize]
+        self.corners[(self.least + i as usize) % self.corners.len()]
     }
 }
 

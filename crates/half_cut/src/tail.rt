@@ -1,22 +1,24 @@
 // Cuts away the last corners of a region, where they are read from the first that stays.
-ghost use Rattle.std.specs.Prelude.{◌≡◌, ◌≢◌, ◌+◌, ◌-◌, ◌<◌, ◌≤◌, ◌++◌, ℕ, length, option_to_list, take, vec_capacity};
+ghost use Rattle.std.specs.Prelude.{◌≡◌, ◌≢◌, ◌+◌, ◌-◌, ◌<◌, ◌≤◌, ◌++◌, ℕ, length, option_to_list, take};
+ghost use Rattle.std.specs.VecDeque.{deque_capacity};
 ghost use Rattle.plane.specs.Convex.{AreConvex, corner};
 ghost use Rattle.plane.specs.Cut.{IsCut};
 ghost use Rattle.plane.specs.Point.{whole};
 ghost use Rattle.plane.specs.Turn.{IsRight};
 ghost use Rattle.exact_plane.specs.Direction.{turn_of};
 ghost use Rattle.half_cut.specs.Meeting.{IsFound};
-ghost use Rattle.half_cut.specs.Outline.{AreLinked, AreLinkedRound, ComesRound, GoesOn, line_at};
+ghost use Rattle.half_cut.specs.Outline.{AreLinked, AreLinkedRound, AreOf, ComesRound, GoesOn, line_at};
 
 use crate::region::Line;
 use exact_plane::{Direction, Hom, Pt, Steps};
+use std::collections::VecDeque;
 use std::sync::ledger::Ledger;
 
 // Cuts away the corners from number `count` on, all of which are right of the line from `a` to `b`. None before them is; the turns
 // to the first and to the last of those are given.
 pub(crate) fn cut_tail<L: Ledger>(
-    corners: &mut Vec<Hom>,
-    lines: &mut Vec<Line>,
+    corners: &mut VecDeque<Hom>,
+    lines: &mut VecDeque<Line>,
     count: usize,
     first: Direction,
     last: Direction,
@@ -33,10 +35,11 @@ pub(crate) fn cut_tail<L: Ledger>(
     requires go { (i : ℕ) → count ≤ i → i < length corners.old.items → IsRight (whole a.now) (whole b.now) (corner corners.old.items i) }
     requires first { first ≡ turn_of (whole a.now) (whole b.now) (corner corners.old.items 0) }
     requires last { last ≡ turn_of (whole a.now) (whole b.now) (corner corners.old.items (count - 1)) }
-    requires corner_room { length corners.old.items < vec_capacity corners.old }
-    requires line_room { length lines.old.items < vec_capacity lines.old }
+    requires corner_room { length corners.old.items < deque_capacity corners.old }
+    requires line_room { length lines.old.items < deque_capacity lines.old }
     ensures cut { IsCut (whole a.now) (whole b.now) corners.old.items corners.new.items }
     ensures linked { AreLinkedRound corners.new.items lines.new.items }
+    ensures lines { AreOf lines.old.items (a.now, b.now) lines.new.items }
     ensures some { 0 < length corners.new.items }
     ensures few { length corners.new.items ≤ length corners.old.items + 1 }
 {
@@ -70,7 +73,13 @@ fn meeting<L: Ledger>(
 }
 
 // Keeps the first corners, and adds one if there is one. From the last on it goes along this line.
-fn keep(corners: &mut Vec<Hom>, lines: &mut Vec<Line>, count: usize, back: Option<Hom>, line: Line)
+fn keep(
+    corners: &mut VecDeque<Hom>,
+    lines: &mut VecDeque<Line>,
+    count: usize,
+    back: Option<Hom>,
+    line: Line,
+)
     requires linked { AreLinked corners.old.items lines.old.items }
     requires some { 0 < count }
     requires rest { count < length corners.old.items }
@@ -79,33 +88,35 @@ fn keep(corners: &mut Vec<Hom>, lines: &mut Vec<Line>, count: usize, back: Optio
     ensures corners { corners.new.items ≡ take count corners.old.items ++ option_to_list back }
     ensures linked { AreLinked corners.new.items lines.new.items }
     ensures last { line_at lines.new.items (length lines.new.items - 1) ≡ line }
-    ensures corner_room { vec_capacity corners.new ≡ vec_capacity corners.old }
-    ensures line_room { vec_capacity lines.new ≡ vec_capacity lines.old }
+    ensures lines { AreOf lines.old.items line lines.new.items }
+    ensures corner_room { deque_capacity corners.new ≡ deque_capacity corners.old }
+    ensures line_room { deque_capacity lines.new ≡ deque_capacity lines.old }
 {
     corners.truncate(count);
     match back {
         Some(corner) => {
             lines.truncate(count);
-            corners.push_reserved(corner);
+            corners.push_back_reserved(corner);
         }
         None => lines.truncate(count - 1),
     }
-    lines.push_reserved(line);
+    lines.push_back_reserved(line);
 }
 
 // Adds a corner, if there is one, with the line from there to the first.
-fn close(corners: &mut Vec<Hom>, lines: &mut Vec<Line>, front: Option<Hom>, line: Line)
+fn close(corners: &mut VecDeque<Hom>, lines: &mut VecDeque<Line>, front: Option<Hom>, line: Line)
     requires linked { AreLinked corners.old.items lines.old.items }
     requires some { 0 < length corners.old.items }
     requires differ { line.0 ≢ line.1 }
     requires comes_round { ComesRound corners.old.items lines.old.items front line }
-    requires corner_room { length corners.old.items < vec_capacity corners.old }
-    requires line_room { length lines.old.items < vec_capacity lines.old }
+    requires corner_room { length corners.old.items < deque_capacity corners.old }
+    requires line_room { length lines.old.items < deque_capacity lines.old }
     ensures corners { corners.new.items ≡ corners.old.items ++ option_to_list front }
     ensures linked { AreLinkedRound corners.new.items lines.new.items }
+    ensures lines { AreOf lines.old.items line lines.new.items }
 {
     if let Some(corner) = front {
-        corners.push_reserved(corner);
-        lines.push_reserved(line);
+        corners.push_back_reserved(corner);
+        lines.push_back_reserved(line);
     }
 }

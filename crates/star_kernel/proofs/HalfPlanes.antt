@@ -1,4 +1,4 @@
--- The square of all points, cut by the lines of the edges one after another: in the end it is the kernel.
+-- The square of all points, cut by the lines of the edges one after another, in some order: in the end it is the kernel.
 use Rattle.std.proofs.Common.{◌≡◌, ◌↔◌, inl, inr, subst, sym, ap, ◌∙◌, ℕ, ◌+◌, ◌%◌, ◌<◌, ◌≤◌, List, length, arith}
 use Rattle.std.proofs.lemmas.Bool.{cases_lt}
 use Rattle.plane.specs.Cut.{IsUncut}
@@ -12,7 +12,8 @@ use Rattle.rings.specs.Orientation.{IsCounterclockwise}
 use Rattle.rings.specs.Ring.{vertex}
 use Rattle.rings.specs.Simple.{IsSimple}
 use Rattle.ring_laws.proofs.Kernels.{kernel_law, right_of_none_in_square}
-use Rattle.star_kernel.specs.HalfPlanes.{IsLeftOfFirst}
+use Rattle.star_kernel.specs.HalfPlanes.{AreAllEdges, IsLeftOfFirst, number_at}
+use Rattle.star_kernel.specs.declared.directions.Edge.{Edge}
 
 -- a corner list of one set is that of another with the same points
 corners_with : (set other : Triple → Type 0) → ((p : Triple) → IsPoint p → set p ↔ other p) → (corners : List Triple) → IsCornerList set corners
@@ -29,21 +30,12 @@ corners_with set other same corners list = record {
 pub next_vertex : (ring : List Point) (k n : ℕ) → n ≡ length ring → vertex ring ((k + 1) % n) ≡ vertex ring (k + 1)
 next_vertex ring k n e = ap (λ m. vertex ring ((k + 1) % m)) e ∙ vertex_mod ring (k + 1)
 
--- the bounds of one more vertex
-pub bounds_more : (ring : List Point) (k : ℕ) (from : Point) → from ≡ vertex ring k → IsInBounds from
-    → ((i : ℕ) → i < k → IsInBounds (vertex ring i)) → (i : ℕ) → i < k + 1 → IsInBounds (vertex ring i)
-bounds_more ring k from is_from of_from before i below = elim (cases_lt i k) [
-  | inl less ↦ before i less
-  | inr not ↦
-      let same : k ≡ i = omega arith in
-      subst (λ (j : ℕ). IsInBounds (vertex ring j)) same (subst IsInBounds is_from of_from)
-]
-
--- edge k cuts what the edges before it left
-pub one_more : (ring : List Point) (k : ℕ) (from to : Point) → from ≡ vertex ring k → to ≡ vertex ring (k + 1)
-    → (corners rest : List Triple) → IsCornerList (IsLeftOfFirst ring k) corners → IsCornerList (IsUncut (whole from) (whole to) corners) rest
-    → IsCornerList (IsLeftOfFirst ring (k + 1)) rest
-one_more ring k from to is_from is_to corners rest list = corners_with (IsUncut (whole from) (whole to) corners) (IsLeftOfFirst ring (k + 1))
+-- edge k of the list cuts what the edges before it left
+pub one_more : (ring : List Point) (edges : List Edge) (k : ℕ) (from to : Point) → from ≡ vertex ring (number_at edges k)
+    → to ≡ vertex ring (number_at edges k + 1) → (corners rest : List Triple) → IsCornerList (IsLeftOfFirst ring edges k) corners
+    → IsCornerList (IsUncut (whole from) (whole to) corners) rest → IsCornerList (IsLeftOfFirst ring edges (k + 1)) rest
+one_more ring edges k from to is_from is_to corners rest list = corners_with (IsUncut (whole from) (whole to) corners)
+    (IsLeftOfFirst ring edges (k + 1))
     (λ p at_p. (
       λ h.
           let before = (list.exact p at_p).0 h.0 in
@@ -54,14 +46,15 @@ one_more ring k from to is_from is_to corners rest list = corners_with (IsUncut 
       ),
     )) rest
   where
-    more : (p : Triple) → ((i : ℕ) → i < k → ¬ IsRight (whole (vertex ring i)) (whole (vertex ring (i + 1))) p)
-        → ¬ IsRight (whole (vertex ring k)) (whole (vertex ring (k + 1))) p
-        → (i : ℕ) → i < k + 1 → ¬ IsRight (whole (vertex ring i)) (whole (vertex ring (i + 1))) p
+    is_right : ℕ → Triple → Type 0
+    is_right i p = IsRight (whole (vertex ring (number_at edges i))) (whole (vertex ring (number_at edges i + 1))) p
+
+    more : (p : Triple) → ((i : ℕ) → i < k → ¬ is_right i p) → ¬ is_right k p → (i : ℕ) → i < k + 1 → ¬ is_right i p
     more p before last i below right = elim (cases_lt i k) [
       | inl less ↦ before i less right
       | inr not ↦
           let same : i ≡ k = omega arith in
-          last (subst (λ (j : ℕ). IsRight (whole (vertex ring j)) (whole (vertex ring (j + 1))) p) same right)
+          last (subst (λ (j : ℕ). is_right j p) same right)
     ]
 
 module _ (ring : List Point) (three : 3 ≤ length ring) (simple : IsSimple ring) where
@@ -75,9 +68,18 @@ module _ (ring : List Point) (three : 3 ≤ length ring) (simple : IsSimple ring
 
   module _ (way : IsCounterclockwise ring) (bounds : (k : ℕ) → k < length ring → IsInBounds (vertex ring k)) where
     -- in the end it is the kernel
-    pub all_edges : (corners : List Triple) → IsCornerList (IsLeftOfFirst ring (length ring)) corners → IsKernel ring corners
-    all_edges = corners_with (IsLeftOfFirst ring (length ring)) (IsInKernel ring)
+    pub all_edges : (edges : List Edge) → AreAllEdges (length ring) edges → (corners : List Triple)
+        → IsCornerList (IsLeftOfFirst ring edges (length ring)) corners → IsKernel ring corners
+    all_edges edges are = corners_with (IsLeftOfFirst ring edges (length ring)) (IsInKernel ring)
         (λ p at_p. (
-          λ h. (kernel_law ring three simple way p at_p).1 h.1,
-          λ h. let none = (kernel_law ring three simple way p at_p).0 h in (right_of_none_in_square ring three simple way bounds p at_p none, none),
+          λ h. (kernel_law ring three simple way p at_p).1 (λ k below. at_edge p k (are.all k below) h.1),
+          λ h.
+              let none = (kernel_law ring three simple way p at_p).0 h in
+              (right_of_none_in_square ring three simple way bounds p at_p none, λ i below. none (number_at edges i) (are.within i below)),
         ))
+      where
+        at_edge : (p : Triple) (k : ℕ) → (i : ℕ) × ((i < length ring) × (number_at edges i ≡ k))
+            → ((i : ℕ) → i < length ring → ¬ IsRight (whole (vertex ring (number_at edges i))) (whole (vertex ring (number_at edges i + 1))) p)
+            → ¬ IsRight (whole (vertex ring k)) (whole (vertex ring (k + 1))) p
+        at_edge p k found none =
+            subst (λ (j : ℕ). ¬ IsRight (whole (vertex ring j)) (whole (vertex ring (j + 1))) p) found.1.1 (none found.0 found.1.0)

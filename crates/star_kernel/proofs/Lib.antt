@@ -1,1 +1,2 @@
+mod EdgeOrders
 mod HalfPlanes

@@ -2,6 +2,7 @@ ghost use Rattle.std.specs.Prelude.{◌≡◌, ◌+◌, ◌≤◌, IfOk, length}
 ghost use Rattle.plane.specs.Region.{IsCornerList};
 ghost use Rattle.rings.specs.Kernel.{IsInKernel, IsKernel};
 
+use crate::directions::by_direction;
 use exact_plane::{Hom, Memory, Steps};
 use half_cut::Region;
 use ring_check::Ring;
@@ -22,17 +23,19 @@ pub fn kernel<L: Ledger>(
     corners_of(alloc, &region)
 }
 
-// What is right of no edge: the square of all points, cut by the line of every edge.
+// What is right of no edge: the square of all points, cut by the line of every edge. In the order of their directions each cut is
+// beside the one before.
 fn inner_side<L: Ledger>(alloc: Global, ring: &Ring, steps: &mut Steps<L>) -> Result<Region, Memory>
     ensures kernel { IfOk result (λ region. IsCornerList (IsInKernel ring.now.corners) region.corners) }
     ensures few { IfOk result (λ region. length region.corners ≤ length ring.now.corners + 4) }
 {
     let n = ring.len();
+    let edges = by_direction(alloc, ring, steps)?;
     let mut region = Region::all(alloc)?;
-    for i in 0..n {
-        let from = ring.corner(i);
-        from.coordinate_bounds();
-        let Ok(rest) = region.cut(alloc, &from, &ring.corner((i + 1) % n), steps) else {
+    for i in 0..edges.len() {
+        let number = edges[i].number;
+        let (from, to) = (ring.corner(number), ring.corner((number + 1) % n));
+        let Ok(rest) = region.cut(alloc, &from, &to, steps) else {
             return Err(Memory);
         };
         region = rest;

@@ -1,29 +1,42 @@
-use Rattle.std.proofs.Common.{◌≡◌, ap, ◌∙◌, arith, true, false}
-use Rattle.half_cut.proofs.Blocks.{all_alike, before_block, block_at, not_false, not_true, some_found}
+use Rattle.std.proofs.Common.{◌≡◌, sym, subst, ◌+◌, ◌-◌, ◌%◌, ◌<◌, arith, length}
+use Rattle.plane.specs.Point.{whole}
+use Rattle.plane.specs.Turn.{IsRight}
+use Rattle.half_cut.proofs.Blocks.{all_from, back_ends, block_between, some_ahead}
 use Rattle.half_cut.proofs.block.block_of.Goals as goal
-use Rattle.half_cut.specs.Block.{right_at}
+use Rattle.half_cut.specs.Block.{IsBlock}
 
-pub returns-in_default : goal.returns-in_default
-returns-in_default c i less =
-    all_alike c.args.turns.now false 0 (omega (arith, less)) (λ k within. not_true _ (c.in_default.ensures.none k within)) i less
+pub returns-then-ahead-n : goal.returns-then-ahead-n
+returns-then-ahead-n g c =
+    let cs = c.args.corners.now.items in
+    let all : c.run_ahead-ahead.result ≡ length cs = omega (arith, c.if-ahead-n.true, c.len-n.ensures, c.args.corners.now.ok.0) in
+    all_from cs (IsRight (whole c.args.a.now) (whole c.args.b.now)) c.in-Some.gone c.in-Some.ensures.within
+    (λ i less. c.run_ahead-ahead.ensures.right i (omega (arith, less, all)))
 
-pub returns-in_default-next : goal.returns-in_default-next
-returns-in_default-next c =
-    all_alike c.args.turns.now true c.in-Some.gone (omega (arith, c.in-Some.ensures.within))
-    (λ i less. not_false _ (c.in_default-next.ensures.none i less))
-
-pub unwrap-count-requires : goal.unwrap-count-requires
-unwrap-count-requires c =
-    let turns = c.args.turns.now in
-    let right : right_at turns c.in-Some.gone ≡ true = ap (λ k. right_at turns k) (omega arith) ∙ c.in-Some.ensures.here in
-    some_found turns _ c.next-3.result c.next-3.ensures.none (omega (arith, c.in-Some.ensures.within))
-    (before_block turns c.in-Some.gone c.in-Some-next.ahead c.in-Some.ensures.within c.in-Some-next.ensures.within right
-    c.in-Some-next.ensures.here c.in-Some-next.ensures.not_before)
+pub overflow_sub-result-2 : goal.overflow_sub-result-2
+overflow_sub-result-2 g c =
+    let cs = c.args.corners.now.items in
+    let en : c.len-n.result ≡ length cs = omega (arith, c.len-n.ensures, c.args.corners.now.ok.0) in
+    let in_ahead : c.run_ahead-ahead.result < length cs = omega (arith, c.if-ahead-n.false, c.run_ahead-ahead.ensures.within, en) in
+    let ends = back_ends (whole c.args.a.now) (whole c.args.b.now) cs c.in-Some.gone c.run_ahead-ahead.result c.run_back-back.result
+    c.in-Some.ensures.within c.in-Some.ensures.here c.run_ahead-ahead.ensures.right (c.run_ahead-ahead.ensures.end in_ahead) in_ahead
+    c.run_back-back.ensures.within c.run_back-back.ensures.right in
+    omega (arith, ends, en)
 
 pub returns : goal.returns
-returns c =
-    let turns = c.args.turns.now in
-    let right : right_at turns c.in-Some.gone ≡ true = ap (λ k. right_at turns k) (omega arith) ∙ c.in-Some.ensures.here in
-    let found = rw c.unwrap-count.ensures at c.next-3.ensures in
-    block_at turns c.in-Some.gone c.in-Some-next.ahead c.in-Some.ensures.within c.in-Some-next.ensures.within right
-    c.in-Some-next.ensures.here c.in-Some-next.ensures.not_before c.unwrap-count.result found.within found.here found.not_before
+returns g c =
+    let cs = c.args.corners.now.items in
+    let a = whole c.args.a.now in
+    let b = whole c.args.b.now in
+    let gone = c.in-Some.gone in
+    let ahead = c.run_ahead-ahead.result in
+    let back = c.run_back-back.result in
+    let en : c.len-n.result ≡ length cs = omega (arith, c.len-n.ensures, c.args.corners.now.ok.0) in
+    let in_ahead : ahead < length cs = omega (arith, c.if-ahead-n.false, c.run_ahead-ahead.ensures.within, en) in
+    let end = c.run_ahead-ahead.ensures.end in_ahead in
+    let some = some_ahead a b cs gone ahead back c.in-Some.ensures.within c.in-Some.ensures.here c.run_ahead-ahead.ensures.right end in_ahead
+    c.run_back-back.ensures.within c.run_back-back.ensures.right in
+    let ends = back_ends a b cs gone ahead back c.in-Some.ensures.within c.in-Some.ensures.here c.run_ahead-ahead.ensures.right end in_ahead
+    c.run_back-back.ensures.within c.run_back-back.ensures.right in
+    let block = block_between a b cs gone ahead back c.in-Some.ensures.within c.in-Some.ensures.here c.run_ahead-ahead.ensures.right end in_ahead
+    c.run_back-back.ensures.within c.run_back-back.ensures.right (c.run_back-back.ensures.end (omega (arith, some, ends))) in
+    subst (λ n. IsBlock a b cs ((gone + ahead) % n) (n + 1 - ahead - back)) (sym en) block

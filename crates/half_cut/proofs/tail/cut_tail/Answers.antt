@@ -1,10 +1,11 @@
 use Rattle.std.proofs.Common.{◌≡◌, ◌≢◌, ◌-◌, ◌∙◌, sym, subst, arith, length}
 use Rattle.plane.specs.Convex.{corner}
+use Rattle.half_cut.proofs.Beside.{of_both, of_old}
 use Rattle.half_cut.proofs.Links.{on_at}
 use Rattle.half_cut.proofs.Tails as tail
 use Rattle.half_cut.proofs.tail.cut_tail.Goals as goal
 use Rattle.half_cut.proofs.tail.cut_tail.Goals.{else-is_some, then-is_some}
-use Rattle.half_cut.specs.Outline.{IsOnLine, Line}
+use Rattle.half_cut.specs.Outline.{AreOf, IsOnLine, Line}
 
 pub keep-requires-clause-goes_on : goal.keep-requires-clause-goes_on
 keep-requires-clause-goes_on g c =
@@ -70,3 +71,24 @@ returns-else-len-eq2-clause-cut g c =
     let many : length c.args.corners.now.items ≢ 2 =
     λ two. c.if-len-eq2.false (omega (arith, two, c.len-2.ensures, c.args.corners.now.ok.0)) in
     rw (c.close.ensures.corners, c.keep-else-len-eq2.ensures.corners) (tail.polygon_left t many before c.meeting-front.ensures)
+
+pub returns-after-is_some-clause-lines : goal.returns-after-is_some-clause-lines
+returns-after-is_some-clause-lines g c =
+    let r = c.requires in
+    let ls = c.args.lines.now.items in
+    let t = tail.tail_of r.differ r.convex r.linked r.some r.rest r.stay r.go r.first r.last c.index.ensures c.meeting-back.ensures in
+    elim c.if-is_some.branch [
+      | then-is_some w ↦
+          of_old ls c.if-is_some.line (c.args.a.now, c.args.b.now) c.keep.new.lines.items c.keep.ensures.lines (c.args.count - 1)
+          (omega (arith, r.rest, r.linked.linked.as_many)) (w.line-is ∙ t.behind)
+      | else-is_some w ↦ subst (λ (l : Line). AreOf ls l c.keep.new.lines.items) w.line-is c.keep.ensures.lines
+    ]
+
+pub returns-else-len-eq2-clause-lines : goal.returns-else-len-eq2-clause-lines
+returns-else-len-eq2-clause-lines g c =
+    let r = c.requires in
+    let ls = c.args.lines.now.items in
+    let before = tail.last_read r.linked.linked (omega (arith, r.rest)) (omega (arith, c.len.ensures, c.args.lines.now.ok.0))
+    c.index-2.ensures in
+    of_both ls (c.args.a.now, c.args.b.now) c.index-2.result.now c.keep-else-len-eq2.new.lines.items c.close.new.lines.items
+    c.keep-else-len-eq2.ensures.lines c.close.ensures.lines (length ls - 1) (omega (arith, r.rest, r.linked.linked.as_many)) before

@@ -1,0 +1,86 @@
+// The edges of a ring in the order of their directions.
+ghost use Rattle.std.specs.Prelude.{IfOk, ℕ, ◌<◌, length};
+ghost use Rattle.plane.specs.Point.{IsInBounds};
+ghost use Rattle.rings.specs.Ring.{vertex};
+ghost use Rattle.star_kernel.specs.HalfPlanes.{AreAllEdges, AreEdges};
+
+use exact_plane::{Memory, Pt, Steps};
+use ring_check::Ring;
+use std::alloc::Global;
+use std::sync::ledger::Ledger;
+
+// An edge by its direction, then its number.
+#[derive(Clone, Copy, PartialEq, Eq, PartialOrd, Ord)]
+pub(crate) struct Edge {
+    // 0 to 3, from the right on counterclockwise.
+    pub quarter: u8,
+    // How far it is into its quarter. So fine are the parts that two directions differ in it, unless they are the same.
+    pub turned: u128,
+    pub number: u32,
+}
+
+// All edges of the ring, counterclockwise by their directions.
+pub(crate) fn by_direction<L: Ledger>(
+    alloc: Global,
+    ring: &Ring,
+    steps: &mut Steps<L>,
+) -> Result<Vec<Edge>, Memory>
+    ensures all { IfOk result (λ edges. AreAllEdges (length ring.now.corners) edges.items) }
+    ensures bounds { IfOk result (λ _. (k : ℕ) → k < length ring.now.corners → IsInBounds (vertex ring.now.corners k)) }
+{
+    let mut edges = edges_of(alloc, ring, steps)?;
+    edges.sort_unstable();
+    Ok(edges)
+}
+
+// All edges, by their numbers.
+fn edges_of<L: Ledger>(
+    alloc: Global,
+    ring: &Ring,
+    steps: &mut Steps<L>,
+) -> Result<Vec<Edge>, Memory>
+    ensures edges { IfOk result (λ edges. AreEdges (length ring.now.corners) edges.items) }
+    ensures bounds { IfOk result (λ _. (k : ℕ) → k < length ring.now.corners → IsInBounds (vertex ring.now.corners k)) }
+{
+    let n = ring.len();
+    let mut edges = Vec::with_capacity(alloc, n as usize)?;
+    for number in 0..n {
+        let (quarter, turned) = direction(
+            &ring.corner(number),
+            &ring.corner((number + 1) % n),
+            steps,
+        );
+        edges.push(Edge {
+            quarter,
+            turned,
+            number,
+        })?;
+    }
+    Ok(edges)
+}
+
+// In which quarter the way from `a` to `b` goes, and how far it is into it.
+fn direction<L: Ledger>(a: &Pt, b: &Pt, steps: &mut Steps<L>) -> (u8, u128)
+    ensures { IsInBounds a.now }
+{
+    let ((x, y), (u, v)) = (a.parts(steps), b.parts(steps));
+    let (right, up) = (u - x, v - y);
+    if 0 < right && 0 <= up {
+        (0, share(right, up))
+    } else if 0 < up {
+        (1, share(up, right))
+    } else if right < 0 {
+        (2, share(right, up))
+    } else {
+        (3, share(up, right))
+    }
+}
+
+// What part of both together the second one is, by their sizes, in parts of 2^60.
+fn share(along: i64, across: i64) -> u128 {
+    let (along, across) = (along.unsigned_abs() as u128, across.unsigned_abs() as u128);
+    if along + across == 0 {
+        return 0;
+    }
+    (across << 60) / (along + across)
+}
