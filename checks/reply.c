@@ -107,6 +107,11 @@ static char *put_numbers(char *at, const uint32_t *from, size_t count) {
     return at;
 }
 
+/* A number of 64 bits, which is two: its low half, and then its high half. */
+static char *put_number(char *at, const char *word, size_t count) {
+    return count == 2 ? at + sprintf(at, "%s,%" PRIu64, word, (uint64_t)numbers[1] << 32 | numbers[0]) : at;
+}
+
 static char *put_points(char *at, const GeoPoint *from, size_t count) {
     for (size_t i = 0; i < count; i++) {
         at += sprintf(at, ",%" PRId64 ",%" PRId64, from[i].x, from[i].y);
@@ -220,14 +225,14 @@ static char *put_sights(char *at, size_t count) {
 static char *put_answer(char *at, uint8_t word, const GeoCounts *counts) {
     static const char *const places[] = {"outside", "inside", "edge"};
     switch (word) {
-    case GEO_ASK_POLYGON: return put_numbers(at + sprintf(at, "polygon"), numbers, counts->numbers);
+    case GEO_ASK_POLYGON: return put_number(at, "polygon", counts->numbers);
+    case GEO_ASK_TWO: return put_number(at, "geo", counts->numbers);
     case GEO_ASK_INSIDE: return counts->numbers == 1 && numbers[0] < 3 ? at + sprintf(at, "%s", places[numbers[0]]) : at;
     case GEO_ASK_CHECK: return put_verdict(at, counts->numbers);
     case GEO_ASK_TREE: return put_before(at, counts->numbers);
     case GEO_ASK_SEE: return put_parts(at, counts->numbers);
     case GEO_ASK_KERNEL: return put_corners(at, counts->fractions / 2);
     case GEO_ASK_HULL: return put_sides(at, counts->numbers / 3);
-    case GEO_ASK_TWO: return at + sprintf(at, "geo,2");
     case GEO_ASK_ROUND:
     case GEO_ASK_GUARDS: return put_numbers(at + sprintf(at, "%s,%zu", WORDS[word], counts->numbers), numbers, counts->numbers);
     case GEO_ASK_SIGHTS: return put_sights(at, counts->numbers / 2);

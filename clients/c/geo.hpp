@@ -503,7 +503,7 @@ public:
     }
 
     /* Asks a record in numbers by its word, GEO_ASK_POLYGON and so on. What the reply holds is told by geo.h, and had by the next
-       three until another one is asked. */
+       three until another one is asked. A number of 64 bits is two of numbers(), its low half first. */
     GeoCounts ask(std::uint8_t word, Span<const std::int64_t> fields = {}) {
         const std::uint8_t status = geo_session_ask(&held_, word, detail::pointer(fields), fields.size(), &counts_);
         if (status >= GEO_WORD) {
@@ -542,6 +542,7 @@ public:
     GeoSession *handle() noexcept { return &held_; }
 
 private:
+    /* The first number of the last reply, which of a number of 64 bits is the low half. That of a count of vertices is all of it. */
     std::uint32_t number() noexcept {
         std::uint32_t found = 0;
         geo_session_numbers(&held_, &found, 1);

@@ -115,9 +115,10 @@ void geo_session_text(GeoSession *session, uint8_t *out, size_t out_length);
    first one the reply is GEO_NO_POLYGON, and holds nothing. The status is GEO_OK for each answer, and else that of the refusal. On
    GEO_MEMORY the session and *counts are as before. The text of the last answers stays.
 
-   What a reply holds:
-   - GEO_ASK_TWO: nothing
-   - GEO_ASK_POLYGON: a number, that of the vertices
+   What a reply holds, where a number of 64 bits is two of the numbers: its low half of 32 bits, and then its high half. That of the
+   vertices has a high half of 0.
+   - GEO_ASK_POLYGON: how many vertices there are, a number of 64 bits
+   - GEO_ASK_TWO: 2, a number of 64 bits
    - GEO_ASK_INSIDE: a number, a place
    - GEO_ASK_CHECK: the number GEO_TAUT; or that of the first rule that is broken, and the place of the point, counted from 0
    - GEO_ASK_PATH, GEO_ASK_REACH, GEO_ASK_PAIR: the points of the path

@@ -106,7 +106,7 @@ class Session:
     def polygon(self, ring: AnyPoints) -> int:
         """Takes a polygon in the place of the one before, and gives how many vertices it has."""
         asked = reading.ring(ring, self._units)
-        count = self._ask('polygon', asked)[0]
+        count = self._ask('polygon', asked)[0]  # the low half of 64 bits; no polygon has so many that the high half is not 0
         self._ring, self._source = asked, None
         return count
 
@@ -262,7 +262,8 @@ class Session:
         return reading.point(given, self._units, place)
 
     def _ask(self, word: str, fields: Iterable[int] = ()) -> array[int]:
-        """Asks a record in numbers, and gives the numbers of the reply. The session keeps its points and fractions."""
+        """Asks a record in numbers, and gives the numbers of the reply: one of 64 bits is two, its low half first. The session keeps its
+        points and fractions."""
         asked = array('q', fields)
         self._last = None
         status = library.geo_session_ask(self._open(), WORDS[word], at(asked), len(asked), self._counts)

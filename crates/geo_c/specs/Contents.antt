@@ -1,5 +1,5 @@
 -- What a reply holds: numbers, points and fractions. This project's own.
-use Rattle.std.specs.Prelude.{ℕ, List, [], ◌∷◌, length, map, flat_map}
+use Rattle.std.specs.Prelude.{ℕ, ◌/◌, ◌%◌, ◌^◌, List, [], ◌∷◌, length, map, flat_map}
 use Rattle.plane.specs.Point.{Point}
 use Rattle.rings.specs.Visible.{Part}
 use Rattle.geo_text.specs.declared.command.Bad.{Bad}
@@ -17,6 +17,10 @@ use Rattle.geo_c.specs.declared.counts.GeoCounts.{GeoCounts}
 use Rattle.geo_c.specs.declared.numbers.TheConstants.{NOTHING, SOURCE}
 
 -- ---- numbers
+
+-- the two halves of a number of 64 bits, the low one first
+abbrev pub halves_of : ℕ → List ℕ
+halves_of number = number % (2 ^ 32) ∷ number / (2 ^ 32) ∷ []
 
 -- those that a refusal names
 abbrev pub bad_numbers : Bad → List ℕ
@@ -56,8 +60,7 @@ abbrev pub sight_numbers : ℕ × ℕ → List ℕ
 sight_numbers pair = pair.0 ∷ pair.1 ∷ []
 
 abbrev pub numbers_of : Reply → List ℕ
-numbers_of reply.Two = []
-numbers_of (reply.Polygon count) = count ∷ []
+numbers_of (reply.Number asked number) = halves_of number
 numbers_of (reply.Refused fault) = bad_numbers fault
 numbers_of (reply.Place position) = place_of position ∷ []
 numbers_of (reply.Verdict found) = verdict_numbers found

@@ -29,8 +29,9 @@ fn count_numbers(reply: &Reply) -> usize
     ensures { result ≡ length (numbers_of reply.now) }
 {
     match reply {
-        Reply::Two | Reply::Path(_) | Reply::Kernel(_) => 0,
-        Reply::Polygon(_) | Reply::Place(_) => 1,
+        Reply::Path(_) | Reply::Kernel(_) => 0,
+        Reply::Number(_, number) => Few::of_number(*number).count(),
+        Reply::Place(_) => 1,
         Reply::Refused(bad) => Few::of_bad(bad).count(),
         Reply::Verdict(verdict) => Few::of_verdict(*verdict).count(),
         Reply::Tree(befores) => befores.as_slice().len(),

@@ -1,12 +1,15 @@
 //! None, one or two numbers.
 ghost use Rattle.std.specs.Prelude.{◌≡◌, length};
-ghost use Rattle.geo_c.specs.Contents.{bad_numbers, verdict_numbers};
+ghost use Rattle.geo_c.specs.Contents.{bad_numbers, halves_of, verdict_numbers};
 ghost use Rattle.geo_c.specs.Filled.{filled_by};
 ghost use Rattle.geo_c.specs.Put.{few_numbers};
 
 use crate::fill::fill;
 use geo_text::Bad;
 use taut_check::Verdict;
+
+// A high half is so many times its number.
+const HALF: u64 = 1 << 32;
 
 #[derive(Clone, Copy)]
 pub(crate) enum Few {
@@ -16,6 +19,13 @@ pub(crate) enum Few {
 }
 
 impl Few {
+    /// The two halves of a number, the low one first.
+    pub(crate) fn of_number(number: u64) -> Few
+        ensures { few_numbers result ≡ halves_of number }
+    {
+        Few::Two((number % HALF) as u32, (number / HALF) as u32)
+    }
+
     /// Those that a refusal names.
     pub(crate) fn of_bad(bad: &Bad) -> Few
         ensures { few_numbers result ≡ bad_numbers bad.now }

@@ -23,8 +23,8 @@ pub(crate) fn fill_numbers(out: &mut [u32], reply: &Reply)
     ensures { out.new ≡ filled_by (numbers_of reply.now) out.old }
 {
     match reply {
-        Reply::Two | Reply::Path(_) | Reply::Kernel(_) => {}
-        Reply::Polygon(count) => fill(out, &[*count]),
+        Reply::Path(_) | Reply::Kernel(_) => {}
+        Reply::Number(_, number) => Few::of_number(*number).copy(out),
         Reply::Refused(bad) => Few::of_bad(bad).copy(out),
         Reply::Place(position) => fill(out, &[u32::from(place_of(*position))]),
         Reply::Verdict(verdict) => Few::of_verdict(*verdict).copy(out),

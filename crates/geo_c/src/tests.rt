@@ -152,10 +152,10 @@ fn asks<'a>(
 #[test]
 fn records_in_numbers(rt: HostRuntime) -> Result<(), Fail> {
     let rows: [Row; 14] = [
-        asks((9, &[], OK), &[], &[], 0, b"", b""),
+        asks((9, &[], OK), &[2, 0], &[], 0, b"", b""),
         asks(
             (0, &[0, 0, 4, 0, 4, 2, 2, 2, 2, 4, 0, 4], OK),
-            &[6],
+            &[6, 0],
             &[],
             0,
             L,
@@ -336,7 +336,7 @@ fn refusals_in_numbers(rt: HostRuntime) -> Result<(), Fail> {
         ),
         asks(
             (0, &[0, 0, 4, 0, 4, 2, 2, 2, 2, 4, 0, 4], OK),
-            &[6],
+            &[6, 0],
             &[],
             0,
             L,

@@ -2,6 +2,7 @@
 use Rattle.std.specs.Prelude.{ℕ, ◌+◌, ◌++◌, List, [], ◌∷◌, length, codes, flat_map}
 use Rattle.plane.specs.Point.{Point, Triple}
 use Rattle.rings.specs.Visible.{Part}
+use Rattle.geo_text.specs.Words.{text_of}
 use Rattle.geo_text.specs.Texts.{bad_text, hom_text, index_text, pt_text}
 use Rattle.inside_test.specs.declared.position.Position.{Position}
 use Rattle.inside_test.specs.declared.position.Position.TheVariants as position
@@ -91,8 +92,7 @@ abbrev pub lines_text : {T : Type 0} → List ℕ → (T → List ℕ) → List 
 lines_text word line items = count_text word (length items) ++ flat_map line items
 
 abbrev pub reply_text : Reply → List ℕ
-reply_text reply.Two = codes "geo,2\n"
-reply_text (reply.Polygon count) = count_text (codes "polygon") count
+reply_text (reply.Number asked number) = count_text (text_of asked) number
 reply_text (reply.Refused fault) = bad_text fault
 reply_text (reply.Place place) = place_text place
 reply_text (reply.Verdict found) = verdict_text found

@@ -1,6 +1,7 @@
 //! What commands answer, as values, and the lines of each.
 #![tactic(auto)]
 
+mod items;
 mod lines;
 mod reply;
 mod row;

@@ -5,9 +5,10 @@ ghost use Rattle.geo_reply.specs.ReplyText.{broken_text, corner_text, count_text
 ghost use Rattle.geo_reply.specs.ReplyText.{part_text, place_text, points_text, reply_text, side_text, sight_text, verdict_text};
 ghost use Rattle.geo_reply.specs.Written.{WritesSteps};
 
+use crate::items::put_items;
 use crate::reply::{Before, Reply, Side};
 use exact_plane::{Hom, Memory, Pt, Steps};
-use geo_text::{put_bad, put_hom, put_index, put_line_end, put_pt, put_word};
+use geo_text::{put_bad, put_hom, put_index, put_line_end, put_pt, put_wide, put_word};
 use inside_test::Position;
 use see_cone::Part;
 use std::sync::ledger::Ledger;
@@ -42,16 +43,15 @@ fn put_lines<L: Ledger>(
     ensures steps { WritesSteps reply.now steps.old steps.new }
 {
     match reply {
-        Reply::Two => put_word(out, "geo,2\n"),
-        Reply::Polygon(count) => put_count(out, "polygon", *count),
+        Reply::Number(word, number) => put_count(out, word.text(), *number),
         Reply::Refused(bad) => put_bad(out, bad),
         Reply::Place(position) => put_place(out, *position),
         Reply::Verdict(verdict) => put_verdict(out, *verdict),
         Reply::Path(points) => put_path(out, points.as_slice(), steps),
         Reply::Tree(befores) => put_tree(out, befores.as_slice()),
-        Reply::View(parts) => put_view(out, parts.as_slice(), steps),
-        Reply::Kernel(corners) => put_kernel(out, corners.as_slice(), steps),
-        Reply::Hull(sides) => put_hull(out, sides.as_slice(), steps),
+        Reply::View(parts) => put_items(out, "see", parts.as_slice(), steps),
+        Reply::Kernel(corners) => put_items(out, "kernel", corners.as_slice(), steps),
+        Reply::Hull(sides) => put_items(out, "hull", sides.as_slice(), steps),
         Reply::Round(numbers) => put_numbers(out, "round", numbers.as_slice()),
         Reply::Guards(numbers) => put_numbers(out, "guards", numbers.as_slice()),
         Reply::Sights(pairs) => put_sights(out, pairs.as_slice()),
@@ -98,12 +98,12 @@ fn put_broken(out: &mut Vec<u8>, rule: &str, place: u32) -> Result<(), Memory>
 }
 
 // Appends the line of a word and a number.
-fn put_count(out: &mut Vec<u8>, word: &str, count: u32) -> Result<(), Memory>
+pub(crate) fn put_count(out: &mut Vec<u8>, word: &str, count: u64) -> Result<(), Memory>
     ensures ok { OnOk result (out.new.items ≡ out.old.items ++ count_text word.now count) }
     ensures front { OnErr result (take (length out.old.items) out.new.items ≡ out.old.items) }
 {
     put_word(out, word)?;
-    put_index(out, count)?;
+    put_wide(out, count)?;
     put_line_end(out)
 }
 
@@ -157,7 +157,7 @@ fn put_tree(out: &mut Vec<u8>, befores: &[Before]) -> Result<(), Memory>
     ensures front { OnErr result (take (length out.old.items) out.new.items ≡ out.old.items) }
 {
     let count = befores.len() as u32;
-    put_count(out, "tree", count)?;
+    put_count(out, "tree", befores.len() as u64)?;
     for i in 0..count {
         put_from(out, i, befores[i as usize])?;
     }
@@ -179,25 +179,12 @@ fn put_from(out: &mut Vec<u8>, i: u32, before: Before) -> Result<(), Memory>
     put_line_end(out)
 }
 
-// Appends the lines of the parts of the edges that a point sees.
-fn put_view<L: Ledger>(
+// Appends the line of a part.
+pub(crate) fn put_part<L: Ledger>(
     out: &mut Vec<u8>,
-    parts: &[Part],
+    part: &Part,
     steps: &mut Steps<L>,
 ) -> Result<(), Memory>
-    requires { length parts.now < 2 ^ 32 }
-    ensures ok { OnOk result (out.new.items ≡ out.old.items ++ lines_text (codes "see") part_text parts.now) }
-    ensures front { OnErr result (take (length out.old.items) out.new.items ≡ out.old.items) }
-{
-    put_count(out, "see", parts.len() as u32)?;
-    for part in parts {
-        put_part(out, part, steps)?;
-    }
-    Ok(())
-}
-
-// Appends the line of a part.
-fn put_part<L: Ledger>(out: &mut Vec<u8>, part: &Part, steps: &mut Steps<L>) -> Result<(), Memory>
     ensures ok { OnOk result (out.new.items ≡ out.old.items ++ part_text part.now) }
     ensures front { OnErr result (take (length out.old.items) out.new.items ≡ out.old.items) }
 {
@@ -208,25 +195,8 @@ fn put_part<L: Ledger>(out: &mut Vec<u8>, part: &Part, steps: &mut Steps<L>) -> 
     put_line_end(out)
 }
 
-// Appends the lines of the corners of a kernel.
-fn put_kernel<L: Ledger>(
-    out: &mut Vec<u8>,
-    corners: &[Hom],
-    steps: &mut Steps<L>,
-) -> Result<(), Memory>
-    requires { length corners.now < 2 ^ 32 }
-    ensures ok { OnOk result (out.new.items ≡ out.old.items ++ lines_text (codes "kernel") corner_text corners.now) }
-    ensures front { OnErr result (take (length out.old.items) out.new.items ≡ out.old.items) }
-{
-    put_count(out, "kernel", corners.len() as u32)?;
-    for corner in corners {
-        put_corner(out, corner, steps)?;
-    }
-    Ok(())
-}
-
 // Appends the line of a corner.
-fn put_corner<L: Ledger>(
+pub(crate) fn put_corner<L: Ledger>(
     out: &mut Vec<u8>,
     corner: &Hom,
     steps: &mut Steps<L>,
@@ -239,25 +209,12 @@ fn put_corner<L: Ledger>(
     put_line_end(out)
 }
 
-// Appends the lines of the sides of a hull.
-fn put_hull<L: Ledger>(
+// Appends the line of a side.
+pub(crate) fn put_side<L: Ledger>(
     out: &mut Vec<u8>,
-    sides: &[Side],
+    side: &Side,
     steps: &mut Steps<L>,
 ) -> Result<(), Memory>
-    requires { length sides.now < 2 ^ 32 }
-    ensures ok { OnOk result (out.new.items ≡ out.old.items ++ lines_text (codes "hull") side_text sides.now) }
-    ensures front { OnErr result (take (length out.old.items) out.new.items ≡ out.old.items) }
-{
-    put_count(out, "hull", sides.len() as u32)?;
-    for side in sides {
-        put_side(out, side, steps)?;
-    }
-    Ok(())
-}
-
-// Appends the line of a side.
-fn put_side<L: Ledger>(out: &mut Vec<u8>, side: &Side, steps: &mut Steps<L>) -> Result<(), Memory>
     ensures ok { OnOk result (out.new.items ≡ out.old.items ++ side_text side.now) }
     ensures front { OnErr result (take (length out.old.items) out.new.items ≡ out.old.items) }
 {
@@ -273,7 +230,7 @@ fn put_sights(out: &mut Vec<u8>, pairs: &[(u32, u32)]) -> Result<(), Memory>
     ensures ok { OnOk result (out.new.items ≡ out.old.items ++ lines_text (codes "sights") sight_text pairs.now) }
     ensures front { OnErr result (take (length out.old.items) out.new.items ≡ out.old.items) }
 {
-    put_count(out, "sights", pairs.len() as u32)?;
+    put_count(out, "sights", pairs.len() as u64)?;
     for pair in pairs {
         put_sight(out, *pair)?;
     }

@@ -1,6 +1,6 @@
 use crate::row::Row;
 use exact_plane::{Hom, Pt};
-use geo_text::Bad;
+use geo_text::{Bad, Word};
 use inside_test::Position;
 use see_cone::Part;
 use taut_check::Verdict;
@@ -8,10 +8,8 @@ use taut_check::Verdict;
 /// What a command answers.
 #[derive(Drop)]
 pub enum Reply {
-    /// Version 2 has begun.
-    Two,
-    /// The polygon is accepted, and has this many vertices.
-    Polygon(u32),
+    /// The number that this word asks for: version 2, which has begun; or how many vertices the polygon has, which is accepted.
+    Number(Word, u64),
     /// There is no answer, for this reason.
     Refused(Bad),
     /// Where the point lies.

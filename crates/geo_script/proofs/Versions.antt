@@ -19,7 +19,7 @@ use Rattle.geo_reply.specs.declared.reply.Reply.TheVariants as reply
 
 -- whatever is replied to any other command than `Two`, the version is kept
 after_polygon : (before : State) (ring : List Point) (answered : Reply) → (state_after before (command.Polygon ring) answered).version ≡ before.version
-after_polygon before ring (reply.Polygon count) = refl
+after_polygon before ring (reply.Number asked count) = refl
 after_polygon before ring _ = refl
 
 after_tree : (before : State) (s : Point) (answered : Reply) → (state_after before (command.Tree s) answered).version ≡ before.version

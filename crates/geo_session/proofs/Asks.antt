@@ -12,6 +12,7 @@ use Rattle.geo_text.specs.declared.command.Bad.TheVariants as bad
 use Rattle.geo_text.specs.declared.command.Command.{Command}
 use Rattle.geo_text.specs.declared.command.Command.TheVariants as command
 use Rattle.geo_text.specs.declared.version.Version.{Version}
+use Rattle.geo_text.specs.declared.word.Word.TheVariants as word
 use Rattle.pair_cut.specs.Pairs.{IsMadeFor}
 use Rattle.geo_reply.specs.declared.reply.Before.{Before}
 use Rattle.geo_reply.specs.declared.reply.Reply.{Reply}
@@ -34,23 +35,13 @@ abbrev pub still : Reply → Asked
 still answered = record { reply = answered; change = change.Nothing }
 
 -- version 2 is begun
-pub begun : (version : Version) (held : Option HeldRing) → IsAskedOf version held command.Two (record { reply = reply.Two; change = change.Two })
+pub begun : (version : Version) (held : Option HeldRing) → IsAskedOf version held command.Two (record { reply = reply.Number word.Two 2; change = change.Two })
 begun version held = record { is_reply = refl; suits = tt; state = refl; prepared = refl }
 
 -- where there is no polygon, what asks of one is refused
 pub refused : (version : Version) (asked : Command) → AsksPolygon asked → IsAskedOf version None asked (still (reply.Refused bad.NoPolygon))
 refused version command.Two asks = absurd asks
 refused version (command.Polygon ring) asks = absurd asks
-refused version (command.Inside p) asks = record { is_reply = refl; suits = tt; state = refl; prepared = refl }
-refused version (command.Check points) asks = record { is_reply = refl; suits = tt; state = refl; prepared = refl }
-refused version (command.Path s t) asks = record { is_reply = refl; suits = tt; state = refl; prepared = refl }
-refused version (command.Tree s) asks = record { is_reply = refl; suits = tt; state = refl; prepared = refl }
-refused version (command.Reach t) asks = record { is_reply = refl; suits = tt; state = refl; prepared = refl }
-refused version (command.See q) asks = record { is_reply = refl; suits = tt; state = refl; prepared = refl }
-refused version command.Kernel asks = record { is_reply = refl; suits = tt; state = refl; prepared = refl }
-refused version (command.Hull points) asks = record { is_reply = refl; suits = tt; state = refl; prepared = refl }
-refused version (command.Round points) asks = record { is_reply = refl; suits = tt; state = refl; prepared = refl }
-refused version command.Guards asks = record { is_reply = refl; suits = tt; state = refl; prepared = refl }
 refused version (command.Pair i j) asks = record {
   is_reply = refl;
   suits = tt;
@@ -58,33 +49,26 @@ refused version (command.Pair i j) asks = record {
   prepared = record { told = λ told. absurd told; refused = λ _. refl };
 }
 refused version command.Sights asks = record { is_reply = refl; suits = tt; state = refl; prepared = record { told = λ told. absurd told; refused = λ _. refl } }
+refused version _ asks = record { is_reply = refl; suits = tt; state = refl; prepared = refl }
 
 -- what changes nothing is answered so
 pub plain : (version : Version) (held : HeldRing) (asked : Command) (answered : Reply) → IsPlain asked → IsReplyIn version (kept_in held) asked answered
     → IsAskedOf version (Some held) asked (still answered)
 plain version held command.Two answered not h = absurd not
 plain version held (command.Polygon ring) answered not h = absurd not
-plain version held (command.Inside p) answered is h = record { is_reply = h; suits = tt; state = refl; prepared = refl }
-plain version held (command.Check points) answered is h = record { is_reply = h; suits = tt; state = refl; prepared = refl }
-plain version held (command.Path s t) answered is h = record { is_reply = h; suits = tt; state = refl; prepared = refl }
 plain version held (command.Tree s) answered not h = absurd not
-plain version held (command.Reach t) answered is h = record { is_reply = h; suits = tt; state = refl; prepared = refl }
-plain version held (command.See q) answered is h = record { is_reply = h; suits = tt; state = refl; prepared = refl }
-plain version held command.Kernel answered is h = record { is_reply = h; suits = tt; state = refl; prepared = refl }
-plain version held (command.Hull points) answered is h = record { is_reply = h; suits = tt; state = refl; prepared = refl }
-plain version held (command.Round points) answered is h = record { is_reply = h; suits = tt; state = refl; prepared = refl }
-plain version held command.Guards answered is h = record { is_reply = h; suits = tt; state = refl; prepared = refl }
 plain version held (command.Pair i j) answered not h = absurd not
 plain version held command.Sights answered not h = absurd not
+plain version held _ answered is h = record { is_reply = h; suits = tt; state = refl; prepared = refl }
 
 -- ---- a polygon
 
 module _ (version : Version) (held : Option HeldRing) (ring : List Point) where
   -- it is taken, with no tree and no table,
   pub taken : (new : HeldRing) (count : ℕ) → IsSimple ring → count ≡ length ring → given_of new.ring ≡ ring → new.source ≡ None → new.prepared ≡ false
-      → IsAskedOf version held (command.Polygon ring) (record { reply = reply.Polygon count; change = change.Polygon new })
+      → IsAskedOf version held (command.Polygon ring) (record { reply = reply.Number word.Polygon count; change = change.Polygon new })
   taken new count simple counted same none not = record {
-    is_reply = accepted simple (ap reply.Polygon counted);
+    is_reply = accepted simple (ap (reply.Number word.Polygon) counted);
     suits = tt;
     state = ap₂ (λ (points : List Point) (source : Option Point).
         record { version = version; kept = Some (record { ring = points; source = source }) }) same none;

@@ -32,20 +32,12 @@ use Rattle.geo_session.specs.Told.{RepliesWithin, Tells, outside, within}
 
 -- no steps are few enough
 pub unpaced : (seen : Seen) (asked : Command) (steps : ℕ) → IsPaced seen asked steps steps
-unpaced seen command.Two steps = tt
-unpaced seen (command.Polygon ring) steps = tt
-unpaced seen (command.Inside p) steps = tt
-unpaced seen (command.Check points) steps = tt
 unpaced seen (command.Path s t) steps = no_more steps _
 unpaced seen (command.Tree s) steps = no_more steps _
 unpaced seen (command.Reach t) steps = no_more steps _
-unpaced seen (command.See q) steps = tt
-unpaced seen command.Kernel steps = tt
-unpaced seen (command.Hull points) steps = tt
-unpaced seen (command.Round points) steps = tt
-unpaced seen command.Guards steps = tt
 unpaced seen (command.Pair i j) steps = no_more steps _
 unpaced seen command.Sights steps = no_more steps _
+unpaced seen _ steps = tt
 
 module _ (version : Version) (held : HeldRing) (start done : ℕ) where
   -- a point is found, and a tree is grown there
@@ -176,10 +168,6 @@ module _ {E : Type 0} (seen : Seen) (put : Result (Unit {0}) E) (out out' : List
   -- so a command is paced with its lines,
   pub written_paced : (asked : Command) (answered : Reply) → IsReply seen.state asked answered → IsPaced seen asked steps told
       → WritesSteps answered told done → OnOk put (out' ≡ out ++ reply_text answered) → IsWrittenPaced seen asked put out out' steps done
-  written_paced command.Two answered h paced more written = tt
-  written_paced (command.Polygon ring) answered h paced more written = tt
-  written_paced (command.Inside p) answered h paced more written = tt
-  written_paced (command.Check points) answered h paced more written = tt
   written_paced (command.Path s t) answered h paced more written =
       takes_both seen.state (command.Path s t) _ put out out' steps told done paced answered
       (path_of_kept seen.state.version seen.state.kept s t answered h) (λ other g. one_path_of seen.state s t answered other h g) more written
@@ -188,33 +176,21 @@ module _ {E : Type 0} (seen : Seen) (put : Result (Unit {0}) E) (out out' : List
   written_paced (command.Reach t) answered h paced more written =
       takes_both seen.state (command.Reach t) _ put out out' steps told done paced answered
       (reach_of_kept seen.state.version seen.state.kept t answered h) (λ other g. one_reach_of seen.state t answered other h g) more written
-  written_paced (command.See q) answered h paced more written = tt
-  written_paced command.Kernel answered h paced more written = tt
-  written_paced (command.Hull points) answered h paced more written = tt
-  written_paced (command.Round points) answered h paced more written = tt
-  written_paced command.Guards answered h paced more written = tt
   written_paced (command.Pair i j) answered h paced more written =
       takes_both seen.state (command.Pair i j) _ put out out' steps told done paced answered
       (pair_of_kept seen.state.version seen.state.kept i j answered h) (λ other g. one_pair_of seen.state i j answered other h g) more written
   written_paced command.Sights answered h paced more written =
       let none = quiet_sights_of seen.state.version seen.state.kept answered told done h more in omega (arith, paced, none)
+  written_paced _ answered h paced more written = tt
 
   -- also where no reply was found
   pub unwritten_paced : (asked : Command) → IsPaced seen asked steps told → done ≡ told → OnOk put ⊥ → IsWrittenPaced seen asked put out out' steps done
-  unwritten_paced command.Two paced same fails = tt
-  unwritten_paced (command.Polygon ring) paced same fails = tt
-  unwritten_paced (command.Inside p) paced same fails = tt
-  unwritten_paced (command.Check points) paced same fails = tt
   unwritten_paced (command.Path s t) paced same fails = takes_none seen.state (command.Path s t) _ put out out' steps told done paced same fails
   unwritten_paced (command.Tree s) paced same fails = omega (arith, paced, same)
   unwritten_paced (command.Reach t) paced same fails = takes_none seen.state (command.Reach t) _ put out out' steps told done paced same fails
-  unwritten_paced (command.See q) paced same fails = tt
-  unwritten_paced command.Kernel paced same fails = tt
-  unwritten_paced (command.Hull points) paced same fails = tt
-  unwritten_paced (command.Round points) paced same fails = tt
-  unwritten_paced command.Guards paced same fails = tt
   unwritten_paced (command.Pair i j) paced same fails = takes_none seen.state (command.Pair i j) _ put out out' steps told done paced same fails
   unwritten_paced command.Sights paced same fails = omega (arith, paced, same)
+  unwritten_paced _ paced same fails = tt
 
 -- ---- the clauses of a command of each kind
 

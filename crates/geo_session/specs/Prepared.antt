@@ -39,22 +39,13 @@ pub record IsDroppedBy (Accepted : Type 0) (before after : Bool) : Type 0 where
   pub accepted : Accepted → after ≡ false
   pub refused : ¬ Accepted → after ≡ before
 
--- whether the table is there after a command
+-- whether the table is there after a command; the others, which do not ask for pairs of vertices, leave it as it is
 abbrev pub IsPreparedAfter : Option Kept → Command → Bool → Bool → Type 0
 IsPreparedAfter kept command.Two before after = after ≡ false
 IsPreparedAfter kept (command.Polygon ring) before after = IsDroppedBy (IsSimple ring) before after
-IsPreparedAfter kept (command.Inside p) before after = after ≡ before
-IsPreparedAfter kept (command.Check points) before after = after ≡ before
-IsPreparedAfter kept (command.Path s t) before after = after ≡ before
-IsPreparedAfter kept (command.Tree s) before after = after ≡ before
-IsPreparedAfter kept (command.Reach t) before after = after ≡ before
-IsPreparedAfter kept (command.See q) before after = after ≡ before
-IsPreparedAfter kept command.Kernel before after = after ≡ before
-IsPreparedAfter kept (command.Hull points) before after = after ≡ before
-IsPreparedAfter kept (command.Round points) before after = after ≡ before
-IsPreparedAfter kept command.Guards before after = after ≡ before
 IsPreparedAfter kept (command.Pair i j) before after = IsPreparedBy (TellsPair kept i j) before after
 IsPreparedAfter kept command.Sights before after = IsPreparedBy (TellsAllPairs kept) before after
+IsPreparedAfter kept other before after = after ≡ before
 
 -- so many steps are enough to make the table where it is not there
 abbrev pub table_steps : Seen → ℕ

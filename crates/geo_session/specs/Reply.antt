@@ -8,6 +8,7 @@ use Rattle.geo_text.specs.declared.command.Command.{Command}
 use Rattle.geo_text.specs.declared.command.Command.TheVariants as command
 use Rattle.geo_text.specs.declared.version.Version.{Version}
 use Rattle.geo_text.specs.declared.version.Version.TheVariants as version
+use Rattle.geo_text.specs.declared.word.Word.TheVariants as word
 use Rattle.taut_check.specs.Verdict.{IsVerdict}
 use Rattle.geo_session.specs.Guards.{GuardRing}
 use Rattle.geo_session.specs.Hull.{AreSidesOf}
@@ -46,7 +47,7 @@ IsReplyOf version (Some kept) asked answered = IsReplyIn version kept asked answ
 
 -- what a command answers in a state
 abbrev pub IsReply : State → Command → Reply → Type 0
-IsReply before command.Two answered = answered ≡ reply.Two
+IsReply before command.Two answered = answered ≡ reply.Number word.Two 2
 IsReply before (command.Polygon ring) answered = IsPolygonReply ring answered
 IsReply before asked answered = IsReplyOf before.version before.kept asked answered
 
@@ -59,7 +60,7 @@ with_source s (Some kept) = Some (record { ring = kept.ring; source = Some s })
 -- a tree that is told leaves its source, and nothing else changes the state
 abbrev pub state_after : State → Command → Reply → State
 state_after before command.Two answered = record { version = version.Two; kept = None }
-state_after before (command.Polygon ring) (reply.Polygon count) = record { version = before.version; kept = Some (record { ring = ring; source = None }) }
+state_after before (command.Polygon ring) (reply.Number asked count) = record { version = before.version; kept = Some (record { ring = ring; source = None }) }
 state_after before (command.Tree s) (reply.Tree befores) = record { version = before.version; kept = with_source s before.kept }
 state_after before asked answered = before
 

@@ -13,7 +13,7 @@ use crate::held::Held;
 use crate::paths::path_reply;
 use exact_plane::{Memory, Steps};
 use geo_reply::Reply;
-use geo_text::{Bad, Command, Points, Version};
+use geo_text::{Bad, Command, Points, Version, Word};
 use pair_cut::PairTable;
 use ring_check::{Ring, RingFault};
 use std::alloc::Global;
@@ -54,7 +54,7 @@ pub(crate) fn ask<L: Ledger>(
 {
     match command {
         Command::Two => Ok(Asked {
-            reply: Reply::Two,
+            reply: Reply::Number(Word::Two, 2),
             change: Change::Two,
         }),
         Command::Polygon(points) => ask_polygon(alloc, points, steps),
@@ -76,7 +76,7 @@ fn ask_polygon<L: Ledger>(
 {
     match Ring::of(points.into_vec(), steps) {
         Ok(ring) => Ok(Asked {
-            reply: Reply::Polygon(ring.len()),
+            reply: Reply::Number(Word::Polygon, u64::from(ring.len())),
             change: Change::Polygon(Held::of(alloc, ring, steps)?),
         }),
         Err(RingFault::Clash(i, j)) => Ok(unchanged(Reply::Refused(Bad::Clash(i, j)))),

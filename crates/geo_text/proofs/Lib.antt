@@ -7,6 +7,7 @@ mod Fuel
 pub mod HomTexts
 pub mod Joined
 pub mod LineFronts
+mod Named
 mod NumberPoints
 pub mod Readings
 mod RecordsLeft

@@ -1,14 +1,14 @@
 -- The readings of a script's records.
-use Rattle.std.proofs.Common.{◌≢◌, ◌==◌, ℕ, ℤ, Bool, true, false, Option, Some, None, Ok, List, [], ◌∷◌, map, if◌then◌else◌, refl, rules}
+use Rattle.std.proofs.Common.{◌≡◌, ◌≢◌, ◌==◌, ℕ, ℤ, Bool, true, false, Option, Some, None, Ok, List, [], ◌∷◌, map, if◌then◌else◌, refl, rules, subst}
 use Rattle.std.proofs.lemmas.Bool.{ne_eqb}
 use Rattle.std.specs.Option.{option_or}
-use Rattle.std.specs.Prelude.{IfOk, codes, length}
-use Rattle.std.specs.Str.{bytes_eq}
+use Rattle.std.specs.Prelude.{IfOk, length}
 use Rattle.geo_text.proofs.Commands.{command_is_well_sized, holds_by_word}
+use Rattle.geo_text.proofs.Named.{text_of_named}
 use Rattle.geo_text.specs.Limits.{IsLimited, limits_of}
 use Rattle.geo_text.specs.Number.{number_of}
 use Rattle.geo_text.specs.Reading.{IsWellSized, command_in_text, command_of, command_with, number_fault, reading_of, unless}
-use Rattle.geo_text.specs.Words.{count_fault, takes_of, word_named}
+use Rattle.geo_text.specs.Words.{count_fault, takes_of, text_of, word_named}
 use Rattle.geo_text.specs.declared.command.Bad.{Bad}
 use Rattle.geo_text.specs.declared.command.Command.{Command}
 use Rattle.geo_text.specs.declared.command.Command.TheVariants as command
@@ -36,26 +36,11 @@ reading_is_well_sized version.Two k fields = first_or_well_sized (k == 0)
 
 -- ---- the version
 
--- no text is the word for version 2,
-either : (same : Bool) (asked : Word) (rest : Option Word) → asked ≢ word.Two → rest ≢ Some word.Two → (if same then Some asked else rest) ≢ Some word.Two
-either true asked rest plain others e = plain (cc e)
-either false asked rest plain others e = others e
-
+-- no text is the word for version 2: it would be `geo`, which names none,
 named_is_plain : (name : List ℕ) → word_named name ≢ Some word.Two
-named_is_plain name =
-    either (bytes_eq name (codes "polygon")) word.Polygon _ (λ e. cc e)
-    (either (bytes_eq name (codes "inside")) word.Inside _ (λ e. cc e)
-    (either (bytes_eq name (codes "check")) word.Check _ (λ e. cc e)
-    (either (bytes_eq name (codes "path")) word.Path _ (λ e. cc e)
-    (either (bytes_eq name (codes "tree")) word.Tree _ (λ e. cc e)
-    (either (bytes_eq name (codes "reach")) word.Reach _ (λ e. cc e)
-    (either (bytes_eq name (codes "see")) word.See _ (λ e. cc e)
-    (either (bytes_eq name (codes "kernel")) word.Kernel _ (λ e. cc e)
-    (either (bytes_eq name (codes "hull")) word.Hull _ (λ e. cc e)
-    (either (bytes_eq name (codes "round")) word.Round _ (λ e. cc e)
-    (either (bytes_eq name (codes "guards")) word.Guards _ (λ e. cc e)
-    (either (bytes_eq name (codes "pair")) word.Pair _ (λ e. cc e)
-    (either (bytes_eq name (codes "sights")) word.Sights _ (λ e. cc e) (λ e. cc e)))))))))))))
+named_is_plain name e =
+    let none : word_named (text_of word.Two) ≡ Some word.Two = subst (λ (text : List ℕ). word_named text ≡ Some word.Two) (text_of_named name word.Two e) e in
+    cc none
 
 -- and no other word gives that command
 with_is_plain : (asked : Word) (numbers : List ℤ) → asked ≢ word.Two → command_with asked numbers ≢ command.Two

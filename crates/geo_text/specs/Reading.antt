@@ -126,19 +126,10 @@ reading_of version.Two k fields = if k == 0 then Ok command.Two else command_of 
 -- a list of points has as many as its command takes
 abbrev pub IsWellSized : Command → Type 0
 IsWellSized (command.Polygon points) = (3 ≤ length points) × (length points ≤ MAX_CORNERS)
-IsWellSized (command.Inside point) = Unit {0}
 IsWellSized (command.Check points) = (1 ≤ length points) × (length points ≤ MAX_CHAIN)
-IsWellSized (command.Path from to) = Unit {0}
-IsWellSized (command.Tree point) = Unit {0}
-IsWellSized (command.Reach point) = Unit {0}
-IsWellSized (command.See point) = Unit {0}
-IsWellSized command.Kernel = Unit {0}
 IsWellSized (command.Hull points) = (1 ≤ length points) × (length points ≤ MAX_HULL)
-IsWellSized command.Two = Unit {0}
 IsWellSized (command.Round points) = (1 ≤ length points) × (length points ≤ MAX_HULL)
-IsWellSized command.Guards = Unit {0}
-IsWellSized (command.Pair i j) = Unit {0}
-IsWellSized command.Sights = Unit {0}
+IsWellSized other = Unit {0}
 
 -- the next record was taken from a script, and read as this; the first one says of which version the script is
 pub record TakesRecord (before after : Unread) (reading : Result Command Bad) : Type 0 where

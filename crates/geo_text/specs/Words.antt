@@ -1,5 +1,5 @@
 -- The words of records: the number and the text of each, and what it takes. This project's own.
-use Rattle.std.specs.Prelude.{◌≡◌, ℕ, ◌/◌, ◌%◌, ◌==◌, nat_lt, if◌then◌else◌, List, codes, Option, Some, None}
+use Rattle.std.specs.Prelude.{◌≡◌, ℕ, ◌/◌, ◌%◌, ◌==◌, nat_lt, if◌then◌else◌, List, [], ◌∷◌, codes, Option, Some, None}
 use Rattle.std.specs.Str.{bytes_eq}
 use Rattle.plane.specs.declared.limits.TheConstants.{MAX_HULL}
 use Rattle.geo_text.specs.Limits.{IsLimited}
@@ -30,23 +30,49 @@ word_of number =
     else if number == 13 then Some word.Sights
     else None
 
--- the word with a text; version 2 has none, since the first record of a script alone asks for it
+-- the text of a word
+abbrev pub text_of : Word → List ℕ
+text_of word.Polygon = codes "polygon"
+text_of word.Inside = codes "inside"
+text_of word.Check = codes "check"
+text_of word.Path = codes "path"
+text_of word.Tree = codes "tree"
+text_of word.Reach = codes "reach"
+text_of word.See = codes "see"
+text_of word.Kernel = codes "kernel"
+text_of word.Hull = codes "hull"
+text_of word.Two = codes "geo"
+text_of word.Round = codes "round"
+text_of word.Guards = codes "guards"
+text_of word.Pair = codes "pair"
+text_of word.Sights = codes "sights"
+
+-- the words that a text names; version 2 is none of them, since the first record of a script alone asks for it, by its text and its number
+abbrev pub named_words : List Word
+named_words =
+    word.Polygon ∷
+    word.Inside ∷
+    word.Check ∷
+    word.Path ∷
+    word.Tree ∷
+    word.Reach ∷
+    word.See ∷
+    word.Kernel ∷
+    word.Hull ∷
+    word.Round ∷
+    word.Guards ∷
+    word.Pair ∷
+    word.Sights ∷
+    []
+
+-- the first of some words that has a text
+abbrev pub named_in : List Word → List ℕ → Option Word
+named_in [] text = None
+named_in (asked ∷ rest) text = if bytes_eq text (text_of asked) then Some asked else named_in rest text
+
+-- the word with a text
 abbrev pub word_named : List ℕ → Option Word
-word_named text =
-    if bytes_eq text (codes "polygon") then Some word.Polygon
-    else if bytes_eq text (codes "inside") then Some word.Inside
-    else if bytes_eq text (codes "check") then Some word.Check
-    else if bytes_eq text (codes "path") then Some word.Path
-    else if bytes_eq text (codes "tree") then Some word.Tree
-    else if bytes_eq text (codes "reach") then Some word.Reach
-    else if bytes_eq text (codes "see") then Some word.See
-    else if bytes_eq text (codes "kernel") then Some word.Kernel
-    else if bytes_eq text (codes "hull") then Some word.Hull
-    else if bytes_eq text (codes "round") then Some word.Round
-    else if bytes_eq text (codes "guards") then Some word.Guards
-    else if bytes_eq text (codes "pair") then Some word.Pair
-    else if bytes_eq text (codes "sights") then Some word.Sights
-    else None
+word_named text = named_in named_words text
 
 -- what a word takes within some limits
 abbrev pub takes_of : Limits → Word → Takes

@@ -57,7 +57,8 @@ fn in_text(
     }
 }
 
-/// The command that a word and the numbers of its fields are, or the first refusal of a record with these fields.
+/// The command that a word and the numbers of its fields are, or the first refusal of a record with these fields. It takes `Word::Two`
+/// wherever it is asked. Whether a record came before, after which that is no word, its caller knows, which is `geo_script`.
 pub fn command_in_numbers(
     alloc: Global,
     limits: &Limits,

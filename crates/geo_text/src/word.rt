@@ -1,9 +1,9 @@
 // The words of records.
 ghost use Rattle.std.specs.List.{All};
-ghost use Rattle.std.specs.Prelude.{◌≡◌, IfOk, length};
+ghost use Rattle.std.specs.Prelude.{◌≡◌, ◌≢◌, IfOk, IfSome, Some, length};
 ghost use Rattle.plane.specs.Point.{IsInLimit};
 ghost use Rattle.geo_text.specs.Reading.{command_with};
-ghost use Rattle.geo_text.specs.Words.{IsCountOf, takes_of, word_named, word_of};
+ghost use Rattle.geo_text.specs.Words.{IsCountOf, named_in, takes_of, text_of, word_named, word_of};
 
 use crate::command::Command;
 use crate::coordinates::{point_from, points};
@@ -13,7 +13,7 @@ use exact_plane::Memory;
 use plane::MAX_HULL;
 use std::alloc::Global;
 
-/// What a record asks for, in the order of `Command`. Version 2 has a number and no text.
+/// What a record asks for, in the order of `Command`. No text names version 2, since the first record of a script alone asks for it.
 #[derive(Clone, Copy)]
 pub enum Word {
     Polygon,
@@ -58,48 +58,50 @@ impl Word {
 
     /// The word with a text.
     pub fn named(text: &[u8]) -> Option<Word>
-        ensures { result ≡ word_named text.now }
+        ensures word { result ≡ word_named text.now }
+        ensures text { IfSome result (λ word. text.now ≡ text_of word) }
     {
-        if text == b"polygon".as_slice() {
-            return Some(Word::Polygon);
+        find(
+            &[
+                Word::Polygon,
+                Word::Inside,
+                Word::Check,
+                Word::Path,
+                Word::Tree,
+                Word::Reach,
+                Word::See,
+                Word::Kernel,
+                Word::Hull,
+                Word::Round,
+                Word::Guards,
+                Word::Pair,
+                Word::Sights,
+            ],
+            text,
+        )
+    }
+
+    /// The text of the word. That of version 2 is no word by itself.
+    pub fn text(self) -> &'static str
+        ensures text { result.now ≡ text_of self }
+        ensures named { self ≢ Word.Two → word_named result.now ≡ Some self }
+    {
+        match self {
+            Word::Polygon => "polygon",
+            Word::Inside => "inside",
+            Word::Check => "check",
+            Word::Path => "path",
+            Word::Tree => "tree",
+            Word::Reach => "reach",
+            Word::See => "see",
+            Word::Kernel => "kernel",
+            Word::Hull => "hull",
+            Word::Two => "geo",
+            Word::Round => "round",
+            Word::Guards => "guards",
+            Word::Pair => "pair",
+            Word::Sights => "sights",
         }
-        if text == b"inside".as_slice() {
-            return Some(Word::Inside);
-        }
-        if text == b"check".as_slice() {
-            return Some(Word::Check);
-        }
-        if text == b"path".as_slice() {
-            return Some(Word::Path);
-        }
-        if text == b"tree".as_slice() {
-            return Some(Word::Tree);
-        }
-        if text == b"reach".as_slice() {
-            return Some(Word::Reach);
-        }
-        if text == b"see".as_slice() {
-            return Some(Word::See);
-        }
-        if text == b"kernel".as_slice() {
-            return Some(Word::Kernel);
-        }
-        if text == b"hull".as_slice() {
-            return Some(Word::Hull);
-        }
-        if text == b"round".as_slice() {
-            return Some(Word::Round);
-        }
-        if text == b"guards".as_slice() {
-            return Some(Word::Guards);
-        }
-        if text == b"pair".as_slice() {
-            return Some(Word::Pair);
-        }
-        if text == b"sights".as_slice() {
-            return Some(Word::Sights);
-        }
-        None
     }
 
     /// What the word takes.
@@ -148,4 +150,16 @@ impl Word {
             Word::Sights => Ok(Command::Sights),
         }
     }
+}
+
+// The first of some words that has a text.
+fn find(words: &[Word], text: &[u8]) -> Option<Word>
+    ensures { result ≡ named_in words.now text.now }
+{
+    for word in words {
+        if text == word.text().as_bytes() {
+            return Some(*word);
+        }
+    }
+    None
 }

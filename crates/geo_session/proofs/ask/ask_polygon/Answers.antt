@@ -13,7 +13,7 @@ returns-in_ok-of-in-Ok g c =
     let count : length c.in-Ok.ring.corners ≡ length points = ap (λ (r : Oriented). length r.corners) ring ∙ length-oriented points in
     let given : given_of c.in-Ok.ring ≡ points = ap given_of ring ∙ given_of-oriented points in
     let (same, none, not) = c.in_ok-of-in-Ok.ensures in
-    λ version held. taken version held points c.in_ok-of-in-Ok.field-0 c.len.result simple (c.len.ensures.number ∙ count) (ap given_of same ∙ given) none not
+    λ version held. taken version held points c.in_ok-of-in-Ok.field-0 c.from.result simple (c.from.ensures ∙ c.len.ensures.number ∙ count) (ap given_of same ∙ given) none not
 
 pub returns-in-Err-Clash : goal.returns-in-Err-Clash
 returns-in-Err-Clash g c =

@@ -1,0 +1,60 @@
+// Replies that have a line for each item.
+ghost use Rattle.std.specs.Prelude.{◌≡◌, ◌++◌, List, ℕ, length, take, OnOk, OnErr};
+ghost use Rattle.geo_reply.specs.ReplyText.{corner_text, lines_text, part_text, side_text};
+
+use crate::lines::{put_corner, put_count, put_part, put_side};
+use crate::reply::Side;
+use exact_plane::{Hom, Memory, Steps};
+use see_cone::Part;
+use std::sync::ledger::Ledger;
+
+// What has a line of its own.
+pub(crate) trait Item {
+    ghost line: { Self → List ℕ };
+
+    // Appends the line.
+    fn put<L: Ledger>(&self, out: &mut Vec<u8>, steps: &mut Steps<L>) -> Result<(), Memory>
+        ensures ok { OnOk result (out.new.items ≡ out.old.items ++ line self.now) }
+        ensures front { OnErr result (take (length out.old.items) out.new.items ≡ out.old.items) };
+}
+
+// Appends a line with a word and how many items there are, and then the line of each.
+pub(crate) fn put_items<T: Item, L: Ledger>(
+    out: &mut Vec<u8>,
+    word: &str,
+    items: &[T],
+    steps: &mut Steps<L>,
+) -> Result<(), Memory>
+    ensures ok { OnOk result (out.new.items ≡ out.old.items ++ lines_text word.now T.line items.now) }
+    ensures front { OnErr result (take (length out.old.items) out.new.items ≡ out.old.items) }
+{
+    put_count(out, word, items.len() as u64)?;
+    for item in items {
+        item.put(out, steps)?;
+    }
+    Ok(())
+}
+
+impl Item for Part {
+    ghost line = { part_text };
+
+    fn put<L: Ledger>(&self, out: &mut Vec<u8>, steps: &mut Steps<L>) -> Result<(), Memory> {
+        put_part(out, self, steps)
+    }
+}
+
+impl Item for Hom {
+    ghost line = { corner_text };
+
+    fn put<L: Ledger>(&self, out: &mut Vec<u8>, steps: &mut Steps<L>) -> Result<(), Memory> {
+        put_corner(out, self, steps)
+    }
+}
+
+impl Item for Side {
+    ghost line = { side_text };
+
+    fn put<L: Ledger>(&self, out: &mut Vec<u8>, steps: &mut Steps<L>) -> Result<(), Memory> {
+        put_side(out, self, steps)
+    }
+}
