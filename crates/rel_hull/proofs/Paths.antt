@@ -1,8 +1,8 @@
 -- The paths of a table of a ring.
-use Rattle.std.proofs.Common.{◌≡◌, ◌≢◌, inl, inr, sym, ℕ, ◌<◌, ◌≤◌, List, length, arith}
+use Rattle.std.proofs.Common.{◌≡◌, ◌≢◌, inl, inr, sym, ◌∙◌, ℕ, ◌<◌, ◌≤◌, List, length, arith}
 use Rattle.std.proofs.lemmas.Bool.{cases_lt}
 use Rattle.std.proofs.lemmas.List.FromFn.{length-map-range_with_len}
-use Rattle.hulls.proofs.Joined.{on_step_to, path_is_taut, path_steps}
+use Rattle.hulls.proofs.Joined.{on_step_to, one_front, path_is_taut, path_steps}
 use Rattle.plane.specs.Point.{Point}
 use Rattle.rel_hull.specs.Table.{IsTableOf, Table, chain_at, points_of}
 use Rattle.rel_hull.specs.Told.{KeepsChains}
@@ -42,4 +42,8 @@ module _ (ring : List Point) (table : Table) (is : IsTableOf ring table) where
           let step = on_step_to ring some simple _ _ _ (chain_at table a b) (chain_at table a s) (is.paths a b at_a at_b) (is.paths a s at_a at_s)
           (points_differ a s at_a at_s apart) on.place on.within on.on in
           record { within = step.0; on = step.1 };
+      fronts = λ s t u at_s at_t at_u.
+          let first = taut_chain s t at_s at_t in
+          let second = taut_chain s u at_s at_u in
+          one_front ring some simple (chain_at table s t) (chain_at table s u) first.bent second.bent (first.first ∙ sym second.first);
     }

@@ -6,7 +6,7 @@ use Rattle.plane.specs.Point.{Point, whole}
 use Rattle.plane.specs.Segment.{On}
 use Rattle.rings.specs.Chain.{point_at}
 use Rattle.exact_plane.specs.declared.direction.Direction.TheVariants.{Left}
-use Rattle.rel_hull.specs.PathTurn.{IsPathTurn, IsStepping}
+use Rattle.rel_hull.specs.PathTurn.{HaveFronts, IsPathTurn, IsStepping}
 use Rattle.rel_hull.specs.Table.{IsPairBefore, Table, chain_at, pair_at, points_of}
 
 -- x is on a chain
@@ -20,8 +20,8 @@ pub record IsOnStep (chain : List Point) (n : ℕ) (x : Point) : Type 0 where
   pub within : n ≤ length chain
   pub on : On (whole x) (whole (point_at chain (n - 2))) (whole (point_at chain (n - 1)))
 
--- what holds of every table: each chain begins at its point, and steps to another point at each place; and a point on a chain is on the
--- step of it that has the number of the last step of the chain to the point
+-- what holds of every table: each chain begins at its point, and steps to another point at each place; a point on a chain is on the
+-- step of it that has the number of the last step of the chain to the point; and chains from one point do not meet again
 pub record KeepsChains (table : Table) : Type 0 where
   pub few : table.count < 2 ^ 16
   pub square : length table.chains ≡ table.count * table.count
@@ -32,6 +32,7 @@ pub record KeepsChains (table : Table) : Type 0 where
   pub on_step : (a b s : ℕ) → a < table.count → b < table.count → s < table.count → a ≢ s
       → IsOnChain (chain_at table a b) (point_at (points_of table) s)
       → IsOnStep (chain_at table a b) (length (chain_at table a s)) (point_at (points_of table) s)
+  pub fronts : (s t u : ℕ) → s < table.count → t < table.count → u < table.count → HaveFronts (chain_at table s t) (chain_at table s u)
 
 -- point s is on the chain from point a to another
 pub record IsPassedFrom (table : Table) (a s : ℕ) : Type 0 where

@@ -3,7 +3,6 @@ ghost use Rattle.std.specs.Prelude.{◌≡◌, ◌≢◌, ◌<◌, ◌↔◌, If
 ghost use Rattle.rel_hull.specs.Table.{AreSides, IsTableOf, points_of};
 ghost use Rattle.rel_hull.specs.Told.{AreOuterBelow, AreSidesBefore, ComesFirst, IsLeftOf, IsOneEnd, IsPassed, IsPassedFrom, IsTold, StartsTold};
 
-use crate::comparison::path_turn;
 use crate::table::ChainTable;
 use exact_plane::{Direction, Memory, Steps};
 use ring_check::Ring;
@@ -182,5 +181,5 @@ pub(crate) fn is_left<L: Ledger>(
     if u == s || u == t {
         return true;
     }
-    path_turn(chains.chain(s, t), chains.chain(s, u), steps) == Direction::Left
+    chains.turn(s, t, u, steps) == Direction::Left
 }

@@ -1,10 +1,11 @@
 ghost use Rattle.std.specs.Prelude.{◌≡◌, ◌≢◌, ◌<◌, ◌↔◌, IsTrue, length, map};
 ghost use Rattle.rings.specs.Chain.{point_at};
-ghost use Rattle.rel_hull.specs.PathTurn.{IsStepping};
+ghost use Rattle.rel_hull.specs.PathTurn.{IsPathTurn, IsStepping};
 ghost use Rattle.rel_hull.specs.Table.{IsTableOf, chain_at, points_of};
 ghost use Rattle.rel_hull.specs.Told.{IsOnChain};
 
-use exact_plane::{Pt, Steps, on_segment};
+use crate::comparison::{halved_front, turn_at};
+use exact_plane::{Direction, Pt, Steps, on_segment};
 use ring_check::Ring;
 use std::marker::Model;
 use std::sync::ledger::Ledger;
@@ -73,5 +74,18 @@ impl ChainTable {
         let to = self.chain(a, s).len();
         let chain = self.chain(a, b);
         to <= chain.len() && on_segment(&self.chain(s, s)[0], &chain[to - 2], &chain[to - 1], steps)
+    }
+
+    // The turn from the path from point `s` to point `t` to the path to point `u`.
+    pub(crate) fn turn<L: Ledger>(&self, s: u32, t: u32, u: u32, steps: &mut Steps<L>) -> Direction
+        requires first { s < self.now.count }
+        requires second { t < self.now.count }
+        requires third { u < self.now.count }
+        ensures { IsPathTurn (chain_at self.now s t) (chain_at self.now s u) result }
+    {
+        let _count = self.count;
+        let (first, second) = (self.chain(s, t), self.chain(s, u));
+        let k = halved_front(first, second, steps);
+        turn_at(&first[k - 1], &first[k..], &second[k..], steps)
     }
 }

@@ -48,7 +48,7 @@ module _ (ring : List Point) (some : 3 ≤ length ring) (simple : IsSimple ring)
         } in
         let end = rest_at chain (k + 1) (length rest - 1) (length chain - 1) (omega arith) in
         let same = one_bent_chain ring some simple way (v ∷ rest) bent_way (over_bent ring from_v rest alone there on_to back) begins
-            (ends ∙ sym (over_ends ring from_v rest alone there on_to back ∙ end)) in
+        (ends ∙ sym (over_ends ring from_v rest alone there on_to back ∙ end)) in
         let long = ap length same in
         omega (arith, count, long, h)
 
@@ -59,7 +59,7 @@ module _ (ring : List Point) (some : 3 ≤ length ring) (simple : IsSimple ring)
         let count = length-drop (k + 1) chain in
         let end = rest_at chain (k + 1) (length rest - 1) (length chain - 1) (omega arith) in
         let same = one_bent_chain ring some simple way rest bent_way (rest_bent ring chain bent (k + 1) h)
-            (begins ∙ at ∙ sym (rest_at chain (k + 1) 0 (k + 1) (omega arith))) (ends ∙ sym end) in
+        (begins ∙ at ∙ sym (rest_at chain (k + 1) 0 (k + 1) (omega arith))) (ends ∙ sym end) in
         let long = ap length same in
         omega (arith, count, long, h)
 
@@ -89,13 +89,13 @@ module _ (ring : List Point) (some : 3 ≤ length ring) (simple : IsSimple ring)
         let next = back_at path (l + 1) k (omega arith) in
         let begins = back_at way 0 (length way - 1) (omega arith) ∙ taut_way.last in
         let ends = back_at way (length (reverse way) - 1) 0 (omega arith) ∙ taut_way.first
-            ∙ sym (back_at path (length back - 1) 0 (omega arith) ∙ taut.first) in
+        ∙ sym (back_at path (length back - 1) 0 (omega arith) ∙ taut.first) in
         let bent = back_bent ring path taut.bent in
         let bent_way = back_bent ring way taut_way.bent in
         elim (point_cases x (point_at path k)) [
           | inr within ↦
               let count = rest_within back bent x (reverse way) bent_way begins ends l (omega arith)
-                  (rw (here, next) (on_reversed (whole x) (whole (point_at path k)) (whole (point_at path (k + 1))) on)) (rw next within) in
+              (rw (here, next) (on_reversed (whole x) (whole (point_at path k)) (whole (point_at path (k + 1))) on)) (rw next within) in
               let first : k ≡ length way - 2 = omega arith in
               let last : k + 1 ≡ length way - 1 = omega arith in
               (omega arith, rw (← first, ← last) on)
