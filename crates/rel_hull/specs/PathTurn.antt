@@ -1,5 +1,5 @@
 -- How one path turns against another that begins at the same point. This project's own, after Toussaint 1986.
-use Rattle.std.specs.Prelude.{◌≡◌, ◌≢◌, ℕ, ◌+◌, ◌<◌, List, [], ◌∷◌, ◌++◌, length, take}
+use Rattle.std.specs.Prelude.{◌≡◌, ◌≢◌, ℕ, ◌+◌, ◌<◌, List, [], ◌∷◌, ◌++◌, length}
 use Rattle.plane.specs.Point.{Point, whole}
 use Rattle.plane.specs.Segment.{On}
 use Rattle.rings.specs.Chain.{point_at}
@@ -41,8 +41,3 @@ pub record IsPathTurn (first second : List Point) (turn : Direction) : Type 0 wh
 -- no two points that follow one another are equal
 abbrev pub IsStepping : List Point → Type 0
 IsStepping points = (k : ℕ) → k + 1 < length points → point_at points k ≢ point_at points (k + 1)
-
--- two lists are one up to each place where they have the same point
-abbrev pub HaveFronts : List Point → List Point → Type 0
-HaveFronts first second = (k : ℕ) → k < length first → k < length second → point_at first k ≡ point_at second k
-    → take (k + 1) first ≡ take (k + 1) second

@@ -1,12 +1,12 @@
 -- What a table keeps of its chains, and which points are inner and which pairs are sides by the chains alone. No public clause
 -- cites it. This project's own.
 use Rattle.std.specs.List.{Contains}
-use Rattle.std.specs.Prelude.{◌≡◌, ◌≢◌, ◌⊎◌, ℕ, ◌+◌, ◌-◌, ◌*◌, ◌^◌, ◌<◌, ◌≤◌, List, length, slice_index}
+use Rattle.std.specs.Prelude.{◌≡◌, ◌≢◌, ◌⊎◌, ℕ, ◌+◌, ◌-◌, ◌*◌, ◌^◌, ◌<◌, ◌≤◌, List, length, slice_index, take}
 use Rattle.plane.specs.Point.{Point, whole}
 use Rattle.plane.specs.Segment.{On}
 use Rattle.rings.specs.Chain.{point_at}
 use Rattle.exact_plane.specs.declared.direction.Direction.TheVariants.{Left}
-use Rattle.rel_hull.specs.PathTurn.{HaveFronts, IsPathTurn, IsStepping}
+use Rattle.rel_hull.specs.PathTurn.{IsPathTurn, IsStepping}
 use Rattle.rel_hull.specs.Table.{IsPairBefore, Table, chain_at, pair_at, points_of}
 
 -- x is on a chain
@@ -19,6 +19,11 @@ pub record IsOnChain (chain : List Point) (x : Point) : Type 0 where
 pub record IsOnStep (chain : List Point) (n : ℕ) (x : Point) : Type 0 where
   pub within : n ≤ length chain
   pub on : On (whole x) (whole (point_at chain (n - 2))) (whole (point_at chain (n - 1)))
+
+-- two lists are one up to each place where they have the same point
+abbrev pub HaveFronts : List Point → List Point → Type 0
+HaveFronts first second = (k : ℕ) → k < length first → k < length second → point_at first k ≡ point_at second k
+    → take (k + 1) first ≡ take (k + 1) second
 
 -- what holds of every table: each chain begins at its point, and steps to another point at each place; a point on a chain is on the
 -- step of it that has the number of the last step of the chain to the point; and chains from one point do not meet again

@@ -2,7 +2,8 @@ ghost use Rattle.std.specs.Prelude.{◌≡◌, ◌≢◌, ◌<◌, ◌≤◌, dr
 ghost use Rattle.plane.specs.Point.{whole};
 ghost use Rattle.rings.specs.Chain.{point_at};
 ghost use Rattle.exact_plane.specs.Direction.{turn_of};
-ghost use Rattle.rel_hull.specs.PathTurn.{HaveFronts, IsPathTurn, IsStepping, IsTurnApart, IsTurnAt, turn_on};
+ghost use Rattle.rel_hull.specs.PathTurn.{IsPathTurn, IsStepping, IsTurnApart, IsTurnAt, turn_on};
+ghost use Rattle.rel_hull.specs.Told.{HaveFronts};
 
 use exact_plane::{Direction, Pt, Steps, on_segment, order, turn};
 use std::cmp::Ordering;
