@@ -1,8 +1,8 @@
 -- The points of a hull, one after the other: their first numbers, their triangles, and the chains between them.
-use Rattle.std.proofs.Common.{◌≡◌, ◌≢◌, ◌∙◌, inl, inr, sym, ap, subst, ℕ, ◌+◌, ◌*◌, ◌/◌, ◌%◌, ◌<◌, List, [], ◌∷◌, ◌++◌, length, get_or, arith}
+use Rattle.std.proofs.Common.{◌≡◌, ◌≢◌, ◌∙◌, inl, inr, sym, ap, subst, ℕ, ◌+◌, ◌*◌, ◌/◌, ◌%◌, ◌<◌, ◌≤◌, List, [], ◌∷◌, ◌++◌, length, get_or, reverse, arith}
 use Rattle.std.proofs.Math.Nat.{div-lt_iff_lt-mul, div-eq_of_lt, mod-eq_of_lt, mod-lt, mul-add-div_right, mul-add-mod_self_right}
 use Rattle.std.proofs.lemmas.Bool.{cases_eq, cases_lt}
-use Rattle.std.proofs.lemmas.List.{get_or_append_left, get_or_push, length_push}
+use Rattle.std.proofs.lemmas.List.{get_or_append_left, get_or_push, length-reverse, length_push}
 use Rattle.std.proofs.lemmas.List.Elements.{Contains-append_left, Contains-push, Contains-push_cases}
 use Rattle.std.specs.List.{Contains}
 use Rattle.plane.proofs.Lists.{ordered_push}
@@ -10,16 +10,18 @@ use Rattle.plane.specs.Pairs.{pair_at}
 use Rattle.plane.specs.Point.{Point, whole}
 use Rattle.rings.specs.Chain.{IsPath, point_at}
 use Rattle.rings.specs.Inside.{IsIn}
+use Rattle.rings.specs.Simple.{IsSimple}
 use Rattle.meshes.specs.Fits.{Fits}
 use Rattle.meshes.specs.declared.tri.Tri.{Tri}
 use Rattle.geo_text.specs.declared.version.Version.{Version}
 use Rattle.geo_text.specs.declared.version.Version.TheVariants as version
 use Rattle.dual_tree.specs.Location.{IsLeastHolding}
+use Rattle.hulls.proofs.Joined.{path_back}
 use Rattle.geo_reply.specs.declared.reply.Side.{Side}
 use Rattle.geo_session.proofs.LocatedIn.{held_in}
 use Rattle.geo_session.specs.Hull.{AreFirsts}
 use Rattle.geo_session.specs.Shown.{IsShownPath}
-use Rattle.geo_session.specs.Span.{AreChains, AreFirstsBelow, AreHeld, AreSidesTold, IsRepeated, IsShortPath, IsSideTold, numbered}
+use Rattle.geo_session.specs.Span.{AreChains, AreFirstsBelow, AreHeld, AreSidesTold, IsChainAt, IsRepeated, IsShortPath, IsSideTold, numbered}
 use Rattle.geo_session.specs.declared.hull.Span.{Span}
 
 -- what holds at each place of a list and at the next one holds at each place once that element is appended
@@ -99,13 +101,19 @@ plain_path ring s t points h = subst (IsPath ring s t) (sym h.is_shown) h.is_pat
 
 module _ (ring points : List Point) (numbers : List ℕ) where
   pub chains_more : (n : ℕ) (chains : List (List Point)) (chain : List Point) → AreChains ring points numbers n chains
-      → IsShortPath ring (numbered points numbers (n / length numbers)) (numbered points numbers (n % length numbers)) chain
-      → AreChains ring points numbers (n + 1) (chains ++ chain ∷ [])
+      → IsChainAt ring points numbers n chain → AreChains ring points numbers (n + 1) (chains ++ chain ∷ [])
   chains_more n chains chain are is = record {
     count = length_push chains chain ∙ ap (λ (k : ℕ). k + 1) are.count;
-    each = each_push (λ k path. IsShortPath ring (numbered points numbers (k / length numbers)) (numbered points numbers (k % length numbers)) path)
-        chains chain [] n are.count are.each is;
+    each = each_push (IsChainAt ring points numbers) chains chain [] n are.count are.each is;
   }
+
+-- a path read backward is the path back
+short_back : (ring : List Point) → 3 ≤ length ring → IsSimple ring → (s t : Point) (path : List Point) → IsShortPath ring s t path
+    → IsShortPath ring t s (reverse path)
+short_back ring some simple s t path is = record {
+  is_path = path_back ring some simple s t path is.is_path;
+  short = omega (arith, length-reverse path, is.short);
+}
 
 -- ---- the sides
 
@@ -144,12 +152,28 @@ module _ (m s t : ℕ) (at_s : s < m) (at_t : t < m) where
   place_below : s * m + t < m * m
   place_below = (div-lt_iff_lt-mul (omega arith)).0 (subst (λ (row : ℕ). row < m) (sym row_of) at_s)
 
--- the chain from one place to another is the path between their points
+module _ (ring points : List Point) (numbers : List ℕ) (n : ℕ) (chains : List (List Point)) (are : AreChains ring points numbers n chains) where
+  -- a chain that stands is the path between its points,
+  chain_standing : (s t : ℕ) → s < length numbers → t < length numbers → s * length numbers + t < n
+      → IsShortPath ring (numbered points numbers s) (numbered points numbers t) (get_or chains (s * length numbers + t) [])
+  chain_standing s t at_s at_t stands =
+      let m = length numbers in
+      subst (λ (row : ℕ). IsShortPath ring (numbered points numbers row) (numbered points numbers t) (get_or chains (s * m + t) []))
+      (row_of m s t at_s at_t)
+      (subst (λ (column : ℕ). IsShortPath ring (numbered points numbers ((s * m + t) / m)) (numbered points numbers column)
+      (get_or chains (s * m + t) [])) (column_of m s t at_s at_t) (are.each (s * m + t) stands))
+
+  -- and read backward it is the chain at the place with its row as the column
+  pub chain_turned : 3 ≤ length ring → IsSimple ring → (k : ℕ) → k < length numbers * length numbers
+      → k % length numbers * length numbers + k / length numbers < n
+      → IsChainAt ring points numbers k (reverse (get_or chains (k % length numbers * length numbers + k / length numbers) []))
+  chain_turned some simple k below stands =
+      let m = length numbers in
+      short_back ring some simple _ _ _ (chain_standing (k % m) (k / m) (column_below m k below) (row_below m k below) stands)
+
+-- in the whole table it is the path from one place to another
 pub chain_between_places : (ring points : List Point) (numbers : List ℕ) (chains : List (List Point))
     → AreChains ring points numbers (length numbers * length numbers) chains → (s t : ℕ) → s < length numbers → t < length numbers
     → IsShortPath ring (numbered points numbers s) (numbered points numbers t) (get_or chains (s * length numbers + t) [])
 chain_between_places ring points numbers chains are s t at_s at_t =
-    let m = length numbers in
-    subst (λ (row : ℕ). IsShortPath ring (numbered points numbers row) (numbered points numbers t) (get_or chains (s * m + t) [])) (row_of m s t at_s at_t)
-    (subst (λ (column : ℕ). IsShortPath ring (numbered points numbers ((s * m + t) / m)) (numbered points numbers column) (get_or chains (s * m + t) []))
-    (column_of m s t at_s at_t) (are.each (s * m + t) (place_below m s t at_s at_t)))
+    chain_standing ring points numbers (length numbers * length numbers) chains are s t at_s at_t (place_below (length numbers) s t at_s at_t)

@@ -46,11 +46,15 @@ pub record IsShortPath (ring : List Point) (s t : Point) (path : List Point) : T
   pub is_path : IsPath ring s t path
   pub short : length path ≤ MAX_CORNERS + 1
 
--- the first n of the chains between each two of m numbered points, row by row
+-- the chain at place k of those between each two of m numbered points, row by row
+abbrev pub IsChainAt : List Point → List Point → List ℕ → ℕ → List Point → Type 0
+IsChainAt ring points numbers k =
+    IsShortPath ring (numbered points numbers (k / length numbers)) (numbered points numbers (k % length numbers))
+
+-- the first n of them
 pub record AreChains (ring points : List Point) (numbers : List ℕ) (n : ℕ) (chains : List (List Point)) : Type 0 where
   pub count : length chains ≡ n
-  pub each : (k : ℕ) → k < n
-      → IsShortPath ring (numbered points numbers (k / length numbers)) (numbered points numbers (k % length numbers)) (slice_index_or chains k [])
+  pub each : (k : ℕ) → k < n → IsChainAt ring points numbers k (slice_index_or chains k [])
 
 -- the table of the chains between each two of the numbered points
 pub record IsNumberedTable (ring points : List Point) (numbers : List ℕ) (table : Table) : Type 0 where

@@ -1,12 +1,13 @@
 // The relative hull of some points in the polygon, and its round.
-ghost use Rattle.std.specs.Prelude.{◌≡◌, ◌↔◌, ◌≤◌, ◌<◌, ◌+◌, ℕ, List, IfOk, IsTrue, length, map, slice_index};
+ghost use Rattle.std.specs.Prelude.{◌≡◌, ◌↔◌, ◌≤◌, ◌<◌, ◌+◌, ◌*◌, ℕ, List, IfOk, IsTrue, length, map, reverse, slice_index};
 ghost use Rattle.plane.specs.Point.{Point};
 ghost use Rattle.plane.specs.declared.limits.TheConstants.{MAX_HULL};
+ghost use Rattle.rings.specs.Chain.{point_at};
 ghost use Rattle.ring_check.specs.Oriented.{given_of};
 ghost use Rattle.rel_hull.specs.Table.{AreSides, points_of};
 ghost use Rattle.geo_session.specs.Hull.{AreFirsts, AreSidesOf};
 ghost use Rattle.geo_session.specs.Round.{AreRound};
-ghost use Rattle.geo_session.specs.Span.{AreHeld, AreLocated, AreNumbered, AreSidesTold, IsNumberedTable, IsRepeated, IsSideTold, IsSpan};
+ghost use Rattle.geo_session.specs.Span.{AreChains, AreHeld, AreLocated, AreNumbered, AreSidesTold, IsChainAt, IsNumberedTable, IsRepeated, IsShortPath, IsSideTold, IsSpan};
 ghost use Rattle.geo_session.specs.Told.{RepliesWithin, Tells};
 
 use crate::held::Held;
@@ -130,20 +131,56 @@ impl Held {
         let m = numbers.len();
         let mut chains = Vec::with_capacity(alloc, m * m)?;
         for k in 0..m * m {
-            let i = numbers[k / m] as usize;
-            let j = numbers[k % m] as usize;
-            let ends = (tris[i], tris[j]);
-            let chain = self.path_between(
-                alloc,
-                Version::One,
-                ends,
-                &points[i],
-                &points[j],
-                steps,
-            )?;
+            let chain = self.next_chain(alloc, points, tris, numbers, &chains, steps)?;
             chains.push_reserved(chain);
         }
         Ok(ChainTable::of(&self.ring, m as u32, chains))
+    }
+
+    // The next path of the table, from the point of its row to that of its column. It is read off the path back, if that stands.
+    fn next_chain<L: Ledger>(
+        &self,
+        alloc: Global,
+        points: &[Pt],
+        tris: &[u32],
+        numbers: &[u32],
+        chains: &[Vec<Pt>],
+        steps: &mut Steps<L>,
+    ) -> Result<Vec<Pt>, Memory>
+        requires held { AreHeld self.now.ring.corners self.now.tris points.now (length points.now) tris.now }
+        requires firsts { AreFirsts points.now numbers.now }
+        requires few { length numbers.now ≤ MAX_HULL }
+        requires before { AreChains self.now.ring.corners points.now numbers.now (length chains.now) (map (λ chain. chain.items) chains.now) }
+        requires next { length chains.now < length numbers.now * length numbers.now }
+        ensures { IfOk result (λ chain. IsChainAt self.now.ring.corners points.now numbers.now (length chains.now) chain.items) }
+    {
+        let _count = self.ring.len();
+        let m = numbers.len();
+        let (s, t) = (chains.len() / m, chains.len() % m);
+        match chains.get(t * m + s) {
+            Some(back) => reversed(alloc, back),
+            None => self.chain(alloc, points, tris, (numbers[s], numbers[t]), steps),
+        }
+    }
+
+    // The path from one point to another, in no more room than it takes.
+    fn chain<L: Ledger>(
+        &self,
+        alloc: Global,
+        points: &[Pt],
+        tris: &[u32],
+        ends: (u32, u32),
+        steps: &mut Steps<L>,
+    ) -> Result<Vec<Pt>, Memory>
+        requires held { AreHeld self.now.ring.corners self.now.tris points.now (length points.now) tris.now }
+        requires start { ends.0 < length points.now }
+        requires end { ends.1 < length points.now }
+        ensures { IfOk result (λ chain. IsShortPath self.now.ring.corners (point_at points.now ends.0) (point_at points.now ends.1) chain.items) }
+    {
+        let (i, j) = (ends.0 as usize, ends.1 as usize);
+        let ends = (tris[i], tris[j]);
+        let chain = self.path_between(alloc, Version::One, ends, &points[i], &points[j], steps)?;
+        Ok(chain.to_vec(alloc)?)
     }
 
     // The sides between the numbered points at these places.
@@ -189,6 +226,15 @@ impl Held {
             path: Row::of(path),
         })
     }
+}
+
+// The points in the other order.
+fn reversed(alloc: Global, points: &[Pt]) -> Result<Vec<Pt>, Memory>
+    ensures { IfOk result (λ back. back.items ≡ reverse points.now) }
+{
+    let mut back = points.to_vec(alloc)?;
+    back.reverse();
+    Ok(back)
 }
 
 // The numbers of the points that no earlier one is equal to.

@@ -15,3 +15,9 @@ pub use Rattle.hulls.proofs.Joined.OverPoints.{on_path_of_bent, on_path_of_joine
 -- A point is on the path from a to b exactly if the paths from it to a and to b are joined over it.
 mod OnPaths
 pub use Rattle.hulls.proofs.Joined.OnPaths.{joined_of_on_path, on_path_iff_joined}
+-- A path read backward is the path back; and a point on a path is on the step with the number of the last step of the path to it.
+mod PassedSteps
+pub use Rattle.hulls.proofs.Joined.PassedSteps.{on_step_to, path_back, path_steps}
+-- Two chains with bends from one point that have the same point at a place are one up to it.
+mod OneFront
+pub use Rattle.hulls.proofs.Joined.OneFront.{one_front}

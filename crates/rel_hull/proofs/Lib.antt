@@ -2,6 +2,7 @@ pub mod Closing
 mod Exchanged
 mod OneTurn
 mod OnLine
+mod OnSteps
 pub mod Outer
 mod Paths
 mod PathTurns

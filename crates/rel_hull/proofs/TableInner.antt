@@ -1,17 +1,13 @@
 -- The chains of a table of a ring tell which points are inner.
-use Rattle.std.proofs.Common.{◌≡◌, ℕ, ◌<◌, List, length, sym, subst}
-use Rattle.std.proofs.lemmas.List.FromFn.{length-map-range_with_len}
+use Rattle.std.proofs.Common.{ℕ, ◌<◌, List, sym, subst}
 use Rattle.hulls.proofs.Turning.{one_path}
 use Rattle.hulls.specs.Inner.{IsInnerPoint}
 use Rattle.hulls.specs.Joined.{IsOnPath}
 use Rattle.plane.specs.Point.{Point}
+use Rattle.rel_hull.proofs.Paths.{length-points_of}
 use Rattle.rel_hull.specs.Table.{IsTableOf, Table, chain_at, points_of}
 use Rattle.rel_hull.specs.Told.{IsOnChain, IsPassed}
 use Rattle.rings.specs.Chain.{point_at}
-
--- there are as many points as the table says
-pub length-points_of : (table : Table) → length (points_of table) ≡ table.count
-length-points_of table = length-map-range_with_len (λ (i : ℕ). point_at (chain_at table i i) 0) 0 table.count
 
 module _ (ring : List Point) (table : Table) (is : IsTableOf ring table) where
   -- what is on the chain is on the path,

@@ -7,7 +7,8 @@ use Rattle.exact_plane.specs.declared.direction.Direction.TheVariants.{Left}
 use Rattle.hulls.proofs.Turning.{one_path}
 use Rattle.hulls.specs.Inner.{IsInnerPoint}
 use Rattle.plane.specs.Point.{Point}
-use Rattle.rel_hull.proofs.TableInner.{inner_of_passed, length-points_of, passed_of_inner}
+use Rattle.rel_hull.proofs.Paths.{length-points_of}
+use Rattle.rel_hull.proofs.TableInner.{inner_of_passed, passed_of_inner}
 use Rattle.rel_hull.proofs.SideLists.{all_sides}
 use Rattle.rel_hull.specs.Hull.{IsSide, IsTurnBetween}
 use Rattle.rel_hull.specs.PathTurn.{IsPathTurn}

@@ -1,7 +1,7 @@
 -- What a table keeps of its chains, and which points are inner and which pairs are sides by the chains alone. No public clause
 -- cites it. This project's own.
 use Rattle.std.specs.List.{Contains}
-use Rattle.std.specs.Prelude.{◌≡◌, ◌≢◌, ◌⊎◌, ℕ, ◌+◌, ◌*◌, ◌^◌, ◌<◌, ◌≤◌, List, length, slice_index}
+use Rattle.std.specs.Prelude.{◌≡◌, ◌≢◌, ◌⊎◌, ℕ, ◌+◌, ◌-◌, ◌*◌, ◌^◌, ◌<◌, ◌≤◌, List, length, slice_index, take}
 use Rattle.plane.specs.Pairs.{IsPairBefore, pair_at}
 use Rattle.plane.specs.Point.{Point, whole}
 use Rattle.plane.specs.Segment.{On}
@@ -10,18 +10,34 @@ use Rattle.exact_plane.specs.declared.direction.Direction.TheVariants.{Left}
 use Rattle.rel_hull.specs.PathTurn.{IsPathTurn}
 use Rattle.rel_hull.specs.Table.{Table, chain_at, points_of}
 
--- what holds of every table: each chain begins at its point
-pub record KeepsChains (table : Table) : Type 0 where
-  pub few : table.count < 2 ^ 16
-  pub square : length table.chains ≡ table.count * table.count
-  pub some : (i j : ℕ) → i < table.count → j < table.count → 0 < length (chain_at table i j)
-  pub begins : (i j : ℕ) → i < table.count → j < table.count → point_at (chain_at table i j) 0 ≡ point_at (points_of table) i
-
 -- x is on a chain
 pub record IsOnChain (chain : List Point) (x : Point) : Type 0 where
   pub place : ℕ
   pub within : place + 1 < length chain
   pub on : On (whole x) (whole (point_at chain place)) (whole (point_at chain (place + 1)))
+
+-- x is on the step of a chain that ends with its n-th point
+pub record IsOnStep (chain : List Point) (n : ℕ) (x : Point) : Type 0 where
+  pub within : n ≤ length chain
+  pub on : On (whole x) (whole (point_at chain (n - 2))) (whole (point_at chain (n - 1)))
+
+-- two lists are one up to each place where they have the same point
+abbrev pub HaveFronts : List Point → List Point → Type 0
+HaveFronts first second = (k : ℕ) → k < length first → k < length second → point_at first k ≡ point_at second k
+    → take (k + 1) first ≡ take (k + 1) second
+
+-- what holds of every table: each chain begins at its point; a point on a chain is on the
+-- step of it that has the number of the last step of the chain to the point; and chains from one point do not meet again
+pub record KeepsChains (table : Table) : Type 0 where
+  pub few : table.count < 2 ^ 16
+  pub square : length table.chains ≡ table.count * table.count
+  pub some : (i j : ℕ) → i < table.count → j < table.count → 0 < length (chain_at table i j)
+  pub begins : (i j : ℕ) → i < table.count → j < table.count → point_at (chain_at table i j) 0 ≡ point_at (points_of table) i
+  pub long : (a s : ℕ) → a < table.count → s < table.count → a ≢ s → 2 ≤ length (chain_at table a s)
+  pub on_step : (a b s : ℕ) → a < table.count → b < table.count → s < table.count → a ≢ s
+      → IsOnChain (chain_at table a b) (point_at (points_of table) s)
+      → IsOnStep (chain_at table a b) (length (chain_at table a s)) (point_at (points_of table) s)
+  pub fronts : (s t u : ℕ) → s < table.count → t < table.count → u < table.count → HaveFronts (chain_at table s t) (chain_at table s u)
 
 -- point s is on the chain from point a to another
 pub record IsPassedFrom (table : Table) (a s : ℕ) : Type 0 where
@@ -67,6 +83,11 @@ pub record IsTold (table : Table) (outer : List ℕ) (pair : ℕ × ℕ) : Type 
 -- a side that is told goes from point s
 abbrev pub StartsTold : Table → List ℕ → ℕ → Type 0
 StartsTold table outer s = (t : ℕ) × IsTold table outer (s, t)
+
+-- the side that goes from point s ends at t
+pub record IsOneEnd (table : Table) (outer : List ℕ) (s t : ℕ) : Type 0 where
+  pub told : IsTold table outer (s, t)
+  pub only : (u : ℕ) → IsTold table outer (s, u) → t ≡ u
 
 -- point s is the least that one goes from
 pub record IsFirstStart (table : Table) (outer : List ℕ) (s : ℕ) : Type 0 where

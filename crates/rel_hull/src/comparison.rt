@@ -3,6 +3,7 @@ ghost use Rattle.plane.specs.Point.{whole};
 ghost use Rattle.rings.specs.Chain.{point_at};
 ghost use Rattle.exact_plane.specs.Direction.{turn_of};
 ghost use Rattle.rel_hull.specs.PathTurn.{IsPathTurn, IsTurnApart, IsTurnAt, turn_on};
+ghost use Rattle.rel_hull.specs.Told.{HaveFronts};
 
 use exact_plane::{Direction, Pt, Steps, on_segment, order, turn};
 use std::cmp::Ordering;
@@ -37,8 +38,38 @@ fn common_front<L: Ledger>(ab: &[Pt], ac: &[Pt], steps: &mut Steps<L>) -> usize
     k
 }
 
+// The same of two lists that are one up to each place where they have the same point, by halving.
+pub(crate) fn halved_front<L: Ledger>(ab: &[Pt], ac: &[Pt], steps: &mut Steps<L>) -> usize
+    requires some { 0 < length ab.now }
+    requires others { 0 < length ac.now }
+    requires same { point_at ab.now 0 ≡ point_at ac.now 0 }
+    requires fronts { HaveFronts ab.now ac.now }
+    ensures some { 0 < result }
+    ensures within { result ≤ length ab.now }
+    ensures within_other { result ≤ length ac.now }
+    ensures same { take result ab.now ≡ take result ac.now }
+    ensures apart { result < length ab.now → result < length ac.now → point_at ab.now result ≢ point_at ac.now result }
+{
+    let mut k = 1;
+    let mut end = ab.len().min(ac.len());
+    while k < end {
+        let middle = k + (end - k) / 2;
+        if order(&ab[middle], &ac[middle], steps) == Ordering::Equal {
+            k = middle + 1;
+        } else {
+            end = middle;
+        }
+    }
+    k
+}
+
 // The turn of two ways on from `v` that have no next point in common.
-fn turn_at<L: Ledger>(v: &Pt, first: &[Pt], second: &[Pt], steps: &mut Steps<L>) -> Direction
+pub(crate) fn turn_at<L: Ledger>(
+    v: &Pt,
+    first: &[Pt],
+    second: &[Pt],
+    steps: &mut Steps<L>,
+) -> Direction
     requires { 0 < length first.now → 0 < length second.now → point_at first.now 0 ≢ point_at second.now 0 }
     ensures { IsTurnAt v.now first.now second.now result }
 {

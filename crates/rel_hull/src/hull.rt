@@ -1,11 +1,10 @@
 ghost use Rattle.std.specs.List.{Contains};
-ghost use Rattle.std.specs.Prelude.{◌+◌, ◌<◌, ◌↔◌, IfOk, IsTrue, OnOk, ℕ, length};
+ghost use Rattle.std.specs.Prelude.{◌≡◌, ◌≢◌, ◌<◌, ◌↔◌, IfOk, IsTrue, MatchOption, ℕ};
 ghost use Rattle.rel_hull.specs.Table.{AreSides, IsTableOf, points_of};
-ghost use Rattle.rel_hull.specs.Told.{AreOuterBelow, AreSidesBefore, IsLeftOf, IsOnChain, IsPassed, IsPassedFrom};
+ghost use Rattle.rel_hull.specs.Told.{AreOuterBelow, AreSidesBefore, ComesFirst, IsLeftOf, IsOneEnd, IsPassed, IsPassedFrom, IsTold, StartsTold};
 
-use crate::comparison::path_turn;
 use crate::table::ChainTable;
-use exact_plane::{Direction, Memory, Pt, Steps, on_segment};
+use exact_plane::{Direction, Memory, Steps};
 use ring_check::Ring;
 use std::alloc::Global;
 use std::sync::ledger::Ledger;
@@ -59,24 +58,11 @@ fn is_inner<L: Ledger>(chains: &ChainTable, s: u32, steps: &mut Steps<L>) -> boo
 fn is_on_path_from<L: Ledger>(chains: &ChainTable, a: u32, s: u32, steps: &mut Steps<L>) -> bool
     requires first { a < chains.now.count }
     requires second { s < chains.now.count }
+    requires apart { a ≢ s }
     ensures { IsTrue result ↔ IsPassedFrom chains.now a s }
 {
-    let point = &chains.chain(s, s)[0];
     for b in 0..chains.count() {
-        if b != a && b != s && is_on(chains.chain(a, b), point, steps) {
-            return true;
-        }
-    }
-    false
-}
-
-// Whether a point is on a chain.
-fn is_on<L: Ledger>(chain: &[Pt], point: &Pt, steps: &mut Steps<L>) -> bool
-    requires { 0 < length chain.now }
-    ensures { IsTrue result ↔ IsOnChain chain.now point.now }
-{
-    for k in 0..chain.len() - 1 {
-        if on_segment(point, &chain[k], &chain[k + 1], steps) {
+        if b != a && b != s && chains.passes(a, b, s, steps) {
             return true;
         }
     }
@@ -95,30 +81,67 @@ fn sides_among<L: Ledger>(
 {
     let mut sides = Vec::new(alloc);
     for s in outer {
-        put_sides(&mut sides, chains, outer, *s, steps)?;
+        if let Some(t) = side_from(chains, outer, *s, steps) {
+            sides.push((*s, t))?;
+        }
     }
     Ok(sides)
 }
 
-// Appends the sides that go from point `s`.
-fn put_sides<L: Ledger>(
-    sides: &mut Vec<(u32, u32)>,
+// The end of the side that starts at an outer point, if one does.
+pub(crate) fn side_from<L: Ledger>(
     chains: &ChainTable,
     outer: &[u32],
     s: u32,
     steps: &mut Steps<L>,
-) -> Result<(), Memory>
+) -> Option<u32>
     requires outer { AreOuterBelow chains.now chains.now.count outer.now }
     requires start { Contains outer.now s }
-    requires before { AreSidesBefore chains.now outer.now (s, 0) sides.old.items }
-    ensures { OnOk result (AreSidesBefore chains.now outer.now (s + 1, 0) sides.new.items) }
+    ensures { MatchOption result (¬ StartsTold chains.now outer.now s) (IsOneEnd chains.now outer.now s) }
 {
+    let t = side_end(chains, outer, s, steps);
+    if t != s && is_side(chains, outer, s, t, steps) {
+        Some(t)
+    } else {
+        None
+    }
+}
+
+// Where the side from `s` ends, if one starts there: at the outer point that has all others to its left.
+pub(crate) fn side_end<L: Ledger>(
+    chains: &ChainTable,
+    outer: &[u32],
+    s: u32,
+    steps: &mut Steps<L>,
+) -> u32
+    requires outer { AreOuterBelow chains.now chains.now.count outer.now }
+    requires start { s < chains.now.count }
+    ensures other { result ≢ s → Contains outer.now result }
+    ensures end { (t : ℕ) → IsTold chains.now outer.now (s, t) → result ≡ t }
+{
+    let mut end = s;
     for t in outer {
-        if *t != s && is_side(chains, outer, s, *t, steps) {
-            sides.push((s, *t))?;
+        if comes_first(chains, s, end, *t, steps) {
+            end = *t;
         }
     }
-    Ok(())
+    end
+}
+
+// Whether, seen from `s`, point `t` is not to the left of `end`, which is `s` as long as there is no end.
+fn comes_first<L: Ledger>(
+    chains: &ChainTable,
+    s: u32,
+    end: u32,
+    t: u32,
+    steps: &mut Steps<L>,
+) -> bool
+    requires first { s < chains.now.count }
+    requires second { end < chains.now.count }
+    requires third { t < chains.now.count }
+    ensures { IsTrue result ↔ ComesFirst chains.now s end t }
+{
+    t != s && (end == s || !is_left(chains, s, end, t, steps))
 }
 
 // Whether all other points are to the left of the path from one to another.
@@ -158,5 +181,5 @@ pub(crate) fn is_left<L: Ledger>(
     if u == s || u == t {
         return true;
     }
-    path_turn(chains.chain(s, t), chains.chain(s, u), steps) == Direction::Left
+    chains.turn(s, t, u, steps) == Direction::Left
 }

@@ -4,7 +4,7 @@ ghost use Rattle.rel_hull.specs.Round.{IsRound};
 ghost use Rattle.rel_hull.specs.Table.{IsTableOf, points_of};
 ghost use Rattle.rel_hull.specs.Told.{AreOuterBelow, ComesFirst, IsFirstStart, IsTold, StartsTold};
 
-use crate::hull::{is_left, is_side, outer_points};
+use crate::hull::{outer_points, side_end, side_from};
 use crate::table::ChainTable;
 use exact_plane::{Memory, Steps};
 use ring_check::Ring;
@@ -43,42 +43,9 @@ fn first_start<L: Ledger>(chains: &ChainTable, outer: &[u32], steps: &mut Steps<
     ensures { MatchOption result ((s : ℕ) → ¬ StartsTold chains.now outer.now s) (IsFirstStart chains.now outer.now) }
 {
     for s in outer {
-        let t = side_end(chains, outer, *s, steps);
-        if t != *s && is_side(chains, outer, *s, t, steps) {
+        if side_from(chains, outer, *s, steps).is_some() {
             return Some(*s);
         }
     }
     None
-}
-
-// Where the side from `s` ends, if one starts there: at the outer point that has all others to its left.
-fn side_end<L: Ledger>(chains: &ChainTable, outer: &[u32], s: u32, steps: &mut Steps<L>) -> u32
-    requires outer { AreOuterBelow chains.now chains.now.count outer.now }
-    requires start { s < chains.now.count }
-    ensures other { result ≢ s → Contains outer.now result }
-    ensures end { (t : ℕ) → IsTold chains.now outer.now (s, t) → result ≡ t }
-{
-    let mut end = s;
-    for t in outer {
-        if comes_first(chains, s, end, *t, steps) {
-            end = *t;
-        }
-    }
-    end
-}
-
-// Whether, seen from `s`, point `t` is not to the left of `end`, which is `s` as long as there is no end.
-fn comes_first<L: Ledger>(
-    chains: &ChainTable,
-    s: u32,
-    end: u32,
-    t: u32,
-    steps: &mut Steps<L>,
-) -> bool
-    requires first { s < chains.now.count }
-    requires second { end < chains.now.count }
-    requires third { t < chains.now.count }
-    ensures { IsTrue result ↔ ComesFirst chains.now s end t }
-{
-    t != s && (end == s || !is_left(chains, s, end, t, steps))
 }

@@ -1,10 +1,14 @@
-ghost use Rattle.std.specs.Prelude.{◌≡◌, ◌<◌, length, map};
+ghost use Rattle.std.specs.Prelude.{◌≡◌, ◌≢◌, ◌<◌, ◌↔◌, IsTrue, length, map};
 ghost use Rattle.rings.specs.Chain.{point_at};
+ghost use Rattle.rel_hull.specs.PathTurn.{IsPathTurn};
 ghost use Rattle.rel_hull.specs.Table.{IsTableOf, chain_at, points_of};
+ghost use Rattle.rel_hull.specs.Told.{IsOnChain};
 
-use exact_plane::Pt;
+use crate::comparison::{halved_front, turn_at};
+use exact_plane::{Direction, Pt, Steps, on_segment};
 use ring_check::Ring;
 use std::marker::Model;
+use std::sync::ledger::Ledger;
 
 /// The paths between each two of some points of a ring.
 #[derive(Drop)]
@@ -32,6 +36,7 @@ impl ChainTable {
         ensures count { result.count ≡ m }
         ensures chains { result.chains ≡ map (λ chain. chain.items) chains.items }
     {
+        let _corners = ring.len();
         ChainTable { count: m, chains }
     }
 
@@ -53,5 +58,33 @@ impl ChainTable {
         ensures begins { point_at result.now 0 ≡ point_at (points_of self.now) i }
     {
         &self.chains[(i * self.count + j) as usize]
+    }
+
+    // Whether point `s` is on the path from point `a` to point `b`. If so, it is on the step of it that has the number of the last
+    // step of the path from point `a` to it.
+    pub(crate) fn passes<L: Ledger>(&self, a: u32, b: u32, s: u32, steps: &mut Steps<L>) -> bool
+        requires first { a < self.now.count }
+        requires second { b < self.now.count }
+        requires third { s < self.now.count }
+        requires apart { a ≢ s }
+        ensures { IsTrue result ↔ IsOnChain (chain_at self.now a b) (point_at (points_of self.now) s) }
+    {
+        let _count = self.count;
+        let to = self.chain(a, s).len();
+        let chain = self.chain(a, b);
+        to <= chain.len() && on_segment(&self.chain(s, s)[0], &chain[to - 2], &chain[to - 1], steps)
+    }
+
+    // The turn from the path from point `s` to point `t` to the path to point `u`.
+    pub(crate) fn turn<L: Ledger>(&self, s: u32, t: u32, u: u32, steps: &mut Steps<L>) -> Direction
+        requires first { s < self.now.count }
+        requires second { t < self.now.count }
+        requires third { u < self.now.count }
+        ensures { IsPathTurn (chain_at self.now s t) (chain_at self.now s u) result }
+    {
+        let _count = self.count;
+        let (first, second) = (self.chain(s, t), self.chain(s, u));
+        let k = halved_front(first, second, steps);
+        turn_at(&first[k - 1], &first[k..], &second[k..], steps)
     }
 }

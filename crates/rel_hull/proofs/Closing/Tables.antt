@@ -5,7 +5,7 @@ use Rattle.plane.specs.Point.{Point, whole}
 use Rattle.rel_hull.proofs.Closing.Fronts.{IsFrontTo, front_begins, front_ends, front_goes_on}
 use Rattle.rel_hull.proofs.Closing.OneRound.{one_round}
 use Rattle.rel_hull.proofs.Paths.{taut_chain}
-use Rattle.rel_hull.proofs.TableInner.{length-points_of}
+use Rattle.rel_hull.proofs.Paths.{length-points_of}
 use Rattle.rel_hull.proofs.TableSides.{side_of_told, told_of_side}
 use Rattle.rel_hull.specs.Hull.{IsSide}
 use Rattle.rel_hull.specs.Round.{IsRound, StartsSide}

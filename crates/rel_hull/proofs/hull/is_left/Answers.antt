@@ -5,6 +5,6 @@ use Rattle.rel_hull.proofs.hull.is_left.Goals as goal
 
 pub returns : goal.returns
 returns g c =
-    let is : IsTrue c.eq.result ↔ (c.path_turn.result ≡ Left) = search rules in
-    let exactly = turns_exactly _ _ _ Left (rw (c.chain.ensures.chain, c.chain-2.ensures.chain) at c.path_turn.ensures) in
+    let is : IsTrue c.eq.result ↔ (c.turn.result ≡ Left) = search rules in
+    let exactly = turns_exactly _ _ _ Left c.turn.ensures in
     (λ e not_s not_t. exactly.0 (is.0 e), λ left. is.1 (exactly.1 (left c.if-u-s.false c.if-u-t.false)))

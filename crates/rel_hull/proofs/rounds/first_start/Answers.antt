@@ -1,34 +1,30 @@
-use Rattle.std.proofs.Common.{◌∙◌, inl, inr, ℕ, arith, below_more, slice_index, subst, sym}
-use Rattle.std.proofs.lemmas.Bool.{cases_lt}
-use Rattle.std.proofs.lemmas.List.Elements.{Contains-get_or}
+use Rattle.std.proofs.Common.{◌≡◌, ◌∙◌, inl, inr, true, false, ℕ, List, arith, below_more, slice_index, subst, sym}
+use Rattle.std.proofs.lemmas.Bool.{cases_lt, false≢true}
+use Rattle.std.specs.Option.{is_some}
+use Rattle.std.specs.Prelude.{MatchOption, None, Option, Some}
 use Rattle.rel_hull.proofs.Outer.{contained_at, not_less}
 use Rattle.rel_hull.proofs.rounds.first_start.Goals as goal
-use Rattle.rel_hull.proofs.rounds.first_start.Goals.{else-t-s-via-else-t-s, else-t-s-via-then-t-s+else-is_side}
-use Rattle.rel_hull.specs.Told.{StartsTold}
+use Rattle.rel_hull.specs.Table.{Table}
+use Rattle.rel_hull.specs.Told.{IsOneEnd, StartsTold}
 
-pub side_end-t-requires-clause-start : goal.side_end-t-requires-clause-start
-side_end-t-requires-clause-start g c = c.requires.below _ (Contains-get_or c.args.outer.now c.loop-s.s-index 0 c.loop-s-test.true)
+-- where an end is found, a side starts,
+starts_of : (table : Table) (outer : List ℕ) (s : ℕ) (end : Option ℕ)
+    → MatchOption end (¬ StartsTold table outer s) (IsOneEnd table outer s) → is_some end ≡ true → StartsTold table outer s
+starts_of table outer s None is e = absurd (false≢true e)
+starts_of table outer s (Some t) is e = (t, is.told)
 
-pub is_side-requires-clause-first : goal.is_side-requires-clause-first
-is_side-requires-clause-first g c = c.requires.below _ (Contains-get_or c.args.outer.now c.loop-s.s-index 0 c.loop-s-test.true)
+-- and else none does
+none_starts : (table : Table) (outer : List ℕ) (s : ℕ) (end : Option ℕ)
+    → MatchOption end (¬ StartsTold table outer s) (IsOneEnd table outer s) → is_some end ≡ false → ¬ StartsTold table outer s
+none_starts table outer s None is e = is
+none_starts table outer s (Some t) is e = absurd (false≢true (sym e))
 
-pub is_side-requires-clause-second : goal.is_side-requires-clause-second
-is_side-requires-clause-second g c = c.requires.below _ (c.side_end-t.ensures.other c.if-t-s.true)
-
-pub returns-then-is_side : goal.returns-then-is_side
-returns-then-is_side g c =
+pub returns-then-is_some : goal.returns-then-is_some
+returns-then-is_some g c =
     let outer = c.args.outer.now in
-    let s = slice_index outer c.loop-s.s-index in
     record {
-      starts = (
-        c.side_end-t.result,
-        record {
-          first = Contains-get_or outer c.loop-s.s-index 0 c.loop-s-test.true;
-          second = c.side_end-t.ensures.other c.if-t-s.true;
-          different = λ e. c.if-t-s.true (sym e);
-          left = c.is_side.ensures.0 c.if-is_side.true;
-        },
-      );
+      starts = starts_of c.args.chains.now outer (slice_index outer c.loop-s.s-index) c.side_from.result c.side_from.ensures
+          (sym c.is_some.ensures ∙ c.if-is_some.true);
       least = λ r starts.
           let inside = starts.1.first in
           let at = contained_at outer r inside in
@@ -44,13 +40,8 @@ pub loop-s-preserved : goal.loop-s-preserved
 loop-s-preserved g c =
     let outer = c.args.outer.now in
     below_more (λ (k : ℕ). ¬ StartsTold c.args.chains.now outer (slice_index outer k)) c.loop-s.s-index c.loop-s.invariant
-    (λ starts.
-    let end = c.side_end-t.ensures.end starts.0 starts.1 in
-    elim c.else-t-s.branch [
-      | else-t-s-via-then-t-s+else-is_side w ↦
-          absurd (cc (w.is_side.ensures.1 (rw end starts.1.left), w.if-is_side.false))
-      | else-t-s-via-else-t-s w ↦ starts.1.different (sym w.if-t-s.false ∙ end)
-    ])
+    (none_starts c.args.chains.now outer (slice_index outer c.loop-s.s-index) c.side_from.result c.side_from.ensures
+    (sym c.is_some.ensures ∙ c.if-is_some.false))
 
 pub returns : goal.returns
 returns g c = λ s starts.

@@ -1,7 +1,7 @@
 use Rattle.std.proofs.Common.{◌≡◌, ℕ, ◌-◌, ◌<◌, List, [], ◌∷◌, ◌++◌, length, arith}
 use Rattle.std.proofs.lemmas.List.{length_push}
 use Rattle.rel_hull.proofs.Closing.{front_fits, front_of_next, front_of_start, next_in_list, round_of_front, round_of_none}
-use Rattle.rel_hull.proofs.TableInner.{length-points_of}
+use Rattle.rel_hull.proofs.Paths.{length-points_of}
 use Rattle.rel_hull.proofs.rounds.round.Goals as goal
 
 pub returns-in_default : goal.returns-in_default

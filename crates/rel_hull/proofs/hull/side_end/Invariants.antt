@@ -1,7 +1,7 @@
 use Rattle.std.proofs.Common.{◌≢◌}
 use Rattle.std.specs.List.{Contains}
 use Rattle.rel_hull.proofs.SideEnds.{IsEndOfFirst}
-use Rattle.rel_hull.proofs.rounds.side_end.Given as goal
+use Rattle.rel_hull.proofs.hull.side_end.Given as goal
 
 abbrev pub invariant-loop-t : goal.invariant-loop-t
 invariant-loop-t g l = record {
