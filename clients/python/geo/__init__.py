@@ -25,7 +25,7 @@ from .script import answer_script, refusal
 from .session import Session
 from .values import Before, Part, Place, Rule, Side, Verdict
 
-__version__ = '1.0.0'
+__version__ = '2.0.0'
 __all__ = [
     'Before', 'Clash', 'Few', 'Fields', 'Frame', 'GeoMemoryError', 'Holes', 'Index', 'Large', 'LibraryMissing', 'Listed', 'Many',
     'NoPolygon', 'NoTree', 'NotANumber', 'NotAPoint', 'NotAShape', 'NotTaken', 'NotWhole', 'Number', 'Outside', 'Part', 'Place', 'Range',

@@ -2,7 +2,6 @@ ghost use Rattle.std.specs.Prelude.{◌≡◌, ◌↔◌, ◌+◌, ◌<◌, ◌�
 ghost use Rattle.plane.specs.Point.{IsPoint, whole};
 ghost use Rattle.rings.specs.Edge.{IsOnSome, edges_of};
 ghost use Rattle.rings.specs.Inside.{IsIn};
-ghost use Rattle.rings.specs.Ring.{vertex};
 ghost use Rattle.inside_test.specs.Level.{AreLevels};
 ghost use Rattle.inside_test.specs.Odd.{OddSoFar};
 
@@ -113,7 +112,7 @@ fn cross<L: Ledger>(
 {
     let mut a = Vertex::of(ring.corner(first), levels, steps);
     for i in first..end {
-        let b = Vertex::of(next_corner(ring, i), levels, steps);
+        let b = Vertex::of(ring.next(i), levels, steps);
         match meeting_of(&a, &b, p, levels, steps) {
             Meeting::On => return None,
             Meeting::Crossed => is_odd = !is_odd,
@@ -122,17 +121,4 @@ fn cross<L: Ledger>(
         a = b;
     }
     Some(is_odd)
-}
-
-// The vertex after vertex `i`, counted round.
-pub(crate) fn next_corner(ring: &Ring, i: u32) -> Pt
-    requires { i < length ring.now.corners }
-    ensures { result ≡ vertex ring.now.corners (i + 1) }
-{
-    let last = ring.len() - 1;
-    if i < last {
-        ring.corner(i + 1)
-    } else {
-        ring.corner(0)
-    }
 }

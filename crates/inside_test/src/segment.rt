@@ -9,7 +9,7 @@ ghost use Rattle.exact_plane.specs.Size.{IsNarrow};
 ghost use Rattle.inside_test.specs.Breakpoints.{EnclosesAll, Extends, IsListed, Lists, ListsMeetings, breakpoint_points};
 
 use crate::breakpoint::Breakpoint;
-use crate::position::{Position, next_corner, place_hom};
+use crate::position::{Position, place_hom};
 use exact_plane::{Hom, Memory, Pt, Steps, on_segment, segments_meet};
 use ring_check::Ring;
 use std::alloc::Global;
@@ -48,7 +48,7 @@ fn breakpoints<L: Ledger>(
     let size = ring.len();
     let mut c = ring.corner(0);
     for i in 0..size {
-        let d = next_corner(ring, i);
+        let d = ring.next(i);
         push_meetings(&mut points, a, b, &c, &d, steps)?;
         c = d;
     }

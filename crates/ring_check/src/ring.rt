@@ -99,13 +99,16 @@ impl Ring {
     }
 
     /// The vertex after vertex `i`, round the ring.
-    #[tactic(auto, using(rings::proofs::Vertices::vertex_mod))]
     pub fn next(&self, i: u32) -> Pt
         requires { i < length self.now.corners }
         ensures { result ≡ vertex self.now.corners (i + 1) }
     {
-        let n = self.len();
-        self.corner((i + 1) % n)
+        let last = self.len() - 1;
+        if i < last {
+            self.corner(i + 1)
+        } else {
+            self.corner(0)
+        }
     }
 
     /// The vertex before it.

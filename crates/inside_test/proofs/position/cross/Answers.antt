@@ -16,7 +16,7 @@ returns-in-On g c =
     let ring = c.args.ring.now.corners in
     let p = c.args.p.now in
     let (_, at_a, _) = c.loop-i.invariant in
-    let at_b = c.of-b.ensures.at ∙ c.next_corner.ensures in
+    let at_b = c.of-b.ensures.at ∙ c.next.ensures in
     let here : IsOnEdge ring c.loop-i.i p = rw (at_a, at_b) at (c.meeting_of.ensures.on.0 c.in-On.is) in
     record { on = on_some_from p ring c.loop-i.i (omega arith) here; odd = tt }
 
@@ -25,7 +25,7 @@ loop-i-preserved g c =
     let ring = c.args.ring.now.corners in
     let p = c.args.p.now in
     let (odd, at_a, _) = c.loop-i.invariant in
-    let at_b = c.of-b.ensures.at ∙ c.next_corner.ensures in
+    let at_b = c.of-b.ensures.at ∙ c.next.ensures in
     let beside = c.of-b.ensures.beside _ c.requires.levels in
     elim c.match-meeting_of.branch [
       | in-Crossed w ↦ (

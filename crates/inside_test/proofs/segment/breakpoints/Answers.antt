@@ -17,7 +17,7 @@ loop-i-init g c =
 pub loop-i-preserved : goal.loop-i-preserved
 loop-i-preserved g c =
     let (lists, at_c) = c.loop-i.invariant in
-    let next = c.next_corner-d.ensures in
+    let next = c.next-d.ensures in
     let here = rw (at_c, next) at c.in_ok-push_meetings.ensures.enclosed in (
       lists_more c.args.ring.now.corners (whole c.args.a.now) (whole c.args.b.now) c.loop-i.i (breakpoint_points c.loop-i.points.items)
           (breakpoint_points c.push_meetings.new.points.items) lists c.in_ok-push_meetings.ensures.extends here,
