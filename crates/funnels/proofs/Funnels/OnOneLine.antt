@@ -8,7 +8,7 @@ use Rattle.integer_algebra.proofs.Signs.{factor_zero}
 use Rattle.plane.proofs.Points.{whole_is_point}
 use Rattle.plane.proofs.Regions.{four_beside}
 use Rattle.plane.proofs.Segments.{on_reversed}
-use Rattle.plane.proofs.Turns.{determinant as det, determinant_shift, determinant_swap_last, four_triples_in_W}
+use Rattle.plane.proofs.Turns.{determinant_shift, determinant_swap_last, four_triples_in_W}
 use Rattle.plane.specs.Point.{Point, Triple, whole}
 use Rattle.plane.specs.Segment.{On}
 use Rattle.plane.specs.Turn.{IsLeft, IsRight, IsStraight, determinant}
