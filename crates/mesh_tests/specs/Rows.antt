@@ -1,4 +1,4 @@
--- Rings with meshes as rows of a table, by their numbers, for tests. No public clause cites this module.
+-- Rings with meshes as rows of a table, by their numbers, for tests.
 use Rattle.std.specs.List.{range_with_len}
 use Rattle.std.specs.Prelude.{ℕ, ◌<◌, ℤ, List, length, map}
 use Rattle.plane.specs.Point.{Point}

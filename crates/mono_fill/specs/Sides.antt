@@ -1,4 +1,4 @@
--- The two chains of a monotone piece, and triangles along one of them. No public clause cites this module. This project's own.
+-- The two chains of a monotone piece, and triangles along one of them. This project's own.
 use Rattle.std.specs.Prelude.{ℕ, List, [], ◌∷◌}
 use Rattle.plane.specs.Point.{Point, whole}
 use Rattle.plane.specs.Turn.{IsLeft}

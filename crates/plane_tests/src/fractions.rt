@@ -20,7 +20,7 @@ the least | -170141183460469231731687303715884105728/6 | -8507059173023461586584
 the least and the greatest | -170141183460469231731687303715884105728/170141183460469231731687303715884105727 | -170141183460469231731687303715884105728/170141183460469231731687303715884105727";
 
 #[test]
-fn lowest_terms(rt: HostRuntime) {
+fn fractions_come_in_lowest_terms(rt: HostRuntime) {
     for row in FRACTIONS.split('\n') {
         assert!(rt; is_lowest(row) == Some(true), "{row}");
     }

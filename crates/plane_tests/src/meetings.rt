@@ -23,7 +23,7 @@ beyond both ways | 0,0 1,0 0,3 1,2 | 3,0,1
 between whole points | 0,0 3,0 0,1 7,-2 | 7,0,3";
 
 #[test]
-fn lines(rt: HostRuntime) {
+fn lines_meet_in_one_point(rt: HostRuntime) {
     all_lines::<Brand, _>(&rt, rt.alloc(), Blank::new(1));
 }
 

@@ -110,7 +110,7 @@ the least x | -9223372036854775808,0 | no
 the least y | 0,-9223372036854775808 | no";
 
 #[test]
-fn limits(rt: HostRuntime) {
+fn points_keep_their_limits(rt: HostRuntime) {
     for row in LIMITS.split('\n') {
         assert!(rt; is_limit(row) == Some(true), "{row}");
     }
@@ -128,7 +128,7 @@ fn is_limit(row: &str) -> Option<bool> {
 const COORDINATES: [(i64, i64); 3] = [(3, -4), (8_388_607, -8_388_607), (-8_388_607, 8_388_607)];
 
 #[test]
-fn questions(rt: HostRuntime) {
+fn points_turn_and_come_in_order(rt: HostRuntime) {
     all_questions::<Brand, _>(&rt, rt.alloc(), Blank::new(1));
 }
 

@@ -39,7 +39,7 @@ of the meetings of the widest lines | 0,0,562949819203592 140737454800898,140737
 of a point with itself | 7,8,3 7,8,3 | 14,16,6";
 
 #[test]
-fn given_by_parts(rt: HostRuntime) {
+fn rationals_are_those_of_their_parts(rt: HostRuntime) {
     all_rationals::<Brand, _>(&rt, Blank::new(1));
 }
 

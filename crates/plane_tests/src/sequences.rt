@@ -22,7 +22,7 @@ set 1 9 | 1 2 3 | 1 9 3
 remove_at 1 0 | 1 2 3 | 1 3";
 
 #[test]
-fn lists(rt: HostRuntime) {
+fn shared_lists_are_joined_split_and_changed(rt: HostRuntime) {
     all_lists::<Brand, _>(&rt, rt.alloc(), Blank::new(1));
 }
 

@@ -1,4 +1,4 @@
-use Rattle.std.proofs.Common.{[], sym, ◌∙◌, ap}
+use Rattle.std.proofs.Common.{sym, ◌∙◌, ap}
 use Rattle.shared_seq.proofs.Places.{beside_nil, removed}
 use Rattle.shared_seq.proofs.tree.+remove.Goals as goal
 
