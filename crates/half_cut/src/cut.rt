@@ -28,7 +28,7 @@ impl Region {
     /// What is left of the region where all that is right of the line from `a` to `b` is cut away. It has at most one corner more.
     pub fn cut<L: Ledger>(
         self,
-        _alloc: Global,
+        alloc: Global,
         a: &Pt,
         b: &Pt,
         steps: &mut Steps<L>,

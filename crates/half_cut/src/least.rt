@@ -27,6 +27,7 @@ pub(crate) fn least<L: Ledger>(corners: &VecDeque<Hom>, from: usize, steps: &mut
             return at;
         }
     }
+    // Not met, since each step goes down, and so no corner comes twice.
     least_of_all(corners, steps)
 }
 

@@ -28,8 +28,8 @@ pub(crate) enum Seen {
     Flat,
 }
 
-// The place of a corner that is right of the line from `a` to `b`. It goes toward the right from corner to corner, from this place
-// on. Where there is none, it keeps the place where it saw that.
+// The place of a corner that is right of the line from `a` to `b`. It goes toward the right from corner to corner, from the place
+// `near` on. Where there is none, `near` becomes the place where it saw that.
 pub(crate) fn seek<L: Ledger>(
     corners: &VecDeque<Hom>,
     lines: &VecDeque<Line>,
@@ -59,6 +59,7 @@ pub(crate) fn seek<L: Ledger>(
             Seen::Flat => break,
         }
     }
+    // One corner or two, since three or more lead there within a round.
     first_right(corners, a, b, steps)
 }
 
