@@ -4,13 +4,13 @@ use Rattle.std.proofs.Common.{length, get_or, below_more, arith}
 use Rattle.std.proofs.lemmas.Bool.{cases_lt}
 use Rattle.std.proofs.lemmas.Int.{ints}
 use Rattle.plane.specs.Point.{Point}
-use Rattle.cut_tri.specs.Cut.{IsFarthest, IsInCorner}
+use Rattle.cut_tri.specs.Cut.{IsFarthest, IsPlaceInCorner}
 use Rattle.cut_tri.specs.Corner.{IsFarther, IsFartherOf, IsFarthestBelow, candidate_at}
 use Rattle.cut_tri.specs.declared.farthest.Candidate.{Candidate}
 
 -- the best of the first n places, or none where none of their vertices is in the triangle
 pub record IsBestBelow (corners : List Point) (piece : List ℕ) (n : ℕ) (best : Option Candidate) : Type 0 where
-  pub none : best ≡ None → (j : ℕ) → j < n → ¬ (IsInCorner corners piece j)
+  pub none : best ≡ None → (j : ℕ) → j < n → ¬ (IsPlaceInCorner corners piece j)
   pub is_candidate : (b : Candidate) → best ≡ Some b → b ≡ candidate_at corners piece b.place
   pub farthest : (b : Candidate) → best ≡ Some b → IsFarthestBelow corners piece n b.place
 
@@ -20,29 +20,29 @@ not_farther_trans a b c h k l = grind (arith, ints)
 
 module _ (corners : List Point) (piece : List ℕ) (n : ℕ) (best : Option Candidate) (so_far : IsBestBelow corners piece n best) where
   -- a vertex that is not in the triangle changes nothing
-  pub best_past : ¬ (IsInCorner corners piece n) → IsBestBelow corners piece (n + 1) best
+  pub best_past : ¬ (IsPlaceInCorner corners piece n) → IsBestBelow corners piece (n + 1) best
   best_past out = record {
-    none = λ is. below_more (λ j. ¬ (IsInCorner corners piece j)) n (so_far.none is) out;
+    none = λ is. below_more (λ j. ¬ (IsPlaceInCorner corners piece j)) n (so_far.none is) out;
     is_candidate = so_far.is_candidate;
     farthest = λ b is.
         let far = so_far.farthest b is in
         record {
           in_corner = far.in_corner;
-          farthest = below_more (λ j. IsInCorner corners piece j → ¬ (IsFarther (candidate_at corners piece j) (candidate_at corners piece b.place))) n far.farthest
+          farthest = below_more (λ j. IsPlaceInCorner corners piece j → ¬ (IsFarther (candidate_at corners piece j) (candidate_at corners piece b.place))) n far.farthest
               (λ h. absurd (out h));
         };
   }
 
-  module _ (chosen : Candidate) (is : IsFartherOf best (candidate_at corners piece n) chosen) (here : IsInCorner corners piece n) where
+  module _ (chosen : Candidate) (is : IsFartherOf best (candidate_at corners piece n) chosen) (here : IsPlaceInCorner corners piece n) where
     -- the chosen one is a candidate, and in the triangle,
-    chosen_is : (chosen ≡ candidate_at corners piece chosen.place) × IsInCorner corners piece chosen.place
+    chosen_is : (chosen ≡ candidate_at corners piece chosen.place) × IsPlaceInCorner corners piece chosen.place
     chosen_is = elim is.one [
-      | inl e ↦ (e ∙ ap (candidate_at corners piece) (λ i. (sym e i).place), subst (λ (c : Candidate). IsInCorner corners piece c.place) (sym e) here)
+      | inl e ↦ (e ∙ ap (candidate_at corners piece) (λ i. (sym e i).place), subst (λ (c : Candidate). IsPlaceInCorner corners piece c.place) (sym e) here)
       | inr e ↦ (so_far.is_candidate chosen e, (so_far.farthest chosen e).in_corner)
     ]
 
     -- and none before is farther
-    none_farther : (o : Option Candidate) → best ≡ o → (j : ℕ) → j < n → IsInCorner corners piece j → ¬ (IsFarther (candidate_at corners piece j) chosen)
+    none_farther : (o : Option Candidate) → best ≡ o → (j : ℕ) → j < n → IsPlaceInCorner corners piece j → ¬ (IsFarther (candidate_at corners piece j) chosen)
     none_farther None e j below in_j = absurd (so_far.none e j below in_j)
     none_farther (Some b) e j below in_j =
         let known = subst (λ (c : Candidate). ¬ (IsFarther (candidate_at corners piece j) c)) (sym (so_far.is_candidate b e)) ((so_far.farthest b e).farthest j below in_j) in
@@ -55,7 +55,7 @@ module _ (corners : List Point) (piece : List ℕ) (n : ℕ) (best : Option Cand
       is_candidate = λ b e. subst (λ (c : Candidate). c ≡ candidate_at corners piece c.place) (some_is b e) chosen_is.0;
       farthest = λ b e. subst (λ (c : Candidate). IsFarthestBelow corners piece (n + 1) c.place) (some_is b e) (record {
         in_corner = chosen_is.1;
-        farthest = below_more (λ j. IsInCorner corners piece j → ¬ (IsFarther (candidate_at corners piece j) (candidate_at corners piece chosen.place))) n
+        farthest = below_more (λ j. IsPlaceInCorner corners piece j → ¬ (IsFarther (candidate_at corners piece j) (candidate_at corners piece chosen.place))) n
             (λ j below in_j. subst (λ (c : Candidate). ¬ (IsFarther (candidate_at corners piece j) c)) chosen_is.0 (none_farther best refl j below in_j))
             (λ in_n. subst (λ (c : Candidate). ¬ (IsFarther (candidate_at corners piece n) c)) chosen_is.0 is.candidate_not_farther);
       });
@@ -82,7 +82,7 @@ at_most a b h = grind (arith, ints)
 pub is_farthest : (corners : List Point) (piece : List ℕ) (place : ℕ) → IsFarthestBelow corners piece (length piece) place
     → IsFarthest corners piece place
 is_farthest corners piece place far =
-    let not_farther : (k : ℕ) → IsInCorner corners piece k → ¬ (IsFarther (candidate_at corners piece k) (candidate_at corners piece place)) =
+    let not_farther : (k : ℕ) → IsPlaceInCorner corners piece k → ¬ (IsFarther (candidate_at corners piece k) (candidate_at corners piece place)) =
     λ k in_k. far.farthest k (omega (arith, in_k.before_last)) in_k in
     record {
       in_corner = far.in_corner;

@@ -3,7 +3,7 @@ use Rattle.std.proofs.Common.{ℕ, ◌+◌, ◌-◌, ◌*◌, List, [], ◌∷�
 use Rattle.plane.specs.Point.{Point}
 use Rattle.meshes.specs.Fits.{Fits, FitsPiece}
 use Rattle.meshes.specs.declared.tri.Tri.{Tri}
-use Rattle.cut_tri.specs.Cut.{IsCut, IsCutInto}
+use Rattle.cut_tri.specs.Cut.{IsCutTriangulation, IsCutInto}
 use Rattle.cut_tri.specs.Piece.{IsPiece}
 
 -- each of them is a piece
@@ -14,7 +14,7 @@ ArePieces corners (piece ∷ pieces) = IsPiece corners piece × ArePieces corner
 -- the triangles that are done, and after them any that fit the pieces and into which those are cut, one piece after another, fit the
 -- ring and are those into which it is cut
 abbrev pub Completes : List Point → List Tri → List (List ℕ) → Type 0
-Completes corners done [] = Fits corners done × IsCut corners done
+Completes corners done [] = Fits corners done × IsCutTriangulation corners done
 Completes corners done (piece ∷ pieces) =
     (ts : List Tri) → FitsPiece corners piece ts → IsCutInto corners piece ts → Completes corners (done ++ ts) pieces
 

@@ -11,7 +11,7 @@ use Rattle.ring_laws.proofs.Simple.{InTriangle, height}
 use Rattle.meshes.proofs.Triangulations.{points_are}
 use Rattle.meshes.specs.Fits.{piece_points}
 use Rattle.cut_tri.proofs.Shapes.{ends_length, last_is, middle_is}
-use Rattle.cut_tri.specs.Cut.{IsInCorner}
+use Rattle.cut_tri.specs.Cut.{IsPlaceInCorner}
 use Rattle.cut_tri.specs.Corner.{candidate_at}
 use Rattle.cut_tri.specs.Piece.{IsLeastBelow}
 
@@ -27,7 +27,7 @@ module _ (corners : List Point) (v w : ℕ) (ms : List ℕ) (u : ℕ) where
   module _ (i : ℕ) (within : i < length ms) where
     -- a vertex in the triangle is in the corner
     pub in_corner_from : InTriangle (vertex corners u) (vertex corners v) (vertex corners w) (vertex corners (get_or ms i 0))
-        → IsInCorner corners (v ∷ w ∷ (ms ++ u ∷ [])) (i + 2)
+        → IsPlaceInCorner corners (v ∷ w ∷ (ms ++ u ∷ [])) (i + 2)
     in_corner_from h = record {
       after_second = omega arith;
       before_last = omega (arith, ends_length v w ms u);
@@ -36,7 +36,7 @@ module _ (corners : List Point) (v w : ℕ) (ms : List ℕ) (u : ℕ) where
     }
 
     -- and the other way round
-    pub in_triangle_from : IsInCorner corners (v ∷ w ∷ (ms ++ u ∷ [])) (i + 2)
+    pub in_triangle_from : IsPlaceInCorner corners (v ∷ w ∷ (ms ++ u ∷ [])) (i + 2)
         → InTriangle (vertex corners u) (vertex corners v) (vertex corners w) (vertex corners (get_or ms i 0))
     in_triangle_from h =
         subst (λ b. IsInTriangle (vertex corners u) (vertex corners v) (vertex corners w) (whole (vertex corners b))) (middle_is v w ms u i within)
@@ -47,7 +47,7 @@ module _ (corners : List Point) (v w : ℕ) (ms : List ℕ) (u : ℕ) where
     height_is = λ j. height (vertex corners (last_is v w ms u j)) (vertex corners w) (vertex corners (middle_is v w ms u i within j))
 
   -- where the corner is empty, so is the triangle
-  pub none_in_triangle : ((j : ℕ) → j < length (v ∷ w ∷ (ms ++ u ∷ [])) → ¬ (IsInCorner corners (v ∷ w ∷ (ms ++ u ∷ [])) j))
+  pub none_in_triangle : ((j : ℕ) → j < length (v ∷ w ∷ (ms ++ u ∷ [])) → ¬ (IsPlaceInCorner corners (v ∷ w ∷ (ms ++ u ∷ [])) j))
       → (p : Point) → HasPoint (piece_points corners ms) p → ¬ (InTriangle (vertex corners u) (vertex corners v) (vertex corners w) p)
   none_in_triangle none p has h =
       let (i, within, is) = place_of_point corners ms p has in

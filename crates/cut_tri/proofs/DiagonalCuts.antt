@@ -17,7 +17,7 @@ use Rattle.cut_tri.proofs.Shapes.{by_split, ends_length}
 use Rattle.cut_tri.specs.Cut.{IsCutInto}
 use Rattle.cut_tri.specs.Cut.IsCutInto.{parts}
 use Rattle.cut_tri.specs.Corner.{IsFarthestBelow, candidate_at}
-use Rattle.cut_tri.specs.Cutting.{AreParts}
+use Rattle.cut_tri.specs.Cutting.{AreDiagonalPieces}
 use Rattle.cut_tri.specs.Piece.{IsLeastBelow, IsPiece}
 
 -- ---- the farthest vertex, as a point
@@ -91,7 +91,7 @@ module _ (corners : List Point) (v w : ℕ) (cs : List ℕ) (z : ℕ) (ds : List
         (farthest_cut corners v w others u piece.polygon (none_before corners v w others u least) farthest_point at_z)
 
     -- and the piece in two pieces
-    are_parts : AreParts corners (both_parts v (w ∷ cs) z (ds ++ u ∷ [])) (first_part v (w ∷ cs) z) (second_part v z (ds ++ u ∷ []))
+    are_parts : AreDiagonalPieces corners (both_parts v (w ∷ cs) z (ds ++ u ∷ [])) (first_part v (w ∷ cs) z) (second_part v z (ds ++ u ∷ []))
     are_parts =
         let whole_piece = subst (IsPiece corners) regrouped piece in
         let polygon = whole_piece.polygon in
@@ -123,21 +123,21 @@ module _ (corners : List Point) where
   parts_at : (v w : ℕ) (cs : List ℕ) (z : ℕ) (ds : List ℕ) (u : ℕ) → IsPiece corners (v ∷ (w ∷ cs ++ z ∷ (ds ++ u ∷ [])))
       → IsLeastBelow corners (v ∷ (w ∷ cs ++ z ∷ (ds ++ u ∷ []))) (length (v ∷ (w ∷ cs ++ z ∷ (ds ++ u ∷ [])))) 0
       → IsFarthestBelow corners (v ∷ (w ∷ cs ++ z ∷ (ds ++ u ∷ []))) (length (v ∷ (w ∷ cs ++ z ∷ (ds ++ u ∷ [])))) (length cs + 2)
-      → AreParts corners (v ∷ (w ∷ cs ++ z ∷ (ds ++ u ∷ []))) (take (length cs + 2 + 1) (v ∷ (w ∷ cs ++ z ∷ (ds ++ u ∷ []))))
+      → AreDiagonalPieces corners (v ∷ (w ∷ cs ++ z ∷ (ds ++ u ∷ []))) (take (length cs + 2 + 1) (v ∷ (w ∷ cs ++ z ∷ (ds ++ u ∷ []))))
       (v ∷ drop (length cs + 2) (v ∷ (w ∷ cs ++ z ∷ (ds ++ u ∷ []))))
   parts_at v w cs z ds u piece least far =
       let xs = both_parts v (w ∷ cs) z (ds ++ u ∷ []) in
       let back = sym (regrouped corners v w cs z ds u) in
-      subst (λ ys. AreParts corners xs ys (v ∷ drop (length cs + 2) xs)) (sym (first_is corners v w cs z ds u))
-      (subst (λ ys. AreParts corners xs (first_part v (w ∷ cs) z) (v ∷ ys)) (sym (second_is corners v w cs z ds u))
+      subst (λ ys. AreDiagonalPieces corners xs ys (v ∷ drop (length cs + 2) xs)) (sym (first_is corners v w cs z ds u))
+      (subst (λ ys. AreDiagonalPieces corners xs (first_part v (w ∷ cs) z) (v ∷ ys)) (sym (second_is corners v w cs z ds u))
       (are_parts corners v w cs z ds u (subst (IsPiece corners) back piece)
       (subst (λ ys. IsLeastBelow corners ys (length ys) 0) back least)
       (subst (λ ys. IsFarthestBelow corners ys (length ys) (length cs + 2)) back far)))
 
   -- so it is at any place of a farthest vertex
   pub parts_cut : (xs : List ℕ) (place : ℕ) → IsPiece corners xs → IsLeastBelow corners xs (length xs) 0 → IsFarthestBelow corners xs (length xs) place
-      → AreParts corners xs (take (place + 1) xs) (get_or xs 0 0 ∷ drop place xs)
+      → AreDiagonalPieces corners xs (take (place + 1) xs) (get_or xs 0 0 ∷ drop place xs)
   parts_cut xs place piece least far =
       by_split (λ xs place. IsPiece corners xs → IsLeastBelow corners xs (length xs) 0 → IsFarthestBelow corners xs (length xs) place
-      → AreParts corners xs (take (place + 1) xs) (get_or xs 0 0 ∷ drop place xs))
+      → AreDiagonalPieces corners xs (take (place + 1) xs) (get_or xs 0 0 ∷ drop place xs))
       parts_at xs place far.in_corner.after_second far.in_corner.before_last piece least far

@@ -10,7 +10,7 @@ use Rattle.rings.specs.Ring.{vertex}
 use Rattle.rings.specs.Simple.{IsSimple}
 use Rattle.meshes.proofs.Sides.{length_points, piece_points_all, vertex_of_piece}
 use Rattle.meshes.specs.Fits.{piece_points}
-use Rattle.cut_tri.specs.Piece.{corner_at}
+use Rattle.cut_tri.specs.Piece.{piece_vertex}
 
 -- no two places of the piece have one point
 abbrev pub HasDistinctCorners : List Point → List ℕ → Type 0
@@ -23,14 +23,14 @@ all_distinct corners simple =
 
 -- the first point is one of the first k
 first_taken : (corners : List Point) (piece : List ℕ) (k : ℕ) → 0 < k → 0 < length piece
-    → HasPoint (piece_points corners (take k piece)) (corner_at corners piece 0)
+    → HasPoint (piece_points corners (take k piece)) (piece_vertex corners piece 0)
 first_taken corners [] k some more = absurd (omega arith)
 first_taken corners (v ∷ piece) zero some more = absurd (omega arith)
 first_taken corners (v ∷ piece) (suc k) some more = inl refl
 
 module _ (corners : List Point) (piece : List ℕ) (distinct : HasDistinctCorners corners piece) where
   -- a point of such a piece is at one place
-  pub at_one_place : (i j : ℕ) → i < length piece → j < length piece → corner_at corners piece i ≡ corner_at corners piece j → i ≡ j
+  pub at_one_place : (i j : ℕ) → i < length piece → j < length piece → piece_vertex corners piece i ≡ piece_vertex corners piece j → i ≡ j
   at_one_place i j within within_too same =
       one_to_one (vertex (piece_points corners piece)) (length piece)
       (λ i j less below. vertices_differ (piece_points corners piece) distinct i j less (omega (arith, below, length_points corners piece)))
@@ -60,7 +60,7 @@ module _ (corners : List Point) (piece : List ℕ) (distinct : HasDistinctCorner
     -- and of the others with the first place
     pub distinct_with_first : 0 < k → 0 < length piece → HasDistinctCorners corners (get_or piece 0 0 ∷ drop k piece)
     distinct_with_first some more = (
-      distinct_between (piece_points corners (take k piece)) (piece_points corners (drop k piece)) both_distinct (corner_at corners piece 0)
+      distinct_between (piece_points corners (take k piece)) (piece_points corners (drop k piece)) both_distinct (piece_vertex corners piece 0)
           (first_taken corners piece k some more),
       distinct_dropped,
     )

@@ -9,9 +9,9 @@ use Rattle.cut_tri.proofs.CornerPlaces.{none_before, none_in_triangle}
 use Rattle.cut_tri.proofs.Members.{members_of_numbers, numbers_of_members}
 use Rattle.cut_tri.proofs.Shapes.{by_ends, ends_length, first_tri_is}
 use Rattle.cut_tri.proofs.Readings.{read_from_first}
-use Rattle.cut_tri.specs.Cut.{IsInCorner}
+use Rattle.cut_tri.specs.Cut.{IsPlaceInCorner}
 use Rattle.cut_tri.specs.Cut.IsCutInto.{ear, triangle}
-use Rattle.cut_tri.specs.Cutting.{IsEar, IsTriangle}
+use Rattle.cut_tri.specs.Cutting.{IsEarCut, IsTriangle}
 use Rattle.cut_tri.specs.Piece.{IsLeastBelow, IsPiece, tri_at_first}
 
 -- ---- a piece of three vertices
@@ -39,9 +39,9 @@ module _ (corners : List Point) where
 
 module _ (corners : List Point) (v w : ℕ) (ms : List ℕ) (u : ℕ) (piece : IsPiece corners (v ∷ w ∷ (ms ++ u ∷ [])))
     (least : IsLeastBelow corners (v ∷ w ∷ (ms ++ u ∷ [])) (length (v ∷ w ∷ (ms ++ u ∷ []))) 0) (some : 0 < length ms)
-    (none : (j : ℕ) → j < length (v ∷ w ∷ (ms ++ u ∷ [])) → ¬ (IsInCorner corners (v ∷ w ∷ (ms ++ u ∷ [])) j)) where
+    (none : (j : ℕ) → j < length (v ∷ w ∷ (ms ++ u ∷ [])) → ¬ (IsPlaceInCorner corners (v ∷ w ∷ (ms ++ u ∷ [])) j)) where
   -- the triangle is one
-  is_ear : IsEar corners (v ∷ w ∷ (ms ++ u ∷ [])) (tri_at_first (v ∷ w ∷ (ms ++ u ∷ []))) (w ∷ (ms ++ u ∷ []))
+  is_ear : IsEarCut corners (v ∷ w ∷ (ms ++ u ∷ [])) (tri_at_first (v ∷ w ∷ (ms ++ u ∷ []))) (w ∷ (ms ++ u ∷ []))
   is_ear =
       let least_point = none_before corners v w ms u least in
       let none_in = none_in_triangle corners v w ms u none in
@@ -64,9 +64,9 @@ module _ (corners : List Point) (v w : ℕ) (ms : List ℕ) (u : ℕ) (piece : I
 module _ (corners : List Point) where
   -- the same of any piece of more than three vertices
   pub ear_cut : (xs : List ℕ) → IsPiece corners xs → IsLeastBelow corners xs (length xs) 0 → ¬ (length xs ≡ 3)
-      → ((j : ℕ) → j < length xs → ¬ (IsInCorner corners xs j)) → IsEar corners xs (tri_at_first xs) (remove xs 0)
+      → ((j : ℕ) → j < length xs → ¬ (IsPlaceInCorner corners xs j)) → IsEarCut corners xs (tri_at_first xs) (remove xs 0)
   ear_cut xs piece =
       by_ends (λ xs. IsPiece corners xs → IsLeastBelow corners xs (length xs) 0 → ¬ (length xs ≡ 3)
-      → ((j : ℕ) → j < length xs → ¬ (IsInCorner corners xs j)) → IsEar corners xs (tri_at_first xs) (remove xs 0))
+      → ((j : ℕ) → j < length xs → ¬ (IsPlaceInCorner corners xs j)) → IsEarCut corners xs (tri_at_first xs) (remove xs 0))
       (λ v w ms u piece least more none. is_ear corners v w ms u piece least (omega (arith, more, length-append ms (u ∷ []))) none)
       xs piece.polygon.some piece

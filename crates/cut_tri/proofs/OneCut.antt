@@ -4,7 +4,7 @@ use Rattle.plane.specs.Point.{Point}
 use Rattle.meshes.specs.declared.tri.Tri.{Tri}
 use Rattle.cut_tri.proofs.DistinctCorners.{HasDistinctCorners, all_distinct, distinct_dropped, distinct_taken, distinct_turned, distinct_with_first}
 use Rattle.cut_tri.proofs.OneReading.{one_farthest, one_reading}
-use Rattle.cut_tri.specs.Cut.{IsCutInto, IsFarthest, IsInCorner, IsReadFromLeast, OneCutLaw}
+use Rattle.cut_tri.specs.Cut.{IsCutInto, IsFarthest, IsPlaceInCorner, IsReadFromLeast, OneCutLaw}
 use Rattle.cut_tri.specs.Cut.IsCutInto.{ear, parts, triangle}
 use Rattle.cut_tri.specs.Piece.{tri_at_first}
 
@@ -24,7 +24,7 @@ as_triangle corners piece read other distinct is three (parts p read_too place f
 
 -- it is an ear too, and the rest is cut into one list
 as_ear : (corners : List Point) (piece read : List ℕ) (rest other : List Tri) → HasDistinctCorners corners piece
-    → IsReadFromLeast corners piece read → 3 < length read → ((k : ℕ) → ¬ IsInCorner corners read k)
+    → IsReadFromLeast corners piece read → 3 < length read → ((k : ℕ) → ¬ IsPlaceInCorner corners read k)
     → ((others : List Tri) → IsCutInto corners (drop 1 read) others → rest ≡ others) → IsCutInto corners piece other
     → tri_at_first read ∷ rest ≡ other
 as_ear corners piece read rest other distinct is more none one_rest (triangle p read_too is_too three) =
@@ -36,7 +36,7 @@ as_ear corners piece read rest other distinct is more none one_rest (ear p read_
     λ i. tri_at_first (same i) ∷ rest_same i
 as_ear corners piece read rest other distinct is more none one_rest (parts p read_too place first second is_too far cut cut_too) =
     let same = one_reading corners piece distinct read read_too is is_too in
-    absurd (none place (subst (λ xs. IsInCorner corners xs place) (sym same) far.in_corner))
+    absurd (none place (subst (λ xs. IsPlaceInCorner corners xs place) (sym same) far.in_corner))
 
 -- it makes two parts too, at the same place, and each is cut into one list
 as_parts : (corners : List Point) (piece read : List ℕ) (place : ℕ) (first second other : List Tri) → HasDistinctCorners corners piece
@@ -49,7 +49,7 @@ as_parts corners piece read place first second other distinct distinct_read is f
     absurd (omega (arith, same, three, far.in_corner.after_second, far.in_corner.before_last))
 as_parts corners piece read place first second other distinct distinct_read is far one_first one_second (ear p read_too rest is_too more none cut) =
     let same = one_reading corners piece distinct read read_too is is_too in
-    absurd (none place (subst (λ xs. IsInCorner corners xs place) same far.in_corner))
+    absurd (none place (subst (λ xs. IsPlaceInCorner corners xs place) same far.in_corner))
 as_parts corners piece read place first second other distinct distinct_read is far one_first one_second
     (parts p read_too place_too first_too second_too is_too far_too cut cut_too) =
     let same = one_reading corners piece distinct read read_too is is_too in

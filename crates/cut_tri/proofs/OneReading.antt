@@ -14,13 +14,13 @@ use Rattle.cut_tri.proofs.CornerPlaces.{place_of_point}
 use Rattle.cut_tri.proofs.DistinctCorners.{HasDistinctCorners, at_one_place}
 use Rattle.cut_tri.proofs.Readings.{first_turned}
 use Rattle.cut_tri.specs.Cut.{IsFarthest, IsReadFromLeast, height_at}
-use Rattle.cut_tri.specs.Piece.{corner_at}
+use Rattle.cut_tri.specs.Piece.{piece_vertex}
 
 -- ---- the least vertex
 
 module _ (corners : List Point) (piece : List ℕ) where
   -- the vertex at a place is a point of the piece
-  point_at : (k : ℕ) → k < length piece → HasPoint (piece_points corners piece) (corner_at corners piece k)
+  point_at : (k : ℕ) → k < length piece → HasPoint (piece_points corners piece) (piece_vertex corners piece k)
   point_at k within =
       subst (HasPoint (piece_points corners piece)) (get_or-map (λ i. vertex corners i) piece k 0 origin within)
       (has_number (piece_points corners piece) k origin (omega (arith, within, length_points corners piece)))
@@ -35,24 +35,24 @@ module _ (corners : List Point) (piece : List ℕ) where
 
   -- so none is before the vertex from which on it is read
   none_before_place : (read : List ℕ) (is : IsReadFromLeast corners piece read) (p : Point) → HasPoint (piece_points corners piece) p
-      → ¬ IsBefore p (corner_at corners piece is.place)
+      → ¬ IsBefore p (piece_vertex corners piece is.place)
   none_before_place read is p has earlier =
       let (k, within, at) = place_of_point corners read p
       (subst (λ xs. HasPoint (piece_points corners xs) p) (sym is.turned) (point_turned is.place p has)) in
       let first : get_or read 0 0 ≡ get_or piece is.place 0 = ap (λ xs. get_or xs 0 0) is.turned ∙ first_turned piece is.place is.within in
       is.least k within
-      (subst (λ (q : Point). IsBefore q (corner_at corners read 0)) (sym at) (subst (λ i. IsBefore p (vertex corners i)) (sym first) earlier))
+      (subst (λ (q : Point). IsBefore q (piece_vertex corners read 0)) (sym at) (subst (λ i. IsBefore p (vertex corners i)) (sym first) earlier))
 
   module _ (distinct : HasDistinctCorners corners piece) (read other : List ℕ) (is : IsReadFromLeast corners piece read)
       (is_too : IsReadFromLeast corners piece other) where
     -- two such vertices are at one place
     one_least : is.place ≡ is_too.place
-    one_least = go (compare_points (corner_at corners piece is.place) (corner_at corners piece is_too.place))
+    one_least = go (compare_points (piece_vertex corners piece is.place) (piece_vertex corners piece is_too.place))
       where
-        go : Comparison (corner_at corners piece is.place) (corner_at corners piece is_too.place) → is.place ≡ is_too.place
-        go (before h) = absurd (none_before_place other is_too (corner_at corners piece is.place) (point_at is.place is.within) h)
+        go : Comparison (piece_vertex corners piece is.place) (piece_vertex corners piece is_too.place) → is.place ≡ is_too.place
+        go (before h) = absurd (none_before_place other is_too (piece_vertex corners piece is.place) (point_at is.place is.within) h)
         go (equal e) = at_one_place corners piece distinct is.place is_too.place is.within is_too.within e
-        go (after h) = absurd (none_before_place read is (corner_at corners piece is_too.place) (point_at is_too.place is_too.within) h)
+        go (after h) = absurd (none_before_place read is (piece_vertex corners piece is_too.place) (point_at is_too.place is_too.within) h)
 
     -- so the piece is read in one way
     pub one_reading : read ≡ other

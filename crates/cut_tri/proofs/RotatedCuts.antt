@@ -12,7 +12,7 @@ use Rattle.exact_plane.specs.declared.memory.Memory.{Memory}
 use Rattle.cut_tri.proofs.Members.{members_back, is_piece_rotated}
 use Rattle.cut_tri.proofs.Readings.{cut_of_rotated, first_turned}
 use Rattle.cut_tri.specs.Cutting.{IsCutOf}
-use Rattle.cut_tri.specs.Piece.{IsLeastBelow, IsPiece, corner_at}
+use Rattle.cut_tri.specs.Piece.{IsLeastBelow, IsPiece, piece_vertex}
 use Rattle.cut_tri.specs.declared.cut.Remains.{Remains}
 use Rattle.cut_tri.specs.declared.cut.Remains.TheVariants.{Ear, Parts, Triangle}
 
@@ -60,5 +60,5 @@ module _ (corners : List Point) (xs : List ℕ) (k : ℕ) (is : IsPiece corners 
         let has = members_back corners (take k xs) (drop k xs) two_parts (get_or (drop k xs ++ take k xs) j 0) (Contains-get_or (drop k xs ++ take k xs) j 0 h) in
         let (i, below, same) = place_of xs _ (subst (λ ys. Contains ys (get_or (drop k xs ++ take k xs) j 0)) (take-append-drop k xs) has) in
         least i below
-        (subst (λ n. IsBefore (vertex corners n) (corner_at corners xs k)) (sym same)
-        (subst (λ n. IsBefore (corner_at corners (drop k xs ++ take k xs) j) (vertex corners n)) (first_turned xs k within) before))
+        (subst (λ n. IsBefore (vertex corners n) (piece_vertex corners xs k)) (sym same)
+        (subst (λ n. IsBefore (piece_vertex corners (drop k xs ++ take k xs) j) (vertex corners n)) (first_turned xs k within) before))

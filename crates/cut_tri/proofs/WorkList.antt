@@ -7,8 +7,8 @@ use Rattle.plane.specs.Point.{Point}
 use Rattle.meshes.specs.Fits.{Fits}
 use Rattle.meshes.specs.declared.tri.Tri.{Tri}
 use Rattle.cut_tri.proofs.Completion.{ArePieces, Completes, effort}
-use Rattle.cut_tri.specs.Cut.{IsCut}
-use Rattle.cut_tri.specs.Cutting.{AreParts, IsCutOf, IsEar, IsTriangle}
+use Rattle.cut_tri.specs.Cut.{IsCutTriangulation}
+use Rattle.cut_tri.specs.Cutting.{AreDiagonalPieces, IsCutOf, IsEarCut, IsTriangle}
 use Rattle.cut_tri.specs.Piece.{IsPiece}
 use Rattle.cut_tri.specs.WorkList.{IsTakenOver, last_first}
 use Rattle.cut_tri.specs.declared.cut.Remains.{Remains}
@@ -37,7 +37,7 @@ module _ (corners : List Point) (piece : List ℕ) (pieces : List (List ℕ)) (d
   }
 
   -- a triangle is cut off
-  with_ear : (tri : Tri) (rest : List ℕ) → IsEar corners piece tri rest → IsNearer corners (effort (piece ∷ pieces)) (done ++ tri ∷ []) (rest ∷ pieces)
+  with_ear : (tri : Tri) (rest : List ℕ) → IsEarCut corners piece tri rest → IsNearer corners (effort (piece ∷ pieces)) (done ++ tri ∷ []) (rest ∷ pieces)
   with_ear tri rest is = record {
     are_pieces = (is.rest_is_piece, are_pieces);
     completes = λ ts fit cut.
@@ -46,7 +46,7 @@ module _ (corners : List Point) (piece : List ℕ) (pieces : List (List ℕ)) (d
   }
 
   -- the piece is cut in two
-  with_parts : (first second : List ℕ) → AreParts corners piece first second → IsNearer corners (effort (piece ∷ pieces)) done (first ∷ second ∷ pieces)
+  with_parts : (first second : List ℕ) → AreDiagonalPieces corners piece first second → IsNearer corners (effort (piece ∷ pieces)) done (first ∷ second ∷ pieces)
   with_parts first second are = record {
     are_pieces = (are.first_is_piece, (are.second_is_piece, are_pieces));
     completes = λ ts fit cut us fit_too cut_too.
@@ -101,6 +101,6 @@ module _ (corners : List Point) where
 
   -- in the end the triangles fit, as many as there are vertices but two, and are those into which the ring is cut
   pub at_end : (work : List (Vec ℕ Global)) (done : List Tri) → length work ≡ 0 → Completes corners done (last_first work)
-      → Fits corners done × (length done + 2 ≡ length corners) × IsCut corners done
+      → Fits corners done × (length done + 2 ≡ length corners) × IsCutTriangulation corners done
   at_end [] done none (fits, cut) = (fits, fits.count ∙ length-range_with_len 0 (length corners), cut)
   at_end (v ∷ work) done none completes = absurd (omega arith)

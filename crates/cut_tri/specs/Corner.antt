@@ -1,7 +1,7 @@
 -- The farthest of the vertices in the triangle at the first vertex of a piece. No public clause cites this module.
 use Rattle.std.specs.Prelude.{◌≡◌, ◌⊎◌, ℕ, ◌<◌, ◌<ℤ◌, Option, Some, List, slice_index_or}
 use Rattle.plane.specs.Point.{Point}
-use Rattle.cut_tri.specs.Cut.{IsInCorner, height_at}
+use Rattle.cut_tri.specs.Cut.{IsPlaceInCorner, height_at}
 use Rattle.cut_tri.specs.declared.farthest.Candidate.{Candidate}
 
 -- the vertex at place k, with its height over the line through the last and the second vertex
@@ -24,5 +24,5 @@ pub record IsFartherOf (best : Option Candidate) (candidate chosen : Candidate) 
 
 -- of the vertices in the triangle, at the first n places, none is farther than the one at this place
 pub record IsFarthestBelow (corners : List Point) (piece : List ℕ) (n place : ℕ) : Type 0 where
-  pub in_corner : IsInCorner corners piece place
-  pub farthest : (j : ℕ) → j < n → IsInCorner corners piece j → ¬ (IsFarther (candidate_at corners piece j) (candidate_at corners piece place))
+  pub in_corner : IsPlaceInCorner corners piece place
+  pub farthest : (j : ℕ) → j < n → IsPlaceInCorner corners piece j → ¬ (IsFarther (candidate_at corners piece j) (candidate_at corners piece place))

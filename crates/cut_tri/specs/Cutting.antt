@@ -15,14 +15,14 @@ pub record IsTriangle (corners : List Point) (piece : List ℕ) (tri : Tri) : Ty
   pub cut : IsCutInto corners piece (tri ∷ [])
 
 -- a triangle and a piece with one vertex less
-pub record IsEar (corners : List Point) (piece : List ℕ) (tri : Tri) (rest : List ℕ) : Type 0 where
+pub record IsEarCut (corners : List Point) (piece : List ℕ) (tri : Tri) (rest : List ℕ) : Type 0 where
   pub rest_is_piece : IsPiece corners rest
   pub shorter : length rest + 1 ≡ length piece
   pub fits : (ts : List Tri) → FitsPiece corners rest ts → FitsPiece corners piece (tri ∷ ts)
   pub cut : (ts : List Tri) → IsCutInto corners rest ts → IsCutInto corners piece (tri ∷ ts)
 
 -- two pieces, which have the ends of the diagonal twice
-pub record AreParts (corners : List Point) (piece first second : List ℕ) : Type 0 where
+pub record AreDiagonalPieces (corners : List Point) (piece first second : List ℕ) : Type 0 where
   pub first_is_piece : IsPiece corners first
   pub second_is_piece : IsPiece corners second
   pub lengths : length first + length second ≡ length piece + 2
@@ -32,5 +32,5 @@ pub record AreParts (corners : List Point) (piece first second : List ℕ) : Typ
 -- what is left of the piece
 abbrev pub IsCutOf : List Point → List ℕ → Remains → Type 0
 IsCutOf corners piece (Triangle tri) = IsTriangle corners piece tri
-IsCutOf corners piece (Ear tri rest) = IsEar corners piece tri rest.items
-IsCutOf corners piece (Parts first second) = AreParts corners piece first.items second.items
+IsCutOf corners piece (Ear tri rest) = IsEarCut corners piece tri rest.items
+IsCutOf corners piece (Parts first second) = AreDiagonalPieces corners piece first.items second.items

@@ -16,13 +16,13 @@ pub record IsPiece (corners : List Point) (piece : List ℕ) : Type 0 where
   pub numbers : HasNumbers corners piece
 
 -- the vertex at place k
-abbrev pub corner_at : List Point → List ℕ → ℕ → Point
-corner_at corners piece k = vertex corners (slice_index_or piece k 0)
+abbrev pub piece_vertex : List Point → List ℕ → ℕ → Point
+piece_vertex corners piece k = vertex corners (slice_index_or piece k 0)
 
 -- no vertex at the first n places comes before the one at this place, by x first and then by y
 abbrev pub IsLeastBelow : List Point → List ℕ → ℕ → ℕ → Type 0
 IsLeastBelow corners piece n place =
-    (k : ℕ) → k < n → ¬ (IsBefore (corner_at corners piece k) (corner_at corners piece place))
+    (k : ℕ) → k < n → ¬ (IsBefore (piece_vertex corners piece k) (piece_vertex corners piece place))
 
 -- the triangle of the first vertex and the two beside it
 abbrev pub tri_at_first : List ℕ → Tri

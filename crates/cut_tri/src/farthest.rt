@@ -4,7 +4,7 @@ ghost use Rattle.plane.specs.Point.{whole};
 ghost use Rattle.plane.specs.Triangle.{IsInTriangle, height_over};
 ghost use Rattle.plane.specs.Turn.{IsRight, determinant};
 ghost use Rattle.rings.specs.Ring.{vertex};
-ghost use Rattle.cut_tri.specs.Cut.{IsInCorner};
+ghost use Rattle.cut_tri.specs.Cut.{IsPlaceInCorner};
 ghost use Rattle.cut_tri.specs.Corner.{IsFarther, IsFartherOf, IsFarthestBelow};
 ghost use Rattle.cut_tri.specs.Piece.{HasNumbers};
 
@@ -43,7 +43,7 @@ pub(crate) fn farthest<L: Ledger>(ring: &Ring, piece: &[u32], steps: &mut Steps<
     requires some { 3 ≤ length piece.now }
     requires numbers { HasNumbers ring.now.corners piece.now }
     ensures farthest { IfSome result (IsFarthestBelow ring.now.corners piece.now (length piece.now)) }
-    ensures none { IfNone result ((j : ℕ) → j < length piece.now → ¬ (IsInCorner ring.now.corners piece.now j)) }
+    ensures none { IfNone result ((j : ℕ) → j < length piece.now → ¬ (IsPlaceInCorner ring.now.corners piece.now j)) }
 {
     let corner = Corner {
         u: ring.corner(piece[piece.len() - 1]),

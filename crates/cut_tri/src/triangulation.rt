@@ -1,7 +1,7 @@
 ghost use Rattle.std.specs.List.{range_with_len};
 ghost use Rattle.std.specs.Prelude.{◌≡◌, IfOk, OnOk, length};
 ghost use Rattle.meshes.specs.Fits.{Fits};
-ghost use Rattle.cut_tri.specs.Cut.{IsCut};
+ghost use Rattle.cut_tri.specs.Cut.{IsCutTriangulation};
 ghost use Rattle.cut_tri.specs.WorkList.{IsTakenOver, last_first};
 
 use crate::cut::{Remains, cut};
@@ -20,7 +20,7 @@ pub fn triangulate<L: Ledger>(
     steps: &mut Steps<L>,
 ) -> Result<Mesh, Memory>
     ensures fits { IfOk result (Fits ring.now.corners) }
-    ensures cut { IfOk result (IsCut ring.now.corners) }
+    ensures cut { IfOk result (IsCutTriangulation ring.now.corners) }
 {
     let mut tris = Vec::with_capacity(alloc, ring.len() as usize - 2)?;
     let mut work = Vec::new(alloc);

@@ -9,7 +9,7 @@ use Rattle.meshes.specs.declared.tri.Tri.{Tri}
 use Rattle.tri_mesh.proofs.Neighbours.{has_side_numbered}
 use Rattle.tri_mesh.specs.Outward.{IsOutward, outward_at}
 use Rattle.tri_mesh.specs.declared.outward.Outward.{Outward}
-use Rattle.dual_tree.specs.Ways.{IsNearer}
+use Rattle.dual_tree.specs.Ways.{IsApproachStep}
 use Rattle.dual_tree.specs.declared.walk.Way.{Way}
 
 -- the triangle at a place
@@ -146,7 +146,7 @@ module _ (tris : List Tri) (home : ℕ) (order : List Outward) (o : IsOutward tr
         }
 
     -- that is, where they come nearer,
-    pub ways_nearer : (front back new_front new_back : Way) → IsNearer order front back new_front new_back
+    pub ways_nearer : (front back new_front new_back : Way) → IsApproachStep order front back new_front new_back
         → AreWays tris order from to front.place (reverse front.left.items) back.place (reverse back.left.items)
         → AreWays tris order from to new_front.place (reverse new_front.left.items) new_back.place (reverse new_back.left.items)
     ways_nearer front back new_front new_back (inl nearer) ways =

@@ -15,7 +15,7 @@ pub record HasStayed (before after : Way) : Type 0 where
   pub left : after.left.items ≡ before.left.items
 
 -- the way whose place is greater has gone on, and the other has stayed
-abbrev pub IsNearer : List Outward → Way → Way → Way → Way → Type 0
-IsNearer order front back new_front new_back =
+abbrev pub IsApproachStep : List Outward → Way → Way → Way → Way → Type 0
+IsApproachStep order front back new_front new_back =
     ((back.place < front.place) × HasGoneOn order front new_front × HasStayed back new_back)
     ⊎ ((front.place < back.place) × HasGoneOn order back new_back × HasStayed front new_front)

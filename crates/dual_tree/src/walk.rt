@@ -1,7 +1,7 @@
 ghost use Rattle.std.specs.Prelude.{◌≡◌, ◌+◌, ◌<◌, ◌++◌, ◌∷◌, [], IfOk, OnOk, length, reverse};
 ghost use Rattle.meshes.specs.Side.{IsWalkBetween};
 ghost use Rattle.tri_mesh.specs.Outward.{outward_at};
-ghost use Rattle.dual_tree.specs.Ways.{HasGoneOn, IsNearer};
+ghost use Rattle.dual_tree.specs.Ways.{HasGoneOn, IsApproachStep};
 
 use exact_plane::Memory;
 use std::alloc::Global;
@@ -43,7 +43,7 @@ fn approach(front: &mut Way, back: &mut Way, order: &[Outward]) -> Result<(), Me
     requires front { front.old.place < length order.now }
     requires back { back.old.place < length order.now }
     requires different { ¬ (front.old.place ≡ back.old.place) }
-    ensures { OnOk result (IsNearer order.now front.old back.old front.new back.new) }
+    ensures { OnOk result (IsApproachStep order.now front.old back.old front.new back.new) }
 {
     if front.place > back.place {
         front.go_on(order)

@@ -4,8 +4,8 @@ use Rattle.std.specs.Prelude.{◌≡◌, List, [], ◌∷◌, ℤ, pos, ◌<ℤ�
 
 module _ {A : Type 0} (f : A → A → ℤ) where
   -- u is left of a, and not left of b: where b is left of a, it is in the angle from a to b, with b and without a
-  abbrev pub IsSwept : A → A → A → Type 0
-  IsSwept a b u = (pos 0 <ℤ f a u) × (f b u ≤ℤ pos 0)
+  abbrev pub IsInSector : A → A → A → Type 0
+  IsInSector a b u = (pos 0 <ℤ f a u) × (f b u ≤ℤ pos 0)
 
   -- strictly inside the angle
   abbrev pub IsSweptInside : A → A → A → Type 0
@@ -25,7 +25,7 @@ module _ {A : Type 0} (f : A → A → ℤ) where
     -- a step of a fan: to the left by less than a half turn, over no neighbour
     pub record IsFanStep (a b : A) : Type 0 where
       pub ahead : pos 0 <ℤ f a b
-      pub none : (u : A) → N u → ¬ IsSwept a b u
+      pub none : (u : A) → N u → ¬ IsInSector a b u
 
     -- the last step may end at a neighbour
     pub record IsLastStep (a b : A) : Type 0 where

@@ -14,7 +14,7 @@ pub record IsAhead (chain : List Point) (k : ℕ) (last v : Point) : Type 0 wher
   pub differ : ¬ (v ≡ last)
 
 -- v is a vertex strictly between the points at place k and the next, and not behind the last point
-pub record IsPassed (corners chain : List Point) (k : ℕ) (last v : Point) : Type 0 where
+pub record IsVertexAhead (corners chain : List Point) (k : ℕ) (last v : Point) : Type 0 where
   pub more : k + 1 < length chain
   pub between : IsVertexBetween corners (point_at chain k) (point_at chain (k + 1)) v
   pub on : On (whole v) (whole (point_at chain k)) (whole last)
@@ -25,7 +25,7 @@ IsEndAt from to m x = (x ≡ from m) ⊎ (x ≡ to m)
 
 -- where the chain goes on: the last point is on the way, the sides from a place on matter to it, which is at most j, and none of those
 -- before place i has an end ahead
-pub record IsOpen (corners : List Point) (from to start : ℕ → ℕ) (chain : List Point) (i j k : ℕ) (last : Point) : Type 0 where
+pub record IsSearchOpen (corners : List Point) (from to start : ℕ → ℕ) (chain : List Point) (i j k : ℕ) (last : Point) : Type 0 where
   pub on : On (whole last) (whole (point_at chain k)) (whole (point_at chain (k + 1)))
   pub not_next : ¬ (last ≡ point_at chain (k + 1))
   pub soon : start k ≤ j
@@ -39,8 +39,8 @@ pub record HasCome (corners : List Point) (from to start : ℕ → ℕ) (chain :
   pub full : IsFull corners (take (k + 1) chain) before
   pub parts : found ≡ before ++ since
   pub ordered : AreInOrder (point_at chain k) since
-  pub passed : (v : Point) → Has since v ↔ IsPassed corners chain k last v
-  pub goes_on : k + 1 < length chain → IsOpen corners from to start chain i j k last
+  pub passed : (v : Point) → Has since v ↔ IsVertexAhead corners chain k last v
+  pub goes_on : k + 1 < length chain → IsSearchOpen corners from to start chain i j k last
   pub at_end : length chain ≤ k + 1 → last ≡ point_at chain k
 
 -- a point was looked at: ahead, it is the last one now and is found, and the place is the next one where it is there; else nothing changed

@@ -4,17 +4,17 @@ use Rattle.std.proofs.lemmas.List.{get_or-take, length-take}
 use Rattle.std.specs.Ordering.{ord_min, nat_cmp}
 use Rattle.std.specs.Prelude.{take}
 use Rattle.plane.specs.Point.{Point}
-use Rattle.geo_c.specs.Many.{Buffers, asked_pairs, pairs_of}
+use Rattle.geo_c.specs.Many.{Buffers, asked_pairs, point_pairs_of}
 use Rattle.geo_c.proofs.Filling.{least_is, least_of}
 
-pub length_pairs : (ends : List Point) → length (pairs_of ends) ≡ length ends / 2
+pub length_pairs : (ends : List Point) → length (point_pairs_of ends) ≡ length ends / 2
 length_pairs [] = refl
 length_pairs (s ∷ []) = refl
 length_pairs (s ∷ t ∷ rest) = omega (arith, length_pairs rest)
 
 -- pair k by its two points
 pub pair_at : (ends : List Point) (k : ℕ) (s t : Point) → k < length ends / 2 → s ≡ slice_index_or ends (2 * k) s → t ≡ slice_index_or ends (2 * k + 1) t
-    → (s, t) ≡ slice_index_or (pairs_of ends) k (s, t)
+    → (s, t) ≡ slice_index_or (point_pairs_of ends) k (s, t)
 pair_at [] k s t few is_s is_t = let no : ⊥ = omega (arith, few) in absurd no
 pair_at (a ∷ []) k s t few is_s is_t = let no : ⊥ = omega (arith, few) in absurd no
 pair_at (a ∷ b ∷ rest) zero s t few is_s is_t = ap₂ (λ (x y : Point). (x, y)) is_s is_t
@@ -28,15 +28,15 @@ pub asked_at : (ends : List Point) (before : Buffers) (k : ℕ) (s t : Point) �
     → s ≡ slice_index_or ends (2 * k) s → t ≡ slice_index_or ends (2 * k + 1) t → (s, t) ≡ slice_index_or (asked_pairs ends before) k (s, t)
 asked_at ends before k s t few fits fits' is_s is_t =
     pair_at ends k s t few is_s is_t
-    ∙ sym (get_or-take (length before.statuses) (take (length before.lengths) (pairs_of ends)) k (s, t) fits ∙ get_or-take (length before.lengths) (pairs_of ends) k (s, t) fits')
+    ∙ sym (get_or-take (length before.statuses) (take (length before.lengths) (point_pairs_of ends)) k (s, t) fits ∙ get_or-take (length before.lengths) (point_pairs_of ends) k (s, t) fits')
 
 -- and how many they are
 pub length_asked : (ends : List Point) (before : Buffers) (m n : ℕ) → m ≡ ord_min nat_cmp (length before.statuses) (length before.lengths)
     → n ≡ ord_min nat_cmp (length ends / 2) m → length (asked_pairs ends before) ≡ n
 length_asked ends before m n is_m is_n =
     let all = length_pairs ends in
-    let outer = length-take (length before.statuses) (take (length before.lengths) (pairs_of ends)) in
-    let inner = length-take (length before.lengths) (pairs_of ends) in
+    let outer = length-take (length before.statuses) (take (length before.lengths) (point_pairs_of ends)) in
+    let inner = length-take (length before.lengths) (point_pairs_of ends) in
     let below_m = least_of (length before.statuses) (length before.lengths) m is_m in
     let below_n = least_of (length ends / 2) m n is_n in
     elim (least_is (length before.statuses) (length before.lengths) m is_m) [

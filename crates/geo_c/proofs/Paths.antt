@@ -14,7 +14,7 @@ use Rattle.geo_script.specs.Dialog.{Talk}
 use Rattle.geo_c.specs.Filled.{filled_by}
 use Rattle.geo_c.specs.Many.{ArePathsTold, Buffers, IsPathFound, path_length, path_points, path_status}
 use Rattle.geo_c.specs.Room.{IsPathPut}
-use Rattle.geo_c.specs.Told.{Tells}
+use Rattle.geo_c.specs.Told.{TellsResult}
 use Rattle.geo_c.specs.declared.status.TheConstants.{MEMORY, OK}
 use Rattle.geo_c.proofs.Behind.{all_zip_more, length_filled, none_filled, one_mapped, some_behind}
 
@@ -75,7 +75,7 @@ room_left talk pairs k used before now rest so_far is =
 -- one more has its path
 one_path_at : (talk talk' : Talk) (pairs : List (Point × Point)) (before now : Buffers) (k used : ℕ) (ends : Point × Point) (told : ℕ × ℕ) (rest rest' : List Point)
     → k < length before.statuses → k < length before.lengths → k < length pairs → ends ≡ slice_index_or pairs k ends → talk' ≡ talk
-    → AreToldSoFar talk pairs k used before now → rest ≡ drop used now.points → Tells (IsPathFound talk' ends) (IsPathPut (Some told) rest rest')
+    → AreToldSoFar talk pairs k used before now → rest ≡ drop used now.points → TellsResult (IsPathFound talk' ends) (IsPathPut (Some told) rest rest')
     → AreToldSoFar talk pairs (k + 1) (used + told.1) before
     (record { points = take used now.points ++ rest'; statuses = slice_set now.statuses k told.0; lengths = slice_set now.lengths k told.1 })
 one_path_at talk talk' pairs before now k used ends told rest rest' fits fits' few is same so_far is_rest one =
@@ -130,7 +130,7 @@ still_told_at talk pairs before now k used rest rest' so_far is same =
 -- the next one has no room
 no_room_at : (talk talk' : Talk) (pairs : List (Point × Point)) (before now : Buffers) (k used : ℕ) (ends : Point × Point) (rest rest' : List Point)
     → k < length pairs → ends ≡ slice_index_or pairs k ends → talk' ≡ talk → AreToldSoFar talk pairs k used before now → rest ≡ drop used now.points
-    → Tells (IsPathFound talk' ends) (IsPathPut None rest rest')
+    → TellsResult (IsPathFound talk' ends) (IsPathPut None rest rest')
     → ArePathsTold talk pairs OK k before (record { points = take used now.points ++ rest'; statuses = now.statuses; lengths = now.lengths })
 no_room_at talk talk' pairs before now k used ends rest rest' few is same so_far is_rest one =
     let all = so_far.told in
@@ -173,7 +173,7 @@ all_paths talk pairs before now k used ended so_far =
 -- the same three in the words of the code
 pub one_path : (talk talk' : Talk) (pairs : List (Point × Point)) (before now : Buffers) (k used : ℕ) (ends : Point × Point) (told : ℕ × ℕ) (rest' : List Point)
     → k < length before.statuses → k < length before.lengths → k < length pairs → ends ≡ slice_index_or pairs k ends → talk' ≡ talk
-    → AreToldSoFar talk pairs k used before now → Tells (IsPathFound talk' ends) (IsPathPut (Some told) (rest_of used now.points) rest')
+    → AreToldSoFar talk pairs k used before now → TellsResult (IsPathFound talk' ends) (IsPathPut (Some told) (rest_of used now.points) rest')
     → AreToldSoFar talk pairs (k + 1) (used + told.1) before
     (record { points = with_rest used now.points rest'; statuses = slice_set now.statuses k told.0; lengths = slice_set now.lengths k told.1 })
 one_path talk talk' pairs before now k used ends told rest' fits fits' few is same so_far one =
@@ -190,7 +190,7 @@ still_told talk pairs before now k used rest' so_far same =
 
 pub no_room : (talk talk' : Talk) (pairs : List (Point × Point)) (before now : Buffers) (k used : ℕ) (ends : Point × Point) (rest' : List Point)
     → k < length pairs → ends ≡ slice_index_or pairs k ends → talk' ≡ talk → AreToldSoFar talk pairs k used before now
-    → Tells (IsPathFound talk' ends) (IsPathPut None (rest_of used now.points) rest')
+    → TellsResult (IsPathFound talk' ends) (IsPathPut None (rest_of used now.points) rest')
     → ArePathsTold talk pairs OK k before (record { points = with_rest used now.points rest'; statuses = now.statuses; lengths = now.lengths })
 no_room talk talk' pairs before now k used ends rest' few is same so_far one =
     subst (λ (ps : List Point). ArePathsTold talk pairs OK k before (record { points = ps; statuses = now.statuses; lengths = now.lengths }))

@@ -6,7 +6,7 @@ use Rattle.std.specs.Prelude.{take}
 use Rattle.plane.specs.Point.{Point}
 use Rattle.geo_script.specs.Dialog.{Talk}
 use Rattle.geo_c.specs.Many.{ArePlacesTold, IsPlaceFound, place_number}
-use Rattle.geo_c.specs.Told.{Tells}
+use Rattle.geo_c.specs.Told.{TellsResult}
 use Rattle.geo_c.proofs.Behind.{all_zip_length, all_zip_more, none_filled, one_mapped}
 use Rattle.geo_c.proofs.Filling.{least_is, least_of}
 
@@ -17,7 +17,7 @@ no_places talk points before = record { founds = []; hold = tt; told = none_fill
 -- one more has its place
 pub one_place : (talk talk' : Talk) (points : List Point) (before now : List ℕ) (i : ℕ) (p : Point) (place : ℕ) → i < length points → i < length before
     → p ≡ slice_index_or points i p → talk' ≡ talk → ArePlacesTold talk (take i points) before now
-    → Tells (IsPlaceFound talk' p) (λ found. place ≡ place_number found) → ArePlacesTold talk (take (i + 1) points) before (slice_set now i place)
+    → TellsResult (IsPlaceFound talk' p) (λ found. place ≡ place_number found) → ArePlacesTold talk (take (i + 1) points) before (slice_set now i place)
 one_place talk talk' points before now i p place few fits is same all one =
     let holds : IsPlaceFound talk p one.found = subst (λ t. IsPlaceFound t p one.found) same one.holds in
     let many : length all.founds ≡ i = omega (arith, all_zip_length (IsPlaceFound talk) (take i points) all.founds all.hold, length-take i points, few) in

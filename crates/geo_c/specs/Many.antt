@@ -35,10 +35,10 @@ pub record ArePlacesTold (talk : Talk) (points : List Point) (before after : Lis
 -- ---- the paths between pairs of points
 
 -- two points, one after the other, are a pair; a last one that is alone is in none
-abbrev pub pairs_of : List Point → List (Point × Point)
-pairs_of [] = []
-pairs_of (s ∷ []) = []
-pairs_of (s ∷ t ∷ rest) = (s, t) ∷ pairs_of rest
+abbrev pub point_pairs_of : List Point → List (Point × Point)
+point_pairs_of [] = []
+point_pairs_of (s ∷ []) = []
+point_pairs_of (s ∷ t ∷ rest) = (s, t) ∷ point_pairs_of rest
 
 -- what is told of the path between the points of a pair, or the refusal
 abbrev pub IsPathFound : Talk → Point × Point → Result (Vec Point Global) Bad → Type 0
@@ -65,7 +65,7 @@ pub record Buffers : Type 0 where
 
 -- the pairs that have room for a status and a count
 abbrev pub asked_pairs : List Point → Buffers → List (Point × Point)
-asked_pairs ends before = take (length before.statuses) (take (length before.lengths) (pairs_of ends))
+asked_pairs ends before = take (length before.statuses) (take (length before.lengths) (point_pairs_of ends))
 
 -- the first of these pairs has a path with more points than there is room for
 pub record IsTooLong (talk : Talk) (pairs : List (Point × Point)) (room : ℕ) : Type 0 where

@@ -15,7 +15,7 @@ use Rattle.geo_c.specs.Status.{place_of, status_of}
 use Rattle.geo_c.specs.declared.status.TheConstants.{OK}
 
 -- an answer of which this holds is given back like that
-pub record Tells {T : Type 0} (Holds : Result T Bad → Type 0) (IsGiven : Result T Bad → Type 0) : Type 0 where
+pub record TellsResult {T : Type 0} (Holds : Result T Bad → Type 0) (IsGiven : Result T Bad → Type 0) : Type 0 where
   pub found : Result T Bad
   pub holds : Holds found
   pub given : IsGiven found
@@ -32,12 +32,12 @@ ArePointsGiven status needed needed' before after (Err bad) = (status ≡ status
 
 -- where a point lies in the polygon of a talk is given back like that
 abbrev pub TellsPlace : Talk → Point → (Result Position Bad → Type 0) → Type 0
-TellsPlace talk p IsGiven = Tells (IsAskedWithin talk.state.version (p.x ∷ p.y ∷ []) (IsFound talk.state (command.Inside p) reply.Place)) IsGiven
+TellsPlace talk p IsGiven = TellsResult (IsAskedWithin talk.state.version (p.x ∷ p.y ∷ []) (IsFound talk.state (command.Inside p) reply.Place)) IsGiven
 
 -- so is the path from one point to another
-abbrev pub TellsPath : Talk → Point → Point → (Result (Vec Point Global) Bad → Type 0) → Type 0
-TellsPath talk s t IsGiven = Tells (IsAskedWithin talk.state.version (s.x ∷ s.y ∷ t.x ∷ t.y ∷ []) (IsFound talk.state (command.Path s t) path_of)) IsGiven
+abbrev pub TellsPathResult : Talk → Point → Point → (Result (Vec Point Global) Bad → Type 0) → Type 0
+TellsPathResult talk s t IsGiven = TellsResult (IsAskedWithin talk.state.version (s.x ∷ s.y ∷ t.x ∷ t.y ∷ []) (IsFound talk.state (command.Path s t) path_of)) IsGiven
 
 -- and the path from the source of the tree to a point
 abbrev pub TellsReach : Talk → Point → (Result (Vec Point Global) Bad → Type 0) → Type 0
-TellsReach talk t IsGiven = Tells (IsAskedWithin talk.state.version (t.x ∷ t.y ∷ []) (IsFound talk.state (command.Reach t) path_of)) IsGiven
+TellsReach talk t IsGiven = TellsResult (IsAskedWithin talk.state.version (t.x ∷ t.y ∷ []) (IsFound talk.state (command.Reach t) path_of)) IsGiven

@@ -4,7 +4,7 @@ ghost use Rattle.plane.specs.declared.limits.TheConstants.{MAX_CORNERS};
 ghost use Rattle.geo_c.specs.Held.{talk_of};
 ghost use Rattle.geo_c.specs.Many.{ArePathsTold, ArePlacesTold, Buffers, IsPathFound, IsPlaceFound, asked_pairs, place_number};
 ghost use Rattle.geo_c.specs.Room.{IsPathPut};
-ghost use Rattle.geo_c.specs.Told.{Tells};
+ghost use Rattle.geo_c.specs.Told.{TellsResult};
 ghost use Rattle.geo_c.specs.declared.status.TheConstants.{MEMORY, OK};
 
 use crate::fill::fill_points;
@@ -59,7 +59,7 @@ fn tell_place<L: Ledger>(
     point: &GeoPoint,
     steps: &mut Steps<L>,
 ) -> u8
-    ensures place { Tells (IsPlaceFound (talk_of session.old.held) point.now) (λ found. result ≡ place_number found) }
+    ensures place { TellsResult (IsPlaceFound (talk_of session.old.held) point.now) (λ found. result ≡ place_number found) }
     ensures same { session.new.held ≡ session.old.held }
 {
     match session.place(alloc, point.x, point.y, steps) {
@@ -160,7 +160,7 @@ fn tell_path<L: Ledger>(
     points: &mut [GeoPoint],
     steps: &mut Steps<L>,
 ) -> Result<Option<(u8, usize)>, Memory>
-    ensures path { IfOk result (λ told. Tells (IsPathFound (talk_of session.old.held) (from.now, to.now))
+    ensures path { IfOk result (λ told. TellsResult (IsPathFound (talk_of session.old.held) (from.now, to.now))
         (IsPathPut told points.old points.new)) }
     ensures few { IfOk result (λ told. told ≡ None → length points.old < MAX_CORNERS + 2) }
     ensures memory { OnErr result (points.new ≡ points.old) }

@@ -6,7 +6,7 @@ ghost use Rattle.geo_session.specs.Output.{IsOutput};
 ghost use Rattle.geo_script.specs.Dialog.{AnswersPiece, AnswersSome, IsTalkOf};
 ghost use Rattle.geo_c.specs.Filled.{filled_by};
 ghost use Rattle.geo_c.specs.Held.{last_reply, talk_of};
-ghost use Rattle.geo_c.specs.Told.{ArePointsGiven, IsPlaceGiven, TellsPath, TellsPlace, TellsReach};
+ghost use Rattle.geo_c.specs.Told.{ArePointsGiven, IsPlaceGiven, TellsPathResult, TellsPlace, TellsReach};
 ghost use Rattle.geo_c.specs.declared.status.TheConstants.{MEMORY, OK, TOO_LONG, WORD};
 
 use crate::fill::fill_points;
@@ -93,7 +93,7 @@ pub extern "C" fn geo_session_path(
     points: &mut [GeoPoint],
     needed: &mut usize,
 ) -> u8
-    ensures answer { result ≢ MEMORY → TellsPath (talk_of session.old.held) (record { x = from_x; y = from_y }) (record { x = to_x; y = to_y })
+    ensures answer { result ≢ MEMORY → TellsPathResult (talk_of session.old.held) (record { x = from_x; y = from_y }) (record { x = to_x; y = to_y })
         (ArePointsGiven result needed.old needed.new points.old points.new) }
     ensures few { result ≡ OK → needed.new ≤ MAX_CORNERS + 2 }
     ensures memory { result ≡ MEMORY → (points.new ≡ points.old) × (needed.new ≡ needed.old) }
@@ -122,7 +122,7 @@ fn path<L: Ledger>(
     requires name { blank.name ≡ L.name }
     requires parts { blank.parts ≡ L.parts }
     requires countable { 0 < blank.parts }
-    ensures answer { result ≢ MEMORY → TellsPath (talk_of session.old.held) (record { x = from.0; y = from.1 }) (record { x = to.0; y = to.1 })
+    ensures answer { result ≢ MEMORY → TellsPathResult (talk_of session.old.held) (record { x = from.0; y = from.1 }) (record { x = to.0; y = to.1 })
         (ArePointsGiven result needed.old needed.new points.old points.new) }
     ensures few { result ≡ OK → needed.new ≤ MAX_CORNERS + 2 }
     ensures memory { result ≡ MEMORY → (points.new ≡ points.old) × (needed.new ≡ needed.old) }

@@ -18,9 +18,9 @@ words_fault refusal.Usage = fault.Usage
 words_fault refusal.Memory = fault.Memory
 
 -- the status that the program ends with
-abbrev pub status_of : RunFault → ℕ
-status_of fault.Usage = 1
-status_of fault.ReadFault = 2
-status_of fault.TooLong = 3
-status_of fault.WriteFault = 4
-status_of fault.Memory = 5
+abbrev pub exit_status_of : RunFault → ℕ
+exit_status_of fault.Usage = 1
+exit_status_of fault.ReadFault = 2
+exit_status_of fault.TooLong = 3
+exit_status_of fault.WriteFault = 4
+exit_status_of fault.Memory = 5

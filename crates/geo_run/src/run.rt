@@ -5,7 +5,7 @@ ghost use Rattle.geo_io.specs.Counts.{Rose};
 ghost use Rattle.geo_io.specs.Transfers.{GivesAtMost, GivesMoreThan};
 ghost use Rattle.geo_gen.specs.declared.combs.TheConstants.{MAX_TEETH};
 ghost use Rattle.geo_run.specs.Comb.{WritesComb, WritesCombFront};
-ghost use Rattle.geo_run.specs.Fault.{fault_of, status_of, words_fault};
+ghost use Rattle.geo_run.specs.Fault.{fault_of, exit_status_of, words_fault};
 ghost use Rattle.geo_run.specs.Run.{AfterReading, WritesFirst, WritesFirstAndFront, WritesOutput};
 ghost use Rattle.geo_words.specs.Words.{AsksComb, AsksScript, IsTaken};
 ghost use Rattle.geo_run.specs.declared.run.RunFault.TheVariants.{WriteFault, Memory as OutOfMemory};
@@ -40,7 +40,7 @@ pub enum RunFault {
 impl RunFault {
     /// The status that the program ends with.
     pub fn status(self) -> u8
-        ensures { result ≡ status_of self }
+        ensures { result ≡ exit_status_of self }
     {
         match self {
             RunFault::Usage => 1,

@@ -8,7 +8,7 @@ use Rattle.geo_text.specs.declared.version.Version.{Version}
 use Rattle.geo_session.specs.Answer.{IsReadingAnswer}
 use Rattle.geo_session.specs.State.{State}
 use Rattle.geo_session.specs.Output.{AreAnswers}
-use Rattle.geo_script.specs.Answered.{AnsweredSoFar, AnswersRecord, version_of}
+use Rattle.geo_script.specs.Answered.{AnsweredSoFar, AnswersRecord, version_of_unread}
 
 -- the answer to one record more
 answers_and_one : (version : Version) (k : ℕ) (before middle after : State) (records : List (List (List ℕ))) (fields : List (List ℕ)) (text answer : List ℕ)
@@ -55,12 +55,12 @@ module _ (start script script' : Unread) (before state after : State) (text out 
   pub all_records : start.left ≡ done.first ++ one.taken.fields ∷ script'.left
   all_records = done.records ∙ ap (λ l. done.first ++ l) one.taken.first
 
-  version : script'.version ≡ version_of start
+  version : script'.version ≡ version_of_unread start
   version = rw all_records (version_after done.first script'.left one.taken.fields start.next script.next start.version script.version script'.version done.counted
       (rw all_records at done.version) one.taken.version)
 
   -- the answer is that to the record with its number
-  pub answer_is : IsReadingAnswer state (reading_of (version_of start) (start.next + length done.first) one.taken.fields) one.answered.text after
+  pub answer_is : IsReadingAnswer state (reading_of (version_of_unread start) (start.next + length done.first) one.taken.fields) one.answered.text after
   answer_is = rw (sym version, sym done.counted, sym one.taken.reads) one.answered.answer
 
   -- so one record more is answered
@@ -70,7 +70,7 @@ module _ (start script script' : Unread) (before state after : State) (text out 
     records = all_records ∙ sym (append_assoc done.first (one.taken.fields ∷ []) script'.left);
     counted = omega (arith, one.taken.counted, done.counted, length_push done.first one.taken.fields);
     version = λ some. version;
-    answers = answers_and_one (version_of start) start.next before state after done.first one.taken.fields text one.answered.text done.answers
+    answers = answers_and_one (version_of_unread start) start.next before state after done.first one.taken.fields text one.answered.text done.answers
         (start.next + length done.first) refl answer_is;
   }
 

@@ -8,7 +8,7 @@ use Rattle.geo_text.specs.declared.version.Version.{Version}
 use Rattle.geo_session.specs.State.{State, first_state}
 use Rattle.geo_session.specs.Output.{AreAnswers, AreFirstAnswers}
 use Rattle.geo_script.proofs.NextRecord.{first_and_one, no_first, none_answered, one_more}
-use Rattle.geo_script.specs.Answered.{AnswersRecord, version_of}
+use Rattle.geo_script.specs.Answered.{AnswersRecord, version_of_unread}
 use Rattle.geo_script.specs.Dialog.{AnswersPiece, AnswersRecords, IsTalkOf, Talk, first_talk, is_some, records_in, version_with}
 use Rattle.geo_script.specs.Progress.{PieceSoFar, part_of}
 
@@ -34,7 +34,7 @@ no_records_in talk = by_begun talk.begun
     by_begun false = no_records
 
 -- the version is that of the part of the script that the piece is
-version_is : (talk : Talk) (piece : List ℕ) → version_of (part_of talk piece) ≡ version_with talk (records_in talk piece)
+version_is : (talk : Talk) (piece : List ℕ) → version_of_unread (part_of talk piece) ≡ version_with talk (records_in talk piece)
 version_is talk piece = by_known talk.known talk.state.version (script_version (records_in talk piece))
   where
     by_known : (known : Bool) (version asked : Version) → (if (if known then 1 else 0) == 0 then asked else version) ≡ (if known then version else asked)
@@ -76,13 +76,12 @@ module _ (before : Talk) (piece : List ℕ) (script : Unread) (begun known : Boo
             rw (done.known, sound.0 none.0, none.1) refl),
         (λ e.
             let none = or_parts before.known (is_some first) (sym done.known ∙ e) in
-            same ∙ unmoved (version_of (part_of before piece)) (part_of before piece).next before.state state first text none.1 done.answered.answers ∙ sound.1 none.0),
+            same ∙ unmoved (version_of_unread (part_of before piece)) (part_of before piece).next before.state state first text none.1 done.answered.answers ∙ sound.1 none.0),
       )
 
   first_answered : (begun' : Bool) → AnswersRecords (version_with before (records_in before piece)) before done.answered.first
       (record { begun = begun'; known = known; state = state; text = text })
   first_answered begun' = record { answers = rw (sym (version_is before piece)) done.answered.answers; known = done.known }
-  })
 
   -- all of them are
   module _ (none : script.left ≡ []) where

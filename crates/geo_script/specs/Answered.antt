@@ -22,13 +22,13 @@ pub record AnswersRecord (before after : Unread) (state state' : State) (out out
   pub answered : AppendsReadingAnswer state reading out out' state'
 
 -- of which version a script is; its first record says it, where that is left
-abbrev pub version_of : Unread → Version
-version_of script = if script.next == 0 then script_version script.left else script.version
+abbrev pub version_of_unread : Unread → Version
+version_of_unread script = if script.next == 0 then script_version script.left else script.version
 
 -- the first of the records that were left in a script are answered, from a state on, and the others are left still
 pub record AnsweredSoFar (before after : Unread) (state state' : State) (text : List ℕ) : Type 0 where
   pub first : List (List (List ℕ))
   pub records : before.left ≡ first ++ after.left
   pub counted : after.next ≡ before.next + length first
-  pub version : after.next ≢ 0 → after.version ≡ version_of before
-  pub answers : AreAnswers (version_of before) before.next state first text state'
+  pub version : after.next ≢ 0 → after.version ≡ version_of_unread before
+  pub answers : AreAnswers (version_of_unread before) before.next state first text state'

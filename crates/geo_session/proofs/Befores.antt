@@ -5,7 +5,7 @@ use Rattle.std.specs.Prelude.{Option, Some, None}
 use Rattle.plane.specs.Point.{Point}
 use Rattle.rings.proofs.Simple.{apart_of_simple}
 use Rattle.rings.proofs.Turned.{simple_turned}
-use Rattle.rings.specs.From.{IsBefore}
+use Rattle.rings.specs.From.{IsPredecessor}
 use Rattle.rings.specs.Orientation.{turned_round}
 use Rattle.rings.specs.Ring.{vertex}
 use Rattle.rings.specs.Simple.{IsSimple}
@@ -47,7 +47,7 @@ before_of (Some Goal) = before.Nothing
 -- is so in a simple ring, where it is by its number
 pub from_named : (ring : List Point) (s t : Point) → IsSimple ring → (found : Option Spot) → IsFromNamed ring s t found → IsFrom ring s t (before_of found)
 from_named ring s t simple None is = is
-from_named ring s t simple (Some Start) (x, is, before) = subst (IsBefore ring s t) is before
+from_named ring s t simple (Some Start) (x, is, before) = subst (IsPredecessor ring s t) is before
 from_named ring s t simple (Some (Corner j)) (x, (below, at, other), before) = record {
   x = x;
   before = before;

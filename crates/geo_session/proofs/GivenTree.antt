@@ -5,7 +5,7 @@ use Rattle.std.specs.Prelude.{Option, Some, None}
 use Rattle.plane.specs.Point.{Point}
 use Rattle.rings.proofs.Turned.{vertex-turned_round}
 use Rattle.rings.proofs.Vertices.{vertex_mod}
-use Rattle.rings.specs.From.{IsBefore}
+use Rattle.rings.specs.From.{IsPredecessor}
 use Rattle.rings.specs.Orientation.{turned_round}
 use Rattle.rings.specs.Ring.{vertex}
 use Rattle.exact_plane.specs.declared.turns.Spot.{Spot}
@@ -33,8 +33,8 @@ vertex_given ring i below = vertex_either ring.is_turned ring.corners i below
 module _ (ring : Oriented) (s : Point) (i : ℕ) (below : i < length ring.corners) (found : Option Spot)
     (from : IsFromNamed ring.corners s (vertex ring.corners (given_index ring i)) found) where
   -- what comes before a point does so in the list
-  before_given : (x : Point) → IsBefore ring.corners s (vertex ring.corners (given_index ring i)) x → IsBefore (given_of ring) s (vertex (given_of ring) i) x
-  before_given x h = subst (λ t. IsBefore (given_of ring) s t x) (sym (vertex_given ring i below))
+  before_given : (x : Point) → IsPredecessor ring.corners s (vertex ring.corners (given_index ring i)) x → IsPredecessor (given_of ring) s (vertex (given_of ring) i) x
+  before_given x h = subst (λ t. IsPredecessor (given_of ring) s t x) (sym (vertex_given ring i below))
       (record { path = h.path; is_path = path_given ring s _ h.path h.is_path; more = h.more; is = h.is })
 
   -- nothing,

@@ -7,7 +7,7 @@ use Rattle.rings.specs.Orientation.{IsCounterclockwise, is_clockwise, turned_rou
 use Rattle.meshes.specs.Fits.{Fits}
 use Rattle.meshes.specs.declared.tri.Tri.{Tri}
 use Rattle.ring_check.specs.Oriented.{Oriented, given_of, oriented}
-use Rattle.cut_tri.specs.Cut.{IsCut}
+use Rattle.cut_tri.specs.Cut.{IsCutTriangulation}
 use Rattle.guards3.specs.Guards.{AreGuards, SeeAll}
 use Rattle.geo_session.proofs.GivenSize.{length_either}
 use Rattle.geo_session.specs.Guards.{GuardRing}
@@ -34,7 +34,7 @@ oriented_either corners false way = ap (kept corners) (is_not_clockwise corners 
 oriented_given : (ring : Oriented) → IsCounterclockwise ring.corners → oriented (given_of ring) ≡ ring
 oriented_given ring way = oriented_either ring.corners ring.is_turned way
 
-module _ (ring : Oriented) (way : IsCounterclockwise ring.corners) (tris : List Tri) (fits : Fits ring.corners tris) (cut : IsCut ring.corners tris) where
+module _ (ring : Oriented) (way : IsCounterclockwise ring.corners) (tris : List Tri) (fits : Fits ring.corners tris) (cut : IsCutTriangulation ring.corners tris) where
   pub guard_ring : (guards : List ℕ) → AreGuards ring tris guards → length guards ≤ length ring.corners / 3 → SeeAll (given_of ring) guards
       → GuardRing (given_of ring) guards
   guard_ring guards are few seen =
@@ -42,7 +42,7 @@ module _ (ring : Oriented) (way : IsCounterclockwise ring.corners) (tris : List 
       record {
         tris = tris;
         fits = subst (λ (r : Oriented). Fits r.corners tris) same fits;
-        cut = subst (λ (r : Oriented). IsCut r.corners tris) same cut;
+        cut = subst (λ (r : Oriented). IsCutTriangulation r.corners tris) same cut;
         are_guards = subst (λ (r : Oriented). AreGuards r tris guards) same are;
         few = rw (length_either ring.is_turned ring.corners) few;
         seen = seen;

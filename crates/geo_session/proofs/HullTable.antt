@@ -10,7 +10,7 @@ use Rattle.rings.specs.Chain.{IsPath, point_at}
 use Rattle.rings.specs.Ring.{origin}
 use Rattle.meshes.specs.declared.tri.Tri.{Tri}
 use Rattle.hulls.specs.Inner.{AreDistinct}
-use Rattle.rel_hull.specs.Table.{AreSides, IsTableOf, Table, chain_at, points_of}
+use Rattle.rel_hull.specs.Table.{AreSides, IsTableOf, Table, chain_at, table_points}
 use Rattle.geo_session.proofs.Spanned.{chain_between_places}
 use Rattle.geo_session.specs.Hull.{AreFirsts}
 use Rattle.geo_session.specs.Sleeves.{IsPathBetween}
@@ -53,10 +53,10 @@ module _ (points : List Point) (numbers : List ℕ) (firsts : AreFirsts points n
         (sym is.count) (chain_between_places ring points numbers table.chains is.are s t at_s at_t)
 
     -- so the points of the table are those with the numbers,
-    pub points_of_table : points_of table ≡ map (point_at points) numbers
+    pub points_of_table : table_points table ≡ map (point_at points) numbers
     points_of_table =
         let long = length-map-range_with_len (λ (i : ℕ). point_at (chain_at table i i) 0) 0 table.count in
-        ext_get_or origin (points_of table) (map (point_at points) numbers) (long ∙ is.count ∙ sym (length-map numbers (point_at points)))
+        ext_get_or origin (table_points table) (map (point_at points) numbers) (long ∙ is.count ∙ sym (length-map numbers (point_at points)))
         (λ i below.
         let at_i : i < table.count = omega (arith, long, below) in
         let at_number_i : i < length numbers = omega (arith, is.count, at_i) in
@@ -79,7 +79,7 @@ module _ (points : List Point) (numbers : List ℕ) (firsts : AreFirsts points n
     }
 
     -- and its sides are those of the points with the numbers
-    pub sides_numbered : (sides : List (ℕ × ℕ)) → AreSides ring (points_of table) sides → AreSides ring (map (point_at points) numbers) sides
+    pub sides_numbered : (sides : List (ℕ × ℕ)) → AreSides ring (table_points table) sides → AreSides ring (map (point_at points) numbers) sides
     sides_numbered sides are = subst (λ (ps : List Point). AreSides ring ps sides) points_of_table are
 
 -- the chains of a span are the paths between the triangles of the points

@@ -12,7 +12,7 @@ use Rattle.geo_text.specs.declared.version.Version.{Version}
 use Rattle.geo_reply.specs.declared.reply.Reply.TheVariants as reply
 use Rattle.geo_reply.specs.declared.reply.Side.{Side}
 use Rattle.ring_check.specs.Oriented.{Oriented, given_of}
-use Rattle.rel_hull.specs.Table.{AreSides, points_of}
+use Rattle.rel_hull.specs.Table.{AreSides, table_points}
 use Rattle.geo_session.proofs.GivenFull.{shown_given}
 use Rattle.geo_session.proofs.GivenSides.{sides_given}
 use Rattle.geo_session.proofs.HullTable.{short_chain, side_numbered, sides_numbered}
@@ -49,7 +49,7 @@ module _ (ring points : List Point) (sides : List (ℕ × ℕ)) (are : AreSides 
   ]
 
 module _ (ring : Oriented) (tris : List Tri) (points : List Point) (span : Span) (is : IsSpan ring.corners tris points span) (pairs : List (ℕ × ℕ))
-    (are : AreSides ring.corners (points_of span.chains) pairs) where
+    (are : AreSides ring.corners (table_points span.chains) pairs) where
   numbered_sides : AreSides ring.corners (map (point_at points) span.numbers.items) pairs
   numbered_sides = sides_numbered points span.numbers.items is.firsts ring.corners span.chains is.table pairs are
 

@@ -13,7 +13,7 @@ use Rattle.rel_hull.specs.Hull.{IsSide}
 use Rattle.rel_hull.specs.Table.{AreSides}
 use Rattle.geo_session.proofs.OneShown.{one_shown}
 use Rattle.geo_reply.specs.declared.reply.Side.{Side}
-use Rattle.geo_session.specs.Hull.{AreFirsts, AreSidesOf, IsSideFrom, side_at}
+use Rattle.geo_session.specs.Hull.{AreFirsts, AreSidesOf, IsSideFrom, hull_side_at}
 use Rattle.geo_session.specs.Told.{IsFirstOutside}
 
 -- the numbers of the first points are one list,
@@ -55,7 +55,7 @@ module _ (version : Version) (ring points : List Point) where
   record AreToldOf (numbers : List ℕ) (sides : List (ℕ × ℕ)) (told : List Side) : Type 0 where
     pub one_each : length told ≡ length sides
     pub each : (k : ℕ) → k < length sides
-        → IsSideFrom version ring points (slice_index numbers (pair_at sides k).0) (slice_index numbers (pair_at sides k).1) (side_at told k)
+        → IsSideFrom version ring points (slice_index numbers (pair_at sides k).0) (slice_index numbers (pair_at sides k).1) (hull_side_at told k)
 
   one_told : (numbers : List ℕ) (sides : List (ℕ × ℕ)) (told others : List Side) → AreToldOf numbers sides told → AreToldOf numbers sides others
       → told ≡ others

@@ -5,7 +5,7 @@ use Rattle.std.proofs.lemmas.List.{ext_get_or}
 use Rattle.std.specs.Prelude.{Option, Some, None}
 use Rattle.plane.specs.Point.{Point, whole}
 use Rattle.rings.proofs.Simple.{least_clash_is_one, no_least_clash}
-use Rattle.rings.specs.From.{IsBefore}
+use Rattle.rings.specs.From.{IsPredecessor}
 use Rattle.rings.specs.Kernel.{IsInKernel}
 use Rattle.rings.specs.Ring.{vertex}
 use Rattle.funnels.proofs.OneChain.{one_before}
@@ -168,7 +168,7 @@ one_pair_of before i j one other h g =
 
 module _ (ring : List Point) (s t : Point) where
   -- and none where the path begins there
-  none_before : t ≡ s → (x : Point) → ¬ IsBefore ring s t x
+  none_before : t ≡ s → (x : Point) → ¬ IsPredecessor ring s t x
   none_before same x h =
       let taut = (h.is_path h.path).1 refl in
       omega (arith, taut.single (sym same), h.more)

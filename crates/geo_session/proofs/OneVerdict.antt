@@ -2,7 +2,7 @@
 use Rattle.std.proofs.Common.{◌≡◌, inl, inr, refl, sym, subst, ap, ◌∙◌, ℕ, List, [], length, arith}
 use Rattle.std.proofs.lemmas.Bool.{cases_order}
 use Rattle.plane.specs.Point.{Point}
-use Rattle.taut_check.specs.Found.{place_of}
+use Rattle.taut_check.specs.Found.{verdict_place}
 use Rattle.taut_check.specs.Verdict.{HasNoTurn, IsFirstRule, IsLeastBroken, IsLeaving, IsNotReflex, IsRepeat, IsUnbroken, IsVerdict}
 use Rattle.taut_check.specs.declared.verdict.Verdict.{Verdict}
 use Rattle.taut_check.specs.declared.verdict.Verdict.TheVariants as verdict
@@ -12,7 +12,7 @@ module _ (ring points : List Point) where
   data IsOneOf (found : Verdict) : Type 0 where
     empty : points ≡ [] → found ≡ verdict.Empty → IsOneOf found
     taut : IsUnbroken ring points → found ≡ verdict.Taut → IsOneOf found
-    broken : IsLeastBroken ring points (place_of found) → IsFirstRule ring points found → IsOneOf found
+    broken : IsLeastBroken ring points (verdict_place found) → IsFirstRule ring points found → IsOneOf found
 
   one_of : (found : Verdict) → IsVerdict ring points found → IsOneOf found
   one_of verdict.Empty h = empty h refl
@@ -32,7 +32,7 @@ module _ (ring points : List Point) where
   ]
 
   -- and one first rule at a place: each rule comes first only where those before it are kept
-  one_rule : (one other : Verdict) → place_of one ≡ place_of other → IsFirstRule ring points one → IsFirstRule ring points other → one ≡ other
+  one_rule : (one other : Verdict) → verdict_place one ≡ verdict_place other → IsFirstRule ring points one → IsFirstRule ring points other → one ≡ other
   one_rule verdict.Empty other e h g = absurd h
   one_rule verdict.Taut other e h g = absurd h
   one_rule one verdict.Empty e h g = absurd g
@@ -64,7 +64,7 @@ module _ (ring points : List Point) where
   one_rule (verdict.WrongSide k) (verdict.WrongSide l) e h g = ap verdict.WrongSide e
 
   -- a list without a point breaks no rule, and none of its places is the least
-  not_empty_broken : (found : Verdict) → points ≡ [] → ¬ IsLeastBroken ring points (place_of found)
+  not_empty_broken : (found : Verdict) → points ≡ [] → ¬ IsLeastBroken ring points (verdict_place found)
   not_empty_broken found none h = omega (arith, h.in_list, ap length none)
 
   -- so two verdicts on a list are one
@@ -78,11 +78,11 @@ module _ (ring points : List Point) where
     | taut unbroken e ↦ elim (one_of other g) [
       | empty none f ↦ absurd (omega (arith, unbroken.some, ap length none))
       | taut _ f ↦ e ∙ sym f
-      | broken least first ↦ absurd (unbroken.none (place_of other) least.in_list least.broken)
+      | broken least first ↦ absurd (unbroken.none (verdict_place other) least.in_list least.broken)
     ]
     | broken least first ↦ elim (one_of other g) [
       | empty none f ↦ absurd (not_empty_broken one none least)
-      | taut unbroken f ↦ absurd (unbroken.none (place_of one) least.in_list least.broken)
-      | broken least_too first_too ↦ one_rule one other (one_place (place_of one) (place_of other) least least_too) first first_too
+      | taut unbroken f ↦ absurd (unbroken.none (verdict_place one) least.in_list least.broken)
+      | broken least_too first_too ↦ one_rule one other (one_place (verdict_place one) (verdict_place other) least least_too) first first_too
     ]
   ]

@@ -12,7 +12,7 @@ use Rattle.geo_text.specs.declared.version.Version.{Version}
 use Rattle.geo_text.specs.declared.version.Version.TheVariants as version
 use Rattle.geo_reply.proofs.Fronts.{no_more, ok_since, under_ok}
 use Rattle.geo_reply.specs.ReplyText.{reply_text}
-use Rattle.geo_reply.specs.Written.{WritesSteps, points_of}
+use Rattle.geo_reply.specs.Written.{WritesSteps, points_of_path}
 use Rattle.geo_reply.specs.declared.reply.Before.{Before}
 use Rattle.geo_reply.specs.declared.reply.Reply.{Reply}
 use Rattle.geo_reply.specs.declared.reply.Reply.TheVariants as reply
@@ -123,12 +123,12 @@ module _ {E : Type 0} (before : State) (asked : Command) (most : ℕ) (put : Res
   takes_both answered (path points is) single more written =
       let wrote : done ≤ told + 64 * length points = subst (λ (r : Reply). WritesSteps r told done) is more in (
         under_ok put (λ line. record { points = points; printed = inl (line ∙ ap (λ (r : Reply). out ++ reply_text r) is); bound = omega (arith, few, wrote) }) written,
-        λ other h. subst (λ (r : Reply). done ≤ steps + most + 64 * length (points_of r)) (sym is ∙ single other h) (omega (arith, few, wrote)),
+        λ other h. subst (λ (r : Reply). done ≤ steps + most + 64 * length (points_of_path r)) (sym is ∙ single other h) (omega (arith, few, wrote)),
       )
   takes_both answered (refusal fault is) single more written =
       let wrote : done ≤ told + 64 * 0 = subst (λ (r : Reply). WritesSteps r told done) is more in (
         ok_since put (record { points = []; printed = inr refl; bound = omega (arith, few, wrote) }),
-        λ other h. subst (λ (r : Reply). done ≤ steps + most + 64 * length (points_of r)) (sym is ∙ single other h) (omega (arith, few, wrote)),
+        λ other h. subst (λ (r : Reply). done ≤ steps + most + 64 * length (points_of_path r)) (sym is ∙ single other h) (omega (arith, few, wrote)),
       )
 
   -- and where there are none they take none

@@ -18,7 +18,7 @@ use Rattle.geo_reply.specs.declared.reply.Reply.TheVariants as reply
 use Rattle.ring_check.specs.Oriented.{Oriented, given_of}
 use Rattle.rel_hull.specs.Hull.{IsSide}
 use Rattle.rel_hull.specs.Round.{IsRound}
-use Rattle.rel_hull.specs.Table.{Table, points_of}
+use Rattle.rel_hull.specs.Table.{Table, table_points}
 use Rattle.geo_session.proofs.GivenSides.{side_given, side_held}
 use Rattle.geo_session.proofs.HullTable.{points_of_table, some_numbers}
 use Rattle.geo_session.proofs.Spanned.{held_inside}
@@ -74,7 +74,7 @@ module _ (ring points : List Point) (numbers : List ℕ) (firsts : AreFirsts poi
 
 -- the round of a table of numbered points is that of the points
 pub round_numbered : (ring points : List Point) (numbers : List ℕ) → AreFirsts points numbers → (table : Table) → IsNumberedTable ring points numbers table
-    → (places : List ℕ) → IsRound ring (points_of table) places → IsRound ring (map (point_at points) numbers) places
+    → (places : List ℕ) → IsRound ring (table_points table) places → IsRound ring (map (point_at points) numbers) places
 round_numbered ring points numbers firsts table is places round =
     subst (λ (ps : List Point). IsRound ring ps places) (points_of_table points numbers firsts ring table is) round
 
@@ -107,7 +107,7 @@ module _ (ring : Oriented) (points : List Point) where
 
 -- so it is told of them
 pub round_within : (ring : Oriented) (tris : List Tri) (points : List Point) (span : Span) → IsSpan ring.corners tris points span → Fits ring.corners tris
-    → (places round : List ℕ) → IsRound ring.corners (points_of span.chains) places → round ≡ map (slice_index span.numbers.items) places
+    → (places round : List ℕ) → IsRound ring.corners (table_points span.chains) places → round ≡ map (slice_index span.numbers.items) places
     → RepliesWithin (given_of ring) points (Tells reply.Round (AreRound (given_of ring) points)) (reply.Round round)
 round_within ring tris points span is fits places round closed are =
     within (all_given ring points (held_inside ring.corners tris points (length points) span.tris.items is.held fits))

@@ -16,7 +16,7 @@ use Rattle.meshes.specs.declared.tri.Tri.{Tri}
 use Rattle.geo_text.specs.declared.version.Version.{Version}
 use Rattle.geo_text.specs.declared.version.Version.TheVariants as version
 use Rattle.dual_tree.specs.Location.{IsLeastHolding}
-use Rattle.hulls.proofs.Joined.{path_back}
+use Rattle.hulls.proofs.Third.{path_back}
 use Rattle.geo_reply.specs.declared.reply.Side.{Side}
 use Rattle.geo_session.proofs.LocatedIn.{held_in}
 use Rattle.geo_session.specs.Hull.{AreFirsts}

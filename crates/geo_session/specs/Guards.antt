@@ -4,7 +4,7 @@ use Rattle.plane.specs.Point.{Point}
 use Rattle.meshes.specs.Fits.{Fits}
 use Rattle.meshes.specs.declared.tri.Tri.{Tri}
 use Rattle.ring_check.specs.Oriented.{oriented}
-use Rattle.cut_tri.specs.Cut.{IsCut}
+use Rattle.cut_tri.specs.Cut.{IsCutTriangulation}
 use Rattle.guards3.specs.Guards.{AreGuards, SeeAll}
 
 -- the numbers are the guards of a ring, by the triangles that its vertices determine; they are at most a third of the vertices, and each
@@ -12,7 +12,7 @@ use Rattle.guards3.specs.Guards.{AreGuards, SeeAll}
 pub record GuardRing (ring : List Point) (guards : List ℕ) : Type 0 where
   pub tris : List Tri
   pub fits : Fits (oriented ring).corners tris
-  pub cut : IsCut (oriented ring).corners tris
+  pub cut : IsCutTriangulation (oriented ring).corners tris
   pub are_guards : AreGuards (oriented ring) tris guards
   pub few : length guards ≤ length ring / 3
   pub seen : SeeAll ring guards

@@ -66,9 +66,9 @@ prepared_of None = false
 prepared_of (Some held) = held.prepared
 
 -- the triangle of a point, or the refusal where the point is not in the ring, by its number
-abbrev pub IsFoundAt : HeldRing → ℕ → Point → Result ℕ Bad → Type 0
-IsFoundAt held number p (Ok tri) = IsIn (given_of held.ring) (whole p) × IsLeastHolding held.ring.corners held.tris (whole p) tri
-IsFoundAt held number p (Err fault) = (¬ IsIn (given_of held.ring) (whole p)) × (fault ≡ bad.Outside number)
+abbrev pub IsLocated : HeldRing → ℕ → Point → Result ℕ Bad → Type 0
+IsLocated held number p (Ok tri) = IsIn (given_of held.ring) (whole p) × IsLeastHolding held.ring.corners held.tris (whole p) tri
+IsLocated held number p (Err fault) = (¬ IsIn (given_of held.ring) (whole p)) × (fault ≡ bad.Outside number)
 
 -- what a point sees, where it is in the ring
 abbrev pub IsViewReply : List Point → Point → Reply → Type 0

@@ -21,8 +21,8 @@ pub record IsSideFrom (version : Version) (ring points : List Point) (i j : ℕ)
   pub shown : IsShownPath version ring (point_at points i) (point_at points j) side.path
 
 -- side k of a list
-abbrev pub side_at : List Side → ℕ → Side
-side_at sides k = slice_index_or sides k (record { start = 0; end = 0; path = [] })
+abbrev pub hull_side_at : List Side → ℕ → Side
+hull_side_at sides k = slice_index_or sides k (record { start = 0; end = 0; path = [] })
 
 -- the sides of the points' relative hull, a point that is given again counting once, under its first number
 pub record AreSidesOf (version : Version) (ring points : List Point) (told : List Side) : Type 0 where
@@ -32,4 +32,4 @@ pub record AreSidesOf (version : Version) (ring points : List Point) (told : Lis
   pub are_sides : AreSides ring (map (point_at points) numbers) sides
   pub one_each : length told ≡ length sides
   pub each : (k : ℕ) → k < length sides
-      → IsSideFrom version ring points (slice_index numbers (pair_at sides k).0) (slice_index numbers (pair_at sides k).1) (side_at told k)
+      → IsSideFrom version ring points (slice_index numbers (pair_at sides k).0) (slice_index numbers (pair_at sides k).1) (hull_side_at told k)

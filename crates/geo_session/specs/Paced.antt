@@ -9,7 +9,7 @@ use Rattle.shared_seq.specs.Digits.{binary_digits}
 use Rattle.geo_session.specs.Prepared.{Seen, pair_pace, table_steps}
 use Rattle.geo_session.specs.Reply.{IsReply}
 use Rattle.geo_reply.specs.ReplyText.{path_text}
-use Rattle.geo_reply.specs.Written.{points_of}
+use Rattle.geo_reply.specs.Written.{points_of_path}
 use Rattle.geo_session.specs.State.{State, size_of}
 use Rattle.geo_reply.specs.declared.reply.Reply.{Reply}
 
@@ -40,4 +40,4 @@ pub record TakesPathSteps (most : ℕ) (out out' : List ℕ) (steps steps' : ℕ
 -- so many steps and 64 for each point of the reply are enough, also where want of memory cuts its line off
 abbrev pub TakesReplySteps : State → Command → ℕ → ℕ → ℕ → Type 0
 TakesReplySteps before asked most steps steps' =
-    (answered : Reply) → IsReply before asked answered → steps' ≤ steps + most + 64 * length (points_of answered)
+    (answered : Reply) → IsReply before asked answered → steps' ≤ steps + most + 64 * length (points_of_path answered)

@@ -12,7 +12,7 @@ use Rattle.geo_text.specs.declared.command.Bad.{Bad}
 use Rattle.geo_text.specs.declared.version.Version.{Version}
 use Rattle.dual_tree.specs.Location.{IsLeastHolding}
 use Rattle.rel_hull.specs.Table.{Table, chain_at}
-use Rattle.geo_session.specs.Hull.{AreFirsts, side_at}
+use Rattle.geo_session.specs.Hull.{AreFirsts, hull_side_at}
 use Rattle.geo_session.specs.Shown.{IsShown}
 use Rattle.geo_session.specs.Told.{NamesOutside}
 use Rattle.geo_session.specs.declared.hull.Span.{Span}
@@ -83,4 +83,4 @@ pub record IsSideTold (version : Version) (ring : List Point) (span : Span) (pai
 -- so do the first n sides
 pub record AreSidesTold (version : Version) (ring : List Point) (span : Span) (pairs : List (ℕ × ℕ)) (n : ℕ) (told : List Side) : Type 0 where
   pub count : length told ≡ n
-  pub each : (k : ℕ) → k < n → IsSideTold version ring span (pair_at pairs k) (side_at told k)
+  pub each : (k : ℕ) → k < n → IsSideTold version ring span (pair_at pairs k) (hull_side_at told k)

@@ -8,7 +8,7 @@ ghost use Rattle.ring_check.specs.Oriented.{given_of};
 ghost use Rattle.taut_check.specs.Verdict.{IsVerdict};
 ghost use Rattle.pair_cut.specs.Pairs.{IsMadeFor};
 ghost use Rattle.geo_session.specs.Guards.{GuardRing};
-ghost use Rattle.geo_session.specs.Held.{IsFoundAt, IsTreeOf, IsViewReply};
+ghost use Rattle.geo_session.specs.Held.{IsLocated, IsTreeOf, IsViewReply};
 ghost use Rattle.geo_session.specs.Place.{IsPlace};
 ghost use Rattle.geo_session.specs.Told.{Tells};
 
@@ -98,7 +98,7 @@ impl Held {
         point: &Pt,
         steps: &mut Steps<L>,
     ) -> Result<u32, Bad>
-        ensures found { IsFoundAt self.now number point.now result }
+        ensures found { IsLocated self.now number point.now result }
         ensures steps { steps.new ≤ steps.old + 3 * (length self.now.ring.corners - 2) }
     {
         match locate(&self.mesh, &self.ring, point, steps) {

@@ -4,7 +4,7 @@ ghost use Rattle.plane.specs.Point.{Point};
 ghost use Rattle.plane.specs.declared.limits.TheConstants.{MAX_HULL};
 ghost use Rattle.rings.specs.Chain.{point_at};
 ghost use Rattle.ring_check.specs.Oriented.{given_of};
-ghost use Rattle.rel_hull.specs.Table.{AreSides, points_of};
+ghost use Rattle.rel_hull.specs.Table.{AreSides, table_points};
 ghost use Rattle.geo_session.specs.Hull.{AreFirsts, AreSidesOf};
 ghost use Rattle.geo_session.specs.Round.{AreRound};
 ghost use Rattle.geo_session.specs.Span.{AreChains, AreHeld, AreLocated, AreNumbered, AreSidesTold, IsChainAt, IsNumberedTable, IsRepeated, IsShortPath, IsSideTold, IsSpan};
@@ -192,7 +192,7 @@ impl Held {
         pairs: &[(u32, u32)],
         steps: &mut Steps<L>,
     ) -> Result<Vec<Side>, Memory>
-        requires { (points : List Point) × (IsSpan self.now.ring.corners self.now.tris points span.now × AreSides self.now.ring.corners (points_of span.now.chains) pairs.now) }
+        requires { (points : List Point) × (IsSpan self.now.ring.corners self.now.tris points span.now × AreSides self.now.ring.corners (table_points span.now.chains) pairs.now) }
         ensures { IfOk result (λ told. AreSidesTold version self.now.ring.corners span.now pairs.now (length pairs.now) told.items) }
     {
         let mut told = Vec::with_capacity(alloc, pairs.len())?;

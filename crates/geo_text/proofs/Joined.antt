@@ -4,7 +4,7 @@ use Rattle.std.proofs.Common.{◌++◌, length, map, refl, sym, ap, inl, inr, ar
 use Rattle.std.proofs.lemmas.Bool.{cases_eq, ne_eqb}
 use Rattle.std.proofs.lemmas.List.{map-append}
 use Rattle.geo_text.proofs.Fuel.{record_shortens, records_at_end}
-use Rattle.geo_text.specs.Records.{AreWhole, later_records_of, records_of, state_after, without_blanks}
+use Rattle.geo_text.specs.Records.{AreWhole, later_records_of, records_of, reader_after, without_blanks}
 use Rattle.csv.specs.Machine.{Read, ends_at_end, field_after, fields_after, in_field, is_end, next_record, start_record, step}
 use Rattle.csv.specs.Reading.{default_config, is_bom, records, records_from, records_next, strip_bom}
 use Rattle.csv.specs.declared.parser.Action.{Action}
@@ -123,7 +123,7 @@ same_after_cr (c ∷ rest) =
     by_tests false false to = refl
 
 -- so the records of two texts are those of both together, where the first one ends at the end of a record
-walk_joined : (s : State) (fields : List (List ℕ)) (field xs ys : List ℕ) → IsBetween s fields field → ends_at_end (state_after s xs) ≡ false
+walk_joined : (s : State) (fields : List (List ℕ)) (field xs ys : List ℕ) → IsBetween s fields field → ends_at_end (reader_after s xs) ≡ false
     → walk s fields field (xs ++ ys) ≡ walk s fields field xs ++ walk st.StartRecord [] [] ys
 walk_joined st.StartRecord fields field [] ys none ended = rw (none.0, none.1) refl
 walk_joined st.AfterCr fields field [] ys none ended = rw (none.0, none.1) (same_after_cr ys)

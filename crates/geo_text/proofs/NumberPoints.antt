@@ -2,7 +2,7 @@
 use Rattle.std.proofs.Common.{◌≡◌, ◌≤◌, ◌<◌, ◌+◌, ◌*◌, ◌/◌, ◌++◌, ◌∙◌, ℕ, ℤ, pos, List, [], ◌∷◌, length, drop, append-nil, refl, sym, ap, arith}
 use Rattle.std.proofs.lemmas.List.{drop_more, length-drop, nil_from_length}
 use Rattle.plane.specs.Point.{Point}
-use Rattle.geo_text.specs.Reading.{pairs_of, point_at}
+use Rattle.geo_text.specs.Reading.{pairs_of, point_read_at}
 
 -- each two numbers are a point,
 pub length-pairs_of : (numbers : List ℤ) → length (pairs_of numbers) ≡ length numbers / 2
@@ -12,7 +12,7 @@ length-pairs_of (x ∷ y ∷ numbers) = omega (arith, length-pairs_of numbers)
 
 -- the next two too,
 pub pairs_of_more : (numbers : List ℤ) (k : ℕ) → 2 * k + 1 < length numbers
-    → pairs_of (drop (2 * k) numbers) ≡ point_at (2 * k) numbers ∷ pairs_of (drop (2 * (k + 1)) numbers)
+    → pairs_of (drop (2 * k) numbers) ≡ point_read_at (2 * k) numbers ∷ pairs_of (drop (2 * (k + 1)) numbers)
 pairs_of_more numbers k h =
     let first = drop_more numbers (2 * k) (pos 0) (omega arith) in
     let second = drop_more numbers (2 * k + 1) (pos 0) h in

@@ -57,18 +57,18 @@ abbrev pub number_at : ℕ → List ℤ → ℤ
 number_at place numbers = slice_index_or numbers place (pos 0)
 
 -- the number at a place and the next one are a point
-abbrev pub point_at : ℕ → List ℤ → Point
-point_at place numbers = record { x = number_at place numbers; y = number_at (place + 1) numbers }
+abbrev pub point_read_at : ℕ → List ℤ → Point
+point_read_at place numbers = record { x = number_at place numbers; y = number_at (place + 1) numbers }
 
 -- the command of a word and numbers, which are as many as it takes
 abbrev pub command_with : Word → List ℤ → Command
 command_with word.Polygon numbers = command.Polygon (pairs_of numbers)
-command_with word.Inside numbers = command.Inside (point_at 0 numbers)
+command_with word.Inside numbers = command.Inside (point_read_at 0 numbers)
 command_with word.Check numbers = command.Check (pairs_of numbers)
-command_with word.Path numbers = command.Path (point_at 0 numbers) (point_at 2 numbers)
-command_with word.Tree numbers = command.Tree (point_at 0 numbers)
-command_with word.Reach numbers = command.Reach (point_at 0 numbers)
-command_with word.See numbers = command.See (point_at 0 numbers)
+command_with word.Path numbers = command.Path (point_read_at 0 numbers) (point_read_at 2 numbers)
+command_with word.Tree numbers = command.Tree (point_read_at 0 numbers)
+command_with word.Reach numbers = command.Reach (point_read_at 0 numbers)
+command_with word.See numbers = command.See (point_read_at 0 numbers)
 command_with word.Kernel numbers = command.Kernel
 command_with word.Hull numbers = command.Hull (pairs_of numbers)
 command_with word.Two numbers = command.Two

@@ -34,13 +34,13 @@ abbrev pub records_of : List ℕ → List (List (List ℕ))
 records_of bytes = later_records_of (strip_bom bytes)
 
 -- where `csv` stands after these bytes
-abbrev pub state_after : State → List ℕ → State
-state_after state [] = state
-state_after state (c ∷ bytes) = state_after (step default_config state c).0 bytes
+abbrev pub reader_after : State → List ℕ → State
+reader_after state [] = state
+reader_after state (c ∷ bytes) = reader_after (step default_config state c).0 bytes
 
 -- these bytes end at the end of a record: their end ends none, since the last one has ended by then
 abbrev pub AreWhole : List ℕ → Type 0
-AreWhole bytes = ends_at_end (state_after st.StartRecord (strip_bom bytes)) ≡ false
+AreWhole bytes = ends_at_end (reader_after st.StartRecord (strip_bom bytes)) ≡ false
 
 -- what is left of a script: its records, the number of the next one, the version of the script, which its first record says, and
 -- whether it has failed

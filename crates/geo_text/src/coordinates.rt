@@ -4,7 +4,7 @@ ghost use Rattle.std.specs.Prelude.{◌≡◌, ◌+◌, ◌≤◌, ◌<◌, ◌^
 ghost use Rattle.plane.specs.Point.{IsInLimit};
 ghost use Rattle.plane.specs.declared.limits.TheConstants.{MAX_COORDINATE};
 ghost use Rattle.geo_text.specs.Capped.{Reads, after_word};
-ghost use Rattle.geo_text.specs.Reading.{pairs_of, point_at, range_fault as fault_of_range};
+ghost use Rattle.geo_text.specs.Reading.{pairs_of, point_read_at, range_fault as fault_of_range};
 
 use crate::command::Bad;
 use crate::fields::field;
@@ -61,7 +61,7 @@ pub fn points(alloc: Global, numbers: &[i64]) -> Result<Points, Memory>
 pub fn point_from(numbers: &[i64], place: usize) -> Pt
     requires within { place + 1 < length numbers.now }
     requires small { All IsInLimit numbers.now }
-    ensures { result ≡ point_at place numbers.now }
+    ensures { result ≡ point_read_at place numbers.now }
 {
     point(numbers[place], numbers[place + 1])
 }

@@ -11,7 +11,7 @@ use Rattle.meshes.specs.Side.{tri_at}
 use Rattle.meshes.specs.declared.tri.Tri.{Tri}
 use Rattle.guards3.proofs.ThreeClasses.{sum_of_three}
 use Rattle.guards3.specs.Guards.{class_of}
-use Rattle.guards3.specs.Parting.{AgreeAt, AreThree, HasCorners, corner_across}
+use Rattle.guards3.specs.Parting.{AgreeAt, AreThreeClasses, HasCorners, corner_across}
 
 -- ---- its corners
 
@@ -24,7 +24,7 @@ by_side P t (suc (suc zero)) below begin end across = (end, across, begin)
 by_side P t (suc (suc (suc n))) below begin end across = absurd (omega arith)
 
 -- their classes add up to 3
-pub sum_by_side : (f : ℕ → ℕ) (t : Tri) (side : ℕ) → side < 3 → AreThree (f t.a) (f t.b) (f t.c)
+pub sum_by_side : (f : ℕ → ℕ) (t : Tri) (side : ℕ) → side < 3 → AreThreeClasses (f t.a) (f t.b) (f t.c)
     → f (side_begin t side) + f (side_end t side) + f (corner_across t side) ≡ 3
 sum_by_side f t zero below three = sum_of_three _ _ _ three
 sum_by_side f t (suc zero) below three = omega (arith, sum_of_three _ _ _ three)

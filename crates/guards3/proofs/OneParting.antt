@@ -9,7 +9,7 @@ use Rattle.meshes.specs.Side.{HasSide, HasSideBetween, tri_at}
 use Rattle.meshes.specs.declared.tri.Tri.{Tri}
 use Rattle.guards3.proofs.ThreeClasses.{named, named_first, named_second, named_third, one_named, sum_of_three, three_named}
 use Rattle.guards3.specs.Guards.{IsParting, OnePartingLaw, class_of}
-use Rattle.guards3.specs.Parting.{AgreeAt, AreThree, IsFrom012, PartsInThree}
+use Rattle.guards3.specs.Parting.{AgreeAt, AreThreeClasses, IsFrom012, PartsInThree}
 
 -- ---- two partings at one triangle
 
@@ -20,7 +20,7 @@ module _ (f g : ℕ → ℕ) (t : Tri) where
   ends_agree i j agree (inr (inl s)) = (subst (λ n. f n ≡ g n) s.0 agree.b, subst (λ n. f n ≡ g n) s.1 agree.c)
   ends_agree i j agree (inr (inr s)) = (subst (λ n. f n ≡ g n) s.0 agree.c, subst (λ n. f n ≡ g n) s.1 agree.a)
 
-  module _ (of_f : AreThree (f t.a) (f t.b) (f t.c)) (of_g : AreThree (g t.a) (g t.b) (g t.c)) where
+  module _ (of_f : AreThreeClasses (f t.a) (f t.b) (f t.c)) (of_g : AreThreeClasses (g t.a) (g t.b) (g t.c)) where
     -- where they agree at the ends of a side, they do so at the third corner
     pub third_agrees : (i j : ℕ) → HasSide t i j → f i ≡ g i → f j ≡ g j → AgreeAt f g t
     third_agrees i j side at_i at_j =

@@ -17,13 +17,13 @@ use Rattle.meshes.specs.Side.{HasSide, tri_at}
 use Rattle.meshes.specs.declared.tri.Tri.{Tri}
 use Rattle.guards3.proofs.OneParting.{some_triangle}
 use Rattle.guards3.proofs.ThreeClasses.{named, named_first, named_second, named_third, three_turned, three_with}
-use Rattle.guards3.specs.Parting.{AreThree, PartsInThree}
+use Rattle.guards3.specs.Parting.{AreThreeClasses, PartsInThree}
 
 -- ---- classes of the corners of a triangle
 
 -- the corners of the triangle have three classes
 abbrev pub HasThree : (ℕ → ℕ) → Tri → Type 0
-HasThree f t = AreThree (f t.a) (f t.b) (f t.c)
+HasThree f t = AreThreeClasses (f t.a) (f t.b) (f t.c)
 
 module _ (f : ℕ → ℕ) (t : Tri) where
   -- the ends of a side have different classes
@@ -33,7 +33,7 @@ module _ (f : ℕ → ℕ) (t : Tri) where
   ends_differ i j three (inr (inr s)) = rw (← s.0, ← s.1) (three.third, three.first, three.z_x)
 
   -- corners that follow one another are the three corners
-  by_sides : (u v w : ℕ) → HasSide t u v → HasSide t v w → AreThree (f u) (f v) (f w) → HasThree f t
+  by_sides : (u v w : ℕ) → HasSide t u v → HasSide t v w → AreThreeClasses (f u) (f v) (f w) → HasThree f t
   by_sides u v w (inl s) (inl r) three = absurd (three.x_y (ap f (sym s.0 ∙ r.0)))
   by_sides u v w (inl s) (inr (inl r)) three = rw (s.0, s.1, r.1) three
   by_sides u v w (inl s) (inr (inr r)) three = absurd (three.z_x (ap f (sym r.1 ∙ s.0)))
@@ -127,7 +127,7 @@ module _ (corners : List Point) where
         let next = in_rest leaf.neighbour leaf.neighbour_in_list leaf.different in
         let base = ends_differ f (tri_at tris leaf.neighbour) off.u off.w next.1 ear.base.other_has in
         let ends = ends_in_piece corners (off.before ++ off.after) (tri_at tris leaf.neighbour) next.0 off.u off.w ear.base.other_has in
-        let named : AreThree (with_tip off.u) (with_tip off.v) (with_tip off.w) =
+        let named : AreThreeClasses (with_tip off.u) (with_tip off.v) (with_tip off.w) =
         rw (
           with_class_other f off.v tip_class off.u (not_tip off.u ends.0),
           with_class_there f off.v tip_class,

@@ -2,14 +2,14 @@
 use Rattle.std.proofs.Common.{◌≡◌, ◌≢◌, ◌⊎◌, inl, inr, sym, ℕ, ◌+◌, ◌-◌, ◌<◌, arith, ◌==◌}
 use Rattle.std.proofs.lemmas.Bool.{cases_eq}
 use Rattle.std.specs.Prelude.{if◌then◌else◌}
-use Rattle.guards3.specs.Parting.{AreThree}
+use Rattle.guards3.specs.Parting.{AreThreeClasses}
 
 -- the three add up to 3
-pub sum_of_three : (x y z : ℕ) → AreThree x y z → x + y + z ≡ 3
+pub sum_of_three : (x y z : ℕ) → AreThreeClasses x y z → x + y + z ≡ 3
 sum_of_three x y z three = omega (arith, three.first, three.second, three.third, three.x_y, three.y_z, three.z_x)
 
 -- from the second one on
-pub three_turned : (x y z : ℕ) → AreThree x y z → AreThree y z x
+pub three_turned : (x y z : ℕ) → AreThreeClasses x y z → AreThreeClasses y z x
 three_turned x y z three = record {
   first = three.second;
   second = three.third;
@@ -20,7 +20,7 @@ three_turned x y z three = record {
 }
 
 -- each class is one of them
-pub one_of_three : (x y z class : ℕ) → AreThree x y z → class < 3 → (x ≡ class) ⊎ (y ≡ class) ⊎ (z ≡ class)
+pub one_of_three : (x y z class : ℕ) → AreThreeClasses x y z → class < 3 → (x ≡ class) ⊎ (y ≡ class) ⊎ (z ≡ class)
 one_of_three x y z class three below = elim (cases_eq x class) [
   | inl first ↦ inl first
   | inr not_first ↦ elim (cases_eq y class) [
@@ -30,7 +30,7 @@ one_of_three x y z class three below = elim (cases_eq x class) [
 ]
 
 -- two different classes leave a third
-pub three_with : (x y : ℕ) → x < 3 → y < 3 → x ≢ y → AreThree x (3 - x - y) y
+pub three_with : (x y : ℕ) → x < 3 → y < 3 → x ≢ y → AreThreeClasses x (3 - x - y) y
 three_with x y first last differ = record {
   first = first;
   second = omega arith;
@@ -60,14 +60,14 @@ pub named_below : (x y class : ℕ) → named x y class < 3
 named_below x y class = grind arith
 
 -- two classes with one name are one
-pub one_named : (x y z : ℕ) → AreThree x y z → (c d : ℕ) → c < 3 → d < 3 → named x y c ≡ named x y d → c ≡ d
+pub one_named : (x y z : ℕ) → AreThreeClasses x y z → (c d : ℕ) → c < 3 → d < 3 → named x y c ≡ named x y d → c ≡ d
 one_named x y z three c d c_below d_below same =
     let of_c = one_of_three x y z c three c_below in
     let of_d = one_of_three x y z d three d_below in
     grind (arith, three.x_y, three.y_z, three.z_x)
 
 -- so three classes have three names
-pub three_named : (x y z : ℕ) → AreThree x y z → (c d e : ℕ) → AreThree c d e → AreThree (named x y c) (named x y d) (named x y e)
+pub three_named : (x y z : ℕ) → AreThreeClasses x y z → (c d e : ℕ) → AreThreeClasses c d e → AreThreeClasses (named x y c) (named x y d) (named x y e)
 three_named x y z three c d e others =
     let one = one_named x y z three in
     record {

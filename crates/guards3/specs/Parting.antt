@@ -9,7 +9,7 @@ use Rattle.tri_mesh.specs.declared.outward.Outward.{Outward}
 use Rattle.guards3.specs.Guards.{class_of}
 
 -- the classes 0, 1 and 2, each once
-pub record AreThree (x y z : ℕ) : Type 0 where
+pub record AreThreeClasses (x y z : ℕ) : Type 0 where
   pub first : x < 3
   pub second : y < 3
   pub third : z < 3
@@ -19,7 +19,7 @@ pub record AreThree (x y z : ℕ) : Type 0 where
 
 -- each triangle has one corner in each of the classes that f gives
 abbrev pub PartsInThree : List Tri → (ℕ → ℕ) → Type 0
-PartsInThree tris f = (k : ℕ) → k < length tris → AreThree (f (tri_at tris k).a) (f (tri_at tris k).b) (f (tri_at tris k).c)
+PartsInThree tris f = (k : ℕ) → k < length tris → AreThreeClasses (f (tri_at tris k).a) (f (tri_at tris k).b) (f (tri_at tris k).c)
 
 -- f and g give the corners of the triangle the same classes
 pub record AgreeAt (f g : ℕ → ℕ) (t : Tri) : Type 0 where

@@ -15,7 +15,7 @@ use Rattle.plane.specs.Region.{IsInRegion, IsRightOfNone, corner_at}
 use Rattle.plane.specs.Turn.{IsRight, determinant}
 use Rattle.half_cut.proofs.Links.{length_rotated, rotated_at}
 use Rattle.half_cut.proofs.TurnedBlocks.{convex_from, read_from}
-use Rattle.half_cut.specs.Outline.{AreBeside, AreOf, Line, from_place, line_at}
+use Rattle.half_cut.specs.Outline.{AreNoneRight, AreOf, Line, from_place, line_at}
 
 -- ---- each corner is in the region
 
@@ -116,8 +116,8 @@ of_old ls line other ks are j in_j is i less = elim (are i less) [
 -- ---- no corner is right of them
 
 -- read from another place on
-pub beside_from : (cs : List Triple) (ls : List Line) (t : ℕ) → length ls ≡ length cs → t ≤ length cs → AreBeside cs ls
-    → AreBeside (from_place t cs) (from_place t ls)
+pub beside_from : (cs : List Triple) (ls : List Line) (t : ℕ) → length ls ≡ length cs → t ≤ length cs → AreNoneRight cs ls
+    → AreNoneRight (from_place t cs) (from_place t ls)
 beside_from cs ls t same in_t beside i j in_i in_j right =
     let lines = length_rotated ls t (omega (arith, same, in_t)) in
     let corners = length_rotated cs t in_t in
@@ -130,8 +130,8 @@ beside_from cs ls t same in_t beside i j in_i in_j right =
     (read_from cs t j in_t within) right))
 
 -- what a cut leaves is right of no old line, nor of its own
-pub beside_left : (a b : Point) (cs : List Triple) (ls : List Line) (ds : List Triple) (ks : List Line) → AreConvex cs → AreBeside cs ls
-    → IsCut (whole a) (whole b) cs ds → AreOf ls (a, b) ks → AreBeside ds ks
+pub beside_left : (a b : Point) (cs : List Triple) (ls : List Line) (ds : List Triple) (ks : List Line) → AreConvex cs → AreNoneRight cs ls
+    → IsCut (whole a) (whole b) cs ds → AreOf ls (a, b) ks → AreNoneRight ds ks
 beside_left a b cs ls ds ks convex beside cut are i j in_i in_j =
     let p = corner ds j in
     let at_p : IsPoint p = cut.convex.rational j in_j in

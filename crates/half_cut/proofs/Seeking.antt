@@ -14,7 +14,7 @@ use Rattle.plane.specs.Point.{IsPoint, Point, Triple, whole}
 use Rattle.plane.specs.Turn.{IsRight, IsStraight, determinant}
 use Rattle.half_cut.proofs.Blocks.{mod_add}
 use Rattle.half_cut.proofs.Links.{comes_to, on_at}
-use Rattle.half_cut.specs.Outline.{AreBeside, AreLinkedRound, IsOnLine, Line, line_at}
+use Rattle.half_cut.specs.Outline.{AreNoneRight, AreLinkedRound, IsOnLine, Line, line_at}
 
 -- ---- how much farther to the left of a line one point is than another
 
@@ -111,7 +111,7 @@ left_of_both p q r t a b c z at_c at_z on_in on_out left_in left_out turned ahea
 turned_back : (p q r t : Point) → cross_product r t p q <ℤ pos 0 → pos 0 <ℤ cross_product p q r t
 turned_back p q r t h = omega (arith, ints, h)
 
-module _ (cs : List Triple) (ls : List Line) (convex : AreConvex cs) (round : AreLinkedRound cs ls) (beside : AreBeside cs ls) (at n : ℕ)
+module _ (cs : List Triple) (ls : List Line) (convex : AreConvex cs) (round : AreLinkedRound cs ls) (beside : AreNoneRight cs ls) (at n : ℕ)
     (in_at : at < length cs) (en : n ≡ length cs) (into out : Line) (is_into : into ≡ get_or ls ((at + (n - 1)) % n) into)
     (is_out : out ≡ get_or ls at out) where
   before : ℕ

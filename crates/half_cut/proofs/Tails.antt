@@ -12,15 +12,15 @@ use Rattle.exact_plane.proofs.Directions.{left_of_positive, positive_of_left}
 use Rattle.exact_plane.specs.Direction.{turn_of}
 use Rattle.exact_plane.specs.declared.direction.Direction.{Direction}
 use Rattle.half_cut.proofs.Links.{on_at}
-use Rattle.half_cut.specs.Meeting.{IsFound}
-use Rattle.half_cut.specs.Outline.{AreLinked, AreLinkedRound, ComesRound, GoesOn, IsOnLine, Line, line_at}
+use Rattle.half_cut.specs.Meeting.{IsLineMeeting}
+use Rattle.half_cut.specs.Outline.{AreLinked, AreLinkedRound, ComesRound, LineGoesOn, IsOnLine, Line, line_at}
 
 module _ (a b : Point) (line : Line) (differ : line.0 ≢ line.1) (c d : Triple) (at_c : IsPoint c) (at_d : IsPoint d)
     (on_c : IsOnLine line c)
     (on_d : IsOnLine line d) (stays : ¬ (IsRight (whole a) (whole b) c)) (goes : IsRight (whole a) (whole b) d) (turn : Direction)
     (is_turn : turn ≡ turn_of (whole a) (whole b) c) where
   -- it is what a cut adds to the corner that stays
-  pub ends_found : (x : Option Triple) → IsFound a b line turn x → Ends (whole a) (whole b) c d (option_to_list x)
+  pub ends_found : (x : Option Triple) → IsLineMeeting a b line turn x → Ends (whole a) (whole b) c d (option_to_list x)
   ends_found (Some x) found =
       let left = positive_of_left (determinant (whole a) (whole b) c) (sym is_turn ∙ found.some refl) in
       at_meeting x left (meeting a b line.0 line.1 c d at_c at_d differ on_c on_d left goes x found.rational found.on_line found.on_cut)
@@ -41,14 +41,14 @@ straight_of_none a b c d es (at_meeting x left h one) e = absurd (cc (one, e))
 -- so the cut goes on from the last corner that stays, or from what is added
 pub goes_on_cut : (a b : Point) (cs : List Triple) (ls : List Line) (m : ℕ) (d : Triple) (x : Option Triple)
     → Ends (whole a) (whole b) (corner cs (m - 1)) d (option_to_list x) → IfSome x (IsOnLine (line_at ls (m - 1)))
-    → IfSome x (IsStraight (whole a) (whole b)) → GoesOn cs ls m x (a, b)
+    → IfSome x (IsStraight (whole a) (whole b)) → LineGoesOn cs ls m x (a, b)
 goes_on_cut a b cs ls m d None ends on_line on_cut = straight_of_none _ _ _ d [] ends refl
 goes_on_cut a b cs ls m d (Some x) ends on_line on_cut = (on_cut, on_line)
 
 -- where there is a meeting, the side's own line may go on from there
 goes_on_same : (cs : List Triple) (ls : List Line) (m : ℕ) (x : Option Triple) → IsTrue (is_some x) → IfSome x
     (IsOnLine (line_at ls (m - 1)))
-    → GoesOn cs ls m x (line_at ls (m - 1))
+    → LineGoesOn cs ls m x (line_at ls (m - 1))
 goes_on_same cs ls m None h on = absurd (cc h)
 goes_on_same cs ls m (Some x) h on = (on, on)
 
@@ -85,14 +85,14 @@ pub record IsTail (a b : Point) (cs : List Triple) (ls : List Line) (m : ℕ) (f
   pub is_first : first ≡ turn_of (whole a) (whole b) (corner cs 0)
   pub is_last : last ≡ turn_of (whole a) (whole b) (corner cs (m - 1))
   pub behind : line ≡ line_at ls (m - 1)
-  pub found : IsFound a b line last back
+  pub found : IsLineMeeting a b line last back
 
 -- where the line is read from the list
 pub tail_of : {a b : Point} {cs : List Triple} {ls : List Line} {m : ℕ} {first last : Direction} {line : Line} {back : Option Triple}
     → a ≢ b → AreConvex cs → AreLinkedRound cs ls → 0 < m → m < length cs
     → ((i : ℕ) → i < m → ¬ (IsRight (whole a) (whole b) (corner cs i)))
     → ((i : ℕ) → m ≤ i → i < length cs → IsRight (whole a) (whole b) (corner cs i)) → first ≡ turn_of (whole a) (whole b) (corner cs 0)
-    → last ≡ turn_of (whole a) (whole b) (corner cs (m - 1)) → line ≡ get_or ls (m - 1) line → IsFound a b line last back
+    → last ≡ turn_of (whole a) (whole b) (corner cs (m - 1)) → line ≡ get_or ls (m - 1) line → IsLineMeeting a b line last back
     → IsTail a b cs ls m first last line back
 tail_of {ls = ls} {m = m} differ convex round some rest stay go is_first is_last is found = record {
   differ = differ;
@@ -119,8 +119,8 @@ module _ {a b : Point} {cs : List Triple} {ls : List Line} {m : ℕ} {first last
   linked : AreLinked cs ls
   linked = t.round.linked
 
-  found_back : IsFound a b (line_at ls (m - 1)) last back
-  found_back = subst (λ (l : Line). IsFound a b l last back) t.behind t.found
+  found_back : IsLineMeeting a b (line_at ls (m - 1)) last back
+  found_back = subst (λ (l : Line). IsLineMeeting a b l last back) t.behind t.found
 
   -- the end after the last corner that stays
   pub ends_back : Ends (whole a) (whole b) (corner cs (m - 1)) (corner cs m) (option_to_list back)
@@ -133,11 +133,11 @@ module _ {a b : Point} {cs : List Triple} {ls : List Line} {m : ℕ} {first last
       (t.stay (m - 1) (omega (arith, t.some))) (t.go m (omega arith) t.rest) last t.is_last back found_back
 
   -- from it the line of the cut goes on
-  pub goes_on_whole : GoesOn cs ls m back (a, b)
+  pub goes_on_whole : LineGoesOn cs ls m back (a, b)
   goes_on_whole = goes_on_cut a b cs ls m (corner cs m) back ends_back found_back.on_line found_back.on_cut
 
   -- or that of the side, where there is a meeting
-  pub goes_on_side : IsTrue (is_some back) → GoesOn cs ls m back line
+  pub goes_on_side : IsTrue (is_some back) → LineGoesOn cs ls m back line
   goes_on_side h = rw t.behind (goes_on_same cs ls m back h found_back.on_line)
 
   -- the first corner stays the first
@@ -174,9 +174,9 @@ module _ {a b : Point} {cs : List Triple} {ls : List Line} {m : ℕ} {first last
   -- ---- a polygon
 
   module _ (many : length cs ≢ 2) {end : Line} {front : Option Triple} (is_end : end ≡ line_at ls (length ls - 1))
-      (found_end : IsFound a b end first front) where
-    found_front : IsFound a b (line_at ls (length ls - 1)) first front
-    found_front = subst (λ (l : Line). IsFound a b l first front) is_end found_end
+      (found_end : IsLineMeeting a b end first front) where
+    found_front : IsLineMeeting a b (line_at ls (length ls - 1)) first front
+    found_front = subst (λ (l : Line). IsLineMeeting a b l first front) is_end found_end
 
     three : 3 ≤ length cs
     three = polygon_of cs m t.some t.rest many

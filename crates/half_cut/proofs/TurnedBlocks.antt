@@ -12,7 +12,7 @@ use Rattle.plane.specs.Region.{AreCorners, IsCornerList, corner_at}
 use Rattle.plane.specs.Turn.{IsRight}
 use Rattle.half_cut.proofs.Links.{length_rotated, rotated_at}
 use Rattle.half_cut.specs.Block.{IsBlock}
-use Rattle.half_cut.specs.Outline.{IsKept, Line, from_place}
+use Rattle.half_cut.specs.Outline.{IsRegionKept, Line, from_place}
 
 -- convex corners are so from each place on
 pub convex_from : (cs : List Triple) (t : ℕ) → AreConvex cs → AreConvex (from_place t cs)
@@ -94,7 +94,7 @@ least_first cs t in_t within least i less before =
     (subst (λ (p : Triple). Precedes (corner (from_place t cs) i) p) first before))
 
 -- read from the least on, the corners are a corner list
-pub corners_kept : (cs : List Triple) (ls : List Line) (t : ℕ) → IsKept cs ls t → AreCorners (from_place t cs)
+pub corners_kept : (cs : List Triple) (ls : List Line) (t : ℕ) → IsRegionKept cs ls t → AreCorners (from_place t cs)
 corners_kept cs ls t kept =
     corners_of_convex (from_place t cs) (convex_from cs t kept.convex) (least_first cs t kept.within kept.some kept.least)
 
@@ -108,7 +108,7 @@ module _ (a b : Triple) (cs : List Triple) (t : ℕ) where
       (least_first ds s in_s within least)
 
   -- where all stay, nothing is cut away
-  pub list_of_all : (ls : List Line) → IsKept cs ls t → ((i : ℕ) → i < length cs → ¬ (IsRight a b (corner cs i)))
+  pub list_of_all : (ls : List Line) → IsRegionKept cs ls t → ((i : ℕ) → i < length cs → ¬ (IsRight a b (corner cs i)))
       → IsCornerList (IsUncut a b (from_place t cs)) (from_place t cs)
   list_of_all ls kept stay = list_left cs t (none_cut a b cs kept.convex stay) kept.within kept.some kept.least
 

@@ -8,7 +8,7 @@ use Rattle.exact_plane.specs.declared.direction.Direction.TheVariants.{Left}
 use Rattle.half_cut.specs.Outline.{IsOnLine, Line}
 
 -- the meeting is on the side's line and on that from a to b, and there is one where the turn is to the left and the lines cross
-pub record IsFound (a b : Point) (line : Line) (turn : Direction) (x : Option Triple) : Type 0 where
+pub record IsLineMeeting (a b : Point) (line : Line) (turn : Direction) (x : Option Triple) : Type 0 where
   pub rational : IfSome x IsPoint
   pub on_line : IfSome x (IsOnLine line)
   pub on_cut : IfSome x (IsStraight (whole a) (whole b))

@@ -35,9 +35,9 @@ pub record AreLinkedRound (corners : List Triple) (lines : List Line) : Type 0 w
   pub closes : 0 < length corners → IsOnLine (line_at lines (length lines - 1)) (corner corners 0)
 
 -- the line goes on from the last of the first m corners, or from one more, to which that corner's line goes
-abbrev pub GoesOn : List Triple → List Line → ℕ → Option Triple → Line → Type 0
-GoesOn corners lines m None line = IsOnLine line (corner corners (m - 1))
-GoesOn corners lines m (Some x) line = IsOnLine line x × IsOnLine (line_at lines (m - 1)) x
+abbrev pub LineGoesOn : List Triple → List Line → ℕ → Option Triple → Line → Type 0
+LineGoesOn corners lines m None line = IsOnLine line (corner corners (m - 1))
+LineGoesOn corners lines m (Some x) line = IsOnLine line x × IsOnLine (line_at lines (m - 1)) x
 
 -- the last line comes round to the first corner, or to one more, from which this line does
 abbrev pub ComesRound : List Triple → List Line → Option Triple → Line → Type 0
@@ -46,8 +46,8 @@ ComesRound corners lines (Some x) line =
     IsOnLine (line_at lines (length lines - 1)) x × IsOnLine line x × IsOnLine line (corner corners 0)
 
 -- no corner is right of a line
-abbrev pub AreBeside : List Triple → List Line → Type 0
-AreBeside corners lines = (i j : ℕ) → i < length lines → j < length corners
+abbrev pub AreNoneRight : List Triple → List Line → Type 0
+AreNoneRight corners lines = (i j : ℕ) → i < length lines → j < length corners
     → ¬ IsRight (whole (line_at lines i).0) (whole (line_at lines i).1) (corner corners j)
 
 -- each of the lines is one of the old ones, or the new one
@@ -59,11 +59,11 @@ abbrev pub from_place : {X : Type 0} → ℕ → List X → List X
 from_place t xs = drop t xs ++ take t xs
 
 -- what holds of every region, as its corners and lines stand, and of the place of the least
-pub record IsKept (corners : List Triple) (lines : List Line) (place : ℕ) : Type 0 where
+pub record IsRegionKept (corners : List Triple) (lines : List Line) (place : ℕ) : Type 0 where
   pub convex : AreConvex corners
   pub within : place ≤ length corners
   pub some : 0 < length corners → place < length corners
   pub least : (i : ℕ) → i < length corners → ¬ (Precedes (corner corners i) (corner corners place))
   pub round : AreLinkedRound corners lines
-  pub beside : AreBeside corners lines
+  pub beside : AreNoneRight corners lines
   pub few : length corners ≤ 2 ^ 31

@@ -7,9 +7,9 @@ use Rattle.half_cut.specs.declared.seek.Seen.{Seen}
 use Rattle.half_cut.specs.declared.seek.Seen.TheVariants as seen
 
 -- this corner is right of the line, or none is; otherwise nothing is said
-abbrev pub IsSeen : (a b : Triple) → List Triple → ℕ → Seen → Type 0
-IsSeen a b corners at seen.Here = IsRight a b (corner corners at)
-IsSeen a b corners at seen.Nowhere = (i : ℕ) → i < length corners → ¬ IsRight a b (corner corners i)
-IsSeen a b corners at seen.Ahead = ⊤
-IsSeen a b corners at seen.Back = ⊤
-IsSeen a b corners at seen.Flat = ⊤
+abbrev pub IsSeenAt : (a b : Triple) → List Triple → ℕ → Seen → Type 0
+IsSeenAt a b corners at seen.Here = IsRight a b (corner corners at)
+IsSeenAt a b corners at seen.Nowhere = (i : ℕ) → i < length corners → ¬ IsRight a b (corner corners i)
+IsSeenAt a b corners at seen.Ahead = ⊤
+IsSeenAt a b corners at seen.Back = ⊤
+IsSeenAt a b corners at seen.Flat = ⊤

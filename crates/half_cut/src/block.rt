@@ -5,7 +5,7 @@ ghost use Rattle.plane.specs.Point.{whole};
 ghost use Rattle.plane.specs.Region.{corner_at};
 ghost use Rattle.plane.specs.Turn.{IsRight};
 ghost use Rattle.half_cut.specs.Block.{AreKept};
-ghost use Rattle.half_cut.specs.Outline.{AreBeside, AreLinkedRound};
+ghost use Rattle.half_cut.specs.Outline.{AreNoneRight, AreLinkedRound};
 
 use crate::region::Line;
 use crate::seek::seek;
@@ -49,7 +49,7 @@ pub(crate) fn block_of<L: Ledger>(
 ) -> Kept
     requires convex { AreConvex corners.now.items }
     requires linked { AreLinkedRound corners.now.items lines.now.items }
-    requires beside { AreBeside corners.now.items lines.now.items }
+    requires beside { AreNoneRight corners.now.items lines.now.items }
     ensures { AreKept (whole a.now) (whole b.now) corners.now.items result }
 {
     let Some(gone) = seek(corners, lines, near, a, b, steps) else {

@@ -6,7 +6,7 @@ ghost use Rattle.plane.specs.Order.{Precedes};
 ghost use Rattle.plane.specs.Point.{whole};
 ghost use Rattle.plane.specs.Region.{IsCornerList};
 ghost use Rattle.half_cut.specs.Block.{IsBlock};
-ghost use Rattle.half_cut.specs.Outline.{AreBeside, AreLinkedRound};
+ghost use Rattle.half_cut.specs.Outline.{AreNoneRight, AreLinkedRound};
 
 use crate::block::{Kept, block_of};
 use crate::least::least;
@@ -116,14 +116,14 @@ fn keep_block<L: Ledger>(
     requires differ { a.now ≢ b.now }
     requires convex { AreConvex corners.old.items }
     requires linked { AreLinkedRound corners.old.items lines.old.items }
-    requires beside { AreBeside corners.old.items lines.old.items }
+    requires beside { AreNoneRight corners.old.items lines.old.items }
     requires block { IsBlock (whole a.now) (whole b.now) corners.old.items start count }
     requires old_least { old_least < length corners.old.items }
     requires corner_room { length corners.old.items < deque_capacity corners.old }
     requires line_room { length lines.old.items < deque_capacity lines.old }
     ensures cut { IsCut (whole a.now) (whole b.now) corners.old.items corners.new.items }
     ensures linked { AreLinkedRound corners.new.items lines.new.items }
-    ensures beside { AreBeside corners.new.items lines.new.items }
+    ensures beside { AreNoneRight corners.new.items lines.new.items }
     ensures within { result < length corners.new.items }
     ensures least { (i : ℕ) → i < length corners.new.items → ¬ Precedes (corner corners.new.items i) (corner corners.new.items result) }
     ensures few { length corners.new.items ≤ length corners.old.items + 1 }

@@ -27,13 +27,13 @@ pub struct Region {
 }
 
 impl Model for Region {
-    ghost use Rattle.half_cut.specs.Outline.{IsKept, Outline, from_place};
+    ghost use Rattle.half_cut.specs.Outline.{IsRegionKept, Outline, from_place};
 
     ghost Value = { Outline };
 
     ghost view = { λ region. record { corners = from_place region.least region.corners.items; lines = from_place region.least region.lines.items } };
 
-    ghost invariant = { λ region. IsKept region.corners.items region.lines.items region.least };
+    ghost invariant = { λ region. IsRegionKept region.corners.items region.lines.items region.least };
 }
 
 const FAR: i64 = MAX_COORDINATE as i64;

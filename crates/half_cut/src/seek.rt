@@ -4,8 +4,8 @@ ghost use Rattle.plane.specs.Convex.{AreConvex, corner};
 ghost use Rattle.plane.specs.Line.{cross_product};
 ghost use Rattle.plane.specs.Point.{whole};
 ghost use Rattle.plane.specs.Turn.{IsRight};
-ghost use Rattle.half_cut.specs.Seek.{IsSeen};
-ghost use Rattle.half_cut.specs.Outline.{AreBeside, AreLinkedRound};
+ghost use Rattle.half_cut.specs.Seek.{IsSeenAt};
+ghost use Rattle.half_cut.specs.Outline.{AreNoneRight, AreLinkedRound};
 
 use crate::block::is_right_at;
 use crate::region::Line;
@@ -40,7 +40,7 @@ pub(crate) fn seek<L: Ledger>(
 ) -> Option<usize>
     requires convex { AreConvex corners.now.items }
     requires linked { AreLinkedRound corners.now.items lines.now.items }
-    requires beside { AreBeside corners.now.items lines.now.items }
+    requires beside { AreNoneRight corners.now.items lines.now.items }
     ensures within { IfSome result (λ k. k < length corners.now.items) }
     ensures here { IfSome result (λ k. IsRight (whole a.now) (whole b.now) (corner corners.now.items k)) }
     ensures none { IfNone result ((i : ℕ) → i < length corners.now.items → ¬ IsRight (whole a.now) (whole b.now) (corner corners.now.items i)) }
@@ -74,9 +74,9 @@ fn look<L: Ledger>(
 ) -> Seen
     requires convex { AreConvex corners.now.items }
     requires linked { AreLinkedRound corners.now.items lines.now.items }
-    requires beside { AreBeside corners.now.items lines.now.items }
+    requires beside { AreNoneRight corners.now.items lines.now.items }
     requires within { at < length corners.now.items }
-    ensures { IsSeen (whole a.now) (whole b.now) corners.now.items at result }
+    ensures { IsSeenAt (whole a.now) (whole b.now) corners.now.items at result }
 {
     if is_right_at(corners, at, a, b, steps) {
         return Seen::Here;

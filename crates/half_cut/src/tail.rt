@@ -6,8 +6,8 @@ ghost use Rattle.plane.specs.Cut.{IsCut};
 ghost use Rattle.plane.specs.Point.{whole};
 ghost use Rattle.plane.specs.Turn.{IsRight};
 ghost use Rattle.exact_plane.specs.Direction.{turn_of};
-ghost use Rattle.half_cut.specs.Meeting.{IsFound};
-ghost use Rattle.half_cut.specs.Outline.{AreLinked, AreLinkedRound, AreOf, ComesRound, GoesOn, line_at};
+ghost use Rattle.half_cut.specs.Meeting.{IsLineMeeting};
+ghost use Rattle.half_cut.specs.Outline.{AreLinked, AreLinkedRound, AreOf, ComesRound, LineGoesOn, line_at};
 
 use crate::region::Line;
 use exact_plane::{Direction, Hom, Pt, Steps};
@@ -63,7 +63,7 @@ fn meeting<L: Ledger>(
     b: &Pt,
     steps: &mut Steps<L>,
 ) -> Option<Hom>
-    ensures { IsFound a.now b.now line.now turn result }
+    ensures { IsLineMeeting a.now b.now line.now turn result }
 {
     if turn == Direction::Left {
         Hom::meet(&line.0, &line.1, a, b, steps)
@@ -84,7 +84,7 @@ fn keep(
     requires some { 0 < count }
     requires rest { count < length corners.old.items }
     requires differ { line.0 ≢ line.1 }
-    requires goes_on { GoesOn corners.old.items lines.old.items count back line }
+    requires goes_on { LineGoesOn corners.old.items lines.old.items count back line }
     ensures corners { corners.new.items ≡ take count corners.old.items ++ option_to_list back }
     ensures linked { AreLinked corners.new.items lines.new.items }
     ensures last { line_at lines.new.items (length lines.new.items - 1) ≡ line }

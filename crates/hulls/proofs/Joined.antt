@@ -17,7 +17,7 @@ mod OnPaths
 pub use Rattle.hulls.proofs.Joined.OnPaths.{joined_of_on_path, on_path_iff_joined}
 -- A path read backward is the path back; and a point on a path is on the step with the number of the last step of the path to it.
 mod PassedSteps
-pub use Rattle.hulls.proofs.Joined.PassedSteps.{on_step_to, path_back, path_steps}
+pub use Rattle.hulls.proofs.Joined.PassedSteps.{on_step_to, path_steps}
 -- Two chains with bends from one point that have the same point at a place are one up to it.
 mod OneFront
 pub use Rattle.hulls.proofs.Joined.OneFront.{one_front}

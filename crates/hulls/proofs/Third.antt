@@ -5,7 +5,7 @@ mod Prolonged
 pub use Rattle.hulls.proofs.Third.Prolonged.{with_point, with_point_ends}
 -- Paths read backward, as lists that begin with their first step, and from a point on them to their end.
 mod Cuts
-pub use Rattle.hulls.proofs.Third.Cuts.{list_of_step, on_path_back, same_step, step_of_list}
+pub use Rattle.hulls.proofs.Third.Cuts.{list_of_step, on_path_back, path_back, same_step, step_of_list}
 -- Points farther along a ray: a point between the nearer one and a third is between the farther one and that, and so are joined points joined.
 mod Rays
 pub use Rattle.hulls.proofs.Third.Rays.{joined_nearer, joined_on_ray, ray_of_on}

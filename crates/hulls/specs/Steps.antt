@@ -3,7 +3,7 @@ use Rattle.std.specs.Prelude.{◌≢◌, List}
 use Rattle.plane.specs.Point.{Point, whole}
 use Rattle.plane.specs.Segment.{On}
 use Rattle.plane.specs.Turn.{IsLeft, IsRight}
-use Rattle.rings.specs.From.{IsBefore}
+use Rattle.rings.specs.From.{IsPredecessor}
 use Rattle.rings.specs.Full.{IsVertexBetween}
 use Rattle.rings.specs.Inside.{IsIn}
 use Rattle.rings.specs.Sees.{Sees}
@@ -21,9 +21,9 @@ pub record IsOpenStep (ring : List Point) (x y : Point) : Type 0 where
 pub data IsSeenFrom (ring : List Point) (b x y : Point) : Type 0 where
   away : IsOnPath ring b y x → IsSeenFrom ring b x y
   towards : IsOnPath ring b x y → IsSeenFrom ring b x y
-  from_left : (p q : Point) → IsBefore ring b x p → IsBefore ring b y q → IsLeft (whole x) (whole y) (whole p) → IsLeft (whole x) (whole y) (whole q)
+  from_left : (p q : Point) → IsPredecessor ring b x p → IsPredecessor ring b y q → IsLeft (whole x) (whole y) (whole p) → IsLeft (whole x) (whole y) (whole q)
       → IsSeenFrom ring b x y
-  from_right : (p q : Point) → IsBefore ring b x p → IsBefore ring b y q → IsRight (whole x) (whole y) (whole p) → IsRight (whole x) (whole y) (whole q)
+  from_right : (p q : Point) → IsPredecessor ring b x p → IsPredecessor ring b y q → IsRight (whole x) (whole y) (whole p) → IsRight (whole x) (whole y) (whole q)
       → IsSeenFrom ring b x y
 
 -- each step past no vertex that b is not on is seen from b in one of these ways

@@ -20,7 +20,7 @@ use Rattle.inside_test.proofs.CrossedEdges.{crossed_backward, crossed_from_left,
 use Rattle.inside_test.proofs.Odd.{odd_step}
 use Rattle.inside_test.proofs.Passed.{left_of_rise, not_falling, right_of_rise, test_fails_high, test_fails_low}
 use Rattle.inside_test.proofs.Touched.{follows_right, precedes_left}
-use Rattle.inside_test.specs.Block.{AreMissed, AreRight, OfAllEnclosed}
+use Rattle.inside_test.specs.Block.{IsBoxMissed, IsBoxRight, OfAllEnclosed}
 use Rattle.inside_test.specs.Meeting.{rises}
 use Rattle.inside_test.specs.Odd.{OddSoFar}
 
@@ -190,7 +190,7 @@ module _ (ring : List Point) (p : Triple) (at_p : IsPoint p) (first end : ℕ) (
       → OddSoFar (take end (edges_of ring)) p odd
   none_by_ends passed = subst (OddSoFar (take end (edges_of ring)) p) (no_change odd true) (all_by_ends (λ _. true) passed)
 
-  pub block_missed : AreMissed b p → OddSoFar (take end (edges_of ring)) p odd
+  pub block_missed : IsBoxMissed b p → OddSoFar (take end (edges_of ring)) p odd
   block_missed (inl above) =
       let of = of_end (λ v. p.Y <ℤ (v.y *ℤ p.W)) above in
       none_by_ends (λ k from below. passed_above (vertex ring k) (vertex ring (k + 1)) p at_p (of k from (omega arith)) (of (k + 1) (omega arith) (omega arith)))
@@ -202,7 +202,7 @@ module _ (ring : List Point) (p : Triple) (at_p : IsPoint p) (first end : ℕ) (
       none_by_ends (λ k from less. passed_left (vertex ring k) (vertex ring (k + 1)) p at_p (of k from (omega arith)) (of (k + 1) (omega arith) (omega arith)))
 
   -- and those right of the point do where the first end and the last are on both sides of its height
-  pub block_crossed : AreRight b p → (first_above last_above : Bool) → IsTrue first_above ↔ (p.Y <ℤ (Point.y (vertex ring first) *ℤ p.W))
+  pub block_crossed : IsBoxRight b p → (first_above last_above : Bool) → IsTrue first_above ↔ (p.Y <ℤ (Point.y (vertex ring first) *ℤ p.W))
       → IsTrue last_above ↔ (p.Y <ℤ (Point.y (vertex ring end) *ℤ p.W))
       → OddSoFar (take end (edges_of ring)) p (not (beq odd (not (beq first_above last_above))))
   block_crossed right first_above last_above first_is last_is =

@@ -14,7 +14,7 @@ use Rattle.rings.proofs.Inside.{mediants_of_sees, sees_by_mediants, AreBreakpoin
 use Rattle.rings.specs.Inside.{IsIn}
 use Rattle.rings.specs.Ring.{IsOnEdge}
 use Rattle.rings.specs.Sees.{Sees}
-use Rattle.inside_test.specs.Breakpoints.{IsPlaced, ListsMeetings, breakpoint_points}
+use Rattle.inside_test.specs.Breakpoints.{IsPointOn, ListsMeetings, breakpoint_points}
 use Rattle.inside_test.specs.declared.breakpoint.Breakpoint.{Breakpoint}
 
 -- ---- a list with another order
@@ -24,7 +24,7 @@ module _ (ring : List Point) (n : ℕ) (a b : Triple) where
   pub lists_permuted : (old new : List Triple) → IsPermutation old new → ListsMeetings ring n a b old → ListsMeetings ring n a b new
   lists_permuted old new moved h = record {
     several = let least = h.several in let same = length_permutation old new moved in omega arith;
-    placed = All-permutation (IsPlaced a b) old new moved h.placed;
+    placed = All-permutation (IsPointOn a b) old new moved h.placed;
     has_first = Contains-permutation old new a moved h.has_first;
     has_last = Contains-permutation old new b moved h.has_last;
     enclosed = λ i within z at_z first second.
@@ -58,8 +58,8 @@ module _ (ring : List Point) (a b : Triple) (points : List Triple) (lists : List
   unfolding at
   are_breakpoints = record {
     several = lists.several;
-    rational = λ k below. (All-get_or (IsPlaced a b) points k a below lists.placed).0;
-    on_segment = λ k below. (All-get_or (IsPlaced a b) points k a below lists.placed).1;
+    rational = λ k below. (All-get_or (IsPointOn a b) points k a below lists.placed).0;
+    on_segment = λ k below. (All-get_or (IsPointOn a b) points k a below lists.placed).1;
     ordered = sorted;
     has_first = let (k, below, is) = place_of a lists.has_first in (k, below, subst (λ p. IsSame (get_or points k a) p) is (same_refl (get_or points k a)));
     has_last = let (k, below, is) = place_of b lists.has_last in (k, below, subst (λ p. IsSame (get_or points k a) p) is (same_refl (get_or points k a)));

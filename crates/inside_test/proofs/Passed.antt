@@ -18,7 +18,7 @@ use Rattle.exact_plane.specs.Direction.{turn_of}
 use Rattle.exact_plane.specs.declared.direction.Direction.{Direction}
 use Rattle.exact_plane.specs.declared.direction.Direction.TheVariants.{Left, Right, Straight}
 use Rattle.inside_test.proofs.CrossedEdges.{crossed_backward, crossed_from_left, crossed_from_right}
-use Rattle.inside_test.specs.Meeting.{IsBeside, IsMeeting, rises}
+use Rattle.inside_test.specs.Meeting.{IsVertexBeside, IsMeeting, rises}
 use Rattle.inside_test.specs.declared.crossing.Meeting.{Meeting}
 use Rattle.inside_test.specs.declared.crossing.Meeting.TheVariants.{Crossed, Missed, On}
 use Rattle.inside_test.specs.declared.crossing.Vertex.{Vertex}
@@ -175,7 +175,7 @@ test_fails_low low high y h = grind (arith, ints)
 pub test_fails_high : (low high y : ℤ) → high ≤ℤ y → (le_z low y && lt_z y high) ≡ false
 test_fails_high low high y h = grind (arith, ints)
 
-module _ (v : Vertex) (p : Triple) (beside : IsBeside v p) where
+module _ (v : Vertex) (p : Triple) (beside : IsVertexBeside v p) where
   -- a vertex that says that it is above the point is,
   pub above_of_true : v.is_above ≡ true → p.Y <ℤ (v.at.y *ℤ p.W)
   above_of_true e = beside.0 e
@@ -184,7 +184,7 @@ module _ (v : Vertex) (p : Triple) (beside : IsBeside v p) where
   pub not_above_of_false : v.is_above ≡ false → (v.at.y *ℤ p.W) ≤ℤ p.Y
   not_above_of_false e = at_most (v.at.y *ℤ p.W) p.Y (λ k. cc (beside.1 k, e))
 
-module _ (low high : Vertex) (p : Triple) (first : IsBeside low p) (last : IsBeside high p) where
+module _ (low high : Vertex) (p : Triple) (first : IsVertexBeside low p) (last : IsVertexBeside high p) where
   pub rise_of : low.is_above ≡ false → high.is_above ≡ true → rises low.at high.at p ≡ true
   rise_of e f = test_passes _ _ _ (not_above_of_false low p first e) (above_of_true high p last f)
 

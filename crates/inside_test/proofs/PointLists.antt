@@ -9,7 +9,7 @@ use Rattle.plane.proofs.Points.{same_sym}
 use Rattle.plane.proofs.Segments.{on_first_end, on_last_end}
 use Rattle.plane.specs.Point.{IsPoint, IsSame, Point, Triple, whole}
 use Rattle.rings.specs.Ring.{vertex}
-use Rattle.inside_test.specs.Breakpoints.{EnclosesAll, Extends, IsListed, IsPlaced, Lists, ListsMeetings, breakpoint_points}
+use Rattle.inside_test.specs.Breakpoints.{EnclosesAll, ExtendsOnSegment, IsListed, IsPointOn, Lists, ListsMeetings, breakpoint_points}
 use Rattle.inside_test.specs.declared.breakpoint.Breakpoint.{Breakpoint}
 
 -- what holds on success, or what holds on failure
@@ -24,23 +24,23 @@ on_ok (Err e) P Q f h = tt
 
 module _ (a b : Triple) where
   -- a list that stays
-  pub extends_same : (old new : List Triple) → new ≡ old → Extends a b old new
+  pub extends_same : (old new : List Triple) → new ≡ old → ExtendsOnSegment a b old new
   extends_same old new e = record {
     longer = let same = ap length e in omega arith;
     kept = λ p h. subst (λ l. Contains l p) (sym e) h;
-    placed = λ h. subst (All (IsPlaced a b)) (sym e) h;
+    placed = λ h. subst (All (IsPointOn a b)) (sym e) h;
   }
 
   -- one more point
-  pub extends_push : (old new : List Triple) (p : Triple) → IsPlaced a b p → new ≡ old ++ p ∷ [] → Extends a b old new
+  pub extends_push : (old new : List Triple) (p : Triple) → IsPointOn a b p → new ≡ old ++ p ∷ [] → ExtendsOnSegment a b old new
   extends_push old new p on e = record {
     longer = let more = ap length e ∙ length-append old (p ∷ []) in omega arith;
     kept = λ q h. subst (λ l. Contains l q) (sym e) (Contains-append_left old (p ∷ []) q h);
-    placed = λ h. subst (All (IsPlaced a b)) (sym e) (All-push (IsPlaced a b) old p h on);
+    placed = λ h. subst (All (IsPointOn a b)) (sym e) (All-push (IsPointOn a b) old p h on);
   }
 
   -- one list after another
-  pub extends_trans : (old between new : List Triple) → Extends a b old between → Extends a b between new → Extends a b old new
+  pub extends_trans : (old between new : List Triple) → ExtendsOnSegment a b old between → ExtendsOnSegment a b between new → ExtendsOnSegment a b old new
   extends_trans old between new h k = record {
     longer = let first = h.longer in let second = k.longer in omega arith;
     kept = λ p on. k.kept p (h.kept p on);
@@ -48,16 +48,16 @@ module _ (a b : Triple) where
   }
 
   -- a list to which a point was pushed, or that stayed
-  pub extends_pushed : {A E : Type 0} (r : Result A E) (old new : List Triple) (p : Triple) → IsPlaced a b p
-      → OnOk r (new ≡ old ++ p ∷ []) → OnErr r (new ≡ old) → Extends a b old new
+  pub extends_pushed : {A E : Type 0} (r : Result A E) (old new : List Triple) (p : Triple) → IsPointOn a b p
+      → OnOk r (new ≡ old ++ p ∷ []) → OnErr r (new ≡ old) → ExtendsOnSegment a b old new
   extends_pushed r old new p on ok err = elim (one_of r (new ≡ old ++ p ∷ []) (new ≡ old) ok err) [
     | inl e ↦ extends_push old new p on e
     | inr e ↦ extends_same old new e
   ]
 
   -- or to which it was pushed unless it was there
-  pub extends_listed : {A E : Type 0} (r : Result A E) (old new : List Triple) (p : Triple) → IsPlaced a b p
-      → OnOk r (Lists p old new) → OnErr r (new ≡ old) → Extends a b old new
+  pub extends_listed : {A E : Type 0} (r : Result A E) (old new : List Triple) (p : Triple) → IsPointOn a b p
+      → OnOk r (Lists p old new) → OnErr r (new ≡ old) → ExtendsOnSegment a b old new
   extends_listed r old new p on ok err = elim (one_of r (Lists p old new) (new ≡ old) ok err) [
     | inl l ↦ elim l [ inl e ↦ extends_push old new p on e | inr k ↦ extends_same old new k.0 ]
     | inr e ↦ extends_same old new e
@@ -75,7 +75,7 @@ listed_at xs i x p below is same =
 -- ---- the list that a loop over the edges makes
 
 -- the points that are enclosed stay so
-encloses_more : (a b c d : Triple) (old new : List Triple) → Extends a b old new → EnclosesAll old a b c d → EnclosesAll new a b c d
+encloses_more : (a b c d : Triple) (old new : List Triple) → ExtendsOnSegment a b old new → EnclosesAll old a b c d → EnclosesAll new a b c d
 encloses_more a b c d old new more h z at_z first second =
     let e = h z at_z first second in
     record {
@@ -96,15 +96,15 @@ module _ (ring : List Point) (a b : Triple) where
       let all : points ≡ a ∷ b ∷ [] = f ∙ ap (λ l. l ++ b ∷ []) e in
       subst (ListsMeetings ring 0 a b) (sym all) (record {
         several = lit≤ tt;
-        placed = All-cons (IsPlaced a b) a (b ∷ []) (at_a, on_first_end a b)
-            (All-cons (IsPlaced a b) b [] (at_b, on_last_end a b) (All-nil (IsPlaced a b)));
+        placed = All-cons (IsPointOn a b) a (b ∷ []) (at_a, on_first_end a b)
+            (All-cons (IsPointOn a b) b [] (at_b, on_last_end a b) (All-nil (IsPointOn a b)));
         has_first = (0, lit< tt, refl);
         has_last = (1, lit< tt, refl);
         enclosed = λ i within. absurd (omega arith);
       })
 
   -- and goes on with what is common with each edge
-  pub lists_more : (i : ℕ) (old new : List Triple) → ListsMeetings ring i a b old → Extends a b old new
+  pub lists_more : (i : ℕ) (old new : List Triple) → ListsMeetings ring i a b old → ExtendsOnSegment a b old new
       → EnclosesAll new a b (whole (vertex ring i)) (whole (vertex ring (i + 1))) → ListsMeetings ring (i + 1) a b new
   lists_more i old new h more here = record {
     several = let least = h.several in let longer = more.longer in omega arith;

@@ -9,18 +9,18 @@ abbrev pub OfAllEnclosed : BoundingBox → (Point → Type 0) → Type 0
 OfAllEnclosed b P = (v : Point) → IsInBounds v → Encloses b v → P v
 
 -- they are above the point, below it, left of it, right of it
-abbrev pub AreAbove : BoundingBox → Triple → Type 0
-AreAbove b p = OfAllEnclosed b (λ v. p.Y <ℤ (v.y *ℤ p.W))
+abbrev pub IsBoxAbove : BoundingBox → Triple → Type 0
+IsBoxAbove b p = OfAllEnclosed b (λ v. p.Y <ℤ (v.y *ℤ p.W))
 
-abbrev pub AreBelow : BoundingBox → Triple → Type 0
-AreBelow b p = OfAllEnclosed b (λ v. (v.y *ℤ p.W) <ℤ p.Y)
+abbrev pub IsBoxBelow : BoundingBox → Triple → Type 0
+IsBoxBelow b p = OfAllEnclosed b (λ v. (v.y *ℤ p.W) <ℤ p.Y)
 
-abbrev pub AreLeft : BoundingBox → Triple → Type 0
-AreLeft b p = OfAllEnclosed b (λ v. (v.x *ℤ p.W) <ℤ p.X)
+abbrev pub IsBoxLeft : BoundingBox → Triple → Type 0
+IsBoxLeft b p = OfAllEnclosed b (λ v. (v.x *ℤ p.W) <ℤ p.X)
 
-abbrev pub AreRight : BoundingBox → Triple → Type 0
-AreRight b p = OfAllEnclosed b (λ v. p.X <ℤ (v.x *ℤ p.W))
+abbrev pub IsBoxRight : BoundingBox → Triple → Type 0
+IsBoxRight b p = OfAllEnclosed b (λ v. p.X <ℤ (v.x *ℤ p.W))
 
 -- the ray from the point to the right has none of them beside it or ahead
-abbrev pub AreMissed : BoundingBox → Triple → Type 0
-AreMissed b p = AreAbove b p ⊎ AreBelow b p ⊎ AreLeft b p
+abbrev pub IsBoxMissed : BoundingBox → Triple → Type 0
+IsBoxMissed b p = IsBoxAbove b p ⊎ IsBoxBelow b p ⊎ IsBoxLeft b p

@@ -22,14 +22,14 @@ abbrev pub EnclosesAll : List Triple → (a b c d : Triple) → Type 0
 EnclosesAll points a b c d = (z : Triple) → IsPoint z → On z a b → On z c d → IsEnclosed points c d z
 
 -- a rational point on the segment from a to b
-abbrev pub IsPlaced : (a b p : Triple) → Type 0
-IsPlaced a b p = IsPoint p × On p a b
+abbrev pub IsPointOn : (a b p : Triple) → Type 0
+IsPointOn a b p = IsPoint p × On p a b
 
 -- the new points are the old ones and others on the segment from a to b
-pub record Extends (a b : Triple) (old new : List Triple) : Type 0 where
+pub record ExtendsOnSegment (a b : Triple) (old new : List Triple) : Type 0 where
   pub longer : length old ≤ length new
   pub kept : (p : Triple) → Contains old p → Contains new p
-  pub placed : All (IsPlaced a b) old → All (IsPlaced a b) new
+  pub placed : All (IsPointOn a b) old → All (IsPointOn a b) new
 
 -- a listed rational point is the same as p
 pub record IsListed (points : List Triple) (p : Triple) : Type 0 where
@@ -45,7 +45,7 @@ Lists p old new = (new ≡ old ++ p ∷ []) ⊎ ((new ≡ old) × IsListed old p
 -- points on the segment from a to b: both ends, and enough to enclose all that it has in common with the first n edges
 pub record ListsMeetings (ring : List Point) (n : ℕ) (a b : Triple) (points : List Triple) : Type 0 where
   pub several : 2 ≤ length points
-  pub placed : All (IsPlaced a b) points
+  pub placed : All (IsPointOn a b) points
   pub has_first : Contains points a
   pub has_last : Contains points b
   pub enclosed : (i : ℕ) → i < n → EnclosesAll points a b (whole (vertex ring i)) (whole (vertex ring (i + 1)))

@@ -15,8 +15,8 @@ pub record IsMeeting (m : Meeting) (e : Edge) (p : Triple) : Type 0 where
   pub missed : m ≡ Missed → is_crossed e p ≡ false
 
 -- the vertex says whether it is above the point
-abbrev pub IsBeside : Vertex → Triple → Type 0
-IsBeside v p = IsTrue v.is_above ↔ (p.Y <ℤ (v.at.y *ℤ p.W))
+abbrev pub IsVertexBeside : Vertex → Triple → Type 0
+IsVertexBeside v p = IsTrue v.is_above ↔ (p.Y <ℤ (v.at.y *ℤ p.W))
 
 -- the edge from low to high rises past the height of the point: it begins there or below, and ends above
 abbrev pub rises : Point → Point → Triple → Bool

@@ -4,7 +4,7 @@ ghost use Rattle.plane.specs.Point.{IsPoint, Triple, whole};
 ghost use Rattle.rings.specs.Edge.{edge};
 ghost use Rattle.exact_plane.specs.Direction.{turn_of};
 ghost use Rattle.inside_test.specs.Level.{AreLevels};
-ghost use Rattle.inside_test.specs.Meeting.{AreAround, IsBeside, IsMeeting, IsTouched, rises};
+ghost use Rattle.inside_test.specs.Meeting.{AreAround, IsVertexBeside, IsMeeting, IsTouched, rises};
 
 use crate::level::Levels;
 use exact_plane::{Direction, Hom, Pt, Steps, turn_hom};
@@ -32,7 +32,7 @@ impl Vertex {
     // The vertex at `at`, beside the point with these levels.
     pub(crate) fn of<L: Ledger>(at: Pt, levels: &Levels, steps: &mut Steps<L>) -> Vertex
         ensures at { result.at ≡ at }
-        ensures beside { (p : Triple) → AreLevels levels.now p → IsBeside result p }
+        ensures beside { (p : Triple) → AreLevels levels.now p → IsVertexBeside result p }
     {
         let is_above = levels.is_below(&at, steps);
         Vertex { at, is_above }
@@ -48,8 +48,8 @@ pub(crate) fn meeting_of<L: Ledger>(
     steps: &mut Steps<L>,
 ) -> Meeting
     requires levels { AreLevels levels.now p.now }
-    requires first { IsBeside a.now p.now }
-    requires last { IsBeside b.now p.now }
+    requires first { IsVertexBeside a.now p.now }
+    requires last { IsVertexBeside b.now p.now }
     requires rational { IsPoint p.now }
     ensures { IsMeeting result (edge a.now.at b.now.at) p.now }
 {

@@ -1,7 +1,7 @@
 // A rational number among the whole numbers, and a rational point among the vertices.
 ghost use Rattle.std.specs.Prelude.{◌≡◌, ◌↔◌, ◌<◌, ◌≤◌, ◌^◌, ◌<ℤ◌, ◌≤ℤ◌, ◌*ℤ◌, ℤ, IsTrue, pos, unsigned_abs};
 ghost use Rattle.plane.specs.Point.{IsInLimit, IsPoint, IsSame, Triple, whole};
-ghost use Rattle.inside_test.specs.Block.{AreMissed, AreRight};
+ghost use Rattle.inside_test.specs.Block.{IsBoxMissed, IsBoxRight};
 ghost use Rattle.inside_test.specs.Level.{AreLevels, IsLevel};
 
 use exact_plane::{BoundingBox, Hom, Pt, Steps};
@@ -123,7 +123,7 @@ impl Levels {
 
     // Whether all that is in this box is above the point, below it or left of it: a ray to the right misses it.
     pub(crate) fn misses(&self, around: &BoundingBox) -> bool
-        ensures { IsTrue result → (p : Triple) → AreLevels self.now p → AreMissed around.now p }
+        ensures { IsTrue result → (p : Triple) → AreLevels self.now p → IsBoxMissed around.now p }
     {
         self.height.is_below_from(around.south)
             || self.height.is_above_to(around.north)
@@ -132,7 +132,7 @@ impl Levels {
 
     // Whether all of the box is right of the point.
     pub(crate) fn is_left_of_all(&self, around: &BoundingBox) -> bool
-        ensures { IsTrue result → (p : Triple) → AreLevels self.now p → AreRight around.now p }
+        ensures { IsTrue result → (p : Triple) → AreLevels self.now p → IsBoxRight around.now p }
     {
         self.across.is_below_from(around.west)
     }

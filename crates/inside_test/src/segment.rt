@@ -6,7 +6,7 @@ ghost use Rattle.plane.specs.Segment.{On};
 ghost use Rattle.rings.specs.Inside.{IsIn};
 ghost use Rattle.rings.specs.Sees.{Sees};
 ghost use Rattle.exact_plane.specs.Size.{IsNarrow};
-ghost use Rattle.inside_test.specs.Breakpoints.{EnclosesAll, Extends, IsListed, Lists, ListsMeetings, breakpoint_points};
+ghost use Rattle.inside_test.specs.Breakpoints.{EnclosesAll, ExtendsOnSegment, IsListed, Lists, ListsMeetings, breakpoint_points};
 
 use crate::breakpoint::Breakpoint;
 use crate::position::{Position, place_hom};
@@ -67,7 +67,7 @@ fn push_meetings<L: Ledger>(
 ) -> Result<(), Memory>
     requires has_first { Contains (breakpoint_points points.old.items) (whole a.now) }
     requires has_last { Contains (breakpoint_points points.old.items) (whole b.now) }
-    ensures extends { Extends (whole a.now) (whole b.now) (breakpoint_points points.old.items) (breakpoint_points points.new.items) }
+    ensures extends { ExtendsOnSegment (whole a.now) (whole b.now) (breakpoint_points points.old.items) (breakpoint_points points.new.items) }
     ensures enclosed { OnOk result (EnclosesAll (breakpoint_points points.new.items) (whole a.now) (whole b.now) (whole c.now) (whole d.now)) }
 {
     if !segments_meet(a, b, c, d, steps) {
@@ -90,7 +90,7 @@ fn push_if_on<L: Ledger>(
     b: &Pt,
     steps: &mut Steps<L>,
 ) -> Result<(), Memory>
-    ensures extends { Extends (whole a.now) (whole b.now) (breakpoint_points points.old.items) (breakpoint_points points.new.items) }
+    ensures extends { ExtendsOnSegment (whole a.now) (whole b.now) (breakpoint_points points.old.items) (breakpoint_points points.new.items) }
     ensures listed { OnOk result (On (whole p.now) (whole a.now) (whole b.now) → Contains (breakpoint_points points.new.items) (whole p.now)) }
 {
     if !on_segment(p, a, b, steps) {

@@ -13,7 +13,7 @@ use Rattle.rings.proofs.Sweeps.{precedes_later}
 use Rattle.rings.specs.Ring.{vertex}
 use Rattle.mono_fill.specs.Monotone.{AreRanks, Rises}
 use Rattle.mesh_tests.specs.Pieces.{IsPieceRow}
-use Rattle.mesh_tests.specs.Rows.{point_of}
+use Rattle.mesh_tests.specs.Rows.{point_with}
 
 -- ---- points that rise
 
@@ -98,16 +98,16 @@ all_below n numbers all k d h =
 -- ---- rows: where a piece is read from its least vertex on, that vertex, the lower chain, the greatest vertex and the upper chain
 
 row : (points : List (ℤ × ℤ)) (piece before from_least : List ℕ) (least : ℕ) (lower : List ℕ) (greatest : ℕ) (upper : List ℕ)
-    → rises (map point_of points) (range_with_len 0 (length (map point_of points))) ≡ true
-    → ltb 2 (length piece) ≡ true → list_all (λ i. ltb i (length (map point_of points))) piece ≡ true
+    → rises (map point_with points) (range_with_len 0 (length (map point_with points))) ≡ true
+    → ltb 2 (length piece) ≡ true → list_all (λ i. ltb i (length (map point_with points))) piece ≡ true
     → piece ≡ before ++ from_least → from_least ++ before ≡ least ∷ (lower ++ greatest ∷ upper)
-    → rises (map point_of points) (least ∷ (lower ++ greatest ∷ [])) ≡ true
-    → rises (map point_of points) (least ∷ (reverse upper ++ greatest ∷ [])) ≡ true
+    → rises (map point_with points) (least ∷ (lower ++ greatest ∷ [])) ≡ true
+    → rises (map point_with points) (least ∷ (reverse upper ++ greatest ∷ [])) ≡ true
     → IsPieceRow points piece
 row points piece before from_least least lower greatest upper ordered some inside parts read low high = record {
-  ranks = own_ranks (map point_of points) ordered;
+  ranks = own_ranks (map point_with points) ordered;
   some = omega (arith, ltb-true 2 (length piece) some);
-  numbers = all_below (length (map point_of points)) piece inside;
+  numbers = all_below (length (map point_with points)) piece inside;
   monotone = record {
     before = before;
     from_least = from_least;
@@ -117,8 +117,8 @@ row points piece before from_least least lower greatest upper ordered some insid
     greatest = greatest;
     upper = upper;
     read = read;
-    lower_rises = path_rises (map point_of points) (least ∷ (lower ++ greatest ∷ [])) low;
-    upper_rises = path_rises (map point_of points) (least ∷ (reverse upper ++ greatest ∷ [])) high;
+    lower_rises = path_rises (map point_with points) (least ∷ (lower ++ greatest ∷ [])) low;
+    upper_rises = path_rises (map point_with points) (least ∷ (reverse upper ++ greatest ∷ [])) high;
   };
 }
 

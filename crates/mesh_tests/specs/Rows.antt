@@ -9,8 +9,8 @@ use Rattle.meshes.specs.declared.tri.Tri.{Tri}
 use Rattle.ring_check.specs.Oriented.{oriented}
 
 -- the point with these coordinates
-abbrev pub point_of : ℤ × ℤ → Point
-point_of at = record { x = at.0; y = at.1 }
+abbrev pub point_with : ℤ × ℤ → Point
+point_with at = record { x = at.0; y = at.1 }
 
 -- the triangle with these corners
 abbrev pub tri_of : ℕ × ℕ × ℕ → Tri
@@ -23,4 +23,4 @@ pub record Suit (corners : List Point) (tris : List Tri) : Type 0 where
 
 -- so it is with the ring of this list
 abbrev pub SuitRow : List (ℤ × ℤ) → List (ℕ × ℕ × ℕ) → Type 0
-SuitRow points tris = Suit (oriented (map point_of points)).corners (map tri_of tris)
+SuitRow points tris = Suit (oriented (map point_with points)).corners (map tri_of tris)

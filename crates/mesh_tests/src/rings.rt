@@ -1,6 +1,6 @@
 //! Rings and meshes for tests, by numbers that are written down; none where these are of no ring, or memory is refused.
 ghost use Rattle.std.specs.Prelude.{◌≡◌, ◌<◌, ◌^◌, IfOk, IfSome, length, map};
-ghost use Rattle.mesh_tests.specs.Rows.{Suit, point_of, tri_of};
+ghost use Rattle.mesh_tests.specs.Rows.{Suit, point_with, tri_of};
 ghost use Rattle.meshes.specs.Fits.{Fits};
 ghost use Rattle.ring_check.specs.Oriented.{oriented};
 
@@ -31,7 +31,7 @@ pub fn ats_of(alloc: Global, text: &str) -> Option<Vec<At>> {
 
 /// These points, within the limit of coordinates.
 pub fn points_of(alloc: Global, list: &[At]) -> Option<Vec<Pt>>
-    ensures { IfSome result (λ points. points.items ≡ map point_of list.now) }
+    ensures { IfSome result (λ points. points.items ≡ map point_with list.now) }
 {
     let mut points = Vec::new(alloc);
     for (x, y) in list {
@@ -42,7 +42,7 @@ pub fn points_of(alloc: Global, list: &[At]) -> Option<Vec<Pt>>
 
 /// The ring of this list.
 pub fn ring_of<L: Ledger>(alloc: Global, list: &[At], steps: &mut Steps<L>) -> Option<Ring>
-    ensures { IfSome result (λ ring. ring ≡ oriented (map point_of list.now)) }
+    ensures { IfSome result (λ ring. ring ≡ oriented (map point_with list.now)) }
 {
     Ring::of(points_of(alloc, list)?, steps).ok()
 }

@@ -13,9 +13,9 @@ turned [] = []
 turned (x ∷ xs) = x ∷ reverse xs
 
 -- a piece, read from its least vertex on along this chain
-abbrev pub along : Side → List ℕ → List ℕ
-along Lower ring = ring
-along Upper ring = turned ring
+abbrev pub along_chain : Side → List ℕ → List ℕ
+along_chain Lower ring = ring
+along_chain Upper ring = turned ring
 
 -- ranks, a piece read from its least vertex on, and how many vertices after that are taken of each chain
 pub record Cursors : Type 0 where
@@ -31,7 +31,7 @@ taken Upper c = c.upper
 
 -- the next vertex of it
 abbrev pub ahead : Side → Cursors → ℕ
-ahead side c = slice_index (along side c.ring) (taken side c + 1)
+ahead side c = slice_index (along_chain side c.ring) (taken side c + 1)
 
 -- the cursors after one more of it is taken
 abbrev pub one_more : Side → Cursors → Cursors

@@ -7,9 +7,9 @@ use Rattle.meshes.specs.declared.tri.Tri.{Tri}
 use Rattle.mono_fill.specs.declared.side.Side.{Side}
 use Rattle.mono_fill.specs.declared.side.Side.TheVariants.{Lower, Upper}
 
-abbrev pub opposite : Side → Side
-opposite Lower = Upper
-opposite Upper = Lower
+abbrev pub other_chain_side : Side → Side
+other_chain_side Lower = Upper
+other_chain_side Upper = Lower
 
 -- the triangle of vertices p and q of a chain, p before q, and a later vertex x
 abbrev pub triangle : Side → ℕ → ℕ → ℕ → Tri

@@ -2,7 +2,7 @@
 ghost use Rattle.std.specs.List.{All};
 ghost use Rattle.std.specs.Prelude.{◌≡◌, ℕ, ◌+◌, ◌<◌, ◌≤◌, length, slice_index};
 ghost use Rattle.mono_fill.specs.Cursors.{ahead, at_least, one_more, read_from, taken};
-ghost use Rattle.mono_fill.specs.Sides.{opposite};
+ghost use Rattle.mono_fill.specs.Sides.{other_chain_side};
 
 use crate::side::Side;
 use std::marker::Model;
@@ -73,7 +73,7 @@ impl<'a> Chains<'a> {
         ensures vertex { result.1 ≡ ahead result.0 self.old }
         ensures ranked { result.1 < length self.old.ranks }
         ensures cursors { self.new ≡ one_more result.0 self.old }
-        ensures next { slice_index self.old.ranks result.1 ≤ slice_index self.old.ranks (ahead (opposite result.0) self.old) }
+        ensures next { slice_index self.old.ranks result.1 ≤ slice_index self.old.ranks (ahead (other_chain_side result.0) self.old) }
     {
         let low = self.ahead(Side::Lower);
         let high = self.ahead(Side::Upper);

@@ -1,5 +1,5 @@
 ghost use Rattle.std.specs.Prelude.{◌≡◌};
-ghost use Rattle.mono_fill.specs.Sides.{opposite, triangle};
+ghost use Rattle.mono_fill.specs.Sides.{other_chain_side, triangle};
 
 use meshes::Tri;
 
@@ -15,7 +15,7 @@ pub enum Side {
 impl Side {
     /// The other one.
     pub fn opposite(self) -> Side
-        ensures { result ≡ opposite self }
+        ensures { result ≡ other_chain_side self }
     {
         match self {
             Side::Lower => Side::Upper,

@@ -2,7 +2,7 @@
 ghost use Rattle.std.specs.List.{All};
 ghost use Rattle.std.specs.Prelude.{◌≡◌, ◌+◌, ◌*◌, ◌<◌, ◌≤◌, ◌↔◌, ℕ, [], ◌∷◌, ◌++◌, IfOk, IsTrue, List, OnOk, length};
 ghost use Rattle.meshes.specs.declared.tri.Tri.{Tri};
-ghost use Rattle.mono_fill.specs.Sides.{IsCounterclockwiseTri, fan, opposite};
+ghost use Rattle.mono_fill.specs.Sides.{IsCounterclockwiseTri, fan, other_chain_side};
 ghost use Rattle.mono_fill.specs.Stacks.{ArePopped, Extends, IsSettled, last_of};
 
 use crate::side::Side;
@@ -91,7 +91,7 @@ impl Stack {
     // Goes on to the vertex `x` of the other chain, and cuts off the fan to it.
     pub(crate) fn cross(&mut self, x: u32, out: &mut Vec<Tri>) -> Result<(), Memory>
         requires some { 0 < length self.old.vertices.items }
-        ensures side { OnOk result (self.new.side ≡ opposite self.old.side) }
+        ensures side { OnOk result (self.new.side ≡ other_chain_side self.old.side) }
         ensures vertices { OnOk result (self.new.vertices.items ≡ last_of self.old.vertices.items ∷ x ∷ []) }
         ensures fan { OnOk result (out.new.items ≡ out.old.items ++ fan self.old.side x self.old.vertices.items) }
         ensures extended { Extends out.old.items out.new.items }

@@ -11,7 +11,7 @@ use Rattle.exact_plane.proofs.Directions.{not_left_iff, right_iff_negative}
 use Rattle.exact_plane.specs.declared.direction.Direction.{Direction}
 use Rattle.exact_plane.specs.declared.direction.Direction.TheVariants.{Left, Right}
 use Rattle.exact_plane.specs.Direction.{turn_of}
-use Rattle.pair_cut.specs.Climbs.{IsClimb, IsFound, IsTangent, IsVertexAt, from_left, from_right, turn_over}
+use Rattle.pair_cut.specs.Climbs.{IsClimb, IsTangentVertex, IsTangent, IsVertexAt, from_left, from_right, turn_over}
 
 -- one has come up to a vertex in so many steps, and over none below it the turn to y is to the side
 pub record IsUp (ring : List Point) (points : ℕ → Point) (count : ℕ) (y : Point) (side : Direction) (old at steps : ℕ) : Type 0 where
@@ -54,7 +54,7 @@ module _ (ring : List Point) (before : List ℕ) (end apex : ℕ) (points : ℕ 
 
     -- where it is to the side, this is what is found,
     pub found_here : at ≢ apex → turn_of (whole (vertex ring (slice_index before at))) (whole (vertex ring at)) (whole y) ≡ side
-        → IsFound ring points count y side (Some at)
+        → IsTangentVertex ring points count y side (Some at)
     found_here other turns = (up.place, more_above other, up.is, sym (turn_is other) ∙ turns, up.tested)
 
     -- and where it is not, one goes up;
@@ -74,7 +74,7 @@ module _ (ring : List Point) (before : List ℕ) (end apex : ℕ) (points : ℕ 
     }
 
     -- and at the apex none is found
-    pub none_found : at ≡ apex → IsFound ring points count y side None
+    pub none_found : at ≡ apex → IsTangentVertex ring points count y side None
     none_found same = λ j less.
         let last : up.place + 1 ≡ count = (c.ends up.place at up.below up.is).0 same in
         up.tested j (omega (arith, less, last))
@@ -99,7 +99,7 @@ module _ (ring points : List Point) (a : ℕ) (within : a < length points) (y : 
 
   module _ (apex : ℕ) (at_apex : IsVertexAt ring apex (point_at points a)) where
     -- what is found on the left is the tangent,
-    pub tangent_on_left : (x : ℕ) → IsFound ring (from_left points) (a + 1) y Left (Some x)
+    pub tangent_on_left : (x : ℕ) → IsTangentVertex ring (from_left points) (a + 1) y Left (Some x)
         → IsTangent ring points a y (record { near = x; right = x; left = apex })
     tangent_on_left x (k, more, is, turns, earlier) =
         let lower : k ≡ min a k = omega (arith, more) in
@@ -119,9 +119,9 @@ module _ (ring points : List Point) (a : ℕ) (within : a < length points) (y : 
           left = subst (λ h. IsVertexAt ring apex (point_at points h)) upper at_apex;
         }
 
-    module _ (none_left : IsFound ring (from_left points) (a + 1) y Left None) where
+    module _ (none_left : IsTangentVertex ring (from_left points) (a + 1) y Left None) where
       -- where there is none, and so on the right
-      pub tangent_on_right : (x : ℕ) → IsFound ring (from_right points) (length points - a) y Right (Some x)
+      pub tangent_on_right : (x : ℕ) → IsTangentVertex ring (from_right points) (length points - a) y Right (Some x)
           → IsTangent ring points a y (record { near = x; right = apex; left = x })
       tangent_on_right x (k, more, is, turns, earlier) =
           let h = length points - 1 - k in
@@ -143,7 +143,7 @@ module _ (ring points : List Point) (a : ℕ) (within : a < length points) (y : 
           }
 
       -- where there is none either, it is the apex
-      pub tangent_at_apex : IsFound ring (from_right points) (length points - a) y Right None
+      pub tangent_at_apex : IsTangentVertex ring (from_right points) (length points - a) y Right None
           → IsTangent ring points a y (record { near = apex; right = apex; left = apex })
       tangent_at_apex none_right =
           let lower : a ≡ min a a = omega arith in

@@ -9,7 +9,7 @@ use Rattle.plane.specs.Point.{Point}
 use Rattle.rings.proofs.Simple.{apart_of_simple}
 use Rattle.rings.proofs.Vertices.{one_to_one}
 use Rattle.rings.specs.Chain.{point_at}
-use Rattle.rings.specs.From.{IsBefore}
+use Rattle.rings.specs.From.{IsPredecessor}
 use Rattle.rings.specs.Ring.{vertex}
 use Rattle.meshes.specs.Side.{tri_at}
 use Rattle.meshes.specs.declared.tri.Tri.{Tri}
@@ -25,7 +25,7 @@ use Rattle.shared_funnel.proofs.StepLeft.{funnel_to_left}
 use Rattle.shared_funnel.proofs.StepRight.{funnel_to_right}
 use Rattle.shared_funnel.proofs.TriCorners.{corner_below, side_corners}
 use Rattle.shared_funnel.specs.Entered.{HasCorner, IsFromStart, IsFunnelTo, at_place, left_of, right_of, third_of, toward}
-use Rattle.shared_funnel.specs.Listed.{Listed, point_of, points_of}
+use Rattle.shared_funnel.specs.Listed.{Listed, point_of, listed_points}
 use Rattle.pair_cut.proofs.FunnelPaths.{apex_alone, before_on_left, before_on_right}
 use Rattle.pair_cut.specs.Climbs.{AreClimbs, IsClimb, IsVertexAt, from_left, from_right}
 use Rattle.pair_cut.specs.Doors.{HasFunnel, IsApex, IsOnWay, IsSeen, IsTangentTo}
@@ -48,13 +48,13 @@ all_seen corners tris order q p list le all k d within = seen_later corners tris
 
 -- the number that a row tells for a vertex is that of the one point that comes before it
 next_told : (ring : List Point) (i x b : ℕ) (t u : Point) → vertex ring x ≡ t → IsNumberBefore ring i x b
-    → IsBefore ring (vertex ring i) t u → IsVertexAt ring b u
+    → IsPredecessor ring (vertex ring i) t u → IsVertexAt ring b u
 next_told ring i x b t u is told before = elim told [
   | inl start ↦ absurd (before_differs ring (vertex ring i) t u before (sym start.0 ∙ is))
   | inr other ↦ (
     other.in_ring,
     one_before ring (vertex ring i) t (vertex ring b) u
-        (subst (λ p. IsBefore ring (vertex ring i) p (vertex ring b)) is other.before) before,
+        (subst (λ p. IsPredecessor ring (vertex ring i) p (vertex ring b)) is other.before) before,
   )
 ]
 
@@ -72,7 +72,7 @@ module _ (corners : List Point) (i : ℕ) (tris : List Tri) (order : List Outwar
 
     module _ (f : Listed) (has : HasFunnel corners i tris order p f) where
       abbrev ns : List Point
-      ns = points_of corners (vertex corners i) f.list
+      ns = listed_points corners (vertex corners i) f.list
 
       ns_long : length ns ≡ length f.list
       ns_long = length-map f.list (point_of corners start)
@@ -101,7 +101,7 @@ module _ (corners : List Point) (i : ℕ) (tris : List Tri) (order : List Outwar
           (told : (j : ℕ) → IsOnWay tris order p j → IsNumberBefore corners i j (slice_index before j))
           (apex : ℕ) (at_apex : IsVertexAt corners apex (point_at ns f.apex)) where
         -- so the row leads on from its points to the next ones,
-        next_at : (h x : ℕ) (u : Point) → h < length ns → IsVertexAt corners x (point_at ns h) → IsBefore corners start (point_at ns h) u
+        next_at : (h x : ℕ) (u : Point) → h < length ns → IsVertexAt corners x (point_at ns h) → IsPredecessor corners start (point_at ns h) u
             → IsVertexAt corners (slice_index before x) u
         next_at h x u within is =
             next_told corners i x (slice_index before x) (point_at ns h) u is.1 (told x (vertex_on_way h x within is))
@@ -237,7 +237,7 @@ module _ (corners : List Point) (i : ℕ) (tris : List Tri) (order : List Outwar
       abbrev h : ℕ
       h = to.tangent.place
 
-      list_long : length (points_of corners start list) ≡ length list
+      list_long : length (listed_points corners start list) ≡ length list
       list_long = length-map list (point_of corners start)
 
       place_in : h < length list
@@ -257,7 +257,7 @@ module _ (corners : List Point) (i : ℕ) (tris : List Tri) (order : List Outwar
 
       -- where the next list has a number of the list, the vertex at its point stays
       stays : (next : List ℕ) (k l x : ℕ) → k < length next → l < length list → slice_index next k ≡ slice_index list l
-          → IsVertexAt corners x (point_at (points_of corners start list) l) → IsVertexAt corners x (point_at (points_of corners start next) k)
+          → IsVertexAt corners x (point_at (listed_points corners start list) l) → IsVertexAt corners x (point_at (listed_points corners start next) k)
       stays next k l x within inside same is = (
         is.0,
         is.1 ∙ point_there corners start list l inside ∙ ap (point_of corners start) (sym same) ∙ sym (point_there corners start next k within),

@@ -3,7 +3,7 @@ use Rattle.std.proofs.Common.{◌≡◌, refl, ap, subst, ◌∙◌, ℕ, zero, 
 use Rattle.std.proofs.lemmas.List.{get_or-append-add, get_or_append_left, get_or_push, length-append}
 use Rattle.plane.specs.Point.{Point}
 use Rattle.rings.specs.Chain.{IsPath, point_at}
-use Rattle.rings.specs.From.{IsBefore}
+use Rattle.rings.specs.From.{IsPredecessor}
 use Rattle.rings.specs.Ring.{origin, vertex}
 use Rattle.meshes.specs.Fits.{Fits}
 use Rattle.meshes.specs.declared.tri.Tri.{Tri}
@@ -64,7 +64,7 @@ module _ (corners : List Point) (tris : List Tri) (fits : Fits corners tris) (be
         (get_or_push way (point_at ns h) origin (length path - 1) (omega (arith, path_long)))
 
     -- so the last on the way comes before it:
-    last_before : (x : Point) → 0 < length way → point_at way (length way - 1) ≡ x → IsBefore corners s (point_at ns h) x
+    last_before : (x : Point) → 0 < length way → point_at way (length way - 1) ≡ x → IsPredecessor corners s (point_at ns h) x
     last_before x some is =
         let place : length path - 2 ≡ length way - 1 = omega (arith, path_long) in
         record {
@@ -76,7 +76,7 @@ module _ (corners : List Point) (tris : List Tri) (fits : Fits corners tris) (be
         }
 
     -- on the left the next one to the right,
-    pub before_on_left : h < a → IsBefore corners s (point_at ns h) (point_at ns (h + 1))
+    pub before_on_left : h < a → IsPredecessor corners s (point_at ns h) (point_at ns (h + 1))
     before_on_left less =
         let place : length way - 1 ≡ length before + (a - h - 1) = omega (arith, way_long, less) in
         let there : a - (a - h - 1) ≡ h + 1 = omega (arith, less) in
@@ -87,7 +87,7 @@ module _ (corners : List Point) (tris : List Tri) (fits : Fits corners tris) (be
         ∙ leftward_at (point_at ns) a (a - h) (a - h - 1) (omega (arith, less)) ∙ ap (point_at ns) there)
 
     -- and on the right the next one to the left
-    pub before_on_right : a < h → IsBefore corners s (point_at ns h) (point_at ns (h - 1))
+    pub before_on_right : a < h → IsPredecessor corners s (point_at ns h) (point_at ns (h - 1))
     before_on_right less =
         let k = h - min a h - 1 in
         let place : length way - 1 ≡ length (before ++ left) + (h - min a h - 1) = omega (arith, way_long, front_long, less) in

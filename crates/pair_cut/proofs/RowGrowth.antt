@@ -6,7 +6,7 @@ use Rattle.std.proofs.lemmas.Nat.{mul-le}
 use Rattle.plane.specs.Point.{Point}
 use Rattle.rings.proofs.Simple.{apart_of_simple}
 use Rattle.rings.proofs.Vertices.{one_to_one}
-use Rattle.rings.specs.From.{IsBefore}
+use Rattle.rings.specs.From.{IsPredecessor}
 use Rattle.rings.specs.Ring.{vertex}
 use Rattle.meshes.specs.Side.{tri_at}
 use Rattle.meshes.specs.declared.tri.Tri.{Tri}
@@ -104,7 +104,7 @@ module _ (corners : List Point) (i : ℕ) (tris : List Tri) (order : List Outwar
           omega (arith, to.tangent.reached.within, length-map to.f.list (point_of corners start)) in
           inr (record {
             in_ring = to.tangent.near.0;
-            before = subst (IsBefore corners start (vertex corners (third_of tris order p)))
+            before = subst (IsPredecessor corners start (vertex corners (third_of tris order p)))
                 (sym (to.tangent.near.1 ∙ point_there corners start to.f.list h inside))
                 (before_third corners start tris (at_place order p) (left_of tris order p) (right_of tris order p) (third_of tris order p) p
                 from.fits (beyond_at corners start tris order from p later below) to.f to.has.funnel h to.tangent.reached);

@@ -8,7 +8,7 @@ use Rattle.plane.specs.Pairs.{IsPairBefore}
 use Rattle.plane.specs.Point.{Point}
 use Rattle.pair_cut.proofs.SightPaths.{first_of_sees, sees_first}
 use Rattle.pair_cut.specs.Pairs.{AreSights, IsMadeFor, IsSight}
-use Rattle.pair_cut.specs.Sights.{AreToldBefore, IsTold}
+use Rattle.pair_cut.specs.Sights.{AreToldBefore, IsSightTold}
 
 -- before the next pair of a row comes what is before a pair, and that
 next_in_row : (i j : ℕ) (p : ℕ × ℕ) → IsPairBefore p (i, j + 1) ↔ (IsPairBefore p (i, j) ⊎ (p ≡ (i, j)))
@@ -27,7 +27,7 @@ next_in_row i j p = (
 
 module _ (before : List (List ℕ)) where
   -- a bound may be another one where no such pair comes between them
-  rebound : (b c : ℕ × ℕ) (pairs : List (ℕ × ℕ)) → ((p : ℕ × ℕ) → IsTold before p → IsPairBefore p b ↔ IsPairBefore p c)
+  rebound : (b c : ℕ × ℕ) (pairs : List (ℕ × ℕ)) → ((p : ℕ × ℕ) → IsSightTold before p → IsPairBefore p b ↔ IsPairBefore p c)
       → AreToldBefore before b pairs → AreToldBefore before c pairs
   rebound b c pairs same are = record {
     told = are.told;
@@ -38,11 +38,11 @@ module _ (before : List (List ℕ)) where
 
   module _ (i j : ℕ) (pairs : List (ℕ × ℕ)) (are : AreToldBefore before (i, j) pairs) where
     -- one more is appended,
-    pub told_push : IsTold before (i, j) → AreToldBefore before (i, j + 1) (pairs ++ (i, j) ∷ [])
+    pub told_push : IsSightTold before (i, j) → AreToldBefore before (i, j + 1) (pairs ++ (i, j) ∷ [])
     told_push is = record {
       told = λ p inside. elim (Contains-push_cases pairs (i, j) p inside) [
         | inl earlier ↦ are.told p earlier
-        | inr e ↦ subst (λ (q : ℕ × ℕ). IsTold before q) e is
+        | inr e ↦ subst (λ (q : ℕ × ℕ). IsSightTold before q) e is
       ];
       earlier = λ p inside. elim (Contains-push_cases pairs (i, j) p inside) [
         | inl earlier ↦ (next_in_row i j p).1 (inl (are.earlier p earlier))
@@ -56,13 +56,13 @@ module _ (before : List (List ℕ)) where
     }
 
     -- and another pair is left out
-    pub told_skip : ¬ IsTold before (i, j) → AreToldBefore before (i, j + 1) pairs
+    pub told_skip : ¬ IsSightTold before (i, j) → AreToldBefore before (i, j + 1) pairs
     told_skip not = rebound (i, j) (i, j + 1) pairs
         (λ p told. (
           λ earlier. (next_in_row i j p).1 (inl earlier),
           λ earlier. elim ((next_in_row i j p).0 earlier) [
             | inl less ↦ less
-            | inr e ↦ absurd (not (subst (λ (q : ℕ × ℕ). IsTold before q) e told))
+            | inr e ↦ absurd (not (subst (λ (q : ℕ × ℕ). IsSightTold before q) e told))
           ],
         )) are
 
@@ -98,7 +98,7 @@ module _ (before : List (List ℕ)) where
 
   module _ (ring : List Point) (made : IsMadeFor ring before) where
     -- such pairs are those that see each other,
-    told_iff_sight : (i j : ℕ) → IsTold before (i, j) ↔ IsSight ring i j
+    told_iff_sight : (i j : ℕ) → IsSightTold before (i, j) ↔ IsSight ring i j
     told_iff_sight i j = (
       λ told.
           let k : j < length ring = omega (arith, told.in_table, made.rows) in

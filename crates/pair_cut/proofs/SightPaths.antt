@@ -12,7 +12,7 @@ use Rattle.funnels.proofs.Bends.{chain_more}
 use Rattle.funnels.proofs.Chains.{one_bent}
 use Rattle.funnels.proofs.OneChain.{bent_is_path}
 use Rattle.funnels.proofs.Trees.{path_differs}
-use Rattle.pair_cut.specs.Pairs.{IsMadeFor, before_at}
+use Rattle.pair_cut.specs.Pairs.{IsMadeFor, pair_before}
 
 module _ (ring : List Point) (before : List (List ℕ)) (made : IsMadeFor ring before) where
   -- vertices are at different points
@@ -37,7 +37,7 @@ module _ (ring : List Point) (before : List (List ℕ)) (made : IsMadeFor ring b
     taut = (is_path path).1 refl
 
     -- where the first comes before the second it is the only other point of the path,
-    only_two : before_at before i j ≡ i → length path ≡ 2
+    only_two : pair_before before i j ≡ i → length path ≡ 2
     only_two first =
         let more = (made.others i j h k differ).before.more in
         let is = (made.others i j h k differ).before.is in
@@ -50,7 +50,7 @@ module _ (ring : List Point) (before : List (List ℕ)) (made : IsMadeFor ring b
         ]
 
     -- so they see each other
-    pub sees_first : before_at before i j ≡ i → Sees ring (whole s) (whole t)
+    pub sees_first : pair_before before i j ≡ i → Sees ring (whole s) (whole t)
     sees_first first =
         let two = only_two first in
         let last : point_at path 1 ≡ t = ap (point_at path) (omega (arith, two)) ∙ taut.last in
@@ -68,10 +68,10 @@ module _ (ring : List Point) (before : List (List ℕ)) (made : IsMadeFor ring b
         (λ two. absurd (omega (arith, two)))
 
     -- so these two are the path, and the first comes before the second
-    pub first_of_sees : Sees ring (whole s) (whole t) → before_at before i j ≡ i
+    pub first_of_sees : Sees ring (whole s) (whole t) → pair_before before i j ≡ i
     first_of_sees sees =
         let found = made.others i j h k differ in
         let straight = bent_is_path ring made.some made.simple (s ∷ t ∷ []) (straight_bent sees) s t refl refl in
         let same : path ≡ s ∷ t ∷ [] = (straight path).0 taut in
-        let is : s ≡ vertex ring (before_at before i j) = ap (λ ps. point_at ps (length ps - 2)) (sym same) ∙ found.before.is in
-        sym (one_vertex i (before_at before i j) h found.in_ring is)
+        let is : s ≡ vertex ring (pair_before before i j) = ap (λ ps. point_at ps (length ps - 2)) (sym same) ∙ found.before.is in
+        sym (one_vertex i (pair_before before i j) h found.in_ring is)

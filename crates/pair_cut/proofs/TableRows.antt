@@ -1,7 +1,7 @@
 -- A row that was read from a table, and a number from the row.
 use Rattle.std.proofs.Common.{◌≡◌, sym, ap, subst, ◌∙◌, ℕ, ◌<◌, List, [], length, map, get_or, arith}
 use Rattle.std.proofs.lemmas.List.{get_or-map, get_or_read, length-map}
-use Rattle.pair_cut.specs.Pairs.{before_at}
+use Rattle.pair_cut.specs.Pairs.{pair_before}
 use Rattle.pair_cut.specs.Rows.{IsTable}
 
 module _ {X : Type 0} (f : X → List ℕ) (rows : List X) (before : List (List ℕ)) (same : map f rows ≡ before) (kept : IsTable (map f rows))
@@ -25,5 +25,5 @@ module _ {X : Type 0} (f : X → List ℕ) (rows : List X) (before : List (List 
       row_long = let m = table_of.made in ap length row_is ∙ m.row i (omega (arith, h, m.rows)) ∙ sym m.rows
 
       -- and each is the one of the table
-      pub number_is : (j x : ℕ) → j < length before → x ≡ get_or (f row) j x → x ≡ before_at before i j
+      pub number_is : (j x : ℕ) → j < length before → x ≡ get_or (f row) j x → x ≡ pair_before before i j
       number_is j x below is = get_or_read (f row) j x (omega (arith, below, row_long)) is 0 ∙ ap (λ l. get_or l j 0) row_is

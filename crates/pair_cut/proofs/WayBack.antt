@@ -12,7 +12,7 @@ use Rattle.rings.specs.Ring.{origin, vertex}
 use Rattle.funnels.proofs.OneChain.{front_and_last}
 use Rattle.funnels.proofs.Trees.{path_differs, path_goes_on, path_of_one}
 use Rattle.tri_mesh.proofs.Numbers.{few_numbers}
-use Rattle.pair_cut.specs.Pairs.{IsMadeFor, IsPairPath, before_at}
+use Rattle.pair_cut.specs.Pairs.{IsMadeFor, IsPairPath, pair_before}
 use Rattle.pair_cut.specs.Rows.{IsTable}
 
 -- a path to the one vertex goes on over some, and so to the last
@@ -56,21 +56,21 @@ module _ (before : List (List ℕ)) (table : IsTable before) (i : ℕ) (first : 
 
     module _ (at : ℕ) (names : List ℕ) (back : IsGoneBack before i last at names) where
       -- where one has not come to the first vertex, there is one before
-      pub back_on : i ≢ at → IsGoneBack before i last (before_at before i at) (names ++ at ∷ [])
+      pub back_on : i ≢ at → IsGoneBack before i last (pair_before before i at) (names ++ at ∷ [])
       back_on differ =
           let more : reverse (names ++ at ∷ []) ≡ at ∷ reverse names = reverse-append names (at ∷ []) in
           let here : at < length before = back.below 0 0 (omega arith) in
           let m = table.made in
           let next = m.others i at (omega (arith, first, m.rows)) (omega (arith, here, m.rows)) differ in
           record {
-            below = All-cons (λ k. k < length before) (before_at before i at) (reverse (names ++ at ∷ [])) (omega (arith, next.in_ring, m.rows))
+            below = All-cons (λ k. k < length before) (pair_before before i at) (reverse (names ++ at ∷ [])) (omega (arith, next.in_ring, m.rows))
                 (subst (All (λ k. k < length before)) (sym more) back.below);
             goes_on = λ ring made front is.
                 let there = made.others i at (omega (arith, first, made.rows)) (omega (arith, here, made.rows)) differ in
                 let s = vertex ring i in
-                let x = vertex ring (before_at before i at) in
+                let x = vertex ring (pair_before before i at) in
                 let on = path_goes_on ring made.some made.simple s (vertex ring at) x there.before (front ++ x ∷ []) is in
-                subst (λ numbers. IsPath ring s (vertex ring last) (front ++ map (vertex ring) (before_at before i at ∷ numbers))) (sym more)
+                subst (λ numbers. IsPath ring s (vertex ring last) (front ++ map (vertex ring) (pair_before before i at ∷ numbers))) (sym more)
                 (subst (IsPath ring s (vertex ring last)) (append_assoc front (x ∷ []) (map (vertex ring) (at ∷ reverse names)))
                 (back.goes_on ring made (front ++ x ∷ []) on));
           }

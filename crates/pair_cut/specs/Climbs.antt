@@ -28,9 +28,9 @@ abbrev pub turn_over : (ℕ → Point) → Point → ℕ → Direction
 turn_over points y k = turn_of (whole (points (k + 1))) (whole (points k)) (whole y)
 
 -- the vertex at the first point below the last over which the turn to y is to this side; or none
-abbrev pub IsFound : List Point → (ℕ → Point) → ℕ → Point → Direction → Option ℕ → Type 0
-IsFound ring points count y side None = (j : ℕ) → j + 1 < count → turn_over points y j ≢ side
-IsFound ring points count y side (Some x) = (k : ℕ) × (k + 1 < count) × IsVertexAt ring x (points k) × (turn_over points y k ≡ side)
+abbrev pub IsTangentVertex : List Point → (ℕ → Point) → ℕ → Point → Direction → Option ℕ → Type 0
+IsTangentVertex ring points count y side None = (j : ℕ) → j + 1 < count → turn_over points y j ≢ side
+IsTangentVertex ring points count y side (Some x) = (k : ℕ) × (k + 1 < count) × IsVertexAt ring x (points k) × (turn_over points y k ≡ side)
     × ((j : ℕ) → j < k → turn_over points y j ≢ side)
 
 -- ---- both climbs

@@ -9,7 +9,7 @@ use Rattle.meshes.specs.Side.{tri_at}
 use Rattle.meshes.specs.declared.tri.Tri.{Tri}
 use Rattle.tri_mesh.specs.declared.outward.Outward.{Outward}
 use Rattle.shared_funnel.specs.Entered.{HasCorner, IsFunnelTo, at_place, third_of}
-use Rattle.shared_funnel.specs.Listed.{Listed, points_of}
+use Rattle.shared_funnel.specs.Listed.{Listed, listed_points}
 use Rattle.pair_cut.specs.Climbs.{IsTangent, IsVertexAt}
 use Rattle.pair_cut.specs.Rows.{IsNumberBefore}
 use Rattle.pair_cut.specs.declared.climb.Tangent.{Tangent}
@@ -31,13 +31,13 @@ pub record HasFunnel (corners : List Point) (i : ℕ) (tris : List Tri) (order :
 pub record IsApex (corners : List Point) (i : ℕ) (tris : List Tri) (order : List Outward) (p apex : ℕ) : Type 0 where
   pub f : Listed
   pub has : HasFunnel corners i tris order p f
-  pub is : IsVertexAt corners apex (point_at (points_of corners (vertex corners i) f.list) f.apex)
+  pub is : IsVertexAt corners apex (point_at (listed_points corners (vertex corners i) f.list) f.apex)
 
 -- so is the third corner of that triangle reached
 pub record IsTangentTo (corners : List Point) (i : ℕ) (tris : List Tri) (order : List Outward) (p : ℕ) (t : Tangent) : Type 0 where
   pub f : Listed
   pub has : HasFunnel corners i tris order p f
-  pub tangent : IsTangent corners (points_of corners (vertex corners i) f.list) f.apex (vertex corners (third_of tris order p)) t
+  pub tangent : IsTangent corners (listed_points corners (vertex corners i) f.list) f.apex (vertex corners (third_of tris order p)) t
 
 -- what is at a place
 abbrev pub tangent_at : List Tangent → ℕ → Tangent

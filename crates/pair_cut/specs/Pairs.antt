@@ -5,7 +5,7 @@ use Rattle.std.specs.Prelude.{◌≡◌, ◌≢◌, ◌↔◌, ℕ, ◌<◌, ◌
 use Rattle.plane.specs.Pairs.{pair_at, IsPairBefore}
 use Rattle.plane.specs.Point.{Point, whole}
 use Rattle.rings.specs.Chain.{IsPath}
-use Rattle.rings.specs.From.{IsBefore}
+use Rattle.rings.specs.From.{IsPredecessor}
 use Rattle.rings.specs.Ring.{vertex}
 use Rattle.rings.specs.Sees.{Sees}
 use Rattle.rings.specs.Simple.{IsSimple}
@@ -15,13 +15,13 @@ abbrev pub most_paired : ℕ
 most_paired = 1024
 
 -- what a table has for the pair of i and j
-abbrev pub before_at : List (List ℕ) → ℕ → ℕ → ℕ
-before_at before i j = slice_index_or (slice_index_or before i []) j 0
+abbrev pub pair_before : List (List ℕ) → ℕ → ℕ → ℕ
+pair_before before i j = slice_index_or (slice_index_or before i []) j 0
 
 -- a vertex of the ring comes just before vertex j on its path from vertex i
 pub record IsBeforeVertex (ring : List Point) (i j x : ℕ) : Type 0 where
   pub in_ring : x < length ring
-  pub before : IsBefore ring (vertex ring i) (vertex ring j) (vertex ring x)
+  pub before : IsPredecessor ring (vertex ring i) (vertex ring j) (vertex ring x)
 
 -- the table is made for a simple ring: for each two different vertices it has what comes before the second on its path from the first
 pub record IsMadeFor (ring : List Point) (before : List (List ℕ)) : Type 0 where
@@ -29,8 +29,8 @@ pub record IsMadeFor (ring : List Point) (before : List (List ℕ)) : Type 0 whe
   pub simple : IsSimple ring
   pub rows : length before ≡ length ring
   pub row : (i : ℕ) → i < length ring → length (slice_index_or before i []) ≡ length ring
-  pub itself : (i : ℕ) → i < length ring → before_at before i i ≡ i
-  pub others : (i j : ℕ) → i < length ring → j < length ring → i ≢ j → IsBeforeVertex ring i j (before_at before i j)
+  pub itself : (i : ℕ) → i < length ring → pair_before before i i ≡ i
+  pub others : (i j : ℕ) → i < length ring → j < length ring → i ≢ j → IsBeforeVertex ring i j (pair_before before i j)
 
 -- the vertices with these numbers are the path from vertex i to vertex j
 pub record IsPairPath (ring : List Point) (i j : ℕ) (names : List ℕ) : Type 0 where

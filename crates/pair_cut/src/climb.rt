@@ -3,7 +3,7 @@ ghost use Rattle.std.specs.Prelude.{◌≡◌, ◌↔◌, ℕ, ◌+◌, ◌<◌,
 ghost use Rattle.plane.specs.Point.{Point, whole};
 ghost use Rattle.rings.specs.Ring.{vertex};
 ghost use Rattle.exact_plane.specs.Direction.{turn_of};
-ghost use Rattle.pair_cut.specs.Climbs.{AreClimbs, IsClimb, IsFound, IsTangent};
+ghost use Rattle.pair_cut.specs.Climbs.{AreClimbs, IsClimb, IsTangentVertex, IsTangent};
 
 use exact_plane::{Direction, Spot, Steps, Turns};
 use shared_funnel::Door;
@@ -84,7 +84,7 @@ fn climb<T: Turns, L: Ledger>(
     requires third { third < length (T.corners board.now) }
     requires climb { (points : ℕ → Point) × (count : ℕ) × IsClimb (T.corners board.now) before.now end apex points count }
     ensures found { (points : ℕ → Point) (count : ℕ) → IsClimb (T.corners board.now) before.now end apex points count
-        → IsFound (T.corners board.now) points count (vertex (T.corners board.now) third) side result }
+        → IsTangentVertex (T.corners board.now) points count (vertex (T.corners board.now) third) side result }
     ensures steps { (points : ℕ → Point) (count : ℕ) → IsClimb (T.corners board.now) before.now end apex points count
         → steps.new + 1 ≤ steps.old + count }
 {

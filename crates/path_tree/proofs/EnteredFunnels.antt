@@ -3,7 +3,7 @@ use Rattle.std.proofs.Common.{◌≡◌, ◌≢◌, sym, ap, subst, ◌∙◌, �
 use Rattle.std.proofs.Common.{Option, Some, None, arith}
 use Rattle.std.proofs.lemmas.List.{get_or_read, length-map}
 use Rattle.plane.specs.Point.{Point, whole}
-use Rattle.rings.specs.From.{IsBefore}
+use Rattle.rings.specs.From.{IsPredecessor}
 use Rattle.meshes.proofs.Sides.{two_fewer}
 use Rattle.meshes.specs.Fits.{Fits, IsInTri}
 use Rattle.meshes.specs.Side.{tri_at}
@@ -12,12 +12,12 @@ use Rattle.funnels.specs.Funnel.{IsReachedFrom}
 use Rattle.exact_plane.specs.declared.turns.Spot.{Spot}
 use Rattle.exact_plane.specs.declared.turns.Spot.TheVariants.{Corner, Start}
 use Rattle.shared_funnel.proofs.ReachedBefore.{before_point}
-use Rattle.shared_funnel.specs.Listed.{Listed, point_of, points_of}
+use Rattle.shared_funnel.specs.Listed.{Listed, point_of, listed_points}
 use Rattle.path_tree.proofs.NamedPoints.{named_by_number}
-use Rattle.path_tree.specs.Grown.{IsEntered, IsGrownFrom, KeepsFunnel, Names, Tree, funnel_at}
+use Rattle.path_tree.specs.Grown.{IsEntered, IsGrownFrom, KeepsFunnel, Names, NamedTree, funnel_at}
 
 -- the funnel that is read at its number is its own
-pub entered_of_read : (corners : List Point) (start : Point) (tris : List Tri) (tree : Tree) → IsGrownFrom corners start tris tree
+pub entered_of_read : (corners : List Point) (start : Point) (tris : List Tri) (tree : NamedTree) → IsGrownFrom corners start tris tree
     → (funnels : List (Option Listed)) → funnels ≡ tree.funnels → (k : ℕ) → k < length tris → (o : Option Listed) → o ≡ get_or funnels k o
     → (f : Listed) → o ≡ Some f → IsEntered corners start tris k f
 entered_of_read corners start tris tree grown funnels same k below o read f some =
@@ -35,7 +35,7 @@ module _ (corners : List Point) (start : Point) (tris : List Tri) (k : ℕ) (f :
   entered_few = omega (arith, e.funnel.few, e.few)
 
   -- where a point of the triangle is reached from a place of it,
-  module _ (fits : Fits corners tris) (h : ℕ) (y : Point) (reached : IsReachedFrom (points_of corners start f.list) f.apex h (whole y)) where
+  module _ (fits : Fits corners tris) (h : ℕ) (y : Point) (reached : IsReachedFrom (listed_points corners start f.list) f.apex h (whole y)) where
     -- the point there
     abbrev near : Point
     near = point_of corners start (slice_index f.list h)
@@ -43,7 +43,7 @@ module _ (corners : List Point) (start : Point) (tris : List Tri) (k : ℕ) (f :
     -- has the name of its number, and comes before, where it is another
     pub near_is : IsInTri corners (tri_at tris k) (whole y) → (m i : ℕ) (s : Spot) → m ≡ length tris → i ≡ slice_index f.list h
         → (i ≢ m + 2 → s ≡ Corner i) → (i ≡ m + 2 → s ≡ Start)
-        → (x : Point) × Names corners start s x × (x ≢ y → IsBefore corners start y x)
+        → (x : Point) × Names corners start s x × (x ≢ y → IsPredecessor corners start y x)
     near_is inside m i s count is corner source =
         let n : m + 2 ≡ length corners = omega (arith, count, two_fewer corners tris fits) in
         let within : h < length f.list = omega (arith, reached.within, length-map f.list (point_of corners start)) in (

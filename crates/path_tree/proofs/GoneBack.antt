@@ -9,7 +9,7 @@ use Rattle.std.specs.List.{All}
 use Rattle.plane.specs.Point.{Point}
 use Rattle.rings.proofs.Vertices.{reverse-cons}
 use Rattle.rings.specs.Chain.{IsPath, point_at}
-use Rattle.rings.specs.From.{IsBefore}
+use Rattle.rings.specs.From.{IsPredecessor}
 use Rattle.rings.specs.Ring.{origin}
 use Rattle.meshes.specs.Fits.{Fits}
 use Rattle.meshes.specs.declared.tri.Tri.{Tri}
@@ -22,10 +22,10 @@ use Rattle.exact_plane.specs.Spot.{IsNamed, point_named}
 use Rattle.tri_mesh.proofs.Numbers.{few_numbers}
 use Rattle.path_tree.proofs.GrownPaths.{path_kept, start_inside}
 use Rattle.path_tree.proofs.KeptNames.{kept_of_names}
-use Rattle.path_tree.specs.Grown.{IsFromNamed, IsGrown, IsGrownFrom, IsKept, Tree, kept_point}
+use Rattle.path_tree.specs.Grown.{IsFromNamed, IsGrownTree, IsGrownFrom, IsKept, NamedTree, kept_point}
 
 -- what holds of every path of the tree
-abbrev pub OfEach : Tree → (List Point → Point → Type 0) → Type 0
+abbrev pub OfEach : NamedTree → (List Point → Point → Type 0) → Type 0
 OfEach tree P = (corners : List Point) (start : Point) (tris : List Tri) → Fits corners tris → IsGrownFrom corners start tris tree → P corners start
 
 -- the names of some corners
@@ -38,7 +38,7 @@ GoesOn at last numbers corners start = (path : List Point) → IsPath corners st
     → IsPath corners start (kept_point corners start last) (path ++ named_points (kept_point corners start) (corner_names numbers))
 
 -- from the last point one has gone back to another, and has given the names of the corners on the way, the last one first
-pub record IsGoneBack (tree : Tree) (last at : Spot) (out out' : List Spot) : Type 0 where
+pub record IsGoneBack (tree : NamedTree) (last at : Spot) (out out' : List Spot) : Type 0 where
   pub numbers : List ℕ
   pub appended : out' ≡ out ++ reverse (corner_names numbers)
   pub below : All (λ i. i < length tree.before) numbers
@@ -54,7 +54,7 @@ points_same corners start goal (i ∷ numbers) = ap (λ ps. kept_point corners s
 -- ---- the way back
 
 -- at first there are none
-pub back_begins : (tree : Tree) (last : Spot) (out : List Spot) → IsKept tree last → IsGoneBack tree last last out out
+pub back_begins : (tree : NamedTree) (last : Spot) (out : List Spot) → IsKept tree last → IsGoneBack tree last last out out
 back_begins tree last out kept = record {
   numbers = [];
   appended = sym (append-nil out);
@@ -67,7 +67,7 @@ back_begins tree last out kept = record {
 -- ---- one step
 
 -- the point before is the next one, where the tree has one
-pub back_on : (tree : Tree) → IsGrown tree → (last : Spot) (out out' : List Spot) (at name : Spot) → IsGoneBack tree last at out out'
+pub back_on : (tree : NamedTree) → IsGrownTree tree → (last : Spot) (out out' : List Spot) (at name : Spot) → IsGoneBack tree last at out out'
     → ((corners : List Point) (start : Point) (tris : List Tri) → IsGrownFrom corners start tris tree
     → IsFromNamed corners start (kept_point corners start at) (Some name)) → IsGoneBack tree last name out (out' ++ at ∷ [])
 back_on tree g last out out' Start name back from =
@@ -102,9 +102,9 @@ point_of_number at path numbers i within =
     ∙ get_or-map at (corner_names numbers) i Start origin (omega (arith, within, length-map numbers (λ n. Corner n)))
     ∙ ap at (get_or-map (λ n. Corner n) numbers i 0 Start within)
 
-module _ (tree : Tree) (last at : Spot) (out out' : List Spot) (back : IsGoneBack tree last at out out') where
+module _ (tree : NamedTree) (last at : Spot) (out out' : List Spot) (back : IsGoneBack tree last at out out') where
   -- no corner comes twice, so there are no more than the tree has
-  pub back_few : IsGrown tree → length back.numbers ≤ length tree.before
+  pub back_few : IsGrownTree tree → length back.numbers ≤ length tree.before
   back_few g =
       let kept = kept_point g.corners g.start in
       let (path, is) = path_kept g.corners g.start g.tris g.fits tree g.grown at back.kept in
@@ -124,7 +124,7 @@ module _ (tree : Tree) (last at : Spot) (out out' : List Spot) (back : IsGoneBac
   back_longer = omega (arith, ap length back.appended, length-append out (reverse (corner_names back.numbers)))
 
   -- and by no more
-  pub back_room : IsGrown tree → length out' ≤ length out + length tree.before
+  pub back_room : IsGrownTree tree → length out' ≤ length out + length tree.before
   back_room g =
       let names = corner_names back.numbers in
       let count = length-reverse names ∙ length-map back.numbers (λ n. Corner n) in
@@ -187,7 +187,7 @@ module _ (tree : Tree) (last at : Spot) (out out' : List Spot) (back : IsGoneBac
       }
 
       -- and go on to a point that it comes before
-      pub back_goes_on : (t : Point) → IsBefore corners start t (kept_point corners start last)
+      pub back_goes_on : (t : Point) → IsPredecessor corners start t (kept_point corners start last)
           → IsPath corners start t (named_points (kept_point corners start) (drop (length out) final) ++ t ∷ [])
       back_goes_on t before =
           subst (λ names. IsPath corners start t (named_points (kept_point corners start) names ++ t ∷ [])) (sym rest_is)

@@ -16,12 +16,12 @@ use Rattle.shared_funnel.proofs.TriCorners.{corner_cases, side_corners}
 use Rattle.shared_funnel.specs.Entered.{HasCorner, IsFromStart, IsFunnelTo, at_place, left_of, right_of, third_of, toward}
 use Rattle.shared_funnel.specs.Listed.{Listed}
 use Rattle.path_tree.proofs.Parents.{HasParent, parent_written}
-use Rattle.path_tree.specs.Grown.{IsFromNamed, IsGrownFrom, KeepsFunnel, Tree, before_at, funnel_at}
+use Rattle.path_tree.specs.Grown.{IsFromNamed, IsGrownFrom, KeepsFunnel, NamedTree, before_at, funnel_at}
 use Rattle.path_tree.specs.Growing.{AreThirdPlaces, IsGrownOver, IsThirdFrom, KeepsFunnelTo}
 
 module _ (corners : List Point) (start : Point) (tris : List Tri) (order : List Outward) (from : IsFromStart corners start tris order) where
   -- at home it has what is before the three corners, and no funnel
-  pub grown_at_home : (tree : Tree) → length tree.before ≡ length corners → length tree.funnels ≡ length tris
+  pub grown_at_home : (tree : NamedTree) → length tree.before ≡ length corners → length tree.funnels ≡ length tris
       → ((i : ℕ) → HasCorner (tri_at tris (at_place order 0)) i → IsFromNamed corners start (vertex corners i) (before_at tree i))
       → funnel_at tree (at_place order 0) ≡ None
       → IsGrownOver corners start tris order 1 tree
@@ -37,7 +37,7 @@ module _ (corners : List Point) (start : Point) (tris : List Tri) (order : List 
         (subst (KeepsFunnelTo corners start tris order 0) (sym none) refl);
   }
 
-  module _ (p : ℕ) (later : 0 < p) (below : p < length order) (tree : Tree) (grown : IsGrownOver corners start tris order p tree) where
+  module _ (p : ℕ) (later : 0 < p) (below : p < length order) (tree : NamedTree) (grown : IsGrownOver corners start tris order p tree) where
     -- At one more place the ends of the side are corners of an earlier triangle, so all but the third corner have their parents,
     corner_had : (q i : ℕ) → q < p + 1 → HasCorner (tri_at tris (at_place order q)) i → i ≢ third_of tris order p
         → HasParent corners start tree.before i
@@ -128,7 +128,7 @@ module _ (corners : List Point) (start : Point) (tris : List Tri) (order : List 
   }
 
   -- and each vertex is a corner of some triangle: so at all places it has grown
-  grown_over_all : (tree : Tree) → IsGrownOver corners start tris order (length order) tree → IsGrownFrom corners start tris tree
+  grown_over_all : (tree : NamedTree) → IsGrownOver corners start tris order (length order) tree → IsGrownFrom corners start tris tree
   grown_over_all tree grown = record {
     vertices = grown.vertices;
     parents = λ i below.
@@ -144,7 +144,7 @@ module _ (corners : List Point) (start : Point) (tris : List Tri) (order : List 
   }
 
 -- so one that has grown up to the last place of an order from a triangle with the start is grown from these corners
-pub grown_at_end : (corners : List Point) (start : Point) (tris : List Tri) (home : ℕ) (order : List Outward) (p end : ℕ) (tree : Tree)
+pub grown_at_end : (corners : List Point) (start : Point) (tris : List Tri) (home : ℕ) (order : List Outward) (p end : ℕ) (tree : NamedTree)
     → Fits corners tris → home < length tris → IsInTri corners (tri_at tris home) (whole start) → IsOutward tris home order
     → end ≡ length order → end ≤ p → (1 ≤ end → p ≤ end) → IsGrownOver corners start tris order p tree
     → IsGrownFrom corners start tris tree

@@ -15,7 +15,7 @@ use Rattle.exact_plane.specs.declared.turns.Spot.{Spot}
 use Rattle.exact_plane.specs.declared.turns.Spot.TheVariants.{Corner, Goal, Start}
 use Rattle.shared_funnel.specs.Listed.{Listed}
 use Rattle.path_tree.proofs.KeptNames.{kept_vertex}
-use Rattle.path_tree.specs.Grown.{IsFromNamed, IsGrownFrom, IsKept, KeepsFunnel, Tree, before_at, funnel_at, kept_point}
+use Rattle.path_tree.specs.Grown.{IsFromNamed, IsGrownFrom, IsKept, KeepsFunnel, NamedTree, before_at, funnel_at, kept_point}
 
 module _ (corners : List Point) (start : Point) (tris : List Tri) (fits : Fits corners tris) where
   -- with what a triangle keeps the start is in the ring
@@ -36,7 +36,7 @@ module _ (corners : List Point) (start : Point) (tris : List Tri) (fits : Fits c
       (start ∷ [], subst (λ p. IsPath corners start p (start ∷ [])) (sym same) (start_alone inside))
   path_of_from inside t (Some name) from = (from.2.path, from.2.is_path)
 
-  module _ (tree : Tree) (grown : IsGrownFrom corners start tris tree) where
+  module _ (tree : NamedTree) (grown : IsGrownFrom corners start tris tree) where
     -- the start is in the ring,
     pub start_inside : IsIn corners (whole start)
     start_inside =

@@ -7,9 +7,9 @@ use Rattle.meshes.specs.declared.tri.Tri.{Tri}
 use Rattle.exact_plane.specs.declared.turns.Spot.{Spot}
 use Rattle.exact_plane.specs.declared.turns.Spot.TheVariants.{Corner, Goal, Start}
 use Rattle.exact_plane.specs.Spot.{IsNamed, point_named}
-use Rattle.path_tree.specs.Grown.{IsGrownFrom, IsKept, Names, Tree, kept_point}
+use Rattle.path_tree.specs.Grown.{IsGrownFrom, IsKept, Names, NamedTree, kept_point}
 
-module _ (corners : List Point) (start : Point) (tris : List Tri) (tree : Tree) (grown : IsGrownFrom corners start tris tree) where
+module _ (corners : List Point) (start : Point) (tris : List Tri) (tree : NamedTree) (grown : IsGrownFrom corners start tris tree) where
   -- a vertex is what its name stands for
   pub kept_vertex : (i : ℕ) → i < length tree.before → vertex corners i ≡ kept_point corners start (Corner i)
   kept_vertex i below = vertex_in_range corners i origin (omega (arith, below, grown.vertices))

@@ -11,7 +11,7 @@ use Rattle.exact_plane.specs.declared.turns.Spot.TheVariants.{Corner, Start}
 use Rattle.shared_funnel.proofs.Numbers.{corner_point, source_point}
 use Rattle.shared_funnel.proofs.ReachedBefore.{before_third}
 use Rattle.shared_funnel.proofs.SourceNumber.{number_of_source}
-use Rattle.shared_funnel.specs.Listed.{IsBeyond, IsFunnelAt, Listed, point_of, points_of}
+use Rattle.shared_funnel.specs.Listed.{IsTriangleBeyond, IsFunnelAt, Listed, point_of, listed_points}
 use Rattle.path_tree.specs.Grown.{IsFromNamed, Names}
 
 module _ (corners : List Point) (start : Point) (tris : List Tri) (i j d : ℕ) (fits : Fits corners tris) (f : Listed)
@@ -39,7 +39,7 @@ module _ (corners : List Point) (start : Point) (tris : List Tri) (i j d : ℕ) 
   ]
 
   -- so what comes before the third corner beyond is named by it where that is reached from the place
-  pub third_named : (k m : ℕ) → IsBeyond tris k i j m → IsReachedFrom (points_of corners start f.list) f.apex h (whole (vertex corners m))
+  pub third_named : (k m : ℕ) → IsTriangleBeyond tris k i j m → IsReachedFrom (listed_points corners start f.list) f.apex h (whole (vertex corners m))
       → IsFromNamed corners start (vertex corners m) (Some name)
   third_named k m beyond reached =
       (there, named_by_number, before_third corners start tris k i j m d fits beyond f w h reached)

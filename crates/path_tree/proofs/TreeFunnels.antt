@@ -7,7 +7,7 @@ use Rattle.tri_mesh.specs.declared.outward.Outward.{Outward}
 use Rattle.shared_funnel.proofs.Entrances.{earlier, toward_below}
 use Rattle.shared_funnel.specs.Entered.{IsFromStart, IsFunnelTo, at_place, toward}
 use Rattle.shared_funnel.specs.Listed.{Listed}
-use Rattle.path_tree.specs.Grown.{Tree}
+use Rattle.path_tree.specs.Grown.{NamedTree}
 use Rattle.path_tree.specs.Growing.{AreThirdPlaces, IsGrownOver, IsThirdFrom, KeepsFunnelTo}
 
 module _ (corners : List Point) (start : Point) (tris : List Tri) (order : List Outward) (from : IsFromStart corners start tris order)
@@ -16,7 +16,7 @@ module _ (corners : List Point) (start : Point) (tris : List Tri) (order : List 
   q = toward order p
 
   -- what was read in the tree is what it has there: nothing at home,
-  module _ (tree : Tree) (grown : IsGrownOver corners start tris order p tree) (o : Option Listed)
+  module _ (tree : NamedTree) (grown : IsGrownOver corners start tris order p tree) (o : Option Listed)
       (read : o ≡ slice_index_or tree.funnels (at_place order q) o) where
     kept : KeepsFunnelTo corners start tris order q o
     kept =

@@ -7,8 +7,8 @@ use Rattle.meshes.specs.declared.tri.Tri.{Tri}
 use Rattle.tri_mesh.specs.declared.outward.Outward.{Outward}
 use Rattle.funnels.specs.Funnel.{IsReachedFrom}
 use Rattle.shared_funnel.specs.Entered.{HasCorner, IsFunnelTo, at_place, third_of}
-use Rattle.shared_funnel.specs.Listed.{Listed, points_of}
-use Rattle.path_tree.specs.Grown.{IsFromNamed, Tree, before_at, funnel_at}
+use Rattle.shared_funnel.specs.Listed.{Listed, listed_points}
+use Rattle.path_tree.specs.Grown.{IsFromNamed, NamedTree, before_at, funnel_at}
 
 -- the home has no funnel, and the triangle at a later place has that one
 abbrev pub KeepsFunnelTo : List Point → Point → List Tri → List Outward → ℕ → Option Listed → Type 0
@@ -16,7 +16,7 @@ KeepsFunnelTo corners start tris order p None = p ≡ 0
 KeepsFunnelTo corners start tris order p (Some f) = (0 < p) × IsFunnelTo corners start tris order p f
 
 -- the tree has grown over the triangles at the first places, so many of them: it has their funnels, and what is before their corners
-pub record IsGrownOver (corners : List Point) (start : Point) (tris : List Tri) (order : List Outward) (count : ℕ) (tree : Tree) : Type 0 where
+pub record IsGrownOver (corners : List Point) (start : Point) (tris : List Tri) (order : List Outward) (count : ℕ) (tree : NamedTree) : Type 0 where
   pub vertices : length tree.before ≡ length corners
   pub parents : (p i : ℕ) → p < count → HasCorner (tri_at tris (at_place order p)) i
       → IsFromNamed corners start (vertex corners i) (before_at tree i)
@@ -26,10 +26,10 @@ pub record IsGrownOver (corners : List Point) (start : Point) (tris : List Tri) 
 -- the third corner of the triangle at a place is reached from this place of its funnel
 abbrev pub IsThirdFrom : List Point → Point → List Tri → List Outward → ℕ → Listed → ℕ → Type 0
 IsThirdFrom corners start tris order p f place =
-    IsReachedFrom (points_of corners start f.list) f.apex place (whole (vertex corners (third_of tris order p)))
+    IsReachedFrom (listed_points corners start f.list) f.apex place (whole (vertex corners (third_of tris order p)))
 
 -- for each of the triangles at the first places, so many of them, this is the place of its funnel from which its third corner is reached
-pub record AreThirdPlaces (corners : List Point) (start : Point) (tris : List Tri) (order : List Outward) (count : ℕ) (tree : Tree)
+pub record AreThirdPlaces (corners : List Point) (start : Point) (tris : List Tri) (order : List Outward) (count : ℕ) (tree : NamedTree)
     (places : List ℕ) : Type 0 where
   pub each : length places ≡ count
   pub reached : (p : ℕ) → p < count → (f : Listed) → funnel_at tree (at_place order p) ≡ Some f

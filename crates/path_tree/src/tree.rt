@@ -2,7 +2,7 @@ ghost use Rattle.std.specs.List.{All};
 ghost use Rattle.std.specs.Prelude.{◌≡◌, ◌≢◌, ℕ, ◌+◌, ◌*◌, ◌<◌, ◌≤◌, ◌++◌, ◌∷◌, [], List, IfOk, drop, length, reverse, take, vec_capacity};
 ghost use Rattle.plane.specs.Point.{Point, whole};
 ghost use Rattle.rings.specs.Chain.{IsPath};
-ghost use Rattle.rings.specs.From.{IsBefore};
+ghost use Rattle.rings.specs.From.{IsPredecessor};
 ghost use Rattle.rings.specs.Ring.{vertex};
 ghost use Rattle.meshes.specs.Fits.{Fits, IsInTri};
 ghost use Rattle.meshes.specs.Side.{tri_at};
@@ -29,13 +29,13 @@ pub struct PathTree {
 }
 
 impl Model for PathTree {
-    ghost use Rattle.path_tree.specs.Grown.{Tree, IsGrown};
+    ghost use Rattle.path_tree.specs.Grown.{NamedTree, IsGrownTree};
 
-    ghost Value = { Tree };
+    ghost Value = { NamedTree };
 
     ghost view = { λ tree. record { before = tree.before.items; funnels = tree.funnels.items } };
 
-    ghost invariant = { λ tree. IsGrown (record { before = tree.before.items; funnels = tree.funnels.items }) };
+    ghost invariant = { λ tree. IsGrownTree (record { before = tree.before.items; funnels = tree.funnels.items }) };
 }
 
 impl PathTree {
@@ -111,7 +111,7 @@ impl PathTree {
             → AppendsNames corners start (kept_point corners start last) (IsPath corners start (kept_point corners start last))
             out.old.items out.new.items }
         ensures on { (corners : List Point) (start : Point) (tris : List Tri) → Fits corners tris → IsGrownFrom corners start tris self.now
-            → (t : Point) → IsBefore corners start t (kept_point corners start last)
+            → (t : Point) → IsPredecessor corners start t (kept_point corners start last)
             → IsPath corners start t (named_points (kept_point corners start) (drop (length out.old.items) out.new.items) ++ t ∷ []) }
         ensures no_goal { All (λ name. name ≢ Goal) (drop (length out.old.items) out.new.items) }
         ensures same_room { vec_capacity out.new ≡ vec_capacity out.old }
@@ -153,7 +153,7 @@ fn near_goal<T: Turns, L: Ledger>(
     requires entered { IsEntered (T.corners board.now) (T.start board.now) mesh.now tri funnel.now }
     requires goal { IsInTri (T.corners board.now) (tri_at mesh.now tri) (whole (T.goal board.now)) }
     ensures near { (x : Point) × Names (T.corners board.now) (T.start board.now) result x
-        × (x ≢ T.goal board.now → IsBefore (T.corners board.now) (T.start board.now) (T.goal board.now) x) }
+        × (x ≢ T.goal board.now → IsPredecessor (T.corners board.now) (T.start board.now) (T.goal board.now) x) }
     ensures steps { let b = binary_digits (length (T.corners board.now)) in steps.new < steps.old + 24 * (b * b) }
 {
     let n = mesh.count() + 2;

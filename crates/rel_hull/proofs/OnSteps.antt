@@ -1,12 +1,12 @@
 -- In a table a point is on a chain from another point exactly if it is on one step of it.
 use Rattle.std.proofs.Common.{◌≡◌, ◌≢◌, ◌↔◌, ℕ, ◌+◌, ◌-◌, ◌<◌, length, arith}
-use Rattle.rel_hull.specs.Table.{Table, chain_at, points_of}
+use Rattle.rel_hull.specs.Table.{Table, chain_at, table_points}
 use Rattle.rel_hull.specs.Told.{IsOnChain, IsOnStep, KeepsChains}
 use Rattle.rings.specs.Chain.{point_at}
 
 pub on_step_iff : (table : Table) → KeepsChains table → (a b s : ℕ) → a < table.count → b < table.count → s < table.count → a ≢ s
-    → IsOnStep (chain_at table a b) (length (chain_at table a s)) (point_at (points_of table) s)
-    ↔ IsOnChain (chain_at table a b) (point_at (points_of table) s)
+    → IsOnStep (chain_at table a b) (length (chain_at table a s)) (point_at (table_points table) s)
+    ↔ IsOnChain (chain_at table a b) (point_at (table_points table) s)
 on_step_iff table keeps a b s at_a at_b at_s apart =
     let to = length (chain_at table a s) in
     let long = keeps.long a s at_a at_s apart in

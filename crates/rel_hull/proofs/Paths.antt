@@ -4,23 +4,23 @@ use Rattle.std.proofs.lemmas.Bool.{cases_lt}
 use Rattle.std.proofs.lemmas.List.FromFn.{length-map-range_with_len}
 use Rattle.hulls.proofs.Joined.{on_step_to, one_front, path_is_taut, path_steps}
 use Rattle.plane.specs.Point.{Point}
-use Rattle.rel_hull.specs.Table.{IsTableOf, Table, chain_at, points_of}
+use Rattle.rel_hull.specs.Table.{IsTableOf, Table, chain_at, table_points}
 use Rattle.rel_hull.specs.Told.{KeepsChains}
 use Rattle.rings.specs.Chain.{IsTaut, point_at}
 use Rattle.rings.specs.Simple.{IsSimple}
 
 -- there are as many points as the table says
-pub length-points_of : (table : Table) → length (points_of table) ≡ table.count
+pub length-points_of : (table : Table) → length (table_points table) ≡ table.count
 length-points_of table = length-map-range_with_len (λ (i : ℕ). point_at (chain_at table i i) 0) 0 table.count
 
 module _ (ring : List Point) (table : Table) (is : IsTableOf ring table) where
   -- the chain from a point of the table to another is taut
   pub taut_chain : (i j : ℕ) → i < table.count → j < table.count
-      → IsTaut ring (point_at (points_of table) i) (point_at (points_of table) j) (chain_at table i j)
+      → IsTaut ring (point_at (table_points table) i) (point_at (table_points table) j) (chain_at table i j)
   taut_chain i j at_i at_j = path_is_taut ring _ _ _ (is.paths i j at_i at_j)
 
   -- different numbers are of different points
-  points_differ : (a s : ℕ) → a < table.count → s < table.count → a ≢ s → point_at (points_of table) a ≢ point_at (points_of table) s
+  points_differ : (a s : ℕ) → a < table.count → s < table.count → a ≢ s → point_at (table_points table) a ≢ point_at (table_points table) s
   points_differ a s at_a at_s apart = elim (cases_lt a s) [
     | inl before ↦ is.distinct a s before (rw length-points_of at_s)
     | inr not ↦ λ same. is.distinct s a (omega arith) (rw length-points_of at_a) (sym same)
@@ -35,7 +35,7 @@ module _ (ring : List Point) (table : Table) (is : IsTableOf ring table) where
       some = λ i j at_i at_j. (taut_chain i j at_i at_j).bent.chain.some;
       begins = λ i j at_i at_j. (taut_chain i j at_i at_j).first;
       long = λ a s at_a at_s apart.
-          path_steps ring some simple _ (point_at (points_of table) a) _ (chain_at table a a) (chain_at table a s) (is.paths a a at_a at_a)
+          path_steps ring some simple _ (point_at (table_points table) a) _ (chain_at table a a) (chain_at table a s) (is.paths a a at_a at_a)
           (is.paths a s at_a at_s) (points_differ a s at_a at_s apart);
       on_step = λ a b s at_a at_b at_s apart on.
           let step = on_step_to ring some simple _ _ _ (chain_at table a b) (chain_at table a s) (is.paths a b at_a at_b) (is.paths a s at_a at_s)

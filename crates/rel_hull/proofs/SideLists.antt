@@ -7,7 +7,7 @@ use Rattle.plane.proofs.Lists.{ordered_push}
 use Rattle.plane.specs.Pairs.{IsPairBefore}
 use Rattle.rel_hull.proofs.Outer.{first_least, next_greater, none_between}
 use Rattle.rel_hull.specs.Table.{Table}
-use Rattle.rel_hull.specs.Told.{AreOuterBelow, AreSidesBefore, IsOneEnd, IsTold, StartsTold}
+use Rattle.rel_hull.specs.Told.{AreOuterBelow, AreSidesBefore, IsOneEnd, IsToldSide, StartsTold}
 
 -- a pair that comes before the row of a number is in one before that
 in_row_before : (s : ℕ) (pair : ℕ × ℕ) → IsPairBefore pair (s, 0) → pair.0 < s
@@ -16,7 +16,7 @@ in_row_before s pair before = elim before [ inl row ↦ row | inr h ↦ let less
 module _ (table : Table) (outer : List ℕ) where
   -- a bound may be another one where no side comes between them
   pub sides_rebound : (b c : ℕ × ℕ) (pairs : List (ℕ × ℕ))
-      → ((pair : ℕ × ℕ) → IsTold table outer pair → IsPairBefore pair b ↔ IsPairBefore pair c) → AreSidesBefore table outer b pairs
+      → ((pair : ℕ × ℕ) → IsToldSide table outer pair → IsPairBefore pair b ↔ IsPairBefore pair c) → AreSidesBefore table outer b pairs
       → AreSidesBefore table outer c pairs
   sides_rebound b c pairs same are = record {
     told = are.told;
@@ -31,7 +31,7 @@ module _ (table : Table) (outer : List ℕ) where
     sides_more t end = record {
       told = λ pair inside. elim (Contains-push_cases pairs (s, t) pair inside) [
         | inl before ↦ are.told pair before
-        | inr e ↦ subst (λ (q : ℕ × ℕ). IsTold table outer q) e end.told
+        | inr e ↦ subst (λ (q : ℕ × ℕ). IsToldSide table outer q) e end.told
       ];
       before = λ pair inside. elim (Contains-push_cases pairs (s, t) pair inside) [
         | inl before ↦ let less = in_row_before s pair (are.before pair before) in inl (omega arith)
@@ -42,7 +42,7 @@ module _ (table : Table) (outer : List ℕ) where
         | inr not ↦
             let within = in_row_before (s + 1) pair before in
             let row : s ≡ pair.0 = omega arith in
-            let place = end.only pair.1 (subst (λ (n : ℕ). IsTold table outer (n, pair.1)) (sym row) told) in
+            let place = end.only pair.1 (subst (λ (n : ℕ). IsToldSide table outer (n, pair.1)) (sym row) told) in
             subst (λ (q : ℕ × ℕ). Contains (pairs ++ (s, t) ∷ []) q) (λ i. (row i, place i)) (Contains-push pairs (s, t))
       ];
       sorted = ordered_push IsPairBefore pairs (s, t) (0, 0) are.sorted (λ pair inside. inl (in_row_before s pair (are.before pair inside)));
@@ -58,7 +58,7 @@ module _ (table : Table) (outer : List ℕ) where
         | inr not ↦
             let within = in_row_before (s + 1) pair before in
             let row : pair.0 ≡ s = omega arith in
-            absurd (none (pair.1, subst (λ (n : ℕ). IsTold table outer (n, pair.1)) row told))
+            absurd (none (pair.1, subst (λ (n : ℕ). IsToldSide table outer (n, pair.1)) row told))
       ];
       sorted = are.sorted;
     }
@@ -67,7 +67,7 @@ module _ (table : Table) (outer : List ℕ) where
 
 module _ (table : Table) (n : ℕ) (outer : List ℕ) (are : AreOuterBelow table n outer) where
   -- rows of numbers between two outer points are empty
-  pub next_row : (j : ℕ) → j < length outer → (pair : ℕ × ℕ) → IsTold table outer pair
+  pub next_row : (j : ℕ) → j < length outer → (pair : ℕ × ℕ) → IsToldSide table outer pair
       → IsPairBefore pair (slice_index outer j + 1, 0) ↔ IsPairBefore pair (get_or outer (j + 1) n, 0)
   next_row j at_j pair told =
       let greater = next_greater outer n are.below are.ascending j at_j in
@@ -88,6 +88,6 @@ module _ (table : Table) (n : ℕ) (outer : List ℕ) (are : AreOuterBelow table
   }
 
   -- and all come before the row of n
-  pub all_sides : (pairs : List (ℕ × ℕ)) → AreSidesBefore table outer (n, 0) pairs → (pair : ℕ × ℕ) → IsTold table outer pair
+  pub all_sides : (pairs : List (ℕ × ℕ)) → AreSidesBefore table outer (n, 0) pairs → (pair : ℕ × ℕ) → IsToldSide table outer pair
       → Contains pairs pair
   all_sides pairs sides pair told = sides.all pair told (inl (are.below pair.0 told.first))

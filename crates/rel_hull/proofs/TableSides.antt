@@ -12,15 +12,15 @@ use Rattle.rel_hull.proofs.TableInner.{inner_of_passed, passed_of_inner}
 use Rattle.rel_hull.proofs.SideLists.{all_sides}
 use Rattle.rel_hull.specs.Hull.{IsSide, IsTurnBetween}
 use Rattle.rel_hull.specs.PathTurn.{IsPathTurn}
-use Rattle.rel_hull.specs.Table.{AreSides, IsTableOf, Table, chain_at, points_of}
-use Rattle.rel_hull.specs.Told.{AreOuterBelow, AreSidesBefore, IsTold}
+use Rattle.rel_hull.specs.Table.{AreSides, IsTableOf, Table, chain_at, table_points}
+use Rattle.rel_hull.specs.Told.{AreOuterBelow, AreSidesBefore, IsToldSide}
 use Rattle.rings.specs.Chain.{point_at}
 
 module _ (ring : List Point) (table : Table) (is : IsTableOf ring table) where
   -- chains that turn to the left are paths that do,
   turn_between : (s t u : ℕ) → s < table.count → t < table.count → u < table.count
       → IsPathTurn (chain_at table s t) (chain_at table s u) Left
-      → IsTurnBetween ring (point_at (points_of table) s) (point_at (points_of table) t) (point_at (points_of table) u) Left
+      → IsTurnBetween ring (point_at (table_points table) s) (point_at (table_points table) t) (point_at (table_points table) u) Left
   turn_between s t u at_s at_t at_u turns = record {
     first = chain_at table s t;
     second = chain_at table s u;
@@ -31,7 +31,7 @@ module _ (ring : List Point) (table : Table) (is : IsTableOf ring table) where
 
   -- and the other way round
   turn_of_chains : (s t u : ℕ) → s < table.count → t < table.count → u < table.count
-      → IsTurnBetween ring (point_at (points_of table) s) (point_at (points_of table) t) (point_at (points_of table) u) Left
+      → IsTurnBetween ring (point_at (table_points table) s) (point_at (table_points table) t) (point_at (table_points table) u) Left
       → IsPathTurn (chain_at table s t) (chain_at table s u) Left
   turn_of_chains s t u at_s at_t at_u between =
       let first = one_path ring _ _ between.first (chain_at table s t) between.is_first (is.paths s t at_s at_t) in
@@ -40,15 +40,15 @@ module _ (ring : List Point) (table : Table) (is : IsTableOf ring table) where
 
   module _ (outer : List ℕ) (are : AreOuterBelow table table.count outer) where
     -- an outer point is one that isn't inner,
-    not_inner : (s : ℕ) → Contains outer s → ¬ IsInnerPoint ring (points_of table) s
+    not_inner : (s : ℕ) → Contains outer s → ¬ IsInnerPoint ring (table_points table) s
     not_inner s inside inner = are.none s inside (passed_of_inner ring table is s inner)
 
     -- and the other way round
-    is_outer : (s : ℕ) → s < table.count → ¬ IsInnerPoint ring (points_of table) s → Contains outer s
+    is_outer : (s : ℕ) → s < table.count → ¬ IsInnerPoint ring (table_points table) s → Contains outer s
     is_outer s at_s outside = are.all s at_s (λ passed. outside (inner_of_passed ring table is s passed))
 
     -- a pair that is told is a side,
-    pub side_of_told : (pair : ℕ × ℕ) → IsTold table outer pair → IsSide ring (points_of table) pair.0 pair.1
+    pub side_of_told : (pair : ℕ × ℕ) → IsToldSide table outer pair → IsSide ring (table_points table) pair.0 pair.1
     side_of_told pair told =
         let at_s = are.below pair.0 told.first in
         let at_t = are.below pair.1 told.second in
@@ -64,7 +64,7 @@ module _ (ring : List Point) (table : Table) (is : IsTableOf ring table) where
         }
 
     -- and the other way round
-    pub told_of_side : (s t : ℕ) → IsSide ring (points_of table) s t → IsTold table outer (s, t)
+    pub told_of_side : (s t : ℕ) → IsSide ring (table_points table) s t → IsToldSide table outer (s, t)
     told_of_side s t side =
         let at_s = rw length-points_of at side.s_in_list in
         let at_t = rw length-points_of at side.t_in_list in
@@ -78,7 +78,7 @@ module _ (ring : List Point) (table : Table) (is : IsTableOf ring table) where
         }
 
     -- so a list of all pairs that are told is that of the sides
-    pub are_sides : (pairs : List (ℕ × ℕ)) → AreSidesBefore table outer (table.count, 0) pairs → AreSides ring (points_of table) pairs
+    pub are_sides : (pairs : List (ℕ × ℕ)) → AreSidesBefore table outer (table.count, 0) pairs → AreSides ring (table_points table) pairs
     are_sides pairs sides = record {
       sides = λ k in_list. side_of_told (pair_at pairs k) (sides.told (pair_at pairs k) (Contains-get_or pairs k (0, 0) in_list));
       all = λ s t side. all_sides table table.count outer are pairs sides (s, t) (told_of_side s t side);

@@ -12,7 +12,7 @@ StartsSide ring points s = (t : ℕ) × IsSide ring points s t
 
 -- a list of different numbers that begins with the least that starts a side; the sides are exactly the pairs that follow each other in it,
 -- read round
-pub record IsClosed (ring points : List Point) (round : List ℕ) : Type 0 where
+pub record IsClosedRound (ring points : List Point) (round : List ℕ) : Type 0 where
   pub distinct : (i j : ℕ) → i < j → j < length round → slice_index round i ≢ slice_index round j
   pub sides : (s t : ℕ) → IsSide ring points s t ↔ Follows round s t
   pub starts : StartsSide ring points (slice_index round 0)
@@ -21,7 +21,7 @@ pub record IsClosed (ring points : List Point) (round : List ℕ) : Type 0 where
 -- the round of some points: of one point there is none
 pub record IsRound (ring points : List Point) (round : List ℕ) : Type 0 where
   pub alone : length points ≡ 1 → round ≡ []
-  pub closed : 2 ≤ length points → IsClosed ring points round
+  pub closed : 2 ≤ length points → IsClosedRound ring points round
 
 -- points of a simple ring have just one round
 abbrev pub OneRoundLaw : Type 0

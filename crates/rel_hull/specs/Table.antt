@@ -16,17 +16,17 @@ abbrev pub chain_at : Table → ℕ → ℕ → List Point
 chain_at table i j = slice_index_or table.chains (i * table.count + j) []
 
 -- the points: chain i * count + i begins at point i
-abbrev pub points_of : Table → List Point
-points_of table = map (λ i. point_at (chain_at table i i) 0) (range_with_len 0 table.count)
+abbrev pub table_points : Table → List Point
+table_points table = map (λ i. point_at (chain_at table i i) 0) (range_with_len 0 table.count)
 
 -- the table is one of a ring: its chains are the paths between its points, which are distinct, and so few that numbers of chains fit
 pub record IsTableOf (ring : List Point) (table : Table) : Type 0 where
   pub some : 1 ≤ table.count
   pub few : table.count < 2 ^ 16
   pub square : length table.chains ≡ table.count * table.count
-  pub distinct : AreDistinct (points_of table)
+  pub distinct : AreDistinct (table_points table)
   pub paths : (i j : ℕ) → i < table.count → j < table.count
-      → IsPath ring (point_at (points_of table) i) (point_at (points_of table) j) (chain_at table i j)
+      → IsPath ring (point_at (table_points table) i) (point_at (table_points table) j) (chain_at table i j)
 
 -- the pairs are exactly the sides of the points, in order
 pub record AreSides (ring points : List Point) (pairs : List (ℕ × ℕ)) : Type 0 where

@@ -8,7 +8,7 @@ use Rattle.plane.specs.Segment.{On}
 use Rattle.rings.specs.Chain.{point_at}
 use Rattle.exact_plane.specs.declared.direction.Direction.TheVariants.{Left}
 use Rattle.rel_hull.specs.PathTurn.{IsPathTurn}
-use Rattle.rel_hull.specs.Table.{Table, chain_at, points_of}
+use Rattle.rel_hull.specs.Table.{Table, chain_at, table_points}
 
 -- x is on a chain
 pub record IsOnChain (chain : List Point) (x : Point) : Type 0 where
@@ -32,11 +32,11 @@ pub record KeepsChains (table : Table) : Type 0 where
   pub few : table.count < 2 ^ 16
   pub square : length table.chains ≡ table.count * table.count
   pub some : (i j : ℕ) → i < table.count → j < table.count → 0 < length (chain_at table i j)
-  pub begins : (i j : ℕ) → i < table.count → j < table.count → point_at (chain_at table i j) 0 ≡ point_at (points_of table) i
+  pub begins : (i j : ℕ) → i < table.count → j < table.count → point_at (chain_at table i j) 0 ≡ point_at (table_points table) i
   pub long : (a s : ℕ) → a < table.count → s < table.count → a ≢ s → 2 ≤ length (chain_at table a s)
   pub on_step : (a b s : ℕ) → a < table.count → b < table.count → s < table.count → a ≢ s
-      → IsOnChain (chain_at table a b) (point_at (points_of table) s)
-      → IsOnStep (chain_at table a b) (length (chain_at table a s)) (point_at (points_of table) s)
+      → IsOnChain (chain_at table a b) (point_at (table_points table) s)
+      → IsOnStep (chain_at table a b) (length (chain_at table a s)) (point_at (table_points table) s)
   pub fronts : (s t u : ℕ) → s < table.count → t < table.count → u < table.count → HaveFronts (chain_at table s t) (chain_at table s u)
 
 -- point s is on the chain from point a to another
@@ -45,10 +45,10 @@ pub record IsPassedFrom (table : Table) (a s : ℕ) : Type 0 where
   pub in_table : b < table.count
   pub not_a : b ≢ a
   pub not_s : b ≢ s
-  pub on : IsOnChain (chain_at table a b) (point_at (points_of table) s)
+  pub on : IsOnChain (chain_at table a b) (point_at (table_points table) s)
 
 -- point s is on the chain between two others
-pub record IsPassed (table : Table) (s : ℕ) : Type 0 where
+pub record IsOnSomeChain (table : Table) (s : ℕ) : Type 0 where
   pub a : ℕ
   pub in_table : a < table.count
   pub not_s : a ≢ s
@@ -63,7 +63,7 @@ pub record AreOthersBelow (Is : ℕ → Type 0) (n : ℕ) (list : List ℕ) : Ty
 
 -- the numbers below n of points that are on no such chain, in order
 abbrev pub AreOuterBelow : Table → ℕ → List ℕ → Type 0
-AreOuterBelow table = AreOthersBelow (IsPassed table)
+AreOuterBelow table = AreOthersBelow (IsOnSomeChain table)
 
 -- point u is one of the ends of the chain from s to t, or to the left of it
 abbrev pub IsLeftOf : Table → ℕ → ℕ → ℕ → Type 0
@@ -74,7 +74,7 @@ abbrev pub ComesFirst : Table → ℕ → ℕ → ℕ → Type 0
 ComesFirst table s end t = (t ≢ s) × ((end ≡ s) ⊎ (¬ IsLeftOf table s end t))
 
 -- a pair of different outer points is a side: all outer points are to the left of its chain
-pub record IsTold (table : Table) (outer : List ℕ) (pair : ℕ × ℕ) : Type 0 where
+pub record IsToldSide (table : Table) (outer : List ℕ) (pair : ℕ × ℕ) : Type 0 where
   pub first : Contains outer pair.0
   pub second : Contains outer pair.1
   pub different : pair.0 ≢ pair.1
@@ -82,12 +82,12 @@ pub record IsTold (table : Table) (outer : List ℕ) (pair : ℕ × ℕ) : Type 
 
 -- a side that is told goes from point s
 abbrev pub StartsTold : Table → List ℕ → ℕ → Type 0
-StartsTold table outer s = (t : ℕ) × IsTold table outer (s, t)
+StartsTold table outer s = (t : ℕ) × IsToldSide table outer (s, t)
 
 -- the side that goes from point s ends at t
 pub record IsOneEnd (table : Table) (outer : List ℕ) (s t : ℕ) : Type 0 where
-  pub told : IsTold table outer (s, t)
-  pub only : (u : ℕ) → IsTold table outer (s, u) → t ≡ u
+  pub told : IsToldSide table outer (s, t)
+  pub only : (u : ℕ) → IsToldSide table outer (s, u) → t ≡ u
 
 -- point s is the least that one goes from
 pub record IsFirstStart (table : Table) (outer : List ℕ) (s : ℕ) : Type 0 where
@@ -96,7 +96,7 @@ pub record IsFirstStart (table : Table) (outer : List ℕ) (s : ℕ) : Type 0 wh
 
 -- the pairs are exactly the sides that come before a pair, in order
 pub record AreSidesBefore (table : Table) (outer : List ℕ) (bound : ℕ × ℕ) (pairs : List (ℕ × ℕ)) : Type 0 where
-  pub told : (pair : ℕ × ℕ) → Contains pairs pair → IsTold table outer pair
+  pub told : (pair : ℕ × ℕ) → Contains pairs pair → IsToldSide table outer pair
   pub before : (pair : ℕ × ℕ) → Contains pairs pair → IsPairBefore pair bound
-  pub all : (pair : ℕ × ℕ) → IsTold table outer pair → IsPairBefore pair bound → Contains pairs pair
+  pub all : (pair : ℕ × ℕ) → IsToldSide table outer pair → IsPairBefore pair bound → Contains pairs pair
   pub sorted : (k l : ℕ) → k < l → l < length pairs → IsPairBefore (pair_at pairs k) (pair_at pairs l)

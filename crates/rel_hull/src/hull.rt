@@ -1,7 +1,7 @@
 ghost use Rattle.std.specs.List.{Contains};
 ghost use Rattle.std.specs.Prelude.{◌≡◌, ◌≢◌, ◌<◌, ◌↔◌, IfOk, IsTrue, MatchOption, ℕ};
-ghost use Rattle.rel_hull.specs.Table.{AreSides, IsTableOf, points_of};
-ghost use Rattle.rel_hull.specs.Told.{AreOuterBelow, AreSidesBefore, ComesFirst, IsLeftOf, IsOneEnd, IsPassed, IsPassedFrom, IsTold, StartsTold};
+ghost use Rattle.rel_hull.specs.Table.{AreSides, IsTableOf, table_points};
+ghost use Rattle.rel_hull.specs.Told.{AreOuterBelow, AreSidesBefore, ComesFirst, IsLeftOf, IsOneEnd, IsOnSomeChain, IsPassedFrom, IsToldSide, StartsTold};
 
 use crate::table::ChainTable;
 use exact_plane::{Direction, Memory, Steps};
@@ -18,7 +18,7 @@ pub fn sides<L: Ledger>(
     steps: &mut Steps<L>,
 ) -> Result<Vec<(u32, u32)>, Memory>
     requires { IsTableOf ring.now.corners chains.now }
-    ensures { IfOk result (λ pairs. AreSides ring.now.corners (points_of chains.now) pairs.items) }
+    ensures { IfOk result (λ pairs. AreSides ring.now.corners (table_points chains.now) pairs.items) }
 {
     let outer = outer_points(alloc, chains, steps)?;
     sides_among(alloc, chains, &outer, steps)
@@ -44,7 +44,7 @@ pub(crate) fn outer_points<L: Ledger>(
 // Whether a point is on the path between two of the others.
 fn is_inner<L: Ledger>(chains: &ChainTable, s: u32, steps: &mut Steps<L>) -> bool
     requires { s < chains.now.count }
-    ensures { IsTrue result ↔ IsPassed chains.now s }
+    ensures { IsTrue result ↔ IsOnSomeChain chains.now s }
 {
     for a in 0..chains.count() {
         if a != s && is_on_path_from(chains, a, s, steps) {
@@ -117,7 +117,7 @@ pub(crate) fn side_end<L: Ledger>(
     requires outer { AreOuterBelow chains.now chains.now.count outer.now }
     requires start { s < chains.now.count }
     ensures other { result ≢ s → Contains outer.now result }
-    ensures end { (t : ℕ) → IsTold chains.now outer.now (s, t) → result ≡ t }
+    ensures end { (t : ℕ) → IsToldSide chains.now outer.now (s, t) → result ≡ t }
 {
     let mut end = s;
     for t in outer {

@@ -1,8 +1,8 @@
 ghost use Rattle.std.specs.List.{Contains};
 ghost use Rattle.std.specs.Prelude.{◌≡◌, ◌≢◌, ◌<◌, ◌↔◌, IfOk, IsTrue, MatchOption, ℕ};
 ghost use Rattle.rel_hull.specs.Round.{IsRound};
-ghost use Rattle.rel_hull.specs.Table.{IsTableOf, points_of};
-ghost use Rattle.rel_hull.specs.Told.{AreOuterBelow, ComesFirst, IsFirstStart, IsTold, StartsTold};
+ghost use Rattle.rel_hull.specs.Table.{IsTableOf, table_points};
+ghost use Rattle.rel_hull.specs.Told.{AreOuterBelow, ComesFirst, IsFirstStart, IsToldSide, StartsTold};
 
 use crate::hull::{outer_points, side_end, side_from};
 use crate::table::ChainTable;
@@ -20,7 +20,7 @@ pub fn round<L: Ledger>(
     steps: &mut Steps<L>,
 ) -> Result<Vec<u32>, Memory>
     requires { IsTableOf ring.now.corners chains.now }
-    ensures { IfOk result (λ round. IsRound ring.now.corners (points_of chains.now) round.items) }
+    ensures { IfOk result (λ round. IsRound ring.now.corners (table_points chains.now) round.items) }
 {
     let _corners = ring.len();
     let outer = outer_points(alloc, chains, steps)?;

@@ -1,7 +1,7 @@
 ghost use Rattle.std.specs.Prelude.{◌≡◌, ◌≢◌, ◌<◌, ◌↔◌, IsTrue, length, map};
 ghost use Rattle.rings.specs.Chain.{point_at};
 ghost use Rattle.rel_hull.specs.PathTurn.{IsPathTurn};
-ghost use Rattle.rel_hull.specs.Table.{IsTableOf, chain_at, points_of};
+ghost use Rattle.rel_hull.specs.Table.{IsTableOf, chain_at, table_points};
 ghost use Rattle.rel_hull.specs.Told.{IsOnChain};
 
 use crate::comparison::{halved_front, turn_at};
@@ -55,7 +55,7 @@ impl ChainTable {
 
         // What holds of every chain.
         ensures some { 0 < length result.now }
-        ensures begins { point_at result.now 0 ≡ point_at (points_of self.now) i }
+        ensures begins { point_at result.now 0 ≡ point_at (table_points self.now) i }
     {
         &self.chains[(i * self.count + j) as usize]
     }
@@ -67,7 +67,7 @@ impl ChainTable {
         requires second { b < self.now.count }
         requires third { s < self.now.count }
         requires apart { a ≢ s }
-        ensures { IsTrue result ↔ IsOnChain (chain_at self.now a b) (point_at (points_of self.now) s) }
+        ensures { IsTrue result ↔ IsOnChain (chain_at self.now a b) (point_at (table_points self.now) s) }
     {
         let _count = self.count;
         let to = self.chain(a, s).len();

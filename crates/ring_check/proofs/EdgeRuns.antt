@@ -7,7 +7,7 @@ use Rattle.ring_check.proofs.Bounds.{edge_in_wider, overlap_of_shared}
 use Rattle.exact_plane.specs.Boxes.{Encloses}
 use Rattle.exact_plane.specs.declared.bounding_box.BoundingBox.{BoundingBox}
 use Rattle.ring_check.specs.Boxes.{EnclosesEdge}
-use Rattle.ring_check.specs.Runs.{IsInABox, IsRun, Reaches}
+use Rattle.ring_check.specs.Runs.{IsInABox, IsRun, ReachesRun}
 use Rattle.ring_check.specs.declared.runs.Run.{Run}
 
 -- what is in the first box is in the second
@@ -58,7 +58,7 @@ run_of_both ring a b c follows first end east north west south in_a in_b = recor
 
 -- the box of an edge that shares a point with one of a run reaches the run
 reaches_of_shared : (ring : List Point) (run : Run) (box : BoundingBox) (i j : ℕ)
-    → EnclosesEdge ring box i → IsInABox ring run j → SharesPoint ring i j → Reaches run box
+    → EnclosesEdge ring box i → IsInABox ring run j → SharesPoint ring i j → ReachesRun run box
 reaches_of_shared ring run box i j edge within shared = elim within [
   | inl h ↦ inl (overlap_of_shared ring box run.eastward i j edge h shared)
   | inr (inl h) ↦ inr (inl (overlap_of_shared ring box run.northward i j edge h shared))
@@ -68,7 +68,7 @@ reaches_of_shared ring run box i j edge within shared = elim within [
 
 -- so no edge of a run clashes with one whose box does not reach it
 pub clear_of_apart : (ring : List Point) (run : Run) (box : BoundingBox) (i : ℕ)
-    → IsRun ring run → EnclosesEdge ring box i → (HasEqualEnds ring i → ⊥) → ¬ (Reaches run box)
+    → IsRun ring run → EnclosesEdge ring box i → (HasEqualEnds ring i → ⊥) → ¬ (ReachesRun run box)
     → (l : ℕ) → run.first ≤ l → l < run.end → Clash ring i l → ⊥
 clear_of_apart ring run box i is_run edge differ apart l above below clash = elim clash [
   | inl equal ↦ differ equal

@@ -19,6 +19,6 @@ pub record IsRun (ring : List Point) (run : Run) : Type 0 where
   pub differ : (e : ℕ) → run.first ≤ e → e < run.end → HasEqualEnds ring e → ⊥
 
 -- the box shares a point with one of the boxes
-abbrev pub Reaches : Run → BoundingBox → Type 0
-Reaches run box =
+abbrev pub ReachesRun : Run → BoundingBox → Type 0
+ReachesRun run box =
     Overlap box run.eastward ⊎ Overlap box run.northward ⊎ Overlap box run.westward ⊎ Overlap box run.southward

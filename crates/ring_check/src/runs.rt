@@ -4,7 +4,7 @@ ghost use Rattle.std.specs.Prelude.{◌≡◌, ◌+◌, ◌<◌, ◌≤◌, ◌�
 ghost use Rattle.plane.specs.Point.{Point};
 ghost use Rattle.rings.specs.Simple.{Clash, HasEqualEnds};
 ghost use Rattle.ring_check.specs.Boxes.{EnclosesEdge};
-ghost use Rattle.ring_check.specs.Runs.{IsRun, Reaches};
+ghost use Rattle.ring_check.specs.Runs.{IsRun, ReachesRun};
 
 use crate::boxes::box_of_edge;
 use crate::clash::{corner, has_equal_ends};
@@ -129,7 +129,7 @@ impl Run {
 
     // Whether one of its boxes shares a point with another box.
     fn reaches(&self, bounds: &BoundingBox) -> bool
-        ensures { IsTrue result ↔ Reaches self.now bounds.now }
+        ensures { IsTrue result ↔ ReachesRun self.now bounds.now }
     {
         bounds.overlaps(&self.eastward)
             || bounds.overlaps(&self.northward)

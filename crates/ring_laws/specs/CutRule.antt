@@ -26,7 +26,7 @@ pub record IsFarthestInCorner (ring : List Point) (i : ℕ) (p q : Point) (k : �
 
 -- the cut at vertex i goes from a to b: between its neighbours, where no other vertex is in the triangle there, or else from
 -- vertex i to a farthest vertex in the triangle
-pub data IsCut (ring : List Point) (i : ℕ) (a b : Point) : Type 0 where
-  across : IsLeftCorner ring i a b → ((j : ℕ) → ¬ IsInCorner ring i a b j) → IsCut ring i a b
+pub data IsCutAt (ring : List Point) (i : ℕ) (a b : Point) : Type 0 where
+  across : IsLeftCorner ring i a b → ((j : ℕ) → ¬ IsInCorner ring i a b j) → IsCutAt ring i a b
   to_farthest : (p q : Point) (k : ℕ) → IsLeftCorner ring i p q → IsFarthestInCorner ring i p q k → a ≡ vertex ring i → b ≡ vertex ring k
-      → IsCut ring i a b
+      → IsCutAt ring i a b

@@ -6,7 +6,7 @@ use Rattle.rings.specs.Orientation.{IsCounterclockwise}
 use Rattle.rings.specs.Ring.{vertex}
 use Rattle.rings.specs.Simple.{IsSimple}
 use Rattle.rings.specs.Winding.{IsLeastVertex, RunsAsItTurns}
-use Rattle.ring_laws.specs.CutRule.{IsCut}
+use Rattle.ring_laws.specs.CutRule.{IsCutAt}
 use Rattle.ring_laws.specs.Diagonal.{IsDiagonal}
 use Rattle.ring_laws.specs.Pieces.{IsCutInTwo, first_piece, second_piece}
 
@@ -19,12 +19,12 @@ SimpleRingLaw = (ring : List Point) → 3 ≤ length ring → IsSimple ring → 
 -- at its least vertex each simple ring has a cut,
 abbrev pub SomeCutLaw : Type 0
 SomeCutLaw = (ring : List Point) → 3 ≤ length ring → IsSimple ring → (i : ℕ) → i < length ring → IsLeastVertex ring i
-    → (a : Point) × (b : Point) × IsCut ring i a b
+    → (a : Point) × (b : Point) × IsCutAt ring i a b
 
 -- and each cut there is a diagonal, where there are more than three vertices
 abbrev pub CutRuleLaw : Type 0
 CutRuleLaw = (ring : List Point) → 3 < length ring → IsSimple ring → (i : ℕ) → i < length ring → IsLeastVertex ring i
-    → (a b : Point) → IsCut ring i a b → IsDiagonal ring a b
+    → (a b : Point) → IsCutAt ring i a b → IsDiagonal ring a b
 
 -- a diagonal cuts a simple ring into two simple pieces, which together are the ring and share only points of the diagonal
 abbrev pub CutLaw : Type 0

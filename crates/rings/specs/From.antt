@@ -4,13 +4,13 @@ use Rattle.plane.specs.Point.{Point}
 use Rattle.rings.specs.Chain.{IsPath, point_at}
 
 -- x comes just before t on the path from s
-pub record IsBefore (ring : List Point) (s t x : Point) : Type 0 where
+pub record IsPredecessor (ring : List Point) (s t x : Point) : Type 0 where
   pub path : List Point
   pub is_path : IsPath ring s t path
   pub more : 1 < length path
   pub is : point_at path (length path - 2) ≡ x
 
 -- what comes before t on the path from s: a point, or none where t is s
-abbrev pub IsFrom : List Point → Point → Point → Option Point → Type 0
-IsFrom ring s t None = t ≡ s
-IsFrom ring s t (Some x) = IsBefore ring s t x
+abbrev pub IsPredecessorOrNone : List Point → Point → Point → Option Point → Type 0
+IsPredecessorOrNone ring s t None = t ≡ s
+IsPredecessorOrNone ring s t (Some x) = IsPredecessor ring s t x

@@ -21,7 +21,7 @@ use Rattle.meshes.specs.Side.{tri_at}
 use Rattle.meshes.specs.declared.tri.Tri.{Tri}
 use Rattle.tri_mesh.proofs.Neighbours.{has_side_numbered}
 use Rattle.see_cone.proofs.SidesBeyond.{begins_differ}
-use Rattle.see_cone.specs.Reached.{AreDifferent, AreEdges, AreSorted, IsEarly, IsPlaced, IsSideListed, cone_there, placed_at, tri_there}
+use Rattle.see_cone.specs.Reached.{AreDifferent, AreBoundaryEdges, AreSorted, IsEarly, IsPlaced, IsSideListed, cone_there, placed_at, tri_there}
 use Rattle.see_cone.specs.declared.edges.Placed.{Placed}
 use Rattle.see_cone.specs.declared.reached.Reached.{Reached}
 
@@ -31,7 +31,7 @@ none = record { edge = 0; place = 0 }
 
 module _ (tris : List Tri) (reached : List Reached) where
   -- of no triangles
-  pub no_edges : AreEdges tris reached 0 0 []
+  pub no_edges : AreBoundaryEdges tris reached 0 0 []
   no_edges = record {
     placed = λ j h. absurd (omega arith);
     early = λ j h. absurd (omega arith);
@@ -51,7 +51,7 @@ module _ (tris : List Tri) (reached : List Reached) where
 
   module _ (p : ℕ) (edges : List Placed) where
     -- all sides of the triangle at one more place,
-    pub edges_next : AreEdges tris reached p 3 edges → AreEdges tris reached (p + 1) 0 edges
+    pub edges_next : AreBoundaryEdges tris reached p 3 edges → AreBoundaryEdges tris reached (p + 1) 0 edges
     edges_next are = record {
       placed = are.placed;
       early = λ j h. early_next p 3 (placed_at edges j) (are.early j h);
@@ -64,7 +64,7 @@ module _ (tris : List Tri) (reached : List Reached) where
     }
 
     -- or none, where it has no cone
-    pub edges_skip : cone_there reached p ≡ None → AreEdges tris reached p 0 edges → AreEdges tris reached (p + 1) 0 edges
+    pub edges_skip : cone_there reached p ≡ None → AreBoundaryEdges tris reached p 0 edges → AreBoundaryEdges tris reached (p + 1) 0 edges
     edges_skip is_none are = record {
       placed = are.placed;
       early = λ j h. early_next p 0 (placed_at edges j) (are.early j h);
@@ -76,10 +76,10 @@ module _ (tris : List Tri) (reached : List Reached) where
       next = λ side h. absurd (omega arith);
     }
 
-    module _ (side : ℕ) (are : AreEdges tris reached p side edges) where
+    module _ (side : ℕ) (are : AreBoundaryEdges tris reached p side edges) where
       -- a side that another triangle has too is no edge
       pub edges_same : ¬ IsSideOfOne tris (side_begin (tri_at tris (tri_there reached p)) side) (side_end (tri_at tris (tri_there reached p)) side)
-          (tri_there reached p) → AreEdges tris reached p (side + 1) edges
+          (tri_there reached p) → AreBoundaryEdges tris reached p (side + 1) edges
       edges_same not_one = record {
         placed = are.placed;
         early = λ j h. early_side p side (placed_at edges j) (are.early j h);
@@ -144,7 +144,7 @@ module _ (tris : List Tri) (reached : List Reached) where
                   begins_differ corners tris fits k (different.in_list p below) other.1 side other.2 number (sym other.3 ∙ same)
             ]
 
-        pub edges_more : AreEdges tris reached p (side + 1) more
+        pub edges_more : AreBoundaryEdges tris reached p (side + 1) more
         edges_more = record {
           placed = each_more (IsPlaced tris reached) are.placed (record { below = below; end = _; alone = one });
           early = each_more (IsEarly tris reached p (side + 1)) (λ j h. early_side p side (placed_at edges j) (are.early j h))
@@ -195,7 +195,7 @@ differ a b is_not same = grind (arith, nat_tests)
 not_one : (a b : ℕ) → ¬ (a ≡ b) → nat_eq a b ≡ false
 not_one a b other = grind (arith, nat_tests)
 
-module _ (tris : List Tri) (reached : List Reached) (edges sorted : List Placed) (are : AreEdges tris reached (length reached) 0 edges)
+module _ (tris : List Tri) (reached : List Reached) (edges sorted : List Placed) (are : AreBoundaryEdges tris reached (length reached) 0 edges)
     (moved : IsPermutation edges sorted) (up : IsSorted placed_cmp sorted) where
   -- none is there twice, in the one order
   all_apart : IsDistinct is_one edges

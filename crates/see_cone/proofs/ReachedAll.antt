@@ -16,8 +16,8 @@ use Rattle.tri_mesh.proofs.Neighbours.{has_side_numbered}
 use Rattle.see_cone.proofs.ReachedMore.{home_below}
 use Rattle.see_cone.proofs.SidesBeyond.{beyond_touch}
 use Rattle.see_cone.proofs.WaysHome.{forth}
-use Rattle.see_cone.specs.Reached.{AreAllReached, IsBeyond, IsReached, cone_there, tri_there}
-use Rattle.see_cone.specs.Told.{IsTold}
+use Rattle.see_cone.specs.Reached.{AreAllReached, IsAcrossSide, IsTriReached, cone_there, tri_there}
+use Rattle.see_cone.specs.Told.{IsConeTold}
 use Rattle.see_cone.specs.declared.reached.Reached.{Reached}
 
 -- there is a cone or not
@@ -35,11 +35,11 @@ module _ (corners : List Point) (tris : List Tri) (fits : Fits corners tris) (q 
 
   -- a triangle was reached, or of it nothing is seen
   abbrev pub IsReachedOrUnseen : ℕ → Type 0
-  IsReachedOrUnseen k = IsReached reached k ⊎ IsConeOf corners tris q k None
+  IsReachedOrUnseen k = IsTriReached reached k ⊎ IsConeOf corners tris q k None
 
   -- it is so beyond a triangle of which nothing is seen,
   unseen_beyond : (k l : ℕ) (rest : List ℕ) → k < length tris → l < length tris → IsPath (IsPlace tris) (Touch tris) l (k ∷ rest) home
-      → (side : ℕ) → side < 3 → IsBeyond tris k side l → IsConeOf corners tris q k None → IsConeOf corners tris q l None
+      → (side : ℕ) → side < 3 → IsAcrossSide tris k side l → IsConeOf corners tris q k None → IsConeOf corners tris q l None
   unseen_beyond k l rest k_below l_below path side number beyond none =
       let t = tri_at tris k in
       let way = forth tris fits.tree home at_home k l rest k_below l_below path in
@@ -48,14 +48,14 @@ module _ (corners : List Point) (tris : List Tri) (fits : Fits corners tris) (q 
 
   -- and beyond one that was reached,
   beyond_reached : (k l : ℕ) (rest : List ℕ) → k < length tris → l < length tris → IsPath (IsPlace tris) (Touch tris) l (k ∷ rest) home
-      → (side : ℕ) → side < 3 → IsBeyond tris k side l → IsReached reached k → IsReachedOrUnseen l
+      → (side : ℕ) → side < 3 → IsAcrossSide tris k side l → IsTriReached reached k → IsReachedOrUnseen l
   beyond_reached k l rest k_below l_below path side number beyond (p, below, is) = elim (none_or_not (cone_there reached p)) [
     | inl none ↦
         let cone : IsConeOf corners tris q (tri_there reached p) None =
         subst (IsConeOf corners tris q (tri_there reached p)) none (all.are.at_places p below).cone in
         inr (unseen_beyond k l rest k_below l_below path side number beyond (subst (λ m. IsConeOf corners tris q m None) is cone))
     | inr some ↦
-        inl (all.done p below below some side number l (subst (λ m. IsBeyond tris m side l) (sym is) beyond))
+        inl (all.done p below below some side number l (subst (λ m. IsAcrossSide tris m side l) (sym is) beyond))
   ]
 
   -- so along each path to the home
@@ -78,7 +78,7 @@ module _ (corners : List Point) (tris : List Tri) (fits : Fits corners tris) (q 
   -- ---- the edges
 
   -- the cone of a triangle tells what q sees of its edges
-  pub edge_told : (i j k : ℕ) (cone : Option Cone) → IsSideOfOne tris i j k → IsConeOf corners tris q k cone → IsTold corners q i cone
+  pub edge_told : (i j k : ℕ) (cone : Option Cone) → IsSideOfOne tris i j k → IsConeOf corners tris q k cone → IsConeTold corners q i cone
   edge_told i j k cone one is =
       let walk = fits.tree home k at_home one.in_list in
       let end : j ≡ (i + 1) % length corners = (edge_of_one corners tris fits i j k one).1 in

@@ -17,21 +17,21 @@ use Rattle.tri_mesh.proofs.Neighbours.{has_side_numbered}
 use Rattle.tri_mesh.proofs.Numbers.{few_numbers}
 use Rattle.see_cone.proofs.SidesBeyond.{differs_beyond, not_beyond_two, one_beyond, touch_beyond}
 use Rattle.see_cone.proofs.WaysHome.{forth_of, home_from, one_from, reached_beside}
-use Rattle.see_cone.specs.Reached.{AreDone, AreNewBeyond, AreReached, IsBeyond, IsBeyondFirst, IsGrown, IsReached, IsReachedAt, IsReachedFrom}
-use Rattle.see_cone.specs.Reached.{IsSideDone, cone_there, reached_at, tri_there}
+use Rattle.see_cone.specs.Reached.{AreDone, AreNewBeyond, AreReached, IsAcrossSide, IsBeyondFirst, IsReachGrown, IsTriReached, IsReachedAt, IsNextHomeward}
+use Rattle.see_cone.specs.Reached.{IsSideReached, cone_there, reached_at, tri_there}
 use Rattle.see_cone.specs.declared.reached.Reached.{Reached}
 
 -- what was reached stays so
-pub stays_reached : (a b : List Reached) (New : ℕ → Type 0) → IsGrown a b New → (k : ℕ) → IsReached a k → IsReached b k
+pub stays_reached : (a b : List Reached) (New : ℕ → Type 0) → IsReachGrown a b New → (k : ℕ) → IsTriReached a k → IsTriReached b k
 stays_reached a b New grown k is = (is.0, omega (arith, grown.longer, is.1), ap (λ (o : Reached). o.tri) (grown.kept is.0 is.1) ∙ is.2)
 
 -- nothing more
-pub grown_none : (a : List Reached) (New : ℕ → Type 0) → IsGrown a a New
+pub grown_none : (a : List Reached) (New : ℕ → Type 0) → IsReachGrown a a New
 grown_none a New = record { longer = omega arith; kept = λ p h. refl; added = λ l is. inl is }
 
 -- beyond one more side
-pub grown_beyond : (tris : List Tri) (k sides : ℕ) (a b c : List Reached) → IsGrown a b (IsBeyondFirst tris k sides)
-    → IsGrown b c (IsBeyond tris k sides) → IsGrown a c (IsBeyondFirst tris k (sides + 1))
+pub grown_beyond : (tris : List Tri) (k sides : ℕ) (a b c : List Reached) → IsReachGrown a b (IsBeyondFirst tris k sides)
+    → IsReachGrown b c (IsAcrossSide tris k sides) → IsReachGrown a c (IsBeyondFirst tris k (sides + 1))
 grown_beyond tris k sides a b c first second = record {
   longer = omega (arith, first.longer, second.longer);
   kept = λ p h. second.kept p (omega (arith, first.longer)) ∙ first.kept p h;
@@ -101,7 +101,7 @@ module _ (corners : List Point) (tris : List Tri) (fits : Fits corners tris) (q 
         omega arith
 
     -- the triangle from which one was reached was reached
-    pub from_reached : (p : ℕ) → p < length reached → IsReached reached (reached_at reached p).from
+    pub from_reached : (p : ℕ) → p < length reached → IsTriReached reached (reached_at reached p).from
     from_reached p below = elim (cases_eq p 0) [
       | inl first ↦
           let at = are.at_places 0 are.some in
@@ -111,7 +111,7 @@ module _ (corners : List Point) (tris : List Tri) (fits : Fits corners tris) (q 
       | inr other ↦ let m = (are.at_places p below).from_place (omega arith) in (m.0, m.2, m.3)
     ]
 
-    module _ (p : ℕ) (below : p < length reached) (side : ℕ) (number : side < 3) (l : ℕ) (beyond : IsBeyond tris (tri_there reached p) side l) where
+    module _ (p : ℕ) (below : p < length reached) (side : ℕ) (number : side < 3) (l : ℕ) (beyond : IsAcrossSide tris (tri_there reached p) side l) where
       abbrev k : ℕ
       k = tri_there reached p
 
@@ -122,13 +122,13 @@ module _ (corners : List Point) (tris : List Tri) (fits : Fits corners tris) (q 
       differs = differs_beyond corners tris fits k k_below side l number beyond
 
       -- a triangle beyond a side, other than that from which this one was reached, is reached from it,
-      pub from_beyond : ¬ (l ≡ (reached_at reached p).from) → IsReachedFrom tris home k l
+      pub from_beyond : ¬ (l ≡ (reached_at reached p).from) → IsNextHomeward tris home k l
       from_beyond other =
           reached_beside tris fits.tree home home_below k (reached_at reached p).from l k_below beyond.in_list (are.at_places p below).from
           (touch_beyond tris k side l number beyond) differs other
 
       -- has its cone,
-      pub cone_over : IsReachedFrom tris home k l → (sight : Option Cone) → IsConeOf corners tris q k sight
+      pub cone_over : IsNextHomeward tris home k l → (sight : Option Cone) → IsConeOf corners tris q k sight
           → IsConeOf corners tris q l (narrowed q sight (vertex corners (side_end (tri_at tris k) side)) (vertex corners (side_begin (tri_at tris k) side)))
       cone_over from sight cone =
           let t = tri_at tris k in
@@ -137,27 +137,27 @@ module _ (corners : List Point) (tris : List Tri) (fits : Fits corners tris) (q 
           l way.far (has_side_numbered t side number) beyond.has
 
       -- and was not reached before, where all were from earlier places
-      pub not_reached : bound ≤ p → ¬ (l ≡ (reached_at reached p).from) → ¬ IsReached reached l
+      pub not_reached : bound ≤ p → ¬ (l ≡ (reached_at reached p).from) → ¬ IsTriReached reached l
       not_reached early other (j, j_below, is) =
           let from = from_beyond other in
           elim (cases_eq j 0) [
             | inl first ↦
                 let e : home ≡ l = rw first at is in
                 let same : k ≡ home = one_from tris fits.tree home home_below home k home home_below
-                (subst (IsReachedFrom tris home k) (sym e) from) (home_from tris fits.tree home home_below) in
+                (subst (IsNextHomeward tris home k) (sym e) from) (home_from tris fits.tree home home_below) in
                 differs (sym e ∙ sym same)
             | inr later ↦
                 let at = are.at_places j j_below in
                 let m = at.from_place (omega arith) in
                 let same : k ≡ (reached_at reached j).from = one_from tris fits.tree home home_below l k (reached_at reached j).from beyond.in_list
-                from (subst (IsReachedFrom tris home (reached_at reached j).from) is at.from) in
+                from (subst (IsNextHomeward tris home (reached_at reached j).from) is at.from) in
                 let one : m.0 ≡ p = are.once m.0 p m.2 below (m.3 ∙ sym same) in
                 omega (arith, m.1)
           ]
 
     -- ---- one more
 
-    module _ (o : Reached) (in_list : o.tri < length tris) (new : ¬ IsReached reached o.tri) (from : IsReachedFrom tris home o.from o.tri)
+    module _ (o : Reached) (in_list : o.tri < length tris) (new : ¬ IsTriReached reached o.tri) (from : IsNextHomeward tris home o.from o.tri)
         (m : ℕ) (m_early : m < bound) (m_below : m < length reached) (m_is : tri_there reached m ≡ o.from)
         (cone : IsConeOf corners tris q o.tri o.cone) where
       abbrev pub more : List Reached
@@ -177,13 +177,13 @@ module _ (corners : List Point) (tris : List Tri) (fits : Fits corners tris) (q 
       tri_earlier p h = ap (λ (x : Reached). x.tri) (at_earlier p h)
 
       -- a place by what is there
-      place_by : (p : ℕ) (x : Reached) → reached_at more p ≡ x → x.tri < length tris → IsReachedFrom tris home x.from x.tri
+      place_by : (p : ℕ) (x : Reached) → reached_at more p ≡ x → x.tri < length tris → IsNextHomeward tris home x.from x.tri
           → (0 < p → (n : ℕ) × (n < bound) × (n < length reached) × (tri_there reached n ≡ x.from)) → IsConeOf corners tris q x.tri x.cone
           → IsReachedAt corners tris q more bound p
       place_by p x is x_below x_from x_place x_cone = record {
         in_list = subst (λ (y : Reached). y.tri < length tris) (sym is) x_below;
-        from = subst (λ (y : Reached). IsReachedFrom tris (tri_there more 0) y.from y.tri) (sym is)
-            (subst (λ h. IsReachedFrom tris h x.from x.tri) (sym (tri_earlier 0 are.some)) x_from);
+        from = subst (λ (y : Reached). IsNextHomeward tris (tri_there more 0) y.from y.tri) (sym is)
+            (subst (λ h. IsNextHomeward tris h x.from x.tri) (sym (tri_earlier 0 are.some)) x_from);
         from_place = λ some.
             let n = x_place some in
             (n.0, n.1, omega (arith, length_more, n.2), tri_earlier n.0 n.2 ∙ n.3 ∙ ap (λ (y : Reached). y.from) (sym is));
@@ -228,10 +228,10 @@ module _ (corners : List Point) (tris : List Tri) (fits : Fits corners tris) (q 
         once = once_more;
       }
 
-      pub is_more : IsReached more o.tri
+      pub is_more : IsTriReached more o.tri
       is_more = (length reached, omega (arith, length_more), ap (λ (x : Reached). x.tri) (at_last (length reached) refl))
 
-      pub grown_more : (New : ℕ → Type 0) → New o.tri → IsGrown reached more New
+      pub grown_more : (New : ℕ → Type 0) → New o.tri → IsReachGrown reached more New
       grown_more New is_new = record {
         longer = omega (arith, length_more);
         kept = at_earlier;
@@ -256,26 +256,26 @@ module _ (corners : List Point) (tris : List Tri) (fits : Fits corners tris) (q 
     at_below = (are.at_places p below).in_list
 
     -- beyond a side of one triangle there is none
-    pub none_done : IsSideOfOne tris (side_begin (tri_at tris at) side) (side_end (tri_at tris at) side) at → IsSideDone tris reached at side
+    pub none_done : IsSideOfOne tris (side_begin (tri_at tris at) side) (side_end (tri_at tris at) side) at → IsSideReached tris reached at side
     none_done one l beyond =
         absurd (differs_beyond corners tris fits at at_below side l number beyond (one.only l beyond.in_list (inr beyond.has)))
 
-    module _ (l : ℕ) (beyond : IsBeyond tris at side l) where
+    module _ (l : ℕ) (beyond : IsAcrossSide tris at side l) where
       -- a side is done where the triangle beyond it was reached
-      pub reached_done : (after : List Reached) → IsReached after l → IsSideDone tris after at side
-      reached_done after is m over = subst (IsReached after) (one_beyond corners tris fits at at_below side l m beyond over) is
+      pub reached_done : (after : List Reached) → IsTriReached after l → IsSideReached tris after at side
+      reached_done after is m over = subst (IsTriReached after) (one_beyond corners tris fits at at_below side l m beyond over) is
 
       -- as that from which this one was reached was
-      pub back_done : l ≡ (reached_at reached p).from → IsSideDone tris reached at side
-      back_done same = reached_done reached (subst (IsReached reached) (sym same) (from_reached reached bound are p below))
+      pub back_done : l ≡ (reached_at reached p).from → IsSideReached tris reached at side
+      back_done same = reached_done reached (subst (IsTriReached reached) (sym same) (from_reached reached bound are p below))
 
       -- another one is reached now
-      module _ (other : ¬ (l ≡ (reached_at reached p).from)) (new : ¬ IsReached reached l) (cone : Option Cone)
+      module _ (other : ¬ (l ≡ (reached_at reached p).from)) (new : ¬ IsTriReached reached l) (cone : Option Cone)
           (is : cone ≡ narrowed q (cone_there reached p) (vertex corners (side_end (tri_at tris at) side)) (vertex corners (side_begin (tri_at tris at) side))) where
         abbrev pub over : Reached
         over = record { tri = l; from = at; cone = cone }
 
-        from : IsReachedFrom tris (tri_there reached 0) at l
+        from : IsNextHomeward tris (tri_there reached 0) at l
         from = from_beyond reached bound are p below side number l beyond other
 
         seen : IsConeOf corners tris q l cone
@@ -285,20 +285,20 @@ module _ (corners : List Point) (tris : List Tri) (fits : Fits corners tris) (q 
         pub over_reached : AreReached corners tris q (reached ++ over ∷ []) bound
         over_reached = reached_more reached bound are over beyond.in_list new from p p_early below refl seen
 
-        pub over_grown : IsGrown reached (reached ++ over ∷ []) (IsBeyond tris at side)
-        over_grown = grown_more reached bound are over beyond.in_list new from p p_early below refl seen (IsBeyond tris at side) beyond
+        pub over_grown : IsReachGrown reached (reached ++ over ∷ []) (IsAcrossSide tris at side)
+        over_grown = grown_more reached bound are over beyond.in_list new from p p_early below refl seen (IsAcrossSide tris at side) beyond
 
-        pub over_done : IsSideDone tris (reached ++ over ∷ []) at side
+        pub over_done : IsSideReached tris (reached ++ over ∷ []) at side
         over_done =
             reached_done (reached ++ over ∷ []) (is_more reached bound are over beyond.in_list new from p p_early below refl seen)
 
   -- what is beyond the next side is new still
   pub new_beyond : (a b : List Reached) (p side : ℕ) → p < length a → side < 3 → AreReached corners tris q a p
-      → IsGrown a b (IsBeyondFirst tris (tri_there a p) side) → AreNewBeyond tris b p side
+      → IsReachGrown a b (IsBeyondFirst tris (tri_there a p) side) → AreNewBeyond tris b p side
   new_beyond a b p side below number are grown l beyond other is =
       let same = grown.kept p below in
       let k = tri_there a p in
-      let here : IsBeyond tris k side l = subst (λ (x : Reached). IsBeyond tris x.tri side l) same beyond in
+      let here : IsAcrossSide tris k side l = subst (λ (x : Reached). IsAcrossSide tris x.tri side l) same beyond in
       let not_from : ¬ (l ≡ (reached_at a p).from) = subst (λ (x : Reached). ¬ (l ≡ x.from)) same other in
       elim (grown.added l is) [
         | inl old ↦ not_reached a p are p below side number l here (omega arith) not_from old
@@ -306,26 +306,26 @@ module _ (corners : List Point) (tris : List Tri) (fits : Fits corners tris) (q 
       ]
 
 -- where all sides of the triangle at one more place are done
-pub done_more : (tris : List Tri) (a b : List Reached) (New : ℕ → Type 0) (n : ℕ) → n < length a → IsGrown a b New → AreDone tris a n
-    → (¬ (cone_there a n ≡ None) → (side : ℕ) → side < 3 → IsSideDone tris b (tri_there a n) side) → AreDone tris b (n + 1)
+pub done_more : (tris : List Tri) (a b : List Reached) (New : ℕ → Type 0) (n : ℕ) → n < length a → IsReachGrown a b New → AreDone tris a n
+    → (¬ (cone_there a n ≡ None) → (side : ℕ) → side < 3 → IsSideReached tris b (tri_there a n) side) → AreDone tris b (n + 1)
 done_more tris a b New n below grown done here p early p_below cone side number = elim (cases_eq p n) [
   | inl last ↦
       let same : reached_at b p ≡ reached_at a n = subst (λ m. reached_at b m ≡ reached_at a n) (sym last) (grown.kept n below) in
-      subst (λ (x : Reached). IsSideDone tris b x.tri side) (sym same)
+      subst (λ (x : Reached). IsSideReached tris b x.tri side) (sym same)
       (here (subst (λ (x : Reached). ¬ (x.cone ≡ None)) same cone) side number)
   | inr other ↦
       let in_a : p < length a = omega arith in
       let same = grown.kept p in_a in
-      subst (λ (x : Reached). IsSideDone tris b x.tri side) (sym same)
+      subst (λ (x : Reached). IsSideReached tris b x.tri side) (sym same)
       (λ l beyond. stays_reached a b New grown l
       (done p (omega arith) in_a (subst (λ (x : Reached). ¬ (x.cone ≡ None)) same cone) side number l beyond))
 ]
 
 -- the first sides of a triangle are done, and one more
-pub sides_done : (tris : List Tri) (k side : ℕ) (a b : List Reached) (New : ℕ → Type 0) → IsGrown a b New
-    → ((t : ℕ) → t < side → IsSideDone tris a k t) → IsSideDone tris b k side → (t : ℕ) → t < side + 1 → IsSideDone tris b k t
+pub sides_done : (tris : List Tri) (k side : ℕ) (a b : List Reached) (New : ℕ → Type 0) → IsReachGrown a b New
+    → ((t : ℕ) → t < side → IsSideReached tris a k t) → IsSideReached tris b k side → (t : ℕ) → t < side + 1 → IsSideReached tris b k t
 sides_done tris k side a b New grown before here t h = elim (cases_eq t side) [
-  | inl last ↦ subst (IsSideDone tris b k) (sym last) here
+  | inl last ↦ subst (IsSideReached tris b k) (sym last) here
   | inr other ↦ λ l beyond. stays_reached a b New grown l (before t (omega arith) l beyond)
 ]
 

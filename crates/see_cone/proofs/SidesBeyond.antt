@@ -11,7 +11,7 @@ use Rattle.meshes.specs.Mesh.{side_begin, side_end}
 use Rattle.meshes.specs.Side.{HasSide, tri_at}
 use Rattle.meshes.specs.declared.tri.Tri.{Tri}
 use Rattle.tri_mesh.proofs.Neighbours.{has_side_numbered}
-use Rattle.see_cone.specs.Reached.{IsBeyond}
+use Rattle.see_cone.specs.Reached.{IsAcrossSide}
 
 -- a side has a number
 pub numbered_side : (t : Tri) (i j : ℕ) → HasSide t i j → (side : ℕ) × (side < 3) × (side_begin t side ≡ i) × (side_end t side ≡ j)
@@ -47,7 +47,7 @@ not_one_begin t ab bc ca (suc first) (suc zero) h n = absurd (omega arith)
 not_one_begin t ab bc ca (suc (suc first)) (suc (suc zero)) h n = absurd (omega arith)
 not_one_begin t ab bc ca first (suc (suc (suc second))) h n = absurd (omega arith)
 
-module _ (tris : List Tri) (k side l : ℕ) (number : side < 3) (beyond : IsBeyond tris k side l) where
+module _ (tris : List Tri) (k side l : ℕ) (number : side < 3) (beyond : IsAcrossSide tris k side l) where
   -- a triangle beyond a side shares it
   pub touch_beyond : Touch tris k l
   touch_beyond = record {
@@ -59,20 +59,20 @@ module _ (tris : List Tri) (k side l : ℕ) (number : side < 3) (beyond : IsBeyo
 
 module _ (corners : List Point) (tris : List Tri) (fits : Fits corners tris) (k : ℕ) (k_below : k < length tris) where
   -- it is another triangle,
-  pub differs_beyond : (side l : ℕ) → side < 3 → IsBeyond tris k side l → ¬ (l ≡ k)
+  pub differs_beyond : (side l : ℕ) → side < 3 → IsAcrossSide tris k side l → ¬ (l ≡ k)
   differs_beyond side l number beyond same =
       let t = tri_at tris k in
       (fitting_sides corners tris fits).one_way (side_begin t side) (side_end t side) k k_below (has_side_numbered t side number)
       (subst (λ m. HasSide (tri_at tris m) (side_end t side) (side_begin t side)) same beyond.has)
 
   -- and there is one at most
-  pub one_beyond : (side l m : ℕ) → IsBeyond tris k side l → IsBeyond tris k side m → l ≡ m
+  pub one_beyond : (side l m : ℕ) → IsAcrossSide tris k side l → IsAcrossSide tris k side m → l ≡ m
   one_beyond side l m a b =
       let t = tri_at tris k in
       (fitting_sides corners tris fits).once (side_end t side) (side_begin t side) l m a.in_list b.in_list a.has b.has
 
   -- none is beyond two sides,
-  pub not_beyond_two : (first second l : ℕ) → first < second → second < 3 → IsBeyond tris k first l → IsBeyond tris k second l → ⊥
+  pub not_beyond_two : (first second l : ℕ) → first < second → second < 3 → IsAcrossSide tris k first l → IsAcrossSide tris k second l → ⊥
   not_beyond_two first second l less number a b =
       not_both corners (tri_at tris k) (tri_at tris l) (fits.triangles k k_below).counterclockwise (fits.triangles l a.in_list).counterclockwise
       first second less number a.has b.has
@@ -84,7 +84,7 @@ module _ (corners : List Point) (tris : List Tri) (fits : Fits corners tris) (k 
       not_one_begin (tri_at tris k) differ.0 differ.1 differ.2 first second less number
 
   -- a triangle that shares a side is beyond one
-  pub beyond_touch : (l : ℕ) → l < length tris → Touch tris k l → ¬ (l ≡ k) → (side : ℕ) × (side < 3) × IsBeyond tris k side l
+  pub beyond_touch : (l : ℕ) → l < length tris → Touch tris k l → ¬ (l ≡ k) → (side : ℕ) × (side < 3) × IsAcrossSide tris k side l
   beyond_touch l l_below touch differs = elim touch.of_second [
     | inl along ↦ absurd (differs ((fitting_sides corners tris fits).once touch.i touch.j l k l_below k_below along touch.of_first))
     | inr back ↦

@@ -7,7 +7,7 @@ use Rattle.meshes.proofs.Walks.{IsNew, IsPath, IsPlace, Touch, between_of_path, 
 use Rattle.meshes.specs.Side.{IsTree, IsWalkBetween, tri_at}
 use Rattle.meshes.specs.declared.tri.Tri.{Tri}
 use Rattle.dual_tree.proofs.Ways.{AreApart, walk_over}
-use Rattle.see_cone.specs.Reached.{IsReachedFrom, first_or}
+use Rattle.see_cone.specs.Reached.{IsNextHomeward, first_or}
 
 -- no number is in a list and in none
 apart_none : (xs : List ℕ) → AreApart xs []
@@ -42,32 +42,32 @@ module _ (tris : List Tri) where
         let one = tree_of_walks tris tree k home below home_below in one.only xs p ∙ sym (one.only ys r)
 
     -- so it goes first to one triangle
-    pub one_from : (k from other : ℕ) → k < length tris → IsReachedFrom tris home from k → IsReachedFrom tris home other k → from ≡ other
+    pub one_from : (k from other : ℕ) → k < length tris → IsNextHomeward tris home from k → IsNextHomeward tris home other k → from ≡ other
     one_from k from other below a b =
         let same = one_path k below a.rest b.rest (path_home k a.rest a.walk) (path_home k b.rest b.walk) in
         sym a.first ∙ ap (first_or k) same ∙ b.first
 
     -- from the home it goes nowhere
-    pub home_from : IsReachedFrom tris home home home
+    pub home_from : IsNextHomeward tris home home home
     home_from = record { rest = []; walk = between_of_path tris home [] home home_below refl; first = refl }
 
     -- a triangle beside another one, and not the next from there, is reached from it
-    pub reached_beside : (k from l : ℕ) → k < length tris → l < length tris → IsReachedFrom tris home from k → Touch tris k l → ¬ (l ≡ k)
-        → ¬ (l ≡ from) → IsReachedFrom tris home k l
+    pub reached_beside : (k from l : ℕ) → k < length tris → l < length tris → IsNextHomeward tris home from k → Touch tris k l → ¬ (l ≡ k)
+        → ¬ (l ≡ from) → IsNextHomeward tris home k l
     reached_beside k from l k_below l_below a touch differs other =
         by_rest a.rest (path_home k a.rest a.walk) a.first
       where
         touch_back : Touch tris l k
         touch_back = share_back (tri_at tris k) (tri_at tris l) touch
 
-        over : (rest : List ℕ) → IsTriPath k rest home → IsNew l (k ∷ rest) → IsReachedFrom tris home k l
+        over : (rest : List ℕ) → IsTriPath k rest home → IsNew l (k ∷ rest) → IsNextHomeward tris home k l
         over rest p new = record {
           rest = k ∷ rest;
           walk = between_of_path tris l (k ∷ rest) home l_below (k_below, touch_back, new, p);
           first = refl;
         }
 
-        by_rest : (rest : List ℕ) → IsTriPath k rest home → first_or k rest ≡ from → IsReachedFrom tris home k l
+        by_rest : (rest : List ℕ) → IsTriPath k rest home → first_or k rest ≡ from → IsNextHomeward tris home k l
         by_rest [] p first = over [] p (differs, tt)
         by_rest (x ∷ xs) p first = elim (new_or_from l x xs home p.3 k p.2) [
           | inl new ↦ over (x ∷ xs) p (differs, new)
@@ -90,7 +90,7 @@ module _ (tris : List Tri) where
           (walk_over tris tree home l home_below l_below (k ∷ rest) l [] l_below p refl (apart_none (k ∷ rest)));
     }
 
-    pub forth_of : (k l : ℕ) → k < length tris → l < length tris → ¬ (l ≡ k) → IsReachedFrom tris home k l → IsForth k l
+    pub forth_of : (k l : ℕ) → k < length tris → l < length tris → ¬ (l ≡ k) → IsNextHomeward tris home k l → IsForth k l
     forth_of k l k_below l_below differs from = by_rest from.rest (path_home l from.rest from.walk) from.first
       where
         by_rest : (rest : List ℕ) → IsTriPath l rest home → first_or l rest ≡ k → IsForth k l

@@ -24,8 +24,8 @@ abbrev pub cone_there : List Reached → ℕ → Option Cone
 cone_there reached p = (reached_at reached p).cone
 
 -- triangle k was reached
-abbrev pub IsReached : List Reached → ℕ → Type 0
-IsReached reached k = (p : ℕ) × (p < length reached) × (tri_there reached p ≡ k)
+abbrev pub IsTriReached : List Reached → ℕ → Type 0
+IsTriReached reached k = (p : ℕ) × (p < length reached) × (tri_there reached p ≡ k)
 
 -- the first of some numbers, or k where there is none
 abbrev pub first_or : ℕ → List ℕ → ℕ
@@ -33,20 +33,20 @@ first_or k [] = k
 first_or k (x ∷ xs) = x
 
 -- the walk from triangle k to the home goes first to triangle `from`; that from the home goes nowhere
-pub record IsReachedFrom (tris : List Tri) (home from k : ℕ) : Type 0 where
+pub record IsNextHomeward (tris : List Tri) (home from k : ℕ) : Type 0 where
   pub rest : List ℕ
   pub walk : IsWalkBetween tris k home (k ∷ rest)
   pub first : first_or k rest ≡ from
 
 -- triangle l is beyond a side of triangle k
-pub record IsBeyond (tris : List Tri) (k side l : ℕ) : Type 0 where
+pub record IsAcrossSide (tris : List Tri) (k side l : ℕ) : Type 0 where
   pub in_list : l < length tris
   pub has : HasSide (tri_at tris l) (side_end (tri_at tris k) side) (side_begin (tri_at tris k) side)
 
 -- what is at a place: a triangle that was reached from one at a place below a bound, and its cone
 pub record IsReachedAt (corners : List Point) (tris : List Tri) (q : Point) (reached : List Reached) (bound p : ℕ) : Type 0 where
   pub in_list : tri_there reached p < length tris
-  pub from : IsReachedFrom tris (tri_there reached 0) (reached_at reached p).from (tri_there reached p)
+  pub from : IsNextHomeward tris (tri_there reached 0) (reached_at reached p).from (tri_there reached p)
   pub from_place : 0 < p → (m : ℕ) × (m < bound) × (m < length reached) × (tri_there reached m ≡ (reached_at reached p).from)
   pub cone : IsConeOf corners tris q (tri_there reached p) (cone_there reached p)
 
@@ -58,14 +58,14 @@ pub record AreReached (corners : List Point) (tris : List Tri) (q : Point) (reac
   pub once : (p r : ℕ) → p < length reached → r < length reached → tri_there reached p ≡ tri_there reached r → p ≡ r
 
 -- the triangles beyond a side of that at a place were reached
-abbrev pub IsSideDone : List Tri → List Reached → ℕ → ℕ → Type 0
-IsSideDone tris reached k side = (l : ℕ) → IsBeyond tris k side l → IsReached reached l
+abbrev pub IsSideReached : List Tri → List Reached → ℕ → ℕ → Type 0
+IsSideReached tris reached k side = (l : ℕ) → IsAcrossSide tris k side l → IsTriReached reached l
 
 -- at the first places, where there is a cone, all sides are done
 abbrev pub AreDone : List Tri → List Reached → ℕ → Type 0
 AreDone tris reached bound =
     (p : ℕ) → p < bound → p < length reached → ¬ (cone_there reached p ≡ None) → (side : ℕ) → side < 3
-    → IsSideDone tris reached (tri_there reached p) side
+    → IsSideReached tris reached (tri_there reached p) side
 
 -- and at all
 pub record AreAllReached (corners : List Point) (tris : List Tri) (q : Point) (reached : List Reached) : Type 0 where
@@ -75,17 +75,17 @@ pub record AreAllReached (corners : List Point) (tris : List Tri) (q : Point) (r
 -- what is beyond a side of the triangle at a place, other than that from which this one was reached, was not yet
 abbrev pub AreNewBeyond : List Tri → List Reached → ℕ → ℕ → Type 0
 AreNewBeyond tris reached p side =
-    (l : ℕ) → IsBeyond tris (tri_there reached p) side l → ¬ (l ≡ (reached_at reached p).from) → ¬ IsReached reached l
+    (l : ℕ) → IsAcrossSide tris (tri_there reached p) side l → ¬ (l ≡ (reached_at reached p).from) → ¬ IsTriReached reached l
 
 -- more were reached, and what is new is one of these
-pub record IsGrown (before after : List Reached) (New : ℕ → Type 0) : Type 0 where
+pub record IsReachGrown (before after : List Reached) (New : ℕ → Type 0) : Type 0 where
   pub longer : length before ≤ length after
   pub kept : (p : ℕ) → p < length before → reached_at after p ≡ reached_at before p
-  pub added : (l : ℕ) → IsReached after l → IsReached before l ⊎ New l
+  pub added : (l : ℕ) → IsTriReached after l → IsTriReached before l ⊎ New l
 
 -- a triangle beyond one of the first sides of triangle k
 abbrev pub IsBeyondFirst : List Tri → ℕ → ℕ → ℕ → Type 0
-IsBeyondFirst tris k sides l = (side : ℕ) × (side < sides) × IsBeyond tris k side l
+IsBeyondFirst tris k sides l = (side : ℕ) × (side < sides) × IsAcrossSide tris k side l
 
 -- ---- the edges of the ring
 
@@ -118,7 +118,7 @@ IsEarly tris reached bound sides placed =
     ⊎ ((placed.place ≡ bound) × (side : ℕ) × (side < sides) × (placed.edge ≡ side_begin (tri_at tris (tri_there reached bound)) side))
 
 -- edges, none twice: all of the triangles at places below a bound that have a cone, and those of the first sides of the next one
-pub record AreEdges (tris : List Tri) (reached : List Reached) (bound sides : ℕ) (edges : List Placed) : Type 0 where
+pub record AreBoundaryEdges (tris : List Tri) (reached : List Reached) (bound sides : ℕ) (edges : List Placed) : Type 0 where
   pub placed : (j : ℕ) → j < length edges → IsPlaced tris reached (placed_at edges j)
   pub early : (j : ℕ) → j < length edges → IsEarly tris reached bound sides (placed_at edges j)
   pub once : (j l : ℕ) → j < l → l < length edges → ¬ ((placed_at edges j).edge ≡ (placed_at edges l).edge)
@@ -127,5 +127,5 @@ pub record AreEdges (tris : List Tri) (reached : List Reached) (bound sides : �
 
 -- in their order
 pub record AreSorted (tris : List Tri) (reached : List Reached) (edges : List Placed) : Type 0 where
-  pub are : AreEdges tris reached (length reached) 0 edges
+  pub are : AreBoundaryEdges tris reached (length reached) 0 edges
   pub rising : (j l : ℕ) → j < l → l < length edges → (placed_at edges j).edge < (placed_at edges l).edge

@@ -17,7 +17,7 @@ abbrev pub edge_cone : List Point → Point → ℕ → Option Cone → Option C
 edge_cone corners q i cone = narrowed q cone (end_of corners i) (vertex corners i)
 
 -- it tells what q sees of the edge: nothing, or the part between its ends
-pub record IsTold (corners : List Point) (q : Point) (i : ℕ) (cone : Option Cone) : Type 0 where
+pub record IsConeTold (corners : List Point) (q : Point) (i : ℕ) (cone : Option Cone) : Type 0 where
   pub unseen : edge_cone corners q i cone ≡ None → IsUnseen corners (whole q) i
   pub part : (c : Cone) → edge_cone corners q i cone ≡ Some c → (first last : Triple)
       → IsPartEnd q c.right (vertex corners i) (end_of corners i) (vertex corners i) first
@@ -32,7 +32,7 @@ edge_or n edges j = (slice_index_or edges j (record { edge = n; place = 0 })).ed
 pub record AreTold (corners : List Point) (q : Point) (reached : List Reached) (edges : List Placed) : Type 0 where
   pub in_ring : (j : ℕ) → j < length edges → (placed_at edges j).edge < length corners
   pub below : (j : ℕ) → j < length edges → (placed_at edges j).place < length reached
-  pub told : (j : ℕ) → j < length edges → IsTold corners q (placed_at edges j).edge (cone_there reached (placed_at edges j).place)
+  pub told : (j : ℕ) → j < length edges → IsConeTold corners q (placed_at edges j).edge (cone_there reached (placed_at edges j).place)
   pub rising : (j l : ℕ) → j < l → l < length edges → (placed_at edges j).edge < (placed_at edges l).edge
   pub others : (i : ℕ) → i < length corners → ((j : ℕ) → j < length edges → ¬ ((placed_at edges j).edge ≡ i)) → IsUnseen corners (whole q) i
 

@@ -1,6 +1,6 @@
 ghost use Rattle.std.specs.Prelude.{◌≡◌, ◌+◌, ◌<◌, IfOk, OnOk, length};
 ghost use Rattle.meshes.specs.Mesh.{IsMesh};
-ghost use Rattle.see_cone.specs.Reached.{AreDifferent, AreEdges, AreSorted};
+ghost use Rattle.see_cone.specs.Reached.{AreDifferent, AreBoundaryEdges, AreSorted};
 
 use crate::reached::{Reached, side_ends};
 use exact_plane::Memory;
@@ -42,8 +42,8 @@ fn push_edges(
     requires fits { IsMesh mesh.now }
     requires different { AreDifferent mesh.now reached.now }
     requires place { place < length reached.now }
-    requires before { AreEdges mesh.now reached.now place 0 edges.old.items }
-    ensures { OnOk result (AreEdges mesh.now reached.now (place + 1) 0 edges.new.items) }
+    requires before { AreBoundaryEdges mesh.now reached.now place 0 edges.old.items }
+    ensures { OnOk result (AreBoundaryEdges mesh.now reached.now (place + 1) 0 edges.new.items) }
 {
     if reached[place].cone.is_none() {
         return Ok(());
@@ -66,8 +66,8 @@ fn push_side(
     requires different { AreDifferent mesh.now reached.now }
     requires place { place < length reached.now }
     requires side { side < 3 }
-    requires before { AreEdges mesh.now reached.now place side edges.old.items }
-    ensures { OnOk result (AreEdges mesh.now reached.now place (side + 1) edges.new.items) }
+    requires before { AreBoundaryEdges mesh.now reached.now place side edges.old.items }
+    ensures { OnOk result (AreBoundaryEdges mesh.now reached.now place (side + 1) edges.new.items) }
 {
     let tri = reached[place].tri;
     if mesh.across(tri, side).is_none() {

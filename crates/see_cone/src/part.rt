@@ -1,7 +1,7 @@
 ghost use Rattle.std.specs.Prelude.{◌≡◌, ◌+◌, ◌%◌, ◌<◌, ◌≤◌, OnOk, length};
 ghost use Rattle.plane.specs.Point.{whole};
 ghost use Rattle.meshes.specs.Cone.{IsPartEnd};
-ghost use Rattle.see_cone.specs.Told.{AreFirstParts, IsTold};
+ghost use Rattle.see_cone.specs.Told.{AreFirstParts, IsConeTold};
 
 use crate::cone::{Cone, narrowed};
 use exact_plane::{Hom, Memory, Pt, Steps};
@@ -39,7 +39,7 @@ pub(crate) fn push_part<L: Ledger>(
     steps: &mut Steps<L>,
 ) -> Result<(), Memory>
     requires edge { i < length ring.now.corners }
-    requires told { IsTold ring.now.corners q.now i cone.now }
+    requires told { IsConeTold ring.now.corners q.now i cone.now }
     requires before { AreFirstParts ring.now.corners (whole q.now) i parts.old.items }
     ensures parts { OnOk result (AreFirstParts ring.now.corners (whole q.now) (i + 1) parts.new.items) }
     ensures steps { steps.new ≤ steps.old + 9 }

@@ -3,7 +3,7 @@ ghost use Rattle.plane.specs.Point.{whole};
 ghost use Rattle.meshes.specs.Fits.{Fits, IsInTri};
 ghost use Rattle.meshes.specs.Mesh.{side_begin, side_end};
 ghost use Rattle.meshes.specs.Side.{tri_at};
-ghost use Rattle.see_cone.specs.Reached.{AreAllReached, AreDone, AreNewBeyond, AreReached, IsBeyond, IsGrown, IsSideDone, tri_there};
+ghost use Rattle.see_cone.specs.Reached.{AreAllReached, AreDone, AreNewBeyond, AreReached, IsAcrossSide, IsReachGrown, IsSideReached, tri_there};
 
 use crate::cone::{Cone, narrowed};
 use exact_plane::{Memory, Pt, Steps};
@@ -100,9 +100,9 @@ fn reach_over<L: Ledger>(
     requires side { side < 3 }
     requires reached { AreReached ring.now.corners mesh.now q.now reached.old.items (place + 1) }
     requires new { AreNewBeyond mesh.now reached.old.items place side }
-    ensures grown { OnOk result (IsGrown reached.old.items reached.new.items (IsBeyond mesh.now (tri_there reached.old.items place) side)) }
+    ensures grown { OnOk result (IsReachGrown reached.old.items reached.new.items (IsAcrossSide mesh.now (tri_there reached.old.items place) side)) }
     ensures reached { OnOk result (AreReached ring.now.corners mesh.now q.now reached.new.items (place + 1)) }
-    ensures done { OnOk result (IsSideDone mesh.now reached.new.items (tri_there reached.old.items place) side) }
+    ensures done { OnOk result (IsSideReached mesh.now reached.new.items (tri_there reached.old.items place) side) }
     ensures each { OnOk result (steps.new + 5 * length reached.old.items ≤ steps.old + 5 * length reached.new.items) }
     ensures steps { steps.new ≤ steps.old + 5 }
 {

@@ -7,7 +7,7 @@ use Rattle.meshes.specs.Fits.{Fits, IsSideOfTwo}
 use Rattle.meshes.specs.Mesh.{side_begin, side_end}
 use Rattle.meshes.specs.Side.{HasSide, tri_at}
 use Rattle.meshes.specs.declared.tri.Tri.{Tri}
-use Rattle.shared_funnel.specs.Listed.{IsBeyond, IsFunnelAt, Listed}
+use Rattle.shared_funnel.specs.Listed.{IsTriangleBeyond, IsFunnelAt, Listed}
 use Rattle.shared_funnel.specs.Third.{IsThird, side_third}
 
 -- and that corner is the third
@@ -36,7 +36,7 @@ module _ (corners : List Point) (tris : List Tri) (fits : Fits corners tris) whe
       }
 
   -- so a triangle is beyond it, with its third corner,
-  pub beyond_of : (i j k l m : ℕ) → IsSideOfTwo tris i j k l → IsThird (tri_at tris k) i j m → IsBeyond tris k i j m
+  pub beyond_of : (i j k l m : ℕ) → IsSideOfTwo tris i j k l → IsThird (tri_at tris k) i j m → IsTriangleBeyond tris k i j m
   beyond_of i j k l m diagonal third = record { from = l; diagonal = diagonal; right = third.0; left = third.1 }
 
   -- and over another side of it the walk goes on to the right or to the left

@@ -8,7 +8,7 @@ use Rattle.meshes.specs.declared.tri.Tri.{Tri}
 use Rattle.tri_mesh.specs.Outward.{IsOutward, outward_at}
 use Rattle.tri_mesh.specs.declared.outward.Outward.{Outward}
 use Rattle.shared_funnel.proofs.Doors.{beyond_of, side_of_both, third_numbered}
-use Rattle.shared_funnel.specs.Listed.{IsBeyond}
+use Rattle.shared_funnel.specs.Listed.{IsTriangleBeyond}
 use Rattle.shared_funnel.specs.Entered.{IsFromStart, at_place, left_of, right_of, third_of, toward}
 use Rattle.tri_mesh.proofs.Neighbours.{has_side_numbered}
 
@@ -55,7 +55,7 @@ module _ (corners : List Point) (start : Point) (tris : List Tri) (order : List 
         (has_side_numbered (tri_at tris (at_place order p)) (outward_at order p).side joined.side)
 
     -- the triangle is beyond it,
-    pub beyond_at : IsBeyond tris (at_place order p) (left_of tris order p) (right_of tris order p) (third_of tris order p)
+    pub beyond_at : IsTriangleBeyond tris (at_place order p) (left_of tris order p) (right_of tris order p) (third_of tris order p)
     beyond_at =
         beyond_of corners tris from.fits (left_of tris order p) (right_of tris order p) (at_place order p) (at_place order (toward order p)) (third_of tris order p) shared_at
         (third_numbered (tri_at tris (at_place order p)) (outward_at order p).side (from.outward.joined p later below).side)

@@ -12,7 +12,7 @@ use Rattle.funnels.proofs.Chains.{start_at_left, start_at_right, start_between}
 use Rattle.funnels.specs.OpenFunnel.{IsOpenFunnel}
 use Rattle.shared_funnel.proofs.Lists.{more_numbers, one_number}
 use Rattle.shared_funnel.proofs.Numbers.{corner_point, source_point}
-use Rattle.shared_funnel.specs.Listed.{AreNumbers, IsFunnelAt, point_of, points_of}
+use Rattle.shared_funnel.specs.Listed.{AreNumbers, IsFunnelAt, point_of, listed_points}
 
 module _ (corners : List Point) (start : Point) (tris : List Tri) (home next l r : ℕ) (fits : Fits corners tris)
     (in_start : IsInTri corners (tri_at tris home) (whole start)) (shared : IsSideOfTwo tris r l home next) where
@@ -36,8 +36,8 @@ module _ (corners : List Point) (start : Point) (tris : List Tri) (home next l r
     source_is = subst (λ k. point_of corners start k ≡ start) (sym count) (source_point corners start)
 
     -- such numbers are a first funnel, with the source at the apex and nothing before it:
-    first_of : (list : List ℕ) (a : ℕ) → IsOpenFunnel corners [] (points_of corners start list) a l r
-        → point_at (points_of corners start list) a ≡ start → slice_index list a ≡ n → AreNumbers (length corners) list → length list ≤ 3
+    first_of : (list : List ℕ) (a : ℕ) → IsOpenFunnel corners [] (listed_points corners start list) a l r
+        → point_at (listed_points corners start list) a ≡ start → slice_index list a ≡ n → AreNumbers (length corners) list → length list ≤ 3
         → IsFunnelAt corners start l r 1 (record { list = list; apex = a })
     first_of list a funnel begins source numbers few = record {
       before = [];

@@ -14,7 +14,7 @@ use Rattle.funnels.specs.Funnel.{IsReachedFrom}
 use Rattle.shared_seq.proofs.Digits.{binary_digits_mono}
 use Rattle.shared_seq.specs.Digits.{binary_digits}
 use Rattle.shared_funnel.proofs.Doors.{funnel_later, goes_on, third_numbered}
-use Rattle.shared_funnel.specs.Listed.{IsBeyond, IsFunnelAt, Listed, point_of, points_of}
+use Rattle.shared_funnel.specs.Listed.{IsTriangleBeyond, IsFunnelAt, Listed, point_of, listed_points}
 use Rattle.shared_funnel.proofs.Entrances.{apart, beyond_at, earlier, shared_at, shared_back, toward_below}
 use Rattle.shared_funnel.proofs.StepCounts.{three_digits}
 use Rattle.shared_funnel.specs.Entered.{IsFromStart, IsFunnelTo, at_place, left_of, right_of, third_of, toward}
@@ -86,22 +86,22 @@ module _ (corners : List Point) (start : Point) (tris : List Tri) (order : List 
 
       -- From the funnel there, and the place from which the third corner is reached,
       module _ (old : Listed) (w : IsFunnelTo corners start tris order q old) (h : ℕ)
-          (reached : IsReachedFrom (points_of corners start old.list) old.apex h (whole (vertex corners (third_of tris order q))))
+          (reached : IsReachedFrom (listed_points corners start old.list) old.apex h (whole (vertex corners (third_of tris order q))))
           (right m : ℕ) (right_is : right ≡ right_of tris order p) (third_is : m ≡ third_of tris order q) (f : Listed) where
         -- what the steps ask,
-        beyond : IsBeyond tris (at_place order q) (left_of tris order q) (right_of tris order q) m
+        beyond : IsTriangleBeyond tris (at_place order q) (left_of tris order q) (right_of tris order q) m
         beyond =
-            subst (IsBeyond tris (at_place order q) (left_of tris order q) (right_of tris order q)) (sym third_is)
+            subst (IsTriangleBeyond tris (at_place order q) (left_of tris order q) (right_of tris order q)) (sym third_is)
             (beyond_at corners start tris order from q inner within)
 
-        reached_there : IsReachedFrom (points_of corners start old.list) old.apex h (whole (vertex corners m))
+        reached_there : IsReachedFrom (listed_points corners start old.list) old.apex h (whole (vertex corners m))
         reached_there =
-            subst (λ k. IsReachedFrom (points_of corners start old.list) old.apex h (whole (vertex corners k))) (sym third_is) reached
+            subst (λ k. IsReachedFrom (listed_points corners start old.list) old.apex h (whole (vertex corners k))) (sym third_is) reached
 
         -- the step on the right is the one where the side ends at the third corner,
         pub funnel_on_right : right ≡ m
-            → (IsBeyond tris (at_place order q) (left_of tris order q) (right_of tris order q) m
-            → IsReachedFrom (points_of corners start old.list) old.apex h (whole (vertex corners m))
+            → (IsTriangleBeyond tris (at_place order q) (left_of tris order q) (right_of tris order q) m
+            → IsReachedFrom (listed_points corners start old.list) old.apex h (whole (vertex corners m))
             → IsSideOfTwo tris m (left_of tris order q) (at_place order q) (at_place order p)
             → IsFunnelAt corners start (left_of tris order q) m (q + 1) f)
             → IsFunnelTo corners start tris order p f
@@ -121,8 +121,8 @@ module _ (corners : List Point) (start : Point) (tris : List Tri) (order : List 
 
         -- and otherwise it is that on the left
         pub funnel_on_left : ¬ (right ≡ m)
-            → (IsBeyond tris (at_place order q) (left_of tris order q) (right_of tris order q) m
-            → IsReachedFrom (points_of corners start old.list) old.apex h (whole (vertex corners m))
+            → (IsTriangleBeyond tris (at_place order q) (left_of tris order q) (right_of tris order q) m
+            → IsReachedFrom (listed_points corners start old.list) old.apex h (whole (vertex corners m))
             → IsSideOfTwo tris (right_of tris order q) m (at_place order q) (at_place order p)
             → IsFunnelAt corners start m (right_of tris order q) (q + 1) f)
             → IsFunnelTo corners start tris order p f

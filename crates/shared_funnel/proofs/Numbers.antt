@@ -11,7 +11,7 @@ use Rattle.funnels.specs.Funnel.{IsReachedFrom}
 use Rattle.exact_plane.specs.Spot.{IsNamed, point_named}
 use Rattle.exact_plane.specs.declared.turns.Spot.{Spot}
 use Rattle.exact_plane.specs.declared.turns.Spot.TheVariants.{Corner, Start}
-use Rattle.shared_funnel.specs.Listed.{AreNumbers, IsFunnelAt, Listed, point_of, points_of}
+use Rattle.shared_funnel.specs.Listed.{AreNumbers, IsFunnelAt, Listed, point_of, listed_points}
 
 module _ (corners : List Point) (start : Point) where
   -- a corner's number stands for the vertex,
@@ -26,7 +26,7 @@ module _ (corners : List Point) (start : Point) where
 
   -- the point at a place is that of the number there
   pub point_there : (list : List ℕ) (h : ℕ) → h < length list
-      → point_at (points_of corners start list) h ≡ point_of corners start (slice_index list h)
+      → point_at (listed_points corners start list) h ≡ point_of corners start (slice_index list h)
   point_there list h below = get_or-map (point_of corners start) list h 0 origin below
 
   -- a number's name stands for its point
@@ -47,7 +47,7 @@ module _ (corners : List Point) (start : Point) where
   ]
 
   -- a place from which a point is reached is one of the list
-  pub place_within : (list : List ℕ) (a h : ℕ) (y : Triple) → IsReachedFrom (points_of corners start list) a h y → h < length list
+  pub place_within : (list : List ℕ) (a h : ℕ) (y : Triple) → IsReachedFrom (listed_points corners start list) a h y → h < length list
   place_within list a h y reached = omega (arith, reached.within, length-map list (point_of corners start))
 
   -- and so is the place of an apex
@@ -57,7 +57,7 @@ module _ (corners : List Point) (start : Point) where
 -- so for all corners the name of the number at a place stands for the point there
 pub named_there : (n : ℕ) (list : List ℕ) (h i : ℕ) (s : Spot) → AreNumbers n list → h < length list → i ≡ slice_index list h
     → (i ≢ n → s ≡ Corner i) → (i ≡ n → s ≡ Start) → (corners : List Point) (start goal : Point) → n ≡ length corners
-    → IsNamed corners s × (point_named corners start goal s ≡ point_at (points_of corners start list) h)
+    → IsNamed corners s × (point_named corners start goal s ≡ point_at (listed_points corners start list) h)
 named_there n list h i s numbers below is corner source corners start goal count =
     let le : i ≤ n = subst (λ k. k ≤ n) (sym is) (numbers h 0 below) in
     let here = named corners start goal n i s count le corner source in

@@ -12,7 +12,7 @@ use Rattle.funnels.proofs.Trees.{length_leftward, length_rightward, way_begins, 
 use Rattle.funnels.proofs.Vertices.{fitted_long, fitted_simple}
 use Rattle.funnels.specs.OpenFunnel.{left_behind, right_behind}
 use Rattle.shared_funnel.proofs.Numbers.{point_there}
-use Rattle.shared_funnel.specs.Listed.{IsFunnelAt, Listed, point_of, points_of}
+use Rattle.shared_funnel.specs.Listed.{IsFunnelAt, Listed, point_of, listed_points}
 
 -- a list with no points is the empty one
 empty : (xs : List Point) → length xs ≡ 0 → xs ≡ []
@@ -23,7 +23,7 @@ module _ (corners : List Point) (start : Point) (tris : List Tri) (i j d : ℕ) 
     (w : IsFunnelAt corners start i j d f) (h : ℕ) (within : h < length f.list) where
   -- the points, and those on the way to the one at the place
   abbrev ns : List Point
-  ns = points_of corners start f.list
+  ns = listed_points corners start f.list
 
   abbrev way : List Point
   way = way_to w.before ns f.apex h

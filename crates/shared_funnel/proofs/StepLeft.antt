@@ -16,15 +16,15 @@ use Rattle.funnels.specs.Funnel.{IsReachedFrom}
 use Rattle.funnels.specs.OpenFunnel.{IsOpenFunnel, right_behind}
 use Rattle.shared_funnel.proofs.Lists.{more_numbers, none_of_both}
 use Rattle.shared_funnel.proofs.Numbers.{apex_in_list, corner_point, place_within}
-use Rattle.shared_funnel.specs.Listed.{IsBeyond, IsFunnelAt, Listed, point_of, points_of}
+use Rattle.shared_funnel.specs.Listed.{IsTriangleBeyond, IsFunnelAt, Listed, point_of, listed_points}
 
 module _ (corners : List Point) (start : Point) (tris : List Tri) (k i j m next d : ℕ) (fits : Fits corners tris)
-    (beyond : IsBeyond tris k i j m) (f : Listed) (w : IsFunnelAt corners start i j d f) (h : ℕ)
-    (reached : IsReachedFrom (points_of corners start f.list) f.apex h (whole (vertex corners m)))
+    (beyond : IsTriangleBeyond tris k i j m) (f : Listed) (w : IsFunnelAt corners start i j d f) (h : ℕ)
+    (reached : IsReachedFrom (listed_points corners start f.list) f.apex h (whole (vertex corners m)))
     (shared : IsSideOfTwo tris j m k next) where
   -- the points, and the next list
   abbrev ns : List Point
-  ns = points_of corners start f.list
+  ns = listed_points corners start f.list
 
   abbrev list : List ℕ
   list = m ∷ drop h f.list
@@ -34,7 +34,7 @@ module _ (corners : List Point) (start : Point) (tris : List Tri) (k i j m next 
   corner_below = (ends_below corners tris fits k j m shared.in_list shared.has).1
 
   -- so the list stands for the corner, and the points from the place on
-  points_are : points_of corners start list ≡ vertex corners m ∷ drop h ns
+  points_are : listed_points corners start list ≡ vertex corners m ∷ drop h ns
   points_are =
       let first = corner_point corners start m corner_below in
       let rest = sym (drop-map (point_of corners start) h f.list) in
@@ -42,10 +42,10 @@ module _ (corners : List Point) (start : Point) (tris : List Tri) (k i j m next 
 
   -- the chain to it begins at the start,
   begins_there :
-      point_at (w.before ++ right_behind ns f.apex (h - f.apex) ++ point_at (points_of corners start list) (f.apex - h + 1) ∷ []) 0 ≡ start
+      point_at (w.before ++ right_behind ns f.apex (h - f.apex) ++ point_at (listed_points corners start list) (f.apex - h + 1) ∷ []) 0 ≡ start
   begins_there =
       let place : h + (f.apex - h) ≡ f.apex + (h - f.apex) = omega arith in
-      first_right origin w.before (point_at ns) f.apex (h - f.apex) (point_at (points_of corners start list) (f.apex - h + 1))
+      first_right origin w.before (point_at ns) f.apex (h - f.apex) (point_at (listed_points corners start list) (f.apex - h + 1))
       (ap (λ ps. point_at ps (f.apex - h + 1)) points_are
       ∙ next_left_old ns (vertex corners m) h (f.apex - h) ∙ ap (point_at ns) place)
       ∙ w.begins

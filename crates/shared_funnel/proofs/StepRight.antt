@@ -16,15 +16,15 @@ use Rattle.funnels.specs.Funnel.{IsReachedFrom}
 use Rattle.funnels.specs.OpenFunnel.{IsOpenFunnel, left_behind}
 use Rattle.shared_funnel.proofs.Lists.{none_of_both, one_number}
 use Rattle.shared_funnel.proofs.Numbers.{apex_in_list, corner_point, place_within}
-use Rattle.shared_funnel.specs.Listed.{IsBeyond, IsFunnelAt, Listed, point_of, points_of}
+use Rattle.shared_funnel.specs.Listed.{IsTriangleBeyond, IsFunnelAt, Listed, point_of, listed_points}
 
 module _ (corners : List Point) (start : Point) (tris : List Tri) (k i j m next d : ℕ) (fits : Fits corners tris)
-    (beyond : IsBeyond tris k i j m) (f : Listed) (w : IsFunnelAt corners start i j d f) (h : ℕ)
-    (reached : IsReachedFrom (points_of corners start f.list) f.apex h (whole (vertex corners m)))
+    (beyond : IsTriangleBeyond tris k i j m) (f : Listed) (w : IsFunnelAt corners start i j d f) (h : ℕ)
+    (reached : IsReachedFrom (listed_points corners start f.list) f.apex h (whole (vertex corners m)))
     (shared : IsSideOfTwo tris m i k next) where
   -- the points, and the next list
   abbrev ns : List Point
-  ns = points_of corners start f.list
+  ns = listed_points corners start f.list
 
   abbrev list : List ℕ
   list = take (h + 1) f.list ++ m ∷ []
@@ -34,17 +34,17 @@ module _ (corners : List Point) (start : Point) (tris : List Tri) (k i j m next 
   corner_below = (ends_below corners tris fits k m i shared.in_list shared.has).0
 
   -- so the list stands for the points to the place, and the corner
-  points_are : points_of corners start list ≡ take (h + 1) ns ++ vertex corners m ∷ []
+  points_are : listed_points corners start list ≡ take (h + 1) ns ++ vertex corners m ∷ []
   points_are = map-append (point_of corners start) (take (h + 1) f.list) (m ∷ [])
       ∙ ap (λ ps. ps ++ point_of corners start m ∷ []) (sym (take-map (point_of corners start) (h + 1) f.list))
       ∙ ap (λ v. take (h + 1) ns ++ v ∷ []) (corner_point corners start m corner_below)
 
   -- the chain to it begins at the start,
-  begins_there : point_at (w.before ++ left_behind ns f.apex (f.apex - h) ++ point_at (points_of corners start list) (min f.apex h) ∷ []) 0
+  begins_there : point_at (w.before ++ left_behind ns f.apex (f.apex - h) ++ point_at (listed_points corners start list) (min f.apex h) ∷ []) 0
       ≡ start
   begins_there =
       let place : min f.apex h ≡ f.apex - (f.apex - h) = omega arith in
-      first_left origin w.before (point_at ns) f.apex (f.apex - h) (point_at (points_of corners start list) (min f.apex h))
+      first_left origin w.before (point_at ns) f.apex (f.apex - h) (point_at (listed_points corners start list) (min f.apex h))
       (ap (λ ps. point_at ps (min f.apex h)) points_are
       ∙ next_right_old ns (vertex corners m) h reached.within (min f.apex h) (omega arith) ∙ ap (point_at ns) place)
       ∙ w.begins

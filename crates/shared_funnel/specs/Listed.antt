@@ -20,15 +20,15 @@ abbrev pub point_of : List Point → Point → ℕ → Point
 point_of corners start i = point_at (corners ++ start ∷ []) i
 
 -- and those of a list
-abbrev pub points_of : List Point → Point → List ℕ → List Point
-points_of corners start list = map (point_of corners start) list
+abbrev pub listed_points : List Point → Point → List ℕ → List Point
+listed_points corners start list = map (point_of corners start) list
 
 -- each stands for a point, among so many corners
 abbrev pub AreNumbers : ℕ → List ℕ → Type 0
 AreNumbers n list = All (λ i. i ≤ n) list
 
 -- triangle k is beyond the diagonal from corner i, on the left, to corner j, and m is its third corner
-pub record IsBeyond (tris : List Tri) (k i j m : ℕ) : Type 0 where
+pub record IsTriangleBeyond (tris : List Tri) (k i j m : ℕ) : Type 0 where
   pub from : ℕ
   pub diagonal : IsSideOfTwo tris i j k from
   pub right : HasSide (tri_at tris k) j m
@@ -38,16 +38,16 @@ pub record IsBeyond (tris : List Tri) (k i j m : ℕ) : Type 0 where
 -- the start, and where it has no points before the apex, that is the start by its own number
 pub record IsFunnelAt (corners : List Point) (start : Point) (i j diagonals : ℕ) (f : Listed) : Type 0 where
   pub before : List Point
-  pub funnel : IsOpenFunnel corners before (points_of corners start f.list) f.apex i j
-  pub begins : point_at (before ++ point_at (points_of corners start f.list) f.apex ∷ []) 0 ≡ start
+  pub funnel : IsOpenFunnel corners before (listed_points corners start f.list) f.apex i j
+  pub begins : point_at (before ++ point_at (listed_points corners start f.list) f.apex ∷ []) 0 ≡ start
   pub source : before ≡ [] → slice_index f.list f.apex ≡ length corners
   pub numbers : AreNumbers (length corners) f.list
   pub few : length before + length f.list ≤ diagonals + 2
 
 -- f' is the next funnel after f, over a triangle beyond its diagonal whose third corner m is reached from the place: for each mesh,
 -- the funnel at the side with these ends, which come from those of the diagonal, where another triangle shares that side
-abbrev pub GoesOn : Listed → ℕ → ℕ → (ℕ → ℕ → ℕ × ℕ) → Listed → Type 0
-GoesOn f place m ends f' = (corners : List Point) (start : Point) (tris : List Tri) (k i j next d : ℕ)
-    → Fits corners tris → IsBeyond tris k i j m → IsFunnelAt corners start i j d f
-    → IsReachedFrom (points_of corners start f.list) f.apex place (whole (vertex corners m))
+abbrev pub IsNextFunnel : Listed → ℕ → ℕ → (ℕ → ℕ → ℕ × ℕ) → Listed → Type 0
+IsNextFunnel f place m ends f' = (corners : List Point) (start : Point) (tris : List Tri) (k i j next d : ℕ)
+    → Fits corners tris → IsTriangleBeyond tris k i j m → IsFunnelAt corners start i j d f
+    → IsReachedFrom (listed_points corners start f.list) f.apex place (whole (vertex corners m))
     → IsSideOfTwo tris (ends i j).1 (ends i j).0 k next → IsFunnelAt corners start (ends i j).0 (ends i j).1 (d + 1) f'

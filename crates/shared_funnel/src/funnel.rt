@@ -7,7 +7,7 @@ ghost use Rattle.meshes.specs.declared.tri.Tri.{Tri};
 ghost use Rattle.funnels.specs.Funnel.{IsPassed, IsReachedFrom};
 ghost use Rattle.exact_plane.specs.Spot.{IsNamed, point_named};
 ghost use Rattle.shared_seq.specs.Digits.{binary_digits};
-ghost use Rattle.shared_funnel.specs.Listed.{AreNumbers, GoesOn, IsFunnelAt, points_of};
+ghost use Rattle.shared_funnel.specs.Listed.{AreNumbers, IsNextFunnel, IsFunnelAt, listed_points};
 
 use crate::name::spot;
 use exact_plane::{Direction, Memory, Spot, Steps, Turns};
@@ -90,7 +90,7 @@ impl Funnel {
         requires numbers { AreNumbers n self.now.list }
         requires y_named { IsNamed (T.corners board.now) y }
         ensures reached { let at = point_named (T.corners board.now) (T.start board.now) (T.goal board.now) in
-            IsReachedFrom (points_of (T.corners board.now) (T.start board.now) self.now.list) self.now.apex result (whole (at y)) }
+            IsReachedFrom (listed_points (T.corners board.now) (T.start board.now) self.now.list) self.now.apex result (whole (at y)) }
         ensures steps { let b = binary_digits (length self.now.list) in steps.new ≤ steps.old + b * (4 * b + 3) }
     {
         let mut low = 0;
@@ -121,7 +121,7 @@ impl Funnel {
         requires numbers { AreNumbers n self.now.list }
         requires y_named { IsNamed (T.corners board.now) y }
         ensures passed { let at = point_named (T.corners board.now) (T.start board.now) (T.goal board.now) in
-            IsTrue result ↔ IsPassed (points_of (T.corners board.now) (T.start board.now) self.now.list) self.now.apex j (whole (at y)) }
+            IsTrue result ↔ IsPassed (listed_points (T.corners board.now) (T.start board.now) self.now.list) self.now.apex j (whole (at y)) }
         ensures steps { steps.new ≤ steps.old + 4 * binary_digits (length self.now.list) + 3 }
     {
         let left = self.name(n, j - 1, steps);
@@ -139,7 +139,7 @@ impl Funnel {
         requires numbers { AreNumbers n self.now.list }
         ensures named { (corners : List Point) → n ≡ length corners → IsNamed corners result }
         ensures point { (corners : List Point) (start goal : Point) → n ≡ length corners
-            → point_named corners start goal result ≡ point_at (points_of corners start self.now.list) place }
+            → point_named corners start goal result ≡ point_at (listed_points corners start self.now.list) place }
         ensures steps { steps.new ≤ steps.old + 2 * binary_digits (length self.now.list) + 1 }
     {
         spot(self.number(place, steps), n)
@@ -157,7 +157,7 @@ impl Funnel {
         requires place { place < length self.now.list }
         requires apex { self.now.apex < length self.now.list }
         requires room { length self.now.list + 1 < 2 ^ 31 }
-        ensures funnel { IfOk result (λ f. GoesOn self.now place m (λ i j. (i, m)) f) }
+        ensures funnel { IfOk result (λ f. IsNextFunnel self.now place m (λ i j. (i, m)) f) }
         ensures steps { steps.new ≤ steps.old + 160 * (binary_digits (length self.now.list + 1) + 1) }
     {
         let front = self.list.take(alloc, place + 1, steps)?;
@@ -180,7 +180,7 @@ impl Funnel {
         requires place { place < length self.now.list }
         requires apex { self.now.apex < length self.now.list }
         requires room { length self.now.list + 1 < 2 ^ 31 }
-        ensures funnel { IfOk result (λ f. GoesOn self.now place m (λ i j. (m, j)) f) }
+        ensures funnel { IfOk result (λ f. IsNextFunnel self.now place m (λ i j. (m, j)) f) }
         ensures steps { steps.new ≤ steps.old + 160 * (binary_digits (length self.now.list + 1) + 1) }
     {
         let rest = self.list.skip(alloc, place, steps)?;

@@ -4,7 +4,7 @@ use Rattle.std.proofs.Math.Pow.{pow_mono}
 use Rattle.std.proofs.lemmas.Bool.{cases_lt}
 use Rattle.std.proofs.lemmas.Nat.{mul-le, mul-lt, pow-add}
 use Rattle.shared_seq.specs.Digits.{binary_digits}
-use Rattle.shared_seq.specs.Tree.{DifferByAtMost, IsTree, Tree, forked}
+use Rattle.shared_seq.specs.Tree.{DifferByAtMost, IsBalancedTree, Tree, forked}
 use Rattle.shared_seq.proofs.Digits.{binary_digits_enough}
 
 power_below : (h k : ℕ) → 2 ^ h < 2 ^ k → h < k
@@ -14,7 +14,7 @@ square_below : (m k : ℕ) → m < 2 ^ k → m * m < 2 ^ (k + k)
 square_below m k below = rw (pow-add 2 k k) (mul-lt m m (2 ^ k) (2 ^ k) below below)
 
 -- at most twice the number of binary digits, less one
-pub height_digits : (tree : Tree) → IsTree tree → tree.height + 1 ≤ 2 * binary_digits (length tree.items)
+pub height_digits : (tree : Tree) → IsBalancedTree tree → tree.height + 1 ≤ 2 * binary_digits (length tree.items)
 height_digits tree is =
     let b = binary_digits (length tree.items) in
     let below = square_below (length tree.items) b (binary_digits_enough _) in
@@ -38,11 +38,11 @@ full_fork h k m n near left right = elim (cases_lt n m) [
 low : (h m : ℕ) → m < 2 ^ 31 → 2 ^ h ≤ m * m → h < 62
 low h m short full = power_below h 62 (omega (arith, square_below m 31 short))
 
-pub leaf_is_tree : (x : ℕ) → IsTree (record { items = x ∷ []; height = 0 })
+pub leaf_is_tree : (x : ℕ) → IsBalancedTree (record { items = x ∷ []; height = 0 })
 leaf_is_tree x = record { some = omega arith; short = omega arith; full = omega arith; low = omega arith }
 
-pub fork_is_tree : (l r : Tree) → IsTree l → IsTree r → DifferByAtMost 1 l.height r.height
-    → length l.items + length r.items < 2 ^ 31 → IsTree (forked l r)
+pub fork_is_tree : (l r : Tree) → IsBalancedTree l → IsBalancedTree r → DifferByAtMost 1 l.height r.height
+    → length l.items + length r.items < 2 ^ 31 → IsBalancedTree (forked l r)
 fork_is_tree l r left right near few =
     let both = length-append l.items r.items in
     let short : length (l.items ++ r.items) < 2 ^ 31 = omega arith in

@@ -3,7 +3,7 @@ use Rattle.std.proofs.Common.{◌≡◌, ℕ, suc, ◌+◌, ◌<◌, List, [], �
 use Rattle.std.proofs.Math.Seq.{drop-append-add, take-append-add}
 use Rattle.std.proofs.lemmas.List.{drop-append-le, take-append-le}
 use Rattle.std.specs.List.{insert, remove}
-use Rattle.shared_seq.specs.Tree.{IsJoined, IsPlace, IsWay, Tree, beside}
+use Rattle.shared_seq.specs.Tree.{IsJoinedTree, IsPlaceInPart, IsWay, Tree, beside}
 use Rattle.shared_seq.specs.declared.side.Side.{Side}
 use Rattle.shared_seq.specs.declared.side.Side.TheVariants.{Left, Right}
 
@@ -30,17 +30,17 @@ module _ (part other : List ℕ) (i at : ℕ) where
         let next : length other + suc at ≡ suc i = omega (arith, place) in
         subst (λ k. drop k (other ++ part) ≡ drop (suc at) part) next (drop-append-add other part (suc at))
 
-  pub insert_at : (s : Side) → IsPlace s part other i at → (v : ℕ) → insert (beside s part other) i v ≡ beside s (insert part at v) other
+  pub insert_at : (s : Side) → IsPlaceInPart s part other i at → (v : ℕ) → insert (beside s part other) i v ≡ beside s (insert part at v) other
   insert_at Left place v = rw (take_left place, drop_left place) (sym (append_assoc (take at part) (v ∷ drop at part) other))
   insert_at Right place v = rw (take_right place, drop_right place) (append_assoc other (take at part) (v ∷ drop at part))
 
-  pub remove_at : (s : Side) → IsPlace s part other i at → remove (beside s part other) i ≡ beside s (remove part at) other
+  pub remove_at : (s : Side) → IsPlaceInPart s part other i at → remove (beside s part other) i ≡ beside s (remove part at) other
   remove_at Left place = rw (take_left place, drop_after_left place) (sym (append_assoc (take at part) (drop (suc at) part) other))
   remove_at Right place = rw (take_right place, drop_after_right place) (append_assoc other (take at part) (drop (suc at) part))
 
 -- the same of the trees: new stands for the part that was changed, and t is what it and the other part are joined to
 module _ (s : Side) (tree part other : Tree) (i at : ℕ) (way : IsWay tree i s part other at) where
-  pub inserted : (v : ℕ) (new t : Tree) → new.items ≡ insert part.items at v → IsJoined s new other t → t.items ≡ insert tree.items i v
+  pub inserted : (v : ℕ) (new t : Tree) → new.items ≡ insert part.items at v → IsJoinedTree s new other t → t.items ≡ insert tree.items i v
   inserted v new t changed joined = joined.items ∙ ap (λ xs. beside s xs other.items) changed
       ∙ rw way.fork.items (sym (insert_at part.items other.items i at s way.place v))
 

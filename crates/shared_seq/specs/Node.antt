@@ -1,6 +1,6 @@
 -- What a node of the tree holds, and what a node keeps beside it. No public clause cites it.
 use Rattle.std.specs.Prelude.{◌≡◌, ℕ, [], ◌∷◌, length}
-use Rattle.shared_seq.specs.Tree.{DifferByAtMost, IsTree, Tree, forked}
+use Rattle.shared_seq.specs.Tree.{DifferByAtMost, IsBalancedTree, Tree, forked}
 use Rattle.shared_seq.specs.declared.node.Held.{Held}
 use Rattle.shared_seq.specs.declared.node.Held.TheVariants.{Leaf, Fork}
 
@@ -19,4 +19,4 @@ pub record IsNode (held : Held) (height count : ℕ) : Type 0 where
   pub height_is : height ≡ (tree_of held).height
   pub count_is : count ≡ length (tree_of held).items
   pub near : AreNear held
-  pub tree : IsTree (tree_of held)
+  pub tree : IsBalancedTree (tree_of held)

@@ -9,7 +9,7 @@ pub record Tree : Type 0 where
   pub height : ℕ
 
 -- it has values, not too many, and its height is small beside their number
-pub record IsTree (tree : Tree) : Type 0 where
+pub record IsBalancedTree (tree : Tree) : Type 0 where
   pub some : 0 < length tree.items
   pub short : length tree.items < 2 ^ 31
   pub full : 2 ^ tree.height ≤ length tree.items * length tree.items
@@ -23,9 +23,9 @@ DifferByAtMost by l r = (l ≤ r + by) × (r ≤ l + by)
 abbrev pub forked : Tree → Tree → Tree
 forked l r = record { items = l.items ++ r.items; height = max l.height r.height + 1 }
 
-abbrev pub opposite : Side → Side
-opposite Left = Right
-opposite Right = Left
+abbrev pub other_tree_side : Side → Side
+other_tree_side Left = Right
+other_tree_side Right = Left
 
 -- two lists, one after the other, the first one given on this side
 abbrev pub beside : Side → List ℕ → List ℕ → List ℕ
@@ -46,30 +46,30 @@ pub record IsFork (side : Side) (one other tree : Tree) : Type 0 where
   pub short : length tree.items < 2 ^ 31
 
 -- where place i of two lists is, the first one given on this side: at this place of that one
-abbrev pub IsPlace : Side → List ℕ → List ℕ → ℕ → ℕ → Type 0
-IsPlace Left part other i at = (at ≡ i) × (i < length part)
-IsPlace Right part other i at = i ≡ length other + at
+abbrev pub IsPlaceInPart : Side → List ℕ → List ℕ → ℕ → ℕ → Type 0
+IsPlaceInPart Left part other i at = (at ≡ i) × (i < length part)
+IsPlaceInPart Right part other i at = i ≡ length other + at
 
 -- the part of a fork, on this side, that place i of the tree is in, at this place, and the other part
 pub record IsWay (tree : Tree) (i : ℕ) (side : Side) (part other : Tree) (at : ℕ) : Type 0 where
   pub fork : IsFork side part other tree
-  pub place : IsPlace side part.items other.items i at
+  pub place : IsPlaceInPart side part.items other.items i at
 
 -- a tree of one value
-pub record IsLeaf (tree : Tree) : Type 0 where
+pub record IsLeafTree (tree : Tree) : Type 0 where
   pub one : length tree.items ≡ 1
   pub flat : tree.height ≡ 0
 
 -- a tree with the values of two, the first one given on this side, as high as the higher one or one more; where the two
 -- differ by at most one, as high as a fork over them
-pub record IsJoined (side : Side) (one other tree : Tree) : Type 0 where
+pub record IsJoinedTree (side : Side) (one other tree : Tree) : Type 0 where
   pub items : tree.items ≡ beside side one.items other.items
   pub not_lower : max one.height other.height ≤ tree.height
   pub at_most_one_higher : tree.height ≤ max one.height other.height + 1
   pub as_fork : DifferByAtMost 1 one.height other.height → tree.height ≡ max one.height other.height + 1
 
 -- the first i values of a tree and the rest, neither higher than it
-pub record IsCut (tree : Tree) (i : ℕ) (front back : Tree) : Type 0 where
+pub record IsCutTree (tree : Tree) (i : ℕ) (front back : Tree) : Type 0 where
   pub front_items : front.items ≡ take i tree.items
   pub back_items : back.items ≡ drop i tree.items
   pub front_height : front.height ≤ tree.height
@@ -80,10 +80,10 @@ abbrev pub kept_items : Side → ℕ → List ℕ → List ℕ
 kept_items Left i items = take i items
 kept_items Right i items = drop i items
 
-pub record IsPiece (kept : Side) (tree : Tree) (i : ℕ) (piece : Tree) : Type 0 where
+pub record IsKeptPart (kept : Side) (tree : Tree) (i : ℕ) (piece : Tree) : Type 0 where
   pub items : piece.items ≡ kept_items kept i tree.items
   pub not_higher : piece.height ≤ tree.height
 
 -- the height after one more value: as before, or one more
-abbrev pub IsGrown : ℕ → ℕ → Type 0
-IsGrown before after = (before ≤ after) × (after ≤ before + 1)
+abbrev pub IsGrownHeight : ℕ → ℕ → Type 0
+IsGrownHeight before after = (before ≤ after) × (after ≤ before + 1)

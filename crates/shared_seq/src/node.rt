@@ -1,7 +1,7 @@
 // A node of a height-balanced tree, with its values at the leaves. Making a node and opening one are steps; its height and
 // its count are told without one. No node is changed.
 ghost use Rattle.std.specs.Prelude.{◌≡◌, ◌+◌, ◌^◌, ◌<◌, ◌≤◌, [], ◌∷◌, IfOk, length, MatchOption};
-ghost use Rattle.shared_seq.specs.Tree.{DifferByAtMost, IsFork, IsLeaf, IsTree, IsWay, forked};
+ghost use Rattle.shared_seq.specs.Tree.{DifferByAtMost, IsFork, IsLeafTree, IsBalancedTree, IsWay, forked};
 ghost use Rattle.shared_seq.specs.Node.{AreNear, tree_of};
 
 use crate::side::Side;
@@ -146,7 +146,7 @@ impl Node {
         i: usize,
         steps: &mut Steps<L>,
     ) -> Option<Way<'a>>
-        ensures way { MatchOption result (IsLeaf tree.now.value) (λ way. IsWay tree.now.value i way.side way.part.now.value way.other.now.value way.at) }
+        ensures way { MatchOption result (IsLeafTree tree.now.value) (λ way. IsWay tree.now.value i way.side way.part.now.value way.other.now.value way.at) }
         ensures steps { steps.new ≡ steps.old + 1 }
     {
         let Held::Fork(left, right) = tree.open(steps) else {
@@ -184,7 +184,7 @@ impl Node {
     // How many forks are above the deepest leaf.
     pub(crate) fn height(tree: &Rc<Node>) -> u32
         ensures number { result ≡ tree.now.value.height }
-        ensures tree { IsTree tree.now.value }
+        ensures tree { IsBalancedTree tree.now.value }
     {
         tree.height
     }
@@ -192,7 +192,7 @@ impl Node {
     // How many values it has.
     pub(crate) fn count(&self) -> usize
         ensures number { result ≡ length self.now.items }
-        ensures tree { IsTree self.now }
+        ensures tree { IsBalancedTree self.now }
     {
         self.count
     }

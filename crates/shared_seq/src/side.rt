@@ -1,5 +1,5 @@
 ghost use Rattle.std.specs.Prelude.{◌≡◌};
-ghost use Rattle.shared_seq.specs.Tree.{IsOrdered, opposite};
+ghost use Rattle.shared_seq.specs.Tree.{IsOrdered, other_tree_side};
 
 use crate::node::Node;
 use std::rc::Rc;
@@ -13,7 +13,7 @@ pub(crate) enum Side {
 
 impl Side {
     pub(crate) fn opposite(self) -> Side
-        ensures { result ≡ opposite self }
+        ensures { result ≡ other_tree_side self }
     {
         match self {
             Side::Left => Side::Right,

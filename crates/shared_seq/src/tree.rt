@@ -2,7 +2,7 @@
 ghost use Rattle.std.specs.Prelude.{◌≡◌, ◌+◌, ◌-◌, ◌*◌, ◌^◌, ◌<◌, ◌≤◌, IfOk, length, OnErr, slice_index, slice_set};
 ghost use Rattle.std.specs.List.{insert, remove};
 ghost use Rattle.shared_seq.specs.Seq.{IsShrunk, listed};
-ghost use Rattle.shared_seq.specs.Tree.{DifferByAtMost, IsCut, IsGrown, IsJoined, IsPiece};
+ghost use Rattle.shared_seq.specs.Tree.{DifferByAtMost, IsCutTree, IsGrownHeight, IsJoinedTree, IsKeptPart};
 
 use crate::node::{Held, Node, Way};
 use crate::side::Side;
@@ -40,7 +40,7 @@ fn balance<L: Ledger>(
 ) -> Result<Rc<Node>, Memory>
     requires short { length one.now.value.items + length other.now.value.items < 2 ^ 31 }
     requires near { DifferByAtMost 2 one.now.value.height other.now.value.height }
-    ensures joined { IfOk result (λ tree. IsJoined side one.now.value other.now.value tree.value) }
+    ensures joined { IfOk result (λ tree. IsJoinedTree side one.now.value other.now.value tree.value) }
     ensures steps { steps.new ≤ steps.old + 5 }
 {
     if Node::height(one) > Node::height(other) + 1 {
@@ -62,7 +62,7 @@ fn turn<L: Ledger>(
 ) -> Result<Rc<Node>, Memory>
     requires short { length high.now.value.items + length low.now.value.items < 2 ^ 31 }
     requires two_higher { high.now.value.height ≡ low.now.value.height + 2 }
-    ensures joined { IfOk result (λ tree. IsJoined side high.now.value low.now.value tree.value) }
+    ensures joined { IfOk result (λ tree. IsJoinedTree side high.now.value low.now.value tree.value) }
     ensures steps { steps.new ≤ steps.old + 5 }
 {
     let (outer, inner) = Node::parts(high, side, steps);
@@ -85,7 +85,7 @@ pub(crate) fn join<L: Ledger>(
     steps: &mut Steps<L>,
 ) -> Result<Rc<Node>, Memory>
     requires short { length one.now.value.items + length other.now.value.items < 2 ^ 31 }
-    ensures joined { IfOk result (λ tree. IsJoined side one.now.value other.now.value tree.value) }
+    ensures joined { IfOk result (λ tree. IsJoinedTree side one.now.value other.now.value tree.value) }
     ensures steps { steps.new ≤ steps.old + 6 * (one.now.value.height - other.now.value.height)
         + 6 * (other.now.value.height - one.now.value.height) + 1 }
 {
@@ -106,7 +106,7 @@ fn hang<L: Ledger>(
 ) -> Result<Rc<Node>, Memory>
     requires short { length high.now.value.items + length low.now.value.items < 2 ^ 31 }
     requires lower { low.now.value.height ≤ high.now.value.height + 1 }
-    ensures joined { IfOk result (λ tree. IsJoined side high.now.value low.now.value tree.value) }
+    ensures joined { IfOk result (λ tree. IsJoinedTree side high.now.value low.now.value tree.value) }
     ensures steps { steps.new ≤ steps.old + 6 * (high.now.value.height - low.now.value.height) + 1 }
 {
     if Node::height(high) <= Node::height(low) + 1 {
@@ -127,7 +127,7 @@ pub(crate) fn split<L: Ledger>(
 ) -> Result<(Rc<Node>, Rc<Node>), Memory>
     requires some { 0 < i }
     requires inside { i < length tree.now.value.items }
-    ensures cut { IfOk result (λ parts. IsCut tree.now.value i parts.0.value parts.1.value) }
+    ensures cut { IfOk result (λ parts. IsCutTree tree.now.value i parts.0.value parts.1.value) }
     ensures steps { IfOk result (λ parts. steps.new ≤ steps.old + 8 * tree.now.value.height + 6 * parts.0.value.height
         + 6 * parts.1.value.height) }
     ensures steps_of_refusal { OnErr result (steps.new ≤ steps.old + 20 * tree.now.value.height) }
@@ -162,7 +162,7 @@ pub(crate) fn piece<L: Ledger>(
 ) -> Result<Rc<Node>, Memory>
     requires some { 0 < i }
     requires inside { i < length tree.now.value.items }
-    ensures piece { IfOk result (λ piece. IsPiece kept tree.now.value i piece.value) }
+    ensures piece { IfOk result (λ piece. IsKeptPart kept tree.now.value i piece.value) }
     ensures steps { IfOk result (λ piece. steps.new ≤ steps.old + 8 * tree.now.value.height + 6 * piece.value.height) }
     ensures steps_of_refusal { OnErr result (steps.new ≤ steps.old + 14 * tree.now.value.height) }
 {
@@ -229,7 +229,7 @@ pub(crate) fn insert<L: Ledger>(
     requires inside { i ≤ length tree.now.value.items }
     requires short { length tree.now.value.items + 1 < 2 ^ 31 }
     ensures items { IfOk result (λ new. new.value.items ≡ insert tree.now.value.items i value) }
-    ensures height { IfOk result (λ new. IsGrown tree.now.value.height new.value.height) }
+    ensures height { IfOk result (λ new. IsGrownHeight tree.now.value.height new.value.height) }
     ensures steps { steps.new ≤ steps.old + 6 * tree.now.value.height + 3 }
 {
     let Some(

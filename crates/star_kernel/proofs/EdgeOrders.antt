@@ -5,7 +5,7 @@ use Rattle.std.proofs.lemmas.List.Elements.{All-from_get_or, All-get_or, Contain
 use Rattle.std.proofs.lemmas.List.Sorted.{All-permutation, Contains-permutation, length_permutation}
 use Rattle.std.specs.List.{All}
 use Rattle.std.specs.Prelude.{IsPermutation}
-use Rattle.star_kernel.specs.HalfPlanes.{AreAllEdges, AreEdges, number_at}
+use Rattle.star_kernel.specs.HalfPlanes.{AreAllEdges, AreEdges, edge_number_at}
 use Rattle.star_kernel.specs.declared.directions.Edge.{Edge}
 
 -- an edge beside those of a list
@@ -39,7 +39,7 @@ module _ (n : ℕ) (edges moved : List Edge) (are : AreEdges n edges) (is_moved 
 
 -- an edge that is read from them
 pub read_edge : (n : ℕ) (edges : List Edge) → AreAllEdges n edges → (i : ℕ) → i < length edges → (edge : Edge) → edge ≡ get_or edges i edge
-    → (edge.number ≡ number_at edges i) × (edge.number < n)
+    → (edge.number ≡ edge_number_at edges i) × (edge.number < n)
 read_edge n edges are i within edge is =
-    let same : edge.number ≡ number_at edges i = ap (λ (e : Edge). e.number) (get_or_read edges i edge within is none) in
+    let same : edge.number ≡ edge_number_at edges i = ap (λ (e : Edge). e.number) (get_or_read edges i edge within is none) in
     (same, subst (λ k. k < n) (sym same) (are.within i (omega (arith, within, are.as_many))))

@@ -12,7 +12,7 @@ use Rattle.rings.specs.Orientation.{IsCounterclockwise}
 use Rattle.rings.specs.Ring.{vertex}
 use Rattle.rings.specs.Simple.{IsSimple}
 use Rattle.ring_laws.proofs.Kernels.{kernel_law, right_of_none_in_square}
-use Rattle.star_kernel.specs.HalfPlanes.{AreAllEdges, IsLeftOfFirst, number_at}
+use Rattle.star_kernel.specs.HalfPlanes.{AreAllEdges, IsLeftOfFirst, edge_number_at}
 use Rattle.star_kernel.specs.declared.directions.Edge.{Edge}
 
 -- a corner list of one set is that of another with the same points
@@ -31,8 +31,8 @@ pub next_vertex : (ring : List Point) (k n : ℕ) → n ≡ length ring → vert
 next_vertex ring k n e = ap (λ m. vertex ring ((k + 1) % m)) e ∙ vertex_mod ring (k + 1)
 
 -- edge k of the list cuts what the edges before it left
-pub one_more : (ring : List Point) (edges : List Edge) (k : ℕ) (from to : Point) → from ≡ vertex ring (number_at edges k)
-    → to ≡ vertex ring (number_at edges k + 1) → (corners rest : List Triple) → IsCornerList (IsLeftOfFirst ring edges k) corners
+pub one_more : (ring : List Point) (edges : List Edge) (k : ℕ) (from to : Point) → from ≡ vertex ring (edge_number_at edges k)
+    → to ≡ vertex ring (edge_number_at edges k + 1) → (corners rest : List Triple) → IsCornerList (IsLeftOfFirst ring edges k) corners
     → IsCornerList (IsUncut (whole from) (whole to) corners) rest → IsCornerList (IsLeftOfFirst ring edges (k + 1)) rest
 one_more ring edges k from to is_from is_to corners rest list = corners_with (IsUncut (whole from) (whole to) corners)
     (IsLeftOfFirst ring edges (k + 1))
@@ -47,7 +47,7 @@ one_more ring edges k from to is_from is_to corners rest list = corners_with (Is
     )) rest
   where
     is_right : ℕ → Triple → Type 0
-    is_right i p = IsRight (whole (vertex ring (number_at edges i))) (whole (vertex ring (number_at edges i + 1))) p
+    is_right i p = IsRight (whole (vertex ring (edge_number_at edges i))) (whole (vertex ring (edge_number_at edges i + 1))) p
 
     more : (p : Triple) → ((i : ℕ) → i < k → ¬ is_right i p) → ¬ is_right k p → (i : ℕ) → i < k + 1 → ¬ is_right i p
     more p before last i below right = elim (cases_lt i k) [
@@ -75,11 +75,11 @@ module _ (ring : List Point) (three : 3 ≤ length ring) (simple : IsSimple ring
           λ h. (kernel_law ring three simple way p at_p).1 (λ k below. at_edge p k (are.all k below) h.1),
           λ h.
               let none = (kernel_law ring three simple way p at_p).0 h in
-              (right_of_none_in_square ring three simple way bounds p at_p none, λ i below. none (number_at edges i) (are.within i below)),
+              (right_of_none_in_square ring three simple way bounds p at_p none, λ i below. none (edge_number_at edges i) (are.within i below)),
         ))
       where
-        at_edge : (p : Triple) (k : ℕ) → (i : ℕ) × ((i < length ring) × (number_at edges i ≡ k))
-            → ((i : ℕ) → i < length ring → ¬ IsRight (whole (vertex ring (number_at edges i))) (whole (vertex ring (number_at edges i + 1))) p)
+        at_edge : (p : Triple) (k : ℕ) → (i : ℕ) × ((i < length ring) × (edge_number_at edges i ≡ k))
+            → ((i : ℕ) → i < length ring → ¬ IsRight (whole (vertex ring (edge_number_at edges i))) (whole (vertex ring (edge_number_at edges i + 1))) p)
             → ¬ IsRight (whole (vertex ring k)) (whole (vertex ring (k + 1))) p
         at_edge p k found none =
             subst (λ (j : ℕ). ¬ IsRight (whole (vertex ring j)) (whole (vertex ring (j + 1))) p) found.1.1 (none found.0 found.1.0)

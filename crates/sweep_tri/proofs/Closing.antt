@@ -6,7 +6,7 @@ use Rattle.meshes.specs.declared.tri.Tri.{Tri}
 use Rattle.mono_fill.specs.Filled.{IsFilled}
 use Rattle.sweep_tri.proofs.Balance.{filled-append}
 use Rattle.sweep_tri.specs.Meeting.{AreFilled, at_edge, closed_at, with_vertex}
-use Rattle.mono_fill.specs.Sides.{opposite}
+use Rattle.mono_fill.specs.Sides.{other_chain_side}
 use Rattle.mono_fill.specs.declared.side.Side.{Side}
 use Rattle.sweep_tri.specs.Region.{Chains, boundary}
 
@@ -16,7 +16,7 @@ only_one P c all = all 0 c (omega arith)
 
 -- of two regions the one at the edge that ends
 pub closed_one : (P : Chains → Type 0) (side : Side) (low : Chains) (high : Option Chains) (h : Chains) (v : ℕ) → high ≡ Some h
-    → All P (closed_at side low high v) → P (with_vertex (opposite side) (at_edge side low h) v)
+    → All P (closed_at side low high v) → P (with_vertex (other_chain_side side) (at_edge side low h) v)
 closed_one P side low high h v is all = only_one P _ (subst (λ o. All P (closed_at side low o v)) is all)
 
 -- of the first regions, and of the last

@@ -16,7 +16,7 @@ use Rattle.exact_plane.specs.declared.turns.Spot.TheVariants.{Corner}
 use Rattle.shared_seq.proofs.Digits.{binary_digits_mono}
 use Rattle.shared_seq.specs.Digits.{binary_digits}
 use Rattle.sweep_tri.proofs.Swept.{low_region}
-use Rattle.sweep_tri.specs.Frontier.{IsAbove, IsPlace}
+use Rattle.sweep_tri.specs.Frontier.{IsAbove, IsGapPlace}
 use Rattle.sweep_tri.specs.Gaps.{gap_at, low_front}
 use Rattle.sweep_tri.specs.Open.{IsOpenGap}
 use Rattle.sweep_tri.specs.Region.{IsRegion}
@@ -70,7 +70,7 @@ module _ (corners : List Point) (gaps : List Gap) (v : ℕ) where
     }
 
   -- and where one place is left, it is the one
-  pub search_ends : (low high : ℕ) → IsBetween corners gaps v low high → high ≤ low → IsPlace corners gaps v low
+  pub search_ends : (low high : ℕ) → IsBetween corners gaps v low high → high ≤ low → IsGapPlace corners gaps v low
   search_ends low high is one = record {
     inside = omega (arith, is.ordered, is.inside);
     above = is.above;

@@ -9,7 +9,7 @@ use Rattle.std.proofs.lemmas.List.Elements.{All-append, All-cons, All-drop, All-
 use Rattle.std.specs.List.{All, insert, remove}
 use Rattle.std.specs.Prelude.{drop, slice_index, slice_index_or, slice_set, take}
 use Rattle.sweep_tri.specs.Gaps.{gap_at}
-use Rattle.sweep_tri.specs.Slots.{AreNumbers, AreSlots, gaps_of}
+use Rattle.sweep_tri.specs.Slots.{AreSlotNumbers, AreSlots, gaps_of}
 use Rattle.sweep_tri.specs.declared.gap.Gap.{Gap}
 
 -- as many gaps as numbers
@@ -31,7 +31,7 @@ same_gaps slots others numbers same = same_lists (gaps_of slots numbers) (gaps_o
     let within : k < length numbers = omega (arith, less, gaps_count slots numbers) in
     get_or-map (gap_at slots) numbers k 0 d within ∙ same k within ∙ sym (get_or-map (gap_at others) numbers k 0 d within))
 
-module _ (slots : List Gap) (numbers : List ℕ) (are : AreNumbers slots numbers) where
+module _ (slots : List Gap) (numbers : List ℕ) (are : AreSlotNumbers slots numbers) where
   -- numbers at different places differ
   differ : (i j : ℕ) → i < length numbers → j < length numbers → i ≢ j → slice_index numbers i ≢ slice_index numbers j
   differ i j i_within j_within other = elim (cases_order i j) [
@@ -46,7 +46,7 @@ module _ (slots : List Gap) (numbers : List ℕ) (are : AreNumbers slots numbers
 
   module _ (j : ℕ) (within : j < length numbers) (g : Gap) where
     -- the numbers are still those of slots,
-    pub numbers_replaced : AreNumbers (slice_set slots (slice_index numbers j) g) numbers
+    pub numbers_replaced : AreSlotNumbers (slice_set slots (slice_index numbers j) g) numbers
     numbers_replaced = record {
       below = λ k d less. subst (λ n. slice_index_or numbers k d < n) (sym (length-set slots (slice_index numbers j) g)) (are.below k d less);
       apart = are.apart;
@@ -76,7 +76,7 @@ module _ (slots : List Gap) (numbers : List ℕ) (are : AreNumbers slots numbers
 
   module _ (j : ℕ) (within : j ≤ length numbers) (s : ℕ) (other : All (λ n. n ≢ s) numbers) (new_slots : List Gap) where
     -- the numbers are those of slots,
-    pub numbers_inserted : length slots ≤ length new_slots → s < length new_slots → AreNumbers new_slots (insert numbers j s)
+    pub numbers_inserted : length slots ≤ length new_slots → s < length new_slots → AreSlotNumbers new_slots (insert numbers j s)
     numbers_inserted more_slots s_below =
         let new : List ℕ = insert numbers j s in
         let count : length new ≡ length numbers + 1 = length-insert numbers j s within in
@@ -152,14 +152,14 @@ module _ (slots : List Gap) (numbers : List ℕ) (are : AreNumbers slots numbers
 
   module _ (j : ℕ) (within : j < length numbers) (g : Gap) where
     -- the numbers are still those of slots,
-    pub numbers_removed : AreNumbers (slice_set slots (slice_index numbers j) g) (remove numbers j)
+    pub numbers_removed : AreSlotNumbers (slice_set slots (slice_index numbers j) g) (remove numbers j)
     numbers_removed =
         let rest : List ℕ = remove numbers j in
         let count : length rest + 1 ≡ length numbers = length-remove numbers j within in
         let before : (k : ℕ) → k < j → slice_index rest k ≡ slice_index numbers k = λ k less. get_or-remove_below numbers j 0 k less within in
         let after : (k : ℕ) → j ≤ k → slice_index rest k ≡ slice_index numbers (k + 1)
         = λ k more. get_or-remove_above numbers j 0 k more within in
-        let old : AreNumbers (slice_set slots (slice_index numbers j) g) numbers = numbers_replaced j within g in
+        let old : AreSlotNumbers (slice_set slots (slice_index numbers j) g) numbers = numbers_replaced j within g in
         record {
           below = λ k d less. subst (λ n. n < length (slice_set slots (slice_index numbers j) g)) (get_or_default rest k 0 d less) (
               elim (cases_lt k j) [
@@ -191,7 +191,7 @@ module _ (slots : List Gap) (numbers : List ℕ) (are : AreNumbers slots numbers
 -- ---- with the free slots
 
 -- numbers are those of slots where there are as many, or more
-numbers_of_more : (slots others : List Gap) (numbers : List ℕ) → length slots ≤ length others → AreNumbers slots numbers → AreNumbers others numbers
+numbers_of_more : (slots others : List Gap) (numbers : List ℕ) → length slots ≤ length others → AreSlotNumbers slots numbers → AreSlotNumbers others numbers
 numbers_of_more slots others numbers more are = record { below = λ k d less. omega (arith, are.below k d less, more); apart = are.apart }
 
 -- there is no slot at first

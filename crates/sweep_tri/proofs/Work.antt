@@ -6,7 +6,7 @@ use Rattle.std.specs.List.{insert, remove}
 use Rattle.shared_seq.proofs.Digits.{binary_digits_mono}
 use Rattle.shared_seq.specs.Digits.{binary_digits}
 use Rattle.sweep_tri.proofs.Entries.{entries_inserted, entries_met, entries_replaced, entries_split, entries_within}
-use Rattle.sweep_tri.specs.Entries.{IsPaid, IsWithin, entries, entries_of_all, event_work, gap_entries, status_entries}
+use Rattle.sweep_tri.specs.Entries.{IsPaid, IsWithinAccount, entries, entries_of_all, event_work, gap_entries, status_entries}
 use Rattle.sweep_tri.specs.Gaps.{gap_at, no_gap}
 use Rattle.sweep_tri.specs.Meeting.{closed_at, gap_of, left_at, region_from, split_above, split_below}
 use Rattle.sweep_tri.specs.Region.{Chains}
@@ -78,7 +78,7 @@ module _ (gaps : List Gap) (j : ℕ) (s0 : ℕ) where
       cost : let g = gap_at gaps j in entries_of_all (closed_at side g.low g.high v) + entries (left_at side g.low g.high v) ≤ gap_entries g + 2
       cost = let g = gap_at gaps j in entries_met side g.low g.high v
 
-      pub meets_work : IsWithin gaps work s0 s2
+      pub meets_work : IsWithinAccount gaps work s0 s2
       meets_work = omega (arith, enough, first, met, cost, entries_within gaps j within)
 
       pub meets_paid : (new : List Gap) → status_entries new + gap_entries (gap_at gaps j) ≡ status_entries gaps

@@ -39,8 +39,8 @@ abbrev pub meet_last_work : List Gap → ℕ
 meet_last_work gaps = 42 * binary_digits (length gaps) + 57
 
 -- the steps s after an event that began at s_old are paid for by the entries of the gaps that were there, eight for each, and some more
-abbrev pub IsWithin : List Gap → ℕ → ℕ → ℕ → Type 0
-IsWithin old more s_old s = s ≤ s_old + 8 * status_entries old + more
+abbrev pub IsWithinAccount : List Gap → ℕ → ℕ → ℕ → Type 0
+IsWithinAccount old more s_old s = s ≤ s_old + 8 * status_entries old + more
 
 -- and by those that are gone
 abbrev pub IsPaid : List Gap → List Gap → ℕ → ℕ → ℕ → Type 0

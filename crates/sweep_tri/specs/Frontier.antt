@@ -37,7 +37,7 @@ abbrev pub IsUnder : List Point → Front → ℕ → Type 0
 IsUnder corners f v = let e = front_edge corners f in IsRight (whole e.from) (whole e.to) (whole (vertex corners v))
 
 -- the place of vertex v: it is above the lower edges of the gaps before it, and of no other
-pub record IsPlace (corners : List Point) (gaps : List Gap) (v place : ℕ) : Type 0 where
+pub record IsGapPlace (corners : List Point) (gaps : List Gap) (v place : ℕ) : Type 0 where
   pub inside : place ≤ length gaps
   pub above : (j : ℕ) → j < place → IsAbove corners (low_front (gap_at gaps j)) v
   pub not_above : (j : ℕ) → place ≤ j → j < length gaps → ¬ IsAbove corners (low_front (gap_at gaps j)) v

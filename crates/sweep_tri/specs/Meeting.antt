@@ -2,7 +2,7 @@
 use Rattle.std.specs.Prelude.{◌≡◌, ℕ, ◌-◌, nat_lt, if◌then◌else◌, Option, Some, None, List, [], ◌∷◌, ◌++◌, length, slice_index, take}
 use Rattle.plane.specs.Point.{Point}
 use Rattle.mono_fill.specs.Filled.{IsFilled}
-use Rattle.mono_fill.specs.Sides.{opposite}
+use Rattle.mono_fill.specs.Sides.{other_chain_side}
 use Rattle.mono_fill.specs.declared.side.Side.{Side}
 use Rattle.mono_fill.specs.declared.side.Side.TheVariants.{Lower, Upper}
 use Rattle.meshes.specs.declared.tri.Tri.{Tri}
@@ -23,12 +23,12 @@ at_edge Upper low high = high
 -- where the edge of a gap on this side ends at v: of two regions the one there is closed by a diagonal from the merge vertex to v
 abbrev pub closed_at : Side → Chains → Option Chains → ℕ → List Chains
 closed_at side low None v = []
-closed_at side low (Some high) v = with_vertex (opposite side) (at_edge side low high) v ∷ []
+closed_at side low (Some high) v = with_vertex (other_chain_side side) (at_edge side low high) v ∷ []
 
 -- and the other one stays open
 abbrev pub left_at : Side → Chains → Option Chains → ℕ → Chains
 left_at side low None v = low
-left_at side low (Some high) v = with_vertex side (at_edge (opposite side) low high) v
+left_at side low (Some high) v = with_vertex side (at_edge (other_chain_side side) low high) v
 
 -- the gap of one region
 abbrev pub gap_of : Chains → Gap

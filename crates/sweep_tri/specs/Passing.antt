@@ -32,7 +32,7 @@ pub record Begins (corners : List Point) (ranks : List ℕ) (f : Fork) : Type 0 
   pub left : TurnsLeft corners f.vertex f.below f.above
 
 -- one edge ends at v, and one goes on to w
-pub record GoesOn (ranks : List ℕ) (v w : ℕ) : Type 0 where
+pub record IsRegularVertex (ranks : List ℕ) (v w : ℕ) : Type 0 where
   pub from : ℕ
   pub beside : AreBeside (length ranks) v from w
   pub not_later : slice_index ranks from ≤ slice_index ranks v

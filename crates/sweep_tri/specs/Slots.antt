@@ -12,14 +12,14 @@ abbrev pub gaps_of : List Gap → List ℕ → List Gap
 gaps_of slots numbers = map (gap_at slots) numbers
 
 -- the numbers are those of slots, and no two are the same
-pub record AreNumbers (slots : List Gap) (numbers : List ℕ) : Type 0 where
+pub record AreSlotNumbers (slots : List Gap) (numbers : List ℕ) : Type 0 where
   pub below : All (λ i. i < length slots) numbers
   pub apart : (i j : ℕ) → i < j → j < length numbers → slice_index numbers i ≢ slice_index numbers j
 
 -- each slot has an open gap or is free
 pub record AreSlots (slots : List Gap) (numbers free : List ℕ) : Type 0 where
-  pub taken : AreNumbers slots numbers
-  pub left : AreNumbers slots free
+  pub taken : AreSlotNumbers slots numbers
+  pub left : AreSlotNumbers slots free
   pub apart : All (λ s. All (λ n. n ≢ s) numbers) free
   pub count : length slots ≡ length numbers + length free
 

@@ -2,9 +2,9 @@
 ghost use Rattle.std.specs.Prelude.{◌≡◌, ◌+◌, ◌*◌, ◌≤◌, ◌<◌, ◌↔◌, OnOk, IsTrue, [], length, slice_index};
 ghost use Rattle.rings.specs.Events.{next, previous};
 ghost use Rattle.shared_seq.specs.Digits.{binary_digits};
-ghost use Rattle.sweep_tri.specs.Entries.{IsPaid, IsWithin};
+ghost use Rattle.sweep_tri.specs.Entries.{IsPaid, IsWithinAccount};
 ghost use Rattle.sweep_tri.specs.Forks.{IsForkAt};
-ghost use Rattle.sweep_tri.specs.Frontier.{IsPlace, IsUnder};
+ghost use Rattle.sweep_tri.specs.Frontier.{IsGapPlace, IsUnder};
 ghost use Rattle.sweep_tri.specs.Gaps.{gap_at, highest, up_front};
 ghost use Rattle.sweep_tri.specs.Passing.{Begins, Finishes, IsNextEvent, placed_work};
 ghost use Rattle.sweep_tri.specs.Swept.{IsSwept};
@@ -53,7 +53,7 @@ impl Sweep {
     ) -> Result<(), Memory>
         requires next { IsNextEvent (T.corners board.now) rank.now self.old.status self.old.tris.items v }
         ensures swept { OnOk result (IsSwept (T.corners board.now) rank.now (slice_index rank.now v + 1) self.new.status self.new.tris.items) }
-        ensures work { IsWithin self.old.status (200 * binary_digits (length (T.corners board.now))) steps.old steps.new }
+        ensures work { IsWithinAccount self.old.status (200 * binary_digits (length (T.corners board.now))) steps.old steps.new }
         ensures paid { OnOk result (IsPaid self.old.status self.new.status (200 * binary_digits (length (T.corners board.now))) steps.old steps.new) }
     {
         let j = self.status.place(board, v, steps);
@@ -82,10 +82,10 @@ impl Sweep {
         steps: &mut Steps<L>,
     ) -> Result<(), Memory>
         requires next { IsNextEvent (T.corners board.now) rank.now self.old.status self.old.tris.items fork.vertex }
-        requires place { IsPlace (T.corners board.now) self.old.status fork.vertex j }
+        requires place { IsGapPlace (T.corners board.now) self.old.status fork.vertex j }
         requires begins { Begins (T.corners board.now) rank.now fork }
         ensures swept { OnOk result (IsSwept (T.corners board.now) rank.now (slice_index rank.now fork.vertex + 1) self.new.status self.new.tris.items) }
-        ensures work { IsWithin self.old.status (placed_work self.old.status) steps.old steps.new }
+        ensures work { IsWithinAccount self.old.status (placed_work self.old.status) steps.old steps.new }
         ensures paid { OnOk result (IsPaid self.old.status self.new.status (placed_work self.old.status) steps.old steps.new) }
     {
         if 0 < j && self.is_under(board, j - 1, fork.vertex, steps) {
@@ -106,10 +106,10 @@ impl Sweep {
         steps: &mut Steps<L>,
     ) -> Result<(), Memory>
         requires next { IsNextEvent (T.corners board.now) rank.now self.old.status self.old.tris.items v }
-        requires place { IsPlace (T.corners board.now) self.old.status v j }
+        requires place { IsGapPlace (T.corners board.now) self.old.status v j }
         requires finishes { Finishes rank.now v }
         ensures swept { OnOk result (IsSwept (T.corners board.now) rank.now (slice_index rank.now v + 1) self.new.status self.new.tris.items) }
-        ensures work { IsWithin self.old.status (placed_work self.old.status) steps.old steps.new }
+        ensures work { IsWithinAccount self.old.status (placed_work self.old.status) steps.old steps.new }
         ensures paid { OnOk result (IsPaid self.old.status self.new.status (placed_work self.old.status) steps.old steps.new) }
     {
         if self.status.get(j, steps).up_front().1 == v {

@@ -2,7 +2,7 @@
 ghost use Rattle.std.specs.Prelude.{◌≡◌, ◌+◌, ◌*◌, ◌-◌, ◌≤◌, ◌<◌, IfOk, OnOk, None, Some, [], ◌∷◌, ◌++◌, length, take};
 ghost use Rattle.std.specs.List.{All};
 ghost use Rattle.mono_fill.specs.Filled.{IsFilled};
-ghost use Rattle.mono_fill.specs.Sides.{opposite};
+ghost use Rattle.mono_fill.specs.Sides.{other_chain_side};
 ghost use Rattle.sweep_tri.specs.Entries.{entries, entries_of_all};
 ghost use Rattle.sweep_tri.specs.Gaps.{before_last, highest, last, low_front, no_gap, up_front};
 ghost use Rattle.sweep_tri.specs.Meeting.{AreFilled, above_latest, at_edge, below_latest, closed_at, gap_of, left_at, region_from, split_above, split_below, with_vertex};
@@ -277,7 +277,7 @@ fn part(mut low: Region, mut high: Region, fork: Fork) -> Result<(Region, Region
 // Of the two regions of a gap the one at its edge on this side, and the other one.
 fn ordered(side: Side, low: Region, high: Region) -> (Region, Region)
     ensures at { result.0 ≡ at_edge side low high }
-    ensures other { result.1 ≡ at_edge (opposite side) low high }
+    ensures other { result.1 ≡ at_edge (other_chain_side side) low high }
 {
     match side {
         Side::Lower => (low, high),

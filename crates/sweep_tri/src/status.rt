@@ -2,7 +2,7 @@
 ghost use Rattle.std.specs.List.{insert, remove};
 ghost use Rattle.std.specs.Prelude.{◌≡◌, ◌+◌, ◌*◌, ◌^◌, ◌<◌, ◌≤◌, ◌↔◌, IfOk, IsTrue, OnOk, [], length, slice_set};
 ghost use Rattle.shared_seq.specs.Digits.{binary_digits};
-ghost use Rattle.sweep_tri.specs.Frontier.{IsAbove, IsPlace};
+ghost use Rattle.sweep_tri.specs.Frontier.{IsAbove, IsGapPlace};
 ghost use Rattle.sweep_tri.specs.Gaps.{gap_at, low_front};
 ghost use Rattle.sweep_tri.specs.Slots.{AreSortedBy, HaveLowFronts};
 
@@ -133,7 +133,7 @@ impl Status {
         requires v { v < length (T.corners board.now) }
         requires fronts { HaveLowFronts (T.corners board.now) self.now }
         requires sorted { AreSortedBy (T.corners board.now) self.now v }
-        ensures place { IsPlace (T.corners board.now) self.now v result }
+        ensures place { IsGapPlace (T.corners board.now) self.now v result }
         ensures steps { let b = binary_digits (length self.now) in steps.new ≤ steps.old + b * (2 * b + 2) }
     {
         let mut low = 0;

@@ -5,7 +5,7 @@ use Rattle.plane.specs.Point.{Point}
 use Rattle.rings.specs.Chain.{IsBentChain, IsTaut, point_at}
 use Rattle.rings.specs.Simple.{IsSimple}
 use Rattle.funnels.proofs.OneChain.{taut_iff_bent}
-use Rattle.taut_check.specs.Found.{IsSound, place_of}
+use Rattle.taut_check.specs.Found.{IsSound, verdict_place}
 use Rattle.taut_check.specs.Verdict.{IsBroken, IsFirstRule, IsLeastBroken, IsUnbroken, IsVerdict}
 use Rattle.taut_check.specs.declared.verdict.Verdict.{Verdict}
 use Rattle.taut_check.specs.declared.verdict.Verdict.TheVariants as verdict
@@ -30,7 +30,7 @@ module _ (ring points : List Point) where
   }
 
   -- a first rule is a broken one
-  broken_of_first : (found : Verdict) → IsFirstRule ring points found → IsBroken ring points (place_of found)
+  broken_of_first : (found : Verdict) → IsFirstRule ring points found → IsBroken ring points (verdict_place found)
   broken_of_first verdict.Empty h = absurd h
   broken_of_first verdict.Taut h = absurd h
   broken_of_first (verdict.Repeat k) h = inl h
@@ -40,7 +40,7 @@ module _ (ring points : List Point) where
   broken_of_first (verdict.WrongSide k) h = inr (inr (inr (inr h.4)))
 
   -- a first rule at the least place is the verdict
-  verdict_of_first : (found : Verdict) → IsLeastBroken ring points (place_of found) → IsFirstRule ring points found → IsVerdict ring points found
+  verdict_of_first : (found : Verdict) → IsLeastBroken ring points (verdict_place found) → IsFirstRule ring points found → IsVerdict ring points found
   verdict_of_first verdict.Empty least h = absurd h
   verdict_of_first verdict.Taut least h = absurd h
   verdict_of_first (verdict.Repeat k) least h = (least, h)
@@ -59,7 +59,7 @@ module _ (ring points : List Point) where
   first_not_taut (verdict.Straight k) h e = cc
   first_not_taut (verdict.WrongSide k) h e = cc
 
-  module _ (k : ℕ) (below : k < length points) (found : Verdict) (place : place_of found ≡ k) (first : IsFirstRule ring points found) where
+  module _ (k : ℕ) (below : k < length points) (found : Verdict) (place : verdict_place found ≡ k) (first : IsFirstRule ring points found) where
     -- what was found at a place, where the rules are kept before it, is the verdict
     pub verdict_found : ((l : ℕ) → l < k → IsSound ring points l) → IsVerdict ring points found
     verdict_found sound = verdict_of_first found (record {

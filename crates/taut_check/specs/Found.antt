@@ -21,16 +21,16 @@ pub record IsSound (ring : List Point) (points : List Point) (k : ℕ) : Type 0 
   pub bend : IsSoundBend ring points k
 
 -- the place that a verdict names, and 0 where it names none
-abbrev pub place_of : Verdict → ℕ
-place_of verdict.Empty = 0
-place_of verdict.Taut = 0
-place_of (verdict.Repeat k) = k
-place_of (verdict.Leaves k) = k
-place_of (verdict.NotReflex k) = k
-place_of (verdict.Straight k) = k
-place_of (verdict.WrongSide k) = k
+abbrev pub verdict_place : Verdict → ℕ
+verdict_place verdict.Empty = 0
+verdict_place verdict.Taut = 0
+verdict_place (verdict.Repeat k) = k
+verdict_place (verdict.Leaves k) = k
+verdict_place (verdict.NotReflex k) = k
+verdict_place (verdict.Straight k) = k
+verdict_place (verdict.WrongSide k) = k
 
 -- the first broken rule at place k was found, or none is broken
 abbrev pub IsFoundAt : List Point → List Point → ℕ → Option Verdict → Type 0
 IsFoundAt ring points k None = IsSound ring points k
-IsFoundAt ring points k (Some found) = (place_of found ≡ k) × IsFirstRule ring points found
+IsFoundAt ring points k (Some found) = (verdict_place found ≡ k) × IsFirstRule ring points found

@@ -17,13 +17,13 @@ pub record IsRepeat (points : List Point) (k : ℕ) : Type 0 where
   pub same : point_at points k ≡ point_at points (k + 1)
 
 -- the point at place k doesn't see the next
-pub record IsUnseen (ring : List Point) (points : List Point) (k : ℕ) : Type 0 where
+pub record IsNextUnseen (ring : List Point) (points : List Point) (k : ℕ) : Type 0 where
   pub not_last : k + 1 < length points
   pub unseen : ¬ Sees ring (whole (point_at points k)) (whole (point_at points (k + 1)))
 
 -- the point at place k isn't in the ring, or doesn't see the next
 abbrev pub IsLeaving : List Point → List Point → ℕ → Type 0
-IsLeaving ring points k = (¬ IsIn ring (whole (point_at points k))) ⊎ IsUnseen ring points k
+IsLeaving ring points k = (¬ IsIn ring (whole (point_at points k))) ⊎ IsNextUnseen ring points k
 
 -- an inner point is no reflex vertex
 pub record IsNotReflex (ring : List Point) (points : List Point) (k : ℕ) : Type 0 where

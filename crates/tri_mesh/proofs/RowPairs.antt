@@ -8,7 +8,7 @@ use Rattle.meshes.specs.Mesh.{side_begin, side_end}
 use Rattle.meshes.specs.Side.{HasSide, HasSidesOnce, tri_at}
 use Rattle.meshes.specs.declared.tri.Tri.{Tri}
 use Rattle.tri_mesh.proofs.Neighbours.{has_side_numbered}
-use Rattle.tri_mesh.specs.Neighbours.{AreFilled, AreShared, HasOwner, IsAcross, IsSideOf, owner_at, rows_with, side_at}
+use Rattle.tri_mesh.specs.Neighbours.{AreNeighbourRows, AreShared, HasOwner, IsAcross, IsSideOfSome, owner_at, rows_with, side_at}
 use Rattle.tri_mesh.specs.declared.sides.Side.{Side}
 use Rattle.tri_mesh.proofs.RowSteps.{has_owner_here, has_owner_kept, owner_cases, with_three}
 
@@ -34,7 +34,7 @@ shared_or_not s t = elim (cases_eq s.low t.low) [
 
 module _ (tris : List Tri) (once : HasSidesOnce tris) where
   -- where two triangles have a side between the same corners, they are on both sides of it
-  across_shared : (s t : Side) → IsSideOf tris s → IsSideOf tris t → AreShared s t → IsAcross tris s.tri s.number t.tri
+  across_shared : (s t : Side) → IsSideOfSome tris s → IsSideOfSome tris t → AreShared s t → IsAcross tris s.tri s.number t.tri
   across_shared s t s_is t_is shared =
       let a = side_begin (tri_at tris s.tri) s.number in
       let b = side_end (tri_at tris s.tri) s.number in
@@ -49,8 +49,8 @@ module _ (tris : List Tri) (once : HasSidesOnce tris) where
         | inr back ↦ (t_is.in_list, rw (← back.0, ← back.1) at has_t)
       ]
 
-  module _ (sides : List Side) (each : All (IsSideOf tris) sides) (p q : ℕ) (next : p + 1 ≡ q) (in_list : q < length sides)
-      (rows : List (List (Option ℕ))) (before : AreFilled tris sides q rows) where
+  module _ (sides : List Side) (each : All (IsSideOfSome tris) sides) (p q : ℕ) (next : p + 1 ≡ q) (in_list : q < length sides)
+      (rows : List (List (Option ℕ))) (before : AreNeighbourRows tris sides q rows) where
     abbrev s : Side
     s = side_at sides p
 
@@ -64,10 +64,10 @@ module _ (tris : List Tri) (once : HasSidesOnce tris) where
     after_both = rows_with after_first t s.tri
 
     -- both are sides of triangles of the list, which have their rows
-    s_is : IsSideOf tris s
+    s_is : IsSideOfSome tris s
     s_is = each p _ (omega arith)
 
-    t_is : IsSideOf tris t
+    t_is : IsSideOfSome tris t
     t_is = each q _ in_list
 
     s_row : s.tri < length rows
@@ -107,7 +107,7 @@ module _ (tris : List Tri) (once : HasSidesOnce tris) where
       second_has : HasOwner after_both t
       second_has = has_owner_here after_first t s.tri t_row t_is.in_row three_first
 
-      filled_shared : AreFilled tris sides (q + 1) after_both
+      filled_shared : AreNeighbourRows tris sides (q + 1) after_both
       filled_shared = record {
         count = length-set after_first t.tri _ ∙ length-set rows s.tri _ ∙ before.count;
         three = with_three after_first t s.tri t_row t_is.in_row three_first;
@@ -120,7 +120,7 @@ module _ (tris : List Tri) (once : HasSidesOnce tris) where
       }
 
     -- where they are not, nothing changes
-    filled_apart : ¬ AreShared s t → AreFilled tris sides (q + 1) rows
+    filled_apart : ¬ AreShared s t → AreNeighbourRows tris sides (q + 1) rows
     filled_apart apart = record {
       count = before.count;
       three = before.three;
@@ -133,7 +133,7 @@ module _ (tris : List Tri) (once : HasSidesOnce tris) where
 
     -- with the two sides next to each other
     pub filled_more : (after : List (List (Option ℕ))) → (AreShared s t → after ≡ after_both) → (¬ AreShared s t → after ≡ rows)
-        → AreFilled tris sides (q + 1) after
+        → AreNeighbourRows tris sides (q + 1) after
     filled_more after linked kept = elim (shared_or_not s t) [
       | inl shared ↦ rw (linked shared) (filled_shared shared)
       | inr apart ↦ rw (kept apart) (filled_apart apart)

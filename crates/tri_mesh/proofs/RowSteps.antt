@@ -7,7 +7,7 @@ use Rattle.std.proofs.lemmas.List.Elements.{All-set}
 use Rattle.std.specs.List.{All}
 use Rattle.std.specs.Prelude.{Option, slice_index_or, slice_set}
 use Rattle.meshes.specs.declared.tri.Tri.{Tri}
-use Rattle.tri_mesh.specs.Neighbours.{AreFilled, HasOwner, empty_row, owner_at, rows_with}
+use Rattle.tri_mesh.specs.Neighbours.{AreNeighbourRows, HasOwner, empty_row, owner_at, rows_with}
 use Rattle.tri_mesh.specs.declared.sides.Side.{Side}
 
 -- no row has a triangle yet
@@ -24,7 +24,7 @@ none_at n k number = elim (cases_lt k n) [
 ]
 
 -- at first
-pub not_filled : (tris : List Tri) (sides : List Side) → AreFilled tris sides 1 (replicate (length tris) empty_row)
+pub not_filled : (tris : List Tri) (sides : List Side) → AreNeighbourRows tris sides 1 (replicate (length tris) empty_row)
 not_filled tris sides = record {
   count = length-replicate (length tris) empty_row;
   three = λ k d below. rw (get_or-replicate (length tris) k empty_row d (omega (arith, length-replicate (length tris) empty_row))) refl;

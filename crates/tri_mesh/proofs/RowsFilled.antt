@@ -9,7 +9,7 @@ use Rattle.meshes.specs.Side.{HasSide, HasSidesOnce, tri_at}
 use Rattle.meshes.specs.declared.tri.Tri.{Tri}
 use Rattle.tri_mesh.proofs.Neighbours.{has_side_numbered}
 use Rattle.tri_mesh.proofs.SideOrder.{HaveSameCorners, changes_at, same_between, side_cmp}
-use Rattle.tri_mesh.specs.Neighbours.{AreFilled, AreRowsOf, AreShared, HasOwner, HasSidesOf, IsSideOf, side_at, side_of}
+use Rattle.tri_mesh.specs.Neighbours.{AreNeighbourRows, AreRowsOf, AreShared, HasOwner, HasSidesOf, IsSideOfSome, side_at, side_of}
 use Rattle.tri_mesh.specs.declared.sides.Side.{Side}
 
 -- the number of a side
@@ -53,7 +53,7 @@ module _ (tris : List Tri) (once : HasSidesOnce tris) where
       m n m_below n_below low high
 
   module _ (sides : List Side) (has : HasSidesOf tris (length tris) sides) (sorted : IsSorted side_cmp sides)
-      (rows : List (List (Option ℕ))) (seen : ℕ) (all : length sides ≤ seen) (filled : AreFilled tris sides seen rows)
+      (rows : List (List (Option ℕ))) (seen : ℕ) (all : length sides ≤ seen) (filled : AreNeighbourRows tris sides seen rows)
       (k number : ℕ) (in_list : k < length tris) (in_row : number < 3) where
     abbrev here : Side
     here = side_of tris k number
@@ -66,7 +66,7 @@ module _ (tris : List Tri) (once : HasSidesOnce tris) where
     owner_from : (p : ℕ) → p < length sides → HaveSameCorners (side_at sides p) here → is_of p ≡ true → HasOwner rows (side_at sides p)
         → HasOwner rows here
     owner_from p below same mine owner =
-        let is : IsSideOf tris (side_at sides p) = has.each p _ below in
+        let is : IsSideOfSome tris (side_at sides p) = has.each p _ below in
         let tri : (side_at sides p).tri ≡ k = eqb-true _ _ mine in
         let low : (side_of tris k (side_at sides p).number).low ≡ here.low = rw tri at (sym (ap (λ s. s.low) is.is) ∙ same.0) in
         let high : (side_of tris k (side_at sides p).number).high ≡ here.high = rw tri at (sym (ap (λ s. s.high) is.is) ∙ same.1) in
@@ -132,7 +132,7 @@ module _ (tris : List Tri) (once : HasSidesOnce tris) where
 
   -- the rows are right
   pub rows_right : (sides : List Side) → HasSidesOf tris (length tris) sides → IsSorted side_cmp sides → (rows : List (List (Option ℕ))) (seen : ℕ)
-      → length sides ≤ seen → AreFilled tris sides seen rows → AreRowsOf tris rows
+      → length sides ≤ seen → AreNeighbourRows tris sides seen rows → AreRowsOf tris rows
   rows_right sides has sorted rows seen all filled = record {
     across = λ i number below in_row. record {
       some = λ k is. filled.right i number k is;

@@ -6,12 +6,12 @@ use Rattle.std.proofs.lemmas.List.Sorted.{All-permutation, Contains-permutation}
 use Rattle.std.specs.List.{Contains}
 use Rattle.std.specs.Prelude.{IsPermutation, slice_index_or}
 use Rattle.meshes.specs.declared.tri.Tri.{Tri}
-use Rattle.tri_mesh.specs.Neighbours.{HasSidesOf, IsSideOf, side_of}
+use Rattle.tri_mesh.specs.Neighbours.{HasSidesOf, IsSideOfSome, side_of}
 use Rattle.tri_mesh.specs.declared.sides.Side.{Side}
 
 -- of no triangle
 pub no_sides : (tris : List Tri) → HasSidesOf tris 0 []
-no_sides tris = record { each = All-nil (IsSideOf tris); all = λ k number below in_row. absurd (omega arith) }
+no_sides tris = record { each = All-nil (IsSideOfSome tris); all = λ k number below in_row. absurd (omega arith) }
 
 -- the list with the sides of triangle k
 abbrev pub sides_with : List Tri → ℕ → List Side → List Side
@@ -25,7 +25,7 @@ module _ (tris : List Tri) (k : ℕ) (sides : List Side) (in_list : k < length t
   two = one ++ side_of tris k 1 ∷ []
 
   -- each is one of a triangle
-  is_side : (number : ℕ) → number < 3 → IsSideOf tris (side_of tris k number)
+  is_side : (number : ℕ) → number < 3 → IsSideOfSome tris (side_of tris k number)
   is_side number in_row = record { in_list = in_list; in_row = in_row; is = refl }
 
   -- all three are there
@@ -46,10 +46,10 @@ module _ (tris : List Tri) (k : ℕ) (sides : List Side) (in_list : k < length t
 
   pub sides_more : HasSidesOf tris (k + 1) (sides_with tris k sides)
   sides_more =
-      let first = All-push (IsSideOf tris) sides (side_of tris k 0) before.each (is_side 0 (omega arith)) in
-      let second = All-push (IsSideOf tris) one (side_of tris k 1) first (is_side 1 (omega arith)) in
+      let first = All-push (IsSideOfSome tris) sides (side_of tris k 0) before.each (is_side 0 (omega arith)) in
+      let second = All-push (IsSideOfSome tris) one (side_of tris k 1) first (is_side 1 (omega arith)) in
       record {
-        each = All-push (IsSideOf tris) two (side_of tris k 2) second (is_side 2 (omega arith));
+        each = All-push (IsSideOfSome tris) two (side_of tris k 2) second (is_side 2 (omega arith));
         all = λ l number below in_row. elim (cases_eq l k) [
           | inl same ↦ rw same (has_three number in_row)
           | inr other ↦ has_kept l number (omega arith) in_row
@@ -59,11 +59,11 @@ module _ (tris : List Tri) (k : ℕ) (sides : List Side) (in_list : k < length t
 -- in another order
 pub sides_moved : (tris : List Tri) (count : ℕ) (xs ys : List Side) → HasSidesOf tris count xs → IsPermutation xs ys → HasSidesOf tris count ys
 sides_moved tris count xs ys has moved = record {
-  each = All-permutation (IsSideOf tris) xs ys moved has.each;
+  each = All-permutation (IsSideOfSome tris) xs ys moved has.each;
   all = λ k number below in_row. Contains-permutation xs ys (side_of tris k number) moved (has.all k number below in_row);
 }
 
 -- each is one of a triangle, as it is read
 pub side_read : (tris : List Tri) (count : ℕ) (sides : List Side) → HasSidesOf tris count sides → (p : ℕ) (s : Side) → p < length sides
-    → s ≡ slice_index_or sides p s → IsSideOf tris s
+    → s ≡ slice_index_or sides p s → IsSideOfSome tris s
 side_read tris count sides has p s below read = rw (← read) at (has.each p s below)

@@ -35,14 +35,14 @@ abbrev pub side_of : List Tri → ℕ → ℕ → Side
 side_of tris k number = side_between (side_begin (tri_at tris k) number) (side_end (tri_at tris k) number) k number
 
 -- it is a side of a triangle of the list
-pub record IsSideOf (tris : List Tri) (s : Side) : Type 0 where
+pub record IsSideOfSome (tris : List Tri) (s : Side) : Type 0 where
   pub in_list : s.tri < length tris
   pub in_row : s.number < 3
   pub is : s ≡ side_of tris s.tri s.number
 
 -- they are sides of triangles of the list, among them all of the first triangles, `count` of them
 pub record HasSidesOf (tris : List Tri) (count : ℕ) (sides : List Side) : Type 0 where
-  pub each : All (IsSideOf tris) sides
+  pub each : All (IsSideOfSome tris) sides
   pub all : (k number : ℕ) → k < count → number < 3 → Contains sides (side_of tris k number)
 
 -- two triangles have them between the same corners
@@ -77,7 +77,7 @@ IsAcross tris k number other =
     (other < length tris) × HasSide (tri_at tris other) (side_end (tri_at tris k) number) (side_begin (tri_at tris k) number)
 
 -- the rows of a list of triangles, with what the first sides tell, `seen` of them
-pub record AreFilled (tris : List Tri) (sides : List Side) (seen : ℕ) (rows : List (List (Option ℕ))) : Type 0 where
+pub record AreNeighbourRows (tris : List Tri) (sides : List Side) (seen : ℕ) (rows : List (List (Option ℕ))) : Type 0 where
   pub count : length rows ≡ length tris
   pub three : All (λ row. length row ≡ 3) rows
   pub right : (k number other : ℕ) → owner_at rows k number ≡ Some other → IsAcross tris k number other

@@ -2,7 +2,7 @@
 use Rattle.std.proofs.Common.{◌≡◌, ◌↔◌, refl, subst, sym, ◌∙◌, ◌-◌, ◌≤◌, List, length, ap}
 use Rattle.plane.specs.Point.{Point}
 use Rattle.rings.specs.Chain.{IsBentChain, IsPath, IsTaut, point_at}
-use Rattle.rings.specs.From.{IsBefore}
+use Rattle.rings.specs.From.{IsPredecessor}
 use Rattle.rings.specs.Simple.{IsSimple}
 use Rattle.funnels.proofs.OneChain.OneChains.{no_closed_chain, one_bent_chain}
 use Rattle.funnels.specs.OneChain.{OneTautChainLaw}
@@ -34,7 +34,7 @@ bent_is_path ring some simple chain bent s t first last =
     })
 
 -- only one point comes before another
-pub one_before : (ring : List Point) (s t x y : Point) → IsBefore ring s t x → IsBefore ring s t y → x ≡ y
+pub one_before : (ring : List Point) (s t x y : Point) → IsPredecessor ring s t x → IsPredecessor ring s t y → x ≡ y
 one_before ring s t x y one other =
     let same : one.path ≡ other.path = sym ((one.is_path other.path).0 ((other.is_path other.path).1 refl)) in
     sym one.is ∙ ap (λ ps. point_at ps (length ps - 2)) same ∙ other.is

@@ -19,7 +19,7 @@ use Rattle.meshes.specs.Side.{IsWalk}
 use Rattle.meshes.specs.declared.tri.Tri.{Tri}
 use Rattle.funnels.proofs.Touched.AheadCases.{ahead_cases, before_last_part, beyond, on_last_part, only_point}
 use Rattle.funnels.proofs.Touched.TouchedCorners.{end_between, side_in_triangle}
-use Rattle.funnels.specs.Touched.{HasCome, IsAhead, IsEndAt, IsLookedAt, IsOpen, IsPassed}
+use Rattle.funnels.specs.Touched.{HasCome, IsAhead, IsEndAt, IsLookedAt, IsSearchOpen, IsVertexAhead}
 
 module _ (corners : List Point) (tris : List Tri) (walk : List ℕ) (from to start : ℕ → ℕ) (chain : List Point) where
   -- the inner point after place k is an end of the side that is crossed at a place: the walk comes to the point there, and the sides after
@@ -121,7 +121,7 @@ module _ (corners : List Point) (tris : List Tri) (fits : Fits corners tris) (wa
         (on_side is_end)
 
     module _ (ahead : IsAhead chain k last v) where
-      abbrev opened : IsOpen corners from to start chain i j k last
+      abbrev opened : IsSearchOpen corners from to start chain i j k last
       opened = now.goes_on ahead.more
 
       -- it is on the way from the chain's point,
@@ -160,11 +160,11 @@ module _ (corners : List Point) (tris : List Tri) (fits : Fits corners tris) (wa
         v_between : IsVertexBetween corners a b v
         v_between = record { i = x; in_ring = is_vertex; is_vertex = refl; on = v_on; not_first = v_not_first; not_last = short }
 
-        passed_more : (u : Point) → Has (now.since ++ v ∷ []) u ↔ IsPassed corners chain k v u
+        passed_more : (u : Point) → Has (now.since ++ v ∷ []) u ↔ IsVertexAhead corners chain k v u
         passed_more u = (
           (λ has. elim (has_cases u now.since (v ∷ []) has) [
             | inl old ↦ let p = (now.passed u).0 old in record { more = p.more; between = p.between; on = (since_nearer u old).on }
-            | inr (inl e) ↦ subst (IsPassed corners chain k v) e (record { more = ahead.more; between = v_between; on = on_last_end (whole a) (whole v) })
+            | inr (inl e) ↦ subst (IsVertexAhead corners chain k v) e (record { more = ahead.more; between = v_between; on = on_last_end (whole a) (whole v) })
             | inr (inr none) ↦ absurd none
           ]),
           (λ p. elim (point_or_other u v) [

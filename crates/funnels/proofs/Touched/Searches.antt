@@ -17,7 +17,7 @@ use Rattle.meshes.specs.declared.tri.Tri.{Tri}
 use Rattle.funnels.proofs.Touched.AheadCases.{only_point}
 use Rattle.funnels.proofs.Touched.Entered.{number_below}
 use Rattle.funnels.proofs.Touched.LookedAt.{IsEntered, looked_at, none_between}
-use Rattle.funnels.specs.Touched.{HasCome, IsAhead, IsLookedAt, IsPassed}
+use Rattle.funnels.specs.Touched.{HasCome, IsAhead, IsLookedAt, IsVertexAhead}
 
 -- ---- the beginning
 
@@ -111,7 +111,7 @@ module _ (corners : List Point) (tris : List Tri) (fits : Fits corners tris) (wa
     ]
 
     -- at the end nothing more is passed
-    nothing_passed : length chain ≤ k + 1 → (us : List Point) → ((u : Point) → Has us u → IsPassed corners chain k last u) → us ≡ []
+    nothing_passed : length chain ≤ k + 1 → (us : List Point) → ((u : Point) → Has us u → IsVertexAhead corners chain k last u) → us ≡ []
     nothing_passed late [] all = refl
     nothing_passed late (u ∷ us) all = absurd (omega (arith, late, (all u (inl refl)).more))
 

@@ -3,7 +3,7 @@ use Rattle.std.proofs.Common.{◌≡◌, refl, sym, subst, ap, ◌∙◌, List, 
 use Rattle.std.proofs.lemmas.List.{append_assoc, get_or_append_left, get_or_push, length-append}
 use Rattle.plane.specs.Point.{Point, whole}
 use Rattle.rings.specs.Chain.{IsBentChain, IsPath, point_at}
-use Rattle.rings.specs.From.{IsBefore}
+use Rattle.rings.specs.From.{IsPredecessor}
 use Rattle.rings.specs.Inside.{IsIn}
 use Rattle.rings.specs.Ring.{origin}
 use Rattle.rings.specs.Simple.{IsSimple}
@@ -27,7 +27,7 @@ module _ (corners : List Point) (tris : List Tri) (fits : Fits corners tris) whe
   module _ (way : List Point) (s : Point) where
     -- and the last but one is before the last
     pub before_of_bent : (q y : Point) → IsBentChain corners (way ++ q ∷ y ∷ []) → point_at (way ++ q ∷ []) 0 ≡ s
-        → IsBefore corners s y q
+        → IsPredecessor corners s y q
     before_of_bent q y bent first =
         let front = way ++ q ∷ [] in
         let all = front ++ y ∷ [] in

@@ -3,7 +3,7 @@
 use Rattle.std.proofs.Common.{◌≡◌, refl, sym, subst, ap, ◌∙◌, ℕ, ◌+◌, ◌-◌, ◌<◌, ◌≤◌, List, [], ◌∷◌, ◌++◌, length, take, arith}
 use Rattle.plane.specs.Point.{Point}
 use Rattle.rings.specs.Chain.{IsPath, IsTaut, point_at}
-use Rattle.rings.specs.From.{IsBefore}
+use Rattle.rings.specs.From.{IsPredecessor}
 use Rattle.rings.specs.Simple.{IsSimple}
 use Rattle.funnels.proofs.OneChain.{bent_is_path, front_and_last, front_at, front_bent, front_length}
 
@@ -31,10 +31,10 @@ module _ (ring : List Point) (some : 3 ≤ length ring) (simple : IsSimple ring)
       omega (arith, ap length equal, front_length path (i + 1) (omega arith), front_length path (j + 1) (omega arith))
 
 -- nothing comes before the start itself
-pub before_differs : (ring : List Point) (s t x : Point) → IsBefore ring s t x → ¬ (s ≡ t)
+pub before_differs : (ring : List Point) (s t x : Point) → IsPredecessor ring s t x → ¬ (s ≡ t)
 before_differs ring s t x before same = omega (arith, before.more, ((before.is_path before.path).1 refl).single same)
 
-module _ (ring : List Point) (some : 3 ≤ length ring) (simple : IsSimple ring) (s t x : Point) (before : IsBefore ring s t x)
+module _ (ring : List Point) (some : 3 ≤ length ring) (simple : IsSimple ring) (s t x : Point) (before : IsPredecessor ring s t x)
     (path : List Point) (is : IsPath ring s x path) where
   -- the path to what comes before a point goes on to it
   pub path_goes_on : IsPath ring s t (path ++ t ∷ [])

@@ -3,7 +3,7 @@ use Rattle.std.proofs.Common.{◌≡◌, refl, List, [], ◌∷◌, ◌++◌, �
 use Rattle.plane.proofs.Points.{whole_is_point}
 use Rattle.plane.specs.Point.{Point, whole}
 use Rattle.rings.specs.Chain.{IsBentChain, point_at}
-use Rattle.rings.specs.From.{IsBefore}
+use Rattle.rings.specs.From.{IsPredecessor}
 use Rattle.rings.specs.Ring.{vertex}
 use Rattle.meshes.proofs.Sight.{sees_in_triangle, triangle_in_ring}
 use Rattle.meshes.specs.Fits.{Fits, IsInTri}
@@ -20,7 +20,7 @@ use Rattle.funnels.specs.OpenFunnel.{IsOpenFunnel}
 module _ (corners : List Point) (tris : List Tri) (fits : Fits corners tris) (k : ℕ) (within : k < length tris) where
   -- to another point of its triangle the path from a source goes straight
   pub before_at_home : (s y : Point) → IsInTri corners (tri_at tris k) (whole s) → IsInTri corners (tri_at tris k) (whole y)
-      → ¬ (s ≡ y) → IsBefore corners s y s
+      → ¬ (s ≡ y) → IsPredecessor corners s y s
   before_at_home s y in_s in_y differ =
       let alone = one_bent corners s (triangle_in_ring corners tris fits k within (whole s) (whole_is_point s) in_s) in
       before_of_bent corners tris fits [] s s y
@@ -47,12 +47,12 @@ module _ (corners : List Point) (tris : List Tri) (fits : Fits corners tris) (k 
           reached seen differ)
 
       -- so what comes before it is the point from which it is reached,
-      pub before_reached : IsBefore corners s y (point_at ns h)
+      pub before_reached : IsPredecessor corners s y (point_at ns h)
       before_reached =
           before_of_bent corners tris fits (way_to before ns a h) s (point_at ns h) y chain (way_begins before ns a h ∙ begins)
 
     -- the third corner is reached in this way
-    pub before_corner : IsReachedFrom ns a h (whole (vertex corners m)) → IsBefore corners s (vertex corners m) (point_at ns h)
+    pub before_corner : IsReachedFrom ns a h (whole (vertex corners m)) → IsPredecessor corners s (vertex corners m) (point_at ns h)
     before_corner reached =
         before_reached (vertex corners m) (last_end_in corners tris fits k within j m second) reached
         (corner_differs corners tris fits k i j m within first second third ns a o.funnel h reached)

@@ -5,7 +5,7 @@ use Rattle.plane.proofs.Order.{point_or_other}
 use Rattle.plane.proofs.Points.{whole_is_point}
 use Rattle.plane.specs.Point.{Point, whole}
 use Rattle.rings.specs.Chain.{IsPath, point_at}
-use Rattle.rings.specs.From.{IsBefore}
+use Rattle.rings.specs.From.{IsPredecessor}
 use Rattle.rings.specs.Inside.{IsIn}
 use Rattle.rings.specs.Ring.{origin, vertex}
 use Rattle.meshes.specs.Fits.{Fits, IsInTri}
@@ -24,14 +24,14 @@ module _ (corners : List Point) (tris : List Tri) (fits : Fits corners tris) (b 
     (in_b : IsInTri corners (tri_at tris home) (whole b)) where
   -- the gate comes before a point
   pub before_gate : (trail : List Entrance) → IsTrail corners tris b home trail → (y g : Point)
-      → IsInTri corners (tri_at tris (last_of home trail)) (whole y) → IsGate b trail (whole y) g → ¬ (g ≡ y) → IsBefore corners b y g
+      → IsInTri corners (tri_at tris (last_of home trail)) (whole y) → IsGate b trail (whole y) g → ¬ (g ≡ y) → IsPredecessor corners b y g
   before_gate [] is y g in_y gate differ =
-      subst (IsBefore corners b y) gate
+      subst (IsPredecessor corners b y) gate
       (before_at_home corners tris fits home within b y in_b in_y (λ e. differ (sym gate ∙ e)))
   before_gate (e ∷ trail) is y g in_y gate differ =
       let w = is.0 in
       let (h, reached, is_g) = gate in
-      subst (IsBefore corners b y) is_g
+      subst (IsPredecessor corners b y) is_g
       (before_reached corners tris fits e.triangle w.shared.other_in_list e.left e.right e.third w.shared.other_has w.to_third w.from_third
       (last_of home trail, e.triangle, inr w.shared) w.before e.points e.apex w.funnel b w.begins h y in_y reached (λ e. differ (sym is_g ∙ e)))
 

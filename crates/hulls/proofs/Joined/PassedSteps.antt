@@ -16,17 +16,6 @@ use Rattle.hulls.proofs.Joined.OverPoints.{path_is_taut}
 use Rattle.hulls.proofs.Joined.PartChains.{back_at, back_bent, one_bent, rest_at, rest_bent, sees_back}
 
 module _ (ring : List Point) (some : 3 ≤ length ring) (simple : IsSimple ring) where
-  -- ---- the path back
-
-  pub path_back : (s t : Point) (path : List Point) → IsPath ring s t path → IsPath ring t s (reverse path)
-  path_back s t path is =
-      let taut = path_is_taut ring s t path is in
-      let n = length-reverse path in
-      let one = taut.bent.chain.some in
-      bent_is_path ring some simple (reverse path) (back_bent ring path taut.bent) t s
-      (back_at path 0 (length path - 1) (omega arith) ∙ taut.last)
-      (back_at path (length (reverse path) - 1) 0 (omega arith) ∙ taut.first)
-
   -- ---- the step of a point on a path
 
   module _ (chain : List Point) (bent : IsBentChain ring chain) (v : Point) (way : List Point) (bent_way : IsBentChain ring way)

@@ -5,7 +5,7 @@ use Rattle.plane.specs.Point.{Point, whole}
 use Rattle.plane.specs.Segment.{On}
 use Rattle.rings.proofs.Inside.{sees_turned_iff}
 use Rattle.rings.proofs.Turned.{between_turned}
-use Rattle.rings.specs.From.{IsBefore}
+use Rattle.rings.specs.From.{IsPredecessor}
 use Rattle.rings.specs.Full.{IsVertexBetween}
 use Rattle.rings.specs.Inside.{IsIn}
 use Rattle.rings.specs.Orientation.{turned_round}
@@ -45,7 +45,7 @@ seen_in_mesh corners tris fits b x y in_b step off =
 
 module _ (ring : List Point) where
   -- what comes before a point in it does so in the ring,
-  before_turned : (b t n : Point) → IsBefore (turned_round ring) b t n → IsBefore ring b t n
+  before_turned : (b t n : Point) → IsPredecessor (turned_round ring) b t n → IsPredecessor ring b t n
   before_turned b t n before =
       record { path = before.path; is_path = path_turned ring b t before.path before.is_path; more = before.more; is = before.is }
 

@@ -9,7 +9,7 @@ use Rattle.plane.specs.Point.{Point, whole}
 use Rattle.plane.specs.Segment.{On}
 use Rattle.plane.specs.Turn.{IsStraight, determinant}
 use Rattle.rings.specs.Chain.{point_at}
-use Rattle.rings.specs.From.{IsBefore}
+use Rattle.rings.specs.From.{IsPredecessor}
 use Rattle.hulls.proofs.Entrances.{IsNamed}
 use Rattle.hulls.proofs.Joined.{path_is_taut}
 use Rattle.hulls.proofs.StepsSeen.OnWay.{ComesToBoth, IsClear}
@@ -21,7 +21,7 @@ use Rattle.hulls.specs.Joined.{IsOnPath}
 use Rattle.hulls.specs.Steps.{IsSeenFrom, away, from_left, from_right, towards}
 
 -- a point between an end of a path and what comes before that is on the path
-on_last_part : (ring : List Point) (b t n v : Point) → IsBefore ring b t n → On (whole v) (whole n) (whole t) → IsOnPath ring b t v
+on_last_part : (ring : List Point) (b t n v : Point) → IsPredecessor ring b t n → On (whole v) (whole n) (whole t) → IsOnPath ring b t v
 on_last_part ring b t n v before on =
     let path = before.path in
     let k = length path - 2 in
@@ -37,7 +37,7 @@ on_last_part ring b t n v before on =
     }
 
 -- so is what comes before it
-on_before : (ring : List Point) (b t n : Point) → IsBefore ring b t n → IsOnPath ring b t n
+on_before : (ring : List Point) (b t n : Point) → IsPredecessor ring b t n → IsOnPath ring b t n
 on_before ring b t n before = on_last_part ring b t n n before (on_first_end (whole n) (whole t))
 
 -- points alike along a step are so along it read backward
@@ -57,7 +57,7 @@ last_straight x y =
 
 module _ (corners : List Point) (b x y : Point) (step : IsClear corners b x y) where
   -- where one point n comes before both ends
-  from_one : (n : Point) → IsNamed corners b n → IsBefore corners b x n → IsBefore corners b y n → IsSeenFrom corners b x y
+  from_one : (n : Point) → IsNamed corners b n → IsPredecessor corners b x n → IsPredecessor corners b y n → IsSeenFrom corners b x y
   from_one n named first last = elim (sign (determinant (whole x) (whole y) (whole n))) [
     | is_positive h ↦ from_left n n first last h h
     | is_negative h ↦ from_right n n first last h h
@@ -72,8 +72,8 @@ module _ (corners : List Point) (b x y : Point) (step : IsClear corners b x y) w
   ]
 
   -- where two alike ones do
-  from_two : (p q : Point) → IsNamed corners b p → IsBefore corners b x p → IsBefore corners b y q → IsAlike x y p q → IsSeenFrom corners b x y
-  from_two p q named first last (inl same) = from_one p named first (subst (IsBefore corners b y) (sym same) last)
+  from_two : (p q : Point) → IsNamed corners b p → IsPredecessor corners b x p → IsPredecessor corners b y q → IsAlike x y p q → IsSeenFrom corners b x y
+  from_two p q named first last (inl same) = from_one p named first (subst (IsPredecessor corners b y) (sym same) last)
   from_two p q named first last (inr (inl left)) = from_left p q first last left.0 left.1
   from_two p q named first last (inr (inr right)) = from_right p q first last right.0 right.1
 

@@ -7,7 +7,7 @@ use Rattle.plane.proofs.Segments.{on_first_end, on_is_straight}
 use Rattle.plane.specs.Point.{Point, Triple, whole}
 use Rattle.plane.specs.Segment.{On}
 use Rattle.plane.specs.Turn.{IsStraight}
-use Rattle.rings.specs.From.{IsBefore}
+use Rattle.rings.specs.From.{IsPredecessor}
 use Rattle.rings.specs.Full.{IsVertexBetween}
 use Rattle.meshes.specs.Fits.{Fits, IsInTri}
 use Rattle.meshes.specs.Side.{tri_at}
@@ -21,7 +21,7 @@ use Rattle.hulls.proofs.StepsSeen.Pairs.{alike_in_triangle, gate_named}
 -- what comes before x, seen from b, is alike with g
 pub record ComesAlike (corners : List Point) (b x y g : Point) : Type 0 where
   pub point : Point
-  pub before : IsBefore corners b x point
+  pub before : IsPredecessor corners b x point
   pub named : IsNamed corners b point
   pub alike : IsAlike x y point g
 

@@ -7,7 +7,7 @@ use Rattle.plane.proofs.Points.{whole_is_point}
 use Rattle.plane.proofs.Segments.{on_reversed}
 use Rattle.plane.specs.Point.{Point, whole}
 use Rattle.rings.specs.Chain.{IsPath, point_at}
-use Rattle.rings.specs.From.{IsBefore}
+use Rattle.rings.specs.From.{IsPredecessor}
 use Rattle.rings.specs.Simple.{IsSimple}
 use Rattle.funnels.proofs.OneChain.{bent_is_path}
 use Rattle.hulls.proofs.Joined.{back_at, back_bent, goes_on_step, path_is_taut, rest_at, rest_bent}
@@ -44,7 +44,7 @@ module _ (ring : List Point) (some : 3 ≤ length ring) (simple : IsSimple ring)
   -- ---- backward
 
   -- a path read backward is the path back,
-  path_back : (s t : Point) (path : List Point) → IsPath ring s t path → IsPath ring t s (reverse path)
+  pub path_back : (s t : Point) (path : List Point) → IsPath ring s t path → IsPath ring t s (reverse path)
   path_back s t path is =
       let taut = path_is_taut ring s t path is in
       let n = length-reverse path in
@@ -71,7 +71,7 @@ module _ (ring : List Point) (some : 3 ≤ length ring) (simple : IsSimple ring)
       }
 
   -- and the point before the last is the first one of the path back
-  pub step_of_before : (b x p : Point) → IsBefore ring b x p → IsFirstStep ring x b p
+  pub step_of_before : (b x p : Point) → IsPredecessor ring b x p → IsFirstStep ring x b p
   step_of_before b x p before =
       let n = length-reverse before.path in
       let more = before.more in

@@ -9,7 +9,7 @@ use Rattle.plane.specs.Order.{IsBefore}
 use Rattle.plane.specs.Point.{Point, whole}
 use Rattle.plane.specs.Turn.{determinant}
 use Rattle.rings.proofs.Sweeps.{Part, none_gains}
-use Rattle.mono_fill.specs.Sides.{opposite}
+use Rattle.mono_fill.specs.Sides.{other_chain_side}
 use Rattle.mono_fill.specs.declared.side.Side.{Side}
 use Rattle.mono_fill.specs.declared.side.Side.TheVariants.{Lower, Upper}
 
@@ -92,28 +92,28 @@ module _ (a b c x : Point) (ab : IsBefore a b) (bc : IsBefore b c) (bx : IsBefor
 -- an edge from c to d of one chain, and vertices b and then b' of the other: b comes before d and is inward of the edge
 module _ (c d b b' : Point) (cd : IsBefore c d) (bd : IsBefore b d) where
   over_x : (side : Side)
-      → bend side c b d *ℤ (d.x -ℤ b'.x) +ℤ neg_ℤ (bend side c b' d) *ℤ (d.x -ℤ b.x) +ℤ bend (opposite side) b d b' *ℤ (d.x -ℤ c.x) ≡ pos 0
+      → bend side c b d *ℤ (d.x -ℤ b'.x) +ℤ neg_ℤ (bend side c b' d) *ℤ (d.x -ℤ b.x) +ℤ bend (other_chain_side side) b d b' *ℤ (d.x -ℤ c.x) ≡ pos 0
   over_x Lower = zero_value (det 0 2 1 ⊗ run 3 1 ⊕ neg (det 0 3 1) ⊗ run 2 1 ⊕ det 1 2 3 ⊗ run 0 1) (parts (c ∷ d ∷ b ∷ b' ∷ [])) refl
   over_x Upper = zero_value (det 2 0 1 ⊗ run 3 1 ⊕ neg (det 3 0 1) ⊗ run 2 1 ⊕ det 2 1 3 ⊗ run 0 1) (parts (c ∷ d ∷ b ∷ b' ∷ [])) refl
 
   over_y : (side : Side)
-      → bend side c b d *ℤ (d.y -ℤ b'.y) +ℤ neg_ℤ (bend side c b' d) *ℤ (d.y -ℤ b.y) +ℤ bend (opposite side) b d b' *ℤ (d.y -ℤ c.y) ≡ pos 0
+      → bend side c b d *ℤ (d.y -ℤ b'.y) +ℤ neg_ℤ (bend side c b' d) *ℤ (d.y -ℤ b.y) +ℤ bend (other_chain_side side) b d b' *ℤ (d.y -ℤ c.y) ≡ pos 0
   over_y Lower = zero_value (det 0 2 1 ⊗ rise 3 1 ⊕ neg (det 0 3 1) ⊗ rise 2 1 ⊕ det 1 2 3 ⊗ rise 0 1) (parts (c ∷ d ∷ b ∷ b' ∷ [])) refl
   over_y Upper = zero_value (det 2 0 1 ⊗ rise 3 1 ⊕ neg (det 3 0 1) ⊗ rise 2 1 ⊕ det 2 1 3 ⊗ rise 0 1) (parts (c ∷ d ∷ b ∷ b' ∷ [])) refl
 
   -- the same with the opposite weights
   past_x : (side : Side)
-      → bend side c b d *ℤ (b'.x -ℤ d.x) +ℤ bend side c b' d *ℤ (d.x -ℤ b.x) +ℤ neg_ℤ (bend (opposite side) b d b') *ℤ (d.x -ℤ c.x) ≡ pos 0
+      → bend side c b d *ℤ (b'.x -ℤ d.x) +ℤ bend side c b' d *ℤ (d.x -ℤ b.x) +ℤ neg_ℤ (bend (other_chain_side side) b d b') *ℤ (d.x -ℤ c.x) ≡ pos 0
   past_x Lower = zero_value (det 0 2 1 ⊗ run 1 3 ⊕ det 0 3 1 ⊗ run 2 1 ⊕ neg (det 1 2 3) ⊗ run 0 1) (parts (c ∷ d ∷ b ∷ b' ∷ [])) refl
   past_x Upper = zero_value (det 2 0 1 ⊗ run 1 3 ⊕ det 3 0 1 ⊗ run 2 1 ⊕ neg (det 2 1 3) ⊗ run 0 1) (parts (c ∷ d ∷ b ∷ b' ∷ [])) refl
 
   past_y : (side : Side)
-      → bend side c b d *ℤ (b'.y -ℤ d.y) +ℤ bend side c b' d *ℤ (d.y -ℤ b.y) +ℤ neg_ℤ (bend (opposite side) b d b') *ℤ (d.y -ℤ c.y) ≡ pos 0
+      → bend side c b d *ℤ (b'.y -ℤ d.y) +ℤ bend side c b' d *ℤ (d.y -ℤ b.y) +ℤ neg_ℤ (bend (other_chain_side side) b d b') *ℤ (d.y -ℤ c.y) ≡ pos 0
   past_y Lower = zero_value (det 0 2 1 ⊗ rise 1 3 ⊕ det 0 3 1 ⊗ rise 2 1 ⊕ neg (det 1 2 3) ⊗ rise 0 1) (parts (c ∷ d ∷ b ∷ b' ∷ [])) refl
   past_y Upper = zero_value (det 2 0 1 ⊗ rise 1 3 ⊕ det 3 0 1 ⊗ rise 2 1 ⊕ neg (det 2 1 3) ⊗ rise 0 1) (parts (c ∷ d ∷ b ∷ b' ∷ [])) refl
 
   -- where b' comes before d too, and d is inward of the way from b to it, it is inward of the edge,
-  pub inward_before : (side : Side) → IsBefore b' d → pos 0 <ℤ bend side c b d → pos 0 <ℤ bend (opposite side) b d b' → pos 0 <ℤ bend side c b' d
+  pub inward_before : (side : Side) → IsBefore b' d → pos 0 <ℤ bend side c b d → pos 0 <ℤ bend (other_chain_side side) b d b' → pos 0 <ℤ bend side c b' d
   inward_before side before h k = elim (lt_or_le (pos 0) (bend side c b' d)) [
     | inl l ↦ l
     | inr l ↦ absurd (positive_not_zero h (no_weight b' d b d c d before bd cd _ _ _ (weak h) (opposite_not_negative l) (weak k) (over_x side)
@@ -121,8 +121,8 @@ module _ (c d b b' : Point) (cd : IsBefore c d) (bd : IsBefore b d) where
   ]
 
   -- and where b' comes after d and is inward of the line of the edge, d is inward of the way from b to b'
-  pub inward_after : (side : Side) → IsBefore d b' → pos 0 <ℤ bend side c b d → pos 0 <ℤ bend side c b' d → pos 0 <ℤ bend (opposite side) b d b'
-  inward_after side after h k = elim (lt_or_le (pos 0) (bend (opposite side) b d b')) [
+  pub inward_after : (side : Side) → IsBefore d b' → pos 0 <ℤ bend side c b d → pos 0 <ℤ bend side c b' d → pos 0 <ℤ bend (other_chain_side side) b d b'
+  inward_after side after h k = elim (lt_or_le (pos 0) (bend (other_chain_side side) b d b')) [
     | inl l ↦ l
     | inr l ↦ absurd (positive_not_zero h (no_weight d b' b d c d after bd cd _ _ _ (weak h) (weak k) (opposite_not_negative l) (past_x side)
         (past_y side)))

@@ -8,7 +8,7 @@ use Rattle.plane.specs.Point.{Point, whole}
 use Rattle.plane.specs.Turn.{IsLeft, IsRight}
 use Rattle.rings.specs.Apart.{MeetAtEnds}
 use Rattle.rings.specs.Edge.{edge}
-use Rattle.mono_fill.specs.Sides.{opposite}
+use Rattle.mono_fill.specs.Sides.{other_chain_side}
 use Rattle.mono_fill.specs.declared.side.Side.{Side}
 use Rattle.mono_fill.specs.declared.side.Side.TheVariants.{Lower, Upper}
 use Rattle.meshes.proofs.Monotone.{enters_above, enters_below}
@@ -23,7 +23,7 @@ pub record EndInward (side facing : Side) (a b c d : Point) : Type 0 where
 module _ (c d b b' : Point) (cd : IsBefore c d) (cb : IsBefore c b) (bd : IsBefore b d) (on : IsBefore b b')
     (apart : MeetAtEnds (edge c d) (edge b b')) where
   -- so edge bb' stays on that side: one of the last ends shows it, or they are one
-  enters : (side : Side) → pos 0 <ℤ bend side c b d → (pos 0 <ℤ bend (opposite side) b d b' ⊎ pos 0 <ℤ bend side c b' d) ⊎ (b' ≡ d)
+  enters : (side : Side) → pos 0 <ℤ bend side c b d → (pos 0 <ℤ bend (other_chain_side side) b d b' ⊎ pos 0 <ℤ bend side c b' d) ⊎ (b' ≡ d)
   enters Lower h =
       let right : IsRight (whole c) (whole d) (whole b) = turned_negative (determinant_swap_last (whole c) (whole b) (whole d)) h in
       elim (enters_below (edge c d) (edge b b') on apart cb bd right).finish [
@@ -40,7 +40,7 @@ module _ (c d b b' : Point) (cd : IsBefore c d) (cb : IsBefore c b) (bd : IsBefo
       ]
 
   -- the next edge of the chain that ended
-  pub next_inward : (side : Side) → pos 0 <ℤ bend side c b d → EndInward side (opposite side) b b' c d
+  pub next_inward : (side : Side) → pos 0 <ℤ bend side c b d → EndInward side (other_chain_side side) b b' c d
   next_inward side h = elim (enters side h) [
     | inl (inl k) ↦ record { own = λ before. inward_before c d b b' cd bd side before h k; other = λ after. k }
     | inl (inr k) ↦ record { own = λ before. k; other = λ after. inward_after c d b b' cd bd side after h k }

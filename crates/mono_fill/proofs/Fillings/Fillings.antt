@@ -9,10 +9,10 @@ use Rattle.meshes.specs.Boundary.{sum_along}
 use Rattle.meshes.specs.Fits.{FitsPiece, IsTriOf}
 use Rattle.meshes.specs.Piece.{IsPolygonPiece}
 use Rattle.meshes.specs.declared.tri.Tri.{Tri}
-use Rattle.mono_fill.specs.Cursors.{Cursors, ahead, along, at_least, one_more, read_from, taken}
+use Rattle.mono_fill.specs.Cursors.{Cursors, ahead, along_chain, at_least, one_more, read_from, taken}
 use Rattle.mono_fill.specs.Fillable.{IsFillable}
 use Rattle.mono_fill.specs.Filled.{IsFilled}
-use Rattle.mono_fill.specs.Sides.{fan, opposite}
+use Rattle.mono_fill.specs.Sides.{fan, other_chain_side}
 use Rattle.mono_fill.specs.Stacks.{ArePopped, IsSettled, last_of}
 use Rattle.mono_fill.specs.declared.side.Side.{Side}
 use Rattle.mono_fill.specs.declared.side.Side.TheVariants.{Lower, Upper}
@@ -24,10 +24,10 @@ use Rattle.mono_fill.proofs.Sums.{met}
 -- so far the triangles behind the old ones are those of the stages
 pub record IsFilling (corners : List Point) (ranks piece : List ℕ) (c : Cursors) (side : Side) (stack : List ℕ) (old new : List Tri) : Type 0 where
   pub outline : IsOutline corners ranks piece c.ring
-  pub merge : IsMerge outline side (opposite side) (taken side c) (taken (opposite side) c)
+  pub merge : IsMerge outline side (other_chain_side side) (taken side c) (taken (other_chain_side side) c)
   pub tris : List Tri
   pub added : new ≡ old ++ tris
-  pub stage : IsStage outline side (opposite side) (taken side c) (taken (opposite side) c) stack tris
+  pub stage : IsStage outline side (other_chain_side side) (taken side c) (taken (other_chain_side side) c) stack tris
 
 -- more triangles behind them
 add_more : (old : List Tri) {new newer : List Tri} (tris more : List Tri) → new ≡ old ++ tris → newer ≡ new ++ more → newer ≡ old ++ (tris ++ more)
@@ -63,7 +63,7 @@ filling_begins corners ranks piece old f place within least =
         flat = λ k h. absurd (omega arith);
         inward = λ k h l. absurd (omega arith);
         triangles = All-nil (IsTriOf corners piece);
-        sums = λ φ odd. let a = none_summed (met Lower φ) (along Lower ring) in let b = none_summed (met Upper φ) (along Upper ring) in
+        sums = λ φ odd. let a = none_summed (met Lower φ) (along_chain Lower ring) in let b = none_summed (met Upper φ) (along_chain Upper ring) in
             omega (arith, ints);
       };
     }
@@ -71,39 +71,39 @@ filling_begins corners ranks piece old f place within least =
 -- ---- the next vertex is on the chain of the stack
 
 module _ {corners : List Point} {ranks piece ring : List ℕ} (o : IsOutline corners ranks piece ring) (side : Side) (own other : ℕ)
-    (m : IsMerge o side (opposite side) own other) (more : own + other + 2 < length ring)
-    (next : rank_at ranks ring side (own + 1) ≤ rank_at ranks ring (opposite side) (other + 1))
-    (stack kept : List ℕ) (tris popped : List Tri) (s : IsStage o side (opposite side) own other stack tris)
+    (m : IsMerge o side (other_chain_side side) own other) (more : own + other + 2 < length ring)
+    (next : rank_at ranks ring side (own + 1) ≤ rank_at ranks ring (other_chain_side side) (other + 1))
+    (stack kept : List ℕ) (tris popped : List Tri) (s : IsStage o side (other_chain_side side) own other stack tris)
     (are : ArePopped corners side (at ring side (own + 1)) stack kept popped) (settled : IsSettled corners side (at ring side (own + 1)) kept) where
-  on_stage : IsStage o side (opposite side) (own + 1) other (kept ++ at ring side (own + 1) ∷ []) (tris ++ popped)
+  on_stage : IsStage o side (other_chain_side side) (own + 1) other (kept ++ at ring side (own + 1) ∷ []) (tris ++ popped)
   on_stage =
       let hb = o.numbers side (own + 1) (omega (arith, m.own_inside)) in
-      let hd = o.numbers (opposite side) (other + 1) (omega (arith, m.other_inside)) in
-      stage_goes_on o side (opposite side) own other stack kept tris popped (omega (arith, m.own_inside)) s are settled
+      let hd = o.numbers (other_chain_side side) (other + 1) (omega (arith, m.other_inside)) in
+      stage_goes_on o side (other_chain_side side) own other stack kept tris popped (omega (arith, m.own_inside)) s are settled
       (o.rises side own m.own_inside)
       (m.inward.own (before o _ _ hb hd (strictly_next o side own other m more next)))
 
 -- it is on the other chain
 
 module _ {corners : List Point} {ranks piece ring : List ℕ} (o : IsOutline corners ranks piece ring) (side : Side) (own other : ℕ)
-    (m : IsMerge o side (opposite side) own other) (sooner : rank_at ranks ring (opposite side) (other + 1) < rank_at ranks ring side (own + 1))
-    (stack : List ℕ) (tris : List Tri) (s : IsStage o side (opposite side) own other stack tris) where
-  on_crossing : IsStage o (opposite side) side (other + 1) own (last_of stack ∷ at ring (opposite side) (other + 1) ∷ [])
-      (tris ++ fan side (at ring (opposite side) (other + 1)) stack)
+    (m : IsMerge o side (other_chain_side side) own other) (sooner : rank_at ranks ring (other_chain_side side) (other + 1) < rank_at ranks ring side (own + 1))
+    (stack : List ℕ) (tris : List Tri) (s : IsStage o side (other_chain_side side) own other stack tris) where
+  on_crossing : IsStage o (other_chain_side side) side (other + 1) own (last_of stack ∷ at ring (other_chain_side side) (other + 1) ∷ [])
+      (tris ++ fan side (at ring (other_chain_side side) (other + 1)) stack)
   on_crossing =
       let hb = o.numbers side (own + 1) (omega (arith, m.own_inside)) in
-      let hd = o.numbers (opposite side) (other + 1) (omega (arith, m.other_inside)) in
+      let hd = o.numbers (other_chain_side side) (other + 1) (omega (arith, m.other_inside)) in
       stage_crosses o side own other stack tris (omega (arith, m.other_inside)) s m.own_first (m.inward.other (before o _ _ hd hb sooner))
 
 -- it is the greatest
 
 module _ {corners : List Point} {ranks piece ring : List ℕ} (o : IsOutline corners ranks piece ring) (side : Side) (own other : ℕ)
-    (m : IsMerge o side (opposite side) own other) (own_last : own + 1 ≡ o.edges side) (other_last : other + 1 ≡ o.edges (opposite side))
-    (stack : List ℕ) (tris : List Tri) (s : IsStage o side (opposite side) own other stack tris) (polygon : IsPolygonPiece corners piece) where
-  on_end : FitsPiece corners piece (tris ++ fan side (at ring (opposite side) (other + 1)) stack)
+    (m : IsMerge o side (other_chain_side side) own other) (own_last : own + 1 ≡ o.edges side) (other_last : other + 1 ≡ o.edges (other_chain_side side))
+    (stack : List ℕ) (tris : List Tri) (s : IsStage o side (other_chain_side side) own other stack tris) (polygon : IsPolygonPiece corners piece) where
+  on_end : FitsPiece corners piece (tris ++ fan side (at ring (other_chain_side side) (other + 1)) stack)
   on_end =
-      let all = tris ++ fan side (at ring (opposite side) (other + 1)) stack in
-      let inside : other + 1 ≤ o.edges (opposite side) = omega arith in
+      let all = tris ++ fan side (at ring (other_chain_side side) (other + 1)) stack in
+      let inside : other + 1 ≤ o.edges (other_chain_side side) = omega arith in
       fits_bounded corners piece all polygon
       (λ k h. All-get_or (IsTriOf corners piece) all k _ h (all_triangles o side own other stack tris inside s m.own_first own_last other_last))
       (all_cancel o side own other stack tris inside s m.own_first own_last other_last)
@@ -112,7 +112,7 @@ module _ {corners : List Point} {ranks piece ring : List ℕ} (o : IsOutline cor
 
 module _ (corners : List Point) (ranks piece : List ℕ) (old new newer : List Tri) where
   pub filling_goes_on : (c : Cursors) (side : Side) (stack kept : List ℕ) (popped : List Tri) → IsFilling corners ranks piece c side stack old new
-      → c.lower + c.upper + 2 < length c.ring → slice_index ranks (ahead side c) ≤ slice_index ranks (ahead (opposite side) c)
+      → c.lower + c.upper + 2 < length c.ring → slice_index ranks (ahead side c) ≤ slice_index ranks (ahead (other_chain_side side) c)
       → newer ≡ new ++ popped → ArePopped corners side (ahead side c) stack kept popped → IsSettled corners side (ahead side c) kept
       → IsFilling corners ranks piece (one_more side c) side (kept ++ ahead side c ∷ []) old newer
   filling_goes_on c Lower stack kept popped f more next e are settled = record {
@@ -135,9 +135,9 @@ module _ (corners : List Point) (ranks piece : List ℕ) (old new newer : List T
   -- ---- it is on the other chain
 
   pub filling_crosses : (c : Cursors) (side : Side) (stack : List ℕ) → IsFilling corners ranks piece c side stack old new
-      → c.lower + c.upper + 2 < length c.ring → slice_index ranks (ahead (opposite side) c) ≤ slice_index ranks (ahead side c)
-      → newer ≡ new ++ fan side (ahead (opposite side) c) stack
-      → IsFilling corners ranks piece (one_more (opposite side) c) (opposite side) (last_of stack ∷ ahead (opposite side) c ∷ []) old newer
+      → c.lower + c.upper + 2 < length c.ring → slice_index ranks (ahead (other_chain_side side) c) ≤ slice_index ranks (ahead side c)
+      → newer ≡ new ++ fan side (ahead (other_chain_side side) c) stack
+      → IsFilling corners ranks piece (one_more (other_chain_side side) c) (other_chain_side side) (last_of stack ∷ ahead (other_chain_side side) c ∷ []) old newer
   filling_crosses c Lower stack f more next e =
       let more' : c.upper + c.lower + 2 < length c.ring = omega arith in
       let swapped = merge_swapped f.outline Lower Upper c.lower c.upper f.merge in

@@ -10,7 +10,7 @@ use Rattle.plane.specs.Point.{Point}
 use Rattle.meshes.specs.declared.tri.Tri.{Tri}
 use Rattle.mono_fill.specs.Cursors.{Cursors, ahead, at_least, one_more, read_from}
 use Rattle.mono_fill.specs.Fillable.{IsFillable}
-use Rattle.mono_fill.specs.Sides.{fan, opposite}
+use Rattle.mono_fill.specs.Sides.{fan, other_chain_side}
 use Rattle.mono_fill.specs.Stacks.{ArePopped, Extends, IsSettled, last_of}
 use Rattle.mono_fill.specs.contracts.side.Side.{the_type}
 use Rattle.mono_fill.specs.declared.side.Side.{Side}
@@ -18,7 +18,7 @@ use Rattle.mono_fill.specs.declared.side.Side.TheVariants.{Lower, Upper}
 use Rattle.mono_fill.proofs.Fillings.Fillings.{filling_begins, filling_crosses, filling_goes_on, IsFilling}
 
 -- of two chains one is the other or the opposite one
-pub other_side : (a b : Side) → ¬ (a ≡ b) → a ≡ opposite b
+pub other_side : (a b : Side) → ¬ (a ≡ b) → a ≡ other_chain_side b
 other_side Lower Lower n = absurd (n refl)
 other_side Lower Upper n = refl
 other_side Upper Lower n = refl
@@ -43,7 +43,7 @@ on_ok (Ok v) h f = f h
 on_ok (Err e) h f = h
 
 -- the opposite of the opposite chain
-twice : (a : Side) → opposite (opposite a) ≡ a
+twice : (a : Side) → other_chain_side (other_chain_side a) ≡ a
 twice Lower = refl
 twice Upper = refl
 
@@ -96,29 +96,29 @@ module _ (corners : List Point) (ranks piece : List ℕ) (old : List Tri) where
 
   module _ (c d : Cursors) (side at side' : Side) (x : ℕ) (stack stack' : List ℕ) (new newer : List Tri)
       (f : IsFilling corners ranks piece c side stack old new) (more : c.lower + c.upper + 2 < length c.ring) (same_ranks : c.ranks ≡ ranks)
-      (vertex : x ≡ ahead at c) (cursors : d ≡ one_more at c) (next : slice_index c.ranks x ≤ slice_index c.ranks (ahead (opposite at) c)) where
+      (vertex : x ≡ ahead at c) (cursors : d ≡ one_more at c) (next : slice_index c.ranks x ≤ slice_index c.ranks (ahead (other_chain_side at) c)) where
     -- x is the next vertex
-    x_next : slice_index ranks (ahead at c) ≤ slice_index ranks (ahead (opposite at) c)
-    x_next = subst (λ i. slice_index ranks i ≤ slice_index ranks (ahead (opposite at) c)) vertex
-        (subst (λ rs. slice_index rs x ≤ slice_index rs (ahead (opposite at) c)) same_ranks next)
+    x_next : slice_index ranks (ahead at c) ≤ slice_index ranks (ahead (other_chain_side at) c)
+    x_next = subst (λ i. slice_index ranks i ≤ slice_index ranks (ahead (other_chain_side at) c)) vertex
+        (subst (λ rs. slice_index rs x ≤ slice_index rs (ahead (other_chain_side at) c)) same_ranks next)
 
     -- on the chain of the stack,
     pub gone_on : at ≡ side → side' ≡ side → (kept : List ℕ) (popped : List Tri) → stack' ≡ kept ++ x ∷ [] → IsSettled corners side x kept
         → newer ≡ new ++ popped → ArePopped corners side x stack kept popped → IsFilling corners ranks piece d side' stack' old newer
     gone_on on stays kept popped is_stack settled is_new are =
         let v : x ≡ ahead side c = vertex ∙ ap (λ s. ahead s c) on in
-        let n = subst (λ s. slice_index ranks (ahead s c) ≤ slice_index ranks (ahead (opposite s) c)) on x_next in
+        let n = subst (λ s. slice_index ranks (ahead s c) ≤ slice_index ranks (ahead (other_chain_side s) c)) on x_next in
         moved corners ranks piece old newer (cursors ∙ ap (λ s. one_more s c) on) stays (is_stack ∙ ap (λ i. kept ++ i ∷ []) v)
         (filling_goes_on corners ranks piece old new newer c side stack kept popped f more n is_new
         (subst (λ i. ArePopped corners side i stack kept popped) v are) (subst (λ i. IsSettled corners side i kept) v settled))
 
     -- or on the other one
-    pub crossed : ¬ (at ≡ side) → side' ≡ opposite side → stack' ≡ last_of stack ∷ x ∷ [] → newer ≡ new ++ fan side x stack
+    pub crossed : ¬ (at ≡ side) → side' ≡ other_chain_side side → stack' ≡ last_of stack ∷ x ∷ [] → newer ≡ new ++ fan side x stack
         → IsFilling corners ranks piece d side' stack' old newer
     crossed off turns is_stack is_new =
         let on = other_side at side off in
-        let v : x ≡ ahead (opposite side) c = vertex ∙ ap (λ s. ahead s c) on in
-        let n = subst (λ s. slice_index ranks (ahead s c) ≤ slice_index ranks (ahead (opposite s) c)) on x_next in
-        let n' = subst (λ s. slice_index ranks (ahead (opposite side) c) ≤ slice_index ranks (ahead s c)) (twice side) n in
+        let v : x ≡ ahead (other_chain_side side) c = vertex ∙ ap (λ s. ahead s c) on in
+        let n = subst (λ s. slice_index ranks (ahead s c) ≤ slice_index ranks (ahead (other_chain_side s) c)) on x_next in
+        let n' = subst (λ s. slice_index ranks (ahead (other_chain_side side) c) ≤ slice_index ranks (ahead s c)) (twice side) n in
         moved corners ranks piece old newer (cursors ∙ ap (λ s. one_more s c) on) turns (is_stack ∙ ap (λ i. last_of stack ∷ i ∷ []) v)
         (filling_crosses corners ranks piece old new newer c side stack f more n' (is_new ∙ ap (λ i. new ++ fan side i stack) v))

@@ -5,7 +5,7 @@ use Rattle.plane.proofs.Turns.{determinant_shift_back}
 use Rattle.plane.specs.Point.{Point, whole}
 use Rattle.rings.proofs.Vertices.{meet_swapped}
 use Rattle.rings.specs.Ring.{vertex}
-use Rattle.mono_fill.specs.Sides.{opposite}
+use Rattle.mono_fill.specs.Sides.{other_chain_side}
 use Rattle.mono_fill.specs.declared.side.Side.{Side}
 use Rattle.mono_fill.specs.declared.side.Side.TheVariants.{Lower, Upper}
 use Rattle.mono_fill.proofs.Bends.{bend, EndInward, next_inward}
@@ -49,18 +49,18 @@ module _ {corners : List Point} {ranks piece ring : List ℕ} (o : IsOutline cor
   }
 
   -- both chains end at one vertex
-  pub ends_of : (side : Side) → at ring side (o.edges side) ≡ at ring (opposite side) (o.edges (opposite side))
+  pub ends_of : (side : Side) → at ring side (o.edges side) ≡ at ring (other_chain_side side) (o.edges (other_chain_side side))
   ends_of Lower = o.ends
   ends_of Upper = sym o.ends
 
-  pub all_of : (side : Side) → o.edges side + o.edges (opposite side) ≡ length ring
+  pub all_of : (side : Side) → o.edges side + o.edges (other_chain_side side) ≡ length ring
   all_of Lower = o.all
   all_of Upper = let h = o.all in omega arith
 
   -- the next vertex is on this chain
-  module _ (side : Side) (own other : ℕ) (m : IsMerge o side (opposite side) own other) (more : own + other + 2 < length ring)
-      (next : rank_at ranks ring side (own + 1) ≤ rank_at ranks ring (opposite side) (other + 1)) where
-    pub strictly_next : rank_at ranks ring side (own + 1) < rank_at ranks ring (opposite side) (other + 1)
+  module _ (side : Side) (own other : ℕ) (m : IsMerge o side (other_chain_side side) own other) (more : own + other + 2 < length ring)
+      (next : rank_at ranks ring side (own + 1) ≤ rank_at ranks ring (other_chain_side side) (other + 1)) where
+    pub strictly_next : rank_at ranks ring side (own + 1) < rank_at ranks ring (other_chain_side side) (other + 1)
     strictly_next = let d = o.differ side (own + 1) (other + 1) (omega arith) (omega arith) (omega arith) in grind (arith, d)
 
     -- it is not the greatest
@@ -70,22 +70,22 @@ module _ {corners : List Point} {ranks piece ring : List ℕ} (o : IsOutline cor
       m.own_inside,
       all_of side,
       ap (λ i. slice_index ranks i) (ends_of side),
-      below_greatest o (opposite side) (other + 1),
+      below_greatest o (other_chain_side side) (other + 1),
       strictly_next,
       next,
     )
 
     -- and when it is passed, too, the next edges run at one place
-    pub merge_goes_on : IsMerge o side (opposite side) (own + 1) other
+    pub merge_goes_on : IsMerge o side (other_chain_side side) (own + 1) other
     merge_goes_on =
         let b = at ring side (own + 1) in
         let b' = at ring side (own + 1 + 1) in
-        let c = at ring (opposite side) other in
-        let d = at ring (opposite side) (other + 1) in
+        let c = at ring (other_chain_side side) other in
+        let d = at ring (other_chain_side side) (other + 1) in
         let hb = o.numbers side (own + 1) (omega (arith, still_inside)) in
         let hb' = o.numbers side (own + 1 + 1) (omega (arith, still_inside)) in
-        let hc = o.numbers (opposite side) other (omega (arith, m.other_inside)) in
-        let hd = o.numbers (opposite side) (other + 1) (omega (arith, m.other_inside)) in
+        let hc = o.numbers (other_chain_side side) other (omega (arith, m.other_inside)) in
+        let hd = o.numbers (other_chain_side side) (other + 1) (omega (arith, m.other_inside)) in
         let on = o.rises side (own + 1) still_inside in
         let bd = before o b d hb hd strictly_next in
         record {
@@ -95,6 +95,6 @@ module _ {corners : List Point} {ranks piece ring : List ℕ} (o : IsOutline cor
           other_first = omega (arith, m.other_first, on);
           inward =
               next_inward (vertex corners c) (vertex corners d) (vertex corners b) (vertex corners b')
-              (before o c d hc hd (o.rises (opposite side) other m.other_inside)) (before o c b hc hb m.other_first) bd (before o b b' hb hb' on)
+              (before o c d hc hd (o.rises (other_chain_side side) other m.other_inside)) (before o c b hc hb m.other_first) bd (before o b b' hb hb' on)
               (meet_swapped _ _ (o.apart side (own + 1) other still_inside m.other_inside)) side (m.inward.own bd);
         }

@@ -8,9 +8,9 @@ use Rattle.rings.specs.Apart.{MeetAtEnds}
 use Rattle.rings.specs.Edge.{edge}
 use Rattle.rings.specs.Ring.{vertex}
 use Rattle.meshes.specs.Boundary.{IsOdd, sum_along, sum_round}
-use Rattle.mono_fill.specs.Cursors.{along}
+use Rattle.mono_fill.specs.Cursors.{along_chain}
 use Rattle.mono_fill.specs.Monotone.{AreRanks}
-use Rattle.mono_fill.specs.Sides.{opposite}
+use Rattle.mono_fill.specs.Sides.{other_chain_side}
 use Rattle.mono_fill.specs.declared.side.Side.{Side}
 use Rattle.mono_fill.specs.declared.side.Side.TheVariants.{Lower, Upper}
 use Rattle.mono_fill.proofs.Bends.{bend}
@@ -18,7 +18,7 @@ use Rattle.mono_fill.proofs.Sums.{met}
 
 -- vertex k of a chain: 0 is the least one
 abbrev pub at : List ℕ → Side → ℕ → ℕ
-at ring side k = slice_index (along side ring) k
+at ring side k = slice_index (along_chain side ring) k
 
 abbrev pub point_at : List Point → List ℕ → Side → ℕ → Point
 point_at corners ring side k = vertex corners (at ring side k)
@@ -32,7 +32,7 @@ IsInward corners side p q x = pos 0 <ℤ bend side (vertex corners p) (vertex co
 
 -- the sum along a chain as far as vertex k
 abbrev pub sum_up_to : (ℕ → ℕ → ℤ) → List ℕ → Side → ℕ → ℤ
-sum_up_to φ ring side k = sum_along (met side φ) (take (k + 1) (along side ring))
+sum_up_to φ ring side k = sum_along (met side φ) (take (k + 1) (along_chain side ring))
 
 -- what holds of a monotone piece: both chains rise from one vertex to one vertex, their edges meet at ends only, and the turn between them
 -- at the least vertex is inward
@@ -42,16 +42,16 @@ pub record IsOutline (corners : List Point) (ranks piece ring : List ℕ) : Type
   pub edges : Side → ℕ
   pub all : edges Lower + edges Upper ≡ length ring
   pub some : (side : Side) → 0 < edges side
-  pub long : (side : Side) → edges side < length (along side ring)
+  pub long : (side : Side) → edges side < length (along_chain side ring)
   pub begins : at ring Lower 0 ≡ at ring Upper 0
   pub ends : at ring Lower (edges Lower) ≡ at ring Upper (edges Upper)
   pub members : (side : Side) (k : ℕ) → k ≤ edges side → Contains piece (at ring side k)
   pub numbers : (side : Side) (k : ℕ) → k ≤ edges side → at ring side k < length corners
   pub rises : (side : Side) (k : ℕ) → k < edges side → rank_at ranks ring side k < rank_at ranks ring side (k + 1)
-  pub differ : (side : Side) (k l : ℕ) → 0 < k → 0 < l → k + l < length ring → ¬ (rank_at ranks ring side k ≡ rank_at ranks ring (opposite side) l)
-  pub apart : (side : Side) (k l : ℕ) → k < edges side → l < edges (opposite side)
+  pub differ : (side : Side) (k l : ℕ) → 0 < k → 0 < l → k + l < length ring → ¬ (rank_at ranks ring side k ≡ rank_at ranks ring (other_chain_side side) l)
+  pub apart : (side : Side) (k l : ℕ) → k < edges side → l < edges (other_chain_side side)
       → MeetAtEnds (edge (point_at corners ring side k) (point_at corners ring side (k + 1)))
-      (edge (point_at corners ring (opposite side) l) (point_at corners ring (opposite side) (l + 1)))
+      (edge (point_at corners ring (other_chain_side side) l) (point_at corners ring (other_chain_side side) (l + 1)))
   pub opens : pos 0 <ℤ bend Lower (point_at corners ring Lower 0) (point_at corners ring Lower 1) (point_at corners ring Upper 1)
   pub sums : (φ : ℕ → ℕ → ℤ) → IsOdd φ → sum_up_to φ ring Lower (edges Lower) +ℤ sum_up_to φ ring Upper (edges Upper) ≡ sum_round φ piece
 

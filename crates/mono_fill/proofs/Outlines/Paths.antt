@@ -16,9 +16,9 @@ use Rattle.rings.specs.Ring.{vertex}
 use Rattle.meshes.proofs.Boundaries.{sum_parted}
 use Rattle.meshes.specs.Boundary.{IsOdd, sum_along, sum_from, sum_round}
 use Rattle.meshes.specs.Piece.{IsPolygonPiece}
-use Rattle.mono_fill.specs.Cursors.{along}
+use Rattle.mono_fill.specs.Cursors.{along_chain}
 use Rattle.mono_fill.specs.Monotone.{AreRanks, Rises}
-use Rattle.mono_fill.specs.Sides.{opposite}
+use Rattle.mono_fill.specs.Sides.{other_chain_side}
 use Rattle.mono_fill.specs.declared.side.Side.{Side}
 use Rattle.mono_fill.specs.declared.side.Side.TheVariants.{Lower, Upper}
 use Rattle.mono_fill.proofs.Outlines.Around.{contains_at, edges_meet, first_inward, upper_at, vertices_differ}
@@ -49,7 +49,7 @@ module _ (s : ℕ) (lower : List ℕ) (t : ℕ) (upper : List ℕ) where
   abbrev edges : Side → ℕ
   edges side = length (between side) + 1
 
-  along_is : (side : Side) → along side ring_of ≡ path side ++ beyond side
+  along_is : (side : Side) → along_chain side ring_of ≡ path side ++ beyond side
   along_is Lower = ap (λ xs. s ∷ xs) (sym (append_assoc lower (t ∷ []) upper))
   along_is Upper = ap (λ xs. s ∷ xs) (reverse-append lower (t ∷ upper) ∙ ap (λ xs. xs ++ reverse lower) (reverse-cons t upper))
 
@@ -65,12 +65,12 @@ module _ (s : ℕ) (lower : List ℕ) (t : ℕ) (upper : List ℕ) where
   all_edges : edges Lower + edges Upper ≡ length ring_of
   all_edges = let e = length-append lower (t ∷ upper) in let f = length-reverse upper in omega arith
 
-  long : (side : Side) → edges side < length (along side ring_of)
+  long : (side : Side) → edges side < length (along_chain side ring_of)
   long side = let e = ap length (along_is side) in let f = length-append (path side) (beyond side) in omega (arith, length_path side)
 
   -- ---- sums
 
-  take_path : (side : Side) → take (edges side + 1) (along side ring_of) ≡ path side
+  take_path : (side : Side) → take (edges side + 1) (along_chain side ring_of) ≡ path side
   take_path side = ap (take (edges side + 1)) (along_is side) ∙ take_at (path side) (beyond side) (edges side + 1) (length_path side)
 
   module _ (φ : ℕ → ℕ → ℤ) (odd : IsOdd φ) where
@@ -159,7 +159,7 @@ module _ (s : ℕ) (lower : List ℕ) (t : ℕ) (upper : List ℕ) where
     ]
 
     differ : (side : Side) (k l : ℕ) → 0 < k → 0 < l → k + l < length ring_of
-        → ¬ (rank_at ranks ring_of side k ≡ rank_at ranks ring_of (opposite side) l)
+        → ¬ (rank_at ranks ring_of side k ≡ rank_at ranks ring_of (other_chain_side side) l)
     differ Lower k l hk hl h e =
         vertices_differ s (lower ++ t ∷ upper) corners polygon k l hl h
         (same_point _ _ (number Lower k (omega arith)) (number Upper l (omega arith)) e)
@@ -176,9 +176,9 @@ module _ (s : ℕ) (lower : List ℕ) (t : ℕ) (upper : List ℕ) where
         (subst (λ p. IsBefore p (point_at corners ring_of Lower k)) (sym f)
         (subst (IsBefore (point_at corners ring_of Upper l)) (sym e) (step_before Upper l hl))))
 
-    apart : (side : Side) (k l : ℕ) → k < edges side → l < edges (opposite side)
+    apart : (side : Side) (k l : ℕ) → k < edges side → l < edges (other_chain_side side)
         → MeetAtEnds (edge (point_at corners ring_of side k) (point_at corners ring_of side (k + 1)))
-        (edge (point_at corners ring_of (opposite side) l) (point_at corners ring_of (opposite side) (l + 1)))
+        (edge (point_at corners ring_of (other_chain_side side) l) (point_at corners ring_of (other_chain_side side) (l + 1)))
     apart Lower k l hk hl = lower_upper k l hk hl
     apart Upper k l hk hl = meet_swapped _ _ (lower_upper l k hl hk)
 

@@ -12,7 +12,7 @@ use Rattle.meshes.proofs.Boundaries.{sides_append}
 use Rattle.meshes.specs.Boundary.{IsOdd, sum_along, sum_sides}
 use Rattle.meshes.specs.Fits.{IsTriOf}
 use Rattle.meshes.specs.declared.tri.Tri.{Tri}
-use Rattle.mono_fill.specs.Cursors.{along}
+use Rattle.mono_fill.specs.Cursors.{along_chain}
 use Rattle.mono_fill.specs.Sides.{IsCounterclockwiseTri, fan_from, triangle}
 use Rattle.mono_fill.specs.Stacks.{ArePopped, IsSettled, last_of}
 use Rattle.mono_fill.specs.declared.side.Side.{Side}
@@ -41,10 +41,10 @@ at_or_below : (k n : ℕ) → k < n + 1 → (k < n) ⊎ (k ≡ n)
 at_or_below k n h = grind arith
 
 -- the sum along a chain, one vertex further
-pub sum_more : (φ : ℕ → ℕ → ℤ) (ring : List ℕ) (side : Side) (k : ℕ) → k + 1 < length (along side ring)
+pub sum_more : (φ : ℕ → ℕ → ℤ) (ring : List ℕ) (side : Side) (k : ℕ) → k + 1 < length (along_chain side ring)
     → sum_up_to φ ring side (k + 1) ≡ sum_up_to φ ring side k +ℤ met side φ (at ring side k) (at ring side (k + 1))
 sum_more φ ring side k h =
-    let xs = along side ring in
+    let xs = along_chain side ring in
     let n : length (take (k + 1) xs) ≡ k + 1 = length-take-le (k + 1) xs (omega arith) in
     let e : length (take (k + 1) xs) - 1 ≡ k = omega arith in
     let last : last_of (take (k + 1) xs) ≡ at ring side k = ap (slice_index (take (k + 1) xs)) e ∙ get_or-take (k + 1) xs k 0 (omega arith) in

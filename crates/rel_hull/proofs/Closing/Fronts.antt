@@ -8,12 +8,12 @@ use Rattle.hulls.specs.Round.{Follows}
 use Rattle.plane.specs.Point.{Point}
 use Rattle.rel_hull.proofs.Closing.Numbers.{after_within}
 use Rattle.rel_hull.specs.Hull.{IsSide}
-use Rattle.rel_hull.specs.Round.{IsClosed, StartsSide}
+use Rattle.rel_hull.specs.Round.{IsClosedRound, StartsSide}
 
 -- a list that begins with the first number is a front of a closed round, where next comes after it
 pub record IsFrontTo (ring points : List Point) (first : ℕ) (list : List ℕ) (next : ℕ) : Type 0 where
   pub round : List ℕ
-  pub closed : IsClosed ring points round
+  pub closed : IsClosedRound ring points round
   pub begins : slice_index round 0 ≡ first
   pub some : 0 < length list
   pub within : length list ≤ length round
@@ -22,12 +22,12 @@ pub record IsFrontTo (ring points : List Point) (first : ℕ) (list : List ℕ) 
 
 module _ (ring points : List Point) where
   -- a side goes from each number of a closed round to the next
-  side_in : (round : List ℕ) → IsClosed ring points round → (i : ℕ) → i < length round
+  side_in : (round : List ℕ) → IsClosedRound ring points round → (i : ℕ) → i < length round
       → IsSide ring points (slice_index round i) (slice_index round (place_after round i))
   side_in round closed i within = (closed.sides _ _).1 (record { i = i; in_list = within; at = refl; next = refl })
 
   -- the least start is such a front
-  pub front_begins : (round : List ℕ) → IsClosed ring points round → (first end : ℕ) → StartsSide ring points first
+  pub front_begins : (round : List ℕ) → IsClosedRound ring points round → (first end : ℕ) → StartsSide ring points first
       → ((r : ℕ) → StartsSide ring points r → first ≤ r) → ((t : ℕ) → IsSide ring points first t → end ≡ t)
       → IsFrontTo ring points first (first ∷ []) end
   front_begins round closed first end starts least ends =
@@ -102,12 +102,12 @@ module _ (ring points : List Point) where
         }
 
     -- and where next is the first number again, it is the round
-    pub front_ends : next ≡ first → IsClosed ring points list
+    pub front_ends : next ≡ first → IsClosedRound ring points list
     front_ends again = elim (cases_lt (length list) (length round)) [
       | inl more ↦
           absurd (front.closed.distinct 0 (length list) front.some more (front.begins ∙ sym again ∙ next_at more))
       | inr all ↦
           let within = front.within in
           let same : length list ≡ length round = omega arith in
-          subst (IsClosed ring points) (sym (front.front ∙ ap (λ (n : ℕ). take n round) same ∙ take-length round)) front.closed
+          subst (IsClosedRound ring points) (sym (front.front ∙ ap (λ (n : ℕ). take n round) same ∙ take-length round)) front.closed
     ]

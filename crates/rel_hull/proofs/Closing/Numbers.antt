@@ -10,7 +10,7 @@ use Rattle.rel_hull.proofs.Closing.Least.{IsFromLeast, side_from}
 use Rattle.rel_hull.proofs.Closing.Turning.{AreOuterNumbers, IsLeftAt, IsSideAt, apart_at, pair_at_places, places_of_pair}
 use Rattle.rel_hull.proofs.Turned.{pair_of_side, side_of_pair}
 use Rattle.rel_hull.specs.Hull.{IsSide}
-use Rattle.rel_hull.specs.Round.{IsClosed}
+use Rattle.rel_hull.specs.Round.{IsClosedRound}
 
 -- the place that comes after one in a list is in the list
 pub after_within : (round : List ℕ) (i : ℕ) → i < length round → place_after round i < length round
@@ -76,7 +76,7 @@ module _ (ring points : List Point) (outer : List ℕ) (are : AreOuterNumbers ri
       (side_of_pair ring points _ _ (pair_at_places ring points outer are _ _ (side k within))))
 
   -- so the numbers are closed
-  pub numbers_closed : IsClosed ring points numbers
+  pub numbers_closed : IsClosedRound ring points numbers
   numbers_closed =
       let first_side = from.side in
       let some : 0 < length round = let follows : Follows round (slice_index round 0) from.end = (from.is.sides _ _).0 first_side in omega (arith, follows.in_list) in

@@ -10,11 +10,11 @@ use Rattle.rel_hull.proofs.Closing.Least.{round_from_least}
 use Rattle.rel_hull.proofs.Closing.Numbers.{numbers_closed}
 use Rattle.rel_hull.proofs.Closing.Turning.{IsLeftAt, are_turning, places_of_pair}
 use Rattle.rel_hull.specs.Hull.{IsSide}
-use Rattle.rel_hull.specs.Round.{IsClosed, IsRound, OneRoundLaw}
+use Rattle.rel_hull.specs.Round.{IsClosedRound, IsRound, OneRoundLaw}
 use Rattle.rings.specs.Simple.{IsSimple}
 
 -- a closed round is one of the sides
-round_by : (ring points : List Point) (round : List ℕ) → IsClosed ring points round → IsRoundBy (IsSide ring points) round
+round_by : (ring points : List Point) (round : List ℕ) → IsClosedRound ring points round → IsRoundBy (IsSide ring points) round
 round_by ring points round is = record { distinct = is.distinct; sides = is.sides }
 
 -- of one point or more there is only one round
@@ -36,7 +36,7 @@ only_round ring points some one other h g = elim (cases_lt 1 (length points)) [
 module _ (ring : List Point) (some : 3 ≤ length ring) (simple : IsSimple ring) (points : List Point) (distinct : AreDistinct points)
     (all_in : AreAllIn ring points) where
   -- two or more points have a closed round
-  some_closed : 2 ≤ length points → (round : List ℕ) × IsClosed ring points round
+  some_closed : 2 ≤ length points → (round : List ℕ) × IsClosedRound ring points round
   some_closed two =
       let (outer, are) = some_others (IsInnerPoint ring points) (inner_or_not ring some simple points distinct all_in) (length points) in
       let (s, t, pair) = outer_pair ring some simple points two distinct all_in in

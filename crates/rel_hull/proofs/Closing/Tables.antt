@@ -9,8 +9,8 @@ use Rattle.rel_hull.proofs.Paths.{length-points_of}
 use Rattle.rel_hull.proofs.TableSides.{side_of_told, told_of_side}
 use Rattle.rel_hull.specs.Hull.{IsSide}
 use Rattle.rel_hull.specs.Round.{IsRound, StartsSide}
-use Rattle.rel_hull.specs.Table.{IsTableOf, Table, points_of}
-use Rattle.rel_hull.specs.Told.{AreOuterBelow, IsFirstStart, IsTold, StartsTold}
+use Rattle.rel_hull.specs.Table.{IsTableOf, Table, table_points}
+use Rattle.rel_hull.specs.Told.{AreOuterBelow, IsFirstStart, IsToldSide, StartsTold}
 use Rattle.rings.specs.Inside.{IsIn}
 use Rattle.rings.specs.Simple.{IsSimple}
 
@@ -24,7 +24,7 @@ two_of_side ring points s t side =
 
 module _ (ring : List Point) (table : Table) (is : IsTableOf ring table) where
   abbrev points : List Point
-  points = points_of table
+  points = table_points table
 
   -- the points are in the ring
   points_in : AreAllIn ring points
@@ -46,7 +46,7 @@ module _ (ring : List Point) (table : Table) (is : IsTableOf ring table) where
 
   module _ (outer : List ℕ) (are : AreOuterBelow table table.count outer) where
     -- what is the end of each side that is told is that of each side
-    end_of_side : (s end : ℕ) → ((t : ℕ) → IsTold table outer (s, t) → end ≡ t) → (t : ℕ) → IsSide ring points s t → end ≡ t
+    end_of_side : (s end : ℕ) → ((t : ℕ) → IsToldSide table outer (s, t) → end ≡ t) → (t : ℕ) → IsSide ring points s t → end ≡ t
     end_of_side s end ends t side = ends t (told_of_side ring table is outer are s t side)
 
     told_start : (s : ℕ) → StartsSide ring points s → StartsTold table outer s
@@ -60,7 +60,7 @@ module _ (ring : List Point) (table : Table) (is : IsTableOf ring table) where
 
     -- the least start and the end of its side are a front
     pub front_of_start : 3 ≤ length ring → IsSimple ring → (first end : ℕ) → IsFirstStart table outer first
-        → ((t : ℕ) → IsTold table outer (first, t) → end ≡ t) → IsFrontTo ring points first (first ∷ []) end
+        → ((t : ℕ) → IsToldSide table outer (first, t) → end ≡ t) → IsFrontTo ring points first (first ∷ []) end
     front_of_start some simple first end is_first ends =
         let found = round_of_table some simple in
         let side = side_of_told ring table is outer are (first, is_first.starts.0) is_first.starts.1 in
@@ -69,5 +69,5 @@ module _ (ring : List Point) (table : Table) (is : IsTableOf ring table) where
 
     -- which goes on
     pub front_of_next : (first : ℕ) (list : List ℕ) (next end : ℕ) → IsFrontTo ring points first list next → next ≢ first
-        → ((t : ℕ) → IsTold table outer (next, t) → end ≡ t) → IsFrontTo ring points first (list ++ next ∷ []) end
+        → ((t : ℕ) → IsToldSide table outer (next, t) → end ≡ t) → IsFrontTo ring points first (list ++ next ∷ []) end
     front_of_next first list next end front apart ends = front_goes_on ring points first list next front apart end (end_of_side next end ends)

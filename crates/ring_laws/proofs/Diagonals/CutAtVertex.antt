@@ -18,7 +18,7 @@ use Rattle.ring_laws.proofs.Diagonals.Diagonals.{diagonal_backward, diagonal_rot
 use Rattle.ring_laws.proofs.Ears.{NoneBefore, none_before_least, ReadFrom, apart_from, read_from}
 use Rattle.ring_laws.proofs.Simple.{InTriangle, height, simple_ring_law}
 use Rattle.ring_laws.proofs.Triangles.{in_or_not}
-use Rattle.ring_laws.specs.CutRule.{IsCut, IsFarthestInCorner, IsInCorner, IsLeftCorner, across, to_farthest}
+use Rattle.ring_laws.specs.CutRule.{IsCutAt, IsFarthestInCorner, IsInCorner, IsLeftCorner, across, to_farthest}
 use Rattle.ring_laws.specs.Diagonal.{IsDiagonal}
 
 -- a ring whose parts in the other order are v, w, ms and u; v is vertex i, a least vertex, and there are more than its neighbours
@@ -58,7 +58,7 @@ module _ (ring : List Point) (i : ℕ) (v w : Point) (ms : List Point) (u : Poin
 
 -- the cut at a least vertex is a diagonal
 pub cut_is_diagonal_at : (ring : List Point) → 3 < length ring → IsApartRing ring → (i : ℕ) → i < length ring → IsLeastVertex ring i
-    → (a b : Point) → IsCut ring i a b → IsDiagonal ring a b
+    → (a b : Point) → IsCutAt ring i a b → IsDiagonal ring a b
 cut_is_diagonal_at ring some apart i within least a b = go (read_from ring i (omega arith) within)
   where
     corner : {p q : Point} (r : ReadFrom ring i) → IsLeftCorner ring i p q → AreBoth r.u r.w p q
@@ -73,7 +73,7 @@ cut_is_diagonal_at ring some apart i within least a b = go (read_from ring i (om
         (subst (λ rs. HasPoint rs y) (take-append-drop i ring)
         (has_swapped y (drop i ring) (take i ring) (subst (λ rs. HasPoint rs y) (sym r.is) (inr has))))
 
-    go : (r : ReadFrom ring i) → IsCut ring i a b → IsDiagonal ring a b
+    go : (r : ReadFrom ring i) → IsCutAt ring i a b → IsDiagonal ring a b
     go r (across c empty) =
         across_diagonal ring i (vertex ring i) r.w r.ms r.u r.is refl (apart_from ring i r apart) (omega (arith, r.size)) (none r)
         a b (corner r c) c.left empty
@@ -83,7 +83,7 @@ cut_is_diagonal_at ring some apart i within least a b = go (read_from ring i (om
 
 -- and there is one
 pub some_cut : (ring : List Point) → 3 ≤ length ring → IsSimple ring → (i : ℕ) → i < length ring → IsLeastVertex ring i
-    → (a : Point) × (b : Point) × IsCut ring i a b
+    → (a : Point) × (b : Point) × IsCutAt ring i a b
 some_cut ring some simple i within least = elim (simple_ring_law ring some simple i within least) [
   | inl h ↦ at_corner before after (inl (reading.before, reading.after)) (record { neighbours = inl (refl, refl); left = h.0 })
   | inr h ↦ at_corner after before (inr (reading.after, reading.before)) (record {
@@ -101,7 +101,7 @@ some_cut ring some simple i within least = elim (simple_ring_law ring some simpl
     reading : ReadFrom ring i
     reading = read_from ring i some within
 
-    at_corner : (p q : Point) → AreBoth reading.u reading.w p q → IsLeftCorner ring i p q → (a : Point) × (b : Point) × IsCut ring i a b
+    at_corner : (p q : Point) → AreBoth reading.u reading.w p q → IsLeftCorner ring i p q → (a : Point) × (b : Point) × IsCutAt ring i a b
     at_corner p q both corner =
         let r = reading in
         let v = vertex ring i in

@@ -13,7 +13,7 @@ use Rattle.sweep_tri.proofs.Fronts.GapPlaces.{GoesOn, goes_on_outside, low_below
 use Rattle.sweep_tri.proofs.Fronts.Kinds.{at_both, at_gap, gap_here}
 use Rattle.sweep_tri.proofs.Fronts.Passed.{passed}
 use Rattle.sweep_tri.proofs.Fronts.Spliced.{IsSpliced}
-use Rattle.sweep_tri.specs.Frontier.{IsAbove, IsFrontier, IsPlace, IsUnder}
+use Rattle.sweep_tri.specs.Frontier.{IsAbove, IsFrontier, IsGapPlace, IsUnder}
 use Rattle.sweep_tri.specs.Gaps.{front_edge, fronts, gap_at, low_front, up_front}
 use Rattle.sweep_tri.specs.declared.gap.Gap.{Gap}
 
@@ -37,7 +37,7 @@ pub record IsMerge (corners : List Point) (ranks : List ℕ) (k v : ℕ) (gaps :
 
 module _ (corners : List Point) (order ranks : List ℕ) (are : AreEvents corners order ranks) (three : 3 ≤ length corners) (simple : IsSimple corners)
     (k v : ℕ) (hv : v < length ranks) (rank_v : slice_index ranks v ≡ k) (gaps : List Gap) (frontier : IsFrontier corners ranks k (fronts gaps))
-    (j : ℕ) (place : IsPlace corners gaps v j) (s t : ℕ) (beside : AreBeside (length ranks) v s t)
+    (j : ℕ) (place : IsGapPlace corners gaps v j) (s t : ℕ) (beside : AreBeside (length ranks) v s t)
     (before_s : slice_index ranks s < k) (before_t : slice_index ranks t < k) where
   -- there is a gap j,
   pub closes : j < length gaps

@@ -14,7 +14,7 @@ use Rattle.sweep_tri.proofs.Fronts.Kinds.{at_low, at_up}
 use Rattle.sweep_tri.proofs.Fronts.Passed.{passed}
 use Rattle.sweep_tri.proofs.Fronts.Sides.{above_no_end, under_no_end}
 use Rattle.sweep_tri.proofs.Fronts.Spliced.{IsSpliced}
-use Rattle.sweep_tri.specs.Frontier.{IsAbove, IsFrontier, IsPlace, IsUnder}
+use Rattle.sweep_tri.specs.Frontier.{IsAbove, IsFrontier, IsGapPlace, IsUnder}
 use Rattle.sweep_tri.specs.Gaps.{front_edge, fronts, gap_at, low_front, up_front}
 use Rattle.sweep_tri.specs.declared.gap.Gap.{Gap}
 
@@ -39,7 +39,7 @@ pub record IsNextUp (corners : List Point) (ranks : List ℕ) (k v w : ℕ) (gap
 
 module _ (corners : List Point) (order ranks : List ℕ) (are : AreEvents corners order ranks) (three : 3 ≤ length corners) (simple : IsSimple corners)
     (k v : ℕ) (hv : v < length ranks) (rank_v : slice_index ranks v ≡ k) (gaps : List Gap) (frontier : IsFrontier corners ranks k (fronts gaps))
-    (j : ℕ) (place : IsPlace corners gaps v j) (u w : ℕ) (beside : AreBeside (length ranks) v u w)
+    (j : ℕ) (place : IsGapPlace corners gaps v j) (u w : ℕ) (beside : AreBeside (length ranks) v u w)
     (before : slice_index ranks u < k) (later : k < slice_index ranks w) where
   pub follows_low : j < length gaps → (low_front (gap_at gaps j)).to ≡ v → IsNextLow corners ranks k v w gaps j
   follows_low h to =

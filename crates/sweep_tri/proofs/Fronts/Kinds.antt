@@ -11,7 +11,7 @@ use Rattle.sweep_tri.proofs.Fronts.Gaps.{length-fronts, low_at, up_at}
 use Rattle.sweep_tri.proofs.Fronts.GapPlaces.{low_above, low_ends, low_in_middle, up_ends, up_in_middle, up_under}
 use Rattle.sweep_tri.proofs.Fronts.Parted.{IsParted, parted}
 use Rattle.sweep_tri.proofs.Fronts.Sides.{above_no_end, above_not_under}
-use Rattle.sweep_tri.specs.Frontier.{IsAbove, IsFrontier, IsPlace, IsUnder, front_at}
+use Rattle.sweep_tri.specs.Frontier.{IsAbove, IsFrontier, IsGapPlace, IsUnder, front_at}
 use Rattle.sweep_tri.specs.Gaps.{fronts, gap_at, low_front, up_front}
 use Rattle.sweep_tri.specs.declared.gap.Gap.{Gap}
 
@@ -19,7 +19,7 @@ use Rattle.sweep_tri.specs.declared.gap.Gap.{Gap}
 
 module _ (corners : List Point) (order ranks : List ℕ) (are : AreEvents corners order ranks) (three : 3 ≤ length corners) (simple : IsSimple corners)
     (k v : ℕ) (hv : v < length ranks) (rank_v : slice_index ranks v ≡ k) (gaps : List Gap) (frontier : IsFrontier corners ranks k (fronts gaps)) where
-  module _ (j : ℕ) (place : IsPlace corners gaps v j) where
+  module _ (j : ℕ) (place : IsGapPlace corners gaps v j) where
     -- the edges before the place of v are at most those of the gaps before its own,
     at_most : (first count : ℕ) → IsParted corners (fronts gaps) v first count → first ≤ 2 * j
     at_most first count p =

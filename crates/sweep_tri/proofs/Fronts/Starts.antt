@@ -18,7 +18,7 @@ use Rattle.sweep_tri.proofs.Fronts.Parted.{IsParted}
 use Rattle.sweep_tri.proofs.Fronts.Passed.{passed}
 use Rattle.sweep_tri.proofs.Fronts.Sides.{above_no_end, under_no_end}
 use Rattle.sweep_tri.proofs.Fronts.Spliced.{IsSpliced}
-use Rattle.sweep_tri.specs.Frontier.{IsAbove, IsFrontier, IsPlace, IsUnder}
+use Rattle.sweep_tri.specs.Frontier.{IsAbove, IsFrontier, IsGapPlace, IsUnder}
 use Rattle.sweep_tri.specs.Gaps.{Front, front_edge, fronts, gap_at, low_front, up_front}
 use Rattle.sweep_tri.specs.declared.gap.Gap.{Gap}
 
@@ -41,7 +41,7 @@ pub record IsSplit (corners : List Point) (ranks : List ℕ) (k v s t : ℕ) (ga
 
 module _ (corners : List Point) (order ranks : List ℕ) (are : AreEvents corners order ranks) (three : 3 ≤ length corners) (simple : IsSimple corners)
     (k v : ℕ) (hv : v < length ranks) (rank_v : slice_index ranks v ≡ k) (gaps : List Gap) (frontier : IsFrontier corners ranks k (fronts gaps))
-    (j : ℕ) (place : IsPlace corners gaps v j) (s t : ℕ) (beside : AreBeside (length ranks) v s t)
+    (j : ℕ) (place : IsGapPlace corners gaps v j) (s t : ℕ) (beside : AreBeside (length ranks) v s t)
     (later_s : k < slice_index ranks s) (later_t : k < slice_index ranks t)
     (left : IsLeft (whole (vertex corners v)) (whole (vertex corners s)) (whole (vertex corners t))) where
   -- where the middle is empty, all edges go on

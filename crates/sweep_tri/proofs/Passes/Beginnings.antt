@@ -8,7 +8,7 @@ use Rattle.sweep_tri.proofs.Fronts.{beside_swapped}
 use Rattle.sweep_tri.proofs.Passes.Ready.{at_event}
 use Rattle.sweep_tri.proofs.Swept.{both_turn, swept_splits, swept_starts}
 use Rattle.sweep_tri.specs.Forks.{IsForkAt, TurnsLeft}
-use Rattle.sweep_tri.specs.Frontier.{IsPlace, IsUnder}
+use Rattle.sweep_tri.specs.Frontier.{IsGapPlace, IsUnder}
 use Rattle.sweep_tri.specs.Gaps.{gap_at, up_front}
 use Rattle.sweep_tri.specs.Meeting.{gap_of, region_from, split_above, split_below}
 use Rattle.sweep_tri.specs.Passing.{AreBeside, Begins, IsNextEvent}
@@ -18,7 +18,7 @@ use Rattle.sweep_tri.specs.declared.gap.Gap.{Gap}
 
 module _ {corners : List Point} {ranks : List ℕ} {gaps : List Gap} {tris : List Tri} where
   -- the fork at the vertex has one neighbour below and the other one above
-  pub begins_of_fork : {v : ℕ} (is : IsNextEvent corners ranks gaps tris v) (j : ℕ) (place : IsPlace corners gaps v j) (a b : ℕ) (f : Fork)
+  pub begins_of_fork : {v : ℕ} (is : IsNextEvent corners ranks gaps tris v) (j : ℕ) (place : IsGapPlace corners gaps v j) (a b : ℕ) (f : Fork)
       → AreBeside (length ranks) v a b → slice_index ranks v < slice_index ranks a → slice_index ranks v < slice_index ranks b
       → IsForkAt corners v a b f → Begins corners ranks f
   begins_of_fork {v} is j place a b f beside later_a later_b (at_v, inl (is_a, is_b, left)) =
@@ -31,7 +31,7 @@ module _ {corners : List Point} {ranks : List ℕ} {gaps : List Gap} {tris : Lis
       ] in
       rw (at_v, is_b, is_a) (record { beside = beside_swapped (length ranks) v a b beside; below_later = later_b; above_later = later_a; left = left })
 
-  module _ (f : Fork) (is : IsNextEvent corners ranks gaps tris f.vertex) (j : ℕ) (place : IsPlace corners gaps f.vertex j) (begins : Begins corners ranks f) where
+  module _ (f : Fork) (is : IsNextEvent corners ranks gaps tris f.vertex) (j : ℕ) (place : IsGapPlace corners gaps f.vertex j) (begins : Begins corners ranks f) where
     -- a gap starts where the vertex is not under the edge above the gap before
     pub swept_of_start : (0 < j → ¬ IsUnder corners (up_front (gap_at gaps (j - 1))) f.vertex)
         → IsSwept corners ranks (slice_index ranks f.vertex + 1) (insert gaps j (gap_of (region_from f.vertex f.below f.above))) tris

@@ -7,7 +7,7 @@ use Rattle.meshes.specs.declared.tri.Tri.{Tri}
 use Rattle.rings.specs.Events.{next, previous}
 use Rattle.sweep_tri.proofs.Passes.Ready.{at_event}
 use Rattle.sweep_tri.proofs.Swept.{end_closes, end_has_gap, merge_closes_above, merge_closes_below, merge_some, swept_ends, swept_merges}
-use Rattle.sweep_tri.specs.Frontier.{IsPlace}
+use Rattle.sweep_tri.specs.Frontier.{IsGapPlace}
 use Rattle.sweep_tri.specs.Gaps.{gap_at, up_front}
 use Rattle.sweep_tri.specs.Meeting.{AreFilled, closed_at, left_at}
 use Rattle.mono_fill.specs.declared.side.Side.TheVariants.{Lower, Upper}
@@ -17,7 +17,7 @@ use Rattle.sweep_tri.specs.Swept.{IsSwept}
 use Rattle.sweep_tri.specs.declared.gap.Gap.{Gap}
 
 module _ {corners : List Point} {ranks : List ℕ} {gaps : List Gap} {tris : List Tri} {v : ℕ} (is : IsNextEvent corners ranks gaps tris v)
-    (j : ℕ) (place : IsPlace corners gaps v j) (finishes : Finishes ranks v) where
+    (j : ℕ) (place : IsGapPlace corners gaps v j) (finishes : Finishes ranks v) where
   abbrev before : ℕ
   before = previous (length ranks) v
 

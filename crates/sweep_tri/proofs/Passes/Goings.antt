@@ -6,17 +6,17 @@ use Rattle.plane.specs.Point.{Point}
 use Rattle.meshes.specs.declared.tri.Tri.{Tri}
 use Rattle.sweep_tri.proofs.Passes.Ready.{at_event}
 use Rattle.sweep_tri.proofs.Swept.{low_closes, swept_follows_low, swept_follows_up, up_closes, up_has_gap}
-use Rattle.sweep_tri.specs.Frontier.{IsPlace}
+use Rattle.sweep_tri.specs.Frontier.{IsGapPlace}
 use Rattle.sweep_tri.specs.Gaps.{gap_at, low_front}
 use Rattle.sweep_tri.specs.Meeting.{AreFilled, closed_at, gap_of, left_at, with_vertex}
 use Rattle.mono_fill.specs.declared.side.Side.TheVariants.{Lower, Upper}
-use Rattle.sweep_tri.specs.Passing.{GoesOn, IsNextEvent}
+use Rattle.sweep_tri.specs.Passing.{IsRegularVertex, IsNextEvent}
 use Rattle.sweep_tri.specs.Region.{IsClosedRegion}
 use Rattle.sweep_tri.specs.Swept.{IsSwept}
 use Rattle.sweep_tri.specs.declared.gap.Gap.{Gap}
 
 module _ {corners : List Point} {ranks : List ℕ} {gaps : List Gap} {tris : List Tri} {v : ℕ} (is : IsNextEvent corners ranks gaps tris v)
-    (j : ℕ) (place : IsPlace corners gaps v j) (w : ℕ) (goes : GoesOn ranks v w) where
+    (j : ℕ) (place : IsGapPlace corners gaps v j) (w : ℕ) (goes : IsRegularVertex ranks v w) where
   -- ---- the edge below gap j ends at v
 
   module _ (inside : j < length gaps) (to : (low_front (gap_at gaps j)).to ≡ v) where

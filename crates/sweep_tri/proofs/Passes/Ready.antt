@@ -5,7 +5,7 @@ use Rattle.plane.specs.Point.{Point}
 use Rattle.meshes.specs.declared.tri.Tri.{Tri}
 use Rattle.sweep_tri.proofs.Search.{open_have_low_fronts}
 use Rattle.sweep_tri.proofs.Swept.{IsAtEvent, gap_high_region, gap_low_region, swept_sorted}
-use Rattle.sweep_tri.specs.Frontier.{IsPlace}
+use Rattle.sweep_tri.specs.Frontier.{IsGapPlace}
 use Rattle.sweep_tri.specs.Gaps.{before_last, gap_at, highest, up_front}
 use Rattle.sweep_tri.specs.Passing.{IsNextEvent}
 use Rattle.sweep_tri.specs.Region.{IsRegion}
@@ -88,7 +88,7 @@ module _ {corners : List Point} {ranks : List ℕ} {gaps : List Gap} {tris : Lis
         let path : List ℕ = let g = gap_at gaps j in (highest g.low g.high).upper in
         highest_region.upper_numbers (length path - 1) 0 (omega (arith, up_some))
 
-  module _ (j : ℕ) (place : IsPlace corners gaps v j) where
+  module _ (j : ℕ) (place : IsGapPlace corners gaps v j) where
     pub at_event : IsAtEvent corners is.ranked.order ranks (slice_index ranks v) v gaps tris j
     at_event = record {
       are = is.ranked.events;

@@ -8,7 +8,7 @@ use Rattle.rings.specs.Events.{AreEvents}
 use Rattle.rings.specs.Ring.{vertex}
 use Rattle.rings.specs.Simple.{IsSimple}
 use Rattle.sweep_tri.proofs.Fronts.{AreBeside, beside_below, beside_rank_differs, event_vertex, turns_left}
-use Rattle.sweep_tri.specs.Frontier.{IsPlace}
+use Rattle.sweep_tri.specs.Frontier.{IsGapPlace}
 use Rattle.sweep_tri.specs.Swept.{IsSwept}
 use Rattle.sweep_tri.specs.declared.gap.Gap.{Gap}
 
@@ -20,7 +20,7 @@ pub record IsAtEvent (corners : List Point) (order ranks : List ℕ) (k v : ℕ)
   pub within : k < length corners
   pub event : slice_index order k ≡ v
   pub swept : IsSwept corners ranks k gaps tris
-  pub place : IsPlace corners gaps v j
+  pub place : IsGapPlace corners gaps v j
 
 module _ {corners : List Point} {order ranks : List ℕ} {k v : ℕ} {gaps : List Gap} {tris : List Tri} {j : ℕ}
     (at : IsAtEvent corners order ranks k v gaps tris j) where

@@ -1,7 +1,7 @@
 // What stays open of a gap where one of its edges ends.
 ghost use Rattle.std.specs.List.{All, remove};
 ghost use Rattle.std.specs.Prelude.{◌≡◌, ◌+◌, ◌*◌, ◌<◌, IfOk, OnOk, length, slice_set};
-ghost use Rattle.sweep_tri.specs.Entries.{IsPaid, IsWithin, entries, meet_last_work, meet_work};
+ghost use Rattle.sweep_tri.specs.Entries.{IsPaid, IsWithinAccount, entries, meet_last_work, meet_work};
 ghost use Rattle.sweep_tri.specs.Gaps.{gap_at, no_gap};
 ghost use Rattle.sweep_tri.specs.Meeting.{AreFilled, closed_at, left_at};
 ghost use Rattle.sweep_tri.specs.Ranked.{IsRanked};
@@ -33,7 +33,7 @@ impl Sweep {
         ensures left { IfOk result (λ region. let g = gap_at self.old.status j in region ≡ left_at side g.low g.high v) }
         ensures filled { OnOk result (let g = gap_at self.old.status j in
             AreFilled (T.corners board.now) (closed_at side g.low g.high v) self.old.tris.items self.new.tris.items) }
-        ensures work { IsWithin self.old.status (meet_work self.old.status) steps.old steps.new }
+        ensures work { IsWithinAccount self.old.status (meet_work self.old.status) steps.old steps.new }
         ensures paid { IfOk result (λ region. IsPaid self.old.status self.new.status (meet_work self.old.status) steps.old (steps.new + 8 * entries region)) }
     {
         let gap = self.status.replace(j, Gap::none(alloc), steps);
@@ -58,7 +58,7 @@ impl Sweep {
         ensures left { IfOk result (λ region. let g = gap_at self.old.status j in region ≡ left_at side g.low g.high v) }
         ensures filled { OnOk result (let g = gap_at self.old.status j in
             AreFilled (T.corners board.now) (closed_at side g.low g.high v) self.old.tris.items self.new.tris.items) }
-        ensures work { IsWithin self.old.status (meet_last_work self.old.status) steps.old steps.new }
+        ensures work { IsWithinAccount self.old.status (meet_last_work self.old.status) steps.old steps.new }
         ensures paid { IfOk result (λ region. IsPaid self.old.status self.new.status (meet_last_work self.old.status) steps.old (steps.new + 8 * entries region)) }
     {
         let gap = self.status.remove(alloc, j, steps)?;

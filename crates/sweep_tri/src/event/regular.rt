@@ -2,11 +2,11 @@
 ghost use Rattle.std.specs.List.{All};
 ghost use Rattle.std.specs.Prelude.{◌≡◌, ◌+◌, ◌*◌, ◌≤◌, ◌<◌, ◌↔◌, OnOk, IsTrue, length, slice_index, slice_set};
 ghost use Rattle.shared_seq.specs.Digits.{binary_digits};
-ghost use Rattle.sweep_tri.specs.Entries.{IsPaid, IsWithin, event_work};
-ghost use Rattle.sweep_tri.specs.Frontier.{IsPlace};
+ghost use Rattle.sweep_tri.specs.Entries.{IsPaid, IsWithinAccount, event_work};
+ghost use Rattle.sweep_tri.specs.Frontier.{IsGapPlace};
 ghost use Rattle.sweep_tri.specs.Gaps.{gap_at, low_front};
 ghost use Rattle.sweep_tri.specs.Meeting.{AreFilled, closed_at, gap_of, left_at, with_vertex};
-ghost use Rattle.sweep_tri.specs.Passing.{GoesOn, IsNextEvent, placed_work};
+ghost use Rattle.sweep_tri.specs.Passing.{IsRegularVertex, IsNextEvent, placed_work};
 ghost use Rattle.sweep_tri.specs.Ranked.{IsRanked};
 ghost use Rattle.sweep_tri.specs.Region.{IsClosedRegion};
 ghost use Rattle.sweep_tri.specs.Swept.{IsSwept};
@@ -31,10 +31,10 @@ impl Sweep {
         steps: &mut Steps<L>,
     ) -> Result<(), Memory>
         requires next { IsNextEvent (T.corners board.now) rank.now self.old.status self.old.tris.items v }
-        requires place { IsPlace (T.corners board.now) self.old.status v j }
-        requires goes_on { GoesOn rank.now v w }
+        requires place { IsGapPlace (T.corners board.now) self.old.status v j }
+        requires goes_on { IsRegularVertex rank.now v w }
         ensures swept { OnOk result (IsSwept (T.corners board.now) rank.now (slice_index rank.now v + 1) self.new.status self.new.tris.items) }
-        ensures work { IsWithin self.old.status (placed_work self.old.status) steps.old steps.new }
+        ensures work { IsWithinAccount self.old.status (placed_work self.old.status) steps.old steps.new }
         ensures paid { OnOk result (IsPaid self.old.status self.new.status (placed_work self.old.status) steps.old steps.new) }
     {
         if self.low_ends(j, v, steps) {
@@ -72,7 +72,7 @@ impl Sweep {
             self.new.status ≡ slice_set self.old.status j (gap_of (with_vertex side (left_at side g.low g.high v) w))) }
         ensures filled { OnOk result (let g = gap_at self.old.status j in
             AreFilled (T.corners board.now) (closed_at side g.low g.high v) self.old.tris.items self.new.tris.items) }
-        ensures work { IsWithin self.old.status (event_work self.old.status) steps.old steps.new }
+        ensures work { IsWithinAccount self.old.status (event_work self.old.status) steps.old steps.new }
         ensures paid { OnOk result (IsPaid self.old.status self.new.status (event_work self.old.status) steps.old steps.new) }
     {
         let mut region = self.meet(alloc, board, rank, side, j, v, steps)?;

@@ -3,7 +3,7 @@ use Rattle.plane.specs.Point.{Point}
 use Rattle.geo_c.specs.Held.{talk_of}
 use Rattle.geo_c.specs.Many.{ArePathsTold, Buffers, IsPathFound, asked_pairs}
 use Rattle.geo_c.specs.Room.{IsPathPut}
-use Rattle.geo_c.specs.Told.{Tells}
+use Rattle.geo_c.specs.Told.{TellsResult}
 use Rattle.geo_c.specs.declared.status.TheConstants.{MEMORY, OK}
 use Rattle.geo_c.proofs.Filling.{least_of}
 use Rattle.geo_c.proofs.Pairs.{asked_at, length_asked}
@@ -34,7 +34,7 @@ pairs-preserved g c =
     let is = asked_at ends before k s t few fits fits' c.index-ends-k.is c.index-ends-k-in-pairs.is in
     let talk = talk_of c.args.session.now.held in
     let talk' = talk_of c.pairs.session.held in
-    let told = subst (λ (o : Option (ℕ × ℕ)). Tells (IsPathFound talk' (s, t)) (IsPathPut o (rest_of c.pairs.used c.pairs.points) c.tell_path.new.points))
+    let told = subst (λ (o : Option (ℕ × ℕ)). TellsResult (IsPathFound talk' (s, t)) (IsPathPut o (rest_of c.pairs.used c.pairs.points) c.tell_path.new.points))
     c.in-Ok-Some.field-0-is c.in-Ok-Some.ensures.path in
     record {
       same = c.tell_path.ensures.same ∙ c.pairs.invariant.same;
@@ -63,7 +63,7 @@ returns-in-Ok-None-clause-paths g c =
     let is = asked_at ends before k s t few fits fits' c.index-ends-k.is c.index-ends-k-in-pairs.is in
     let talk = talk_of c.args.session.now.held in
     let talk' = talk_of c.pairs.session.held in
-    let told = subst (λ (o : Option (ℕ × ℕ)). Tells (IsPathFound talk' (s, t)) (IsPathPut o (rest_of c.pairs.used c.pairs.points) c.tell_path.new.points))
+    let told = subst (λ (o : Option (ℕ × ℕ)). TellsResult (IsPathFound talk' (s, t)) (IsPathPut o (rest_of c.pairs.used c.pairs.points) c.tell_path.new.points))
     c.in-Ok-None.field-0-is c.in-Ok-None.ensures.path in
     subst (λ (d : ℕ). ArePathsTold talk asked OK d before after) (sym c.pairs.invariant.counted)
     (no_room talk talk' asked before now k c.pairs.used (s, t) c.tell_path.new.points there is (ap talk_of c.pairs.invariant.same) c.pairs.invariant.told told)

@@ -1,6 +1,6 @@
 use Rattle.std.proofs.Common.{◌≡◌, map, take}
 use Rattle.mesh_tests.proofs.rings.points_of.Given as goal
-use Rattle.mesh_tests.specs.Rows.{point_of}
+use Rattle.mesh_tests.specs.Rows.{point_with}
 
 abbrev pub invariant-loop-x : goal.invariant-loop-x
-invariant-loop-x l = l.points.items ≡ map point_of (take l.x-index l.list)
+invariant-loop-x l = l.points.items ≡ map point_with (take l.x-index l.list)

@@ -7,7 +7,7 @@ use Rattle.funnels.specs.Funnel.{IsReachedFrom}
 use Rattle.shared_seq.specs.Digits.{binary_digits}
 use Rattle.shared_funnel.proofs.Entrances.{third_below}
 use Rattle.shared_funnel.proofs.NextFunnels.{apex_in, few_digits}
-use Rattle.shared_funnel.specs.Listed.{AreNumbers, points_of}
+use Rattle.shared_funnel.specs.Listed.{AreNumbers, listed_points}
 use Rattle.path_tree.proofs.TreeSteps.{search_steps}
 use Rattle.path_tree.proofs.onward.place_of_third.Goals as goal
 
@@ -45,8 +45,8 @@ returns-clause-reached g c =
     let m = c.door_of-third.result.third in
     let third_is = c.door_of-third.ensures.third in
     let below = third_below corners start c.args.mesh.now c.args.order.now c.requires.start c.args.p c.requires.later c.requires.within in
-    subst (λ k. IsReachedFrom (points_of corners start f.list) f.apex c.place.result (whole (vertex corners k))) third_is
-    (subst (λ y. IsReachedFrom (points_of corners start f.list) f.apex c.place.result (whole y))
+    subst (λ k. IsReachedFrom (listed_points corners start f.list) f.apex c.place.result (whole (vertex corners k))) third_is
+    (subst (λ y. IsReachedFrom (listed_points corners start f.list) f.apex c.place.result (whole y))
     (sym (vertex_in_range corners m origin (subst (λ k. k < length corners) (sym third_is) below)))
     c.place.ensures.reached)
 

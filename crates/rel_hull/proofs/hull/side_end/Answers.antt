@@ -5,7 +5,7 @@ use Rattle.rel_hull.proofs.Outer.{contained_at}
 use Rattle.rel_hull.proofs.SideEnds.{end_kept, end_taken}
 use Rattle.rel_hull.proofs.hull.side_end.Goals as goal
 use Rattle.rel_hull.proofs.hull.side_end.Goals.{else-comes_first, then-comes_first}
-use Rattle.rel_hull.specs.Told.{IsTold}
+use Rattle.rel_hull.specs.Told.{IsToldSide}
 
 pub comes_first-requires-clause-second : goal.comes_first-requires-clause-second
 comes_first-requires-clause-second g c = elim (cases_eq c.loop-t.end c.args.s) [
@@ -42,4 +42,4 @@ returns-clause-end g c = λ t told.
     let inside = told.second in
     let at = contained_at c.args.outer.now t inside in
     subst (λ (n : ℕ). c.loop-t.end ≡ n) at
-    (c.loop-t.invariant.first inside.0 (omega (arith, inside.1)) (subst (λ (n : ℕ). IsTold c.args.chains.now c.args.outer.now (c.args.s, n)) (sym at) told))
+    (c.loop-t.invariant.first inside.0 (omega (arith, inside.1)) (subst (λ (n : ℕ). IsToldSide c.args.chains.now c.args.outer.now (c.args.s, n)) (sym at) told))

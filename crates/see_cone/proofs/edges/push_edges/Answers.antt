@@ -2,7 +2,7 @@ use Rattle.std.proofs.Common.{◌≡◌, None, arith, rules, subst}
 use Rattle.std.proofs.lemmas.List.{get_or_read}
 use Rattle.see_cone.proofs.EdgesMore.{edges_next, edges_skip}
 use Rattle.see_cone.proofs.edges.push_edges.Goals as goal
-use Rattle.see_cone.specs.Reached.{AreEdges, reached_at}
+use Rattle.see_cone.specs.Reached.{AreBoundaryEdges, reached_at}
 use Rattle.see_cone.specs.declared.reached.Reached.{Reached}
 
 pub returns-then-is_none : goal.returns-then-is_none
@@ -18,4 +18,4 @@ pub returns : goal.returns
 returns c =
     let all : c.loop-side.side ≡ 3 = omega (arith, c.loop-side-test.false, c.loop-side.auto.side-end) in
     edges_next c.args.mesh.now c.args.reached.now c.args.place c.loop-side.edges.items
-    (subst (λ n. AreEdges c.args.mesh.now c.args.reached.now c.args.place n c.loop-side.edges.items) all c.loop-side.invariant)
+    (subst (λ n. AreBoundaryEdges c.args.mesh.now c.args.reached.now c.args.place n c.loop-side.edges.items) all c.loop-side.invariant)

@@ -2,7 +2,7 @@ use Rattle.std.proofs.Common.{◌≡◌, ◌+◌, None, ap, arith, rules, subst}
 use Rattle.std.proofs.lemmas.List.{get_or_read}
 use Rattle.see_cone.proofs.ReachedMore.{done_more, done_skip, grown_beyond, grown_none, new_beyond, reached_above, sides_done}
 use Rattle.see_cone.proofs.reached.reach_around.Goals as goal
-use Rattle.see_cone.specs.Reached.{IsBeyond, IsBeyondFirst, IsGrown, IsSideDone, reached_at, tri_there}
+use Rattle.see_cone.specs.Reached.{IsAcrossSide, IsBeyondFirst, IsReachGrown, IsSideReached, reached_at, tri_there}
 use Rattle.see_cone.specs.declared.reached.Reached.{Reached}
 
 pub loop-side-init : goal.loop-side-init
@@ -43,10 +43,10 @@ loop-side-preserved g c =
     let same : tri_there b p ≡ tri_there a p = ap (λ (o : Reached). o.tri) (before.grown.kept p c.requires.place) in
     record {
       grown = grown_beyond tris (tri_there a p) side a b after before.grown
-          (subst (λ k. IsGrown b after (IsBeyond tris k side)) same step.grown);
+          (subst (λ k. IsReachGrown b after (IsAcrossSide tris k side)) same step.grown);
       are = step.reached;
-      done = sides_done tris (tri_there a p) side b after (IsBeyond tris (tri_there b p) side) step.grown before.done
-          (subst (λ k. IsSideDone tris after k side) same step.done);
+      done = sides_done tris (tri_there a p) side b after (IsAcrossSide tris (tri_there b p) side) step.grown before.done
+          (subst (λ k. IsSideReached tris after k side) same step.done);
       each = omega (arith, before.each, step.each);
       steps = omega (arith, before.steps, step.steps);
     }

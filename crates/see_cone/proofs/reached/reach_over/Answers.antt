@@ -6,7 +6,7 @@ use Rattle.meshes.specs.Side.{tri_at}
 use Rattle.tri_mesh.proofs.Neighbours.{has_side_numbered}
 use Rattle.see_cone.proofs.ReachedMore.{back_done, none_done, over_done, over_grown, over_reached}
 use Rattle.see_cone.proofs.reached.reach_over.Goals as goal
-use Rattle.see_cone.specs.Reached.{IsBeyond, reached_at, tri_there}
+use Rattle.see_cone.specs.Reached.{IsAcrossSide, reached_at, tri_there}
 use Rattle.see_cone.specs.declared.reached.Reached.{Reached}
 
 pub corner-requires : goal.corner-requires
@@ -44,7 +44,7 @@ returns-in_ok-push-in-Some g c =
     let l = c.in-Some.tri in
     let here : c.index.result.now ≡ reached_at reached p = get_or_read reached p c.index.result.now c.requires.place c.index.ensures _ in
     let two = rw here at c.in-Some.ensures.some in
-    let beyond : IsBeyond tris (tri_there reached p) side l = record { in_list = two.other_in_list; has = two.other_has } in
+    let beyond : IsAcrossSide tris (tri_there reached p) side l = record { in_list = two.other_in_list; has = two.other_has } in
     let other = rw here at c.if-tri-here.true in
     let new = c.requires.new l beyond other in
     let sight = c.narrowed-cone.result in
@@ -74,7 +74,7 @@ returns-else-tri-here-clause-done g c =
     let l = c.in-Some.tri in
     let here : c.index.result.now ≡ reached_at reached p = get_or_read reached p c.index.result.now c.requires.place c.index.ensures _ in
     let two = rw here at c.in-Some.ensures.some in
-    let beyond : IsBeyond c.args.mesh.now (tri_there reached p) c.args.side l = record { in_list = two.other_in_list; has = two.other_has } in
+    let beyond : IsAcrossSide c.args.mesh.now (tri_there reached p) c.args.side l = record { in_list = two.other_in_list; has = two.other_has } in
     back_done c.args.ring.now.corners c.args.mesh.now c.requires.fits c.args.q.now reached (p + 1) c.requires.reached p c.requires.place
     (omega arith) c.args.side c.requires.side l beyond (rw here at c.if-tri-here.false)
 

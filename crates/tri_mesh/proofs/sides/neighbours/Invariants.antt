@@ -1,5 +1,5 @@
 use Rattle.tri_mesh.proofs.sides.neighbours.Given as goal
-use Rattle.tri_mesh.specs.Neighbours.{AreFilled}
+use Rattle.tri_mesh.specs.Neighbours.{AreNeighbourRows}
 
 abbrev pub invariant-loop-p : goal.invariant-loop-p
-invariant-loop-p l = AreFilled l.tris l.sides.items l.p l.rows.items
+invariant-loop-p l = AreNeighbourRows l.tris l.sides.items l.p l.rows.items

@@ -1,7 +1,7 @@
 use Rattle.std.proofs.Common.{sym, subst, ◌<◌, length, arith}
 use Rattle.rings.specs.Ring.{vertex}
 use Rattle.shared_funnel.proofs.Entrances.{third_below}
-use Rattle.shared_funnel.specs.Listed.{points_of}
+use Rattle.shared_funnel.specs.Listed.{listed_points}
 use Rattle.pair_cut.proofs.DoorFunnels.{climbs}
 use Rattle.pair_cut.proofs.RowGrowth.{grown_more}
 use Rattle.pair_cut.proofs.rows.Row.go_on.Goals as goal
@@ -35,7 +35,7 @@ returns-clause-grown g c =
     let corners = g.T.Turns.corners c.args.board.now in
     let grown = c.requires.grown in
     let apex = c.apex-apex.ensures corners c.requires.start c.requires.vertex c.requires.home grown in
-    let ns = points_of corners (vertex corners c.args.i) apex.f.list in
+    let ns = listed_points corners (vertex corners c.args.i) apex.f.list in
     let up = climbs corners c.args.i c.args.mesh.now c.args.order.now c.requires.start c.requires.vertex c.requires.home c.args.p
     c.requires.later c.requires.within apex.f apex.has c.args.self.now.before.items grown.vertices grown.told c.apex-apex.result apex.is in
     let there : AreClimbs corners c.deref.result.now c.door_of-door.result.left c.door_of-door.result.right c.apex-apex.result ns apex.f.apex =

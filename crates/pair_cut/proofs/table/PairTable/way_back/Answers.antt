@@ -3,7 +3,7 @@ use Rattle.std.proofs.lemmas.List.{length_push}
 use Rattle.pair_cut.proofs.TableRows.{number_is, row_long, table_of}
 use Rattle.pair_cut.proofs.WayBack.{back_begins, back_ends, back_few, back_on}
 use Rattle.pair_cut.proofs.table.PairTable.way_back.Goals as goal
-use Rattle.pair_cut.specs.Pairs.{before_at}
+use Rattle.pair_cut.specs.Pairs.{pair_before}
 
 pub loop-at-init : goal.loop-at-init
 loop-at-init c =
@@ -38,7 +38,7 @@ loop-at-smaller c =
     let names = c.loop-at.names.items in
     let table = table_of _ _ before c.self.view_is c.self.invariant in
     let next = back_on before table c.args.i c.requires.first c.args.j at names c.loop-at.invariant (λ e. c.loop-at-test.true (sym e)) in
-    let few = back_few before table c.args.i c.requires.first c.args.j (before_at before c.args.i at) (names ++ at ∷ []) next in
+    let few = back_few before table c.args.i c.requires.first c.args.j (pair_before before c.args.i at) (names ++ at ∷ []) next in
     omega (arith, few, length_push names at, ap length c.in_ok-push.ensures.items)
 
 pub returns-clause-path : goal.returns-clause-path

@@ -2,7 +2,7 @@ use Rattle.std.proofs.Common.{refl, sym, ap, subst, ◌∙◌, [], ◌∷◌, �
 use Rattle.std.proofs.lemmas.List.{length-append}
 use Rattle.exact_plane.specs.declared.turns.Spot.TheVariants.{Start}
 use Rattle.path_tree.proofs.GoneBack.{IsGoneBack, back_begins, back_ends, back_goes_on, back_longer, back_no_goal, back_on, back_room}
-use Rattle.path_tree.specs.Grown.{IsGrown}
+use Rattle.path_tree.specs.Grown.{IsGrownTree}
 use Rattle.path_tree.proofs.tree.PathTree.chain_into.Goals as goal
 
 pub loop-before-init : goal.loop-before-init
@@ -11,13 +11,13 @@ loop-before-init c = (back_begins c.args.self.now c.args.last c.args.out.now.ite
 pub push_reserved-requires : goal.push_reserved-requires
 push_reserved-requires c =
     let back = c.loop-before.invariant.0 in
-    let g = subst IsGrown c.self.view_is c.self.invariant in
+    let g = subst IsGrownTree c.self.view_is c.self.invariant in
     omega (arith, c.requires.room, back_room c.args.self.now c.args.last c.loop-before.at c.args.out.now.items c.loop-before.out.items back g)
 
 pub loop-before-smaller : goal.loop-before-smaller
 loop-before-smaller c =
     let tree = c.args.self.now in
-    let g = subst IsGrown c.self.view_is c.self.invariant in
+    let g = subst IsGrownTree c.self.view_is c.self.invariant in
     let next = back_on tree g c.args.last c.args.out.now.items c.loop-before.out.items c.loop-before.at c.in-Some.before
     c.loop-before.invariant.0 c.in-Some.ensures.before in
     omega (
@@ -29,7 +29,7 @@ loop-before-smaller c =
 pub loop-before-preserved : goal.loop-before-preserved
 loop-before-preserved c =
     let tree = c.args.self.now in
-    let g = subst IsGrown c.self.view_is c.self.invariant in
+    let g = subst IsGrownTree c.self.view_is c.self.invariant in
     let next = back_on tree g c.args.last c.args.out.now.items c.loop-before.out.items c.loop-before.at c.in-Some.before
     c.loop-before.invariant.0 c.in-Some.ensures.before in (
       subst (IsGoneBack tree c.args.last c.in-Some.before c.args.out.now.items) (sym c.push_reserved.ensures.items) next,
@@ -40,7 +40,7 @@ loop-before-preserved c =
 pub push_reserved-requires-2 : goal.push_reserved-requires-2
 push_reserved-requires-2 c =
     let back = c.loop-before.invariant.0 in
-    let g = subst IsGrown c.self.view_is c.self.invariant in
+    let g = subst IsGrownTree c.self.view_is c.self.invariant in
     omega (arith, c.requires.room, back_room c.args.self.now c.args.last c.loop-before.at c.args.out.now.items c.loop-before.out.items back g)
 
 pub turn_round-requires : goal.turn_round-requires

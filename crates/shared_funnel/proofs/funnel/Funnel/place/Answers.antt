@@ -8,7 +8,7 @@ use Rattle.shared_seq.proofs.Digits.{binary_digits_mono}
 use Rattle.shared_seq.specs.Digits.{binary_digits}
 use Rattle.shared_funnel.proofs.Halving.{IsHalved, halving_ends, halving_starts, high_moves, low_moves, round_paid}
 use Rattle.shared_funnel.proofs.funnel.Funnel.place.Goals as goal
-use Rattle.shared_funnel.specs.Listed.{point_of, points_of}
+use Rattle.shared_funnel.specs.Listed.{point_of, listed_points}
 
 pub loop-high-init : goal.loop-high-init
 loop-high-init g c =
@@ -18,10 +18,10 @@ loop-high-init g c =
     let y = whole (point_named corners start (g.T.Turns.goal c.args.board.now) c.args.y) in
     let b = binary_digits (length list) in
     let count : c.len-high.result ≡ length list = c.len-high.ensures.number ∙ ap (λ l. length l.list) c.self.view_is in
-    let size : length (points_of corners start list) ≡ c.len-high.result = length-map list (point_of corners start) ∙ sym count in
+    let size : length (listed_points corners start list) ≡ c.len-high.result = length-map list (point_of corners start) ∙ sym count in
     record {
-      halved = subst (λ n. IsHalved (points_of corners start list) c.args.self.now.apex y 0 n) size
-          (halving_starts (points_of corners start list) c.args.self.now.apex y (omega (arith, size, count, c.requires.some)));
+      halved = subst (λ n. IsHalved (listed_points corners start list) c.args.self.now.apex y 0 n) size
+          (halving_starts (listed_points corners start list) c.args.self.now.apex y (omega (arith, size, count, c.requires.some)));
       steps = omega (
         arith,
         mul-le (binary_digits (c.len-high.result - 0 - 1)) (4 * b + 3) b (4 * b + 3)
