@@ -2,7 +2,7 @@
 use Rattle.std.proofs.Common.{◌≡◌, inl, inr, sym, subst, ap, ◌∙◌, ℕ, ◌+◌, ◌-◌, ◌*◌, ◌/◌, ◌%◌, ◌<◌, ◌≤◌, arith, List, length}
 use Rattle.std.proofs.Math.Nat.{add-mod_left, add-mul-mod_self_left, div-add-mod, mod-lt}
 use Rattle.std.proofs.lemmas.Bool.{cases_eq, cases_lt}
-use Rattle.plane.proofs.Regions.{at_corner}
+use Rattle.plane.proofs.Regions.{corner_within}
 use Rattle.plane.specs.Convex.{corner}
 use Rattle.plane.specs.Point.{Triple}
 use Rattle.plane.specs.Region.{corner_at}
@@ -36,7 +36,7 @@ module _ (cs : List Triple) where
   pub all_from : (P : Triple → Type 0) (from : ℕ) → from < length cs → ((i : ℕ) → i < length cs → P (corner_at cs (from + i)))
       → (i : ℕ) → i < length cs → P (corner cs i)
   all_from P from within all i less =
-      subst P (at_corner cs i less)
+      subst P (corner_within cs i less)
       (all_round (λ k. P (corner_at cs k)) (length cs) from (λ k h. subst P (once_round k) h) within all i less)
 
 module _ (a b : Triple) (cs : List Triple) (gone ahead back : ℕ) (within : gone < length cs) (here : IsRight a b (corner cs gone))
@@ -45,7 +45,7 @@ module _ (a b : Triple) (cs : List Triple) (gone ahead back : ℕ) (within : gon
     (in_back : back ≤ length cs)
     (right_back : (k : ℕ) → k < back → IsRight a b (corner_at cs (gone + (length cs - k)))) where
   first_right : IsRight a b (corner_at cs gone)
-  first_right = subst (IsRight a b) (sym (at_corner cs gone within)) here
+  first_right = subst (IsRight a b) (sym (corner_within cs gone within)) here
 
   -- the walk ahead takes a step at least,
   pub some_ahead : 0 < ahead

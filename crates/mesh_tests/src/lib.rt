@@ -6,7 +6,7 @@
 mod monotone_pieces;
 #[cfg(test)]
 mod polygons;
-pub mod rings;
+pub mod ring_lists;
 #[cfg(test)]
 mod triangles;
 #[cfg(test)]

@@ -6,7 +6,7 @@ ghost use Rattle.exact_plane.specs.Spot.{IsNamed, point_named};
 ghost use Rattle.mesh_tests.specs.Pieces.{IsPieceRow};
 
 use crate::polygons::area_of;
-use crate::rings::{At, points_of};
+use crate::ring_lists::{At, points_of};
 use exact_plane::{Direction, Memory, Pt, Spot, Steps, Turns, order, turn};
 use meshes::Tri;
 use mono_fill::fill;

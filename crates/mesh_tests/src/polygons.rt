@@ -1,5 +1,5 @@
 // Polygons with their areas, and how areas are added.
-use crate::rings::{At, ats_of, ring_of};
+use crate::ring_lists::{At, ats_of, ring_of};
 use exact_plane::{Memory, Steps};
 use meshes::Tri;
 use ring_check::Ring;

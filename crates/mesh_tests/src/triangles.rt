@@ -2,7 +2,7 @@
 ghost use Rattle.std.specs.Prelude.{◌≡◌, ◌<◌, ◌^◌, length};
 ghost use Rattle.mesh_tests.specs.Rows.{SuitRow};
 
-use crate::rings::{At, Corners, mesh_with, ring_of};
+use crate::ring_lists::{At, Corners, mesh_with, ring_of};
 use exact_plane::{Memory, Steps};
 use std::alloc::Global;
 use std::marker::Brand;

@@ -2,7 +2,7 @@
 ghost use Rattle.std.specs.Prelude.{◌≡◌, ◌<◌};
 
 use crate::polygons::{POLYGONS, are_flat_triangles, area_of, row_of, vertices_of};
-use crate::rings::{ring_of, swept_mesh};
+use crate::ring_lists::{ring_of, swept_mesh};
 use cut_tri::triangulate;
 use exact_plane::{Memory, Steps};
 use geo_gen::comb;

@@ -4,7 +4,7 @@ ghost use Rattle.mesh_tests.specs.Rows.{SuitRow};
 
 use exact_plane::{Memory, Steps};
 use guards3::guards;
-use mesh_tests::rings::{At, Corners, mesh_with, ring_of};
+use mesh_tests::ring_lists::{At, Corners, mesh_with, ring_of};
 use std::alloc::Global;
 use std::marker::Brand;
 use std::process::Abort;

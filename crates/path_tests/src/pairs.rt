@@ -4,7 +4,7 @@ ghost use Rattle.std.specs.Prelude.{◌≡◌, ◌<◌, IfOk, length};
 use crate::polygons::ring_named;
 use dual_tree::Board;
 use exact_plane::{Memory, Steps};
-use mesh_tests::rings::swept_mesh;
+use mesh_tests::ring_lists::swept_mesh;
 use pair_cut::{MAX_PAIRED, PairTable};
 use ring_check::Ring;
 use std::alloc::Global;

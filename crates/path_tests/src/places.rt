@@ -4,7 +4,7 @@ ghost use Rattle.std.specs.Prelude.{◌≡◌, ◌<◌};
 use crate::polygons::{at, ring_named};
 use dual_tree::{Board, locate, sleeve};
 use exact_plane::{Direction, Memory, Spot, Steps, Turns};
-use mesh_tests::rings::{At, swept_mesh};
+use mesh_tests::ring_lists::{At, swept_mesh};
 use std::alloc::Global;
 use std::marker::Brand;
 use std::process::Abort;

@@ -2,7 +2,7 @@
 ghost use Rattle.std.specs.Prelude.{◌≡◌};
 
 use exact_plane::{Pt, Steps};
-use mesh_tests::rings::{ats_of, ring_of};
+use mesh_tests::ring_lists::{ats_of, ring_of};
 use ring_check::Ring;
 use std::alloc::Global;
 use std::process::Abort;

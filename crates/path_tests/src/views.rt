@@ -4,7 +4,7 @@ ghost use Rattle.std.specs.Prelude.{◌≡◌, ◌<◌};
 use crate::polygons::{at, ring_named};
 use dual_tree::locate;
 use exact_plane::{Hom, Memory, Steps};
-use mesh_tests::rings::swept_mesh;
+use mesh_tests::ring_lists::swept_mesh;
 use see_cone::{Part, see};
 use std::alloc::Global;
 use std::marker::Brand;

@@ -2,7 +2,7 @@
 
 -- Corners in convex position: one more, the first some of them, and the corner list that they make.
 mod Corners
-pub use Rattle.plane.proofs.Regions.Corners.{at_corner, corners_of_convex, new_corner, old_corner}
+pub use Rattle.plane.proofs.Regions.Corners.{corner_within, corners_of_convex, new_corner, old_corner}
 mod Sides
 mod Weighing
 -- Corners read from another one on: they are convex as before, and have the same region.

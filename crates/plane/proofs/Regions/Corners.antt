@@ -112,8 +112,8 @@ module _ (cs : List Triple) (m : ℕ) (rest : m < length cs) where
 
 module _ (cs : List Triple) where
   -- a corner that is counted round
-  pub at_corner : (i : ℕ) → i < length cs → corner_at cs i ≡ corner cs i
-  at_corner i less = ap (λ k. corner cs k) (mod-eq_of_lt less)
+  pub corner_within : (i : ℕ) → i < length cs → corner_at cs i ≡ corner cs i
+  corner_within i less = ap (λ k. corner cs k) (mod-eq_of_lt less)
 
   -- after the last comes the first
   pub at_first : (i : ℕ) → i ≡ length cs → corner_at cs i ≡ corner cs 0
@@ -125,7 +125,7 @@ module _ (cs : List Triple) where
   left_of_side convex i j in_i in_j other next = elim (cases_lt (i + 1) (length cs)) [
     | inl more ↦
         let apart : j ≢ i + 1 = λ e. next (e ∙ sym (mod-eq_of_lt more)) in
-        left_at (at_corner i in_i) (at_corner (i + 1) more) (at_corner j in_j) (elim (cases_lt j i) [
+        left_at (corner_within i in_i) (corner_within (i + 1) more) (corner_within j in_j) (elim (cases_lt j i) [
           | inl before ↦ left_shift (corner cs j) (corner cs i) (corner cs (i + 1)) (convex.left j i (i + 1) before (omega arith) more)
           | inr not ↦ convex.left i (i + 1) j (omega arith) (omega (arith, not, other, apart)) in_j
         ])
@@ -133,7 +133,7 @@ module _ (cs : List Triple) where
         let last : i + 1 ≡ length cs = omega (arith, end, in_i) in
         let round : (i + 1) % length cs ≡ 0 = ap (λ k. k % length cs) last ∙ mod_self (length cs) in
         let apart : j ≢ 0 = λ e. next (e ∙ sym round) in
-        left_at (at_corner i in_i) (at_first (i + 1) last) (at_corner j in_j)
+        left_at (corner_within i in_i) (at_first (i + 1) last) (corner_within j in_j)
         (left_shift_back (corner cs 0) (corner cs j) (corner cs i)
         (convex.left 0 j i (omega (arith, apart)) (omega (arith, in_j, last, other)) in_i))
   ]
@@ -141,14 +141,14 @@ module _ (cs : List Triple) where
   -- convex corners of which the first is the least are a corner list
   pub corners_of_convex : AreConvex cs → ((i : ℕ) → i < length cs → ¬ (Precedes (corner cs i) (corner cs 0))) → AreCorners cs
   corners_of_convex convex least = record {
-    rational = λ i less. subst IsPoint (sym (at_corner i less)) (convex.rational i less);
+    rational = λ i less. subst IsPoint (sym (corner_within i less)) (convex.rational i less);
     different = λ two same.
         convex.different two
-        (subst (λ (c : Triple). IsSame c (corner cs 1)) (at_corner 0 (omega (arith, two)))
-        (subst (λ (c : Triple). IsSame (corner_at cs 0) c) (at_corner 1 (omega (arith, two))) same));
+        (subst (λ (c : Triple). IsSame c (corner cs 1)) (corner_within 0 (omega (arith, two)))
+        (subst (λ (c : Triple). IsSame (corner_at cs 0) c) (corner_within 1 (omega (arith, two))) same));
     convex = λ many i j in_i in_j other next. left_of_side convex i j in_i in_j other next;
     least = λ i less before.
         least i less
-        (subst (λ (c : Triple). Precedes c (corner cs 0)) (at_corner i less)
-        (subst (λ (c : Triple). Precedes (corner_at cs i) c) (at_corner 0 (omega (arith, less))) before));
+        (subst (λ (c : Triple). Precedes c (corner cs 0)) (corner_within i less)
+        (subst (λ (c : Triple). Precedes (corner_at cs i) c) (corner_within 0 (omega (arith, less))) before));
   }

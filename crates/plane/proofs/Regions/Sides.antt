@@ -4,7 +4,7 @@ use Rattle.std.proofs.lemmas.Bool.{cases_lt}
 use Rattle.std.proofs.lemmas.Int.{ints}
 use Rattle.std.proofs.lemmas.List.{length_push}
 use Rattle.integer_algebra.proofs.SignSteps.{at_least_unless}
-use Rattle.plane.proofs.Regions.Corners.{at_corner, at_first, first_corner, length_first, new_corner, old_corner}
+use Rattle.plane.proofs.Regions.Corners.{corner_within, at_first, first_corner, length_first, new_corner, old_corner}
 use Rattle.plane.specs.Convex.{corner}
 use Rattle.plane.specs.Point.{Triple}
 use Rattle.plane.specs.Region.{IsInRegion, IsRightOfNone}
@@ -34,10 +34,10 @@ module _ (cs : List Triple) (p : Triple) where
   sides_of : 0 < length cs → IsRightOfNone cs p → IsInSides cs p
   sides_of some none = record {
     along = λ i more.
-        not_right_at p (sym (at_corner cs i (omega (arith, more)))) (sym (at_corner cs (i + 1) more))
+        not_right_at p (sym (corner_within cs i (omega (arith, more)))) (sym (corner_within cs (i + 1) more))
         (at_least_unless (none i (omega (arith, more))));
     closing =
-        not_right_at p (sym (at_corner cs (length cs - 1) (omega (arith, some))))
+        not_right_at p (sym (corner_within cs (length cs - 1) (omega (arith, some))))
         (sym (at_first cs (length cs - 1 + 1) (omega (arith, some))))
         (at_least_unless (none (length cs - 1) (omega (arith, some))));
   }
@@ -45,10 +45,10 @@ module _ (cs : List Triple) (p : Triple) where
   -- and back
   none_of_sides : IsInSides cs p → IsRightOfNone cs p
   none_of_sides sides i less = elim (cases_lt (i + 1) (length cs)) [
-    | inl more ↦ at_least_zero (not_right_at p (at_corner cs i less) (at_corner cs (i + 1) more) (sides.along i more))
+    | inl more ↦ at_least_zero (not_right_at p (corner_within cs i less) (corner_within cs (i + 1) more) (sides.along i more))
     | inr end ↦
         let last : i ≡ length cs - 1 = omega (arith, end, less) in
-        at_least_zero (not_right_at p (at_corner cs i less) (at_first cs (i + 1) (omega (arith, end, less)))
+        at_least_zero (not_right_at p (corner_within cs i less) (at_first cs (i + 1) (omega (arith, end, less)))
         (subst (λ k. IsNotRight (corner cs k) (corner cs 0) p) (sym last) sides.closing))
   ]
 

@@ -3,7 +3,7 @@ use Rattle.std.proofs.lemmas.Result.{IfOk-weaker}
 use Rattle.meshes.specs.Fits.{Fits}
 use Rattle.mesh_tests.proofs.KnownRows.{fits_suit}
 use Rattle.mesh_tests.specs.Rows.{tri_of}
-use Rattle.mesh_tests.proofs.rings.mesh_with.Goals as goal
+use Rattle.mesh_tests.proofs.ring_lists.mesh_with.Goals as goal
 
 pub build-requires-clause-fits : goal.build-requires-clause-fits
 build-requires-clause-fits c =

@@ -2,7 +2,7 @@ use Rattle.std.proofs.Common.{sym, subst, length, arith}
 use Rattle.std.proofs.lemmas.List.FromFn.{length-range_with_len}
 use Rattle.rings.specs.Simple.{IsSimple}
 use Rattle.meshes.specs.Fits.{Fits}
-use Rattle.mesh_tests.proofs.rings.swept_mesh.Goals as goal
+use Rattle.mesh_tests.proofs.ring_lists.swept_mesh.Goals as goal
 
 pub sweep-requires-clause-simple : goal.sweep-requires-clause-simple
 sweep-requires-clause-simple g c = subst IsSimple (sym c.without_ends-board.ensures) c.len-ring_is_simple.ensures.simple
