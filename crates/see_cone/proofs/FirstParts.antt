@@ -34,6 +34,15 @@ abbrev IsSeenPart : List Point → Triple → Part → Type 0
 IsSeenPart ring q part = IsPart ring q part.edge part.first part.last
 
 module _ (ring : List Point) (q : Triple) where
+  -- of no edges
+  pub first_none : AreFirstParts ring q 0 []
+  first_none = record {
+    in_front = λ k h. absurd (omega arith);
+    parts_seen = λ k h. absurd (omega arith);
+    rising = λ k h. absurd (omega arith);
+    complete = λ i h. absurd (omega arith);
+  }
+
   -- of all
   pub parts_of_all : (parts : List Part) → AreFirstParts ring q (length ring) parts → AreParts ring q parts
   parts_of_all parts are = record { in_ring = are.in_front; parts_seen = are.parts_seen; rising = are.rising; complete = are.complete }

@@ -3,6 +3,7 @@
 use Rattle.std.proofs.Common.{◌≡◌, ◌≢◌, inl, inr, sym, ap, ◌∙◌, ℕ, ◌+◌, ◌-◌, ◌<◌, ◌≤◌, List, [], ◌∷◌, length, reverse, drop, arith}
 use Rattle.std.proofs.lemmas.Bool.{cases_lt}
 use Rattle.std.proofs.lemmas.List.{length-drop, length-reverse}
+use Rattle.plane.proofs.Order.{point_or_other}
 use Rattle.plane.proofs.Points.{whole_is_point}
 use Rattle.plane.proofs.Segments.{on_last_end, on_reversed}
 use Rattle.plane.specs.Point.{Point, whole}
@@ -10,10 +11,10 @@ use Rattle.plane.specs.Segment.{On}
 use Rattle.rings.specs.Chain.{IsBentChain, IsPath, point_at}
 use Rattle.rings.specs.Simple.{IsSimple}
 use Rattle.funnels.proofs.OneChain.{bent_is_path, last_of, one_bent_chain}
-use Rattle.funnels.proofs.Touched.{point_cases}
+use Rattle.funnels.proofs.Chains.{one_bent}
 use Rattle.hulls.proofs.Joined.ChainsOver.{GoesOnTo, goes_on_step, over_bent, over_ends}
 use Rattle.hulls.proofs.Joined.OverPoints.{path_is_taut}
-use Rattle.hulls.proofs.Joined.PartChains.{back_at, back_bent, one_bent, rest_at, rest_bent, sees_back}
+use Rattle.hulls.proofs.Joined.PartChains.{back_at, back_bent, rest_at, rest_bent, sees_back}
 
 module _ (ring : List Point) (some : 3 ≤ length ring) (simple : IsSimple ring) where
   -- ---- the step of a point on a path
@@ -81,7 +82,7 @@ module _ (ring : List Point) (some : 3 ≤ length ring) (simple : IsSimple ring)
         ∙ sym (back_at path (length back - 1) 0 (omega arith) ∙ taut.first) in
         let bent = back_bent ring path taut.bent in
         let bent_way = back_bent ring way taut_way.bent in
-        elim (point_cases x (point_at path k)) [
+        elim (point_or_other x (point_at path k)) [
           | inr within ↦
               let count = rest_within back bent x (reverse way) bent_way begins ends l (omega arith)
               (rw (here, next) (on_reversed (whole x) (whole (point_at path k)) (whole (point_at path (k + 1))) on)) (rw next within) in
