@@ -34,6 +34,7 @@ module _ (ring : List Point) (table : Table) (is : IsTableOf ring table) where
       square = is.square;
       some = λ i j at_i at_j. (taut_chain i j at_i at_j).bent.chain.some;
       begins = λ i j at_i at_j. (taut_chain i j at_i at_j).first;
+      stepping = λ i j at_i at_j. (taut_chain i j at_i at_j).bent.chain.distinct;
       long = λ a s at_a at_s apart.
           path_steps ring some simple _ (point_at (table_points table) a) _ (chain_at table a a) (chain_at table a s) (is.paths a a at_a at_a)
           (is.paths a s at_a at_s) (points_differ a s at_a at_s apart);

@@ -1,6 +1,6 @@
 -- Tables of the paths between each two of some points, and the sides that one tells. This project's own.
 use Rattle.std.specs.List.{Contains, range_with_len}
-use Rattle.std.specs.Prelude.{◌≡◌, ℕ, ◌+◌, ◌*◌, ◌^◌, ◌<◌, ◌≤◌, List, [], length, map, slice_index_or}
+use Rattle.std.specs.Prelude.{◌≡◌, ◌≢◌, ℕ, ◌+◌, ◌*◌, ◌^◌, ◌<◌, ◌≤◌, List, [], length, map, slice_index_or}
 use Rattle.plane.specs.Pairs.{pair_at, IsPairBefore}
 use Rattle.plane.specs.Point.{Point}
 use Rattle.rings.specs.Chain.{IsPath, point_at}
@@ -33,3 +33,7 @@ pub record AreSides (ring points : List Point) (pairs : List (ℕ × ℕ)) : Typ
   pub sides : (k : ℕ) → k < length pairs → IsSide ring points (pair_at pairs k).0 (pair_at pairs k).1
   pub all : (s t : ℕ) → IsSide ring points s t → Contains pairs (s, t)
   pub sorted : (k l : ℕ) → k < l → l < length pairs → IsPairBefore (pair_at pairs k) (pair_at pairs l)
+
+-- no two points that follow one another are equal
+abbrev pub IsStepping : List Point → Type 0
+IsStepping points = (k : ℕ) → k + 1 < length points → point_at points k ≢ point_at points (k + 1)

@@ -8,7 +8,7 @@ use Rattle.plane.specs.Segment.{On}
 use Rattle.rings.specs.Chain.{point_at}
 use Rattle.exact_plane.specs.declared.direction.Direction.TheVariants.{Left}
 use Rattle.rel_hull.specs.PathTurn.{IsPathTurn}
-use Rattle.rel_hull.specs.Table.{Table, chain_at, table_points}
+use Rattle.rel_hull.specs.Table.{IsStepping, Table, chain_at, table_points}
 
 -- x is on a chain
 pub record IsOnChain (chain : List Point) (x : Point) : Type 0 where
@@ -26,13 +26,14 @@ abbrev pub HaveFronts : List Point → List Point → Type 0
 HaveFronts first second = (k : ℕ) → k < length first → k < length second → point_at first k ≡ point_at second k
     → take (k + 1) first ≡ take (k + 1) second
 
--- what holds of every table: each chain begins at its point; a point on a chain is on the
+-- what holds of every table: each chain begins at its point, and steps to another point at each place; a point on a chain is on the
 -- step of it that has the number of the last step of the chain to the point; and chains from one point do not meet again
 pub record KeepsChains (table : Table) : Type 0 where
   pub few : table.count < 2 ^ 16
   pub square : length table.chains ≡ table.count * table.count
   pub some : (i j : ℕ) → i < table.count → j < table.count → 0 < length (chain_at table i j)
   pub begins : (i j : ℕ) → i < table.count → j < table.count → point_at (chain_at table i j) 0 ≡ point_at (table_points table) i
+  pub stepping : (i j : ℕ) → i < table.count → j < table.count → IsStepping (chain_at table i j)
   pub long : (a s : ℕ) → a < table.count → s < table.count → a ≢ s → 2 ≤ length (chain_at table a s)
   pub on_step : (a b s : ℕ) → a < table.count → b < table.count → s < table.count → a ≢ s
       → IsOnChain (chain_at table a b) (point_at (table_points table) s)

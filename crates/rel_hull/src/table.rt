@@ -1,7 +1,7 @@
 ghost use Rattle.std.specs.Prelude.{◌≡◌, ◌≢◌, ◌<◌, ◌↔◌, IsTrue, length, map};
 ghost use Rattle.rings.specs.Chain.{point_at};
 ghost use Rattle.rel_hull.specs.PathTurn.{IsPathTurn};
-ghost use Rattle.rel_hull.specs.Table.{IsTableOf, chain_at, table_points};
+ghost use Rattle.rel_hull.specs.Table.{IsStepping, IsTableOf, chain_at, table_points};
 ghost use Rattle.rel_hull.specs.Told.{IsOnChain};
 
 use crate::comparison::{halved_front, turn_at};
@@ -56,6 +56,7 @@ impl ChainTable {
         // What holds of every chain.
         ensures some { 0 < length result.now }
         ensures begins { point_at result.now 0 ≡ point_at (table_points self.now) i }
+        ensures stepping { IsStepping result.now }
     {
         &self.chains[(i * self.count + j) as usize]
     }

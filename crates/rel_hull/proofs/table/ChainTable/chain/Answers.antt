@@ -18,4 +18,5 @@ returns c =
       chain = is;
       some = rw (is, ← c.self.view_is) (kept.some i j first second);
       begins = rw (is, ← c.self.view_is) (kept.begins i j first second);
+      stepping = rw (is, ← c.self.view_is) (kept.stepping i j first second);
     }
