@@ -1,26 +1,27 @@
 -- Edges to one side of a point: it is on none of them, and whether they are crossed is told by their ends.
 use Rattle.std.proofs.Common.{◌≡◌, ◌⊎◌, inl, inr, refl, sym, ap, subst, ◌∙◌, ℕ, ◌+◌, ◌-◌, ◌<◌, ◌≤◌, ◌↔◌, IsTrue, zero, suc, ℤ, ◌*ℤ◌, ◌<ℤ◌, Bool, true, false, List, length, take, drop, get_or, arith}
-use Rattle.std.proofs.lemmas.Int.{ints}
+use Rattle.std.proofs.lemmas.Int.{clamps, ints}
 use Rattle.std.proofs.lemmas.List.{get_or-drop, get_or-take, length-drop, length-take-le}
 use Rattle.std.specs.Bool.{beq}
 use Rattle.std.specs.Int.Signed.{le_z, lt_z}
 use Rattle.std.specs.Prelude.{◌&&◌, not}
+use Rattle.plane.proofs.Meetings.{segments_apart}
 use Rattle.plane.proofs.Points.{whole_is_point}
 use Rattle.plane.proofs.Segments.{not_after_both, not_before_both}
 use Rattle.plane.specs.Point.{IsInBounds, IsPoint, Point, Triple, whole}
-use Rattle.plane.specs.Segment.{On}
+use Rattle.plane.specs.Segment.{Meet, On}
 use Rattle.rings.proofs.Vertices.{vertex_in_range}
 use Rattle.rings.specs.Edge.{edge, edges_of}
 use Rattle.rings.specs.Inside.{is_crossed}
 use Rattle.rings.specs.Ring.{origin, vertex}
-use Rattle.exact_plane.specs.Boxes.{Encloses}
+use Rattle.exact_plane.specs.Boxes.{Encloses, Overlap}
 use Rattle.exact_plane.specs.declared.bounding_box.BoundingBox.{BoundingBox}
 use Rattle.inside_test.proofs.ApartEdges.{not_on_above, not_on_below}
 use Rattle.inside_test.proofs.CrossedEdges.{crossed_backward, crossed_from_left, crossed_from_right, not_crossed_unpassed}
 use Rattle.inside_test.proofs.Odd.{odd_step}
 use Rattle.inside_test.proofs.Passed.{left_of_rise, not_falling, right_of_rise, test_fails_high, test_fails_low}
 use Rattle.inside_test.proofs.Touched.{follows_right, precedes_left}
-use Rattle.inside_test.specs.Block.{IsBoxMissed, IsBoxRight, OfAllEnclosed}
+use Rattle.inside_test.specs.Block.{AreApart, IsBoxMissed, IsBoxRight, OfAllEnclosed}
 use Rattle.inside_test.specs.Meeting.{rises}
 use Rattle.inside_test.specs.Odd.{OddSoFar}
 
@@ -151,16 +152,31 @@ module _ (ring : List Point) (p : Triple) (above : ℕ → Bool) (first : ℕ) (
 
 -- ---- a block of edges whose ends are in a box
 
+-- boxes round two segments that share a point do so
+overlap_of_meeting : (b c : BoundingBox) (p q r s : Point) → Encloses b p → Encloses b q → Encloses c r → Encloses c s
+    → Meet (whole p) (whole q) (whole r) (whole s) → Overlap b c
+overlap_of_meeting b c p q r s hp hq hr hs meet =
+    let h = (segments_apart p q r s meet).0 in
+    record {
+      in_x = record {
+        first_reaches = omega (arith, ints, clamps, h.in_x.first_reaches, hp.west, hq.west, hr.east, hs.east);
+        second_reaches = omega (arith, ints, clamps, h.in_x.second_reaches, hp.east, hq.east, hr.west, hs.west);
+      };
+      in_y = record {
+        first_reaches = omega (arith, ints, clamps, h.in_y.first_reaches, hp.south, hq.south, hr.north, hs.north);
+        second_reaches = omega (arith, ints, clamps, h.in_y.second_reaches, hp.north, hq.north, hr.south, hs.south);
+      };
+    }
+
 -- where a count is the rest, the sum is the whole
 sum_is : (first end : ℕ) → first < end → first + (end - first) ≡ end
 sum_is first end h = omega arith
 
-module _ (ring : List Point) (p : Triple) (at_p : IsPoint p) (first end : ℕ) (some : first < end) (within : end < length ring) (b : BoundingBox)
+module _ (ring : List Point) (first end : ℕ) (some : first < end) (within : end < length ring) (b : BoundingBox)
     (enclosed : (k : ℕ) → k < length (take (end + 1 - first) (drop first ring)) → (other : Point)
     → Encloses b (get_or (take (end + 1 - first) (drop first ring)) k other))
     (limits : (k : ℕ) → k < length (take (end + 1 - first) (drop first ring)) → (other : Point)
-    → IsInBounds (get_or (take (end + 1 - first) (drop first ring)) k other))
-    (odd : Bool) (before : OddSoFar (take first (edges_of ring)) p odd) where
+    → IsInBounds (get_or (take (end + 1 - first) (drop first ring)) k other)) where
   -- what all points in the box have, the ends have
   of_end : (P : Point → Type 0) → OfAllEnclosed b P → (i : ℕ) → first ≤ i → i ≤ end → P (vertex ring i)
   of_end P all i from to =
@@ -175,44 +191,51 @@ module _ (ring : List Point) (p : Triple) (at_p : IsPoint p) (first end : ℕ) (
       ∙ sym (vertex_in_range ring i origin (omega (arith, within))) in
       subst P at (all _ (limits k in_block origin) (enclosed k in_block origin))
 
-  -- so where each edge is passed by in a way that its ends tell, all of them are
-  all_by_ends : (above : ℕ → Bool)
-      → ((k : ℕ) → first ≤ k → k < end → IsPassed (vertex ring k) (vertex ring (k + 1)) p (is_between_ends (above k) (above (k + 1))))
-      → OddSoFar (take end (edges_of ring)) p (not (beq odd (is_between_ends (above first) (above end))))
-  all_by_ends above passed =
-      let count : ℕ = end - first in
-      let sum = sum_is first end some in
-      subst (λ n. OddSoFar (take n (edges_of ring)) p (not (beq odd (is_between_ends (above first) (above n))))) sum
-      (passed_all ring p above first odd before count (omega (arith, within)) (λ k from below. passed k from (omega (arith, below))))
+  -- a segment in a box that shares no point with theirs meets none of them
+  pub block_apart : (p q : Point) (around : BoundingBox) → Encloses around p → Encloses around q → ¬ (Overlap around b) → AreApart ring first end p q
+  block_apart p q around at_p at_q apart k from below meet =
+      let of = of_end (Encloses b) (λ v bounds here. here) in
+      apart (overlap_of_meeting around b p q (vertex ring k) (vertex ring (k + 1)) at_p at_q (of k from (omega arith)) (of (k + 1) (omega arith) (omega arith)) meet)
 
-  -- those that the ray misses change nothing,
-  none_by_ends : ((k : ℕ) → first ≤ k → k < end → IsPassed (vertex ring k) (vertex ring (k + 1)) p false)
-      → OddSoFar (take end (edges_of ring)) p odd
-  none_by_ends passed = subst (OddSoFar (take end (edges_of ring)) p) (no_change odd true) (all_by_ends (λ _. true) passed)
+  module _ (p : Triple) (at_p : IsPoint p) (odd : Bool) (before : OddSoFar (take first (edges_of ring)) p odd) where
+    -- so where each edge is passed by in a way that its ends tell, all of them are
+    all_by_ends : (above : ℕ → Bool)
+        → ((k : ℕ) → first ≤ k → k < end → IsPassed (vertex ring k) (vertex ring (k + 1)) p (is_between_ends (above k) (above (k + 1))))
+        → OddSoFar (take end (edges_of ring)) p (not (beq odd (is_between_ends (above first) (above end))))
+    all_by_ends above passed =
+        let count : ℕ = end - first in
+        let sum = sum_is first end some in
+        subst (λ n. OddSoFar (take n (edges_of ring)) p (not (beq odd (is_between_ends (above first) (above n))))) sum
+        (passed_all ring p above first odd before count (omega (arith, within)) (λ k from below. passed k from (omega (arith, below))))
 
-  pub block_missed : IsBoxMissed b p → OddSoFar (take end (edges_of ring)) p odd
-  block_missed (inl above) =
-      let of = of_end (λ v. p.Y <ℤ (v.y *ℤ p.W)) above in
-      none_by_ends (λ k from below. passed_above (vertex ring k) (vertex ring (k + 1)) p at_p (of k from (omega arith)) (of (k + 1) (omega arith) (omega arith)))
-  block_missed (inr (inl below)) =
-      let of = of_end (λ v. (v.y *ℤ p.W) <ℤ p.Y) below in
-      none_by_ends (λ k from less. passed_below (vertex ring k) (vertex ring (k + 1)) p at_p (of k from (omega arith)) (of (k + 1) (omega arith) (omega arith)))
-  block_missed (inr (inr left)) =
-      let of = of_end (λ v. (v.x *ℤ p.W) <ℤ p.X) left in
-      none_by_ends (λ k from less. passed_left (vertex ring k) (vertex ring (k + 1)) p at_p (of k from (omega arith)) (of (k + 1) (omega arith) (omega arith)))
+    -- those that the ray misses change nothing,
+    none_by_ends : ((k : ℕ) → first ≤ k → k < end → IsPassed (vertex ring k) (vertex ring (k + 1)) p false)
+        → OddSoFar (take end (edges_of ring)) p odd
+    none_by_ends passed = subst (OddSoFar (take end (edges_of ring)) p) (no_change odd true) (all_by_ends (λ _. true) passed)
 
-  -- and those right of the point do where the first end and the last are on both sides of its height
-  pub block_crossed : IsBoxRight b p → (first_above last_above : Bool) → IsTrue first_above ↔ (p.Y <ℤ (Point.y (vertex ring first) *ℤ p.W))
-      → IsTrue last_above ↔ (p.Y <ℤ (Point.y (vertex ring end) *ℤ p.W))
-      → OddSoFar (take end (edges_of ring)) p (not (beq odd (not (beq first_above last_above))))
-  block_crossed right first_above last_above first_is last_is =
-      let of = of_end (λ v. p.X <ℤ (v.x *ℤ p.W)) right in
-      let above : ℕ → Bool = λ k. lt_z p.Y (Point.y (vertex ring k) *ℤ p.W) in
-      let all = all_by_ends above (λ k from less. passed_right (vertex ring k) (vertex ring (k + 1)) p at_p (of k from (omega arith)) (of (k + 1) (omega arith) (omega arith))) in
-      subst (λ f. OddSoFar (take end (edges_of ring)) p (not (beq odd (not (beq f last_above))))) (test_is first_above _ _ first_is)
-      (subst (λ l. OddSoFar (take end (edges_of ring)) p (not (beq odd (not (beq (above first) l))))) (test_is last_above _ _ last_is) all)
-    where
-      -- a flag that says whether a number is above another is the test of it
-      test_is : (flag : Bool) (x y : ℤ) → IsTrue flag ↔ (x <ℤ y) → lt_z x y ≡ flag
-      test_is true x y h = let k = h.0 refl in grind (arith, ints)
-      test_is false x y h = grind (arith, ints)
+    pub block_missed : IsBoxMissed b p → OddSoFar (take end (edges_of ring)) p odd
+    block_missed (inl above) =
+        let of = of_end (λ v. p.Y <ℤ (v.y *ℤ p.W)) above in
+        none_by_ends (λ k from below. passed_above (vertex ring k) (vertex ring (k + 1)) p at_p (of k from (omega arith)) (of (k + 1) (omega arith) (omega arith)))
+    block_missed (inr (inl below)) =
+        let of = of_end (λ v. (v.y *ℤ p.W) <ℤ p.Y) below in
+        none_by_ends (λ k from less. passed_below (vertex ring k) (vertex ring (k + 1)) p at_p (of k from (omega arith)) (of (k + 1) (omega arith) (omega arith)))
+    block_missed (inr (inr left)) =
+        let of = of_end (λ v. (v.x *ℤ p.W) <ℤ p.X) left in
+        none_by_ends (λ k from less. passed_left (vertex ring k) (vertex ring (k + 1)) p at_p (of k from (omega arith)) (of (k + 1) (omega arith) (omega arith)))
+
+    -- and those right of the point do where the first end and the last are on both sides of its height
+    pub block_crossed : IsBoxRight b p → (first_above last_above : Bool) → IsTrue first_above ↔ (p.Y <ℤ (Point.y (vertex ring first) *ℤ p.W))
+        → IsTrue last_above ↔ (p.Y <ℤ (Point.y (vertex ring end) *ℤ p.W))
+        → OddSoFar (take end (edges_of ring)) p (not (beq odd (not (beq first_above last_above))))
+    block_crossed right first_above last_above first_is last_is =
+        let of = of_end (λ v. p.X <ℤ (v.x *ℤ p.W)) right in
+        let above : ℕ → Bool = λ k. lt_z p.Y (Point.y (vertex ring k) *ℤ p.W) in
+        let all = all_by_ends above (λ k from less. passed_right (vertex ring k) (vertex ring (k + 1)) p at_p (of k from (omega arith)) (of (k + 1) (omega arith) (omega arith))) in
+        subst (λ f. OddSoFar (take end (edges_of ring)) p (not (beq odd (not (beq f last_above))))) (test_is first_above _ _ first_is)
+        (subst (λ l. OddSoFar (take end (edges_of ring)) p (not (beq odd (not (beq (above first) l))))) (test_is last_above _ _ last_is) all)
+      where
+        -- a flag that says whether a number is above another is the test of it
+        test_is : (flag : Bool) (x y : ℤ) → IsTrue flag ↔ (x <ℤ y) → lt_z x y ≡ flag
+        test_is true x y h = let k = h.0 refl in grind (arith, ints)
+        test_is false x y h = grind (arith, ints)

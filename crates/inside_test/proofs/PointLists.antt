@@ -9,6 +9,7 @@ use Rattle.plane.proofs.Points.{same_sym}
 use Rattle.plane.proofs.Segments.{on_first_end, on_last_end}
 use Rattle.plane.specs.Point.{IsPoint, IsSame, Point, Triple, whole}
 use Rattle.rings.specs.Ring.{vertex}
+use Rattle.inside_test.specs.Block.{AreApart}
 use Rattle.inside_test.specs.Breakpoints.{EnclosesAll, ExtendsOnSegment, IsListed, IsPointOn, Lists, ListsMeetings, breakpoint_points}
 use Rattle.inside_test.specs.declared.breakpoint.Breakpoint.{Breakpoint}
 
@@ -118,3 +119,18 @@ module _ (ring : List Point) (a b : Triple) where
           subst (λ k. EnclosesAll new a b (whole (vertex ring k)) (whole (vertex ring (k + 1)))) same here
     ];
   }
+
+-- edges that the segment does not meet add nothing
+pub lists_past : (ring : List Point) (a b : Point) (first end : ℕ) (points : List Triple) → ListsMeetings ring first (whole a) (whole b) points
+    → AreApart ring first end a b → ListsMeetings ring end (whole a) (whole b) points
+lists_past ring a b first end points before apart = record {
+  several = before.several;
+  placed = before.placed;
+  has_first = before.has_first;
+  has_last = before.has_last;
+  enclosed = λ i below. elim (cases_lt i first) [
+    | inl earlier ↦ before.enclosed i earlier
+    | inr not ↦ λ z rational on_first on_second.
+        absurd (apart i (omega arith) below (record { point = z; rational = rational; on_first = on_first; on_second = on_second }))
+  ];
+}

@@ -1,6 +1,8 @@
--- The points of a box, all to one side of a rational point. This project's own. No public clause cites this module.
-use Rattle.std.specs.Prelude.{◌⊎◌, ◌*ℤ◌, ◌<ℤ◌}
-use Rattle.plane.specs.Point.{IsInBounds, Point, Triple}
+-- The points of a box, all to one side of a rational point, and edges in a box apart from a segment. This project's own. No public clause cites this module.
+use Rattle.std.specs.Prelude.{◌⊎◌, ◌*ℤ◌, ◌<ℤ◌, ◌<◌, ◌≤◌, ◌+◌, ℕ, List}
+use Rattle.plane.specs.Point.{IsInBounds, Point, Triple, whole}
+use Rattle.plane.specs.Segment.{Meet}
+use Rattle.rings.specs.Ring.{vertex}
 use Rattle.exact_plane.specs.Boxes.{Encloses}
 use Rattle.exact_plane.specs.declared.bounding_box.BoundingBox.{BoundingBox}
 
@@ -24,3 +26,8 @@ IsBoxRight b p = OfAllEnclosed b (λ v. p.X <ℤ (v.x *ℤ p.W))
 -- the ray from the point to the right has none of them beside it or ahead
 abbrev pub IsBoxMissed : BoundingBox → Triple → Type 0
 IsBoxMissed b p = IsBoxAbove b p ⊎ IsBoxBelow b p ⊎ IsBoxLeft b p
+
+-- the segment from a to b meets none of the edges from number `first` to before `end`
+abbrev pub AreApart : List Point → ℕ → ℕ → Point → Point → Type 0
+AreApart ring first end a b =
+    (k : ℕ) → first ≤ k → k < end → ¬ Meet (whole a) (whole b) (whole (vertex ring k)) (whole (vertex ring (k + 1)))

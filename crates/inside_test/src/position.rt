@@ -12,7 +12,7 @@ use ring_check::Ring;
 use std::sync::ledger::Ledger;
 
 // How many edges are looked at together: their ends are sixteen vertices.
-const BLOCK: u32 = 15;
+pub(crate) const BLOCK: u32 = 15;
 
 /// Where a point lies.
 #[derive(Clone, Copy, Debug, PartialEq, Eq)]

@@ -1,16 +1,18 @@
 ghost use Rattle.std.specs.List.{AllAdjacentBelow, Contains};
-ghost use Rattle.std.specs.Prelude.{◌≡◌, ◌↔◌, ◌++◌, ◌∷◌, [], IfOk, IsTrue, OnOk, OnErr, length};
+ghost use Rattle.std.specs.Prelude.{◌≡◌, ◌↔◌, ◌++◌, ◌∷◌, [], ◌<◌, ◌≤◌, IfOk, IsTrue, OnOk, OnErr, length};
 ghost use Rattle.plane.specs.Line.{mediant};
 ghost use Rattle.plane.specs.Point.{IsPoint, whole};
 ghost use Rattle.plane.specs.Segment.{On};
 ghost use Rattle.rings.specs.Inside.{IsIn};
 ghost use Rattle.rings.specs.Sees.{Sees};
+ghost use Rattle.exact_plane.specs.Boxes.{Encloses};
 ghost use Rattle.exact_plane.specs.Size.{IsNarrow};
+ghost use Rattle.inside_test.specs.Block.{AreApart};
 ghost use Rattle.inside_test.specs.Breakpoints.{EnclosesAll, ExtendsOnSegment, IsListed, Lists, ListsMeetings, breakpoint_points};
 
 use crate::breakpoint::Breakpoint;
-use crate::position::{Position, place_hom};
-use exact_plane::{Hom, Memory, Pt, Steps, on_segment, segments_meet};
+use crate::position::{BLOCK, Position, place_hom};
+use exact_plane::{BoundingBox, Hom, Memory, Pt, Steps, on_segment, segments_meet};
 use ring_check::Ring;
 use std::alloc::Global;
 use std::cmp::Ordering;
@@ -45,14 +47,64 @@ fn breakpoints<L: Ledger>(
     let mut points = Vec::new(alloc);
     push(&mut points, Hom::of_pt(a, steps), steps)?;
     push(&mut points, Hom::of_pt(b, steps), steps)?;
-    let size = ring.len();
-    let mut c = ring.corner(0);
-    for i in 0..size {
-        let d = ring.next(i);
-        push_meetings(&mut points, a, b, &c, &d, steps)?;
-        c = d;
+    let around = BoundingBox::of(&[*a, *b], steps);
+    let n = ring.len();
+    let mut first = 0;
+    while first < n {
+        let end = n.min(first + BLOCK);
+        if !are_apart(ring, first, end, a, b, &around, steps) {
+            push_block(&mut points, ring, first, end, a, b, steps)?;
+        }
+        first = end;
     }
     Ok(points)
+}
+
+// Whether a box round the edges from number `first` to before `end` shows that the segment from `a` to `b` meets none of them.
+fn are_apart<L: Ledger>(
+    ring: &Ring,
+    first: u32,
+    end: u32,
+    a: &Pt,
+    b: &Pt,
+    around: &BoundingBox,
+    steps: &mut Steps<L>,
+) -> bool
+    requires some { first < end }
+    requires within { end ≤ length ring.now.corners }
+    requires has_first { Encloses around.now a.now }
+    requires has_last { Encloses around.now b.now }
+    ensures { IsTrue result → AreApart ring.now.corners first end a.now b.now }
+{
+    if end == ring.len() {
+        return false;
+    }
+    let vertices = &ring.corners()[first as usize..end as usize + 1];
+    !around.overlaps(&BoundingBox::of(vertices, steps))
+}
+
+// Appends what the segment has in common with these edges.
+fn push_block<L: Ledger>(
+    points: &mut Vec<Breakpoint>,
+    ring: &Ring,
+    first: u32,
+    end: u32,
+    a: &Pt,
+    b: &Pt,
+    steps: &mut Steps<L>,
+) -> Result<(), Memory>
+    requires some { first < end }
+    requires within { end ≤ length ring.now.corners }
+    requires before { ListsMeetings ring.now.corners first (whole a.now) (whole b.now) (breakpoint_points points.old.items) }
+    ensures { OnOk result (ListsMeetings ring.now.corners end (whole a.now) (whole b.now) (breakpoint_points points.new.items)) }
+{
+    let mut c = ring.corner(first);
+    for i in first..end {
+        let d = ring.next(i);
+        push_meetings(points, a, b, &c, &d, steps)?;
+        c = d;
+    }
+    Ok(())
 }
 
 // Appends what the segment from `a` to `b` has in common with the one from `c` to `d`: one point, or the ends of the

@@ -1,31 +1,29 @@
-use Rattle.std.proofs.Common.{◌≡◌, length, subst, arith}
+use Rattle.std.proofs.Common.{arith}
 use Rattle.plane.proofs.Points.{whole_is_point}
 use Rattle.plane.specs.Point.{whole}
-use Rattle.inside_test.proofs.PointLists.{lists_more, lists_start}
+use Rattle.rings.specs.Ring.{origin}
+use Rattle.inside_test.proofs.PointLists.{lists_past, lists_start}
 use Rattle.inside_test.proofs.segment.breakpoints.Goals as goal
-use Rattle.inside_test.specs.Breakpoints.{ListsMeetings, breakpoint_points}
+use Rattle.inside_test.specs.Breakpoints.{breakpoint_points}
 
-pub loop-i-init : goal.loop-i-init
-loop-i-init g c =
+pub loop-first-init : goal.loop-first-init
+loop-first-init g c =
     let first = rw (c.new-points.ensures.items, c.of_pt.ensures.point) at c.in_ok-push.ensures.ok in
     let second = rw c.of_pt-2.ensures.point at c.in_ok-push-2.ensures.ok in (
       lists_start c.args.ring.now.corners (whole c.args.a.now) (whole c.args.b.now) (whole_is_point c.args.a.now) (whole_is_point c.args.b.now)
           (breakpoint_points c.push.new.points.items) (breakpoint_points c.push-2.new.points.items) first second,
-      c.corner-c.ensures,
+      omega arith,
     )
 
-pub loop-i-preserved : goal.loop-i-preserved
-loop-i-preserved g c =
-    let (lists, at_c) = c.loop-i.invariant in
-    let next = c.next-d.ensures in
-    let here = rw (at_c, next) at c.in_ok-push_meetings.ensures.enclosed in (
-      lists_more c.args.ring.now.corners (whole c.args.a.now) (whole c.args.b.now) c.loop-i.i (breakpoint_points c.loop-i.points.items)
-          (breakpoint_points c.push_meetings.new.points.items) lists c.in_ok-push_meetings.ensures.extends here,
-      next,
-    )
+pub loop-first-preserved : goal.loop-first-preserved
+loop-first-preserved g c = (
+  lists_past c.args.ring.now.corners c.args.a.now c.args.b.now c.loop-first.first c.min-end.result (breakpoint_points c.loop-first.points.items)
+      c.loop-first.invariant.0 (c.are_apart.ensures c.if-not-are_apart.false),
+  omega (arith, c.len-n.ensures.number, c.min-end.ensures),
+)
 
-pub returns : goal.returns
-returns g c =
-    let ring = c.args.ring.now.corners in
-    let all : c.loop-i.i ≡ length ring = omega arith in
-    subst (λ n. ListsMeetings ring n (whole c.args.a.now) (whole c.args.b.now) (breakpoint_points c.loop-i.points.items)) all c.loop-i.invariant.0
+pub are_apart-requires-clause-has_first : goal.are_apart-requires-clause-has_first
+are_apart-requires-clause-has_first g c = c.of-around.ensures.within 0 (omega arith) origin
+
+pub are_apart-requires-clause-has_last : goal.are_apart-requires-clause-has_last
+are_apart-requires-clause-has_last g c = c.of-around.ensures.within 1 (omega arith) origin
