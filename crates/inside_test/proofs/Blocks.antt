@@ -21,7 +21,7 @@ use Rattle.inside_test.proofs.CrossedEdges.{crossed_backward, crossed_from_left,
 use Rattle.inside_test.proofs.Odd.{odd_step}
 use Rattle.inside_test.proofs.Passed.{left_of_rise, not_falling, right_of_rise, test_fails_high, test_fails_low}
 use Rattle.inside_test.proofs.Touched.{follows_right, precedes_left}
-use Rattle.inside_test.specs.Block.{AreApart, IsBoxMissed, IsBoxRight, OfAllEnclosed}
+use Rattle.inside_test.specs.Block.{MissesEdges, IsBoxMissed, IsBoxRight, OfAllEnclosed}
 use Rattle.inside_test.specs.Meeting.{rises}
 use Rattle.inside_test.specs.Odd.{OddSoFar}
 
@@ -192,7 +192,7 @@ module _ (ring : List Point) (first end : ℕ) (some : first < end) (within : en
       subst P at (all _ (limits k in_block origin) (enclosed k in_block origin))
 
   -- a segment in a box that shares no point with theirs meets none of them
-  pub block_apart : (p q : Point) (around : BoundingBox) → Encloses around p → Encloses around q → ¬ (Overlap around b) → AreApart ring first end p q
+  pub block_apart : (p q : Point) (around : BoundingBox) → Encloses around p → Encloses around q → ¬ (Overlap around b) → MissesEdges ring first end p q
   block_apart p q around at_p at_q apart k from below meet =
       let of = of_end (Encloses b) (λ v bounds here. here) in
       apart (overlap_of_meeting around b p q (vertex ring k) (vertex ring (k + 1)) at_p at_q (of k from (omega arith)) (of (k + 1) (omega arith) (omega arith)) meet)

@@ -9,7 +9,7 @@ use Rattle.plane.proofs.Points.{same_sym}
 use Rattle.plane.proofs.Segments.{on_first_end, on_last_end}
 use Rattle.plane.specs.Point.{IsPoint, IsSame, Point, Triple, whole}
 use Rattle.rings.specs.Ring.{vertex}
-use Rattle.inside_test.specs.Block.{AreApart}
+use Rattle.inside_test.specs.Block.{MissesEdges}
 use Rattle.inside_test.specs.Breakpoints.{EnclosesAll, ExtendsOnSegment, IsListed, IsPointOn, Lists, ListsMeetings, breakpoint_points}
 use Rattle.inside_test.specs.declared.breakpoint.Breakpoint.{Breakpoint}
 
@@ -122,7 +122,7 @@ module _ (ring : List Point) (a b : Triple) where
 
 -- edges that the segment does not meet add nothing
 pub lists_past : (ring : List Point) (a b : Point) (first end : ℕ) (points : List Triple) → ListsMeetings ring first (whole a) (whole b) points
-    → AreApart ring first end a b → ListsMeetings ring end (whole a) (whole b) points
+    → MissesEdges ring first end a b → ListsMeetings ring end (whole a) (whole b) points
 lists_past ring a b first end points before apart = record {
   several = before.several;
   placed = before.placed;

@@ -28,6 +28,6 @@ abbrev pub IsBoxMissed : BoundingBox → Triple → Type 0
 IsBoxMissed b p = IsBoxAbove b p ⊎ IsBoxBelow b p ⊎ IsBoxLeft b p
 
 -- the segment from a to b meets none of the edges from number `first` to before `end`
-abbrev pub AreApart : List Point → ℕ → ℕ → Point → Point → Type 0
-AreApart ring first end a b =
+abbrev pub MissesEdges : List Point → ℕ → ℕ → Point → Point → Type 0
+MissesEdges ring first end a b =
     (k : ℕ) → first ≤ k → k < end → ¬ Meet (whole a) (whole b) (whole (vertex ring k)) (whole (vertex ring (k + 1)))

@@ -7,7 +7,7 @@ ghost use Rattle.rings.specs.Inside.{IsIn};
 ghost use Rattle.rings.specs.Sees.{Sees};
 ghost use Rattle.exact_plane.specs.Boxes.{Encloses};
 ghost use Rattle.exact_plane.specs.Size.{IsNarrow};
-ghost use Rattle.inside_test.specs.Block.{AreApart};
+ghost use Rattle.inside_test.specs.Block.{MissesEdges};
 ghost use Rattle.inside_test.specs.Breakpoints.{EnclosesAll, ExtendsOnSegment, IsListed, Lists, ListsMeetings, breakpoint_points};
 
 use crate::breakpoint::Breakpoint;
@@ -74,7 +74,7 @@ fn are_apart<L: Ledger>(
     requires within { end ≤ length ring.now.corners }
     requires has_first { Encloses around.now a.now }
     requires has_last { Encloses around.now b.now }
-    ensures { IsTrue result → AreApart ring.now.corners first end a.now b.now }
+    ensures { IsTrue result → MissesEdges ring.now.corners first end a.now b.now }
 {
     if end == ring.len() {
         return false;
