@@ -1,18 +1,19 @@
--- The square of all points, cut by the lines of the edges one after another, in some order: in the end it is the kernel.
-use Rattle.std.proofs.Common.{◌≡◌, ◌↔◌, inl, inr, subst, sym, ap, ◌∙◌, ℕ, ◌+◌, ◌%◌, ◌<◌, ◌≤◌, List, length, arith}
+-- The square of all points, cut by the lines of the edges, some as they come and the rest in another order: in the end it is the kernel.
+use Rattle.std.proofs.Common.{◌≡◌, ◌↔◌, inl, inr, subst, sym, ◌∙◌, ℕ, ◌+◌, ◌<◌, ◌≤◌, List, length, arith}
 use Rattle.std.proofs.lemmas.Bool.{cases_lt}
 use Rattle.plane.specs.Cut.{IsUncut}
-use Rattle.plane.specs.Point.{IsInBounds, IsPoint, Point, Triple, whole}
+use Rattle.plane.specs.Point.{IsInBounds, IsPoint, Point, Triple}
 use Rattle.plane.specs.Region.{IsCornerList}
+use Rattle.plane.specs.Square.{IsInSquare}
 use Rattle.plane.specs.Turn.{IsRight}
 use Rattle.rings.proofs.Simple.{apart_of_simple, proper_edges}
-use Rattle.rings.proofs.Vertices.{edge_at, has_edge_at, vertex_mod}
+use Rattle.rings.proofs.Vertices.{edge_at, has_edge_at}
 use Rattle.rings.specs.Kernel.{IsInKernel, IsKernel}
 use Rattle.rings.specs.Orientation.{IsCounterclockwise}
 use Rattle.rings.specs.Ring.{vertex}
 use Rattle.rings.specs.Simple.{IsSimple}
 use Rattle.ring_laws.proofs.Kernels.{kernel_law, right_of_none_in_square}
-use Rattle.star_kernel.specs.HalfPlanes.{AreAllEdges, IsLeftOfFirst, edge_number_at}
+use Rattle.star_kernel.specs.HalfPlanes.{AreAllEdges, IsLeftOfBelow, IsLeftOfFirst, IsRightOfEdge, edge_number_at}
 use Rattle.star_kernel.specs.declared.directions.Edge.{Edge}
 
 -- a corner list of one set is that of another with the same points
@@ -26,36 +27,47 @@ corners_with set other same corners list = record {
   );
 }
 
--- the vertex after vertex k, by its number
-pub next_vertex : (ring : List Point) (k n : ℕ) → n ≡ length ring → vertex ring ((k + 1) % n) ≡ vertex ring (k + 1)
-next_vertex ring k n e = ap (λ m. vertex ring ((k + 1) % m)) e ∙ vertex_mod ring (k + 1)
-
--- edge k of the list cuts what the edges before it left
-pub one_more : (ring : List Point) (edges : List Edge) (k : ℕ) (from to : Point) → from ≡ vertex ring (edge_number_at edges k)
-    → to ≡ vertex ring (edge_number_at edges k + 1) → (corners rest : List Triple) → IsCornerList (IsLeftOfFirst ring edges k) corners
-    → IsCornerList (IsUncut (whole from) (whole to) corners) rest → IsCornerList (IsLeftOfFirst ring edges (k + 1)) rest
-one_more ring edges k from to is_from is_to corners rest list = corners_with (IsUncut (whole from) (whole to) corners)
-    (IsLeftOfFirst ring edges (k + 1))
+-- what a line leaves of a region of one set is a region of what it leaves of the set
+pub one_cut : (set rest : Triple → Type 0) (a b : Triple) → ((p : Triple) → rest p ↔ (set p × ¬ IsRight a b p)) → (corners new : List Triple)
+    → IsCornerList set corners → IsCornerList (IsUncut a b corners) new → IsCornerList rest new
+one_cut set rest a b is corners new list cut =
+    corners_with (IsUncut a b corners) rest
     (λ p at_p. (
-      λ h.
-          let before = (list.exact p at_p).0 h.0 in
-          (before.0, more p before.1 (λ right. h.1 (rw (is_from, is_to) right))),
-      λ h. (
-        (list.exact p at_p).1 (h.0, λ i below. h.1 i (omega arith)),
-        λ right. h.1 k (omega arith) (rw (← is_from, ← is_to) right),
-      ),
-    )) rest
-  where
-    is_right : ℕ → Triple → Type 0
-    is_right i p = IsRight (whole (vertex ring (edge_number_at edges i))) (whole (vertex ring (edge_number_at edges i + 1))) p
+      λ h. (is p).1 ((list.exact p at_p).0 h.0, h.1),
+      λ h. let left = (is p).0 h in ((list.exact p at_p).1 left.0, left.1),
+    )) new cut
 
-    more : (p : Triple) → ((i : ℕ) → i < k → ¬ is_right i p) → ¬ is_right k p → (i : ℕ) → i < k + 1 → ¬ is_right i p
-    more p before last i below right = elim (cases_lt i k) [
-      | inl less ↦ before i less right
-      | inr not ↦
-          let same : i ≡ k = omega arith in
-          last (subst (λ (j : ℕ). is_right j p) same right)
-    ]
+-- of a number below one more it is so below it and at it
+at_or_below : (P : ℕ → Type 0) (k : ℕ) → ((i : ℕ) → i < k + 1 → P i) ↔ (((i : ℕ) → i < k → P i) × P k)
+at_or_below P k = (
+  λ all. (λ i below. all i (omega arith), all k (omega arith)),
+  λ h i below. elim (cases_lt i k) [
+    | inl less ↦ h.0 i less
+    | inr not ↦ let same : k ≡ i = omega arith in subst P same h.1
+  ],
+)
+
+-- so one edge more cuts what those before it left, by their numbers,
+pub below_more : (ring : List Point) (k : ℕ) (p : Triple) → IsLeftOfBelow ring (k + 1) p ↔ (IsLeftOfBelow ring k p × ¬ IsRightOfEdge ring k p)
+below_more ring k p =
+    let (from, back) = at_or_below (λ i. ¬ IsRightOfEdge ring i p) k in
+    (λ h. let left = from h.1 in ((h.0, left.0), left.1), λ h. (h.0.0, back (h.0.1, h.1)))
+
+-- and by their places in a list
+pub first_more : (ring : List Point) (first : ℕ) (edges : List Edge) (k : ℕ) (p : Triple) → IsLeftOfFirst ring first edges (k + 1) p
+    ↔ (IsLeftOfFirst ring first edges k p × ¬ IsRightOfEdge ring (edge_number_at edges k) p)
+first_more ring first edges k p =
+    let (from, back) = at_or_below (λ i. ¬ IsRightOfEdge ring (edge_number_at edges i) p) k in
+    (λ h. let left = from h.1 in ((h.0, left.0), left.1), λ h. (h.0.0, back (h.0.1, h.1)))
+
+-- at first no edge has cut
+pub none_below : (ring : List Point) (corners : List Triple) → IsCornerList IsInSquare corners → IsCornerList (IsLeftOfBelow ring 0) corners
+none_below ring = corners_with IsInSquare (IsLeftOfBelow ring 0) (λ p at_p. (λ h. (h, λ k below. absurd (omega arith)), λ h. h.0))
+
+pub none_listed : (ring : List Point) (first : ℕ) (edges : List Edge) (corners : List Triple) → IsCornerList (IsLeftOfBelow ring first) corners
+    → IsCornerList (IsLeftOfFirst ring first edges 0) corners
+none_listed ring first edges =
+    corners_with (IsLeftOfBelow ring first) (IsLeftOfFirst ring first edges 0) (λ p at_p. (λ h. (h, λ i below. absurd (omega arith)), λ h. h.0))
 
 module _ (ring : List Point) (three : 3 ≤ length ring) (simple : IsSimple ring) where
   -- no edge has equal ends
@@ -66,20 +78,26 @@ module _ (ring : List Point) (three : 3 ≤ length ring) (simple : IsSimple ring
   pub ends_differ : (k : ℕ) → k < length ring → (from to : Point) → from ≡ vertex ring k → to ≡ vertex ring (k + 1) → ¬ (from ≡ to)
   ends_differ k below from to is_from is_to same = differ k below (sym is_from ∙ same ∙ is_to)
 
-  module _ (way : IsCounterclockwise ring) (bounds : (k : ℕ) → k < length ring → IsInBounds (vertex ring k)) where
+  module _ (way : IsCounterclockwise ring) (first : ℕ) (edges : List Edge) (are : AreAllEdges first (length ring) edges)
+      (low : (k : ℕ) → k < first → IsInBounds (vertex ring k))
+      (listed : (i : ℕ) → i < length edges → IsInBounds (vertex ring (edge_number_at edges i))) where
+    -- what is so of the edges below a number and of those of the list is so of all
+    of_all : (P : ℕ → Type 0) → ((k : ℕ) → k < first → P k) → ((i : ℕ) → i < length edges → P (edge_number_at edges i)) → (k : ℕ) → k < length ring → P k
+    of_all P below in_list k less = elim (cases_lt k first) [
+      | inl early ↦ below k early
+      | inr late ↦ let found = are.all k (omega (arith, late)) less in subst P found.1.1 (in_list found.0 found.1.0)
+    ]
+
     -- in the end it is the kernel
-    pub all_edges : (edges : List Edge) → AreAllEdges (length ring) edges → (corners : List Triple)
-        → IsCornerList (IsLeftOfFirst ring edges (length ring)) corners → IsKernel ring corners
-    all_edges edges are = corners_with (IsLeftOfFirst ring edges (length ring)) (IsInKernel ring)
+    pub all_edges : (corners : List Triple) → IsCornerList (IsLeftOfFirst ring first edges (length edges)) corners → IsKernel ring corners
+    all_edges =
+        corners_with (IsLeftOfFirst ring first edges (length edges)) (IsInKernel ring)
         (λ p at_p. (
-          λ h. (kernel_law ring three simple way p at_p).1 (λ k below. at_edge p k (are.all k below) h.1),
+          λ h. (kernel_law ring three simple way p at_p).1 (of_all (λ k. ¬ IsRightOfEdge ring k p) h.0.1 h.1),
           λ h.
               let none = (kernel_law ring three simple way p at_p).0 h in
-              (right_of_none_in_square ring three simple way bounds p at_p none, λ i below. none (edge_number_at edges i) (are.within i below)),
+              let bounds = of_all (λ k. IsInBounds (vertex ring k)) low listed in (
+                (right_of_none_in_square ring three simple way bounds p at_p none, λ k below. none k (omega (arith, below, are.as_many))),
+                λ i below. none (edge_number_at edges i) (are.within i below),
+              ),
         ))
-      where
-        at_edge : (p : Triple) (k : ℕ) → (i : ℕ) × ((i < length ring) × (edge_number_at edges i ≡ k))
-            → ((i : ℕ) → i < length ring → ¬ IsRight (whole (vertex ring (edge_number_at edges i))) (whole (vertex ring (edge_number_at edges i + 1))) p)
-            → ¬ IsRight (whole (vertex ring k)) (whole (vertex ring (k + 1))) p
-        at_edge p k found none =
-            subst (λ (j : ℕ). ¬ IsRight (whole (vertex ring j)) (whole (vertex ring (j + 1))) p) found.1.1 (none found.0 found.1.0)

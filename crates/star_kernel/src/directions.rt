@@ -1,7 +1,5 @@
 // The edges of a ring in the order of their directions.
-ghost use Rattle.std.specs.Prelude.{IfOk, ℕ, ◌<◌, length};
-ghost use Rattle.plane.specs.Point.{IsInBounds};
-ghost use Rattle.rings.specs.Ring.{vertex};
+ghost use Rattle.std.specs.Prelude.{IfOk, ◌≤◌, length};
 ghost use Rattle.star_kernel.specs.HalfPlanes.{AreAllEdges, AreEdges};
 
 use exact_plane::{Memory, Pt, Steps};
@@ -19,37 +17,35 @@ pub(crate) struct Edge {
     pub number: u32,
 }
 
-// All edges of the ring, counterclockwise by their directions.
+// The edges from number `first` on, counterclockwise by their directions.
 pub(crate) fn by_direction<L: Ledger>(
     alloc: Global,
     ring: &Ring,
+    first: u32,
     steps: &mut Steps<L>,
 ) -> Result<Vec<Edge>, Memory>
-    ensures all { IfOk result (λ edges. AreAllEdges (length ring.now.corners) edges.items) }
-    ensures bounds { IfOk result (λ _. (k : ℕ) → k < length ring.now.corners → IsInBounds (vertex ring.now.corners k)) }
+    requires { first ≤ length ring.now.corners }
+    ensures { IfOk result (λ edges. AreAllEdges first (length ring.now.corners) edges.items) }
 {
-    let mut edges = edges_of(alloc, ring, steps)?;
+    let mut edges = edges_from(alloc, ring, first, steps)?;
     edges.sort_unstable();
     Ok(edges)
 }
 
-// All edges, by their numbers.
-fn edges_of<L: Ledger>(
+// The same, by their numbers.
+fn edges_from<L: Ledger>(
     alloc: Global,
     ring: &Ring,
+    first: u32,
     steps: &mut Steps<L>,
 ) -> Result<Vec<Edge>, Memory>
-    ensures edges { IfOk result (λ edges. AreEdges (length ring.now.corners) edges.items) }
-    ensures bounds { IfOk result (λ _. (k : ℕ) → k < length ring.now.corners → IsInBounds (vertex ring.now.corners k)) }
+    requires { first ≤ length ring.now.corners }
+    ensures { IfOk result (λ edges. AreEdges first (length ring.now.corners) edges.items) }
 {
     let n = ring.len();
-    let mut edges = Vec::with_capacity(alloc, n as usize)?;
-    for number in 0..n {
-        let (quarter, turned) = direction(
-            &ring.corner(number),
-            &ring.corner((number + 1) % n),
-            steps,
-        );
+    let mut edges = Vec::with_capacity(alloc, (n - first) as usize)?;
+    for number in first..n {
+        let (quarter, turned) = direction(&ring.corner(number), &ring.next(number), steps);
         edges.push(Edge {
             quarter,
             turned,
@@ -60,9 +56,7 @@ fn edges_of<L: Ledger>(
 }
 
 // In which quarter the way from `a` to `b` goes, and how far it is into it.
-fn direction<L: Ledger>(a: &Pt, b: &Pt, steps: &mut Steps<L>) -> (u8, u128)
-    ensures { IsInBounds a.now }
-{
+fn direction<L: Ledger>(a: &Pt, b: &Pt, steps: &mut Steps<L>) -> (u8, u128) {
     let ((x, y), (u, v)) = (a.parts(steps), b.parts(steps));
     let (right, up) = (u - x, v - y);
     if 0 < right && 0 <= up {

@@ -2,7 +2,7 @@ use Rattle.std.proofs.Common.{length}
 use Rattle.star_kernel.proofs.EdgeOrders.{edges_moved}
 use Rattle.star_kernel.proofs.directions.by_direction.Goals as goal
 
-pub returns-clause-all : goal.returns-clause-all
-returns-clause-all g c =
-    edges_moved (length c.args.ring.now.corners) c.in_ok-edges.edges.items c.sort_unstable.new.self.items c.in_ok-edges.ensures.edges
+pub returns : goal.returns
+returns g c =
+    edges_moved c.args.first (length c.args.ring.now.corners) c.in_ok-edges.edges.items c.sort_unstable.new.self.items c.in_ok-edges.ensures
     c.sort_unstable.ensures.permutation

@@ -1,10 +1,17 @@
-use Rattle.std.proofs.Common.{◌+◌, ◌≤◌, length}
+use Rattle.std.proofs.Common.{ℕ, ◌+◌, ◌-◌, ◌<◌, ◌≤◌, length}
+use Rattle.plane.specs.Point.{IsInBounds}
 use Rattle.plane.specs.Region.{IsCornerList}
-use Rattle.star_kernel.specs.HalfPlanes.{IsLeftOfFirst}
+use Rattle.rings.specs.Ring.{vertex}
+use Rattle.star_kernel.specs.HalfPlanes.{IsLeftOfBelow}
 use Rattle.star_kernel.proofs.half_planes.inner_side.Given as goal
 
-abbrev pub invariant-loop-i : goal.invariant-loop-i
-invariant-loop-i g l = record {
-  cut : IsCornerList (IsLeftOfFirst l.ring.corners l.edges.items l.i) l.region.corners;
-  few : length l.region.corners ≤ l.i + 4;
+abbrev pub invariant-loop-first : goal.invariant-loop-first
+invariant-loop-first g l = record {
+  within : l.first ≤ length l.ring.corners;
+  cut : IsCornerList (IsLeftOfBelow l.ring.corners l.first) l.region.corners;
+  bounds : (k : ℕ) → k < l.first → IsInBounds (vertex l.ring.corners k);
+  few : length l.region.corners ≤ l.first + 4;
 }
+
+abbrev pub decreases-loop-first : goal.decreases-loop-first
+decreases-loop-first g l = length l.ring.corners - l.first
