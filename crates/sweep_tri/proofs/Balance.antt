@@ -9,7 +9,7 @@ mod Closed
 pub use Rattle.sweep_tri.proofs.Balance.Closed.{closed_round, filled-append, filled_sum}
 -- What an event does to the regions of a gap, by their sums.
 mod Edits
-pub use Rattle.sweep_tri.proofs.Balance.Edits.{left_above_ends, left_above_some, left_below_ends, left_below_some, open_joined}
+pub use Rattle.sweep_tri.proofs.Balance.Edits.{left_some, open_joined}
 -- Sums over the edges of a ring, each with a sign: where the signs agree, and where all are 1 or -1.
 mod EdgeSums
 -- Twice the areas that edges sweep out round the origin: of triangles, and of a ring.
@@ -25,5 +25,5 @@ mod Steps
 pub use Rattle.sweep_tri.proofs.Balance.Steps.{balanced_at_start}
 -- Each event keeps the balance.
 mod Events
-pub use Rattle.sweep_tri.proofs.Balance.Events.{AreFilledClosed, balanced_begins, balanced_ends, balanced_goes_on_lower, balanced_goes_on_upper}
+pub use Rattle.sweep_tri.proofs.Balance.Events.{AreFilledClosed, balanced_begins, balanced_ends, balanced_goes_on}
 pub use Rattle.sweep_tri.proofs.Balance.Events.{balanced_merges, balanced_splits, filled_closed-append}

@@ -41,7 +41,7 @@ mod Starts
 pub use Rattle.sweep_tri.proofs.Fronts.Starts.{IsSplit, IsStart, splits, starts}
 -- An event at which one edge goes on in another.
 mod Follows
-pub use Rattle.sweep_tri.proofs.Fronts.Follows.{IsNextLow, IsNextUp, follows_low, follows_up}
+pub use Rattle.sweep_tri.proofs.Fronts.Follows.{IsNext, follows_low, follows_up}
 -- An event at which two edges end: a gap that closes, or two that are joined.
 mod Closes
 pub use Rattle.sweep_tri.proofs.Fronts.Closes.{IsEnd, IsMerge, closes, ends, merges}

@@ -9,7 +9,7 @@ mod Beginnings
 pub use Rattle.sweep_tri.proofs.Passes.Beginnings.{begins_of_fork, swept_of_split, swept_of_start}
 -- One edge ends, and one goes on.
 mod Goings
-pub use Rattle.sweep_tri.proofs.Passes.Goings.{above_closes, above_inside, below_closes, swept_of_above, swept_of_below}
+pub use Rattle.sweep_tri.proofs.Passes.Goings.{next_closes, next_low, next_up, swept_of_next}
 -- Two edges end.
 mod Finishes
 pub use Rattle.sweep_tri.proofs.Passes.Finishes.{ending_closes, finish_inside, merging_closes_above, merging_closes_below, merging_some}

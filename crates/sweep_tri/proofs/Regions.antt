@@ -3,11 +3,11 @@
 -- Paths of vertices with one more at the end, or without the last one: their items and steps.
 mod Paths
 pub use Rattle.sweep_tri.proofs.Regions.Paths.{before_last_grown, last_grown, length_grown}
--- A region seen from its lower chain or from its upper one, so that what holds of the one is shown of the other too.
-mod Ways
+-- A region and a gap seen from one of their sides, so that what holds at the one is shown at the other too.
+mod Sides
+pub use Rattle.sweep_tri.proofs.Regions.Sides.{IsNearer, IsShort, far_chain, far_front, near_chain, near_front}
 -- A region with one more vertex at the end of a chain.
 mod Growth
-pub use Rattle.sweep_tri.proofs.Regions.Growth.{CanGrow, grown_lower, grown_upper}
 -- An edge on the near side of another one, by where its ends are.
 mod Edges
 -- What comes to an end at an event: the ranks of the vertices of a chain.
@@ -24,10 +24,10 @@ mod Shortened
 mod Latest
 -- The parts of a gap: what is open where one of its edges ends, and what is closed.
 mod Parts
-pub use Rattle.sweep_tri.proofs.Regions.Parts.{above_upper, below_lower}
+pub use Rattle.sweep_tri.proofs.Regions.Parts.{closes, left_ends, left_far}
 -- What the events make of gaps, but for splits.
 mod Events
-pub use Rattle.sweep_tri.proofs.Regions.Events.{begins, closes_above, closes_below, ends, goes_on_lower, goes_on_upper, merges, stays}
+pub use Rattle.sweep_tri.proofs.Regions.Events.{begins, ends, goes_on, merges, stays}
 -- One region on both sides of a diagonal to the vertex of a split.
 mod Diagonals
 -- What a split makes of a gap.

@@ -18,7 +18,7 @@ mod Splits
 pub use Rattle.sweep_tri.proofs.Swept.Splits.{split_has_gap, swept_splits}
 -- One edge goes on in another: the edge below a gap, or the one above it.
 mod Follows
-pub use Rattle.sweep_tri.proofs.Swept.Follows.{low_closes, swept_follows_low, swept_follows_up, up_closes, up_has_gap}
+pub use Rattle.sweep_tri.proofs.Swept.Follows.{event_low, event_up, follow_closes, swept_follows}
 -- Two edges end: those of one gap, or those between two gaps.
 mod Ends
 pub use Rattle.sweep_tri.proofs.Swept.Ends.{end_closes, end_has_gap, swept_ends}

@@ -7,13 +7,12 @@ use Rattle.mono_fill.specs.declared.side.Side.{Side}
 use Rattle.mono_fill.specs.declared.side.Side.TheVariants.{Lower, Upper}
 use Rattle.meshes.specs.declared.tri.Tri.{Tri}
 use Rattle.sweep_tri.specs.Gaps.{before_last, last}
-use Rattle.sweep_tri.specs.Region.{Chains, boundary}
+use Rattle.sweep_tri.specs.Region.{Chains, boundary, seen_from}
 use Rattle.sweep_tri.specs.declared.gap.Gap.{Gap}
 
 -- a region with another vertex at the end of its chain on this side
 abbrev pub with_vertex : Side → Chains → ℕ → Chains
-with_vertex Lower c v = record { lower = c.lower ++ v ∷ []; upper = c.upper }
-with_vertex Upper c v = record { lower = c.lower; upper = c.upper ++ v ∷ [] }
+with_vertex side c v = let s = seen_from side c in seen_from side (record { lower = s.lower ++ v ∷ []; upper = s.upper })
 
 -- of two regions of a gap the one at its edge on this side
 abbrev pub at_edge : Side → Chains → Chains → Chains
@@ -34,19 +33,28 @@ left_at side low (Some high) v = with_vertex side (at_edge (other_chain_side sid
 abbrev pub gap_of : Chains → Gap
 gap_of region = record { low = region; high = None }
 
+-- a diagonal from where the edge of a region on this side begins, to v, from where an edge goes to w: what is between them and that edge,
+abbrev pub beside_front : Side → Chains → ℕ → ℕ → Chains
+beside_front side c v w =
+    let path = (seen_from side c).lower in
+    seen_from side (record { lower = before_last path ∷ last path ∷ []; upper = before_last path ∷ v ∷ w ∷ [] })
+
+-- and what is past them
+abbrev pub past_diagonal : Side → Chains → ℕ → ℕ → Chains
+past_diagonal side c v w =
+    let s = seen_from side c in seen_from side (record { lower = take (length s.lower - 1) s.lower ++ v ∷ w ∷ []; upper = s.upper })
+
 -- a split at vertex v, from where edges go to a and, above it, to b: of one region the diagonal comes from the later of the
 -- vertices where the edges below and above begin
 abbrev pub below_latest : List ℕ → Chains → ℕ → ℕ → Chains
 below_latest ranks c v a =
     if nat_lt (slice_index ranks (before_last c.upper)) (slice_index ranks (before_last c.lower))
-    then record { lower = before_last c.lower ∷ last c.lower ∷ []; upper = before_last c.lower ∷ v ∷ a ∷ [] }
-    else record { lower = c.lower; upper = take (length c.upper - 1) c.upper ++ v ∷ a ∷ [] }
+    then beside_front Lower c v a else past_diagonal Upper c v a
 
 abbrev pub above_latest : List ℕ → Chains → ℕ → ℕ → Chains
 above_latest ranks c v b =
     if nat_lt (slice_index ranks (before_last c.upper)) (slice_index ranks (before_last c.lower))
-    then record { lower = take (length c.lower - 1) c.lower ++ v ∷ b ∷ []; upper = c.upper }
-    else record { lower = before_last c.upper ∷ v ∷ b ∷ []; upper = before_last c.upper ∷ last c.upper ∷ [] }
+    then past_diagonal Lower c v b else beside_front Upper c v b
 
 -- the region below the split vertex, and the one above it
 abbrev pub split_below : List ℕ → Chains → Option Chains → ℕ → ℕ → Chains

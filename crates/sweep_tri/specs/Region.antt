@@ -3,6 +3,8 @@
 use Rattle.std.specs.List.{All}
 use Rattle.std.specs.Prelude.{◌≡◌, ℕ, ◌+◌, ◌-◌, ◌<◌, ◌≤◌, List, ◌++◌, drop, length, reverse, slice_index, slice_index_or, take}
 use Rattle.plane.specs.Point.{Point}
+use Rattle.mono_fill.specs.declared.side.Side.{Side}
+use Rattle.mono_fill.specs.declared.side.Side.TheVariants.{Lower, Upper}
 use Rattle.rings.specs.Below.{IsBelow}
 use Rattle.rings.specs.Edge.{edge}
 use Rattle.rings.specs.Ring.{vertex}
@@ -11,6 +13,11 @@ use Rattle.rings.specs.Ring.{vertex}
 pub record Chains : Type 0 where
   pub lower : List ℕ
   pub upper : List ℕ
+
+-- a region seen from this side: its chain there stands for the lower one
+abbrev pub seen_from : Side → Chains → Chains
+seen_from Lower c = c
+seen_from Upper c = record { lower = c.upper; upper = c.lower }
 
 -- the path goes from vertex a to vertex b
 pub record IsStep (path : List ℕ) (a b : ℕ) : Type 0 where

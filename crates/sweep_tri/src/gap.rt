@@ -5,9 +5,9 @@ ghost use Rattle.mono_fill.specs.Filled.{IsFilled};
 ghost use Rattle.mono_fill.specs.Sides.{other_chain_side};
 ghost use Rattle.sweep_tri.specs.Entries.{entries, entries_of_all};
 ghost use Rattle.sweep_tri.specs.Gaps.{before_last, highest, last, low_front, no_gap, up_front};
-ghost use Rattle.sweep_tri.specs.Meeting.{AreFilled, above_latest, at_edge, below_latest, closed_at, gap_of, left_at, region_from, split_above, split_below, with_vertex};
+ghost use Rattle.sweep_tri.specs.Meeting.{AreFilled, above_latest, at_edge, below_latest, beside_front, closed_at, gap_of, left_at, past_diagonal, region_from, split_above, split_below, with_vertex};
 ghost use Rattle.sweep_tri.specs.Ranked.{IsRanked};
-ghost use Rattle.sweep_tri.specs.Region.{IsClosedRegion, boundary};
+ghost use Rattle.sweep_tri.specs.Region.{IsClosedRegion, boundary, seen_from};
 
 use exact_plane::{Memory, Steps, Turns};
 use meshes::Tri;
@@ -101,54 +101,57 @@ impl Region {
         let low_from = before_last(&self.lower);
         let up_from = before_last(&self.upper);
         if rank[up_from as usize] < rank[low_from as usize] {
-            self.split_from_lower(alloc, fork)
+            self.split_from(alloc, Side::Lower, fork.vertex, fork.below, fork.above)
         } else {
-            self.split_from_upper(alloc, fork)
+            let (above, below) = self.split_from(
+                alloc,
+                Side::Upper,
+                fork.vertex,
+                fork.above,
+                fork.below,
+            )?;
+            Ok((below, above))
         }
     }
 
-    // The diagonal from where the edge below begins.
-    fn split_from_lower(self, alloc: Global, fork: Fork) -> Result<(Region, Region), Memory>
-        requires { 2 ≤ length self.lower }
-        ensures below { IfOk result (λ parts. parts.0 ≡ record {
-          lower = before_last self.lower ∷ last self.lower ∷ [];
-          upper = before_last self.lower ∷ fork.vertex ∷ fork.below ∷ [];
-        }) }
-        ensures above { IfOk result (λ parts. parts.1 ≡ record {
-          lower = take (length self.lower - 1) self.lower ++ fork.vertex ∷ fork.above ∷ [];
-          upper = self.upper;
-        }) }
+    // The region beside the edge on this side, which goes over a diagonal from where that begins to v and on to a, and the rest,
+    // which goes on from v to b.
+    fn split_from(
+        self,
+        alloc: Global,
+        side: Side,
+        v: u32,
+        a: u32,
+        b: u32,
+    ) -> Result<(Region, Region), Memory>
+        requires { 2 ≤ length (seen_from side self).lower }
+        ensures beside { IfOk result (λ parts. parts.0 ≡ beside_front side self v a) }
+        ensures past { IfOk result (λ parts. parts.1 ≡ past_diagonal side self v b) }
     {
-        let Region { lower, upper } = self;
-        let (p, end) = (before_last(&lower), last(&lower));
-        let below = Region {
-            lower: two(alloc, p, end)?,
-            upper: three(alloc, p, fork.vertex, fork.below)?,
+        let Region { lower, upper } = self.seen_from(side);
+        let (from, to) = front_of(&lower);
+        let beside = Region {
+            lower: two(alloc, from, to)?,
+            upper: three(alloc, from, v, a)?,
         };
-        let lower = turned_to(lower, fork.vertex, fork.above)?;
-        Ok((below, Region { lower, upper }))
+        let past = Region {
+            lower: turned_to(lower, v, b)?,
+            upper,
+        };
+        Ok((beside.seen_from(side), past.seen_from(side)))
     }
 
-    // The diagonal from where the edge above begins.
-    fn split_from_upper(self, alloc: Global, fork: Fork) -> Result<(Region, Region), Memory>
-        requires { 2 ≤ length self.upper }
-        ensures below { IfOk result (λ parts. parts.0 ≡ record {
-          lower = self.lower;
-          upper = take (length self.upper - 1) self.upper ++ fork.vertex ∷ fork.below ∷ [];
-        }) }
-        ensures above { IfOk result (λ parts. parts.1 ≡ record {
-          lower = before_last self.upper ∷ fork.vertex ∷ fork.above ∷ [];
-          upper = before_last self.upper ∷ last self.upper ∷ [];
-        }) }
+    // The region with the chain on this side for its lower one.
+    fn seen_from(self, side: Side) -> Region
+        ensures { result ≡ seen_from side self }
     {
-        let Region { lower, upper } = self;
-        let (q, end) = (before_last(&upper), last(&upper));
-        let above = Region {
-            lower: three(alloc, q, fork.vertex, fork.above)?,
-            upper: two(alloc, q, end)?,
-        };
-        let upper = turned_to(upper, fork.vertex, fork.below)?;
-        Ok((Region { lower, upper }, above))
+        match side {
+            Side::Lower => self,
+            Side::Upper => Region {
+                lower: self.upper,
+                upper: self.lower,
+            },
+        }
     }
 }
 

@@ -1,19 +1,18 @@
 -- What an event does to the regions of a gap, by their sums.
-use Rattle.std.proofs.Common.{◌≡◌, ap, ℕ, ◌-◌, ◌≤◌, ℤ, ◌+ℤ◌, ◌-ℤ◌, Bool, true, false, if◌then◌else◌, nat_lt, Option, Some, None, List, [], ◌∷◌}
-use Rattle.std.proofs.Common.{◌++◌, length, take, arith}
+use Rattle.std.proofs.Common.{◌≡◌, ap, ℕ, ◌≤◌, ℤ, pos, negsuc, ◌+ℤ◌, ◌-ℤ◌, ◌*ℤ◌, Bool, true, false, if◌then◌else◌, nat_lt, Option, Some, None, List, [], ◌∷◌}
+use Rattle.std.proofs.Common.{length, arith}
 use Rattle.std.proofs.lemmas.Int.{ints}
-use Rattle.std.proofs.lemmas.List.{get_or_push, length-append}
+use Rattle.std.proofs.lemmas.List.{length-append}
 use Rattle.std.specs.Prelude.{slice_index}
 use Rattle.plane.specs.Point.{Point}
 use Rattle.sweep_tri.proofs.Balance.Along.{along_front, along_push, along_push_two, along_turned}
 use Rattle.sweep_tri.proofs.Balance.Closed.{sum_regions}
-use Rattle.sweep_tri.specs.Gaps.{before_last, highest, last}
-use Rattle.sweep_tri.specs.Meeting.{closed_at, left_at, region_from, split_above, split_below, with_vertex}
-use Rattle.mono_fill.specs.declared.side.Side.TheVariants.{Lower, Upper}
-use Rattle.sweep_tri.specs.Meeting.{with_vertex}
+use Rattle.sweep_tri.specs.Gaps.{before_last, last}
+use Rattle.sweep_tri.specs.Meeting.{beside_front, closed_at, left_at, past_diagonal, region_from, split_above, split_below, with_vertex}
+use Rattle.mono_fill.specs.declared.side.Side.{Side}
 use Rattle.mono_fill.specs.declared.side.Side.TheVariants.{Lower, Upper}
 use Rattle.sweep_tri.specs.Open.{IsOpen}
-use Rattle.sweep_tri.specs.Region.{Chains}
+use Rattle.sweep_tri.specs.Region.{Chains, seen_from}
 use Rattle.sweep_tri.specs.Sums.{sum_high, sum_region}
 
 -- ---- gaps
@@ -31,72 +30,54 @@ open_joined corners ranks k low None h = (h.is_region.lower_some, h.is_region.up
 open_joined corners ranks k low (Some high) h =
     (h.low_is_region.lower_some, h.low_is_region.upper_some, h.high_is_region.lower_some, h.high_is_region.upper_some, h.merge)
 
--- the last item of a list with one more
-pub last_pushed : (c : List ℕ) (v : ℕ) → last (c ++ v ∷ []) ≡ v
-last_pushed c v = get_or_push c v 0 (length (c ++ v ∷ []) - 1) (omega (arith, length-append c (v ∷ [])))
+-- the region that stays open has a vertex on the side where the edge ended
+pub left_some : (side : Side) (low : Chains) (high : Option Chains) (v : ℕ) → AreJoined low high
+    → 1 ≤ length (seen_from side (left_at side low high v)).lower
+left_some Lower low None v (two, _) = omega (arith, two)
+left_some Upper low None v (_, two) = omega (arith, two)
+left_some Lower low (Some high) v joined = omega (arith, length-append high.lower (v ∷ []))
+left_some Upper low (Some high) v joined = omega (arith, length-append low.upper (v ∷ []))
 
--- the region that stays open ends at v on the side where the edge ended
-pub left_above_ends : (low : Chains) (high : Option Chains) (v : ℕ) → last low.lower ≡ v → last (left_at Lower low high v).lower ≡ v
-left_above_ends low None v end = end
-left_above_ends low (Some high) v end = last_pushed high.lower v
-
-pub left_below_ends : (low : Chains) (high : Option Chains) (v : ℕ) → last (highest low high).upper ≡ v → last (left_at Upper low high v).upper ≡ v
-left_below_ends low None v end = end
-left_below_ends low (Some high) v end = last_pushed low.upper v
-
--- and it has a vertex on each side
-pub left_above_some : (low : Chains) (high : Option Chains) (v : ℕ) → AreJoined low high → 1 ≤ length (left_at Lower low high v).lower
-left_above_some low None v (two, _) = omega (arith, two)
-left_above_some low (Some high) v joined = omega (arith, length-append high.lower (v ∷ []))
-
-pub left_below_some : (low : Chains) (high : Option Chains) (v : ℕ) → AreJoined low high → 1 ≤ length (left_at Upper low high v).upper
-left_below_some low None v (_, two) = omega (arith, two)
-left_below_some low (Some high) v joined = omega (arith, length-append low.upper (v ∷ []))
+-- the sign with which its chain there counts
+abbrev pub sign_of : Side → ℤ
+sign_of Lower = pos 1
+sign_of Upper = negsuc 0
 
 module _ (φ : ℕ → ℕ → ℤ) where
   -- ---- one region
 
-  -- a region whose lower chain goes on, or its upper one
-  pub with_lower_sum : (c : Chains) (v : ℕ) → 1 ≤ length c.lower → sum_region φ (with_vertex Lower c v) ≡ sum_region φ c +ℤ φ (last c.lower) v
-  with_lower_sum c v some = omega (arith, ints, along_push φ c.lower v some)
-
-  pub with_upper_sum : (c : Chains) (v : ℕ) → 1 ≤ length c.upper → sum_region φ (with_vertex Upper c v) ≡ sum_region φ c -ℤ φ (last c.upper) v
-  with_upper_sum c v some = omega (arith, ints, along_push φ c.upper v some)
+  -- a region whose chain on this side goes on
+  pub with_vertex_sum : (side : Side) (c : Chains) (v : ℕ) → 1 ≤ length (seen_from side c).lower
+      → sum_region φ (with_vertex side c v) ≡ sum_region φ c +ℤ sign_of side *ℤ φ (last (seen_from side c).lower) v
+  with_vertex_sum Lower c v some = omega (arith, ints, along_push φ c.lower v some)
+  with_vertex_sum Upper c v some = omega (arith, ints, along_push φ c.upper v some)
 
   -- one that begins
   pub region_from_sum : (v a b : ℕ) → sum_region φ (region_from v a b) ≡ φ v a -ℤ φ v b
   region_from_sum v a b = omega (arith, ints)
 
-  -- ---- a gap whose lower or upper edge ends
+  -- ---- a gap whose edge on this side ends
 
   -- two regions that meet at a merge vertex, with the diagonal from there to v in both
   with_diagonal : (low high : Chains) (v : ℕ) → 1 ≤ length low.upper → 1 ≤ length high.lower → last low.upper ≡ last high.lower
       → sum_region φ (with_vertex Upper low v) +ℤ sum_region φ (with_vertex Lower high v) ≡ sum_region φ low +ℤ sum_region φ high
   with_diagonal low high v some_low some_high merge =
-      omega (arith, ints, with_upper_sum low v some_low, with_lower_sum high v some_high, ap (λ m. φ m v) merge)
+      omega (arith, ints, with_vertex_sum Upper low v some_low, with_vertex_sum Lower high v some_high, ap (λ m. φ m v) merge)
 
-  pub met_below_sum : (low : Chains) (high : Option Chains) (v : ℕ) → AreJoined low high
-      → sum_regions φ (closed_at Lower low high v) +ℤ sum_region φ (left_at Lower low high v) ≡ sum_region φ low +ℤ sum_high φ high
-  met_below_sum low None v joined = omega (arith, ints)
-  met_below_sum low (Some high) v (_, some_low, some_high, _, merge) =
+  pub met_sum : (side : Side) (low : Chains) (high : Option Chains) (v : ℕ) → AreJoined low high
+      → sum_regions φ (closed_at side low high v) +ℤ sum_region φ (left_at side low high v) ≡ sum_region φ low +ℤ sum_high φ high
+  met_sum side low None v joined = omega (arith, ints)
+  met_sum Lower low (Some high) v (_, some_low, some_high, _, merge) =
       omega (arith, ints, with_diagonal low high v (omega (arith, some_low)) (omega (arith, some_high)) merge)
-
-  pub met_above_sum : (low : Chains) (high : Option Chains) (v : ℕ) → AreJoined low high
-      → sum_regions φ (closed_at Upper low high v) +ℤ sum_region φ (left_at Upper low high v) ≡ sum_region φ low +ℤ sum_high φ high
-  met_above_sum low None v joined = omega (arith, ints)
-  met_above_sum low (Some high) v (_, some_low, some_high, _, merge) =
+  met_sum Upper low (Some high) v (_, some_low, some_high, _, merge) =
       omega (arith, ints, with_diagonal low high v (omega (arith, some_low)) (omega (arith, some_high)) merge)
 
   -- ---- a split
 
   -- of one region, by a diagonal from the lower chain, or from the upper one
   split_one : (c : Chains) (v a b : ℕ) (from_lower : Bool) → 2 ≤ length c.lower → 2 ≤ length c.upper
-      → sum_region φ
-      (if from_lower then (record { lower = before_last c.lower ∷ last c.lower ∷ []; upper = before_last c.lower ∷ v ∷ a ∷ [] })
-      else (record { lower = c.lower; upper = take (length c.upper - 1) c.upper ++ v ∷ a ∷ [] }))
-      +ℤ sum_region φ
-      (if from_lower then (record { lower = take (length c.lower - 1) c.lower ++ v ∷ b ∷ []; upper = c.upper })
-      else (record { lower = before_last c.upper ∷ v ∷ b ∷ []; upper = before_last c.upper ∷ last c.upper ∷ [] }))
+      → sum_region φ (if from_lower then beside_front Lower c v a else past_diagonal Upper c v a)
+      +ℤ sum_region φ (if from_lower then past_diagonal Lower c v b else beside_front Upper c v b)
       ≡ (sum_region φ c -ℤ φ v a) +ℤ φ v b
   split_one c v a b true two_low two_up = omega (arith, ints, along_front φ c.lower two_low, along_turned φ c.lower v b two_low)
   split_one c v a b false two_low two_up = omega (arith, ints, along_front φ c.upper two_up, along_turned φ c.upper v a two_up)

@@ -1,5 +1,5 @@
 -- Each event keeps the balance.
-use Rattle.std.proofs.Common.{◌≡◌, inl, inr, refl, ap, ℕ, ◌+◌, ◌<◌, ◌≤◌, ℤ, pos, negsuc, ◌+ℤ◌, Option, Some, List, [], ◌∷◌, ◌++◌, length, set, arith}
+use Rattle.std.proofs.Common.{◌≡◌, ◌⊎◌, inl, inr, refl, ap, ℕ, ◌+◌, ◌<◌, ◌≤◌, ℤ, pos, negsuc, ◌+ℤ◌, ◌*ℤ◌, Option, Some, List, [], ◌∷◌, ◌++◌, length, set, arith}
 use Rattle.std.proofs.lemmas.Int.{ints}
 use Rattle.std.proofs.lemmas.List.Elements.{All-append}
 use Rattle.std.proofs.lemmas.List.Edits.{get_or-remove_below, length-remove}
@@ -10,15 +10,14 @@ use Rattle.rings.specs.Events.{AreEvents, next, previous}
 use Rattle.meshes.specs.Boundary.{IsOdd, sum_sides}
 use Rattle.meshes.specs.declared.tri.Tri.{Tri}
 use Rattle.sweep_tri.proofs.Balance.Closed.{all_filled_sum, filled-append, sum_regions}
-use Rattle.sweep_tri.proofs.Balance.Edits.{AreJoined, left_above_ends, left_above_some, left_below_ends, left_below_some, met_above_sum}
-use Rattle.sweep_tri.proofs.Balance.Edits.{met_below_sum, open_joined, region_from_sum, split_sum, with_lower_sum, with_upper_sum}
+use Rattle.sweep_tri.proofs.Balance.Edits.{AreJoined, left_some, met_sum, open_joined, region_from_sum, sign_of, split_sum, with_vertex_sum}
 use Rattle.sweep_tri.proofs.Balance.Lists.{gaps_inserted, gaps_removed, gaps_replaced}
 use Rattle.sweep_tri.proofs.Balance.Signs.{AreBeside}
 use Rattle.sweep_tri.proofs.Balance.Steps.{none_begins, one_begins, two_begin}
-use Rattle.sweep_tri.specs.Gaps.{gap_at, highest, last, no_gap}
-use Rattle.sweep_tri.specs.Meeting.{AreFilled, closed_at, gap_of, left_at, region_from, split_above, split_below}
-use Rattle.mono_fill.specs.declared.side.Side.TheVariants.{Lower, Upper}
-use Rattle.sweep_tri.specs.Meeting.{with_vertex}
+use Rattle.sweep_tri.proofs.Regions.{left_ends, near_chain}
+use Rattle.sweep_tri.specs.Gaps.{gap_at, last, no_gap}
+use Rattle.sweep_tri.specs.Meeting.{AreFilled, closed_at, gap_of, left_at, region_from, split_above, split_below, with_vertex}
+use Rattle.mono_fill.specs.declared.side.Side.{Side}
 use Rattle.mono_fill.specs.declared.side.Side.TheVariants.{Lower, Upper}
 use Rattle.sweep_tri.specs.Open.{IsOpenGap}
 use Rattle.sweep_tri.specs.Region.{Chains, IsClosedRegion}
@@ -93,37 +92,25 @@ module _ (corners : List Point) (order ranks : List ℕ) (are : AreEvents corner
   -- ---- one edge ends, and one goes on to w
 
   module _ (w u : ℕ) (beside : AreBeside (length ranks) v w u) (later_w : k < slice_index ranks w) (not_u : slice_index ranks u ≤ k) where
-    -- below gap j
-    pub balanced_goes_on_lower : (j : ℕ) → j < length gaps → IsOpenAt j → last (low j).lower ≡ v → (new : List Tri)
-        → AreFilledClosed corners ranks (closed_at Lower (low j) (high j) v) tris new
-        → AreBalanced ranks (k + 1) (set gaps j (gap_of (with_vertex Lower (left_at Lower (low j) (high j) v) w))) new
-    balanced_goes_on_lower j inside open_j end new fill =
-        let left = left_at Lower (low j) (high j) v in
-        let goes_on = gap_of (with_vertex Lower left w) in
-        let some = left_above_some (low j) (high j) v (joined j open_j) in
-        one_begins corners order ranks are three k within gaps (set gaps j goes_on) tris new balanced w u beside later_w not_u (pos 1) (inl refl)
+    -- at gap j on this side
+    pub balanced_goes_on : (side : Side) (j : ℕ) → j < length gaps → IsOpenAt j → last (near_chain side (low j) (high j)) ≡ v → (new : List Tri)
+        → AreFilledClosed corners ranks (closed_at side (low j) (high j) v) tris new
+        → AreBalanced ranks (k + 1) (set gaps j (gap_of (with_vertex side (left_at side (low j) (high j) v) w))) new
+    balanced_goes_on side j inside open_j end new fill =
+        let left = left_at side (low j) (high j) v in
+        let goes_on = gap_of (with_vertex side left w) in
+        let some = left_some side (low j) (high j) v (joined j open_j) in
+        one_begins corners order ranks are three k within gaps (set gaps j goes_on) tris new balanced w u beside later_w not_u (sign_of side) (unit side)
         (λ φ odd.
         let replaced = gaps_replaced φ gaps j goes_on inside in
-        let closed = filled φ odd (closed_at Lower (low j) (high j) v) new fill in
-        let met = met_below_sum φ (low j) (high j) v (joined j open_j) in
-        let from = ap (λ i. φ i w) (left_above_ends (low j) (high j) v end) in
-        omega (arith, ints, replaced, closed, met, with_lower_sum φ left w some, from))
-
-    -- above gap j
-    pub balanced_goes_on_upper : (j : ℕ) → j < length gaps → IsOpenAt j → last (highest (low j) (high j)).upper ≡ v → (new : List Tri)
-        → AreFilledClosed corners ranks (closed_at Upper (low j) (high j) v) tris new
-        → AreBalanced ranks (k + 1) (set gaps j (gap_of (with_vertex Upper (left_at Upper (low j) (high j) v) w))) new
-    balanced_goes_on_upper j inside open_j end new fill =
-        let left = left_at Upper (low j) (high j) v in
-        let goes_on = gap_of (with_vertex Upper left w) in
-        let some = left_below_some (low j) (high j) v (joined j open_j) in
-        one_begins corners order ranks are three k within gaps (set gaps j goes_on) tris new balanced w u beside later_w not_u (negsuc 0) (inr refl)
-        (λ φ odd.
-        let replaced = gaps_replaced φ gaps j goes_on inside in
-        let closed = filled φ odd (closed_at Upper (low j) (high j) v) new fill in
-        let met = met_above_sum φ (low j) (high j) v (joined j open_j) in
-        let from = ap (λ i. φ i w) (left_below_ends (low j) (high j) v end) in
-        omega (arith, ints, replaced, closed, met, with_upper_sum φ left w some, from))
+        let closed = filled φ odd (closed_at side (low j) (high j) v) new fill in
+        let met = met_sum φ side (low j) (high j) v (joined j open_j) in
+        let from = ap (λ i. sign_of side *ℤ φ i w) (left_ends side (low j) (high j) v end) in
+        omega (arith, ints, replaced, closed, met, with_vertex_sum φ side left w some, from))
+      where
+        unit : (of : Side) → (sign_of of ≡ pos 1) ⊎ (sign_of of ≡ negsuc 0)
+        unit Lower = inl refl
+        unit Upper = inr refl
 
   -- ---- two edges end
 
@@ -138,7 +125,7 @@ module _ (corners : List Point) (order ranks : List ℕ) (are : AreEvents corner
         none_begins corners order ranks are three k within gaps (remove gaps j) tris new balanced not_before not_after
         (λ φ odd.
         let closed = filled φ odd (above ++ left ∷ []) new fill in
-        let met = met_above_sum φ (low j) (high j) v (joined j open_j) in
+        let met = met_sum φ Upper (low j) (high j) v (joined j open_j) in
         omega (arith, ints, gaps_removed φ gaps j inside, closed, regions-append φ above (left ∷ []), met))
 
     -- gap i and, above it, gap j meet
@@ -157,6 +144,6 @@ module _ (corners : List Point) (order ranks : List ℕ) (are : AreEvents corner
         let replaced = gaps_replaced φ (remove gaps j) i both inside_i in
         let removed = gaps_removed φ gaps j inside in
         let closed = filled φ odd (below ++ above) new fill in
-        let met_i = met_above_sum φ (low i) (high i) v (joined i open_i) in
-        let met_j = met_below_sum φ (low j) (high j) v (joined j open_j) in
+        let met_i = met_sum φ Upper (low i) (high i) v (joined i open_i) in
+        let met_j = met_sum φ Lower (low j) (high j) v (joined j open_j) in
         omega (arith, ints, replaced, removed, ap (sum_gap φ) kept, closed, regions-append φ below above, met_i, met_j))

@@ -4,11 +4,15 @@ use Rattle.std.proofs.lemmas.Bool.{cases_lt}
 use Rattle.std.specs.Prelude.{slice_index}
 use Rattle.plane.specs.Point.{Point}
 use Rattle.rings.specs.Apart.{MeetAtEnds}
-use Rattle.rings.specs.Below.{IsBelow}
+use Rattle.plane.specs.Order.{IsBefore}
 use Rattle.rings.specs.Events.{AreEvents}
+use Rattle.rings.specs.Ring.{vertex}
 use Rattle.rings.specs.Simple.{IsSimple}
 use Rattle.meshes.proofs.Monotone.{enters_above, enters_below}
-use Rattle.sweep_tri.proofs.Fronts.Met.{IsFront, ends_about, fronts_apart}
+use Rattle.sweep_tri.proofs.Fronts.Met.{HasEndsAbout, IsFront, ends_about, fronts_apart}
+use Rattle.sweep_tri.proofs.Regions.{IsNearer, IsShort}
+use Rattle.mono_fill.specs.declared.side.Side.{Side}
+use Rattle.mono_fill.specs.declared.side.Side.TheVariants.{Lower, Upper}
 use Rattle.sweep_tri.proofs.RankOrder.{before_by_rank, one_by_rank}
 use Rattle.sweep_tri.specs.Frontier.{IsAbove, IsUnder, upward}
 use Rattle.sweep_tri.specs.Gaps.{Front, front_edge}
@@ -64,37 +68,33 @@ module _ (corners : List Point) (order ranks : List ℕ) (are : AreEvents corner
           ap (slice_index ranks) from,
         ))))
 
+    ends_f : HasEndsAbout ranks k f
+    ends_f = ends_about corners order ranks are three k f front_f
+
+    ends_g : HasEndsAbout ranks (k + 1) g
+    ends_g = ends_about corners order ranks are three (k + 1) g front_g
+
     -- v is over the first,
-    forward_g : slice_index ranks g.from < slice_index ranks g.to
+    forward_g : IsBefore (vertex corners g.from) (vertex corners g.to)
     forward_g =
-        let to_come = (ends_about corners order ranks are three (k + 1) g front_g).to_come in
-        omega (arith, to_come, rank_v, ap (slice_index ranks) from)
+        let to_come = ends_g.to_come in
+        before_by_rank corners order ranks are three g.from g.to ends_g.from_below ends_g.to_below
+        (omega (arith, to_come, rank_v, ap (slice_index ranks) from))
 
-    begun_f : slice_index ranks f.from < slice_index ranks g.from
+    begun_f : IsBefore (vertex corners f.from) (vertex corners g.from)
     begun_f =
-        let begun = (ends_about corners order ranks are three k f front_f).begun in
-        omega (arith, begun, rank_v, ap (slice_index ranks) from)
+        let begun = ends_f.begun in
+        before_by_rank corners order ranks are three f.from g.from ends_f.from_below ends_g.from_below
+        (omega (arith, begun, rank_v, ap (slice_index ranks) from))
 
-    runs_f : slice_index ranks g.from < slice_index ranks f.to
-    runs_f = omega (arith, ends_later corners order ranks are three k v hv rank_v f front_f goes, rank_v, ap (slice_index ranks) from)
+    runs_f : IsBefore (vertex corners g.from) (vertex corners f.to)
+    runs_f =
+        before_by_rank corners order ranks are three g.from f.to ends_g.from_below ends_f.to_below
+        (omega (arith, ends_later corners order ranks are three k v hv rank_v f front_f goes, rank_v, ap (slice_index ranks) from))
 
     -- so they stay in order
-    pub entered_above : IsAbove corners f v → IsBelow (front_edge corners f) (front_edge corners g)
-    entered_above above =
-        let ends_f = ends_about corners order ranks are three k f front_f in
-        let ends_g = ends_about corners order ranks are three (k + 1) g front_g in
-        enters_above (front_edge corners f) (front_edge corners g)
-        (before_by_rank corners order ranks are three g.from g.to ends_g.from_below ends_g.to_below forward_g) meets
-        (before_by_rank corners order ranks are three f.from g.from ends_f.from_below ends_g.from_below begun_f)
-        (before_by_rank corners order ranks are three g.from f.to ends_g.from_below ends_f.to_below runs_f)
-        (subst (IsAbove corners f) (sym from) above)
-
-    pub entered_below : IsUnder corners f v → IsBelow (front_edge corners g) (front_edge corners f)
-    entered_below under =
-        let ends_f = ends_about corners order ranks are three k f front_f in
-        let ends_g = ends_about corners order ranks are three (k + 1) g front_g in
-        enters_below (front_edge corners f) (front_edge corners g)
-        (before_by_rank corners order ranks are three g.from g.to ends_g.from_below ends_g.to_below forward_g) meets
-        (before_by_rank corners order ranks are three f.from g.from ends_f.from_below ends_g.from_below begun_f)
-        (before_by_rank corners order ranks are three g.from f.to ends_g.from_below ends_f.to_below runs_f)
-        (subst (IsUnder corners f) (sym from) under)
+    pub entered : (side : Side) → IsShort side (front_edge corners f) (vertex corners v) → IsNearer side (front_edge corners g) (front_edge corners f)
+    entered Lower under =
+        enters_below (front_edge corners f) (front_edge corners g) forward_g meets begun_f runs_f (subst (IsUnder corners f) (sym from) under)
+    entered Upper above =
+        enters_above (front_edge corners f) (front_edge corners g) forward_g meets begun_f runs_f (subst (IsAbove corners f) (sym from) above)

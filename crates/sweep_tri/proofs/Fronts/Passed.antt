@@ -7,12 +7,13 @@ use Rattle.rings.specs.Below.{IsBelow}
 use Rattle.rings.specs.Events.{AreEvents}
 use Rattle.rings.specs.Simple.{IsSimple}
 use Rattle.sweep_tri.proofs.Fronts.Beginning.{AreBegun}
-use Rattle.sweep_tri.proofs.Fronts.Entered.{entered_above, entered_below, goes_on}
+use Rattle.sweep_tri.proofs.Fronts.Entered.{entered, goes_on}
 use Rattle.sweep_tri.proofs.Fronts.Met.{IsFront, ends_about}
 use Rattle.sweep_tri.proofs.Fronts.Parted.{IsParted}
 use Rattle.sweep_tri.proofs.Fronts.Sides.{above_no_end, under_no_end}
 use Rattle.sweep_tri.proofs.Fronts.Spliced.{IsSpliced}
 use Rattle.sweep_tri.proofs.RankOrder.{one_by_rank}
+use Rattle.mono_fill.specs.declared.side.Side.TheVariants.{Lower, Upper}
 use Rattle.sweep_tri.specs.Frontier.{IsFrontier, IsMet, front_at, upward}
 use Rattle.sweep_tri.specs.Gaps.{Front, front_edge}
 
@@ -75,8 +76,8 @@ module _ (corners : List Point) (order ranks : List ℕ) (are : AreEvents corner
     in_order i j less (before hi is_i) (between n hn at_j is_j) =
         let b = begun.edges n hn in
         two_in_order i j _ _ is_i is_j
-        (entered_above corners order ranks are three simple k v hv rank_v (front_at old i) (front_at put n)
-        (front_before i hi) (goes_before i hi) b.0 b.1 (parted.above_first i hi))
+        (entered corners order ranks are three simple k v hv rank_v (front_at old i) (front_at put n)
+        (front_before i hi) (goes_before i hi) b.0 b.1 Upper (parted.above_first i hi))
     in_order i j less (before hi is_i) (after n late hn at_j is_j) =
         two_in_order i j _ _ is_i is_j (frontier.ordered i n (omega (arith, hi, late)) hn)
     in_order i j less (between m hm at_i is_i) (before hj is_j) = absurd (omega (arith, less, at_i, hj))
@@ -85,8 +86,8 @@ module _ (corners : List Point) (order ranks : List ℕ) (are : AreEvents corner
     in_order i j less (between m hm at_i is_i) (after n late hn at_j is_j) =
         let b = begun.edges m hm in
         two_in_order i j _ _ is_i is_j
-        (entered_below corners order ranks are three simple k v hv rank_v (front_at old n) (front_at put m)
-        (frontier.edges n hn) (goes_after n late hn) b.0 b.1 (parted.under_rest n late hn))
+        (entered corners order ranks are three simple k v hv rank_v (front_at old n) (front_at put m)
+        (frontier.edges n hn) (goes_after n late hn) b.0 b.1 Lower (parted.under_rest n late hn))
     in_order i j less (after m late_m hm at_i is_i) (before hj is_j) = absurd (omega (arith, less, late_m, at_i, hj))
     in_order i j less (after m late_m hm at_i is_i) (between n hn at_j is_j) = absurd (omega (arith, less, late_m, at_i, hn, at_j))
     in_order i j less (after m late_m hm at_i is_i) (after n late hn at_j is_j) =

@@ -8,13 +8,16 @@ use Rattle.plane.proofs.Order.{not_after_of_same}
 use Rattle.plane.proofs.Points.{same_refl, same_whole, whole_is_point}
 use Rattle.plane.proofs.Turns.{determinant_same_last}
 use Rattle.plane.specs.Point.{Point, whole}
-use Rattle.rings.proofs.Sweeps.{Spans, side, stays_below}
+use Rattle.rings.proofs.Sweeps.{Spans, side as side_of, stays_below}
 use Rattle.rings.specs.Below.{IsBelow}
 use Rattle.rings.specs.Edge.{HasEnd}
 use Rattle.rings.specs.Events.{AreEvents}
 use Rattle.rings.specs.Ring.{vertex}
 use Rattle.rings.specs.Simple.{IsSimple}
 use Rattle.sweep_tri.proofs.Fronts.Met.{HasEndsAbout, IsFront, ends_about, ends_on_line}
+use Rattle.mono_fill.specs.declared.side.Side.{Side}
+use Rattle.mono_fill.specs.declared.side.Side.TheVariants.{Lower, Upper}
+use Rattle.sweep_tri.proofs.Regions.{IsShort}
 use Rattle.sweep_tri.proofs.RankOrder.{not_after_by_rank, number_is_one, precedes_by_rank}
 use Rattle.sweep_tri.specs.Frontier.{IsAbove, IsUnder}
 use Rattle.sweep_tri.specs.Gaps.{Front, front_edge}
@@ -26,9 +29,9 @@ pub data Place (corners : List Point) (f : Front) (v : ℕ) : Type 0 where
   under : IsUnder corners f v → Place corners f v
 
 -- the last end of an edge is on its line,
-end_on_line : (corners : List Point) (f : Front) (v : ℕ) → f.to ≡ v → side (front_edge corners f) (whole (vertex corners v)) ≡ pos 0
+end_on_line : (corners : List Point) (f : Front) (v : ℕ) → f.to ≡ v → side_of (front_edge corners f) (whole (vertex corners v)) ≡ pos 0
 end_on_line corners f v is =
-    subst (λ w. side (front_edge corners f) (whole (vertex corners w)) ≡ pos 0) is
+    subst (λ w. side_of (front_edge corners f) (whole (vertex corners w)) ≡ pos 0) is
     (determinant_same_last (whole (vertex corners f.from)) (whole (vertex corners f.to)))
 
 -- so it is in one place at most
@@ -38,6 +41,10 @@ above_no_end corners f v h is = positive_not_zero h (end_on_line corners f v is)
 pub under_no_end : (corners : List Point) (f : Front) (v : ℕ) → IsUnder corners f v → ¬ (f.to ≡ v)
 under_no_end corners f v h is = negative_not_zero h (end_on_line corners f v is)
 
+pub short_no_end : (corners : List Point) (side : Side) (f : Front) (v : ℕ) → IsShort side (front_edge corners f) (vertex corners v) → ¬ (f.to ≡ v)
+short_no_end corners Lower f v h = under_no_end corners f v h
+short_no_end corners Upper f v h = above_no_end corners f v h
+
 pub above_not_under : (corners : List Point) (f : Front) (v : ℕ) → IsAbove corners f v → ¬ IsUnder corners f v
 above_not_under corners f v h k = positive_not_negative h k
 
@@ -45,7 +52,7 @@ module _ (corners : List Point) (order ranks : List ℕ) (are : AreEvents corner
     (k v : ℕ) (hv : v < length ranks) (rank_v : slice_index ranks v ≡ k) where
   -- and in one of them
   pub place_of : (f : Front) → IsFront ranks k f → Place corners f v
-  place_of f front = elim (sign (side (front_edge corners f) (whole (vertex corners v)))) [
+  place_of f front = elim (sign (side_of (front_edge corners f) (whole (vertex corners v)))) [
     | is_negative h ↦ under h
     | is_zero h ↦ at_end (ends_on_line corners order ranks are three simple k f front v hv rank_v h)
     | is_positive h ↦ above h

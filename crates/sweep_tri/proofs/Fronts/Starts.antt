@@ -11,13 +11,14 @@ use Rattle.rings.specs.Simple.{IsSimple}
 use Rattle.sweep_tri.proofs.Fronts.Beginning.{begun_to, two_begin}
 use Rattle.sweep_tri.proofs.Fronts.Beside.{AreBeside, beside_swapped, front}
 use Rattle.sweep_tri.proofs.Fronts.Edits.{spliced_divided, spliced_inserted}
-use Rattle.sweep_tri.proofs.Fronts.Entered.{entered_above, entered_below}
+use Rattle.sweep_tri.proofs.Fronts.Entered.{entered}
 use Rattle.sweep_tri.proofs.Fronts.GapPlaces.{GoesOn, goes_on_outside, low_is_front, up_is_front}
 use Rattle.sweep_tri.proofs.Fronts.Kinds.{between_gaps, in_gap}
 use Rattle.sweep_tri.proofs.Fronts.Parted.{IsParted}
 use Rattle.sweep_tri.proofs.Fronts.Passed.{passed}
 use Rattle.sweep_tri.proofs.Fronts.Sides.{above_no_end, under_no_end}
 use Rattle.sweep_tri.proofs.Fronts.Spliced.{IsSpliced}
+use Rattle.mono_fill.specs.declared.side.Side.TheVariants.{Lower, Upper}
 use Rattle.sweep_tri.specs.Frontier.{IsAbove, IsFrontier, IsGapPlace, IsUnder}
 use Rattle.sweep_tri.specs.Gaps.{Front, front_edge, fronts, gap_at, low_front, up_front}
 use Rattle.sweep_tri.specs.declared.gap.Gap.{Gap}
@@ -79,13 +80,13 @@ module _ (corners : List Point) (order ranks : List ℕ) (are : AreEvents corner
         go_on = all_go_on (2 * (j - 1) + 1) p;
         above_low = above;
         below_first =
-            entered_above corners order ranks are three simple k v hv rank_v (low_front (gap_at gaps (j - 1))) (front v s)
+            entered corners order ranks are three simple k v hv rank_v (low_front (gap_at gaps (j - 1))) (front v s)
             (low_is_front corners ranks k gaps frontier (j - 1) h) (above_no_end corners (low_front (gap_at gaps (j - 1))) v above)
-            (begun_to corners order ranks are three k v hv rank_v s t beside later_s) refl above;
+            (begun_to corners order ranks are three k v hv rank_v s t beside later_s) refl Upper above;
         below_last =
-            entered_below corners order ranks are three simple k v hv rank_v (up_front (gap_at gaps (j - 1))) (front v t)
+            entered corners order ranks are three simple k v hv rank_v (up_front (gap_at gaps (j - 1))) (front v t)
             (up_is_front corners ranks k gaps frontier (j - 1) h) (under_no_end corners (up_front (gap_at gaps (j - 1))) v under)
-            (begun_to corners order ranks are three k v hv rank_v t s (beside_swapped (length ranks) v s t beside) later_t) refl under;
+            (begun_to corners order ranks are three k v hv rank_v t s (beside_swapped (length ranks) v s t beside) later_t) refl Lower under;
         frontier_after = λ g h' low_g up_g low_h up_h.
             let put : up_front g ∷ low_front h' ∷ [] ≡ front v s ∷ front v t ∷ [] = λ i. up_g i ∷ low_h i ∷ [] in
             let new : ℕ → List Front = λ m. fronts (insert (slice_set gaps (j - 1) g) m h') in

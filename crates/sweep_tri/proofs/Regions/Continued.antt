@@ -9,28 +9,29 @@ use Rattle.rings.specs.Ring.{vertex}
 use Rattle.sweep_tri.proofs.Regions.Edges.{short_not_last}
 use Rattle.sweep_tri.proofs.Regions.Growth.{CanGrow, grown}
 use Rattle.sweep_tri.proofs.Regions.Ranks.{before_next, before_of_rise, ends_grown, ends_later, last_is_vertex, last_or_before}
-use Rattle.sweep_tri.proofs.Regions.Ways.{AreOpen, IsNearer, IsShort, Way}
+use Rattle.sweep_tri.proofs.Regions.Sides.{AreOpen, IsNearer, IsShort}
+use Rattle.mono_fill.specs.declared.side.Side.{Side}
 use Rattle.sweep_tri.specs.Gaps.{front_edge, front_of, last}
 
 module _ (corners : List Point) (order ranks : List ℕ) (are : AreEvents corners order ranks) (three : 3 ≤ length corners)
     (k v : ℕ) (v_within : v < length corners) (v_rank : slice_index ranks v ≡ k)
-    (way : Way) (near far : List ℕ) (open_before : AreOpen corners ranks k way near far) where
+    (side : Side) (near far : List ℕ) (open_before : AreOpen corners ranks k side near far) where
   far_last : last far < length corners
   far_last = let two = open_before.pair.far_some in last_is_vertex corners far (omega arith) open_before.pair.far_numbers
 
   -- the near chain ends at v, from where an edge goes on to w, and v is short of the edge at the end of the far one
-  module _ (at_v : last near ≡ v) (short : IsShort way (front_edge corners (front_of far)) (vertex corners v))
+  module _ (at_v : last near ≡ v) (short : IsShort side (front_edge corners (front_of far)) (vertex corners v))
       (w : ℕ) (w_within : w < length corners) (w_later : k < slice_index ranks w)
-      (nearer : IsNearer way (edge (vertex corners v) (vertex corners w)) (front_edge corners (front_of far))) where
+      (nearer : IsNearer side (edge (vertex corners v) (vertex corners w)) (front_edge corners (front_of far))) where
     other : ¬ (last far ≡ v)
     other is =
-        short_not_last way (front_edge corners (front_of far))
-        (subst (λ u. IsShort way (front_edge corners (front_of far)) (vertex corners u)) (sym is) short)
+        short_not_last side (front_edge corners (front_of far))
+        (subst (λ u. IsShort side (front_edge corners (front_of far)) (vertex corners u)) (sym is) short)
 
     last_rank : slice_index ranks (last near) ≡ k
     last_rank = ap (slice_index ranks) at_v ∙ v_rank
 
-    can : CanGrow corners ranks way near far w
+    can : CanGrow corners ranks side near far w
     can = record {
       is_vertex = w_within;
       later = omega (arith, w_later, last_rank);
@@ -43,12 +44,12 @@ module _ (corners : List Point) (order ranks : List ℕ) (are : AreEvents corner
         | inr not ↦ omega arith
       ];
       past = λ j h. let less = open_before.far_before j h in omega (arith, last_rank);
-      nearer = λ h l. subst (λ u. IsNearer way (edge (vertex corners u) (vertex corners w)) (front_edge corners (front_of far))) (sym at_v) nearer;
+      nearer = λ h l. subst (λ u. IsNearer side (edge (vertex corners u) (vertex corners w)) (front_edge corners (front_of far))) (sym at_v) nearer;
     }
 
-    pub continued : AreOpen corners ranks (k + 1) way (near ++ w ∷ []) far
+    pub continued : AreOpen corners ranks (k + 1) side (near ++ w ∷ []) far
     continued = record {
-      pair = grown corners ranks way near far w open_before.pair can;
+      pair = grown corners ranks side near far w open_before.pair can;
       near_before = before_of_rise ranks (k + 1) near w open_before.pair.near_rises (omega (arith, last_rank));
       far_before = before_next ranks k far open_before.far_before;
       near_to_come = ends_grown ranks (k + 1) near w (omega arith);
@@ -56,7 +57,7 @@ module _ (corners : List Point) (order ranks : List ℕ) (are : AreEvents corner
     }
 
   -- v is on neither chain: it stays open
-  pub stays_open : ¬ (last near ≡ v) → ¬ (last far ≡ v) → AreOpen corners ranks (k + 1) way near far
+  pub stays_open : ¬ (last near ≡ v) → ¬ (last far ≡ v) → AreOpen corners ranks (k + 1) side near far
   stays_open near_other far_other =
       let two = open_before.pair.near_some in
       record {

@@ -13,7 +13,8 @@ use Rattle.sweep_tri.proofs.Regions.Latest.{latest_half}
 use Rattle.sweep_tri.proofs.Regions.Paths.{last_grown, rises_to, shortened}
 use Rattle.sweep_tri.proofs.Regions.Ranks.{last_is_vertex, same_rank}
 use Rattle.sweep_tri.proofs.Regions.Starts.{starts_open, two}
-use Rattle.sweep_tri.proofs.Regions.Ways.{AreOpen, IsNearer, IsShort, Way}
+use Rattle.sweep_tri.proofs.Regions.Sides.{AreOpen, IsNearer, IsShort}
+use Rattle.mono_fill.specs.declared.side.Side.{Side}
 use Rattle.sweep_tri.specs.Gaps.{before_last, front_edge, front_of, last}
 
 -- a path of two vertices
@@ -26,10 +27,10 @@ two_is (x ∷ y ∷ z ∷ rest) h = absurd (omega arith)
 -- from v, which is short of the edge at the end of the far chain, an edge goes on to w
 module _ (corners : List Point) (order ranks : List ℕ) (are : AreEvents corners order ranks) (three : 3 ≤ length corners)
     (k v : ℕ) (v_within : v < length corners) (v_rank : slice_index ranks v ≡ k)
-    (way : Way) (near far : List ℕ) (open_before : AreOpen corners ranks k way near far)
-    (short : IsShort way (front_edge corners (front_of far)) (vertex corners v))
+    (side : Side) (near far : List ℕ) (open_before : AreOpen corners ranks k side near far)
+    (short : IsShort side (front_edge corners (front_of far)) (vertex corners v))
     (w : ℕ) (w_within : w < length corners) (w_later : k < slice_index ranks w)
-    (nearer : IsNearer way (edge (vertex corners v) (vertex corners w)) (front_edge corners (front_of far))) where
+    (nearer : IsNearer side (edge (vertex corners v) (vertex corners w)) (front_edge corners (front_of far))) where
   abbrev p : ℕ
   p = before_last near
 
@@ -53,25 +54,25 @@ module _ (corners : List Point) (order ranks : List ℕ) (are : AreEvents corner
 
   -- ---- beside the edge at the end of the far chain, from where that begins
 
-  beside_open : AreOpen corners ranks k way (two q v) (two q (last far))
+  beside_open : AreOpen corners ranks k side (two q v) (two q (last far))
   beside_open =
-      starts_open corners ranks way q v (last far) q_within v_within far_last
-      (λ is. short_not_last way (front_edge corners (front_of far)) (rw is at short))
-      (nearer_from_start way (edge (vertex corners q) (vertex corners v)) (edge (vertex corners q) (vertex corners (last far))) refl short)
+      starts_open corners ranks side q v (last far) q_within v_within far_last
+      (λ is. short_not_last side (front_edge corners (front_of far)) (rw is at short))
+      (nearer_from_start side (edge (vertex corners q) (vertex corners v)) (edge (vertex corners q) (vertex corners (last far))) refl short)
       k (open_before.far_before (length far - 2) (let h = far_some in omega arith)) (omega (arith, v_rank)) open_before.far_to_come
 
-  pub beside : AreOpen corners ranks (k + 1) way (q ∷ v ∷ w ∷ []) (two q (last far))
+  pub beside : AreOpen corners ranks (k + 1) side (q ∷ v ∷ w ∷ []) (two q (last far))
   beside =
-      continued corners order ranks are three k v v_within v_rank way (two q v) (two q (last far)) beside_open refl short w w_within w_later nearer
+      continued corners order ranks are three k v v_within v_rank side (two q v) (two q (last far)) beside_open refl short w w_within w_later nearer
 
   -- ---- from the later of the vertices where the edges at the ends begin, the near one
 
-  from_later : slice_index ranks q < slice_index ranks p → AreOpen corners ranks (k + 1) way (shortened near ++ v ∷ w ∷ []) far
+  from_later : slice_index ranks q < slice_index ranks p → AreOpen corners ranks (k + 1) side (shortened near ++ v ∷ w ∷ []) far
   from_later less =
-      let half = latest_half corners order ranks are three k v v_within v_rank way near far open_before less in
-      subst (λ path. AreOpen corners ranks (k + 1) way path far) (append_assoc (shortened near) (v ∷ []) (w ∷ []))
-      (continued corners order ranks are three k v v_within v_rank way (shortened near ++ v ∷ []) far
-      (half_open corners ranks k v v_within v_rank way (shortened near) far half (inl short))
+      let half = latest_half corners order ranks are three k v v_within v_rank side near far open_before less in
+      subst (λ path. AreOpen corners ranks (k + 1) side path far) (append_assoc (shortened near) (v ∷ []) (w ∷ []))
+      (continued corners order ranks are three k v v_within v_rank side (shortened near ++ v ∷ []) far
+      (half_open corners ranks k v v_within v_rank side (shortened near) far half (inl short))
       (last_grown (shortened near) v) short w w_within w_later nearer)
 
   -- where neither is the first vertex, they are two
@@ -110,15 +111,15 @@ module _ (corners : List Point) (order ranks : List ℕ) (are : AreEvents corner
             ]
       ]
 
-  from_first : slice_index ranks q ≡ slice_index ranks p → AreOpen corners ranks (k + 1) way (shortened near ++ v ∷ w ∷ []) far
+  from_first : slice_index ranks q ≡ slice_index ranks p → AreOpen corners ranks (k + 1) side (shortened near ++ v ∷ w ∷ []) far
   from_first same =
       let sizes = both_two same in
       let is = same_rank corners order ranks are three (slice_index ranks q) q q_within refl p p_within (sym same) in
-      subst (λ path. AreOpen corners ranks (k + 1) way (shortened near ++ v ∷ w ∷ []) path) ((two_is far sizes.1).0)
-      (subst (λ path. AreOpen corners ranks (k + 1) way (path ++ v ∷ w ∷ []) (two q (last far))) ((two_is near sizes.0).1)
-      (subst (λ u. AreOpen corners ranks (k + 1) way (u ∷ v ∷ w ∷ []) (two q (last far))) (sym is) beside))
+      subst (λ path. AreOpen corners ranks (k + 1) side (shortened near ++ v ∷ w ∷ []) path) ((two_is far sizes.1).0)
+      (subst (λ path. AreOpen corners ranks (k + 1) side (path ++ v ∷ w ∷ []) (two q (last far))) ((two_is near sizes.0).1)
+      (subst (λ u. AreOpen corners ranks (k + 1) side (u ∷ v ∷ w ∷ []) (two q (last far))) (sym is) beside))
 
-  pub from_latest : slice_index ranks q ≤ slice_index ranks p → AreOpen corners ranks (k + 1) way (shortened near ++ v ∷ w ∷ []) far
+  pub from_latest : slice_index ranks q ≤ slice_index ranks p → AreOpen corners ranks (k + 1) side (shortened near ++ v ∷ w ∷ []) far
   from_latest at_most = elim (cases_lt (slice_index ranks q) (slice_index ranks p)) [
     | inl less ↦ from_later less
     | inr not ↦ from_first (omega arith)

@@ -7,18 +7,17 @@ use Rattle.plane.specs.Point.{Point}
 use Rattle.rings.specs.Edge.{Edge, edge}
 use Rattle.rings.specs.Ring.{vertex}
 use Rattle.sweep_tri.proofs.Regions.Paths.{item_cases, last_step, length_grown, old_item, step_cases}
-use Rattle.sweep_tri.proofs.Regions.Ways.{AreNearer, ArePair, IsNearer, Way, down, pair_of, region_of, up}
+use Rattle.sweep_tri.proofs.Regions.Sides.{AreNearer, ArePair, IsNearer}
+use Rattle.mono_fill.specs.declared.side.Side.{Side}
 use Rattle.sweep_tri.specs.Gaps.{before_last, front_edge, front_of, last}
-use Rattle.sweep_tri.specs.Meeting.{with_vertex}
-use Rattle.mono_fill.specs.declared.side.Side.TheVariants.{Lower, Upper}
-use Rattle.sweep_tri.specs.Region.{Chains, IsRegion, IsStep, RisesBy, ShareEnds}
+use Rattle.sweep_tri.specs.Region.{IsStep, RisesBy, ShareEnds}
 
 -- x follows the last vertex of the near chain
-module _ (corners : List Point) (ranks : List ℕ) (way : Way) (near far : List ℕ) (x : ℕ) where
+module _ (corners : List Point) (ranks : List ℕ) (side : Side) (near far : List ℕ) (x : ℕ) where
   -- where the new edge and the last one of the far chain are over one another, it is on the near side of that
   abbrev pub IsNearerThere : Type 0
   IsNearerThere = slice_index ranks (last near) < slice_index ranks (last far) → slice_index ranks (before_last far) < slice_index ranks x
-      → IsNearer way (edge (vertex corners (last near)) (vertex corners x)) (front_edge corners (front_of far))
+      → IsNearer side (edge (vertex corners (last near)) (vertex corners x)) (front_edge corners (front_of far))
 
   -- what has to hold
   pub record CanGrow : Type 0 where
@@ -29,7 +28,7 @@ module _ (corners : List Point) (ranks : List ℕ) (way : Way) (near far : List 
     pub past : (j : ℕ) → j + 1 < length far → slice_index ranks (get_or far j 0) ≤ slice_index ranks (last near)
     pub nearer : IsNearerThere
 
-  module _ (pair : ArePair corners ranks way near far) (can : CanGrow) where
+  module _ (pair : ArePair corners ranks side near far) (can : CanGrow) where
     some : 1 ≤ length near
     some = let two = pair.near_some in omega arith
 
@@ -52,22 +51,22 @@ module _ (corners : List Point) (ranks : List ℕ) (way : Way) (near far : List 
 
     -- the new edge is on the near side of the last one of the far chain, and after all others there
     nearer_new : (c d : ℕ) → IsStep far c d → slice_index ranks (last near) < slice_index ranks d → slice_index ranks c < slice_index ranks x
-        → IsNearer way new_edge (edge (vertex corners c) (vertex corners d))
+        → IsNearer side new_edge (edge (vertex corners c) (vertex corners d))
     nearer_new c d s h k = elim (last_step far c d s) [
       | inl is ↦
-          subst (λ p. IsNearer way new_edge (edge (vertex corners p) (vertex corners d))) is.0
-          (subst (λ q. IsNearer way new_edge (edge (vertex corners (before_last far)) (vertex corners q))) is.1
+          subst (λ p. IsNearer side new_edge (edge (vertex corners p) (vertex corners d))) is.0
+          (subst (λ q. IsNearer side new_edge (edge (vertex corners (before_last far)) (vertex corners q))) is.1
           (can.nearer (subst (λ q. slice_index ranks (last near) < slice_index ranks q) (sym is.1) h)
           (subst (λ p. slice_index ranks p < slice_index ranks x) (sym is.0) k)))
       | inr earlier ↦ let (j, within, is) = earlier in absurd (omega (arith, h, can.past j within, ap (slice_index ranks) is))
     ]
 
-    nearer : AreNearer corners ranks way (near ++ x ∷ []) far
+    nearer : AreNearer corners ranks side (near ++ x ∷ []) far
     nearer a b c d s t h k = elim (step_cases near x a b some s) [
       | inl old ↦ pair.nearer a b c d old t h k
       | inr is ↦
-          subst (λ p. IsNearer way (edge (vertex corners p) (vertex corners b)) (edge (vertex corners c) (vertex corners d))) is.0
-          (subst (λ q. IsNearer way (edge (vertex corners (last near)) (vertex corners q)) (edge (vertex corners c) (vertex corners d))) is.1
+          subst (λ p. IsNearer side (edge (vertex corners p) (vertex corners b)) (edge (vertex corners c) (vertex corners d))) is.0
+          (subst (λ q. IsNearer side (edge (vertex corners (last near)) (vertex corners q)) (edge (vertex corners c) (vertex corners d))) is.1
           (nearer_new c d t (subst (λ p. slice_index ranks p < slice_index ranks d) (sym is.0) h)
           (subst (λ q. slice_index ranks c < slice_index ranks q) (sym is.1) k)))
     ]
@@ -82,7 +81,7 @@ module _ (corners : List Point) (ranks : List ℕ) (way : Way) (near far : List 
       | inr k ↦ (omega (arith, k.0, length_grown near x), can.new j j_some j_within (sym k.1 ∙ e))
     ]
 
-    pub grown : ArePair corners ranks way (near ++ x ∷ []) far
+    pub grown : ArePair corners ranks side (near ++ x ∷ []) far
     grown = record {
       near_some = let two = pair.near_some in omega (arith, length_grown near x);
       far_some = pair.far_some;
@@ -94,16 +93,3 @@ module _ (corners : List Point) (ranks : List ℕ) (way : Way) (near far : List 
       nearer = nearer;
       apart = apart;
     }
-
--- ---- of a region
-
-module _ (corners : List Point) (ranks : List ℕ) (c : Chains) (x : ℕ) (region : IsRegion corners ranks c) where
-  -- at the end of its lower chain
-  pub grown_lower : CanGrow corners ranks up c.lower c.upper x → IsRegion corners ranks (with_vertex Lower c x)
-  grown_lower can =
-      region_of corners ranks up _ _ (grown corners ranks up c.lower c.upper x (pair_of corners ranks up c.lower c.upper region) can)
-
-  -- and of its upper one
-  pub grown_upper : CanGrow corners ranks down c.upper c.lower x → IsRegion corners ranks (with_vertex Upper c x)
-  grown_upper can =
-      region_of corners ranks down _ _ (grown corners ranks down c.upper c.lower x (pair_of corners ranks down c.upper c.lower region) can)

@@ -9,21 +9,22 @@ use Rattle.sweep_tri.proofs.Regions.Edges.{nearer_short, nearer_to_end}
 use Rattle.sweep_tri.proofs.Regions.Growth.{grown}
 use Rattle.sweep_tri.proofs.Regions.Paths.{last_grown}
 use Rattle.sweep_tri.proofs.Regions.Ranks.{before_of_rise, ends_grown, last_or_before}
-use Rattle.sweep_tri.proofs.Regions.Ways.{AreOpen, ArePair, IsNearer, IsShort, Way, chains, closed_of}
+use Rattle.sweep_tri.proofs.Regions.Sides.{AreOpen, ArePair, IsNearer, IsShort, chains, closed_of}
+use Rattle.mono_fill.specs.declared.side.Side.{Side}
 use Rattle.sweep_tri.specs.Gaps.{front_edge, front_of, last}
 use Rattle.sweep_tri.specs.Open.{ComeBefore, EndsFrom}
 use Rattle.sweep_tri.specs.Region.{IsClosedRegion}
 
 -- the inner chain ends at a vertex that is later than all of the outer one but its last, and short of the edge at the end of that
-pub record IsHalf (corners : List Point) (ranks : List ℕ) (k : ℕ) (way : Way) (inner outer : List ℕ) : Type 0 where
-  pub pair : ArePair corners ranks way inner outer
+pub record IsHalf (corners : List Point) (ranks : List ℕ) (k : ℕ) (side : Side) (inner outer : List ℕ) : Type 0 where
+  pub pair : ArePair corners ranks side inner outer
   pub merge_before : slice_index ranks (last inner) < k
   pub outer_before : ComeBefore ranks (slice_index ranks (last inner)) outer
   pub outer_to_come : EndsFrom ranks k outer
-  pub short : IsShort way (front_edge corners (front_of outer)) (vertex corners (last inner))
+  pub short : IsShort side (front_edge corners (front_of outer)) (vertex corners (last inner))
 
 module _ (corners : List Point) (ranks : List ℕ) (k v : ℕ) (v_within : v < length corners) (v_rank : slice_index ranks v ≡ k)
-    (way : Way) (inner outer : List ℕ) (half : IsHalf corners ranks k way inner outer) where
+    (side : Side) (inner outer : List ℕ) (half : IsHalf corners ranks k side inner outer) where
   -- the merge vertex is not on the outer chain
   fresh : (j : ℕ) → 0 < j → j < length outer → ¬ (last inner ≡ get_or outer j 0)
   fresh j some within e = elim (last_or_before outer j within) [
@@ -38,9 +39,9 @@ module _ (corners : List Point) (ranks : List ℕ) (k v : ℕ) (v_within : v < l
     | inr not ↦ omega arith
   ]
 
-  led : IsNearer way (edge (vertex corners (last inner)) (vertex corners v)) (front_edge corners (front_of outer))
-      → ArePair corners ranks way (inner ++ v ∷ []) outer
-  led nearer = grown corners ranks way inner outer v half.pair (record {
+  led : IsNearer side (edge (vertex corners (last inner)) (vertex corners v)) (front_edge corners (front_of outer))
+      → ArePair corners ranks side (inner ++ v ∷ []) outer
+  led nearer = grown corners ranks side inner outer v half.pair (record {
     is_vertex = v_within;
     later = let before = half.merge_before in omega (arith, v_rank);
     fresh = fresh;
@@ -50,21 +51,21 @@ module _ (corners : List Point) (ranks : List ℕ) (k v : ℕ) (v_within : v < l
   })
 
   -- where the outer chain ends at v, it is closed;
-  pub half_closed : last outer ≡ v → ArePair corners ranks way (inner ++ v ∷ []) outer
+  pub half_closed : last outer ≡ v → ArePair corners ranks side (inner ++ v ∷ []) outer
   half_closed is =
-      led (nearer_to_end way (edge (vertex corners (last inner)) (vertex corners v)) (front_edge corners (front_of outer)) half.short
+      led (nearer_to_end side (edge (vertex corners (last inner)) (vertex corners v)) (front_edge corners (front_of outer)) half.short
       (ap (vertex corners) (sym is)))
 
-  pub half_is_closed : last outer ≡ v → IsClosedRegion corners ranks (chains way (inner ++ v ∷ []) outer)
-  half_is_closed is = closed_of corners ranks way (inner ++ v ∷ []) outer (half_closed is) (last_grown inner v ∙ sym is)
+  pub half_is_closed : last outer ≡ v → IsClosedRegion corners ranks (chains side (inner ++ v ∷ []) outer)
+  half_is_closed is = closed_of corners ranks side (inner ++ v ∷ []) outer (half_closed is) (last_grown inner v ∙ sym is)
 
   -- where v is short of the edge at its end, or that end, it is open
-  pub half_open : IsShort way (front_edge corners (front_of outer)) (vertex corners v) ⊎ (last outer ≡ v)
-      → AreOpen corners ranks k way (inner ++ v ∷ []) outer
+  pub half_open : IsShort side (front_edge corners (front_of outer)) (vertex corners v) ⊎ (last outer ≡ v)
+      → AreOpen corners ranks k side (inner ++ v ∷ []) outer
   half_open there = record {
     pair = elim there [
       | inl short ↦
-          led (nearer_short way (edge (vertex corners (last inner)) (vertex corners v)) (front_edge corners (front_of outer)) half.short short)
+          led (nearer_short side (edge (vertex corners (last inner)) (vertex corners v)) (front_edge corners (front_of outer)) half.short short)
       | inr is ↦ half_closed is
     ];
     near_before = before_of_rise ranks k inner v half.pair.near_rises half.merge_before;

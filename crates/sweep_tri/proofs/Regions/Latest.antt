@@ -9,7 +9,7 @@ use Rattle.plane.proofs.Points.{same_refl, same_sym, whole_is_point}
 use Rattle.plane.proofs.Turns.{determinant_same_ends}
 use Rattle.plane.specs.Order.{Precedes}
 use Rattle.plane.specs.Point.{IsSame, Point, whole}
-use Rattle.rings.proofs.Sweeps.{Spans, side, stays_below}
+use Rattle.rings.proofs.Sweeps.{Spans, side as side_of, stays_below}
 use Rattle.rings.specs.Edge.{Edge, HasEnd}
 use Rattle.rings.specs.Events.{AreEvents}
 use Rattle.rings.specs.Ring.{vertex}
@@ -18,21 +18,23 @@ use Rattle.sweep_tri.proofs.Regions.Paths.{final_step, last_shortened, rises_to,
 use Rattle.sweep_tri.proofs.RankOrder.{not_after_by_rank, precedes_by_rank}
 use Rattle.sweep_tri.proofs.Regions.Ranks.{last_is_vertex}
 use Rattle.sweep_tri.proofs.Regions.Shortened.{without_last}
-use Rattle.sweep_tri.proofs.Regions.Ways.{AreOpen, IsNearer, IsShort, Way, down, up}
+use Rattle.sweep_tri.proofs.Regions.Sides.{AreOpen, IsNearer, IsShort}
+use Rattle.mono_fill.specs.declared.side.Side.{Side}
+use Rattle.mono_fill.specs.declared.side.Side.TheVariants.{Lower, Upper}
 use Rattle.sweep_tri.specs.Gaps.{before_last, front_edge, front_of, last}
 
 -- ---- an end of one edge is short of the other
 
-short_of : (way : Way) (e f : Edge) (p v : Point) → Precedes (whole p) (whole v) → Spans (whole p) (whole v) e → Spans (whole p) (whole v) f
-    → IsNearer way e f → side e (whole p) ≡ pos 0 → ((x : Point) → HasEnd f x → ¬ IsSame (whole p) (whole x)) → IsShort way f p
-short_of up e f p v order over_e over_f nearer on_e no_end =
+short_of : (side : Side) (e f : Edge) (p v : Point) → Precedes (whole p) (whole v) → Spans (whole p) (whole v) e → Spans (whole p) (whole v) f
+    → IsNearer side e f → side_of e (whole p) ≡ pos 0 → ((x : Point) → HasEnd f x → ¬ IsSame (whole p) (whole x)) → IsShort side f p
+short_of Lower e f p v order over_e over_f nearer on_e no_end =
     elim (stays_below e f (whole p) (whole p) (whole v) (whole_is_point p) (whole_is_point p) (whole_is_point v) order
     (not_after_of_same (whole p) (whole p) (same_refl (whole p))) (not_after_of_precedes (whole p) (whole v) order) over_e over_f nearer
     (zero_not_positive on_e)) [
       | inl h ↦ h
       | inr c ↦ absurd (no_end c.end c.of_second c.same)
     ]
-short_of down e f p v order over_e over_f nearer on_e no_end = elim (lt_or_le (pos 0) (side f (whole p))) [
+short_of Upper e f p v order over_e over_f nearer on_e no_end = elim (lt_or_le (pos 0) (side_of f (whole p))) [
   | inl h ↦ h
   | inr low ↦
       elim (stays_below f e (whole p) (whole p) (whole v) (whole_is_point p) (whole_is_point p) (whole_is_point v) order
@@ -46,7 +48,7 @@ short_of down e f p v order over_e over_f nearer on_e no_end = elim (lt_or_le (p
 
 module _ (corners : List Point) (order ranks : List ℕ) (are : AreEvents corners order ranks) (three : 3 ≤ length corners)
     (k v : ℕ) (v_within : v < length corners) (v_rank : slice_index ranks v ≡ k)
-    (way : Way) (near far : List ℕ) (open_before : AreOpen corners ranks k way near far) where
+    (side : Side) (near far : List ℕ) (open_before : AreOpen corners ranks k side near far) where
   abbrev rank : ℕ → ℕ
   rank u = slice_index ranks u
 
@@ -138,7 +140,7 @@ module _ (corners : List Point) (order ranks : List ℕ) (are : AreEvents corner
         (precedes_by_rank corners order ranks are three p (last far) (counted p_within) (counted far_last) (omega arith)) (rw (← is) at same)
 
     -- the edges at the ends are over one another
-    nearer_ends : IsNearer way e f
+    nearer_ends : IsNearer side e f
     nearer_ends =
         let passed = p_passed in
         let near_to_come = open_before.near_to_come in
@@ -147,21 +149,21 @@ module _ (corners : List Point) (order ranks : List ℕ) (are : AreEvents corner
         (final_step near near_some) (final_step far far_some)
         (omega arith) (omega (arith, less))
 
-    pub latest_short : IsShort way f (vertex corners p)
+    pub latest_short : IsShort side f (vertex corners p)
     latest_short =
         let passed = p_passed in
-        short_of way e f (vertex corners p) (vertex corners v)
+        short_of side e f (vertex corners p) (vertex corners v)
         (precedes_by_rank corners order ranks are three p v (counted p_within) (counted v_within) (omega (arith, v_rank)))
         near_spans far_spans nearer_ends (determinant_same_ends (whole (vertex corners p)) (whole (vertex corners (last near)))) no_end
 
     -- ---- so the rest is led to v as half of a gap is
 
-    pub latest_half : IsHalf corners ranks k way (shortened near) far
+    pub latest_half : IsHalf corners ranks k side (shortened near) far
     latest_half =
         let some = near_some in
         let at : rank (last (shortened near)) ≡ rank p = ap rank (last_shortened near some) in
         record {
-          pair = without_last corners ranks way near far open_before.pair (near_three less);
+          pair = without_last corners ranks side near far open_before.pair (near_three less);
           merge_before = omega (arith, p_passed, at);
           outer_before = λ j h. elim (cases_lt (j + 2) (length far)) [
             | inl earlier ↦
@@ -171,5 +173,5 @@ module _ (corners : List Point) (order ranks : List ℕ) (are : AreEvents corner
                 omega (arith, at, less, ap (λ i. rank (get_or far i 0)) is)
           ];
           outer_to_come = open_before.far_to_come;
-          short = subst (λ u. IsShort way f (vertex corners u)) (sym (last_shortened near some)) latest_short;
+          short = subst (λ u. IsShort side f (vertex corners u)) (sym (last_shortened near some)) latest_short;
         }

@@ -3,12 +3,13 @@ use Rattle.std.proofs.Common.{sym, subst, ◌∙◌, ℕ, ◌-◌, ◌<◌, ◌�
 use Rattle.std.proofs.lemmas.List.{get_or_default}
 use Rattle.plane.specs.Point.{Point}
 use Rattle.sweep_tri.proofs.Regions.Paths.{kept_item, kept_step, length_shortened, shortened}
-use Rattle.sweep_tri.proofs.Regions.Ways.{ArePair, Way}
+use Rattle.sweep_tri.proofs.Regions.Sides.{ArePair}
+use Rattle.mono_fill.specs.declared.side.Side.{Side}
 
-module _ (corners : List Point) (ranks : List ℕ) (way : Way) (near far : List ℕ) (pair : ArePair corners ranks way near far)
+module _ (corners : List Point) (ranks : List ℕ) (side : Side) (near far : List ℕ) (pair : ArePair corners ranks side near far)
     (three : 3 ≤ length near) where
   -- it is a region as well, since there are three vertices or more
-  pub without_last : ArePair corners ranks way (shortened near) far
+  pub without_last : ArePair corners ranks side (shortened near) far
   without_last = record {
     near_some = omega (arith, length_shortened near);
     far_some = pair.far_some;

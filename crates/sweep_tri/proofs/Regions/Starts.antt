@@ -5,7 +5,8 @@ use Rattle.std.specs.Prelude.{slice_index}
 use Rattle.plane.specs.Point.{Point}
 use Rattle.rings.specs.Edge.{edge}
 use Rattle.rings.specs.Ring.{vertex}
-use Rattle.sweep_tri.proofs.Regions.Ways.{AreNearer, AreOpen, ArePair, IsNearer, Way}
+use Rattle.sweep_tri.proofs.Regions.Sides.{AreNearer, AreOpen, ArePair, IsNearer}
+use Rattle.mono_fill.specs.declared.side.Side.{Side}
 use Rattle.sweep_tri.specs.Open.{ComeBefore}
 use Rattle.sweep_tri.specs.Region.{IsStep, RisesBy, ShareEnds}
 
@@ -42,16 +43,16 @@ share u a b other (suc (suc i)) (suc j) i_some i_within j_some j_within e = absu
 
 -- ---- two of them
 
-module _ (corners : List Point) (ranks : List ℕ) (way : Way) (u a b : ℕ) (u_within : u < length corners) (a_within : a < length corners)
+module _ (corners : List Point) (ranks : List ℕ) (side : Side) (u a b : ℕ) (u_within : u < length corners) (a_within : a < length corners)
     (b_within : b < length corners) (other : ¬ (a ≡ b))
-    (nearer_edge : IsNearer way (edge (vertex corners u) (vertex corners a)) (edge (vertex corners u) (vertex corners b))) where
-  nearer : AreNearer corners ranks way (two u a) (two u b)
+    (nearer_edge : IsNearer side (edge (vertex corners u) (vertex corners a)) (edge (vertex corners u) (vertex corners b))) where
+  nearer : AreNearer corners ranks side (two u a) (two u b)
   nearer p q c d s t h k =
       let first = the_step u a p q s in
       let second = the_step u b c d t in
       rw (← first.0, ← first.1, ← second.0, ← second.1) nearer_edge
 
-  pub starts : slice_index ranks u < slice_index ranks a → slice_index ranks u < slice_index ranks b → ArePair corners ranks way (two u a) (two u b)
+  pub starts : slice_index ranks u < slice_index ranks a → slice_index ranks u < slice_index ranks b → ArePair corners ranks side (two u a) (two u b)
   starts u_a u_b = record {
     near_some = omega arith;
     far_some = omega arith;
@@ -66,7 +67,7 @@ module _ (corners : List Point) (ranks : List ℕ) (way : Way) (u a b : ℕ) (u_
 
   -- where the others are to come, the region is open
   pub starts_open : (k : ℕ) → slice_index ranks u < k → k ≤ slice_index ranks a → k ≤ slice_index ranks b
-      → AreOpen corners ranks k way (two u a) (two u b)
+      → AreOpen corners ranks k side (two u a) (two u b)
   starts_open k passed a_later b_later = record {
     pair = starts (omega arith) (omega arith);
     near_before = before ranks k u a passed;

@@ -9,7 +9,7 @@ use Rattle.meshes.specs.declared.tri.Tri.{Tri}
 use Rattle.rings.specs.Events.{next, previous}
 use Rattle.sweep_tri.proofs.Balance.{AreFilledClosed, balanced_ends}
 use Rattle.sweep_tri.proofs.Fronts.{AreBeside, IsEnd, beside_swapped, closes, ends}
-use Rattle.sweep_tri.proofs.Regions.{closes_above, ends as region_ends}
+use Rattle.sweep_tri.proofs.Regions.{closes as region_closes, ends as region_ends}
 use Rattle.sweep_tri.proofs.Swept.AtEvent.{IsAtEvent, earlier, event_below, event_rank}
 use Rattle.sweep_tri.proofs.Swept.Kept.{gap_kept}
 use Rattle.sweep_tri.proofs.Swept.Lists.{all_removed}
@@ -61,7 +61,7 @@ module _ (corners : List Point) (order ranks : List ℕ) (k v : ℕ) (gaps : Lis
         let left = left_at Upper g.low g.high v in
         let Is : Chains → Type 0 = IsClosedRegion corners ranks in
         All-append Is (closed_at Upper g.low g.high v) (left ∷ [])
-        (closes_above corners order ranks at.are at.three k v (event_below at).1 (event_rank at) g.low g.high open_g to)
+        (region_closes corners ranks k v (event_below at).1 (event_rank at) Upper g.low g.high open_g to)
         (All-cons Is left []
         (region_ends corners order ranks at.are at.three k v (event_below at).1 (event_rank at) g.low g.high open_g is_end.low_ends_here to)
         (All-nil Is))

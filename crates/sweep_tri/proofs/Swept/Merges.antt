@@ -10,7 +10,7 @@ use Rattle.meshes.specs.declared.tri.Tri.{Tri}
 use Rattle.rings.specs.Events.{next, previous}
 use Rattle.sweep_tri.proofs.Balance.{AreFilledClosed, balanced_merges}
 use Rattle.sweep_tri.proofs.Fronts.{AreBeside, IsMerge, beside_swapped, merges}
-use Rattle.sweep_tri.proofs.Regions.{above_upper, below_lower, closes_above, closes_below, merges as region_merges}
+use Rattle.sweep_tri.proofs.Regions.{closes, left_far, merges as region_merges}
 use Rattle.sweep_tri.proofs.Swept.AtEvent.{IsAtEvent, earlier, event_below, event_rank}
 use Rattle.sweep_tri.proofs.Swept.Ends.{end_has_gap, none_later}
 use Rattle.sweep_tri.proofs.Swept.Kept.{gap_kept}
@@ -48,14 +48,12 @@ module _ (corners : List Point) (order ranks : List ℕ) (k v : ℕ) (gaps : Lis
   pub merge_closes_below : let h = gap_at gaps j in All (IsClosedRegion corners ranks) (closed_at Lower h.low h.high v)
   merge_closes_below =
       let h = gap_at gaps j in
-      closes_below corners order ranks at.are at.three k v (event_below at).1 (event_rank at) h.low h.high (at.swept.gaps_open j inside)
-      is_merge.low_ends_here
+      closes corners ranks k v (event_below at).1 (event_rank at) Lower h.low h.high (at.swept.gaps_open j inside) is_merge.low_ends_here
 
   pub merge_closes_above : let g = gap_at gaps (j - 1) in All (IsClosedRegion corners ranks) (closed_at Upper g.low g.high v)
   merge_closes_above =
       let g = gap_at gaps (j - 1) in
-      closes_above corners order ranks at.are at.three k v (event_below at).1 (event_rank at) g.low g.high
-      (at.swept.gaps_open (j - 1) first_inside) is_merge.up_ends_here
+      closes corners ranks k v (event_below at).1 (event_rank at) Upper g.low g.high (at.swept.gaps_open (j - 1) first_inside) is_merge.up_ends_here
 
   -- and the rest is one gap
   pub swept_merges : (new : List Tri)
@@ -81,8 +79,7 @@ module _ (corners : List Point) (order ranks : List ℕ) (k v : ℕ) (gaps : Lis
             is_merge.up_ends_here is_merge.above_low is_merge.low_ends_here is_merge.under_up)
             (λ m within others. gap_kept at m within (is_merge.others_go_on m within (λ e. others (inl e)) (λ e. others (inr e))));
         frontier =
-            is_merge.frontier_after both (ap front_of (below_lower corners ranks k v (event_below at).1 (event_rank at) g.low g.high))
-            (ap front_of (above_upper corners ranks k v (event_below at).1 (event_rank at) h.low h.high));
+            is_merge.frontier_after both (ap front_of (left_far Upper g.low g.high v)) (ap front_of (left_far Lower h.low h.high v));
         triangles =
             of_ring-all_filled corners order ranks at.are at.three (closed_at Lower h.low h.high v ++ closed_at Upper g.low g.high v) closed
             tris new filled at.swept.triangles;

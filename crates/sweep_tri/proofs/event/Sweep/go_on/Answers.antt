@@ -1,7 +1,8 @@
-use Rattle.std.proofs.Common.{refl, sym, ◌∙◌, ◌+◌}
+use Rattle.std.proofs.Common.{refl, sym, ◌∙◌, ◌+◌, ◌-◌}
 use Rattle.std.proofs.lemmas.Bool.{false≢true}
 use Rattle.std.specs.Prelude.{slice_index}
-use Rattle.sweep_tri.proofs.Passes.{above_closes, above_inside, below_closes, low_some, on_ok_both, swept_of_above, swept_of_below, swept_same}
+use Rattle.mono_fill.specs.declared.side.Side.TheVariants.{Lower, Upper}
+use Rattle.sweep_tri.proofs.Passes.{low_some, next_closes, next_low, next_up, on_ok_both, swept_of_next, swept_same}
 use Rattle.sweep_tri.proofs.event.Sweep.go_on.Goals as goal
 
 pub low_ends-requires : goal.low_ends-requires
@@ -13,33 +14,37 @@ go_on_at-requires-clause-place g c = (c.low_ends.ensures.ends.0 c.if-low_ends.tr
 pub go_on_at-requires-clause-closed : goal.go_on_at-requires-clause-closed
 go_on_at-requires-clause-closed g c =
     let ends = c.low_ends.ensures.ends.0 c.if-low_ends.true in
-    below_closes c.requires.next c.args.j c.requires.place c.args.w c.requires.goes_on ends.0 ends.1
+    next_closes c.requires.next c.args.j c.requires.place c.args.w c.requires.goes_on Lower c.args.j
+    (next_low c.requires.next c.args.j c.requires.place c.args.w c.requires.goes_on ends.0 ends.1)
 
 pub overflow_sub-j : goal.overflow_sub-j
 overflow_sub-j g c =
-    (above_inside c.requires.next c.args.j c.requires.place c.args.w c.requires.goes_on
+    (next_up c.requires.next c.args.j c.requires.place c.args.w c.requires.goes_on
     (λ ends. false≢true (sym c.if-low_ends.false ∙ c.low_ends.ensures.ends.1 ends))).0
 
 pub go_on_at-requires-else-low_ends-clause-place : goal.go_on_at-requires-else-low_ends-clause-place
 go_on_at-requires-else-low_ends-clause-place g c =
-    (above_inside c.requires.next c.args.j c.requires.place c.args.w c.requires.goes_on
-    (λ ends. false≢true (sym c.if-low_ends.false ∙ c.low_ends.ensures.ends.1 ends))).1
+    (next_up c.requires.next c.args.j c.requires.place c.args.w c.requires.goes_on
+    (λ ends. false≢true (sym c.if-low_ends.false ∙ c.low_ends.ensures.ends.1 ends))).1.inside
 
 pub go_on_at-requires-else-low_ends-clause-closed : goal.go_on_at-requires-else-low_ends-clause-closed
 go_on_at-requires-else-low_ends-clause-closed g c =
-    above_closes c.requires.next c.args.j c.requires.place c.args.w c.requires.goes_on
-    (λ ends. false≢true (sym c.if-low_ends.false ∙ c.low_ends.ensures.ends.1 ends))
+    next_closes c.requires.next c.args.j c.requires.place c.args.w c.requires.goes_on Upper (c.args.j - 1)
+    (next_up c.requires.next c.args.j c.requires.place c.args.w c.requires.goes_on
+    (λ ends. false≢true (sym c.if-low_ends.false ∙ c.low_ends.ensures.ends.1 ends))).1
 
 pub returns-then-low_ends-clause-swept : goal.returns-then-low_ends-clause-swept
 returns-then-low_ends-clause-swept g c =
     let ends = c.low_ends.ensures.ends.0 c.if-low_ends.true in
     on_ok_both c.go_on_at.result c.go_on_at.ensures.gaps c.go_on_at.ensures.filled
     (λ is filled. swept_same (g.T.Turns.corners c.args.board.now) c.args.rank.now (slice_index c.args.rank.now c.args.v + 1) is refl
-    (swept_of_below c.requires.next c.args.j c.requires.place c.args.w c.requires.goes_on ends.0 ends.1 c.go_on_at.new.self.tris.items filled))
+    (swept_of_next c.requires.next c.args.j c.requires.place c.args.w c.requires.goes_on Lower c.args.j
+    (next_low c.requires.next c.args.j c.requires.place c.args.w c.requires.goes_on ends.0 ends.1) c.go_on_at.new.self.tris.items filled))
 
 pub returns-else-low_ends-clause-swept : goal.returns-else-low_ends-clause-swept
 returns-else-low_ends-clause-swept g c =
     on_ok_both c.go_on_at-else-low_ends.result c.go_on_at-else-low_ends.ensures.gaps c.go_on_at-else-low_ends.ensures.filled
     (λ is filled. swept_same (g.T.Turns.corners c.args.board.now) c.args.rank.now (slice_index c.args.rank.now c.args.v + 1) is refl
-    (swept_of_above c.requires.next c.args.j c.requires.place c.args.w c.requires.goes_on
-    (λ ends. false≢true (sym c.if-low_ends.false ∙ c.low_ends.ensures.ends.1 ends)) c.go_on_at-else-low_ends.new.self.tris.items filled))
+    (swept_of_next c.requires.next c.args.j c.requires.place c.args.w c.requires.goes_on Upper (c.args.j - 1)
+    (next_up c.requires.next c.args.j c.requires.place c.args.w c.requires.goes_on
+    (λ ends. false≢true (sym c.if-low_ends.false ∙ c.low_ends.ensures.ends.1 ends))).1 c.go_on_at-else-low_ends.new.self.tris.items filled))
