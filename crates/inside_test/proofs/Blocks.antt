@@ -23,7 +23,7 @@ use Rattle.inside_test.proofs.Passed.{left_of_rise, not_falling, right_of_rise, 
 use Rattle.inside_test.proofs.Touched.{follows_right, precedes_left}
 use Rattle.inside_test.specs.Block.{MissesEdges, IsBoxMissed, IsBoxRight, OfAllEnclosed}
 use Rattle.inside_test.specs.Meeting.{rises}
-use Rattle.inside_test.specs.Odd.{OddSoFar}
+use Rattle.inside_test.specs.Odd.{IsOddOver, OddSoFar}
 
 -- whether one of two numbers is above a third, and the other is not
 abbrev pub is_between_ends : Bool → Bool → Bool
@@ -197,23 +197,22 @@ module _ (ring : List Point) (first end : ℕ) (some : first < end) (within : en
       let of = of_end (Encloses b) (λ v bounds here. here) in
       apart (overlap_of_meeting around b p q (vertex ring k) (vertex ring (k + 1)) at_p at_q (of k from (omega arith)) (of (k + 1) (omega arith) (omega arith)) meet)
 
-  module _ (p : Triple) (at_p : IsPoint p) (odd : Bool) (before : OddSoFar (take first (edges_of ring)) p odd) where
+  module _ (p : Triple) (at_p : IsPoint p) where
     -- so where each edge is passed by in a way that its ends tell, all of them are
     all_by_ends : (above : ℕ → Bool)
         → ((k : ℕ) → first ≤ k → k < end → IsPassed (vertex ring k) (vertex ring (k + 1)) p (is_between_ends (above k) (above (k + 1))))
-        → OddSoFar (take end (edges_of ring)) p (not (beq odd (is_between_ends (above first) (above end))))
-    all_by_ends above passed =
+        → IsOddOver ring first end p (is_between_ends (above first) (above end))
+    all_by_ends above passed odd before =
         let count : ℕ = end - first in
         let sum = sum_is first end some in
         subst (λ n. OddSoFar (take n (edges_of ring)) p (not (beq odd (is_between_ends (above first) (above n))))) sum
         (passed_all ring p above first odd before count (omega (arith, within)) (λ k from below. passed k from (omega (arith, below))))
 
     -- those that the ray misses change nothing,
-    none_by_ends : ((k : ℕ) → first ≤ k → k < end → IsPassed (vertex ring k) (vertex ring (k + 1)) p false)
-        → OddSoFar (take end (edges_of ring)) p odd
-    none_by_ends passed = subst (OddSoFar (take end (edges_of ring)) p) (no_change odd true) (all_by_ends (λ _. true) passed)
+    none_by_ends : ((k : ℕ) → first ≤ k → k < end → IsPassed (vertex ring k) (vertex ring (k + 1)) p false) → IsOddOver ring first end p false
+    none_by_ends passed = all_by_ends (λ _. true) passed
 
-    pub block_missed : IsBoxMissed b p → OddSoFar (take end (edges_of ring)) p odd
+    pub block_missed : IsBoxMissed b p → IsOddOver ring first end p false
     block_missed (inl above) =
         let of = of_end (λ v. p.Y <ℤ (v.y *ℤ p.W)) above in
         none_by_ends (λ k from below. passed_above (vertex ring k) (vertex ring (k + 1)) p at_p (of k from (omega arith)) (of (k + 1) (omega arith) (omega arith)))
@@ -227,13 +226,13 @@ module _ (ring : List Point) (first end : ℕ) (some : first < end) (within : en
     -- and those right of the point do where the first end and the last are on both sides of its height
     pub block_crossed : IsBoxRight b p → (first_above last_above : Bool) → IsTrue first_above ↔ (p.Y <ℤ (Point.y (vertex ring first) *ℤ p.W))
         → IsTrue last_above ↔ (p.Y <ℤ (Point.y (vertex ring end) *ℤ p.W))
-        → OddSoFar (take end (edges_of ring)) p (not (beq odd (not (beq first_above last_above))))
+        → IsOddOver ring first end p (is_between_ends first_above last_above)
     block_crossed right first_above last_above first_is last_is =
         let of = of_end (λ v. p.X <ℤ (v.x *ℤ p.W)) right in
         let above : ℕ → Bool = λ k. lt_z p.Y (Point.y (vertex ring k) *ℤ p.W) in
         let all = all_by_ends above (λ k from less. passed_right (vertex ring k) (vertex ring (k + 1)) p at_p (of k from (omega arith)) (of (k + 1) (omega arith) (omega arith))) in
-        subst (λ f. OddSoFar (take end (edges_of ring)) p (not (beq odd (not (beq f last_above))))) (test_is first_above _ _ first_is)
-        (subst (λ l. OddSoFar (take end (edges_of ring)) p (not (beq odd (not (beq (above first) l))))) (test_is last_above _ _ last_is) all)
+        subst (λ f. IsOddOver ring first end p (is_between_ends f last_above)) (test_is first_above _ _ first_is)
+        (subst (λ l. IsOddOver ring first end p (is_between_ends (above first) l)) (test_is last_above _ _ last_is) all)
       where
         -- a flag that says whether a number is above another is the test of it
         test_is : (flag : Bool) (x y : ℤ) → IsTrue flag ↔ (x <ℤ y) → lt_z x y ≡ flag

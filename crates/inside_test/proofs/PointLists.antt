@@ -5,7 +5,7 @@ use Rattle.std.proofs.lemmas.Bool.{cases_lt}
 use Rattle.std.proofs.lemmas.List.{get_or-map, length-map}
 use Rattle.std.proofs.lemmas.List.Elements.{All-cons, All-nil, All-push, Contains-append_left}
 use Rattle.std.specs.List.{All, Contains}
-use Rattle.plane.proofs.Points.{same_sym}
+use Rattle.plane.proofs.Points.{same_sym, whole_is_point}
 use Rattle.plane.proofs.Segments.{on_first_end, on_last_end}
 use Rattle.plane.specs.Point.{IsPoint, IsSame, Point, Triple, whole}
 use Rattle.rings.specs.Ring.{vertex}
@@ -91,7 +91,7 @@ encloses_more a b c d old new more h z at_z first second =
 
 module _ (ring : List Point) (a b : Triple) where
   -- it begins with the ends
-  pub lists_start : IsPoint a → IsPoint b → (first points : List Triple) → first ≡ [] ++ a ∷ [] → points ≡ first ++ b ∷ []
+  lists_start : IsPoint a → IsPoint b → (first points : List Triple) → first ≡ [] ++ a ∷ [] → points ≡ first ++ b ∷ []
       → ListsMeetings ring 0 a b points
   lists_start at_a at_b first points e f =
       let all : points ≡ a ∷ b ∷ [] = f ∙ ap (λ l. l ++ b ∷ []) e in
@@ -134,3 +134,9 @@ lists_past ring a b first end points before apart = record {
         absurd (apart i (omega arith) below (record { point = z; rational = rational; on_first = on_first; on_second = on_second }))
   ];
 }
+
+-- a list of two vertices, each in a triple of its own
+pub lists_ends : (ring : List Point) (a b : Point) (x y : Triple) (none first points : List Triple) → none ≡ [] → x ≡ whole a → y ≡ whole b
+    → first ≡ none ++ x ∷ [] → points ≡ first ++ y ∷ [] → ListsMeetings ring 0 (whole a) (whole b) points
+lists_ends ring a b x y none first points empty is_a is_b e f =
+    lists_start ring (whole a) (whole b) (whole_is_point a) (whole_is_point b) first points (rw (empty, is_a) at e) (rw is_b at f)

@@ -1,9 +1,9 @@
-ghost use Rattle.std.specs.Prelude.{◌≡◌, ◌↔◌, ◌+◌, ◌<◌, ◌≤◌, IfNone, IfSome, length, take};
-ghost use Rattle.plane.specs.Point.{IsPoint, whole};
+ghost use Rattle.std.specs.Prelude.{◌≡◌, ◌↔◌, ◌<◌, ◌≤◌, IfNone, IfSome, length};
+ghost use Rattle.plane.specs.Point.{IsPoint, Triple, whole};
 ghost use Rattle.rings.specs.Edge.{IsOnSome, edges_of};
 ghost use Rattle.rings.specs.Inside.{IsIn};
 ghost use Rattle.inside_test.specs.Level.{AreLevels};
-ghost use Rattle.inside_test.specs.Odd.{OddSoFar};
+ghost use Rattle.inside_test.specs.Odd.{IsOddOver};
 
 use crate::crossing::{Meeting, Vertex, meeting_of};
 use crate::level::Levels;
@@ -45,10 +45,14 @@ pub fn place_hom<L: Ledger>(ring: &Ring, p: &Hom, steps: &mut Steps<L>) -> Posit
     let mut first = 0;
     while first < n {
         let end = n.min(first + BLOCK);
-        match pass(ring, first, end, is_odd, p, &levels, steps) {
-            Some(odd) => is_odd = odd,
-            None => return Position::Edge,
-        }
+        let odd = match odd_by_box(ring, first, end, &levels, steps) {
+            Some(odd) => odd,
+            None => match odd_by_edges(ring, first, end, p, &levels, steps) {
+                Some(odd) => odd,
+                None => return Position::Edge,
+            },
+        };
+        is_odd = is_odd != odd;
         first = end;
     }
     if is_odd {
@@ -58,46 +62,40 @@ pub fn place_hom<L: Ledger>(ring: &Ring, p: &Hom, steps: &mut Steps<L>) -> Posit
     }
 }
 
-// Whether an odd number of the edges before edge `end` is crossed, by whether it is so of those before edge `first`, or `None`
-// where the point is on one of them. Edges that lie to one side of the point are not looked at one by one.
-fn pass<L: Ledger>(
+// Whether an odd number of the edges from edge `first` to before edge `end` is crossed, where all of them lie to one side of the
+// point with these levels.
+fn odd_by_box<L: Ledger>(
     ring: &Ring,
     first: u32,
     end: u32,
-    is_odd: bool,
-    p: &Hom,
     levels: &Levels,
     steps: &mut Steps<L>,
 ) -> Option<bool>
     requires some { first < end }
     requires within { end ≤ length ring.now.corners }
-    requires levels { AreLevels levels.now p.now }
-    requires rational { IsPoint p.now }
-    requires before { OddSoFar (take first (edges_of ring.now.corners)) p.now is_odd }
-    ensures on { IfNone result (IsOnSome (edges_of ring.now.corners) p.now) }
-    ensures odd { IfSome result (OddSoFar (take end (edges_of ring.now.corners)) p.now) }
+    ensures { IfSome result (λ odd. (p : Triple) → AreLevels levels.now p → IsPoint p → IsOddOver ring.now.corners first end p odd) }
 {
-    if end < ring.len() {
-        let vertices = &ring.corners()[first as usize..end as usize + 1];
-        let around = BoundingBox::of(vertices, steps);
-        if levels.misses(&around) {
-            return Some(is_odd);
-        }
-        if levels.is_left_of_all(&around) {
-            let begins_above = levels.is_below(&ring.corner(first), steps);
-            let ends_above = levels.is_below(&ring.corner(end), steps);
-            return Some(is_odd != (begins_above != ends_above));
-        }
+    if end == ring.len() {
+        return None;
     }
-    cross(ring, first, end, is_odd, p, levels, steps)
+    let vertices = &ring.corners()[first as usize..end as usize + 1];
+    let around = BoundingBox::of(vertices, steps);
+    if levels.misses(&around) {
+        return Some(false);
+    }
+    if levels.is_left_of_all(&around) {
+        let begins_above = levels.is_below(&ring.corner(first), steps);
+        let ends_above = levels.is_below(&ring.corner(end), steps);
+        return Some(begins_above != ends_above);
+    }
+    None
 }
 
-// The same, one edge after the other.
-fn cross<L: Ledger>(
+// The same by one edge after the other, or `None` where the point is on one of them.
+fn odd_by_edges<L: Ledger>(
     ring: &Ring,
     first: u32,
     end: u32,
-    mut is_odd: bool,
     p: &Hom,
     levels: &Levels,
     steps: &mut Steps<L>,
@@ -106,10 +104,10 @@ fn cross<L: Ledger>(
     requires within { end ≤ length ring.now.corners }
     requires levels { AreLevels levels.now p.now }
     requires rational { IsPoint p.now }
-    requires before { OddSoFar (take first (edges_of ring.now.corners)) p.now is_odd }
     ensures on { IfNone result (IsOnSome (edges_of ring.now.corners) p.now) }
-    ensures odd { IfSome result (OddSoFar (take end (edges_of ring.now.corners)) p.now) }
+    ensures odd { IfSome result (IsOddOver ring.now.corners first end p.now) }
 {
+    let mut is_odd = false;
     let mut a = Vertex::of(ring.corner(first), levels, steps);
     for i in first..end {
         let b = Vertex::of(ring.next(i), levels, steps);

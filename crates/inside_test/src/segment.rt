@@ -47,8 +47,12 @@ fn breakpoints<L: Ledger>(
     let mut points = Vec::new(alloc);
     push(&mut points, Hom::of_pt(a, steps), steps)?;
     push(&mut points, Hom::of_pt(b, steps), steps)?;
-    let around = BoundingBox::of(&[*a, *b], steps);
     let n = ring.len();
+    if n <= BLOCK {
+        push_block(&mut points, ring, 0, n, a, b, steps)?;
+        return Ok(points);
+    }
+    let around = BoundingBox::of(&[*a, *b], steps);
     let mut first = 0;
     while first < n {
         let end = n.min(first + BLOCK);

@@ -1,19 +1,20 @@
-use Rattle.std.proofs.Common.{arith}
-use Rattle.plane.proofs.Points.{whole_is_point}
-use Rattle.plane.specs.Point.{whole}
+use Rattle.std.proofs.Common.{ap, arith}
 use Rattle.rings.specs.Ring.{origin}
-use Rattle.inside_test.proofs.PointLists.{lists_past, lists_start}
+use Rattle.inside_test.proofs.PointLists.{lists_ends, lists_past}
 use Rattle.inside_test.proofs.segment.breakpoints.Goals as goal
 use Rattle.inside_test.specs.Breakpoints.{breakpoint_points}
 
+pub push_block-requires-clause-before : goal.push_block-requires-clause-before
+push_block-requires-clause-before g c =
+    lists_ends c.args.ring.now.corners c.args.a.now c.args.b.now _ _ _ _ _ (ap breakpoint_points c.new-points.ensures.items) c.of_pt.ensures.point
+    c.of_pt-2.ensures.point c.in_ok-push.ensures.ok c.in_ok-push-2.ensures.ok
+
 pub loop-first-init : goal.loop-first-init
-loop-first-init g c =
-    let first = rw (c.new-points.ensures.items, c.of_pt.ensures.point) at c.in_ok-push.ensures.ok in
-    let second = rw c.of_pt-2.ensures.point at c.in_ok-push-2.ensures.ok in (
-      lists_start c.args.ring.now.corners (whole c.args.a.now) (whole c.args.b.now) (whole_is_point c.args.a.now) (whole_is_point c.args.b.now)
-          (breakpoint_points c.push.new.points.items) (breakpoint_points c.push-2.new.points.items) first second,
-      omega arith,
-    )
+loop-first-init g c = (
+  lists_ends c.args.ring.now.corners c.args.a.now c.args.b.now _ _ _ _ _ (ap breakpoint_points c.new-points.ensures.items) c.of_pt.ensures.point
+      c.of_pt-2.ensures.point c.in_ok-push.ensures.ok c.in_ok-push-2.ensures.ok,
+  omega arith,
+)
 
 pub loop-first-preserved : goal.loop-first-preserved
 loop-first-preserved g c = (

@@ -1,12 +1,12 @@
 use Rattle.std.proofs.Common.{◌∙◌, arith}
 use Rattle.rings.proofs.Vertices.{on_some_from}
 use Rattle.rings.specs.Ring.{IsOnEdge}
-use Rattle.inside_test.proofs.Odd.{odd_crossed, odd_missed}
-use Rattle.inside_test.proofs.position.cross.Goals as goal
-use Rattle.inside_test.proofs.position.cross.Goals.{in-Crossed, in-Missed}
+use Rattle.inside_test.proofs.Odd.{over_crossed, over_missed, over_none}
+use Rattle.inside_test.proofs.position.odd_by_edges.Goals as goal
+use Rattle.inside_test.proofs.position.odd_by_edges.Goals.{in-Crossed, in-Missed}
 
 pub loop-i-init : goal.loop-i-init
-loop-i-init g c = (c.requires.before, c.of-a.ensures.at ∙ c.corner.ensures, c.of-a.ensures.beside _ c.requires.levels)
+loop-i-init g c = (over_none c.args.ring.now.corners c.args.p.now c.args.first, c.of-a.ensures.at ∙ c.corner.ensures, c.of-a.ensures.beside _ c.requires.levels)
 
 pub meeting_of-requires-clause-last : goal.meeting_of-requires-clause-last
 meeting_of-requires-clause-last g c = c.of-b.ensures.beside _ c.requires.levels
@@ -29,14 +29,14 @@ loop-i-preserved g c =
     let beside = c.of-b.ensures.beside _ c.requires.levels in
     elim c.match-meeting_of.branch [
       | in-Crossed w ↦ (
-        odd_crossed ring p c.loop-i.i c.loop-i.is_odd _ w.is_odd-is (omega arith) odd
+        over_crossed ring p c.args.first c.loop-i.i c.loop-i.is_odd _ w.is_odd-is (omega arith) odd
             (λ on. absurd (cc (c.meeting_of.ensures.on.1 (rw (at_a, at_b) on), w.in-Crossed.is)))
             (rw (at_a, at_b) at (c.meeting_of.ensures.crossed w.in-Crossed.is)),
         at_b,
         beside,
       )
       | in-Missed w ↦ (
-        odd_missed ring p c.loop-i.i c.loop-i.is_odd _ w.is_odd-is (omega arith) odd
+        over_missed ring p c.args.first c.loop-i.i c.loop-i.is_odd _ w.is_odd-is (omega arith) odd
             (λ on. absurd (cc (c.meeting_of.ensures.on.1 (rw (at_a, at_b) on), w.in-Missed.is)))
             (rw (at_a, at_b) at (c.meeting_of.ensures.missed w.in-Missed.is)),
         at_b,
