@@ -1,5 +1,5 @@
 -- A tree of paths over the first places of an order outward: at home, at one more place, and at all.
-use Rattle.std.proofs.Common.{◌≡◌, ◌≢◌, inl, inr, refl, sym, subst, ◌∙◌, List, [], ◌∷◌, ◌++◌, length, ℕ, ◌+◌, ◌%◌, ◌<◌, ◌≤◌, Option, Some, None, set, slice_index, slice_index_or, arith}
+use Rattle.std.proofs.Common.{ap, ◌≡◌, ◌≢◌, inl, inr, refl, sym, subst, ◌∙◌, List, [], ◌∷◌, ◌++◌, length, ℕ, ◌+◌, ◌%◌, ◌<◌, ◌≤◌, Option, Some, None, set, slice_index, slice_index_or, arith}
 use Rattle.std.proofs.lemmas.Bool.{cases_eq}
 use Rattle.std.proofs.lemmas.List.{get_or-set_other, get_or-set_same, get_or_append_left, get_or_at, length-append, length-set}
 use Rattle.plane.specs.Point.{Point, whole}
@@ -35,6 +35,16 @@ module _ (corners : List Point) (start : Point) (tris : List Tri) (order : List 
         let home : p ≡ 0 = omega (arith, less) in
         subst (λ q. KeepsFunnelTo corners start tris order q (funnel_at tree (at_place order q))) (sym home)
         (subst (KeepsFunnelTo corners start tris order 0) (sym none) refl);
+  }
+
+  -- so any place stands for that
+  pub thirds_at_home : (tree : NamedTree) → funnel_at tree (at_place order 0) ≡ None → (place : ℕ) (places : List ℕ) → places ≡ place ∷ []
+      → AreThirdPlaces corners start tris order 1 tree places
+  thirds_at_home tree none place places is = record {
+    each = ap length is;
+    reached = λ p less f some.
+        let home : p ≡ 0 = omega (arith, less) in
+        absurd (cc (none, subst (λ q. funnel_at tree (at_place order q) ≡ Some f) home some));
   }
 
   module _ (p : ℕ) (later : 0 < p) (below : p < length order) (tree : NamedTree) (grown : IsGrownOver corners start tris order p tree) where

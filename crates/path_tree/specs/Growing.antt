@@ -1,14 +1,15 @@
 -- How far a tree of paths has grown outward from the triangle of its start. This project's own.
-use Rattle.std.specs.Prelude.{◌≡◌, ℕ, ◌<◌, List, length, slice_index, Option, Some, None}
+use Rattle.std.specs.Prelude.{◌≡◌, ℕ, ◌<◌, ◌≤◌, List, length, slice_index, vec_capacity, Option, Some, None}
 use Rattle.plane.specs.Point.{Point, whole}
 use Rattle.rings.specs.Ring.{vertex}
 use Rattle.meshes.specs.Side.{tri_at}
 use Rattle.meshes.specs.declared.tri.Tri.{Tri}
 use Rattle.tri_mesh.specs.declared.outward.Outward.{Outward}
 use Rattle.funnels.specs.Funnel.{IsReachedFrom}
-use Rattle.shared_funnel.specs.Entered.{HasCorner, IsFunnelTo, at_place, third_of}
+use Rattle.shared_funnel.specs.Entered.{HasCorner, IsFromStart, IsFunnelTo, at_place, third_of}
 use Rattle.shared_funnel.specs.Listed.{Listed, listed_points}
 use Rattle.path_tree.specs.Grown.{IsFromNamed, NamedTree, before_at, funnel_at}
+use Rattle.path_tree.specs.declared.growth.Growth.{Growth}
 
 -- the home has no funnel, and the triangle at a later place has that one
 abbrev pub KeepsFunnelTo : List Point → Point → List Tri → List Outward → ℕ → Option Listed → Type 0
@@ -34,3 +35,20 @@ pub record AreThirdPlaces (corners : List Point) (start : Point) (tris : List Tr
   pub each : length places ≡ count
   pub reached : (p : ℕ) → p < count → (f : Listed) → funnel_at tree (at_place order p) ≡ Some f
       → IsThirdFrom corners start tris order p f (slice_index places p)
+
+-- the tree as far as it has grown
+abbrev pub tree_of : Growth → NamedTree
+tree_of g = record { before = g.before.items; funnels = g.funnels.items }
+
+-- it has grown over these triangles and has these places, with room for those of all
+pub record HasGrown (corners : List Point) (start : Point) (tris : List Tri) (order : List Outward) (count : ℕ) (g : Growth) : Type 0 where
+  pub over : IsGrownOver corners start tris order count (tree_of g)
+  pub thirds : AreThirdPlaces corners start tris order count (tree_of g) g.thirds.items
+  pub room : length order ≤ vec_capacity g.thirds
+
+-- it has grown over those before place p, where there is one more
+pub record CanGoOn (corners : List Point) (start : Point) (tris : List Tri) (order : List Outward) (p : ℕ) (g : Growth) : Type 0 where
+  pub from : IsFromStart corners start tris order
+  pub later : 0 < p
+  pub within : p < length order
+  pub grown : HasGrown corners start tris order p g

@@ -7,7 +7,7 @@ ghost use Rattle.exact_plane.specs.Spot.{IsNamed, point_named};
 ghost use Rattle.shared_seq.specs.Digits.{binary_digits};
 ghost use Rattle.shared_funnel.specs.Entered.{IsFromStart, IsFunnelTo};
 ghost use Rattle.path_tree.specs.Grown.{IsFromNamed};
-ghost use Rattle.path_tree.specs.Growing.{AreThirdPlaces, IsGrownOver};
+ghost use Rattle.path_tree.specs.Growing.{CanGoOn, HasGrown};
 
 use crate::onward::{funnel_from, place_of_third};
 use exact_plane::{Memory, Spot, Steps, Turns};
@@ -35,10 +35,7 @@ impl Growth {
         steps: &mut Steps<L>,
     ) -> Result<Growth, Memory>
         requires { IsFromStart (T.corners board.now) (T.start board.now) mesh.now order.now }
-        ensures grown { IfOk result (λ growth. IsGrownOver (T.corners board.now) (T.start board.now) mesh.now order.now 1
-            (record { before = growth.before.items; funnels = growth.funnels.items })) }
-        ensures thirds { IfOk result (λ growth. AreThirdPlaces (T.corners board.now) (T.start board.now) mesh.now order.now 1
-            (record { before = growth.before.items; funnels = growth.funnels.items }) growth.thirds.items) }
+        ensures grown { IfOk result (HasGrown (T.corners board.now) (T.start board.now) mesh.now order.now 1) }
         ensures steps { steps.new ≤ steps.old + 3 }
     {
         let count = mesh.count() as usize;
@@ -46,7 +43,7 @@ impl Growth {
         let funnels = none_each(alloc, count)?;
         // The home has no funnel, so no place in one.
         let mut thirds = Vec::with_capacity(alloc, count)?;
-        thirds.push(0)?;
+        thirds.push_reserved(0);
         let tri = mesh.tri(order[0].tri);
         for corner in [tri.a, tri.b, tri.c] {
             before[corner as usize] = straight(board, Spot::Corner(corner), steps);
@@ -69,23 +66,14 @@ impl Growth {
         p: usize,
         steps: &mut Steps<L>,
     ) -> Result<(), Memory>
-        requires start { IsFromStart (T.corners board.now) (T.start board.now) mesh.now order.now }
-        requires later { 0 < p }
-        requires within { p < length order.now }
-        requires grown { IsGrownOver (T.corners board.now) (T.start board.now) mesh.now order.now p
-            (record { before = self.old.before.items; funnels = self.old.funnels.items }) }
-        requires thirds { AreThirdPlaces (T.corners board.now) (T.start board.now) mesh.now order.now p
-            (record { before = self.old.before.items; funnels = self.old.funnels.items }) self.old.thirds.items }
-        ensures grown { OnOk result (IsGrownOver (T.corners board.now) (T.start board.now) mesh.now order.now (p + 1)
-            (record { before = self.new.before.items; funnels = self.new.funnels.items })) }
-        ensures thirds { OnOk result (AreThirdPlaces (T.corners board.now) (T.start board.now) mesh.now order.now (p + 1)
-            (record { before = self.new.before.items; funnels = self.new.funnels.items }) self.new.thirds.items) }
+        requires { CanGoOn (T.corners board.now) (T.start board.now) mesh.now order.now p self.old }
+        ensures grown { OnOk result (HasGrown (T.corners board.now) (T.start board.now) mesh.now order.now (p + 1) self.new) }
         ensures steps { let b = binary_digits (length (T.corners board.now)) in steps.new ≤ steps.old + 200 * (b * b) }
     {
         let funnel = self.next_funnel(alloc, board, mesh, order, p, steps)?;
         let place = place_of_third(board, mesh, order, p, &funnel, steps);
         let near = spot(funnel.number(place, steps), mesh.count() + 2);
-        self.thirds.push(place)?;
+        self.thirds.push_reserved(place);
         self.before[door_of(mesh, order[p]).third as usize] = Some(near);
         self.funnels[order[p].tri as usize] = Some(funnel);
         Ok(())
@@ -101,13 +89,7 @@ impl Growth {
         p: usize,
         steps: &mut Steps<L>,
     ) -> Result<Funnel, Memory>
-        requires start { IsFromStart (T.corners board.now) (T.start board.now) mesh.now order.now }
-        requires later { 0 < p }
-        requires within { p < length order.now }
-        requires grown { IsGrownOver (T.corners board.now) (T.start board.now) mesh.now order.now p
-            (record { before = self.now.before.items; funnels = self.now.funnels.items }) }
-        requires thirds { AreThirdPlaces (T.corners board.now) (T.start board.now) mesh.now order.now p
-            (record { before = self.now.before.items; funnels = self.now.funnels.items }) self.now.thirds.items }
+        requires { CanGoOn (T.corners board.now) (T.start board.now) mesh.now order.now p self.now }
         ensures funnel { IfOk result (IsFunnelTo (T.corners board.now) (T.start board.now) mesh.now order.now p) }
         ensures steps { let b = binary_digits (length (T.corners board.now)) in steps.new ≤ steps.old + 160 * (b + 1) }
     {

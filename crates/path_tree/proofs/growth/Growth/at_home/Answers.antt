@@ -1,12 +1,13 @@
-use Rattle.std.proofs.Common.{sym, ap, subst, ◌∙◌, ◌+◌, None, length, slice_index, slice_index_or, arith}
+use Rattle.std.proofs.Common.{sym, ap, subst, ◌∙◌, ◌≡◌, ◌+◌, ◌++◌, ◌∷◌, [], None, length, slice_index, slice_index_or, arith}
 use Rattle.std.proofs.lemmas.List.{get_or-replicate, length-replicate, length-set}
 use Rattle.meshes.proofs.Sides.{two_fewer}
 use Rattle.tri_mesh.specs.Outward.{outward_at}
 use Rattle.shared_funnel.proofs.TriCorners.{corner_place, corner_read, corners_of, read_below}
 use Rattle.shared_funnel.specs.Entered.{HasCorner}
-use Rattle.path_tree.proofs.GrownOver.{grown_at_home}
+use Rattle.path_tree.proofs.GrownOver.{grown_at_home, thirds_at_home}
 use Rattle.path_tree.proofs.Parents.{HasParent, home_parent, parents_more}
 use Rattle.path_tree.proofs.growth.Growth.at_home.Goals as goal
+use Rattle.path_tree.specs.Grown.{NamedTree, funnel_at}
 
 pub tri-tri-requires : goal.tri-tri-requires
 tri-tri-requires g c = c.requires.outward.in_list 0 c.requires.some
@@ -61,13 +62,18 @@ returns-clause-grown g c =
     let tris = c.args.mesh.now in
     let home = (outward_at c.args.order.now 0).tri in
     let in_list = c.requires.outward.in_list 0 c.requires.some in
-    grown_at_home corners start tris c.args.order.now c.requires
-    (record { before = c.loop-corner.before.items; funnels = c.in_ok-funnels.funnels.items })
-    c.loop-corner.invariant.vertices
-    (ap length c.in_ok-funnels.ensures ∙ length-replicate c.count-count.result None ∙ c.count-count.ensures.number)
-    (λ i has.
-    let (k, less, is) = corner_place c.tri-tri.result i (subst (λ t. HasCorner t i) (sym c.tri-tri.ensures) has) in
-    subst (HasParent corners start c.loop-corner.before.items) is
-    (c.loop-corner.invariant.parents k (omega (arith, less, c.loop-corner-test.false))))
-    (ap (λ fs. slice_index_or fs home None) c.in_ok-funnels.ensures
-    ∙ get_or-replicate c.count-count.result home None None (omega (arith, in_list, c.count-count.ensures.number)))
+    let tree : NamedTree = record { before = c.loop-corner.before.items; funnels = c.in_ok-funnels.funnels.items } in
+    let none : funnel_at tree home ≡ None =
+    ap (λ fs. slice_index_or fs home None) c.in_ok-funnels.ensures
+    ∙ get_or-replicate c.count-count.result home None None (omega (arith, in_list, c.count-count.ensures.number)) in
+    record {
+      over = grown_at_home corners start tris c.args.order.now c.requires tree c.loop-corner.invariant.vertices
+          (ap length c.in_ok-funnels.ensures ∙ length-replicate c.count-count.result None ∙ c.count-count.ensures.number)
+          (λ i has.
+          let (k, less, is) = corner_place c.tri-tri.result i (subst (λ t. HasCorner t i) (sym c.tri-tri.ensures) has) in
+          subst (HasParent corners start c.loop-corner.before.items) is
+          (c.loop-corner.invariant.parents k (omega (arith, less, c.loop-corner-test.false)))) none;
+      thirds = thirds_at_home corners start tris c.args.order.now c.requires tree none 0 _
+          (c.push_reserved.ensures.items ∙ ap (λ l. l ++ 0 ∷ []) c.in_ok-thirds.ensures.items);
+      room = omega (arith, c.push_reserved.ensures.capacity, c.in_ok-thirds.ensures.exact, c.count-count.ensures.number, c.requires.outward.count);
+    }

@@ -12,27 +12,28 @@ use Rattle.path_tree.proofs.NamedPoints.{third_named}
 use Rattle.path_tree.proofs.TreeSteps.{triangle_steps}
 use Rattle.path_tree.proofs.growth.Growth.go_on.Goals as goal
 use Rattle.path_tree.specs.Grown.{IsFromNamed}
+use Rattle.path_tree.specs.Growing.{tree_of}
 
 pub returns-in_err-funnel-clause-steps : goal.returns-in_err-funnel-clause-steps
 returns-in_err-funnel-clause-steps g c =
     let corners = g.T.Turns.corners c.args.board.now in
-    let three = later_digits corners (g.T.Turns.start c.args.board.now) c.args.mesh.now c.args.order.now c.requires.start c.args.p
+    let three = later_digits corners (g.T.Turns.start c.args.board.now) c.args.mesh.now c.args.order.now c.requires.from c.args.p
     c.requires.later c.requires.within in
     omega (arith, c.next_funnel.ensures.steps, triangle_steps (binary_digits (length corners)) three)
 
 pub index_mut-requires : goal.index_mut-requires
 index_mut-requires g c =
     let corners = g.T.Turns.corners c.args.board.now in
-    let below = third_below corners (g.T.Turns.start c.args.board.now) c.args.mesh.now c.args.order.now c.requires.start c.args.p
+    let below = third_below corners (g.T.Turns.start c.args.board.now) c.args.mesh.now c.args.order.now c.requires.from c.args.p
     c.requires.later c.requires.within in
-    omega (arith, below, c.door_of.ensures.third, c.requires.grown.vertices, c.args.self.now.before.ok.0)
+    omega (arith, below, c.door_of.ensures.third, c.requires.grown.over.vertices, c.args.self.now.before.ok.0)
 
 pub index_mut-requires-2 : goal.index_mut-requires-2
 index_mut-requires-2 g c =
     omega (
       arith,
-      c.requires.start.outward.in_list c.args.p c.requires.within,
-      c.requires.grown.triangles,
+      c.requires.from.outward.in_list c.args.p c.requires.within,
+      c.requires.grown.over.triangles,
       c.args.self.now.funnels.ok.0,
     )
 
@@ -42,7 +43,7 @@ returns-clause-grown g c =
     let start = g.T.Turns.start c.args.board.now in
     let tris = c.args.mesh.now in
     let order = c.args.order.now in
-    let from = c.requires.start in
+    let from = c.requires.from in
     let p = c.args.p in
     let f = c.in_ok-funnel.funnel in
     let w = c.in_ok-funnel.ensures.funnel in
@@ -55,48 +56,24 @@ returns-clause-grown g c =
     (c.count.result + 2) c.number.result c.spot-near.result count number c.spot-near.ensures.corner
     c.spot-near.ensures.start (at_place order p) (third_of tris order p)
     (beyond_at corners start tris order from p c.requires.later c.requires.within) reached in
-    grown_more corners start tris order from p c.requires.later c.requires.within
-    (record { before = c.args.self.now.before.items; funnels = c.args.self.now.funnels.items }) c.requires.grown c.door_of.result.third
-    (Some c.spot-near.result) f c.door_of.ensures.third
-    (subst (λ m. IsFromNamed corners start (vertex corners m) (Some c.spot-near.result)) (sym c.door_of.ensures.third) named) w
-
-pub returns-clause-thirds : goal.returns-clause-thirds
-returns-clause-thirds g c =
-    let corners = g.T.Turns.corners c.args.board.now in
-    let start = g.T.Turns.start c.args.board.now in
-    let tris = c.args.mesh.now in
-    let order = c.args.order.now in
-    let p = c.args.p in
-    rw c.in_ok-push.ensures.items
-    (thirds_more corners start tris order c.requires.start p c.requires.later c.requires.within
-    (record { before = c.args.self.now.before.items; funnels = c.args.self.now.funnels.items }) c.requires.grown c.args.self.now.thirds.items
-    c.requires.thirds c.door_of.result.third (Some c.spot-near.result) c.in_ok-funnel.funnel c.place_of_third-place.result
-    c.place_of_third-place.ensures.reached)
-
-pub returns-in_err-push-clause-steps : goal.returns-in_err-push-clause-steps
-returns-in_err-push-clause-steps g c =
-    let corners = g.T.Turns.corners c.args.board.now in
-    let f = c.in_ok-funnel.funnel in
-    let three = later_digits corners (g.T.Turns.start c.args.board.now) c.args.mesh.now c.args.order.now c.requires.start c.args.p
-    c.requires.later c.requires.within in
-    let few = few_digits corners (g.T.Turns.start c.args.board.now) c.args.mesh.now c.args.order.now c.requires.start c.args.p f
-    c.requires.within c.in_ok-funnel.ensures.funnel in
-    omega (
-      arith,
-      c.next_funnel.ensures.steps,
-      c.place_of_third-place.ensures.steps,
-      c.number.ensures.steps,
-      triangle_steps (binary_digits (length corners)) three,
-      few.0,
-    )
+    let grown = c.requires.grown in
+    record {
+      over = grown_more corners start tris order from p c.requires.later c.requires.within (tree_of c.args.self.now) grown.over c.door_of.result.third
+          (Some c.spot-near.result) f c.door_of.ensures.third
+          (subst (λ m. IsFromNamed corners start (vertex corners m) (Some c.spot-near.result)) (sym c.door_of.ensures.third) named) w;
+      thirds = rw c.push_reserved.ensures.items
+          (thirds_more corners start tris order from p c.requires.later c.requires.within (tree_of c.args.self.now) grown.over c.args.self.now.thirds.items grown.thirds
+          c.door_of.result.third (Some c.spot-near.result) f c.place_of_third-place.result reached);
+      room = omega (arith, grown.room, c.push_reserved.ensures.capacity);
+    }
 
 pub returns-clause-steps : goal.returns-clause-steps
 returns-clause-steps g c =
     let corners = g.T.Turns.corners c.args.board.now in
     let f = c.in_ok-funnel.funnel in
-    let three = later_digits corners (g.T.Turns.start c.args.board.now) c.args.mesh.now c.args.order.now c.requires.start c.args.p
+    let three = later_digits corners (g.T.Turns.start c.args.board.now) c.args.mesh.now c.args.order.now c.requires.from c.args.p
     c.requires.later c.requires.within in
-    let few = few_digits corners (g.T.Turns.start c.args.board.now) c.args.mesh.now c.args.order.now c.requires.start c.args.p f
+    let few = few_digits corners (g.T.Turns.start c.args.board.now) c.args.mesh.now c.args.order.now c.requires.from c.args.p f
     c.requires.within c.in_ok-funnel.ensures.funnel in
     omega (
       arith,

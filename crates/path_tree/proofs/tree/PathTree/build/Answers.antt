@@ -5,7 +5,7 @@ use Rattle.shared_funnel.proofs.StepCounts.{home_steps}
 use Rattle.path_tree.proofs.GrownOver.{grown_at_end}
 use Rattle.path_tree.proofs.TreeSteps.{tree_steps}
 use Rattle.path_tree.proofs.tree.PathTree.build.Goals as goal
-use Rattle.path_tree.specs.Growing.{AreThirdPlaces, IsGrownOver}
+use Rattle.path_tree.specs.Growing.{HasGrown, tree_of}
 
 pub returns-in_err-growth-clause-steps : goal.returns-in_err-growth-clause-steps
 returns-in_err-growth-clause-steps g c =
@@ -19,12 +19,8 @@ loop-p-init g c =
     let count = two_fewer corners c.args.mesh.now c.requires.fits in
     record {
       later = omega arith;
-      grown = subst (λ order. IsGrownOver corners (g.T.Turns.start c.args.board.now) c.args.mesh.now order 1
-          (record { before = c.in_ok-growth.growth.before.items; funnels = c.in_ok-growth.growth.funnels.items })) c.deref.ensures.value
+      grown = subst (λ order. HasGrown corners (g.T.Turns.start c.args.board.now) c.args.mesh.now order 1 c.in_ok-growth.growth) c.deref.ensures.value
           c.in_ok-growth.ensures.grown;
-      thirds = subst (λ order. AreThirdPlaces corners (g.T.Turns.start c.args.board.now) c.args.mesh.now order 1
-          (record { before = c.in_ok-growth.growth.before.items; funnels = c.in_ok-growth.growth.funnels.items })
-          c.in_ok-growth.growth.thirds.items) c.deref.ensures.value c.in_ok-growth.ensures.thirds;
       steps = omega (arith, c.at_home.ensures.steps, home_steps (length corners) (omega (arith, count)));
     }
 
@@ -43,12 +39,8 @@ loop-p-preserved g c =
     let before = c.loop-p.invariant in
     record {
       later = omega arith;
-      grown = subst (λ order. IsGrownOver corners (g.T.Turns.start c.args.board.now) c.args.mesh.now order (c.loop-p.p + 1)
-          (record { before = c.go_on.new.self.before.items; funnels = c.go_on.new.self.funnels.items })) c.deref-in-loop-p.ensures.value
-          c.in_ok-go_on.ensures.grown;
-      thirds = subst (λ order. AreThirdPlaces corners (g.T.Turns.start c.args.board.now) c.args.mesh.now order (c.loop-p.p + 1)
-          (record { before = c.go_on.new.self.before.items; funnels = c.go_on.new.self.funnels.items }) c.go_on.new.self.thirds.items)
-          c.deref-in-loop-p.ensures.value c.in_ok-go_on.ensures.thirds;
+      grown = subst (λ order. HasGrown corners (g.T.Turns.start c.args.board.now) c.args.mesh.now order (c.loop-p.p + 1) c.go_on.new.self)
+          c.deref-in-loop-p.ensures.value c.in_ok-go_on.ensures.grown;
       steps = omega (arith, before.steps, c.go_on.ensures.steps);
     }
 
@@ -61,18 +53,18 @@ invariant_of-result g c =
       tris = c.args.mesh.now;
       fits = c.requires.fits;
       grown = grown_at_end corners (g.T.Turns.start c.args.board.now) c.args.mesh.now c.args.home c.in_ok-order.order.items c.loop-p.p
-          c.len-p-end.result (record { before = c.loop-p.growth.before.items; funnels = c.loop-p.growth.funnels.items }) c.requires.fits
+          c.len-p-end.result (tree_of c.loop-p.growth) c.requires.fits
           c.requires.home c.requires.start c.in_ok-order.ensures (omega (arith, c.len-p-end.ensures, c.in_ok-order.order.ok.0))
-          c.loop-p-test.false c.loop-p.auto.p-end c.loop-p.invariant.grown;
+          c.loop-p-test.false c.loop-p.auto.p-end c.loop-p.invariant.grown.over;
     }
 
 pub returns-clause-grown : goal.returns-clause-grown
 returns-clause-grown g c =
     let corners = g.T.Turns.corners c.args.board.now in
     grown_at_end corners (g.T.Turns.start c.args.board.now) c.args.mesh.now c.args.home c.in_ok-order.order.items c.loop-p.p
-    c.len-p-end.result (record { before = c.loop-p.growth.before.items; funnels = c.loop-p.growth.funnels.items }) c.requires.fits
+    c.len-p-end.result (tree_of c.loop-p.growth) c.requires.fits
     c.requires.home c.requires.start c.in_ok-order.ensures (omega (arith, c.len-p-end.ensures, c.in_ok-order.order.ok.0))
-    c.loop-p-test.false c.loop-p.auto.p-end c.loop-p.invariant.grown
+    c.loop-p-test.false c.loop-p.auto.p-end c.loop-p.invariant.grown.over
 
 pub returns-clause-steps : goal.returns-clause-steps
 returns-clause-steps g c =
