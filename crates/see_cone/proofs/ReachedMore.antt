@@ -8,6 +8,7 @@ use Rattle.std.specs.Prelude.{Option}
 use Rattle.plane.specs.Point.{Point, whole}
 use Rattle.rings.specs.Ring.{vertex}
 use Rattle.meshes.proofs.Cones.{cone_beyond, home_cone}
+use Rattle.meshes.proofs.Sides.{ends_below}
 use Rattle.meshes.specs.Cone.{Cone, IsConeOf, narrowed}
 use Rattle.meshes.specs.Fits.{Fits, IsInTri, IsSideOfOne}
 use Rattle.meshes.specs.Mesh.{side_begin, side_end}
@@ -68,6 +69,14 @@ module _ (corners : List Point) (tris : List Tri) (fits : Fits corners tris) (q 
 
     pub home_below : home < length tris
     home_below = (are.at_places 0 are.some).in_list
+
+    -- the ends of the sides of each are corners
+    pub side_below : (p : ℕ) → p < length reached → (side : ℕ) → side < 3
+        → (let t = tri_at tris (tri_there reached p) in (side_begin t side < length corners) × (side_end t side < length corners))
+    side_below p h side few =
+        let k = tri_there reached p in
+        let t = tri_at tris k in
+        ends_below corners tris fits k (side_begin t side) (side_end t side) (are.at_places p h).in_list (has_side_numbered t side few)
 
     -- a higher bound
     pub reached_above : (above : ℕ) → bound ≤ above → AreReached corners tris q reached above

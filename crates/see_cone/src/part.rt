@@ -1,4 +1,4 @@
-ghost use Rattle.std.specs.Prelude.{◌≡◌, ◌+◌, ◌%◌, ◌<◌, ◌≤◌, OnOk, length};
+ghost use Rattle.std.specs.Prelude.{◌≡◌, ◌+◌, ◌<◌, ◌≤◌, OnOk, length};
 ghost use Rattle.plane.specs.Point.{whole};
 ghost use Rattle.meshes.specs.Cone.{IsPartEnd};
 ghost use Rattle.see_cone.specs.Told.{AreFirstParts, IsConeTold};
@@ -44,8 +44,7 @@ pub(crate) fn push_part<L: Ledger>(
     ensures parts { OnOk result (AreFirstParts ring.now.corners (whole q.now) (i + 1) parts.new.items) }
     ensures steps { steps.new ≤ steps.old + 9 }
 {
-    let n = ring.len();
-    let (r, l) = (ring.corner(i), ring.corner((i + 1) % n));
+    let (r, l) = (ring.corner(i), ring.next(i));
     match narrowed(q, cone, &l, &r, steps) {
         Some(cone) => Ok(parts.push(part_through(i, &r, &l, q, &cone, steps))?),
         None => Ok(()),

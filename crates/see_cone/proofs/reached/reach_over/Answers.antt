@@ -1,35 +1,23 @@
 use Rattle.std.proofs.Common.{◌≡◌, ◌+◌, refl, length-append, [], ◌∷◌, arith}
 use Rattle.std.proofs.lemmas.List.{get_or_read}
-use Rattle.meshes.proofs.Sides.{ends_below}
-use Rattle.meshes.specs.Mesh.{side_begin, side_end}
-use Rattle.meshes.specs.Side.{tri_at}
-use Rattle.tri_mesh.proofs.Neighbours.{has_side_numbered}
-use Rattle.see_cone.proofs.ReachedMore.{back_done, none_done, over_done, over_grown, over_reached}
+use Rattle.see_cone.proofs.ReachedMore.{back_done, none_done, over_done, over_grown, over_reached, side_below}
 use Rattle.see_cone.proofs.reached.reach_over.Goals as goal
 use Rattle.see_cone.specs.Reached.{IsAcrossSide, reached_at, tri_there}
 use Rattle.see_cone.specs.declared.reached.Reached.{Reached}
 
 pub corner-requires : goal.corner-requires
 corner-requires g c =
-    let reached = c.args.reached.now.items in
-    let p = c.args.place in
-    let here : c.index.result.now ≡ reached_at reached p = get_or_read reached p c.index.result.now c.requires.place c.index.ensures _ in
-    let k = tri_there reached p in
-    let t = tri_at c.args.mesh.now k in
+    let here = get_or_read c.args.reached.now.items c.args.place c.index.result.now c.requires.place c.index.ensures _ in
     rw (c.side_ends-begin.ensures.end, c.tri.ensures, here)
-    (ends_below c.args.ring.now.corners c.args.mesh.now c.requires.fits k (side_begin t c.args.side) (side_end t c.args.side)
-    (c.requires.reached.at_places p c.requires.place).in_list (has_side_numbered t c.args.side c.requires.side)).1
+    (side_below c.args.ring.now.corners c.args.mesh.now c.requires.fits c.args.q.now c.args.reached.now.items (c.args.place + 1) c.requires.reached
+    c.args.place c.requires.place c.args.side c.requires.side).1
 
 pub corner-requires-then-tri-here : goal.corner-requires-then-tri-here
 corner-requires-then-tri-here g c =
-    let reached = c.args.reached.now.items in
-    let p = c.args.place in
-    let here : c.index.result.now ≡ reached_at reached p = get_or_read reached p c.index.result.now c.requires.place c.index.ensures _ in
-    let k = tri_there reached p in
-    let t = tri_at c.args.mesh.now k in
+    let here = get_or_read c.args.reached.now.items c.args.place c.index.result.now c.requires.place c.index.ensures _ in
     rw (c.side_ends-begin.ensures.begin, c.tri.ensures, here)
-    (ends_below c.args.ring.now.corners c.args.mesh.now c.requires.fits k (side_begin t c.args.side) (side_end t c.args.side)
-    (c.requires.reached.at_places p c.requires.place).in_list (has_side_numbered t c.args.side c.requires.side)).0
+    (side_below c.args.ring.now.corners c.args.mesh.now c.requires.fits c.args.q.now c.args.reached.now.items (c.args.place + 1) c.requires.reached
+    c.args.place c.requires.place c.args.side c.requires.side).0
 
 pub returns-in_ok-push-in-Some : goal.returns-in_ok-push-in-Some
 returns-in_ok-push-in-Some g c =
