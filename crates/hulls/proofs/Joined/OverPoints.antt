@@ -104,30 +104,33 @@ module _ (ring : List Point) (some : 3 ≤ length ring) (simple : IsSimple ring)
       (on_path_of_bent ring one other some simple taut.bent taut_too.bent step.more step_too.more (taut_too.first ∙ sym taut.first) a b
       taut.last taut_too.last moved)
 
-  module _ (v b q : Point) (step : IsFirstStep ring v b q) where
-    -- a chain with bends from v to b goes first where the path does
-    chain_steps : (chain : List Point) → IsBentChain ring chain → point_at chain 0 ≡ v → last_of chain ≡ b → point_at chain 1 ≡ q
-    chain_steps chain bent begins ends =
-        let taut = path_is_taut ring v b step.path step.is_path in
-        let same = one_bent_chain ring some simple chain step.path bent taut.bent (begins ∙ sym taut.first) (ends ∙ sym taut.last) in
-        ap (λ ps. point_at ps 1) same ∙ step.is_next
+  -- from a point on a step of a chain, which is not its end, a chain with bends goes on as that does, to the same end
+  pub rest_from : (chain : List Point) → IsBentChain ring chain → (v : Point) (k : ℕ) → k + 1 < length chain
+      → On (whole v) (whole (point_at chain k)) (whole (point_at chain (k + 1))) → ¬ (v ≡ point_at chain (k + 1))
+      → (let rest = v ∷ drop (k + 1) chain in IsBentChain ring rest × (last_of rest ≡ last_of chain))
+  rest_from chain bent v k h on differ =
+      let rest = drop (k + 1) chain in
+      let from_v = v ∷ [] in
+      let count = length-drop (k + 1) chain in
+      let alone = one_bent ring v (bent.chain.sees k h (whole v) (whole_is_point v) on) in
+      let there = rest_bent ring chain bent (k + 1) h in
+      let on_to = goes_on_step ring chain bent v k h on differ in
+      let back : GoesOnTo ring (point_at rest 0) from_v = record {
+        differ = λ e. on_to.differ (sym e);
+        sees = sees_back ring v (point_at rest 0) on_to.sees;
+        bend = λ more. absurd (omega arith);
+      } in (
+        over_bent ring from_v rest alone there on_to back,
+        over_ends ring from_v rest alone there on_to back ∙ rest_at chain (k + 1) (length rest - 1) (length chain - 1) (omega arith),
+      )
 
-    -- so from a point on a step of a chain the path to its end goes first to where that step ends
+  module _ (v b q : Point) (step : IsFirstStep ring v b q) where
+    -- so from such a point the path to the end goes first to where the step ends
     pub step_along : (chain : List Point) → IsBentChain ring chain → last_of chain ≡ b → (k : ℕ) → k + 1 < length chain
         → On (whole v) (whole (point_at chain k)) (whole (point_at chain (k + 1))) → ¬ (v ≡ point_at chain (k + 1)) → point_at chain (k + 1) ≡ q
     step_along chain bent ends k h on differ =
-        let rest = drop (k + 1) chain in
-        let from_v = v ∷ [] in
-        let count = length-drop (k + 1) chain in
-        let alone = one_bent ring v (bent.chain.sees k h (whole v) (whole_is_point v) on) in
-        let there = rest_bent ring chain bent (k + 1) h in
-        let on_to = goes_on_step ring chain bent v k h on differ in
-        let back : GoesOnTo ring (point_at rest 0) from_v = record {
-          differ = λ e. on_to.differ (sym e);
-          sees = sees_back ring v (point_at rest 0) on_to.sees;
-          bend = λ more. absurd (omega arith);
-        } in
-        let end = rest_at chain (k + 1) (length rest - 1) (length chain - 1) (omega arith) in
-        sym (rest_at chain (k + 1) 0 (k + 1) (omega arith))
-        ∙ chain_steps (v ∷ rest) (over_bent ring from_v rest alone there on_to back) refl
-        (over_ends ring from_v rest alone there on_to back ∙ end ∙ ends)
+        let taut = path_is_taut ring v b step.path step.is_path in
+        let (bent_rest, rest_ends) = rest_from chain bent v k h on differ in
+        let same = one_bent_chain ring some simple (v ∷ drop (k + 1) chain) step.path bent_rest taut.bent (sym taut.first)
+        (rest_ends ∙ ends ∙ sym taut.last) in
+        sym (rest_at chain (k + 1) 0 (k + 1) (omega arith)) ∙ ap (λ ps. point_at ps 1) same ∙ step.is_next

@@ -1,20 +1,17 @@
 -- A path read backward is the path back; and a point on a path is on one step of it, that with the number of the last step of the path to
 -- the point.
-use Rattle.std.proofs.Common.{◌≡◌, ◌≢◌, inl, inr, sym, ap, ◌∙◌, ℕ, ◌+◌, ◌-◌, ◌<◌, ◌≤◌, List, [], ◌∷◌, length, reverse, drop, arith}
+use Rattle.std.proofs.Common.{◌≡◌, ◌≢◌, inl, inr, sym, ap, ◌∙◌, ℕ, ◌+◌, ◌-◌, ◌<◌, ◌≤◌, List, ◌∷◌, length, reverse, drop, arith}
 use Rattle.std.proofs.lemmas.Bool.{cases_lt}
 use Rattle.std.proofs.lemmas.List.{length-drop, length-reverse}
 use Rattle.plane.proofs.Order.{point_or_other}
-use Rattle.plane.proofs.Points.{whole_is_point}
 use Rattle.plane.proofs.Segments.{on_last_end, on_reversed}
 use Rattle.plane.specs.Point.{Point, whole}
 use Rattle.plane.specs.Segment.{On}
 use Rattle.rings.specs.Chain.{IsBentChain, IsPath, point_at}
 use Rattle.rings.specs.Simple.{IsSimple}
-use Rattle.funnels.proofs.OneChain.{bent_is_path, last_of, one_bent_chain}
-use Rattle.funnels.proofs.Chains.{one_bent}
-use Rattle.hulls.proofs.Joined.ChainsOver.{GoesOnTo, goes_on_step, over_bent, over_ends}
-use Rattle.hulls.proofs.Joined.OverPoints.{path_is_taut}
-use Rattle.hulls.proofs.Joined.PartChains.{back_at, back_bent, rest_at, rest_bent, sees_back}
+use Rattle.funnels.proofs.OneChain.{last_of, one_bent_chain}
+use Rattle.hulls.proofs.Joined.OverPoints.{path_is_taut, rest_from}
+use Rattle.hulls.proofs.Joined.PartChains.{back_at, back_bent, rest_at, rest_bent}
 
 module _ (ring : List Point) (some : 3 ≤ length ring) (simple : IsSimple ring) where
   -- ---- the step of a point on a path
@@ -25,22 +22,9 @@ module _ (ring : List Point) (some : 3 ≤ length ring) (simple : IsSimple ring)
     rest_within : On (whole v) (whole (point_at chain k)) (whole (point_at chain (k + 1))) → ¬ (v ≡ point_at chain (k + 1))
         → length way + k ≡ length chain
     rest_within on differ =
-        let rest = drop (k + 1) chain in
-        let from_v = v ∷ [] in
-        let count = length-drop (k + 1) chain in
-        let alone = one_bent ring v (bent.chain.sees k h (whole v) (whole_is_point v) on) in
-        let there = rest_bent ring chain bent (k + 1) h in
-        let on_to = goes_on_step ring chain bent v k h on differ in
-        let back : GoesOnTo ring (point_at rest 0) from_v = record {
-          differ = λ e. on_to.differ (sym e);
-          sees = sees_back ring v (point_at rest 0) on_to.sees;
-          bend = λ more. absurd (omega arith);
-        } in
-        let end = rest_at chain (k + 1) (length rest - 1) (length chain - 1) (omega arith) in
-        let same = one_bent_chain ring some simple way (v ∷ rest) bent_way (over_bent ring from_v rest alone there on_to back) begins
-        (ends ∙ sym (over_ends ring from_v rest alone there on_to back ∙ end)) in
-        let long = ap length same in
-        omega (arith, count, long, h)
+        let (bent_rest, rest_ends) = rest_from ring some simple chain bent v k h on differ in
+        let long = ap length (one_bent_chain ring some simple way (v ∷ drop (k + 1) chain) bent_way bent_rest begins (ends ∙ sym rest_ends)) in
+        omega (arith, length-drop (k + 1) chain, long, h)
 
     -- and so it does from the end of the step
     rest_after : v ≡ point_at chain (k + 1) → length way + (k + 1) ≡ length chain
