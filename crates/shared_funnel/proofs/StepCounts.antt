@@ -1,4 +1,4 @@
--- How many steps it takes to make a funnel: pushes on a list of one or two numbers, and a split with a push. Digits of few corners.
+-- How many steps it takes to make a funnel: pushes on a list of one or two numbers. Digits of few corners.
 use Rattle.std.proofs.Common.{◌≡◌, refl, List, length, ℕ, ◌+◌, ◌*◌, ◌≤◌, arith}
 use Rattle.std.proofs.lemmas.Nat.{mul-le}
 use Rattle.shared_seq.proofs.Digits.{binary_digits-le, binary_digits_mono}
@@ -7,17 +7,6 @@ use Rattle.shared_seq.specs.Digits.{binary_digits}
 -- a list of two numbers or fewer has at most two digits with one number more
 pub few_digits : (list : List ℕ) → length list ≤ 2 → binary_digits (length list + 1) ≤ 2
 few_digits list few = binary_digits-le 2 (length list + 1) (omega (arith, few))
-
--- a split of a list, as long as it is seen, and a push on a part of it
-pub next_steps : (n seen part old split pushed : ℕ) → n ≡ seen → part ≤ n → split ≤ old + 128 * (binary_digits n + 1)
-    → pushed ≤ split + 32 * (binary_digits (part + 1) + 1) → pushed ≤ old + 160 * (binary_digits (seen + 1) + 1)
-next_steps n seen part old split pushed same fewer of_split of_push = omega (
-  arith,
-  of_split,
-  of_push,
-  binary_digits_mono n (seen + 1) (omega (arith, same)),
-  binary_digits_mono (part + 1) (seen + 1) (omega (arith, same, fewer)),
-)
 
 -- some corners have a digit or more, and four or more have three
 one_has : binary_digits 1 ≡ 1

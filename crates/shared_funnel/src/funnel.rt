@@ -160,10 +160,8 @@ impl Funnel {
         ensures funnel { IfOk result (λ f. IsNextFunnel self.now place m (λ i j. (i, m)) f) }
         ensures steps { steps.new ≤ steps.old + 160 * (binary_digits (length self.now.list + 1) + 1) }
     {
-        let front = self.list.take(alloc, place + 1, steps)?;
-        let list = front.push_back(alloc, m, steps)?;
         Ok(Funnel {
-            list,
+            list: self.list.take_then(alloc, place + 1, m, steps)?,
             apex: self.apex.min(place as u32),
         })
     }
@@ -183,10 +181,8 @@ impl Funnel {
         ensures funnel { IfOk result (λ f. IsNextFunnel self.now place m (λ i j. (m, j)) f) }
         ensures steps { steps.new ≤ steps.old + 160 * (binary_digits (length self.now.list + 1) + 1) }
     {
-        let rest = self.list.skip(alloc, place, steps)?;
-        let list = rest.push_front(alloc, m, steps)?;
         Ok(Funnel {
-            list,
+            list: self.list.then_skip(alloc, place, m, steps)?,
             apex: self.apex.saturating_sub(place as u32) + 1,
         })
     }

@@ -1,24 +1,24 @@
 -- How high a balanced tree is beside the number of its values.
-use Rattle.std.proofs.Common.{◌≡◌, ℕ, ◌+◌, ◌*◌, ◌^◌, ◌<◌, ◌≤◌, max, [], ◌∷◌, ◌++◌, add_comm, length, inl, inr, arith, length-append}
+use Rattle.std.proofs.Common.{◌≡◌, ℕ, ◌+◌, ◌*◌, ◌^◌, ◌<◌, ◌≤◌, max, ◌∷◌, ◌++◌, add_comm, length, inl, inr, arith, length-append, ◌∙◌}
 use Rattle.std.proofs.Math.Pow.{pow_mono}
 use Rattle.std.proofs.lemmas.Bool.{cases_lt}
-use Rattle.std.proofs.lemmas.Nat.{mul-le, mul-lt, pow-add}
+use Rattle.std.proofs.lemmas.Nat.{mul-le, pow-add}
 use Rattle.shared_seq.specs.Digits.{binary_digits}
 use Rattle.shared_seq.specs.Tree.{DifferByAtMost, IsBalancedTree, Tree, forked}
 use Rattle.shared_seq.proofs.Digits.{binary_digits_enough}
 
-power_below : (h k : ℕ) → 2 ^ h < 2 ^ k → h < k
-power_below h k below = elim (cases_lt h k) [ inl less ↦ less | inr more ↦ absurd (omega (arith, pow_mono more)) ]
+-- a power that is at most the square of one more than a number below another power
+power_at_most : (h n k : ℕ) → n < 2 ^ k → 2 ^ h ≤ (n + 1) * (n + 1) → h ≤ k + k
+power_at_most h n k below full = elim (cases_lt (k + k) h) [
+  | inl more ↦ absurd (omega (arith, pow_mono more, pow-add 2 k k, full, mul-le (n + 1) (n + 1) (2 ^ k) (2 ^ k) (omega (arith, below)) (omega (arith, below))))
+  | inr fewer ↦ fewer
+]
 
-square_below : (m k : ℕ) → m < 2 ^ k → m * m < 2 ^ (k + k)
-square_below m k below = rw (pow-add 2 k k) (mul-lt m m (2 ^ k) (2 ^ k) below below)
-
--- at most twice the number of binary digits, less one
-pub height_digits : (tree : Tree) → IsBalancedTree tree → tree.height + 1 ≤ 2 * binary_digits (length tree.items)
+-- at most twice the number of binary digits
+pub height_digits : (tree : Tree) → IsBalancedTree tree → tree.height ≤ 2 * binary_digits (length tree.items)
 height_digits tree is =
     let b = binary_digits (length tree.items) in
-    let below = square_below (length tree.items) b (binary_digits_enough _) in
-    omega (arith, power_below tree.height (b + b) (omega (arith, is.full, below)))
+    omega (arith, power_at_most tree.height (length tree.items) b (binary_digits_enough _) is.full)
 
 -- a tree with at least as many values beside it
 beside : (h k m n : ℕ) → k ≤ h + 2 → m ≤ n → 2 ^ h ≤ m * m → 2 ^ k ≤ (m + n) * (m + n)
@@ -35,17 +35,16 @@ full_fork h k m n near left right = elim (cases_lt n m) [
   | inr fewer ↦ beside h (max h k + 1) m n (omega (arith, near.0, near.1)) fewer left
 ]
 
-low : (h m : ℕ) → m < 2 ^ 31 → 2 ^ h ≤ m * m → h < 62
-low h m short full = power_below h 62 (omega (arith, square_below m 31 short))
-
-pub leaf_is_tree : (x : ℕ) → IsBalancedTree (record { items = x ∷ []; height = 0 })
-leaf_is_tree x = record { some = omega arith; short = omega arith; full = omega arith; low = omega arith }
-
-pub fork_is_tree : (l r : Tree) → IsBalancedTree l → IsBalancedTree r → DifferByAtMost 1 l.height r.height
-    → length l.items + length r.items < 2 ^ 31 → IsBalancedTree (forked l r)
-fork_is_tree l r left right near few =
-    let both = length-append l.items r.items in
-    let short : length (l.items ++ r.items) < 2 ^ 31 = omega arith in
-    let full : 2 ^ (max l.height r.height + 1) ≤ length (l.items ++ r.items) * length (l.items ++ r.items) =
-    rw both (full_fork l.height r.height (length l.items) (length r.items) near left.full right.full) in
-    record { some = omega (arith, left.some); short = short; full = full; low = low (max l.height r.height + 1) _ short full }
+pub fork_is_tree : (l r : Tree) (v : ℕ) → IsBalancedTree l → IsBalancedTree r → DifferByAtMost 1 l.height r.height
+    → length l.items + length r.items + 1 < 2 ^ 31 → IsBalancedTree (forked l v r)
+fork_is_tree l r v left right near few =
+    let n = length l.items + 1 + length r.items in
+    let both : length (l.items ++ v ∷ r.items) ≡ n = length-append l.items (v ∷ r.items) ∙ omega arith in
+    let short : n < 2 ^ 31 = omega (arith, few) in
+    let sum : length l.items + 1 + (length r.items + 1) ≡ n + 1 = omega arith in
+    let full : 2 ^ (max l.height r.height + 1) ≤ (n + 1) * (n + 1) = rw (← sum) (full_fork l.height r.height (length l.items + 1) (length r.items + 1) near left.full right.full) in
+    record {
+      short = rw both short;
+      full = rw both full;
+      low = omega (arith, power_at_most (max l.height r.height + 1) n 31 short full);
+    }

@@ -1,52 +1,87 @@
--- A list of two parts, one of which has place i, at its own place: the list cut or changed there.
-use Rattle.std.proofs.Common.{◌≡◌, ℕ, suc, ◌+◌, ◌<◌, List, [], ◌∷◌, ◌++◌, length, take, drop, sym, subst, ◌∙◌, ap, append_assoc, append-nil, refl, arith}
+-- A list of two parts with a value between, where one of them is cut or changed at a place.
+use Rattle.std.proofs.Common.{◌≡◌, ◌≢◌, ℕ, suc, ◌+◌, ◌-◌, ◌<◌, ◌≤◌, List, [], ◌∷◌, ◌++◌, length, take, drop, sym, ◌∙◌, ap, append_assoc, length-append, refl, arith}
 use Rattle.std.proofs.Math.Seq.{drop-append-add, take-append-add}
 use Rattle.std.proofs.lemmas.List.{drop-append-le, take-append-le}
+use Rattle.std.proofs.lemmas.List.Edits.{remove-append_left, remove-append_right}
 use Rattle.std.specs.List.{insert, remove}
-use Rattle.shared_seq.specs.Tree.{IsJoinedTree, IsPlaceInPart, IsWay, Tree, beside}
+use Rattle.shared_seq.specs.Tree.{IsGapInPart, IsJoinedTree, IsKeptPart, IsWay, Tree, around}
 use Rattle.shared_seq.specs.declared.side.Side.{Side}
 use Rattle.shared_seq.specs.declared.side.Side.TheVariants.{Left, Right}
 
-module _ (part other : List ℕ) (i at : ℕ) where
-  module _ (place : (at ≡ i) × (i < length part)) where
-    pub take_left : take i (part ++ other) ≡ take at part
-    take_left = rw place.0 (take-append-le i part other (omega (arith, place.1)))
+module _ (part other : List ℕ) (value i at : ℕ) where
+  module _ (place : (at ≡ i) × (i ≤ length part)) where
+    take_before : take i (part ++ value ∷ other) ≡ take at part
+    take_before = rw place.0 (take-append-le i part (value ∷ other) place.1)
 
-    pub drop_left : drop i (part ++ other) ≡ drop at part ++ other
-    drop_left = rw place.0 (drop-append-le i part other (omega (arith, place.1)))
+    drop_before : drop i (part ++ value ∷ other) ≡ drop at part ++ value ∷ other
+    drop_before = rw place.0 (drop-append-le i part (value ∷ other) place.1)
 
-    drop_after_left : drop (suc i) (part ++ other) ≡ drop (suc at) part ++ other
-    drop_after_left = rw place.0 (drop-append-le (suc i) part other (omega (arith, place.1)))
+  module _ (place : i ≡ length other + (at + 1)) where
+    beyond : i ≡ length other + suc at
+    beyond = omega (arith, place)
 
-  module _ (place : i ≡ length other + at) where
-    pub take_right : take i (other ++ part) ≡ other ++ take at part
-    take_right = rw place (take-append-add other part at)
+    take_after : take i (other ++ value ∷ part) ≡ other ++ value ∷ take at part
+    take_after = rw beyond (take-append-add other (value ∷ part) (suc at))
 
-    pub drop_right : drop i (other ++ part) ≡ drop at part
-    drop_right = rw place (drop-append-add other part at)
+    drop_after : drop i (other ++ value ∷ part) ≡ drop at part
+    drop_after = rw beyond (drop-append-add other (value ∷ part) (suc at))
 
-    drop_after_right : drop (suc i) (other ++ part) ≡ drop (suc at) part
-    drop_after_right =
-        let next : length other + suc at ≡ suc i = omega (arith, place) in
-        subst (λ k. drop k (other ++ part) ≡ drop (suc at) part) next (drop-append-add other part (suc at))
+  insert_in : (s : Side) → IsGapInPart s part other i at → (v : ℕ) → insert (around s part value other) i v ≡ around s (insert part at v) value other
+  insert_in Left place v = rw (take_before place, drop_before place) (sym (append_assoc (take at part) (v ∷ drop at part) (value ∷ other)))
+  insert_in Right place v = rw (take_after place, drop_after place) (append_assoc other (value ∷ take at part) (v ∷ drop at part))
 
-  pub insert_at : (s : Side) → IsPlaceInPart s part other i at → (v : ℕ) → insert (beside s part other) i v ≡ beside s (insert part at v) other
-  insert_at Left place v = rw (take_left place, drop_left place) (sym (append_assoc (take at part) (v ∷ drop at part) other))
-  insert_at Right place v = rw (take_right place, drop_right place) (append_assoc other (take at part) (v ∷ drop at part))
+  remove_in : (s : Side) → IsGapInPart s part other i at → at < length part → remove (around s part value other) i ≡ around s (remove part at) value other
+  remove_in Left place within = rw (← place.0) (remove-append_left part (value ∷ other) at within)
+  remove_in Right place within =
+      let less : i - length other ≡ suc at = omega (arith, place) in
+      remove-append_right other (value ∷ part) (length other) i refl (omega (arith, place)) ∙ ap (λ k. other ++ remove (value ∷ part) k) less
 
-  pub remove_at : (s : Side) → IsPlaceInPart s part other i at → remove (beside s part other) i ≡ beside s (remove part at) other
-  remove_at Left place = rw (take_left place, drop_after_left place) (sym (append_assoc (take at part) (drop (suc at) part) other))
-  remove_at Right place = rw (take_right place, drop_after_right place) (append_assoc other (take at part) (drop (suc at) part))
+  remove_between : (s : Side) → IsGapInPart s part other i at → i < length part + length other + 1 → length part ≤ at
+      → remove (around s part value other) i ≡ part ++ other
+  remove_between Left place within past =
+      let less : i - length part ≡ 0 = omega (arith, place.1) in
+      remove-append_right part (value ∷ other) (length part) i refl (omega (arith, place.0, past)) ∙ ap (λ k. part ++ remove (value ∷ other) k) less
+  remove_between Right place within past = absurd (omega (arith, place, within, past))
 
--- the same of the trees: new stands for the part that was changed, and t is what it and the other part are joined to
-module _ (s : Side) (tree part other : Tree) (i at : ℕ) (way : IsWay tree i s part other at) where
-  pub inserted : (v : ℕ) (new t : Tree) → new.items ≡ insert part.items at v → IsJoinedTree s new other t → t.items ≡ insert tree.items i v
-  inserted v new t changed joined = joined.items ∙ ap (λ xs. beside s xs other.items) changed
-      ∙ rw way.fork.items (sym (insert_at part.items other.items i at s way.place v))
+-- the same of trees: a value inserted in one part or removed from it, t being what it is then joined to
+module _ (s : Side) (tree part other : Tree) (value i at : ℕ) (way : IsWay tree i s part value other at) where
+  module _ (new t : Tree) (joined : IsJoinedTree s new value other t) where
+    pub inserted : (v : ℕ) → new.items ≡ insert part.items at v → t.items ≡ insert tree.items i v
+    inserted v changed = joined.items ∙ rw (changed, way.fork.items) (sym (insert_in part.items other.items value i at s way.place v))
 
-  pub removed : (new : List ℕ) → new ≡ remove part.items at → beside s new other.items ≡ remove tree.items i
-  removed new changed = ap (λ xs. beside s xs other.items) changed ∙ rw way.fork.items (sym (remove_at part.items other.items i at s way.place))
+    pub removed : new.items ≡ remove part.items at → at < length part.items → t.items ≡ remove tree.items i
+    removed changed within = joined.items ∙ rw (changed, way.fork.items) (sym (remove_in part.items other.items value i at s way.place within))
 
-pub beside_nil : (s : Side) (other : List ℕ) → beside s [] other ≡ other
-beside_nil Left other = refl
-beside_nil Right other = append-nil other
+  -- the value between removed
+  pub removed_between : i < length tree.items → length part.items ≤ at → part.items ++ other.items ≡ remove tree.items i
+  removed_between within past = rw way.fork.items (sym (remove_between part.items other.items value i at s way.place (omega (arith, within, way.fork.long)) past))
+
+-- a piece of the part alone,
+module _ (tree part other new : Tree) (value i at v : ℕ) where
+  pub kept_alone : (s : Side) → IsWay tree i s part value other at → IsKeptPart s part at v new → IsKeptPart s tree i v new
+  kept_alone Left way is = record {
+    items = is.items ∙ rw way.fork.items (ap (λ xs. xs ++ v ∷ []) (sym (take_before part.items other.items value i at way.place)));
+    long = omega (arith, is.long, way.place.0);
+    at_most_one_higher = omega (arith, is.at_most_one_higher, way.fork.height);
+  }
+  kept_alone Right way is = record {
+    items = is.items ∙ rw way.fork.items (ap (λ xs. v ∷ xs) (sym (drop_after part.items other.items value i at way.place)));
+    long = omega (arith, is.long, way.place, way.fork.long);
+    at_most_one_higher = omega (arith, is.at_most_one_higher, way.fork.height);
+  }
+
+  -- and t, a piece of it that is joined to the other part
+  pub kept_joined : (kept s : Side) (t : Tree) → kept ≢ s → IsWay tree i s part value other at → IsKeptPart kept part at v new → IsJoinedTree s new value other t
+      → IsKeptPart kept tree i v t
+  kept_joined Left Left t apart way is joined = absurd (apart refl)
+  kept_joined Right Right t apart way is joined = absurd (apart refl)
+  kept_joined Left Right t apart way is joined = record {
+    items = joined.items ∙ rw (is.items, way.fork.items, take_after part.items other.items value i at way.place) (sym (append_assoc other.items (value ∷ take at part.items) (v ∷ [])));
+    long = ap length joined.items ∙ length-append other.items (value ∷ new.items) ∙ omega (arith, is.long, way.place);
+    at_most_one_higher = omega (arith, is.at_most_one_higher, way.fork.height, joined.at_most_one_higher);
+  }
+  kept_joined Right Left t apart way is joined = record {
+    items = joined.items ∙ rw (is.items, way.fork.items, drop_before part.items other.items value i at way.place) refl;
+    long = ap length joined.items ∙ length-append new.items (value ∷ other.items) ∙ omega (arith, is.long, way.place.0, way.place.1, way.fork.long);
+    at_most_one_higher = omega (arith, is.at_most_one_higher, way.fork.height, joined.at_most_one_higher);
+  }

@@ -1,6 +1,7 @@
--- A height-balanced tree as its values in order and its height (Adelson-Velsky and Landis 1962, with the values at the
--- leaves). No public clause cites it.
-use Rattle.std.specs.Prelude.{◌≡◌, ℕ, ◌+◌, ◌*◌, ◌^◌, ◌<◌, ◌≤◌, max, List, ◌++◌, drop, length, take}
+-- A height-balanced tree as its values in order and its height (Adelson-Velsky and Landis 1962). No public clause cites it.
+use Rattle.std.specs.Prelude.{◌≡◌, ℕ, ◌+◌, ◌-◌, ◌*◌, ◌^◌, ◌<◌, ◌≤◌, max, List, [], ◌∷◌, ◌++◌, drop, length, take, Option, Some, None, option_copied}
+use Rattle.std.specs.Borrow.{Bor}
+use Rattle.std.specs.declared.rc.Rc.{Rc}
 use Rattle.shared_seq.specs.declared.side.Side.{Side}
 use Rattle.shared_seq.specs.declared.side.Side.TheVariants.{Left, Right}
 
@@ -8,81 +9,82 @@ pub record Tree : Type 0 where
   pub items : List ℕ
   pub height : ℕ
 
--- it has values, not too many, and its height is small beside their number
+-- the tree with no value
+abbrev pub empty_tree : Tree
+empty_tree = record { items = []; height = 0 }
+
+-- the tree below a node, the one with no value where there is no node
+abbrev pub tree_at : {A : Type 0} → Option (Rc Tree A) → Tree
+tree_at None = empty_tree
+tree_at (Some root) = root.value
+
+-- and where the node is lent
+abbrev pub lent_at : {A : Type 0} → Option (Bor (Rc Tree A)) → Tree
+lent_at root = tree_at (option_copied root)
+
+-- it has not too many values, and its height is small beside their number
 pub record IsBalancedTree (tree : Tree) : Type 0 where
-  pub some : 0 < length tree.items
   pub short : length tree.items < 2 ^ 31
-  pub full : 2 ^ tree.height ≤ length tree.items * length tree.items
-  pub low : tree.height < 62
+  pub full : 2 ^ tree.height ≤ (length tree.items + 1) * (length tree.items + 1)
+  pub low : tree.height < 63
 
 -- neither height is more than this above the other
 abbrev pub DifferByAtMost : ℕ → ℕ → ℕ → Type 0
 DifferByAtMost by l r = (l ≤ r + by) × (r ≤ l + by)
 
--- a fork over two trees
-abbrev pub forked : Tree → Tree → Tree
-forked l r = record { items = l.items ++ r.items; height = max l.height r.height + 1 }
+-- a fork over two trees, with a value between
+abbrev pub forked : Tree → ℕ → Tree → Tree
+forked l v r = record { items = l.items ++ v ∷ r.items; height = max l.height r.height + 1 }
 
 abbrev pub other_tree_side : Side → Side
 other_tree_side Left = Right
 other_tree_side Right = Left
 
--- two lists, one after the other, the first one given on this side
-abbrev pub beside : Side → List ℕ → List ℕ → List ℕ
-beside Left xs ys = xs ++ ys
-beside Right xs ys = ys ++ xs
+-- two lists with a value between, the first one given on this side
+abbrev pub around : Side → List ℕ → ℕ → List ℕ → List ℕ
+around Left xs v ys = xs ++ v ∷ ys
+around Right xs v ys = ys ++ v ∷ xs
 
--- c and d are a and b, the left one first if a is the one on this side, and so the other way round
-abbrev pub IsOrdered : Side → Tree → Tree → Tree → Tree → Type 0
-IsOrdered Left a b c d = (c ≡ a) × (d ≡ b)
-IsOrdered Right a b c d = (c ≡ b) × (d ≡ a)
-
--- a tree is a fork over two, the first one given on this side
-pub record IsFork (side : Side) (one other tree : Tree) : Type 0 where
-  pub items : tree.items ≡ beside side one.items other.items
+-- a tree is a fork over two and a value, the first one given on this side
+pub record IsFork (side : Side) (one : Tree) (value : ℕ) (other tree : Tree) : Type 0 where
+  pub items : tree.items ≡ around side one.items value other.items
   pub height : tree.height ≡ max one.height other.height + 1
   pub near : DifferByAtMost 1 one.height other.height
-  pub long : length tree.items ≡ length one.items + length other.items
+  pub long : length tree.items ≡ length one.items + length other.items + 1
   pub short : length tree.items < 2 ^ 31
 
--- where place i of two lists is, the first one given on this side: at this place of that one
-abbrev pub IsPlaceInPart : Side → List ℕ → List ℕ → ℕ → ℕ → Type 0
-IsPlaceInPart Left part other i at = (at ≡ i) × (i < length part)
-IsPlaceInPart Right part other i at = i ≡ length other + at
+-- where the gap before place i of two lists with a value between is, the first one given on this side: before this place of that one
+abbrev pub IsGapInPart : Side → List ℕ → List ℕ → ℕ → ℕ → Type 0
+IsGapInPart Left part other i at = (at ≡ i) × (i ≤ length part)
+IsGapInPart Right part other i at = i ≡ length other + (at + 1)
 
--- the part of a fork, on this side, that place i of the tree is in, at this place, and the other part
-pub record IsWay (tree : Tree) (i : ℕ) (side : Side) (part other : Tree) (at : ℕ) : Type 0 where
-  pub fork : IsFork side part other tree
-  pub place : IsPlaceInPart side part.items other.items i at
+-- the part of a fork, on this side, that the gap before place i of the tree is in, before this place, and the other part
+pub record IsWay (tree : Tree) (i : ℕ) (side : Side) (part : Tree) (value : ℕ) (other : Tree) (at : ℕ) : Type 0 where
+  pub fork : IsFork side part value other tree
+  pub place : IsGapInPart side part.items other.items i at
 
--- a tree of one value
-pub record IsLeafTree (tree : Tree) : Type 0 where
-  pub one : length tree.items ≡ 1
-  pub flat : tree.height ≡ 0
-
--- a tree with the values of two, the first one given on this side, as high as the higher one or one more; where the two
--- differ by at most one, as high as a fork over them
-pub record IsJoinedTree (side : Side) (one other tree : Tree) : Type 0 where
-  pub items : tree.items ≡ beside side one.items other.items
+-- a tree with the values of two and one between, the first one given on this side, as high as the higher one or one more; where
+-- the two differ by at most one, as high as a fork over them
+pub record IsJoinedTree (side : Side) (one : Tree) (value : ℕ) (other tree : Tree) : Type 0 where
+  pub items : tree.items ≡ around side one.items value other.items
   pub not_lower : max one.height other.height ≤ tree.height
   pub at_most_one_higher : tree.height ≤ max one.height other.height + 1
   pub as_fork : DifferByAtMost 1 one.height other.height → tree.height ≡ max one.height other.height + 1
 
--- the first i values of a tree and the rest, neither higher than it
-pub record IsCutTree (tree : Tree) (i : ℕ) (front back : Tree) : Type 0 where
-  pub front_items : front.items ≡ take i tree.items
-  pub back_items : back.items ≡ drop i tree.items
-  pub front_height : front.height ≤ tree.height
-  pub back_height : back.height ≤ tree.height
+-- the first i values of a list and then this one, where the left side is kept, or this one and then the rest; and how many they are
+abbrev pub kept_items : Side → ℕ → ℕ → List ℕ → List ℕ
+kept_items Left i value items = take i items ++ value ∷ []
+kept_items Right i value items = value ∷ drop i items
 
--- the first i values of a tree, where the left side is kept, or the rest, not higher than it
-abbrev pub kept_items : Side → ℕ → List ℕ → List ℕ
-kept_items Left i items = take i items
-kept_items Right i items = drop i items
+abbrev pub kept_length : Side → ℕ → ℕ → ℕ
+kept_length Left i n = i + 1
+kept_length Right i n = n - i + 1
 
-pub record IsKeptPart (kept : Side) (tree : Tree) (i : ℕ) (piece : Tree) : Type 0 where
-  pub items : piece.items ≡ kept_items kept i tree.items
-  pub not_higher : piece.height ≤ tree.height
+-- a tree with these values of another one, at most one higher
+pub record IsKeptPart (kept : Side) (tree : Tree) (i value : ℕ) (piece : Tree) : Type 0 where
+  pub items : piece.items ≡ kept_items kept i value tree.items
+  pub long : length piece.items ≡ kept_length kept i (length tree.items)
+  pub at_most_one_higher : piece.height ≤ tree.height + 1
 
 -- the height after one more value: as before, or one more
 abbrev pub IsGrownHeight : ℕ → ℕ → Type 0

@@ -1,8 +1,8 @@
-// A node of a height-balanced tree, with its values at the leaves. Making a node and opening one are steps; its height and
-// its count are told without one. No node is changed.
-ghost use Rattle.std.specs.Prelude.{◌≡◌, ◌+◌, ◌^◌, ◌<◌, ◌≤◌, [], ◌∷◌, IfOk, length, MatchOption};
-ghost use Rattle.shared_seq.specs.Tree.{DifferByAtMost, IsFork, IsLeafTree, IsBalancedTree, IsWay, forked};
-ghost use Rattle.shared_seq.specs.Node.{AreNear, tree_of};
+// A node of a height-balanced tree. Making a node and opening one are steps; its height and its count are told without one. No
+// node is changed.
+ghost use Rattle.std.specs.Prelude.{◌≡◌, ◌+◌, ◌^◌, ◌<◌, ◌≤◌, IfOk, length};
+ghost use Rattle.shared_seq.specs.Tree.{DifferByAtMost, IsBalancedTree, IsFork, IsWay, forked, lent_at, tree_at};
+ghost use Rattle.shared_seq.specs.Node.{tree_after, tree_before};
 
 use crate::side::Side;
 use exact_plane::{Memory, Steps};
@@ -11,28 +11,43 @@ use std::marker::Model;
 use std::rc::Rc;
 use std::sync::ledger::Ledger;
 
+// The tree below a node; none has no value.
+pub(crate) type Subtree = Option<Rc<Node>>;
+
 #[cycle(node)]
 #[derive(Drop)]
 pub(crate) struct Node {
-    held: Held,
+    children: Children,
+    value: u32,
     height: u32,
     count: usize,
 }
 
-// What a node holds: a value, or two nodes whose heights differ by at most one.
+// The nodes before and after the value of a node. Their heights differ by at most one, where 0 stands for none.
 #[cycle(node)]
 #[derive(Drop)]
-pub(crate) enum Held {
-    Leaf(u32),
-    Fork(Rc<Node>, Rc<Node>),
+enum Children {
+    Neither,
+    Left(Rc<Node>),
+    Right(Rc<Node>),
+    Both(Rc<Node>, Rc<Node>),
 }
 
-// The way from a fork to one of its values: the part that has it, on which side and at which place, and the other part.
-#[derive(Drop)]
+// A node that is opened: the part on one side, its value and the part on the other side.
+#[derive(Clone, Copy)]
+pub(crate) struct Parts<'a> {
+    pub one: Option<&'a Rc<Node>>,
+    pub value: u32,
+    pub other: Option<&'a Rc<Node>>,
+}
+
+// The way from a node to the gap before a place: the part that has it, on which side and before which place, and the rest.
+#[derive(Clone, Copy)]
 pub(crate) struct Way<'a> {
     pub side: Side,
-    pub part: &'a Rc<Node>,
-    pub other: &'a Rc<Node>,
+    pub part: Option<&'a Rc<Node>>,
+    pub value: u32,
+    pub other: Option<&'a Rc<Node>>,
     pub at: usize,
 }
 
@@ -43,9 +58,9 @@ impl Model for Node {
 
     ghost use Rattle.shared_seq.specs.Node.{IsNode, tree_of};
 
-    ghost view = { λ node. tree_of node.held };
+    ghost view = { λ node. tree_of node.children node.value };
 
-    ghost invariant = { λ node. IsNode node.held node.height node.count };
+    ghost invariant = { λ node. IsNode node.children node.value node.height node.count };
 
     ghost size = { λ tree. tree.height };
 
@@ -55,145 +70,159 @@ impl Model for Node {
 }
 
 impl Node {
-    // A leaf with one value.
-    pub(crate) fn leaf<L: Ledger>(
-        alloc: Global,
-        value: u32,
-        steps: &mut Steps<L>,
-    ) -> Result<Rc<Node>, Memory>
-        ensures items { IfOk result (λ node. node.value.items ≡ value ∷ []) }
-        ensures height { IfOk result (λ node. node.value.height ≡ 0) }
-        ensures steps { steps.new ≡ steps.old + 1 }
-    {
-        let leaf = Node {
-            held: Held::Leaf(value),
-            height: 0,
-            count: 1,
-        };
-        Node::made(alloc, leaf, steps)
-    }
-
-    // A fork over two nodes, the values of the left one first.
-    fn fork<L: Ledger>(
-        alloc: Global,
-        left: &Rc<Node>,
-        right: &Rc<Node>,
-        steps: &mut Steps<L>,
-    ) -> Result<Rc<Node>, Memory>
-        requires short { length left.now.value.items + length right.now.value.items < 2 ^ 31 }
-        requires near { DifferByAtMost 1 left.now.value.height right.now.value.height }
-        ensures tree { IfOk result (λ node. node.value ≡ forked left.now.value right.now.value) }
-        ensures steps { steps.new ≤ steps.old + 1 }
-    {
-        let fork = Node {
-            held: Held::Fork(left.clone()?, right.clone()?),
-            height: Node::height(left).max(Node::height(right)) + 1,
-            count: left.count() + right.count(),
-        };
-        Node::made(alloc, fork, steps)
-    }
-
-    // A fork over two nodes, the values of the first one on this side.
-    pub(crate) fn fork_on<L: Ledger>(
+    // A node with this value between two trees, the first one on this side.
+    pub(crate) fn fork<L: Ledger>(
         alloc: Global,
         side: Side,
-        one: &Rc<Node>,
-        other: &Rc<Node>,
+        one: Subtree,
+        value: u32,
+        other: Subtree,
         steps: &mut Steps<L>,
     ) -> Result<Rc<Node>, Memory>
-        requires short { length one.now.value.items + length other.now.value.items < 2 ^ 31 }
-        requires near { DifferByAtMost 1 one.now.value.height other.now.value.height }
-        ensures fork { IfOk result (λ node. IsFork side one.now.value other.now.value node.value) }
-        ensures steps { steps.new ≤ steps.old + 1 }
+        requires short { length (tree_at one).items + length (tree_at other).items + 1 < 2 ^ 31 }
+        requires near { DifferByAtMost 1 (tree_at one).height (tree_at other).height }
+        ensures fork { IfOk result (λ node. IsFork side (tree_at one) value (tree_at other) node.value) }
+        ensures steps { steps.new ≡ steps.old + 1 }
     {
         match side {
-            Side::Left => Node::fork(alloc, one, other, steps),
-            Side::Right => Node::fork(alloc, other, one, steps),
+            Side::Left => Node::between(alloc, one, value, other, steps),
+            Side::Right => Node::between(alloc, other, value, one, steps),
         }
     }
 
-    // The node, to be shared.
-    fn made<L: Ledger>(alloc: Global, node: Node, steps: &mut Steps<L>) -> Result<Rc<Node>, Memory>
-        ensures node { IfOk result (λ made. made.value ≡ node) }
+    // A node with this value between a left and a right tree.
+    fn between<L: Ledger>(
+        alloc: Global,
+        left: Subtree,
+        value: u32,
+        right: Subtree,
+        steps: &mut Steps<L>,
+    ) -> Result<Rc<Node>, Memory>
+        requires short { length (tree_at left).items + length (tree_at right).items + 1 < 2 ^ 31 }
+        requires near { DifferByAtMost 1 (tree_at left).height (tree_at right).height }
+        ensures tree { IfOk result (λ node. node.value ≡ forked (tree_at left) value (tree_at right)) }
         ensures steps { steps.new ≡ steps.old + 1 }
     {
         steps.tick();
+        let height = height(left.as_ref()).max(height(right.as_ref())) + 1;
+        let count = count(left.as_ref()) + count(right.as_ref()) + 1;
+        let children = Children::of(left, right);
+        let node = Node {
+            children,
+            value,
+            height,
+            count,
+        };
         Ok(Rc::new(alloc, node)?)
     }
 
-    // The parts of a fork, the one on this side first.
-    pub(crate) fn parts<'a, L: Ledger>(
-        tree: &'a Rc<Node>,
-        side: Side,
-        steps: &mut Steps<L>,
-    ) -> (&'a Rc<Node>, &'a Rc<Node>)
-        requires { 0 < tree.now.value.height }
-        ensures fork { IsFork side result.0.now.value result.1.now.value tree.now.value }
-        ensures steps { steps.new ≡ steps.old + 1 }
-    {
-        let Held::Fork(left, right) = tree.open(steps) else {
-            unreachable!()
-        };
-        match side {
-            Side::Left => (left, right),
-            Side::Right => (right, left),
-        }
-    }
-
-    // The part of a fork that has the value at i, or none at a leaf.
-    pub(crate) fn way<'a, L: Ledger>(
-        tree: &'a Rc<Node>,
-        i: usize,
-        steps: &mut Steps<L>,
-    ) -> Option<Way<'a>>
-        ensures way { MatchOption result (IsLeafTree tree.now.value) (λ way. IsWay tree.now.value i way.side way.part.now.value way.other.now.value way.at) }
-        ensures steps { steps.new ≡ steps.old + 1 }
-    {
-        let Held::Fork(left, right) = tree.open(steps) else {
-            return None;
-        };
-        let count = left.count();
-        if i < count {
-            Some(Way {
-                side: Side::Left,
-                part: left,
-                other: right,
-                at: i,
-            })
-        } else {
-            Some(Way {
-                side: Side::Right,
-                part: right,
-                other: left,
-                at: i - count,
-            })
-        }
-    }
-
-    // What it holds.
-    pub(crate) fn open<L: Ledger>(&self, steps: &mut Steps<L>) -> &Held
-        ensures tree { tree_of result.now ≡ self.now }
-        ensures near { AreNear result.now }
-        ensures short { length self.now.items < 2 ^ 31 }
+    // Its value and the two parts, the first one on this side.
+    pub(crate) fn parts<L: Ledger>(&self, side: Side, steps: &mut Steps<L>) -> Parts
+        ensures fork { IsFork side (lent_at result.one) result.value (lent_at result.other) self.now }
         ensures steps { steps.new ≡ steps.old + 1 }
     {
         steps.tick();
-        &self.held
+        let (left, right) = self.children.pair();
+        let value = self.value;
+        match side {
+            Side::Left => Parts {
+                one: left,
+                value,
+                other: right,
+            },
+            Side::Right => Parts {
+                one: right,
+                value,
+                other: left,
+            },
+        }
     }
 
-    // How many forks are above the deepest leaf.
-    pub(crate) fn height(tree: &Rc<Node>) -> u32
-        ensures number { result ≡ tree.now.value.height }
-        ensures tree { IsBalancedTree tree.now.value }
+    // The way to the gap before place i.
+    pub(crate) fn way<L: Ledger>(&self, i: usize, steps: &mut Steps<L>) -> Way
+        ensures way { IsWay self.now i result.side (lent_at result.part) result.value (lent_at result.other) result.at }
+        ensures steps { steps.new ≡ steps.old + 1 }
     {
-        tree.height
+        let Parts {
+            one: left,
+            value,
+            other: right,
+        } = self.parts(Side::Left, steps);
+        let before = count(left);
+        if i <= before {
+            Way {
+                side: Side::Left,
+                part: left,
+                value,
+                other: right,
+                at: i,
+            }
+        } else {
+            Way {
+                side: Side::Right,
+                part: right,
+                value,
+                other: left,
+                at: i - before - 1,
+            }
+        }
+    }
+}
+
+impl Children {
+    fn of(left: Subtree, right: Subtree) -> Children
+        ensures before { tree_before result ≡ tree_at left }
+        ensures after { tree_after result ≡ tree_at right }
+    {
+        match (left, right) {
+            (None, None) => Children::Neither,
+            (Some(left), None) => Children::Left(left),
+            (None, Some(right)) => Children::Right(right),
+            (Some(left), Some(right)) => Children::Both(left, right),
+        }
     }
 
-    // How many values it has.
-    pub(crate) fn count(&self) -> usize
-        ensures number { result ≡ length self.now.items }
-        ensures tree { IsBalancedTree self.now }
+    fn pair(&self) -> (Option<&Rc<Node>>, Option<&Rc<Node>>)
+        ensures before { lent_at result.0 ≡ tree_before self.now }
+        ensures after { lent_at result.1 ≡ tree_after self.now }
     {
-        self.count
+        match self {
+            Children::Neither => (None, None),
+            Children::Left(left) => (Some(left), None),
+            Children::Right(right) => (None, Some(right)),
+            Children::Both(left, right) => (Some(left), Some(right)),
+        }
+    }
+}
+
+// How many nodes are one above the other.
+pub(crate) fn height(tree: Option<&Rc<Node>>) -> u32
+    ensures number { result ≡ (lent_at tree.entry).height }
+    ensures tree { IsBalancedTree (lent_at tree.entry) }
+{
+    match tree {
+        Some(root) => root.height,
+        None => 0,
+    }
+}
+
+// How many values it has.
+pub(crate) fn count(tree: Option<&Rc<Node>>) -> usize
+    ensures number { result ≡ length (lent_at tree.entry).items }
+    ensures tree { IsBalancedTree (lent_at tree.entry) }
+{
+    match tree {
+        Some(root) => root.count,
+        None => 0,
+    }
+}
+
+// The same tree, with one more owner of its node.
+pub(crate) fn shared(tree: Option<&Rc<Node>>) -> Result<Subtree, Memory>
+    ensures { IfOk result (λ same. tree_at same ≡ lent_at tree.entry) }
+{
+    match tree {
+        Some(root) => Ok(Some(root.clone()?)),
+        None => Ok(None),
     }
 }

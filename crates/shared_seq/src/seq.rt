@@ -1,8 +1,9 @@
-ghost use Rattle.std.specs.Prelude.{◌≡◌, ◌+◌, ◌*◌, ◌^◌, ◌<◌, ◌≤◌, [], ◌∷◌, ◌++◌, drop, IfOk, length, slice_index, slice_set, take};
+ghost use Rattle.std.specs.Prelude.{◌≡◌, ◌+◌, ◌-◌, ◌*◌, ◌^◌, ◌<◌, ◌≤◌, [], ◌∷◌, ◌++◌, drop, IfOk, length, slice_index, slice_set, take};
 ghost use Rattle.std.specs.List.{insert, remove};
 ghost use Rattle.shared_seq.specs.Digits.{binary_digits};
+ghost use Rattle.shared_seq.specs.Tree.{lent_at, tree_at};
 
-use crate::node::Node;
+use crate::node::{self, Node, Subtree, count};
 use crate::side::Side;
 use crate::tree;
 use exact_plane::{Memory, Steps};
@@ -20,11 +21,12 @@ pub struct SharedSeq {
 
 impl Model for SharedSeq {
     ghost use Rattle.std.specs.Prelude.{ℕ, List};
-    ghost use Rattle.shared_seq.specs.Seq.{IsSeq, listed};
+    ghost use Rattle.shared_seq.specs.Seq.{IsSeq};
+    ghost use Rattle.shared_seq.specs.Tree.{tree_at};
 
     ghost Value = { List ℕ };
 
-    ghost view = { λ seq. listed seq.root };
+    ghost view = { λ seq. (tree_at seq.root).items };
 
     ghost invariant = { λ seq. IsSeq seq.root seq.len };
 }
@@ -46,7 +48,7 @@ impl SharedSeq {
         ensures list { IfOk result (λ list. list ≡ value ∷ []) }
         ensures steps { steps.new ≤ steps.old + 1 }
     {
-        Ok(SharedSeq::of(Node::leaf(alloc, value, steps)?))
+        Ok(SharedSeq::of(Some(Node::fork(alloc, Side::Left, None, value, None, steps)?)))
     }
 
     /// The number of values.
@@ -63,7 +65,7 @@ impl SharedSeq {
         ensures value { result ≡ slice_index self.now i }
         ensures steps { steps.new ≤ steps.old + 2 * binary_digits (length self.now) + 1 }
     {
-        tree::get(self.tree(), i, steps)
+        tree::get(self.node(), i, steps)
     }
 
     /// The left list followed by the right one.
@@ -78,13 +80,12 @@ impl SharedSeq {
         ensures list { IfOk result (λ list. list ≡ left.now ++ right.now) }
         ensures steps { steps.new ≤ steps.old + 32 * (binary_digits (length left.now + length right.now) + 1) }
     {
-        if left.len == 0 {
-            return right.share();
-        }
         if right.len == 0 {
             return left.share();
         }
-        Ok(SharedSeq::of(tree::join(alloc, Side::Left, left.tree(), right.tree(), steps)?))
+        let (first, rest) = tree::without_first(alloc, right.node(), steps)?;
+        let front = node::shared(left.root())?;
+        Ok(SharedSeq::of(Some(tree::join(alloc, Side::Left, front, first, rest, steps)?)))
     }
 
     /// The first i values, and the rest.
@@ -99,14 +100,7 @@ impl SharedSeq {
         ensures back { IfOk result (λ parts. parts.1 ≡ drop i self.now) }
         ensures steps { steps.new ≤ steps.old + 128 * (binary_digits (length self.now) + 1) }
     {
-        if i == 0 {
-            return Ok((SharedSeq::empty(), self.share()?));
-        }
-        if i == self.len {
-            return Ok((self.share()?, SharedSeq::empty()));
-        }
-        let (front, back) = tree::split(alloc, self.tree(), i, steps)?;
-        Ok((SharedSeq::of(front), SharedSeq::of(back)))
+        Ok((self.take(alloc, i, steps)?, self.skip(alloc, i, steps)?))
     }
 
     /// The first i values.
@@ -118,7 +112,7 @@ impl SharedSeq {
     ) -> Result<SharedSeq, Memory>
         requires inside { i ≤ length self.now }
         ensures list { IfOk result (λ list. list ≡ take i self.now) }
-        ensures steps { steps.new ≤ steps.old + 128 * (binary_digits (length self.now) + 1) }
+        ensures steps { steps.new ≤ steps.old + 64 * (binary_digits (length self.now) + 1) }
     {
         if i == 0 {
             return Ok(SharedSeq::empty());
@@ -126,7 +120,8 @@ impl SharedSeq {
         if i == self.len {
             return self.share();
         }
-        Ok(SharedSeq::of(tree::piece(alloc, Side::Left, self.tree(), i, steps)?))
+        let last = self.get(i - 1, steps);
+        self.take_then(alloc, i - 1, last, steps)
     }
 
     /// The list without its first i values.
@@ -138,7 +133,7 @@ impl SharedSeq {
     ) -> Result<SharedSeq, Memory>
         requires inside { i ≤ length self.now }
         ensures list { IfOk result (λ list. list ≡ drop i self.now) }
-        ensures steps { steps.new ≤ steps.old + 128 * (binary_digits (length self.now) + 1) }
+        ensures steps { steps.new ≤ steps.old + 64 * (binary_digits (length self.now) + 1) }
     {
         if i == 0 {
             return self.share();
@@ -146,7 +141,40 @@ impl SharedSeq {
         if i == self.len {
             return Ok(SharedSeq::empty());
         }
-        Ok(SharedSeq::of(tree::piece(alloc, Side::Right, self.tree(), i, steps)?))
+        let first = self.get(i, steps);
+        self.then_skip(alloc, i + 1, first, steps)
+    }
+
+    /// The first i values, and then this value.
+    pub fn take_then<L: Ledger>(
+        &self,
+        alloc: Global,
+        i: usize,
+        value: u32,
+        steps: &mut Steps<L>,
+    ) -> Result<SharedSeq, Memory>
+        requires inside { i ≤ length self.now }
+        requires short { i + 1 < 2 ^ 31 }
+        ensures list { IfOk result (λ list. list ≡ take i self.now ++ value ∷ []) }
+        ensures steps { steps.new ≤ steps.old + 48 * (binary_digits (length self.now) + 1) }
+    {
+        Ok(SharedSeq::of(Some(tree::piece(alloc, Side::Left, self.root(), i, value, steps)?)))
+    }
+
+    /// The value, and then the list without its first i values.
+    pub fn then_skip<L: Ledger>(
+        &self,
+        alloc: Global,
+        i: usize,
+        value: u32,
+        steps: &mut Steps<L>,
+    ) -> Result<SharedSeq, Memory>
+        requires inside { i ≤ length self.now }
+        requires short { length self.now - i + 1 < 2 ^ 31 }
+        ensures list { IfOk result (λ list. list ≡ value ∷ drop i self.now) }
+        ensures steps { steps.new ≤ steps.old + 48 * (binary_digits (length self.now) + 1) }
+    {
+        Ok(SharedSeq::of(Some(tree::piece(alloc, Side::Right, self.root(), i, value, steps)?)))
     }
 
     /// The value, and then the list.
@@ -181,13 +209,7 @@ impl SharedSeq {
     pub fn share(&self) -> Result<SharedSeq, Memory>
         ensures { IfOk result (λ list. list ≡ self.now) }
     {
-        match &self.root {
-            Some(root) => Ok(SharedSeq {
-                root: Some(root.clone()?),
-                len: self.len,
-            }),
-            None => Ok(SharedSeq::empty()),
-        }
+        Ok(SharedSeq::of(node::shared(self.root())?))
     }
 
     /// The list with this value at i.
@@ -202,7 +224,7 @@ impl SharedSeq {
         ensures list { IfOk result (λ list. list ≡ slice_set self.now i value) }
         ensures steps { steps.new ≤ steps.old + 8 * (binary_digits (length self.now) + 1) }
     {
-        Ok(SharedSeq::of(tree::set(alloc, self.tree(), i, value, steps)?))
+        Ok(SharedSeq::of(Some(tree::set(alloc, self.node(), i, value, steps)?)))
     }
 
     /// The first i values, this value, and the rest.
@@ -219,10 +241,7 @@ impl SharedSeq {
         ensures list { IfOk result (λ list. list ≡ insert self.now i value) }
         ensures steps { steps.new ≤ steps.old + 24 * (binary_digits (length self.now + 1) + 1) }
     {
-        if self.len == 0 {
-            return SharedSeq::single(alloc, value, steps);
-        }
-        Ok(SharedSeq::of(tree::insert(alloc, self.tree(), i, value, steps)?))
+        Ok(SharedSeq::of(Some(tree::insert(alloc, self.root(), i, value, steps)?)))
     }
 
     /// The list without the value at i.
@@ -236,32 +255,34 @@ impl SharedSeq {
         ensures list { IfOk result (λ list. list ≡ remove self.now i) }
         ensures steps { steps.new ≤ steps.old + 40 * (binary_digits (length self.now) + 1) }
     {
-        match tree::remove(alloc, self.tree(), i, steps)? {
-            Some(rest) => Ok(SharedSeq::of(rest)),
-            None => Ok(SharedSeq::empty()),
-        }
+        Ok(SharedSeq::of(tree::remove(alloc, self.node(), i, steps)?))
     }
 
-    // The tree of a list that is not empty.
-    fn tree(&self) -> &Rc<Node>
+    // The node of a list that is not empty.
+    fn node(&self) -> &Rc<Node>
         requires { 0 < length self.now }
         ensures items { result.now.value.items ≡ self.now }
-        ensures height { result.now.value.height + 1 ≤ 2 * binary_digits (length self.now) }
+        ensures height { result.now.value.height ≤ 2 * binary_digits (length self.now) }
     {
-        let Some(root) = &self.root else {
+        let Some(root) = self.root() else {
             unreachable!()
         };
         root
     }
 
-    // The list of a tree.
-    fn of(root: Rc<Node>) -> SharedSeq
-        ensures { result ≡ root.value.items }
+    // Its node, if it has values.
+    fn root(&self) -> Option<&Rc<Node>>
+        ensures items { (lent_at result).items ≡ self.now }
+        ensures height { (lent_at result).height ≤ 2 * binary_digits (length self.now) }
     {
-        let len = root.count();
-        SharedSeq {
-            root: Some(root),
-            len,
-        }
+        self.root.as_ref()
+    }
+
+    // The list of a tree.
+    fn of(root: Subtree) -> SharedSeq
+        ensures { result ≡ (tree_at root).items }
+    {
+        let len = count(root.as_ref());
+        SharedSeq { root, len }
     }
 }

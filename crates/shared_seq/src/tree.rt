@@ -1,10 +1,9 @@
-// Lists as height-balanced trees of nodes, none of them empty. Each call makes the nodes that are new and shares the others.
-ghost use Rattle.std.specs.Prelude.{◌≡◌, ◌+◌, ◌-◌, ◌*◌, ◌^◌, ◌<◌, ◌≤◌, IfOk, length, OnErr, slice_index, slice_set};
+// Lists as height-balanced trees of nodes. Each call makes the nodes that are new and shares the others.
+ghost use Rattle.std.specs.Prelude.{◌≡◌, ◌+◌, ◌-◌, ◌*◌, ◌^◌, ◌<◌, ◌≤◌, ◌∷◌, ◌++◌, max, IfOk, length, OnErr, slice_index, slice_set};
 ghost use Rattle.std.specs.List.{insert, remove};
-ghost use Rattle.shared_seq.specs.Seq.{IsShrunk, listed};
-ghost use Rattle.shared_seq.specs.Tree.{DifferByAtMost, IsCutTree, IsGrownHeight, IsJoinedTree, IsKeptPart};
+ghost use Rattle.shared_seq.specs.Tree.{DifferByAtMost, IsGrownHeight, IsJoinedTree, IsKeptPart, kept_length, lent_at, tree_at};
 
-use crate::node::{Held, Node, Way};
+use crate::node::{Node, Parts, Subtree, Way, count, height, shared};
 use crate::side::Side;
 use exact_plane::{Memory, Steps};
 use std::alloc::Global;
@@ -12,43 +11,43 @@ use std::rc::Rc;
 use std::sync::ledger::Ledger;
 
 // The value at i.
-pub(crate) fn get<L: Ledger>(tree: &Node, i: usize, steps: &mut Steps<L>) -> u32
-    requires { i < length tree.now.items }
-    ensures value { result ≡ slice_index tree.now.items i }
-    ensures steps { steps.new ≤ steps.old + tree.now.height + 1 }
+pub(crate) fn get<L: Ledger>(tree: &Rc<Node>, i: usize, steps: &mut Steps<L>) -> u32
+    requires { i < length tree.now.value.items }
+    ensures value { result ≡ slice_index tree.now.value.items i }
+    ensures steps { steps.new ≤ steps.old + tree.now.value.height }
 {
-    match tree.open(steps) {
-        Held::Leaf(value) => *value,
-        Held::Fork(left, right) => {
-            let count = left.count();
-            if i < count {
-                get(left, i, steps)
-            } else {
-                get(right, i - count, steps)
-            }
-        }
+    let Way {
+        part,
+        value,
+        at,
+        ..
+    } = tree.way(i, steps);
+    match part {
+        Some(part) if at < count(Some(part)) => get(part, at, steps),
+        _ => value,
     }
 }
 
-// A fork over two trees whose heights differ by at most two, turned where they differ by two.
+// A value between two trees whose heights differ by at most two, turned where they differ by two.
 fn balance<L: Ledger>(
     alloc: Global,
     side: Side,
-    one: &Rc<Node>,
-    other: &Rc<Node>,
+    one: Subtree,
+    value: u32,
+    other: Subtree,
     steps: &mut Steps<L>,
 ) -> Result<Rc<Node>, Memory>
-    requires short { length one.now.value.items + length other.now.value.items < 2 ^ 31 }
-    requires near { DifferByAtMost 2 one.now.value.height other.now.value.height }
-    ensures joined { IfOk result (λ tree. IsJoinedTree side one.now.value other.now.value tree.value) }
+    requires short { length (tree_at one).items + length (tree_at other).items + 1 < 2 ^ 31 }
+    requires near { DifferByAtMost 2 (tree_at one).height (tree_at other).height }
+    ensures joined { IfOk result (λ tree. IsJoinedTree side (tree_at one) value (tree_at other) tree.value) }
     ensures steps { steps.new ≤ steps.old + 5 }
 {
-    if Node::height(one) > Node::height(other) + 1 {
-        turn(alloc, side, one, other, steps)
-    } else if Node::height(other) > Node::height(one) + 1 {
-        turn(alloc, side.opposite(), other, one, steps)
+    if height(one.as_ref()) > height(other.as_ref()) + 1 {
+        turn(alloc, side, one.as_ref(), value, other, steps)
+    } else if height(other.as_ref()) > height(one.as_ref()) + 1 {
+        turn(alloc, side.opposite(), other.as_ref(), value, one, steps)
     } else {
-        Node::fork_on(alloc, side, one, other, steps)
+        Node::fork(alloc, side, one, value, other, steps)
     }
 }
 
@@ -56,43 +55,57 @@ fn balance<L: Ledger>(
 fn turn<L: Ledger>(
     alloc: Global,
     side: Side,
-    high: &Rc<Node>,
-    low: &Rc<Node>,
+    high: Option<&Rc<Node>>,
+    value: u32,
+    low: Subtree,
     steps: &mut Steps<L>,
 ) -> Result<Rc<Node>, Memory>
-    requires short { length high.now.value.items + length low.now.value.items < 2 ^ 31 }
-    requires two_higher { high.now.value.height ≡ low.now.value.height + 2 }
-    ensures joined { IfOk result (λ tree. IsJoinedTree side high.now.value low.now.value tree.value) }
+    requires short { length (lent_at high).items + length (tree_at low).items + 1 < 2 ^ 31 }
+    requires two_higher { (lent_at high).height ≡ (tree_at low).height + 2 }
+    ensures joined { IfOk result (λ tree. IsJoinedTree side (lent_at high.entry) value (tree_at low) tree.value) }
     ensures steps { steps.new ≤ steps.old + 5 }
 {
-    let (outer, inner) = Node::parts(high, side, steps);
-    if Node::height(outer) >= Node::height(inner) {
-        let inner = Node::fork_on(alloc, side, inner, low, steps)?;
-        return Node::fork_on(alloc, side, outer, &inner, steps);
+    let Some(high) = high else { unreachable!() };
+    let Parts {
+        one: outer,
+        value: middle,
+        other: inner,
+    } = high.parts(side, steps);
+    if height(outer) >= height(inner) {
+        let inner = Node::fork(alloc, side, shared(inner)?, value, low, steps)?;
+        return Node::fork(alloc, side, shared(outer)?, middle, Some(inner), steps);
     }
-    let (first, second) = Node::parts(inner, side, steps);
-    let outer = Node::fork_on(alloc, side, outer, first, steps)?;
-    let inner = Node::fork_on(alloc, side, second, low, steps)?;
-    Node::fork_on(alloc, side, &outer, &inner, steps)
+    let Some(inner) = inner else { unreachable!() };
+    let Parts {
+        one: first,
+        value: top,
+        other: second,
+    } = inner.parts(side, steps);
+    let outer = Node::fork(alloc, side, shared(outer)?, middle, shared(first)?, steps)?;
+    let inner = Node::fork(alloc, side, shared(second)?, value, low, steps)?;
+    Node::fork(alloc, side, Some(outer), top, Some(inner), steps)
 }
 
-// Two trees of any heights, one after the other.
+// A value between two trees of any heights, the first one on this side.
 pub(crate) fn join<L: Ledger>(
     alloc: Global,
     side: Side,
-    one: &Rc<Node>,
-    other: &Rc<Node>,
+    one: Subtree,
+    value: u32,
+    other: Subtree,
     steps: &mut Steps<L>,
 ) -> Result<Rc<Node>, Memory>
-    requires short { length one.now.value.items + length other.now.value.items < 2 ^ 31 }
-    ensures joined { IfOk result (λ tree. IsJoinedTree side one.now.value other.now.value tree.value) }
-    ensures steps { steps.new ≤ steps.old + 6 * (one.now.value.height - other.now.value.height)
-        + 6 * (other.now.value.height - one.now.value.height) + 1 }
+    requires short { length (tree_at one).items + length (tree_at other).items + 1 < 2 ^ 31 }
+    ensures joined { IfOk result (λ tree. IsJoinedTree side (tree_at one) value (tree_at other) tree.value) }
+    ensures steps { steps.new ≤ steps.old + 6 * ((tree_at one).height - (tree_at other).height)
+        + 6 * ((tree_at other).height - (tree_at one).height) + 1 }
 {
-    if Node::height(other) > Node::height(one) {
-        hang(alloc, side.opposite(), other, one, steps)
+    if height(one.as_ref()) > height(other.as_ref()) + 1 {
+        hang(alloc, side, one.as_ref(), value, other, steps)
+    } else if height(other.as_ref()) > height(one.as_ref()) + 1 {
+        hang(alloc, side.opposite(), other.as_ref(), value, one, steps)
     } else {
-        hang(alloc, side, one, other, steps)
+        Node::fork(alloc, side, one, value, other, steps)
     }
 }
 
@@ -100,94 +113,60 @@ pub(crate) fn join<L: Ledger>(
 fn hang<L: Ledger>(
     alloc: Global,
     side: Side,
-    high: &Rc<Node>,
-    low: &Rc<Node>,
+    high: Option<&Rc<Node>>,
+    value: u32,
+    low: Subtree,
     steps: &mut Steps<L>,
 ) -> Result<Rc<Node>, Memory>
-    requires short { length high.now.value.items + length low.now.value.items < 2 ^ 31 }
-    requires lower { low.now.value.height ≤ high.now.value.height + 1 }
-    ensures joined { IfOk result (λ tree. IsJoinedTree side high.now.value low.now.value tree.value) }
-    ensures steps { steps.new ≤ steps.old + 6 * (high.now.value.height - low.now.value.height) + 1 }
+    requires short { length (lent_at high).items + length (tree_at low).items + 1 < 2 ^ 31 }
+    requires lower { (tree_at low).height ≤ (lent_at high).height + 1 }
+    ensures joined { IfOk result (λ tree. IsJoinedTree side (lent_at high.entry) value (tree_at low) tree.value) }
+    ensures steps { steps.new ≤ steps.old + 6 * ((lent_at high.entry).height - (tree_at low).height) + 1 }
 {
-    if Node::height(high) <= Node::height(low) + 1 {
-        return Node::fork_on(alloc, side, high, low, steps);
+    if height(high) <= height(low.as_ref()) + 1 {
+        return Node::fork(alloc, side, shared(high)?, value, low, steps);
     }
-    let (outer, inner) = Node::parts(high, side, steps);
-    let inner = hang(alloc, side, inner, low, steps)?;
-    balance(alloc, side, outer, &inner, steps)
+    let Some(high) = high else { unreachable!() };
+    let Parts {
+        one: outer,
+        value: middle,
+        other: inner,
+    } = high.parts(side, steps);
+    let inner = hang(alloc, side, inner, value, low, steps)?;
+    balance(alloc, side, shared(outer)?, middle, Some(inner), steps)
 }
 
-// The first i values and the rest, none of them empty. The steps of the joins along the way down are paid by the heights of
-// the two parts, which grow with each join.
-pub(crate) fn split<L: Ledger>(
-    alloc: Global,
-    tree: &Rc<Node>,
-    i: usize,
-    steps: &mut Steps<L>,
-) -> Result<(Rc<Node>, Rc<Node>), Memory>
-    requires some { 0 < i }
-    requires inside { i < length tree.now.value.items }
-    ensures cut { IfOk result (λ parts. IsCutTree tree.now.value i parts.0.value parts.1.value) }
-    ensures steps { IfOk result (λ parts. steps.new ≤ steps.old + 8 * tree.now.value.height + 6 * parts.0.value.height
-        + 6 * parts.1.value.height) }
-    ensures steps_of_refusal { OnErr result (steps.new ≤ steps.old + 20 * tree.now.value.height) }
-{
-    let Some(
-        Way {
-            side,
-            part,
-            other,
-            at,
-        },
-    ) = Node::way(tree, i, steps)
-    else {
-        unreachable!()
-    };
-    if at == 0 {
-        return Ok((other.clone()?, part.clone()?));
-    }
-    let (front, back) = split(alloc, part, at, steps)?;
-    let (outer, inner) = side.order(front, back);
-    let inner = join(alloc, side, &inner, other, steps)?;
-    Ok(side.order(outer, inner))
-}
-
-// The first i values, where the left side is kept, or else the rest: neither is empty. What is not kept is not made.
+// The first i values and then this one, where the left side is kept, or else this one and then the rest. What is not kept is not
+// made. The steps of the joins along the way down are paid by the height of the piece, which grows with each join.
 pub(crate) fn piece<L: Ledger>(
     alloc: Global,
     kept: Side,
-    tree: &Rc<Node>,
+    tree: Option<&Rc<Node>>,
     i: usize,
+    value: u32,
     steps: &mut Steps<L>,
 ) -> Result<Rc<Node>, Memory>
-    requires some { 0 < i }
-    requires inside { i < length tree.now.value.items }
-    ensures piece { IfOk result (λ piece. IsKeptPart kept tree.now.value i piece.value) }
-    ensures steps { IfOk result (λ piece. steps.new ≤ steps.old + 8 * tree.now.value.height + 6 * piece.value.height) }
-    ensures steps_of_refusal { OnErr result (steps.new ≤ steps.old + 14 * tree.now.value.height) }
+    requires inside { i ≤ length (lent_at tree).items }
+    requires short { kept_length kept i (length (lent_at tree).items) < 2 ^ 31 }
+    ensures piece { IfOk result (λ piece. IsKeptPart kept (lent_at tree.entry) i value piece.value) }
+    ensures steps { IfOk result (λ piece. steps.new ≤ steps.old + 14 * (lent_at tree.entry).height + 6 * piece.value.height) }
+    ensures steps_of_refusal { OnErr result (steps.new ≤ steps.old + 20 * (lent_at tree.entry).height + 1) }
 {
-    let Some(
-        Way {
-            side,
-            part,
-            other,
-            at,
-        },
-    ) = Node::way(tree, i, steps)
-    else {
-        unreachable!()
+    let Some(tree) = tree else {
+        return Node::fork(alloc, kept, None, value, None, steps);
     };
-    if at == 0 {
-        return match kept {
-            Side::Left => Ok(other.clone()?),
-            Side::Right => Ok(part.clone()?),
-        };
-    }
-    let inner = piece(alloc, kept, part, at, steps)?;
+    let Way {
+        side,
+        part,
+        value: here,
+        other,
+        at,
+    } = tree.way(i, steps);
+    let inner = piece(alloc, kept, part, at, value, steps)?;
     if kept == side {
         return Ok(inner);
     }
-    join(alloc, side, &inner, other, steps)
+    join(alloc, side, Some(inner), here, shared(other)?, steps)
 }
 
 // The same values but for the one at i.
@@ -201,79 +180,118 @@ pub(crate) fn set<L: Ledger>(
     requires { i < length tree.now.value.items }
     ensures items { IfOk result (λ new. new.value.items ≡ slice_set tree.now.value.items i value) }
     ensures height { IfOk result (λ new. new.value.height ≡ tree.now.value.height) }
-    ensures steps { steps.new ≤ steps.old + 2 * tree.now.value.height + 2 }
+    ensures steps { steps.new ≤ steps.old + 2 * tree.now.value.height }
 {
-    let Some(
-        Way {
-            side,
-            part,
-            other,
-            at,
-        },
-    ) = Node::way(tree, i, steps)
-    else {
-        return Node::leaf(alloc, value, steps);
-    };
-    let part = set(alloc, part, at, value, steps)?;
-    Node::fork_on(alloc, side, &part, other, steps)
+    let Way {
+        side,
+        part,
+        value: here,
+        other,
+        at,
+    } = tree.way(i, steps);
+    match part {
+        Some(part) if at < count(Some(part)) => {
+            let part = set(alloc, part, at, value, steps)?;
+            Node::fork(alloc, side, Some(part), here, shared(other)?, steps)
+        }
+        _ => Node::fork(alloc, side, shared(part)?, value, shared(other)?, steps),
+    }
 }
 
 // The same values and one more at i.
 pub(crate) fn insert<L: Ledger>(
     alloc: Global,
-    tree: &Rc<Node>,
+    tree: Option<&Rc<Node>>,
     i: usize,
     value: u32,
     steps: &mut Steps<L>,
 ) -> Result<Rc<Node>, Memory>
-    requires inside { i ≤ length tree.now.value.items }
-    requires short { length tree.now.value.items + 1 < 2 ^ 31 }
-    ensures items { IfOk result (λ new. new.value.items ≡ insert tree.now.value.items i value) }
-    ensures height { IfOk result (λ new. IsGrownHeight tree.now.value.height new.value.height) }
-    ensures steps { steps.new ≤ steps.old + 6 * tree.now.value.height + 3 }
+    requires inside { i ≤ length (lent_at tree).items }
+    requires short { length (lent_at tree).items + 1 < 2 ^ 31 }
+    ensures items { IfOk result (λ new. new.value.items ≡ insert (lent_at tree.entry).items i value) }
+    ensures height { IfOk result (λ new. IsGrownHeight (lent_at tree.entry).height new.value.height) }
+    ensures steps { steps.new ≤ steps.old + 6 * (lent_at tree.entry).height + 1 }
 {
-    let Some(
-        Way {
-            side,
-            part,
-            other,
-            at,
-        },
-    ) = Node::way(tree, i, steps)
-    else {
-        let new = Node::leaf(alloc, value, steps)?;
-        let side = if i == 0 { Side::Left } else { Side::Right };
-        return Node::fork_on(alloc, side, &new, tree, steps);
+    let Some(tree) = tree else {
+        return Node::fork(alloc, Side::Left, None, value, None, steps);
     };
+    let Way {
+        side,
+        part,
+        value: here,
+        other,
+        at,
+    } = tree.way(i, steps);
     let part = insert(alloc, part, at, value, steps)?;
-    balance(alloc, side, &part, other, steps)
+    balance(alloc, side, Some(part), here, shared(other)?, steps)
 }
 
-// The same values without the one at i; no tree where it is the only one.
+// The same values without the one at i.
 pub(crate) fn remove<L: Ledger>(
     alloc: Global,
     tree: &Rc<Node>,
     i: usize,
     steps: &mut Steps<L>,
-) -> Result<Option<Rc<Node>>, Memory>
+) -> Result<Subtree, Memory>
     requires { i < length tree.now.value.items }
-    ensures items { IfOk result (λ new. listed new ≡ remove tree.now.value.items i) }
-    ensures height { IfOk result (λ new. IsShrunk tree.now.value.height new) }
-    ensures steps { steps.new ≤ steps.old + 6 * tree.now.value.height + 1 }
+    ensures items { IfOk result (λ new. (tree_at new).items ≡ remove tree.now.value.items i) }
+    ensures height { IfOk result (λ new. IsGrownHeight (tree_at new).height tree.now.value.height) }
+    ensures steps { steps.new ≤ steps.old + 6 * tree.now.value.height }
 {
-    let Some(
-        Way {
-            side,
-            part,
-            other,
-            at,
-        },
-    ) = Node::way(tree, i, steps)
-    else {
-        return Ok(None);
-    };
-    match remove(alloc, part, at, steps)? {
-        Some(part) => Ok(Some(balance(alloc, side, &part, other, steps)?)),
-        None => Ok(Some(other.clone()?)),
+    let Way {
+        side,
+        part,
+        value,
+        other,
+        at,
+    } = tree.way(i, steps);
+    if at >= count(part) {
+        return both(alloc, part, other, steps);
     }
+    let Some(part) = part else { unreachable!() };
+    let part = remove(alloc, part, at, steps)?;
+    Ok(Some(balance(alloc, side, part, value, shared(other)?, steps)?))
+}
+
+// The values of two trees whose heights differ by at most one, those of the left one first.
+fn both<L: Ledger>(
+    alloc: Global,
+    left: Option<&Rc<Node>>,
+    right: Option<&Rc<Node>>,
+    steps: &mut Steps<L>,
+) -> Result<Subtree, Memory>
+    requires short { length (lent_at left).items + length (lent_at right).items < 2 ^ 31 }
+    requires near { DifferByAtMost 1 (lent_at left).height (lent_at right).height }
+    ensures items { IfOk result (λ new. (tree_at new).items ≡ (lent_at left.entry).items ++ (lent_at right.entry).items) }
+    ensures height { IfOk result (λ new. IsGrownHeight (tree_at new).height (max (lent_at left.entry).height (lent_at right.entry).height + 1)) }
+    ensures steps { steps.new ≤ steps.old + 6 * (lent_at right.entry).height + 5 }
+{
+    let Some(right) = right else {
+        return shared(left);
+    };
+    let (first, rest) = without_first(alloc, right, steps)?;
+    Ok(Some(balance(alloc, Side::Left, shared(left)?, first, rest, steps)?))
+}
+
+// The first value, and the others.
+pub(crate) fn without_first<L: Ledger>(
+    alloc: Global,
+    tree: &Rc<Node>,
+    steps: &mut Steps<L>,
+) -> Result<(u32, Subtree), Memory>
+    ensures items { IfOk result (λ parts. tree.now.value.items ≡ parts.0 ∷ (tree_at parts.1).items) }
+    ensures height { IfOk result (λ parts. IsGrownHeight (tree_at parts.1).height tree.now.value.height) }
+    ensures steps { steps.new ≤ steps.old + 6 * tree.now.value.height }
+{
+    let Parts {
+        one: left,
+        value,
+        other: right,
+    } = tree.parts(Side::Left, steps);
+    let Some(left) = left else {
+        return Ok((value, shared(right)?));
+    };
+    let (first, left) = without_first(alloc, left, steps)?;
+    let rest = balance(alloc, Side::Left, left, value, shared(right)?, steps)?;
+    Ok((first, Some(rest)))
 }

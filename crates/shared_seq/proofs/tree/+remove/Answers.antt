@@ -1,14 +1,21 @@
-use Rattle.std.proofs.Common.{sym, ◌∙◌, ap}
-use Rattle.shared_seq.proofs.Places.{beside_nil, removed}
+use Rattle.std.proofs.Common.{◌≡◌, ◌<◌, length, rules, ◌∙◌}
+use Rattle.std.proofs.lemmas.Result.{IfOk-weaker}
+use Rattle.std.specs.List.{remove}
+use Rattle.shared_seq.specs.Tree.{IsWay, lent_at, tree_at}
+use Rattle.shared_seq.proofs.Places.{removed, removed_between}
 use Rattle.shared_seq.proofs.tree.+remove.Goals as goal
 
-pub returns-in_ok-balance-in-Some-2-clause-items : goal.returns-in_ok-balance-in-Some-2-clause-items
-returns-in_ok-balance-in-Some-2-clause-items g t c =
-    let rest = rw c.in-Some-2.is at c.in_ok-part.ensures.items in
-    c.in_ok-balance-in-Some-2.ensures.joined.items ∙ removed _ _ _ _ _ _ c.in-Some.ensures.way _ rest
+pub returns-then-at-count-clause-items : goal.returns-then-at-count-clause-items
+returns-then-at-count-clause-items g t c =
+    let it = c.way-side.result in
+    let way : IsWay c.args.tree.now.value c.args.i it.side (lent_at it.part) it.value (lent_at it.other) it.at = search rules in
+    let past = rw c.count.ensures.number at c.if-at-count.true in
+    IfOk-weaker c.both.result _ _ (λ new both. both ∙ removed_between it.side c.args.tree.now.value (lent_at it.part) (lent_at it.other) it.value c.args.i it.at way c.requires past) c.both.ensures.items
 
-pub returns-in_ok-clone-in-None-clause-items : goal.returns-in_ok-clone-in-None-clause-items
-returns-in_ok-clone-in-None-clause-items g t c =
-    let none = rw c.in-None.is at c.in_ok-part.ensures.items in
-    ap (λ tree. tree.items) c.in_ok-clone-in-None.ensures.cases ∙ sym (beside_nil c.in-Some.field-0.side c.in-Some.field-0.other.now.value.items)
-    ∙ removed _ _ _ _ _ _ c.in-Some.ensures.way _ none
+pub returns-clause-items : goal.returns-clause-items
+returns-clause-items g t c =
+    let it = c.way-side.result in
+    let way : IsWay c.args.tree.now.value c.args.i it.side (lent_at it.part) it.value (lent_at it.other) it.at = search rules in
+    let changed : (tree_at c.in_ok-part.part).items ≡ remove (lent_at it.part).items it.at = search rules in
+    let within : it.at < length (lent_at it.part).items = search rules in
+    removed it.side _ _ _ it.value c.args.i it.at way (tree_at c.in_ok-part.part) _ (rw c.in_ok-shared.ensures at c.in_ok-balance.ensures.joined) changed within
