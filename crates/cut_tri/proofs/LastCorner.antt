@@ -1,5 +1,5 @@
 -- No point of a counterclockwise triangle comes after all of its corners, by x first and then by y.
-use Rattle.std.proofs.Common.{◌≡◌, ◌⊎◌, inl, inr, [], ◌∷◌, refl, ap, sym, ◌∙◌, ℤ, pos, ◌+ℤ◌, ◌-ℤ◌, ◌*ℤ◌, ◌<ℤ◌, ◌≤ℤ◌, neg_ℤ, arith}
+use Rattle.std.proofs.Common.{◌≡◌, ◌⊎◌, inl, inr, [], ◌∷◌, refl, ap, sym, subst, ◌∙◌, ℤ, pos, ◌+ℤ◌, ◌-ℤ◌, ◌*ℤ◌, ◌<ℤ◌, ◌≤ℤ◌, neg_ℤ, arith}
 use Rattle.std.proofs.lemmas.Int.{ints}
 use Rattle.integer_algebra.proofs.Laws.{zero-mul}
 use Rattle.integer_algebra.proofs.Polynomial.{var, lit, ◌⊕◌, ◌⊖◌, ◌⊗◌, same_value}
@@ -95,9 +95,9 @@ goes_ahead : (a p : Point) → IsBefore a p → GoesAhead (p.x -ℤ a.x) (p.y -�
 goes_ahead a p (inl h) = inl (omega (arith, ints))
 goes_ahead a p (inr h) = let e = h.0 in let k = h.1 in inr (omega (arith, ints), omega (arith, ints))
 
--- the opposite of one that is not negative
-opposite_not_negative : (k m : ℤ) → k ≡ neg_ℤ m → ¬ (k <ℤ pos 0) → pos 0 ≤ℤ (pos 0 -ℤ m)
-opposite_not_negative k m e h = grind (arith, ints)
+-- the difference from 0 is the opposite
+from_zero : (k m : ℤ) → k ≡ neg_ℤ m → k ≡ pos 0 -ℤ m
+from_zero k m e = omega (arith, ints)
 
 -- the sum of the weights is the fourth
 sum_positive : (s t r d : ℤ) → s -ℤ t +ℤ r -ℤ d ≡ pos 0 → pos 0 <ℤ d → pos 0 <ℤ (s +ℤ (pos 0 -ℤ t) +ℤ r)
@@ -111,7 +111,7 @@ after_not_in a b c p left from_a from_b from_c is =
     let at = λ (q r : Point). determinant (whole q) (whole r) (whole p) in
     not_all_ahead (at b c) (pos 0 -ℤ at a c) (at a b)
     (at_least_unless is.not_right_of_second)
-    (opposite_not_negative _ _ (determinant_swap_first (whole a) (whole c) (whole p)) is.not_right_of_third)
+    (subst (λ z. pos 0 ≤ℤ z) (from_zero _ _ (determinant_swap_first (whole a) (whole c) (whole p))) (at_least_unless is.not_right_of_third))
     (at_least_unless is.not_right_of_first)
     (sum_positive (at b c) (at a c) (at a b) _ sum left)
     _ _ _ _ _ _ (goes_ahead a p from_a) (goes_ahead b p from_b) (goes_ahead c p from_c)

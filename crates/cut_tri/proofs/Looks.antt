@@ -46,8 +46,8 @@ module _ (corners : List Point) (xs : List ℕ) (corner : Corner) (at : IsCorner
 
   module _ (i : ℕ) (p : Point) (is : p ≡ vertex corners i) where
     -- a vertex of the piece that is not the first is in the corner where it is a candidate
-    pub in_corner : Contains xs i → ¬ (i ≡ get_or xs 0 0) → 3 ≤ length xs → IsCandidate corner i p → IsInCornerOf corners xs i
-    in_corner has other three candidate = record {
+    pub in_corner : Contains xs i → ¬ (i ≡ get_or xs 0 0) → IsCandidate corner i p → IsInCornerOf corners xs i
+    in_corner has other candidate = record {
       member = has;
       not_first = other;
       not_second = λ e. candidate.not_last (e ∙ sym (ap (λ t. t.c) at.tri));

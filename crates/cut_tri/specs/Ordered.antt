@@ -21,8 +21,8 @@ pub record IsOrderOf (corners : List Point) (boundary order : List ℕ) : Type 0
   pub falls : AllPairs (IsAfter corners) order
 
 -- the boundary of a piece, and its order
-abbrev pub IsOrdered : List Point → Piece → Type 0
-IsOrdered corners piece = IsPiece corners piece.boundary.items × IsOrderOf corners piece.boundary.items piece.order.items
+abbrev pub IsPieceInOrder : List Point → Piece → Type 0
+IsPieceInOrder corners piece = IsPiece corners piece.boundary.items × IsOrderOf corners piece.boundary.items piece.order.items
 
 -- the place on the boundary of the least vertex, which is the last of the order
 pub record IsLeastPlace (boundary order : List ℕ) (place : ℕ) : Type 0 where
@@ -31,7 +31,7 @@ pub record IsLeastPlace (boundary order : List ℕ) (place : ℕ) : Type 0 where
 
 -- a piece that begins with its least vertex
 pub record IsOrderedFromLeast (corners : List Point) (piece : Piece) : Type 0 where
-  pub ordered : IsOrdered corners piece
+  pub ordered : IsPieceInOrder corners piece
   pub least : IsLeastPlace piece.boundary.items piece.order.items 0
 
 -- the pieces that remain have their orders

@@ -1,7 +1,7 @@
 // One cut of a piece.
 ghost use Rattle.std.specs.Prelude.{◌≡◌, ◌<◌, ◌≤◌, IfOk, length, slice_index_or};
 ghost use Rattle.cut_tri.specs.Cutting.{IsCutOf};
-ghost use Rattle.cut_tri.specs.Ordered.{AreOrdered, IsFarthestNumber, IsLeastPlace, IsOrdered, IsOrderedFromLeast};
+ghost use Rattle.cut_tri.specs.Ordered.{AreOrdered, IsFarthestNumber, IsLeastPlace, IsPieceInOrder, IsOrderedFromLeast};
 ghost use Rattle.cut_tri.specs.Piece.{IsPiece, tri_at_first};
 
 use crate::farthest::farthest;
@@ -34,7 +34,7 @@ pub(crate) fn cut<L: Ledger>(
     places: &mut [usize],
     steps: &mut Steps<L>,
 ) -> Result<Remains, Memory>
-    requires ordered { IsOrdered ring.now.corners piece }
+    requires ordered { IsPieceInOrder ring.now.corners piece }
     requires places { length places.old ≡ length ring.now.corners }
     ensures cut { IfOk result (IsCutOf ring.now.corners piece.boundary.items) }
     ensures ordered { IfOk result (AreOrdered ring.now.corners) }
@@ -47,7 +47,7 @@ pub(crate) fn cut<L: Ledger>(
 
 // The place of the lexicographically least vertex, which is the last of the order.
 fn least_place(ring: &Ring, piece: &Piece) -> usize
-    requires { IsOrdered ring.now.corners piece.now }
+    requires { IsPieceInOrder ring.now.corners piece.now }
     ensures { IsLeastPlace piece.now.boundary.items piece.now.order.items result }
 {
     place_of(&piece.boundary, piece.order[piece.order.len() - 1])

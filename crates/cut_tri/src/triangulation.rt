@@ -3,7 +3,7 @@ ghost use Rattle.std.specs.Prelude.{◌≡◌, IfOk, List, OnOk, length};
 ghost use Rattle.plane.specs.Point.{Point};
 ghost use Rattle.meshes.specs.Fits.{Fits};
 ghost use Rattle.cut_tri.specs.Cut.{IsCutTriangulation};
-ghost use Rattle.cut_tri.specs.Ordered.{AreOrdered, IsOrdered};
+ghost use Rattle.cut_tri.specs.Ordered.{AreOrdered, IsPieceInOrder};
 ghost use Rattle.cut_tri.specs.WorkList.{HaveOrders, IsTakenOver, last_first};
 
 use crate::cut::{Remains, cut};
@@ -62,7 +62,7 @@ fn take_over(left: Remains, tris: &mut Vec<Tri>, work: &mut Vec<Piece>) -> Resul
 // The piece of all vertices.
 fn whole_piece<L: Ledger>(alloc: Global, ring: &Ring, steps: &mut Steps<L>) -> Result<Piece, Memory>
     ensures all { IfOk result (λ piece. piece.boundary.items ≡ range_with_len 0 (length ring.now.corners)) }
-    ensures ordered { IfOk result (IsOrdered ring.now.corners) }
+    ensures ordered { IfOk result (IsPieceInOrder ring.now.corners) }
 {
     let mut order = lexical(alloc, ring, steps)?;
     order.reverse();

@@ -72,7 +72,7 @@ loop-rank-preserved g c =
     let other : ¬ (i ≡ get_or xs 0 0) = λ e. not_least corners xs os ordered c.requires.least n some within (sym is ∙ e) in
     elim c.match-candidate.branch [
       | in-Some w ↦
-          let here = in_corner corners xs c.of-corner.result at i c.corner-p.result c.corner-p.ensures has other c.requires.ordered.0.polygon.some w.in-Some.ensures.inside in
+          let here = in_corner corners xs c.of-corner.result at i c.corner-p.result c.corner-p.ensures has other w.in-Some.ensures.inside in
           let candidate = candidate_is corners xs c.of-corner.result at i c.corner-p.result c.corner-p.ensures _ w.in-Some.ensures.candidate in
           subst (IsBestBelow corners xs os (n + 1)) (sym w.best-is)
           (best_more corners xs os n c.loop-rank.best c.loop-rank.invariant w.farther.result
