@@ -11,8 +11,7 @@ use Rattle.ring_laws.proofs.Simple.{InTriangle, height}
 use Rattle.meshes.proofs.Triangulations.{points_are}
 use Rattle.meshes.specs.Fits.{piece_points}
 use Rattle.cut_tri.proofs.Shapes.{ends_length, last_is, middle_is}
-use Rattle.cut_tri.specs.Cut.{IsPlaceInCorner}
-use Rattle.cut_tri.specs.Corner.{candidate_at}
+use Rattle.cut_tri.specs.Cut.{IsPlaceInCorner, height_at}
 use Rattle.cut_tri.specs.Piece.{IsLeastBelow}
 
 -- a point of a piece is the vertex at a place
@@ -42,8 +41,8 @@ module _ (corners : List Point) (v w : ℕ) (ms : List ℕ) (u : ℕ) where
         subst (λ b. IsInTriangle (vertex corners u) (vertex corners v) (vertex corners w) (whole (vertex corners b))) (middle_is v w ms u i within)
         (subst (λ a. IsInTriangle (vertex corners a) (vertex corners v) (vertex corners w) (whole (vertex corners (get_or (v ∷ w ∷ (ms ++ u ∷ [])) (i + 2) 0)))) (last_is v w ms u) h.in_triangle)
 
-    -- its height is that of the candidate
-    pub height_is : (candidate_at corners (v ∷ w ∷ (ms ++ u ∷ [])) (i + 2)).height ≡ height (vertex corners u) (vertex corners w) (vertex corners (get_or ms i 0))
+    -- its height is the same
+    pub height_is : height_at corners (v ∷ w ∷ (ms ++ u ∷ [])) (i + 2) ≡ height (vertex corners u) (vertex corners w) (vertex corners (get_or ms i 0))
     height_is = λ j. height (vertex corners (last_is v w ms u j)) (vertex corners w) (vertex corners (middle_is v w ms u i within j))
 
   -- where the corner is empty, so is the triangle

@@ -1,5 +1,5 @@
 -- A piece with vertices in the triangle at its first vertex: the diagonal to the farthest of them makes two pieces.
-use Rattle.std.proofs.Common.{◌≡◌, inl, refl, sym, ap, subst, ◌∙◌, ℕ, ◌+◌, ◌<◌, ◌≤ℤ◌, ◌<ℤ◌, List, [], ◌∷◌, ◌++◌, length, get_or, take, drop, arith}
+use Rattle.std.proofs.Common.{◌≡◌, inl, refl, sym, ap, subst, ◌∙◌, ℕ, ◌+◌, ◌<◌, ◌≤ℤ◌, List, [], ◌∷◌, ◌++◌, length, get_or, take, drop, arith}
 use Rattle.std.proofs.lemmas.List.{append_assoc, drop_at, get_or_at, length-append, map-append, take_at}
 use Rattle.plane.specs.Point.{Point}
 use Rattle.rings.proofs.Vertices.{HasPoint, Farthest, has_right}
@@ -9,21 +9,19 @@ use Rattle.ring_laws.proofs.Simple.{InTriangle, height}
 use Rattle.meshes.proofs.Joins.{both_parts, contains_first_part, contains_second_part, first_part, second_part}
 use Rattle.meshes.proofs.Triangulations.{CutsPoints, SplitAt, both_fit, farthest_cut, first_is_piece, second_is_piece}
 use Rattle.meshes.specs.Fits.{piece_points}
-use Rattle.cut_tri.proofs.Candidates.{at_most, is_farthest}
 use Rattle.cut_tri.proofs.CornerPlaces.{height_is, in_corner_from, in_triangle_from, none_before, place_of_point}
 use Rattle.cut_tri.proofs.Members.{members_of_numbers, numbers_of_members}
 use Rattle.cut_tri.proofs.Readings.{read_from_first}
-use Rattle.cut_tri.proofs.Shapes.{by_split, ends_length}
-use Rattle.cut_tri.specs.Cut.{IsCutInto}
+use Rattle.cut_tri.proofs.Shapes.{by_split}
+use Rattle.cut_tri.specs.Cut.{IsCutInto, IsFarthest, height_at}
 use Rattle.cut_tri.specs.Cut.IsCutInto.{parts}
-use Rattle.cut_tri.specs.Corner.{IsFarthestBelow, candidate_at}
 use Rattle.cut_tri.specs.Cutting.{AreDiagonalPieces}
 use Rattle.cut_tri.specs.Piece.{IsLeastBelow, IsPiece}
 
 -- ---- the farthest vertex, as a point
 
 module _ (corners : List Point) (v w : ℕ) (ms : List ℕ) (u : ℕ) (i : ℕ) (within : i < length ms)
-    (far : IsFarthestBelow corners (v ∷ w ∷ (ms ++ u ∷ [])) (length (v ∷ w ∷ (ms ++ u ∷ []))) (i + 2)) where
+    (far : IsFarthest corners (v ∷ w ∷ (ms ++ u ∷ [])) (i + 2)) where
   -- no vertex in the triangle is higher
   none_higher : (q : Point) → HasPoint (piece_points corners ms) q → InTriangle (vertex corners u) (vertex corners v) (vertex corners w) q
       → height (vertex corners u) (vertex corners w) q ≤ℤ height (vertex corners u) (vertex corners w) (vertex corners (get_or ms i 0))
@@ -31,10 +29,9 @@ module _ (corners : List Point) (v w : ℕ) (ms : List ℕ) (u : ℕ) (i : ℕ) 
       let (k, below, is) = place_of_point corners ms q has in
       let in_corner = in_corner_from corners v w ms u k below
       (subst (InTriangle (vertex corners u) (vertex corners v) (vertex corners w)) (sym is) inside) in
-      let not_farther = far.farthest (k + 2) (omega (arith, below, ends_length v w ms u)) in_corner in
       subst (λ (p : Point). height (vertex corners u) (vertex corners w) p ≤ℤ height (vertex corners u) (vertex corners w) (vertex corners (get_or ms i 0))) is
-      (at_most _ _ (λ higher. not_farther (inl (subst (λ a. a <ℤ (candidate_at corners (v ∷ w ∷ (ms ++ u ∷ [])) (k + 2)).height) (sym (height_is corners v w ms u i within))
-      (subst (λ b. height (vertex corners u) (vertex corners w) (vertex corners (get_or ms i 0)) <ℤ b) (sym (height_is corners v w ms u k below)) higher)))))
+      (subst (λ a. a ≤ℤ height (vertex corners u) (vertex corners w) (vertex corners (get_or ms i 0))) (height_is corners v w ms u k below)
+      (subst (λ a. height_at corners (v ∷ w ∷ (ms ++ u ∷ [])) (k + 2) ≤ℤ a) (height_is corners v w ms u i within) (far.farthest (k + 2) in_corner)))
 
 -- ---- the diagonal to it
 
@@ -69,7 +66,7 @@ module _ (corners : List Point) (v w : ℕ) (cs : List ℕ) (z : ℕ) (ds : List
 
   module _ (piece : IsPiece corners (v ∷ w ∷ (others ++ u ∷ [])))
       (least : IsLeastBelow corners (v ∷ w ∷ (others ++ u ∷ [])) (length (v ∷ w ∷ (others ++ u ∷ []))) 0)
-      (far : IsFarthestBelow corners (v ∷ w ∷ (others ++ u ∷ [])) (length (v ∷ w ∷ (others ++ u ∷ []))) (length cs + 2)) where
+      (far : IsFarthest corners (v ∷ w ∷ (others ++ u ∷ [])) (length cs + 2)) where
     -- it is the farthest in the triangle
     abbrev farthest_point : Farthest (InTriangle (vertex corners u) (vertex corners v) (vertex corners w)) (height (vertex corners u) (vertex corners w)) (piece_points corners others)
     farthest_point = record {
@@ -111,7 +108,7 @@ module _ (corners : List Point) (v w : ℕ) (cs : List ℕ) (z : ℕ) (ds : List
               let xs = both_parts v (w ∷ cs) z (ds ++ u ∷ []) in
               parts xs xs (length cs + 2) ts us
               (read_from_first corners xs (omega arith) (subst (λ ys. IsLeastBelow corners ys (length ys) 0) regrouped least))
-              (is_farthest corners xs (length cs + 2) (subst (λ ys. IsFarthestBelow corners ys (length ys) (length cs + 2)) regrouped far))
+              (subst (λ ys. IsFarthest corners ys (length cs + 2)) regrouped far)
               (subst (λ ys. IsCutInto corners ys ts) (sym first_is) first_cut)
               (subst (λ ys. IsCutInto corners (v ∷ ys) us) (sym second_is) second_cut);
         }
@@ -122,7 +119,7 @@ module _ (corners : List Point) where
   -- what the code makes of the piece is its parts
   parts_at : (v w : ℕ) (cs : List ℕ) (z : ℕ) (ds : List ℕ) (u : ℕ) → IsPiece corners (v ∷ (w ∷ cs ++ z ∷ (ds ++ u ∷ [])))
       → IsLeastBelow corners (v ∷ (w ∷ cs ++ z ∷ (ds ++ u ∷ []))) (length (v ∷ (w ∷ cs ++ z ∷ (ds ++ u ∷ [])))) 0
-      → IsFarthestBelow corners (v ∷ (w ∷ cs ++ z ∷ (ds ++ u ∷ []))) (length (v ∷ (w ∷ cs ++ z ∷ (ds ++ u ∷ [])))) (length cs + 2)
+      → IsFarthest corners (v ∷ (w ∷ cs ++ z ∷ (ds ++ u ∷ []))) (length cs + 2)
       → AreDiagonalPieces corners (v ∷ (w ∷ cs ++ z ∷ (ds ++ u ∷ []))) (take (length cs + 2 + 1) (v ∷ (w ∷ cs ++ z ∷ (ds ++ u ∷ []))))
       (v ∷ drop (length cs + 2) (v ∷ (w ∷ cs ++ z ∷ (ds ++ u ∷ []))))
   parts_at v w cs z ds u piece least far =
@@ -132,12 +129,12 @@ module _ (corners : List Point) where
       (subst (λ ys. AreDiagonalPieces corners xs (first_part v (w ∷ cs) z) (v ∷ ys)) (sym (second_is corners v w cs z ds u))
       (are_parts corners v w cs z ds u (subst (IsPiece corners) back piece)
       (subst (λ ys. IsLeastBelow corners ys (length ys) 0) back least)
-      (subst (λ ys. IsFarthestBelow corners ys (length ys) (length cs + 2)) back far)))
+      (subst (λ ys. IsFarthest corners ys (length cs + 2)) back far)))
 
   -- so it is at any place of a farthest vertex
-  pub parts_cut : (xs : List ℕ) (place : ℕ) → IsPiece corners xs → IsLeastBelow corners xs (length xs) 0 → IsFarthestBelow corners xs (length xs) place
+  pub parts_cut : (xs : List ℕ) (place : ℕ) → IsPiece corners xs → IsLeastBelow corners xs (length xs) 0 → IsFarthest corners xs place
       → AreDiagonalPieces corners xs (take (place + 1) xs) (get_or xs 0 0 ∷ drop place xs)
   parts_cut xs place piece least far =
-      by_split (λ xs place. IsPiece corners xs → IsLeastBelow corners xs (length xs) 0 → IsFarthestBelow corners xs (length xs) place
+      by_split (λ xs place. IsPiece corners xs → IsLeastBelow corners xs (length xs) 0 → IsFarthest corners xs place
       → AreDiagonalPieces corners xs (take (place + 1) xs) (get_or xs 0 0 ∷ drop place xs))
       parts_at xs place far.in_corner.after_second far.in_corner.before_last piece least far

@@ -1,5 +1,5 @@
 -- A piece at whose first vertex the triangle is empty: the triangle is an ear.
-use Rattle.std.proofs.Common.{◌≡◌, sym, subst, ℕ, ◌<◌, List, [], ◌∷◌, ◌++◌, length, remove, arith}
+use Rattle.std.proofs.Common.{◌≡◌, sym, subst, ℕ, ◌<◌, List, [], ◌∷◌, ◌++◌, length, drop, arith}
 use Rattle.std.proofs.lemmas.List.{length-append}
 use Rattle.plane.specs.Point.{Point}
 use Rattle.meshes.proofs.Joins.{contains_rest}
@@ -64,9 +64,9 @@ module _ (corners : List Point) (v w : ℕ) (ms : List ℕ) (u : ℕ) (piece : I
 module _ (corners : List Point) where
   -- the same of any piece of more than three vertices
   pub ear_cut : (xs : List ℕ) → IsPiece corners xs → IsLeastBelow corners xs (length xs) 0 → ¬ (length xs ≡ 3)
-      → ((j : ℕ) → j < length xs → ¬ (IsPlaceInCorner corners xs j)) → IsEarCut corners xs (tri_at_first xs) (remove xs 0)
+      → ((j : ℕ) → j < length xs → ¬ (IsPlaceInCorner corners xs j)) → IsEarCut corners xs (tri_at_first xs) (drop 1 xs)
   ear_cut xs piece =
       by_ends (λ xs. IsPiece corners xs → IsLeastBelow corners xs (length xs) 0 → ¬ (length xs ≡ 3)
-      → ((j : ℕ) → j < length xs → ¬ (IsPlaceInCorner corners xs j)) → IsEarCut corners xs (tri_at_first xs) (remove xs 0))
+      → ((j : ℕ) → j < length xs → ¬ (IsPlaceInCorner corners xs j)) → IsEarCut corners xs (tri_at_first xs) (drop 1 xs))
       (λ v w ms u piece least more none. is_ear corners v w ms u piece least (omega (arith, more, length-append ms (u ∷ []))) none)
       xs piece.polygon.some piece

@@ -4,9 +4,14 @@ mod CornerPlaces
 mod DiagonalCuts
 mod DistinctCorners
 mod EarCuts
+mod Ends
+mod LastCorner
+mod Looks
 mod Members
 pub mod OneCut
 mod OneReading
+mod Orders
+mod Parts
 mod Readings
 mod RotatedCuts
 mod Shapes

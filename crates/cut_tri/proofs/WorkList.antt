@@ -1,6 +1,7 @@
 -- The pieces that are still to be cut: how they complete a mesh, and how much is still to be done, after one cut more.
-use Rattle.std.proofs.Common.{◌≡◌, sym, ap, subst, ◌∙◌, ℕ, ◌+◌, ◌<◌, List, [], ◌∷◌, ◌++◌, length, map, reverse, Vec, Global, arith}
-use Rattle.std.proofs.lemmas.List.{append_assoc, map-append, reverse-append}
+use Rattle.std.proofs.Common.{◌≡◌, sym, ap, subst, ◌∙◌, ℕ, ◌+◌, ◌<◌, List, [], ◌∷◌, ◌++◌, length, map, reverse, take, drop, Some, arith}
+use Rattle.std.proofs.lemmas.List.{append_assoc, length-append, length-take-le, map-append, reverse-append}
+use Rattle.std.proofs.lemmas.List.Elements.{All-pop, All-push}
 use Rattle.std.proofs.lemmas.List.FromFn.{length-range_with_len}
 use Rattle.std.specs.List.{range_with_len}
 use Rattle.plane.specs.Point.{Point}
@@ -9,16 +10,18 @@ use Rattle.meshes.specs.declared.tri.Tri.{Tri}
 use Rattle.cut_tri.proofs.Completion.{ArePieces, Completes, effort}
 use Rattle.cut_tri.specs.Cut.{IsCutTriangulation}
 use Rattle.cut_tri.specs.Cutting.{AreDiagonalPieces, IsCutOf, IsEarCut, IsTriangle}
+use Rattle.cut_tri.specs.Ordered.{IsOrderOf}
 use Rattle.cut_tri.specs.Piece.{IsPiece}
-use Rattle.cut_tri.specs.WorkList.{IsTakenOver, last_first}
+use Rattle.cut_tri.specs.WorkList.{HaveOrders, IsTakenOver, last_first}
 use Rattle.cut_tri.specs.declared.cut.Remains.{Remains}
 use Rattle.cut_tri.specs.declared.cut.Remains.TheVariants.{Triangle, Ear, Parts}
+use Rattle.cut_tri.specs.declared.piece.Piece.{Piece}
 
 -- the last piece of a work list is the first that is still to be cut
-pub last_first-push : (work : List (Vec ℕ Global)) (piece : Vec ℕ Global) → last_first (work ++ piece ∷ []) ≡ piece.items ∷ last_first work
+pub last_first-push : (work : List Piece) (piece : Piece) → last_first (work ++ piece ∷ []) ≡ piece.boundary.items ∷ last_first work
 last_first-push work piece =
-    ap reverse (map-append (λ (v : Vec ℕ Global). v.items) work (piece ∷ []))
-    ∙ reverse-append (map (λ (v : Vec ℕ Global). v.items) work) (piece.items ∷ [])
+    ap reverse (map-append (λ (p : Piece). p.boundary.items) work (piece ∷ []))
+    ∙ reverse-append (map (λ (p : Piece). p.boundary.items) work) (piece.boundary.items ∷ [])
 
 -- triangles and pieces that complete a mesh of the ring, with less effort than before
 pub record IsNearer (corners : List Point) (before : ℕ) (done : List Tri) (pieces : List (List ℕ)) : Type 0 where
@@ -63,17 +66,17 @@ module _ (corners : List Point) (piece : List ℕ) (pieces : List (List ℕ)) (d
       (subst (IsNearer corners (effort (piece ∷ pieces)) (done ++ tri ∷ [])) (sym taken.1) (with_triangle tri is))
   nearer (Ear tri rest) done_after pieces_after is taken =
       subst (λ ts. IsNearer corners (effort (piece ∷ pieces)) ts pieces_after) (sym taken.0)
-      (subst (IsNearer corners (effort (piece ∷ pieces)) (done ++ tri ∷ [])) (sym taken.1) (with_ear tri rest.items is))
+      (subst (IsNearer corners (effort (piece ∷ pieces)) (done ++ tri ∷ [])) (sym taken.1) (with_ear tri rest.boundary.items is))
   nearer (Parts first second) done_after pieces_after is taken =
       subst (λ ts. IsNearer corners (effort (piece ∷ pieces)) ts pieces_after) (sym taken.0)
-      (subst (IsNearer corners (effort (piece ∷ pieces)) done) (sym taken.1) (with_parts first.items second.items is))
+      (subst (IsNearer corners (effort (piece ∷ pieces)) done) (sym taken.1) (with_parts first.boundary.items second.boundary.items is))
 
 -- ---- the work list
 
 module _ (corners : List Point) where
   -- at the start it has the piece of all vertices
-  pub at_start : (none work : List (Vec ℕ Global)) (piece : Vec ℕ Global) (done : List Tri) → none ≡ [] → work ≡ none ++ piece ∷ []
-      → piece.items ≡ range_with_len 0 (length corners)
+  pub at_start : (none work : List Piece) (piece : Piece) (done : List Tri) → none ≡ [] → work ≡ none ++ piece ∷ []
+      → piece.boundary.items ≡ range_with_len 0 (length corners)
       → done ≡ [] → IsPiece corners (range_with_len 0 (length corners)) → ArePieces corners (last_first work) × Completes corners done (last_first work)
   at_start none work piece done none_is work_is piece_is done_is is_piece =
       subst (λ ws. ArePieces corners (last_first ws) × Completes corners done (last_first ws)) (sym (work_is ∙ ap (λ ws. ws ++ piece ∷ []) none_is))
@@ -81,26 +84,44 @@ module _ (corners : List Point) where
       (subst (λ ts. ArePieces corners (range_with_len 0 (length corners) ∷ []) × Completes corners ts (range_with_len 0 (length corners) ∷ [])) (sym done_is)
       ((is_piece, tt), λ ts fit cut. (fit, cut))))
 
-  module _ (work rest : List (Vec ℕ Global)) (piece : Vec ℕ Global) (done : List Tri) (is : work ≡ rest ++ piece ∷ [])
+  module _ (work rest : List Piece) (piece : Piece) (done : List Tri) (is : work ≡ rest ++ piece ∷ [])
       (so_far : ArePieces corners (last_first work) × Completes corners done (last_first work)) where
     -- the pieces are the last one and the others
-    pieces_are : last_first work ≡ piece.items ∷ last_first rest
+    pieces_are : last_first work ≡ piece.boundary.items ∷ last_first rest
     pieces_are = ap last_first is ∙ last_first-push rest piece
 
     -- the last one is a piece
-    last_is_piece : IsPiece corners piece.items
+    pub last_is_piece : IsPiece corners piece.boundary.items
     last_is_piece = (subst (ArePieces corners) pieces_are so_far.0).0
 
     -- to cut it comes nearer
-    pub one_step : (remains : Remains) (done_after : List Tri) (pieces_after : List (List ℕ)) → IsCutOf corners piece.items remains
+    pub one_step : (remains : Remains) (done_after : List Tri) (pieces_after : List (List ℕ)) → IsCutOf corners piece.boundary.items remains
         → IsTakenOver remains done (last_first rest) done_after pieces_after → IsNearer corners (effort (last_first work)) done_after pieces_after
     one_step remains done_after pieces_after is_cut taken =
         subst (λ n. IsNearer corners n done_after pieces_after) (sym (ap effort pieces_are))
-        (nearer corners piece.items (last_first rest) done last_is_piece (subst (ArePieces corners) pieces_are so_far.0).1
+        (nearer corners piece.boundary.items (last_first rest) done last_is_piece (subst (ArePieces corners) pieces_are so_far.0).1
         (subst (Completes corners done) pieces_are so_far.1) remains done_after pieces_after is_cut taken)
 
   -- in the end the triangles fit, as many as there are vertices but two, and are those into which the ring is cut
-  pub at_end : (work : List (Vec ℕ Global)) (done : List Tri) → length work ≡ 0 → Completes corners done (last_first work)
+  pub at_end : (work : List Piece) (done : List Tri) → length work ≡ 0 → Completes corners done (last_first work)
       → Fits corners done × (length done + 2 ≡ length corners) × IsCutTriangulation corners done
   at_end [] done none (fits, cut) = (fits, fits.count ∙ length-range_with_len 0 (length corners), cut)
   at_end (v ∷ work) done none completes = absurd (omega arith)
+
+-- ---- orders
+
+module _ (corners : List Point) (work rest : List Piece) (piece : Piece) (is : work ≡ rest ++ piece ∷ []) where
+  -- a piece more
+  pub orders_pushed : HaveOrders corners rest → IsOrderOf corners piece.boundary.items piece.order.items → HaveOrders corners work
+  orders_pushed orders order =
+      subst (HaveOrders corners) (sym is) (All-push (λ (p : Piece). IsOrderOf corners p.boundary.items p.order.items) rest piece orders order)
+
+  -- and the last one taken off
+  pub orders_popped : HaveOrders corners work → HaveOrders corners rest × IsOrderOf corners piece.boundary.items piece.order.items
+  orders_popped = All-pop (λ (p : Piece). IsOrderOf corners p.boundary.items p.order.items) work rest (Some piece) is
+
+-- a slice of the same length, written back, leaves the length
+pub length_kept : (new items : List ℕ) (len : ℕ) → length new ≡ length items → len ≡ length items
+    → length (take len (new ++ drop (length new) items)) ≡ length items
+length_kept new items len same all =
+    length-take-le len (new ++ drop (length new) items) (omega (arith, same, all, length-append new (drop (length new) items))) ∙ all

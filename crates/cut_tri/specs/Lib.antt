@@ -1,5 +1,6 @@
 pub mod Corner
 pub mod Cut
 pub mod Cutting
+pub mod Ordered
 pub mod Piece
 pub mod WorkList

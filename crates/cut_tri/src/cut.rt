@@ -1,16 +1,16 @@
-// One cut of a piece: some of the vertices of a polygon, by their numbers, in the order of the piece's boundary.
-ghost use Rattle.std.specs.Prelude.{◌≡◌, ◌<◌, ◌≤◌, ◌↔◌, IfOk, IsTrue, length, drop, slice_index, ◌∷◌};
-ghost use Rattle.plane.specs.Order.{IsBefore};
-ghost use Rattle.rings.specs.Ring.{vertex};
+// One cut of a piece.
+ghost use Rattle.std.specs.Prelude.{◌≡◌, ◌<◌, ◌≤◌, IfOk, length, slice_index_or};
 ghost use Rattle.cut_tri.specs.Cutting.{IsCutOf};
-ghost use Rattle.cut_tri.specs.Piece.{HasNumbers, IsLeastBelow, IsPiece, tri_at_first};
+ghost use Rattle.cut_tri.specs.Ordered.{AreOrdered, IsFarthestNumber, IsLeastPlace, IsPieceInOrder, IsOrderedFromLeast};
+ghost use Rattle.cut_tri.specs.Piece.{IsPiece, tri_at_first};
 
 use crate::farthest::farthest;
-use exact_plane::{Memory, Steps, order};
+use crate::piece::{Piece, note_places, part_order, place_of};
+use exact_plane::{Memory, Steps};
 use meshes::Tri;
 use ring_check::Ring;
 use std::alloc::Global;
-use std::cmp::Ordering;
+use std::collections::VecDeque;
 use std::sync::ledger::Ledger;
 
 // What remains of a piece.
@@ -19,99 +19,114 @@ pub(crate) enum Remains {
     // The piece is a triangle.
     Triangle(Tri),
     // A triangle, and the rest of the piece.
-    Ear(Tri, Vec<u32>),
+    Ear(Tri, Piece),
     // Two pieces, of which each has the diagonal as an edge.
-    Parts(Vec<u32>, Vec<u32>),
+    Parts(Piece, Piece),
 }
 
 // Cuts a piece at its lexicographically least vertex v, with u before it and w after it: along the segment from u to w, or
-// from v to the vertex of the closed triangle u, v, w that is farthest from the line through u and w.
+// from v to the vertex of the closed triangle u, v, w that is farthest from the line through u and w. Of `places` only the
+// length matters.
 pub(crate) fn cut<L: Ledger>(
     alloc: Global,
     ring: &Ring,
-    mut piece: Vec<u32>,
+    mut piece: Piece,
+    places: &mut [usize],
     steps: &mut Steps<L>,
 ) -> Result<Remains, Memory>
-    requires { IsPiece ring.now.corners piece.items }
-    ensures { IfOk result (IsCutOf ring.now.corners piece.items) }
+    requires ordered { IsPieceInOrder ring.now.corners piece }
+    requires places { length places.old ≡ length ring.now.corners }
+    ensures cut { IfOk result (IsCutOf ring.now.corners piece.boundary.items) }
+    ensures ordered { IfOk result (AreOrdered ring.now.corners) }
+    ensures places { length places.new ≡ length places.old }
 {
-    let least = least_place(ring, &piece, steps);
-    piece.rotate_left(least);
-    cut_at_first(alloc, ring, piece, steps)
+    let least = least_place(ring, &piece);
+    piece.boundary.rotate_left(least);
+    cut_at_first(alloc, ring, piece, places, steps)
+}
+
+// The place of the lexicographically least vertex, which is the last of the order.
+fn least_place(ring: &Ring, piece: &Piece) -> usize
+    requires { IsPieceInOrder ring.now.corners piece.now }
+    ensures { IsLeastPlace piece.now.boundary.items piece.now.order.items result }
+{
+    place_of(&piece.boundary, piece.order[piece.order.len() - 1])
 }
 
 // Cuts a piece at its first vertex.
 fn cut_at_first<L: Ledger>(
     alloc: Global,
     ring: &Ring,
-    mut piece: Vec<u32>,
+    mut piece: Piece,
+    places: &mut [usize],
     steps: &mut Steps<L>,
 ) -> Result<Remains, Memory>
-    requires piece { IsPiece ring.now.corners piece.items }
-    requires least { IsLeastBelow ring.now.corners piece.items (length piece.items) 0 }
-    ensures { IfOk result (IsCutOf ring.now.corners piece.items) }
+    requires ordered { IsOrderedFromLeast ring.now.corners piece }
+    requires places { length places.old ≡ length ring.now.corners }
+    ensures cut { IfOk result (IsCutOf ring.now.corners piece.boundary.items) }
+    ensures ordered { IfOk result (AreOrdered ring.now.corners) }
+    ensures places { length places.new ≡ length places.old }
 {
-    let tri = corner_of(&piece);
-    if piece.len() == 3 {
+    let tri = corner_of(&piece.boundary);
+    if piece.boundary.len() == 3 {
         return Ok(Remains::Triangle(tri));
     }
     match farthest(ring, &piece, steps) {
         None => {
-            piece.remove(0);
+            let _ = piece.boundary.pop_front();
+            let _ = piece.order.pop();
             Ok(Remains::Ear(tri, piece))
         }
-        Some(place) => {
-            let second = first_and_from(alloc, &piece, place)?;
-            piece.truncate(place + 1);
-            Ok(Remains::Parts(piece, second))
+        Some(number) => {
+            let (first, second) = parts(alloc, ring, piece, number, places)?;
+            Ok(Remains::Parts(first, second))
         }
     }
-}
-
-// The place of the lexicographically least vertex.
-fn least_place<L: Ledger>(ring: &Ring, piece: &[u32], steps: &mut Steps<L>) -> usize
-    requires some { 0 < length piece.now }
-    requires numbers { HasNumbers ring.now.corners piece.now }
-    ensures place { result < length piece.now }
-    ensures least { IsLeastBelow ring.now.corners piece.now (length piece.now) result }
-{
-    let mut least = 0;
-    for place in 1..piece.len() {
-        if is_before(ring, piece[place], piece[least], steps) {
-            least = place;
-        }
-    }
-    least
-}
-
-// Whether vertex `i` comes before vertex `j`.
-fn is_before<L: Ledger>(ring: &Ring, i: u32, j: u32, steps: &mut Steps<L>) -> bool
-    requires first { i < length ring.now.corners }
-    requires second { j < length ring.now.corners }
-    ensures { IsTrue result ↔ IsBefore (vertex ring.now.corners i) (vertex ring.now.corners j) }
-{
-    order(&ring.corner(i), &ring.corner(j), steps) == Ordering::Less
 }
 
 // The triangle at the first vertex.
-fn corner_of(piece: &[u32]) -> Tri
-    requires { 2 ≤ length piece.now }
-    ensures { result ≡ tri_at_first piece.now }
+pub(crate) fn corner_of(boundary: &VecDeque<u32>) -> Tri
+    requires { 2 ≤ length boundary.now.items }
+    ensures { result ≡ tri_at_first boundary.now.items }
 {
     Tri {
-        a: piece[piece.len() - 1],
-        b: piece[0],
-        c: piece[1],
+        a: boundary[boundary.len() - 1],
+        b: boundary[0],
+        c: boundary[1],
     }
 }
 
-// The first vertex, and those from this place on.
-fn first_and_from(alloc: Global, piece: &[u32], place: usize) -> Result<Vec<u32>, Memory>
-    requires { place < length piece.now }
-    ensures { IfOk result (λ part. part.items ≡ slice_index piece.now 0 ∷ drop place piece.now) }
+// The parts of a piece on both sides of the diagonal from its first vertex to the one with this number.
+fn parts(
+    alloc: Global,
+    ring: &Ring,
+    mut piece: Piece,
+    number: u32,
+    places: &mut [usize],
+) -> Result<(Piece, Piece), Memory>
+    requires ordered { IsOrderedFromLeast ring.now.corners piece }
+    requires farthest { IsFarthestNumber ring.now.corners piece.boundary.items number }
+    requires places { length places.old ≡ length ring.now.corners }
+    ensures parts { IfOk result (λ parts. IsCutOf ring.now.corners piece.boundary.items (Remains.Parts parts.0 parts.1)) }
+    ensures ordered { IfOk result (λ parts. AreOrdered ring.now.corners (Remains.Parts parts.0 parts.1)) }
+    ensures places { length places.new ≡ length places.old }
 {
-    let mut part = Vec::with_capacity(alloc, piece.len() - place + 1)?;
-    part.push(piece[0])?;
-    part.extend_from_slice(&piece[place..])?;
-    Ok(part)
+    note_places(&piece.boundary, places);
+    let place = places[number as usize];
+    let count = piece.boundary.len();
+    let (first_order, second_order) = part_order(alloc, &piece.order, places, place, count)?;
+    let first = piece.boundary[0];
+    let mut second = piece.boundary.split_off(place)?;
+    second.push_front(first)?;
+    piece.boundary.push_back(number)?;
+    Ok((
+        Piece {
+            boundary: piece.boundary,
+            order: first_order,
+        },
+        Piece {
+            boundary: second,
+            order: second_order,
+        },
+    ))
 }

@@ -1,20 +1,26 @@
 // The vertex of a piece that a diagonal from its first vertex goes to.
-ghost use Rattle.std.specs.Prelude.{◌≡◌, ◌<◌, ◌≤◌, ◌^◌, ◌↔◌, ◌*ℤ◌, ◌-ℤ◌, ℕ, IsTrue, IfSome, IfNone, length, unsigned_abs};
+ghost use Rattle.std.specs.Prelude.{◌≡◌, ◌⊎◌, ◌<◌, ◌^◌, ◌↔◌, ◌*ℤ◌, ◌-ℤ◌, ℕ, IsTrue, IfSome, IfNone, OnSome, length, unsigned_abs};
+ghost use Rattle.plane.specs.Order.{IsBefore};
 ghost use Rattle.plane.specs.Point.{whole};
-ghost use Rattle.plane.specs.Triangle.{IsInTriangle, height_over};
-ghost use Rattle.plane.specs.Turn.{IsRight, determinant};
+ghost use Rattle.plane.specs.Triangle.{height_over};
+ghost use Rattle.plane.specs.Turn.{IsLeft, determinant};
 ghost use Rattle.rings.specs.Ring.{vertex};
 ghost use Rattle.cut_tri.specs.Cut.{IsPlaceInCorner};
-ghost use Rattle.cut_tri.specs.Corner.{IsFarther, IsFartherOf, IsFarthestBelow};
-ghost use Rattle.cut_tri.specs.Piece.{HasNumbers};
+ghost use Rattle.cut_tri.specs.Corner.{IsCandidate, IsFarther, IsFartherOf};
+ghost use Rattle.cut_tri.specs.Ordered.{IsFarthestNumber, IsOrderedFromLeast};
 
-use exact_plane::{Direction, Pt, Steps, turn};
+use crate::cut::corner_of;
+use crate::piece::Piece;
+use exact_plane::{Pt, Steps, in_triangle, order};
+use meshes::Tri;
 use ring_check::Ring;
+use std::cmp::Ordering;
 use std::sync::ledger::Ledger;
 
 // The triangle at the first vertex of a piece, counterclockwise.
 #[derive(Drop)]
 struct Corner {
+    tri: Tri,
     u: Pt,
     v: Pt,
     w: Pt,
@@ -25,7 +31,6 @@ struct Corner {
 pub(crate) struct Candidate {
     height: i64,
     number: u32,
-    place: usize,
 }
 
 impl Candidate {
@@ -37,26 +42,45 @@ impl Candidate {
     }
 }
 
-// The place of the vertex in the closed triangle of the first vertex and the two beside it that is farthest from the line
-// through those two, and none of the three; of several the one with the least number.
-pub(crate) fn farthest<L: Ledger>(ring: &Ring, piece: &[u32], steps: &mut Steps<L>) -> Option<usize>
-    requires some { 3 ≤ length piece.now }
-    requires numbers { HasNumbers ring.now.corners piece.now }
-    ensures farthest { IfSome result (IsFarthestBelow ring.now.corners piece.now (length piece.now)) }
-    ensures none { IfNone result ((j : ℕ) → j < length piece.now → ¬ (IsPlaceInCorner ring.now.corners piece.now j)) }
+// The vertex in the closed triangle of the first vertex and the two beside it that is farthest from the line through those
+// two, and none of the three; of several the one with the least number. The first vertex is the least of all, so none is
+// looked at that comes after both of the others.
+pub(crate) fn farthest<L: Ledger>(ring: &Ring, piece: &Piece, steps: &mut Steps<L>) -> Option<u32>
+    requires { IsOrderedFromLeast ring.now.corners piece.now }
+    ensures farthest { IfSome result (IsFarthestNumber ring.now.corners piece.now.boundary.items) }
+    ensures none { IfNone result ((k : ℕ) → ¬ (IsPlaceInCorner ring.now.corners piece.now.boundary.items k)) }
 {
-    let corner = Corner {
-        u: ring.corner(piece[piece.len() - 1]),
-        v: ring.corner(piece[0]),
-        w: ring.corner(piece[1]),
-    };
+    let corner = Corner::of(ring, corner_of(&piece.boundary));
+    let end = later(&corner.u, &corner.w, steps);
+    let last = piece.order.len() - 1;
     let mut best: Option<Candidate> = None;
-    for place in 2..piece.len() - 1 {
-        if let Some(candidate) = corner.candidate(ring, piece[place], place, steps) {
+    for rank in 1..piece.order.len() {
+        let number = piece.order[last - rank];
+        let p = ring.corner(number);
+        if !is_before(&p, &end, steps) {
+            break;
+        }
+        if let Some(candidate) = corner.candidate(number, &p, steps) {
             best = Some(farther(best, candidate));
         }
     }
-    Some(best?.place)
+    Some(best?.number)
+}
+
+// The later of two points in lexicographic order.
+fn later<L: Ledger>(p: &Pt, q: &Pt, steps: &mut Steps<L>) -> Pt
+    ensures one { (result ≡ p.now) ⊎ (result ≡ q.now) }
+    ensures not_before_first { ¬ (IsBefore result p.now) }
+    ensures not_before_second { ¬ (IsBefore result q.now) }
+{
+    if is_before(p, q, steps) { *q } else { *p }
+}
+
+// Whether `p` comes before `q`.
+fn is_before<L: Ledger>(p: &Pt, q: &Pt, steps: &mut Steps<L>) -> bool
+    ensures { IsTrue result ↔ IsBefore p.now q.now }
+{
+    order(p, q, steps) == Ordering::Less
 }
 
 // The farther of two.
@@ -70,53 +94,43 @@ fn farther(best: Option<Candidate>, candidate: Candidate) -> Candidate
 }
 
 impl Corner {
-    // The vertex with this number, if it is in the closed triangle.
-    fn candidate<L: Ledger>(
-        &self,
-        ring: &Ring,
-        number: u32,
-        place: usize,
-        steps: &mut Steps<L>,
-    ) -> Option<Candidate>
-        requires { number < length ring.now.corners }
-        ensures inside { IfSome result (λ candidate.
-            IsInTriangle self.now.u self.now.v self.now.w (whole (vertex ring.now.corners number))) }
-        ensures outside { IfNone result
-            (¬ (IsInTriangle self.now.u self.now.v self.now.w (whole (vertex ring.now.corners number)))) }
+    // The triangle with these vertices as corners.
+    fn of(ring: &Ring, tri: Tri) -> Corner
+        requires a { tri.a < length ring.now.corners }
+        requires b { tri.b < length ring.now.corners }
+        requires c { tri.c < length ring.now.corners }
+        ensures tri { result.tri ≡ tri }
+        ensures u { result.u ≡ vertex ring.now.corners tri.a }
+        ensures v { result.v ≡ vertex ring.now.corners tri.b }
+        ensures w { result.w ≡ vertex ring.now.corners tri.c }
+    {
+        Corner {
+            u: ring.corner(tri.a),
+            v: ring.corner(tri.b),
+            w: ring.corner(tri.c),
+            tri,
+        }
+    }
+
+    // The vertex with this number and at this point, if it is in the closed triangle and neither of u and w.
+    fn candidate<L: Ledger>(&self, number: u32, p: &Pt, steps: &mut Steps<L>) -> Option<Candidate>
+        requires counterclockwise { IsLeft (whole self.now.u) (whole self.now.v) (whole self.now.w) }
+        ensures inside { OnSome result (IsCandidate self.now number p.now) }
+        ensures outside { IfNone result (¬ (IsCandidate self.now number p.now)) }
         ensures candidate { IfSome result (λ candidate. candidate ≡ record {
-          height = height_over self.now.u self.now.w (whole (vertex ring.now.corners number));
+          height = height_over self.now.u self.now.w (whole p.now);
           number = number;
-          place = place;
         }) }
     {
-        let p = ring.corner(number);
-        if !self.holds(&p, steps) {
+        if !in_triangle(&self.u, &self.v, &self.w, p, steps)
+            || number == self.tri.a
+            || number == self.tri.c
+        {
             return None;
         }
-        let height = doubled_area(&self.w, &self.u, &p, steps);
-        Some(Candidate {
-            height,
-            number,
-            place,
-        })
+        let height = doubled_area(&self.w, &self.u, p, steps);
+        Some(Candidate { height, number })
     }
-
-    // Whether the point is in the closed triangle: right of no side.
-    fn holds<L: Ledger>(&self, p: &Pt, steps: &mut Steps<L>) -> bool
-        ensures { IsTrue result ↔ IsInTriangle self.now.u self.now.v self.now.w (whole p.now) }
-    {
-        !is_right(&self.u, &self.v, p, steps)
-            && !is_right(&self.v, &self.w, p, steps)
-            && !is_right(&self.w, &self.u, p, steps)
-    }
-}
-
-// Whether `p` is right of the line from `a` to `b`.
-#[tactic(auto, using(exact_plane::proofs::Directions::right_turns))]
-fn is_right<L: Ledger>(a: &Pt, b: &Pt, p: &Pt, steps: &mut Steps<L>) -> bool
-    ensures { IsTrue result ↔ IsRight (whole a.now) (whole b.now) (whole p.now) }
-{
-    turn(a, b, p, steps) == Direction::Right
 }
 
 // Twice the area of a triangle, positive where its corners run counterclockwise.

@@ -4,6 +4,7 @@
 mod cut;
 mod farthest;
 mod laws;
+mod piece;
 mod triangulation;
 
 pub use laws::one_cut;

@@ -1,15 +1,20 @@
 ghost use Rattle.std.specs.List.{range_with_len};
-ghost use Rattle.std.specs.Prelude.{◌≡◌, IfOk, OnOk, length};
+ghost use Rattle.std.specs.Prelude.{◌≡◌, IfOk, List, OnOk, length};
+ghost use Rattle.plane.specs.Point.{Point};
 ghost use Rattle.meshes.specs.Fits.{Fits};
 ghost use Rattle.cut_tri.specs.Cut.{IsCutTriangulation};
-ghost use Rattle.cut_tri.specs.WorkList.{IsTakenOver, last_first};
+ghost use Rattle.cut_tri.specs.Ordered.{AreOrdered, IsPieceInOrder};
+ghost use Rattle.cut_tri.specs.WorkList.{HaveOrders, IsTakenOver, last_first};
 
 use crate::cut::{Remains, cut};
+use crate::piece::Piece;
 use exact_plane::{Memory, Steps};
 use meshes::Tri;
 use ring_check::Ring;
 use std::alloc::Global;
+use std::collections::VecDeque;
 use std::sync::ledger::Ledger;
+use sweep_tri::lexical;
 use tri_mesh::Mesh;
 
 /// The triangulation of the polygon that its vertices determine: pieces are cut at their lexicographically least vertex, along one
@@ -23,10 +28,11 @@ pub fn triangulate<L: Ledger>(
     ensures cut { IfOk result (IsCutTriangulation ring.now.corners) }
 {
     let mut tris = Vec::with_capacity(alloc, ring.len() as usize - 2)?;
+    let mut places = Vec::from_elem(alloc, 0, ring.len() as usize)?;
     let mut work = Vec::new(alloc);
-    work.push(whole_piece(alloc, ring)?)?;
+    work.push(whole_piece(alloc, ring, steps)?)?;
     while let Some(piece) = work.pop() {
-        let left = cut(alloc, ring, piece, steps)?;
+        let left = cut(alloc, ring, piece, &mut places, steps)?;
         take_over(left, &mut tris, &mut work)?;
     }
     Mesh::build(alloc, tris)
@@ -34,8 +40,10 @@ pub fn triangulate<L: Ledger>(
 
 // Takes over what a cut leaves: a triangle to those that are done, and pieces to those that are still to be cut, the first
 // piece last.
-fn take_over(left: Remains, tris: &mut Vec<Tri>, work: &mut Vec<Vec<u32>>) -> Result<(), Memory>
-    ensures { OnOk result (IsTakenOver left tris.old.items (last_first work.old.items) tris.new.items (last_first work.new.items)) }
+fn take_over(left: Remains, tris: &mut Vec<Tri>, work: &mut Vec<Piece>) -> Result<(), Memory>
+    ensures taken { OnOk result (IsTakenOver left tris.old.items (last_first work.old.items) tris.new.items (last_first work.new.items)) }
+    ensures orders { OnOk result ((corners : List Point) → AreOrdered corners left → HaveOrders corners work.old.items
+        → HaveOrders corners work.new.items) }
 {
     match left {
         Remains::Triangle(tri) => tris.push(tri)?,
@@ -52,12 +60,18 @@ fn take_over(left: Remains, tris: &mut Vec<Tri>, work: &mut Vec<Vec<u32>>) -> Re
 }
 
 // The piece of all vertices.
-fn whole_piece(alloc: Global, ring: &Ring) -> Result<Vec<u32>, Memory>
-    ensures { IfOk result (λ piece. piece.items ≡ range_with_len 0 (length ring.now.corners)) }
+fn whole_piece<L: Ledger>(alloc: Global, ring: &Ring, steps: &mut Steps<L>) -> Result<Piece, Memory>
+    ensures all { IfOk result (λ piece. piece.boundary.items ≡ range_with_len 0 (length ring.now.corners)) }
+    ensures ordered { IfOk result (IsPieceInOrder ring.now.corners) }
 {
-    let mut piece = Vec::with_capacity(alloc, ring.len() as usize)?;
+    let mut order = lexical(alloc, ring, steps)?;
+    order.reverse();
+    let mut boundary = Vec::with_capacity(alloc, ring.len() as usize)?;
     for i in 0..ring.len() {
-        piece.push(i)?;
+        boundary.push(i)?;
     }
-    Ok(piece)
+    Ok(Piece {
+        boundary: VecDeque::from_vec(boundary),
+        order,
+    })
 }

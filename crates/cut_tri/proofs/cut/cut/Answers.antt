@@ -1,24 +1,24 @@
-use Rattle.std.proofs.Common.{ℕ, List, subst, sym, length}
+use Rattle.std.proofs.Common.{subst}
 use Rattle.std.specs.Prelude.{IfOk}
-use Rattle.cut_tri.proofs.RotatedCuts.{least_from, piece_from, result_from}
+use Rattle.cut_tri.proofs.RotatedCuts.{least_from, order_from, result_from}
 use Rattle.cut_tri.proofs.cut.cut.Goals as goal
 use Rattle.cut_tri.specs.Cutting.{IsCutOf}
-use Rattle.cut_tri.specs.Piece.{IsLeastBelow}
 
-pub cut_at_first-requires-clause-piece : goal.cut_at_first-requires-clause-piece
-cut_at_first-requires-clause-piece g c =
-    rw c.rotate_left.ensures.items (piece_from c.args.ring.now.corners c.args.piece.items c.least_place-least.result c.requires)
-
-pub cut_at_first-requires-clause-least : goal.cut_at_first-requires-clause-least
-cut_at_first-requires-clause-least g c =
+pub cut_at_first-requires-clause-ordered : goal.cut_at_first-requires-clause-ordered
+cut_at_first-requires-clause-ordered g c =
     let corners = c.args.ring.now.corners in
-    let found = rw c.deref.ensures.value at c.least_place-least.ensures.least in
-    let within = rw c.deref.ensures.value at c.least_place-least.ensures.place in
-    subst (λ xs. IsLeastBelow corners xs (length xs) 0) (sym {A = List ℕ} c.rotate_left.ensures.items)
-    (least_from corners c.args.piece.items c.least_place-least.result c.requires within found)
+    let xs = c.args.piece.boundary.items in
+    let os = c.args.piece.order.items in
+    let k = c.least_place-least.result in
+    let ys = c.rotate_left.new.self.items in
+    let turned = c.rotate_left.ensures.items in
+    record {
+      ordered = order_from corners xs k c.requires.ordered.0 ys os turned c.requires.ordered.1 c.least_place-least.ensures;
+      least = least_from corners xs k c.requires.ordered.0 ys os turned c.requires.ordered.1 c.least_place-least.ensures;
+    }
 
-pub returns : goal.returns
-returns g c =
+pub returns-clause-cut : goal.returns-clause-cut
+returns-clause-cut g c =
     let corners = c.args.ring.now.corners in
-    result_from corners c.args.piece.items c.least_place-least.result c.requires c.cut_at_first.result
-    (subst (λ xs. IfOk c.cut_at_first.result (IsCutOf corners xs)) c.rotate_left.ensures.items c.cut_at_first.ensures)
+    result_from corners c.args.piece.boundary.items c.least_place-least.result c.requires.ordered.0 c.cut_at_first.result
+    (subst (λ xs. IfOk c.cut_at_first.result (IsCutOf corners xs)) c.rotate_left.ensures.items c.cut_at_first.ensures.cut)

@@ -1,25 +1,30 @@
-use Rattle.std.proofs.Common.{sym, ◌∙◌}
-use Rattle.cut_tri.proofs.DiagonalCuts.{parts_cut}
+use Rattle.std.proofs.Common.{sym, ap, subst, ◌∙◌, ◌-◌, List, ℕ, take}
 use Rattle.cut_tri.proofs.EarCuts.{ear_cut, triangle_cut}
+use Rattle.cut_tri.proofs.Orders.{least_below}
+use Rattle.cut_tri.proofs.Parts.{rest_ordered}
+use Rattle.cut_tri.specs.Cutting.{IsEarCut}
 use Rattle.cut_tri.proofs.cut.cut_at_first.Goals as goal
 
-pub returns-then-len-eq3 : goal.returns-then-len-eq3
-returns-then-len-eq3 g c =
-    let xs = c.args.piece.items in
-    rw (c.corner_of-tri.ensures, c.deref.ensures.value)
-    (triangle_cut c.args.ring.now.corners xs c.requires.piece c.requires.least (sym c.args.piece.ok.0 ∙ sym c.len.ensures ∙ c.if-len-eq3.true))
+pub returns-then-len-eq3-clause-cut : goal.returns-then-len-eq3-clause-cut
+returns-then-len-eq3-clause-cut g c =
+    let corners = c.args.ring.now.corners in
+    let xs = c.args.piece.boundary.items in
+    let least = least_below corners xs c.args.piece.order.items c.requires.ordered.ordered.1 0 c.requires.ordered.least in
+    rw c.corner_of-tri.ensures
+    (triangle_cut corners xs c.requires.ordered.ordered.0 least (sym c.args.piece.boundary.ok.0 ∙ sym c.len.ensures ∙ c.if-len-eq3.true))
 
-pub returns-in-None : goal.returns-in-None
-returns-in-None g c =
-    let xs = c.args.piece.items in
-    let none = rw c.deref-2.ensures.value at c.in-None.ensures.none in
-    rw (c.corner_of-tri.ensures, c.deref.ensures.value, c.remove.ensures.items)
-    (ear_cut c.args.ring.now.corners xs c.requires.piece c.requires.least (λ e. c.if-len-eq3.false (c.len.ensures ∙ c.args.piece.ok.0 ∙ e)) none)
+pub returns-in-None-clause-cut : goal.returns-in-None-clause-cut
+returns-in-None-clause-cut g c =
+    let corners = c.args.ring.now.corners in
+    let xs = c.args.piece.boundary.items in
+    let least = least_below corners xs c.args.piece.order.items c.requires.ordered.ordered.1 0 c.requires.ordered.least in
+    subst (IsEarCut corners xs c.corner_of-tri.result) (sym {A = List ℕ} c.pop_front.ensures.rest)
+    (rw c.corner_of-tri.ensures
+    (ear_cut corners xs c.requires.ordered.ordered.0 least (λ e. c.if-len-eq3.false (c.len.ensures ∙ c.args.piece.boundary.ok.0 ∙ e))
+    (λ j h. c.in-None.ensures.none j)))
 
-pub returns-in_ok-second-in-Some : goal.returns-in_ok-second-in-Some
-returns-in_ok-second-in-Some g c =
-    let xs = c.args.piece.items in
-    let far = rw c.deref-2.ensures.value at c.in-Some.ensures.farthest in
-    let second = rw c.deref-in-Some.ensures.value at c.in_ok-second-in-Some.ensures in
-    rw (c.truncate.ensures.items, second)
-    (parts_cut c.args.ring.now.corners xs c.in-Some.place c.requires.piece c.requires.least far)
+pub returns-in-None-clause-ordered : goal.returns-in-None-clause-ordered
+returns-in-None-clause-ordered g c =
+    let os = c.args.piece.order.items in
+    rest_ordered c.args.ring.now.corners c.args.piece.boundary.items os c.requires.ordered.ordered.0 c.requires.ordered.ordered.1 c.requires.ordered.least
+    c.pop_front.new.self.items c.pop.new.self.items c.pop_front.ensures.rest (c.pop.ensures.rest ∙ ap (λ n. take (n - 1) os) c.args.piece.order.ok.0)

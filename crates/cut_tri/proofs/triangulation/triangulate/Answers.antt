@@ -1,31 +1,59 @@
-use Rattle.std.proofs.Common.{◌≡◌, sym, ◌∙◌, length, arith}
+use Rattle.std.proofs.Common.{◌≡◌, sym, ap, ◌∙◌, [], ◌∷◌, ◌++◌, length, arith}
+use Rattle.std.proofs.lemmas.List.Elements.{All-nil}
 use Rattle.cut_tri.proofs.WholePiece.{all_is_piece}
-use Rattle.cut_tri.proofs.WorkList.{at_end, at_start, one_step}
+use Rattle.cut_tri.proofs.WorkList.{at_end, at_start, last_is_piece, length_kept, one_step, orders_popped, orders_pushed}
+use Rattle.cut_tri.specs.Ordered.{IsOrderOf}
+use Rattle.cut_tri.specs.declared.piece.Piece.{Piece}
 use Rattle.cut_tri.proofs.triangulation.triangulate.Goals as goal
 
 pub loop-piece-init : goal.loop-piece-init
 loop-piece-init g c =
     let corners = c.args.ring.now.corners in
-    at_start corners c.new-work.result.items c.push.new.self.items c.in_ok-whole_piece.field-0 c.in_ok-tris.tris.items
-    c.new-work.ensures.items c.in_ok-push.ensures.items c.in_ok-whole_piece.ensures c.in_ok-tris.ensures.items
-    (all_is_piece corners c.len.ensures.size.0 c.len.ensures.simple c.len.ensures.counterclockwise)
+    let start = at_start corners c.new-work.result.items c.push.new.self.items c.in_ok-whole_piece.field-0 c.in_ok-tris.tris.items
+    c.new-work.ensures.items c.in_ok-push.ensures.items c.in_ok-whole_piece.ensures.all c.in_ok-tris.ensures.items
+    (all_is_piece corners c.len.ensures.size.0 c.len.ensures.simple c.len.ensures.counterclockwise) in
+    record {
+      pieces = start;
+      orders = orders_pushed corners c.push.new.self.items [] c.in_ok-whole_piece.field-0
+          (c.in_ok-push.ensures.items ∙ ap (λ ws. ws ++ c.in_ok-whole_piece.field-0 ∷ []) c.new-work.ensures.items)
+          (All-nil (λ (p : Piece). IsOrderOf corners p.boundary.items p.order.items)) c.in_ok-whole_piece.ensures.ordered.1;
+      places = let size = c.in_ok-places.places.ok.0 in omega (arith, size, c.in_ok-places.ensures.len, c.len-2.ensures.number);
+    }
+
+pub cut-requires-clause-ordered : goal.cut-requires-clause-ordered
+cut-requires-clause-ordered g c =
+    let corners = c.args.ring.now.corners in
+    let work = c.loop-piece.work.items in
+    let rest = c.pop.new.self.items in (
+      last_is_piece corners work rest c.in-Some.piece c.loop-piece.tris.items c.in-Some.ensures.items c.loop-piece.invariant.pieces,
+      (orders_popped corners work rest c.in-Some.piece c.in-Some.ensures.items c.loop-piece.invariant.orders).1,
+    )
 
 pub loop-piece-preserved : goal.loop-piece-preserved
 loop-piece-preserved g c =
     let corners = c.args.ring.now.corners in
-    let near = one_step corners c.loop-piece.work.items c.pop.new.self.items c.in-Some.piece c.loop-piece.tris.items
-    c.in-Some.ensures.items c.loop-piece.invariant c.in_ok-left.left _ _ c.in_ok-left.ensures c.in_ok-take_over.ensures in
-    (near.are_pieces, near.completes)
+    let work = c.loop-piece.work.items in
+    let rest = c.pop.new.self.items in
+    let near = one_step corners work rest c.in-Some.piece c.loop-piece.tris.items
+    c.in-Some.ensures.items c.loop-piece.invariant.pieces c.in_ok-left.left _ _ c.in_ok-left.ensures.cut c.in_ok-take_over.ensures.taken in
+    let popped = orders_popped corners work rest c.in-Some.piece c.in-Some.ensures.items c.loop-piece.invariant.orders in
+    let places = c.loop-piece.places.items in
+    record {
+      pieces = (near.are_pieces, near.completes);
+      orders = c.in_ok-take_over.ensures.orders corners c.in_ok-left.ensures.ordered popped.0;
+      places = length_kept c.cut.new.places places c.loop-piece.places.len (c.cut.ensures.places ∙ ap length c.deref_mut.ensures.value) c.loop-piece.places.ok.0
+          ∙ c.loop-piece.invariant.places;
+    }
 
 pub build-requires-clause-few : goal.build-requires-clause-few
 build-requires-clause-few g c =
     let none : length c.loop-piece.work.items ≡ 0 = sym c.loop-piece.work.ok.0 ∙ c.in_default.ensures.cases.0 in
-    let fits = at_end c.args.ring.now.corners c.loop-piece.work.items c.loop-piece.tris.items none c.loop-piece.invariant.1 in
+    let fits = at_end c.args.ring.now.corners c.loop-piece.work.items c.loop-piece.tris.items none c.loop-piece.invariant.pieces.1 in
     let size = c.loop-piece.tris.ok.0 in
     omega (arith, fits.1, c.len.ensures.size)
 
 pub returns-clause-cut : goal.returns-clause-cut
 returns-clause-cut g c =
     let none : length c.loop-piece.work.items ≡ 0 = sym c.loop-piece.work.ok.0 ∙ c.in_default.ensures.cases.0 in
-    let is_cut = (at_end c.args.ring.now.corners c.loop-piece.work.items c.loop-piece.tris.items none c.loop-piece.invariant.1).2 in
+    let is_cut = (at_end c.args.ring.now.corners c.loop-piece.work.items c.loop-piece.tris.items none c.loop-piece.invariant.pieces.1).2 in
     grind (arith, is_cut, c.build.ensures)

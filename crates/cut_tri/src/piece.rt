@@ -1,0 +1,73 @@
+// Pieces of a polygon: some of its vertices, by their numbers.
+ghost use Rattle.std.specs.List.{All, AllPairs, Contains, filter};
+ghost use Rattle.std.specs.Prelude.{◌≡◌, ◌<◌, IfOk, length, slice_index_or};
+ghost use Rattle.cut_tri.specs.Ordered.{ArePlaces, is_in_first, is_in_second};
+
+use exact_plane::Memory;
+use std::alloc::Global;
+use std::collections::VecDeque;
+
+// A piece: its vertices along its boundary, counterclockwise, and the same vertices in falling lexicographic order.
+#[derive(Drop)]
+pub(crate) struct Piece {
+    pub boundary: VecDeque<u32>,
+    pub order: Vec<u32>,
+}
+
+// The place of a number; the search goes inward from both ends.
+pub(crate) fn place_of(boundary: &VecDeque<u32>, number: u32) -> usize
+    requires { Contains boundary.now.items number }
+    ensures place { result < length boundary.now.items }
+    ensures is { slice_index_or boundary.now.items result 0 ≡ number }
+{
+    let last = boundary.len() - 1;
+    for k in 0..last {
+        if boundary[k] == number {
+            return k;
+        }
+        if boundary[last - k] == number {
+            return last - k;
+        }
+    }
+    last
+}
+
+// Writes for each vertex of the piece its place on the boundary.
+pub(crate) fn note_places(boundary: &VecDeque<u32>, places: &mut [usize])
+    requires numbers { All (λ i. i < length places.old) boundary.now.items }
+    requires different { AllPairs (λ i j. ¬ (i ≡ j)) boundary.now.items }
+    ensures same_length { length places.new ≡ length places.old }
+    ensures places { ArePlaces boundary.now.items places.new (length boundary.now.items) }
+{
+    for place in 0..boundary.len() {
+        places[boundary[place] as usize] = place;
+    }
+}
+
+// The order of the part up to a place of the boundary, and that of the part from there on with the first vertex; the whole
+// boundary has `count` vertices.
+pub(crate) fn part_order(
+    alloc: Global,
+    order: &[u32],
+    places: &[usize],
+    place: usize,
+    count: usize,
+) -> Result<(Vec<u32>, Vec<u32>), Memory>
+    requires numbers { All (λ i. i < length places.now) order.now }
+    requires inner { (0 < place) × (place < count) }
+    ensures first { IfOk result (λ parts. parts.0.items ≡ filter (is_in_first places.now place) order.now) }
+    ensures second { IfOk result (λ parts. parts.1.items ≡ filter (is_in_second places.now place) order.now) }
+{
+    let mut first = Vec::with_capacity(alloc, place + 1)?;
+    let mut second = Vec::with_capacity(alloc, count - place + 1)?;
+    for number in order {
+        let at = places[*number as usize];
+        if at <= place {
+            first.push(*number)?;
+        }
+        if at == 0 || place <= at {
+            second.push(*number)?;
+        }
+    }
+    Ok((first, second))
+}
