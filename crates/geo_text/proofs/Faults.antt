@@ -1,12 +1,12 @@
 -- Faults of a list of fields or of numbers, from a place on.
-use Rattle.std.proofs.Common.{◌≡◌, ◌∙◌, ◌<◌, ◌≤◌, ◌+◌, ℕ, ℤ, pos, negsuc, Bool, true, false, Option, Some, None, Ok, List, [], ◌∷◌}
-use Rattle.std.proofs.Common.{◌++◌, Vec, Global, length, drop, get_or, map, append-nil, append_assoc, if◌then◌else◌, refl, sym, ap, ap₂, arith}
+use Rattle.std.proofs.Common.{◌≡◌, ◌∙◌, ◌<◌, ◌≤◌, ◌+◌, ℕ, ℤ, pos, negsuc, Bool, true, false, Option, Some, None, List, [], ◌∷◌}
+use Rattle.std.proofs.Common.{◌++◌, length, drop, get_or, map, append-nil, append_assoc, if◌then◌else◌, refl, sym, ap, ap₂, arith}
 use Rattle.std.proofs.lemmas.Bool.Decides.{nat_tests}
 use Rattle.std.proofs.lemmas.List.{at_drop_more, drop_all}
 use Rattle.std.specs.Prelude.{nat_le, unsigned_abs}
 use Rattle.plane.specs.Point.{IsInLimit}
 use Rattle.plane.specs.declared.limits.TheConstants.{MAX_COORDINATE}
-use Rattle.geo_text.specs.Capped.{Reads, capped, read_of}
+use Rattle.geo_text.specs.Capped.{capped, read_of}
 use Rattle.geo_text.specs.Number.{is_coordinate, is_number, number_of}
 use Rattle.geo_text.specs.Reading.{first_failing, first_fault, range_fault}
 use Rattle.geo_text.specs.declared.command.Bad.{Bad}
@@ -26,12 +26,12 @@ read_step fields place z before after all h e pushed read =
     rw (pushed, append_assoc, e) (rw (at_drop_more (map read_of) fields place [] h) at read)
 
 -- all fields are
-pub all_read : (fields rest : List (List ℕ)) (place : ℕ) (numbers : Vec ℤ Global) → rest ≡ []
-    → first_failing is_number 1 fields ≡ first_failing is_number place rest → numbers.items ++ map read_of rest ≡ map read_of fields
-    → Reads fields (Ok numbers)
+pub all_read : (fields rest : List (List ℕ)) (place : ℕ) (numbers : List ℤ) → rest ≡ []
+    → first_failing is_number 1 fields ≡ first_failing is_number place rest → numbers ++ map read_of rest ≡ map read_of fields
+    → (first_failing is_number 1 fields ≡ None) × (numbers ≡ map read_of fields)
 all_read fields rest place numbers ended number read =
-    let all : numbers.items ++ [] ≡ map read_of fields = rw ended at read in
-    (rw ended at number, sym (append-nil numbers.items) ∙ all)
+    let all : numbers ++ [] ≡ map read_of fields = rw ended at read in
+    (rw ended at number, sym (append-nil numbers) ∙ all)
 
 -- ---- numbers
 

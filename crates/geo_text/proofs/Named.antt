@@ -1,5 +1,6 @@
 -- The texts of words, and the words that they name: each is the other's inverse.
-use Rattle.std.proofs.Common.{◌≡◌, ◌≢◌, ◌∙◌, Bool, true, false, ℕ, if◌then◌else◌, Option, Some, None, List, [], ◌∷◌, refl, sym, ap}
+use Rattle.std.proofs.Common.{◌≡◌, ◌≢◌, ◌∙◌, Bool, true, false, ℕ, if◌then◌else◌, Option, Some, None, List, [], ◌∷◌, refl, sym, ap, arith, drop, get_or, length, ◌<◌, ◌+◌}
+use Rattle.std.proofs.lemmas.List.{at_drop_more, drop_all}
 use Rattle.std.proofs.lemmas.Slice.Eq.{bytes_eq-Decides}
 use Rattle.std.specs.Prelude.{IfSome}
 use Rattle.std.specs.Str.{bytes_eq}
@@ -31,3 +32,21 @@ text_of_any text (Some asked) is = text_of_named text asked (sym is)
 pub named_by_text : (asked : Word) → asked ≢ word.Two → word_named (text_of asked) ≡ Some asked
 named_by_text word.Two plain = absurd (plain refl)
 named_by_text _ plain = refl
+
+-- a text is its bytes
+front : (text : List ℕ) (k c : ℕ) (rest : List ℕ) → k < length text → get_or text k 0 ≡ c → drop (k + 1) text ≡ rest → drop k text ≡ c ∷ rest
+front text k c rest within at after = at_drop_more (λ xs. xs) text k 0 within ∙ (rw (at, after) refl)
+
+module _ (text : List ℕ) (a b c d e f : ℕ) (at0 : get_or text 0 0 ≡ a) (at1 : get_or text 1 0 ≡ b) (at2 : get_or text 2 0 ≡ c)
+    (at3 : get_or text 3 0 ≡ d) (at4 : get_or text 4 0 ≡ e) (at5 : get_or text 5 0 ≡ f) where
+  from_six : (rest : List ℕ) → 5 < length text → drop 6 text ≡ rest → text ≡ a ∷ b ∷ c ∷ d ∷ e ∷ f ∷ rest
+  from_six rest long after =
+      front text 0 a _ (omega (arith, long)) at0 (front text 1 b _ (omega (arith, long)) at1 (front text 2 c _ (omega (arith, long)) at2
+      (front text 3 d _ (omega (arith, long)) at3 (front text 4 e _ (omega (arith, long)) at4 (front text 5 f rest (omega (arith, long)) at5 after)))))
+
+  pub six_bytes : length text ≡ 6 → text ≡ a ∷ b ∷ c ∷ d ∷ e ∷ f ∷ []
+  six_bytes size = from_six [] (omega (arith, size)) (drop_all 6 text (omega (arith, size)))
+
+  pub seven_bytes : (g : ℕ) → get_or text 6 0 ≡ g → length text ≡ 7 → text ≡ a ∷ b ∷ c ∷ d ∷ e ∷ f ∷ g ∷ []
+  seven_bytes g at6 size =
+      from_six (g ∷ []) (omega (arith, size)) (front text 6 g [] (omega (arith, size)) at6 (drop_all 7 text (omega (arith, size))))

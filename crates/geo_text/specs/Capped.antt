@@ -1,6 +1,5 @@
 -- How fields are read as numbers, each once. No public clause cites this module.
-use Rattle.std.specs.Prelude.{◌≡◌, ◌+◌, ℕ, ℤ, pos, negsuc, min, List, map, drop, Vec, Some, None, Result, Ok, Err}
-use Rattle.std.specs.declared.alloc.Global.{Global}
+use Rattle.std.specs.Prelude.{◌≡◌, ◌+◌, ℕ, ℤ, pos, negsuc, min, List, map, drop, Some, None, Result, Ok, Err, ⊤}
 use Rattle.plane.specs.declared.limits.TheConstants.{MAX_COORDINATE}
 use Rattle.geo_text.specs.Number.{is_number, number_of}
 use Rattle.geo_text.specs.Reading.{first_failing, first_fault}
@@ -22,6 +21,6 @@ abbrev pub read_of : List ℕ → ℤ
 read_of field = capped (number_of field)
 
 -- the fields are numbers, and so are they read; or the first that is none is refused
-abbrev pub Reads : List (List ℕ) → Result (Vec ℤ Global) Bad → Type 0
-Reads fields (Ok numbers) = (first_failing is_number 1 fields ≡ None) × (numbers.items ≡ map read_of fields)
-Reads fields (Err fault) = first_fault (first_failing is_number 1 fields) None ≡ Some fault
+abbrev pub Reads : List (List ℕ) → List ℤ → Result ⊤ Bad → Type 0
+Reads fields numbers (Ok done) = (first_failing is_number 1 fields ≡ None) × (numbers ≡ map read_of fields)
+Reads fields numbers (Err fault) = first_fault (first_failing is_number 1 fields) None ≡ Some fault

@@ -14,19 +14,19 @@ use csv::ByteRecord;
 use exact_plane::{Memory, Pt};
 use std::alloc::Global;
 
-// The numbers that the fields after the word are, or the first field that is none.
-pub fn numbers(alloc: Global, row: &ByteRecord) -> Result<Result<Vec<i64>, Bad>, Memory>
+// Reads the numbers that the fields after the word are, or the first field that is none.
+pub fn read_numbers(row: &ByteRecord, numbers: &mut Vec<i64>) -> Result<Result<(), Bad>, Memory>
     requires { length (after_word row.now) < 2 ^ 31 }
-    ensures { IfOk result (Reads (after_word row.now)) }
+    ensures { IfOk result (Reads (after_word row.now) numbers.new.items) }
 {
-    let mut numbers = Vec::with_capacity(alloc, row.len().saturating_sub(1))?;
+    numbers.clear();
     for place in 1..row.len() {
         let Some(z) = number(field(row, place)) else {
             return Ok(Err(Bad::Number(place as u32)));
         };
         numbers.push(z)?;
     }
-    Ok(Ok(numbers))
+    Ok(Ok(()))
 }
 
 // The first of some numbers that passes the limit, if one does.

@@ -8,7 +8,7 @@ ghost use Rattle.geo_text.specs.Records.{plain_fields};
 ghost use Rattle.geo_text.specs.Words.{IsCountOf};
 
 use crate::command::{Bad, Command};
-use crate::coordinates::{numbers, range_fault};
+use crate::coordinates::{range_fault, read_numbers};
 use crate::fields::field;
 use crate::limits::Limits;
 use crate::word::Word;
@@ -23,17 +23,18 @@ pub fn asks_two(row: &ByteRecord) -> bool
     row.len() == 2 && field(row, 0) == b"geo".as_slice() && field(row, 1) == b"2".as_slice()
 }
 
-// The command that a record is by its word, or why it is none.
+// The command that a record is by its word, or why it is none. The numbers of its fields are read into `numbers`.
 pub fn command(
     alloc: Global,
-    row: &ByteRecord,
     limits: &Limits,
+    row: &ByteRecord,
+    numbers: &mut Vec<i64>,
 ) -> Result<Result<Command, Bad>, Memory>
     requires { IsLimited limits.now }
     ensures { IfOk result (λ reading. reading ≡ command_of limits.now (plain_fields row.now)) }
 {
     match Word::named(field(row, 0)) {
-        Some(word) => in_text(alloc, limits, word, row),
+        Some(word) => in_text(alloc, limits, word, row, numbers),
         None => Ok(Err(Bad::Word)),
     }
 }
@@ -44,6 +45,7 @@ fn in_text(
     limits: &Limits,
     word: Word,
     row: &ByteRecord,
+    numbers: &mut Vec<i64>,
 ) -> Result<Result<Command, Bad>, Memory>
     requires { IsLimited limits.now }
     ensures { IfOk result (λ reading. reading ≡ command_in_text limits.now word (after_word row.now)) }
@@ -51,8 +53,8 @@ fn in_text(
     if let Some(fault) = word.takes(limits).fault(row.len().saturating_sub(1)) {
         return Ok(Err(fault));
     }
-    match numbers(alloc, row)? {
-        Ok(numbers) => within(alloc, limits, word, &numbers),
+    match read_numbers(row, numbers)? {
+        Ok(()) => within(alloc, limits, word, numbers),
         Err(fault) => Ok(Err(fault)),
     }
 }

@@ -19,6 +19,7 @@ use std::marker::Model;
 pub struct Script<'a> {
     reader: Reader<Chain<&'a [u8], &'a [u8]>>,
     row: ByteRecord,
+    numbers: Vec<i64>,
     alloc: Global,
     next: usize,
     version: Version,
@@ -73,6 +74,7 @@ impl<'a> Script<'a> {
                 .flexible(true)
                 .from_reader(alloc, front.chain(bytes)),
             row: ByteRecord::new(alloc),
+            numbers: Vec::new(alloc),
             alloc,
             next,
             version,
@@ -102,7 +104,13 @@ impl<'a> Script<'a> {
             return Ok(None);
         }
         self.version = version(&self.row, self.next, self.version);
-        let reading = reading(self.alloc, &self.row, self.next, self.version)?;
+        let reading = reading(
+            self.alloc,
+            &self.row,
+            &mut self.numbers,
+            self.next,
+            self.version,
+        )?;
         self.next += 1;
         self.failed = false;
         Ok(Some(reading))
@@ -124,6 +132,7 @@ fn version(row: &ByteRecord, number: usize, before: Version) -> Version
 fn reading(
     alloc: Global,
     row: &ByteRecord,
+    numbers: &mut Vec<i64>,
     number: usize,
     version: Version,
 ) -> Result<Result<Command, Bad>, Memory>
@@ -132,7 +141,7 @@ fn reading(
     if version == Version::Two && number == 0 {
         Ok(Ok(Command::Two))
     } else {
-        command(alloc, row, &Limits::of(version))
+        command(alloc, &Limits::of(version), row, numbers)
     }
 }
 

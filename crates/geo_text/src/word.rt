@@ -3,7 +3,7 @@ ghost use Rattle.std.specs.List.{All};
 ghost use Rattle.std.specs.Prelude.{◌≡◌, ◌≢◌, IfOk, IfSome, Some, length};
 ghost use Rattle.plane.specs.Point.{IsInLimit};
 ghost use Rattle.geo_text.specs.Reading.{command_with};
-ghost use Rattle.geo_text.specs.Words.{IsCountOf, named_in, takes_of, text_of, word_named, word_of};
+ghost use Rattle.geo_text.specs.Words.{IsCountOf, takes_of, text_of, word_named, word_of};
 
 use crate::command::Command;
 use crate::coordinates::{point_from, points};
@@ -61,24 +61,22 @@ impl Word {
         ensures word { result ≡ word_named text.now }
         ensures text { IfSome result (λ word. text.now ≡ text_of word) }
     {
-        find(
-            &[
-                Word::Polygon,
-                Word::Inside,
-                Word::Check,
-                Word::Path,
-                Word::Tree,
-                Word::Reach,
-                Word::See,
-                Word::Kernel,
-                Word::Hull,
-                Word::Round,
-                Word::Guards,
-                Word::Pair,
-                Word::Sights,
-            ],
-            text,
-        )
+        match text {
+            b"polygon" => Some(Word::Polygon),
+            b"inside" => Some(Word::Inside),
+            b"check" => Some(Word::Check),
+            b"path" => Some(Word::Path),
+            b"tree" => Some(Word::Tree),
+            b"reach" => Some(Word::Reach),
+            b"see" => Some(Word::See),
+            b"kernel" => Some(Word::Kernel),
+            b"hull" => Some(Word::Hull),
+            b"round" => Some(Word::Round),
+            b"guards" => Some(Word::Guards),
+            b"pair" => Some(Word::Pair),
+            b"sights" => Some(Word::Sights),
+            _ => None,
+        }
     }
 
     /// The text of the word. That of version 2 is no word by itself.
@@ -150,16 +148,4 @@ impl Word {
             Word::Sights => Ok(Command::Sights),
         }
     }
-}
-
-// The first of some words that has a text.
-fn find(words: &[Word], text: &[u8]) -> Option<Word>
-    ensures { result ≡ named_in words.now text.now }
-{
-    for word in words {
-        if text == word.text().as_bytes() {
-            return Some(*word);
-        }
-    }
-    None
 }

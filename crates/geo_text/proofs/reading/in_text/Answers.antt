@@ -13,7 +13,7 @@ returns-in-Some c =
 
 pub within-requires-clause-right : goal.within-requires-clause-right
 within-requires-clause-right c =
-    let (none, read) = rw c.in-Ok.is at c.in_ok-numbers.ensures in
+    let (none, read) = rw c.in-Ok.is at c.in_ok-read_numbers.ensures in
     let count = length-after_word c.args.row.now in
     let fields = length-map (after_word c.args.row.now) read_of in
     let same : length c.deref.result.now ≡ c.saturating_sub.result = omega (arith, ap length read, ap length c.deref.ensures.value) in
@@ -21,7 +21,7 @@ within-requires-clause-right c =
 
 pub returns-in-Ok : goal.returns-in-Ok
 returns-in-Ok c =
-    let (none, read) = rw c.in-Ok.is at c.in_ok-numbers.ensures in
+    let (none, read) = rw c.in-Ok.is at c.in_ok-read_numbers.ensures in
     let count = length-after_word c.args.row.now in
     let same : c.saturating_sub.result ≡ length (after_word c.args.row.now) = omega arith in
     read_in_text c.args.limits.now c.requires c.args.word (after_word c.args.row.now) c.deref.result.now
@@ -32,4 +32,4 @@ returns-in-Err c =
     let count = length-after_word c.args.row.now in
     let same : c.saturating_sub.result ≡ length (after_word c.args.row.now) = omega arith in
     refused_field c.args.limits.now c.args.word (after_word c.args.row.now) c.in-Err.fault
-    (rw (c.takes.ensures, same) at (sym c.in_default.is ∙ c.fault.ensures)) (rw c.in-Err.is at c.in_ok-numbers.ensures)
+    (rw (c.takes.ensures, same) at (sym c.in_default.is ∙ c.fault.ensures)) (rw c.in-Err.is at c.in_ok-read_numbers.ensures)

@@ -1,5 +1,5 @@
 use Rattle.std.proofs.Common.{◌≡◌, ◌++◌, drop, map}
-use Rattle.geo_text.proofs.coordinates.numbers.Given as goal
+use Rattle.geo_text.proofs.coordinates.read_numbers.Given as goal
 use Rattle.geo_text.specs.Capped.{after_word, read_of}
 use Rattle.geo_text.specs.Number.{is_number}
 use Rattle.geo_text.specs.Reading.{first_failing}

@@ -3,7 +3,7 @@ use Rattle.std.specs.Char.{is_ascii_digit}
 use Rattle.std.specs.List.{list_all}
 use Rattle.std.specs.Str.Parse.{digits_value}
 use Rattle.plane.specs.declared.limits.TheConstants.{MAX_COORDINATE}
-use Rattle.geo_text.proofs.number.size.Given as goal
+use Rattle.geo_text.proofs.number.long_size.Given as goal
 
 abbrev pub invariant-loop-digit : goal.invariant-loop-digit
 invariant-loop-digit l =

@@ -4,7 +4,7 @@ use Rattle.std.proofs.lemmas.List.{drop_all}
 use Rattle.geo_text.proofs.CappedNumber.{number_read}
 use Rattle.geo_text.proofs.Faults.{all_read, first_failing-drop, read_step}
 use Rattle.geo_text.proofs.FieldAt.{length-plain_fields}
-use Rattle.geo_text.proofs.coordinates.numbers.Goals as goal
+use Rattle.geo_text.proofs.coordinates.read_numbers.Goals as goal
 use Rattle.geo_text.specs.Capped.{after_word}
 use Rattle.geo_text.specs.Number.{is_number}
 use Rattle.geo_text.specs.Records.{plain_fields}
@@ -27,5 +27,5 @@ returns c =
     let fields = plain_fields c.args.row.now in
     let count = length-plain_fields c.args.row.now in
     let past : length fields ≤ c.loop-place.place = omega arith in
-    all_read (after_word c.args.row.now) _ c.loop-place.place c.loop-place.numbers (drop_all c.loop-place.place fields past)
+    all_read (after_word c.args.row.now) _ c.loop-place.place c.loop-place.numbers.items (drop_all c.loop-place.place fields past)
     c.loop-place.invariant.number c.loop-place.invariant.read
