@@ -142,3 +142,10 @@ beside_left a b cs ls ds ks convex beside cut are i j in_i in_j =
     (region_not_right (whole (line_at ls k).0) (whole (line_at ls k).1) cs p convex at_p left.0
     (λ m in_m. at_least_unless (beside k m in_k in_m))))
     left.1 i in_i
+
+-- so it is where the corners were read from another one on
+pub beside_kept : (a b : Point) (cs : List Triple) (ls : List Line) (t : ℕ) (ds : List Triple) (ks : List Line) → AreConvex cs
+    → length ls ≡ length cs → t ≤ length cs → AreNoneRight cs ls → IsCut (whole a) (whole b) (from_place t cs) ds
+    → AreOf (from_place t ls) (a, b) ks → AreNoneRight ds ks
+beside_kept a b cs ls t ds ks convex same in_t beside cut are =
+    beside_left a b (from_place t cs) (from_place t ls) ds ks (convex_from cs t convex) (beside_from cs ls t same in_t beside) cut are

@@ -5,3 +5,4 @@ pub mod Links
 pub mod Seeking
 pub mod Tails
 pub mod TurnedBlocks
+pub mod Ways

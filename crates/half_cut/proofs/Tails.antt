@@ -1,18 +1,20 @@
 -- What a cut adds to the corners that stay: the meetings of the two sides that it crosses, with their lines.
-use Rattle.std.proofs.Common.{◌≡◌, ◌≢◌, sym, subst, ap, ◌∙◌, ℕ, ◌-◌, ◌<◌, ◌≤◌, arith, false, IsTrue, List, [], ◌++◌, length, take, get_or, refl}
-use Rattle.std.proofs.lemmas.List.{get_or-take, get_or_append_left, get_or_read, length-take-le}
+use Rattle.std.proofs.Common.{◌≡◌, ◌≢◌, sym, subst, ap, ◌∙◌, ℕ, ◌+◌, ◌-◌, ◌%◌, ◌<◌, ◌≤◌, arith, false, IsTrue, List, [], ◌∷◌, ◌++◌, length, take, get_or, refl}
+use Rattle.std.proofs.Math.Nat.{mod-eq_of_lt, mod_self}
+use Rattle.std.proofs.lemmas.List.{append-nil, get_or-take, get_or_append_left, get_or_push, get_or_read, length-append, length-take-le, length_push}
 use Rattle.std.specs.Prelude.{IfSome, None, Option, Some, is_some, option_to_list}
 use Rattle.integer_algebra.proofs.Signs.{is_negative, is_positive, is_zero, sign}
 use Rattle.plane.proofs.Regions.{Ends, at_corner, at_meeting, cut_of_polygon, cut_of_segment, meeting, not_parallel}
 use Rattle.plane.specs.Convex.{AreConvex, corner}
 use Rattle.plane.specs.Cut.{IsCut}
 use Rattle.plane.specs.Point.{IsPoint, Point, Triple, whole}
+use Rattle.plane.specs.Region.{corner_at}
 use Rattle.plane.specs.Turn.{IsRight, IsStraight, determinant}
 use Rattle.exact_plane.proofs.Directions.{left_of_positive, positive_of_left}
 use Rattle.exact_plane.specs.Direction.{turn_of}
 use Rattle.exact_plane.specs.declared.direction.Direction.{Direction}
 use Rattle.half_cut.proofs.Links.{on_at}
-use Rattle.half_cut.specs.Meeting.{IsLineMeeting}
+use Rattle.half_cut.specs.Meeting.{IsCutSide, IsLineMeeting}
 use Rattle.half_cut.specs.Outline.{AreLinked, AreLinkedRound, ComesRound, LineGoesOn, IsOnLine, Line, line_at}
 
 module _ (a b : Point) (line : Line) (differ : line.0 ≢ line.1) (c d : Triple) (at_c : IsPoint c) (at_d : IsPoint d)
@@ -69,6 +71,36 @@ comes_round_cut a b ds ks line c d (Some x) same last ends on_line on_cut round 
 -- corners of which some stay and some go are two, or three and more
 polygon_of : (cs : List Triple) (m : ℕ) → 0 < m → m < length cs → length cs ≢ 2 → 3 ≤ length cs
 polygon_of cs m some rest many = omega (arith, some, rest, many)
+
+-- what holds of the last of the first corners, or of one more,
+last_or_more : (cs : List Triple) (m : ℕ) (x : Option Triple) (P : Triple → Type 0) → 0 < m → m ≤ length cs → (x ≡ None → P (corner cs (m - 1)))
+    → IfSome x P → (let ds = take m cs ++ option_to_list x in P (corner ds (length ds - 1)))
+last_or_more cs m None P some within alone more =
+    let taken = length-take-le m cs within in
+    subst P
+    (sym (ap (λ (k : List Triple). corner k (length k - 1)) (append-nil (take m cs)) ∙ ap (λ k. corner (take m cs) (k - 1)) taken
+    ∙ get_or-take m cs (m - 1) _ (omega (arith, some))))
+    (alone refl)
+last_or_more cs m (Some x) P some within alone more =
+    let count = length_push (take m cs) x in
+    subst P
+    (sym (ap (λ k. corner (take m cs ++ x ∷ []) k) (omega (arith, count)) ∙ get_or_push (take m cs) x _ (length (take m cs)) refl)) more
+
+-- and of one more, or of the first, when they are counted round
+first_or_more : (ds : List Triple) (x : Option Triple) (P : Triple → Type 0) → 0 < length ds → (x ≡ None → P (corner ds 0)) → IfSome x P
+    → P (corner_at (ds ++ option_to_list x) (length ds - 1 + 1))
+first_or_more ds None P some alone more =
+    subst P
+    (sym (ap (λ (k : List Triple). corner_at k (length ds - 1 + 1)) (append-nil ds)
+    ∙ ap (λ k. corner ds (k % length ds)) (omega (arith, some)) ∙ ap (λ k. corner ds k) (mod_self (length ds))))
+    (alone refl)
+first_or_more ds (Some x) P some alone more =
+    let count = length_push ds x in
+    let place : length ds - 1 + 1 ≡ length ds = omega (arith, some) in
+    subst P
+    (sym (ap (λ k. corner (ds ++ x ∷ []) (k % length (ds ++ x ∷ []))) place
+    ∙ ap (λ k. corner (ds ++ x ∷ []) k) (mod-eq_of_lt (omega (arith, count))) ∙ get_or_push ds x _ (length ds) refl))
+    more
 
 -- ---- a whole cut, whose corners are read from the first that stays
 
@@ -203,3 +235,33 @@ module _ {a b : Point} {cs : List Triple} {ls : List Line} {m : ℕ} {first last
         rw is_end (comes_round_cut a b ds ks (line_at ls (length ls - 1)) (corner cs 0) (corner cs (length cs - 1)) front same ends ends_front
         found_front.on_line
         found_front.on_cut (t.round.closes (omega (arith, t.rest))))
+
+    -- the side of the cut, from what is added behind or the last that stays to what is added before or the first
+    pub cut_side : (let ds = take m cs ++ option_to_list back in
+        IsCutSide a b (line_at ls (m - 1)) (line_at ls (length ls - 1)) (ds ++ option_to_list front) (length ds - 1))
+    cut_side =
+        let ds = take m cs ++ option_to_list back in
+        let count = length-append (take m cs) (option_to_list back) in
+        let taken = length-take-le m cs (omega (arith, t.rest)) in
+        let some : 0 < length ds = omega (arith, count, taken, t.some) in
+        let more = length-append ds (option_to_list front) in
+        let same : corner (ds ++ option_to_list front) (length ds - 1) ≡ corner ds (length ds - 1) =
+        get_or_append_left ds (option_to_list front) _ (length ds - 1) (omega (arith, some)) in
+        let in_m : m ≤ length cs = omega (arith, t.rest) in
+        record {
+          within = omega (arith, some, more);
+          from_cut = subst (IsOnLine (a, b)) (sym same)
+              (last_or_more cs m back (IsOnLine (a, b)) t.some in_m
+              (λ e. straight_of_none (whole a) (whole b) (corner cs (m - 1)) (corner cs m) (option_to_list back) ends_back (ap option_to_list e))
+              found_back.on_cut);
+          from_behind = subst (IsOnLine (line_at ls (m - 1))) (sym same)
+              (last_or_more cs m back (IsOnLine (line_at ls (m - 1))) t.some in_m (λ _. linked.begins (m - 1) (omega (arith, t.rest)))
+              found_back.on_line);
+          to_cut = first_or_more ds front (IsOnLine (a, b)) some
+              (λ e. subst (IsOnLine (a, b)) (sym first_stays)
+              (straight_of_none (whole a) (whole b) (corner cs 0) (corner cs (length cs - 1)) (option_to_list front) ends_front (ap option_to_list e)))
+              found_front.on_cut;
+          to_before = first_or_more ds front (IsOnLine (line_at ls (length ls - 1))) some
+              (λ _. subst (IsOnLine (line_at ls (length ls - 1))) (sym first_stays) (t.round.closes (omega (arith, t.rest))))
+              found_front.on_line;
+        }

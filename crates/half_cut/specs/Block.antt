@@ -1,11 +1,8 @@
 -- The corners that a cut leaves. This project's own. No public clause cites this module.
 use Rattle.std.specs.Prelude.{ℕ, ◌+◌, ◌-◌, ◌<◌, List, length}
-use Rattle.plane.specs.Convex.{corner}
 use Rattle.plane.specs.Point.{Triple}
 use Rattle.plane.specs.Region.{corner_at}
 use Rattle.plane.specs.Turn.{IsRight}
-use Rattle.half_cut.specs.declared.block.Kept.{Kept}
-use Rattle.half_cut.specs.declared.block.Kept.TheVariants as kept
 
 -- of so many corners from this one on the first and the last are not right of the line, and those before and after them are
 pub record IsBlock (a b : Triple) (corners : List Triple) (start count : ℕ) : Type 0 where
@@ -16,9 +13,3 @@ pub record IsBlock (a b : Triple) (corners : List Triple) (start count : ℕ) : 
   pub last : ¬ IsRight a b (corner_at corners (start + (count - 1)))
   pub next : IsRight a b (corner_at corners (start + count))
   pub before : IsRight a b (corner_at corners (start + (length corners - 1)))
-
--- which corners stay
-abbrev pub AreKept : (a b : Triple) → List Triple → Kept → Type 0
-AreKept a b corners kept.All = (i : ℕ) → i < length corners → ¬ IsRight a b (corner corners i)
-AreKept a b corners kept.Nothing = (i : ℕ) → i < length corners → IsRight a b (corner corners i)
-AreKept a b corners (kept.Block start count) = IsBlock a b corners start count

@@ -1,15 +1,16 @@
--- What is seen of the right of a line at a corner. This project's own. No public clause cites this module.
-use Rattle.std.specs.Prelude.{⊤, ℕ, ◌<◌, List, length}
-use Rattle.plane.specs.Convex.{corner}
-use Rattle.plane.specs.Point.{Triple}
-use Rattle.plane.specs.Turn.{IsRight}
-use Rattle.half_cut.specs.declared.seek.Seen.{Seen}
-use Rattle.half_cut.specs.declared.seek.Seen.TheVariants as seen
+-- Where the way of a line stands among those of the sides. This project's own. No public clause cites this module.
+use Rattle.std.specs.Prelude.{◌↔◌, ◌⊎◌, ℕ, ◌+◌, ◌-◌, ◌%◌, ◌<ℤ◌, List, length, pos}
+use Rattle.plane.specs.Line.{cross_product}
+use Rattle.plane.specs.Order.{IsBefore}
+use Rattle.plane.specs.Point.{Point}
+use Rattle.half_cut.specs.Outline.{Line, line_at}
 
--- this corner is right of the line, or none is; otherwise nothing is said
-abbrev pub IsSeenAt : (a b : Triple) → List Triple → ℕ → Seen → Type 0
-IsSeenAt a b corners at seen.Here = IsRight a b (corner corners at)
-IsSeenAt a b corners at seen.Nowhere = (i : ℕ) → i < length corners → ¬ IsRight a b (corner corners i)
-IsSeenAt a b corners at seen.Ahead = ⊤
-IsSeenAt a b corners at seen.Back = ⊤
-IsSeenAt a b corners at seen.Flat = ⊤
+-- the line's way comes before that from a to b, where ways go round counterclockwise from straight down
+abbrev pub ComesBefore : Line → (a b : Point) → Type 0
+ComesBefore line a b =
+    (IsBefore line.0 line.1 × ¬ IsBefore a b) ⊎ ((IsBefore line.0 line.1 ↔ IsBefore a b) × (pos 0 <ℤ cross_product line.0 line.1 a b))
+
+-- the way from a to b is between those of the sides into a corner and out of it
+pub record IsFacing (a b : Point) (lines : List Line) (at : ℕ) : Type 0 where
+  pub ahead : ¬ (let out = line_at lines at in cross_product a b out.0 out.1 <ℤ pos 0)
+  pub back : ¬ (let into = line_at lines ((at + (length lines - 1)) % length lines) in cross_product into.0 into.1 a b <ℤ pos 0)

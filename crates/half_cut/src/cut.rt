@@ -1,16 +1,17 @@
-ghost use Rattle.std.specs.Prelude.{◌≡◌, ◌≢◌, [], ◌+◌, ◌<◌, ◌≤◌, ◌^◌, ℕ, IfErr, IfOk, OnOk, length};
+ghost use Rattle.std.specs.Prelude.{◌≡◌, ◌≢◌, [], ◌+◌, ◌*◌, ◌<◌, ◌≤◌, ◌^◌, ℕ, IfErr, IfOk, OnErr, OnOk, length};
 ghost use Rattle.std.specs.VecDeque.{deque_capacity};
-ghost use Rattle.plane.specs.Convex.{AreConvex, corner};
+ghost use Rattle.plane.specs.Convex.{corner};
 ghost use Rattle.plane.specs.Cut.{IsCut, IsUncut};
 ghost use Rattle.plane.specs.Order.{Precedes};
 ghost use Rattle.plane.specs.Point.{whole};
 ghost use Rattle.plane.specs.Region.{IsCornerList};
 ghost use Rattle.half_cut.specs.Block.{IsBlock};
-ghost use Rattle.half_cut.specs.Outline.{AreNoneRight, AreLinkedRound};
+ghost use Rattle.half_cut.specs.Outline.{AreLinkedRound, AreNoneRight, IsRegionKept};
 
-use crate::block::{Kept, block_of};
-use crate::least::least;
-use crate::region::{Line, Region};
+use crate::block::{Block, block_of};
+use crate::least::least_of_all;
+use crate::region::{Line, Region, round};
+use crate::seek::{rises, seek};
 use crate::tail::cut_tail;
 use exact_plane::{Hom, Memory, Pt, Steps, turn_hom};
 use std::alloc::Global;
@@ -27,7 +28,7 @@ pub enum CutFault {
 impl Region {
     /// What is left of the region where all that is right of the line from `a` to `b` is cut away. It has at most one corner more.
     pub fn cut<L: Ledger>(
-        self,
+        mut self,
         alloc: Global,
         a: &Pt,
         b: &Pt,
@@ -39,53 +40,67 @@ impl Region {
         ensures few { IfOk result (λ rest. length rest.corners ≤ length self.corners + 1) }
         ensures memory { IfErr result (λ fault. fault ≡ CutFault.Memory self) }
     {
-        let Region {
-            mut corners,
-            mut lines,
-            least,
-            mut near,
-        } = self;
-        match block_of(&corners, &lines, &mut near, a, b, steps) {
-            Kept::All => Ok(Region {
-                corners,
-                lines,
-                least,
-                near,
-            }),
-            Kept::Nothing => Ok(emptied(corners, lines)),
-            Kept::Block { start, count } => {
-                if reserve(&mut corners, &mut lines).is_err() {
-                    return Err(CutFault::Memory(Region {
-                        corners,
-                        lines,
-                        least,
-                        near,
-                    }));
-                }
-                let least = keep_block(&mut corners, &mut lines, least, start, count, a, b, steps);
-                let near = corners.len();
-                Ok(Region {
-                    corners,
-                    lines,
-                    least,
-                    near,
-                })
-            }
+        match self.cut_away(alloc, a, b, steps) {
+            Ok(()) => Ok(self),
+            Err(Memory) => Err(CutFault::Memory(self)),
         }
     }
-}
 
-// Nothing, in the same room.
-fn emptied(mut corners: VecDeque<Hom>, mut lines: VecDeque<Line>) -> Region
-    ensures corners { result.corners ≡ [] }
-{
-    corners.clear();
-    lines.clear();
-    Region {
-        corners,
-        lines,
-        least: 0,
-        near: 0,
+    /// Cuts away all that is right of the line from `a` to `b`. There is at most one corner more. A step is paid for by a corner that
+    /// is cut away, but for some few, and two for each binary digit of the number of corners.
+    pub fn cut_away<L: Ledger>(
+        &mut self,
+        alloc: Global,
+        a: &Pt,
+        b: &Pt,
+        steps: &mut Steps<L>,
+    ) -> Result<(), Memory>
+        requires differ { a.now ≢ b.now }
+        requires few { length self.old.corners < 2 ^ 31 }
+        ensures cut { OnOk result (IsCornerList (IsUncut (whole a.now) (whole b.now) self.old.corners) self.new.corners) }
+        ensures few { OnOk result (length self.new.corners ≤ length self.old.corners + 1) }
+        ensures memory { OnErr result (self.new ≡ self.old) }
+        ensures steps { (d : ℕ) → length self.old.corners < 2 ^ d
+            → steps.new + length self.new.corners ≤ steps.old + length self.old.corners + 2 * d + 15 }
+    {
+        let found = seek(
+            &self.corners,
+            &self.lines,
+            self.least,
+            &mut self.near,
+            a,
+            b,
+            steps,
+        );
+        let Some(gone) = found else {
+            return Ok(());
+        };
+        reserve(&mut self.corners, &mut self.lines)?;
+        match block_of(&self.corners, gone, a, b, steps) {
+            None => self.clear(),
+            Some(block) => {
+                self.least = keep_block(
+                    &mut self.corners,
+                    &mut self.lines,
+                    self.least,
+                    block,
+                    a,
+                    b,
+                    steps,
+                );
+                self.near = self.corners.len() - 1;
+            }
+        }
+        Ok(())
+    }
+
+    // Takes all away, and leaves the room.
+    fn clear(&mut self)
+        ensures corners { self.new.corners ≡ [] }
+    {
+        self.corners.clear();
+        self.lines.clear();
+        self.least = 0;
     }
 }
 
@@ -101,24 +116,20 @@ fn reserve(corners: &mut VecDeque<Hom>, lines: &mut VecDeque<Line>) -> Result<()
     Ok(())
 }
 
-// Keeps this block of corners, and adds what the cut adds. The answer is the place of the least; it is looked for where the least
-// was, or beside the cut.
+// Keeps this block of corners, and adds what the cut adds. The answer is the place of the least: where it was, or an end of the side
+// of the cut.
 fn keep_block<L: Ledger>(
     corners: &mut VecDeque<Hom>,
     lines: &mut VecDeque<Line>,
-    old_least: usize,
-    start: usize,
-    count: usize,
+    least: usize,
+    block: Block,
     a: &Pt,
     b: &Pt,
     steps: &mut Steps<L>,
 ) -> usize
     requires differ { a.now ≢ b.now }
-    requires convex { AreConvex corners.old.items }
-    requires linked { AreLinkedRound corners.old.items lines.old.items }
-    requires beside { AreNoneRight corners.old.items lines.old.items }
-    requires block { IsBlock (whole a.now) (whole b.now) corners.old.items start count }
-    requires old_least { old_least < length corners.old.items }
+    requires kept { IsRegionKept corners.old.items lines.old.items least }
+    requires block { IsBlock (whole a.now) (whole b.now) corners.old.items block.start block.count }
     requires corner_room { length corners.old.items < deque_capacity corners.old }
     requires line_room { length lines.old.items < deque_capacity lines.old }
     ensures cut { IsCut (whole a.now) (whole b.now) corners.old.items corners.new.items }
@@ -126,14 +137,23 @@ fn keep_block<L: Ledger>(
     ensures beside { AreNoneRight corners.new.items lines.new.items }
     ensures within { result < length corners.new.items }
     ensures least { (i : ℕ) → i < length corners.new.items → ¬ Precedes (corner corners.new.items i) (corner corners.new.items result) }
-    ensures few { length corners.new.items ≤ length corners.old.items + 1 }
+    ensures few { length corners.new.items ≤ block.count + 2 }
+    ensures steps { steps.new ≤ steps.old + 6 }
 {
-    let n = corners.len();
-    let moved = (old_least + (n - start)) % n;
-    corners.rotate_left(start);
-    lines.rotate_left(start);
+    let (n, count) = (corners.len(), block.count);
+    let moved = round(least + (n - block.start), n);
+    corners.rotate_left(block.start);
+    lines.rotate_left(block.start);
     let first = turn_hom(a, b, &corners[0], steps);
     let last = turn_hom(a, b, &corners[count - 1], steps);
-    cut_tail(corners, lines, count, first, last, a, b, steps);
-    least(corners, moved.min(corners.len() - 1), steps)
+    let side = cut_tail(corners, lines, count, first, last, a, b, steps);
+    if n == 2 {
+        least_of_all(corners, steps)
+    } else if moved < count {
+        moved
+    } else if rises(a, b, steps) {
+        side
+    } else {
+        round(side + 1, corners.len())
+    }
 }

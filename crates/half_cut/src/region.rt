@@ -1,4 +1,4 @@
-ghost use Rattle.std.specs.Prelude.{◌≡◌, ◌<◌, ◌≤◌, ◌^◌, IfOk, length};
+ghost use Rattle.std.specs.Prelude.{◌≡◌, ◌+◌, ◌%◌, ◌<◌, ◌≤◌, ◌^◌, IfOk, length};
 ghost use Rattle.plane.specs.Convex.{corner};
 ghost use Rattle.plane.specs.Point.{IsInLimit, whole};
 ghost use Rattle.plane.specs.Region.{AreCorners, IsCornerList};
@@ -22,7 +22,7 @@ pub struct Region {
     pub(crate) lines: VecDeque<Line>,
     // The place of the least corner.
     pub(crate) least: usize,
-    // Where the next cut looks first, or past the end: beside the last cut, or where the last one was seen to cut nothing.
+    // Where the next cut looks first, or past the end: beside the last cut, or the corner that was farthest to the right of it.
     pub(crate) near: usize,
 }
 
@@ -76,6 +76,14 @@ impl Region {
     {
         self.corners[(self.least + i as usize) % self.corners.len()]
     }
+}
+
+// The place that comes at number `i`, where places are counted round.
+pub(crate) fn round(i: usize, count: usize) -> usize
+    requires once { i < count + count }
+    ensures { result ≡ i % count }
+{
+    if i < count { i } else { i - count }
 }
 
 // The corner with these coordinates.

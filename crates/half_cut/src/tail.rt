@@ -6,7 +6,7 @@ ghost use Rattle.plane.specs.Cut.{IsCut};
 ghost use Rattle.plane.specs.Point.{whole};
 ghost use Rattle.plane.specs.Turn.{IsRight};
 ghost use Rattle.exact_plane.specs.Direction.{turn_of};
-ghost use Rattle.half_cut.specs.Meeting.{IsLineMeeting};
+ghost use Rattle.half_cut.specs.Meeting.{IsCutSide, IsLineMeeting};
 ghost use Rattle.half_cut.specs.Outline.{AreLinked, AreLinkedRound, AreOf, ComesRound, LineGoesOn, line_at};
 
 use crate::region::Line;
@@ -15,7 +15,8 @@ use std::collections::VecDeque;
 use std::sync::ledger::Ledger;
 
 // Cuts away the corners from number `count` on, all of which are right of the line from `a` to `b`. None before them is; the turns
-// to the first and to the last of those are given.
+// to the first and to the last of those are given. The answer is the place where the side of the cut begins, of three corners or
+// more.
 pub(crate) fn cut_tail<L: Ledger>(
     corners: &mut VecDeque<Hom>,
     lines: &mut VecDeque<Line>,
@@ -25,7 +26,7 @@ pub(crate) fn cut_tail<L: Ledger>(
     a: &Pt,
     b: &Pt,
     steps: &mut Steps<L>,
-)
+) -> usize
     requires differ { a.now ≢ b.now }
     requires convex { AreConvex corners.old.items }
     requires linked { AreLinkedRound corners.old.items lines.old.items }
@@ -40,19 +41,25 @@ pub(crate) fn cut_tail<L: Ledger>(
     ensures cut { IsCut (whole a.now) (whole b.now) corners.old.items corners.new.items }
     ensures linked { AreLinkedRound corners.new.items lines.new.items }
     ensures lines { AreOf lines.old.items (a.now, b.now) lines.new.items }
-    ensures some { 0 < length corners.new.items }
-    ensures few { length corners.new.items ≤ length corners.old.items + 1 }
+    ensures most { count ≤ length corners.new.items }
+    ensures few { length corners.new.items ≤ count + 2 }
+    ensures kept { (i : ℕ) → i < count → corner corners.new.items i ≡ corner corners.old.items i }
+    ensures side { 3 ≤ length corners.old.items → IsCutSide a.now b.now (line_at lines.old.items (count - 1))
+        (line_at lines.old.items (length lines.old.items - 1)) corners.new.items result }
+    ensures steps { steps.new ≤ steps.old + 2 }
 {
     let (behind, before) = (lines[count - 1], lines[lines.len() - 1]);
     let back = meeting(last, &behind, a, b, steps);
     if corners.len() == 2 {
         let line = if back.is_some() { behind } else { (*a, *b) };
         keep(corners, lines, count, back, line);
-    } else {
-        let front = meeting(first, &before, a, b, steps);
-        keep(corners, lines, count, back, (*a, *b));
-        close(corners, lines, front, before);
+        return 0;
     }
+    let front = meeting(first, &before, a, b, steps);
+    keep(corners, lines, count, back, (*a, *b));
+    let side = corners.len() - 1;
+    close(corners, lines, front, before);
+    side
 }
 
 // The point of a side's line on the line from `a` to `b`, where the turn to the corner that stays is to the left.
@@ -63,7 +70,8 @@ fn meeting<L: Ledger>(
     b: &Pt,
     steps: &mut Steps<L>,
 ) -> Option<Hom>
-    ensures { IsLineMeeting a.now b.now line.now turn result }
+    ensures meeting { IsLineMeeting a.now b.now line.now turn result }
+    ensures steps { steps.new ≤ steps.old + 1 }
 {
     if turn == Direction::Left {
         Hom::meet(&line.0, &line.1, a, b, steps)

@@ -1,5 +1,5 @@
 // The edges of a ring in the order of their directions.
-ghost use Rattle.std.specs.Prelude.{IfOk, ◌≤◌, length};
+ghost use Rattle.std.specs.Prelude.{◌≡◌, ◌+◌, ◌-◌, ◌*◌, ◌≤◌, IfOk, length};
 ghost use Rattle.star_kernel.specs.HalfPlanes.{AreAllEdges, AreEdges};
 
 use exact_plane::{Memory, Pt, Steps};
@@ -17,7 +17,7 @@ pub(crate) struct Edge {
     pub number: u32,
 }
 
-// The edges from number `first` on, counterclockwise by their directions.
+// The edges from number `first` on, counterclockwise by their directions. Both ends of each tell their coordinates.
 pub(crate) fn by_direction<L: Ledger>(
     alloc: Global,
     ring: &Ring,
@@ -25,7 +25,8 @@ pub(crate) fn by_direction<L: Ledger>(
     steps: &mut Steps<L>,
 ) -> Result<Vec<Edge>, Memory>
     requires { first ≤ length ring.now.corners }
-    ensures { IfOk result (λ edges. AreAllEdges first (length ring.now.corners) edges.items) }
+    ensures edges { IfOk result (λ edges. AreAllEdges first (length ring.now.corners) edges.items) }
+    ensures steps { steps.new ≤ steps.old + 128 * (length ring.now.corners - first) }
 {
     let mut edges = edges_from(alloc, ring, first, steps)?;
     edges.sort_unstable();
@@ -40,7 +41,8 @@ fn edges_from<L: Ledger>(
     steps: &mut Steps<L>,
 ) -> Result<Vec<Edge>, Memory>
     requires { first ≤ length ring.now.corners }
-    ensures { IfOk result (λ edges. AreEdges first (length ring.now.corners) edges.items) }
+    ensures edges { IfOk result (λ edges. AreEdges first (length ring.now.corners) edges.items) }
+    ensures steps { steps.new ≤ steps.old + 128 * (length ring.now.corners - first) }
 {
     let n = ring.len();
     let mut edges = Vec::with_capacity(alloc, (n - first) as usize)?;
@@ -56,7 +58,9 @@ fn edges_from<L: Ledger>(
 }
 
 // In which quarter the way from `a` to `b` goes, and how far it is into it.
-fn direction<L: Ledger>(a: &Pt, b: &Pt, steps: &mut Steps<L>) -> (u8, u128) {
+fn direction<L: Ledger>(a: &Pt, b: &Pt, steps: &mut Steps<L>) -> (u8, u128)
+    ensures steps { steps.new ≡ steps.old + 128 }
+{
     let ((x, y), (u, v)) = (a.parts(steps), b.parts(steps));
     let (right, up) = (u - x, v - y);
     if 0 < right && 0 <= up {

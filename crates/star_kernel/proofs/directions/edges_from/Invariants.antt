@@ -1,5 +1,9 @@
+use Rattle.std.proofs.Common.{◌+◌, ◌-◌, ◌*◌, ◌≤◌}
 use Rattle.star_kernel.specs.HalfPlanes.{AreEdges}
 use Rattle.star_kernel.proofs.directions.edges_from.Given as goal
 
 abbrev pub invariant-loop-number : goal.invariant-loop-number
-invariant-loop-number g l = AreEdges l.first l.number l.edges.items
+invariant-loop-number g l = record {
+  edges : AreEdges l.first l.number l.edges.items;
+  steps : l.steps ≤ l.fn.steps + 128 * (l.number - l.first);
+}
