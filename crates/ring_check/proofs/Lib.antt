@@ -6,5 +6,6 @@ mod EdgeRuns
 pub mod Oriented
 mod Reflex
 mod SharedPoints
+mod SlabSides
 mod StatusEdits
 mod SweptArea

@@ -3,11 +3,14 @@
 
 mod boxes;
 mod clash;
+mod cover;
 mod events;
 mod laws;
 mod orientation;
 mod ring;
 mod runs;
+mod slab;
+mod slabs;
 mod status;
 mod sweep;
 
