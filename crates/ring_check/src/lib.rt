@@ -6,6 +6,7 @@ mod clash;
 mod cover;
 mod events;
 mod laws;
+mod order;
 mod orientation;
 mod ring;
 mod runs;
@@ -15,5 +16,6 @@ mod status;
 mod sweep;
 
 pub use laws::{crossing_parity, winding_across};
+pub use order::{lexical_order, ranks_of};
 pub use ring::{Ring, RingFault};
 pub use sweep::sweep_finds_none;
