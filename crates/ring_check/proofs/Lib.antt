@@ -3,8 +3,10 @@ mod Below
 pub mod Bounds
 mod EdgeEnds
 mod EdgeRuns
+mod Orders
 pub mod Oriented
 mod Reflex
 mod SharedPoints
+mod SlabSides
 mod StatusEdits
 mod SweptArea

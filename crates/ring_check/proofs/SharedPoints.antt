@@ -1,11 +1,11 @@
--- When two edges share a point other than the vertex where they follow one another.
-use Rattle.std.proofs.Common.{◌≡◌, ◌≢◌, ℕ, ◌+◌, ◌<◌, ◌≤◌, ◌↔◌, Bool, true, false, IsTrue, List, length, refl, subst, sym, arith}
+-- When two edges share a point other than the vertex where they follow one another, and when they are the least to clash.
+use Rattle.std.proofs.Common.{◌≡◌, ◌≢◌, inl, inr, ℕ, ◌+◌, ◌<◌, ◌≤◌, ◌↔◌, Bool, true, false, IsTrue, List, length, refl, subst, sym, arith}
 use Rattle.std.specs.Prelude.{not}
 use Rattle.plane.specs.Point.{Point, whole}
 use Rattle.plane.specs.Segment.{Meet, MeetElsewhere, MeetOnlyAt, On}
 use Rattle.rings.proofs.Vertices.{vertex_round}
 use Rattle.rings.specs.Ring.{vertex}
-use Rattle.rings.specs.Simple.{SharesPoint}
+use Rattle.rings.specs.Simple.{Clash, IsLeastClash, SharesPoint}
 
 module _ (ring : List Point) (three : 3 ≤ length ring) where
   -- the vertex after edge j is the first, where edge j is the last
@@ -67,3 +67,17 @@ meet_of_shared ring i j shared = record {
 pub fails_where : {P : Type 0} (test : Bool) → (test ≡ false → P) → (test ≡ true → ¬ P) → IsTrue (not test) ↔ P
 fails_where true found absent = (λ h. absurd (cc h), λ p. absurd (absent refl p))
 fails_where false found absent = (λ _. found refl, λ _. refl)
+
+-- a clash is the least one where no edge before its first clashes, and its first clashes with none before its second
+pub least_from : (ring : List Point) (i j : ℕ) → i < j → j < length ring → Clash ring i j
+    → ((k l : ℕ) → k < i → k < l → l < length ring → Clash ring k l → ⊥)
+    → ((l : ℕ) → i < l → l < j → Clash ring i l → ⊥) → IsLeastClash ring i j
+least_from ring i j in_order in_ring clash none_before none_between = record {
+  in_order = in_order;
+  in_ring = in_ring;
+  clash = clash;
+  least = λ k l order within lesser clash. elim lesser [
+    | inl above ↦ none_before k l above order within clash
+    | inr here ↦ none_between l (omega (arith, here, order)) here.1 (rw here.0 at clash)
+  ];
+}

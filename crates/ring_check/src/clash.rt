@@ -13,7 +13,7 @@ use std::cmp::Ordering;
 use std::sync::ledger::Ledger;
 
 // The least pair of edges i < j that clash, in the order of i, then j. A sweep tells of most lists without such a pair
-// that they have none.
+// that they have none. Where points are at random, the first edge clashes, and runs of edges are of no use.
 pub fn find_clash<L: Ledger>(
     alloc: Global,
     points: &[Pt],
@@ -26,6 +26,9 @@ pub fn find_clash<L: Ledger>(
 {
     if sweep_finds_none(alloc, points, steps) {
         return None;
+    }
+    if let Some(j) = least_clash_with(points, &[], 0, steps) {
+        return Some((0, j));
     }
     match runs_of(alloc, points, steps) {
         Ok(runs) => least_clash(points, &runs, steps),
@@ -70,7 +73,7 @@ fn least_clash_with<L: Ledger>(
     let bounds = box_of_edge(points, i, steps);
     let mut j = i + 1;
     while j < points.len() {
-        let end = clear_to(points, i, &bounds, runs, j);
+        let end = clear_to(points, i, &bounds, runs, j, steps);
         if j < end {
             j = end;
         } else if edges_clash(points, i, j, steps) {

@@ -7,8 +7,7 @@ ghost use Rattle.rings.specs.Events.{AreEvents, IsEvent};
 ghost use Rattle.rings.specs.Ring.{vertex};
 
 use crate::clash::corner;
-use exact_plane::{Memory, Pt, Steps, order};
-use std::alloc::Global;
+use exact_plane::{Pt, Steps, order};
 use std::cmp::Ordering;
 use std::sync::ledger::Ledger;
 
@@ -98,38 +97,4 @@ fn is_before<L: Ledger>(points: &[Pt], v: u32, w: u32, steps: &mut Steps<L>) -> 
         &corner(points, w as usize),
         steps,
     ) == Ordering::Less
-}
-
-// The vertices by x, then y.
-pub(crate) fn sorted<L: Ledger>(
-    alloc: Global,
-    points: &[Pt],
-    steps: &mut Steps<L>,
-) -> Result<Vec<u32>, Memory>
-    requires { length points.now < 2 ^ 32 }
-{
-    let mut keys = Vec::with_capacity(alloc, points.len())?;
-    for v in 0..points.len() {
-        let (x, y) = points[v].parts(steps);
-        keys.push((x, y, v as u32))?;
-    }
-    keys.sort_unstable();
-    let mut order = Vec::with_capacity(alloc, points.len())?;
-    for (_, _, v) in keys.iter() {
-        order.push(*v)?;
-    }
-    Ok(order)
-}
-
-// The place of each of `n` vertices in the order.
-pub(crate) fn ranks_of(alloc: Global, n: usize, order: &[u32]) -> Result<Vec<u32>, Memory> {
-    let mut ranks = Vec::from_elem(alloc, 0, n)?;
-    let mut place: u32 = 0;
-    for v in order {
-        if (*v as usize) < ranks.len() {
-            ranks[*v as usize] = place;
-        }
-        place = place.wrapping_add(1);
-    }
-    Ok(ranks)
 }

@@ -3,14 +3,19 @@
 
 mod boxes;
 mod clash;
+mod cover;
 mod events;
 mod laws;
+mod order;
 mod orientation;
 mod ring;
 mod runs;
+mod slab;
+mod slabs;
 mod status;
 mod sweep;
 
 pub use laws::{crossing_parity, winding_across};
+pub use order::{lexical_order, ranks_of};
 pub use ring::{Ring, RingFault};
 pub use sweep::sweep_finds_none;

@@ -34,7 +34,7 @@ fn doubled_area<L: Ledger>(points: &[Pt], steps: &mut Steps<L>) -> i64
 }
 
 // Twice the signed area that the way between two points sweeps out round the origin.
-fn swept<L: Ledger>(from: &Pt, to: &Pt, steps: &mut Steps<L>) -> i64
+pub(crate) fn swept<L: Ledger>(from: &Pt, to: &Pt, steps: &mut Steps<L>) -> i64
     ensures value { result ≡ (from.now.x *ℤ to.now.y) -ℤ (to.now.x *ℤ from.now.y) }
     ensures small { unsigned_abs result < 2 ^ 47 }
 {

@@ -1,13 +1,12 @@
-// Runs of edges with boxes round them, by which whole runs are left out of the scan for the least clash.
+// Runs of edges with covers of them, by which whole runs are left out of the scan for the least clash.
 ghost use Rattle.std.specs.List.{All};
-ghost use Rattle.std.specs.Prelude.{◌≡◌, ◌+◌, ◌<◌, ◌≤◌, ◌↔◌, ℕ, IfOk, IsTrue, List, length};
-ghost use Rattle.plane.specs.Point.{Point};
+ghost use Rattle.std.specs.Prelude.{◌≡◌, ◌+◌, ◌<◌, ◌≤◌, ◌^◌, ℕ, IfOk, IsTrue, length};
 ghost use Rattle.rings.specs.Simple.{Clash, HasEqualEnds};
 ghost use Rattle.ring_check.specs.Boxes.{EnclosesEdge};
-ghost use Rattle.ring_check.specs.Runs.{IsRun, ReachesRun};
+ghost use Rattle.ring_check.specs.Runs.{IsRun};
 
-use crate::boxes::box_of_edge;
 use crate::clash::{corner, has_equal_ends};
+use crate::cover::Cover;
 use exact_plane::{BoundingBox, Memory, Pt, Steps};
 use std::alloc::Global;
 use std::sync::ledger::Ledger;
@@ -15,19 +14,20 @@ use std::sync::ledger::Ledger;
 // How many edges a run has at most that joins no others.
 const RUN: usize = 16;
 
-// The edges from `first` to before `end`, each in the box of those that go its way. Where a list winds round and round,
-// these boxes are slim, and one box round all of the edges would not be.
+// The edges from `first` to before `end`, each in the cover of those that go its way. Where a list winds round and round,
+// these boxes are slim, and one box round all of the edges would not be; and where edges lie side by side, these slabs are.
 #[derive(Clone, Copy)]
 pub(crate) struct Run {
     first: usize,
     end: usize,
-    eastward: BoundingBox,
-    northward: BoundingBox,
-    westward: BoundingBox,
-    southward: BoundingBox,
+    eastward: Cover,
+    northward: Cover,
+    westward: Cover,
+    southward: Cover,
 }
 
 // The four ways, each up to a quarter turn to the left.
+#[derive(Clone, Copy, PartialEq, Eq)]
 enum Way {
     East,
     North,
@@ -36,28 +36,33 @@ enum Way {
 }
 
 impl Run {
-    // No edge, before edge `first`.
-    fn empty(first: usize) -> Run
-        ensures first { result.first ≡ first }
-        ensures end { result.end ≡ first }
-    {
-        Run {
-            first,
-            end: first,
-            eastward: BoundingBox::empty(),
-            northward: BoundingBox::empty(),
-            westward: BoundingBox::empty(),
-            southward: BoundingBox::empty(),
-        }
-    }
-
     // The edges from `first` on, 16 or up to the end of the list or an edge with equal ends.
     fn of<L: Ledger>(points: &[Pt], first: usize, steps: &mut Steps<L>) -> Run
         requires { first < length points.now }
         ensures { IsRun points.now result }
     {
-        let mut run = Run::empty(first);
-        for e in first..points.len().min(first + RUN) {
+        let end = points.len().min(first + RUN);
+        let run = Run {
+            first,
+            end,
+            eastward: cover_along(points, first, end, Way::East, steps),
+            northward: cover_along(points, first, end, Way::North, steps),
+            westward: cover_along(points, first, end, Way::West, steps),
+            southward: cover_along(points, first, end, Way::South, steps),
+        };
+        run.with_edges(points, end, steps)
+    }
+
+    // The edges from its first to before `end` or an edge with equal ends, where its own covers are empty.
+    fn with_edges<L: Ledger>(&self, points: &[Pt], end: usize, steps: &mut Steps<L>) -> Run
+        requires { end ≤ length points.now }
+        ensures { IsRun points.now result }
+    {
+        let mut run = Run {
+            end: self.first,
+            ..*self
+        };
+        for e in self.first..end {
             if has_equal_ends(points, e, steps) {
                 return run;
             }
@@ -75,67 +80,106 @@ impl Run {
         ensures run { IsRun points.now result }
         ensures end { result.end ≡ e + 1 }
     {
-        let bounds = box_of_edge(points, e, steps);
         let run = Run {
             end: e + 1,
             ..*self
         };
         match way_of(points, e, steps) {
             Way::East => Run {
-                eastward: run.eastward.joined(&bounds),
+                eastward: run.eastward.with_edge(points, e, steps),
                 ..run
             },
             Way::North => Run {
-                northward: run.northward.joined(&bounds),
+                northward: run.northward.with_edge(points, e, steps),
                 ..run
             },
             Way::West => Run {
-                westward: run.westward.joined(&bounds),
+                westward: run.westward.with_edge(points, e, steps),
                 ..run
             },
             Way::South => Run {
-                southward: run.southward.joined(&bounds),
+                southward: run.southward.with_edge(points, e, steps),
                 ..run
             },
         }
     }
 
     // This run and the next, or this one alone where the other does not follow it.
-    fn joined(&self, next: &Run) -> Run
-        ensures { (ring : List Point) → IsRun ring self.now → IsRun ring next.now → IsRun ring result }
+    fn joined<L: Ledger>(&self, next: &Run, points: &[Pt], steps: &mut Steps<L>) -> Run
+        requires { IsRun points.now self.now }
+        ensures { IsRun points.now result }
     {
         if next.first != self.end {
             return *self;
         }
-        Run {
+        let run = Run {
             first: self.first,
-            end: next.end,
-            eastward: self.eastward.joined(&next.eastward),
-            northward: self.northward.joined(&next.northward),
-            westward: self.westward.joined(&next.westward),
-            southward: self.southward.joined(&next.southward),
-        }
+            end: self.first,
+            eastward: self.eastward.longer(&next.eastward, steps),
+            northward: self.northward.longer(&next.northward, steps),
+            westward: self.westward.longer(&next.westward, steps),
+            southward: self.southward.longer(&next.southward, steps),
+        };
+        run.with_edges(points, points.len().min(next.end), steps)
     }
 
-    // Whether its boxes show that none of its edges clashes with edge `i`, which has the other box.
-    fn is_clear(&self, points: &[Pt], i: usize, bounds: &BoundingBox) -> bool
+    // Whether its covers show that none of its edges clashes with edge `i`, which is in the box.
+    fn is_clear<L: Ledger>(
+        &self,
+        points: &[Pt],
+        i: usize,
+        bounds: &BoundingBox,
+        steps: &mut Steps<L>,
+    ) -> bool
         requires run { IsRun points.now self.now }
-        requires edge { EnclosesEdge points.now bounds.now i }
+        requires edge { i < length points.now }
+        requires bounds { EnclosesEdge points.now bounds.now i }
         requires differ { HasEqualEnds points.now i → ⊥ }
         ensures { IsTrue result → (l : ℕ) → self.now.first ≤ l → l < self.now.end → Clash points.now i l → ⊥ }
     {
-        !self.reaches(bounds)
+        let (p, q) = (corner(points, i), corner(points, i + 1));
+        if !self.eastward.is_apart(&p, &q, bounds, steps) {
+            return false;
+        }
+        if !self.northward.is_apart(&p, &q, bounds, steps) {
+            return false;
+        }
+        self.westward.is_apart(&p, &q, bounds, steps)
+            && self.southward.is_apart(&p, &q, bounds, steps)
     }
+}
 
-    // Whether one of its boxes shares a point with another box.
-    fn reaches(&self, bounds: &BoundingBox) -> bool
-        ensures { IsTrue result ↔ ReachesRun self.now bounds.now }
-    {
-        bounds.overlaps(&self.eastward)
-            || bounds.overlaps(&self.northward)
-            || bounds.overlaps(&self.westward)
-            || bounds.overlaps(&self.southward)
+// An empty cover whose slab is along the longest of the edges from `first` to before `end` that go a way. Only the time rests
+// on which edges they are.
+fn cover_along<L: Ledger>(
+    points: &[Pt],
+    first: usize,
+    end: usize,
+    way: Way,
+    steps: &mut Steps<L>,
+) -> Cover
+    requires some { 0 < length points.now }
+    requires end { end ≤ length points.now }
+{
+    let mut cover = Cover::along(&points[0], &points[0], 0, steps);
+    let mut most = 0;
+    for e in first..end {
+        let length = length_of(points, e, steps);
+        if most < length && way_of(points, e, steps) == way {
+            most = length;
+            cover = Cover::along(&corner(points, e), &corner(points, e + 1), length, steps);
+        }
     }
+    cover
+}
+
+// How far edge `e` goes in x and in y together.
+fn length_of<L: Ledger>(points: &[Pt], e: usize, steps: &mut Steps<L>) -> u64
+    requires { e < length points.now }
+{
+    let (a, b) = corner(points, e).parts(steps);
+    let (c, d) = corner(points, e + 1).parts(steps);
+    (c - a).unsigned_abs() + (d - b).unsigned_abs()
 }
 
 // The way that edge `e` goes. Only the time rests on it.
@@ -167,7 +211,7 @@ pub(crate) fn runs_of<L: Ledger>(
     let mut runs = least_runs(alloc, points, steps)?;
     let count = runs.len();
     for k in 1..count {
-        let run = runs[2 * k - 2].joined(&runs[2 * k - 1]);
+        let run = runs[2 * k - 2].joined(&runs[2 * k - 1], points, steps);
         runs.push(run)?;
     }
     Ok(runs)
@@ -190,17 +234,19 @@ fn least_runs<L: Ledger>(
     Ok(runs)
 }
 
-// The edge behind the greatest run from edge `first` on whose boxes show that none of its edges clashes with edge `i`,
-// which has the box. Where there is no such run, that is `first`.
-pub(crate) fn clear_to(
+// The edge behind the greatest run from edge `first` on whose covers show that none of its edges clashes with edge `i`,
+// which is in the box. Where there is no such run, that is `first`.
+pub(crate) fn clear_to<L: Ledger>(
     points: &[Pt],
     i: usize,
     bounds: &BoundingBox,
     runs: &[Run],
     first: usize,
+    steps: &mut Steps<L>,
 ) -> usize
     requires runs { All (IsRun points.now) runs.now }
-    requires edge { EnclosesEdge points.now bounds.now i }
+    requires edge { i < length points.now }
+    requires bounds { EnclosesEdge points.now bounds.now i }
     requires differ { i + 1 < first → HasEqualEnds points.now i → ⊥ }
     requires below { i < first }
     ensures { (l : ℕ) → first ≤ l → l < result → Clash points.now i l → ⊥ }
@@ -212,7 +258,7 @@ pub(crate) fn clear_to(
     let mut k = first / RUN;
     while k < runs.len() {
         let run = &runs[k];
-        if run.first != first || !run.is_clear(points, i, bounds) {
+        if run.first != first || !run.is_clear(points, i, bounds, steps) {
             return end;
         }
         end = run.end;

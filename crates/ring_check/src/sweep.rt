@@ -4,7 +4,8 @@ ghost use Rattle.rings.specs.Events.{previous};
 ghost use Rattle.rings.specs.Simple.{IsSimple};
 ghost use Rattle.rings.specs.Status.{IsStatus};
 
-use crate::events::{Events, ranks_of, sorted};
+use crate::events::Events;
+use crate::order::{lexical_order, ranks_of};
 use crate::status::{insert, next, remove, replace};
 use exact_plane::{Memory, Pt, Steps};
 use std::alloc::Global;
@@ -29,8 +30,8 @@ fn sweep<L: Ledger>(alloc: Global, points: &[Pt], steps: &mut Steps<L>) -> Resul
     requires small { length points.now < 2 ^ 32 }
     ensures { IfOk result (λ finds_none. IsTrue finds_none → IsSimple points.now) }
 {
-    let order = sorted(alloc, points, steps)?;
-    let ranks = ranks_of(alloc, points.len(), &order)?;
+    let order = lexical_order(alloc, points, steps)?;
+    let ranks = ranks_of(alloc, &order)?;
     match Events::of(points, &order, &ranks, steps) {
         Some(events) => {
             let status = Vec::with_capacity(alloc, points.len())?;

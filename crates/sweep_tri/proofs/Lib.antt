@@ -10,8 +10,6 @@ pub mod Regions
 pub mod Fronts
 -- The state of a sweep after each event.
 pub mod Swept
--- The vertices of a ring in lexicographic order, and their ranks.
-pub mod Orders
 -- The place of a vertex among the gaps, by halving.
 pub mod Search
 -- The gaps in their slots, by the numbers of those that are open.

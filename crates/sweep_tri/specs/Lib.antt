@@ -2,10 +2,8 @@ pub mod Entries
 pub mod Forks
 pub mod Frontier
 pub mod Gaps
-pub mod Keys
 pub mod Meeting
 pub mod Open
-pub mod Order
 pub mod Passing
 pub mod Ranked
 pub mod Region

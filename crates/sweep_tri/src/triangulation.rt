@@ -4,12 +4,12 @@ ghost use Rattle.meshes.specs.Fits.{Fits};
 ghost use Rattle.rings.specs.Orientation.{IsCounterclockwise};
 ghost use Rattle.rings.specs.Simple.{IsSimple};
 ghost use Rattle.shared_seq.specs.Digits.{binary_digits};
-ghost use Rattle.sweep_tri.specs.Order.{IsInOrder};
+ghost use Rattle.ring_check.specs.Order.{IsInOrder};
 
 use crate::event::Sweep;
-use crate::order::ranks_of;
 use exact_plane::{Memory, Steps, Turns};
 use meshes::Tri;
+use ring_check::ranks_of;
 use std::alloc::Global;
 use std::sync::ledger::Ledger;
 

@@ -1,21 +1,12 @@
-use Rattle.std.proofs.Common.{ℕ, ◌<◌, inl, inr, length, arith, below_more}
+use Rattle.std.proofs.Common.{ℕ, ◌<◌, length, arith, below_more}
 use Rattle.rings.specs.Simple.{Clash}
+use Rattle.ring_check.proofs.SharedPoints.{least_from}
 use Rattle.ring_check.proofs.clash.least_clash.Goals as goal
 
 pub returns-in-Some-clause-least : goal.returns-in-Some-clause-least
 returns-in-Some-clause-least g c =
-    let ring = c.args.points.now in
-    let i = c.loop-i.i in
     let found = c.in-Some.ensures in
-    record {
-      in_order = found.range.0;
-      in_ring = found.range.1;
-      clash = found.clash;
-      least = λ k l in_order in_ring lesser clash. elim lesser [
-        | inl above ↦ c.loop-i.invariant k l above in_order in_ring clash
-        | inr here ↦ found.least l (omega (arith, here, in_order)) here.1 (rw here.0 at clash)
-      ];
-    }
+    least_from c.args.points.now c.loop-i.i c.in-Some.j found.range.0 found.range.1 found.clash c.loop-i.invariant found.least
 
 pub loop-i-preserved : goal.loop-i-preserved
 loop-i-preserved g c =

@@ -15,4 +15,4 @@ loop-k-preserved g c =
     let second = subst (IsRun ring) (sym c.index-in-loop-k.ensures)
     (had.1 (2 * c.loop-k.k - 1) c.index-in-loop-k.result.now (omega (arith, had.0, c.loop-k-test.true))) in
     rw c.in_ok-push.ensures.items
-    (omega (arith, had.0, length-append runs (run ∷ [])), All-push (IsRun ring) runs run had.1 (c.joined-run.ensures ring first second))
+    (omega (arith, had.0, length-append runs (run ∷ [])), All-push (IsRun ring) runs run had.1 (c.joined-run.ensures))

@@ -14,10 +14,10 @@ use Rattle.rings.proofs.Simple.{apart_of_simple}
 use Rattle.rings.specs.Ring.{vertex}
 use Rattle.rings.specs.Simple.{IsSimple}
 use Rattle.ring_laws.proofs.Vertices.{same_number}
-use Rattle.sweep_tri.proofs.Orders.Keys.{IsKey, moved_apart, moved_has, moved_keys, moved_length}
-use Rattle.sweep_tri.specs.Keys.{AreKeys, key_of}
-use Rattle.sweep_tri.specs.Order.{IsInOrder}
-use Rattle.sweep_tri.specs.declared.order.Key.{Key}
+use Rattle.ring_check.proofs.Orders.Keys.{IsKey, moved_apart, moved_has, moved_keys, moved_length}
+use Rattle.ring_check.specs.Keys.{AreKeys, key_of}
+use Rattle.ring_check.specs.Order.{IsInOrder}
+use Rattle.ring_check.specs.declared.order.Key.{Key}
 
 -- the order by x, y and the number
 abbrev pub key_cmp : Key → Key → Ordering
@@ -28,6 +28,11 @@ is_lower : (a b c d : ℤ) (rest : Ordering) → (a <ℤ b) ⊎ ((a ≡ b) × (c
     → is_lt (ordering_then (int_cmp a b) (ordering_then (int_cmp c d) rest)) ≡ true
 is_lower a b c d rest (inl h) = grind (arith, ints, nat_tests)
 is_lower a b c d rest (inr h) = grind (arith, ints, nat_tests)
+
+-- as many numbers as vertices
+pub moved_numbers : (ring : List Point) (keys : List Key) → AreKeys ring (length ring) keys → (moved : List Key) → IsPermutation keys moved
+    → length (map (λ k. k.number) moved) ≡ length ring
+moved_numbers ring keys are moved is_moved = length-map moved (λ k. k.number) ∙ moved_length ring keys are moved is_moved
 
 module _ (ring : List Point) (simple : IsSimple ring) where
   -- of two vertices with sorted keys the first is before the second
@@ -46,7 +51,7 @@ module _ (ring : List Point) (simple : IsSimple ring) where
     numbers = map (λ k. k.number) sorted
 
     size : length numbers ≡ length ring
-    size = length-map sorted (λ k. k.number) ∙ moved_length ring keys are sorted moved
+    size = moved_numbers ring keys are sorted moved
 
     -- each vertex is before the next
     rises : (k : ℕ) → k + 1 < length numbers → IsBefore (vertex ring (slice_index_or numbers k 0)) (vertex ring (slice_index_or numbers (k + 1) 0))

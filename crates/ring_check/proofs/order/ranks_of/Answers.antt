@@ -1,6 +1,6 @@
 use Rattle.std.proofs.Common.{◌≡◌, length, arith}
-use Rattle.sweep_tri.proofs.Orders.{are_events}
-use Rattle.sweep_tri.proofs.order.ranks_of.Goals as goal
+use Rattle.ring_check.proofs.Orders.{are_events}
+use Rattle.ring_check.proofs.order.ranks_of.Goals as goal
 
 pub returns : goal.returns
 returns c corners in_order =

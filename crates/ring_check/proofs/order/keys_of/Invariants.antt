@@ -1,9 +1,9 @@
 use Rattle.std.proofs.Common.{◌≡◌, ◌+◌, ◌*◌}
-use Rattle.sweep_tri.specs.Keys.{AreKeys}
-use Rattle.sweep_tri.proofs.order.keys_of.Given as goal
+use Rattle.ring_check.specs.Keys.{AreKeys}
+use Rattle.ring_check.proofs.order.keys_of.Given as goal
 
 abbrev pub invariant-loop-number : goal.invariant-loop-number
 invariant-loop-number g l = record {
-  keys : AreKeys l.ring.corners l.number l.keys.items;
+  keys : AreKeys l.points l.number l.keys.items;
   steps : l.steps ≡ l.fn.steps + 64 * l.number;
 }

@@ -6,8 +6,8 @@ use Rattle.std.proofs.lemmas.Map.Keys.{IsDistinct-IsPermutation, IsDistinct-from
 use Rattle.std.specs.List.{All, Contains, IsDistinct}
 use Rattle.std.specs.Prelude.{IsPermutation, nat_eq, slice_index_or}
 use Rattle.plane.specs.Point.{Point}
-use Rattle.sweep_tri.specs.Keys.{AreKeys, key_of}
-use Rattle.sweep_tri.specs.declared.order.Key.{Key}
+use Rattle.ring_check.specs.Keys.{AreKeys, key_of}
+use Rattle.ring_check.specs.declared.order.Key.{Key}
 
 -- the key of a vertex of the ring
 pub record IsKey (ring : List Point) (key : Key) : Type 0 where

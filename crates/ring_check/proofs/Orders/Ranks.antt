@@ -7,8 +7,8 @@ use Rattle.plane.proofs.Order.{before_differs}
 use Rattle.plane.specs.Point.{Point}
 use Rattle.rings.specs.Events.{AreEvents}
 use Rattle.rings.specs.Ring.{vertex}
-use Rattle.sweep_tri.proofs.Orders.Ascending.{ascending}
-use Rattle.sweep_tri.specs.Order.{IsInOrder}
+use Rattle.ring_check.proofs.Orders.Ascending.{ascending}
+use Rattle.ring_check.specs.Order.{IsInOrder}
 
 -- no two numbers are the same
 abbrev AreApart : List ℕ → Type 0

@@ -6,7 +6,7 @@ mod Ascending
 mod Keys
 -- Where the keys of a simple ring's vertices are sorted, the vertices are in lexicographic order.
 mod Sorted
-pub use Rattle.sweep_tri.proofs.Orders.Sorted.{in_order}
+pub use Rattle.ring_check.proofs.Orders.Sorted.{in_order, moved_numbers}
 -- The vertices that have their ranks; where all have, they are the events of the ring.
 mod Ranks
-pub use Rattle.sweep_tri.proofs.Orders.Ranks.{AreRanked, are_events}
+pub use Rattle.ring_check.proofs.Orders.Ranks.{AreRanked, are_events}

@@ -2,7 +2,7 @@
 use Rattle.std.specs.Prelude.{◌≡◌, ℕ, ◌<◌, List, length, slice_index_or}
 use Rattle.plane.specs.Point.{Point}
 use Rattle.rings.specs.Ring.{vertex}
-use Rattle.sweep_tri.specs.declared.order.Key.{Key}
+use Rattle.ring_check.specs.declared.order.Key.{Key}
 
 -- the key of vertex v
 abbrev pub key_of : List Point → ℕ → Key

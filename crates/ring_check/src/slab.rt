@@ -1,0 +1,15 @@
+ghost use Rattle.std.specs.Prelude.{◌<◌, ◌^◌, unsigned_abs};
+
+use exact_plane::Pt;
+
+// The points between two lines that go the way from one point to another, by their heights over that way.
+#[derive(Clone, Copy)]
+pub(crate) struct Slab {
+    pub from: Pt,
+    pub to: Pt,
+    pub length: u64,
+    pub least: i64,
+    pub greatest: i64,
+    ghost least_fits: { unsigned_abs least < 2 ^ 48 },
+    ghost greatest_fits: { unsigned_abs greatest < 2 ^ 48 },
+}
