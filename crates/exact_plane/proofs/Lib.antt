@@ -6,6 +6,7 @@ mod Fields
 mod Intervals
 mod Mediants
 mod Meetings
+pub mod Overlaps
 pub mod Registers
 mod Triangles
 pub mod WideProducts

@@ -1,19 +1,19 @@
 -- Edges to one side of a point: it is on none of them, and whether they are crossed is told by their ends.
 use Rattle.std.proofs.Common.{◌≡◌, ◌⊎◌, inl, inr, refl, sym, ap, subst, ◌∙◌, ℕ, ◌+◌, ◌-◌, ◌<◌, ◌≤◌, ◌↔◌, IsTrue, zero, suc, ℤ, ◌*ℤ◌, ◌<ℤ◌, Bool, true, false, List, length, take, drop, get_or, arith}
-use Rattle.std.proofs.lemmas.Int.{clamps, ints}
+use Rattle.std.proofs.lemmas.Int.{ints}
 use Rattle.std.proofs.lemmas.List.{get_or-drop, get_or-take, length-drop, length-take-le}
 use Rattle.std.specs.Bool.{beq}
 use Rattle.std.specs.Int.Signed.{le_z, lt_z}
 use Rattle.std.specs.Prelude.{◌&&◌, not}
-use Rattle.plane.proofs.Meetings.{segments_apart}
 use Rattle.plane.proofs.Points.{whole_is_point}
 use Rattle.plane.proofs.Segments.{not_after_both, not_before_both}
 use Rattle.plane.specs.Point.{IsInBounds, IsPoint, Point, Triple, whole}
-use Rattle.plane.specs.Segment.{Meet, On}
+use Rattle.plane.specs.Segment.{On}
 use Rattle.rings.proofs.Vertices.{vertex_in_range}
 use Rattle.rings.specs.Edge.{edge, edges_of}
 use Rattle.rings.specs.Inside.{is_crossed}
 use Rattle.rings.specs.Ring.{origin, vertex}
+use Rattle.exact_plane.proofs.Overlaps.{overlap_of_meeting}
 use Rattle.exact_plane.specs.Boxes.{Encloses, Overlap}
 use Rattle.exact_plane.specs.declared.bounding_box.BoundingBox.{BoundingBox}
 use Rattle.inside_test.proofs.ApartEdges.{not_on_above, not_on_below}
@@ -151,22 +151,6 @@ module _ (ring : List Point) (p : Triple) (above : ℕ → Bool) (first : ℕ) (
       (subst (OddSoFar (take (k + 1) (edges_of ring)) p) is step)
 
 -- ---- a block of edges whose ends are in a box
-
--- boxes round two segments that share a point do so
-overlap_of_meeting : (b c : BoundingBox) (p q r s : Point) → Encloses b p → Encloses b q → Encloses c r → Encloses c s
-    → Meet (whole p) (whole q) (whole r) (whole s) → Overlap b c
-overlap_of_meeting b c p q r s hp hq hr hs meet =
-    let h = (segments_apart p q r s meet).0 in
-    record {
-      in_x = record {
-        first_reaches = omega (arith, ints, clamps, h.in_x.first_reaches, hp.west, hq.west, hr.east, hs.east);
-        second_reaches = omega (arith, ints, clamps, h.in_x.second_reaches, hp.east, hq.east, hr.west, hs.west);
-      };
-      in_y = record {
-        first_reaches = omega (arith, ints, clamps, h.in_y.first_reaches, hp.south, hq.south, hr.north, hs.north);
-        second_reaches = omega (arith, ints, clamps, h.in_y.second_reaches, hp.north, hq.north, hr.south, hs.south);
-      };
-    }
 
 -- where a count is the rest, the sum is the whole
 sum_is : (first end : ℕ) → first < end → first + (end - first) ≡ end
