@@ -10,6 +10,6 @@ mod walk;
 
 pub use board::Board;
 pub use laws::{full_without_straight, no_point_twice};
-pub use location::locate;
+pub use location::{locate, locate_both};
 pub use sleeves::sleeve;
 pub use touching::touched;

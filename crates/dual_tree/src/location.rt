@@ -1,7 +1,8 @@
-ghost use Rattle.std.specs.Prelude.{◌+◌, ◌-◌, ◌*◌, ◌≤◌, ◌↔◌, IfSome, IsNone, IsTrue, length};
+ghost use Rattle.std.specs.Prelude.{◌+◌, ◌-◌, ◌*◌, ◌<◌, ◌≤◌, ◌↔◌, ℕ, IfSome, IsNone, IsTrue, length};
 ghost use Rattle.plane.specs.Point.{whole};
 ghost use Rattle.rings.specs.Inside.{IsIn};
 ghost use Rattle.meshes.specs.Fits.{Fits, IsInTri};
+ghost use Rattle.meshes.specs.Side.{tri_at};
 ghost use Rattle.dual_tree.specs.Location.{IsLeastHolding, IsCornered};
 
 use exact_plane::{Pt, Steps, in_triangle};
@@ -18,7 +19,81 @@ pub fn locate<L: Ledger>(mesh: &Mesh, ring: &Ring, p: &Pt, steps: &mut Steps<L>)
     ensures none { IsNone result ↔ ¬ (IsIn ring.now.corners (whole p.now)) }
     ensures steps { steps.new ≤ steps.old + 3 * (length ring.now.corners - 2) }
 {
+    locate_from(mesh, ring, 0, p, steps)
+}
+
+/// The least triangle that holds `s`, or none where `s` is not in the ring, and the same of `t`. It goes over the triangles
+/// once, and takes at most 6 steps a triangle.
+pub fn locate_both<L: Ledger>(
+    mesh: &Mesh,
+    ring: &Ring,
+    s: &Pt,
+    t: &Pt,
+    steps: &mut Steps<L>,
+) -> (Option<u32>, Option<u32>)
+    requires { Fits ring.now.corners mesh.now }
+    ensures least_of_first { IfSome result.0 (IsLeastHolding ring.now.corners mesh.now (whole s.now)) }
+    ensures no_first { IsNone result.0 ↔ ¬ (IsIn ring.now.corners (whole s.now)) }
+    ensures least_of_second { IfSome result.1 (IsLeastHolding ring.now.corners mesh.now (whole t.now)) }
+    ensures no_second { IsNone result.1 ↔ ¬ (IsIn ring.now.corners (whole t.now)) }
+    ensures steps { steps.new ≤ steps.old + 6 * (length ring.now.corners - 2) }
+{
     for i in 0..mesh.count() {
+        let tri = mesh.tri(i);
+        let holds_s = holds(ring, &tri, s, steps);
+        let holds_t = holds(ring, &tri, t, steps);
+        if holds_s || holds_t {
+            let from = locate_at(mesh, ring, i, holds_s, s, steps);
+            let to = locate_at(mesh, ring, i, holds_t, t, steps);
+            return (from, to);
+        }
+    }
+    (None, None)
+}
+
+// The least triangle that holds the point, where none before triangle `i` does and it is known whether that one does. It
+// takes at most 3 steps for each triangle after that one.
+fn locate_at<L: Ledger>(
+    mesh: &Mesh,
+    ring: &Ring,
+    i: u32,
+    is_held: bool,
+    p: &Pt,
+    steps: &mut Steps<L>,
+) -> Option<u32>
+    requires fits { Fits ring.now.corners mesh.now }
+    requires within { i < length mesh.now }
+    requires held { IsTrue is_held ↔ IsInTri ring.now.corners (tri_at mesh.now i) (whole p.now) }
+    requires before { (k : ℕ) → k < i → ¬ IsInTri ring.now.corners (tri_at mesh.now k) (whole p.now) }
+    ensures least { IfSome result (IsLeastHolding ring.now.corners mesh.now (whole p.now)) }
+    ensures none { IsNone result ↔ ¬ (IsIn ring.now.corners (whole p.now)) }
+    ensures steps { steps.new ≤ steps.old + 3 * (length mesh.now - (i + 1)) }
+{
+    // The prover learns from this call how many triangles there can be.
+    let _count = mesh.count();
+    if is_held {
+        Some(i)
+    } else {
+        locate_from(mesh, ring, i + 1, p, steps)
+    }
+}
+
+// The least triangle that holds the point, where none before triangle `first` does. It takes at most 3 steps a triangle.
+fn locate_from<L: Ledger>(
+    mesh: &Mesh,
+    ring: &Ring,
+    first: u32,
+    p: &Pt,
+    steps: &mut Steps<L>,
+) -> Option<u32>
+    requires fits { Fits ring.now.corners mesh.now }
+    requires within { first ≤ length mesh.now }
+    requires before { (k : ℕ) → k < first → ¬ IsInTri ring.now.corners (tri_at mesh.now k) (whole p.now) }
+    ensures least { IfSome result (IsLeastHolding ring.now.corners mesh.now (whole p.now)) }
+    ensures none { IsNone result ↔ ¬ (IsIn ring.now.corners (whole p.now)) }
+    ensures steps { steps.new ≤ steps.old + 3 * (length mesh.now - first) }
+{
+    for i in first..mesh.count() {
         let tri = mesh.tri(i);
         if holds(ring, &tri, p, steps) {
             return Some(i);
@@ -33,6 +108,9 @@ fn holds<L: Ledger>(ring: &Ring, tri: &Tri, p: &Pt, steps: &mut Steps<L>) -> boo
     ensures holds { IsTrue result ↔ IsInTri ring.now.corners tri.now (whole p.now) }
     ensures steps { steps.new ≤ steps.old + 3 }
 {
-    let (a, b, c) = (ring.corner(tri.a), ring.corner(tri.b), ring.corner(tri.c));
-    in_triangle(&a, &b, &c, p, steps)
+    let corners = ring.corners();
+    let a = &corners[tri.a as usize];
+    let b = &corners[tri.b as usize];
+    let c = &corners[tri.c as usize];
+    in_triangle(a, b, c, p, steps)
 }

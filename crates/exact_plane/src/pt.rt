@@ -107,19 +107,35 @@ impl Pt {
         intervals_meet(self.x, b.x, c.x, d.x) && intervals_meet(self.y, b.y, c.y, d.y)
     }
 
-    // Whether this point is outside the smallest box round three others.
+    // Whether this point is outside the smallest box round three others. A coordinate of these is read only where those
+    // before it leave the question open.
     pub(crate) fn is_outside_box(&self, a: &Pt, b: &Pt, c: &Pt) -> bool
         ensures { IsTrue result ↔ IsOutsideBox self.now a.now b.now c.now }
     {
-        is_outside(self.x, a.x, b.x, c.x) || is_outside(self.y, a.y, b.y, c.y)
+        self.is_left_or_right(a, b, c) || self.is_below_or_above(a, b, c)
     }
-}
 
-// Whether a number is less than three others, or greater than them.
-fn is_outside(z: i32, a: i32, b: i32, c: i32) -> bool
-    ensures { IsTrue result ↔ IsOutside z a b c }
-{
-    z < a && z < b && z < c || a < z && b < z && c < z
+    // Whether it is left of all three, or right of them.
+    fn is_left_or_right(&self, a: &Pt, b: &Pt, c: &Pt) -> bool
+        ensures { IsTrue result ↔ IsOutside self.now.x a.now.x b.now.x c.now.x }
+    {
+        if a.x < self.x {
+            b.x < self.x && c.x < self.x
+        } else {
+            self.x < a.x && self.x < b.x && self.x < c.x
+        }
+    }
+
+    // Whether it is below all three, or above them.
+    fn is_below_or_above(&self, a: &Pt, b: &Pt, c: &Pt) -> bool
+        ensures { IsTrue result ↔ IsOutside self.now.y a.now.y b.now.y c.now.y }
+    {
+        if a.y < self.y {
+            b.y < self.y && c.y < self.y
+        } else {
+            self.y < a.y && self.y < b.y && self.y < c.y
+        }
+    }
 }
 
 // Whether the interval between two numbers shares a number with that between two others. The ends of the second are not

@@ -20,7 +20,16 @@ pub fn in_triangle<L: Ledger>(a: &Pt, b: &Pt, c: &Pt, p: &Pt, steps: &mut Steps<
         return false;
     }
     steps.add(2);
-    !is_right(a, b, p) && !is_right(b, c, p) && !is_right(c, a, p)
+    is_right_of_none(*a, *b, *c, *p)
+}
+
+// Whether `p` is right of no side of the triangle with these corners. A search among triangles seldom comes here, so it
+// is kept out of its loop.
+#[inline(never)]
+fn is_right_of_none(a: Pt, b: Pt, c: Pt, p: Pt) -> bool
+    ensures { IsTrue result ↔ IsInTriangle a b c (whole p) }
+{
+    !is_right(&a, &b, &p) && !is_right(&b, &c, &p) && !is_right(&c, &a, &p)
 }
 
 // Whether `p` is right of the line from `a` to `b`.

@@ -23,10 +23,11 @@ use dual_tree::{Board, sleeve};
 use exact_plane::{Memory, Pt, Steps};
 use geo_reply::{Reply, Row};
 use geo_text::{Bad, Command, Version};
-use pair_cut::{MAX_PAIRED, PairTable, triangle_at};
+use pair_cut::{MAX_PAIRED, PairTable};
 use ring_check::Ring;
 use std::alloc::Global;
 use std::sync::ledger::Ledger;
+use tri_mesh::triangle_at;
 
 impl Held {
     // The path between two vertices, and the table of all pairs to be kept where it is new.

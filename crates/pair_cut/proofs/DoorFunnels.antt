@@ -14,6 +14,7 @@ use Rattle.rings.specs.Ring.{vertex}
 use Rattle.meshes.specs.Side.{tri_at}
 use Rattle.meshes.specs.declared.tri.Tri.{Tri}
 use Rattle.funnels.proofs.OneChain.{one_before}
+use Rattle.tri_mesh.specs.Corner.{HasCorner}
 use Rattle.tri_mesh.specs.declared.outward.Outward.{Outward}
 use Rattle.funnels.proofs.Trees.{before_differs}
 use Rattle.funnels.proofs.Vertices.{fitted_simple}
@@ -24,7 +25,7 @@ use Rattle.shared_funnel.proofs.Numbers.{corner_point, point_there, source_point
 use Rattle.shared_funnel.proofs.StepLeft.{funnel_to_left}
 use Rattle.shared_funnel.proofs.StepRight.{funnel_to_right}
 use Rattle.shared_funnel.proofs.TriCorners.{corner_below, side_corners}
-use Rattle.shared_funnel.specs.Entered.{HasCorner, IsFromStart, IsFunnelTo, at_place, left_of, right_of, third_of, toward}
+use Rattle.shared_funnel.specs.Entered.{IsFromStart, IsFunnelTo, at_place, left_of, right_of, third_of, toward}
 use Rattle.shared_funnel.specs.Listed.{Listed, point_of, listed_points}
 use Rattle.pair_cut.proofs.FunnelPaths.{apex_alone, before_on_left, before_on_right}
 use Rattle.pair_cut.specs.Climbs.{AreClimbs, IsClimb, IsVertexAt, from_left, from_right}

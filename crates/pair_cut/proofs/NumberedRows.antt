@@ -15,8 +15,8 @@ use Rattle.meshes.specs.Side.{tri_at}
 use Rattle.meshes.specs.declared.tri.Tri.{Tri}
 use Rattle.funnels.proofs.Trees.{before_differs}
 use Rattle.funnels.proofs.Vertices.{fitted_long, fitted_simple}
+use Rattle.tri_mesh.specs.Corner.{HasCorner}
 use Rattle.shared_funnel.proofs.TriCorners.{side_corners}
-use Rattle.shared_funnel.specs.Entered.{HasCorner}
 use Rattle.pair_cut.specs.Pairs.{IsBeforeVertex, IsMadeFor}
 use Rattle.pair_cut.specs.Rows.{AreRows, IsNumberBefore, IsRow}
 

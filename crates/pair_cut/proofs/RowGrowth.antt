@@ -10,6 +10,7 @@ use Rattle.rings.specs.From.{IsPredecessor}
 use Rattle.rings.specs.Ring.{vertex}
 use Rattle.meshes.specs.Side.{tri_at}
 use Rattle.meshes.specs.declared.tri.Tri.{Tri}
+use Rattle.tri_mesh.specs.Corner.{HasCorner}
 use Rattle.tri_mesh.specs.Outward.{outward_at}
 use Rattle.tri_mesh.specs.declared.outward.Outward.{Outward}
 use Rattle.funnels.proofs.Trees.{before_at_home}
@@ -19,7 +20,7 @@ use Rattle.shared_funnel.proofs.Numbers.{point_there}
 use Rattle.shared_funnel.proofs.ReachedBefore.{before_third}
 use Rattle.shared_funnel.proofs.StepCounts.{home_steps, three_digits}
 use Rattle.shared_funnel.proofs.TriCorners.{corner_below, corner_cases, corner_in, side_corners}
-use Rattle.shared_funnel.specs.Entered.{HasCorner, IsFromStart, at_place, left_of, right_of, third_of, toward}
+use Rattle.shared_funnel.specs.Entered.{IsFromStart, at_place, left_of, right_of, third_of, toward}
 use Rattle.shared_funnel.specs.Listed.{point_of}
 use Rattle.shared_seq.specs.Digits.{binary_digits}
 use Rattle.pair_cut.proofs.NumberedRows.{corner_of_some, itself_told, other_told}

@@ -7,5 +7,4 @@ mod rows;
 mod table;
 
 pub use laws::{limit_in_numbers, one_sights};
-pub use rows::triangle_at;
 pub use table::{MAX_PAIRED, PairTable};

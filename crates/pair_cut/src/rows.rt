@@ -4,9 +4,10 @@ ghost use Rattle.plane.specs.Point.{Point};
 ghost use Rattle.rings.specs.Ring.{vertex};
 ghost use Rattle.meshes.specs.Fits.{Fits};
 ghost use Rattle.meshes.specs.Side.{tri_at};
+ghost use Rattle.tri_mesh.specs.Corner.{HasCorner};
 ghost use Rattle.tri_mesh.specs.Outward.{IsOutward, outward_at};
 ghost use Rattle.shared_seq.specs.Digits.{binary_digits};
-ghost use Rattle.shared_funnel.specs.Entered.{HasCorner, IsFromStart, at_place};
+ghost use Rattle.shared_funnel.specs.Entered.{IsFromStart, at_place};
 ghost use Rattle.pair_cut.specs.Doors.{IsApex, IsGrownTo};
 ghost use Rattle.pair_cut.specs.Rows.{IsRow};
 ghost use Rattle.pair_cut.specs.declared.table.TheConstants.{MAX_PAIRED};
@@ -16,7 +17,7 @@ use exact_plane::{Memory, Steps, Turns};
 use shared_funnel::door_of;
 use std::alloc::Global;
 use std::sync::ledger::Ledger;
-use tri_mesh::{Mesh, Outward};
+use tri_mesh::{Mesh, Outward, triangle_at};
 
 // The row of vertex `i`: outward from a triangle with that corner, the third corner of each is reached over its door.
 pub(crate) fn row_from<T: Turns, L: Ledger>(
@@ -114,19 +115,4 @@ impl Row {
             tangent.left
         }
     }
-}
-
-/// A triangle with corner `i`, which some triangle has.
-pub fn triangle_at(mesh: &Mesh, i: u32) -> u32
-    requires { (k : ℕ) × (k < length mesh.now) × HasCorner (tri_at mesh.now k) i }
-    ensures in_list { result < length mesh.now }
-    ensures corner { HasCorner (tri_at mesh.now result) i }
-{
-    for k in 0..mesh.count() {
-        let tri = mesh.tri(k);
-        if tri.a == i || tri.b == i || tri.c == i {
-            return k;
-        }
-    }
-    unreachable!()
 }

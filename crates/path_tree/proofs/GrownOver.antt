@@ -8,12 +8,13 @@ use Rattle.meshes.proofs.Sides.{one_at_edge, two_fewer}
 use Rattle.meshes.specs.Fits.{Fits, IsInTri}
 use Rattle.meshes.specs.Side.{tri_at}
 use Rattle.meshes.specs.declared.tri.Tri.{Tri}
+use Rattle.tri_mesh.specs.Corner.{HasCorner}
 use Rattle.tri_mesh.specs.Outward.{IsOutward, outward_at}
 use Rattle.tri_mesh.specs.declared.outward.Outward.{Outward}
 use Rattle.exact_plane.specs.declared.turns.Spot.{Spot}
 use Rattle.shared_funnel.proofs.Entrances.{apart, beyond_at, from_start, third_below}
 use Rattle.shared_funnel.proofs.TriCorners.{corner_cases, side_corners}
-use Rattle.shared_funnel.specs.Entered.{HasCorner, IsFromStart, IsFunnelTo, at_place, left_of, right_of, third_of, toward}
+use Rattle.shared_funnel.specs.Entered.{IsFromStart, IsFunnelTo, at_place, left_of, right_of, third_of, toward}
 use Rattle.shared_funnel.specs.Listed.{Listed}
 use Rattle.path_tree.proofs.Parents.{HasParent, parent_written}
 use Rattle.path_tree.specs.Grown.{IsFromNamed, IsGrownFrom, KeepsFunnel, NamedTree, before_at, funnel_at}

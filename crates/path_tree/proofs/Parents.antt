@@ -11,8 +11,8 @@ use Rattle.meshes.specs.declared.tri.Tri.{Tri}
 use Rattle.exact_plane.specs.declared.turns.Spot.{Spot}
 use Rattle.exact_plane.specs.declared.turns.Spot.TheVariants.{Corner}
 use Rattle.exact_plane.specs.Spot.{point_named}
+use Rattle.tri_mesh.specs.Corner.{HasCorner}
 use Rattle.shared_funnel.proofs.TriCorners.{corner_below, corner_in}
-use Rattle.shared_funnel.specs.Entered.{HasCorner}
 use Rattle.path_tree.specs.Grown.{IsFromNamed}
 
 module _ (corners : List Point) (start : Point) where

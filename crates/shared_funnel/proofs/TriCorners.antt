@@ -8,8 +8,8 @@ use Rattle.meshes.specs.Mesh.{side_begin, side_end}
 use Rattle.meshes.specs.Side.{HasSide, tri_at}
 use Rattle.meshes.specs.declared.tri.Tri.{Tri}
 use Rattle.funnels.proofs.Bends.{first_end_in}
+use Rattle.tri_mesh.specs.Corner.{HasCorner}
 use Rattle.shared_funnel.specs.Third.{side_third}
-use Rattle.shared_funnel.specs.Entered.{HasCorner}
 
 -- the corners in their order
 abbrev pub corners_of : Tri → List ℕ

@@ -1,5 +1,5 @@
 -- The triangles at the places of an order outward from a start: how each is entered, and the funnel there. This project's own.
-use Rattle.std.specs.Prelude.{◌≡◌, ◌⊎◌, ℕ, ◌<◌, List, length}
+use Rattle.std.specs.Prelude.{ℕ, ◌<◌, List, length}
 use Rattle.plane.specs.Point.{Point, whole}
 use Rattle.meshes.specs.Fits.{Fits, IsInTri}
 use Rattle.meshes.specs.Mesh.{side_begin, side_end}
@@ -33,10 +33,6 @@ pub record IsFromStart (corners : List Point) (start : Point) (tris : List Tri) 
   pub some : 0 < length order
   pub outward : IsOutward tris (at_place order 0) order
   pub home : IsInTri corners (tri_at tris (at_place order 0)) (whole start)
-
--- i is a corner of the triangle
-abbrev pub HasCorner : Tri → ℕ → Type 0
-HasCorner t i = (t.a ≡ i) ⊎ (t.b ≡ i) ⊎ (t.c ≡ i)
 
 -- the list is the funnel at the side over which the triangle at a place is entered
 abbrev pub IsFunnelTo : List Point → Point → List Tri → List Outward → ℕ → Listed → Type 0

@@ -1,3 +1,4 @@
+pub mod Corner
 pub mod Neighbours
 pub mod Outward
 pub mod Search

@@ -1,12 +1,14 @@
 //! Triangles over the vertices of a polygon, and which of them share a side.
 #![tactic(auto)]
 
+mod corner;
 mod mesh;
 mod outward;
 mod search;
 mod sides;
 mod sleeve;
 
+pub use corner::triangle_at;
 pub use mesh::Mesh;
 pub use outward::{Outward, Rooted};
 pub use sleeve::Sleeve;

@@ -2,9 +2,9 @@ use Rattle.std.proofs.Common.{◌≡◌, sym, subst, ◌+◌, ◌≤◌, length,
 use Rattle.rings.specs.Ring.{vertex}
 use Rattle.meshes.proofs.Sides.{two_fewer}
 use Rattle.meshes.specs.Side.{tri_at}
+use Rattle.tri_mesh.specs.Corner.{HasCorner}
 use Rattle.shared_funnel.proofs.Entrances.{from_start}
 use Rattle.shared_funnel.proofs.TriCorners.{corner_in}
-use Rattle.shared_funnel.specs.Entered.{HasCorner}
 use Rattle.pair_cut.proofs.NumberedRows.{corner_of_some}
 use Rattle.pair_cut.proofs.RowGrowth.{grown_at_home, places_paid, row_of_grown}
 use Rattle.pair_cut.proofs.rows.row_from.Goals as goal

@@ -1,9 +1,9 @@
 use Rattle.std.proofs.Common.{sym, ap, subst, ◌∙◌, ◌≡◌, ◌+◌, ◌++◌, ◌∷◌, [], None, length, slice_index, slice_index_or, arith}
 use Rattle.std.proofs.lemmas.List.{get_or-replicate, length-replicate, length-set}
 use Rattle.meshes.proofs.Sides.{two_fewer}
+use Rattle.tri_mesh.specs.Corner.{HasCorner}
 use Rattle.tri_mesh.specs.Outward.{outward_at}
 use Rattle.shared_funnel.proofs.TriCorners.{corner_place, corner_read, corners_of, read_below}
-use Rattle.shared_funnel.specs.Entered.{HasCorner}
 use Rattle.path_tree.proofs.GrownOver.{grown_at_home, thirds_at_home}
 use Rattle.path_tree.proofs.Parents.{HasParent, home_parent, parents_more}
 use Rattle.path_tree.proofs.growth.Growth.at_home.Goals as goal

@@ -1,5 +1,5 @@
 use Rattle.std.proofs.Common.{arith}
-use Rattle.pair_cut.proofs.rows.triangle_at.Goals as goal
+use Rattle.tri_mesh.proofs.corner.triangle_at.Goals as goal
 
 pub unreachable-requires : goal.unreachable-requires
 unreachable-requires c =
