@@ -20,21 +20,25 @@ odd_more n false true h = (λ _. even_and_one n (λ k. cc (h.1 k)), λ _. refl)
 odd_more n false false h = (λ e. cc, λ l. h.1 (omega arith))
 
 -- a flag compared with true,
-not_same : (b : Bool) → not (beq b true) ≡ not b
+pub not_same : (b : Bool) → not (beq b true) ≡ not b
 not_same true = refl
 not_same false = refl
 
--- and with false
-not_other : (b : Bool) → not (beq b false) ≡ b
+-- with false,
+pub not_other : (b : Bool) → not (beq b false) ≡ b
 not_other true = refl
 not_other false = refl
 
--- or with one that is turned
-turned : (a b : Bool) → not (beq a (not b)) ≡ not (not (beq a b))
-turned true true = refl
-turned true false = refl
-turned false true = refl
-turned false false = refl
+-- and with two, one after the other
+differ_assoc : (a b c : Bool) → not (beq (not (beq a b)) c) ≡ not (beq a (not (beq b c)))
+differ_assoc true true true = refl
+differ_assoc true true false = refl
+differ_assoc true false true = refl
+differ_assoc true false false = refl
+differ_assoc false true true = refl
+differ_assoc false true false = refl
+differ_assoc false false true = refl
+differ_assoc false false false = refl
 
 module _ (ring : List Point) (p : Triple) where
   -- no edge
@@ -49,36 +53,17 @@ module _ (ring : List Point) (p : Triple) where
     odd = rw (crossings_more ring i within p) (odd_more _ is_odd (is_crossed (edge_at ring i) p) before.odd);
   }
 
-  -- edge i is crossed,
-  odd_crossed : (i : ℕ) (is_odd more : Bool) → more ≡ not is_odd → i < length ring → OddSoFar (take i (edges_of ring)) p is_odd
-      → (IsOnEdge ring i p → ⊥) → is_crossed (edge_at ring i) p ≡ true → OddSoFar (take (i + 1) (edges_of ring)) p more
-  odd_crossed i is_odd more e within before beside crossed =
-      let step = odd_step i is_odd within before beside in
-      let by = ap (λ b. not (beq is_odd b)) crossed in
-      subst (λ b. OddSoFar (take (i + 1) (edges_of ring)) p b) (by ∙ not_same is_odd ∙ sym e) step
-
-  -- or missed
-  odd_missed : (i : ℕ) (is_odd more : Bool) → more ≡ is_odd → i < length ring → OddSoFar (take i (edges_of ring)) p is_odd
-      → (IsOnEdge ring i p → ⊥) → is_crossed (edge_at ring i) p ≡ false → OddSoFar (take (i + 1) (edges_of ring)) p more
-  odd_missed i is_odd more e within before beside missed =
-      let step = odd_step i is_odd within before beside in
-      let by = ap (λ b. not (beq is_odd b)) missed in
-      subst (λ b. OddSoFar (take (i + 1) (edges_of ring)) p b) (by ∙ not_other is_odd ∙ sym e) step
-
-  -- over no edges an even number is, and over one more as many, or one more
+  -- over no edges an even number is,
   pub over_none : (first : ℕ) → IsOddOver ring first first p false
   over_none first is_odd before = subst (OddSoFar (take first (edges_of ring)) p) (sym (not_other is_odd)) before
 
-  pub over_crossed : (first i : ℕ) (odd more : Bool) → more ≡ not odd → i < length ring → IsOddOver ring first i p odd
-      → (IsOnEdge ring i p → ⊥) → is_crossed (edge_at ring i) p ≡ true → IsOddOver ring first (i + 1) p more
-  over_crossed first i odd more e within over beside crossed is_odd before =
-      odd_crossed i (not (beq is_odd odd)) (not (beq is_odd more)) (ap (λ b. not (beq is_odd b)) e ∙ turned is_odd odd) within (over is_odd before)
-      beside crossed
-
-  pub over_missed : (first i : ℕ) (odd more : Bool) → more ≡ odd → i < length ring → IsOddOver ring first i p odd
-      → (IsOnEdge ring i p → ⊥) → is_crossed (edge_at ring i) p ≡ false → IsOddOver ring first (i + 1) p more
-  over_missed first i odd more e within over beside missed is_odd before =
-      odd_missed i (not (beq is_odd odd)) (not (beq is_odd more)) (ap (λ b. not (beq is_odd b)) e) within (over is_odd before) beside missed
+  -- and over one more, which the point is not on, as many or one more
+  pub over_more : (first i : ℕ) (odd crossed more : Bool) → i < length ring → IsOddOver ring first i p odd → (IsOnEdge ring i p → ⊥)
+      → is_crossed (edge_at ring i) p ≡ crossed → more ≡ not (beq odd crossed) → IsOddOver ring first (i + 1) p more
+  over_more first i odd crossed more within over beside is e is_odd before =
+      subst (OddSoFar (take (i + 1) (edges_of ring)) p)
+      (ap (λ b. not (beq (not (beq is_odd odd)) b)) is ∙ differ_assoc is_odd odd crossed ∙ ap (λ b. not (beq is_odd b)) (sym e))
+      (odd_step i (not (beq is_odd odd)) within (over is_odd before) beside)
 
   -- all edges
   pub odd_end : (i : ℕ) (is_odd : Bool) → length ring ≡ i → OddSoFar (take i (edges_of ring)) p is_odd → OddSoFar (edges_of ring) p is_odd

@@ -1,7 +1,7 @@
-use Rattle.std.proofs.Common.{◌∙◌, arith}
+use Rattle.std.proofs.Common.{false, sym, true, ◌∙◌, arith}
 use Rattle.rings.proofs.Vertices.{on_some_from}
 use Rattle.rings.specs.Ring.{IsOnEdge}
-use Rattle.inside_test.proofs.Odd.{over_crossed, over_missed, over_none}
+use Rattle.inside_test.proofs.Odd.{not_other, not_same, over_more, over_none}
 use Rattle.inside_test.proofs.position.odd_by_edges.Goals as goal
 use Rattle.inside_test.proofs.position.odd_by_edges.Goals.{in-Crossed, in-Missed}
 
@@ -29,16 +29,16 @@ loop-i-preserved g c =
     let beside = c.of-b.ensures.beside _ c.requires.levels in
     elim c.match-meeting_of.branch [
       | in-Crossed w ↦ (
-        over_crossed ring p c.args.first c.loop-i.i c.loop-i.is_odd _ w.is_odd-is (omega arith) odd
+        over_more ring p c.args.first c.loop-i.i c.loop-i.is_odd true _ (omega arith) odd
             (λ on. absurd (cc (c.meeting_of.ensures.on.1 (rw (at_a, at_b) on), w.in-Crossed.is)))
-            (rw (at_a, at_b) at (c.meeting_of.ensures.crossed w.in-Crossed.is)),
+            (rw (at_a, at_b) at (c.meeting_of.ensures.crossed w.in-Crossed.is)) (w.is_odd-is ∙ sym (not_same c.loop-i.is_odd)),
         at_b,
         beside,
       )
       | in-Missed w ↦ (
-        over_missed ring p c.args.first c.loop-i.i c.loop-i.is_odd _ w.is_odd-is (omega arith) odd
+        over_more ring p c.args.first c.loop-i.i c.loop-i.is_odd false _ (omega arith) odd
             (λ on. absurd (cc (c.meeting_of.ensures.on.1 (rw (at_a, at_b) on), w.in-Missed.is)))
-            (rw (at_a, at_b) at (c.meeting_of.ensures.missed w.in-Missed.is)),
+            (rw (at_a, at_b) at (c.meeting_of.ensures.missed w.in-Missed.is)) (w.is_odd-is ∙ sym (not_other c.loop-i.is_odd)),
         at_b,
         beside,
       )
