@@ -13,14 +13,14 @@ use Rattle.dual_tree.specs.Location.{IsCornered}
 
 -- the corners of a triangle as points: they run counterclockwise,
 module _ (corners : List Point) (t : Tri) (a b c : Point) where
-  pub counterclockwise_points : IsCornered corners t → vertex corners t.a ≡ a → vertex corners t.b ≡ b → vertex corners t.c ≡ c
+  pub counterclockwise_points : IsCornered corners t → a ≡ vertex corners t.a → b ≡ vertex corners t.b → c ≡ vertex corners t.c
       → IsLeft (whole a) (whole b) (whole c)
-  counterclockwise_points cornered at_a at_b at_c = rw (← at_a, ← at_b, ← at_c) cornered.counterclockwise
+  counterclockwise_points cornered at_a at_b at_c = rw (at_a, at_b, at_c) cornered.counterclockwise
 
   -- and hold what the triangle holds
-  pub in_tri_of_points : (p : Triple) → vertex corners t.a ≡ a → vertex corners t.b ≡ b → vertex corners t.c ≡ c
+  pub in_tri_of_points : (p : Triple) → a ≡ vertex corners t.a → b ≡ vertex corners t.b → c ≡ vertex corners t.c
       → IsInTriangle a b c p ↔ IsInTri corners t p
-  in_tri_of_points p at_a at_b at_c = rw (at_a, at_b, at_c) (λ h. h, λ h. h)
+  in_tri_of_points p at_a at_b at_c = rw (← at_a, ← at_b, ← at_c) (λ h. h, λ h. h)
 
 module _ (corners : List Point) (tris : List Tri) (fits : Fits corners tris) where
   -- the corners of a triangle are vertices, counterclockwise

@@ -1,11 +1,12 @@
-ghost use Rattle.std.specs.Prelude.{◌+◌, ◌-◌, ◌*◌, ◌<◌, ◌≤◌, ◌↔◌, ℕ, IfSome, IsNone, IsTrue, length};
+ghost use Rattle.std.specs.Prelude.{◌≡◌, ◌+◌, ◌-◌, ◌*◌, ◌<◌, ◌≤◌, ◌↔◌, ℕ, IfSome, IsNone, IsTrue, length};
 ghost use Rattle.plane.specs.Point.{whole};
 ghost use Rattle.rings.specs.Inside.{IsIn};
+ghost use Rattle.rings.specs.Ring.{vertex};
 ghost use Rattle.meshes.specs.Fits.{Fits, IsInTri};
 ghost use Rattle.meshes.specs.Side.{tri_at};
 ghost use Rattle.dual_tree.specs.Location.{IsLeastHolding, IsCornered};
 
-use exact_plane::{Pt, Steps, in_triangle};
+use exact_plane::{Pt, Steps, each_in_triangle, in_triangle};
 use meshes::Tri;
 use ring_check::Ring;
 use std::sync::ledger::Ledger;
@@ -40,9 +41,7 @@ pub fn locate_both<L: Ledger>(
 {
     for i in 0..mesh.count() {
         let tri = mesh.tri(i);
-        let holds_s = holds(ring, &tri, s, steps);
-        let holds_t = holds(ring, &tri, t, steps);
-        if holds_s || holds_t {
+        if let Some((holds_s, holds_t)) = holds_each(ring, &tri, s, t, steps) {
             let from = locate_at(mesh, ring, i, holds_s, s, steps);
             let to = locate_at(mesh, ring, i, holds_t, t, steps);
             return (from, to);
@@ -108,9 +107,39 @@ fn holds<L: Ledger>(ring: &Ring, tri: &Tri, p: &Pt, steps: &mut Steps<L>) -> boo
     ensures holds { IsTrue result ↔ IsInTri ring.now.corners tri.now (whole p.now) }
     ensures steps { steps.new ≤ steps.old + 3 }
 {
+    let (a, b, c) = corners_of(ring, tri);
+    in_triangle(a, b, c, p, steps)
+}
+
+// Whether either of two points is in the closed triangle; none where neither is. It takes at most 6 steps.
+fn holds_each<L: Ledger>(
+    ring: &Ring,
+    tri: &Tri,
+    s: &Pt,
+    t: &Pt,
+    steps: &mut Steps<L>,
+) -> Option<(bool, bool)>
+    requires { IsCornered ring.now.corners tri.now }
+    ensures first { IfSome result (λ held. IsTrue held.0 ↔ IsInTri ring.now.corners tri.now (whole s.now)) }
+    ensures second { IfSome result (λ held. IsTrue held.1 ↔ IsInTri ring.now.corners tri.now (whole t.now)) }
+    ensures no_first { IsNone result → ¬ IsInTri ring.now.corners tri.now (whole s.now) }
+    ensures no_second { IsNone result → ¬ IsInTri ring.now.corners tri.now (whole t.now) }
+    ensures steps { steps.new ≤ steps.old + 6 }
+{
+    let (a, b, c) = corners_of(ring, tri);
+    each_in_triangle(a, b, c, s, t, steps)
+}
+
+// The corners of the triangle.
+fn corners_of<'a>(ring: &'a Ring, tri: &Tri) -> (&'a Pt, &'a Pt, &'a Pt)
+    requires { IsCornered ring.now.corners tri.now }
+    ensures a { result.0.now ≡ vertex ring.now.corners tri.now.a }
+    ensures b { result.1.now ≡ vertex ring.now.corners tri.now.b }
+    ensures c { result.2.now ≡ vertex ring.now.corners tri.now.c }
+{
     let corners = ring.corners();
     let a = &corners[tri.a as usize];
     let b = &corners[tri.b as usize];
     let c = &corners[tri.c as usize];
-    in_triangle(a, b, c, p, steps)
+    (a, b, c)
 }

@@ -25,7 +25,7 @@ pub use memory::Memory;
 pub use pt::{Pt, order};
 pub use segments::{meet_only_at, on_segment, segments_meet};
 pub use steps::Steps;
-pub use triangle::in_triangle;
+pub use triangle::{each_in_triangle, in_triangle};
 pub use turns::{Spot, Turns};
 pub use ways::turn_of_ways;
 pub use wide::compare;

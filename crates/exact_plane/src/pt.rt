@@ -1,5 +1,5 @@
 ghost use Rattle.std.specs.Int.{int_max, int_min};
-ghost use Rattle.std.specs.Prelude.{◌≡◌, ◌+◌, ◌<◌, ◌^◌, ◌-ℤ◌, ◌≤ℤ◌, ◌↔◌, IsNone, IsSome, IsTrue, IfSome, unsigned_abs};
+ghost use Rattle.std.specs.Prelude.{◌≡◌, ◌+◌, ◌<◌, ◌^◌, ◌-ℤ◌, ◌<ℤ◌, ◌≤ℤ◌, ◌↔◌, IsNone, IsSome, IsTrue, IfSome, unsigned_abs};
 ghost use Rattle.plane.specs.Box.{BoxesMeet, IntervalsMeet};
 ghost use Rattle.plane.specs.Order.{IsBefore};
 ghost use Rattle.plane.specs.Point.{IsInBounds, IsInLimit};
@@ -115,6 +115,14 @@ impl Pt {
         self.is_left_or_right(a, b, c) || self.is_below_or_above(a, b, c)
     }
 
+    // Whether three points are left of this one and of another. That tells nothing where they are not.
+    pub(crate) fn is_right_with(&self, other: &Pt, a: &Pt, b: &Pt, c: &Pt) -> bool
+        ensures first { IsTrue result → IsOutside self.now.x a.now.x b.now.x c.now.x }
+        ensures second { IsTrue result → IsOutside other.now.x a.now.x b.now.x c.now.x }
+    {
+        are_left(a, b, c, self.x.min(other.x))
+    }
+
     // Whether it is left of all three, or right of them.
     fn is_left_or_right(&self, a: &Pt, b: &Pt, c: &Pt) -> bool
         ensures { IsTrue result ↔ IsOutside self.now.x a.now.x b.now.x c.now.x }
@@ -136,6 +144,13 @@ impl Pt {
             self.y < a.y && self.y < b.y && self.y < c.y
         }
     }
+}
+
+// Whether three points are left of an abscissa.
+fn are_left(a: &Pt, b: &Pt, c: &Pt, x: i32) -> bool
+    ensures { IsTrue result ↔ (a.now.x <ℤ x × b.now.x <ℤ x × c.now.x <ℤ x) }
+{
+    a.x < x && b.x < x && c.x < x
 }
 
 // Whether the interval between two numbers shares a number with that between two others. The ends of the second are not

@@ -8,21 +8,16 @@ use Rattle.meshes.proofs.Sides.{two_fewer}
 use Rattle.dual_tree.proofs.LocationFits.{cornered, not_in_ring_unless_held}
 use Rattle.dual_tree.proofs.location.locate_both.Goals as goal
 
-pub holds-holds_s-requires : goal.holds-holds_s-requires
-holds-holds_s-requires g c =
+pub holds_each-requires : goal.holds_each-requires
+holds_each-requires g c =
     rw c.tri-tri.ensures (cornered c.args.ring.now.corners c.args.mesh.now c.requires c.loop-i.i (omega arith))
 
-pub holds-holds_t-requires : goal.holds-holds_t-requires
-holds-holds_t-requires g c =
-    rw c.tri-tri.ensures (cornered c.args.ring.now.corners c.args.mesh.now c.requires c.loop-i.i (omega arith))
-
-pub returns-then-holds_s-clause-steps : goal.returns-then-holds_s-clause-steps
-returns-then-holds_s-clause-steps g c =
+pub returns-in-Some-clause-steps : goal.returns-in-Some-clause-steps
+returns-in-Some-clause-steps g c =
     omega (
       arith,
       two_fewer c.args.ring.now.corners c.args.mesh.now c.requires,
-      c.holds-holds_s.ensures.steps,
-      c.holds-holds_t.ensures.steps,
+      c.holds_each.ensures.steps,
       c.locate_at-from.ensures.steps,
       c.locate_at-to.ensures.steps,
     )
@@ -33,10 +28,10 @@ loop-i-preserved g c =
     let Q : ℕ → Type 0 = λ k. ¬ IsInTri c.args.ring.now.corners (tri_at c.args.mesh.now k) (whole c.args.t.now) in
     record {
       no_first = below_more P c.loop-i.i c.loop-i.invariant.no_first
-          (λ held. absurd (cc (c.holds-holds_s.ensures.holds.1 (rw c.tri-tri.ensures held))));
+          (λ held. c.holds_each.ensures.no_first (cc) (rw c.tri-tri.ensures held));
       no_second = below_more Q c.loop-i.i c.loop-i.invariant.no_second
-          (λ held. absurd (cc (c.holds-holds_t.ensures.holds.1 (rw c.tri-tri.ensures held))));
-      steps = omega (arith, c.holds-holds_s.ensures.steps, c.holds-holds_t.ensures.steps);
+          (λ held. c.holds_each.ensures.no_second (cc) (rw c.tri-tri.ensures held));
+      steps = omega (arith, c.holds_each.ensures.steps);
     }
 
 pub returns-clause-no_first : goal.returns-clause-no_first
