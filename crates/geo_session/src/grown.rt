@@ -80,7 +80,7 @@ impl Grown {
         requires grown { (tris : List Tri) × IsTreeOf ring.now.corners tris self.now }
         ensures { IsFrom (given_of ring.now) self.now.source (vertex (given_of ring.now) i) result }
     {
-        let _count = ring.len();
+        let _ring_is_simple = ring.len();
         match self.tree.parent(ring.given_index(i)) {
             Some(Spot::Corner(c)) => Before::Vertex(ring.given_index(c)),
             Some(Spot::Start) => Before::Source,

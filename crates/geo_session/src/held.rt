@@ -140,7 +140,7 @@ impl Held {
             Ok(home) => home,
             Err(bad) => return Ok(Reply::Refused(bad)),
         };
-        let _count = self.ring.len();
+        let _few_vertices = self.ring.len();
         let parts = see(alloc, &self.ring, &self.mesh, home, q, steps)?;
         let given = given_parts(alloc, parts, &self.ring)?;
         Ok(Reply::View(Row::of(given)))
@@ -154,7 +154,7 @@ impl Held {
     ) -> Result<Reply, Memory>
         ensures { IfOk result (Tells Reply.Kernel (IsKernel (given_of self.now.ring))) }
     {
-        let _count = self.ring.len();
+        let _few_vertices = self.ring.len();
         let corners = kernel(alloc, &self.ring, steps)?;
         Ok(Reply::Kernel(Row::of(corners)))
     }
@@ -167,7 +167,7 @@ impl Held {
     ) -> Result<Reply, Memory>
         ensures { IfOk result (Tells Reply.Guards (GuardRing (given_of self.now.ring))) }
     {
-        let _count = self.ring.len();
+        let _is_counterclockwise = self.ring.len();
         let mesh = triangulate(alloc, &self.ring, steps)?;
         let numbers = guards(alloc, &self.ring, &mesh)?;
         Ok(Reply::Guards(Row::of(numbers)))
@@ -182,9 +182,9 @@ pub(crate) fn mesh_of<L: Ledger>(
 ) -> Result<Mesh, Memory>
     ensures { IfOk result (Fits ring.now.corners) }
 {
-    let _size = ring.len();
+    let _ring_is_simple = ring.len();
     let order = lexical(alloc, ring, steps)?;
-    let board = Board::new(ring, ring.corner(0), ring.corner(0));
+    let board = Board::without_ends(ring);
     let tris = sweep(alloc, &board, &order, steps)?;
     Mesh::build(alloc, tris)
 }

@@ -154,7 +154,7 @@ impl Held {
         requires next { length chains.now < length numbers.now * length numbers.now }
         ensures { IfOk result (λ chain. IsChainAt self.now.ring.corners points.now numbers.now (length chains.now) chain.items) }
     {
-        let _count = self.ring.len();
+        let _ring_is_simple = self.ring.len();
         let m = numbers.len();
         let (s, t) = (chains.len() / m, chains.len() % m);
         match chains.get(t * m + s) {

@@ -121,7 +121,7 @@ impl Held {
         ensures made { IfOk result (IsMadeFor self.now.ring.corners) }
         ensures steps { let n = length self.now.ring.corners in let b = binary_digits n in steps.new ≤ steps.old + 200 * (n * n) * (b * b) }
     {
-        let board = Board::new(&self.ring, self.ring.corner(0), self.ring.corner(0));
+        let board = Board::without_ends(&self.ring);
         PairTable::build(alloc, &board, &self.mesh, steps)
     }
 
@@ -140,7 +140,7 @@ impl Held {
         ensures shown { IfOk result (let ring = given_of self.now.ring in TellsPath version ring (vertex ring pair.0) (vertex ring pair.1)) }
         ensures steps { steps.new ≤ steps.old + by_version version 0 20 * length self.now.ring.corners }
     {
-        let _count = self.ring.len();
+        let _few_vertices = self.ring.len();
         let (from, to) = (self.ring.given_index(pair.0), self.ring.given_index(pair.1));
         let names = table.pair(alloc, from, to)?;
         let chain = corners_of(alloc, &self.ring, &names)?;
@@ -182,7 +182,7 @@ impl Held {
         requires { IsMadeFor self.now.ring.corners table.now }
         ensures { IfOk result (Tells Reply.Sights (AreSights (given_of self.now.ring))) }
     {
-        let _count = self.ring.len();
+        let _few_vertices = self.ring.len();
         let pairs = table.sights(alloc)?;
         if self.ring.is_turned() {
             let given = turned_pairs(alloc, &self.ring, &pairs)?;

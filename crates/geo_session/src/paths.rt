@@ -140,7 +140,7 @@ impl Held {
         ensures steps { steps.new ≤ steps.old + 4 * length self.now.ring.corners }
         ensures memory { OnErr result (steps.new ≡ steps.old) }
     {
-        let _count = self.ring.len();
+        let _few_vertices = self.ring.len();
         let mut room = FunnelBox::with_room(alloc, sleeve.len())?;
         let mut names = Vec::with_capacity(alloc, sleeve.len() + 4)?;
         let mut points = Vec::with_capacity(alloc, sleeve.len() + 4)?;

@@ -74,7 +74,10 @@ impl Session {
         ensures steps { steps.new ≤ steps.old + 12 * size_of self.now.state.kept }
         ensures memory { OnErr result (steps.new ≤ steps.old + 6 * (size_of self.now.state.kept - 2)) }
     {
-        self.path_in(alloc, Version::One, s, t, steps)
+        match &self.held {
+            Some(held) => held.path(alloc, Version::One, s, t, steps),
+            None => Ok(Err(Bad::NoPolygon)),
+        }
     }
 
     /// Where a point lies in the polygon, or the refusal where there is none.
@@ -99,25 +102,8 @@ impl Session {
         ensures few { IfOk result (λ found. IfOk found (λ points. length points.items ≤ MAX_CORNERS + by_version self.now.state.version 1 2)) }
         ensures steps { steps.new ≤ steps.old + by_version self.now.state.version 10 30 * size_of self.now.state.kept }
     {
-        self.path_in(alloc, self.version(), s, t, steps)
-    }
-
-    // The same, in this version.
-    fn path_in<L: Ledger>(
-        &self,
-        alloc: Global,
-        version: Version,
-        s: &Pt,
-        t: &Pt,
-        steps: &mut Steps<L>,
-    ) -> Result<Result<Vec<Pt>, Bad>, Memory>
-        ensures answer { IfOk result (IsFound (record { version = version; kept = self.now.state.kept }) (Command.Path s.now t.now) path_of) }
-        ensures few { IfOk result (λ found. IfOk found (λ points. length points.items ≤ MAX_CORNERS + by_version version 1 2)) }
-        ensures steps { steps.new ≤ steps.old + by_version version 10 30 * size_of self.now.state.kept }
-        ensures memory { version ≡ Version.One → OnErr result (steps.new ≤ steps.old + 6 * (size_of self.now.state.kept - 2)) }
-    {
         match &self.held {
-            Some(held) => held.path(alloc, version, s, t, steps),
+            Some(held) => held.path(alloc, self.version(), s, t, steps),
             None => Ok(Err(Bad::NoPolygon)),
         }
     }

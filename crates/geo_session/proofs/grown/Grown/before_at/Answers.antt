@@ -16,7 +16,7 @@ given_index-requires-in-Some-Corner c =
 pub returns-in-Some-Corner : goal.returns-in-Some-Corner
 returns-in-Some-Corner c =
     let ring = c.args.ring.now in
-    from_named (given_of ring) c.args.self.now.source (vertex (given_of ring) c.args.i) (simple_given ring c.len-count.ensures.simple)
+    from_named (given_of ring) c.args.self.now.source (vertex (given_of ring) c.args.i) (simple_given ring c.len-ring_is_simple.ensures.simple)
     (Some (Corner c.given_index-in-Some-Corner.result))
     (corner_given ring c.args.self.now.source c.args.i c.requires.vertex c.parent.result
     (rw c.given_index.ensures.number at c.parent.ensures _ _ _ c.requires.grown.1.tree) c.in-Some-Corner.c
@@ -26,7 +26,7 @@ returns-in-Some-Corner c =
 pub returns-in-Some-Start : goal.returns-in-Some-Start
 returns-in-Some-Start c =
     let ring = c.args.ring.now in
-    from_named (given_of ring) c.args.self.now.source (vertex (given_of ring) c.args.i) (simple_given ring c.len-count.ensures.simple) (Some Start)
+    from_named (given_of ring) c.args.self.now.source (vertex (given_of ring) c.args.i) (simple_given ring c.len-ring_is_simple.ensures.simple) (Some Start)
     (start_given ring c.args.self.now.source c.args.i c.requires.vertex c.parent.result
     (rw c.given_index.ensures.number at c.parent.ensures _ _ _ c.requires.grown.1.tree) (c.in-Some-Start.is ∙ ap Some c.in-Some-Start.field-0-is))
 
@@ -38,6 +38,6 @@ unreachable-requires c =
 pub returns-in-None : goal.returns-in-None
 returns-in-None c =
     let ring = c.args.ring.now in
-    from_named (given_of ring) c.args.self.now.source (vertex (given_of ring) c.args.i) (simple_given ring c.len-count.ensures.simple) None
+    from_named (given_of ring) c.args.self.now.source (vertex (given_of ring) c.args.i) (simple_given ring c.len-ring_is_simple.ensures.simple) None
     (none_given ring c.args.self.now.source c.args.i c.requires.vertex c.parent.result
     (rw c.given_index.ensures.number at c.parent.ensures _ _ _ c.requires.grown.1.tree) c.in-None.is)

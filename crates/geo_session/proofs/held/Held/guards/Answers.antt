@@ -8,7 +8,7 @@ returns g c =
     (record {
       value = c.of.result;
       holds = rw c.of.ensures
-          (guard_ring c.self.inside.ring c.len-count.ensures.counterclockwise c.in_ok-mesh.mesh c.in_ok-mesh.ensures.fits c.in_ok-mesh.ensures.cut
+          (guard_ring c.self.inside.ring c.len-is_counterclockwise.ensures.counterclockwise c.in_ok-mesh.mesh c.in_ok-mesh.ensures.fits c.in_ok-mesh.ensures.cut
           c.in_ok-numbers.numbers.items c.in_ok-numbers.ensures.guards c.in_ok-numbers.ensures.few c.in_ok-numbers.ensures.seen);
       told = refl;
     })

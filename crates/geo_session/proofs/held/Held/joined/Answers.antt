@@ -36,6 +36,6 @@ of-requires g c =
     let few = pair_few ring c.self.inside.mesh c.self.invariant.fits _ _ names
     (c.in_ok-names.ensures.path ring (rw (← c.self.view_is) at c.requires.made)) in
     let short : length c.in_ok-chain.chain.items ≤ MAX_CORNERS =
-    rw (c.in_ok-chain.ensures, c.deref.ensures.value) (omega (arith, few, length-map names (vertex ring), c.len-count.ensures.size.1)) in
+    rw (c.in_ok-chain.ensures, c.deref.ensures.value) (omega (arith, few, length-map names (vertex ring), c.len-few_vertices.ensures.size.1)) in
     let long = c.in_ok-points.ensures.few short in
     omega (arith, long)

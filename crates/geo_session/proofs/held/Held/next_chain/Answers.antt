@@ -26,8 +26,8 @@ returns-in-Some g c =
     let chains = c.args.chains.now in
     let k = length chains in
     let place = k % length numbers * length numbers + k / length numbers in
-    let some : 3 ≤ length ring = rw (← c.self.view_is) c.len-count.ensures.size.0 in
-    let simple : IsSimple ring = rw (← c.self.view_is) c.len-count.ensures.simple in
+    let some : 3 ≤ length ring = rw (← c.self.view_is) c.len-ring_is_simple.ensures.size.0 in
+    let simple : IsSimple ring = rw (← c.self.view_is) c.len-ring_is_simple.ensures.simple in
     let stands : place < k = ltb-true place k (sym c.in-Some.ensures.lookup.0) in
     let found = ap (λ chain. chain.items) c.in-Some.ensures.lookup.1
     ∙ sym (get_or-map (λ chain. chain.items) chains place c.in-Some.back.now [] stands) in

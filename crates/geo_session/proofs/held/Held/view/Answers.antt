@@ -34,7 +34,7 @@ of-requires g c =
     omega (
       arith,
       is,
-      c.len-count.ensures.size.1,
+      c.len-few_vertices.ensures.size.1,
       given_few ring (whole c.args.q.now) (given_parts ring parts)
           (view_given ring (whole c.args.q.now) parts (record { seen = c.in_ok-parts.ensures.parts; view = c.in_ok-parts.ensures.view })),
     )
