@@ -15,7 +15,7 @@ use Rattle.rings.specs.Ring.{vertex}
 use Rattle.rings.specs.Simple.{IsSimple}
 use Rattle.meshes.proofs.Joins.{place_of}
 use Rattle.meshes.proofs.Triangulations.{ring_is_piece}
-use Rattle.sweep_tri.specs.Order.{IsInOrder}
+use Rattle.ring_check.specs.Order.{IsInOrder}
 use Rattle.cut_tri.specs.Ordered.{IsOrderOf}
 use Rattle.cut_tri.specs.Piece.{IsPiece}
 

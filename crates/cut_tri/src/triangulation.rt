@@ -10,11 +10,10 @@ use crate::cut::{Remains, cut};
 use crate::piece::Piece;
 use exact_plane::{Memory, Steps};
 use meshes::Tri;
-use ring_check::Ring;
+use ring_check::{Ring, lexical_order};
 use std::alloc::Global;
 use std::collections::VecDeque;
 use std::sync::ledger::Ledger;
-use sweep_tri::lexical;
 use tri_mesh::Mesh;
 
 /// The triangulation of the polygon that its vertices determine: pieces are cut at their lexicographically least vertex, along one
@@ -64,7 +63,7 @@ fn whole_piece<L: Ledger>(alloc: Global, ring: &Ring, steps: &mut Steps<L>) -> R
     ensures all { IfOk result (λ piece. piece.boundary.items ≡ range_with_len 0 (length ring.now.corners)) }
     ensures ordered { IfOk result (IsPieceInOrder ring.now.corners) }
 {
-    let mut order = lexical(alloc, ring, steps)?;
+    let mut order = lexical_order(alloc, ring.corners(), steps)?;
     order.reverse();
     let mut boundary = Vec::with_capacity(alloc, ring.len() as usize)?;
     for i in 0..ring.len() {

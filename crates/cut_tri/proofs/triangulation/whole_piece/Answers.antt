@@ -17,5 +17,5 @@ returns-clause-ordered g c =
     let items : c.from_vec.result.items ≡ range_with_len 0 (length corners) = c.from_vec.ensures.items ∙ c.loop-i.invariant ∙ ap (range_with_len 0) end in (
       subst (IsPiece corners) (sym items) (all_is_piece corners ring.size.0 ring.simple ring.counterclockwise),
       subst (λ xs. IsOrderOf corners xs c.reverse.new.self.items) (sym items)
-          (all_ordered corners c.in_ok-order.order.items c.in_ok-order.ensures.order c.reverse.new.self.items c.reverse.ensures.items),
+          (all_ordered corners c.in_ok-order.order.items ((rw c.corners.ensures at c.in_ok-order.ensures.order) ring.simple) c.reverse.new.self.items c.reverse.ensures.items),
     )
