@@ -63,10 +63,11 @@ fn whole_piece<L: Ledger>(alloc: Global, ring: &Ring, steps: &mut Steps<L>) -> R
     ensures all { IfOk result (λ piece. piece.boundary.items ≡ range_with_len 0 (length ring.now.corners)) }
     ensures ordered { IfOk result (IsPieceInOrder ring.now.corners) }
 {
+    let n = ring.len();
     let mut order = lexical_order(alloc, ring.corners(), steps)?;
     order.reverse();
-    let mut boundary = Vec::with_capacity(alloc, ring.len() as usize)?;
-    for i in 0..ring.len() {
+    let mut boundary = Vec::with_capacity(alloc, n as usize)?;
+    for i in 0..n {
         boundary.push(i)?;
     }
     Ok(Piece {

@@ -12,8 +12,8 @@ loop-i-preserved g c = c.in_ok-push.ensures.items ∙ ap (λ xs. xs ++ c.loop-i.
 pub returns-clause-ordered : goal.returns-clause-ordered
 returns-clause-ordered g c =
     let corners = c.args.ring.now.corners in
-    let ring = c.len.ensures in
-    let end : c.loop-i.i ≡ length corners = omega (arith, c.loop-i.auto.i-end, c.loop-i-test.false, c.len-i-end.ensures.number) in
+    let ring = c.len-n.ensures in
+    let end : c.loop-i.i ≡ length corners = omega (arith, c.loop-i.auto.i-end, c.loop-i-test.false, c.len-n.ensures.number) in
     let items : c.from_vec.result.items ≡ range_with_len 0 (length corners) = c.from_vec.ensures.items ∙ c.loop-i.invariant ∙ ap (range_with_len 0) end in (
       subst (IsPiece corners) (sym items) (all_is_piece corners ring.size.0 ring.simple ring.counterclockwise),
       subst (λ xs. IsOrderOf corners xs c.reverse.new.self.items) (sym items)
