@@ -38,13 +38,13 @@ pub record AreThirdPlaces (corners : List Point) (start : Point) (tris : List Tr
       → IsThirdFrom corners start tris order p f (slice_index places p)
 
 -- the tree as far as it has grown
-abbrev pub tree_of : Growth → NamedTree
-tree_of g = record { before = g.before.items; funnels = g.funnels.items }
+abbrev pub tree_so_far : Growth → NamedTree
+tree_so_far g = record { before = g.before.items; funnels = g.funnels.items }
 
 -- it has grown over these triangles and has these places, with room for those of all
 pub record HasGrown (corners : List Point) (start : Point) (tris : List Tri) (order : List Outward) (count : ℕ) (g : Growth) : Type 0 where
-  pub over : IsGrownOver corners start tris order count (tree_of g)
-  pub thirds : AreThirdPlaces corners start tris order count (tree_of g) g.thirds.items
+  pub over : IsGrownOver corners start tris order count (tree_so_far g)
+  pub thirds : AreThirdPlaces corners start tris order count (tree_so_far g) g.thirds.items
   pub room : length order ≤ vec_capacity g.thirds
 
 -- it has grown over those before place p, where there is one more

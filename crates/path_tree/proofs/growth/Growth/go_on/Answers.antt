@@ -12,7 +12,7 @@ use Rattle.path_tree.proofs.NamedPoints.{third_named}
 use Rattle.path_tree.proofs.TreeSteps.{triangle_steps}
 use Rattle.path_tree.proofs.growth.Growth.go_on.Goals as goal
 use Rattle.path_tree.specs.Grown.{IsFromNamed}
-use Rattle.path_tree.specs.Growing.{tree_of}
+use Rattle.path_tree.specs.Growing.{tree_so_far}
 
 pub returns-in_err-funnel-clause-steps : goal.returns-in_err-funnel-clause-steps
 returns-in_err-funnel-clause-steps g c =
@@ -58,11 +58,11 @@ returns-clause-grown g c =
     (beyond_at corners start tris order from p c.requires.later c.requires.within) reached in
     let grown = c.requires.grown in
     record {
-      over = grown_more corners start tris order from p c.requires.later c.requires.within (tree_of c.args.self.now) grown.over c.door_of.result.third
+      over = grown_more corners start tris order from p c.requires.later c.requires.within (tree_so_far c.args.self.now) grown.over c.door_of.result.third
           (Some c.spot-near.result) f c.door_of.ensures.third
           (subst (λ m. IsFromNamed corners start (vertex corners m) (Some c.spot-near.result)) (sym c.door_of.ensures.third) named) w;
       thirds = rw c.push_reserved.ensures.items
-          (thirds_more corners start tris order from p c.requires.later c.requires.within (tree_of c.args.self.now) grown.over c.args.self.now.thirds.items grown.thirds
+          (thirds_more corners start tris order from p c.requires.later c.requires.within (tree_so_far c.args.self.now) grown.over c.args.self.now.thirds.items grown.thirds
           c.door_of.result.third (Some c.spot-near.result) f c.place_of_third-place.result reached);
       room = omega (arith, grown.room, c.push_reserved.ensures.capacity);
     }

@@ -6,27 +6,27 @@ use Rattle.shared_funnel.proofs.NextFunnels.{funnel_from_home, later_digits}
 use Rattle.shared_funnel.specs.Entered.{IsFunnelTo}
 use Rattle.path_tree.proofs.TreeFunnels.{none_at_home, some_later, third_place}
 use Rattle.path_tree.proofs.growth.Growth.next_funnel.Goals as goal
-use Rattle.path_tree.specs.Growing.{tree_of}
+use Rattle.path_tree.specs.Growing.{tree_so_far}
 
 pub funnel_from-requires-clause-inner : goal.funnel_from-requires-clause-inner
 funnel_from-requires-clause-inner g c =
     (some_later (g.T.Turns.corners c.args.board.now) (g.T.Turns.start c.args.board.now) c.args.mesh.now c.args.order.now c.requires.from
     c.args.p c.requires.later c.requires.within
-    (tree_of c.args.self.now) c.requires.grown.over c.index.result.now
+    (tree_so_far c.args.self.now) c.requires.grown.over c.index.result.now
     c.index.ensures c.in-Some.funnel c.in-Some.is).0
 
 pub funnel_from-requires-clause-funnel : goal.funnel_from-requires-clause-funnel
 funnel_from-requires-clause-funnel g c =
     (some_later (g.T.Turns.corners c.args.board.now) (g.T.Turns.start c.args.board.now) c.args.mesh.now c.args.order.now c.requires.from
     c.args.p c.requires.later c.requires.within
-    (tree_of c.args.self.now) c.requires.grown.over c.index.result.now
+    (tree_so_far c.args.self.now) c.requires.grown.over c.index.result.now
     c.index.ensures c.in-Some.funnel c.in-Some.is).1
 
 pub funnel_from-requires-clause-place : goal.funnel_from-requires-clause-place
 funnel_from-requires-clause-place g c =
     third_place (g.T.Turns.corners c.args.board.now) (g.T.Turns.start c.args.board.now) c.args.mesh.now c.args.order.now c.requires.from
     c.args.p c.requires.later c.requires.within
-    (tree_of c.args.self.now) c.requires.grown.over c.index.result.now
+    (tree_so_far c.args.self.now) c.requires.grown.over c.index.result.now
     c.index.ensures c.args.self.now.thirds.items c.requires.grown.thirds c.in-Some.funnel c.in-Some.is c.index-place.result.now c.index-place.ensures
 
 pub first-requires-clause-count : goal.first-requires-clause-count
@@ -57,7 +57,7 @@ returns-in-None-clause-funnel g c =
     let order = c.args.order.now in
     let p = c.args.p in
     let home = none_at_home corners start tris order c.requires.from p c.requires.later c.requires.within
-    (tree_of c.args.self.now) c.requires.grown.over c.index.result.now
+    (tree_so_far c.args.self.now) c.requires.grown.over c.index.result.now
     c.index.ensures c.in-None.is in
     IfOk-weaker c.first.result _ (IsFunnelTo corners start tris order p)
     (λ f first. funnel_from_home corners start tris order c.requires.from p c.requires.later c.requires.within home

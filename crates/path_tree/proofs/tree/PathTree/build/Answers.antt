@@ -5,7 +5,7 @@ use Rattle.shared_funnel.proofs.StepCounts.{home_steps}
 use Rattle.path_tree.proofs.GrownOver.{grown_at_end}
 use Rattle.path_tree.proofs.TreeSteps.{tree_steps}
 use Rattle.path_tree.proofs.tree.PathTree.build.Goals as goal
-use Rattle.path_tree.specs.Growing.{HasGrown, tree_of}
+use Rattle.path_tree.specs.Growing.{HasGrown, tree_so_far}
 
 pub returns-in_err-growth-clause-steps : goal.returns-in_err-growth-clause-steps
 returns-in_err-growth-clause-steps g c =
@@ -53,7 +53,7 @@ invariant_of-result g c =
       tris = c.args.mesh.now;
       fits = c.requires.fits;
       grown = grown_at_end corners (g.T.Turns.start c.args.board.now) c.args.mesh.now c.args.home c.in_ok-order.order.items c.loop-p.p
-          c.len-p-end.result (tree_of c.loop-p.growth) c.requires.fits
+          c.len-p-end.result (tree_so_far c.loop-p.growth) c.requires.fits
           c.requires.home c.requires.start c.in_ok-order.ensures (omega (arith, c.len-p-end.ensures, c.in_ok-order.order.ok.0))
           c.loop-p-test.false c.loop-p.auto.p-end c.loop-p.invariant.grown.over;
     }
@@ -62,7 +62,7 @@ pub returns-clause-grown : goal.returns-clause-grown
 returns-clause-grown g c =
     let corners = g.T.Turns.corners c.args.board.now in
     grown_at_end corners (g.T.Turns.start c.args.board.now) c.args.mesh.now c.args.home c.in_ok-order.order.items c.loop-p.p
-    c.len-p-end.result (tree_of c.loop-p.growth) c.requires.fits
+    c.len-p-end.result (tree_so_far c.loop-p.growth) c.requires.fits
     c.requires.home c.requires.start c.in_ok-order.ensures (omega (arith, c.len-p-end.ensures, c.in_ok-order.order.ok.0))
     c.loop-p-test.false c.loop-p.auto.p-end c.loop-p.invariant.grown.over
 
