@@ -1,5 +1,6 @@
 // Fractions in lowest terms.
-use crate::reading::{number_of, row_of};
+use crate::reading::number_of;
+use crate::rows::row_of;
 use exact_frac::Frac;
 
 // A numerator and a denominator, and what they are in lowest terms, up to the greatest and the least 128-bit numbers.

@@ -1,7 +1,8 @@
 // Regions that are cut along the edges of a list of points, one after another: what is left of the square of the limit.
 ghost use Rattle.std.specs.Prelude.{◌≡◌, ◌<◌};
 
-use crate::reading::{is_same, points_of, row_of};
+use crate::reading::is_same;
+use crate::rows::{points_of, row_of};
 use exact_plane::{Pt, Steps, order};
 use half_cut::Region;
 use std::alloc::Global;

@@ -13,5 +13,6 @@ mod points;
 mod rationals;
 #[cfg(test)]
 mod reading;
+pub mod rows;
 #[cfg(test)]
 mod sequences;

@@ -1,7 +1,8 @@
 // Where lines meet.
 ghost use Rattle.std.specs.Prelude.{◌≡◌, ◌<◌};
 
-use crate::reading::{is_same, points_of, row_of};
+use crate::reading::is_same;
+use crate::rows::{points_of, row_of};
 use exact_plane::{Direction, Hom, Pt, Steps, turn_hom};
 use std::alloc::Global;
 use std::marker::Brand;

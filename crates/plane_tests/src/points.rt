@@ -1,7 +1,8 @@
 // Questions about points, with answers that were worked out by hand or with exact fractions.
 ghost use Rattle.std.specs.Prelude.{◌≡◌, ◌<◌};
 
-use crate::reading::{points_of, row_of, yes_or_no};
+use crate::reading::yes_or_no;
+use crate::rows::{points_of, row_of};
 use exact_plane::{
     Direction, Hom, Pt, Steps, in_cone, in_triangle, meet_only_at, on_segment, order,
     segments_meet, turn,

@@ -1,7 +1,8 @@
 // Rational points that are given by their parts, with answers that were worked out by hand or with exact fractions.
 ghost use Rattle.std.specs.Prelude.{◌≡◌, ◌<◌};
 
-use crate::reading::{Parts, parts_of, point_of, row_of};
+use crate::reading::{Parts, parts_of};
+use crate::rows::{point_of, row_of};
 use exact_plane::{Direction, Hom, Steps, order_hom, turn_hom};
 use std::cmp::Ordering;
 use std::marker::Brand;

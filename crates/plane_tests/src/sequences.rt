@@ -1,7 +1,7 @@
 // Lists that share their nodes: each call makes a new list and leaves its arguments as they were.
 ghost use Rattle.std.specs.Prelude.{◌≡◌, ◌<◌};
 
-use crate::reading::row_of;
+use crate::rows::row_of;
 use exact_plane::Steps;
 use shared_seq::SharedSeq;
 use std::alloc::Global;

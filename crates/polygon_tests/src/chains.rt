@@ -1,9 +1,10 @@
 // Lists of points in an L, and whether they are taut.
 ghost use Rattle.std.specs.Prelude.{◌≡◌, ◌<◌};
 
-use crate::reading::{points_of, ring_of, row_of};
+use crate::reading::ring_of;
 use exact_plane::{Pt, Steps};
 use plane::MAX_CHAIN;
+use plane_tests::rows::{points_of, row_of};
 use ring_check::Ring;
 use std::alloc::Global;
 use std::marker::Brand;
@@ -35,7 +36,7 @@ a turn away from the corner | 4,2 2,2 0,0 | wrong_side 1
 a turn away from both walls | 1,0 2,2 0,1 | wrong_side 1";
 
 #[test]
-fn chains(rt: HostRuntime) {
+fn chains_are_taut_or_break_a_rule(rt: HostRuntime) {
     all_chains::<Brand, _>(&rt, rt.alloc(), Blank::new(1));
 }
 

@@ -1,22 +1,22 @@
 // The vertices of combs, and the ends of the path that is asked for.
 ghost use Rattle.std.specs.Prelude.{◌≡◌, ◌<◌};
 
-use crate::reading::{point_of, points_of, row_of};
 use exact_plane::Steps;
 use geo_gen::{MAX_TEETH, comb, comb_goal, comb_start};
+use plane_tests::rows::{point_of, points_of, row_of};
 use std::alloc::Global;
 use std::marker::Brand;
 use std::process::Abort;
 use std::sync::ledger::{Blank, Ledger};
 
-// The number of teeth, the vertices, and the goal of the path.
+// The vertices, two for each tooth and two more, and the goal of the path.
 const COMBS: &str = "\
-1 | 0,0 4,6 4,8 0,2 | 4,7
-2 | 0,0 4,6 8,0 8,2 4,8 0,2 | 8,1
-3 | 0,0 4,6 8,0 12,6 12,8 8,2 4,8 0,2 | 12,7";
+one tooth | 0,0 4,6 4,8 0,2 | 4,7
+two teeth | 0,0 4,6 8,0 8,2 4,8 0,2 | 8,1
+three teeth | 0,0 4,6 8,0 12,6 12,8 8,2 4,8 0,2 | 12,7";
 
 #[test]
-fn combs(rt: HostRuntime) {
+fn combs_have_their_vertices_and_goal(rt: HostRuntime) {
     all_combs::<Brand, _>(&rt, rt.alloc(), Blank::new(1));
 }
 
@@ -35,12 +35,13 @@ fn all_combs<L: Ledger, R: Abort>(rt: &R, alloc: Global, blank: Blank)
 }
 
 fn is_comb<L: Ledger>(alloc: Global, row: &str, steps: &mut Steps<L>) -> Option<bool> {
-    let (teeth, vertices, goal) = row_of(row)?;
-    let teeth = teeth.parse().ok()?;
+    let (_, vertices, goal) = row_of(row)?;
+    let want = points_of(alloc, vertices)?;
+    let teeth = u32::try_from(want.len() / 2).ok()?.checked_sub(1)?;
     if teeth < 1 || MAX_TEETH < teeth {
         return None;
     }
-    let (points, want) = (comb(alloc, teeth).ok()?, points_of(alloc, vertices)?);
+    let points = comb(alloc, teeth).ok()?;
     if points.len() != want.len() {
         return None;
     }

@@ -1,8 +1,9 @@
 // The kernels of polygons.
 ghost use Rattle.std.specs.Prelude.{◌≡◌, ◌<◌};
 
-use crate::reading::{ring_of, row_of};
+use crate::reading::ring_of;
 use exact_plane::{Hom, Steps};
+use plane_tests::rows::row_of;
 use star_kernel::kernel;
 use std::alloc::Global;
 use std::marker::Brand;
@@ -29,7 +30,7 @@ a dart in it | -8388607,-8388607 8388607,-8388607 0,-1 -8388607,8388607 | -83886
 a square with flat vertices | 0,0 1,0 2,0 2,2 1,2 0,2 | 0,0,1 2,0,1 2,2,1 0,2,1";
 
 #[test]
-fn kernels(rt: HostRuntime) {
+fn kernels_have_their_corners(rt: HostRuntime) {
     all_kernels::<Brand, _>(&rt, rt.alloc(), Blank::new(1));
 }
 

@@ -1,9 +1,10 @@
 // Lists of points, accepted as a ring or refused.
 ghost use Rattle.std.specs.Prelude.{◌≡◌, ◌<◌};
 
-use crate::reading::{point_of, points_of, ring_of, row_of};
+use crate::reading::ring_of;
 use exact_plane::{Pt, Steps};
 use plane::MAX_CORNERS;
+use plane_tests::rows::{point_of, points_of, row_of};
 use ring_check::{Ring, RingFault, sweep_finds_none};
 use std::alloc::Global;
 use std::marker::Brand;
@@ -48,7 +49,7 @@ const L_BACKWARD: &str = "0,4 2,4 2,2 4,2 4,0 0,0";
 const L_TURNED: &str = "0,4/0/5 0,0/5/4 4,0/4/3 4,2/3/2 2,2/2/1 2,4/1/0";
 
 #[test]
-fn lists(rt: HostRuntime) {
+fn lists_are_rings_or_refused(rt: HostRuntime) {
     all_lists::<Brand, _>(&rt, rt.alloc(), Blank::new(1));
 }
 

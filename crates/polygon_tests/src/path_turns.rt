@@ -1,8 +1,8 @@
 // How two lists of points turn against each other.
 ghost use Rattle.std.specs.Prelude.{◌≡◌, ◌<◌, IsTrue, length};
 
-use crate::reading::{points_of, row_of};
 use exact_plane::{Direction, Pt, Steps, order};
+use plane_tests::rows::{points_of, row_of};
 use rel_hull::path_turn;
 use std::alloc::Global;
 use std::cmp::Ordering;
@@ -23,7 +23,7 @@ to the nearer point | 0,0 4,0 4,4 / 0,0 2,0 | straight straight
 on over the nearer point | 0,0 4,0 / 0,0 2,0 3,0 3,3 | straight straight";
 
 #[test]
-fn path_turns(rt: HostRuntime) {
+fn paths_turn_against_each_other(rt: HostRuntime) {
     all_turns::<Brand, _>(&rt, rt.alloc(), Blank::new(1));
 }
 

@@ -1,9 +1,10 @@
 // Whether a ring holds a segment.
 ghost use Rattle.std.specs.Prelude.{◌≡◌, ◌<◌};
 
-use crate::reading::{point_of, ring_of, row_of};
+use crate::reading::ring_of;
 use exact_plane::Steps;
 use inside_test::holds_segment;
+use plane_tests::rows::{point_of, row_of};
 use ring_check::Ring;
 use std::alloc::Global;
 use std::marker::Brand;
@@ -64,7 +65,7 @@ beside the notch | -8388607,8388607 0,-8388607 | yes
 through the notch beside its edge | -8388607,8388607 1,-8388607 | no";
 
 #[test]
-fn segments(rt: HostRuntime) {
+fn segments_are_held_or_not(rt: HostRuntime) {
     all_segments::<Brand, _>(&rt, rt.alloc(), Blank::new(1));
 }
 

@@ -83,7 +83,7 @@ fn the_limit_of_pairs(rt: HostRuntime) -> Result<(), Fail> {
 
 // As in version 1.
 #[test]
-fn the_limit_of_pairs_in_version_2(rt: HostRuntime) -> Result<(), Fail> {
+fn the_limit_of_pairs_in_the_second_version(rt: HostRuntime) -> Result<(), Fail> {
     let first = "geo,2\npolygon,1024\npath,2,0,0,0,2\npath,2,2044,6,2044,8\nsights,2556\n";
     are_told(
         &rt,
