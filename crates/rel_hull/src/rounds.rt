@@ -22,7 +22,7 @@ pub fn round<L: Ledger>(
     requires { IsTableOf ring.now.corners chains.now }
     ensures { IfOk result (λ round. IsRound ring.now.corners (table_points chains.now) round.items) }
 {
-    let _corners = ring.len();
+    let _ring_is_simple = ring.len();
     let outer = outer_points(alloc, chains, steps)?;
     let mut round = Vec::new(alloc);
     let Some(first) = first_start(chains, &outer, steps) else {

@@ -36,7 +36,7 @@ impl ChainTable {
         ensures count { result.count ≡ m }
         ensures chains { result.chains ≡ map (λ chain. chain.items) chains.items }
     {
-        let _corners = ring.len();
+        let _ring_is_simple = ring.len();
         ChainTable { count: m, chains }
     }
 
@@ -70,6 +70,7 @@ impl ChainTable {
         requires apart { a ≢ s }
         ensures { IsTrue result ↔ IsOnChain (chain_at self.now a b) (point_at (table_points self.now) s) }
     {
+        // What holds of every table is told with its parts.
         let _count = self.count;
         let to = self.chain(a, s).len();
         let chain = self.chain(a, b);
@@ -83,6 +84,7 @@ impl ChainTable {
         requires third { u < self.now.count }
         ensures { IsPathTurn (chain_at self.now s t) (chain_at self.now s u) result }
     {
+        // What holds of every table is told with its parts.
         let _count = self.count;
         let (first, second) = (self.chain(s, t), self.chain(s, u));
         let k = halved_front(first, second, steps);

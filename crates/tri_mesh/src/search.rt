@@ -126,6 +126,7 @@ impl Search {
         requires in_list { k < length tris.now }
         ensures { IsTrue result ↔ IsReached self.now.order.items k }
     {
+        // The prover learns from this call how many triangles there can be.
         let _count = tris.len();
         self.order[self.places[k as usize] as usize].tri == k
     }

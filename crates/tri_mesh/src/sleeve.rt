@@ -93,6 +93,7 @@ fn between(mesh: &Mesh, from: u32, to: u32) -> Diagonal
     requires share { ShareSide (tri_at mesh.now from) (tri_at mesh.now to) }
     ensures { IsDiagonalBetween (tri_at mesh.now from) (tri_at mesh.now to) result }
 {
+    // What holds of every mesh is told with its count: which triangles share a side.
     let _count = mesh.count();
     let tri = mesh.tri(from);
     if is_some_of(mesh.across(from, 0), to) {

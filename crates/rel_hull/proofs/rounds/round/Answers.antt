@@ -8,7 +8,7 @@ pub returns-in_default : goal.returns-in_default
 returns-in_default g c =
     let are = rw (← c.deref.ensures.value) at c.in_ok-outer.ensures in
     rw c.new-round.ensures.items
-    (round_of_none c.args.ring.now.corners c.args.chains.now c.requires c.deref.result.now are c.len-corners.ensures.size.0 c.len-corners.ensures.simple
+    (round_of_none c.args.ring.now.corners c.args.chains.now c.requires c.deref.result.now are c.len-ring_is_simple.ensures.size.0 c.len-ring_is_simple.ensures.simple
     c.in_default.ensures)
 
 pub side_end-next-requires-clause-start : goal.side_end-next-requires-clause-start
@@ -21,8 +21,8 @@ loop-next-init g c =
     let is_first = rw c.deref.ensures.value at c.in-Some.ensures in
     let ends = rw c.deref-2.ensures.value at c.side_end-next.ensures.end in
     rw (c.in_ok-push.ensures.items, c.new-round.ensures.items)
-    (front_of_start c.args.ring.now.corners c.args.chains.now c.requires c.in_ok-outer.outer.items c.in_ok-outer.ensures c.len-corners.ensures.size.0
-    c.len-corners.ensures.simple c.in-Some.first c.side_end-next.result is_first ends)
+    (front_of_start c.args.ring.now.corners c.args.chains.now c.requires c.in_ok-outer.outer.items c.in_ok-outer.ensures c.len-ring_is_simple.ensures.size.0
+    c.len-ring_is_simple.ensures.simple c.in-Some.first c.side_end-next.result is_first ends)
 
 pub side_end-next-requires-in-loop-next-clause-start : goal.side_end-next-requires-in-loop-next-clause-start
 side_end-next-requires-in-loop-next-clause-start g c = rw length-points_of at (next_in_list _ _ _ _ _ c.loop-next.invariant)
