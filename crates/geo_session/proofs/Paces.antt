@@ -58,25 +58,6 @@ module _ (version : Version) (held : HeldRing) (start done : ℕ) where
       made ≤ start + 200 * (n * n) * (b * b) → done ≤ made + by_version version 0 20 * n → IsPaced (seen_of version (Some held)) (command.Pair i j) start done
   new_pair_paced i j made none making few = rw (none, size_held held) (omega (arith, making, few))
 
--- ---- finding the ends of a path and telling it
-
-module _ (n start first : ℕ) (one : first ≤ start + 3 * (n - 2)) where
-  pub located_one : (version : Version) → first ≤ start + by_version version 10 30 * n
-  located_one version.Two = omega (arith, one)
-  located_one version.One = omega (arith, one)
-
-  module _ (second : ℕ) (other : second ≤ first + 3 * (n - 2)) where
-    pub located_two : (version : Version) → second ≤ start + by_version version 10 30 * n
-    located_two version.Two = omega (arith, one, other)
-    located_two version.One = omega (arith, one, other)
-
-    pub located_told : (version : Version) (done : ℕ) → done ≤ second + by_version version 4 24 * n → done ≤ start + by_version version 10 30 * n
-    located_told version.Two done more = omega (arith, one, other, more)
-    located_told version.One done more = omega (arith, one, other, more)
-
-    pub located_untold : (done : ℕ) → done ≡ second → done ≤ start + 6 * (n - 2)
-    located_untold done same = omega (arith, one, other, same)
-
 -- ---- lines
 
 -- a reply of some commands is a path or a refusal

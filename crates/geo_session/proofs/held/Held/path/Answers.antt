@@ -1,76 +1,41 @@
-use Rattle.std.proofs.Common.{length, refl}
+use Rattle.std.proofs.Common.{refl}
+use Rattle.geo_text.specs.declared.command.Bad.TheVariants as bad
 use Rattle.ring_check.specs.Oriented.{given_of}
-use Rattle.geo_reply.proofs.Fronts.{err_since, none_of_err}
 use Rattle.geo_reply.specs.declared.reply.Reply.TheVariants as reply
 use Rattle.geo_session.proofs.GivenFull.{shown_given}
-use Rattle.geo_session.proofs.Paces.{located_one, located_told, located_two, located_untold}
+use Rattle.geo_session.proofs.LocatedIn.{held_in_given, out_of_given}
 use Rattle.geo_session.proofs.Within.{first_out, second_out, two_in}
 use Rattle.geo_session.proofs.held.Held.path.Goals as goal
 
-pub returns-in-Err-clause-answer : goal.returns-in-Err-clause-answer
-returns-in-Err-clause-answer g c =
-    let found = rw c.in-Err.is at c.find.ensures.found in
-    first_out (given_of c.args.self.now.ring) _ c.args.s.now c.args.t.now c.in-Err.bad found.0 found.1
+pub returns-in-None-default-clause-answer : goal.returns-in-None-default-clause-answer
+returns-in-None-default-clause-answer g c =
+    let ring = c.self.inside.ring in
+    rw (← c.self.view_is)
+    (first_out (given_of ring) _ c.args.s.now c.args.t.now (bad.Outside 1)
+    (out_of_given ring c.args.s.now ((rw c.in-None-default.is-0 at c.locate_both.ensures.no_first).0 refl)) refl)
 
-pub returns-in-Err-find-clause-answer : goal.returns-in-Err-find-clause-answer
-returns-in-Err-find-clause-answer g c =
-    let first = rw c.in-Ok.is at c.find.ensures.found in
-    let second = rw c.in-Err-find.is at c.find-2.ensures.found in
-    second_out (given_of c.args.self.now.ring) _ c.args.s.now c.args.t.now c.in-Err-find.bad first.0 second.0 second.1
+pub returns-in-Some-None-clause-answer : goal.returns-in-Some-None-clause-answer
+returns-in-Some-None-clause-answer g c =
+    let ring = c.self.inside.ring in
+    let first = rw c.in-Some-None.is-0 at c.locate_both.ensures.least_of_first in
+    rw (← c.self.view_is)
+    (second_out (given_of ring) _ c.args.s.now c.args.t.now (bad.Outside 2)
+    (held_in_given ring c.args.s.now c.self.inside.mesh c.in-Some-None.field-0-0 c.self.invariant.fits first)
+    (out_of_given ring c.args.t.now ((rw c.in-Some-None.is-1 at c.locate_both.ensures.no_second).0 refl)) refl)
 
 pub returns-clause-answer : goal.returns-clause-answer
 returns-clause-answer g c =
-    let ring = c.args.self.now.ring in
-    let first = rw c.in-Ok.is at c.find.ensures.found in
-    let second = rw c.in-Ok-find.is at c.find-2.ensures.found in
-    two_in (given_of ring) _ c.args.s.now c.args.t.now (reply.Path c.in_ok-points.points.items) first.0 second.0 (record {
+    let ring = c.self.inside.ring in
+    let mesh = c.self.inside.mesh in
+    let fits = c.self.invariant.fits in
+    let first = rw c.in-Some-Some.is-0 at c.locate_both.ensures.least_of_first in
+    let second = rw c.in-Some-Some.is-1 at c.locate_both.ensures.least_of_second in
+    rw (← c.self.view_is)
+    (two_in (given_of ring) _ c.args.s.now c.args.t.now (reply.Path c.in_ok-points.points.items)
+    (held_in_given ring c.args.s.now mesh c.in-Some-Some.from fits first) (held_in_given ring c.args.t.now mesh c.in-Some-Some.to fits second)
+    (record {
       value = c.in_ok-points.points.items;
-      holds = shown_given ring c.args.version c.args.s.now c.args.t.now c.in_ok-points.points.items c.in_ok-points.ensures.shown;
+      holds = shown_given ring c.args.version c.args.s.now c.args.t.now c.in_ok-points.points.items
+          (rw (← c.self.view_is) at c.in_ok-points.ensures.shown);
       told = refl;
-    })
-
-pub returns-in_err-points-clause-answer : goal.returns-in_err-points-clause-answer
-returns-in_err-points-clause-answer g c = none_of_err _ c.from_residual.result c.from_residual.ensures.0
-
-pub returns-in_err-points-clause-few : goal.returns-in_err-points-clause-few
-returns-in_err-points-clause-few g c = none_of_err _ c.from_residual.result c.from_residual.ensures.0
-
-pub returns-in-Err-clause-steps : goal.returns-in-Err-clause-steps
-returns-in-Err-clause-steps g c =
-    located_one (length c.args.self.now.ring.corners) c.args.steps.now c.find.new.steps c.find.ensures.steps c.args.version
-
-pub returns-in-Err-clause-memory : goal.returns-in-Err-clause-memory
-returns-in-Err-clause-memory g c = λ _. tt
-
-pub returns-in-Err-find-clause-steps : goal.returns-in-Err-find-clause-steps
-returns-in-Err-find-clause-steps g c =
-    located_two (length c.args.self.now.ring.corners) c.args.steps.now c.find.new.steps c.find.ensures.steps c.find-2.new.steps c.find-2.ensures.steps
-    c.args.version
-
-pub returns-in-Err-find-clause-memory : goal.returns-in-Err-find-clause-memory
-returns-in-Err-find-clause-memory g c = λ _. tt
-
-pub returns-clause-steps : goal.returns-clause-steps
-returns-clause-steps g c =
-    located_told (length c.args.self.now.ring.corners) c.args.steps.now c.find.new.steps c.find.ensures.steps c.find-2.new.steps c.find-2.ensures.steps
-    c.args.version c.path_between.new.steps c.path_between.ensures.steps
-
-pub returns-clause-memory : goal.returns-clause-memory
-returns-clause-memory g c = λ _. tt
-
-pub returns-in_err-points-clause-steps : goal.returns-in_err-points-clause-steps
-returns-in_err-points-clause-steps g c =
-    located_told (length c.args.self.now.ring.corners) c.args.steps.now c.find.new.steps c.find.ensures.steps c.find-2.new.steps c.find-2.ensures.steps
-    c.args.version c.path_between.new.steps c.path_between.ensures.steps
-
-pub returns-in_err-points-clause-memory : goal.returns-in_err-points-clause-memory
-returns-in_err-points-clause-memory g c =
-    λ not_two. err_since c.from_residual.result
-    (located_untold (length c.args.self.now.ring.corners) c.args.steps.now c.find.new.steps c.find.ensures.steps c.find-2.new.steps
-    c.find-2.ensures.steps c.path_between.new.steps (c.in_err-points.ensures.memory not_two))
-
-pub path_between-requires-clause-from : goal.path_between-requires-clause-from
-path_between-requires-clause-from g c = (rw c.in-Ok.is at c.find.ensures.found).1
-
-pub path_between-requires-clause-to : goal.path_between-requires-clause-to
-path_between-requires-clause-to g c = (rw c.in-Ok-find.is at c.find-2.ensures.found).1
+    }))
