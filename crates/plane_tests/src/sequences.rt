@@ -15,6 +15,8 @@ share 0 0 | 1 2 3 | 1 2 3
 share 0 0 | 1 2 3 + 4 5 | 1 2 3 4 5
 front 2 0 | 1 2 3 + 4 5 | 1 2
 rest 2 0 | 1 2 3 + 4 5 | 3 4 5
+take_then 2 9 | 1 2 3 + 4 5 | 1 2 9
+then_skip 2 9 | 1 2 3 + 4 5 | 9 3 4 5
 single 0 7 | 1 2 3 | 7
 push_front 0 0 | 1 2 3 | 0 1 2 3
 insert_at 1 9 | 1 2 3 | 1 9 2 3
@@ -127,6 +129,8 @@ fn made_by<L: Ledger>(
         "share" => list.share().ok(),
         "front" => list.take(alloc, at, steps).ok(),
         "rest" => list.skip(alloc, at, steps).ok(),
+        "take_then" => list.take_then(alloc, at, value, steps).ok(),
+        "then_skip" => list.then_skip(alloc, at, value, steps).ok(),
         "single" => SharedSeq::single(alloc, value, steps).ok(),
         "push_front" => list.push_front(alloc, value, steps).ok(),
         "insert_at" => list.insert_at(alloc, at, value, steps).ok(),
