@@ -1,3 +1,4 @@
 pub mod Digits
 pub mod Heights
 pub mod Places
+pub mod Searches

@@ -1,4 +1,5 @@
 pub mod Digits
 pub mod Node
+pub mod Search
 pub mod Seq
 pub mod Tree

@@ -2,8 +2,10 @@
 #![tactic(auto)]
 
 mod node;
+mod search;
 mod seq;
 mod side;
 mod tree;
 
+pub use search::{Halves, Search};
 pub use seq::SharedSeq;

@@ -4,6 +4,7 @@ ghost use Rattle.shared_seq.specs.Digits.{binary_digits};
 ghost use Rattle.shared_seq.specs.Tree.{lent_at, tree_at};
 
 use crate::node::{self, Node, Subtree, count};
+use crate::search::Search;
 use crate::side::Side;
 use crate::tree;
 use exact_plane::{Memory, Steps};
@@ -66,6 +67,15 @@ impl SharedSeq {
         ensures steps { steps.new ≤ steps.old + 2 * binary_digits (length self.now) + 1 }
     {
         tree::get(self.node(), i, steps)
+    }
+
+    /// The whole list, to be searched by halves.
+    pub fn search(&self) -> Search
+        ensures low { result.low ≡ 0 }
+        ensures items { result.items ≡ self.now }
+        ensures levels { result.levels ≤ 2 * binary_digits (length self.now) }
+    {
+        Search::of(self.root())
     }
 
     /// The left list followed by the right one.
@@ -273,6 +283,7 @@ impl SharedSeq {
     // Its node, if it has values.
     fn root(&self) -> Option<&Rc<Node>>
         ensures items { (lent_at result).items ≡ self.now }
+        ensures short { length self.now < 2 ^ 31 }
         ensures height { (lent_at result).height ≤ 2 * binary_digits (length self.now) }
     {
         self.root.as_ref()

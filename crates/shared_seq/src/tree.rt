@@ -16,14 +16,15 @@ pub(crate) fn get<L: Ledger>(tree: &Rc<Node>, i: usize, steps: &mut Steps<L>) ->
     ensures value { result ≡ slice_index tree.now.value.items i }
     ensures steps { steps.new ≤ steps.old + tree.now.value.height }
 {
-    let Way {
-        part,
+    let Parts {
+        one: left,
         value,
-        at,
-        ..
-    } = tree.way(i, steps);
-    match part {
-        Some(part) if at < count(Some(part)) => get(part, at, steps),
+        other: right,
+    } = tree.parts(Side::Left, steps);
+    let before = count(left);
+    match (left, right) {
+        (Some(left), _) if i < before => get(left, i, steps),
+        (_, Some(right)) if before < i => get(right, i - before - 1, steps),
         _ => value,
     }
 }

@@ -1,8 +1,7 @@
--- A search by halves for the place of a vertex among the gaps: the places that are left, how many rounds it has, and its test.
-use Rattle.std.proofs.Common.{◌≡◌, ◌↔◌, sym, ap, subst, ◌∙◌, ℕ, ◌+◌, ◌-◌, ◌*◌, ◌/◌, ◌<◌, ◌≤◌, List, length, inl, inr, arith}
+-- A search by halves for the place of a vertex among the gaps: the places that are left, and its test.
+use Rattle.std.proofs.Common.{◌≡◌, ◌↔◌, sym, ap, subst, ◌∙◌, ℕ, ◌+◌, ◌-◌, ◌<◌, ◌≤◌, List, length, inl, inr, arith}
 use Rattle.std.proofs.lemmas.Bool.{cases_eq}
-use Rattle.std.proofs.lemmas.Int.Digits.{length-digits_of_step}
-use Rattle.std.proofs.lemmas.Nat.{mul-le}
+use Rattle.std.proofs.lemmas.List.{get_or_read}
 use Rattle.std.specs.Prelude.{slice_index_or}
 use Rattle.plane.specs.Point.{Point, whole}
 use Rattle.rings.proofs.Vertices.{vertex_in_range}
@@ -13,14 +12,15 @@ use Rattle.exact_plane.specs.Spot.{point_named}
 use Rattle.exact_plane.specs.declared.direction.Direction.{Direction}
 use Rattle.exact_plane.specs.declared.direction.Direction.TheVariants.{Left}
 use Rattle.exact_plane.specs.declared.turns.Spot.TheVariants.{Corner}
-use Rattle.shared_seq.proofs.Digits.{binary_digits_mono}
-use Rattle.shared_seq.specs.Digits.{binary_digits}
+use Rattle.shared_seq.proofs.Searches.{IsPartOf, halves_length, middle_is, part_within}
+use Rattle.shared_seq.specs.Search.{AreHalves, Part}
+use Rattle.sweep_tri.proofs.Slots.{gap_is, gaps_count}
 use Rattle.sweep_tri.proofs.Swept.{low_region}
 use Rattle.sweep_tri.specs.Frontier.{IsAbove, IsGapPlace}
-use Rattle.sweep_tri.specs.Gaps.{gap_at, low_front}
+use Rattle.sweep_tri.specs.Gaps.{gap_at, low_front, no_gap}
 use Rattle.sweep_tri.specs.Open.{IsOpenGap}
 use Rattle.sweep_tri.specs.Region.{IsRegion}
-use Rattle.sweep_tri.specs.Slots.{AreSortedBy, HasLowFront, HaveLowFronts}
+use Rattle.sweep_tri.specs.Slots.{AreSlotNumbers, AreSortedBy, HasLowFront, HaveLowFronts, gaps_of}
 use Rattle.sweep_tri.specs.declared.gap.Gap.{Gap}
 
 -- ---- the places
@@ -77,19 +77,54 @@ module _ (corners : List Point) (gaps : List Gap) (v : ℕ) where
     not_above = λ j from within. is.not_above j (omega (arith, one, from)) within;
   }
 
--- ---- the rounds
+-- ---- the part of the numbers that is left
 
--- half of a number has one binary digit less,
-half_digits : (d e : ℕ) → 0 < d → e ≤ d / 2 → binary_digits e + 1 ≤ binary_digits d
-unfolding binary_digits
-half_digits d e some half =
-    let step = length-digits_of_step 2 d (omega arith) some in
-    omega (arith, step, binary_digits_mono e (d / 2) half)
+-- the numbers of the slots are halved at one of them
+module _ (slots : List Gap) (numbers : List ℕ) (gaps : List Gap) (are : gaps_of slots numbers ≡ gaps) (taken : AreSlotNumbers slots numbers)
+    (part before after : Part) (value : ℕ) (halves : AreHalves part before value after) (in_list : IsPartOf numbers part) where
+  abbrev middle : ℕ
+  middle = part.low + length before.items
 
--- so a digit pays for what a round takes
-pub round_paid : (c d e : ℕ) → 0 < d → e ≤ d / 2 → binary_digits e * c + c ≤ binary_digits d * c
-round_paid c d e some half =
-    omega (arith, mul-le (binary_digits e + 1) c (binary_digits d) c (half_digits d e some half) (omega arith))
+  between_halves : middle < length numbers
+  between_halves = omega (arith, part_within numbers part in_list, halves_length part before after value halves)
+
+  -- it is that of a slot,
+  pub is_slot : value < length slots
+  is_slot = subst (λ n. n < length slots) (middle_is part before after value halves numbers in_list) (taken.below middle 0 between_halves)
+
+  -- and the gap that is read there
+  module _ (seen : Gap) (read : seen ≡ slice_index_or slots value seen) where
+    -- is the one at the place between the halves,
+    is_between : seen ≡ gap_at gaps middle
+    is_between = get_or_read slots value seen is_slot read no_gap
+        ∙ ap (gap_at slots) (sym (middle_is part before after value halves numbers in_list))
+        ∙ sym (gap_is slots numbers middle between_halves) ∙ ap (λ gs. gap_at gs middle) are
+
+    pub seen_has_low_front : (corners : List Point) → HaveLowFronts corners gaps → HasLowFront corners seen
+    seen_has_low_front corners fronts = subst (HasLowFront corners) (sym is_between)
+        (fronts middle (omega (arith, between_halves, gaps_count slots numbers, ap length are)))
+
+    -- so the place of vertex v is in the half that its lower edge tells
+    module _ (corners : List Point) (v : ℕ) (sorted : AreSortedBy corners gaps v)
+        (is : IsBetween corners gaps v part.low (part.low + length part.items)) where
+      abbrev high : ℕ
+      high = part.low + length part.items
+
+      below : middle < high
+      below = omega (arith, halves_length part before after value halves)
+
+      pub is_in_after : IsAbove corners (low_front seen) v → IsBetween corners gaps v after.low (after.low + length after.items)
+      is_in_after above =
+          let e : high ≡ after.low + length after.items = omega (arith, halves.after_low, halves_length part before after value halves) in
+          subst (λ l. IsBetween corners gaps v l (after.low + length after.items)) (sym halves.after_low)
+          (subst (IsBetween corners gaps v (middle + 1)) e
+          (low_moves corners gaps v sorted part.low high is middle below (subst (λ g. IsAbove corners (low_front g) v) is_between above)))
+
+      pub is_in_before : ¬ IsAbove corners (low_front seen) v → IsBetween corners gaps v before.low (before.low + length before.items)
+      is_in_before not =
+          subst (λ l. IsBetween corners gaps v l (l + length before.items)) (sym halves.low)
+          (high_moves corners gaps v sorted part.low high is middle (omega arith) below
+          (λ above. not (subst (λ g. IsAbove corners (low_front g) v) (sym is_between) above)))
 
 -- ---- the lower edges
 
@@ -110,15 +145,13 @@ open_have_low_fronts corners ranks k gaps are = λ j within. open_has_low_front 
 -- ---- the test
 
 -- the turn over the ends of the lower edge of a gap tells whether vertex v is above it
-pub above_by_turn : (corners : List Point) (start end : Point) (g seen : Gap) (v from to : ℕ) (turn : Direction) → HasLowFront corners g
-    → v < length corners → seen ≡ g → from ≡ (low_front seen).from → to ≡ (low_front seen).to
+pub above_by_turn : (corners : List Point) (start end : Point) (g : Gap) (v from to : ℕ) (turn : Direction) → HasLowFront corners g
+    → v < length corners → from ≡ (low_front g).from → to ≡ (low_front g).to
     → (let at : ℕ → Point = λ i. point_named corners start end (Corner i) in turn ≡ turn_of (whole (at from)) (whole (at to)) (whole (at v)))
     → (turn ≡ Left) ↔ IsAbove corners (low_front g) v
-above_by_turn corners start end g seen v from to turn has v_within seen_is from_is to_is turn_is =
+above_by_turn corners start end g v from to turn has v_within from_is to_is turn_is =
     let from_at : vertex corners (low_front g).from ≡ slice_index_or corners from origin
-    = vertex_in_range corners (low_front g).from origin has.from
-    ∙ ap (λ n. slice_index_or corners n origin) (sym (from_is ∙ ap (λ (gap : Gap). (low_front gap).from) seen_is)) in
+    = vertex_in_range corners (low_front g).from origin has.from ∙ ap (λ n. slice_index_or corners n origin) (sym from_is) in
     let to_at : vertex corners (low_front g).to ≡ slice_index_or corners to origin
-    = vertex_in_range corners (low_front g).to origin has.to
-    ∙ ap (λ n. slice_index_or corners n origin) (sym (to_is ∙ ap (λ (gap : Gap). (low_front gap).to) seen_is)) in
+    = vertex_in_range corners (low_front g).to origin has.to ∙ ap (λ n. slice_index_or corners n origin) (sym to_is) in
     rw (turn_is, from_at, to_at, vertex_in_range corners v origin v_within) (positive_of_left _, left_of_positive _)

@@ -4,7 +4,7 @@ ghost use Rattle.std.specs.Prelude.{◌≡◌, ◌+◌, ◌*◌, ◌^◌, ◌<�
 ghost use Rattle.shared_seq.specs.Digits.{binary_digits};
 ghost use Rattle.sweep_tri.specs.Frontier.{IsAbove, IsGapPlace};
 ghost use Rattle.sweep_tri.specs.Gaps.{gap_at, low_front};
-ghost use Rattle.sweep_tri.specs.Slots.{AreSortedBy, HaveLowFronts};
+ghost use Rattle.sweep_tri.specs.Slots.{AreSortedBy, HasLowFront, HaveLowFronts};
 
 use crate::gap::Gap;
 use exact_plane::{Direction, Memory, Spot, Steps, Turns};
@@ -122,8 +122,8 @@ impl Status {
         Ok(mem::replace(&mut self.slots[number as usize], Gap::none(alloc)))
     }
 
-    // The place of vertex `v`: the number of gaps whose lower edges it is above. It takes at most b (2 b + 2) steps, b the number
-    // of binary digits of that of the gaps.
+    // The place of vertex `v`: the number of gaps whose lower edges it is above. It takes at most 4 b steps, b the number of binary
+    // digits of that of the gaps.
     pub(crate) fn place<T: Turns, L: Ledger>(
         &self,
         board: &T,
@@ -134,36 +134,28 @@ impl Status {
         requires fronts { HaveLowFronts (T.corners board.now) self.now }
         requires sorted { AreSortedBy (T.corners board.now) self.now v }
         ensures place { IsGapPlace (T.corners board.now) self.now v result }
-        ensures steps { let b = binary_digits (length self.now) in steps.new ≤ steps.old + b * (2 * b + 2) }
+        ensures steps { steps.new ≤ steps.old + 4 * binary_digits (length self.now) }
     {
-        let mut low = 0;
-        let mut high = self.len();
-        while low < high {
-            let middle = low + (high - low) / 2;
-            if self.is_under(board, middle, v, steps) {
-                low = middle + 1;
+        let mut search = self.numbers.search();
+        while let Some(halves) = search.halves(steps) {
+            let gap = &self.slots[halves.value as usize];
+            search = if is_over(board, gap, v, steps) {
+                halves.after
             } else {
-                high = middle;
-            }
+                halves.before
+            };
         }
-        low
+        search.low()
     }
+}
 
-    // Whether vertex `v` is above the lower edge of the gap at `j`.
-    fn is_under<T: Turns, L: Ledger>(
-        &self,
-        board: &T,
-        j: usize,
-        v: u32,
-        steps: &mut Steps<L>,
-    ) -> bool
-        requires place { j < length self.now }
-        requires v { v < length (T.corners board.now) }
-        requires fronts { HaveLowFronts (T.corners board.now) self.now }
-        ensures above { IsTrue result ↔ IsAbove (T.corners board.now) (low_front (gap_at self.now j)) v }
-        ensures steps { steps.new ≤ steps.old + 2 * binary_digits (length self.now) + 2 }
-    {
-        let (from, to) = self.get(j, steps).low_front();
-        board.turn(Spot::Corner(from), Spot::Corner(to), Spot::Corner(v), steps) == Direction::Left
-    }
+// Whether vertex `v` is above the lower edge of a gap.
+fn is_over<T: Turns, L: Ledger>(board: &T, gap: &Gap, v: u32, steps: &mut Steps<L>) -> bool
+    requires v { v < length (T.corners board.now) }
+    requires front { HasLowFront (T.corners board.now) gap.now }
+    ensures above { IsTrue result ↔ IsAbove (T.corners board.now) (low_front gap.now) v }
+    ensures steps { steps.new ≤ steps.old + 1 }
+{
+    let (from, to) = gap.low_front();
+    board.turn(Spot::Corner(from), Spot::Corner(to), Spot::Corner(v), steps) == Direction::Left
 }

@@ -1,0 +1,83 @@
+ghost use Rattle.std.specs.Prelude.{◌≡◌, ◌+◌, ◌^◌, ◌<◌, ◌≤◌, ◌↔◌, [], min, IfSome, IsNone, length};
+ghost use Rattle.shared_seq.specs.Search.{AreHalves};
+ghost use Rattle.shared_seq.specs.Tree.{lent_at};
+
+use crate::node::{Node, Parts, count};
+use crate::side::Side;
+use exact_plane::Steps;
+use std::marker::Model;
+use std::rc::Rc;
+use std::sync::ledger::Ledger;
+
+/// A part of a list that is still to be searched.
+#[derive(Drop)]
+pub struct Search<'a> {
+    part: Option<&'a Rc<Node>>,
+    low: usize,
+}
+
+impl<'a> Model for Search<'a> {
+    ghost use Rattle.std.specs.Prelude.{◌+◌, ◌^◌, ◌<◌, length};
+    ghost use Rattle.shared_seq.specs.Search.{Part};
+    ghost use Rattle.shared_seq.specs.Tree.{lent_at};
+
+    ghost Value = { Part };
+
+    ghost view = { λ search. record { low = search.low; items = (lent_at search.part).items; levels = (lent_at search.part).height } };
+
+    ghost invariant = { λ search. search.low + length (lent_at search.part).items < 2 ^ 31 };
+}
+
+/// A value of a part of a list, and the parts before and after it.
+#[derive(Drop)]
+pub struct Halves<'a> {
+    pub before: Search<'a>,
+    pub value: u32,
+    pub after: Search<'a>,
+}
+
+impl<'a> Search<'a> {
+    // All values of a tree.
+    pub(crate) fn of(tree: Option<&'a Rc<Node>>) -> Search<'a>
+        requires short { length (lent_at tree).items < 2 ^ 31 }
+        ensures low { result.low ≡ 0 }
+        ensures items { result.items ≡ (lent_at tree.entry).items }
+        ensures levels { result.levels ≡ (lent_at tree.entry).height }
+    {
+        Search { part: tree, low: 0 }
+    }
+
+    /// The place of its first value in the list, or where there is none, the place where one would stand.
+    pub fn low(&self) -> usize
+        ensures { result ≡ self.now.low }
+    {
+        self.low
+    }
+
+    /// One of its values, and the parts before and after it; none where it has no value. That it has none takes no step.
+    pub fn halves<L: Ledger>(&self, steps: &mut Steps<L>) -> Option<Halves<'a>>
+        ensures halves { IfSome result (λ halves. AreHalves self.now halves.before halves.value halves.after) }
+        ensures none { IsNone result ↔ (self.now.items ≡ []) }
+        ensures steps { steps.new ≤ steps.old + min 1 self.now.levels }
+    {
+        let node = self.part?;
+        let Parts {
+            one: left,
+            value,
+            other: right,
+        } = node.parts(Side::Left, steps);
+        let before = Search {
+            part: left,
+            low: self.low,
+        };
+        let after = Search {
+            part: right,
+            low: self.low + count(left) + 1,
+        };
+        Some(Halves {
+            before,
+            value,
+            after,
+        })
+    }
+}
