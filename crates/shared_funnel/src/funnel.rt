@@ -8,6 +8,7 @@ ghost use Rattle.funnels.specs.Funnel.{IsPassed, IsReachedFrom};
 ghost use Rattle.exact_plane.specs.Spot.{IsNamed, point_named};
 ghost use Rattle.shared_seq.specs.Digits.{binary_digits};
 ghost use Rattle.shared_funnel.specs.Listed.{AreNumbers, IsNextFunnel, IsFunnelAt, listed_points};
+ghost use Rattle.shared_funnel.specs.NumberBefore.{IsNumberBefore};
 
 use crate::name::spot;
 use exact_plane::{Direction, Memory, Spot, Steps, Turns};
@@ -22,6 +23,14 @@ use std::sync::ledger::Ledger;
 pub struct Funnel {
     list: SharedSeq,
     apex: u32,
+}
+
+// The edge before a place, by the numbers at its ends. Before the first place there is none.
+#[derive(Clone, Copy)]
+struct Edge {
+    left: Option<u32>,
+    right: u32,
+    place: usize,
 }
 
 impl Model for Funnel {
@@ -93,56 +102,64 @@ impl Funnel {
             IsReachedFrom (listed_points (T.corners board.now) (T.start board.now) self.now.list) self.now.apex result (whole (at y)) }
         ensures steps { let b = binary_digits (length self.now.list) in steps.new ≤ steps.old + b * (4 * b + 3) }
     {
-        let mut low = 0;
-        let mut high = self.list.len();
-        while high - low > 1 {
-            let middle = low + (high - low) / 2;
-            if self.is_passed(board, n, middle, y, steps) {
-                low = middle;
+        let mut search = self.list.search();
+        let mut passed = None;
+        while let Some(halves) = search.halves(steps) {
+            let left = halves.before.last(steps).or(passed);
+            let right = halves.value;
+            let place = halves.after.low() - 1;
+            if self.is_passed(board, n, Edge { left, right, place }, y, steps) {
+                passed = Some(right);
+                search = halves.after;
             } else {
-                high = middle;
+                search = halves.before;
             }
         }
-        low
+        search.low() - 1
     }
 
-    // Whether the way to `y` passes the edge between places `j - 1` and `j`.
+    // Whether the way to `y` passes an edge. The one before the first place counts as passed.
     fn is_passed<T: Turns, L: Ledger>(
         &self,
         board: &T,
         n: u32,
-        j: usize,
+        edge: Edge,
         y: Spot,
         steps: &mut Steps<L>,
     ) -> bool
-        requires inner { 0 < j }
-        requires within { j < length self.now.list }
+        requires within { edge.place < length self.now.list }
+        requires left { IsNumberBefore self.now.list edge.place edge.left }
+        requires right { edge.right ≡ slice_index self.now.list edge.place }
         requires count { n ≡ length (T.corners board.now) }
         requires numbers { AreNumbers n self.now.list }
         requires y_named { IsNamed (T.corners board.now) y }
         ensures passed { let at = point_named (T.corners board.now) (T.start board.now) (T.goal board.now) in
-            IsTrue result ↔ IsPassed (listed_points (T.corners board.now) (T.start board.now) self.now.list) self.now.apex j (whole (at y)) }
-        ensures steps { steps.new ≤ steps.old + 4 * binary_digits (length self.now.list) + 3 }
+            0 < edge.place → (IsTrue result ↔ IsPassed (listed_points (T.corners board.now) (T.start board.now) self.now.list) self.now.apex edge.place (whole (at y))) }
+        ensures first { edge.place ≡ 0 → IsTrue result }
+        ensures steps { steps.new ≤ steps.old + 1 }
     {
-        let left = self.name(n, j - 1, steps);
-        let right = self.name(n, j, steps);
-        if j <= self.apex as usize {
+        let Some(left) = edge.left else {
+            return true;
+        };
+        let left = self.name(n, edge.place - 1, left);
+        let right = self.name(n, edge.place, edge.right);
+        if edge.place <= self.apex as usize {
             is_not_left(board.turn(right, left, y, steps))
         } else {
             board.turn(left, right, y, steps) == Direction::Right
         }
     }
 
-    // The name of the point at a place.
-    fn name<L: Ledger>(&self, n: u32, place: usize, steps: &mut Steps<L>) -> Spot
+    // The name of the point at a place, which has this number.
+    fn name(&self, n: u32, place: usize, number: u32) -> Spot
         requires place { place < length self.now.list }
+        requires number { number ≡ slice_index self.now.list place }
         requires numbers { AreNumbers n self.now.list }
         ensures named { (corners : List Point) → n ≡ length corners → IsNamed corners result }
         ensures point { (corners : List Point) (start goal : Point) → n ≡ length corners
             → point_named corners start goal result ≡ point_at (listed_points corners start self.now.list) place }
-        ensures steps { steps.new ≤ steps.old + 2 * binary_digits (length self.now.list) + 1 }
     {
-        spot(self.number(place, steps), n)
+        spot(number, n)
     }
 
     /// The funnel at the side from the left end to the corner `m` beyond, which is reached from the point at `place`.

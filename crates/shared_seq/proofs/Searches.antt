@@ -1,7 +1,7 @@
 -- The parts of a list that is searched by halves.
-use Rattle.std.proofs.Common.{◌≡◌, sym, ap, ◌∙◌, ℕ, ◌+◌, ◌≤◌, List, [], ◌∷◌, ◌++◌, length, slice_index, append_assoc, length-append, arith}
+use Rattle.std.proofs.Common.{◌≡◌, sym, ap, ◌∙◌, ℕ, ◌+◌, ◌<◌, ◌≤◌, List, [], ◌∷◌, ◌++◌, length, slice_index, append_assoc, length-append, arith}
 use Rattle.std.proofs.Math.Seq.{get_or-append_seam}
-use Rattle.std.proofs.lemmas.List.{append-nil, get_or-append-add}
+use Rattle.std.proofs.lemmas.List.{append-nil, get_or-append-add, get_or_append_left}
 use Rattle.shared_seq.specs.Search.{AreHalves, Part}
 
 -- the values of a part stand in the list, from its place on
@@ -30,13 +30,29 @@ part_within list part in_list = omega (
   in_list.place,
 )
 
+-- each at its place
+pub part_at : (list : List ℕ) (part : Part) (i : ℕ) → IsPartOf list part → i < length part.items
+    → slice_index list (part.low + i) ≡ slice_index part.items i
+part_at list part i in_list within =
+    ap (λ n. slice_index list (n + i)) (sym in_list.place)
+    ∙ ap (λ items. slice_index items (length in_list.front + i)) in_list.is
+    ∙ get_or-append-add in_list.front (part.items ++ in_list.back) i 0
+    ∙ get_or_append_left part.items in_list.back 0 i within
+
 module _ (part before after : Part) (value : ℕ) (halves : AreHalves part before value after) where
-  -- a part has the values of its halves and one more,
+  -- a part has the values of its halves and one more, and
   pub halves_length : length part.items ≡ length before.items + length after.items + 1
   halves_length = omega (arith, ap length halves.items, length-append before.items (value ∷ after.items))
 
+  -- ends where the half after it ends,
+  pub after_end : part.low + length part.items ≡ after.low + length after.items
+  after_end = omega (arith, halves.after_low, halves_length)
+
   module _ (list : List ℕ) (in_list : IsPartOf list part) where
-    -- which is the one at the place between them,
+    -- the value is the one at the place between them,
+    pub middle_within : part.low + length before.items < length list
+    middle_within = omega (arith, part_within list part in_list, halves_length)
+
     in_two : list ≡ in_list.front ++ (before.items ++ value ∷ (after.items ++ in_list.back))
     in_two = in_list.is ∙ ap (λ items. in_list.front ++ (items ++ in_list.back)) halves.items
         ∙ ap (λ items. in_list.front ++ items) (append_assoc before.items (value ∷ after.items) in_list.back)

@@ -1,4 +1,4 @@
-ghost use Rattle.std.specs.Prelude.{◌≡◌, ◌+◌, ◌^◌, ◌<◌, ◌≤◌, ◌↔◌, [], min, IfSome, IsNone, length};
+ghost use Rattle.std.specs.Prelude.{◌≡◌, ◌+◌, ◌-◌, ◌^◌, ◌<◌, ◌≤◌, ◌↔◌, [], min, IfSome, IsNone, length, slice_index};
 ghost use Rattle.shared_seq.specs.Search.{AreHalves};
 ghost use Rattle.shared_seq.specs.Tree.{lent_at};
 
@@ -54,6 +54,15 @@ impl<'a> Search<'a> {
         self.low
     }
 
+    /// Its last value; none where it has no value.
+    pub fn last<L: Ledger>(&self, steps: &mut Steps<L>) -> Option<u32>
+        ensures last { IfSome result (λ value. value ≡ slice_index self.now.items (length self.now.items - 1)) }
+        ensures none { IsNone result ↔ (self.now.items ≡ []) }
+        ensures steps { steps.new ≤ steps.old + self.now.levels }
+    {
+        Some(last(self.part?, steps))
+    }
+
     /// One of its values, and the parts before and after it; none where it has no value. That it has none takes no step.
     pub fn halves<L: Ledger>(&self, steps: &mut Steps<L>) -> Option<Halves<'a>>
         ensures halves { IfSome result (λ halves. AreHalves self.now halves.before halves.value halves.after) }
@@ -79,5 +88,22 @@ impl<'a> Search<'a> {
             value,
             after,
         })
+    }
+}
+
+// The last value of a tree.
+fn last<L: Ledger>(tree: &Rc<Node>, steps: &mut Steps<L>) -> u32
+    ensures last { let items = tree.now.value.items in result ≡ slice_index items (length items - 1) }
+    ensures some { 0 < length tree.now.value.items }
+    ensures steps { steps.new ≤ steps.old + tree.now.value.height }
+{
+    let Parts {
+        value,
+        other: right,
+        ..
+    } = tree.parts(Side::Left, steps);
+    match right {
+        Some(right) => last(right, steps),
+        None => value,
     }
 }

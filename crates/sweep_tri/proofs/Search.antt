@@ -12,7 +12,7 @@ use Rattle.exact_plane.specs.Spot.{point_named}
 use Rattle.exact_plane.specs.declared.direction.Direction.{Direction}
 use Rattle.exact_plane.specs.declared.direction.Direction.TheVariants.{Left}
 use Rattle.exact_plane.specs.declared.turns.Spot.TheVariants.{Corner}
-use Rattle.shared_seq.proofs.Searches.{IsPartOf, halves_length, middle_is, part_within}
+use Rattle.shared_seq.proofs.Searches.{IsPartOf, after_end, halves_length, middle_is, middle_within}
 use Rattle.shared_seq.specs.Search.{AreHalves, Part}
 use Rattle.sweep_tri.proofs.Slots.{gap_is, gaps_count}
 use Rattle.sweep_tri.proofs.Swept.{low_region}
@@ -86,7 +86,7 @@ module _ (slots : List Gap) (numbers : List ℕ) (gaps : List Gap) (are : gaps_o
   middle = part.low + length before.items
 
   between_halves : middle < length numbers
-  between_halves = omega (arith, part_within numbers part in_list, halves_length part before after value halves)
+  between_halves = middle_within part before after value halves numbers in_list
 
   -- it is that of a slot,
   pub is_slot : value < length slots
@@ -115,9 +115,8 @@ module _ (slots : List Gap) (numbers : List ℕ) (gaps : List Gap) (are : gaps_o
 
       pub is_in_after : IsAbove corners (low_front seen) v → IsBetween corners gaps v after.low (after.low + length after.items)
       is_in_after above =
-          let e : high ≡ after.low + length after.items = omega (arith, halves.after_low, halves_length part before after value halves) in
           subst (λ l. IsBetween corners gaps v l (after.low + length after.items)) (sym halves.after_low)
-          (subst (IsBetween corners gaps v (middle + 1)) e
+          (subst (IsBetween corners gaps v (middle + 1)) (after_end part before after value halves)
           (low_moves corners gaps v sorted part.low high is middle below (subst (λ g. IsAbove corners (low_front g) v) is_between above)))
 
       pub is_in_before : ¬ IsAbove corners (low_front seen) v → IsBetween corners gaps v before.low (before.low + length before.items)

@@ -1,70 +1,78 @@
-use Rattle.std.proofs.Common.{◌≡◌, sym, ap, subst, ◌∙◌, ◌+◌, ◌-◌, ◌*◌, ◌/◌, ◌<◌, length, arith}
-use Rattle.std.proofs.lemmas.Bool.{false≢true}
+use Rattle.std.proofs.Common.{◌≡◌, inl, inr, sym, ap, subst, ◌∙◌, ◌+◌, ◌-◌, ◌*◌, ◌<◌, ◌≤◌, length, arith}
+use Rattle.std.proofs.lemmas.Bool.{cases_lt, false≢true}
 use Rattle.std.proofs.lemmas.List.{length-map}
 use Rattle.std.proofs.lemmas.Nat.{mul-le}
 use Rattle.plane.specs.Point.{whole}
 use Rattle.exact_plane.specs.Spot.{point_named}
-use Rattle.shared_seq.proofs.Digits.{binary_digits_mono}
+use Rattle.shared_seq.proofs.Searches.{after_is_part, before_is_part, whole_is_part}
 use Rattle.shared_seq.specs.Digits.{binary_digits}
-use Rattle.shared_funnel.proofs.Halving.{IsHalved, halving_ends, halving_starts, high_moves, low_moves, round_paid}
+use Rattle.shared_funnel.proofs.Halving.{IsHalved, halving_starts, is_in_after, is_in_before, left_is, next_is, round_paid}
 use Rattle.shared_funnel.proofs.funnel.Funnel.place.Goals as goal
 use Rattle.shared_funnel.specs.Listed.{point_of, listed_points}
+use Rattle.shared_funnel.specs.NumberBefore.{IsNumberBefore}
 
-pub loop-high-init : goal.loop-high-init
-loop-high-init g c =
+pub loop-halves-init : goal.loop-halves-init
+loop-halves-init g c =
     let corners = g.T.Turns.corners c.args.board.now in
     let start = g.T.Turns.start c.args.board.now in
     let list = c.args.self.now.list in
     let y = whole (point_named corners start (g.T.Turns.goal c.args.board.now) c.args.y) in
     let b = binary_digits (length list) in
-    let count : c.len-high.result ≡ length list = c.len-high.ensures.number ∙ ap (λ l. length l.list) c.self.view_is in
-    let size : length (listed_points corners start list) ≡ c.len-high.result = length-map list (point_of corners start) ∙ sym count in
+    let all = c.search-search.ensures.items ∙ ap (λ l. l.list) c.self.view_is in
+    let size : length (listed_points corners start list) ≡ c.search-search.result.low + length c.search-search.result.items =
+    length-map list (point_of corners start) ∙ omega (arith, ap length all, c.search-search.ensures.low) in
+    let few : c.search-search.result.levels ≤ 2 * b = omega (
+      arith,
+      c.search-search.ensures.levels,
+      ap (λ l. binary_digits (length l.list)) c.self.view_is,
+    ) in
+    let first : 0 ≡ c.search-search.result.low - 1 = omega (arith, c.search-search.ensures.low) in
     record {
-      halved = subst (λ n. IsHalved (listed_points corners start list) c.args.self.now.apex y 0 n) size
-          (halving_starts (listed_points corners start list) c.args.self.now.apex y (omega (arith, size, count, c.requires.some)));
+      halved = subst (λ low. IsHalved (listed_points corners start list) c.args.self.now.apex y low
+          (c.search-search.result.low + length c.search-search.result.items)) first
+          (subst (IsHalved (listed_points corners start list) c.args.self.now.apex y 0) size
+          (halving_starts (listed_points corners start list) c.args.self.now.apex y (omega (arith, length-map list (point_of corners start), c.requires.some))));
+      part = whole_is_part list c.search-search.result c.search-search.ensures.low all;
+      passed = c.search-search.ensures.low;
       steps = omega (
         arith,
-        mul-le (binary_digits (c.len-high.result - 0 - 1)) (4 * b + 3) b (4 * b + 3)
-            (binary_digits_mono (c.len-high.result - 0 - 1) (length list) (omega (arith, count))) (omega arith),
+        mul-le c.search-search.result.levels (c.search-search.result.levels + 1) (2 * b) (2 * b + 1) few (omega (arith, few)),
       );
     }
 
-pub loop-high-preserved-then-is_passed : goal.loop-high-preserved-then-is_passed
-loop-high-preserved-then-is_passed g c =
-    let low = c.loop-high.low in
-    let high = c.loop-high.high in
-    let middle = low + (high - low) / 2 in
-    let takes = 4 * binary_digits (length c.args.self.now.list) + 3 in
-    let more : 1 < high - low = c.loop-high-test.true in
+pub is_passed-requires-clause-left : goal.is_passed-requires-clause-left
+is_passed-requires-clause-left g c =
+    let halves = c.in-Some.ensures.halves in
+    let loop = c.loop-halves.invariant in
+    let place : c.low-place.result - 1 ≡ c.in-Some.halves.after.low - 1 = omega (arith, c.low-place.ensures) in
+    subst (IsNumberBefore c.args.self.now.list (c.low-place.result - 1)) (sym c.or-left.ensures)
+    (left_is _ _ _ _ _ _ halves loop.part place _ _ c.last.ensures.last c.last.ensures.none loop.passed)
+
+pub loop-halves-preserved-then-is_passed : goal.loop-halves-preserved-then-is_passed
+loop-halves-preserved-then-is_passed g c =
+    let halves = c.in-Some.ensures.halves in
+    let loop = c.loop-halves.invariant in
+    let place : c.low-place.result - 1 ≡ c.in-Some.halves.after.low - 1 = omega (arith, c.low-place.ensures) in
     record {
-      halved = low_moves _ _ _ low high c.loop-high.invariant.halved middle (omega (arith, more))
-          (c.is_passed.ensures.passed.0 c.if-is_passed.true);
-      steps = omega (
-        arith,
-        c.is_passed.ensures.steps,
-        c.loop-high.invariant.steps,
-        round_paid takes (high - low) (high - middle) more (omega (arith, more)) (omega (arith, more)),
-      );
+      halved = is_in_after _ _ _ _ _ _ halves loop.part place _ _ _ loop.halved (λ some. (c.is_passed.ensures.passed some).0 c.if-is_passed.true);
+      part = after_is_part _ _ _ _ halves _ loop.part;
+      passed = next_is _ _ _ _ _ _ halves loop.part place;
+      steps = omega (arith, halves.before_levels, round_paid c.loop-halves.search.levels c.in-Some.halves.after.levels halves.after_levels);
     }
 
-pub loop-high-preserved : goal.loop-high-preserved
-loop-high-preserved g c =
-    let low = c.loop-high.low in
-    let high = c.loop-high.high in
-    let middle = low + (high - low) / 2 in
-    let takes = 4 * binary_digits (length c.args.self.now.list) + 3 in
-    let more : 1 < high - low = c.loop-high-test.true in
+pub loop-halves-preserved : goal.loop-halves-preserved
+loop-halves-preserved g c =
+    let halves = c.in-Some.ensures.halves in
+    let loop = c.loop-halves.invariant in
+    let place : c.low-place.result - 1 ≡ c.in-Some.halves.after.low - 1 = omega (arith, c.low-place.ensures) in
+    let some : 0 < c.low-place.result - 1 = elim (cases_lt 0 (c.low-place.result - 1)) [
+      | inl more ↦ more
+      | inr fewer ↦ absurd (false≢true (sym c.if-is_passed.false ∙ c.is_passed.ensures.first (omega (arith, fewer))))
+    ] in
     record {
-      halved = high_moves _ _ _ low high c.loop-high.invariant.halved middle (omega (arith, more)) (omega (arith, more))
-          (λ passed. false≢true (sym c.if-is_passed.false ∙ c.is_passed.ensures.passed.1 passed));
-      steps = omega (
-        arith,
-        c.is_passed.ensures.steps,
-        c.loop-high.invariant.steps,
-        round_paid takes (high - low) (middle - low) more (omega (arith, more)) (omega (arith, more)),
-      );
+      halved = is_in_before _ _ _ _ _ _ halves loop.part place _ _ _ loop.halved some
+          (λ passed. false≢true (sym c.if-is_passed.false ∙ (c.is_passed.ensures.passed some).1 passed));
+      part = before_is_part _ _ _ _ halves _ loop.part;
+      passed = subst (λ low. IsNumberBefore c.args.self.now.list low c.loop-halves.passed) (sym halves.low) loop.passed;
+      steps = omega (arith, halves.before_levels, round_paid c.loop-halves.search.levels c.in-Some.halves.before.levels halves.before_levels);
     }
-
-pub returns-clause-reached : goal.returns-clause-reached
-returns-clause-reached g c =
-    halving_ends _ _ _ c.loop-high.low c.loop-high.high c.loop-high.invariant.halved (omega (arith, c.loop-high-test.false))
