@@ -21,7 +21,10 @@ single 0 7 | 1 2 3 | 7
 push_front 0 0 | 1 2 3 | 0 1 2 3
 insert_at 1 9 | 1 2 3 | 1 9 2 3
 set 1 9 | 1 2 3 | 1 9 3
-remove_at 1 0 | 1 2 3 | 1 3";
+remove_at 1 0 | 1 2 3 | 1 3
+search 0 3 | 1 2 3 + 4 5 | 2 5
+search 0 0 | 1 2 3 + 4 5 | 0 5
+search 0 9 | 1 2 3 + 4 5 | 5 5";
 
 #[test]
 fn shared_lists_are_joined_split_and_changed(rt: HostRuntime) {
@@ -136,8 +139,30 @@ fn made_by<L: Ledger>(
         "insert_at" => list.insert_at(alloc, at, value, steps).ok(),
         "set" => list.set(alloc, at, value, steps).ok(),
         "remove_at" => list.remove_at(alloc, at, steps).ok(),
+        "search" => searched(alloc, list, value, steps),
         _ => None,
     }
+}
+
+// How many values of a list that rises are below this one, and its last value.
+fn searched<L: Ledger>(
+    alloc: Global,
+    list: &SharedSeq,
+    value: u32,
+    steps: &mut Steps<L>,
+) -> Option<SharedSeq> {
+    let mut search = list.search();
+    let last = search.last(steps)?;
+    while let Some(halves) = search.halves(steps) {
+        search = if halves.value < value {
+            halves.after
+        } else {
+            halves.before
+        };
+    }
+    let place = u32::try_from(search.low()).ok()?;
+    let below = SharedSeq::single(alloc, place, steps).ok()?;
+    push(alloc, &below, last, steps)
 }
 
 // Whether the list has these numbers, with no plus between them.
