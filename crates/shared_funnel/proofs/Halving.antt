@@ -1,4 +1,4 @@
--- A search by halves for the place of a funnel from which a point is reached, and how many rounds it has.
+-- A search by halves for the place of a funnel from which a point is reached, and what its rounds take.
 use Rattle.std.proofs.Common.{◌≡◌, ◌↔◌, refl, sym, ap, subst, ◌∙◌, inl, inr, List, [], length, ℕ, ◌+◌, ◌-◌, ◌*◌, ◌<◌, ◌≤◌, slice_index, arith}
 use Rattle.std.proofs.lemmas.Bool.{cases_lt, true≢false}
 use Rattle.std.proofs.lemmas.List.{nil_from_length}
@@ -6,9 +6,9 @@ use Rattle.std.proofs.lemmas.Nat.{mul-le}
 use Rattle.std.specs.Option.{option_or}
 use Rattle.std.specs.Prelude.{IfSome, IsNone, None, Option, Some}
 use Rattle.plane.specs.Point.{Point, Triple}
-use Rattle.funnels.specs.Funnel.{IsPassed, IsReachedFrom}
+use Rattle.funnels.specs.Funnel.{IsPassed}
 use Rattle.shared_funnel.specs.NumberBefore.{IsNumberBefore}
-use Rattle.shared_seq.proofs.Searches.{IsPartOf, after_end, before_is_part, halves_length, middle_is, middle_within, part_at}
+use Rattle.shared_seq.proofs.Searches.{IsPartOf, after_end, before_is_part, halves_length, middle_is, part_at}
 use Rattle.shared_seq.specs.Search.{AreHalves, Part}
 
 -- ---- the places
@@ -20,39 +20,14 @@ pub record IsHalved (ns : List Point) (a : ℕ) (y : Triple) (low high : ℕ) : 
   pub passed : 0 < low → IsPassed ns a low y
   pub not_passed : high < length ns → ¬ IsPassed ns a high y
 
-module _ (ns : List Point) (a : ℕ) (y : Triple) where
-  -- at first it may be any,
-  pub halving_starts : 0 < length ns → IsHalved ns a y 0 (length ns)
-  halving_starts some = record {
-    some = some;
-    inside = omega arith;
-    passed = λ more. absurd (omega (arith, more));
-    not_passed = λ more. absurd (omega (arith, more));
-  }
-
-  module _ (low high : ℕ) (h : IsHalved ns a y low high) where
-    -- where an edge between is passed, it is not before,
-    pub low_moves : (middle : ℕ) → middle < high → IsPassed ns a middle y → IsHalved ns a y middle high
-    low_moves middle less is = record { some = less; inside = h.inside; passed = λ _. is; not_passed = h.not_passed }
-
-    -- and where it is not, it is before
-    pub high_moves : (middle : ℕ) → low < middle → middle < high → ¬ IsPassed ns a middle y → IsHalved ns a y low middle
-    high_moves middle more less is = record {
-      some = more;
-      inside = omega (arith, less, h.inside);
-      passed = h.passed;
-      not_passed = λ _. is;
-    }
-
-    -- and where one place is left, the point is reached from there
-    pub halving_ends : high ≤ low + 1 → IsReachedFrom ns a low y
-    halving_ends one =
-        let e : high ≡ low + 1 = omega (arith, one, h.some) in
-        record {
-          within = omega (arith, h.some, h.inside);
-          passed = h.passed;
-          not_passed = λ more. subst (λ k. ¬ IsPassed ns a k y) e (h.not_passed (omega (arith, e, more)));
-        }
+-- at first it may be any
+pub halving_starts : (ns : List Point) (a : ℕ) (y : Triple) → 0 < length ns → IsHalved ns a y 0 (length ns)
+halving_starts ns a y some = record {
+  some = some;
+  inside = omega arith;
+  passed = λ more. absurd (omega (arith, more));
+  not_passed = λ more. absurd (omega (arith, more));
+}
 
 -- ---- the part of the numbers that is left
 
@@ -64,9 +39,6 @@ module _ (list : List ℕ) (part before after : Part) (value j : ℕ) (halves : 
 
   there : part.low + half ≡ j
   there = omega (arith, place, halves.after_low)
-
-  pub within : j < length list
-  within = omega (arith, there, middle_within part before after value halves list in_list)
 
   pub right_is : value ≡ slice_index list j
   right_is = sym (middle_is part before after value halves list in_list) ∙ ap (slice_index list) there
@@ -110,7 +82,7 @@ module _ (list : List ℕ) (part before after : Part) (value j : ℕ) (halves : 
         let e : j ≡ before.low + half = omega (arith, there, halves.low) in
         subst (λ l. IsHalved ns a y (l - 1) (before.low + half)) (sym halves.low)
         (subst (IsHalved ns a y (part.low - 1)) e
-        (high_moves ns a y (part.low - 1) high is j (omega (arith, more, there)) below not))
+        (record { some = omega (arith, more, there); inside = omega (arith, below, is.inside); passed = is.passed; not_passed = λ _. not }))
 
 -- ---- the rounds
 

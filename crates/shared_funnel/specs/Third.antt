@@ -1,5 +1,5 @@
 -- The third corner of a triangle, across from one of its sides. This project's own.
-use Rattle.std.specs.Prelude.{ℕ, List, [], ◌∷◌, slice_index_or}
+use Rattle.std.specs.Prelude.{ℕ, [], ◌∷◌, slice_index_or}
 use Rattle.meshes.specs.Side.{HasSide}
 use Rattle.meshes.specs.declared.tri.Tri.{Tri}
 

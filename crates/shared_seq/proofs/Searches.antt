@@ -40,16 +40,16 @@ part_at list part i in_list within =
     ∙ get_or_append_left part.items in_list.back 0 i within
 
 module _ (part before after : Part) (value : ℕ) (halves : AreHalves part before value after) where
-  -- a part has the values of its halves and one more, and
+  -- a part has the values of its halves and one more,
   pub halves_length : length part.items ≡ length before.items + length after.items + 1
   halves_length = omega (arith, ap length halves.items, length-append before.items (value ∷ after.items))
 
-  -- ends where the half after it ends,
+  -- and ends where the half after the value ends
   pub after_end : part.low + length part.items ≡ after.low + length after.items
   after_end = omega (arith, halves.after_low, halves_length)
 
   module _ (list : List ℕ) (in_list : IsPartOf list part) where
-    -- the value is the one at the place between them,
+    -- the value is the one of the list at the place between the halves,
     pub middle_within : part.low + length before.items < length list
     middle_within = omega (arith, part_within list part in_list, halves_length)
 
@@ -63,7 +63,7 @@ module _ (part before after : Part) (value : ℕ) (halves : AreHalves part befor
         ∙ get_or-append-add in_list.front (before.items ++ value ∷ (after.items ++ in_list.back)) (length before.items) 0
         ∙ get_or-append_seam before.items value (after.items ++ in_list.back) 0
 
-    -- and they are parts of the list
+    -- and the halves are parts of the list
     pub before_is_part : IsPartOf list before
     before_is_part = record {
       front = in_list.front;

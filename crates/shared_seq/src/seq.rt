@@ -69,7 +69,7 @@ impl SharedSeq {
         tree::get(self.node(), i, steps)
     }
 
-    /// The whole list, to be searched by halves.
+    /// The whole list, that a search may halve.
     pub fn search(&self) -> Search
         ensures low { result.low ≡ 0 }
         ensures items { result.items ≡ self.now }

@@ -16,7 +16,7 @@ use Rattle.shared_seq.proofs.Searches.{IsPartOf, after_end, halves_length, middl
 use Rattle.shared_seq.specs.Search.{AreHalves, Part}
 use Rattle.sweep_tri.proofs.Slots.{gap_is, gaps_count}
 use Rattle.sweep_tri.proofs.Swept.{low_region}
-use Rattle.sweep_tri.specs.Frontier.{IsAbove, IsGapPlace}
+use Rattle.sweep_tri.specs.Frontier.{IsAbove}
 use Rattle.sweep_tri.specs.Gaps.{gap_at, low_front, no_gap}
 use Rattle.sweep_tri.specs.Open.{IsOpenGap}
 use Rattle.sweep_tri.specs.Region.{IsRegion}
@@ -32,49 +32,32 @@ pub record IsBetween (corners : List Point) (gaps : List Gap) (v low high : ℕ)
   pub above : (j : ℕ) → j < low → IsAbove corners (low_front (gap_at gaps j)) v
   pub not_above : (j : ℕ) → high ≤ j → j < length gaps → ¬ IsAbove corners (low_front (gap_at gaps j)) v
 
-module _ (corners : List Point) (gaps : List Gap) (v : ℕ) where
-  -- at first it may be any,
-  pub search_starts : IsBetween corners gaps v 0 (length gaps)
-  search_starts = record {
-    ordered = omega arith;
-    inside = omega arith;
-    above = λ j less. absurd (omega (arith, less));
-    not_above = λ j more less. absurd (omega (arith, more, less));
+module _ (corners : List Point) (gaps : List Gap) (v : ℕ) (sorted : AreSortedBy corners gaps v) (low high : ℕ)
+    (is : IsBetween corners gaps v low high) where
+  -- where v is above the lower edge of a gap, its place is after it,
+  pub low_moves : (middle : ℕ) → middle < high → IsAbove corners (low_front (gap_at gaps middle)) v
+      → IsBetween corners gaps v (middle + 1) high
+  low_moves middle less above = record {
+    ordered = omega (arith, less);
+    inside = is.inside;
+    above = λ j fewer. elim (cases_eq j middle) [
+      | inl same ↦ subst (λ i. IsAbove corners (low_front (gap_at gaps i)) v) (sym same) above
+      | inr other ↦ sorted j middle (omega (arith, fewer, other)) (omega (arith, less, is.inside)) above
+    ];
+    not_above = is.not_above;
   }
 
-  module _ (sorted : AreSortedBy corners gaps v) (low high : ℕ) (is : IsBetween corners gaps v low high) where
-    -- where v is above the lower edge of a gap, its place is after it,
-    pub low_moves : (middle : ℕ) → middle < high → IsAbove corners (low_front (gap_at gaps middle)) v
-        → IsBetween corners gaps v (middle + 1) high
-    low_moves middle less above = record {
-      ordered = omega (arith, less);
-      inside = is.inside;
-      above = λ j fewer. elim (cases_eq j middle) [
-        | inl same ↦ subst (λ i. IsAbove corners (low_front (gap_at gaps i)) v) (sym same) above
-        | inr other ↦ sorted j middle (omega (arith, fewer, other)) (omega (arith, less, is.inside)) above
-      ];
-      not_above = is.not_above;
-    }
-
-    -- where it is not, its place is not after it,
-    pub high_moves : (middle : ℕ) → low ≤ middle → middle < high → ¬ IsAbove corners (low_front (gap_at gaps middle)) v
-        → IsBetween corners gaps v low middle
-    high_moves middle more less not_above = record {
-      ordered = more;
-      inside = omega (arith, less, is.inside);
-      above = is.above;
-      not_above = λ j from within above. elim (cases_eq j middle) [
-        | inl same ↦ not_above (subst (λ i. IsAbove corners (low_front (gap_at gaps i)) v) same above)
-        | inr other ↦ not_above (sorted middle j (omega (arith, from, other)) within above)
-      ];
-    }
-
-  -- and where one place is left, it is the one
-  pub search_ends : (low high : ℕ) → IsBetween corners gaps v low high → high ≤ low → IsGapPlace corners gaps v low
-  search_ends low high is one = record {
-    inside = omega (arith, is.ordered, is.inside);
+  -- and where it is not, its place is not after it
+  pub high_moves : (middle : ℕ) → low ≤ middle → middle < high → ¬ IsAbove corners (low_front (gap_at gaps middle)) v
+      → IsBetween corners gaps v low middle
+  high_moves middle more less not_above = record {
+    ordered = more;
+    inside = omega (arith, less, is.inside);
     above = is.above;
-    not_above = λ j from within. is.not_above j (omega (arith, one, from)) within;
+    not_above = λ j from within above. elim (cases_eq j middle) [
+      | inl same ↦ not_above (subst (λ i. IsAbove corners (low_front (gap_at gaps i)) v) same above)
+      | inr other ↦ not_above (sorted middle j (omega (arith, from, other)) within above)
+    ];
   }
 
 -- ---- the part of the numbers that is left
