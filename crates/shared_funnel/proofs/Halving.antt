@@ -7,9 +7,9 @@ use Rattle.std.specs.Option.{option_or}
 use Rattle.std.specs.Prelude.{IfSome, IsNone, None, Option, Some}
 use Rattle.plane.specs.Point.{Point, Triple}
 use Rattle.funnels.specs.Funnel.{IsPassed}
-use Rattle.shared_funnel.specs.NumberBefore.{IsNumberBefore}
+use Rattle.shared_funnel.specs.Preceding.{IsPrecededBy}
 use Rattle.shared_seq.proofs.Searches.{IsPartOf, after_end, before_is_part, halves_length, middle_is, part_at}
-use Rattle.shared_seq.specs.Search.{AreHalves, Part}
+use Rattle.shared_seq.specs.Search.{AreHalves, ListPart}
 
 -- ---- the places
 
@@ -32,7 +32,7 @@ halving_starts ns a y some = record {
 -- ---- the part of the numbers that is left
 
 -- a list is halved at the number at place j
-module _ (list : List ℕ) (part before after : Part) (value j : ℕ) (halves : AreHalves part before value after) (in_list : IsPartOf list part)
+module _ (list : List ℕ) (part before after : ListPart) (value j : ℕ) (halves : AreHalves part before value after) (in_list : IsPartOf list part)
     (place : j ≡ after.low - 1) where
   abbrev half : ℕ
   half = length before.items
@@ -45,9 +45,9 @@ module _ (list : List ℕ) (part before after : Part) (value j : ℕ) (halves : 
 
   -- the number before it is the last one of the half before, or else that before the part,
   pub left_is : (last passed : Option ℕ) → IfSome last (λ number. number ≡ slice_index before.items (half - 1)) → IsNone last ↔ (before.items ≡ [])
-      → IsNumberBefore list part.low passed → IsNumberBefore list j (option_or last passed)
+      → IsPrecededBy list part.low passed → IsPrecededBy list j (option_or last passed)
   left_is None passed is none known =
-      subst (λ k. IsNumberBefore list k passed) (omega (arith, there, ap length (none.0 refl))) known
+      subst (λ k. IsPrecededBy list k passed) (omega (arith, there, ap length (none.0 refl))) known
   left_is (Some number) passed is none known =
       let some : 0 < half = elim (cases_lt 0 half) [
         | inl more ↦ more
@@ -60,7 +60,7 @@ module _ (list : List ℕ) (part before after : Part) (value j : ℕ) (halves : 
       )
 
   -- and it is itself before what comes after it
-  pub next_is : IsNumberBefore list after.low (Some value)
+  pub next_is : IsPrecededBy list after.low (Some value)
   next_is = (omega (arith, halves.after_low), right_is ∙ ap (slice_index list) place)
 
   -- where the edge before it is passed, or there is none, the place is there or after it, and else before it

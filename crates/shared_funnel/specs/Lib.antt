@@ -1,4 +1,4 @@
 pub mod Entered
 pub mod Listed
-pub mod NumberBefore
+pub mod Preceding
 pub mod Third

@@ -8,7 +8,7 @@ ghost use Rattle.funnels.specs.Funnel.{IsPassed, IsReachedFrom};
 ghost use Rattle.exact_plane.specs.Spot.{IsNamed, point_named};
 ghost use Rattle.shared_seq.specs.Digits.{binary_digits};
 ghost use Rattle.shared_funnel.specs.Listed.{AreNumbers, IsNextFunnel, IsFunnelAt, listed_points};
-ghost use Rattle.shared_funnel.specs.NumberBefore.{IsNumberBefore};
+ghost use Rattle.shared_funnel.specs.Preceding.{IsPrecededBy};
 
 use crate::name::spot;
 use exact_plane::{Direction, Memory, Spot, Steps, Turns};
@@ -128,7 +128,7 @@ impl Funnel {
         steps: &mut Steps<L>,
     ) -> bool
         requires within { edge.place < length self.now.list }
-        requires left { IsNumberBefore self.now.list edge.place edge.left }
+        requires left { IsPrecededBy self.now.list edge.place edge.left }
         requires right { edge.right ≡ slice_index self.now.list edge.place }
         requires count { n ≡ length (T.corners board.now) }
         requires numbers { AreNumbers n self.now.list }

@@ -2,17 +2,17 @@
 use Rattle.std.proofs.Common.{◌≡◌, sym, ap, ◌∙◌, ℕ, ◌+◌, ◌<◌, ◌≤◌, List, [], ◌∷◌, ◌++◌, length, slice_index, append_assoc, length-append, arith}
 use Rattle.std.proofs.Math.Seq.{get_or-append_seam}
 use Rattle.std.proofs.lemmas.List.{append-nil, get_or-append-add, get_or_append_left}
-use Rattle.shared_seq.specs.Search.{AreHalves, Part}
+use Rattle.shared_seq.specs.Search.{AreHalves, ListPart}
 
 -- the values of a part stand in the list, from its place on
-pub record IsPartOf (list : List ℕ) (part : Part) : Type 0 where
+pub record IsPartOf (list : List ℕ) (part : ListPart) : Type 0 where
   pub front : List ℕ
   pub back : List ℕ
   pub is : list ≡ front ++ (part.items ++ back)
   pub place : length front ≡ part.low
 
 -- so do those of the whole list,
-pub whole_is_part : (list : List ℕ) (part : Part) → part.low ≡ 0 → part.items ≡ list → IsPartOf list part
+pub whole_is_part : (list : List ℕ) (part : ListPart) → part.low ≡ 0 → part.items ≡ list → IsPartOf list part
 whole_is_part list part first all = record {
   front = [];
   back = [];
@@ -21,7 +21,7 @@ whole_is_part list part first all = record {
 }
 
 -- and they end where the list ends, or before
-pub part_within : (list : List ℕ) (part : Part) → IsPartOf list part → part.low + length part.items ≤ length list
+pub part_within : (list : List ℕ) (part : ListPart) → IsPartOf list part → part.low + length part.items ≤ length list
 part_within list part in_list = omega (
   arith,
   ap length in_list.is,
@@ -31,7 +31,7 @@ part_within list part in_list = omega (
 )
 
 -- each at its place
-pub part_at : (list : List ℕ) (part : Part) (i : ℕ) → IsPartOf list part → i < length part.items
+pub part_at : (list : List ℕ) (part : ListPart) (i : ℕ) → IsPartOf list part → i < length part.items
     → slice_index list (part.low + i) ≡ slice_index part.items i
 part_at list part i in_list within =
     ap (λ n. slice_index list (n + i)) (sym in_list.place)
@@ -39,7 +39,7 @@ part_at list part i in_list within =
     ∙ get_or-append-add in_list.front (part.items ++ in_list.back) i 0
     ∙ get_or_append_left part.items in_list.back 0 i within
 
-module _ (part before after : Part) (value : ℕ) (halves : AreHalves part before value after) where
+module _ (part before after : ListPart) (value : ℕ) (halves : AreHalves part before value after) where
   -- a part has the values of its halves and one more,
   pub halves_length : length part.items ≡ length before.items + length after.items + 1
   halves_length = omega (arith, ap length halves.items, length-append before.items (value ∷ after.items))

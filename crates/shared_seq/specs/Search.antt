@@ -2,13 +2,13 @@
 use Rattle.std.specs.Prelude.{◌≡◌, ℕ, ◌+◌, ◌<◌, List, ◌∷◌, ◌++◌, length}
 
 -- a part of a list: the place of its first value, its values, and how often at most it can be halved
-pub record Part : Type 0 where
+pub record ListPart : Type 0 where
   pub low : ℕ
   pub items : List ℕ
   pub levels : ℕ
 
 -- a part is halved at a value
-pub record AreHalves (part before : Part) (value : ℕ) (after : Part) : Type 0 where
+pub record AreHalves (part before : ListPart) (value : ℕ) (after : ListPart) : Type 0 where
   pub items : part.items ≡ before.items ++ value ∷ after.items
   pub low : before.low ≡ part.low
   pub after_low : after.low ≡ part.low + length before.items + 1

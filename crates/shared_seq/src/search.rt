@@ -18,10 +18,10 @@ pub struct Search<'a> {
 
 impl<'a> Model for Search<'a> {
     ghost use Rattle.std.specs.Prelude.{◌+◌, ◌^◌, ◌<◌, length};
-    ghost use Rattle.shared_seq.specs.Search.{Part};
+    ghost use Rattle.shared_seq.specs.Search.{ListPart};
     ghost use Rattle.shared_seq.specs.Tree.{lent_at};
 
-    ghost Value = { Part };
+    ghost Value = { ListPart };
 
     ghost view = { λ search. record { low = search.low; items = (lent_at search.part).items; levels = (lent_at search.part).height } };
 

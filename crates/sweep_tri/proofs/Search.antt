@@ -13,7 +13,7 @@ use Rattle.exact_plane.specs.declared.direction.Direction.{Direction}
 use Rattle.exact_plane.specs.declared.direction.Direction.TheVariants.{Left}
 use Rattle.exact_plane.specs.declared.turns.Spot.TheVariants.{Corner}
 use Rattle.shared_seq.proofs.Searches.{IsPartOf, after_end, halves_length, middle_is, middle_within}
-use Rattle.shared_seq.specs.Search.{AreHalves, Part}
+use Rattle.shared_seq.specs.Search.{AreHalves, ListPart}
 use Rattle.sweep_tri.proofs.Slots.{gap_is, gaps_count}
 use Rattle.sweep_tri.proofs.Swept.{low_region}
 use Rattle.sweep_tri.specs.Frontier.{IsAbove}
@@ -64,7 +64,7 @@ module _ (corners : List Point) (gaps : List Gap) (v : ℕ) (sorted : AreSortedB
 
 -- the numbers of the slots are halved at one of them
 module _ (slots : List Gap) (numbers : List ℕ) (gaps : List Gap) (are : gaps_of slots numbers ≡ gaps) (taken : AreSlotNumbers slots numbers)
-    (part before after : Part) (value : ℕ) (halves : AreHalves part before value after) (in_list : IsPartOf numbers part) where
+    (part before after : ListPart) (value : ℕ) (halves : AreHalves part before value after) (in_list : IsPartOf numbers part) where
   abbrev middle : ℕ
   middle = part.low + length before.items
 

@@ -9,7 +9,7 @@ use Rattle.shared_seq.specs.Digits.{binary_digits}
 use Rattle.shared_funnel.proofs.Halving.{IsHalved, halving_starts, is_in_after, is_in_before, left_is, next_is, round_paid}
 use Rattle.shared_funnel.proofs.funnel.Funnel.place.Goals as goal
 use Rattle.shared_funnel.specs.Listed.{point_of, listed_points}
-use Rattle.shared_funnel.specs.NumberBefore.{IsNumberBefore}
+use Rattle.shared_funnel.specs.Preceding.{IsPrecededBy}
 
 pub loop-halves-init : goal.loop-halves-init
 loop-halves-init g c =
@@ -45,7 +45,7 @@ is_passed-requires-clause-left g c =
     let halves = c.in-Some.ensures.halves in
     let loop = c.loop-halves.invariant in
     let place : c.low-place.result - 1 ≡ c.in-Some.halves.after.low - 1 = omega (arith, c.low-place.ensures) in
-    subst (IsNumberBefore c.args.self.now.list (c.low-place.result - 1)) (sym c.or-left.ensures)
+    subst (IsPrecededBy c.args.self.now.list (c.low-place.result - 1)) (sym c.or-left.ensures)
     (left_is _ _ _ _ _ _ halves loop.part place _ _ c.last.ensures.last c.last.ensures.none loop.passed)
 
 pub loop-halves-preserved-then-is_passed : goal.loop-halves-preserved-then-is_passed
@@ -73,6 +73,6 @@ loop-halves-preserved g c =
       halved = is_in_before _ _ _ _ _ _ halves loop.part place _ _ _ loop.halved some
           (λ passed. false≢true (sym c.if-is_passed.false ∙ (c.is_passed.ensures.passed some).1 passed));
       part = before_is_part _ _ _ _ halves _ loop.part;
-      passed = subst (λ low. IsNumberBefore c.args.self.now.list low c.loop-halves.passed) (sym halves.low) loop.passed;
+      passed = subst (λ low. IsPrecededBy c.args.self.now.list low c.loop-halves.passed) (sym halves.low) loop.passed;
       steps = omega (arith, halves.before_levels, round_paid c.loop-halves.search.levels c.in-Some.halves.before.levels halves.before_levels);
     }

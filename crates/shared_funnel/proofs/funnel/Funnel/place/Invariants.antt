@@ -6,7 +6,7 @@ use Rattle.shared_seq.specs.Digits.{binary_digits}
 use Rattle.shared_funnel.proofs.Halving.{IsHalved}
 use Rattle.shared_funnel.proofs.funnel.Funnel.place.Given as goal
 use Rattle.shared_funnel.specs.Listed.{listed_points}
-use Rattle.shared_funnel.specs.NumberBefore.{IsNumberBefore}
+use Rattle.shared_funnel.specs.Preceding.{IsPrecededBy}
 
 abbrev pub invariant-loop-halves : goal.invariant-loop-halves
 invariant-loop-halves g l =
@@ -17,7 +17,7 @@ invariant-loop-halves g l =
       halved : IsHalved (listed_points corners start l.self.list) l.self.apex (whole (point_named corners start (g.T.Turns.goal l.board) l.y))
           (l.search.low - 1) (l.search.low + length l.search.items);
       part : IsPartOf l.self.list l.search;
-      passed : IsNumberBefore l.self.list l.search.low l.passed;
+      passed : IsPrecededBy l.self.list l.search.low l.passed;
       steps : l.steps + l.search.levels * (l.search.levels + 1) ≤ l.fn.steps + 2 * b * (2 * b + 1);
     }
 
