@@ -5,7 +5,7 @@ mod DiagonalCuts
 mod DistinctCorners
 mod EarCuts
 mod Ends
-mod LastCorner
+mod Heights
 mod Looks
 mod Members
 pub mod OneCut

@@ -1,29 +1,32 @@
 // The vertex of a piece that a diagonal from its first vertex goes to.
-ghost use Rattle.std.specs.Prelude.{◌≡◌, ◌⊎◌, ◌<◌, ◌^◌, ◌↔◌, ◌*ℤ◌, ◌-ℤ◌, ℕ, IsTrue, IfSome, IfNone, OnSome, length, unsigned_abs};
-ghost use Rattle.plane.specs.Order.{IsBefore};
-ghost use Rattle.plane.specs.Point.{whole};
-ghost use Rattle.plane.specs.Triangle.{height_over};
+ghost use Rattle.std.specs.Prelude.{◌≡◌, ◌<◌, ◌^◌, ◌↔◌, ◌*ℤ◌, ◌-ℤ◌, ◌<ℤ◌, ◌≤ℤ◌, ℕ, IsTrue, IfSome, IfNone, OnSome, length, unsigned_abs};
+ghost use Rattle.plane.specs.Point.{Point, whole};
+ghost use Rattle.plane.specs.Triangle.{IsInTriangle, height_over};
 ghost use Rattle.plane.specs.Turn.{IsLeft, determinant};
-ghost use Rattle.rings.specs.Ring.{vertex};
 ghost use Rattle.cut_tri.specs.Cut.{IsPlaceInCorner};
-ghost use Rattle.cut_tri.specs.Corner.{IsCandidate, IsFarther, IsFartherOf};
+ghost use Rattle.cut_tri.specs.Corner.{IsBest, IsCandidate, IsCornerAt, IsFarther, IsFartherOf, IsMeasured, best_height};
 ghost use Rattle.cut_tri.specs.Ordered.{IsFarthestNumber, IsOrderedFromLeast};
+ghost use Rattle.cut_tri.specs.Piece.{IsPiece};
 
 use crate::cut::corner_of;
 use crate::piece::Piece;
-use exact_plane::{Pt, Steps, in_triangle, order};
+use exact_plane::{Pt, Steps, compare, in_triangle, order};
 use meshes::Tri;
 use ring_check::Ring;
 use std::cmp::Ordering;
+use std::collections::VecDeque;
 use std::sync::ledger::Ledger;
 
-// The triangle at the first vertex of a piece, counterclockwise.
+// The triangle at the first vertex v of a piece, counterclockwise: the later of u and w, and how far v is from the line
+// through them.
 #[derive(Drop)]
 struct Corner {
     tri: Tri,
     u: Pt,
     v: Pt,
     w: Pt,
+    end: Pt,
+    height: i64,
 }
 
 // A vertex in the triangle, and how far it is from the line through u and w.
@@ -43,44 +46,78 @@ impl Candidate {
 }
 
 // The vertex in the closed triangle of the first vertex and the two beside it that is farthest from the line through those
-// two, and none of the three; of several the one with the least number. The first vertex is the least of all, so none is
-// looked at that comes after both of the others.
+// two, and none of the three; of several the one with the least number.
 pub(crate) fn farthest<L: Ledger>(ring: &Ring, piece: &Piece, steps: &mut Steps<L>) -> Option<u32>
     requires { IsOrderedFromLeast ring.now.corners piece.now }
     ensures farthest { IfSome result (IsFarthestNumber ring.now.corners piece.now.boundary.items) }
     ensures none { IfNone result ((k : ℕ) → ¬ (IsPlaceInCorner ring.now.corners piece.now.boundary.items k)) }
 {
-    let corner = Corner::of(ring, corner_of(&piece.boundary));
-    let end = later(&corner.u, &corner.w, steps);
+    let corner = Corner::of(ring, &piece.boundary, steps);
+    Some(best_in(&corner, ring, piece, steps)?.number)
+}
+
+// The best vertex in the triangle. The first vertex is the least of all, and the farther right a point of the triangle is the
+// nearer it is at most, so the search ends where all are nearer than the best.
+fn best_in<L: Ledger>(
+    corner: &Corner,
+    ring: &Ring,
+    piece: &Piece,
+    steps: &mut Steps<L>,
+) -> Option<Candidate>
+    requires ordered { IsOrderedFromLeast ring.now.corners piece.now }
+    requires corner { IsCornerAt ring.now.corners piece.now.boundary.items corner.now }
+    requires measured { IsMeasured corner.now }
+    ensures { IsBest ring.now.corners piece.now.boundary.items result }
+{
     let last = piece.order.len() - 1;
     let mut best: Option<Candidate> = None;
     for rank in 1..piece.order.len() {
         let number = piece.order[last - rank];
         let p = ring.corner(number);
-        if !is_before(&p, &end, steps) {
+        if corner.is_nearer_from(&p, best, steps) {
             break;
         }
         if let Some(candidate) = corner.candidate(number, &p, steps) {
             best = Some(farther(best, candidate));
         }
     }
-    Some(best?.number)
+    best
 }
 
 // The later of two points in lexicographic order.
 fn later<L: Ledger>(p: &Pt, q: &Pt, steps: &mut Steps<L>) -> Pt
-    ensures one { (result ≡ p.now) ⊎ (result ≡ q.now) }
-    ensures not_before_first { ¬ (IsBefore result p.now) }
-    ensures not_before_second { ¬ (IsBefore result q.now) }
+    ensures first { p.now.x ≤ℤ result.x }
+    ensures second { q.now.x ≤ℤ result.x }
 {
-    if is_before(p, q, steps) { *q } else { *p }
+    if order(p, q, steps) == Ordering::Less {
+        *q
+    } else {
+        *p
+    }
 }
 
-// Whether `p` comes before `q`.
-fn is_before<L: Ledger>(p: &Pt, q: &Pt, steps: &mut Steps<L>) -> bool
-    ensures { IsTrue result ↔ IsBefore p.now q.now }
+// Whether a part of a whole is a lesser share of it than another part of another whole.
+fn is_less_share(part: i64, whole: i64, other: i64, other_whole: i64) -> bool
+    requires whole { unsigned_abs whole < 2 ^ 50 }
+    requires other_whole { unsigned_abs other_whole < 2 ^ 50 }
+    ensures { IsTrue result → (part *ℤ other_whole) <ℤ (other *ℤ whole) }
 {
-    order(p, q, steps) == Ordering::Less
+    compare(
+        part as i128,
+        whole as i128,
+        other as i128,
+        other_whole as i128,
+    ) == Ordering::Less
+}
+
+// How far the best is, or 0.
+fn height_of(best: Option<Candidate>) -> i64
+    ensures { result ≡ best_height best }
+{
+    match best {
+        Some(best) => best.height,
+        None => 0,
+    }
 }
 
 // The farther of two.
@@ -94,22 +131,43 @@ fn farther(best: Option<Candidate>, candidate: Candidate) -> Candidate
 }
 
 impl Corner {
-    // The triangle with these vertices as corners.
-    fn of(ring: &Ring, tri: Tri) -> Corner
-        requires a { tri.a < length ring.now.corners }
-        requires b { tri.b < length ring.now.corners }
-        requires c { tri.c < length ring.now.corners }
-        ensures tri { result.tri ≡ tri }
-        ensures u { result.u ≡ vertex ring.now.corners tri.a }
-        ensures v { result.v ≡ vertex ring.now.corners tri.b }
-        ensures w { result.w ≡ vertex ring.now.corners tri.c }
+    // The triangle at the first vertex of this boundary.
+    fn of<L: Ledger>(ring: &Ring, boundary: &VecDeque<u32>, steps: &mut Steps<L>) -> Corner
+        requires { IsPiece ring.now.corners boundary.now.items }
+        ensures corner { IsCornerAt ring.now.corners boundary.now.items result }
+        ensures measured { IsMeasured result }
     {
+        let tri = corner_of(boundary);
+        let (u, v, w) = (ring.corner(tri.a), ring.corner(tri.b), ring.corner(tri.c));
+        let end = later(&u, &w, steps);
+        let height = doubled_area(&u, &v, &w, steps);
         Corner {
-            u: ring.corner(tri.a),
-            v: ring.corner(tri.b),
-            w: ring.corner(tri.c),
             tri,
+            u,
+            v,
+            w,
+            end,
+            height,
         }
+    }
+
+    // Whether all points of the triangle that are not left of this one are nearer than the best. A point of it at x is at most
+    // as far as v times the part of the way from v to the end that is right of x.
+    fn is_nearer_from<L: Ledger>(
+        &self,
+        p: &Pt,
+        best: Option<Candidate>,
+        steps: &mut Steps<L>,
+    ) -> bool
+        requires counterclockwise { IsLeft (whole self.now.u) (whole self.now.v) (whole self.now.w) }
+        requires measured { IsMeasured self.now }
+        requires first { self.now.v.x ≤ℤ self.now.u.x }
+        ensures { IsTrue result → (q : Point) → p.now.x ≤ℤ q.x → IsInTriangle self.now.u self.now.v self.now.w (whole q)
+            → height_over self.now.u self.now.w (whole q) <ℤ best_height best }
+    {
+        let (rest, _) = way(p, &self.end, steps);
+        let (whole, _) = way(&self.v, &self.end, steps);
+        is_less_share(rest, whole, height_of(best), self.height)
     }
 
     // The vertex with this number and at this point, if it is in the closed triangle and neither of u and w.
@@ -136,7 +194,8 @@ impl Corner {
 // Twice the area of a triangle, positive where its corners run counterclockwise.
 #[tactic(auto, using(exact_plane::proofs::CrossProduct::cross_is_determinant))]
 fn doubled_area<L: Ledger>(a: &Pt, b: &Pt, c: &Pt, steps: &mut Steps<L>) -> i64
-    ensures { result ≡ determinant (whole a.now) (whole b.now) (whole c.now) }
+    ensures area { result ≡ determinant (whole a.now) (whole b.now) (whole c.now) }
+    ensures small { unsigned_abs result < 2 ^ 50 }
 {
     let (p, q) = (way(a, b, steps), way(a, c, steps));
     cross_product(p, q)
@@ -160,7 +219,8 @@ fn cross_product(p: (i64, i64), q: (i64, i64)) -> i64
     requires first_y { unsigned_abs p.1 < 2 ^ 24 }
     requires second_x { unsigned_abs q.0 < 2 ^ 24 }
     requires second_y { unsigned_abs q.1 < 2 ^ 24 }
-    ensures { result ≡ (p.0 *ℤ q.1) -ℤ (p.1 *ℤ q.0) }
+    ensures product { result ≡ (p.0 *ℤ q.1) -ℤ (p.1 *ℤ q.0) }
+    ensures small { unsigned_abs result < 2 ^ 50 }
 {
     p.0 * q.1 - p.1 * q.0
 }
