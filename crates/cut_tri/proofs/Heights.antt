@@ -34,7 +34,7 @@ module _ (s t r d u v w p end : ℤ) (sum : s -ℤ t +ℤ r -ℤ d ≡ pos 0) (m
       from_zeros e f_zero g_zero = omega (arith, ints)
 
   -- so it is no longer, times the weight of v
-  way_at_most : pos 0 ≤ℤ s → pos 0 ≤ℤ r → u ≤ℤ end → w ≤ℤ end → ((pos 0 -ℤ t) *ℤ (end -ℤ v)) ≤ℤ (d *ℤ (end -ℤ p))
+  pub way_at_most : pos 0 ≤ℤ s → pos 0 ≤ℤ r → u ≤ℤ end → w ≤ℤ end → ((pos 0 -ℤ t) *ℤ (end -ℤ v)) ≤ℤ (d *ℤ (end -ℤ p))
   way_at_most hs hr hu hw =
       drop_two (mul_nonnegative s (end -ℤ u) hs (omega (arith, ints))) (mul_nonnegative r (end -ℤ w) hr (omega (arith, ints))) weighed_ways
     where

@@ -1,4 +1,5 @@
 mod Candidates
+mod ClusterPlaces
 mod Completion
 mod CornerPlaces
 mod DiagonalCuts
@@ -15,5 +16,6 @@ mod Parts
 mod Readings
 mod RotatedCuts
 mod Shapes
+mod TriangleBoxes
 mod WholePiece
 mod WorkList

@@ -1,9 +1,11 @@
 // One cut of a piece.
 ghost use Rattle.std.specs.Prelude.{◌≡◌, ◌<◌, ◌≤◌, IfOk, length, slice_index_or};
+ghost use Rattle.cut_tri.specs.Clusters.{AreClusters};
 ghost use Rattle.cut_tri.specs.Cutting.{IsCutOf};
 ghost use Rattle.cut_tri.specs.Ordered.{AreOrdered, IsFarthestNumber, IsLeastPlace, IsPieceInOrder, IsOrderedFromLeast};
 ghost use Rattle.cut_tri.specs.Piece.{IsPiece, tri_at_first};
 
+use crate::clusters::Clusters;
 use crate::farthest::farthest;
 use crate::piece::{Piece, note_places, part_order, place_of};
 use exact_plane::{Memory, Steps};
@@ -32,17 +34,19 @@ pub(crate) fn cut<L: Ledger>(
     ring: &Ring,
     mut piece: Piece,
     places: &mut [usize],
+    clusters: &Clusters,
     steps: &mut Steps<L>,
 ) -> Result<Remains, Memory>
     requires ordered { IsPieceInOrder ring.now.corners piece }
     requires places { length places.old ≡ length ring.now.corners }
+    requires clusters { AreClusters ring.now.corners clusters.now }
     ensures cut { IfOk result (IsCutOf ring.now.corners piece.boundary.items) }
     ensures ordered { IfOk result (AreOrdered ring.now.corners) }
     ensures places { length places.new ≡ length places.old }
 {
     let least = least_place(ring, &piece);
     piece.boundary.rotate_left(least);
-    cut_at_first(alloc, ring, piece, places, steps)
+    cut_at_first(alloc, ring, piece, places, clusters, steps)
 }
 
 // The place of the lexicographically least vertex, which is the last of the order.
@@ -59,10 +63,12 @@ fn cut_at_first<L: Ledger>(
     ring: &Ring,
     mut piece: Piece,
     places: &mut [usize],
+    clusters: &Clusters,
     steps: &mut Steps<L>,
 ) -> Result<Remains, Memory>
     requires ordered { IsOrderedFromLeast ring.now.corners piece }
     requires places { length places.old ≡ length ring.now.corners }
+    requires clusters { AreClusters ring.now.corners clusters.now }
     ensures cut { IfOk result (IsCutOf ring.now.corners piece.boundary.items) }
     ensures ordered { IfOk result (AreOrdered ring.now.corners) }
     ensures places { length places.new ≡ length places.old }
@@ -71,7 +77,7 @@ fn cut_at_first<L: Ledger>(
     if piece.boundary.len() == 3 {
         return Ok(Remains::Triangle(tri));
     }
-    match farthest(ring, &piece, steps) {
+    match farthest(ring, &piece, clusters, steps) {
         None => {
             let _ = piece.boundary.pop_front();
             let _ = piece.order.pop();

@@ -1,21 +1,27 @@
 // The vertex of a piece that a diagonal from its first vertex goes to.
-ghost use Rattle.std.specs.Prelude.{◌≡◌, ◌<◌, ◌^◌, ◌↔◌, ◌*ℤ◌, ◌-ℤ◌, ◌<ℤ◌, ◌≤ℤ◌, ℕ, IsTrue, IfSome, IfNone, OnSome, length, unsigned_abs};
+ghost use Rattle.std.specs.Prelude.{◌≡◌, ◌<◌, ◌^◌, ◌↔◌, ◌*ℤ◌, ◌-ℤ◌, ◌<ℤ◌, ◌≤ℤ◌, ℕ, IsFalse, IsTrue, IfSome, IfNone, OnSome, length, unsigned_abs};
 ghost use Rattle.plane.specs.Point.{Point, whole};
 ghost use Rattle.plane.specs.Triangle.{IsInTriangle, height_over};
 ghost use Rattle.plane.specs.Turn.{IsLeft, determinant};
+ghost use Rattle.rings.specs.Ring.{vertex};
+ghost use Rattle.cut_tri.specs.Clusters.{AreClusters};
 ghost use Rattle.cut_tri.specs.Cut.{IsPlaceInCorner};
 ghost use Rattle.cut_tri.specs.Corner.{IsBest, IsCandidate, IsCornerAt, IsFarther, IsFartherOf, IsMeasured, best_height};
 ghost use Rattle.cut_tri.specs.Ordered.{IsFarthestNumber, IsOrderedFromLeast};
 ghost use Rattle.cut_tri.specs.Piece.{IsPiece};
 
+use crate::clusters::Clusters;
 use crate::cut::corner_of;
 use crate::piece::Piece;
-use exact_plane::{Pt, Steps, compare, in_triangle, order};
+use exact_plane::{BoundingBox, Pt, Steps, compare, in_triangle, order};
 use meshes::Tri;
 use ring_check::Ring;
 use std::cmp::Ordering;
 use std::collections::VecDeque;
 use std::sync::ledger::Ledger;
+
+// How many vertices are looked at before the clusters are asked.
+const NEAR: usize = 32;
 
 // The triangle at the first vertex v of a piece, counterclockwise: the later of u and w, and how far v is from the line
 // through them.
@@ -47,31 +53,43 @@ impl Candidate {
 
 // The vertex in the closed triangle of the first vertex and the two beside it that is farthest from the line through those
 // two, and none of the three; of several the one with the least number.
-pub(crate) fn farthest<L: Ledger>(ring: &Ring, piece: &Piece, steps: &mut Steps<L>) -> Option<u32>
-    requires { IsOrderedFromLeast ring.now.corners piece.now }
+pub(crate) fn farthest<L: Ledger>(
+    ring: &Ring,
+    piece: &Piece,
+    clusters: &Clusters,
+    steps: &mut Steps<L>,
+) -> Option<u32>
+    requires ordered { IsOrderedFromLeast ring.now.corners piece.now }
+    requires clusters { AreClusters ring.now.corners clusters.now }
     ensures farthest { IfSome result (IsFarthestNumber ring.now.corners piece.now.boundary.items) }
     ensures none { IfNone result ((k : ℕ) → ¬ (IsPlaceInCorner ring.now.corners piece.now.boundary.items k)) }
 {
     let corner = Corner::of(ring, &piece.boundary, steps);
-    Some(best_in(&corner, ring, piece, steps)?.number)
+    Some(best_in(&corner, ring, piece, clusters, steps)?.number)
 }
 
 // The best vertex in the triangle. The first vertex is the least of all, and the farther right a point of the triangle is the
-// nearer it is at most, so the search ends where all are nearer than the best.
+// nearer it is at most, so the search ends where all are nearer than the best. Where it finds none for long, most often there
+// is none, which the clusters tell.
 fn best_in<L: Ledger>(
     corner: &Corner,
     ring: &Ring,
     piece: &Piece,
+    clusters: &Clusters,
     steps: &mut Steps<L>,
 ) -> Option<Candidate>
     requires ordered { IsOrderedFromLeast ring.now.corners piece.now }
     requires corner { IsCornerAt ring.now.corners piece.now.boundary.items corner.now }
     requires measured { IsMeasured corner.now }
+    requires clusters { AreClusters ring.now.corners clusters.now }
     ensures { IsBest ring.now.corners piece.now.boundary.items result }
 {
     let last = piece.order.len() - 1;
     let mut best: Option<Candidate> = None;
     for rank in 1..piece.order.len() {
+        if rank == NEAR && best.is_none() && corner.is_empty(ring, clusters, steps) {
+            return None;
+        }
         let number = piece.order[last - rank];
         let p = ring.corner(number);
         if corner.is_nearer_from(&p, best, steps) {
@@ -168,6 +186,40 @@ impl Corner {
         let (rest, _) = way(p, &self.end, steps);
         let (whole, _) = way(&self.v, &self.end, steps);
         is_less_share(rest, whole, height_of(best), self.height)
+    }
+
+    // Whether no vertex of the ring but the three is in the triangle.
+    fn is_empty<L: Ledger>(&self, ring: &Ring, clusters: &Clusters, steps: &mut Steps<L>) -> bool
+        requires counterclockwise { IsLeft (whole self.now.u) (whole self.now.v) (whole self.now.w) }
+        requires clusters { AreClusters ring.now.corners clusters.now }
+        ensures { IsTrue result → (i : ℕ) → i < length ring.now.corners → ¬ (i ≡ self.now.tri.b)
+            → ¬ (IsCandidate self.now i (vertex ring.now.corners i)) }
+    {
+        let bounds = BoundingBox::of(&[self.u, self.v, self.w], steps);
+        let mut place = 0;
+        while place < clusters.numbers.len() {
+            let end = clusters.clear_to(&bounds, place);
+            if place < end {
+                place = end;
+            } else if self.has(ring, clusters.numbers[place], steps) {
+                return false;
+            } else {
+                place += 1;
+            }
+        }
+        true
+    }
+
+    // Whether the vertex with this number is in the triangle, and none of the three.
+    fn has<L: Ledger>(&self, ring: &Ring, number: u32, steps: &mut Steps<L>) -> bool
+        requires counterclockwise { IsLeft (whole self.now.u) (whole self.now.v) (whole self.now.w) }
+        requires number { number < length ring.now.corners }
+        ensures { IsFalse result → ¬ (number ≡ self.now.tri.b) → ¬ (IsCandidate self.now number (vertex ring.now.corners number)) }
+    {
+        number != self.tri.b
+            && self
+                .candidate(number, &ring.corner(number), steps)
+                .is_some()
     }
 
     // The vertex with this number and at this point, if it is in the closed triangle and neither of u and w.

@@ -6,7 +6,7 @@ use Rattle.plane.specs.Point.{Point}
 use Rattle.rings.specs.Ring.{vertex}
 use Rattle.cut_tri.proofs.Candidates.{IsBestBelow, best_more, best_of_all, best_past, of_rank}
 use Rattle.cut_tri.proofs.Ends.{rank_in, rank_or_right}
-use Rattle.cut_tri.proofs.Looks.{candidate_is, first_not_right, in_corner, is_candidate, left_at_corner, nearer_at, not_least, order_numbers, order_some, rank_more}
+use Rattle.cut_tri.proofs.Looks.{candidate_is, first_not_right, in_corner, is_candidate, left_at_corner, nearer_at, none_is_best, not_least, order_numbers, order_some, rank_more}
 use Rattle.cut_tri.proofs.Orders.{least_below}
 use Rattle.cut_tri.specs.Corner.{IsFartherOf, IsInCornerOf, best_height, candidate_of}
 use Rattle.cut_tri.proofs.farthest.best_in.Goals as goal
@@ -107,3 +107,13 @@ returns-then-is_nearer_from g c =
           (c.is_nearer_from.ensures c.if-is_nearer_from.true (vertex corners i)
           (subst (λ (p : Point). p.x ≤ℤ (vertex corners i).x) (sym (c.corner-p.ensures ∙ ap (vertex corners) is)) right)) in_i)
     ])
+
+pub is_empty-requires-clause-counterclockwise : goal.is_empty-requires-clause-counterclockwise
+is_empty-requires-clause-counterclockwise g c =
+    let least = least_below c.args.ring.now.corners c.args.piece.now.boundary.items c.args.piece.now.order.items c.requires.ordered.ordered.1 0 c.requires.ordered.least in
+    left_at_corner c.args.ring.now.corners c.args.piece.now.boundary.items c.args.corner.now c.requires.corner c.requires.ordered.ordered.0 least
+
+pub returns-then-is_empty : goal.returns-then-is_empty
+returns-then-is_empty g c =
+    none_is_best c.args.ring.now.corners c.args.piece.now.boundary.items c.args.corner.now c.requires.corner c.requires.ordered.ordered.0.numbers
+    (λ i below other. c.is_empty.ensures c.if-is_empty.true i below other)
