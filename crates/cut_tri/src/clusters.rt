@@ -1,11 +1,14 @@
 // Clusters of vertices with boxes round them, by which whole clusters are left out of the search for a vertex in a triangle.
 ghost use Rattle.std.specs.List.{All};
 ghost use Rattle.std.specs.Prelude.{◌<◌, ◌≤◌, ℕ, IfOk, List, length, slice_index_or};
-ghost use Rattle.plane.specs.Point.{Point};
+ghost use Rattle.plane.specs.Point.{Point, whole};
+ghost use Rattle.plane.specs.Triangle.{IsInTriangle};
+ghost use Rattle.plane.specs.Turn.{IsLeft};
 ghost use Rattle.exact_plane.specs.Boxes.{Encloses};
 ghost use Rattle.rings.specs.Ring.{vertex};
-ghost use Rattle.cut_tri.specs.Clusters.{AreClusters, IsCluster};
+ghost use Rattle.cut_tri.specs.Clusters.{AreClusters, IsBounded, IsCluster};
 
+use crate::triangle::Triangle;
 use crate::z_order::z_order;
 use exact_plane::{BoundingBox, Memory, Steps};
 use ring_check::Ring;
@@ -50,11 +53,18 @@ impl Clusters {
         Ok(Clusters { numbers, clusters })
     }
 
-    // The place behind the greatest cluster from a place on whose box has no point of another box. Where there is no such
-    // cluster, that is the place.
-    pub(crate) fn clear_to(&self, bounds: &BoundingBox, place: usize) -> usize
+    // The place behind the greatest cluster from a place on whose box the triangle misses. Where there is no such cluster, that
+    // is the place.
+    pub(crate) fn clear_to<L: Ledger>(
+        &self,
+        triangle: &Triangle,
+        place: usize,
+        steps: &mut Steps<L>,
+    ) -> usize
+        requires counterclockwise { IsLeft (whole triangle.now.u) (whole triangle.now.v) (whole triangle.now.w) }
+        requires bounded { IsBounded triangle.now }
         ensures { (corners : List Point) → AreClusters corners self.now → (k : ℕ) → place ≤ k → k < result
-            → ¬ (Encloses bounds.now (vertex corners (slice_index_or self.now.numbers.items k 0))) }
+            → ¬ (IsInTriangle triangle.now.u triangle.now.v triangle.now.w (whole (vertex corners (slice_index_or self.now.numbers.items k 0)))) }
     {
         if place % LEAST != 0 {
             return place;
@@ -63,7 +73,7 @@ impl Clusters {
         let mut k = place / LEAST;
         while k < self.clusters.len() {
             let cluster = &self.clusters[k];
-            if cluster.first != place || cluster.bounds.overlaps(bounds) {
+            if cluster.first != place || !triangle.misses(&cluster.bounds, steps) {
                 return end;
             }
             end = cluster.end;

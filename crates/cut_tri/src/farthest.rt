@@ -13,7 +13,8 @@ ghost use Rattle.cut_tri.specs.Piece.{IsPiece};
 use crate::clusters::Clusters;
 use crate::cut::corner_of;
 use crate::piece::Piece;
-use exact_plane::{BoundingBox, Pt, Steps, compare, in_triangle, order};
+use crate::triangle::Triangle;
+use exact_plane::{Pt, Steps, compare, in_triangle, order};
 use meshes::Tri;
 use ring_check::Ring;
 use std::cmp::Ordering;
@@ -115,7 +116,7 @@ fn later<L: Ledger>(p: &Pt, q: &Pt, steps: &mut Steps<L>) -> Pt
 }
 
 // Whether a part of a whole is a lesser share of it than another part of another whole.
-fn is_less_share(part: i64, whole: i64, other: i64, other_whole: i64) -> bool
+pub(crate) fn is_less_share(part: i64, whole: i64, other: i64, other_whole: i64) -> bool
     requires whole { unsigned_abs whole < 2 ^ 50 }
     requires other_whole { unsigned_abs other_whole < 2 ^ 50 }
     ensures { IsTrue result → (part *ℤ other_whole) <ℤ (other *ℤ whole) }
@@ -195,10 +196,10 @@ impl Corner {
         ensures { IsTrue result → (i : ℕ) → i < length ring.now.corners → ¬ (i ≡ self.now.tri.b)
             → ¬ (IsCandidate self.now i (vertex ring.now.corners i)) }
     {
-        let bounds = BoundingBox::of(&[self.u, self.v, self.w], steps);
+        let triangle = Triangle::of(&self.u, &self.v, &self.w, steps);
         let mut place = 0;
         while place < clusters.numbers.len() {
-            let end = clusters.clear_to(&bounds, place);
+            let end = clusters.clear_to(&triangle, place, steps);
             if place < end {
                 place = end;
             } else if self.has(ring, clusters.numbers[place], steps) {
@@ -254,7 +255,7 @@ fn doubled_area<L: Ledger>(a: &Pt, b: &Pt, c: &Pt, steps: &mut Steps<L>) -> i64
 }
 
 // The way from `a` to `b`.
-fn way<L: Ledger>(a: &Pt, b: &Pt, steps: &mut Steps<L>) -> (i64, i64)
+pub(crate) fn way<L: Ledger>(a: &Pt, b: &Pt, steps: &mut Steps<L>) -> (i64, i64)
     ensures x { result.0 ≡ b.now.x -ℤ a.now.x }
     ensures y { result.1 ≡ b.now.y -ℤ a.now.y }
     ensures x_is_small { unsigned_abs result.0 < 2 ^ 24 }

@@ -6,6 +6,7 @@ mod cut;
 mod farthest;
 mod laws;
 mod piece;
+mod triangle;
 mod triangulation;
 mod z_order;
 

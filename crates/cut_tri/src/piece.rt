@@ -14,22 +14,42 @@ pub(crate) struct Piece {
     pub order: Vec<u32>,
 }
 
-// The place of a number; the search goes inward from both ends.
+// The place of a number. Numbers rise along a boundary, but where it comes round to those that are less than its first, so the
+// place is found by halves. That they rise is not proved: where it is not found so, all are looked at.
 pub(crate) fn place_of(boundary: &VecDeque<u32>, number: u32) -> usize
     requires { Contains boundary.now.items number }
     ensures place { result < length boundary.now.items }
     ensures is { slice_index_or boundary.now.items result 0 ≡ number }
 {
     let last = boundary.len() - 1;
+    let likely = likely_place(boundary, number);
+    if boundary[likely] == number {
+        return likely;
+    }
     for k in 0..last {
         if boundary[k] == number {
             return k;
         }
-        if boundary[last - k] == number {
-            return last - k;
-        }
     }
     last
+}
+
+// The place of a number where numbers rise from the first on, which is taken away from each round 0.
+fn likely_place(boundary: &VecDeque<u32>, number: u32) -> usize
+    requires { 0 < length boundary.now.items }
+    ensures { result < length boundary.now.items }
+{
+    let first = boundary[0];
+    let (mut low, mut high) = (0, boundary.len());
+    while 1 < high - low {
+        let middle = low + (high - low) / 2;
+        if boundary[middle].wrapping_sub(first) <= number.wrapping_sub(first) {
+            low = middle;
+        } else {
+            high = middle;
+        }
+    }
+    low
 }
 
 // Writes for each vertex of the piece its place on the boundary.

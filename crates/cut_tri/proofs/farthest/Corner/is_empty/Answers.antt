@@ -1,9 +1,9 @@
 use Rattle.std.proofs.Common.{◌≡◌, inl, inr, sym, ap, subst, ◌∙◌, ◌<◌, length, get_or, arith}
 use Rattle.std.proofs.lemmas.Bool.{cases_lt}
 use Rattle.std.proofs.lemmas.List.{get_or_default}
-use Rattle.rings.specs.Ring.{origin, vertex}
+use Rattle.rings.specs.Ring.{vertex}
 use Rattle.cut_tri.proofs.ClusterPlaces.{all_below, has_place}
-use Rattle.cut_tri.proofs.TriangleBoxes.{in_box}
+use Rattle.cut_tri.proofs.TriangleBoxes.{same_corners}
 use Rattle.cut_tri.specs.Corner.{IsCandidate}
 use Rattle.cut_tri.proofs.farthest.Corner.is_empty.Goals as goal
 
@@ -11,11 +11,8 @@ pub loop-place-preserved-then-place-end : goal.loop-place-preserved-then-place-e
 loop-place-preserved-then-place-end g c k high other candidate = elim (cases_lt k c.loop-place.place) [
   | inl before ↦ c.loop-place.invariant k before other candidate
   | inr behind ↦
-      let corner = c.args.self.now in
-      let has = c.of-bounds.ensures.within in
       c.clear_to-end.ensures c.args.ring.now.corners c.requires.clusters k behind high
-      (in_box c.of-bounds.result corner.u corner.v corner.w _ c.requires.counterclockwise (has 0 (omega arith) origin) (has 1 (omega arith) origin)
-      (has 2 (omega arith) origin) candidate.in_triangle)
+      (same_corners c.of-triangle.ensures.u c.of-triangle.ensures.v c.of-triangle.ensures.w candidate.in_triangle)
 ]
 
 pub has-requires-clause-number : goal.has-requires-clause-number
