@@ -7,7 +7,7 @@ ghost use Rattle.cut_tri.specs.Piece.{IsPiece, tri_at_first};
 
 use crate::clusters::Clusters;
 use crate::farthest::farthest;
-use crate::piece::{Piece, note_places, part_order, place_of};
+use crate::piece::{Piece, note_places, part_boundary, part_order, place_of};
 use exact_plane::{Memory, Steps};
 use meshes::Tri;
 use ring_check::Ring;
@@ -106,7 +106,7 @@ pub(crate) fn corner_of(boundary: &VecDeque<u32>) -> Tri
 fn parts(
     alloc: Global,
     ring: &Ring,
-    mut piece: Piece,
+    piece: Piece,
     number: u32,
     places: &mut [usize],
 ) -> Result<(Piece, Piece), Memory>
@@ -121,13 +121,10 @@ fn parts(
     let place = places[number as usize];
     let count = piece.boundary.len();
     let (first_order, second_order) = part_order(alloc, &piece.order, places, place, count)?;
-    let first = piece.boundary[0];
-    let mut second = piece.boundary.split_off(place)?;
-    second.push_front(first)?;
-    piece.boundary.push_back(number)?;
+    let (first, second) = part_boundary(piece.boundary, place, number)?;
     Ok((
         Piece {
-            boundary: piece.boundary,
+            boundary: first,
             order: first_order,
         },
         Piece {

@@ -1,6 +1,6 @@
 // Pieces of a polygon: some of its vertices, by their numbers.
 ghost use Rattle.std.specs.List.{All, AllPairs, Contains, filter};
-ghost use Rattle.std.specs.Prelude.{◌≡◌, ◌<◌, IfOk, length, slice_index_or};
+ghost use Rattle.std.specs.Prelude.{◌≡◌, ◌<◌, IfOk, [], ◌∷◌, ◌++◌, drop, length, slice_index_or, take};
 ghost use Rattle.cut_tri.specs.Ordered.{ArePlaces, is_in_first, is_in_second};
 
 use exact_plane::Memory;
@@ -90,4 +90,21 @@ pub(crate) fn part_order(
         }
     }
     Ok((first, second))
+}
+
+// The boundary up to the vertex with this number, which is at this place, and that from there on with the first vertex.
+pub(crate) fn part_boundary(
+    mut boundary: VecDeque<u32>,
+    place: usize,
+    number: u32,
+) -> Result<(VecDeque<u32>, VecDeque<u32>), Memory>
+    requires { place < length boundary.items }
+    ensures first { IfOk result (λ parts. parts.0.items ≡ take place boundary.items ++ number ∷ []) }
+    ensures second { IfOk result (λ parts. parts.1.items ≡ slice_index_or boundary.items 0 0 ∷ drop place boundary.items) }
+{
+    let first = boundary[0];
+    let mut second = boundary.split_off(place)?;
+    second.push_front(first)?;
+    boundary.push_back(number)?;
+    Ok((boundary, second))
 }
