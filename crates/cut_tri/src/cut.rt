@@ -1,5 +1,5 @@
 // One cut of a piece.
-ghost use Rattle.std.specs.Prelude.{◌≡◌, ◌<◌, ◌≤◌, IfOk, length, slice_index_or};
+ghost use Rattle.std.specs.Prelude.{◌≡◌, ◌<◌, ◌≤◌, IfOk, IfSome, length, slice_index_or};
 ghost use Rattle.cut_tri.specs.Clusters.{AreClusters};
 ghost use Rattle.cut_tri.specs.Cutting.{IsCutOf};
 ghost use Rattle.cut_tri.specs.Ordered.{AreOrdered, IsFarthestNumber, IsLeastPlace, IsPieceInOrder, IsOrderedFromLeast};
@@ -34,15 +34,16 @@ pub(crate) fn cut<L: Ledger>(
     ring: &Ring,
     mut piece: Piece,
     places: &mut [usize],
-    clusters: &Clusters,
+    clusters: &mut Option<Clusters>,
     steps: &mut Steps<L>,
 ) -> Result<Remains, Memory>
     requires ordered { IsPieceInOrder ring.now.corners piece }
     requires places { length places.old ≡ length ring.now.corners }
-    requires clusters { AreClusters ring.now.corners clusters.now }
+    requires clusters { IfSome clusters.old (AreClusters ring.now.corners) }
     ensures cut { IfOk result (IsCutOf ring.now.corners piece.boundary.items) }
     ensures ordered { IfOk result (AreOrdered ring.now.corners) }
     ensures places { length places.new ≡ length places.old }
+    ensures clusters { IfSome clusters.new (AreClusters ring.now.corners) }
 {
     let least = least_place(ring, &piece);
     piece.boundary.rotate_left(least);
@@ -63,21 +64,22 @@ fn cut_at_first<L: Ledger>(
     ring: &Ring,
     mut piece: Piece,
     places: &mut [usize],
-    clusters: &Clusters,
+    clusters: &mut Option<Clusters>,
     steps: &mut Steps<L>,
 ) -> Result<Remains, Memory>
     requires ordered { IsOrderedFromLeast ring.now.corners piece }
     requires places { length places.old ≡ length ring.now.corners }
-    requires clusters { AreClusters ring.now.corners clusters.now }
+    requires clusters { IfSome clusters.old (AreClusters ring.now.corners) }
     ensures cut { IfOk result (IsCutOf ring.now.corners piece.boundary.items) }
     ensures ordered { IfOk result (AreOrdered ring.now.corners) }
     ensures places { length places.new ≡ length places.old }
+    ensures clusters { IfSome clusters.new (AreClusters ring.now.corners) }
 {
     let tri = corner_of(&piece.boundary);
     if piece.boundary.len() == 3 {
         return Ok(Remains::Triangle(tri));
     }
-    match farthest(ring, &piece, clusters, steps) {
+    match farthest(alloc, ring, &piece, clusters, steps) {
         None => {
             let _ = piece.boundary.pop_front();
             let _ = piece.order.pop();

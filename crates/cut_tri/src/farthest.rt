@@ -1,8 +1,8 @@
 // The vertex of a piece that a diagonal from its first vertex goes to.
-ghost use Rattle.std.specs.Prelude.{◌≡◌, ◌<◌, ◌^◌, ◌↔◌, ◌*ℤ◌, ◌-ℤ◌, ◌<ℤ◌, ◌≤ℤ◌, ℕ, IsFalse, IsTrue, IfSome, IfNone, OnSome, length, unsigned_abs};
+ghost use Rattle.std.specs.Prelude.{◌≡◌, ◌<◌, ◌↔◌, ◌<ℤ◌, ◌≤ℤ◌, ℕ, IsFalse, IsTrue, IfSome, IfNone, OnSome, length};
 ghost use Rattle.plane.specs.Point.{Point, whole};
 ghost use Rattle.plane.specs.Triangle.{IsInTriangle, height_over};
-ghost use Rattle.plane.specs.Turn.{IsLeft, determinant};
+ghost use Rattle.plane.specs.Turn.{IsLeft};
 ghost use Rattle.rings.specs.Ring.{vertex};
 ghost use Rattle.cut_tri.specs.Clusters.{AreClusters};
 ghost use Rattle.cut_tri.specs.Cut.{IsPlaceInCorner};
@@ -12,11 +12,13 @@ ghost use Rattle.cut_tri.specs.Piece.{IsPiece};
 
 use crate::clusters::Clusters;
 use crate::cut::corner_of;
+use crate::measure::{doubled_area, is_less_share, way};
 use crate::piece::Piece;
 use crate::triangle::Triangle;
-use exact_plane::{Pt, Steps, compare, in_triangle, order};
+use exact_plane::{Pt, Steps, in_triangle, order};
 use meshes::Tri;
 use ring_check::Ring;
+use std::alloc::Global;
 use std::cmp::Ordering;
 use std::collections::VecDeque;
 use std::sync::ledger::Ledger;
@@ -55,40 +57,44 @@ impl Candidate {
 // The vertex in the closed triangle of the first vertex and the two beside it that is farthest from the line through those
 // two, and none of the three; of several the one with the least number.
 pub(crate) fn farthest<L: Ledger>(
+    alloc: Global,
     ring: &Ring,
     piece: &Piece,
-    clusters: &Clusters,
+    clusters: &mut Option<Clusters>,
     steps: &mut Steps<L>,
 ) -> Option<u32>
     requires ordered { IsOrderedFromLeast ring.now.corners piece.now }
-    requires clusters { AreClusters ring.now.corners clusters.now }
+    requires clusters { IfSome clusters.old (AreClusters ring.now.corners) }
+    ensures clusters { IfSome clusters.new (AreClusters ring.now.corners) }
     ensures farthest { IfSome result (IsFarthestNumber ring.now.corners piece.now.boundary.items) }
     ensures none { IfNone result ((k : ℕ) → ¬ (IsPlaceInCorner ring.now.corners piece.now.boundary.items k)) }
 {
     let corner = Corner::of(ring, &piece.boundary, steps);
-    Some(best_in(&corner, ring, piece, clusters, steps)?.number)
+    Some(best_in(alloc, &corner, ring, piece, clusters, steps)?.number)
 }
 
 // The best vertex in the triangle. The first vertex is the least of all, and the farther right a point of the triangle is the
 // nearer it is at most, so the search ends where all are nearer than the best. Where it finds none for long, most often there
 // is none, which the clusters tell.
 fn best_in<L: Ledger>(
+    alloc: Global,
     corner: &Corner,
     ring: &Ring,
     piece: &Piece,
-    clusters: &Clusters,
+    clusters: &mut Option<Clusters>,
     steps: &mut Steps<L>,
 ) -> Option<Candidate>
     requires ordered { IsOrderedFromLeast ring.now.corners piece.now }
     requires corner { IsCornerAt ring.now.corners piece.now.boundary.items corner.now }
     requires measured { IsMeasured corner.now }
-    requires clusters { AreClusters ring.now.corners clusters.now }
-    ensures { IsBest ring.now.corners piece.now.boundary.items result }
+    requires clusters { IfSome clusters.old (AreClusters ring.now.corners) }
+    ensures best { IsBest ring.now.corners piece.now.boundary.items result }
+    ensures clusters { IfSome clusters.new (AreClusters ring.now.corners) }
 {
     let last = piece.order.len() - 1;
     let mut best: Option<Candidate> = None;
     for rank in 1..piece.order.len() {
-        if rank == NEAR && best.is_none() && corner.is_empty(ring, clusters, steps) {
+        if rank == NEAR && best.is_none() && corner.is_empty(alloc, ring, clusters, steps) {
             return None;
         }
         let number = piece.order[last - rank];
@@ -103,6 +109,21 @@ fn best_in<L: Ledger>(
     best
 }
 
+// Makes the clusters where there are none and memory suffices.
+fn make_clusters<L: Ledger>(
+    alloc: Global,
+    ring: &Ring,
+    clusters: &mut Option<Clusters>,
+    steps: &mut Steps<L>,
+)
+    requires { IfSome clusters.old (AreClusters ring.now.corners) }
+    ensures { IfSome clusters.new (AreClusters ring.now.corners) }
+{
+    if clusters.is_none() {
+        *clusters = Clusters::of(alloc, ring, steps).ok();
+    }
+}
+
 // The later of two points in lexicographic order.
 fn later<L: Ledger>(p: &Pt, q: &Pt, steps: &mut Steps<L>) -> Pt
     ensures first { p.now.x ≤ℤ result.x }
@@ -113,20 +134,6 @@ fn later<L: Ledger>(p: &Pt, q: &Pt, steps: &mut Steps<L>) -> Pt
     } else {
         *p
     }
-}
-
-// Whether a part of a whole is a lesser share of it than another part of another whole.
-pub(crate) fn is_less_share(part: i64, whole: i64, other: i64, other_whole: i64) -> bool
-    requires whole { unsigned_abs whole < 2 ^ 50 }
-    requires other_whole { unsigned_abs other_whole < 2 ^ 50 }
-    ensures { IsTrue result → (part *ℤ other_whole) <ℤ (other *ℤ whole) }
-{
-    compare(
-        part as i128,
-        whole as i128,
-        other as i128,
-        other_whole as i128,
-    ) == Ordering::Less
 }
 
 // How far the best is, or 0.
@@ -189,8 +196,35 @@ impl Corner {
         is_less_share(rest, whole, height_of(best), self.height)
     }
 
-    // Whether no vertex of the ring but the three is in the triangle.
-    fn is_empty<L: Ledger>(&self, ring: &Ring, clusters: &Clusters, steps: &mut Steps<L>) -> bool
+    // Whether no vertex of the ring but the three is in the triangle, by clusters that are made here where there are none. Without
+    // memory for them it is taken for not empty.
+    fn is_empty<L: Ledger>(
+        &self,
+        alloc: Global,
+        ring: &Ring,
+        clusters: &mut Option<Clusters>,
+        steps: &mut Steps<L>,
+    ) -> bool
+        requires counterclockwise { IsLeft (whole self.now.u) (whole self.now.v) (whole self.now.w) }
+        requires clusters { IfSome clusters.old (AreClusters ring.now.corners) }
+        ensures empty { IsTrue result → (i : ℕ) → i < length ring.now.corners → ¬ (i ≡ self.now.tri.b)
+            → ¬ (IsCandidate self.now i (vertex ring.now.corners i)) }
+        ensures clusters { IfSome clusters.new (AreClusters ring.now.corners) }
+    {
+        make_clusters(alloc, ring, clusters, steps);
+        match &*clusters {
+            Some(made) => self.is_empty_among(ring, made, steps),
+            None => false,
+        }
+    }
+
+    // Whether none is, by these clusters.
+    fn is_empty_among<L: Ledger>(
+        &self,
+        ring: &Ring,
+        clusters: &Clusters,
+        steps: &mut Steps<L>,
+    ) -> bool
         requires counterclockwise { IsLeft (whole self.now.u) (whole self.now.v) (whole self.now.w) }
         requires clusters { AreClusters ring.now.corners clusters.now }
         ensures { IsTrue result → (i : ℕ) → i < length ring.now.corners → ¬ (i ≡ self.now.tri.b)
@@ -242,38 +276,4 @@ impl Corner {
         let height = doubled_area(&self.w, &self.u, p, steps);
         Some(Candidate { height, number })
     }
-}
-
-// Twice the area of a triangle, positive where its corners run counterclockwise.
-#[tactic(auto, using(exact_plane::proofs::CrossProduct::cross_is_determinant))]
-fn doubled_area<L: Ledger>(a: &Pt, b: &Pt, c: &Pt, steps: &mut Steps<L>) -> i64
-    ensures area { result ≡ determinant (whole a.now) (whole b.now) (whole c.now) }
-    ensures small { unsigned_abs result < 2 ^ 50 }
-{
-    let (p, q) = (way(a, b, steps), way(a, c, steps));
-    cross_product(p, q)
-}
-
-// The way from `a` to `b`.
-pub(crate) fn way<L: Ledger>(a: &Pt, b: &Pt, steps: &mut Steps<L>) -> (i64, i64)
-    ensures x { result.0 ≡ b.now.x -ℤ a.now.x }
-    ensures y { result.1 ≡ b.now.y -ℤ a.now.y }
-    ensures x_is_small { unsigned_abs result.0 < 2 ^ 24 }
-    ensures y_is_small { unsigned_abs result.1 < 2 ^ 24 }
-{
-    let ((a_x, a_y), (b_x, b_y)) = (a.parts(steps), b.parts(steps));
-    (b_x - a_x, b_y - a_y)
-}
-
-// The cross product of two ways.
-#[tactic(auto, using(exact_plane::proofs::CrossProduct::cross_product))]
-fn cross_product(p: (i64, i64), q: (i64, i64)) -> i64
-    requires first_x { unsigned_abs p.0 < 2 ^ 24 }
-    requires first_y { unsigned_abs p.1 < 2 ^ 24 }
-    requires second_x { unsigned_abs q.0 < 2 ^ 24 }
-    requires second_y { unsigned_abs q.1 < 2 ^ 24 }
-    ensures product { result ≡ (p.0 *ℤ q.1) -ℤ (p.1 *ℤ q.0) }
-    ensures small { unsigned_abs result < 2 ^ 50 }
-{
-    p.0 * q.1 - p.1 * q.0
 }

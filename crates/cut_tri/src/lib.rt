@@ -5,6 +5,7 @@ mod clusters;
 mod cut;
 mod farthest;
 mod laws;
+mod measure;
 mod piece;
 mod triangle;
 mod triangulation;

@@ -6,7 +6,7 @@ ghost use Rattle.plane.specs.Triangle.{IsInTriangle};
 ghost use Rattle.plane.specs.Turn.{IsLeft, IsRight};
 ghost use Rattle.cut_tri.specs.Clusters.{IsBounded};
 
-use crate::farthest::{is_less_share, way};
+use crate::measure::{is_less_share, way};
 use exact_plane::{BoundingBox, Pt, Steps};
 use std::sync::ledger::Ledger;
 

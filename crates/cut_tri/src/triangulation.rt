@@ -6,7 +6,6 @@ ghost use Rattle.cut_tri.specs.Cut.{IsCutTriangulation};
 ghost use Rattle.cut_tri.specs.Ordered.{AreOrdered, IsPieceInOrder};
 ghost use Rattle.cut_tri.specs.WorkList.{HaveOrders, IsTakenOver, last_first};
 
-use crate::clusters::Clusters;
 use crate::cut::{Remains, cut};
 use crate::piece::Piece;
 use exact_plane::{Memory, Steps};
@@ -29,11 +28,11 @@ pub fn triangulate<L: Ledger>(
 {
     let mut tris = Vec::with_capacity(alloc, ring.len() as usize - 2)?;
     let mut places = Vec::from_elem(alloc, 0, ring.len() as usize)?;
-    let clusters = Clusters::of(alloc, ring, steps)?;
+    let mut clusters = None;
     let mut work = Vec::new(alloc);
     work.push(whole_piece(alloc, ring, steps)?)?;
     while let Some(piece) = work.pop() {
-        let left = cut(alloc, ring, piece, &mut places, &clusters, steps)?;
+        let left = cut(alloc, ring, piece, &mut places, &mut clusters, steps)?;
         take_over(left, &mut tris, &mut work)?;
     }
     Mesh::build(alloc, tris)

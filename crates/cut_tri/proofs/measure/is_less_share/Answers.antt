@@ -1,7 +1,7 @@
 use Rattle.std.proofs.Common.{rules, ◌≡◌, Less, arith}
 use Rattle.std.proofs.lemmas.Int.{ints}
 use Rattle.cut_tri.proofs.Heights.{less_share}
-use Rattle.cut_tri.proofs.farthest.is_less_share.Goals as goal
+use Rattle.cut_tri.proofs.measure.is_less_share.Goals as goal
 
 pub returns : goal.returns
 returns c less =

@@ -1,7 +1,7 @@
 use Rattle.std.proofs.Common.{◌≡◌, ℕ, ◌-◌, ◌<◌, length, get_or}
 use Rattle.rings.specs.Ring.{vertex}
 use Rattle.cut_tri.specs.Corner.{IsCandidate}
-use Rattle.cut_tri.proofs.farthest.Corner.is_empty.Given as goal
+use Rattle.cut_tri.proofs.farthest.Corner.is_empty_among.Given as goal
 
 abbrev pub invariant-loop-place : goal.invariant-loop-place
 invariant-loop-place g l =

@@ -5,7 +5,7 @@ use Rattle.rings.specs.Ring.{vertex}
 use Rattle.cut_tri.proofs.ClusterPlaces.{all_below, has_place}
 use Rattle.cut_tri.proofs.TriangleBoxes.{same_corners}
 use Rattle.cut_tri.specs.Corner.{IsCandidate}
-use Rattle.cut_tri.proofs.farthest.Corner.is_empty.Goals as goal
+use Rattle.cut_tri.proofs.farthest.Corner.is_empty_among.Goals as goal
 
 pub loop-place-preserved-then-place-end : goal.loop-place-preserved-then-place-end
 loop-place-preserved-then-place-end g c k high other candidate = elim (cases_lt k c.loop-place.place) [
