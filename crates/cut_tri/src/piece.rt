@@ -14,14 +14,21 @@ pub(crate) struct Piece {
     pub order: Vec<u32>,
 }
 
-// The place of a number. Numbers rise along a boundary, but where it comes round to those that are less than its first, so the
-// place is found by halves. That they rise is not proved: where it is not found so, all are looked at.
+// The place of a number, most often the first or the last. Numbers rise along a boundary, but where it comes round to those that
+// are less than its first, so the place is found by halves. That they rise is not proved: where it is not found so, all are looked
+// at.
 pub(crate) fn place_of(boundary: &VecDeque<u32>, number: u32) -> usize
     requires { Contains boundary.now.items number }
     ensures place { result < length boundary.now.items }
     ensures is { slice_index_or boundary.now.items result 0 ≡ number }
 {
     let last = boundary.len() - 1;
+    if boundary[0] == number {
+        return 0;
+    }
+    if boundary[last] == number {
+        return last;
+    }
     let likely = likely_place(boundary, number);
     if boundary[likely] == number {
         return likely;
