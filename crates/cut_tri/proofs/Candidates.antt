@@ -10,7 +10,7 @@ use Rattle.rings.specs.Ring.{vertex}
 use Rattle.meshes.proofs.Joins.{place_of}
 use Rattle.cut_tri.proofs.DistinctCorners.{HasDistinctCorners, at_one_place}
 use Rattle.cut_tri.specs.Cut.{IsPlaceInCorner}
-use Rattle.cut_tri.specs.Corner.{IsFarther, IsFartherOf, IsInCornerOf, candidate_of}
+use Rattle.cut_tri.specs.Corner.{IsBest, IsFarther, IsFartherOf, IsInCornerOf, best_height, candidate_of}
 use Rattle.cut_tri.specs.Ordered.{IsFarthestNumber}
 use Rattle.cut_tri.specs.Piece.{piece_vertex}
 use Rattle.cut_tri.specs.declared.farthest.Candidate.{Candidate}
@@ -109,6 +109,26 @@ module _ (corners : List Point) (piece order : List ℕ) where
           some_is : (b : Candidate) → Some chosen ≡ Some b → chosen ≡ b
           some_is b e = cc
 
+  -- where each vertex in the corner was looked at or is nearer than the best, that is the best of all
+  pub best_of_all : (n : ℕ) (best : Option Candidate) → IsBestBelow corners piece order n best
+      → ((i : ℕ) → IsInCornerOf corners piece i → HasRankBelow order n i ⊎ ((candidate_of corners piece i).height <ℤ best_height best))
+      → IsBest corners piece best
+  best_of_all n best so_far all = record {
+    none = λ e i in_i. elim (all i in_i) [
+      | inl has ↦ so_far.none e i has in_i
+      | inr nearer ↦ in_i.in_triangle.not_right_of_third (subst (λ o. (candidate_of corners piece i).height <ℤ best_height o) e nearer)
+    ];
+    is_candidate = so_far.is_candidate;
+    in_corner = so_far.in_corner;
+    farthest = λ b e i in_i. elim (all i in_i) [
+      | inl has ↦ so_far.farthest b e i has in_i
+      | inr nearer ↦ not_farther (candidate_of corners piece i) b (subst (λ o. (candidate_of corners piece i).height <ℤ best_height o) e nearer)
+    ];
+  }
+    where
+      not_farther : (a b : Candidate) → a.height <ℤ b.height → ¬ (IsFarther a b)
+      not_farther a b h k = grind (arith, ints)
+
 -- ---- numbers and places
 
 -- what is not less is at most
@@ -149,19 +169,17 @@ module _ (corners : List Point) (piece : List ℕ) (three : 3 ≤ length piece) 
         },
       )
 
-  module _ (order : List ℕ) (n : ℕ) (best : Option Candidate) (so_far : IsBestBelow corners piece order n best)
-      (all : (i : ℕ) → IsInCornerOf corners piece i → HasRankBelow order n i) where
-    -- where all that are in the corner were looked at, the best is the farthest,
-    pub farthest_of_all : (b : Candidate) → best ≡ Some b → IsFarthestNumber corners piece b.number
-    farthest_of_all b e =
-        let (place, at, in_corner) = place_in_corner b.number (so_far.in_corner b e) in
-        let chosen : b ≡ candidate_of corners piece (get_or piece place 0) = so_far.is_candidate b e ∙ ap (candidate_of corners piece) (sym at) in
+  module _ (best : Option Candidate) (is : IsBest corners piece best) where
+    -- so the best is the farthest,
+    pub farthest_of_best : (b : Candidate) → best ≡ Some b → IsFarthestNumber corners piece b.number
+    farthest_of_best b e =
+        let (place, at, in_corner) = place_in_corner b.number (is.in_corner b e) in
+        let chosen : b ≡ candidate_of corners piece (get_or piece place 0) = is.is_candidate b e ∙ ap (candidate_of corners piece) (sym at) in
         let not_farther : (k : ℕ) → IsPlaceInCorner corners piece k
         → ¬ (IsFarther (candidate_of corners piece (get_or piece k 0)) (candidate_of corners piece (get_or piece place 0))) =
         λ k in_k.
-        let number = number_in_corner k in_k in
         subst (λ (c : Candidate). ¬ (IsFarther (candidate_of corners piece (get_or piece k 0)) c)) chosen
-        (so_far.farthest b e (get_or piece k 0) (all (get_or piece k 0) number) number) in
+        (is.farthest b e (get_or piece k 0) (number_in_corner k in_k)) in
         record {
           place = place;
           is = at;
@@ -176,7 +194,5 @@ module _ (corners : List Point) (piece : List ℕ) (three : 3 ≤ length piece) 
         }
 
     -- and where there is none, none is in the corner
-    pub none_of_all : best ≡ None → (k : ℕ) → ¬ (IsPlaceInCorner corners piece k)
-    none_of_all e k in_k =
-        let number = number_in_corner k in_k in
-        so_far.none e (get_or piece k 0) (all (get_or piece k 0) number) number
+    pub none_of_best : best ≡ None → (k : ℕ) → ¬ (IsPlaceInCorner corners piece k)
+    none_of_best e k in_k = is.none e (get_or piece k 0) (number_in_corner k in_k)

@@ -1,11 +1,12 @@
 mod Candidates
+mod ClusterPlaces
 mod Completion
 mod CornerPlaces
 mod DiagonalCuts
 mod DistinctCorners
 mod EarCuts
 mod Ends
-mod LastCorner
+mod Heights
 mod Looks
 mod Members
 pub mod OneCut
@@ -15,5 +16,6 @@ mod Parts
 mod Readings
 mod RotatedCuts
 mod Shapes
+mod TriangleBoxes
 mod WholePiece
 mod WorkList

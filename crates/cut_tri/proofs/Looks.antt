@@ -1,27 +1,22 @@
 -- The vertex that is looked at: whether it is in the corner at the least vertex of its piece.
-use Rattle.std.proofs.Common.{◌≡◌, ◌⊎◌, inl, inr, sym, ap, subst, ◌∙◌, ℕ, ◌-◌, ◌<◌, ◌≤◌, List, length, get_or, arith}
+use Rattle.std.proofs.Common.{◌≡◌, refl, None, sym, ap, subst, ◌∙◌, ℕ, ◌-◌, ◌<◌, ◌≤◌, ℤ, ◌<ℤ◌, ◌≤ℤ◌, List, length, get_or, arith}
+use Rattle.std.proofs.lemmas.Int.{ints}
 use Rattle.std.proofs.lemmas.List.Elements.{Contains-get_or}
 use Rattle.std.specs.List.{Contains}
 use Rattle.plane.proofs.Order.{before_differs}
 use Rattle.plane.specs.Order.{IsBefore}
 use Rattle.plane.specs.Point.{Point, whole}
 use Rattle.plane.specs.Triangle.{IsInTriangle, height_over}
+use Rattle.plane.specs.Turn.{IsLeft}
 use Rattle.rings.specs.Ring.{vertex}
 use Rattle.cut_tri.proofs.Candidates.{HasRankBelow, of_rank}
-use Rattle.cut_tri.proofs.Ends.{IsEnd}
+use Rattle.cut_tri.proofs.Ends.{left_at_first}
 use Rattle.cut_tri.proofs.Members.{members_of_numbers}
-use Rattle.cut_tri.specs.Corner.{IsCandidate, IsInCornerOf, candidate_of}
+use Rattle.cut_tri.specs.Corner.{IsBest, IsCandidate, IsCornerAt, IsInCornerOf, candidate_of}
 use Rattle.cut_tri.specs.Ordered.{IsLeastPlace, IsOrderOf}
-use Rattle.cut_tri.specs.Piece.{HasNumbers, piece_vertex, tri_at_first}
+use Rattle.cut_tri.specs.Piece.{HasNumbers, IsLeastBelow, IsPiece, piece_vertex}
 use Rattle.cut_tri.specs.declared.farthest.Candidate.{Candidate}
 use Rattle.cut_tri.specs.declared.farthest.Corner.{Corner}
-
--- the triangle at the first vertex of a piece
-pub record IsCornerAt (corners : List Point) (piece : List ℕ) (corner : Corner) : Type 0 where
-  pub tri : corner.tri ≡ tri_at_first piece
-  pub u : corner.u ≡ piece_vertex corners piece (length piece - 1)
-  pub v : corner.v ≡ piece_vertex corners piece 0
-  pub w : corner.w ≡ piece_vertex corners piece 1
 
 module _ (corners : List Point) (xs : List ℕ) (corner : Corner) (at : IsCornerAt corners xs corner) where
   -- what is true of its points is true of the triangle's
@@ -30,19 +25,30 @@ module _ (corners : List Point) (xs : List ℕ) (corner : Corner) (at : IsCorner
   at_corner P h = subst (λ p. P p (piece_vertex corners xs 0) (piece_vertex corners xs 1)) at.u (subst (λ p. P corner.u p (piece_vertex corners xs 1)) at.v (subst (P corner.u corner.v) at.w h))
 
   -- and the other way round
-  pub back_at_corner : (P : Point → Point → Point → Type 0)
+  back_at_corner : (P : Point → Point → Point → Type 0)
       → P (piece_vertex corners xs (length xs - 1)) (piece_vertex corners xs 0) (piece_vertex corners xs 1) → P corner.u corner.v corner.w
   back_at_corner P h = subst (λ p. P p corner.v corner.w) (sym at.u)
       (subst (λ p. P (piece_vertex corners xs (length xs - 1)) p corner.w) (sym at.v)
       (subst (P (piece_vertex corners xs (length xs - 1)) (piece_vertex corners xs 0)) (sym at.w) h))
 
-  -- the later of u and w is the end
-  pub end_at : (end : Point) → (end ≡ corner.u) ⊎ (end ≡ corner.w) → ¬ (IsBefore end corner.u) → ¬ (IsBefore end corner.w) → IsEnd corners xs end
-  end_at end one not_before_u not_before_w = record {
-    one = elim one [ inl e ↦ inl (e ∙ at.u) | inr e ↦ inr (e ∙ at.w) ];
-    not_before_last = subst (λ (p : Point). ¬ (IsBefore end p)) at.u not_before_u;
-    not_before_second = subst (λ (p : Point). ¬ (IsBefore end p)) at.w not_before_w;
-  }
+  -- its corners run counterclockwise
+  pub left_at_corner : IsPiece corners xs → IsLeastBelow corners xs (length xs) 0 → IsLeft (whole corner.u) (whole corner.v) (whole corner.w)
+  left_at_corner piece least = back_at_corner (λ u v w. IsLeft (whole u) (whole v) (whole w)) (left_at_first corners xs piece least)
+
+  -- and the first is not right of the last
+  pub first_not_right : 2 ≤ length xs → IsLeastBelow corners xs (length xs) 0 → corner.v.x ≤ℤ corner.u.x
+  first_not_right some least =
+      back_at_corner (λ u v w. v.x ≤ℤ u.x) (not_before_right _ _ (least (length xs - 1) (omega (arith, some))))
+    where
+      not_before_right : (p q : Point) → ¬ (IsBefore p q) → q.x ≤ℤ p.x
+      not_before_right p q h = grind (arith, ints)
+
+  -- a vertex in the corner is nearer where its point is
+  pub nearer_at : (i : ℕ) (height : ℤ) → (IsInTriangle corner.u corner.v corner.w (whole (vertex corners i))
+      → height_over corner.u corner.w (whole (vertex corners i)) <ℤ height) → IsInCornerOf corners xs i → (candidate_of corners xs i).height <ℤ height
+  nearer_at i height nearer in_corner =
+      subst (λ h. h <ℤ height) (λ k. height_over (at.u k) (at.w k) (whole (vertex corners i)))
+      (nearer (back_at_corner (λ u v w. IsInTriangle u v w (whole (vertex corners i))) in_corner.in_triangle))
 
   module _ (i : ℕ) (p : Point) (is : p ≡ vertex corners i) where
     -- a vertex of the piece that is not the first is in the corner where it is a candidate
@@ -68,6 +74,17 @@ module _ (corners : List Point) (xs : List ℕ) (corner : Corner) (at : IsCorner
     -- its height is that of the vertex
     pub candidate_is : (c : Candidate) → c ≡ record { height = height_over corner.u corner.w (whole p); number = i } → c ≡ candidate_of corners xs i
     candidate_is c e = e ∙ (λ k. record { height = height_over (at.u k) (at.w k) (whole (is k)); number = i })
+
+  -- where no vertex but the first is a candidate, none is the best
+  pub none_is_best : HasNumbers corners xs
+      → ((i : ℕ) → i < length corners → ¬ (i ≡ corner.tri.b) → ¬ (IsCandidate corner i (vertex corners i))) → IsBest corners xs None
+  none_is_best numbers empty = record {
+    none = λ e i in_i. empty i (members_of_numbers (length corners) xs numbers i in_i.member) (λ e. in_i.not_first (e ∙ ap (λ t. t.b) at.tri))
+        (is_candidate i (vertex corners i) refl in_i);
+    is_candidate = λ b e. absurd (cc);
+    in_corner = λ b e. absurd (cc);
+    farthest = λ b e. absurd (cc);
+  }
 
 -- ---- numbers in the order
 

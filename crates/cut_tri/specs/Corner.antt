@@ -1,10 +1,11 @@
 -- The farthest of the vertices in the triangle at the first vertex of a piece. No public clause cites this module.
 use Rattle.std.specs.List.{Contains}
-use Rattle.std.specs.Prelude.{◌≡◌, ◌⊎◌, ℕ, ◌-◌, ◌<◌, ◌<ℤ◌, Option, Some, List, length, slice_index_or}
+use Rattle.std.specs.Prelude.{◌≡◌, ◌⊎◌, ℕ, ◌-◌, ◌<◌, ◌^◌, ℤ, pos, ◌<ℤ◌, ◌≤ℤ◌, Option, None, Some, List, length, slice_index_or, unsigned_abs}
 use Rattle.plane.specs.Point.{Point, whole}
 use Rattle.plane.specs.Triangle.{IsInTriangle, height_over}
+use Rattle.plane.specs.Turn.{determinant}
 use Rattle.rings.specs.Ring.{vertex}
-use Rattle.cut_tri.specs.Piece.{piece_vertex}
+use Rattle.cut_tri.specs.Piece.{piece_vertex, tri_at_first}
 use Rattle.cut_tri.specs.declared.farthest.Candidate.{Candidate}
 use Rattle.cut_tri.specs.declared.farthest.Corner.{Corner}
 
@@ -24,6 +25,13 @@ pub record IsInCornerOf (corners : List Point) (piece : List ℕ) (i : ℕ) : Ty
   pub in_triangle : IsInTriangle (piece_vertex corners piece (length piece - 1)) (piece_vertex corners piece 0) (piece_vertex corners piece 1)
       (whole (vertex corners i))
 
+-- the triangle at the first vertex of a piece
+pub record IsCornerAt (corners : List Point) (piece : List ℕ) (corner : Corner) : Type 0 where
+  pub tri : corner.tri ≡ tri_at_first piece
+  pub u : corner.u ≡ piece_vertex corners piece (length piece - 1)
+  pub v : corner.v ≡ piece_vertex corners piece 0
+  pub w : corner.w ≡ piece_vertex corners piece 1
+
 -- the vertex with this number and at this point is in the closed triangle, and neither of u and w
 pub record IsCandidate (corner : Corner) (number : ℕ) (p : Point) : Type 0 where
   pub in_triangle : IsInTriangle corner.u corner.v corner.w (whole p)
@@ -39,3 +47,22 @@ pub record IsFartherOf (best : Option Candidate) (candidate chosen : Candidate) 
   pub one : (chosen ≡ candidate) ⊎ (best ≡ Some chosen)
   pub candidate_not_farther : ¬ (IsFarther candidate chosen)
   pub best_not_farther : (b : Candidate) → best ≡ Some b → ¬ (IsFarther b chosen)
+
+-- the end is left of neither of u and w, and the height is that of v
+pub record IsMeasured (corner : Corner) : Type 0 where
+  pub end_of_first : corner.u.x ≤ℤ corner.end.x
+  pub end_of_last : corner.w.x ≤ℤ corner.end.x
+  pub height : corner.height ≡ determinant (whole corner.u) (whole corner.v) (whole corner.w)
+  pub height_small : unsigned_abs corner.height < 2 ^ 50
+
+-- how high the best is, or 0 where there is none
+abbrev pub best_height : Option Candidate → ℤ
+best_height None = pos 0
+best_height (Some best) = best.height
+
+-- the farthest of the vertices in the corner, or none where there is none
+pub record IsBest (corners : List Point) (piece : List ℕ) (best : Option Candidate) : Type 0 where
+  pub none : best ≡ None → (i : ℕ) → ¬ (IsInCornerOf corners piece i)
+  pub is_candidate : (b : Candidate) → best ≡ Some b → b ≡ candidate_of corners piece b.number
+  pub in_corner : (b : Candidate) → best ≡ Some b → IsInCornerOf corners piece b.number
+  pub farthest : (b : Candidate) → best ≡ Some b → (i : ℕ) → IsInCornerOf corners piece i → ¬ (IsFarther (candidate_of corners piece i) b)

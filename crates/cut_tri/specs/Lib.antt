@@ -1,3 +1,4 @@
+pub mod Clusters
 pub mod Corner
 pub mod Cut
 pub mod Cutting

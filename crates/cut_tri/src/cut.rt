@@ -1,11 +1,13 @@
 // One cut of a piece.
-ghost use Rattle.std.specs.Prelude.{◌≡◌, ◌<◌, ◌≤◌, IfOk, length, slice_index_or};
+ghost use Rattle.std.specs.Prelude.{◌≡◌, ◌<◌, ◌≤◌, IfOk, IfSome, length, slice_index_or};
+ghost use Rattle.cut_tri.specs.Clusters.{AreClusters};
 ghost use Rattle.cut_tri.specs.Cutting.{IsCutOf};
 ghost use Rattle.cut_tri.specs.Ordered.{AreOrdered, IsFarthestNumber, IsLeastPlace, IsPieceInOrder, IsOrderedFromLeast};
 ghost use Rattle.cut_tri.specs.Piece.{IsPiece, tri_at_first};
 
+use crate::clusters::Clusters;
 use crate::farthest::farthest;
-use crate::piece::{Piece, note_places, part_order, place_of};
+use crate::piece::{Piece, note_places, part_boundary, part_order, place_of};
 use exact_plane::{Memory, Steps};
 use meshes::Tri;
 use ring_check::Ring;
@@ -32,17 +34,20 @@ pub(crate) fn cut<L: Ledger>(
     ring: &Ring,
     mut piece: Piece,
     places: &mut [usize],
+    clusters: &mut Option<Clusters>,
     steps: &mut Steps<L>,
 ) -> Result<Remains, Memory>
     requires ordered { IsPieceInOrder ring.now.corners piece }
     requires places { length places.old ≡ length ring.now.corners }
+    requires clusters { IfSome clusters.old (AreClusters ring.now.corners) }
     ensures cut { IfOk result (IsCutOf ring.now.corners piece.boundary.items) }
     ensures ordered { IfOk result (AreOrdered ring.now.corners) }
     ensures places { length places.new ≡ length places.old }
+    ensures clusters { IfSome clusters.new (AreClusters ring.now.corners) }
 {
     let least = least_place(ring, &piece);
     piece.boundary.rotate_left(least);
-    cut_at_first(alloc, ring, piece, places, steps)
+    cut_at_first(alloc, ring, piece, places, clusters, steps)
 }
 
 // The place of the lexicographically least vertex, which is the last of the order.
@@ -59,19 +64,22 @@ fn cut_at_first<L: Ledger>(
     ring: &Ring,
     mut piece: Piece,
     places: &mut [usize],
+    clusters: &mut Option<Clusters>,
     steps: &mut Steps<L>,
 ) -> Result<Remains, Memory>
     requires ordered { IsOrderedFromLeast ring.now.corners piece }
     requires places { length places.old ≡ length ring.now.corners }
+    requires clusters { IfSome clusters.old (AreClusters ring.now.corners) }
     ensures cut { IfOk result (IsCutOf ring.now.corners piece.boundary.items) }
     ensures ordered { IfOk result (AreOrdered ring.now.corners) }
     ensures places { length places.new ≡ length places.old }
+    ensures clusters { IfSome clusters.new (AreClusters ring.now.corners) }
 {
     let tri = corner_of(&piece.boundary);
     if piece.boundary.len() == 3 {
         return Ok(Remains::Triangle(tri));
     }
-    match farthest(ring, &piece, steps) {
+    match farthest(alloc, ring, &piece, clusters, steps) {
         None => {
             let _ = piece.boundary.pop_front();
             let _ = piece.order.pop();
@@ -100,7 +108,7 @@ pub(crate) fn corner_of(boundary: &VecDeque<u32>) -> Tri
 fn parts(
     alloc: Global,
     ring: &Ring,
-    mut piece: Piece,
+    piece: Piece,
     number: u32,
     places: &mut [usize],
 ) -> Result<(Piece, Piece), Memory>
@@ -115,13 +123,10 @@ fn parts(
     let place = places[number as usize];
     let count = piece.boundary.len();
     let (first_order, second_order) = part_order(alloc, &piece.order, places, place, count)?;
-    let first = piece.boundary[0];
-    let mut second = piece.boundary.split_off(place)?;
-    second.push_front(first)?;
-    piece.boundary.push_back(number)?;
+    let (first, second) = part_boundary(piece.boundary, place, number)?;
     Ok((
         Piece {
-            boundary: piece.boundary,
+            boundary: first,
             order: first_order,
         },
         Piece {

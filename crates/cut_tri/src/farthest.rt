@@ -1,29 +1,41 @@
 // The vertex of a piece that a diagonal from its first vertex goes to.
-ghost use Rattle.std.specs.Prelude.{◌≡◌, ◌⊎◌, ◌<◌, ◌^◌, ◌↔◌, ◌*ℤ◌, ◌-ℤ◌, ℕ, IsTrue, IfSome, IfNone, OnSome, length, unsigned_abs};
-ghost use Rattle.plane.specs.Order.{IsBefore};
-ghost use Rattle.plane.specs.Point.{whole};
-ghost use Rattle.plane.specs.Triangle.{height_over};
-ghost use Rattle.plane.specs.Turn.{IsLeft, determinant};
+ghost use Rattle.std.specs.Prelude.{◌≡◌, ◌<◌, ◌↔◌, ◌<ℤ◌, ◌≤ℤ◌, ℕ, IsFalse, IsTrue, IfSome, IfNone, OnSome, length};
+ghost use Rattle.plane.specs.Point.{Point, whole};
+ghost use Rattle.plane.specs.Triangle.{IsInTriangle, height_over};
+ghost use Rattle.plane.specs.Turn.{IsLeft};
 ghost use Rattle.rings.specs.Ring.{vertex};
+ghost use Rattle.cut_tri.specs.Clusters.{AreClusters};
 ghost use Rattle.cut_tri.specs.Cut.{IsPlaceInCorner};
-ghost use Rattle.cut_tri.specs.Corner.{IsCandidate, IsFarther, IsFartherOf};
+ghost use Rattle.cut_tri.specs.Corner.{IsBest, IsCandidate, IsCornerAt, IsFarther, IsFartherOf, IsMeasured, best_height};
 ghost use Rattle.cut_tri.specs.Ordered.{IsFarthestNumber, IsOrderedFromLeast};
+ghost use Rattle.cut_tri.specs.Piece.{IsPiece};
 
+use crate::clusters::Clusters;
 use crate::cut::corner_of;
+use crate::measure::{doubled_area, is_less_share, way};
 use crate::piece::Piece;
+use crate::triangle::Triangle;
 use exact_plane::{Pt, Steps, in_triangle, order};
 use meshes::Tri;
 use ring_check::Ring;
+use std::alloc::Global;
 use std::cmp::Ordering;
+use std::collections::VecDeque;
 use std::sync::ledger::Ledger;
 
-// The triangle at the first vertex of a piece, counterclockwise.
+// How many vertices are looked at before the clusters are asked.
+const NEAR: usize = 32;
+
+// The triangle at the first vertex v of a piece, counterclockwise: the later of u and w, and how far v is from the line
+// through them.
 #[derive(Drop)]
 struct Corner {
     tri: Tri,
     u: Pt,
     v: Pt,
     w: Pt,
+    end: Pt,
+    height: i64,
 }
 
 // A vertex in the triangle, and how far it is from the line through u and w.
@@ -43,44 +55,95 @@ impl Candidate {
 }
 
 // The vertex in the closed triangle of the first vertex and the two beside it that is farthest from the line through those
-// two, and none of the three; of several the one with the least number. The first vertex is the least of all, so none is
-// looked at that comes after both of the others.
-pub(crate) fn farthest<L: Ledger>(ring: &Ring, piece: &Piece, steps: &mut Steps<L>) -> Option<u32>
-    requires { IsOrderedFromLeast ring.now.corners piece.now }
+// two, and none of the three; of several the one with the least number.
+pub(crate) fn farthest<L: Ledger>(
+    alloc: Global,
+    ring: &Ring,
+    piece: &Piece,
+    clusters: &mut Option<Clusters>,
+    steps: &mut Steps<L>,
+) -> Option<u32>
+    requires ordered { IsOrderedFromLeast ring.now.corners piece.now }
+    requires clusters { IfSome clusters.old (AreClusters ring.now.corners) }
+    ensures clusters { IfSome clusters.new (AreClusters ring.now.corners) }
     ensures farthest { IfSome result (IsFarthestNumber ring.now.corners piece.now.boundary.items) }
     ensures none { IfNone result ((k : ℕ) → ¬ (IsPlaceInCorner ring.now.corners piece.now.boundary.items k)) }
 {
-    let corner = Corner::of(ring, corner_of(&piece.boundary));
-    let end = later(&corner.u, &corner.w, steps);
+    let corner = Corner::of(ring, &piece.boundary, steps);
+    Some(best_in(alloc, &corner, ring, piece, clusters, steps)?.number)
+}
+
+// The best vertex in the triangle. The first vertex is the least of all, and the farther right a point of the triangle is the
+// nearer it is at most, so the search ends where all are nearer than the best. Where it finds none for long, most often there
+// is none, which the clusters tell.
+fn best_in<L: Ledger>(
+    alloc: Global,
+    corner: &Corner,
+    ring: &Ring,
+    piece: &Piece,
+    clusters: &mut Option<Clusters>,
+    steps: &mut Steps<L>,
+) -> Option<Candidate>
+    requires ordered { IsOrderedFromLeast ring.now.corners piece.now }
+    requires corner { IsCornerAt ring.now.corners piece.now.boundary.items corner.now }
+    requires measured { IsMeasured corner.now }
+    requires clusters { IfSome clusters.old (AreClusters ring.now.corners) }
+    ensures best { IsBest ring.now.corners piece.now.boundary.items result }
+    ensures clusters { IfSome clusters.new (AreClusters ring.now.corners) }
+{
     let last = piece.order.len() - 1;
     let mut best: Option<Candidate> = None;
     for rank in 1..piece.order.len() {
+        if rank == NEAR && best.is_none() && corner.is_empty(alloc, ring, clusters, steps) {
+            return None;
+        }
         let number = piece.order[last - rank];
         let p = ring.corner(number);
-        if !is_before(&p, &end, steps) {
+        if corner.is_nearer_from(&p, best, steps) {
             break;
         }
         if let Some(candidate) = corner.candidate(number, &p, steps) {
             best = Some(farther(best, candidate));
         }
     }
-    Some(best?.number)
+    best
+}
+
+// Makes the clusters where there are none and memory suffices.
+fn make_clusters<L: Ledger>(
+    alloc: Global,
+    ring: &Ring,
+    clusters: &mut Option<Clusters>,
+    steps: &mut Steps<L>,
+)
+    requires { IfSome clusters.old (AreClusters ring.now.corners) }
+    ensures { IfSome clusters.new (AreClusters ring.now.corners) }
+{
+    if clusters.is_none() {
+        *clusters = Clusters::of(alloc, ring, steps).ok();
+    }
 }
 
 // The later of two points in lexicographic order.
 fn later<L: Ledger>(p: &Pt, q: &Pt, steps: &mut Steps<L>) -> Pt
-    ensures one { (result ≡ p.now) ⊎ (result ≡ q.now) }
-    ensures not_before_first { ¬ (IsBefore result p.now) }
-    ensures not_before_second { ¬ (IsBefore result q.now) }
+    ensures first { p.now.x ≤ℤ result.x }
+    ensures second { q.now.x ≤ℤ result.x }
 {
-    if is_before(p, q, steps) { *q } else { *p }
+    if order(p, q, steps) == Ordering::Less {
+        *q
+    } else {
+        *p
+    }
 }
 
-// Whether `p` comes before `q`.
-fn is_before<L: Ledger>(p: &Pt, q: &Pt, steps: &mut Steps<L>) -> bool
-    ensures { IsTrue result ↔ IsBefore p.now q.now }
+// How far the best is, or 0.
+fn height_of(best: Option<Candidate>) -> i64
+    ensures { result ≡ best_height best }
 {
-    order(p, q, steps) == Ordering::Less
+    match best {
+        Some(best) => best.height,
+        None => 0,
+    }
 }
 
 // The farther of two.
@@ -94,22 +157,104 @@ fn farther(best: Option<Candidate>, candidate: Candidate) -> Candidate
 }
 
 impl Corner {
-    // The triangle with these vertices as corners.
-    fn of(ring: &Ring, tri: Tri) -> Corner
-        requires a { tri.a < length ring.now.corners }
-        requires b { tri.b < length ring.now.corners }
-        requires c { tri.c < length ring.now.corners }
-        ensures tri { result.tri ≡ tri }
-        ensures u { result.u ≡ vertex ring.now.corners tri.a }
-        ensures v { result.v ≡ vertex ring.now.corners tri.b }
-        ensures w { result.w ≡ vertex ring.now.corners tri.c }
+    // The triangle at the first vertex of this boundary.
+    fn of<L: Ledger>(ring: &Ring, boundary: &VecDeque<u32>, steps: &mut Steps<L>) -> Corner
+        requires { IsPiece ring.now.corners boundary.now.items }
+        ensures corner { IsCornerAt ring.now.corners boundary.now.items result }
+        ensures measured { IsMeasured result }
     {
+        let tri = corner_of(boundary);
+        let (u, v, w) = (ring.corner(tri.a), ring.corner(tri.b), ring.corner(tri.c));
+        let end = later(&u, &w, steps);
+        let height = doubled_area(&u, &v, &w, steps);
         Corner {
-            u: ring.corner(tri.a),
-            v: ring.corner(tri.b),
-            w: ring.corner(tri.c),
             tri,
+            u,
+            v,
+            w,
+            end,
+            height,
         }
+    }
+
+    // Whether all points of the triangle that are not left of this one are nearer than the best. A point of it at x is at most
+    // as far as v times the part of the way from v to the end that is right of x.
+    fn is_nearer_from<L: Ledger>(
+        &self,
+        p: &Pt,
+        best: Option<Candidate>,
+        steps: &mut Steps<L>,
+    ) -> bool
+        requires counterclockwise { IsLeft (whole self.now.u) (whole self.now.v) (whole self.now.w) }
+        requires measured { IsMeasured self.now }
+        requires first { self.now.v.x ≤ℤ self.now.u.x }
+        ensures { IsTrue result → (q : Point) → p.now.x ≤ℤ q.x → IsInTriangle self.now.u self.now.v self.now.w (whole q)
+            → height_over self.now.u self.now.w (whole q) <ℤ best_height best }
+    {
+        let (rest, _) = way(p, &self.end, steps);
+        let (whole, _) = way(&self.v, &self.end, steps);
+        is_less_share(rest, whole, height_of(best), self.height)
+    }
+
+    // Whether no vertex of the ring but the three is in the triangle, by clusters that are made here where there are none. Without
+    // memory for them it is taken for not empty.
+    fn is_empty<L: Ledger>(
+        &self,
+        alloc: Global,
+        ring: &Ring,
+        clusters: &mut Option<Clusters>,
+        steps: &mut Steps<L>,
+    ) -> bool
+        requires counterclockwise { IsLeft (whole self.now.u) (whole self.now.v) (whole self.now.w) }
+        requires clusters { IfSome clusters.old (AreClusters ring.now.corners) }
+        ensures empty { IsTrue result → (i : ℕ) → i < length ring.now.corners → ¬ (i ≡ self.now.tri.b)
+            → ¬ (IsCandidate self.now i (vertex ring.now.corners i)) }
+        ensures clusters { IfSome clusters.new (AreClusters ring.now.corners) }
+    {
+        make_clusters(alloc, ring, clusters, steps);
+        match &*clusters {
+            Some(made) => self.is_empty_among(ring, made, steps),
+            None => false,
+        }
+    }
+
+    // Whether none is, by these clusters.
+    fn is_empty_among<L: Ledger>(
+        &self,
+        ring: &Ring,
+        clusters: &Clusters,
+        steps: &mut Steps<L>,
+    ) -> bool
+        requires counterclockwise { IsLeft (whole self.now.u) (whole self.now.v) (whole self.now.w) }
+        requires clusters { AreClusters ring.now.corners clusters.now }
+        ensures { IsTrue result → (i : ℕ) → i < length ring.now.corners → ¬ (i ≡ self.now.tri.b)
+            → ¬ (IsCandidate self.now i (vertex ring.now.corners i)) }
+    {
+        let triangle = Triangle::of(&self.u, &self.v, &self.w, steps);
+        let mut place = 0;
+        while place < clusters.numbers.len() {
+            let end = clusters.clear_to(&triangle, place, steps);
+            if place < end {
+                place = end;
+            } else if self.has(ring, clusters.numbers[place], steps) {
+                return false;
+            } else {
+                place += 1;
+            }
+        }
+        true
+    }
+
+    // Whether the vertex with this number is in the triangle, and none of the three.
+    fn has<L: Ledger>(&self, ring: &Ring, number: u32, steps: &mut Steps<L>) -> bool
+        requires counterclockwise { IsLeft (whole self.now.u) (whole self.now.v) (whole self.now.w) }
+        requires number { number < length ring.now.corners }
+        ensures { IsFalse result → ¬ (number ≡ self.now.tri.b) → ¬ (IsCandidate self.now number (vertex ring.now.corners number)) }
+    {
+        number != self.tri.b
+            && self
+                .candidate(number, &ring.corner(number), steps)
+                .is_some()
     }
 
     // The vertex with this number and at this point, if it is in the closed triangle and neither of u and w.
@@ -131,36 +276,4 @@ impl Corner {
         let height = doubled_area(&self.w, &self.u, p, steps);
         Some(Candidate { height, number })
     }
-}
-
-// Twice the area of a triangle, positive where its corners run counterclockwise.
-#[tactic(auto, using(exact_plane::proofs::CrossProduct::cross_is_determinant))]
-fn doubled_area<L: Ledger>(a: &Pt, b: &Pt, c: &Pt, steps: &mut Steps<L>) -> i64
-    ensures { result ≡ determinant (whole a.now) (whole b.now) (whole c.now) }
-{
-    let (p, q) = (way(a, b, steps), way(a, c, steps));
-    cross_product(p, q)
-}
-
-// The way from `a` to `b`.
-fn way<L: Ledger>(a: &Pt, b: &Pt, steps: &mut Steps<L>) -> (i64, i64)
-    ensures x { result.0 ≡ b.now.x -ℤ a.now.x }
-    ensures y { result.1 ≡ b.now.y -ℤ a.now.y }
-    ensures x_is_small { unsigned_abs result.0 < 2 ^ 24 }
-    ensures y_is_small { unsigned_abs result.1 < 2 ^ 24 }
-{
-    let ((a_x, a_y), (b_x, b_y)) = (a.parts(steps), b.parts(steps));
-    (b_x - a_x, b_y - a_y)
-}
-
-// The cross product of two ways.
-#[tactic(auto, using(exact_plane::proofs::CrossProduct::cross_product))]
-fn cross_product(p: (i64, i64), q: (i64, i64)) -> i64
-    requires first_x { unsigned_abs p.0 < 2 ^ 24 }
-    requires first_y { unsigned_abs p.1 < 2 ^ 24 }
-    requires second_x { unsigned_abs q.0 < 2 ^ 24 }
-    requires second_y { unsigned_abs q.1 < 2 ^ 24 }
-    ensures { result ≡ (p.0 *ℤ q.1) -ℤ (p.1 *ℤ q.0) }
-{
-    p.0 * q.1 - p.1 * q.0
 }

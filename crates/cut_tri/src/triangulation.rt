@@ -28,10 +28,11 @@ pub fn triangulate<L: Ledger>(
 {
     let mut tris = Vec::with_capacity(alloc, ring.len() as usize - 2)?;
     let mut places = Vec::from_elem(alloc, 0, ring.len() as usize)?;
+    let mut clusters = None;
     let mut work = Vec::new(alloc);
     work.push(whole_piece(alloc, ring, steps)?)?;
     while let Some(piece) = work.pop() {
-        let left = cut(alloc, ring, piece, &mut places, steps)?;
+        let left = cut(alloc, ring, piece, &mut places, &mut clusters, steps)?;
         take_over(left, &mut tris, &mut work)?;
     }
     Mesh::build(alloc, tris)

@@ -1,5 +1,4 @@
-use Rattle.std.proofs.Common.{◌≡◌, refl, sym, ap, subst, ◌∙◌, ℕ, List, [], ◌∷◌, ◌++◌, ◌<◌, length, get_or, take, drop, arith}
-use Rattle.std.proofs.lemmas.List.{get_or_default}
+use Rattle.std.proofs.Common.{refl, sym, ap, subst, ◌∙◌, ℕ, List, ◌<◌, length, get_or, arith}
 use Rattle.std.specs.List.{All, filter}
 use Rattle.cut_tri.proofs.Parts.{are_parts, different, order_below, orders_are, place_high, place_low}
 use Rattle.cut_tri.specs.Ordered.{is_in_first, is_in_second}
@@ -29,37 +28,16 @@ part_order-requires-clause-inner c =
 
 pub returns-clause-parts : goal.returns-clause-parts
 returns-clause-parts c =
-    let corners = c.args.ring.now.corners in
-    let xs = c.args.piece.boundary.items in
-    let os = c.args.piece.order.items in
-    let place : ℕ = get_or c.note_places.new.places c.args.number 0 in
-    let some = place_high corners xs os c.requires.ordered.ordered.0 c.requires.ordered.ordered.1 c.requires.ordered.least c.args.number c.requires.farthest
-    c.note_places.new.places c.note_places.ensures.places place refl in
-    let head : c.index-first.result.now ≡ get_or xs 0 0 = c.index-first.ensures ∙ get_or_default xs 0 c.index-first.result.now 0 (omega (arith, some)) in
-    let first_is : c.push_back.new.self.items ≡ take place xs ++ c.args.number ∷ [] =
-    c.in_ok-push_back.ensures.items ∙ ap (λ ys. ys ++ c.args.number ∷ []) c.in_ok-second.ensures.items in
-    let second_is : c.push_front.new.self.items ≡ get_or xs 0 0 ∷ drop place xs =
-    c.in_ok-push_front.ensures.items ∙ ap (λ i. i ∷ c.in_ok-second.second.items) head ∙ ap (λ ys. get_or xs 0 0 ∷ ys) c.in_ok-second.ensures.tail in
-    are_parts corners xs os c.requires.ordered.ordered.0 c.requires.ordered.ordered.1 c.requires.ordered.least c.args.number c.requires.farthest
-    c.note_places.new.places c.note_places.ensures.places (get_or c.note_places.new.places c.args.number 0) refl
-    c.push_back.new.self.items c.push_front.new.self.items first_is second_is
+    are_parts c.args.ring.now.corners c.args.piece.boundary.items c.args.piece.order.items c.requires.ordered.ordered.0 c.requires.ordered.ordered.1 c.requires.ordered.least
+    c.args.number c.requires.farthest c.note_places.new.places c.note_places.ensures.places (get_or c.note_places.new.places c.args.number 0) refl
+    c.in_ok-first.first.items c.in_ok-first.second.items c.in_ok-first.ensures.first c.in_ok-first.ensures.second
 
 pub returns-clause-ordered : goal.returns-clause-ordered
 returns-clause-ordered c =
-    let corners = c.args.ring.now.corners in
-    let xs = c.args.piece.boundary.items in
-    let os = c.args.piece.order.items in
     let place : ℕ = get_or c.note_places.new.places c.args.number 0 in
-    let some = place_high corners xs os c.requires.ordered.ordered.0 c.requires.ordered.ordered.1 c.requires.ordered.least c.args.number c.requires.farthest
-    c.note_places.new.places c.note_places.ensures.places place refl in
-    let head : c.index-first.result.now ≡ get_or xs 0 0 = c.index-first.ensures ∙ get_or_default xs 0 c.index-first.result.now 0 (omega (arith, some)) in
-    let first_is : c.push_back.new.self.items ≡ take place xs ++ c.args.number ∷ [] =
-    c.in_ok-push_back.ensures.items ∙ ap (λ ys. ys ++ c.args.number ∷ []) c.in_ok-second.ensures.items in
-    let second_is : c.push_front.new.self.items ≡ get_or xs 0 0 ∷ drop place xs =
-    c.in_ok-push_front.ensures.items ∙ ap (λ i. i ∷ c.in_ok-second.second.items) head ∙ ap (λ ys. get_or xs 0 0 ∷ ys) c.in_ok-second.ensures.tail in
-    orders_are corners xs os c.requires.ordered.ordered.0 c.requires.ordered.ordered.1 c.requires.ordered.least c.args.number c.requires.farthest
-    c.note_places.new.places c.note_places.ensures.places (get_or c.note_places.new.places c.args.number 0) refl
-    c.push_back.new.self.items c.push_front.new.self.items first_is second_is
+    orders_are c.args.ring.now.corners c.args.piece.boundary.items c.args.piece.order.items c.requires.ordered.ordered.0 c.requires.ordered.ordered.1 c.requires.ordered.least
+    c.args.number c.requires.farthest c.note_places.new.places c.note_places.ensures.places (get_or c.note_places.new.places c.args.number 0) refl
+    c.in_ok-first.first.items c.in_ok-first.second.items c.in_ok-first.ensures.first c.in_ok-first.ensures.second
     c.in_ok-first_order.first_order.items c.in_ok-first_order.second_order.items
     (c.in_ok-first_order.ensures.first ∙ ap (filter (is_in_first c.note_places.new.places place)) c.deref.ensures.value)
     (c.in_ok-first_order.ensures.second ∙ ap (filter (is_in_second c.note_places.new.places place)) c.deref.ensures.value)

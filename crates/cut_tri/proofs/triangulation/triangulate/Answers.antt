@@ -18,6 +18,7 @@ loop-piece-init g c =
           (c.in_ok-push.ensures.items ∙ ap (λ ws. ws ++ c.in_ok-whole_piece.field-0 ∷ []) c.new-work.ensures.items)
           (All-nil (λ (p : Piece). IsOrderOf corners p.boundary.items p.order.items)) c.in_ok-whole_piece.ensures.ordered.1;
       places = let size = c.in_ok-places.places.ok.0 in omega (arith, size, c.in_ok-places.ensures.len, c.len-2.ensures.number);
+      clusters = tt;
     }
 
 pub cut-requires-clause-ordered : goal.cut-requires-clause-ordered
@@ -43,6 +44,7 @@ loop-piece-preserved g c =
       orders = c.in_ok-take_over.ensures.orders corners c.in_ok-left.ensures.ordered popped.0;
       places = length_kept c.cut.new.places places c.loop-piece.places.len (c.cut.ensures.places ∙ ap length c.deref_mut.ensures.value) c.loop-piece.places.ok.0
           ∙ c.loop-piece.invariant.places;
+      clusters = c.cut.ensures.clusters;
     }
 
 pub build-requires-clause-few : goal.build-requires-clause-few

@@ -1,6 +1,8 @@
 use Rattle.std.proofs.Common.{◌≡◌, length}
+use Rattle.std.specs.Prelude.{IfSome}
 use Rattle.cut_tri.proofs.Completion.{ArePieces, Completes, effort}
 use Rattle.cut_tri.proofs.triangulation.triangulate.Given as goal
+use Rattle.cut_tri.specs.Clusters.{AreClusters}
 use Rattle.cut_tri.specs.WorkList.{HaveOrders, last_first}
 
 abbrev pub invariant-loop-piece : goal.invariant-loop-piece
@@ -8,6 +10,7 @@ invariant-loop-piece g l = record {
   pieces : ArePieces l.ring.corners (last_first l.work.items) × Completes l.ring.corners l.tris.items (last_first l.work.items);
   orders : HaveOrders l.ring.corners l.work.items;
   places : length l.places.items ≡ length l.ring.corners;
+  clusters : IfSome l.clusters (AreClusters l.ring.corners);
 }
 
 abbrev pub decreases-loop-piece : goal.decreases-loop-piece

@@ -1,0 +1,10 @@
+use Rattle.cut_tri.proofs.Candidates.{IsBestBelow}
+use Rattle.cut_tri.specs.Clusters.{AreClusters}
+use Rattle.std.specs.Prelude.{IfSome}
+use Rattle.cut_tri.proofs.farthest.best_in.Given as goal
+
+abbrev pub invariant-loop-rank : goal.invariant-loop-rank
+invariant-loop-rank g l = record {
+  best : IsBestBelow l.ring.corners l.piece.boundary.items l.piece.order.items l.rank l.best;
+  clusters : IfSome l.clusters (AreClusters l.ring.corners);
+}

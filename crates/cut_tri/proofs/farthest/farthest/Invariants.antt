@@ -1,5 +1,0 @@
-use Rattle.cut_tri.proofs.Candidates.{IsBestBelow}
-use Rattle.cut_tri.proofs.farthest.farthest.Given as goal
-
-abbrev pub invariant-loop-rank : goal.invariant-loop-rank
-invariant-loop-rank g l = IsBestBelow l.ring.corners l.piece.boundary.items l.piece.order.items l.rank l.best
