@@ -1,7 +1,7 @@
 -- What a mesh that fits a ring says of its triangles, for a search among them.
 use Rattle.std.proofs.Common.{subst, ℕ, ◌<◌, ◌≤◌, ◌↔◌, List, length, arith}
 use Rattle.std.proofs.lemmas.Int.{ints}
-use Rattle.plane.specs.Point.{Point, whole}
+use Rattle.plane.specs.Point.{IsPoint, Point, Triple, whole}
 use Rattle.rings.specs.Inside.{IsIn}
 use Rattle.meshes.proofs.Sides.{piece_points_all, below_of_member, two_fewer}
 use Rattle.meshes.specs.Fits.{Fits, IsInTri}
@@ -22,19 +22,19 @@ module _ (corners : List Point) (tris : List Tri) (fits : Fits corners tris) whe
       }
 
   -- a point is in the ring exactly where it is in a triangle
-  module _ (p : Point) where
-    covered : IsIn corners (whole p) ↔ ((k : ℕ) × (k < length tris) × IsInTri corners (tri_at tris k) (whole p))
-    covered = subst (λ ring. IsIn ring (whole p) ↔ ((k : ℕ) × (k < length tris) × IsInTri corners (tri_at tris k) (whole p)))
-        (piece_points_all corners) (fits.covers (whole p) (omega (arith, ints)))
+  pub covered : (p : Triple) → IsPoint p → IsIn corners p ↔ ((k : ℕ) × (k < length tris) × IsInTri corners (tri_at tris k) p)
+  covered p at_p = subst (λ ring. IsIn ring p ↔ ((k : ℕ) × (k < length tris) × IsInTri corners (tri_at tris k) p)) (piece_points_all corners) (fits.covers p at_p)
 
-    -- so it is where a triangle holds it,
-    pub in_ring_if_held : (k : ℕ) → k < length tris → IsInTri corners (tri_at tris k) (whole p) → IsIn corners (whole p)
-    in_ring_if_held k below held = covered.1 (k, below, held)
+  -- so it is where a triangle holds it,
+  pub in_ring_if_held : (p : Point) (k : ℕ) → k < length tris → IsInTri corners (tri_at tris k) (whole p) → IsIn corners (whole p)
+  in_ring_if_held p k below held = (covered (whole p) (omega (arith, ints))).1 (k, below, held)
 
-    -- and is not where none does
-    pub not_in_ring_unless_held : (n : ℕ) → length tris ≤ n → ((k : ℕ) → k < n → ¬ IsInTri corners (tri_at tris k) (whole p))
-        → ¬ IsIn corners (whole p)
-    not_in_ring_unless_held n all none inside = let at = covered.0 inside in none at.0 (omega (arith, at.1)) at.2
+  -- and is not where none does
+  pub not_in_ring_unless_held : (p : Point) (n : ℕ) → length tris ≤ n → ((k : ℕ) → k < n → ¬ IsInTri corners (tri_at tris k) (whole p))
+      → ¬ IsIn corners (whole p)
+  not_in_ring_unless_held p n all none inside =
+      let at = (covered (whole p) (omega (arith, ints))).0 inside in
+      none at.0 (omega (arith, at.1)) at.2
 
 -- all as rules
 pub ruleset places = (cornered, in_ring_if_held, two_fewer)
