@@ -6,7 +6,7 @@ use Rattle.plane.proofs.Regions.{corner_within}
 use Rattle.plane.specs.Convex.{corner}
 use Rattle.plane.specs.Point.{Triple}
 use Rattle.plane.specs.Region.{corner_at}
-use Rattle.half_cut.specs.Block.{IsBlock, IsRun}
+use Rattle.half_cut.specs.Block.{IsBlock, IsRightRun}
 use Rattle.half_cut.specs.Outline.{IsRightOf, Line}
 
 -- a number may be counted round before another is added
@@ -48,7 +48,7 @@ module _ (cs : List Triple) where
       subst P (corner_within cs i less)
       (all_round (λ k. P (corner_at cs k)) (length cs) from (λ k h. subst P (once_round k) h) within all i less)
 
-module _ {line : Line} {cs : List Triple} {gone ahead : ℕ} (within : gone < length cs) (forth : IsRun line cs gone 1 ahead) where
+module _ {line : Line} {cs : List Triple} {gone ahead : ℕ} (within : gone < length cs) (forth : IsRightRun line cs gone 1 ahead) where
   right_ahead : (k : ℕ) → k < ahead → IsRightOf line (corner_at cs (gone + k))
   right_ahead k less = subst (λ i. IsRightOf line (corner_at cs i)) (omega arith) (forth.right k less)
 
@@ -58,7 +58,7 @@ module _ {line : Line} {cs : List Triple} {gone ahead : ℕ} (within : gone < le
 
 -- runs ahead and back from a corner that is right of the line, the first of which ends
 module _ {line : Line} {cs : List Triple} {gone ahead back step : ℕ} (within : gone < length cs) (here : IsRightOf line (corner cs gone))
-    (forth : IsRun line cs gone 1 ahead) (in_ahead : ahead < length cs) (run_back : IsRun line cs gone step back)
+    (forth : IsRightRun line cs gone 1 ahead) (in_ahead : ahead < length cs) (run_back : IsRightRun line cs gone step back)
     (is_step : step ≡ length cs - 1) where
   abbrev n : ℕ
   n = length cs
@@ -66,8 +66,8 @@ module _ {line : Line} {cs : List Triple} {gone ahead back step : ℕ} (within :
   right_here : IsRightOf line (corner_at cs gone)
   right_here = subst (IsRightOf line) (sym (corner_within cs gone within)) here
 
-  home : IsRun line cs gone (length cs - 1) back
-  home = subst (λ k. IsRun line cs gone k back) is_step run_back
+  home : IsRightRun line cs gone (length cs - 1) back
+  home = subst (λ k. IsRightRun line cs gone k back) is_step run_back
 
   end_ahead : ¬ IsRightOf line (corner_at cs (gone + ahead))
   end_ahead right = forth.end in_ahead (subst (λ i. IsRightOf line (corner_at cs i)) (omega arith) right)

@@ -20,7 +20,7 @@ use Rattle.half_cut.proofs.Ways.{IsAlong, before_both_down, before_both_up, line
 use Rattle.half_cut.specs.Block.{IsBlock}
 use Rattle.half_cut.specs.Meeting.{IsCutSide, IsTail}
 use Rattle.half_cut.specs.Outline.{IsLeast, IsRegionKept, Line, from_place, line_at}
-use Rattle.half_cut.specs.Seek.{Rises, TurnsLeft}
+use Rattle.half_cut.specs.Seek.{IsUpward, TurnsLeftTo}
 
 -- none of the first some corners comes before this one
 abbrev pub NoneBefore : List Triple → ℕ → ℕ → Type 0
@@ -148,18 +148,18 @@ module _ {cut : Line} {cs : List Triple} {ls : List Line} {least count : ℕ} (k
         subst (IsAlong ahead.0 ahead.1 (corner cs (n - 1))) (ap (λ k. corner cs k) next)
         (along_out kept three (n - 1) (omega (arith, three)))
 
-    turn_behind : TurnsLeft behind cut
+    turn_behind : TurnsLeftTo behind cut
     turn_behind =
         line_turns_out behind.0 behind.1 cut.0 cut.1 (corner cs (count - 1)) (corner cs count) (at (count - 1) (omega (arith, tail.rest))) (at count tail.rest)
         along_behind (at_least_unless (tail.stay (count - 1) (omega (arith, tail.some)))) (tail.go count (omega arith) tail.rest)
 
-    turn_ahead : TurnsLeft cut ahead
+    turn_ahead : TurnsLeftTo cut ahead
     turn_ahead =
         line_turns_in ahead.0 ahead.1 cut.0 cut.1 (corner cs (n - 1)) (corner cs 0) (at (n - 1) (omega (arith, three))) (at 0 (omega (arith, three)))
         along_ahead (tail.go (n - 1) (omega (arith, tail.rest)) (omega (arith, three))) (at_least_unless (tail.stay 0 tail.some))
 
     -- where the cut goes up, the side behind it goes down, as the least was right of the cut,
-    down_behind : Rises cut → Rises (turned behind)
+    down_behind : IsUpward cut → IsUpward (turned behind)
     down_behind up = elim (compare_points behind.1 behind.0) [
       | before h ↦ h
       | equal e ↦ absurd (kept.round.linked.two_points (count - 1) (omega (arith, tail.rest, many)) (sym e))
@@ -172,13 +172,13 @@ module _ {cut : Line} {cs : List Triple} {ls : List Line} {least count : ℕ} (k
     ]
 
     -- so the least is where the cut begins,
-    pub least_at_begin : Rises cut → IsLeast ds place
+    pub least_at_begin : IsUpward cut → IsLeast ds place
     least_at_begin up i less =
         none_before_meeting behind.0 behind.1 cut.0 cut.1 turn_behind (corner ds place) (corner ds i) (left.convex.rational place side.within)
         (down_behind up) up side.from_behind side.from_cut (left_of_old (count - 1) i (omega (arith, tail.rest)) less) (left_of_cut i less)
 
     -- where it goes down, the side ahead goes up,
-    up_ahead : Rises (turned cut) → Rises ahead
+    up_ahead : IsUpward (turned cut) → IsUpward ahead
     up_ahead down = elim (compare_points ahead.0 ahead.1) [
       | before h ↦ h
       | equal e ↦ absurd (kept.round.linked.two_points (n - 1) (omega (arith, three, many)) e)
@@ -193,7 +193,7 @@ module _ {cut : Line} {cs : List Triple} {ls : List Line} {least count : ℕ} (k
     ]
 
     -- and the least is where it ends
-    pub least_at_end : Rises (turned cut) → IsLeast ds ((place + 1) % length ds)
+    pub least_at_end : IsUpward (turned cut) → IsLeast ds ((place + 1) % length ds)
     least_at_end down i less =
         let in_end : (place + 1) % length ds < length ds = mod-lt (place + 1) (omega (arith, less)) in
         none_before_meeting cut.0 cut.1 ahead.0 ahead.1 turn_ahead (corner_at ds (place + 1)) (corner ds i)
@@ -224,10 +224,10 @@ module _ {cut : Line} {cs : List Triple} {ls : List Line} {least start count m k
 
   module _ (gone : count ≤ m) {place : ℕ} (side : (3 ≤ length (from_place start cs) → IsCutSide cut (line_at (from_place start ls) (count - 1))
       (line_at (from_place start ls) (length (from_place start ls) - 1)) ds place)) where
-    pub begins_there : Rises cut → IsLeast ds (place % length ds)
+    pub begins_there : IsUpward cut → IsLeast ds (place % length ds)
     begins_there up = in_count place (side three').within (least_at_begin kept' tail' three' left gone (side three') up)
 
-    pub ends_there : ¬ Rises cut → IsLeast ds ((place + 1) % length ds)
+    pub ends_there : ¬ IsUpward cut → IsLeast ds ((place + 1) % length ds)
     ends_there not = elim (compare_points cut.0 cut.1) [
       | before h ↦ absurd (not h)
       | equal e ↦ absurd (differ e)

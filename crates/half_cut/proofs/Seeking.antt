@@ -19,7 +19,7 @@ use Rattle.half_cut.proofs.Links.{comes_to, length_rotated, on_at}
 use Rattle.half_cut.proofs.TurnedBlocks.{convex_from, read_from}
 use Rattle.half_cut.proofs.Ways.{IsAlong, along_down, along_of, along_up, by_two_in_x, by_two_in_y, farther, farther_from_line, farther_is, lines_turn, not_both_up, up_of_before, up_other}
 use Rattle.half_cut.specs.Outline.{IsOnLine, IsRegionKept, IsRightOf, Line, from_place, line_at}
-use Rattle.half_cut.specs.Seek.{AreSidesBefore, ComesBefore, IsFacing, Rises, TurnsLeft}
+use Rattle.half_cut.specs.Seek.{AreEarlierSides, ComesBefore, IsFacing, IsUpward, TurnsLeftTo}
 
 -- the two as rules
 pub ruleset left_turns = (positive_of_left, left_of_positive)
@@ -87,10 +87,10 @@ opposite l m =
     (lit (pos 0) ⊖ ((var 2 ⊖ var 0) ⊗ (var 7 ⊖ var 5) ⊖ (var 3 ⊖ var 1) ⊗ (var 6 ⊖ var 4)))
     (m.0.x ∷ m.0.y ∷ m.1.x ∷ m.1.y ∷ l.0.x ∷ l.0.y ∷ l.1.x ∷ l.1.y ∷ []) refl
 
-not_back : (l m : Line) → ¬ TurnsLeft l m → pos 0 ≤ℤ cross_product m.0 m.1 l.0 l.1
+not_back : (l m : Line) → ¬ TurnsLeftTo l m → pos 0 ≤ℤ cross_product m.0 m.1 l.0 l.1
 not_back l m not = let most = at_most_unless not in omega (arith, ints, opposite m l, most)
 
-right_back : (l m : Line) → TurnsLeft l m → cross_product m.0 m.1 l.0 l.1 <ℤ pos 0
+right_back : (l m : Line) → TurnsLeftTo l m → cross_product m.0 m.1 l.0 l.1 <ℤ pos 0
 right_back l m left = omega (arith, ints, opposite m l, left)
 
 -- the same way, from the second point to the first
@@ -104,15 +104,15 @@ both_round l m =
     ((var 2 ⊖ var 0) ⊗ (var 7 ⊖ var 5) ⊖ (var 3 ⊖ var 1) ⊗ (var 6 ⊖ var 4))
     (l.0.x ∷ l.0.y ∷ l.1.x ∷ l.1.y ∷ m.0.x ∷ m.0.y ∷ m.1.x ∷ m.1.y ∷ []) refl
 
-round_left : (l m : Line) → TurnsLeft l m → TurnsLeft (turned l) (turned m)
+round_left : (l m : Line) → TurnsLeftTo l m → TurnsLeftTo (turned l) (turned m)
 round_left l m left = subst (λ w. pos 0 <ℤ w) (sym (both_round l m)) left
 
-round_again : (l m : Line) → TurnsLeft (turned l) (turned m) → TurnsLeft l m
+round_again : (l m : Line) → TurnsLeftTo (turned l) (turned m) → TurnsLeftTo l m
 round_again l m left = subst (λ w. pos 0 <ℤ w) (both_round l m) left
 
 -- of three ways a multiple of one is a sum of multiples of the others: where one of these is taken off, and it and the sum go up, the
 -- third does not go down
-none_down : (l m o : Line) (k f g : ℤ) → pos 0 <ℤ k → f <ℤ pos 0 → pos 0 ≤ℤ g → Rises l → Rises m → Rises (turned o)
+none_down : (l m o : Line) (k f g : ℤ) → pos 0 <ℤ k → f <ℤ pos 0 → pos 0 ≤ℤ g → IsUpward l → IsUpward m → IsUpward (turned o)
     → k *ℤ (l.1.x -ℤ l.0.x) ≡ f *ℤ (m.1.x -ℤ m.0.x) +ℤ g *ℤ (o.1.x -ℤ o.0.x)
     → k *ℤ (l.1.y -ℤ l.0.y) ≡ f *ℤ (m.1.y -ℤ m.0.y) +ℤ g *ℤ (o.1.y -ℤ o.0.y) → ⊥
 none_down l m o k f g some less least up too down ex ey =
@@ -130,31 +130,31 @@ module _ (into out line : Line) where
       cross_product line.0 line.1 out.0 out.1 *ℤ (into.1.y -ℤ into.0.y) +ℤ cross_product into.0 into.1 line.0 line.1 *ℤ (out.1.y -ℤ out.0.y)
   by_y = by_two_in_y (into.1.x -ℤ into.0.x) (into.1.y -ℤ into.0.y) (out.1.x -ℤ out.0.x) (out.1.y -ℤ out.0.y) (line.1.x -ℤ line.0.x) (line.1.y -ℤ line.0.y)
 
-  ahead_up : TurnsLeft into out → Rises line → Rises into → Rises (turned out) → ¬ TurnsLeft line into → ¬ TurnsLeft out line
+  ahead_up : TurnsLeftTo into out → IsUpward line → IsUpward into → IsUpward (turned out) → ¬ TurnsLeftTo line into → ¬ TurnsLeftTo out line
   ahead_up turn up up_in down_out back left =
       none_down line into out _ _ _ turn (right_back out line left) (not_back line into back) up up_in down_out by_x by_y
 
-  back_up : TurnsLeft into out → Rises line → Rises out → Rises (turned into) → ¬ TurnsLeft out line → ¬ TurnsLeft line into
+  back_up : TurnsLeftTo into out → IsUpward line → IsUpward out → IsUpward (turned into) → ¬ TurnsLeftTo out line → ¬ TurnsLeftTo line into
   back_up turn up up_out down_in ahead left =
       none_down line out into _ _ _ turn (right_back line into left) (not_back out line ahead) up up_out down_in
       (omega (arith, ints, by_x)) (omega (arith, ints, by_y))
 
 -- its way is between theirs
 abbrev pub IsWayBetween : (into out line : Line) → Type 0
-IsWayBetween into out line = (¬ TurnsLeft out line) × (¬ TurnsLeft line into)
+IsWayBetween into out line = (¬ TurnsLeftTo out line) × (¬ TurnsLeftTo line into)
 
-module _ (into out line : Line) (turn : TurnsLeft into out) (differ : line.0 ≢ line.1) where
-  ahead_down : Rises (turned line) → Rises (turned into) → Rises out → ¬ TurnsLeft line into → ¬ TurnsLeft out line
+module _ (into out line : Line) (turn : TurnsLeftTo into out) (differ : line.0 ≢ line.1) where
+  ahead_down : IsUpward (turned line) → IsUpward (turned into) → IsUpward out → ¬ TurnsLeftTo line into → ¬ TurnsLeftTo out line
   ahead_down down down_in up_out back left =
       ahead_up (turned into) (turned out) (turned line) (round_left into out turn) down down_in up_out
       (λ h. back (round_again line into h)) (round_left out line left)
 
-  back_down : Rises (turned line) → Rises (turned out) → Rises into → ¬ TurnsLeft out line → ¬ TurnsLeft line into
+  back_down : IsUpward (turned line) → IsUpward (turned out) → IsUpward into → ¬ TurnsLeftTo out line → ¬ TurnsLeftTo line into
   back_down down down_out up_in ahead left =
       back_up (turned into) (turned out) (turned line) (round_left into out turn) down down_out up_in
       (λ h. ahead (round_again out line h)) (round_left line into left)
 
-  not_left_both : TurnsLeft into line → ¬ TurnsLeft line into
+  not_left_both : TurnsLeftTo into line → ¬ TurnsLeftTo line into
   not_left_both left back = not_both (right_back into line left) (weak back)
 
   -- where it comes after the first, and not after the second,
@@ -162,7 +162,7 @@ module _ (into out line : Line) (turn : TurnsLeft into out) (differ : line.0 ≢
   between_two two first second = elim (compare_points line.0 line.1) [
     | equal e ↦ absurd (differ e)
     | before up ↦
-        let left : Rises into × TurnsLeft into line = elim first [
+        let left : IsUpward into × TurnsLeftTo into line = elim first [
           | inl h ↦ absurd (h.1 up)
           | inr h ↦ (h.0.1 up, h.1)
         ] in
@@ -176,7 +176,7 @@ module _ (into out line : Line) (turn : TurnsLeft into out) (differ : line.0 ≢
       | equal e ↦ absurd (two e)
       | before h ↦ absurd (second (inl (h, before_asym line.1 line.0 down)))
       | after h ↦
-          let ahead : ¬ TurnsLeft out line = λ l. second (inr
+          let ahead : ¬ TurnsLeftTo out line = λ l. second (inr
           ((λ u. absurd (before_asym out.1 out.0 h u), λ u. absurd (before_asym line.1 line.0 down u)), l)) in
           elim first [
             | inl g ↦ (ahead, back_down down h g.0 ahead)
@@ -185,13 +185,13 @@ module _ (into out line : Line) (turn : TurnsLeft into out) (differ : line.0 ≢
     ]
   ]
 
-  module _ (down_in : Rises (turned into)) (up_out : Rises out) where
+  module _ (down_in : IsUpward (turned into)) (up_out : IsUpward out) where
     -- where the first goes down, the second goes up, and it does not come after that,
     between_first : ¬ ComesBefore out line → IsWayBetween into out line
     between_first second = elim (compare_points line.0 line.1) [
       | equal e ↦ absurd (differ e)
       | before up ↦
-          let ahead : ¬ TurnsLeft out line = λ l. second (inr ((λ _. up, λ _. up_out), l)) in
+          let ahead : ¬ TurnsLeftTo out line = λ l. second (inr ((λ _. up, λ _. up_out), l)) in
           (ahead, back_up into out line turn up up_out down_in ahead)
       | after down ↦ absurd (second (inl (up_out, before_asym line.1 line.0 down)))
     ]
@@ -284,7 +284,7 @@ module _ {cs : List Triple} {ls : List Line} {least : ℕ} (kept : IsRegionKept 
   -- and no corner is right of a line whose way is between the two, unless this one is
   pub none_right : (line : Line) → IsFacing line ls at → ¬ IsRightOf line (corner cs at) → (i : ℕ) → i < n → ¬ IsRightOf line (corner cs i)
   none_right line facing here i less right =
-      let back = subst (λ k. ¬ TurnsLeft line (line_at ls ((at + (k - 1)) % k))) many facing.back in
+      let back = subst (λ k. ¬ TurnsLeftTo line (line_at ls ((at + (k - 1)) % k))) many facing.back in
       not_both right
       (left_of_both into.0 into.1 out.0 out.1 line.0 line.1 (corner cs at) (corner cs i) (kept.convex.rational at in_at)
       (kept.convex.rational i less) on_into on_out (left_of place i in_place less) (left_of at i in_at less) turned_there
@@ -293,7 +293,7 @@ module _ {cs : List Triple} {ls : List Line} {least : ℕ} (kept : IsRegionKept 
   pub facing_there : (line : Line) → IsWayBetween into out line → IsFacing line ls at
   facing_there line between = record {
     ahead = between.0;
-    back = subst (λ k. ¬ TurnsLeft line (line_at ls ((at + (k - 1)) % k))) (sym many) between.1;
+    back = subst (λ k. ¬ TurnsLeftTo line (line_at ls ((at + (k - 1)) % k))) (sym many) between.1;
   }
 
 -- ---- at the least corner, and from there on
@@ -303,7 +303,7 @@ module _ {cs : List Triple} {ls : List Line} {from : ℕ} (kept : IsRegionKept c
   in_from = kept.some (omega (arith, three))
 
   -- the side out of it goes up,
-  pub up_out : Rises (line_at ls from)
+  pub up_out : IsUpward (line_at ls from)
   up_out = elim (compare_points (line_at ls from).0 (line_at ls from).1) [
     | before h ↦ h
     | equal e ↦ absurd (kept.round.linked.two_points from (omega (arith, in_from, kept.round.linked.as_many)) e)
@@ -313,7 +313,7 @@ module _ {cs : List Triple} {ls : List Line} {from : ℕ} (kept : IsRegionKept c
   ]
 
   -- and the side into it down
-  pub down_in : Rises (turned (line_at ls ((from + (length cs - 1)) % length cs)))
+  pub down_in : IsUpward (turned (line_at ls ((from + (length cs - 1)) % length cs)))
   down_in =
       let place : ℕ = (from + (length cs - 1)) % length cs in
       let in_place : place < length cs = mod-lt (from + (length cs - 1)) (omega (arith, three)) in
@@ -324,7 +324,7 @@ module _ {cs : List Triple} {ls : List Line} {from : ℕ} (kept : IsRegionKept c
       ]
 
   -- where so many sides come before a way, it is between those of the sides at the next corner
-  pub facing_at : (line : Line) → line.0 ≢ line.1 → {k : ℕ} → AreSidesBefore line ls from k → (at : ℕ) → at ≡ (from + k) % length ls
+  pub facing_at : (line : Line) → line.0 ≢ line.1 → {k : ℕ} → AreEarlierSides line ls from k → (at : ℕ) → at ≡ (from + k) % length ls
       → (at < length cs) × IsFacing line ls at
   facing_at line differ {k} sides at is =
       let many = kept.round.linked.as_many in
@@ -337,8 +337,8 @@ module _ {cs : List Triple} {ls : List Line} {from : ℕ} (kept : IsRegionKept c
         facing_there kept three at in_at line (elim (cases_eq k 0) [
           | inl none ↦
               let here : at ≡ from = place ∙ ap (λ i. i % length cs) (omega (arith, none)) ∙ mod-eq_of_lt in_from in
-              between_first _ _ line turns differ (subst (λ i. Rises (turned (line_at ls ((i + (length cs - 1)) % length cs)))) (sym here) down_in)
-              (subst (λ i. Rises (line_at ls i)) (sym here) up_out)
+              between_first _ _ line turns differ (subst (λ i. IsUpward (turned (line_at ls ((i + (length cs - 1)) % length cs)))) (sym here) down_in)
+              (subst (λ i. IsUpward (line_at ls i)) (sym here) up_out)
               (subst (λ i. ¬ ComesBefore (line_at ls i) line) (sym place) (next (omega (arith, none, three))))
           | inr some ↦
               let behind : (from + (k - 1)) % length cs ≡ (at + (length cs - 1)) % length cs =
@@ -348,8 +348,8 @@ module _ {cs : List Triple} {ls : List Line} {from : ℕ} (kept : IsRegionKept c
               elim (cases_eq k (length cs)) [
                 | inl all ↦
                     let here : at ≡ from = place ∙ ap (λ i. i % length cs) (omega (arith, all)) ∙ add-mod_left (length cs) from ∙ mod-eq_of_lt in_from in
-                    between_last _ _ line turns differ (subst (λ i. Rises (turned (line_at ls ((i + (length cs - 1)) % length cs)))) (sym here) down_in)
-                    (subst (λ i. Rises (line_at ls i)) (sym here) up_out) is_before
+                    between_last _ _ line turns differ (subst (λ i. IsUpward (turned (line_at ls ((i + (length cs - 1)) % length cs)))) (sym here) down_in)
+                    (subst (λ i. IsUpward (line_at ls i)) (sym here) up_out) is_before
                 | inr not_all ↦
                     between_two _ _ line turns differ (kept.round.linked.two_points at (omega (arith, in_at, many))) is_before
                     (subst (λ i. ¬ ComesBefore (line_at ls i) line) (sym place) (next (omega (arith, sides.within, many, not_all))))

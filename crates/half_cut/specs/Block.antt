@@ -5,7 +5,7 @@ use Rattle.plane.specs.Region.{corner_at}
 use Rattle.half_cut.specs.Outline.{IsRightOf, Line}
 
 -- from this corner on, each so many places after the one before, so many are right of the line, and the next is not
-pub record IsRun (line : Line) (corners : List Triple) (from step count : ℕ) : Type 0 where
+pub record IsRightRun (line : Line) (corners : List Triple) (from step count : ℕ) : Type 0 where
   pub within : count ≤ length corners
   pub right : (k : ℕ) → k < count → IsRightOf line (corner_at corners (from + k * step))
   pub end : count < length corners → ¬ IsRightOf line (corner_at corners (from + count * step))

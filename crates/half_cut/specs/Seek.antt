@@ -5,24 +5,24 @@ use Rattle.plane.specs.Order.{IsBefore}
 use Rattle.half_cut.specs.Outline.{Line, line_at}
 
 -- a line's way goes up: to the right, or straight upward
-abbrev pub Rises : Line → Type 0
-Rises line = IsBefore line.0 line.1
+abbrev pub IsUpward : Line → Type 0
+IsUpward line = IsBefore line.0 line.1
 
 -- it turns left to that of another
-abbrev pub TurnsLeft : Line → Line → Type 0
-TurnsLeft line other = pos 0 <ℤ cross_product line.0 line.1 other.0 other.1
+abbrev pub TurnsLeftTo : Line → Line → Type 0
+TurnsLeftTo line other = pos 0 <ℤ cross_product line.0 line.1 other.0 other.1
 
 -- it comes before that of another, where ways go round counterclockwise from straight down
 abbrev pub ComesBefore : Line → Line → Type 0
-ComesBefore line other = (Rises line × ¬ Rises other) ⊎ ((Rises line ↔ Rises other) × TurnsLeft line other)
+ComesBefore line other = (IsUpward line × ¬ IsUpward other) ⊎ ((IsUpward line ↔ IsUpward other) × TurnsLeftTo line other)
 
 -- of the sides, counted round from this one on, so many come before it
-pub record AreSidesBefore (line : Line) (lines : List Line) (from count : ℕ) : Type 0 where
+pub record AreEarlierSides (line : Line) (lines : List Line) (from count : ℕ) : Type 0 where
   pub within : count ≤ length lines
   pub last : 0 < count → ComesBefore (line_at lines ((from + (count - 1)) % length lines)) line
   pub next : count < length lines → ¬ ComesBefore (line_at lines ((from + count) % length lines)) line
 
 -- it is between those of the sides into a corner and out of it
 pub record IsFacing (line : Line) (lines : List Line) (at : ℕ) : Type 0 where
-  pub ahead : ¬ TurnsLeft (line_at lines at) line
-  pub back : ¬ TurnsLeft line (line_at lines ((at + (length lines - 1)) % length lines))
+  pub ahead : ¬ TurnsLeftTo (line_at lines at) line
+  pub back : ¬ TurnsLeftTo line (line_at lines ((at + (length lines - 1)) % length lines))

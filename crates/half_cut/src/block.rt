@@ -1,7 +1,7 @@
 // Which corners a cut leaves: those that are not right of the line, which follow one another.
 ghost use Rattle.std.specs.Prelude.{◌≡◌, ◌+◌, ◌-◌, ◌<◌, ◌≤◌, ◌↔◌, ℕ, IfNone, IfSome, IsTrue, length};
 ghost use Rattle.plane.specs.Convex.{corner};
-ghost use Rattle.half_cut.specs.Block.{IsBlock, IsRun};
+ghost use Rattle.half_cut.specs.Block.{IsBlock, IsRightRun};
 ghost use Rattle.half_cut.specs.Outline.{IsRightOf};
 
 use crate::region::{Line, round};
@@ -69,7 +69,7 @@ fn run<L: Ledger>(
 ) -> usize
     requires from { from < length corners.now.items }
     requires step { step ≤ length corners.now.items }
-    ensures run { IsRun line.now corners.now.items from step result }
+    ensures run { IsRightRun line.now corners.now.items from step result }
     ensures steps { steps.new ≤ steps.old + result + 1 }
     ensures steps_of_all { result ≡ length corners.now.items → steps.new ≤ steps.old + result }
 {

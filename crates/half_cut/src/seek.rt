@@ -2,7 +2,7 @@
 ghost use Rattle.std.specs.Prelude.{◌≡◌, ◌≢◌, ◌+◌, ◌-◌, ◌*◌, ◌%◌, ◌^◌, ◌<◌, ◌≤◌, ◌↔◌, ℕ, IfNone, IfSome, IsTrue, length};
 ghost use Rattle.plane.specs.Convex.{corner};
 ghost use Rattle.half_cut.specs.Outline.{IsRegionKept, IsRightOf};
-ghost use Rattle.half_cut.specs.Seek.{AreSidesBefore, ComesBefore, IsFacing, Rises, TurnsLeft};
+ghost use Rattle.half_cut.specs.Seek.{AreEarlierSides, ComesBefore, IsFacing, IsUpward, TurnsLeftTo};
 
 use crate::block::is_right_at;
 use crate::region::{Line, round, side};
@@ -89,7 +89,7 @@ fn sides_before<L: Ledger>(
     steps: &mut Steps<L>,
 ) -> usize
     requires { from < length lines.now.items }
-    ensures before { AreSidesBefore line.now lines.now.items from result }
+    ensures before { AreEarlierSides line.now lines.now.items from result }
     ensures steps { (d : ℕ) → length lines.now.items < 2 ^ d → steps.new ≤ steps.old + 2 * d + 1 }
 {
     let up = rises(line, steps);
@@ -107,7 +107,7 @@ fn sides_before<L: Ledger>(
 
 // Whether a side's way comes before that of the line, of which it is told whether that goes up.
 fn comes_before<L: Ledger>(side: &Line, line: &Line, up: bool, steps: &mut Steps<L>) -> bool
-    requires { IsTrue up ↔ Rises line.now }
+    requires { IsTrue up ↔ IsUpward line.now }
     ensures before { IsTrue result ↔ ComesBefore side.now line.now }
     ensures steps { steps.new ≤ steps.old + 2 }
 {
@@ -121,7 +121,7 @@ fn comes_before<L: Ledger>(side: &Line, line: &Line, up: bool, steps: &mut Steps
 
 // Whether the line's way goes up: to the right, or straight upward.
 pub(crate) fn rises<L: Ledger>(line: &Line, steps: &mut Steps<L>) -> bool
-    ensures up { IsTrue result ↔ Rises line.now }
+    ensures up { IsTrue result ↔ IsUpward line.now }
     ensures steps { steps.new ≡ steps.old + 1 }
 {
     order(&line.0, &line.1, steps) == Ordering::Less
@@ -130,7 +130,7 @@ pub(crate) fn rises<L: Ledger>(line: &Line, steps: &mut Steps<L>) -> bool
 // Whether the line's way turns left to that of the other.
 #[tactic(auto, using(crate::proofs::Seeking::left_turns))]
 fn turns_left<L: Ledger>(line: &Line, other: &Line, steps: &mut Steps<L>) -> bool
-    ensures left { IsTrue result ↔ TurnsLeft line.now other.now }
+    ensures left { IsTrue result ↔ TurnsLeftTo line.now other.now }
     ensures steps { steps.new ≡ steps.old + 1 }
 {
     turn_of_ways(&line.0, &line.1, &other.0, &other.1, steps) == Direction::Left
