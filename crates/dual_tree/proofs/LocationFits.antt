@@ -1,26 +1,13 @@
 -- What a mesh that fits a ring says of its triangles, for a search among them.
-use Rattle.std.proofs.Common.{◌≡◌, subst, ℕ, ◌<◌, ◌≤◌, ◌↔◌, List, length, arith}
+use Rattle.std.proofs.Common.{subst, ℕ, ◌<◌, ◌≤◌, ◌↔◌, List, length, arith}
+use Rattle.std.proofs.lemmas.Int.{ints}
 use Rattle.plane.specs.Point.{IsPoint, Point, Triple, whole}
-use Rattle.plane.specs.Triangle.{IsInTriangle}
-use Rattle.plane.specs.Turn.{IsLeft}
 use Rattle.rings.specs.Inside.{IsIn}
-use Rattle.rings.specs.Ring.{vertex}
-use Rattle.meshes.proofs.Sides.{piece_points_all, below_of_member}
+use Rattle.meshes.proofs.Sides.{piece_points_all, below_of_member, two_fewer}
 use Rattle.meshes.specs.Fits.{Fits, IsInTri}
 use Rattle.meshes.specs.Side.{tri_at}
 use Rattle.meshes.specs.declared.tri.Tri.{Tri}
 use Rattle.dual_tree.specs.Location.{IsCornered}
-
--- the corners of a triangle as points: they run counterclockwise,
-module _ (corners : List Point) (t : Tri) (a b c : Point) where
-  pub counterclockwise_points : IsCornered corners t → a ≡ vertex corners t.a → b ≡ vertex corners t.b → c ≡ vertex corners t.c
-      → IsLeft (whole a) (whole b) (whole c)
-  counterclockwise_points cornered at_a at_b at_c = rw (at_a, at_b, at_c) cornered.counterclockwise
-
-  -- and hold what the triangle holds
-  pub in_tri_of_points : (p : Triple) → a ≡ vertex corners t.a → b ≡ vertex corners t.b → c ≡ vertex corners t.c
-      → IsInTriangle a b c p ↔ IsInTri corners t p
-  in_tri_of_points p at_a at_b at_c = rw (← at_a, ← at_b, ← at_c) (λ h. h, λ h. h)
 
 module _ (corners : List Point) (tris : List Tri) (fits : Fits corners tris) where
   -- the corners of a triangle are vertices, counterclockwise
@@ -39,10 +26,15 @@ module _ (corners : List Point) (tris : List Tri) (fits : Fits corners tris) whe
   covered p at_p = subst (λ ring. IsIn ring p ↔ ((k : ℕ) × (k < length tris) × IsInTri corners (tri_at tris k) p)) (piece_points_all corners) (fits.covers p at_p)
 
   -- so it is where a triangle holds it,
-  pub in_ring_if_held : (p : Triple) → IsPoint p → (k : ℕ) → k < length tris → IsInTri corners (tri_at tris k) p → IsIn corners p
-  in_ring_if_held p at_p k below held = (covered p at_p).1 (k, below, held)
+  pub in_ring_if_held : (p : Point) (k : ℕ) → k < length tris → IsInTri corners (tri_at tris k) (whole p) → IsIn corners (whole p)
+  in_ring_if_held p k below held = (covered (whole p) (omega (arith, ints))).1 (k, below, held)
 
   -- and is not where none does
-  pub not_in_ring_unless_held : (p : Triple) → IsPoint p → (n : ℕ) → length tris ≤ n → ((k : ℕ) → k < n → ¬ IsInTri corners (tri_at tris k) p)
-      → ¬ IsIn corners p
-  not_in_ring_unless_held p at_p n all none inside = let at = (covered p at_p).0 inside in none at.0 (omega (arith, at.1)) at.2
+  pub not_in_ring_unless_held : (p : Point) (n : ℕ) → length tris ≤ n → ((k : ℕ) → k < n → ¬ IsInTri corners (tri_at tris k) (whole p))
+      → ¬ IsIn corners (whole p)
+  not_in_ring_unless_held p n all none inside =
+      let at = (covered (whole p) (omega (arith, ints))).0 inside in
+      none at.0 (omega (arith, at.1)) at.2
+
+-- all as rules
+pub ruleset places = (cornered, in_ring_if_held, two_fewer)

@@ -68,7 +68,7 @@ looked_past chain v k last given found items k' last' items' parts look = elim (
   }
 ]
 
-module _ (corners : List Point) (tris : List Tri) (fits : Fits corners tris) (sleeve : Sleeve) (one : IsOneOf tris sleeve) where
+module _ {corners : List Point} {tris : List Tri} (fits : Fits corners tris) {sleeve : Sleeve} (one : IsOneOf tris sleeve) where
   crosses : (m : ℕ) → m + 1 < length sleeve.walk → CrossesSide tris sleeve.walk m (rights sleeve m) (lefts sleeve m)
   crosses m next =
       let d = one.diagonals m (omega (arith, one.count)) in
@@ -91,16 +91,16 @@ module _ (corners : List Point) (tris : List Tri) (fits : Fits corners tris) (sl
   has_vertex : (x : ℕ) → x < length corners → Has corners (vertex corners x)
   has_vertex x within = subst (Has corners) (sym (vertex_in_range corners x origin within)) (has_number corners x origin within)
 
-  module _ (chain : List Point) (path : IsPath corners (point_at chain 0) (point_at chain (length chain - 1)) chain) (given : List Point) where
+  module _ (chain : List Point) (path : IsPath corners (point_at chain 0) (point_at chain (length chain - 1)) chain) where
     -- a path bends at its inner points
     bent : IsBentChain corners chain
     bent = ((path chain).1 refl).bent
 
     -- the search begins with the first point
-    pub searched_first : IsInTri corners (walk_tri tris sleeve.walk 0) (whole (point_at chain 0))
+    pub searched_first : (given : List Point) → IsInTri corners (walk_tri tris sleeve.walk 0) (whole (point_at chain 0))
         → IsInTri corners (walk_tri tris sleeve.walk (length sleeve.walk - 1)) (whole (point_at chain (length chain - 1)))
         → IsSearched corners tris sleeve chain given 0 0 (point_at chain 0) (given ++ point_at chain 0 ∷ [])
-    searched_first in_first in_last =
+    searched_first given in_first in_last =
         let e = entering corners tris fits sleeve.walk one.walk (rights sleeve) (lefts sleeve) crosses sides chain bent in_first in_last in
         record {
           start = e.start;
@@ -111,12 +111,12 @@ module _ (corners : List Point) (tris : List Tri) (fits : Fits corners tris) (sl
           once = once_begins corners chain;
         }
 
-    module _ (i k : ℕ) (last : Point) (items : List Point) (now : IsSearched corners tris sleeve chain given i k last items) where
+    module _ {given : List Point} {i k : ℕ} {last : Point} {items : List Point} (now : IsSearched corners tris sleeve chain given i k last items) where
       -- there is room for a point and the end
       pub searched_few : length items ≤ length given + length corners + 1
       searched_few = let few = found_few corners chain k last now.found now.once in omega (arith, few, ap length now.parts, length-append given now.found)
 
-      module _ (within : i < length sleeve.diagonals) (k' : ℕ) (last' : Point) (items' : List Point)
+      module _ (within : i < length sleeve.diagonals) {k' : ℕ} {last' : Point} {items' : List Point}
           (first : IsLookedAt chain (vertex corners (lefts sleeve i)) k last items k' last' items') where
         abbrev past : IsLookedPast chain (vertex corners (lefts sleeve i)) k last given now.found k' last' items'
         past = looked_past chain (vertex corners (lefts sleeve i)) k last given now.found items k' last' items' now.parts first
@@ -140,10 +140,10 @@ module _ (corners : List Point) (tris : List Tri) (fits : Fits corners tris) (sl
         half_within = half.come.within
 
         -- and after one at the right corner too the search has come to the next diagonal
-        pub searched_next : (k'' : ℕ) (last'' : Point) (items'' : List Point)
+        pub searched_next : {k'' : ℕ} {last'' : Point} {items'' : List Point}
             → IsLookedAt chain (vertex corners (rights sleeve i)) k' last' items' k'' last'' items''
             → IsSearched corners tris sleeve chain given (i + 1) k'' last'' items''
-        searched_next k'' last'' items'' second =
+        searched_next {k''} {last''} {items''} second =
             let beyond = looked_past chain (vertex corners (rights sleeve i)) k' last' given past.found' items' k'' last'' items'' past.parts' second in
             record {
               start = now.start;

@@ -80,11 +80,7 @@ module _ (tris : List Tri) (home : ℕ) (order : List Outward) (o : IsOutward tr
         new_to_behind p q ks before p_below q_below behind.1,
       )
 
-  -- a way begins at any place,
-  pub way_starts : (p end : ℕ) → p < length order → at_place order p ≡ end → IsWay tris order p [] end
-  way_starts p end below is = record { below = below; path = is; behind = tt }
-
-  -- and goes on from a later one
+  -- a way goes on from a later place
   pub way_goes_on : (p : ℕ) (rest : List ℕ) (end : ℕ) → 0 < p → IsWay tris order p rest end
       → IsWay tris order (outward_at order p).toward (at_place order p ∷ rest) end
   way_goes_on p rest end some way =
@@ -107,18 +103,7 @@ module _ (tris : List Tri) (home : ℕ) (order : List Outward) (o : IsOutward tr
       }
 
   module _ (from to : ℕ) where
-    -- two ways begin apart,
-    pub ways_start : (p q : ℕ) → p < length order → q < length order → at_place order p ≡ from → at_place order q ≡ to
-        → AreWays tris order from to p [] q []
-    ways_start p q p_below q_below is_from is_to = record {
-      first = way_starts p from p_below is_from;
-      second = way_starts q to q_below is_to;
-      front_behind = tt;
-      back_behind = tt;
-      apart = tt;
-    }
-
-    -- and stay so where the one that is further out goes on
+    -- two ways stay apart where the one that is further out goes on
     front_goes_on : (p : ℕ) (front : List ℕ) (q : ℕ) (back : List ℕ) → q < p → AreWays tris order from to p front q back
         → AreWays tris order from to (outward_at order p).toward (at_place order p ∷ front) q back
     front_goes_on p front q back further ways =

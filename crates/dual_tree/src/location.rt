@@ -1,5 +1,6 @@
 ghost use Rattle.std.specs.Prelude.{◌≡◌, ◌+◌, ◌-◌, ◌*◌, ◌<◌, ◌≤◌, ◌↔◌, ℕ, IfSome, IsNone, IsTrue, length};
 ghost use Rattle.plane.specs.Point.{whole};
+ghost use Rattle.plane.specs.Turn.{IsLeft};
 ghost use Rattle.rings.specs.Inside.{IsIn};
 ghost use Rattle.rings.specs.Ring.{vertex};
 ghost use Rattle.meshes.specs.Fits.{Fits, IsInTri};
@@ -14,6 +15,7 @@ use tri_mesh::Mesh;
 
 /// The least triangle that holds `p`, its sides included, or none where `p` is not in the ring. It takes at most 3 steps a
 /// triangle.
+#[tactic(auto, using(crate::proofs::LocationFits::places))]
 pub fn locate<L: Ledger>(mesh: &Mesh, ring: &Ring, p: &Pt, steps: &mut Steps<L>) -> Option<u32>
     requires { Fits ring.now.corners mesh.now }
     ensures least { IfSome result (IsLeastHolding ring.now.corners mesh.now (whole p.now)) }
@@ -25,6 +27,7 @@ pub fn locate<L: Ledger>(mesh: &Mesh, ring: &Ring, p: &Pt, steps: &mut Steps<L>)
 
 /// The least triangle that holds `s`, or none where `s` is not in the ring, and the same of `t`. It goes over the triangles
 /// once, and takes at most 6 steps a triangle.
+#[tactic(auto, using(crate::proofs::LocationFits::places))]
 pub fn locate_both<L: Ledger>(
     mesh: &Mesh,
     ring: &Ring,
@@ -52,6 +55,7 @@ pub fn locate_both<L: Ledger>(
 
 // The least triangle that holds the point, where none before triangle `i` does and it is known whether that one does. It
 // takes at most 3 steps for each triangle after that one.
+#[tactic(auto, using(crate::proofs::LocationFits::places))]
 fn locate_at<L: Ledger>(
     mesh: &Mesh,
     ring: &Ring,
@@ -78,6 +82,7 @@ fn locate_at<L: Ledger>(
 }
 
 // The least triangle that holds the point, where none before triangle `first` does. It takes at most 3 steps a triangle.
+#[tactic(auto, using(crate::proofs::LocationFits::places))]
 fn locate_from<L: Ledger>(
     mesh: &Mesh,
     ring: &Ring,
@@ -131,8 +136,10 @@ fn holds_each<L: Ledger>(
 }
 
 // The corners of the triangle.
+#[tactic(auto, using(rings::proofs::Vertices::vertex_in_range))]
 fn corners_of<'a>(ring: &'a Ring, tri: &Tri) -> (&'a Pt, &'a Pt, &'a Pt)
     requires { IsCornered ring.now.corners tri.now }
+    ensures counterclockwise { IsLeft (whole result.0.now) (whole result.1.now) (whole result.2.now) }
     ensures a { result.0.now ≡ vertex ring.now.corners tri.now.a }
     ensures b { result.1.now ≡ vertex ring.now.corners tri.now.b }
     ensures c { result.2.now ≡ vertex ring.now.corners tri.now.c }

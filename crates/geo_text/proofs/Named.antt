@@ -1,12 +1,10 @@
 -- The texts of words, and the words that they name: each is the other's inverse.
-use Rattle.std.proofs.Common.{◌≡◌, ◌≢◌, ◌∙◌, Bool, true, false, ℕ, if◌then◌else◌, Option, Some, None, List, [], ◌∷◌, refl, sym, ap, arith, drop, get_or, length, ◌<◌, ◌+◌}
+use Rattle.std.proofs.Common.{◌≡◌, ◌∙◌, Bool, true, false, ℕ, if◌then◌else◌, Option, Some, List, [], ◌∷◌, refl, ap, arith, drop, get_or, length, ◌<◌, ◌+◌}
 use Rattle.std.proofs.lemmas.List.{at_drop_more, drop_all}
 use Rattle.std.proofs.lemmas.Slice.Eq.{bytes_eq-Decides}
-use Rattle.std.specs.Prelude.{IfSome}
 use Rattle.std.specs.Str.{bytes_eq}
 use Rattle.geo_text.specs.Words.{named_in, named_words, text_of, word_named}
 use Rattle.geo_text.specs.declared.word.Word.{Word}
-use Rattle.geo_text.specs.declared.word.Word.TheVariants as word
 
 -- the text is that of the first word, or names one of the others
 of_first : (first asked : Word) (text : List ℕ) (rest : Option Word) → (rest ≡ Some asked → text ≡ text_of asked) → (same : Bool)
@@ -22,16 +20,6 @@ text_of_found (first ∷ rest) text asked e =
 -- a text that names a word is that word's,
 pub text_of_named : (text : List ℕ) (asked : Word) → word_named text ≡ Some asked → text ≡ text_of asked
 text_of_named text asked e = text_of_found named_words text asked e
-
--- so what a search finds has the text
-pub text_of_any : (text : List ℕ) (found : Option Word) → found ≡ word_named text → IfSome found (λ asked. text ≡ text_of asked)
-text_of_any text None is = tt
-text_of_any text (Some asked) is = text_of_named text asked (sym is)
-
--- and each word but version 2 is named by its text
-pub named_by_text : (asked : Word) → asked ≢ word.Two → word_named (text_of asked) ≡ Some asked
-named_by_text word.Two plain = absurd (plain refl)
-named_by_text _ plain = refl
 
 -- a text is its bytes
 front : (text : List ℕ) (k c : ℕ) (rest : List ℕ) → k < length text → get_or text k 0 ≡ c → drop (k + 1) text ≡ rest → drop k text ≡ c ∷ rest

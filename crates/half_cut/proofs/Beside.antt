@@ -10,12 +10,12 @@ use Rattle.plane.proofs.Segments.{on_first_end}
 use Rattle.plane.proofs.Turns.{determinant_same_ends, determinant_same_last, determinant_shift_back}
 use Rattle.plane.specs.Convex.{AreConvex, corner}
 use Rattle.plane.specs.Cut.{IsCut}
-use Rattle.plane.specs.Point.{IsPoint, Point, Triple, whole}
+use Rattle.plane.specs.Point.{IsPoint, Triple, whole}
 use Rattle.plane.specs.Region.{IsInRegion, IsRightOfNone, corner_at}
 use Rattle.plane.specs.Turn.{IsRight, determinant}
 use Rattle.half_cut.proofs.Links.{length_rotated, rotated_at}
 use Rattle.half_cut.proofs.TurnedBlocks.{convex_from, read_from}
-use Rattle.half_cut.specs.Outline.{AreNoneRight, AreOf, Line, from_place, line_at}
+use Rattle.half_cut.specs.Outline.{AreNoneRight, AreOf, IsRegionKept, Line, from_place, line_at}
 
 -- ---- each corner is in the region
 
@@ -82,35 +82,12 @@ of_more ls line i less = elim (cases_lt i (length ls)) [
   | inr last ↦ inr (get_or_push ls line _ i (omega (arith, last, less, length_push ls line)))
 ]
 
--- all of them
-pub of_same : (ls : List Line) (line : Line) → AreOf ls line ls
-of_same ls line i less = inl (i, (less, refl))
-
 -- what holds of the old ones and of the new one holds of all
 pub all_of : (P : Line → Type 0) (ls : List Line) (line : Line) (ks : List Line) → AreOf ls line ks
     → ((i : ℕ) → i < length ls → P (line_at ls i)) → P line → (i : ℕ) → i < length ks → P (line_at ks i)
 all_of P ls line ks are old new i less = elim (are i less) [
   | inl h ↦ subst P (sym h.1.1) (old h.0 h.1.0)
   | inr h ↦ subst P (sym h) new
-]
-
--- where a new one is among the others, it may be left out
-pub of_both : (ls : List Line) (line end : Line) (ks rs : List Line) → AreOf ls line ks → AreOf ks end rs
-    → (j : ℕ) → j < length ls → end ≡ line_at ls j → AreOf ls line rs
-of_both ls line end ks rs first last j in_j is i less = elim (last i less) [
-  | inr h ↦ inl (j, (in_j, h ∙ is))
-  | inl h ↦ elim (first h.0 h.1.0) [
-    | inl k ↦ inl (k.0, (k.1.0, h.1.1 ∙ k.1.1))
-    | inr k ↦ inr (h.1.1 ∙ k)
-  ]
-]
-
--- where the new line is one of the old ones too
-pub of_old : (ls : List Line) (line other : Line) (ks : List Line) → AreOf ls line ks → (j : ℕ) → j < length ls → line ≡ line_at ls j
-    → AreOf ls other ks
-of_old ls line other ks are j in_j is i less = elim (are i less) [
-  | inl h ↦ inl h
-  | inr h ↦ inl (j, (in_j, h ∙ is))
 ]
 
 -- ---- no corner is right of them
@@ -130,22 +107,22 @@ beside_from cs ls t same in_t beside i j in_i in_j right =
     (read_from cs t j in_t within) right))
 
 -- what a cut leaves is right of no old line, nor of its own
-pub beside_left : (a b : Point) (cs : List Triple) (ls : List Line) (ds : List Triple) (ks : List Line) → AreConvex cs → AreNoneRight cs ls
-    → IsCut (whole a) (whole b) cs ds → AreOf ls (a, b) ks → AreNoneRight ds ks
-beside_left a b cs ls ds ks convex beside cut are i j in_i in_j =
+beside_left : (cut : Line) (cs : List Triple) (ls : List Line) (ds : List Triple) (ks : List Line) → AreConvex cs → AreNoneRight cs ls
+    → IsCut (whole cut.0) (whole cut.1) cs ds → AreOf ls cut ks → AreNoneRight ds ks
+beside_left cut cs ls ds ks convex beside left are i j in_i in_j =
     let p = corner ds j in
-    let at_p : IsPoint p = cut.convex.rational j in_j in
-    let left = (cut.exact p at_p).0 (corner_in_region ds cut.convex j in_j) in
-    all_of (λ l. ¬ (IsRight (whole l.0) (whole l.1) p)) ls (a, b) ks are
+    let at_p : IsPoint p = left.convex.rational j in_j in
+    let inside = (left.exact p at_p).0 (corner_in_region ds left.convex j in_j) in
+    all_of (λ l. ¬ (IsRight (whole l.0) (whole l.1) p)) ls cut ks are
     (λ k in_k right.
     not_both right
-    (region_not_right (whole (line_at ls k).0) (whole (line_at ls k).1) cs p convex at_p left.0
+    (region_not_right (whole (line_at ls k).0) (whole (line_at ls k).1) cs p convex at_p inside.0
     (λ m in_m. at_least_unless (beside k m in_k in_m))))
-    left.1 i in_i
+    inside.1 i in_i
 
 -- so it is where the corners were read from another one on
-pub beside_kept : (a b : Point) (cs : List Triple) (ls : List Line) (t : ℕ) (ds : List Triple) (ks : List Line) → AreConvex cs
-    → length ls ≡ length cs → t ≤ length cs → AreNoneRight cs ls → IsCut (whole a) (whole b) (from_place t cs) ds
-    → AreOf (from_place t ls) (a, b) ks → AreNoneRight ds ks
-beside_kept a b cs ls t ds ks convex same in_t beside cut are =
-    beside_left a b (from_place t cs) (from_place t ls) ds ks (convex_from cs t convex) (beside_from cs ls t same in_t beside) cut are
+pub beside_kept : {cut : Line} {cs ds : List Triple} {ls : List Line} {least : ℕ} (ks : List Line) (start : ℕ) → IsRegionKept cs ls least → start ≤ length cs
+    → IsCut (whole cut.0) (whole cut.1) (from_place start cs) ds → AreOf (from_place start ls) cut ks → AreNoneRight ds ks
+beside_kept {cut} {cs} {ds} {ls} ks start kept within left are =
+    beside_left cut (from_place start cs) (from_place start ls) ds ks (convex_from cs start kept.convex)
+    (beside_from cs ls start kept.round.linked.as_many within kept.beside) left are

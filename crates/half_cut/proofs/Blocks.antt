@@ -1,19 +1,28 @@
 -- Corners counted round, and the block of those that a cut leaves.
-use Rattle.std.proofs.Common.{◌≡◌, inl, inr, sym, subst, ap, ◌∙◌, ℕ, ◌+◌, ◌-◌, ◌*◌, ◌/◌, ◌%◌, ◌<◌, ◌≤◌, arith, List, length}
+use Rattle.std.proofs.Common.{◌≡◌, inl, inr, sym, subst, ap, ◌∙◌, ℕ, zero, suc, ◌+◌, ◌-◌, ◌*◌, ◌/◌, ◌%◌, ◌<◌, ◌≤◌, arith, List, length}
 use Rattle.std.proofs.Math.Nat.{add-mod_left, add-mul-mod_self_left, div-add-mod, mod-lt}
 use Rattle.std.proofs.lemmas.Bool.{cases_eq, cases_lt}
 use Rattle.plane.proofs.Regions.{corner_within}
 use Rattle.plane.specs.Convex.{corner}
 use Rattle.plane.specs.Point.{Triple}
 use Rattle.plane.specs.Region.{corner_at}
-use Rattle.plane.specs.Turn.{IsRight}
-use Rattle.half_cut.specs.Block.{IsBlock}
+use Rattle.half_cut.specs.Block.{IsBlock, IsRightRun}
+use Rattle.half_cut.specs.Outline.{IsRightOf, Line}
 
 -- a number may be counted round before another is added
 pub mod_add : (x i n : ℕ) → (x % n + i) % n ≡ (x + i) % n
 mod_add x i n =
     let whole : x + i ≡ x % n + i + n * (x / n) = omega (arith, div-add-mod x n) in
     sym (ap (λ k. k % n) whole ∙ add-mul-mod_self_left (x % n + i) n (x / n))
+
+-- so many steps, each of all places but one, go back
+steps_back : (n x k : ℕ) → k ≤ n → (x + k * (n - 1)) % n ≡ (x + (n - k)) % n
+steps_back n x zero few = ap (λ i. i % n) (omega arith) ∙ sym (add-mod_left n x) ∙ ap (λ i. i % n) (omega arith)
+steps_back zero x (suc k) few = absurd (omega (arith, few))
+steps_back (suc m) x (suc k) few =
+    let last : suc m - 1 ≡ m = omega arith in
+    let whole : x + suc k * m ≡ x + (suc m - suc k) + suc m * k = omega (arith, few) in
+    ap (λ i. (x + suc k * i) % suc m) last ∙ ap (λ i. i % suc m) whole ∙ add-mul-mod_self_left (x + (suc m - suc k)) (suc m) k
 
 -- what holds all round from one number on holds of all
 pub all_round : (P : ℕ → Type 0) (n from : ℕ) → ((i : ℕ) → P (n + i) → P i) → from < n → ((i : ℕ) → i < n → P (from + i)) → (i : ℕ) → i <
@@ -39,59 +48,79 @@ module _ (cs : List Triple) where
       subst P (corner_within cs i less)
       (all_round (λ k. P (corner_at cs k)) (length cs) from (λ k h. subst P (once_round k) h) within all i less)
 
-module _ (a b : Triple) (cs : List Triple) (gone ahead back : ℕ) (within : gone < length cs) (here : IsRight a b (corner cs gone))
-    (right_ahead : (k : ℕ) → k < ahead → IsRight a b (corner_at cs (gone + k)))
-    (end_ahead : ¬ (IsRight a b (corner_at cs (gone + ahead)))) (in_ahead : ahead < length cs)
-    (in_back : back ≤ length cs)
-    (right_back : (k : ℕ) → k < back → IsRight a b (corner_at cs (gone + (length cs - k)))) where
-  first_right : IsRight a b (corner_at cs gone)
-  first_right = subst (IsRight a b) (sym (corner_within cs gone within)) here
+module _ {line : Line} {cs : List Triple} {gone ahead : ℕ} (within : gone < length cs) (forth : IsRightRun line cs gone 1 ahead) where
+  right_ahead : (k : ℕ) → k < ahead → IsRightOf line (corner_at cs (gone + k))
+  right_ahead k less = subst (λ i. IsRightOf line (corner_at cs i)) (omega arith) (forth.right k less)
+
+  -- a run through all
+  pub all_right : ahead ≡ length cs → (i : ℕ) → i < length cs → IsRightOf line (corner cs i)
+  all_right all = all_from cs (IsRightOf line) gone within (λ i less. right_ahead i (omega (arith, less, all)))
+
+-- runs ahead and back from a corner that is right of the line, the first of which ends
+module _ {line : Line} {cs : List Triple} {gone ahead back step : ℕ} (within : gone < length cs) (here : IsRightOf line (corner cs gone))
+    (forth : IsRightRun line cs gone 1 ahead) (in_ahead : ahead < length cs) (run_back : IsRightRun line cs gone step back)
+    (is_step : step ≡ length cs - 1) where
+  abbrev n : ℕ
+  n = length cs
+
+  right_here : IsRightOf line (corner_at cs gone)
+  right_here = subst (IsRightOf line) (sym (corner_within cs gone within)) here
+
+  home : IsRightRun line cs gone (length cs - 1) back
+  home = subst (λ k. IsRightRun line cs gone k back) is_step run_back
+
+  end_ahead : ¬ IsRightOf line (corner_at cs (gone + ahead))
+  end_ahead right = forth.end in_ahead (subst (λ i. IsRightOf line (corner_at cs i)) (omega arith) right)
+
+  right_back : (k : ℕ) → k < back → IsRightOf line (corner_at cs (gone + (n - k)))
+  right_back k less = subst (λ i. IsRightOf line (corner cs i)) (steps_back n gone k (omega (arith, home.within, less))) (home.right k less)
 
   -- the walk ahead takes a step at least,
-  pub some_ahead : 0 < ahead
+  some_ahead : 0 < ahead
   some_ahead = elim (cases_eq ahead 0) [
-    | inl e ↦ absurd (end_ahead (subst (λ k. IsRight a b (corner_at cs k)) (omega (arith, e)) first_right))
+    | inl e ↦ absurd (end_ahead (subst (λ k. IsRightOf line (corner_at cs k)) (omega (arith, e)) right_here))
     | inr n ↦ omega (arith, n)
   ]
 
-  -- and the walk back does not pass the corner where that ended
-  pub back_ends : ahead + back ≤ length cs
-  back_ends = elim (cases_lt (length cs - ahead) back) [
+  -- and the walk back does not pass the corner where that ended,
+  pub back_ends : ahead + back ≤ n
+  back_ends = elim (cases_lt (n - ahead) back) [
     | inr not ↦ omega (arith, not, in_ahead)
     | inl past ↦
-        absurd (end_ahead (subst (λ k. IsRight a b (corner_at cs k)) (omega (arith, in_ahead)) (right_back (length cs - ahead) past)))
+        absurd (end_ahead (subst (λ k. IsRightOf line (corner_at cs k)) (omega (arith, in_ahead)) (right_back (n - ahead) past)))
   ]
 
-  module _ (end_back : ¬ (IsRight a b (corner_at cs (gone + (length cs - back))))) where
-    some_back : 0 < back
-    some_back = elim (cases_eq back 0) [
-      | inl e ↦
-          absurd (end_back (subst (λ k. IsRight a b (corner_at cs (gone + (length cs - k)))) (sym e)
-          (subst (IsRight a b) (sym (once_round cs gone) ∙ ap (λ k. corner_at cs k) (omega arith)) first_right)))
-      | inr n ↦ omega (arith, n)
-    ]
+  end_back : ¬ IsRightOf line (corner_at cs (gone + (n - back)))
+  end_back right =
+      home.end (omega (arith, back_ends, some_ahead)) (subst (λ i. IsRightOf line (corner cs i)) (sym (steps_back n gone back home.within)) right)
 
-    -- what is between the two ends is the block that stays
-    pub block_between : IsBlock a b cs ((gone + ahead) % length cs) (length cs + 1 - ahead - back)
-    block_between =
-        let n = length cs in
-        let count = n + 1 - ahead - back in
-        let start = (gone + ahead) % n in
-        record {
-          within = mod-lt (gone + ahead) (omega (arith, within));
-          some = omega (arith, back_ends);
-          rest = omega (arith, some_ahead, some_back, back_ends);
-          first = λ h. end_ahead (subst (IsRight a b) (ap (λ k. corner_at cs k) (omega arith) ∙ counted_round cs (gone + ahead) 0 ∙ ap (λ k. corner_at cs k) (omega arith)) h);
-          last = λ h.
-              let place : gone + ahead + (count - 1) ≡ gone + (n - back) = omega (arith, back_ends) in
-              end_back (subst (IsRight a b) (counted_round cs (gone + ahead) (count - 1) ∙ ap (λ k. corner_at cs k) place) h);
-          next =
-              let place : gone + ahead + count ≡ gone + (n - (back - 1)) = omega (arith, back_ends, some_back) in
-              subst (IsRight a b) (sym (counted_round cs (gone + ahead) count ∙ ap (λ k. corner_at cs k) place))
-              (right_back (back - 1) (omega (arith, some_back)));
-          before =
-              let place : gone + ahead + (n - 1) ≡ n + (gone + (ahead - 1)) = omega (arith, some_ahead, within) in
-              subst (IsRight a b)
-              (sym (counted_round cs (gone + ahead) (n - 1) ∙ ap (λ k. corner_at cs k) place ∙ once_round cs (gone + (ahead - 1))))
-              (right_ahead (ahead - 1) (omega (arith, some_ahead)));
-        }
+  some_back : 0 < back
+  some_back = elim (cases_eq back 0) [
+    | inl e ↦
+        absurd (end_back (subst (λ k. IsRightOf line (corner_at cs (gone + (n - k)))) (sym e)
+        (subst (IsRightOf line) (sym (once_round cs gone) ∙ ap (λ k. corner_at cs k) (omega arith)) right_here)))
+    | inr n ↦ omega (arith, n)
+  ]
+
+  -- and what is between the two ends is the block that stays
+  pub block_between : (start count : ℕ) → start ≡ (gone + ahead) % n → count ≡ n + 1 - ahead - back → IsBlock line cs start count
+  block_between start count is_start is_count = subst (λ t. t) (λ i. IsBlock line cs (sym is_start i) (sym is_count i))
+      (let count = n + 1 - ahead - back in
+      record {
+        within = mod-lt (gone + ahead) (omega (arith, within));
+        some = omega (arith, back_ends);
+        rest = omega (arith, some_ahead, some_back, back_ends);
+        first = λ h. end_ahead (subst (IsRightOf line) (ap (λ k. corner_at cs k) (omega arith) ∙ counted_round cs (gone + ahead) 0 ∙ ap (λ k. corner_at cs k) (omega arith)) h);
+        last = λ h.
+            let place : gone + ahead + (count - 1) ≡ gone + (n - back) = omega (arith, back_ends) in
+            end_back (subst (IsRightOf line) (counted_round cs (gone + ahead) (count - 1) ∙ ap (λ k. corner_at cs k) place) h);
+        next =
+            let place : gone + ahead + count ≡ gone + (n - (back - 1)) = omega (arith, back_ends, some_back) in
+            subst (IsRightOf line) (sym (counted_round cs (gone + ahead) count ∙ ap (λ k. corner_at cs k) place))
+            (right_back (back - 1) (omega (arith, some_back)));
+        before =
+            let place : gone + ahead + (n - 1) ≡ n + (gone + (ahead - 1)) = omega (arith, some_ahead, within) in
+            subst (IsRightOf line)
+            (sym (counted_round cs (gone + ahead) (n - 1) ∙ ap (λ k. corner_at cs k) place ∙ once_round cs (gone + (ahead - 1))))
+            (right_ahead within forth (ahead - 1) (omega (arith, some_ahead)));
+      })

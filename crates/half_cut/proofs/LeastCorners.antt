@@ -1,5 +1,5 @@
 -- The least of some corners, one after another, and of those that a cut leaves.
-use Rattle.std.proofs.Common.{◌≡◌, ◌≢◌, inl, inr, sym, subst, ap, ◌∙◌, ℕ, ◌+◌, ◌-◌, ◌%◌, ◌<◌, ◌≤◌, arith, List, length, pos, ◌≤ℤ◌, ◌<ℤ◌}
+use Rattle.std.proofs.Common.{◌≡◌, ◌≢◌, inl, inr, sym, subst, ap, ◌∙◌, ℕ, ◌+◌, ◌-◌, ◌%◌, ◌<◌, ◌≤◌, arith, List, length, pos, ◌≤ℤ◌}
 use Rattle.std.proofs.Math.Nat.{add-mod_left, mod-eq_of_lt, mod-lt, mod_self}
 use Rattle.std.proofs.lemmas.Bool.{cases_lt}
 use Rattle.integer_algebra.proofs.SignSteps.{at_least_unless}
@@ -7,20 +7,20 @@ use Rattle.plane.proofs.Order.{after, before, compare_points, equal, not_after_f
 use Rattle.plane.proofs.Regions.{region_not_right}
 use Rattle.plane.specs.Convex.{corner}
 use Rattle.plane.specs.Cut.{IsCut}
-use Rattle.plane.specs.Line.{cross_product}
-use Rattle.plane.specs.Order.{IsBefore, Precedes}
-use Rattle.plane.specs.Point.{IsPoint, Point, Triple, whole}
+use Rattle.plane.specs.Order.{Precedes}
+use Rattle.plane.specs.Point.{IsPoint, Triple, whole}
 use Rattle.plane.specs.Region.{corner_at}
-use Rattle.plane.specs.Turn.{IsRight, determinant}
+use Rattle.plane.specs.Turn.{determinant}
 use Rattle.half_cut.proofs.Beside.{beside_from, corner_in_region}
 use Rattle.half_cut.proofs.Blocks.{mod_add}
 use Rattle.half_cut.proofs.Links.{length_rotated, linked_rotated}
-use Rattle.half_cut.proofs.Seeking.{along_out, down_in, on_into, on_out, turned_there, up_out}
-use Rattle.half_cut.proofs.TurnedBlocks.{convex_from, go_there, read_from, stay_there}
+use Rattle.half_cut.proofs.Seeking.{along_out, down_in, on_into, on_out, turned, turned_there, up_out}
+use Rattle.half_cut.proofs.TurnedBlocks.{convex_from, read_from, tail_there}
 use Rattle.half_cut.proofs.Ways.{IsAlong, before_both_down, before_both_up, line_turns_in, line_turns_out, none_before_meeting}
 use Rattle.half_cut.specs.Block.{IsBlock}
-use Rattle.half_cut.specs.Meeting.{IsCutSide}
-use Rattle.half_cut.specs.Outline.{IsRegionKept, Line, from_place, line_at}
+use Rattle.half_cut.specs.Meeting.{IsCutSide, IsTail}
+use Rattle.half_cut.specs.Outline.{IsLeast, IsRegionKept, Line, from_place, line_at}
+use Rattle.half_cut.specs.Seek.{IsUpward, TurnsLeftTo}
 
 -- none of the first some corners comes before this one
 abbrev pub NoneBefore : List Triple → ℕ → ℕ → Type 0
@@ -89,13 +89,8 @@ module _ (cs : List Triple) (ls : List Line) (least start : ℕ) (kept : IsRegio
 -- ---- after a cut
 
 -- corners from the first that stays on, and what a cut leaves of them
-module _ (cs : List Triple) (ls : List Line) (least : ℕ) (kept : IsRegionKept cs ls least) (three : 3 ≤ length cs) (a b : Point) (count : ℕ)
-    (some : 0 < count)
-    (rest : count < length cs)
-    (stay : (i : ℕ) → i < count → ¬ IsRight (whole a) (whole b) (corner cs i))
-    (go : (i : ℕ) → count ≤ i → i < length cs → IsRight (whole a) (whole b) (corner cs i))
-    (ds : List Triple)
-    (cut : IsCut (whole a) (whole b) cs ds) where
+module _ {cut : Line} {cs : List Triple} {ls : List Line} {least count : ℕ} (kept : IsRegionKept cs ls least)
+    (tail : IsTail cut cs ls count) (three : 3 ≤ length cs) {ds : List Triple} (left : IsCut (whole cut.0) (whole cut.1) cs ds) where
   abbrev n : ℕ
   n = length cs
 
@@ -111,30 +106,30 @@ module _ (cs : List Triple) (ls : List Line) (least : ℕ) (kept : IsRegionKept 
   -- what is left is right of no old line, nor of the cut
   left_of_old : (k i : ℕ) → k < n → i < length ds → pos 0 ≤ℤ determinant (whole (line_at ls k).0) (whole (line_at ls k).1) (corner ds i)
   left_of_old k i in_k in_i =
-      let at_p = cut.convex.rational i in_i in
-      let left = (cut.exact (corner ds i) at_p).0 (corner_in_region ds cut.convex i in_i) in
-      region_not_right (whole (line_at ls k).0) (whole (line_at ls k).1) cs (corner ds i) kept.convex at_p left.0
+      let at_p = left.convex.rational i in_i in
+      let inside = (left.exact (corner ds i) at_p).0 (corner_in_region ds left.convex i in_i) in
+      region_not_right (whole (line_at ls k).0) (whole (line_at ls k).1) cs (corner ds i) kept.convex at_p inside.0
       (λ m in_m. at_least_unless (kept.beside k m (omega (arith, in_k, many)) in_m))
 
-  left_of_cut : (i : ℕ) → i < length ds → pos 0 ≤ℤ determinant (whole a) (whole b) (corner ds i)
+  left_of_cut : (i : ℕ) → i < length ds → pos 0 ≤ℤ determinant (whole cut.0) (whole cut.1) (corner ds i)
   left_of_cut i in_i =
-      let at_p = cut.convex.rational i in_i in
-      at_least_unless ((cut.exact (corner ds i) at_p).0 (corner_in_region ds cut.convex i in_i)).1
+      let at_p = left.convex.rational i in_i in
+      at_least_unless ((left.exact (corner ds i) at_p).0 (corner_in_region ds left.convex i in_i)).1
 
   -- where the least stays, it is the least
-  pub least_stays : corner ds least ≡ corner cs least → (i : ℕ) → i < length ds → ¬ (Precedes (corner ds i) (corner ds least))
+  pub least_stays : corner ds least ≡ corner cs least → IsLeast ds least
   least_stays same i less comes =
       let before_place : ℕ = (least + (n - 1)) % n in
       let in_before : before_place < n = mod-lt (least + (n - 1)) (omega (arith, three)) in
       let into = line_at ls before_place in
       let out = line_at ls least in
-      none_before_meeting into.0 into.1 out.0 out.1 (turned_there cs ls kept.convex kept.round kept.beside three least in_least)
-      (corner cs least) (corner ds i) (at least in_least) (down_in cs ls least kept three) (up_out cs ls least kept three)
-      (on_into cs ls kept.convex kept.round kept.beside three least in_least) (on_out cs ls kept.convex kept.round kept.beside three least in_least)
+      none_before_meeting into.0 into.1 out.0 out.1 (turned_there kept three least in_least)
+      (corner cs least) (corner ds i) (at least in_least) (down_in kept three) (up_out kept three)
+      (on_into kept three least in_least) (on_out kept three least in_least)
       (left_of_old before_place i in_before less) (left_of_old least i in_least less)
       (subst (λ (p : Triple). Precedes (corner ds i) p) same comes)
 
-  module _ (gone : count ≤ least) (place : ℕ) (side : IsCutSide a b (line_at ls (count - 1)) (line_at ls (length ls - 1)) ds place) where
+  module _ (gone : count ≤ least) {place : ℕ} (side : IsCutSide cut (line_at ls (count - 1)) (line_at ls (length ls - 1)) ds place) where
     abbrev behind : Line
     behind = line_at ls (count - 1)
 
@@ -143,108 +138,98 @@ module _ (cs : List Triple) (ls : List Line) (least : ℕ) (kept : IsRegionKept 
 
     along_behind : IsAlong behind.0 behind.1 (corner cs (count - 1)) (corner cs count)
     along_behind =
-        let next : (count - 1 + 1) % n ≡ count = ap (λ k. k % n) (omega (arith, some)) ∙ mod-eq_of_lt rest in
+        let next : (count - 1 + 1) % n ≡ count = ap (λ k. k % n) (omega (arith, tail.some)) ∙ mod-eq_of_lt tail.rest in
         subst (IsAlong behind.0 behind.1 (corner cs (count - 1))) (ap (λ k. corner cs k) next)
-        (along_out cs ls kept.convex kept.round kept.beside three (count - 1) (omega (arith, rest)))
+        (along_out kept three (count - 1) (omega (arith, tail.rest)))
 
     along_ahead : IsAlong ahead.0 ahead.1 (corner cs (n - 1)) (corner cs 0)
     along_ahead =
         let next : (n - 1 + 1) % n ≡ 0 = ap (λ k. k % n) (omega (arith, three)) ∙ mod_self n in
         subst (IsAlong ahead.0 ahead.1 (corner cs (n - 1))) (ap (λ k. corner cs k) next)
-        (along_out cs ls kept.convex kept.round kept.beside three (n - 1) (omega (arith, three)))
+        (along_out kept three (n - 1) (omega (arith, three)))
 
-    turn_behind : pos 0 <ℤ cross_product behind.0 behind.1 a b
+    turn_behind : TurnsLeftTo behind cut
     turn_behind =
-        line_turns_out behind.0 behind.1 a b (corner cs (count - 1)) (corner cs count) (at (count - 1) (omega (arith, rest))) (at count rest)
-        along_behind (at_least_unless (stay (count - 1) (omega (arith, some)))) (go count (omega arith) rest)
+        line_turns_out behind.0 behind.1 cut.0 cut.1 (corner cs (count - 1)) (corner cs count) (at (count - 1) (omega (arith, tail.rest))) (at count tail.rest)
+        along_behind (at_least_unless (tail.stay (count - 1) (omega (arith, tail.some)))) (tail.go count (omega arith) tail.rest)
 
-    turn_ahead : pos 0 <ℤ cross_product a b ahead.0 ahead.1
+    turn_ahead : TurnsLeftTo cut ahead
     turn_ahead =
-        line_turns_in ahead.0 ahead.1 a b (corner cs (n - 1)) (corner cs 0) (at (n - 1) (omega (arith, three))) (at 0 (omega (arith, three)))
-        along_ahead (go (n - 1) (omega (arith, rest)) (omega (arith, three))) (at_least_unless (stay 0 some))
+        line_turns_in ahead.0 ahead.1 cut.0 cut.1 (corner cs (n - 1)) (corner cs 0) (at (n - 1) (omega (arith, three))) (at 0 (omega (arith, three)))
+        along_ahead (tail.go (n - 1) (omega (arith, tail.rest)) (omega (arith, three))) (at_least_unless (tail.stay 0 tail.some))
 
     -- where the cut goes up, the side behind it goes down, as the least was right of the cut,
-    down_behind : IsBefore a b → IsBefore behind.1 behind.0
+    down_behind : IsUpward cut → IsUpward (turned behind)
     down_behind up = elim (compare_points behind.1 behind.0) [
       | before h ↦ h
-      | equal e ↦ absurd (kept.round.linked.two_points (count - 1) (omega (arith, rest, many)) (sym e))
+      | equal e ↦ absurd (kept.round.linked.two_points (count - 1) (omega (arith, tail.rest, many)) (sym e))
       | after h ↦
-          absurd (kept.least (count - 1) (omega (arith, rest))
-          (before_both_up behind.0 behind.1 a b turn_behind (corner cs (count - 1)) (corner cs least) (at (count - 1) (omega (arith, rest)))
-          (at least in_least) h up (kept.round.linked.begins (count - 1) (omega (arith, rest)))
-          (at_least_unless (kept.beside (count - 1) least (omega (arith, rest, many)) in_least))
-          (at_least_unless (stay (count - 1) (omega (arith, some)))) (go least gone in_least)))
+          absurd (kept.least (count - 1) (omega (arith, tail.rest))
+          (before_both_up behind.0 behind.1 cut.0 cut.1 turn_behind (corner cs (count - 1)) (corner cs least) (at (count - 1) (omega (arith, tail.rest)))
+          (at least in_least) h up (kept.round.linked.begins (count - 1) (omega (arith, tail.rest)))
+          (at_least_unless (kept.beside (count - 1) least (omega (arith, tail.rest, many)) in_least))
+          (at_least_unless (tail.stay (count - 1) (omega (arith, tail.some)))) (tail.go least gone in_least)))
     ]
 
     -- so the least is where the cut begins,
-    pub least_at_begin : IsBefore a b → (i : ℕ) → i < length ds → ¬ (Precedes (corner ds i) (corner ds place))
+    pub least_at_begin : IsUpward cut → IsLeast ds place
     least_at_begin up i less =
-        none_before_meeting behind.0 behind.1 a b turn_behind (corner ds place) (corner ds i) (cut.convex.rational place side.within)
-        (down_behind up) up side.from_behind side.from_cut (left_of_old (count - 1) i (omega (arith, rest)) less) (left_of_cut i less)
+        none_before_meeting behind.0 behind.1 cut.0 cut.1 turn_behind (corner ds place) (corner ds i) (left.convex.rational place side.within)
+        (down_behind up) up side.from_behind side.from_cut (left_of_old (count - 1) i (omega (arith, tail.rest)) less) (left_of_cut i less)
 
     -- where it goes down, the side ahead goes up,
-    up_ahead : IsBefore b a → IsBefore ahead.0 ahead.1
+    up_ahead : IsUpward (turned cut) → IsUpward ahead
     up_ahead down = elim (compare_points ahead.0 ahead.1) [
       | before h ↦ h
       | equal e ↦ absurd (kept.round.linked.two_points (n - 1) (omega (arith, three, many)) e)
       | after h ↦
           absurd (kept.least 0 (omega (arith, three))
-          (before_both_down a b ahead.0 ahead.1 turn_ahead (corner cs 0) (corner cs least) (at 0 (omega (arith, three)))
+          (before_both_down cut.0 cut.1 ahead.0 ahead.1 turn_ahead (corner cs 0) (corner cs least) (at 0 (omega (arith, three)))
           (at least in_least) down h
           (subst (λ k. let l = line_at ls (k - 1) in determinant (whole l.0) (whole l.1) (corner cs 0) ≡ pos 0) many
           (kept.round.closes (omega (arith, three))))
-          (at_least_unless (kept.beside (n - 1) least (omega (arith, three, many)) in_least)) (at_least_unless (stay 0 some))
-          (go least gone in_least)))
+          (at_least_unless (kept.beside (n - 1) least (omega (arith, three, many)) in_least)) (at_least_unless (tail.stay 0 tail.some))
+          (tail.go least gone in_least)))
     ]
 
     -- and the least is where it ends
-    pub least_at_end : IsBefore b a → (i : ℕ) → i < length ds → ¬ (Precedes (corner ds i) (corner_at ds (place + 1)))
+    pub least_at_end : IsUpward (turned cut) → IsLeast ds ((place + 1) % length ds)
     least_at_end down i less =
         let in_end : (place + 1) % length ds < length ds = mod-lt (place + 1) (omega (arith, less)) in
-        none_before_meeting a b ahead.0 ahead.1 turn_ahead (corner_at ds (place + 1)) (corner ds i)
-        (cut.convex.rational ((place + 1) % length ds) in_end) down (up_ahead down) side.to_cut
+        none_before_meeting cut.0 cut.1 ahead.0 ahead.1 turn_ahead (corner_at ds (place + 1)) (corner ds i)
+        (left.convex.rational ((place + 1) % length ds) in_end) down (up_ahead down) side.to_cut
         (subst (λ k. let l = line_at ls (k - 1) in determinant (whole l.0) (whole l.1) (corner_at ds (place + 1)) ≡ pos 0) many side.to_before)
         (left_of_cut i less) (left_of_old (n - 1) i (omega (arith, three)) less)
 
 -- ---- after a cut that keeps a block
 
-module _ (a b : Point) (cs : List Triple) (ls : List Line) (least start count k m : ℕ) (kept : IsRegionKept cs ls least)
-    (block : IsBlock (whole a) (whole b) cs start count)
-    (en : k ≡ length cs)
-    (is_m : m ≡ (least + (k - start)) % k)
-    (not_two : k ≢ 2)
-    (ds : List Triple)
-    (cut : IsCut (whole a) (whole b) (from_place start cs) ds) where
+module _ {cut : Line} {cs : List Triple} {ls : List Line} {least start count m k : ℕ} (differ : cut.0 ≢ cut.1) (kept : IsRegionKept cs ls least)
+    (block : IsBlock cut cs start count) (is_m : m ≡ (least + (k - start)) % length cs) (en : k ≡ length cs) (not_two : length cs ≢ 2) {ds : List Triple}
+    (left : IsCut (whole cut.0) (whole cut.1) (from_place start cs) ds) where
   kept' : IsRegionKept (from_place start cs) (from_place start ls) m
-  kept' =
-      subst (IsRegionKept (from_place start cs) (from_place start ls)) (sym (is_m ∙ ap (λ j. (least + (j - start)) % j) en))
+  kept' = subst (IsRegionKept (from_place start cs) (from_place start ls)) (sym (is_m ∙ ap (λ j. (least + (j - start)) % length cs) en))
       (kept_there cs ls least start kept block.within)
 
-  as_many : length (from_place start cs) ≡ length cs
-  as_many = length_rotated cs start (omega (arith, block.within))
-
   three' : 3 ≤ length (from_place start cs)
-  three' = omega (arith, as_many, not_two, en, block.some, block.rest)
+  three' = omega (arith, length_rotated cs start (omega (arith, block.within)), not_two, block.some, block.rest)
 
-  rest' : count < length (from_place start cs)
-  rest' = omega (arith, as_many, block.rest)
+  tail' : IsTail cut (from_place start cs) (from_place start ls) count
+  tail' = tail_there differ kept.convex kept.round block
 
-  pub stays_there : ((i : ℕ) → i < count → corner ds i ≡ corner (from_place start cs) i) → m < count
-      → (i : ℕ) → i < length ds → ¬ (Precedes (corner ds i) (corner ds m))
-  stays_there same less =
-      least_stays (from_place start cs) (from_place start ls) m kept' three' a b count block.some rest'
-      (stay_there (whole a) (whole b) cs block kept.convex) (go_there (whole a) (whole b) cs block kept.convex) ds cut (same m less)
+  in_count : (i : ℕ) → i < length ds → IsLeast ds i → IsLeast ds (i % length ds)
+  in_count i less is = subst (IsLeast ds) (sym (mod-eq_of_lt less)) is
 
-  module _ (gone : count ≤ m) (place : ℕ)
-      (side : IsCutSide a b (line_at (from_place start ls) (count - 1)) (line_at (from_place start ls) (length (from_place start ls) - 1)) ds place) where
-    pub begins_there : IsBefore a b → (i : ℕ) → i < length ds → ¬ (Precedes (corner ds i) (corner ds place))
-    begins_there =
-        least_at_begin (from_place start cs) (from_place start ls) m kept' three' a b count block.some rest'
-        (stay_there (whole a) (whole b) cs block kept.convex) (go_there (whole a) (whole b) cs block kept.convex) ds cut gone
-        place side
+  pub stays_there : m < length ds → ((i : ℕ) → i < count → corner ds i ≡ corner (from_place start cs) i) → m < count → IsLeast ds (m % length ds)
+  stays_there within same less = in_count m within (least_stays kept' tail' three' left (same m less))
 
-    pub ends_there : IsBefore b a → (i : ℕ) → i < length ds → ¬ (Precedes (corner ds i) (corner_at ds (place + 1)))
-    ends_there =
-        least_at_end (from_place start cs) (from_place start ls) m kept' three' a b count block.some rest'
-        (stay_there (whole a) (whole b) cs block kept.convex) (go_there (whole a) (whole b) cs block kept.convex) ds cut gone
-        place side
+  module _ (gone : count ≤ m) {place : ℕ} (side : (3 ≤ length (from_place start cs) → IsCutSide cut (line_at (from_place start ls) (count - 1))
+      (line_at (from_place start ls) (length (from_place start ls) - 1)) ds place)) where
+    pub begins_there : IsUpward cut → IsLeast ds (place % length ds)
+    begins_there up = in_count place (side three').within (least_at_begin kept' tail' three' left gone (side three') up)
+
+    pub ends_there : ¬ IsUpward cut → IsLeast ds ((place + 1) % length ds)
+    ends_there not = elim (compare_points cut.0 cut.1) [
+      | before h ↦ absurd (not h)
+      | equal e ↦ absurd (differ e)
+      | after h ↦ least_at_end kept' tail' three' left gone (side three') h
+    ]

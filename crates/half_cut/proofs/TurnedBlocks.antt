@@ -1,5 +1,5 @@
 -- A block of corners that a cut leaves, where the corners are read from its first on, and what is left, from the least on.
-use Rattle.std.proofs.Common.{◌≡◌, inl, inr, sym, subst, ap, ◌∙◌, ℕ, ◌+◌, ◌-◌, ◌%◌, ◌<◌, ◌≤◌, arith, List, [], length, take, drop}
+use Rattle.std.proofs.Common.{◌≡◌, ◌≢◌, inl, inr, sym, subst, ap, ◌∙◌, ℕ, ◌+◌, ◌-◌, ◌%◌, ◌<◌, ◌≤◌, arith, List, [], length, take, drop}
 use Rattle.std.proofs.Math.Nat.{mod-eq_of_lt, mod-lt}
 use Rattle.std.proofs.lemmas.Bool.{cases_lt}
 use Rattle.std.proofs.lemmas.List.{take-append-drop}
@@ -7,12 +7,13 @@ use Rattle.plane.proofs.Regions.{all_cut, convex_turned, corners_of_convex, corn
 use Rattle.plane.specs.Convex.{AreConvex, corner}
 use Rattle.plane.specs.Cut.{IsCut, IsUncut}
 use Rattle.plane.specs.Order.{Precedes}
-use Rattle.plane.specs.Point.{Triple}
+use Rattle.plane.specs.Point.{Triple, whole}
 use Rattle.plane.specs.Region.{AreCorners, IsCornerList, corner_at}
 use Rattle.plane.specs.Turn.{IsRight}
-use Rattle.half_cut.proofs.Links.{length_rotated, rotated_at}
+use Rattle.half_cut.proofs.Links.{length_rotated, linked_rotated, rotated_at}
 use Rattle.half_cut.specs.Block.{IsBlock}
-use Rattle.half_cut.specs.Outline.{IsRegionKept, Line, from_place}
+use Rattle.half_cut.specs.Meeting.{IsTail}
+use Rattle.half_cut.specs.Outline.{AreLinkedRound, IsRegionKept, IsRightOf, Line, from_place}
 
 -- convex corners are so from each place on
 pub convex_from : (cs : List Triple) (t : ℕ) → AreConvex cs → AreConvex (from_place t cs)
@@ -22,53 +23,53 @@ convex_from cs t convex = convex_turned (take t cs) (drop t cs) (subst AreConvex
 pub read_from : (cs : List Triple) (t i : ℕ) → t ≤ length cs → i < length cs → corner (from_place t cs) i ≡ corner_at cs (t + i)
 read_from cs t i in_t less = rotated_at cs t i _ in_t less
 
-module _ (a b : Triple) (cs : List Triple) {start count : ℕ} (block : IsBlock a b cs start count) (convex : AreConvex cs) where
+-- read from the first of a block on, the corners are those that stay and those that go
+module _ {cut : Line} {cs : List Triple} {ls : List Line} {start count : ℕ} (differ : cut.0 ≢ cut.1) (convex : AreConvex cs)
+    (round : AreLinkedRound cs ls) (block : IsBlock cut cs start count) where
   in_start : start ≤ length cs
   in_start = omega (arith, block.within)
 
   many : length (from_place start cs) ≡ length cs
   many = length_rotated cs start in_start
 
-  -- read from its first on, the corners are convex,
-  convex_there : AreConvex (from_place start cs)
-  convex_there = convex_from cs start convex
+  right_there : (i : ℕ) → i < length cs → IsRightOf cut (corner_at cs (start + i)) → IsRightOf cut (corner (from_place start cs) i)
+  right_there i less h = subst (IsRightOf cut) (sym (read_from cs start i in_start less)) h
 
-  right_there : (i : ℕ) → i < length cs → IsRight a b (corner_at cs (start + i)) → IsRight a b (corner (from_place start cs) i)
-  right_there i less h = subst (IsRight a b) (sym (read_from cs start i in_start less)) h
+  other_there : (i : ℕ) → i < length cs → ¬ IsRightOf cut (corner_at cs (start + i)) → ¬ IsRightOf cut (corner (from_place start cs) i)
+  other_there i less h right = h (subst (IsRightOf cut) (read_from cs start i in_start less) right)
 
-  other_there : (i : ℕ) → i < length cs → ¬ (IsRight a b (corner_at cs (start + i))) → ¬ (IsRight a b (corner (from_place start cs) i))
-  other_there i less h right = h (subst (IsRight a b) (read_from cs start i in_start less) right)
-
-  first_there : ¬ (IsRight a b (corner (from_place start cs) 0))
-  first_there = other_there 0 (omega (arith, block.within))
-      (subst (λ k. ¬ (IsRight a b (corner_at cs k))) (omega arith) block.first)
+  first_there : ¬ IsRightOf cut (corner (from_place start cs) 0)
+  first_there = other_there 0 (omega (arith, block.within)) (subst (λ k. ¬ IsRightOf cut (corner_at cs k)) (omega arith) block.first)
 
   -- from each that is right of the line on all are
-  from_right : (m : ℕ) → 0 < m → m < length cs → IsRight a b (corner (from_place start cs) m) → (i : ℕ) → m ≤ i → i < length cs
-      → IsRight a b (corner (from_place start cs) i)
+  from_right : (m : ℕ) → 0 < m → m < length cs → IsRightOf cut (corner (from_place start cs) m) → (i : ℕ) → m ≤ i → i < length cs
+      → IsRightOf cut (corner (from_place start cs) i)
   from_right m some less right i past within =
-      one_block a b (from_place start cs) convex_there m some first_there right
-      (subst (λ k. IsRight a b (corner (from_place start cs) k)) (omega (arith, many))
+      one_block (whole cut.0) (whole cut.1) (from_place start cs) (convex_from cs start convex) m some first_there right
+      (subst (λ k. IsRightOf cut (corner (from_place start cs) k)) (omega (arith, many))
       (right_there (length cs - 1) (omega (arith, less)) block.before)) i past (omega (arith, within, many))
 
-  -- those of the block are not right of the line,
-  pub stay_there : (i : ℕ) → i < count → ¬ (IsRight a b (corner (from_place start cs) i))
-  stay_there i less right = elim (cases_lt 0 i) [
-    | inr first ↦ first_there (subst (λ k. IsRight a b (corner (from_place start cs) k)) (omega (arith, first)) right)
-    | inl some ↦
-        other_there (count - 1) (omega (arith, block.rest)) block.last
-        (from_right i some (omega (arith, less, block.rest)) right (count - 1) (omega (arith, less)) (omega (arith, block.rest)))
-  ]
-
-  -- and all others are
-  pub go_there : (i : ℕ) → count ≤ i → i < length (from_place start cs) → IsRight a b (corner (from_place start cs) i)
-  go_there i past within =
-      from_right count block.some block.rest (right_there count block.rest block.next) i past (omega (arith, within, many))
+  pub tail_there : IsTail cut (from_place start cs) (from_place start ls) count
+  tail_there = record {
+    differ = differ;
+    convex = convex_from cs start convex;
+    round = linked_rotated cs ls start round in_start;
+    some = block.some;
+    rest = omega (arith, block.rest, many);
+    stay = λ i less right. elim (cases_lt 0 i) [
+      | inr first ↦ first_there (subst (λ k. IsRightOf cut (corner (from_place start cs) k)) (omega (arith, first)) right)
+      | inl some ↦
+          other_there (count - 1) (omega (arith, block.rest)) block.last
+          (from_right i some (omega (arith, less, block.rest)) right (count - 1) (omega (arith, less)) (omega (arith, block.rest)))
+    ];
+    go = λ i past within.
+        from_right count block.some block.rest (right_there count block.rest block.next) i past (omega (arith, within, many));
+  }
 
 -- what is left of these corners is left of the region
-pub cut_there : (a b : Triple) (cs : List Triple) (t : ℕ) (rest : List Triple) → IsCut a b (from_place t cs) rest → IsCut a b cs rest
-cut_there a b cs t rest cut =
-    subst (λ (k : List Triple). IsCut a b k rest) (take-append-drop t cs) (cut_from a b (take t cs) (drop t cs) rest cut)
+pub cut_there : {a b : Triple} {ds : List Triple} (cs : List Triple) (t : ℕ) → IsCut a b (from_place t cs) ds → IsCut a b cs ds
+cut_there {a} {b} {ds} cs t cut =
+    subst (λ (k : List Triple). IsCut a b k ds) (take-append-drop t cs) (cut_from a b (take t cs) (drop t cs) ds cut)
 
 -- and the other way round
 cut_here : (a b : Triple) (cs : List Triple) (t : ℕ) (rest : List Triple) → IsCut a b cs rest → IsCut a b (from_place t cs) rest

@@ -24,7 +24,7 @@ up_right x y (inl h) = weak h
 up_right x y (inr h) = zero_not_negative h.0
 
 -- nor does it go up turned round
-not_both_up : (x y u v : ℤ) → GoesUp x y → GoesUp u v → x +ℤ u ≡ pos 0 → y +ℤ v ≡ pos 0 → ⊥
+pub not_both_up : (x y u v : ℤ) → GoesUp x y → GoesUp u v → x +ℤ u ≡ pos 0 → y +ℤ v ≡ pos 0 → ⊥
 not_both_up x y u v (inl h) (inl k) e f = omega (arith, ints, h, k, e)
 not_both_up x y u v (inl h) (inr k) e f = let k0 = k.0 in omega (arith, ints, h, k0, e)
 not_both_up x y u v (inr h) (inl k) e f = let h0 = h.0 in omega (arith, ints, h0, k, e)
@@ -112,7 +112,7 @@ up_mean k m n x y u v s t hk hm hn up too ex ey =
     up_factor k x y (weak hk) (same_up (sym ex) (sym ey) (up_sum m n u v s t hm hn up too))
 
 -- and the other way round, where one weight is negative
-up_other : (k m n x y u v s t : ℤ) → pos 0 <ℤ k → m <ℤ pos 0 → pos 0 ≤ℤ n → GoesUp x y → GoesUp u v → k *ℤ x ≡ m *ℤ u +ℤ n *ℤ s
+pub up_other : (k m n x y u v s t : ℤ) → pos 0 <ℤ k → m <ℤ pos 0 → pos 0 ≤ℤ n → GoesUp x y → GoesUp u v → k *ℤ x ≡ m *ℤ u +ℤ n *ℤ s
     → k *ℤ y ≡ m *ℤ v +ℤ n *ℤ t → GoesUp s t
 up_other k m n x y u v s t hk hm hn up too ex ey =
     let minus : pos 0 ≤ℤ (pos 0 -ℤ m) = omega (arith, ints, hm) in
@@ -144,29 +144,6 @@ module _ (ux uy ox oy dx dy : ℤ) where
       same_value ((var 0 ⊗ var 3 ⊖ var 1 ⊗ var 2) ⊗ var 5)
       ((var 4 ⊗ var 3 ⊖ var 5 ⊗ var 2) ⊗ var 1 ⊕ (var 0 ⊗ var 5 ⊖ var 1 ⊗ var 4) ⊗ var 3)
       (ux ∷ uy ∷ ox ∷ oy ∷ dx ∷ dy ∷ []) refl
-
-  module _ (nx ny : ℤ) (turned : pos 0 <ℤ (ux *ℤ oy -ℤ uy *ℤ ox)) (up : GoesUp dx dy) where
-    -- a way d that goes up as u does turns left to o, which goes down: u turns left to both
-    pub ahead_of_up : pos 0 ≤ℤ (ux *ℤ dy -ℤ uy *ℤ dx) → GoesUp ux uy → GoesUp nx ny → ox +ℤ nx ≡ pos 0 → oy +ℤ ny ≡ pos 0
-        → pos 0 ≤ℤ (dx *ℤ oy -ℤ dy *ℤ ox)
-    ahead_of_up back up_u down e f = elim (sign (dx *ℤ oy -ℤ dy *ℤ ox)) [
-      | is_negative n ↦
-          absurd (not_both_up ox oy nx ny (up_other _ _ _ dx dy ux uy ox oy turned n back up up_u by_two_in_x by_two_in_y) down e f)
-      | is_zero z ↦ zero_not_negative z
-      | is_positive p ↦ weak p
-    ]
-
-    -- a way d that goes up as o does is to the left of u, which goes down: o is to the left of both
-    pub back_of_up : pos 0 ≤ℤ (dx *ℤ oy -ℤ dy *ℤ ox) → GoesUp ox oy → GoesUp nx ny → ux +ℤ nx ≡ pos 0 → uy +ℤ ny ≡ pos 0
-        → pos 0 ≤ℤ (ux *ℤ dy -ℤ uy *ℤ dx)
-    back_of_up ahead up_o down e f = elim (sign (ux *ℤ dy -ℤ uy *ℤ dx)) [
-      | is_negative n ↦
-          absurd (not_both_up ux uy nx ny
-          (up_other _ _ _ dx dy ox oy ux uy turned n ahead up up_o (omega (arith, ints, by_two_in_x)) (omega (arith, ints, by_two_in_y))) down e
-          f)
-      | is_zero z ↦ zero_not_negative z
-      | is_positive p ↦ weak p
-    ]
 
 -- ---- ways of points
 
@@ -236,14 +213,11 @@ module _ (p q : Point) (c z : Triple) where
       let second = mul_negative z.W (determinant (whole p) (whole q) c) at_z right in
       omega (arith, ints, first, second)
 
-  -- and the other way round
-  pub nearer_across : IsPoint c → IsPoint z → pos 0 ≤ℤ determinant (whole p) (whole q) c → IsRight (whole p) (whole q) z
-      → farther p q c z <ℤ pos 0
-  unfolding farther
-  nearer_across at_c at_z left right =
-      let first = mul_nonnegative (determinant (whole p) (whole q) c) z.W left (weak at_z) in
-      let second = mul_negative c.W (determinant (whole p) (whole q) z) at_c right in
-      omega (arith, ints, first, second)
+-- and the other way round
+pub nearer_across : (p q : Point) (c z : Triple) → IsPoint c → IsPoint z → pos 0 ≤ℤ determinant (whole p) (whole q) c
+    → IsRight (whole p) (whole q) z → farther p q c z <ℤ pos 0
+unfolding farther
+nearer_across p q c z at_c at_z left right = let far = farther_across p q z c at_z at_c right left in omega (arith, ints, far)
 
 -- ---- along a line
 

@@ -22,6 +22,10 @@ line_at lines i = slice_index_or lines i (record { x = pos 0; y = pos 0 }, recor
 abbrev pub IsOnLine : Line → Triple → Type 0
 IsOnLine line p = IsStraight (whole line.0) (whole line.1) p
 
+-- p is right of it
+abbrev pub IsRightOf : Line → Triple → Type 0
+IsRightOf line p = IsRight (whole line.0) (whole line.1) p
+
 -- each corner and the next one are on the corner's line
 pub record AreLinked (corners : List Triple) (lines : List Line) : Type 0 where
   pub as_many : length lines ≡ length corners
@@ -47,8 +51,7 @@ ComesRound corners lines (Some x) line =
 
 -- no corner is right of a line
 abbrev pub AreNoneRight : List Triple → List Line → Type 0
-AreNoneRight corners lines = (i j : ℕ) → i < length lines → j < length corners
-    → ¬ IsRight (whole (line_at lines i).0) (whole (line_at lines i).1) (corner corners j)
+AreNoneRight corners lines = (i j : ℕ) → i < length lines → j < length corners → ¬ IsRightOf (line_at lines i) (corner corners j)
 
 -- each of the lines is one of the old ones, or the new one
 abbrev pub AreOf : (old : List Line) → Line → List Line → Type 0
@@ -58,12 +61,16 @@ AreOf old new lines = (i : ℕ) → i < length lines → ((j : ℕ) × (j < leng
 abbrev pub from_place : {X : Type 0} → ℕ → List X → List X
 from_place t xs = drop t xs ++ take t xs
 
+-- no corner comes before that at this place
+abbrev pub IsLeast : List Triple → ℕ → Type 0
+IsLeast corners place = (i : ℕ) → i < length corners → ¬ Precedes (corner corners i) (corner corners place)
+
 -- what holds of every region, as its corners and lines stand, and of the place of the least
 pub record IsRegionKept (corners : List Triple) (lines : List Line) (place : ℕ) : Type 0 where
   pub convex : AreConvex corners
   pub within : place ≤ length corners
   pub some : 0 < length corners → place < length corners
-  pub least : (i : ℕ) → i < length corners → ¬ (Precedes (corner corners i) (corner corners place))
+  pub least : IsLeast corners place
   pub round : AreLinkedRound corners lines
   pub beside : AreNoneRight corners lines
   pub few : length corners ≤ 2 ^ 31

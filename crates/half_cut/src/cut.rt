@@ -1,19 +1,17 @@
 ghost use Rattle.std.specs.Prelude.{◌≡◌, ◌≢◌, [], ◌+◌, ◌*◌, ◌<◌, ◌≤◌, ◌^◌, ℕ, IfErr, IfOk, OnErr, OnOk, length};
 ghost use Rattle.std.specs.VecDeque.{deque_capacity};
-ghost use Rattle.plane.specs.Convex.{corner};
 ghost use Rattle.plane.specs.Cut.{IsCut, IsUncut};
-ghost use Rattle.plane.specs.Order.{Precedes};
 ghost use Rattle.plane.specs.Point.{whole};
 ghost use Rattle.plane.specs.Region.{IsCornerList};
 ghost use Rattle.half_cut.specs.Block.{IsBlock};
-ghost use Rattle.half_cut.specs.Outline.{AreLinkedRound, AreNoneRight, IsRegionKept};
+ghost use Rattle.half_cut.specs.Outline.{AreLinkedRound, AreNoneRight, IsLeast, IsRegionKept};
 
 use crate::block::{Block, block_of};
 use crate::least::least_of_all;
 use crate::region::{Line, Region, round};
 use crate::seek::{rises, seek};
 use crate::tail::cut_tail;
-use exact_plane::{Hom, Memory, Pt, Steps, turn_hom};
+use exact_plane::{Hom, Memory, Pt, Steps};
 use std::alloc::Global;
 use std::collections::VecDeque;
 use std::sync::ledger::Ledger;
@@ -63,31 +61,16 @@ impl Region {
         ensures steps { (d : ℕ) → length self.old.corners < 2 ^ d
             → steps.new + length self.new.corners ≤ steps.old + length self.old.corners + 2 * d + 15 }
     {
-        let found = seek(
-            &self.corners,
-            &self.lines,
-            self.least,
-            &mut self.near,
-            a,
-            b,
-            steps,
-        );
-        let Some(gone) = found else {
+        let line = (*a, *b);
+        let (corners, lines) = (&mut self.corners, &mut self.lines);
+        let Some(gone) = seek(corners, lines, self.least, &mut self.near, &line, steps) else {
             return Ok(());
         };
-        reserve(&mut self.corners, &mut self.lines)?;
-        match block_of(&self.corners, gone, a, b, steps) {
+        reserve(corners, lines)?;
+        match block_of(corners, gone, &line, steps) {
             None => self.clear(),
             Some(block) => {
-                self.least = keep_block(
-                    &mut self.corners,
-                    &mut self.lines,
-                    self.least,
-                    block,
-                    a,
-                    b,
-                    steps,
-                );
+                keep_block(corners, lines, &mut self.least, block, &line, steps);
                 self.near = self.corners.len() - 1;
             }
         }
@@ -116,44 +99,41 @@ fn reserve(corners: &mut VecDeque<Hom>, lines: &mut VecDeque<Line>) -> Result<()
     Ok(())
 }
 
-// Keeps this block of corners, and adds what the cut adds. The answer is the place of the least: where it was, or an end of the side
-// of the cut.
+// Keeps this block of corners, and adds what the cut adds. The least is where it was, or an end of the side of the cut.
 fn keep_block<L: Ledger>(
     corners: &mut VecDeque<Hom>,
     lines: &mut VecDeque<Line>,
-    least: usize,
+    least: &mut usize,
     block: Block,
-    a: &Pt,
-    b: &Pt,
+    cut: &Line,
     steps: &mut Steps<L>,
-) -> usize
-    requires differ { a.now ≢ b.now }
-    requires kept { IsRegionKept corners.old.items lines.old.items least }
-    requires block { IsBlock (whole a.now) (whole b.now) corners.old.items block.start block.count }
+)
+    requires differ { cut.now.0 ≢ cut.now.1 }
+    requires kept { IsRegionKept corners.old.items lines.old.items least.old }
+    requires block { IsBlock cut.now corners.old.items block.start block.count }
     requires corner_room { length corners.old.items < deque_capacity corners.old }
     requires line_room { length lines.old.items < deque_capacity lines.old }
-    ensures cut { IsCut (whole a.now) (whole b.now) corners.old.items corners.new.items }
+    ensures cut { IsCut (whole cut.now.0) (whole cut.now.1) corners.old.items corners.new.items }
     ensures linked { AreLinkedRound corners.new.items lines.new.items }
     ensures beside { AreNoneRight corners.new.items lines.new.items }
-    ensures within { result < length corners.new.items }
-    ensures least { (i : ℕ) → i < length corners.new.items → ¬ Precedes (corner corners.new.items i) (corner corners.new.items result) }
+    ensures within { least.new < length corners.new.items }
+    ensures least { IsLeast corners.new.items least.new }
     ensures few { length corners.new.items ≤ block.count + 2 }
     ensures steps { steps.new ≤ steps.old + 6 }
 {
     let (n, count) = (corners.len(), block.count);
-    let moved = round(least + (n - block.start), n);
+    let moved = round(corners, *least + (n - block.start));
     corners.rotate_left(block.start);
     lines.rotate_left(block.start);
-    let first = turn_hom(a, b, &corners[0], steps);
-    let last = turn_hom(a, b, &corners[count - 1], steps);
-    let side = cut_tail(corners, lines, count, first, last, a, b, steps);
-    if n == 2 {
+    let side = cut_tail(corners, lines, count, cut, steps);
+    let place = if n == 2 {
         least_of_all(corners, steps)
     } else if moved < count {
         moved
-    } else if rises(a, b, steps) {
+    } else if rises(cut, steps) {
         side
     } else {
-        round(side + 1, corners.len())
-    }
+        side + 1
+    };
+    *least = round(corners, place);
 }

@@ -2,6 +2,7 @@
 ghost use Rattle.std.specs.Prelude.{◌≡◌, ◌+◌, ◌<◌, ◌≤◌, ◌↔◌, ℕ, IsTrue, length};
 ghost use Rattle.plane.specs.Convex.{AreConvex, corner};
 ghost use Rattle.plane.specs.Order.{Precedes};
+ghost use Rattle.half_cut.specs.Outline.{IsLeast};
 
 use exact_plane::{Hom, Steps, order_hom};
 use std::cmp::Ordering;
@@ -13,7 +14,7 @@ pub(crate) fn least_of_all<L: Ledger>(corners: &VecDeque<Hom>, steps: &mut Steps
     requires some { 0 < length corners.now.items }
     requires convex { AreConvex corners.now.items }
     ensures within { result < length corners.now.items }
-    ensures least { (i : ℕ) → i < length corners.now.items → ¬ Precedes (corner corners.now.items i) (corner corners.now.items result) }
+    ensures least { IsLeast corners.now.items result }
     ensures steps { steps.new + 1 ≤ steps.old + length corners.now.items }
 {
     let mut best = 0;

@@ -3,6 +3,7 @@ ghost use Rattle.plane.specs.Convex.{corner};
 ghost use Rattle.plane.specs.Point.{IsInLimit, whole};
 ghost use Rattle.plane.specs.Region.{AreCorners, IsCornerList};
 ghost use Rattle.plane.specs.Square.{IsInSquare};
+ghost use Rattle.half_cut.specs.Outline.{line_at};
 
 use exact_plane::{Hom, Memory, Pt};
 use plane::MAX_COORDINATE;
@@ -78,11 +79,20 @@ impl Region {
     }
 }
 
-// The place that comes at number `i`, where places are counted round.
-pub(crate) fn round(i: usize, count: usize) -> usize
-    requires once { i < count + count }
-    ensures { result ≡ i % count }
+// The line of the side from corner `i` on.
+pub(crate) fn side(lines: &VecDeque<Line>, i: usize) -> &Line
+    requires { i < length lines.now.items }
+    ensures { result.now ≡ line_at lines.now.items i }
 {
+    &lines[i]
+}
+
+// The place of item `i`, where items are counted round.
+pub(crate) fn round<T>(items: &VecDeque<T>, i: usize) -> usize
+    requires once { i < length items.now.items + length items.now.items }
+    ensures { result ≡ i % length items.now.items }
+{
+    let count = items.len();
     if i < count { i } else { i - count }
 }
 

@@ -1,80 +1,68 @@
 // Cuts away the last corners of a region, where they are read from the first that stays.
 ghost use Rattle.std.specs.Prelude.{◌≡◌, ◌≢◌, ◌+◌, ◌-◌, ◌<◌, ◌≤◌, ◌++◌, ℕ, length, option_to_list, take};
 ghost use Rattle.std.specs.VecDeque.{deque_capacity};
-ghost use Rattle.plane.specs.Convex.{AreConvex, corner};
+ghost use Rattle.plane.specs.Convex.{corner};
 ghost use Rattle.plane.specs.Cut.{IsCut};
 ghost use Rattle.plane.specs.Point.{whole};
-ghost use Rattle.plane.specs.Turn.{IsRight};
-ghost use Rattle.exact_plane.specs.Direction.{turn_of};
-ghost use Rattle.half_cut.specs.Meeting.{IsCutSide, IsLineMeeting};
+ghost use Rattle.half_cut.specs.Meeting.{IsCutSide, IsLineMeeting, IsTail};
 ghost use Rattle.half_cut.specs.Outline.{AreLinked, AreLinkedRound, AreOf, ComesRound, LineGoesOn, line_at};
 
-use crate::region::Line;
-use exact_plane::{Direction, Hom, Pt, Steps};
+use crate::region::{Line, side};
+use exact_plane::{Direction, Hom, Steps, turn_hom};
 use std::collections::VecDeque;
 use std::sync::ledger::Ledger;
 
-// Cuts away the corners from number `count` on, all of which are right of the line from `a` to `b`. None before them is; the turns
-// to the first and to the last of those are given. The answer is the place where the side of the cut begins, of three corners or
-// more.
+// Cuts away the corners from number `count` on, all of which are right of the cut; none before them is. The answer is the place
+// where the side of the cut begins, of three corners or more.
 pub(crate) fn cut_tail<L: Ledger>(
     corners: &mut VecDeque<Hom>,
     lines: &mut VecDeque<Line>,
     count: usize,
-    first: Direction,
-    last: Direction,
-    a: &Pt,
-    b: &Pt,
+    cut: &Line,
     steps: &mut Steps<L>,
 ) -> usize
-    requires differ { a.now ≢ b.now }
-    requires convex { AreConvex corners.old.items }
-    requires linked { AreLinkedRound corners.old.items lines.old.items }
-    requires some { 0 < count }
-    requires rest { count < length corners.old.items }
-    requires stay { (i : ℕ) → i < count → ¬ IsRight (whole a.now) (whole b.now) (corner corners.old.items i) }
-    requires go { (i : ℕ) → count ≤ i → i < length corners.old.items → IsRight (whole a.now) (whole b.now) (corner corners.old.items i) }
-    requires first { first ≡ turn_of (whole a.now) (whole b.now) (corner corners.old.items 0) }
-    requires last { last ≡ turn_of (whole a.now) (whole b.now) (corner corners.old.items (count - 1)) }
+    requires tail { IsTail cut.now corners.old.items lines.old.items count }
     requires corner_room { length corners.old.items < deque_capacity corners.old }
     requires line_room { length lines.old.items < deque_capacity lines.old }
-    ensures cut { IsCut (whole a.now) (whole b.now) corners.old.items corners.new.items }
+    ensures cut { IsCut (whole cut.now.0) (whole cut.now.1) corners.old.items corners.new.items }
     ensures linked { AreLinkedRound corners.new.items lines.new.items }
-    ensures lines { AreOf lines.old.items (a.now, b.now) lines.new.items }
+    ensures lines { AreOf lines.old.items cut.now lines.new.items }
     ensures most { count ≤ length corners.new.items }
     ensures few { length corners.new.items ≤ count + 2 }
     ensures kept { (i : ℕ) → i < count → corner corners.new.items i ≡ corner corners.old.items i }
-    ensures side { 3 ≤ length corners.old.items → IsCutSide a.now b.now (line_at lines.old.items (count - 1))
+    ensures side { 3 ≤ length corners.old.items → IsCutSide cut.now (line_at lines.old.items (count - 1))
         (line_at lines.old.items (length lines.old.items - 1)) corners.new.items result }
-    ensures steps { steps.new ≤ steps.old + 2 }
+    ensures steps { steps.new ≤ steps.old + 4 }
 {
-    let (behind, before) = (lines[count - 1], lines[lines.len() - 1]);
-    let back = meeting(last, &behind, a, b, steps);
+    let (behind, before) = (*side(lines, count - 1), *side(lines, lines.len() - 1));
+    let back = meeting(corners, count - 1, &behind, cut, steps);
     if corners.len() == 2 {
-        let line = if back.is_some() { behind } else { (*a, *b) };
+        let line = if back.is_some() { behind } else { *cut };
         keep(corners, lines, count, back, line);
         return 0;
     }
-    let front = meeting(first, &before, a, b, steps);
-    keep(corners, lines, count, back, (*a, *b));
-    let side = corners.len() - 1;
+    let front = meeting(corners, 0, &before, cut, steps);
+    keep(corners, lines, count, back, *cut);
+    let begin = corners.len() - 1;
     close(corners, lines, front, before);
-    side
+    begin
 }
 
-// The point of a side's line on the line from `a` to `b`, where the turn to the corner that stays is to the left.
+// The point of a side's line on the cut, where this corner of it is to the left.
+#[tactic(auto, using(crate::proofs::Seeking::left_turns))]
 fn meeting<L: Ledger>(
-    turn: Direction,
-    line: &Line,
-    a: &Pt,
-    b: &Pt,
+    corners: &VecDeque<Hom>,
+    i: usize,
+    side: &Line,
+    cut: &Line,
     steps: &mut Steps<L>,
 ) -> Option<Hom>
-    ensures meeting { IsLineMeeting a.now b.now line.now turn result }
-    ensures steps { steps.new ≤ steps.old + 1 }
+    requires { i < length corners.now.items }
+    ensures meeting { IsLineMeeting cut.now side.now (corner corners.now.items i) result }
+    ensures steps { steps.new ≤ steps.old + 2 }
 {
-    if turn == Direction::Left {
-        Hom::meet(&line.0, &line.1, a, b, steps)
+    if turn_hom(&cut.0, &cut.1, &corners[i], steps) == Direction::Left {
+        Hom::meet(&side.0, &side.1, &cut.0, &cut.1, steps)
     } else {
         None
     }

@@ -1,7 +1,7 @@
 -- Two lists turn against each other in one way.
 use Rattle.std.proofs.Common.{◌≡◌, ◌≢◌, ◌↔◌, List, [], ◌∷◌, ◌++◌, refl, subst, sym, ◌∙◌}
 use Rattle.exact_plane.proofs.Directions.{straight_of_zero}
-use Rattle.exact_plane.specs.Direction.{opposite, turn_of}
+use Rattle.exact_plane.specs.Direction.{turn_of}
 use Rattle.exact_plane.specs.declared.direction.Direction.{Direction}
 use Rattle.exact_plane.specs.declared.direction.Direction.TheVariants.{Straight}
 use Rattle.plane.proofs.Points.{same_whole, whole_is_point}
@@ -9,7 +9,7 @@ use Rattle.plane.proofs.Segments.{on_antisym, on_is_straight}
 use Rattle.plane.proofs.Turns.{straight_shift_back, straight_swap_last}
 use Rattle.plane.specs.Point.{Point, whole}
 use Rattle.plane.specs.Segment.{On}
-use Rattle.rel_hull.specs.PathTurn.{IsPathTurn, IsTurnApart, IsTurnAt, apart, first_nearer, opposed, second_nearer, turn_on}
+use Rattle.rel_hull.specs.PathTurn.{IsPathTurn, IsTurnApart, IsTurnAt, apart, first_nearer, opposed, second_nearer}
 
 -- ---- the turn of two ways over different points
 
@@ -31,55 +31,31 @@ module _ (v p q : Point) where
   straight_over_third on =
       straight_of_zero _ (on_is_straight (whole q) (whole v) (whole p) (whole_is_point q) (whole_is_point v) (whole_is_point p) on)
 
-module _ (v p q : Point) (first second : List Point) (turn : Direction) where
-  -- the turn that is, where it isn't straight
-  turn_of_apart : turn_of (whole v) (whole p) (whole q) ≢ Straight → IsTurnApart v p first q second turn
-      → turn ≡ turn_of (whole v) (whole p) (whole q)
-  turn_of_apart bent (apart is turns) = sym is
-  turn_of_apart bent (opposed on is) = absurd (bent (straight_over_first v p q on))
-  turn_of_apart bent (first_nearer not on is) = absurd (bent (straight_over_second v p q on))
-  turn_of_apart bent (second_nearer not on is) = absurd (bent (straight_over_third v p q on))
+module _ (v p q : Point) (first second : List Point) (d e : Direction) (different : p ≢ q) where
+  -- not each of two points is nearer than the other
+  one_is_nearer : On (whole p) (whole v) (whole q) → On (whole q) (whole v) (whole p) → ⊥
+  one_is_nearer one other =
+      different (same_whole p q
+      (on_antisym (whole p) (whole q) (whole v) (whole_is_point p) (whole_is_point q) (whole_is_point v) one other))
 
-  -- where the points lie on opposite sides,
-  turn_of_opposed : On (whole v) (whole p) (whole q) → IsTurnApart v p first q second turn → turn ≡ Straight
-  turn_of_opposed on (apart is turns) = sym is ∙ straight_over_first v p q on
-  turn_of_opposed on (opposed same is) = is
-  turn_of_opposed on (first_nearer not other is) = absurd (not on)
-  turn_of_opposed on (second_nearer not other is) = absurd (not on)
-
-  module _ (different : p ≢ q) where
-    -- not each of two points is nearer than the other
-    one_is_nearer : On (whole p) (whole v) (whole q) → On (whole q) (whole v) (whole p) → ⊥
-    one_is_nearer one other =
-        different (same_whole p q
-        (on_antisym (whole p) (whole q) (whole v) (whole_is_point p) (whole_is_point q) (whole_is_point v) one other))
-
-    -- where the first is nearer,
-    turn_of_first : ¬ On (whole v) (whole p) (whole q) → On (whole p) (whole v) (whole q) → IsTurnApart v p first q second turn
-        → turn ≡ opposite (turn_on v p first)
-    turn_of_first not on (apart is turns) = absurd (turns (sym is ∙ straight_over_second v p q on))
-    turn_of_first not on (opposed same is) = absurd (not same)
-    turn_of_first not on (first_nearer again same is) = is
-    turn_of_first not on (second_nearer again other is) = absurd (one_is_nearer on other)
-
-    -- and where the second is
-    turn_of_second : ¬ On (whole v) (whole p) (whole q) → On (whole q) (whole v) (whole p) → IsTurnApart v p first q second turn
-        → turn ≡ turn_on v q second
-    turn_of_second not on (apart is turns) = absurd (turns (sym is ∙ straight_over_third v p q on))
-    turn_of_second not on (opposed same is) = absurd (not same)
-    turn_of_second not on (first_nearer again other is) = absurd (one_is_nearer other on)
-    turn_of_second not on (second_nearer again same is) = is
-
--- there is one
-one_turn_apart : (v p q : Point) (first second : List Point) (d e : Direction) → p ≢ q → IsTurnApart v p first q second d
-    → IsTurnApart v p first q second e → e ≡ d
-one_turn_apart v p q first second d e different (apart is turns) other =
-    turn_of_apart v p q first second e (λ straight. turns (sym is ∙ straight)) other ∙ is
-one_turn_apart v p q first second d e different (opposed on is) other = turn_of_opposed v p q first second e on other ∙ sym is
-one_turn_apart v p q first second d e different (first_nearer not on is) other =
-    turn_of_first v p q first second e different not on other ∙ sym is
-one_turn_apart v p q first second d e different (second_nearer not on is) other =
-    turn_of_second v p q first second e different not on other ∙ sym is
+  -- so there is one turn
+  one_turn_apart : IsTurnApart v p first q second d → IsTurnApart v p first q second e → e ≡ d
+  one_turn_apart (apart is turns) (apart also turned) = sym also ∙ is
+  one_turn_apart (apart is turns) (opposed again also) = absurd (turns (sym is ∙ straight_over_first v p q again))
+  one_turn_apart (apart is turns) (first_nearer none again also) = absurd (turns (sym is ∙ straight_over_second v p q again))
+  one_turn_apart (apart is turns) (second_nearer none again also) = absurd (turns (sym is ∙ straight_over_third v p q again))
+  one_turn_apart (opposed on is) (apart also turned) = absurd (turned (sym also ∙ straight_over_first v p q on))
+  one_turn_apart (opposed on is) (opposed again also) = also ∙ sym is
+  one_turn_apart (opposed on is) (first_nearer none again also) = absurd (none on)
+  one_turn_apart (opposed on is) (second_nearer none again also) = absurd (none on)
+  one_turn_apart (first_nearer not on is) (apart also turned) = absurd (turned (sym also ∙ straight_over_second v p q on))
+  one_turn_apart (first_nearer not on is) (opposed again also) = absurd (not again)
+  one_turn_apart (first_nearer not on is) (first_nearer none again also) = also ∙ sym is
+  one_turn_apart (first_nearer not on is) (second_nearer none again also) = absurd (one_is_nearer on again)
+  one_turn_apart (second_nearer not on is) (apart also turned) = absurd (turned (sym also ∙ straight_over_third v p q on))
+  one_turn_apart (second_nearer not on is) (opposed again also) = absurd (not again)
+  one_turn_apart (second_nearer not on is) (first_nearer none again also) = absurd (one_is_nearer again on)
+  one_turn_apart (second_nearer not on is) (second_nearer none again also) = also ∙ sym is
 
 -- also where a way ends
 one_turn_at : (v : Point) (first second : List Point) (d e : Direction) → IsTurnAt v first second d → IsTurnAt v first second e → e ≡ d

@@ -31,7 +31,7 @@ module _ (corners : List Point) (tris : List Tri) (fits : Fits corners tris) (q 
   home = tri_there reached 0
 
   at_home : home < length tris
-  at_home = home_below corners tris fits q reached (length reached) all.are
+  at_home = home_below fits all.are
 
   -- a triangle was reached, or of it nothing is seen
   abbrev pub IsReachedOrUnseen : ℕ → Type 0

@@ -45,7 +45,7 @@ grown_beyond tris k sides a b c first second = record {
   ];
 }
 
-module _ (corners : List Point) (tris : List Tri) (fits : Fits corners tris) (q : Point) where
+module _ {corners : List Point} {tris : List Tri} (fits : Fits corners tris) {q : Point} where
   -- from one place alone
   pub reached_one : (home : ℕ) (sight : Option Cone) → home < length tris → IsInTri corners (tri_at tris home) (whole q)
       → sight ≡ Some (record { left = q; right = q }) → AreReached corners tris q (record { tri = home; from = home; cone = sight } ∷ []) 0
@@ -63,7 +63,7 @@ module _ (corners : List Point) (tris : List Tri) (fits : Fits corners tris) (q 
     once = λ p r h g same. omega arith;
   }
 
-  module _ (reached : List Reached) (bound : ℕ) (are : AreReached corners tris q reached bound) where
+  module _ {reached : List Reached} {bound : ℕ} (are : AreReached corners tris q reached bound) where
     abbrev home : ℕ
     home = tri_there reached 0
 
@@ -255,7 +255,7 @@ module _ (corners : List Point) (tris : List Tri) (fits : Fits corners tris) (q 
 
   -- ---- the sides of a triangle
 
-  module _ (reached : List Reached) (bound : ℕ) (are : AreReached corners tris q reached bound) (p : ℕ) (below : p < length reached)
+  module _ {reached : List Reached} {bound : ℕ} (are : AreReached corners tris q reached bound) (p : ℕ) (below : p < length reached)
       (p_early : p < bound) (side : ℕ) (number : side < 3) where
     -- the triangle at the place
     abbrev at : ℕ
@@ -276,41 +276,41 @@ module _ (corners : List Point) (tris : List Tri) (fits : Fits corners tris) (q 
 
       -- as that from which this one was reached was
       pub back_done : l ≡ (reached_at reached p).from → IsSideReached tris reached at side
-      back_done same = reached_done reached (subst (IsTriReached reached) (sym same) (from_reached reached bound are p below))
+      back_done same = reached_done reached (subst (IsTriReached reached) (sym same) (from_reached are p below))
 
       -- another one is reached now
       module _ (other : ¬ (l ≡ (reached_at reached p).from)) (new : ¬ IsTriReached reached l) (cone : Option Cone)
           (is : cone ≡ narrowed q (cone_there reached p) (vertex corners (side_end (tri_at tris at) side)) (vertex corners (side_begin (tri_at tris at) side))) where
-        abbrev pub over : Reached
+        abbrev over : Reached
         over = record { tri = l; from = at; cone = cone }
 
         from : IsNextHomeward tris (tri_there reached 0) at l
-        from = from_beyond reached bound are p below side number l beyond other
+        from = from_beyond are p below side number l beyond other
 
         seen : IsConeOf corners tris q l cone
         seen = subst (IsConeOf corners tris q l) (sym is)
-            (cone_over reached bound are p below side number l beyond from (cone_there reached p) (are.at_places p below).cone)
+            (cone_over are p below side number l beyond from (cone_there reached p) (are.at_places p below).cone)
 
-        pub over_reached : AreReached corners tris q (reached ++ over ∷ []) bound
-        over_reached = reached_more reached bound are over beyond.in_list new from p p_early below refl seen
-
-        pub over_grown : IsReachGrown reached (reached ++ over ∷ []) (IsAcrossSide tris at side)
-        over_grown = grown_more reached bound are over beyond.in_list new from p p_early below refl seen (IsAcrossSide tris at side) beyond
-
-        pub over_done : IsSideReached tris (reached ++ over ∷ []) at side
-        over_done =
-            reached_done (reached ++ over ∷ []) (is_more reached bound are over beyond.in_list new from p p_early below refl seen)
+        pub over_all : AreReached corners tris q (reached ++ over ∷ []) bound
+            × (IsReachGrown reached (reached ++ over ∷ []) (IsAcrossSide tris at side) × IsSideReached tris (reached ++ over ∷ []) at side)
+        over_all = (
+          reached_more are over beyond.in_list new from p p_early below refl seen,
+          (
+            grown_more are over beyond.in_list new from p p_early below refl seen (IsAcrossSide tris at side) beyond,
+            reached_done (reached ++ over ∷ []) (is_more are over beyond.in_list new from p p_early below refl seen),
+          ),
+        )
 
   -- what is beyond the next side is new still
-  pub new_beyond : (a b : List Reached) (p side : ℕ) → p < length a → side < 3 → AreReached corners tris q a p
+  pub new_beyond : {a b : List Reached} {p : ℕ} (side : ℕ) → p < length a → side < 3 → AreReached corners tris q a p
       → IsReachGrown a b (IsBeyondFirst tris (tri_there a p) side) → AreNewBeyond tris b p side
-  new_beyond a b p side below number are grown l beyond other is =
+  new_beyond {a} {b} {p} side below number are grown l beyond other is =
       let same = grown.kept p below in
       let k = tri_there a p in
       let here : IsAcrossSide tris k side l = subst (λ (x : Reached). IsAcrossSide tris x.tri side l) same beyond in
       let not_from : ¬ (l ≡ (reached_at a p).from) = subst (λ (x : Reached). ¬ (l ≡ x.from)) same other in
       elim (grown.added l is) [
-        | inl old ↦ not_reached a p are p below side number l here (omega arith) not_from old
+        | inl old ↦ not_reached are p below side number l here (omega arith) not_from old
         | inr new ↦ not_beyond_two corners tris fits k (are.at_places p below).in_list new.0 side l new.1 number new.2 here
       ]
 

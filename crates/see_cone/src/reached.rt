@@ -3,7 +3,7 @@ ghost use Rattle.plane.specs.Point.{whole};
 ghost use Rattle.meshes.specs.Fits.{Fits, IsInTri};
 ghost use Rattle.meshes.specs.Mesh.{side_begin, side_end};
 ghost use Rattle.meshes.specs.Side.{tri_at};
-ghost use Rattle.see_cone.specs.Reached.{AreAllReached, AreDone, AreNewBeyond, AreReached, IsAcrossSide, IsReachGrown, IsSideReached, tri_there};
+ghost use Rattle.see_cone.specs.Reached.{AreAllReached, AreDone, AreNewBeyond, AreReached, IsAcrossSide, IsReachGrown, IsSideReached, reached_at, tri_there};
 
 use crate::cone::{Cone, narrowed};
 use exact_plane::{Memory, Pt, Steps};
@@ -75,7 +75,7 @@ fn reach_around<L: Ledger>(
     ensures each { OnOk result (steps.new + 5 * length reached.old.items ≤ steps.old + 5 * length reached.new.items) }
     ensures steps { steps.new ≤ steps.old + 15 }
 {
-    if reached[place].cone.is_none() {
+    if at(reached, place).cone.is_none() {
         return Ok(());
     }
     for side in 0..3 {
@@ -106,7 +106,7 @@ fn reach_over<L: Ledger>(
     ensures each { OnOk result (steps.new + 5 * length reached.old.items ≤ steps.old + 5 * length reached.new.items) }
     ensures steps { steps.new ≤ steps.old + 5 }
 {
-    let here = reached[place];
+    let here = *at(reached, place);
     match mesh.across(here.tri, side) {
         Some(tri) => {
             if tri != here.from {
@@ -122,6 +122,14 @@ fn reach_over<L: Ledger>(
         }
         None => Ok(()),
     }
+}
+
+// What is at a place.
+fn at(reached: &Vec<Reached>, place: usize) -> &Reached
+    requires { place < length reached.now.items }
+    ensures { result.now ≡ reached_at reached.now.items place }
+{
+    &reached[place]
 }
 
 // Where side 0, 1 or 2 of a triangle begins, and where it ends.

@@ -1,12 +1,12 @@
 -- How many entries the gaps have in all, after each event.
-use Rattle.std.proofs.Common.{◌≡◌, sym, ap, ◌∙◌, ℕ, suc, ◌+◌, ◌-◌, ◌<◌, ◌≤◌, Bool, true, false, cond, nat_lt, Option, Some, None, List, []}
+use Rattle.std.proofs.Common.{◌≡◌, sym, ap, ◌∙◌, ℕ, suc, ◌+◌, ◌-◌, ◌<◌, ◌≤◌, Bool, true, false, nat_lt, Option, Some, None, List, []}
 use Rattle.std.proofs.Common.{◌∷◌, ◌++◌, length, take, drop, set, arith}
 use Rattle.std.proofs.lemmas.List.{drop_more, length-append, length-take-le, set_split, take-append-drop}
 use Rattle.std.specs.List.{insert, remove}
-use Rattle.std.specs.Prelude.{slice_index}
+use Rattle.std.specs.Prelude.{if◌then◌else◌, slice_index}
 use Rattle.sweep_tri.specs.Entries.{entries, entries_of_all, gap_entries, status_entries}
-use Rattle.sweep_tri.specs.Gaps.{before_last, gap_at, last, no_gap}
-use Rattle.sweep_tri.specs.Meeting.{closed_at, left_at, split_above, split_below, with_vertex}
+use Rattle.sweep_tri.specs.Gaps.{before_last, gap_at, no_gap}
+use Rattle.sweep_tri.specs.Meeting.{beside_front, closed_at, left_at, past_diagonal, split_above, split_below, with_vertex}
 use Rattle.mono_fill.specs.declared.side.Side.{Side}
 use Rattle.mono_fill.specs.declared.side.Side.TheVariants.{Lower, Upper}
 use Rattle.sweep_tri.specs.Region.{Chains}
@@ -73,12 +73,8 @@ module _ (v a b : ℕ) (c : Chains) where
       omega (arith, length-append (take (length path - 1) path) (v ∷ w ∷ []), length-take-le (length path - 1) path (omega arith))
 
   -- from the one vertex or the other
-  entries_latest : (t : Bool) → let p = before_last c.lower in let q = before_last c.upper in
-      entries (cond t (record { lower = p ∷ last c.lower ∷ []; upper = p ∷ v ∷ a ∷ [] })
-      (record { lower = c.lower; upper = take (length c.upper - 1) c.upper ++ v ∷ a ∷ [] }))
-      + entries (cond t (record { lower = take (length c.lower - 1) c.lower ++ v ∷ b ∷ []; upper = c.upper })
-      (record { lower = q ∷ v ∷ b ∷ []; upper = q ∷ last c.upper ∷ [] }))
-      ≤ entries c + 7
+  entries_latest : (from_lower : Bool) → entries (if from_lower then beside_front Lower c v a else past_diagonal Upper c v a)
+      + entries (if from_lower then past_diagonal Lower c v b else beside_front Upper c v b) ≤ entries c + 7
   entries_latest true = omega (arith, entries_turned c.lower b)
   entries_latest false = omega (arith, entries_turned c.upper a)
 

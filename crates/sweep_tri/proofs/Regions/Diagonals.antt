@@ -9,9 +9,9 @@ use Rattle.rings.specs.Ring.{vertex}
 use Rattle.sweep_tri.proofs.Regions.Continued.{continued}
 use Rattle.sweep_tri.proofs.Regions.Edges.{nearer_from_start, short_not_last}
 use Rattle.sweep_tri.proofs.Regions.Halves.{half_open}
-use Rattle.sweep_tri.proofs.Regions.Latest.{latest_half}
+use Rattle.sweep_tri.proofs.Regions.Latest.{begins_far, begins_near, far_last, far_some, latest_half, near_some}
 use Rattle.sweep_tri.proofs.Regions.Paths.{last_grown, rises_to, shortened}
-use Rattle.sweep_tri.proofs.Regions.Ranks.{last_is_vertex, same_rank}
+use Rattle.sweep_tri.proofs.Regions.Ranks.{same_rank}
 use Rattle.sweep_tri.proofs.Regions.Starts.{starts_open, two}
 use Rattle.sweep_tri.proofs.Regions.Sides.{AreOpen, IsNearer, IsShort}
 use Rattle.mono_fill.specs.declared.side.Side.{Side}
@@ -37,29 +37,14 @@ module _ (corners : List Point) (order ranks : List ℕ) (are : AreEvents corner
   abbrev q : ℕ
   q = before_last far
 
-  near_some : 2 ≤ length near
-  near_some = open_before.pair.near_some
-
-  far_some : 2 ≤ length far
-  far_some = open_before.pair.far_some
-
-  p_within : p < length corners
-  p_within = open_before.pair.near_numbers (length near - 2) 0 (let h = near_some in omega arith)
-
-  q_within : q < length corners
-  q_within = open_before.pair.far_numbers (length far - 2) 0 (let h = far_some in omega arith)
-
-  far_last : last far < length corners
-  far_last = last_is_vertex corners far (let h = far_some in omega arith) open_before.pair.far_numbers
-
   -- ---- beside the edge at the end of the far chain, from where that begins
 
   beside_open : AreOpen corners ranks k side (two q v) (two q (last far))
   beside_open =
-      starts_open corners ranks side q v (last far) q_within v_within far_last
+      starts_open corners ranks side q v (last far) (begins_far open_before) v_within (far_last open_before)
       (λ is. short_not_last side (front_edge corners (front_of far)) (rw is at short))
       (nearer_from_start side (edge (vertex corners q) (vertex corners v)) (edge (vertex corners q) (vertex corners (last far))) refl short)
-      k (open_before.far_before (length far - 2) (let h = far_some in omega arith)) (omega (arith, v_rank)) open_before.far_to_come
+      k (open_before.far_before (length far - 2) (let h = far_some open_before in omega arith)) (omega (arith, v_rank)) open_before.far_to_come
 
   pub beside : AreOpen corners ranks (k + 1) side (q ∷ v ∷ w ∷ []) (two q (last far))
   beside =
@@ -78,7 +63,7 @@ module _ (corners : List Point) (order ranks : List ℕ) (are : AreEvents corner
   -- where neither is the first vertex, they are two
   inner_differ : 3 ≤ length near → 3 ≤ length far → ¬ (slice_index ranks q ≡ slice_index ranks p)
   inner_differ near_more far_more same =
-      let is = same_rank corners order ranks are three (slice_index ranks q) q q_within refl p p_within (sym same) in
+      let is = same_rank corners order ranks are three (slice_index ranks q) q (begins_far open_before) refl p (begins_near open_before) (sym same) in
       let ends = open_before.pair.apart (length near - 2) (length far - 2) (omega arith) (omega arith) (omega arith) (omega arith) is in
       let at = ends.0 in
       omega arith
@@ -86,8 +71,8 @@ module _ (corners : List Point) (order ranks : List ℕ) (are : AreEvents corner
   -- so where they are one vertex, it is that
   both_two : slice_index ranks q ≡ slice_index ranks p → (length near ≡ 2) × (length far ≡ 2)
   both_two same =
-      let near_two = near_some in
-      let far_two = far_some in
+      let near_two = near_some open_before in
+      let far_two = far_some open_before in
       let first = ap (slice_index ranks) open_before.pair.first in
       elim (cases_eq (length near) 2) [
         | inl near_is ↦
@@ -114,7 +99,7 @@ module _ (corners : List Point) (order ranks : List ℕ) (are : AreEvents corner
   from_first : slice_index ranks q ≡ slice_index ranks p → AreOpen corners ranks (k + 1) side (shortened near ++ v ∷ w ∷ []) far
   from_first same =
       let sizes = both_two same in
-      let is = same_rank corners order ranks are three (slice_index ranks q) q q_within refl p p_within (sym same) in
+      let is = same_rank corners order ranks are three (slice_index ranks q) q (begins_far open_before) refl p (begins_near open_before) (sym same) in
       subst (λ path. AreOpen corners ranks (k + 1) side (shortened near ++ v ∷ w ∷ []) path) ((two_is far sizes.1).0)
       (subst (λ path. AreOpen corners ranks (k + 1) side (path ++ v ∷ w ∷ []) (two q (last far))) ((two_is near sizes.0).1)
       (subst (λ u. AreOpen corners ranks (k + 1) side (u ∷ v ∷ w ∷ []) (two q (last far))) (sym is) beside))

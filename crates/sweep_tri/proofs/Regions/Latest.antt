@@ -46,6 +46,26 @@ short_of Upper e f p v order over_e over_f nearer on_e no_end = elim (lt_or_le (
 
 -- ---- the vertices where the edges at the ends begin
 
+-- its vertices at both ends, and how many there are at least
+module _ {corners : List Point} {ranks : List ℕ} {k : ℕ} {side : Side} {near far : List ℕ} (is : AreOpen corners ranks k side near far) where
+  pub near_some : 2 ≤ length near
+  near_some = is.pair.near_some
+
+  pub far_some : 2 ≤ length far
+  far_some = is.pair.far_some
+
+  pub begins_near : before_last near < length corners
+  begins_near = is.pair.near_numbers (length near - 2) 0 (let h = near_some in omega arith)
+
+  pub begins_far : before_last far < length corners
+  begins_far = is.pair.far_numbers (length far - 2) 0 (let h = far_some in omega arith)
+
+  near_last : last near < length corners
+  near_last = last_is_vertex corners near (let h = near_some in omega arith) is.pair.near_numbers
+
+  pub far_last : last far < length corners
+  far_last = last_is_vertex corners far (let h = far_some in omega arith) is.pair.far_numbers
+
 module _ (corners : List Point) (order ranks : List ℕ) (are : AreEvents corners order ranks) (three : 3 ≤ length corners)
     (k v : ℕ) (v_within : v < length corners) (v_rank : slice_index ranks v ≡ k)
     (side : Side) (near far : List ℕ) (open_before : AreOpen corners ranks k side near far) where
@@ -84,38 +104,20 @@ module _ (corners : List Point) (order ranks : List ℕ) (are : AreEvents corner
     abbrev q : ℕ
     q = before_last far
 
-    near_some : 2 ≤ length near
-    near_some = open_before.pair.near_some
-
-    far_some : 2 ≤ length far
-    far_some = open_before.pair.far_some
-
-    p_within : p < length corners
-    p_within = open_before.pair.near_numbers (length near - 2) 0 (let h = near_some in omega arith)
-
-    q_within : q < length corners
-    q_within = open_before.pair.far_numbers (length far - 2) 0 (let h = far_some in omega arith)
-
-    near_last : last near < length corners
-    near_last = last_is_vertex corners near (let h = near_some in omega arith) open_before.pair.near_numbers
-
-    far_last : last far < length corners
-    far_last = last_is_vertex corners far (let h = far_some in omega arith) open_before.pair.far_numbers
-
     counted : {u : ℕ} → u < length corners → u < length ranks
     counted h = let size = are.all_ranks in omega arith
 
     p_passed : rank p < k
-    p_passed = open_before.near_before (length near - 2) (let h = near_some in omega arith)
+    p_passed = open_before.near_before (length near - 2) (let h = near_some open_before in omega arith)
 
     near_spans : Spans (whole (vertex corners p)) (whole (vertex corners v)) e
     near_spans =
         let passed = p_passed in
         let to_come = open_before.near_to_come in
         record {
-          proper = precedes_by_rank corners order ranks are three p (last near) (counted p_within) (counted near_last) (omega arith);
-          from_before = not_after_by_rank corners order ranks are three p p (counted p_within) (counted p_within) (omega arith);
-          to_after = not_after_by_rank corners order ranks are three v (last near) (counted v_within) (counted near_last) (omega (arith, v_rank));
+          proper = precedes_by_rank corners order ranks are three p (last near) (counted (begins_near open_before)) (counted (near_last open_before)) (omega arith);
+          from_before = not_after_by_rank corners order ranks are three p p (counted (begins_near open_before)) (counted (begins_near open_before)) (omega arith);
+          to_after = not_after_by_rank corners order ranks are three v (last near) (counted v_within) (counted (near_last open_before)) (omega (arith, v_rank));
         }
 
     far_spans : Spans (whole (vertex corners p)) (whole (vertex corners v)) f
@@ -123,21 +125,21 @@ module _ (corners : List Point) (order ranks : List ℕ) (are : AreEvents corner
         let passed = p_passed in
         let to_come = open_before.far_to_come in
         record {
-          proper = precedes_by_rank corners order ranks are three q (last far) (counted q_within) (counted far_last) (omega (arith, less));
-          from_before = not_after_by_rank corners order ranks are three q p (counted q_within) (counted p_within) (omega (arith, less));
-          to_after = not_after_by_rank corners order ranks are three v (last far) (counted v_within) (counted far_last) (omega (arith, v_rank));
+          proper = precedes_by_rank corners order ranks are three q (last far) (counted (begins_far open_before)) (counted (far_last open_before)) (omega (arith, less));
+          from_before = not_after_by_rank corners order ranks are three q p (counted (begins_far open_before)) (counted (begins_near open_before)) (omega (arith, less));
+          to_after = not_after_by_rank corners order ranks are three v (last far) (counted v_within) (counted (far_last open_before)) (omega (arith, v_rank));
         }
 
     -- it is no end of that
     no_end : (x : Point) → HasEnd f x → ¬ IsSame (whole (vertex corners p)) (whole x)
     no_end x (inl is) same =
         precedes_differs (whole (vertex corners q)) (whole (vertex corners p))
-        (precedes_by_rank corners order ranks are three q p (counted q_within) (counted p_within) less) (same_sym (rw (← is) at same))
+        (precedes_by_rank corners order ranks are three q p (counted (begins_far open_before)) (counted (begins_near open_before)) less) (same_sym (rw (← is) at same))
     no_end x (inr is) same =
         let passed = p_passed in
         let to_come = open_before.far_to_come in
         precedes_differs (whole (vertex corners p)) (whole (vertex corners (last far)))
-        (precedes_by_rank corners order ranks are three p (last far) (counted p_within) (counted far_last) (omega arith)) (rw (← is) at same)
+        (precedes_by_rank corners order ranks are three p (last far) (counted (begins_near open_before)) (counted (far_last open_before)) (omega arith)) (rw (← is) at same)
 
     -- the edges at the ends are over one another
     nearer_ends : IsNearer side e f
@@ -146,21 +148,21 @@ module _ (corners : List Point) (order ranks : List ℕ) (are : AreEvents corner
         let near_to_come = open_before.near_to_come in
         let far_to_come = open_before.far_to_come in
         open_before.pair.nearer p (last near) q (last far)
-        (final_step near near_some) (final_step far far_some)
+        (final_step near (near_some open_before)) (final_step far (far_some open_before))
         (omega arith) (omega (arith, less))
 
     pub latest_short : IsShort side f (vertex corners p)
     latest_short =
         let passed = p_passed in
         short_of side e f (vertex corners p) (vertex corners v)
-        (precedes_by_rank corners order ranks are three p v (counted p_within) (counted v_within) (omega (arith, v_rank)))
+        (precedes_by_rank corners order ranks are three p v (counted (begins_near open_before)) (counted v_within) (omega (arith, v_rank)))
         near_spans far_spans nearer_ends (determinant_same_ends (whole (vertex corners p)) (whole (vertex corners (last near)))) no_end
 
     -- ---- so the rest is led to v as half of a gap is
 
     pub latest_half : IsHalf corners ranks k side (shortened near) far
     latest_half =
-        let some = near_some in
+        let some = near_some open_before in
         let at : rank (last (shortened near)) ≡ rank p = ap rank (last_shortened near some) in
         record {
           pair = without_last corners ranks side near far open_before.pair (near_three less);

@@ -14,19 +14,19 @@ use Rattle.dual_tree.proofs.touching.touched.Goals as goal
 pub corner-left-requires : goal.corner-left-requires
 corner-left-requires g c =
     let within : c.loop-i.i < length c.args.sleeve.now.diagonals = omega (arith, c.loop-i-test.true, c.len-i-end.ensures.number) in
-    rw c.left.ensures (left_below c.args.ring.now.corners c.args.mesh.now c.requires.fits c.args.sleeve.now c.requires.of_mesh c.loop-i.i within)
+    rw c.left.ensures (left_below c.requires.fits c.requires.of_mesh c.loop-i.i within)
 
 pub corner-right-requires : goal.corner-right-requires
 corner-right-requires g c =
     let within : c.loop-i.i < length c.args.sleeve.now.diagonals = omega (arith, c.loop-i-test.true, c.len-i-end.ensures.number) in
-    rw c.right.ensures (right_below c.args.ring.now.corners c.args.mesh.now c.requires.fits c.args.sleeve.now c.requires.of_mesh c.loop-i.i within)
+    rw c.right.ensures (right_below c.requires.fits c.requires.of_mesh c.loop-i.i within)
 
 pub loop-i-init : goal.loop-i-init
 loop-i-init g c =
     let chain = c.args.chain.now in
     let given = c.args.out.now.items in
     let first : c.index-chain-0.result ≡ point_at chain 0 = index_is chain 0 c.index-chain-0.result c.requires.some c.index-chain-0.is in
-    let search = searched_first c.args.ring.now.corners c.args.mesh.now c.requires.fits c.args.sleeve.now c.requires.of_mesh chain c.requires.path
+    let search = searched_first c.requires.fits c.requires.of_mesh chain c.requires.path
     given c.requires.start c.requires.goal in
     record {
       searched = subst (λ xs. IsSearched c.args.ring.now.corners c.args.mesh.now c.args.sleeve.now chain given 0 0 c.index-chain-0.result xs)
@@ -39,8 +39,7 @@ loop-i-init g c =
 pub look-nearer-requires-clause-room : goal.look-nearer-requires-clause-room
 look-nearer-requires-clause-room g c =
     let inv = c.loop-i.invariant in
-    let few = searched_few c.args.ring.now.corners c.args.mesh.now c.requires.fits c.args.sleeve.now c.requires.of_mesh c.args.chain.now
-    c.requires.path c.args.out.now.items c.loop-i.i _ _ _ inv.searched in
+    let few = searched_few c.requires.fits c.requires.of_mesh c.args.chain.now c.requires.path inv.searched in
     omega (arith, few, c.requires.room, inv.same_out)
 
 pub look-reached-requires-clause-place : goal.look-reached-requires-clause-place
@@ -51,8 +50,7 @@ look-reached-requires-clause-place g c =
     c.corner-left.ensures ∙ ap (vertex c.args.ring.now.corners) c.left.ensures in
     let first = subst (λ v. IsLookedAt c.args.chain.now v c.loop-i.reached.place c.loop-i.reached.last c.loop-i.out.items c.look-nearer.result.place
     c.look-nearer.result.last c.look-nearer.new.out.items) left c.look-nearer.ensures.looked in
-    half_within c.args.ring.now.corners c.args.mesh.now c.requires.fits c.args.sleeve.now c.requires.of_mesh c.args.chain.now
-    c.requires.path c.args.out.now.items c.loop-i.i _ _ _ inv.searched within _ _ _ first
+    half_within c.requires.fits c.requires.of_mesh c.args.chain.now c.requires.path inv.searched within first
 
 pub look-reached-requires-clause-room : goal.look-reached-requires-clause-room
 look-reached-requires-clause-room g c =
@@ -62,8 +60,7 @@ look-reached-requires-clause-room g c =
     c.corner-left.ensures ∙ ap (vertex c.args.ring.now.corners) c.left.ensures in
     let first = subst (λ v. IsLookedAt c.args.chain.now v c.loop-i.reached.place c.loop-i.reached.last c.loop-i.out.items c.look-nearer.result.place
     c.look-nearer.result.last c.look-nearer.new.out.items) left c.look-nearer.ensures.looked in
-    let few = half_few c.args.ring.now.corners c.args.mesh.now c.requires.fits c.args.sleeve.now c.requires.of_mesh c.args.chain.now
-    c.requires.path c.args.out.now.items c.loop-i.i _ _ _ inv.searched within _ _ _ first in
+    let few = half_few c.requires.fits c.requires.of_mesh c.args.chain.now c.requires.path inv.searched within first in
     omega (arith, few, c.requires.room, inv.same_out, c.look-nearer.ensures.same_out)
 
 pub loop-i-preserved : goal.loop-i-preserved
@@ -79,8 +76,7 @@ loop-i-preserved g c =
     let second = subst (λ v. IsLookedAt c.args.chain.now v c.look-nearer.result.place c.look-nearer.result.last c.look-nearer.new.out.items
     c.look-reached.result.place c.look-reached.result.last c.look-reached.new.out.items) right c.look-reached.ensures.looked in
     record {
-      searched = searched_next c.args.ring.now.corners c.args.mesh.now c.requires.fits c.args.sleeve.now c.requires.of_mesh c.args.chain.now
-          c.requires.path c.args.out.now.items c.loop-i.i _ _ _ inv.searched within _ _ _ first _ _ _ second;
+      searched = searched_next c.requires.fits c.requires.of_mesh c.args.chain.now c.requires.path inv.searched within first second;
       same_out = c.look-reached.ensures.same_out ∙ c.look-nearer.ensures.same_out ∙ inv.same_out;
       few_steps = omega (arith, c.look-reached.ensures.steps, c.look-nearer.ensures.steps, inv.few_steps);
     }
@@ -88,8 +84,7 @@ loop-i-preserved g c =
 pub finish-requires-clause-room : goal.finish-requires-clause-room
 finish-requires-clause-room g c =
     let inv = c.loop-i.invariant in
-    let few = searched_few c.args.ring.now.corners c.args.mesh.now c.requires.fits c.args.sleeve.now c.requires.of_mesh c.args.chain.now
-    c.requires.path c.args.out.now.items c.loop-i.i _ _ _ inv.searched in
+    let few = searched_few c.requires.fits c.requires.of_mesh c.args.chain.now c.requires.path inv.searched in
     omega (arith, few, c.requires.room, inv.same_out)
 
 pub returns-clause-full : goal.returns-clause-full
@@ -100,19 +95,16 @@ returns-clause-full g c =
     elim (point_or_other c.loop-i.reached.last (point_at chain (length chain - 1))) [
       | inl there ↦
           subst (AppendsFull c.args.ring.now.corners chain c.args.out.now.items) (sym (c.finish.ensures.there there))
-          (searched_all c.args.ring.now.corners c.args.mesh.now c.requires.fits c.args.sleeve.now c.requires.of_mesh chain c.requires.path
-          c.args.out.now.items c.loop-i.i _ _ _ inv.searched all c.requires.goal there)
+          (searched_all c.requires.fits c.requires.of_mesh chain c.requires.path inv.searched all c.requires.goal there)
       | inr short ↦
           subst (AppendsFull c.args.ring.now.corners chain c.args.out.now.items) (sym (c.finish.ensures.short short))
-          (searched_rest c.args.ring.now.corners c.args.mesh.now c.requires.fits c.args.sleeve.now c.requires.of_mesh chain c.requires.path
-          c.args.out.now.items c.loop-i.i _ _ _ inv.searched all c.requires.goal short)
+          (searched_rest c.requires.fits c.requires.of_mesh chain c.requires.path inv.searched all c.requires.goal short)
     ]
 
 pub returns-clause-few : goal.returns-clause-few
 returns-clause-few g c =
     let inv = c.loop-i.invariant in
-    let few = searched_few c.args.ring.now.corners c.args.mesh.now c.requires.fits c.args.sleeve.now c.requires.of_mesh c.args.chain.now
-    c.requires.path c.args.out.now.items c.loop-i.i _ _ _ inv.searched in
+    let few = searched_few c.requires.fits c.requires.of_mesh c.args.chain.now c.requires.path inv.searched in
     elim (point_or_other c.loop-i.reached.last (point_at c.args.chain.now (length c.args.chain.now - 1))) [
       | inl there ↦ omega (arith, few, ap length (c.finish.ensures.there there))
       | inr short ↦ omega (arith, few, ap length (c.finish.ensures.short short), length-append {A = Point})

@@ -9,8 +9,8 @@ invariant-loop-low g l =
     record {
       ordered : l.low ≤ l.high;
       inside : l.high ≤ n;
-      last : 0 < l.low → ComesBefore (line_at l.lines.items ((l.from + (l.low - 1)) % n)) l.a l.b;
-      next : l.high < n → ¬ ComesBefore (line_at l.lines.items ((l.from + l.high) % n)) l.a l.b;
+      last : 0 < l.low → ComesBefore (line_at l.lines.items ((l.from + (l.low - 1)) % n)) l.line;
+      next : l.high < n → ¬ ComesBefore (line_at l.lines.items ((l.from + l.high) % n)) l.line;
       steps : (d : ℕ) → n < 2 ^ d → (e : ℕ) × ((l.high - l.low < 2 ^ e) × (l.steps + 2 * e ≤ l.fn.steps + 2 * d + 1));
     }
 

@@ -1,19 +1,14 @@
 use Rattle.std.proofs.Common.{◌≡◌, ◌+◌, None, ap, arith, rules, subst}
-use Rattle.std.proofs.lemmas.List.{get_or_read}
 use Rattle.see_cone.proofs.ReachedMore.{done_more, done_skip, grown_beyond, grown_none, new_beyond, reached_above, sides_done}
 use Rattle.see_cone.proofs.reached.reach_around.Goals as goal
-use Rattle.see_cone.specs.Reached.{IsAcrossSide, IsBeyondFirst, IsReachGrown, IsSideReached, reached_at, tri_there}
+use Rattle.see_cone.specs.Reached.{IsAcrossSide, IsBeyondFirst, IsReachGrown, IsSideReached, tri_there}
 use Rattle.see_cone.specs.declared.reached.Reached.{Reached}
 
 pub loop-side-init : goal.loop-side-init
 loop-side-init g c =
-    let corners = c.args.ring.now.corners in
-    let tris = c.args.mesh.now in
-    let reached = c.args.reached.now.items in
-    let p = c.args.place in
     record {
-      grown = grown_none reached (IsBeyondFirst tris (tri_there reached p) 0);
-      are = reached_above corners tris c.requires.fits c.args.q.now reached p c.requires.reached (p + 1) (omega arith);
+      grown = grown_none c.args.reached.now.items _;
+      are = reached_above c.requires.fits c.requires.reached (c.args.place + 1) (omega arith);
       done = λ t h. absurd (omega arith);
       each = omega arith;
       steps = omega arith;
@@ -27,8 +22,7 @@ reach_over-requires-clause-reached g c = c.loop-side.invariant.are
 
 pub reach_over-requires-clause-new : goal.reach_over-requires-clause-new
 reach_over-requires-clause-new g c =
-    new_beyond c.args.ring.now.corners c.args.mesh.now c.requires.fits c.args.q.now c.args.reached.now.items c.loop-side.reached.items
-    c.args.place c.loop-side.side c.requires.place (omega arith) c.requires.reached c.loop-side.invariant.grown
+    new_beyond c.requires.fits c.loop-side.side c.requires.place (omega arith) c.requires.reached c.loop-side.invariant.grown
 
 pub loop-side-preserved : goal.loop-side-preserved
 loop-side-preserved g c =
@@ -71,13 +65,9 @@ returns-clause-done g c =
 
 pub returns-then-is_none-clause-reached : goal.returns-then-is_none-clause-reached
 returns-then-is_none-clause-reached g c =
-    reached_above c.args.ring.now.corners c.args.mesh.now c.requires.fits c.args.q.now c.args.reached.now.items c.args.place c.requires.reached
-    (c.args.place + 1) (omega arith)
+    reached_above c.requires.fits c.requires.reached (c.args.place + 1) (omega arith)
 
 pub returns-then-is_none-clause-done : goal.returns-then-is_none-clause-done
 returns-then-is_none-clause-done g c =
-    let reached = c.args.reached.now.items in
-    let p = c.args.place in
-    let here : c.index.result.now ≡ reached_at reached p = get_or_read reached p c.index.result.now c.requires.place c.index.ensures _ in
-    let none : c.index.result.now.cone ≡ None = search rules in
-    done_skip c.args.mesh.now reached p (subst (λ (o : Reached). o.cone ≡ None) here none) c.requires.done
+    let none : c.at.result.now.cone ≡ None = search rules in
+    done_skip c.args.mesh.now c.args.reached.now.items c.args.place (subst (λ (o : Reached). o.cone ≡ None) c.at.ensures none) c.requires.done

@@ -14,7 +14,7 @@ loop-place-init g c =
     let is : c.push.new.self.items ≡ home ∷ [] =
     c.in_ok-push.ensures.items ∙ ap (λ xs. xs ++ home ∷ []) c.new-reached.ensures.items in
     rw is (record {
-      are = reached_one c.args.ring.now.corners c.args.mesh.now c.requires.fits q c.args.home (Some cone) c.requires.home c.requires.place refl;
+      are = reached_one c.requires.fits {q = q} c.args.home (Some cone) c.requires.home c.requires.place refl;
       done = λ p h. absurd (omega arith);
       place = omega arith;
       steps = omega arith;
@@ -25,14 +25,13 @@ returns-in_err-reach_around-clause-steps g c =
     let corners = c.args.ring.now.corners in
     let tris = c.args.mesh.now in
     let before = c.loop-place.invariant in
-    let few = few_reached corners tris c.requires.fits c.args.q.now c.loop-place.reached.items c.loop-place.place before.are in
+    let few = few_reached c.requires.fits before.are in
     omega (arith, few, two_fewer corners tris c.requires.fits, before.steps, c.reach_around.ensures.steps)
 
 pub loop-place-smaller : goal.loop-place-smaller
 loop-place-smaller g c =
     let before = c.loop-place.invariant in
-    let few = few_reached c.args.ring.now.corners c.args.mesh.now c.requires.fits c.args.q.now c.loop-place.reached.items c.loop-place.place
-    before.are in
+    let few = few_reached c.requires.fits before.are in
     omega (arith, few, c.loop-place-test.true, c.loop-place.reached.ok.0)
 
 pub returns-clause-reached : goal.returns-clause-reached
@@ -50,5 +49,5 @@ returns-clause-steps g c =
     let corners = c.args.ring.now.corners in
     let tris = c.args.mesh.now in
     let before = c.loop-place.invariant in
-    let few = few_reached corners tris c.requires.fits c.args.q.now c.loop-place.reached.items c.loop-place.place before.are in
+    let few = few_reached c.requires.fits before.are in
     omega (arith, few, two_fewer corners tris c.requires.fits, before.steps)

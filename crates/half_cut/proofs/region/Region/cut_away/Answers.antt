@@ -28,27 +28,27 @@ returns-in-None-clause-steps g c d below =
     let cs = c.self.inside.corners.items in
     let count : length cs ≡ length c.args.self.now.corners =
     sym (length_rotated cs c.self.inside.least c.self.invariant.within) ∙ ap (λ (r : Outline). length r.corners) c.self.view_is in
-    let found = c.seek-found.ensures.steps d (omega (arith, below, count)) in
+    let found = c.seek.ensures.steps d (omega (arith, below, count)) in
     let taken = rw c.reserve.ensures.corners at c.in-None.ensures.steps_of_none in
     let none = ap length c.clear.ensures.corners in
     omega (arith, count, found, taken, none)
 
 pub returns-in-Some-block_of-clause-cut : goal.returns-in-Some-block_of-clause-cut
 returns-in-Some-block_of-clause-cut g c =
-    let kept = c.keep_block-self-inside.ensures in
+    let kept = c.keep_block.ensures in
     let is : from_place c.self.inside.least c.self.inside.corners.items ≡ c.args.self.now.corners = ap (λ (r : Outline). r.corners) c.self.view_is in
     rw (← is)
     (list_left (whole c.args.a.now) (whole c.args.b.now) c.self.inside.corners.items c.self.inside.least
-    c.keep_block-self-inside.new.corners.items
-    c.keep_block-self-inside.result (rw c.reserve.ensures.corners at kept.cut) (omega (arith, kept.within)) (λ some. kept.within) kept.least)
+    c.keep_block.new.corners.items
+    c.keep_block.new.least (rw c.reserve.ensures.corners at kept.cut) (omega (arith, kept.within)) (λ some. kept.within) kept.least)
 
 pub returns-in-Some-block_of-clause-steps : goal.returns-in-Some-block_of-clause-steps
 returns-in-Some-block_of-clause-steps g c d below =
     let cs = c.self.inside.corners.items in
-    let kept = c.keep_block-self-inside.ensures in
+    let kept = c.keep_block.ensures in
     let count : length cs ≡ length c.args.self.now.corners =
     sym (length_rotated cs c.self.inside.least c.self.invariant.within) ∙ ap (λ (r : Outline). length r.corners) c.self.view_is in
-    let found = c.seek-found.ensures.steps d (omega (arith, below, count)) in
+    let found = c.seek.ensures.steps d (omega (arith, below, count)) in
     let taken = rw c.reserve.ensures.corners at c.in-Some-block_of.ensures.steps in
-    let left = length_rotated c.keep_block-self-inside.new.corners.items c.keep_block-self-inside.result (omega (arith, kept.within)) in
+    let left = length_rotated c.keep_block.new.corners.items c.keep_block.new.least (omega (arith, kept.within)) in
     omega (arith, count, found, taken, left, kept.steps, kept.few)
