@@ -1,5 +1,5 @@
 -- Runs of edges: with one edge more, and apart from a segment.
-use Rattle.std.proofs.Common.{◌≡◌, inl, inr, subst, Option, None, Some, ℕ, ◌+◌, List, arith}
+use Rattle.std.proofs.Common.{◌≡◌, inl, inr, subst, ℕ, ◌+◌, List, arith}
 use Rattle.std.proofs.lemmas.Bool.{cases_lt}
 use Rattle.plane.specs.Point.{Point, whole}
 use Rattle.plane.specs.Segment.{Meet}
@@ -75,7 +75,8 @@ clear_of_apart ring i l differ h clash = elim clash [
 
 -- what is in a cover is in its box
 enclosed_of_covered : (ring : List Point) (cover : Cover) (e : ℕ) → CoversEdge ring cover e → EnclosesEdge ring cover.bounds e
-enclosed_of_covered ring cover e h = record { from = h.from.in_box; to = h.to.in_box }
+enclosed_of_covered ring cover e h =
+    record { from_bounds = h.from.in_bounds; to_bounds = h.to.in_bounds; from = h.from.in_box; to = h.to.in_box }
 
 -- so the edges of a run are in the boxes of its covers
 pub boxed_of_run : (ring : List Point) (run : Run) (edges : BoxedEdges) → IsRun ring run → edges.first ≡ run.first → edges.end ≡ run.end
@@ -88,8 +89,3 @@ boxed_of_run ring run edges is_run first end east north west south e above below
       | inr (inr (inl h)) ↦ inr (inr (inl (enclosed_of_covered ring run.westward e h)))
       | inr (inr (inr h)) ↦ inr (inr (inr (enclosed_of_covered ring run.southward e h)))
     ])
-
--- what is left of a walk down the tree
-abbrev pub runs_left : Option ℕ → ℕ
-runs_left None = 0
-runs_left (Some k) = k + 1

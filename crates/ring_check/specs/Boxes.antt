@@ -1,6 +1,6 @@
 -- Bounding boxes of edges, and edges apart from a segment. This project's own.
 use Rattle.std.specs.Prelude.{ℕ, ◌+◌, ◌<◌, ◌≤◌, ◌⊎◌, List}
-use Rattle.plane.specs.Point.{Point, whole}
+use Rattle.plane.specs.Point.{IsInBounds, Point, whole}
 use Rattle.plane.specs.Segment.{Meet}
 use Rattle.rings.specs.Ring.{vertex}
 use Rattle.rings.specs.Simple.{HasEqualEnds}
@@ -8,8 +8,10 @@ use Rattle.exact_plane.specs.Boxes.{Encloses}
 use Rattle.exact_plane.specs.declared.bounding_box.BoundingBox.{BoundingBox}
 use Rattle.ring_check.specs.declared.boxes.BoxedEdges.{BoxedEdges}
 
--- both ends of edge e are in the box
+-- both ends of edge e are within the limits and in the box
 pub record EnclosesEdge (ring : List Point) (box : BoundingBox) (e : ℕ) : Type 0 where
+  pub from_bounds : IsInBounds (vertex ring e)
+  pub to_bounds : IsInBounds (vertex ring (e + 1))
   pub from : Encloses box (vertex ring e)
   pub to : Encloses box (vertex ring (e + 1))
 

@@ -1,4 +1,4 @@
-use Rattle.ring_check.proofs.EdgeRuns.{runs_left}
+use Rattle.ring_check.proofs.Walks.{runs_left}
 use Rattle.ring_check.proofs.walk.Runs.apart_to.Given as goal
 
 abbrev pub decreases-loop-next : goal.decreases-loop-next
