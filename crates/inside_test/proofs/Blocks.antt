@@ -16,12 +16,14 @@ use Rattle.rings.specs.Ring.{origin, vertex}
 use Rattle.exact_plane.proofs.Overlaps.{overlap_of_meeting}
 use Rattle.exact_plane.specs.Boxes.{Encloses, Overlap}
 use Rattle.exact_plane.specs.declared.bounding_box.BoundingBox.{BoundingBox}
+use Rattle.ring_check.specs.Boxes.{AreBoxed, EnclosesEdge, IsBoxed}
+use Rattle.ring_check.specs.declared.boxes.BoxedEdges.{BoxedEdges}
 use Rattle.inside_test.proofs.ApartEdges.{not_on_above, not_on_below}
 use Rattle.inside_test.proofs.CrossedEdges.{crossed_backward, crossed_from_left, crossed_from_right, not_crossed_unpassed}
 use Rattle.inside_test.proofs.Odd.{odd_step}
 use Rattle.inside_test.proofs.Passed.{left_of_rise, not_falling, right_of_rise, test_fails_high, test_fails_low}
 use Rattle.inside_test.proofs.Touched.{follows_right, precedes_left}
-use Rattle.inside_test.specs.Block.{MissesEdges, IsBoxMissed, IsBoxRight, OfAllEnclosed}
+use Rattle.inside_test.specs.Block.{IsBoxMissed, IsBoxPassed, IsBoxRight, IsEachBox, MissesEdges, OfAllEnclosed}
 use Rattle.inside_test.specs.Meeting.{rises}
 use Rattle.inside_test.specs.Odd.{IsOddOver, OddSoFar}
 
@@ -150,11 +152,99 @@ module _ (ring : List Point) (p : Triple) (above : ℕ → Bool) (first : ℕ) (
       subst (λ n. OddSoFar (take n (edges_of ring)) p (not (beq odd (is_between_ends (above first) (above n))))) more
       (subst (OddSoFar (take (k + 1) (edges_of ring)) p) is step)
 
--- ---- a block of edges whose ends are in a box
+-- ---- edges from one number to before another
 
 -- where a count is the rest, the sum is the whole
 sum_is : (first end : ℕ) → first < end → first + (end - first) ≡ end
 sum_is first end h = omega arith
+
+-- a flag that says whether a number is above another is the test of it
+test_is : (flag : Bool) (x y : ℤ) → IsTrue flag ↔ (x <ℤ y) → lt_z x y ≡ flag
+test_is true x y h = let k = h.0 refl in grind (arith, ints)
+test_is false x y h = grind (arith, ints)
+
+-- numbers that are both above another, or both at most that, are not on both sides of it
+ends_above : (a b y : ℤ) → y <ℤ a → y <ℤ b → is_between_ends (lt_z y a) (lt_z y b) ≡ false
+ends_above a b y h k = ends_beside a b y (test_fails_low a b y h) (test_fails_low b a y k)
+
+ends_below : (a b y : ℤ) → a <ℤ y → b <ℤ y → is_between_ends (lt_z y a) (lt_z y b) ≡ false
+ends_below a b y h k = ends_beside a b y (test_fails_high a b y (omega (arith, ints, k))) (test_fails_high b a y (omega (arith, ints, h)))
+
+module _ (ring : List Point) (p : Triple) (at_p : IsPoint p) where
+  -- whether vertex k is above the point
+  abbrev pub is_above : ℕ → Bool
+  is_above k = lt_z p.Y (Point.y (vertex ring k) *ℤ p.W)
+
+  module _ (b : BoundingBox) (k : ℕ) (h : EnclosesEdge ring b k) where
+    -- an edge in a box that the ray misses is not crossed,
+    pub passed_in_missed : IsBoxMissed b p → IsPassed (vertex ring k) (vertex ring (k + 1)) p false
+    passed_in_missed (inl above) = passed_above (vertex ring k) (vertex ring (k + 1)) p at_p (above _ h.from_bounds h.from) (above _ h.to_bounds h.to)
+    passed_in_missed (inr (inl below)) = passed_below (vertex ring k) (vertex ring (k + 1)) p at_p (below _ h.from_bounds h.from) (below _ h.to_bounds h.to)
+    passed_in_missed (inr (inr left)) = passed_left (vertex ring k) (vertex ring (k + 1)) p at_p (left _ h.from_bounds h.from) (left _ h.to_bounds h.to)
+
+    -- and one in a box above the point, below it or right of it is where its ends are on both sides of its height
+    pub passed_in_passed : IsBoxPassed b p → IsPassed (vertex ring k) (vertex ring (k + 1)) p (is_between_ends (is_above k) (is_above (k + 1)))
+    passed_in_passed (inl above) =
+        subst (IsPassed (vertex ring k) (vertex ring (k + 1)) p)
+        (sym (ends_above _ _ p.Y (above _ h.from_bounds h.from) (above _ h.to_bounds h.to)))
+        (passed_above (vertex ring k) (vertex ring (k + 1)) p at_p (above _ h.from_bounds h.from) (above _ h.to_bounds h.to))
+    passed_in_passed (inr (inl below)) =
+        subst (IsPassed (vertex ring k) (vertex ring (k + 1)) p)
+        (sym (ends_below _ _ p.Y (below _ h.from_bounds h.from) (below _ h.to_bounds h.to)))
+        (passed_below (vertex ring k) (vertex ring (k + 1)) p at_p (below _ h.from_bounds h.from) (below _ h.to_bounds h.to))
+    passed_in_passed (inr (inr right)) = passed_right (vertex ring k) (vertex ring (k + 1)) p at_p (right _ h.from_bounds h.from) (right _ h.to_bounds h.to)
+
+  module _ (first end : ℕ) (some : first < end) (within : end ≤ length ring) where
+    -- where each edge is passed by in a way that its ends tell, all of them are
+    all_by_ends : (above : ℕ → Bool)
+        → ((k : ℕ) → first ≤ k → k < end → IsPassed (vertex ring k) (vertex ring (k + 1)) p (is_between_ends (above k) (above (k + 1))))
+        → IsOddOver ring first end p (is_between_ends (above first) (above end))
+    all_by_ends above passed odd before =
+        let count : ℕ = end - first in
+        let sum = sum_is first end some in
+        subst (λ n. OddSoFar (take n (edges_of ring)) p (not (beq odd (is_between_ends (above first) (above n))))) sum
+        (passed_all ring p above first odd before count (omega (arith, within)) (λ k from below. passed k from (omega (arith, below))))
+
+    -- those that are not crossed change nothing,
+    pub over_missed : ((k : ℕ) → first ≤ k → k < end → IsPassed (vertex ring k) (vertex ring (k + 1)) p false) → IsOddOver ring first end p false
+    over_missed passed = all_by_ends (λ _. true) passed
+
+    -- and those that their ends tell do where the first end and the last are on both sides of the height of the point
+    pub over_passed : ((k : ℕ) → first ≤ k → k < end → IsPassed (vertex ring k) (vertex ring (k + 1)) p (is_between_ends (is_above k) (is_above (k + 1))))
+        → (first_above last_above : Bool) → IsTrue first_above ↔ (p.Y <ℤ (Point.y (vertex ring first) *ℤ p.W))
+        → IsTrue last_above ↔ (p.Y <ℤ (Point.y (vertex ring end) *ℤ p.W))
+        → IsOddOver ring first end p (is_between_ends first_above last_above)
+    over_passed passed first_above last_above first_is last_is =
+        subst (λ f. IsOddOver ring first end p (is_between_ends f last_above)) (test_is first_above _ _ first_is)
+        (subst (λ l. IsOddOver ring first end p (is_between_ends (is_above first) l)) (test_is last_above _ _ last_is) (all_by_ends is_above passed))
+
+-- ---- edges in four boxes
+
+-- what an edge has in each box that it may be in, where each box has a property
+in_some_box : (ring : List Point) (edges : BoxedEdges) (P : BoundingBox → Type 0) (Q : Type 0) (e : ℕ) → IsEachBox edges P
+    → ((b : BoundingBox) → EnclosesEdge ring b e → P b → Q) → IsBoxed ring edges e → Q
+in_some_box ring edges P Q e each of boxed = elim boxed [
+  | inl h ↦ of edges.eastward h each.eastward
+  | inr (inl h) ↦ of edges.northward h each.northward
+  | inr (inr (inl h)) ↦ of edges.westward h each.westward
+  | inr (inr (inr h)) ↦ of edges.southward h each.southward
+]
+
+module _ (ring : List Point) (edges : BoxedEdges) (boxed : AreBoxed ring edges) (p : Triple) (at_p : IsPoint p) where
+  -- they are not crossed where the ray misses each box,
+  pub each_missed : IsEachBox edges (λ b. IsBoxMissed b p)
+      → (k : ℕ) → edges.first ≤ k → k < edges.end → IsPassed (vertex ring k) (vertex ring (k + 1)) p false
+  each_missed missed k from below =
+      in_some_box ring edges (λ b. IsBoxMissed b p) _ k missed (λ b h out. passed_in_missed ring p at_p b k h out) (boxed k from below)
+
+  -- and their ends tell where each box is above the point, below it or right of it
+  pub each_passed : IsEachBox edges (λ b. IsBoxPassed b p)
+      → (k : ℕ) → edges.first ≤ k → k < edges.end
+      → IsPassed (vertex ring k) (vertex ring (k + 1)) p (is_between_ends (is_above ring p at_p k) (is_above ring p at_p (k + 1)))
+  each_passed passed k from below =
+      in_some_box ring edges (λ b. IsBoxPassed b p) _ k passed (λ b h by. passed_in_passed ring p at_p b k h by) (boxed k from below)
+
+-- ---- a block of edges whose ends are in a box
 
 module _ (ring : List Point) (first end : ℕ) (some : first < end) (within : end < length ring) (b : BoundingBox)
     (enclosed : (k : ℕ) → k < length (take (end + 1 - first) (drop first ring)) → (other : Point)
@@ -181,44 +271,24 @@ module _ (ring : List Point) (first end : ℕ) (some : first < end) (within : en
       let of = of_end (Encloses b) (λ v bounds here. here) in
       apart (overlap_of_meeting around b p q (vertex ring k) (vertex ring (k + 1)) at_p at_q (of k from (omega arith)) (of (k + 1) (omega arith) (omega arith)) meet)
 
+  -- each edge is in the box
+  enclosed_edge : (k : ℕ) → first ≤ k → k < end → EnclosesEdge ring b k
+  enclosed_edge k from below =
+      let of = of_end (λ v. IsInBounds v × Encloses b v) (λ v bounds here. (bounds, here)) in
+      record {
+        from_bounds = (of k from (omega arith)).0;
+        to_bounds = (of (k + 1) (omega arith) (omega arith)).0;
+        from = (of k from (omega arith)).1;
+        to = (of (k + 1) (omega arith) (omega arith)).1;
+      }
+
   module _ (p : Triple) (at_p : IsPoint p) where
-    -- so where each edge is passed by in a way that its ends tell, all of them are
-    all_by_ends : (above : ℕ → Bool)
-        → ((k : ℕ) → first ≤ k → k < end → IsPassed (vertex ring k) (vertex ring (k + 1)) p (is_between_ends (above k) (above (k + 1))))
-        → IsOddOver ring first end p (is_between_ends (above first) (above end))
-    all_by_ends above passed odd before =
-        let count : ℕ = end - first in
-        let sum = sum_is first end some in
-        subst (λ n. OddSoFar (take n (edges_of ring)) p (not (beq odd (is_between_ends (above first) (above n))))) sum
-        (passed_all ring p above first odd before count (omega (arith, within)) (λ k from below. passed k from (omega (arith, below))))
-
-    -- those that the ray misses change nothing,
-    none_by_ends : ((k : ℕ) → first ≤ k → k < end → IsPassed (vertex ring k) (vertex ring (k + 1)) p false) → IsOddOver ring first end p false
-    none_by_ends passed = all_by_ends (λ _. true) passed
-
     pub block_missed : IsBoxMissed b p → IsOddOver ring first end p false
-    block_missed (inl above) =
-        let of = of_end (λ v. p.Y <ℤ (v.y *ℤ p.W)) above in
-        none_by_ends (λ k from below. passed_above (vertex ring k) (vertex ring (k + 1)) p at_p (of k from (omega arith)) (of (k + 1) (omega arith) (omega arith)))
-    block_missed (inr (inl below)) =
-        let of = of_end (λ v. (v.y *ℤ p.W) <ℤ p.Y) below in
-        none_by_ends (λ k from less. passed_below (vertex ring k) (vertex ring (k + 1)) p at_p (of k from (omega arith)) (of (k + 1) (omega arith) (omega arith)))
-    block_missed (inr (inr left)) =
-        let of = of_end (λ v. (v.x *ℤ p.W) <ℤ p.X) left in
-        none_by_ends (λ k from less. passed_left (vertex ring k) (vertex ring (k + 1)) p at_p (of k from (omega arith)) (of (k + 1) (omega arith) (omega arith)))
+    block_missed missed =
+        over_missed ring p at_p first end some (omega (arith, within)) (λ k from below. passed_in_missed ring p at_p b k (enclosed_edge k from below) missed)
 
-    -- and those right of the point do where the first end and the last are on both sides of its height
     pub block_crossed : IsBoxRight b p → (first_above last_above : Bool) → IsTrue first_above ↔ (p.Y <ℤ (Point.y (vertex ring first) *ℤ p.W))
         → IsTrue last_above ↔ (p.Y <ℤ (Point.y (vertex ring end) *ℤ p.W))
         → IsOddOver ring first end p (is_between_ends first_above last_above)
-    block_crossed right first_above last_above first_is last_is =
-        let of = of_end (λ v. p.X <ℤ (v.x *ℤ p.W)) right in
-        let above : ℕ → Bool = λ k. lt_z p.Y (Point.y (vertex ring k) *ℤ p.W) in
-        let all = all_by_ends above (λ k from less. passed_right (vertex ring k) (vertex ring (k + 1)) p at_p (of k from (omega arith)) (of (k + 1) (omega arith) (omega arith))) in
-        subst (λ f. IsOddOver ring first end p (is_between_ends f last_above)) (test_is first_above _ _ first_is)
-        (subst (λ l. IsOddOver ring first end p (is_between_ends (above first) l)) (test_is last_above _ _ last_is) all)
-      where
-        -- a flag that says whether a number is above another is the test of it
-        test_is : (flag : Bool) (x y : ℤ) → IsTrue flag ↔ (x <ℤ y) → lt_z x y ≡ flag
-        test_is true x y h = let k = h.0 refl in grind (arith, ints)
-        test_is false x y h = grind (arith, ints)
+    block_crossed right =
+        over_passed ring p at_p first end some (omega (arith, within)) (λ k from below. passed_in_passed ring p at_p b k (enclosed_edge k from below) (inr (inr right)))

@@ -5,6 +5,7 @@ use Rattle.plane.specs.Segment.{Meet}
 use Rattle.rings.specs.Ring.{vertex}
 use Rattle.exact_plane.specs.Boxes.{Encloses}
 use Rattle.exact_plane.specs.declared.bounding_box.BoundingBox.{BoundingBox}
+use Rattle.ring_check.specs.declared.boxes.BoxedEdges.{BoxedEdges}
 
 -- a property of all points of the box
 abbrev pub OfAllEnclosed : BoundingBox → (Point → Type 0) → Type 0
@@ -26,6 +27,17 @@ IsBoxRight b p = OfAllEnclosed b (λ v. p.X <ℤ (v.x *ℤ p.W))
 -- the ray from the point to the right has none of them beside it or ahead
 abbrev pub IsBoxMissed : BoundingBox → Triple → Type 0
 IsBoxMissed b p = IsBoxAbove b p ⊎ IsBoxBelow b p ⊎ IsBoxLeft b p
+
+-- each edge in the box is crossed exactly where one of its ends is above the point, and has it not on it
+abbrev pub IsBoxPassed : BoundingBox → Triple → Type 0
+IsBoxPassed b p = IsBoxAbove b p ⊎ IsBoxBelow b p ⊎ IsBoxRight b p
+
+-- each of the four boxes has a property
+pub record IsEachBox (edges : BoxedEdges) (P : BoundingBox → Type 0) : Type 0 where
+  pub eastward : P edges.eastward
+  pub northward : P edges.northward
+  pub westward : P edges.westward
+  pub southward : P edges.southward
 
 -- the segment from a to b meets none of the edges from number `first` to before `end`
 abbrev pub MissesEdges : List Point → ℕ → ℕ → Point → Point → Type 0

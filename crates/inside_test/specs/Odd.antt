@@ -1,9 +1,11 @@
 -- Counting crossed edges by a parity. This project's own. No public clause cites this module.
-use Rattle.std.specs.Prelude.{◌≡◌, ◌↔◌, ◌%◌, ℕ, Bool, true, not, List, take}
+use Rattle.std.specs.Prelude.{◌≡◌, ◌↔◌, ◌%◌, ◌<◌, ◌≤◌, ℕ, Bool, true, not, List, length, take}
 use Rattle.std.specs.Bool.{beq}
-use Rattle.plane.specs.Point.{Point, Triple}
+use Rattle.plane.specs.Point.{IsPoint, Point, Triple}
 use Rattle.rings.specs.Edge.{Edge, IsOnSome, edges_of}
 use Rattle.rings.specs.Inside.{crossings}
+use Rattle.inside_test.specs.Level.{AreLevels}
+use Rattle.inside_test.specs.declared.level.Levels.{Levels}
 
 -- the point is on none of these edges, and the flag says whether an odd number of them is crossed
 pub record OddSoFar (es : List Edge) (p : Triple) (is_odd : Bool) : Type 0 where
@@ -14,3 +16,13 @@ pub record OddSoFar (es : List Edge) (p : Triple) (is_odd : Bool) : Type 0 where
 abbrev pub IsOddOver : List Point → ℕ → ℕ → Triple → Bool → Type 0
 IsOddOver ring first end p odd =
     (is_odd : Bool) → OddSoFar (take first (edges_of ring)) p is_odd → OddSoFar (take end (edges_of ring)) p (not (beq is_odd odd))
+
+-- so it is for a point with these levels
+abbrev pub IsOddTo : List Point → Levels → ℕ → ℕ → Bool → Type 0
+IsOddTo ring levels first end odd = (p : Triple) → AreLevels levels p → IsPoint p → IsOddOver ring first end p odd
+
+-- the same, and there are such edges
+pub record IsOddAhead (ring : List Point) (levels : Levels) (first end : ℕ) (odd : Bool) : Type 0 where
+  pub later : first < end
+  pub within : end ≤ length ring
+  pub over : IsOddTo ring levels first end odd

@@ -1,10 +1,12 @@
 // A rational number among the whole numbers, and a rational point among the vertices.
+ghost use Rattle.std.specs.Int.{int_div_euclid};
 ghost use Rattle.std.specs.Prelude.{◌≡◌, ◌↔◌, ◌<◌, ◌≤◌, ◌^◌, ◌<ℤ◌, ◌≤ℤ◌, ◌*ℤ◌, ℤ, IsTrue, pos, unsigned_abs};
 ghost use Rattle.plane.specs.Point.{IsInLimit, IsPoint, IsSame, Triple, whole};
-ghost use Rattle.inside_test.specs.Block.{IsBoxMissed, IsBoxRight};
+ghost use Rattle.inside_test.specs.Block.{IsBoxMissed, IsBoxPassed, IsBoxRight, IsEachBox};
 ghost use Rattle.inside_test.specs.Level.{AreLevels, IsLevel};
 
 use exact_plane::{BoundingBox, Hom, Pt, Steps};
+use ring_check::BoxedEdges;
 use std::sync::ledger::Ledger;
 
 // The greatest whole number that is not above part / weight, and the least that is not below it; where they would be
@@ -69,7 +71,22 @@ fn floor(part: i128, weight: i128) -> i64
     ensures limit { unsigned_abs result ≤ 2 ^ 32 }
 {
     const LIMIT: i128 = 1 << 32;
-    part.div_euclid(weight).clamp(-LIMIT, LIMIT) as i64
+    quotient(part, weight).clamp(-LIMIT, LIMIT) as i64
+}
+
+// The greatest whole number that is not above part / weight. Short numbers are divided faster.
+fn quotient(part: i128, weight: i128) -> i128
+    requires part { unsigned_abs part < 2 ^ 75 }
+    requires weight { unsigned_abs weight < 2 ^ 50 }
+    requires positive { pos 0 <ℤ weight }
+    ensures { result ≡ int_div_euclid part weight }
+{
+    const SHORT: i128 = 1 << 62;
+    if -SHORT < part && part < SHORT {
+        (part as i64).div_euclid(weight as i64) as i128
+    } else {
+        part.div_euclid(weight)
+    }
 }
 
 // The levels of a rational point: of x, and of its height.
@@ -135,6 +152,42 @@ impl Levels {
         ensures { IsTrue result → (p : Triple) → AreLevels self.now p → IsBoxRight around.now p }
     {
         self.across.is_below_from(around.west)
+    }
+
+    // Whether all of the box is above the point, below it or right of it: then each edge in it is crossed exactly where one of
+    // its ends is above the point.
+    fn passes(&self, around: &BoundingBox) -> bool
+        ensures { IsTrue result → (p : Triple) → AreLevels self.now p → IsBoxPassed around.now p }
+    {
+        self.height.is_below_from(around.south)
+            || self.height.is_above_to(around.north)
+            || self.across.is_below_from(around.west)
+    }
+
+    // Whether it misses each of the four boxes.
+    pub(crate) fn misses_all(&self, edges: &BoxedEdges) -> bool
+        ensures { IsTrue result → (p : Triple) → AreLevels self.now p → IsEachBox edges.now (λ b. IsBoxMissed b p) }
+    {
+        if !self.misses(&edges.eastward) {
+            return false;
+        }
+        if !self.misses(&edges.northward) {
+            return false;
+        }
+        self.misses(&edges.westward) && self.misses(&edges.southward)
+    }
+
+    // Whether it passes each of them.
+    pub(crate) fn passes_all(&self, edges: &BoxedEdges) -> bool
+        ensures { IsTrue result → (p : Triple) → AreLevels self.now p → IsEachBox edges.now (λ b. IsBoxPassed b p) }
+    {
+        if !self.passes(&edges.eastward) {
+            return false;
+        }
+        if !self.passes(&edges.northward) {
+            return false;
+        }
+        self.passes(&edges.westward) && self.passes(&edges.southward)
     }
 
     // Whether it is at the height of one.

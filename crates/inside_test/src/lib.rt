@@ -6,6 +6,7 @@ mod crossing;
 mod level;
 mod position;
 mod segment;
+mod skip;
 
 pub use position::{Position, place, place_hom};
-pub use segment::holds_segment;
+pub use segment::{holds_segment, holds_segment_by};

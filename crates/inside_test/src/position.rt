@@ -1,18 +1,19 @@
 ghost use Rattle.std.specs.Prelude.{◌≡◌, ◌↔◌, ◌<◌, ◌≤◌, IfNone, IfSome, length};
-ghost use Rattle.plane.specs.Point.{IsPoint, Triple, whole};
+ghost use Rattle.plane.specs.Point.{IsPoint, whole};
 ghost use Rattle.rings.specs.Edge.{IsOnSome, edges_of};
 ghost use Rattle.rings.specs.Inside.{IsIn};
 ghost use Rattle.inside_test.specs.Level.{AreLevels};
-ghost use Rattle.inside_test.specs.Odd.{IsOddOver};
+ghost use Rattle.inside_test.specs.Odd.{IsOddOver, IsOddTo};
 
 use crate::crossing::{Meeting, Vertex, meeting_of};
 use crate::level::Levels;
+use crate::skip::{ByBlocks, Skip};
 use exact_plane::{BoundingBox, Hom, Pt, Steps};
-use ring_check::Ring;
+use ring_check::{RUN, Ring, Runs};
 use std::sync::ledger::Ledger;
 
-// How many edges are looked at together: their ends are sixteen vertices.
-pub(crate) const BLOCK: u32 = 15;
+// How many edges are looked at together.
+pub(crate) const BLOCK: u32 = RUN as u32;
 
 /// Where a point lies.
 #[derive(Clone, Copy, Debug, PartialEq, Eq)]
@@ -40,12 +41,40 @@ pub fn place_hom<L: Ledger>(ring: &Ring, p: &Hom, steps: &mut Steps<L>) -> Posit
     ensures inside { (result ≡ Position.Inside) ↔ (IsIn ring.now.corners p.now × ¬ (IsOnSome (edges_of ring.now.corners) p.now)) }
     ensures outside { (result ≡ Position.Outside) ↔ ¬ (IsIn ring.now.corners p.now) }
 {
+    place_by(ring, None, p, steps)
+}
+
+// The same by runs, where there are some.
+pub(crate) fn place_by<L: Ledger>(
+    ring: &Ring,
+    runs: Option<&Runs>,
+    p: &Hom,
+    steps: &mut Steps<L>,
+) -> Position
+    requires { IfSome runs (λ runs. runs.now ≡ ring.now.corners) }
+    ensures edge { (result ≡ Position.Edge) ↔ IsOnSome (edges_of ring.now.corners) p.now }
+    ensures inside { (result ≡ Position.Inside) ↔ (IsIn ring.now.corners p.now × ¬ (IsOnSome (edges_of ring.now.corners) p.now)) }
+    ensures outside { (result ≡ Position.Outside) ↔ ¬ (IsIn ring.now.corners p.now) }
+{
+    match runs {
+        Some(runs) => place_with(ring, runs, p, steps),
+        None => place_with(ring, &ByBlocks, p, steps),
+    }
+}
+
+// The same by what knows of edges beforehand.
+fn place_with<S: Skip, L: Ledger>(ring: &Ring, skip: &S, p: &Hom, steps: &mut Steps<L>) -> Position
+    requires { S.is_of skip.now ring.now.corners }
+    ensures edge { (result ≡ Position.Edge) ↔ IsOnSome (edges_of ring.now.corners) p.now }
+    ensures inside { (result ≡ Position.Inside) ↔ (IsIn ring.now.corners p.now × ¬ (IsOnSome (edges_of ring.now.corners) p.now)) }
+    ensures outside { (result ≡ Position.Outside) ↔ ¬ (IsIn ring.now.corners p.now) }
+{
     let (n, levels) = (ring.len(), Levels::of(p, steps));
     let mut is_odd = false;
     let mut first = 0;
     while first < n {
-        let end = n.min(first + BLOCK);
-        let odd = match odd_by_box(ring, first, end, &levels, steps) {
+        let (end, odd) = skip.odd_to(ring, first, &levels, steps);
+        let odd = match odd {
             Some(odd) => odd,
             None => match odd_by_edges(ring, first, end, p, &levels, steps) {
                 Some(odd) => odd,
@@ -64,7 +93,7 @@ pub fn place_hom<L: Ledger>(ring: &Ring, p: &Hom, steps: &mut Steps<L>) -> Posit
 
 // Whether an odd number of the edges from edge `first` to before edge `end` is crossed, where all of them lie to one side of the
 // point with these levels.
-fn odd_by_box<L: Ledger>(
+pub(crate) fn odd_by_box<L: Ledger>(
     ring: &Ring,
     first: u32,
     end: u32,
@@ -72,12 +101,9 @@ fn odd_by_box<L: Ledger>(
     steps: &mut Steps<L>,
 ) -> Option<bool>
     requires some { first < end }
-    requires within { end ≤ length ring.now.corners }
-    ensures { IfSome result (λ odd. (p : Triple) → AreLevels levels.now p → IsPoint p → IsOddOver ring.now.corners first end p odd) }
+    requires within { end < length ring.now.corners }
+    ensures { IfSome result (IsOddTo ring.now.corners levels.now first end) }
 {
-    if end == ring.len() {
-        return None;
-    }
     let vertices = &ring.corners()[first as usize..end as usize + 1];
     let around = BoundingBox::of(vertices, steps);
     if levels.misses(&around) {

@@ -1,5 +1,5 @@
 ghost use Rattle.std.specs.List.{AllAdjacentBelow, Contains};
-ghost use Rattle.std.specs.Prelude.{◌≡◌, ◌↔◌, ◌++◌, ◌∷◌, [], ◌<◌, ◌≤◌, IfOk, IsTrue, OnOk, OnErr, length};
+ghost use Rattle.std.specs.Prelude.{◌≡◌, ◌↔◌, ◌++◌, ◌∷◌, [], ◌<◌, ◌≤◌, IfOk, IfSome, IsTrue, OnOk, OnErr, length};
 ghost use Rattle.plane.specs.Line.{mediant};
 ghost use Rattle.plane.specs.Point.{IsPoint, whole};
 ghost use Rattle.plane.specs.Segment.{On};
@@ -7,16 +7,19 @@ ghost use Rattle.rings.specs.Inside.{IsIn};
 ghost use Rattle.rings.specs.Sees.{Sees};
 ghost use Rattle.exact_plane.specs.Boxes.{Encloses};
 ghost use Rattle.exact_plane.specs.Size.{IsNarrow};
-ghost use Rattle.inside_test.specs.Block.{MissesEdges};
 ghost use Rattle.inside_test.specs.Breakpoints.{EnclosesAll, ExtendsOnSegment, IsListed, Lists, ListsMeetings, breakpoint_points};
 
 use crate::breakpoint::Breakpoint;
-use crate::position::{BLOCK, Position, place_hom};
+use crate::position::{BLOCK, Position, place_by};
+use crate::skip::{ByBlocks, Skip};
 use exact_plane::{BoundingBox, Hom, Memory, Pt, Steps, on_segment, segments_meet};
-use ring_check::Ring;
+use ring_check::{Ring, Runs};
 use std::alloc::Global;
 use std::cmp::Ordering;
 use std::sync::ledger::Ledger;
+
+// For more breakpoints than these, runs of edges pay for themselves.
+const MANY: usize = 512;
 
 /// Whether the segment from `a` to `b` lies in the ring: each rational point of it does. It may run along edges and
 /// touch them.
@@ -29,19 +32,44 @@ pub fn holds_segment<L: Ledger>(
 ) -> Result<bool, Memory>
     ensures { IfOk result (λ holds. IsTrue holds ↔ Sees ring.now.corners (whole a.now) (whole b.now)) }
 {
-    let mut points = breakpoints(alloc, ring, a, b, steps)?;
+    holds_segment_by(alloc, ring, None, a, b, steps)
+}
+
+/// The same by runs of the ring's edges, where they were made before, for many segments.
+pub fn holds_segment_by<L: Ledger>(
+    alloc: Global,
+    ring: &Ring,
+    runs: Option<&Runs>,
+    a: &Pt,
+    b: &Pt,
+    steps: &mut Steps<L>,
+) -> Result<bool, Memory>
+    requires { IfSome runs (λ runs. runs.now ≡ ring.now.corners) }
+    ensures { IfOk result (λ holds. IsTrue holds ↔ Sees ring.now.corners (whole a.now) (whole b.now)) }
+{
+    let mut points = breakpoints(alloc, ring, runs, a, b, steps)?;
     points.sort_unstable_by(|p, q| p.order(q));
-    Ok(holds_mediants(ring, &points, steps))
+    let made = match runs {
+        None if MANY < points.len() => Some(Runs::of(alloc, ring.corners(), steps)?),
+        _ => None,
+    };
+    let runs = match &made {
+        Some(made) => Some(made),
+        None => runs,
+    };
+    Ok(holds_mediants(ring, runs, &points, steps))
 }
 
 // The ends of the segment, and where it meets the edges, in no order.
 fn breakpoints<L: Ledger>(
     alloc: Global,
     ring: &Ring,
+    runs: Option<&Runs>,
     a: &Pt,
     b: &Pt,
     steps: &mut Steps<L>,
 ) -> Result<Vec<Breakpoint>, Memory>
+    requires { IfSome runs (λ runs. runs.now ≡ ring.now.corners) }
     ensures { IfOk result (λ points. ListsMeetings ring.now.corners (length ring.now.corners) (whole a.now) (whole b.now) (breakpoint_points points.items)) }
 {
     let mut points = Vec::new(alloc);
@@ -53,38 +81,42 @@ fn breakpoints<L: Ledger>(
         return Ok(points);
     }
     let around = BoundingBox::of(&[*a, *b], steps);
-    let mut first = 0;
-    while first < n {
-        let end = n.min(first + BLOCK);
-        if !are_apart(ring, first, end, a, b, &around, steps) {
-            push_block(&mut points, ring, first, end, a, b, steps)?;
-        }
-        first = end;
+    match runs {
+        Some(runs) => push_edges(&mut points, ring, runs, a, b, &around, steps)?,
+        None => push_edges(&mut points, ring, &ByBlocks, a, b, &around, steps)?,
     }
     Ok(points)
 }
 
-// Whether a box round the edges from number `first` to before `end` shows that the segment from `a` to `b` meets none of them.
-fn are_apart<L: Ledger>(
+// Appends what the segment, which is in the box, has in common with all edges, to its ends.
+fn push_edges<S: Skip, L: Ledger>(
+    points: &mut Vec<Breakpoint>,
     ring: &Ring,
-    first: u32,
-    end: u32,
+    skip: &S,
     a: &Pt,
     b: &Pt,
     around: &BoundingBox,
     steps: &mut Steps<L>,
-) -> bool
-    requires some { first < end }
-    requires within { end ≤ length ring.now.corners }
+) -> Result<(), Memory>
+    requires of { S.is_of skip.now ring.now.corners }
     requires has_first { Encloses around.now a.now }
     requires has_last { Encloses around.now b.now }
-    ensures { IsTrue result → MissesEdges ring.now.corners first end a.now b.now }
+    requires before { ListsMeetings ring.now.corners 0 (whole a.now) (whole b.now) (breakpoint_points points.old.items) }
+    ensures { OnOk result (ListsMeetings ring.now.corners (length ring.now.corners) (whole a.now) (whole b.now) (breakpoint_points points.new.items)) }
 {
-    if end == ring.len() {
-        return false;
+    let n = ring.len();
+    let mut first = 0;
+    while first < n {
+        let apart = skip.apart_to(ring, first, a, b, around, steps);
+        if first < apart {
+            first = apart;
+        } else {
+            let end = n.min(first + BLOCK);
+            push_block(points, ring, first, end, a, b, steps)?;
+            first = end;
+        }
     }
-    let vertices = &ring.corners()[first as usize..end as usize + 1];
-    !around.overlaps(&BoundingBox::of(vertices, steps))
+    Ok(())
 }
 
 // Appends what the segment has in common with these edges.
@@ -201,11 +233,17 @@ fn push<L: Ledger>(points: &mut Vec<Breakpoint>, p: Hom, steps: &mut Steps<L>) -
 }
 
 // Whether the mediant of each two neighbours is in the ring.
-fn holds_mediants<L: Ledger>(ring: &Ring, points: &[Breakpoint], steps: &mut Steps<L>) -> bool
+fn holds_mediants<L: Ledger>(
+    ring: &Ring,
+    runs: Option<&Runs>,
+    points: &[Breakpoint],
+    steps: &mut Steps<L>,
+) -> bool
+    requires { IfSome runs (λ runs. runs.now ≡ ring.now.corners) }
     ensures { IsTrue result ↔ AllAdjacentBelow (λ p q. IsIn ring.now.corners (mediant p.point q.point)) points.now (length points.now) }
 {
     for i in 1..points.len() {
-        if !holds_mediant(ring, &points[i - 1], &points[i], steps) {
+        if !holds_mediant(ring, runs, &points[i - 1], &points[i], steps) {
             return false;
         }
     }
@@ -215,14 +253,16 @@ fn holds_mediants<L: Ledger>(ring: &Ring, points: &[Breakpoint], steps: &mut Ste
 // Whether the mediant of two points is in the ring.
 fn holds_mediant<L: Ledger>(
     ring: &Ring,
+    runs: Option<&Runs>,
     p: &Breakpoint,
     q: &Breakpoint,
     steps: &mut Steps<L>,
 ) -> bool
+    requires { IfSome runs (λ runs. runs.now ≡ ring.now.corners) }
     ensures { IsTrue result ↔ IsIn ring.now.corners (mediant p.now.point q.now.point) }
 {
     let between = Hom::between(&p.point, &q.point, steps);
-    match place_hom(ring, &between, steps) {
+    match place_by(ring, runs, &between, steps) {
         Position::Inside | Position::Edge => true,
         Position::Outside => false,
     }

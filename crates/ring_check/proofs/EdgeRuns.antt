@@ -1,13 +1,15 @@
--- Runs of edges: with one edge more, and apart from an edge.
-use Rattle.std.proofs.Common.{◌≡◌, inl, inr, subst, ℕ, ◌+◌, ◌<◌, ◌≤◌, List, arith}
+-- Runs of edges: with one edge more, and apart from a segment.
+use Rattle.std.proofs.Common.{◌≡◌, inl, inr, subst, ℕ, ◌+◌, List, arith}
 use Rattle.std.proofs.lemmas.Bool.{cases_lt}
 use Rattle.plane.specs.Point.{Point, whole}
 use Rattle.plane.specs.Segment.{Meet}
 use Rattle.rings.specs.Ring.{vertex}
-use Rattle.rings.specs.Simple.{Clash, HasEqualEnds, SharesPoint}
+use Rattle.rings.specs.Simple.{Clash, HasEqualEnds}
 use Rattle.ring_check.proofs.SharedPoints.{meet_of_shared}
+use Rattle.ring_check.specs.Boxes.{AreBoxed, EnclosesEdge, IsApartFrom, IsApartOver}
 use Rattle.ring_check.specs.Covers.{CoversEdge, IsInCover}
 use Rattle.ring_check.specs.Runs.{IsCovered, IsRun}
+use Rattle.ring_check.specs.declared.boxes.BoxedEdges.{BoxedEdges}
 use Rattle.ring_check.specs.declared.cover.Cover.{Cover}
 use Rattle.ring_check.specs.declared.runs.Run.{Run}
 
@@ -44,29 +46,46 @@ run_with_edge ring a c e next first end east north west south in_a within differ
   ];
 }
 
--- edge i meets no segment of two points in the cover
-abbrev pub IsApart : List Point → ℕ → Cover → Type 0
-IsApart ring i cover = (a b : Point) → IsInCover cover a → IsInCover cover b
-    → Meet (whole (vertex ring i)) (whole (vertex ring (i + 1))) (whole a) (whole b) → ⊥
+-- the segment from p to q meets no segment of two points in the cover
+abbrev pub IsApart : Point → Point → Cover → Type 0
+IsApart p q cover = (a b : Point) → IsInCover cover a → IsInCover cover b → Meet (whole p) (whole q) (whole a) (whole b) → ⊥
 
-module _ (ring : List Point) (run : Run) (i : ℕ)
-    (east : IsApart ring i run.eastward) (north : IsApart ring i run.northward)
-    (west : IsApart ring i run.westward) (south : IsApart ring i run.southward) where
-  -- an edge that is apart from the covers shares no point with one in them
-  not_shared : (l : ℕ) → IsCovered ring run l → SharesPoint ring i l → ⊥
-  not_shared l within shared =
-      let meet = meet_of_shared ring i l shared in
-      elim within [
-        | inl h ↦ east (vertex ring l) (vertex ring (l + 1)) h.from h.to meet
-        | inr (inl h) ↦ north (vertex ring l) (vertex ring (l + 1)) h.from h.to meet
-        | inr (inr (inl h)) ↦ west (vertex ring l) (vertex ring (l + 1)) h.from h.to meet
-        | inr (inr (inr h)) ↦ south (vertex ring l) (vertex ring (l + 1)) h.from h.to meet
-      ]
-
-  -- so it clashes with no edge of the run
-  pub clear_of_apart : IsRun ring run → (HasEqualEnds ring i → ⊥) → (l : ℕ) → run.first ≤ l → l < run.end → Clash ring i l → ⊥
-  clear_of_apart is_run differ l above below clash = elim clash [
-    | inl equal ↦ differ equal
-    | inr (inl equal) ↦ is_run.differ l above below equal
-    | inr (inr shared) ↦ not_shared l (is_run.edges l above below) shared
+module _ (ring : List Point) (run : Run) (p q : Point)
+    (east : IsApart p q run.eastward) (north : IsApart p q run.northward) (west : IsApart p q run.westward) (south : IsApart p q run.southward) where
+  -- a segment that is apart from the covers meets no edge in them
+  not_met : (e : ℕ) → IsCovered ring run e → ¬ Meet (whole p) (whole q) (whole (vertex ring e)) (whole (vertex ring (e + 1)))
+  not_met e within meet = elim within [
+    | inl h ↦ east (vertex ring e) (vertex ring (e + 1)) h.from h.to meet
+    | inr (inl h) ↦ north (vertex ring e) (vertex ring (e + 1)) h.from h.to meet
+    | inr (inr (inl h)) ↦ west (vertex ring e) (vertex ring (e + 1)) h.from h.to meet
+    | inr (inr (inr h)) ↦ south (vertex ring e) (vertex ring (e + 1)) h.from h.to meet
   ]
+
+  -- so it is apart from all edges of the run
+  pub apart_over : IsRun ring run → IsApartOver ring run.first run.end p q
+  apart_over is_run e above below = record { apart = not_met e (is_run.edges e above below); differ = is_run.differ e above below }
+
+-- an edge with two ends clashes with none that it is apart from
+pub clear_of_apart : (ring : List Point) (i l : ℕ) → (HasEqualEnds ring i → ⊥) → IsApartFrom ring l (vertex ring i) (vertex ring (i + 1)) → Clash ring i l → ⊥
+clear_of_apart ring i l differ h clash = elim clash [
+  | inl equal ↦ differ equal
+  | inr (inl equal) ↦ h.differ equal
+  | inr (inr shared) ↦ h.apart (meet_of_shared ring i l shared)
+]
+
+-- what is in a cover is in its box
+enclosed_of_covered : (ring : List Point) (cover : Cover) (e : ℕ) → CoversEdge ring cover e → EnclosesEdge ring cover.bounds e
+enclosed_of_covered ring cover e h =
+    record { from_bounds = h.from.in_bounds; to_bounds = h.to.in_bounds; from = h.from.in_box; to = h.to.in_box }
+
+-- so the edges of a run are in the boxes of its covers
+pub boxed_of_run : (ring : List Point) (run : Run) (edges : BoxedEdges) → IsRun ring run → edges.first ≡ run.first → edges.end ≡ run.end
+    → edges.eastward ≡ run.eastward.bounds → edges.northward ≡ run.northward.bounds → edges.westward ≡ run.westward.bounds
+    → edges.southward ≡ run.southward.bounds → AreBoxed ring edges
+boxed_of_run ring run edges is_run first end east north west south e above below =
+    rw (east, north, west, south) (elim (is_run.edges e (rw first at above) (rw end at below)) [
+      | inl h ↦ inl (enclosed_of_covered ring run.eastward e h)
+      | inr (inl h) ↦ inr (inl (enclosed_of_covered ring run.northward e h))
+      | inr (inr (inl h)) ↦ inr (inr (inl (enclosed_of_covered ring run.westward e h)))
+      | inr (inr (inr h)) ↦ inr (inr (inr (enclosed_of_covered ring run.southward e h)))
+    ])

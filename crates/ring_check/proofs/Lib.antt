@@ -10,3 +10,4 @@ mod SharedPoints
 mod SlabSides
 mod StatusEdits
 mod SweptArea
+pub mod Walks

@@ -1,13 +1,12 @@
-ghost use Rattle.std.specs.List.{All};
-ghost use Rattle.std.specs.Prelude.{◌≡◌, ◌<◌, ◌≤◌, ◌^◌, ◌↔◌, ℕ, IsTrue, IfSome, IfNone, length};
+ghost use Rattle.std.specs.Prelude.{◌≡◌, ◌+◌, ◌<◌, ◌≤◌, ◌^◌, ◌↔◌, ℕ, IsTrue, IfSome, IfNone, length};
 ghost use Rattle.rings.specs.Ring.{vertex};
 ghost use Rattle.rings.specs.Simple.{Clash, HasEqualEnds, IsLeastClash, IsSimple, SharesPoint};
-ghost use Rattle.ring_check.specs.Runs.{IsRun};
+ghost use Rattle.ring_check.specs.Boxes.{EnclosesEdge};
 
 use crate::boxes::box_of_edge;
-use crate::runs::{Run, clear_to, runs_of};
 use crate::sweep::sweep_finds_none;
-use exact_plane::{Pt, Steps, meet_only_at, order, segments_meet};
+use crate::walk::Runs;
+use exact_plane::{BoundingBox, Pt, Steps, meet_only_at, order, segments_meet};
 use std::alloc::Global;
 use std::cmp::Ordering;
 use std::sync::ledger::Ledger;
@@ -27,23 +26,24 @@ pub fn find_clash<L: Ledger>(
     if sweep_finds_none(alloc, points, steps) {
         return None;
     }
-    if let Some(j) = least_clash_with(points, &[], 0, steps) {
+    let none = Runs::none(alloc, points);
+    if let Some(j) = least_clash_with(points, &none, 0, steps) {
         return Some((0, j));
     }
-    match runs_of(alloc, points, steps) {
+    match Runs::of(alloc, points, steps) {
         Ok(runs) => least_clash(points, &runs, steps),
-        Err(_) => least_clash(points, &[], steps),
+        Err(_) => least_clash(points, &none, steps),
     }
 }
 
 // The same by a scan of all pairs, without the runs of edges that are left out by the boxes round them.
 fn least_clash<L: Ledger>(
     points: &[Pt],
-    runs: &[Run],
+    runs: &Runs,
     steps: &mut Steps<L>,
 ) -> Option<(usize, usize)>
     requires three { 3 ≤ length points.now }
-    requires runs { All (IsRun points.now) runs.now }
+    requires runs { runs.now ≡ points.now }
     ensures least { IfSome result (λ pair. IsLeastClash points.now pair.0 pair.1) }
     ensures simple { IfNone result (IsSimple points.now) }
 {
@@ -58,12 +58,12 @@ fn least_clash<L: Ledger>(
 // The least edge above i that clashes with edge i.
 fn least_clash_with<L: Ledger>(
     points: &[Pt],
-    runs: &[Run],
+    runs: &Runs,
     i: usize,
     steps: &mut Steps<L>,
 ) -> Option<usize>
     requires three { 3 ≤ length points.now }
-    requires runs { All (IsRun points.now) runs.now }
+    requires runs { runs.now ≡ points.now }
     requires edge { i < length points.now }
     ensures range { IfSome result (λ j. (i < j) × (j < length points.now)) }
     ensures clash { IfSome result (λ j. Clash points.now i j) }
@@ -83,6 +83,35 @@ fn least_clash_with<L: Ledger>(
         }
     }
     None
+}
+
+// The edge behind the greatest run from edge `first` on whose covers show that none of its edges clashes with edge `i`,
+// which is in the box. Where there is no such run, that is `first`.
+fn clear_to<L: Ledger>(
+    points: &[Pt],
+    i: usize,
+    bounds: &BoundingBox,
+    runs: &Runs,
+    first: usize,
+    steps: &mut Steps<L>,
+) -> usize
+    requires runs { runs.now ≡ points.now }
+    requires edge { i < length points.now }
+    requires bounds { EnclosesEdge points.now bounds.now i }
+    requires differ { i + 1 < first → HasEqualEnds points.now i → ⊥ }
+    requires below { i < first }
+    ensures { (l : ℕ) → first ≤ l → l < result → Clash points.now i l → ⊥ }
+{
+    if first - i == 1 {
+        return first;
+    }
+    runs.apart_to(
+        first,
+        &corner(points, i),
+        &corner(points, i + 1),
+        bounds,
+        steps,
+    )
 }
 
 // Whether edges i < j clash.

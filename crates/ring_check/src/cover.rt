@@ -14,7 +14,7 @@ use std::sync::ledger::Ledger;
 // The points that are in both.
 #[derive(Clone, Copy)]
 pub(crate) struct Cover {
-    bounds: BoundingBox,
+    pub bounds: BoundingBox,
     slab: Slab,
 }
 

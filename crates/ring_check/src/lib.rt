@@ -14,8 +14,12 @@ mod slab;
 mod slabs;
 mod status;
 mod sweep;
+mod walk;
 
+pub use boxes::BoxedEdges;
 pub use laws::{crossing_parity, winding_across};
 pub use order::{lexical_order, ranks_of};
 pub use ring::{Ring, RingFault};
+pub use runs::RUN;
 pub use sweep::sweep_finds_none;
+pub use walk::Runs;

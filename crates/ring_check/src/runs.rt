@@ -1,8 +1,10 @@
-// Runs of edges with covers of them, by which whole runs are left out of the scan for the least clash.
+// Runs of edges with covers of them, by which whole runs are left out.
 ghost use Rattle.std.specs.List.{All};
-ghost use Rattle.std.specs.Prelude.{◌≡◌, ◌+◌, ◌<◌, ◌≤◌, ◌^◌, ℕ, IfOk, IsTrue, length};
-ghost use Rattle.rings.specs.Simple.{Clash, HasEqualEnds};
-ghost use Rattle.ring_check.specs.Boxes.{EnclosesEdge};
+ghost use Rattle.std.specs.Prelude.{◌≡◌, ◌+◌, ◌<◌, ◌≤◌, IfOk, IsTrue, List, length};
+ghost use Rattle.plane.specs.Point.{Point};
+ghost use Rattle.rings.specs.Simple.{HasEqualEnds};
+ghost use Rattle.exact_plane.specs.Boxes.{Encloses};
+ghost use Rattle.ring_check.specs.Boxes.{IsApartOver};
 ghost use Rattle.ring_check.specs.Runs.{IsRun};
 
 use crate::clash::{corner, has_equal_ends};
@@ -11,19 +13,19 @@ use exact_plane::{BoundingBox, Memory, Pt, Steps};
 use std::alloc::Global;
 use std::sync::ledger::Ledger;
 
-// How many edges a run has at most that joins no others.
-const RUN: usize = 16;
+/// How many edges a run has at most that joins no others: their ends are sixteen vertices.
+pub const RUN: usize = 15;
 
 // The edges from `first` to before `end`, each in the cover of those that go its way. Where a list winds round and round,
 // these boxes are slim, and one box round all of the edges would not be; and where edges lie side by side, these slabs are.
 #[derive(Clone, Copy)]
 pub(crate) struct Run {
-    first: usize,
-    end: usize,
-    eastward: Cover,
-    northward: Cover,
-    westward: Cover,
-    southward: Cover,
+    pub first: usize,
+    pub end: usize,
+    pub eastward: Cover,
+    pub northward: Cover,
+    pub westward: Cover,
+    pub southward: Cover,
 }
 
 // The four ways, each up to a quarter turn to the left.
@@ -36,7 +38,7 @@ enum Way {
 }
 
 impl Run {
-    // The edges from `first` on, 16 or up to the end of the list or an edge with equal ends.
+    // The edges from `first` on, 15 or up to the end of the list or an edge with equal ends.
     fn of<L: Ledger>(points: &[Pt], first: usize, steps: &mut Steps<L>) -> Run
         requires { first < length points.now }
         ensures { IsRun points.now result }
@@ -123,29 +125,25 @@ impl Run {
         run.with_edges(points, points.len().min(next.end), steps)
     }
 
-    // Whether its covers show that none of its edges clashes with edge `i`, which is in the box.
-    fn is_clear<L: Ledger>(
+    // Whether its covers show that a segment, which is in the box, meets none of its edges.
+    pub fn is_apart<L: Ledger>(
         &self,
-        points: &[Pt],
-        i: usize,
+        p: &Pt,
+        q: &Pt,
         bounds: &BoundingBox,
         steps: &mut Steps<L>,
     ) -> bool
-        requires run { IsRun points.now self.now }
-        requires edge { i < length points.now }
-        requires bounds { EnclosesEdge points.now bounds.now i }
-        requires differ { HasEqualEnds points.now i → ⊥ }
-        ensures { IsTrue result → (l : ℕ) → self.now.first ≤ l → l < self.now.end → Clash points.now i l → ⊥ }
+        requires p { Encloses bounds.now p.now }
+        requires q { Encloses bounds.now q.now }
+        ensures { IsTrue result → (ring : List Point) → IsRun ring self.now → IsApartOver ring self.now.first self.now.end p.now q.now }
     {
-        let (p, q) = (corner(points, i), corner(points, i + 1));
-        if !self.eastward.is_apart(&p, &q, bounds, steps) {
+        if !self.eastward.is_apart(p, q, bounds, steps) {
             return false;
         }
-        if !self.northward.is_apart(&p, &q, bounds, steps) {
+        if !self.northward.is_apart(p, q, bounds, steps) {
             return false;
         }
-        self.westward.is_apart(&p, &q, bounds, steps)
-            && self.southward.is_apart(&p, &q, bounds, steps)
+        self.westward.is_apart(p, q, bounds, steps) && self.southward.is_apart(p, q, bounds, steps)
     }
 }
 
@@ -199,7 +197,7 @@ fn way_of<L: Ledger>(points: &[Pt], e: usize, steps: &mut Steps<L>) -> Way
     }
 }
 
-// Runs from each 16th edge on, and after them runs that join two. Where m join none, run m + k joins runs 2 k and 2 k + 1,
+// Runs from each 15th edge on, and after them runs that join two. Where m join none, run m + k joins runs 2 k and 2 k + 1,
 // so that they make a tree.
 pub(crate) fn runs_of<L: Ledger>(
     alloc: Global,
@@ -232,38 +230,4 @@ fn least_runs<L: Ledger>(
         first += RUN;
     }
     Ok(runs)
-}
-
-// The edge behind the greatest run from edge `first` on whose covers show that none of its edges clashes with edge `i`,
-// which is in the box. Where there is no such run, that is `first`.
-pub(crate) fn clear_to<L: Ledger>(
-    points: &[Pt],
-    i: usize,
-    bounds: &BoundingBox,
-    runs: &[Run],
-    first: usize,
-    steps: &mut Steps<L>,
-) -> usize
-    requires runs { All (IsRun points.now) runs.now }
-    requires edge { i < length points.now }
-    requires bounds { EnclosesEdge points.now bounds.now i }
-    requires differ { i + 1 < first → HasEqualEnds points.now i → ⊥ }
-    requires below { i < first }
-    ensures { (l : ℕ) → first ≤ l → l < result → Clash points.now i l → ⊥ }
-{
-    if first - i == 1 || first % RUN != 0 {
-        return first;
-    }
-    let mut end = first;
-    let mut k = first / RUN;
-    while k < runs.len() {
-        let run = &runs[k];
-        if run.first != first || !run.is_clear(points, i, bounds, steps) {
-            return end;
-        }
-        end = run.end;
-        // The run that joins this one and the next, or the one before.
-        k = runs.len() / 2 + 1 + k / 2;
-    }
-    end
 }

@@ -1,14 +1,14 @@
 -- What holds at a place that a list doesn't leave the ring at.
-use Rattle.std.proofs.Common.{◌≡◌, inl, inr, refl, Bool, true, false, IsTrue, ◌↔◌, ℕ, ◌+◌, ◌<◌, ◌≤◌, List, length, arith}
+use Rattle.std.proofs.Common.{◌≡◌, inl, inr, refl, Bool, true, false, IsTrue, ◌↔◌, ℕ, ◌+◌, ◌-◌, ◌<◌, ◌≤◌, List, length, arith}
 use Rattle.std.specs.Prelude.{not}
 use Rattle.plane.proofs.Points.{whole_is_point}
-use Rattle.plane.proofs.Segments.{on_first_end}
+use Rattle.plane.proofs.Segments.{on_first_end, on_last_end}
 use Rattle.plane.specs.Point.{IsPoint, Point, Triple, whole}
 use Rattle.rings.proofs.Inside.{in_or_not}
 use Rattle.rings.specs.Chain.{point_at}
 use Rattle.rings.specs.Inside.{IsIn}
 use Rattle.rings.specs.Sees.{Sees}
-use Rattle.taut_check.specs.Found.{IsSound, IsSoundBend}
+use Rattle.taut_check.specs.Found.{IsSeenAt, IsSound, IsSoundBend}
 use Rattle.taut_check.specs.Verdict.{IsLeaving, IsRepeat}
 
 -- a rational point that is not outside is in the ring
@@ -55,6 +55,12 @@ leaves_last ring points k p is_out at_p last out = (
   λ h. inl (rw (← at_p) (out.0 h)),
   λ leaves. elim leaves [ inl h ↦ out.1 (rw at_p h) | inr h ↦ absurd (omega (arith, h.not_last)) ],
 )
+
+-- nor does it leave where the one before it sees it
+pub stays_where_seen : (ring points : List Point) (k : ℕ) → 0 < k → IsSeenAt ring points k → length points ≤ k + 1 → ¬ IsLeaving ring points k
+stays_where_seen ring points k later seen last (inl out) =
+    out (seen later (whole (point_at points k)) (whole_is_point (point_at points k)) (on_last_end (whole (point_at points (k - 1))) (whole (point_at points k))))
+stays_where_seen ring points k later seen last (inr h) = omega (arith, h.not_last)
 
 -- a place at which no rule is broken, by the bend there
 pub sound_of_kept : (ring points : List Point) (k : ℕ) → ¬ IsRepeat points k → ¬ IsLeaving ring points k → IsSoundBend ring points k → IsSound ring points k

@@ -1,9 +1,11 @@
 -- What is found at one place of a list. No public clause cites this module.
-use Rattle.std.specs.Prelude.{◌≡◌, ℕ, ◌+◌, ◌-◌, ◌<◌, List, length, Option, None, Some}
+use Rattle.std.specs.Prelude.{◌≡◌, ℕ, ◌+◌, ◌-◌, ◌<◌, ◌≤◌, List, length, Option, None, Some}
 use Rattle.plane.specs.Point.{Point, whole}
 use Rattle.rings.specs.Bend.{IsBend}
 use Rattle.rings.specs.Chain.{IsInner, point_at}
 use Rattle.rings.specs.Inside.{IsIn}
+use Rattle.rings.specs.Orientation.{IsReflex}
+use Rattle.rings.specs.Ring.{vertex}
 use Rattle.rings.specs.Sees.{Sees}
 use Rattle.taut_check.specs.Verdict.{IsFirstRule}
 use Rattle.taut_check.specs.declared.verdict.Verdict.{Verdict}
@@ -34,3 +36,11 @@ verdict_place (verdict.WrongSide k) = k
 abbrev pub IsFoundAt : List Point → List Point → ℕ → Option Verdict → Type 0
 IsFoundAt ring points k None = IsSound ring points k
 IsFoundAt ring points k (Some found) = (verdict_place found ≡ k) × IsFirstRule ring points found
+
+-- none of the vertices from number `first` to before `end` is the point, and reflex
+abbrev pub IsNoReflexFrom : List Point → ℕ → ℕ → Point → Type 0
+IsNoReflexFrom ring first end p = (i : ℕ) → first ≤ i → i < end → ¬ ((vertex ring i ≡ p) × IsReflex ring i)
+
+-- the point at place k is the first, or the one before sees it
+abbrev pub IsSeenAt : List Point → List Point → ℕ → Type 0
+IsSeenAt ring points k = 0 < k → Sees ring (whole (point_at points (k - 1))) (whole (point_at points k))

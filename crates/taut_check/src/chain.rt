@@ -1,13 +1,14 @@
 // The rules that hold at each place.
-ghost use Rattle.std.specs.Prelude.{◌≡◌, ◌<◌, ◌↔◌, IsTrue, IfOk, length};
+ghost use Rattle.std.specs.Prelude.{◌≡◌, ◌<◌, ◌↔◌, IsTrue, IfOk, IfSome, length};
 ghost use Rattle.plane.specs.Point.{whole};
 ghost use Rattle.rings.specs.Chain.{point_at};
 ghost use Rattle.rings.specs.Inside.{IsIn};
+ghost use Rattle.taut_check.specs.Found.{IsSeenAt};
 ghost use Rattle.taut_check.specs.Verdict.{IsLeaving, IsRepeat};
 
 use exact_plane::{Memory, Pt, Steps, order};
-use inside_test::{Position, holds_segment, place};
-use ring_check::Ring;
+use inside_test::{Position, holds_segment_by, place};
+use ring_check::{Ring, Runs};
 use std::alloc::Global;
 use std::cmp::Ordering;
 use std::sync::ledger::Ledger;
@@ -29,22 +30,30 @@ pub fn is_repeat<L: Ledger>(points: &[Pt], k: usize, steps: &mut Steps<L>) -> bo
         && order(&point(points, k), &point(points, k + 1), steps) == Ordering::Equal
 }
 
-// Whether the point at place `k` is not in the ring, or does not see the next. A point that sees the next is in the ring.
+// Whether the point at place `k`, which the one before sees, is not in the ring, or does not see the next. A point that sees
+// the next is in the ring, and so is one that is seen.
 pub fn is_leaving<L: Ledger>(
     alloc: Global,
     ring: &Ring,
+    runs: Option<&Runs>,
     points: &[Pt],
     k: usize,
     steps: &mut Steps<L>,
 ) -> Result<bool, Memory>
-    requires { k < length points.now }
+    requires runs { IfSome runs (λ runs. runs.now ≡ ring.now.corners) }
+    requires place { k < length points.now }
+    requires seen { IsSeenAt ring.now.corners points.now k }
     ensures { IfOk result (λ leaving. IsTrue leaving ↔ IsLeaving ring.now.corners points.now k) }
 {
     let from = point(points, k);
-    if k == points.len() - 1 {
-        return Ok(is_outside(ring, &from, steps));
+    if k < points.len() - 1 {
+        let to = point(points, k + 1);
+        return Ok(!holds_segment_by(alloc, ring, runs, &from, &to, steps)?);
     }
-    Ok(!holds_segment(alloc, ring, &from, &point(points, k + 1), steps)?)
+    if 0 < k {
+        return Ok(false);
+    }
+    Ok(is_outside(ring, &from, steps))
 }
 
 // Whether a point is not in the ring.

@@ -1,13 +1,13 @@
-ghost use Rattle.std.specs.Prelude.{◌≡◌, ◌-◌, ◌≤◌, ◌<◌, ◌↔◌, IfOk, length};
+ghost use Rattle.std.specs.Prelude.{◌≡◌, ◌-◌, ◌≤◌, ◌<◌, ◌↔◌, IfOk, IfSome, length};
 ghost use Rattle.plane.specs.declared.limits.TheConstants.{MAX_CHAIN};
 ghost use Rattle.rings.specs.Chain.{IsBentChain, IsTaut, point_at};
-ghost use Rattle.taut_check.specs.Found.{IsFoundAt};
+ghost use Rattle.taut_check.specs.Found.{IsFoundAt, IsSeenAt};
 ghost use Rattle.taut_check.specs.Verdict.{IsVerdict};
 
 use crate::bend::{has_no_turn, is_inner, is_on_wrong_side, reflex_vertex};
 use crate::chain::{is_leaving, is_repeat, point};
 use exact_plane::{Memory, Pt, Steps};
-use ring_check::Ring;
+use ring_check::{Ring, Runs};
 use std::alloc::Global;
 use std::sync::ledger::Ledger;
 
@@ -31,6 +31,11 @@ pub enum Verdict {
     /// beside it.
     WrongSide(u32),
 }
+
+// In a ring of more vertices than `LONG`, runs of edges pay for themselves for more points than `MANY`.
+const MANY: usize = 192;
+
+const LONG: u32 = 1024;
 
 /// The verdict on a list of points.
 pub fn check<L: Ledger>(
@@ -63,37 +68,57 @@ fn verdict_on<L: Ledger>(
     if chain.is_empty() {
         return Ok(Verdict::Empty);
     }
+    let made = runs_for(alloc, ring, chain, steps)?;
+    let runs = made.as_ref();
     for k in 0..chain.len() {
-        if let Some(verdict) = verdict_at(alloc, ring, chain, k, steps)? {
+        if let Some(verdict) = verdict_at(alloc, ring, runs, chain, k, steps)? {
             return Ok(verdict);
         }
     }
     Ok(Verdict::Taut)
 }
 
+// Runs of the ring's edges, where they pay for themselves.
+fn runs_for<'a, L: Ledger>(
+    alloc: Global,
+    ring: &'a Ring,
+    chain: &[Pt],
+    steps: &mut Steps<L>,
+) -> Result<Option<Runs<'a>>, Memory>
+    ensures { IfOk result (λ made. IfSome made (λ runs. runs ≡ ring.now.corners)) }
+{
+    if chain.len() <= MANY || ring.len() <= LONG {
+        return Ok(None);
+    }
+    Ok(Some(Runs::of(alloc, ring.corners(), steps)?))
+}
+
 // The first rule that is broken at place `k`, if one is.
 fn verdict_at<L: Ledger>(
     alloc: Global,
     ring: &Ring,
+    runs: Option<&Runs>,
     chain: &[Pt],
     k: usize,
     steps: &mut Steps<L>,
 ) -> Result<Option<Verdict>, Memory>
+    requires runs { IfSome runs (λ runs. runs.now ≡ ring.now.corners) }
     requires most { length chain.now ≤ MAX_CHAIN }
     requires place { k < length chain.now }
+    requires seen { IsSeenAt ring.now.corners chain.now k }
     ensures { IfOk result (IsFoundAt ring.now.corners chain.now k) }
 {
     let place = k as u32;
     if is_repeat(chain, k, steps) {
         return Ok(Some(Verdict::Repeat(place)));
     }
-    if is_leaving(alloc, ring, chain, k, steps)? {
+    if is_leaving(alloc, ring, runs, chain, k, steps)? {
         return Ok(Some(Verdict::Leaves(place)));
     }
     if !is_inner(chain, k) {
         return Ok(None);
     }
-    let Some(i) = reflex_vertex(ring, &point(chain, k), steps) else {
+    let Some(i) = reflex_vertex(ring, runs, &point(chain, k), steps) else {
         return Ok(Some(Verdict::NotReflex(place)));
     };
     if has_no_turn(chain, k, steps) {

@@ -1,12 +1,12 @@
-use Rattle.std.proofs.Common.{◌≡◌, ℕ, arith, below_more}
-use Rattle.rings.specs.Orientation.{IsReflex}
-use Rattle.rings.specs.Ring.{vertex}
+use Rattle.std.proofs.Common.{arith}
+use Rattle.taut_check.proofs.PassedVertices.{none_of_both}
 use Rattle.taut_check.proofs.bend.reflex_vertex.Goals as goal
 
-pub loop-i-preserved : goal.loop-i-preserved
-loop-i-preserved g c =
-    below_more (λ (j : ℕ). ¬ ((vertex c.args.ring.now.corners j ≡ c.args.p.now) × IsReflex c.args.ring.now.corners j)) c.loop-i.i c.loop-i.invariant
-    (λ h. absurd (cc (c.is_reflex_at.ensures.1 h, c.if-is_reflex_at.false)))
+pub loop-first-preserved : goal.loop-first-preserved
+loop-first-preserved g c = (
+  none_of_both c.args.ring.now.corners c.loop-first.first c.passed_to-end.result.0 c.args.p.now c.loop-first.invariant.0 c.in_default.ensures.none,
+  c.passed_to-end.ensures.within,
+)
 
 pub returns-clause-none : goal.returns-clause-none
-returns-clause-none g c = λ v. c.loop-i.invariant v.i (omega (arith, v.in_ring)) (v.is_vertex, v.reflex)
+returns-clause-none g c = λ v. c.loop-first.invariant.0 v.i (omega arith) (omega (arith, v.in_ring)) (v.is_vertex, v.reflex)

@@ -1,7 +1,9 @@
-use Rattle.std.proofs.Common.{◌≡◌, ℕ, ◌<◌}
-use Rattle.rings.specs.Orientation.{IsReflex}
-use Rattle.rings.specs.Ring.{vertex}
+use Rattle.std.proofs.Common.{◌≤◌, ◌-◌, length}
 use Rattle.taut_check.proofs.bend.reflex_vertex.Given as goal
+use Rattle.taut_check.specs.Found.{IsNoReflexFrom}
 
-abbrev pub invariant-loop-i : goal.invariant-loop-i
-invariant-loop-i g l = (j : ℕ) → j < l.i → ¬ ((vertex l.ring.corners j ≡ l.p) × IsReflex l.ring.corners j)
+abbrev pub invariant-loop-first : goal.invariant-loop-first
+invariant-loop-first g l = IsNoReflexFrom l.ring.corners 0 l.first l.p × (l.first ≤ length l.ring.corners)
+
+abbrev pub decreases-loop-first : goal.decreases-loop-first
+decreases-loop-first g l = l.n - l.first

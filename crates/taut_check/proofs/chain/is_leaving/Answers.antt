@@ -1,12 +1,18 @@
 use Rattle.std.proofs.Common.{arith}
-use Rattle.taut_check.proofs.Leaving.{leaves_last, leaves_unseen}
+use Rattle.taut_check.proofs.Leaving.{leaves_last, leaves_unseen, stays_where_seen}
 use Rattle.taut_check.proofs.chain.is_leaving.Goals as goal
 
 pub returns-then-k-points : goal.returns-then-k-points
 returns-then-k-points g c =
-    leaves_last c.args.ring.now.corners c.args.points.now c.args.k _ _ c.point-from.ensures (omega arith) c.is_outside.ensures
+    leaves_unseen c.args.ring.now.corners c.args.points.now c.args.k _ _ _ c.point-from.ensures c.point-to.ensures (omega arith)
+    c.in_ok-holds_segment_by.ensures
+
+pub returns-then-k-gt0 : goal.returns-then-k-gt0
+returns-then-k-gt0 g c = (
+  λ h. absurd (cc h),
+  λ leaves. absurd (stays_where_seen c.args.ring.now.corners c.args.points.now c.args.k (omega arith) c.requires.seen (omega arith) leaves),
+)
 
 pub returns : goal.returns
 returns g c =
-    leaves_unseen c.args.ring.now.corners c.args.points.now c.args.k _ _ _ c.point-from.ensures c.point.ensures (omega arith)
-    c.in_ok-holds_segment.ensures
+    leaves_last c.args.ring.now.corners c.args.points.now c.args.k _ _ c.point-from.ensures (omega arith) c.is_outside.ensures

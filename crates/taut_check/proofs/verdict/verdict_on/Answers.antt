@@ -1,4 +1,5 @@
-use Rattle.std.proofs.Common.{◌<◌, arith, below_more, length}
+use Rattle.std.proofs.Common.{◌≡◌, ◌<◌, arith, below_more, length, Bor, Option, None, Some}
+use Rattle.std.specs.Prelude.{IfSome, option_copied}
 use Rattle.std.proofs.lemmas.Bool.Decides.{nat_tests}
 use Rattle.taut_check.proofs.Verdicts.{taut_found, unbroken, verdict_found}
 use Rattle.taut_check.proofs.verdict.verdict_on.Goals as goal
@@ -22,3 +23,13 @@ pub returns-clause-verdict : goal.returns-clause-verdict
 returns-clause-verdict g c =
     let some : 0 < length c.args.chain.now = grind (arith, nat_tests) in
     unbroken c.args.ring.now.corners c.args.chain.now some (λ k below. c.loop-k.invariant k (omega arith))
+
+-- what holds of the value of an option holds of a reference to it
+of_copied : {A : Type 0} (P : A → Type 0) (r : Option (Bor A)) (o : Option A) → option_copied r ≡ o → IfSome o P → IfSome r (λ b. P b.now)
+of_copied P None o e h = tt
+of_copied P (Some b) o e h = rw (← e) at h
+
+pub verdict_at-requires-clause-runs : goal.verdict_at-requires-clause-runs
+verdict_at-requires-clause-runs g c =
+    of_copied (λ runs. runs ≡ c.args.ring.now.corners) c.as_ref-runs.result c.in_ok-made.made
+    c.as_ref-runs.ensures.value c.in_ok-made.ensures

@@ -1,6 +1,6 @@
 use Rattle.std.proofs.Common.{◌≤◌, ◌-◌, length, take}
 use Rattle.rings.specs.Edge.{edges_of}
-use Rattle.inside_test.proofs.position.place_hom.Given as goal
+use Rattle.inside_test.proofs.position.place_with.Given as goal
 use Rattle.inside_test.specs.Odd.{OddSoFar}
 
 abbrev pub invariant-loop-first : goal.invariant-loop-first

@@ -1,21 +1,22 @@
 use Rattle.std.proofs.Common.{true, false, refl, arith}
 use Rattle.inside_test.proofs.Odd.{in_of_odd, odd_end, odd_start, out_of_even}
-use Rattle.inside_test.proofs.position.place_hom.Goals as goal
-use Rattle.inside_test.proofs.position.place_hom.Goals.{in-None+in-Some-odd_by_edges, in-Some}
+use Rattle.inside_test.proofs.position.place_with.Goals as goal
+use Rattle.inside_test.proofs.position.place_with.Goals.{in-None+in-Some-odd_by_edges, in-Some}
 
 pub loop-first-init : goal.loop-first-init
 loop-first-init g c = (odd_start c.args.ring.now.corners c.args.p.now, omega arith)
 
 pub loop-first-preserved : goal.loop-first-preserved
 loop-first-preserved g c =
-    let p = c.args.p.now in
     let (before, _) = c.loop-first.invariant in
     let levels = c.of-levels.ensures in (
-      elim c.match-odd_by_box.branch [
-        | in-Some w ↦ rw w.odd-is (w.in-Some.ensures p levels.levels levels.rational c.loop-first.is_odd before)
+      elim c.match-odd.branch [
+        | in-Some w ↦
+            let over = rw w.in-Some.is at c.odd_to-end.ensures.odd in
+            rw w.odd-is (over c.args.p.now levels.levels levels.rational c.loop-first.is_odd before)
         | in-None+in-Some-odd_by_edges w ↦ rw w.odd-is (w.in-Some-odd_by_edges.ensures.odd c.loop-first.is_odd before)
       ],
-      omega (arith, c.len-n.ensures.number, c.min-end.ensures),
+      c.odd_to-end.ensures.within,
     )
 
 pub returns-then-is_odd : goal.returns-then-is_odd

@@ -4,7 +4,7 @@ use Rattle.plane.proofs.Points.{whole_is_point}
 use Rattle.plane.specs.Point.{whole}
 use Rattle.inside_test.proofs.Neighbours.{lists_permuted, sees_by_list}
 use Rattle.inside_test.proofs.Sorting.{sorted_points}
-use Rattle.inside_test.proofs.segment.holds_segment.Goals as goal
+use Rattle.inside_test.proofs.segment.holds_segment_by.Goals as goal
 use Rattle.inside_test.specs.Breakpoints.{breakpoint_points}
 
 pub returns : goal.returns

@@ -1,0 +1,201 @@
+// Ways to pass over edges of a ring, many at a time.
+ghost use Rattle.std.specs.Prelude.{◌≡◌, ◌<◌, ◌≤◌, IfSome, IsTrue, List, length};
+ghost use Rattle.plane.specs.Point.{Point};
+ghost use Rattle.exact_plane.specs.Boxes.{Encloses};
+ghost use Rattle.ring_check.specs.Boxes.{AreBoxed};
+ghost use Rattle.inside_test.specs.Block.{MissesEdges};
+ghost use Rattle.inside_test.specs.Odd.{IsOddAhead, IsOddTo};
+
+use crate::level::Levels;
+use crate::position::{BLOCK, odd_by_box};
+use exact_plane::{BoundingBox, Pt, Steps};
+use ring_check::{BoxedEdges, Ring, Runs};
+use std::sync::ledger::Ledger;
+
+// What knows of edges beforehand, so that a question need not look at each of them.
+pub(crate) trait Skip {
+    // It is of the ring with these vertices.
+    ghost is_of: { Self → List Point → Type 0 };
+
+    // An edge so that none from `first` to before it meets the segment from `a` to `b`, which is in the box. Where none is
+    // passed over, that is `first`.
+    fn apart_to<L: Ledger>(
+        &self,
+        ring: &Ring,
+        first: u32,
+        a: &Pt,
+        b: &Pt,
+        around: &BoundingBox,
+        steps: &mut Steps<L>,
+    ) -> u32
+        requires of { is_of self.now ring.now.corners }
+        requires some { first < length ring.now.corners }
+        requires has_first { Encloses around.now a.now }
+        requires has_last { Encloses around.now b.now }
+        ensures within { result ≤ length ring.now.corners }
+        ensures apart { MissesEdges ring.now.corners first result a.now b.now };
+
+    // A later edge, and where it is known that the point with these levels is on none of those from `first` to before it,
+    // whether an odd number of these is crossed.
+    fn odd_to<L: Ledger>(
+        &self,
+        ring: &Ring,
+        first: u32,
+        levels: &Levels,
+        steps: &mut Steps<L>,
+    ) -> (u32, Option<bool>)
+        requires of { is_of self.now ring.now.corners }
+        requires some { first < length ring.now.corners }
+        ensures later { first < result.0 }
+        ensures within { result.0 ≤ length ring.now.corners }
+        ensures odd { IfSome result.1 (λ odd. IsOddTo ring.now.corners levels.now first result.0 odd) };
+}
+
+// The box round a few edges, made anew for each question.
+pub(crate) struct ByBlocks;
+
+impl Skip for ByBlocks {
+    ghost is_of = { λ _ _. Unit {0} };
+
+    fn apart_to<L: Ledger>(
+        &self,
+        ring: &Ring,
+        first: u32,
+        a: &Pt,
+        b: &Pt,
+        around: &BoundingBox,
+        steps: &mut Steps<L>,
+    ) -> u32 {
+        if ring.len() - first <= BLOCK {
+            return first;
+        }
+        let end = first + BLOCK;
+        if are_apart(ring, first, end, a, b, around, steps) {
+            end
+        } else {
+            first
+        }
+    }
+
+    fn odd_to<L: Ledger>(
+        &self,
+        ring: &Ring,
+        first: u32,
+        levels: &Levels,
+        steps: &mut Steps<L>,
+    ) -> (u32, Option<bool>) {
+        let n = ring.len();
+        if n - first <= BLOCK {
+            return (n, None);
+        }
+        let end = first + BLOCK;
+        (end, odd_by_box(ring, first, end, levels, steps))
+    }
+}
+
+// Whether a box round the edges from number `first` to before `end` shows that the segment from `a` to `b` meets none of them.
+fn are_apart<L: Ledger>(
+    ring: &Ring,
+    first: u32,
+    end: u32,
+    a: &Pt,
+    b: &Pt,
+    around: &BoundingBox,
+    steps: &mut Steps<L>,
+) -> bool
+    requires some { first < end }
+    requires within { end < length ring.now.corners }
+    requires has_first { Encloses around.now a.now }
+    requires has_last { Encloses around.now b.now }
+    ensures { IsTrue result → MissesEdges ring.now.corners first end a.now b.now }
+{
+    let vertices = &ring.corners()[first as usize..end as usize + 1];
+    !around.overlaps(&BoundingBox::of(vertices, steps))
+}
+
+impl<'a> Skip for Runs<'a> {
+    ghost is_of = { λ runs ring. runs ≡ ring };
+
+    fn apart_to<L: Ledger>(
+        &self,
+        ring: &Ring,
+        first: u32,
+        a: &Pt,
+        b: &Pt,
+        around: &BoundingBox,
+        steps: &mut Steps<L>,
+    ) -> u32 {
+        let end = self.apart_to(first as usize, a, b, around, steps);
+        if end <= ring.len() as usize {
+            end as u32
+        } else {
+            first
+        }
+    }
+
+    fn odd_to<L: Ledger>(
+        &self,
+        ring: &Ring,
+        first: u32,
+        levels: &Levels,
+        steps: &mut Steps<L>,
+    ) -> (u32, Option<bool>) {
+        match odd_by_runs(ring, self, first, levels, steps) {
+            Some((end, odd)) => (end, Some(odd)),
+            None => (ring.len().min(first + BLOCK), None),
+        }
+    }
+}
+
+// The edge behind the greatest run from edge `first` on that tells whether an odd number of its edges is crossed, and whether
+// one is.
+fn odd_by_runs<L: Ledger>(
+    ring: &Ring,
+    runs: &Runs,
+    first: u32,
+    levels: &Levels,
+    steps: &mut Steps<L>,
+) -> Option<(u32, bool)>
+    requires runs { runs.now ≡ ring.now.corners }
+    ensures { IfSome result (λ found. IsOddAhead ring.now.corners levels.now first found.0 found.1) }
+{
+    let mut next = runs.greatest_from(first as usize);
+    while let Some(k) = next {
+        if let Some(edges) = runs.edges(k) {
+            if let Some(found) = odd_over(ring, &edges, first, levels, steps) {
+                return Some(found);
+            }
+        }
+        next = runs.lesser(k);
+    }
+    None
+}
+
+// The same over these edges, if `first` is the first of them.
+fn odd_over<L: Ledger>(
+    ring: &Ring,
+    edges: &BoxedEdges,
+    first: u32,
+    levels: &Levels,
+    steps: &mut Steps<L>,
+) -> Option<(u32, bool)>
+    requires boxed { AreBoxed ring.now.corners edges.now }
+    ensures { IfSome result (λ found. IsOddAhead ring.now.corners levels.now first found.0 found.1) }
+{
+    if edges.first != first as usize
+        || edges.end <= edges.first
+        || edges.end > ring.len() as usize
+    {
+        return None;
+    }
+    let end = edges.end as u32;
+    if levels.misses_all(edges) {
+        return Some((end, false));
+    }
+    if levels.passes_all(edges) {
+        let begins_above = levels.is_below(&ring.corner(first), steps);
+        let ends_above = levels.is_below(&ring.next(end - 1), steps);
+        return Some((end, begins_above != ends_above));
+    }
+    None
+}

@@ -1,0 +1,5 @@
+use Rattle.taut_check.proofs.bend.reflex_vertex_among.Given as goal
+use Rattle.taut_check.specs.Found.{IsNoReflexFrom}
+
+abbrev pub invariant-loop-i : goal.invariant-loop-i
+invariant-loop-i g l = IsNoReflexFrom l.ring.corners l.first l.i l.p
