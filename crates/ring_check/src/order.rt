@@ -1,23 +1,17 @@
 // The vertices of a list in lexicographic order, and the rank of each.
 ghost use Rattle.std.specs.Prelude.{◌≡◌, ◌+◌, ◌*◌, ◌<◌, ◌≤◌, ◌^◌, IfOk, List, length, map};
-ghost use Rattle.plane.specs.Point.{Point};
+ghost use Rattle.plane.specs.Point.{IsInBounds, IsInLimit, Point};
+ghost use Rattle.plane.specs.declared.limits.TheConstants.{MAX_CORNERS};
 ghost use Rattle.rings.specs.Events.{AreEvents};
+ghost use Rattle.rings.specs.Ring.{vertex};
 ghost use Rattle.rings.specs.Simple.{IsSimple};
-ghost use Rattle.ring_check.specs.Keys.{AreKeys};
+ghost use Rattle.ring_check.specs.Keys.{AreKeys, key_of, number_of, raised};
 ghost use Rattle.ring_check.specs.Order.{IsInOrder};
 
 use crate::clash::corner;
 use exact_plane::{Memory, Pt, Steps};
 use std::alloc::Global;
 use std::sync::ledger::Ledger;
-
-// A vertex by its coordinates, then its number. Keys in their order are those of vertices in lexicographic order.
-#[derive(Clone, Copy, PartialEq, Eq, PartialOrd, Ord)]
-pub(crate) struct Key {
-    pub x: i64,
-    pub y: i64,
-    pub number: u32,
-}
 
 /// All vertices of a list by their numbers, by x, then by y. Those of a simple list are in lexicographic order. It takes at most
 /// 64 steps for each vertex.
@@ -26,7 +20,7 @@ pub fn lexical_order<L: Ledger>(
     points: &[Pt],
     steps: &mut Steps<L>,
 ) -> Result<Vec<u32>, Memory>
-    requires { length points.now < 2 ^ 32 }
+    requires { length points.now ≤ MAX_CORNERS }
     ensures all { IfOk result (λ order. length order.items ≡ length points.now) }
     ensures order { IfOk result (λ order. IsSimple points.now → IsInOrder points.now order.items) }
     ensures steps { steps.new ≤ steps.old + 64 * length points.now }
@@ -41,26 +35,47 @@ fn keys_of<L: Ledger>(
     alloc: Global,
     points: &[Pt],
     steps: &mut Steps<L>,
-) -> Result<Vec<Key>, Memory>
-    requires { length points.now < 2 ^ 32 }
+) -> Result<Vec<u64>, Memory>
+    requires { length points.now ≤ MAX_CORNERS }
     ensures keys { IfOk result (λ keys. AreKeys points.now (length points.now) keys.items) }
     ensures steps { steps.new ≤ steps.old + 64 * length points.now }
 {
     let mut keys = Vec::with_capacity(alloc, points.len())?;
     for number in 0..points.len() as u32 {
-        let (x, y) = corner(points, number as usize).parts(steps);
-        keys.push(Key { x, y, number })?;
+        keys.push(key_of(points, number, steps))?;
     }
     Ok(keys)
 }
 
+// The key of a vertex: its x, its y and its number in one, so that keys are in order as the vertices are in lexicographic order,
+// and a sort compares and moves one word.
+fn key_of<L: Ledger>(points: &[Pt], number: u32, steps: &mut Steps<L>) -> u64
+    requires range { number < length points.now }
+    requires few { length points.now ≤ MAX_CORNERS }
+    ensures key { result ≡ key_of points.now number }
+    ensures bounds { IsInBounds (vertex points.now number) }
+    ensures steps { steps.new ≡ steps.old + 64 }
+{
+    let (x, y) = corner(points, number as usize).parts(steps);
+    (raised(x) * 16_777_216 + raised(y)) * 65_536 + number as u64
+}
+
+// A coordinate as a number of 24 bits.
+fn raised(z: i64) -> u64
+    requires { IsInLimit z }
+    ensures number { result ≡ raised z }
+    ensures bits { result < 2 ^ 24 }
+{
+    (z + 8_388_608) as u64
+}
+
 // The numbers of the vertices with these keys.
-fn numbers_of(alloc: Global, keys: &[Key]) -> Result<Vec<u32>, Memory>
-    ensures { IfOk result (λ numbers. numbers.items ≡ map (λ k. k.number) keys.now) }
+fn numbers_of(alloc: Global, keys: &[u64]) -> Result<Vec<u32>, Memory>
+    ensures { IfOk result (λ numbers. numbers.items ≡ map number_of keys.now) }
 {
     let mut numbers = Vec::with_capacity(alloc, keys.len())?;
     for key in keys {
-        numbers.push(key.number)?;
+        numbers.push((*key % 65_536) as u32)?;
     }
     Ok(numbers)
 }

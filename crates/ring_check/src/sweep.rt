@@ -8,6 +8,7 @@ use crate::events::Events;
 use crate::order::{lexical_order, ranks_of};
 use crate::status::{insert, next, remove, replace};
 use exact_plane::{Memory, Pt, Steps};
+use plane::MAX_CORNERS;
 use std::alloc::Global;
 use std::sync::ledger::Ledger;
 
@@ -30,6 +31,9 @@ fn sweep<L: Ledger>(alloc: Global, points: &[Pt], steps: &mut Steps<L>) -> Resul
     requires small { length points.now < 2 ^ 32 }
     ensures { IfOk result (λ finds_none. IsTrue finds_none → IsSimple points.now) }
 {
+    if points.len() > MAX_CORNERS {
+        return Ok(false);
+    }
     let order = lexical_order(alloc, points, steps)?;
     let ranks = ranks_of(alloc, &order)?;
     match Events::of(points, &order, &ranks, steps) {

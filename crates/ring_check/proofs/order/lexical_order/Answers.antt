@@ -2,12 +2,14 @@ use Rattle.std.proofs.Common.{◌≡◌, map, length}
 use Rattle.std.proofs.lemmas.Result.{IfOk-weaker}
 use Rattle.rings.specs.Simple.{IsSimple}
 use Rattle.ring_check.proofs.Orders.{in_order, moved_numbers}
+use Rattle.ring_check.specs.Keys.{number_of}
 use Rattle.ring_check.specs.Order.{IsInOrder}
 use Rattle.ring_check.proofs.order.lexical_order.Goals as goal
 
 pub returns : goal.returns
 returns g c =
     let ring = c.args.points.now in
+    let few = c.requires in
     let keys = c.in_ok-keys.keys.items in
     let sorted = c.sort_unstable.new.self.items in
     let moved = c.sort_unstable.ensures.permutation in
@@ -15,10 +17,10 @@ returns g c =
     let up = c.sort_unstable.ensures.sorted in
     let same = c.deref.ensures.value in
     record {
-      all = IfOk-weaker c.numbers_of.result (λ numbers. numbers.items ≡ map (λ k. k.number) c.deref.result.now)
-          (λ order. length order.items ≡ length ring) (λ order is. rw (is, same) (moved_numbers ring keys are sorted moved)) c.numbers_of.ensures;
-      order = IfOk-weaker c.numbers_of.result (λ numbers. numbers.items ≡ map (λ k. k.number) c.deref.result.now)
+      all = IfOk-weaker c.numbers_of.result (λ numbers. numbers.items ≡ map number_of c.deref.result.now)
+          (λ order. length order.items ≡ length ring) (λ order is. rw (is, same) (moved_numbers ring few keys are sorted moved)) c.numbers_of.ensures;
+      order = IfOk-weaker c.numbers_of.result (λ numbers. numbers.items ≡ map number_of c.deref.result.now)
           (λ order. IsSimple ring → IsInOrder ring order.items)
-          (λ order is. rw (is, same) (λ simple. in_order ring simple keys are sorted moved up)) c.numbers_of.ensures;
+          (λ order is. rw (is, same) (λ simple. in_order ring few simple keys are sorted moved up)) c.numbers_of.ensures;
       steps = c.keys_of.ensures.steps;
     }
