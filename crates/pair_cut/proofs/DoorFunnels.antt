@@ -1,8 +1,8 @@
 -- The funnel at the door of a triangle, from home and from an earlier door, with its apex; and the climbs in it.
 use Rattle.std.proofs.Common.{◌≡◌, ◌↔◌, inl, inr, refl, sym, ap, subst, ◌∙◌, ℕ, ◌+◌, ◌-◌, ◌<◌, ◌≤◌, min, max}
-use Rattle.std.proofs.Common.{List, [], ◌∷◌, ◌++◌, length, take, drop, slice_index, add-one, arith}
+use Rattle.std.proofs.Common.{List, [], ◌∷◌, ◌++◌, length, take, drop, slice_index, slice_index_or, add-one, arith}
 use Rattle.std.proofs.lemmas.Bool.{cases_eq}
-use Rattle.std.proofs.lemmas.List.{get_or-drop, get_or-take, get_or_append_left, length-append, length-map, length-take-le, length-drop}
+use Rattle.std.proofs.lemmas.List.{get_or-drop, get_or-take, get_or_read, get_or_append_left, length-append, length-map, length-take-le, length-drop}
 use Rattle.std.proofs.lemmas.List.Elements.{All-append, All-cons, All-drop, All-nil, All-take}
 use Rattle.std.specs.List.{All}
 use Rattle.plane.specs.Point.{Point}
@@ -29,23 +29,15 @@ use Rattle.shared_funnel.specs.Entered.{IsFromStart, IsFunnelTo, at_place, left_
 use Rattle.shared_funnel.specs.Listed.{Listed, point_of, listed_points}
 use Rattle.pair_cut.proofs.FunnelPaths.{apex_alone, before_on_left, before_on_right}
 use Rattle.pair_cut.specs.Climbs.{AreClimbs, IsClimb, IsVertexAt, from_left, from_right}
-use Rattle.pair_cut.specs.Doors.{HasFunnel, IsApex, IsOnWay, IsSeen, IsTangentTo}
+use Rattle.pair_cut.specs.Doors.{HasFunnel, IsApex, IsGrownTo, IsOnWay, IsSeen, IsTangentTo}
 use Rattle.pair_cut.specs.Rows.{IsNumberBefore}
 use Rattle.pair_cut.specs.declared.climb.Tangent.{Tangent}
 
--- what is on the way to a place is on that to a later one,
-pub on_way_later : (tris : List Tri) (order : List Outward) (q p j : ℕ) → q ≤ p → IsOnWay tris order q j → IsOnWay tris order p j
-on_way_later tris order q p j le (r, less, has) = (r, omega (arith, less, le), has)
-
+-- what is seen on the way to a place is seen on that to a later one
 seen_later : (corners : List Point) (tris : List Tri) (order : List Outward) (q p k : ℕ) → q ≤ p → IsSeen corners tris order q k
     → IsSeen corners tris order p k
 seen_later corners tris order q p k le (inl source) = inl source
-seen_later corners tris order q p k le (inr on) = inr (on_way_later tris order q p k le on)
-
--- and so are all of a list
-all_seen : (corners : List Point) (tris : List Tri) (order : List Outward) (q p : ℕ) (list : List ℕ) → q ≤ p
-    → All (IsSeen corners tris order q) list → All (IsSeen corners tris order p) list
-all_seen corners tris order q p list le all k d within = seen_later corners tris order q p _ le (all k d within)
+seen_later corners tris order q p k le (inr (r, less, has)) = inr (r, omega (arith, less, le), has)
 
 -- the number that a row tells for a vertex is that of the one point that comes before it
 next_told : (ring : List Point) (i x b : ℕ) (t u : Point) → vertex ring x ≡ t → IsNumberBefore ring i x b
@@ -221,10 +213,18 @@ module _ (corners : List Point) (i : ℕ) (tris : List Tri) (order : List Outwar
           ]
         ]
 
-    -- and from an earlier door those of the next ones are the tangent's
-    module _ (inner : 0 < toward order p) (t : Tangent) (to : IsTangentTo corners i tris order (toward order p) t) where
+    -- and from an earlier door those of the next ones are the tangent's, which the row keeps
+    module _ (inner : 0 < toward order p) (before : List ℕ) (tangents : List Tangent) (grown : IsGrownTo corners i tris order p before tangents)
+        (t : Tangent) (read : t ≡ slice_index_or tangents (toward order p) t) where
       abbrev q : ℕ
       q = toward order p
+
+      before_p : q < p
+      before_p = earlier corners start tris order from p later below
+
+      to : IsTangentTo corners i tris order q t
+      to = subst (IsTangentTo corners i tris order q)
+          (sym (get_or_read tangents q t (omega (arith, before_p, below, grown.places)) read _)) (grown.tangents_told q inner before_p)
 
       abbrev m : ℕ
       m = third_of tris order q
@@ -248,13 +248,13 @@ module _ (corners : List Point) (i : ℕ) (tris : List Tri) (order : List Outwar
       apex_in = omega (arith, to.has.funnel.funnel.funnel.apex_within, list_long)
 
       seen : All (IsSeen corners tris order p) list
-      seen = all_seen corners tris order q p list (omega (arith, earlier corners start tris order from p later below)) to.has.seen
+      seen = λ k d within. seen_later corners tris order q p _ (omega (arith, before_p)) (to.has.seen k d within)
 
       -- the third corner there is on the way
       third_seen : IsSeen corners tris order p m
       third_seen =
           let beyond = beyond_at corners start tris order from q inner (toward_below corners start tris order from p later below) in
-          inr (q, earlier corners start tris order from p later below, (side_corners (tri_at tris (at_place order q)) _ m beyond.right).1)
+          inr (q, before_p, (side_corners (tri_at tris (at_place order q)) _ m beyond.right).1)
 
       -- where the next list has a number of the list, the vertex at its point stays
       stays : (next : List ℕ) (k l x : ℕ) → k < length next → l < length list → slice_index next k ≡ slice_index list l

@@ -8,14 +8,15 @@ use Rattle.rings.proofs.Simple.{apart_of_simple}
 use Rattle.rings.proofs.Vertices.{one_to_one}
 use Rattle.rings.specs.From.{IsPredecessor}
 use Rattle.rings.specs.Ring.{vertex}
+use Rattle.meshes.specs.Fits.{Fits}
 use Rattle.meshes.specs.Side.{tri_at}
 use Rattle.meshes.specs.declared.tri.Tri.{Tri}
 use Rattle.tri_mesh.specs.Corner.{HasCorner}
-use Rattle.tri_mesh.specs.Outward.{outward_at}
+use Rattle.tri_mesh.specs.Outward.{IsOutward, outward_at}
 use Rattle.tri_mesh.specs.declared.outward.Outward.{Outward}
 use Rattle.funnels.proofs.Trees.{before_at_home}
 use Rattle.funnels.proofs.Vertices.{fitted_simple}
-use Rattle.shared_funnel.proofs.Entrances.{beyond_at, third_below}
+use Rattle.shared_funnel.proofs.Entrances.{beyond_at, from_start, third_below}
 use Rattle.shared_funnel.proofs.Numbers.{point_there}
 use Rattle.shared_funnel.proofs.ReachedBefore.{before_third}
 use Rattle.shared_funnel.proofs.StepCounts.{home_steps, three_digits}
@@ -27,6 +28,12 @@ use Rattle.pair_cut.proofs.NumberedRows.{corner_of_some, itself_told, other_told
 use Rattle.pair_cut.specs.Doors.{IsGrownTo, IsOnWay, IsTangentTo, tangent_at}
 use Rattle.pair_cut.specs.Rows.{IsNumberBefore, IsRow}
 use Rattle.pair_cut.specs.declared.climb.Tangent.{Tangent}
+
+-- an order outward from a triangle with vertex i at a corner is one from that vertex
+pub from_vertex : (corners : List Point) (i : ℕ) (tris : List Tri) (k : ℕ) (order : List Outward) → Fits corners tris → k < length tris
+    → HasCorner (tri_at tris k) i → IsOutward tris k order → IsFromStart corners (vertex corners i) tris order
+from_vertex corners i tris k order fits within has =
+    from_start corners (vertex corners i) tris k order fits within (corner_in corners tris fits k within i has)
 
 module _ (corners : List Point) (i : ℕ) (tris : List Tri) (order : List Outward) (from : IsFromStart corners (vertex corners i) tris order) where
   abbrev start : Point

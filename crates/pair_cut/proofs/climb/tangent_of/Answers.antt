@@ -22,14 +22,8 @@ returns-in-Some-climb-clause-tangent g c = λ points place climbs.
 
 pub returns-in-Some-climb-clause-steps : goal.returns-in-Some-climb-clause-steps
 returns-in-Some-climb-clause-steps g c =
-    let (points, place, climbs) = c.requires.climbs in
-    omega (
-      arith,
-      c.climb.ensures.steps _ _ climbs.on_left,
-      c.climb-2.ensures.steps _ _ climbs.on_right,
-      climbs.within,
-      climbs.few,
-    )
+    let (_, _, climbs) = c.requires.climbs in
+    omega (arith, c.climb.ensures.steps _ _ climbs.on_left, c.climb-2.ensures.steps _ _ climbs.on_right, climbs.within, climbs.few)
 
 pub returns-clause-tangent : goal.returns-clause-tangent
 returns-clause-tangent g c = λ points place climbs.
@@ -39,11 +33,5 @@ returns-clause-tangent g c = λ points place climbs.
 
 pub returns-clause-steps : goal.returns-clause-steps
 returns-clause-steps g c =
-    let (points, place, climbs) = c.requires.climbs in
-    omega (
-      arith,
-      c.climb.ensures.steps _ _ climbs.on_left,
-      c.climb-2.ensures.steps _ _ climbs.on_right,
-      climbs.within,
-      climbs.few,
-    )
+    let (_, _, climbs) = c.requires.climbs in
+    omega (arith, c.climb.ensures.steps _ _ climbs.on_left, c.climb-2.ensures.steps _ _ climbs.on_right, climbs.within, climbs.few)

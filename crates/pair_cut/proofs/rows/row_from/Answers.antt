@@ -1,12 +1,9 @@
 use Rattle.std.proofs.Common.{◌≡◌, sym, subst, ◌+◌, ◌≤◌, length, arith}
-use Rattle.rings.specs.Ring.{vertex}
 use Rattle.meshes.proofs.Sides.{two_fewer}
 use Rattle.meshes.specs.Side.{tri_at}
 use Rattle.tri_mesh.specs.Corner.{HasCorner}
-use Rattle.shared_funnel.proofs.Entrances.{from_start}
-use Rattle.shared_funnel.proofs.TriCorners.{corner_in}
 use Rattle.pair_cut.proofs.NumberedRows.{corner_of_some}
-use Rattle.pair_cut.proofs.RowGrowth.{grown_at_home, places_paid, row_of_grown}
+use Rattle.pair_cut.proofs.RowGrowth.{from_vertex, grown_at_home, places_paid, row_of_grown}
 use Rattle.pair_cut.proofs.rows.row_from.Goals as goal
 use Rattle.pair_cut.specs.Doors.{IsGrownTo}
 
@@ -20,8 +17,7 @@ loop-p-init g c =
     let i = c.args.i in
     let home = c.triangle_at-home.ensures in
     let order = c.in_ok-order.order.items in
-    let from = from_start corners (vertex corners i) tris c.triangle_at-home.result order c.requires.fits home.in_list
-    (corner_in corners tris c.requires.fits c.triangle_at-home.result home.in_list i home.corner) c.in_ok-order.ensures in
+    let from = from_vertex corners i tris _ order c.requires.fits home.in_list home.corner c.in_ok-order.ensures in
     let count = two_fewer corners tris c.requires.fits in
     record {
       later = omega arith;
@@ -35,12 +31,8 @@ loop-p-init g c =
 
 pub go_on-requires-clause-start : goal.go_on-requires-clause-start
 go_on-requires-clause-start g c =
-    let corners = g.T.Turns.corners c.args.board.now in
-    let tris = c.args.mesh.now in
     let home = c.triangle_at-home.ensures in
-    rw c.deref.ensures.value
-    (from_start corners (vertex corners c.args.i) tris c.triangle_at-home.result c.in_ok-order.order.items c.requires.fits home.in_list
-    (corner_in corners tris c.requires.fits c.triangle_at-home.result home.in_list c.args.i home.corner) c.in_ok-order.ensures)
+    rw c.deref.ensures.value (from_vertex _ c.args.i _ _ _ c.requires.fits home.in_list home.corner c.in_ok-order.ensures)
 
 pub returns-clause-row : goal.returns-clause-row
 returns-clause-row g c =
@@ -49,8 +41,7 @@ returns-clause-row g c =
     let i = c.args.i in
     let home = c.triangle_at-home.ensures in
     let order = c.in_ok-order.order.items in
-    let from = from_start corners (vertex corners i) tris c.triangle_at-home.result order c.requires.fits home.in_list
-    (corner_in corners tris c.requires.fits c.triangle_at-home.result home.in_list i home.corner) c.in_ok-order.ensures in
+    let from = from_vertex corners i tris _ order c.requires.fits home.in_list home.corner c.in_ok-order.ensures in
     let last : c.loop-p.p ≡ length order =
     omega (
       arith,
