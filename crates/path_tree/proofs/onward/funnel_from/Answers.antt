@@ -3,7 +3,7 @@ use Rattle.std.proofs.lemmas.Result.{IfOk-weaker}
 use Rattle.meshes.proofs.Sides.{two_fewer}
 use Rattle.shared_funnel.proofs.Entrances.{toward_below}
 use Rattle.shared_funnel.proofs.NextFunnels.{apex_in, few_digits, few_points, funnel_on_left, funnel_on_right}
-use Rattle.shared_funnel.specs.Entered.{IsFunnelTo, at_place, left_of, right_of, toward}
+use Rattle.shared_funnel.specs.Entered.{toward}
 use Rattle.path_tree.proofs.onward.funnel_from.Goals as goal
 
 pub door_of-requires-clause-in_list : goal.door_of-requires-clause-in_list
@@ -21,61 +21,45 @@ door_of-third-requires-clause-side g c =
     (c.requires.start.outward.joined (toward c.args.order.now c.args.p) c.requires.inner below).side
 
 pub to_right-requires-clause-apex : goal.to_right-requires-clause-apex
-to_right-requires-clause-apex g c = apex_in _ _ _ _ c.requires.start (toward c.args.order.now c.args.p) _ c.requires.funnel
+to_right-requires-clause-apex g c = apex_in _ _ _ _ c.requires.start _ _ c.requires.funnel
 
 pub to_right-requires-clause-room : goal.to_right-requires-clause-room
 to_right-requires-clause-room g c =
     let below = toward_below _ _ _ _ c.requires.start c.args.p c.requires.later c.requires.within in
-    let few = few_points _ _ _ _ c.requires.start (toward c.args.order.now c.args.p) c.args.funnel.now below c.requires.funnel in
+    let few = few_points _ _ _ _ c.requires.start _ _ below c.requires.funnel in
     omega (arith, few, two_fewer _ _ c.requires.start.fits, c.count-count.ensures.few)
 
 pub to_left-requires-clause-apex : goal.to_left-requires-clause-apex
-to_left-requires-clause-apex g c = apex_in _ _ _ _ c.requires.start (toward c.args.order.now c.args.p) _ c.requires.funnel
+to_left-requires-clause-apex g c = apex_in _ _ _ _ c.requires.start _ _ c.requires.funnel
 
 pub to_left-requires-clause-room : goal.to_left-requires-clause-room
 to_left-requires-clause-room g c =
     let below = toward_below _ _ _ _ c.requires.start c.args.p c.requires.later c.requires.within in
-    let few = few_points _ _ _ _ c.requires.start (toward c.args.order.now c.args.p) c.args.funnel.now below c.requires.funnel in
+    let few = few_points _ _ _ _ c.requires.start _ _ below c.requires.funnel in
     omega (arith, few, two_fewer _ _ c.requires.start.fits, c.count-count.ensures.few)
 
 pub returns-then-door_of-third-clause-funnel : goal.returns-then-door_of-third-clause-funnel
 returns-then-door_of-third-clause-funnel g c =
-    let corners = g.T.Turns.corners c.args.board.now in
-    let start = g.T.Turns.start c.args.board.now in
-    let tris = c.args.mesh.now in
-    let order = c.args.order.now in
-    let p = c.args.p in
-    let q = toward order p in
-    IfOk-weaker c.to_right.result _ (IsFunnelTo corners start tris order p)
-    (λ f next. funnel_on_right _ _ _ _ c.requires.start p c.requires.later c.requires.within c.requires.inner c.args.funnel.now c.requires.funnel
+    IfOk-weaker c.to_right.result _ _
+    (λ f next. funnel_on_right _ _ _ _ c.requires.start c.args.p c.requires.later c.requires.within c.requires.inner _ c.requires.funnel
     c.args.place c.requires.place _ _ c.door_of.ensures.right c.door_of-third.ensures.third f c.if-door_of-third.true
-    (λ beyond reached side. next corners start tris (at_place order q) (left_of tris order q) (right_of tris order q) (at_place order p)
-    q c.requires.start.fits beyond c.requires.funnel reached side))
+    (λ beyond reached side. next _ _ _ _ _ _ _ _ c.requires.start.fits beyond c.requires.funnel reached side))
     c.to_right.ensures.funnel
 
 pub returns-then-door_of-third-clause-steps : goal.returns-then-door_of-third-clause-steps
 returns-then-door_of-third-clause-steps g c =
     let below = toward_below _ _ _ _ c.requires.start c.args.p c.requires.later c.requires.within in
-    let few = few_digits _ _ _ _ c.requires.start (toward c.args.order.now c.args.p) c.args.funnel.now below c.requires.funnel in
-    omega (arith, c.to_right.ensures.steps, few.1)
+    omega (arith, c.to_right.ensures.steps, (few_digits _ _ _ _ c.requires.start _ _ below c.requires.funnel).1)
 
 pub returns-else-door_of-third-clause-funnel : goal.returns-else-door_of-third-clause-funnel
 returns-else-door_of-third-clause-funnel g c =
-    let corners = g.T.Turns.corners c.args.board.now in
-    let start = g.T.Turns.start c.args.board.now in
-    let tris = c.args.mesh.now in
-    let order = c.args.order.now in
-    let p = c.args.p in
-    let q = toward order p in
-    IfOk-weaker c.to_left.result _ (IsFunnelTo corners start tris order p)
-    (λ f next. funnel_on_left _ _ _ _ c.requires.start p c.requires.later c.requires.within c.requires.inner c.args.funnel.now c.requires.funnel
+    IfOk-weaker c.to_left.result _ _
+    (λ f next. funnel_on_left _ _ _ _ c.requires.start c.args.p c.requires.later c.requires.within c.requires.inner _ c.requires.funnel
     c.args.place c.requires.place _ _ c.door_of.ensures.right c.door_of-third.ensures.third f c.if-door_of-third.false
-    (λ beyond reached side. next corners start tris (at_place order q) (left_of tris order q) (right_of tris order q) (at_place order p)
-    q c.requires.start.fits beyond c.requires.funnel reached side))
+    (λ beyond reached side. next _ _ _ _ _ _ _ _ c.requires.start.fits beyond c.requires.funnel reached side))
     c.to_left.ensures.funnel
 
 pub returns-else-door_of-third-clause-steps : goal.returns-else-door_of-third-clause-steps
 returns-else-door_of-third-clause-steps g c =
     let below = toward_below _ _ _ _ c.requires.start c.args.p c.requires.later c.requires.within in
-    let few = few_digits _ _ _ _ c.requires.start (toward c.args.order.now c.args.p) c.args.funnel.now below c.requires.funnel in
-    omega (arith, c.to_left.ensures.steps, few.1)
+    omega (arith, c.to_left.ensures.steps, (few_digits _ _ _ _ c.requires.start _ _ below c.requires.funnel).1)
