@@ -12,8 +12,8 @@ abbrev pub key_of : List Point → ℕ → ℕ
 key_of ring v = (raised (vertex ring v).x * 16777216 + raised (vertex ring v).y) * 65536 + v
 
 -- the vertex of a key
-abbrev pub number_of : ℕ → ℕ
-number_of key = key % 65536
+abbrev pub keyed_number : ℕ → ℕ
+keyed_number key = key % 65536
 
 -- the keys of the first vertices, `count` of them
 pub record AreKeys (ring : List Point) (count : ℕ) (keys : List ℕ) : Type 0 where

@@ -5,7 +5,7 @@ ghost use Rattle.plane.specs.declared.limits.TheConstants.{MAX_CORNERS};
 ghost use Rattle.rings.specs.Events.{AreEvents};
 ghost use Rattle.rings.specs.Ring.{vertex};
 ghost use Rattle.rings.specs.Simple.{IsSimple};
-ghost use Rattle.ring_check.specs.Keys.{AreKeys, key_of, number_of, raised};
+ghost use Rattle.ring_check.specs.Keys.{AreKeys, key_of, keyed_number, raised};
 ghost use Rattle.ring_check.specs.Order.{IsInOrder};
 
 use crate::clash::corner;
@@ -71,7 +71,7 @@ fn raised(z: i64) -> u64
 
 // The numbers of the vertices with these keys.
 fn numbers_of(alloc: Global, keys: &[u64]) -> Result<Vec<u32>, Memory>
-    ensures { IfOk result (λ numbers. numbers.items ≡ map number_of keys.now) }
+    ensures { IfOk result (λ numbers. numbers.items ≡ map keyed_number keys.now) }
 {
     let mut numbers = Vec::with_capacity(alloc, keys.len())?;
     for key in keys {

@@ -12,12 +12,12 @@ use Rattle.plane.specs.Order.{IsBefore}
 use Rattle.plane.specs.Point.{IsInBounds, IsInLimit, Point}
 use Rattle.plane.specs.declared.limits.TheConstants.{MAX_CORNERS}
 use Rattle.rings.specs.Ring.{vertex}
-use Rattle.ring_check.specs.Keys.{AreKeys, key_of, number_of, raised}
+use Rattle.ring_check.specs.Keys.{AreKeys, key_of, keyed_number, raised}
 
 -- the key of a vertex of the ring
 pub record IsKey (ring : List Point) (key : ℕ) : Type 0 where
-  pub below : number_of key < length ring
-  pub is : key ≡ key_of ring (number_of key)
+  pub below : keyed_number key < length ring
+  pub is : key ≡ key_of ring (keyed_number key)
 
 raised_small : (z : ℤ) → IsInLimit z → raised z < 16777216
 raised_small z limit = grind (arith, ints)
@@ -26,7 +26,7 @@ raised_rises : (a b : ℤ) → IsInLimit a → a <ℤ b → raised a < raised b
 raised_rises a b limit less = grind (arith, ints)
 
 -- the number is what is left of the key
-pub number_is : (ring : List Point) (v : ℕ) → v < 65536 → number_of (key_of ring v) ≡ v
+pub number_is : (ring : List Point) (v : ℕ) → v < 65536 → keyed_number (key_of ring v) ≡ v
 number_is ring v small = mod-mul-add (raised (vertex ring v).x * 16777216 + raised (vertex ring v).y) 65536 v small
 
 -- the key of the vertex that comes before is the lesser one
@@ -42,7 +42,7 @@ key_rises ring v w small in_v in_w before =
 
 -- two keys have one number
 abbrev is_same : ℕ → ℕ → Bool
-is_same s t = nat_eq (number_of s) (number_of t)
+is_same s t = nat_eq (keyed_number s) (keyed_number t)
 
 -- the test of two numbers
 not_same : (i j : ℕ) → i < j → nat_eq i j ≡ false
@@ -56,7 +56,7 @@ same_back i j = grind (arith, nat_tests)
 
 module _ (ring : List Point) (few : length ring ≤ MAX_CORNERS) (keys : List ℕ) (are : AreKeys ring (length ring) keys) where
   -- each key has the number of its vertex
-  numbered : (v d : ℕ) → v < length ring → number_of (slice_index_or keys v d) ≡ v
+  numbered : (v d : ℕ) → v < length ring → keyed_number (slice_index_or keys v d) ≡ v
   numbered v d below = rw (are.each v d below) (number_is ring v (omega (arith, few, below)))
 
   -- each is the key of a vertex,
@@ -84,7 +84,7 @@ module _ (ring : List Point) (few : length ring ≤ MAX_CORNERS) (keys : List �
     moved_has v below = Contains-permutation keys moved (key_of ring v) is_moved (v, omega (arith, are.all, below), are.each v (key_of ring v) below)
 
     -- different keys have different numbers
-    pub moved_apart : (i j d : ℕ) → i < j → j < length moved → ¬ (number_of (slice_index_or moved i d) ≡ number_of (slice_index_or moved j d))
+    pub moved_apart : (i j d : ℕ) → i < j → j < length moved → ¬ (keyed_number (slice_index_or moved i d) ≡ keyed_number (slice_index_or moved j d))
     moved_apart i j d less within =
         differ _ _ (apart_from_distinct is_same moved i j d
-        (IsDistinct-IsPermutation is_same (λ s t. same_back (number_of s) (number_of t)) keys moved is_moved all_apart) less within)
+        (IsDistinct-IsPermutation is_same (λ s t. same_back (keyed_number s) (keyed_number t)) keys moved is_moved all_apart) less within)

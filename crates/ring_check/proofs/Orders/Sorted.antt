@@ -14,13 +14,13 @@ use Rattle.rings.specs.Ring.{vertex}
 use Rattle.rings.specs.Simple.{IsSimple}
 use Rattle.ring_laws.proofs.Vertices.{same_number}
 use Rattle.ring_check.proofs.Orders.Keys.{IsKey, key_rises, moved_apart, moved_has, moved_keys, moved_length, number_is}
-use Rattle.ring_check.specs.Keys.{AreKeys, key_of, number_of}
+use Rattle.ring_check.specs.Keys.{AreKeys, key_of, keyed_number}
 use Rattle.ring_check.specs.Order.{IsInOrder}
 
 -- as many numbers as vertices
 pub moved_numbers : (ring : List Point) → length ring ≤ MAX_CORNERS → (keys : List ℕ) → AreKeys ring (length ring) keys → (moved : List ℕ)
-    → IsPermutation keys moved → length (map number_of moved) ≡ length ring
-moved_numbers ring few keys are moved is_moved = length-map moved number_of ∙ moved_length ring few keys are moved is_moved
+    → IsPermutation keys moved → length (map keyed_number moved) ≡ length ring
+moved_numbers ring few keys are moved is_moved = length-map moved keyed_number ∙ moved_length ring few keys are moved is_moved
 
 -- a key is not above the next
 not_above : (s t : ℕ) → is_lt (nat_cmp t s) ≡ false → ¬ (t < s)
@@ -39,29 +39,29 @@ module _ (ring : List Point) (few : length ring ≤ MAX_CORNERS) (simple : IsSim
 
   -- the numbers of the vertices
   abbrev numbers : List ℕ
-  numbers = map number_of sorted
+  numbers = map keyed_number sorted
 
   -- each vertex is before the next
   rises : (k : ℕ) → k + 1 < length numbers → IsBefore (vertex ring (slice_index_or numbers k 0)) (vertex ring (slice_index_or numbers (k + 1) 0))
   rises k within =
       let s = slice_index_or sorted k 0 in
       let t = slice_index_or sorted (k + 1) 0 in
-      let inside : k + 1 < length sorted = omega (arith, within, length-map sorted number_of) in
+      let inside : k + 1 < length sorted = omega (arith, within, length-map sorted keyed_number) in
       let is_s = moved_keys ring few keys are sorted moved k 0 (omega (arith, inside)) in
       let is_t = moved_keys ring few keys are sorted moved (k + 1) 0 inside in
       let differ = moved_apart ring few keys are sorted moved k (k + 1) 0 (omega arith) inside in
       let not : ¬ (t < s) = not_above s t (up k 0 (omega arith) inside) in
-      rw (get_or-map number_of sorted k 0 0 (omega (arith, inside)), get_or-map number_of sorted (k + 1) 0 0 inside)
-      (before_of_sorted (number_of s) (number_of t) is_s.below is_t.below differ (subst (λ u. ¬ (key_of ring (number_of t) < u)) is_s.is (subst (λ u. ¬ (u < s)) is_t.is not)))
+      rw (get_or-map keyed_number sorted k 0 0 (omega (arith, inside)), get_or-map keyed_number sorted (k + 1) 0 0 inside)
+      (before_of_sorted (keyed_number s) (keyed_number t) is_s.below is_t.below differ (subst (λ u. ¬ (key_of ring (keyed_number t) < u)) is_s.is (subst (λ u. ¬ (u < s)) is_t.is not)))
 
   pub in_order : IsInOrder ring numbers
   in_order = record {
     all = moved_numbers ring few keys are sorted moved;
-    vertices = All-map (λ v. v < length ring) number_of sorted
-        (All-weaker (IsKey ring) (λ k. number_of k < length ring) (λ k is. is.below) sorted (moved_keys ring few keys are sorted moved));
+    vertices = All-map (λ v. v < length ring) keyed_number sorted
+        (All-weaker (IsKey ring) (λ k. keyed_number k < length ring) (λ k is. is.below) sorted (moved_keys ring few keys are sorted moved));
     each = λ v below.
         let (k, within, is) = moved_has ring few keys are sorted moved v below in
-        let inside : k < length numbers = omega (arith, within, length-map sorted number_of) in
-        (k, inside, get_or-map number_of sorted k (key_of ring v) v within ∙ ap number_of is ∙ number_is ring v (omega (arith, few, below)));
+        let inside : k < length numbers = omega (arith, within, length-map sorted keyed_number) in
+        (k, inside, get_or-map keyed_number sorted k (key_of ring v) v within ∙ ap keyed_number is ∙ number_is ring v (omega (arith, few, below)));
     rises = rises;
   }
