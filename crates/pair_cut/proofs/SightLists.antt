@@ -85,15 +85,6 @@ module _ (before : List (List ℕ)) where
         ],
       ))
 
-  -- at first there are none
-  pub told_none : AreToldBefore before (0, 0) []
-  told_none = record {
-    told = λ p inside. let h = inside.1 in absurd (omega arith);
-    earlier = λ p inside. let h = inside.1 in absurd (omega arith);
-    all = λ p told earlier. elim earlier [ inl less ↦ absurd (omega arith) | inr h ↦ let less = h.1 in absurd (omega arith) ];
-    sorted = λ k l h in_list. absurd (omega arith);
-  }
-
   -- ---- in a ring
 
   module _ (ring : List Point) (made : IsMadeFor ring before) where

@@ -1,5 +1,5 @@
 -- One more triangle that a search reaches, and the triangles at the sides of one.
-use Rattle.std.proofs.Common.{◌≡◌, refl, sym, ap, ◌∙◌, ℕ, ◌+◌, ◌<◌, ◌≤◌, ◌^◌, inl, inr, List, [], ◌∷◌, ◌++◌, length, map, arith}
+use Rattle.std.proofs.Common.{◌≡◌, sym, ap, ◌∙◌, ℕ, ◌+◌, ◌<◌, ◌≤◌, ◌^◌, inl, inr, List, [], ◌∷◌, ◌++◌, length, map, arith}
 use Rattle.std.proofs.Common.{None, get_or, length-append, replicate}
 use Rattle.std.proofs.Math.ListN.{set, length-map, length-replicate, length-set}
 use Rattle.std.proofs.lemmas.Bool.{cases_eq}
@@ -42,10 +42,6 @@ few_places order places n known in_list =
     let one = one_place order places known i j i_below j_below (sym (number_at order i 0 i_below) ∙ same ∙ number_at order j 0 j_below) in
     omega arith) in
     omega arith
-
--- nothing was changed
-pub grown_same : (order : List Outward) → IsGrown order order
-grown_same order = record { longer = omega arith; kept = λ p h. refl }
 
 -- one change after another
 pub grown_twice : (a b c : List Outward) → IsGrown a b → IsGrown b c → IsGrown a c
@@ -144,12 +140,6 @@ module _ (tris : List Tri) (order : List Outward) (places : List ℕ) (s : IsSea
     known = more_known;
     joined = more_joined;
   }
-
-  pub grown_more : IsGrown order more
-  grown_more = record { longer = omega (arith, length_more); kept = at_earlier }
-
-  pub reached_more : IsReached more k
-  reached_more = (length order, omega (arith, length_more), ap (λ (o : Outward). o.tri) (at_last (length order) refl))
 
 -- the search that has reached one triangle
 pub search_one : (tris : List Tri) (home : ℕ) → length tris < 2 ^ 30 → home < length tris
