@@ -2,7 +2,8 @@
 use Rattle.std.proofs.Common.{◌≡◌, sym, ap, subst, ◌∙◌, ℕ, ◌+◌, ◌-◌, ◌<◌, ◌≤◌, List, [], ◌∷◌, ◌++◌, length, get_or, take, drop, arith}
 use Rattle.std.proofs.lemmas.List.{drop_more, get_or_default, take_all, take_more}
 use Rattle.std.proofs.lemmas.List.Elements.{All-from_get_or}
-use Rattle.std.specs.List.{All, AllPairs, filter}
+use Rattle.std.proofs.Math.Seq.{take-append_seam}
+use Rattle.std.specs.List.{All, AllPairs, filter, refill}
 use Rattle.plane.specs.Point.{Point}
 use Rattle.rings.specs.Ring.{vertex}
 use Rattle.cut_tri.proofs.DiagonalCuts.{parts_cut}
@@ -14,6 +15,11 @@ use Rattle.cut_tri.specs.Cut.{IsFarthest}
 use Rattle.cut_tri.specs.Cutting.{AreDiagonalPieces}
 use Rattle.cut_tri.specs.Ordered.{ArePlaces, IsFarthestNumber, IsLeastPlace, IsOrderOf, is_in_first, is_in_second}
 use Rattle.cut_tri.specs.Piece.{IsPiece}
+
+-- items that are written back as they were
+pub refilled : (n : ℕ) (xs ws : List ℕ) → n ≡ length xs → ws ≡ xs → refill n xs ws ≡ xs
+refilled n xs ws size same =
+    ap (refill n xs) same ∙ ap (λ m. take m (xs ++ drop (length xs) xs)) size ∙ take-append_seam xs (drop (length xs) xs)
 
 module _ (corners : List Point) (xs os : List ℕ) (piece : IsPiece corners xs) (is : IsOrderOf corners xs os) where
   -- its numbers are those of vertices,

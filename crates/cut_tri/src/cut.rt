@@ -108,7 +108,7 @@ pub(crate) fn corner_of(boundary: &VecDeque<u32>) -> Tri
 fn parts(
     alloc: Global,
     ring: &Ring,
-    piece: Piece,
+    mut piece: Piece,
     number: u32,
     places: &mut [usize],
 ) -> Result<(Piece, Piece), Memory>
@@ -119,7 +119,7 @@ fn parts(
     ensures ordered { IfOk result (λ parts. AreOrdered ring.now.corners (Remains.Parts parts.0 parts.1)) }
     ensures places { length places.new ≡ length places.old }
 {
-    note_places(&piece.boundary, places);
+    note_places(piece.boundary.make_contiguous(), places);
     let place = places[number as usize];
     let count = piece.boundary.len();
     let (first_order, second_order) = part_order(alloc, &piece.order, places, place, count)?;

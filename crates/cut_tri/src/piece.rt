@@ -60,11 +60,11 @@ fn likely_place(boundary: &VecDeque<u32>, number: u32) -> usize
 }
 
 // Writes for each vertex of the piece its place on the boundary.
-pub(crate) fn note_places(boundary: &VecDeque<u32>, places: &mut [usize])
-    requires numbers { All (λ i. i < length places.old) boundary.now.items }
-    requires different { AllPairs (λ i j. ¬ (i ≡ j)) boundary.now.items }
+pub(crate) fn note_places(boundary: &[u32], places: &mut [usize])
+    requires numbers { All (λ i. i < length places.old) boundary.now }
+    requires different { AllPairs (λ i j. ¬ (i ≡ j)) boundary.now }
     ensures same_length { length places.new ≡ length places.old }
-    ensures places { ArePlaces boundary.now.items places.new (length boundary.now.items) }
+    ensures places { ArePlaces boundary.now places.new (length boundary.now) }
 {
     for place in 0..boundary.len() {
         places[boundary[place] as usize] = place;

@@ -5,5 +5,5 @@ use Rattle.cut_tri.specs.Ordered.{ArePlaces}
 abbrev pub invariant-loop-place : goal.invariant-loop-place
 invariant-loop-place l = record {
   length : length l.places ≡ length l.initial.places;
-  places : ArePlaces l.boundary.items l.places l.place;
+  places : ArePlaces l.boundary l.places l.place;
 }
