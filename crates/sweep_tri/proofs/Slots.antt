@@ -16,6 +16,11 @@ use Rattle.sweep_tri.specs.declared.gap.Gap.{Gap}
 pub gaps_count : (slots : List Gap) (numbers : List ℕ) → length (gaps_of slots numbers) ≡ length numbers
 gaps_count slots numbers = length-map numbers (gap_at slots)
 
+-- so the place of a gap is that of a number
+pub number_in : (slots : List Gap) (numbers : List ℕ) (gaps : List Gap) (j : ℕ) → gaps_of slots numbers ≡ gaps → j < length gaps
+    → j < length numbers
+number_in slots numbers gaps j is less = omega (arith, less, gaps_count slots numbers, ap length is)
+
 -- the gap at a place is the one in the slot of the number there
 pub gap_is : (slots : List Gap) (numbers : List ℕ) (j : ℕ) → j < length numbers
     → gap_at (gaps_of slots numbers) j ≡ gap_at slots (slice_index numbers j)
