@@ -178,21 +178,21 @@ module _ (ring : List Point) (p : Triple) (at_p : IsPoint p) where
   module _ (b : BoundingBox) (k : ℕ) (h : EnclosesEdge ring b k) where
     -- an edge in a box that the ray misses is not crossed,
     pub passed_in_missed : IsBoxMissed b p → IsPassed (vertex ring k) (vertex ring (k + 1)) p false
-    passed_in_missed (inl above) = passed_above (vertex ring k) (vertex ring (k + 1)) p at_p (above _ h.from_bounds h.from) (above _ h.to_bounds h.to)
-    passed_in_missed (inr (inl below)) = passed_below (vertex ring k) (vertex ring (k + 1)) p at_p (below _ h.from_bounds h.from) (below _ h.to_bounds h.to)
-    passed_in_missed (inr (inr left)) = passed_left (vertex ring k) (vertex ring (k + 1)) p at_p (left _ h.from_bounds h.from) (left _ h.to_bounds h.to)
+    passed_in_missed (inl (inl above)) = passed_above (vertex ring k) (vertex ring (k + 1)) p at_p (above _ h.from_bounds h.from) (above _ h.to_bounds h.to)
+    passed_in_missed (inl (inr below)) = passed_below (vertex ring k) (vertex ring (k + 1)) p at_p (below _ h.from_bounds h.from) (below _ h.to_bounds h.to)
+    passed_in_missed (inr left) = passed_left (vertex ring k) (vertex ring (k + 1)) p at_p (left _ h.from_bounds h.from) (left _ h.to_bounds h.to)
 
     -- and one in a box above the point, below it or right of it is where its ends are on both sides of its height
     pub passed_in_passed : IsBoxPassed b p → IsPassed (vertex ring k) (vertex ring (k + 1)) p (is_between_ends (is_above k) (is_above (k + 1)))
-    passed_in_passed (inl above) =
+    passed_in_passed (inl (inl above)) =
         subst (IsPassed (vertex ring k) (vertex ring (k + 1)) p)
         (sym (ends_above _ _ p.Y (above _ h.from_bounds h.from) (above _ h.to_bounds h.to)))
         (passed_above (vertex ring k) (vertex ring (k + 1)) p at_p (above _ h.from_bounds h.from) (above _ h.to_bounds h.to))
-    passed_in_passed (inr (inl below)) =
+    passed_in_passed (inl (inr below)) =
         subst (IsPassed (vertex ring k) (vertex ring (k + 1)) p)
         (sym (ends_below _ _ p.Y (below _ h.from_bounds h.from) (below _ h.to_bounds h.to)))
         (passed_below (vertex ring k) (vertex ring (k + 1)) p at_p (below _ h.from_bounds h.from) (below _ h.to_bounds h.to))
-    passed_in_passed (inr (inr right)) = passed_right (vertex ring k) (vertex ring (k + 1)) p at_p (right _ h.from_bounds h.from) (right _ h.to_bounds h.to)
+    passed_in_passed (inr right) = passed_right (vertex ring k) (vertex ring (k + 1)) p at_p (right _ h.from_bounds h.from) (right _ h.to_bounds h.to)
 
   module _ (first end : ℕ) (some : first < end) (within : end ≤ length ring) where
     -- where each edge is passed by in a way that its ends tell, all of them are
@@ -291,4 +291,4 @@ module _ (ring : List Point) (first end : ℕ) (some : first < end) (within : en
         → IsTrue last_above ↔ (p.Y <ℤ (Point.y (vertex ring end) *ℤ p.W))
         → IsOddOver ring first end p (is_between_ends first_above last_above)
     block_crossed right =
-        over_passed ring p at_p first end some (omega (arith, within)) (λ k from below. passed_in_passed ring p at_p b k (enclosed_edge k from below) (inr (inr right)))
+        over_passed ring p at_p first end some (omega (arith, within)) (λ k from below. passed_in_passed ring p at_p b k (enclosed_edge k from below) (inr right))

@@ -2,7 +2,7 @@
 ghost use Rattle.std.specs.Int.{int_div_euclid};
 ghost use Rattle.std.specs.Prelude.{◌≡◌, ◌↔◌, ◌<◌, ◌≤◌, ◌^◌, ◌<ℤ◌, ◌≤ℤ◌, ◌*ℤ◌, ℤ, IsTrue, pos, unsigned_abs};
 ghost use Rattle.plane.specs.Point.{IsInLimit, IsPoint, IsSame, Triple, whole};
-ghost use Rattle.inside_test.specs.Block.{IsBoxMissed, IsBoxPassed, IsBoxRight, IsEachBox};
+ghost use Rattle.inside_test.specs.Block.{IsBoxMissed, IsBoxOffHeight, IsBoxPassed, IsBoxRight, IsEachBox};
 ghost use Rattle.inside_test.specs.Level.{AreLevels, IsLevel};
 
 use exact_plane::{BoundingBox, Hom, Pt, Steps};
@@ -138,13 +138,18 @@ impl Levels {
         self.across.is_above(v.parts(steps).0)
     }
 
+    // Whether all that is in this box is above the point, or below it.
+    fn is_off_height(&self, around: &BoundingBox) -> bool
+        ensures { IsTrue result → (p : Triple) → AreLevels self.now p → IsBoxOffHeight around.now p }
+    {
+        self.height.is_below_from(around.south) || self.height.is_above_to(around.north)
+    }
+
     // Whether all that is in this box is above the point, below it or left of it: a ray to the right misses it.
     pub(crate) fn misses(&self, around: &BoundingBox) -> bool
         ensures { IsTrue result → (p : Triple) → AreLevels self.now p → IsBoxMissed around.now p }
     {
-        self.height.is_below_from(around.south)
-            || self.height.is_above_to(around.north)
-            || self.across.is_above_to(around.east)
+        self.is_off_height(around) || self.across.is_above_to(around.east)
     }
 
     // Whether all of the box is right of the point.
@@ -159,9 +164,7 @@ impl Levels {
     fn passes(&self, around: &BoundingBox) -> bool
         ensures { IsTrue result → (p : Triple) → AreLevels self.now p → IsBoxPassed around.now p }
     {
-        self.height.is_below_from(around.south)
-            || self.height.is_above_to(around.north)
-            || self.across.is_below_from(around.west)
+        self.is_off_height(around) || self.is_left_of_all(around)
     }
 
     // Whether it misses each of the four boxes.

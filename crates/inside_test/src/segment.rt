@@ -75,21 +75,36 @@ fn breakpoints<L: Ledger>(
     let mut points = Vec::new(alloc);
     push(&mut points, Hom::of_pt(a, steps), steps)?;
     push(&mut points, Hom::of_pt(b, steps), steps)?;
-    let n = ring.len();
-    if n <= BLOCK {
-        push_block(&mut points, ring, 0, n, a, b, steps)?;
-        return Ok(points);
-    }
-    let around = BoundingBox::of(&[*a, *b], steps);
-    match runs {
-        Some(runs) => push_edges(&mut points, ring, runs, a, b, &around, steps)?,
-        None => push_edges(&mut points, ring, &ByBlocks, a, b, &around, steps)?,
-    }
+    push_edges(&mut points, ring, runs, a, b, steps)?;
     Ok(points)
 }
 
-// Appends what the segment, which is in the box, has in common with all edges, to its ends.
-fn push_edges<S: Skip, L: Ledger>(
+// Appends what the segment has in common with all edges.
+fn push_edges<L: Ledger>(
+    points: &mut Vec<Breakpoint>,
+    ring: &Ring,
+    runs: Option<&Runs>,
+    a: &Pt,
+    b: &Pt,
+    steps: &mut Steps<L>,
+) -> Result<(), Memory>
+    requires runs { IfSome runs (λ runs. runs.now ≡ ring.now.corners) }
+    requires before { ListsMeetings ring.now.corners 0 (whole a.now) (whole b.now) (breakpoint_points points.old.items) }
+    ensures { OnOk result (ListsMeetings ring.now.corners (length ring.now.corners) (whole a.now) (whole b.now) (breakpoint_points points.new.items)) }
+{
+    let n = ring.len();
+    if n <= BLOCK {
+        return push_block(points, ring, 0, n, a, b, steps);
+    }
+    let around = BoundingBox::of(&[*a, *b], steps);
+    match runs {
+        Some(runs) => push_with(points, ring, runs, a, b, &around, steps),
+        None => push_with(points, ring, &ByBlocks, a, b, &around, steps),
+    }
+}
+
+// The same by what knows of edges beforehand. The segment is in the box.
+fn push_with<S: Skip, L: Ledger>(
     points: &mut Vec<Breakpoint>,
     ring: &Ring,
     skip: &S,

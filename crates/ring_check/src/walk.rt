@@ -56,7 +56,7 @@ impl<'a> Runs<'a> {
         }
     }
 
-    /// The number of the greatest run that begins at this edge. Where a short run ends, a next one begins.
+    /// The number of the greatest run that begins at this edge. Short runs begin at each multiple of `RUN`, and no run elsewhere.
     pub fn greatest_from(&self, first: usize) -> Option<usize> {
         let mut k = first / RUN;
         if first % RUN != 0 || self.runs.len() <= k {
@@ -73,7 +73,7 @@ impl<'a> Runs<'a> {
         Some(k)
     }
 
-    /// The number of the first of the two that a run joins.
+    /// The number of the first of the two runs that one joins, or `None` for a short run. It begins at the same edge.
     pub fn lesser(&self, k: usize) -> Option<usize>
         ensures { IfSome result (λ number. number < k) }
     {

@@ -1,10 +1,15 @@
-use Rattle.inside_test.proofs.PointLists.{lists_past}
+use Rattle.std.proofs.Common.{arith}
+use Rattle.rings.specs.Ring.{origin}
 use Rattle.inside_test.proofs.segment.push_edges.Goals as goal
-use Rattle.inside_test.specs.Breakpoints.{breakpoint_points}
 
-pub loop-first-preserved-then-first-apart : goal.loop-first-preserved-then-first-apart
-loop-first-preserved-then-first-apart g c = (
-  lists_past c.args.ring.now.corners c.args.a.now c.args.b.now c.loop-first.first c.apart_to-apart.result (breakpoint_points c.loop-first.points.items)
-      c.loop-first.invariant.0 c.apart_to-apart.ensures.apart,
-  c.apart_to-apart.ensures.within,
-)
+pub push_with-requires-clause-has_first : goal.push_with-requires-clause-has_first
+push_with-requires-clause-has_first g c = c.of-around.ensures.within 0 (omega arith) origin
+
+pub push_with-requires-clause-has_last : goal.push_with-requires-clause-has_last
+push_with-requires-clause-has_last g c = c.of-around.ensures.within 1 (omega arith) origin
+
+pub push_with-requires-in-None-clause-has_first : goal.push_with-requires-in-None-clause-has_first
+push_with-requires-in-None-clause-has_first g c = c.of-around.ensures.within 0 (omega arith) origin
+
+pub push_with-requires-in-None-clause-has_last : goal.push_with-requires-in-None-clause-has_last
+push_with-requires-in-None-clause-has_last g c = c.of-around.ensures.within 1 (omega arith) origin

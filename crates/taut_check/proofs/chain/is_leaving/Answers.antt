@@ -1,11 +1,12 @@
-use Rattle.std.proofs.Common.{arith}
+use Rattle.std.proofs.Common.{◌≡◌, ◌+◌, arith}
+use Rattle.rings.specs.Chain.{point_at}
 use Rattle.taut_check.proofs.Leaving.{leaves_last, leaves_unseen, stays_where_seen}
 use Rattle.taut_check.proofs.chain.is_leaving.Goals as goal
 
 pub returns-then-k-points : goal.returns-then-k-points
 returns-then-k-points g c =
-    leaves_unseen c.args.ring.now.corners c.args.points.now c.args.k _ _ _ c.point-from.ensures c.point-to.ensures (omega arith)
-    c.in_ok-holds_segment_by.ensures
+    let at_to : c.point-to.result ≡ point_at c.args.points.now (c.args.k + 1) = grind (arith, c.point-to.ensures) in
+    leaves_unseen c.args.ring.now.corners c.args.points.now c.args.k _ _ _ c.point-from.ensures at_to (omega arith) c.in_ok-holds_segment_by.ensures
 
 pub returns-then-k-gt0 : goal.returns-then-k-gt0
 returns-then-k-gt0 g c = (
