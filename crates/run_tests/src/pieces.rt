@@ -229,7 +229,8 @@ fn pieces(rt: HostRuntime) -> Result<(), Fail> {
     Ok(())
 }
 
-// With a counter over a ledger that nobody else counts in: those of the table, and those of the greatest length and of one byte more.
+// The pieces of the table, and then one of the greatest length and one of a byte more, with a counter over a ledger that nobody else
+// counts in.
 fn all_pieces<N: Ledger>(rt: &impl Abort, alloc: Global, blank: Blank) -> Result<(), Memory>
     requires name { blank.name ≡ N.name }
     requires parts { blank.parts ≡ N.parts }
