@@ -148,14 +148,14 @@ module _ (corners : List Point) (i : ℕ) (tris : List Tri) (order : List Outwar
   -- ---- at all places
 
   -- each vertex is on the way, so it is the row of vertex i
-  pub row_of_grown : i < length corners → (before : List ℕ) (tangents : List Tangent)
-      → IsGrownTo corners i tris order (length order) before tangents → IsRow corners i before
-  row_of_grown vertex_in before tangents grown =
+  pub row_of_grown : i < length corners → (p : ℕ) → p ≡ length order → (before : List ℕ) (tangents : List Tangent)
+      → IsGrownTo corners i tris order p before tangents → IsRow corners i before
+  row_of_grown vertex_in p last before tangents grown =
       let simple = fitted_simple corners tris from.fits in
       let told = λ (j : ℕ) (below : j < length corners).
       let (k, within, has) = corner_of_some corners tris from.fits j below in
-      let (p, less, is) = from.outward.all k within in
-      grown.told j (p, less, subst (λ l. HasCorner (tri_at tris l) j) (sym is) has) in
+      let (q, less, is) = from.outward.all k within in
+      grown.told j (q, omega (arith, less, last), subst (λ l. HasCorner (tri_at tris l) j) (sym is) has) in
       record {
         count = grown.vertices;
         itself = itself_told corners simple i (slice_index before i) (told i vertex_in);

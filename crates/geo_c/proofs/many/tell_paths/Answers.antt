@@ -1,12 +1,11 @@
-use Rattle.std.proofs.Common.{◌≡◌, ◌∙◌, ◌<◌, ◌/◌, ℕ, Option, ap, refl, subst, sym, arith, length}
+use Rattle.std.proofs.Common.{◌≡◌, ◌∙◌, ◌<◌, ℕ, Option, ap, refl, subst, sym, arith, length}
 use Rattle.plane.specs.Point.{Point}
 use Rattle.geo_c.specs.Held.{talk_of}
 use Rattle.geo_c.specs.Many.{ArePathsTold, Buffers, IsPathFound, asked_pairs}
 use Rattle.geo_c.specs.Room.{IsPathPut}
 use Rattle.geo_c.specs.Told.{TellsResult}
 use Rattle.geo_c.specs.declared.status.TheConstants.{MEMORY, OK}
-use Rattle.geo_c.proofs.Filling.{least_of}
-use Rattle.geo_c.proofs.Pairs.{asked_at, length_asked}
+use Rattle.geo_c.proofs.Pairs.{asked_at, asked_fits, length_asked}
 use Rattle.geo_c.proofs.Paths.{all_paths, no_paths, no_room, one_path, rest_of, some_told, still_told, with_rest}
 use Rattle.geo_c.proofs.many.tell_paths.Goals as goal
 
@@ -24,14 +23,9 @@ pairs-preserved g c =
     let k = c.pairs.k in
     let s : Point = c.index-ends-k.result in
     let t : Point = c.index-ends-k-in-pairs.result in
-    let m = c.min.result in
-    let below_m = least_of (length c.args.statuses.now) (length c.args.lengths.now) m c.min.ensures in
-    let below_n = least_of (length ends / 2) m c.min-k-end.result c.min-k-end.ensures in
-    let few : k < length ends / 2 = omega (arith, c.pairs-test.true, below_n.0) in
-    let fits : k < length c.args.statuses.now = omega (arith, c.pairs-test.true, below_n.1, below_m.0) in
-    let fits' : k < length c.args.lengths.now = omega (arith, c.pairs-test.true, below_n.1, below_m.1) in
-    let there : k < length asked = omega (arith, c.pairs-test.true, length_asked ends before m c.min-k-end.result c.min.ensures c.min-k-end.ensures) in
-    let is = asked_at ends before k s t few fits fits' c.index-ends-k.is c.index-ends-k-in-pairs.is in
+    let there : k < length asked = omega (arith, c.pairs-test.true, length_asked ends before c.min.result c.min-k-end.result c.min.ensures c.min-k-end.ensures) in
+    let (fits, fits') = asked_fits ends before k there in
+    let is = asked_at ends before k s t there c.index-ends-k.is c.index-ends-k-in-pairs.is in
     let talk = talk_of c.args.session.now.held in
     let talk' = talk_of c.pairs.session.held in
     let told = subst (λ (o : Option (ℕ × ℕ)). TellsResult (IsPathFound talk' (s, t)) (IsPathPut o (rest_of c.pairs.used c.pairs.points) c.tell_path.new.points))
@@ -53,14 +47,8 @@ returns-in-Ok-None-clause-paths g c =
     let k = c.pairs.k in
     let s : Point = c.index-ends-k.result in
     let t : Point = c.index-ends-k-in-pairs.result in
-    let m = c.min.result in
-    let below_m = least_of (length c.args.statuses.now) (length c.args.lengths.now) m c.min.ensures in
-    let below_n = least_of (length ends / 2) m c.min-k-end.result c.min-k-end.ensures in
-    let few : k < length ends / 2 = omega (arith, c.pairs-test.true, below_n.0) in
-    let fits : k < length c.args.statuses.now = omega (arith, c.pairs-test.true, below_n.1, below_m.0) in
-    let fits' : k < length c.args.lengths.now = omega (arith, c.pairs-test.true, below_n.1, below_m.1) in
-    let there : k < length asked = omega (arith, c.pairs-test.true, length_asked ends before m c.min-k-end.result c.min.ensures c.min-k-end.ensures) in
-    let is = asked_at ends before k s t few fits fits' c.index-ends-k.is c.index-ends-k-in-pairs.is in
+    let there : k < length asked = omega (arith, c.pairs-test.true, length_asked ends before c.min.result c.min-k-end.result c.min.ensures c.min-k-end.ensures) in
+    let is = asked_at ends before k s t there c.index-ends-k.is c.index-ends-k-in-pairs.is in
     let talk = talk_of c.args.session.now.held in
     let talk' = talk_of c.pairs.session.held in
     let told = subst (λ (o : Option (ℕ × ℕ)). TellsResult (IsPathFound talk' (s, t)) (IsPathPut o (rest_of c.pairs.used c.pairs.points) c.tell_path.new.points))

@@ -5,7 +5,6 @@ use Rattle.tri_mesh.specs.Corner.{HasCorner}
 use Rattle.pair_cut.proofs.NumberedRows.{corner_of_some}
 use Rattle.pair_cut.proofs.RowGrowth.{from_vertex, grown_at_home, places_paid, row_of_grown}
 use Rattle.pair_cut.proofs.rows.row_from.Goals as goal
-use Rattle.pair_cut.specs.Doors.{IsGrownTo}
 
 pub triangle_at-home-requires : goal.triangle_at-home-requires
 triangle_at-home-requires g c = corner_of_some (g.T.Turns.corners c.args.board.now) c.args.mesh.now c.requires.fits c.args.i c.requires.vertex
@@ -36,13 +35,9 @@ go_on-requires-clause-start g c =
 
 pub returns-clause-row : goal.returns-clause-row
 returns-clause-row g c =
-    let corners = g.T.Turns.corners c.args.board.now in
-    let tris = c.args.mesh.now in
-    let i = c.args.i in
     let home = c.triangle_at-home.ensures in
-    let order = c.in_ok-order.order.items in
-    let from = from_vertex corners i tris _ order c.requires.fits home.in_list home.corner c.in_ok-order.ensures in
-    let last : c.loop-p.p ≡ length order =
+    let from = from_vertex _ c.args.i _ _ _ c.requires.fits home.in_list home.corner c.in_ok-order.ensures in
+    let last : c.loop-p.p ≡ length c.in_ok-order.order.items =
     omega (
       arith,
       c.loop-p-test.false,
@@ -52,8 +47,7 @@ returns-clause-row g c =
       c.in_ok-order.ensures.count,
       home.in_list,
     ) in
-    row_of_grown corners i tris order from c.requires.vertex c.loop-p.row.before.items c.loop-p.row.tangents.items
-    (subst (λ p. IsGrownTo corners i tris order p c.loop-p.row.before.items c.loop-p.row.tangents.items) last c.loop-p.invariant.grown)
+    row_of_grown _ _ _ _ from c.requires.vertex _ last _ _ c.loop-p.invariant.grown
 
 pub returns-clause-steps : goal.returns-clause-steps
 returns-clause-steps g c =
