@@ -1,5 +1,5 @@
 -- What commands are answered, with what changes.
-use Rattle.std.proofs.Common.{◌≡◌, inl, inr, refl, ap, ap₂, true, false, ℕ, ℤ, List, length, Ok, Err}
+use Rattle.std.proofs.Common.{◌≡◌, Box, Global, inl, inr, refl, ap, ap₂, true, false, ℕ, ℤ, List, length, Ok, Err}
 use Rattle.std.specs.Prelude.{Option, Some, None}
 use Rattle.plane.specs.Point.{Point, whole}
 use Rattle.rings.proofs.Simple.{no_least_clash}
@@ -29,6 +29,7 @@ use Rattle.geo_session.specs.Tree.{AreFrom}
 use Rattle.geo_session.specs.declared.ask.Asked.{Asked}
 use Rattle.geo_session.specs.declared.ask.Change.TheVariants as change
 use Rattle.geo_session.specs.declared.grown.Grown.{Grown}
+use Rattle.geo_session.specs.declared.held.Held.{Held}
 
 -- a reply that changes nothing
 abbrev pub still : Reply → Asked
@@ -65,8 +66,8 @@ plain version held _ answered is h = record { is_reply = h; suits = tt; state = 
 
 module _ (version : Version) (held : Option HeldRing) (ring : List Point) where
   -- it is taken, with no tree and no table,
-  pub taken : (new : HeldRing) (count : ℕ) → IsSimple ring → count ≡ length ring → given_of new.ring ≡ ring → new.source ≡ None → new.prepared ≡ false
-      → IsAskedOf version held (command.Polygon ring) (record { reply = reply.Number word.Polygon count; change = change.Polygon new })
+  pub taken : (new : Box Held Global) (count : ℕ) → IsSimple ring → count ≡ length ring → given_of new.value.ring ≡ ring → new.value.source ≡ None
+      → new.value.prepared ≡ false → IsAskedOf version held (command.Polygon ring) (record { reply = reply.Number word.Polygon count; change = change.Polygon new })
   taken new count simple counted same none not = record {
     is_reply = accepted simple (ap (reply.Number word.Polygon) counted);
     suits = tt;

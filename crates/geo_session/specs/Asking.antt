@@ -31,7 +31,7 @@ version_after other before = before
 abbrev pub held_after : Change → Option HeldRing → Option HeldRing
 held_after change.Nothing held = held
 held_after change.Two held = None
-held_after (change.Polygon new) held = Some new
+held_after (change.Polygon new) held = Some new.value
 held_after (change.Tree grown) None = None
 held_after (change.Tree grown) (Some held) = Some (record { ring = held.ring; tris = held.tris; source = Some grown.source; prepared = held.prepared })
 held_after (change.Table table) None = None

@@ -33,7 +33,7 @@ pub(crate) enum Change {
     // Version 2, with no polygon.
     Two,
     // A polygon, in the place of the one before.
-    Polygon(Held),
+    Polygon(Box<Held>),
     // A tree in the polygon, in the place of the one before.
     Tree(Grown),
     // The table of the paths between all pairs of vertices.
@@ -77,7 +77,7 @@ fn ask_polygon<L: Ledger>(
     match Ring::of(points.into_vec(), steps) {
         Ok(ring) => Ok(Asked {
             reply: Reply::Number(Word::Polygon, u64::from(ring.len())),
-            change: Change::Polygon(Held::of(alloc, ring, steps)?),
+            change: Change::Polygon(Box::new(alloc, Held::of(alloc, ring, steps)?)?),
         }),
         Err(RingFault::Clash(i, j)) => Ok(unchanged(Reply::Refused(Bad::Clash(i, j)))),
         Err(RingFault::Few | RingFault::Many) => unreachable!(),
@@ -165,7 +165,7 @@ pub(crate) fn commit(two: &mut bool, held: &mut Option<Held>, change: Change)
             *two = true;
             *held = None;
         }
-        Change::Polygon(new) => *held = Some(new),
+        Change::Polygon(new) => *held = Some(Box::into_inner(new)),
         Change::Tree(grown) => {
             if let Some(held) = held {
                 held.keep(grown);
