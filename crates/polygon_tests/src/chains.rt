@@ -3,6 +3,7 @@ ghost use Rattle.std.specs.Prelude.{◌≡◌, ◌<◌};
 
 use crate::reading::ring_of;
 use exact_plane::{Pt, Steps};
+use geo_gen::{comb, comb_goal, comb_start};
 use plane::MAX_CHAIN;
 use plane_tests::rows::{points_of, row_of};
 use ring_check::Ring;
@@ -15,6 +16,9 @@ use taut_check::{Verdict, check};
 const L_SHAPE: &str = "0,0 4,0 4,2 2,2 2,4 0,4";
 
 const L_BACKWARD: &str = "0,4 2,4 2,2 4,2 4,0 0,0";
+
+// The teeth of a comb in which a check of its path leaves out runs of edges.
+const TEETH: u32 = 600;
 
 // A list, and what it is in the L: taut, or the first rule that it breaks, with a place in the list.
 const CHAINS: &str = "\
@@ -57,6 +61,7 @@ fn all_chains<L: Ledger, R: Abort>(rt: &R, alloc: Global, blank: Blank)
         }
         assert!(rt; is_longest_judged(alloc, &ring, &mut steps) == Some(true));
     }
+    assert!(rt; is_way_of_comb_judged(alloc, &mut steps) == Some(true));
 }
 
 fn is_judged<L: Ledger>(
@@ -78,6 +83,29 @@ fn is_longest_judged<L: Ledger>(alloc: Global, ring: &Ring, steps: &mut Steps<L>
         points.extend_from_slice(&there_and_back).ok()?;
     }
     Some(points.len() == MAX_CHAIN && judged(alloc, ring, &points, steps)? == Verdict::Straight(1))
+}
+
+// The path through a comb, and the same without one of its points.
+fn is_way_of_comb_judged<L: Ledger>(alloc: Global, steps: &mut Steps<L>) -> Option<bool> {
+    let vertices = comb(alloc, TEETH).ok()?;
+    let mut path = Vec::new(alloc);
+    path.push(comb_start()).ok()?;
+    for tooth in 1..TEETH {
+        let number = if tooth % 2 == 1 {
+            tooth
+        } else {
+            2 * TEETH + 1 - tooth
+        };
+        path.push(*vertices.get(number as usize)?).ok()?;
+    }
+    path.push(comb_goal(TEETH)).ok()?;
+    let ring = Ring::of(vertices, steps).ok()?;
+    let is_taut = judged(alloc, &ring, &path, steps)? == Verdict::Taut;
+    if path.len() < 400 {
+        return None;
+    }
+    path.remove(300);
+    Some(is_taut && judged(alloc, &ring, &path, steps)? == Verdict::Leaves(299))
 }
 
 fn judged<L: Ledger>(
