@@ -18,6 +18,9 @@ use std::alloc::Global;
 use std::cmp::Ordering;
 use std::sync::ledger::Ledger;
 
+// A segment seldom has more breakpoints than these.
+const FEW: usize = 8;
+
 // For more breakpoints than these, runs of edges pay for themselves.
 const MANY: usize = 512;
 
@@ -72,7 +75,7 @@ fn breakpoints<L: Ledger>(
     requires { IfSome runs (λ runs. runs.now ≡ ring.now.corners) }
     ensures { IfOk result (λ points. ListsMeetings ring.now.corners (length ring.now.corners) (whole a.now) (whole b.now) (breakpoint_points points.items)) }
 {
-    let mut points = Vec::new(alloc);
+    let mut points = Vec::with_capacity(alloc, FEW)?;
     push(&mut points, Hom::of_pt(a, steps), steps)?;
     push(&mut points, Hom::of_pt(b, steps), steps)?;
     push_edges(&mut points, ring, runs, a, b, steps)?;
@@ -226,7 +229,7 @@ fn is_listed(points: &[Breakpoint], p: &Breakpoint) -> bool
     ensures { IsTrue result → IsListed (breakpoint_points points.now) p.now.point }
 {
     let last = points.len().saturating_sub(1);
-    is_listed_at(points, 0, p) || is_listed_at(points, 1, p) || is_listed_at(points, last, p)
+    is_listed_at(points, last, p) || is_listed_at(points, 0, p) || is_listed_at(points, 1, p)
 }
 
 // Whether the point at this place is the same as this one.

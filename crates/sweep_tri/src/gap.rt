@@ -313,11 +313,11 @@ fn front_of(path: &[u32]) -> (u32, u32)
     (before_last(path), last(path))
 }
 
-// A chain of two vertices.
+// A chain of two vertices, with room for two more.
 fn two(alloc: Global, a: u32, b: u32) -> Result<Vec<u32>, Memory>
     ensures { IfOk result (λ path. path.items ≡ a ∷ b ∷ []) }
 {
-    let mut path = Vec::with_capacity(alloc, 2)?;
+    let mut path = Vec::with_capacity(alloc, 4)?;
     path.push(a)?;
     path.push(b)?;
     Ok(path)
