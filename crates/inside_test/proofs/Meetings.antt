@@ -1,13 +1,19 @@
 -- What two segments have in common lies between points that are listed.
-use Rattle.std.proofs.Common.{◌≡◌, ◌≢◌, inl, inr, List, pos, sym, subst}
+use Rattle.std.proofs.Common.{◌≡◌, ◌≢◌, ◌↔◌, ◌∙◌, ◌-ℤ◌, Bool, IsTrue, true, false, arith, inl, inr, List, not, pos, refl, sym, subst}
+use Rattle.std.specs.Bool.{beq}
+use Rattle.std.proofs.Math.IntN.{*ℤ_comm}
+use Rattle.std.proofs.lemmas.Int.{ints}
 use Rattle.std.proofs.lemmas.List.Elements.{Contains-push}
 use Rattle.std.specs.List.{Contains}
 use Rattle.plane.proofs.Points.{same_refl, same_sym, same_trans, whole_is_point}
-use Rattle.plane.proofs.Segments.{on_first_end, on_is_straight, on_same_point, around_of_line, first_on_line, last_on_line, one_meeting}
+use Rattle.plane.proofs.Segments.{as_far, on_first_end, on_is_straight, on_last_end, on_same_point, around_of_line, first_on_line, last_on_line, one_meeting}
 use Rattle.plane.specs.Line.{cross_product}
 use Rattle.plane.specs.Point.{IsPoint, IsSame, Point, Triple, whole}
 use Rattle.plane.specs.Segment.{Meet, On}
-use Rattle.plane.specs.Turn.{IsStraight}
+use Rattle.plane.specs.Turn.{IsStraight, determinant}
+use Rattle.exact_plane.proofs.Directions.{straight_of_zero, zero_of_straight}
+use Rattle.exact_plane.specs.Direction.{turn_of}
+use Rattle.exact_plane.specs.declared.direction.Direction.TheVariants.{Straight}
 use Rattle.inside_test.specs.Breakpoints.{EnclosesAll, IsListed, Lists}
 
 module _ (a b c d : Point) where
@@ -45,6 +51,37 @@ module _ (a b c d : Point) where
     encloses_crossing old new (inl e) =
         encloses_same new (record { point = m; rational = at_m; listed = subst (λ l. Contains l m) (sym e) (Contains-push old m); same = same_refl m })
     encloses_crossing old new (inr (e, k)) = subst (λ l. EnclosesAll l (whole a) (whole b) (whole c) (whole d)) (sym e) (encloses_same old k)
+
+  -- of parallels the ends of the first are as far from the line of the second
+  level_ends : cross_product a b c d ≡ pos 0 → determinant (whole c) (whole d) (whole a) ≡ determinant (whole c) (whole d) (whole b)
+  level_ends parallel =
+      omega (arith, ints, parallel, as_far c d a b, *ℤ_comm (b.x -ℤ a.x) (d.y -ℤ c.y), *ℤ_comm (b.y -ℤ a.y) (d.x -ℤ c.x))
+
+  -- where that line passes one end of the first and not the other, all that they have in common is that end
+  pub encloses_first_end : IsStraight (whole c) (whole d) (whole a) → ¬ IsStraight (whole c) (whole d) (whole b)
+      → (points : List Triple) → Contains points (whole a) → EnclosesAll points (whole a) (whole b) (whole c) (whole d)
+  encloses_first_end on off points listed =
+      encloses_same (whole a) (whole_is_point a) (λ parallel. off (sym (level_ends parallel) ∙ on))
+      (on_is_straight (whole a) (whole a) (whole b) (whole_is_point a) (whole_is_point a) (whole_is_point b) (on_first_end (whole a) (whole b))) on
+      points (record { point = whole a; rational = whole_is_point a; listed = listed; same = same_refl (whole a) })
+
+  pub encloses_last_end : IsStraight (whole c) (whole d) (whole b) → ¬ IsStraight (whole c) (whole d) (whole a)
+      → (points : List Triple) → Contains points (whole b) → EnclosesAll points (whole a) (whole b) (whole c) (whole d)
+  encloses_last_end on off points listed =
+      encloses_same (whole b) (whole_is_point b) (λ parallel. off (level_ends parallel ∙ on))
+      (on_is_straight (whole b) (whole a) (whole b) (whole_is_point b) (whole_is_point a) (whole_is_point b) (on_last_end (whole a) (whole b))) on
+      points (record { point = whole b; rational = whole_is_point b; listed = listed; same = same_refl (whole b) })
+
+  -- the same by two tests
+  pub encloses_one_end : (first last : Bool) → IsTrue first ↔ (turn_of (whole c) (whole d) (whole a) ≡ Straight)
+      → IsTrue last ↔ (turn_of (whole c) (whole d) (whole b) ≡ Straight) → IsTrue (not (beq first last))
+      → (points : List Triple) → Contains points (whole a) → Contains points (whole b) → EnclosesAll points (whole a) (whole b) (whole c) (whole d)
+  encloses_one_end true true on_first on_last differ points has_a has_b = absurd cc
+  encloses_one_end true false on_first on_last differ points has_a has_b =
+      encloses_first_end (zero_of_straight _ (on_first.0 refl)) (λ on. let wrong = on_last.1 (straight_of_zero _ on) in cc) points has_a
+  encloses_one_end false true on_first on_last differ points has_a has_b =
+      encloses_last_end (zero_of_straight _ (on_last.0 refl)) (λ on. let wrong = on_first.1 (straight_of_zero _ on) in cc) points has_b
+  encloses_one_end false false on_first on_last differ points has_a has_b = absurd cc
 
   -- parallel ones: the ends of the first, and those of the second on it, enclose all
   pub encloses_parallel : (points : List Triple) → cross_product a b c d ≡ pos 0 → Contains points (whole a) → Contains points (whole b)

@@ -1,18 +1,21 @@
 ghost use Rattle.std.specs.List.{AllAdjacentBelow, Contains};
-ghost use Rattle.std.specs.Prelude.{◌≡◌, ◌↔◌, ◌++◌, ◌∷◌, [], ◌<◌, ◌≤◌, IfOk, IfSome, IsTrue, OnOk, OnErr, length};
+ghost use Rattle.std.specs.Prelude.{◌≡◌, ◌↔◌, ◌++◌, ◌∷◌, [], ◌<◌, ◌≤◌, List, IfOk, IfSome, IsTrue, OnOk, OnErr, length};
 ghost use Rattle.plane.specs.Line.{mediant};
-ghost use Rattle.plane.specs.Point.{IsPoint, whole};
+ghost use Rattle.plane.specs.Point.{IsPoint, Triple, whole};
 ghost use Rattle.plane.specs.Segment.{On};
 ghost use Rattle.rings.specs.Inside.{IsIn};
 ghost use Rattle.rings.specs.Sees.{Sees};
 ghost use Rattle.exact_plane.specs.Boxes.{Encloses};
+ghost use Rattle.exact_plane.specs.Direction.{turn_of};
 ghost use Rattle.exact_plane.specs.Size.{IsNarrow};
 ghost use Rattle.inside_test.specs.Breakpoints.{EnclosesAll, ExtendsOnSegment, IsListed, Lists, ListsMeetings, breakpoint_points};
 
 use crate::breakpoint::Breakpoint;
 use crate::position::{BLOCK, Position, place_by};
 use crate::skip::{ByBlocks, Skip};
-use exact_plane::{BoundingBox, Hom, Memory, Pt, Steps, on_segment, segments_meet};
+use exact_plane::{
+    BoundingBox, Direction, Hom, Memory, Pt, Steps, on_segment, segments_meet, turn,
+};
 use ring_check::{Ring, Runs};
 use std::alloc::Global;
 use std::cmp::Ordering;
@@ -162,7 +165,7 @@ fn push_block<L: Ledger>(
 }
 
 // Appends what the segment from `a` to `b` has in common with the one from `c` to `d`: one point, or the ends of the
-// second that are on the first.
+// second that are on the first. Its own ends are listed.
 fn push_meetings<L: Ledger>(
     points: &mut Vec<Breakpoint>,
     a: &Pt,
@@ -179,6 +182,9 @@ fn push_meetings<L: Ledger>(
     if !segments_meet(a, b, c, d, steps) {
         return Ok(());
     }
+    if meets_one_end(a, b, c, d, steps) {
+        return Ok(());
+    }
     match Hom::meet(a, b, c, d, steps) {
         Some(m) => push_unlisted(points, m, steps),
         None => {
@@ -186,6 +192,22 @@ fn push_meetings<L: Ledger>(
             push_if_on(points, d, a, b, steps)
         }
     }
+}
+
+// Whether the line through `c` and `d` passes one of `a` and `b` and not the other, so that it meets the segment between
+// them at that end alone.
+fn meets_one_end<L: Ledger>(a: &Pt, b: &Pt, c: &Pt, d: &Pt, steps: &mut Steps<L>) -> bool
+    ensures { IsTrue result → (points : List Triple) → Contains points (whole a.now) → Contains points (whole b.now)
+        → EnclosesAll points (whole a.now) (whole b.now) (whole c.now) (whole d.now) }
+{
+    is_on_line(c, d, a, steps) != is_on_line(c, d, b, steps)
+}
+
+// Whether `p` is on the line through `a` and `b`.
+fn is_on_line<L: Ledger>(a: &Pt, b: &Pt, p: &Pt, steps: &mut Steps<L>) -> bool
+    ensures { IsTrue result ↔ (turn_of (whole a.now) (whole b.now) (whole p.now) ≡ Direction.Straight) }
+{
+    turn(a, b, p, steps) == Direction::Straight
 }
 
 // Appends `p`, if it is on the segment from `a` to `b`.
