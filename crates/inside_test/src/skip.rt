@@ -1,5 +1,5 @@
 // Ways to pass over edges of a ring, many at a time.
-ghost use Rattle.std.specs.Prelude.{◌≡◌, ◌<◌, ◌≤◌, IfSome, IsTrue, List, length};
+ghost use Rattle.std.specs.Prelude.{◌≡◌, ◌+◌, ◌*◌, ◌-◌, ◌<◌, ◌≤◌, IfNone, IfSome, IsTrue, List, length};
 ghost use Rattle.plane.specs.Point.{Point};
 ghost use Rattle.exact_plane.specs.Boxes.{Encloses};
 ghost use Rattle.ring_check.specs.Boxes.{AreBoxed};
@@ -36,7 +36,7 @@ pub(crate) trait Skip {
         ensures apart { MissesEdges ring.now.corners first result a.now b.now };
 
     // A later edge, and where it is known that the point with these levels is on none of those from `first` to before it,
-    // whether an odd number of these is crossed.
+    // whether an odd number of these is crossed. It takes at most 128 steps for each of them.
     fn odd_to<L: Ledger>(
         &self,
         ring: &Ring,
@@ -48,7 +48,8 @@ pub(crate) trait Skip {
         requires some { first < length ring.now.corners }
         ensures later { first < result.0 }
         ensures within { result.0 ≤ length ring.now.corners }
-        ensures odd { IfSome result.1 (λ odd. IsOddTo ring.now.corners levels.now first result.0 odd) };
+        ensures odd { IfSome result.1 (λ odd. IsOddTo ring.now.corners levels.now first result.0 odd) }
+        ensures steps { steps.new ≤ steps.old + 128 * (result.0 - first) };
 }
 
 // The box round a few edges, made anew for each question.
@@ -148,7 +149,7 @@ impl<'a> Skip for Runs<'a> {
 }
 
 // The edge behind the greatest run from edge `first` on that tells whether an odd number of its edges is crossed, and whether
-// one is.
+// one is. It takes 128 steps where there is one, and else none.
 fn odd_by_runs<L: Ledger>(
     ring: &Ring,
     runs: &Runs,
@@ -157,7 +158,9 @@ fn odd_by_runs<L: Ledger>(
     steps: &mut Steps<L>,
 ) -> Option<(u32, bool)>
     requires runs { runs.now ≡ ring.now.corners }
-    ensures { IfSome result (λ found. IsOddAhead ring.now.corners levels.now first found.0 found.1) }
+    ensures ahead { IfSome result (λ found. IsOddAhead ring.now.corners levels.now first found.0 found.1) }
+    ensures steps { steps.new ≤ steps.old + 128 }
+    ensures steps_of_none { IfNone result (steps.new ≡ steps.old) }
 {
     let mut next = runs.greatest_from(first as usize);
     while let Some(k) = next {
@@ -180,7 +183,9 @@ fn odd_over<L: Ledger>(
     steps: &mut Steps<L>,
 ) -> Option<(u32, bool)>
     requires boxed { AreBoxed ring.now.corners edges.now }
-    ensures { IfSome result (λ found. IsOddAhead ring.now.corners levels.now first found.0 found.1) }
+    ensures ahead { IfSome result (λ found. IsOddAhead ring.now.corners levels.now first found.0 found.1) }
+    ensures steps { steps.new ≤ steps.old + 128 }
+    ensures steps_of_none { IfNone result (steps.new ≡ steps.old) }
 {
     if edges.first != first as usize
         || edges.end <= edges.first
