@@ -1,5 +1,5 @@
 // Ways to pass over edges of a ring, many at a time.
-ghost use Rattle.std.specs.Prelude.{◌≡◌, ◌+◌, ◌*◌, ◌-◌, ◌<◌, ◌≤◌, IfNone, IfSome, IsTrue, List, length};
+ghost use Rattle.std.specs.Prelude.{◌≡◌, ◌+◌, ◌*◌, ◌-◌, ◌<◌, ◌≤◌, ◌^◌, ℕ, IfNone, IfSome, IsTrue, List, length};
 ghost use Rattle.plane.specs.Point.{Point};
 ghost use Rattle.exact_plane.specs.Boxes.{Encloses};
 ghost use Rattle.ring_check.specs.Boxes.{AreBoxed};
@@ -17,6 +17,9 @@ pub(crate) trait Skip {
     // It is of the ring with these vertices.
     ghost is_of: { Self → List Point → Type 0 };
 
+    // To ask it for an edge that is apart takes at most so many steps.
+    ghost asks: { Self → ℕ → Type 0 };
+
     // An edge so that none from `first` to before it meets the segment from `a` to `b`, which is in the box. Where none is
     // passed over, that is `first`.
     fn apart_to<L: Ledger>(
@@ -33,7 +36,8 @@ pub(crate) trait Skip {
         requires has_first { Encloses around.now a.now }
         requires has_last { Encloses around.now b.now }
         ensures within { result ≤ length ring.now.corners }
-        ensures apart { MissesEdges ring.now.corners first result a.now b.now };
+        ensures apart { MissesEdges ring.now.corners first result a.now b.now }
+        ensures steps { (most : ℕ) → asks self.now most → steps.new ≤ steps.old + most };
 
     // A later edge, and where it is known that the point with these levels is on none of those from `first` to before it,
     // whether an odd number of these is crossed. It takes at most 128 steps for each of them.
@@ -57,6 +61,8 @@ pub(crate) struct ByBlocks;
 
 impl Skip for ByBlocks {
     ghost is_of = { λ _ _. Unit {0} };
+
+    ghost asks = { λ _ most. 1024 ≤ most };
 
     fn apart_to<L: Ledger>(
         &self,
@@ -108,7 +114,8 @@ fn are_apart<L: Ledger>(
     requires within { end < length ring.now.corners }
     requires has_first { Encloses around.now a.now }
     requires has_last { Encloses around.now b.now }
-    ensures { IsTrue result → MissesEdges ring.now.corners first end a.now b.now }
+    ensures apart { IsTrue result → MissesEdges ring.now.corners first end a.now b.now }
+    ensures steps { steps.new ≡ steps.old + 64 * (end - first + 1) }
 {
     let vertices = &ring.corners()[first as usize..end as usize + 1];
     !around.overlaps(&BoundingBox::of(vertices, steps))
@@ -116,6 +123,8 @@ fn are_apart<L: Ledger>(
 
 impl<'a> Skip for Runs<'a> {
     ghost is_of = { λ runs ring. runs ≡ ring };
+
+    ghost asks = { λ runs most. (d : ℕ) × (length runs < 2 ^ d) × (2048 * d ≤ most) };
 
     fn apart_to<L: Ledger>(
         &self,
