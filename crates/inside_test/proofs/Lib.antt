@@ -7,7 +7,7 @@ mod Adjacent
 mod Neighbours
 mod Odd
 mod Passed
-mod Passing
+pub mod Passing
 mod PointLists
 mod Sizes
 mod Sorting
