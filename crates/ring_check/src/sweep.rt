@@ -7,7 +7,7 @@ ghost use Rattle.ring_check.specs.Order.{IsInOrder};
 
 use crate::events::Events;
 use crate::order::{lexical_order, ranks_of};
-use crate::status::{insert, next, remove, replace};
+use crate::status::{insert_both, next, remove_both, replace};
 use exact_plane::{Memory, Pt, Steps};
 use plane::MAX_CORNERS;
 use std::alloc::Global;
@@ -109,12 +109,10 @@ fn passes<L: Ledger>(events: &Events, status: &mut Vec<u32>, k: u32, steps: &mut
     let v = events.order[k as usize];
     let (u, w) = (previous(events, v), next(events, v));
     match (events.ranks[u as usize] < k, events.ranks[w as usize] < k) {
-        (true, true) => remove(events, status, u, v, u, steps)
-            && remove(events, status, v, v, w, steps),
+        (true, true) => remove_both(events, status, u, v, steps),
         (true, false) => replace(events, status, u, v, v, u, steps),
         (false, true) => replace(events, status, v, u, v, w, steps),
-        (false, false) => insert(events, status, u, v, u, steps)
-            && insert(events, status, v, v, w, steps),
+        (false, false) => insert_both(events, status, u, v, w, steps),
     }
 }
 

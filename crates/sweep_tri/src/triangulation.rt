@@ -15,7 +15,7 @@ use std::alloc::Global;
 use std::sync::ledger::Ledger;
 
 /// Triangles that fit the ring, whose corners are those of the board, by a sweep in the order that the ring keeps, or else in one that is
-/// made here. It takes at most 264 n b steps, as `sweep` does after `lexical`.
+/// made here. It takes at most 64 n + 200 n b steps, n the number of corners and b that of its binary digits.
 pub fn sweep_ring<T: Turns, L: Ledger>(
     alloc: Global,
     ring: &Ring,
@@ -24,7 +24,7 @@ pub fn sweep_ring<T: Turns, L: Ledger>(
 ) -> Result<Vec<Tri>, Memory>
     requires board { T.corners board.now ≡ ring.now.corners }
     ensures fits { IfOk result (λ tris. Fits ring.now.corners tris.items) }
-    ensures steps { steps.new ≤ steps.old + 264 * length ring.now.corners * binary_digits (length ring.now.corners) }
+    ensures steps { steps.new ≤ steps.old + 64 * length ring.now.corners + 200 * length ring.now.corners * binary_digits (length ring.now.corners) }
 {
     let _is_simple = ring.len();
     match ring.order() {
