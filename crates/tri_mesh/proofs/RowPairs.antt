@@ -5,7 +5,7 @@ use Rattle.std.proofs.lemmas.Bool.{cases_eq}
 use Rattle.std.specs.List.{All}
 use Rattle.std.specs.Prelude.{Option, slice_index_or, slice_set}
 use Rattle.tri_mesh.proofs.RowSteps.{has_owner_here, has_owner_kept, owner_cases, owner_kept, with_three}
-use Rattle.tri_mesh.specs.Neighbours.{AreLinked, ArePaired, AreShared, HasMore, HasOwner, IsPartner, owner_at, rows_linked, rows_with, side_at}
+use Rattle.tri_mesh.specs.Neighbours.{AreLinkedRows, ArePaired, AreShared, HasMore, HasOwner, IsPartner, owner_at, rows_linked, rows_with, side_at}
 use Rattle.tri_mesh.specs.declared.sides.Side.{Side}
 
 module _ (m n : ℕ) (sides : List Side) (paired : ArePaired m n sides) where
@@ -14,7 +14,7 @@ module _ (m n : ℕ) (sides : List Side) (paired : ArePaired m n sides) where
       → (side_at sides x).number ≡ (side_at sides y).number → x ≡ y
   same_place x y x_below y_below tri number = omega (arith, paired.place x x_below, paired.place y y_below, tri, number)
 
-  module _ (rows : List (List (Option ℕ))) (linked : AreLinked m sides rows) (p q : ℕ) (p_below : p < length sides) (q_below : q < length sides)
+  module _ (rows : List (List (Option ℕ))) (linked : AreLinkedRows m sides rows) (p q : ℕ) (p_below : p < length sides) (q_below : q < length sides)
       (shared : AreShared (side_at sides p) (side_at sides q)) where
     abbrev s : Side
     s = side_at sides p
@@ -82,7 +82,7 @@ module _ (m n : ℕ) (sides : List Side) (paired : ArePaired m n sides) where
       ]
     ]
 
-    pub linked_after : AreLinked m sides after
+    pub linked_after : AreLinkedRows m sides after
     linked_after = record {
       count = length-set after_first t.tri _ ∙ length-set rows s.tri _ ∙ linked.count;
       three = with_three after_first t s.tri t_row (paired.in_row q q_below) three_first;

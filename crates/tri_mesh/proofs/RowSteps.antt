@@ -6,7 +6,7 @@ use Rattle.std.proofs.lemmas.List.{get_or-replicate, get_or-set_other, get_or-se
 use Rattle.std.proofs.lemmas.List.Elements.{All-set}
 use Rattle.std.specs.List.{All}
 use Rattle.std.specs.Prelude.{Option, slice_index_or, slice_set}
-use Rattle.tri_mesh.specs.Neighbours.{AreLinked, HasOwner, empty_row, owner_at, rows_with, side_at}
+use Rattle.tri_mesh.specs.Neighbours.{AreLinkedRows, HasOwner, empty_row, owner_at, rows_with, side_at}
 use Rattle.tri_mesh.specs.declared.sides.Side.{Side}
 
 -- no row has a triangle yet
@@ -23,7 +23,7 @@ none_at n k number = elim (cases_lt k n) [
 ]
 
 -- at first
-pub not_linked : (m : ℕ) (sides : List Side) → AreLinked m sides (replicate m empty_row)
+pub not_linked : (m : ℕ) (sides : List Side) → AreLinkedRows m sides (replicate m empty_row)
 not_linked m sides = record {
   count = length-replicate m empty_row;
   three = λ k d below. rw (get_or-replicate m k empty_row d (omega (arith, length-replicate m empty_row))) refl;

@@ -6,7 +6,7 @@ use Rattle.meshes.specs.Mesh.{side_begin, side_end}
 use Rattle.meshes.specs.Side.{HasSide, HasSidesOnce, tri_at}
 use Rattle.meshes.specs.declared.tri.Tri.{Tri}
 use Rattle.tri_mesh.proofs.Neighbours.{has_side_numbered}
-use Rattle.tri_mesh.specs.Neighbours.{AreLinked, ArePaired, AreRowsOf, AreShared, AreSidesOf, HaveOwners, IsAcross, IsSideOf, owner_at, side_at}
+use Rattle.tri_mesh.specs.Neighbours.{AreLinkedRows, ArePaired, AreRowsOf, AreShared, AreListedSides, HaveOwners, IsAcross, IsListedSide, owner_at, side_at}
 use Rattle.tri_mesh.specs.declared.sides.Side.{Side}
 
 -- pairs of numbers with the same lower and the same higher one
@@ -58,14 +58,14 @@ module _ (tris : List Tri) (once : HasSidesOnce tris) where
       i j i_below j_below low high
 
   module _ (n : ℕ) where
-    alone : (p q : ℕ) (s t : Side) → IsSideOf tris n p s → IsSideOf tris n q t → s.low ≡ t.low → s.high ≡ t.high → s.tri ≡ t.tri → p ≡ q
+    alone : (p q : ℕ) (s t : Side) → IsListedSide tris n p s → IsListedSide tris n q t → s.low ≡ t.low → s.high ≡ t.high → s.tri ≡ t.tri → p ≡ q
     alone p q s t s_is t_is low high tri =
         let number : s.number ≡ t.number = one_side t.tri s.number t.number t_is.in_list s_is.in_row t_is.in_row
         (rw tri at (sym s_is.low ∙ low ∙ t_is.low)) (rw tri at (sym s_is.high ∙ high ∙ t_is.high)) in
         omega (arith, s_is.place, t_is.place, tri, number)
 
     -- where two triangles have a side between the same corners, they are on both sides of it
-    across_shared : (p q : ℕ) (s t : Side) → IsSideOf tris n p s → IsSideOf tris n q t → AreShared s t → IsAcross tris s.tri s.number t.tri
+    across_shared : (p q : ℕ) (s t : Side) → IsListedSide tris n p s → IsListedSide tris n q t → AreShared s t → IsAcross tris s.tri s.number t.tri
     across_shared p q s t s_is t_is shared =
         let a = side_begin (tri_at tris s.tri) s.number in
         let b = side_end (tri_at tris s.tri) s.number in
@@ -80,7 +80,7 @@ module _ (tris : List Tri) (once : HasSidesOnce tris) where
           | inr back ↦ (t_is.in_list, rw (← back.0, ← back.1) at has_t)
         ]
 
-    module _ (sides : List Side) (are : AreSidesOf tris n sides) where
+    module _ (sides : List Side) (are : AreListedSides tris n sides) where
       third : (p q r : ℕ) → p < length sides → q < length sides → r < length sides → AreShared (side_at sides p) (side_at sides q)
           → AreShared (side_at sides p) (side_at sides r) → q ≡ r
       third p q r p_below q_below r_below one two =
@@ -89,7 +89,7 @@ module _ (tris : List Tri) (once : HasSidesOnce tris) where
           alone q r _ _ (are q q_below) (are r r_below) (sym one.low ∙ two.low) (sym one.high ∙ two.high)
           (once.once _ _ _ _ to_q.0 to_r.0 to_q.1 to_r.1)
 
-      lower_first : (s : Side) (p : ℕ) → IsSideOf tris n p s → s.low ≤ s.high
+      lower_first : (s : Side) (p : ℕ) → IsListedSide tris n p s → s.low ≤ s.high
       lower_first s p is = omega (arith, is.low, is.high)
 
       -- no two of the sides of one triangle, and no three of any, are between the same corners
@@ -104,7 +104,7 @@ module _ (tris : List Tri) (once : HasSidesOnce tris) where
         pairs = third;
       }
 
-      module _ (all : length sides ≡ 3 * length tris) (rows : List (List (Option ℕ))) (linked : AreLinked (length tris) sides rows)
+      module _ (all : length sides ≡ 3 * length tris) (rows : List (List (Option ℕ))) (linked : AreLinkedRows (length tris) sides rows)
           (owners : HaveOwners sides n rows) where
         -- the side of a triangle by its number
         module _ (k number : ℕ) (in_list : k < length tris) (in_row : number < 3) where

@@ -7,7 +7,7 @@ use Rattle.std.specs.Prelude.{Option, max, min, slice_set}
 use Rattle.meshes.specs.Mesh.{side_begin, side_end}
 use Rattle.meshes.specs.Side.{tri_at}
 use Rattle.meshes.specs.declared.tri.Tri.{Tri}
-use Rattle.tri_mesh.specs.Neighbours.{AreChained, AreSidesOf, HasCornersBelow, IsLastAt, IsSideOf, chained_side, mark_at, side_at, up_to}
+use Rattle.tri_mesh.specs.Neighbours.{AreChained, AreListedSides, HasCornersBelow, IsLastAt, IsListedSide, chained_side, mark_at, side_at, up_to}
 use Rattle.tri_mesh.specs.declared.sides.Side.{Side}
 
 -- the higher corner of a side is below the number of corners
@@ -19,7 +19,7 @@ higher_below n t corners (suc (suc (suc k))) h = absurd (omega arith)
 
 -- a side of triangle k in its place
 pub is_side : (tris : List Tri) (n k number : ℕ) (before : Option ℕ) → k < length tris → HasCornersBelow n (tri_at tris k) → number < 3
-    → IsSideOf tris n (3 * k + number) (record {
+    → IsListedSide tris n (3 * k + number) (record {
       low = min (side_begin (tri_at tris k) number) (side_end (tri_at tris k) number);
       high = max (side_begin (tri_at tris k) number) (side_end (tri_at tris k) number);
       tri = k;
@@ -33,16 +33,6 @@ is_side tris n k number before in_list corners in_row = record {
   low = refl;
   high = refl;
   corner = higher_below n (tri_at tris k) corners number in_row;
-}
-
--- the same with none before it
-abbrev pub plain_side : List Tri → ℕ → ℕ → Side
-plain_side tris k number = record {
-  low = min (side_begin (tri_at tris k) number) (side_end (tri_at tris k) number);
-  high = max (side_begin (tri_at tris k) number) (side_end (tri_at tris k) number);
-  tri = k;
-  number = number;
-  before = None;
 }
 
 module _ (xs : List Side) (s : Side) where
@@ -60,7 +50,7 @@ module _ (xs : List Side) (s : Side) where
   read_last : side_at ys (length xs) ≡ s
   read_last = get_or-append_seam xs s [] _
 
-  pub sides_more : (tris : List Tri) (n : ℕ) → AreSidesOf tris n xs → IsSideOf tris n (length xs) s → AreSidesOf tris n ys
+  pub sides_more : (tris : List Tri) (n : ℕ) → AreListedSides tris n xs → IsListedSide tris n (length xs) s → AreListedSides tris n ys
   sides_more tris n are is p below = elim (cases_lt p (length xs)) [
     | inl old ↦ rw (read_before p old) (are p old)
     | inr new ↦ let last : p ≡ length xs = omega (arith, length-more, below) in rw (last, read_last) is
@@ -138,10 +128,11 @@ marks_in_list sides marks chained v p mark = elim (cases_lt v (length marks)) [
 ]
 
 -- with one side more of triangle k
-pub one_more : (tris : List Tri) (n k number : ℕ) → k < length tris → HasCornersBelow n (tri_at tris k) → number < 3 → (xs ys : List Side) (r : Side)
-    (marks : List (Option ℕ)) → length xs ≡ 3 * k + number → AreSidesOf tris n xs → r ≡ plain_side tris k number → ys ≡ xs ++ chained_side r marks ∷ []
-    → (length ys ≡ 3 * k + number + 1) × AreSidesOf tris n ys
-one_more tris n k number in_list corners in_row xs ys r marks long are is pushed =
-    let s : Side = chained_side (plain_side tris k number) marks in
-    let at : IsSideOf tris n (length xs) s = rw long (is_side tris n k number s.before in_list corners in_row) in
-    rw (pushed, is) (omega (arith, length-more xs s, long), sides_more xs s tris n are at)
+pub one_more : (tris : List Tri) (n k number : ℕ) → k < length tris → HasCornersBelow n (tri_at tris k) → number < 3 → (xs ys : List Side)
+    (marks : List (Option ℕ)) → length xs ≡ 3 * k + number → AreListedSides tris n xs
+    → ys ≡ xs ++ chained_side marks (side_begin (tri_at tris k) number) (side_end (tri_at tris k) number) k number ∷ []
+    → (length ys ≡ 3 * k + number + 1) × AreListedSides tris n ys
+one_more tris n k number in_list corners in_row xs ys marks long are pushed =
+    let s : Side = chained_side marks (side_begin (tri_at tris k) number) (side_end (tri_at tris k) number) k number in
+    let at : IsListedSide tris n (length xs) s = rw long (is_side tris n k number s.before in_list corners in_row) in
+    rw pushed (omega (arith, length-more xs s, long), sides_more xs s tris n are at)

@@ -4,11 +4,11 @@ use Rattle.std.proofs.lemmas.Bool.{cases_eq, cases_lt}
 use Rattle.std.proofs.lemmas.List.{get_or-set_other, get_or-set_same, length-set}
 use Rattle.std.specs.Prelude.{Option, slice_set}
 use Rattle.tri_mesh.proofs.RowPairs.{first_has, linked_after, more_after}
-use Rattle.tri_mesh.specs.Neighbours.{AreKept, AreLinked, ArePaired, AreSeen, AreShared, HasOwner, IsLastAt, mark_at, rows_linked, side_at}
+use Rattle.tri_mesh.specs.Neighbours.{AreKept, AreLinkedRows, ArePaired, AreSeen, AreShared, HasOwner, IsLastAt, mark_at, rows_linked, side_at}
 use Rattle.tri_mesh.specs.declared.sides.Side.{Side}
 
 -- none at first
-pub none_seen : (sides : List Side) (v m n : ℕ) (rows : List (List (Option ℕ))) (marks : List (Option ℕ)) → AreLinked m sides rows → length marks ≡ n
+pub none_seen : (sides : List Side) (v m n : ℕ) (rows : List (List (Option ℕ))) (marks : List (Option ℕ)) → AreLinkedRows m sides rows → length marks ≡ n
     → ((i p : ℕ) → mark_at marks i ≡ Some p → p < length sides) → AreSeen sides v (length sides) m n rows marks
 none_seen sides v m n rows marks linked count in_list = record {
   linked = linked;

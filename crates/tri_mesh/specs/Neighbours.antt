@@ -1,6 +1,7 @@
 -- The table of neighbours of a mesh, and the sides from which it is made. This project's own.
 use Rattle.std.specs.List.{All}
-use Rattle.std.specs.Prelude.{◌≡◌, ◌⊎◌, ℕ, ◌+◌, ◌*◌, ◌<◌, ◌≤◌, ◌^◌, Option, Some, None, List, [], ◌∷◌, length, max, min, slice_index_or, slice_set}
+use Rattle.std.specs.Prelude.{◌≡◌, ◌⊎◌, ℕ, ◌+◌, ◌*◌, ◌<◌, ◌≤◌, ◌^◌, List, [], ◌∷◌, length, max, min, slice_index_or, slice_set}
+use Rattle.std.specs.Prelude.{Option, Some, None}
 use Rattle.meshes.specs.Mesh.{side_begin, side_end}
 use Rattle.meshes.specs.Side.{HasSide, HasSidesOnce, IsTree, tri_at}
 use Rattle.meshes.specs.declared.tri.Tri.{Tri}
@@ -37,7 +38,7 @@ pub record HasCornersBelow (n : ℕ) (t : Tri) : Type 0 where
   pub c : t.c < n
 
 -- a side of a triangle of the list, in its place among the sides of all, with corners below n
-pub record IsSideOf (tris : List Tri) (n p : ℕ) (s : Side) : Type 0 where
+pub record IsListedSide (tris : List Tri) (n p : ℕ) (s : Side) : Type 0 where
   pub in_list : s.tri < length tris
   pub in_row : s.number < 3
   pub place : p ≡ 3 * s.tri + s.number
@@ -46,8 +47,8 @@ pub record IsSideOf (tris : List Tri) (n p : ℕ) (s : Side) : Type 0 where
   pub corner : s.high < n
 
 -- all of them are such sides
-abbrev pub AreSidesOf : List Tri → ℕ → List Side → Type 0
-AreSidesOf tris n sides = (p : ℕ) → p < length sides → IsSideOf tris n p (side_at sides p)
+abbrev pub AreListedSides : List Tri → ℕ → List Side → Type 0
+AreListedSides tris n sides = (p : ℕ) → p < length sides → IsListedSide tris n p (side_at sides p)
 
 -- two triangles have them between the same corners
 pub record AreShared (s t : Side) : Type 0 where
@@ -75,9 +76,9 @@ pub record AreChained (sides : List Side) (marks : List (Option ℕ)) : Type 0 w
   pub befores : (p : ℕ) → p < length sides → IsLastAt sides (side_at sides p).high p (side_at sides p).before
   pub lasts : (v : ℕ) → v < length marks → IsLastAt sides v (length sides) (mark_at marks v)
 
--- the side with the last one before it, which the corner had
-abbrev pub chained_side : Side → List (Option ℕ) → Side
-chained_side s marks = record { low = s.low; high = s.high; tri = s.tri; number = s.number; before = mark_at marks s.high }
+-- the side between two corners, with the last one before it, which the higher corner had
+abbrev pub chained_side : List (Option ℕ) → ℕ → ℕ → ℕ → ℕ → Side
+chained_side marks from to tri number = record { low = min from to; high = max from to; tri = tri; number = number; before = mark_at marks (max from to) }
 
 -- the sides of m triangles with corners below n: each in its place, no two of one triangle between the same corners, and no three of any
 pub record ArePaired (m n : ℕ) (sides : List Side) : Type 0 where
@@ -126,7 +127,7 @@ pub record IsPartner (sides : List Side) (p other : ℕ) : Type 0 where
   pub is : other ≡ (side_at sides q).tri
 
 -- rows for m triangles: what a side has is right, and where one of two sides has a triangle the other has one
-pub record AreLinked (m : ℕ) (sides : List Side) (rows : List (List (Option ℕ))) : Type 0 where
+pub record AreLinkedRows (m : ℕ) (sides : List Side) (rows : List (List (Option ℕ))) : Type 0 where
   pub count : length rows ≡ m
   pub three : All (λ row. length row ≡ 3) rows
   pub right : (p other : ℕ) → p < length sides → owner_at rows (side_at sides p).tri (side_at sides p).number ≡ Some other
@@ -140,7 +141,7 @@ HasMore rows after = (s : Side) → HasOwner rows s → HasOwner after s
 
 -- the sides whose higher corner is v were seen, from a place on: each has a triangle, or is marked at its lower corner
 pub record AreSeen (sides : List Side) (v from m n : ℕ) (rows : List (List (Option ℕ))) (marks : List (Option ℕ)) : Type 0 where
-  pub linked : AreLinked m sides rows
+  pub linked : AreLinkedRows m sides rows
   pub count : length marks ≡ n
   pub in_list : (i p : ℕ) → mark_at marks i ≡ Some p → p < length sides
   pub seen : (p : ℕ) → from ≤ p → p < length sides → (side_at sides p).high ≡ v

@@ -1,6 +1,8 @@
-ghost use Rattle.std.specs.Prelude.{◌≡◌, ◌+◌, ◌*◌, ◌<◌, ◌^◌, ℕ, false, IfOk, IsTrue, None, OnOk, Some, [], ◌∷◌, ◌++◌, length, max, min, replicate};
+ghost use Rattle.std.specs.Prelude.{◌≡◌, ◌+◌, ◌*◌, ◌<◌, ◌^◌, ℕ, false, IfOk, IsTrue, None, OnOk, Some};
+ghost use Rattle.std.specs.Prelude.{[], ◌∷◌, ◌++◌, length, max, min, replicate};
 ghost use Rattle.meshes.specs.Side.{HasSidesOnce, tri_at};
-ghost use Rattle.tri_mesh.specs.Neighbours.{AreChained, AreKept, AreLinked, ArePaired, AreRowsOf, AreSeen, AreShared, AreSidesOf, HasCornersBelow};
+ghost use Rattle.tri_mesh.specs.Neighbours.{AreChained, AreKept, AreLinkedRows, AreListedSides, ArePaired, AreRowsOf, AreSeen};
+ghost use Rattle.tri_mesh.specs.Neighbours.{AreShared, HasCornersBelow};
 ghost use Rattle.tri_mesh.specs.Neighbours.{HasMore, HasOwner, IsLastAt, chained_side, empty_row, mark_at, rows_linked, side_at};
 
 use exact_plane::Memory;
@@ -16,21 +18,6 @@ pub(crate) struct Side {
     pub tri: u32,
     pub number: u32,
     pub before: Option<u32>,
-}
-
-impl Side {
-    // The side from one corner to another.
-    fn of(from: u32, to: u32, tri: u32, number: u32) -> Side
-        ensures { result ≡ record { low = min from to; high = max from to; tri = tri; number = number; before = None } }
-    {
-        Side {
-            low: from.min(to),
-            high: from.max(to),
-            tri,
-            number,
-            before: None,
-        }
-    }
 }
 
 // For each triangle a row: the triangles on the other sides of its sides. No list is sorted: each corner has a mark. First that is the
@@ -70,37 +57,45 @@ fn sides_of(alloc: Global, tris: &[Tri], marks: &mut [Option<u32>]) -> Result<Ve
     requires none { (v : ℕ) → mark_at marks.old v ≡ None }
     ensures count { length marks.new ≡ length marks.old }
     ensures number { IfOk result (λ sides. length sides.items ≡ 3 * length tris.now) }
-    ensures sides { IfOk result (λ sides. AreSidesOf tris.now (length marks.old) sides.items) }
+    ensures sides { IfOk result (λ sides. AreListedSides tris.now (length marks.old) sides.items) }
     ensures chained { IfOk result (λ sides. AreChained sides.items marks.new) }
 {
     let mut sides = Vec::with_capacity(alloc, 3 * tris.len())?;
     for (k, tri) in tris.iter().enumerate() {
-        add(&mut sides, marks, Side::of(tri.a, tri.b, k as u32, 0))?;
-        add(&mut sides, marks, Side::of(tri.b, tri.c, k as u32, 1))?;
-        add(&mut sides, marks, Side::of(tri.c, tri.a, k as u32, 2))?;
+        add(&mut sides, marks, tri.a, tri.b, k as u32, 0)?;
+        add(&mut sides, marks, tri.b, tri.c, k as u32, 1)?;
+        add(&mut sides, marks, tri.c, tri.a, k as u32, 2)?;
     }
     Ok(sides)
 }
 
-// Appends a side, which becomes the last one at its higher corner.
-fn add(sides: &mut Vec<Side>, marks: &mut [Option<u32>], side: Side) -> Result<(), Memory>
+// Appends the side from one corner to another, which becomes the last one at its higher corner.
+fn add(
+    sides: &mut Vec<Side>,
+    marks: &mut [Option<u32>],
+    from: u32,
+    to: u32,
+    tri: u32,
+    number: u32,
+) -> Result<(), Memory>
     requires chained { AreChained sides.old.items marks.old }
-    requires corner { side.high < length marks.old }
+    requires from { from < length marks.old }
+    requires to { to < length marks.old }
     requires few { length sides.old.items < 2 ^ 32 }
     ensures count { length marks.new ≡ length marks.old }
-    ensures side { OnOk result (sides.new.items ≡ sides.old.items ++ chained_side side marks.old ∷ []) }
+    ensures side { OnOk result (sides.new.items ≡ sides.old.items ++ chained_side marks.old from to tri number ∷ []) }
     ensures chained { OnOk result (AreChained sides.new.items marks.new) }
 {
     let place = sides.len() as u32;
-    let corner = side.high as usize;
+    let high = from.max(to);
     sides.push(Side {
-        low: side.low,
-        high: side.high,
-        tri: side.tri,
-        number: side.number,
-        before: marks[corner],
+        low: from.min(to),
+        high,
+        tri,
+        number,
+        before: marks[high as usize],
     })?;
-    marks[corner] = Some(place);
+    marks[high as usize] = Some(place);
     Ok(())
 }
 
@@ -108,11 +103,11 @@ fn add(sides: &mut Vec<Side>, marks: &mut [Option<u32>], side: Side) -> Result<(
 fn link_at(rows: &mut Vec<[Option<u32>; 3]>, sides: &[Side], marks: &mut [Option<u32>], v: u32)
     requires corner { v < length marks.old }
     requires paired { ArePaired (length rows.old.items) (length marks.old) sides.now }
-    requires linked { AreLinked (length rows.old.items) sides.now rows.old.items }
+    requires linked { AreLinkedRows (length rows.old.items) sides.now rows.old.items }
     requires marks { (i p : ℕ) → mark_at marks.old i ≡ Some p → p < length sides.now }
     requires befores { (p : ℕ) → p < length sides.now → IsLastAt sides.now (side_at sides.now p).high p (side_at sides.now p).before }
     requires last { IsLastAt sides.now v (length sides.now) (mark_at marks.old v) }
-    ensures linked { AreLinked (length rows.old.items) sides.now rows.new.items }
+    ensures linked { AreLinkedRows (length rows.old.items) sides.now rows.new.items }
     ensures owners { (p q : ℕ) → p < length sides.now → q < length sides.now → AreShared (side_at sides.now p) (side_at sides.now q)
         → (side_at sides.now p).high ≡ v → HasOwner rows.new.items (side_at sides.now p) }
     ensures more { HasMore rows.old.items rows.new.items }

@@ -3,14 +3,14 @@ use Rattle.std.proofs.lemmas.Bool.{cases_eq}
 use Rattle.std.proofs.lemmas.List.{with_items_is}
 use Rattle.tri_mesh.proofs.RowsFilled.{are_paired, rows_right}
 use Rattle.tri_mesh.proofs.sides.neighbours.Goals as goal
-use Rattle.tri_mesh.specs.Neighbours.{ArePaired, AreSidesOf, HaveOwners, side_at}
+use Rattle.tri_mesh.specs.Neighbours.{ArePaired, AreListedSides, HaveOwners, side_at}
 
 pub link_at-requires-clause-paired : goal.link_at-requires-clause-paired
 link_at-requires-clause-paired c =
     let tris = c.args.tris.now in
     let sides = c.in_ok-sides.sides.items in
     let n : length c.deref_mut.result.now ≡ length tris + 2 = omega (arith, c.deref_mut.ensures.len, c.in_ok-marks.ensures.len) in
-    let are : AreSidesOf tris (length tris + 2) sides = rw n at c.in_ok-sides.ensures.sides in
+    let are : AreListedSides tris (length tris + 2) sides = rw n at c.in_ok-sides.ensures.sides in
     let paired : ArePaired (length tris) (length tris + 2) sides = are_paired tris c.requires.once (length tris + 2) sides are in
     let marks : length c.deref_mut-in-loop-v.result.now ≡ length tris + 2 =
     ap length c.deref_mut-in-loop-v.ensures.value ∙ c.loop-v.invariant.count in
@@ -44,7 +44,7 @@ returns-clause-rows c =
     let tris = c.args.tris.now in
     let sides = c.in_ok-sides.sides.items in
     let n : length c.deref_mut.result.now ≡ length tris + 2 = omega (arith, c.deref_mut.ensures.len, c.in_ok-marks.ensures.len) in
-    let are : AreSidesOf tris (length tris + 2) sides = rw n at c.in_ok-sides.ensures.sides in
+    let are : AreListedSides tris (length tris + 2) sides = rw n at c.in_ok-sides.ensures.sides in
     let last : c.loop-v.v ≡ length tris + 2 =
     omega (arith, c.loop-v-test.false, c.loop-v.auto.v-end, c.len-v-end.ensures, c.in_ok-marks.ensures.len) in
     let owners : HaveOwners sides (length tris + 2) c.loop-v.rows.items = rw (← last) c.loop-v.invariant.owners in

@@ -12,12 +12,12 @@ loop-k-preserved c =
     let xs = c.loop-k.sides.items in
     let ys = c.add.new.sides.items in
     let zs = c.add-in-loop-k.new.sides.items in
-    let one = one_more tris n k 0 in_list corners (omega arith) xs ys c.of.result c.loop-k.marks (omega (arith, c.loop-k.invariant.number))
-    c.loop-k.invariant.sides c.of.ensures c.in_ok-add.ensures.side in
-    let two = one_more tris n k 1 in_list corners (omega arith) ys zs c.of-in-loop-k.result c.add.new.marks (omega (arith, one.0))
-    one.1 c.of-in-loop-k.ensures c.in_ok-add-2.ensures.side in
-    let three = one_more tris n k 2 in_list corners (omega arith) zs c.add-in-loop-k-2.new.sides.items c.of-in-loop-k-2.result c.add-in-loop-k.new.marks
-    (omega (arith, two.0)) two.1 c.of-in-loop-k-2.ensures c.in_ok-add-3.ensures.side in
+    let one = one_more tris n k 0 in_list corners (omega arith) xs ys c.loop-k.marks (omega (arith, c.loop-k.invariant.number))
+    c.loop-k.invariant.sides c.in_ok-add.ensures.side in
+    let two = one_more tris n k 1 in_list corners (omega arith) ys zs c.add.new.marks (omega (arith, one.0))
+    one.1 c.in_ok-add-2.ensures.side in
+    let three = one_more tris n k 2 in_list corners (omega arith) zs c.add-in-loop-k-2.new.sides.items c.add-in-loop-k.new.marks
+    (omega (arith, two.0)) two.1 c.in_ok-add-3.ensures.side in
     record {
       number = omega (arith, three.0);
       sides = three.1;
