@@ -28,7 +28,7 @@ use star_kernel::kernel;
 use std::alloc::Global;
 use std::marker::Model;
 use std::sync::ledger::Ledger;
-use sweep_tri::{lexical, sweep};
+use sweep_tri::sweep_ring;
 use taut_check::{Verdict, check};
 use tri_mesh::Mesh;
 
@@ -183,8 +183,7 @@ pub(crate) fn mesh_of<L: Ledger>(
     ensures { IfOk result (Fits ring.now.corners) }
 {
     let _ring_is_simple = ring.len();
-    let order = lexical(alloc, ring, steps)?;
     let board = Board::without_ends(ring);
-    let tris = sweep(alloc, &board, &order, steps)?;
+    let tris = sweep_ring(alloc, ring, &board, steps)?;
     Mesh::build(alloc, tris)
 }

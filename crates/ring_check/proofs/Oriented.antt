@@ -1,5 +1,5 @@
 -- A ring that is kept counterclockwise, against the list that it was made of.
-use Rattle.std.proofs.Common.{◌≡◌, ◌∙◌, sym, ap, refl, ℕ, ◌-◌, ◌<◌, ◌%◌, ◌≤◌, ◌↔◌, ◌⊎◌, inl, inr, Bool, true, false, List, length, arith}
+use Rattle.std.proofs.Common.{◌≡◌, ◌∙◌, sym, ap, refl, subst, ℕ, ◌-◌, ◌<◌, ◌%◌, ◌≤◌, ◌↔◌, ◌⊎◌, inl, inr, Bool, true, false, List, length, arith}
 use Rattle.std.proofs.lemmas.Int.{ints}
 use Rattle.std.specs.Prelude.{if◌then◌else◌}
 use Rattle.plane.specs.Point.{Point, Triple}
@@ -35,6 +35,11 @@ module _ (points : List Point) where
   -- it is simple where the list is
   pub simple_oriented : IsSimple points → IsSimple (oriented points).corners
   simple_oriented simple = holds_of_kept IsSimple (simple_turned points simple) simple
+
+  -- and only there
+  pub simple_of_oriented : IsSimple (oriented points).corners → IsSimple points
+  simple_of_oriented = holds_of_kept (λ ring. IsSimple ring → IsSimple points)
+      (λ simple. subst IsSimple (turned_round-turned_round points) (simple_turned (turned_round points) simple)) (λ simple. simple)
 
   -- it is counterclockwise
   pub counterclockwise_oriented : 3 ≤ length points → IsSimple points → IsCounterclockwise (oriented points).corners

@@ -4,15 +4,14 @@ ghost use Rattle.rings.specs.Simple.{Clash, HasEqualEnds, IsLeastClash, IsSimple
 ghost use Rattle.ring_check.specs.Boxes.{EnclosesEdge};
 
 use crate::boxes::box_of_edge;
-use crate::sweep::sweep_finds_none;
 use crate::walk::Runs;
 use exact_plane::{BoundingBox, Pt, Steps, meet_only_at, order, segments_meet};
 use std::alloc::Global;
 use std::cmp::Ordering;
 use std::sync::ledger::Ledger;
 
-// The least pair of edges i < j that clash, in the order of i, then j. A sweep tells of most lists without such a pair
-// that they have none. Where points are at random, the first edge clashes, and runs of edges are of no use.
+// The least pair of edges i < j that clash, in the order of i, then j. Where points are at random, the first edge clashes, and runs
+// of edges are of no use.
 pub fn find_clash<L: Ledger>(
     alloc: Global,
     points: &[Pt],
@@ -23,9 +22,6 @@ pub fn find_clash<L: Ledger>(
     ensures least { IfSome result (λ pair. IsLeastClash points.now pair.0 pair.1) }
     ensures simple { IfNone result (IsSimple points.now) }
 {
-    if sweep_finds_none(alloc, points, steps) {
-        return None;
-    }
     let none = Runs::none(alloc, points);
     if let Some(j) = least_clash_with(points, &none, 0, steps) {
         return Some((0, j));

@@ -1,7 +1,7 @@
 ghost use Rattle.std.specs.Prelude.{◌≡◌, ◌+◌, ◌<◌, ◌≤◌, ◌^◌, ◌*ℤ◌, ◌-ℤ◌, length, unsigned_abs};
 ghost use Rattle.plane.specs.declared.limits.TheConstants.{MAX_CORNERS};
 ghost use Rattle.rings.specs.Orientation.{doubled_area};
-ghost use Rattle.ring_check.specs.Oriented.{oriented};
+ghost use Rattle.ring_check.specs.Oriented.{given_of, oriented};
 
 use exact_plane::{Pt, Steps};
 use std::sync::ledger::Ledger;
@@ -18,6 +18,16 @@ pub fn turn_counterclockwise<L: Ledger>(points: &mut [Pt], steps: &mut Steps<L>)
         points[1..].reverse();
     }
     is_clockwise
+}
+
+// Reads the list that a ring was made of, or that list as the ring has it again.
+pub fn turn_back(points: &mut [Pt], is_turned: bool)
+    requires some { 0 < length points.old }
+    ensures { points.new ≡ given_of (record { corners = points.old; is_turned = is_turned }) }
+{
+    if is_turned {
+        points[1..].reverse();
+    }
 }
 
 // Twice the signed area of the ring with these vertices, positive where it runs counterclockwise.

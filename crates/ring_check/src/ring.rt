@@ -1,14 +1,16 @@
-ghost use Rattle.std.specs.Prelude.{◌≡◌, ◌+◌, ◌-◌, ◌<◌, ◌≤◌, ◌↔◌, ℕ, IfOk, IsOk, IsTrue, Err, false, length, vec_len};
+ghost use Rattle.std.specs.Prelude.{◌≡◌, ◌+◌, ◌-◌, ◌<◌, ◌≤◌, ◌↔◌, ℕ, IfOk, IfSome, IsOk, IsTrue, Err, false, length, vec_len};
 ghost use Rattle.plane.specs.Point.{whole};
 ghost use Rattle.plane.specs.declared.limits.TheConstants.{MAX_CORNERS};
 ghost use Rattle.rings.specs.Orientation.{IsCounterclockwise, IsReflex};
 ghost use Rattle.rings.specs.Ring.{vertex};
 ghost use Rattle.rings.specs.Simple.{IsLeastClash, IsSimple};
 ghost use Rattle.exact_plane.specs.Direction.{turn_of};
+ghost use Rattle.ring_check.specs.Order.{IsInOrder};
 ghost use Rattle.ring_check.specs.Oriented.{given_edge, given_index, given_of, oriented};
 
 use crate::clash::find_clash;
-use crate::orientation::turn_counterclockwise;
+use crate::orientation::{turn_back, turn_counterclockwise};
+use crate::sweep::simple_order;
 use exact_plane::{Direction, Pt, Steps, turn};
 use plane::MAX_CORNERS;
 use std::marker::Model;
@@ -21,13 +23,16 @@ use std::sync::ledger::Ledger;
 pub struct Ring {
     corners: Vec<Pt>,
     is_turned: bool,
+    // The vertices in lexicographic order, where the sweep that showed them to be simple has made it.
+    order: Option<Vec<u32>>,
 }
 
 impl Model for Ring {
-    ghost use Rattle.std.specs.Prelude.{◌≤◌, vec_len};
+    ghost use Rattle.std.specs.Prelude.{◌≤◌, IfSome, vec_len};
     ghost use Rattle.plane.specs.declared.limits.TheConstants.{MAX_CORNERS};
     ghost use Rattle.rings.specs.Orientation.{IsCounterclockwise};
     ghost use Rattle.rings.specs.Simple.{IsSimple};
+    ghost use Rattle.ring_check.specs.Order.{IsInOrder};
     ghost use Rattle.ring_check.specs.Oriented.{Oriented};
 
     ghost Value = { Oriented };
@@ -35,7 +40,8 @@ impl Model for Ring {
     ghost view = { λ ring. record { corners = ring.corners.items; is_turned = ring.is_turned } };
 
     ghost invariant = { λ ring. (3 ≤ vec_len ring.corners) × (vec_len ring.corners ≤ MAX_CORNERS)
-        × IsSimple ring.corners.items × IsCounterclockwise ring.corners.items };
+        × IsSimple ring.corners.items × IsCounterclockwise ring.corners.items
+        × IfSome ring.order (λ order. IsInOrder ring.corners.items order.items) };
 }
 
 /// Why a list of points is no ring.
@@ -66,6 +72,29 @@ impl Ring {
         if points.len() > MAX_CORNERS {
             return Err(RingFault::Many);
         }
+        let is_turned = turn_counterclockwise(&mut points, steps);
+        match simple_order(*points.allocator(), &points, steps) {
+            Some(order) => Ok(Ring {
+                corners: points,
+                is_turned,
+                order: Some(order),
+            }),
+            None => {
+                turn_back(&mut points, is_turned);
+                Ring::of_pairs(points, steps)
+            }
+        }
+    }
+
+    // The ring of a list of this length, by a look at all pairs of edges.
+    fn of_pairs<L: Ledger>(mut points: Vec<Pt>, steps: &mut Steps<L>) -> Result<Ring, RingFault>
+        requires three { 3 ≤ vec_len points }
+        requires most { vec_len points ≤ MAX_CORNERS }
+        ensures ring { IfOk result (λ ring. ring ≡ oriented points.items) }
+        ensures accepted { IsOk result ↔ IsSimple points.items }
+        ensures clash { (i j : ℕ) → (result ≡ Err (RingFault.Clash i j)) ↔ IsLeastClash points.items i j }
+        ensures length { (result ≡ Err RingFault.Few → ⊥) × (result ≡ Err RingFault.Many → ⊥) }
+    {
         match find_clash(*points.allocator(), &points, steps) {
             Some((i, j)) => Err(RingFault::Clash(i as u32, j as u32)),
             None => {
@@ -73,9 +102,18 @@ impl Ring {
                 Ok(Ring {
                     corners: points,
                     is_turned,
+                    order: None,
                 })
             }
         }
+    }
+
+    /// The vertices by their numbers in lexicographic order, where the ring keeps it: not where memory was refused or a sweep could
+    /// not show that the list is simple.
+    pub fn order(&self) -> Option<&[u32]>
+        ensures { IfSome result (λ order. IsInOrder self.now.corners order.now) }
+    {
+        self.order.as_deref()
     }
 
     /// How many vertices there are.

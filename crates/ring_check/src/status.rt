@@ -14,24 +14,48 @@ use crate::events::Events;
 use exact_plane::{Direction, Pt, Steps, turn};
 use std::sync::ledger::Ledger;
 
-// Removes edge `e`, which goes from vertex `w` to `v`. It answers false where the edge is not found or those beside it do
-// not fit; nothing is known then.
-pub(crate) fn remove<L: Ledger>(
+// Removes edges `u` and `v`, which end at vertex `v`, the first of them from vertex `u`. It answers false where they are not found
+// or those beside them do not fit; nothing is known then.
+pub(crate) fn remove_both<L: Ledger>(
     events: &Events,
     status: &mut Vec<u32>,
-    e: u32,
+    u: u32,
     v: u32,
-    w: u32,
     steps: &mut Steps<L>,
 ) -> bool
     requires stacked { IsStacked events.now.points.now events.now.ranks.now status.old.items }
+    requires u { u < length events.now.points.now }
     requires v { v < length events.now.points.now }
-    requires w { w < length events.now.points.now }
+    ensures stacked { IsTrue result → IsStacked events.now.points.now events.now.ranks.now status.new.items }
+    ensures times { IsTrue result → (x : ℕ) → times x status.new.items + one x u + one x v ≡ times x status.old.items }
+{
+    let place = place_of(events, status, v, u, steps);
+    remove(events, status, u, place, steps)
+        && remove(events, status, v, place_beside(status, place, v), steps)
+}
+
+// The place of edge `e`, which was beside the edge that was at a place and is removed. Only a place is promised.
+fn place_beside(status: &[u32], place: usize, e: u32) -> usize {
+    if place < status.len() && status[place] == e {
+        place
+    } else {
+        place.saturating_sub(1)
+    }
+}
+
+// Removes edge `e`. It answers false where it is not at this place or those beside it do not fit; nothing is known then.
+fn remove<L: Ledger>(
+    events: &Events,
+    status: &mut Vec<u32>,
+    e: u32,
+    place: usize,
+    steps: &mut Steps<L>,
+) -> bool
+    requires stacked { IsStacked events.now.points.now events.now.ranks.now status.old.items }
     ensures stacked { IsTrue result → IsStacked events.now.points.now events.now.ranks.now status.new.items }
     ensures times { IsTrue result → (x : ℕ) → times x status.new.items + one x e ≡ times x status.old.items }
 {
-    let place = place_of(events, status, v, w, steps);
-    if place == status.len() || status[place] != e {
+    if place >= status.len() || status[place] != e {
         return false;
     }
     status.remove(place);
@@ -63,24 +87,47 @@ pub(crate) fn replace<L: Ledger>(
     fits(events, status, place, steps) && fits(events, status, place + 1, steps)
 }
 
-// Inserts edge `e`, which goes from vertex `v` to `w`.
-pub(crate) fn insert<L: Ledger>(
+// Inserts edges `u` and `v`, which begin at vertex `v` and go to vertices `u` and `w`. It answers false where those beside them do
+// not fit or memory is refused; nothing is known then.
+pub(crate) fn insert_both<L: Ledger>(
     events: &Events,
     status: &mut Vec<u32>,
-    e: u32,
+    u: u32,
     v: u32,
     w: u32,
     steps: &mut Steps<L>,
 ) -> bool
     requires stacked { IsStacked events.now.points.now events.now.ranks.now status.old.items }
-    requires e { e < length events.now.points.now }
+    requires u { u < length events.now.points.now }
     requires v { v < length events.now.points.now }
     requires w { w < length events.now.points.now }
     ensures stacked { IsTrue result → IsStacked events.now.points.now events.now.ranks.now status.new.items }
+    ensures times { IsTrue result → (x : ℕ) → times x status.new.items ≡ times x status.old.items + one x u + one x v }
+{
+    let place = place_of(events, status, v, u, steps);
+    let place_of_next = if goes_below(events, u, v, w, steps) {
+        place + 1
+    } else {
+        place
+    };
+    insert(events, status, u, place, steps) && insert(events, status, v, place_of_next, steps)
+}
+
+// Inserts edge `e` at this place. It answers false where there is none, those beside it do not fit or memory is refused; nothing is
+// known then.
+fn insert<L: Ledger>(
+    events: &Events,
+    status: &mut Vec<u32>,
+    e: u32,
+    place: usize,
+    steps: &mut Steps<L>,
+) -> bool
+    requires stacked { IsStacked events.now.points.now events.now.ranks.now status.old.items }
+    requires e { e < length events.now.points.now }
+    ensures stacked { IsTrue result → IsStacked events.now.points.now events.now.ranks.now status.new.items }
     ensures times { IsTrue result → (x : ℕ) → times x status.new.items ≡ times x status.old.items + one x e }
 {
-    let place = place_of(events, status, v, w, steps);
-    if status.insert(place, e).is_err() {
+    if place > status.len() || status.insert(place, e).is_err() {
         return false;
     }
     fits(events, status, place, steps) && fits(events, status, place + 1, steps)

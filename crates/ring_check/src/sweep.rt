@@ -1,12 +1,13 @@
 //! A sweep in lexicographic order, which shows of most simple rings that they are simple. After Shamos and Hoey 1976.
-ghost use Rattle.std.specs.Prelude.{◌≡◌, ◌+◌, ◌<◌, ◌≤◌, ◌^◌, IfOk, IsTrue, length};
+ghost use Rattle.std.specs.Prelude.{◌≡◌, ◌+◌, ◌<◌, ◌≤◌, ◌^◌, IfOk, IfSome, IsTrue, length};
 ghost use Rattle.rings.specs.Events.{previous};
 ghost use Rattle.rings.specs.Simple.{IsSimple};
 ghost use Rattle.rings.specs.Status.{IsStatus};
+ghost use Rattle.ring_check.specs.Order.{IsInOrder};
 
 use crate::events::Events;
 use crate::order::{lexical_order, ranks_of};
-use crate::status::{insert, next, remove, replace};
+use crate::status::{insert_both, next, remove_both, replace};
 use exact_plane::{Memory, Pt, Steps};
 use plane::MAX_CORNERS;
 use std::alloc::Global;
@@ -19,29 +20,70 @@ pub fn sweep_finds_none<L: Ledger>(alloc: Global, points: &[Pt], steps: &mut Ste
     requires small { length points.now < 2 ^ 32 }
     ensures { IsTrue result → IsSimple points.now }
 {
+    match simple_order(alloc, points, steps) {
+        Some(_) => true,
+        None => false,
+    }
+}
+
+// The vertices in the lexicographic order in which a sweep has shown that no two edges of the list clash. Where there is none, as for
+// want of memory, nothing is known.
+pub(crate) fn simple_order<L: Ledger>(
+    alloc: Global,
+    points: &[Pt],
+    steps: &mut Steps<L>,
+) -> Option<Vec<u32>>
+    requires three { 3 ≤ length points.now }
+    requires small { length points.now < 2 ^ 32 }
+    ensures simple { IfSome result (λ order. IsSimple points.now) }
+    ensures order { IfSome result (λ order. IsInOrder points.now order.items) }
+{
     match sweep(alloc, points, steps) {
-        Ok(finds_none) => finds_none,
-        Err(_) => false,
+        Ok(order) => order,
+        Err(_) => None,
     }
 }
 
 // The same, or want of memory.
-fn sweep<L: Ledger>(alloc: Global, points: &[Pt], steps: &mut Steps<L>) -> Result<bool, Memory>
+fn sweep<L: Ledger>(
+    alloc: Global,
+    points: &[Pt],
+    steps: &mut Steps<L>,
+) -> Result<Option<Vec<u32>>, Memory>
     requires three { 3 ≤ length points.now }
     requires small { length points.now < 2 ^ 32 }
-    ensures { IfOk result (λ finds_none. IsTrue finds_none → IsSimple points.now) }
+    ensures simple { IfOk result (λ found. IfSome found (λ order. IsSimple points.now)) }
+    ensures order { IfOk result (λ found. IfSome found (λ order. IsInOrder points.now order.items)) }
 {
     if points.len() > MAX_CORNERS {
-        return Ok(false);
+        return Ok(None);
     }
     let order = lexical_order(alloc, points, steps)?;
     let ranks = ranks_of(alloc, &order)?;
-    match Events::of(points, &order, &ranks, steps) {
-        Some(events) => {
-            let status = Vec::with_capacity(alloc, points.len())?;
-            Ok(passes_all(&events, status, steps))
-        }
-        None => Ok(false),
+    let status = Vec::with_capacity(alloc, points.len())?;
+    if shows_simple(points, &order, &ranks, status, steps) {
+        Ok(Some(order))
+    } else {
+        Ok(None)
+    }
+}
+
+// Whether a sweep in this order, from an empty status, shows that no two edges clash.
+fn shows_simple<L: Ledger>(
+    points: &[Pt],
+    order: &[u32],
+    ranks: &[u32],
+    status: Vec<u32>,
+    steps: &mut Steps<L>,
+) -> bool
+    requires three { 3 ≤ length points.now }
+    requires small { length points.now < 2 ^ 32 }
+    requires empty { length status.items ≡ 0 }
+    ensures { IsTrue result → IsSimple points.now }
+{
+    match Events::of(points, order, ranks, steps) {
+        Some(events) => passes_all(&events, status, steps),
+        None => false,
     }
 }
 
@@ -67,12 +109,10 @@ fn passes<L: Ledger>(events: &Events, status: &mut Vec<u32>, k: u32, steps: &mut
     let v = events.order[k as usize];
     let (u, w) = (previous(events, v), next(events, v));
     match (events.ranks[u as usize] < k, events.ranks[w as usize] < k) {
-        (true, true) => remove(events, status, u, v, u, steps)
-            && remove(events, status, v, v, w, steps),
+        (true, true) => remove_both(events, status, u, v, steps),
         (true, false) => replace(events, status, u, v, v, u, steps),
         (false, true) => replace(events, status, v, u, v, w, steps),
-        (false, false) => insert(events, status, u, v, u, steps)
-            && insert(events, status, v, v, w, steps),
+        (false, false) => insert_both(events, status, u, v, w, steps),
     }
 }
 

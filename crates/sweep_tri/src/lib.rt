@@ -8,4 +8,4 @@ mod status;
 mod triangulation;
 
 pub use order::lexical;
-pub use triangulation::sweep;
+pub use triangulation::{sweep, sweep_ring};

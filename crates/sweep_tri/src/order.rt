@@ -18,5 +18,8 @@ pub fn lexical<L: Ledger>(
     ensures steps { steps.new ≤ steps.old + 64 * length ring.now.corners }
 {
     let _is_simple = ring.len();
-    lexical_order(alloc, ring.corners(), steps)
+    match ring.order() {
+        Some(order) => Ok(order.to_vec(alloc)?),
+        None => lexical_order(alloc, ring.corners(), steps),
+    }
 }

@@ -7,11 +7,34 @@ ghost use Rattle.shared_seq.specs.Digits.{binary_digits};
 ghost use Rattle.ring_check.specs.Order.{IsInOrder};
 
 use crate::event::Sweep;
+use crate::order::lexical;
 use exact_plane::{Memory, Steps, Turns};
 use meshes::Tri;
-use ring_check::ranks_of;
+use ring_check::{Ring, ranks_of};
 use std::alloc::Global;
 use std::sync::ledger::Ledger;
+
+/// Triangles that fit the ring, whose corners are those of the board, by a sweep in the order that the ring keeps, or else in one that is
+/// made here. It takes at most 64 n + 200 n b steps, n the number of corners and b that of its binary digits.
+pub fn sweep_ring<T: Turns, L: Ledger>(
+    alloc: Global,
+    ring: &Ring,
+    board: &T,
+    steps: &mut Steps<L>,
+) -> Result<Vec<Tri>, Memory>
+    requires board { T.corners board.now ≡ ring.now.corners }
+    ensures fits { IfOk result (λ tris. Fits ring.now.corners tris.items) }
+    ensures steps { steps.new ≤ steps.old + 64 * length ring.now.corners + 200 * length ring.now.corners * binary_digits (length ring.now.corners) }
+{
+    let _is_simple = ring.len();
+    match ring.order() {
+        Some(order) => sweep(alloc, board, order, steps),
+        None => {
+            let order = lexical(alloc, ring, steps)?;
+            sweep(alloc, board, &order, steps)
+        }
+    }
+}
 
 /// Triangles that fit the polygon of the board's corners, which is simple and runs counterclockwise; `order` is the list of all
 /// corners in lexicographic order. It takes at most 200 n b steps, n the number of corners and b that of its binary digits.

@@ -6,4 +6,4 @@ mod RowSteps
 mod RowsFilled
 mod SearchSteps
 mod SideLists
-mod SideOrder
+mod SidesSeen

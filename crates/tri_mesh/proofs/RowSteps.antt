@@ -6,8 +6,7 @@ use Rattle.std.proofs.lemmas.List.{get_or-replicate, get_or-set_other, get_or-se
 use Rattle.std.proofs.lemmas.List.Elements.{All-set}
 use Rattle.std.specs.List.{All}
 use Rattle.std.specs.Prelude.{Option, slice_index_or, slice_set}
-use Rattle.meshes.specs.declared.tri.Tri.{Tri}
-use Rattle.tri_mesh.specs.Neighbours.{AreNeighbourRows, HasOwner, empty_row, owner_at, rows_with}
+use Rattle.tri_mesh.specs.Neighbours.{AreLinkedRows, HasOwner, empty_row, owner_at, rows_with, side_at}
 use Rattle.tri_mesh.specs.declared.sides.Side.{Side}
 
 -- no row has a triangle yet
@@ -24,12 +23,12 @@ none_at n k number = elim (cases_lt k n) [
 ]
 
 -- at first
-pub not_filled : (tris : List Tri) (sides : List Side) → AreNeighbourRows tris sides 1 (replicate (length tris) empty_row)
-not_filled tris sides = record {
-  count = length-replicate (length tris) empty_row;
-  three = λ k d below. rw (get_or-replicate (length tris) k empty_row d (omega (arith, length-replicate (length tris) empty_row))) refl;
-  right = λ k number other is. absurd (let none = none_at (length tris) k number in cc);
-  filled = λ p below shared. absurd (omega arith);
+pub not_linked : (m : ℕ) (sides : List Side) → AreLinkedRows m sides (replicate m empty_row)
+not_linked m sides = record {
+  count = length-replicate m empty_row;
+  three = λ k d below. rw (get_or-replicate m k empty_row d (omega (arith, length-replicate m empty_row))) refl;
+  right = λ p other below is. absurd (let none = none_at m (side_at sides p).tri (side_at sides p).number in cc);
+  both = λ p q p_below q_below shared had. absurd (had (none_at m (side_at sides p).tri (side_at sides p).number));
 }
 
 -- ---- with a triangle at a side
@@ -49,7 +48,7 @@ module _ (rows : List (List (Option ℕ))) (s : Side) (other : ℕ) (in_list : s
       (get_or-set_same row s.number (Some other) None (omega (arith, three s.tri [] in_list)))
 
   -- and elsewhere is what was there
-  owner_kept : (k number : ℕ) → ¬ ((k ≡ s.tri) × (number ≡ s.number)) → owner_at (rows_with rows s other) k number ≡ owner_at rows k number
+  pub owner_kept : (k number : ℕ) → ¬ ((k ≡ s.tri) × (number ≡ s.number)) → owner_at (rows_with rows s other) k number ≡ owner_at rows k number
   owner_kept k number apart = elim (cases_eq k s.tri) [
     | inl same ↦ rw (same, get_or-set_same rows s.tri (slice_set row s.number (Some other)) [] in_list)
         (get_or-set_other row s.number number (Some other) None (λ e. apart (same, e)))

@@ -1,16 +1,20 @@
--- Rows that are filled from all sides in order have the triangle on the other side of each side.
-use Rattle.std.proofs.Common.{◌≡◌, refl, sym, ap, ◌∙◌, ℕ, zero, suc, ◌+◌, ◌-◌, ◌<◌, ◌≤◌, inl, inr, Bool, true, false, List, length, arith}
-use Rattle.std.proofs.Math.Dec.{eqb}
-use Rattle.std.proofs.lemmas.Bool.{cases_eq, cases_lt, eq-eqb, eqb-true, ne_eqb}
-use Rattle.std.proofs.lemmas.List.{get_or_default}
-use Rattle.std.specs.Prelude.{IsSorted, Option, max, min}
+-- Rows that are linked at all sides have the triangle on the other side of each side.
+use Rattle.std.proofs.Common.{◌≡◌, refl, sym, subst, ◌∙◌, ℕ, zero, suc, ◌+◌, ◌*◌, ◌<◌, ◌≤◌, ◌⊎◌, inl, inr, List, length, arith, Some, None}
+use Rattle.std.proofs.lemmas.Bool.{cases_eq}
+use Rattle.std.specs.Prelude.{Option, max, min}
 use Rattle.meshes.specs.Mesh.{side_begin, side_end}
 use Rattle.meshes.specs.Side.{HasSide, HasSidesOnce, tri_at}
 use Rattle.meshes.specs.declared.tri.Tri.{Tri}
 use Rattle.tri_mesh.proofs.Neighbours.{has_side_numbered}
-use Rattle.tri_mesh.proofs.SideOrder.{HaveSameCorners, changes_at, same_between, side_cmp}
-use Rattle.tri_mesh.specs.Neighbours.{AreNeighbourRows, AreRowsOf, AreShared, HasOwner, HasSidesOf, IsSideOfSome, side_at, side_of}
+use Rattle.tri_mesh.specs.Neighbours.{AreLinkedRows, ArePaired, AreRowsOf, AreShared, AreListedSides, HaveOwners, IsAcross, IsListedSide, owner_at, side_at}
 use Rattle.tri_mesh.specs.declared.sides.Side.{Side}
+
+-- pairs of numbers with the same lower and the same higher one
+same_ends : (a b c d : ℕ) → min a b ≡ min c d → max a b ≡ max c d → ((a ≡ c) × (b ≡ d)) ⊎ ((a ≡ d) × (b ≡ c))
+same_ends a b c d low high = elim (cases_eq a c) [
+  | inl same ↦ inl (same, omega arith)
+  | inr differ ↦ inr (omega arith, omega arith)
+]
 
 -- the number of a side
 numbered : (t : Tri) (i j : ℕ) → HasSide t i j → (number : ℕ) × (number < 3) × (side_begin t number ≡ i) × (side_end t number ≡ j)
@@ -42,102 +46,121 @@ module _ (tris : List Tri) (once : HasSidesOnce tris) where
   no_loop i k in_list has = once.one_way i i k in_list has has
 
   -- sides of one triangle with the same corners are one
-  one_side : (k m n : ℕ) → k < length tris → m < 3 → n < 3 → (side_of tris k m).low ≡ (side_of tris k n).low
-      → (side_of tris k m).high ≡ (side_of tris k n).high → m ≡ n
-  one_side k m n in_list m_below n_below low high =
+  one_side : (k i j : ℕ) → k < length tris → i < 3 → j < 3
+      → min (side_begin (tri_at tris k) i) (side_end (tri_at tris k) i) ≡ min (side_begin (tri_at tris k) j) (side_end (tri_at tris k) j)
+      → max (side_begin (tri_at tris k) i) (side_end (tri_at tris k) i) ≡ max (side_begin (tri_at tris k) j) (side_end (tri_at tris k) j) → i ≡ j
+  one_side k i j in_list i_below j_below low high =
       let t = tri_at tris k in
       one_number t
       (λ e. no_loop t.b k in_list (inl (e, refl)))
       (λ e. no_loop t.c k in_list (inr (inl (e, refl))))
       (λ e. no_loop t.a k in_list (inr (inr (e, refl))))
-      m n m_below n_below low high
+      i j i_below j_below low high
 
-  module _ (sides : List Side) (has : HasSidesOf tris (length tris) sides) (sorted : IsSorted side_cmp sides)
-      (rows : List (List (Option ℕ))) (seen : ℕ) (all : length sides ≤ seen) (filled : AreNeighbourRows tris sides seen rows)
-      (k number : ℕ) (in_list : k < length tris) (in_row : number < 3) where
-    abbrev here : Side
-    here = side_of tris k number
+  module _ (n : ℕ) where
+    alone : (p q : ℕ) (s t : Side) → IsListedSide tris n p s → IsListedSide tris n q t → s.low ≡ t.low → s.high ≡ t.high → s.tri ≡ t.tri → p ≡ q
+    alone p q s t s_is t_is low high tri =
+        let number : s.number ≡ t.number = one_side t.tri s.number t.number t_is.in_list s_is.in_row t_is.in_row
+        (rw tri at (sym s_is.low ∙ low ∙ t_is.low)) (rw tri at (sym s_is.high ∙ high ∙ t_is.high)) in
+        omega (arith, s_is.place, t_is.place, tri, number)
 
-    -- whether the side at a place is one of this triangle
-    abbrev is_of : ℕ → Bool
-    is_of p = eqb (side_at sides p).tri k
-
-    -- one with the same corners is this one
-    owner_from : (p : ℕ) → p < length sides → HaveSameCorners (side_at sides p) here → is_of p ≡ true → HasOwner rows (side_at sides p)
-        → HasOwner rows here
-    owner_from p below same mine owner =
-        let is : IsSideOfSome tris (side_at sides p) = has.each p _ below in
-        let tri : (side_at sides p).tri ≡ k = eqb-true _ _ mine in
-        let low : (side_of tris k (side_at sides p).number).low ≡ here.low = rw tri at (sym (ap (λ s. s.low) is.is) ∙ same.0) in
-        let high : (side_of tris k (side_at sides p).number).high ≡ here.high = rw tri at (sym (ap (λ s. s.high) is.is) ∙ same.1) in
-        let one : (side_at sides p).number ≡ number = one_side k (side_at sides p).number number in_list is.in_row in_row low high in
-        rw (tri, one) at owner
-
-    -- where sides with its corners, next to each other, are not of one triangle, one of them is this one
-    found_at : (p : ℕ) → p + 1 < length sides → HaveSameCorners (side_at sides p) here → HaveSameCorners (side_at sides (p + 1)) here
-        → ¬ (is_of p ≡ is_of (p + 1)) → HasOwner rows here
-    found_at p below same next_same differ =
-        let shared : AreShared (side_at sides p) (side_at sides (p + 1)) = record {
-          low = same.0 ∙ sym next_same.0;
-          high = same.1 ∙ sym next_same.1;
-          differ = λ one. differ (ap (λ l. eqb l k) one);
-        } in
-        let both = filled.filled p (omega arith) shared in
-        elim (is_of p) as (λ b. is_of p ≡ b → HasOwner rows here) [
-          | true ↦ λ mine. owner_from p (omega arith) same mine both.0
-          | false ↦ λ other. elim (is_of (p + 1)) as (λ b. is_of (p + 1) ≡ b → HasOwner rows here) [
-            | true ↦ λ mine. owner_from (p + 1) below next_same mine both.1
-            | false ↦ λ none. absurd (differ (other ∙ sym none))
-          ] refl
-        ] refl
-
-    -- so it is found between it and one of another triangle
-    found_between : (p q : ℕ) → p < q → q < length sides → HaveSameCorners (side_at sides p) here → HaveSameCorners (side_at sides q) here
-        → ¬ (is_of p ≡ is_of q) → HasOwner rows here
-    found_between p q before below same other_same differ =
-        let ends : HaveSameCorners (side_at sides p) (side_at sides q) = (same.0 ∙ sym other_same.0, same.1 ∙ sym other_same.1) in
-        let change = changes_at is_of p (q - p) q (omega arith) differ in
-        let at = change.at in
-        let one = same_between sides sorted p at q change.after (omega (arith, change.before)) below ends in
-        let two = same_between sides sorted p (at + 1) q (omega (arith, change.after)) change.before below ends in
-        found_at at (omega (arith, change.before)) (one.0 ∙ same.0, one.1 ∙ same.1) (two.0 ∙ same.0, two.1 ∙ same.1) change.differ
-
-    -- a side of another triangle with its corners
-    found : (l other : ℕ) → l < length tris → other < 3 → ¬ (k ≡ l) → HaveSameCorners (side_of tris l other) here → HasOwner rows here
-    found l other l_below o_below apart corners =
-        let p = has.all k number in_list in_row in
-        let q = has.all l other l_below o_below in
-        let p_is : side_at sides p.0 ≡ here = get_or_default sides p.0 _ _ p.1 ∙ p.2 in
-        let q_is : side_at sides q.0 ≡ side_of tris l other = get_or_default sides q.0 _ _ q.1 ∙ q.2 in
-        let p_mine : is_of p.0 ≡ true = eq-eqb _ _ (ap (λ s. s.tri) p_is) in
-        let q_other : is_of q.0 ≡ false = ne_eqb _ _ (λ e. apart (sym e ∙ ap (λ s. s.tri) q_is)) in
-        let p_same : HaveSameCorners (side_at sides p.0) here = (ap (λ s. s.low) p_is, ap (λ s. s.high) p_is) in
-        let q_same : HaveSameCorners (side_at sides q.0) here = (ap (λ s. s.low) q_is ∙ corners.0, ap (λ s. s.high) q_is ∙ corners.1) in
-        elim (cases_lt p.0 q.0) [
-          | inl before ↦ found_between p.0 q.0 before q.1 p_same q_same (λ e. absurd cc)
-          | inr not ↦ elim (cases_eq p.0 q.0) [
-            | inl same ↦ let mine : is_of q.0 ≡ true = rw same at p_mine in absurd cc
-            | inr differ ↦ found_between q.0 p.0 (omega arith) p.1 q_same p_same (λ e. absurd cc)
-          ]
+    -- where two triangles have a side between the same corners, they are on both sides of it
+    across_shared : (p q : ℕ) (s t : Side) → IsListedSide tris n p s → IsListedSide tris n q t → AreShared s t → IsAcross tris s.tri s.number t.tri
+    across_shared p q s t s_is t_is shared =
+        let a = side_begin (tri_at tris s.tri) s.number in
+        let b = side_end (tri_at tris s.tri) s.number in
+        let c = side_begin (tri_at tris t.tri) t.number in
+        let d = side_end (tri_at tris t.tri) t.number in
+        let low : min a b ≡ min c d = sym s_is.low ∙ shared.low ∙ t_is.low in
+        let high : max a b ≡ max c d = sym s_is.high ∙ shared.high ∙ t_is.high in
+        let has_s : HasSide (tri_at tris s.tri) a b = has_side_numbered (tri_at tris s.tri) s.number s_is.in_row in
+        let has_t : HasSide (tri_at tris t.tri) c d = has_side_numbered (tri_at tris t.tri) t.number t_is.in_row in
+        elim (same_ends a b c d low high) [
+          | inl along ↦ absurd (shared.differ (once.once a b s.tri t.tri s_is.in_list t_is.in_list has_s (rw (← along.0, ← along.1) at has_t)))
+          | inr back ↦ (t_is.in_list, rw (← back.0, ← back.1) at has_t)
         ]
 
-    -- so a side that another triangle has in the other direction is found
-    found_back : (l : ℕ) → l < length tris → HasSide (tri_at tris l) (side_end (tri_at tris k) number) (side_begin (tri_at tris k) number)
-        → HasOwner rows here
-    found_back l below back =
-        let t = tri_at tris k in
-        let n = numbered (tri_at tris l) (side_end t number) (side_begin t number) back in
-        let apart : ¬ (k ≡ l) = λ same. once.one_way _ _ k in_list (has_side_numbered t number in_row) (rw (← same) at back) in
-        found l n.0 below n.1 apart (rw (n.2, n.3) (omega arith), rw (n.2, n.3) (omega arith))
+    module _ (sides : List Side) (are : AreListedSides tris n sides) where
+      third : (p q r : ℕ) → p < length sides → q < length sides → r < length sides → AreShared (side_at sides p) (side_at sides q)
+          → AreShared (side_at sides p) (side_at sides r) → q ≡ r
+      third p q r p_below q_below r_below one two =
+          let to_q = across_shared p q _ _ (are p p_below) (are q q_below) one in
+          let to_r = across_shared p r _ _ (are p p_below) (are r r_below) two in
+          alone q r _ _ (are q q_below) (are r r_below) (sym one.low ∙ two.low) (sym one.high ∙ two.high)
+          (once.once _ _ _ _ to_q.0 to_r.0 to_q.1 to_r.1)
 
-  -- the rows are right
-  pub rows_right : (sides : List Side) → HasSidesOf tris (length tris) sides → IsSorted side_cmp sides → (rows : List (List (Option ℕ))) (seen : ℕ)
-      → length sides ≤ seen → AreNeighbourRows tris sides seen rows → AreRowsOf tris rows
-  rows_right sides has sorted rows seen all filled = record {
-    across = λ i number below in_row. record {
-      some = λ k is. filled.right i number k is;
-      none = λ missing l l_below back.
-          let in_list : i < length tris = omega (arith, filled.count) in
-          found_back sides has sorted rows seen all filled i number in_list in_row l l_below back missing;
-    };
-  }
+      lower_first : (s : Side) (p : ℕ) → IsListedSide tris n p s → s.low ≤ s.high
+      lower_first s p is = omega (arith, is.low, is.high)
+
+      -- no two of the sides of one triangle, and no three of any, are between the same corners
+      pub are_paired : ArePaired (length tris) n sides
+      are_paired = record {
+        in_list = λ p below. (are p below).in_list;
+        in_row = λ p below. (are p below).in_row;
+        place = λ p below. (are p below).place;
+        order = λ p below. lower_first (side_at sides p) p (are p below);
+        corner = λ p below. (are p below).corner;
+        alone = λ p q p_below q_below low high tri. alone p q _ _ (are p p_below) (are q q_below) low high tri;
+        pairs = third;
+      }
+
+      module _ (all : length sides ≡ 3 * length tris) (rows : List (List (Option ℕ))) (linked : AreLinkedRows (length tris) sides rows)
+          (owners : HaveOwners sides n rows) where
+        -- the side of a triangle by its number
+        module _ (k number : ℕ) (in_list : k < length tris) (in_row : number < 3) where
+          pub below : 3 * k + number < length sides
+          below = omega (arith, all, in_list, in_row)
+
+          pub tri : (side_at sides (3 * k + number)).tri ≡ k
+          tri = let is = are (3 * k + number) below in omega (arith, is.place, is.in_row, in_row)
+
+          pub number_is : (side_at sides (3 * k + number)).number ≡ number
+          number_is = let is = are (3 * k + number) below in omega (arith, is.place, is.in_row, in_row)
+
+          pub low_is : (side_at sides (3 * k + number)).low ≡ min (side_begin (tri_at tris k) number) (side_end (tri_at tris k) number)
+          low_is = rw (tri, number_is) at ((are (3 * k + number) below).low)
+
+          pub high_is : (side_at sides (3 * k + number)).high ≡ max (side_begin (tri_at tris k) number) (side_end (tri_at tris k) number)
+          high_is = rw (tri, number_is) at ((are (3 * k + number) below).high)
+
+        -- what a side has is the triangle across
+        across : (p other : ℕ) → p < length sides → owner_at rows (side_at sides p).tri (side_at sides p).number ≡ Some other
+            → IsAcross tris (side_at sides p).tri (side_at sides p).number other
+        across p other p_below is =
+            let partner = linked.right p other p_below is in
+            subst (IsAcross tris (side_at sides p).tri (side_at sides p).number) (sym partner.is)
+            (across_shared p partner.q _ _ (are p p_below) (are partner.q partner.in_list) partner.shared)
+
+        module _ (k number : ℕ) (in_list : k < length tris) (in_row : number < 3) where
+          found : (other : ℕ) → owner_at rows k number ≡ Some other → IsAcross tris k number other
+          found other is =
+              let here : owner_at rows (side_at sides (3 * k + number)).tri (side_at sides (3 * k + number)).number ≡ Some other =
+              rw (tri k number in_list in_row, number_is k number in_list in_row) is in
+              rw (tri k number in_list in_row, number_is k number in_list in_row) at (across (3 * k + number) other (below k number in_list in_row) here)
+
+          -- and a side that another triangle has in the other direction has one
+          found_back : (l : ℕ) → l < length tris → HasSide (tri_at tris l) (side_end (tri_at tris k) number) (side_begin (tri_at tris k) number)
+              → ¬ (owner_at rows k number ≡ None)
+          found_back l l_below back none =
+              let t = tri_at tris k in
+              let m = numbered (tri_at tris l) (side_end t number) (side_begin t number) back in
+              let apart : ¬ (k ≡ l) = λ same. once.one_way _ _ k in_list (has_side_numbered t number in_row) (rw (← same) at back) in
+              let shared : AreShared (side_at sides (3 * k + number)) (side_at sides (3 * l + m.0)) = record {
+                low = low_is k number in_list in_row ∙ (omega (arith, m.2, m.3)) ∙ sym (low_is l m.0 l_below m.1);
+                high = high_is k number in_list in_row ∙ (omega (arith, m.2, m.3)) ∙ sym (high_is l m.0 l_below m.1);
+                differ = λ e. apart (sym (tri k number in_list in_row) ∙ e ∙ tri l m.0 l_below m.1);
+              } in
+              let p_below = below k number in_list in_row in
+              owners (3 * k + number) (3 * l + m.0) p_below (below l m.0 l_below m.1) shared (are (3 * k + number) p_below).corner
+              (rw (tri k number in_list in_row, number_is k number in_list in_row) none)
+
+        -- the rows are right
+        pub rows_right : AreRowsOf tris rows
+        rows_right = record {
+          across = λ i number row_below in_row.
+              let in_list : i < length tris = omega (arith, linked.count, row_below) in
+              record {
+                some = λ k is. found i number in_list in_row k is;
+                none = λ missing l l_below back. found_back i number in_list in_row l l_below back missing;
+              };
+        }

@@ -1,9 +1,10 @@
 ghost use Rattle.std.specs.List.{range_with_len};
-ghost use Rattle.std.specs.Prelude.{◌≡◌, ◌<◌, ◌^◌, ◌↔◌, List, IfOk, IfSome, IsNone, length, vec_len};
+ghost use Rattle.std.specs.Prelude.{◌≡◌, ◌+◌, ◌<◌, ◌^◌, ◌↔◌, ℕ, List, IfOk, IfSome, IsNone, length, vec_len};
 ghost use Rattle.plane.specs.Point.{Point};
 ghost use Rattle.meshes.specs.Fits.{Fits, IsPieceEdge, IsSideOfOne, IsSideOfTwo};
 ghost use Rattle.meshes.specs.Mesh.{IsMesh, side_begin, side_end};
 ghost use Rattle.meshes.specs.Side.{HasSidesOnce, IsTree, tri_at};
+ghost use Rattle.tri_mesh.specs.Neighbours.{HasCornersBelow};
 ghost use Rattle.tri_mesh.specs.Outward.{IsOutward, IsRooted};
 
 use crate::outward::{Outward, Rooted};
@@ -52,6 +53,7 @@ impl Mesh {
         requires tree { IsTree tris.items }
         requires sides { HasSidesOnce tris.items }
         requires few { vec_len tris < 2 ^ 30 }
+        requires corners { (k : ℕ) → k < vec_len tris → HasCornersBelow (vec_len tris + 2) (tri_at tris.items k) }
         ensures { IfOk result (λ mesh. mesh ≡ tris.items) }
     {
         let neighbours = neighbours(alloc, &tris)?;

@@ -1,4 +1,4 @@
-use Rattle.std.proofs.Common.{◌∙◌, ap, length, arith}
+use Rattle.std.proofs.Common.{◌∙◌, arith}
 use Rattle.rings.proofs.Sweeps.{edges_removed, removed}
 use Rattle.ring_check.proofs.status.remove.Goals as goal
 
@@ -6,13 +6,13 @@ pub fits-requires : goal.fits-requires
 fits-requires g c =
     let e = c.args.events.now in
     let size = e.are.all_ranks in
-    rw (c.deref-2.ensures.value ∙ c.remove.ensures.items)
-    (λ k d within. omega (arith, size, edges_removed e.points.now e.ranks.now c.args.status.now.items c.place_of-place.result c.requires.stacked k d within))
+    rw (c.deref.ensures.value ∙ c.remove.ensures.items)
+    (λ k d within. omega (arith, size, edges_removed e.points.now e.ranks.now c.args.status.now.items c.args.place c.requires.stacked k d within))
 
 pub returns-clause-stacked : goal.returns-clause-stacked
 returns-clause-stacked g c = λ h.
     let e = c.args.events.now in
     rw c.remove.ensures.items
-    (removed e.points.now e.ranks.now c.args.status.now.items c.place_of-place.result c.requires.stacked
-    (omega (arith, c.place_of-place.ensures, c.if-place-len.false, c.len.ensures, c.deref.ensures.len, ap length c.deref.ensures.value))
-    (rw (c.deref-2.ensures.value, c.remove.ensures.items) at (c.fits.ensures h)))
+    (removed e.points.now e.ranks.now c.args.status.now.items c.args.place c.requires.stacked
+    (omega arith)
+    (rw (c.deref.ensures.value, c.remove.ensures.items) at (c.fits.ensures h)))

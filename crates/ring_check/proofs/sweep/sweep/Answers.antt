@@ -1,6 +1,4 @@
-use Rattle.std.proofs.Common.{subst}
-use Rattle.rings.specs.Simple.{IsSimple}
 use Rattle.ring_check.proofs.sweep.sweep.Goals as goal
 
-pub returns-in-Some : goal.returns-in-Some
-returns-in-Some g c = λ h. subst IsSimple c.in-Some.ensures (c.passes_all.ensures h)
+pub returns-then-shows_simple-clause-order : goal.returns-then-shows_simple-clause-order
+returns-then-shows_simple-clause-order g c = c.in_ok-order.ensures.order (c.shows_simple.ensures c.if-shows_simple.true)

@@ -3,8 +3,8 @@ use Rattle.rings.specs.Simple.{IsSimple}
 use Rattle.ring_check.specs.Order.{IsInOrder}
 use Rattle.sweep_tri.proofs.order.lexical.Goals as goal
 
-pub returns-clause-order : goal.returns-clause-order
-returns-clause-order g c =
+pub returns-in-None-clause-order : goal.returns-in-None-clause-order
+returns-in-None-clause-order g c =
     let ring = c.args.ring.now.corners in
     let order = rw c.corners.ensures at c.lexical_order.ensures.order in
     IfOk-weaker c.lexical_order.result (λ order. IsSimple ring → IsInOrder ring order.items) (λ order. IsInOrder ring order.items)

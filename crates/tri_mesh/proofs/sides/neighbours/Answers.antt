@@ -1,54 +1,51 @@
-use Rattle.std.proofs.Common.{◌≡◌, ◌-◌, ◌<◌, length, arith}
-use Rattle.std.proofs.lemmas.List.{get_or_read}
-use Rattle.tri_mesh.proofs.RowPairs.{filled_more}
-use Rattle.tri_mesh.proofs.RowSteps.{not_filled}
-use Rattle.tri_mesh.proofs.RowsFilled.{rows_right}
-use Rattle.tri_mesh.proofs.SideLists.{side_read, sides_moved}
+use Rattle.std.proofs.Common.{◌≡◌, ap, ◌∙◌, ◌+◌, inl, inr, length, arith}
+use Rattle.std.proofs.lemmas.Bool.{cases_eq}
+use Rattle.std.proofs.lemmas.List.{with_items_is}
+use Rattle.tri_mesh.proofs.RowsFilled.{are_paired, rows_right}
 use Rattle.tri_mesh.proofs.sides.neighbours.Goals as goal
-use Rattle.tri_mesh.specs.Neighbours.{side_at}
+use Rattle.tri_mesh.specs.Neighbours.{ArePaired, AreListedSides, HaveOwners, side_at}
 
-pub loop-p-init : goal.loop-p-init
-loop-p-init c = rw c.in_ok-rows.ensures (not_filled c.args.tris.now c.sort_unstable.new.self.items)
-
-pub link-requires-clause-s : goal.link-requires-clause-s
-link-requires-clause-s c =
+pub link_at-requires-clause-paired : goal.link_at-requires-clause-paired
+link_at-requires-clause-paired c =
     let tris = c.args.tris.now in
-    let sides = c.sort_unstable.new.self.items in
-    let has = sides_moved tris (length tris) c.in_ok-sides.sides.items sides c.in_ok-sides.ensures c.sort_unstable.ensures.permutation in
-    let below : c.loop-p.p - 1 < length sides = omega (arith, c.len-p-end.ensures, c.sort_unstable.new.self.ok.0) in
-    let is = side_read tris (length tris) sides has (c.loop-p.p - 1) c.index.result.now below c.index.ensures in
-    (omega (arith, is.in_list, c.loop-p.invariant.count), is.in_row)
+    let sides = c.in_ok-sides.sides.items in
+    let n : length c.deref_mut.result.now ≡ length tris + 2 = omega (arith, c.deref_mut.ensures.len, c.in_ok-marks.ensures.len) in
+    let are : AreListedSides tris (length tris + 2) sides = rw n at c.in_ok-sides.ensures.sides in
+    let paired : ArePaired (length tris) (length tris + 2) sides = are_paired tris c.requires.once (length tris + 2) sides are in
+    let marks : length c.deref_mut-in-loop-v.result.now ≡ length tris + 2 =
+    ap length c.deref_mut-in-loop-v.ensures.value ∙ c.loop-v.invariant.count in
+    rw (c.deref.ensures.value, marks, c.loop-v.invariant.linked.count) paired
 
-pub link-requires-clause-t : goal.link-requires-clause-t
-link-requires-clause-t c =
-    let tris = c.args.tris.now in
-    let sides = c.sort_unstable.new.self.items in
-    let has = sides_moved tris (length tris) c.in_ok-sides.sides.items sides c.in_ok-sides.ensures c.sort_unstable.ensures.permutation in
-    let below : c.loop-p.p < length sides = omega (arith, c.len-p-end.ensures, c.sort_unstable.new.self.ok.0) in
-    let is = side_read tris (length tris) sides has c.loop-p.p c.index-in-loop-p.result.now below c.index-in-loop-p.ensures in
-    (omega (arith, is.in_list, c.loop-p.invariant.count), is.in_row)
+pub loop-v-preserved : goal.loop-v-preserved
+loop-v-preserved c =
+    let sides = c.in_ok-sides.sides.items in
+    let marks = c.loop-v.marks.items in
+    let after = c.link_at.new.marks in
+    let v = c.loop-v.v in
+    let linked = rw (c.deref.ensures.value, c.loop-v.invariant.linked.count) at c.link_at.ensures.linked in
+    let owners = rw c.deref.ensures.value at c.link_at.ensures.owners in
+    let in_list = rw c.deref.ensures.value at c.link_at.ensures.marks in
+    let kept = rw c.deref_mut-in-loop-v.ensures.value at c.link_at.ensures.kept in
+    let count : length after ≡ length marks = c.link_at.ensures.count ∙ ap length c.deref_mut-in-loop-v.ensures.value in
+    rw (with_items_is c.loop-v.marks after (omega (arith, count))) (record {
+      linked = linked;
+      owners = λ p q p_below q_below shared below. elim (cases_eq (side_at sides p).high v) [
+        | inl at ↦ owners p q p_below q_below shared at
+        | inr other ↦ c.link_at.ensures.more (side_at sides p)
+            (c.loop-v.invariant.owners p q p_below q_below shared (omega (arith, below)))
+      ];
+      count = count ∙ c.loop-v.invariant.count;
+      in_list = in_list;
+      lasts = λ i from below. rw (kept i (omega (arith, from))) (c.loop-v.invariant.lasts i (omega (arith, from)) (omega (arith, count, below)));
+    })
 
-pub loop-p-preserved : goal.loop-p-preserved
-loop-p-preserved c =
+pub returns-clause-rows : goal.returns-clause-rows
+returns-clause-rows c =
     let tris = c.args.tris.now in
-    let sides = c.sort_unstable.new.self.items in
-    let has = sides_moved tris (length tris) c.in_ok-sides.sides.items sides c.in_ok-sides.ensures c.sort_unstable.ensures.permutation in
-    let below : c.loop-p.p < length sides = omega (arith, c.len-p-end.ensures, c.sort_unstable.new.self.ok.0) in
-    let s : c.index.result.now ≡ side_at sides (c.loop-p.p - 1) =
-    get_or_read sides (c.loop-p.p - 1) c.index.result.now (omega arith) c.index.ensures _ in
-    let t : c.index-in-loop-p.result.now ≡ side_at sides c.loop-p.p =
-    get_or_read sides c.loop-p.p c.index-in-loop-p.result.now below c.index-in-loop-p.ensures _ in
-    let linked = c.link.ensures in
-    filled_more tris c.requires.once sides has.each (c.loop-p.p - 1) c.loop-p.p (omega (arith, c.loop-p.auto.p)) below
-    c.loop-p.rows.items c.loop-p.invariant c.link.new.rows.items (rw (s, t) at linked.shared) (rw (s, t) at linked.apart)
-
-pub returns : goal.returns
-returns c =
-    let tris = c.args.tris.now in
-    let sides = c.sort_unstable.new.self.items in
-    let has = sides_moved tris (length tris) c.in_ok-sides.sides.items sides c.in_ok-sides.ensures c.sort_unstable.ensures.permutation in
-    record {
-      count = c.loop-p.invariant.count;
-      rows = rows_right tris c.requires.once sides has c.sort_unstable.ensures.sorted c.loop-p.rows.items c.loop-p.p
-          (omega (arith, c.loop-p-test.false, c.len-p-end.ensures, c.sort_unstable.new.self.ok.0)) c.loop-p.invariant;
-    }
+    let sides = c.in_ok-sides.sides.items in
+    let n : length c.deref_mut.result.now ≡ length tris + 2 = omega (arith, c.deref_mut.ensures.len, c.in_ok-marks.ensures.len) in
+    let are : AreListedSides tris (length tris + 2) sides = rw n at c.in_ok-sides.ensures.sides in
+    let last : c.loop-v.v ≡ length tris + 2 =
+    omega (arith, c.loop-v-test.false, c.loop-v.auto.v-end, c.len-v-end.ensures, c.in_ok-marks.ensures.len) in
+    let owners : HaveOwners sides (length tris + 2) c.loop-v.rows.items = rw (← last) c.loop-v.invariant.owners in
+    rows_right tris c.requires.once (length tris + 2) sides are c.in_ok-sides.ensures.number c.loop-v.rows.items c.loop-v.invariant.linked owners

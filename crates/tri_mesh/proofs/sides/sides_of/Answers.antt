@@ -1,21 +1,26 @@
-use Rattle.std.proofs.Common.{◌≡◌, length, arith}
-use Rattle.tri_mesh.proofs.SideLists.{no_sides, sides_more}
+use Rattle.std.proofs.Common.{◌∙◌, ◌<◌, length, arith}
+use Rattle.tri_mesh.proofs.SideLists.{one_more}
 use Rattle.tri_mesh.proofs.sides.sides_of.Goals as goal
-
-pub loop-k-init : goal.loop-k-init
-loop-k-init c = rw c.in_ok-sides.ensures.items (no_sides c.args.tris.now)
 
 pub loop-k-preserved : goal.loop-k-preserved
 loop-k-preserved c =
-    rw (
-      c.in_ok-push-3.ensures.items,
-      c.in_ok-push-2.ensures.items,
-      c.in_ok-push.ensures.items,
-      c.of-in-loop-k-2.ensures,
-      c.of-in-loop-k.ensures,
-      c.of.ensures,
-    )
-    (sides_more c.args.tris.now c.loop-k.k c.loop-k.sides.items (omega arith) c.loop-k.invariant)
-
-pub returns : goal.returns
-returns c = let all : c.loop-k.k ≡ length c.args.tris.now = omega (arith, c.loop-k.auto.k-end, c.loop-k-test.false) in rw (← all) c.loop-k.invariant
+    let tris = c.args.tris.now in
+    let n = length c.args.marks.now in
+    let k = c.loop-k.k in
+    let in_list : k < length tris = omega (arith, c.loop-k-test.true) in
+    let corners = c.requires.corners k in_list in
+    let xs = c.loop-k.sides.items in
+    let ys = c.add.new.sides.items in
+    let zs = c.add-in-loop-k.new.sides.items in
+    let one = one_more tris n k 0 in_list corners (omega arith) xs ys c.loop-k.marks (omega (arith, c.loop-k.invariant.number))
+    c.loop-k.invariant.sides c.in_ok-add.ensures.side in
+    let two = one_more tris n k 1 in_list corners (omega arith) ys zs c.add.new.marks (omega (arith, one.0))
+    one.1 c.in_ok-add-2.ensures.side in
+    let three = one_more tris n k 2 in_list corners (omega arith) zs c.add-in-loop-k-2.new.sides.items c.add-in-loop-k.new.marks
+    (omega (arith, two.0)) two.1 c.in_ok-add-3.ensures.side in
+    record {
+      number = omega (arith, three.0);
+      sides = three.1;
+      count = c.in_ok-add-3.ensures.count ∙ c.in_ok-add-2.ensures.count ∙ c.in_ok-add.ensures.count ∙ c.loop-k.invariant.count;
+      chained = c.in_ok-add-3.ensures.chained;
+    }
