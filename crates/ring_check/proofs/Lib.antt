@@ -3,10 +3,12 @@ mod Below
 pub mod Bounds
 mod EdgeEnds
 mod EdgeRuns
+mod Halves
 mod Orders
 pub mod Oriented
 mod Reflex
 mod RunTrees
+mod RunsAsked
 mod SharedPoints
 mod SlabSides
 mod StatusEdits

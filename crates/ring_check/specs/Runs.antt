@@ -1,5 +1,5 @@
 -- Runs of consecutive edges, with covers of them. This project's own. No public clause cites this module.
-use Rattle.std.specs.Prelude.{ℕ, ◌-◌, ◌<◌, ◌≤◌, ◌⊎◌, List}
+use Rattle.std.specs.Prelude.{ℕ, ◌-◌, ◌<◌, ◌≤◌, ◌⊎◌, ◌==◌, if◌then◌else◌, List}
 use Rattle.std.specs.List.{sum_by}
 use Rattle.plane.specs.Point.{Point}
 use Rattle.rings.specs.Simple.{HasEqualEnds}
@@ -21,6 +21,14 @@ pub record IsRun (ring : List Point) (run : Run) : Type 0 where
 abbrev pub run_length : Run → ℕ
 run_length run = run.end - run.first
 
--- how many some runs have
+-- 1 where it begins at that edge
+abbrev pub begins_at : ℕ → Run → ℕ
+begins_at first run = if run.first == first then 1 else 0
+
+-- how many of some runs begin at an edge
+abbrev pub begin_at : ℕ → List Run → ℕ
+begin_at first runs = sum_by (begins_at first) runs
+
+-- how many edges some runs have
 abbrev pub total_length : List Run → ℕ
 total_length runs = sum_by run_length runs

@@ -23,7 +23,7 @@ pub(crate) struct Events<'a> {
 }
 
 impl<'a> Events<'a> {
-    // The events, where the order and the ranks are right: whoever made them has promised nothing.
+    // The events, where the order and the ranks are right: whoever made them has promised nothing. It takes at most a step a vertex.
     pub(crate) fn of<L: Ledger>(
         points: &'a [Pt],
         order: &'a [u32],
@@ -32,7 +32,8 @@ impl<'a> Events<'a> {
     ) -> Option<Events<'a>>
         requires three { 3 ≤ length points.now }
         requires small { length points.now < 2 ^ 32 }
-        ensures { IfSome result (λ events. events.points.now ≡ points.now) }
+        ensures points { IfSome result (λ events. events.points.now ≡ points.now) }
+        ensures steps { steps.new ≤ steps.old + length points.now }
     {
         let n = points.len();
         if order.len() != n || ranks.len() != n || !are_below(order, n) || !are_below(ranks, n) {
@@ -63,7 +64,7 @@ fn are_below(numbers: &[u32], n: usize) -> bool
     true
 }
 
-// Whether event `k` and vertex `k` have their ranks, and the event comes before the next.
+// Whether event `k` and vertex `k` have their ranks, and the event comes before the next. It takes at most one step.
 fn is_event<L: Ledger>(
     points: &[Pt],
     order: &[u32],
@@ -77,7 +78,8 @@ fn is_event<L: Ledger>(
     requires vertices { All (λ v. v < length points.now) order.now }
     requires places { All (λ k. k < length points.now) ranks.now }
     requires place { k < length points.now }
-    ensures { IsTrue result → IsEvent points.now order.now ranks.now k }
+    ensures event { IsTrue result → IsEvent points.now order.now ranks.now k }
+    ensures steps { steps.new ≤ steps.old + 1 }
 {
     if order[ranks[k as usize] as usize] != k || ranks[order[k as usize] as usize] != k {
         return false;
@@ -86,11 +88,12 @@ fn is_event<L: Ledger>(
         || is_before(points, order[k as usize], order[k as usize + 1], steps)
 }
 
-// Whether vertex `v` comes before vertex `w`.
+// Whether vertex `v` comes before vertex `w`. It takes one step.
 fn is_before<L: Ledger>(points: &[Pt], v: u32, w: u32, steps: &mut Steps<L>) -> bool
     requires v { v < length points.now }
     requires w { w < length points.now }
-    ensures { IsTrue result → IsBefore (vertex points.now v) (vertex points.now w) }
+    ensures before { IsTrue result → IsBefore (vertex points.now v) (vertex points.now w) }
+    ensures steps { steps.new ≡ steps.old + 1 }
 {
     order(
         &corner(points, v as usize),

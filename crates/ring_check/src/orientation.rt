@@ -1,4 +1,4 @@
-ghost use Rattle.std.specs.Prelude.{◌≡◌, ◌+◌, ◌<◌, ◌≤◌, ◌^◌, ◌*ℤ◌, ◌-ℤ◌, length, unsigned_abs};
+ghost use Rattle.std.specs.Prelude.{◌≡◌, ◌+◌, ◌*◌, ◌<◌, ◌≤◌, ◌^◌, ◌*ℤ◌, ◌-ℤ◌, length, unsigned_abs};
 ghost use Rattle.plane.specs.declared.limits.TheConstants.{MAX_CORNERS};
 ghost use Rattle.rings.specs.Orientation.{doubled_area};
 ghost use Rattle.ring_check.specs.Oriented.{given_of, oriented};
@@ -6,12 +6,13 @@ ghost use Rattle.ring_check.specs.Oriented.{given_of, oriented};
 use exact_plane::{Pt, Steps};
 use std::sync::ledger::Ledger;
 
-// Reads the list of a ring counterclockwise, and answers whether it was turned round for that.
+// Reads the list of a ring counterclockwise, and answers whether it was turned round for that. It takes 128 steps a vertex.
 pub fn turn_counterclockwise<L: Ledger>(points: &mut [Pt], steps: &mut Steps<L>) -> bool
     requires some { 0 < length points.old }
     requires most { length points.old ≤ MAX_CORNERS }
     ensures points { points.new ≡ (oriented points.old).corners }
     ensures turned { result ≡ (oriented points.old).is_turned }
+    ensures steps { steps.new ≡ steps.old + 128 * length points.old }
 {
     let is_clockwise = doubled_area(points, steps) < 0;
     if is_clockwise {
@@ -30,11 +31,12 @@ pub fn turn_back(points: &mut [Pt], is_turned: bool)
     }
 }
 
-// Twice the signed area of the ring with these vertices, positive where it runs counterclockwise.
+// Twice the signed area of the ring with these vertices, positive where it runs counterclockwise. It takes 128 steps a vertex.
 fn doubled_area<L: Ledger>(points: &[Pt], steps: &mut Steps<L>) -> i64
     requires some { 0 < length points.now }
     requires most { length points.now ≤ MAX_CORNERS }
-    ensures { result ≡ doubled_area points.now }
+    ensures area { result ≡ doubled_area points.now }
+    ensures steps { steps.new ≡ steps.old + 128 * length points.now }
 {
     let mut area = 0;
     for i in 1..points.len() {

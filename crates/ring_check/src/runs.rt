@@ -223,7 +223,7 @@ pub(crate) fn runs_of<L: Ledger>(
     steps: &mut Steps<L>,
 ) -> Result<Vec<Run>, Memory>
     ensures runs { IfOk result (λ runs. All (IsRun points.now) runs.items) }
-    ensures few { IfOk result (λ runs. length runs.items ≤ length points.now) }
+    ensures few { IfOk result (λ runs. 15 * length runs.items ≤ 2 * length points.now + 13) }
     ensures steps { (d : ℕ) → length points.now < 2 ^ d → steps.new ≤ steps.old + 800 * (length points.now * (d + 4)) }
 {
     let mut runs = least_runs(alloc, points, steps)?;

@@ -1,6 +1,6 @@
 // The status of a sweep: the edges that the sweep line meets, each below the next.
 ghost use Rattle.std.specs.List.{All};
-ghost use Rattle.std.specs.Prelude.{◌≡◌, ◌+◌, ◌<◌, ◌≤◌, IsTrue, ℕ, length};
+ghost use Rattle.std.specs.Prelude.{◌≡◌, ◌+◌, ◌*◌, ◌<◌, ◌≤◌, ◌^◌, IsTrue, ℕ, length};
 ghost use Rattle.plane.specs.Point.{whole};
 ghost use Rattle.rings.specs.Below.{EndsBelow, StartsBelow};
 ghost use Rattle.rings.specs.Events.{first_end, last_end, next};
@@ -15,7 +15,7 @@ use exact_plane::{Direction, Pt, Steps, turn};
 use std::sync::ledger::Ledger;
 
 // Removes edges `u` and `v`, which end at vertex `v`, the first of them from vertex `u`. It answers false where they are not found
-// or those beside them do not fit; nothing is known then.
+// or those beside them do not fit; nothing is known then. It takes at most 2 d + 4 steps, where there are fewer than 2 to the power d.
 pub(crate) fn remove_both<L: Ledger>(
     events: &Events,
     status: &mut Vec<u32>,
@@ -28,6 +28,8 @@ pub(crate) fn remove_both<L: Ledger>(
     requires v { v < length events.now.points.now }
     ensures stacked { IsTrue result → IsStacked events.now.points.now events.now.ranks.now status.new.items }
     ensures times { IsTrue result → (x : ℕ) → times x status.new.items + one x u + one x v ≡ times x status.old.items }
+    ensures length { IsTrue result → length status.new.items ≤ length status.old.items }
+    ensures steps { (d : ℕ) → length status.old.items < 2 ^ d → steps.new ≤ steps.old + (2 * d + 4) }
 {
     let place = place_of(events, status, v, u, steps);
     remove(events, status, u, place, steps)
@@ -43,7 +45,8 @@ fn place_beside(status: &[u32], place: usize, e: u32) -> usize {
     }
 }
 
-// Removes edge `e`. It answers false where it is not at this place or those beside it do not fit; nothing is known then.
+// Removes edge `e`. It answers false where it is not at this place or those beside it do not fit; nothing is known then. It takes at
+// most 2 steps.
 fn remove<L: Ledger>(
     events: &Events,
     status: &mut Vec<u32>,
@@ -54,6 +57,8 @@ fn remove<L: Ledger>(
     requires stacked { IsStacked events.now.points.now events.now.ranks.now status.old.items }
     ensures stacked { IsTrue result → IsStacked events.now.points.now events.now.ranks.now status.new.items }
     ensures times { IsTrue result → (x : ℕ) → times x status.new.items + one x e ≡ times x status.old.items }
+    ensures length { length status.new.items ≤ length status.old.items }
+    ensures steps { steps.new ≤ steps.old + 2 }
 {
     if place >= status.len() || status[place] != e {
         return false;
@@ -62,7 +67,8 @@ fn remove<L: Ledger>(
     fits(events, status, place, steps)
 }
 
-// Puts edge `f`, which begins at vertex `v`, in the place of edge `e`, which goes from `w` to `v`.
+// Puts edge `f`, which begins at vertex `v`, in the place of edge `e`, which goes from `w` to `v`. It takes at most 2 d + 4 steps, where
+// there are fewer edges than 2 to the power d.
 pub(crate) fn replace<L: Ledger>(
     events: &Events,
     status: &mut Vec<u32>,
@@ -78,6 +84,8 @@ pub(crate) fn replace<L: Ledger>(
     requires w { w < length events.now.points.now }
     ensures stacked { IsTrue result → IsStacked events.now.points.now events.now.ranks.now status.new.items }
     ensures times { IsTrue result → (x : ℕ) → times x status.new.items + one x e ≡ times x status.old.items + one x f }
+    ensures length { length status.new.items ≤ length status.old.items }
+    ensures steps { (d : ℕ) → length status.old.items < 2 ^ d → steps.new ≤ steps.old + (2 * d + 4) }
 {
     let place = place_of(events, status, v, w, steps);
     if place == status.len() || status[place] != e {
@@ -88,7 +96,7 @@ pub(crate) fn replace<L: Ledger>(
 }
 
 // Inserts edges `u` and `v`, which begin at vertex `v` and go to vertices `u` and `w`. It answers false where those beside them do
-// not fit or memory is refused; nothing is known then.
+// not fit or memory is refused; nothing is known then. It takes at most 2 d + 10 steps, where there are fewer than 2 to the power d.
 pub(crate) fn insert_both<L: Ledger>(
     events: &Events,
     status: &mut Vec<u32>,
@@ -103,6 +111,8 @@ pub(crate) fn insert_both<L: Ledger>(
     requires w { w < length events.now.points.now }
     ensures stacked { IsTrue result → IsStacked events.now.points.now events.now.ranks.now status.new.items }
     ensures times { IsTrue result → (x : ℕ) → times x status.new.items ≡ times x status.old.items + one x u + one x v }
+    ensures length { IsTrue result → length status.new.items ≤ length status.old.items + 2 }
+    ensures steps { (d : ℕ) → length status.old.items < 2 ^ d → steps.new ≤ steps.old + (2 * d + 10) }
 {
     let place = place_of(events, status, v, u, steps);
     let place_of_next = if goes_below(events, u, v, w, steps) {
@@ -114,7 +124,7 @@ pub(crate) fn insert_both<L: Ledger>(
 }
 
 // Inserts edge `e` at this place. It answers false where there is none, those beside it do not fit or memory is refused; nothing is
-// known then.
+// known then. It takes at most 4 steps.
 fn insert<L: Ledger>(
     events: &Events,
     status: &mut Vec<u32>,
@@ -126,6 +136,8 @@ fn insert<L: Ledger>(
     requires e { e < length events.now.points.now }
     ensures stacked { IsTrue result → IsStacked events.now.points.now events.now.ranks.now status.new.items }
     ensures times { IsTrue result → (x : ℕ) → times x status.new.items ≡ times x status.old.items + one x e }
+    ensures length { IsTrue result → length status.new.items ≤ length status.old.items + 1 }
+    ensures steps { steps.new ≤ steps.old + 4 }
 {
     if place > status.len() || status.insert(place, e).is_err() {
         return false;
@@ -134,7 +146,7 @@ fn insert<L: Ledger>(
 }
 
 // The place for the edge between vertices `v` and `w`, which begins or ends at `v`, by binary search. Only a place is
-// promised: what is found there is tested.
+// promised: what is found there is tested. It takes at most 2 d steps, where there are fewer edges than 2 to the power d.
 fn place_of<L: Ledger>(
     events: &Events,
     status: &[u32],
@@ -145,7 +157,8 @@ fn place_of<L: Ledger>(
     requires edges { All (λ e. e < length events.now.points.now) status.now }
     requires v { v < length events.now.points.now }
     requires w { w < length events.now.points.now }
-    ensures { result ≤ length status.now }
+    ensures place { result ≤ length status.now }
+    ensures steps { (d : ℕ) → length status.now < 2 ^ d → steps.new ≤ steps.old + 2 * d }
 {
     let (mut low, mut high) = (0, status.len());
     while low < high {
@@ -159,11 +172,12 @@ fn place_of<L: Ledger>(
     low
 }
 
-// Whether edge `e` goes below vertex `v`, or through it and below `w`.
+// Whether edge `e` goes below vertex `v`, or through it and below `w`. It takes at most 2 steps.
 fn goes_below<L: Ledger>(events: &Events, e: u32, v: u32, w: u32, steps: &mut Steps<L>) -> bool
     requires edge { e < length events.now.points.now }
     requires v { v < length events.now.points.now }
     requires w { w < length events.now.points.now }
+    ensures { steps.new ≤ steps.old + 2 }
 {
     let Ends { first, last } = ends_of(events, e);
     match turn_at(events, first, last, v, steps) {
@@ -173,10 +187,11 @@ fn goes_below<L: Ledger>(events: &Events, e: u32, v: u32, w: u32, steps: &mut St
     }
 }
 
-// Whether the edge at a place is above the one before it, where there are both.
+// Whether the edge at a place is above the one before it, where there are both. It takes at most 2 steps.
 fn fits<L: Ledger>(events: &Events, status: &[u32], place: usize, steps: &mut Steps<L>) -> bool
     requires { All (λ e. e < length events.now.points.now) status.now }
-    ensures { IsTrue result → FitsAt events.now.points.now events.now.ranks.now status.now place }
+    ensures fits { IsTrue result → FitsAt events.now.points.now events.now.ranks.now status.now place }
+    ensures steps { steps.new ≤ steps.old + 2 }
 {
     if place == 0 || place >= status.len() {
         return true;
@@ -184,11 +199,12 @@ fn fits<L: Ledger>(events: &Events, status: &[u32], place: usize, steps: &mut St
     is_below(events, status[place - 1], status[place], steps)
 }
 
-// Whether edge `e` is below edge `f`.
+// Whether edge `e` is below edge `f`. It takes at most 2 steps.
 fn is_below<L: Ledger>(events: &Events, e: u32, f: u32, steps: &mut Steps<L>) -> bool
     requires e { e < length events.now.points.now }
     requires f { f < length events.now.points.now }
-    ensures { IsTrue result → IsEdgeBelow events.now.points.now events.now.ranks.now e f }
+    ensures below { IsTrue result → IsEdgeBelow events.now.points.now events.now.ranks.now e f }
+    ensures steps { steps.new ≤ steps.old + 2 }
 {
     let lower = ends_of(events, e);
     let upper = ends_of(events, f);
@@ -201,11 +217,12 @@ fn is_below<L: Ledger>(events: &Events, e: u32, f: u32, steps: &mut Steps<L>) ->
     }
 }
 
-// Whether edge `e` is below edge `f` where the later of them begins.
+// Whether edge `e` is below edge `f` where the later of them begins. It takes one step.
 fn starts_below<L: Ledger>(events: &Events, e: Ends, f: Ends, steps: &mut Steps<L>) -> bool
     requires e { AreVertices events.now.points.now e }
     requires f { AreVertices events.now.points.now f }
-    ensures { IsTrue result → StartsBelow (edge_between events.now.points.now e) (edge_between events.now.points.now f) }
+    ensures below { IsTrue result → StartsBelow (edge_between events.now.points.now e) (edge_between events.now.points.now f) }
+    ensures steps { steps.new ≡ steps.old + 1 }
 {
     if events.ranks[e.first as usize] < events.ranks[f.first as usize] {
         turns(events, Direction::Left, e.first, e.last, f.first, steps)
@@ -214,11 +231,12 @@ fn starts_below<L: Ledger>(events: &Events, e: Ends, f: Ends, steps: &mut Steps<
     }
 }
 
-// Whether it is below where the first of them ends.
+// Whether it is below where the first of them ends. It takes one step.
 fn ends_below<L: Ledger>(events: &Events, e: Ends, f: Ends, steps: &mut Steps<L>) -> bool
     requires e { AreVertices events.now.points.now e }
     requires f { AreVertices events.now.points.now f }
-    ensures { IsTrue result → EndsBelow (edge_between events.now.points.now e) (edge_between events.now.points.now f) }
+    ensures below { IsTrue result → EndsBelow (edge_between events.now.points.now e) (edge_between events.now.points.now f) }
+    ensures steps { steps.new ≡ steps.old + 1 }
 {
     if events.ranks[e.last as usize] < events.ranks[f.last as usize] {
         turns(events, Direction::Right, f.first, f.last, e.last, steps)
@@ -268,7 +286,7 @@ pub(crate) fn next(events: &Events, v: u32) -> u32
     }
 }
 
-// Whether the turn from vertex `a` over `b` to `c` goes this way.
+// Whether the turn from vertex `a` over `b` to `c` goes this way. It takes one step.
 fn turns<L: Ledger>(
     events: &Events,
     way: Direction,
@@ -280,17 +298,19 @@ fn turns<L: Ledger>(
     requires a { a < length events.now.points.now }
     requires b { b < length events.now.points.now }
     requires c { c < length events.now.points.now }
-    ensures { IsTrue result → turn_of (whole (vertex events.now.points.now a)) (whole (vertex events.now.points.now b)) (whole (vertex events.now.points.now c)) ≡ way }
+    ensures way { IsTrue result → turn_of (whole (vertex events.now.points.now a)) (whole (vertex events.now.points.now b)) (whole (vertex events.now.points.now c)) ≡ way }
+    ensures steps { steps.new ≡ steps.old + 1 }
 {
     turn_at(events, a, b, c, steps) == way
 }
 
-// The turn from vertex `a` over `b` to `c`.
+// The turn from vertex `a` over `b` to `c`. It takes one step.
 fn turn_at<L: Ledger>(events: &Events, a: u32, b: u32, c: u32, steps: &mut Steps<L>) -> Direction
     requires a { a < length events.now.points.now }
     requires b { b < length events.now.points.now }
     requires c { c < length events.now.points.now }
-    ensures { result ≡ turn_of (whole (vertex events.now.points.now a)) (whole (vertex events.now.points.now b)) (whole (vertex events.now.points.now c)) }
+    ensures turn { result ≡ turn_of (whole (vertex events.now.points.now a)) (whole (vertex events.now.points.now b)) (whole (vertex events.now.points.now c)) }
+    ensures steps { steps.new ≡ steps.old + 1 }
 {
     let a = corner(events.points, a as usize);
     let b = corner(events.points, b as usize);

@@ -1,5 +1,5 @@
 //! A sweep in lexicographic order, which shows of most simple rings that they are simple. After Shamos and Hoey 1976.
-ghost use Rattle.std.specs.Prelude.{◌≡◌, ◌+◌, ◌<◌, ◌≤◌, ◌^◌, IfOk, IfSome, IsTrue, length};
+ghost use Rattle.std.specs.Prelude.{◌≡◌, ◌+◌, ◌*◌, ◌<◌, ◌≤◌, ◌^◌, ℕ, IfOk, IfSome, IsTrue, length};
 ghost use Rattle.rings.specs.Events.{previous};
 ghost use Rattle.rings.specs.Simple.{IsSimple};
 ghost use Rattle.rings.specs.Status.{IsStatus};
@@ -14,11 +14,12 @@ use std::alloc::Global;
 use std::sync::ledger::Ledger;
 
 /// Whether a sweep has shown that no two edges of the list clash. Where it answers false, as for want of memory, nothing is
-/// known: `Ring::of` then looks at all pairs.
+/// known: `Ring::of` then looks at all pairs. It takes at most n (2 d + 77) steps for n points, n below 2 to the power d.
 pub fn sweep_finds_none<L: Ledger>(alloc: Global, points: &[Pt], steps: &mut Steps<L>) -> bool
     requires three { 3 ≤ length points.now }
     requires small { length points.now < 2 ^ 32 }
-    ensures { IsTrue result → IsSimple points.now }
+    ensures simple { IsTrue result → IsSimple points.now }
+    ensures steps { (d : ℕ) → length points.now < 2 ^ d → steps.new ≤ steps.old + length points.now * (2 * d + 77) }
 {
     match simple_order(alloc, points, steps) {
         Some(_) => true,
@@ -27,7 +28,7 @@ pub fn sweep_finds_none<L: Ledger>(alloc: Global, points: &[Pt], steps: &mut Ste
 }
 
 // The vertices in the lexicographic order in which a sweep has shown that no two edges of the list clash. Where there is none, as for
-// want of memory, nothing is known.
+// want of memory, nothing is known. It takes at most n (2 d + 77) steps for n points, n below 2 to the power d.
 pub(crate) fn simple_order<L: Ledger>(
     alloc: Global,
     points: &[Pt],
@@ -37,6 +38,7 @@ pub(crate) fn simple_order<L: Ledger>(
     requires small { length points.now < 2 ^ 32 }
     ensures simple { IfSome result (λ order. IsSimple points.now) }
     ensures order { IfSome result (λ order. IsInOrder points.now order.items) }
+    ensures steps { (d : ℕ) → length points.now < 2 ^ d → steps.new ≤ steps.old + length points.now * (2 * d + 77) }
 {
     match sweep(alloc, points, steps) {
         Ok(order) => order,
@@ -54,6 +56,7 @@ fn sweep<L: Ledger>(
     requires small { length points.now < 2 ^ 32 }
     ensures simple { IfOk result (λ found. IfSome found (λ order. IsSimple points.now)) }
     ensures order { IfOk result (λ found. IfSome found (λ order. IsInOrder points.now order.items)) }
+    ensures steps { (d : ℕ) → length points.now < 2 ^ d → steps.new ≤ steps.old + length points.now * (2 * d + 77) }
 {
     if points.len() > MAX_CORNERS {
         return Ok(None);
@@ -68,7 +71,8 @@ fn sweep<L: Ledger>(
     }
 }
 
-// Whether a sweep in this order, from an empty status, shows that no two edges clash.
+// Whether a sweep in this order, from an empty status, shows that no two edges clash. It takes at most n (2 d + 13) steps for n points, n
+// below 2 to the power d.
 fn shows_simple<L: Ledger>(
     points: &[Pt],
     order: &[u32],
@@ -79,7 +83,8 @@ fn shows_simple<L: Ledger>(
     requires three { 3 ≤ length points.now }
     requires small { length points.now < 2 ^ 32 }
     requires empty { length status.items ≡ 0 }
-    ensures { IsTrue result → IsSimple points.now }
+    ensures simple { IsTrue result → IsSimple points.now }
+    ensures steps { (d : ℕ) → length points.now < 2 ^ d → steps.new ≤ steps.old + length points.now * (2 * d + 13) }
 {
     match Events::of(points, order, ranks, steps) {
         Some(events) => passes_all(&events, status, steps),
@@ -87,10 +92,12 @@ fn shows_simple<L: Ledger>(
     }
 }
 
-// Whether the sweep passes all events, from an empty status.
+// Whether the sweep passes all events, from an empty status. It takes at most 2 d + 12 steps an event, where there are fewer events than
+// 2 to the power d.
 fn passes_all<L: Ledger>(events: &Events, mut status: Vec<u32>, steps: &mut Steps<L>) -> bool
     requires { length status.items ≡ 0 }
-    ensures { IsTrue result → IsSimple events.now.points.now }
+    ensures simple { IsTrue result → IsSimple events.now.points.now }
+    ensures steps { (d : ℕ) → length events.now.points.now < 2 ^ d → steps.new ≤ steps.old + length events.now.points.now * (2 * d + 12) }
 {
     for k in 0..events.points.len() as u32 {
         if !passes(events, &mut status, k, steps) {
@@ -100,11 +107,14 @@ fn passes_all<L: Ledger>(events: &Events, mut status: Vec<u32>, steps: &mut Step
     true
 }
 
-// Passes event `k`: the edges that end there leave the status, and those that begin there enter it.
+// Passes event `k`: the edges that end there leave the status, and those that begin there enter it. It takes at most 2 d + 10 steps,
+// where the status has fewer edges than 2 to the power d.
 fn passes<L: Ledger>(events: &Events, status: &mut Vec<u32>, k: u32, steps: &mut Steps<L>) -> bool
     requires event { k < length events.now.points.now }
     requires status { IsStatus events.now.points.now events.now.ranks.now k status.old.items }
-    ensures { IsTrue result → IsStatus events.now.points.now events.now.ranks.now (k + 1) status.new.items }
+    ensures status { IsTrue result → IsStatus events.now.points.now events.now.ranks.now (k + 1) status.new.items }
+    ensures length { IsTrue result → length status.new.items ≤ length status.old.items + 2 }
+    ensures steps { (d : ℕ) → length status.old.items < 2 ^ d → steps.new ≤ steps.old + (2 * d + 10) }
 {
     let v = events.order[k as usize];
     let (u, w) = (previous(events, v), next(events, v));

@@ -5,7 +5,7 @@ ghost use Rattle.plane.specs.Point.{Point};
 ghost use Rattle.rings.specs.Simple.{HasEqualEnds};
 ghost use Rattle.exact_plane.specs.Boxes.{Encloses};
 ghost use Rattle.ring_check.specs.Boxes.{AreBoxed, IsApartOver};
-ghost use Rattle.ring_check.specs.Runs.{IsRun};
+ghost use Rattle.ring_check.specs.Runs.{IsRun, begin_at};
 
 use crate::boxes::BoxedEdges;
 use crate::runs::{RUN, Run, runs_of};
@@ -48,16 +48,6 @@ impl<'a> Runs<'a> {
             points,
             runs: runs_of(alloc, points, steps)?,
         })
-    }
-
-    // No runs, so that each edge is looked at.
-    pub(crate) fn none(alloc: Global, points: &'a [Pt]) -> Runs<'a>
-        ensures { result ≡ points.now }
-    {
-        Runs {
-            points,
-            runs: Vec::new(alloc),
-        }
     }
 
     /// The number of the greatest run that begins at this edge. Short runs begin at each multiple of `RUN`, and no run elsewhere.
@@ -139,8 +129,9 @@ fn lesser(runs: &[Run], k: usize) -> Option<usize>
     Some(2 * (k - short))
 }
 
-// The edge behind the greatest of these runs from edge `first` on that is apart from a segment, which is in the box; or `first`.
-fn apart_to<L: Ledger>(
+// The edge behind the greatest of these runs from edge `first` on that is apart from a segment, which is in the box; or `first`. It takes
+// at most 2048 steps for each run that begins there.
+pub(crate) fn apart_to<L: Ledger>(
     runs: &[Run],
     first: usize,
     p: &Pt,
@@ -152,6 +143,7 @@ fn apart_to<L: Ledger>(
     requires q { Encloses bounds.now q.now }
     ensures apart { (ring : List Point) → All (IsRun ring) runs.now → IsApartOver ring first result p.now q.now }
     ensures steps { (d : ℕ) → length runs.now < 2 ^ d → steps.new ≤ steps.old + 2048 * d }
+    ensures asked { steps.new ≤ steps.old + 2048 * begin_at first runs.now }
 {
     let mut next = greatest_from(runs, first);
     while let Some(k) = next {

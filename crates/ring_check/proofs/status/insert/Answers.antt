@@ -13,8 +13,8 @@ returns-then-fits-clause-stacked g c = λ h.
     rw items
     (inserted e.points.now e.ranks.now c.args.status.now.items p c.requires.stacked c.args.e (omega (arith, size, c.requires.e))
     (omega arith)
-    (rw (c.deref.ensures.value, items) at (c.if-fits.ensures refl))
-    (rw (c.deref-then-fits.ensures.value, items) at (c.fits-then-fits.ensures h)))
+    (rw (c.deref.ensures.value, items) at (c.if-fits.ensures.fits refl))
+    (rw (c.deref-then-fits.ensures.value, items) at (c.fits-then-fits.ensures.fits h)))
 
 pub returns-then-fits-clause-times : goal.returns-then-fits-clause-times
 returns-then-fits-clause-times g c = λ _ x.

@@ -15,4 +15,4 @@ returns-clause-stacked g c = λ h.
     rw c.remove.ensures.items
     (removed e.points.now e.ranks.now c.args.status.now.items c.args.place c.requires.stacked
     (omega arith)
-    (rw (c.deref.ensures.value, c.remove.ensures.items) at (c.fits.ensures h)))
+    (rw (c.deref.ensures.value, c.remove.ensures.items) at (c.fits.ensures.fits h)))

@@ -8,12 +8,12 @@ returns-then-fits-clause-stacked g c = λ h.
     let e = c.args.events.now in
     let size = e.are.all_ranks in
     replaced e.points.now e.ranks.now c.args.status.now.items c.place_of-place.result c.requires.stacked c.args.f (omega (arith, size, c.requires.f))
-    (rw c.deref-2.ensures.value at (c.if-fits.ensures refl))
-    (rw c.deref-then-fits.ensures.value at (c.fits-then-fits.ensures h))
+    (rw c.deref-2.ensures.value at (c.if-fits.ensures.fits refl))
+    (rw c.deref-then-fits.ensures.value at (c.fits-then-fits.ensures.fits h))
 
 pub returns-then-fits-clause-times : goal.returns-then-fits-clause-times
 returns-then-fits-clause-times g c = λ _ x.
-    let within : c.place_of-place.result < length c.args.status.now.items = omega (arith, c.place_of-place.ensures, c.if-place-len.false, c.len.ensures, c.deref.ensures.len, ap length c.deref.ensures.value) in
+    let within : c.place_of-place.result < length c.args.status.now.items = omega (arith, c.place_of-place.ensures.place, c.if-place-len.false, c.len.ensures, c.deref.ensures.len, ap length c.deref.ensures.value) in
     times_replaced c.args.status.now.items c.place_of-place.result c.args.e c.args.f c.index.result.now x within c.index.ensures c.if-index-e.false
 
 pub place_of-place-requires-clause-edges : goal.place_of-place-requires-clause-edges
