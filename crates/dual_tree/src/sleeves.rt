@@ -21,5 +21,5 @@ pub fn sleeve(alloc: Global, mesh: &Mesh, from: u32, to: u32) -> Result<Sleeve, 
     // The prover learns from this call how many triangles there can be.
     let _count = mesh.count();
     let walk = walk_between(alloc, mesh, from, to)?;
-    Sleeve::of(alloc, mesh, &walk)
+    Sleeve::along(alloc, mesh, walk)
 }

@@ -42,7 +42,7 @@ fn keys_of<L: Ledger>(
 {
     let mut keys = Vec::with_capacity(alloc, points.len())?;
     for number in 0..points.len() as u32 {
-        keys.push(key_of(points, number, steps))?;
+        keys.push_reserved(key_of(points, number, steps));
     }
     Ok(keys)
 }
@@ -75,7 +75,7 @@ fn numbers_of(alloc: Global, keys: &[u64]) -> Result<Vec<u32>, Memory>
 {
     let mut numbers = Vec::with_capacity(alloc, keys.len())?;
     for key in keys {
-        numbers.push((*key % 65_536) as u32)?;
+        numbers.push_reserved((*key % 65_536) as u32);
     }
     Ok(numbers)
 }

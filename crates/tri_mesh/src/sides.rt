@@ -1,5 +1,5 @@
-ghost use Rattle.std.specs.Prelude.{◌≡◌, ◌+◌, ◌*◌, ◌<◌, ◌^◌, ℕ, false, IfOk, IsTrue, None, OnOk, Some};
-ghost use Rattle.std.specs.Prelude.{[], ◌∷◌, ◌++◌, length, max, min, replicate};
+ghost use Rattle.std.specs.Prelude.{◌≡◌, ◌+◌, ◌*◌, ◌<◌, ◌^◌, ℕ, false, IfOk, IsTrue, None, Some};
+ghost use Rattle.std.specs.Prelude.{[], ◌∷◌, ◌++◌, length, max, min, replicate, vec_capacity};
 ghost use Rattle.meshes.specs.Side.{HasSidesOnce, tri_at};
 ghost use Rattle.tri_mesh.specs.Neighbours.{AreChained, AreKept, AreLinkedRows, AreListedSides, ArePaired, AreRowsOf, AreSeen};
 ghost use Rattle.tri_mesh.specs.Neighbours.{AreShared, HasCornersBelow};
@@ -62,41 +62,35 @@ fn sides_of(alloc: Global, tris: &[Tri], marks: &mut [Option<u32>]) -> Result<Ve
 {
     let mut sides = Vec::with_capacity(alloc, 3 * tris.len())?;
     for (k, tri) in tris.iter().enumerate() {
-        add(&mut sides, marks, tri.a, tri.b, k as u32, 0)?;
-        add(&mut sides, marks, tri.b, tri.c, k as u32, 1)?;
-        add(&mut sides, marks, tri.c, tri.a, k as u32, 2)?;
+        add(&mut sides, marks, tri.a, tri.b, k as u32, 0);
+        add(&mut sides, marks, tri.b, tri.c, k as u32, 1);
+        add(&mut sides, marks, tri.c, tri.a, k as u32, 2);
     }
     Ok(sides)
 }
 
 // Appends the side from one corner to another, which becomes the last one at its higher corner.
-fn add(
-    sides: &mut Vec<Side>,
-    marks: &mut [Option<u32>],
-    from: u32,
-    to: u32,
-    tri: u32,
-    number: u32,
-) -> Result<(), Memory>
+fn add(sides: &mut Vec<Side>, marks: &mut [Option<u32>], from: u32, to: u32, tri: u32, number: u32)
     requires chained { AreChained sides.old.items marks.old }
     requires from { from < length marks.old }
     requires to { to < length marks.old }
     requires few { length sides.old.items < 2 ^ 32 }
+    requires room { length sides.old.items < vec_capacity sides.old }
     ensures count { length marks.new ≡ length marks.old }
-    ensures side { OnOk result (sides.new.items ≡ sides.old.items ++ chained_side marks.old from to tri number ∷ []) }
-    ensures chained { OnOk result (AreChained sides.new.items marks.new) }
+    ensures side { sides.new.items ≡ sides.old.items ++ chained_side marks.old from to tri number ∷ [] }
+    ensures chained { AreChained sides.new.items marks.new }
+    ensures same_room { vec_capacity sides.new ≡ vec_capacity sides.old }
 {
     let place = sides.len() as u32;
     let high = from.max(to);
-    sides.push(Side {
+    sides.push_reserved(Side {
         low: from.min(to),
         high,
         tri,
         number,
         before: marks[high as usize],
-    })?;
+    });
     marks[high as usize] = Some(place);
-    Ok(())
 }
 
 // Links the sides whose higher corner is `v`, where two are between the same corners, and marks the lower corners of some.

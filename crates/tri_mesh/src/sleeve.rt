@@ -34,14 +34,20 @@ impl Sleeve {
         ensures walk { IfOk result (λ sleeve. sleeve.walk ≡ walk.now) }
         ensures of_mesh { IfOk result (IsOneOf mesh.now) }
     {
+        Sleeve::along(alloc, mesh, walk.to_vec(alloc)?)
+    }
+
+    /// The same without a copy of the walk, which is dropped where memory is refused.
+    pub fn along(alloc: Global, mesh: &Mesh, walk: Vec<u32>) -> Result<Sleeve, Memory>
+        requires { IsWalk mesh.now walk.items }
+        ensures walk { IfOk result (λ sleeve. sleeve.walk ≡ walk.items) }
+        ensures of_mesh { IfOk result (IsOneOf mesh.now) }
+    {
         let mut diagonals = Vec::with_capacity(alloc, walk.len() - 1)?;
         for i in 1..walk.len() {
             diagonals.push(between(mesh, walk[i - 1], walk[i]))?;
         }
-        Ok(Sleeve {
-            walk: walk.to_vec(alloc)?,
-            diagonals,
-        })
+        Ok(Sleeve { walk, diagonals })
     }
 
     /// How many diagonals there are.

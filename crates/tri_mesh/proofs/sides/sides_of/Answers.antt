@@ -13,14 +13,15 @@ loop-k-preserved c =
     let ys = c.add.new.sides.items in
     let zs = c.add-in-loop-k.new.sides.items in
     let one = one_more tris n k 0 in_list corners (omega arith) xs ys c.loop-k.marks (omega (arith, c.loop-k.invariant.number))
-    c.loop-k.invariant.sides c.in_ok-add.ensures.side in
+    c.loop-k.invariant.sides c.add.ensures.side in
     let two = one_more tris n k 1 in_list corners (omega arith) ys zs c.add.new.marks (omega (arith, one.0))
-    one.1 c.in_ok-add-2.ensures.side in
+    one.1 c.add-in-loop-k.ensures.side in
     let three = one_more tris n k 2 in_list corners (omega arith) zs c.add-in-loop-k-2.new.sides.items c.add-in-loop-k.new.marks
-    (omega (arith, two.0)) two.1 c.in_ok-add-3.ensures.side in
+    (omega (arith, two.0)) two.1 c.add-in-loop-k-2.ensures.side in
     record {
       number = omega (arith, three.0);
       sides = three.1;
-      count = c.in_ok-add-3.ensures.count ∙ c.in_ok-add-2.ensures.count ∙ c.in_ok-add.ensures.count ∙ c.loop-k.invariant.count;
-      chained = c.in_ok-add-3.ensures.chained;
+      count = c.add-in-loop-k-2.ensures.count ∙ c.add-in-loop-k.ensures.count ∙ c.add.ensures.count ∙ c.loop-k.invariant.count;
+      chained = c.add-in-loop-k-2.ensures.chained;
+      room = omega (arith, c.add.ensures.same_room, c.add-in-loop-k.ensures.same_room, c.add-in-loop-k-2.ensures.same_room, c.loop-k.invariant.room);
     }

@@ -1,4 +1,5 @@
-use Rattle.std.proofs.Common.{◌≡◌, ◌*◌, length}
+use Rattle.std.proofs.Common.{◌≡◌, ◌*◌, ◌≤◌, length}
+use Rattle.std.specs.Prelude.{vec_capacity}
 use Rattle.tri_mesh.proofs.sides.sides_of.Given as goal
 use Rattle.tri_mesh.specs.Neighbours.{AreChained, AreListedSides}
 
@@ -8,4 +9,5 @@ invariant-loop-k l = record {
   sides : AreListedSides l.tris (length l.fn.marks) l.sides.items;
   count : length l.marks ≡ length l.fn.marks;
   chained : AreChained l.sides.items l.marks;
+  room : 3 * length l.tris ≤ vec_capacity l.sides;
 }
