@@ -37,8 +37,8 @@ const MANY: usize = 192;
 
 const LONG: u32 = 1024;
 
-/// The verdict on a list of points. For m points and n vertices, n below 2 to the power d, it takes at most 2560 n n + 5100 n (d + 2)
-/// steps a point, and 800 n (d + 4) more.
+/// The verdict on a list of points. For n vertices, n below 2 to the power d, it takes at most 2560 n n + 5100 n (d + 2) steps a
+/// point, and 800 n (d + 4) more.
 pub fn check<L: Ledger>(
     alloc: Global,
     ring: &Ring,
