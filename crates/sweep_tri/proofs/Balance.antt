@@ -16,7 +16,7 @@ mod EdgeSums
 mod Area
 -- After the last event: the triangles fit the ring.
 mod AtEnd
-pub use Rattle.sweep_tri.proofs.Balance.AtEnd.{balanced_at_end, nothing_left}
+pub use Rattle.sweep_tri.proofs.Balance.AtEnd.{balanced_at_end}
 -- The signs of the edges of a ring before and after an event: just those of the edges that begin there are new.
 mod Signs
 pub use Rattle.sweep_tri.proofs.Balance.Signs.{AreBeside}
@@ -26,4 +26,4 @@ pub use Rattle.sweep_tri.proofs.Balance.Steps.{balanced_at_start}
 -- Each event keeps the balance.
 mod Events
 pub use Rattle.sweep_tri.proofs.Balance.Events.{AreFilledClosed, balanced_begins, balanced_ends, balanced_goes_on}
-pub use Rattle.sweep_tri.proofs.Balance.Events.{balanced_merges, balanced_splits, filled_closed-append}
+pub use Rattle.sweep_tri.proofs.Balance.Events.{balanced_merges, balanced_splits}

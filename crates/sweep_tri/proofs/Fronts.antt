@@ -33,15 +33,11 @@ mod Gaps
 mod Edits
 -- The edges below and above one gap: where the vertex of an event is to them, and whether they end there.
 mod GapPlaces
-pub use Rattle.sweep_tri.proofs.Fronts.GapPlaces.{GoesOn, low_below_up, low_is_front, sorted, up_is_front}
+pub use Rattle.sweep_tri.proofs.Fronts.GapPlaces.{GoesOn, low_is_front, sorted, up_is_front}
 -- Which edges of the gaps end at the vertex of an event, by its place among the gaps.
 mod Kinds
--- An event at which two edges begin: a new gap, or one that divides.
-mod Starts
-pub use Rattle.sweep_tri.proofs.Fronts.Starts.{IsSplit, IsStart, splits, starts}
--- An event at which one edge goes on in another.
-mod Follows
-pub use Rattle.sweep_tri.proofs.Fronts.Follows.{IsNext, follows_low, follows_up}
--- An event at which two edges end: a gap that closes, or two that are joined.
-mod Closes
-pub use Rattle.sweep_tri.proofs.Fronts.Closes.{IsEnd, IsMerge, closes, ends, merges}
+-- What an event makes of the edges that the sweep line meets: two begin, and a gap is new or divides; one goes on in another; or two end, and a
+-- gap closes or two are joined.
+mod Events
+pub use Rattle.sweep_tri.proofs.Fronts.Events.{IsEnd, IsMerge, IsNext, IsSplit, IsStart, closes, ends, follows_low, follows_up, merges}
+pub use Rattle.sweep_tri.proofs.Fronts.Events.{splits, starts}

@@ -8,5 +8,5 @@ mod ChainRings
 mod Boundaries
 -- A closed region is a piece of the polygon: simple, counterclockwise and monotone.
 mod ClosedRegions
-pub use Rattle.sweep_tri.proofs.Pieces.ClosedRegions.{boundary_counterclockwise, boundary_length, boundary_long, boundary_monotone, boundary_numbers}
+pub use Rattle.sweep_tri.proofs.Pieces.ClosedRegions.{boundary_counterclockwise, boundary_long, boundary_monotone, boundary_numbers}
 pub use Rattle.sweep_tri.proofs.Pieces.ClosedRegions.{boundary_polygon, boundary_simple}

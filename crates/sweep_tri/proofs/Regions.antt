@@ -25,11 +25,8 @@ mod Latest
 -- The parts of a gap: what is open where one of its edges ends, and what is closed.
 mod Parts
 pub use Rattle.sweep_tri.proofs.Regions.Parts.{closes, left_ends, left_far}
--- What the events make of gaps, but for splits.
+-- What the events make of gaps.
 mod Events
-pub use Rattle.sweep_tri.proofs.Regions.Events.{begins, ends, goes_on, merges, stays}
+pub use Rattle.sweep_tri.proofs.Regions.Events.{begins, ends, goes_on, merges, splits_above, splits_below, stays}
 -- One region on both sides of a diagonal to the vertex of a split.
 mod Diagonals
--- What a split makes of a gap.
-mod Splits
-pub use Rattle.sweep_tri.proofs.Regions.Splits.{splits_above, splits_below}

@@ -29,14 +29,7 @@ module _ (corners : List Point) (ranks : List ℕ) (k : ℕ) (gaps : List Gap) (
   pub up_is_front : (i : ℕ) → i < length gaps → IsFront ranks k (up_front (gap_at gaps i))
   up_is_front i h = subst (IsFront ranks k) (up_at gaps i h) (frontier.edges (2 * i + 1) (omega (arith, h, length-fronts gaps)))
 
-  -- and they are in order
-  pub low_below_up : (i : ℕ) → i < length gaps
-      → IsBelow (front_edge corners (low_front (gap_at gaps i))) (front_edge corners (up_front (gap_at gaps i)))
-  low_below_up i h =
-      rw (low_at gaps i h, up_at gaps i h) at
-      (frontier.ordered (2 * i) (2 * i + 1) (omega arith) (omega (arith, h, length-fronts gaps)))
-
-  -- with those of later gaps
+  -- it is below the upper edge of each later gap
   pub low_below_later : (i j : ℕ) → i < j → j < length gaps
       → IsBelow (front_edge corners (low_front (gap_at gaps i))) (front_edge corners (up_front (gap_at gaps j)))
   low_below_later i j less h =

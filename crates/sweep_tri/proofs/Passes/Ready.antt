@@ -3,13 +3,12 @@ use Rattle.std.proofs.Common.{◌≡◌, Result, Ok, Err, sym, subst, ℕ, ◌+�
 use Rattle.std.specs.Prelude.{OnOk, slice_index}
 use Rattle.plane.specs.Point.{Point}
 use Rattle.meshes.specs.declared.tri.Tri.{Tri}
-use Rattle.sweep_tri.proofs.Search.{open_have_low_fronts}
 use Rattle.sweep_tri.proofs.Swept.{IsAtEvent, gap_high_region, gap_low_region, swept_sorted}
 use Rattle.sweep_tri.specs.Frontier.{IsGapPlace}
 use Rattle.sweep_tri.specs.Gaps.{before_last, gap_at, highest, up_front}
 use Rattle.sweep_tri.specs.Passing.{IsNextEvent}
 use Rattle.sweep_tri.specs.Region.{IsRegion}
-use Rattle.sweep_tri.specs.Slots.{AreSortedBy, HaveLowFronts}
+use Rattle.sweep_tri.specs.Slots.{AreSortedBy}
 use Rattle.sweep_tri.specs.Swept.{IsSwept}
 use Rattle.sweep_tri.specs.declared.gap.Gap.{Gap}
 
@@ -38,10 +37,6 @@ module _ {corners : List Point} {ranks : List ℕ} {gaps : List Gap} {tris : Lis
   -- there are fewer gaps than vertices
   pub gaps_few : length gaps + 1 ≤ length corners
   gaps_few = omega (arith, is.swept.few, rank_below)
-
-  -- what the search for its place needs
-  pub has_low_fronts : HaveLowFronts corners gaps
-  has_low_fronts = open_have_low_fronts corners ranks (slice_index ranks v) gaps is.swept.gaps_open
 
   pub is_sorted : AreSortedBy corners gaps v
   is_sorted =

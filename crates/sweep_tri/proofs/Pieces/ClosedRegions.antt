@@ -10,7 +10,7 @@ use Rattle.meshes.proofs.Sides.{length_points}
 use Rattle.meshes.specs.Fits.{piece_points}
 use Rattle.meshes.specs.Piece.{IsPolygonPiece}
 use Rattle.mono_fill.specs.Monotone.{IsMonotone, Rises}
-use Rattle.sweep_tri.proofs.Pieces.Boundaries.{all_boundary, goes_round, length-boundary, monotone_of_chains, path_at}
+use Rattle.sweep_tri.proofs.Pieces.Boundaries.{all_boundary, goes_round, monotone_of_chains, path_at}
 use Rattle.sweep_tri.proofs.Pieces.ChainRings.{AreChains, GoesRound, counterclockwise_of_chains, simple_of_chains, three_of_chains}
 use Rattle.sweep_tri.proofs.RankOrder.{number_is_one, ranks_are}
 use Rattle.sweep_tri.specs.Region.{Chains, IsClosedRegion, IsStep, RisesBy, boundary}
@@ -66,10 +66,6 @@ module _ (corners : List Point) (order ranks : List ℕ) (are : AreEvents corner
     round =
         let region = closed.is_region in
         goes_round c region.lower_some region.upper_some corners region.first closed.last
-
-    -- how many vertices its boundary has
-    pub boundary_length : length (boundary c) + 2 ≡ length c.lower + length c.upper
-    boundary_length = let region = closed.is_region in length-boundary c region.lower_some region.upper_some
 
     -- at least three,
     pub boundary_long : 3 ≤ length (boundary c)
