@@ -38,7 +38,6 @@ pub use Rattle.funnels.proofs.Bends.InLine.{level_is_vertex, ray_ahead, ray_behi
 mod FanCones
 mod Fans
 mod HalfPlaneTurns
--- Fans of the triangles of a mesh at one of their corners, on either side: one begins in a triangle, goes on over one, and has a last step in one.
 -- A bend at a corner of a mesh, with a shared side on its last ray, grows over the triangle beyond the side, and turns the same way.
 mod GrownBends
 pub use Rattle.funnels.proofs.Bends.GrownBends.{grown_bend, grown_turning}

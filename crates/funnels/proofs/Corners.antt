@@ -23,7 +23,6 @@ pub use Rattle.funnels.proofs.Corners.NoBendInTriangle.{neighbour_within, no_ben
 mod CornerPoints
 pub use Rattle.funnels.proofs.Corners.CornerPoints.{IsCorner, at_corner, begin_is_corner, corner_of, end_is_corner}
 mod WithinCones
--- There is no bend between two rays within the angle of a triangle of a mesh: the ring turns there as the triangle does.
 -- A point that a corner of a triangle of a mesh sees across the opposite side is within the angle of the triangle there.
 mod SeenWithin
 pub use Rattle.funnels.proofs.Corners.SeenWithin.{side_at_corner, within_of_seen, within_on_ray}

@@ -43,7 +43,6 @@ mod NextPoints
 pub use Rattle.funnels.proofs.Funnels.NextPoints.{left_new_at, left_old_at, left_on_left, left_on_right, next_left_length, next_left_old}
 pub use Rattle.funnels.proofs.Funnels.NextPoints.{next_right_last, next_right_length, next_right_old, right_new_at, right_old_at}
 pub use Rattle.funnels.proofs.Funnels.NextPoints.{right_on_left, right_on_right}
--- The points of a funnel of the points to place h, and then a point m, and what holds of three of them.
 -- The way to a point beyond the diagonal, from the place of the funnel that it is reached from, goes over the diagonal.
 mod NewEdge
 pub use Rattle.funnels.proofs.Funnels.NewEdge.{reaches_new}
@@ -60,7 +59,6 @@ mod TwoEdges
 -- The edges of a funnel at its places, and the window of the place from which a point is reached.
 mod FunnelEdges
 pub use Rattle.funnels.proofs.Funnels.FunnelEdges.{edge_after, edge_before, in_window_of, window_of_reached}
--- The funnel of the diagonal from the left end to a point beyond: the points to the place that the point is reached from, and the point.
 -- The way from a point to one beyond a diagonal, between the lines of two edges at the point, crosses the diagonal between them.
 mod CrossingDiagonal
 pub use Rattle.funnels.proofs.Funnels.CrossingDiagonal.{crossing_in_window}

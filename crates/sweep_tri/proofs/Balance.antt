@@ -5,11 +5,9 @@ mod Along
 -- Sums over lists of triangles and of gaps, after an edit.
 mod Lists
 -- The triangles that fill closed regions have the sums of these.
-mod Closed
-pub use Rattle.sweep_tri.proofs.Balance.Closed.{closed_round, filled-append, filled_sum}
 -- What an event does to the regions of a gap, by their sums.
 mod Edits
-pub use Rattle.sweep_tri.proofs.Balance.Edits.{left_some, open_joined}
+pub use Rattle.sweep_tri.proofs.Balance.Edits.{closed_round, filled-append, filled_sum, left_some, open_joined}
 -- Sums over the edges of a ring, each with a sign: where the signs agree, and where all are 1 or -1.
 mod EdgeSums
 -- Twice the areas that edges sweep out round the origin: of triangles, and of a ring.

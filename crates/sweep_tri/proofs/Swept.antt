@@ -5,10 +5,9 @@ mod AtEvent
 pub use Rattle.sweep_tri.proofs.Swept.AtEvent.{IsAtEvent, both_turn, event_below, event_rank}
 -- The gaps of a list after an edit.
 mod Lists
--- Gaps that stay open, since neither edge ends at the event.
+-- What is kept at an event: gaps neither of whose edges ends there are open after it, and triangles that fit closed regions are triangles of
+-- the ring.
 mod Kept
--- Triangles that fit closed regions are triangles of the ring.
-mod Triangles
 -- The edges of the gaps that an event leaves.
 mod Edges
 -- Two edges begin at the event: a gap starts between them, or they begin in a gap, and split it.

@@ -8,8 +8,8 @@ use Rattle.plane.specs.Point.{Point}
 use Rattle.rings.specs.Events.{AreEvents, next, previous}
 use Rattle.meshes.specs.Boundary.{IsOdd, sum_sides}
 use Rattle.meshes.specs.declared.tri.Tri.{Tri}
-use Rattle.sweep_tri.proofs.Balance.Closed.{all_filled_sum, sum_regions}
-use Rattle.sweep_tri.proofs.Balance.Edits.{AreJoined, left_some, met_sum, open_joined, region_from_sum, sign_of, split_sum, with_vertex_sum}
+use Rattle.sweep_tri.proofs.Balance.Edits.{AreJoined, all_filled_sum, left_some, met_sum, open_joined, region_from_sum, sign_of, split_sum}
+use Rattle.sweep_tri.proofs.Balance.Edits.{sum_regions, with_vertex_sum}
 use Rattle.sweep_tri.proofs.Balance.Lists.{gaps_inserted, gaps_removed, gaps_replaced}
 use Rattle.sweep_tri.proofs.Balance.Signs.{AreBeside}
 use Rattle.sweep_tri.proofs.Balance.Steps.{none_begins, one_begins, two_begin}

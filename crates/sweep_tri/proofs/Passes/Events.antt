@@ -8,7 +8,7 @@ use Rattle.meshes.specs.declared.tri.Tri.{Tri}
 use Rattle.mono_fill.specs.declared.side.Side.{Side}
 use Rattle.mono_fill.specs.declared.side.Side.TheVariants.{Lower, Upper}
 use Rattle.sweep_tri.proofs.Fronts.{beside_swapped, IsNext}
-use Rattle.sweep_tri.proofs.Passes.Ready.{at_event}
+use Rattle.sweep_tri.proofs.Passes.Sweeping.{at_event}
 use Rattle.sweep_tri.proofs.Swept.{both_turn, swept_splits, swept_starts, event_low, event_up, follow_closes, swept_follows, end_closes}
 use Rattle.sweep_tri.proofs.Swept.{end_has_gap, merge_closes_above, merge_closes_below, merge_some, swept_ends, swept_merges}
 use Rattle.sweep_tri.specs.Forks.{IsForkAt, TurnsLeft}
