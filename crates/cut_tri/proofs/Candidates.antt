@@ -38,10 +38,6 @@ pub record IsBestBelow (corners : List Point) (piece order : List ℕ) (n : ℕ)
 not_farther_trans : (a b c : Candidate) → ¬ (IsFarther a b) → ¬ (IsFarther b c) → ¬ (IsFarther a c)
 not_farther_trans a b c h k l = grind (arith, ints)
 
--- no vertex has such a rank at first
-no_rank : (order : List ℕ) (i : ℕ) → ¬ HasRankBelow order 1 i
-no_rank order i has = let low = has.some in let high = has.below in omega arith
-
 -- one rank more is that of one vertex
 rank_cases : (order : List ℕ) (n i : ℕ) → HasRankBelow order (n + 1) i → HasRankBelow order n i ⊎ (of_rank order n ≡ i)
 rank_cases order n i has = elim (cases_lt has.rank n) [
@@ -52,15 +48,6 @@ rank_cases order n i has = elim (cases_lt has.rank n) [
 ]
 
 module _ (corners : List Point) (piece order : List ℕ) where
-  -- before the first there is none
-  pub best_of_none : IsBestBelow corners piece order 1 None
-  best_of_none = record {
-    none = λ e i has. absurd (no_rank order i has);
-    is_candidate = λ b e. absurd (cc);
-    in_corner = λ b e. absurd (cc);
-    farthest = λ b e i has. absurd (no_rank order i has);
-  }
-
   module _ (n : ℕ) (best : Option Candidate) (so_far : IsBestBelow corners piece order n best) where
     -- a vertex that is not in the corner changes nothing
     pub best_past : ¬ (IsInCornerOf corners piece (of_rank order n)) → IsBestBelow corners piece order (n + 1) best

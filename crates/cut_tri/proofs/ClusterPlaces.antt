@@ -1,9 +1,9 @@
 -- Clusters of the vertices of a ring: each vertex has a place, and boxes with a common point overlap.
-use Rattle.std.proofs.Common.{◌≡◌, subst, ℕ, ◌<◌, ℤ, ◌≤ℤ◌, List, length, get_or, arith}
+use Rattle.std.proofs.Common.{◌≡◌, ◌∙◌, subst, ℕ, ◌<◌, ℤ, ◌≤ℤ◌, List, length, get_or, arith}
 use Rattle.std.proofs.lemmas.Int.{ints}
 use Rattle.std.proofs.lemmas.List.Elements.{All-from_get_or, Contains-get_or}
 use Rattle.std.proofs.lemmas.List.FromFn.{get_or-range_with_len, length-range_with_len}
-use Rattle.std.proofs.lemmas.List.Sorted.{All-permutation, Contains-permutation}
+use Rattle.std.proofs.lemmas.List.Sorted.{All-permutation, Contains-permutation, length_permutation}
 use Rattle.std.specs.List.{All, Contains, range_with_len}
 use Rattle.std.specs.Prelude.{IsPermutation}
 use Rattle.plane.specs.Point.{Point}
@@ -17,6 +17,10 @@ module _ (n : ℕ) (numbers : List ℕ) (all : IsPermutation (range_with_len 0 n
   all_below =
       All-permutation (λ i. i < n) (range_with_len 0 n) numbers all
       (All-from_get_or (λ i. i < n) (range_with_len 0 n) 0 (λ k h. omega (arith, h, length-range_with_len 0 n, get_or-range_with_len 0 n k 0)))
+
+  -- as many as there are,
+  pub all_there : length numbers ≡ n
+  all_there = length_permutation (range_with_len 0 n) numbers all ∙ length-range_with_len 0 n
 
   -- and each of those has a place
   pub has_place : (i : ℕ) → i < n → (k : ℕ) × (k < length numbers) × (get_or numbers k 0 ≡ i)

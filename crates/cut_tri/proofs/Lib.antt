@@ -1,5 +1,6 @@
 mod Candidates
 mod ClusterPlaces
+mod ClusterSteps
 mod Completion
 mod CornerPlaces
 mod DiagonalCuts

@@ -1,7 +1,11 @@
 -- The vertex that is looked at: whether it is in the corner at the least vertex of its piece.
-use Rattle.std.proofs.Common.{◌≡◌, refl, None, sym, ap, subst, ◌∙◌, ℕ, ◌-◌, ◌<◌, ◌≤◌, ℤ, ◌<ℤ◌, ◌≤ℤ◌, List, length, get_or, arith}
+use Rattle.std.proofs.Common.{◌≡◌, refl, None, sym, ap, subst, ◌∙◌, ℕ, ◌-◌, ◌<◌, ◌≤◌, ℤ, ◌<ℤ◌, ◌≤ℤ◌, List, length, get_or, eqb-true, arith}
+use Rattle.std.proofs.lemmas.Bool.{eq-eqb}
 use Rattle.std.proofs.lemmas.Int.{ints}
 use Rattle.std.proofs.lemmas.List.Elements.{Contains-get_or}
+use Rattle.std.proofs.lemmas.Map.Made.{IsDistinct-from_AllPairs}
+use Rattle.std.proofs.lemmas.Map.Steps.{length-le_from_distinct_below}
+use Rattle.std.proofs.lemmas.Map.Views.{Contains-from_any}
 use Rattle.std.specs.List.{Contains}
 use Rattle.plane.proofs.Order.{before_differs}
 use Rattle.plane.specs.Order.{IsBefore}
@@ -96,6 +100,13 @@ module _ (corners : List Point) (xs os : List ℕ) (is : IsOrderOf corners xs os
   -- and has some
   pub order_some : 0 < length xs → 0 < length os
   order_some some = let (k, within, at) = is.all (get_or xs 0 0) (Contains-get_or xs 0 0 some) in omega (arith, within)
+
+  -- as many as the ring has at most
+  pub order_few : HasNumbers corners xs → length os ≤ length corners
+  order_few numbers =
+      length-le_from_distinct_below os (length corners) (IsDistinct-from_AllPairs (λ i j. (eqb-true i j, eq-eqb i j)) os
+      (λ i j d less within e. before_differs _ _ (is.falls i j d less within) (ap (vertex corners) (sym e))))
+      (λ q found. members_of_numbers (length corners) xs numbers q (is.only q (Contains-from_any eqb-true q os found)))
 
   -- the vertices of a rank other than 0 are others than the first
   pub not_least : IsLeastPlace xs os 0 → (n : ℕ) → 0 < n → n < length os → ¬ (of_rank os n ≡ get_or xs 0 0)

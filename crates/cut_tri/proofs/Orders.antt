@@ -45,17 +45,6 @@ module _ (p : ℕ → Bool) where
 -- ---- the least vertex
 
 module _ (corners : List Point) (xs os : List ℕ) (is : IsOrderOf corners xs os) where
-  -- the last of the order is before all others of the piece
-  pub before_others : (i : ℕ) → Contains xs i → ¬ (i ≡ get_or os (length os - 1) 0) → IsBefore (vertex corners (get_or os (length os - 1) 0)) (vertex corners i)
-  before_others i has other =
-      let (k, within, at) = place_of os i (is.all i has) in
-      elim (cases_lt k (length os - 1)) [
-        | inl less ↦ subst (λ j. IsBefore (vertex corners (get_or os (length os - 1) 0)) (vertex corners j)) at (is.falls k (length os - 1) 0 less (omega (arith, within)))
-        | inr last ↦
-            let same : k ≡ length os - 1 = omega (arith, within, last) in
-            absurd (other (sym at ∙ ap (λ j. get_or os j 0) same))
-      ]
-
   -- so a boundary has its least vertex at the place of that
   pub least_below : (place : ℕ) → IsLeastPlace xs os place → IsLeastBelow corners xs (length xs) place
   least_below place least k within before =

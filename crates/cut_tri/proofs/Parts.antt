@@ -22,15 +22,11 @@ refilled n xs ws size same =
     ap (refill n xs) same ∙ ap (λ m. take m (xs ++ drop (length xs) xs)) size ∙ take-append_seam xs (drop (length xs) xs)
 
 module _ (corners : List Point) (xs os : List ℕ) (piece : IsPiece corners xs) (is : IsOrderOf corners xs os) where
-  -- its numbers are those of vertices,
-  pub boundary_below : (n : ℕ) → n ≡ length corners → All (λ i. i < n) xs
-  boundary_below n size = All-from_get_or (λ i. i < n) xs 0 (λ k h. subst (λ m. get_or xs k 0 < m) (sym size) (piece.numbers k h))
-
-  -- in the order too,
+  -- its order has numbers of vertices,
   pub order_below : (n : ℕ) → n ≡ length corners → All (λ i. i < n) os
   order_below n size = All-from_get_or (λ i. i < n) os 0 (λ k h. subst (λ m. get_or os k 0 < m) (sym size) (order_numbers corners xs os is piece.numbers k h))
 
-  -- and different
+  -- and its numbers are different
   pub different : AllPairs (λ i j. ¬ (i ≡ j)) xs
   different i j d less within e =
       let same : i ≡ j = at_one_place corners xs (piece_distinct corners xs piece) i j (omega (arith, less, within)) within
@@ -59,18 +55,17 @@ module _ (corners : List Point) (xs os : List ℕ) (piece : IsPiece corners xs) 
 
     module _ (place : ℕ) (at : place ≡ get_or places number 0) where
       -- which is after the second and before the last,
-      pub place_low : 2 ≤ place
-      place_low = let low = far.farthest.in_corner.after_second in omega (arith, low, at, place_is)
-
-      pub place_high : place + 1 < length xs
-      place_high = let high = far.farthest.in_corner.before_last in omega (arith, high, at, place_is)
+      pub place_inner : 2 ≤ place × place + 1 < length xs
+      place_inner =
+          let in_corner = far.farthest.in_corner in
+          (omega (arith, in_corner.after_second, at, place_is), omega (arith, in_corner.before_last, at, place_is))
 
       -- so what the code makes of the piece is its parts
       module _ (first second : List ℕ) (first_is : first ≡ take place xs ++ number ∷ []) (second_is : second ≡ get_or xs 0 0 ∷ drop place xs) where
         first_taken : first ≡ take (place + 1) xs
         first_taken =
             let here : get_or xs place 0 ≡ number = ap (λ k. get_or xs k 0) (at ∙ place_is) ∙ far.is in
-            first_is ∙ ap (λ i. take place xs ++ i ∷ []) (sym here) ∙ sym (take_more xs place 0 (omega (arith, place_high)))
+            first_is ∙ ap (λ i. take place xs ++ i ∷ []) (sym here) ∙ sym (take_more xs place 0 (omega (arith, place_inner.1)))
 
         pub are_parts : AreDiagonalPieces corners xs first second
         are_parts =
@@ -84,7 +79,7 @@ module _ (corners : List Point) (xs os : List ℕ) (piece : IsPiece corners xs) 
           pub orders_are : IsOrderOf corners first first_os × IsOrderOf corners second second_os
           orders_are = (
             subst (λ ys. IsOrderOf corners ys first_os) (sym first_taken) (subst (IsOrderOf corners (take (place + 1) xs)) (sym first_filtered)
-                (first_order corners xs os places place is are (omega (arith, place_high)))),
+                (first_order corners xs os places place is are (omega (arith, place_inner.1)))),
             subst (λ ys. IsOrderOf corners ys second_os) (sym second_is) (subst (IsOrderOf corners (get_or xs 0 0 ∷ drop place xs)) (sym second_filtered)
-                (second_order corners xs os places place is are (omega (arith, place_high)))),
+                (second_order corners xs os places place is are (omega (arith, place_inner.1)))),
           )

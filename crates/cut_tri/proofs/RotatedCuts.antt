@@ -37,6 +37,10 @@ module _ (corners : List Point) (xs ys : List ℕ) where
   result_rotated (Ok remains) h = cut_rotated remains h
   result_rotated (Err e) h = h
 
+-- it is as long
+pub as_long : (xs : List ℕ) (k : ℕ) → length (drop k xs ++ take k xs) ≡ length xs
+as_long xs k = omega (arith, length-append (drop k xs) (take k xs), length-append (take k xs) (drop k xs), ap length (take-append-drop k xs))
+
 module _ (corners : List Point) (xs : List ℕ) (k : ℕ) (is : IsPiece corners xs) where
   -- a piece in two parts
   two_parts : IsPiece corners (take k xs ++ drop k xs)

@@ -1,5 +1,7 @@
--- The pieces that are still to be cut: how they complete a mesh, and how much is still to be done, after one cut more.
-use Rattle.std.proofs.Common.{◌≡◌, sym, ap, subst, ◌∙◌, ℕ, ◌+◌, ◌<◌, List, [], ◌∷◌, ◌++◌, length, map, reverse, take, drop, Some, arith}
+-- The pieces that are still to be cut: how they complete a mesh, and how much is still to be done and what it takes, after one cut more.
+use Rattle.std.proofs.Common.{◌≡◌, inl, inr, sym, ap, subst, ◌∙◌, ℕ, ◌+◌, ◌-◌, ◌*◌, ◌<◌, ◌≤◌, List, [], ◌∷◌, ◌++◌, length, map, reverse, take, drop, Some, arith}
+use Rattle.std.proofs.Math.Nat.{mul-le-mul_left}
+use Rattle.std.proofs.lemmas.Bool.{cases_lt}
 use Rattle.std.proofs.lemmas.List.{append_assoc, length-append, length-take-le, map-append, reverse-append}
 use Rattle.std.proofs.lemmas.List.Elements.{All-pop, All-push}
 use Rattle.std.proofs.lemmas.List.FromFn.{length-range_with_len}
@@ -7,7 +9,7 @@ use Rattle.std.specs.List.{range_with_len}
 use Rattle.plane.specs.Point.{Point}
 use Rattle.meshes.specs.Fits.{Fits}
 use Rattle.meshes.specs.declared.tri.Tri.{Tri}
-use Rattle.cut_tri.proofs.Completion.{ArePieces, Completes, effort}
+use Rattle.cut_tri.proofs.Completion.{ArePieces, Completes, diagonals, effort}
 use Rattle.cut_tri.specs.Cut.{IsCutTriangulation}
 use Rattle.cut_tri.specs.Cutting.{AreDiagonalPieces, IsCutOf, IsEarCut, IsTriangle}
 use Rattle.cut_tri.specs.Ordered.{IsOrderOf}
@@ -28,6 +30,19 @@ pub record IsNearer (corners : List Point) (before : ℕ) (done : List Tri) (pie
   pub are_pieces : ArePieces corners pieces
   pub completes : Completes corners done pieces
   pub less : effort pieces < before
+
+-- a cut that takes no steps in a triangle, and else as many as are allowed for a diagonal, keeps within what is allowed
+within_allowed : (size allowed before after rest left : ℕ) → 3 ≤ size → (size ≡ 3 → after ≡ before) → after ≤ before + allowed
+    → left ≤ (size - 4) + rest → after + allowed * left ≤ before + allowed * ((size - 3) + rest)
+within_allowed size allowed before after rest left some none most fewer = elim (cases_lt 3 size) [
+  | inl more ↦
+      let one : left + 1 ≤ (size - 3) + rest = omega (arith, fewer, more) in
+      omega (arith, most, mul-le-mul_left allowed one)
+  | inr at ↦
+      let three : size ≡ 3 = omega (arith, some, at) in
+      let as_many : left ≤ (size - 3) + rest = omega (arith, fewer, three) in
+      omega (arith, none three, mul-le-mul_left allowed as_many)
+]
 
 module _ (corners : List Point) (piece : List ℕ) (pieces : List (List ℕ)) (done : List Tri) (is_piece : IsPiece corners piece)
     (are_pieces : ArePieces corners pieces) (completes : Completes corners done (piece ∷ pieces)) where
@@ -71,6 +86,28 @@ module _ (corners : List Point) (piece : List ℕ) (pieces : List (List ℕ)) (d
       subst (λ ts. IsNearer corners (effort (piece ∷ pieces)) ts pieces_after) (sym taken.0)
       (subst (IsNearer corners (effort (piece ∷ pieces)) done) (sym taken.1) (with_parts first.boundary.items second.boundary.items is))
 
+-- a cut draws a diagonal, but in a triangle
+fewer_diagonals : (corners : List Point) (piece : List ℕ) (pieces : List (List ℕ)) (done : List Tri) (remains : Remains) (done_after : List Tri)
+    (pieces_after : List (List ℕ)) → IsCutOf corners piece remains → IsTakenOver remains done pieces done_after pieces_after
+    → diagonals pieces_after ≤ (length piece - 4) + diagonals pieces
+fewer_diagonals corners piece pieces done (Triangle tri) done_after pieces_after is taken =
+    subst (λ ps. diagonals ps ≤ (length piece - 4) + diagonals pieces) (sym taken.1) (omega arith)
+fewer_diagonals corners piece pieces done (Ear tri rest) done_after pieces_after is taken =
+    subst (λ ps. diagonals ps ≤ (length piece - 4) + diagonals pieces) (sym taken.1) (omega (arith, is.shorter))
+fewer_diagonals corners piece pieces done (Parts first second) done_after pieces_after is taken =
+    let some = is.first_is_piece.polygon.some in
+    let more = is.second_is_piece.polygon.some in
+    subst (λ ps. diagonals ps ≤ (length piece - 4) + diagonals pieces) (sym taken.1) (omega (arith, is.lengths, some, more))
+
+-- what is allowed for so many diagonals, and for the order of the ring, is at most so many steps
+pub allowed_in_all : (n : ℕ) → 3 ≤ n → 64 * n + (886 * n + 910) * (n - 3) ≤ 886 * (n * n)
+allowed_in_all n some =
+    let back : n - 3 + 3 ≡ n = omega (arith, some) in
+    subst (λ m. 64 * m + (886 * m + 910) * (n - 3) ≤ 886 * (m * m)) back (squares (n - 3))
+  where
+    squares : (m : ℕ) → 64 * (m + 3) + (886 * (m + 3) + 910) * m ≤ 886 * ((m + 3) * (m + 3))
+    squares m = omega arith
+
 -- ---- the work list
 
 module _ (corners : List Point) where
@@ -83,6 +120,16 @@ module _ (corners : List Point) where
       (subst (λ xs. ArePieces corners (xs ∷ []) × Completes corners done (xs ∷ [])) (sym piece_is)
       (subst (λ ts. ArePieces corners (range_with_len 0 (length corners) ∷ []) × Completes corners ts (range_with_len 0 (length corners) ∷ [])) (sym done_is)
       ((is_piece, tt), λ ts fit cut. (fit, cut))))
+
+  -- for which as many diagonals are to be drawn as there are vertices but three
+  pub allowed_at_start : (none work : List Piece) (piece : Piece) → none ≡ [] → work ≡ none ++ piece ∷ []
+      → piece.boundary.items ≡ range_with_len 0 (length corners) → (allowed : ℕ)
+      → allowed * diagonals (last_first work) ≡ allowed * (length corners - 3)
+  allowed_at_start none work piece none_is work_is piece_is allowed =
+      let one : last_first work ≡ piece.boundary.items ∷ [] = ap last_first (work_is ∙ ap (λ ws. ws ++ piece ∷ []) none_is) in
+      let size : length piece.boundary.items ≡ length corners = ap length piece_is ∙ length-range_with_len 0 (length corners) in
+      let count : diagonals (piece.boundary.items ∷ []) ≡ length corners - 3 = omega (arith, size) in
+      ap (λ n. allowed * n) (ap diagonals one ∙ count)
 
   module _ (work rest : List Piece) (piece : Piece) (done : List Tri) (is : work ≡ rest ++ piece ∷ [])
       (so_far : ArePieces corners (last_first work) × Completes corners done (last_first work)) where
@@ -101,6 +148,27 @@ module _ (corners : List Point) where
         subst (λ n. IsNearer corners n done_after pieces_after) (sym (ap effort pieces_are))
         (nearer corners piece.boundary.items (last_first rest) done last_is_piece (subst (ArePieces corners) pieces_are so_far.0).1
         (subst (Completes corners done) pieces_are so_far.1) remains done_after pieces_after is_cut taken)
+
+    -- to cut the last one keeps within what is allowed
+    pub allowed_before : (remains : Remains) (done_after : List Tri) (pieces_after : List (List ℕ)) → IsCutOf corners piece.boundary.items remains
+        → IsTakenOver remains done (last_first rest) done_after pieces_after → (allowed before after : ℕ)
+        → (length piece.boundary.items ≡ 3 → after ≡ before) → after ≤ before + allowed
+        → after + allowed * diagonals pieces_after ≤ before + allowed * diagonals (last_first work)
+    allowed_before remains done_after pieces_after is_cut taken allowed before after none most =
+        subst (λ ps. after + allowed * diagonals pieces_after ≤ before + allowed * diagonals ps) (sym pieces_are)
+        (within_allowed (length piece.boundary.items) allowed before after (diagonals (last_first rest)) (diagonals pieces_after) last_is_piece.polygon.some none most
+        (fewer_diagonals corners piece.boundary.items (last_first rest) done remains done_after pieces_after is_cut taken))
+
+    -- also where memory is wanting
+    pub allowed_once : (allowed before after : ℕ) → (length piece.boundary.items ≡ 3 → after ≡ before) → after ≤ before + allowed
+        → after ≤ before + allowed * diagonals (last_first work)
+    allowed_once allowed before after none most =
+        subst (λ ps. after ≤ before + allowed * diagonals ps) (sym pieces_are)
+        (omega (
+          arith,
+          within_allowed (length piece.boundary.items) allowed before after (diagonals (last_first rest)) (diagonals (last_first rest))
+              last_is_piece.polygon.some none most (omega arith),
+        ))
 
   -- in the end the triangles fit, as many as there are vertices but two, and are those into which the ring is cut
   pub at_end : (work : List Piece) (done : List Tri) → length work ≡ 0 → Completes corners done (last_first work)

@@ -14,10 +14,10 @@ pub record IsBounded (triangle : Triangle) : Type 0 where
   pub second : Encloses triangle.bounds triangle.v
   pub third : Encloses triangle.bounds triangle.w
 
--- its vertices are in its box
-abbrev pub IsCluster : List Point → List ℕ → Cluster → Type 0
-IsCluster corners numbers cluster =
-    (k : ℕ) → cluster.first ≤ k → k < cluster.end → Encloses cluster.bounds (vertex corners (slice_index_or numbers k 0))
+-- its vertices are in its box, and it ends within the list
+pub record IsCluster (corners : List Point) (numbers : List ℕ) (cluster : Cluster) : Type 0 where
+  pub boxed : (k : ℕ) → cluster.first ≤ k → k < cluster.end → Encloses cluster.bounds (vertex corners (slice_index_or numbers k 0))
+  pub within : cluster.end ≤ length numbers
 
 -- all vertices are there, and each cluster has its vertices in its box
 pub record AreClusters (corners : List Point) (clusters : Clusters) : Type 0 where

@@ -1,6 +1,6 @@
 // Clusters of vertices with boxes round them, by which whole clusters are left out of the search for a vertex in a triangle.
 ghost use Rattle.std.specs.List.{All};
-ghost use Rattle.std.specs.Prelude.{◌<◌, ◌≤◌, ℕ, IfOk, List, length, slice_index_or};
+ghost use Rattle.std.specs.Prelude.{◌≡◌, ◌+◌, ◌*◌, ◌-◌, ◌%◌, ◌<◌, ◌≤◌, ℕ, IfOk, List, length, slice_index_or};
 ghost use Rattle.plane.specs.Point.{Point, whole};
 ghost use Rattle.plane.specs.Triangle.{IsInTriangle};
 ghost use Rattle.plane.specs.Turn.{IsLeft};
@@ -35,13 +35,14 @@ pub(crate) struct Clusters {
 }
 
 impl Clusters {
-    // The clusters of all vertices.
+    // The clusters of all vertices. It takes at most 128 steps a vertex.
     pub(crate) fn of<L: Ledger>(
         alloc: Global,
         ring: &Ring,
         steps: &mut Steps<L>,
     ) -> Result<Clusters, Memory>
-        ensures { IfOk result (AreClusters ring.now.corners) }
+        ensures clusters { IfOk result (AreClusters ring.now.corners) }
+        ensures steps { steps.new ≤ steps.old + 128 * length ring.now.corners }
     {
         let numbers = z_order(alloc, ring, steps)?;
         let mut clusters = least_clusters(alloc, ring, &numbers, steps)?;
@@ -54,7 +55,8 @@ impl Clusters {
     }
 
     // The place behind the greatest cluster from a place on whose box the triangle misses. Where there is no such cluster, that
-    // is the place.
+    // is the place. A cluster that adds fewer vertices than one that joins none has is not asked, so the steps are at most 120 for
+    // each vertex that is passed, and 960 where clusters begin.
     pub(crate) fn clear_to<L: Ledger>(
         &self,
         triangle: &Triangle,
@@ -63,8 +65,13 @@ impl Clusters {
     ) -> usize
         requires counterclockwise { IsLeft (whole triangle.now.u) (whole triangle.now.v) (whole triangle.now.w) }
         requires bounded { IsBounded triangle.now }
-        ensures { (corners : List Point) → AreClusters corners self.now → (k : ℕ) → place ≤ k → k < result
+        ensures apart { (corners : List Point) → AreClusters corners self.now → (k : ℕ) → place ≤ k → k < result
             → ¬ (IsInTriangle triangle.now.u triangle.now.v triangle.now.w (whole (vertex corners (slice_index_or self.now.numbers.items k 0)))) }
+        ensures later { place ≤ result }
+        ensures within { (corners : List Point) → AreClusters corners self.now → place ≤ length self.now.numbers.items
+            → result ≤ length self.now.numbers.items }
+        ensures between { ¬ (place % 8 ≡ 0) → (result ≡ place) × (steps.new ≡ steps.old) }
+        ensures steps { steps.new ≤ steps.old + (120 * (result - place) + 960) }
     {
         if place % LEAST != 0 {
             return place;
@@ -73,7 +80,10 @@ impl Clusters {
         let mut k = place / LEAST;
         while k < self.clusters.len() {
             let cluster = &self.clusters[k];
-            if cluster.first != place || !triangle.misses(&cluster.bounds, steps) {
+            if cluster.first != place || cluster.end.saturating_sub(end) < LEAST {
+                return end;
+            }
+            if !triangle.misses(&cluster.bounds, steps) {
                 return end;
             }
             end = cluster.end;
@@ -85,11 +95,14 @@ impl Clusters {
 }
 
 impl Cluster {
-    // The vertices at the places from `first` on, as many as a cluster has that joins no others, or all.
+    // The vertices at the places from `first` on, as many as a cluster has that joins no others, or all. It takes 64 steps a
+    // vertex.
     fn of<L: Ledger>(ring: &Ring, numbers: &[u32], first: usize, steps: &mut Steps<L>) -> Cluster
         requires numbers { All (λ i. i < length ring.now.corners) numbers.now }
         requires first { first < length numbers.now }
-        ensures { IsCluster ring.now.corners numbers.now result }
+        ensures cluster { IsCluster ring.now.corners numbers.now result }
+        ensures steps { steps.new ≤ steps.old + 64 * (length numbers.now - first) }
+        ensures few { steps.new ≤ steps.old + 512 }
     {
         let end = numbers.len().min(first + LEAST);
         let mut bounds = BoundingBox::empty();
@@ -116,7 +129,7 @@ impl Cluster {
     }
 }
 
-// The clusters that join none.
+// The clusters that join none. It takes at most 64 steps a vertex.
 fn least_clusters<L: Ledger>(
     alloc: Global,
     ring: &Ring,
@@ -124,7 +137,8 @@ fn least_clusters<L: Ledger>(
     steps: &mut Steps<L>,
 ) -> Result<Vec<Cluster>, Memory>
     requires { All (λ i. i < length ring.now.corners) numbers.now }
-    ensures { IfOk result (λ clusters. All (IsCluster ring.now.corners numbers.now) clusters.items) }
+    ensures clusters { IfOk result (λ clusters. All (IsCluster ring.now.corners numbers.now) clusters.items) }
+    ensures steps { steps.new ≤ steps.old + 64 * length numbers.now }
 {
     let mut clusters = Vec::with_capacity(alloc, numbers.len() / LEAST * 2 + 2)?;
     let mut first = 0;

@@ -1,5 +1,5 @@
 // One cut of a piece.
-ghost use Rattle.std.specs.Prelude.{◌≡◌, ◌<◌, ◌≤◌, IfOk, IfSome, length, slice_index_or};
+ghost use Rattle.std.specs.Prelude.{◌≡◌, ◌+◌, ◌*◌, ◌<◌, ◌≤◌, IfOk, IfSome, length, slice_index_or};
 ghost use Rattle.cut_tri.specs.Clusters.{AreClusters};
 ghost use Rattle.cut_tri.specs.Cutting.{IsCutOf};
 ghost use Rattle.cut_tri.specs.Ordered.{AreOrdered, IsFarthestNumber, IsLeastPlace, IsPieceInOrder, IsOrderedFromLeast};
@@ -44,6 +44,8 @@ pub(crate) fn cut<L: Ledger>(
     ensures ordered { IfOk result (AreOrdered ring.now.corners) }
     ensures places { length places.new ≡ length places.old }
     ensures clusters { IfSome clusters.new (AreClusters ring.now.corners) }
+    ensures triangle { length piece.boundary.items ≡ 3 → steps.new ≡ steps.old }
+    ensures steps { steps.new ≤ steps.old + (886 * length ring.now.corners + 910) }
 {
     let least = least_place(ring, &piece);
     piece.boundary.rotate_left(least);
@@ -74,6 +76,8 @@ fn cut_at_first<L: Ledger>(
     ensures ordered { IfOk result (AreOrdered ring.now.corners) }
     ensures places { length places.new ≡ length places.old }
     ensures clusters { IfSome clusters.new (AreClusters ring.now.corners) }
+    ensures triangle { length piece.boundary.items ≡ 3 → steps.new ≡ steps.old }
+    ensures steps { steps.new ≤ steps.old + (886 * length ring.now.corners + 910) }
 {
     let tri = corner_of(&piece.boundary);
     if piece.boundary.len() == 3 {

@@ -1,5 +1,5 @@
 // The vertex of a piece that a diagonal from its first vertex goes to.
-ghost use Rattle.std.specs.Prelude.{◌≡◌, ◌<◌, ◌↔◌, ◌<ℤ◌, ◌≤ℤ◌, ℕ, IsFalse, IsTrue, IfSome, IfNone, OnSome, length};
+ghost use Rattle.std.specs.Prelude.{◌≡◌, ◌+◌, ◌*◌, ◌-◌, ◌<◌, ◌≤◌, ◌↔◌, ◌<ℤ◌, ◌≤ℤ◌, ℕ, IsFalse, IsTrue, IfSome, IfNone, OnSome, length};
 ghost use Rattle.plane.specs.Point.{Point, whole};
 ghost use Rattle.plane.specs.Triangle.{IsInTriangle, height_over};
 ghost use Rattle.plane.specs.Turn.{IsLeft};
@@ -68,6 +68,7 @@ pub(crate) fn farthest<L: Ledger>(
     ensures clusters { IfSome clusters.new (AreClusters ring.now.corners) }
     ensures farthest { IfSome result (IsFarthestNumber ring.now.corners piece.now.boundary.items) }
     ensures none { IfNone result ((k : ℕ) → ¬ (IsPlaceInCorner ring.now.corners piece.now.boundary.items k)) }
+    ensures steps { steps.new ≤ steps.old + (886 * length ring.now.corners + 910) }
 {
     let corner = Corner::of(ring, &piece.boundary, steps);
     Some(best_in(alloc, &corner, ring, piece, clusters, steps)?.number)
@@ -90,6 +91,7 @@ fn best_in<L: Ledger>(
     requires clusters { IfSome clusters.old (AreClusters ring.now.corners) }
     ensures best { IsBest ring.now.corners piece.now.boundary.items result }
     ensures clusters { IfSome clusters.new (AreClusters ring.now.corners) }
+    ensures steps { steps.new ≤ steps.old + (515 * (length piece.now.order.items - 1) + 371 * length ring.now.corners + 1168) }
 {
     let last = piece.order.len() - 1;
     let mut best: Option<Candidate> = None;
@@ -117,17 +119,19 @@ fn make_clusters<L: Ledger>(
     steps: &mut Steps<L>,
 )
     requires { IfSome clusters.old (AreClusters ring.now.corners) }
-    ensures { IfSome clusters.new (AreClusters ring.now.corners) }
+    ensures clusters { IfSome clusters.new (AreClusters ring.now.corners) }
+    ensures steps { steps.new ≤ steps.old + 128 * length ring.now.corners }
 {
     if clusters.is_none() {
         *clusters = Clusters::of(alloc, ring, steps).ok();
     }
 }
 
-// The later of two points in lexicographic order.
+// The later of two points in lexicographic order. It takes one step.
 fn later<L: Ledger>(p: &Pt, q: &Pt, steps: &mut Steps<L>) -> Pt
     ensures first { p.now.x ≤ℤ result.x }
     ensures second { q.now.x ≤ℤ result.x }
+    ensures steps { steps.new ≡ steps.old + 1 }
 {
     if order(p, q, steps) == Ordering::Less {
         *q
@@ -157,11 +161,12 @@ fn farther(best: Option<Candidate>, candidate: Candidate) -> Candidate
 }
 
 impl Corner {
-    // The triangle at the first vertex of this boundary.
+    // The triangle at the first vertex of this boundary. It takes 257 steps.
     fn of<L: Ledger>(ring: &Ring, boundary: &VecDeque<u32>, steps: &mut Steps<L>) -> Corner
         requires { IsPiece ring.now.corners boundary.now.items }
         ensures corner { IsCornerAt ring.now.corners boundary.now.items result }
         ensures measured { IsMeasured result }
+        ensures steps { steps.new ≡ steps.old + 257 }
     {
         let tri = corner_of(boundary);
         let (u, v, w) = (ring.corner(tri.a), ring.corner(tri.b), ring.corner(tri.c));
@@ -178,7 +183,7 @@ impl Corner {
     }
 
     // Whether all points of the triangle that are not left of this one are nearer than the best. A point of it at x is at most
-    // as far as v times the part of the way from v to the end that is right of x.
+    // as far as v times the part of the way from v to the end that is right of x. It takes 256 steps.
     fn is_nearer_from<L: Ledger>(
         &self,
         p: &Pt,
@@ -188,8 +193,9 @@ impl Corner {
         requires counterclockwise { IsLeft (whole self.now.u) (whole self.now.v) (whole self.now.w) }
         requires measured { IsMeasured self.now }
         requires first { self.now.v.x ≤ℤ self.now.u.x }
-        ensures { IsTrue result → (q : Point) → p.now.x ≤ℤ q.x → IsInTriangle self.now.u self.now.v self.now.w (whole q)
+        ensures nearer { IsTrue result → (q : Point) → p.now.x ≤ℤ q.x → IsInTriangle self.now.u self.now.v self.now.w (whole q)
             → height_over self.now.u self.now.w (whole q) <ℤ best_height best }
+        ensures steps { steps.new ≡ steps.old + 256 }
     {
         let (rest, _) = way(p, &self.end, steps);
         let (whole, _) = way(&self.v, &self.end, steps);
@@ -210,6 +216,7 @@ impl Corner {
         ensures empty { IsTrue result → (i : ℕ) → i < length ring.now.corners → ¬ (i ≡ self.now.tri.b)
             → ¬ (IsCandidate self.now i (vertex ring.now.corners i)) }
         ensures clusters { IfSome clusters.new (AreClusters ring.now.corners) }
+        ensures steps { steps.new ≤ steps.old + (371 * length ring.now.corners + 1168) }
     {
         make_clusters(alloc, ring, clusters, steps);
         match &*clusters {
@@ -218,7 +225,8 @@ impl Corner {
         }
     }
 
-    // Whether none is, by these clusters.
+    // Whether none is, by these clusters. Of eight vertices that no cluster is left out for, each takes at most 3 steps more than
+    // those of the question to the cluster.
     fn is_empty_among<L: Ledger>(
         &self,
         ring: &Ring,
@@ -227,8 +235,9 @@ impl Corner {
     ) -> bool
         requires counterclockwise { IsLeft (whole self.now.u) (whole self.now.v) (whole self.now.w) }
         requires clusters { AreClusters ring.now.corners clusters.now }
-        ensures { IsTrue result → (i : ℕ) → i < length ring.now.corners → ¬ (i ≡ self.now.tri.b)
+        ensures empty { IsTrue result → (i : ℕ) → i < length ring.now.corners → ¬ (i ≡ self.now.tri.b)
             → ¬ (IsCandidate self.now i (vertex ring.now.corners i)) }
+        ensures steps { steps.new ≤ steps.old + (243 * length ring.now.corners + 1168) }
     {
         let triangle = Triangle::of(&self.u, &self.v, &self.w, steps);
         let mut place = 0;
@@ -245,11 +254,14 @@ impl Corner {
         true
     }
 
-    // Whether the vertex with this number is in the triangle, and none of the three.
+    // Whether the vertex with this number is in the triangle, and none of the three. It takes at most 259 steps, and 3 where it is
+    // not.
     fn has<L: Ledger>(&self, ring: &Ring, number: u32, steps: &mut Steps<L>) -> bool
         requires counterclockwise { IsLeft (whole self.now.u) (whole self.now.v) (whole self.now.w) }
         requires number { number < length ring.now.corners }
-        ensures { IsFalse result → ¬ (number ≡ self.now.tri.b) → ¬ (IsCandidate self.now number (vertex ring.now.corners number)) }
+        ensures out { IsFalse result → ¬ (number ≡ self.now.tri.b) → ¬ (IsCandidate self.now number (vertex ring.now.corners number)) }
+        ensures few { IsFalse result → steps.new ≤ steps.old + 3 }
+        ensures steps { steps.new ≤ steps.old + 259 }
     {
         number != self.tri.b
             && self
@@ -257,7 +269,8 @@ impl Corner {
                 .is_some()
     }
 
-    // The vertex with this number and at this point, if it is in the closed triangle and neither of u and w.
+    // The vertex with this number and at this point, if it is in the closed triangle and neither of u and w. It takes at most 259
+    // steps, and 3 where it is not.
     fn candidate<L: Ledger>(&self, number: u32, p: &Pt, steps: &mut Steps<L>) -> Option<Candidate>
         requires counterclockwise { IsLeft (whole self.now.u) (whole self.now.v) (whole self.now.w) }
         ensures inside { OnSome result (IsCandidate self.now number p.now) }
@@ -266,6 +279,8 @@ impl Corner {
           height = height_over self.now.u self.now.w (whole p.now);
           number = number;
         }) }
+        ensures few { IfNone result (steps.new ≤ steps.old + 3) }
+        ensures steps { steps.new ≤ steps.old + 259 }
     {
         if !in_triangle(&self.u, &self.v, &self.w, p, steps)
             || number == self.tri.a

@@ -1,5 +1,5 @@
 // Areas of triangles, ways from point to point, and shares of them.
-ghost use Rattle.std.specs.Prelude.{◌≡◌, ◌<◌, ◌^◌, ◌*ℤ◌, ◌-ℤ◌, ◌<ℤ◌, IsTrue, unsigned_abs};
+ghost use Rattle.std.specs.Prelude.{◌≡◌, ◌+◌, ◌<◌, ◌^◌, ◌*ℤ◌, ◌-ℤ◌, ◌<ℤ◌, IsTrue, unsigned_abs};
 ghost use Rattle.plane.specs.Point.{whole};
 ghost use Rattle.plane.specs.Turn.{determinant};
 
@@ -7,22 +7,24 @@ use exact_plane::{Pt, Steps, compare};
 use std::cmp::Ordering;
 use std::sync::ledger::Ledger;
 
-// Twice the area of a triangle, positive where its corners run counterclockwise.
+// Twice the area of a triangle, positive where its corners run counterclockwise. It takes 256 steps.
 #[tactic(auto, using(exact_plane::proofs::CrossProduct::cross_is_determinant))]
 pub(crate) fn doubled_area<L: Ledger>(a: &Pt, b: &Pt, c: &Pt, steps: &mut Steps<L>) -> i64
     ensures area { result ≡ determinant (whole a.now) (whole b.now) (whole c.now) }
     ensures small { unsigned_abs result < 2 ^ 50 }
+    ensures steps { steps.new ≡ steps.old + 256 }
 {
     let (p, q) = (way(a, b, steps), way(a, c, steps));
     cross_product(p, q)
 }
 
-// The way from `a` to `b`.
+// The way from `a` to `b`. It takes 128 steps.
 pub(crate) fn way<L: Ledger>(a: &Pt, b: &Pt, steps: &mut Steps<L>) -> (i64, i64)
     ensures x { result.0 ≡ b.now.x -ℤ a.now.x }
     ensures y { result.1 ≡ b.now.y -ℤ a.now.y }
     ensures x_is_small { unsigned_abs result.0 < 2 ^ 24 }
     ensures y_is_small { unsigned_abs result.1 < 2 ^ 24 }
+    ensures steps { steps.new ≡ steps.old + 128 }
 {
     let ((a_x, a_y), (b_x, b_y)) = (a.parts(steps), b.parts(steps));
     (b_x - a_x, b_y - a_y)

@@ -1,5 +1,5 @@
 // A triangle with the box round it, to tell which other boxes have none of its points.
-ghost use Rattle.std.specs.Prelude.{◌≡◌, ◌<◌, ◌^◌, ◌-ℤ◌, ◌<ℤ◌, ◌≤ℤ◌, IsTrue, pos, unsigned_abs};
+ghost use Rattle.std.specs.Prelude.{◌≡◌, ◌+◌, ◌<◌, ◌≤◌, ◌^◌, ◌-ℤ◌, ◌<ℤ◌, ◌≤ℤ◌, IsTrue, pos, unsigned_abs};
 ghost use Rattle.exact_plane.specs.Boxes.{Encloses};
 ghost use Rattle.plane.specs.Point.{Point, whole};
 ghost use Rattle.plane.specs.Triangle.{IsInTriangle};
@@ -20,12 +20,13 @@ pub(crate) struct Triangle {
 }
 
 impl Triangle {
-    // The triangle with these corners.
+    // The triangle with these corners. It takes 192 steps.
     pub(crate) fn of<L: Ledger>(u: &Pt, v: &Pt, w: &Pt, steps: &mut Steps<L>) -> Triangle
         ensures u { result.u ≡ u.now }
         ensures v { result.v ≡ v.now }
         ensures w { result.w ≡ w.now }
         ensures bounded { IsBounded result }
+        ensures steps { steps.new ≡ steps.old + 192 }
     {
         let bounds = BoundingBox::of(&[*u, *v, *w], steps);
         Triangle {
@@ -36,11 +37,12 @@ impl Triangle {
         }
     }
 
-    // Whether its box is apart from another, or one of its sides has that on its right.
+    // Whether its box is apart from another, or one of its sides has that on its right. It takes at most 960 steps.
     pub(crate) fn misses<L: Ledger>(&self, other: &BoundingBox, steps: &mut Steps<L>) -> bool
         requires counterclockwise { IsLeft (whole self.now.u) (whole self.now.v) (whole self.now.w) }
         requires bounded { IsBounded self.now }
-        ensures { IsTrue result → (p : Point) → Encloses other.now p → ¬ (IsInTriangle self.now.u self.now.v self.now.w (whole p)) }
+        ensures apart { IsTrue result → (p : Point) → Encloses other.now p → ¬ (IsInTriangle self.now.u self.now.v self.now.w (whole p)) }
+        ensures steps { steps.new ≤ steps.old + 960 }
     {
         if !self.bounds.overlaps(other) {
             return true;
@@ -52,9 +54,10 @@ impl Triangle {
     }
 }
 
-// Whether a box is right of the line from `a` to `b`. Its corner that is farthest left tells that.
+// Whether a box is right of the line from `a` to `b`. Its corner that is farthest left tells that. It takes 320 steps.
 fn is_right<L: Ledger>(a: &Pt, b: &Pt, bounds: &BoundingBox, steps: &mut Steps<L>) -> bool
-    ensures { IsTrue result → (p : Point) → Encloses bounds.now p → IsRight (whole a.now) (whole b.now) (whole p) }
+    ensures right { IsTrue result → (p : Point) → Encloses bounds.now p → IsRight (whole a.now) (whole b.now) (whole p) }
+    ensures steps { steps.new ≡ steps.old + 320 }
 {
     let (a_x, a_y) = a.parts(steps);
     let (x, y) = way(a, b, steps);

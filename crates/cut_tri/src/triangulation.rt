@@ -1,5 +1,5 @@
 ghost use Rattle.std.specs.List.{range_with_len};
-ghost use Rattle.std.specs.Prelude.{◌≡◌, IfOk, List, OnOk, length};
+ghost use Rattle.std.specs.Prelude.{◌≡◌, ◌+◌, ◌*◌, ◌≤◌, IfOk, List, OnOk, length};
 ghost use Rattle.plane.specs.Point.{Point};
 ghost use Rattle.meshes.specs.Fits.{Fits};
 ghost use Rattle.cut_tri.specs.Cut.{IsCutTriangulation};
@@ -25,6 +25,7 @@ pub fn triangulate<L: Ledger>(
 ) -> Result<Mesh, Memory>
     ensures fits { IfOk result (Fits ring.now.corners) }
     ensures cut { IfOk result (IsCutTriangulation ring.now.corners) }
+    ensures steps { let n = length ring.now.corners in steps.new ≤ steps.old + 886 * (n * n) }
 {
     let mut tris = Vec::with_capacity(alloc, ring.len() as usize - 2)?;
     let mut places = Vec::from_elem(alloc, 0, ring.len() as usize)?;
@@ -59,10 +60,11 @@ fn take_over(left: Remains, tris: &mut Vec<Tri>, work: &mut Vec<Piece>) -> Resul
     Ok(())
 }
 
-// The piece of all vertices.
+// The piece of all vertices. It takes at most 64 steps a vertex.
 fn whole_piece<L: Ledger>(alloc: Global, ring: &Ring, steps: &mut Steps<L>) -> Result<Piece, Memory>
     ensures all { IfOk result (λ piece. piece.boundary.items ≡ range_with_len 0 (length ring.now.corners)) }
     ensures ordered { IfOk result (IsPieceInOrder ring.now.corners) }
+    ensures steps { steps.new ≤ steps.old + 64 * length ring.now.corners }
 {
     let n = ring.len();
     let mut order = lexical_order(alloc, ring.corners(), steps)?;

@@ -1,6 +1,6 @@
 // The vertices of a ring along the curve of Morton 1966, the Z-order: of those that are near to one another most have near places.
 ghost use Rattle.std.specs.List.{range_with_len};
-ghost use Rattle.std.specs.Prelude.{◌≡◌, ◌<◌, ◌^◌, IfOk, IsPermutation, length, map, unsigned_abs};
+ghost use Rattle.std.specs.Prelude.{◌≡◌, ◌+◌, ◌*◌, ◌<◌, ◌≤◌, ◌^◌, IfOk, IsPermutation, length, map, unsigned_abs};
 
 use exact_plane::{Memory, Steps};
 use ring_check::Ring;
@@ -14,13 +14,14 @@ pub(crate) struct Key {
     number: u32,
 }
 
-// All vertices, by their numbers. Only the time rests on their order.
+// All vertices, by their numbers. Only the time rests on their order. It takes at most 64 steps a vertex.
 pub(crate) fn z_order<L: Ledger>(
     alloc: Global,
     ring: &Ring,
     steps: &mut Steps<L>,
 ) -> Result<Vec<u32>, Memory>
-    ensures { IfOk result (λ numbers. IsPermutation (range_with_len 0 (length ring.now.corners)) numbers.items) }
+    ensures all { IfOk result (λ numbers. IsPermutation (range_with_len 0 (length ring.now.corners)) numbers.items) }
+    ensures steps { steps.new ≤ steps.old + 64 * length ring.now.corners }
 {
     let mut keys = keys_of(alloc, ring, steps)?;
     keys.sort_unstable();
@@ -29,7 +30,8 @@ pub(crate) fn z_order<L: Ledger>(
 
 // The keys of all vertices.
 fn keys_of<L: Ledger>(alloc: Global, ring: &Ring, steps: &mut Steps<L>) -> Result<Vec<Key>, Memory>
-    ensures { IfOk result (λ keys. map (λ k. k.number) keys.items ≡ range_with_len 0 (length ring.now.corners)) }
+    ensures all { IfOk result (λ keys. map (λ k. k.number) keys.items ≡ range_with_len 0 (length ring.now.corners)) }
+    ensures steps { steps.new ≤ steps.old + 64 * length ring.now.corners }
 {
     let n = ring.len();
     let mut keys = Vec::with_capacity(alloc, n as usize)?;

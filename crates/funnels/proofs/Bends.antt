@@ -5,16 +5,17 @@ mod GrownTurnings
 mod FanSigns
 pub use Rattle.funnels.proofs.Bends.FanSigns.{Relation, negative_unless, right_of_third}
 mod FannedSteps
--- A triangle of a mesh at one of its corners: its points are in the angle there, and the corner sees them.
-mod CornerSights
-pub use Rattle.funnels.proofs.Bends.CornerSights.{first_end_in, in_angle, last_end_in}
-mod NarrowFans
+-- A triangle of a mesh at one of its corners, which sees its points in the angle there, and fans of such triangles, on either side: one begins
+-- in a triangle, goes on over one, and has a last step in one.
+mod TriangleFans
+pub use Rattle.funnels.proofs.Bends.TriangleFans.{fan_begins, fan_begins_in, fan_goes_on, first_end_in, in_angle, last_end_in, last_step}
+-- A fan at a vertex of a simple ring that turns by more than a half turn makes a bend there: at one that is not reflex, directions toward which
+-- the ring is open turn by a half turn at most.
+mod FanBends
+pub use Rattle.funnels.proofs.Bends.FanBends.{bend_of_fan, not_reflex}
 -- The two neighbours of a vertex in a simple ring are on two rays from it.
 mod TwoRays
 pub use Rattle.funnels.proofs.Bends.TwoRays.{two_rays}
--- A fan at a vertex of a simple ring that turns by more than a half turn makes a bend there.
-mod FanBends
-pub use Rattle.funnels.proofs.Bends.FanBends.{bend_of_fan, not_reflex}
 -- Points on one ray from a vertex: what is left of the one is left of the other.
 mod SameRays
 pub use Rattle.funnels.proofs.Bends.SameRays.{AreOnRay, on_ray_back, turning_from_ray, turning_to_ray}
@@ -37,9 +38,6 @@ pub use Rattle.funnels.proofs.Bends.InLine.{level_is_vertex, ray_ahead, ray_behi
 mod FanCones
 mod Fans
 mod HalfPlaneTurns
--- Fans of the triangles of a mesh at one of their corners, on either side: one begins in a triangle, goes on over one, and has a last step in one.
-mod TriangleFans
-pub use Rattle.funnels.proofs.Bends.TriangleFans.{fan_begins, fan_begins_in, fan_goes_on, last_step}
 -- A bend at a corner of a mesh, with a shared side on its last ray, grows over the triangle beyond the side, and turns the same way.
 mod GrownBends
 pub use Rattle.funnels.proofs.Bends.GrownBends.{grown_bend, grown_turning}

@@ -1,6 +1,7 @@
 -- What the points of a funnel see, and the chains that bend round them.
 
--- The points of a funnel see what is in their windows, in the triangle behind the diagonal too.
+-- What the points of a funnel see: beyond the diagonal what is in their windows, in the triangle behind it too, and so the points of the next
+-- funnel what is in their windows on the two other sides of the triangle.
 mod WindowSight
 pub use Rattle.funnels.proofs.Chains.WindowSight.{sees_reached}
 -- The chain from a source over the apex of a funnel goes on to each of its points, and to what is seen from there.
@@ -21,11 +22,10 @@ pub use Rattle.funnels.proofs.Chains.FirstFunnels.{start_at_left, start_at_right
 mod ApexSigns
 mod ApexTurns
 mod ReachedSides
-mod ReachedApex
-mod ApexEdges
--- The way to a point beyond the diagonal bends at the point of the funnel from which it is reached.
+-- The way to a point beyond the diagonal bends at the point of the funnel from which it is reached, be that the apex or not.
 mod ReachedBends
 pub use Rattle.funnels.proofs.Chains.ReachedBends.{reached_bends}
+mod ApexEdges
 mod Ends
 -- At the corner of a triangle beyond the diagonal fans begin with the way back to the point of the funnel that it is reached from.
 mod EndFans
@@ -35,6 +35,3 @@ mod BeyondSide
 mod Steps
 pub use Rattle.funnels.proofs.Chains.Steps.{step_left, step_right}
 mod LastPoints
-mod NextSight
--- Sight goes on beyond a point that is seen, within a triangle, and so beyond a diagonal into the triangle behind it.
-mod SightBeyond

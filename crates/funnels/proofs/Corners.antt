@@ -15,16 +15,14 @@ pub use Rattle.funnels.proofs.Corners.RingTurns.{step_turn}
 -- The corners of a triangle of a mesh beside one of them.
 mod CornerSides
 pub use Rattle.funnels.proofs.Corners.CornerSides.{corner_after, corner_before}
--- A ring neighbour of a corner of a triangle of a mesh that is within the triangle's angle there is the end of a side, and the ring goes along that side as the triangle does.
-mod CornerNeighbours
-pub use Rattle.funnels.proofs.Corners.CornerNeighbours.{neighbour_within}
+-- Within the angle of a triangle of a mesh at a corner: a ring neighbour of the corner there is the end of a side, along which the ring goes
+-- as the triangle does, and so there is no bend between two rays.
+mod NoBendInTriangle
+pub use Rattle.funnels.proofs.Corners.NoBendInTriangle.{neighbour_within, no_bend}
 -- A vertex of the ring in a closed triangle of a mesh is a corner of it.
 mod CornerPoints
 pub use Rattle.funnels.proofs.Corners.CornerPoints.{IsCorner, at_corner, begin_is_corner, corner_of, end_is_corner}
 mod WithinCones
--- There is no bend between two rays within the angle of a triangle of a mesh: the ring turns there as the triangle does.
-mod NoBendInTriangle
-pub use Rattle.funnels.proofs.Corners.NoBendInTriangle.{no_bend}
 -- A point that a corner of a triangle of a mesh sees across the opposite side is within the angle of the triangle there.
 mod SeenWithin
 pub use Rattle.funnels.proofs.Corners.SeenWithin.{side_at_corner, within_of_seen, within_on_ray}

@@ -11,11 +11,11 @@ pub use Rattle.funnels.proofs.DeadEnds.PartWalks.{meets_on_part}
 mod CrossedSides
 pub use Rattle.funnels.proofs.DeadEnds.CrossedSides.{HasSideOn, corner_at_side, crossed_back, crossed_before, crossed_shared, end_of_crossed}
 pub use Rattle.funnels.proofs.DeadEnds.CrossedSides.{opposite_side, some_crossed}
--- The ray from a corner of a triangle of a walk to a point in sight in an earlier triangle is in the angle there, where none before has the corner.
-mod WithinCorners
-pub use Rattle.funnels.proofs.DeadEnds.WithinCorners.{within_before}
-mod PassedCorners
+-- Ways at a corner of a triangle of a walk: the ray to a point in sight in an earlier triangle is in the angle there, how a way comes to the
+-- corner at the end of a walk, and how one leaves it at the start.
 mod CornersReached
+pub use Rattle.funnels.proofs.DeadEnds.CornersReached.{within_before}
+mod PassedCorners
 -- The bends of a chain, and walks to them.
 mod ChainBends
 pub use Rattle.funnels.proofs.DeadEnds.ChainBends.{front_to, some_triangle}

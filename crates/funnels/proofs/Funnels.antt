@@ -38,36 +38,30 @@ pub use Rattle.funnels.proofs.Funnels.PassedEdges.{IsPassedFrom, not_passed_from
 -- funnel.
 mod EdgeTests
 pub use Rattle.funnels.proofs.Funnels.EdgeTests.{passed_left, passed_right, passed_same}
--- The points of a funnel that begins with a point m and goes on with the points from place h on, and what holds of three of them.
-mod PointsLeft
-pub use Rattle.funnels.proofs.Funnels.PointsLeft.{left_new_at, left_old_at, left_on_left, left_on_right}
--- The points of a funnel of the points to place h, and then a point m, and what holds of three of them.
-mod PointsRight
-pub use Rattle.funnels.proofs.Funnels.PointsRight.{right_new_at, right_old_at, right_on_left, right_on_right}
+-- The points of the next funnel by their places: m and then some last points, or some first points and then m; and what holds of three of them.
+mod NextPoints
+pub use Rattle.funnels.proofs.Funnels.NextPoints.{left_new_at, left_old_at, left_on_left, left_on_right, next_left_length, next_left_old}
+pub use Rattle.funnels.proofs.Funnels.NextPoints.{next_right_last, next_right_length, next_right_old, right_new_at, right_old_at}
+pub use Rattle.funnels.proofs.Funnels.NextPoints.{right_on_left, right_on_right}
 -- The way to a point beyond the diagonal, from the place of the funnel that it is reached from, goes over the diagonal.
 mod NewEdge
 pub use Rattle.funnels.proofs.Funnels.NewEdge.{reaches_new}
--- How far four points are from a line; points on one line, and a point of the line between the ends of a segment.
-mod OnOneLine
-pub use Rattle.funnels.proofs.Funnels.OnOneLine.{in_proportion, straight_on_line}
--- The funnel of the diagonal from a point beyond to the right end: the point, and the points from the place that it is reached from.
-mod FunnelLeft
-pub use Rattle.funnels.proofs.Funnels.FunnelLeft.{funnel_left}
+-- How far four points are from a line, points on one line, and a point on the line of a diagonal: on which sides of the ways from it to the
+-- ends the points beyond the diagonal are.
+mod LineOfDiagonal
+pub use Rattle.funnels.proofs.Funnels.LineOfDiagonal.{in_proportion, straight_on_line}
+-- The two next funnels, of the diagonals from a point beyond to the right end and from the left end to it: the point, and the points from the
+-- place that it is reached from, or those to that place.
+mod NextFunnels
+pub use Rattle.funnels.proofs.Funnels.NextFunnels.{funnel_left, funnel_right}
 -- Two edges of a funnel at a common point, and a point beyond the diagonal: to which sides of them it is.
 mod TwoEdges
-mod LineOfDiagonal
 -- The edges of a funnel at its places, and the window of the place from which a point is reached.
 mod FunnelEdges
 pub use Rattle.funnels.proofs.Funnels.FunnelEdges.{edge_after, edge_before, in_window_of, window_of_reached}
--- The funnel of the diagonal from the left end to a point beyond: the points to the place that the point is reached from, and the point.
-mod FunnelRight
-pub use Rattle.funnels.proofs.Funnels.FunnelRight.{funnel_right}
 -- The way from a point to one beyond a diagonal, between the lines of two edges at the point, crosses the diagonal between them.
 mod CrossingDiagonal
 pub use Rattle.funnels.proofs.Funnels.CrossingDiagonal.{crossing_in_window}
 -- On which side of the way over a place of a funnel a point is that is reached from there, where the place is not the apex.
 mod ReachedWays
 pub use Rattle.funnels.proofs.Funnels.ReachedWays.{left_of_way, right_of_way}
--- The points of the next funnel by their places: some first points and then m, or m and then some last points.
-mod NextPoints
-pub use Rattle.funnels.proofs.Funnels.NextPoints.{next_left_length, next_left_old, next_right_last, next_right_length, next_right_old}

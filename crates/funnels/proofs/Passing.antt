@@ -1,7 +1,10 @@
 -- Two ways that pass one diagonal, walked back from their common end.
 
 mod Flipped
-mod SweptBehind
+-- Two ways to a point of a triangle over a side of it, the one to the right of the other, pass that side each ahead of the other; neighbours of
+-- a corner behind such a way are behind the side.
+mod LastSides
+pub use Rattle.funnels.proofs.Passing.LastSides.{begin_passing, right_of_side}
 mod AlongWays
 mod Advanced
 mod BendSides
@@ -10,9 +13,6 @@ mod Bent
 -- Two ways from one point that pass a segment: they go on one ray, or each is ahead of the other where they pass.
 mod PartedWays
 pub use Rattle.funnels.proofs.Passing.PartedWays.{on_one_ray}
--- Two ways to a point of a triangle over a side of it, the one to the right of the other, pass that side each ahead of the other.
-mod LastSides
-pub use Rattle.funnels.proofs.Passing.LastSides.{begin_passing, right_of_side}
 -- Two chains that pass a side that a walk crosses, each ahead of the other: what is known of them there, and how it stays so where one of them has a bend.
 mod WalkedBack
 pub use Rattle.funnels.proofs.Passing.WalkedBack.{ComeTo, IsAlong, IsBefore}

@@ -16,10 +16,7 @@ pub use Rattle.hulls.proofs.Gates.GatesBeside.{gates_beside}
 -- Each point past a diagonal is reached from one place of its funnel.
 mod OneGate
 pub use Rattle.hulls.proofs.Gates.OneGate.{one_gate, some_gate}
--- A point of the side beyond a diagonal, from its left end to m: in the funnel of the points to place h, and m, it is reached from the same place.
-mod NextRight
-pub use Rattle.hulls.proofs.Gates.NextRight.{next_gate_right}
--- A point of the side beyond a diagonal, from m to its right end: in the funnel of m, and the points from place h on, it is reached from the same
--- point.
-mod NextLeft
-pub use Rattle.hulls.proofs.Gates.NextLeft.{next_gate_left}
+-- A point of a side beyond a diagonal is reached from one point in two funnels: of the side from m to the right end in that of m and the points from
+-- place h on, and of the side from the left end to m in that of the points to place h, and m.
+mod NextGates
+pub use Rattle.hulls.proofs.Gates.NextGates.{next_gate_left, next_gate_right}

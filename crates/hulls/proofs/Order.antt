@@ -1,12 +1,12 @@
 -- The order of the points as seen from one: to the left of one another, where the paths begin on one side.
 
-mod TurnedAlike
--- Ways on from one point, of which one is to the left of the other where they part.
-mod Ways
-pub use Rattle.hulls.proofs.Order.Ways.{HasFirst, IsLeftOf, TurnsLeft, first_of_one, first_of_other}
+-- Two bends over one point, with one way to it: the ways on are to one side of that.
 -- Three ways on from one point, with their next points ahead of a line: to be to the left goes on from one to the next.
 mod Partings
 pub use Rattle.hulls.proofs.Order.Partings.{same_first}
+-- Ways on from one point, of which one is to the left of the other where they part.
+mod Ways
+pub use Rattle.hulls.proofs.Order.Ways.{HasFirst, IsLeftOf, TurnsLeft, first_of_one, first_of_other}
 -- Three ways on from one point, each to the left of the one before: the last is to the left of the first.
 mod Followed
 pub use Rattle.hulls.proofs.Order.Followed.{AreAhead, left_follows, left_of_alike, right_of_alike}

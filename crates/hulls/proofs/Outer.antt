@@ -8,10 +8,9 @@ mod Seen
 mod Lasts
 pub use Rattle.hulls.proofs.Outer.Lasts.{some_or_none}
 mod FirstSteps
-mod Bases
+mod LeastBases
 mod NextBases
 mod LeastPoints
-mod LeastBases
 -- Points are inner or not; and of three that aren't, one is to the left of another, to the same side seen from each.
 mod OuterPoints
 pub use Rattle.hulls.proofs.Outer.OuterPoints.{AreOuter, IsOuter, inner_or_not, left_from_next, one_is_left}

@@ -9,12 +9,9 @@ pub use Rattle.hulls.proofs.Third.Cuts.{list_of_step, on_path_back, path_back, s
 -- Points farther along a ray: a point between the nearer one and a third is between the farther one and that, and so are joined points joined.
 mod Rays
 pub use Rattle.hulls.proofs.Third.Rays.{joined_nearer, joined_on_ray, ray_of_on}
-mod Sides
-mod StepFacts
-mod Neighbours
 mod TurnsOver
+mod StepFacts
 mod Ways
-mod AlongAway
 mod AlongTowards
 mod SplitSteps
 mod WaysFound

@@ -8,12 +8,11 @@ mod Forks
 mod NotBoth
 pub use Rattle.hulls.proofs.Turning.NotBoth.{not_both, one_path}
 -- Chains that part at a point: the points there, the bends, and which of three points on a line is between the others.
-mod Partings
-pub use Rattle.hulls.proofs.Turning.Partings.{goes_on, one_between}
+-- Where paths from one point part, they do not go on to the two ends of a segment through the point, unless it is on the path between
+-- their ends.
 mod NotBetween
+pub use Rattle.hulls.proofs.Turning.NotBetween.{goes_on, one_between}
 -- Where two paths from one point go on along one ray, the one whose next point is nearer turns to a side there.
-mod Nearer
-pub use Rattle.hulls.proofs.Turning.Nearer.{part_to}
 -- Of three free points the third is to the left of the second, seen from the first, or to the right.
 mod OneWay
-pub use Rattle.hulls.proofs.Turning.OneWay.{one_way}
+pub use Rattle.hulls.proofs.Turning.OneWay.{one_way, part_to}

@@ -14,18 +14,18 @@ mod Overlaps
 mod SideSums
 -- So an edge of the piece is a side of one triangle, and any other side has one triangle in each direction.
 mod SideCounts
--- And the points of the piece are those of the triangles.
+-- Triangles whose sides cancel to the boundary of a simple piece: the points of the piece are those of the triangles.
+-- Counterclockwise triangles whose sides cancel to the boundary of a simple piece tile it.
 mod Covered
--- Such triangles tile the piece.
-mod Tiles
-pub use Rattle.meshes.proofs.Boundaries.Tiles.{tiling}
+pub use Rattle.meshes.proofs.Boundaries.Covered.{tiling}
 mod Counts
 mod PartTilings
-mod PieceParts
+-- The parts of a piece that a diagonal cuts in two, and the triangles that lie in them.
+-- A tiled piece that a shared side cuts from its first vertex to another one: the two parts, and the triangles beside the side in them.
+mod CutTilings
 mod TiledParts
 -- A tiled piece that a shared side cuts in two parts: two trees are one tree.
 mod TwoParts
-mod CutTilings
 mod OneTriangle
 -- Triangles that tile a piece are a tree, two fewer than it has vertices.
 mod TiledTrees

@@ -7,6 +7,7 @@ mod TwoLists
 -- One of two meshes that are joined along a diagonal: the sides of its triangles in the joined list.
 mod Halves
 pub use Rattle.meshes.proofs.Joins.Halves.{AreEnds, between_at, between_back, between_ends, ends_back}
+-- The triangles and sides of two meshes that fit the parts of a piece cut by a diagonal.
 -- Two meshes that fit the parts of a piece cut by a diagonal fit the piece together.
 mod Joined
 pub use Rattle.meshes.proofs.Joins.Joined.{fits_joined}
@@ -21,7 +22,6 @@ pub use Rattle.meshes.proofs.Joins.JoinedTrees.{Both, IsBridge, joined_tree}
 -- Points strictly inside triangles: those near them are so too, and some of them are off a given line.
 mod OffDiagonal
 pub use Rattle.meshes.proofs.Joins.OffDiagonal.{in_tri}
-mod JoinedSides
 -- A mesh with one more triangle: an ear at a vertex of the piece.
 mod Ears
 pub use Rattle.meshes.proofs.Joins.Ears.{fits_ear}

@@ -11,11 +11,10 @@ mod Opposite
 pub use Rattle.meshes.proofs.Parts.Opposite.{IsOpposite, left_of_next, left_of_previous, mean, mean_inside, mean_is_point, near_side, opposite}
 pub use Rattle.meshes.proofs.Parts.Opposite.{sides, toward_inside}
 -- The vertices of a piece, by their numbers: their places, and the edges that begin there.
-mod VertexPlaces
-pub use Rattle.meshes.proofs.Parts.VertexPlaces.{vertex_in_piece, vertex_on_ring}
 -- The side that two triangles of a mesh, or of a part of one, share is a diagonal of the ring.
 mod MeshDiagonals
-pub use Rattle.meshes.proofs.Parts.MeshDiagonals.{IsShared, one_vertex, ring_apart, ring_long, shared_is_diagonal, shared_of, vertex_is_end}
+pub use Rattle.meshes.proofs.Parts.MeshDiagonals.{IsShared, one_vertex, ring_apart, ring_long, shared_is_diagonal, shared_of}
+pub use Rattle.meshes.proofs.Parts.MeshDiagonals.{vertex_in_piece, vertex_is_end, vertex_on_ring}
 -- A shared side parts a mesh: the triangles beside it lie in different pieces, and those that share another side in one.
 mod PartedMesh
 pub use Rattle.meshes.proofs.Parts.PartedMesh.{IsParted, end_of_side, ends_in, ends_of_both, not_in_one, parted, shared_is_this, side_in}
@@ -23,9 +22,8 @@ pub use Rattle.meshes.proofs.Parts.PartedMesh.{side_numbers}
 -- A simple ring that is split in two by a diagonal: the pieces, each with the diagonal as an edge.
 mod Splits
 pub use Rattle.meshes.proofs.Parts.Splits.{last_edge}
+-- Two rings that share only points of a segment: a way from one to the other, in both together, meets the segment.
 -- A ring that is split along a shared side of a mesh: each triangle lies in one piece as a whole.
 mod PieceOfTriangle
-pub use Rattle.meshes.proofs.Parts.PieceOfTriangle.{LiesIn, inside_off_edges, inside_one, inside_sides, left_of_sides, lies_in_both, lies_in_one}
--- Two rings that share only points of a segment: a way from one to the other, in both together, meets the segment.
-mod BetweenPieces
-pub use Rattle.meshes.proofs.Parts.BetweenPieces.{IsCovered, covered_swapped, meets_between}
+pub use Rattle.meshes.proofs.Parts.PieceOfTriangle.{IsCovered, LiesIn, covered_swapped, inside_off_edges, inside_one, inside_sides}
+pub use Rattle.meshes.proofs.Parts.PieceOfTriangle.{left_of_sides, lies_in_both, lies_in_one, meets_between}

@@ -20,8 +20,7 @@ mod CutCorners
 mod Beside
 -- A polygon of which a line cuts some corners away.
 mod CutPolygons
--- A segment of which a line cuts the last end away.
-mod CutSegments
+-- A segment of which a line cuts the last end away: what is left has the points that are not right of the line, no more and no less.
 -- A region cut along a line, whole: its corners, from wherever they are read, and its points.
 mod Cuts
 pub use Rattle.plane.proofs.Regions.Cuts.{all_cut, corners_of_cut, cut_from, cut_of_polygon, cut_of_segment, cut_to, none_cut, one_block}

@@ -25,11 +25,9 @@ mod Lengthwise
 pub use Rattle.plane.proofs.Segments.Lengthwise.{along, along_from_square, along_is_linear, along_itself, combination_along, same_from_square, square}
 pub use Rattle.plane.proofs.Segments.Lengthwise.{square_not_negative, square_swapped, weighed_W, weighed_X_on_line, weighed_Y_on_line}
 -- The order of the points along a segment: which of them is nearer to the first end.
-mod Along
-pub use Rattle.plane.proofs.Segments.Along.{nearer_each, nearer_on, on_antisym, on_total}
 -- Two points of a segment: the one is between the first end and the other, or between the other and the last end.
 mod Between
-pub use Rattle.plane.proofs.Segments.Between.{later_between, on_one_side}
+pub use Rattle.plane.proofs.Segments.Between.{later_between, nearer_each, nearer_on, on_antisym, on_one_side, on_total}
 -- The middle of the segment between two whole points.
 mod Middle
 pub use Rattle.plane.proofs.Segments.Middle.{middle, middle_first, middle_is_point, middle_last, middle_on, middle_within}
@@ -43,9 +41,7 @@ pub use Rattle.plane.proofs.Segments.SharedParts.{as_far, first_on_line, last_on
 mod Rays
 pub use Rattle.plane.proofs.Segments.Rays.{on_one_ray, ray_on_left, ray_on_right}
 -- A rational point is on a segment, or a line separates it from the segment.
-mod Separation
-pub use Rattle.plane.proofs.Segments.Separation.{on_or_separated, separated_not_on}
 -- Points within a segment, and the side of a line on which a segment stays.
 mod Sides
-pub use Rattle.plane.proofs.Segments.Sides.{IsWithin, first_end_on_line, left_not_on, on_or_not, right_not_on, same_straight, stays_left, stays_right}
-pub use Rattle.plane.proofs.Segments.Sides.{within_from}
+pub use Rattle.plane.proofs.Segments.Sides.{IsWithin, first_end_on_line, left_not_on, on_or_not, on_or_separated, right_not_on}
+pub use Rattle.plane.proofs.Segments.Sides.{same_straight, separated_not_on, stays_left, stays_right, within_from}

@@ -1,20 +1,17 @@
 -- Diagonals of a ring, and the cut rule.
 
 -- The diagonal of a cut ring, and points in rings that wind up to once.
-mod CutDiagonal
-pub use Rattle.ring_laws.proofs.Diagonals.CutDiagonal.{ends_differ, in_if_wound, inner_off, some_back, some_there, wound}
+-- Diagonals of a ring: inside it where both pieces run counterclockwise, and the same from another vertex on or the other way round.
+mod Diagonals
+pub use Rattle.ring_laws.proofs.Diagonals.Diagonals.{diagonal_backward, diagonal_rotated, ends_differ, in_if_wound, inner_off, some_back}
+pub use Rattle.ring_laws.proofs.Diagonals.Diagonals.{some_there, wound}
 -- Beside a diagonal: the winding numbers of the two pieces, one to its left and one to its right.
 mod BesideDiagonal
 pub use Rattle.ring_laws.proofs.Diagonals.BesideDiagonal.{same_direction}
--- Diagonals of a ring: inside it where both pieces run counterclockwise, and the same from another vertex on or the other way round.
-mod Diagonals
-pub use Rattle.ring_laws.proofs.Diagonals.Diagonals.{diagonal_backward, diagonal_rotated}
 -- The cut rule at a least vertex: the segment that it chooses is a diagonal of the ring.
-mod CutRule
-pub use Rattle.ring_laws.proofs.Diagonals.CutRule.{farthest_diagonal}
 -- The cut rule at a least vertex with a right turn, from the ring read the other way round.
-mod CutRuleMirrored
-pub use Rattle.ring_laws.proofs.Diagonals.CutRuleMirrored.{base_diagonal}
+mod CutRule
+pub use Rattle.ring_laws.proofs.Diagonals.CutRule.{base_diagonal, farthest_diagonal}
 mod CornerNumbers
 -- The cut rule at any vertex of a ring: the cut at its least vertex is a diagonal.
 mod CutAtVertex

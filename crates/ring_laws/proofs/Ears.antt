@@ -1,8 +1,9 @@
 -- A ring and an ear at its least vertex: one step of the theorem of simple rings.
 
+-- The turn at the least vertex of a ring, which is never straight.
 -- Rings that run round once, counterclockwise or clockwise, by the turn at a least vertex.
 mod RunsOnce
-pub use Rattle.ring_laws.proofs.Ears.RunsOnce.{LeftTurnLaw, counterclockwise_rotated, runs_as_it_turns, runs_from_first}
+pub use Rattle.ring_laws.proofs.Ears.RunsOnce.{LeftTurnLaw, counterclockwise_rotated, runs_as_it_turns, runs_from_first, turn_at_first}
 -- Numbers that are 0 or 1, or 0 and one of 1 and -1: winding numbers of rings that run once round, and sums of two.
 mod UpToOne
 pub use Rattle.ring_laws.proofs.Ears.UpToOne.{IsUnit, IsZeroOrOne, both_up_to_one, greater_is_one, no_units, not_twice, not_zero_and_one, odd_unit}
@@ -21,9 +22,5 @@ pub use Rattle.ring_laws.proofs.Ears.EarStep.{apart_without, ear_counterclockwis
 -- The least vertex of a ring in the order of points, and the ring read from it on.
 mod LeastVertex
 pub use Rattle.ring_laws.proofs.Ears.LeastVertex.{NoneBefore, least_vertex, none_before_least}
--- The turn at the least vertex of a ring, which is never straight.
-mod LeastTurn
-pub use Rattle.ring_laws.proofs.Ears.LeastTurn.{turn_at_first}
 mod BaseEnds
-mod EarSign
 mod Ears

@@ -7,8 +7,6 @@ pub use Rattle.ring_laws.proofs.Kernels.InnerHits.{MeetsOnlyAt}
 mod VertexHits
 pub use Rattle.ring_laws.proofs.Kernels.VertexHits.{RightOfEdgeAt, alone_at_hit}
 -- The kernel law: a rational point sees all of a simple ring that runs counterclockwise exactly if it is right of no edge.
-mod RightOfNone
-pub use Rattle.ring_laws.proofs.Kernels.RightOfNone.{counterclockwise_winds, kernel_law}
 -- A point that is right of no edge of a ring whose vertices are within the limit is in the square of the limit.
-mod InSquare
-pub use Rattle.ring_laws.proofs.Kernels.InSquare.{right_of_none_in_square}
+mod RightOfNone
+pub use Rattle.ring_laws.proofs.Kernels.RightOfNone.{counterclockwise_winds, kernel_law, right_of_none_in_square}

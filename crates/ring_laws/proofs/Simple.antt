@@ -4,11 +4,10 @@
 mod FarthestEnd
 pub use Rattle.ring_laws.proofs.Simple.FarthestEnd.{InTriangle, height}
 -- The cut of a ring from its first vertex v to the farthest vertex in the triangle there, and the two pieces.
-mod FarthestCut
-pub use Rattle.ring_laws.proofs.Simple.FarthestCut.{apart_regrouped, farthest_cut, first_runs, ring_regrouped, second_runs}
 -- The theorem of simple rings: a ring runs round once, as it turns at its least vertex.
 mod SimpleRings
-pub use Rattle.ring_laws.proofs.Simple.SimpleRings.{left_turn_law, runs_round, simple_ring_law, triangle_law, winds_once}
+pub use Rattle.ring_laws.proofs.Simple.SimpleRings.{apart_regrouped, farthest_cut, first_runs, left_turn_law, ring_regrouped, runs_round}
+pub use Rattle.ring_laws.proofs.Simple.SimpleRings.{second_runs, simple_ring_law, triangle_law, winds_once}
 -- A simple ring runs one way or the other; turned round it is simple, runs the other way, and has the same chains with bends.
 mod TwoWays
 pub use Rattle.ring_laws.proofs.Simple.TwoWays.{bent_kept, bent_turned_iff, kept_ring, taut_turned_iff, two_ways}

@@ -3,6 +3,7 @@
 -- The law of crossing parity: along a segment that meets no edge of a closed list, the winding number stays.
 mod ClosedLaw
 pub use Rattle.rings.proofs.Crossings.ClosedLaw.{in_law, misses_swapped, winding_law, winding_law_crossed}
+-- A segment and an edge in numbers: the heights of their ends over one another, and the sides of their lines.
 -- How the signed crossings of one edge differ between the two ends of a segment.
 mod EdgeLaw
 pub use Rattle.rings.proofs.Crossings.EdgeLaw.{left_swapped, right_swapped}
@@ -21,6 +22,5 @@ pub use Rattle.rings.proofs.Crossings.Crossings.{crossed_up_from, crossing_cases
 -- Crossings and winding numbers of lists of edges: appended lists, and edges read backward.
 mod CrossingSums
 pub use Rattle.rings.proofs.Crossings.CrossingSums.{crossings-append, crossings-backward, crossings-cons, winding-append, winding-backward}
-mod EdgeFigure
 -- The signed crossings of an edge from the two ends of a segment that it does not meet, over plain integers. The names of the integers are those of `EdgeSigns`.
 mod EdgeCases

@@ -5,17 +5,17 @@ mod Rotated
 pub use Rattle.rings.proofs.Inside.Rotated.{apart_rotated, area_rotated, closed_swapped, has_edge_rotated, in_rotated}
 pub use Rattle.rings.proofs.Inside.Rotated.{length_rotated, on_some_rotated, on_some_swapped, swept_swapped, turn_rotated, vertex_rotated}
 pub use Rattle.rings.proofs.Inside.Rotated.{winding_rotated, winding_swapped}
+-- Points from which no edge is crossed: above all ends of the edges, or below all.
 -- A point that is farthest in some direction is wound round by no closed list of edges.
 mod ExtremePoints
-pub use Rattle.rings.proofs.Inside.ExtremePoints.{below_abs, extreme_point}
+pub use Rattle.rings.proofs.Inside.ExtremePoints.{below_abs, extreme_point, none_crossed_above}
 mod Rising
 -- What the laws of crossings say of the points in a ring.
-mod InRing
-pub use Rattle.rings.proofs.Inside.InRing.{both_odd, in_from_odd, in_or_not, in_same, not_in_from_even, on_some_or_not, vertex_in}
+-- The law of breakpoints: a segment lies in a ring exactly if the mediants of its neighbouring breakpoints do.
+mod BreakpointLaw
+pub use Rattle.rings.proofs.Inside.BreakpointLaw.{both_odd, in_from_odd, in_or_not, in_same, mediants_of_sees, not_in_from_even}
+pub use Rattle.rings.proofs.Inside.BreakpointLaw.{on_some_or_not, sees_by_mediants, vertex_in}
 mod SamePoint
--- Points from which no edge is crossed: above all ends of the edges, or below all.
-mod FarAway
-pub use Rattle.rings.proofs.Inside.FarAway.{none_crossed_above}
 -- Points in order on a segment, so close that each edge that meets the segment ends at two of them: its breakpoints.
 mod Breakpoints
 pub use Rattle.rings.proofs.Inside.Breakpoints.{AreBreakpoints}
@@ -25,9 +25,6 @@ pub use Rattle.rings.proofs.Inside.TurnedInside.{in_either, in_turned_iff, on_so
 -- A ring read the other way round from its first vertex: apart as before, with the opposite winding numbers.
 mod Mirrored
 pub use Rattle.rings.proofs.Inside.Mirrored.{apart_turned, turned_corner, winding_turned}
--- The law of breakpoints: a segment lies in a ring exactly if the mediants of its neighbouring breakpoints do.
-mod BreakpointLaw
-pub use Rattle.rings.proofs.Inside.BreakpointLaw.{mediants_of_sees, sees_by_mediants}
 -- Sight, neighbours and reflex vertices of a ring that is read the other way round.
 mod TurnedBends
 pub use Rattle.rings.proofs.Inside.TurnedBends.{neighbours_turned_iff, reflex_turned_iff, sees_turned_iff}

@@ -5,18 +5,16 @@ mod Along
 -- Sums over lists of triangles and of gaps, after an edit.
 mod Lists
 -- The triangles that fill closed regions have the sums of these.
-mod Closed
-pub use Rattle.sweep_tri.proofs.Balance.Closed.{closed_round, filled-append, filled_sum}
 -- What an event does to the regions of a gap, by their sums.
 mod Edits
-pub use Rattle.sweep_tri.proofs.Balance.Edits.{left_some, open_joined}
+pub use Rattle.sweep_tri.proofs.Balance.Edits.{closed_round, filled-append, filled_sum, left_some, open_joined}
 -- Sums over the edges of a ring, each with a sign: where the signs agree, and where all are 1 or -1.
 mod EdgeSums
 -- Twice the areas that edges sweep out round the origin: of triangles, and of a ring.
 mod Area
 -- After the last event: the triangles fit the ring.
 mod AtEnd
-pub use Rattle.sweep_tri.proofs.Balance.AtEnd.{balanced_at_end, nothing_left}
+pub use Rattle.sweep_tri.proofs.Balance.AtEnd.{balanced_at_end}
 -- The signs of the edges of a ring before and after an event: just those of the edges that begin there are new.
 mod Signs
 pub use Rattle.sweep_tri.proofs.Balance.Signs.{AreBeside}
@@ -26,4 +24,4 @@ pub use Rattle.sweep_tri.proofs.Balance.Steps.{balanced_at_start}
 -- Each event keeps the balance.
 mod Events
 pub use Rattle.sweep_tri.proofs.Balance.Events.{AreFilledClosed, balanced_begins, balanced_ends, balanced_goes_on}
-pub use Rattle.sweep_tri.proofs.Balance.Events.{balanced_merges, balanced_splits, filled_closed-append}
+pub use Rattle.sweep_tri.proofs.Balance.Events.{balanced_merges, balanced_splits}

@@ -1,8 +1,7 @@
 -- The edges that the sweep line meets: where the vertex of an event is to them, and which they are after the event.
 
 -- An edge of the ring that runs from before an event to it or on.
-mod Met
--- Where the vertex of an event is to two such edges, one below the other.
+-- Where the vertex of an event is to two edges that the sweep line meets, one below the other.
 mod Sides
 pub use Rattle.sweep_tri.proofs.Fronts.Sides.{above_no_end, above_not_under, under_no_end, under_upper}
 -- The edges of a ring at the vertex of an event: those that end there, and those that begin there.
@@ -11,8 +10,10 @@ pub use Rattle.sweep_tri.proofs.Fronts.Beside.{AreBeside, beside_below, beside_d
 -- The edges that the sweep line meets, parted by a vertex: those that it is above, those that end there, and those that it is under.
 mod Parted
 pub use Rattle.sweep_tri.proofs.Fronts.Parted.{IsParted}
--- How many edges end at the vertex of an event.
-mod Ending
+-- How many of the edges that the sweep line meets end at the vertex of an event: as many as it has neighbours before it.
+-- The edges below and above one gap: where the vertex of an event is to them, and whether they end there.
+mod GapPlaces
+pub use Rattle.sweep_tri.proofs.Fronts.GapPlaces.{GoesOn, low_is_front, sorted, up_is_front}
 -- The two edges that begin at a vertex turn to one side.
 mod Turning
 pub use Rattle.sweep_tri.proofs.Fronts.Turning.{not_straight, turns_left}
@@ -31,17 +32,10 @@ pub use Rattle.sweep_tri.proofs.Fronts.Bounds.{frontier_first, frontier_last}
 mod Gaps
 -- The edges of the gaps after one is put in, replaced, divided, taken out or joined with another.
 mod Edits
--- The edges below and above one gap: where the vertex of an event is to them, and whether they end there.
-mod GapPlaces
-pub use Rattle.sweep_tri.proofs.Fronts.GapPlaces.{GoesOn, low_below_up, low_is_front, sorted, up_is_front}
 -- Which edges of the gaps end at the vertex of an event, by its place among the gaps.
 mod Kinds
--- An event at which two edges begin: a new gap, or one that divides.
-mod Starts
-pub use Rattle.sweep_tri.proofs.Fronts.Starts.{IsSplit, IsStart, splits, starts}
--- An event at which one edge goes on in another.
-mod Follows
-pub use Rattle.sweep_tri.proofs.Fronts.Follows.{IsNext, follows_low, follows_up}
--- An event at which two edges end: a gap that closes, or two that are joined.
-mod Closes
-pub use Rattle.sweep_tri.proofs.Fronts.Closes.{IsEnd, IsMerge, closes, ends, merges}
+-- What an event makes of the edges that the sweep line meets: two begin, and a gap is new or divides; one goes on in another; or two end, and a
+-- gap closes or two are joined.
+mod Events
+pub use Rattle.sweep_tri.proofs.Fronts.Events.{IsEnd, IsMerge, IsNext, IsSplit, IsStart, closes, ends, follows_low, follows_up, merges}
+pub use Rattle.sweep_tri.proofs.Fronts.Events.{splits, starts}

@@ -17,9 +17,8 @@ pub mod Slots
 -- The regions that an event closes, and those that stay open: what is known of each, and how they are filled.
 pub mod Closing
 -- How many entries the gaps have in all, after each event.
-pub mod Entries
--- The steps that the events take, by the entries of the gaps before and after them.
 pub mod Work
+-- The steps that the events take, by the entries of the gaps before and after them.
 -- What the turn of three corners says of a vertex and an edge.
 pub mod Corners
 -- An event that the sweep passes: what it needs of the state, and what it takes.

@@ -6,14 +6,11 @@ pub use Rattle.sweep_tri.proofs.Regions.Paths.{before_last_grown, last_grown, le
 -- A region and a gap seen from one of their sides, so that what holds at the one is shown at the other too.
 mod Sides
 pub use Rattle.sweep_tri.proofs.Regions.Sides.{IsNearer, IsShort, far_chain, far_front, near_chain, near_front}
--- A region with one more vertex at the end of a chain.
-mod Growth
+mod Halves
 -- An edge on the near side of another one, by where its ends are.
 mod Edges
 -- What comes to an end at an event: the ranks of the vertices of a chain.
 mod Ranks
--- Of two regions that meet at a merge vertex, one with its inner chain led to the vertex of an event.
-mod Halves
 -- An open region whose near chain ends at the vertex of an event, after that.
 mod Continued
 -- Two edges from one vertex, and the region between them.
@@ -25,11 +22,8 @@ mod Latest
 -- The parts of a gap: what is open where one of its edges ends, and what is closed.
 mod Parts
 pub use Rattle.sweep_tri.proofs.Regions.Parts.{closes, left_ends, left_far}
--- What the events make of gaps, but for splits.
+-- What the events make of gaps.
 mod Events
-pub use Rattle.sweep_tri.proofs.Regions.Events.{begins, ends, goes_on, merges, stays}
+pub use Rattle.sweep_tri.proofs.Regions.Events.{begins, ends, goes_on, merges, splits_above, splits_below, stays}
 -- One region on both sides of a diagonal to the vertex of a split.
 mod Diagonals
--- What a split makes of a gap.
-mod Splits
-pub use Rattle.sweep_tri.proofs.Regions.Splits.{splits_above, splits_below}

@@ -1,5 +1,5 @@
 -- A search by halves for the place of a vertex among the gaps: the places that are left, and its test.
-use Rattle.std.proofs.Common.{◌≡◌, ◌↔◌, sym, ap, subst, ◌∙◌, ℕ, ◌+◌, ◌-◌, ◌<◌, ◌≤◌, List, length, inl, inr, arith}
+use Rattle.std.proofs.Common.{◌≡◌, ◌↔◌, sym, ap, subst, ◌∙◌, ℕ, ◌+◌, ◌<◌, ◌≤◌, List, length, inl, inr, arith}
 use Rattle.std.proofs.lemmas.Bool.{cases_eq}
 use Rattle.std.proofs.lemmas.List.{get_or_read}
 use Rattle.std.specs.Prelude.{slice_index_or}
@@ -15,11 +15,8 @@ use Rattle.exact_plane.specs.declared.turns.Spot.TheVariants.{Corner}
 use Rattle.shared_seq.proofs.Searches.{IsPartOf, after_end, halves_length, middle_is, middle_within}
 use Rattle.shared_seq.specs.Search.{AreHalves, ListPart}
 use Rattle.sweep_tri.proofs.Slots.{gap_is, gaps_count}
-use Rattle.sweep_tri.proofs.Swept.{low_region}
 use Rattle.sweep_tri.specs.Frontier.{IsAbove}
 use Rattle.sweep_tri.specs.Gaps.{gap_at, low_front, no_gap}
-use Rattle.sweep_tri.specs.Open.{IsOpenGap}
-use Rattle.sweep_tri.specs.Region.{IsRegion}
 use Rattle.sweep_tri.specs.Slots.{AreSlotNumbers, AreSortedBy, HasLowFront, HaveLowFronts, gaps_of}
 use Rattle.sweep_tri.specs.declared.gap.Gap.{Gap}
 
@@ -107,22 +104,6 @@ module _ (slots : List Gap) (numbers : List ℕ) (gaps : List Gap) (are : gaps_o
           subst (λ l. IsBetween corners gaps v l (l + length before.items)) (sym halves.low)
           (high_moves corners gaps v sorted part.low high is middle (omega arith) below
           (λ above. not (subst (λ g. IsAbove corners (low_front g) v) (sym is_between) above)))
-
--- ---- the lower edges
-
-pub open_has_low_front : (corners : List Point) (ranks : List ℕ) (k : ℕ) (g : Gap) → IsOpenGap corners ranks k g → HasLowFront corners g
-open_has_low_front corners ranks k g is =
-    let low : IsRegion corners ranks g.low = low_region corners ranks k g.low g.high is in
-    record {
-      some = low.lower_some;
-      from = low.lower_numbers (length g.low.lower - 2) 0 (omega (arith, low.lower_some));
-      to = low.lower_numbers (length g.low.lower - 1) 0 (omega (arith, low.lower_some));
-    }
-
--- and so have all gaps
-pub open_have_low_fronts : (corners : List Point) (ranks : List ℕ) (k : ℕ) (gaps : List Gap)
-    → ((j : ℕ) → j < length gaps → IsOpenGap corners ranks k (gap_at gaps j)) → HaveLowFronts corners gaps
-open_have_low_fronts corners ranks k gaps are = λ j within. open_has_low_front corners ranks k (gap_at gaps j) (are j within)
 
 -- ---- the test
 

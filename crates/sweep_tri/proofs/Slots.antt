@@ -199,27 +199,7 @@ module _ (slots : List Gap) (numbers : List ℕ) (are : AreSlotNumbers slots num
 numbers_of_more : (slots others : List Gap) (numbers : List ℕ) → length slots ≤ length others → AreSlotNumbers slots numbers → AreSlotNumbers others numbers
 numbers_of_more slots others numbers more are = record { below = λ k d less. omega (arith, are.below k d less, more); apart = are.apart }
 
--- there is no slot at first
-pub no_slots : AreSlots [] [] []
-no_slots = record {
-  taken = record { below = λ k d less. absurd (omega (arith, less)); apart = λ i k first less. absurd (omega (arith, less)) };
-  left = record { below = λ k d less. absurd (omega (arith, less)); apart = λ i k first less. absurd (omega (arith, less)) };
-  apart = λ k d less. absurd (omega (arith, less));
-  count = refl;
-}
-
 module _ (slots : List Gap) (numbers free : List ℕ) (are : AreSlots slots numbers free) where
-  -- a gap in the place of another leaves them,
-  pub slots_replaced : (j : ℕ) → j < length numbers → (g : Gap) → AreSlots (slice_set slots (slice_index numbers j) g) numbers free
-  slots_replaced j within g =
-      let same = length-set slots (slice_index numbers j) g in
-      record {
-        taken = numbers_replaced slots numbers are.taken j within g;
-        left = numbers_of_more slots _ free (omega (arith, same)) are.left;
-        apart = are.apart;
-        count = omega (arith, same, are.count);
-      }
-
   -- where none is free, a gap comes into a new one,
   pub slots_added : length free ≡ 0 → (j : ℕ) → j ≤ length numbers → (g : Gap) → AreSlots (slots ++ g ∷ []) (insert numbers j (length slots)) free
   slots_added none j within g =

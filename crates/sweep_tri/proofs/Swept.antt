@@ -5,25 +5,21 @@ mod AtEvent
 pub use Rattle.sweep_tri.proofs.Swept.AtEvent.{IsAtEvent, both_turn, event_below, event_rank}
 -- The gaps of a list after an edit.
 mod Lists
--- Gaps that stay open, since neither edge ends at the event.
+-- What is kept at an event: gaps neither of whose edges ends there are open after it, and triangles that fit closed regions are triangles of
+-- the ring.
 mod Kept
--- Triangles that fit closed regions are triangles of the ring.
-mod Triangles
 -- The edges of the gaps that an event leaves.
 mod Edges
--- Two edges begin: a gap starts, or is split.
-mod Starts
-pub use Rattle.sweep_tri.proofs.Swept.Starts.{swept_starts}
-mod Splits
-pub use Rattle.sweep_tri.proofs.Swept.Splits.{split_has_gap, swept_splits}
+-- Two edges begin at the event: a gap starts between them, or they begin in a gap, and split it.
+mod Begins
+pub use Rattle.sweep_tri.proofs.Swept.Begins.{split_has_gap, swept_splits, swept_starts}
 -- One edge goes on in another: the edge below a gap, or the one above it.
 mod Follows
 pub use Rattle.sweep_tri.proofs.Swept.Follows.{event_low, event_up, follow_closes, swept_follows}
--- Two edges end: those of one gap, or those between two gaps.
+-- Two edges end at the event: both edges of a gap, or those between two gaps, so that they are one.
 mod Ends
-pub use Rattle.sweep_tri.proofs.Swept.Ends.{end_closes, end_has_gap, swept_ends}
-mod Merges
-pub use Rattle.sweep_tri.proofs.Swept.Merges.{merge_closes_above, merge_closes_below, merge_some, swept_merges}
+pub use Rattle.sweep_tri.proofs.Swept.Ends.{end_closes, end_has_gap, merge_closes_above, merge_closes_below, merge_some, swept_ends}
+pub use Rattle.sweep_tri.proofs.Swept.Ends.{swept_merges}
 -- Before the first event, and after the last one.
 mod Bounds
 pub use Rattle.sweep_tri.proofs.Swept.Bounds.{swept_at_end, swept_at_start}

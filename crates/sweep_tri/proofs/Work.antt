@@ -1,17 +1,94 @@
+-- How many entries the gaps have in all, after each event.
 -- The steps that the events take, by the entries of the gaps before and after them.
-use Rattle.std.proofs.Common.{◌≡◌, ap, ◌∙◌, ℕ, ◌+◌, ◌*◌, ◌<◌, ◌≤◌, List, length, set, arith}
-use Rattle.std.proofs.lemmas.List.{length-set, set-set}
+use Rattle.std.proofs.Common.{◌≡◌, sym, ap, ◌∙◌, ℕ, suc, ◌+◌, ◌-◌, ◌<◌, ◌≤◌, Bool, true, false, nat_lt, Option, Some, None, List, [], ◌∷◌}
+use Rattle.std.proofs.Common.{◌++◌, length, take, drop, set, arith, ◌*◌}
+use Rattle.std.proofs.lemmas.List.{drop_more, length-append, length-take-le, set_split, take-append-drop, length-set, set-set}
 use Rattle.std.proofs.lemmas.List.Edits.{get_or-remove_below, length-remove}
 use Rattle.std.specs.List.{insert, remove}
+use Rattle.std.specs.Prelude.{if◌then◌else◌, slice_index}
 use Rattle.shared_seq.proofs.Digits.{binary_digits_mono}
 use Rattle.shared_seq.specs.Digits.{binary_digits}
-use Rattle.sweep_tri.proofs.Entries.{entries_inserted, entries_met, entries_replaced, entries_split, entries_within}
-use Rattle.sweep_tri.specs.Entries.{IsPaid, IsWithinAccount, entries, entries_of_all, event_work, gap_entries, status_entries}
-use Rattle.sweep_tri.specs.Gaps.{gap_at, no_gap}
-use Rattle.sweep_tri.specs.Meeting.{closed_at, gap_of, left_at, region_from, split_above, split_below}
-use Rattle.sweep_tri.specs.Region.{Chains}
 use Rattle.mono_fill.specs.declared.side.Side.{Side}
+use Rattle.mono_fill.specs.declared.side.Side.TheVariants.{Lower, Upper}
+use Rattle.sweep_tri.specs.Entries.{entries, entries_of_all, gap_entries, status_entries, IsPaid, IsWithinAccount, event_work}
+use Rattle.sweep_tri.specs.Gaps.{before_last, gap_at, no_gap}
+use Rattle.sweep_tri.specs.Meeting.{beside_front, closed_at, left_at, past_diagonal, split_above, split_below, with_vertex, gap_of}
+use Rattle.sweep_tri.specs.Meeting.{region_from}
+use Rattle.sweep_tri.specs.Region.{Chains}
 use Rattle.sweep_tri.specs.declared.gap.Gap.{Gap}
+
+-- ---- lists of gaps
+
+entries-append : (gs hs : List Gap) → status_entries (gs ++ hs) ≡ status_entries gs + status_entries hs
+entries-append [] hs = omega arith
+entries-append (g ∷ gs) hs = omega (arith, entries-append gs hs)
+
+module _ (gaps : List Gap) (j : ℕ) where
+  all_parts : status_entries (take j gaps) + status_entries (drop j gaps) ≡ status_entries gaps
+  all_parts = sym (entries-append (take j gaps) (drop j gaps)) ∙ ap status_entries (take-append-drop j gaps)
+
+  -- with one more
+  pub entries_inserted : (g : Gap) → status_entries (insert gaps j g) ≡ status_entries gaps + gap_entries g
+  entries_inserted g = omega (arith, entries-append (take j gaps) (g ∷ drop j gaps), all_parts)
+
+  -- without one
+  pub entries_removed : j < length gaps → status_entries (remove gaps j) + gap_entries (gap_at gaps j) ≡ status_entries gaps
+  entries_removed within =
+      let after : suc j ≡ j + 1 = omega arith in
+      let rest : drop j gaps ≡ gap_at gaps j ∷ drop (suc j) gaps
+      = drop_more gaps j no_gap within ∙ ap (λ n. gap_at gaps j ∷ drop n gaps) (sym after) in
+      omega (arith, entries-append (take j gaps) (drop (suc j) gaps), all_parts, ap status_entries rest)
+
+  -- no gap has more than all
+  pub entries_within : j < length gaps → gap_entries (gap_at gaps j) ≤ status_entries gaps
+  entries_within within = omega (arith, entries_removed within)
+
+  -- with another in its place
+  pub entries_replaced : (g : Gap) → j < length gaps
+      → status_entries (set gaps j g) + gap_entries (gap_at gaps j) ≡ status_entries gaps + gap_entries g
+  entries_replaced g within =
+      let cut = ap status_entries (set_split gaps j g within) in
+      omega (
+        arith,
+        cut,
+        entries-append (take j gaps) (g ∷ drop (suc j) gaps),
+        entries-append (take j gaps) (drop (suc j) gaps),
+        entries_removed within,
+      )
+
+-- ---- regions that are closed, and those that are left
+
+pub entries_with : (side : Side) (c : Chains) (v : ℕ) → entries (with_vertex side c v) ≡ entries c + 1
+entries_with Lower c v = omega (arith, length-append c.lower (v ∷ []))
+entries_with Upper c v = omega (arith, length-append c.upper (v ∷ []))
+
+-- where an edge of a gap ends
+pub entries_met : (side : Side) (low : Chains) (high : Option Chains) (v : ℕ)
+    → entries_of_all (closed_at side low high v) + entries (left_at side low high v) ≤ gap_entries (record { low = low; high = high }) + 2
+entries_met side low None v = omega arith
+entries_met Lower low (Some high) v = omega (arith, entries_with Upper low v, entries_with Lower high v)
+entries_met Upper low (Some high) v = omega (arith, entries_with Upper low v, entries_with Lower high v)
+
+-- ---- a split
+
+module _ (v a b : ℕ) (c : Chains) where
+  -- a chain without its last vertex and two more
+  entries_turned : (path : List ℕ) (w : ℕ) → length (take (length path - 1) path ++ v ∷ w ∷ []) ≤ length path + 2
+  entries_turned path w =
+      omega (arith, length-append (take (length path - 1) path) (v ∷ w ∷ []), length-take-le (length path - 1) path (omega arith))
+
+  -- from the one vertex or the other
+  entries_latest : (from_lower : Bool) → entries (if from_lower then beside_front Lower c v a else past_diagonal Upper c v a)
+      + entries (if from_lower then past_diagonal Lower c v b else beside_front Upper c v b) ≤ entries c + 7
+  entries_latest true = omega (arith, entries_turned c.lower b)
+  entries_latest false = omega (arith, entries_turned c.upper a)
+
+pub entries_split : (ranks : List ℕ) (v a b : ℕ) (low : Chains) (high : Option Chains)
+    → entries (split_below ranks low high v a) + entries (split_above ranks low high v b) ≤ gap_entries (record { low = low; high = high }) + 7
+entries_split ranks v a b low None =
+    let less = nat_lt (slice_index ranks (before_last low.upper)) (slice_index ranks (before_last low.lower)) in
+    omega (arith, entries_latest v a b low less)
+entries_split ranks v a b low (Some high) = omega (arith, length-append low.upper (v ∷ a ∷ []), length-append high.lower (v ∷ b ∷ []))
 
 -- the digits of one gap more
 pub more_digits : (gaps : List Gap) → binary_digits (length gaps) ≤ binary_digits (length gaps + 1)

@@ -1,9 +1,12 @@
--- The way to a point beyond the diagonal bends at the point of the funnel from which it is reached.
-use Rattle.std.proofs.Common.{◌≡◌, inl, inr, Bool, true, false, refl, sym, subst, ap, List, length, ℕ, ◌+◌, ◌-◌, ◌<◌, pos, ◌<ℤ◌, ◌≤ℤ◌, arith}
+-- The way to a point beyond the diagonal bends at the point of the funnel from which it is reached, be that the apex or not.
+use Rattle.std.proofs.Common.{◌≡◌, ◌⊎◌, inl, inr, Bool, true, false, refl, sym, subst, List, length, ℕ, ◌+◌, ◌-◌, ◌<◌, pos, ◌<ℤ◌, arith, ap}
+use Rattle.std.proofs.Common.{◌≤ℤ◌}
 use Rattle.std.proofs.lemmas.Bool.{cases_lt}
-use Rattle.integer_algebra.proofs.SignSteps.{at_least_unless, at_most_unless, turned_not_negative}
+use Rattle.integer_algebra.proofs.SignSteps.{opposite_not_positive, at_least_unless, at_most_unless, turned_not_negative}
+use Rattle.plane.proofs.Points.{whole_is_point}
 use Rattle.plane.proofs.Turns.{determinant_swap_first}
 use Rattle.plane.specs.Point.{Point, whole}
+use Rattle.plane.specs.Segment.{On}
 use Rattle.rings.specs.Bend.{IsBend}
 use Rattle.rings.specs.Chain.{point_at}
 use Rattle.rings.specs.Ring.{vertex}
@@ -11,16 +14,99 @@ use Rattle.rings.specs.Sees.{Sees}
 use Rattle.meshes.specs.Fits.{Fits, IsInTri}
 use Rattle.meshes.specs.Side.{HasSide, tri_at}
 use Rattle.meshes.specs.declared.tri.Tri.{Tri}
+use Rattle.funnels.proofs.Bends.{wider_bend}
+use Rattle.funnels.proofs.Chains.ApexEdges.{behind_left, behind_right, not_ahead_of_left, not_behind_right}
 use Rattle.funnels.proofs.Chains.ApexSides.{back_of_left, back_of_right}
-use Rattle.funnels.proofs.Chains.DiagonalEnds.{bend_from_fan}
-use Rattle.funnels.proofs.Chains.ReachedApex.{apex_bends}
+use Rattle.funnels.proofs.Chains.BeyondSide.{is_behind}
+use Rattle.funnels.proofs.Chains.DiagonalEnds.{bend_goes_on, bend_from_fan}
 use Rattle.funnels.proofs.Chains.ReachedSides.{bend_on_left, bend_on_right}
 use Rattle.funnels.proofs.Chains.WaysBefore.{IsWayBefore}
-use Rattle.funnels.proofs.Funnels.{left_of_way, right_of_way, turns_left, turns_right}
-use Rattle.funnels.proofs.Vertices.{IsSharedSide}
+use Rattle.funnels.proofs.Funnels.{by_points, left_of_way, right_of_way, turns_left, turns_right}
+use Rattle.funnels.proofs.Vertices.{IsSharedSide, shared_side_back}
 use Rattle.funnels.specs.Fanned.{turning}
-use Rattle.funnels.specs.Funnel.{IsFunnel, IsReachedFrom, Reaches}
+use Rattle.funnels.specs.Funnel.{IsFunnel, IsReachedFrom, height, Reaches}
 use Rattle.funnels.specs.OpenFunnel.{HasOpenEnds, IsApexSide, IsBentFunnel, IsLastOf}
+
+-- the way from q over v bends at v on the way to y, and turns there on this side
+abbrev pub BendsTo : Bool → List Point → Point → Point → Point → Type 0
+BendsTo side ring q v y = (turning side v (whole q) (whole y) <ℤ pos 0) × IsBend ring q v y
+
+module _ (corners : List Point) (tris : List Tri) (fits : Fits corners tris) (k i j m : ℕ) (within : k < length tris)
+    (first : HasSide (tri_at tris k) i j) (next : HasSide (tri_at tris k) j m) (last : HasSide (tri_at tris k) m i)
+    (shared : IsSharedSide tris i j) (before ns : List Point) (a : ℕ) (f : IsFunnel ns a (vertex corners i) (vertex corners j))
+    (bent : IsBentFunnel corners before ns a) (ends : HasOpenEnds corners before ns a (vertex corners i) (vertex corners j)) (y : Point)
+    (inside : IsInTri corners (tri_at tris k) (whole y)) (reached : IsReachedFrom ns a a (whole y)) (other : ¬ (point_at ns a ≡ y))
+    (q : Point) (comes : IsLastOf before q) where
+  -- y is on the diagonal, or beyond it
+  beyond : On (whole y) (whole (vertex corners i)) (whole (vertex corners j))
+      ⊎ (height (vertex corners i) (vertex corners j) (whole y) <ℤ pos 0)
+  beyond =
+      (is_behind corners (tri_at tris k) (fits.triangles k within).counterclockwise i j first (vertex corners i) (vertex corners j) refl
+      refl).beyond (whole y) (whole_is_point y) inside
+
+  -- an apex at the left end,
+  at_left_end : 0 ≡ a → a + 1 < length ns → turning true (point_at ns a) (whole q) (whole (point_at ns (a + 1))) <ℤ pos 0
+      → BendsTo true corners q (point_at ns a) y
+  at_left_end none more wide =
+      let l = vertex corners i in
+      let r = vertex corners j in
+      let short = ends.short_left (sym none) in
+      let place : length ns - 1 ≡ a + 1 = omega arith in
+      let is_left : point_at ns a ≡ l = subst (λ n. point_at ns n ≡ l) none f.first in
+      let is_right : point_at ns (a + 1) ≡ r = subst (λ n. point_at ns n ≡ r) place f.last in
+      let at_ends = by_points (λ p v s. BendsTo true corners p v s) q (point_at ns a) (point_at ns (a + 1)) q l r refl (sym is_left)
+      (sym is_right) (wide, bent.apex_right q comes more) in
+      subst (λ v. BendsTo true corners q v y) (sym is_left)
+      (bend_goes_on corners tris fits k within true m i j (last, first) y inside shared
+      (λ same. other (subst (λ (v : Point). v ≡ y) (sym is_left) same)) q at_ends.1 at_ends.0)
+
+  -- and at the right end
+  at_right_end : a + 1 ≡ length ns → 0 < a → turning false (point_at ns a) (whole q) (whole (point_at ns (a - 1))) <ℤ pos 0
+      → BendsTo false corners q (point_at ns a) y
+  at_right_end none some wide =
+      let l = vertex corners i in
+      let r = vertex corners j in
+      let short = ends.short_right none in
+      let place : length ns - 1 ≡ a = omega arith in
+      let before_it : 0 ≡ a - 1 = omega arith in
+      let is_left : point_at ns (a - 1) ≡ l = subst (λ n. point_at ns n ≡ l) before_it f.first in
+      let is_right : point_at ns a ≡ r = subst (λ n. point_at ns n ≡ r) place f.last in
+      let at_ends = by_points (λ p v s. BendsTo false corners p v s) q (point_at ns a) (point_at ns (a - 1)) q r l refl (sym is_right)
+      (sym is_left) (wide, bent.apex_left q comes some) in
+      subst (λ v. BendsTo false corners q v y) (sym is_right)
+      (bend_goes_on corners tris fits k within false m j i (next, first) y inside (shared_side_back shared)
+      (λ same. other (subst (λ (v : Point). v ≡ y) (sym is_right) same)) q at_ends.1 at_ends.0)
+
+  -- the way over the apex bends on the side on which the apex has an edge,
+  bends_on_side : (side : Bool) → IsApexSide ns a q side → BendsTo side corners q (point_at ns a) y
+  bends_on_side true (more, at_right, at_left) = elim (cases_lt 0 a) [
+    | inr none ↦ at_left_end (omega arith) more at_right
+    | inl some ↦
+        let l = vertex corners i in
+        let r = vertex corners j in
+        let turns = behind_left ns a l r f q y beyond reached some more (at_left some) at_right in (
+          turns,
+          wider_bend true corners q (point_at ns a) (point_at ns (a - 1)) y (bent.apex_left q comes some) (at_left some) turns
+              (not_ahead_of_left ns a l r f q y beyond reached some),
+        )
+  ]
+  bends_on_side false (some, at_left, at_right) = elim (cases_lt (a + 1) (length ns)) [
+    | inr none ↦ let top = f.apex_within in at_right_end (omega arith) some at_left
+    | inl more ↦
+        let l = vertex corners i in
+        let r = vertex corners j in
+        let turns = behind_right ns a l r f q y beyond reached some more at_left (at_right more) in (
+          turns,
+          wider_bend false corners q (point_at ns a) (point_at ns (a + 1)) y (bent.apex_right q comes more) (at_right more) turns
+              (opposite_not_positive (not_behind_right ns a l r f q y beyond reached more)),
+        )
+  ]
+
+  -- so there is such a side
+  pub apex_bends : (side : Bool) × IsApexSide ns a q side × BendsTo side corners q (point_at ns a) y
+  apex_bends = let (side, is) = bent.apex_side q comes in (side, is, bends_on_side side is)
+
+-- ---- the way to a point beyond the diagonal bends at the point of the funnel from which it is reached
 
 module _ (corners : List Point) (tris : List Tri) (fits : Fits corners tris) (k i j m : ℕ) (within : k < length tris)
     (first : HasSide (tri_at tris k) i j) (next : HasSide (tri_at tris k) j m) (last : HasSide (tri_at tris k) m i)

@@ -17,10 +17,9 @@ use Rattle.funnels.proofs.Chains.BentLeft.{bent_left}
 use Rattle.funnels.proofs.Chains.BentRight.{bent_right}
 use Rattle.funnels.proofs.Chains.EndFans.{corner_beyond, corner_differs}
 use Rattle.funnels.proofs.Chains.Ends.{ends_left, ends_right}
-use Rattle.funnels.proofs.Chains.NextSight.{sight_left, sight_right}
+use Rattle.funnels.proofs.Chains.WindowSight.{sees_reached, sight_left, sight_right}
 use Rattle.funnels.proofs.Chains.ReachedBends.{apex_turns, reached_bends}
 use Rattle.funnels.proofs.Chains.WaysBefore.{IsWayBefore}
-use Rattle.funnels.proofs.Chains.WindowSight.{sees_reached}
 use Rattle.funnels.proofs.Funnels.{funnel_left, funnel_right}
 use Rattle.funnels.proofs.Vertices.{IsSharedSide}
 use Rattle.funnels.specs.Funnel.{IsReachedFrom}

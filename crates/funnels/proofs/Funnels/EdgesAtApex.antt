@@ -7,7 +7,7 @@ use Rattle.rings.specs.Chain.{point_at}
 use Rattle.funnels.proofs.Funnels.FlatApex.{left_of_apex, right_of_apex}
 use Rattle.funnels.proofs.Funnels.FlatFunnels.{IsFlat}
 use Rattle.funnels.proofs.Funnels.Heights.{level, lower_left, lower_right, not_negative, reaches_left}
-use Rattle.funnels.proofs.Funnels.OnOneLine.{straight_on_line}
+use Rattle.funnels.proofs.Funnels.LineOfDiagonal.{straight_on_line}
 use Rattle.funnels.proofs.Funnels.TwoEdges.{level_between, not_ends}
 use Rattle.funnels.specs.Funnel.{IsFunnel, height}
 

@@ -10,7 +10,7 @@ use Rattle.plane.specs.Segment.{On}
 use Rattle.plane.specs.Turn.{IsLeft, IsRight, IsStraight}
 use Rattle.rings.specs.Chain.{point_at}
 use Rattle.funnels.proofs.Funnels.Heights.{lower, lower_left, lower_right, not_negative, reaches_left, reaches_right}
-use Rattle.funnels.proofs.Funnels.OnOneLine.{on_by_sides, straight_on_line}
+use Rattle.funnels.proofs.Funnels.LineOfDiagonal.{on_by_sides, straight_on_line}
 use Rattle.funnels.specs.Funnel.{IsFunnel, Reaches, height}
 
 -- ---- points without height

@@ -10,7 +10,7 @@ use Rattle.rings.specs.Chain.{point_at}
 use Rattle.funnels.proofs.Funnels.EdgesAtApex.{not_between_edges}
 use Rattle.funnels.proofs.Funnels.FlatFunnels.{IsFlat, flat_left, flat_right, turn_left, turn_right}
 use Rattle.funnels.proofs.Funnels.Heights.{lower_left, lower_right, not_negative}
-use Rattle.funnels.proofs.Funnels.OnOneLine.{straight_on_line}
+use Rattle.funnels.proofs.Funnels.LineOfDiagonal.{straight_on_line}
 use Rattle.funnels.proofs.Funnels.TwoEdges.{outer_left, outer_right}
 use Rattle.funnels.specs.Funnel.{IsFunnel, IsPassed, IsReachedFrom, height}
 

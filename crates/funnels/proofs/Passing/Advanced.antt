@@ -15,7 +15,7 @@ use Rattle.funnels.proofs.Bends.{corner_back, negative_unless, not_swept, turnin
 use Rattle.funnels.proofs.Corners.{corner_after, corner_before}
 use Rattle.funnels.proofs.Passing.AlongWays.{other_end_ahead, other_end_not_ahead, rest_ahead}
 use Rattle.funnels.proofs.Passing.Flipped.{flipped, flipped_back, opening_not}
-use Rattle.funnels.proofs.Passing.SweptBehind.{swept_behind}
+use Rattle.funnels.proofs.Passing.LastSides.{swept_behind}
 use Rattle.funnels.proofs.Vertices.{IsSharedSide, shared_side_back}
 use Rattle.funnels.specs.Corner.{HasCornerOn, IsInAngle}
 use Rattle.funnels.specs.Fanned.{turning}

@@ -1,10 +1,12 @@
--- Two ways to a point of a triangle over a side of it, the one to the right of the other, pass that side each ahead of the other.
-use Rattle.std.proofs.Common.{◌≡◌, sym, subst, Bool, true, false, ℕ, ◌<◌, pos, ◌<ℤ◌, List, length}
-use Rattle.integer_algebra.proofs.SignSteps.{opposite_positive, turned_negative}
+-- Two ways to a point of a triangle over a side of it, the one to the right of the other, pass that side each ahead of the other; neighbours of
+-- a corner behind such a way are behind the side.
+use Rattle.std.proofs.Common.{inl, inr, Bool, not, sym, subst, ℕ, ◌<◌, pos, ◌<ℤ◌, ◌≤ℤ◌, List, length, ◌≡◌, true, false}
+use Rattle.integer_algebra.proofs.SignSteps.{turned_positive, opposite_positive, turned_negative}
+use Rattle.integer_algebra.proofs.Signs.{lt_or_le}
 use Rattle.plane.proofs.Points.{whole_is_point}
 use Rattle.plane.proofs.Segments.{on_reversed}
 use Rattle.plane.proofs.Turns.{determinant_of_whole, determinant_swap_first}
-use Rattle.plane.specs.Point.{IsPoint, Point, Triple, whole}
+use Rattle.plane.specs.Point.{Point, whole, IsPoint, Triple}
 use Rattle.plane.specs.Segment.{On}
 use Rattle.plane.specs.Turn.{IsLeft, IsRight}
 use Rattle.rings.specs.Bend.{AreNeighbours}
@@ -14,14 +16,45 @@ use Rattle.meshes.proofs.TreeLeaves.{closed_of_sides, turns_left}
 use Rattle.meshes.specs.Fits.{Fits, IsInTri}
 use Rattle.meshes.specs.Side.{tri_at}
 use Rattle.meshes.specs.declared.tri.Tri.{Tri}
-use Rattle.funnels.proofs.Bends.{in_angle}
+use Rattle.funnels.proofs.Bends.{corner_back, corner_turns, not_swept, right_of_third, turning_four, turning_not, turning_swap, in_angle}
 use Rattle.funnels.proofs.Corners.{corner_after}
 use Rattle.funnels.proofs.Passing.PartedWays.{first_left, last_right, passes_left, passes_right}
-use Rattle.funnels.proofs.Passing.SweptBehind.{swept_behind}
 use Rattle.funnels.proofs.Vertices.{IsSharedSide, shared_side_back}
-use Rattle.funnels.specs.Corner.{HasCornerOn}
+use Rattle.funnels.specs.Corner.{HasCornerOn, IsInAngle}
 use Rattle.funnels.specs.Fanned.{turning}
 use Rattle.funnels.specs.Passing.{ArePassing}
+
+module _ (corners : List Point) (tris : List Tri) (fits : Fits corners tris) (side : Bool) (k third own far : ℕ)
+    (in_list : k < length tris) (corner : HasCornerOn side (tri_at tris k) third own far) (shared : IsSharedSide tris own far) where
+  -- where the side from the corner to `far` is shared, no neighbour is behind the side to `third` and not behind that
+  not_swept_back : (u : Point) → AreNeighbours corners (vertex corners own) u
+      → pos 0 ≤ℤ turning side (vertex corners own) (whole (vertex corners far)) (whole u)
+      → ¬ (turning side (vertex corners own) (whole (vertex corners third)) (whole u) <ℤ pos 0)
+  not_swept_back u n high behind =
+      let V = vertex corners own in
+      let T = whole (vertex corners third) in
+      not_swept corners tris fits k in_list (not side) far own third (corner_back side (tri_at tris k) third own far corner) shared u n (
+        subst (λ z. pos 0 <ℤ z) (sym (turning_not side V T (whole u))) (turned_positive (turning_swap side V T (whole u)) behind),
+        subst (λ z. pos 0 ≤ℤ z) (sym (turning_not side V (whole u) (whole (vertex corners far)))) high,
+      )
+
+  -- so one that is behind a way from within the triangle is behind the shared side
+  pub swept_behind : (p : Point) → IsInAngle side corners third own far (whole p) → (u : Point) → AreNeighbours corners (vertex corners own) u
+      → turning side (vertex corners own) (whole p) (whole u) <ℤ pos 0
+      → turning side (vertex corners own) (whole (vertex corners far)) (whole u) <ℤ pos 0
+  swept_behind p within u n behind =
+      let V = vertex corners own in
+      let F = whole (vertex corners far) in
+      let T = whole (vertex corners third) in
+      elim (lt_or_le (turning side V F (whole u)) (pos 0)) [
+        | inl h ↦ h
+        | inr high ↦
+            absurd (not_swept_back u n high
+            (right_of_third (record { holds = turning_four side V F (whole p) T (whole u) }) within.from_after
+            (corner_turns corners tris fits k in_list side third own far corner) high within.to_before behind))
+      ]
+
+-- ---- two ways to a point of a triangle over a side of it, the one to the right of the other, pass that side each ahead of the other
 
 module _ (corners : List Point) (tris : List Tri) (fits : Fits corners tris) (k : ℕ) (in_list : k < length tris) (i j third : ℕ)
     (corner : HasCornerOn true (tri_at tris k) third j i) (t : Point) (inside : IsInTri corners (tri_at tris k) (whole t)) where

@@ -1,23 +1,107 @@
--- At a vertex of a simple ring that is not reflex, the ring is in the half-planes of both edges.
-use Rattle.std.proofs.Common.{inl, inr, refl, subst, le_refl, ℕ, ◌+◌, ◌-◌, ◌<◌, ◌≤◌, pos, ◌≤ℤ◌, List, length, arith}
-use Rattle.integer_algebra.proofs.SignSteps.{zero_not_negative}
+-- Right of an edge, near an end of it, nothing is in a ring where no edge at that end is right of this one; so at a vertex that is not reflex
+-- the ring is in the half-planes of both edges.
+use Rattle.std.proofs.Common.{◌≡◌, inl, inr, ℕ, ◌<◌, pos, ◌≤ℤ◌, List, length, refl, subst, le_refl, ◌+◌, ◌-◌, ◌≤◌, arith}
+use Rattle.integer_algebra.proofs.SignSteps.{turned_positive, turned_not_positive, zero_not_negative}
 use Rattle.integer_algebra.proofs.Signs.{lt_or_le}
-use Rattle.plane.proofs.Nearness.{toward}
-use Rattle.plane.proofs.Segments.{middle, middle_is_point}
-use Rattle.plane.proofs.Turns.{determinant_same_ends, determinant_same_last, determinant_shift}
+use Rattle.plane.proofs.Nearness.{apart_between, right_toward, Eventually, toward, toward_is_point}
+use Rattle.plane.proofs.Points.{whole_is_point}
+use Rattle.plane.proofs.Segments.{on_is_straight, on_same_point, first_end_on_line, on_or_not, middle, middle_is_point}
+use Rattle.plane.proofs.Turns.{determinant_swap_first, straight_swap_first, determinant_same_ends, determinant_same_last, determinant_shift}
 use Rattle.plane.specs.Point.{IsPoint, Point, Triple, whole}
+use Rattle.plane.specs.Segment.{On}
 use Rattle.plane.specs.Turn.{IsRight, determinant}
 use Rattle.rings.proofs.Simple.{apart_of_simple, proper_edges}
+use Rattle.rings.proofs.Vertices.{each_eventually, edge_with, on_some_of}
 use Rattle.rings.specs.Apart.{IsApartRing}
-use Rattle.rings.specs.Edge.{Edge, HasEdge, HasEnd, edge, edges_of}
+use Rattle.rings.specs.Edge.{Edge, HasEdge, HasEnd, IsOn, edges_of, edge}
 use Rattle.rings.specs.Inside.{IsIn}
 use Rattle.rings.specs.Orientation.{IsCounterclockwise, IsReflex, turn_at}
 use Rattle.rings.specs.Ring.{vertex}
 use Rattle.rings.specs.Simple.{IsSimple}
 use Rattle.rings.specs.Winding.{WindsUpTo}
 use Rattle.ring_laws.proofs.Kernels.{counterclockwise_winds}
-use Rattle.ring_laws.proofs.Vertices.{HasEdgesAt, IsStrictlyOn, edges_at, strictly_from, strictly_to}
-use Rattle.funnels.proofs.Vertices.NearVertices.{IsNotRightOf, near_is_out}
+use Rattle.ring_laws.proofs.Triangles.{off_others, end_is_on, end_of_other, not_right_between}
+use Rattle.ring_laws.proofs.Vertices.{IsStrictlyOn, rest_is_edge, rest_of, right_is_out, HasEdgesAt, edges_at, strictly_from, strictly_to}
+
+-- ---- right of an edge, near an end of it
+
+-- edge f is not right of the line of e
+abbrev pub IsNotRightOf : Edge → Edge → Type 0
+IsNotRightOf e f =
+    (pos 0 ≤ℤ determinant (whole e.from) (whole e.to) (whole f.from)) × (pos 0 ≤ℤ determinant (whole e.from) (whole e.to) (whole f.to))
+
+module _ (ring : List Point) (apart : IsApartRing ring) (some : 1 < length ring) (winds : WindsUpTo (pos 1) (edges_of ring))
+    (e : Edge) (has : HasEdge (edges_of ring) e) (v : Point) (end : HasEnd e v)
+    (beside : (f : Edge) → HasEdge (edges_of ring) f → HasEnd f v → IsNotRightOf e f)
+    (c : Triple) (at_c : IsPoint c) (inside : (n : ℕ) → IsStrictlyOn e (toward (whole v) c n))
+    (z : Triple) (at_z : IsPoint z) (right : IsRight (whole e.from) (whole e.to) z) where
+  -- the other edges
+  abbrev others : List Edge
+  others = rest_of ring apart e has
+
+  -- v is on the line of the edge
+  v_on_line : determinant (whole e.from) (whole e.to) (whole v) ≡ pos 0
+  v_on_line =
+      on_is_straight (whole v) (whole e.from) (whole e.to) (whole_is_point v) (whole_is_point e.from) (whole_is_point e.to)
+      (end_is_on e v end)
+
+  -- an edge that is not on the way from a point strictly inside the edge to one near v toward z
+  abbrev IsMissed : Edge → ℕ → Type 0
+  IsMissed f n = (x : Triple) → IsPoint x → On x (toward (whole v) c n) (toward (whole v) z n) → ¬ IsOn f x
+
+  -- an edge that is not right of the line is missed,
+  misses_beside : (f : Edge) → HasEdge others f → IsNotRightOf e f → (n : ℕ) → IsMissed f n
+  misses_beside f other not_right n x at_x on on_f =
+      let a = whole e.from in
+      let b = whole e.to in
+      let m = toward (whole v) c n in
+      let y = toward (whole v) z n in
+      let at_m = toward_is_point (whole v) c (whole_is_point v) at_c n in
+      let at_y = toward_is_point (whole v) z (whole_is_point v) at_z n in
+      let s = inside n in
+      let straight = straight_swap_first a b m (on_is_straight m a b at_m (whole_is_point e.from) (whole_is_point e.to) s.on) in
+      let y_right = right_toward a b (whole v) z v_on_line right n in
+      let x_not_right = not_right_between a b x (whole f.from) (whole f.to) at_x (whole_is_point f.from) (whole_is_point f.to) not_right.0
+      not_right.1 on_f in
+      let same = first_end_on_line x m y b a at_x at_m at_y on straight
+      (turned_positive (determinant_swap_first a b y) y_right) (turned_not_positive (determinant_swap_first a b x) x_not_right) in
+      off_others ring apart e has m at_m s.on s.not_from s.not_to
+      (on_some_of m f others other (on_same_point at_x same on_f))
+
+  -- and any other, near v
+  misses_other : (f : Edge) → HasEdge others f → Eventually (IsMissed f)
+  misses_other f other =
+      let has_f = rest_is_edge ring apart e has f other in
+      elim (on_or_not (whole v) (whole f.from) (whole f.to) (whole_is_point v) (whole_is_point f.from) (whole_is_point f.to)) [
+        | inl on ↦ record {
+          start = 0;
+          from_start = λ n above.
+              misses_beside f other (beside f has_f (end_of_other (edges_of ring) apart.apart e f has has_f v end on)) n;
+        }
+        | inr off ↦
+            let far = apart_between (whole v) c z (whole_is_point v) at_c at_z (whole f.from) (whole f.to) (whole_is_point f.from)
+            (whole_is_point f.to) off in
+            record {
+              start = far.start;
+              from_start = λ n above x at_x on on_f.
+                  far.from_start n above (record { point = x; rational = at_x; on_first = on; on_second = on_f });
+            }
+      ]
+
+  -- so near v toward z nothing is in the ring
+  pub near_is_out : Eventually (λ n. ¬ IsIn ring (toward (whole v) z n))
+  near_is_out =
+      let each = each_eventually IsMissed others misses_other in
+      record {
+        start = each.start;
+        from_start = λ n above.
+            right_is_out ring apart some winds e has (toward (whole v) c n) (toward (whole v) z n)
+            (toward_is_point (whole v) c (whole_is_point v) at_c n) (toward_is_point (whole v) z (whole_is_point v) at_z n) (inside n)
+            (right_toward (whole e.from) (whole e.to) (whole v) z v_on_line right n)
+            (λ x at_x on k. let (f, has_f, on_f) = edge_with x others k in each.from_start n above f has_f x at_x on on_f);
+      }
+
+-- ---- at a vertex of a simple ring that is not reflex, the ring is in the half-planes of both edges
 
 -- a turn at a vertex that is not reflex is not to the right
 turn_not_negative : (ring : List Point) → IsCounterclockwise ring → (r : ℕ) → ¬ IsReflex ring r → pos 0 ≤ℤ turn_at ring r

@@ -9,8 +9,7 @@ use Rattle.plane.specs.Point.{Point, whole}
 use Rattle.plane.specs.Turn.{IsStraight, determinant}
 use Rattle.rings.specs.Simple.{IsSimple}
 use Rattle.ring_laws.proofs.Triangles.{left_of, left_of_is_left}
-use Rattle.hulls.proofs.Cones.JoinedPoints.{IsBetween, across, between_back, between_of_joined, joined_back}
-use Rattle.hulls.proofs.Cones.OneSide.{joined_one_side}
+use Rattle.hulls.proofs.Cones.OneSide.{IsBetween, across, between_back, between_of_joined, joined_back, joined_one_side}
 use Rattle.hulls.specs.Joined.{AreJoined}
 
 -- of three numbers, no two of one sign, one is 0

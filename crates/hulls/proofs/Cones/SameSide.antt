@@ -11,7 +11,7 @@ use Rattle.rings.specs.Bend.{IsBend}
 use Rattle.funnels.proofs.Bends.{turning_straight, turning_swap, wider_bend}
 use Rattle.funnels.proofs.OneChain.{bend_back}
 use Rattle.funnels.specs.Fanned.{turning}
-use Rattle.hulls.proofs.Cones.JoinedPoints.{across}
+use Rattle.hulls.proofs.Cones.OneSide.{across}
 use Rattle.hulls.specs.Joined.{AreJoined}
 
 module _ (side : Bool) (ring : List Point) (v n : Point) where

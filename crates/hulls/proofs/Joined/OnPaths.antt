@@ -1,18 +1,143 @@
+-- Paths from one point that are joined over it are a path together; and where the path from a point on a chain goes first.
 -- A point is on the path from a to b exactly if the paths from it to a and to b are joined over it.
-use Rattle.std.proofs.Common.{◌≡◌, ◌↔◌, inl, inr, sym, subst, ap, ◌∙◌, ℕ, ◌+◌, ◌-◌, ◌<◌, ◌≤◌, List, length, reverse, arith}
+use Rattle.std.proofs.Common.{◌≡◌, ◌≢◌, inl, inr, refl, sym, subst, ap, ◌∙◌, ℕ, ◌+◌, ◌-◌, ◌<◌, ◌≤◌, List, [], ◌∷◌, length, drop, arith, ◌↔◌}
+use Rattle.std.proofs.Common.{reverse}
 use Rattle.std.proofs.lemmas.Bool.{cases_lt}
-use Rattle.std.proofs.lemmas.List.{length-reverse}
+use Rattle.std.proofs.lemmas.List.{length-drop, length-reverse}
 use Rattle.plane.proofs.Order.{point_or_other}
-use Rattle.plane.proofs.Segments.{on_first_end, on_last_end, on_reversed}
+use Rattle.plane.proofs.Points.{whole_is_point}
+use Rattle.plane.proofs.Segments.{on_first_end, on_reversed, on_last_end}
 use Rattle.plane.specs.Point.{Point, whole}
 use Rattle.plane.specs.Segment.{On}
 use Rattle.rings.specs.Bend.{IsBend}
-use Rattle.rings.specs.Chain.{IsBentChain, point_at}
+use Rattle.rings.specs.Chain.{IsBentChain, IsPath, IsTaut, point_at}
 use Rattle.rings.specs.Simple.{IsSimple}
-use Rattle.funnels.proofs.OneChain.{last_of}
-use Rattle.hulls.proofs.Joined.OverPoints.{on_path_of_joined, path_is_taut, step_along, step_differs}
-use Rattle.hulls.proofs.Joined.PartChains.{back_at, back_bent}
+use Rattle.funnels.proofs.Chains.{one_bent}
+use Rattle.funnels.proofs.OneChain.{bend_back, last_of, one_bent_chain}
+use Rattle.hulls.proofs.Joined.ChainsOver.{GoesOnTo, back_at, back_bent, goes_on_beyond, goes_on_step, on_path_over, over_bent, over_ends}
+use Rattle.hulls.proofs.Joined.ChainsOver.{rest_at, rest_bent, sees_back}
 use Rattle.hulls.specs.Joined.{AreJoined, IsFirstStep, IsOnPath}
+
+-- ---- paths
+
+-- a path is taut
+pub path_is_taut : (ring : List Point) (s t : Point) (path : List Point) → IsPath ring s t path → IsTaut ring s t path
+path_is_taut ring s t path is = (is path).1 refl
+
+-- the path from v goes first to another point only where it leads to another point
+pub step_differs : (ring : List Point) (v a p : Point) → IsFirstStep ring v a p → v ≢ a
+step_differs ring v a p step same = omega (arith, step.more, (path_is_taut ring v a step.path step.is_path).single same)
+
+module _ (ring one other : List Point) (some : 3 ≤ length ring) (simple : IsSimple ring) (bent : IsBentChain ring one)
+    (bent_too : IsBentChain ring other) (long : 1 < length one) (long_too : 1 < length other) (begins : point_at other 0 ≡ point_at one 0) where
+  abbrev v : Point
+  v = point_at one 0
+
+  abbrev p : Point
+  p = point_at one 1
+
+  abbrev q : Point
+  q = point_at other 1
+
+  -- ---- chains from one point that are joined over it
+
+  -- what is left of a chain without its first point begins with the second,
+  rest_first : (chain : List Point) → point_at (drop 1 chain) 0 ≡ point_at chain 1
+  rest_first chain = rest_at chain 1 0 1 (omega arith)
+
+  -- and ends where the chain does
+  rest_ends : (chain : List Point) → 1 < length chain → last_of (drop 1 chain) ≡ last_of chain
+  rest_ends chain h =
+      let count = length-drop 1 chain in
+      rest_at chain 1 (length (drop 1 chain) - 1) (length chain - 1) (omega arith)
+
+  -- its first point goes on to that
+  goes_on : (chain : List Point) → IsBentChain ring chain → 1 < length chain → GoesOnTo ring (point_at chain 0) (drop 1 chain)
+  goes_on chain b h =
+      goes_on_step ring chain b (point_at chain 0) 0 h (on_first_end (whole (point_at chain 0)) (whole (point_at chain 1))) (b.chain.distinct 0 h)
+
+  -- so that of both does
+  on_other : GoesOnTo ring v (drop 1 other)
+  on_other = subst (λ x. GoesOnTo ring x (drop 1 other)) begins (goes_on other bent_too long_too)
+
+  module _ (a b : Point) (end : last_of one ≡ a) (end_too : last_of other ≡ b) where
+    -- with a bend at the point it is a point of the path,
+    on_with_bend : IsBend ring p v q → IsOnPath ring a b v
+    on_with_bend bend =
+        let first = rest_first other in
+        on_path_over ring one (drop 1 other) bent (rest_bent ring other bent_too 1 long_too) on_other
+        (record {
+          differ = λ e. on_other.differ (sym e);
+          sees = sees_back ring v (point_at (drop 1 other) 0) on_other.sees;
+          bend = λ more. rw first (bend_back ring p v q bend);
+        })
+        some simple a b v end (rest_ends other long_too ∙ end_too) (on_first_end (whole v) (whole (point_at (drop 1 other) 0)))
+
+    -- and between the next points it is on a step
+    on_between : On (whole v) (whole p) (whole q) → IsOnPath ring a b v
+    on_between on =
+        let first = rest_first one in
+        let first_too = rest_first other in
+        let to_one = goes_on one bent long in
+        let on_rests : On (whole v) (whole (point_at (drop 1 one) 0)) (whole (point_at (drop 1 other) 0)) = rw (first, first_too) on in
+        on_path_over ring (drop 1 one) (drop 1 other) (rest_bent ring one bent 1 long) (rest_bent ring other bent_too 1 long_too)
+        (goes_on_beyond ring (drop 1 other) v (point_at (drop 1 one) 0) on_other on_rests (sees_back ring v (point_at (drop 1 one) 0) to_one.sees))
+        (goes_on_beyond ring (drop 1 one) v (point_at (drop 1 other) 0) to_one
+        (on_reversed (whole v) (whole (point_at (drop 1 one) 0)) (whole (point_at (drop 1 other) 0)) on_rests)
+        (sees_back ring v (point_at (drop 1 other) 0) on_other.sees))
+        some simple a b v (rest_ends one long ∙ end) (rest_ends other long_too ∙ end_too) on_rests
+
+    -- so it is on the path between their ends
+    pub on_path_of_bent : AreJoined ring v p q → IsOnPath ring a b v
+    on_path_of_bent joined = elim joined [ inl between ↦ on_between between.2 | inr bend ↦ on_with_bend bend ]
+
+-- ---- paths from one point
+
+module _ (ring : List Point) (some : 3 ≤ length ring) (simple : IsSimple ring) where
+  -- where the paths from v to a and to b are joined over v, it is on the path from a to b
+  pub on_path_of_joined : (v a b p q : Point) → IsFirstStep ring v a p → IsFirstStep ring v b q → AreJoined ring v p q → IsOnPath ring a b v
+  on_path_of_joined v a b p q step step_too joined =
+      let one = step.path in
+      let other = step_too.path in
+      let taut = path_is_taut ring v a one step.is_path in
+      let taut_too = path_is_taut ring v b other step_too.is_path in
+      let x = point_at one 0 in
+      let moved = subst (λ y. AreJoined ring x (point_at one 1) y) (sym step_too.is_next)
+      (subst (λ y. AreJoined ring x y q) (sym step.is_next) (subst (λ y. AreJoined ring y p q) (sym taut.first) joined)) in
+      subst (IsOnPath ring a b) taut.first
+      (on_path_of_bent ring one other some simple taut.bent taut_too.bent step.more step_too.more (taut_too.first ∙ sym taut.first) a b
+      taut.last taut_too.last moved)
+
+  -- from a point on a step of a chain, which is not its end, a chain with bends goes on as that does, to the same end
+  pub rest_from : (chain : List Point) → IsBentChain ring chain → (v : Point) (k : ℕ) → k + 1 < length chain
+      → On (whole v) (whole (point_at chain k)) (whole (point_at chain (k + 1))) → ¬ (v ≡ point_at chain (k + 1))
+      → (let rest = v ∷ drop (k + 1) chain in IsBentChain ring rest × (last_of rest ≡ last_of chain))
+  rest_from chain bent v k h on differ =
+      let rest = drop (k + 1) chain in
+      let from_v = v ∷ [] in
+      let count = length-drop (k + 1) chain in
+      let alone = one_bent ring v (bent.chain.sees k h (whole v) (whole_is_point v) on) in
+      let there = rest_bent ring chain bent (k + 1) h in
+      let on_to = goes_on_step ring chain bent v k h on differ in
+      let back : GoesOnTo ring (point_at rest 0) from_v = record {
+        differ = λ e. on_to.differ (sym e);
+        sees = sees_back ring v (point_at rest 0) on_to.sees;
+        bend = λ more. absurd (omega arith);
+      } in (
+        over_bent ring from_v rest alone there on_to back,
+        over_ends ring from_v rest alone there on_to back ∙ rest_at chain (k + 1) (length rest - 1) (length chain - 1) (omega arith),
+      )
+
+  module _ (v b q : Point) (step : IsFirstStep ring v b q) where
+    -- so from such a point the path to the end goes first to where the step ends
+    pub step_along : (chain : List Point) → IsBentChain ring chain → last_of chain ≡ b → (k : ℕ) → k + 1 < length chain
+        → On (whole v) (whole (point_at chain k)) (whole (point_at chain (k + 1))) → ¬ (v ≡ point_at chain (k + 1)) → point_at chain (k + 1) ≡ q
+    step_along chain bent ends k h on differ =
+        let taut = path_is_taut ring v b step.path step.is_path in
+        let (bent_rest, rest_ends) = rest_from chain bent v k h on differ in
+        let same = one_bent_chain ring some simple (v ∷ drop (k + 1) chain) step.path bent_rest taut.bent (sym taut.first)
+        (rest_ends ∙ ends ∙ sym taut.last) in
+        sym (rest_at chain (k + 1) 0 (k + 1) (omega arith)) ∙ ap (λ ps. point_at ps 1) same ∙ step.is_next
 
 module _ (ring : List Point) (some : 3 ≤ length ring) (simple : IsSimple ring) (v a b p q : Point) (step : IsFirstStep ring v a p)
     (step_too : IsFirstStep ring v b q) where

@@ -10,8 +10,8 @@ use Rattle.plane.specs.Segment.{On}
 use Rattle.rings.specs.Chain.{IsBentChain, IsPath, point_at}
 use Rattle.rings.specs.Simple.{IsSimple}
 use Rattle.funnels.proofs.OneChain.{last_of, one_bent_chain}
-use Rattle.hulls.proofs.Joined.OverPoints.{path_is_taut, rest_from}
-use Rattle.hulls.proofs.Joined.PartChains.{back_at, back_bent, rest_at, rest_bent}
+use Rattle.hulls.proofs.Joined.OnPaths.{path_is_taut, rest_from}
+use Rattle.hulls.proofs.Joined.ChainsOver.{back_at, back_bent, rest_at, rest_bent}
 
 module _ (ring : List Point) (some : 3 ≤ length ring) (simple : IsSimple ring) where
   -- ---- the step of a point on a path

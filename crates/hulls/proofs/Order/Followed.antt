@@ -10,8 +10,7 @@ use Rattle.rings.specs.Bend.{IsBend}
 use Rattle.rings.specs.Chain.{IsBentChain, point_at}
 use Rattle.rings.specs.Simple.{IsSimple}
 use Rattle.hulls.proofs.Joined.{rest_bent}
-use Rattle.hulls.proofs.Order.Partings.{IsAhead, bend_after, left_at_once}
-use Rattle.hulls.proofs.Order.TurnedAlike.{left_alike, right_alike}
+use Rattle.hulls.proofs.Order.Partings.{IsAhead, bend_after, left_alike, left_at_once, right_alike}
 use Rattle.hulls.proofs.Order.Ways.{HasFirst, IsLeftOf, TurnsLeft, first_of_one, first_of_other}
 use Rattle.hulls.specs.Turning.{apart, first_nearer, second_nearer}
 

@@ -1,22 +1,53 @@
+-- Two bends over one point, with one way to it: the ways on are to one side of that.
 -- Three ways on from one point, with their next points ahead of a line: to be to the left goes on from one to the next.
-use Rattle.std.proofs.Common.{◌≡◌, ◌≢◌, ◌⊎◌, inl, inr, sym, ap, subst, ◌∙◌, true, ℤ, pos, ◌+ℤ◌, ◌-ℤ◌, ◌*ℤ◌, ◌<ℤ◌, ◌≤◌, List, ◌∷◌, length, arith}
+use Rattle.std.proofs.Common.{inr, List, ◌≤◌, length, ◌≡◌, ◌≢◌, ◌⊎◌, inl, sym, ap, subst, ◌∙◌, true, ℤ, pos, ◌+ℤ◌, ◌-ℤ◌, ◌*ℤ◌, ◌<ℤ◌, ◌∷◌}
+use Rattle.std.proofs.Common.{arith}
 use Rattle.std.proofs.lemmas.Int.{ints}
-use Rattle.integer_algebra.proofs.SignSteps.{positive_not_negative, positive_not_zero}
-use Rattle.integer_algebra.proofs.Signs.{factor_positive, mul_positive}
+use Rattle.integer_algebra.proofs.SignSteps.{turned_negative, turned_positive, positive_not_negative, positive_not_zero}
+use Rattle.integer_algebra.proofs.Signs.{is_negative, is_positive, is_zero, sign, factor_positive, mul_positive}
 use Rattle.plane.proofs.Order.{point_or_other}
 use Rattle.plane.proofs.Points.{whole_is_point}
 use Rattle.plane.proofs.Segments.{nearer_each, nearer_on, on_total}
-use Rattle.plane.proofs.Turns.{determinant_same_last}
+use Rattle.plane.proofs.Turns.{determinant_swap_first, straight_swap_first, determinant_same_last}
 use Rattle.plane.specs.Point.{Point, whole}
 use Rattle.plane.specs.Segment.{On}
-use Rattle.plane.specs.Turn.{IsLeft, IsRight}
+use Rattle.plane.specs.Turn.{IsLeft, IsRight, determinant}
 use Rattle.rings.specs.Bend.{IsBend}
 use Rattle.rings.specs.Chain.{IsBentChain, point_at}
 use Rattle.rings.specs.Simple.{IsSimple}
 use Rattle.funnels.proofs.Bends.{AreOnRay, turning_differs, turning_four, turning_from_ray, turning_to_ray}
-use Rattle.hulls.proofs.Order.TurnedAlike.{not_both_sides}
+use Rattle.funnels.proofs.OneChain.{bend_back}
+use Rattle.hulls.proofs.Cones.{joined_one_side}
 use Rattle.hulls.proofs.Order.Ways.{IsLeftOf, TurnsLeft}
 use Rattle.hulls.specs.Turning.{apart, first_nearer, second_nearer}
+
+module _ (ring : List Point) (some : 3 ≤ length ring) (simple : IsSimple ring) (v q r s : Point) (bend : IsBend ring v q r)
+    (bend_too : IsBend ring v q s) where
+  -- they do not go on to two sides of the way to the point,
+  pub not_both_sides : IsLeft (whole v) (whole q) (whole r) → ¬ IsRight (whole v) (whole q) (whole s)
+  not_both_sides left right =
+      joined_one_side ring simple some q s r v (inr (bend_back ring v q s bend_too)) (inr (bend_back ring v q r bend)) (
+        turned_positive (determinant_swap_first (whole v) (whole q) (whole s)) right,
+        turned_negative (determinant_swap_first (whole v) (whole q) (whole r)) left,
+      )
+
+  -- so where the one goes on to the left, the other does
+  pub left_alike : IsLeft (whole v) (whole q) (whole r) → IsLeft (whole v) (whole q) (whole s)
+  left_alike left = elim (sign (determinant (whole v) (whole q) (whole s))) [
+    | is_positive h ↦ h
+    | is_zero h ↦ absurd (bend_too.turns (straight_swap_first (whole v) (whole q) (whole s) h))
+    | is_negative h ↦ absurd (not_both_sides left h)
+  ]
+
+module _ (ring : List Point) (some : 3 ≤ length ring) (simple : IsSimple ring) (v q r s : Point) (bend : IsBend ring v q r)
+    (bend_too : IsBend ring v q s) where
+  -- and where the one goes on to the right, the other does
+  pub right_alike : IsRight (whole v) (whole q) (whole r) → IsRight (whole v) (whole q) (whole s)
+  right_alike right = elim (sign (determinant (whole v) (whole q) (whole s))) [
+    | is_negative h ↦ h
+    | is_zero h ↦ absurd (bend_too.turns (straight_swap_first (whole v) (whole q) (whole s) h))
+    | is_positive h ↦ absurd (not_both_sides ring some simple v q s r bend_too bend h right)
+  ]
 
 -- ---- directions ahead of a line
 

@@ -5,7 +5,7 @@ use Rattle.plane.specs.Point.{Point}
 use Rattle.rings.specs.Chain.{point_at}
 use Rattle.rings.specs.Simple.{IsSimple}
 use Rattle.hulls.proofs.Order.{AreAhead, IsLeftOn, IsRightOn, ahead_of_left, ahead_of_ray, ordered_ahead}
-use Rattle.hulls.proofs.Outer.Bases.{step_of_way}
+use Rattle.hulls.proofs.Outer.LeastBases.{step_of_way}
 use Rattle.hulls.proofs.Outer.FirstSteps.{first_differs, starts_left, starts_right, starts_there}
 use Rattle.hulls.proofs.Outer.OuterPoints.{AreOuter, IsOuter}
 use Rattle.hulls.proofs.Outer.OuterPoints as outer

@@ -5,7 +5,7 @@ use Rattle.plane.specs.Point.{Point}
 use Rattle.rings.specs.Chain.{point_at}
 use Rattle.rings.specs.Simple.{IsSimple}
 use Rattle.hulls.proofs.Entrances.{paths}
-use Rattle.hulls.proofs.Outer.Bases.{points_differ, way_to}
+use Rattle.hulls.proofs.Outer.LeastBases.{points_differ, way_to}
 use Rattle.hulls.proofs.Outer.Lasts.{some_or_none}
 use Rattle.hulls.proofs.Outer.Seen.{HasWay, on_path_or_not}
 use Rattle.hulls.proofs.Third.{from_third}

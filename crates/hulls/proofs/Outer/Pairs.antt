@@ -4,8 +4,7 @@ use Rattle.plane.proofs.Order.{point_or_other}
 use Rattle.plane.specs.Point.{Point}
 use Rattle.rings.specs.Chain.{point_at}
 use Rattle.rings.specs.Simple.{IsSimple}
-use Rattle.hulls.proofs.Outer.Bases.{IsBase, IsLastSeen, IsOther, last_seen, points_differ, way_to}
-use Rattle.hulls.proofs.Outer.LeastBases.{least_base}
+use Rattle.hulls.proofs.Outer.LeastBases.{IsBase, IsLastSeen, IsOther, last_seen, least_base, points_differ, way_to}
 use Rattle.hulls.proofs.Outer.LeastPoints.{least_point}
 use Rattle.hulls.proofs.Outer.NextBases.{next_base, not_inner}
 use Rattle.hulls.proofs.Third.{from_third}

@@ -12,10 +12,9 @@ use Rattle.rings.specs.Chain.{point_at}
 use Rattle.rings.specs.From.{IsPredecessor}
 use Rattle.hulls.proofs.Entrances.{IsNamed}
 use Rattle.hulls.proofs.Joined.{path_is_taut}
-use Rattle.hulls.proofs.StepsSeen.OnWay.{ComesToBoth, IsClear}
+use Rattle.hulls.proofs.StepsSeen.OnWay.{ComesToBoth, IsClear, first_straight}
 use Rattle.hulls.proofs.StepsSeen.InnerPoints.{named_at_end}
 use Rattle.hulls.proofs.StepsSeen.LineSides.{IsAlike, alike_back, alike_on, alike_on_line}
-use Rattle.hulls.proofs.StepsSeen.StepEnds.{first_straight}
 use Rattle.hulls.proofs.Turning.{one_between}
 use Rattle.hulls.specs.Joined.{IsOnPath}
 use Rattle.hulls.specs.Steps.{IsSeenFrom, away, from_left, from_right, towards}

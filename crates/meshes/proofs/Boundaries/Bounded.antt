@@ -1,6 +1,6 @@
 -- Triangles whose sides cancel to the boundary of a simple piece fit it.
 use Rattle.meshes.proofs.Boundaries.TiledTrees.{fits_tiled}
-use Rattle.meshes.proofs.Boundaries.Tiles.{tiling}
+use Rattle.meshes.proofs.Boundaries.Covered.{tiling}
 use Rattle.meshes.specs.Boundary.{BoundaryLaw}
 
 pub fits_bounded : BoundaryLaw

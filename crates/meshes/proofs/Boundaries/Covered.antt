@@ -1,5 +1,7 @@
 -- Triangles whose sides cancel to the boundary of a simple piece: the points of the piece are those of the triangles.
-use Rattle.std.proofs.Common.{◌≡◌, ◌⊎◌, inl, inr, refl, sym, subst, ◌∙◌, ℕ, ◌<◌, ◌*ℤ◌, ℤ, pos, ◌+ℤ◌, ◌≤ℤ◌, List, [], ◌∷◌, length, arith, le_refl}
+-- Counterclockwise triangles whose sides cancel to the boundary of a simple piece tile it.
+use Rattle.std.proofs.Common.{◌≡◌, ◌⊎◌, inl, inr, refl, sym, subst, ◌∙◌, ℕ, ◌<◌, ◌*ℤ◌, ℤ, pos, ◌+ℤ◌, ◌≤ℤ◌, List, [], ◌∷◌, length, arith}
+use Rattle.std.proofs.Common.{le_refl}
 use Rattle.std.proofs.lemmas.Int.{ints}
 use Rattle.plane.proofs.Nearness.{toward, toward_is_point}
 use Rattle.plane.specs.Point.{IsPoint, Point, Triple, whole}
@@ -12,15 +14,18 @@ use Rattle.rings.specs.Inside.{IsIn, winding}
 use Rattle.rings.specs.Ring.{vertex}
 use Rattle.ring_laws.proofs.Triangles.{in_or_not}
 use Rattle.meshes.proofs.Boundaries.OffEdges.{both_open, left_open, off_edges, wound_open}
-use Rattle.meshes.proofs.Boundaries.Overlaps.{all_proper, all_sides, off_sides, turns_left_at}
-use Rattle.meshes.proofs.Boundaries.SideCounts.{edges_at}
+use Rattle.meshes.proofs.Boundaries.Overlaps.{all_proper, all_sides, off_sides, turns_left_at, no_overlap}
+use Rattle.meshes.proofs.Boundaries.SideCounts.{edges_at, inner_sides_at}
 use Rattle.meshes.proofs.Boundaries.SomeTriangle.{SomeHas, some_or_none}
 use Rattle.meshes.proofs.Boundaries.Sums.{AddsAtLeast, sum_with_one, sum_zero}
 use Rattle.meshes.proofs.Boundaries.Windings.{AreBounded, crossing_at, sum_inside, sum_off_sides, sum_outside, winding_is_sum}
 use Rattle.meshes.proofs.Parts.{IsLeftOfAll, inside_sides, left_of_sides, mean, mean_inside, mean_is_point, opposite, sides, toward_inside}
 use Rattle.meshes.proofs.Sides.{IsStep, edge_of_step}
-use Rattle.meshes.specs.Fits.{IsInTri, IsPieceEdge, IsStrictlyInTri, piece_points}
+use Rattle.meshes.specs.Boundary.{HaveBoundary}
+use Rattle.meshes.specs.Fits.{IsInTri, IsPieceEdge, IsStrictlyInTri, piece_points, IsTriOf}
+use Rattle.meshes.specs.Piece.{IsPolygonPiece}
 use Rattle.meshes.specs.Side.{tri_at}
+use Rattle.meshes.specs.Tiling.{IsTiling}
 use Rattle.meshes.specs.declared.tri.Tri.{Tri}
 
 -- ---- numbers
@@ -126,3 +131,18 @@ module _ (corners : List Point) (piece : List ℕ) (tris : List Tri) (b : AreBou
     | inl on ↦ inl on
     | inr off ↦ in_piece_off off k below in_it
   ]
+
+pub tiling : (corners : List Point) (piece : List ℕ) (tris : List Tri) → IsPolygonPiece corners piece
+    → ((k : ℕ) → k < length tris → IsTriOf corners piece (tri_at tris k)) → HaveBoundary piece tris → IsTiling corners piece tris
+tiling corners piece tris polygon triangles bounded =
+    let b : AreBounded corners piece tris = record { polygon = polygon; triangles = triangles; bounded = bounded } in
+    record {
+      some = polygon.some;
+      simple = polygon.simple;
+      triangles = triangles;
+      edges = edges_at corners piece tris b;
+      inner_sides = inner_sides_at corners piece tris b;
+      covers = λ p at_p. (in_triangles corners piece tris b p at_p, in_piece corners piece tris b p at_p);
+      apart = λ p at_p k l less below both.
+          no_overlap corners piece tris b k l (omega (arith, less, below)) below (λ same. omega (arith, less, same)) p at_p both.0 both.1;
+    }

@@ -1,26 +1,54 @@
+-- The parts of a piece that a diagonal cuts in two, and the triangles that lie in them.
 -- A tiled piece that a shared side cuts from its first vertex to another one: the two parts, and the triangles beside the side in them.
-use Rattle.std.proofs.Common.{◌≡◌, ◌⊎◌, inl, inr, refl, sym, subst, ap, ℕ, ◌<◌, List, [], ◌∷◌, ◌++◌, length, arith}
+use Rattle.std.proofs.Common.{◌⊎◌, ℕ, ◌≤◌, List, length, ◌≡◌, inl, inr, refl, sym, subst, ap, ◌<◌, [], ◌∷◌, ◌++◌, arith}
 use Rattle.std.proofs.lemmas.List.{length-append, map-append}
 use Rattle.std.proofs.lemmas.List.Elements.{Contains-append_cases, Contains-append_left, Contains-append_right}
 use Rattle.std.specs.List.{Contains}
 use Rattle.plane.proofs.Segments.{middle, middle_on, on_reversed}
-use Rattle.plane.specs.Point.{Point, whole}
+use Rattle.plane.specs.Point.{IsPoint, Point, Triple, whole}
 use Rattle.rings.proofs.Simple.{apart_of_simple}
 use Rattle.rings.specs.Apart.{IsApartRing}
 use Rattle.rings.specs.Edge.{HasEdge, edge, edges_of}
+use Rattle.rings.specs.Inside.{IsIn}
 use Rattle.rings.specs.Ring.{vertex}
+use Rattle.rings.specs.Simple.{IsSimple}
 use Rattle.ring_laws.proofs.Cuts.{cut_from_first}
 use Rattle.ring_laws.specs.Diagonal.{IsDiagonal}
 use Rattle.ring_laws.specs.Pieces.{IsCutInTwo}
 use Rattle.meshes.proofs.Boundaries.PartTilings.{IsEdgeBetween, IsPartTiling}
-use Rattle.meshes.proofs.Boundaries.PieceParts.{CoverPiece, IsBeside, IsPartOf}
-use Rattle.meshes.proofs.Joins.{both_parts, contains_cases, contains_first, contains_rest, first_diagonal, first_part, first_part_cases, part_of_edge}
-use Rattle.meshes.proofs.Joins.{second_diagonal, second_part, second_part_cases}
-use Rattle.meshes.proofs.Parts.{IsShared, LiesIn, last_edge, lies_in_one, not_in_one, ring_apart, shared_is_diagonal}
+use Rattle.meshes.proofs.Joins.{AreEnds, both_parts, contains_cases, contains_first, contains_rest, first_diagonal, first_part}
+use Rattle.meshes.proofs.Joins.{first_part_cases, part_of_edge, second_diagonal, second_part, second_part_cases}
+use Rattle.meshes.proofs.Parts.{IsCovered, LiesIn, IsShared, last_edge, lies_in_one, not_in_one, ring_apart, shared_is_diagonal}
 use Rattle.meshes.proofs.Sides.{length_points}
 use Rattle.meshes.specs.Fits.{IsPieceEdge, piece_points}
 use Rattle.meshes.specs.Side.{HasSideBetween, tri_at}
 use Rattle.meshes.specs.declared.tri.Tri.{Tri}
+
+-- one of the two parts of a piece that the diagonal between a and b cuts
+pub record IsPartOf (corners : List Point) (piece part other : List ℕ) (a b : ℕ) : Type 0 where
+  pub some : 3 ≤ length part
+  pub simple : IsSimple (piece_points corners part)
+  pub within : (p : Triple) → IsPoint p → IsIn (piece_points corners part) p → IsIn (piece_points corners piece) p
+  pub has_first : Contains part a
+  pub has_last : Contains part b
+  pub member_cases : (i : ℕ) → Contains piece i → Contains part i ⊎ Contains other i
+  pub diagonal : IsEdgeBetween part a b
+  pub edge_cases : (i j : ℕ) → IsPieceEdge part i j → IsPieceEdge piece i j ⊎ AreEnds a b i j
+  pub part_of_edge : (i j : ℕ) → IsPieceEdge piece i j → IsPieceEdge part i j ⊎ IsPieceEdge other i j
+
+-- two parts cover the piece and share only points of the diagonal
+abbrev pub CoverPiece : List Point → List ℕ → List ℕ → List ℕ → ℕ → ℕ → Type 0
+CoverPiece corners piece first second a b =
+    IsCovered (piece_points corners piece) (piece_points corners first) (piece_points corners second) (whole (vertex corners a)) (whole (vertex corners b))
+
+-- of the triangles with numbers in P those that lie in a part
+abbrev pub LiesInPart : List Point → List Tri → (ℕ → Type 0) → List ℕ → ℕ → Type 0
+LiesInPart corners tris P part n = P n × LiesIn corners tris (piece_points corners part) n
+
+-- triangle n is one of them, and has the diagonal as a side
+pub record IsBeside (corners : List Point) (tris : List Tri) (P : ℕ → Type 0) (part : List ℕ) (a b n : ℕ) : Type 0 where
+  pub in_part : LiesInPart corners tris P part n
+  pub has : HasSideBetween (tri_at tris n) a b
 
 module _ (corners : List Point) (v : ℕ) (ps : List ℕ) (z : ℕ) (qs : List ℕ) (tris : List Tri) (P : ℕ → Type 0)
     (tiling : IsPartTiling corners (both_parts v ps z qs) tris P) (k l : ℕ) (s : IsShared corners (both_parts v ps z qs) tris P v z k l)

@@ -6,7 +6,7 @@ use Rattle.plane.specs.Point.{Point, whole}
 use Rattle.rings.specs.Ring.{vertex}
 use Rattle.ring_laws.proofs.Triangles.{first_in_triangle, last_in_triangle, middle_in_triangle}
 use Rattle.meshes.proofs.Boundaries.PartTilings.{IsEdgeBetween, IsPartTiling, IsSideOfOneIn}
-use Rattle.meshes.proofs.Boundaries.PieceParts.{CoverPiece, IsBeside, IsPartOf, LiesInPart}
+use Rattle.meshes.proofs.Boundaries.CutTilings.{CoverPiece, IsBeside, IsPartOf, LiesInPart}
 use Rattle.meshes.proofs.Ears.{edge_ends}
 use Rattle.meshes.proofs.Joins.{AreEnds, between_at, ends_back}
 use Rattle.meshes.proofs.Parts.{IsPaved, IsShared, LiesIn, covered_swapped, end_of_side, ends_in, ends_of_both, lies_in_both, lies_in_one}

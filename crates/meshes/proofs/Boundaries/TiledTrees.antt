@@ -5,10 +5,10 @@ use Rattle.std.proofs.lemmas.List.{length-append}
 use Rattle.std.specs.List.{Contains}
 use Rattle.plane.specs.Point.{Point}
 use Rattle.meshes.proofs.Boundaries.Counts.{all_count}
-use Rattle.meshes.proofs.Boundaries.CutTilings.{beside_both, first_is_part, second_is_part, side_covered, some_after, some_before}
+use Rattle.meshes.proofs.Boundaries.CutTilings.{LiesInPart, beside_both, first_is_part, second_is_part, side_covered, some_after}
+use Rattle.meshes.proofs.Boundaries.CutTilings.{some_before}
 use Rattle.meshes.proofs.Boundaries.OneTriangle.{one_is_tree, third_corner, three_vertices}
 use Rattle.meshes.proofs.Boundaries.PartTilings.{IsEdgeBetween, IsPartTiling, IsSideOfOneIn, all_tile, edge_between_or_not, tiling_rotated}
-use Rattle.meshes.proofs.Boundaries.PieceParts.{LiesInPart}
 use Rattle.meshes.proofs.Boundaries.TiledParts.{part_tiled}
 use Rattle.meshes.proofs.Boundaries.TwoParts.{IsTreeFor, tree_of_parts}
 use Rattle.meshes.proofs.Joins.{both_parts, contains_cases, edge_rotated, first_part, same_rotated, second_part}

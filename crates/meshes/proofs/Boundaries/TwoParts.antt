@@ -4,7 +4,7 @@ use Rattle.std.proofs.Common.{◌≡◌, ◌⊎◌, inl, inr, refl, sym, subst, 
 use Rattle.plane.specs.Point.{Point}
 use Rattle.meshes.proofs.Boundaries.Counts.{HoldsOf, same_count, sum_count}
 use Rattle.meshes.proofs.Boundaries.PartTilings.{IsEdgeBetween, IsPartTiling}
-use Rattle.meshes.proofs.Boundaries.PieceParts.{CoverPiece, IsBeside, IsPartOf, LiesInPart}
+use Rattle.meshes.proofs.Boundaries.CutTilings.{CoverPiece, IsBeside, IsPartOf, LiesInPart}
 use Rattle.meshes.proofs.Boundaries.TiledParts.{lies_cases, lies_once}
 use Rattle.meshes.proofs.Joins.{AreEnds, Both, IsBridge, between_at, between_back, joined_tree}
 use Rattle.meshes.proofs.Parts.{IsShared, shared_is_this}

@@ -12,14 +12,13 @@ use Rattle.rings.specs.Inside.{IsIn}
 use Rattle.rings.specs.Ring.{vertex}
 use Rattle.ring_laws.specs.Diagonal.{IsDiagonal}
 use Rattle.meshes.proofs.Joins.{AreEnds, between_ends}
-use Rattle.meshes.proofs.Parts.BetweenPieces.{IsCovered, covered_swapped}
-use Rattle.meshes.proofs.Parts.MeshDiagonals.{IsShared, in_one, left_of_outer, one_vertex, outer_sides, ring_apart, shared_is_diagonal}
+use Rattle.meshes.proofs.Parts.PieceOfTriangle.{IsCovered, LiesIn, covered_swapped, lies_in_one}
+use Rattle.meshes.proofs.Parts.MeshDiagonals.{IsShared, edge_at_vertex, in_one, left_of_outer, on_from, one_vertex, outer_sides, ring_apart}
+use Rattle.meshes.proofs.Parts.MeshDiagonals.{shared_is_diagonal, vertex_place}
 use Rattle.meshes.proofs.Parts.OpenRegions.{region_off_edges}
 use Rattle.meshes.proofs.Parts.Opposite.{opposite}
 use Rattle.meshes.proofs.Parts.Paved.{IsPaved}
-use Rattle.meshes.proofs.Parts.PieceOfTriangle.{LiesIn, lies_in_one}
 use Rattle.meshes.proofs.Parts.Splits.{IsSplit, split_by}
-use Rattle.meshes.proofs.Parts.VertexPlaces.{edge_at_vertex, on_from, vertex_place}
 use Rattle.meshes.specs.Fits.{IsInTri, piece_points}
 use Rattle.meshes.specs.Side.{HasSideBetween, tri_at}
 use Rattle.meshes.specs.declared.tri.Tri.{Tri}

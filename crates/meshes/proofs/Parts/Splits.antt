@@ -13,7 +13,7 @@ use Rattle.ring_laws.proofs.Cuts.{cut_between}
 use Rattle.ring_laws.proofs.Diagonals.{diagonal_backward}
 use Rattle.ring_laws.proofs.Pieces.{edges_of_first}
 use Rattle.ring_laws.specs.Diagonal.{IsDiagonal}
-use Rattle.meshes.proofs.Parts.BetweenPieces.{IsCovered, covered_swapped}
+use Rattle.meshes.proofs.Parts.PieceOfTriangle.{IsCovered, covered_swapped}
 
 -- two pieces cover the ring and share only points of the segment from a to b, which is an edge of each
 pub record IsSplit (ring : List Point) (a b : Point) : Type 0 where

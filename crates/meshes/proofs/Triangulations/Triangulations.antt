@@ -18,8 +18,7 @@ use Rattle.ring_laws.proofs.Simple.{InTriangle, height, runs_round}
 use Rattle.ring_laws.proofs.Triangles.{in_or_not}
 use Rattle.meshes.proofs.Joins.{both_parts}
 use Rattle.meshes.proofs.Sides.{piece_points_all}
-use Rattle.meshes.proofs.Triangulations.PieceCuts.{farthest_cut, parts_fit, points_are}
-use Rattle.meshes.proofs.Triangulations.PieceEars.{ear_fits, rest_is_piece, triangle_fits}
+use Rattle.meshes.proofs.Triangulations.PieceEars.{ear_fits, farthest_cut, parts_fit, points_are, rest_is_piece, triangle_fits}
 use Rattle.meshes.proofs.Triangulations.Pieces.{HasTris, SplitAt, by_ends_from, piece_rotated, split_at, tris_rotated}
 use Rattle.meshes.specs.Fits.{piece_points}
 use Rattle.meshes.specs.Laws.{TriangulationLaw}

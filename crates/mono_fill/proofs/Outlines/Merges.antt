@@ -9,7 +9,7 @@ use Rattle.mono_fill.specs.Sides.{other_chain_side}
 use Rattle.mono_fill.specs.declared.side.Side.{Side}
 use Rattle.mono_fill.specs.declared.side.Side.TheVariants.{Lower, Upper}
 use Rattle.mono_fill.proofs.Bends.{bend, EndInward, next_inward}
-use Rattle.mono_fill.proofs.Outlines.Outlines.{at, before, below_greatest, IsOutline, point_at, rank_at}
+use Rattle.mono_fill.proofs.Outlines.Around.{IsOutline, at, before, below_greatest, point_at, rank_at}
 
 -- so many edges of each chain are passed; the next ones run at one place
 pub record IsMerge {corners : List Point} {ranks piece ring : List ℕ} (o : IsOutline corners ranks piece ring) (side facing : Side)

@@ -21,8 +21,8 @@ use Rattle.mono_fill.specs.Monotone.{AreRanks, Rises}
 use Rattle.mono_fill.specs.Sides.{other_chain_side}
 use Rattle.mono_fill.specs.declared.side.Side.{Side}
 use Rattle.mono_fill.specs.declared.side.Side.TheVariants.{Lower, Upper}
-use Rattle.mono_fill.proofs.Outlines.Around.{contains_at, edges_meet, first_inward, upper_at, vertices_differ}
-use Rattle.mono_fill.proofs.Outlines.Outlines.{at, IsOutline, point_at, rank_at, sum_up_to}
+use Rattle.mono_fill.proofs.Outlines.Around.{IsOutline, at, contains_at, edges_meet, first_inward, point_at, rank_at, sum_up_to, upper_at}
+use Rattle.mono_fill.proofs.Outlines.Around.{vertices_differ}
 use Rattle.mono_fill.proofs.Sums.{from_backward, met}
 
 -- a number is below another, or that is at most the first

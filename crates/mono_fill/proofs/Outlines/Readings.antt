@@ -18,7 +18,7 @@ use Rattle.mono_fill.specs.Fillable.{IsFillable}
 use Rattle.mono_fill.specs.Monotone.{Rises}
 use Rattle.mono_fill.specs.declared.side.Side.{Side}
 use Rattle.mono_fill.specs.declared.side.Side.TheVariants.{Lower, Upper}
-use Rattle.mono_fill.proofs.Outlines.Outlines.{IsOutline}
+use Rattle.mono_fill.proofs.Outlines.Around.{IsOutline}
 use Rattle.mono_fill.proofs.Outlines.Paths.{above_least, outline, path, ring_of}
 
 -- two numbers compare

@@ -18,9 +18,8 @@ use Rattle.mono_fill.specs.declared.side.Side.{Side}
 use Rattle.mono_fill.specs.declared.side.Side.TheVariants.{Lower, Upper}
 use Rattle.mono_fill.proofs.Bends.{bend, inward_next}
 use Rattle.mono_fill.proofs.Fans.{corners_in, fan_each, tri_of}
-use Rattle.mono_fill.proofs.Stages.GoesOn.{bend_of_triangle, bends_at, sum_more}
+use Rattle.mono_fill.proofs.Stages.GoesOn.{IsStage, below_top, bend_of_triangle, bends_at, sum_more}
 use Rattle.mono_fill.proofs.Outlines.{at, before, ends_of, IsInward, IsOutline, sum_up_to}
-use Rattle.mono_fill.proofs.Stages.Stages.{below_top, IsStage}
 use Rattle.mono_fill.proofs.Sums.{fan_sum, met, odd_met}
 
 -- along the other chain pairs are met the other way round

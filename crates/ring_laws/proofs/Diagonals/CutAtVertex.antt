@@ -12,8 +12,7 @@ use Rattle.rings.specs.Ring.{vertex}
 use Rattle.rings.specs.Simple.{IsSimple}
 use Rattle.rings.specs.Winding.{IsLeastVertex}
 use Rattle.ring_laws.proofs.Diagonals.CornerNumbers.{AreBoth, far_of, has_other, in_corner, neither_back, none_of}
-use Rattle.ring_laws.proofs.Diagonals.CutRule.{farthest_diagonal}
-use Rattle.ring_laws.proofs.Diagonals.CutRuleMirrored.{base_diagonal, base_diagonal_right, farthest_diagonal_right}
+use Rattle.ring_laws.proofs.Diagonals.CutRule.{base_diagonal, base_diagonal_right, farthest_diagonal, farthest_diagonal_right}
 use Rattle.ring_laws.proofs.Diagonals.Diagonals.{diagonal_backward, diagonal_rotated}
 use Rattle.ring_laws.proofs.Ears.{NoneBefore, none_before_least, ReadFrom, apart_from, read_from}
 use Rattle.ring_laws.proofs.Simple.{InTriangle, height, simple_ring_law}

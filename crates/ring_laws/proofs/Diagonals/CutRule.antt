@@ -1,20 +1,21 @@
 -- The cut rule at a least vertex: the segment that it chooses is a diagonal of the ring.
-use Rattle.std.proofs.Common.{◌≡◌, sym, subst, ap, ◌≤◌, List, [], ◌∷◌, ◌++◌, length, arith}
+-- The cut rule at a least vertex with a right turn, from the ring read the other way round.
+use Rattle.std.proofs.Common.{◌≡◌, sym, subst, ap, ◌≤◌, List, [], ◌∷◌, ◌++◌, length, arith, inl, inr, ◌<◌, ℤ, reverse}
 use Rattle.std.proofs.lemmas.Int.{ints}
-use Rattle.std.proofs.lemmas.List.{append_assoc, length-append}
-use Rattle.plane.proofs.Turns.{determinant_shift_back}
+use Rattle.std.proofs.lemmas.List.{append_assoc, length-append, length-reverse}
+use Rattle.plane.proofs.Turns.{determinant_shift_back, determinant_swap_ends}
 use Rattle.plane.specs.Point.{Point, whole}
 use Rattle.plane.specs.Triangle.{IsInTriangle}
-use Rattle.plane.specs.Turn.{IsLeft}
-use Rattle.rings.proofs.Inside.{apart_rotated, has_edge_rotated}
-use Rattle.rings.proofs.Vertices.{meet_reversed, HasPoint, Farthest}
+use Rattle.plane.specs.Turn.{IsLeft, IsRight}
+use Rattle.rings.proofs.Inside.{apart_rotated, has_edge_rotated, apart_turned, turned_corner}
+use Rattle.rings.proofs.Vertices.{meet_reversed, HasPoint, Farthest, has_cases, has_in_order, has_left, has_reversed, has_right}
 use Rattle.rings.specs.Apart.{IsApartRing}
 use Rattle.rings.specs.Edge.{Edge, HasEdge, edge, edges_of}
 use Rattle.rings.specs.Winding.{RunsCounterclockwise}
-use Rattle.ring_laws.proofs.Diagonals.Diagonals.{cut_is_diagonal, diagonal_backward, diagonal_rotated}
+use Rattle.ring_laws.proofs.Diagonals.Diagonals.{cut_is_diagonal, diagonal_backward, diagonal_rotated, diagonal_turned}
 use Rattle.ring_laws.proofs.Ears.{apart_without, meets_base, rest_counterclockwise, NoneBefore}
-use Rattle.ring_laws.proofs.Simple.{apart_regrouped, farthest_cut, first_runs, ring_regrouped, second_runs, InTriangle, height, left_turn_law}
-use Rattle.ring_laws.proofs.Simple.{runs_round}
+use Rattle.ring_laws.proofs.Simple.{apart_regrouped, farthest_cut, first_runs, ring_regrouped, second_runs, InTriangle, height}
+use Rattle.ring_laws.proofs.Simple.{left_turn_law, runs_round}
 use Rattle.ring_laws.proofs.Triangles.{triangle_values}
 use Rattle.ring_laws.specs.Diagonal.{IsDiagonal}
 
@@ -52,3 +53,53 @@ module _ (v w m : Point) (ks : List Point) (u : Point) (apart : IsApartRing (v �
       diagonal_backward w u (v ∷ rest)
       (diagonal_rotated w u (v ∷ []) rest (subst (λ rs. IsDiagonal rs w u) (sym turned)
       (cut_is_diagonal w (m ∷ ks) u (v ∷ []) apart_turned meets rest_runs.windings (triangle_values w u v cyclic))))
+
+-- the farthest of some points is that of the same points in the other order,
+abbrev farthest_reversed : (P : Point → Type 0) (value : Point → ℤ) (ps : List Point) → Farthest P value ps → Farthest P value (reverse ps)
+farthest_reversed P value ps far = record {
+  point = far.point;
+  has_point = has_reversed far.point ps far.has_point;
+  chosen = far.chosen;
+  farthest = λ q has. far.farthest q (has_in_order q ps has);
+}
+
+-- and no point is before v in the other order
+least_reversed : (v w : Point) (ms : List Point) (u : Point) → NoneBefore (w ∷ (ms ++ u ∷ [])) v → NoneBefore (u ∷ (reverse ms ++ w ∷ [])) v
+least_reversed v w ms u least p (inl e) = least p (inr (has_right p ms (u ∷ []) (inl e)))
+least_reversed v w ms u least p (inr h) = elim (has_cases p (reverse ms) (w ∷ []) h) [
+  | inl k ↦ least p (inr (has_left p ms (u ∷ []) (has_in_order p ms k)))
+  | inr k ↦ elim k [ inl e ↦ least p (inl e) | inr none ↦ absurd none ]
+]
+
+-- the base of a triangle with no vertex in it, where there are other vertices
+pub base_diagonal : (v w : Point) (ms : List Point) (u : Point) → 0 < length ms → IsApartRing (v ∷ w ∷ (ms ++ u ∷ []))
+    → NoneBefore (w ∷ (ms ++ u ∷ [])) v → IsLeft (whole u) (whole v) (whole w) → ((p : Point) → HasPoint ms p → ¬ InTriangle u v w p)
+    → IsDiagonal (v ∷ w ∷ (ms ++ u ∷ [])) u w
+base_diagonal v w [] u some apart least left none = absurd (omega arith)
+base_diagonal v w (m ∷ ks) u some apart least left none =
+    ear_diagonal v w m ks u apart left none least
+
+module _ (v w : Point) (ms : List Point) (u : Point) (apart : IsApartRing (v ∷ w ∷ (ms ++ u ∷ [])))
+    (least : NoneBefore (w ∷ (ms ++ u ∷ [])) v) (right : IsRight (whole u) (whole v) (whole w)) where
+  -- the ring the other way round is apart
+  mirrored_apart : IsApartRing (v ∷ u ∷ (reverse ms ++ w ∷ []))
+  mirrored_apart = subst IsApartRing (turned_corner v w ms u) (apart_turned (v ∷ w ∷ (ms ++ u ∷ [])) apart)
+
+  -- and turns left at v
+  mirrored_left : IsLeft (whole w) (whole v) (whole u)
+  mirrored_left = omega (arith, ints, right, determinant_swap_ends (whole u) (whole v) (whole w))
+
+  -- at a right turn, too, the farthest vertex in the triangle makes a diagonal
+  pub farthest_diagonal_right : (far : Farthest (InTriangle w v u) (height w u) ms) → IsDiagonal (v ∷ w ∷ (ms ++ u ∷ [])) v far.point
+  farthest_diagonal_right far =
+      diagonal_turned v far.point (v ∷ w ∷ (ms ++ u ∷ [])) (subst (λ rs. IsDiagonal rs v far.point) (sym (turned_corner v w ms u))
+      (farthest_diagonal v u (reverse ms) w mirrored_apart
+      (least_reversed v w ms u least) mirrored_left (farthest_reversed (InTriangle w v u) (height w u) ms far)))
+
+  -- and so does the base, where there is none
+  pub base_diagonal_right : 0 < length ms → ((p : Point) → HasPoint ms p → ¬ InTriangle w v u p) → IsDiagonal (v ∷ w ∷ (ms ++ u ∷ [])) u w
+  base_diagonal_right some none =
+      diagonal_backward w u (v ∷ w ∷ (ms ++ u ∷ []))
+      (diagonal_turned w u (v ∷ w ∷ (ms ++ u ∷ [])) (subst (λ rs. IsDiagonal rs w u) (sym (turned_corner v w ms u))
+      (base_diagonal v u (reverse ms) w (omega (arith, length-reverse ms)) mirrored_apart (least_reversed v w ms u least) mirrored_left
+      (λ p has. none p (has_in_order p ms has)))))

@@ -1,24 +1,107 @@
+-- The ring without an ear winds once round the points just beyond the ear's base.
 -- A ring with an ear: where the ring without the ear winds round each point not at all or once, so does the ring.
-use Rattle.std.proofs.Common.{◌≡◌, ◌⊎◌, inl, inr, ◌∷◌, ◌∙◌, le_refl, ℕ, List, ℤ, pos, ◌+ℤ◌, ◌-ℤ◌, neg_ℤ, ◌≤ℤ◌, arith}
+use Rattle.std.proofs.Common.{◌≡◌, ◌⊎◌, inl, inr, [], ◌∷◌, refl, ap, ◌∙◌, le_refl, ℕ, List, ℤ, pos, ◌+ℤ◌, ◌-ℤ◌, ◌≤ℤ◌, arith, neg_ℤ}
 use Rattle.std.proofs.lemmas.Int.{ints}
-use Rattle.integer_algebra.proofs.SignSteps.{not_both, turned_negative, weak, zero_not_negative}
-use Rattle.plane.proofs.Nearness.{right_toward, toward, toward_is_point, toward_on}
-use Rattle.plane.proofs.Points.{whole_is_point}
-use Rattle.plane.proofs.Segments.{on_is_straight, on_last_end, on_reversed}
-use Rattle.plane.proofs.Turns.{determinant_swap_first}
+use Rattle.integer_algebra.proofs.Polynomial.{lit, var, ◌⊕◌, ◌⊖◌, same_value}
+use Rattle.integer_algebra.proofs.SignSteps.{not_both_positive, zero_not_positive, not_both, turned_negative, weak, zero_not_negative}
+use Rattle.plane.proofs.Nearness.{left_toward, positive_at, toward, toward_is_point, right_toward, toward_on}
+use Rattle.plane.proofs.Points.{same_refl, same_sym, same_trans, whole_is_point}
+use Rattle.plane.proofs.Segments.{combination_is_straight, on_is_straight, on_last_end, on_reversed, middle, middle_first, middle_is_point}
+use Rattle.plane.proofs.Segments.{middle_last, middle_on, middle_within, first_end_on_line}
+use Rattle.plane.proofs.Turns.{straight_swap_first, written_determinant, determinant_swap_first}
 use Rattle.plane.specs.Point.{IsPoint, IsSame, Point, Triple, whole}
 use Rattle.plane.specs.Segment.{On}
 use Rattle.plane.specs.Triangle.{IsInTriangle}
-use Rattle.plane.specs.Turn.{IsLeft, IsRight}
+use Rattle.plane.specs.Turn.{IsLeft, determinant, IsRight}
 use Rattle.rings.proofs.Crossings.{winding_law, crossing_reversed}
 use Rattle.rings.proofs.Vertices.{AllEnds, misses_eventually}
+use Rattle.rings.specs.Across.{Misses}
 use Rattle.rings.specs.Edge.{Edge, IsClosed, IsOnSome, edge, growth}
-use Rattle.rings.specs.Inside.{crossing, winding}
-use Rattle.ring_laws.proofs.Ears.EarBase.{tip_is_right, winding_below}
-use Rattle.ring_laws.proofs.Ears.EarSign.{sign_is_one}
+use Rattle.rings.specs.Inside.{winding, crossing}
+use Rattle.ring_laws.proofs.Ears.EarBase.{base_differs, on_others_straight, tip_is_right, winding_at_tip, winding_below}
 use Rattle.ring_laws.proofs.Ears.UpToOne.{none_and, one_and_none}
-use Rattle.ring_laws.proofs.Triangles.{IsBeyond, IsInside, Place, inside, on_border, on_first, on_second, on_third, outside, outside_not_in, place_of}
-use Rattle.ring_laws.proofs.Triangles.{on_sides_in, triangle, winding_inside, winding_outside, between_in_triangle, in_triangle, middle_in_triangle}
+use Rattle.ring_laws.proofs.Triangles.{across_edge, on_sides_in, between_in_triangle, left_at_first, middle_in_triangle, IsBeyond, IsInside}
+use Rattle.ring_laws.proofs.Triangles.{Place, inside, on_border, on_first, on_second, on_third, outside, outside_not_in, place_of, triangle}
+use Rattle.ring_laws.proofs.Triangles.{winding_inside, winding_outside, in_triangle}
+
+-- ---- the other side of the base
+
+-- the corner opposite the tip, across the base
+abbrev opposite : Point → Point → Point → Point
+opposite u v w = record { x = u.x +ℤ w.x -ℤ v.x; y = u.y +ℤ w.y -ℤ v.y }
+
+-- it is as far to the left of the base as the tip to the right
+opposite_side : (u v w : Point) → determinant (whole u) (whole w) (whole (opposite u v w)) ≡ determinant (whole u) (whole v) (whole w)
+opposite_side u v w =
+    let one = lit (pos 1) in
+    same_value (written_determinant (var 0) (var 1) one (var 4) (var 5) one (var 0 ⊕ var 4 ⊖ var 2) (var 1 ⊕ var 5 ⊖ var 3) one)
+    (written_determinant (var 0) (var 1) one (var 2) (var 3) one (var 4) (var 5) one)
+    (u.x ∷ u.y ∷ v.x ∷ v.y ∷ w.x ∷ w.y ∷ []) refl
+
+-- a number is 0 or s, and 1, so s is 1
+one_of : (z s : ℤ) → z ≡ pos 0 +ℤ pos 1 → (z ≡ pos 0) ⊎ (z ≡ s) → s ≡ pos 1
+one_of z s e (inl h) = absurd (omega (arith, ints))
+one_of z s e (inr h) = omega (arith, ints)
+
+-- ---- beyond the base
+
+-- the edges es close the base; no end is left of the tip in x, and no edge enters the triangle
+module _ (u v w : Point) (es : List Edge) (left : IsLeft (whole u) (whole v) (whole w)) (closed : IsClosed (edge u w ∷ es))
+    (least : AllEnds (λ a. v.x ≤ℤ a.x) (edge u w ∷ es))
+    (outside : (x : Triple) → IsPoint x → IsOnSome es x → IsInTriangle u v w x → IsSame x (whole u) ⊎ IsSame x (whole w)) where
+  -- the middle of the base is in the triangle,
+  middle_in : IsInTriangle u v w (middle u w)
+  middle_in =
+      on_sides_in u v w left (middle u w) (middle_is_point u w)
+      (inr (inr (inl (on_reversed (middle u w) (whole u) (whole w) (middle_on u w)))))
+
+  -- and the others that are the same as it are on no other edge
+  off_middle : (x : Triple) → IsPoint x → IsInTriangle u v w x → IsSame x (middle u w) → ¬ (IsOnSome es x)
+  off_middle x at_x t same on = elim (outside x at_x on t) [
+    | inl s ↦ base_differs u v w left (middle_first u w (same_trans at_x (same_sym same) s))
+    | inr s ↦ base_differs u v w left (middle_last u w (same_trans at_x (same_sym same) s))
+  ]
+
+  -- from the middle to the tip no other edge is met
+  misses_to_tip : Misses (middle u w) (whole v) es
+  misses_to_tip x at_x on h =
+      let m = middle u w in
+      let at_m = middle_is_point u w in
+      let t = between_in_triangle u v w x m (whole v) at_x at_m (whole_is_point v) middle_in (middle_in_triangle u v w left) on in
+      let straight = on_others_straight u v w es left closed least outside x at_x h t in
+      let same = first_end_on_line x m (whole v) (whole w) (whole u) at_x at_m (whole_is_point v) on
+      (straight_swap_first (whole u) (whole w) m (on_is_straight m (whole u) (whole w) at_m (whole_is_point u) (whole_is_point w) (middle_on u w)))
+      (left_at_first u v w left) (zero_not_positive (straight_swap_first (whole u) (whole w) x straight)) in
+      off_middle x at_x t same h
+
+  -- the corner opposite the tip is on the other side
+  opposite_left : IsLeft (whole u) (whole w) (whole (opposite u v w))
+  opposite_left = positive_at (opposite_side u v w) left
+
+  -- so where the winding number is 0 or s at all points on no edge, s is 1
+  pub sign_is_one : (s : ℤ) → ((p : Triple) → IsPoint p → ¬ (IsOnSome (edge u w ∷ es) p)
+      → (winding (edge u w ∷ es) p ≡ pos 0) ⊎ (winding (edge u w ∷ es) p ≡ s)) → s ≡ pos 1
+  sign_is_one s values =
+      let m = middle u w in
+      let c = whole (opposite u v w) in
+      let at_m = middle_is_point u w in
+      let at_c = whole_is_point (opposite u v w) in
+      let near = misses_eventually m c at_m at_c es (off_middle m at_m middle_in (same_refl m)) in
+      let n : ℕ = near.start in
+      let q = toward m c n in
+      let at_q = toward_is_point m c at_m at_c n in
+      let misses = near.from_start n (le_refl n) in
+      let straight = combination_is_straight m (whole u) (whole w) (middle_within u w).combination in
+      let q_left = left_toward (whole u) (whole w) m c straight opposite_left n in
+      let off : ¬ (IsOnSome (edge u w ∷ es) q) = λ h. elim h [
+        | inl on ↦
+            not_both_positive q_left
+            (zero_not_positive (on_is_straight q (whole u) (whole w) at_q (whole_is_point u) (whole_is_point w) on))
+        | inr on ↦ misses q at_q (on_last_end m q) on
+      ] in
+      let rises = across_edge (edge u w) m q (whole v) at_m at_q (whole_is_point v) (middle_within u w) q_left
+      (tip_is_right u v w left) es closed misses misses_to_tip in
+      one_of _ s (rises ∙ ap (λ z. z +ℤ pos 1) (winding_at_tip u v w es left closed least outside)) (values q at_q off)
 
 -- ---- sums
 

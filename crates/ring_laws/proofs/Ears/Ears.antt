@@ -8,8 +8,7 @@ use Rattle.rings.specs.Edge.{Edge, HasEdge, IsClosed, IsOn, IsOnSome, edge}
 use Rattle.rings.specs.Inside.{winding}
 use Rattle.ring_laws.proofs.Ears.BaseEnds.{base_ends}
 use Rattle.ring_laws.proofs.Ears.EarBase.{base_differs}
-use Rattle.ring_laws.proofs.Ears.EarSign.{sign_is_one}
-use Rattle.ring_laws.proofs.Ears.EarWinding.{ear_values}
+use Rattle.ring_laws.proofs.Ears.EarWinding.{ear_values, sign_is_one}
 use Rattle.ring_laws.proofs.Ears.UpToOne.{IsZeroOrOne}
 
 -- the edges es close the base from u to w of the ear with the tip v; all their ends are as far to the right as v; none of them

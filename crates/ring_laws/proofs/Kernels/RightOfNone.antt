@@ -1,22 +1,27 @@
 -- The kernel law: a rational point sees all of a simple ring that runs counterclockwise exactly if it is right of no edge.
-use Rattle.std.proofs.Common.{inl, inr, sym, subst, ℕ, ◌+◌, ◌%◌, ◌<◌, ◌≤◌, le_refl, pos, ◌≤ℤ◌, List, length, arith}
+-- A point that is right of no edge of a ring whose vertices are within the limit is in the square of the limit.
+use Rattle.std.proofs.Common.{inl, inr, sym, subst, ℕ, ◌+◌, ◌%◌, ◌<◌, ◌≤◌, le_refl, pos, ◌≤ℤ◌, List, length, arith, ◌≡◌, ℤ, negsuc, ◌+ℤ◌}
+use Rattle.std.proofs.Common.{◌*ℤ◌, ◌<ℤ◌}
 use Rattle.std.proofs.Math.Nat.{mod-lt}
 use Rattle.std.proofs.lemmas.Int.{ints}
-use Rattle.integer_algebra.proofs.SignSteps.{mean_not_negative, not_both, zero_not_negative}
-use Rattle.integer_algebra.proofs.Signs.{lt_or_le}
+use Rattle.integer_algebra.proofs.Laws.{mul_comm}
+use Rattle.integer_algebra.proofs.SignSteps.{mean_not_negative, not_both, zero_not_negative, weak}
+use Rattle.integer_algebra.proofs.Signs.{lt_or_le, mul_order}
 use Rattle.plane.proofs.Nearness.{right_toward, toward, toward_is_point, toward_on}
 use Rattle.plane.proofs.Points.{same_sym, same_trans, whole_is_point}
-use Rattle.plane.proofs.Segments.{later_between, middle, middle_first, middle_is_point, middle_last, middle_on, on_first_end, on_is_straight}
-use Rattle.plane.proofs.Segments.{on_last_end, on_nested, on_reversed, on_same_point}
+use Rattle.plane.proofs.Segments.{later_between, middle, middle_first, middle_is_point, middle_last, middle_on, on_first_end}
+use Rattle.plane.proofs.Segments.{on_is_straight, on_last_end, on_nested, on_reversed, on_same_point}
 use Rattle.plane.proofs.Turns.{combination_of, determinant_along}
-use Rattle.plane.specs.Point.{IsPoint, IsSame, Point, Triple, whole}
+use Rattle.plane.specs.Point.{IsPoint, IsSame, Point, Triple, whole, IsInBounds, IsInLimit}
 use Rattle.plane.specs.Segment.{On}
+use Rattle.plane.specs.Square.{IsInSquare}
 use Rattle.plane.specs.Turn.{IsRight, determinant}
+use Rattle.plane.specs.declared.limits.TheConstants.{MAX_COORDINATE}
 use Rattle.rings.proofs.Crossings.{in_law, misses_swapped}
-use Rattle.rings.proofs.Inside.{in_or_not}
+use Rattle.rings.proofs.Inside.{in_or_not, IsLessFar, not_in_extreme}
 use Rattle.rings.proofs.Simple.{apart_of_simple, proper_edges, same_or_not}
-use Rattle.rings.proofs.Vertices.{FirstHit, edge_at, edge_number, edge_with, first_hit_or_misses, has_edge_at, misses_eventually, on_some_from}
-use Rattle.rings.proofs.Vertices.{vertex_mod}
+use Rattle.rings.proofs.Vertices.{FirstHit, edge_at, edge_number, edge_with, first_hit_or_misses, has_edge_at, misses_eventually}
+use Rattle.rings.proofs.Vertices.{on_some_from, vertex_mod, all_ends_from}
 use Rattle.rings.specs.Edge.{Edge, HasEdge, IsOnSome, edges_of}
 use Rattle.rings.specs.Inside.{IsIn}
 use Rattle.rings.specs.Kernel.{IsInKernel, IsRightOfNoEdge}
@@ -155,3 +160,53 @@ pub kernel_law : KernelLaw
 kernel_law ring three simple way p at_p =
     let winds = counterclockwise_winds ring three simple way in
     (kernel_right_of_none ring simple three winds p at_p, right_of_none_in_kernel ring simple three winds p at_p)
+
+-- what is at most m is less far than what is farther than m
+less_far : (α β X Y W x y m : ℤ) → pos 0 <ℤ W → (α *ℤ x +ℤ β *ℤ y) ≤ℤ m → (m *ℤ W) <ℤ (α *ℤ X +ℤ β *ℤ Y)
+    → ((α *ℤ x +ℤ β *ℤ y) *ℤ W) <ℤ (α *ℤ X +ℤ β *ℤ Y)
+less_far α β X Y W x y m hW h far =
+    omega (arith, ints, mul_order (α *ℤ x +ℤ β *ℤ y) m W (weak hW) h, mul_comm W m, mul_comm W (α *ℤ x +ℤ β *ℤ y))
+
+module _ (ring : List Point) (within : (i : ℕ) → i < length ring → IsInBounds (vertex ring i)) (p : Triple) (at_p : IsPoint p)
+    (inside : IsIn ring p) where
+  -- each end of an edge is a vertex
+  of_vertices : (P : Point → Type 0) → ((i : ℕ) → i < length ring → P (vertex ring i)) → (e : Edge) → HasEdge (edges_of ring) e
+      → P e.from × P e.to
+  of_vertices P holds e has =
+      let (i, below, is) = edge_number ring e has in (
+        subst (λ (g : Edge). P g.from) is (holds i below),
+        subst (λ (g : Edge). P g.to) is (subst P (vertex_mod ring (i + 1)) (holds ((i + 1) % length ring) (mod-lt (i + 1) (omega arith)))),
+      )
+
+  -- in a direction in which no vertex is farther than the limit, no point of the ring is
+  not_far : (α β : ℤ) → ¬ ((α ≡ pos 0) × (β ≡ pos 0))
+      → ((x y : ℤ) → IsInLimit x → IsInLimit y → (α *ℤ x +ℤ β *ℤ y) ≤ℤ pos MAX_COORDINATE)
+      → (α *ℤ p.X +ℤ β *ℤ p.Y) ≤ℤ (pos MAX_COORDINATE *ℤ p.W)
+  not_far α β some bound = elim (lt_or_le (pos MAX_COORDINATE *ℤ p.W) (α *ℤ p.X +ℤ β *ℤ p.Y)) [
+    | inr h ↦ h
+    | inl far ↦
+        let ends = all_ends_from (IsLessFar α β p) (edges_of ring) (of_vertices (IsLessFar α β p) (λ i below.
+        let size = within i below in
+        let v = vertex ring i in
+        less_far α β p.X p.Y p.W v.x v.y (pos MAX_COORDINATE) at_p (bound v.x v.y size.x_in_limit size.y_in_limit) far)) in
+        absurd (not_in_extreme α β p at_p some ring ends inside)
+  ]
+
+  -- so a point of the ring is in the square
+  in_square : IsInSquare p
+  in_square =
+      let left = not_far (negsuc 0) (pos 0) (λ h. let e = h.0 in omega (arith, ints)) (λ x y hx hy. omega (arith, ints)) in
+      let right = not_far (pos 1) (pos 0) (λ h. let e = h.0 in omega (arith, ints)) (λ x y hx hy. omega (arith, ints)) in
+      let below = not_far (pos 0) (negsuc 0) (λ h. let e = h.1 in omega (arith, ints)) (λ x y hx hy. omega (arith, ints)) in
+      let above = not_far (pos 0) (pos 1) (λ h. let e = h.1 in omega (arith, ints)) (λ x y hx hy. omega (arith, ints)) in
+      record {
+        x_within = record { not_below = omega (arith, ints, left); not_above = omega (arith, ints, right) };
+        y_within = record { not_below = omega (arith, ints, below); not_above = omega (arith, ints, above) };
+      }
+
+-- a point that is right of no edge of a simple ring that runs counterclockwise is in the square, where all vertices are
+pub right_of_none_in_square : (ring : List Point) → 3 ≤ length ring → IsSimple ring → IsCounterclockwise ring
+    → ((i : ℕ) → i < length ring → IsInBounds (vertex ring i)) → (p : Triple) → IsPoint p → IsRightOfNoEdge ring p → IsInSquare p
+right_of_none_in_square ring three simple way within p at_p none =
+    let kernel = (kernel_law ring three simple way p at_p).1 none in
+    in_square ring within p at_p kernel.inside

@@ -1,20 +1,151 @@
+-- The winding numbers on the two sides of an edge of a closed list.
 -- Points beside an edge, near a point strictly inside it: the segment between them crosses the edge and misses others.
-use Rattle.std.proofs.Common.{◌≡◌, [], ◌∷◌, refl, sym, List, pos, ◌+ℤ◌, ◌-ℤ◌, ◌*ℤ◌, arith, ℕ, ◌+◌}
+use Rattle.std.proofs.Common.{◌≡◌, inl, inr, [], ◌∷◌, sym, ap, ◌∙◌, ℕ, ◌+◌, ◌<◌, List, ℤ, pos, ◌+ℤ◌, ◌*ℤ◌, neg_ℤ, ◌<ℤ◌, arith, refl, ◌-ℤ◌}
 use Rattle.std.proofs.lemmas.Int.{ints}
+use Rattle.std.specs.Prelude.{unsigned_abs}
+use Rattle.integer_algebra.proofs.Laws.{mul-neg, mul-zero}
 use Rattle.integer_algebra.proofs.Polynomial.{lit, var, ◌⊕◌, ◌⊖◌, ◌⊗◌, same_value}
-use Rattle.integer_algebra.proofs.Signs.{squares_positive}
-use Rattle.plane.proofs.Nearness.{positive_at, toward, toward_is_point}
+use Rattle.integer_algebra.proofs.SignSteps.{negative_not_zero, positive_not_zero, turned_negative, turned_positive}
+use Rattle.integer_algebra.proofs.Signs.{factor_negative, factor_positive, mul_negative, mul_order, mul_positive, squares_positive}
+use Rattle.plane.proofs.Nearness.{left_toward, negative_at, positive_at, right_toward, turn_toward, Eventually, outweighs, toward}
+use Rattle.plane.proofs.Nearness.{toward_is_point, toward_on}
 use Rattle.plane.proofs.Order.{same_coordinates}
 use Rattle.plane.proofs.Points.{whole_is_point}
-use Rattle.plane.proofs.Segments.{within_from}
-use Rattle.plane.proofs.Turns.{written_determinant}
-use Rattle.plane.specs.Point.{IsPoint, IsSame, Point, Triple, whole}
-use Rattle.plane.specs.Turn.{IsLeft, determinant}
-use Rattle.rings.proofs.Crossings.{right_swapped}
+use Rattle.plane.proofs.Segments.{combination_is_straight, on_first_end, on_is_straight, on_last_end, on_nested, IsWithin, stays_left}
+use Rattle.plane.proofs.Segments.{stays_right, within_from}
+use Rattle.plane.proofs.Turns.{determinant_same_ends, determinant_same_first, determinant_shift, determinant_swap_first}
+use Rattle.plane.proofs.Turns.{determinant_swap_last, determinant_along_first, written_determinant}
+use Rattle.plane.specs.Point.{IsPoint, Triple, whole, IsSame, Point}
+use Rattle.plane.specs.Segment.{On}
+use Rattle.plane.specs.Turn.{IsLeft, IsRight, determinant, IsStraight}
+use Rattle.rings.proofs.Crossings.{winding_law, winding_law_crossed, right_swapped}
 use Rattle.rings.proofs.Vertices.{misses_between, misses_eventually}
 use Rattle.rings.specs.Across.{CrossesRight, Misses}
-use Rattle.rings.specs.Edge.{Edge, IsOn, IsOnSome}
-use Rattle.ring_laws.proofs.Triangles.AcrossEdge.{crosses_near}
+use Rattle.rings.specs.Edge.{Edge, IsClosed, IsOnSome, IsOn}
+use Rattle.rings.specs.Inside.{winding}
+
+-- ---- numbers
+
+-- enough times a negative number outweigh any other
+outweighs_below : (n : ℕ) (f g : ℤ) → f <ℤ pos 0 → unsigned_abs g < n → (pos n *ℤ f +ℤ g) <ℤ pos 0
+outweighs_below n f g hf h =
+    omega (arith, ints, mul_order (pos 1) (neg_ℤ f) (pos n) (omega (arith, ints)) (omega (arith, ints)), mul-neg (pos n) f)
+
+-- the sides of a combination's ends: where the first value is 0, the last counts,
+by_last : (k l m z f g : ℤ) → pos 0 <ℤ k → pos 0 <ℤ m → f ≡ pos 0 → g <ℤ pos 0 → k *ℤ z ≡ l *ℤ f +ℤ m *ℤ g → z <ℤ pos 0
+by_last k l m z f g hk hm ef hg e =
+    factor_negative k z hk (omega (arith, ints, mul_negative m g hm hg, ap (λ x. l *ℤ x) ef, mul-zero l))
+
+-- and where the last is 0, the first
+by_first : (k l m z f g : ℤ) → pos 0 <ℤ k → pos 0 <ℤ l → g ≡ pos 0 → pos 0 <ℤ f → k *ℤ z ≡ l *ℤ f +ℤ m *ℤ g → pos 0 <ℤ z
+by_first k l m z f g hk hl eg hf e =
+    factor_positive k z hk (omega (arith, ints, mul_positive l f hl hf, ap (λ x. m *ℤ x) eg, mul-zero m))
+
+-- the sum of two negative numbers
+sum_negative : {x y : ℤ} → x <ℤ pos 0 → y <ℤ pos 0 → (x +ℤ y) <ℤ pos 0
+sum_negative h k = omega (arith, ints)
+
+-- and of two positive ones
+sum_positive : {x y : ℤ} → pos 0 <ℤ x → pos 0 <ℤ y → pos 0 <ℤ (x +ℤ y)
+sum_positive h k = omega (arith, ints)
+
+-- ---- from one side of a segment to the other, past a point m within it
+
+module _ (m a b p q : Triple) (within : IsWithin m a b) (left : IsLeft a b p) (right : IsRight a b q) where
+  -- the first end is on the right of the way past m,
+  first_is_right : (determinant m q a +ℤ determinant p m a) <ℤ pos 0
+  first_is_right =
+      let c = within.combination in
+      let far = by_last c.k c.l c.m _ _ _ c.k_positive within.last_weighs (determinant_same_ends a q)
+      (negative_at (determinant_shift a b q) right) (determinant_along_first m a b c q a) in
+      let near = by_last c.k c.l c.m _ _ _ c.k_positive within.last_weighs (determinant_same_first a p)
+      (turned_negative (determinant_swap_first a b p) left) (determinant_along_first m a b c a p) in
+      sum_negative far (negative_at (sym (determinant_shift p m a)) near)
+
+  -- and the last on its left
+  last_is_left : pos 0 <ℤ (determinant m q b +ℤ determinant p m b)
+  last_is_left =
+      let c = within.combination in
+      let far = by_first c.k c.l c.m _ _ _ c.k_positive within.first_weighs (determinant_same_ends b q)
+      (turned_positive (determinant_swap_last a b q) right) (determinant_along_first m a b c q b) in
+      let near = by_first c.k c.l c.m _ _ _ c.k_positive within.first_weighs (determinant_same_first b p)
+      left (determinant_along_first m a b c b p) in
+      sum_positive far (positive_at (sym (determinant_shift p m b)) near)
+
+-- ---- the two sides of an edge
+
+module _ (e : Edge) (m p q : Triple) (at_m : IsPoint m) (at_p : IsPoint p) (at_q : IsPoint q)
+    (within : IsWithin m (whole e.from) (whole e.to))
+    (left : IsLeft (whole e.from) (whole e.to) p) (right : IsRight (whole e.from) (whole e.to) q) where
+  -- a near point on the left is on the left,
+  near_left : (n : ℕ) → IsLeft (whole e.from) (whole e.to) (toward m p n)
+  near_left n =
+      let straight = combination_is_straight m (whole e.from) (whole e.to) within.combination in
+      left_toward (whole e.from) (whole e.to) m p straight left n
+
+  -- and one on the right is on the right
+  near_right : (n : ℕ) → IsRight (whole e.from) (whole e.to) (toward m q n)
+  near_right n =
+      let straight = combination_is_straight m (whole e.from) (whole e.to) within.combination in
+      right_toward (whole e.from) (whole e.to) m q straight right n
+
+  -- the segment between two near points crosses the edge
+  pub crosses_near : Eventually (λ n. CrossesRight (toward m p n) (toward m q n) e)
+  crosses_near =
+      let a = whole e.from in
+      let b = whole e.to in
+      let first = determinant p q a in
+      let last = determinant p q b in
+      record {
+        start = unsigned_abs first + unsigned_abs last + 1;
+        from_start = λ n above. record {
+          starts_left = near_left n;
+          ends_right = near_right n;
+          from_right = negative_at (turn_toward m p q a n) (outweighs_below n _ first (first_is_right m a b p q within left right) (omega arith));
+          to_left = positive_at (turn_toward m p q b n) (outweighs n _ last (last_is_left m a b p q within left right) (omega arith));
+        };
+      }
+
+  module _ (es : List Edge) (closed : IsClosed (e ∷ es)) (from_p : Misses m p es) (from_q : Misses m q es) where
+    -- a way beside the edge, to a point near m on the way to another, misses all edges where the way to the other misses the rest
+    misses_near : (r : Triple) → IsPoint r → Misses m r es → (n : ℕ)
+        → ((x : Triple) → IsPoint x → On x r (toward m r n) → ¬ IsStraight (whole e.from) (whole e.to) x) → Misses r (toward m r n) (e ∷ es)
+    misses_near r at_r from_r n beside x at_x on h = elim h [
+      | inl on_e ↦
+          beside x at_x on (on_is_straight x (whole e.from) (whole e.to) at_x (whole_is_point e.from) (whole_is_point e.to) on_e)
+      | inr on_es ↦
+          from_r x at_x
+          (on_nested x r (toward m r n) m r at_x at_r (toward_is_point m r at_m at_r n) at_m at_r (on_last_end m r) (toward_on m r at_m at_r n) on) on_es
+    ]
+
+    -- so does the way from p, on the left,
+    misses_left : (n : ℕ) → Misses p (toward m p n) (e ∷ es)
+    misses_left n =
+        misses_near p at_p from_p n (λ x at_x on straight. positive_not_zero
+        (stays_left x p (toward m p n) at_x at_p (toward_is_point m p at_m at_p n) on (whole e.from) (whole e.to) left (near_left n)) straight)
+
+    -- and that from q, on the right
+    misses_right : (n : ℕ) → Misses q (toward m q n) (e ∷ es)
+    misses_right n =
+        misses_near q at_q from_q n (λ x at_x on straight. negative_not_zero
+        (stays_right x q (toward m q n) at_x at_q (toward_is_point m q at_m at_q n) on (whole e.from) (whole e.to) right (near_right n)) straight)
+
+    -- where m is within the first of the edges, and the ways from it to a point on the left and to one on the right miss
+    -- the others, the winding number on the left is greater by 1
+    pub across_edge : winding (e ∷ es) p ≡ winding (e ∷ es) q +ℤ pos 1
+    across_edge =
+        let off = λ (on : IsOnSome es m). from_p m at_m (on_first_end m p) on in
+        let between = misses_between m p q at_m at_p at_q es off in
+        let n : ℕ = between.start + crosses_near.start in
+        let s = toward m p n in
+        let t = toward m q n in
+        let at_s = toward_is_point m p at_m at_p n in
+        let at_t = toward_is_point m q at_m at_q n in
+        let crossed = winding_law_crossed s t at_s at_t [] es e closed (λ x at_x on h. h)
+        (between.from_start n (omega arith)) (crosses_near.from_start n (omega arith)) in
+        let one = winding_law p s at_p at_s (e ∷ es) closed (misses_left n) in
+        let other = winding_law q t at_q at_t (e ∷ es) closed (misses_right n) in
+        one ∙ crossed ∙ ap (λ z. z +ℤ pos 1) (sym other)
 
 -- the way from one point to another is not nothing
 some_way : (v z : Point) → ¬ (v ≡ z) → ¬ ((z.x -ℤ v.x ≡ pos 0) × (z.y -ℤ v.y ≡ pos 0))

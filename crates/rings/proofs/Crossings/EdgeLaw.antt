@@ -1,21 +1,113 @@
+-- A segment and an edge in numbers: the heights of their ends over one another, and the sides of their lines.
 -- How the signed crossings of one edge differ between the two ends of a segment.
-use Rattle.std.proofs.Common.{◌≡◌, ◌∙◌, ℤ, pos, ◌+ℤ◌, ◌-ℤ◌, ◌*ℤ◌, neg_ℤ, ◌≤ℤ◌, arith}
+use Rattle.std.proofs.Common.{◌≡◌, ◌⊎◌, inl, inr, [], ◌∷◌, refl, ◌∙◌, ℕ, ℤ, pos, ◌-ℤ◌, ◌*ℤ◌, ◌<ℤ◌, ◌≤ℤ◌, arith, ◌+ℤ◌, neg_ℤ}
 use Rattle.std.proofs.lemmas.Int.{ints}
-use Rattle.plane.proofs.Order.{rise, rises}
+use Rattle.integer_algebra.proofs.Laws.{mul_comm}
+use Rattle.integer_algebra.proofs.OneSign.{OneSign}
+use Rattle.integer_algebra.proofs.Polynomial.{◌⊖◌, ◌⊗◌, same_value}
+use Rattle.integer_algebra.proofs.SignSteps.{weak}
+use Rattle.integer_algebra.proofs.Signs.{cancel_equal, factor_nonpositive, factor_positive, lt_or_le, mul_nonnegative, mul_nonpositive}
+use Rattle.integer_algebra.proofs.Signs.{mul_positive}
+use Rattle.plane.proofs.Meetings.{crossing_or_line}
+use Rattle.plane.proofs.Order.{by_rises, rise, written_rise, rises}
 use Rattle.plane.proofs.Points.{whole_is_point}
-use Rattle.plane.proofs.Turns.{determinant_swap_first}
-use Rattle.plane.specs.Point.{IsPoint, Point, Triple, whole}
+use Rattle.plane.proofs.Turns.{parts, straight_shift, determinant as det, determinant_swap_first}
+use Rattle.plane.specs.Point.{IsPoint, Triple, whole, Point}
 use Rattle.plane.specs.Segment.{Meet}
-use Rattle.plane.specs.Turn.{IsLeft, IsRight, determinant}
+use Rattle.plane.specs.Turn.{determinant, IsLeft, IsRight}
 use Rattle.rings.proofs.Crossings.Crossings.{crossing_reversed}
-use Rattle.rings.proofs.Crossings.EdgeCases.{Level, differ_apart}
+use Rattle.rings.proofs.Crossings.EdgeCases.{Level, between, high, low, differ_apart}
 use Rattle.rings.proofs.Crossings.EdgeCrossed.{differ_crossed}
-use Rattle.rings.proofs.Crossings.EdgeFigure.{apart, crossing_is, level, on_line, relations}
-use Rattle.rings.proofs.Crossings.SignedCrossing.{counted}
+use Rattle.rings.proofs.Crossings.EdgeSigns.{Apart, Relations, ahead, behind, ends_left, in_line, points_left}
+use Rattle.rings.proofs.Crossings.SignedCrossing.{signed, signed_is, counted}
 use Rattle.rings.proofs.Vertices.{reversed}
 use Rattle.rings.specs.Across.{CrossesRight}
 use Rattle.rings.specs.Edge.{Edge}
 use Rattle.rings.specs.Inside.{crossing}
+
+-- ---- the figure in numbers
+
+module _ (p q a b : Triple) where
+  -- the relation of four triples at the heights over p and over q
+  pub relations : Relations (determinant p q a) (determinant p q b) (determinant a b p) (determinant a b q)
+      (rise a p) (rise b p) (rise a q) (rise b q) (rise q p)
+  unfolding written_rise
+  relations =
+      let xs = parts (a ∷ b ∷ p ∷ q ∷ []) [] in
+      let sum = λ (v : ℕ). det 2 3 1 ⊗ written_rise 0 v ⊖ det 2 3 0 ⊗ written_rise 1 v in
+      record {
+        over_lower = same_value (sum 2) (det 0 1 2 ⊗ written_rise 3 2) xs refl;
+        over_higher = same_value (sum 3) (det 0 1 3 ⊗ written_rise 3 2) xs refl;
+      }
+
+-- a number with a positive factor is 0 where its product is a difference of products with 0
+no_products : (k d x y f g : ℤ) → pos 0 <ℤ k → f ≡ pos 0 → g ≡ pos 0 → k *ℤ d ≡ x *ℤ g -ℤ y *ℤ f → d ≡ pos 0
+no_products k d x y f g h ef eg e =
+    cancel_equal d (pos 0) k h (e ∙ (λ i. x *ℤ eg i -ℤ y *ℤ ef i) ∙ omega (arith, ints))
+
+-- three triples of one height are on one line
+pub on_line : (a b p : Triple) → IsPoint p → rise a p ≡ pos 0 → rise b p ≡ pos 0 → determinant a b p ≡ pos 0
+on_line a b p at_p ea eb = no_products p.W _ _ _ _ _ at_p ea eb (by_rises a b p)
+
+-- in numbers: a triple of weight W is f above a lower point of weight P, and i above a higher one of weight Q
+module _ (f i h P Q W : ℤ) (hP : pos 0 <ℤ P) (hQ : pos 0 <ℤ Q) (hW : pos 0 <ℤ W) (hh : pos 0 ≤ℤ h)
+    (e : f *ℤ Q -ℤ i *ℤ P ≡ W *ℤ h) where
+  -- where it is between, the higher point is strictly higher
+  apart_in_height : pos 0 <ℤ f → i ≤ℤ pos 0 → pos 0 <ℤ h
+  apart_in_height hf hi =
+      let above = mul_positive f Q hf hQ in
+      let below = mul_nonpositive P i (weak hP) hi in
+      factor_positive W h hW (omega (arith, ints, e, above, below, mul_comm i P))
+
+  -- where it is not above the lower point, it is not above the higher one
+  not_above_higher : f ≤ℤ pos 0 → i ≤ℤ pos 0
+  not_above_higher hf =
+      let below = mul_nonpositive Q f (weak hQ) hf in
+      let height = mul_nonnegative W h (weak hW) hh in
+      factor_nonpositive P i hP (omega (arith, ints, e, below, height, mul_comm i P, mul_comm f Q))
+
+  -- so it is at one of three levels
+  pub level : Level f i h
+  level = elim (lt_or_le (pos 0) f) [
+    | inr hf ↦ low hf (not_above_higher hf)
+    | inl hf ↦ elim (lt_or_le (pos 0) i) [ inl hi ↦ high hf hi | inr hi ↦ between hf hi (apart_in_height hf hi) ]
+  ]
+
+-- ---- a segment and an edge that do not meet
+
+-- two numbers have one strict sign, or not
+one_sign_or_not : (u v : ℤ) → OneSign u v ⊎ (¬ OneSign u v)
+one_sign_or_not u v = grind (arith, ints)
+
+-- two ends on one side of the segment's line are apart from it
+ends_apart : (u w d e : ℤ) → OneSign u w → Apart u w d e
+ends_apart u w d e (inl h) = ahead (ends_left h.0 h.1)
+ends_apart u w d e (inr h) = behind (ends_left (omega (arith, ints)) (omega (arith, ints)))
+
+-- two points on one side of the edge's line are apart from it
+points_apart : (u w d e : ℤ) → OneSign d e → Apart u w d e
+points_apart u w d e (inl h) = ahead (points_left h.0 h.1)
+points_apart u w d e (inr h) = behind (points_left (omega (arith, ints)) (omega (arith, ints)))
+
+-- where a segment and an edge do not meet, one has both ends on one side of the other's line, or they are on one line
+pub apart : (p q a b : Triple) → IsPoint p → IsPoint q → IsPoint a → IsPoint b → ¬ (Meet p q a b)
+    → Apart (determinant p q a) (determinant p q b) (determinant a b p) (determinant a b q)
+apart p q a b at_p at_q at_a at_b none =
+    elim (one_sign_or_not (determinant p q a) (determinant p q b)) [
+      | inl h ↦ ends_apart _ _ _ _ h
+      | inr n ↦ elim (one_sign_or_not (determinant a b p) (determinant a b q)) [
+        | inl h ↦ points_apart _ _ _ _ h
+        | inr m ↦ elim (crossing_or_line p q a b at_p at_q at_a at_b n m) [
+          | inl meet ↦ absurd (none meet)
+          | inr line ↦ in_line line.abc line.abd (straight_shift p a b line.acd) (straight_shift q a b line.bcd)
+        ]
+      ]
+    ]
+
+-- a signed crossing by these numbers
+pub crossing_is : (e : Edge) (p : Triple)
+    → crossing e p ≡ signed (rise (whole e.from) p) (rise (whole e.to) p) (determinant (whole e.from) (whole e.to) p)
+crossing_is e p = signed_is (e.from.y *ℤ p.W) (e.to.y *ℤ p.W) p.Y (determinant (whole e.from) (whole e.to) p)
 
 -- 1 where v is strictly above p, not above q, and strictly right of the line from p to q, else 0
 abbrev pub right_between : Triple → Triple → Point → ℤ

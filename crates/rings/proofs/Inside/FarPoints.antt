@@ -14,7 +14,7 @@ use Rattle.plane.proofs.Turns.{on_of_combination}
 use Rattle.plane.specs.Point.{IsPoint, IsSame, Point, Triple, whole}
 use Rattle.plane.specs.Segment.{On}
 use Rattle.rings.proofs.Inside.ExtremePoints.{below_abs, extreme_point, how_far}
-use Rattle.rings.proofs.Inside.InRing.{not_in_from_even}
+use Rattle.rings.proofs.Inside.BreakpointLaw.{not_in_from_even}
 use Rattle.rings.proofs.Simple.{same_or_not}
 use Rattle.rings.proofs.Vertices.{AllEnds, all_ends_map, closed_edges_of}
 use Rattle.rings.specs.Edge.{Edge, IsOnSome, edges_of}

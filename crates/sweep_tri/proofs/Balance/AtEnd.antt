@@ -1,5 +1,5 @@
 -- After the last event: the triangles fit the ring.
-use Rattle.std.proofs.Common.{◌≡◌, inl, inr, refl, ap, ◌∙◌, ℕ, ◌+◌, ◌-◌, ◌<◌, ◌≤◌, ℤ, pos, negsuc, List, [], ◌∷◌, length, arith}
+use Rattle.std.proofs.Common.{◌≡◌, inl, inr, ap, ◌∙◌, ℕ, ◌+◌, ◌-◌, ◌<◌, ◌≤◌, ℤ, pos, negsuc, List, [], ◌∷◌, length, arith}
 use Rattle.std.proofs.lemmas.Bool.{cases_lt}
 use Rattle.std.proofs.lemmas.Int.{ints}
 use Rattle.std.specs.List.{range_with_len}
@@ -17,10 +17,7 @@ use Rattle.meshes.specs.declared.tri.Tri.{Tri}
 use Rattle.sweep_tri.proofs.Balance.Area.{area_by, area_odd, area_round, triangles_not_negative}
 use Rattle.meshes.proofs.Boundaries.{fits_bounded}
 use Rattle.sweep_tri.proofs.Balance.EdgeSums.{around_step, edges_round, growth_at, growth_odd, sums_agree, sums_opposite}
-use Rattle.sweep_tri.specs.Frontier.{IsFrontier}
-use Rattle.sweep_tri.specs.Gaps.{fronts}
 use Rattle.sweep_tri.specs.Sums.{AreBalanced, sum_edges}
-use Rattle.sweep_tri.specs.declared.gap.Gap.{Gap}
 
 -- the sides of triangles do not grow
 sides_growth : (m : ℕ) (tris : List Tri) → sum_sides (growth_at m) tris ≡ pos 0
@@ -37,13 +34,6 @@ module _ (corners : List Point) (order ranks : List ℕ) (are : AreEvents corner
         | inl k ↦ (omega (arith, here, k.0), omega (arith, there, k.1))
         | inr k ↦ (omega (arith, there, k.0), omega (arith, here, k.1))
       ]
-
-  -- so none is met there
-  pub nothing_left : (gaps : List Gap) → IsFrontier corners ranks (length corners) (fronts gaps) → gaps ≡ []
-  nothing_left [] frontier = refl
-  nothing_left (g ∷ gs) frontier =
-      let (e, met, _) = frontier.edges 0 (omega arith) in
-      absurd (omega (arith, met.to_come, (ends_below e met.is_edge).1))
 
   module _ (tris : List Tri) (balanced : AreBalanced ranks (length corners) [] tris) where
     -- each edge has the sign of the last one

@@ -1,7 +1,6 @@
 -- Each event keeps the balance.
 use Rattle.std.proofs.Common.{◌≡◌, ◌⊎◌, inl, inr, refl, ap, ℕ, ◌+◌, ◌<◌, ◌≤◌, ℤ, pos, negsuc, ◌+ℤ◌, ◌*ℤ◌, Option, Some, List, [], ◌∷◌, ◌++◌, length, set, arith}
 use Rattle.std.proofs.lemmas.Int.{ints}
-use Rattle.std.proofs.lemmas.List.Elements.{All-append}
 use Rattle.std.proofs.lemmas.List.Edits.{get_or-remove_below, length-remove}
 use Rattle.std.specs.List.{All, insert, remove}
 use Rattle.std.specs.Prelude.{slice_index}
@@ -9,8 +8,8 @@ use Rattle.plane.specs.Point.{Point}
 use Rattle.rings.specs.Events.{AreEvents, next, previous}
 use Rattle.meshes.specs.Boundary.{IsOdd, sum_sides}
 use Rattle.meshes.specs.declared.tri.Tri.{Tri}
-use Rattle.sweep_tri.proofs.Balance.Closed.{all_filled_sum, filled-append, sum_regions}
-use Rattle.sweep_tri.proofs.Balance.Edits.{AreJoined, left_some, met_sum, open_joined, region_from_sum, sign_of, split_sum, with_vertex_sum}
+use Rattle.sweep_tri.proofs.Balance.Edits.{AreJoined, all_filled_sum, left_some, met_sum, open_joined, region_from_sum, sign_of, split_sum}
+use Rattle.sweep_tri.proofs.Balance.Edits.{sum_regions, with_vertex_sum}
 use Rattle.sweep_tri.proofs.Balance.Lists.{gaps_inserted, gaps_removed, gaps_replaced}
 use Rattle.sweep_tri.proofs.Balance.Signs.{AreBeside}
 use Rattle.sweep_tri.proofs.Balance.Steps.{none_begins, one_begins, two_begin}
@@ -32,12 +31,6 @@ regions-append φ (c ∷ cs) ds = omega (arith, ints, regions-append φ cs ds)
 -- the regions are closed, and triangles that fit them come after those that were there
 abbrev pub AreFilledClosed : List Point → List ℕ → List Chains → List Tri → List Tri → Type 0
 AreFilledClosed corners ranks cs old new = All (IsClosedRegion corners ranks) cs × AreFilled corners cs old new
-
--- those of two lists are, one list after the other
-pub filled_closed-append : (corners : List Point) (ranks : List ℕ) (cs ds : List Chains) (old between new : List Tri)
-    → AreFilledClosed corners ranks cs old between → AreFilledClosed corners ranks ds between new → AreFilledClosed corners ranks (cs ++ ds) old new
-filled_closed-append corners ranks cs ds old between new (closed, fills) (others_closed, others_fill) =
-    (All-append (IsClosedRegion corners ranks) cs ds closed others_closed, filled-append corners cs ds old between new fills others_fill)
 
 module _ (corners : List Point) (order ranks : List ℕ) (are : AreEvents corners order ranks) (three : 3 ≤ length corners)
     (k : ℕ) (within : k < length corners) (gaps : List Gap) (tris : List Tri) (balanced : AreBalanced ranks k gaps tris) where

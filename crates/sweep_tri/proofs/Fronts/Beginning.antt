@@ -8,7 +8,7 @@ use Rattle.rings.specs.Events.{AreEvents, first_end}
 use Rattle.rings.specs.Ring.{vertex}
 use Rattle.rings.specs.Simple.{IsSimple}
 use Rattle.sweep_tri.proofs.Fronts.Beside.{AreBeside, beside_below, beside_differ, beside_swapped, begins_to, edge_to, front}
-use Rattle.sweep_tri.proofs.Fronts.Met.{IsFront}
+use Rattle.sweep_tri.proofs.Fronts.Sides.{IsFront}
 use Rattle.sweep_tri.proofs.RankOrder.{number_is_one}
 use Rattle.sweep_tri.specs.Frontier.{IsMet, front_at, upward}
 use Rattle.sweep_tri.specs.Gaps.{Front, front_edge}

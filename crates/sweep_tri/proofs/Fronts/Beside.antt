@@ -116,36 +116,23 @@ module _ (corners : List Point) (order ranks : List ℕ) (are : AreEvents corner
       pub edge_to : (e : ℕ) × IsEdgeTo ranks v s e
       edge_to = elim beside [ inl h ↦ rw h.0 to_previous | inr h ↦ rw h.0 to_next ]
 
-      -- and no edge but these two ends at v,
+      -- and the other end of each edge at v is one of them
+      other_end : (e x : ℕ) → e < length ranks → ((x ≡ e) × (next (length ranks) e ≡ v)) ⊎ ((x ≡ next (length ranks) e) × (e ≡ v)) → (x ≡ s) ⊎ (x ≡ t)
+      other_end e x he (inl h) =
+          let is : x ≡ previous (length ranks) v = h.0 ∙ sym (previous_of_next (length ranks) e he) ∙ ap (previous (length ranks)) h.1 in
+          elim beside [ inl b ↦ inl (is ∙ sym b.0) | inr b ↦ inr (is ∙ sym b.1) ]
+      other_end e x he (inr h) =
+          let is : x ≡ next (length ranks) v = h.0 ∙ ap (next (length ranks)) h.1 in
+          elim beside [ inl b ↦ inr (is ∙ sym b.1) | inr b ↦ inl (is ∙ sym b.0) ]
+
+      -- so no edge but these two ends at v,
       pub ends_from : (e : ℕ) → e < length ranks → last_end ranks e ≡ v → (upward ranks e ≡ front s v) ⊎ (upward ranks e ≡ front t v)
-      ends_from e he last = elim (ends_are corners order ranks are three e he) [
-        | inl h ↦
-            let is : e ≡ previous (length ranks) v = sym (previous_of_next (length ranks) e he) ∙ ap (previous (length ranks)) (sym h.1 ∙ last) in
-            elim beside [
-              | inl b ↦ inl (λ i. front ((h.0 ∙ is ∙ sym b.0) i) (last i))
-              | inr b ↦ inr (λ i. front ((h.0 ∙ is ∙ sym b.1) i) (last i))
-            ]
-        | inr h ↦
-            let is : next (length ranks) e ≡ next (length ranks) v = ap (next (length ranks)) (sym h.1 ∙ last) in
-            elim beside [
-              | inl b ↦ inr (λ i. front ((h.0 ∙ is ∙ sym b.1) i) (last i))
-              | inr b ↦ inl (λ i. front ((h.0 ∙ is ∙ sym b.0) i) (last i))
-            ]
-      ]
+      ends_from e he last =
+          elim (other_end e (first_end ranks e) he
+          (elim (ends_are corners order ranks are three e he) [ inl h ↦ inl (h.0, sym h.1 ∙ last) | inr h ↦ inr (h.0, sym h.1 ∙ last) ])) [ inl is ↦ inl (λ i. front (is i) (last i)) | inr is ↦ inr (λ i. front (is i) (last i)) ]
 
       -- or begins there
       pub begins_to : (e : ℕ) → e < length ranks → first_end ranks e ≡ v → (upward ranks e ≡ front v s) ⊎ (upward ranks e ≡ front v t)
-      begins_to e he first = elim (ends_are corners order ranks are three e he) [
-        | inr h ↦
-            let is : e ≡ previous (length ranks) v = sym (previous_of_next (length ranks) e he) ∙ ap (previous (length ranks)) (sym h.0 ∙ first) in
-            elim beside [
-              | inl b ↦ inl (λ i. front (first i) ((h.1 ∙ is ∙ sym b.0) i))
-              | inr b ↦ inr (λ i. front (first i) ((h.1 ∙ is ∙ sym b.1) i))
-            ]
-        | inl h ↦
-            let is : next (length ranks) e ≡ next (length ranks) v = ap (next (length ranks)) (sym h.0 ∙ first) in
-            elim beside [
-              | inl b ↦ inr (λ i. front (first i) ((h.1 ∙ is ∙ sym b.1) i))
-              | inr b ↦ inl (λ i. front (first i) ((h.1 ∙ is ∙ sym b.0) i))
-            ]
-      ]
+      begins_to e he first =
+          elim (other_end e (last_end ranks e) he
+          (elim (ends_are corners order ranks are three e he) [ inl h ↦ inr (h.1, sym h.0 ∙ first) | inr h ↦ inl (h.1, sym h.0 ∙ first) ])) [ inl is ↦ inl (λ i. front (first i) (is i)) | inr is ↦ inr (λ i. front (first i) (is i)) ]

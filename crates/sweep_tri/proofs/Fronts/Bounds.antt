@@ -3,7 +3,7 @@ use Rattle.std.proofs.Common.{◌≡◌, refl, ℕ, ◌≤◌, List, [], ◌∷�
 use Rattle.plane.specs.Point.{Point}
 use Rattle.rings.proofs.Sweeps.{rank_below}
 use Rattle.rings.specs.Events.{AreEvents}
-use Rattle.sweep_tri.proofs.Fronts.Met.{ends_about}
+use Rattle.sweep_tri.proofs.Fronts.Sides.{ends_about}
 use Rattle.sweep_tri.specs.Frontier.{IsFrontier}
 use Rattle.sweep_tri.specs.Gaps.{fronts, low_front}
 use Rattle.sweep_tri.specs.declared.gap.Gap.{Gap}

@@ -9,7 +9,7 @@ use Rattle.rings.specs.Events.{AreEvents}
 use Rattle.rings.specs.Ring.{vertex}
 use Rattle.rings.specs.Simple.{IsSimple}
 use Rattle.meshes.proofs.Monotone.{enters_above, enters_below}
-use Rattle.sweep_tri.proofs.Fronts.Met.{HasEndsAbout, IsFront, ends_about, fronts_apart}
+use Rattle.sweep_tri.proofs.Fronts.Sides.{HasEndsAbout, IsFront, ends_about, fronts_apart}
 use Rattle.sweep_tri.proofs.Regions.{IsNearer, IsShort}
 use Rattle.mono_fill.specs.declared.side.Side.{Side}
 use Rattle.mono_fill.specs.declared.side.Side.TheVariants.{Lower, Upper}

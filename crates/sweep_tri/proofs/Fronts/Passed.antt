@@ -8,9 +8,8 @@ use Rattle.rings.specs.Events.{AreEvents}
 use Rattle.rings.specs.Simple.{IsSimple}
 use Rattle.sweep_tri.proofs.Fronts.Beginning.{AreBegun}
 use Rattle.sweep_tri.proofs.Fronts.Entered.{entered, goes_on}
-use Rattle.sweep_tri.proofs.Fronts.Met.{IsFront, ends_about}
+use Rattle.sweep_tri.proofs.Fronts.Sides.{IsFront, above_no_end, ends_about, under_no_end}
 use Rattle.sweep_tri.proofs.Fronts.Parted.{IsParted}
-use Rattle.sweep_tri.proofs.Fronts.Sides.{above_no_end, under_no_end}
 use Rattle.sweep_tri.proofs.Fronts.Spliced.{IsSpliced}
 use Rattle.sweep_tri.proofs.RankOrder.{one_by_rank}
 use Rattle.mono_fill.specs.declared.side.Side.TheVariants.{Lower, Upper}

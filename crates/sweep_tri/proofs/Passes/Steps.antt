@@ -4,7 +4,7 @@ use Rattle.shared_seq.proofs.Digits.{binary_digits_mono}
 use Rattle.shared_seq.specs.Digits.{binary_digits}
 use Rattle.plane.specs.Point.{Point}
 use Rattle.meshes.specs.declared.tri.Tri.{Tri}
-use Rattle.sweep_tri.proofs.Passes.Ready.{gaps_few}
+use Rattle.sweep_tri.proofs.Passes.Sweeping.{gaps_few}
 use Rattle.sweep_tri.specs.Passing.{IsNextEvent, placed_work}
 use Rattle.sweep_tri.specs.declared.gap.Gap.{Gap}
 

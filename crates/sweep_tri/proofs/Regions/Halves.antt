@@ -1,19 +1,103 @@
+-- A region with one more vertex at the end of a chain.
 -- Of two regions that meet at a merge vertex, one with its inner chain led to the vertex of an event.
-use Rattle.std.proofs.Common.{◌≡◌, ◌⊎◌, inl, inr, sym, ap, ◌∙◌, ℕ, ◌+◌, ◌<◌, List, [], ◌∷◌, ◌++◌, length, get_or, arith}
+use Rattle.std.proofs.Common.{◌≡◌, inl, inr, sym, subst, ap, ◌∙◌, ℕ, ◌+◌, ◌-◌, ◌<◌, ◌≤◌, List, [], ◌∷◌, ◌++◌, length, get_or, arith, ◌⊎◌}
 use Rattle.std.proofs.lemmas.Bool.{cases_lt}
+use Rattle.std.proofs.lemmas.List.{get_or_default}
+use Rattle.std.specs.List.{All}
 use Rattle.std.specs.Prelude.{slice_index}
 use Rattle.plane.specs.Point.{Point}
-use Rattle.rings.specs.Edge.{edge}
+use Rattle.rings.specs.Edge.{Edge, edge}
 use Rattle.rings.specs.Ring.{vertex}
-use Rattle.sweep_tri.proofs.Regions.Edges.{nearer_short, nearer_to_end}
-use Rattle.sweep_tri.proofs.Regions.Growth.{grown}
-use Rattle.sweep_tri.proofs.Regions.Paths.{last_grown}
-use Rattle.sweep_tri.proofs.Regions.Ranks.{before_of_rise, ends_grown, last_or_before}
-use Rattle.sweep_tri.proofs.Regions.Sides.{AreOpen, ArePair, IsNearer, IsShort, chains, closed_of}
 use Rattle.mono_fill.specs.declared.side.Side.{Side}
-use Rattle.sweep_tri.specs.Gaps.{front_edge, front_of, last}
+use Rattle.sweep_tri.proofs.Regions.Edges.{nearer_short, nearer_to_end}
+use Rattle.sweep_tri.proofs.Regions.Paths.{item_cases, last_step, length_grown, old_item, step_cases, last_grown}
+use Rattle.sweep_tri.proofs.Regions.Ranks.{before_of_rise, ends_grown, last_or_before}
+use Rattle.sweep_tri.proofs.Regions.Sides.{AreNearer, ArePair, IsNearer, AreOpen, IsShort, chains, closed_of}
+use Rattle.sweep_tri.specs.Gaps.{before_last, front_edge, front_of, last}
 use Rattle.sweep_tri.specs.Open.{ComeBefore, EndsFrom}
-use Rattle.sweep_tri.specs.Region.{IsClosedRegion}
+use Rattle.sweep_tri.specs.Region.{IsStep, RisesBy, ShareEnds, IsClosedRegion}
+
+-- x follows the last vertex of the near chain
+module _ (corners : List Point) (ranks : List ℕ) (side : Side) (near far : List ℕ) (x : ℕ) where
+  -- where the new edge and the last one of the far chain are over one another, it is on the near side of that
+  abbrev pub IsNearerThere : Type 0
+  IsNearerThere = slice_index ranks (last near) < slice_index ranks (last far) → slice_index ranks (before_last far) < slice_index ranks x
+      → IsNearer side (edge (vertex corners (last near)) (vertex corners x)) (front_edge corners (front_of far))
+
+  -- what has to hold
+  pub record CanGrow : Type 0 where
+    pub is_vertex : x < length corners
+    pub later : slice_index ranks (last near) < slice_index ranks x
+    pub fresh : (j : ℕ) → 0 < j → j < length far → ¬ (last near ≡ get_or far j 0)
+    pub new : (j : ℕ) → 0 < j → j < length far → x ≡ get_or far j 0 → j + 1 ≡ length far
+    pub past : (j : ℕ) → j + 1 < length far → slice_index ranks (get_or far j 0) ≤ slice_index ranks (last near)
+    pub nearer : IsNearerThere
+
+  module _ (pair : ArePair corners ranks side near far) (can : CanGrow) where
+    some : 1 ≤ length near
+    some = let two = pair.near_some in omega arith
+
+    numbers : All (λ v. v < length corners) (near ++ x ∷ [])
+    numbers i d h =
+        let is = get_or_default (near ++ x ∷ []) i d 0 h in
+        elim (item_cases near x i h) [
+          | inl k ↦ subst (λ v. v < length corners) (sym (is ∙ k.1)) (pair.near_numbers i 0 k.0)
+          | inr k ↦ subst (λ v. v < length corners) (sym (is ∙ k.1)) can.is_vertex
+        ]
+
+    rises : RisesBy ranks (near ++ x ∷ [])
+    rises a b s = elim (step_cases near x a b some s) [
+      | inl old ↦ pair.near_rises a b old
+      | inr k ↦ let later = can.later in omega (arith, ap (slice_index ranks) k.0, ap (slice_index ranks) k.1)
+    ]
+
+    abbrev new_edge : Edge
+    new_edge = edge (vertex corners (last near)) (vertex corners x)
+
+    -- the new edge is on the near side of the last one of the far chain, and after all others there
+    nearer_new : (c d : ℕ) → IsStep far c d → slice_index ranks (last near) < slice_index ranks d → slice_index ranks c < slice_index ranks x
+        → IsNearer side new_edge (edge (vertex corners c) (vertex corners d))
+    nearer_new c d s h k = elim (last_step far c d s) [
+      | inl is ↦
+          subst (λ p. IsNearer side new_edge (edge (vertex corners p) (vertex corners d))) is.0
+          (subst (λ q. IsNearer side new_edge (edge (vertex corners (before_last far)) (vertex corners q))) is.1
+          (can.nearer (subst (λ q. slice_index ranks (last near) < slice_index ranks q) (sym is.1) h)
+          (subst (λ p. slice_index ranks p < slice_index ranks x) (sym is.0) k)))
+      | inr earlier ↦ let (j, within, is) = earlier in absurd (omega (arith, h, can.past j within, ap (slice_index ranks) is))
+    ]
+
+    nearer : AreNearer corners ranks side (near ++ x ∷ []) far
+    nearer a b c d s t h k = elim (step_cases near x a b some s) [
+      | inl old ↦ pair.nearer a b c d old t h k
+      | inr is ↦
+          subst (λ p. IsNearer side (edge (vertex corners p) (vertex corners b)) (edge (vertex corners c) (vertex corners d))) is.0
+          (subst (λ q. IsNearer side (edge (vertex corners (last near)) (vertex corners q)) (edge (vertex corners c) (vertex corners d))) is.1
+          (nearer_new c d t (subst (λ p. slice_index ranks p < slice_index ranks d) (sym is.0) h)
+          (subst (λ q. slice_index ranks c < slice_index ranks q) (sym is.1) k)))
+    ]
+
+    apart : ShareEnds (near ++ x ∷ []) far
+    apart i j i_some i_within j_some j_within e = elim (item_cases near x i i_within) [
+      | inl old ↦
+          let same : get_or near i 0 ≡ get_or far j 0 = sym old.1 ∙ e in
+          let ends = pair.apart i j i_some old.0 j_some j_within same in
+          let is : i ≡ length near - 1 = let at = ends.0 in omega arith in
+          absurd (can.fresh j j_some j_within (ap (λ n. get_or near n 0) (sym is) ∙ same))
+      | inr k ↦ (omega (arith, k.0, length_grown near x), can.new j j_some j_within (sym k.1 ∙ e))
+    ]
+
+    pub grown : ArePair corners ranks side (near ++ x ∷ []) far
+    grown = record {
+      near_some = let two = pair.near_some in omega (arith, length_grown near x);
+      far_some = pair.far_some;
+      near_numbers = numbers;
+      far_numbers = pair.far_numbers;
+      first = old_item near x 0 some ∙ pair.first;
+      near_rises = rises;
+      far_rises = pair.far_rises;
+      nearer = nearer;
+      apart = apart;
+    }
 
 -- the inner chain ends at a vertex that is later than all of the outer one but its last, and short of the edge at the end of that
 pub record IsHalf (corners : List Point) (ranks : List ℕ) (k : ℕ) (side : Side) (inner outer : List ℕ) : Type 0 where

@@ -1,6 +1,6 @@
 use Rattle.std.proofs.Common.{◌≡◌, refl, sym, ap, subst, ◌∙◌, ℕ, List, [], ◌∷◌, ◌++◌, ◌<◌, length, get_or, take, drop, arith}
 use Rattle.std.specs.List.{All, AllPairs, filter}
-use Rattle.cut_tri.proofs.Parts.{are_parts, different, order_below, orders_are, place_high, place_low, refilled}
+use Rattle.cut_tri.proofs.Parts.{are_parts, different, order_below, orders_are, place_inner, refilled}
 use Rattle.cut_tri.specs.Ordered.{ArePlaces, is_in_first, is_in_second}
 use Rattle.cut_tri.proofs.cut.parts.Goals as goal
 
@@ -20,12 +20,10 @@ part_order-requires-clause-inner c =
     let corners = c.args.ring.now.corners in
     let xs = c.args.piece.boundary.items in
     let os = c.args.piece.order.items in
-    let low = place_low corners xs os c.requires.ordered.ordered.0 c.requires.ordered.ordered.1 c.requires.ordered.least c.args.number c.requires.farthest
-    c.note_places.new.places (subst (λ is. ArePlaces is c.note_places.new.places (length is)) c.make_contiguous.ensures.value c.note_places.ensures.places) (get_or c.note_places.new.places c.args.number 0) refl in
-    let high = place_high corners xs os c.requires.ordered.ordered.0 c.requires.ordered.ordered.1 c.requires.ordered.least c.args.number c.requires.farthest
+    let inner = place_inner corners xs os c.requires.ordered.ordered.0 c.requires.ordered.ordered.1 c.requires.ordered.least c.args.number c.requires.farthest
     c.note_places.new.places (subst (λ is. ArePlaces is c.note_places.new.places (length is)) c.make_contiguous.ensures.value c.note_places.ensures.places) (get_or c.note_places.new.places c.args.number 0) refl in
     let size = c.args.piece.boundary.ok.0 in
-    (omega (arith, low), omega (arith, high, size, c.len-count.ensures))
+    (omega (arith, inner.0), omega (arith, inner.1, size, c.len-count.ensures))
 
 pub returns-clause-parts : goal.returns-clause-parts
 returns-clause-parts c =

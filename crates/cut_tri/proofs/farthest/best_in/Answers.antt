@@ -1,4 +1,4 @@
-use Rattle.std.proofs.Common.{Option, ◌≡◌, inl, inr, sym, ap, subst, ◌∙◌, ℕ, ◌+◌, ◌-◌, ◌<◌, ◌≤ℤ◌, length, get_or, arith}
+use Rattle.std.proofs.Common.{Option, ◌≡◌, inl, inr, sym, ap, subst, ◌∙◌, ℕ, ◌+◌, ◌-◌, ◌*◌, ◌<◌, ◌≤◌, ◌≤ℤ◌, length, get_or, arith}
 use Rattle.std.proofs.lemmas.List.{get_or_default}
 use Rattle.std.proofs.lemmas.List.Elements.{Contains-get_or}
 use Rattle.std.specs.List.{Contains}
@@ -86,7 +86,25 @@ loop-rank-preserved g c =
       | else-rank-eq-NEAR-via-then-rank-eq-NEAR+else-is_none w ↦ subst made (sym w.clusters-is) c.loop-rank.invariant.clusters
       | else-rank-eq-NEAR-via-else-rank-eq-NEAR w ↦ subst made (sym w.clusters-is) c.loop-rank.invariant.clusters
     ] in
-    record { best = best; clusters = clusters }
+    let start : ℕ = 515 * (c.loop-rank.rank - 1) in
+    let all : ℕ = length c.args.ring.now.corners in
+    let so_far : (c.loop-rank.rank + 1 ≤ 32 → c.else-rank-eq-NEAR.steps ≤ c.args.steps.now + start)
+    × (c.else-rank-eq-NEAR.steps ≤ c.args.steps.now + (start + 371 * all + 1168)) = elim c.else-rank-eq-NEAR.branch [
+      | else-rank-eq-NEAR-via-then-rank-eq-NEAR+then-is_none+else-is_empty w ↦ (
+        λ below. absurd (omega (arith, below, w.if-rank-eq-NEAR.true)),
+        omega (arith, w.steps-is, w.is_empty.ensures.steps, c.loop-rank.invariant.few (omega (arith, w.if-rank-eq-NEAR.true))),
+      )
+      | else-rank-eq-NEAR-via-then-rank-eq-NEAR+else-is_none w ↦
+          (λ below. omega (arith, w.steps-is, c.loop-rank.invariant.few (omega (arith, below))), omega (arith, w.steps-is, c.loop-rank.invariant.steps))
+      | else-rank-eq-NEAR-via-else-rank-eq-NEAR w ↦
+          (λ below. omega (arith, w.steps-is, c.loop-rank.invariant.few (omega (arith, below))), omega (arith, w.steps-is, c.loop-rank.invariant.steps))
+    ] in
+    record {
+      best = best;
+      clusters = clusters;
+      few = λ below. omega (arith, so_far.0 below, some, c.is_nearer_from.ensures.steps, c.candidate.ensures.steps);
+      steps = omega (arith, so_far.1, some, c.is_nearer_from.ensures.steps, c.candidate.ensures.steps);
+    }
 
 pub returns-after-loop-rank-clause-best : goal.returns-after-loop-rank-clause-best
 returns-after-loop-rank-clause-best g c =
@@ -115,7 +133,7 @@ returns-then-is_nearer_from-clause-best g c =
     (λ i in_i. elim (rank_or_right corners xs os c.requires.ordered.ordered.1 c.requires.ordered.least n within i in_i) [
       | inl has ↦ inl has
       | inr right ↦ inr (nearer_at corners xs c.args.corner.now c.requires.corner i (best_height c.loop-rank.best)
-          (c.is_nearer_from.ensures c.if-is_nearer_from.true (vertex corners i)
+          (c.is_nearer_from.ensures.nearer c.if-is_nearer_from.true (vertex corners i)
           (subst (λ (p : Point). p.x ≤ℤ (vertex corners i).x) (sym (c.corner-p.ensures ∙ ap (vertex corners) is)) right)) in_i)
     ])
 
@@ -128,3 +146,42 @@ pub returns-then-is_empty-clause-best : goal.returns-then-is_empty-clause-best
 returns-then-is_empty-clause-best g c =
     none_is_best c.args.ring.now.corners c.args.piece.now.boundary.items c.args.corner.now c.requires.corner c.requires.ordered.ordered.0.numbers
     (λ i below other. c.is_empty.ensures.empty c.if-is_empty.true i below other)
+
+pub returns-then-is_empty-clause-steps : goal.returns-then-is_empty-clause-steps
+returns-then-is_empty-clause-steps g c =
+    let size = c.args.piece.now.order.ok.0 in
+    omega (
+      arith,
+      size,
+      c.len-rank-end.ensures,
+      c.loop-rank-test.true,
+      c.if-rank-eq-NEAR.true,
+      c.is_empty.ensures.steps,
+      c.loop-rank.invariant.few (omega (arith, c.if-rank-eq-NEAR.true)),
+    )
+
+pub returns-then-is_nearer_from-clause-steps : goal.returns-then-is_nearer_from-clause-steps
+returns-then-is_nearer_from-clause-steps g c =
+    let size = c.args.piece.now.order.ok.0 in
+    let start : ℕ = 515 * (c.loop-rank.rank - 1) in
+    let n : ℕ = length c.args.ring.now.corners in
+    let so_far : (c.loop-rank.rank + 1 ≤ 32 → c.else-rank-eq-NEAR.steps ≤ c.args.steps.now + start)
+    × (c.else-rank-eq-NEAR.steps ≤ c.args.steps.now + (start + 371 * n + 1168)) = elim c.else-rank-eq-NEAR.branch [
+      | else-rank-eq-NEAR-via-then-rank-eq-NEAR+then-is_none+else-is_empty w ↦ (
+        λ below. absurd (omega (arith, below, w.if-rank-eq-NEAR.true)),
+        omega (arith, w.steps-is, w.is_empty.ensures.steps, c.loop-rank.invariant.few (omega (arith, w.if-rank-eq-NEAR.true))),
+      )
+      | else-rank-eq-NEAR-via-then-rank-eq-NEAR+else-is_none w ↦
+          (λ below. omega (arith, w.steps-is, c.loop-rank.invariant.few (omega (arith, below))), omega (arith, w.steps-is, c.loop-rank.invariant.steps))
+      | else-rank-eq-NEAR-via-else-rank-eq-NEAR w ↦
+          (λ below. omega (arith, w.steps-is, c.loop-rank.invariant.few (omega (arith, below))), omega (arith, w.steps-is, c.loop-rank.invariant.steps))
+    ] in
+    omega (arith, so_far.1, size, c.len-rank-end.ensures, c.loop-rank-test.true, c.loop-rank.auto.rank, c.is_nearer_from.ensures.steps)
+
+pub returns-after-loop-rank-clause-steps : goal.returns-after-loop-rank-clause-steps
+returns-after-loop-rank-clause-steps g c =
+    let size = c.args.piece.now.order.ok.0 in
+    let some = c.requires.ordered.ordered.0.polygon.some in
+    let has = order_some c.args.ring.now.corners c.args.piece.now.boundary.items c.args.piece.now.order.items c.requires.ordered.ordered.1 (omega (arith, some)) in
+    let within = c.loop-rank.auto.rank-end (omega (arith, has, size, c.len-rank-end.ensures)) in
+    omega (arith, within, has, size, c.len-rank-end.ensures, c.loop-rank.invariant.steps)

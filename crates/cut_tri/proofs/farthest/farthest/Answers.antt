@@ -1,6 +1,7 @@
-use Rattle.std.proofs.Common.{rules}
+use Rattle.std.proofs.Common.{rules, arith}
 use Rattle.cut_tri.proofs.Candidates.{farthest_of_best, none_of_best}
 use Rattle.cut_tri.proofs.Ends.{piece_distinct}
+use Rattle.cut_tri.proofs.Looks.{order_few, order_some}
 use Rattle.cut_tri.proofs.farthest.farthest.Goals as goal
 
 pub returns-clause-farthest : goal.returns-clause-farthest
@@ -15,3 +16,23 @@ returns-in_err-best_in-clause-none g c =
     let none = none_of_best c.args.ring.now.corners c.args.piece.now.boundary.items piece.polygon.some (piece_distinct c.args.ring.now.corners c.args.piece.now.boundary.items piece)
     c.best_in.result c.best_in.ensures.best c.in_err-best_in.was in
     search (rules, none)
+
+pub returns-clause-steps : goal.returns-clause-steps
+returns-clause-steps g c =
+    let corners = c.args.ring.now.corners in
+    let xs = c.args.piece.now.boundary.items in
+    let os = c.args.piece.now.order.items in
+    let piece = c.requires.ordered.ordered.0 in
+    let few = order_few corners xs os c.requires.ordered.ordered.1 piece.numbers in
+    let some = order_some corners xs os c.requires.ordered.ordered.1 (let three = piece.polygon.some in omega (arith, three)) in
+    omega (arith, few, some, c.of-corner.ensures.steps, c.best_in.ensures.steps)
+
+pub returns-in_err-best_in-clause-steps : goal.returns-in_err-best_in-clause-steps
+returns-in_err-best_in-clause-steps g c =
+    let corners = c.args.ring.now.corners in
+    let xs = c.args.piece.now.boundary.items in
+    let os = c.args.piece.now.order.items in
+    let piece = c.requires.ordered.ordered.0 in
+    let few = order_few corners xs os c.requires.ordered.ordered.1 piece.numbers in
+    let some = order_some corners xs os c.requires.ordered.ordered.1 (let three = piece.polygon.some in omega (arith, three)) in
+    omega (arith, few, some, c.of-corner.ensures.steps, c.best_in.ensures.steps)

@@ -5,8 +5,8 @@ use Rattle.cut_tri.proofs.Heights.{same_share}
 use Rattle.cut_tri.proofs.TriangleBoxes.{right_of}
 use Rattle.cut_tri.proofs.triangle.is_right.Goals as goal
 
-pub returns : goal.returns
-returns g c less p is =
+pub returns-clause-right : goal.returns-clause-right
+returns-clause-right g c less p is =
     let a = c.args.a.now in
     let box = c.args.bounds.now in
     let x : ℤ = c.way-x.result.0 in

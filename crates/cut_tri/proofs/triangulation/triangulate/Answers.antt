@@ -1,7 +1,7 @@
-use Rattle.std.proofs.Common.{◌≡◌, sym, ap, ◌∙◌, [], ◌∷◌, ◌++◌, length, arith}
+use Rattle.std.proofs.Common.{◌≡◌, ◌+◌, ◌*◌, ◌≤◌, sym, ap, ◌∙◌, [], ◌∷◌, ◌++◌, length, arith}
 use Rattle.std.proofs.lemmas.List.Elements.{All-nil}
 use Rattle.cut_tri.proofs.WholePiece.{all_is_piece}
-use Rattle.cut_tri.proofs.WorkList.{at_end, at_start, last_is_piece, length_kept, one_step, orders_popped, orders_pushed}
+use Rattle.cut_tri.proofs.WorkList.{allowed_at_start, allowed_before, allowed_in_all, allowed_once, at_end, at_start, last_is_piece, length_kept, one_step, orders_popped, orders_pushed}
 use Rattle.cut_tri.specs.Ordered.{IsOrderOf}
 use Rattle.cut_tri.specs.declared.piece.Piece.{Piece}
 use Rattle.cut_tri.proofs.triangulation.triangulate.Goals as goal
@@ -19,6 +19,12 @@ loop-piece-init g c =
           (All-nil (λ (p : Piece). IsOrderOf corners p.boundary.items p.order.items)) c.in_ok-whole_piece.ensures.ordered.1;
       places = let size = c.in_ok-places.places.ok.0 in omega (arith, size, c.in_ok-places.ensures.len, c.len-2.ensures.number);
       clusters = tt;
+      steps = omega (
+        arith,
+        c.in_ok-whole_piece.ensures.steps,
+        allowed_at_start corners c.new-work.result.items c.push.new.self.items c.in_ok-whole_piece.field-0 c.new-work.ensures.items
+            c.in_ok-push.ensures.items c.in_ok-whole_piece.ensures.all (886 * length corners + 910),
+      );
     }
 
 pub cut-requires-clause-ordered : goal.cut-requires-clause-ordered
@@ -45,6 +51,13 @@ loop-piece-preserved g c =
       places = length_kept c.cut.new.places places c.loop-piece.places.len (c.cut.ensures.places ∙ ap length c.deref_mut.ensures.value) c.loop-piece.places.ok.0
           ∙ c.loop-piece.invariant.places;
       clusters = c.cut.ensures.clusters;
+      steps = omega (
+        arith,
+        c.loop-piece.invariant.steps,
+        allowed_before corners work rest c.in-Some.piece c.loop-piece.tris.items c.in-Some.ensures.items c.loop-piece.invariant.pieces c.in_ok-left.left _ _
+            c.in_ok-left.ensures.cut c.in_ok-take_over.ensures.taken (886 * length corners + 910) c.loop-piece.steps c.cut.new.steps c.cut.ensures.triangle
+            c.cut.ensures.steps,
+      );
     }
 
 pub build-requires-clause-few : goal.build-requires-clause-few
@@ -59,3 +72,42 @@ returns-clause-cut g c =
     let none : length c.loop-piece.work.items ≡ 0 = sym c.loop-piece.work.ok.0 ∙ c.in_default.ensures.cases.0 in
     let is_cut = (at_end c.args.ring.now.corners c.loop-piece.work.items c.loop-piece.tris.items none c.loop-piece.invariant.pieces.1).2 in
     grind (arith, is_cut, c.build.ensures)
+
+pub returns-in_err-whole_piece-clause-steps : goal.returns-in_err-whole_piece-clause-steps
+returns-in_err-whole_piece-clause-steps g c =
+    let some : 3 ≤ length c.args.ring.now.corners = omega (arith, c.len.ensures.size) in
+    omega (arith, allowed_in_all (length c.args.ring.now.corners) some, c.whole_piece.ensures.steps)
+
+pub returns-in_err-push-clause-steps : goal.returns-in_err-push-clause-steps
+returns-in_err-push-clause-steps g c =
+    let some : 3 ≤ length c.args.ring.now.corners = omega (arith, c.len.ensures.size) in
+    omega (arith, allowed_in_all (length c.args.ring.now.corners) some, c.whole_piece.ensures.steps)
+
+pub returns-in_err-left-clause-steps : goal.returns-in_err-left-clause-steps
+returns-in_err-left-clause-steps g c =
+    let corners = c.args.ring.now.corners in
+    let some : 3 ≤ length corners = omega (arith, c.len.ensures.size) in
+    omega (
+      arith,
+      allowed_in_all (length corners) some,
+      c.loop-piece.invariant.steps,
+      allowed_once corners c.loop-piece.work.items c.pop.new.self.items c.in-Some.piece c.loop-piece.tris.items c.in-Some.ensures.items
+          c.loop-piece.invariant.pieces (886 * length corners + 910) c.loop-piece.steps c.cut.new.steps c.cut.ensures.triangle c.cut.ensures.steps,
+    )
+
+pub returns-in_err-take_over-clause-steps : goal.returns-in_err-take_over-clause-steps
+returns-in_err-take_over-clause-steps g c =
+    let corners = c.args.ring.now.corners in
+    let some : 3 ≤ length corners = omega (arith, c.len.ensures.size) in
+    omega (
+      arith,
+      allowed_in_all (length corners) some,
+      c.loop-piece.invariant.steps,
+      allowed_once corners c.loop-piece.work.items c.pop.new.self.items c.in-Some.piece c.loop-piece.tris.items c.in-Some.ensures.items
+          c.loop-piece.invariant.pieces (886 * length corners + 910) c.loop-piece.steps c.cut.new.steps c.cut.ensures.triangle c.cut.ensures.steps,
+    )
+
+pub returns-clause-steps : goal.returns-clause-steps
+returns-clause-steps g c =
+    let some : 3 ≤ length c.args.ring.now.corners = omega (arith, c.len.ensures.size) in
+    omega (arith, allowed_in_all (length c.args.ring.now.corners) some, c.loop-piece.invariant.steps)

@@ -3,7 +3,10 @@ use Rattle.std.proofs.lemmas.Bool.{cases_lt}
 use Rattle.cut_tri.proofs.clusters.Cluster.joined.Goals as goal
 
 pub returns : goal.returns
-returns c corners numbers first second k low high = elim (cases_lt k c.args.self.now.end) [
-  | inl before ↦ c.joined.ensures.first _ (first k low before)
-  | inr behind ↦ c.joined.ensures.second _ (second k (omega (arith, behind, c.if-next-self.false)) high)
-]
+returns c corners numbers first second = record {
+  boxed = λ k low high. elim (cases_lt k c.args.self.now.end) [
+    | inl before ↦ c.joined.ensures.first _ (first.boxed k low before)
+    | inr behind ↦ c.joined.ensures.second _ (second.boxed k (omega (arith, behind, c.if-next-self.false)) high)
+  ];
+  within = second.within;
+}

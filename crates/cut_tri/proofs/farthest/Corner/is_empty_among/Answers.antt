@@ -2,18 +2,26 @@ use Rattle.std.proofs.Common.{◌≡◌, inl, inr, sym, ap, subst, ◌∙◌, �
 use Rattle.std.proofs.lemmas.Bool.{cases_lt}
 use Rattle.std.proofs.lemmas.List.{get_or_default}
 use Rattle.rings.specs.Ring.{vertex}
-use Rattle.cut_tri.proofs.ClusterPlaces.{all_below, has_place}
+use Rattle.cut_tri.proofs.ClusterPlaces.{all_below, all_there, has_place}
+use Rattle.cut_tri.proofs.ClusterSteps.{asked_all, asked_last, asked_one, asked_past}
 use Rattle.cut_tri.proofs.TriangleBoxes.{same_corners}
 use Rattle.cut_tri.specs.Corner.{IsCandidate}
 use Rattle.cut_tri.proofs.farthest.Corner.is_empty_among.Goals as goal
 
 pub loop-place-preserved-then-place-end : goal.loop-place-preserved-then-place-end
-loop-place-preserved-then-place-end g c k high other candidate = elim (cases_lt k c.loop-place.place) [
-  | inl before ↦ c.loop-place.invariant k before other candidate
-  | inr behind ↦
-      c.clear_to-end.ensures c.args.ring.now.corners c.requires.clusters k behind high
-      (same_corners c.of-triangle.ensures.u c.of-triangle.ensures.v c.of-triangle.ensures.w candidate.in_triangle)
-]
+loop-place-preserved-then-place-end g c =
+    let asked = c.clear_to-end.ensures in
+    record {
+      empty = λ k high other candidate. elim (cases_lt k c.loop-place.place) [
+        | inl before ↦ c.loop-place.invariant.empty k before other candidate
+        | inr behind ↦
+            asked.apart c.args.ring.now.corners c.requires.clusters k behind high
+            (same_corners c.of-triangle.ensures.u c.of-triangle.ensures.v c.of-triangle.ensures.w candidate.in_triangle)
+      ];
+      within = asked.within c.args.ring.now.corners c.requires.clusters c.loop-place.invariant.within;
+      steps = asked_past c.args.steps.now c.loop-place.steps c.clear_to-end.new.steps c.loop-place.place c.clear_to-end.result c.loop-place.invariant.steps
+          asked.between asked.steps c.if-place-end.true;
+    }
 
 pub has-requires-clause-number : goal.has-requires-clause-number
 has-requires-clause-number g c =
@@ -23,20 +31,42 @@ has-requires-clause-number g c =
     (all_below n numbers c.requires.clusters.all c.loop-place.place c.index.result.now (omega (arith, c.loop-place-test.true, c.len.ensures)))
 
 pub loop-place-preserved : goal.loop-place-preserved
-loop-place-preserved g c k high other candidate = elim (cases_lt k c.loop-place.place) [
-  | inl before ↦ c.loop-place.invariant k before other candidate
-  | inr behind ↦
-      let numbers = c.args.clusters.now.numbers.items in
-      let at : c.loop-place.place ≡ k = omega (arith, behind, high) in
-      let is : c.index.result.now ≡ get_or numbers k 0 =
-      c.index.ensures ∙ get_or_default numbers c.loop-place.place c.index.result.now 0 (omega (arith, c.loop-place-test.true, c.len.ensures))
-      ∙ ap (λ j. get_or numbers j 0) at in
-      c.has.ensures c.if-has.false (λ e. other (sym is ∙ e)) (subst (λ i. IsCandidate c.args.self.now i (vertex c.args.ring.now.corners i)) (sym is) candidate)
-]
+loop-place-preserved g c =
+    let asked = c.clear_to-end.ensures in
+    record {
+      empty = λ k high other candidate. elim (cases_lt k c.loop-place.place) [
+        | inl before ↦ c.loop-place.invariant.empty k before other candidate
+        | inr behind ↦
+            let numbers = c.args.clusters.now.numbers.items in
+            let at : c.loop-place.place ≡ k = omega (arith, behind, high) in
+            let is : c.index.result.now ≡ get_or numbers k 0 =
+            c.index.ensures ∙ get_or_default numbers c.loop-place.place c.index.result.now 0 (omega (arith, c.loop-place-test.true, c.len.ensures))
+            ∙ ap (λ j. get_or numbers j 0) at in
+            c.has.ensures.out c.if-has.false (λ e. other (sym is ∙ e))
+            (subst (λ i. IsCandidate c.args.self.now i (vertex c.args.ring.now.corners i)) (sym is) candidate)
+      ];
+      within = omega (arith, c.loop-place-test.true, c.len.ensures);
+      steps = asked_one c.args.steps.now c.loop-place.steps c.clear_to-end.new.steps c.loop-place.place c.clear_to-end.result c.loop-place.invariant.steps
+          asked.between asked.steps c.has.new.steps (omega (arith, c.if-place-end.false)) (c.has.ensures.few c.if-has.false);
+    }
 
-pub returns : goal.returns
-returns g c t i below other candidate =
+pub returns-then-has-clause-steps : goal.returns-then-has-clause-steps
+returns-then-has-clause-steps g c =
+    let asked = c.clear_to-end.ensures in
+    let all = all_there (length c.args.ring.now.corners) c.args.clusters.now.numbers.items c.requires.clusters.all in
+    asked_last c.args.steps.now c.loop-place.steps c.clear_to-end.new.steps c.loop-place.place c.clear_to-end.result c.loop-place.invariant.steps
+    asked.between asked.steps (length c.args.ring.now.corners) c.has.new.steps (omega (arith, all, c.loop-place-test.true, c.len.ensures))
+    (omega (arith, c.if-place-end.false)) c.has.ensures.steps
+
+pub returns-clause-empty : goal.returns-clause-empty
+returns-clause-empty g c t i below other candidate =
     let numbers = c.args.clusters.now.numbers.items in
     let (k, within, at) = has_place (length c.args.ring.now.corners) numbers c.requires.clusters.all i below in
-    c.loop-place.invariant k (omega (arith, within, c.loop-place-test.false, c.len.ensures)) (λ e. other (sym at ∙ e))
+    c.loop-place.invariant.empty k (omega (arith, within, c.loop-place-test.false, c.len.ensures)) (λ e. other (sym at ∙ e))
     (subst (λ j. IsCandidate c.args.self.now j (vertex c.args.ring.now.corners j)) (sym at) candidate)
+
+pub returns-clause-steps : goal.returns-clause-steps
+returns-clause-steps g c =
+    let all = all_there (length c.args.ring.now.corners) c.args.clusters.now.numbers.items c.requires.clusters.all in
+    asked_all c.args.steps.now c.loop-place.steps c.loop-place.place (length c.args.ring.now.corners) c.loop-place.invariant.steps
+    (omega (arith, all, c.loop-place.invariant.within))

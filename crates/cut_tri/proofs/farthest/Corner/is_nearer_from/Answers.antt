@@ -6,8 +6,8 @@ use Rattle.cut_tri.proofs.Heights.{nearer_from, same_share}
 use Rattle.cut_tri.specs.Corner.{best_height}
 use Rattle.cut_tri.proofs.farthest.Corner.is_nearer_from.Goals as goal
 
-pub returns : goal.returns
-returns g c less q right is =
+pub returns-clause-nearer : goal.returns-clause-nearer
+returns-clause-nearer g c less q right is =
     let corner = c.args.self.now in
     let rest : read c.way-rest.result.0 ≡ corner.end.x -ℤ c.args.p.now.x = to_z-of_z w64 _ (omega (arith, ints, c.way-rest.ensures.x_is_small)) ∙ c.way-rest.ensures.x in
     let all : read c.way-whole.result.0 ≡ corner.end.x -ℤ corner.v.x = to_z-of_z w64 _ (omega (arith, ints, c.way-whole.ensures.x_is_small)) ∙ c.way-whole.ensures.x in

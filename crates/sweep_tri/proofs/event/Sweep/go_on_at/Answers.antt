@@ -1,7 +1,6 @@
 use Rattle.std.proofs.Common.{ap, ◌∙◌, ◌<◌, length, set, arith}
 use Rattle.shared_seq.specs.Digits.{binary_digits}
-use Rattle.sweep_tri.proofs.Entries.{entries_with}
-use Rattle.sweep_tri.proofs.Work.{as_many, more_digits, put_entries, replaced_twice}
+use Rattle.sweep_tri.proofs.Work.{as_many, entries_with, more_digits, put_entries, replaced_twice}
 use Rattle.sweep_tri.specs.Entries.{entries, gap_entries}
 use Rattle.sweep_tri.specs.Gaps.{no_gap}
 use Rattle.sweep_tri.specs.Meeting.{gap_of, with_vertex}

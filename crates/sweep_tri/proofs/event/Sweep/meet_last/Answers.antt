@@ -1,8 +1,7 @@
 use Rattle.std.proofs.Common.{◌≡◌, ap, ◌+◌, ◌*◌, length, arith}
 use Rattle.std.proofs.lemmas.Result.{IfOk-weaker}
 use Rattle.shared_seq.specs.Digits.{binary_digits}
-use Rattle.sweep_tri.proofs.Entries.{entries_removed}
-use Rattle.sweep_tri.proofs.Work.{meets_paid, meets_work}
+use Rattle.sweep_tri.proofs.Work.{entries_removed, meets_paid, meets_work}
 use Rattle.sweep_tri.specs.Entries.{gap_entries, meet_last_work, status_entries}
 use Rattle.sweep_tri.specs.Gaps.{gap_at}
 use Rattle.sweep_tri.proofs.event.Sweep.meet_last.Goals as goal
