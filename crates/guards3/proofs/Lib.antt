@@ -2,6 +2,7 @@ mod ThreeClasses
 mod OneParting
 mod SomeParting
 mod GivenClasses
+mod Choice
 mod ClassMembers
 pub mod GivenNumbers
 mod Watched

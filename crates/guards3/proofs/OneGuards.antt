@@ -4,7 +4,7 @@ use Rattle.std.proofs.lemmas.Bool.{cases_eq}
 use Rattle.meshes.specs.Fits.{Fits}
 use Rattle.meshes.specs.declared.tri.Tri.{Tri}
 use Rattle.ring_check.specs.Oriented.{Oriented, given_index}
-use Rattle.guards3.proofs.Watched.{vertex_of_class}
+use Rattle.guards3.proofs.Choice.{vertex_of_class}
 use Rattle.guards3.proofs.ClassMembers.{class_at, same_members}
 use Rattle.guards3.proofs.GivenNumbers.{given_below}
 use Rattle.guards3.proofs.OneParting.{together}
