@@ -2,8 +2,7 @@
 use Rattle.std.proofs.Common.{◌≡◌, sym, ap, ◌∙◌, ℕ, ◌+◌, ◌-◌, min, List, [], ◌∷◌, ◌++◌, take, drop, arith}
 use Rattle.std.proofs.lemmas.List.{append_assoc, take-append-drop}
 use Rattle.exact_plane.specs.declared.turns.Spot.{Spot}
-use Rattle.funnel_walk.proofs.Closed.{names_on_way}
-use Rattle.funnel_walk.proofs.FirstNames.{right_in_front}
+use Rattle.funnel_walk.proofs.Closed.{names_on_way, right_in_front}
 use Rattle.funnel_walk.specs.Names.{left_names, right_names}
 
 -- the names on the way after those of the first list,

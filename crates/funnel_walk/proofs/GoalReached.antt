@@ -21,8 +21,8 @@ use Rattle.exact_plane.specs.Names.{AreNamed, name_at, named_points}
 use Rattle.exact_plane.specs.Spot.{point_named}
 use Rattle.funnel_walk.proofs.Closed.{named_at_goal, named_to_goal, names_on_way, starts_at_goal, starts_to_goal, taut_at_goal}
 use Rattle.funnel_walk.proofs.Closed.{taut_to_goal}
-use Rattle.funnel_walk.proofs.NamedLists.{length_named, point_of_name}
-use Rattle.funnel_walk.proofs.NextDiagonals.{enters, shared}
+use Rattle.funnel_walk.proofs.PathNames.{length_named, point_of_name}
+use Rattle.funnel_walk.proofs.Opened.{enters, shared}
 use Rattle.funnel_walk.specs.Walked.{AppendsTaut, IsWalked}
 
 module _ (corners : List Point) (tris : List Tri) (fits : Fits corners tris) (sleeve : Sleeve) (of_mesh : IsOneOf tris sleeve)

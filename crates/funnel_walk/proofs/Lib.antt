@@ -1,16 +1,12 @@
 mod Appended
 mod Closed
-mod Crossed
 mod CrossedSides
 mod FirstNamed
-mod FirstNames
 mod GoalReached
 mod KeptNames
-mod NamedLists
+mod PathNames
 mod NarrowedLeft
 mod NarrowedRight
-mod NextDiagonals
 mod Opened
-mod PathNames
 mod ShortWalks
 mod SideCorners

@@ -7,7 +7,7 @@ use Rattle.funnels.proofs.Funnels.{passed_same}
 use Rattle.funnels.specs.Funnel.{IsPassed, IsReachedFrom}
 use Rattle.exact_plane.specs.declared.turns.Spot.{Spot}
 use Rattle.exact_plane.specs.Names.{name_at, named_points}
-use Rattle.funnel_walk.proofs.NamedLists.{length_named, name_behind, point_of_name, right_more}
+use Rattle.funnel_walk.proofs.PathNames.{length_named, name_behind, point_of_name, right_more}
 use Rattle.funnel_walk.specs.Names.{right_names}
 
 -- names of a funnel are left from a place on, with the apex at place `now`, and the names behind are after the given ones

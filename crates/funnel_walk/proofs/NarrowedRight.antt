@@ -7,7 +7,7 @@ use Rattle.funnels.proofs.Funnels.{passed_same}
 use Rattle.funnels.specs.Funnel.{IsPassed, IsReachedFrom}
 use Rattle.exact_plane.specs.declared.turns.Spot.{Spot}
 use Rattle.exact_plane.specs.Names.{name_at, named_points}
-use Rattle.funnel_walk.proofs.NamedLists.{left_more, length_named, name_in_front, point_of_name}
+use Rattle.funnel_walk.proofs.PathNames.{left_more, length_named, name_in_front, point_of_name}
 use Rattle.funnel_walk.specs.Names.{left_names}
 
 -- names of a funnel are left up to a last place, with the apex at place `now`, and the names behind are after the given ones

@@ -1,25 +1,107 @@
+-- Two diagonals of a sleeve that follow each other, in the triangle between them; and each diagonal is shared by two triangles.
 -- The names of the first funnel: of the start between the ends of the first diagonal, or at one of them.
-use Rattle.std.proofs.Common.{◌≡◌, ◌≢◌, refl, sym, subst, ◌∙◌, ℕ, ◌<◌, List, [], ◌∷◌, length, get_or}
+use Rattle.std.proofs.Common.{◌≡◌, ◌≢◌, ◌⊎◌, sym, ◌∙◌, subst, ℕ, ◌+◌, ◌-◌, ◌<◌, inl, inr, List, length, get_or, arith, refl, [], ◌∷◌}
 use Rattle.std.proofs.lemmas.List.Elements.{All-nil}
 use Rattle.plane.specs.Point.{Point, whole}
+use Rattle.plane.specs.Turn.{IsLeft}
 use Rattle.rings.proofs.Vertices.{vertex_in_range}
-use Rattle.rings.specs.Ring.{origin, vertex}
-use Rattle.meshes.proofs.TreeLeaves.{next_corner}
+use Rattle.rings.specs.Ring.{vertex, origin}
+use Rattle.meshes.proofs.Sides.{fitting_sides}
+use Rattle.meshes.proofs.TreeLeaves.{next_corner, side_is_one}
 use Rattle.meshes.specs.Fits.{Fits, IsInTri}
-use Rattle.meshes.specs.Side.{HasSide, tri_at}
+use Rattle.meshes.specs.Side.{HasSidesOnce, HasSide, tri_at}
 use Rattle.meshes.specs.Sleeve.{IsOneOf, Sleeve, diagonal_at}
 use Rattle.meshes.specs.declared.tri.Tri.{Tri}
 use Rattle.funnels.proofs.Chains.{start_at_left, start_at_right, start_between}
+use Rattle.funnels.proofs.DeadEnds.{crossed_shared}
 use Rattle.funnels.proofs.Vertices.{IsSharedSide}
 use Rattle.funnels.specs.OpenFunnel.{IsOpenFunnel}
-use Rattle.exact_plane.specs.declared.turns.Spot.{Spot}
-use Rattle.exact_plane.specs.declared.turns.Spot.TheVariants.{Corner, Start}
 use Rattle.exact_plane.specs.Names.{AreNamed, name_at, named_points}
 use Rattle.exact_plane.specs.Spot.{IsNamed, point_named}
-use Rattle.funnel_walk.proofs.FirstNames.{more_named, one_named}
-use Rattle.funnel_walk.proofs.NextDiagonals.{leaves, shared}
+use Rattle.exact_plane.specs.declared.turns.Spot.{Spot}
+use Rattle.exact_plane.specs.declared.turns.Spot.TheVariants.{Corner, Start}
+use Rattle.funnel_walk.proofs.Closed.{more_named, one_named}
 use Rattle.funnel_walk.proofs.SideCorners.{diagonal_below}
 use Rattle.funnel_walk.specs.Walked.{IsWalked}
+
+-- a triangle that is entered over the side from l to r is left over the side from p to q: its left end stays or its right end does
+abbrev pub IsNextSide : Tri → ℕ → ℕ → ℕ → ℕ → Type 0
+IsNextSide t l r q p = ((q ≡ l) × HasSide t r p × HasSide t p l) ⊎ ((q ≢ l) × (p ≡ r) × HasSide t r q × HasSide t q l)
+
+-- another side of a triangle than the one that was entered by is a next one
+next_side : (corners : List Point) (t : Tri) → IsLeft (whole (vertex corners t.a)) (whole (vertex corners t.b)) (whole (vertex corners t.c))
+    → (l r : ℕ) → ((i j : ℕ) → HasSide t i j → ¬ HasSide t j i) → HasSide t l r → (p q : ℕ) → HasSide t p q → ¬ ((p ≡ l) × (q ≡ r))
+    → IsNextSide t l r q p
+next_side corners t left l r one_way has p q other not_same =
+    let (m, second, third) = next_corner t l r has in
+    elim (side_is_one corners t left l r m has second p q other) [
+      | inl same ↦ absurd (not_same same)
+      | inr (inl on_right) ↦
+          let same_q : m ≡ q = sym on_right.1 in
+          inr (
+            λ q_is_l. one_way l r has (subst (λ n. HasSide t r n) (same_q ∙ q_is_l) second),
+            on_right.0,
+            subst (λ n. HasSide t r n) same_q second,
+            subst (λ n. HasSide t n l) same_q third,
+          )
+      | inr (inr on_left) ↦
+          let same_p : m ≡ p = sym on_left.0 in
+          inl (on_left.1, subst (λ n. HasSide t r n) same_p second, subst (λ n. HasSide t n l) same_p third)
+    ]
+
+module _ (corners : List Point) (tris : List Tri) (fits : Fits corners tris) (sleeve : Sleeve) (of_mesh : IsOneOf tris sleeve) where
+  -- the triangle before diagonal i
+  abbrev pub triangle_before : ℕ → Tri
+  triangle_before i = tri_at tris (get_or sleeve.walk i 0)
+
+  -- each side belongs to one triangle,
+  sides : HasSidesOnce tris
+  sides = fitting_sides corners tris fits
+
+  -- the triangles of the walk are in the list,
+  in_list : (i : ℕ) → i < length sleeve.diagonals + 1 → get_or sleeve.walk i 0 < length tris
+  in_list i below = of_mesh.walk.in_list i (omega (arith, of_mesh.count))
+
+  -- and no two of them are one
+  once : (i j : ℕ) → i < j → j < length sleeve.diagonals + 1 → ¬ (get_or sleeve.walk i 0 ≡ get_or sleeve.walk j 0)
+  once i j before below = of_mesh.walk.once i j before (omega (arith, of_mesh.count))
+
+  module _ (i : ℕ) (below : i < length sleeve.diagonals) where
+    -- the triangle after a diagonal is entered by it,
+    pub enters : HasSide (triangle_before (i + 1)) (diagonal_at sleeve i).left (diagonal_at sleeve i).right
+    enters = (of_mesh.diagonals i below).of_second
+
+    -- the one before is left by it,
+    pub leaves : HasSide (triangle_before i) (diagonal_at sleeve i).right (diagonal_at sleeve i).left
+    leaves = (of_mesh.diagonals i below).of_first
+
+    -- and these two triangles share it
+    pub shared : IsSharedSide tris (diagonal_at sleeve i).left (diagonal_at sleeve i).right
+    shared =
+        crossed_shared corners tris fits sleeve.walk of_mesh.walk i (diagonal_at sleeve i).left (diagonal_at sleeve i).right
+        (record { has_next = omega (arith, of_mesh.count); of_this = inr leaves; of_next = inl enters })
+
+  -- the triangle between two diagonals keeps the left end or the right one
+  pub next_diagonal : (i : ℕ) → 0 < i → i < length sleeve.diagonals
+      → HasSide (triangle_before i) (diagonal_at sleeve (i - 1)).left (diagonal_at sleeve (i - 1)).right
+      × IsNextSide (triangle_before i) (diagonal_at sleeve (i - 1)).left (diagonal_at sleeve (i - 1)).right
+      (diagonal_at sleeve i).left (diagonal_at sleeve i).right
+  next_diagonal i inner below =
+      let l = (diagonal_at sleeve (i - 1)).left in
+      let r = (diagonal_at sleeve (i - 1)).right in
+      let p = (diagonal_at sleeve i).right in
+      let q = (diagonal_at sleeve i).left in
+      let step : i - 1 + 1 ≡ i = omega arith in
+      let has : HasSide (triangle_before i) l r = subst (λ n. HasSide (triangle_before n) l r) step (enters (i - 1) (omega arith)) in
+      let first : HasSide (triangle_before (i - 1)) r l = leaves (i - 1) (omega arith) in
+      let last : HasSide (triangle_before (i + 1)) q p = enters i below in (
+        has,
+        next_side corners (triangle_before i) (fits.triangles _ (in_list i (omega arith))).counterclockwise l r
+            (λ a b. sides.one_way a b _ (in_list i (omega arith))) has p q (leaves i below)
+            (λ same. once (i - 1) (i + 1) (omega arith) (omega arith)
+            (sides.once r l _ _ (in_list (i - 1) (omega arith)) (in_list (i + 1) (omega arith)) first
+            (subst (λ n. HasSide (triangle_before (i + 1)) n l) same.1 (subst (λ n. HasSide (triangle_before (i + 1)) q n) same.0 last)))),
+      )
 
 module _ (corners : List Point) (tris : List Tri) (fits : Fits corners tris) (sleeve : Sleeve) (of_mesh : IsOneOf tris sleeve)
     (some : 0 < length sleeve.diagonals) (start goal : Point)

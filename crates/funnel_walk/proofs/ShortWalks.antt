@@ -12,7 +12,7 @@ use Rattle.funnels.proofs.Bends.{chain_more}
 use Rattle.funnels.proofs.Chains.{bent_from_apex}
 use Rattle.exact_plane.specs.declared.turns.Spot.{Spot}
 use Rattle.exact_plane.specs.declared.turns.Spot.TheVariants.{Goal, Start}
-use Rattle.funnel_walk.proofs.FirstNames.{more_named, one_named}
+use Rattle.funnel_walk.proofs.Closed.{more_named, one_named}
 use Rattle.funnel_walk.specs.Walked.{AppendsTaut}
 
 module _ (corners : List Point) (tris : List Tri) (fits : Fits corners tris) (k : ℕ) (within : k < length tris)

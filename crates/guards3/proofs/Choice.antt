@@ -9,7 +9,7 @@ use Rattle.meshes.specs.Side.{tri_at}
 use Rattle.meshes.specs.declared.tri.Tri.{Tri}
 use Rattle.ring_check.specs.Oriented.{Oriented, given_index}
 use Rattle.guards3.proofs.ClassMembers.{class_at, class_of_member, count_all, member_of}
-use Rattle.guards3.proofs.CornerClasses.{corners_below}
+use Rattle.guards3.proofs.GivenClasses.{corners_below}
 use Rattle.guards3.proofs.GivenNumbers.{given_below, given_twice}
 use Rattle.guards3.proofs.OneParting.{parts_of_list, some_triangle}
 use Rattle.guards3.proofs.ThreeClasses.{one_of_three}

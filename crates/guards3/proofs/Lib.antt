@@ -1,10 +1,9 @@
 mod ThreeClasses
 mod OneParting
 mod SomeParting
-mod CornerClasses
 mod GivenClasses
+mod Choice
 mod ClassMembers
 pub mod GivenNumbers
-mod Choice
 mod Watched
 pub mod OneGuards

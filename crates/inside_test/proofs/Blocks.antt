@@ -31,10 +31,6 @@ use Rattle.inside_test.specs.Odd.{IsOddOver, OddSoFar}
 abbrev pub is_between_ends : Bool → Bool → Bool
 is_between_ends first last = not (beq first last)
 
--- a number that is at most another
-at_most : (x y : ℤ) → x <ℤ y → (y <ℤ x → ⊥)
-at_most x y h k = omega (arith, ints)
-
 -- where an edge rises past a height, its ends are on both sides of it,
 ends_of_rise : (low high y : ℤ) → (le_z low y && lt_z y high) ≡ true → is_between_ends (lt_z y low) (lt_z y high) ≡ true
 ends_of_rise low high y h = grind (arith, ints)

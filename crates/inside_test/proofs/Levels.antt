@@ -101,6 +101,3 @@ across_of_same v p s = omega (arith, ints, s.same_x)
 
 pub height_of_same : (v : Point) (p : Triple) → IsSame (whole v) p → v.y *ℤ p.W ≡ p.Y
 height_of_same v p s = omega (arith, ints, s.same_y)
-
--- as rules
-pub ruleset same_point = (same_from, across_of_same, height_of_same)

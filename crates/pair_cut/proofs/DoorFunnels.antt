@@ -22,8 +22,7 @@ use Rattle.shared_funnel.proofs.Entrances.{beyond_at, earlier, ends_at, toward_b
 use Rattle.shared_funnel.proofs.FirstFunnels.{first_at_left, first_at_right, first_between}
 use Rattle.shared_funnel.proofs.NextFunnels.{few_points, funnel_from_home, funnel_on_left, funnel_on_right}
 use Rattle.shared_funnel.proofs.Numbers.{corner_point, point_there, source_point}
-use Rattle.shared_funnel.proofs.StepLeft.{funnel_to_left}
-use Rattle.shared_funnel.proofs.StepRight.{funnel_to_right}
+use Rattle.shared_funnel.proofs.Steps.{funnel_to_left, funnel_to_right}
 use Rattle.shared_funnel.proofs.TriCorners.{corner_below, side_corners}
 use Rattle.shared_funnel.specs.Entered.{IsFromStart, IsFunnelTo, at_place, left_of, right_of, third_of, toward}
 use Rattle.shared_funnel.specs.Listed.{Listed, point_of, listed_points}

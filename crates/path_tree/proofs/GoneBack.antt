@@ -20,8 +20,7 @@ use Rattle.exact_plane.specs.declared.turns.Spot.TheVariants.{Corner, Goal, Star
 use Rattle.exact_plane.specs.Names.{AppendsNames, named_points}
 use Rattle.exact_plane.specs.Spot.{IsNamed, point_named}
 use Rattle.tri_mesh.proofs.Numbers.{few_numbers}
-use Rattle.path_tree.proofs.GrownPaths.{path_kept, start_inside}
-use Rattle.path_tree.proofs.KeptNames.{kept_of_names}
+use Rattle.path_tree.proofs.GrownPaths.{kept_of_names, path_kept, start_inside}
 use Rattle.path_tree.specs.Grown.{IsFromNamed, IsGrownTree, IsGrownFrom, IsKept, NamedTree, kept_point}
 
 -- what holds of every path of the tree

@@ -2,8 +2,5 @@ pub mod EnteredFunnels
 pub mod GoneBack
 pub mod GrownOver
 pub mod GrownPaths
-pub mod KeptNames
-pub mod NamedPoints
-pub mod Parents
 pub mod TreeFunnels
 pub mod TreeSteps

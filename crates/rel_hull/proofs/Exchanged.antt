@@ -1,13 +1,102 @@
+-- Two lists turn against each other in one way.
 -- Two lists in the other order turn against each other the other way.
-use Rattle.std.proofs.Common.{◌≡◌, ◌≢◌, zero, suc, ℤ, pos, negsuc, neg_ℤ, refl, sym, ap, ◌∙◌, List, [], ◌∷◌}
-use Rattle.exact_plane.specs.Direction.{direction_of, opposite, turn_of}
-use Rattle.exact_plane.specs.declared.direction.Direction.{Direction}
-use Rattle.exact_plane.specs.declared.direction.Direction.TheVariants.{Left, Right, Straight}
-use Rattle.plane.proofs.Segments.{on_reversed}
-use Rattle.plane.proofs.Turns.{determinant_swap_last}
+use Rattle.std.proofs.Common.{◌≡◌, ◌≢◌, ◌↔◌, List, [], ◌∷◌, ◌++◌, refl, subst, sym, ◌∙◌, zero, suc, ℤ, pos, negsuc, neg_ℤ, ap}
+use Rattle.plane.proofs.Points.{same_whole, whole_is_point}
+use Rattle.plane.proofs.Segments.{on_antisym, on_is_straight, on_reversed}
+use Rattle.plane.proofs.Turns.{straight_shift_back, straight_swap_last, determinant_swap_last}
 use Rattle.plane.specs.Point.{Point, whole}
-use Rattle.rel_hull.proofs.OneTurn.{one_path_turn}
+use Rattle.plane.specs.Segment.{On}
+use Rattle.exact_plane.proofs.Directions.{straight_of_zero}
+use Rattle.exact_plane.specs.Direction.{turn_of, direction_of, opposite}
+use Rattle.exact_plane.specs.declared.direction.Direction.{Direction}
+use Rattle.exact_plane.specs.declared.direction.Direction.TheVariants.{Straight, Left, Right}
 use Rattle.rel_hull.specs.PathTurn.{IsPathTurn, IsTurnApart, IsTurnAt, apart, first_nearer, opposed, second_nearer, turn_on}
+
+-- ---- the turn of two ways over different points
+
+module _ (v p q : Point) where
+  -- a point on the segment between the two others is on one line with them: the first,
+  straight_over_first : On (whole v) (whole p) (whole q) → turn_of (whole v) (whole p) (whole q) ≡ Straight
+  straight_over_first on =
+      straight_of_zero _ (straight_shift_back (whole p) (whole q) (whole v)
+      (on_is_straight (whole v) (whole p) (whole q) (whole_is_point v) (whole_is_point p) (whole_is_point q) on))
+
+  -- the second,
+  straight_over_second : On (whole p) (whole v) (whole q) → turn_of (whole v) (whole p) (whole q) ≡ Straight
+  straight_over_second on =
+      straight_of_zero _ (straight_swap_last (whole v) (whole q) (whole p)
+      (on_is_straight (whole p) (whole v) (whole q) (whole_is_point p) (whole_is_point v) (whole_is_point q) on))
+
+  -- or the third
+  straight_over_third : On (whole q) (whole v) (whole p) → turn_of (whole v) (whole p) (whole q) ≡ Straight
+  straight_over_third on =
+      straight_of_zero _ (on_is_straight (whole q) (whole v) (whole p) (whole_is_point q) (whole_is_point v) (whole_is_point p) on)
+
+module _ (v p q : Point) (first second : List Point) (d e : Direction) (different : p ≢ q) where
+  -- not each of two points is nearer than the other
+  one_is_nearer : On (whole p) (whole v) (whole q) → On (whole q) (whole v) (whole p) → ⊥
+  one_is_nearer one other =
+      different (same_whole p q
+      (on_antisym (whole p) (whole q) (whole v) (whole_is_point p) (whole_is_point q) (whole_is_point v) one other))
+
+  -- so there is one turn
+  one_turn_apart : IsTurnApart v p first q second d → IsTurnApart v p first q second e → e ≡ d
+  one_turn_apart (apart is turns) (apart also turned) = sym also ∙ is
+  one_turn_apart (apart is turns) (opposed again also) = absurd (turns (sym is ∙ straight_over_first v p q again))
+  one_turn_apart (apart is turns) (first_nearer none again also) = absurd (turns (sym is ∙ straight_over_second v p q again))
+  one_turn_apart (apart is turns) (second_nearer none again also) = absurd (turns (sym is ∙ straight_over_third v p q again))
+  one_turn_apart (opposed on is) (apart also turned) = absurd (turned (sym also ∙ straight_over_first v p q on))
+  one_turn_apart (opposed on is) (opposed again also) = also ∙ sym is
+  one_turn_apart (opposed on is) (first_nearer none again also) = absurd (none on)
+  one_turn_apart (opposed on is) (second_nearer none again also) = absurd (none on)
+  one_turn_apart (first_nearer not on is) (apart also turned) = absurd (turned (sym also ∙ straight_over_second v p q on))
+  one_turn_apart (first_nearer not on is) (opposed again also) = absurd (not again)
+  one_turn_apart (first_nearer not on is) (first_nearer none again also) = also ∙ sym is
+  one_turn_apart (first_nearer not on is) (second_nearer none again also) = absurd (one_is_nearer on again)
+  one_turn_apart (second_nearer not on is) (apart also turned) = absurd (turned (sym also ∙ straight_over_third v p q on))
+  one_turn_apart (second_nearer not on is) (opposed again also) = absurd (not again)
+  one_turn_apart (second_nearer not on is) (first_nearer none again also) = absurd (one_is_nearer again on)
+  one_turn_apart (second_nearer not on is) (second_nearer none again also) = also ∙ sym is
+
+-- also where a way ends
+one_turn_at : (v : Point) (first second : List Point) (d e : Direction) → IsTurnAt v first second d → IsTurnAt v first second e → e ≡ d
+one_turn_at v [] second d e is other = other ∙ sym is
+one_turn_at v (p ∷ first) [] d e is other = other ∙ sym is
+one_turn_at v (p ∷ first) (q ∷ second) d e is other = one_turn_apart v p q first second d e is.0 is.1 other.1
+
+-- ---- the place where two lists part
+
+-- two ways do not part where they have points in common
+not_parted : (v w : Point) (front first second a b : List Point) (d : Direction) → a ≡ front ++ w ∷ first → b ≡ front ++ w ∷ second
+    → ¬ IsTurnAt v a b d
+not_parted v w [] first second a b d is_first is_second turned = (rw (is_first, is_second) at turned).0 refl
+not_parted v w (x ∷ front) first second a b d is_first is_second turned = (rw (is_first, is_second) at turned).0 refl
+
+-- so there is one front that two lists have in common up to where they part, and one turn
+one_parting : (front other : List Point) (v w : Point) (a b c d : List Point) (turn again : Direction) → front ++ v ∷ a ≡ other ++ w ∷ c
+    → front ++ v ∷ b ≡ other ++ w ∷ d → IsTurnAt v a b turn → IsTurnAt w c d again → again ≡ turn
+one_parting [] [] v w a b c d turn again is_first is_second at_v at_w =
+    let last : v ≡ w = cc in
+    let first : a ≡ c = cc in
+    let second : b ≡ d = cc in
+    one_turn_at w c d turn again (rw (last, first, second) at at_v) at_w
+one_parting [] (y ∷ other) v w a b c d turn again is_first is_second at_v at_w =
+    absurd (not_parted v w other c d a b turn (cc) (cc) at_v)
+one_parting (x ∷ front) [] v w a b c d turn again is_first is_second at_v at_w =
+    absurd (not_parted w v front a b c d again (cc) (cc) at_w)
+one_parting (x ∷ front) (y ∷ other) v w a b c d turn again is_first is_second at_v at_w =
+    one_parting front other v w a b c d turn again (cc) (cc) at_v at_w
+
+-- two lists turn against each other in one way
+pub one_path_turn : (first second : List Point) (d e : Direction) → IsPathTurn first second d → IsPathTurn first second e → d ≡ e
+one_path_turn first second d e is other =
+    one_parting other.front is.front other.last is.last other.first_rest other.second_rest is.first_rest is.second_rest e d
+    (sym other.is_first ∙ is.is_first) (sym other.is_second ∙ is.is_second) other.turned is.turned
+
+-- so the turn that was found is a given one exactly where the lists turn in this way
+pub turns_exactly : (first second : List Point) (d e : Direction) → IsPathTurn first second d → (d ≡ e) ↔ IsPathTurn first second e
+turns_exactly first second d e is =
+    (λ same. subst (λ (turn : Direction). IsPathTurn first second turn) same is, λ other. one_path_turn first second d e is other)
 
 -- the opposite of the opposite is the same
 opposite_twice : (d : Direction) → opposite (opposite d) ≡ d

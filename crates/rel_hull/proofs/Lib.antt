@@ -1,6 +1,5 @@
 pub mod Closing
 mod Exchanged
-mod OneTurn
 mod OnLine
 mod OnSteps
 pub mod Outer
@@ -8,7 +7,6 @@ mod Paths
 mod PathTurns
 mod SideEnds
 mod SideLists
-mod TableInner
-mod TableReads
 mod TableSides
+mod TableReads
 pub mod Turned

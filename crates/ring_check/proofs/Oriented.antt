@@ -2,11 +2,9 @@
 use Rattle.std.proofs.Common.{◌≡◌, ◌∙◌, sym, ap, refl, subst, ℕ, ◌-◌, ◌<◌, ◌%◌, ◌≤◌, ◌↔◌, ◌⊎◌, inl, inr, Bool, true, false, List, length, arith}
 use Rattle.std.proofs.lemmas.Int.{ints}
 use Rattle.std.specs.Prelude.{if◌then◌else◌}
-use Rattle.plane.specs.Point.{Point, Triple}
-use Rattle.rings.proofs.Inside.{in_turned_iff}
+use Rattle.plane.specs.Point.{Point}
 use Rattle.rings.proofs.Turned.{length-turned_round, turned_round-turned_round, vertex-turned_round, doubled_area-turned_round, simple_turned}
 use Rattle.rings.proofs.Vertices.{vertex_mod}
-use Rattle.rings.specs.Inside.{IsIn}
 use Rattle.rings.specs.Orientation.{IsClockwise, IsCounterclockwise, is_clockwise, turned_round}
 use Rattle.rings.specs.Ring.{vertex}
 use Rattle.rings.specs.Simple.{IsSimple}
@@ -44,10 +42,6 @@ module _ (points : List Point) where
   -- it is counterclockwise
   pub counterclockwise_oriented : 3 ≤ length points → IsSimple points → IsCounterclockwise (oriented points).corners
   counterclockwise_oriented long simple = counterclockwise_kept points (is_clockwise points) (two_ways points long simple) refl
-
-  -- the same points are in it
-  pub in_oriented : (p : Triple) → IsIn (oriented points).corners p ↔ IsIn points p
-  in_oriented p = holds_of_kept (λ ring. IsIn ring p ↔ IsIn points p) (in_turned_iff p points) (λ h. h, λ h. h)
 
   -- and the list can be had back
   pub given_of-oriented : given_of (oriented points) ≡ points

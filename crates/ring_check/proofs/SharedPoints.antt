@@ -1,5 +1,5 @@
 -- When two edges share a point other than the vertex where they follow one another, and when they are the least to clash.
-use Rattle.std.proofs.Common.{◌≡◌, ◌≢◌, inl, inr, ℕ, ◌+◌, ◌<◌, ◌≤◌, ◌↔◌, Bool, true, false, IsTrue, List, length, refl, subst, sym, arith}
+use Rattle.std.proofs.Common.{◌≡◌, inl, inr, ℕ, ◌+◌, ◌<◌, ◌≤◌, ◌↔◌, Bool, true, false, IsTrue, List, length, refl, subst, sym, arith}
 use Rattle.std.specs.Prelude.{not}
 use Rattle.plane.specs.Point.{Point, whole}
 use Rattle.plane.specs.Segment.{Meet, MeetElsewhere, MeetOnlyAt, On}
@@ -41,18 +41,6 @@ module _ (ring : List Point) (three : 3 ≤ length ring) where
   apart_round j last only shared =
       let on_last = subst (λ (v : Point). On shared.point (whole (vertex ring j)) (whole v)) (vertex_after_last j last) shared.on_second in
       shared.not_round (omega arith) last (only shared.point shared.rational on_last shared.on_first)
-
--- edges that are no neighbours
-pub shared_apart : (ring : List Point) (i j : ℕ) → j ≢ i + 1 → ¬ ((i ≡ 0) × (j + 1 ≡ length ring))
-    → Meet (whole (vertex ring i)) (whole (vertex ring (i + 1))) (whole (vertex ring j)) (whole (vertex ring (j + 1))) → SharesPoint ring i j
-shared_apart ring i j not_after not_round meet = record {
-  point = meet.point;
-  rational = meet.rational;
-  on_first = meet.on_first;
-  on_second = meet.on_second;
-  not_between = λ next _. not_after next;
-  not_round = λ first last _. not_round (first, last);
-}
 
 pub meet_of_shared : (ring : List Point) (i j : ℕ) → SharesPoint ring i j
     → Meet (whole (vertex ring i)) (whole (vertex ring (i + 1))) (whole (vertex ring j)) (whole (vertex ring (j + 1)))

@@ -8,6 +8,5 @@ pub mod Numbers
 pub mod ReachedBefore
 pub mod SourceNumber
 pub mod StepCounts
-pub mod StepLeft
-pub mod StepRight
+pub mod Steps
 pub mod TriCorners

@@ -53,12 +53,3 @@ module _ (corners : List Point) (start : Point) where
   -- and so is the place of an apex
   pub apex_in_list : (i j d : ℕ) (f : Listed) → IsFunnelAt corners start i j d f → f.apex < length f.list
   apex_in_list i j d f w = omega (arith, w.funnel.funnel.apex_within, length-map f.list (point_of corners start))
-
--- so for all corners the name of the number at a place stands for the point there
-pub named_there : (n : ℕ) (list : List ℕ) (h i : ℕ) (s : Spot) → AreNumbers n list → h < length list → i ≡ slice_index list h
-    → (i ≢ n → s ≡ Corner i) → (i ≡ n → s ≡ Start) → (corners : List Point) (start goal : Point) → n ≡ length corners
-    → IsNamed corners s × (point_named corners start goal s ≡ point_at (listed_points corners start list) h)
-named_there n list h i s numbers below is corner source corners start goal count =
-    let le : i ≤ n = subst (λ k. k ≤ n) (sym is) (numbers h 0 below) in
-    let here = named corners start goal n i s count le corner source in
-    (here.0, here.1 ∙ ap (point_of corners start) is ∙ sym (point_there corners start list h below))

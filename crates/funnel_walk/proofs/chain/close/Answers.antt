@@ -1,7 +1,7 @@
 use Rattle.std.proofs.Common.{◌≡◌, sym, ap, ◌∙◌, ◌+◌, ◌-◌, ◌<◌, ◌++◌, [], ◌∷◌, length, vec_capacity, arith}
 use Rattle.std.proofs.lemmas.List.{append_assoc, length-append}
 use Rattle.exact_plane.specs.Names.{name_at}
-use Rattle.funnel_walk.proofs.NamedLists.{right_more, room_for_two}
+use Rattle.funnel_walk.proofs.PathNames.{right_more, room_for_two}
 use Rattle.funnel_walk.proofs.chain.close.Goals as goal
 use Rattle.funnel_walk.proofs.chain.close.Goals.{else-not-same, then-not-same}
 use Rattle.funnel_walk.specs.Names.{right_names}

@@ -4,7 +4,7 @@ use Rattle.funnels.proofs.Funnels.{passed_left, passed_right}
 use Rattle.exact_plane.proofs.Directions.{not_left_iff, right_iff_negative}
 use Rattle.exact_plane.specs.declared.direction.Direction.TheVariants.{Right}
 use Rattle.exact_plane.specs.Spot.{point_named}
-use Rattle.funnel_walk.proofs.NamedLists.{name_is_point}
+use Rattle.funnel_walk.proofs.PathNames.{name_is_point}
 use Rattle.funnel_walk.proofs.funnel.is_passed.Goals as goal
 
 pub returns-then-j-apex-clause-passed : goal.returns-then-j-apex-clause-passed

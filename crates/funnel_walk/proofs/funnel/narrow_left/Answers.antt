@@ -5,7 +5,7 @@ use Rattle.plane.specs.Point.{whole}
 use Rattle.funnels.specs.Funnel.{IsPassed}
 use Rattle.exact_plane.specs.Names.{named_points}
 use Rattle.exact_plane.specs.Spot.{point_named}
-use Rattle.funnel_walk.proofs.NamedLists.{count_right}
+use Rattle.funnel_walk.proofs.PathNames.{count_right}
 use Rattle.funnel_walk.proofs.NarrowedLeft.{apex_goes, left_ends, other_goes}
 use Rattle.funnel_walk.proofs.funnel.narrow_left.Goals as goal
 use Rattle.funnel_walk.proofs.funnel.narrow_left.Goals.{else-apex-eq0, then-apex-eq0}

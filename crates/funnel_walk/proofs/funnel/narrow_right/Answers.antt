@@ -4,7 +4,7 @@ use Rattle.plane.specs.Point.{whole}
 use Rattle.funnels.specs.Funnel.{IsPassed}
 use Rattle.exact_plane.specs.Names.{name_at, named_points}
 use Rattle.exact_plane.specs.Spot.{point_named}
-use Rattle.funnel_walk.proofs.NamedLists.{count_left}
+use Rattle.funnel_walk.proofs.PathNames.{count_left}
 use Rattle.funnel_walk.proofs.NarrowedRight.{apex_goes, other_goes, right_ends}
 use Rattle.funnel_walk.proofs.funnel.narrow_right.Goals as goal
 use Rattle.funnel_walk.proofs.funnel.narrow_right.Goals.{else-last-apex, then-last-apex}

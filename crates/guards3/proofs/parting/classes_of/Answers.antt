@@ -3,8 +3,7 @@ use Rattle.std.proofs.lemmas.List.{with_items_is}
 use Rattle.meshes.proofs.Sides.{corners_differ}
 use Rattle.meshes.specs.Side.{tri_at}
 use Rattle.tri_mesh.specs.Outward.{outward_at}
-use Rattle.guards3.proofs.CornerClasses.{corners_below, first_given}
-use Rattle.guards3.proofs.GivenClasses.{ends_leave, given_all, given_first, given_more}
+use Rattle.guards3.proofs.GivenClasses.{corners_below, ends_leave, first_given, given_all, given_first, given_more}
 use Rattle.guards3.proofs.OneParting.{some_triangle}
 use Rattle.guards3.proofs.parting.classes_of.Goals as goal
 use Rattle.guards3.specs.Guards.{class_of}

@@ -1,5 +1,5 @@
 use Rattle.std.proofs.Common.{◌≡◌, ◌+◌, ◌<◌, ◌≤◌, ℕ, length, slice_index}
-use Rattle.path_tree.proofs.Parents.{HasParent}
+use Rattle.path_tree.proofs.GrownOver.{HasParent}
 use Rattle.path_tree.proofs.growth.Growth.at_home.Given as goal
 
 abbrev pub invariant-loop-corner : goal.invariant-loop-corner

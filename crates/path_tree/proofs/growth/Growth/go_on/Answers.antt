@@ -8,7 +8,7 @@ use Rattle.shared_funnel.proofs.NextFunnels.{few_digits, later_digits}
 use Rattle.shared_funnel.specs.Entered.{at_place, left_of, right_of, third_of}
 use Rattle.shared_funnel.specs.Listed.{point_of}
 use Rattle.path_tree.proofs.GrownOver.{grown_more, thirds_more}
-use Rattle.path_tree.proofs.NamedPoints.{third_named}
+use Rattle.path_tree.proofs.EnteredFunnels.{third_named}
 use Rattle.path_tree.proofs.TreeSteps.{triangle_steps}
 use Rattle.path_tree.proofs.growth.Growth.go_on.Goals as goal
 use Rattle.path_tree.specs.Grown.{IsFromNamed}

@@ -1,5 +1,5 @@
 use Rattle.std.proofs.Common.{sym, subst, ◌<◌, length}
-use Rattle.path_tree.proofs.KeptNames.{kept_vertex}
+use Rattle.path_tree.proofs.GrownPaths.{kept_vertex}
 use Rattle.path_tree.specs.Grown.{IsFromNamed, IsKept, kept_point}
 use Rattle.path_tree.proofs.tree.PathTree.before.Goals as goal
 
