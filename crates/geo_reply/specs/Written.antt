@@ -25,8 +25,8 @@ side_steps side = 64 * length side.path
 -- those of all lines of a reply; numbers and words take none
 abbrev pub written_steps : Reply → ℕ
 written_steps (reply.Path points) = 64 * length points
-written_steps (reply.View parts) = sum_by part_steps parts
-written_steps (reply.Kernel corners) = sum_by corner_steps corners
+written_steps (reply.View parts) = 128 * length parts
+written_steps (reply.Kernel corners) = 64 * length corners
 written_steps (reply.Hull sides) = sum_by side_steps sides
 written_steps other = 0
 

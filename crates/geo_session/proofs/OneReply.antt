@@ -20,6 +20,7 @@ use Rattle.cut_tri.specs.Cut.{OneCutLaw}
 use Rattle.guards3.specs.Guards.{OneGuardsLaw}
 use Rattle.pair_cut.specs.Pairs.{OneSightsLaw}
 use Rattle.geo_reply.specs.ReplyText.{reply_text}
+use Rattle.geo_reply.specs.Written.{written_steps}
 use Rattle.geo_reply.specs.declared.reply.Before.{Before}
 use Rattle.geo_reply.specs.declared.reply.Before.TheVariants as before
 use Rattle.geo_reply.specs.declared.reply.Reply.{Reply}
@@ -28,7 +29,7 @@ use Rattle.geo_session.proofs.OneHull.{one_hull, one_outside}
 use Rattle.geo_session.proofs.OneNumbers.{one_guarding, one_numbers}
 use Rattle.geo_session.proofs.OneShown.{one_shown}
 use Rattle.geo_session.proofs.OneVerdict.{one_verdict}
-use Rattle.geo_session.proofs.OneView.{one_kernel_text, one_see_text}
+use Rattle.geo_session.proofs.OneView.{one_kernel_steps, one_kernel_text, one_see_steps, one_see_text}
 use Rattle.geo_session.specs.Laws.{OneReplyLaw}
 use Rattle.geo_session.specs.Pairs.{AreSightsReply, IsPairReply, IsVertexNumber, first_off, joined, second_off, sighted, too_large, too_many}
 use Rattle.geo_session.specs.Path.{IsPathReply, IsReachReply, TellsPath}
@@ -74,12 +75,12 @@ Same one other = one ≡ other
 same : (one other : Reply) → one ≡ other → Same one other
 same one other e = e
 
--- or have one text
-abbrev SameText : Reply → Reply → Type 0
-SameText one other = reply_text one ≡ reply_text other
+-- or have one text, for which as many steps are enough
+abbrev SameLines : Reply → Reply → Type 0
+SameLines one other = (reply_text one ≡ reply_text other) × (written_steps one ≡ written_steps other)
 
-same_text : (one other : Reply) → one ≡ other → SameText one other
-same_text one other = ap reply_text
+same_lines : (one other : Reply) → one ≡ other → SameLines one other
+same_lines one other e = (ap reply_text e, ap written_steps e)
 
 -- ---- a polygon, and a point
 
@@ -164,6 +165,30 @@ pub one_pair_of : (before : State) (i j : ℤ) (one other : Reply) → IsReply b
 one_pair_of before i j one other h g =
     one_of Same same before.version before.kept (command.Pair i j) one other (λ k. one_pair_reply before.version k.ring i j one other) h g
 
+-- ---- a view, and a kernel
+
+pub one_view_of : (before : State) (q : Point) (one other : Reply) → IsReply before (command.See q) one → IsReply before (command.See q) other
+    → SameLines one other
+one_view_of before q one other h g =
+    one_of SameLines same_lines before.version before.kept (command.See q) one other
+    (λ k. one_within SameLines same_lines k.ring (q ∷ []) _
+    (λ a b is is_too. (
+      ap reply_text is.told
+          ∙ one_see_text k.ring (whole q) is.value is_too.value is.holds.seen is_too.holds.seen
+          ∙ sym (ap reply_text is_too.told),
+      ap written_steps is.told
+          ∙ one_see_steps k.ring (whole q) is.value is_too.value is.holds.seen is_too.holds.seen
+          ∙ sym (ap written_steps is_too.told),
+    )) one other) h g
+
+pub one_kernel_of : (before : State) (one other : Reply) → IsReply before command.Kernel one → IsReply before command.Kernel other → SameLines one other
+one_kernel_of before one other h g =
+    one_of SameLines same_lines before.version before.kept command.Kernel one other
+    (λ k is is_too. (
+      ap reply_text is.told ∙ one_kernel_text (IsInKernel k.ring) is.value is_too.value is.holds is_too.holds ∙ sym (ap reply_text is_too.told),
+      ap written_steps is.told ∙ one_kernel_steps (IsInKernel k.ring) is.value is_too.value is.holds is_too.holds ∙ sym (ap written_steps is_too.told),
+    )) h g
+
 -- ---- a tree
 
 module _ (ring : List Point) (s t : Point) where
@@ -225,21 +250,8 @@ module _ (one_cut : OneCutLaw) (one_guards : OneGuardsLaw) (one_sights : OneSigh
       (λ k. one_within Same same k.ring (s ∷ []) _ (one_told reply.Tree _ (one_befores k.ring s)) one other) h g)
   one_reply before (command.Reach t) one other h g =
       alike before (command.Reach t) one other (one_reach_of before t one other h g)
-  one_reply before (command.See q) one other h g = (
-    one_of SameText same_text before.version before.kept (command.See q) one other
-        (λ k. one_within SameText same_text k.ring (q ∷ []) _
-        (λ a b seen seen_too. ap reply_text seen.told
-        ∙ one_see_text k.ring (whole q) seen.value seen_too.value seen.holds.seen seen_too.holds.seen
-        ∙ sym (ap reply_text seen_too.told)) one other) h g,
-    refl,
-  )
-  one_reply before command.Kernel one other h g = (
-    one_of SameText same_text before.version before.kept command.Kernel one other
-        (λ k is is_too. ap reply_text is.told
-        ∙ one_kernel_text (IsInKernel k.ring) is.value is_too.value is.holds is_too.holds
-        ∙ sym (ap reply_text is_too.told)) h g,
-    refl,
-  )
+  one_reply before (command.See q) one other h g = ((one_view_of before q one other h g).0, refl)
+  one_reply before command.Kernel one other h g = ((one_kernel_of before one other h g).0, refl)
   one_reply before (command.Hull points) one other h g =
       alike before (command.Hull points) one other
       (one_of Same same before.version before.kept (command.Hull points) one other

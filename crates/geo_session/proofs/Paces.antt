@@ -1,7 +1,9 @@
 -- The bounds on steps: of replies, and of their lines.
-use Rattle.std.proofs.Common.{◌≡◌, ◌∙◌, inl, inr, refl, sym, ap, subst, true, false, ℕ, ℤ, ◌+◌, ◌-◌, ◌*◌, ◌≤◌, List, [], ◌∷◌, ◌++◌, length, Result, arith}
+use Rattle.std.proofs.Common.{◌≡◌, ◌∙◌, inl, inr, refl, sym, ap, subst, true, false, ℕ, ℤ, suc, ◌+◌, ◌-◌, ◌*◌, ◌^◌, ◌<◌, ◌≤◌, List, [], ◌∷◌, ◌++◌, length, Result, arith}
+use Rattle.std.proofs.Math.Nat.{pow-suc}
 use Rattle.std.specs.Prelude.{OnOk, Option, Some, None}
 use Rattle.plane.specs.Point.{Point}
+use Rattle.shared_seq.proofs.Digits.{binary_digits_enough}
 use Rattle.shared_seq.specs.Digits.{binary_digits}
 use Rattle.geo_text.specs.Version.{by_version}
 use Rattle.geo_text.specs.declared.command.Bad.{Bad}
@@ -12,15 +14,15 @@ use Rattle.geo_text.specs.declared.version.Version.{Version}
 use Rattle.geo_text.specs.declared.version.Version.TheVariants as version
 use Rattle.geo_reply.proofs.Fronts.{no_more, ok_since, under_ok}
 use Rattle.geo_reply.specs.ReplyText.{reply_text}
-use Rattle.geo_reply.specs.Written.{WritesSteps, points_of_path}
+use Rattle.geo_reply.specs.Written.{WritesSteps, points_of_path, written_steps}
 use Rattle.geo_reply.specs.declared.reply.Before.{Before}
 use Rattle.geo_reply.specs.declared.reply.Reply.{Reply}
 use Rattle.geo_reply.specs.declared.reply.Reply.TheVariants as reply
 use Rattle.geo_session.proofs.GivenSize.{size_held}
-use Rattle.geo_session.proofs.OneReply.{one_pair_of, one_path_of, one_reach_of}
+use Rattle.geo_session.proofs.OneReply.{one_kernel_of, one_pair_of, one_path_of, one_reach_of, one_view_of}
 use Rattle.geo_session.specs.Asking.{IsWrittenPaced, TakesBoth, seen_of}
 use Rattle.geo_session.specs.Held.{HeldRing}
-use Rattle.geo_session.specs.Paced.{IsPaced, path_pace, reach_pace}
+use Rattle.geo_session.specs.Paced.{IsPaced, TakesSteps, kernel_steps, path_pace, reach_pace, view_steps}
 use Rattle.geo_session.specs.Pairs.{AreSightsReply, IsPairReply, first_off, joined, second_off, sighted, too_large, too_many}
 use Rattle.geo_session.specs.Path.{IsReachReply, TellsPath}
 use Rattle.geo_session.specs.Prepared.{Seen, pair_pace, table_steps}
@@ -30,6 +32,16 @@ use Rattle.geo_session.specs.Told.{RepliesWithin, Tells, outside, within}
 
 -- ---- replies
 
+-- with a digit more there is room for four more,
+digits_and_four : (n : ℕ) → 3 ≤ n → n + 4 < 2 ^ (binary_digits n + 1)
+digits_and_four n some =
+    let up : binary_digits n + 1 ≡ suc (binary_digits n) = omega arith in
+    rw up (omega (arith, binary_digits_enough n, pow-suc 2 (binary_digits n), some))
+
+-- and four steps more are within two for each of some
+room_for_four : (n b : ℕ) → 3 ≤ n → n * (2 * (b + 1) + 143) + 4 ≤ n * (2 * b + 147)
+room_for_four n b some = omega (arith, some)
+
 -- no steps are few enough
 pub unpaced : (seen : Seen) (asked : Command) (steps : ℕ) → IsPaced seen asked steps steps
 unpaced seen (command.Path s t) steps = no_more steps _
@@ -37,6 +49,8 @@ unpaced seen (command.Tree s) steps = no_more steps _
 unpaced seen (command.Reach t) steps = no_more steps _
 unpaced seen (command.Pair i j) steps = no_more steps _
 unpaced seen command.Sights steps = no_more steps _
+unpaced seen (command.See q) steps = no_more steps _
+unpaced seen command.Kernel steps = no_more steps _
 unpaced seen _ steps = tt
 
 module _ (version : Version) (held : HeldRing) (start done : ℕ) where
@@ -57,6 +71,16 @@ module _ (version : Version) (held : HeldRing) (start done : ℕ) where
   pub new_pair_paced : (i j : ℤ) (made : ℕ) → held.prepared ≡ false → let n = length held.ring.corners in let b = binary_digits n in
       made ≤ start + 200 * (n * n) * (b * b) → done ≤ made + by_version version 0 20 * n → IsPaced (seen_of version (Some held)) (command.Pair i j) start done
   new_pair_paced i j made none making few = rw (none, size_held held) (omega (arith, making, few))
+
+  -- and a kernel is found in any case
+  pub kernel_paced : let n = length held.ring.corners in 3 ≤ n → ((d : ℕ) → n + 4 < 2 ^ d → done ≤ start + n * (2 * d + 143) + 4)
+      → IsPaced (seen_of version (Some held)) command.Kernel start done
+  kernel_paced some few =
+      let n = length held.ring.corners in
+      let b = binary_digits n in
+      let more = few (b + 1) (digits_and_four n some) in
+      let cost : n * (2 * (b + 1) + 143) + 4 ≤ n * (2 * b + 147) = room_for_four n b some in
+      rw (size_held held) (omega (arith, more, cost))
 
 -- ---- lines
 
@@ -145,6 +169,15 @@ quiet_sights_of version None answered told done e more =
     let wrote : done ≤ told + 64 * 0 = subst (λ (r : Reply). WritesSteps r told done) e more in omega (arith, wrote)
 quiet_sights_of version (Some kept) answered told done h more = quiet_sights kept.ring answered told done h more
 
+-- those of other lines are added to those of the reply
+module _ (before : State) (asked : Command) (most steps told done : ℕ) (few : told ≤ steps + most) where
+  takes_lines : (answered : Reply) → ((other : Reply) → IsReply before asked other → written_steps answered ≡ written_steps other)
+      → WritesSteps answered told done → TakesSteps before asked most steps done
+  takes_lines answered single more = λ other h. let same = single other h in omega (arith, few, more, same)
+
+  takes_no_lines : done ≡ told → TakesSteps before asked most steps done
+  takes_no_lines same = λ other h. omega (arith, few, same)
+
 module _ {E : Type 0} (seen : Seen) (put : Result (Unit {0}) E) (out out' : List ℕ) (steps told done : ℕ) where
   -- so a command is paced with its lines,
   pub written_paced : (asked : Command) (answered : Reply) → IsReply seen.state asked answered → IsPaced seen asked steps told
@@ -162,6 +195,10 @@ module _ {E : Type 0} (seen : Seen) (put : Result (Unit {0}) E) (out out' : List
       (pair_of_kept seen.state.version seen.state.kept i j answered h) (λ other g. one_pair_of seen.state i j answered other h g) more written
   written_paced command.Sights answered h paced more written =
       let none = quiet_sights_of seen.state.version seen.state.kept answered told done h more in omega (arith, paced, none)
+  written_paced (command.See q) answered h paced more written =
+      takes_lines seen.state (command.See q) _ steps told done paced answered (λ other g. (one_view_of seen.state q answered other h g).1) more
+  written_paced command.Kernel answered h paced more written =
+      takes_lines seen.state command.Kernel _ steps told done paced answered (λ other g. (one_kernel_of seen.state answered other h g).1) more
   written_paced _ answered h paced more written = tt
 
   -- also where no reply was found
@@ -171,6 +208,8 @@ module _ {E : Type 0} (seen : Seen) (put : Result (Unit {0}) E) (out out' : List
   unwritten_paced (command.Reach t) paced same fails = takes_none seen.state (command.Reach t) _ put out out' steps told done paced same fails
   unwritten_paced (command.Pair i j) paced same fails = takes_none seen.state (command.Pair i j) _ put out out' steps told done paced same fails
   unwritten_paced command.Sights paced same fails = omega (arith, paced, same)
+  unwritten_paced (command.See q) paced same fails = takes_no_lines seen.state (command.See q) _ steps told done paced same
+  unwritten_paced command.Kernel paced same fails = takes_no_lines seen.state command.Kernel _ steps told done paced same
   unwritten_paced _ paced same fails = tt
 
 -- ---- the clauses of a command of each kind
@@ -195,3 +234,9 @@ module _ {E : Type 0} (seen : Seen) (asked : Command) (put : Result (Unit {0}) E
 
   pub sights_clause : asked ≡ command.Sights → done ≤ steps + table_steps seen
   sights_clause is = rw is at paced
+
+  pub view_clause : (q : Point) → asked ≡ command.See q → TakesSteps seen.state asked (view_steps (size_of seen.state.kept)) steps done
+  view_clause q is = rw is (rw is at paced)
+
+  pub kernel_clause : asked ≡ command.Kernel → TakesSteps seen.state asked (kernel_steps (size_of seen.state.kept)) steps done
+  kernel_clause is = rw is (rw is at paced)

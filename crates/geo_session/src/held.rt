@@ -7,8 +7,11 @@ ghost use Rattle.meshes.specs.Fits.{Fits};
 ghost use Rattle.ring_check.specs.Oriented.{given_of};
 ghost use Rattle.taut_check.specs.Verdict.{IsVerdict};
 ghost use Rattle.pair_cut.specs.Pairs.{IsMadeFor};
+ghost use Rattle.geo_text.specs.declared.version.Version.{Version};
+ghost use Rattle.geo_session.specs.Asking.{seen_of};
 ghost use Rattle.geo_session.specs.Guards.{GuardRing};
 ghost use Rattle.geo_session.specs.Held.{IsLocated, IsTreeOf, IsViewReply};
+ghost use Rattle.geo_session.specs.Paced.{IsPaced};
 ghost use Rattle.geo_session.specs.Place.{IsPlace};
 ghost use Rattle.geo_session.specs.Told.{Tells};
 
@@ -18,7 +21,7 @@ use cut_tri::triangulate;
 use dual_tree::{Board, locate};
 use exact_plane::{Memory, Pt, Steps};
 use geo_reply::{Reply, Row};
-use geo_text::Bad;
+use geo_text::{Bad, Command};
 use guards3::guards;
 use inside_test::{Position, place};
 use pair_cut::PairTable;
@@ -134,7 +137,8 @@ impl Held {
         q: &Pt,
         steps: &mut Steps<L>,
     ) -> Result<Reply, Memory>
-        ensures { IfOk result (IsViewReply (given_of self.now.ring) q.now) }
+        ensures view { IfOk result (IsViewReply (given_of self.now.ring) q.now) }
+        ensures paced { (version : Version) → IsPaced (seen_of version (Some self.now)) (Command.See q.now) steps.old steps.new }
     {
         let home = match self.find(1, q, steps) {
             Ok(home) => home,
@@ -152,7 +156,8 @@ impl Held {
         alloc: Global,
         steps: &mut Steps<L>,
     ) -> Result<Reply, Memory>
-        ensures { IfOk result (Tells Reply.Kernel (IsKernel (given_of self.now.ring))) }
+        ensures kernel { IfOk result (Tells Reply.Kernel (IsKernel (given_of self.now.ring))) }
+        ensures paced { (version : Version) → IsPaced (seen_of version (Some self.now)) Command.Kernel steps.old steps.new }
     {
         let _few_vertices = self.ring.len();
         let corners = kernel(alloc, &self.ring, steps)?;
