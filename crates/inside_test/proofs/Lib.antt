@@ -7,6 +7,7 @@ mod Adjacent
 mod Neighbours
 mod Odd
 mod Passed
+pub mod Passing
 mod PointLists
 mod Sizes
 mod Sorting

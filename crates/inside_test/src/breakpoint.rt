@@ -1,5 +1,5 @@
 // The points at which a segment may enter or leave a ring, in a form that is compared with no step.
-ghost use Rattle.std.specs.Prelude.{◌≡◌, ◌↔◌};
+ghost use Rattle.std.specs.Prelude.{◌≡◌, ◌↔◌, ◌+◌};
 ghost use Rattle.plane.specs.Order.{Precedes};
 ghost use Rattle.plane.specs.Point.{IsPoint, IsSame};
 ghost use Rattle.exact_plane.specs.Size.{IsNarrow, IsSized};
@@ -28,6 +28,7 @@ impl Breakpoint {
         requires { IsNarrow point }
         ensures point { result.point ≡ point }
         ensures rational { IsPoint point }
+        ensures steps { steps.new ≡ steps.old + 64 }
     {
         let (x, y, w) = point.parts(steps);
         Breakpoint { point, x, y, w }

@@ -1,5 +1,5 @@
 // The ray from a rational point to the right, at one edge.
-ghost use Rattle.std.specs.Prelude.{◌≡◌, ◌↔◌, IsTrue};
+ghost use Rattle.std.specs.Prelude.{◌≡◌, ◌↔◌, ◌+◌, ◌≤◌, IsTrue};
 ghost use Rattle.plane.specs.Point.{IsPoint, Triple, whole};
 ghost use Rattle.rings.specs.Edge.{edge};
 ghost use Rattle.exact_plane.specs.Direction.{turn_of};
@@ -33,13 +33,15 @@ impl Vertex {
     pub(crate) fn of<L: Ledger>(at: Pt, levels: &Levels, steps: &mut Steps<L>) -> Vertex
         ensures at { result.at ≡ at }
         ensures beside { (p : Triple) → AreLevels levels.now p → IsVertexBeside result p }
+        ensures steps { steps.new ≡ steps.old + 64 }
     {
         let is_above = levels.is_below(&at, steps);
         Vertex { at, is_above }
     }
 }
 
-// How the edge from `a` to `b` lies to `p`, which has these levels. The ray crosses no edge that does not pass its height.
+// How the edge from `a` to `b` lies to `p`, which has these levels. The ray crosses no edge that does not pass its height. It
+// takes at most 1024 steps: so many where both ends are at the height of the point.
 pub(crate) fn meeting_of<L: Ledger>(
     a: &Vertex,
     b: &Vertex,
@@ -51,7 +53,8 @@ pub(crate) fn meeting_of<L: Ledger>(
     requires first { IsVertexBeside a.now p.now }
     requires last { IsVertexBeside b.now p.now }
     requires rational { IsPoint p.now }
-    ensures { IsMeeting result (edge a.now.at b.now.at) p.now }
+    ensures meeting { IsMeeting result (edge a.now.at b.now.at) p.now }
+    ensures steps { steps.new ≤ steps.old + 1024 }
 {
     match (a.is_above, b.is_above) {
         (true, true) => Meeting::Missed,
@@ -86,7 +89,8 @@ fn turn_of_rise<L: Ledger>(
     requires levels { AreLevels levels.now p.now }
     requires rises { IsTrue (rises low.now high.now p.now) }
     requires rational { IsPoint p.now }
-    ensures { result ≡ turn_of (whole low.now) (whole high.now) p.now }
+    ensures turn { result ≡ turn_of (whole low.now) (whole high.now) p.now }
+    ensures steps { steps.new ≤ steps.old + 257 }
 {
     if levels.is_left_of_both(low, high, steps) {
         return Direction::Left;
@@ -113,14 +117,16 @@ fn meeting_below(is_touched: bool) -> Meeting
 
 // Whether an edge with no end above a point has the point on it.
 fn is_touched<L: Ledger>(a: &Pt, b: &Pt, levels: &Levels, steps: &mut Steps<L>) -> bool
-    ensures { (p : Triple) → AreLevels levels.now p → IsTrue result ↔ IsTouched a.now b.now p }
+    ensures touched { (p : Triple) → AreLevels levels.now p → IsTrue result ↔ IsTouched a.now b.now p }
+    ensures steps { steps.new ≤ steps.old + 1024 }
 {
     levels.is_at(a, steps) || levels.is_at(b, steps) || are_around(a, b, levels, steps)
 }
 
 // Whether two vertices are at the height of a point, and neither both left of it nor both right.
 fn are_around<L: Ledger>(a: &Pt, b: &Pt, levels: &Levels, steps: &mut Steps<L>) -> bool
-    ensures { (p : Triple) → AreLevels levels.now p → IsTrue result ↔ AreAround a.now b.now p }
+    ensures around { (p : Triple) → AreLevels levels.now p → IsTrue result ↔ AreAround a.now b.now p }
+    ensures steps { steps.new ≤ steps.old + 512 }
 {
     levels.is_level(a, steps)
         && levels.is_level(b, steps)

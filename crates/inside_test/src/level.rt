@@ -1,6 +1,6 @@
 // A rational number among the whole numbers, and a rational point among the vertices.
 ghost use Rattle.std.specs.Int.{int_div_euclid};
-ghost use Rattle.std.specs.Prelude.{◌≡◌, ◌↔◌, ◌<◌, ◌≤◌, ◌^◌, ◌<ℤ◌, ◌≤ℤ◌, ◌*ℤ◌, ℤ, IsTrue, pos, unsigned_abs};
+ghost use Rattle.std.specs.Prelude.{◌≡◌, ◌↔◌, ◌+◌, ◌<◌, ◌≤◌, ◌^◌, ◌<ℤ◌, ◌≤ℤ◌, ◌*ℤ◌, ℤ, IsTrue, pos, unsigned_abs};
 ghost use Rattle.plane.specs.Point.{IsInLimit, IsPoint, IsSame, Triple, whole};
 ghost use Rattle.inside_test.specs.Block.{IsBoxMissed, IsBoxOffHeight, IsBoxPassed, IsBoxRight, IsEachBox};
 ghost use Rattle.inside_test.specs.Level.{AreLevels, IsLevel};
@@ -102,6 +102,7 @@ impl Levels {
     pub(crate) fn of<L: Ledger>(p: &Hom, steps: &mut Steps<L>) -> Levels
         ensures levels { AreLevels result p.now }
         ensures rational { IsPoint p.now }
+        ensures steps { steps.new ≡ steps.old + 64 }
     {
         let (x, y, w) = p.parts(steps);
         Levels {
@@ -110,30 +111,34 @@ impl Levels {
         }
     }
 
-    // Whether the point is below a vertex.
+    // Whether the point is below a vertex. It takes 64 steps, as all of these four.
     pub(crate) fn is_below<L: Ledger>(&self, v: &Pt, steps: &mut Steps<L>) -> bool
-        ensures { (p : Triple) → AreLevels self.now p → IsTrue result ↔ (p.Y <ℤ (v.now.y *ℤ p.W)) }
+        ensures below { (p : Triple) → AreLevels self.now p → IsTrue result ↔ (p.Y <ℤ (v.now.y *ℤ p.W)) }
+        ensures steps { steps.new ≡ steps.old + 64 }
     {
         self.height.is_below(v.parts(steps).1)
     }
 
     // Whether it is above one.
     pub(crate) fn is_above<L: Ledger>(&self, v: &Pt, steps: &mut Steps<L>) -> bool
-        ensures { (p : Triple) → AreLevels self.now p → IsTrue result ↔ ((v.now.y *ℤ p.W) <ℤ p.Y) }
+        ensures above { (p : Triple) → AreLevels self.now p → IsTrue result ↔ ((v.now.y *ℤ p.W) <ℤ p.Y) }
+        ensures steps { steps.new ≡ steps.old + 64 }
     {
         self.height.is_above(v.parts(steps).1)
     }
 
     // Whether it is left of one.
     pub(crate) fn is_left_of<L: Ledger>(&self, v: &Pt, steps: &mut Steps<L>) -> bool
-        ensures { (p : Triple) → AreLevels self.now p → IsTrue result ↔ (p.X <ℤ (v.now.x *ℤ p.W)) }
+        ensures left { (p : Triple) → AreLevels self.now p → IsTrue result ↔ (p.X <ℤ (v.now.x *ℤ p.W)) }
+        ensures steps { steps.new ≡ steps.old + 64 }
     {
         self.across.is_below(v.parts(steps).0)
     }
 
     // Whether it is right of one.
     pub(crate) fn is_right_of<L: Ledger>(&self, v: &Pt, steps: &mut Steps<L>) -> bool
-        ensures { (p : Triple) → AreLevels self.now p → IsTrue result ↔ ((v.now.x *ℤ p.W) <ℤ p.X) }
+        ensures right { (p : Triple) → AreLevels self.now p → IsTrue result ↔ ((v.now.x *ℤ p.W) <ℤ p.X) }
+        ensures steps { steps.new ≡ steps.old + 64 }
     {
         self.across.is_above(v.parts(steps).0)
     }
@@ -195,35 +200,40 @@ impl Levels {
 
     // Whether it is at the height of one.
     pub(crate) fn is_level<L: Ledger>(&self, v: &Pt, steps: &mut Steps<L>) -> bool
-        ensures { (p : Triple) → AreLevels self.now p → IsTrue result ↔ (v.now.y *ℤ p.W ≡ p.Y) }
+        ensures level { (p : Triple) → AreLevels self.now p → IsTrue result ↔ (v.now.y *ℤ p.W ≡ p.Y) }
+        ensures steps { steps.new ≤ steps.old + 128 }
     {
         !self.is_below(v, steps) && !self.is_above(v, steps)
     }
 
     // Whether it is straight above or below one, or the vertex itself.
     fn is_plumb<L: Ledger>(&self, v: &Pt, steps: &mut Steps<L>) -> bool
-        ensures { (p : Triple) → AreLevels self.now p → IsTrue result ↔ (v.now.x *ℤ p.W ≡ p.X) }
+        ensures plumb { (p : Triple) → AreLevels self.now p → IsTrue result ↔ (v.now.x *ℤ p.W ≡ p.X) }
+        ensures steps { steps.new ≤ steps.old + 128 }
     {
         !self.is_left_of(v, steps) && !self.is_right_of(v, steps)
     }
 
     // Whether it is the vertex.
     pub(crate) fn is_at<L: Ledger>(&self, v: &Pt, steps: &mut Steps<L>) -> bool
-        ensures { (p : Triple) → AreLevels self.now p → IsTrue result ↔ IsSame (whole v.now) p }
+        ensures at { (p : Triple) → AreLevels self.now p → IsTrue result ↔ IsSame (whole v.now) p }
+        ensures steps { steps.new ≤ steps.old + 256 }
     {
         self.is_level(v, steps) && self.is_plumb(v, steps)
     }
 
     // Whether it is left of two vertices.
     pub(crate) fn is_left_of_both<L: Ledger>(&self, a: &Pt, b: &Pt, steps: &mut Steps<L>) -> bool
-        ensures { (p : Triple) → AreLevels self.now p → IsTrue result ↔ ((p.X <ℤ (a.now.x *ℤ p.W)) × (p.X <ℤ (b.now.x *ℤ p.W))) }
+        ensures left { (p : Triple) → AreLevels self.now p → IsTrue result ↔ ((p.X <ℤ (a.now.x *ℤ p.W)) × (p.X <ℤ (b.now.x *ℤ p.W))) }
+        ensures steps { steps.new ≤ steps.old + 128 }
     {
         self.is_left_of(a, steps) && self.is_left_of(b, steps)
     }
 
     // Whether it is right of two.
     pub(crate) fn is_right_of_both<L: Ledger>(&self, a: &Pt, b: &Pt, steps: &mut Steps<L>) -> bool
-        ensures { (p : Triple) → AreLevels self.now p → IsTrue result ↔ (((a.now.x *ℤ p.W) <ℤ p.X) × ((b.now.x *ℤ p.W) <ℤ p.X)) }
+        ensures right { (p : Triple) → AreLevels self.now p → IsTrue result ↔ (((a.now.x *ℤ p.W) <ℤ p.X) × ((b.now.x *ℤ p.W) <ℤ p.X)) }
+        ensures steps { steps.new ≤ steps.old + 128 }
     {
         self.is_right_of(a, steps) && self.is_right_of(b, steps)
     }

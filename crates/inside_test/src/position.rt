@@ -1,4 +1,4 @@
-ghost use Rattle.std.specs.Prelude.{◌≡◌, ◌↔◌, ◌<◌, ◌≤◌, IfNone, IfSome, length};
+ghost use Rattle.std.specs.Prelude.{◌≡◌, ◌↔◌, ◌+◌, ◌*◌, ◌-◌, ◌<◌, ◌≤◌, IfNone, IfSome, length};
 ghost use Rattle.plane.specs.Point.{IsPoint, whole};
 ghost use Rattle.rings.specs.Edge.{IsOnSome, edges_of};
 ghost use Rattle.rings.specs.Inside.{IsIn};
@@ -26,20 +26,23 @@ pub enum Position {
     Outside,
 }
 
-/// The position of `p`, by the edges that the ray from it to the right crosses.
+/// The position of `p`, by the edges that the ray from it to the right crosses. It takes at most 1280 n + 65 steps, n the number
+/// of vertices.
 pub fn place<L: Ledger>(ring: &Ring, p: &Pt, steps: &mut Steps<L>) -> Position
     ensures edge { (result ≡ Position.Edge) ↔ IsOnSome (edges_of ring.now.corners) (whole p.now) }
     ensures inside { (result ≡ Position.Inside) ↔ (IsIn ring.now.corners (whole p.now) × ¬ (IsOnSome (edges_of ring.now.corners) (whole p.now))) }
     ensures outside { (result ≡ Position.Outside) ↔ ¬ (IsIn ring.now.corners (whole p.now)) }
+    ensures steps { steps.new ≤ steps.old + 1280 * length ring.now.corners + 65 }
 {
     place_hom(ring, &Hom::of_pt(p, steps), steps)
 }
 
-/// The position of a rational point.
+/// The position of a rational point. It takes at most 1280 n + 64 steps, n the number of vertices.
 pub fn place_hom<L: Ledger>(ring: &Ring, p: &Hom, steps: &mut Steps<L>) -> Position
     ensures edge { (result ≡ Position.Edge) ↔ IsOnSome (edges_of ring.now.corners) p.now }
     ensures inside { (result ≡ Position.Inside) ↔ (IsIn ring.now.corners p.now × ¬ (IsOnSome (edges_of ring.now.corners) p.now)) }
     ensures outside { (result ≡ Position.Outside) ↔ ¬ (IsIn ring.now.corners p.now) }
+    ensures steps { steps.new ≤ steps.old + 1280 * length ring.now.corners + 64 }
 {
     place_by(ring, None, p, steps)
 }
@@ -55,6 +58,7 @@ pub(crate) fn place_by<L: Ledger>(
     ensures edge { (result ≡ Position.Edge) ↔ IsOnSome (edges_of ring.now.corners) p.now }
     ensures inside { (result ≡ Position.Inside) ↔ (IsIn ring.now.corners p.now × ¬ (IsOnSome (edges_of ring.now.corners) p.now)) }
     ensures outside { (result ≡ Position.Outside) ↔ ¬ (IsIn ring.now.corners p.now) }
+    ensures steps { steps.new ≤ steps.old + 1280 * length ring.now.corners + 64 }
 {
     match runs {
         Some(runs) => place_with(ring, runs, p, steps),
@@ -68,6 +72,7 @@ fn place_with<S: Skip, L: Ledger>(ring: &Ring, skip: &S, p: &Hom, steps: &mut St
     ensures edge { (result ≡ Position.Edge) ↔ IsOnSome (edges_of ring.now.corners) p.now }
     ensures inside { (result ≡ Position.Inside) ↔ (IsIn ring.now.corners p.now × ¬ (IsOnSome (edges_of ring.now.corners) p.now)) }
     ensures outside { (result ≡ Position.Outside) ↔ ¬ (IsIn ring.now.corners p.now) }
+    ensures steps { steps.new ≤ steps.old + 1280 * length ring.now.corners + 64 }
 {
     let (n, levels) = (ring.len(), Levels::of(p, steps));
     let mut is_odd = false;
@@ -92,7 +97,7 @@ fn place_with<S: Skip, L: Ledger>(ring: &Ring, skip: &S, p: &Hom, steps: &mut St
 }
 
 // Whether an odd number of the edges from edge `first` to before edge `end` is crossed, where all of them lie to one side of the
-// point with these levels.
+// point with these levels. It takes 64 steps a vertex for the box, and 128 for two of them.
 pub(crate) fn odd_by_box<L: Ledger>(
     ring: &Ring,
     first: u32,
@@ -102,7 +107,8 @@ pub(crate) fn odd_by_box<L: Ledger>(
 ) -> Option<bool>
     requires some { first < end }
     requires within { end < length ring.now.corners }
-    ensures { IfSome result (IsOddTo ring.now.corners levels.now first end) }
+    ensures odd { IfSome result (IsOddTo ring.now.corners levels.now first end) }
+    ensures steps { steps.new ≤ steps.old + 64 * (end - first) + 192 }
 {
     let vertices = &ring.corners()[first as usize..end as usize + 1];
     let around = BoundingBox::of(vertices, steps);
@@ -117,7 +123,8 @@ pub(crate) fn odd_by_box<L: Ledger>(
     None
 }
 
-// The same by one edge after the other, or `None` where the point is on one of them.
+// The same by one edge after the other, or `None` where the point is on one of them. It takes at most 1088 steps an edge, and 64
+// for the first vertex.
 fn odd_by_edges<L: Ledger>(
     ring: &Ring,
     first: u32,
@@ -132,6 +139,7 @@ fn odd_by_edges<L: Ledger>(
     requires rational { IsPoint p.now }
     ensures on { IfNone result (IsOnSome (edges_of ring.now.corners) p.now) }
     ensures odd { IfSome result (IsOddOver ring.now.corners first end p.now) }
+    ensures steps { steps.new ≤ steps.old + 1088 * (end - first) + 64 }
 {
     let mut is_odd = false;
     let mut a = Vertex::of(ring.corner(first), levels, steps);

@@ -1,5 +1,5 @@
 ghost use Rattle.std.specs.List.{AllAdjacentBelow, Contains};
-ghost use Rattle.std.specs.Prelude.{◌≡◌, ◌↔◌, ◌++◌, ◌∷◌, [], ◌<◌, ◌≤◌, List, IfOk, IfSome, IsTrue, OnOk, OnErr, length};
+ghost use Rattle.std.specs.Prelude.{◌≡◌, ◌↔◌, ◌++◌, ◌∷◌, [], ◌+◌, ◌*◌, ◌-◌, ◌<◌, ◌≤◌, ◌^◌, ℕ, List, IfOk, IfSome, IsTrue, OnOk, OnErr, length};
 ghost use Rattle.plane.specs.Line.{mediant};
 ghost use Rattle.plane.specs.Point.{IsPoint, Triple, whole};
 ghost use Rattle.plane.specs.Segment.{On};
@@ -28,7 +28,8 @@ const FEW: usize = 8;
 const MANY: usize = 512;
 
 /// Whether the segment from `a` to `b` lies in the ring: each rational point of it does. It may run along edges and
-/// touch them.
+/// touch them. For n vertices, n below 2 to the power d, it takes at most 2560 n n + 3000 n (d + 2) steps: each vertex can be where
+/// the segment meets the boundary, and it is placed between each two of these points.
 pub fn holds_segment<L: Ledger>(
     alloc: Global,
     ring: &Ring,
@@ -36,12 +37,13 @@ pub fn holds_segment<L: Ledger>(
     b: &Pt,
     steps: &mut Steps<L>,
 ) -> Result<bool, Memory>
-    ensures { IfOk result (λ holds. IsTrue holds ↔ Sees ring.now.corners (whole a.now) (whole b.now)) }
+    ensures holds { IfOk result (λ holds. IsTrue holds ↔ Sees ring.now.corners (whole a.now) (whole b.now)) }
+    ensures steps { (d : ℕ) → let n = length ring.now.corners in n < 2 ^ d → steps.new ≤ steps.old + (2560 * (n * n) + 3000 * (n * (d + 2))) }
 {
     holds_segment_by(alloc, ring, None, a, b, steps)
 }
 
-/// The same by runs of the ring's edges, where they were made before, for many segments.
+/// The same by runs of the ring's edges, where they were made before, for many segments. It takes no more steps.
 pub fn holds_segment_by<L: Ledger>(
     alloc: Global,
     ring: &Ring,
@@ -51,19 +53,35 @@ pub fn holds_segment_by<L: Ledger>(
     steps: &mut Steps<L>,
 ) -> Result<bool, Memory>
     requires { IfSome runs (λ runs. runs.now ≡ ring.now.corners) }
-    ensures { IfOk result (λ holds. IsTrue holds ↔ Sees ring.now.corners (whole a.now) (whole b.now)) }
+    ensures holds { IfOk result (λ holds. IsTrue holds ↔ Sees ring.now.corners (whole a.now) (whole b.now)) }
+    ensures steps { (d : ℕ) → let n = length ring.now.corners in n < 2 ^ d → steps.new ≤ steps.old + (2560 * (n * n) + 3000 * (n * (d + 2))) }
 {
+    let _ring_has_vertices = ring.len();
     let mut points = breakpoints(alloc, ring, runs, a, b, steps)?;
     points.sort_unstable_by(|p, q| p.order(q));
-    let made = match runs {
-        None if MANY < points.len() => Some(Runs::of(alloc, ring.corners(), steps)?),
-        _ => None,
-    };
+    let made = runs_for(alloc, ring, runs, points.len(), steps)?;
     let runs = match &made {
         Some(made) => Some(made),
         None => runs,
     };
     Ok(holds_mediants(ring, runs, &points, steps))
+}
+
+// Runs of the ring's edges, where there are none yet and so many breakpoints that they pay for themselves.
+fn runs_for<'a, L: Ledger>(
+    alloc: Global,
+    ring: &'a Ring,
+    runs: Option<&Runs>,
+    count: usize,
+    steps: &mut Steps<L>,
+) -> Result<Option<Runs<'a>>, Memory>
+    ensures runs { IfOk result (λ made. IfSome made (λ runs. runs ≡ ring.now.corners)) }
+    ensures steps { (d : ℕ) → let n = length ring.now.corners in n < 2 ^ d → steps.new ≤ steps.old + 800 * (n * (d + 4)) }
+{
+    if runs.is_some() || count <= MANY {
+        return Ok(None);
+    }
+    Ok(Some(Runs::of(alloc, ring.corners(), steps)?))
 }
 
 // The ends of the segment, and where it meets the edges, in no order.
@@ -76,7 +94,9 @@ fn breakpoints<L: Ledger>(
     steps: &mut Steps<L>,
 ) -> Result<Vec<Breakpoint>, Memory>
     requires { IfSome runs (λ runs. runs.now ≡ ring.now.corners) }
-    ensures { IfOk result (λ points. ListsMeetings ring.now.corners (length ring.now.corners) (whole a.now) (whole b.now) (breakpoint_points points.items)) }
+    ensures points { IfOk result (λ points. ListsMeetings ring.now.corners (length ring.now.corners) (whole a.now) (whole b.now) (breakpoint_points points.items)) }
+    ensures few { IfOk result (λ points. length points.items ≤ 2 * length ring.now.corners + 2) }
+    ensures steps { (d : ℕ) → let n = length ring.now.corners in n < 2 ^ d → steps.new ≤ steps.old + (2048 * (n * d) + 1179 * n + 258) }
 {
     let mut points = Vec::with_capacity(alloc, FEW)?;
     push(&mut points, Hom::of_pt(a, steps), steps)?;
@@ -96,7 +116,9 @@ fn push_edges<L: Ledger>(
 ) -> Result<(), Memory>
     requires runs { IfSome runs (λ runs. runs.now ≡ ring.now.corners) }
     requires before { ListsMeetings ring.now.corners 0 (whole a.now) (whole b.now) (breakpoint_points points.old.items) }
-    ensures { OnOk result (ListsMeetings ring.now.corners (length ring.now.corners) (whole a.now) (whole b.now) (breakpoint_points points.new.items)) }
+    ensures points { OnOk result (ListsMeetings ring.now.corners (length ring.now.corners) (whole a.now) (whole b.now) (breakpoint_points points.new.items)) }
+    ensures few { OnOk result (length points.new.items ≤ length points.old.items + 2 * length ring.now.corners) }
+    ensures steps { (d : ℕ) → let n = length ring.now.corners in n < 2 ^ d → steps.new ≤ steps.old + (2048 * (n * d) + 1179 * n + 128) }
 {
     let n = ring.len();
     if n <= BLOCK {
@@ -123,7 +145,9 @@ fn push_with<S: Skip, L: Ledger>(
     requires has_first { Encloses around.now a.now }
     requires has_last { Encloses around.now b.now }
     requires before { ListsMeetings ring.now.corners 0 (whole a.now) (whole b.now) (breakpoint_points points.old.items) }
-    ensures { OnOk result (ListsMeetings ring.now.corners (length ring.now.corners) (whole a.now) (whole b.now) (breakpoint_points points.new.items)) }
+    ensures points { OnOk result (ListsMeetings ring.now.corners (length ring.now.corners) (whole a.now) (whole b.now) (breakpoint_points points.new.items)) }
+    ensures few { OnOk result (length points.new.items ≤ length points.old.items + 2 * length ring.now.corners) }
+    ensures steps { (most : ℕ) → S.asks skip.now most → steps.new ≤ steps.old + (most + 155) * length ring.now.corners }
 {
     let n = ring.len();
     let mut first = 0;
@@ -153,7 +177,9 @@ fn push_block<L: Ledger>(
     requires some { first < end }
     requires within { end ≤ length ring.now.corners }
     requires before { ListsMeetings ring.now.corners first (whole a.now) (whole b.now) (breakpoint_points points.old.items) }
-    ensures { OnOk result (ListsMeetings ring.now.corners end (whole a.now) (whole b.now) (breakpoint_points points.new.items)) }
+    ensures points { OnOk result (ListsMeetings ring.now.corners end (whole a.now) (whole b.now) (breakpoint_points points.new.items)) }
+    ensures few { OnOk result (length points.new.items ≤ length points.old.items + 2 * (end - first)) }
+    ensures steps { steps.new ≤ steps.old + 155 * (end - first) }
 {
     let mut c = ring.corner(first);
     for i in first..end {
@@ -178,6 +204,8 @@ fn push_meetings<L: Ledger>(
     requires has_last { Contains (breakpoint_points points.old.items) (whole b.now) }
     ensures extends { ExtendsOnSegment (whole a.now) (whole b.now) (breakpoint_points points.old.items) (breakpoint_points points.new.items) }
     ensures enclosed { OnOk result (EnclosesAll (breakpoint_points points.new.items) (whole a.now) (whole b.now) (whole c.now) (whole d.now)) }
+    ensures few { length points.new.items ≤ length points.old.items + 2 }
+    ensures steps { steps.new ≤ steps.old + 155 }
 {
     if !segments_meet(a, b, c, d, steps) {
         return Ok(());
@@ -197,15 +225,17 @@ fn push_meetings<L: Ledger>(
 // Whether the line through `c` and `d` passes one of `a` and `b` and not the other, so that it meets the segment between
 // them at that end alone.
 fn meets_one_end<L: Ledger>(a: &Pt, b: &Pt, c: &Pt, d: &Pt, steps: &mut Steps<L>) -> bool
-    ensures { IsTrue result → (points : List Triple) → Contains points (whole a.now) → Contains points (whole b.now)
+    ensures encloses { IsTrue result → (points : List Triple) → Contains points (whole a.now) → Contains points (whole b.now)
         → EnclosesAll points (whole a.now) (whole b.now) (whole c.now) (whole d.now) }
+    ensures steps { steps.new ≡ steps.old + 2 }
 {
     is_on_line(c, d, a, steps) != is_on_line(c, d, b, steps)
 }
 
 // Whether `p` is on the line through `a` and `b`.
 fn is_on_line<L: Ledger>(a: &Pt, b: &Pt, p: &Pt, steps: &mut Steps<L>) -> bool
-    ensures { IsTrue result ↔ (turn_of (whole a.now) (whole b.now) (whole p.now) ≡ Direction.Straight) }
+    ensures straight { IsTrue result ↔ (turn_of (whole a.now) (whole b.now) (whole p.now) ≡ Direction.Straight) }
+    ensures steps { steps.new ≡ steps.old + 1 }
 {
     turn(a, b, p, steps) == Direction::Straight
 }
@@ -220,6 +250,8 @@ fn push_if_on<L: Ledger>(
 ) -> Result<(), Memory>
     ensures extends { ExtendsOnSegment (whole a.now) (whole b.now) (breakpoint_points points.old.items) (breakpoint_points points.new.items) }
     ensures listed { OnOk result (On (whole p.now) (whole a.now) (whole b.now) → Contains (breakpoint_points points.new.items) (whole p.now)) }
+    ensures few { length points.new.items ≤ length points.old.items + 1 }
+    ensures steps { steps.new ≤ steps.old + 68 }
 {
     if !on_segment(p, a, b, steps) {
         return Ok(());
@@ -237,6 +269,8 @@ fn push_unlisted<L: Ledger>(
     ensures ok { OnOk result (Lists p (breakpoint_points points.old.items) (breakpoint_points points.new.items)) }
     ensures err { OnErr result (breakpoint_points points.new.items ≡ breakpoint_points points.old.items) }
     ensures rational { IsPoint p }
+    ensures few { length points.new.items ≤ length points.old.items + 1 }
+    ensures steps { steps.new ≡ steps.old + 64 }
 {
     let point = Breakpoint::of(p, steps);
     if is_listed(points, &point) {
@@ -267,6 +301,8 @@ fn push<L: Ledger>(points: &mut Vec<Breakpoint>, p: Hom, steps: &mut Steps<L>) -
     ensures ok { OnOk result (breakpoint_points points.new.items ≡ breakpoint_points points.old.items ++ p ∷ []) }
     ensures err { OnErr result (breakpoint_points points.new.items ≡ breakpoint_points points.old.items) }
     ensures rational { IsPoint p }
+    ensures few { length points.new.items ≤ length points.old.items + 1 }
+    ensures steps { steps.new ≡ steps.old + 64 }
 {
     points.push(Breakpoint::of(p, steps))?;
     Ok(())
@@ -280,7 +316,8 @@ fn holds_mediants<L: Ledger>(
     steps: &mut Steps<L>,
 ) -> bool
     requires { IfSome runs (λ runs. runs.now ≡ ring.now.corners) }
-    ensures { IsTrue result ↔ AllAdjacentBelow (λ p q. IsIn ring.now.corners (mediant p.point q.point)) points.now (length points.now) }
+    ensures hold { IsTrue result ↔ AllAdjacentBelow (λ p q. IsIn ring.now.corners (mediant p.point q.point)) points.now (length points.now) }
+    ensures steps { steps.new ≤ steps.old + (length points.now - 1) * (1280 * length ring.now.corners + 65) }
 {
     for i in 1..points.len() {
         if !holds_mediant(ring, runs, &points[i - 1], &points[i], steps) {
@@ -299,7 +336,8 @@ fn holds_mediant<L: Ledger>(
     steps: &mut Steps<L>,
 ) -> bool
     requires { IfSome runs (λ runs. runs.now ≡ ring.now.corners) }
-    ensures { IsTrue result ↔ IsIn ring.now.corners (mediant p.now.point q.now.point) }
+    ensures holds { IsTrue result ↔ IsIn ring.now.corners (mediant p.now.point q.now.point) }
+    ensures steps { steps.new ≤ steps.old + (1280 * length ring.now.corners + 65) }
 {
     let between = Hom::between(&p.point, &q.point, steps);
     match place_by(ring, runs, &between, steps) {

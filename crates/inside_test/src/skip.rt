@@ -1,5 +1,5 @@
 // Ways to pass over edges of a ring, many at a time.
-ghost use Rattle.std.specs.Prelude.{◌≡◌, ◌<◌, ◌≤◌, IfSome, IsTrue, List, length};
+ghost use Rattle.std.specs.Prelude.{◌≡◌, ◌+◌, ◌*◌, ◌-◌, ◌<◌, ◌≤◌, ◌^◌, ℕ, IfNone, IfSome, IsTrue, List, length};
 ghost use Rattle.plane.specs.Point.{Point};
 ghost use Rattle.exact_plane.specs.Boxes.{Encloses};
 ghost use Rattle.ring_check.specs.Boxes.{AreBoxed};
@@ -17,6 +17,9 @@ pub(crate) trait Skip {
     // It is of the ring with these vertices.
     ghost is_of: { Self → List Point → Type 0 };
 
+    // To ask it for an edge that is apart takes at most so many steps.
+    ghost asks: { Self → ℕ → Type 0 };
+
     // An edge so that none from `first` to before it meets the segment from `a` to `b`, which is in the box. Where none is
     // passed over, that is `first`.
     fn apart_to<L: Ledger>(
@@ -33,10 +36,11 @@ pub(crate) trait Skip {
         requires has_first { Encloses around.now a.now }
         requires has_last { Encloses around.now b.now }
         ensures within { result ≤ length ring.now.corners }
-        ensures apart { MissesEdges ring.now.corners first result a.now b.now };
+        ensures apart { MissesEdges ring.now.corners first result a.now b.now }
+        ensures steps { (most : ℕ) → asks self.now most → steps.new ≤ steps.old + most };
 
     // A later edge, and where it is known that the point with these levels is on none of those from `first` to before it,
-    // whether an odd number of these is crossed.
+    // whether an odd number of these is crossed. It takes at most 128 steps for each of them.
     fn odd_to<L: Ledger>(
         &self,
         ring: &Ring,
@@ -48,7 +52,8 @@ pub(crate) trait Skip {
         requires some { first < length ring.now.corners }
         ensures later { first < result.0 }
         ensures within { result.0 ≤ length ring.now.corners }
-        ensures odd { IfSome result.1 (λ odd. IsOddTo ring.now.corners levels.now first result.0 odd) };
+        ensures odd { IfSome result.1 (λ odd. IsOddTo ring.now.corners levels.now first result.0 odd) }
+        ensures steps { steps.new ≤ steps.old + 128 * (result.0 - first) };
 }
 
 // The box round a few edges, made anew for each question.
@@ -56,6 +61,8 @@ pub(crate) struct ByBlocks;
 
 impl Skip for ByBlocks {
     ghost is_of = { λ _ _. Unit {0} };
+
+    ghost asks = { λ _ most. 1024 ≤ most };
 
     fn apart_to<L: Ledger>(
         &self,
@@ -107,7 +114,8 @@ fn are_apart<L: Ledger>(
     requires within { end < length ring.now.corners }
     requires has_first { Encloses around.now a.now }
     requires has_last { Encloses around.now b.now }
-    ensures { IsTrue result → MissesEdges ring.now.corners first end a.now b.now }
+    ensures apart { IsTrue result → MissesEdges ring.now.corners first end a.now b.now }
+    ensures steps { steps.new ≡ steps.old + 64 * (end - first + 1) }
 {
     let vertices = &ring.corners()[first as usize..end as usize + 1];
     !around.overlaps(&BoundingBox::of(vertices, steps))
@@ -115,6 +123,8 @@ fn are_apart<L: Ledger>(
 
 impl<'a> Skip for Runs<'a> {
     ghost is_of = { λ runs ring. runs ≡ ring };
+
+    ghost asks = { λ runs most. (d : ℕ) × (length runs < 2 ^ d) × (2048 * d ≤ most) };
 
     fn apart_to<L: Ledger>(
         &self,
@@ -148,7 +158,7 @@ impl<'a> Skip for Runs<'a> {
 }
 
 // The edge behind the greatest run from edge `first` on that tells whether an odd number of its edges is crossed, and whether
-// one is.
+// one is. It takes 128 steps where there is one, and else none.
 fn odd_by_runs<L: Ledger>(
     ring: &Ring,
     runs: &Runs,
@@ -157,7 +167,9 @@ fn odd_by_runs<L: Ledger>(
     steps: &mut Steps<L>,
 ) -> Option<(u32, bool)>
     requires runs { runs.now ≡ ring.now.corners }
-    ensures { IfSome result (λ found. IsOddAhead ring.now.corners levels.now first found.0 found.1) }
+    ensures ahead { IfSome result (λ found. IsOddAhead ring.now.corners levels.now first found.0 found.1) }
+    ensures steps { steps.new ≤ steps.old + 128 }
+    ensures steps_of_none { IfNone result (steps.new ≡ steps.old) }
 {
     let mut next = runs.greatest_from(first as usize);
     while let Some(k) = next {
@@ -180,7 +192,9 @@ fn odd_over<L: Ledger>(
     steps: &mut Steps<L>,
 ) -> Option<(u32, bool)>
     requires boxed { AreBoxed ring.now.corners edges.now }
-    ensures { IfSome result (λ found. IsOddAhead ring.now.corners levels.now first found.0 found.1) }
+    ensures ahead { IfSome result (λ found. IsOddAhead ring.now.corners levels.now first found.0 found.1) }
+    ensures steps { steps.new ≤ steps.old + 128 }
+    ensures steps_of_none { IfNone result (steps.new ≡ steps.old) }
 {
     if edges.first != first as usize
         || edges.end <= edges.first

@@ -6,6 +6,7 @@ mod EdgeRuns
 mod Orders
 pub mod Oriented
 mod Reflex
+mod RunTrees
 mod SharedPoints
 mod SlabSides
 mod StatusEdits

@@ -1,5 +1,6 @@
 -- Runs of consecutive edges, with covers of them. This project's own. No public clause cites this module.
-use Rattle.std.specs.Prelude.{ℕ, ◌<◌, ◌≤◌, ◌⊎◌, List}
+use Rattle.std.specs.Prelude.{ℕ, ◌-◌, ◌<◌, ◌≤◌, ◌⊎◌, List}
+use Rattle.std.specs.List.{sum_by}
 use Rattle.plane.specs.Point.{Point}
 use Rattle.rings.specs.Simple.{HasEqualEnds}
 use Rattle.ring_check.specs.Covers.{CoversEdge}
@@ -15,3 +16,11 @@ IsCovered ring run e =
 pub record IsRun (ring : List Point) (run : Run) : Type 0 where
   pub edges : (e : ℕ) → run.first ≤ e → e < run.end → IsCovered ring run e
   pub differ : (e : ℕ) → run.first ≤ e → e < run.end → HasEqualEnds ring e → ⊥
+
+-- how many edges it has
+abbrev pub run_length : Run → ℕ
+run_length run = run.end - run.first
+
+-- how many some runs have
+abbrev pub total_length : List Run → ℕ
+total_length runs = sum_by run_length runs

@@ -1,5 +1,5 @@
 // Bounding boxes of edges.
-ghost use Rattle.std.specs.Prelude.{◌<◌, length};
+ghost use Rattle.std.specs.Prelude.{◌≡◌, ◌+◌, ◌<◌, length};
 ghost use Rattle.ring_check.specs.Boxes.{EnclosesEdge};
 
 use crate::clash::corner;
@@ -26,7 +26,8 @@ pub struct BoxedEdges {
 // The box round an edge.
 pub(crate) fn box_of_edge<L: Ledger>(points: &[Pt], e: usize, steps: &mut Steps<L>) -> BoundingBox
     requires { e < length points.now }
-    ensures { EnclosesEdge points.now result e }
+    ensures encloses { EnclosesEdge points.now result e }
+    ensures steps { steps.new ≡ steps.old + 128 }
 {
     BoundingBox::of(&[corner(points, e), corner(points, e + 1)], steps)
 }

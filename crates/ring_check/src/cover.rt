@@ -1,5 +1,5 @@
 // A box and a slab round edges, of which either can show that another edge is apart from all of them.
-ghost use Rattle.std.specs.Prelude.{◌≡◌, ◌<◌, IsTrue, length};
+ghost use Rattle.std.specs.Prelude.{◌≡◌, ◌+◌, ◌<◌, ◌≤◌, IsTrue, length};
 ghost use Rattle.plane.specs.Point.{Point, whole};
 ghost use Rattle.plane.specs.Segment.{Meet};
 ghost use Rattle.exact_plane.specs.Boxes.{Encloses};
@@ -20,7 +20,9 @@ pub(crate) struct Cover {
 
 impl Cover {
     // No point; the slab goes the way from one point to another, which are so far apart in x and y together.
-    pub fn along<L: Ledger>(from: &Pt, to: &Pt, length: u64, steps: &mut Steps<L>) -> Cover {
+    pub fn along<L: Ledger>(from: &Pt, to: &Pt, length: u64, steps: &mut Steps<L>) -> Cover
+        ensures { steps.new ≡ steps.old + 128 }
+    {
         Cover {
             bounds: BoundingBox::empty(),
             slab: Slab::along(from, to, length, steps),
@@ -28,7 +30,9 @@ impl Cover {
     }
 
     // No point; the slab goes the way of that of the two that was made of the longer edge.
-    pub fn longer<L: Ledger>(&self, other: &Cover, steps: &mut Steps<L>) -> Cover {
+    pub fn longer<L: Ledger>(&self, other: &Cover, steps: &mut Steps<L>) -> Cover
+        ensures { steps.new ≡ steps.old + 128 }
+    {
         Cover {
             bounds: BoundingBox::empty(),
             slab: self.slab.longer(&other.slab).line(steps),
@@ -40,6 +44,7 @@ impl Cover {
         requires { e < length points.now }
         ensures edge { CoversEdge points.now result e }
         ensures old { (q : Point) → IsInCover self.now q → IsInCover result q }
+        ensures steps { steps.new ≡ steps.old + 640 }
     {
         let bounds = box_of_edge(points, e, steps);
         let slab = self.slab.with(&corner(points, e), steps);
@@ -59,8 +64,9 @@ impl Cover {
     ) -> bool
         requires p { Encloses bounds.now p.now }
         requires q { Encloses bounds.now q.now }
-        ensures { IsTrue result → (a b : Point) → IsInCover self.now a → IsInCover self.now b
+        ensures apart { IsTrue result → (a b : Point) → IsInCover self.now a → IsInCover self.now b
             → Meet (whole p.now) (whole q.now) (whole a) (whole b) → ⊥ }
+        ensures steps { steps.new ≤ steps.old + 512 }
     {
         !bounds.overlaps(&self.bounds) || self.slab.misses(p, q, steps)
     }

@@ -1,4 +1,4 @@
-ghost use Rattle.std.specs.Prelude.{◌≡◌, ◌<◌, ◌≤◌, ◌^◌, ◌*ℤ◌, ◌-ℤ◌, length, unsigned_abs};
+ghost use Rattle.std.specs.Prelude.{◌≡◌, ◌+◌, ◌<◌, ◌≤◌, ◌^◌, ◌*ℤ◌, ◌-ℤ◌, length, unsigned_abs};
 ghost use Rattle.plane.specs.declared.limits.TheConstants.{MAX_CORNERS};
 ghost use Rattle.rings.specs.Orientation.{doubled_area};
 ghost use Rattle.ring_check.specs.Oriented.{oriented};
@@ -37,6 +37,7 @@ fn doubled_area<L: Ledger>(points: &[Pt], steps: &mut Steps<L>) -> i64
 pub(crate) fn swept<L: Ledger>(from: &Pt, to: &Pt, steps: &mut Steps<L>) -> i64
     ensures value { result ≡ (from.now.x *ℤ to.now.y) -ℤ (to.now.x *ℤ from.now.y) }
     ensures small { unsigned_abs result < 2 ^ 47 }
+    ensures steps { steps.new ≡ steps.old + 128 }
 {
     let (from_x, from_y) = from.parts(steps);
     let (to_x, to_y) = to.parts(steps);

@@ -1,16 +1,17 @@
 // Runs of edges with covers of them, by which whole runs are left out.
 ghost use Rattle.std.specs.List.{All};
-ghost use Rattle.std.specs.Prelude.{◌≡◌, ◌+◌, ◌<◌, ◌≤◌, IfOk, IsTrue, List, length};
+ghost use Rattle.std.specs.Prelude.{◌≡◌, ◌+◌, ◌*◌, ◌-◌, ◌<◌, ◌≤◌, ◌^◌, ℕ, IfOk, IsTrue, List, length};
 ghost use Rattle.plane.specs.Point.{Point};
 ghost use Rattle.rings.specs.Simple.{HasEqualEnds};
 ghost use Rattle.exact_plane.specs.Boxes.{Encloses};
 ghost use Rattle.ring_check.specs.Boxes.{IsApartOver};
-ghost use Rattle.ring_check.specs.Runs.{IsRun};
+ghost use Rattle.ring_check.specs.Runs.{IsRun, run_length, total_length};
 
-use crate::clash::{corner, has_equal_ends};
+use crate::clash::corner;
 use crate::cover::Cover;
-use exact_plane::{BoundingBox, Memory, Pt, Steps};
+use exact_plane::{BoundingBox, Memory, Pt, Steps, order};
 use std::alloc::Global;
+use std::cmp::Ordering;
 use std::sync::ledger::Ledger;
 
 /// How many edges a run has at most that joins no others: their ends are sixteen vertices.
@@ -38,10 +39,15 @@ enum Way {
 }
 
 impl Run {
-    // The edges from `first` on, 15 or up to the end of the list or an edge with equal ends.
+    // The edges from `first` on, 15 or up to the end of the list or an edge with equal ends. It takes at most 2305 steps an edge and
+    // 512 more.
     fn of<L: Ledger>(points: &[Pt], first: usize, steps: &mut Steps<L>) -> Run
         requires { first < length points.now }
-        ensures { IsRun points.now result }
+        ensures run { IsRun points.now result }
+        ensures short { run_length result ≤ 15 }
+        ensures within { run_length result ≤ length points.now - first }
+        ensures steps { steps.new ≤ steps.old + 35087 }
+        ensures steps_within { steps.new ≤ steps.old + (2305 * (length points.now - first) + 512) }
     {
         let end = points.len().min(first + RUN);
         let run = Run {
@@ -55,17 +61,21 @@ impl Run {
         run.with_edges(points, end, steps)
     }
 
-    // The edges from its first to before `end` or an edge with equal ends, where its own covers are empty.
+    // The edges from its first to before `end` or an edge with equal ends, where its own covers are empty. It takes at most 769
+    // steps an edge.
     fn with_edges<L: Ledger>(&self, points: &[Pt], end: usize, steps: &mut Steps<L>) -> Run
         requires { end ≤ length points.now }
-        ensures { IsRun points.now result }
+        ensures run { IsRun points.now result }
+        ensures edges { run_length result ≤ end - self.now.first }
+        ensures steps { steps.new ≤ steps.old + 769 * (end - self.now.first) }
     {
         let mut run = Run {
             end: self.first,
             ..*self
         };
         for e in self.first..end {
-            if has_equal_ends(points, e, steps) {
+            let (from, to) = (corner(points, e), corner(points, e + 1));
+            if order(&from, &to, steps) == Ordering::Equal {
                 return run;
             }
             run = run.with_edge(points, e, steps);
@@ -80,7 +90,9 @@ impl Run {
         requires edge { e < length points.now }
         requires differ { HasEqualEnds points.now e → ⊥ }
         ensures run { IsRun points.now result }
+        ensures first { result.first ≡ self.now.first }
         ensures end { result.end ≡ e + 1 }
+        ensures steps { steps.new ≡ steps.old + 768 }
     {
         let run = Run {
             end: e + 1,
@@ -106,10 +118,12 @@ impl Run {
         }
     }
 
-    // This run and the next, or this one alone where the other does not follow it.
+    // This run and the next, or this one alone where the other does not follow it. It takes at most 769 steps an edge and 512 more.
     fn joined<L: Ledger>(&self, next: &Run, points: &[Pt], steps: &mut Steps<L>) -> Run
         requires { IsRun points.now self.now }
-        ensures { IsRun points.now result }
+        ensures run { IsRun points.now result }
+        ensures edges { run_length result ≤ run_length self.now + run_length next.now }
+        ensures steps { steps.new ≤ steps.old + (769 * (run_length self.now + run_length next.now) + 512) }
     {
         if next.first != self.end {
             return *self;
@@ -135,7 +149,8 @@ impl Run {
     ) -> bool
         requires p { Encloses bounds.now p.now }
         requires q { Encloses bounds.now q.now }
-        ensures { IsTrue result → (ring : List Point) → IsRun ring self.now → IsApartOver ring self.now.first self.now.end p.now q.now }
+        ensures apart { IsTrue result → (ring : List Point) → IsRun ring self.now → IsApartOver ring self.now.first self.now.end p.now q.now }
+        ensures steps { steps.new ≤ steps.old + 2048 }
     {
         if !self.eastward.is_apart(p, q, bounds, steps) {
             return false;
@@ -158,6 +173,7 @@ fn cover_along<L: Ledger>(
 ) -> Cover
     requires some { 0 < length points.now }
     requires end { end ≤ length points.now }
+    ensures { steps.new ≤ steps.old + (384 * (end - first) + 128) }
 {
     let mut cover = Cover::along(&points[0], &points[0], 0, steps);
     let mut most = 0;
@@ -174,6 +190,7 @@ fn cover_along<L: Ledger>(
 // How far edge `e` goes in x and in y together.
 fn length_of<L: Ledger>(points: &[Pt], e: usize, steps: &mut Steps<L>) -> u64
     requires { e < length points.now }
+    ensures { steps.new ≡ steps.old + 128 }
 {
     let (a, b) = corner(points, e).parts(steps);
     let (c, d) = corner(points, e + 1).parts(steps);
@@ -183,6 +200,7 @@ fn length_of<L: Ledger>(points: &[Pt], e: usize, steps: &mut Steps<L>) -> u64
 // The way that edge `e` goes. Only the time rests on it.
 fn way_of<L: Ledger>(points: &[Pt], e: usize, steps: &mut Steps<L>) -> Way
     requires { e < length points.now }
+    ensures { steps.new ≡ steps.old + 128 }
 {
     let (a, b) = corner(points, e).parts(steps);
     let (c, d) = corner(points, e + 1).parts(steps);
@@ -198,13 +216,15 @@ fn way_of<L: Ledger>(points: &[Pt], e: usize, steps: &mut Steps<L>) -> Way
 }
 
 // Runs from each 15th edge on, and after them runs that join two. Where m join none, run m + k joins runs 2 k and 2 k + 1,
-// so that they make a tree.
+// so that they make a tree. For each level of it each edge is looked at once.
 pub(crate) fn runs_of<L: Ledger>(
     alloc: Global,
     points: &[Pt],
     steps: &mut Steps<L>,
 ) -> Result<Vec<Run>, Memory>
-    ensures { IfOk result (λ runs. All (IsRun points.now) runs.items) }
+    ensures runs { IfOk result (λ runs. All (IsRun points.now) runs.items) }
+    ensures few { IfOk result (λ runs. length runs.items ≤ length points.now) }
+    ensures steps { (d : ℕ) → length points.now < 2 ^ d → steps.new ≤ steps.old + 800 * (length points.now * (d + 4)) }
 {
     let mut runs = least_runs(alloc, points, steps)?;
     let count = runs.len();
@@ -221,7 +241,10 @@ fn least_runs<L: Ledger>(
     points: &[Pt],
     steps: &mut Steps<L>,
 ) -> Result<Vec<Run>, Memory>
-    ensures { IfOk result (λ runs. All (IsRun points.now) runs.items) }
+    ensures runs { IfOk result (λ runs. All (IsRun points.now) runs.items) }
+    ensures few { IfOk result (λ runs. 15 * length runs.items ≤ length points.now + 14) }
+    ensures total { IfOk result (λ runs. total_length runs.items ≤ length points.now) }
+    ensures steps { steps.new ≤ steps.old + 2817 * length points.now }
 {
     let mut runs = Vec::with_capacity(alloc, points.len() / RUN * 2 + 2)?;
     let mut first = 0;

@@ -1,5 +1,5 @@
 // Slabs round points, which show that a segment is apart from others.
-ghost use Rattle.std.specs.Prelude.{◌≡◌, ◌<◌, ◌≤ℤ◌, ◌^◌, IsTrue, unsigned_abs};
+ghost use Rattle.std.specs.Prelude.{◌≡◌, ◌+◌, ◌<◌, ◌≤◌, ◌≤ℤ◌, ◌^◌, IsTrue, unsigned_abs};
 ghost use Rattle.plane.specs.Point.{Point, whole};
 ghost use Rattle.plane.specs.Segment.{Meet};
 ghost use Rattle.ring_check.specs.Slabs.{IsInSlab, slab_height};
@@ -11,7 +11,9 @@ use std::sync::ledger::Ledger;
 
 impl Slab {
     // The line through these two points, which are so far apart in x and y together.
-    pub fn along<L: Ledger>(from: &Pt, to: &Pt, length: u64, steps: &mut Steps<L>) -> Slab {
+    pub fn along<L: Ledger>(from: &Pt, to: &Pt, length: u64, steps: &mut Steps<L>) -> Slab
+        ensures { steps.new ≡ steps.old + 128 }
+    {
         let height = swept(to, from, steps);
         Slab {
             from: *from,
@@ -32,7 +34,9 @@ impl Slab {
     }
 
     // The line that it was made of.
-    pub fn line<L: Ledger>(&self, steps: &mut Steps<L>) -> Slab {
+    pub fn line<L: Ledger>(&self, steps: &mut Steps<L>) -> Slab
+        ensures { steps.new ≡ steps.old + 128 }
+    {
         Slab::along(&self.from, &self.to, self.length, steps)
     }
 
@@ -40,6 +44,7 @@ impl Slab {
     pub fn with<L: Ledger>(&self, p: &Pt, steps: &mut Steps<L>) -> Slab
         ensures new { IsInSlab result p.now }
         ensures old { (q : Point) → IsInSlab self.now q → IsInSlab result q }
+        ensures steps { steps.new ≡ steps.old + 256 }
     {
         let height = self.height(p, steps);
         Slab {
@@ -53,8 +58,9 @@ impl Slab {
 
     // Whether both ends of a segment are beyond one of its lines.
     pub fn misses<L: Ledger>(&self, p: &Pt, q: &Pt, steps: &mut Steps<L>) -> bool
-        ensures { IsTrue result → (a b : Point) → IsInSlab self.now a → IsInSlab self.now b
+        ensures apart { IsTrue result → (a b : Point) → IsInSlab self.now a → IsInSlab self.now b
             → Meet (whole p.now) (whole q.now) (whole a) (whole b) → ⊥ }
+        ensures steps { steps.new ≡ steps.old + 512 }
     {
         let (first, second) = (self.height(p, steps), self.height(q, steps));
         if first < self.least {
@@ -67,6 +73,7 @@ impl Slab {
     fn height<L: Ledger>(&self, p: &Pt, steps: &mut Steps<L>) -> i64
         ensures value { result ≡ slab_height self.now p.now }
         ensures small { unsigned_abs result < 2 ^ 48 }
+        ensures steps { steps.new ≡ steps.old + 256 }
     {
         swept(&self.to, p, steps) - swept(&self.from, p, steps)
     }

@@ -1,8 +1,11 @@
 // Walks over the edges of a list, on which whole runs are left out.
-ghost use Rattle.std.specs.Prelude.{◌≡◌, ◌<◌, ◌≤◌, ℕ, IfOk, IfSome, length};
+ghost use Rattle.std.specs.List.{All};
+ghost use Rattle.std.specs.Prelude.{◌≡◌, ◌+◌, ◌*◌, ◌-◌, ◌<◌, ◌≤◌, ◌^◌, ℕ, IfOk, IfSome, List, length};
+ghost use Rattle.plane.specs.Point.{Point};
 ghost use Rattle.rings.specs.Simple.{HasEqualEnds};
 ghost use Rattle.exact_plane.specs.Boxes.{Encloses};
 ghost use Rattle.ring_check.specs.Boxes.{AreBoxed, IsApartOver};
+ghost use Rattle.ring_check.specs.Runs.{IsRun};
 
 use crate::boxes::BoxedEdges;
 use crate::runs::{RUN, Run, runs_of};
@@ -20,7 +23,7 @@ pub struct Runs<'a> {
 
 impl<'a> Model for Runs<'a> {
     ghost use Rattle.std.specs.List.{All};
-    ghost use Rattle.std.specs.Prelude.{List};
+    ghost use Rattle.std.specs.Prelude.{◌≤◌, List, length};
     ghost use Rattle.plane.specs.Point.{Point};
     ghost use Rattle.ring_check.specs.Runs.{IsRun};
 
@@ -28,17 +31,18 @@ impl<'a> Model for Runs<'a> {
 
     ghost view = { λ runs. runs.points.now };
 
-    ghost invariant = { λ runs. All (IsRun runs.points.now) runs.runs.items };
+    ghost invariant = { λ runs. All (IsRun runs.points.now) runs.runs.items × (length runs.runs.items ≤ length runs.points.now) };
 }
 
 impl<'a> Runs<'a> {
-    /// The runs of this list.
+    /// The runs of this list. It takes at most 800 n (d + 4) steps for n points, n below 2 to the power d.
     pub fn of<L: Ledger>(
         alloc: Global,
         points: &'a [Pt],
         steps: &mut Steps<L>,
     ) -> Result<Runs<'a>, Memory>
-        ensures { IfOk result (λ runs. runs ≡ points.now) }
+        ensures runs { IfOk result (λ runs. runs ≡ points.now) }
+        ensures steps { (d : ℕ) → length points.now < 2 ^ d → steps.new ≤ steps.old + 800 * (length points.now * (d + 4)) }
     {
         Ok(Runs {
             points,
@@ -58,30 +62,14 @@ impl<'a> Runs<'a> {
 
     /// The number of the greatest run that begins at this edge. Short runs begin at each multiple of `RUN`, and no run elsewhere.
     pub fn greatest_from(&self, first: usize) -> Option<usize> {
-        let mut k = first / RUN;
-        if first % RUN != 0 || self.runs.len() <= k {
-            return None;
-        }
-        while k % 2 == 0 {
-            // The run that joins this one and the next.
-            let up = self.runs.len() / 2 + 1 + k / 2;
-            if self.runs.len() <= up || self.runs[up].first != first {
-                return Some(k);
-            }
-            k = up;
-        }
-        Some(k)
+        greatest_from(&self.runs, first)
     }
 
     /// The number of the first of the two runs that one joins, or `None` for a short run. It begins at the same edge.
     pub fn lesser(&self, k: usize) -> Option<usize>
         ensures { IfSome result (λ number. number < k) }
     {
-        let short = self.runs.len() / 2 + 1;
-        if k < short || self.runs.len() <= k {
-            return None;
-        }
-        Some(2 * (k - short))
+        lesser(&self.runs, k)
     }
 
     /// The edges of the run with this number, where there is one.
@@ -103,7 +91,8 @@ impl<'a> Runs<'a> {
     }
 
     /// The edge behind the greatest run from edge `first` on that is apart from a segment, which is in the box. Where there is
-    /// no such run, that is `first`.
+    /// no such run, that is `first`. It takes at most 2048 d steps for n points, n below 2 to the power d: so many for each run that
+    /// begins there.
     pub fn apart_to<L: Ledger>(
         &self,
         first: usize,
@@ -114,18 +103,64 @@ impl<'a> Runs<'a> {
     ) -> usize
         requires p { Encloses bounds.now p.now }
         requires q { Encloses bounds.now q.now }
-        ensures { IsApartOver self.now first result p.now q.now }
+        ensures apart { IsApartOver self.now first result p.now q.now }
+        ensures steps { (d : ℕ) → length self.now < 2 ^ d → steps.new ≤ steps.old + 2048 * d }
     {
-        let mut next = self.greatest_from(first);
-        while let Some(k) = next {
-            if k < self.runs.len() && self.runs[k].first == first {
-                let run = &self.runs[k];
-                if run.is_apart(p, q, bounds, steps) {
-                    return run.end;
-                }
-            }
-            next = self.lesser(k);
-        }
-        first
+        apart_to(&self.runs, first, p, q, bounds, steps)
     }
+}
+
+// The number of the greatest of these runs that begins at an edge.
+fn greatest_from(runs: &[Run], first: usize) -> Option<usize> {
+    let mut k = first / RUN;
+    if first % RUN != 0 || runs.len() <= k {
+        return None;
+    }
+    while k % 2 == 0 {
+        // The run that joins this one and the next.
+        let up = runs.len() / 2 + 1 + k / 2;
+        if runs.len() <= up || runs[up].first != first {
+            return Some(k);
+        }
+        k = up;
+    }
+    Some(k)
+}
+
+// The number of the first of the two runs that run `k` of these joins: there are twice as many behind it as behind run `k`.
+fn lesser(runs: &[Run], k: usize) -> Option<usize>
+    ensures number { IfSome result (λ number. number < k) }
+    ensures behind { IfSome result (λ number. 2 * (length runs.now - k) ≤ length runs.now - number) }
+{
+    let short = runs.len() / 2 + 1;
+    if k < short || runs.len() <= k {
+        return None;
+    }
+    Some(2 * (k - short))
+}
+
+// The edge behind the greatest of these runs from edge `first` on that is apart from a segment, which is in the box; or `first`.
+fn apart_to<L: Ledger>(
+    runs: &[Run],
+    first: usize,
+    p: &Pt,
+    q: &Pt,
+    bounds: &BoundingBox,
+    steps: &mut Steps<L>,
+) -> usize
+    requires p { Encloses bounds.now p.now }
+    requires q { Encloses bounds.now q.now }
+    ensures apart { (ring : List Point) → All (IsRun ring) runs.now → IsApartOver ring first result p.now q.now }
+    ensures steps { (d : ℕ) → length runs.now < 2 ^ d → steps.new ≤ steps.old + 2048 * d }
+{
+    let mut next = greatest_from(runs, first);
+    while let Some(k) = next {
+        if k < runs.len() && runs[k].first == first {
+            if runs[k].is_apart(p, q, bounds, steps) {
+                return runs[k].end;
+            }
+        }
+        next = lesser(runs, k);
+    }
+    first
 }

@@ -1,5 +1,5 @@
 // The rules that hold at each inner place.
-ghost use Rattle.std.specs.Prelude.{◌≡◌, ◌<◌, ◌≤◌, ◌↔◌, ◌⊎◌, IsTrue, IfSome, IfNone, length};
+ghost use Rattle.std.specs.Prelude.{◌≡◌, ◌+◌, ◌*◌, ◌-◌, ◌<◌, ◌≤◌, ◌^◌, ◌↔◌, ◌⊎◌, ℕ, IsTrue, IfSome, IfNone, length};
 ghost use Rattle.plane.specs.Point.{Point, whole};
 ghost use Rattle.rings.specs.Bend.{AreNeighbours, IsReflexVertex};
 ghost use Rattle.rings.specs.Chain.{IsInner, point_at};
@@ -23,7 +23,7 @@ pub fn is_inner(points: &[Pt], k: usize) -> bool
     0 < k && k < points.len() - 1
 }
 
-// The number of the reflex vertex that is this point, if there is one.
+// The number of the reflex vertex that is this point, if there is one. It takes at most 2048 d + 66 steps a vertex.
 pub fn reflex_vertex<L: Ledger>(
     ring: &Ring,
     runs: Option<&Runs>,
@@ -35,6 +35,7 @@ pub fn reflex_vertex<L: Ledger>(
     ensures vertex { IfSome result (λ i. vertex ring.now.corners i ≡ p.now) }
     ensures reflex { IfSome result (λ i. IsReflex ring.now.corners i) }
     ensures none { IfNone result (¬ IsReflexVertex ring.now.corners p.now) }
+    ensures steps { (d : ℕ) → let n = length ring.now.corners in n < 2 ^ d → steps.new ≤ steps.old + (2048 * d + 66) * n }
 {
     let n = ring.len();
     let mut first = 0;
@@ -61,6 +62,7 @@ fn passed_to<L: Ledger>(
     ensures later { first < result.0 }
     ensures within { result.0 ≤ length ring.now.corners }
     ensures apart { IsTrue result.1 → IsNoReflexFrom ring.now.corners first result.0 p.now }
+    ensures steps { (d : ℕ) → length ring.now.corners < 2 ^ d → steps.new ≤ steps.old + (2048 * d + 64) }
 {
     let n = ring.len();
     let Some(runs) = runs else {
@@ -91,6 +93,7 @@ fn reflex_vertex_among<L: Ledger>(
     ensures vertex { IfSome result (λ i. vertex ring.now.corners i ≡ p.now) }
     ensures reflex { IfSome result (λ i. IsReflex ring.now.corners i) }
     ensures none { IfNone result (IsNoReflexFrom ring.now.corners first end p.now) }
+    ensures steps { steps.new ≤ steps.old + 2 * (end - first) }
 {
     if is_apart {
         return None;
@@ -106,7 +109,8 @@ fn reflex_vertex_among<L: Ledger>(
 // Whether vertex `i` is this point, and reflex.
 fn is_reflex_at<L: Ledger>(ring: &Ring, i: u32, p: &Pt, steps: &mut Steps<L>) -> bool
     requires { i < length ring.now.corners }
-    ensures { IsTrue result ↔ ((vertex ring.now.corners i ≡ p.now) × IsReflex ring.now.corners i) }
+    ensures reflex { IsTrue result ↔ ((vertex ring.now.corners i ≡ p.now) × IsReflex ring.now.corners i) }
+    ensures steps { steps.new ≤ steps.old + 2 }
 {
     order(&ring.corner(i), p, steps) == Ordering::Equal && ring.is_reflex(i, steps)
 }
@@ -114,7 +118,8 @@ fn is_reflex_at<L: Ledger>(ring: &Ring, i: u32, p: &Pt, steps: &mut Steps<L>) ->
 // Whether the point at place `k` is on one line with the points beside it.
 pub fn has_no_turn<L: Ledger>(points: &[Pt], k: usize, steps: &mut Steps<L>) -> bool
     requires { IsInner points.now k }
-    ensures { IsTrue result ↔ HasNoTurn points.now k }
+    ensures straight { IsTrue result ↔ HasNoTurn points.now k }
+    ensures steps { steps.new ≡ steps.old + 1 }
 {
     let (p, v, q) = (point(points, k - 1), point(points, k), point(points, k + 1));
     are_in_line(&v, &p, &q, steps)
@@ -122,7 +127,8 @@ pub fn has_no_turn<L: Ledger>(points: &[Pt], k: usize, steps: &mut Steps<L>) -> 
 
 // Whether three points are on one line.
 fn are_in_line<L: Ledger>(a: &Pt, b: &Pt, c: &Pt, steps: &mut Steps<L>) -> bool
-    ensures { IsTrue result ↔ (turn_of (whole a.now) (whole b.now) (whole c.now) ≡ Direction.Straight) }
+    ensures straight { IsTrue result ↔ (turn_of (whole a.now) (whole b.now) (whole c.now) ≡ Direction.Straight) }
+    ensures steps { steps.new ≡ steps.old + 1 }
 {
     turn(a, b, c, steps) == Direction::Straight
 }
@@ -140,7 +146,8 @@ pub fn is_on_wrong_side<L: Ledger>(
     requires range { i < length ring.now.corners }
     requires vertex { vertex ring.now.corners i ≡ point_at points.now k }
     requires turns { ¬ HasNoTurn points.now k }
-    ensures { IsTrue result ↔ IsOnWrongSide ring.now.corners points.now k }
+    ensures wrong { IsTrue result ↔ IsOnWrongSide ring.now.corners points.now k }
+    ensures steps { steps.new ≤ steps.old + 6 }
 {
     let (p, v, q) = (point(points, k - 1), point(points, k), point(points, k + 1));
     let (before, after) = neighbours(ring, i);

@@ -1,5 +1,5 @@
 // The rules that hold at each place.
-ghost use Rattle.std.specs.Prelude.{◌≡◌, ◌<◌, ◌↔◌, IsTrue, IfOk, IfSome, length};
+ghost use Rattle.std.specs.Prelude.{◌≡◌, ◌+◌, ◌*◌, ◌<◌, ◌≤◌, ◌^◌, ◌↔◌, ℕ, IsTrue, IfOk, IfSome, length};
 ghost use Rattle.plane.specs.Point.{whole};
 ghost use Rattle.rings.specs.Chain.{point_at};
 ghost use Rattle.rings.specs.Inside.{IsIn};
@@ -24,7 +24,8 @@ pub fn point(points: &[Pt], k: usize) -> Pt
 // Whether the point at place `k` is the same as the next.
 pub fn is_repeat<L: Ledger>(points: &[Pt], k: usize, steps: &mut Steps<L>) -> bool
     requires { k < length points.now }
-    ensures { IsTrue result ↔ IsRepeat points.now k }
+    ensures repeat { IsTrue result ↔ IsRepeat points.now k }
+    ensures steps { steps.new ≤ steps.old + 1 }
 {
     k < points.len() - 1
         && order(&point(points, k), &point(points, k + 1), steps) == Ordering::Equal
@@ -43,7 +44,8 @@ pub fn is_leaving<L: Ledger>(
     requires runs { IfSome runs (λ runs. runs.now ≡ ring.now.corners) }
     requires place { k < length points.now }
     requires seen { IsSeenAt ring.now.corners points.now k }
-    ensures { IfOk result (λ leaving. IsTrue leaving ↔ IsLeaving ring.now.corners points.now k) }
+    ensures leaving { IfOk result (λ leaving. IsTrue leaving ↔ IsLeaving ring.now.corners points.now k) }
+    ensures steps { (d : ℕ) → let n = length ring.now.corners in n < 2 ^ d → steps.new ≤ steps.old + (2560 * (n * n) + 3000 * (n * (d + 2)) + 65) }
 {
     let from = point(points, k);
     if k < points.len() - 1 {
@@ -58,7 +60,8 @@ pub fn is_leaving<L: Ledger>(
 
 // Whether a point is not in the ring.
 fn is_outside<L: Ledger>(ring: &Ring, p: &Pt, steps: &mut Steps<L>) -> bool
-    ensures { IsTrue result ↔ ¬ (IsIn ring.now.corners (whole p.now)) }
+    ensures outside { IsTrue result ↔ ¬ (IsIn ring.now.corners (whole p.now)) }
+    ensures steps { steps.new ≤ steps.old + 1280 * length ring.now.corners + 65 }
 {
     place(ring, p, steps) == Position::Outside
 }

@@ -1,4 +1,4 @@
-ghost use Rattle.std.specs.Prelude.{◌≡◌, ◌-◌, ◌≤◌, ◌<◌, ◌↔◌, IfOk, IfSome, length};
+ghost use Rattle.std.specs.Prelude.{◌≡◌, ◌+◌, ◌*◌, ◌-◌, ◌≤◌, ◌<◌, ◌^◌, ◌↔◌, ℕ, IfOk, IfSome, length};
 ghost use Rattle.plane.specs.declared.limits.TheConstants.{MAX_CHAIN};
 ghost use Rattle.rings.specs.Chain.{IsBentChain, IsTaut, point_at};
 ghost use Rattle.taut_check.specs.Found.{IsFoundAt, IsSeenAt};
@@ -37,7 +37,8 @@ const MANY: usize = 192;
 
 const LONG: u32 = 1024;
 
-/// The verdict on a list of points.
+/// The verdict on a list of points. For m points and n vertices, n below 2 to the power d, it takes at most 2560 n n + 5100 n (d + 2)
+/// steps a point, and 800 n (d + 4) more.
 pub fn check<L: Ledger>(
     alloc: Global,
     ring: &Ring,
@@ -48,6 +49,8 @@ pub fn check<L: Ledger>(
     ensures verdict { IfOk result (IsVerdict ring.now.corners chain.now) }
     ensures taut { IfOk result (λ verdict. (verdict ≡ Verdict.Taut)
         ↔ IsTaut ring.now.corners (point_at chain.now 0) (point_at chain.now (length chain.now - 1)) chain.now) }
+    ensures steps { (d : ℕ) → let n = length ring.now.corners in n < 2 ^ d
+        → steps.new ≤ steps.old + ((2560 * (n * n) + 5100 * (n * (d + 2))) * length chain.now + 800 * (n * (d + 4))) }
 {
     // What holds of every ring is told with its length: that it is simple, so that no other chain is taut.
     let _length = ring.len();
@@ -64,6 +67,8 @@ fn verdict_on<L: Ledger>(
     requires { length chain.now ≤ MAX_CHAIN }
     ensures verdict { IfOk result (IsVerdict ring.now.corners chain.now) }
     ensures bent { IfOk result (λ verdict. (verdict ≡ Verdict.Taut) ↔ IsBentChain ring.now.corners chain.now) }
+    ensures steps { (d : ℕ) → let n = length ring.now.corners in n < 2 ^ d
+        → steps.new ≤ steps.old + ((2560 * (n * n) + 5048 * (n * d) + 6066 * n + 73) * length chain.now + 800 * (n * (d + 4))) }
 {
     if chain.is_empty() {
         return Ok(Verdict::Empty);
@@ -85,7 +90,8 @@ fn runs_for<'a, L: Ledger>(
     chain: &[Pt],
     steps: &mut Steps<L>,
 ) -> Result<Option<Runs<'a>>, Memory>
-    ensures { IfOk result (λ made. IfSome made (λ runs. runs ≡ ring.now.corners)) }
+    ensures runs { IfOk result (λ made. IfSome made (λ runs. runs ≡ ring.now.corners)) }
+    ensures steps { (d : ℕ) → let n = length ring.now.corners in n < 2 ^ d → steps.new ≤ steps.old + 800 * (n * (d + 4)) }
 {
     if chain.len() <= MANY || ring.len() <= LONG {
         return Ok(None);
@@ -106,7 +112,9 @@ fn verdict_at<L: Ledger>(
     requires most { length chain.now ≤ MAX_CHAIN }
     requires place { k < length chain.now }
     requires seen { IsSeenAt ring.now.corners chain.now k }
-    ensures { IfOk result (IsFoundAt ring.now.corners chain.now k) }
+    ensures found { IfOk result (IsFoundAt ring.now.corners chain.now k) }
+    ensures steps { (d : ℕ) → let n = length ring.now.corners in n < 2 ^ d
+        → steps.new ≤ steps.old + (2560 * (n * n) + 5048 * (n * d) + 6066 * n + 73) }
 {
     let place = k as u32;
     if is_repeat(chain, k, steps) {

@@ -5,8 +5,8 @@ use Rattle.inside_test.proofs.Passed.{above_of_true, meeting_backward, meeting_b
 use Rattle.inside_test.proofs.Touched.{on_touched, touched_of_on}
 use Rattle.inside_test.proofs.crossing.meeting_of.Goals as goal
 
-pub returns-in-true-true : goal.returns-in-true-true
-returns-in-true-true g c =
+pub returns-in-true-true-clause-meeting : goal.returns-in-true-true-clause-meeting
+returns-in-true-true-clause-meeting g c =
     let a = c.args.a.now in
     let b = c.args.b.now in
     let p = c.args.p.now in
@@ -22,34 +22,34 @@ returns-in-true-true g c =
           (no_rise_from_above b a p c.requires.last c.requires.first last);
     }
 
-pub returns-in-false-true : goal.returns-in-false-true
-returns-in-false-true g c =
+pub returns-in-false-true-clause-meeting : goal.returns-in-false-true-clause-meeting
+returns-in-false-true-clause-meeting g c =
     let a = c.args.a.now in
     let b = c.args.b.now in
     let p = c.args.p.now in
     let rise = rise_of a b p c.requires.first c.requires.last c.in-false-true.is-0 c.in-false-true.is-1 in
     let meeting = c.meeting_of_rise-in-false-true.ensures in
-    meeting_by_turn a.at b.at p c.requires.rational rise c.meeting_of_rise-in-false-true.result _ c.turn_of_rise-in-false-true.ensures meeting.on meeting.crossed meeting.missed
+    meeting_by_turn a.at b.at p c.requires.rational rise c.meeting_of_rise-in-false-true.result _ c.turn_of_rise-in-false-true.ensures.turn meeting.on meeting.crossed meeting.missed
 
-pub returns-in-true-false : goal.returns-in-true-false
-returns-in-true-false g c =
+pub returns-in-true-false-clause-meeting : goal.returns-in-true-false-clause-meeting
+returns-in-true-false-clause-meeting g c =
     let a = c.args.a.now in
     let b = c.args.b.now in
     let p = c.args.p.now in
     let rise = rise_of b a p c.requires.last c.requires.first c.in-true-false.is-1 c.in-true-false.is-0 in
     let meeting = c.meeting_of_rise.ensures in
     meeting_backward c.meeting_of_rise.result a.at b.at p
-    (meeting_by_turn b.at a.at p c.requires.rational rise c.meeting_of_rise.result _ c.turn_of_rise.ensures
+    (meeting_by_turn b.at a.at p c.requires.rational rise c.meeting_of_rise.result _ c.turn_of_rise.ensures.turn
     meeting.on meeting.crossed meeting.missed)
 
-pub returns-in-false-false : goal.returns-in-false-false
-returns-in-false-false g c =
+pub returns-in-false-false-clause-meeting : goal.returns-in-false-false-clause-meeting
+returns-in-false-false-clause-meeting g c =
     let a = c.args.a.now in
     let b = c.args.b.now in
     let p = c.args.p.now in
     let first = c.in-false-false.is-0 in
     let last = c.in-false-false.is-1 in
-    let (from_test, to_test) = c.is_touched.ensures p c.requires.levels in
+    let (from_test, to_test) = c.is_touched.ensures.touched p c.requires.levels in
     let (on, back) = c.meeting_below.ensures.on in
     record {
       on = (

@@ -4,20 +4,26 @@ use Rattle.inside_test.proofs.position.place_with.Goals as goal
 use Rattle.inside_test.proofs.position.place_with.Goals.{in-None+in-Some-odd_by_edges, in-Some}
 
 pub loop-first-init : goal.loop-first-init
-loop-first-init g c = (odd_start c.args.ring.now.corners c.args.p.now, omega arith)
+loop-first-init g c = (odd_start c.args.ring.now.corners c.args.p.now, omega arith, omega arith)
 
 pub loop-first-preserved : goal.loop-first-preserved
 loop-first-preserved g c =
-    let (before, _) = c.loop-first.invariant in
-    let levels = c.of-levels.ensures in (
-      elim c.match-odd.branch [
-        | in-Some w ↦
-            let over = rw w.in-Some.is at c.odd_to-end.ensures.odd in
-            rw w.odd-is (over c.args.p.now levels.levels levels.rational c.loop-first.is_odd before)
-        | in-None+in-Some-odd_by_edges w ↦ rw w.odd-is (w.in-Some-odd_by_edges.ensures.odd c.loop-first.is_odd before)
-      ],
-      c.odd_to-end.ensures.within,
-    )
+    let (before, _, steps) = c.loop-first.invariant in
+    let levels = c.of-levels.ensures in
+    let to_end = c.odd_to-end.ensures in
+    elim c.match-odd.branch [
+      | in-Some w ↦
+          let over = rw w.in-Some.is at to_end.odd in (
+            rw w.odd-is (over c.args.p.now levels.levels levels.rational c.loop-first.is_odd before),
+            to_end.within,
+            omega (arith, steps, w.steps-is, to_end.later, to_end.steps),
+          )
+      | in-None+in-Some-odd_by_edges w ↦ (
+        rw w.odd-is (w.in-Some-odd_by_edges.ensures.odd c.loop-first.is_odd before),
+        to_end.within,
+        omega (arith, steps, w.steps-is, to_end.later, to_end.steps, w.in-Some-odd_by_edges.ensures.steps),
+      )
+    ]
 
 pub returns-then-is_odd : goal.returns-then-is_odd
 returns-then-is_odd g c =
@@ -27,6 +33,7 @@ returns-then-is_odd g c =
       edge = (λ e. absurd (cc e), λ on. absurd (all.on_none on));
       inside = (λ _. (inside, all.on_none), λ _. refl);
       outside = (λ e. absurd (cc e), λ out. absurd (out inside));
+      steps = omega (arith, c.loop-first.invariant.1, c.loop-first.invariant.2);
     }
 
 pub returns-else-is_odd : goal.returns-else-is_odd
@@ -37,4 +44,5 @@ returns-else-is_odd g c =
       edge = (λ e. absurd (cc e), λ on. absurd (all.on_none on));
       inside = (λ e. absurd (cc e), λ h. absurd (outside h.0));
       outside = (λ _. outside, λ _. refl);
+      steps = omega (arith, c.loop-first.invariant.1, c.loop-first.invariant.2);
     }

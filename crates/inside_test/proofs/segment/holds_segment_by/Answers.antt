@@ -1,22 +1,42 @@
-use Rattle.std.proofs.Common.{length, rules}
-use Rattle.std.proofs.lemmas.List.Sorted.{IsPermutation-map}
+use Rattle.std.proofs.Common.{◌+◌, ◌*◌, ◌-◌, ◌≤◌, ap, arith, length, rules}
+use Rattle.std.proofs.lemmas.List.Sorted.{IsPermutation-map, length_permutation}
 use Rattle.plane.proofs.Points.{whole_is_point}
 use Rattle.plane.specs.Point.{whole}
 use Rattle.inside_test.proofs.Neighbours.{lists_permuted, sees_by_list}
+use Rattle.inside_test.proofs.Passing.{passed_fewer}
 use Rattle.inside_test.proofs.Sorting.{sorted_points}
 use Rattle.inside_test.proofs.segment.holds_segment_by.Goals as goal
 use Rattle.inside_test.specs.Breakpoints.{breakpoint_points}
 
-pub returns : goal.returns
-returns g c =
+pub returns-clause-holds : goal.returns-clause-holds
+returns-clause-holds g c =
     let ring = c.args.ring.now.corners in
     let a = whole c.args.a.now in
     let b = whole c.args.b.now in
     let old = c.in_ok-points.points.items in
     let new = c.sort_unstable_by.new.self.items in
     let moved = IsPermutation-map (λ k. k.point) old new c.sort_unstable_by.ensures.permutation in
-    let lists = lists_permuted ring (length ring) a b (breakpoint_points old) (breakpoint_points new) moved c.in_ok-points.ensures in
+    let lists = lists_permuted ring (length ring) a b (breakpoint_points old) (breakpoint_points new) moved c.in_ok-points.ensures.points in
     let sorted = sorted_points new c.sort_unstable_by.ensures.sorted (λ p r f' k. search rules) in
     let law = sees_by_list ring a b new lists sorted (whole_is_point c.args.a.now) (whole_is_point c.args.b.now) in
-    let mediants = rw c.deref.ensures.value at c.holds_mediants.ensures in
+    let mediants = rw c.deref.ensures.value at c.holds_mediants.ensures.hold in
     (λ h. law.0 (mediants.0 h), λ sees. mediants.1 (law.1 sees))
+
+pub returns-clause-steps : goal.returns-clause-steps
+returns-clause-steps g c = λ d below.
+    let n = length c.args.ring.now.corners in
+    let each = 1280 * n + 65 in
+    let old = c.in_ok-points.points.items in
+    let new = c.sort_unstable_by.new.self.items in
+    let count = length c.deref.result.now - 1 in
+    let same = length_permutation old new c.sort_unstable_by.ensures.permutation in
+    let listed = ap length c.deref.ensures.value in
+    let fewer : count ≤ 2 * n + 1 = omega (arith, same, listed, c.in_ok-points.ensures.few) in
+    omega (
+      arith,
+      c.len-ring_has_vertices.ensures.size.0,
+      c.breakpoints.ensures.steps d below,
+      c.runs_for.ensures.steps d below,
+      c.holds_mediants.ensures.steps,
+      passed_fewer each count (2 * n + 1) fewer,
+    )

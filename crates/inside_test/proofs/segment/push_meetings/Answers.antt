@@ -1,4 +1,4 @@
-use Rattle.std.proofs.Common.{◌≢◌, pos, refl}
+use Rattle.std.proofs.Common.{◌≢◌, pos, refl, arith}
 use Rattle.plane.specs.Line.{cross_product}
 use Rattle.plane.specs.Point.{whole}
 use Rattle.inside_test.proofs.Meetings.{encloses_crossing, encloses_parallel, meeting_on_first}
@@ -23,6 +23,8 @@ returns-in-Some g c =
       extends = extends_listed (whole a) (whole b) c.push_unlisted.result old new m (at_m, on) c.push_unlisted.ensures.ok c.push_unlisted.ensures.err;
       enclosed = on_ok c.push_unlisted.result (Lists m old new) (EnclosesAll new (whole a) (whole b) (whole c.args.c.now) (whole c.args.d.now))
           (encloses_crossing a b c.args.c.now c.args.d.now m at_m crossing first second old new) c.push_unlisted.ensures.ok;
+      few = omega (arith, c.push_unlisted.ensures.few);
+      steps = omega (arith, c.segments_meet.ensures.steps_most, c.meets_one_end.ensures.steps, c.push_unlisted.ensures.steps);
     }
 
 pub returns-in_ok-push_if_on-in-None : goal.returns-in_ok-push_if_on-in-None
@@ -35,6 +37,8 @@ returns-in_ok-push_if_on-in-None g c =
     let parallel = c.in-None.ensures.none.0 refl in
     let first = c.push_if_on.ensures.extends in
     let second = c.push_if_on-in-None.ensures.extends in
+    let first_few = c.push_if_on.ensures.few in
+    let second_few = c.push_if_on-in-None.ensures.few in
     record {
       extends = extends_trans (whole a) (whole b) old between new first second;
       enclosed = on_ok c.push_if_on-in-None.result _ (EnclosesAll new (whole a) (whole b) (whole c.args.c.now) (whole c.args.d.now))
@@ -42,4 +46,6 @@ returns-in_ok-push_if_on-in-None g c =
           (second.kept (whole a) (first.kept (whole a) c.requires.has_first)) (second.kept (whole b) (first.kept (whole b) c.requires.has_last))
           (λ on. second.kept (whole c.args.c.now) (c.in_ok-push_if_on-in-None.ensures.listed on)) has_d)
           c.push_if_on-in-None.ensures.listed;
+      few = omega (arith, first_few, second_few);
+      steps = omega (arith, c.segments_meet.ensures.steps_most, c.meets_one_end.ensures.steps, c.push_if_on.ensures.steps, c.push_if_on-in-None.ensures.steps);
     }

@@ -3,8 +3,8 @@ use Rattle.inside_test.proofs.Blocks.{each_missed, each_passed, is_between_ends,
 use Rattle.inside_test.proofs.skip.odd_over.Goals as goal
 use Rattle.inside_test.specs.Odd.{IsOddOver}
 
-pub returns-then-misses_all : goal.returns-then-misses_all
-returns-then-misses_all g c =
+pub returns-then-misses_all-clause-ahead : goal.returns-then-misses_all-clause-ahead
+returns-then-misses_all-clause-ahead g c =
     let ring = c.args.ring.now.corners in
     let edges = c.args.edges.now in
     let begins : edges.first ≡ c.args.first = c.if-edges-first.false in
@@ -17,8 +17,8 @@ returns-then-misses_all g c =
           (each_missed ring edges c.requires.boxed p rational (c.misses_all.ensures c.if-misses_all.true p levels)));
     }
 
-pub returns-then-passes_all : goal.returns-then-passes_all
-returns-then-passes_all g c =
+pub returns-then-passes_all-clause-ahead : goal.returns-then-passes_all-clause-ahead
+returns-then-passes_all-clause-ahead g c =
     let ring = c.args.ring.now.corners in
     let edges = c.args.edges.now in
     let begins : edges.first ≡ c.args.first = c.if-edges-first.false in
@@ -32,6 +32,6 @@ returns-then-passes_all g c =
       over = λ p levels rational. subst (λ n. IsOddOver ring n edges.end p (is_between_ends first_above last_above)) begins
           (over_passed ring p rational edges.first edges.end c.if-edges.false within
           (each_passed ring edges c.requires.boxed p rational (c.passes_all.ensures c.if-passes_all.true p levels)) first_above last_above
-          (rw (c.corner.ensures, ← begins) at (c.is_below-begins_above.ensures p levels))
-          (rw (c.next.ensures, ends) at (c.is_below-ends_above.ensures p levels)));
+          (rw (c.corner.ensures, ← begins) at (c.is_below-begins_above.ensures.below p levels))
+          (rw (c.next.ensures, ends) at (c.is_below-ends_above.ensures.below p levels)));
     }

@@ -13,4 +13,4 @@ apart_to-apart-requires-clause-q g c = c.of-around.ensures.within 0 (omega arith
 pub returns-then-apart-n-clause-apart : goal.returns-then-apart-n-clause-apart
 returns-then-apart-n-clause-apart g c = λ all i above below found.
     let ring = c.args.ring.now.corners in
-    not_at_vertex (vertex ring i) (vertex ring (i + 1)) c.args.p.now (IsApartFrom.apart (rw (rw c.in-Some.is at c.requires.runs) at (c.apart_to-apart.ensures i above below))) found.0
+    not_at_vertex (vertex ring i) (vertex ring (i + 1)) c.args.p.now (IsApartFrom.apart (rw (rw c.in-Some.is at c.requires.runs) at (c.apart_to-apart.ensures.apart i above below))) found.0

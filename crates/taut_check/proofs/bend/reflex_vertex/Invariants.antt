@@ -1,9 +1,13 @@
-use Rattle.std.proofs.Common.{◌≤◌, ◌-◌, length}
+use Rattle.std.proofs.Common.{ℕ, ◌+◌, ◌*◌, ◌^◌, ◌<◌, ◌≤◌, ◌-◌, length}
 use Rattle.taut_check.proofs.bend.reflex_vertex.Given as goal
 use Rattle.taut_check.specs.Found.{IsNoReflexFrom}
 
 abbrev pub invariant-loop-first : goal.invariant-loop-first
-invariant-loop-first g l = IsNoReflexFrom l.ring.corners 0 l.first l.p × (l.first ≤ length l.ring.corners)
+invariant-loop-first g l = record {
+  none : IsNoReflexFrom l.ring.corners 0 l.first l.p;
+  within : l.first ≤ length l.ring.corners;
+  steps : (d : ℕ) → length l.ring.corners < 2 ^ d → l.steps ≤ l.fn.steps + (2048 * d + 66) * l.first;
+}
 
 abbrev pub decreases-loop-first : goal.decreases-loop-first
 decreases-loop-first g l = l.n - l.first

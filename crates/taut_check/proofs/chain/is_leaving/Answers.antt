@@ -3,17 +3,17 @@ use Rattle.rings.specs.Chain.{point_at}
 use Rattle.taut_check.proofs.Leaving.{leaves_last, leaves_unseen, stays_where_seen}
 use Rattle.taut_check.proofs.chain.is_leaving.Goals as goal
 
-pub returns-then-k-points : goal.returns-then-k-points
-returns-then-k-points g c =
+pub returns-then-k-points-clause-leaving : goal.returns-then-k-points-clause-leaving
+returns-then-k-points-clause-leaving g c =
     let at_to : c.point-to.result ≡ point_at c.args.points.now (c.args.k + 1) = grind (arith, c.point-to.ensures) in
-    leaves_unseen c.args.ring.now.corners c.args.points.now c.args.k _ _ _ c.point-from.ensures at_to (omega arith) c.in_ok-holds_segment_by.ensures
+    leaves_unseen c.args.ring.now.corners c.args.points.now c.args.k _ _ _ c.point-from.ensures at_to (omega arith) c.in_ok-holds_segment_by.ensures.holds
 
-pub returns-then-k-gt0 : goal.returns-then-k-gt0
-returns-then-k-gt0 g c = (
+pub returns-then-k-gt0-clause-leaving : goal.returns-then-k-gt0-clause-leaving
+returns-then-k-gt0-clause-leaving g c = (
   λ h. absurd (cc h),
   λ leaves. absurd (stays_where_seen c.args.ring.now.corners c.args.points.now c.args.k (omega arith) c.requires.seen (omega arith) leaves),
 )
 
-pub returns : goal.returns
-returns g c =
-    leaves_last c.args.ring.now.corners c.args.points.now c.args.k _ _ c.point-from.ensures (omega arith) c.is_outside.ensures
+pub returns-clause-leaving : goal.returns-clause-leaving
+returns-clause-leaving g c =
+    leaves_last c.args.ring.now.corners c.args.points.now c.args.k _ _ c.point-from.ensures (omega arith) c.is_outside.ensures.outside

@@ -1,6 +1,6 @@
 use Rattle.inside_test.proofs.level.Levels.is_left_of.Goals as goal
 use Rattle.exact_plane.proofs.Registers.{read_is}
 
-pub returns : goal.returns
-returns g c = λ p levels.
+pub returns-clause-left : goal.returns-clause-left
+returns-clause-left g c = λ p levels.
     rw (c.parts.ensures.x, read_is c.args.v.now.x c.parts.ensures.bounds.x_in_limit) at (c.is_below.ensures p.X p.W levels.across)

@@ -4,8 +4,8 @@ use Rattle.ring_check.proofs.SlabSides.{no_meet_beyond, short_read}
 use Rattle.ring_check.proofs.slab.Slab.misses.Goals as goal
 use Rattle.ring_check.specs.Slabs.{slab_height}
 
-pub returns-then-first-self : goal.returns-then-first-self
-returns-then-first-self g c = λ h a b.
+pub returns-then-first-self-clause-apart : goal.returns-then-first-self-clause-apart
+returns-then-first-self-clause-apart g c = λ h a b.
     let slab = c.args.self.now in
     let first = c.height-first.ensures in
     let second = c.height-second.ensures in
@@ -14,8 +14,8 @@ returns-then-first-self g c = λ h a b.
     let low_too : slab_height slab c.args.q.now <ℤ slab.least = omega (arith, ints, least, short_read c.height-second.result second.small, second.value, h) in
     no_meet_beyond slab c.args.p.now c.args.q.now a b (inl (low, low_too))
 
-pub returns-then-self-first : goal.returns-then-self-first
-returns-then-self-first g c = λ h a b.
+pub returns-then-self-first-clause-apart : goal.returns-then-self-first-clause-apart
+returns-then-self-first-clause-apart g c = λ h a b.
     let slab = c.args.self.now in
     let first = c.height-first.ensures in
     let second = c.height-second.ensures in
