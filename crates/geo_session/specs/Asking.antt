@@ -10,7 +10,7 @@ use Rattle.geo_text.specs.declared.version.Version.TheVariants as version
 use Rattle.shared_seq.specs.Digits.{binary_digits}
 use Rattle.pair_cut.specs.Pairs.{IsMadeFor}
 use Rattle.geo_session.specs.Held.{HeldRing, IsTreeOf, kept_of, prepared_of}
-use Rattle.geo_session.specs.Paced.{TakesPathSteps, TakesReplySteps, TakesSteps, kernel_steps, path_pace, reach_pace, view_steps}
+use Rattle.geo_session.specs.Paced.{TakesPathSteps, TakesReplySteps, path_pace, reach_pace}
 use Rattle.geo_session.specs.Pairs.{IsIndex, IsSmall, IsVertexNumber}
 use Rattle.geo_session.specs.Prepared.{IsPreparedAfter, Seen, pair_pace, table_steps}
 use Rattle.geo_session.specs.Reply.{IsReply, state_after}
@@ -91,6 +91,4 @@ IsWrittenPaced seen (command.Pair i j) put out out' steps steps' =
     let n = size_of seen.state.kept in
     TakesBoth seen.state (command.Pair i j) (table_steps seen + pair_pace seen.state.version * n) put out out' steps steps'
 IsWrittenPaced seen command.Sights put out out' steps steps' = steps' ≤ steps + table_steps seen
-IsWrittenPaced seen (command.See q) put out out' steps steps' = TakesSteps seen.state (command.See q) (view_steps (size_of seen.state.kept)) steps steps'
-IsWrittenPaced seen command.Kernel put out out' steps steps' = TakesSteps seen.state command.Kernel (kernel_steps (size_of seen.state.kept)) steps steps'
 IsWrittenPaced seen other put out out' steps steps' = Unit {0}

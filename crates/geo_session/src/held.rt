@@ -7,11 +7,9 @@ ghost use Rattle.meshes.specs.Fits.{Fits};
 ghost use Rattle.ring_check.specs.Oriented.{given_of};
 ghost use Rattle.taut_check.specs.Verdict.{IsVerdict};
 ghost use Rattle.pair_cut.specs.Pairs.{IsMadeFor};
-ghost use Rattle.geo_text.specs.declared.version.Version.{Version};
-ghost use Rattle.geo_session.specs.Asking.{seen_of};
 ghost use Rattle.geo_session.specs.Guards.{GuardRing};
 ghost use Rattle.geo_session.specs.Held.{IsLocated, IsTreeOf, IsViewReply};
-ghost use Rattle.geo_session.specs.Paced.{IsPaced};
+ghost use Rattle.geo_session.specs.Paced.{check_steps, guards_steps, inside_steps, kernel_steps, view_steps};
 ghost use Rattle.geo_session.specs.Place.{IsPlace};
 ghost use Rattle.geo_session.specs.Told.{Tells};
 
@@ -21,7 +19,7 @@ use cut_tri::triangulate;
 use dual_tree::{Board, locate};
 use exact_plane::{Memory, Pt, Steps};
 use geo_reply::{Reply, Row};
-use geo_text::{Bad, Command};
+use geo_text::Bad;
 use guards3::guards;
 use inside_test::{Position, place};
 use pair_cut::PairTable;
@@ -112,7 +110,8 @@ impl Held {
 
     // Where a point is.
     pub(crate) fn place<L: Ledger>(&self, point: &Pt, steps: &mut Steps<L>) -> Position
-        ensures { IsPlace (given_of self.now.ring) point.now result }
+        ensures place { IsPlace (given_of self.now.ring) point.now result }
+        ensures steps { steps.new ≤ steps.old + inside_steps (length self.now.ring.corners) }
     {
         place(&self.ring, point, steps)
     }
@@ -125,7 +124,8 @@ impl Held {
         steps: &mut Steps<L>,
     ) -> Result<Verdict, Memory>
         requires { length points.now ≤ MAX_CHAIN }
-        ensures { IfOk result (IsVerdict (given_of self.now.ring) points.now) }
+        ensures verdict { IfOk result (IsVerdict (given_of self.now.ring) points.now) }
+        ensures steps { steps.new ≤ steps.old + check_steps (length self.now.ring.corners) (length points.now) }
     {
         check(alloc, &self.ring, points, steps)
     }
@@ -138,7 +138,7 @@ impl Held {
         steps: &mut Steps<L>,
     ) -> Result<Reply, Memory>
         ensures view { IfOk result (IsViewReply (given_of self.now.ring) q.now) }
-        ensures paced { (version : Version) → IsPaced (seen_of version (Some self.now)) (Command.See q.now) steps.old steps.new }
+        ensures steps { steps.new ≤ steps.old + view_steps (length self.now.ring.corners) }
     {
         let home = match self.find(1, q, steps) {
             Ok(home) => home,
@@ -157,7 +157,7 @@ impl Held {
         steps: &mut Steps<L>,
     ) -> Result<Reply, Memory>
         ensures kernel { IfOk result (Tells Reply.Kernel (IsKernel (given_of self.now.ring))) }
-        ensures paced { (version : Version) → IsPaced (seen_of version (Some self.now)) Command.Kernel steps.old steps.new }
+        ensures steps { steps.new ≤ steps.old + kernel_steps (length self.now.ring.corners) }
     {
         let _few_vertices = self.ring.len();
         let corners = kernel(alloc, &self.ring, steps)?;
@@ -170,7 +170,8 @@ impl Held {
         alloc: Global,
         steps: &mut Steps<L>,
     ) -> Result<Reply, Memory>
-        ensures { IfOk result (Tells Reply.Guards (GuardRing (given_of self.now.ring))) }
+        ensures guards { IfOk result (Tells Reply.Guards (GuardRing (given_of self.now.ring))) }
+        ensures steps { steps.new ≤ steps.old + guards_steps (length self.now.ring.corners) }
     {
         let _is_counterclockwise = self.ring.len();
         let mesh = triangulate(alloc, &self.ring, steps)?;

@@ -7,7 +7,7 @@ ghost use Rattle.geo_text.specs.Version.{by_version};
 ghost use Rattle.shared_seq.specs.Digits.{binary_digits};
 ghost use Rattle.geo_session.specs.Answer.{AppendsAnswer};
 ghost use Rattle.geo_session.specs.Asking.{IsWrittenPaced};
-ghost use Rattle.geo_session.specs.Paced.{IsPaced, TakesPathSteps, TakesReplySteps, TakesSteps, kernel_steps, path_pace, reach_pace, view_steps};
+ghost use Rattle.geo_session.specs.Paced.{IsPaced, TakesPathSteps, TakesReplySteps, TakesSteps, path_pace, reach_pace};
 ghost use Rattle.geo_session.specs.Path.{path_of};
 ghost use Rattle.geo_session.specs.Prepared.{IsPreparedAfter, first_seen, pair_pace, table_steps};
 ghost use Rattle.geo_session.specs.Reply.{IsFound, IsReply, state_after};
@@ -171,13 +171,12 @@ impl Session {
             OnOk result (TakesPathSteps (reach_pace self.old.state.version * n + 24 * (b * b)) out.old.items out.new.items steps.old steps.new) }
         ensures pair_steps { (i j : ℤ) → command ≡ Command.Pair i j → let n = size_of self.old.state.kept in
             OnOk result (TakesPathSteps (table_steps self.old + pair_pace self.old.state.version * n) out.old.items out.new.items steps.old steps.new) }
-        ensures view_steps { (q : Point) → command ≡ Command.See q
-            → TakesSteps self.old.state command (view_steps (size_of self.old.state.kept)) steps.old steps.new }
-        ensures kernel_steps { command ≡ Command.Kernel
-            → TakesSteps self.old.state command (kernel_steps (size_of self.old.state.kept)) steps.old steps.new }
         ensures sights_steps { command ≡ Command.Sights → steps.new ≤ steps.old + table_steps self.old }
 
-        // Also where memory is refused.
+        // Also where memory is refused: of each command,
+        ensures within { TakesSteps self.old command steps.old steps.new }
+
+        // and so of a path.
         ensures path_steps_always { (s t : Point) → command ≡ Command.Path s t
             → TakesReplySteps self.old.state command (path_pace self.old.state.version * size_of self.old.state.kept) steps.old steps.new }
         ensures reach_steps_always { (t : Point) → command ≡ Command.Reach t → let n = size_of self.old.state.kept in let b = binary_digits n in
@@ -202,6 +201,7 @@ impl Session {
         ensures same_session { OnErr result (self.new ≡ self.old) }
         ensures same_out { OnErr result (out.new.items ≡ out.old.items) }
         ensures paced { IsWrittenPaced self.old command result out.old.items out.new.items steps.old steps.new }
+        ensures within { TakesSteps self.old command steps.old steps.new }
     {
         let asked = ask(alloc, self.version(), &self.held, command, steps)?;
         put_reply(out, &asked.reply, steps)?;

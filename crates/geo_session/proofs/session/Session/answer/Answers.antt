@@ -1,4 +1,4 @@
-use Rattle.geo_session.proofs.Paces.{kernel_clause, pair_clause, path_clause, reach_clause, sights_clause, tree_clause, view_clause}
+use Rattle.geo_session.proofs.Paces.{pair_clause, path_clause, reach_clause, sights_clause, tree_clause}
 use Rattle.geo_session.proofs.session.Session.answer.Goals as goal
 
 pub returns-clause-path_steps : goal.returns-clause-path_steps
@@ -39,14 +39,4 @@ returns-clause-pair_steps_always g c = λ i j is.
 pub returns-clause-sights_steps : goal.returns-clause-sights_steps
 returns-clause-sights_steps g c = λ is.
     sights_clause c.args.self.now c.args.command c.put_answer.result c.args.out.now.items c.put_answer.new.out.items c.args.steps.now
-    c.put_answer.new.steps c.put_answer.ensures.paced is
-
-pub returns-clause-view_steps : goal.returns-clause-view_steps
-returns-clause-view_steps g c = λ q is.
-    view_clause c.args.self.now c.args.command c.put_answer.result c.args.out.now.items c.put_answer.new.out.items c.args.steps.now c.put_answer.new.steps
-    c.put_answer.ensures.paced q is
-
-pub returns-clause-kernel_steps : goal.returns-clause-kernel_steps
-returns-clause-kernel_steps g c = λ is.
-    kernel_clause c.args.self.now c.args.command c.put_answer.result c.args.out.now.items c.put_answer.new.out.items c.args.steps.now
     c.put_answer.new.steps c.put_answer.ensures.paced is
