@@ -21,7 +21,15 @@ path_pace version = by_version version 16 36
 abbrev pub reach_pace : Version → ℕ
 reach_pace version = by_version version 3 26
 
--- so many steps are enough to place a point,
+-- so many steps are enough to triangulate a polygon,
+abbrev pub mesh_steps : ℕ → ℕ
+mesh_steps n = 64 * n + 200 * n * binary_digits n
+
+-- and to test a list of points before,
+abbrev pub polygon_steps : ℕ → ℕ
+polygon_steps n = 283 * (n * n) + 1400 * (n * (binary_digits n + 4)) + mesh_steps n
+
+-- to place a point,
 abbrev pub inside_steps : ℕ → ℕ
 inside_steps n = 1280 * n + 65
 
@@ -29,7 +37,15 @@ inside_steps n = 1280 * n + 65
 abbrev pub check_steps : ℕ → ℕ → ℕ
 check_steps n m = let b = binary_digits n in (2560 * (n * n) + 5100 * (n * (b + 2))) * m + 800 * (n * (b + 4))
 
--- to find what a point sees, from its triangle outward,
+-- to find a relative hull: the paths between each two of its m points, which are compared, and what is told of its sides,
+abbrev pub hull_steps : Version → ℕ → ℕ → ℕ
+hull_steps version n m = m * (by_version version 3 23 * n + m * (4 * n + 3 * m + 47))
+
+-- its round,
+abbrev pub round_steps : ℕ → ℕ → ℕ
+round_steps n m = m * (3 * n + m * (4 * n + 3 * m + 70))
+
+-- what a point sees, from its triangle outward,
 abbrev pub view_steps : ℕ → ℕ
 view_steps n = 17 * n
 
@@ -50,8 +66,8 @@ most_steps seen (command.Reach t) =
     let n = size_of seen.state.kept in let b = binary_digits n in reach_pace seen.state.version * n + 24 * (b * b)
 most_steps seen (command.See q) = view_steps (size_of seen.state.kept)
 most_steps seen command.Kernel = kernel_steps (size_of seen.state.kept)
-most_steps seen (command.Hull points) = hull_steps (size_of seen.state.kept) (length points)
-most_steps seen (command.Round points) = hull_steps (size_of seen.state.kept) (length points)
+most_steps seen (command.Hull points) = hull_steps seen.state.version (size_of seen.state.kept) (length points)
+most_steps seen (command.Round points) = round_steps (size_of seen.state.kept) (length points)
 most_steps seen command.Guards = guards_steps (size_of seen.state.kept)
 most_steps seen (command.Pair i j) = table_steps seen + pair_pace seen.state.version * size_of seen.state.kept
 most_steps seen command.Sights = table_steps seen

@@ -9,7 +9,7 @@ ghost use Rattle.taut_check.specs.Verdict.{IsVerdict};
 ghost use Rattle.pair_cut.specs.Pairs.{IsMadeFor};
 ghost use Rattle.geo_session.specs.Guards.{GuardRing};
 ghost use Rattle.geo_session.specs.Held.{IsLocated, IsTreeOf, IsViewReply};
-ghost use Rattle.geo_session.specs.Paced.{check_steps, guards_steps, inside_steps, kernel_steps, view_steps};
+ghost use Rattle.geo_session.specs.Paced.{check_steps, guards_steps, inside_steps, kernel_steps, mesh_steps, view_steps};
 ghost use Rattle.geo_session.specs.Place.{IsPlace};
 ghost use Rattle.geo_session.specs.Told.{Tells};
 
@@ -60,7 +60,8 @@ impl Held {
         ring: Ring,
         steps: &mut Steps<L>,
     ) -> Result<Held, Memory>
-        ensures { IfOk result (λ held. (held.ring ≡ ring) × (held.source ≡ None) × (held.prepared ≡ false)) }
+        ensures held { IfOk result (λ held. (held.ring ≡ ring) × (held.source ≡ None) × (held.prepared ≡ false)) }
+        ensures steps { steps.new ≤ steps.old + mesh_steps (length ring.corners) }
     {
         let mesh = mesh_of(alloc, &ring, steps)?;
         Ok(Held {
@@ -74,12 +75,7 @@ impl Held {
     // Keeps a tree in the place of the one before.
     pub(crate) fn keep(&mut self, grown: Grown)
         requires { IsTreeOf self.old.ring.corners self.old.tris grown }
-        ensures { self.new ≡ record {
-          ring = self.old.ring;
-          tris = self.old.tris;
-          source = Some grown.source;
-          prepared = self.old.prepared;
-        } }
+        ensures { self.new ≡ record { ring = self.old.ring; tris = self.old.tris; source = Some grown.source; prepared = self.old.prepared } }
     {
         self.grown = Some(grown);
     }
@@ -186,7 +182,8 @@ pub(crate) fn mesh_of<L: Ledger>(
     ring: &Ring,
     steps: &mut Steps<L>,
 ) -> Result<Mesh, Memory>
-    ensures { IfOk result (Fits ring.now.corners) }
+    ensures fits { IfOk result (Fits ring.now.corners) }
+    ensures steps { steps.new ≤ steps.old + mesh_steps (length ring.now.corners) }
 {
     let _ring_is_simple = ring.len();
     let order = lexical(alloc, ring, steps)?;
