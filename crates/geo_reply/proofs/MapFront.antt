@@ -1,6 +1,8 @@
--- A list that a loop fills with what a function makes of each element of another, and a text that it writes so.
-use Rattle.std.proofs.Common.{◌≡◌, ◌∙◌, ap, sym, arith, append_assoc, ℕ, ◌+◌, ◌<◌, ◌≤◌, List, [], ◌∷◌, ◌++◌, get_or, length, map, take}
+-- A list that a loop fills with what a function makes of each element of another, a text that it writes so, and the steps of that.
+use Rattle.std.proofs.Common.{◌≡◌, ◌∙◌, ap, sym, arith, append_assoc, ℕ, ◌+◌, ◌*◌, ◌<◌, ◌≤◌, List, [], ◌∷◌, ◌++◌, get_or, length, map, take}
 use Rattle.std.proofs.lemmas.List.{append-nil, flat_map_more, length-map, length-take-le, map_more, take_all, take_more}
+use Rattle.std.proofs.lemmas.List.Sums.{sum_by-cons}
+use Rattle.std.specs.List.{sum_by}
 use Rattle.std.specs.Prelude.{flat_map}
 
 module _ {X Y : Type 0} (f : X → Y) (xs : List X) (k : ℕ) (made : List Y) (front : made ≡ map f (take k xs)) where
@@ -36,3 +38,8 @@ module _ {X : Type 0} (f : X → List ℕ) (xs : List X) (old front : List ℕ) 
 
     pub flat_whole : length xs ≤ k → mid ≡ old ++ (front ++ flat_map f xs)
     flat_whole end = inside ∙ ap (λ l. old ++ (front ++ flat_map f l)) (take_all k xs end)
+
+-- so many for each
+pub same_for_each : {X : Type 0} (k : ℕ) (xs : List X) → sum_by (λ x. k) xs ≡ k * length xs
+same_for_each k [] = omega arith
+same_for_each k (x ∷ xs) = let more = sum_by-cons (λ x. k) x xs in let rest = same_for_each k xs in omega (arith, more, rest)

@@ -1,17 +1,35 @@
 -- How many steps the lines of a reply take. This project's own.
+use Rattle.std.specs.List.{sum_by}
 use Rattle.std.specs.Prelude.{ℕ, ◌+◌, ◌*◌, ◌≤◌, List, [], length}
-use Rattle.plane.specs.Point.{Point}
+use Rattle.plane.specs.Point.{Point, Triple}
+use Rattle.rings.specs.Visible.{Part}
 use Rattle.geo_reply.specs.declared.reply.Reply.{Reply}
 use Rattle.geo_reply.specs.declared.reply.Reply.TheVariants as reply
+use Rattle.geo_reply.specs.declared.reply.Side.{Side}
 
 -- the points of a reply that is a path
 abbrev pub points_of_path : Reply → List Point
 points_of_path (reply.Path points) = points
 points_of_path other = []
 
--- 64 for each point of a path; those of a view, a kernel and a hull are not counted
+-- 64 for each point: for a corner of a kernel, for the ends of a part, and for a side of a hull
+abbrev pub corner_steps : Triple → ℕ
+corner_steps corner = 64
+
+abbrev pub part_steps : Part → ℕ
+part_steps part = 128
+
+abbrev pub side_steps : Side → ℕ
+side_steps side = 64 * length side.path
+
+-- those of all lines of a reply; numbers and words take none
+abbrev pub written_steps : Reply → ℕ
+written_steps (reply.Path points) = 64 * length points
+written_steps (reply.View parts) = 128 * length parts
+written_steps (reply.Kernel corners) = 64 * length corners
+written_steps (reply.Hull sides) = sum_by side_steps sides
+written_steps other = 0
+
+-- so many are enough for the lines of a reply
 abbrev pub WritesSteps : Reply → ℕ → ℕ → Type 0
-WritesSteps (reply.View parts) steps steps' = Unit {0}
-WritesSteps (reply.Kernel corners) steps steps' = Unit {0}
-WritesSteps (reply.Hull sides) steps steps' = Unit {0}
-WritesSteps answered steps steps' = steps' ≤ steps + 64 * length (points_of_path answered)
+WritesSteps answered steps steps' = steps' ≤ steps + written_steps answered

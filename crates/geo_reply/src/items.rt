@@ -1,6 +1,8 @@
 // Replies that have a line for each item.
-ghost use Rattle.std.specs.Prelude.{◌≡◌, ◌++◌, List, ℕ, length, take, OnOk, OnErr};
+ghost use Rattle.std.specs.List.{sum_by};
+ghost use Rattle.std.specs.Prelude.{◌≡◌, ◌+◌, ◌≤◌, ◌++◌, List, ℕ, length, take, OnOk, OnErr};
 ghost use Rattle.geo_reply.specs.ReplyText.{corner_text, lines_text, part_text, side_text};
+ghost use Rattle.geo_reply.specs.Written.{corner_steps, part_steps, side_steps};
 
 use crate::lines::{put_corner, put_count, put_part, put_side};
 use crate::reply::Side;
@@ -12,10 +14,14 @@ use std::sync::ledger::Ledger;
 pub(crate) trait Item {
     ghost line: { Self → List ℕ };
 
+    // How many steps the line takes at most.
+    ghost line_steps: { Self → ℕ };
+
     // Appends the line.
     fn put<L: Ledger>(&self, out: &mut Vec<u8>, steps: &mut Steps<L>) -> Result<(), Memory>
         ensures ok { OnOk result (out.new.items ≡ out.old.items ++ line self.now) }
-        ensures front { OnErr result (take (length out.old.items) out.new.items ≡ out.old.items) };
+        ensures front { OnErr result (take (length out.old.items) out.new.items ≡ out.old.items) }
+        ensures steps { steps.new ≤ steps.old + line_steps self.now };
 }
 
 // Appends a line with a word and how many items there are, and then the line of each.
@@ -27,6 +33,7 @@ pub(crate) fn put_items<T: Item, L: Ledger>(
 ) -> Result<(), Memory>
     ensures ok { OnOk result (out.new.items ≡ out.old.items ++ lines_text word.now T.line items.now) }
     ensures front { OnErr result (take (length out.old.items) out.new.items ≡ out.old.items) }
+    ensures steps { steps.new ≤ steps.old + sum_by T.line_steps items.now }
 {
     put_count(out, word, items.len() as u64)?;
     for item in items {
@@ -38,6 +45,8 @@ pub(crate) fn put_items<T: Item, L: Ledger>(
 impl Item for Part {
     ghost line = { part_text };
 
+    ghost line_steps = { part_steps };
+
     fn put<L: Ledger>(&self, out: &mut Vec<u8>, steps: &mut Steps<L>) -> Result<(), Memory> {
         put_part(out, self, steps)
     }
@@ -46,6 +55,8 @@ impl Item for Part {
 impl Item for Hom {
     ghost line = { corner_text };
 
+    ghost line_steps = { corner_steps };
+
     fn put<L: Ledger>(&self, out: &mut Vec<u8>, steps: &mut Steps<L>) -> Result<(), Memory> {
         put_corner(out, self, steps)
     }
@@ -53,6 +64,8 @@ impl Item for Hom {
 
 impl Item for Side {
     ghost line = { side_text };
+
+    ghost line_steps = { side_steps };
 
     fn put<L: Ledger>(&self, out: &mut Vec<u8>, steps: &mut Steps<L>) -> Result<(), Memory> {
         put_side(out, self, steps)

@@ -3,7 +3,7 @@ ghost use Rattle.std.specs.Prelude.{◌≡◌, ◌+◌, ◌*◌, ◌≤◌, ◌<
 ghost use Rattle.geo_text.specs.Texts.{index_text, pt_text};
 ghost use Rattle.geo_reply.specs.ReplyText.{broken_text, corner_text, count_text, from_text, froms_text, lines_text, numbers_text};
 ghost use Rattle.geo_reply.specs.ReplyText.{part_text, place_text, points_text, reply_text, side_text, sight_text, verdict_text};
-ghost use Rattle.geo_reply.specs.Written.{WritesSteps};
+ghost use Rattle.geo_reply.specs.Written.{WritesSteps, corner_steps, part_steps, side_steps};
 
 use crate::items::put_items;
 use crate::reply::{Before, Reply, Side};
@@ -14,7 +14,8 @@ use see_cone::Part;
 use std::sync::ledger::Ledger;
 use taut_check::Verdict;
 
-/// Appends the lines of a reply. It takes at most 64 steps for each point of a path. After want of memory `out` is as it was.
+/// Appends the lines of a reply. It takes at most 64 steps for each point of a path, of a side of a hull or of a kernel, and 128 for
+/// each part of a view. After want of memory `out` is as it was.
 pub fn put_reply<L: Ledger>(
     out: &mut Vec<u8>,
     reply: &Reply,
@@ -179,7 +180,7 @@ fn put_from(out: &mut Vec<u8>, i: u32, before: Before) -> Result<(), Memory>
     put_line_end(out)
 }
 
-// Appends the line of a part.
+// Appends the line of a part. It takes 128 steps.
 pub(crate) fn put_part<L: Ledger>(
     out: &mut Vec<u8>,
     part: &Part,
@@ -187,6 +188,7 @@ pub(crate) fn put_part<L: Ledger>(
 ) -> Result<(), Memory>
     ensures ok { OnOk result (out.new.items ≡ out.old.items ++ part_text part.now) }
     ensures front { OnErr result (take (length out.old.items) out.new.items ≡ out.old.items) }
+    ensures steps { steps.new ≤ steps.old + part_steps part.now }
 {
     put_word(out, "part")?;
     put_index(out, part.edge)?;
@@ -195,7 +197,7 @@ pub(crate) fn put_part<L: Ledger>(
     put_line_end(out)
 }
 
-// Appends the line of a corner.
+// Appends the line of a corner. It takes 64 steps.
 pub(crate) fn put_corner<L: Ledger>(
     out: &mut Vec<u8>,
     corner: &Hom,
@@ -203,13 +205,14 @@ pub(crate) fn put_corner<L: Ledger>(
 ) -> Result<(), Memory>
     ensures ok { OnOk result (out.new.items ≡ out.old.items ++ corner_text corner.now) }
     ensures front { OnErr result (take (length out.old.items) out.new.items ≡ out.old.items) }
+    ensures steps { steps.new ≤ steps.old + corner_steps corner.now }
 {
     put_word(out, "corner")?;
     put_hom(out, corner, steps)?;
     put_line_end(out)
 }
 
-// Appends the line of a side.
+// Appends the line of a side. It takes at most 64 steps for each point of its path.
 pub(crate) fn put_side<L: Ledger>(
     out: &mut Vec<u8>,
     side: &Side,
@@ -217,6 +220,7 @@ pub(crate) fn put_side<L: Ledger>(
 ) -> Result<(), Memory>
     ensures ok { OnOk result (out.new.items ≡ out.old.items ++ side_text side.now) }
     ensures front { OnErr result (take (length out.old.items) out.new.items ≡ out.old.items) }
+    ensures steps { steps.new ≤ steps.old + side_steps side.now }
 {
     put_word(out, "side")?;
     put_index(out, side.start)?;

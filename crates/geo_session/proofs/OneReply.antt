@@ -20,6 +20,7 @@ use Rattle.cut_tri.specs.Cut.{OneCutLaw}
 use Rattle.guards3.specs.Guards.{OneGuardsLaw}
 use Rattle.pair_cut.specs.Pairs.{OneSightsLaw}
 use Rattle.geo_reply.specs.ReplyText.{reply_text}
+use Rattle.geo_reply.specs.Written.{written_steps}
 use Rattle.geo_reply.specs.declared.reply.Before.{Before}
 use Rattle.geo_reply.specs.declared.reply.Before.TheVariants as before
 use Rattle.geo_reply.specs.declared.reply.Reply.{Reply}
@@ -28,7 +29,7 @@ use Rattle.geo_session.proofs.OneHull.{one_hull, one_outside}
 use Rattle.geo_session.proofs.OneNumbers.{one_guarding, one_numbers}
 use Rattle.geo_session.proofs.OneShown.{one_shown}
 use Rattle.geo_session.proofs.OneVerdict.{one_verdict}
-use Rattle.geo_session.proofs.OneView.{one_kernel_text, one_see_text}
+use Rattle.geo_session.proofs.OneView.{one_kernel_steps, one_kernel_text, one_see_steps, one_see_text}
 use Rattle.geo_session.specs.Laws.{OneReplyLaw}
 use Rattle.geo_session.specs.Pairs.{AreSightsReply, IsPairReply, IsVertexNumber, first_off, joined, second_off, sighted, too_large, too_many}
 use Rattle.geo_session.specs.Path.{IsPathReply, IsReachReply, TellsPath}
@@ -74,12 +75,12 @@ Same one other = one ≡ other
 same : (one other : Reply) → one ≡ other → Same one other
 same one other e = e
 
--- or have one text
-abbrev SameText : Reply → Reply → Type 0
-SameText one other = reply_text one ≡ reply_text other
+-- or have one text, for which as many steps are enough
+abbrev SameLines : Reply → Reply → Type 0
+SameLines one other = (reply_text one ≡ reply_text other) × (written_steps one ≡ written_steps other)
 
-same_text : (one other : Reply) → one ≡ other → SameText one other
-same_text one other = ap reply_text
+same_lines : (one other : Reply) → one ≡ other → SameLines one other
+same_lines one other e = (ap reply_text e, ap written_steps e)
 
 -- ---- a polygon, and a point
 
@@ -164,6 +165,30 @@ pub one_pair_of : (before : State) (i j : ℤ) (one other : Reply) → IsReply b
 one_pair_of before i j one other h g =
     one_of Same same before.version before.kept (command.Pair i j) one other (λ k. one_pair_reply before.version k.ring i j one other) h g
 
+-- ---- a view, and a kernel
+
+pub one_view_of : (before : State) (q : Point) (one other : Reply) → IsReply before (command.See q) one → IsReply before (command.See q) other
+    → SameLines one other
+one_view_of before q one other h g =
+    one_of SameLines same_lines before.version before.kept (command.See q) one other
+    (λ k. one_within SameLines same_lines k.ring (q ∷ []) _
+    (λ a b is is_too. (
+      ap reply_text is.told
+          ∙ one_see_text k.ring (whole q) is.value is_too.value is.holds.seen is_too.holds.seen
+          ∙ sym (ap reply_text is_too.told),
+      ap written_steps is.told
+          ∙ one_see_steps k.ring (whole q) is.value is_too.value is.holds.seen is_too.holds.seen
+          ∙ sym (ap written_steps is_too.told),
+    )) one other) h g
+
+pub one_kernel_of : (before : State) (one other : Reply) → IsReply before command.Kernel one → IsReply before command.Kernel other → SameLines one other
+one_kernel_of before one other h g =
+    one_of SameLines same_lines before.version before.kept command.Kernel one other
+    (λ k is is_too. (
+      ap reply_text is.told ∙ one_kernel_text (IsInKernel k.ring) is.value is_too.value is.holds is_too.holds ∙ sym (ap reply_text is_too.told),
+      ap written_steps is.told ∙ one_kernel_steps (IsInKernel k.ring) is.value is_too.value is.holds is_too.holds ∙ sym (ap written_steps is_too.told),
+    )) h g
+
 -- ---- a tree
 
 module _ (ring : List Point) (s t : Point) where
@@ -202,6 +227,68 @@ module _ (one_sights : OneSightsLaw) where
 
 -- ---- a command
 
+one_inside_of : (before : State) (p : Point) (one other : Reply) → IsReply before (command.Inside p) one → IsReply before (command.Inside p) other → one ≡ other
+one_inside_of before p one other =
+    one_of Same same before.version before.kept (command.Inside p) one other (λ k. one_told reply.Place _ (one_place k.ring p) one other)
+
+one_check_of : (before : State) (points : List Point) (one other : Reply) → IsReply before (command.Check points) one
+    → IsReply before (command.Check points) other → one ≡ other
+one_check_of before points one other =
+    one_of Same same before.version before.kept (command.Check points) one other (λ k. one_told reply.Verdict _ (one_verdict k.ring points) one other)
+
+one_tree_of : (before : State) (s : Point) (one other : Reply) → IsReply before (command.Tree s) one → IsReply before (command.Tree s) other → one ≡ other
+one_tree_of before s one other =
+    one_of Same same before.version before.kept (command.Tree s) one other
+    (λ k. one_within Same same k.ring (s ∷ []) _ (one_told reply.Tree _ (one_befores k.ring s)) one other)
+
+one_hull_of : (before : State) (points : List Point) (one other : Reply) → IsReply before (command.Hull points) one
+    → IsReply before (command.Hull points) other → one ≡ other
+one_hull_of before points one other =
+    one_of Same same before.version before.kept (command.Hull points) one other
+    (λ k. one_within Same same k.ring points _ (one_told reply.Hull _ (one_hull before.version k.ring points)) one other)
+
+one_round_of : (before : State) (points : List Point) (one other : Reply) → IsReply before (command.Round points) one
+    → IsReply before (command.Round points) other → one ≡ other
+one_round_of before points one other =
+    one_of Same same before.version before.kept (command.Round points) one other
+    (λ k. one_within Same same k.ring points _ (one_told reply.Round _ (one_numbers k.ring points)) one other)
+
+-- the lines of a tree, of guards and of sights take no steps, whatever they are,
+pub quiet_tree : (version : Version) (kept : Option Kept) (s : Point) (answered : Reply) → IsReplyOf version kept (command.Tree s) answered
+    → written_steps answered ≡ 0
+quiet_tree version None s answered e = ap written_steps e
+quiet_tree version (Some kept) s answered (outside fault h e) = ap written_steps e
+quiet_tree version (Some kept) s answered (within all h) = ap written_steps h.told
+
+quiet_guards : (version : Version) (kept : Option Kept) (answered : Reply) → IsReplyOf version kept command.Guards answered → written_steps answered ≡ 0
+quiet_guards version None answered e = ap written_steps e
+quiet_guards version (Some kept) answered h = ap written_steps h.told
+
+pub quiet_sights : (version : Version) (kept : Option Kept) (answered : Reply) → IsReplyOf version kept command.Sights answered → written_steps answered ≡ 0
+quiet_sights version None answered e = ap written_steps e
+quiet_sights version (Some kept) answered (too_large _ e) = ap written_steps e
+quiet_sights version (Some kept) answered (sighted _ h) = ap written_steps h.told
+
+-- and those of two replies to one command as many
+pub same_written : (before : State) (asked : Command) (one other : Reply) → IsReply before asked one → IsReply before asked other
+    → written_steps one ≡ written_steps other
+same_written before command.Two one other h g = ap written_steps (h ∙ sym g)
+same_written before (command.Polygon ring) one other h g = ap written_steps (one_polygon ring one other h g)
+same_written before (command.Inside p) one other h g = ap written_steps (one_inside_of before p one other h g)
+same_written before (command.Check points) one other h g = ap written_steps (one_check_of before points one other h g)
+same_written before (command.Path s t) one other h g = ap written_steps (one_path_of before s t one other h g)
+same_written before (command.Tree s) one other h g = ap written_steps (one_tree_of before s one other h g)
+same_written before (command.Reach t) one other h g = ap written_steps (one_reach_of before t one other h g)
+same_written before (command.See q) one other h g = (one_view_of before q one other h g).1
+same_written before command.Kernel one other h g = (one_kernel_of before one other h g).1
+same_written before (command.Hull points) one other h g = ap written_steps (one_hull_of before points one other h g)
+same_written before (command.Round points) one other h g = ap written_steps (one_round_of before points one other h g)
+same_written before command.Guards one other h g =
+    quiet_guards before.version before.kept one h ∙ sym (quiet_guards before.version before.kept other g)
+same_written before (command.Pair i j) one other h g = ap written_steps (one_pair_of before i j one other h g)
+same_written before command.Sights one other h g =
+    quiet_sights before.version before.kept one h ∙ sym (quiet_sights before.version before.kept other g)
+
 -- the same reply has one text and leaves one state
 alike : (before : State) (asked : Command) (one other : Reply) → one ≡ other
     → (reply_text one ≡ reply_text other) × (state_after before asked one ≡ state_after before asked other)
@@ -211,43 +298,15 @@ module _ (one_cut : OneCutLaw) (one_guards : OneGuardsLaw) (one_sights : OneSigh
   pub one_reply : OneReplyLaw
   one_reply before command.Two one other h g = alike before command.Two one other (h ∙ sym g)
   one_reply before (command.Polygon ring) one other h g = alike before (command.Polygon ring) one other (one_polygon ring one other h g)
-  one_reply before (command.Inside p) one other h g =
-      alike before (command.Inside p) one other
-      (one_of Same same before.version before.kept (command.Inside p) one other (λ k. one_told reply.Place _ (one_place k.ring p) one other) h g)
-  one_reply before (command.Check points) one other h g =
-      alike before (command.Check points) one other
-      (one_of Same same before.version before.kept (command.Check points) one other (λ k. one_told reply.Verdict _ (one_verdict k.ring points) one other) h g)
-  one_reply before (command.Path s t) one other h g =
-      alike before (command.Path s t) one other (one_path_of before s t one other h g)
-  one_reply before (command.Tree s) one other h g =
-      alike before (command.Tree s) one other
-      (one_of Same same before.version before.kept (command.Tree s) one other
-      (λ k. one_within Same same k.ring (s ∷ []) _ (one_told reply.Tree _ (one_befores k.ring s)) one other) h g)
-  one_reply before (command.Reach t) one other h g =
-      alike before (command.Reach t) one other (one_reach_of before t one other h g)
-  one_reply before (command.See q) one other h g = (
-    one_of SameText same_text before.version before.kept (command.See q) one other
-        (λ k. one_within SameText same_text k.ring (q ∷ []) _
-        (λ a b seen seen_too. ap reply_text seen.told
-        ∙ one_see_text k.ring (whole q) seen.value seen_too.value seen.holds.seen seen_too.holds.seen
-        ∙ sym (ap reply_text seen_too.told)) one other) h g,
-    refl,
-  )
-  one_reply before command.Kernel one other h g = (
-    one_of SameText same_text before.version before.kept command.Kernel one other
-        (λ k is is_too. ap reply_text is.told
-        ∙ one_kernel_text (IsInKernel k.ring) is.value is_too.value is.holds is_too.holds
-        ∙ sym (ap reply_text is_too.told)) h g,
-    refl,
-  )
-  one_reply before (command.Hull points) one other h g =
-      alike before (command.Hull points) one other
-      (one_of Same same before.version before.kept (command.Hull points) one other
-      (λ k. one_within Same same k.ring points _ (one_told reply.Hull _ (one_hull before.version k.ring points)) one other) h g)
-  one_reply before (command.Round points) one other h g =
-      alike before (command.Round points) one other
-      (one_of Same same before.version before.kept (command.Round points) one other
-      (λ k. one_within Same same k.ring points _ (one_told reply.Round _ (one_numbers k.ring points)) one other) h g)
+  one_reply before (command.Inside p) one other h g = alike before (command.Inside p) one other (one_inside_of before p one other h g)
+  one_reply before (command.Check points) one other h g = alike before (command.Check points) one other (one_check_of before points one other h g)
+  one_reply before (command.Path s t) one other h g = alike before (command.Path s t) one other (one_path_of before s t one other h g)
+  one_reply before (command.Tree s) one other h g = alike before (command.Tree s) one other (one_tree_of before s one other h g)
+  one_reply before (command.Reach t) one other h g = alike before (command.Reach t) one other (one_reach_of before t one other h g)
+  one_reply before (command.See q) one other h g = ((one_view_of before q one other h g).0, refl)
+  one_reply before command.Kernel one other h g = ((one_kernel_of before one other h g).0, refl)
+  one_reply before (command.Hull points) one other h g = alike before (command.Hull points) one other (one_hull_of before points one other h g)
+  one_reply before (command.Round points) one other h g = alike before (command.Round points) one other (one_round_of before points one other h g)
   one_reply before command.Guards one other h g =
       alike before command.Guards one other
       (one_of Same same before.version before.kept command.Guards one other (λ k. one_told reply.Guards _ (one_guarding one_cut one_guards k.ring) one other) h g)

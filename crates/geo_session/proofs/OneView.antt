@@ -1,5 +1,5 @@
 -- What a point sees has one text, and so has a kernel: rational points may be given by other triples, but their texts are the same.
-use Rattle.std.proofs.Common.{◌≡◌, ◌∙◌, refl, sym, ap, ap₂, ℕ, suc, pos, ◌<◌, List, [], ◌∷◌, ◌++◌, length, arith}
+use Rattle.std.proofs.Common.{◌≡◌, ◌∙◌, refl, sym, ap, ap₂, ℕ, suc, pos, ◌*◌, ◌<◌, List, [], ◌∷◌, ◌++◌, length, arith}
 use Rattle.std.proofs.Math.Nat.{mod-eq_of_lt}
 use Rattle.std.specs.Prelude.{codes, flat_map, slice_index_or}
 use Rattle.plane.proofs.CornerLists.{corners_are_one}
@@ -41,6 +41,10 @@ module _ (ring : List Point) (q : Triple) (parts others : List Part) (are : AreP
       one_part_text (part_at parts k) (part_at others k) there.first_rational there.last_rational here.first_rational here.last_rational
       (one.same_edge k below) (one.same_first k below) (one.same_last k below)))
 
+  -- and as many steps are enough for its lines
+  pub one_see_steps : 128 * length parts ≡ 128 * length others
+  one_see_steps = ap (λ (n : ℕ). 128 * n) (parts_are_one ring q parts others are are_too).one_length
+
 module _ (set : Triple → Type 0) (corners others : List Triple) (list : IsCornerList set corners) (list_too : IsCornerList set others) where
   corner_number : (cs : List Triple) (k : ℕ) → k < length cs
       → corner_at cs k ≡ slice_index_or cs k (record { X = pos 0; Y = pos 0; W = pos 1 })
@@ -58,3 +62,6 @@ module _ (set : Triple → Type 0) (corners others : List Triple) (list : IsCorn
       (same_hom_text (corner_at corners k) (corner_at others k) (list.are_corners.rational k below) (list_too.are_corners.rational k below_too)
       (one.same_corner k below))
       ∙ ap corner_text (corner_number others k below_too)))
+
+  pub one_kernel_steps : 64 * length corners ≡ 64 * length others
+  one_kernel_steps = ap (λ (n : ℕ). 64 * n) (corners_are_one set corners others list list_too).one_length

@@ -1,7 +1,9 @@
 -- The bounds on steps: of replies, and of their lines.
-use Rattle.std.proofs.Common.{◌≡◌, ◌∙◌, inl, inr, refl, sym, ap, subst, true, false, ℕ, ℤ, ◌+◌, ◌-◌, ◌*◌, ◌≤◌, List, [], ◌∷◌, ◌++◌, length, Result, arith}
+use Rattle.std.proofs.Common.{◌≡◌, ◌∙◌, inl, inr, refl, sym, ap, subst, true, false, ℕ, ℤ, suc, ◌+◌, ◌-◌, ◌*◌, ◌^◌, ◌<◌, ◌≤◌, List, [], ◌∷◌, ◌++◌, length, Result, arith}
+use Rattle.std.proofs.Math.Nat.{pow-suc}
 use Rattle.std.specs.Prelude.{OnOk, Option, Some, None}
 use Rattle.plane.specs.Point.{Point}
+use Rattle.shared_seq.proofs.Digits.{binary_digits_enough}
 use Rattle.shared_seq.specs.Digits.{binary_digits}
 use Rattle.geo_text.specs.Version.{by_version}
 use Rattle.geo_text.specs.declared.command.Bad.{Bad}
@@ -17,10 +19,10 @@ use Rattle.geo_reply.specs.declared.reply.Before.{Before}
 use Rattle.geo_reply.specs.declared.reply.Reply.{Reply}
 use Rattle.geo_reply.specs.declared.reply.Reply.TheVariants as reply
 use Rattle.geo_session.proofs.GivenSize.{size_held}
-use Rattle.geo_session.proofs.OneReply.{one_pair_of, one_path_of, one_reach_of}
+use Rattle.geo_session.proofs.OneReply.{one_pair_of, one_path_of, one_reach_of, quiet_sights, quiet_tree, same_written}
 use Rattle.geo_session.specs.Asking.{IsWrittenPaced, TakesBoth, seen_of}
-use Rattle.geo_session.specs.Held.{HeldRing}
-use Rattle.geo_session.specs.Paced.{IsPaced, path_pace, reach_pace}
+use Rattle.geo_session.specs.Held.{HeldRing, kept_of}
+use Rattle.geo_session.specs.Paced.{IsPaced, TakesSteps, kernel_steps, most_steps, path_pace, reach_pace}
 use Rattle.geo_session.specs.Pairs.{AreSightsReply, IsPairReply, first_off, joined, second_off, sighted, too_large, too_many}
 use Rattle.geo_session.specs.Path.{IsReachReply, TellsPath}
 use Rattle.geo_session.specs.Prepared.{Seen, pair_pace, table_steps}
@@ -30,14 +32,19 @@ use Rattle.geo_session.specs.Told.{RepliesWithin, Tells, outside, within}
 
 -- ---- replies
 
+-- with a digit more there is room for four more,
+digits_and_four : (n : ℕ) → 3 ≤ n → n + 4 < 2 ^ (binary_digits n + 1)
+digits_and_four n some =
+    let up : binary_digits n + 1 ≡ suc (binary_digits n) = omega arith in
+    rw up (omega (arith, binary_digits_enough n, pow-suc 2 (binary_digits n), some))
+
+-- and four steps more are within two for each of some
+room_for_four : (n b : ℕ) → 3 ≤ n → n * (2 * (b + 1) + 143) + 4 ≤ n * (2 * b + 147)
+room_for_four n b some = omega (arith, some)
+
 -- no steps are few enough
 pub unpaced : (seen : Seen) (asked : Command) (steps : ℕ) → IsPaced seen asked steps steps
-unpaced seen (command.Path s t) steps = no_more steps _
-unpaced seen (command.Tree s) steps = no_more steps _
-unpaced seen (command.Reach t) steps = no_more steps _
-unpaced seen (command.Pair i j) steps = no_more steps _
-unpaced seen command.Sights steps = no_more steps _
-unpaced seen _ steps = tt
+unpaced seen asked steps = no_more steps _
 
 module _ (version : Version) (held : HeldRing) (start done : ℕ) where
   -- a point is found, and a tree is grown there
@@ -57,6 +64,20 @@ module _ (version : Version) (held : HeldRing) (start done : ℕ) where
   pub new_pair_paced : (i j : ℤ) (made : ℕ) → held.prepared ≡ false → let n = length held.ring.corners in let b = binary_digits n in
       made ≤ start + 200 * (n * n) * (b * b) → done ≤ made + by_version version 0 20 * n → IsPaced (seen_of version (Some held)) (command.Pair i j) start done
   new_pair_paced i j made none making few = rw (none, size_held held) (omega (arith, making, few))
+
+-- so many steps are enough in the polygon that is held
+pub held_paced : (version : Version) (held : HeldRing) (asked : Command) (start done : ℕ) (cost : ℕ → ℕ)
+    → most_steps (seen_of version (Some held)) asked ≡ cost (size_of (kept_of (Some held))) → done ≤ start + cost (length held.ring.corners)
+    → IsPaced (seen_of version (Some held)) asked start done
+held_paced version held asked start done cost is few = let same = ap cost (size_held held) in omega (arith, is, same, few)
+
+-- a kernel is found with a digit more than those of the number of vertices
+pub kernel_found : (n start done : ℕ) → 3 ≤ n → ((d : ℕ) → n + 4 < 2 ^ d → done ≤ start + n * (2 * d + 143) + 4) → done ≤ start + kernel_steps n
+kernel_found n start done some few =
+    let b = binary_digits n in
+    let more = few (b + 1) (digits_and_four n some) in
+    let cost : n * (2 * (b + 1) + 143) + 4 ≤ n * (2 * b + 147) = room_for_four n b some in
+    omega (arith, more, cost)
 
 -- ---- lines
 
@@ -119,31 +140,13 @@ module _ {E : Type 0} (before : State) (asked : Command) (most : ℕ) (put : Res
     λ other h. omega (arith, few, same),
   )
 
--- those of a tree and of a visibility graph take none
-quiet_tree : (ring : List Point) (points : List Point) (Holds : List Before → Type 0) (answered : Reply) (told done : ℕ)
-    → RepliesWithin ring points (Tells reply.Tree Holds) answered → WritesSteps answered told done → done ≤ told
-quiet_tree ring points Holds answered told done (outside fault h e) more =
-    let wrote : done ≤ told + 64 * 0 = subst (λ (r : Reply). WritesSteps r told done) e more in omega (arith, wrote)
-quiet_tree ring points Holds answered told done (within all h) more =
-    let wrote : done ≤ told + 64 * 0 = subst (λ (r : Reply). WritesSteps r told done) h.told more in omega (arith, wrote)
+-- the lines of a reply are added to it, also where want of memory cuts them off
+module _ (seen : Seen) (asked : Command) (steps told done : ℕ) (paced : IsPaced seen asked steps told) where
+  pub takes_lines : (answered : Reply) → IsReply seen.state asked answered → WritesSteps answered told done → TakesSteps seen asked steps done
+  takes_lines answered h more = λ other g. let same = same_written seen.state asked answered other h g in omega (arith, paced, more, same)
 
-quiet_tree_of : (version : Version) (kept : Option Kept) (s : Point) (answered : Reply) (told done : ℕ) → IsReplyOf version kept (command.Tree s) answered
-    → WritesSteps answered told done → done ≤ told
-quiet_tree_of version None s answered told done e more =
-    let wrote : done ≤ told + 64 * 0 = subst (λ (r : Reply). WritesSteps r told done) e more in omega (arith, wrote)
-quiet_tree_of version (Some kept) s answered told done h more = quiet_tree kept.ring (s ∷ []) _ answered told done h more
-
-quiet_sights : (ring : List Point) (answered : Reply) (told done : ℕ) → AreSightsReply ring answered → WritesSteps answered told done → done ≤ told
-quiet_sights ring answered told done (too_large _ e) more =
-    let wrote : done ≤ told + 64 * 0 = subst (λ (r : Reply). WritesSteps r told done) e more in omega (arith, wrote)
-quiet_sights ring answered told done (sighted _ h) more =
-    let wrote : done ≤ told + 64 * 0 = subst (λ (r : Reply). WritesSteps r told done) h.told more in omega (arith, wrote)
-
-quiet_sights_of : (version : Version) (kept : Option Kept) (answered : Reply) (told done : ℕ) → IsReplyOf version kept command.Sights answered
-    → WritesSteps answered told done → done ≤ told
-quiet_sights_of version None answered told done e more =
-    let wrote : done ≤ told + 64 * 0 = subst (λ (r : Reply). WritesSteps r told done) e more in omega (arith, wrote)
-quiet_sights_of version (Some kept) answered told done h more = quiet_sights kept.ring answered told done h more
+  pub takes_no_lines : done ≡ told → TakesSteps seen asked steps done
+  takes_no_lines same = λ other h. omega (arith, paced, same)
 
 module _ {E : Type 0} (seen : Seen) (put : Result (Unit {0}) E) (out out' : List ℕ) (steps told done : ℕ) where
   -- so a command is paced with its lines,
@@ -153,7 +156,7 @@ module _ {E : Type 0} (seen : Seen) (put : Result (Unit {0}) E) (out out' : List
       takes_both seen.state (command.Path s t) _ put out out' steps told done paced answered
       (path_of_kept seen.state.version seen.state.kept s t answered h) (λ other g. one_path_of seen.state s t answered other h g) more written
   written_paced (command.Tree s) answered h paced more written =
-      let none = quiet_tree_of seen.state.version seen.state.kept s answered told done h more in omega (arith, paced, none)
+      let none = quiet_tree seen.state.version seen.state.kept s answered h in omega (arith, paced, more, none)
   written_paced (command.Reach t) answered h paced more written =
       takes_both seen.state (command.Reach t) _ put out out' steps told done paced answered
       (reach_of_kept seen.state.version seen.state.kept t answered h) (λ other g. one_reach_of seen.state t answered other h g) more written
@@ -161,7 +164,7 @@ module _ {E : Type 0} (seen : Seen) (put : Result (Unit {0}) E) (out out' : List
       takes_both seen.state (command.Pair i j) _ put out out' steps told done paced answered
       (pair_of_kept seen.state.version seen.state.kept i j answered h) (λ other g. one_pair_of seen.state i j answered other h g) more written
   written_paced command.Sights answered h paced more written =
-      let none = quiet_sights_of seen.state.version seen.state.kept answered told done h more in omega (arith, paced, none)
+      let none = quiet_sights seen.state.version seen.state.kept answered h in omega (arith, paced, more, none)
   written_paced _ answered h paced more written = tt
 
   -- also where no reply was found

@@ -5,7 +5,7 @@ ghost use Rattle.geo_text.specs.Reading.{IsWellSized};
 ghost use Rattle.geo_text.specs.Version.{version_of};
 ghost use Rattle.geo_session.specs.Asking.{AsksPolygon, IsAskedOf, IsPlain, Suits, held_after, seen_of, version_after};
 ghost use Rattle.geo_session.specs.Held.{HeldRing, kept_in};
-ghost use Rattle.geo_session.specs.Paced.{IsPaced};
+ghost use Rattle.geo_session.specs.Paced.{IsPaced, polygon_steps};
 ghost use Rattle.geo_session.specs.Reply.{IsReplyIn};
 
 use crate::grown::Grown;
@@ -72,7 +72,8 @@ fn ask_polygon<L: Ledger>(
     steps: &mut Steps<L>,
 ) -> Result<Asked, Memory>
     requires { (3 ≤ length points) × (length points ≤ MAX_CORNERS) }
-    ensures { IfOk result (λ asked. (version : Version) → (held : Option HeldRing) → IsAskedOf version held (Command.Polygon points) asked) }
+    ensures asked { IfOk result (λ asked. (version : Version) → (held : Option HeldRing) → IsAskedOf version held (Command.Polygon points) asked) }
+    ensures steps { steps.new ≤ steps.old + polygon_steps (length points) }
 {
     match Ring::of(points.into_vec(), steps) {
         Ok(ring) => Ok(Asked {

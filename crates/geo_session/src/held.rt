@@ -9,6 +9,7 @@ ghost use Rattle.taut_check.specs.Verdict.{IsVerdict};
 ghost use Rattle.pair_cut.specs.Pairs.{IsMadeFor};
 ghost use Rattle.geo_session.specs.Guards.{GuardRing};
 ghost use Rattle.geo_session.specs.Held.{IsLocated, IsTreeOf, IsViewReply};
+ghost use Rattle.geo_session.specs.Paced.{check_steps, guards_steps, inside_steps, kernel_steps, mesh_steps, view_steps};
 ghost use Rattle.geo_session.specs.Place.{IsPlace};
 ghost use Rattle.geo_session.specs.Told.{Tells};
 
@@ -59,7 +60,8 @@ impl Held {
         ring: Ring,
         steps: &mut Steps<L>,
     ) -> Result<Held, Memory>
-        ensures { IfOk result (λ held. (held.ring ≡ ring) × (held.source ≡ None) × (held.prepared ≡ false)) }
+        ensures held { IfOk result (λ held. (held.ring ≡ ring) × (held.source ≡ None) × (held.prepared ≡ false)) }
+        ensures steps { steps.new ≤ steps.old + mesh_steps (length ring.corners) }
     {
         let mesh = mesh_of(alloc, &ring, steps)?;
         Ok(Held {
@@ -73,12 +75,7 @@ impl Held {
     // Keeps a tree in the place of the one before.
     pub(crate) fn keep(&mut self, grown: Grown)
         requires { IsTreeOf self.old.ring.corners self.old.tris grown }
-        ensures { self.new ≡ record {
-          ring = self.old.ring;
-          tris = self.old.tris;
-          source = Some grown.source;
-          prepared = self.old.prepared;
-        } }
+        ensures { self.new ≡ record { ring = self.old.ring; tris = self.old.tris; source = Some grown.source; prepared = self.old.prepared } }
     {
         self.grown = Some(grown);
     }
@@ -109,7 +106,8 @@ impl Held {
 
     // Where a point is.
     pub(crate) fn place<L: Ledger>(&self, point: &Pt, steps: &mut Steps<L>) -> Position
-        ensures { IsPlace (given_of self.now.ring) point.now result }
+        ensures place { IsPlace (given_of self.now.ring) point.now result }
+        ensures steps { steps.new ≤ steps.old + inside_steps (length self.now.ring.corners) }
     {
         place(&self.ring, point, steps)
     }
@@ -122,7 +120,8 @@ impl Held {
         steps: &mut Steps<L>,
     ) -> Result<Verdict, Memory>
         requires { length points.now ≤ MAX_CHAIN }
-        ensures { IfOk result (IsVerdict (given_of self.now.ring) points.now) }
+        ensures verdict { IfOk result (IsVerdict (given_of self.now.ring) points.now) }
+        ensures steps { steps.new ≤ steps.old + check_steps (length self.now.ring.corners) (length points.now) }
     {
         check(alloc, &self.ring, points, steps)
     }
@@ -134,7 +133,8 @@ impl Held {
         q: &Pt,
         steps: &mut Steps<L>,
     ) -> Result<Reply, Memory>
-        ensures { IfOk result (IsViewReply (given_of self.now.ring) q.now) }
+        ensures view { IfOk result (IsViewReply (given_of self.now.ring) q.now) }
+        ensures steps { steps.new ≤ steps.old + view_steps (length self.now.ring.corners) }
     {
         let home = match self.find(1, q, steps) {
             Ok(home) => home,
@@ -152,7 +152,8 @@ impl Held {
         alloc: Global,
         steps: &mut Steps<L>,
     ) -> Result<Reply, Memory>
-        ensures { IfOk result (Tells Reply.Kernel (IsKernel (given_of self.now.ring))) }
+        ensures kernel { IfOk result (Tells Reply.Kernel (IsKernel (given_of self.now.ring))) }
+        ensures steps { steps.new ≤ steps.old + kernel_steps (length self.now.ring.corners) }
     {
         let _few_vertices = self.ring.len();
         let corners = kernel(alloc, &self.ring, steps)?;
@@ -165,7 +166,8 @@ impl Held {
         alloc: Global,
         steps: &mut Steps<L>,
     ) -> Result<Reply, Memory>
-        ensures { IfOk result (Tells Reply.Guards (GuardRing (given_of self.now.ring))) }
+        ensures guards { IfOk result (Tells Reply.Guards (GuardRing (given_of self.now.ring))) }
+        ensures steps { steps.new ≤ steps.old + guards_steps (length self.now.ring.corners) }
     {
         let _is_counterclockwise = self.ring.len();
         let mesh = triangulate(alloc, &self.ring, steps)?;
@@ -180,7 +182,8 @@ pub(crate) fn mesh_of<L: Ledger>(
     ring: &Ring,
     steps: &mut Steps<L>,
 ) -> Result<Mesh, Memory>
-    ensures { IfOk result (Fits ring.now.corners) }
+    ensures fits { IfOk result (Fits ring.now.corners) }
+    ensures steps { steps.new ≤ steps.old + mesh_steps (length ring.now.corners) }
 {
     let _ring_is_simple = ring.len();
     let board = Board::without_ends(ring);

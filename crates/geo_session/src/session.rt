@@ -7,7 +7,7 @@ ghost use Rattle.geo_text.specs.Version.{by_version};
 ghost use Rattle.shared_seq.specs.Digits.{binary_digits};
 ghost use Rattle.geo_session.specs.Answer.{AppendsAnswer};
 ghost use Rattle.geo_session.specs.Asking.{IsWrittenPaced};
-ghost use Rattle.geo_session.specs.Paced.{IsPaced, TakesPathSteps, TakesReplySteps, path_pace, reach_pace};
+ghost use Rattle.geo_session.specs.Paced.{IsPaced, TakesPathSteps, TakesReplySteps, TakesSteps, path_pace, reach_pace};
 ghost use Rattle.geo_session.specs.Path.{path_of};
 ghost use Rattle.geo_session.specs.Prepared.{IsPreparedAfter, first_seen, pair_pace, table_steps};
 ghost use Rattle.geo_session.specs.Reply.{IsFound, IsReply, state_after};
@@ -150,7 +150,7 @@ impl Session {
     /// and 36 n in version 2, a tree 3 n + 200 n b b, and a path from its source 3 n + 24 b b in version 1 and 26 n + 24 b b in
     /// version 2. The first record that asks for pairs of vertices makes the table of all of them, in 200 n n b b steps; then a
     /// path between two takes none in version 1 and 20 n in version 2, and the visibility graph none. Each path takes 64 more
-    /// for each of its points.
+    /// for each of its points. What a point sees takes 17 n, and 128 for each part; the kernel n (2 b + 147), and 64 for each corner.
     pub fn answer<L: Ledger>(
         &mut self,
         alloc: Global,
@@ -173,7 +173,10 @@ impl Session {
             OnOk result (TakesPathSteps (table_steps self.old + pair_pace self.old.state.version * n) out.old.items out.new.items steps.old steps.new) }
         ensures sights_steps { command ≡ Command.Sights → steps.new ≤ steps.old + table_steps self.old }
 
-        // Also where memory is refused.
+        // Also where memory is refused: of each command,
+        ensures within { TakesSteps self.old command steps.old steps.new }
+
+        // and so of a path.
         ensures path_steps_always { (s t : Point) → command ≡ Command.Path s t
             → TakesReplySteps self.old.state command (path_pace self.old.state.version * size_of self.old.state.kept) steps.old steps.new }
         ensures reach_steps_always { (t : Point) → command ≡ Command.Reach t → let n = size_of self.old.state.kept in let b = binary_digits n in
@@ -198,6 +201,7 @@ impl Session {
         ensures same_session { OnErr result (self.new ≡ self.old) }
         ensures same_out { OnErr result (out.new.items ≡ out.old.items) }
         ensures paced { IsWrittenPaced self.old command result out.old.items out.new.items steps.old steps.new }
+        ensures within { TakesSteps self.old command steps.old steps.new }
     {
         let asked = ask(alloc, self.version(), &self.held, command, steps)?;
         put_reply(out, &asked.reply, steps)?;

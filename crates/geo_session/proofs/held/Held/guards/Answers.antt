@@ -2,8 +2,8 @@ use Rattle.std.proofs.Common.{refl}
 use Rattle.geo_session.proofs.Guarded.{guard_ring}
 use Rattle.geo_session.proofs.held.Held.guards.Goals as goal
 
-pub returns : goal.returns
-returns g c =
+pub returns-clause-guards : goal.returns-clause-guards
+returns-clause-guards g c =
     rw (← c.self.view_is)
     (record {
       value = c.of.result;

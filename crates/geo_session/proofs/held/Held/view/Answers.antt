@@ -8,13 +8,13 @@ use Rattle.geo_session.specs.Parts.{given_parts}
 use Rattle.geo_session.specs.View.{IsView}
 use Rattle.geo_session.proofs.held.Held.view.Goals as goal
 
-pub returns-in-Err : goal.returns-in-Err
-returns-in-Err g c =
+pub returns-in-Err-clause-view : goal.returns-in-Err-clause-view
+returns-in-Err-clause-view g c =
     let found = rw c.in-Err.is at c.find.ensures.found in
     one_out (given_of c.args.self.now.ring) _ c.args.q.now c.in-Err.bad found.0 found.1
 
-pub returns : goal.returns
-returns g c =
+pub returns-clause-view : goal.returns-clause-view
+returns-clause-view g c =
     let ring = c.self.inside.ring in
     let found = rw (c.in-Ok.is, ← c.self.view_is) at c.find.ensures.found in
     rw (← c.self.view_is)

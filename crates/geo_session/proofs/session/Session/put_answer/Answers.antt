@@ -2,7 +2,7 @@ use Rattle.std.proofs.Common.{◌≡◌, refl, rules}
 use Rattle.geo_text.specs.Version.{version_of}
 use Rattle.geo_reply.proofs.Fronts.{err_since, ok_of_err}
 use Rattle.geo_reply.specs.ReplyText.{reply_text}
-use Rattle.geo_session.proofs.Paces.{unwritten_paced, written_paced}
+use Rattle.geo_session.proofs.Paces.{takes_lines, takes_no_lines, unwritten_paced, written_paced}
 use Rattle.geo_session.specs.Asking.{seen_of}
 use Rattle.geo_session.proofs.session.Session.put_answer.Goals as goal
 
@@ -76,3 +76,24 @@ returns-clause-paced g c =
     (written_paced (seen_of (version_of c.self.inside.two) c.self.inside.held) _ c.args.out.now.items c.put_reply.new.out.items c.args.steps.now c.ask.new.steps
     c.put_reply.new.steps c.args.command c.in_ok-asked.asked.reply (rw is at c.in_ok-asked.ensures.asked.is_reply) (rw is at c.in_ok-asked.ensures.paced)
     c.in_ok-put_reply.ensures.steps c.in_ok-put_reply.ensures.ok)
+
+pub returns-in_err-asked-clause-within : goal.returns-in_err-asked-clause-within
+returns-in_err-asked-clause-within g c =
+    let is : c.version.result ≡ version_of c.self.inside.two = search rules in
+    rw (← c.self.view_is)
+    (takes_no_lines (seen_of (version_of c.self.inside.two) c.self.inside.held) c.args.command c.args.steps.now c.ask.new.steps c.ask.new.steps
+    (rw is at c.ask.ensures.paced) refl)
+
+pub returns-in_err-put_reply-clause-within : goal.returns-in_err-put_reply-clause-within
+returns-in_err-put_reply-clause-within g c =
+    let is : c.version.result ≡ version_of c.self.inside.two = search rules in
+    rw (← c.self.view_is)
+    (takes_lines (seen_of (version_of c.self.inside.two) c.self.inside.held) c.args.command c.args.steps.now c.ask.new.steps c.put_reply.new.steps
+    (rw is at c.in_ok-asked.ensures.paced) c.in_ok-asked.asked.reply (rw is at c.in_ok-asked.ensures.asked.is_reply) c.in_err-put_reply.ensures.steps)
+
+pub returns-clause-within : goal.returns-clause-within
+returns-clause-within g c =
+    let is : c.version.result ≡ version_of c.self.inside.two = search rules in
+    rw (← c.self.view_is)
+    (takes_lines (seen_of (version_of c.self.inside.two) c.self.inside.held) c.args.command c.args.steps.now c.ask.new.steps c.put_reply.new.steps
+    (rw is at c.in_ok-asked.ensures.paced) c.in_ok-asked.asked.reply (rw is at c.in_ok-asked.ensures.asked.is_reply) c.in_ok-put_reply.ensures.steps)
