@@ -1,4 +1,5 @@
 pub mod Closing
+mod Costs
 mod Exchanged
 mod OneTurn
 mod OnLine
