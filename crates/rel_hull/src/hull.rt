@@ -20,6 +20,7 @@ pub fn sides<L: Ledger>(
 ) -> Result<Vec<(u32, u32)>, Memory>
     requires { IsTableOf ring.now.corners chains.now }
     ensures sides { IfOk result (λ pairs. AreSides ring.now.corners (table_points chains.now) pairs.items) }
+    ensures few { IfOk result (λ pairs. length pairs.items ≤ chains.now.count) }
     ensures steps { (d : ℕ) → HasChainsBelow d chains.now
         → steps.new ≤ steps.old + chains.now.count * chains.now.count * (3 * chains.now.count + 2 * (d + 8)) }
 {
@@ -85,6 +86,7 @@ fn sides_among<L: Ledger>(
 ) -> Result<Vec<(u32, u32)>, Memory>
     requires { AreOuterBelow chains.now chains.now.count outer.now }
     ensures sides { IfOk result (λ sides. AreSidesBefore chains.now outer.now (chains.now.count, 0) sides.items) }
+    ensures few { IfOk result (λ sides. length sides.items ≤ length outer.now) }
     ensures steps { (d : ℕ) → HasChainsBelow d chains.now
         → steps.new ≤ steps.old + 2 * length outer.now * length outer.now * (d + 8) }
 {

@@ -10,6 +10,11 @@ returns-clause-sides g c =
     IfOk-weaker c.sides_among.result _ _ (λ pairs. are_sides c.args.ring.now.corners c.args.chains.now c.requires c.deref.result.now are pairs.items)
     c.sides_among.ensures.sides
 
+pub returns-clause-few : goal.returns-clause-few
+returns-clause-few g c =
+    let few = rw (← c.deref.ensures.value) at c.in_ok-outer.ensures.few in
+    IfOk-weaker c.sides_among.result _ _ (λ pairs within. omega (arith, within, few)) c.sides_among.ensures.few
+
 pub returns-clause-steps : goal.returns-clause-steps
 returns-clause-steps g c d short =
     let few = rw (← c.deref.ensures.value) at c.in_ok-outer.ensures.few in

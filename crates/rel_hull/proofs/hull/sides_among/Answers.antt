@@ -1,5 +1,5 @@
 use Rattle.std.proofs.Common.{ℕ, ◌+◌, arith, length, slice_index}
-use Rattle.std.proofs.lemmas.List.{get_or_default, get_or_past}
+use Rattle.std.proofs.lemmas.List.{get_or_default, get_or_past, length_push}
 use Rattle.rel_hull.proofs.Costs.{one_more, within_rounds}
 use Rattle.rel_hull.proofs.SideLists.{next_row, no_sides, sides_more, sides_rebound, sides_same}
 use Rattle.rel_hull.proofs.hull.sides_among.Goals as goal
@@ -9,6 +9,7 @@ use Rattle.rel_hull.specs.Table.{HasChainsBelow}
 pub loop-s-init : goal.loop-s-init
 loop-s-init g c = record {
   sides = rw c.new-sides.ensures.items (no_sides c.args.chains.now c.args.chains.now.count c.args.outer.now c.requires);
+  few = rw c.new-sides.ensures.items (omega arith);
   steps = λ d below. omega arith;
 }
 
@@ -19,6 +20,7 @@ loop-s-preserved g c =
     let j = c.loop-s.s-index in
     let pairs = c.loop-s.sides.items in
     let before = rw (get_or_default outer j table.count 0 c.loop-s-test.true) at c.loop-s.invariant.sides in
+    let few = c.loop-s.invariant.few in
     let next = next_row table table.count outer c.requires j c.loop-s-test.true in
     let paid = λ (d : ℕ) (short : HasChainsBelow d table).
     one_more _ _ _ j _ (c.loop-s.invariant.steps d short) (c.side_from.ensures.steps d short) in
@@ -27,12 +29,14 @@ loop-s-preserved g c =
           rw (w.sides-is, w.in_ok-push.ensures.items)
           (record {
             sides = sides_rebound table outer _ _ _ next (sides_more table outer (slice_index outer j) pairs before w.in-Some.t w.in-Some.ensures.end);
+            few = omega (arith, few, length_push pairs (slice_index outer j, w.in-Some.t));
             steps = paid;
           })
       | in_default w ↦
           rw w.sides-is
           (record {
             sides = sides_rebound table outer _ _ _ next (sides_same table outer (slice_index outer j) pairs before w.in_default.ensures.end);
+            few = omega (arith, few);
             steps = paid;
           })
     ]
