@@ -1,5 +1,5 @@
 pub mod Closing
-mod Costs
+pub mod Costs
 mod Exchanged
 mod OneTurn
 mod OnLine
