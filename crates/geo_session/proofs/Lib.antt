@@ -23,6 +23,7 @@ mod SortedPairs
 mod TurnedPairs
 mod FewSights
 mod Spanned
+mod HullSteps
 mod HullTable
 mod Hulls
 mod RoundPlaces

@@ -67,6 +67,7 @@ pub record IsSpan (ring : List Point) (tris : List Tri) (points : List Point) (s
   pub held : AreHeld ring tris points (length points) span.tris.items
   pub firsts : AreFirsts points span.numbers.items
   pub few : length span.numbers.items ≤ MAX_HULL
+  pub no_more : length span.numbers.items ≤ length points
   pub table : IsNumberedTable ring points span.numbers.items span.chains
 
 -- these, or the refusal of the first point that is in no triangle

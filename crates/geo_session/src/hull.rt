@@ -3,6 +3,7 @@ ghost use Rattle.std.specs.Prelude.{◌≡◌, ◌↔◌, ◌≤◌, ◌<◌, �
 ghost use Rattle.plane.specs.Point.{Point};
 ghost use Rattle.plane.specs.declared.limits.TheConstants.{MAX_HULL};
 ghost use Rattle.rings.specs.Chain.{point_at};
+ghost use Rattle.geo_text.specs.Version.{by_version};
 ghost use Rattle.ring_check.specs.Oriented.{given_of};
 ghost use Rattle.rel_hull.specs.Table.{AreSides, table_points};
 ghost use Rattle.geo_session.specs.Hull.{AreFirsts, AreSidesOf};
@@ -38,7 +39,9 @@ impl Held {
     ) -> Result<Reply, Memory>
         requires some { 1 ≤ length points.now }
         requires few { length points.now ≤ MAX_HULL }
-        ensures { IfOk result (RepliesWithin (given_of self.now.ring) points.now (Tells Reply.Hull (AreSidesOf version (given_of self.now.ring) points.now))) }
+        ensures told { IfOk result (RepliesWithin (given_of self.now.ring) points.now (Tells Reply.Hull (AreSidesOf version (given_of self.now.ring) points.now))) }
+        ensures steps { let n = length self.now.ring.corners in let m = length points.now in
+            steps.new ≤ steps.old + m * (by_version version 3 23 * n + m * (4 * n + 3 * m + 47)) }
     {
         let span = match self.span(alloc, points, steps)? {
             Ok(span) => span,
@@ -58,7 +61,9 @@ impl Held {
     ) -> Result<Reply, Memory>
         requires some { 1 ≤ length points.now }
         requires few { length points.now ≤ MAX_HULL }
-        ensures { IfOk result (RepliesWithin (given_of self.now.ring) points.now (Tells Reply.Round (AreRound (given_of self.now.ring) points.now))) }
+        ensures told { IfOk result (RepliesWithin (given_of self.now.ring) points.now (Tells Reply.Round (AreRound (given_of self.now.ring) points.now))) }
+        ensures steps { let n = length self.now.ring.corners in let m = length points.now in
+            steps.new ≤ steps.old + m * (3 * n + m * (4 * n + 3 * m + 70)) }
     {
         let span = match self.span(alloc, points, steps)? {
             Ok(span) => span,
@@ -78,13 +83,14 @@ impl Held {
     ) -> Result<Result<Span, Bad>, Memory>
         requires some { 1 ≤ length points.now }
         requires few { length points.now ≤ MAX_HULL }
-        ensures { IfOk result (AreNumbered self.now.ring.corners self.now.tris points.now) }
+        ensures numbered { IfOk result (AreNumbered self.now.ring.corners self.now.tris points.now) }
+        ensures steps { let n = length self.now.ring.corners in let m = length points.now in steps.new ≤ steps.old + m * (3 * n + m * (4 * n + 1)) }
     {
         let tris = match self.located(alloc, points, steps)? {
             Ok(tris) => tris,
             Err(bad) => return Ok(Err(bad)),
         };
-        let numbers = first_numbers(alloc, points, steps)?;
+        let numbers = firsts(alloc, points, steps)?;
         let chains = self.chains(alloc, points, &tris, &numbers, steps)?;
         Ok(Ok(Span {
             tris,
@@ -101,7 +107,8 @@ impl Held {
         steps: &mut Steps<L>,
     ) -> Result<Result<Vec<u32>, Bad>, Memory>
         requires { length points.now ≤ MAX_HULL }
-        ensures { IfOk result (AreLocated self.now.ring.corners self.now.tris points.now) }
+        ensures located { IfOk result (AreLocated self.now.ring.corners self.now.tris points.now) }
+        ensures steps { steps.new ≤ steps.old + length points.now * (3 * length self.now.ring.corners) }
     {
         let mut tris = Vec::with_capacity(alloc, points.len())?;
         for k in 0..points.len() {
@@ -126,7 +133,8 @@ impl Held {
         requires some { 1 ≤ length points.now }
         requires firsts { AreFirsts points.now numbers.now }
         requires few { length numbers.now ≤ MAX_HULL }
-        ensures { IfOk result (IsNumberedTable self.now.ring.corners points.now numbers.now) }
+        ensures table { IfOk result (IsNumberedTable self.now.ring.corners points.now numbers.now) }
+        ensures steps { steps.new ≤ steps.old + length numbers.now * length numbers.now * (4 * length self.now.ring.corners) }
     {
         let m = numbers.len();
         let mut chains = Vec::with_capacity(alloc, m * m)?;
@@ -152,7 +160,8 @@ impl Held {
         requires few { length numbers.now ≤ MAX_HULL }
         requires before { AreChains self.now.ring.corners points.now numbers.now (length chains.now) (map (λ chain. chain.items) chains.now) }
         requires next { length chains.now < length numbers.now * length numbers.now }
-        ensures { IfOk result (λ chain. IsChainAt self.now.ring.corners points.now numbers.now (length chains.now) chain.items) }
+        ensures chain { IfOk result (λ chain. IsChainAt self.now.ring.corners points.now numbers.now (length chains.now) chain.items) }
+        ensures steps { steps.new ≤ steps.old + 4 * length self.now.ring.corners }
     {
         let _ring_is_simple = self.ring.len();
         let m = numbers.len();
@@ -175,7 +184,8 @@ impl Held {
         requires held { AreHeld self.now.ring.corners self.now.tris points.now (length points.now) tris.now }
         requires start { ends.0 < length points.now }
         requires end { ends.1 < length points.now }
-        ensures { IfOk result (λ chain. IsShortPath self.now.ring.corners (point_at points.now ends.0) (point_at points.now ends.1) chain.items) }
+        ensures path { IfOk result (λ chain. IsShortPath self.now.ring.corners (point_at points.now ends.0) (point_at points.now ends.1) chain.items) }
+        ensures steps { steps.new ≤ steps.old + 4 * length self.now.ring.corners }
     {
         let (i, j) = (ends.0 as usize, ends.1 as usize);
         let ends = (tris[i], tris[j]);
@@ -193,7 +203,8 @@ impl Held {
         steps: &mut Steps<L>,
     ) -> Result<Vec<Side>, Memory>
         requires { (points : List Point) × (IsSpan self.now.ring.corners self.now.tris points span.now × AreSides self.now.ring.corners (table_points span.now.chains) pairs.now) }
-        ensures { IfOk result (λ told. AreSidesTold version self.now.ring.corners span.now pairs.now (length pairs.now) told.items) }
+        ensures told { IfOk result (λ told. AreSidesTold version self.now.ring.corners span.now pairs.now (length pairs.now) told.items) }
+        ensures steps { steps.new ≤ steps.old + length pairs.now * (by_version version 0 20 * length self.now.ring.corners) }
     {
         let mut told = Vec::with_capacity(alloc, pairs.len())?;
         for pair in pairs {
@@ -212,19 +223,15 @@ impl Held {
         steps: &mut Steps<L>,
     ) -> Result<Side, Memory>
         requires span { (points : List Point) × IsSpan self.now.ring.corners self.now.tris points span.now }
-        requires start { pair.0 < length span.now.numbers.items }
-        requires end { pair.1 < length span.now.numbers.items }
-        ensures { IfOk result (IsSideTold version self.now.ring.corners span.now pair) }
+        requires ends { (pair.0 < length span.now.numbers.items) × (pair.1 < length span.now.numbers.items) }
+        ensures told { IfOk result (IsSideTold version self.now.ring.corners span.now pair) }
+        ensures steps { steps.new ≤ steps.old + by_version version 0 20 * length self.now.ring.corners }
     {
         let (start, end) = (span.numbers[pair.0 as usize], span.numbers[pair.1 as usize]);
         let tris = (span.tris[start as usize], span.tris[end as usize]);
         let chain = span.chains.chain(pair.0, pair.1).to_vec(alloc)?;
-        let path = self.shown(alloc, version, tris, chain, steps)?;
-        Ok(Side {
-            start,
-            end,
-            path: Row::of(path),
-        })
+        let path = Row::of(self.shown(alloc, version, tris, chain, steps)?);
+        Ok(Side { start, end, path })
     }
 }
 
@@ -238,14 +245,11 @@ fn reversed(alloc: Global, points: &[Pt]) -> Result<Vec<Pt>, Memory>
 }
 
 // The numbers of the points that no earlier one is equal to.
-fn first_numbers<L: Ledger>(
-    alloc: Global,
-    points: &[Pt],
-    steps: &mut Steps<L>,
-) -> Result<Vec<u32>, Memory>
+fn firsts<L: Ledger>(alloc: Global, points: &[Pt], steps: &mut Steps<L>) -> Result<Vec<u32>, Memory>
     requires { length points.now ≤ MAX_HULL }
     ensures firsts { IfOk result (λ numbers. AreFirsts points.now numbers.items) }
     ensures few { IfOk result (λ numbers. length numbers.items ≤ length points.now) }
+    ensures steps { steps.new ≤ steps.old + length points.now * length points.now }
 {
     let mut numbers = Vec::new(alloc);
     for i in 0..points.len() {
@@ -259,7 +263,8 @@ fn first_numbers<L: Ledger>(
 // Whether an earlier point is equal to point `i`.
 fn is_repeated<L: Ledger>(points: &[Pt], i: usize, steps: &mut Steps<L>) -> bool
     requires { i < length points.now }
-    ensures { IsTrue result ↔ IsRepeated points.now i }
+    ensures repeated { IsTrue result ↔ IsRepeated points.now i }
+    ensures steps { steps.new ≤ steps.old + i }
 {
     for j in 0..i {
         if order(&points[j], &points[i], steps) == Ordering::Equal {

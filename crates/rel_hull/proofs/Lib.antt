@@ -1,4 +1,5 @@
 pub mod Closing
+pub mod Costs
 mod Exchanged
 mod OnLine
 mod OnSteps

@@ -34,6 +34,10 @@ pub record AreSides (ring points : List Point) (pairs : List (ℕ × ℕ)) : Typ
   pub all : (s t : ℕ) → IsSide ring points s t → Contains pairs (s, t)
   pub sorted : (k l : ℕ) → k < l → l < length pairs → IsPairBefore (pair_at pairs k) (pair_at pairs l)
 
+-- each chain has fewer than 2^d points
+abbrev pub HasChainsBelow : ℕ → Table → Type 0
+HasChainsBelow d table = (i j : ℕ) → i < table.count → j < table.count → length (chain_at table i j) < 2 ^ d
+
 -- no two points that follow one another are equal
 abbrev pub IsStepping : List Point → Type 0
 IsStepping points = (k : ℕ) → k + 1 < length points → point_at points k ≢ point_at points (k + 1)

@@ -1,7 +1,7 @@
-ghost use Rattle.std.specs.Prelude.{◌≡◌, ◌≢◌, ◌<◌, ◌↔◌, IsTrue, length, map};
+ghost use Rattle.std.specs.Prelude.{◌≡◌, ◌≢◌, ◌+◌, ◌<◌, ◌≤◌, ◌↔◌, ℕ, IsTrue, length, map};
 ghost use Rattle.rings.specs.Chain.{point_at};
 ghost use Rattle.rel_hull.specs.PathTurn.{IsPathTurn};
-ghost use Rattle.rel_hull.specs.Table.{IsStepping, IsTableOf, chain_at, table_points};
+ghost use Rattle.rel_hull.specs.Table.{HasChainsBelow, IsStepping, IsTableOf, chain_at, table_points};
 ghost use Rattle.rel_hull.specs.Told.{IsOnChain};
 
 use crate::comparison::{halved_front, turn_at};
@@ -68,7 +68,8 @@ impl ChainTable {
         requires second { b < self.now.count }
         requires third { s < self.now.count }
         requires apart { a ≢ s }
-        ensures { IsTrue result ↔ IsOnChain (chain_at self.now a b) (point_at (table_points self.now) s) }
+        ensures passes { IsTrue result ↔ IsOnChain (chain_at self.now a b) (point_at (table_points self.now) s) }
+        ensures steps { steps.new ≤ steps.old + 3 }
     {
         // What holds of every table is told with its parts.
         let _count = self.count;
@@ -77,12 +78,14 @@ impl ChainTable {
         to <= chain.len() && on_segment(&self.chain(s, s)[0], &chain[to - 2], &chain[to - 1], steps)
     }
 
-    // The turn from the path from point `s` to point `t` to the path to point `u`.
+    // The turn from the path from point `s` to point `t` to the path to point `u`. Where the chains have fewer than 2^d points, it takes
+    // at most d + 8 steps.
     pub(crate) fn turn<L: Ledger>(&self, s: u32, t: u32, u: u32, steps: &mut Steps<L>) -> Direction
         requires first { s < self.now.count }
         requires second { t < self.now.count }
         requires third { u < self.now.count }
-        ensures { IsPathTurn (chain_at self.now s t) (chain_at self.now s u) result }
+        ensures turn { IsPathTurn (chain_at self.now s t) (chain_at self.now s u) result }
+        ensures steps { (d : ℕ) → HasChainsBelow d self.now → steps.new ≤ steps.old + d + 8 }
     {
         // What holds of every table is told with its parts.
         let _count = self.count;

@@ -1,4 +1,5 @@
-use Rattle.std.proofs.Common.{◌≡◌, ◌≢◌, ◌-◌, ◌<◌, ◌≤◌, length, take}
+use Rattle.std.proofs.Common.{◌≡◌, ◌≢◌, ℕ, ◌+◌, ◌-◌, ◌^◌, ◌<◌, ◌≤◌, length, take}
+use Rattle.rel_hull.proofs.Costs.{AreLeft}
 use Rattle.rel_hull.proofs.comparison.halved_front.Given as goal
 use Rattle.rings.specs.Chain.{point_at}
 
@@ -10,6 +11,7 @@ invariant-loop-k g l = record {
   within_other : l.end ≤ length l.ac;
   same : take l.k l.ab ≡ take l.k l.ac;
   apart : l.end < length l.ab → l.end < length l.ac → point_at l.ab l.end ≢ point_at l.ac l.end;
+  steps : (d : ℕ) → length l.ab < 2 ^ d → AreLeft (l.end - l.k) (l.fn.steps + d) l.steps;
 }
 
 abbrev pub decreases-loop-k : goal.decreases-loop-k

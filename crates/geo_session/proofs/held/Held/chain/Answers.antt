@@ -5,8 +5,8 @@ use Rattle.rings.specs.Ring.{origin}
 use Rattle.geo_session.proofs.Spanned.{plain_path}
 use Rattle.geo_session.proofs.held.Held.chain.Goals as goal
 
-pub returns : goal.returns
-returns g c =
+pub returns-clause-path : goal.returns-clause-path
+returns-clause-path g c =
     let ring = c.args.self.now.ring.corners in
     let points = c.args.points.now in
     let i = c.args.ends.0 in

@@ -18,8 +18,8 @@ chain-requires-clause-end g c =
     let numbers = c.args.numbers.now in
     number_in_list c.args.points.now numbers c.requires.firsts _ (column_below (length numbers) (length c.args.chains.now) c.requires.next)
 
-pub returns-in-Some : goal.returns-in-Some
-returns-in-Some g c =
+pub returns-in-Some-clause-chain : goal.returns-in-Some-clause-chain
+returns-in-Some-clause-chain g c =
     let ring = c.args.self.now.ring.corners in
     let points = c.args.points.now in
     let numbers = c.args.numbers.now in

@@ -11,8 +11,8 @@ overflow_sub-to g c =
     let keeps = subst KeepsChains c.self.view_is c.self.invariant in
     rw c.chain-to.ensures.chain (keeps.long c.args.a c.args.s c.requires.first c.requires.third c.requires.apart)
 
-pub returns-then-to-chain : goal.returns-then-to-chain
-returns-then-to-chain g c =
+pub returns-then-to-chain-clause-passes : goal.returns-then-to-chain-clause-passes
+returns-then-to-chain-clause-passes g c =
     let table = c.args.self.now in
     let chain = c.chain-chain.result.now in
     let to = length c.chain-to.result.now in
@@ -32,8 +32,8 @@ returns-then-to-chain g c =
       λ on. told.1 (rw (← c.chain-to.ensures.chain, ← c.chain-chain.ensures.chain) at (steps.1 on).on),
     )
 
-pub returns-else-to-chain : goal.returns-else-to-chain
-returns-else-to-chain g c =
+pub returns-else-to-chain-clause-passes : goal.returns-else-to-chain-clause-passes
+returns-else-to-chain-clause-passes g c =
     let keeps = subst KeepsChains c.self.view_is c.self.invariant in
     let steps = on_step_iff c.args.self.now keeps c.args.a c.args.b c.args.s c.requires.first c.requires.second c.requires.third c.requires.apart in (
       λ e. let fits = leb-true _ _ e in absurd (omega (arith, fits, c.if-to-chain.false)),
