@@ -7,6 +7,7 @@ ghost use Rattle.geo_text.specs.Version.{by_version};
 ghost use Rattle.ring_check.specs.Oriented.{given_of};
 ghost use Rattle.rel_hull.specs.Table.{AreSides, table_points};
 ghost use Rattle.geo_session.specs.Hull.{AreFirsts, AreSidesOf};
+ghost use Rattle.geo_session.specs.Paced.{hull_steps, round_steps};
 ghost use Rattle.geo_session.specs.Round.{AreRound};
 ghost use Rattle.geo_session.specs.Span.{AreChains, AreHeld, AreLocated, AreNumbered, AreSidesTold, IsChainAt, IsNumberedTable, IsRepeated, IsShortPath, IsSideTold, IsSpan};
 ghost use Rattle.geo_session.specs.Told.{RepliesWithin, Tells};
@@ -40,8 +41,7 @@ impl Held {
         requires some { 1 ≤ length points.now }
         requires few { length points.now ≤ MAX_HULL }
         ensures told { IfOk result (RepliesWithin (given_of self.now.ring) points.now (Tells Reply.Hull (AreSidesOf version (given_of self.now.ring) points.now))) }
-        ensures steps { let n = length self.now.ring.corners in let m = length points.now in
-            steps.new ≤ steps.old + m * (by_version version 3 23 * n + m * (4 * n + 3 * m + 47)) }
+        ensures steps { steps.new ≤ steps.old + hull_steps version (length self.now.ring.corners) (length points.now) }
     {
         let span = match self.span(alloc, points, steps)? {
             Ok(span) => span,
@@ -62,8 +62,7 @@ impl Held {
         requires some { 1 ≤ length points.now }
         requires few { length points.now ≤ MAX_HULL }
         ensures told { IfOk result (RepliesWithin (given_of self.now.ring) points.now (Tells Reply.Round (AreRound (given_of self.now.ring) points.now))) }
-        ensures steps { let n = length self.now.ring.corners in let m = length points.now in
-            steps.new ≤ steps.old + m * (3 * n + m * (4 * n + 3 * m + 70)) }
+        ensures steps { steps.new ≤ steps.old + round_steps (length self.now.ring.corners) (length points.now) }
     {
         let span = match self.span(alloc, points, steps)? {
             Ok(span) => span,

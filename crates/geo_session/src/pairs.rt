@@ -1,5 +1,4 @@
-// Pairs of vertices of the polygon, by their numbers in the list that the ring was made of: the paths between them, and which see
-// each other.
+// Pairs of vertices by their numbers in the list that the ring was made of: the paths between them, and which see each other.
 ghost use Rattle.std.specs.List.{All};
 ghost use Rattle.std.specs.Prelude.{◌≡◌, ◌↔◌, ◌+◌, ◌*◌, ◌≤◌, ◌<◌, IfNone, IfOk, IfSome, IsTrue, Some, length, map};
 ghost use Rattle.plane.specs.declared.limits.TheConstants.{MAX_CORNERS};

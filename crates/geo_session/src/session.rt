@@ -23,8 +23,7 @@ use std::alloc::Global;
 use std::marker::Model;
 use std::sync::ledger::Ledger;
 
-/// The version of the script, the polygon that was accepted last, the last tree in it, and where one was asked for the table of
-/// the paths between all pairs of its vertices.
+/// The version of the script, the polygon that was accepted last, the last tree in it, and the table of all pairs, if one was made.
 #[derive(Drop)]
 pub struct Session {
     two: bool,
@@ -145,12 +144,10 @@ impl Session {
         Ok(asked.reply)
     }
 
-    /// Appends the command's answer and takes the new state. After want of memory the session and `out` are as before. With
-    /// n the number of vertices of the polygon and b that of its binary digits, a path takes at most 16 n steps in version 1
-    /// and 36 n in version 2, a tree 3 n + 200 n b b, and a path from its source 3 n + 24 b b in version 1 and 26 n + 24 b b in
-    /// version 2. The first record that asks for pairs of vertices makes the table of all of them, in 200 n n b b steps; then a
-    /// path between two takes none in version 1 and 20 n in version 2, and the visibility graph none. Each path takes 64 more
-    /// for each of its points. What a point sees takes 17 n, and 128 for each part; the kernel n (2 b + 147), and 64 for each corner.
+    /// Appends the command's answer and takes the new state. After want of memory the session and `out` are as before. With n the number of
+    /// vertices and b that of its binary digits, a path takes at most 16 n steps in version 1 and 36 n in version 2, a tree 3 n + 200 n b b,
+    /// and a path from its source 3 n + 24 b b and 26 n + 24 b b. The first record that asks for pairs of vertices makes a table in
+    /// 200 n n b b steps; then a path between two takes none and 20 n. Each point of a path takes 64 more. All others are in `most_steps`.
     pub fn answer<L: Ledger>(
         &mut self,
         alloc: Global,
@@ -173,10 +170,8 @@ impl Session {
             OnOk result (TakesPathSteps (table_steps self.old + pair_pace self.old.state.version * n) out.old.items out.new.items steps.old steps.new) }
         ensures sights_steps { command ≡ Command.Sights → steps.new ≤ steps.old + table_steps self.old }
 
-        // Also where memory is refused: of each command,
+        // Also where memory is refused.
         ensures within { TakesSteps self.old command steps.old steps.new }
-
-        // and so of a path.
         ensures path_steps_always { (s t : Point) → command ≡ Command.Path s t
             → TakesReplySteps self.old.state command (path_pace self.old.state.version * size_of self.old.state.kept) steps.old steps.new }
         ensures reach_steps_always { (t : Point) → command ≡ Command.Reach t → let n = size_of self.old.state.kept in let b = binary_digits n in

@@ -1,6 +1,6 @@
-use Rattle.std.proofs.Common.{refl, length, ℕ}
+use Rattle.std.proofs.Common.{refl}
 use Rattle.geo_session.proofs.Paces.{held_paced}
-use Rattle.geo_session.specs.Paced.{check_steps, guards_steps, hull_steps, inside_steps, kernel_steps, view_steps}
+use Rattle.geo_session.specs.Paced.{guards_steps, inside_steps, kernel_steps, view_steps}
 use Rattle.geo_text.specs.declared.command.Command.TheVariants as command
 use Rattle.geo_session.proofs.held.Held.tell.Goals as goal
 
