@@ -1,5 +1,6 @@
 ghost use Rattle.std.specs.List.{AllAdjacentBelow, Contains};
-ghost use Rattle.std.specs.Prelude.{◌≡◌, ◌↔◌, ◌++◌, ◌∷◌, [], ◌+◌, ◌*◌, ◌-◌, ◌<◌, ◌≤◌, ◌^◌, ℕ, List, IfOk, IfSome, IsTrue, OnOk, OnErr, length};
+ghost use Rattle.std.specs.Prelude.{◌≡◌, ◌↔◌, ◌++◌, ◌∷◌, [], ◌+◌, ◌*◌, ◌-◌, ◌<◌, ◌≤◌, ◌^◌, ℕ, List};
+ghost use Rattle.std.specs.Prelude.{IfOk, IfSome, IsTrue, OnOk, OnErr, length};
 ghost use Rattle.plane.specs.Line.{mediant};
 ghost use Rattle.plane.specs.Point.{IsPoint, Triple, whole};
 ghost use Rattle.plane.specs.Segment.{On};
@@ -38,7 +39,8 @@ pub fn holds_segment<L: Ledger>(
     steps: &mut Steps<L>,
 ) -> Result<bool, Memory>
     ensures holds { IfOk result (λ holds. IsTrue holds ↔ Sees ring.now.corners (whole a.now) (whole b.now)) }
-    ensures steps { (d : ℕ) → let n = length ring.now.corners in n < 2 ^ d → steps.new ≤ steps.old + (2560 * (n * n) + 3000 * (n * (d + 2))) }
+    ensures steps { (d : ℕ) → let n = length ring.now.corners in n < 2 ^ d
+        → steps.new ≤ steps.old + (2560 * (n * n) + 3000 * (n * (d + 2))) }
 {
     holds_segment_by(alloc, ring, None, a, b, steps)
 }
@@ -54,7 +56,8 @@ pub fn holds_segment_by<L: Ledger>(
 ) -> Result<bool, Memory>
     requires { IfSome runs (λ runs. runs.now ≡ ring.now.corners) }
     ensures holds { IfOk result (λ holds. IsTrue holds ↔ Sees ring.now.corners (whole a.now) (whole b.now)) }
-    ensures steps { (d : ℕ) → let n = length ring.now.corners in n < 2 ^ d → steps.new ≤ steps.old + (2560 * (n * n) + 3000 * (n * (d + 2))) }
+    ensures steps { (d : ℕ) → let n = length ring.now.corners in n < 2 ^ d
+        → steps.new ≤ steps.old + (2560 * (n * n) + 3000 * (n * (d + 2))) }
 {
     let _ring_has_vertices = ring.len();
     let mut points = breakpoints(alloc, ring, runs, a, b, steps)?;
@@ -94,7 +97,8 @@ fn breakpoints<L: Ledger>(
     steps: &mut Steps<L>,
 ) -> Result<Vec<Breakpoint>, Memory>
     requires { IfSome runs (λ runs. runs.now ≡ ring.now.corners) }
-    ensures points { IfOk result (λ points. ListsMeetings ring.now.corners (length ring.now.corners) (whole a.now) (whole b.now) (breakpoint_points points.items)) }
+    ensures points { IfOk result (λ points.
+        ListsMeetings ring.now.corners (length ring.now.corners) (whole a.now) (whole b.now) (breakpoint_points points.items)) }
     ensures few { IfOk result (λ points. length points.items ≤ 2 * length ring.now.corners + 2) }
     ensures steps { (d : ℕ) → let n = length ring.now.corners in n < 2 ^ d → steps.new ≤ steps.old + (2048 * (n * d) + 1179 * n + 258) }
 {
@@ -116,7 +120,8 @@ fn push_edges<L: Ledger>(
 ) -> Result<(), Memory>
     requires runs { IfSome runs (λ runs. runs.now ≡ ring.now.corners) }
     requires before { ListsMeetings ring.now.corners 0 (whole a.now) (whole b.now) (breakpoint_points points.old.items) }
-    ensures points { OnOk result (ListsMeetings ring.now.corners (length ring.now.corners) (whole a.now) (whole b.now) (breakpoint_points points.new.items)) }
+    ensures points { OnOk result
+        (ListsMeetings ring.now.corners (length ring.now.corners) (whole a.now) (whole b.now) (breakpoint_points points.new.items)) }
     ensures few { OnOk result (length points.new.items ≤ length points.old.items + 2 * length ring.now.corners) }
     ensures steps { (d : ℕ) → let n = length ring.now.corners in n < 2 ^ d → steps.new ≤ steps.old + (2048 * (n * d) + 1179 * n + 128) }
 {
@@ -145,7 +150,8 @@ fn push_with<S: Skip, L: Ledger>(
     requires has_first { Encloses around.now a.now }
     requires has_last { Encloses around.now b.now }
     requires before { ListsMeetings ring.now.corners 0 (whole a.now) (whole b.now) (breakpoint_points points.old.items) }
-    ensures points { OnOk result (ListsMeetings ring.now.corners (length ring.now.corners) (whole a.now) (whole b.now) (breakpoint_points points.new.items)) }
+    ensures points { OnOk result
+        (ListsMeetings ring.now.corners (length ring.now.corners) (whole a.now) (whole b.now) (breakpoint_points points.new.items)) }
     ensures few { OnOk result (length points.new.items ≤ length points.old.items + 2 * length ring.now.corners) }
     ensures steps { (most : ℕ) → S.asks skip.now most → steps.new ≤ steps.old + (most + 155) * length ring.now.corners }
 {
@@ -316,7 +322,8 @@ fn holds_mediants<L: Ledger>(
     steps: &mut Steps<L>,
 ) -> bool
     requires { IfSome runs (λ runs. runs.now ≡ ring.now.corners) }
-    ensures hold { IsTrue result ↔ AllAdjacentBelow (λ p q. IsIn ring.now.corners (mediant p.point q.point)) points.now (length points.now) }
+    ensures hold { IsTrue result
+        ↔ AllAdjacentBelow (λ p q. IsIn ring.now.corners (mediant p.point q.point)) points.now (length points.now) }
     ensures steps { steps.new ≤ steps.old + (length points.now - 1) * (1280 * length ring.now.corners + 65) }
 {
     for i in 1..points.len() {

@@ -149,7 +149,8 @@ impl Run {
     ) -> bool
         requires p { Encloses bounds.now p.now }
         requires q { Encloses bounds.now q.now }
-        ensures apart { IsTrue result → (ring : List Point) → IsRun ring self.now → IsApartOver ring self.now.first self.now.end p.now q.now }
+        ensures apart { IsTrue result → (ring : List Point) → IsRun ring self.now
+            → IsApartOver ring self.now.first self.now.end p.now q.now }
         ensures steps { steps.new ≤ steps.old + 2048 }
     {
         if !self.eastward.is_apart(p, q, bounds, steps) {

@@ -45,7 +45,8 @@ pub fn is_leaving<L: Ledger>(
     requires place { k < length points.now }
     requires seen { IsSeenAt ring.now.corners points.now k }
     ensures leaving { IfOk result (λ leaving. IsTrue leaving ↔ IsLeaving ring.now.corners points.now k) }
-    ensures steps { (d : ℕ) → let n = length ring.now.corners in n < 2 ^ d → steps.new ≤ steps.old + (2560 * (n * n) + 3000 * (n * (d + 2)) + 65) }
+    ensures steps { (d : ℕ) → let n = length ring.now.corners in n < 2 ^ d
+        → steps.new ≤ steps.old + (2560 * (n * n) + 3000 * (n * (d + 2)) + 65) }
 {
     let from = point(points, k);
     if k < points.len() - 1 {
