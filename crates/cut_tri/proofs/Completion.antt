@@ -22,8 +22,3 @@ Completes corners done (piece ∷ pieces) =
 abbrev pub effort : List (List ℕ) → ℕ
 effort [] = 0
 effort (piece ∷ pieces) = (2 * length piece - 5) + effort pieces
-
--- the diagonals that are still to be drawn
-abbrev pub diagonals : List (List ℕ) → ℕ
-diagonals [] = 0
-diagonals (piece ∷ pieces) = (length piece - 3) + diagonals pieces

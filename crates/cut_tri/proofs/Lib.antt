@@ -1,3 +1,4 @@
+mod AllowedSteps
 mod Candidates
 mod ClusterPlaces
 mod ClusterSteps

@@ -3,9 +3,10 @@ use Rattle.std.proofs.Common.{◌≡◌, refl, None, sym, ap, subst, ◌∙◌, 
 use Rattle.std.proofs.lemmas.Bool.{eq-eqb}
 use Rattle.std.proofs.lemmas.Int.{ints}
 use Rattle.std.proofs.lemmas.List.Elements.{Contains-get_or}
-use Rattle.std.proofs.lemmas.Map.Made.{IsDistinct-from_AllPairs}
-use Rattle.std.proofs.lemmas.Map.Steps.{length-le_from_distinct_below}
-use Rattle.std.proofs.lemmas.Map.Views.{Contains-from_any}
+use Rattle.std.proofs.lemmas.Map.Made.{IsDistinct-from_AllPairs, is_member-Decides, length-le_from_is_member}
+use Rattle.std.specs.Bool.{Decides}
+use Rattle.std.specs.Prelude.{nat_eq}
+use Rattle.std.proofs.lemmas.Cmp.{nat_eq_equiv}
 use Rattle.std.specs.List.{Contains}
 use Rattle.plane.proofs.Order.{before_differs}
 use Rattle.plane.specs.Order.{IsBefore}
@@ -101,12 +102,15 @@ module _ (corners : List Point) (xs os : List ℕ) (is : IsOrderOf corners xs os
   pub order_some : 0 < length xs → 0 < length os
   order_some some = let (k, within, at) = is.all (get_or xs 0 0) (Contains-get_or xs 0 0 some) in omega (arith, within)
 
-  -- as many as the ring has at most
-  pub order_few : HasNumbers corners xs → length os ≤ length corners
-  order_few numbers =
-      length-le_from_distinct_below os (length corners) (IsDistinct-from_AllPairs (λ i j. (eqb-true i j, eq-eqb i j)) os
+  -- as many as the boundary at most
+  pub order_few : length os ≤ length xs
+  order_few =
+      length-le_from_is_member nat_eq_equiv os xs (IsDistinct-from_AllPairs same os
       (λ i j d less within e. before_differs _ _ (is.falls i j d less within) (ap (vertex corners) (sym e))))
-      (λ q found. members_of_numbers (length corners) xs numbers q (is.only q (Contains-from_any eqb-true q os found)))
+      (λ q held. (is_member-Decides same xs q).1 (is.only q ((is_member-Decides same os q).0 held)))
+    where
+      same : (i j : ℕ) → Decides (nat_eq i j) (i ≡ j)
+      same i j = (eqb-true i j, eq-eqb i j)
 
   -- the vertices of a rank other than 0 are others than the first
   pub not_least : IsLeastPlace xs os 0 → (n : ℕ) → 0 < n → n < length os → ¬ (of_rank os n ≡ get_or xs 0 0)

@@ -1,7 +1,5 @@
 -- The pieces that are still to be cut: how they complete a mesh, and how much is still to be done and what it takes, after one cut more.
-use Rattle.std.proofs.Common.{◌≡◌, inl, inr, sym, ap, subst, ◌∙◌, ℕ, ◌+◌, ◌-◌, ◌*◌, ◌<◌, ◌≤◌, List, [], ◌∷◌, ◌++◌, length, map, reverse, take, drop, Some, arith}
-use Rattle.std.proofs.Math.Nat.{mul-le-mul_left}
-use Rattle.std.proofs.lemmas.Bool.{cases_lt}
+use Rattle.std.proofs.Common.{◌≡◌, sym, ap, subst, ◌∙◌, ℕ, ◌+◌, ◌-◌, ◌*◌, ◌<◌, ◌≤◌, List, [], ◌∷◌, ◌++◌, length, map, reverse, take, drop, Some, arith}
 use Rattle.std.proofs.lemmas.List.{append_assoc, length-append, length-take-le, map-append, reverse-append}
 use Rattle.std.proofs.lemmas.List.Elements.{All-pop, All-push}
 use Rattle.std.proofs.lemmas.List.FromFn.{length-range_with_len}
@@ -9,7 +7,8 @@ use Rattle.std.specs.List.{range_with_len}
 use Rattle.plane.specs.Point.{Point}
 use Rattle.meshes.specs.Fits.{Fits}
 use Rattle.meshes.specs.declared.tri.Tri.{Tri}
-use Rattle.cut_tri.proofs.Completion.{ArePieces, Completes, diagonals, effort}
+use Rattle.cut_tri.proofs.AllowedSteps.{allowed, allowed_for, parts_allowed, within_allowed}
+use Rattle.cut_tri.proofs.Completion.{ArePieces, Completes, effort}
 use Rattle.cut_tri.specs.Cut.{IsCutTriangulation}
 use Rattle.cut_tri.specs.Cutting.{AreDiagonalPieces, IsCutOf, IsEarCut, IsTriangle}
 use Rattle.cut_tri.specs.Ordered.{IsOrderOf}
@@ -30,19 +29,6 @@ pub record IsNearer (corners : List Point) (before : ℕ) (done : List Tri) (pie
   pub are_pieces : ArePieces corners pieces
   pub completes : Completes corners done pieces
   pub less : effort pieces < before
-
--- a cut that takes no steps in a triangle, and else as many as are allowed for a diagonal, keeps within what is allowed
-within_allowed : (size allowed before after rest left : ℕ) → 3 ≤ size → (size ≡ 3 → after ≡ before) → after ≤ before + allowed
-    → left ≤ (size - 4) + rest → after + allowed * left ≤ before + allowed * ((size - 3) + rest)
-within_allowed size allowed before after rest left some none most fewer = elim (cases_lt 3 size) [
-  | inl more ↦
-      let one : left + 1 ≤ (size - 3) + rest = omega (arith, fewer, more) in
-      omega (arith, most, mul-le-mul_left allowed one)
-  | inr at ↦
-      let three : size ≡ 3 = omega (arith, some, at) in
-      let as_many : left ≤ (size - 3) + rest = omega (arith, fewer, three) in
-      omega (arith, none three, mul-le-mul_left allowed as_many)
-]
 
 module _ (corners : List Point) (piece : List ℕ) (pieces : List (List ℕ)) (done : List Tri) (is_piece : IsPiece corners piece)
     (are_pieces : ArePieces corners pieces) (completes : Completes corners done (piece ∷ pieces)) where
@@ -86,27 +72,24 @@ module _ (corners : List Point) (piece : List ℕ) (pieces : List (List ℕ)) (d
       subst (λ ts. IsNearer corners (effort (piece ∷ pieces)) ts pieces_after) (sym taken.0)
       (subst (IsNearer corners (effort (piece ∷ pieces)) done) (sym taken.1) (with_parts first.boundary.items second.boundary.items is))
 
--- a cut draws a diagonal, but in a triangle
-fewer_diagonals : (corners : List Point) (piece : List ℕ) (pieces : List (List ℕ)) (done : List Tri) (remains : Remains) (done_after : List Tri)
+-- what is left of a piece is allowed no more than one with a vertex less
+less_allowed : (corners : List Point) (each : ℕ) (piece : List ℕ) (pieces : List (List ℕ)) (done : List Tri) (remains : Remains) (done_after : List Tri)
     (pieces_after : List (List ℕ)) → IsCutOf corners piece remains → IsTakenOver remains done pieces done_after pieces_after
-    → diagonals pieces_after ≤ (length piece - 4) + diagonals pieces
-fewer_diagonals corners piece pieces done (Triangle tri) done_after pieces_after is taken =
-    subst (λ ps. diagonals ps ≤ (length piece - 4) + diagonals pieces) (sym taken.1) (omega arith)
-fewer_diagonals corners piece pieces done (Ear tri rest) done_after pieces_after is taken =
-    subst (λ ps. diagonals ps ≤ (length piece - 4) + diagonals pieces) (sym taken.1) (omega (arith, is.shorter))
-fewer_diagonals corners piece pieces done (Parts first second) done_after pieces_after is taken =
+    → allowed each pieces_after ≤ allowed_for each (length piece - 4) + allowed each pieces
+less_allowed corners each piece pieces done (Triangle tri) done_after pieces_after is taken =
+    subst (λ ps. allowed each ps ≤ allowed_for each (length piece - 4) + allowed each pieces) (sym taken.1) (omega arith)
+less_allowed corners each piece pieces done (Ear tri rest) done_after pieces_after is taken =
+    let size : length rest.boundary.items - 3 ≡ length piece - 4 = omega (arith, is.shorter) in
+    let same = ap (allowed_for each) size in
+    subst (λ ps. allowed each ps ≤ allowed_for each (length piece - 4) + allowed each pieces) (sym taken.1) (omega (arith, same))
+less_allowed corners each piece pieces done (Parts first second) done_after pieces_after is taken =
     let some = is.first_is_piece.polygon.some in
     let more = is.second_is_piece.polygon.some in
-    subst (λ ps. diagonals ps ≤ (length piece - 4) + diagonals pieces) (sym taken.1) (omega (arith, is.lengths, some, more))
-
--- what is allowed for so many diagonals, and for the order of the ring, is at most so many steps
-pub allowed_in_all : (n : ℕ) → 3 ≤ n → 64 * n + (886 * n + 910) * (n - 3) ≤ 886 * (n * n)
-allowed_in_all n some =
-    let back : n - 3 + 3 ≡ n = omega (arith, some) in
-    subst (λ m. 64 * m + (886 * m + 910) * (n - 3) ≤ 886 * (m * m)) back (squares (n - 3))
-  where
-    squares : (m : ℕ) → 64 * (m + 3) + (886 * (m + 3) + 910) * m ≤ 886 * ((m + 3) * (m + 3))
-    squares m = omega arith
+    let m : ℕ = length first.boundary.items - 3 in
+    let n : ℕ = length second.boundary.items - 3 in
+    let size : m + n ≡ length piece - 4 = omega (arith, is.lengths, some, more) in
+    let same = ap (allowed_for each) size in
+    subst (λ ps. allowed each ps ≤ allowed_for each (length piece - 4) + allowed each pieces) (sym taken.1) (omega (arith, same, parts_allowed each m n))
 
 -- ---- the work list
 
@@ -121,15 +104,15 @@ module _ (corners : List Point) where
       (subst (λ ts. ArePieces corners (range_with_len 0 (length corners) ∷ []) × Completes corners ts (range_with_len 0 (length corners) ∷ [])) (sym done_is)
       ((is_piece, tt), λ ts fit cut. (fit, cut))))
 
-  -- for which as many diagonals are to be drawn as there are vertices but three
+  -- and so much is allowed for it
   pub allowed_at_start : (none work : List Piece) (piece : Piece) → none ≡ [] → work ≡ none ++ piece ∷ []
-      → piece.boundary.items ≡ range_with_len 0 (length corners) → (allowed : ℕ)
-      → allowed * diagonals (last_first work) ≡ allowed * (length corners - 3)
-  allowed_at_start none work piece none_is work_is piece_is allowed =
+      → piece.boundary.items ≡ range_with_len 0 (length corners) → (each : ℕ) → allowed each (last_first work) ≡ allowed_for each (length corners - 3)
+  allowed_at_start none work piece none_is work_is piece_is each =
       let one : last_first work ≡ piece.boundary.items ∷ [] = ap last_first (work_is ∙ ap (λ ws. ws ++ piece ∷ []) none_is) in
       let size : length piece.boundary.items ≡ length corners = ap length piece_is ∙ length-range_with_len 0 (length corners) in
-      let count : diagonals (piece.boundary.items ∷ []) ≡ length corners - 3 = omega (arith, size) in
-      ap (λ n. allowed * n) (ap diagonals one ∙ count)
+      let same = ap (λ n. allowed_for each (n - 3)) size in
+      let alone : allowed each (piece.boundary.items ∷ []) ≡ allowed_for each (length corners - 3) = omega (arith, same) in
+      ap (allowed each) one ∙ alone
 
   module _ (work rest : List Piece) (piece : Piece) (done : List Tri) (is : work ≡ rest ++ piece ∷ [])
       (so_far : ArePieces corners (last_first work) × Completes corners done (last_first work)) where
@@ -149,26 +132,23 @@ module _ (corners : List Point) where
         (nearer corners piece.boundary.items (last_first rest) done last_is_piece (subst (ArePieces corners) pieces_are so_far.0).1
         (subst (Completes corners done) pieces_are so_far.1) remains done_after pieces_after is_cut taken)
 
-    -- to cut the last one keeps within what is allowed
-    pub allowed_before : (remains : Remains) (done_after : List Tri) (pieces_after : List (List ℕ)) → IsCutOf corners piece.boundary.items remains
-        → IsTakenOver remains done (last_first rest) done_after pieces_after → (allowed before after : ℕ)
-        → (length piece.boundary.items ≡ 3 → after ≡ before) → after ≤ before + allowed
-        → after + allowed * diagonals pieces_after ≤ before + allowed * diagonals (last_first work)
-    allowed_before remains done_after pieces_after is_cut taken allowed before after none most =
-        subst (λ ps. after + allowed * diagonals pieces_after ≤ before + allowed * diagonals ps) (sym pieces_are)
-        (within_allowed (length piece.boundary.items) allowed before after (diagonals (last_first rest)) (diagonals pieces_after) last_is_piece.polygon.some none most
-        (fewer_diagonals corners piece.boundary.items (last_first rest) done remains done_after pieces_after is_cut taken))
+    module _ (each other before after : ℕ) (each_is : each ≡ 2 * other + 1030) (none : length piece.boundary.items ≡ 3 → after ≡ before)
+        (most : after ≤ before + (515 * length piece.boundary.items + other)) where
+      -- and keeps within what is allowed,
+      pub allowed_before : (remains : Remains) (done_after : List Tri) (pieces_after : List (List ℕ)) → IsCutOf corners piece.boundary.items remains
+          → IsTakenOver remains done (last_first rest) done_after pieces_after → 2 * after + allowed each pieces_after ≤ 2 * before + allowed each (last_first work)
+      allowed_before remains done_after pieces_after is_cut taken =
+          subst (λ ps. 2 * after + allowed each pieces_after ≤ 2 * before + allowed each ps) (sym pieces_are)
+          (within_allowed (length piece.boundary.items) each other before after (allowed each (last_first rest)) (allowed each pieces_after)
+          last_is_piece.polygon.some each_is none most
+          (less_allowed corners each piece.boundary.items (last_first rest) done remains done_after pieces_after is_cut taken))
 
-    -- also where memory is wanting
-    pub allowed_once : (allowed before after : ℕ) → (length piece.boundary.items ≡ 3 → after ≡ before) → after ≤ before + allowed
-        → after ≤ before + allowed * diagonals (last_first work)
-    allowed_once allowed before after none most =
-        subst (λ ps. after ≤ before + allowed * diagonals ps) (sym pieces_are)
-        (omega (
-          arith,
-          within_allowed (length piece.boundary.items) allowed before after (diagonals (last_first rest)) (diagonals (last_first rest))
-              last_is_piece.polygon.some none most (omega arith),
-        ))
+      -- also where memory is wanting
+      pub allowed_once : 2 * after ≤ 2 * before + allowed each (last_first work)
+      allowed_once =
+          subst (λ ps. 2 * after ≤ 2 * before + allowed each ps) (sym pieces_are)
+          (let within = within_allowed (length piece.boundary.items) each other before after (allowed each (last_first rest)) 0
+          last_is_piece.polygon.some each_is none most (omega arith) in omega (arith, within))
 
   -- in the end the triangles fit, as many as there are vertices but two, and are those into which the ring is cut
   pub at_end : (work : List Piece) (done : List Tri) → length work ≡ 0 → Completes corners done (last_first work)

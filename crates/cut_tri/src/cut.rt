@@ -28,7 +28,7 @@ pub(crate) enum Remains {
 
 // Cuts a piece at its lexicographically least vertex v, with u before it and w after it: along the segment from u to w, or
 // from v to the vertex of the closed triangle u, v, w that is farthest from the line through u and w. Of `places` only the
-// length matters.
+// length matters. A triangle takes no steps.
 pub(crate) fn cut<L: Ledger>(
     alloc: Global,
     ring: &Ring,
@@ -45,7 +45,7 @@ pub(crate) fn cut<L: Ledger>(
     ensures places { length places.new ≡ length places.old }
     ensures clusters { IfSome clusters.new (AreClusters ring.now.corners) }
     ensures triangle { length piece.boundary.items ≡ 3 → steps.new ≡ steps.old }
-    ensures steps { steps.new ≤ steps.old + (886 * length ring.now.corners + 910) }
+    ensures steps { steps.new ≤ steps.old + (515 * length piece.boundary.items + 371 * length ring.now.corners + 910) }
 {
     let least = least_place(ring, &piece);
     piece.boundary.rotate_left(least);
@@ -77,7 +77,7 @@ fn cut_at_first<L: Ledger>(
     ensures places { length places.new ≡ length places.old }
     ensures clusters { IfSome clusters.new (AreClusters ring.now.corners) }
     ensures triangle { length piece.boundary.items ≡ 3 → steps.new ≡ steps.old }
-    ensures steps { steps.new ≤ steps.old + (886 * length ring.now.corners + 910) }
+    ensures steps { steps.new ≤ steps.old + (515 * length piece.boundary.items + 371 * length ring.now.corners + 910) }
 {
     let tri = corner_of(&piece.boundary);
     if piece.boundary.len() == 3 {

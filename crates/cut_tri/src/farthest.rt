@@ -68,7 +68,7 @@ pub(crate) fn farthest<L: Ledger>(
     ensures clusters { IfSome clusters.new (AreClusters ring.now.corners) }
     ensures farthest { IfSome result (IsFarthestNumber ring.now.corners piece.now.boundary.items) }
     ensures none { IfNone result ((k : ℕ) → ¬ (IsPlaceInCorner ring.now.corners piece.now.boundary.items k)) }
-    ensures steps { steps.new ≤ steps.old + (886 * length ring.now.corners + 910) }
+    ensures steps { steps.new ≤ steps.old + (515 * length piece.now.boundary.items + 371 * length ring.now.corners + 910) }
 {
     let corner = Corner::of(ring, &piece.boundary, steps);
     Some(best_in(alloc, &corner, ring, piece, clusters, steps)?.number)
@@ -225,8 +225,8 @@ impl Corner {
         }
     }
 
-    // Whether none is, by these clusters. Of eight vertices that no cluster is left out for, each takes at most 3 steps more than
-    // those of the question to the cluster.
+    // Whether none is, by these clusters. A vertex takes at most 3 steps where it is looked at and 120 where it is passed, and each
+    // place at which clusters begin 960.
     fn is_empty_among<L: Ledger>(
         &self,
         ring: &Ring,

@@ -17,7 +17,7 @@ use std::sync::ledger::Ledger;
 use tri_mesh::Mesh;
 
 /// The triangulation of the polygon that its vertices determine: pieces are cut at their lexicographically least vertex, along one
-/// diagonal after another, until each is a triangle.
+/// diagonal after another, until each is a triangle. For n vertices it takes at most 629 n n + 119 n steps, want of memory or not.
 pub fn triangulate<L: Ledger>(
     alloc: Global,
     ring: &Ring,
@@ -25,7 +25,7 @@ pub fn triangulate<L: Ledger>(
 ) -> Result<Mesh, Memory>
     ensures fits { IfOk result (Fits ring.now.corners) }
     ensures cut { IfOk result (IsCutTriangulation ring.now.corners) }
-    ensures steps { let n = length ring.now.corners in steps.new ≤ steps.old + 886 * (n * n) }
+    ensures steps { let n = length ring.now.corners in steps.new ≤ steps.old + (629 * (n * n) + 119 * n) }
 {
     let mut tris = Vec::with_capacity(alloc, ring.len() as usize - 2)?;
     let mut places = Vec::from_elem(alloc, 0, ring.len() as usize)?;

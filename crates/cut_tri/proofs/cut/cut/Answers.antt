@@ -1,4 +1,4 @@
-use Rattle.std.proofs.Common.{◌∙◌, ap, length, subst}
+use Rattle.std.proofs.Common.{◌∙◌, ap, length, subst, arith}
 use Rattle.std.specs.Prelude.{IfOk}
 use Rattle.cut_tri.proofs.RotatedCuts.{as_long, least_from, order_from, result_from}
 use Rattle.cut_tri.proofs.cut.cut.Goals as goal
@@ -22,6 +22,11 @@ returns-clause-cut g c =
     let corners = c.args.ring.now.corners in
     result_from corners c.args.piece.boundary.items c.least_place-least.result c.requires.ordered.0 c.cut_at_first.result
     (subst (λ xs. IfOk c.cut_at_first.result (IsCutOf corners xs)) c.rotate_left.ensures.items c.cut_at_first.ensures.cut)
+
+pub returns-clause-steps : goal.returns-clause-steps
+returns-clause-steps g c =
+    let size = ap length c.rotate_left.ensures.items ∙ as_long c.args.piece.boundary.items c.least_place-least.result in
+    omega (arith, size, c.cut_at_first.ensures.steps)
 
 pub returns-clause-triangle : goal.returns-clause-triangle
 returns-clause-triangle g c three =

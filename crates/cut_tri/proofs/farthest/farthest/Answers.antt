@@ -23,7 +23,7 @@ returns-clause-steps g c =
     let xs = c.args.piece.now.boundary.items in
     let os = c.args.piece.now.order.items in
     let piece = c.requires.ordered.ordered.0 in
-    let few = order_few corners xs os c.requires.ordered.ordered.1 piece.numbers in
+    let few = order_few corners xs os c.requires.ordered.ordered.1 in
     let some = order_some corners xs os c.requires.ordered.ordered.1 (let three = piece.polygon.some in omega (arith, three)) in
     omega (arith, few, some, c.of-corner.ensures.steps, c.best_in.ensures.steps)
 
@@ -33,6 +33,6 @@ returns-in_err-best_in-clause-steps g c =
     let xs = c.args.piece.now.boundary.items in
     let os = c.args.piece.now.order.items in
     let piece = c.requires.ordered.ordered.0 in
-    let few = order_few corners xs os c.requires.ordered.ordered.1 piece.numbers in
+    let few = order_few corners xs os c.requires.ordered.ordered.1 in
     let some = order_some corners xs os c.requires.ordered.ordered.1 (let three = piece.polygon.some in omega (arith, three)) in
     omega (arith, few, some, c.of-corner.ensures.steps, c.best_in.ensures.steps)

@@ -1,7 +1,8 @@
 use Rattle.std.proofs.Common.{◌≡◌, ◌+◌, ◌*◌, ◌≤◌, sym, ap, ◌∙◌, [], ◌∷◌, ◌++◌, length, arith}
 use Rattle.std.proofs.lemmas.List.Elements.{All-nil}
+use Rattle.cut_tri.proofs.AllowedSteps.{allowed_in_all}
 use Rattle.cut_tri.proofs.WholePiece.{all_is_piece}
-use Rattle.cut_tri.proofs.WorkList.{allowed_at_start, allowed_before, allowed_in_all, allowed_once, at_end, at_start, last_is_piece, length_kept, one_step, orders_popped, orders_pushed}
+use Rattle.cut_tri.proofs.WorkList.{allowed_at_start, allowed_before, allowed_once, at_end, at_start, last_is_piece, length_kept, one_step, orders_popped, orders_pushed}
 use Rattle.cut_tri.specs.Ordered.{IsOrderOf}
 use Rattle.cut_tri.specs.declared.piece.Piece.{Piece}
 use Rattle.cut_tri.proofs.triangulation.triangulate.Goals as goal
@@ -23,7 +24,7 @@ loop-piece-init g c =
         arith,
         c.in_ok-whole_piece.ensures.steps,
         allowed_at_start corners c.new-work.result.items c.push.new.self.items c.in_ok-whole_piece.field-0 c.new-work.ensures.items
-            c.in_ok-push.ensures.items c.in_ok-whole_piece.ensures.all (886 * length corners + 910),
+            c.in_ok-push.ensures.items c.in_ok-whole_piece.ensures.all (742 * length corners + 2850),
       );
     }
 
@@ -54,9 +55,9 @@ loop-piece-preserved g c =
       steps = omega (
         arith,
         c.loop-piece.invariant.steps,
-        allowed_before corners work rest c.in-Some.piece c.loop-piece.tris.items c.in-Some.ensures.items c.loop-piece.invariant.pieces c.in_ok-left.left _ _
-            c.in_ok-left.ensures.cut c.in_ok-take_over.ensures.taken (886 * length corners + 910) c.loop-piece.steps c.cut.new.steps c.cut.ensures.triangle
-            c.cut.ensures.steps,
+        allowed_before corners work rest c.in-Some.piece c.loop-piece.tris.items c.in-Some.ensures.items c.loop-piece.invariant.pieces
+            (742 * length corners + 2850) (371 * length corners + 910) c.loop-piece.steps c.cut.new.steps (omega arith) c.cut.ensures.triangle
+            (omega (arith, c.cut.ensures.steps)) c.in_ok-left.left _ _ c.in_ok-left.ensures.cut c.in_ok-take_over.ensures.taken,
       );
     }
 
@@ -92,7 +93,8 @@ returns-in_err-left-clause-steps g c =
       allowed_in_all (length corners) some,
       c.loop-piece.invariant.steps,
       allowed_once corners c.loop-piece.work.items c.pop.new.self.items c.in-Some.piece c.loop-piece.tris.items c.in-Some.ensures.items
-          c.loop-piece.invariant.pieces (886 * length corners + 910) c.loop-piece.steps c.cut.new.steps c.cut.ensures.triangle c.cut.ensures.steps,
+          c.loop-piece.invariant.pieces (742 * length corners + 2850) (371 * length corners + 910) c.loop-piece.steps c.cut.new.steps (omega arith)
+          c.cut.ensures.triangle (omega (arith, c.cut.ensures.steps)),
     )
 
 pub returns-in_err-take_over-clause-steps : goal.returns-in_err-take_over-clause-steps
@@ -104,7 +106,8 @@ returns-in_err-take_over-clause-steps g c =
       allowed_in_all (length corners) some,
       c.loop-piece.invariant.steps,
       allowed_once corners c.loop-piece.work.items c.pop.new.self.items c.in-Some.piece c.loop-piece.tris.items c.in-Some.ensures.items
-          c.loop-piece.invariant.pieces (886 * length corners + 910) c.loop-piece.steps c.cut.new.steps c.cut.ensures.triangle c.cut.ensures.steps,
+          c.loop-piece.invariant.pieces (742 * length corners + 2850) (371 * length corners + 910) c.loop-piece.steps c.cut.new.steps (omega arith)
+          c.cut.ensures.triangle (omega (arith, c.cut.ensures.steps)),
     )
 
 pub returns-clause-steps : goal.returns-clause-steps

@@ -1,6 +1,7 @@
 use Rattle.std.proofs.Common.{◌≡◌, ◌+◌, ◌-◌, ◌*◌, ◌≤◌, length}
 use Rattle.std.specs.Prelude.{IfSome}
-use Rattle.cut_tri.proofs.Completion.{ArePieces, Completes, diagonals, effort}
+use Rattle.cut_tri.proofs.AllowedSteps.{allowed, allowed_for}
+use Rattle.cut_tri.proofs.Completion.{ArePieces, Completes, effort}
 use Rattle.cut_tri.proofs.triangulation.triangulate.Given as goal
 use Rattle.cut_tri.specs.Clusters.{AreClusters}
 use Rattle.cut_tri.specs.WorkList.{HaveOrders, last_first}
@@ -11,7 +12,8 @@ invariant-loop-piece g l = record {
   orders : HaveOrders l.ring.corners l.work.items;
   places : length l.places.items ≡ length l.ring.corners;
   clusters : IfSome l.clusters (AreClusters l.ring.corners);
-  steps : let n = length l.ring.corners in l.steps + (886 * n + 910) * diagonals (last_first l.work.items) ≤ l.fn.steps + (64 * n + (886 * n + 910) * (n - 3));
+  steps : let n = length l.ring.corners in
+      2 * l.steps + allowed (742 * n + 2850) (last_first l.work.items) ≤ 2 * l.fn.steps + (128 * n + allowed_for (742 * n + 2850) (n - 3));
 }
 
 abbrev pub decreases-loop-piece : goal.decreases-loop-piece
