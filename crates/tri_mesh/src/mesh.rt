@@ -9,17 +9,19 @@ ghost use Rattle.tri_mesh.specs.Outward.{IsOutward, IsRooted};
 use crate::outward::{Outward, Rooted};
 use crate::search::Search;
 use crate::sides::neighbours;
-use exact_plane::Memory;
+use exact_plane::{BoundingBox, Memory};
 use meshes::Tri;
 use std::alloc::Global;
 use std::marker::Model;
 
-/// Triangles that fit some polygon, for each side the triangle on its other side, and an order outward from triangle 0.
+/// Triangles that fit some polygon, for each side the triangle on its other side, and an order outward from triangle 0. It may
+/// keep boxes, by which a search can choose where to look first.
 #[derive(Drop)]
 pub struct Mesh {
     tris: Vec<Tri>,
     neighbours: Vec<[Option<u32>; 3]>,
     root: Search,
+    boxes: Vec<BoundingBox>,
 }
 
 impl Model for Mesh {
@@ -37,17 +39,26 @@ impl Model for Mesh {
 }
 
 impl Mesh {
-    /// The mesh of these triangles. The list is dropped where memory is refused.
+    /// The mesh of these triangles, without boxes. The list is dropped where memory is refused.
     pub fn build(alloc: Global, tris: Vec<Tri>) -> Result<Mesh, Memory>
         requires fits { IsMesh tris.items }
         requires few { vec_len tris < 2 ^ 30 }
         ensures { IfOk result (λ mesh. mesh ≡ tris.items) }
     {
-        Mesh::of_tree(alloc, tris)
+        Mesh::boxed(alloc, tris, Vec::new(alloc))
+    }
+
+    /// The mesh of these triangles, which keeps these boxes. Both lists are dropped where memory is refused.
+    pub fn boxed(alloc: Global, tris: Vec<Tri>, boxes: Vec<BoundingBox>) -> Result<Mesh, Memory>
+        requires fits { IsMesh tris.items }
+        requires few { vec_len tris < 2 ^ 30 }
+        ensures { IfOk result (λ mesh. mesh ≡ tris.items) }
+    {
+        Mesh::of_tree(alloc, tris, boxes)
     }
 
     // The mesh of triangles that are a tree and have their sides once.
-    pub(crate) fn of_tree(alloc: Global, tris: Vec<Tri>) -> Result<Mesh, Memory>
+    fn of_tree(alloc: Global, tris: Vec<Tri>, boxes: Vec<BoundingBox>) -> Result<Mesh, Memory>
         requires some { 0 < vec_len tris }
         requires tree { IsTree tris.items }
         requires sides { HasSidesOnce tris.items }
@@ -60,6 +71,7 @@ impl Mesh {
             tris,
             neighbours,
             root,
+            boxes,
         })
     }
 
@@ -97,6 +109,11 @@ impl Mesh {
             IsNone result ↔ IsPieceEdge (range_with_len 0 (length corners)) (side_begin t side) (side_end t side) }
     {
         self.neighbours[i as usize][side as usize]
+    }
+
+    /// The boxes that it was made with. No clause says what they are round: what is found by them is to be tested.
+    pub fn boxes(&self) -> &[BoundingBox] {
+        &self.boxes
     }
 
     /// The triangles outward from `home`: each shares a side with one before it. All sides are looked at once.
