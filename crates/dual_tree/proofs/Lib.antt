@@ -1,3 +1,4 @@
+pub mod Choices
 pub mod FullLists
 mod KnownLists
 pub mod LocationFits
@@ -6,4 +7,5 @@ pub mod Searched
 pub mod SightLines
 pub mod SleeveRoom
 pub mod TreeWalks
+pub mod StrictHits
 pub mod Ways

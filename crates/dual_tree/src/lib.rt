@@ -2,6 +2,7 @@
 #![tactic(auto)]
 
 mod board;
+mod boxes;
 mod laws;
 mod location;
 mod sleeves;
@@ -9,6 +10,7 @@ mod touching;
 mod walk;
 
 pub use board::Board;
+pub use boxes::boxes_of;
 pub use laws::{full_without_straight, no_point_twice};
 pub use location::{locate, locate_both};
 pub use sleeves::sleeve;

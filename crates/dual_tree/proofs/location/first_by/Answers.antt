@@ -1,0 +1,75 @@
+use Rattle.std.proofs.Common.{◌≡◌, ◌⊎◌, inl, inr, ℕ, ◌+◌, ◌-◌, ◌*◌, ◌/◌, ◌<◌, ◌≤◌, length, refl, arith}
+use Rattle.std.proofs.lemmas.Bool.{cases_lt}
+use Rattle.std.proofs.lemmas.Int.{ints}
+use Rattle.plane.specs.Point.{whole}
+use Rattle.dual_tree.specs.Runs.{taken_before, takes_run}
+use Rattle.dual_tree.proofs.Choices.{both_take, by_one, some_taken}
+use Rattle.dual_tree.proofs.StrictHits.{strictly_one}
+use Rattle.dual_tree.proofs.location.first_by.Goals as goal
+
+pub returns-then-is_strictly_in-clause-first : goal.returns-then-is_strictly_in-clause-first
+returns-then-is_strictly_in-clause-first g c =
+    let found = c.first_chosen-found.result in
+    let is_there = c.if-is_strictly_in.ensures.is_there refl in
+    record {
+      after = omega arith;
+      within = omega arith;
+      holds = λ _. c.first_chosen-found.ensures.holds (omega arith);
+      none = λ l _ below held. strictly_one c.args.ring.now.corners c.args.mesh.now c.requires (whole c.args.p.now) (omega (arith, ints))
+          found l is_there (omega arith) (c.if-is_strictly_in.ensures.strictly refl) held below;
+    }
+
+pub returns-then-is_strictly_in-clause-steps : goal.returns-then-is_strictly_in-clause-steps
+returns-then-is_strictly_in-clause-steps g c =
+    let first = c.early-first.result.0 in
+    let found = c.first_chosen-found.result in
+    let N = takes_run c.near-near.result in
+    let some = some_taken N (found - first) first in
+    let same : first + (found - first) ≡ found = omega (arith, c.first_chosen-found.ensures.after) in
+    let some_here = rw same at some.1 in
+    let is_there = c.if-is_strictly_in.ensures.is_there refl in
+    elim (c.early-first.ensures.spared (cc)) [
+      | inl spared ↦ omega (arith, some_here, spared, c.first_chosen-found.ensures.steps)
+      | inr all ↦ absurd (omega (arith, all.0))
+    ]
+
+pub returns-clause-first : goal.returns-clause-first
+returns-clause-first g c =
+    let first = c.early-first.result.0 in
+    let found = c.first_chosen-found.result in
+    let last = c.first_chosen.result in
+    record {
+      after = omega arith;
+      within = omega arith;
+      holds = λ below. elim (cases_lt last found) [
+        | inl before ↦ c.first_chosen.ensures.holds before
+        | inr not_before ↦
+            let same : last ≡ found = omega arith in
+            rw same (c.first_chosen-found.ensures.holds (omega arith))
+      ];
+      none = λ l _ below. elim (cases_lt l first) [
+        | inl early ↦ c.early-first.ensures.none l early
+        | inr later ↦ elim (by_one (takes_run c.near-near.result (l / 32)) (takes_run c.others.result (l / 32)) (c.others.ensures (l / 32))) [
+          | inl near ↦ c.first_chosen-found.ensures.none l later (omega arith) near
+          | inr far ↦ c.first_chosen.ensures.none l later below far
+        ]
+      ];
+    }
+
+pub returns-clause-steps : goal.returns-clause-steps
+returns-clause-steps g c =
+    let first = c.early-first.result.0 in
+    let found = c.first_chosen-found.result in
+    let last = c.first_chosen.result in
+    let N = takes_run c.near-near.result in
+    let F = takes_run c.others.result in
+    let both = both_take N F c.others.ensures (found - first) first in
+    let some = some_taken F (found - last) last in
+    let same : first + (found - first) ≡ found = omega (arith, c.first_chosen-found.ensures.after) in
+    let same_last : last + (found - last) ≡ found = omega (arith, c.first_chosen.ensures.within) in
+    let both_here = rw same at both in
+    let some_here = rw same_last at some.0 in
+    elim (c.early-first.ensures.spared (cc)) [
+      | inl spared ↦ omega (arith, both_here, some_here, spared, c.first_chosen-found.ensures.steps, c.first_chosen.ensures.steps)
+      | inr all ↦ absurd (omega (arith, all.0))
+    ]
