@@ -1,4 +1,5 @@
 pub mod Choices
+pub mod CornerHits
 pub mod FullLists
 mod KnownLists
 pub mod LocationFits

@@ -54,8 +54,8 @@ fn box_round<L: Ledger>(
 {
     let mut around = BoundingBox::empty();
     for i in first..end {
-        let (a, _, c) = corners_of(ring, &tris[i]);
-        around = around.joined(&BoundingBox::of(&[*a, *c], steps));
+        let (a, _, _) = corners_of(ring, &tris[i]);
+        around = around.joined(&BoundingBox::of(&[*a], steps));
     }
     around
 }

@@ -7,12 +7,14 @@ ghost use Rattle.rings.specs.Ring.{vertex};
 ghost use Rattle.meshes.specs.Fits.{Fits, IsInTri, IsStrictlyInTri};
 ghost use Rattle.meshes.specs.Side.{tri_at};
 ghost use Rattle.dual_tree.specs.Runs.{taken_before, takes_run};
+ghost use Rattle.tri_mesh.specs.Corner.{HasCorner};
 ghost use Rattle.dual_tree.specs.Location.{IsCornered, IsFirstHolding, IsLeastHolding};
 
 use crate::boxes::{Choice, RUN};
-use exact_plane::{BoundingBox, Direction, Pt, Steps, in_triangle, turn};
+use exact_plane::{BoundingBox, Direction, Pt, Steps, in_triangle, order, turn};
 use meshes::Tri;
 use ring_check::Ring;
+use std::cmp::Ordering;
 use std::sync::ledger::Ledger;
 use tri_mesh::Mesh;
 
@@ -70,7 +72,9 @@ fn first_held<L: Ledger>(mesh: &Mesh, ring: &Ring, p: &Pt, steps: &mut Steps<L>)
     }
 }
 
-// The same by boxes that may be round any runs.
+// The same by boxes that may be round any runs: first the runs whose boxes have the point. What is found there is the least where
+// the point is strictly inside, and where it is a corner, no other triangles than those with this corner hold it. Else the
+// other runs are gone over too.
 #[tactic(auto, using(crate::proofs::LocationFits::places))]
 fn first_by<L: Ledger>(
     mesh: &Mesh,
@@ -89,10 +93,61 @@ fn first_by<L: Ledger>(
     }
     let near = Choice::near(boxes, p, steps);
     let found = first_chosen(mesh, ring, p, &near, (first, mesh.count()), steps);
+    if let Some(v) = corner_at(mesh, ring, found, p, steps) {
+        return first_with(mesh, v, found);
+    }
     if is_strictly_in(mesh, ring, found, p, steps) {
         return found;
     }
     first_chosen(mesh, ring, p, &near.others(), (first, found), steps)
+}
+
+// The corner of a triangle that the point is; none where it is none of them, or there is no triangle with this number. It takes
+// at most 3 steps.
+#[tactic(auto, using(crate::proofs::LocationFits::places))]
+fn corner_at<L: Ledger>(
+    mesh: &Mesh,
+    ring: &Ring,
+    k: u32,
+    p: &Pt,
+    steps: &mut Steps<L>,
+) -> Option<u32>
+    requires { Fits ring.now.corners mesh.now }
+    ensures is_there { IsSome result → k < length mesh.now }
+    ensures corner { IfSome result (HasCorner (tri_at mesh.now k)) }
+    ensures point { IfSome result (λ v. p.now ≡ vertex ring.now.corners v) }
+    ensures steps { steps.new ≤ steps.old + 3 }
+{
+    if k >= mesh.count() {
+        return None;
+    }
+    let tri = mesh.tri(k);
+    let (a, b, c) = corners_of(ring, &tri);
+    if order(p, a, steps) == Ordering::Equal {
+        Some(tri.a)
+    } else if order(p, b, steps) == Ordering::Equal {
+        Some(tri.b)
+    } else if order(p, c, steps) == Ordering::Equal {
+        Some(tri.c)
+    } else {
+        None
+    }
+}
+
+// The first triangle with corner `v` before number `end`; `end` where there is none.
+fn first_with(mesh: &Mesh, v: u32, end: u32) -> u32
+    requires { end ≤ length mesh.now }
+    ensures within { result ≤ end }
+    ensures corner { result < end → HasCorner (tri_at mesh.now result) v }
+    ensures none { (k : ℕ) → k < result → ¬ HasCorner (tri_at mesh.now k) v }
+{
+    for k in 0..end {
+        let tri = mesh.tri(k);
+        if tri.a == v || tri.b == v || tri.c == v {
+            return k;
+        }
+    }
+    end
 }
 
 // The first triangles, until so many steps are left over of 3 for each that they pay for a search by boxes: the first that holds
@@ -104,12 +159,12 @@ fn early<L: Ledger>(mesh: &Mesh, ring: &Ring, p: &Pt, steps: &mut Steps<L>) -> (
     ensures held { IsTrue result.1 → result.0 < length mesh.now × IsInTri ring.now.corners (tri_at mesh.now result.0) (whole p.now) }
     ensures none { (k : ℕ) → k < result.0 → ¬ IsInTri ring.now.corners (tri_at mesh.now k) (whole p.now) }
     ensures steps { steps.new ≤ steps.old + 3 * (result.0 + 1) }
-    ensures spared { result.1 ≡ false → (steps.new + 73 ≤ steps.old + 3 * result.0)
+    ensures spared { result.1 ≡ false → (steps.new + 76 ≤ steps.old + 3 * result.0)
         ⊎ ((result.0 ≡ length mesh.now) × (steps.new ≤ steps.old + 3 * result.0)) }
 {
     let mut spared = 0;
     let mut i = 0;
-    while i < mesh.count() && spared < 73 {
+    while i < mesh.count() && spared < 76 {
         match spared_by(ring, &mesh.tri(i), p, steps) {
             Some(left) => spared += left,
             None => return (i, true),
