@@ -1,7 +1,7 @@
 -- The choice of runs by boxes, and how many triangles it takes.
 use mathlib.Core.Bool.{beq}
 use Rattle.std.specs.List.{slice_get}
-use Rattle.std.proofs.Common.{inl, inr, ◌⊎◌, add-zero, Some, None, ◌≡◌, refl, sym, ap, ◌∙◌, ℕ, zero, suc, ◌+◌, ◌-◌, ◌*◌, ◌/◌, ◌<◌, ◌≤◌, ℤ, Bool, true, false, cond, not, List, IsTrue, arith}
+use Rattle.std.proofs.Common.{inl, inr, ◌⊎◌, add-zero, Some, None, ◌≡◌, refl, ℕ, zero, suc, ◌+◌, ◌*◌, ◌/◌, ◌≤◌, Bool, true, false, cond, not, IsTrue, arith}
 use Rattle.exact_plane.specs.declared.bounding_box.BoundingBox.{BoundingBox}
 use Rattle.dual_tree.specs.Runs.{Chosen, is_beside, takes_run, taken_before}
 

@@ -1,5 +1,5 @@
 -- A vertex of the ring is in the triangles of a mesh that have it as a corner, and in no others.
-use Rattle.std.proofs.Common.{◌≡◌, inl, inr, refl, sym, subst, ℕ, ◌<◌, List, length}
+use Rattle.std.proofs.Common.{◌≡◌, inl, inr, refl, subst, ℕ, ◌<◌, List, length}
 use Rattle.std.specs.List.{Contains, range_with_len}
 use Rattle.plane.proofs.Points.{whole_is_point}
 use Rattle.plane.proofs.Segments.{on_first_end}

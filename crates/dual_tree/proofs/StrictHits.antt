@@ -1,5 +1,5 @@
 -- A point strictly inside a triangle of a mesh is in no other one.
-use Rattle.std.proofs.Common.{◌≡◌, ◌⊎◌, inl, inr, ℕ, ◌<◌, List, length, arith}
+use Rattle.std.proofs.Common.{◌≡◌, ℕ, ◌<◌, List, length, arith}
 use Rattle.plane.proofs.Nearness.{toward, toward_is_point}
 use Rattle.plane.specs.Point.{IsPoint, Point, Triple}
 use Rattle.meshes.proofs.Parts.{inside_one, inside_sides, left_of_all_eventually, left_of_sides, mean, mean_inside, mean_is_point, paved, sides, toward_inside}

@@ -1,6 +1,6 @@
 -- Which triangles of a list are looked at first, by boxes round runs of them. This project's own.
 use Rattle.std.specs.List.{slice_get}
-use Rattle.std.specs.Prelude.{ℕ, zero, suc, ◌+◌, ◌/◌, ℤ, Bool, false, cond, List, Option, Some, None, ◌||◌, int_lt, not}
+use Rattle.std.specs.Prelude.{ℕ, zero, suc, ◌/◌, ℤ, Bool, false, cond, List, Option, Some, None, ◌||◌, int_lt, not}
 use Rattle.exact_plane.specs.declared.bounding_box.BoundingBox.{BoundingBox}
 
 -- a number is less than the one or greater than the other

@@ -291,13 +291,7 @@ fn holds<L: Ledger>(ring: &Ring, tri: &Tri, p: &Pt, steps: &mut Steps<L>) -> boo
 
 // Whether there is a triangle with this number, and the point is left of all its sides. It takes at most 3 steps.
 #[tactic(auto, using(crate::proofs::LocationFits::places))]
-fn is_strictly_in<L: Ledger>(
-    mesh: &Mesh,
-    ring: &Ring,
-    k: u32,
-    p: &Pt,
-    steps: &mut Steps<L>,
-) -> bool
+fn is_strictly_in<L: Ledger>(mesh: &Mesh, ring: &Ring, k: u32, p: &Pt, steps: &mut Steps<L>) -> bool
     requires { Fits ring.now.corners mesh.now }
     ensures is_there { IsTrue result → k < length mesh.now }
     ensures strictly { IsTrue result → IsStrictlyInTri ring.now.corners (tri_at mesh.now k) (whole p.now) }

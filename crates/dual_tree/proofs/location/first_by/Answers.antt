@@ -1,8 +1,8 @@
-use Rattle.std.proofs.Common.{◌≡◌, ◌⊎◌, inl, inr, ℕ, ◌+◌, ◌-◌, ◌*◌, ◌/◌, ◌<◌, ◌≤◌, length, refl, arith}
+use Rattle.std.proofs.Common.{◌≡◌, inl, inr, ◌+◌, ◌-◌, ◌/◌, ◌<◌, length, refl, arith}
 use Rattle.std.proofs.lemmas.Bool.{cases_lt}
 use Rattle.std.proofs.lemmas.Int.{ints}
 use Rattle.plane.specs.Point.{whole}
-use Rattle.dual_tree.specs.Runs.{taken_before, takes_run}
+use Rattle.dual_tree.specs.Runs.{takes_run}
 use Rattle.dual_tree.proofs.Choices.{both_take, by_one, some_taken}
 use Rattle.dual_tree.proofs.CornerHits.{corner_in, corner_within, held_corner}
 use Rattle.dual_tree.proofs.StrictHits.{strictly_one}

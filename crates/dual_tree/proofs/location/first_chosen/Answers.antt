@@ -1,6 +1,6 @@
-use Rattle.std.proofs.Common.{◌≡◌, ◌∙◌, sym, ap, subst, true, false, Bool, inl, inr, ℕ, ◌+◌, ◌-◌, ◌*◌, ◌/◌, ◌<◌, ◌≤◌, refl, arith}
+use Rattle.std.proofs.Common.{◌≡◌, ◌∙◌, ap, false, inl, inr, ◌+◌, ◌-◌, ◌/◌, ◌≤◌, arith}
 use Rattle.std.proofs.lemmas.Bool.{cases_lt}
-use Rattle.dual_tree.specs.Runs.{taken_before, takes_run}
+use Rattle.dual_tree.specs.Runs.{takes_run}
 use Rattle.dual_tree.proofs.Choices.{run_taken, run_left}
 use Rattle.dual_tree.proofs.location.first_chosen.Goals as goal
 

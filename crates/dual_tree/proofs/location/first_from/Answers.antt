@@ -1,4 +1,4 @@
-use Rattle.std.proofs.Common.{ℕ, ◌≤◌, ◌<◌, ◌≡◌, inl, inr, arith}
+use Rattle.std.proofs.Common.{ℕ, ◌≤◌, arith}
 use Rattle.plane.specs.Point.{whole}
 use Rattle.meshes.specs.Fits.{IsInTri}
 use Rattle.meshes.specs.Side.{tri_at}

@@ -1,4 +1,4 @@
-use Rattle.std.proofs.Common.{ℕ, refl, arith}
+use Rattle.std.proofs.Common.{refl, arith}
 use Rattle.dual_tree.proofs.LocationFits.{not_in_ring_unless_held}
 use Rattle.dual_tree.proofs.location.locate.Goals as goal
 

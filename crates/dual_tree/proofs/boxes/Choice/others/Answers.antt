@@ -1,4 +1,4 @@
-use Rattle.std.proofs.Common.{ap, sym, arith}
+use Rattle.std.proofs.Common.{ap, arith}
 use Rattle.std.proofs.lemmas.Int.{ints}
 use Rattle.dual_tree.specs.Runs.{Chosen}
 use Rattle.dual_tree.proofs.Choices.{others_take}

@@ -1,4 +1,4 @@
-use Rattle.std.proofs.Common.{◌≡◌, Some, None, ◌∙◌, refl, ap, sym, rules, length, ◌<◌, FitsSigned, w64, to_z-of_z, arith}
+use Rattle.std.proofs.Common.{◌≡◌, ◌∙◌, refl, ap, sym, rules, length, ◌<◌, FitsSigned, w64, to_z-of_z, arith}
 use Rattle.std.specs.List.{slice_get}
 use Rattle.std.proofs.lemmas.Option.{slice_get_past, slice_get_read}
 use Rattle.dual_tree.specs.Runs.{Chosen, is_beside}
