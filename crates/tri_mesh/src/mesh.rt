@@ -6,22 +6,23 @@ ghost use Rattle.meshes.specs.Mesh.{IsMesh, side_begin, side_end};
 ghost use Rattle.meshes.specs.Side.{HasSidesOnce, IsTree, tri_at};
 ghost use Rattle.tri_mesh.specs.Outward.{IsOutward, IsRooted};
 
+use crate::extremes::Extremes;
 use crate::outward::{Outward, Rooted};
 use crate::search::Search;
 use crate::sides::neighbours;
-use exact_plane::{BoundingBox, Memory};
+use exact_plane::Memory;
 use meshes::Tri;
 use std::alloc::Global;
 use std::marker::Model;
 
 /// Triangles that fit some polygon, for each side the triangle on its other side, and an order outward from triangle 0. It may
-/// keep boxes, by which a search can choose where to look first.
+/// keep the extreme vertices of runs of triangles, by which a search can choose where to look first.
 #[derive(Drop)]
 pub struct Mesh {
     tris: Vec<Tri>,
     neighbours: Vec<[Option<u32>; 3]>,
     root: Search,
-    boxes: Vec<BoundingBox>,
+    extremes: Vec<Extremes>,
 }
 
 impl Model for Mesh {
@@ -39,26 +40,30 @@ impl Model for Mesh {
 }
 
 impl Mesh {
-    /// The mesh of these triangles, without boxes. The list is dropped where memory is refused.
+    /// The mesh of these triangles, without extreme vertices. The list is dropped where memory is refused.
     pub fn build(alloc: Global, tris: Vec<Tri>) -> Result<Mesh, Memory>
         requires fits { IsMesh tris.items }
         requires few { vec_len tris < 2 ^ 30 }
         ensures { IfOk result (λ mesh. mesh ≡ tris.items) }
     {
-        Mesh::boxed(alloc, tris, Vec::new(alloc))
+        Mesh::with_extremes(alloc, tris, Vec::new(alloc))
     }
 
-    /// The mesh of these triangles, which keeps these boxes. Both lists are dropped where memory is refused.
-    pub fn boxed(alloc: Global, tris: Vec<Tri>, boxes: Vec<BoundingBox>) -> Result<Mesh, Memory>
+    /// The mesh of these triangles, which keeps these extreme vertices. Both lists are dropped where memory is refused.
+    pub fn with_extremes(
+        alloc: Global,
+        tris: Vec<Tri>,
+        extremes: Vec<Extremes>,
+    ) -> Result<Mesh, Memory>
         requires fits { IsMesh tris.items }
         requires few { vec_len tris < 2 ^ 30 }
         ensures { IfOk result (λ mesh. mesh ≡ tris.items) }
     {
-        Mesh::of_tree(alloc, tris, boxes)
+        Mesh::of_tree(alloc, tris, extremes)
     }
 
     // The mesh of triangles that are a tree and have their sides once.
-    fn of_tree(alloc: Global, tris: Vec<Tri>, boxes: Vec<BoundingBox>) -> Result<Mesh, Memory>
+    fn of_tree(alloc: Global, tris: Vec<Tri>, extremes: Vec<Extremes>) -> Result<Mesh, Memory>
         requires some { 0 < vec_len tris }
         requires tree { IsTree tris.items }
         requires sides { HasSidesOnce tris.items }
@@ -71,7 +76,7 @@ impl Mesh {
             tris,
             neighbours,
             root,
-            boxes,
+            extremes,
         })
     }
 
@@ -111,9 +116,9 @@ impl Mesh {
         self.neighbours[i as usize][side as usize]
     }
 
-    /// The boxes that it was made with. No clause says what they are round: what is found by them is to be tested.
-    pub fn boxes(&self) -> &[BoundingBox] {
-        &self.boxes
+    /// The extreme vertices that it was made with.
+    pub fn extremes(&self) -> &[Extremes] {
+        &self.extremes
     }
 
     /// The triangles outward from `home`: each shares a side with one before it. All sides are looked at once.
