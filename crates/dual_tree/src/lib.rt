@@ -2,16 +2,16 @@
 #![tactic(auto)]
 
 mod board;
-mod boxes;
 mod laws;
 mod location;
+mod runs;
 mod sleeves;
 mod touching;
 mod walk;
 
 pub use board::Board;
-pub use boxes::boxes_of;
 pub use laws::{full_without_straight, no_point_twice};
 pub use location::{locate, locate_both};
+pub use runs::extremes_of;
 pub use sleeves::sleeve;
 pub use touching::touched;

@@ -1,4 +1,4 @@
-ghost use Rattle.std.specs.Prelude.{◌≡◌, ◌⊎◌, ◌+◌, ◌-◌, ◌*◌, ◌/◌, ◌<◌, ◌≤◌, ◌↔◌, ℕ, IfSome, IsNone, IsSome, IsTrue, false, length};
+ghost use Rattle.std.specs.Prelude.{◌≡◌, ◌⊎◌, ◌+◌, ◌-◌, ◌*◌, ◌/◌, ◌<◌, ◌≤◌, ◌^◌, ◌↔◌, ℕ, IfSome, IsNone, IsSome, IsTrue, false, length};
 ghost use Rattle.plane.specs.Point.{whole};
 ghost use Rattle.plane.specs.Triangle.{IsInTriangle};
 ghost use Rattle.plane.specs.Turn.{IsLeft, IsRight};
@@ -10,13 +10,13 @@ ghost use Rattle.dual_tree.specs.Runs.{taken_before, takes_run};
 ghost use Rattle.tri_mesh.specs.Corner.{HasCorner};
 ghost use Rattle.dual_tree.specs.Location.{IsCornered, IsFirstHolding, IsLeastHolding};
 
-use crate::boxes::{Choice, RUN};
-use exact_plane::{BoundingBox, Direction, Pt, Steps, in_triangle, order, turn};
+use crate::runs::{Choice, RUN, runs_of};
+use exact_plane::{Direction, Pt, Steps, in_triangle, order, turn};
 use meshes::Tri;
 use ring_check::Ring;
 use std::cmp::Ordering;
 use std::sync::ledger::Ledger;
-use tri_mesh::Mesh;
+use tri_mesh::{Extremes, Mesh};
 
 /// The least triangle that holds `p`, its sides included, or none where `p` is not in the ring. It takes at most 3 steps a
 /// triangle.
@@ -64,34 +64,36 @@ fn first_held<L: Ledger>(mesh: &Mesh, ring: &Ring, p: &Pt, steps: &mut Steps<L>)
     ensures first { IsFirstHolding ring.now.corners mesh.now (whole p.now) 0 (length mesh.now) result }
     ensures steps { steps.new ≤ steps.old + 3 * length mesh.now }
 {
-    let boxes = mesh.boxes();
-    if boxes.is_empty() {
+    let extremes = mesh.extremes();
+    if extremes.is_empty() {
         first_from(mesh, ring, p, 0, mesh.count(), steps)
     } else {
-        first_by(mesh, ring, p, boxes, steps)
+        first_by(mesh, ring, p, extremes, steps)
     }
 }
 
-// The same by boxes that may be round any runs: first the runs whose boxes have the point. What is found there is the least where
-// the point is strictly inside, and where it is a corner, no other triangles than those with this corner hold it. Else the
-// other runs are gone over too.
+// The same by vertices that may be extreme or not: first the runs that the point is not beside by them. What is found there is the
+// least where the point is strictly inside, and where it is a corner, no other triangles than those with this corner hold it.
+// Else the other runs are gone over too.
 #[tactic(auto, using(crate::proofs::LocationFits::places))]
 fn first_by<L: Ledger>(
     mesh: &Mesh,
     ring: &Ring,
     p: &Pt,
-    boxes: &[BoundingBox],
+    extremes: &[Extremes],
     steps: &mut Steps<L>,
 ) -> u32
     requires { Fits ring.now.corners mesh.now }
     ensures first { IsFirstHolding ring.now.corners mesh.now (whole p.now) 0 (length mesh.now) result }
     ensures steps { steps.new ≤ steps.old + 3 * length mesh.now }
 {
-    let (first, is_held) = early(mesh, ring, p, steps);
+    // The coordinates take 64 steps, each choice 4 a run, and each of four triangles 3.
+    let enough = 64 + 8 * runs_of(mesh.count()) + 12;
+    let (first, is_held) = early(mesh, ring, p, enough, steps);
     if is_held || first == mesh.count() {
         return first;
     }
-    let near = Choice::near(boxes, p, steps);
+    let near = Choice::near(extremes, ring.corners(), p, steps);
     let found = first_chosen(mesh, ring, p, &near, (first, mesh.count()), steps);
     if let Some(v) = corner_at(mesh, ring, found, p, steps) {
         return first_with(mesh, v, found);
@@ -150,21 +152,28 @@ fn first_with(mesh: &Mesh, v: u32, end: u32) -> u32
     end
 }
 
-// The first triangles, until so many steps are left over of 3 for each that they pay for a search by boxes: the first that holds
-// the point, and that it does; or the first that was not looked at.
+// The first triangles, until enough steps are left over of 3 for each: the first that holds the point, and that it does; or the
+// first that was not looked at.
 #[tactic(auto, using(crate::proofs::LocationFits::places))]
-fn early<L: Ledger>(mesh: &Mesh, ring: &Ring, p: &Pt, steps: &mut Steps<L>) -> (u32, bool)
-    requires { Fits ring.now.corners mesh.now }
+fn early<L: Ledger>(
+    mesh: &Mesh,
+    ring: &Ring,
+    p: &Pt,
+    enough: u32,
+    steps: &mut Steps<L>,
+) -> (u32, bool)
+    requires fits { Fits ring.now.corners mesh.now }
+    requires enough { enough < 2 ^ 30 }
     ensures within { result.0 ≤ length mesh.now }
     ensures held { IsTrue result.1 → result.0 < length mesh.now × IsInTri ring.now.corners (tri_at mesh.now result.0) (whole p.now) }
     ensures none { (k : ℕ) → k < result.0 → ¬ IsInTri ring.now.corners (tri_at mesh.now k) (whole p.now) }
     ensures steps { steps.new ≤ steps.old + 3 * (result.0 + 1) }
-    ensures spared { result.1 ≡ false → (steps.new + 76 ≤ steps.old + 3 * result.0)
+    ensures spared { result.1 ≡ false → (steps.new + enough ≤ steps.old + 3 * result.0)
         ⊎ ((result.0 ≡ length mesh.now) × (steps.new ≤ steps.old + 3 * result.0)) }
 {
     let mut spared = 0;
     let mut i = 0;
-    while i < mesh.count() && spared < 76 {
+    while i < mesh.count() && spared < enough {
         match spared_by(ring, &mesh.tri(i), p, steps) {
             Some(left) => spared += left,
             None => return (i, true),
@@ -231,24 +240,22 @@ fn first_chosen<L: Ledger>(
     ensures after { range.0 ≤ result }
     ensures within { result ≤ range.1 }
     ensures holds { result < range.1 → IsInTri ring.now.corners (tri_at mesh.now result) (whole p.now) }
-    ensures none { (k : ℕ) → range.0 ≤ k → k < result → IsTrue (takes_run choice.now (k / 32))
+    ensures none { (k : ℕ) → range.0 ≤ k → k < result → IsTrue (takes_run choice.now (k / 128))
         → ¬ IsInTri ring.now.corners (tri_at mesh.now k) (whole p.now) }
     ensures steps { steps.new + 3 * taken_before (takes_run choice.now) range.0
-        ≤ steps.old + 3 * taken_before (takes_run choice.now) result + 3 }
+        ≤ steps.old + 3 * taken_before (takes_run choice.now) result + 4 * ((range.1 + 127) / 128) + 3 }
 {
     // The prover learns from this call how many triangles there can be.
     let _count = mesh.count();
-    let mut next = range.0;
-    while next < range.1 {
-        let run = next / RUN;
-        let end = range.1.min(RUN * run + RUN);
-        if choice.takes(run) {
-            let found = first_from(mesh, ring, p, next, end, steps);
-            if found < end {
+    for run in range.0 / RUN..runs_of(range.1) {
+        if choice.takes(run, steps) {
+            let from = range.0.max(RUN * run);
+            let to = range.1.min(RUN * run + RUN);
+            let found = first_from(mesh, ring, p, from, to, steps);
+            if found < to {
                 return found;
             }
         }
-        next = end;
     }
     range.1
 }

@@ -15,7 +15,7 @@ ghost use Rattle.geo_session.specs.Told.{Tells};
 use crate::grown::Grown;
 use crate::parts::given_parts;
 use cut_tri::triangulate;
-use dual_tree::{Board, boxes_of, locate};
+use dual_tree::{Board, extremes_of, locate};
 use exact_plane::{Memory, Pt, Steps};
 use geo_reply::{Reply, Row};
 use geo_text::Bad;
@@ -186,6 +186,6 @@ pub(crate) fn mesh_of<L: Ledger>(
     let order = lexical(alloc, ring, steps)?;
     let board = Board::without_ends(ring);
     let tris = sweep(alloc, &board, &order, steps)?;
-    let boxes = boxes_of(alloc, ring, &tris, steps)?;
-    Mesh::boxed(alloc, tris, boxes)
+    let extremes = extremes_of(alloc, ring, &tris, steps)?;
+    Mesh::with_extremes(alloc, tris, extremes)
 }

@@ -10,7 +10,7 @@ decreases-loop-i g l = length l.mesh - l.i
 abbrev pub invariant-loop-i : goal.invariant-loop-i
 invariant-loop-i g l = record {
   within : l.i ≤ length l.mesh;
-  spared : l.spared ≤ 78;
+  spared : l.spared ≤ l.enough + 1;
   none : (k : ℕ) → k < l.i → ¬ IsInTri l.ring.corners (tri_at l.mesh k) (whole l.p);
   steps : l.steps + l.spared ≤ l.initial.steps + 3 * l.i;
 }

@@ -1,57 +1,78 @@
-use Rattle.std.proofs.Common.{◌≡◌, ◌∙◌, ap, false, inl, inr, ◌+◌, ◌-◌, ◌/◌, ◌≤◌, arith}
-use Rattle.std.proofs.lemmas.Bool.{cases_lt}
+use Rattle.std.proofs.Common.{◌≡◌, ◌∙◌, ap, sym, false, inl, inr, ◌/◌, ◌≤◌, arith}
+use Rattle.std.proofs.lemmas.Bool.{cases_lt, false≢true}
 use Rattle.dual_tree.specs.Runs.{takes_run}
-use Rattle.dual_tree.proofs.Choices.{run_taken, run_left}
+use Rattle.dual_tree.proofs.Choices.{between_taken, growing}
 use Rattle.dual_tree.proofs.location.first_chosen.Goals as goal
+use Rattle.dual_tree.proofs.location.first_chosen.Goals.{else-takes, then-takes+else-found-to}
 
-pub returns-then-found-end-clause-steps : goal.returns-then-found-end-clause-steps
-returns-then-found-end-clause-steps g c =
+pub returns-then-found-to-clause-none : goal.returns-then-found-to-clause-none
+returns-then-found-to-clause-none g c = λ k low below taken. elim (cases_lt (k / 128) c.loop-run.run) [
+  | inl before ↦ c.loop-run.invariant.none k low (omega (arith, c.min-to.ensures)) before taken
+  | inr here ↦ c.first_from-found.ensures.first.none k (omega (arith, c.max-from.ensures)) below
+]
+
+pub returns-then-found-to-clause-steps : goal.returns-then-found-to-clause-steps
+returns-then-found-to-clause-steps g c =
     let T = takes_run c.args.choice.now in
-    let next = c.loop-next.next in
+    let run = c.loop-run.run in
+    let from = c.max-from.result in
     let found = c.first_from-found.result in
-    let more = run_taken T (found - next) next (next / 32) (cc) (omega arith) (omega (arith, c.min-end.ensures, c.first_from-found.ensures.first.after)) in
-    let same : next + (found - next) ≡ found = omega (arith, c.first_from-found.ensures.first.after) in
-    let more_here = rw same at more in
-    omega (arith, more_here, c.first_from-found.ensures.steps_so_far, c.loop-next.invariant.steps, c.first_from-found.ensures.first.after)
+    let before = c.loop-run.invariant.steps from (omega (arith, c.max-from.ensures)) (omega (arith, c.max-from.ensures))
+    (inl (omega (arith, c.max-from.ensures))) in
+    let more = between_taken T run from found (cc) (omega (arith, c.max-from.ensures)) c.first_from-found.ensures.first.after
+    (omega (arith, c.min-to.ensures)) in
+    omega (arith, before, more, c.first_from-found.ensures.steps_so_far, c.first_from-found.ensures.first.after, c.takes.ensures.steps)
 
-pub loop-next-preserved-else-found-end : goal.loop-next-preserved-else-found-end
-loop-next-preserved-else-found-end g c =
-    let T = takes_run c.args.choice.now in
-    let next = c.loop-next.next in
-    let end = c.min-end.result in
-    let more = run_taken T (end - next) next (next / 32) (cc) (omega arith) (omega (arith, c.min-end.ensures)) in
-    let after : next ≤ end = omega (arith, c.min-end.ensures) in
-    let same : next + (end - next) ≡ end = omega arith in
-    let more_here = rw same at more in
-    record {
-      after = omega arith;
-      within = omega (arith, c.min-end.ensures);
-      none = λ k low below taken. elim (cases_lt k next) [
-        | inl before ↦ c.loop-next.invariant.none k low before taken
-        | inr here ↦ c.first_from-found.ensures.first.none k here (omega arith)
-      ];
-      steps = omega (arith, more_here, c.first_from-found.ensures.steps, c.loop-next.invariant.steps);
-    }
+pub loop-run-init : goal.loop-run-init
+loop-run-init g c = record {
+  none = λ k low below within taken. absurd (omega (arith, low, within));
+  steps = λ n low high reached.
+      let grown = growing (takes_run c.args.choice.now) c.args.range.0 n low in
+      omega (arith, grown);
+}
 
-pub loop-next-preserved : goal.loop-next-preserved
-loop-next-preserved g c =
+pub loop-run-preserved : goal.loop-run-preserved
+loop-run-preserved g c =
     let T = takes_run c.args.choice.now in
-    let next = c.loop-next.next in
-    let end = c.min-end.result in
-    let left : T (next / 32) ≡ false = cc in
-    let more = run_left T (end - next) next (next / 32) left (omega arith) (omega (arith, c.min-end.ensures)) in
-    let after : next ≤ end = omega (arith, c.min-end.ensures) in
-    let same : next + (end - next) ≡ end = omega arith in
-    let more_here = rw same at more in
-    record {
-      after = omega arith;
-      within = omega (arith, c.min-end.ensures);
-      none = λ k low below taken. elim (cases_lt k next) [
-        | inl before ↦ c.loop-next.invariant.none k low before taken
-        | inr here ↦
-            let run : k / 32 ≡ next / 32 = omega (arith, c.min-end.ensures) in
-            let off : T (k / 32) ≡ false = ap T run ∙ left in
-            absurd (cc)
-      ];
-      steps = omega (arith, more_here, c.loop-next.invariant.steps);
-    }
+    let run = c.loop-run.run in
+    elim c.if-takes.branch [
+      | then-takes+else-found-to w ↦
+          let from = w.max-from.result in
+          let to = w.min-to.result in
+          let before = c.loop-run.invariant.steps from (omega (arith, w.max-from.ensures)) (omega (arith, w.max-from.ensures))
+          (inl (omega (arith, w.max-from.ensures))) in
+          let order : from ≤ to = omega (arith, w.max-from.ensures, w.min-to.ensures) in
+          let more = between_taken T run from to (sym c.takes.ensures.takes ∙ w.if-takes.true) (omega (arith, w.max-from.ensures)) order
+          (omega (arith, w.min-to.ensures)) in
+          record {
+            none = λ k low below within taken. elim (cases_lt (k / 128) run) [
+              | inl earlier ↦ c.loop-run.invariant.none k low below earlier taken
+              | inr here ↦ w.first_from-found.ensures.first.none k (omega (arith, w.max-from.ensures)) (omega (arith, w.min-to.ensures, w.if-found-to.false))
+            ];
+            steps = λ n low high reached.
+                let past : to ≤ n = elim reached [ inl h ↦ omega (arith, h, w.min-to.ensures) | inr h ↦ omega (arith, h, w.min-to.ensures) ] in
+                let grown = growing T to n past in
+                omega (arith, w.steps-is, before, more, order, grown, w.first_from-found.ensures.steps, c.takes.ensures.steps);
+          }
+      | else-takes w ↦
+          let left : T run ≡ false = sym c.takes.ensures.takes ∙ w.if-takes.false in
+          record {
+            none = λ k low below within taken. elim (cases_lt (k / 128) run) [
+              | inl earlier ↦ c.loop-run.invariant.none k low below earlier taken
+              | inr here ↦
+                  let same : k / 128 ≡ run = omega arith in
+                  absurd (false≢true (sym (ap T same ∙ left) ∙ taken))
+            ];
+            steps = λ n low high reached.
+                let before = c.loop-run.invariant.steps n low high (elim reached [ inl h ↦ inl (omega (arith, h)) | inr h ↦ inr h ]) in
+                omega (arith, w.steps-is, before, c.takes.ensures.steps);
+          }
+    ]
+
+pub returns-clause-none : goal.returns-clause-none
+returns-clause-none g c = λ k low below taken. c.loop-run.invariant.none k low below (omega arith) taken
+
+pub returns-clause-steps : goal.returns-clause-steps
+returns-clause-steps g c =
+    let all = c.loop-run.invariant.steps c.args.range.1 (omega arith) (omega arith) (inr (omega arith)) in
+    omega (arith, all)
