@@ -1,3 +1,5 @@
+pub mod Choices
+pub mod CornerHits
 pub mod FullLists
 mod KnownLists
 pub mod LocationFits
@@ -6,4 +8,5 @@ pub mod Searched
 pub mod SightLines
 pub mod SleeveRoom
 pub mod TreeWalks
+pub mod StrictHits
 pub mod Ways

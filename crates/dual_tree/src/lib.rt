@@ -4,6 +4,7 @@
 mod board;
 mod laws;
 mod location;
+mod runs;
 mod sleeves;
 mod touching;
 mod walk;
@@ -11,5 +12,6 @@ mod walk;
 pub use board::Board;
 pub use laws::{full_without_straight, no_point_twice};
 pub use location::{locate, locate_both};
+pub use runs::extremes_of;
 pub use sleeves::sleeve;
 pub use touching::touched;

@@ -1,17 +1,22 @@
-ghost use Rattle.std.specs.Prelude.{◌≡◌, ◌+◌, ◌-◌, ◌*◌, ◌<◌, ◌≤◌, ◌↔◌, ℕ, IfSome, IsNone, IsTrue, length};
+ghost use Rattle.std.specs.Prelude.{◌≡◌, ◌⊎◌, ◌+◌, ◌-◌, ◌*◌, ◌/◌, ◌<◌, ◌≤◌, ◌^◌, ◌↔◌, ℕ, IfSome, IsNone, IsSome, IsTrue, false, length};
 ghost use Rattle.plane.specs.Point.{whole};
-ghost use Rattle.plane.specs.Turn.{IsLeft};
+ghost use Rattle.plane.specs.Triangle.{IsInTriangle};
+ghost use Rattle.plane.specs.Turn.{IsLeft, IsRight};
 ghost use Rattle.rings.specs.Inside.{IsIn};
 ghost use Rattle.rings.specs.Ring.{vertex};
-ghost use Rattle.meshes.specs.Fits.{Fits, IsInTri};
+ghost use Rattle.meshes.specs.Fits.{Fits, IsInTri, IsStrictlyInTri};
 ghost use Rattle.meshes.specs.Side.{tri_at};
-ghost use Rattle.dual_tree.specs.Location.{IsLeastHolding, IsCornered};
+ghost use Rattle.dual_tree.specs.Runs.{taken_before, takes_run};
+ghost use Rattle.tri_mesh.specs.Corner.{HasCorner};
+ghost use Rattle.dual_tree.specs.Location.{IsCornered, IsFirstHolding, IsLeastHolding};
 
-use exact_plane::{Pt, Steps, each_in_triangle, in_triangle};
+use crate::runs::{Choice, RUN, runs_of};
+use exact_plane::{Direction, Pt, Steps, in_triangle, order, turn};
 use meshes::Tri;
 use ring_check::Ring;
+use std::cmp::Ordering;
 use std::sync::ledger::Ledger;
-use tri_mesh::Mesh;
+use tri_mesh::{Extremes, Mesh};
 
 /// The least triangle that holds `p`, its sides included, or none where `p` is not in the ring. It takes at most 3 steps a
 /// triangle.
@@ -22,11 +27,16 @@ pub fn locate<L: Ledger>(mesh: &Mesh, ring: &Ring, p: &Pt, steps: &mut Steps<L>)
     ensures none { IsNone result ↔ ¬ (IsIn ring.now.corners (whole p.now)) }
     ensures steps { steps.new ≤ steps.old + 3 * (length ring.now.corners - 2) }
 {
-    locate_from(mesh, ring, 0, p, steps)
+    let found = first_held(mesh, ring, p, steps);
+    if found < mesh.count() {
+        Some(found)
+    } else {
+        None
+    }
 }
 
-/// The least triangle that holds `s`, or none where `s` is not in the ring, and the same of `t`. It goes over the triangles
-/// once, and takes at most 6 steps a triangle.
+/// The least triangle that holds `s`, or none where `s` is not in the ring, and the same of `t`. It takes at most 6 steps a
+/// triangle.
 #[tactic(auto, using(crate::proofs::LocationFits::places))]
 pub fn locate_both<L: Ledger>(
     mesh: &Mesh,
@@ -42,68 +52,238 @@ pub fn locate_both<L: Ledger>(
     ensures no_second { IsNone result.1 ↔ ¬ (IsIn ring.now.corners (whole t.now)) }
     ensures steps { steps.new ≤ steps.old + 6 * (length ring.now.corners - 2) }
 {
-    for i in 0..mesh.count() {
-        let tri = mesh.tri(i);
-        if let Some((holds_s, holds_t)) = holds_each(ring, &tri, s, t, steps) {
-            let from = locate_at(mesh, ring, i, holds_s, s, steps);
-            let to = locate_at(mesh, ring, i, holds_t, t, steps);
-            return (from, to);
-        }
-    }
-    (None, None)
+    let from = locate(mesh, ring, s, steps);
+    let to = locate(mesh, ring, t, steps);
+    (from, to)
 }
 
-// The least triangle that holds the point, where none before triangle `i` does and it is known whether that one does. It
-// takes at most 3 steps for each triangle after that one.
+// The least triangle that holds the point, or the number behind the last one where none does.
 #[tactic(auto, using(crate::proofs::LocationFits::places))]
-fn locate_at<L: Ledger>(
+fn first_held<L: Ledger>(mesh: &Mesh, ring: &Ring, p: &Pt, steps: &mut Steps<L>) -> u32
+    requires { Fits ring.now.corners mesh.now }
+    ensures first { IsFirstHolding ring.now.corners mesh.now (whole p.now) 0 (length mesh.now) result }
+    ensures steps { steps.new ≤ steps.old + 3 * length mesh.now }
+{
+    let extremes = mesh.extremes();
+    if extremes.is_empty() {
+        first_from(mesh, ring, p, 0, mesh.count(), steps)
+    } else {
+        first_by(mesh, ring, p, extremes, steps)
+    }
+}
+
+// The same by vertices that may be extreme or not: first the runs that the point is not beside by them. What is found there is the
+// least where the point is strictly inside, and where it is a corner, no other triangles than those with this corner hold it.
+// Else the other runs are gone over too.
+#[tactic(auto, using(crate::proofs::LocationFits::places))]
+fn first_by<L: Ledger>(
     mesh: &Mesh,
     ring: &Ring,
-    i: u32,
-    is_held: bool,
+    p: &Pt,
+    extremes: &[Extremes],
+    steps: &mut Steps<L>,
+) -> u32
+    requires { Fits ring.now.corners mesh.now }
+    ensures first { IsFirstHolding ring.now.corners mesh.now (whole p.now) 0 (length mesh.now) result }
+    ensures steps { steps.new ≤ steps.old + 3 * length mesh.now }
+{
+    // The coordinates take 64 steps, each choice 4 a run, and each of four triangles 3.
+    let enough = 64 + 8 * runs_of(mesh.count()) + 12;
+    let (first, is_held) = early(mesh, ring, p, enough, steps);
+    if is_held || first == mesh.count() {
+        return first;
+    }
+    let near = Choice::near(extremes, ring.corners(), p, steps);
+    let found = first_chosen(mesh, ring, p, &near, (first, mesh.count()), steps);
+    if let Some(v) = corner_at(mesh, ring, found, p, steps) {
+        return first_with(mesh, v, found);
+    }
+    if is_strictly_in(mesh, ring, found, p, steps) {
+        return found;
+    }
+    first_chosen(mesh, ring, p, &near.others(), (first, found), steps)
+}
+
+// The corner of a triangle that the point is; none where it is none of them, or there is no triangle with this number. It takes
+// at most 3 steps.
+#[tactic(auto, using(crate::proofs::LocationFits::places))]
+fn corner_at<L: Ledger>(
+    mesh: &Mesh,
+    ring: &Ring,
+    k: u32,
     p: &Pt,
     steps: &mut Steps<L>,
 ) -> Option<u32>
+    requires { Fits ring.now.corners mesh.now }
+    ensures is_there { IsSome result → k < length mesh.now }
+    ensures corner { IfSome result (HasCorner (tri_at mesh.now k)) }
+    ensures point { IfSome result (λ v. p.now ≡ vertex ring.now.corners v) }
+    ensures steps { steps.new ≤ steps.old + 3 }
+{
+    if k >= mesh.count() {
+        return None;
+    }
+    let tri = mesh.tri(k);
+    let (a, b, c) = corners_of(ring, &tri);
+    if order(p, a, steps) == Ordering::Equal {
+        Some(tri.a)
+    } else if order(p, b, steps) == Ordering::Equal {
+        Some(tri.b)
+    } else if order(p, c, steps) == Ordering::Equal {
+        Some(tri.c)
+    } else {
+        None
+    }
+}
+
+// The first triangle with corner `v` before number `end`; `end` where there is none.
+fn first_with(mesh: &Mesh, v: u32, end: u32) -> u32
+    requires { end ≤ length mesh.now }
+    ensures within { result ≤ end }
+    ensures corner { result < end → HasCorner (tri_at mesh.now result) v }
+    ensures none { (k : ℕ) → k < result → ¬ HasCorner (tri_at mesh.now k) v }
+{
+    for k in 0..end {
+        let tri = mesh.tri(k);
+        if tri.a == v || tri.b == v || tri.c == v {
+            return k;
+        }
+    }
+    end
+}
+
+// The first triangles, until enough steps are left over of 3 for each: the first that holds the point, and that it does; or the
+// first that was not looked at.
+#[tactic(auto, using(crate::proofs::LocationFits::places))]
+fn early<L: Ledger>(
+    mesh: &Mesh,
+    ring: &Ring,
+    p: &Pt,
+    enough: u32,
+    steps: &mut Steps<L>,
+) -> (u32, bool)
     requires fits { Fits ring.now.corners mesh.now }
-    requires within { i < length mesh.now }
-    requires held { IsTrue is_held ↔ IsInTri ring.now.corners (tri_at mesh.now i) (whole p.now) }
-    requires before { (k : ℕ) → k < i → ¬ IsInTri ring.now.corners (tri_at mesh.now k) (whole p.now) }
-    ensures least { IfSome result (IsLeastHolding ring.now.corners mesh.now (whole p.now)) }
-    ensures none { IsNone result ↔ ¬ (IsIn ring.now.corners (whole p.now)) }
-    ensures steps { steps.new ≤ steps.old + 3 * (length mesh.now - (i + 1)) }
+    requires enough { enough < 2 ^ 30 }
+    ensures within { result.0 ≤ length mesh.now }
+    ensures held { IsTrue result.1 → result.0 < length mesh.now × IsInTri ring.now.corners (tri_at mesh.now result.0) (whole p.now) }
+    ensures none { (k : ℕ) → k < result.0 → ¬ IsInTri ring.now.corners (tri_at mesh.now k) (whole p.now) }
+    ensures steps { steps.new ≤ steps.old + 3 * (result.0 + 1) }
+    ensures spared { result.1 ≡ false → (steps.new + enough ≤ steps.old + 3 * result.0)
+        ⊎ ((result.0 ≡ length mesh.now) × (steps.new ≤ steps.old + 3 * result.0)) }
+{
+    let mut spared = 0;
+    let mut i = 0;
+    while i < mesh.count() && spared < enough {
+        match spared_by(ring, &mesh.tri(i), p, steps) {
+            Some(left) => spared += left,
+            None => return (i, true),
+        }
+        i += 1;
+    }
+    (i, false)
+}
+
+// How many of 3 steps are left over where the point is found not to be in the triangle; none where it is in it.
+fn spared_by<L: Ledger>(ring: &Ring, tri: &Tri, p: &Pt, steps: &mut Steps<L>) -> Option<u32>
+    requires { IsCornered ring.now.corners tri.now }
+    ensures few { IfSome result (λ left. left ≤ 2) }
+    ensures out { IsSome result → ¬ IsInTri ring.now.corners tri.now (whole p.now) }
+    ensures held { IsNone result → IsInTri ring.now.corners tri.now (whole p.now) }
+    ensures left { IfSome result (λ left. steps.new + left ≤ steps.old + 3) }
+    ensures steps { steps.new ≤ steps.old + 3 }
+{
+    let (a, b, c) = corners_of(ring, tri);
+    spared_at(a, b, c, p, steps)
+}
+
+// The same by the corners of the triangle.
+fn spared_at<L: Ledger>(a: &Pt, b: &Pt, c: &Pt, p: &Pt, steps: &mut Steps<L>) -> Option<u32>
+    ensures few { IfSome result (λ left. left ≤ 2) }
+    ensures out { IsSome result → ¬ IsInTriangle a.now b.now c.now (whole p.now) }
+    ensures held { IsNone result → IsInTriangle a.now b.now c.now (whole p.now) }
+    ensures left { IfSome result (λ left. steps.new + left ≤ steps.old + 3) }
+    ensures steps { steps.new ≤ steps.old + 3 }
+{
+    if is_right(b, c, p, steps) {
+        Some(2)
+    } else if is_right(c, a, p, steps) {
+        Some(1)
+    } else if is_right(a, b, p, steps) {
+        Some(0)
+    } else {
+        None
+    }
+}
+
+// Whether the point is right of the line from `a` to `b`. It takes one step.
+#[tactic(auto, using(exact_plane::proofs::Directions::right_turns))]
+fn is_right<L: Ledger>(a: &Pt, b: &Pt, p: &Pt, steps: &mut Steps<L>) -> bool
+    ensures right { IsTrue result ↔ IsRight (whole a.now) (whole b.now) (whole p.now) }
+    ensures steps { steps.new ≡ steps.old + 1 }
+{
+    turn(a, b, p, steps) == Direction::Right
+}
+
+// The first triangle of the chosen runs, from number `range.0` to before `range.1`, that holds the point; `range.1` where none does.
+#[tactic(auto, using(crate::proofs::LocationFits::places))]
+fn first_chosen<L: Ledger>(
+    mesh: &Mesh,
+    ring: &Ring,
+    p: &Pt,
+    choice: &Choice,
+    range: (u32, u32),
+    steps: &mut Steps<L>,
+) -> u32
+    requires fits { Fits ring.now.corners mesh.now }
+    requires order { range.0 ≤ range.1 }
+    requires within { range.1 ≤ length mesh.now }
+    ensures after { range.0 ≤ result }
+    ensures within { result ≤ range.1 }
+    ensures holds { result < range.1 → IsInTri ring.now.corners (tri_at mesh.now result) (whole p.now) }
+    ensures none { (k : ℕ) → range.0 ≤ k → k < result → IsTrue (takes_run choice.now (k / 128))
+        → ¬ IsInTri ring.now.corners (tri_at mesh.now k) (whole p.now) }
+    ensures steps { steps.new + 3 * taken_before (takes_run choice.now) range.0
+        ≤ steps.old + 3 * taken_before (takes_run choice.now) result + 4 * ((range.1 + 127) / 128) + 3 }
 {
     // The prover learns from this call how many triangles there can be.
     let _count = mesh.count();
-    if is_held {
-        Some(i)
-    } else {
-        locate_from(mesh, ring, i + 1, p, steps)
-    }
-}
-
-// The least triangle that holds the point, where none before triangle `first` does. It takes at most 3 steps a triangle.
-#[tactic(auto, using(crate::proofs::LocationFits::places))]
-fn locate_from<L: Ledger>(
-    mesh: &Mesh,
-    ring: &Ring,
-    first: u32,
-    p: &Pt,
-    steps: &mut Steps<L>,
-) -> Option<u32>
-    requires fits { Fits ring.now.corners mesh.now }
-    requires within { first ≤ length mesh.now }
-    requires before { (k : ℕ) → k < first → ¬ IsInTri ring.now.corners (tri_at mesh.now k) (whole p.now) }
-    ensures least { IfSome result (IsLeastHolding ring.now.corners mesh.now (whole p.now)) }
-    ensures none { IsNone result ↔ ¬ (IsIn ring.now.corners (whole p.now)) }
-    ensures steps { steps.new ≤ steps.old + 3 * (length mesh.now - first) }
-{
-    for i in first..mesh.count() {
-        let tri = mesh.tri(i);
-        if holds(ring, &tri, p, steps) {
-            return Some(i);
+    for run in range.0 / RUN..runs_of(range.1) {
+        if choice.takes(run, steps) {
+            let from = range.0.max(RUN * run);
+            let to = range.1.min(RUN * run + RUN);
+            let found = first_from(mesh, ring, p, from, to, steps);
+            if found < to {
+                return found;
+            }
         }
     }
-    None
+    range.1
+}
+
+// The first triangle from number `first` to before `end` that holds the point; `end` where none does.
+#[tactic(auto, using(crate::proofs::LocationFits::places))]
+fn first_from<L: Ledger>(
+    mesh: &Mesh,
+    ring: &Ring,
+    p: &Pt,
+    first: u32,
+    end: u32,
+    steps: &mut Steps<L>,
+) -> u32
+    requires fits { Fits ring.now.corners mesh.now }
+    requires order { first ≤ end }
+    requires within { end ≤ length mesh.now }
+    ensures first { IsFirstHolding ring.now.corners mesh.now (whole p.now) first end result }
+    ensures steps { steps.new ≤ steps.old + 3 * (end - first) }
+    ensures steps_so_far { steps.new ≤ steps.old + 3 * (result + 1 - first) }
+{
+    for i in first..end {
+        let tri = mesh.tri(i);
+        if holds(ring, &tri, p, steps) {
+            return i;
+        }
+    }
+    end
 }
 
 // Whether the point is in the closed triangle. It takes at most 3 steps.
@@ -116,28 +296,33 @@ fn holds<L: Ledger>(ring: &Ring, tri: &Tri, p: &Pt, steps: &mut Steps<L>) -> boo
     in_triangle(a, b, c, p, steps)
 }
 
-// Whether either of two points is in the closed triangle; none where neither is. It takes at most 6 steps.
-fn holds_each<L: Ledger>(
-    ring: &Ring,
-    tri: &Tri,
-    s: &Pt,
-    t: &Pt,
-    steps: &mut Steps<L>,
-) -> Option<(bool, bool)>
-    requires { IsCornered ring.now.corners tri.now }
-    ensures first { IfSome result (λ held. IsTrue held.0 ↔ IsInTri ring.now.corners tri.now (whole s.now)) }
-    ensures second { IfSome result (λ held. IsTrue held.1 ↔ IsInTri ring.now.corners tri.now (whole t.now)) }
-    ensures no_first { IsNone result → ¬ IsInTri ring.now.corners tri.now (whole s.now) }
-    ensures no_second { IsNone result → ¬ IsInTri ring.now.corners tri.now (whole t.now) }
-    ensures steps { steps.new ≤ steps.old + 6 }
+// Whether there is a triangle with this number, and the point is left of all its sides. It takes at most 3 steps.
+#[tactic(auto, using(crate::proofs::LocationFits::places))]
+fn is_strictly_in<L: Ledger>(mesh: &Mesh, ring: &Ring, k: u32, p: &Pt, steps: &mut Steps<L>) -> bool
+    requires { Fits ring.now.corners mesh.now }
+    ensures is_there { IsTrue result → k < length mesh.now }
+    ensures strictly { IsTrue result → IsStrictlyInTri ring.now.corners (tri_at mesh.now k) (whole p.now) }
+    ensures steps { steps.new ≤ steps.old + 3 }
 {
-    let (a, b, c) = corners_of(ring, tri);
-    each_in_triangle(a, b, c, s, t, steps)
+    if k >= mesh.count() {
+        return false;
+    }
+    let (a, b, c) = corners_of(ring, &mesh.tri(k));
+    is_left(a, b, p, steps) && is_left(b, c, p, steps) && is_left(c, a, p, steps)
+}
+
+// Whether the point is left of the line from `a` to `b`. It takes one step.
+#[tactic(auto, using(exact_plane::proofs::Directions::positive_of_left))]
+fn is_left<L: Ledger>(a: &Pt, b: &Pt, p: &Pt, steps: &mut Steps<L>) -> bool
+    ensures left { IsTrue result → IsLeft (whole a.now) (whole b.now) (whole p.now) }
+    ensures steps { steps.new ≡ steps.old + 1 }
+{
+    turn(a, b, p, steps) == Direction::Left
 }
 
 // The corners of the triangle.
 #[tactic(auto, using(rings::proofs::Vertices::vertex_in_range))]
-fn corners_of<'a>(ring: &'a Ring, tri: &Tri) -> (&'a Pt, &'a Pt, &'a Pt)
+pub(crate) fn corners_of<'a>(ring: &'a Ring, tri: &Tri) -> (&'a Pt, &'a Pt, &'a Pt)
     requires { IsCornered ring.now.corners tri.now }
     ensures counterclockwise { IsLeft (whole result.0.now) (whole result.1.now) (whole result.2.now) }
     ensures a { result.0.now ≡ vertex ring.now.corners tri.now.a }

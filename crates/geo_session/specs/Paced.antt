@@ -23,7 +23,7 @@ reach_pace version = by_version version 3 26
 
 -- so many steps are enough to triangulate a polygon,
 abbrev pub mesh_steps : ℕ → ℕ
-mesh_steps n = 64 * n + 200 * n * binary_digits n
+mesh_steps n = 192 * n + 200 * n * binary_digits n
 
 -- and to test a list of points before,
 abbrev pub polygon_steps : ℕ → ℕ
@@ -31,7 +31,7 @@ polygon_steps n = 283 * (n * n) + 1400 * (n * (binary_digits n + 4)) + mesh_step
 
 -- to find the guards, each of whose triangles is looked for among the vertices,
 abbrev pub guards_steps : ℕ → ℕ
-guards_steps n = 886 * (n * n)
+guards_steps n = 629 * (n * n) + 119 * n
 
 -- to place a point,
 abbrev pub inside_steps : ℕ → ℕ

@@ -2,6 +2,7 @@
 #![tactic(auto)]
 
 mod corner;
+mod extremes;
 mod mesh;
 mod outward;
 mod search;
@@ -9,6 +10,7 @@ mod sides;
 mod sleeve;
 
 pub use corner::triangle_at;
+pub use extremes::Extremes;
 pub use mesh::Mesh;
 pub use outward::{Outward, Rooted};
 pub use sleeve::Sleeve;

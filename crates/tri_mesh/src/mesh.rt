@@ -7,6 +7,7 @@ ghost use Rattle.meshes.specs.Side.{HasSidesOnce, IsTree, tri_at};
 ghost use Rattle.tri_mesh.specs.Neighbours.{HasCornersBelow};
 ghost use Rattle.tri_mesh.specs.Outward.{IsOutward, IsRooted};
 
+use crate::extremes::Extremes;
 use crate::outward::{Outward, Rooted};
 use crate::search::Search;
 use crate::sides::neighbours;
@@ -15,12 +16,14 @@ use meshes::Tri;
 use std::alloc::Global;
 use std::marker::Model;
 
-/// Triangles that fit some polygon, for each side the triangle on its other side, and an order outward from triangle 0.
+/// Triangles that fit some polygon, for each side the triangle on its other side, and an order outward from triangle 0. It may
+/// keep the extreme vertices of runs of triangles, by which a search can choose where to look first.
 #[derive(Drop)]
 pub struct Mesh {
     tris: Vec<Tri>,
     neighbours: Vec<[Option<u32>; 3]>,
     root: Search,
+    extremes: Vec<Extremes>,
 }
 
 impl Model for Mesh {
@@ -38,17 +41,30 @@ impl Model for Mesh {
 }
 
 impl Mesh {
-    /// The mesh of these triangles. The list is dropped where memory is refused.
+    /// The mesh of these triangles, without extreme vertices. The list is dropped where memory is refused.
     pub fn build(alloc: Global, tris: Vec<Tri>) -> Result<Mesh, Memory>
         requires fits { IsMesh tris.items }
         requires few { vec_len tris < 2 ^ 30 }
         ensures { IfOk result (λ mesh. mesh ≡ tris.items) }
     {
-        Mesh::of_tree(alloc, tris)
+        Mesh::with_extremes(alloc, tris, Vec::new(alloc))
+    }
+
+    /// The mesh of these triangles, which keeps these extreme vertices. Both lists are dropped where memory is refused.
+    pub fn with_extremes(
+        alloc: Global,
+        tris: Vec<Tri>,
+        extremes: Vec<Extremes>,
+    ) -> Result<Mesh, Memory>
+        requires fits { IsMesh tris.items }
+        requires few { vec_len tris < 2 ^ 30 }
+        ensures { IfOk result (λ mesh. mesh ≡ tris.items) }
+    {
+        Mesh::of_tree(alloc, tris, extremes)
     }
 
     // The mesh of triangles that are a tree and have their sides once.
-    pub(crate) fn of_tree(alloc: Global, tris: Vec<Tri>) -> Result<Mesh, Memory>
+    fn of_tree(alloc: Global, tris: Vec<Tri>, extremes: Vec<Extremes>) -> Result<Mesh, Memory>
         requires some { 0 < vec_len tris }
         requires tree { IsTree tris.items }
         requires sides { HasSidesOnce tris.items }
@@ -62,6 +78,7 @@ impl Mesh {
             tris,
             neighbours,
             root,
+            extremes,
         })
     }
 
@@ -99,6 +116,11 @@ impl Mesh {
             IsNone result ↔ IsPieceEdge (range_with_len 0 (length corners)) (side_begin t side) (side_end t side) }
     {
         self.neighbours[i as usize][side as usize]
+    }
+
+    /// The extreme vertices that it was made with.
+    pub fn extremes(&self) -> &[Extremes] {
+        &self.extremes
     }
 
     /// The triangles outward from `home`: each shares a side with one before it. All sides are looked at once.
