@@ -186,8 +186,7 @@ pub(crate) fn mesh_of<L: Ledger>(
     ensures steps { steps.new ≤ steps.old + mesh_steps (length ring.now.corners) }
 {
     let _ring_is_simple = ring.len();
-    let board = Board::without_ends(ring);
-    let tris = sweep_ring(alloc, ring, &board, steps)?;
+    let tris = sweep_ring(alloc, ring, &Board::without_ends(ring), steps)?;
     let extremes = extremes_of(alloc, ring, &tris, steps)?;
     Mesh::with_extremes(alloc, tris, extremes)
 }
