@@ -28,7 +28,8 @@ pub(crate) enum Remains {
 
 // Cuts a piece at its lexicographically least vertex v, with u before it and w after it: along the segment from u to w, or
 // from v to the vertex of the closed triangle u, v, w that is farthest from the line through u and w. Of `places` only the
-// length matters. A triangle takes no steps.
+// length matters. A triangle takes no steps, and another piece at most 515 for each of its vertices, 371 for each of the ring, and
+// 910.
 pub(crate) fn cut<L: Ledger>(
     alloc: Global,
     ring: &Ring,

