@@ -40,26 +40,26 @@ takes_unknown by run at_run = rw at_run (tested by.far)
 
 module _ (takes : ℕ → Bool) where
   -- one more triangle, of a run that is taken
-  one_taken : (n : ℕ) → takes (n / 128) ≡ true → taken_before takes (suc n) ≡ suc (taken_before takes n)
+  one_taken : (n : ℕ) → takes (n / 256) ≡ true → taken_before takes (suc n) ≡ suc (taken_before takes n)
   unfolding taken_before
   one_taken n e = rw e refl
 
-  one_left : (n : ℕ) → takes (n / 128) ≡ false → taken_before takes (suc n) ≡ taken_before takes n
+  one_left : (n : ℕ) → takes (n / 256) ≡ false → taken_before takes (suc n) ≡ taken_before takes n
   unfolding taken_before
   one_left n e = rw e refl
 
   -- so many more triangles of one run that is taken
-  run_taken : (m n run : ℕ) → takes run ≡ true → run * 128 ≤ n → n + m ≤ run * 128 + 128 → taken_before takes (n + m) ≡ taken_before takes n + m
+  run_taken : (m n run : ℕ) → takes run ≡ true → run * 256 ≤ n → n + m ≤ run * 256 + 256 → taken_before takes (n + m) ≡ taken_before takes n + m
   run_taken zero n run e low high = simp add-zero
   run_taken (suc m) n run e low high =
-      let here : (n + m) / 128 ≡ run = omega arith in
+      let here : (n + m) / 256 ≡ run = omega arith in
       let more = run_taken m n run e low (omega arith) in
       let last = one_taken (n + m) (rw here e) in
       let same : n + suc m ≡ suc (n + m) = omega arith in
       rw (same, last, more) (omega arith)
 
   -- all triangles from number `from` to before `to`, of one run that is taken
-  pub between_taken : (run from to : ℕ) → takes run ≡ true → run * 128 ≤ from → from ≤ to → to ≤ run * 128 + 128
+  pub between_taken : (run from to : ℕ) → takes run ≡ true → run * 256 ≤ from → from ≤ to → to ≤ run * 256 + 256
       → taken_before takes to ≡ taken_before takes from + (to - from)
   between_taken run from to e low order high =
       let more = run_taken (to - from) from run e low (omega arith) in
@@ -72,9 +72,9 @@ module _ (takes : ℕ → Bool) where
   some_taken (suc m) n =
       let before = some_taken m n in
       let same : n + suc m ≡ suc (n + m) = omega arith in
-      rw same (at_next (takes ((n + m) / 128)) refl before)
+      rw same (at_next (takes ((n + m) / 256)) refl before)
     where
-      at_next : (b : Bool) → takes ((n + m) / 128) ≡ b → (taken_before takes n ≤ taken_before takes (n + m)) × (taken_before takes (n + m) ≤ taken_before takes n + m)
+      at_next : (b : Bool) → takes ((n + m) / 256) ≡ b → (taken_before takes n ≤ taken_before takes (n + m)) × (taken_before takes (n + m) ≤ taken_before takes n + m)
           → (taken_before takes n ≤ taken_before takes (suc (n + m))) × (taken_before takes (suc (n + m)) ≤ taken_before takes n + suc m)
       at_next true e h = let one = one_taken (n + m) e in (omega (arith, one, h.0), omega (arith, one, h.1))
       at_next false e h = let one = one_left (n + m) e in (omega (arith, one, h.0), omega (arith, one, h.1))
@@ -98,16 +98,16 @@ both_take one other against zero n = simp add-zero
 both_take one other against (suc m) n =
     let more = both_take one other against m n in
     let same : n + suc m ≡ suc (n + m) = omega arith in
-    let last = at_next (n + m) (taken_before one n + taken_before other n + m) (one ((n + m) / 128)) refl more in
+    let last = at_next (n + m) (taken_before one n + taken_before other n + m) (one ((n + m) / 256)) refl more in
     rw same (omega (arith, last))
   where
-    at_next : (k s : ℕ) (b : Bool) → one (k / 128) ≡ b → taken_before one k + taken_before other k ≡ s
+    at_next : (k s : ℕ) (b : Bool) → one (k / 256) ≡ b → taken_before one k + taken_before other k ≡ s
         → taken_before one (suc k) + taken_before other (suc k) ≡ s + 1
     at_next k s true e h =
         let first = one_taken one k e in
-        let second = one_left other k (rw (against (k / 128), e) refl) in
+        let second = one_left other k (rw (against (k / 256), e) refl) in
         omega (arith, first, second, h)
     at_next k s false e h =
         let first = one_left one k e in
-        let second = one_taken other k (rw (against (k / 128), e) refl) in
+        let second = one_taken other k (rw (against (k / 256), e) refl) in
         omega (arith, first, second, h)

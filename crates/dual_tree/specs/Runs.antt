@@ -65,7 +65,7 @@ is_aside by run = is_beside_run by.corners by.upward by.eastward (slice_get by.e
 unfoldable pub takes_run : Chosen → ℕ → Bool
 takes_run by run = cond by.far (is_aside by run) (not (is_aside by run))
 
--- how many triangles before triangle n are in runs that are taken; a run has 128 triangles
+-- how many triangles before triangle n are in runs that are taken; a run has 256 triangles
 unfoldable pub taken_before : (ℕ → Bool) → ℕ → ℕ
 taken_before takes zero = zero
-taken_before takes (suc n) = cond (takes (n / 128)) (suc (taken_before takes n)) (taken_before takes n)
+taken_before takes (suc n) = cond (takes (n / 256)) (suc (taken_before takes n)) (taken_before takes n)

@@ -240,10 +240,10 @@ fn first_chosen<L: Ledger>(
     ensures after { range.0 ≤ result }
     ensures within { result ≤ range.1 }
     ensures holds { result < range.1 → IsInTri ring.now.corners (tri_at mesh.now result) (whole p.now) }
-    ensures none { (k : ℕ) → range.0 ≤ k → k < result → IsTrue (takes_run choice.now (k / 128))
+    ensures none { (k : ℕ) → range.0 ≤ k → k < result → IsTrue (takes_run choice.now (k / 256))
         → ¬ IsInTri ring.now.corners (tri_at mesh.now k) (whole p.now) }
     ensures steps { steps.new + 3 * taken_before (takes_run choice.now) range.0
-        ≤ steps.old + 3 * taken_before (takes_run choice.now) result + 4 * ((range.1 + 127) / 128) + 3 }
+        ≤ steps.old + 3 * taken_before (takes_run choice.now) result + 4 * ((range.1 + 255) / 256) + 3 }
 {
     // The prover learns from this call how many triangles there can be.
     let _count = mesh.count();

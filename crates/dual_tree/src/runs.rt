@@ -14,17 +14,17 @@ use std::sync::ledger::Ledger;
 use tri_mesh::Extremes;
 
 // How many triangles a run has, but for the last one.
-pub(crate) const RUN: u32 = 128;
+pub(crate) const RUN: u32 = 256;
 
 // How many runs so many triangles are.
 pub(crate) fn runs_of(count: u32) -> u32
     requires { count < 2 ^ 30 }
-    ensures { result ≡ (count + 127) / 128 }
+    ensures { result ≡ (count + 255) / 256 }
 {
     (count + RUN - 1) / RUN
 }
 
-/// The extreme vertices of each 128 triangles that follow one another, for a mesh to keep; none where there are fewer than twice as
+/// The extreme vertices of each 256 triangles that follow one another, for a mesh to keep; none where there are fewer than twice as
 /// many triangles. They only save time. It takes at most 128 steps a triangle.
 pub fn extremes_of<L: Ledger>(
     alloc: Global,

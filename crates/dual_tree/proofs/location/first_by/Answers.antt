@@ -50,7 +50,7 @@ returns-clause-first g c =
       ];
       none = λ l _ below. elim (cases_lt l first) [
         | inl early ↦ c.early-first.ensures.none l early
-        | inr later ↦ elim (by_one (takes_run c.near-near.result (l / 128)) (takes_run c.others.result (l / 128)) (c.others.ensures (l / 128))) [
+        | inr later ↦ elim (by_one (takes_run c.near-near.result (l / 256)) (takes_run c.others.result (l / 256)) (c.others.ensures (l / 256))) [
           | inl near ↦ c.first_chosen-found.ensures.none l later (omega arith) near
           | inr far ↦ c.first_chosen.ensures.none l later below far
         ]

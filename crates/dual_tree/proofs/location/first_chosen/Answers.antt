@@ -6,7 +6,7 @@ use Rattle.dual_tree.proofs.location.first_chosen.Goals as goal
 use Rattle.dual_tree.proofs.location.first_chosen.Goals.{else-takes, then-takes+else-found-to}
 
 pub returns-then-found-to-clause-none : goal.returns-then-found-to-clause-none
-returns-then-found-to-clause-none g c = λ k low below taken. elim (cases_lt (k / 128) c.loop-run.run) [
+returns-then-found-to-clause-none g c = λ k low below taken. elim (cases_lt (k / 256) c.loop-run.run) [
   | inl before ↦ c.loop-run.invariant.none k low (omega (arith, c.min-to.ensures)) before taken
   | inr here ↦ c.first_from-found.ensures.first.none k (omega (arith, c.max-from.ensures)) below
 ]
@@ -45,7 +45,7 @@ loop-run-preserved g c =
           let more = between_taken T run from to (sym c.takes.ensures.takes ∙ w.if-takes.true) (omega (arith, w.max-from.ensures)) order
           (omega (arith, w.min-to.ensures)) in
           record {
-            none = λ k low below within taken. elim (cases_lt (k / 128) run) [
+            none = λ k low below within taken. elim (cases_lt (k / 256) run) [
               | inl earlier ↦ c.loop-run.invariant.none k low below earlier taken
               | inr here ↦ w.first_from-found.ensures.first.none k (omega (arith, w.max-from.ensures)) (omega (arith, w.min-to.ensures, w.if-found-to.false))
             ];
@@ -57,10 +57,10 @@ loop-run-preserved g c =
       | else-takes w ↦
           let left : T run ≡ false = sym c.takes.ensures.takes ∙ w.if-takes.false in
           record {
-            none = λ k low below within taken. elim (cases_lt (k / 128) run) [
+            none = λ k low below within taken. elim (cases_lt (k / 256) run) [
               | inl earlier ↦ c.loop-run.invariant.none k low below earlier taken
               | inr here ↦
-                  let same : k / 128 ≡ run = omega arith in
+                  let same : k / 256 ≡ run = omega arith in
                   absurd (false≢true (sym (ap T same ∙ left) ∙ taken))
             ];
             steps = λ n low high reached.
