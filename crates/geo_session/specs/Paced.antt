@@ -27,7 +27,7 @@ mesh_steps n = 192 * n + 200 * n * binary_digits n
 
 -- and to test a list of points before,
 abbrev pub polygon_steps : ℕ → ℕ
-polygon_steps n = 283 * (n * n) + 1400 * (n * (binary_digits n + 4)) + mesh_steps n
+polygon_steps n = 214 * (n * n) + 1400 * (n * (binary_digits n + 4)) + mesh_steps n
 
 -- to find the guards, each of whose triangles is looked for among the vertices,
 abbrev pub guards_steps : ℕ → ℕ

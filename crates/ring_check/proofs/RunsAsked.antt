@@ -1,22 +1,12 @@
 -- How many runs a scan asks: at each edge that it comes to those that begin there, so none twice.
-use Rattle.std.proofs.Common.{ℕ, ◌+◌, ◌-◌, ◌*◌, ◌<◌, ◌≤◌, ◌≡◌, ◌∷◌, [], List, Option, None, Some, IfSome, drop, get_or, length, arith}
-use Rattle.std.proofs.Math.Nat.{mul-le-mul_left}
+use Rattle.std.proofs.Common.{ℕ, ◌+◌, ◌-◌, ◌*◌, ◌<◌, ◌≤◌, ◌≡◌, ◌∷◌, ◌++◌, [], inl, inr, List, Option, None, Some, IfSome, drop, get_or, length, arith}
+use Rattle.std.proofs.lemmas.Bool.{cases_lt}
 use Rattle.std.proofs.lemmas.List.{drop-drop}
-use Rattle.std.proofs.lemmas.List.Sums.{sum_by-cons, sum_by-drop_more, sum_by-le, sum_by-take-drop}
-use Rattle.std.specs.List.{sum_by}
-use Rattle.std.specs.Prelude.{if◌then◌else◌, nat_lt}
-use Rattle.ring_check.specs.Runs.{begin_at, begins_at}
+use Rattle.std.proofs.lemmas.List.Sums.{sum_by-cons, sum_by-drop_more, sum_by-le, sum_by-take-drop, sum_by_push}
+use Rattle.ring_check.specs.Runs.{HaveBegun, begin_at, begins_at, begun, is_begun}
 use Rattle.ring_check.specs.declared.runs.Run.{Run}
 
 -- ---- along a row
-
--- 1 where it begins before that edge
-abbrev is_begun : ℕ → Run → ℕ
-is_begun end run = if nat_lt run.first end then 1 else 0
-
--- how many do
-abbrev pub begun : ℕ → List Run → ℕ
-begun end runs = sum_by (is_begun end) runs
 
 begun_or_begins : (j k : ℕ) (run : Run) → j < k → is_begun j run + begins_at j run ≤ is_begun k run
 begun_or_begins j k run more = grind (arith, more)
@@ -77,12 +67,30 @@ those_more runs first asked k run (Some number) are within is before =
 
 -- ---- over all rows
 
--- the pairs of an edge with those above it, out of all
-pub row_less : (n i : ℕ) → i < n → 9 * ((n - (i + 1)) * (n - (i + 1))) + 18 * (n - (i + 1)) ≤ 9 * ((n - i) * (n - i))
-row_less n i within =
-    let one : n - i ≡ n - (i + 1) + 1 = omega (arith, within) in
-    rw one (omega arith)
+-- a run more
+pub begun_before : (n : ℕ) (runs : List Run) (run : Run) → HaveBegun n runs → HaveBegun n (runs ++ run ∷ [])
+begun_before n runs run had e within = omega (arith, had e within, sum_by_push (is_begun e) runs run)
 
--- runs of 15 edges, and those that join two, are asked in each row
-pub rows_most : (n runs : ℕ) → 15 * runs ≤ 2 * n + 13 → 15 * (n * runs) ≤ 2 * (n * n) + 13 * n
-rows_most n runs few = omega (arith, mul-le-mul_left n few)
+begun_there : (e : ℕ) (run : Run) → run.first < e → is_begun e run ≡ 1
+begun_there e run less = grind (arith, less)
+
+pub begun_pushed : (n : ℕ) (runs : List Run) (run : Run) → run.first ≡ n → HaveBegun n runs → HaveBegun (n + 15) (runs ++ run ∷ [])
+begun_pushed n runs run at had e within = elim (cases_lt n e) [
+  | inl less ↦ omega (
+    arith,
+    had n (omega arith),
+    scanned n e runs less,
+    begun_there e run (omega (arith, at, less)),
+    sum_by_push (is_begun e) runs run,
+    within,
+  )
+  | inr more ↦ begun_before n runs run had e more
+]
+
+-- the edges above an edge, and the runs that begin above it, out of all
+pub row_less : (n i runs begun : ℕ) → i < n → 15 * (runs - begun) ≤ 2 * n + 13 - (i + 1)
+    → 15 * (128 + 18 * (n - (i + 1)) + 2048 * (runs - begun)) + 1159 * ((n - (i + 1)) * (n - (i + 1)))
+    ≤ 1159 * ((n - i) * (n - i)) + (2048 * n + 27655)
+row_less n i runs begun within few =
+    let one : n - i ≡ n - (i + 1) + 1 = omega (arith, within) in
+    rw one (omega (arith, within, few))

@@ -3,7 +3,7 @@ ghost use Rattle.std.specs.Prelude.{◌≡◌, ◌+◌, ◌*◌, ◌-◌, ◌<�
 ghost use Rattle.rings.specs.Ring.{vertex};
 ghost use Rattle.rings.specs.Simple.{Clash, HasEqualEnds, IsLeastClash, IsSimple, SharesPoint};
 ghost use Rattle.ring_check.specs.Boxes.{EnclosesEdge};
-ghost use Rattle.ring_check.specs.Runs.{IsRun, begin_at};
+ghost use Rattle.ring_check.specs.Runs.{IsRun, begin_at, begun};
 
 use crate::boxes::box_of_edge;
 use crate::runs::{Run, runs_of};
@@ -14,7 +14,7 @@ use std::cmp::Ordering;
 use std::sync::ledger::Ledger;
 
 // The least pair of edges i < j that clash, in the order of i, then j. Where points are at random, the first edge clashes, and runs
-// of edges are of no use. It takes at most 283 n n + 1300 n (d + 4) steps for n points, n below 2 to the power d.
+// of edges are of no use. It takes at most 214 n n + 1300 n (d + 4) steps for n points, n below 2 to the power d.
 pub fn find_clash<L: Ledger>(
     alloc: Global,
     points: &[Pt],
@@ -24,7 +24,7 @@ pub fn find_clash<L: Ledger>(
     requires small { length points.now < 2 ^ 32 }
     ensures least { IfSome result (λ pair. IsLeastClash points.now pair.0 pair.1) }
     ensures simple { IfNone result (IsSimple points.now) }
-    ensures steps { (d : ℕ) → let n = length points.now in n < 2 ^ d → steps.new ≤ steps.old + (283 * (n * n) + 1300 * (n * (d + 4))) }
+    ensures steps { (d : ℕ) → let n = length points.now in n < 2 ^ d → steps.new ≤ steps.old + (214 * (n * n) + 1300 * (n * (d + 4))) }
 {
     if let Some(j) = least_clash_with(points, &[], 0, steps) {
         return Some((0, j));
@@ -35,8 +35,8 @@ pub fn find_clash<L: Ledger>(
     }
 }
 
-// The same by a scan of all pairs, without the runs of edges that are left out by the boxes round them. It takes at most 9 n n steps for
-// n points and for each 128 more and 2048 a run.
+// The same by a scan of all pairs, without the runs of edges that are left out by the boxes round them. It takes at most 214 n n + 1844 n
+// steps for n points, where there are so few runs from each edge on as `runs_of` makes.
 fn least_clash<L: Ledger>(
     points: &[Pt],
     runs: &[Run],
@@ -44,9 +44,10 @@ fn least_clash<L: Ledger>(
 ) -> Option<(usize, usize)>
     requires three { 3 ≤ length points.now }
     requires runs { All (IsRun points.now) runs.now }
+    requires few { (e : ℕ) → e ≤ length points.now → 15 * (length runs.now - begun e runs.now) ≤ 2 * length points.now + 13 - e }
     ensures least { IfSome result (λ pair. IsLeastClash points.now pair.0 pair.1) }
     ensures simple { IfNone result (IsSimple points.now) }
-    ensures steps { let n = length points.now in steps.new ≤ steps.old + (9 * (n * n) + n * (128 + 2048 * length runs.now)) }
+    ensures steps { let n = length points.now in steps.new ≤ steps.old + (214 * (n * n) + 1844 * n) }
 {
     for i in 0..points.len() {
         if let Some(j) = least_clash_with(points, runs, i, steps) {
@@ -56,7 +57,8 @@ fn least_clash<L: Ledger>(
     None
 }
 
-// The least edge above i that clashes with edge i. It takes at most 128 steps, 18 for each edge above i and 2048 a run.
+// The least edge above i that clashes with edge i. It takes at most 128 steps, 18 for each edge above i and 2048 for
+// each run that begins there.
 fn least_clash_with<L: Ledger>(
     points: &[Pt],
     runs: &[Run],
@@ -70,7 +72,7 @@ fn least_clash_with<L: Ledger>(
     ensures clash { IfSome result (λ j. Clash points.now i j) }
     ensures least { IfSome result (λ j. (l : ℕ) → i < l → l < j → Clash points.now i l → ⊥) }
     ensures none { IfNone result ((l : ℕ) → i < l → l < length points.now → Clash points.now i l → ⊥) }
-    ensures steps { steps.new ≤ steps.old + (128 + 18 * (length points.now - (i + 1)) + 2048 * length runs.now) }
+    ensures steps { steps.new ≤ steps.old + (128 + 18 * (length points.now - (i + 1)) + 2048 * (length runs.now - begun (i + 1) runs.now)) }
 {
     let bounds = box_of_edge(points, i, steps);
     let mut j = i + 1;

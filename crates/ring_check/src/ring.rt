@@ -56,7 +56,7 @@ pub enum RingFault {
 }
 
 impl Ring {
-    /// The ring of this list. The list is dropped on a refusal. It takes at most 283 n n + 1400 n (d + 4) steps, n the number of points
+    /// The ring of this list. The list is dropped on a refusal. It takes at most 214 n n + 1400 n (d + 4) steps, n the number of points
     /// and n below 2 to the power d.
     pub fn of<L: Ledger>(mut points: Vec<Pt>, steps: &mut Steps<L>) -> Result<Ring, RingFault>
         ensures ring { IfOk result (λ ring. ring ≡ oriented points.items) }
@@ -66,7 +66,7 @@ impl Ring {
         ensures many { (result ≡ Err RingFault.Many) ↔ (MAX_CORNERS < vec_len points) }
         ensures clash { (i j : ℕ) → (result ≡ Err (RingFault.Clash i j))
             ↔ ((3 ≤ vec_len points) × (vec_len points ≤ MAX_CORNERS) × IsLeastClash points.items i j) }
-        ensures steps { (d : ℕ) → let n = vec_len points in n < 2 ^ d → steps.new ≤ steps.old + (283 * (n * n) + 1400 * (n * (d + 4))) }
+        ensures steps { (d : ℕ) → let n = vec_len points in n < 2 ^ d → steps.new ≤ steps.old + (214 * (n * n) + 1400 * (n * (d + 4))) }
     {
         if points.len() < 3 {
             return Err(RingFault::Few);
@@ -88,7 +88,7 @@ impl Ring {
         }
     }
 
-    // The ring of a list of this length, by a look at all pairs of edges. It takes at most 283 n n + 1300 n (d + 4) + 128 n steps.
+    // The ring of a list of this length, by a look at all pairs of edges. It takes at most 214 n n + 1300 n (d + 4) + 128 n steps.
     fn of_pairs<L: Ledger>(mut points: Vec<Pt>, steps: &mut Steps<L>) -> Result<Ring, RingFault>
         requires three { 3 ≤ vec_len points }
         requires most { vec_len points ≤ MAX_CORNERS }
@@ -96,7 +96,7 @@ impl Ring {
         ensures accepted { IsOk result ↔ IsSimple points.items }
         ensures clash { (i j : ℕ) → (result ≡ Err (RingFault.Clash i j)) ↔ IsLeastClash points.items i j }
         ensures length { (result ≡ Err RingFault.Few → ⊥) × (result ≡ Err RingFault.Many → ⊥) }
-        ensures steps { (d : ℕ) → let n = vec_len points in n < 2 ^ d → steps.new ≤ steps.old + (283 * (n * n) + 1300 * (n * (d + 4)) + 128 * n) }
+        ensures steps { (d : ℕ) → let n = vec_len points in n < 2 ^ d → steps.new ≤ steps.old + (214 * (n * n) + 1300 * (n * (d + 4)) + 128 * n) }
     {
         match find_clash(*points.allocator(), &points, steps) {
             Some((i, j)) => Err(RingFault::Clash(i as u32, j as u32)),

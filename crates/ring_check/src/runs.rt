@@ -5,7 +5,7 @@ ghost use Rattle.plane.specs.Point.{Point};
 ghost use Rattle.rings.specs.Simple.{HasEqualEnds};
 ghost use Rattle.exact_plane.specs.Boxes.{Encloses};
 ghost use Rattle.ring_check.specs.Boxes.{IsApartOver};
-ghost use Rattle.ring_check.specs.Runs.{IsRun, run_length, total_length};
+ghost use Rattle.ring_check.specs.Runs.{HaveBegun, IsRun, run_length, total_length};
 
 use crate::clash::corner;
 use crate::cover::Cover;
@@ -44,6 +44,7 @@ impl Run {
     fn of<L: Ledger>(points: &[Pt], first: usize, steps: &mut Steps<L>) -> Run
         requires { first < length points.now }
         ensures run { IsRun points.now result }
+        ensures first { result.first ≡ first }
         ensures short { run_length result ≤ 15 }
         ensures within { run_length result ≤ length points.now - first }
         ensures steps { steps.new ≤ steps.old + 35087 }
@@ -66,6 +67,7 @@ impl Run {
     fn with_edges<L: Ledger>(&self, points: &[Pt], end: usize, steps: &mut Steps<L>) -> Run
         requires { end ≤ length points.now }
         ensures run { IsRun points.now result }
+        ensures first { result.first ≡ self.now.first }
         ensures edges { run_length result ≤ end - self.now.first }
         ensures steps { steps.new ≤ steps.old + 769 * (end - self.now.first) }
     {
@@ -225,6 +227,7 @@ pub(crate) fn runs_of<L: Ledger>(
 ) -> Result<Vec<Run>, Memory>
     ensures runs { IfOk result (λ runs. All (IsRun points.now) runs.items) }
     ensures few { IfOk result (λ runs. 15 * length runs.items ≤ 2 * length points.now + 13) }
+    ensures begun { IfOk result (λ runs. HaveBegun (length points.now) runs.items) }
     ensures steps { (d : ℕ) → length points.now < 2 ^ d → steps.new ≤ steps.old + 800 * (length points.now * (d + 4)) }
 {
     let mut runs = least_runs(alloc, points, steps)?;
@@ -244,6 +247,7 @@ fn least_runs<L: Ledger>(
 ) -> Result<Vec<Run>, Memory>
     ensures runs { IfOk result (λ runs. All (IsRun points.now) runs.items) }
     ensures few { IfOk result (λ runs. 15 * length runs.items ≤ length points.now + 14) }
+    ensures begun { IfOk result (λ runs. HaveBegun (length points.now) runs.items) }
     ensures total { IfOk result (λ runs. total_length runs.items ≤ length points.now) }
     ensures steps { steps.new ≤ steps.old + 2817 * length points.now }
 {

@@ -1,5 +1,4 @@
-use Rattle.std.proofs.Common.{◌+◌, ◌*◌, ◌≤◌, length, arith}
-use Rattle.ring_check.proofs.RunsAsked.{rows_most}
+use Rattle.std.proofs.Common.{arith}
 use Rattle.ring_check.proofs.SharedPoints.{least_from}
 use Rattle.ring_check.proofs.clash.find_clash.Goals as goal
 
@@ -8,9 +7,9 @@ returns-in-Some-clause-least g c =
     let found = c.in-Some.ensures in
     least_from c.args.points.now 0 c.in-Some.j found.range.0 found.range.1 found.clash (λ k l before. omega (arith, before)) found.least
 
+pub least_clash-requires-clause-few : goal.least_clash-requires-clause-few
+least_clash-requires-clause-few g c = rw c.deref.ensures.value (λ e within. omega (arith, c.in-Ok.ensures.few, c.in-Ok.ensures.begun e within))
+
 pub returns-in-Ok-clause-steps : goal.returns-in-Ok-clause-steps
 returns-in-Ok-clause-steps g c = λ d below.
-    let n = length c.args.points.now in
-    let runs = length c.deref.result.now in
-    let few : 15 * runs ≤ 2 * n + 13 = rw (← c.deref.ensures.value) at c.in-Ok.ensures.few in
-    omega (arith, c.requires.three, c.least_clash_with.ensures.steps, c.runs_of.ensures.steps d below, c.least_clash.ensures.steps, rows_most n runs few)
+    omega (arith, c.requires.three, c.least_clash_with.ensures.steps, c.runs_of.ensures.steps d below, c.least_clash.ensures.steps)

@@ -4,6 +4,7 @@ use Rattle.rings.specs.Simple.{Clash}
 use Rattle.ring_check.proofs.RunsAsked.{row_less}
 use Rattle.ring_check.proofs.SharedPoints.{least_from}
 use Rattle.ring_check.proofs.clash.least_clash.Goals as goal
+use Rattle.ring_check.specs.Runs.{begun}
 
 pub returns-in-Some-clause-least : goal.returns-in-Some-clause-least
 returns-in-Some-clause-least g c =
@@ -12,15 +13,19 @@ returns-in-Some-clause-least g c =
 
 pub returns-in-Some-clause-steps : goal.returns-in-Some-clause-steps
 returns-in-Some-clause-steps g c =
-    let row = 128 + 2048 * length c.args.runs.now in
-    let less = row_less (length c.args.points.now) c.loop-i.i c.loop-i-test.true in
-    let within = mul-le-mul_right row c.loop-i-test.true in
+    let n = length c.args.points.now in
+    let i = c.loop-i.i in
+    let runs = c.args.runs.now in
+    let less = row_less n i (length runs) (begun (i + 1) runs) c.loop-i-test.true (c.requires.few (i + 1) (omega (arith, c.loop-i-test.true))) in
+    let within = mul-le-mul_right (2048 * n + 27655) c.loop-i-test.true in
     omega (arith, c.loop-i.invariant.1, less, within, c.least_clash_with.ensures.steps)
 
 pub loop-i-preserved : goal.loop-i-preserved
 loop-i-preserved g c =
     let ring = c.args.points.now in
-    let less = row_less (length ring) c.loop-i.i c.loop-i-test.true in (
+    let i = c.loop-i.i in
+    let runs = c.args.runs.now in
+    let less = row_less (length ring) i (length runs) (begun (i + 1) runs) c.loop-i-test.true (c.requires.few (i + 1) (omega (arith, c.loop-i-test.true))) in (
       λ h k below in_order in_ring. below_more (λ (h : ℕ). (k : ℕ) → h < k → k < length ring → Clash ring h k → ⊥) c.loop-i.i
           (λ h b k. c.loop-i.invariant.0 h k b) c.in_default.ensures.none h below k in_order in_ring,
       omega (arith, c.loop-i.invariant.1, less, c.least_clash_with.ensures.steps),

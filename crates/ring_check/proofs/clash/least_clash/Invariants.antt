@@ -6,4 +6,4 @@ abbrev pub invariant-loop-i : goal.invariant-loop-i
 invariant-loop-i g l =
     let n = length l.points in
     ((h k : ℕ) → h < l.i → h < k → k < n → Clash l.points h k → ⊥)
-    × (l.steps + 9 * ((n - l.i) * (n - l.i)) ≤ l.fn.steps + (9 * (n * n) + l.i * (128 + 2048 * length l.runs)))
+    × (15 * l.steps + 1159 * ((n - l.i) * (n - l.i)) ≤ 15 * l.fn.steps + (1159 * (n * n) + l.i * (2048 * n + 27655)))

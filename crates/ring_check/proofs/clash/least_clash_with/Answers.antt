@@ -32,6 +32,7 @@ returns-then-edges_clash-clause-steps g c =
       c.loop-j.invariant.2,
       scanned j (j + 1) runs (omega arith),
       begun_most (j + 1) runs,
+      begun_most (c.args.i + 1) runs,
       c.clear_to-end.ensures.steps,
       c.edges_clash.ensures.steps,
       c.loop-j-test.true,
@@ -56,4 +57,4 @@ pub returns-clause-none : goal.returns-clause-none
 returns-clause-none g c = λ l above below. c.loop-j.invariant.1 l above (omega (arith, below, c.loop-j-test.false))
 
 pub returns-clause-steps : goal.returns-clause-steps
-returns-clause-steps g c = omega (arith, c.loop-j.invariant.2, begun_most c.loop-j.j c.args.runs.now, c.loop-j-test.false)
+returns-clause-steps g c = omega (arith, c.loop-j.invariant.2, begun_most c.loop-j.j c.args.runs.now, begun_most (c.args.i + 1) c.args.runs.now, c.loop-j-test.false)

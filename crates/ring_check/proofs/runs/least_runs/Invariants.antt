@@ -1,13 +1,14 @@
 use Rattle.std.proofs.Common.{◌≡◌, ◌+◌, ◌*◌, ◌-◌, ◌≤◌, length}
 use Rattle.std.specs.List.{All}
 use Rattle.ring_check.proofs.runs.least_runs.Given as goal
-use Rattle.ring_check.specs.Runs.{IsRun, total_length}
+use Rattle.ring_check.specs.Runs.{HaveBegun, IsRun, total_length}
 
 abbrev pub invariant-loop-first : goal.invariant-loop-first
 invariant-loop-first g l = record {
   are : All (IsRun l.points) l.runs.items;
   count : l.first ≡ 15 * length l.runs.items;
   few : l.first ≤ length l.points + 14;
+  begun : HaveBegun l.first l.runs.items;
   total : total_length l.runs.items ≤ l.first;
   within : total_length l.runs.items ≤ length l.points;
   steps : l.steps ≤ l.fn.steps + (2305 * l.first + 512 * length l.runs.items);

@@ -3,6 +3,7 @@ use Rattle.std.proofs.Math.Nat.{mul-le-mul_left}
 use Rattle.std.proofs.lemmas.List.{length-append}
 use Rattle.std.proofs.lemmas.List.Elements.{All-push}
 use Rattle.ring_check.proofs.RunTrees.{joined_next, left_most}
+use Rattle.ring_check.proofs.RunsAsked.{begun_before}
 use Rattle.ring_check.proofs.runs.runs_of.Goals as goal
 use Rattle.ring_check.specs.Runs.{IsRun}
 
@@ -23,6 +24,7 @@ loop-k-preserved g c =
       count = omega (arith, had.count, length-append runs (run ∷ []));
       are = All-push (IsRun ring) runs run had.are c.joined-run.ensures.run;
       few = had.few;
+      begun = begun_before (length ring) runs run had.begun;
       within = omega (arith, c.loop-k-test.true);
       steps = λ d below. omega (arith, had.steps d below, next, c.joined-run.ensures.steps);
     })
@@ -38,6 +40,7 @@ loop-k-init g c =
       count = omega (arith, count);
       are = least.runs;
       few = omega (arith, few, count);
+      begun = least.begun;
       within = omega arith;
       steps = λ d below. omega (
         arith,
