@@ -11,7 +11,7 @@ ghost use Rattle.tri_mesh.specs.Corner.{HasCorner};
 ghost use Rattle.dual_tree.specs.Location.{IsCornered, IsFirstHolding, IsLeastHolding};
 
 use crate::runs::{Choice, RUN, runs_of};
-use exact_plane::{Direction, Pt, Steps, in_triangle, order, turn};
+use exact_plane::{Direction, Pt, Steps, each_in_triangle, in_triangle, order, turn};
 use meshes::Tri;
 use ring_check::Ring;
 use std::cmp::Ordering;
@@ -52,9 +52,67 @@ pub fn locate_both<L: Ledger>(
     ensures no_second { IsNone result.1 ↔ ¬ (IsIn ring.now.corners (whole t.now)) }
     ensures steps { steps.new ≤ steps.old + 6 * (length ring.now.corners - 2) }
 {
+    if mesh.extremes().is_empty() {
+        return locate_together(mesh, ring, s, t, steps);
+    }
     let from = locate(mesh, ring, s, steps);
     let to = locate(mesh, ring, t, steps);
     (from, to)
+}
+
+// The same in one pass over the triangles.
+#[tactic(auto, using(crate::proofs::LocationFits::places))]
+fn locate_together<L: Ledger>(
+    mesh: &Mesh,
+    ring: &Ring,
+    s: &Pt,
+    t: &Pt,
+    steps: &mut Steps<L>,
+) -> (Option<u32>, Option<u32>)
+    requires { Fits ring.now.corners mesh.now }
+    ensures least_of_first { IfSome result.0 (IsLeastHolding ring.now.corners mesh.now (whole s.now)) }
+    ensures no_first { IsNone result.0 ↔ ¬ (IsIn ring.now.corners (whole s.now)) }
+    ensures least_of_second { IfSome result.1 (IsLeastHolding ring.now.corners mesh.now (whole t.now)) }
+    ensures no_second { IsNone result.1 ↔ ¬ (IsIn ring.now.corners (whole t.now)) }
+    ensures steps { steps.new ≤ steps.old + 6 * (length ring.now.corners - 2) }
+{
+    for i in 0..mesh.count() {
+        let tri = mesh.tri(i);
+        if let Some((holds_s, holds_t)) = holds_each(ring, &tri, s, t, steps) {
+            let from = locate_at(mesh, ring, i, holds_s, s, steps);
+            let to = locate_at(mesh, ring, i, holds_t, t, steps);
+            return (from, to);
+        }
+    }
+    (None, None)
+}
+
+// The least triangle that holds the point, where none before triangle `i` does and it is known whether that one does. It
+// takes at most 3 steps for each triangle after that one.
+#[tactic(auto, using(crate::proofs::LocationFits::places))]
+fn locate_at<L: Ledger>(
+    mesh: &Mesh,
+    ring: &Ring,
+    i: u32,
+    is_held: bool,
+    p: &Pt,
+    steps: &mut Steps<L>,
+) -> Option<u32>
+    requires fits { Fits ring.now.corners mesh.now }
+    requires within { i < length mesh.now }
+    requires held { IsTrue is_held ↔ IsInTri ring.now.corners (tri_at mesh.now i) (whole p.now) }
+    requires before { (k : ℕ) → k < i → ¬ IsInTri ring.now.corners (tri_at mesh.now k) (whole p.now) }
+    ensures least { IfSome result (IsLeastHolding ring.now.corners mesh.now (whole p.now)) }
+    ensures none { IsNone result ↔ ¬ (IsIn ring.now.corners (whole p.now)) }
+    ensures steps { steps.new ≤ steps.old + 3 * (length mesh.now - (i + 1)) }
+{
+    // The prover learns from this call how many triangles there can be.
+    let count = mesh.count();
+    if is_held {
+        return Some(i);
+    }
+    let found = first_from(mesh, ring, p, i + 1, count, steps);
+    if found < count { Some(found) } else { None }
 }
 
 // The least triangle that holds the point, or the number behind the last one where none does.
@@ -294,6 +352,25 @@ fn holds<L: Ledger>(ring: &Ring, tri: &Tri, p: &Pt, steps: &mut Steps<L>) -> boo
 {
     let (a, b, c) = corners_of(ring, tri);
     in_triangle(a, b, c, p, steps)
+}
+
+// Whether either of two points is in the closed triangle; none where neither is. It takes at most 6 steps.
+fn holds_each<L: Ledger>(
+    ring: &Ring,
+    tri: &Tri,
+    s: &Pt,
+    t: &Pt,
+    steps: &mut Steps<L>,
+) -> Option<(bool, bool)>
+    requires { IsCornered ring.now.corners tri.now }
+    ensures first { IfSome result (λ held. IsTrue held.0 ↔ IsInTri ring.now.corners tri.now (whole s.now)) }
+    ensures second { IfSome result (λ held. IsTrue held.1 ↔ IsInTri ring.now.corners tri.now (whole t.now)) }
+    ensures no_first { IsNone result → ¬ IsInTri ring.now.corners tri.now (whole s.now) }
+    ensures no_second { IsNone result → ¬ IsInTri ring.now.corners tri.now (whole t.now) }
+    ensures steps { steps.new ≤ steps.old + 6 }
+{
+    let (a, b, c) = corners_of(ring, tri);
+    each_in_triangle(a, b, c, s, t, steps)
 }
 
 // Whether there is a triangle with this number, and the point is left of all its sides. It takes at most 3 steps.

@@ -24,8 +24,8 @@ pub(crate) fn runs_of(count: u32) -> u32
     (count + RUN - 1) / RUN
 }
 
-/// The extreme vertices of each 256 triangles that follow one another, for a mesh to keep; none where there are fewer than twice as
-/// many triangles. They only save time. It takes at most 128 steps a triangle.
+/// The extreme vertices of each 256 triangles that follow one another, for a mesh to keep; none where there are no more than these.
+/// They only save time. It takes at most 128 steps a triangle.
 pub fn extremes_of<L: Ledger>(
     alloc: Global,
     ring: &Ring,
@@ -36,7 +36,7 @@ pub fn extremes_of<L: Ledger>(
     ensures steps { steps.new ≤ steps.old + 128 * length tris.now }
 {
     let run = RUN as usize;
-    if tris.len() < 2 * run {
+    if tris.len() <= run {
         return Ok(Vec::new(alloc));
     }
     let mut extremes = Vec::with_capacity(alloc, tris.len() / run + 1)?;
