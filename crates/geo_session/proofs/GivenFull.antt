@@ -1,5 +1,5 @@
 -- What a path touches in a ring is what it touches in the list that the ring was made of.
-use Rattle.std.proofs.Common.{◌↔◌, ◌-◌, Bool, true, false, if◌then◌else◌, sym, subst, List, [], ◌∷◌}
+use Rattle.std.proofs.Common.{◌↔◌, Bool, true, false, if◌then◌else◌, sym, subst, List, [], ◌∷◌}
 use Rattle.plane.specs.Point.{Point}
 use Rattle.rings.proofs.Turned.{between_turned, turned_round-turned_round}
 use Rattle.rings.specs.Full.{AreTouched, IsFull, IsVertexBetween}

@@ -3,6 +3,8 @@ use Rattle.std.proofs.Common.{◌≡◌, ◌∙◌, inl, inr, refl, sym, ap, sub
 use Rattle.std.proofs.Math.Nat.{pow-suc}
 use Rattle.std.specs.Prelude.{OnOk, Option, Some, None}
 use Rattle.plane.specs.Point.{Point}
+use Rattle.ring_check.proofs.Oriented.{length-oriented}
+use Rattle.ring_check.specs.Oriented.{Oriented, oriented}
 use Rattle.shared_seq.proofs.Digits.{binary_digits_enough}
 use Rattle.shared_seq.specs.Digits.{binary_digits}
 use Rattle.geo_text.specs.Version.{by_version}
@@ -11,24 +13,22 @@ use Rattle.geo_text.specs.declared.command.Bad.TheVariants as bad
 use Rattle.geo_text.specs.declared.command.Command.{Command}
 use Rattle.geo_text.specs.declared.command.Command.TheVariants as command
 use Rattle.geo_text.specs.declared.version.Version.{Version}
-use Rattle.geo_text.specs.declared.version.Version.TheVariants as version
 use Rattle.geo_reply.proofs.Fronts.{no_more, ok_since, under_ok}
 use Rattle.geo_reply.specs.ReplyText.{reply_text}
 use Rattle.geo_reply.specs.Written.{WritesSteps, points_of_path}
-use Rattle.geo_reply.specs.declared.reply.Before.{Before}
 use Rattle.geo_reply.specs.declared.reply.Reply.{Reply}
 use Rattle.geo_reply.specs.declared.reply.Reply.TheVariants as reply
 use Rattle.geo_session.proofs.GivenSize.{size_held}
 use Rattle.geo_session.proofs.OneReply.{one_pair_of, one_path_of, one_reach_of, quiet_sights, quiet_tree, same_written}
 use Rattle.geo_session.specs.Asking.{IsWrittenPaced, TakesBoth, seen_of}
 use Rattle.geo_session.specs.Held.{HeldRing, kept_of}
-use Rattle.geo_session.specs.Paced.{IsPaced, TakesSteps, kernel_steps, most_steps, path_pace, reach_pace}
-use Rattle.geo_session.specs.Pairs.{AreSightsReply, IsPairReply, first_off, joined, second_off, sighted, too_large, too_many}
+use Rattle.geo_session.specs.Paced.{IsPaced, TakesSteps, kernel_steps, mesh_steps, most_steps, path_pace, polygon_steps, reach_pace}
+use Rattle.geo_session.specs.Pairs.{IsPairReply, first_off, joined, second_off, too_many}
 use Rattle.geo_session.specs.Path.{IsReachReply, TellsPath}
 use Rattle.geo_session.specs.Prepared.{Seen, pair_pace, table_steps}
 use Rattle.geo_session.specs.Reply.{IsReply, IsReplyOf}
 use Rattle.geo_session.specs.State.{Kept, State, size_of}
-use Rattle.geo_session.specs.Told.{RepliesWithin, Tells, outside, within}
+use Rattle.geo_session.specs.Told.{RepliesWithin, outside, within}
 
 -- ---- replies
 
@@ -70,6 +70,19 @@ pub held_paced : (version : Version) (held : HeldRing) (asked : Command) (start 
     → most_steps (seen_of version (Some held)) asked ≡ cost (size_of (kept_of (Some held))) → done ≤ start + cost (length held.ring.corners)
     → IsPaced (seen_of version (Some held)) asked start done
 held_paced version held asked start done cost is few = let same = ap cost (size_held held) in omega (arith, is, same, few)
+
+-- a list of points is tested
+pub polygon_tested : (k start tested : ℕ) → ((d : ℕ) → k < 2 ^ d → tested ≤ start + (214 * (k * k) + 1400 * (k * (d + 4)))) → tested ≤ start + polygon_steps k
+polygon_tested k start tested few = omega (arith, few (binary_digits k) (binary_digits_enough k))
+
+-- and triangulated, where it is a polygon
+pub polygon_made : (points : List Point) (ring : Oriented) (start tested done : ℕ) → let k = length points in
+    ((d : ℕ) → k < 2 ^ d → tested ≤ start + (214 * (k * k) + 1400 * (k * (d + 4)))) → ring ≡ oriented points
+    → done ≤ tested + mesh_steps (length ring.corners) → done ≤ start + polygon_steps k
+polygon_made points ring start tested done few is made =
+    let k = length points in
+    let count = ap (λ (r : Oriented). mesh_steps (length r.corners)) is ∙ ap mesh_steps (length-oriented points) in
+    omega (arith, few (binary_digits k) (binary_digits_enough k), count, made)
 
 -- a kernel is found with a digit more than those of the number of vertices
 pub kernel_found : (n start done : ℕ) → 3 ≤ n → ((d : ℕ) → n + 4 < 2 ^ d → done ≤ start + n * (2 * d + 143) + 4) → done ≤ start + kernel_steps n
