@@ -54,7 +54,7 @@ fn parts_through<L: Ledger>(
     ensures parts { IfOk result (λ parts. AreParts ring.now.corners (whole q.now) parts.items) }
     ensures steps { steps.new ≤ steps.old + 9 * length ring.now.corners }
 {
-    let mut parts = Vec::new(alloc);
+    let mut parts = Vec::with_capacity(alloc, edges.len())?;
     for placed in edges {
         let cone = &reached[placed.place].cone;
         push_part(&mut parts, ring, placed.edge, cone, q, steps)?;

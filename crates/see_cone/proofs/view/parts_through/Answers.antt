@@ -6,7 +6,7 @@ use Rattle.see_cone.specs.Reached.{placed_at, reached_at}
 
 pub loop-placed-init : goal.loop-placed-init
 loop-placed-init g c = record {
-  parts = rw c.new-parts.ensures.items (parts_start c.args.ring.now.corners c.args.q.now c.args.reached.now c.args.edges.now c.requires);
+  parts = rw c.in_ok-parts.ensures.items (parts_start c.args.ring.now.corners c.args.q.now c.args.reached.now c.args.edges.now c.requires);
   steps = omega arith;
 }
 
