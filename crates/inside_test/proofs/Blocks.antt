@@ -16,16 +16,18 @@ use Rattle.rings.specs.Ring.{origin, vertex}
 use Rattle.exact_plane.proofs.Overlaps.{overlap_of_meeting}
 use Rattle.exact_plane.specs.Boxes.{Encloses, Overlap}
 use Rattle.exact_plane.specs.declared.bounding_box.BoundingBox.{BoundingBox}
-use Rattle.ring_check.specs.Boxes.{AreBoxed, EnclosesEdge, IsBoxed}
-use Rattle.ring_check.specs.declared.boxes.BoxedEdges.{BoxedEdges}
+use Rattle.ring_check.specs.Boxes.{EnclosesEdge}
 use Rattle.inside_test.proofs.ApartEdges.{not_on_above, not_on_below}
 use Rattle.inside_test.proofs.CrossedEdges.{crossed_backward, crossed_from_left, crossed_from_right, not_crossed_unpassed}
 use Rattle.inside_test.proofs.Odd.{odd_step}
 use Rattle.inside_test.proofs.Passed.{left_of_rise, not_falling, right_of_rise, test_fails_high, test_fails_low}
 use Rattle.inside_test.proofs.Touched.{follows_right, precedes_left}
-use Rattle.inside_test.specs.Block.{IsBoxMissed, IsBoxPassed, IsBoxRight, IsEachBox, MissesEdges, OfAllEnclosed}
+use Rattle.inside_test.specs.Apart.{MissesEdges}
+use Rattle.inside_test.specs.Block.{IsBoxMissed, IsBoxPassed, IsBoxRight, OfAllEnclosed}
 use Rattle.inside_test.specs.Meeting.{rises}
 use Rattle.inside_test.specs.Odd.{IsOddOver, OddSoFar}
+use Rattle.inside_test.specs.Runs.{IsBoxed, IsEachBox}
+use Rattle.inside_test.specs.declared.runs.Run.{Run}
 
 -- whether one of two numbers is above a third, and the other is not
 abbrev pub is_between_ends : Bool → Bool → Bool
@@ -217,28 +219,29 @@ module _ (ring : List Point) (p : Triple) (at_p : IsPoint p) where
 -- ---- edges in four boxes
 
 -- what an edge has in each box that it may be in, where each box has a property
-in_some_box : (ring : List Point) (edges : BoxedEdges) (P : BoundingBox → Type 0) (Q : Type 0) (e : ℕ) → IsEachBox edges P
-    → ((b : BoundingBox) → EnclosesEdge ring b e → P b → Q) → IsBoxed ring edges e → Q
-in_some_box ring edges P Q e each of boxed = elim boxed [
-  | inl h ↦ of edges.eastward h each.eastward
-  | inr (inl h) ↦ of edges.northward h each.northward
-  | inr (inr (inl h)) ↦ of edges.westward h each.westward
-  | inr (inr (inr h)) ↦ of edges.southward h each.southward
+in_some_box : (ring : List Point) (run : Run) (P : BoundingBox → Type 0) (Q : Type 0) (e : ℕ) → IsEachBox run P
+    → ((b : BoundingBox) → EnclosesEdge ring b e → P b → Q) → IsBoxed ring run e → Q
+in_some_box ring run P Q e each of boxed = elim boxed [
+  | inl h ↦ of run.eastward.around h each.eastward
+  | inr (inl h) ↦ of run.northward.around h each.northward
+  | inr (inr (inl h)) ↦ of run.westward.around h each.westward
+  | inr (inr (inr h)) ↦ of run.southward.around h each.southward
 ]
 
-module _ (ring : List Point) (edges : BoxedEdges) (boxed : AreBoxed ring edges) (p : Triple) (at_p : IsPoint p) where
-  -- they are not crossed where the ray misses each box,
-  pub each_missed : IsEachBox edges (λ b. IsBoxMissed b p)
-      → (k : ℕ) → edges.first ≤ k → k < edges.end → IsPassed (vertex ring k) (vertex ring (k + 1)) p false
-  each_missed missed k from below =
-      in_some_box ring edges (λ b. IsBoxMissed b p) _ k missed (λ b h out. passed_in_missed ring p at_p b k h out) (boxed k from below)
-
-  -- and their ends tell where each box is above the point, below it or right of it
-  pub each_passed : IsEachBox edges (λ b. IsBoxPassed b p)
-      → (k : ℕ) → edges.first ≤ k → k < edges.end
+module _ (ring : List Point) (run : Run) (boxed : (e : ℕ) → run.first ≤ e → e < run.end → IsBoxed ring run e) where
+  -- their ends tell whether they are crossed where each box is above the point, below it or right of it
+  pub each_passed : (p : Triple) (at_p : IsPoint p) → IsEachBox run (λ b. IsBoxPassed b p)
+      → (k : ℕ) → run.first ≤ k → k < run.end
       → IsPassed (vertex ring k) (vertex ring (k + 1)) p (is_between_ends (is_above ring p at_p k) (is_above ring p at_p (k + 1)))
-  each_passed passed k from below =
-      in_some_box ring edges (λ b. IsBoxPassed b p) _ k passed (λ b h by. passed_in_passed ring p at_p b k h by) (boxed k from below)
+  each_passed p at_p passed k from below =
+      in_some_box ring run (λ b. IsBoxPassed b p) _ k passed (λ b h by. passed_in_passed ring p at_p b k h by) (boxed k from below)
+
+  -- a segment in a box that shares no point with theirs meets none of them
+  pub each_apart : (p q : Point) (around : BoundingBox) → Encloses around p → Encloses around q
+      → IsEachBox run (λ b. ¬ (Overlap around b)) → MissesEdges ring run.first run.end p q
+  each_apart p q around at_p at_q apart k from below meet =
+      in_some_box ring run (λ b. ¬ (Overlap around b)) _ k apart
+      (λ b h none. none (overlap_of_meeting around b p q (vertex ring k) (vertex ring (k + 1)) at_p at_q h.from h.to meet)) (boxed k from below)
 
 -- ---- a block of edges whose ends are in a box
 

@@ -1,6 +1,7 @@
 mod ApartEdges
 mod Blocks
 mod CrossedEdges
+mod Heights
 mod Levels
 mod Meetings
 mod Adjacent
@@ -11,4 +12,5 @@ pub mod Passing
 mod PointLists
 mod Sizes
 mod Sorting
+mod Told
 mod Touched

@@ -65,6 +65,12 @@ module _ (ring : List Point) (p : Triple) where
       (ap (λ b. not (beq (not (beq is_odd odd)) b)) is ∙ differ_assoc is_odd odd crossed ∙ ap (λ b. not (beq is_odd b)) (sym e))
       (odd_step i (not (beq is_odd odd)) within (over is_odd before) beside)
 
+  -- over edges and those that follow them, as many as over both
+  pub over_both : (first middle end : ℕ) (odd more : Bool) → IsOddOver ring first middle p odd → IsOddOver ring middle end p more
+      → IsOddOver ring first end p (not (beq odd more))
+  over_both first middle end odd more before after is_odd start =
+      subst (OddSoFar (take end (edges_of ring)) p) (differ_assoc is_odd odd more) (after (not (beq is_odd odd)) (before is_odd start))
+
   -- all edges
   pub odd_end : (i : ℕ) (is_odd : Bool) → length ring ≡ i → OddSoFar (take i (edges_of ring)) p is_odd → OddSoFar (edges_of ring) p is_odd
   odd_end i is_odd all before = rw (sym all, take_all_edges ring) at before

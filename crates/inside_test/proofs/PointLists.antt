@@ -9,7 +9,7 @@ use Rattle.plane.proofs.Points.{same_sym, whole_is_point}
 use Rattle.plane.proofs.Segments.{on_first_end, on_last_end}
 use Rattle.plane.specs.Point.{IsPoint, IsSame, Point, Triple, whole}
 use Rattle.rings.specs.Ring.{vertex}
-use Rattle.inside_test.specs.Block.{MissesEdges}
+use Rattle.inside_test.specs.Apart.{MissesEdges}
 use Rattle.inside_test.specs.Breakpoints.{EnclosesAll, ExtendsOnSegment, IsListed, IsPointOn, Lists, ListsMeetings, breakpoint_points}
 use Rattle.inside_test.specs.declared.breakpoint.Breakpoint.{Breakpoint}
 

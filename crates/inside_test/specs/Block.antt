@@ -1,11 +1,8 @@
--- The points of a box, all to one side of a rational point, and edges in a box apart from a segment. This project's own. No public clause cites this module.
-use Rattle.std.specs.Prelude.{◌⊎◌, ◌*ℤ◌, ◌<ℤ◌, ◌<◌, ◌≤◌, ◌+◌, ℕ, List}
-use Rattle.plane.specs.Point.{IsInBounds, Point, Triple, whole}
-use Rattle.plane.specs.Segment.{Meet}
-use Rattle.rings.specs.Ring.{vertex}
+-- The points of a box, all to one side of a rational point. This project's own. No public clause cites this module.
+use Rattle.std.specs.Prelude.{◌⊎◌, ◌*ℤ◌, ◌<ℤ◌}
+use Rattle.plane.specs.Point.{IsInBounds, Point, Triple}
 use Rattle.exact_plane.specs.Boxes.{Encloses}
 use Rattle.exact_plane.specs.declared.bounding_box.BoundingBox.{BoundingBox}
-use Rattle.ring_check.specs.declared.boxes.BoxedEdges.{BoxedEdges}
 
 -- a property of all points of the box
 abbrev pub OfAllEnclosed : BoundingBox → (Point → Type 0) → Type 0
@@ -35,15 +32,3 @@ IsBoxMissed b p = IsBoxOffHeight b p ⊎ IsBoxLeft b p
 -- each edge in the box is crossed exactly where one of its ends is above the point, and has it not on it
 abbrev pub IsBoxPassed : BoundingBox → Triple → Type 0
 IsBoxPassed b p = IsBoxOffHeight b p ⊎ IsBoxRight b p
-
--- each of the four boxes has a property
-pub record IsEachBox (edges : BoxedEdges) (P : BoundingBox → Type 0) : Type 0 where
-  pub eastward : P edges.eastward
-  pub northward : P edges.northward
-  pub westward : P edges.westward
-  pub southward : P edges.southward
-
--- the segment from a to b meets none of the edges from number `first` to before `end`
-abbrev pub MissesEdges : List Point → ℕ → ℕ → Point → Point → Type 0
-MissesEdges ring first end a b =
-    (k : ℕ) → first ≤ k → k < end → ¬ Meet (whole a) (whole b) (whole (vertex ring k)) (whole (vertex ring (k + 1)))

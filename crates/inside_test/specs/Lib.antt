@@ -1,5 +1,8 @@
+pub mod Apart
 pub mod Block
 pub mod Breakpoints
+pub mod Bundle
 pub mod Level
 pub mod Meeting
 pub mod Odd
+pub mod Runs

@@ -1,12 +1,15 @@
 // A rational number among the whole numbers, and a rational point among the vertices.
 ghost use Rattle.std.specs.Int.{int_div_euclid};
-ghost use Rattle.std.specs.Prelude.{◌≡◌, ◌↔◌, ◌+◌, ◌<◌, ◌≤◌, ◌^◌, ◌<ℤ◌, ◌≤ℤ◌, ◌*ℤ◌, ℤ, IsTrue, pos, unsigned_abs};
+ghost use Rattle.std.specs.Prelude.{◌≡◌, ◌↔◌, ◌+◌, ◌<◌, ◌≤◌, ◌^◌, ◌<ℤ◌, ◌≤ℤ◌, ◌*ℤ◌, ℤ, IfSome, IsTrue, pos, unsigned_abs};
 ghost use Rattle.plane.specs.Point.{IsInLimit, IsPoint, IsSame, Triple, whole};
-ghost use Rattle.inside_test.specs.Block.{IsBoxMissed, IsBoxOffHeight, IsBoxPassed, IsBoxRight, IsEachBox};
+ghost use Rattle.inside_test.specs.Block.{IsBoxMissed, IsBoxOffHeight, IsBoxPassed, IsBoxRight};
+ghost use Rattle.inside_test.specs.Bundle.{IsTold};
 ghost use Rattle.inside_test.specs.Level.{AreLevels, IsLevel};
+ghost use Rattle.inside_test.specs.Runs.{AllTell, IsEachBox};
 
+use crate::bundle::Bundle;
+use crate::runs::Run;
 use exact_plane::{BoundingBox, Hom, Pt, Steps};
-use ring_check::BoxedEdges;
 use std::sync::ledger::Ledger;
 
 // The greatest whole number that is not above part / weight, and the least that is not below it; where they would be
@@ -52,6 +55,14 @@ impl Level {
         ensures { IsTrue result → (part weight y : ℤ) → IsLevel self.now part weight → IsInLimit y → z ≤ℤ y → part <ℤ (y *ℤ weight) }
     {
         self.floor < z as i64
+    }
+
+    // Whether it is at the first of two numbers or above it, and below the second.
+    fn is_between(&self, low: i64, high: i64) -> bool
+        ensures from { IsTrue result → (part weight y : ℤ) → IsLevel self.now part weight → IsInLimit y → y ≤ℤ low → (y *ℤ weight) ≤ℤ part }
+        ensures below { IsTrue result → (part weight y : ℤ) → IsLevel self.now part weight → IsInLimit y → high ≤ℤ y → part <ℤ (y *ℤ weight) }
+    {
+        low <= self.floor && self.floor < high
     }
 
     // Whether it is above all coordinates up to this number.
@@ -172,30 +183,49 @@ impl Levels {
         self.is_off_height(around) || self.is_left_of_all(around)
     }
 
-    // Whether it misses each of the four boxes.
-    pub(crate) fn misses_all(&self, edges: &BoxedEdges) -> bool
-        ensures { IsTrue result → (p : Triple) → AreLevels self.now p → IsEachBox edges.now (λ b. IsBoxMissed b p) }
+    // Whether an odd number of a bundle's edges is crossed, where its box and its heights tell.
+    fn odd_of(&self, bundle: &Bundle) -> Option<bool>
+        ensures { IfSome result (λ odd. (p : Triple) → AreLevels self.now p → IsTold bundle.now p odd) }
     {
-        if !self.misses(&edges.eastward) {
-            return false;
+        if self.misses(&bundle.around) {
+            return Some(false);
         }
-        if !self.misses(&edges.northward) {
-            return false;
+        if self.is_left_of_all(&bundle.around) && self.height.is_between(bundle.low, bundle.high) {
+            return Some(bundle.is_odd);
         }
-        self.misses(&edges.westward) && self.misses(&edges.southward)
+        None
+    }
+
+    // Whether an odd number of a run's edges is, where each of its bundles tells.
+    pub(crate) fn odd_of_all(&self, run: &Run) -> Option<bool>
+        ensures { IfSome result (λ odd. (p : Triple) → AreLevels self.now p → AllTell run.now p odd) }
+    {
+        let Some(east) = self.odd_of(&run.eastward) else {
+            return None;
+        };
+        let Some(north) = self.odd_of(&run.northward) else {
+            return None;
+        };
+        let Some(west) = self.odd_of(&run.westward) else {
+            return None;
+        };
+        let Some(south) = self.odd_of(&run.southward) else {
+            return None;
+        };
+        Some((east != north) != (west != south))
     }
 
     // Whether it passes each of them.
-    pub(crate) fn passes_all(&self, edges: &BoxedEdges) -> bool
-        ensures { IsTrue result → (p : Triple) → AreLevels self.now p → IsEachBox edges.now (λ b. IsBoxPassed b p) }
+    pub(crate) fn passes_all(&self, run: &Run) -> bool
+        ensures { IsTrue result → (p : Triple) → AreLevels self.now p → IsEachBox run.now (λ b. IsBoxPassed b p) }
     {
-        if !self.passes(&edges.eastward) {
+        if !self.passes(&run.eastward.around) {
             return false;
         }
-        if !self.passes(&edges.northward) {
+        if !self.passes(&run.northward.around) {
             return false;
         }
-        self.passes(&edges.westward) && self.passes(&edges.southward)
+        self.passes(&run.westward.around) && self.passes(&run.southward.around)
     }
 
     // Whether it is at the height of one.

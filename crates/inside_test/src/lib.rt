@@ -2,11 +2,15 @@
 #![tactic(auto)]
 
 mod breakpoint;
+mod bundle;
+mod bundles;
 mod crossing;
 mod level;
 mod position;
+mod runs;
 mod segment;
 mod skip;
 
 pub use position::{Position, place, place_hom};
+pub use runs::Runs;
 pub use segment::{holds_segment, holds_segment_by};

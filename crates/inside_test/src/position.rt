@@ -7,9 +7,10 @@ ghost use Rattle.inside_test.specs.Odd.{IsOddOver, IsOddTo};
 
 use crate::crossing::{Meeting, Vertex, meeting_of};
 use crate::level::Levels;
+use crate::runs::Runs;
 use crate::skip::{ByBlocks, Skip};
 use exact_plane::{BoundingBox, Hom, Pt, Steps};
-use ring_check::{RUN, Ring, Runs};
+use ring_check::{RUN, Ring};
 use std::sync::ledger::Ledger;
 
 // How many edges are looked at together.

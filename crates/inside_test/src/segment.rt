@@ -13,11 +13,12 @@ ghost use Rattle.inside_test.specs.Breakpoints.{EnclosesAll, ExtendsOnSegment, I
 
 use crate::breakpoint::Breakpoint;
 use crate::position::{BLOCK, Position, place_by};
+use crate::runs::Runs;
 use crate::skip::{ByBlocks, Skip};
 use exact_plane::{
     BoundingBox, Direction, Hom, Memory, Pt, Steps, on_segment, segments_meet, turn,
 };
-use ring_check::{Ring, Runs};
+use ring_check::Ring;
 use std::alloc::Global;
 use std::cmp::Ordering;
 use std::sync::ledger::Ledger;
@@ -26,7 +27,7 @@ use std::sync::ledger::Ledger;
 const FEW: usize = 8;
 
 // For more breakpoints than these, runs of edges pay for themselves.
-const MANY: usize = 512;
+const MANY: usize = 32;
 
 /// Whether the segment from `a` to `b` lies in the ring: each rational point of it does. It may run along edges and
 /// touch them. For n vertices, n below 2 to the power d, it takes at most 2560 n n + 3000 n (d + 2) steps: each vertex can be where
@@ -79,12 +80,12 @@ fn runs_for<'a, L: Ledger>(
     steps: &mut Steps<L>,
 ) -> Result<Option<Runs<'a>>, Memory>
     ensures runs { IfOk result (λ made. IfSome made (λ runs. runs ≡ ring.now.corners)) }
-    ensures steps { (d : ℕ) → let n = length ring.now.corners in n < 2 ^ d → steps.new ≤ steps.old + 800 * (n * (d + 4)) }
+    ensures steps { steps.new ≤ steps.old + 384 * length ring.now.corners }
 {
     if runs.is_some() || count <= MANY {
         return Ok(None);
     }
-    Ok(Some(Runs::of(alloc, ring.corners(), steps)?))
+    Ok(Some(Runs::of(alloc, ring, steps)?))
 }
 
 // The ends of the segment, and where it meets the edges, in no order.
@@ -100,7 +101,7 @@ fn breakpoints<L: Ledger>(
     ensures points { IfOk result (λ points.
         ListsMeetings ring.now.corners (length ring.now.corners) (whole a.now) (whole b.now) (breakpoint_points points.items)) }
     ensures few { IfOk result (λ points. length points.items ≤ 2 * length ring.now.corners + 2) }
-    ensures steps { (d : ℕ) → let n = length ring.now.corners in n < 2 ^ d → steps.new ≤ steps.old + (2048 * (n * d) + 1179 * n + 258) }
+    ensures steps { steps.new ≤ steps.old + (1179 * length ring.now.corners + 258) }
 {
     let mut points = Vec::with_capacity(alloc, FEW)?;
     push(&mut points, Hom::of_pt(a, steps), steps)?;
@@ -123,7 +124,7 @@ fn push_edges<L: Ledger>(
     ensures points { OnOk result
         (ListsMeetings ring.now.corners (length ring.now.corners) (whole a.now) (whole b.now) (breakpoint_points points.new.items)) }
     ensures few { OnOk result (length points.new.items ≤ length points.old.items + 2 * length ring.now.corners) }
-    ensures steps { (d : ℕ) → let n = length ring.now.corners in n < 2 ^ d → steps.new ≤ steps.old + (2048 * (n * d) + 1179 * n + 128) }
+    ensures steps { steps.new ≤ steps.old + (1179 * length ring.now.corners + 128) }
 {
     let n = ring.len();
     if n <= BLOCK {

@@ -1,15 +1,17 @@
 // Ways to pass over edges of a ring, many at a time.
-ghost use Rattle.std.specs.Prelude.{◌≡◌, ◌+◌, ◌*◌, ◌-◌, ◌<◌, ◌≤◌, ◌^◌, ℕ, IfNone, IfSome, IsTrue, List, length};
+ghost use Rattle.std.specs.List.{All};
+ghost use Rattle.std.specs.Prelude.{◌≡◌, ◌+◌, ◌*◌, ◌-◌, ◌<◌, ◌≤◌, ℕ, IfNone, IfSome, IsTrue, List, length};
 ghost use Rattle.plane.specs.Point.{Point};
 ghost use Rattle.exact_plane.specs.Boxes.{Encloses};
-ghost use Rattle.ring_check.specs.Boxes.{AreBoxed};
-ghost use Rattle.inside_test.specs.Block.{MissesEdges};
+ghost use Rattle.inside_test.specs.Apart.{MissesEdges};
 ghost use Rattle.inside_test.specs.Odd.{IsOddAhead, IsOddTo};
+ghost use Rattle.inside_test.specs.Runs.{IsRunOf};
 
 use crate::level::Levels;
 use crate::position::{BLOCK, odd_by_box};
+use crate::runs::{Run, Runs};
 use exact_plane::{BoundingBox, Pt, Steps};
-use ring_check::{BoxedEdges, Ring, Runs};
+use ring_check::{Ring, greatest_run_from, lesser_run};
 use std::sync::ledger::Ledger;
 
 // What knows of edges beforehand, so that a question need not look at each of them.
@@ -124,7 +126,7 @@ fn are_apart<L: Ledger>(
 impl<'a> Skip for Runs<'a> {
     ghost is_of = { λ runs ring. runs ≡ ring };
 
-    ghost asks = { λ runs most. (d : ℕ) × (length runs < 2 ^ d) × (2048 * d ≤ most) };
+    ghost asks = { λ _ _. Unit {0} };
 
     fn apart_to<L: Ledger>(
         &self,
@@ -135,12 +137,7 @@ impl<'a> Skip for Runs<'a> {
         around: &BoundingBox,
         steps: &mut Steps<L>,
     ) -> u32 {
-        let end = self.apart_to(first as usize, a, b, around, steps);
-        if end <= ring.len() as usize {
-            end as u32
-        } else {
-            first
-        }
+        self.apart_to(first, around)
     }
 
     fn odd_to<L: Ledger>(
@@ -150,7 +147,7 @@ impl<'a> Skip for Runs<'a> {
         levels: &Levels,
         steps: &mut Steps<L>,
     ) -> (u32, Option<bool>) {
-        match odd_by_runs(ring, self, first, levels, steps) {
+        match odd_by_runs(ring, self.all(), first, levels, steps) {
             Some((end, odd)) => (end, Some(odd)),
             None => (ring.len().min(first + BLOCK), None),
         }
@@ -161,55 +158,51 @@ impl<'a> Skip for Runs<'a> {
 // one is. It takes 128 steps where there is one, and else none.
 fn odd_by_runs<L: Ledger>(
     ring: &Ring,
-    runs: &Runs,
+    runs: &[Run],
     first: u32,
     levels: &Levels,
     steps: &mut Steps<L>,
 ) -> Option<(u32, bool)>
-    requires runs { runs.now ≡ ring.now.corners }
+    requires runs { All (IsRunOf ring.now.corners) runs.now }
     ensures ahead { IfSome result (λ found. IsOddAhead ring.now.corners levels.now first found.0 found.1) }
     ensures steps { steps.new ≤ steps.old + 128 }
     ensures steps_of_none { IfNone result (steps.new ≡ steps.old) }
 {
-    let mut next = runs.greatest_from(first as usize);
+    let mut next = greatest_run_from(runs.len(), first as usize);
     while let Some(k) = next {
-        if let Some(edges) = runs.edges(k) {
-            if let Some(found) = odd_over(ring, &edges, first, levels, steps) {
-                return Some(found);
+        if k < runs.len() {
+            if let Some(odd) = odd_over(ring, &runs[k], first, levels, steps) {
+                return Some((runs[k].end, odd));
             }
         }
-        next = runs.lesser(k);
+        next = lesser_run(runs.len(), k);
     }
     None
 }
 
-// The same over these edges, if `first` is the first of them.
+// Whether an odd number of a run's edges is crossed, if it begins at edge `first` and its boxes tell.
 fn odd_over<L: Ledger>(
     ring: &Ring,
-    edges: &BoxedEdges,
+    run: &Run,
     first: u32,
     levels: &Levels,
     steps: &mut Steps<L>,
-) -> Option<(u32, bool)>
-    requires boxed { AreBoxed ring.now.corners edges.now }
-    ensures ahead { IfSome result (λ found. IsOddAhead ring.now.corners levels.now first found.0 found.1) }
+) -> Option<bool>
+    requires run { IsRunOf ring.now.corners run.now }
+    ensures ahead { IfSome result (IsOddAhead ring.now.corners levels.now first run.now.end) }
     ensures steps { steps.new ≤ steps.old + 128 }
     ensures steps_of_none { IfNone result (steps.new ≡ steps.old) }
 {
-    if edges.first != first as usize
-        || edges.end <= edges.first
-        || edges.end > ring.len() as usize
-    {
+    if run.first != first {
         return None;
     }
-    let end = edges.end as u32;
-    if levels.misses_all(edges) {
-        return Some((end, false));
+    if let Some(odd) = levels.odd_of_all(run) {
+        return Some(odd);
     }
-    if levels.passes_all(edges) {
+    if levels.passes_all(run) {
         let begins_above = levels.is_below(&ring.corner(first), steps);
-        let ends_above = levels.is_below(&ring.next(end - 1), steps);
-        return Some((end, begins_above != ends_above));
+        let ends_above = levels.is_below(&ring.next(run.end - 1), steps);
+        return Some(begins_above != ends_above);
     }
     None
 }

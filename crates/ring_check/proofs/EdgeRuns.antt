@@ -6,10 +6,9 @@ use Rattle.plane.specs.Segment.{Meet}
 use Rattle.rings.specs.Ring.{vertex}
 use Rattle.rings.specs.Simple.{Clash, HasEqualEnds}
 use Rattle.ring_check.proofs.SharedPoints.{meet_of_shared}
-use Rattle.ring_check.specs.Boxes.{AreBoxed, EnclosesEdge, IsApartFrom, IsApartOver}
+use Rattle.ring_check.specs.Boxes.{IsApartFrom, IsApartOver}
 use Rattle.ring_check.specs.Covers.{CoversEdge, IsInCover}
 use Rattle.ring_check.specs.Runs.{IsCovered, IsRun}
-use Rattle.ring_check.specs.declared.boxes.BoxedEdges.{BoxedEdges}
 use Rattle.ring_check.specs.declared.cover.Cover.{Cover}
 use Rattle.ring_check.specs.declared.runs.Run.{Run}
 
@@ -72,20 +71,3 @@ clear_of_apart ring i l differ h clash = elim clash [
   | inr (inl equal) ↦ h.differ equal
   | inr (inr shared) ↦ h.apart (meet_of_shared ring i l shared)
 ]
-
--- what is in a cover is in its box
-enclosed_of_covered : (ring : List Point) (cover : Cover) (e : ℕ) → CoversEdge ring cover e → EnclosesEdge ring cover.bounds e
-enclosed_of_covered ring cover e h =
-    record { from_bounds = h.from.in_bounds; to_bounds = h.to.in_bounds; from = h.from.in_box; to = h.to.in_box }
-
--- so the edges of a run are in the boxes of its covers
-pub boxed_of_run : (ring : List Point) (run : Run) (edges : BoxedEdges) → IsRun ring run → edges.first ≡ run.first → edges.end ≡ run.end
-    → edges.eastward ≡ run.eastward.bounds → edges.northward ≡ run.northward.bounds → edges.westward ≡ run.westward.bounds
-    → edges.southward ≡ run.southward.bounds → AreBoxed ring edges
-boxed_of_run ring run edges is_run first end east north west south e above below =
-    rw (east, north, west, south) (elim (is_run.edges e (rw first at above) (rw end at below)) [
-      | inl h ↦ inl (enclosed_of_covered ring run.eastward e h)
-      | inr (inl h) ↦ inr (inl (enclosed_of_covered ring run.northward e h))
-      | inr (inr (inl h)) ↦ inr (inr (inl (enclosed_of_covered ring run.westward e h)))
-      | inr (inr (inr h)) ↦ inr (inr (inr (enclosed_of_covered ring run.southward e h)))
-    ])

@@ -1,12 +1,11 @@
 -- Bounding boxes of edges, and edges apart from a segment. This project's own.
-use Rattle.std.specs.Prelude.{ℕ, ◌+◌, ◌<◌, ◌≤◌, ◌⊎◌, List}
+use Rattle.std.specs.Prelude.{ℕ, ◌+◌, ◌<◌, ◌≤◌, List}
 use Rattle.plane.specs.Point.{IsInBounds, Point, whole}
 use Rattle.plane.specs.Segment.{Meet}
 use Rattle.rings.specs.Ring.{vertex}
 use Rattle.rings.specs.Simple.{HasEqualEnds}
 use Rattle.exact_plane.specs.Boxes.{Encloses}
 use Rattle.exact_plane.specs.declared.bounding_box.BoundingBox.{BoundingBox}
-use Rattle.ring_check.specs.declared.boxes.BoxedEdges.{BoxedEdges}
 
 -- both ends of edge e are within the limits and in the box
 pub record EnclosesEdge (ring : List Point) (box : BoundingBox) (e : ℕ) : Type 0 where
@@ -14,16 +13,6 @@ pub record EnclosesEdge (ring : List Point) (box : BoundingBox) (e : ℕ) : Type
   pub to_bounds : IsInBounds (vertex ring (e + 1))
   pub from : Encloses box (vertex ring e)
   pub to : Encloses box (vertex ring (e + 1))
-
--- edge e is in one of the boxes
-abbrev pub IsBoxed : List Point → BoxedEdges → ℕ → Type 0
-IsBoxed ring edges e =
-    EnclosesEdge ring edges.eastward e ⊎ EnclosesEdge ring edges.northward e
-    ⊎ EnclosesEdge ring edges.westward e ⊎ EnclosesEdge ring edges.southward e
-
--- each of them is
-abbrev pub AreBoxed : List Point → BoxedEdges → Type 0
-AreBoxed ring edges = (e : ℕ) → edges.first ≤ e → e < edges.end → IsBoxed ring edges e
 
 -- the segment from p to q does not meet edge e, which has two ends
 pub record IsApartFrom (ring : List Point) (e : ℕ) (p q : Point) : Type 0 where

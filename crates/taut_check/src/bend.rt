@@ -11,7 +11,8 @@ ghost use Rattle.taut_check.specs.Verdict.{HasNoTurn, IsOnWrongSide};
 
 use crate::chain::point;
 use exact_plane::{BoundingBox, Direction, Pt, Steps, in_cone, order, turn};
-use ring_check::{RUN, Ring, Runs};
+use inside_test::Runs;
+use ring_check::{RUN, Ring};
 use std::cmp::Ordering;
 use std::sync::ledger::Ledger;
 
@@ -23,7 +24,7 @@ pub fn is_inner(points: &[Pt], k: usize) -> bool
     0 < k && k < points.len() - 1
 }
 
-// The number of the reflex vertex that is this point, if there is one. It takes at most 2048 d + 66 steps a vertex.
+// The number of the reflex vertex that is this point, if there is one. It takes at most 66 steps a vertex.
 pub fn reflex_vertex<L: Ledger>(
     ring: &Ring,
     runs: Option<&Runs>,
@@ -35,7 +36,7 @@ pub fn reflex_vertex<L: Ledger>(
     ensures vertex { IfSome result (λ i. vertex ring.now.corners i ≡ p.now) }
     ensures reflex { IfSome result (λ i. IsReflex ring.now.corners i) }
     ensures none { IfNone result (¬ IsReflexVertex ring.now.corners p.now) }
-    ensures steps { (d : ℕ) → let n = length ring.now.corners in n < 2 ^ d → steps.new ≤ steps.old + (2048 * d + 66) * n }
+    ensures steps { steps.new ≤ steps.old + 66 * length ring.now.corners }
 {
     let n = ring.len();
     let mut first = 0;
@@ -62,16 +63,16 @@ fn passed_to<L: Ledger>(
     ensures later { first < result.0 }
     ensures within { result.0 ≤ length ring.now.corners }
     ensures apart { IsTrue result.1 → IsNoReflexFrom ring.now.corners first result.0 p.now }
-    ensures steps { (d : ℕ) → length ring.now.corners < 2 ^ d → steps.new ≤ steps.old + (2048 * d + 64) }
+    ensures steps { steps.new ≤ steps.old + 64 }
 {
     let n = ring.len();
     let Some(runs) = runs else {
         return (n, false);
     };
     let around = BoundingBox::of(&[*p], steps);
-    let apart = runs.apart_to(first as usize, p, p, &around, steps);
-    if (first as usize) < apart && apart <= n as usize {
-        (apart as u32, true)
+    let apart = runs.apart_to(first, &around);
+    if first < apart {
+        (apart, true)
     } else {
         (n.min(first + RUN as u32), false)
     }

@@ -7,8 +7,8 @@ ghost use Rattle.taut_check.specs.Found.{IsSeenAt};
 ghost use Rattle.taut_check.specs.Verdict.{IsLeaving, IsRepeat};
 
 use exact_plane::{Memory, Pt, Steps, order};
-use inside_test::{Position, holds_segment_by, place};
-use ring_check::{Ring, Runs};
+use inside_test::{Position, Runs, holds_segment_by, place};
+use ring_check::Ring;
 use std::alloc::Global;
 use std::cmp::Ordering;
 use std::sync::ledger::Ledger;

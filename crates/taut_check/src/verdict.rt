@@ -7,7 +7,8 @@ ghost use Rattle.taut_check.specs.Verdict.{IsVerdict};
 use crate::bend::{has_no_turn, is_inner, is_on_wrong_side, reflex_vertex};
 use crate::chain::{is_leaving, is_repeat, point};
 use exact_plane::{Memory, Pt, Steps};
-use ring_check::{Ring, Runs};
+use inside_test::Runs;
+use ring_check::Ring;
 use std::alloc::Global;
 use std::sync::ledger::Ledger;
 
@@ -33,9 +34,9 @@ pub enum Verdict {
 }
 
 // In a ring of more vertices than `LONG`, runs of edges pay for themselves for more points than `MANY`.
-const MANY: usize = 192;
+const MANY: usize = 8;
 
-const LONG: u32 = 1024;
+const LONG: u32 = 256;
 
 /// The verdict on a list of points. For n vertices, n below 2 to the power d, it takes at most 2560 n n + 5100 n (d + 2) steps a
 /// point, and 800 n (d + 4) more.
@@ -68,7 +69,7 @@ fn verdict_on<L: Ledger>(
     ensures verdict { IfOk result (IsVerdict ring.now.corners chain.now) }
     ensures bent { IfOk result (λ verdict. (verdict ≡ Verdict.Taut) ↔ IsBentChain ring.now.corners chain.now) }
     ensures steps { (d : ℕ) → let n = length ring.now.corners in n < 2 ^ d
-        → steps.new ≤ steps.old + ((2560 * (n * n) + 5048 * (n * d) + 6066 * n + 73) * length chain.now + 800 * (n * (d + 4))) }
+        → steps.new ≤ steps.old + ((2560 * (n * n) + 3000 * (n * d) + 6066 * n + 73) * length chain.now + 800 * (n * (d + 4))) }
 {
     if chain.is_empty() {
         return Ok(Verdict::Empty);
@@ -91,12 +92,12 @@ fn runs_for<'a, L: Ledger>(
     steps: &mut Steps<L>,
 ) -> Result<Option<Runs<'a>>, Memory>
     ensures runs { IfOk result (λ made. IfSome made (λ runs. runs ≡ ring.now.corners)) }
-    ensures steps { (d : ℕ) → let n = length ring.now.corners in n < 2 ^ d → steps.new ≤ steps.old + 800 * (n * (d + 4)) }
+    ensures steps { steps.new ≤ steps.old + 384 * length ring.now.corners }
 {
     if chain.len() <= MANY || ring.len() <= LONG {
         return Ok(None);
     }
-    Ok(Some(Runs::of(alloc, ring.corners(), steps)?))
+    Ok(Some(Runs::of(alloc, ring, steps)?))
 }
 
 // The first rule that is broken at place `k`, if one is.
@@ -114,7 +115,7 @@ fn verdict_at<L: Ledger>(
     requires seen { IsSeenAt ring.now.corners chain.now k }
     ensures found { IfOk result (IsFoundAt ring.now.corners chain.now k) }
     ensures steps { (d : ℕ) → let n = length ring.now.corners in n < 2 ^ d
-        → steps.new ≤ steps.old + (2560 * (n * n) + 5048 * (n * d) + 6066 * n + 73) }
+        → steps.new ≤ steps.old + (2560 * (n * n) + 3000 * (n * d) + 6066 * n + 73) }
 {
     let place = k as u32;
     if is_repeat(chain, k, steps) {

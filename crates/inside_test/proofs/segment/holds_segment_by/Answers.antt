@@ -35,8 +35,8 @@ returns-clause-steps g c = λ d below.
     omega (
       arith,
       c.len-ring_has_vertices.ensures.size.0,
-      c.breakpoints.ensures.steps d below,
-      c.runs_for.ensures.steps d below,
+      c.breakpoints.ensures.steps,
+      c.runs_for.ensures.steps,
       c.holds_mediants.ensures.steps,
       passed_fewer each count (2 * n + 1) fewer,
     )

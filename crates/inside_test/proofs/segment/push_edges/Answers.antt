@@ -1,4 +1,4 @@
-use Rattle.std.proofs.Common.{◌*◌, ap, arith, length}
+use Rattle.std.proofs.Common.{arith}
 use Rattle.rings.specs.Ring.{origin}
 use Rattle.inside_test.proofs.segment.push_edges.Goals as goal
 
@@ -15,10 +15,7 @@ pub push_with-requires-in-None-clause-has_last : goal.push_with-requires-in-None
 push_with-requires-in-None-clause-has_last g c = c.of-around.ensures.within 1 (omega arith) origin
 
 pub returns-in-Some-clause-steps : goal.returns-in-Some-clause-steps
-returns-in-Some-clause-steps g c = λ d below.
-    let same = ap length (rw c.in-Some.is at c.requires.runs) in
-    omega (arith, c.of-around.ensures.steps, c.push_with.ensures.steps (2048 * d) (d, omega (arith, same, below), omega arith))
+returns-in-Some-clause-steps g c = omega (arith, c.of-around.ensures.steps, c.push_with.ensures.steps 0 tt)
 
 pub returns-in-None-clause-steps : goal.returns-in-None-clause-steps
-returns-in-None-clause-steps g c = λ d below.
-    omega (arith, c.of-around.ensures.steps, c.push_with-in-None.ensures.steps 1024 (omega arith))
+returns-in-None-clause-steps g c = omega (arith, c.of-around.ensures.steps, c.push_with-in-None.ensures.steps 1024 (omega arith))

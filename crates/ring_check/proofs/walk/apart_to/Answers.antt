@@ -7,8 +7,8 @@ use Rattle.ring_check.proofs.walk.apart_to.Goals.{then-k-runs+then-runs-k+else-i
 pub loop-next-init : goal.loop-next-init
 loop-next-init g c = (
   0,
-  none_asked (length c.args.runs.now) c.greatest_from-next.result,
-  none_of_those c.args.runs.now c.args.first c.greatest_from-next.result,
+  none_asked (length c.args.runs.now) c.greatest_run_from-next.result,
+  none_of_those c.args.runs.now c.args.first c.greatest_run_from-next.result,
   omega arith,
 )
 
@@ -34,19 +34,19 @@ loop-next-preserved g c =
     let (asked, before, before_those, steps) = c.loop-next.invariant in
     let is = subst (IsAsked count asked) c.in-Some.is before in
     let are = subst (AreThose runs c.args.first asked) c.in-Some.is before_those in
-    let behind = c.lesser-next.ensures.behind in
-    let number = c.lesser-next.ensures.number in
+    let behind = c.lesser_run-next.ensures.behind in
+    let number = c.lesser_run-next.ensures.number in
     elim c.if-k-runs.branch [
       | then-k-runs+then-runs-k+else-is_apart w ↦ (
         asked + 1,
-        asked_more count asked c.in-Some.k c.lesser-next.result is w.if-k-runs.true behind,
-        those_more runs c.args.first asked c.in-Some.k w.index-runs-k.result c.lesser-next.result are w.if-k-runs.true w.if-runs-k.true number,
+        asked_more count asked c.in-Some.k c.lesser_run-next.result is w.if-k-runs.true behind,
+        those_more runs c.args.first asked c.in-Some.k w.index-runs-k.result c.lesser_run-next.result are w.if-k-runs.true w.if-runs-k.true number,
         omega (arith, steps, w.steps-is, w.is_apart.ensures.steps),
       )
       | else-k-runs w ↦ (
         asked,
-        asked_same count asked c.in-Some.k c.lesser-next.result is behind,
-        those_same runs c.args.first asked c.in-Some.k c.lesser-next.result are number,
+        asked_same count asked c.in-Some.k c.lesser_run-next.result is behind,
+        those_same runs c.args.first asked c.in-Some.k c.lesser_run-next.result are number,
         omega (arith, steps, w.steps-is),
       )
     ]

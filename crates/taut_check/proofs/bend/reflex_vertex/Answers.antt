@@ -1,4 +1,4 @@
-use Rattle.std.proofs.Common.{◌+◌, ◌*◌, length, arith}
+use Rattle.std.proofs.Common.{length, arith}
 use Rattle.inside_test.proofs.Passing.{passed_fewer, passed_more}
 use Rattle.taut_check.proofs.PassedVertices.{none_of_both}
 use Rattle.taut_check.proofs.bend.reflex_vertex.Goals as goal
@@ -10,36 +10,36 @@ loop-first-preserved g c =
     record {
       none = none_of_both c.args.ring.now.corners c.loop-first.first c.passed_to-end.result.0 c.args.p.now before.none c.in_default.ensures.none;
       within = to_end.within;
-      steps = λ d below. omega (
+      steps = omega (
         arith,
-        before.steps d below,
-        to_end.steps d below,
+        before.steps,
+        to_end.steps,
         c.reflex_vertex_among.ensures.steps,
         to_end.later,
-        passed_more (2048 * d + 64) 2 c.loop-first.first c.passed_to-end.result.0 to_end.later,
+        passed_more 64 2 c.loop-first.first c.passed_to-end.result.0 to_end.later,
       );
     }
 
 pub returns-in-Some-clause-steps : goal.returns-in-Some-clause-steps
-returns-in-Some-clause-steps g c = λ d below.
+returns-in-Some-clause-steps g c =
     let to_end = c.passed_to-end.ensures in
     omega (
       arith,
-      c.loop-first.invariant.steps d below,
-      to_end.steps d below,
+      c.loop-first.invariant.steps,
+      to_end.steps,
       c.reflex_vertex_among.ensures.steps,
       to_end.later,
-      passed_more (2048 * d + 64) 2 c.loop-first.first c.passed_to-end.result.0 to_end.later,
-      passed_fewer (2048 * d + 66) c.passed_to-end.result.0 (length c.args.ring.now.corners) to_end.within,
+      passed_more 64 2 c.loop-first.first c.passed_to-end.result.0 to_end.later,
+      passed_fewer 66 c.passed_to-end.result.0 (length c.args.ring.now.corners) to_end.within,
     )
 
 pub returns-clause-none : goal.returns-clause-none
 returns-clause-none g c = λ v. c.loop-first.invariant.none v.i (omega arith) (omega (arith, v.in_ring)) (v.is_vertex, v.reflex)
 
 pub returns-clause-steps : goal.returns-clause-steps
-returns-clause-steps g c = λ d below.
+returns-clause-steps g c =
     omega (
       arith,
-      c.loop-first.invariant.steps d below,
-      passed_fewer (2048 * d + 66) c.loop-first.first (length c.args.ring.now.corners) c.loop-first.invariant.within,
+      c.loop-first.invariant.steps,
+      passed_fewer 66 c.loop-first.first (length c.args.ring.now.corners) c.loop-first.invariant.within,
     )

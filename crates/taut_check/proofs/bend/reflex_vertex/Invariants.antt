@@ -1,4 +1,4 @@
-use Rattle.std.proofs.Common.{ℕ, ◌+◌, ◌*◌, ◌^◌, ◌<◌, ◌≤◌, ◌-◌, length}
+use Rattle.std.proofs.Common.{◌+◌, ◌*◌, ◌≤◌, ◌-◌, length}
 use Rattle.taut_check.proofs.bend.reflex_vertex.Given as goal
 use Rattle.taut_check.specs.Found.{IsNoReflexFrom}
 
@@ -6,7 +6,7 @@ abbrev pub invariant-loop-first : goal.invariant-loop-first
 invariant-loop-first g l = record {
   none : IsNoReflexFrom l.ring.corners 0 l.first l.p;
   within : l.first ≤ length l.ring.corners;
-  steps : (d : ℕ) → length l.ring.corners < 2 ^ d → l.steps ≤ l.fn.steps + (2048 * d + 66) * l.first;
+  steps : l.steps ≤ l.fn.steps + 66 * l.first;
 }
 
 abbrev pub decreases-loop-first : goal.decreases-loop-first

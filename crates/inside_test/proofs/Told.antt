@@ -1,0 +1,264 @@
+-- What bundles of edges tell of a point: an edge that passes its height, right of it, is crossed, and so many are of two bundles together.
+use Rattle.std.proofs.Common.{◌≡◌, inl, inr, refl, sym, ap, subst, ◌∙◌, ℕ, ◌+◌, ◌<◌, ℤ, ◌*ℤ◌, ◌<ℤ◌, Bool, true, false, List, length, arith}
+use Rattle.std.proofs.lemmas.Bool.{cases_lt}
+use Rattle.std.proofs.lemmas.Int.{ints}
+use Rattle.std.specs.Bool.{beq}
+use Rattle.std.specs.Int.Signed.{lt_z}
+use Rattle.std.specs.Prelude.{◌≤ℤ◌, not}
+use Rattle.plane.specs.Point.{IsPoint, Point, Triple}
+use Rattle.rings.specs.Ring.{vertex}
+use Rattle.ring_check.specs.Boxes.{EnclosesEdge}
+use Rattle.inside_test.proofs.Blocks.{IsPassed, is_between_ends, passed_above, passed_below, passed_left, passed_right}
+use Rattle.inside_test.proofs.Odd.{over_both, over_more, over_none}
+use Rattle.inside_test.specs.Block.{IsBoxMissed}
+use Rattle.inside_test.specs.Bundle.{CrossesAll, IsBundleOf, IsBundleOfBoth, IsTold, IsWider}
+use Rattle.inside_test.specs.Odd.{IsOddOver}
+use Rattle.inside_test.specs.Runs.{AllTell, IsBoxed, IsRunOf}
+use Rattle.inside_test.specs.declared.bundle.Bundle.{Bundle}
+use Rattle.inside_test.specs.declared.runs.Run.{Run}
+
+-- whether two flags differ
+abbrev pub differ : Bool → Bool → Bool
+differ a b = not (beq a b)
+
+-- ---- one edge
+
+-- where one end of an edge is above a height and the other is not, the edge passes it
+passes_up : (a b y : ℤ) → a ≤ℤ y → y <ℤ b → is_between_ends (lt_z y a) (lt_z y b) ≡ true
+passes_up a b y h k = grind (arith, ints)
+
+passes_down : (a b y : ℤ) → b ≤ℤ y → y <ℤ a → is_between_ends (lt_z y a) (lt_z y b) ≡ true
+passes_down a b y h k = grind (arith, ints)
+
+module _ (b : Bundle) (u v : Point) (is : IsBundleOf b u v) (p : Triple) (at_p : IsPoint p) where
+  -- an edge in a box that the ray misses is not crossed,
+  edge_missed : IsBoxMissed b.around p → IsPassed u v p false
+  edge_missed (inl (inl above)) = passed_above u v p at_p (above u is.first_bounds is.first) (above v is.last_bounds is.last)
+  edge_missed (inl (inr below)) = passed_below u v p at_p (below u is.first_bounds is.first) (below v is.last_bounds is.last)
+  edge_missed (inr left) = passed_left u v p at_p (left u is.first_bounds is.first) (left v is.last_bounds is.last)
+
+  -- and one that passes the height of a point, right of it, is
+  edge_beside : CrossesAll b p → IsPassed u v p true
+  edge_beside beside =
+      subst (IsPassed u v p)
+      (elim is.heights [
+        | inl up ↦ passes_up (u.y *ℤ p.W) (v.y *ℤ p.W) p.Y (beside.low u.y is.first_bounds.y_in_limit up.0) (beside.high v.y is.last_bounds.y_in_limit up.1)
+        | inr down ↦ passes_down (u.y *ℤ p.W) (v.y *ℤ p.W) p.Y (beside.low v.y is.last_bounds.y_in_limit down.0) (beside.high u.y is.first_bounds.y_in_limit down.1)
+      ])
+      (passed_right u v p at_p (beside.right u is.first_bounds is.first) (beside.right v is.last_bounds is.last))
+
+  -- so the bundle of an edge tells whether it is crossed
+  pub edge_told : (odd : Bool) → IsTold b p odd → IsPassed u v p odd
+  edge_told odd (inl missed) = subst (IsPassed u v p) (sym missed.1) (edge_missed missed.0)
+  edge_told odd (inr beside) = subst (IsPassed u v p) (sym (beside.1 ∙ is.odd)) (edge_beside beside.0)
+
+-- a bundle of an even number of edges tells that an even number is crossed
+pub even_told : (b : Bundle) (p : Triple) (odd : Bool) → b.is_odd ≡ false → IsTold b p odd → odd ≡ false
+even_told b p odd even (inl missed) = missed.1
+even_told b p odd even (inr beside) = beside.1 ∙ even
+
+-- ---- two bundles
+
+-- what the two tell, where the third has the edges of both
+pub record AreBothTold (a b : Bundle) (p : Triple) (odd : Bool) : Type 0 where
+  pub first : Bool
+  pub second : Bool
+  pub first_told : IsTold a p first
+  pub second_told : IsTold b p second
+  pub both : odd ≡ differ first second
+
+module _ (a c : Bundle) (wider : IsWider a c) (p : Triple) where
+  -- the ray misses a box in another that it misses,
+  missed_within : IsBoxMissed c.around p → IsBoxMissed a.around p
+  missed_within (inl (inl above)) = inl (inl (λ v limits within. above v limits (wider.box v within)))
+  missed_within (inl (inr below)) = inl (inr (λ v limits within. below v limits (wider.box v within)))
+  missed_within (inr left) = inr (λ v limits within. left v limits (wider.box v within))
+
+  -- and edges pass the heights that more of them pass
+  beside_within : CrossesAll c p → CrossesAll a p
+  beside_within beside = record {
+    right = λ v limits within. beside.right v limits (wider.box v within);
+    low = λ y limit below. beside.low y limit (omega (arith, ints, below, wider.low));
+    high = λ y limit above. beside.high y limit (omega (arith, ints, above, wider.high));
+  }
+
+pub both_told : (a b c : Bundle) → IsBundleOfBoth a b c → (p : Triple) (odd : Bool) → IsTold c p odd → AreBothTold a b p odd
+both_told a b c is p odd (inl missed) = record {
+  first = false;
+  second = false;
+  first_told = inl (missed_within a c is.first p missed.0, refl);
+  second_told = inl (missed_within b c is.second p missed.0, refl);
+  both = missed.1;
+}
+both_told a b c is p odd (inr beside) = record {
+  first = a.is_odd;
+  second = b.is_odd;
+  first_told = inr (beside_within a c is.first p beside.0, refl);
+  second_told = inr (beside_within b c is.second p beside.0, refl);
+  both = beside.1 ∙ is.odd;
+}
+
+-- ---- runs
+
+-- two pairs of flags, the other way round
+interchange : (a b c d : Bool) → differ (differ a b) (differ c d) ≡ differ (differ a c) (differ b d)
+interchange true true true true = refl
+interchange true true true false = refl
+interchange true true false true = refl
+interchange true true false false = refl
+interchange true false true true = refl
+interchange true false true false = refl
+interchange true false false true = refl
+interchange true false false false = refl
+interchange false true true true = refl
+interchange false true true false = refl
+interchange false true false true = refl
+interchange false true false false = refl
+interchange false false true true = refl
+interchange false false true false = refl
+interchange false false false true = refl
+interchange false false false false = refl
+
+-- whether four flags are an odd number
+abbrev pub differ_all : Bool → Bool → Bool → Bool → Bool
+differ_all a b c d = differ (differ a b) (differ c d)
+
+-- four flags and four others
+four_and_four : (a b c d e f g h : Bool) → differ_all (differ a e) (differ b f) (differ c g) (differ d h) ≡ differ (differ_all a b c d) (differ_all e f g h)
+four_and_four a b c d e f g h =
+    ap (λ x. differ x (differ (differ c g) (differ d h))) (interchange a e b f)
+    ∙ ap (λ x. differ (differ (differ a b) (differ e f)) x) (interchange c g d h)
+    ∙ interchange (differ a b) (differ e f) (differ c d) (differ g h)
+
+-- an edge in a box is in a wider one,
+edge_wider : (ring : List Point) (e : ℕ) (x y : Bundle) → IsWider x y → EnclosesEdge ring x.around e → EnclosesEdge ring y.around e
+edge_wider ring e x y wider h = record {
+  from_bounds = h.from_bounds;
+  to_bounds = h.to_bounds;
+  from = wider.box _ h.from;
+  to = wider.box _ h.to;
+}
+
+-- and in one of four boxes where each is wider
+boxed_wider : (ring : List Point) (a c : Run) (e : ℕ) → IsWider a.eastward c.eastward → IsWider a.northward c.northward
+    → IsWider a.westward c.westward → IsWider a.southward c.southward → IsBoxed ring a e → IsBoxed ring c e
+boxed_wider ring a c e east north west south within = elim within [
+  | inl h ↦ inl (edge_wider ring e a.eastward c.eastward east h)
+  | inr (inl h) ↦ inr (inl (edge_wider ring e a.northward c.northward north h))
+  | inr (inr (inl h)) ↦ inr (inr (inl (edge_wider ring e a.westward c.westward west h)))
+  | inr (inr (inr h)) ↦ inr (inr (inr (edge_wider ring e a.southward c.southward south h)))
+]
+
+module _ (ring : List Point) (a b c : Run) (in_a : IsRunOf ring a) (in_b : IsRunOf ring b) (next : b.first ≡ a.end) (first : c.first ≡ a.first) (end : c.end ≡ b.end)
+    (east : IsBundleOfBoth a.eastward b.eastward c.eastward) (north : IsBundleOfBoth a.northward b.northward c.northward)
+    (west : IsBundleOfBoth a.westward b.westward c.westward) (south : IsBundleOfBoth a.southward b.southward c.southward) where
+  -- what the bundles of two runs tell together is so
+  told_of_both : (p : Triple) (odd : Bool) → IsPoint p → AllTell c p odd → IsOddOver ring c.first c.end p odd
+  told_of_both p odd at_p told =
+      let e = both_told a.eastward b.eastward c.eastward east p told.east told.eastward in
+      let n = both_told a.northward b.northward c.northward north p told.north told.northward in
+      let w = both_told a.westward b.westward c.westward west p told.west told.westward in
+      let s = both_told a.southward b.southward c.southward south p told.south told.southward in
+      let one : AllTell a p (differ_all e.first n.first w.first s.first) = record {
+        east = e.first;
+        north = n.first;
+        west = w.first;
+        south = s.first;
+        eastward = e.first_told;
+        northward = n.first_told;
+        westward = w.first_told;
+        southward = s.first_told;
+        all = refl;
+      } in
+      let other : AllTell b p (differ_all e.second n.second w.second s.second) = record {
+        east = e.second;
+        north = n.second;
+        west = w.second;
+        south = s.second;
+        eastward = e.second_told;
+        northward = n.second_told;
+        westward = w.second_told;
+        southward = s.second_told;
+        all = refl;
+      } in
+      let sum : odd ≡ differ (differ_all e.first n.first w.first s.first) (differ_all e.second n.second w.second s.second) =
+      told.all ∙ ap (λ x. differ_all x told.north told.west told.south) e.both
+      ∙ ap (λ x. differ_all (differ e.first e.second) x told.west told.south) n.both
+      ∙ ap (λ x. differ_all (differ e.first e.second) (differ n.first n.second) x told.south) w.both
+      ∙ ap (λ x. differ_all (differ e.first e.second) (differ n.first n.second) (differ w.first w.second) x) s.both
+      ∙ four_and_four e.first n.first w.first s.first e.second n.second w.second s.second in
+      let after : IsOddOver ring a.end b.end p (differ_all e.second n.second w.second s.second) =
+      subst (λ k. IsOddOver ring k b.end p (differ_all e.second n.second w.second s.second)) next (in_b.told p _ at_p other) in
+      rw (first, end) (subst (IsOddOver ring a.first b.end p) (sym sum) (over_both ring p a.first a.end b.end _ _ (in_a.told p _ at_p one) after))
+
+  -- so two runs make one
+  pub run_of_both : IsRunOf ring c
+  run_of_both = record {
+    some = omega (arith, in_a.some, in_b.some, next, first, end);
+    within = omega (arith, in_b.within, end);
+    boxed = λ e from below. elim (cases_lt e a.end) [
+      | inl earlier ↦ boxed_wider ring a c e east.first north.first west.first south.first (in_a.boxed e (omega (arith, from, first)) earlier)
+      | inr later ↦ boxed_wider ring b c e east.second north.second west.second south.second (in_b.boxed e (omega (arith, later, next)) (omega (arith, below, end)))
+    ];
+    told = told_of_both;
+  }
+
+-- one flag, where the others are not set
+alone_first : (a b c d : Bool) → b ≡ false → c ≡ false → d ≡ false → differ_all a b c d ≡ a
+alone_first true b c d h k l = rw (h, k, l) refl
+alone_first false b c d h k l = rw (h, k, l) refl
+
+alone_second : (a b c d : Bool) → a ≡ false → c ≡ false → d ≡ false → differ_all a b c d ≡ b
+alone_second a true c d h k l = rw (h, k, l) refl
+alone_second a false c d h k l = rw (h, k, l) refl
+
+alone_third : (a b c d : Bool) → a ≡ false → b ≡ false → d ≡ false → differ_all a b c d ≡ c
+alone_third a b true d h k l = rw (h, k, l) refl
+alone_third a b false d h k l = rw (h, k, l) refl
+
+alone_last : (a b c d : Bool) → a ≡ false → b ≡ false → c ≡ false → differ_all a b c d ≡ d
+alone_last a b c true h k l = rw (h, k, l) refl
+alone_last a b c false h k l = rw (h, k, l) refl
+
+not_unset : (odd : Bool) → not (beq false odd) ≡ odd
+not_unset true = refl
+not_unset false = refl
+
+module _ (ring : List Point) (run : Run) (e : ℕ) (within : e < length ring) (first : run.first ≡ e) (end : run.end ≡ e + 1) where
+  -- a run of one edge, which a bundle has that tells all
+  run_of_bundle : (b : Bundle) → IsBundleOf b (vertex ring e) (vertex ring (e + 1)) → (EnclosesEdge ring b.around e → IsBoxed ring run e)
+      → ((p : Triple) (odd : Bool) → AllTell run p odd → IsTold b p odd) → IsRunOf ring run
+  run_of_bundle b is boxed told = record {
+    some = omega (arith, first, end);
+    within = omega (arith, within, end);
+    boxed = λ k from below. subst (IsBoxed ring run) (omega (arith, first, end, from, below))
+        (boxed (record { from_bounds = is.first_bounds; to_bounds = is.last_bounds; from = is.first; to = is.last }));
+    told = λ p odd at_p all.
+        let passed = edge_told b (vertex ring e) (vertex ring (e + 1)) is p at_p odd (told p odd all) in
+        rw (first, end) (over_more ring p e e false odd odd within (over_none ring p e) passed.off passed.is (sym (not_unset odd)));
+  }
+
+  -- so it is with each of the four bundles
+  pub run_eastward : IsBundleOf run.eastward (vertex ring e) (vertex ring (e + 1))
+      → run.northward.is_odd ≡ false → run.westward.is_odd ≡ false → run.southward.is_odd ≡ false → IsRunOf ring run
+  run_eastward is north west south = run_of_bundle run.eastward is (λ h. inl h) (λ p odd t.
+      subst (IsTold run.eastward p) (sym (t.all ∙ alone_first t.east t.north t.west t.south
+      (even_told run.northward p t.north north t.northward) (even_told run.westward p t.west west t.westward) (even_told run.southward p t.south south t.southward))) t.eastward)
+
+  pub run_northward : IsBundleOf run.northward (vertex ring e) (vertex ring (e + 1))
+      → run.eastward.is_odd ≡ false → run.westward.is_odd ≡ false → run.southward.is_odd ≡ false → IsRunOf ring run
+  run_northward is east west south = run_of_bundle run.northward is (λ h. inr (inl h)) (λ p odd t.
+      subst (IsTold run.northward p) (sym (t.all ∙ alone_second t.east t.north t.west t.south
+      (even_told run.eastward p t.east east t.eastward) (even_told run.westward p t.west west t.westward) (even_told run.southward p t.south south t.southward))) t.northward)
+
+  pub run_westward : IsBundleOf run.westward (vertex ring e) (vertex ring (e + 1))
+      → run.eastward.is_odd ≡ false → run.northward.is_odd ≡ false → run.southward.is_odd ≡ false → IsRunOf ring run
+  run_westward is east north south = run_of_bundle run.westward is (λ h. inr (inr (inl h))) (λ p odd t.
+      subst (IsTold run.westward p) (sym (t.all ∙ alone_third t.east t.north t.west t.south
+      (even_told run.eastward p t.east east t.eastward) (even_told run.northward p t.north north t.northward) (even_told run.southward p t.south south t.southward))) t.westward)
+
+  pub run_southward : IsBundleOf run.southward (vertex ring e) (vertex ring (e + 1))
+      → run.eastward.is_odd ≡ false → run.northward.is_odd ≡ false → run.westward.is_odd ≡ false → IsRunOf ring run
+  run_southward is east north west = run_of_bundle run.southward is (λ h. inr (inr (inr h))) (λ p odd t.
+      subst (IsTold run.southward p) (sym (t.all ∙ alone_last t.east t.north t.west t.south
+      (even_told run.eastward p t.east east t.eastward) (even_told run.northward p t.north north t.northward) (even_told run.westward p t.west west t.westward))) t.southward)

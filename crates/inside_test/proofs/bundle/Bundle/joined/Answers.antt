@@ -1,0 +1,28 @@
+use Rattle.std.proofs.Common.{refl, arith}
+use Rattle.std.proofs.lemmas.Int.{ints}
+use Rattle.inside_test.proofs.Heights.{height_read}
+use Rattle.inside_test.proofs.bundle.Bundle.joined.Goals as goal
+
+pub returns : goal.returns
+returns c =
+    let one = c.args.self.now in
+    let other = c.args.other.now in
+    let low = height_read c.greater.result c.greater.ensures.fits in
+    let high = height_read c.lesser.result c.lesser.ensures.fits in
+    let one_low = height_read one.low one.low_fits in
+    let one_high = height_read one.high one.high_fits in
+    let other_low = height_read other.low other.low_fits in
+    let other_high = height_read other.high other.high_fits in
+    record {
+      first = record {
+        box = c.joined.ensures.first;
+        low = omega (arith, ints, low, one_low, c.greater.ensures.first);
+        high = omega (arith, ints, high, one_high, c.lesser.ensures.first);
+      };
+      second = record {
+        box = c.joined.ensures.second;
+        low = omega (arith, ints, low, other_low, c.greater.ensures.second);
+        high = omega (arith, ints, high, other_high, c.lesser.ensures.second);
+      };
+      odd = refl;
+    }

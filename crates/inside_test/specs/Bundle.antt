@@ -1,0 +1,38 @@
+-- Edges of a ring in bundles, by the way that they go, and what a bundle tells of a point. This project's own. No public clause cites this module.
+use Rattle.std.specs.Bool.{beq}
+use Rattle.std.specs.Prelude.{◌≡◌, ◌⊎◌, ◌*ℤ◌, ◌<ℤ◌, ◌≤ℤ◌, ℤ, Bool, true, false, not}
+use Rattle.plane.specs.Point.{IsInBounds, IsInLimit, Point, Triple}
+use Rattle.exact_plane.specs.Boxes.{Encloses}
+use Rattle.inside_test.specs.Block.{IsBoxMissed, IsBoxRight}
+use Rattle.inside_test.specs.declared.bundle.Bundle.{Bundle}
+
+-- the bundle has the edge from u to v, and no other
+pub record IsBundleOf (b : Bundle) (u v : Point) : Type 0 where
+  pub first_bounds : IsInBounds u
+  pub last_bounds : IsInBounds v
+  pub first : Encloses b.around u
+  pub last : Encloses b.around v
+  pub heights : ((u.y ≤ℤ b.low) × (b.high ≤ℤ v.y)) ⊎ ((v.y ≤ℤ b.low) × (b.high ≤ℤ u.y))
+  pub odd : b.is_odd ≡ true
+
+-- what the first bundle has in it, the second has too
+pub record IsWider (a c : Bundle) : Type 0 where
+  pub box : (v : Point) → Encloses a.around v → Encloses c.around v
+  pub low : a.low ≤ℤ c.low
+  pub high : c.high ≤ℤ a.high
+
+-- the third bundle has the edges of the first two
+pub record IsBundleOfBoth (a b c : Bundle) : Type 0 where
+  pub first : IsWider a c
+  pub second : IsWider b c
+  pub odd : c.is_odd ≡ not (beq a.is_odd b.is_odd)
+
+-- the ray from the point to the right crosses each edge: the box is right of the point, which is at a height that all of them pass
+pub record CrossesAll (b : Bundle) (p : Triple) : Type 0 where
+  pub right : IsBoxRight b.around p
+  pub low : (y : ℤ) → IsInLimit y → y ≤ℤ b.low → (y *ℤ p.W) ≤ℤ p.Y
+  pub high : (y : ℤ) → IsInLimit y → b.high ≤ℤ y → p.Y <ℤ (y *ℤ p.W)
+
+-- whether an odd number of the edges is crossed by the ray from the point to the right, where the bundle tells: none is, or all are
+abbrev pub IsTold : Bundle → Triple → Bool → Type 0
+IsTold b p odd = (IsBoxMissed b.around p × (odd ≡ false)) ⊎ (CrossesAll b p × (odd ≡ b.is_odd))

@@ -1,0 +1,41 @@
+-- Runs of consecutive edges of a ring. This project's own. No public clause cites this module.
+use Rattle.std.specs.Bool.{beq}
+use Rattle.std.specs.Prelude.{◌≡◌, ◌⊎◌, ◌<◌, ◌≤◌, ℕ, Bool, not, List, length}
+use Rattle.plane.specs.Point.{IsPoint, Point, Triple}
+use Rattle.exact_plane.specs.declared.bounding_box.BoundingBox.{BoundingBox}
+use Rattle.ring_check.specs.Boxes.{EnclosesEdge}
+use Rattle.inside_test.specs.Bundle.{IsTold}
+use Rattle.inside_test.specs.Odd.{IsOddOver}
+use Rattle.inside_test.specs.declared.runs.Run.{Run}
+
+-- edge e is in one of the boxes
+abbrev pub IsBoxed : List Point → Run → ℕ → Type 0
+IsBoxed ring run e =
+    EnclosesEdge ring run.eastward.around e ⊎ EnclosesEdge ring run.northward.around e
+    ⊎ EnclosesEdge ring run.westward.around e ⊎ EnclosesEdge ring run.southward.around e
+
+-- each of the four boxes has a property
+pub record IsEachBox (run : Run) (P : BoundingBox → Type 0) : Type 0 where
+  pub eastward : P run.eastward.around
+  pub northward : P run.northward.around
+  pub westward : P run.westward.around
+  pub southward : P run.southward.around
+
+-- each of the four bundles tells of the point, and all together whether an odd number of edges is crossed
+pub record AllTell (run : Run) (p : Triple) (odd : Bool) : Type 0 where
+  pub east : Bool
+  pub north : Bool
+  pub west : Bool
+  pub south : Bool
+  pub eastward : IsTold run.eastward p east
+  pub northward : IsTold run.northward p north
+  pub westward : IsTold run.westward p west
+  pub southward : IsTold run.southward p south
+  pub all : odd ≡ not (beq (not (beq east north)) (not (beq west south)))
+
+-- it has edges of the ring, each in one of the boxes, and what the bundles tell is so
+pub record IsRunOf (ring : List Point) (run : Run) : Type 0 where
+  pub some : run.first < run.end
+  pub within : run.end ≤ length ring
+  pub boxed : (e : ℕ) → run.first ≤ e → e < run.end → IsBoxed ring run e
+  pub told : (p : Triple) (odd : Bool) → IsPoint p → AllTell run p odd → IsOddOver ring run.first run.end p odd

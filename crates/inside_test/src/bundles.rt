@@ -1,0 +1,85 @@
+// Bundles of edges that go one way, and what is known of all of these.
+ghost use Rattle.std.specs.Prelude.{◌≡◌, ◌⊎◌, ◌+◌, ◌<◌, ◌^◌, ◌≤ℤ◌, false, unsigned_abs};
+ghost use Rattle.inside_test.specs.Bundle.{IsBundleOf, IsBundleOfBoth};
+
+use crate::bundle::Bundle;
+use exact_plane::{BoundingBox, Pt, Steps};
+use std::sync::ledger::Ledger;
+
+// Above all coordinates.
+const BEYOND: i64 = 1 << 32;
+
+impl Bundle {
+    // No edge.
+    pub fn empty() -> Bundle
+        ensures { result.is_odd ≡ false }
+    {
+        Bundle {
+            around: BoundingBox::empty(),
+            low: -BEYOND,
+            high: BEYOND,
+            is_odd: false,
+        }
+    }
+
+    // The edge from `a` to `b`.
+    pub fn of<L: Ledger>(a: &Pt, b: &Pt, steps: &mut Steps<L>) -> Bundle
+        ensures edge { IsBundleOf result a.now b.now }
+        ensures steps { steps.new ≡ steps.old + 256 }
+    {
+        let around = BoundingBox::of(&[*a, *b], steps);
+        let (first, last) = (a.parts(steps).1, b.parts(steps).1);
+        let (low, high) = in_order(first, last);
+        Bundle {
+            around,
+            low,
+            high,
+            is_odd: true,
+        }
+    }
+
+    // Its edges and those of another.
+    pub fn joined(&self, other: &Bundle) -> Bundle
+        ensures { IsBundleOfBoth self.now other.now result }
+    {
+        Bundle {
+            around: self.around.joined(&other.around),
+            low: greater(self.low, other.low),
+            high: lesser(self.high, other.high),
+            is_odd: self.is_odd != other.is_odd,
+        }
+    }
+}
+
+// Two heights, the lesser first.
+fn in_order(a: i64, b: i64) -> (i64, i64)
+    requires a_fits { unsigned_abs a < 2 ^ 40 }
+    requires b_fits { unsigned_abs b < 2 ^ 40 }
+    ensures low_fits { unsigned_abs result.0 < 2 ^ 40 }
+    ensures high_fits { unsigned_abs result.1 < 2 ^ 40 }
+    ensures those { ((result.0 ≡ a) × (result.1 ≡ b)) ⊎ ((result.0 ≡ b) × (result.1 ≡ a)) }
+{
+    if a < b { (a, b) } else { (b, a) }
+}
+
+// The lesser of two heights.
+fn lesser(a: i64, b: i64) -> i64
+    requires a_fits { unsigned_abs a < 2 ^ 40 }
+    requires b_fits { unsigned_abs b < 2 ^ 40 }
+    ensures fits { unsigned_abs result < 2 ^ 40 }
+    ensures first { result ≤ℤ a }
+    ensures second { result ≤ℤ b }
+{
+    if a < b { a } else { b }
+}
+
+// The greater of two heights.
+fn greater(a: i64, b: i64) -> i64
+    requires a_fits { unsigned_abs a < 2 ^ 40 }
+    requires b_fits { unsigned_abs b < 2 ^ 40 }
+    ensures fits { unsigned_abs result < 2 ^ 40 }
+    ensures first { a ≤ℤ result }
+    ensures second { b ≤ℤ result }
+{
+    if a < b { b } else { a }
+}
