@@ -2,6 +2,7 @@ ghost use Rattle.std.specs.List.{range_with_len};
 ghost use Rattle.std.specs.Prelude.{◌≡◌, ◌+◌, ◌*◌, ◌≤◌, IfOk, List, OnOk, length};
 ghost use Rattle.plane.specs.Point.{Point};
 ghost use Rattle.meshes.specs.Fits.{Fits};
+ghost use Rattle.ring_check.specs.Order.{IsInOrder};
 ghost use Rattle.cut_tri.specs.Cut.{IsCutTriangulation};
 ghost use Rattle.cut_tri.specs.Ordered.{AreOrdered, IsPieceInOrder};
 ghost use Rattle.cut_tri.specs.WorkList.{HaveOrders, IsTakenOver, last_first};
@@ -67,14 +68,26 @@ fn whole_piece<L: Ledger>(alloc: Global, ring: &Ring, steps: &mut Steps<L>) -> R
     ensures steps { steps.new ≤ steps.old + 64 * length ring.now.corners }
 {
     let n = ring.len();
-    let mut order = lexical_order(alloc, ring.corners(), steps)?;
+    let mut order = lexical(alloc, ring, steps)?;
     order.reverse();
     let mut boundary = Vec::with_capacity(alloc, n as usize)?;
     for i in 0..n {
-        boundary.push(i)?;
+        boundary.push_reserved(i);
     }
     Ok(Piece {
         boundary: VecDeque::from_vec(boundary),
         order,
     })
+}
+
+// All vertices in lexicographic order: as the ring keeps it, or sorted. It takes at most 64 steps a vertex.
+fn lexical<L: Ledger>(alloc: Global, ring: &Ring, steps: &mut Steps<L>) -> Result<Vec<u32>, Memory>
+    ensures order { IfOk result (λ order. IsInOrder ring.now.corners order.items) }
+    ensures steps { steps.new ≤ steps.old + 64 * length ring.now.corners }
+{
+    let _is_simple = ring.len();
+    match ring.order() {
+        Some(order) => Ok(order.to_vec(alloc)?),
+        None => lexical_order(alloc, ring.corners(), steps),
+    }
 }
