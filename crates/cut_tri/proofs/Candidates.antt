@@ -34,6 +34,15 @@ pub record IsBestBelow (corners : List Point) (piece order : List ℕ) (n : ℕ)
   pub farthest : (b : Candidate) → best ≡ Some b → (i : ℕ) → HasRankBelow order n i → IsInCornerOf corners piece i
       → ¬ (IsFarther (candidate_of corners piece i) b)
 
+-- where no vertex has such a rank there is none
+pub none_below : (corners : List Point) (piece order : List ℕ) → IsBestBelow corners piece order 1 None
+none_below corners piece order = record {
+  none = λ e i has. let some = has.some in let below = has.below in absurd (omega (arith, some, below));
+  is_candidate = λ b e. absurd (cc);
+  in_corner = λ b e. absurd (cc);
+  farthest = λ b e. absurd (cc);
+}
+
 -- what is not farther than one that is not farther than a third is not farther than the third
 not_farther_trans : (a b c : Candidate) → ¬ (IsFarther a b) → ¬ (IsFarther b c) → ¬ (IsFarther a c)
 not_farther_trans a b c h k l = grind (arith, ints)

@@ -17,10 +17,11 @@ use Rattle.meshes.specs.Fits.{piece_points}
 use Rattle.cut_tri.proofs.Candidates.{HasRankBelow, of_rank}
 use Rattle.cut_tri.proofs.CornerPlaces.{none_before}
 use Rattle.cut_tri.proofs.DistinctCorners.{HasDistinctCorners}
+use Rattle.cut_tri.proofs.Members.{members_of_numbers}
 use Rattle.cut_tri.proofs.Shapes.{by_ends, last_is}
 use Rattle.cut_tri.specs.Corner.{IsInCornerOf}
 use Rattle.cut_tri.specs.Ordered.{IsLeastPlace, IsOrderOf}
-use Rattle.cut_tri.specs.Piece.{IsLeastBelow, IsPiece, piece_vertex}
+use Rattle.cut_tri.specs.Piece.{HasNumbers, IsLeastBelow, IsPiece, piece_vertex}
 
 -- ---- the turn at the least vertex
 
@@ -74,15 +75,16 @@ module _ (corners : List Point) (xs os : List ℕ) (is : IsOrderOf corners xs os
       }
 
   -- it has a lesser rank than this one, or is not left of it
-  pub rank_or_right : (n : ℕ) → n < length os → (i : ℕ) → IsInCornerOf corners xs i
+  pub rank_or_right : HasNumbers corners xs → (n : ℕ) → n < length os → of_rank os n < length corners → (i : ℕ) → IsInCornerOf corners xs i
       → HasRankBelow os n i ⊎ ((vertex corners (of_rank os n)).x ≤ℤ (vertex corners i).x)
-  rank_or_right n within i in_corner =
+  rank_or_right numbers n within low i in_corner =
       let has = rank_in i in_corner in
       elim (cases_lt has.rank n) [
         | inl less ↦ inl (record { rank = has.rank; some = has.some; below = less; is = has.is })
         | inr not_less ↦ inr (elim (cases_lt n has.rank) [
           | inl less ↦
-              let falls = is.falls (length os - 1 - has.rank) (length os - 1 - n) 0 (omega (arith, less, has.below)) (omega (arith, within)) in
+              let falls = is.falls (length os - 1 - has.rank) (length os - 1 - n) 0 (omega (arith, less, has.below)) (omega (arith, within))
+              (subst (λ j. j < length corners) (sym has.is) (members_of_numbers (length corners) xs numbers i in_corner.member)) low in
               before_not_left _ _ (subst (λ j. IsBefore (vertex corners (of_rank os n)) (vertex corners j)) has.is falls)
           | inr at ↦
               let same : n ≡ has.rank = omega (arith, not_less, at) in

@@ -14,10 +14,13 @@ mod Members
 pub mod OneCut
 mod OneReading
 mod Orders
+mod PartPlaces
 mod Parts
 mod Readings
 mod RotatedCuts
+mod SeenVertices
 mod Shapes
+mod Thinned
 mod TriangleBoxes
 mod WholePiece
 mod WorkList

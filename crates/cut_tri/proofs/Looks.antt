@@ -1,12 +1,7 @@
 -- The vertex that is looked at: whether it is in the corner at the least vertex of its piece.
-use Rattle.std.proofs.Common.{◌≡◌, refl, None, sym, ap, subst, ◌∙◌, ℕ, ◌-◌, ◌<◌, ◌≤◌, ℤ, ◌<ℤ◌, ◌≤ℤ◌, List, length, get_or, eqb-true, arith}
-use Rattle.std.proofs.lemmas.Bool.{eq-eqb}
+use Rattle.std.proofs.Common.{◌≡◌, refl, None, sym, ap, subst, ◌∙◌, ℕ, ◌-◌, ◌<◌, ◌≤◌, ℤ, ◌<ℤ◌, ◌≤ℤ◌, List, length, get_or, arith}
 use Rattle.std.proofs.lemmas.Int.{ints}
 use Rattle.std.proofs.lemmas.List.Elements.{Contains-get_or}
-use Rattle.std.proofs.lemmas.Map.Made.{IsDistinct-from_AllPairs, is_member-Decides, length-le_from_is_member}
-use Rattle.std.specs.Bool.{Decides}
-use Rattle.std.specs.Prelude.{nat_eq}
-use Rattle.std.proofs.lemmas.Cmp.{nat_eq_equiv}
 use Rattle.std.specs.List.{Contains}
 use Rattle.plane.proofs.Order.{before_differs}
 use Rattle.plane.specs.Order.{IsBefore}
@@ -94,28 +89,16 @@ module _ (corners : List Point) (xs : List ℕ) (corner : Corner) (at : IsCorner
 -- ---- numbers in the order
 
 module _ (corners : List Point) (xs os : List ℕ) (is : IsOrderOf corners xs os) where
-  -- the order of a piece has numbers of vertices
-  pub order_numbers : HasNumbers corners xs → (k : ℕ) → k < length os → get_or os k 0 < length corners
-  order_numbers numbers k within = members_of_numbers (length corners) xs numbers (get_or os k 0) (is.only (get_or os k 0) (Contains-get_or os k 0 within))
-
-  -- and has some
+  -- the order of a piece has some
   pub order_some : 0 < length xs → 0 < length os
   order_some some = let (k, within, at) = is.all (get_or xs 0 0) (Contains-get_or xs 0 0 some) in omega (arith, within)
 
-  -- as many as the boundary at most
-  pub order_few : length os ≤ length xs
-  order_few =
-      length-le_from_is_member nat_eq_equiv os xs (IsDistinct-from_AllPairs same os
-      (λ i j d less within e. before_differs _ _ (is.falls i j d less within) (ap (vertex corners) (sym e))))
-      (λ q held. (is_member-Decides same xs q).1 (is.only q ((is_member-Decides same os q).0 held)))
-    where
-      same : (i j : ℕ) → Decides (nat_eq i j) (i ≡ j)
-      same i j = (eqb-true i j, eq-eqb i j)
-
   -- the vertices of a rank other than 0 are others than the first
-  pub not_least : IsLeastPlace xs os 0 → (n : ℕ) → 0 < n → n < length os → ¬ (of_rank os n ≡ get_or xs 0 0)
-  not_least least n some within e =
-      before_differs _ _ (is.falls (length os - 1 - n) (length os - 1) 0 (omega (arith, some, within)) (omega (arith, within)))
+  pub not_least : HasNumbers corners xs → IsLeastPlace xs os 0 → (n : ℕ) → 0 < n → n < length os → of_rank os n < length corners
+      → ¬ (of_rank os n ≡ get_or xs 0 0)
+  not_least numbers least n some within low e =
+      before_differs _ _ (is.falls (length os - 1 - n) (length os - 1) 0 (omega (arith, some, within)) (omega (arith, within)) low
+      (subst (λ i. i < length corners) least.is (numbers 0 least.within)))
       (ap (vertex corners) (sym least.is ∙ sym e))
 
 -- ranks below a lesser number are below a greater

@@ -1,37 +1,60 @@
 -- A piece that begins with its least vertex and is cut: what is left of its order, and what the code needs to know of it.
-use Rattle.std.proofs.Common.{◌≡◌, sym, ap, subst, ◌∙◌, ℕ, ◌+◌, ◌-◌, ◌<◌, ◌≤◌, List, [], ◌∷◌, ◌++◌, length, get_or, take, drop, arith}
+use Rattle.std.proofs.Common.{◌≡◌, inl, inr, sym, ap, subst, ◌∙◌, ℕ, ◌+◌, ◌-◌, ◌<◌, ◌≤◌, List, [], ◌∷◌, ◌++◌, length, get_or, take, drop, arith}
+use Rattle.std.proofs.lemmas.Bool.{cases_lt}
 use Rattle.std.proofs.lemmas.List.{drop_more, get_or_default, take_all, take_more}
 use Rattle.std.proofs.lemmas.List.Elements.{All-from_get_or}
-use Rattle.std.proofs.Math.Seq.{take-append_seam}
-use Rattle.std.specs.List.{All, AllPairs, filter, refill}
+use Rattle.std.specs.List.{All, AllPairs}
+use Rattle.std.specs.Prelude.{IsPermutation}
+use Rattle.plane.proofs.Order.{before_differs}
 use Rattle.plane.specs.Point.{Point}
 use Rattle.rings.specs.Ring.{vertex}
 use Rattle.cut_tri.proofs.DiagonalCuts.{parts_cut}
 use Rattle.cut_tri.proofs.DistinctCorners.{HasDistinctCorners, at_one_place}
 use Rattle.cut_tri.proofs.Ends.{piece_distinct}
-use Rattle.cut_tri.proofs.Looks.{order_numbers, order_some}
-use Rattle.cut_tri.proofs.Orders.{first_order, least_below, order_without, second_order}
+use Rattle.cut_tri.proofs.Looks.{order_some}
+use Rattle.cut_tri.proofs.Orders.{least_below, order_without}
+use Rattle.cut_tri.proofs.PartPlaces.{first_left, first_rest, second_left, second_rest}
+use Rattle.cut_tri.proofs.Thinned.{ranked_order, thinned_order}
 use Rattle.cut_tri.specs.Cut.{IsFarthest}
 use Rattle.cut_tri.specs.Cutting.{AreDiagonalPieces}
-use Rattle.cut_tri.specs.Ordered.{ArePlaces, IsFarthestNumber, IsLeastPlace, IsOrderOf, is_in_first, is_in_second}
+use Rattle.cut_tri.specs.Ordered.{AreRanks, IsFarthestNumber, IsLeastPlace, IsOrderOf}
 use Rattle.cut_tri.specs.Piece.{IsPiece}
+use Rattle.cut_tri.specs.Thinned.{IsThinned}
 
--- items that are written back as they were
-pub refilled : (n : ℕ) (xs ws : List ℕ) → n ≡ length xs → ws ≡ xs → refill n xs ws ≡ xs
-refilled n xs ws size same =
-    ap (refill n xs) same ∙ ap (λ m. take m (xs ++ drop (length xs) xs)) size ∙ take-append_seam xs (drop (length xs) xs)
+module _ (corners : List Point) (xs : List ℕ) (piece : IsPiece corners xs) where
+  -- its boundary has numbers of vertices,
+  pub numbers_below : (n : ℕ) → n ≡ length corners → All (λ i. i < n) xs
+  numbers_below n size = All-from_get_or (λ i. i < n) xs 0 (λ k h. subst (λ m. get_or xs k 0 < m) (sym size) (piece.numbers k h))
 
-module _ (corners : List Point) (xs os : List ℕ) (piece : IsPiece corners xs) (is : IsOrderOf corners xs os) where
-  -- its order has numbers of vertices,
-  pub order_below : (n : ℕ) → n ≡ length corners → All (λ i. i < n) os
-  order_below n size = All-from_get_or (λ i. i < n) os 0 (λ k h. subst (λ m. get_or os k 0 < m) (sym size) (order_numbers corners xs os is piece.numbers k h))
+  -- each once,
+  pub boundary_once : (i j : ℕ) → i < length xs → j < length xs → get_or xs i 0 ≡ get_or xs j 0 → i ≡ j
+  boundary_once i j within within_too e = at_one_place corners xs (piece_distinct corners xs piece) i j within within_too (ap (vertex corners) e)
 
-  -- and its numbers are different
   pub different : AllPairs (λ i j. ¬ (i ≡ j)) xs
   different i j d less within e =
-      let same : i ≡ j = at_one_place corners xs (piece_distinct corners xs piece) i j (omega (arith, less, within)) within
-      (ap (vertex corners) (get_or_default xs i 0 d (omega (arith, less, within)) ∙ e ∙ get_or_default xs j d 0 within)) in
+      let same : i ≡ j = boundary_once i j (omega (arith, less, within)) within
+      (get_or_default xs i 0 d (omega (arith, less, within)) ∙ e ∙ get_or_default xs j d 0 within) in
       omega (arith, less, same)
+
+  -- and so has an order by rank
+  pub own_ordered : (ranks own : List ℕ) → AreRanks corners ranks → IsPermutation xs own
+      → AllPairs (λ i j. get_or ranks j 0 ≤ get_or ranks i 0) own → IsOrderOf corners xs own
+  own_ordered ranks own are moved falls = ranked_order corners ranks are xs own (numbers_below (length ranks) are.size) different moved falls
+
+module _ (corners : List Point) (xs os : List ℕ) (piece : IsPiece corners xs) (is : IsOrderOf corners xs os) where
+  -- its order has each vertex once
+  pub once : (n : ℕ) → n ≡ length corners → (i j : ℕ) → i < length os → j < length os → get_or os i 0 ≡ get_or os j 0 → get_or os i 0 < n → i ≡ j
+  once n size i j within within_too e low = elim (cases_lt i j) [
+    | inl less ↦ absurd (apart i j less within_too e (subst (λ m. get_or os i 0 < m) size low))
+    | inr not_less ↦ elim (cases_lt j i) [
+      | inl less ↦ absurd (apart j i less within (sym e) (subst (λ k. k < length corners) e (subst (λ m. get_or os i 0 < m) size low)))
+      | inr at ↦ omega (arith, not_less, at)
+    ]
+  ]
+    where
+      apart : (i j : ℕ) → i < j → j < length os → get_or os i 0 ≡ get_or os j 0 → get_or os i 0 < length corners → ⊥
+      apart i j less below e low =
+          before_differs _ _ (is.falls i j 0 less below low (subst (λ k. k < length corners) e low)) (ap (vertex corners) (sym e))
 
   -- without its least vertex
   pub rest_ordered : IsLeastPlace xs os 0 → (ys rest : List ℕ) → ys ≡ drop 1 xs → rest ≡ take (length os - 1) os → IsOrderOf corners ys rest
@@ -48,38 +71,42 @@ module _ (corners : List Point) (xs os : List ℕ) (piece : IsPiece corners xs) 
       (order_without corners v (drop 1 xs) (take n os) (subst (HasDistinctCorners corners) boundary_is (piece_distinct corners xs piece))
       (subst (λ zs. IsOrderOf corners zs (take n os ++ v ∷ [])) boundary_is (subst (IsOrderOf corners xs) order_is is))))
 
-  module _ (least : IsLeastPlace xs os 0) (number : ℕ) (far : IsFarthestNumber corners xs number) (places : List ℕ) (are : ArePlaces xs places (length xs)) where
+  module _ (least : IsLeastPlace xs os 0) (number : ℕ) (far : IsFarthestNumber corners xs number) (place : ℕ) (within : place < length xs)
+      (at : get_or xs place 0 ≡ number) where
     -- the farthest vertex is at its place,
-    pub place_is : get_or places number 0 ≡ far.place
-    place_is = subst (λ i. get_or places i 0 ≡ far.place) far.is (are far.place (let high = far.farthest.in_corner.before_last in omega (arith, high)))
+    place_is : place ≡ far.place
+    place_is =
+        boundary_once corners xs piece place far.place within (let high = far.farthest.in_corner.before_last in omega (arith, high)) (at ∙ sym far.is)
 
-    module _ (place : ℕ) (at : place ≡ get_or places number 0) where
-      -- which is after the second and before the last,
-      pub place_inner : 2 ≤ place × place + 1 < length xs
-      place_inner =
-          let in_corner = far.farthest.in_corner in
-          (omega (arith, in_corner.after_second, at, place_is), omega (arith, in_corner.before_last, at, place_is))
+    -- which is after the second and before the last,
+    pub place_inner : 2 ≤ place × place + 1 < length xs
+    place_inner =
+        let in_corner = far.farthest.in_corner in
+        (omega (arith, in_corner.after_second, place_is), omega (arith, in_corner.before_last, place_is))
 
-      -- so what the code makes of the piece is its parts
-      module _ (first second : List ℕ) (first_is : first ≡ take place xs ++ number ∷ []) (second_is : second ≡ get_or xs 0 0 ∷ drop place xs) where
-        first_taken : first ≡ take (place + 1) xs
-        first_taken =
-            let here : get_or xs place 0 ≡ number = ap (λ k. get_or xs k 0) (at ∙ place_is) ∙ far.is in
-            first_is ∙ ap (λ i. take place xs ++ i ∷ []) (sym here) ∙ sym (take_more xs place 0 (omega (arith, place_inner.1)))
+    -- so what the code makes of the piece is its parts
+    module _ (first second : List ℕ) (first_is : first ≡ take place xs ++ number ∷ []) (second_is : second ≡ get_or xs 0 0 ∷ drop place xs) where
+      first_taken : first ≡ take (place + 1) xs
+      first_taken = first_is ∙ ap (λ i. take place xs ++ i ∷ []) (sym at) ∙ sym (take_more xs place 0 within)
 
-        pub are_parts : AreDiagonalPieces corners xs first second
-        are_parts =
-            subst (λ ys. AreDiagonalPieces corners xs ys second) (sym first_taken)
-            (subst (AreDiagonalPieces corners xs (take (place + 1) xs)) (sym second_is)
-            (parts_cut corners xs place piece (least_below corners xs os is 0 least) (subst (IsFarthest corners xs) (sym (at ∙ place_is)) far.farthest)))
+      pub are_parts : AreDiagonalPieces corners xs first second
+      are_parts =
+          subst (λ ys. AreDiagonalPieces corners xs ys second) (sym first_taken)
+          (subst (AreDiagonalPieces corners xs (take (place + 1) xs)) (sym second_is)
+          (parts_cut corners xs place piece (least_below corners xs os is piece.numbers 0 least) (subst (IsFarthest corners xs) (sym place_is) far.farthest)))
 
-        -- with their orders
-        module _ (first_os second_os : List ℕ) (first_filtered : first_os ≡ filter (is_in_first places place) os)
-            (second_filtered : second_os ≡ filter (is_in_second places place) os) where
-          pub orders_are : IsOrderOf corners first first_os × IsOrderOf corners second second_os
-          orders_are = (
-            subst (λ ys. IsOrderOf corners ys first_os) (sym first_taken) (subst (IsOrderOf corners (take (place + 1) xs)) (sym first_filtered)
-                (first_order corners xs os places place is are (omega (arith, place_inner.1)))),
-            subst (λ ys. IsOrderOf corners ys second_os) (sym second_is) (subst (IsOrderOf corners (get_or xs 0 0 ∷ drop place xs)) (sym second_filtered)
-                (second_order corners xs os places place is are (omega (arith, place_inner.1)))),
-          )
+      -- and what is left of the order where one is taken out is that of the other
+      pub first_ordered : (n : ℕ) → n ≡ length corners → (after : List ℕ) → IsThinned n xs (place + 1) (length xs) os after → IsOrderOf corners first after
+      first_ordered n size after thin =
+          subst (λ ys. IsOrderOf corners ys after) (sym first_taken)
+          (thinned_order corners xs os after (place + 1) (length xs) is
+          (subst (λ m. IsThinned m xs (place + 1) (length xs) os after) size thin) (take (place + 1) xs)
+          (first_left xs (boundary_once corners xs piece) place (omega (arith, place_inner.0)) within)
+          (first_rest xs (boundary_once corners xs piece) place (omega (arith, place_inner.0)) within))
+
+      pub second_ordered : (n : ℕ) → n ≡ length corners → (after : List ℕ) → IsThinned n xs 1 place os after → IsOrderOf corners second after
+      second_ordered n size after thin =
+          subst (λ ys. IsOrderOf corners ys after) (sym second_is)
+          (thinned_order corners xs os after 1 place is (subst (λ m. IsThinned m xs 1 place os after) size thin) (get_or xs 0 0 ∷ drop place xs)
+          (second_left xs (boundary_once corners xs piece) place (omega (arith, place_inner.0)) within)
+          (second_rest xs (boundary_once corners xs piece) place (omega (arith, place_inner.0)) within))

@@ -1,6 +1,6 @@
 -- The pieces that are still to be cut: how they complete a mesh, and how much is still to be done and what it takes, after one cut more.
-use Rattle.std.proofs.Common.{◌≡◌, sym, ap, subst, ◌∙◌, ℕ, ◌+◌, ◌-◌, ◌*◌, ◌<◌, ◌≤◌, List, [], ◌∷◌, ◌++◌, length, map, reverse, take, drop, Some, arith}
-use Rattle.std.proofs.lemmas.List.{append_assoc, length-append, length-take-le, map-append, reverse-append}
+use Rattle.std.proofs.Common.{◌≡◌, sym, ap, subst, ◌∙◌, ℕ, ◌+◌, ◌-◌, ◌*◌, ◌<◌, ◌≤◌, List, [], ◌∷◌, ◌++◌, length, map, reverse, Some, arith}
+use Rattle.std.proofs.lemmas.List.{append_assoc, map-append, reverse-append}
 use Rattle.std.proofs.lemmas.List.Elements.{All-pop, All-push}
 use Rattle.std.proofs.lemmas.List.FromFn.{length-range_with_len}
 use Rattle.std.specs.List.{range_with_len}
@@ -167,9 +167,3 @@ module _ (corners : List Point) (work rest : List Piece) (piece : Piece) (is : w
   -- and the last one taken off
   pub orders_popped : HaveOrders corners work → HaveOrders corners rest × IsOrderOf corners piece.boundary.items piece.order.items
   orders_popped = All-pop (λ (p : Piece). IsOrderOf corners p.boundary.items p.order.items) work rest (Some piece) is
-
--- a slice of the same length, written back, leaves the length
-pub length_kept : (new items : List ℕ) (len : ℕ) → length new ≡ length items → len ≡ length items
-    → length (take len (new ++ drop (length new) items)) ≡ length items
-length_kept new items len same all =
-    length-take-le len (new ++ drop (length new) items) (omega (arith, same, all, length-append new (drop (length new) items))) ∙ all

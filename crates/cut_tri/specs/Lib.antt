@@ -4,4 +4,5 @@ pub mod Cut
 pub mod Cutting
 pub mod Ordered
 pub mod Piece
+pub mod Thinned
 pub mod WorkList

@@ -1,6 +1,6 @@
 -- Pieces whose vertices are known in lexicographic order too. No public clause cites this module.
-use Rattle.std.specs.List.{AllPairs, Contains}
-use Rattle.std.specs.Prelude.{◌≡◌, ℕ, ◌-◌, ◌<◌, Bool, nat_eq, nat_le, ◌||◌, List, length, slice_index_or}
+use Rattle.std.specs.List.{All, AllPairs, Contains}
+use Rattle.std.specs.Prelude.{◌≡◌, ℕ, ◌-◌, ◌<◌, ◌≤◌, List, length, slice_index_or}
 use Rattle.plane.specs.Order.{IsBefore}
 use Rattle.plane.specs.Point.{Point}
 use Rattle.rings.specs.Ring.{vertex}
@@ -14,11 +14,11 @@ use Rattle.cut_tri.specs.declared.piece.Piece.{Piece}
 abbrev pub IsAfter : List Point → ℕ → ℕ → Type 0
 IsAfter corners i j = IsBefore (vertex corners j) (vertex corners i)
 
--- the order has the vertices of the boundary, and each after all that follow
+-- the order has the vertices of the boundary, each after all that follow; its other numbers are of no vertices
 pub record IsOrderOf (corners : List Point) (boundary order : List ℕ) : Type 0 where
   pub all : (i : ℕ) → Contains boundary i → Contains order i
-  pub only : (i : ℕ) → Contains order i → Contains boundary i
-  pub falls : AllPairs (IsAfter corners) order
+  pub only : (i : ℕ) → i < length corners → Contains order i → Contains boundary i
+  pub falls : AllPairs (λ i j. i < length corners → j < length corners → IsAfter corners i j) order
 
 -- the boundary of a piece, and its order
 abbrev pub IsPieceInOrder : List Point → Piece → Type 0
@@ -41,16 +41,18 @@ AreOrdered corners (Ear tri rest) = IsOrderOf corners rest.boundary.items rest.o
 AreOrdered corners (Parts first second) =
     IsOrderOf corners first.boundary.items first.order.items × IsOrderOf corners second.boundary.items second.order.items
 
--- each of the first n numbers of the list is at its place
-abbrev pub ArePlaces : List ℕ → List ℕ → ℕ → Type 0
-ArePlaces boundary places n = (k : ℕ) → k < n → slice_index_or places (slice_index_or boundary k 0) 0 ≡ k
+-- the last number of its order is of a vertex
+abbrev pub EndsWithVertex : List Point → Piece → Type 0
+EndsWithVertex corners piece =
+    (0 < length piece.order.items) × (slice_index_or piece.order.items (length piece.order.items - 1) 0 < length corners)
 
--- whether a vertex is on the part of the boundary up to a place, and whether on the part from there on or the first
-abbrev pub is_in_first : List ℕ → ℕ → ℕ → Bool
-is_in_first places place i = nat_le (slice_index_or places i 0) place
-
-abbrev pub is_in_second : List ℕ → ℕ → ℕ → Bool
-is_in_second places place i = nat_eq (slice_index_or places i 0) 0 || nat_le place (slice_index_or places i 0)
+-- ranks of all vertices in lexicographic order
+pub record AreRanks (corners : List Point) (ranks : List ℕ) : Type 0 where
+  pub size : length ranks ≡ length corners
+  pub few : length ranks ≤ 65536
+  pub small : All (λ r. r < length corners) ranks
+  pub rises : (i j : ℕ) → i < length corners → j < length corners → ¬ (i ≡ j) → slice_index_or ranks i 0 ≤ slice_index_or ranks j 0
+      → IsAfter corners j i
 
 -- of a piece that is read from its least vertex on, the vertex with this number is the farthest in the corner there
 pub record IsFarthestNumber (corners : List Point) (boundary : List ℕ) (number : ℕ) : Type 0 where

@@ -2,12 +2,13 @@
 ghost use Rattle.std.specs.Prelude.{◌≡◌, ◌+◌, ◌*◌, ◌<◌, ◌≤◌, IfOk, IfSome, length, slice_index_or};
 ghost use Rattle.cut_tri.specs.Clusters.{AreClusters};
 ghost use Rattle.cut_tri.specs.Cutting.{IsCutOf};
-ghost use Rattle.cut_tri.specs.Ordered.{AreOrdered, IsFarthestNumber, IsLeastPlace, IsPieceInOrder, IsOrderedFromLeast};
+ghost use Rattle.cut_tri.specs.Ordered.{AreOrdered, AreRanks, EndsWithVertex, IsFarthestNumber, IsLeastPlace, IsPieceInOrder, IsOrderedFromLeast};
 ghost use Rattle.cut_tri.specs.Piece.{IsPiece, tri_at_first};
 
 use crate::clusters::Clusters;
 use crate::farthest::farthest;
-use crate::piece::{Piece, note_places, part_boundary, part_order, place_of};
+use crate::order::{drop_others, order_of, take_out, vertices_of};
+use crate::piece::{Piece, part_boundary, place_of};
 use exact_plane::{Memory, Steps};
 use meshes::Tri;
 use ring_check::Ring;
@@ -27,35 +28,50 @@ pub(crate) enum Remains {
 }
 
 // Cuts a piece at its lexicographically least vertex v, with u before it and w after it: along the segment from u to w, or
-// from v to the vertex of the closed triangle u, v, w that is farthest from the line through u and w. Of `places` only the
-// length matters. A triangle takes no steps, and another piece at most 515 for each of its vertices, 371 for each of the ring, and
-// 910.
+// from v to the vertex of the closed triangle u, v, w that is farthest from the line through u and w. A triangle takes no
+// steps, and another piece at most 515 for each of its vertices, 371 for each of the ring, and 910.
 pub(crate) fn cut<L: Ledger>(
     alloc: Global,
     ring: &Ring,
-    mut piece: Piece,
-    places: &mut [usize],
+    piece: Piece,
+    ranks: &[u32],
     clusters: &mut Option<Clusters>,
     steps: &mut Steps<L>,
 ) -> Result<Remains, Memory>
     requires ordered { IsPieceInOrder ring.now.corners piece }
-    requires places { length places.old ≡ length ring.now.corners }
+    requires ranks { AreRanks ring.now.corners ranks.now }
     requires clusters { IfSome clusters.old (AreClusters ring.now.corners) }
     ensures cut { IfOk result (IsCutOf ring.now.corners piece.boundary.items) }
     ensures ordered { IfOk result (AreOrdered ring.now.corners) }
-    ensures places { length places.new ≡ length places.old }
     ensures clusters { IfSome clusters.new (AreClusters ring.now.corners) }
     ensures triangle { length piece.boundary.items ≡ 3 → steps.new ≡ steps.old }
     ensures steps { steps.new ≤ steps.old + (515 * length piece.boundary.items + 371 * length ring.now.corners + 910) }
 {
+    let mut piece = cleaned(alloc, ring, piece)?;
     let least = least_place(ring, &piece);
     piece.boundary.rotate_left(least);
-    cut_at_first(alloc, ring, piece, places, clusters, steps)
+    cut_at_first(alloc, ring, piece, ranks, clusters, steps)
+}
+
+// The piece without the numbers of no vertices at the end of its order, and without all where they are more than a quarter.
+fn cleaned(alloc: Global, ring: &Ring, mut piece: Piece) -> Result<Piece, Memory>
+    requires { IsPieceInOrder ring.now.corners piece }
+    ensures boundary { IfOk result (λ cleaned. cleaned.boundary ≡ piece.boundary) }
+    ensures ordered { IfOk result (IsPieceInOrder ring.now.corners) }
+    ensures last { IfOk result (EndsWithVertex ring.now.corners) }
+{
+    let size = piece.boundary.len();
+    if size + size / 4 < piece.order.len() {
+        piece.order = vertices_of(alloc, &piece.order, ring.len())?;
+    }
+    drop_others(&mut piece.order, ring.len());
+    Ok(piece)
 }
 
 // The place of the lexicographically least vertex, which is the last of the order.
 fn least_place(ring: &Ring, piece: &Piece) -> usize
-    requires { IsPieceInOrder ring.now.corners piece.now }
+    requires ordered { IsPieceInOrder ring.now.corners piece.now }
+    requires last { EndsWithVertex ring.now.corners piece.now }
     ensures { IsLeastPlace piece.now.boundary.items piece.now.order.items result }
 {
     place_of(&piece.boundary, piece.order[piece.order.len() - 1])
@@ -66,16 +82,15 @@ fn cut_at_first<L: Ledger>(
     alloc: Global,
     ring: &Ring,
     mut piece: Piece,
-    places: &mut [usize],
+    ranks: &[u32],
     clusters: &mut Option<Clusters>,
     steps: &mut Steps<L>,
 ) -> Result<Remains, Memory>
     requires ordered { IsOrderedFromLeast ring.now.corners piece }
-    requires places { length places.old ≡ length ring.now.corners }
+    requires ranks { AreRanks ring.now.corners ranks.now }
     requires clusters { IfSome clusters.old (AreClusters ring.now.corners) }
     ensures cut { IfOk result (IsCutOf ring.now.corners piece.boundary.items) }
     ensures ordered { IfOk result (AreOrdered ring.now.corners) }
-    ensures places { length places.new ≡ length places.old }
     ensures clusters { IfSome clusters.new (AreClusters ring.now.corners) }
     ensures triangle { length piece.boundary.items ≡ 3 → steps.new ≡ steps.old }
     ensures steps { steps.new ≤ steps.old + (515 * length piece.boundary.items + 371 * length ring.now.corners + 910) }
@@ -91,7 +106,7 @@ fn cut_at_first<L: Ledger>(
             Ok(Remains::Ear(tri, piece))
         }
         Some(number) => {
-            let (first, second) = parts(alloc, ring, piece, number, places)?;
+            let (first, second) = parts(alloc, ring, piece, number, ranks)?;
             Ok(Remains::Parts(first, second))
         }
     }
@@ -109,34 +124,49 @@ pub(crate) fn corner_of(boundary: &VecDeque<u32>) -> Tri
     }
 }
 
-// The parts of a piece on both sides of the diagonal from its first vertex to the one with this number.
+// The parts of a piece on both sides of the diagonal from its first vertex to the one with this number. The shorter gets an order
+// of its own, and the other keeps that of the piece without the vertices of the shorter.
 fn parts(
     alloc: Global,
     ring: &Ring,
     mut piece: Piece,
     number: u32,
-    places: &mut [usize],
+    ranks: &[u32],
 ) -> Result<(Piece, Piece), Memory>
     requires ordered { IsOrderedFromLeast ring.now.corners piece }
     requires farthest { IsFarthestNumber ring.now.corners piece.boundary.items number }
-    requires places { length places.old ≡ length ring.now.corners }
+    requires ranks { AreRanks ring.now.corners ranks.now }
     ensures parts { IfOk result (λ parts. IsCutOf ring.now.corners piece.boundary.items (Remains.Parts parts.0 parts.1)) }
     ensures ordered { IfOk result (λ parts. AreOrdered ring.now.corners (Remains.Parts parts.0 parts.1)) }
-    ensures places { length places.new ≡ length places.old }
 {
-    note_places(piece.boundary.make_contiguous(), places);
-    let place = places[number as usize];
+    let place = place_of(&piece.boundary, number);
     let count = piece.boundary.len();
-    let (first_order, second_order) = part_order(alloc, &piece.order, places, place, count)?;
+    if place < count - place {
+        take_out(&mut piece.order, &piece.boundary, 1, place, ranks);
+        let (first, second) = part_boundary(piece.boundary, place, number)?;
+        let order = order_of(alloc, &first, ranks)?;
+        return Ok((
+            Piece {
+                boundary: first,
+                order,
+            },
+            Piece {
+                boundary: second,
+                order: piece.order,
+            },
+        ));
+    }
+    take_out(&mut piece.order, &piece.boundary, place + 1, count, ranks);
     let (first, second) = part_boundary(piece.boundary, place, number)?;
+    let order = order_of(alloc, &second, ranks)?;
     Ok((
         Piece {
             boundary: first,
-            order: first_order,
+            order: piece.order,
         },
         Piece {
             boundary: second,
-            order: second_order,
+            order,
         },
     ))
 }

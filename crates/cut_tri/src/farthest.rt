@@ -92,8 +92,9 @@ fn best_in<L: Ledger>(
     requires clusters { IfSome clusters.old (AreClusters ring.now.corners) }
     ensures best { IsBest ring.now.corners piece.now.boundary.items result }
     ensures clusters { IfSome clusters.new (AreClusters ring.now.corners) }
-    ensures steps { steps.new ≤ steps.old + (515 * (length piece.now.order.items - 1) + 371 * length ring.now.corners + 1168) }
+    ensures steps { steps.new ≤ steps.old + (515 * (length piece.now.boundary.items - 1) + 371 * length ring.now.corners + 1168) }
 {
+    let count = ring.len();
     let last = piece.order.len() - 1;
     let mut best: Option<Candidate> = None;
     for rank in 1..piece.order.len() {
@@ -101,6 +102,9 @@ fn best_in<L: Ledger>(
             return None;
         }
         let number = piece.order[last - rank];
+        if count <= number {
+            continue;
+        }
         let p = ring.corner(number);
         if corner.is_nearer_from(&p, best, steps) {
             break;

@@ -6,6 +6,7 @@ mod cut;
 mod farthest;
 mod laws;
 mod measure;
+mod order;
 mod piece;
 mod triangle;
 mod triangulation;

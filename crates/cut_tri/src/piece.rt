@@ -1,13 +1,12 @@
 // Pieces of a polygon: some of its vertices, by their numbers.
-ghost use Rattle.std.specs.List.{All, AllPairs, Contains, filter};
+ghost use Rattle.std.specs.List.{Contains};
 ghost use Rattle.std.specs.Prelude.{◌≡◌, ◌<◌, IfOk, [], ◌∷◌, ◌++◌, drop, length, slice_index_or, take};
-ghost use Rattle.cut_tri.specs.Ordered.{ArePlaces, is_in_first, is_in_second};
 
 use exact_plane::Memory;
-use std::alloc::Global;
 use std::collections::VecDeque;
 
-// A piece: its vertices along its boundary, counterclockwise, and the same vertices in falling lexicographic order.
+// A piece: its vertices along its boundary, counterclockwise, and the same vertices in falling lexicographic order, among which
+// there may be numbers of no vertices.
 #[derive(Drop)]
 pub(crate) struct Piece {
     pub boundary: VecDeque<u32>,
@@ -59,47 +58,8 @@ fn likely_place(boundary: &VecDeque<u32>, number: u32) -> usize
     low
 }
 
-// Writes for each vertex of the piece its place on the boundary.
-pub(crate) fn note_places(boundary: &[u32], places: &mut [usize])
-    requires numbers { All (λ i. i < length places.old) boundary.now }
-    requires different { AllPairs (λ i j. ¬ (i ≡ j)) boundary.now }
-    ensures same_length { length places.new ≡ length places.old }
-    ensures places { ArePlaces boundary.now places.new (length boundary.now) }
-{
-    for place in 0..boundary.len() {
-        places[boundary[place] as usize] = place;
-    }
-}
-
-// The order of the part up to a place of the boundary, and that of the part from there on with the first vertex; the whole
-// boundary has `count` vertices.
-pub(crate) fn part_order(
-    alloc: Global,
-    order: &[u32],
-    places: &[usize],
-    place: usize,
-    count: usize,
-) -> Result<(Vec<u32>, Vec<u32>), Memory>
-    requires numbers { All (λ i. i < length places.now) order.now }
-    requires inner { (0 < place) × (place < count) }
-    ensures first { IfOk result (λ parts. parts.0.items ≡ filter (is_in_first places.now place) order.now) }
-    ensures second { IfOk result (λ parts. parts.1.items ≡ filter (is_in_second places.now place) order.now) }
-{
-    let mut first = Vec::with_capacity(alloc, place + 1)?;
-    let mut second = Vec::with_capacity(alloc, count - place + 1)?;
-    for number in order {
-        let at = places[*number as usize];
-        if at <= place {
-            first.push(*number)?;
-        }
-        if at == 0 || place <= at {
-            second.push(*number)?;
-        }
-    }
-    Ok((first, second))
-}
-
-// The boundary up to the vertex with this number, which is at this place, and that from there on with the first vertex.
+// The boundary up to the vertex with this number, which is at this place, and that from there on with the first vertex. The
+// shorter of the two is moved.
 pub(crate) fn part_boundary(
     mut boundary: VecDeque<u32>,
     place: usize,
@@ -110,8 +70,16 @@ pub(crate) fn part_boundary(
     ensures second { IfOk result (λ parts. parts.1.items ≡ slice_index_or boundary.items 0 0 ∷ drop place boundary.items) }
 {
     let first = boundary[0];
-    let mut second = boundary.split_off(place)?;
-    second.push_front(first)?;
+    let rest = boundary.len() - place;
+    if rest <= place {
+        boundary.insert(place, first)?;
+        let second = boundary.split_off(place)?;
+        boundary.push_back(number)?;
+        return Ok((boundary, second));
+    }
+    boundary.rotate_left(place);
     boundary.push_back(number)?;
-    Ok((boundary, second))
+    let start = boundary.split_off(rest)?;
+    boundary.push_front(first)?;
+    Ok((start, boundary))
 }

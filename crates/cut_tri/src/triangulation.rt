@@ -2,6 +2,7 @@ ghost use Rattle.std.specs.List.{range_with_len};
 ghost use Rattle.std.specs.Prelude.{◌≡◌, ◌+◌, ◌*◌, ◌≤◌, IfOk, List, OnOk, length};
 ghost use Rattle.plane.specs.Point.{Point};
 ghost use Rattle.meshes.specs.Fits.{Fits};
+ghost use Rattle.ring_check.specs.Order.{IsInOrder};
 ghost use Rattle.cut_tri.specs.Cut.{IsCutTriangulation};
 ghost use Rattle.cut_tri.specs.Ordered.{AreOrdered, IsPieceInOrder};
 ghost use Rattle.cut_tri.specs.WorkList.{HaveOrders, IsTakenOver, last_first};
@@ -10,7 +11,7 @@ use crate::cut::{Remains, cut};
 use crate::piece::Piece;
 use exact_plane::{Memory, Steps};
 use meshes::Tri;
-use ring_check::{Ring, lexical_order};
+use ring_check::{Ring, lexical_order, ranks_of};
 use std::alloc::Global;
 use std::collections::VecDeque;
 use std::sync::ledger::Ledger;
@@ -28,12 +29,13 @@ pub fn triangulate<L: Ledger>(
     ensures steps { let n = length ring.now.corners in steps.new ≤ steps.old + (629 * (n * n) + 119 * n) }
 {
     let mut tris = Vec::with_capacity(alloc, ring.len() as usize - 2)?;
-    let mut places = Vec::from_elem(alloc, 0, ring.len() as usize)?;
+    let order = lexical(alloc, ring, steps)?;
+    let ranks = ranks_of(alloc, &order)?;
     let mut clusters = None;
     let mut work = Vec::new(alloc);
-    work.push(whole_piece(alloc, ring, steps)?)?;
+    work.push(whole_piece(alloc, ring, order)?)?;
     while let Some(piece) = work.pop() {
-        let left = cut(alloc, ring, piece, &mut places, &mut clusters, steps)?;
+        let left = cut(alloc, ring, piece, &ranks, &mut clusters, steps)?;
         take_over(left, &mut tris, &mut work)?;
     }
     Mesh::build(alloc, tris)
@@ -60,21 +62,32 @@ fn take_over(left: Remains, tris: &mut Vec<Tri>, work: &mut Vec<Piece>) -> Resul
     Ok(())
 }
 
-// The piece of all vertices. It takes at most 64 steps a vertex.
-fn whole_piece<L: Ledger>(alloc: Global, ring: &Ring, steps: &mut Steps<L>) -> Result<Piece, Memory>
+// The piece of all vertices, of which this is the lexicographic order.
+fn whole_piece(alloc: Global, ring: &Ring, mut order: Vec<u32>) -> Result<Piece, Memory>
+    requires { IsInOrder ring.now.corners order.items }
     ensures all { IfOk result (λ piece. piece.boundary.items ≡ range_with_len 0 (length ring.now.corners)) }
     ensures ordered { IfOk result (IsPieceInOrder ring.now.corners) }
-    ensures steps { steps.new ≤ steps.old + 64 * length ring.now.corners }
 {
     let n = ring.len();
-    let mut order = lexical_order(alloc, ring.corners(), steps)?;
     order.reverse();
     let mut boundary = Vec::with_capacity(alloc, n as usize)?;
     for i in 0..n {
-        boundary.push(i)?;
+        boundary.push_reserved(i);
     }
     Ok(Piece {
         boundary: VecDeque::from_vec(boundary),
         order,
     })
+}
+
+// All vertices in lexicographic order: as the ring keeps it, or sorted. It takes at most 64 steps a vertex.
+fn lexical<L: Ledger>(alloc: Global, ring: &Ring, steps: &mut Steps<L>) -> Result<Vec<u32>, Memory>
+    ensures order { IfOk result (λ order. IsInOrder ring.now.corners order.items) }
+    ensures steps { steps.new ≤ steps.old + 64 * length ring.now.corners }
+{
+    let _is_simple = ring.len();
+    match ring.order() {
+        Some(order) => Ok(order.to_vec(alloc)?),
+        None => lexical_order(alloc, ring.corners(), steps),
+    }
 }

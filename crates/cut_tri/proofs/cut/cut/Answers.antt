@@ -7,27 +7,31 @@ use Rattle.cut_tri.specs.Cutting.{IsCutOf}
 pub cut_at_first-requires-clause-ordered : goal.cut_at_first-requires-clause-ordered
 cut_at_first-requires-clause-ordered g c =
     let corners = c.args.ring.now.corners in
-    let xs = c.args.piece.boundary.items in
-    let os = c.args.piece.order.items in
+    let xs = c.in_ok-piece.piece.boundary.items in
+    let os = c.in_ok-piece.piece.order.items in
+    let ordered = c.in_ok-piece.ensures.ordered in
     let k = c.least_place-least.result in
     let ys = c.rotate_left.new.self.items in
     let turned = c.rotate_left.ensures.items in
     record {
-      ordered = order_from corners xs k c.requires.ordered.0 ys os turned c.requires.ordered.1 c.least_place-least.ensures;
-      least = least_from corners xs k c.requires.ordered.0 ys os turned c.requires.ordered.1 c.least_place-least.ensures;
+      ordered = order_from corners xs k ordered.0 ys os turned ordered.1 c.least_place-least.ensures;
+      least = least_from corners xs k ordered.0 ys os turned ordered.1 c.least_place-least.ensures;
     }
 
 pub returns-clause-cut : goal.returns-clause-cut
 returns-clause-cut g c =
     let corners = c.args.ring.now.corners in
-    result_from corners c.args.piece.boundary.items c.least_place-least.result c.requires.ordered.0 c.cut_at_first.result
-    (subst (λ xs. IfOk c.cut_at_first.result (IsCutOf corners xs)) c.rotate_left.ensures.items c.cut_at_first.ensures.cut)
+    subst (λ xs. IfOk c.cut_at_first.result (IsCutOf corners xs)) (ap (λ b. b.items) c.in_ok-piece.ensures.boundary)
+    (result_from corners c.in_ok-piece.piece.boundary.items c.least_place-least.result c.in_ok-piece.ensures.ordered.0 c.cut_at_first.result
+    (subst (λ xs. IfOk c.cut_at_first.result (IsCutOf corners xs)) c.rotate_left.ensures.items c.cut_at_first.ensures.cut))
 
 pub returns-clause-steps : goal.returns-clause-steps
 returns-clause-steps g c =
-    let size = ap length c.rotate_left.ensures.items ∙ as_long c.args.piece.boundary.items c.least_place-least.result in
+    let size = ap length c.rotate_left.ensures.items ∙ as_long c.in_ok-piece.piece.boundary.items c.least_place-least.result
+    ∙ ap (λ b. length b.items) c.in_ok-piece.ensures.boundary in
     omega (arith, size, c.cut_at_first.ensures.steps)
 
 pub returns-clause-triangle : goal.returns-clause-triangle
 returns-clause-triangle g c three =
-    c.cut_at_first.ensures.triangle (ap length c.rotate_left.ensures.items ∙ as_long c.args.piece.boundary.items c.least_place-least.result ∙ three)
+    c.cut_at_first.ensures.triangle (ap length c.rotate_left.ensures.items ∙ as_long c.in_ok-piece.piece.boundary.items c.least_place-least.result
+    ∙ ap (λ b. length b.items) c.in_ok-piece.ensures.boundary ∙ three)

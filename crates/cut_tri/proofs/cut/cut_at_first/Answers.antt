@@ -9,7 +9,7 @@ pub returns-then-len-eq3-clause-cut : goal.returns-then-len-eq3-clause-cut
 returns-then-len-eq3-clause-cut g c =
     let corners = c.args.ring.now.corners in
     let xs = c.args.piece.boundary.items in
-    let least = least_below corners xs c.args.piece.order.items c.requires.ordered.ordered.1 0 c.requires.ordered.least in
+    let least = least_below corners xs c.args.piece.order.items c.requires.ordered.ordered.1 c.requires.ordered.ordered.0.numbers 0 c.requires.ordered.least in
     rw c.corner_of-tri.ensures
     (triangle_cut corners xs c.requires.ordered.ordered.0 least (sym c.args.piece.boundary.ok.0 ∙ sym c.len.ensures ∙ c.if-len-eq3.true))
 
@@ -17,7 +17,7 @@ pub returns-in-None-clause-cut : goal.returns-in-None-clause-cut
 returns-in-None-clause-cut g c =
     let corners = c.args.ring.now.corners in
     let xs = c.args.piece.boundary.items in
-    let least = least_below corners xs c.args.piece.order.items c.requires.ordered.ordered.1 0 c.requires.ordered.least in
+    let least = least_below corners xs c.args.piece.order.items c.requires.ordered.ordered.1 c.requires.ordered.ordered.0.numbers 0 c.requires.ordered.least in
     subst (IsEarCut corners xs c.corner_of-tri.result) (sym {A = List ℕ} c.pop_front.ensures.rest)
     (rw c.corner_of-tri.ensures
     (ear_cut corners xs c.requires.ordered.ordered.0 least (λ e. c.if-len-eq3.false (c.len.ensures ∙ c.args.piece.boundary.ok.0 ∙ e))

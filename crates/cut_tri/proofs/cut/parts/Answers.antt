@@ -1,51 +1,137 @@
-use Rattle.std.proofs.Common.{◌≡◌, refl, sym, ap, subst, ◌∙◌, ℕ, List, [], ◌∷◌, ◌++◌, ◌<◌, length, get_or, take, drop, arith}
-use Rattle.std.specs.List.{All, AllPairs, filter}
-use Rattle.cut_tri.proofs.Parts.{are_parts, different, order_below, orders_are, place_inner, refilled}
-use Rattle.cut_tri.specs.Ordered.{ArePlaces, is_in_first, is_in_second}
+use Rattle.std.proofs.Common.{◌≡◌, subst, ◌∙◌, ◌+◌, length, arith}
+use Rattle.cut_tri.proofs.Parts.{are_parts, different, first_ordered, numbers_below, once, own_ordered, place_inner, second_ordered}
+use Rattle.cut_tri.specs.Thinned.{IsThinned}
 use Rattle.cut_tri.proofs.cut.parts.Goals as goal
 
-pub note_places-requires-clause-different : goal.note_places-requires-clause-different
-note_places-requires-clause-different c =
-    subst (AllPairs (λ i j. ¬ (i ≡ j))) (sym {A = List ℕ} c.make_contiguous.ensures.value)
-    (different c.args.ring.now.corners c.args.piece.boundary.items c.args.piece.order.items c.requires.ordered.ordered.0 c.requires.ordered.ordered.1)
-
-pub part_order-requires-clause-numbers : goal.part_order-requires-clause-numbers
-part_order-requires-clause-numbers c =
-    subst (λ os. All (λ i. i < length c.note_places.new.places) os) (sym {A = List ℕ} c.deref.ensures.value)
-    (order_below c.args.ring.now.corners c.args.piece.boundary.items c.args.piece.order.items c.requires.ordered.ordered.0 c.requires.ordered.ordered.1
-    (length c.note_places.new.places) (c.note_places.ensures.same_length ∙ c.requires.places))
-
-pub part_order-requires-clause-inner : goal.part_order-requires-clause-inner
-part_order-requires-clause-inner c =
+pub take_out-requires-clause-range : goal.take_out-requires-clause-range
+take_out-requires-clause-range c =
     let corners = c.args.ring.now.corners in
     let xs = c.args.piece.boundary.items in
     let os = c.args.piece.order.items in
-    let inner = place_inner corners xs os c.requires.ordered.ordered.0 c.requires.ordered.ordered.1 c.requires.ordered.least c.args.number c.requires.farthest
-    c.note_places.new.places (subst (λ is. ArePlaces is c.note_places.new.places (length is)) c.make_contiguous.ensures.value c.note_places.ensures.places) (get_or c.note_places.new.places c.args.number 0) refl in
-    let size = c.args.piece.boundary.ok.0 in
-    (omega (arith, inner.0), omega (arith, inner.1, size, c.len-count.ensures))
+    let piece = c.requires.ordered.ordered.0 in
+    let is = c.requires.ordered.ordered.1 in
+    let inner = place_inner corners xs os piece is c.requires.ordered.least c.args.number c.requires.farthest c.place_of-place.result c.place_of-place.ensures.place
+    c.place_of-place.ensures.is in
+    (omega (arith, inner.0), omega (arith, inner.1))
+
+pub take_out-requires-clause-numbers : goal.take_out-requires-clause-numbers
+take_out-requires-clause-numbers c =
+    numbers_below c.args.ring.now.corners c.args.piece.boundary.items c.requires.ordered.ordered.0 (length c.args.ranks.now) c.requires.ranks.size
+
+pub take_out-requires-clause-few : goal.take_out-requires-clause-few
+take_out-requires-clause-few c =
+    c.requires.ranks.few
+
+pub take_out-requires-clause-different : goal.take_out-requires-clause-different
+take_out-requires-clause-different c =
+    different c.args.ring.now.corners c.args.piece.boundary.items c.requires.ordered.ordered.0
+
+pub take_out-requires-clause-once : goal.take_out-requires-clause-once
+take_out-requires-clause-once c =
+    let corners = c.args.ring.now.corners in
+    let xs = c.args.piece.boundary.items in
+    let os = c.args.piece.order.items in
+    let piece = c.requires.ordered.ordered.0 in
+    let is = c.requires.ordered.ordered.1 in
+    once corners xs os piece is (length c.args.ranks.now) c.requires.ranks.size
+
+pub order_of-requires-clause-numbers : goal.order_of-requires-clause-numbers
+order_of-requires-clause-numbers c =
+    let corners = c.args.ring.now.corners in
+    let xs = c.args.piece.boundary.items in
+    let os = c.args.piece.order.items in
+    let piece = c.requires.ordered.ordered.0 in
+    let is = c.requires.ordered.ordered.1 in
+    let are = are_parts corners xs os piece is c.requires.ordered.least c.args.number c.requires.farthest c.place_of-place.result c.place_of-place.ensures.place
+    c.place_of-place.ensures.is c.in_ok-first.first.items c.in_ok-first.second.items c.in_ok-first.ensures.first c.in_ok-first.ensures.second in
+    numbers_below corners c.in_ok-first.first.items are.first_is_piece (length c.args.ranks.now) c.requires.ranks.size
+
+pub order_of-requires-clause-few : goal.order_of-requires-clause-few
+order_of-requires-clause-few c =
+    c.requires.ranks.few
+
+pub returns-then-place-count-clause-parts : goal.returns-then-place-count-clause-parts
+returns-then-place-count-clause-parts c =
+    let corners = c.args.ring.now.corners in
+    let xs = c.args.piece.boundary.items in
+    let os = c.args.piece.order.items in
+    let piece = c.requires.ordered.ordered.0 in
+    let is = c.requires.ordered.ordered.1 in
+    are_parts corners xs os piece is c.requires.ordered.least c.args.number c.requires.farthest c.place_of-place.result c.place_of-place.ensures.place
+    c.place_of-place.ensures.is c.in_ok-first.first.items c.in_ok-first.second.items c.in_ok-first.ensures.first c.in_ok-first.ensures.second
+
+pub returns-then-place-count-clause-ordered : goal.returns-then-place-count-clause-ordered
+returns-then-place-count-clause-ordered c =
+    let corners = c.args.ring.now.corners in
+    let xs = c.args.piece.boundary.items in
+    let os = c.args.piece.order.items in
+    let piece = c.requires.ordered.ordered.0 in
+    let is = c.requires.ordered.ordered.1 in
+    let are = are_parts corners xs os piece is c.requires.ordered.least c.args.number c.requires.farthest c.place_of-place.result c.place_of-place.ensures.place
+    c.place_of-place.ensures.is c.in_ok-first.first.items c.in_ok-first.second.items c.in_ok-first.ensures.first c.in_ok-first.ensures.second in (
+      own_ordered corners c.in_ok-first.first.items are.first_is_piece c.args.ranks.now c.in_ok-order.order.items c.requires.ranks c.in_ok-order.ensures.all c.in_ok-order.ensures.falls,
+      second_ordered corners xs os piece is c.requires.ordered.least c.args.number c.requires.farthest c.place_of-place.result c.place_of-place.ensures.place
+          c.place_of-place.ensures.is c.in_ok-first.first.items c.in_ok-first.second.items c.in_ok-first.ensures.first c.in_ok-first.ensures.second (length c.args.ranks.now) c.requires.ranks.size c.take_out.new.order.items c.take_out.ensures,
+    )
+
+pub take_out-requires-2-clause-numbers : goal.take_out-requires-2-clause-numbers
+take_out-requires-2-clause-numbers c =
+    numbers_below c.args.ring.now.corners c.args.piece.boundary.items c.requires.ordered.ordered.0 (length c.args.ranks.now) c.requires.ranks.size
+
+pub take_out-requires-2-clause-few : goal.take_out-requires-2-clause-few
+take_out-requires-2-clause-few c =
+    c.requires.ranks.few
+
+pub take_out-requires-2-clause-different : goal.take_out-requires-2-clause-different
+take_out-requires-2-clause-different c =
+    different c.args.ring.now.corners c.args.piece.boundary.items c.requires.ordered.ordered.0
+
+pub take_out-requires-2-clause-once : goal.take_out-requires-2-clause-once
+take_out-requires-2-clause-once c =
+    let corners = c.args.ring.now.corners in
+    let xs = c.args.piece.boundary.items in
+    let os = c.args.piece.order.items in
+    let piece = c.requires.ordered.ordered.0 in
+    let is = c.requires.ordered.ordered.1 in
+    once corners xs os piece is (length c.args.ranks.now) c.requires.ranks.size
+
+pub order_of-requires-2-clause-numbers : goal.order_of-requires-2-clause-numbers
+order_of-requires-2-clause-numbers c =
+    let corners = c.args.ring.now.corners in
+    let xs = c.args.piece.boundary.items in
+    let os = c.args.piece.order.items in
+    let piece = c.requires.ordered.ordered.0 in
+    let is = c.requires.ordered.ordered.1 in
+    let are = are_parts corners xs os piece is c.requires.ordered.least c.args.number c.requires.farthest c.place_of-place.result c.place_of-place.ensures.place
+    c.place_of-place.ensures.is c.in_ok-first-2.first.items c.in_ok-first-2.second.items c.in_ok-first-2.ensures.first c.in_ok-first-2.ensures.second in
+    numbers_below corners c.in_ok-first-2.second.items are.second_is_piece (length c.args.ranks.now) c.requires.ranks.size
+
+pub order_of-requires-2-clause-few : goal.order_of-requires-2-clause-few
+order_of-requires-2-clause-few c =
+    c.requires.ranks.few
 
 pub returns-clause-parts : goal.returns-clause-parts
 returns-clause-parts c =
+    let corners = c.args.ring.now.corners in
     let xs = c.args.piece.boundary.items in
-    let place : ℕ = get_or c.note_places.new.places c.args.number 0 in
-    let same = refilled c.args.piece.boundary.len xs c.make_contiguous.result.now c.args.piece.boundary.ok.0 c.make_contiguous.ensures.value in
-    are_parts c.args.ring.now.corners xs c.args.piece.order.items c.requires.ordered.ordered.0 c.requires.ordered.ordered.1 c.requires.ordered.least
-    c.args.number c.requires.farthest c.note_places.new.places (subst (λ is. ArePlaces is c.note_places.new.places (length is)) c.make_contiguous.ensures.value c.note_places.ensures.places) place refl
-    c.in_ok-first.first.items c.in_ok-first.second.items
-    (c.in_ok-first.ensures.first ∙ ap (λ is. take place is ++ c.args.number ∷ []) same)
-    (c.in_ok-first.ensures.second ∙ ap (λ is. get_or is 0 0 ∷ drop place is) same)
+    let os = c.args.piece.order.items in
+    let piece = c.requires.ordered.ordered.0 in
+    let is = c.requires.ordered.ordered.1 in
+    are_parts corners xs os piece is c.requires.ordered.least c.args.number c.requires.farthest c.place_of-place.result c.place_of-place.ensures.place
+    c.place_of-place.ensures.is c.in_ok-first-2.first.items c.in_ok-first-2.second.items c.in_ok-first-2.ensures.first c.in_ok-first-2.ensures.second
 
 pub returns-clause-ordered : goal.returns-clause-ordered
 returns-clause-ordered c =
+    let corners = c.args.ring.now.corners in
     let xs = c.args.piece.boundary.items in
-    let place : ℕ = get_or c.note_places.new.places c.args.number 0 in
-    let same = refilled c.args.piece.boundary.len xs c.make_contiguous.result.now c.args.piece.boundary.ok.0 c.make_contiguous.ensures.value in
-    orders_are c.args.ring.now.corners xs c.args.piece.order.items c.requires.ordered.ordered.0 c.requires.ordered.ordered.1 c.requires.ordered.least
-    c.args.number c.requires.farthest c.note_places.new.places (subst (λ is. ArePlaces is c.note_places.new.places (length is)) c.make_contiguous.ensures.value c.note_places.ensures.places) place refl
-    c.in_ok-first.first.items c.in_ok-first.second.items
-    (c.in_ok-first.ensures.first ∙ ap (λ is. take place is ++ c.args.number ∷ []) same)
-    (c.in_ok-first.ensures.second ∙ ap (λ is. get_or is 0 0 ∷ drop place is) same)
-    c.in_ok-first_order.first_order.items c.in_ok-first_order.second_order.items
-    (c.in_ok-first_order.ensures.first ∙ ap (filter (is_in_first c.note_places.new.places place)) c.deref.ensures.value)
-    (c.in_ok-first_order.ensures.second ∙ ap (filter (is_in_second c.note_places.new.places place)) c.deref.ensures.value)
+    let os = c.args.piece.order.items in
+    let piece = c.requires.ordered.ordered.0 in
+    let is = c.requires.ordered.ordered.1 in
+    let are = are_parts corners xs os piece is c.requires.ordered.least c.args.number c.requires.farthest c.place_of-place.result c.place_of-place.ensures.place
+    c.place_of-place.ensures.is c.in_ok-first-2.first.items c.in_ok-first-2.second.items c.in_ok-first-2.ensures.first c.in_ok-first-2.ensures.second in
+    let all : c.len-count.result ≡ length xs = c.len-count.ensures ∙ c.args.piece.boundary.ok.0 in
+    let thin = subst (λ to. IsThinned (length c.args.ranks.now) xs (c.place_of-place.result + 1) to os c.take_out-2.new.order.items) all c.take_out-2.ensures in (
+      first_ordered corners xs os piece is c.requires.ordered.least c.args.number c.requires.farthest c.place_of-place.result c.place_of-place.ensures.place
+          c.place_of-place.ensures.is c.in_ok-first-2.first.items c.in_ok-first-2.second.items c.in_ok-first-2.ensures.first c.in_ok-first-2.ensures.second (length c.args.ranks.now) c.requires.ranks.size c.take_out-2.new.order.items thin,
+      own_ordered corners c.in_ok-first-2.second.items are.second_is_piece c.args.ranks.now c.in_ok-order-2.order.items c.requires.ranks c.in_ok-order-2.ensures.all c.in_ok-order-2.ensures.falls,
+    )

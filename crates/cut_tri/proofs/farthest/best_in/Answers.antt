@@ -4,10 +4,12 @@ use Rattle.std.proofs.lemmas.List.Elements.{Contains-get_or}
 use Rattle.std.specs.List.{Contains}
 use Rattle.plane.specs.Point.{Point}
 use Rattle.rings.specs.Ring.{vertex}
-use Rattle.cut_tri.proofs.Candidates.{IsBestBelow, best_more, best_of_all, best_past, of_rank}
+use Rattle.cut_tri.proofs.Candidates.{IsBestBelow, best_more, best_of_all, best_past, none_below, of_rank}
 use Rattle.cut_tri.proofs.Ends.{rank_in, rank_or_right}
-use Rattle.cut_tri.proofs.Looks.{candidate_is, first_not_right, in_corner, is_candidate, left_at_corner, nearer_at, none_is_best, not_least, order_numbers, order_some, rank_more}
+use Rattle.cut_tri.proofs.Looks.{candidate_is, first_not_right, in_corner, is_candidate, left_at_corner, nearer_at, none_is_best, not_least, order_some, rank_more}
+use Rattle.cut_tri.proofs.Members.{members_of_numbers}
 use Rattle.cut_tri.proofs.Orders.{least_below}
+use Rattle.cut_tri.proofs.SeenVertices.{seen, seen_few, seen_first, seen_more, seen_no_more}
 use Rattle.cut_tri.specs.Corner.{IsFartherOf, IsInCornerOf, best_height, candidate_of}
 use Rattle.cut_tri.specs.Clusters.{AreClusters}
 use Rattle.cut_tri.specs.declared.clusters.Clusters.{Clusters}
@@ -24,30 +26,39 @@ overflow_sub-last g c =
     omega (arith, has, size, c.len-last.ensures)
 
 pub corner-p-requires : goal.corner-p-requires
-corner-p-requires g c =
+corner-p-requires g c = omega (arith, c.if-count-number.false, c.len-count.ensures.number)
+
+pub loop-rank-init : goal.loop-rank-init
+loop-rank-init g c =
     let corners = c.args.ring.now.corners in
+    let xs = c.args.piece.now.boundary.items in
     let os = c.args.piece.now.order.items in
-    let k : ℕ = c.len-last.result - 1 - c.loop-rank.rank in
-    let size = c.args.piece.now.order.ok.0 in
-    let within : k < length os = omega (arith, size, c.len-last.ensures, c.len-rank-end.ensures, c.loop-rank-test.true) in
-    let at : c.index-number.result.now ≡ get_or os k 0 = c.index-number.ensures ∙ get_or_default os k c.index-number.result.now 0 within in
-    subst (λ i. i < length corners) (sym at)
-    (order_numbers corners c.args.piece.now.boundary.items os c.requires.ordered.ordered.1 c.requires.ordered.ordered.0.numbers k within)
+    let least = c.requires.ordered.least in
+    let within = least.within in
+    let has = order_some corners xs os c.requires.ordered.ordered.1 within in
+    let low = subst (λ i. i < length corners) least.is (c.requires.ordered.ordered.0.numbers 0 within) in
+    record {
+      best = none_below corners xs os;
+      clusters = c.requires.clusters;
+      some = seen_first (length corners) os has low;
+      few = λ below. omega arith;
+      steps = omega arith;
+    }
 
 pub is_nearer_from-requires-clause-counterclockwise : goal.is_nearer_from-requires-clause-counterclockwise
 is_nearer_from-requires-clause-counterclockwise g c =
-    let least = least_below c.args.ring.now.corners c.args.piece.now.boundary.items c.args.piece.now.order.items c.requires.ordered.ordered.1 0 c.requires.ordered.least in
+    let least = least_below c.args.ring.now.corners c.args.piece.now.boundary.items c.args.piece.now.order.items c.requires.ordered.ordered.1 c.requires.ordered.ordered.0.numbers 0 c.requires.ordered.least in
     left_at_corner c.args.ring.now.corners c.args.piece.now.boundary.items c.args.corner.now c.requires.corner c.requires.ordered.ordered.0 least
 
 pub is_nearer_from-requires-clause-first : goal.is_nearer_from-requires-clause-first
 is_nearer_from-requires-clause-first g c =
-    let least = least_below c.args.ring.now.corners c.args.piece.now.boundary.items c.args.piece.now.order.items c.requires.ordered.ordered.1 0 c.requires.ordered.least in
+    let least = least_below c.args.ring.now.corners c.args.piece.now.boundary.items c.args.piece.now.order.items c.requires.ordered.ordered.1 c.requires.ordered.ordered.0.numbers 0 c.requires.ordered.least in
     let some = c.requires.ordered.ordered.0.polygon.some in
     first_not_right c.args.ring.now.corners c.args.piece.now.boundary.items c.args.corner.now c.requires.corner (omega (arith, some)) least
 
 pub candidate-requires : goal.candidate-requires
 candidate-requires g c =
-    let least = least_below c.args.ring.now.corners c.args.piece.now.boundary.items c.args.piece.now.order.items c.requires.ordered.ordered.1 0 c.requires.ordered.least in
+    let least = least_below c.args.ring.now.corners c.args.piece.now.boundary.items c.args.piece.now.order.items c.requires.ordered.ordered.1 c.requires.ordered.ordered.0.numbers 0 c.requires.ordered.least in
     record { counterclockwise = left_at_corner c.args.ring.now.corners c.args.piece.now.boundary.items c.args.corner.now c.requires.corner c.requires.ordered.ordered.0 least }
 
 pub loop-rank-preserved : goal.loop-rank-preserved
@@ -65,9 +76,12 @@ loop-rank-preserved g c =
     let i : ℕ = c.index-number.result.now in
     let is : i ≡ of_rank os n =
     c.index-number.ensures ∙ get_or_default os k i 0 (omega (arith, within, same)) ∙ ap (λ j. get_or os j 0) same in
+    let low : of_rank os n < length corners = subst (λ j. j < length corners) is (omega (arith, c.if-count-number.false, c.len-count.ensures.number)) in
+    let more = seen_more (length corners) os n within low in
     let at = c.requires.corner in
-    let has : Contains xs i = subst (Contains xs) (sym is) (ordered.only (of_rank os n) (Contains-get_or os (length os - 1 - n) 0 (omega (arith, within)))) in
-    let other : ¬ (i ≡ get_or xs 0 0) = λ e. not_least corners xs os ordered c.requires.ordered.least n some within (sym is ∙ e) in
+    let has : Contains xs i = subst (Contains xs) (sym is) (ordered.only (of_rank os n) low (Contains-get_or os (length os - 1 - n) 0 (omega (arith, within)))) in
+    let other : ¬ (i ≡ get_or xs 0 0) =
+    λ e. not_least corners xs os ordered c.requires.ordered.ordered.0.numbers c.requires.ordered.least n some within low (sym is ∙ e) in
     let best : IsBestBelow corners xs os (n + 1) c.match-candidate.best = elim c.match-candidate.branch [
       | in-Some w ↦
           let here = in_corner corners xs c.args.corner.now at i c.corner-p.result c.corner-p.ensures has other w.in-Some.ensures.inside in
@@ -86,7 +100,7 @@ loop-rank-preserved g c =
       | else-rank-eq-NEAR-via-then-rank-eq-NEAR+else-is_none w ↦ subst made (sym w.clusters-is) c.loop-rank.invariant.clusters
       | else-rank-eq-NEAR-via-else-rank-eq-NEAR w ↦ subst made (sym w.clusters-is) c.loop-rank.invariant.clusters
     ] in
-    let start : ℕ = 515 * (c.loop-rank.rank - 1) in
+    let start : ℕ = 515 * (seen (length c.args.ring.now.corners) c.args.piece.now.order.items c.loop-rank.rank - 1) in
     let all : ℕ = length c.args.ring.now.corners in
     let so_far : (c.loop-rank.rank + 1 ≤ 32 → c.else-rank-eq-NEAR.steps ≤ c.args.steps.now + start)
     × (c.else-rank-eq-NEAR.steps ≤ c.args.steps.now + (start + 371 * all + 1168)) = elim c.else-rank-eq-NEAR.branch [
@@ -102,8 +116,53 @@ loop-rank-preserved g c =
     record {
       best = best;
       clusters = clusters;
-      few = λ below. omega (arith, so_far.0 below, some, c.is_nearer_from.ensures.steps, c.candidate.ensures.steps);
-      steps = omega (arith, so_far.1, some, c.is_nearer_from.ensures.steps, c.candidate.ensures.steps);
+      some = omega (arith, more);
+      few = λ below. omega (arith, so_far.0 below, more, c.loop-rank.invariant.some, c.is_nearer_from.ensures.steps, c.candidate.ensures.steps);
+      steps = omega (arith, so_far.1, more, c.loop-rank.invariant.some, c.is_nearer_from.ensures.steps, c.candidate.ensures.steps);
+    }
+
+pub loop-rank-preserved-then-count-number : goal.loop-rank-preserved-then-count-number
+loop-rank-preserved-then-count-number g c =
+    let corners = c.args.ring.now.corners in
+    let xs = c.args.piece.now.boundary.items in
+    let os = c.args.piece.now.order.items in
+    let n : ℕ = c.loop-rank.rank in
+    let k : ℕ = c.len-last.result - 1 - n in
+    let size = c.args.piece.now.order.ok.0 in
+    let within : n < length os = omega (arith, size, c.len-rank-end.ensures, c.loop-rank-test.true) in
+    let same : k ≡ length os - 1 - n = omega (arith, size, c.len-last.ensures) in
+    let i : ℕ = c.index-number.result.now in
+    let is : i ≡ of_rank os n =
+    c.index-number.ensures ∙ get_or_default os k i 0 (omega (arith, within, same)) ∙ ap (λ j. get_or os j 0) same in
+    let high : length corners ≤ of_rank os n = subst (λ j. length corners ≤ j) is (omega (arith, c.if-count-number.true, c.len-count.ensures.number)) in
+    let more = seen_no_more (length corners) os n within high in
+    let numbers = c.requires.ordered.ordered.0.numbers in
+    let made = λ (o : Option Clusters). IfSome o (AreClusters corners) in
+    let clusters : made c.else-rank-eq-NEAR.clusters = elim c.else-rank-eq-NEAR.branch [
+      | else-rank-eq-NEAR-via-then-rank-eq-NEAR+then-is_none+else-is_empty w ↦ subst made (sym w.clusters-is) w.is_empty.ensures.clusters
+      | else-rank-eq-NEAR-via-then-rank-eq-NEAR+else-is_none w ↦ subst made (sym w.clusters-is) c.loop-rank.invariant.clusters
+      | else-rank-eq-NEAR-via-else-rank-eq-NEAR w ↦ subst made (sym w.clusters-is) c.loop-rank.invariant.clusters
+    ] in
+    let start : ℕ = 515 * (seen (length c.args.ring.now.corners) c.args.piece.now.order.items c.loop-rank.rank - 1) in
+    let all : ℕ = length c.args.ring.now.corners in
+    let so_far : (c.loop-rank.rank + 1 ≤ 32 → c.else-rank-eq-NEAR.steps ≤ c.args.steps.now + start)
+    × (c.else-rank-eq-NEAR.steps ≤ c.args.steps.now + (start + 371 * all + 1168)) = elim c.else-rank-eq-NEAR.branch [
+      | else-rank-eq-NEAR-via-then-rank-eq-NEAR+then-is_none+else-is_empty w ↦ (
+        λ below. absurd (omega (arith, below, w.if-rank-eq-NEAR.true)),
+        omega (arith, w.steps-is, w.is_empty.ensures.steps, c.loop-rank.invariant.few (omega (arith, w.if-rank-eq-NEAR.true))),
+      )
+      | else-rank-eq-NEAR-via-then-rank-eq-NEAR+else-is_none w ↦
+          (λ below. omega (arith, w.steps-is, c.loop-rank.invariant.few (omega (arith, below))), omega (arith, w.steps-is, c.loop-rank.invariant.steps))
+      | else-rank-eq-NEAR-via-else-rank-eq-NEAR w ↦
+          (λ below. omega (arith, w.steps-is, c.loop-rank.invariant.few (omega (arith, below))), omega (arith, w.steps-is, c.loop-rank.invariant.steps))
+    ] in
+    record {
+      best = best_past corners xs os n c.loop-rank.best c.loop-rank.invariant.best
+          (λ in_n. let low = members_of_numbers (length corners) xs numbers (of_rank os n) in_n.member in omega (arith, low, high));
+      clusters = clusters;
+      some = omega (arith, more, c.loop-rank.invariant.some);
+      few = λ below. omega (arith, so_far.0 below, more);
+      steps = omega (arith, so_far.1, more);
     }
 
 pub returns-after-loop-rank-clause-best : goal.returns-after-loop-rank-clause-best
@@ -129,8 +188,10 @@ returns-then-is_nearer_from-clause-best g c =
     let same : k ≡ length os - 1 - n = omega (arith, size, c.len-last.ensures) in
     let is : c.index-number.result.now ≡ of_rank os n =
     c.index-number.ensures ∙ get_or_default os k c.index-number.result.now 0 (omega (arith, within, same)) ∙ ap (λ j. get_or os j 0) same in
+    let low : of_rank os n < length corners = subst (λ j. j < length corners) is (omega (arith, c.if-count-number.false, c.len-count.ensures.number)) in
     best_of_all corners xs os n c.loop-rank.best c.loop-rank.invariant.best
-    (λ i in_i. elim (rank_or_right corners xs os c.requires.ordered.ordered.1 c.requires.ordered.least n within i in_i) [
+    (λ i in_i.
+    elim (rank_or_right corners xs os c.requires.ordered.ordered.1 c.requires.ordered.least c.requires.ordered.ordered.0.numbers n within low i in_i) [
       | inl has ↦ inl has
       | inr right ↦ inr (nearer_at corners xs c.args.corner.now c.requires.corner i (best_height c.loop-rank.best)
           (c.is_nearer_from.ensures.nearer c.if-is_nearer_from.true (vertex corners i)
@@ -139,7 +200,7 @@ returns-then-is_nearer_from-clause-best g c =
 
 pub is_empty-requires-clause-counterclockwise : goal.is_empty-requires-clause-counterclockwise
 is_empty-requires-clause-counterclockwise g c =
-    let least = least_below c.args.ring.now.corners c.args.piece.now.boundary.items c.args.piece.now.order.items c.requires.ordered.ordered.1 0 c.requires.ordered.least in
+    let least = least_below c.args.ring.now.corners c.args.piece.now.boundary.items c.args.piece.now.order.items c.requires.ordered.ordered.1 c.requires.ordered.ordered.0.numbers 0 c.requires.ordered.least in
     left_at_corner c.args.ring.now.corners c.args.piece.now.boundary.items c.args.corner.now c.requires.corner c.requires.ordered.ordered.0 least
 
 pub returns-then-is_empty-clause-best : goal.returns-then-is_empty-clause-best
@@ -149,12 +210,11 @@ returns-then-is_empty-clause-best g c =
 
 pub returns-then-is_empty-clause-steps : goal.returns-then-is_empty-clause-steps
 returns-then-is_empty-clause-steps g c =
-    let size = c.args.piece.now.order.ok.0 in
+    let most = seen_few c.args.ring.now.corners c.args.piece.now.boundary.items c.args.piece.now.order.items c.requires.ordered.ordered.1 c.loop-rank.rank in
     omega (
       arith,
-      size,
-      c.len-rank-end.ensures,
-      c.loop-rank-test.true,
+      most,
+      c.loop-rank.invariant.some,
       c.if-rank-eq-NEAR.true,
       c.is_empty.ensures.steps,
       c.loop-rank.invariant.few (omega (arith, c.if-rank-eq-NEAR.true)),
@@ -163,7 +223,7 @@ returns-then-is_empty-clause-steps g c =
 pub returns-then-is_nearer_from-clause-steps : goal.returns-then-is_nearer_from-clause-steps
 returns-then-is_nearer_from-clause-steps g c =
     let size = c.args.piece.now.order.ok.0 in
-    let start : ℕ = 515 * (c.loop-rank.rank - 1) in
+    let start : ℕ = 515 * (seen (length c.args.ring.now.corners) c.args.piece.now.order.items c.loop-rank.rank - 1) in
     let n : ℕ = length c.args.ring.now.corners in
     let so_far : (c.loop-rank.rank + 1 ≤ 32 → c.else-rank-eq-NEAR.steps ≤ c.args.steps.now + start)
     × (c.else-rank-eq-NEAR.steps ≤ c.args.steps.now + (start + 371 * n + 1168)) = elim c.else-rank-eq-NEAR.branch [
@@ -176,12 +236,19 @@ returns-then-is_nearer_from-clause-steps g c =
       | else-rank-eq-NEAR-via-else-rank-eq-NEAR w ↦
           (λ below. omega (arith, w.steps-is, c.loop-rank.invariant.few (omega (arith, below))), omega (arith, w.steps-is, c.loop-rank.invariant.steps))
     ] in
-    omega (arith, so_far.1, size, c.len-rank-end.ensures, c.loop-rank-test.true, c.loop-rank.auto.rank, c.is_nearer_from.ensures.steps)
+    let os = c.args.piece.now.order.items in
+    let rank : ℕ = c.loop-rank.rank in
+    let k : ℕ = c.len-last.result - 1 - rank in
+    let within : rank < length os = omega (arith, size, c.len-rank-end.ensures, c.loop-rank-test.true) in
+    let same : k ≡ length os - 1 - rank = omega (arith, size, c.len-last.ensures) in
+    let is : c.index-number.result.now ≡ of_rank os rank =
+    c.index-number.ensures ∙ get_or_default os k c.index-number.result.now 0 (omega (arith, within, same)) ∙ ap (λ j. get_or os j 0) same in
+    let low : of_rank os rank < n = subst (λ j. j < n) is (omega (arith, c.if-count-number.false, c.len-count.ensures.number)) in
+    let more = seen_more n os rank within low in
+    let most = seen_few c.args.ring.now.corners c.args.piece.now.boundary.items os c.requires.ordered.ordered.1 (rank + 1) in
+    omega (arith, so_far.1, more, most, c.loop-rank.invariant.some, c.is_nearer_from.ensures.steps)
 
 pub returns-after-loop-rank-clause-steps : goal.returns-after-loop-rank-clause-steps
 returns-after-loop-rank-clause-steps g c =
-    let size = c.args.piece.now.order.ok.0 in
-    let some = c.requires.ordered.ordered.0.polygon.some in
-    let has = order_some c.args.ring.now.corners c.args.piece.now.boundary.items c.args.piece.now.order.items c.requires.ordered.ordered.1 (omega (arith, some)) in
-    let within = c.loop-rank.auto.rank-end (omega (arith, has, size, c.len-rank-end.ensures)) in
-    omega (arith, within, has, size, c.len-rank-end.ensures, c.loop-rank.invariant.steps)
+    let most = seen_few c.args.ring.now.corners c.args.piece.now.boundary.items c.args.piece.now.order.items c.requires.ordered.ordered.1 c.loop-rank.rank in
+    omega (arith, most, c.loop-rank.invariant.some, c.loop-rank.invariant.steps)

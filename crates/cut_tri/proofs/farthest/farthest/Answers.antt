@@ -1,7 +1,6 @@
 use Rattle.std.proofs.Common.{rules, arith}
 use Rattle.cut_tri.proofs.Candidates.{farthest_of_best, none_of_best}
 use Rattle.cut_tri.proofs.Ends.{piece_distinct}
-use Rattle.cut_tri.proofs.Looks.{order_few, order_some}
 use Rattle.cut_tri.proofs.farthest.farthest.Goals as goal
 
 pub returns-clause-farthest : goal.returns-clause-farthest
@@ -19,20 +18,12 @@ returns-in_err-best_in-clause-none g c =
 
 pub returns-clause-steps : goal.returns-clause-steps
 returns-clause-steps g c =
-    let corners = c.args.ring.now.corners in
-    let xs = c.args.piece.now.boundary.items in
-    let os = c.args.piece.now.order.items in
     let piece = c.requires.ordered.ordered.0 in
-    let few = order_few corners xs os c.requires.ordered.ordered.1 in
-    let some = order_some corners xs os c.requires.ordered.ordered.1 (let three = piece.polygon.some in omega (arith, three)) in
-    omega (arith, few, some, c.of-corner.ensures.steps, c.best_in.ensures.steps)
+    let some = piece.polygon.some in
+    omega (arith, some, c.of-corner.ensures.steps, c.best_in.ensures.steps)
 
 pub returns-in_err-best_in-clause-steps : goal.returns-in_err-best_in-clause-steps
 returns-in_err-best_in-clause-steps g c =
-    let corners = c.args.ring.now.corners in
-    let xs = c.args.piece.now.boundary.items in
-    let os = c.args.piece.now.order.items in
     let piece = c.requires.ordered.ordered.0 in
-    let few = order_few corners xs os c.requires.ordered.ordered.1 in
-    let some = order_some corners xs os c.requires.ordered.ordered.1 (let three = piece.polygon.some in omega (arith, three)) in
-    omega (arith, few, some, c.of-corner.ensures.steps, c.best_in.ensures.steps)
+    let some = piece.polygon.some in
+    omega (arith, some, c.of-corner.ensures.steps, c.best_in.ensures.steps)

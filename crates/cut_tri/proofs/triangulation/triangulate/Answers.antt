@@ -1,9 +1,11 @@
-use Rattle.std.proofs.Common.{◌≡◌, ◌+◌, ◌*◌, ◌≤◌, sym, ap, ◌∙◌, [], ◌∷◌, ◌++◌, length, arith}
+use Rattle.std.proofs.Common.{◌≡◌, ◌+◌, ◌*◌, ◌≤◌, sym, subst, ap, ◌∙◌, [], ◌∷◌, ◌++◌, length, arith}
 use Rattle.std.proofs.lemmas.List.Elements.{All-nil}
 use Rattle.cut_tri.proofs.AllowedSteps.{allowed_in_all}
-use Rattle.cut_tri.proofs.WholePiece.{all_is_piece}
-use Rattle.cut_tri.proofs.WorkList.{allowed_at_start, allowed_before, allowed_once, at_end, at_start, last_is_piece, length_kept, one_step, orders_popped, orders_pushed}
-use Rattle.cut_tri.specs.Ordered.{IsOrderOf}
+use Rattle.rings.specs.Events.{AreEvents}
+use Rattle.ring_check.specs.Order.{IsInOrder}
+use Rattle.cut_tri.proofs.WholePiece.{all_is_piece, are_ranks}
+use Rattle.cut_tri.proofs.WorkList.{allowed_at_start, allowed_before, allowed_once, at_end, at_start, last_is_piece, one_step, orders_popped, orders_pushed}
+use Rattle.cut_tri.specs.Ordered.{AreRanks, IsOrderOf}
 use Rattle.cut_tri.specs.declared.piece.Piece.{Piece}
 use Rattle.cut_tri.proofs.triangulation.triangulate.Goals as goal
 
@@ -18,11 +20,10 @@ loop-piece-init g c =
       orders = orders_pushed corners c.push.new.self.items [] c.in_ok-whole_piece.field-0
           (c.in_ok-push.ensures.items ∙ ap (λ ws. ws ++ c.in_ok-whole_piece.field-0 ∷ []) c.new-work.ensures.items)
           (All-nil (λ (p : Piece). IsOrderOf corners p.boundary.items p.order.items)) c.in_ok-whole_piece.ensures.ordered.1;
-      places = let size = c.in_ok-places.places.ok.0 in omega (arith, size, c.in_ok-places.ensures.len, c.len-2.ensures.number);
       clusters = tt;
       steps = omega (
         arith,
-        c.in_ok-whole_piece.ensures.steps,
+        c.lexical.ensures.steps,
         allowed_at_start corners c.new-work.result.items c.push.new.self.items c.in_ok-whole_piece.field-0 c.new-work.ensures.items
             c.in_ok-push.ensures.items c.in_ok-whole_piece.ensures.all (742 * length corners + 2850),
       );
@@ -37,6 +38,16 @@ cut-requires-clause-ordered g c =
       (orders_popped corners work rest c.in-Some.piece c.in-Some.ensures.items c.loop-piece.invariant.orders).1,
     )
 
+pub cut-requires-clause-ranks : goal.cut-requires-clause-ranks
+cut-requires-clause-ranks g c =
+    let corners = c.args.ring.now.corners in
+    let in_order = c.in_ok-order.ensures.order in
+    let order = c.in_ok-order.order.items in
+    let events = c.in_ok-ranks.ensures corners (subst (IsInOrder corners) (sym c.deref.ensures.value) in_order) in
+    let few = c.len.ensures.size.1 in
+    subst (AreRanks corners) (sym c.deref-in-Some.ensures.value)
+    (are_ranks corners order in_order c.in_ok-ranks.ranks.items (subst (λ os. AreEvents corners os c.in_ok-ranks.ranks.items) c.deref.ensures.value events) (omega (arith, few)))
+
 pub loop-piece-preserved : goal.loop-piece-preserved
 loop-piece-preserved g c =
     let corners = c.args.ring.now.corners in
@@ -45,12 +56,9 @@ loop-piece-preserved g c =
     let near = one_step corners work rest c.in-Some.piece c.loop-piece.tris.items
     c.in-Some.ensures.items c.loop-piece.invariant.pieces c.in_ok-left.left _ _ c.in_ok-left.ensures.cut c.in_ok-take_over.ensures.taken in
     let popped = orders_popped corners work rest c.in-Some.piece c.in-Some.ensures.items c.loop-piece.invariant.orders in
-    let places = c.loop-piece.places.items in
     record {
       pieces = (near.are_pieces, near.completes);
       orders = c.in_ok-take_over.ensures.orders corners c.in_ok-left.ensures.ordered popped.0;
-      places = length_kept c.cut.new.places places c.loop-piece.places.len (c.cut.ensures.places ∙ ap length c.deref_mut.ensures.value) c.loop-piece.places.ok.0
-          ∙ c.loop-piece.invariant.places;
       clusters = c.cut.ensures.clusters;
       steps = omega (
         arith,
@@ -77,12 +85,12 @@ returns-clause-cut g c =
 pub returns-in_err-whole_piece-clause-steps : goal.returns-in_err-whole_piece-clause-steps
 returns-in_err-whole_piece-clause-steps g c =
     let some : 3 ≤ length c.args.ring.now.corners = omega (arith, c.len.ensures.size) in
-    omega (arith, allowed_in_all (length c.args.ring.now.corners) some, c.whole_piece.ensures.steps)
+    omega (arith, allowed_in_all (length c.args.ring.now.corners) some, c.lexical.ensures.steps)
 
 pub returns-in_err-push-clause-steps : goal.returns-in_err-push-clause-steps
 returns-in_err-push-clause-steps g c =
     let some : 3 ≤ length c.args.ring.now.corners = omega (arith, c.len.ensures.size) in
-    omega (arith, allowed_in_all (length c.args.ring.now.corners) some, c.whole_piece.ensures.steps)
+    omega (arith, allowed_in_all (length c.args.ring.now.corners) some, c.lexical.ensures.steps)
 
 pub returns-in_err-left-clause-steps : goal.returns-in_err-left-clause-steps
 returns-in_err-left-clause-steps g c =

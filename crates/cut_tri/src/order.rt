@@ -1,0 +1,157 @@
+// The orders of pieces: their vertices in falling lexicographic order, and where vertices were taken out numbers of none.
+ghost use Rattle.std.specs.List.{All, AllPairs, Contains, filter};
+ghost use Rattle.std.specs.Prelude.{◌≡◌, ◌+◌, ◌-◌, ◌<◌, ◌≤◌, ℕ, IfOk, IsPermutation, length, map, nat_lt, slice_index_or, take};
+ghost use Rattle.cut_tri.specs.Thinned.{HasPlaceBetween, IsTakenOut, IsThinned, key_of, number_of_key};
+
+use exact_plane::Memory;
+use std::alloc::Global;
+use std::collections::VecDeque;
+
+// The vertices of a boundary, those of greater rank first.
+pub(crate) fn order_of(
+    alloc: Global,
+    boundary: &VecDeque<u32>,
+    ranks: &[u32],
+) -> Result<Vec<u32>, Memory>
+    requires numbers { All (λ i. i < length ranks.now) boundary.now.items }
+    requires ranks { All (λ r. r < length ranks.now) ranks.now }
+    requires few { length ranks.now ≤ 65536 }
+    ensures all { IfOk result (λ order. IsPermutation boundary.now.items order.items) }
+    ensures falls { IfOk result (λ order. AllPairs (λ i j. slice_index_or ranks.now j 0 ≤ slice_index_or ranks.now i 0) order.items) }
+{
+    let mut keys = keys_of(alloc, boundary, ranks)?;
+    keys.sort_unstable();
+    keys.reverse();
+    numbers_of(alloc, &keys)
+}
+
+// The keys of vertices: their ranks and their numbers in one.
+fn keys_of(alloc: Global, boundary: &VecDeque<u32>, ranks: &[u32]) -> Result<Vec<u32>, Memory>
+    requires numbers { All (λ i. i < length ranks.now) boundary.now.items }
+    requires ranks { All (λ r. r < length ranks.now) ranks.now }
+    requires few { length ranks.now ≤ 65536 }
+    ensures { IfOk result (λ keys. keys.items ≡ map (key_of ranks.now) boundary.now.items) }
+{
+    let mut keys = Vec::with_capacity(alloc, boundary.len())?;
+    for k in 0..boundary.len() {
+        let number = boundary[k];
+        keys.push(ranks[number as usize] * 65_536 + number)?;
+    }
+    Ok(keys)
+}
+
+// The numbers of the vertices with these keys.
+fn numbers_of(alloc: Global, keys: &[u32]) -> Result<Vec<u32>, Memory>
+    ensures { IfOk result (λ numbers. numbers.items ≡ map number_of_key keys.now) }
+{
+    let mut numbers = Vec::with_capacity(alloc, keys.len())?;
+    for key in keys {
+        numbers.push(*key % 65_536)?;
+    }
+    Ok(numbers)
+}
+
+// Takes the vertices at the places from `from` to before `to` of the boundary out of an order.
+pub(crate) fn take_out(
+    order: &mut Vec<u32>,
+    boundary: &VecDeque<u32>,
+    from: usize,
+    to: usize,
+    ranks: &[u32],
+)
+    requires range { (from ≤ to) × (to ≤ length boundary.now.items) }
+    requires numbers { All (λ i. i < length ranks.now) boundary.now.items }
+    requires few { length ranks.now ≤ 65536 }
+    requires different { AllPairs (λ i j. ¬ (i ≡ j)) boundary.now.items }
+    requires all { (i : ℕ) → Contains boundary.now.items i → Contains order.old.items i }
+    requires once { (j k : ℕ) → j < length order.old.items → k < length order.old.items
+        → slice_index_or order.old.items j 0 ≡ slice_index_or order.old.items k 0 → slice_index_or order.old.items j 0 < length ranks.now → j ≡ k }
+    ensures { IsThinned (length ranks.now) boundary.now.items from to order.old.items order.new.items }
+{
+    for k in from..to {
+        take_one_out(order, boundary[k], ranks);
+    }
+}
+
+// Takes a vertex out of an order: in its place comes a number of none that has its rank.
+fn take_one_out(order: &mut Vec<u32>, number: u32, ranks: &[u32])
+    requires has { Contains order.old.items number }
+    requires number { number < length ranks.now }
+    requires few { length ranks.now ≤ 65536 }
+    ensures { IsTakenOut (length ranks.now) number order.old.items order.new.items }
+{
+    let place = place_in_order(order, number, ranks);
+    order[place] = (ranks.len() as u32).saturating_add(ranks[number as usize]);
+}
+
+// The place of a number in an order. It is found by halves. That ranks fall is not proved here: where it is not found so, all are
+// looked at.
+fn place_in_order(order: &[u32], number: u32, ranks: &[u32]) -> usize
+    requires has { Contains order.now number }
+    requires number { number < length ranks.now }
+    ensures place { result < length order.now }
+    ensures is { slice_index_or order.now result 0 ≡ number }
+{
+    let likely = likely_place(order, number, ranks);
+    if order[likely] == number {
+        return likely;
+    }
+    let last = order.len() - 1;
+    for k in 0..last {
+        if order[k] == number {
+            return k;
+        }
+    }
+    last
+}
+
+// The place of a number where ranks fall.
+fn likely_place(order: &[u32], number: u32, ranks: &[u32]) -> usize
+    requires some { 0 < length order.now }
+    requires number { number < length ranks.now }
+    ensures { result < length order.now }
+{
+    let rank = ranks[number as usize];
+    let (mut low, mut high) = (0, order.len());
+    while 1 < high - low {
+        let middle = low + (high - low) / 2;
+        if rank <= rank_of(order[middle], ranks) {
+            low = middle;
+        } else {
+            high = middle;
+        }
+    }
+    low
+}
+
+// The rank of a vertex, or of one that was taken out.
+fn rank_of(number: u32, ranks: &[u32]) -> u32 {
+    match ranks.get(number as usize) {
+        Some(rank) => *rank,
+        None => number.saturating_sub(ranks.len() as u32),
+    }
+}
+
+// The numbers of an order that are less than `count`.
+pub(crate) fn vertices_of(alloc: Global, order: &[u32], count: u32) -> Result<Vec<u32>, Memory>
+    ensures { IfOk result (λ kept. kept.items ≡ filter (λ i. nat_lt i count) order.now) }
+{
+    let mut kept = Vec::with_capacity(alloc, order.len())?;
+    for number in order {
+        if *number < count {
+            kept.push(*number)?;
+        }
+    }
+    Ok(kept)
+}
+
+// Takes away the numbers at the end that are not less than `count`.
+pub(crate) fn drop_others(order: &mut Vec<u32>, count: u32)
+    ensures kept { order.new.items ≡ take (length order.new.items) order.old.items }
+    ensures others { (k : ℕ) → length order.new.items ≤ k → k < length order.old.items → count ≤ slice_index_or order.old.items k 0 }
+    ensures last { 0 < length order.new.items → slice_index_or order.new.items (length order.new.items - 1) 0 < count }
+{
+    while 0 < order.len() && count <= order[order.len() - 1] {
+        let _ = order.pop();
+    }
+}
