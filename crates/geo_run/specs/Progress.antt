@@ -5,8 +5,8 @@ use Rattle.geo_text.specs.Records.{Unread, records_of}
 use Rattle.geo_text.specs.declared.version.Version.TheVariants as version
 use Rattle.geo_session.specs.State.{State, first_state}
 use Rattle.geo_script.specs.Answered.{AnsweredSoFar}
-use Rattle.geo_script.specs.Progress.{IsPaid}
-use Rattle.geo_script.specs.ScriptSteps.{most_corners}
+use Rattle.geo_script.specs.Progress.{IsPaidFor}
+use Rattle.geo_script.specs.ScriptSteps.{corners_within}
 
 -- a script before its first record
 abbrev pub whole_script : List ℕ → Unread
@@ -21,6 +21,6 @@ pub record WrittenSoFar (bytes : List ℕ) (script : Unread) (state : State) (ta
   pub all_written : out ≡ []
 
 -- and their steps are paid for
-pub record PaidSoFar (bytes : List ℕ) (script : Unread) (state : State) (taken taken' : Option (List ℕ)) (faults faults' : ℕ) (out : List ℕ) (start steps : ℕ) : Type 0 where
+pub record PaidRun (bytes : List ℕ) (script : Unread) (state : State) (taken taken' : Option (List ℕ)) (faults faults' : ℕ) (out : List ℕ) (start steps : ℕ) : Type 0 where
   pub so_far : WrittenSoFar bytes script state taken taken' faults faults' out
-  pub paid : IsPaid (most_corners (length bytes)) (length bytes) start script.left state so_far.output steps
+  pub paid : IsPaidFor (corners_within (length bytes)) (length bytes) start script.left state so_far.output steps

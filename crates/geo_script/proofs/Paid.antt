@@ -31,8 +31,8 @@ use Rattle.geo_script.proofs.RecordBytes.{script_bytes}
 use Rattle.geo_script.proofs.RecordSizes.{least_bytes, reading_has_bytes}
 use Rattle.geo_script.proofs.WrittenBytes.{lines_paced}
 use Rattle.geo_script.specs.Answered.{AnsweredSoFar, AnswersRecord, version_of_unread}
-use Rattle.geo_script.specs.Progress.{IsPaid, bytes_of_record, bytes_of_records}
-use Rattle.geo_script.specs.ScriptSteps.{TakesReadingSteps, TakesRecordSteps, byte_steps, most_corners, none, some}
+use Rattle.geo_script.specs.Progress.{IsPaidFor, bytes_of_record, bytes_of_records}
+use Rattle.geo_script.specs.ScriptSteps.{TakesReadingSteps, TakesRecordSteps, byte_steps, corners_within, none, some}
 
 -- ---- one command
 
@@ -41,10 +41,10 @@ abbrev FitsIn : ℕ → Command → Type 0
 FitsIn n (command.Polygon points) = length points ≤ n
 FitsIn n other = Unit {0}
 
-corners_fit : (k size : ℕ) → k ≤ MAX_CORNERS → 8 + 4 * k ≤ size + 1 → k ≤ most_corners size
+corners_fit : (k size : ℕ) → k ≤ MAX_CORNERS → 8 + 4 * k ≤ size + 1 → k ≤ corners_within size
 corners_fit k size few bytes = omega (arith, few, bytes)
 
-fits : (size n : ℕ) (asked : Command) → most_corners size ≤ n → IsWellSized asked → least_bytes asked ≤ size + 1 → FitsIn n asked
+fits : (size n : ℕ) (asked : Command) → corners_within size ≤ n → IsWellSized asked → least_bytes asked ≤ size + 1 → FitsIn n asked
 fits size n (command.Polygon points) most sized bytes =
     let few = corners_fit (length points) size sized.1 bytes in omega (arith, few, most)
 fits size n _ most sized bytes = tt
@@ -137,7 +137,7 @@ record IsPriced (n bytes : ℕ) (asked : Command) : Type 0 where
   within : FitsIn n asked
   least : least_bytes asked ≤ bytes
 
-priced : (n size bytes : ℕ) (reading : Result Command Bad) → most_corners size ≤ n → bytes ≤ size + 1 → IfOk reading IsWellSized
+priced : (n size bytes : ℕ) (reading : Result Command Bad) → corners_within size ≤ n → bytes ≤ size + 1 → IfOk reading IsWellSized
     → IfOk reading (λ asked. least_bytes asked ≤ bytes) → IfOk reading (IsPriced n bytes)
 priced n size bytes (Ok asked) most few sized least = record { sized = sized; within = fits size n asked most sized (omega (arith, least, few)); least = least }
 priced n size bytes (Err fault) most few sized least = tt
@@ -163,9 +163,9 @@ reading_kept n bytes before (Err fault) answer after few is told = rw told.1 few
 
 -- ---- the records of a script
 
-module _ (n size start : ℕ) (most : most_corners size ≤ n) where
+module _ (n size start : ℕ) (most : corners_within size ≤ n) where
   -- at first
-  pub nothing_paid : (left : List (List (List ℕ))) (state : State) → bytes_of_records left ≤ size + 1 → size_of state.kept ≤ n → IsPaid n size start left state [] start
+  pub nothing_paid : (left : List (List (List ℕ))) (state : State) → bytes_of_records left ≤ size + 1 → size_of state.kept ≤ n → IsPaidFor n size start left state [] start
   nothing_paid left state few kept = record {
     few = few;
     kept = kept;
@@ -178,10 +178,10 @@ module _ (n size start : ℕ) (most : most_corners size ≤ n) where
       priced n size (bytes_of_record fields) (reading_of v k fields) most (omega (arith, few)) (reading_is_well_sized v k fields) (reading_has_bytes v k fields)
 
   -- one record more
-  module _ (script script' : Unread) (seen : Seen) (text : List ℕ) (steps steps' : ℕ) (before : IsPaid n size start script.left seen.state text steps) where
+  module _ (script script' : Unread) (seen : Seen) (text : List ℕ) (steps steps' : ℕ) (before : IsPaidFor n size start script.left seen.state text steps) where
     -- a record that was taken is the first that was left
-    split : (fields : List (List ℕ)) → script.left ≡ fields ∷ script'.left → IsPaid n size start (fields ∷ script'.left) seen.state text steps
-    split fields first = subst (λ (left : List (List (List ℕ))). IsPaid n size start left seen.state text steps) first before
+    split : (fields : List (List ℕ)) → script.left ≡ fields ∷ script'.left → IsPaidFor n size start (fields ∷ script'.left) seen.state text steps
+    split fields first = subst (λ (left : List (List (List ℕ))). IsPaidFor n size start left seen.state text steps) first before
 
     taken_paced : (fields : List (List ℕ)) (v : Version) (k : ℕ) (answer : List ℕ) (after : State) → script.left ≡ fields ∷ script'.left
         → TakesReadingSteps seen (reading_of v k fields) steps steps' → IsReadingAnswer seen.state (reading_of v k fields) answer after
@@ -205,7 +205,7 @@ module _ (n size start : ℕ) (most : most_corners size ≤ n) where
     summed_on record_bytes left_bytes pace so_far line paid took = omega (arith, paid, took)
 
     pub one_paid : (after : State) (text' : List ℕ) → AnswersRecord script script' seen.state after text text' → TakesRecordSteps script script' seen steps steps'
-        → IsPaid n size start script'.left after text' steps'
+        → IsPaidFor n size start script'.left after text' steps'
     one_paid after text' one took =
         let fields = one.taken.fields in
         let paid = split fields one.taken.first in
@@ -259,6 +259,6 @@ module _ (n size start : ℕ) (most : most_corners size ≤ n) where
           (length text) (length told.first) (length rest.more) paid.paid paced (omega (arith, line)))
 
 -- before the first record of a script
-pub begins_script : (bytes : List ℕ) (start : ℕ) → IsPaid (most_corners (length bytes)) (length bytes) start (records_of bytes) first_state [] start
+pub begins_script : (bytes : List ℕ) (start : ℕ) → IsPaidFor (corners_within (length bytes)) (length bytes) start (records_of bytes) first_state [] start
 begins_script bytes start =
-    nothing_paid (most_corners (length bytes)) (length bytes) start (omega arith) (records_of bytes) first_state (script_bytes bytes) (omega arith)
+    nothing_paid (corners_within (length bytes)) (length bytes) start (omega arith) (records_of bytes) first_state (script_bytes bytes) (omega arith)

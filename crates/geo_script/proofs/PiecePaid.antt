@@ -11,7 +11,7 @@ use Rattle.geo_script.proofs.RecordBytes.{later_bytes, script_bytes}
 use Rattle.geo_script.specs.Answered.{AnswersRecord}
 use Rattle.geo_script.specs.Dialog.{AnswersPiece, Talk, is_some, records_in}
 use Rattle.geo_script.specs.Progress.{PaidSoFar, bytes_of_records, part_of}
-use Rattle.geo_script.specs.ScriptSteps.{TakesRecordSteps, byte_steps, most_corners, piece_steps, script_steps}
+use Rattle.geo_script.specs.ScriptSteps.{TakesRecordSteps, byte_steps, corners_within, piece_steps, script_steps}
 
 -- the records of a piece have no more bytes than it has, and one
 piece_bytes : (begun : Bool) (piece : List ℕ) → bytes_of_records (if begun then later_records_of piece else records_of piece) ≤ length piece + 1
@@ -20,9 +20,9 @@ piece_bytes false piece = script_bytes piece
 
 -- the most vertices of a polygon
 abbrev most_in : Talk → List ℕ → ℕ
-most_in before piece = max (size_of before.state.kept) (most_corners (length piece))
+most_in before piece = max (size_of before.state.kept) (corners_within (length piece))
 
-most_here : (kept size : ℕ) → (kept ≤ max kept (most_corners size)) × (most_corners size ≤ max kept (most_corners size))
+most_here : (kept size : ℕ) → (kept ≤ max kept (corners_within size)) × (corners_within size ≤ max kept (corners_within size))
 most_here kept size = (omega arith, omega arith)
 
 -- before the first record
@@ -67,4 +67,4 @@ script_paid before piece start steps' sound paid none text output =
     let at_first = sound.1 unknown in
     let whole : Talk = record { begun = before.begun || is_some piece; known = before.known || is_some (records_in before piece); state = output.state; text = text } in
     let here = rw at_first at (paid whole (record { answered = record { answers = rw (none, unknown, at_first) output.answers; known = refl }; begun = refl })) in
-    subst (λ (n : ℕ). steps' ≤ start + (length piece + 1) * byte_steps n + 16 * length text) (none_kept (most_corners (length piece))) here
+    subst (λ (n : ℕ). steps' ≤ start + (length piece + 1) * byte_steps n + 16 * length text) (none_kept (corners_within (length piece))) here

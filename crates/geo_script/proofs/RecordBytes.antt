@@ -30,42 +30,42 @@ takes_byte act.EndField fields field c = omega (arith, one_more fields field)
 takes_byte act.EndRecord fields field c = omega (arith, one_more fields field)
 
 -- a record and what is left are of so many bytes, or it took one more and nothing is left
-record IsPaid (size : ℕ) (p : Read) : Type 0 where
+record IsPaidFor (size : ℕ) (p : Read) : Type 0 where
   by : (bytes_of_record p.0 + length p.2 ≤ size) ⊎ ((p.1 ≡ st.StartRecord) × (p.2 ≡ []) × (bytes_of_record p.0 ≤ size + 1))
 
-found : (p q : Read) (size : ℕ) → ◌≡◌ {A = Option Read} (Some p) (Some q) → IsPaid size p → IsPaid size q
-found p q size e h = let same : p ≡ q = cc in subst (IsPaid size) same h
+found : (p q : Read) (size : ℕ) → ◌≡◌ {A = Option Read} (Some p) (Some q) → IsPaidFor size p → IsPaidFor size q
+found p q size e h = let same : p ≡ q = cc in subst (IsPaidFor size) same h
 
-more_bytes : (less size : ℕ) (p : Read) → less ≤ size → IsPaid less p → IsPaid size p
+more_bytes : (less size : ℕ) (p : Read) → less ≤ size → IsPaidFor less p → IsPaidFor size p
 more_bytes less size p le h = elim h.by [
   | inl within ↦ record { by = inl (omega (arith, within, le)) }
   | inr ended ↦ record { by = inr (ended.0, ended.1, omega (arith, ended.2, le)) }
 ]
 
 record_paid : (cfg : Config) (s : State) (fields : List (List ℕ)) (field xs : List ℕ) (p : Read)
-    → next_record cfg s fields field xs ≡ Some p → IsPaid (bytes_of_record fields + length field + length xs) p
+    → next_record cfg s fields field xs ≡ Some p → IsPaidFor (bytes_of_record fields + length field + length xs) p
 unfolding next_record
 record_paid cfg s fields field [] p e = at_end (ends_at_end s) refl
   where
-    at_end : (b : Bool) → ends_at_end s ≡ b → IsPaid (bytes_of_record fields + length field + 0) p
+    at_end : (b : Bool) → ends_at_end s ≡ b → IsPaidFor (bytes_of_record fields + length field + 0) p
     at_end true ends = found _ p _ (rw ends at e) (record { by = inr (refl, refl, omega (arith, one_more fields field)) })
     at_end false ends = let none = rw ends at e in cc
 record_paid cfg s fields field (c ∷ rest) p e = step_by (is_end (step cfg s c).1) refl (record_paid cfg (step cfg s c).0 _ _ rest p)
   where
     step_by : (b : Bool) → is_end (step cfg s c).1 ≡ b
         → (next_record cfg (step cfg s c).0 (fields_after (step cfg s c).1 fields field) (field_after (step cfg s c).1 c field) rest ≡ Some p
-        → IsPaid (bytes_of_record (fields_after (step cfg s c).1 fields field) + length (field_after (step cfg s c).1 c field) + length rest) p)
-        → IsPaid (bytes_of_record fields + length field + suc (length rest)) p
+        → IsPaidFor (bytes_of_record (fields_after (step cfg s c).1 fields field) + length (field_after (step cfg s c).1 c field) + length rest) p)
+        → IsPaidFor (bytes_of_record fields + length field + suc (length rest)) p
     step_by true ends more =
         found _ p _ (rw ends at e) (record { by = inl (omega (arith, takes_byte (step cfg s c).1 fields field c)) })
     step_by false goes more =
         more_bytes _ _ p (omega (arith, takes_byte (step cfg s c).1 fields field c)) (more (rw goes at e))
 
--- at its end a text has no record
-records_at_end : (cfg : Config) (n : ℕ) → records_from cfg n st.StartRecord [] ≡ []
+-- at its end a text has nothing to pay for
+none_paid : (cfg : Config) (n : ℕ) → bytes_of_records (records_from cfg n st.StartRecord []) ≡ 0
 unfolding records_from next_record
-records_at_end cfg zero = refl
-records_at_end cfg (suc n) = refl
+none_paid cfg zero = refl
+none_paid cfg (suc n) = refl
 
 -- so do all records
 all_paid : (cfg : Config) (n : ℕ) (s : State) (xs : List ℕ) → bytes_of_records (records_from cfg n s xs) ≤ length xs + 1
@@ -78,7 +78,7 @@ all_paid cfg (suc n) s xs = by_next (next_record cfg s [] [] xs) refl (λ p. all
     by_next None e more = omega arith
     by_next (Some p) e more = elim (record_paid cfg s [] [] xs p e).by [
       | inl within ↦ omega (arith, within, more p)
-      | inr ended ↦ rw (ended.0, ended.1, records_at_end cfg n) (omega (arith, ended.2))
+      | inr ended ↦ rw (ended.0, ended.1) (omega (arith, ended.2, none_paid cfg n))
     ]
 
 -- without their blanks fields have no more bytes
@@ -109,18 +109,14 @@ pub later_bytes : (bytes : List ℕ) → bytes_of_records (later_records_of byte
 later_bytes bytes =
     omega (arith, plain_records (records default_config bytes), all_paid default_config (length bytes + 1) st.StartRecord bytes)
 
--- to drop a mark adds no byte
-stripped : (bytes : List ℕ) → length (strip_bom bytes) ≤ length bytes
-unfolding strip_bom
-stripped [] = omega arith
-stripped (a ∷ []) = omega arith
-stripped (a ∷ b ∷ []) = omega arith
-stripped (a ∷ b ∷ c ∷ rest) = by_mark (is_bom a b c)
-  where
-    by_mark : (mark : Bool) → length (if mark then rest else a ∷ b ∷ c ∷ rest) ≤ length (a ∷ b ∷ c ∷ rest)
-    by_mark true = omega arith
-    by_mark false = omega arith
-
--- and of a script
+-- and of a script, whose mark is dropped
 pub script_bytes : (bytes : List ℕ) → bytes_of_records (records_of bytes) ≤ length bytes + 1
-script_bytes bytes = omega (arith, later_bytes (strip_bom bytes), stripped bytes)
+unfolding strip_bom
+script_bytes [] = later_bytes []
+script_bytes (a ∷ []) = later_bytes (a ∷ [])
+script_bytes (a ∷ b ∷ []) = later_bytes (a ∷ b ∷ [])
+script_bytes (a ∷ b ∷ c ∷ rest) = by_mark (is_bom a b c)
+  where
+    by_mark : (mark : Bool) → bytes_of_records (later_records_of (if mark then rest else a ∷ b ∷ c ∷ rest)) ≤ length (a ∷ b ∷ c ∷ rest) + 1
+    by_mark true = omega (arith, later_bytes rest)
+    by_mark false = later_bytes (a ∷ b ∷ c ∷ rest)

@@ -68,15 +68,17 @@ pairs_are_half (x ∷ y ∷ numbers) = omega (arith, pairs_are_half numbers)
 
 -- ---- words
 
-of_first : (first asked : Word) (text : List ℕ) (rest : Option Word) → (rest ≡ Some asked → text ≡ text_of asked) → (same : Bool)
-    → bytes_eq text (text_of first) ≡ same → (if same then Some first else rest) ≡ Some asked → text ≡ text_of asked
-of_first first asked text rest others true is e = let it : first ≡ asked = cc e in (bytes_eq-Decides text (text_of first)).0 is ∙ ap text_of it
-of_first first asked text rest others false is e = others e
+-- a word is as long as its text
+first_length : (first asked : Word) (text : List ℕ) (rest : Option Word) → (rest ≡ Some asked → length text ≡ length (text_of asked)) → (same : Bool)
+    → bytes_eq text (text_of first) ≡ same → (if same then Some first else rest) ≡ Some asked → length text ≡ length (text_of asked)
+first_length first asked text rest others true is e =
+    let it : first ≡ asked = cc e in ap length ((bytes_eq-Decides text (text_of first)).0 is ∙ ap text_of it)
+first_length first asked text rest others false is e = others e
 
-text_of_found : (words : List Word) (text : List ℕ) (asked : Word) → named_in words text ≡ Some asked → text ≡ text_of asked
-text_of_found [] text asked e = cc e
-text_of_found (first ∷ rest) text asked e =
-    of_first first asked text (named_in rest text) (λ h. text_of_found rest text asked h) (bytes_eq text (text_of first)) refl e
+found_length : (words : List Word) (text : List ℕ) (asked : Word) → named_in words text ≡ Some asked → length text ≡ length (text_of asked)
+found_length [] text asked e = cc e
+found_length (first ∷ rest) text asked e =
+    first_length first asked text (named_in rest text) (λ h. found_length rest text asked h) (bytes_eq text (text_of first)) refl e
 
 -- ---- commands
 
@@ -106,7 +108,7 @@ with_has_bytes limits word.Pair numbers e = let count = exactly 2 (length number
 with_has_bytes limits word.Sights numbers e = omega arith
 
 -- so has its record
-text_has_bytes : (limits : Limits) (asked : Word) (name : List ℕ) (fields : List (List ℕ)) → name ≡ text_of asked
+text_has_bytes : (limits : Limits) (asked : Word) (name : List ℕ) (fields : List (List ℕ)) → length name ≡ length (text_of asked)
     → IfOk (command_in_text limits asked fields) (λ made. least_bytes made ≤ bytes_of_record (name ∷ fields))
 text_has_bytes limits asked name fields named = by_faults (count_fault (takes_of limits asked) (length fields)) (number_fault limits.coordinate fields) refl refl
   where
@@ -118,8 +120,7 @@ text_has_bytes limits asked name fields named = by_faults (count_fault (takes_of
         let size : length (map number_of fields) ≡ length fields = length-map fields number_of in
         let counted = subst (λ (n : ℕ). count_fault (takes_of limits asked) n ≡ None) (sym size) is in
         let numbers = numbers_have_two 1 fields (all_numbers _ _ is_too) in
-        let word = ap length named in
-        omega (arith, with_has_bytes limits asked (map number_of fields) counted, size, numbers, word)
+        omega (arith, with_has_bytes limits asked (map number_of fields) counted, size, numbers, named)
 
 command_has_bytes : (limits : Limits) (fields : List (List ℕ)) → IfOk (command_of limits fields) (λ made. least_bytes made ≤ bytes_of_record fields)
 command_has_bytes limits [] = tt
@@ -127,7 +128,7 @@ command_has_bytes limits (name ∷ fields) = by_name (word_named name) refl
   where
     by_name : (o : Option Word) → word_named name ≡ o → IfOk (by_word o (λ asked. command_in_text limits asked fields)) (λ made. least_bytes made ≤ bytes_of_record (name ∷ fields))
     by_name None is = tt
-    by_name (Some asked) is = text_has_bytes limits asked name fields (text_of_found named_words name asked is)
+    by_name (Some asked) is = text_has_bytes limits asked name fields (found_length named_words name asked is)
 
 -- of each version and number
 pub reading_has_bytes : (v : Version) (k : ℕ) (fields : List (List ℕ)) → IfOk (reading_of v k fields) (λ made. least_bytes made ≤ bytes_of_record fields)

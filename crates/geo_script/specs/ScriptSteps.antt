@@ -15,16 +15,16 @@ abbrev pub byte_steps : ℕ → ℕ
 byte_steps n = let b = binary_digits n in (29 * (b * b) + 640) * (n * n) + 1300 * (n * (b + 2)) + 4200
 
 -- no polygon in a text of so many bytes has more vertices: each number takes two bytes
-abbrev pub most_corners : ℕ → ℕ
-most_corners size = min MAX_CORNERS (size / 4)
+abbrev pub corners_within : ℕ → ℕ
+corners_within size = min MAX_CORNERS (size / 4)
 
 -- so many are enough for the records of so many bytes, where the polygon before them has so many vertices; the last may end without a byte
 abbrev pub piece_steps : ℕ → ℕ → ℕ
-piece_steps kept size = (size + 1) * byte_steps (max kept (most_corners size))
+piece_steps kept size = (size + 1) * byte_steps (max kept (corners_within size))
 
 -- and for those of a whole script; each byte of an answer takes 16 more
 abbrev pub script_steps : ℕ → ℕ
-script_steps size = (size + 1) * byte_steps (most_corners size)
+script_steps size = (size + 1) * byte_steps (corners_within size)
 
 -- a refused record takes none, and a command those that it may take
 abbrev pub TakesReadingSteps : Seen → Result Command Bad → ℕ → ℕ → Type 0
