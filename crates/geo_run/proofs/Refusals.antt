@@ -1,5 +1,5 @@
 -- What a run answers where the words are refused.
-use Rattle.std.proofs.Common.{◌≡◌, ◌∙◌, ap, List, ℕ, Result, Err, IsErrAnd, Ok}
+use Rattle.std.proofs.Common.{◌≡◌, ap, List, ℕ, Result, Err, IsErrAnd, Ok}
 use Rattle.geo_words.specs.Words.{IsTaken}
 use Rattle.geo_words.specs.declared.words.Asked.{Asked}
 use Rattle.geo_words.specs.declared.words.WordsFault.{WordsFault}

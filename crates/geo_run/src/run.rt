@@ -1,5 +1,5 @@
 ghost use Rattle.std.specs.Io.KnownBytes.{Keeps};
-ghost use Rattle.std.specs.Prelude.{◌≡◌, ◌<◌, ◌≤◌, ◌⊎◌, ℕ, List, Ok, Err, IsOk, IfOk, IfSome, OnOk, OnErr, length, map, string_bytes};
+ghost use Rattle.std.specs.Prelude.{◌≡◌, ◌<◌, ◌≤◌, ◌⊎◌, ℕ, ◌+◌, ◌*◌, List, Ok, Err, IsOk, IfOk, IfSome, OnOk, OnErr, length, map, string_bytes};
 ghost use Rattle.plane.specs.declared.limits.TheConstants.{MAX_SCRIPT};
 ghost use Rattle.geo_io.specs.Counts.{Rose};
 ghost use Rattle.geo_io.specs.Transfers.{GivesAtMost, GivesMoreThan};
@@ -7,6 +7,8 @@ ghost use Rattle.geo_gen.specs.declared.combs.TheConstants.{MAX_TEETH};
 ghost use Rattle.geo_run.specs.Comb.{WritesComb, WritesCombFront};
 ghost use Rattle.geo_run.specs.Fault.{fault_of, exit_status_of, words_fault};
 ghost use Rattle.geo_run.specs.Run.{AfterReading, WritesFirst, WritesFirstAndFront, WritesOutput};
+ghost use Rattle.geo_script.specs.ScriptSteps.{script_steps};
+ghost use Rattle.geo_session.specs.Output.{IsOutput};
 ghost use Rattle.geo_words.specs.Words.{AsksComb, AsksScript, IsTaken};
 ghost use Rattle.geo_run.specs.declared.run.RunFault.TheVariants.{WriteFault, Memory as OutOfMemory};
 
@@ -14,7 +16,7 @@ use crate::comb_run::comb_line;
 use exact_plane::{Memory, Steps};
 use geo_io::{Failed, ReadEnd, Sink, Source, read_all, write_all};
 use geo_script::answer_next;
-use geo_session::Session;
+use geo_session::{Session, one_answer};
 use geo_text::Script;
 use geo_words::{Asked, WordsFault, read_words};
 use plane::MAX_SCRIPT;
@@ -93,14 +95,44 @@ pub fn geo_main<S: Source, K: Sink>(
     match read_words(alloc, words)? {
         Asked::Script => {
             let bytes = read_all(alloc, source, MAX_SCRIPT)?;
-            answer_script::<K, Brand>(alloc, &bytes, sink, Blank::new(1))
+            run_script::<K, Brand>(alloc, &bytes, sink, Blank::new(1))
         }
         Asked::Comb(k) => write_comb::<K, Brand>(alloc, k, sink, Blank::new(1)),
     }
 }
 
-// Answers the records of a script in turn, each as soon as it is read.
-fn answer_script<K: Sink, L: Ledger>(
+/// Answers the records of a script in turn, each as soon as it is read. For B bytes it takes at most `script_steps` B steps, and 16 for each
+/// byte of the output: with n the least of 16,384 and B / 4, and b the number of its binary digits, that is
+/// (B + 1) ((29 b b + 640) n n + 1,300 n (b + 2) + 4,200).
+pub fn answer_script<K: Sink, L: Ledger>(
+    alloc: Global,
+    bytes: &[u8],
+    sink: &mut K,
+    steps: &mut Steps<L>,
+) -> Result<(), RunFault>
+    ensures ok { OnOk result (WritesOutput bytes.now (K.taken sink.old) (K.taken sink.new)) }
+    ensures counts { OnOk result (K.faults sink.new ≡ K.faults sink.old) }
+    ensures write_fault { result ≡ Err RunFault.WriteFault → Rose (K.faults sink.old) (K.faults sink.new)
+        × WritesFirstAndFront bytes.now (K.taken sink.old) (K.taken sink.new) }
+    ensures memory { result ≡ Err RunFault.Memory → WritesFirst bytes.now (K.taken sink.old) (K.taken sink.new) }
+    ensures only { OnErr result ((result ≡ Err RunFault.WriteFault) ⊎ (result ≡ Err RunFault.Memory)) }
+    // Also where the sink fails, or memory is refused.
+    ensures steps { (output : List ℕ) → IsOutput bytes.now output → steps.new ≤ steps.old + script_steps (length bytes.now) + 16 * length output }
+{
+    // A law: each record has one answer.
+    one_answer();
+    let mut script = Script::open(alloc, bytes);
+    let mut session = Session::new();
+    let mut out = Vec::new(alloc);
+    'records: while answer_next(alloc, &mut script, &mut session, &mut out, steps)? {
+        write_all(sink, &out)?;
+        out.clear();
+    }
+    Ok(())
+}
+
+// The same with a counter of its own.
+fn run_script<K: Sink, L: Ledger>(
     alloc: Global,
     bytes: &[u8],
     sink: &mut K,
@@ -117,15 +149,7 @@ fn answer_script<K: Sink, L: Ledger>(
     ensures memory { result ≡ Err RunFault.Memory → WritesFirst bytes.now (K.taken sink.old) (K.taken sink.new) }
     ensures only { OnErr result ((result ≡ Err RunFault.WriteFault) ⊎ (result ≡ Err RunFault.Memory)) }
 {
-    let mut steps = Steps::<L>::new(blank);
-    let mut script = Script::open(alloc, bytes);
-    let mut session = Session::new();
-    let mut out = Vec::new(alloc);
-    'records: while answer_next(alloc, &mut script, &mut session, &mut out, &mut steps)? {
-        write_all(sink, &out)?;
-        out.clear();
-    }
-    Ok(())
+    answer_script(alloc, bytes, sink, &mut Steps::<L>::new(blank))
 }
 
 // Writes the line of the comb of `k` teeth.

@@ -1,6 +1,13 @@
+mod BytePaces
 mod InNumbers
 mod Limited
 pub mod NextRecord
+mod OneAnswers
+pub mod Paid
+mod PiecePaid
 mod Pieces
+mod RecordBytes
+mod RecordSizes
 mod Together
 mod Versions
+mod WrittenBytes

@@ -6,7 +6,7 @@ use Rattle.geo_text.specs.Reading.{script_version}
 use Rattle.geo_text.specs.Records.{Unread, records_of}
 use Rattle.geo_text.specs.declared.version.Version.{Version}
 use Rattle.geo_session.specs.State.{State, first_state}
-use Rattle.geo_session.specs.Output.{AreAnswers, AreFirstAnswers}
+use Rattle.geo_session.specs.Output.{AreAnswers, AreFirstAnswers, IsOutput}
 use Rattle.geo_script.proofs.NextRecord.{first_and_one, no_first, none_answered, one_more}
 use Rattle.geo_script.specs.Answered.{AnswersRecord, version_of_unread}
 use Rattle.geo_script.specs.Dialog.{AnswersPiece, AnswersRecords, IsTalkOf, Talk, first_talk, is_some, records_in, version_with}
@@ -34,7 +34,7 @@ no_records_in talk = by_begun talk.begun
     by_begun false = no_records
 
 -- the version is that of the part of the script that the piece is
-version_is : (talk : Talk) (piece : List ℕ) → version_of_unread (part_of talk piece) ≡ version_with talk (records_in talk piece)
+pub version_is : (talk : Talk) (piece : List ℕ) → version_of_unread (part_of talk piece) ≡ version_with talk (records_in talk piece)
 version_is talk piece = by_known talk.known talk.state.version (script_version (records_in talk piece))
   where
     by_known : (known : Bool) (version asked : Version) → (if (if known then 1 else 0) == 0 then asked else version) ≡ (if known then version else asked)
@@ -122,6 +122,12 @@ begins talk piece script begun known state text is same_begun same_known same_st
 pub first_answers : (before after : Talk) (piece : List ℕ) → before.begun ≡ false → before.known ≡ false → before.state ≡ first_state
     → AnswersPiece before piece after → AreFirstAnswers piece (records_of piece) after.text after.state
 first_answers before after piece none unknown at_first answered = rw (none, unknown, at_first) at answered.answered.answers
+
+pub first_output : (before after : Talk) (piece : List ℕ) → (before.begun ≡ false → before.known ≡ false) × (before.known ≡ false → before.state ≡ first_state)
+    → AnswersPiece before piece after → before.begun ≡ false → IsOutput piece after.text
+first_output before after piece sound answered none =
+    let unknown = sound.0 none in
+    record { state = after.state; answers = first_answers before after piece none unknown (sound.1 unknown) answered }
 
 -- before the first piece
 pub talk_of_nothing : (talk : Talk) → talk ≡ first_talk → IsTalkOf [] [] talk

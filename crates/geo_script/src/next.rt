@@ -4,6 +4,7 @@ ghost use Rattle.geo_text.specs.Reading.{IsWellSized};
 ghost use Rattle.geo_session.specs.Answer.{AppendsReadingAnswer};
 ghost use Rattle.geo_script.specs.Answered.{AnswersRecord, TakesNext};
 ghost use Rattle.geo_script.specs.AskedTalk.{IsReadingReply, state_after_reading};
+ghost use Rattle.geo_script.specs.ScriptSteps.{TakesReadingSteps, TakesRecordSteps};
 
 use exact_plane::{Memory, Steps};
 use geo_reply::Reply;
@@ -14,7 +15,7 @@ use std::sync::ledger::Ledger;
 
 /// Reads the next record of a script and appends its answer, and says whether there was one. After want of memory the session
 /// and `out` are as before. Where the record could not be read, no later one can; where its answer wanted memory, the script has
-/// those after it left.
+/// those after it left. The steps are those that the command of the record may take.
 pub fn answer_next<L: Ledger>(
     alloc: Global,
     script: &mut Script,
@@ -29,6 +30,7 @@ pub fn answer_next<L: Ledger>(
     ensures same_session { OnErr result (session.new ≡ session.old) }
     ensures same_out { OnErr result (out.new.items ≡ out.old.items) }
     ensures script_after { OnErr result ((script.new.failed ≡ true) ⊎ TakesNext script.old script.new) }
+    ensures paced { TakesRecordSteps script.old script.new session.old steps.old steps.new }
 {
     let Some(reading) = script.next_command()? else {
         return Ok(false);
@@ -49,6 +51,7 @@ fn answer<L: Ledger>(
     ensures ok { OnOk result (AppendsReadingAnswer session.old.state reading out.old.items out.new.items session.new.state) }
     ensures same_session { OnErr result (session.new ≡ session.old) }
     ensures same_out { OnErr result (out.new.items ≡ out.old.items) }
+    ensures paced { TakesReadingSteps session.old reading steps.old steps.new }
 {
     match reading {
         Ok(command) => session.answer(alloc, command, out, steps),
