@@ -2,8 +2,8 @@
 use Rattle.std.specs.Prelude.{◌≡◌, ◌⊎◌, ℕ, ◌+◌, ◌*◌, ◌%◌, ◌<◌, ◌≤◌, List, length, slice_index_or, slice_set}
 
 -- the rank and the number of a vertex in one
-abbrev pub key_of : List ℕ → ℕ → ℕ
-key_of ranks i = slice_index_or ranks i 0 * 65536 + i
+abbrev pub rank_key : List ℕ → ℕ → ℕ
+rank_key ranks i = slice_index_or ranks i 0 * 65536 + i
 
 abbrev pub number_of_key : ℕ → ℕ
 number_of_key key = key % 65536

@@ -167,7 +167,7 @@ fn farther(best: Option<Candidate>, candidate: Candidate) -> Candidate
 
 impl Corner {
     // The triangle at the first vertex of this boundary. It takes 257 steps.
-    fn of<L: Ledger>(ring: &Ring, boundary: &VecDeque<u32>, steps: &mut Steps<L>) -> Corner
+    fn of<L: Ledger>(ring: &Ring, boundary: &VecDeque<u16>, steps: &mut Steps<L>) -> Corner
         requires { IsPiece ring.now.corners boundary.now.items }
         ensures corner { IsCornerAt ring.now.corners boundary.now.items result }
         ensures measured { IsMeasured result }

@@ -1,7 +1,7 @@
 // The orders of pieces: their vertices in falling lexicographic order, and where vertices were taken out numbers of none.
 ghost use Rattle.std.specs.List.{All, AllPairs, Contains, filter};
 ghost use Rattle.std.specs.Prelude.{◌≡◌, ◌+◌, ◌-◌, ◌<◌, ◌≤◌, ℕ, IfOk, IsPermutation, length, map, nat_lt, slice_index_or, take};
-ghost use Rattle.cut_tri.specs.Thinned.{HasPlaceBetween, IsTakenOut, IsThinned, key_of, number_of_key};
+ghost use Rattle.cut_tri.specs.Thinned.{HasPlaceBetween, IsTakenOut, IsThinned, rank_key, number_of_key};
 
 use exact_plane::Memory;
 use std::alloc::Global;
@@ -10,7 +10,7 @@ use std::collections::VecDeque;
 // The vertices of a boundary, those of greater rank first.
 pub(crate) fn order_of(
     alloc: Global,
-    boundary: &VecDeque<u32>,
+    boundary: &VecDeque<u16>,
     ranks: &[u32],
 ) -> Result<Vec<u32>, Memory>
     requires numbers { All (λ i. i < length ranks.now) boundary.now.items }
@@ -27,15 +27,15 @@ pub(crate) fn order_of(
 }
 
 // The keys of vertices: their ranks and their numbers in one.
-fn keys_of(alloc: Global, boundary: &VecDeque<u32>, ranks: &[u32]) -> Result<Vec<u32>, Memory>
+fn keys_of(alloc: Global, boundary: &VecDeque<u16>, ranks: &[u32]) -> Result<Vec<u32>, Memory>
     requires numbers { All (λ i. i < length ranks.now) boundary.now.items }
     requires ranks { All (λ r. r < length ranks.now) ranks.now }
     requires few { length ranks.now ≤ 65536 }
-    ensures { IfOk result (λ keys. keys.items ≡ map (key_of ranks.now) boundary.now.items) }
+    ensures { IfOk result (λ keys. keys.items ≡ map (rank_key ranks.now) boundary.now.items) }
 {
     let mut keys = Vec::with_capacity(alloc, boundary.len())?;
     for k in 0..boundary.len() {
-        let number = boundary[k];
+        let number = boundary[k] as u32;
         keys.push(ranks[number as usize] * 65_536 + number)?;
     }
     Ok(keys)
@@ -53,7 +53,7 @@ fn write_numbers(keys: &mut Vec<u32>)
 // Takes the vertices at the places from `from` to before `to` of the boundary out of an order.
 pub(crate) fn take_out(
     order: &mut Vec<u32>,
-    boundary: &VecDeque<u32>,
+    boundary: &VecDeque<u16>,
     from: usize,
     to: usize,
     ranks: &[u32],
@@ -69,7 +69,7 @@ pub(crate) fn take_out(
 {
     let mut near = order.len();
     for k in from..to {
-        near = take_one_out(order, boundary[k], ranks, near);
+        near = take_one_out(order, boundary[k] as u32, ranks, near);
     }
 }
 
