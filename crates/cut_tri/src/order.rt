@@ -21,12 +21,11 @@ pub(crate) fn order_of(
 {
     let mut keys = keys_of(alloc, boundary, ranks)?;
     keys.sort_unstable();
-    keys.reverse();
     write_numbers(&mut keys);
     Ok(keys)
 }
 
-// The keys of vertices: their ranks and their numbers in one.
+// The keys of vertices: their ranks and their numbers in one, which are in order where ranks fall.
 fn keys_of(alloc: Global, boundary: &VecDeque<u16>, ranks: &[u32]) -> Result<Vec<u32>, Memory>
     requires numbers { All (λ i. i < length ranks.now) boundary.now.items }
     requires ranks { All (λ r. r < length ranks.now) ranks.now }
@@ -36,7 +35,7 @@ fn keys_of(alloc: Global, boundary: &VecDeque<u16>, ranks: &[u32]) -> Result<Vec
     let mut keys = Vec::with_capacity(alloc, boundary.len())?;
     for k in 0..boundary.len() {
         let number = boundary[k] as u32;
-        keys.push(ranks[number as usize] * 65_536 + number)?;
+        keys.push((65_535 - ranks[number as usize]) * 65_536 + number)?;
     }
     Ok(keys)
 }
