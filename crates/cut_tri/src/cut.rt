@@ -1,5 +1,5 @@
 // One cut of a piece.
-ghost use Rattle.std.specs.Prelude.{◌≡◌, ◌+◌, ◌*◌, ◌<◌, ◌≤◌, IfOk, IfSome, length, slice_index_or};
+ghost use Rattle.std.specs.Prelude.{◌≡◌, ◌+◌, ◌*◌, ◌<◌, ◌≤◌, IfOk, IfSome, ◌++◌, drop, length, take};
 ghost use Rattle.cut_tri.specs.Clusters.{AreClusters};
 ghost use Rattle.cut_tri.specs.Cutting.{IsCutOf};
 ghost use Rattle.cut_tri.specs.Ordered.{AreOrdered, AreLexicalRanks, EndsWithVertex, IsFarthestNumber, IsLeastPlace, IsPieceInOrder, IsOrderedFromLeast};
@@ -49,8 +49,18 @@ pub(crate) fn cut<L: Ledger>(
 {
     let mut piece = cleaned(alloc, ring, piece)?;
     let least = least_place(ring, &piece);
-    piece.boundary.rotate_left(least);
+    turn(&mut piece.boundary, least);
     cut_at_first(alloc, ring, piece, ranks, clusters, steps)
+}
+
+// Turns a boundary so that it begins with the vertex at this place.
+fn turn(boundary: &mut VecDeque<u16>, place: usize)
+    requires { place ≤ length boundary.old.items }
+    ensures { boundary.new.items ≡ drop place boundary.old.items ++ take place boundary.old.items }
+{
+    if 0 < place {
+        boundary.rotate_left(place);
+    }
 }
 
 // The piece without the numbers of no vertices at the end of its order, and without all where they are more than a quarter.

@@ -1,7 +1,7 @@
 // The orders of pieces: their vertices in falling lexicographic order, and where vertices were taken out numbers of none.
 ghost use Rattle.std.specs.List.{All, AllPairs, Contains, filter};
-ghost use Rattle.std.specs.Prelude.{◌≡◌, ◌+◌, ◌-◌, ◌<◌, ◌≤◌, ℕ, IfOk, IsPermutation, length, map, nat_lt, slice_index_or, take};
-ghost use Rattle.cut_tri.specs.Thinned.{HasPlaceBetween, IsTakenOut, IsThinned, rank_key, number_of_key};
+ghost use Rattle.std.specs.Prelude.{◌≡◌, ◌-◌, ◌<◌, ◌≤◌, ℕ, IfOk, IsPermutation, length, map, nat_lt, slice_index_or, take};
+ghost use Rattle.cut_tri.specs.Thinned.{IsTakenOut, IsThinned, rank_key, number_of_key};
 
 use exact_plane::Memory;
 use std::alloc::Global;
