@@ -17,7 +17,7 @@ use Rattle.cut_tri.proofs.PartPlaces.{first_left, first_rest, second_left, secon
 use Rattle.cut_tri.proofs.Thinned.{ranked_order, thinned_order}
 use Rattle.cut_tri.specs.Cut.{IsFarthest}
 use Rattle.cut_tri.specs.Cutting.{AreDiagonalPieces}
-use Rattle.cut_tri.specs.Ordered.{AreRanks, IsFarthestNumber, IsLeastPlace, IsOrderOf}
+use Rattle.cut_tri.specs.Ordered.{AreLexicalRanks, IsFarthestNumber, IsLeastPlace, IsOrderOf}
 use Rattle.cut_tri.specs.Piece.{IsPiece}
 use Rattle.cut_tri.specs.Thinned.{IsThinned}
 
@@ -37,7 +37,7 @@ module _ (corners : List Point) (xs : List ℕ) (piece : IsPiece corners xs) whe
       omega (arith, less, same)
 
   -- and so has an order by rank
-  pub own_ordered : (ranks own : List ℕ) → AreRanks corners ranks → IsPermutation xs own
+  pub own_ordered : (ranks own : List ℕ) → AreLexicalRanks corners ranks → IsPermutation xs own
       → AllPairs (λ i j. get_or ranks j 0 ≤ get_or ranks i 0) own → IsOrderOf corners xs own
   own_ordered ranks own are moved falls = ranked_order corners ranks are xs own (numbers_below (length ranks) are.size) different moved falls
 

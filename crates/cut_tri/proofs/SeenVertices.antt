@@ -1,20 +1,20 @@
 -- How many of the numbers of least rank in an order are of vertices: no more than the boundary has.
 use Rattle.std.proofs.Common.{◌≡◌, refl, sym, ap, subst, ◌∙◌, ℕ, ◌+◌, ◌-◌, ◌<◌, ◌≤◌, Bool, true, false, List, ◌∷◌, length, get_or, take, drop}
-use Rattle.std.proofs.Common.{eqb-true, arith}
-use Rattle.std.proofs.lemmas.Bool.{eq-eqb, lt-ltb, ltb-true}
+use Rattle.std.proofs.Common.{arith}
+use Rattle.std.proofs.lemmas.Bool.{lt-ltb, ltb-true}
 use Rattle.std.proofs.lemmas.Bool.Decides.{nat_tests}
 use Rattle.std.proofs.lemmas.Cmp.{nat_eq_equiv}
 use Rattle.std.proofs.lemmas.List.{drop_more, length-append, take-append-drop}
 use Rattle.std.proofs.lemmas.List.Elements.{All-contains, All-contains_itself, All-filter, All-get_or, filter-append, filter_passes}
 use Rattle.std.proofs.lemmas.List.Kept.{AllPairs-filter}
 use Rattle.std.proofs.lemmas.Map.Made.{IsDistinct-from_AllPairs, is_member-Decides, length-le_from_is_member}
-use Rattle.std.specs.Bool.{Decides}
 use Rattle.std.specs.List.{Contains, filter}
-use Rattle.std.specs.Prelude.{nat_eq, nat_lt}
+use Rattle.std.specs.Prelude.{nat_lt}
 use Rattle.plane.proofs.Order.{before_differs}
 use Rattle.plane.specs.Point.{Point}
 use Rattle.rings.specs.Ring.{vertex}
 use Rattle.cut_tri.proofs.Candidates.{of_rank}
+use Rattle.cut_tri.proofs.Thinned.{same}
 use Rattle.cut_tri.specs.Ordered.{IsAfter, IsOrderOf}
 
 -- those below n among the last k
@@ -57,9 +57,6 @@ seen_first n os some low =
     let one = seen_more n os 0 some (subst (λ k. get_or os k 0 < n) (sym at) low) in
     let first : seen n os (0 + 1) ≡ seen n os 1 = ap (seen n os) (omega arith) in
     omega (arith, one, first)
-
-same : (i j : ℕ) → Decides (nat_eq i j) (i ≡ j)
-same i j = (eqb-true i j, eq-eqb i j)
 
 module _ (corners : List Point) (xs os : List ℕ) (is : IsOrderOf corners xs os) where
   abbrev vertices : List ℕ

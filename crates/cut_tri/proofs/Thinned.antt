@@ -1,11 +1,12 @@
 -- Orders out of which vertices are taken, and orders by rank.
-use Rattle.std.proofs.Common.{◌≡◌, inl, inr, refl, sym, ap, subst, ◌∙◌, ℕ, zero, suc, ◌+◌, ◌-◌, ◌*◌, ◌<◌, ◌≤◌, false, set, List, [], ◌∷◌, length, map, reverse, get_or}
+use Rattle.std.proofs.Common.{◌≡◌, inl, inr, refl, sym, ap, subst, ◌∙◌, ℕ, zero, suc, ◌+◌, ◌-◌, ◌*◌, ◌<◌, ◌≤◌, false, set, List, [], ◌∷◌, length, map, get_or}
 use Rattle.std.proofs.Common.{eqb-true, arith}
 use Rattle.std.proofs.lemmas.Bool.{cases_eq, cases_lt, eq-eqb}
 use Rattle.std.proofs.lemmas.Bool.Decides.{nat_tests}
-use Rattle.std.proofs.lemmas.List.{get_or-map, get_or-reverse, get_or-set_other, get_or-set_same, get_or_default, length-map, length-reverse, length-set}
+use Rattle.std.proofs.lemmas.Cmp.{nat_eq_equiv}
+use Rattle.std.proofs.lemmas.List.{get_or-map, get_or-set_other, get_or-set_same, get_or_default, length-map, length-set}
 use Rattle.std.proofs.lemmas.List.Elements.{All-from_get_or, All-get_or, All-map, Contains-get_or}
-use Rattle.std.proofs.lemmas.List.Sorted.{All-permutation, IsPermutation-map, IsPermutation-reverse, IsPermutation-sym, IsPermutation-trans}
+use Rattle.std.proofs.lemmas.List.Sorted.{All-permutation, IsPermutation-map, IsPermutation-sym}
 use Rattle.std.proofs.lemmas.List.Sorted.{Contains-permutation}
 use Rattle.std.proofs.lemmas.Map.Keys.{IsDistinct-IsPermutation}
 use Rattle.std.proofs.lemmas.Map.Made.{AllPairs-from_IsDistinct, IsDistinct-from_AllPairs}
@@ -16,8 +17,8 @@ use Rattle.std.specs.Ordering.{is_lt, nat_cmp}
 use Rattle.std.specs.Prelude.{IsPermutation, IsSorted, nat_eq}
 use Rattle.plane.specs.Point.{Point}
 use Rattle.meshes.proofs.Joins.{place_of}
-use Rattle.cut_tri.specs.Ordered.{AreRanks, IsAfter, IsOrderOf}
-use Rattle.cut_tri.specs.Thinned.{HasPlaceBetween, IsTakenOut, IsThinned, key_of, number_of_key}
+use Rattle.cut_tri.specs.Ordered.{AreLexicalRanks, IsAfter, IsOrderOf}
+use Rattle.cut_tri.specs.Thinned.{HasPlaceBetween, IsTakenOut, IsThinned, rank_key, number_of_key}
 
 -- ---- one vertex more
 
@@ -124,19 +125,16 @@ module _ (corners : List Point) (xs os after : List ℕ) (from to : ℕ) (is : I
 
 -- ---- orders by rank
 
--- numbers that differ still do in another order
-same : (i j : ℕ) → Decides (nat_eq i j) (i ≡ j)
+-- what a test of two numbers says
+pub same : (i j : ℕ) → Decides (nat_eq i j) (i ≡ j)
 same i j = (eqb-true i j, eq-eqb i j)
 
-flips : (i j : ℕ) → nat_eq i j ≡ nat_eq j i
-flips i j = grind (arith, nat_tests)
-
-module _ (corners : List Point) (ranks : List ℕ) (are : AreRanks corners ranks) (ys order : List ℕ)
+module _ (corners : List Point) (ranks : List ℕ) (are : AreLexicalRanks corners ranks) (ys order : List ℕ)
     (numbers : All (λ i. i < length ranks) ys) (different : AllPairs (λ i j. ¬ (i ≡ j)) ys) (moved : IsPermutation ys order)
     (falls : AllPairs (λ i j. get_or ranks j 0 ≤ get_or ranks i 0) order) where
   still_different : AllPairs (λ i j. ¬ (i ≡ j)) order
   still_different =
-      AllPairs-from_IsDistinct same order (IsDistinct-IsPermutation nat_eq flips ys order moved (IsDistinct-from_AllPairs same ys different))
+      AllPairs-from_IsDistinct same order (IsDistinct-IsPermutation nat_eq nat_eq_equiv.symm ys order moved (IsDistinct-from_AllPairs same ys different))
 
   pub ranked_order : IsOrderOf corners ys order
   ranked_order = record {
@@ -149,17 +147,17 @@ module _ (corners : List Point) (ranks : List ℕ) (are : AreRanks corners ranks
 -- ---- keys
 
 -- the number is what is left of the key
-number_is : (ranks : List ℕ) (i : ℕ) → i < 65536 → number_of_key (key_of ranks i) ≡ i
-number_is ranks i small = mod-mul-add (get_or ranks i 0) 65536 i small
+number_is : (ranks : List ℕ) (i : ℕ) → i < 65536 → number_of_key (rank_key ranks i) ≡ i
+number_is ranks i small = mod-mul-add (65535 - get_or ranks i 0) 65536 i small
 
-numbers_are : (ranks xs : List ℕ) → ((k : ℕ) → k < length xs → get_or xs k 0 < 65536) → map number_of_key (map (key_of ranks) xs) ≡ xs
+numbers_are : (ranks xs : List ℕ) → ((k : ℕ) → k < length xs → get_or xs k 0 < 65536) → map number_of_key (map (rank_key ranks) xs) ≡ xs
 numbers_are ranks [] small = refl
 numbers_are ranks (x ∷ xs) small = λ j.
     number_is ranks x (small 0 (omega arith)) j ∷ numbers_are ranks xs (λ k h. small (suc k) (omega (arith, h))) j
 
--- a greater key has no lesser rank
-rank_at_most : (r s a b : ℕ) → a < 65536 → b < 65536 → r * 65536 + a ≤ s * 65536 + b → r ≤ s
-rank_at_most r s a b low low_too most = omega (arith, low, low_too, most)
+-- a greater key has no greater rank
+rank_at_most : (r s a b : ℕ) → r < 65536 → a < 65536 → b < 65536 → (65535 - s) * 65536 + a ≤ (65535 - r) * 65536 + b → r ≤ s
+rank_at_most r s a b small low low_too most = omega (arith, small, low, low_too, most)
 
 -- a key is not above the next,
 at_most : (s t : ℕ) → is_lt (nat_cmp t s) ≡ false → s ≤ t
@@ -177,47 +175,40 @@ rising_from ks up i (suc m) within =
 mod_low : (k : ℕ) → number_of_key k < 65536
 mod_low k = omega arith
 
-module _ (ranks xs sorted falling : List ℕ) (low : (k : ℕ) → k < length xs → get_or xs k 0 < 65536)
-    (moved : IsPermutation (map (key_of ranks) xs) sorted) (up : IsSorted nat_cmp sorted) (back : falling ≡ reverse sorted) where
-  moved_too : IsPermutation (map (key_of ranks) xs) falling
-  moved_too = subst (IsPermutation (map (key_of ranks) xs)) (sym back)
-      (IsPermutation-trans (map (key_of ranks) xs) sorted (reverse sorted) moved (IsPermutation-reverse sorted))
+-- a key is that of its number, whose rank is small
+abbrev IsRankKey : List ℕ → ℕ → Type 0
+IsRankKey ranks k = (k ≡ rank_key ranks (number_of_key k)) × (get_or ranks (number_of_key k) 0 < 65536)
 
+module _ (ranks xs sorted : List ℕ) (low : (k : ℕ) → k < length xs → get_or xs k 0 < 65536)
+    (small : (k : ℕ) → k < length xs → get_or ranks (get_or xs k 0) 0 < 65536) (moved : IsPermutation (map (rank_key ranks) xs) sorted)
+    (up : IsSorted nat_cmp sorted) where
   -- the numbers are those of the list,
-  pub keys_have : IsPermutation xs (map number_of_key falling)
-  keys_have = subst (λ ys. IsPermutation ys (map number_of_key falling)) (numbers_are ranks xs low)
-      (IsPermutation-map number_of_key (map (key_of ranks) xs) falling moved_too)
+  pub keys_have : IsPermutation xs (map number_of_key sorted)
+  keys_have = subst (λ ys. IsPermutation ys (map number_of_key sorted)) (numbers_are ranks xs low)
+      (IsPermutation-map number_of_key (map (rank_key ranks) xs) sorted moved)
 
-  -- each key is that of its number,
-  keys_are : All (λ k. k ≡ key_of ranks (number_of_key k)) falling
-  keys_are = All-permutation (λ k. k ≡ key_of ranks (number_of_key k)) (map (key_of ranks) xs) falling moved_too
-      (All-map (λ k. k ≡ key_of ranks (number_of_key k)) (key_of ranks) xs
-      (All-from_get_or (λ i. key_of ranks i ≡ key_of ranks (number_of_key (key_of ranks i))) xs 0 (λ k h. ap (key_of ranks) (sym (number_is ranks (get_or xs k 0) (low k h))))))
+  keys_are : All (IsRankKey ranks) sorted
+  keys_are = All-permutation (IsRankKey ranks) (map (rank_key ranks) xs) sorted moved
+      (All-map (IsRankKey ranks) (rank_key ranks) xs
+      (All-from_get_or (λ i. IsRankKey ranks (rank_key ranks i)) xs 0 (λ k h.
+      let back = sym (number_is ranks (get_or xs k 0) (low k h)) in
+      (ap (rank_key ranks) back, subst (λ i. get_or ranks i 0 < 65536) back (small k h)))))
 
   -- and their ranks fall
-  pub ranks_fall : AllPairs (λ i j. get_or ranks j 0 ≤ get_or ranks i 0) (map number_of_key falling)
+  pub ranks_fall : AllPairs (λ i j. get_or ranks j 0 ≤ get_or ranks i 0) (map number_of_key sorted)
   ranks_fall i j d less within =
-      let size = ap length back ∙ length-reverse sorted in
-      let inside : j < length falling = omega (arith, within, length-map falling number_of_key) in
-      let m : ℕ = length sorted - 1 - i in
-      let l : ℕ = length sorted - 1 - j in
-      let first : get_or falling i 0 ≡ get_or sorted m 0 =
-      ap (λ ks. get_or ks i 0) back ∙ get_or-reverse sorted i 0 (omega (arith, less, inside, size)) in
-      let second : get_or falling j 0 ≡ get_or sorted l 0 =
-      ap (λ ks. get_or ks j 0) back ∙ get_or-reverse sorted j 0 (omega (arith, inside, size)) in
-      let most = rising_from sorted up l (m - l) (omega (arith, less, inside, size)) in
-      let there : l + (m - l) ≡ m = omega (arith, less, inside, size) in
-      let key_i = subst (λ k. k ≡ key_of ranks (number_of_key k)) first (All-get_or (λ k. k ≡ key_of ranks (number_of_key k)) falling i 0 (omega (arith, less, inside)) keys_are) in
-      let key_j = subst (λ k. k ≡ key_of ranks (number_of_key k)) second (All-get_or (λ k. k ≡ key_of ranks (number_of_key k)) falling j 0 inside keys_are) in
-      let s : ℕ = get_or sorted l 0 in
-      let t : ℕ = get_or sorted m 0 in
-      let most_too : s ≤ t = subst (λ k. s ≤ get_or sorted k 0) there most in
-      let fall : get_or ranks (number_of_key s) 0 ≤ get_or ranks (number_of_key t) 0 =
-      rank_at_most (get_or ranks (number_of_key s) 0) (get_or ranks (number_of_key t) 0) (number_of_key s) (number_of_key t)
-      (mod_low s) (mod_low t) (omega (arith, most_too, key_i, key_j)) in
-      let at_i : get_or (map number_of_key falling) i d ≡ number_of_key t =
-      get_or-map number_of_key falling i 0 d (omega (arith, less, inside)) ∙ ap number_of_key first in
-      let at_j : get_or (map number_of_key falling) j d ≡ number_of_key s =
-      get_or-map number_of_key falling j 0 d inside ∙ ap number_of_key second in
-      subst (λ a. get_or ranks (get_or (map number_of_key falling) j d) 0 ≤ get_or ranks a 0) (sym at_i)
-      (subst (λ b. get_or ranks b 0 ≤ get_or ranks (number_of_key t) 0) (sym at_j) fall)
+      let inside : j < length sorted = omega (arith, within, length-map sorted number_of_key) in
+      let s : ℕ = get_or sorted i 0 in
+      let t : ℕ = get_or sorted j 0 in
+      let there : i + (j - i) ≡ j = omega (arith, less) in
+      let most : s ≤ t = subst (λ k. s ≤ get_or sorted k 0) there (rising_from sorted up i (j - i) (omega (arith, less, inside))) in
+      let key_i = All-get_or (IsRankKey ranks) sorted i 0 (omega (arith, less, inside)) keys_are in
+      let key_j = All-get_or (IsRankKey ranks) sorted j 0 inside keys_are in
+      let fall : get_or ranks (number_of_key t) 0 ≤ get_or ranks (number_of_key s) 0 =
+      rank_at_most (get_or ranks (number_of_key t) 0) (get_or ranks (number_of_key s) 0) (number_of_key s) (number_of_key t) key_j.1
+      (mod_low s) (mod_low t) (omega (arith, most, key_i.0, key_j.0)) in
+      let at_i : get_or (map number_of_key sorted) i d ≡ number_of_key s =
+      get_or-map number_of_key sorted i 0 d (omega (arith, less, inside)) in
+      let at_j : get_or (map number_of_key sorted) j d ≡ number_of_key t = get_or-map number_of_key sorted j 0 d inside in
+      subst (λ a. get_or ranks (get_or (map number_of_key sorted) j d) 0 ≤ get_or ranks a 0) (sym at_i)
+      (subst (λ b. get_or ranks b 0 ≤ get_or ranks (number_of_key s) 0) (sym at_j) fall)

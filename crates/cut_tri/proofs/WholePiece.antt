@@ -17,7 +17,7 @@ use Rattle.rings.specs.Simple.{IsSimple}
 use Rattle.meshes.proofs.Joins.{place_of}
 use Rattle.meshes.proofs.Triangulations.{ring_is_piece}
 use Rattle.ring_check.specs.Order.{IsInOrder}
-use Rattle.cut_tri.specs.Ordered.{AreRanks, IsOrderOf}
+use Rattle.cut_tri.specs.Ordered.{AreLexicalRanks, IsOrderOf}
 use Rattle.cut_tri.specs.Piece.{IsPiece}
 
 -- all vertices of a simple ring with a positive area are a piece
@@ -72,7 +72,7 @@ module _ (corners : List Point) (rising : List ℕ) (is : IsInOrder corners risi
   -- ---- its ranks
 
   module _ (ranks : List ℕ) (are : AreEvents corners rising ranks) where
-    pub are_ranks : length corners ≤ 65536 → AreRanks corners ranks
+    pub are_ranks : length corners ≤ 65536 → AreLexicalRanks corners ranks
     are_ranks few = record {
       size = are.all_ranks;
       few = omega (arith, few, are.all_ranks);

@@ -47,7 +47,7 @@ EndsWithVertex corners piece =
     (0 < length piece.order.items) × (slice_index_or piece.order.items (length piece.order.items - 1) 0 < length corners)
 
 -- ranks of all vertices in lexicographic order
-pub record AreRanks (corners : List Point) (ranks : List ℕ) : Type 0 where
+pub record AreLexicalRanks (corners : List Point) (ranks : List ℕ) : Type 0 where
   pub size : length ranks ≡ length corners
   pub few : length ranks ≤ 65536
   pub small : All (λ r. r < length corners) ranks

@@ -1,9 +1,9 @@
 -- Orders out of which vertices are taken, and keys of vertices. No public clause cites this module.
-use Rattle.std.specs.Prelude.{◌≡◌, ◌⊎◌, ℕ, ◌+◌, ◌*◌, ◌%◌, ◌<◌, ◌≤◌, List, length, slice_index_or, slice_set}
+use Rattle.std.specs.Prelude.{◌≡◌, ◌⊎◌, ℕ, ◌+◌, ◌-◌, ◌*◌, ◌%◌, ◌<◌, ◌≤◌, List, length, slice_index_or, slice_set}
 
--- the rank and the number of a vertex in one
-abbrev pub key_of : List ℕ → ℕ → ℕ
-key_of ranks i = slice_index_or ranks i 0 * 65536 + i
+-- the rank and the number of a vertex in one, which is the less the greater the rank
+abbrev pub rank_key : List ℕ → ℕ → ℕ
+rank_key ranks i = (65535 - slice_index_or ranks i 0) * 65536 + i
 
 abbrev pub number_of_key : ℕ → ℕ
 number_of_key key = key % 65536

@@ -1,8 +1,8 @@
 // One cut of a piece.
-ghost use Rattle.std.specs.Prelude.{◌≡◌, ◌+◌, ◌*◌, ◌<◌, ◌≤◌, IfOk, IfSome, length, slice_index_or};
+ghost use Rattle.std.specs.Prelude.{◌≡◌, ◌+◌, ◌*◌, ◌<◌, ◌≤◌, IfOk, IfSome, ◌++◌, drop, length, take};
 ghost use Rattle.cut_tri.specs.Clusters.{AreClusters};
 ghost use Rattle.cut_tri.specs.Cutting.{IsCutOf};
-ghost use Rattle.cut_tri.specs.Ordered.{AreOrdered, AreRanks, EndsWithVertex, IsFarthestNumber, IsLeastPlace, IsPieceInOrder, IsOrderedFromLeast};
+ghost use Rattle.cut_tri.specs.Ordered.{AreOrdered, AreLexicalRanks, EndsWithVertex, IsFarthestNumber, IsLeastPlace, IsPieceInOrder, IsOrderedFromLeast};
 ghost use Rattle.cut_tri.specs.Piece.{IsPiece, tri_at_first};
 
 use crate::clusters::Clusters;
@@ -39,7 +39,7 @@ pub(crate) fn cut<L: Ledger>(
     steps: &mut Steps<L>,
 ) -> Result<Remains, Memory>
     requires ordered { IsPieceInOrder ring.now.corners piece }
-    requires ranks { AreRanks ring.now.corners ranks.now }
+    requires ranks { AreLexicalRanks ring.now.corners ranks.now }
     requires clusters { IfSome clusters.old (AreClusters ring.now.corners) }
     ensures cut { IfOk result (IsCutOf ring.now.corners piece.boundary.items) }
     ensures ordered { IfOk result (AreOrdered ring.now.corners) }
@@ -49,8 +49,18 @@ pub(crate) fn cut<L: Ledger>(
 {
     let mut piece = cleaned(alloc, ring, piece)?;
     let least = least_place(ring, &piece);
-    piece.boundary.rotate_left(least);
+    turn(&mut piece.boundary, least);
     cut_at_first(alloc, ring, piece, ranks, clusters, steps)
+}
+
+// Turns a boundary so that it begins with the vertex at this place.
+fn turn(boundary: &mut VecDeque<u16>, place: usize)
+    requires { place ≤ length boundary.old.items }
+    ensures { boundary.new.items ≡ drop place boundary.old.items ++ take place boundary.old.items }
+{
+    if 0 < place {
+        boundary.rotate_left(place);
+    }
 }
 
 // The piece without the numbers of no vertices at the end of its order, and without all where they are more than a quarter.
@@ -87,7 +97,7 @@ fn cut_at_first<L: Ledger>(
     steps: &mut Steps<L>,
 ) -> Result<Remains, Memory>
     requires ordered { IsOrderedFromLeast ring.now.corners piece }
-    requires ranks { AreRanks ring.now.corners ranks.now }
+    requires ranks { AreLexicalRanks ring.now.corners ranks.now }
     requires clusters { IfSome clusters.old (AreClusters ring.now.corners) }
     ensures cut { IfOk result (IsCutOf ring.now.corners piece.boundary.items) }
     ensures ordered { IfOk result (AreOrdered ring.now.corners) }
@@ -113,14 +123,14 @@ fn cut_at_first<L: Ledger>(
 }
 
 // The triangle at the first vertex.
-pub(crate) fn corner_of(boundary: &VecDeque<u32>) -> Tri
+pub(crate) fn corner_of(boundary: &VecDeque<u16>) -> Tri
     requires { 2 ≤ length boundary.now.items }
     ensures { result ≡ tri_at_first boundary.now.items }
 {
     Tri {
-        a: boundary[boundary.len() - 1],
-        b: boundary[0],
-        c: boundary[1],
+        a: boundary[boundary.len() - 1] as u32,
+        b: boundary[0] as u32,
+        c: boundary[1] as u32,
     }
 }
 
@@ -135,7 +145,7 @@ fn parts(
 ) -> Result<(Piece, Piece), Memory>
     requires ordered { IsOrderedFromLeast ring.now.corners piece }
     requires farthest { IsFarthestNumber ring.now.corners piece.boundary.items number }
-    requires ranks { AreRanks ring.now.corners ranks.now }
+    requires ranks { AreLexicalRanks ring.now.corners ranks.now }
     ensures parts { IfOk result (λ parts. IsCutOf ring.now.corners piece.boundary.items (Remains.Parts parts.0 parts.1)) }
     ensures ordered { IfOk result (λ parts. AreOrdered ring.now.corners (Remains.Parts parts.0 parts.1)) }
 {

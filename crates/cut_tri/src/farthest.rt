@@ -167,7 +167,7 @@ fn farther(best: Option<Candidate>, candidate: Candidate) -> Candidate
 
 impl Corner {
     // The triangle at the first vertex of this boundary. It takes 257 steps.
-    fn of<L: Ledger>(ring: &Ring, boundary: &VecDeque<u32>, steps: &mut Steps<L>) -> Corner
+    fn of<L: Ledger>(ring: &Ring, boundary: &VecDeque<u16>, steps: &mut Steps<L>) -> Corner
         requires { IsPiece ring.now.corners boundary.now.items }
         ensures corner { IsCornerAt ring.now.corners boundary.now.items result }
         ensures measured { IsMeasured result }
@@ -188,7 +188,7 @@ impl Corner {
     }
 
     // Whether all points of the triangle that are not left of this one are nearer than the best. A point of it at x is at most
-    // as far as v times the part of the way from v to the end that is right of x. It takes 256 steps.
+    // as far as v times the part of the way from v to the end that is right of x. It takes at most 256 steps.
     fn is_nearer_from<L: Ledger>(
         &self,
         p: &Pt,
@@ -200,9 +200,12 @@ impl Corner {
         requires first { self.now.v.x ≤ℤ self.now.u.x }
         ensures nearer { IsTrue result → (q : Point) → p.now.x ≤ℤ q.x → IsInTriangle self.now.u self.now.v self.now.w (whole q)
             → height_over self.now.u self.now.w (whole q) <ℤ best_height best }
-        ensures steps { steps.new ≡ steps.old + 256 }
+        ensures steps { steps.new ≤ steps.old + 256 }
     {
         let (rest, _) = way(p, &self.end, steps);
+        if best.is_none() && 0 <= rest {
+            return false;
+        }
         let (whole, _) = way(&self.v, &self.end, steps);
         is_less_share(rest, whole, height_of(best), self.height)
     }

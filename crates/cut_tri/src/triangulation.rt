@@ -70,9 +70,9 @@ fn whole_piece(alloc: Global, ring: &Ring, mut order: Vec<u32>) -> Result<Piece,
 {
     let n = ring.len();
     order.reverse();
-    let mut boundary = Vec::with_capacity(alloc, n as usize)?;
+    let mut boundary = Vec::with_capacity(alloc, n as usize + 1)?;
     for i in 0..n {
-        boundary.push_reserved(i);
+        boundary.push_reserved(i as u16);
     }
     Ok(Piece {
         boundary: VecDeque::from_vec(boundary),

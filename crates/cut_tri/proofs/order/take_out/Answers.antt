@@ -6,8 +6,8 @@ use Rattle.cut_tri.proofs.Thinned.{still_has, thinned_more}
 use Rattle.cut_tri.specs.Thinned.{IsTakenOut}
 use Rattle.cut_tri.proofs.order.take_out.Goals as goal
 
-pub take_one_out-requires-clause-has : goal.take_one_out-requires-clause-has
-take_one_out-requires-clause-has c =
+pub take_one_out-near-requires-clause-has : goal.take_one_out-near-requires-clause-has
+take_one_out-near-requires-clause-has c =
     let n = length c.args.ranks.now in
     let xs = c.args.boundary.now.items in
     let k = c.loop-k.k in
@@ -27,6 +27,6 @@ loop-k-preserved c =
     let within : k < length xs = omega (arith, c.loop-k-test.true, c.requires.range.1) in
     let at : c.index.result.now ≡ get_or xs k 0 = c.index.ensures ∙ get_or_default xs k c.index.result.now 0 within in
     thinned_more n xs c.args.from k c.args.order.now.items c.loop-k.order.items c.loop-k.invariant
-    (All-get_or (λ i. i < n) xs k 0 within c.requires.numbers) c.take_one_out.new.order.items c.loop-k.auto.k
-    (subst (λ i. IsTakenOut n i c.loop-k.order.items c.take_one_out.new.order.items) at c.take_one_out.ensures)
+    (All-get_or (λ i. i < n) xs k 0 within c.requires.numbers) c.take_one_out-near.new.order.items c.loop-k.auto.k
+    (subst (λ i. IsTakenOut n i c.loop-k.order.items c.take_one_out-near.new.order.items) at c.take_one_out-near.ensures)
     c.requires.once

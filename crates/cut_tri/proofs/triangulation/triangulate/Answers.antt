@@ -5,7 +5,7 @@ use Rattle.rings.specs.Events.{AreEvents}
 use Rattle.ring_check.specs.Order.{IsInOrder}
 use Rattle.cut_tri.proofs.WholePiece.{all_is_piece, are_ranks}
 use Rattle.cut_tri.proofs.WorkList.{allowed_at_start, allowed_before, allowed_once, at_end, at_start, last_is_piece, one_step, orders_popped, orders_pushed}
-use Rattle.cut_tri.specs.Ordered.{AreRanks, IsOrderOf}
+use Rattle.cut_tri.specs.Ordered.{AreLexicalRanks, IsOrderOf}
 use Rattle.cut_tri.specs.declared.piece.Piece.{Piece}
 use Rattle.cut_tri.proofs.triangulation.triangulate.Goals as goal
 
@@ -45,7 +45,7 @@ cut-requires-clause-ranks g c =
     let order = c.in_ok-order.order.items in
     let events = c.in_ok-ranks.ensures corners (subst (IsInOrder corners) (sym c.deref.ensures.value) in_order) in
     let few = c.len.ensures.size.1 in
-    subst (AreRanks corners) (sym c.deref-in-Some.ensures.value)
+    subst (AreLexicalRanks corners) (sym c.deref-in-Some.ensures.value)
     (are_ranks corners order in_order c.in_ok-ranks.ranks.items (subst (λ os. AreEvents corners os c.in_ok-ranks.ranks.items) c.deref.ensures.value events) (omega (arith, few)))
 
 pub loop-piece-preserved : goal.loop-piece-preserved
