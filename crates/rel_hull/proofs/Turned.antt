@@ -5,7 +5,7 @@ use Rattle.exact_plane.specs.Direction.{opposite}
 use Rattle.exact_plane.specs.declared.direction.Direction.{Direction}
 use Rattle.exact_plane.specs.declared.direction.Direction.TheVariants.{Left, Right, Straight}
 use Rattle.hulls.proofs.Joined.{path_is_taut}
-use Rattle.hulls.proofs.Turning.{goes_on}
+use Rattle.hulls.proofs.Turning.{goes_on, part_to}
 use Rattle.hulls.specs.Inner.{IsOuterPair}
 use Rattle.hulls.specs.Turning.{IsToLeft, TurnsTo}
 use Rattle.hulls.specs.Turning as to
@@ -72,18 +72,8 @@ module _ (ring : List Point) (a b c : Point) where
       → IsPath ring a c (front ++ v ∷ second) → IsTurnAt v first second Left → IsToLeft ring a b c
   part_to_left front v [] second is_first is_second turned = absurd (left_not_straight turned)
   part_to_left front v (p ∷ first) [] is_first is_second turned = absurd (left_not_straight turned)
-  part_to_left front v (p ∷ first) (q ∷ second) is_first is_second turned = record {
-    front = front;
-    v = v;
-    p = p;
-    q = q;
-    first = first;
-    second = second;
-    is_first = is_first;
-    is_second = is_second;
-    differ = turned.0;
-    turns = left_of_apart v p q first second turned.1;
-  }
+  part_to_left front v (p ∷ first) (q ∷ second) is_first is_second turned =
+      part_to ring a b c v p q IsLeft IsRight front first second is_first is_second turned.0 (left_of_apart v p q first second turned.1)
 
   pub left_of_turn : IsTurnBetween ring a b c Left → IsToLeft ring a b c
   left_of_turn h =
