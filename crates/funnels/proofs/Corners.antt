@@ -7,11 +7,9 @@ pub use Rattle.funnels.proofs.Corners.TurningSigns.{left_of_line, left_of_second
 mod PieceEdges
 pub use Rattle.funnels.proofs.Corners.PieceEdges.{end_of_its_side}
 -- The edges of a ring by the numbers of their ends, and the neighbours of a vertex on one ray.
-mod RingSteps
-pub use Rattle.funnels.proofs.Corners.RingSteps.{IsRingStep}
 -- The turn of a ring at a vertex from which one of its edges is known.
 mod RingTurns
-pub use Rattle.funnels.proofs.Corners.RingTurns.{step_turn}
+pub use Rattle.funnels.proofs.Corners.RingTurns.{IsRingStep, step_turn}
 -- The corners of a triangle of a mesh beside one of them.
 mod CornerSides
 pub use Rattle.funnels.proofs.Corners.CornerSides.{corner_after, corner_before}
@@ -22,7 +20,6 @@ pub use Rattle.funnels.proofs.Corners.NoBendInTriangle.{neighbour_within, no_ben
 -- A vertex of the ring in a closed triangle of a mesh is a corner of it.
 mod CornerPoints
 pub use Rattle.funnels.proofs.Corners.CornerPoints.{IsCorner, at_corner, begin_is_corner, corner_of, end_is_corner}
-mod WithinCones
 -- A point that a corner of a triangle of a mesh sees across the opposite side is within the angle of the triangle there.
 mod SeenWithin
 pub use Rattle.funnels.proofs.Corners.SeenWithin.{side_at_corner, within_of_seen, within_on_ray}

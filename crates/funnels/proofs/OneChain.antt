@@ -10,7 +10,6 @@ pub use Rattle.funnels.proofs.OneChain.RayBends.{bend_back, bend_from_ray, bend_
 mod ShorterSteps
 pub use Rattle.funnels.proofs.OneChain.ShorterSteps.{before_last, front, last_of, shorter_step}
 mod SameChains
-mod LastSteps
 mod ComeTogether
 -- In a simple ring there is one chain with bends between two points, and none that ends where it begins.
 mod OneChains

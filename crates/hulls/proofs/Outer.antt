@@ -1,7 +1,6 @@
 -- Of two or more points of a simple ring a pair that has all others to the left.
 
 mod Fronts
-mod FrontsLeft
 mod OnFronts
 mod Seen
 -- Of some numbers below a bound there is a least or none, and where they stand in one order there is a last.

@@ -12,9 +12,8 @@ pub use Rattle.hulls.proofs.Third.Rays.{joined_nearer, joined_on_ray, ray_of_on}
 mod TurnsOver
 mod StepFacts
 mod Ways
+-- Of three free points, where c is to a side of b, seen from a, b is to that side of a, seen from c.
 mod AlongTowards
+pub use Rattle.hulls.proofs.Third.AlongTowards.{from_third, from_third_right}
 mod SplitSteps
 mod WaysFound
--- Of three free points, where c is to a side of b, seen from a, b is to that side of a, seen from c.
-mod FromThird
-pub use Rattle.hulls.proofs.Third.FromThird.{from_third, from_third_right}

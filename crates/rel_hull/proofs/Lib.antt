@@ -6,8 +6,6 @@ mod OnSteps
 pub mod Outer
 mod Paths
 mod PathTurns
-mod SideEnds
-mod SideLists
 mod TableSides
 mod TableReads
 pub mod Turned

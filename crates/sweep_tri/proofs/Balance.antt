@@ -3,7 +3,10 @@
 -- Sums along lists: cut in two at an item, read backward, and with other ends.
 mod Along
 -- Sums over lists of triangles and of gaps, after an edit.
-mod Lists
+-- After the last event: the triangles fit the ring.
+-- The balance before the next event, from that before this one, by what the sums gain.
+mod Steps
+pub use Rattle.sweep_tri.proofs.Balance.Steps.{balanced_at_end, balanced_at_start}
 -- The triangles that fill closed regions have the sums of these.
 -- What an event does to the regions of a gap, by their sums.
 mod Edits
@@ -12,15 +15,9 @@ pub use Rattle.sweep_tri.proofs.Balance.Edits.{closed_round, filled-append, fill
 mod EdgeSums
 -- Twice the areas that edges sweep out round the origin: of triangles, and of a ring.
 mod Area
--- After the last event: the triangles fit the ring.
-mod AtEnd
-pub use Rattle.sweep_tri.proofs.Balance.AtEnd.{balanced_at_end}
 -- The signs of the edges of a ring before and after an event: just those of the edges that begin there are new.
 mod Signs
 pub use Rattle.sweep_tri.proofs.Balance.Signs.{AreBeside}
--- The balance before the next event, from that before this one, by what the sums gain.
-mod Steps
-pub use Rattle.sweep_tri.proofs.Balance.Steps.{balanced_at_start}
 -- Each event keeps the balance.
 mod Events
 pub use Rattle.sweep_tri.proofs.Balance.Events.{AreFilledClosed, balanced_begins, balanced_ends, balanced_goes_on}

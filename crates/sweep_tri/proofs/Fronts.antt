@@ -15,19 +15,16 @@ pub use Rattle.sweep_tri.proofs.Fronts.Parted.{IsParted}
 mod GapPlaces
 pub use Rattle.sweep_tri.proofs.Fronts.GapPlaces.{GoesOn, low_is_front, sorted, up_is_front}
 -- The two edges that begin at a vertex turn to one side.
-mod Turning
-pub use Rattle.sweep_tri.proofs.Fronts.Turning.{not_straight, turns_left}
 -- The edges that begin at the vertex of an event.
 mod Beginning
+pub use Rattle.sweep_tri.proofs.Fronts.Beginning.{not_straight, turns_left}
 -- A list of edges in which some give way to others.
-mod Spliced
+-- The edges that the sweep line meets after an event.
+-- Before the first event and after the last one there are none.
+mod Passed
+pub use Rattle.sweep_tri.proofs.Fronts.Passed.{frontier_first, frontier_last}
 -- An edge that the sweep line meets, and one that begins beside it.
 mod Entered
--- The edges that the sweep line meets after an event.
-mod Passed
--- Before the first event and after the last one there are none.
-mod Bounds
-pub use Rattle.sweep_tri.proofs.Fronts.Bounds.{frontier_first, frontier_last}
 -- The edges below and above some gaps, as one list.
 mod Gaps
 -- The edges of the gaps after one is put in, replaced, divided, taken out or joined with another.

@@ -18,7 +18,7 @@ use Rattle.meshes.proofs.TreeLeaves.{turns_left}
 use Rattle.meshes.specs.Fits.{Fits, piece_points}
 use Rattle.meshes.specs.Side.{HasSide, tri_at}
 use Rattle.meshes.specs.declared.tri.Tri.{Tri}
-use Rattle.funnels.proofs.Bends.InLine.{level_is_vertex, ray_ahead, ray_behind}
+use Rattle.funnels.proofs.Bends.SameRays.{level_is_vertex, ray_ahead, ray_behind}
 use Rattle.funnels.proofs.Bends.Turnings.{turning_not, turning_swap}
 use Rattle.ring_laws.proofs.Vertices.{neighbours_differ}
 use Rattle.funnels.proofs.Vertices.{IsSharedSide, fitted_long, fitted_simple, neighbour_not_inside, off_shared}

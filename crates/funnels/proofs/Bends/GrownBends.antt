@@ -1,20 +1,101 @@
--- A bend at a corner of a mesh, with a shared side on its last ray, grows over the triangle beyond the side, and turns the same way.
-use Rattle.std.proofs.Common.{◌⊎◌, Bool, ℕ, ◌<◌, pos, ◌<ℤ◌, List, length}
+-- A bend at a vertex grows where its last ray turns on, over no neighbour.
+use Rattle.std.proofs.Common.{◌≡◌, ◌⊎◌, refl, sym, subst, Bool, ℤ, pos, ◌+ℤ◌, ◌-ℤ◌, ◌*ℤ◌, ◌<ℤ◌, ◌≤ℤ◌, List, arith, ℕ, ◌<◌, length, inl, inr}
+use Rattle.std.proofs.lemmas.Int.{ints}
 use Rattle.std.specs.List.{range_with_len}
-use Rattle.plane.specs.Point.{Point, whole}
+use Rattle.integer_algebra.proofs.Certificate.{product_zero}
+use Rattle.integer_algebra.proofs.SignSteps.{negative_not_zero, not_both, not_both_positive, turned_not_negative, turned_positive}
+use Rattle.integer_algebra.proofs.SignSteps.{turned_zero, weak_order}
+use Rattle.integer_algebra.proofs.Signs.{factor_zero, is_negative, is_positive, is_zero, sign, lt_or_le, mul_negative, mul_nonpositive}
+use Rattle.integer_algebra.proofs.Signs.{mul_nonpositives}
+use Rattle.plane.proofs.Points.{whole_is_point}
+use Rattle.plane.specs.Point.{IsSame, Point, Triple, whole}
 use Rattle.plane.specs.Segment.{On}
 use Rattle.rings.specs.Bend.{AreNeighbours, IsBend}
 use Rattle.rings.specs.Ring.{vertex}
 use Rattle.meshes.specs.Fits.{Fits, IsInTri}
 use Rattle.meshes.specs.Side.{tri_at}
 use Rattle.meshes.specs.declared.tri.Tri.{Tri}
+use Rattle.funnels.proofs.Bends.BendTurnings.{bend_of_turnings, turnings_of_bend}
 use Rattle.funnels.proofs.Bends.CornerTurns.{corner_in_ring, in_piece, neighbour_differs}
-use Rattle.funnels.proofs.Bends.GrownTurnings.{bend_after_step, still_wide}
+use Rattle.funnels.proofs.Bends.FanCones.{cone_grows}
+use Rattle.funnels.proofs.Bends.SameRays.{level_is_vertex, ray_ahead, ray_behind, HasTwoRays, two_rays}
 use Rattle.funnels.proofs.Bends.TriangleFans.{last_step}
-use Rattle.funnels.proofs.Bends.TwoRays.{HasTwoRays, two_rays}
+use Rattle.funnels.proofs.Bends.Turnings.{turning_four, turning_swap}
 use Rattle.funnels.proofs.Vertices.{IsSharedSide, fitted_long, fitted_simple, off_shared}
 use Rattle.funnels.specs.Corner.{HasCornerOn}
-use Rattle.funnels.specs.Fanned.{turning}
+use Rattle.funnels.specs.Fan.{IsLastStep}
+use Rattle.funnels.specs.Fanned.{IsNextTo, turning}
+
+-- ---- numbers
+
+-- the relation of four directions, where the last two are in line with the first, and the second is not: these are in line
+in_line : (ab ac ad bc bd cd : ℤ) → ab *ℤ cd -ℤ ac *ℤ bd +ℤ ad *ℤ bc ≡ pos 0 → ¬ (ab ≡ pos 0) → ac ≡ pos 0 → ad ≡ pos 0 → cd ≡ pos 0
+in_line ab ac ad bc bd cd e some hac had =
+    let middle = product_zero bd hac in
+    let last = product_zero bc had in
+    factor_zero ab cd some (omega (arith, ints))
+
+-- ---- the bend
+
+module _ (side : Bool) (ring : List Point) (q v r : Point) (bend : IsBend ring q v r) (wide : turning side v (whole q) (whole r) <ℤ pos 0)
+    (differ : (u : Point) → AreNeighbours ring v u → ¬ IsSame (whole u) (whole v))
+    (off : (u : Point) → AreNeighbours ring v u → ¬ (On (whole u) (whole v) (whole r) ⊎ On (whole r) (whole v) (whole u))) where
+  -- no neighbour is in line with the last ray,
+  not_level : (u : Point) → AreNeighbours ring v u → ¬ (turning side v (whole r) (whole u) ≡ pos 0)
+  not_level u n level = elim (sign (turning side v (whole q) (whole u))) [
+    | is_positive h ↦ not_both_positive h (turnings_of_bend side ring q v r wide bend u n).0
+    | is_negative h ↦ off u n (ray_behind side v (whole q) (whole r) (whole u) (whole_is_point r) (whole_is_point u) level wide h)
+    | is_zero h ↦
+        differ u n (level_is_vertex side v (whole r) (whole q) (whole u) (turned_positive (turning_swap side v (whole q) (whole r)) wide)
+        level (turned_zero (turning_swap side v (whole q) (whole u)) h))
+  ]
+
+  -- so all are ahead of it,
+  ahead : (u : Point) → AreNeighbours ring v u → pos 0 <ℤ turning side v (whole r) (whole u)
+  ahead u n = elim (sign (turning side v (whole r) (whole u))) [
+    | is_positive h ↦ h
+    | is_zero h ↦ absurd (not_level u n h)
+    | is_negative h ↦
+        absurd (not_both h
+        (turned_not_negative (turning_swap side v (whole u) (whole r)) (turnings_of_bend side ring q v r wide bend u n).1))
+  ]
+
+  module _ (y : Point) (step : IsLastStep (turning side v) (IsNextTo ring v) (whole r) (whole y)) where
+    -- and after the step they are still in the angle, and in line with its sides where these are in line
+    grown : (u : Point) → AreNeighbours ring v u
+        → (turning side v (whole q) (whole y) ≤ℤ pos 0) × (turning side v (whole u) (whole y) ≤ℤ pos 0)
+        × (turning side v (whole q) (whole y) ≡ pos 0
+        → (turning side v (whole q) (whole u) ≡ pos 0) × (turning side v (whole y) (whole u) ≡ pos 0))
+    grown u n =
+        cone_grows (turning side v) (turning_swap side v) (turning_four side v) (IsNextTo ring v) (whole q) (whole r) (whole y) wide
+        (λ z m. subst (λ (x : Triple). turning side v (whole q) x ≤ℤ pos 0) (sym m.2)
+        (turnings_of_bend side ring q v r wide bend m.0 m.1).0)
+        (λ z m. subst (λ (x : Triple). pos 0 <ℤ turning side v (whole r) x) (sym m.2) (ahead m.0 m.1))
+        step (whole u) (u, n, refl)
+
+    -- but these are not, since two neighbours are on two rays,
+    pub still_wide : HasTwoRays ring v → turning side v (whole q) (whole y) <ℤ pos 0
+    still_wide rays = elim (sign (turning side v (whole q) (whole y))) [
+      | is_negative h ↦ h
+      | is_positive h ↦ absurd (not_both_positive h (grown rays.first rays.first_next).0)
+      | is_zero h ↦
+          let a = rays.first in
+          let b = rays.last in
+          let level_a = ((grown a rays.first_next).2 h).0 in
+          let level_b = ((grown b rays.last_next).2 h).0 in
+          let level = in_line _ _ _ _ _ _ (turning_four side v (whole q) (whole r) (whole b) (whole a)) (negative_not_zero wide)
+          level_b level_a in
+          absurd (rays.two (ray_ahead side v (whole r) (whole b) (whole a) (whole_is_point b) (whole_is_point a) level
+          (ahead b rays.last_next) (ahead a rays.first_next)))
+    ]
+
+    -- so there is a bend to the end of the step
+    pub bend_after_step : HasTwoRays ring v → IsBend ring q v y
+    bend_after_step rays =
+        bend_of_turnings side ring q v y (still_wide rays) bend.reflex
+        (λ u n. ((turnings_of_bend side ring q v r wide bend u n).0, (grown u n).1))
+
+-- A bend at a corner of a mesh, with a shared side on its last ray, grows over the triangle beyond the side, and turns the same way.
 
 module _ (corners : List Point) (tris : List Tri) (fits : Fits corners tris) (k : ℕ) (within : k < length tris)
     (side : Bool) (before v after : ℕ) (corner : HasCornerOn side (tri_at tris k) before v after) where
@@ -49,3 +130,29 @@ module _ (corners : List Point) (tris : List Tri) (fits : Fits corners tris) (k 
     grown_bend =
         bend_after_step side corners q V A bend wide (neighbour_differs corners tris fits v) off_side z
         (last_step corners tris fits k within side before v after corner (whole z) inside ahead) rays
+
+-- A bend over a vertex stays one where it turns farther.
+
+-- the relation of q, z, u and y, where u is not ahead of q nor behind z, and y is behind q and not ahead of z: y is not ahead of u
+not_ahead : (qz uy qu zy qy zu : ℤ) → qz *ℤ uy -ℤ qu *ℤ zy +ℤ qy *ℤ zu ≡ pos 0 → qz <ℤ pos 0 → qu ≤ℤ pos 0 → qy <ℤ pos 0
+    → pos 0 ≤ℤ zu → zy ≤ℤ pos 0 → uy ≤ℤ pos 0
+not_ahead qz uy qu zy qy zu e hqz hqu hqy hzu hzy = elim (lt_or_le (pos 0) uy) [
+  | inr h ↦ h
+  | inl h ↦
+      let first = mul_negative uy qz h hqz in
+      let middle = mul_nonpositives qu zy hqu hzy in
+      let last = mul_nonpositive zu qy hzu (weak_order hqy) in
+      absurd (omega (arith, ints))
+]
+
+-- where the way from q over v to z has a bend at v, so has that to each y which is behind q and not ahead of z
+pub wider_bend : (side : Bool) (ring : List Point) (q v z y : Point) → IsBend ring q v z → turning side v (whole q) (whole z) <ℤ pos 0
+    → turning side v (whole q) (whole y) <ℤ pos 0 → turning side v (whole z) (whole y) ≤ℤ pos 0 → IsBend ring q v y
+wider_bend side ring q v z y bend wide wider beyond =
+    bend_of_turnings side ring q v y wider bend.reflex
+    (λ u n.
+    let (first, last) = turnings_of_bend side ring q v z wide bend u n in (
+      first,
+      not_ahead _ _ _ _ _ _ (turning_four side v (whole q) (whole z) (whole u) (whole y)) wide first wider
+          (turned_not_negative (turning_swap side v (whole u) (whole z)) last) beyond,
+    ))

@@ -13,8 +13,7 @@ use Rattle.meshes.specs.Fits.{Fits, IsInTri}
 use Rattle.meshes.specs.Side.{HasSide, tri_at}
 use Rattle.meshes.specs.declared.tri.Tri.{Tri}
 use Rattle.funnels.proofs.Bends.CornerTurns.{within_back, corner_turns, not_inside, not_swept}
-use Rattle.funnels.proofs.Bends.FannedSteps.{fanned_more, fanned_within}
-use Rattle.funnels.proofs.Bends.PartialSteps.{last_step_to_within}
+use Rattle.funnels.proofs.Bends.Fans.{fanned_more, fanned_within, last_step_to_within}
 use Rattle.funnels.proofs.Bends.Turnings.{turning_four, turning_swap}
 use Rattle.funnels.proofs.Vertices.{IsSharedSide}
 use Rattle.funnels.specs.Corner.{HasCornerOn, IsInAngle}

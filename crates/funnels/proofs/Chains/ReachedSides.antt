@@ -5,7 +5,7 @@ use Rattle.plane.specs.Point.{Point, whole}
 use Rattle.rings.specs.Bend.{IsBend}
 use Rattle.rings.specs.Chain.{point_at}
 use Rattle.funnels.proofs.Bends.{wider_bend}
-use Rattle.funnels.proofs.Chains.ApexSides.{back_of_left, back_of_right}
+use Rattle.funnels.proofs.Chains.ApexTurns.{back_of_left, back_of_right}
 use Rattle.funnels.proofs.Funnels.{window_of_reached, left_of_way, right_of_way}
 use Rattle.funnels.specs.Funnel.{IsFunnel, IsReachedFrom}
 use Rattle.funnels.specs.OpenFunnel.{IsBentFunnel}

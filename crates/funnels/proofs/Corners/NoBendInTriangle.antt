@@ -22,8 +22,8 @@ use Rattle.meshes.specs.Side.{HasSide, tri_at}
 use Rattle.meshes.specs.declared.tri.Tri.{Tri}
 use Rattle.funnels.proofs.Bends.{in_piece, neighbour_differs, not_inside, on_after, on_before, corner_in_ring, corner_turns}
 use Rattle.funnels.proofs.Bends.{not_ahead_of_itself, not_reflex, two_rays}
-use Rattle.funnels.proofs.Corners.RingSteps.{IsRingStep, one_on_ray, step_neighbours, step_vertex}
-use Rattle.funnels.proofs.Corners.WithinCones.{within_cone}
+use Rattle.funnels.proofs.Corners.RingTurns.{IsRingStep, one_on_ray, step_neighbours, step_vertex}
+use Rattle.funnels.proofs.Corners.SeenWithin.{within_cone}
 use Rattle.funnels.proofs.Vertices.{IsSharedSide, fitted_long, fitted_simple, off_shared, fitted_counterclockwise}
 use Rattle.funnels.specs.Corner.{HasCornerOn, IsInAngle}
 use Rattle.funnels.specs.Fanned.{turning}

@@ -1,18 +1,71 @@
--- The turn of a ring at a vertex from which one of its edges is known.
-use Rattle.std.proofs.Common.{◌≡◌, inl, inr, sym, subst, ap, ◌∙◌, Bool, true, false, not, ℕ, ◌+◌, ◌-◌, ◌<◌, ◌≤◌, pos, ◌≤ℤ◌, List, length}
+-- The edges of a ring by the numbers of their ends, and the neighbours of a vertex on one ray.
+use Rattle.std.proofs.Common.{◌≡◌, ◌⊎◌, inl, inr, refl, sym, subst, ap, ◌∙◌, Bool, true, false, ℕ, ◌+◌, ◌%◌, ◌<◌, ◌≤◌, List, length, arith}
+use Rattle.std.proofs.Common.{not, ◌-◌, pos, ◌≤ℤ◌}
+use Rattle.std.proofs.Math.Nat.{mod-eq_of_lt, mod-lt}
+use Rattle.std.specs.List.{range_with_len}
+use Rattle.std.specs.Prelude.{slice_index_or}
 use Rattle.plane.proofs.Turns.{determinant_shift, determinant_swap_first}
 use Rattle.plane.specs.Point.{Point, whole}
+use Rattle.plane.specs.Segment.{On}
 use Rattle.rings.proofs.Simple.{apart_of_simple}
 use Rattle.rings.proofs.Vertices.{has_edge_at}
 use Rattle.rings.specs.Bend.{AreNeighbours}
 use Rattle.rings.specs.Edge.{Edge}
 use Rattle.rings.specs.Orientation.{turn_at}
-use Rattle.rings.specs.Ring.{vertex}
+use Rattle.rings.specs.Ring.{origin, vertex}
 use Rattle.rings.specs.Simple.{IsSimple}
-use Rattle.funnels.proofs.Corners.RingSteps.{IsRingStep, step_vertex}
-use Rattle.ring_laws.proofs.Vertices.{beside_differs, beside_next, edges_at, vertex_beside}
+use Rattle.ring_laws.proofs.Vertices.{neighbour_is, neighbours_not_on_ray, beside_differs, beside_next, edges_at, vertex_beside}
 use Rattle.meshes.proofs.Sides.{ring_edge_is}
+use Rattle.meshes.specs.Fits.{IsPieceEdge}
 use Rattle.funnels.specs.Fanned.{turning}
+
+-- the ring goes from corner i to corner j; or, on the other side, in the other direction
+abbrev pub IsRingStep : Bool → List Point → ℕ → ℕ → Type 0
+IsRingStep true corners i j = IsPieceEdge (range_with_len 0 (length corners)) i j
+IsRingStep false corners i j = IsPieceEdge (range_with_len 0 (length corners)) j i
+
+-- ---- edges
+
+-- where an edge goes from number i to number j, vertex j is the one after vertex i,
+pub step_vertex : (ring : List Point) (i j : ℕ) → IsPieceEdge (range_with_len 0 (length ring)) i j → vertex ring (i + 1) ≡ vertex ring j
+step_vertex ring i j e =
+    let (within, is) = ring_edge_is (length ring) i j e in
+    let next : (i + 1) % length ring < length ring = mod-lt (i + 1) (omega (arith, within)) in
+    ap (λ k. slice_index_or ring k origin) (sym (ap (λ k. k % length ring) is ∙ mod-eq_of_lt next))
+
+-- and they are neighbours
+pub step_neighbours : (ring : List Point) (i j : ℕ) → IsPieceEdge (range_with_len 0 (length ring)) i j
+    → AreNeighbours ring (vertex ring i) (vertex ring j) × AreNeighbours ring (vertex ring j) (vertex ring i)
+step_neighbours ring i j e =
+    let within = (ring_edge_is (length ring) i j e).0 in
+    let next = step_vertex ring i j e in (
+      record { i = i; in_ring = within; ends = inl (refl, next) },
+      record { i = i; in_ring = within; ends = inr (refl, next) },
+    )
+
+-- ---- neighbours on one ray
+
+-- two neighbours of a vertex on one ray are one
+pub one_on_ray : (ring : List Point) → IsSimple ring → 3 ≤ length ring → (r : ℕ) → r < length ring → (u w : Point)
+    → AreNeighbours ring (vertex ring r) u → AreNeighbours ring (vertex ring r) w
+    → On (whole u) (whole (vertex ring r)) (whole w) ⊎ On (whole w) (whole (vertex ring r)) (whole u) → u ≡ w
+one_on_ray ring simple three r h u w n m ray =
+    let v = vertex ring r in
+    let ray_of = λ (x y : Point). On (whole x) (whole v) (whole y) ⊎ On (whole y) (whole v) (whole x) in
+    elim (neighbour_is ring simple three r h u n) [
+      | inl e ↦ elim (neighbour_is ring simple three r h w m) [
+        | inl f ↦ e ∙ sym f
+        | inr f ↦ absurd (neighbours_not_on_ray ring simple three r h (subst (λ x. ray_of x (vertex ring (r + 1))) e (subst (ray_of u) f ray)))
+      ]
+      | inr e ↦ elim (neighbour_is ring simple three r h w m) [
+        | inl f ↦
+            let back = subst (λ x. ray_of x (vertex ring (r + 1))) f (subst (ray_of w) e (elim ray [ inl on ↦ inr on | inr on ↦ inl on ])) in
+            absurd (neighbours_not_on_ray ring simple three r h back)
+        | inr f ↦ e ∙ sym f
+      ]
+    ]
+
+-- The turn of a ring at a vertex from which one of its edges is known.
 
 module _ (ring : List Point) (simple : IsSimple ring) (three : 3 ≤ length ring) (r : ℕ) (h : r < length ring) where
   -- the vertex to which the ring goes from this one, on either side, is the one beside it,

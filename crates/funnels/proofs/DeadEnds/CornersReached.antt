@@ -19,8 +19,7 @@ use Rattle.meshes.specs.declared.tri.Tri.{Tri}
 use Rattle.funnels.proofs.Bends.{AreOnRay, in_angle}
 use Rattle.funnels.proofs.Corners.{within_on_ray, side_at_corner, within_of_seen}
 use Rattle.funnels.proofs.DeadEnds.CrossedSides.{some_crossed, crossed_back}
-use Rattle.funnels.proofs.DeadEnds.PartWalks.{meets_on_part}
-use Rattle.funnels.proofs.DeadEnds.WalkParts.{rest_crossed, rest_in, walk_rest}
+use Rattle.funnels.proofs.DeadEnds.WalkParts.{meets_on_part, rest_crossed, rest_in, walk_rest}
 use Rattle.funnels.specs.Corner.{HasCornerOn, IsFirstWith, IsInAngle}
 
 module _ (corners : List Point) (tris : List Tri) (fits : Fits corners tris) (walk : List ℕ) (w : IsWalk tris walk) (h : Point) (n : ℕ)

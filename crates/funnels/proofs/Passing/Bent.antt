@@ -14,9 +14,8 @@ use Rattle.meshes.specs.declared.tri.Tri.{Tri}
 use Rattle.funnels.proofs.Bends.{corner_turns, turning_along, turning_four}
 use Rattle.funnels.proofs.Corners.{left_of_second}
 use Rattle.funnels.proofs.Passing.Advanced.{turning_shift}
-use Rattle.funnels.proofs.Passing.AlongWays.{level_on_way, other_end_not_ahead}
-use Rattle.funnels.proofs.Passing.BendSides.{turns_away}
-use Rattle.funnels.proofs.Passing.BentWays.{mean_too, opens}
+use Rattle.funnels.proofs.Passing.BentWays.{level_on_way, other_end_not_ahead, mean_too, opens}
+use Rattle.funnels.proofs.Passing.LastSides.{turns_away}
 use Rattle.funnels.specs.Corner.{HasCornerOn, IsInAngle}
 use Rattle.funnels.specs.Fanned.{turning}
 use Rattle.funnels.specs.Passing.{ArePassing, Passes}

@@ -14,7 +14,7 @@ use Rattle.meshes.specs.declared.tri.Tri.{Tri}
 use Rattle.funnels.proofs.Bends.{not_ahead_of_itself}
 use Rattle.funnels.proofs.DeadEnds.{HasSideOn, corner_at_side, crossed_back, end_of_crossed, within_before}
 use Rattle.funnels.proofs.Passing.Bent.{bent}
-use Rattle.funnels.proofs.Passing.Flipped.{flipped}
+use Rattle.funnels.proofs.Passing.BentWays.{flipped}
 use Rattle.funnels.specs.Corner.{FollowsWalk, HasCornerOn, IsFirstWith, IsInAngle}
 use Rattle.funnels.specs.Fanned.{turning}
 use Rattle.funnels.specs.Passing.{ArePassing}

@@ -9,8 +9,7 @@ use Rattle.rings.specs.Simple.{IsSimple}
 use Rattle.funnels.proofs.OneChain.{last_of}
 use Rattle.hulls.proofs.Joined.{path_is_taut}
 use Rattle.hulls.proofs.Order.{AreAhead, left_by_paths, left_of_paths, ordered_ahead, path_begins}
-use Rattle.hulls.proofs.Outer.Fronts.{IsFrontOf, front_follows, fronts_are_one}
-use Rattle.hulls.proofs.Outer.FrontsLeft.{front_then_left, left_then_farther, not_front_and_left}
+use Rattle.hulls.proofs.Outer.Fronts.{IsFrontOf, front_follows, fronts_are_one, front_then_left, left_then_farther, not_front_and_left}
 use Rattle.hulls.proofs.Outer.Lasts.{some_or_none}
 use Rattle.hulls.proofs.Outer.OnFronts.{front_of_on_path, on_path_of_front}
 use Rattle.hulls.proofs.Turning.{exchanged_back, one_path, one_way}

@@ -10,9 +10,8 @@ use Rattle.meshes.specs.Boundary.{IsOdd, sum_sides}
 use Rattle.meshes.specs.declared.tri.Tri.{Tri}
 use Rattle.sweep_tri.proofs.Balance.Edits.{AreJoined, all_filled_sum, left_some, met_sum, open_joined, region_from_sum, sign_of, split_sum}
 use Rattle.sweep_tri.proofs.Balance.Edits.{sum_regions, with_vertex_sum}
-use Rattle.sweep_tri.proofs.Balance.Lists.{gaps_inserted, gaps_removed, gaps_replaced}
+use Rattle.sweep_tri.proofs.Balance.Steps.{gaps_inserted, gaps_removed, gaps_replaced, none_begins, one_begins, two_begin}
 use Rattle.sweep_tri.proofs.Balance.Signs.{AreBeside}
-use Rattle.sweep_tri.proofs.Balance.Steps.{none_begins, one_begins, two_begin}
 use Rattle.sweep_tri.proofs.Regions.{left_ends, near_chain}
 use Rattle.sweep_tri.specs.Gaps.{gap_at, last, no_gap}
 use Rattle.sweep_tri.specs.Meeting.{AreFilled, closed_at, gap_of, left_at, region_from, split_above, split_below, with_vertex}

@@ -20,8 +20,7 @@ use Rattle.sweep_tri.proofs.Fronts.GapPlaces.{up_under}
 use Rattle.sweep_tri.proofs.Fronts.Kinds.{between_gaps, in_gap, at_low, at_up, at_both, at_gap, gap_here}
 use Rattle.sweep_tri.proofs.Fronts.Sides.{IsFront, above_no_end, short_no_end, under_no_end}
 use Rattle.sweep_tri.proofs.Fronts.Parted.{IsParted}
-use Rattle.sweep_tri.proofs.Fronts.Passed.{passed}
-use Rattle.sweep_tri.proofs.Fronts.Spliced.{IsSpliced}
+use Rattle.sweep_tri.proofs.Fronts.Passed.{passed, IsSpliced}
 use Rattle.sweep_tri.proofs.Regions.{IsNearer, IsShort, far_front, near_front}
 use Rattle.sweep_tri.specs.Frontier.{IsAbove, IsFrontier, IsGapPlace, IsUnder}
 use Rattle.sweep_tri.specs.Gaps.{Front, front_edge, fronts, gap_at, low_front, up_front}

@@ -1,20 +1,53 @@
--- The edges that the sweep line meets after an event: those that end at its vertex give way to those that begin there.
-use Rattle.std.proofs.Common.{◌≡◌, inl, inr, refl, sym, ap, subst, ◌∙◌, ℕ, ◌+◌, ◌-◌, ◌<◌, ◌≤◌, List, length, arith}
+-- A list of edges in which some, one after another, give way to others.
+use Rattle.std.proofs.Common.{◌≡◌, sym, ap, ◌∙◌, ℕ, ◌+◌, ◌<◌, ◌≤◌, List, ◌++◌, length, arith, inl, inr, refl, subst, ◌-◌, [], ◌∷◌}
+use Rattle.std.proofs.lemmas.List.{get_or-append-add, get_or_append_left, length-append}
 use Rattle.std.proofs.lemmas.Bool.{cases_lt}
 use Rattle.std.specs.Prelude.{slice_index}
 use Rattle.plane.specs.Point.{Point}
+use Rattle.rings.proofs.Sweeps.{rank_below}
 use Rattle.rings.specs.Below.{IsBelow}
 use Rattle.rings.specs.Events.{AreEvents}
 use Rattle.rings.specs.Simple.{IsSimple}
+use Rattle.mono_fill.specs.declared.side.Side.TheVariants.{Lower, Upper}
 use Rattle.sweep_tri.proofs.Fronts.Beginning.{AreBegun}
 use Rattle.sweep_tri.proofs.Fronts.Entered.{entered, goes_on}
-use Rattle.sweep_tri.proofs.Fronts.Sides.{IsFront, above_no_end, ends_about, under_no_end}
 use Rattle.sweep_tri.proofs.Fronts.Parted.{IsParted}
-use Rattle.sweep_tri.proofs.Fronts.Spliced.{IsSpliced}
+use Rattle.sweep_tri.proofs.Fronts.Sides.{IsFront, above_no_end, ends_about, under_no_end}
 use Rattle.sweep_tri.proofs.RankOrder.{one_by_rank}
-use Rattle.mono_fill.specs.declared.side.Side.TheVariants.{Lower, Upper}
-use Rattle.sweep_tri.specs.Frontier.{IsFrontier, IsMet, front_at, upward}
-use Rattle.sweep_tri.specs.Gaps.{Front, front_edge}
+use Rattle.sweep_tri.specs.Frontier.{front_at, IsFrontier, IsMet, upward}
+use Rattle.sweep_tri.specs.Gaps.{Front, front_edge, fronts, low_front}
+use Rattle.sweep_tri.specs.declared.gap.Gap.{Gap}
+
+-- from place `first` on the new edges stand for `count` of the old ones
+pub record IsSpliced (old new : List Front) (first count : ℕ) (put : List Front) : Type 0 where
+  pub inside : first + count ≤ length old
+  pub size : length new + count ≡ length old + length put
+  pub kept : (i : ℕ) → i < first → front_at new i ≡ front_at old i
+  pub at_place : (i : ℕ) → i < length put → front_at new (first + i) ≡ front_at put i
+  pub moved : (i : ℕ) → first + count + i < length old → front_at new (first + length put + i) ≡ front_at old (first + count + i)
+
+-- the items after two lists
+after_two : (A Z B : List Front) (i : ℕ) → front_at (A ++ (Z ++ B)) (length A + length Z + i) ≡ front_at B i
+after_two A Z B i =
+    let regroup : length A + length Z + i ≡ length A + (length Z + i) = omega arith in
+    ap (front_at (A ++ (Z ++ B))) regroup ∙ get_or-append-add A (Z ++ B) (length Z + i) _ ∙ get_or-append-add Z B i _
+
+-- so it is where a list stands between two others in the place of another
+pub spliced : (A Z N B : List Front) → IsSpliced (A ++ (Z ++ B)) (A ++ (N ++ B)) (length A) (length Z) N
+spliced A Z N B =
+    let a = length-append A (Z ++ B) in
+    let b = length-append Z B in
+    let c = length-append A (N ++ B) in
+    let d = length-append N B in
+    record {
+      inside = omega (arith, a, b);
+      size = omega (arith, a, b, c, d);
+      kept = λ i h. get_or_append_left A (N ++ B) _ i h ∙ sym (get_or_append_left A (Z ++ B) _ i h);
+      at_place = λ i h. get_or-append-add A (N ++ B) i _ ∙ get_or_append_left N B _ i h;
+      moved = λ i h. after_two A N B i ∙ sym (after_two A Z B i);
+    }
+
+-- The edges that the sweep line meets after an event: those that end at its vertex give way to those that begin there.
 
 module _ (corners : List Point) (order ranks : List ℕ) (are : AreEvents corners order ranks) (three : 3 ≤ length corners) (simple : IsSimple corners)
     (k v : ℕ) (hv : v < length ranks) (rank_v : slice_index ranks v ≡ k) where
@@ -132,3 +165,22 @@ module _ (corners : List Point) (order ranks : List ℕ) (are : AreEvents corner
       all = all;
       ordered = λ i j less h. in_order i j less (origin i (omega (arith, less, h))) (origin j h);
     }
+
+-- Before the first event the sweep line meets no edge, and after the last one none is left.
+
+-- none has begun before the first event
+pub frontier_first : (corners : List Point) (ranks : List ℕ) → IsFrontier corners ranks 0 []
+frontier_first corners ranks = record {
+  edges = λ i h. absurd (omega (arith, h));
+  all = λ e met. let begun = met.begun in absurd (omega (arith, begun));
+  ordered = λ i j less h. absurd (omega (arith, h));
+}
+
+-- and none goes on after the last
+pub frontier_last : (corners : List Point) (order ranks : List ℕ) → AreEvents corners order ranks → 3 ≤ length corners
+    → (gaps : List Gap) → IsFrontier corners ranks (length corners) (fronts gaps) → gaps ≡ []
+frontier_last corners order ranks are three [] frontier = refl
+frontier_last corners order ranks are three (g ∷ gs) frontier =
+    let ends = ends_about corners order ranks are three (length corners) (low_front g) (frontier.edges 0 (omega arith)) in
+    let to_come = ends.to_come in
+    absurd (omega (arith, to_come, rank_below corners order ranks are three (low_front g).to ends.to_below))

@@ -7,8 +7,8 @@ use Rattle.rings.specs.Edge.{edge}
 use Rattle.rings.specs.Events.{AreEvents}
 use Rattle.rings.specs.Ring.{vertex}
 use Rattle.sweep_tri.proofs.Regions.Edges.{short_not_last}
-use Rattle.sweep_tri.proofs.Regions.Halves.{CanGrow, grown}
-use Rattle.sweep_tri.proofs.Regions.Ranks.{before_next, before_of_rise, ends_grown, ends_later, last_is_vertex, last_or_before}
+use Rattle.sweep_tri.proofs.Regions.Halves.{CanGrow, grown, before_next, before_of_rise, ends_grown, ends_later, last_is_vertex}
+use Rattle.sweep_tri.proofs.Regions.Halves.{last_or_before}
 use Rattle.sweep_tri.proofs.Regions.Sides.{AreOpen, IsNearer, IsShort}
 use Rattle.mono_fill.specs.declared.side.Side.{Side}
 use Rattle.sweep_tri.specs.Gaps.{front_edge, front_of, last}

@@ -13,8 +13,7 @@ use Rattle.sweep_tri.proofs.Balance.{AreFilledClosed, balanced_ends, balanced_me
 use Rattle.sweep_tri.proofs.Fronts.{AreBeside, IsEnd, beside_swapped, closes, ends, IsMerge, merges}
 use Rattle.sweep_tri.proofs.Regions.{closes as region_closes, ends as region_ends, left_far, merges as region_merges}
 use Rattle.sweep_tri.proofs.Swept.AtEvent.{IsAtEvent, earlier, event_below, event_rank}
-use Rattle.sweep_tri.proofs.Swept.Kept.{gap_kept, of_ring-all_filled}
-use Rattle.sweep_tri.proofs.Swept.Lists.{all_removed, all_joined}
+use Rattle.sweep_tri.proofs.Swept.Kept.{gap_kept, of_ring-all_filled, all_removed, all_joined}
 use Rattle.sweep_tri.specs.Gaps.{gap_at, up_front, front_of}
 use Rattle.sweep_tri.specs.Meeting.{AreFilled, closed_at, left_at}
 use Rattle.sweep_tri.specs.Open.{IsOpenGap}

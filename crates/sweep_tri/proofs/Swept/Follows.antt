@@ -9,9 +9,7 @@ use Rattle.sweep_tri.proofs.Balance.{AreFilledClosed, balanced_goes_on, left_som
 use Rattle.sweep_tri.proofs.Fronts.{AreBeside, IsNext, beside_swapped, follows_low, follows_up}
 use Rattle.sweep_tri.proofs.Regions.{closes, far_front, goes_on, left_ends, left_far, near_chain, near_front}
 use Rattle.sweep_tri.proofs.Swept.AtEvent.{IsAtEvent, earlier, event_below, event_rank, neighbours_below}
-use Rattle.sweep_tri.proofs.Swept.Edges.{front_grown}
-use Rattle.sweep_tri.proofs.Swept.Kept.{gap_kept, of_ring-all_filled}
-use Rattle.sweep_tri.proofs.Swept.Lists.{all_replaced}
+use Rattle.sweep_tri.proofs.Swept.Kept.{front_grown, gap_kept, of_ring-all_filled, all_replaced}
 use Rattle.sweep_tri.specs.Gaps.{front_of, gap_at, last, low_front}
 use Rattle.sweep_tri.specs.Meeting.{AreFilled, closed_at, gap_of, left_at, with_vertex}
 use Rattle.mono_fill.specs.declared.side.Side.{Side}

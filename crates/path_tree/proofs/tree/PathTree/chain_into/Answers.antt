@@ -1,7 +1,7 @@
 use Rattle.std.proofs.Common.{refl, sym, ap, subst, ◌∙◌, [], ◌∷◌, ◌++◌, length, arith}
 use Rattle.std.proofs.lemmas.List.{length-append}
 use Rattle.exact_plane.specs.declared.turns.Spot.TheVariants.{Start}
-use Rattle.path_tree.proofs.GoneBack.{IsGoneBack, back_begins, back_ends, back_goes_on, back_longer, back_no_goal, back_on, back_room}
+use Rattle.path_tree.proofs.GrownPaths.{IsGoneBack, back_begins, back_ends, back_goes_on, back_longer, back_no_goal, back_on, back_room}
 use Rattle.path_tree.specs.Grown.{IsGrownTree}
 use Rattle.path_tree.proofs.tree.PathTree.chain_into.Goals as goal
 
