@@ -10,8 +10,11 @@ pub use Rattle.funnels.proofs.Bends.FanSigns.{Relation, negative_unless, right_o
 mod Fans
 -- A triangle of a mesh at one of its corners, which sees its points in the angle there, and fans of such triangles, on either side: one begins
 -- in a triangle, goes on over one, and has a last step in one.
+-- A triangle of a mesh at one of its corners, seen from either side: its mirror image, how its sides turn, and which ways no ring neighbour goes.
 mod TriangleFans
 pub use Rattle.funnels.proofs.Bends.TriangleFans.{fan_begins, fan_begins_in, fan_goes_on, first_end_in, in_angle, last_end_in, last_step}
+pub use Rattle.funnels.proofs.Bends.TriangleFans.{corner_back, corner_in_ring, corner_turns, in_piece, neighbour_differs, not_inside}
+pub use Rattle.funnels.proofs.Bends.TriangleFans.{not_swept, on_after, on_before, within_back}
 -- A fan at a vertex of a simple ring that turns by more than a half turn makes a bend there: at one that is not reflex, directions toward which
 -- the ring is open turn by a half turn at most.
 mod FanBends
@@ -22,10 +25,6 @@ pub use Rattle.funnels.proofs.Bends.FanBends.{bend_of_fan, not_reflex}
 mod SameRays
 pub use Rattle.funnels.proofs.Bends.SameRays.{two_rays, AreOnRay, on_ray_back, turning_from_ray, turning_to_ray, level_is_vertex, ray_ahead}
 pub use Rattle.funnels.proofs.Bends.SameRays.{ray_behind, turning_differs, turning_differs_first, turning_straight}
--- A triangle of a mesh at one of its corners, seen from either side: its mirror image, how its sides turn, and which ways no ring neighbour goes.
-mod CornerTurns
-pub use Rattle.funnels.proofs.Bends.CornerTurns.{corner_back, corner_in_ring, corner_turns, in_piece, neighbour_differs, not_inside, not_swept}
-pub use Rattle.funnels.proofs.Bends.CornerTurns.{on_after, on_before, within_back}
 -- Bends by the turning on one side of their vertex: the neighbours in the ring are not ahead of the one ray, nor behind the other.
 mod BendTurnings
 pub use Rattle.funnels.proofs.Bends.BendTurnings.{turnings_of_bend}

@@ -13,16 +13,14 @@ mod FirstFunnels
 pub use Rattle.funnels.proofs.Chains.FirstFunnels.{bent_from_apex, one_bent, start_at_left, start_at_right, start_between}
 mod BentLeft
 -- At an end of a shared side: a bend to the other end goes on to each point of the triangle beyond, and turns the same way; and a fan round to the side makes a bend to a point past it.
-mod DiagonalEnds
+-- At the corner of a triangle beyond the diagonal fans begin with the way back to the point of the funnel that it is reached from.
+mod Ends
+pub use Rattle.funnels.proofs.Chains.Ends.{corner_differs}
 mod BentRight
 mod ApexTurns
-mod ReachedSides
 -- The way to a point beyond the diagonal bends at the point of the funnel from which it is reached, be that the apex or not.
 -- The step from an open funnel to the next, over one of the two sides from the corner beyond the diagonal: the point of the funnel that the corner is reached from sees it, and the way there bends at that point.
 mod ReachedBends
 pub use Rattle.funnels.proofs.Chains.ReachedBends.{reached_bends, step_left, step_right}
--- At the corner of a triangle beyond the diagonal fans begin with the way back to the point of the funnel that it is reached from.
-mod Ends
-pub use Rattle.funnels.proofs.Chains.Ends.{corner_differs}
 mod BeyondSide
 mod LastPoints

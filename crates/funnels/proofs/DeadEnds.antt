@@ -13,11 +13,9 @@ pub use Rattle.funnels.proofs.DeadEnds.CrossedSides.{opposite_side, some_crossed
 -- corner at the end of a walk, and how one leaves it at the start.
 mod CornersReached
 pub use Rattle.funnels.proofs.DeadEnds.CornersReached.{within_before}
-mod PassedCorners
 -- The bends of a chain, and walks to them.
 mod ChainBends
 pub use Rattle.funnels.proofs.DeadEnds.ChainBends.{front_to, some_triangle}
-mod ChainPlaces
 -- A chain with bends follows each walk of triangles from a triangle with its first point to one with its last: it enters no dead end.
 -- A chain with bends in a ring that triangles fit does not end where it begins, unless it is a single point.
 mod DeadEnds

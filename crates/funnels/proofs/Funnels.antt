@@ -19,8 +19,10 @@ mod TestSigns
 mod SidesBetween
 -- The two edges at the apex of a funnel: no point beyond the diagonal is to the left of the left one and to the right of the right one.
 -- Which edges of a funnel the way to a point beyond the diagonal passes: those from the left end to one place, and no others.
+-- On which side of the way over a place of a funnel a point is that is reached from there, where the place is not the apex.
 mod PassedEdges
-pub use Rattle.funnels.proofs.Funnels.PassedEdges.{IsPassedFrom, not_passed_from, passed_from, passed_of, passed_to}
+pub use Rattle.funnels.proofs.Funnels.PassedEdges.{IsPassedFrom, not_passed_from, passed_from, passed_of, passed_to, left_of_way}
+pub use Rattle.funnels.proofs.Funnels.PassedEdges.{right_of_way}
 -- On the side from an end of the diagonal to m the window of an old point in the next funnel is within its old window.
 -- The two next funnels, of the diagonals from a point beyond to the right end and from the left end to it: the point, and the points from the
 -- place that it is reached from, or those to that place.
@@ -55,6 +57,3 @@ mod TwoEdges
 -- The edges of a funnel at its places, and the window of the place from which a point is reached.
 mod FunnelEdges
 pub use Rattle.funnels.proofs.Funnels.FunnelEdges.{edge_after, edge_before, in_window_of, window_of_reached}
--- On which side of the way over a place of a funnel a point is that is reached from there, where the place is not the apex.
-mod ReachedWays
-pub use Rattle.funnels.proofs.Funnels.ReachedWays.{left_of_way, right_of_way}

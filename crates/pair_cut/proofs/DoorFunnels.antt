@@ -20,8 +20,8 @@ use Rattle.funnels.proofs.Trees.{before_differs}
 use Rattle.funnels.proofs.Vertices.{fitted_simple}
 use Rattle.shared_funnel.proofs.NextFunnels.{beyond_at, earlier, ends_at, toward_below, few_points, funnel_from_home, funnel_on_left}
 use Rattle.shared_funnel.proofs.NextFunnels.{funnel_on_right}
-use Rattle.shared_funnel.proofs.FunnelNumbers.{first_at_left, first_at_right, first_between, funnel_to_left, funnel_to_right}
-use Rattle.shared_funnel.proofs.Numbers.{corner_point, point_there, source_point}
+use Rattle.shared_funnel.proofs.FunnelNumbers.{first_at_left, first_at_right, first_between, funnel_to_left, funnel_to_right, corner_point}
+use Rattle.shared_funnel.proofs.FunnelNumbers.{point_there, source_point}
 use Rattle.shared_funnel.proofs.Doors.{corner_below, side_corners}
 use Rattle.shared_funnel.specs.Entered.{IsFromStart, IsFunnelTo, at_place, left_of, right_of, third_of, toward}
 use Rattle.shared_funnel.specs.Listed.{Listed, point_of, listed_points}

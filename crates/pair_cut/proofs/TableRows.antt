@@ -22,7 +22,7 @@ use Rattle.tri_mesh.specs.Outward.{IsOutward, outward_at}
 use Rattle.tri_mesh.specs.declared.outward.Outward.{Outward}
 use Rattle.shared_seq.specs.Digits.{binary_digits}
 use Rattle.shared_funnel.proofs.NextFunnels.{beyond_at, from_start, third_below}
-use Rattle.shared_funnel.proofs.Numbers.{point_there}
+use Rattle.shared_funnel.proofs.FunnelNumbers.{point_there}
 use Rattle.shared_funnel.proofs.ReachedBefore.{before_third}
 use Rattle.shared_funnel.proofs.StepCounts.{home_steps, three_digits}
 use Rattle.shared_funnel.proofs.Doors.{side_corners, corner_below, corner_cases, corner_in}

@@ -21,7 +21,7 @@ use Rattle.tri_mesh.specs.Corner.{HasCorner}
 use Rattle.tri_mesh.specs.Outward.{IsOutward, outward_at}
 use Rattle.tri_mesh.specs.declared.outward.Outward.{Outward}
 use Rattle.shared_funnel.proofs.NextFunnels.{apart, beyond_at, from_start, third_below}
-use Rattle.shared_funnel.proofs.Numbers.{corner_point, source_point}
+use Rattle.shared_funnel.proofs.FunnelNumbers.{corner_point, source_point}
 use Rattle.shared_funnel.proofs.ReachedBefore.{before_third, before_point, number_of_source}
 use Rattle.shared_funnel.proofs.Doors.{corner_below, corner_in, corner_cases, side_corners}
 use Rattle.shared_funnel.specs.Entered.{IsFromStart, IsFunnelTo, at_place, left_of, right_of, third_of, toward}

@@ -1,6 +1,6 @@
 pub mod Closing
 pub mod Costs
-mod Exchanged
+pub mod Turned
 mod OnLine
 mod OnSteps
 pub mod Outer
@@ -8,4 +8,3 @@ mod Paths
 mod PathTurns
 mod TableSides
 mod TableReads
-pub mod Turned

@@ -12,7 +12,7 @@ use Rattle.hulls.proofs.Turning.{one_path}
 use Rattle.hulls.specs.Inner.{IsInnerPoint}
 use Rattle.hulls.specs.Joined.{IsOnPath}
 use Rattle.exact_plane.specs.declared.direction.Direction.TheVariants.{Left}
-use Rattle.rel_hull.proofs.Exchanged.{left_once}
+use Rattle.rel_hull.proofs.Turned.{left_once}
 use Rattle.rel_hull.proofs.Outer.{first_least, next_greater, none_between}
 use Rattle.rel_hull.proofs.Paths.{length-points_of}
 use Rattle.rel_hull.specs.Hull.{IsSide, IsTurnBetween}

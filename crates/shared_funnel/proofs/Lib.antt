@@ -3,6 +3,5 @@ pub mod NextFunnels
 pub mod FunnelNumbers
 pub mod Halving
 pub mod Lists
-pub mod Numbers
 pub mod ReachedBefore
 pub mod StepCounts

@@ -16,10 +16,9 @@ use Rattle.meshes.specs.Fits.{Fits, IsInTri}
 use Rattle.meshes.specs.Side.{tri_at}
 use Rattle.meshes.specs.declared.tri.Tri.{Tri}
 use Rattle.funnels.proofs.Bends.BendTurnings.{bend_of_turnings, turnings_of_bend}
-use Rattle.funnels.proofs.Bends.CornerTurns.{corner_in_ring, in_piece, neighbour_differs}
+use Rattle.funnels.proofs.Bends.TriangleFans.{corner_in_ring, in_piece, neighbour_differs, last_step}
 use Rattle.funnels.proofs.Bends.FanCones.{cone_grows}
 use Rattle.funnels.proofs.Bends.SameRays.{level_is_vertex, ray_ahead, ray_behind, HasTwoRays, two_rays}
-use Rattle.funnels.proofs.Bends.TriangleFans.{last_step}
 use Rattle.funnels.proofs.Bends.Turnings.{turning_four, turning_swap}
 use Rattle.funnels.proofs.Vertices.{IsSharedSide, fitted_long, fitted_simple, off_shared}
 use Rattle.funnels.specs.Corner.{HasCornerOn}

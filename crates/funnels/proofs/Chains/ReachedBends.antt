@@ -1,8 +1,8 @@
--- The way to a point beyond the diagonal bends at the point of the funnel from which it is reached, be that the apex or not.
-use Rattle.std.proofs.Common.{◌≡◌, ◌⊎◌, inl, inr, Bool, true, false, refl, sym, subst, List, length, ℕ, ◌+◌, ◌-◌, ◌<◌, pos, ◌<ℤ◌, arith, ap}
+-- The bend on the way to a point that is reached from a place of a funnel off its apex, where the place is no end.
+use Rattle.std.proofs.Common.{◌≡◌, inl, inr, true, false, refl, ap, List, length, ℕ, ◌+◌, ◌-◌, ◌<◌, arith, ◌⊎◌, Bool, sym, subst, pos, ◌<ℤ◌}
 use Rattle.std.proofs.Common.{◌≤ℤ◌, [], ◌∷◌, ◌++◌, drop, take, min}
 use Rattle.std.proofs.lemmas.Bool.{cases_lt}
-use Rattle.integer_algebra.proofs.SignSteps.{opposite_not_positive, at_least_unless, at_most_unless, turned_not_negative}
+use Rattle.integer_algebra.proofs.SignSteps.{at_least_unless, at_most_unless, opposite_not_positive, turned_not_negative}
 use Rattle.plane.proofs.Points.{whole_is_point}
 use Rattle.plane.proofs.Turns.{determinant_swap_first}
 use Rattle.plane.specs.Point.{Point, whole}
@@ -16,21 +16,47 @@ use Rattle.meshes.specs.Fits.{Fits, IsInTri}
 use Rattle.meshes.specs.Side.{HasSide, tri_at}
 use Rattle.meshes.specs.declared.tri.Tri.{Tri}
 use Rattle.funnels.proofs.Bends.{wider_bend, last_end_in}
-use Rattle.funnels.proofs.Chains.ApexTurns.{behind_left, behind_right, not_ahead_of_left, not_behind_right, back_of_left, back_of_right}
+use Rattle.funnels.proofs.Chains.ApexTurns.{back_of_left, back_of_right, behind_left, behind_right, not_ahead_of_left, not_behind_right}
 use Rattle.funnels.proofs.Chains.ApexTurns.{TurnsBack}
 use Rattle.funnels.proofs.Chains.BentLeft.{bent_left}
 use Rattle.funnels.proofs.Chains.BentRight.{bent_right}
 use Rattle.funnels.proofs.Chains.BeyondSide.{is_behind}
-use Rattle.funnels.proofs.Chains.DiagonalEnds.{bend_goes_on, bend_from_fan}
-use Rattle.funnels.proofs.Chains.Ends.{corner_beyond, corner_differs, ends_left, ends_right}
-use Rattle.funnels.proofs.Chains.ReachedSides.{bend_on_left, bend_on_right}
+use Rattle.funnels.proofs.Chains.Ends.{bend_goes_on, bend_from_fan, corner_beyond, corner_differs, ends_left, ends_right}
 use Rattle.funnels.proofs.Chains.WaysBefore.{IsWayBefore}
 use Rattle.funnels.proofs.Chains.WindowSight.{sees_reached, sight_left, sight_right}
-use Rattle.funnels.proofs.Funnels.{by_points, left_of_way, right_of_way, turns_left, turns_right, funnel_left, funnel_right}
+use Rattle.funnels.proofs.Funnels.{window_of_reached, left_of_way, right_of_way, by_points, turns_left, turns_right, funnel_left}
+use Rattle.funnels.proofs.Funnels.{funnel_right}
 use Rattle.funnels.proofs.Vertices.{IsSharedSide, shared_side_back}
 use Rattle.funnels.specs.Fanned.{turning}
 use Rattle.funnels.specs.Funnel.{IsFunnel, IsReachedFrom, height, Reaches}
-use Rattle.funnels.specs.OpenFunnel.{HasOpenEnds, IsApexSide, IsBentFunnel, IsLastOf, IsOpenFunnel, left_behind, right_behind}
+use Rattle.funnels.specs.OpenFunnel.{IsBentFunnel, HasOpenEnds, IsApexSide, IsLastOf, IsOpenFunnel, left_behind, right_behind}
+
+module _ (ring before ns : List Point) (a : ℕ) (l r : Point) (f : IsFunnel ns a l r) (bent : IsBentFunnel ring before ns a) (h : ℕ)
+    (y : Point) (reached : IsReachedFrom ns a h (whole y)) where
+  -- there is a bend, on the left chain,
+  pub bend_on_left : h < a → 0 < h → IsBend ring (point_at ns (h + 1)) (point_at ns h) y
+  bend_on_left on_left some =
+      let x = point_at ns (h + 1) in
+      let v = point_at ns h in
+      let z = point_at ns (h - 1) in
+      wider_bend true ring x v z y (bent.left_bends h some on_left)
+      (back_of_left x v z (f.left_turns h some on_left)) (back_of_left x v y (left_of_way ns a l r f h (whole y) reached on_left))
+      (at_most_unless ((window_of_reached ns a h (whole y) reached).not_left v z some (inl (omega arith, refl, refl))))
+
+  -- and on the right one
+  pub bend_on_right : a < h → h + 1 < length ns → IsBend ring (point_at ns (h - 1)) (point_at ns h) y
+  bend_on_right on_right more =
+      let x = point_at ns (h - 1) in
+      let v = point_at ns h in
+      let z = point_at ns (h + 1) in
+      let e : h ≡ h + 1 - 1 = omega arith in
+      wider_bend false ring x v z y (bent.right_bends h on_right more)
+      (back_of_right x v z (f.right_turns h on_right more))
+      (back_of_right x v y (right_of_way ns a l r f h (whole y) reached on_right))
+      (opposite_not_positive (at_least_unless ((window_of_reached ns a h (whole y) reached).not_right v z more
+      (inr (omega arith, ap (point_at ns) e, refl)))))
+
+-- The way to a point beyond the diagonal bends at the point of the funnel from which it is reached, be that the apex or not.
 
 -- the way from q over v bends at v on the way to y, and turns there on this side
 abbrev pub BendsTo : Bool → List Point → Point → Point → Point → Type 0

@@ -1,15 +1,15 @@
 -- The two edges at the apex of a funnel: no point that is not above the diagonal is left of the left one and right of the right one.
 use Rattle.std.proofs.Common.{◌≡◌, refl, sym, subst, List, length, ℕ, ◌+◌, ◌-◌, ◌<◌, pos, ◌≤ℤ◌, arith, ◌⊎◌, inl, inr, zero, suc, ◌≤◌}
 use Rattle.std.proofs.lemmas.Bool.{cases_lt}
-use Rattle.integer_algebra.proofs.SignSteps.{negative_not_zero, positive_not_zero}
+use Rattle.integer_algebra.proofs.SignSteps.{negative_not_zero, positive_not_zero, not_both_positive}
 use Rattle.integer_algebra.proofs.Signs.{lt_or_le}
 use Rattle.plane.proofs.Turns.{determinant_same_ends}
 use Rattle.plane.specs.Point.{IsPoint, Point, Triple, whole}
 use Rattle.plane.specs.Turn.{IsLeft, IsRight, IsStraight, determinant}
 use Rattle.rings.specs.Chain.{point_at}
+use Rattle.funnels.proofs.Funnels.CrossingDiagonal.{straight_on_line}
 use Rattle.funnels.proofs.Funnels.FlatFunnels.{left_of_apex, right_of_apex, IsFlat, flat_left, flat_right, turn_left, turn_right}
 use Rattle.funnels.proofs.Funnels.Heights.{level, lower_left, lower_right, not_negative, reaches_left}
-use Rattle.funnels.proofs.Funnels.CrossingDiagonal.{straight_on_line}
 use Rattle.funnels.proofs.Funnels.TwoEdges.{level_between, not_ends, outer_left, outer_right}
 use Rattle.funnels.specs.Funnel.{IsFunnel, height, IsPassed, IsReachedFrom}
 
@@ -145,3 +145,19 @@ module _ (ns : List Point) (a : ℕ) (l r : Point) (f : IsFunnel ns a l r) (y : 
     -- and none after it
     pub not_passed_from : (j : ℕ) → h < j → j < length ns → ¬ IsPassed ns a j y
     not_passed_from j after within passed = reached.not_passed (omega arith) (passed_each_before h j after within passed)
+
+-- On which side of the way over a place of a funnel a point is that is reached from there, where the place is not the apex.
+
+module _ (ns : List Point) (a : ℕ) (l r : Point) (f : IsFunnel ns a l r) (h : ℕ) (y : Triple) (reached : IsReachedFrom ns a h y) where
+  -- from a place of the left chain the point is left of the way over that place,
+  pub left_of_way : h < a → IsLeft (whole (point_at ns (h + 1))) (whole (point_at ns h)) y
+  left_of_way on_left = elim (lt_or_le (pos 0) (determinant (whole (point_at ns (h + 1))) (whole (point_at ns h)) y)) [
+    | inl is ↦ is
+    | inr none ↦
+        let top = f.apex_within in
+        absurd (reached.not_passed (omega arith) (passed_of ns a y h (inl (on_left, λ left. not_both_positive left none))))
+  ]
+
+  -- and from one of the right chain right of it
+  pub right_of_way : a < h → IsRight (whole (point_at ns (h - 1))) (whole (point_at ns h)) y
+  right_of_way on_right = elim (reached.passed (omega arith)) [ inr is ↦ is.1 | inl is ↦ absurd (omega (arith, is.0)) ]

@@ -19,8 +19,7 @@ use Rattle.meshes.specs.Laws.{CrossesSide, walk_tri}
 use Rattle.meshes.specs.Side.{HasSide, IsWalk, tri_at}
 use Rattle.meshes.specs.declared.tri.Tri.{Tri}
 use Rattle.funnels.proofs.DeadEnds.{opposite_side, one_first, crossed_shared, some_crossed, front_to, some_triangle, follows}
-use Rattle.funnels.proofs.OneChain.SameChains.{ComeOnOneRay}
-use Rattle.funnels.proofs.OneChain.ShorterSteps.{before_last, last_of, ends_differ}
+use Rattle.funnels.proofs.OneChain.SameChains.{ComeOnOneRay, before_last, last_of, ends_differ}
 use Rattle.funnels.proofs.Passing.{right_of_side, way_meets, IsAlong, IsBefore, begin_passing, none_at, on_one_ray, ComeTo}
 use Rattle.funnels.specs.Corner.{HasCornerOn, IsFirstWith}
 use Rattle.funnels.specs.Passing.{ArePassing}

@@ -17,7 +17,7 @@ use Rattle.hulls.proofs.Third.TurnsOver.{AreSides, left_and_right, right_and_lef
 use Rattle.hulls.proofs.Third.Ways.{IsStepPast, IsStrict, IsWay, Sorts, away_goes_on, first_other, goes_away, goes_towards, joined_ahead}
 use Rattle.hulls.proofs.Third.Ways.{last_other, not_towards, on_other, on_side, parts_here, side_goes_on, towards_before, way_begins}
 use Rattle.hulls.proofs.Third.Ways.{on_path_ahead, reach_end, sorts_left, sorts_right, towards_then_away, way_reaches}
-use Rattle.hulls.proofs.Third.WaysFound.{way_of_path}
+use Rattle.hulls.proofs.Third.SplitSteps.{way_of_path}
 use Rattle.hulls.proofs.Turning.{exchanged, exchanged_back, not_both}
 use Rattle.hulls.specs.Joined.{AreJoined, IsFirstStep, IsOnPath}
 use Rattle.hulls.specs.Steps.{SeesSteps}

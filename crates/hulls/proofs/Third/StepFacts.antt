@@ -8,8 +8,8 @@ use Rattle.funnels.proofs.Chains.{one_bent}
 use Rattle.funnels.proofs.OneChain.{bent_is_path}
 use Rattle.hulls.proofs.Cones.{joined_back}
 use Rattle.hulls.proofs.Joined.{GoesOnTo, joined_of_on_path, sees_back}
-use Rattle.hulls.proofs.Third.Cuts.{cut, list_of_step, on_path_back, same_step, step_of_list}
-use Rattle.hulls.proofs.Third.Prolonged.{IsProlonged, bent, prolonged, straight, with_point, with_point_ends}
+use Rattle.hulls.proofs.Third.Cuts.{cut, list_of_step, on_path_back, same_step, step_of_list, IsProlonged, bent, prolonged, straight}
+use Rattle.hulls.proofs.Third.Cuts.{with_point, with_point_ends}
 use Rattle.hulls.proofs.Third.Rays.{joined_on_ray}
 use Rattle.hulls.specs.Joined.{AreJoined, IsFirstStep, IsOnPath}
 use Rattle.hulls.specs.Steps.{IsOpenStep}
