@@ -7,11 +7,10 @@ pub use Rattle.sweep_tri.proofs.Regions.Paths.{before_last_grown, last_grown, le
 mod Sides
 pub use Rattle.sweep_tri.proofs.Regions.Sides.{IsNearer, IsShort, far_chain, far_front, near_chain, near_front}
 -- What comes to an end at an event: the ranks of the vertices of a chain.
+-- An open region whose near chain ends at the vertex of an event, after that.
 mod Halves
 -- An edge on the near side of another one, by where its ends are.
 mod Edges
--- An open region whose near chain ends at the vertex of an event, after that.
-mod Continued
 -- Two edges from one vertex, and the region between them.
 mod Starts
 -- A region without the last edge of its near chain.

@@ -15,9 +15,7 @@ mod Kept
 mod Begins
 pub use Rattle.sweep_tri.proofs.Swept.Begins.{split_has_gap, swept_splits, swept_starts}
 -- One edge goes on in another: the edge below a gap, or the one above it.
-mod Follows
-pub use Rattle.sweep_tri.proofs.Swept.Follows.{event_low, event_up, follow_closes, swept_follows}
 -- Two edges end at the event: both edges of a gap, or those between two gaps, so that they are one.
-mod Ends
-pub use Rattle.sweep_tri.proofs.Swept.Ends.{end_closes, end_has_gap, merge_closes_above, merge_closes_below, merge_some, swept_ends}
-pub use Rattle.sweep_tri.proofs.Swept.Ends.{swept_merges}
+mod Follows
+pub use Rattle.sweep_tri.proofs.Swept.Follows.{event_low, event_up, follow_closes, swept_follows, end_closes, end_has_gap}
+pub use Rattle.sweep_tri.proofs.Swept.Follows.{merge_closes_above, merge_closes_below, merge_some, swept_ends, swept_merges}

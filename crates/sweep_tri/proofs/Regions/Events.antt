@@ -10,9 +10,8 @@ use Rattle.rings.specs.Events.{AreEvents}
 use Rattle.rings.specs.Ring.{vertex}
 use Rattle.mono_fill.specs.declared.side.Side.{Side}
 use Rattle.mono_fill.specs.declared.side.Side.TheVariants.{Lower, Upper}
-use Rattle.sweep_tri.proofs.Regions.Continued.{continued, stays_open}
+use Rattle.sweep_tri.proofs.Regions.Halves.{continued, stays_open, half_open, IsHalf, same_rank, ends_later, last_is_vertex}
 use Rattle.sweep_tri.proofs.Regions.Edges.{nearer_from_start, short_not_last}
-use Rattle.sweep_tri.proofs.Regions.Halves.{half_open, IsHalf, same_rank, ends_later, last_is_vertex}
 use Rattle.sweep_tri.proofs.Regions.Latest.{begins_far, begins_near, far_last, far_some, latest_half, near_some}
 use Rattle.sweep_tri.proofs.Regions.Parts.{left_ends, left_far, left_open, half_of}
 use Rattle.sweep_tri.proofs.Regions.Paths.{last_grown, rises_to, shortened}

@@ -1,8 +1,9 @@
-use Rattle.std.proofs.Common.{ap, ◌∙◌, ◌<◌, length, set, arith}
+use Rattle.std.proofs.Common.{◌≡◌, ap, ◌∙◌, ◌<◌, length, set, arith}
 use Rattle.shared_seq.specs.Digits.{binary_digits}
 use Rattle.sweep_tri.proofs.Work.{as_many, emptied_paid, emptied_work, entries_with, more_digits, put_entries, replaced_twice}
 use Rattle.sweep_tri.specs.Entries.{entries, gap_entries}
-use Rattle.sweep_tri.specs.Meeting.{gap_of, with_vertex}
+use Rattle.sweep_tri.specs.Gaps.{gap_at}
+use Rattle.sweep_tri.specs.Meeting.{gap_of, left_at, with_vertex}
 use Rattle.sweep_tri.proofs.event.Sweep.go_on_at.Goals as goal
 
 pub returns-in_err-region-clause-work : goal.returns-in_err-region-clause-work
@@ -22,7 +23,9 @@ returns-in_err-extend-clause-work g c =
 pub returns-clause-gaps : goal.returns-clause-gaps
 returns-clause-gaps g c =
     let gaps = c.args.self.now.status in
-    let region_is = c.in_ok-extend.ensures ∙ ap (λ r. with_vertex c.args.side r c.args.w) (rw c.replace-gap.ensures.gap at c.in_ok-region.ensures.left) in
+    let gap = gap_at gaps c.args.j in
+    let left : c.in_ok-region.region ≡ left_at c.args.side gap.low gap.high c.args.v = rw c.replace-gap.ensures.gap at c.in_ok-region.ensures.left in
+    let region_is = c.in_ok-extend.ensures ∙ ap (λ r. with_vertex c.args.side r c.args.w) left in
     replaced_twice gaps c.replace-gap.new.self c.replace.new.self c.args.j c.none.result c.of.result c.replace-gap.ensures.gaps c.replace.ensures.gaps
     ∙ ap (set gaps c.args.j) (c.of.ensures ∙ ap gap_of region_is)
 
