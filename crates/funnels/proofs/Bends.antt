@@ -2,8 +2,10 @@
 
 -- A bend over a vertex stays one where it turns farther.
 -- A bend at a corner of a mesh, with a shared side on its last ray, grows over the triangle beyond the side, and turns the same way.
-mod GrownBends
-pub use Rattle.funnels.proofs.Bends.GrownBends.{wider_bend, grown_bend, grown_turning}
+-- A fan at a vertex of a simple ring that turns by more than a half turn makes a bend there: at one that is not reflex, directions toward which
+-- the ring is open turn by a half turn at most.
+mod FanBends
+pub use Rattle.funnels.proofs.Bends.FanBends.{wider_bend, grown_bend, grown_turning, bend_of_fan, not_reflex}
 -- Signs that follow from the relation of four directions, over plain integers: ab is positive where b is left of a.
 mod FanSigns
 pub use Rattle.funnels.proofs.Bends.FanSigns.{Relation, negative_unless, right_of_third}
@@ -15,10 +17,6 @@ mod TriangleFans
 pub use Rattle.funnels.proofs.Bends.TriangleFans.{fan_begins, fan_begins_in, fan_goes_on, first_end_in, in_angle, last_end_in, last_step}
 pub use Rattle.funnels.proofs.Bends.TriangleFans.{corner_back, corner_in_ring, corner_turns, in_piece, neighbour_differs, not_inside}
 pub use Rattle.funnels.proofs.Bends.TriangleFans.{not_swept, on_after, on_before, within_back}
--- A fan at a vertex of a simple ring that turns by more than a half turn makes a bend there: at one that is not reflex, directions toward which
--- the ring is open turn by a half turn at most.
-mod FanBends
-pub use Rattle.funnels.proofs.Bends.FanBends.{bend_of_fan, not_reflex}
 -- The two neighbours of a vertex in a simple ring are on two rays from it.
 -- Points on one ray from a vertex: what is left of the one is left of the other.
 -- Directions in line with each other, seen from a vertex on either side: of two different lines only the vertex is on both, and what is to one side of a line is on one ray.
@@ -32,7 +30,6 @@ pub use Rattle.funnels.proofs.Bends.BendTurnings.{turnings_of_bend}
 mod Turnings
 pub use Rattle.funnels.proofs.Bends.Turnings.{not_ahead_of_itself, turning_along, turning_four, turning_not, turning_swap}
 mod FanCones
-mod HalfPlaneTurns
 -- A chain with bends goes on to one more point that its last point sees.
 mod LongerChains
 pub use Rattle.funnels.proofs.Bends.LongerChains.{chain_more}

@@ -22,5 +22,4 @@ mod ApexTurns
 -- The step from an open funnel to the next, over one of the two sides from the corner beyond the diagonal: the point of the funnel that the corner is reached from sees it, and the way there bends at that point.
 mod ReachedBends
 pub use Rattle.funnels.proofs.Chains.ReachedBends.{reached_bends, step_left, step_right}
-mod BeyondSide
 mod LastPoints

@@ -1,8 +1,11 @@
 -- Funnels from an apex to a diagonal, as two convex chains, and how they go on.
 
 -- The line of an edge at a point off a diagonal does not go through both ends of the diagonal.
-mod EdgeLine
-pub use Rattle.funnels.proofs.Funnels.EdgeLine.{IsEnd}
+-- How far four points are from a line, points on one line, and a point on the line of a diagonal: on which sides of the ways from it to the
+-- ends the points beyond the diagonal are.
+-- The way from a point to one beyond a diagonal, between the lines of two edges at the point, crosses the diagonal between them.
+mod CrossingDiagonal
+pub use Rattle.funnels.proofs.Funnels.CrossingDiagonal.{IsEnd, in_proportion, straight_on_line, crossing_in_window}
 -- Points of a funnel without height: they are between the ends of the diagonal, but for an apex that sees nothing beyond.
 -- An apex without height is on the diagonal, or nothing beyond the diagonal is in its window.
 mod FlatFunnels
@@ -16,7 +19,7 @@ mod ThreePoints
 pub use Rattle.funnels.proofs.Funnels.ThreePoints.{by_points, turns_left, turns_right}
 -- The signs behind the test of the edges of a funnel: three points, and one beyond a line that is not above them.
 mod TestSigns
-mod SidesBetween
+mod LineCrossed
 -- The two edges at the apex of a funnel: no point beyond the diagonal is to the left of the left one and to the right of the right one.
 -- Which edges of a funnel the way to a point beyond the diagonal passes: those from the left end to one place, and no others.
 -- On which side of the way over a place of a funnel a point is that is reached from there, where the place is not the apex.
@@ -31,7 +34,6 @@ pub use Rattle.funnels.proofs.Funnels.NextFunnels.{old_window_left, old_window_r
 -- The edges of the next funnel by their numbers: old ones of the last funnel, and a new one to m.
 mod NextEdges
 pub use Rattle.funnels.proofs.Funnels.NextEdges.{left_place, new_edge_left, new_edge_right, old_edge_left, old_edge_right}
-mod LineCrossed
 -- How high the points of a funnel are over the diagonal: they fall along each chain from the apex, and none is beyond.
 mod Heights
 pub use Rattle.funnels.proofs.Funnels.Heights.{level, lower, lower_left, lower_right, not_negative, reaches_left, reaches_right}
@@ -47,11 +49,6 @@ pub use Rattle.funnels.proofs.Funnels.NextPoints.{right_on_left, right_on_right}
 -- The way to a point beyond the diagonal, from the place of the funnel that it is reached from, goes over the diagonal.
 mod NewEdge
 pub use Rattle.funnels.proofs.Funnels.NewEdge.{reaches_new}
--- How far four points are from a line, points on one line, and a point on the line of a diagonal: on which sides of the ways from it to the
--- ends the points beyond the diagonal are.
--- The way from a point to one beyond a diagonal, between the lines of two edges at the point, crosses the diagonal between them.
-mod CrossingDiagonal
-pub use Rattle.funnels.proofs.Funnels.CrossingDiagonal.{in_proportion, straight_on_line, crossing_in_window}
 -- Two edges of a funnel at a common point, and a point beyond the diagonal: to which sides of them it is.
 mod TwoEdges
 -- The edges of a funnel at its places, and the window of the place from which a point is reached.

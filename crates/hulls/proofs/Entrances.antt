@@ -10,9 +10,7 @@ mod NextEntrances
 pub use Rattle.hulls.proofs.Entrances.NextEntrances.{GoesTo, crosses, has_gate}
 -- Along each walk over the triangles of a mesh from one with a point b goes a trail, so there is one to each triangle.
 -- The gate of a point comes before it on the path from b, where it is another point; so there is a path to each point of the ring.
-mod PathsFound
-pub use Rattle.hulls.proofs.Entrances.PathsFound.{side_crossed, trail_to, before_gate}
 -- A simple ring and the ring that is kept of it, counterclockwise, have the same paths; so in a simple ring there is a path between each two
 -- points.
-mod KeptPaths
-pub use Rattle.hulls.proofs.Entrances.KeptPaths.{in_kept, of_kept, path_turned, paths}
+mod PathsFound
+pub use Rattle.hulls.proofs.Entrances.PathsFound.{side_crossed, trail_to, before_gate, in_kept, of_kept, path_turned, paths}

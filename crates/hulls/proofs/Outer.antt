@@ -6,7 +6,6 @@ mod Seen
 -- Of some numbers below a bound there is a least or none, and where they stand in one order there is a last.
 mod Lasts
 pub use Rattle.hulls.proofs.Outer.Lasts.{some_or_none}
-mod FirstSteps
 mod LeastBases
 mod NextBases
 -- Points are inner or not; and of three that aren't, one is to the left of another, to the same side seen from each.

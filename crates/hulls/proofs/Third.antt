@@ -8,7 +8,6 @@ pub use Rattle.hulls.proofs.Third.Cuts.{with_point, with_point_ends, list_of_ste
 mod Rays
 pub use Rattle.hulls.proofs.Third.Rays.{joined_nearer, joined_on_ray, ray_of_on}
 mod TurnsOver
-mod StepFacts
 mod Ways
 -- Of three free points, where c is to a side of b, seen from a, b is to that side of a, seen from c.
 mod AlongTowards

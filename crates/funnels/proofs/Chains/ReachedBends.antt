@@ -20,10 +20,9 @@ use Rattle.funnels.proofs.Chains.ApexTurns.{back_of_left, back_of_right, behind_
 use Rattle.funnels.proofs.Chains.ApexTurns.{TurnsBack}
 use Rattle.funnels.proofs.Chains.BentLeft.{bent_left}
 use Rattle.funnels.proofs.Chains.BentRight.{bent_right}
-use Rattle.funnels.proofs.Chains.BeyondSide.{is_behind}
+use Rattle.funnels.proofs.Chains.WindowSight.{is_behind, sees_reached, sight_left, sight_right}
 use Rattle.funnels.proofs.Chains.Ends.{bend_goes_on, bend_from_fan, corner_beyond, corner_differs, ends_left, ends_right}
 use Rattle.funnels.proofs.Chains.WaysBefore.{IsWayBefore}
-use Rattle.funnels.proofs.Chains.WindowSight.{sees_reached, sight_left, sight_right}
 use Rattle.funnels.proofs.Funnels.{window_of_reached, left_of_way, right_of_way, by_points, turns_left, turns_right, funnel_left}
 use Rattle.funnels.proofs.Funnels.{funnel_right}
 use Rattle.funnels.proofs.Vertices.{IsSharedSide, shared_side_back}

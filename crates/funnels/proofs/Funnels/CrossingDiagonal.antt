@@ -1,27 +1,73 @@
--- How far four points are from a line, points on one line, and a point on the line of a diagonal: on which sides of the ways from it to the
--- ends the points beyond the diagonal are.
-use Rattle.std.proofs.Common.{◌≡◌, ℤ, pos, ◌+ℤ◌, ◌-ℤ◌, ◌*ℤ◌, ◌<ℤ◌, arith, ◌⊎◌, inl, inr, ◌≤ℤ◌}
+-- The line of an edge at a point off a diagonal does not go through both ends of the diagonal.
+use Rattle.std.proofs.Common.{◌≡◌, ◌⊎◌, inl, inr, sym, ap, subst, ℤ, pos, ◌+ℤ◌, ◌-ℤ◌, ◌*ℤ◌, arith, ◌<ℤ◌, ◌≤ℤ◌}
 use Rattle.std.proofs.lemmas.Int.{ints}
 use Rattle.integer_algebra.proofs.Certificate.{product_zero}
-use Rattle.integer_algebra.proofs.Laws.{mul_comm}
-use Rattle.integer_algebra.proofs.SignSteps.{not_both, positive_not_zero, turned_positive, zero_not_negative, not_both_positive}
-use Rattle.integer_algebra.proofs.SignSteps.{turned_negative, at_least_unless, at_most_unless, negative_not_zero, weak, weak_order}
+use Rattle.integer_algebra.proofs.Laws.{eq_of_sub-zero, mul-sub, zero-mul, mul_comm}
+use Rattle.integer_algebra.proofs.SignSteps.{negative_not_zero, turned_negative, not_both, positive_not_zero, turned_positive}
+use Rattle.integer_algebra.proofs.SignSteps.{zero_not_negative, not_both_positive, at_least_unless, at_most_unless, weak, weak_order}
 use Rattle.integer_algebra.proofs.SignSteps.{zero_not_positive}
 use Rattle.integer_algebra.proofs.Signs.{factor_zero, lt_or_le, mul_negative, mul_negatives, mul_nonpositive, mul_nonpositives}
 use Rattle.integer_algebra.proofs.Signs.{mul_nonnegative, mul_positive}
+use Rattle.plane.proofs.Order.{same_coordinates}
 use Rattle.plane.proofs.Points.{whole_is_point}
 use Rattle.plane.proofs.Regions.{four_beside}
 use Rattle.plane.proofs.Segments.{on_reversed}
-use Rattle.plane.proofs.Turns.{determinant_shift, determinant_swap_last, four_triples_in_W, determinant_same_last, determinant_swap_first}
-use Rattle.plane.proofs.Turns.{straight_shift_back, straight_swap_first, straight_swap_last}
-use Rattle.plane.specs.Point.{Point, Triple, whole, IsPoint}
+use Rattle.plane.proofs.Turns.{areas_add, determinant_same_ends, determinant_same_last, determinant_swap_ends, four_triples_in_X}
+use Rattle.plane.proofs.Turns.{four_triples_in_Y, straight_swap_first, determinant_shift, determinant_swap_last, four_triples_in_W}
+use Rattle.plane.proofs.Turns.{determinant_swap_first, straight_shift_back, straight_swap_last}
+use Rattle.plane.specs.Point.{Point, whole, Triple, IsPoint}
 use Rattle.plane.specs.Segment.{On}
-use Rattle.plane.specs.Turn.{IsLeft, IsRight, IsStraight, determinant}
+use Rattle.plane.specs.Turn.{IsLeft, IsStraight, determinant, IsRight}
 use Rattle.ring_laws.proofs.Triangles.{left_of, left_of_is_left, on_first_side, in_triangle}
-use Rattle.funnels.proofs.Funnels.EdgeLine.{IsEnd, end_is_straight, equal_ends}
-use Rattle.funnels.proofs.Funnels.LineCrossed.{determinant_on_line, on_line_between, weight_on_line}
-use Rattle.funnels.proofs.Funnels.SidesBetween.{not_left_along, not_right_along}
+use Rattle.funnels.proofs.Funnels.LineCrossed.{determinant_on_line, on_line_between, weight_on_line, not_left_along, not_right_along}
 use Rattle.funnels.specs.Funnel.{height, Reaches}
+
+-- an end n of an edge from u to w
+abbrev pub IsEnd : Point → Point → Point → Type 0
+IsEnd n u w = (n ≡ u) ⊎ (n ≡ w)
+
+-- the end is on the line of the edge
+pub end_is_straight : (n u w : Point) → IsEnd n u w → IsStraight (whole u) (whole w) (whole n)
+end_is_straight n u w (inl e) = subst (λ p. IsStraight (whole u) (whole w) (whole p)) (sym e) (determinant_same_ends (whole u) (whole w))
+end_is_straight n u w (inr e) = subst (λ p. IsStraight (whole u) (whole w) (whole p)) (sym e) (determinant_same_last (whole u) (whole w))
+
+-- areas of which two are 0
+two_left : (d e f g : ℤ) → f ≡ pos 0 → g ≡ pos 0 → d -ℤ e +ℤ f -ℤ g ≡ pos 0 → d ≡ e
+two_left d e f g ef eg h = omega (arith, ints)
+
+-- one coordinate
+same_coordinate : (d e f g x y u v : ℤ) → d ≡ e → ¬ (e ≡ pos 0) → f ≡ pos 0 → g ≡ pos 0
+    → d *ℤ x -ℤ e *ℤ y +ℤ f *ℤ u -ℤ g *ℤ v ≡ pos 0 → x ≡ y
+same_coordinate d e f g x y u v same some ef eg h =
+    let first = ap (λ z. z *ℤ u) ef in
+    let second = ap (λ z. z *ℤ v) eg in
+    let third = ap (λ z. z *ℤ x) same in
+    eq_of_sub-zero x y (factor_zero e (x -ℤ y) some (omega (arith, ints, mul-sub e x y, first, second, third, zero-mul u, zero-mul v)))
+
+-- where a line from n over w goes through l and r, and n is not on their line, w is n
+no_way : (n w l r : Point) → IsLeft (whole r) (whole l) (whole n) → IsStraight (whole n) (whole w) (whole l)
+    → IsStraight (whole n) (whole w) (whole r) → n ≡ w
+no_way n w l r left on_l on_r =
+    let N = whole n in
+    let V = whole w in
+    let L = whole l in
+    let R = whole r in
+    let same : determinant V L R ≡ determinant N L R = two_left _ _ _ _ on_r on_l (areas_add n w l r) in
+    let some = negative_not_zero (turned_negative (determinant_swap_ends R L N) left) in
+    same_coordinates n w
+    (same_coordinate _ _ _ _ n.x w.x l.x r.x same some on_r on_l (four_triples_in_X N V L R))
+    (same_coordinate _ _ _ _ n.y w.y l.y r.y same some on_r on_l (four_triples_in_Y N V L R))
+
+-- so an edge whose line goes through both has equal ends
+pub equal_ends : (n u w l r : Point) → IsEnd n u w → IsLeft (whole r) (whole l) (whole n) → IsStraight (whole u) (whole w) (whole l)
+    → IsStraight (whole u) (whole w) (whole r) → u ≡ w
+equal_ends n u w l r (inl e) left on_l on_r = no_way u w l r (subst (λ p. IsLeft (whole r) (whole l) (whole p)) e left) on_l on_r
+equal_ends n u w l r (inr e) left on_l on_r =
+    sym (no_way w u l r (subst (λ p. IsLeft (whole r) (whole l) (whole p)) e left)
+    (straight_swap_first (whole u) (whole w) (whole l) on_l) (straight_swap_first (whole u) (whole w) (whole r) on_r))
+
+-- How far four points are from a line, points on one line, and a point on the line of a diagonal: on which sides of the ways from it to the
+-- ends the points beyond the diagonal are.
 
 -- factors 1 may be left out
 drop_ones : (A B C D : ℤ) → A *ℤ pos 1 -ℤ B *ℤ pos 1 +ℤ C *ℤ pos 1 -ℤ D ≡ pos 0 → A -ℤ B +ℤ C -ℤ D ≡ pos 0

@@ -17,7 +17,7 @@ use Rattle.funnels.proofs.Funnels.NextPoints.{left_ends_at, left_keeps, left_old
 use Rattle.funnels.proofs.Funnels.NextPoints.{next_left_old, next_right_last, next_right_length, next_right_old, right_ends_at, right_keeps}
 use Rattle.funnels.proofs.Funnels.NextPoints.{right_new_at, right_on_left, right_on_right}
 use Rattle.funnels.proofs.Funnels.PassedEdges.{not_passed_from, passed_to, left_of_way, right_of_way}
-use Rattle.funnels.proofs.Funnels.SidesBetween.{not_left_along, not_right_along}
+use Rattle.funnels.proofs.Funnels.LineCrossed.{not_left_along, not_right_along}
 use Rattle.funnels.proofs.Funnels.ThreePoints.{by_points, turns_left, turns_not_left, turns_right}
 use Rattle.funnels.specs.Funnel.{IsFunnel, IsFunnelEdge, IsReachedFrom, Reaches, height, IsInWindow}
 

@@ -1,12 +1,14 @@
--- The front of a chain with bends, and a chain with bends whose last step is shorter.
-use Rattle.std.proofs.Common.{◌≡◌, inr, sym, subst, ap, ◌∙◌, ◌+◌, ◌-◌, ◌<◌, ◌≤◌, List, [], ◌∷◌, ◌++◌, length, take, arith, ◌⊎◌, inl, ℕ}
-use Rattle.std.proofs.Common.{zero, suc}
+-- A bend read backward, and one where a point beside it is another one on the same ray.
+use Rattle.std.proofs.Common.{inl, inr, true, List, ◌≡◌, sym, subst, ap, ◌∙◌, ◌+◌, ◌-◌, ◌<◌, ◌≤◌, [], ◌∷◌, ◌++◌, length, take, arith, ◌⊎◌}
+use Rattle.std.proofs.Common.{ℕ, zero, suc}
 use Rattle.std.proofs.lemmas.Bool.{cases_lt}
 use Rattle.std.proofs.lemmas.List.{get_or_append_left, get_or_push, length-append}
+use Rattle.integer_algebra.proofs.SignSteps.{turned_negative, turned_positive}
 use Rattle.plane.proofs.Points.{same_whole, whole_is_point, same_refl}
 use Rattle.plane.proofs.Segments.{on_first_end, on_reversed, on_nested, on_is_straight}
-use Rattle.plane.proofs.Turns.{straight_shift_back, straight_swap_last}
-use Rattle.plane.specs.Point.{Point, whole, IsSame}
+use Rattle.plane.proofs.Turns.{determinant_swap_last, straight_swap_last, straight_shift_back}
+use Rattle.plane.specs.Cone.{IsInCone}
+use Rattle.plane.specs.Point.{Point, Triple, whole, IsSame}
 use Rattle.plane.specs.Segment.{On}
 use Rattle.rings.proofs.Simple.{same_or_not}
 use Rattle.rings.specs.Bend.{IsBend}
@@ -14,9 +16,57 @@ use Rattle.rings.specs.Chain.{IsBentChain, point_at}
 use Rattle.rings.specs.Inside.{IsIn}
 use Rattle.rings.specs.Ring.{origin}
 use Rattle.rings.specs.Sees.{Sees}
-use Rattle.funnels.proofs.Bends.{chain_more, AreOnRay}
-use Rattle.funnels.proofs.OneChain.RayBends.{bend_on_ray}
+use Rattle.funnels.proofs.Bends.{AreOnRay, on_ray_back, turning_to_ray, chain_more}
 use Rattle.funnels.proofs.OneChain.SubChains.{front_and_last, front_at, front_bent, front_length}
+
+-- the cone too
+cone_on_ray : (v : Point) (a c d u : Triple) → AreOnRay (whole v) c d → IsInCone (whole v) a c u → IsInCone (whole v) a d u
+cone_on_ray v a c d u ray cone =
+    let end = turning_to_ray v true c d a ray in
+    let back = turning_to_ray v true d c u (on_ray_back ray) in
+    elim cone [
+      | inl h ↦ inl (end.positive h.0, h.1, λ right. h.2 (back.negative right))
+      | inr h ↦ inr (end.negative h.0, h.1, λ left. h.2 (back.positive left))
+    ]
+
+-- the bend
+pub bend_on_ray : (ring : List Point) (p v q r : Point) → AreOnRay (whole v) (whole q) (whole r) → IsBend ring p v q → IsBend ring p v r
+bend_on_ray ring p v q r ray bend = record {
+  reflex = bend.reflex;
+  turns = λ straight. bend.turns ((turning_to_ray v true (whole r) (whole q) (whole p) (on_ray_back ray)).zero straight);
+  in_cone = λ u next. cone_on_ray v (whole p) (whole q) (whole r) (whole u) ray (bend.in_cone u next);
+}
+
+-- ---- backward
+
+-- a cone has no first ray
+cone_back : (v a c u : Triple) → IsInCone v a c u → IsInCone v c a u
+cone_back v a c u (inl h) =
+    inr (
+      turned_negative (determinant_swap_last v a c) h.0,
+      (λ left. h.2 (turned_negative (determinant_swap_last v c u) left)),
+      λ left. h.1 (turned_negative (determinant_swap_last v u a) left),
+    )
+cone_back v a c u (inr h) =
+    inl (
+      turned_positive (determinant_swap_last v a c) h.0,
+      (λ right. h.2 (turned_positive (determinant_swap_last v c u) right)),
+      λ right. h.1 (turned_positive (determinant_swap_last v u a) right),
+    )
+
+-- so the way back has a bend where the way has one,
+pub bend_back : (ring : List Point) (p v q : Point) → IsBend ring p v q → IsBend ring q v p
+bend_back ring p v q bend = record {
+  reflex = bend.reflex;
+  turns = λ straight. bend.turns (straight_swap_last (whole v) (whole q) (whole p) straight);
+  in_cone = λ u beside. cone_back (whole v) (whole p) (whole q) (whole u) (bend.in_cone u beside);
+}
+
+-- and one from a point of a ray is one from another
+pub bend_from_ray : (ring : List Point) (p r v q : Point) → AreOnRay (whole v) (whole p) (whole r) → IsBend ring p v q → IsBend ring r v q
+bend_from_ray ring p r v q ray bend = bend_back ring q v r (bend_on_ray ring q v p r ray (bend_back ring p v q bend))
+
+-- The front of a chain with bends, and a chain with bends whose last step is shorter.
 
 -- the last point of a chain, and the one before it
 abbrev pub last_of : List Point → Point

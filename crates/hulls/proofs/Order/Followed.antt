@@ -1,7 +1,6 @@
--- Two bends over one point, with one way to it: the ways on are to one side of that.
--- Three ways on from one point, with their next points ahead of a line: to be to the left goes on from one to the next.
-use Rattle.std.proofs.Common.{inr, List, ◌≤◌, length, ◌≡◌, ◌≢◌, ◌⊎◌, inl, sym, ap, subst, ◌∙◌, true, ℤ, pos, ◌+ℤ◌, ◌-ℤ◌, ◌*ℤ◌, ◌<ℤ◌, ◌∷◌}
-use Rattle.std.proofs.Common.{arith, refl, neg_ℤ, []}
+-- Ways on from one point, of which one is to the left of the other where they part.
+use Rattle.std.proofs.Common.{◌≡◌, ◌≢◌, ◌⊎◌, refl, List, [], ◌∷◌, inr, ◌≤◌, length, inl, sym, ap, subst, ◌∙◌, true, ℤ, pos, ◌+ℤ◌, ◌-ℤ◌}
+use Rattle.std.proofs.Common.{◌*ℤ◌, ◌<ℤ◌, arith, neg_ℤ}
 use Rattle.std.proofs.lemmas.Int.{ints}
 use Rattle.integer_algebra.proofs.Polynomial.{lit, neg, var, ◌⊖◌, ◌⊗◌, same_value}
 use Rattle.integer_algebra.proofs.SignSteps.{turned_negative, turned_positive, positive_not_negative, positive_not_zero}
@@ -20,8 +19,37 @@ use Rattle.funnels.proofs.Bends.{AreOnRay, turning_differs, turning_four, turnin
 use Rattle.funnels.proofs.OneChain.{bend_back}
 use Rattle.hulls.proofs.Cones.{joined_one_side}
 use Rattle.hulls.proofs.Joined.{rest_bent}
-use Rattle.hulls.proofs.Order.Ways.{IsLeftOf, TurnsLeft, HasFirst, first_of_one, first_of_other}
-use Rattle.hulls.specs.Turning.{apart, first_nearer, second_nearer}
+use Rattle.hulls.specs.Turning.{TurnsTo, apart, first_nearer, second_nearer}
+
+-- the second of two ways on is to the left of the first
+abbrev pub TurnsLeft : Point → Point → List Point → Point → List Point → Type 0
+TurnsLeft = TurnsTo IsLeft IsRight
+
+-- two ways on from v part there, or go on to one point and part later, the second to the left of the first
+abbrev pub IsLeftOf : Point → List Point → List Point → Type 0
+IsLeftOf v [] other = ⊥
+IsLeftOf v (p ∷ first) [] = ⊥
+IsLeftOf v (p ∷ first) (q ∷ second) = ((p ≢ q) × TurnsLeft v p first q second) ⊎ ((p ≡ q) × IsLeftOf p first second)
+
+-- a list has a first point
+pub record HasFirst (points : List Point) : Type 0 where
+  pub r : Point
+  pub rest : List Point
+  pub is : points ≡ r ∷ rest
+
+-- such ways have one
+pub first_of_one : (v : Point) (one other : List Point) → IsLeftOf v one other → HasFirst one
+first_of_one v [] other h = absurd h
+first_of_one v (p ∷ first) other h = record { r = p; rest = first; is = refl }
+
+-- both of them
+pub first_of_other : (v : Point) (one other : List Point) → IsLeftOf v one other → HasFirst other
+first_of_other v [] other h = absurd h
+first_of_other v (p ∷ first) [] h = absurd h
+first_of_other v (p ∷ first) (q ∷ second) h = record { r = q; rest = second; is = refl }
+
+-- Two bends over one point, with one way to it: the ways on are to one side of that.
+-- Three ways on from one point, with their next points ahead of a line: to be to the left goes on from one to the next.
 
 module _ (ring : List Point) (some : 3 ≤ length ring) (simple : IsSimple ring) (v q r s : Point) (bend : IsBend ring v q r)
     (bend_too : IsBend ring v q s) where

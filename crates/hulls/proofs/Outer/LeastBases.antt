@@ -24,9 +24,8 @@ use Rattle.ring_laws.proofs.Simple.{simple_ring_law}
 use Rattle.hulls.proofs.Entrances.{paths}
 use Rattle.hulls.proofs.Joined.{at_first, at_second, both_length, path_is_taut, joined_of_on_path}
 use Rattle.hulls.proofs.Order.{AreAhead, IsRightOn, ahead_of_ray}
-use Rattle.hulls.proofs.Outer.FirstSteps.{first_differs}
+use Rattle.hulls.proofs.Outer.Seen.{first_differs, ComesAfter, HasWay, after_follows, one_comes_after, way_of}
 use Rattle.hulls.proofs.Outer.Lasts.{last_of_some, IsLast}
-use Rattle.hulls.proofs.Outer.Seen.{ComesAfter, HasWay, after_follows, one_comes_after, way_of}
 use Rattle.hulls.proofs.Third.{step_of_list, list_of_step}
 use Rattle.hulls.specs.Inner.{AreAllIn, AreDistinct}
 use Rattle.hulls.specs.Joined.{IsFirstStep, IsOnPath, AreJoined}

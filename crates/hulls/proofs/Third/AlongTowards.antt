@@ -12,11 +12,11 @@ use Rattle.hulls.proofs.Cones.{joined_back}
 use Rattle.hulls.proofs.Joined.{path_is_taut}
 use Rattle.hulls.proofs.StepsSeen.{steps}
 use Rattle.hulls.proofs.Third.Cuts.{on_path_back}
-use Rattle.hulls.proofs.Third.StepFacts.{Reaches, joined_first, reach_next, reach_over, sight_step, step_back, step_beyond}
+use Rattle.hulls.proofs.Third.Ways.{Reaches, joined_first, reach_next, reach_over, sight_step, step_back, step_beyond, IsStepPast, IsStrict}
+use Rattle.hulls.proofs.Third.Ways.{IsWay, Sorts, away_goes_on, first_other, goes_away, goes_towards, joined_ahead, last_other, not_towards}
+use Rattle.hulls.proofs.Third.Ways.{on_other, on_side, parts_here, side_goes_on, towards_before, way_begins, on_path_ahead, reach_end}
+use Rattle.hulls.proofs.Third.Ways.{sorts_left, sorts_right, towards_then_away, way_reaches}
 use Rattle.hulls.proofs.Third.TurnsOver.{AreSides, left_and_right, right_and_left, sides_back, turns_over}
-use Rattle.hulls.proofs.Third.Ways.{IsStepPast, IsStrict, IsWay, Sorts, away_goes_on, first_other, goes_away, goes_towards, joined_ahead}
-use Rattle.hulls.proofs.Third.Ways.{last_other, not_towards, on_other, on_side, parts_here, side_goes_on, towards_before, way_begins}
-use Rattle.hulls.proofs.Third.Ways.{on_path_ahead, reach_end, sorts_left, sorts_right, towards_then_away, way_reaches}
 use Rattle.hulls.proofs.Third.SplitSteps.{way_of_path}
 use Rattle.hulls.proofs.Turning.{exchanged, exchanged_back, not_both}
 use Rattle.hulls.specs.Joined.{AreJoined, IsFirstStep, IsOnPath}
