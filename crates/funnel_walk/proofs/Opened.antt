@@ -1,4 +1,6 @@
 -- The corners of a diagonal are vertices, so their names stand for points.
+-- Two diagonals of a sleeve that follow each other, in the triangle between them; and each diagonal is shared by two triangles.
+-- The names of the first funnel: of the start between the ends of the first diagonal, or at one of them.
 use Rattle.std.proofs.Common.{ℕ, ◌<◌, List, length, get_or, arith, ◌≡◌, ◌≢◌, ◌⊎◌, sym, ◌∙◌, subst, ◌+◌, ◌-◌, inl, inr, refl, [], ◌∷◌}
 use Rattle.std.proofs.lemmas.List.Elements.{All-nil}
 use Rattle.plane.specs.Point.{Point, whole}
@@ -29,9 +31,6 @@ diagonal_below corners tris fits sleeve of_mesh i below =
     let ends = ends_below corners tris fits (get_or sleeve.walk i 0) (diagonal_at sleeve i).right (diagonal_at sleeve i).left
     (of_mesh.walk.in_list i (omega (arith, of_mesh.count))) (of_mesh.diagonals i below).of_first in
     (ends.1, ends.0)
-
--- Two diagonals of a sleeve that follow each other, in the triangle between them; and each diagonal is shared by two triangles.
--- The names of the first funnel: of the start between the ends of the first diagonal, or at one of them.
 
 -- a triangle that is entered over the side from l to r is left over the side from p to q: its left end stays or its right end does
 abbrev pub IsNextSide : Tri → ℕ → ℕ → ℕ → ℕ → Type 0

@@ -1,4 +1,5 @@
 -- The taut chain where the start is the goal, and where both are in one triangle.
+-- The names from the start over the points that the way to the goal leaves behind stand for a taut chain.
 use Rattle.std.proofs.Common.{◌≡◌, ◌≢◌, refl, ◌∙◌, ℕ, ◌<◌, List, [], ◌∷◌, ◌++◌, length, arith, sym, ap, subst, ◌+◌, get_or}
 use Rattle.std.proofs.lemmas.List.{append_assoc, get_or_push, length-append}
 use Rattle.plane.proofs.Points.{whole_is_point}
@@ -76,8 +77,6 @@ module _ (corners : List Point) (tris : List Tri) (fits : Fits corners tris) (k 
     };
     last = λ _. refl;
   }
-
--- The names from the start over the points that the way to the goal leaves behind stand for a taut chain.
 
 module _ (corners : List Point) (tris : List Tri) (fits : Fits corners tris) (sleeve : Sleeve) (of_mesh : IsOneOf tris sleeve)
     (start goal : Point) (differ : start ≢ goal) (i : ℕ) (below : i < length sleeve.diagonals)

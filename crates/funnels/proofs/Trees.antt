@@ -1,4 +1,9 @@
 -- What comes before the last point of a path: in the triangle of the source, and beyond the diagonal of an open funnel.
+-- In a simple ring the front of a path is a path: a path without its last point is the path to the one before; and back, the path to what
+-- comes before a point and that point make the path to it. So a path has no point twice.
+-- Chains with bends as paths, in a ring that triangles fit: within one triangle, and beyond a diagonal, by the point of the funnel from which a
+-- point is reached, and on.
+-- The way from a source over the apex of a funnel to one of its points: where it begins, and how long it is.
 use Rattle.std.proofs.Common.{◌≡◌, refl, ap, ◌∙◌, List, [], ◌∷◌, ◌++◌, length, ℕ, zero, suc, ◌+◌, ◌-◌, min, get_or, arith, sym, subst, ◌≤◌}
 use Rattle.std.proofs.Common.{◌<◌, take}
 use Rattle.std.proofs.lemmas.List.{append-nil, append_assoc, get_or_append_left, get_or_push, length-append}
@@ -19,8 +24,6 @@ use Rattle.funnels.proofs.OneChain.{bent_is_path, front_and_last, front_at, fron
 use Rattle.funnels.proofs.Vertices.{fitted_long, fitted_simple, IsSharedSide}
 use Rattle.funnels.specs.Funnel.{IsReachedFrom}
 use Rattle.funnels.specs.OpenFunnel.{left_behind, leftward, right_behind, rightward, IsOpenFunnel}
-
--- The way from a source over the apex of a funnel to one of its points: where it begins, and how long it is.
 
 -- the points on the way to the one at place h, without that one
 abbrev pub way_to : List Point → List Point → ℕ → ℕ → List Point
@@ -78,9 +81,6 @@ length_leftward at a (suc c) = ap suc (length_leftward at (a - 1) c)
 pub length_rightward : {A : Type 0} (at : ℕ → A) (a c : ℕ) → length (rightward at a c) ≡ c
 length_rightward at a zero = refl
 length_rightward at a (suc c) = ap suc (length_rightward at (a + 1) c)
-
--- Chains with bends as paths, in a ring that triangles fit: within one triangle, and beyond a diagonal, by the point of the funnel from which a
--- point is reached, and on.
 
 -- and in a simple ring the path from it to itself
 pub path_of_one : (ring : List Point) → 3 ≤ length ring → IsSimple ring → (s : Point) → IsIn ring (whole s) → IsPath ring s s (s ∷ [])
@@ -153,9 +153,6 @@ module _ (corners : List Point) (tris : List Tri) (fits : Fits corners tris) (k 
     before_corner reached =
         before_reached (vertex corners m) (last_end_in corners tris fits k within j m second) reached
         (corner_differs corners tris fits k i j m within first second third ns a o.funnel h reached)
-
--- In a simple ring the front of a path is a path: a path without its last point is the path to the one before; and back, the path to what
--- comes before a point and that point make the path to it. So a path has no point twice.
 
 module _ (ring : List Point) (some : 3 ≤ length ring) (simple : IsSimple ring) (s t : Point) (path : List Point)
     (is : IsPath ring s t path) where

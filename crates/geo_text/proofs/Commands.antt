@@ -1,4 +1,5 @@
 -- Counts of fields, and commands of as many.
+-- Commands of a record, by its word.
 use Rattle.std.proofs.Common.{◌≡◌, ◌≤◌, ◌/◌, ◌%◌, ◌-◌, ◌==◌, ◌∙◌, ℕ, ℤ, Bool, true, false, if◌then◌else◌, Option, Some, None, List, length}
 use Rattle.std.proofs.Common.{refl, sym, ap, subst, arith, Result, Ok, Err, [], ◌∷◌, drop, get_or, map}
 use Rattle.std.proofs.lemmas.Bool.Decides.{nat_tests}
@@ -78,8 +79,6 @@ pub unless_well_sized : (limits : Limits) → IsLimited limits → (asked : Word
 unless_well_sized limits h asked numbers None None none = is_well_sized limits h asked numbers (sym none)
 unless_well_sized limits h asked numbers None (Some fault) none = tt
 unless_well_sized limits h asked numbers (Some fault) other is = tt
-
--- Commands of a record, by its word.
 
 -- ---- the word
 

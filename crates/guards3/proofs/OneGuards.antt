@@ -1,4 +1,5 @@
 -- The class with the fewest vertices: each class has a vertex, so of two with the same count one has the lesser number.
+-- The guards of a mesh are one list: two partings have the same three lists of members, and one of them is preferred to the others.
 use Rattle.std.proofs.Common.{◌≡◌, ◌≢◌, ◌⊎◌, inl, inr, refl, sym, ap, ◌∙◌, ℕ, ◌*◌, ◌/◌, ◌<◌, ◌≤◌, List, length, get_or, arith, subst}
 use Rattle.std.proofs.Math.Nat.{le-div_iff_mul-le}
 use Rattle.std.proofs.lemmas.Bool.{cases_lt, cases_eq}
@@ -98,8 +99,6 @@ module _ (ring : Oriented) (tris : List Tri) (fits : Fits ring.corners tris) (cl
       ] in
       let three_times : count * 3 ≤ length ring.corners = omega (arith, sum, least 0 (omega arith), least 1 (omega arith), least 2 (omega arith)) in
       (le-div_iff_mul-le (omega arith)).1 three_times
-
--- The guards of a mesh are one list: two partings have the same three lists of members, and one of them is preferred to the others.
 
 -- not each of two lists is preferred to the other
 not_both_rather : (one other : List ℕ) → IsRather one other → ¬ IsRather other one

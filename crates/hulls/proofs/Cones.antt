@@ -1,4 +1,8 @@
 -- Points that are joined over a point.
+-- No three points are joined with each other over one point.
+-- Joined points, in either order: with the point between them a line through it has them on two sides, and else there is a bend.
+-- Points that are joined with one point are not strictly on two sides of the line to it.
+-- Beside two joined points, a third that is joined with neither, nor on a line with one of them, has them on two sides.
 use Rattle.std.proofs.Common.{◌≡◌, ◌≢◌, inl, inr, refl, Bool, true, false, ℤ, pos, ◌+ℤ◌, ◌*ℤ◌, ◌<ℤ◌, List, arith, ◌⊎◌, sym, subst, neg_ℤ}
 use Rattle.std.proofs.Common.{◌-ℤ◌, ◌≤ℤ◌, ◌≤◌, length, ◌↔◌}
 use Rattle.std.proofs.lemmas.Int.{ints}
@@ -22,9 +26,6 @@ use Rattle.funnels.proofs.Bends.{turning_swap, wider_bend}
 use Rattle.funnels.proofs.OneChain.{bend_back}
 use Rattle.funnels.specs.Fanned.{turning}
 use Rattle.hulls.specs.Joined.{AreJoined}
-
--- Joined points, in either order: with the point between them a line through it has them on two sides, and else there is a bend.
--- Points that are joined with one point are not strictly on two sides of the line to it.
 
 -- ---- strictly between
 
@@ -136,8 +137,6 @@ module _ (ring : List Point) (simple : IsSimple ring) (three : 3 ≤ length ring
       (subst (λ (z : Point). AreNeighbours ring z b) at.is_vertex rays.last_next)
       (subst (λ (z : Point). ¬ (On (whole a) (whole z) (whole b) ⊎ On (whole b) (whole z) (whole a))) at.is_vertex rays.two)
 
--- Beside two joined points, a third that is joined with neither, nor on a line with one of them, has them on two sides.
-
 module _ (side : Bool) (ring : List Point) (v n : Point) where
   -- where both ends of a bend are ahead of n, the one that is farther ahead makes one with n
   wider : (u w : Point) → IsBend ring u v w → turning side v (whole u) (whole w) <ℤ pos 0 → pos 0 <ℤ turning side v (whole n) (whole u)
@@ -177,8 +176,6 @@ module _ (ring : List Point) (v u w n : Point) where
       (λ e. turns_u (straight_swap_last (whole v) (whole n) (whole u) e))
       (λ e. turns_w (straight_swap_last (whole v) (whole n) (whole w) e))
       (determinant_shift (whole u) (whole v) (whole n)) (determinant_swap_last (whole v) (whole n) (whole w))
-
--- No three points are joined with each other over one point.
 
 -- of three numbers, no two of one sign, one is 0
 one_is_zero : (x y z : ℤ) → ¬ OneSign x y → ¬ OneSign y z → ¬ OneSign z x → (x ≡ pos 0) ⊎ ((y ≡ pos 0) ⊎ (z ≡ pos 0))

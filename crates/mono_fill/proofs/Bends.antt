@@ -1,4 +1,6 @@
 -- Turns toward the other chain, and edges of both chains that run at one place.
+-- Turns toward the other chain, among points in lexicographic order.
+-- Two edges of different chains that run at one place: the one that ends first ends inward of the other.
 use Rattle.std.proofs.Common.{◌≡◌, inl, inr, refl, List, [], ◌∷◌, ℕ, ◌+◌, ◌*◌, ℤ, pos, ◌+ℤ◌, ◌-ℤ◌, ◌*ℤ◌, neg_ℤ, ◌<ℤ◌, ◌≤ℤ◌, arith, ◌⊎◌, sym}
 use Rattle.std.proofs.Common.{subst}
 use Rattle.std.proofs.lemmas.Int.{ints}
@@ -18,9 +20,6 @@ use Rattle.meshes.proofs.Monotone.{enters_above, enters_below}
 use Rattle.mono_fill.specs.Sides.{other_chain_side}
 use Rattle.mono_fill.specs.declared.side.Side.{Side}
 use Rattle.mono_fill.specs.declared.side.Side.TheVariants.{Lower, Upper}
-
--- Turns toward the other chain, among points in lexicographic order.
--- Two edges of different chains that run at one place: the one that ends first ends inward of the other.
 
 -- the determinant of the turn from a over b to c: positive where it is inward, that is toward the other chain
 abbrev pub bend : Side → Point → Point → Point → ℤ

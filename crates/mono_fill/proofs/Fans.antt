@@ -1,4 +1,6 @@
 -- The triangles that leave the stack.
+-- The triangles of a fan, one after another.
+-- A stack from which some items are gone, and one more.
 use Rattle.std.specs.List.{All, Contains}
 use Rattle.std.proofs.Common.{◌≡◌, refl, subst, ap, ap₂, ◌∙◌, ℕ, ◌+◌, ◌-◌, ◌<◌, ◌≤◌, List, [], ◌∷◌, ◌++◌, length, take, drop, get_or}
 use Rattle.std.proofs.Common.{reverse, append_assoc, arith, sym, append-nil, length-take-le}
@@ -12,8 +14,6 @@ use Rattle.mono_fill.specs.Sides.{IsCounterclockwiseTri, fan, triangle, fan_from
 use Rattle.mono_fill.specs.Stacks.{Extends, ArePopped, last_of}
 use Rattle.mono_fill.specs.declared.side.Side.{Side}
 use Rattle.mono_fill.specs.declared.side.Side.TheVariants.{Lower, Upper}
-
--- The triangles of a fan, one after another.
 
 -- an item behind the first
 next_item : (p : ℕ) (qs : List ℕ) (k : ℕ) → get_or (p ∷ qs) (k + 1) 0 ≡ get_or qs k 0
@@ -69,8 +69,6 @@ corners_in piece Upper p q x hp hq hx = record { has_a = hq; has_b = hp; has_c =
 -- it is one of the piece, where they run counterclockwise
 pub tri_of : (corners : List Point) (piece : List ℕ) (t : Tri) → HasCornersIn piece t → IsCounterclockwiseTri corners t → IsTriOf corners piece t
 tri_of corners piece t has left = record { has_a = has.has_a; has_b = has.has_b; has_c = has.has_c; counterclockwise = left }
-
--- A stack from which some items are gone, and one more.
 
 -- a list of two items or more without its last one
 module _ (now : List ℕ) (some : 1 < length now) where

@@ -1,4 +1,6 @@
 -- The loop: the cursors, the stack and the triangles, as the code tells them.
+-- The loop of a filling: the cursors, the stack and the triangles so far.
+-- The steps of the loop, as the code tells them: the values before and after by equations.
 use Rattle.std.specs.List.{Contains, All}
 use Rattle.std.proofs.Common.{◌≡◌, refl, sym, ap, ◌∙◌, ℕ, ◌+◌, ◌<◌, ◌≤◌, ℤ, pos, List, [], ◌∷◌, ◌++◌, length, take, append_assoc}
 use Rattle.std.proofs.Common.{append-nil, arith, Bool, true, false, Ok, Err, subst, drop}
@@ -25,8 +27,6 @@ use Rattle.mono_fill.specs.contracts.side.Side.{the_type}
 use Rattle.mono_fill.specs.declared.side.Side.{Side}
 use Rattle.mono_fill.specs.declared.side.Side.TheVariants.{Lower, Upper}
 use denote.Enum.Bare.{sameb}
-
--- The loop of a filling: the cursors, the stack and the triangles so far.
 
 -- so far the triangles behind the old ones are those of the stages
 pub record IsFilling (corners : List Point) (ranks piece : List ℕ) (c : Cursors) (side : Side) (stack : List ℕ) (old new : List Tri) : Type 0 where
@@ -188,8 +188,6 @@ module _ (corners : List Point) (ranks piece : List ℕ) (old new newer : List T
         add_more old f.tris _ f.added e,
         on_end o Upper c.upper c.lower f.merge high low stack f.tris f.stage polygon,
       )
-
--- The steps of the loop, as the code tells them: the values before and after by equations.
 
 -- of two chains one is the other or the opposite one
 pub other_side : (a b : Side) → ¬ (a ≡ b) → a ≡ other_chain_side b

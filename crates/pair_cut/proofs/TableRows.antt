@@ -1,4 +1,6 @@
 -- The numbers of a row, and the table that the rows make.
+-- A row that grows outward from the home triangle: at home, at one more place, and at all.
+-- A row that was read from a table, and a number from the row.
 use Rattle.std.proofs.Common.{◌≡◌, ◌≢◌, inl, inr, refl, sym, subst, ◌∙◌, ℕ, ◌*◌, ◌<◌, ◌≤◌, List, [], ◌∷◌, ◌++◌, length, map, arith, ap, ◌+◌}
 use Rattle.std.proofs.Common.{replicate, set, slice_index, get_or}
 use Rattle.std.proofs.lemmas.Bool.{cases_lt, cases_eq}
@@ -88,8 +90,6 @@ module _ {X : Type 0} (f : X → List ℕ) (ring : List Point) (rows : List X) (
 -- some rows take no more steps than all
 pub rows_paid : (i n b : ℕ) → i ≤ n → i * (200 * n * (b * b)) ≤ 200 * (n * n) * (b * b)
 rows_paid i n b le = omega (arith, mul-le i (200 * n * (b * b)) n (200 * n * (b * b)) le (omega arith))
-
--- A row that grows outward from the home triangle: at home, at one more place, and at all.
 
 -- an order outward from a triangle with vertex i at a corner is one from that vertex
 pub from_vertex : (corners : List Point) (i : ℕ) (tris : List Tri) (k : ℕ) (order : List Outward) → Fits corners tris → k < length tris
@@ -238,8 +238,6 @@ places_paid p n le few =
           omega (arith, le, few, mul-le 3 3 b b three three)
     ] in
     omega (arith, mul-le p n (200 * (b * b)) n enough (omega arith))
-
--- A row that was read from a table, and a number from the row.
 
 module _ {X : Type 0} (f : X → List ℕ) (rows : List X) (before : List (List ℕ)) (same : map f rows ≡ before) (kept : IsTable (map f rows))
   where

@@ -1,5 +1,7 @@
 -- Points of a funnel by their names: the source by its own, and the others as corners.
 -- The funnel of a triangle that is entered over a side: its numbers, how many there are, and what comes before a point that is reached.
+-- What is before the vertices, in a list by their numbers: writes to it, and the corners of the home triangle.
+-- A tree of paths over the first places of an order outward: at home, at one more place, and at all.
 use Rattle.std.proofs.Common.{◌≡◌, ◌≢◌, inl, inr, sym, ap, subst, ◌∙◌, List, length, ℕ, ◌<◌, slice_index, Some, arith, ◌+◌, ◌≤◌, get_or}
 use Rattle.std.proofs.Common.{Option, None, set, slice_index_or, refl, [], ◌∷◌, ◌++◌, ◌%◌}
 use Rattle.std.proofs.lemmas.Bool.{cases_eq}
@@ -94,9 +96,6 @@ module _ (corners : List Point) (start : Point) (tris : List Tri) (k : ℕ) (f :
           named_by_number corners start tris e.left e.right e.diagonals fits f e.funnel h within (m + 2) i s n is corner source,
           before_point corners start tris k e.left e.right e.third e.diagonals fits e.beyond f e.funnel h y inside reached,
         )
-
--- What is before the vertices, in a list by their numbers: writes to it, and the corners of the home triangle.
--- A tree of paths over the first places of an order outward: at home, at one more place, and at all.
 
 module _ (corners : List Point) (start : Point) where
   -- the list has what is before vertex i

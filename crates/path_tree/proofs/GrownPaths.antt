@@ -1,5 +1,6 @@
 -- Names to which a tree has a path, and the points that they stand for.
 -- A tree that is grown from a start has a path to the start, and to each corner.
+-- The way back from a point of a tree to its start, by what comes before each point: the names that were given on it.
 use Rattle.std.proofs.Common.{◌≡◌, sym, ◌∙◌, ℕ, ◌<◌, List, length, arith, subst, [], ◌∷◌, Option, Some, None, ◌≢◌, refl, ap, ◌+◌, ◌≤◌, ◌++◌}
 use Rattle.std.proofs.Common.{map, reverse, take, drop, get_or}
 use Rattle.std.proofs.lemmas.List.{append-nil, append_assoc, get_or-append-add, get_or-map, length-append, length-map, length-reverse}
@@ -80,8 +81,6 @@ module _ (corners : List Point) (start : Point) (tris : List Tri) (fits : Fits c
         let found = path_of_from start_inside (vertex corners i) (before_at tree i) (grown.parents i (omega (arith, below, grown.vertices))) in
         (found.0, subst (λ p. IsPath corners start p found.0) (kept_vertex corners start tris tree grown i below) found.1)
     path_kept Goal none = absurd none
-
--- The way back from a point of a tree to its start, by what comes before each point: the names that were given on it.
 
 -- what holds of every path of the tree
 abbrev pub OfEach : NamedTree → (List Point → Point → Type 0) → Type 0

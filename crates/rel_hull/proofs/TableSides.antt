@@ -1,4 +1,7 @@
 -- Lists of the sides that come before a pair, one side after another.
+-- One scan of the outer points finds the end of a side: what is not to the left of the end so far takes its place.
+-- The chains of a table of a ring tell which points are inner.
+-- The sides that the chains of a table of a ring tell are those of its points.
 use Rattle.std.proofs.Common.{◌≡◌, ◌↔◌, inl, inr, ℕ, ◌+◌, ◌<◌, List, [], ◌∷◌, ◌++◌, length, get_or, slice_index, subst, sym, arith, ◌≢◌}
 use Rattle.std.proofs.Common.{refl, ◌∙◌, below_more}
 use Rattle.std.proofs.lemmas.Bool.{cases_lt, cases_eq}
@@ -103,9 +106,6 @@ module _ (table : Table) (n : ℕ) (outer : List ℕ) (are : AreOuterBelow table
   pub all_sides : (pairs : List (ℕ × ℕ)) → AreSidesBefore table outer (n, 0) pairs → (pair : ℕ × ℕ) → IsToldSide table outer pair
       → Contains pairs pair
   all_sides pairs sides pair told = sides.all pair told (inl (are.below pair.0 told.first))
-
--- The chains of a table of a ring tell which points are inner.
--- The sides that the chains of a table of a ring tell are those of its points.
 
 module _ (ring : List Point) (table : Table) (is : IsTableOf ring table) where
   -- what is on the chain is on the path,
@@ -227,8 +227,6 @@ module _ (ring : List Point) (table : Table) (is : IsTableOf ring table) where
       all = λ s t side. all_sides table table.count outer are pairs sides (s, t) (told_of_side s t side);
       sorted = sides.sorted;
     }
-
--- One scan of the outer points finds the end of a side: what is not to the left of the end so far takes its place.
 
 module _ (table : Table) (outer : List ℕ) (s end t : ℕ) where
   -- before the end of a side nothing comes,

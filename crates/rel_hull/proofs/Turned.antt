@@ -1,5 +1,6 @@
 -- Two lists turn against each other in one way.
 -- Two lists in the other order turn against each other the other way.
+-- Two paths turn to the left exactly where the second is to the left of the first by the sides of points alone; so sides are outer pairs.
 use Rattle.std.proofs.Common.{◌≡◌, ◌≢◌, ◌↔◌, List, [], ◌∷◌, ◌++◌, refl, subst, sym, ◌∙◌, zero, suc, ℤ, pos, negsuc, neg_ℤ, ap, ℕ}
 use Rattle.plane.proofs.Points.{same_whole, whole_is_point}
 use Rattle.plane.proofs.Segments.{on_antisym, on_is_straight, on_reversed}
@@ -163,8 +164,6 @@ left_once first second left back =
   where
     left_not_right : Left ≢ Right
     left_not_right e = cc
-
--- Two paths turn to the left exactly where the second is to the left of the first by the sides of points alone; so sides are outer pairs.
 
 -- left is not straight
 left_not_straight : Left ≢ Straight

@@ -1,5 +1,6 @@
 -- Where all sides of the triangles that are seen are done, of each triangle that was not reached nothing is seen; and what the cones tell of
 -- the edges.
+-- What the cones of the triangles that were reached tell of all edges, in their order; and the edges between two of them.
 use Rattle.std.proofs.Common.{◌≡◌, ◌⊎◌, inl, inr, refl, sym, subst, ℕ, ◌+◌, ◌%◌, ◌<◌, List, [], ◌∷◌, length, Some, None, ap, ◌∙◌, zero, suc}
 use Rattle.std.proofs.Common.{◌-◌, ◌≤◌, arith}
 use Rattle.std.specs.Prelude.{Option}
@@ -96,8 +97,6 @@ module _ (corners : List Point) (tris : List Tri) (fits : Fits corners tris) (q 
   -- of an edge of a triangle that is unseen nothing is seen
   pub edge_of_unseen : (i j k : ℕ) → IsSideOfOne tris i j k → IsConeOf corners tris q k None → IsUnseen corners (whole q) i
   edge_of_unseen i j k one none = (edge_told i j k None one none).unseen refl
-
--- What the cones of the triangles that were reached tell of all edges, in their order; and the edges between two of them.
 
 module _ (corners : List Point) (tris : List Tri) (fits : Fits corners tris) (q : Point) (reached : List Reached) (edges : List Placed)
     (all : AreAllReached corners tris q reached) (sorted : AreSorted tris reached edges) where

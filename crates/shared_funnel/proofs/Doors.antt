@@ -1,4 +1,5 @@
 -- How a triangle of a mesh is entered from one with which it shares a side: the ends of the diagonal, and the third corner.
+-- The corners of a triangle, and the ends of its sides.
 use Rattle.std.proofs.Common.{◌≡◌, ◌⊎◌, inl, inr, refl, subst, List, length, ℕ, zero, suc, ◌<◌, ◌≤◌, arith, [], ◌∷◌, slice_index}
 use Rattle.plane.specs.Point.{Point, whole}
 use Rattle.rings.specs.Ring.{vertex}
@@ -67,8 +68,6 @@ funnel_later corners start i j d e f le w = record {
   numbers = w.numbers;
   few = omega (arith, le, w.few);
 }
-
--- The corners of a triangle, and the ends of its sides.
 
 -- the corners in their order
 abbrev pub corners_of : Tri → List ℕ

@@ -1,4 +1,7 @@
 -- Numbers of corners and of the source: the points that they stand for, their names, and the places of a list.
+-- The numbers of the first funnel: of the source between the ends of a side of its triangle, or at one of them.
+-- The numbers of the next funnel: on the left that of the third corner, and those from the place on from which it is reached; on the right those
+-- to that place, and that corner's.
 use Rattle.std.proofs.Common.{◌≡◌, ◌≢◌, inl, inr, refl, sym, ap, subst, ◌∙◌, ℕ, ◌%◌, ◌<◌, ◌≤◌, List, [], ◌∷◌, length, get_or, slice_index}
 use Rattle.std.proofs.Common.{arith, ◌++◌, drop, ◌+◌, ◌-◌, add-one, take, min}
 use Rattle.std.proofs.Math.Nat.{mod-eq_of_lt}
@@ -65,9 +68,6 @@ module _ (corners : List Point) (start : Point) where
   -- and so is the place of an apex
   pub apex_in_list : (i j d : ℕ) (f : Listed) → IsFunnelAt corners start i j d f → f.apex < length f.list
   apex_in_list i j d f w = omega (arith, w.funnel.funnel.apex_within, length-map f.list (point_of corners start))
-
--- The numbers of the next funnel: on the left that of the third corner, and those from the place on from which it is reached; on the right those
--- to that place, and that corner's.
 
 module _ (corners : List Point) (start : Point) (tris : List Tri) (k i j m next d : ℕ) (fits : Fits corners tris)
     (beyond : IsTriangleBeyond tris k i j m) (f : Listed) (w : IsFunnelAt corners start i j d f) (h : ℕ)
@@ -193,8 +193,6 @@ module _ (corners : List Point) (start : Point) (tris : List Tri) (k i j m next 
         length-take-le (h + 1) f.list (omega (arith, place_within corners start f.list f.apex h (whole (vertex corners m)) reached)),
       );
     }
-
--- The numbers of the first funnel: of the source between the ends of a side of its triangle, or at one of them.
 
 module _ (corners : List Point) (start : Point) (tris : List Tri) (home next l r : ℕ) (fits : Fits corners tris)
     (in_start : IsInTri corners (tri_at tris home) (whole start)) (shared : IsSideOfTwo tris r l home next) where

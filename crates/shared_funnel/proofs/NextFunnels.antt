@@ -1,4 +1,6 @@
 -- The triangles at the places of an order outward: each is entered over the side that it shares with the one from which it is reached.
+-- The funnel at the side over which the triangle at a place is entered: from home, and from the funnel of the triangle from which it
+-- is reached.
 use Rattle.std.proofs.Common.{◌≡◌, sym, subst, List, length, ℕ, ◌<◌, arith, ◌⊎◌, inl, inr, ◌∙◌, ◌+◌, ◌≤◌}
 use Rattle.std.proofs.lemmas.List.{length-map}
 use Rattle.plane.specs.Point.{Point, whole}
@@ -72,9 +74,6 @@ module _ (corners : List Point) (start : Point) (tris : List Tri) (order : List 
 
     pub third_below : third_of tris order p < length corners
     third_below = (ends_below corners tris from.fits (at_place order p) (right_of tris order p) (third_of tris order p) (from.outward.in_list p below) beyond_at.right).1
-
--- The funnel at the side over which the triangle at a place is entered: from home, and from the funnel of the triangle from which it
--- is reached.
 
 module _ (corners : List Point) (start : Point) (tris : List Tri) (order : List Outward) (from : IsFromStart corners start tris order) where
   -- where there is a later place, there are four corners or more

@@ -1,4 +1,5 @@
 -- What comes before a point beyond the diagonal on its path: the point of the funnel from which it is reached.
+-- A point of a funnel that is the source's has the source's own number: no corner's name stands for the start.
 use Rattle.std.proofs.Common.{◌≡◌, inl, sym, List, ℕ, slice_index, subst, refl, ap, ◌∙◌, [], ◌∷◌, ◌++◌, length, min, ◌-◌, ◌<◌, arith}
 use Rattle.std.proofs.lemmas.List.{get_or_push, length-append, length-map}
 use Rattle.plane.specs.Point.{Point, whole}
@@ -41,8 +42,6 @@ module _ (corners : List Point) (start : Point) (tris : List Tri) (k i j m d : �
       subst (IsPredecessor corners start (vertex corners m)) is
       (before_corner corners tris fits k beyond.diagonal.in_list i j m beyond.diagonal.has beyond.right beyond.left
       (k, beyond.from, inl beyond.diagonal) w.before (listed_points corners start f.list) f.apex w.funnel start w.begins h reached)
-
--- A point of a funnel that is the source's has the source's own number: no corner's name stands for the start.
 
 -- a list with no points is the empty one
 empty : (xs : List Point) → length xs ≡ 0 → xs ≡ []

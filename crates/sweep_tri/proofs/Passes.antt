@@ -1,4 +1,8 @@
 -- An event that the sweep passes: what it needs of the state, and what it takes.
+-- An event by its kind: two edges begin, one ends and one goes on, or two end.
+-- The steps that an event takes: at most 200 for each binary digit of the number of vertices.
+-- The state before an event, and the place of its vertex.
+-- The events of a sweep, one after the other.
 use Rattle.std.proofs.Common.{◌≡◌, Result, Ok, Err, sym, subst, ℕ, ◌+◌, ◌-◌, ◌<◌, ◌≤◌, List, length, arith, ◌^◌, [], refl, ◌*◌, inl, inr}
 use Rattle.std.proofs.Common.{Some, ◌∷◌, ◌++◌}
 use Rattle.std.specs.Prelude.{OnOk, slice_index, slice_set}
@@ -25,9 +29,6 @@ use Rattle.sweep_tri.specs.Slots.{AreSortedBy}
 use Rattle.sweep_tri.specs.Swept.{IsSwept}
 use Rattle.sweep_tri.specs.declared.gap.Fork.{Fork}
 use Rattle.sweep_tri.specs.declared.gap.Gap.{Gap}
-
--- The state before an event, and the place of its vertex.
--- The events of a sweep, one after the other.
 
 -- the state of the same gaps and triangles
 pub swept_same : (corners : List Point) (ranks : List ℕ) (k : ℕ) {gaps others : List Gap} {tris rest : List Tri} → others ≡ gaps → rest ≡ tris
@@ -136,8 +137,6 @@ module _ (corners : List Point) (order ranks : List ℕ) (are : AreEvents corner
   pub event_passed : IsSwept corners ranks (slice_index ranks (slice_index order k) + 1) gaps tris → IsSwept corners ranks (k + 1) gaps tris
   event_passed swept = subst (λ m. IsSwept corners ranks (m + 1) gaps tris) (are.each k within).rank_of_event swept
 
--- The steps that an event takes: at most 200 for each binary digit of the number of vertices.
-
 -- the digits of a number from 3 on
 two_digits : binary_digits 3 ≡ 2
 unfolding binary_digits
@@ -160,8 +159,6 @@ pub pass_within : {corners : List Point} {ranks : List ℕ} {gaps : List Gap} {t
     → s ≤ start + 8 * entries + 200 * binary_digits (length corners)
 pass_within {corners} {ranks} {gaps} is start placed entries s first last =
     omega (arith, first, last, all_digits (length corners) (length gaps) is.ranked.some (gaps_few is))
-
--- An event by its kind: two edges begin, one ends and one goes on, or two end.
 
 module _ {corners : List Point} {ranks : List ℕ} {gaps : List Gap} {tris : List Tri} where
   -- the fork at the vertex has one neighbour below and the other one above

@@ -1,4 +1,5 @@
 -- A search by halves for the place of a vertex among the gaps: the places that are left, and its test.
+-- What the turn of three corners says of a vertex and an edge.
 use Rattle.std.proofs.Common.{◌≡◌, ◌↔◌, sym, ap, subst, ◌∙◌, ℕ, ◌+◌, ◌<◌, ◌≤◌, List, length, inl, inr, arith, refl}
 use Rattle.std.proofs.lemmas.Bool.{cases_eq}
 use Rattle.std.proofs.lemmas.List.{get_or_read}
@@ -120,8 +121,6 @@ above_by_turn corners start end g v from to turn has v_within from_is to_is turn
     let to_at : vertex corners (low_front g).to ≡ slice_index_or corners to origin
     = vertex_in_range corners (low_front g).to origin has.to ∙ ap (λ n. slice_index_or corners n origin) (sym to_is) in
     rw (turn_is, from_at, to_at, vertex_in_range corners v origin v_within) (positive_of_left _, left_of_positive _)
-
--- What the turn of three corners says of a vertex and an edge.
 
 module _ (corners : List Point) (start goal : Point) where
   abbrev at : ℕ → Point

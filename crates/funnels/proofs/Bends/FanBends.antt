@@ -1,5 +1,8 @@
 -- A fan at a vertex of a simple ring that turns by more than a half turn makes a bend there: at one that is not reflex, directions toward which
 -- the ring is open turn by a half turn at most.
+-- A bend at a corner of a mesh, with a shared side on its last ray, grows over the triangle beyond the side, and turns the same way.
+-- A bend at a vertex grows where its last ray turns on, over no neighbour.
+-- A bend over a vertex stays one where it turns farther.
 use Rattle.std.proofs.Common.{◌≡◌, Bool, true, false, sym, subst, ◌∙◌, ℕ, ◌+◌, ◌-◌, ◌<◌, ◌≤◌, ℤ, pos, ◌≤ℤ◌, List, [], ◌∷◌, length, arith}
 use Rattle.std.proofs.Common.{inl, inr, refl, ◌<ℤ◌, ◌⊎◌, ◌+ℤ◌, ◌-ℤ◌, ◌*ℤ◌}
 use Rattle.std.proofs.lemmas.Int.{ints}
@@ -137,8 +140,6 @@ module _ (ring : List Point) (simple : IsSimple ring) (three : 3 ≤ length ring
   bend_of_fan =
       bend_of_turnings side ring x v y wide (record { i = g; in_ring = h; is_vertex = sym is; reflex = reflex_of_fan }) cone_left
 
--- A bend at a vertex grows where its last ray turns on, over no neighbour.
-
 -- ---- numbers
 
 -- the relation of four directions, where the last two are in line with the first, and the second is not: these are in line
@@ -208,8 +209,6 @@ module _ (side : Bool) (ring : List Point) (q v r : Point) (bend : IsBend ring q
         bend_of_turnings side ring q v y (still_wide rays) bend.reflex
         (λ u n. ((turnings_of_bend side ring q v r wide bend u n).0, (grown u n).1))
 
--- A bend at a corner of a mesh, with a shared side on its last ray, grows over the triangle beyond the side, and turns the same way.
-
 module _ (corners : List Point) (tris : List Tri) (fits : Fits corners tris) (k : ℕ) (within : k < length tris)
     (side : Bool) (before v after : ℕ) (corner : HasCornerOn side (tri_at tris k) before v after) where
   -- the corner, and that after it
@@ -243,8 +242,6 @@ module _ (corners : List Point) (tris : List Tri) (fits : Fits corners tris) (k 
     grown_bend =
         bend_after_step side corners q V A bend wide (neighbour_differs corners tris fits v) off_side z
         (last_step corners tris fits k within side before v after corner (whole z) inside ahead) rays
-
--- A bend over a vertex stays one where it turns farther.
 
 -- the relation of q, z, u and y, where u is not ahead of q nor behind z, and y is behind q and not ahead of z: y is not ahead of u
 not_ahead : (qz uy qu zy qy zu : ℤ) → qz *ℤ uy -ℤ qu *ℤ zy +ℤ qy *ℤ zu ≡ pos 0 → qz <ℤ pos 0 → qu ≤ℤ pos 0 → qy <ℤ pos 0

@@ -1,4 +1,7 @@
 -- Fans: longer ones, what their steps keep, and that they turn.
+-- A fan at a vertex of a ring: one begins within a step, and one more step makes it longer.
+-- Directions of one closed half-plane turn by a half turn at most.
+-- Parts of the steps of a fan: from a direction within a step to its end, and from its start to a direction within it.
 use Rattle.std.proofs.Common.{subst, sym, List, [], ◌∷◌, ◌++◌, refl, ℤ, pos, ◌<ℤ◌, ◌≡◌, ◌+ℤ◌, ◌-ℤ◌, ◌*ℤ◌, ◌≤ℤ◌, arith, ◌⊎◌, inl, Bool}
 use Rattle.std.proofs.lemmas.Int.{ints}
 use Rattle.std.proofs.lemmas.List.Elements.{All-cons, All-nil, All-push}
@@ -31,8 +34,6 @@ module _ {A : Type 0} (f : A → A → ℤ) where
     turning_of_fan p r y [] same h = subst (λ z. pos 0 <ℤ f z y) (sym same) h
     turning_of_fan p r y (d ∷ ds) fan h = (fan.0.ahead, turning_of_fan d r y ds fan.1 h)
 
--- Parts of the steps of a fan: from a direction within a step to its end, and from its start to a direction within it.
-
 -- b not right of a, and c left of both: where d is left of b and not left of c, it is left of a
 left_of_all : {ab ac ad bc bd cd : ℤ} → Relation ab ac ad bc bd cd → pos 0 ≤ℤ ab → pos 0 <ℤ ac → pos 0 <ℤ bc → pos 0 <ℤ bd → cd ≤ℤ pos 0
     → pos 0 <ℤ ad
@@ -58,8 +59,6 @@ module _ {A : Type 0} (f : A → A → ℤ)
     none = λ u n swept.
         step.none u n (swept.0, right_of_third (relation f four a y c u) (weak low) step.ahead (weak swept.0) high swept.1);
   }
-
--- A fan at a vertex of a ring: one begins within a step, and one more step makes it longer.
 
 module _ (side : Bool) (ring : List Point) (v : Point) (a c : Triple) (step : IsFanStep (turning side v) (IsNextTo ring v) a c)
     (open_c : IsOpenToward ring v c) where
@@ -111,8 +110,6 @@ module _ (side : Bool) (ring : List Point) (v : Point) (a c : Triple) (step : Is
         | is_positive h ↦ begins_at_end (ray_ahead side v a x c open_x.0 open_c.0 level h step.ahead)
       ]
     ]
-
--- Directions of one closed half-plane turn by a half turn at most.
 
 module _ {A : Type 0} (f : A → A → ℤ)
     (four : (a b c d : A) → f a b *ℤ f c d -ℤ f a c *ℤ f b d +ℤ f a d *ℤ f b c ≡ pos 0) (q z : A) (some : ¬ (f q z ≡ pos 0)) where

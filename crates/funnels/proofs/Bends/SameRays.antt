@@ -1,4 +1,7 @@
 -- Points on one ray from a vertex: what is left of the one is left of the other.
+-- Directions in line with each other, seen from a vertex on either side: of two different lines only the vertex is on both, and what
+-- is to one side of a line is on one ray.
+-- The two neighbours of a vertex in a simple ring are on two rays from it.
 use Rattle.std.proofs.Common.{◌≡◌, ◌⊎◌, inl, inr, Bool, true, false, refl, sym, ℤ, pos, ◌+ℤ◌, ◌*ℤ◌, neg_ℤ, ◌<ℤ◌, ◌≤ℤ◌, arith, ◌≢◌, not, []}
 use Rattle.std.proofs.Common.{◌∷◌, subst, ap, ◌∙◌, ◌-ℤ◌, ℕ, ◌+◌, ◌-◌, ◌<◌, ◌≤◌, List, length}
 use Rattle.std.proofs.lemmas.Int.{ints}
@@ -109,9 +112,6 @@ module _ (v : Point) where
   turning_from_ray side b x z h =
       sign_of_opposites (turning_swap side v z b) (turning_swap side v z x) (turning_to_ray side b x z h)
 
--- Directions in line with each other, seen from a vertex on either side: of two different lines only the vertex is on both, and what
--- is to one side of a line is on one ray.
-
 -- ---- lines through the vertex
 
 -- a direction that does not turn is straight,
@@ -184,8 +184,6 @@ ray_behind true v b x u at_x at_u level behind_x behind_u =
 ray_behind false v b x u at_x at_u level behind_x behind_u =
     ray_on_left (whole v) x u (whole_is_point v) at_x at_u b (zero_of_opposite level) (positive_of_opposite behind_x)
     (positive_of_opposite behind_u)
-
--- The two neighbours of a vertex in a simple ring are on two rays from it.
 
 -- v has two neighbours, on two rays
 pub record HasTwoRays (ring : List Point) (v : Point) : Type 0 where

@@ -1,5 +1,7 @@
 -- A triangle of a mesh at one of its corners, seen from either side: its mirror image, how its sides turn, and which ways no ring
 -- neighbour goes.
+-- A triangle of a mesh at one of its corners, which sees its points in the angle there, and fans of such triangles, on either side: one begins
+-- in a triangle, goes on over one, and has a last step in one.
 use Rattle.std.proofs.Common.{◌≡◌, ◌⊎◌, sym, subst, Bool, true, false, not, ℕ, ◌<◌, pos, ◌<ℤ◌, ◌≤ℤ◌, List, length, arith}
 use Rattle.std.specs.List.{range_with_len}
 use Rattle.integer_algebra.proofs.SignSteps.{not_both, positive_of_not_zero, turned_negative, turned_zero, at_least_unless}
@@ -138,9 +140,6 @@ module _ (corners : List Point) (tris : List Tri) (fits : Fits corners tris) whe
             off_shared corners (range_with_len 0 (length corners)) tris fits v before shared u (in_piece (vertex corners v) u n)
             (on_before (whole u) (whole_is_point u) h.0 m)
       ]
-
--- A triangle of a mesh at one of its corners, which sees its points in the angle there, and fans of such triangles, on either side: one begins
--- in a triangle, goes on over one, and has a last step in one.
 
 module _ (corners : List Point) (tris : List Tri) (fits : Fits corners tris) (k : ℕ) (within : k < length tris) where
   -- both ends of a side are in the triangle: the first,

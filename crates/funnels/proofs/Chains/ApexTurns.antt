@@ -1,4 +1,7 @@
 -- To which side the chain turns at the apex of a funnel, by the points at three places.
+-- A point that is reached from the apex of a funnel, beyond the diagonal: the way to it turns at the apex as those to both edges do.
+-- Signs at the apex of a funnel, over plain integers: of directions there, and of two falls in proportion.
+-- A point beyond the diagonal, between the two edges at the apex: the way to it from before the apex turns as those to the edges do.
 use Rattle.std.proofs.Common.{◌≡◌, Bool, true, false, sym, subst, List, length, ℕ, ◌+◌, ◌-◌, ◌<◌, pos, ◌<ℤ◌, inl, inr, [], ◌∷◌, refl, ap, ℤ}
 use Rattle.std.proofs.Common.{◌+ℤ◌, ◌-ℤ◌, ◌*ℤ◌, neg_ℤ, ◌≤ℤ◌, arith, ◌⊎◌}
 use Rattle.std.proofs.lemmas.Int.{ints}
@@ -79,8 +82,6 @@ module _ (ns : List Point) (a : ℕ) (q : Point) where
         right = λ more. by_two_points (TurnsBack side q) o s (point_at ns a) (point_at ns (a + 1)) apex (after more) (right more);
       })
 
--- Signs at the apex of a funnel, over plain integers: of directions there, and of two falls in proportion.
-
 -- the relation of q, p, s and y, where p and s are behind q, y is behind p and not behind s, and s is not ahead of p: y is behind q
 pub behind_too : (qp sy qs py qy ps : ℤ) → qp *ℤ sy -ℤ qs *ℤ py +ℤ qy *ℤ ps ≡ pos 0 → qp <ℤ pos 0 → qs <ℤ pos 0 → py <ℤ pos 0
     → pos 0 ≤ℤ sy → ps ≤ℤ pos 0 → qy <ℤ pos 0
@@ -129,8 +130,6 @@ far_below h k m = omega (arith, ints)
 -- numbers of which each is at most the other
 pub both_at_most : {h k : ℤ} → h ≤ℤ k → k ≤ℤ h → k ≡ h
 both_at_most h k = omega (arith, ints)
-
--- A point beyond the diagonal, between the two edges at the apex: the way to it from before the apex turns as those to the edges do.
 
 -- ---- points on one ray from the apex
 
@@ -199,8 +198,6 @@ module _ (side : Bool) (l r o q y : Point) (beyond : On (whole y) (whole l) (who
       | is_negative h ↦
           behind_too _ _ _ _ _ _ (turning_four side o (whole q) (whole p) (whole s) (whole y)) at_p at_s h ahead opening
     ]
-
--- A point that is reached from the apex of a funnel, beyond the diagonal: the way to it turns at the apex as those to both edges do.
 
 module _ (ns : List Point) (a : ℕ) (l r : Point) (f : IsFunnel ns a l r) (q y : Point)
     (beyond : On (whole y) (whole l) (whole r) ⊎ (height l r (whole y) <ℤ pos 0)) (reached : IsReachedFrom ns a a (whole y)) where

@@ -1,5 +1,7 @@
 -- At an end of a shared side, and a point of the triangle beyond it: a bend from the end to the other one goes on to the point, and turns
 -- the same way; and a fan from a point round to the side makes a bend, where the way over the end turns off past the side.
+-- At the corner of a triangle beyond the diagonal fans begin with the way back to the point of the funnel that it is reached from.
+-- The ends of the next funnel, on the side from the corner beyond the diagonal to its right end, or to its left end.
 use Rattle.std.proofs.Common.{◌≡◌, Bool, refl, sym, ℕ, ◌<◌, pos, ◌<ℤ◌, ◌≤ℤ◌, List, length, true, false, subst, inl, inr, ap, ◌∙◌, [], ◌∷◌}
 use Rattle.std.proofs.Common.{◌++◌, drop, take, ◌+◌, ◌-◌, min, arith}
 use Rattle.std.proofs.lemmas.Bool.{cases_lt}
@@ -89,8 +91,6 @@ module _ (corners : List Point) (tris : List Tri) (fits : Fits corners tris) (k 
         (corner_in_ring corners tris fits k within side before v after corner) side V refl x y (whole A) fanned
         (last_step corners tris fits k within side before v after corner (whole y) inside past_side) (whole_is_point y, seen) differ behind
 
--- At the corner of a triangle beyond the diagonal fans begin with the way back to the point of the funnel that it is reached from.
-
 module _ (corners : List Point) (tris : List Tri) (fits : Fits corners tris) (k i j m : ℕ) (within : k < length tris)
     (first : HasSide (tri_at tris k) i j) (second : HasSide (tri_at tris k) j m) (third : HasSide (tri_at tris k) m i) where
   -- its corner m is left of the side from i to j,
@@ -143,8 +143,6 @@ module _ (corners : List Point) (tris : List Tri) (fits : Fits corners tris) (k 
           fan_begins corners tris fits k within false i m j (third, second) shared (whole (point_at ns h)) open_back
           (λ same. corner_differs (same_whole (point_at ns h) (vertex corners m) same))
           (within_back true corners j m i (whole (point_at ns h)) within_corner)
-
--- The ends of the next funnel, on the side from the corner beyond the diagonal to its right end, or to its left end.
 
 -- ---- the points beside the ends of the next funnel on the left
 

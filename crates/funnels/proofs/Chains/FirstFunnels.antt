@@ -1,4 +1,5 @@
 -- A walk begins in a triangle of a mesh: its points see each other and its sides, and with no points before the apex nothing bends.
+-- A walk begins in a triangle with a source s: the open funnel of s at a side of the triangle that is shared.
 use Rattle.std.proofs.Common.{◌≡◌, inl, inr, subst, List, [], ◌∷◌, length, ℕ, zero, suc, ◌+◌, ◌-◌, ◌<◌, ◌≤◌, arith, refl, ◌∙◌, sym, ap}
 use Rattle.std.proofs.Common.{true, false, pos, ◌≤ℤ◌}
 use Rattle.plane.proofs.Points.{whole_is_point}
@@ -107,8 +108,6 @@ module _ (corners : List Point) (tris : List Tri) (fits : Fits corners tris) (k 
                 (whole_is_point (point_at ns e)) (all (e - 1) (omega arith)) (all e less))
           ];
         }
-
--- A walk begins in a triangle with a source s: the open funnel of s at a side of the triangle that is shared.
 
 module _ (corners : List Point) (tris : List Tri) (fits : Fits corners tris) (k i j c : ℕ) (within : k < length tris)
     (side : HasSide (tri_at tris k) j i) (next : HasSide (tri_at tris k) i c) (last : HasSide (tri_at tris k) c j)

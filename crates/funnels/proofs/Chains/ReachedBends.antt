@@ -1,4 +1,7 @@
 -- The bend on the way to a point that is reached from a place of a funnel off its apex, where the place is no end.
+-- The way to a point beyond the diagonal bends at the point of the funnel from which it is reached, be that the apex or not.
+-- The step from an open funnel to the next, over one of the two sides from the corner beyond the diagonal: the point of the funnel that
+-- the corner is reached from sees it, and the way there bends at that point.
 use Rattle.std.proofs.Common.{◌≡◌, inl, inr, true, false, refl, ap, List, length, ℕ, ◌+◌, ◌-◌, ◌<◌, arith, ◌⊎◌, Bool, sym, subst, pos, ◌<ℤ◌}
 use Rattle.std.proofs.Common.{◌≤ℤ◌, [], ◌∷◌, ◌++◌, drop, take, min}
 use Rattle.std.proofs.lemmas.Bool.{cases_lt}
@@ -54,8 +57,6 @@ module _ (ring before ns : List Point) (a : ℕ) (l r : Point) (f : IsFunnel ns 
       (back_of_right x v y (right_of_way ns a l r f h (whole y) reached on_right))
       (opposite_not_positive (at_least_unless ((window_of_reached ns a h (whole y) reached).not_right v z more
       (inr (omega arith, ap (point_at ns) e, refl)))))
-
--- The way to a point beyond the diagonal bends at the point of the funnel from which it is reached, be that the apex or not.
 
 -- the way from q over v bends at v on the way to y, and turns there on this side
 abbrev pub BendsTo : Bool → List Point → Point → Point → Point → Type 0
@@ -215,9 +216,6 @@ module _ (corners : List Point) (tris : List Tri) (fits : Fits corners tris) (k 
         let (side, is, bends) =
         apex_bends corners tris fits k i j m within first next last shared before ns a f bent ends y inside at_apex not_apex x comes in
         subst (λ n. IsBend corners x (point_at ns n) y) (sym same) bends.1
-
--- The step from an open funnel to the next, over one of the two sides from the corner beyond the diagonal: the point of the funnel that
--- the corner is reached from sees it, and the way there bends at that point.
 
 module _ (corners : List Point) (tris : List Tri) (fits : Fits corners tris) (k i j m : ℕ) (within : k < length tris)
     (first : HasSide (tri_at tris k) i j) (second : HasSide (tri_at tris k) j m) (third : HasSide (tri_at tris k) m i)

@@ -1,4 +1,5 @@
 -- The way from a source over the apex of a funnel to one of its points: which point comes before that one.
+-- The chain from a source over the apex of a funnel goes on to each of its points, and to what is seen from there.
 use Rattle.std.proofs.Common.{◌≡◌, ◌⊎◌, inl, inr, sym, subst, ap, ◌∙◌, List, [], ◌∷◌, ◌++◌, ℕ, zero, suc, ◌+◌, ◌-◌, ◌<◌, ◌≤◌, min, arith}
 use Rattle.std.proofs.Common.{refl, length, max}
 use Rattle.std.proofs.lemmas.Bool.{cases_lt}
@@ -108,8 +109,6 @@ module _ (ns : List Point) where
               | inr same ↦ inr (inr (omega arith, before_apex_right same rest))
             ]
       ]
-
--- The chain from a source over the apex of a funnel goes on to each of its points, and to what is seen from there.
 
 module _ (ring ns : List Point) (a : ℕ) (l r : Point) (f : IsFunnel ns a l r) (sight : IsOpenSight ring ns a l r)
     (before : List Point) (bent : IsBentFunnel ring before ns a) where

@@ -1,4 +1,6 @@
 -- A counterclockwise triangle at its side from l to r: its points are on the side, or right of the way from r to l.
+-- What the points of a funnel see: beyond the diagonal what is in their windows, in the triangle behind it too, and so the points of the next
+-- funnel what is in their windows on the two other sides of the triangle.
 use Rattle.std.proofs.Common.{◌≡◌, ◌⊎◌, inl, inr, subst, List, ℕ, pos, ◌<ℤ◌, sym, length, ◌+◌, ◌<◌, arith, ap, ◌∙◌, [], ◌∷◌, ◌++◌, take}
 use Rattle.std.proofs.Common.{drop, ◌-◌, min}
 use Rattle.std.proofs.lemmas.Bool.{cases_eq, cases_lt}
@@ -55,9 +57,6 @@ module _ (corners : List Point) (t : Tri)
   -- and by its ends
   pub is_behind : (l r : Point) → vertex corners i ≡ l → vertex corners j ≡ r → IsBehind corners t l r
   is_behind l r e f = subst (λ p. IsBehind corners t p r) e (subst (λ q. IsBehind corners t (vertex corners i) q) f at_side)
-
--- What the points of a funnel see: beyond the diagonal what is in their windows, in the triangle behind it too, and so the points of the next
--- funnel what is in their windows on the two other sides of the triangle.
 
 -- a triangle that is in the ring has a side from l to r
 module _ (corners ring : List Point) (t : Tri) (inside : (z : Triple) → IsPoint z → IsInTri corners t z → IsIn ring z)

@@ -1,4 +1,5 @@
 -- A vertex of the ring in a closed triangle of a mesh is a corner of it.
+-- The corners of a triangle of a mesh beside one of them.
 use Rattle.std.proofs.Common.{◌≡◌, ◌⊎◌, inl, inr, true, refl, sym, subst, ℕ, ◌<◌, ℤ, pos, ◌<ℤ◌, ◌≤ℤ◌, List, length, arith, Bool, false}
 use Rattle.std.proofs.lemmas.Int.{ints}
 use Rattle.std.specs.List.{Contains}
@@ -89,8 +90,6 @@ module _ (corners : List Point) (piece : List ℕ) (tris : List Tri) (fits : Fit
           ]
         ]
       ]
-
--- The corners of a triangle of a mesh beside one of them.
 
 -- a triangle with two sides one after the other has the third
 third_side : (a b c x y z : ℕ) → ¬ (a ≡ b) → ¬ (b ≡ c) → ¬ (c ≡ a) → HasSide (record { a = a; b = b; c = c }) x y

@@ -1,4 +1,7 @@
 -- A point that a corner of a triangle of a mesh sees across the opposite side is within the angle of the triangle there.
+-- Within the angle of a triangle of a mesh at a corner: a ring neighbour of the corner there is the end of a side, along which the ring goes
+-- as the triangle does, and so there is no bend between two rays.
+-- The closed cone between two rays within the angle of a triangle is within it.
 use Rattle.std.proofs.Common.{◌≡◌, ◌⊎◌, inl, inr, Bool, true, subst, ℕ, ◌<◌, List, length, arith, ℤ, pos, ◌+ℤ◌, ◌-ℤ◌, ◌*ℤ◌, ◌<ℤ◌, ◌≤ℤ◌}
 use Rattle.std.proofs.Common.{false, sym, ap, ◌∙◌, ◌+◌}
 use Rattle.std.proofs.lemmas.Int.{ints}
@@ -98,8 +101,6 @@ module _ (corners : List Point) (tris : List Tri) (fits : Fits corners tris) (k 
       let on_sides = subst (λ n. On z (whole (vertex corners before)) (whole (vertex corners n))) e.1 on_side in
       seen_across y differs z at_z on (on_reversed z (whole (vertex corners before)) (whole (vertex corners after)) on_sides)
 
--- The closed cone between two rays within the angle of a triangle is within it.
-
 -- ---- numbers
 
 -- a factor of a sum of two products that are not negative
@@ -134,9 +135,6 @@ module _ (corners : List Point) (before v after : ℕ) where
       within_between q p u in_q in_p (turned_positive (determinant_swap_last V p q) h.0)
       (turned_not_negative (determinant_swap_last V u q) (at_most_unless h.2))
       (turned_not_negative (determinant_swap_last V p u) (at_most_unless h.1))
-
--- Within the angle of a triangle of a mesh at a corner: a ring neighbour of the corner there is the end of a side, along which the ring goes
--- as the triangle does, and so there is no bend between two rays.
 
 -- neighbour u of corner v is the corner after it in a triangle, or the one before it, and so it is in the ring
 abbrev pub IsBesideCorner : Bool → List Point → (before v after : ℕ) → Point → Type 0

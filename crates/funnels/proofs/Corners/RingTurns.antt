@@ -1,4 +1,6 @@
 -- The edges of a piece as edges of its points, and a vertex on a side of a triangle.
+-- The edges of a ring by the numbers of their ends, and the neighbours of a vertex on one ray.
+-- The turn of a ring at a vertex from which one of its edges is known.
 use Rattle.std.proofs.Common.{◌≡◌, ◌⊎◌, inl, inr, ap, subst, sym, ◌∙◌, ℕ, ◌+◌, ◌%◌, ◌<◌, List, length, get_or, arith, refl, Bool, true}
 use Rattle.std.proofs.Common.{false, ◌≤◌, not, ◌-◌, pos, ◌≤ℤ◌}
 use Rattle.std.proofs.Math.Nat.{mod-lt, mod-eq_of_lt}
@@ -57,8 +59,6 @@ module _ (corners : List Point) (piece : List ℕ) (tris : List Tri) (fits : Fit
             end_of_side corners piece tris (paved fits) i j k l s p.first p.second p.covered x contains on
       ]
 
--- The edges of a ring by the numbers of their ends, and the neighbours of a vertex on one ray.
-
 -- the ring goes from corner i to corner j; or, on the other side, in the other direction
 abbrev pub IsRingStep : Bool → List Point → ℕ → ℕ → Type 0
 IsRingStep true corners i j = IsPieceEdge (range_with_len 0 (length corners)) i j
@@ -104,8 +104,6 @@ one_on_ray ring simple three r h u w n m ray =
         | inr f ↦ e ∙ sym f
       ]
     ]
-
--- The turn of a ring at a vertex from which one of its edges is known.
 
 module _ (ring : List Point) (simple : IsSimple ring) (three : 3 ≤ length ring) (r : ℕ) (h : r < length ring) where
   -- the vertex to which the ring goes from this one, on either side, is the one beside it,

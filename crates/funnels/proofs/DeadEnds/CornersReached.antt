@@ -1,5 +1,6 @@
 -- Ways at a corner of a triangle of a walk: the ray to a point in sight in an earlier triangle is in the angle there, how a way comes to the
 -- corner at the end of a walk, and how one leaves it at the start.
+-- A walk to where a chain goes after a bend begins with the walk to the bend, and goes on over a side there.
 use Rattle.std.proofs.Common.{◌≡◌, inl, inr, subst, Bool, ℕ, ◌+◌, ◌-◌, ◌≤◌, List, length, get_or, arith, ◌⊎◌, true, ◌<◌, drop, sym, ap, ◌∙◌}
 use Rattle.std.proofs.Common.{◌++◌, length-append}
 use Rattle.std.proofs.lemmas.Bool.{cases_lt}
@@ -189,8 +190,6 @@ module _ (corners : List Point) (tris : List Tri) (fits : Fits corners tris) whe
               let c : CrossesSide tris walk l share.i share.j = record { has_next = next; of_this = inl share.of_first; of_next = share.of_second } in
               arrives_over m earlier inside l share.i share.j (omega arith) c (comes_opposite l share.i share.j (omega arith) c)
         ]
-
--- A walk to where a chain goes after a bend begins with the walk to the bend, and goes on over a side there.
 
 -- the walk begins with this front, and then crosses a side at v
 pub record GoesOnAt (tris : List Tri) (front walk : List ℕ) (v : ℕ) : Type 0 where

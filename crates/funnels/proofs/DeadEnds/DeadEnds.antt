@@ -1,4 +1,6 @@
 -- The first points of a chain along a walk of triangles, and one more.
+-- A chain with bends in a ring that triangles fit does not end where it begins, unless it is a single point.
+-- A chain with bends follows each walk of triangles from a triangle with its first point to one with its last: it enters no dead end.
 use Rattle.std.proofs.Common.{◌≡◌, ◌⊎◌, inl, inr, refl, sym, subst, ap, ◌∙◌, ℕ, suc, ◌+◌, ◌-◌, ◌<◌, ◌≤◌, List, length, arith, zero, get_or}
 use Rattle.std.proofs.Common.{take, [], ◌∷◌}
 use Rattle.std.proofs.lemmas.Bool.{cases_lt}
@@ -111,8 +113,6 @@ module _ (corners : List Point) (tris : List Tri) (chain : List Point) (walk fro
   -- so one more point goes along
   pub one_more : FollowsTo corners tris walk chain (suc (suc (suc n)))
   one_more = record { place = continued t.place (suc (suc n)) m; first = more_first; rises = more_rises; leaves = more_leaves }
-
--- A chain with bends follows each walk of triangles from a triangle with its first point to one with its last: it enters no dead end.
 
 module _ (corners : List Point) (tris : List Tri) (fits : Fits corners tris) (chain : List Point) (bent : IsBentChain corners chain) where
   -- the last point of two on a walk
@@ -230,8 +230,6 @@ dead_ends corners tris fits walk w chain bent in_first in_last k inner =
       omega (arith, c.has_next),
       corner_by_number corners (walk_tri tris walk (t.place k)) i (point_at chain k) is (corner_between (walk_tri tris walk (t.place k)) i j c.of_this),
     )
-
--- A chain with bends in a ring that triangles fit does not end where it begins, unless it is a single point.
 
 -- one triangle is a walk
 single_walk : (tris : List Tri) (k : ℕ) → k < length tris → IsWalk tris (k ∷ [])

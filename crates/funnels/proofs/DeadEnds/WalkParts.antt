@@ -1,4 +1,5 @@
 -- Parts of a walk over triangles, and the first of its triangles with a point.
+-- Parts of a walk: they are walks, and points that see each other do so over each side that the walk crosses between their triangles.
 use Rattle.std.proofs.Common.{◌≡◌, ◌⊎◌, inl, inr, sym, subst, ap, ◌∙◌, ℕ, zero, suc, ◌+◌, ◌<◌, ◌≤◌, List, length, get_or, take, drop, arith}
 use Rattle.std.proofs.Common.{◌-◌}
 use Rattle.std.proofs.lemmas.Bool.{cases_lt}
@@ -127,8 +128,6 @@ module _ (corners : List Point) (tris : List Tri) (walk : List ℕ) (x : Triple)
     | inl less ↦ absurd (g.least m less f.has)
     | inr more ↦ elim (cases_lt n m) [ inl less ↦ absurd (f.least n less g.has) | inr other ↦ omega arith ]
   ]
-
--- Parts of a walk: they are walks, and points that see each other do so over each side that the walk crosses between their triangles.
 
 -- the part of a list from place k to place l
 abbrev pub part_of : List ℕ → ℕ → ℕ → List ℕ

@@ -1,4 +1,7 @@
 -- The line of an edge at a point off a diagonal does not go through both ends of the diagonal.
+-- The way from a point to one beyond a diagonal, between the lines of two edges at the point, crosses the diagonal between them.
+-- How far four points are from a line, points on one line, and a point on the line of a diagonal: on which sides of the ways from it to the
+-- ends the points beyond the diagonal are.
 use Rattle.std.proofs.Common.{◌≡◌, ◌⊎◌, inl, inr, sym, ap, subst, ℤ, pos, ◌+ℤ◌, ◌-ℤ◌, ◌*ℤ◌, arith, ◌<ℤ◌, ◌≤ℤ◌}
 use Rattle.std.proofs.lemmas.Int.{ints}
 use Rattle.integer_algebra.proofs.Certificate.{product_zero}
@@ -65,9 +68,6 @@ equal_ends n u w l r (inl e) left on_l on_r = no_way u w l r (subst (λ p. IsLef
 equal_ends n u w l r (inr e) left on_l on_r =
     sym (no_way w u l r (subst (λ p. IsLeft (whole r) (whole l) (whole p)) e left)
     (straight_swap_first (whole u) (whole w) (whole l) on_l) (straight_swap_first (whole u) (whole w) (whole r) on_r))
-
--- How far four points are from a line, points on one line, and a point on the line of a diagonal: on which sides of the ways from it to the
--- ends the points beyond the diagonal are.
 
 -- factors 1 may be left out
 drop_ones : (A B C D : ℤ) → A *ℤ pos 1 -ℤ B *ℤ pos 1 +ℤ C *ℤ pos 1 -ℤ D ≡ pos 0 → A -ℤ B +ℤ C -ℤ D ≡ pos 0
@@ -177,8 +177,6 @@ module _ (l r n : Point) (flat : height l r (whole n) ≡ pos 0) where
               (λ h. not_both_positive h (rw (← determinant_shift z (whole n) (whole l)) not_left))))
         ]
       ]
-
--- The way from a point to one beyond a diagonal, between the lines of two edges at the point, crosses the diagonal between them.
 
 -- ---- numbers
 

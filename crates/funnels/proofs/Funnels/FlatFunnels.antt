@@ -1,4 +1,5 @@
 -- Points of a funnel without height: they are between the ends of the diagonal, but for an apex that sees nothing beyond.
+-- An apex without height is on the diagonal, or nothing beyond the diagonal is in its window.
 use Rattle.std.proofs.Common.{◌≡◌, inl, inr, sym, subst, List, length, ℕ, zero, suc, ◌+◌, ◌-◌, ◌<◌, ◌≤◌, ℤ, pos, ◌<ℤ◌, ◌≤ℤ◌, add-one, arith}
 use Rattle.std.proofs.Common.{◌⊎◌, refl, ap}
 use Rattle.std.proofs.lemmas.Bool.{cases_lt}
@@ -115,8 +116,6 @@ module _ (ns : List Point) (a : ℕ) (l r : Point) (f : IsFunnel ns a l r) where
         let same : i - 1 + 1 ≡ i = omega arith in
         subst (IsOnDiagonal ns l r) same (on_at_right (i - 1) (omega arith) (omega arith) (subst (IsFlat ns l r) (sym same) e))
   ]
-
--- An apex without height is on the diagonal, or nothing beyond the diagonal is in its window.
 
 module _ (ns : List Point) (a : ℕ) (l r : Point) (f : IsFunnel ns a l r) (flat : height l r (whole (point_at ns a)) ≡ pos 0) where
   -- beside the apex is the left end of the diagonal,

@@ -1,4 +1,5 @@
 -- Between two points that are not left of a line no point is left of it; and none is right of it between two that are not.
+-- A way from a point left of a line to one right of it crosses the line; weights of the points of a line.
 use Rattle.std.proofs.Common.{◌≡◌, sym, ap, ◌∙◌, ℤ, pos, ◌+ℤ◌, ◌-ℤ◌, ◌*ℤ◌, neg_ℤ}
 use Rattle.integer_algebra.proofs.SignSteps.{at_least_unless, at_most_unless, not_both, not_both_positive, weak, weak_order}
 use Rattle.plane.proofs.Meetings.{no_value, weights_apart, zero_combination, zero_point}
@@ -19,8 +20,6 @@ module _ (s t x a b : Triple) (at_x : IsPoint x) (at_a : IsPoint a) (at_b : IsPo
   -- and where they are not right of it, none is
   pub not_right_along : ¬ IsRight s t a → ¬ IsRight s t b → ¬ IsRight s t x
   not_right_along ha hb right = not_both right (not_right_between s t x a b at_x at_a at_b (at_least_unless ha) (at_least_unless hb) on)
-
--- A way from a point left of a line to one right of it crosses the line; weights of the points of a line.
 
 -- ---- where the way crosses the line
 

@@ -1,5 +1,6 @@
 -- The two next funnels, of the diagonals from a point beyond to the right end and from the left end to it: the point, and the points from the
 -- place that it is reached from, or those to that place.
+-- On the side from an end of the diagonal to m the window of an old point in the next funnel is within its old window.
 use Rattle.std.proofs.Common.{◌≡◌, refl, inl, inr, sym, subst, ◌∙◌, List, ◌∷◌, length, drop, ℕ, ◌+◌, ◌-◌, ◌<◌, ◌≤◌, pos, ◌<ℤ◌, arith, ◌++◌}
 use Rattle.std.proofs.Common.{take, min, []}
 use Rattle.std.proofs.lemmas.Bool.{cases_lt}
@@ -208,8 +209,6 @@ module _ (ns : List Point) (a : ℕ) (l r : Point) (f : IsFunnel ns a l r) (h : 
         opening = λ some _. opening_right ks count old new some;
         reaches = reaches_next_right;
       }
-
--- On the side from an end of the diagonal to m the window of an old point in the next funnel is within its old window.
 
 module _ (ns : List Point) (a : ℕ) (l r : Point) (f : IsFunnel ns a l r)
     (m : Point) (h : ℕ) (reached : IsReachedFrom ns a h (whole m)) where

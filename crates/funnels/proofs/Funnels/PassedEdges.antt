@@ -1,4 +1,7 @@
 -- The two edges at the apex of a funnel: no point that is not above the diagonal is left of the left one and right of the right one.
+-- Where the way to a point that is not above the diagonal passes an edge of a funnel, it passes all edges before it: those to the place
+-- from which the point is reached, and no others.
+-- On which side of the way over a place of a funnel a point is that is reached from there, where the place is not the apex.
 use Rattle.std.proofs.Common.{◌≡◌, refl, sym, subst, List, length, ℕ, ◌+◌, ◌-◌, ◌<◌, pos, ◌≤ℤ◌, arith, ◌⊎◌, inl, inr, zero, suc, ◌≤◌}
 use Rattle.std.proofs.lemmas.Bool.{cases_lt}
 use Rattle.integer_algebra.proofs.SignSteps.{negative_not_zero, positive_not_zero, not_both_positive}
@@ -45,9 +48,6 @@ module _ (ns : List Point) (i : ℕ) (l r : Point) (f : IsFunnel ns (i + 1) l r)
       let flat = flat_where_level same in
       not_ends p o q l r y at_y above low (opening_by_points h) left right (left_of_apex ns (i + 1) l r f flat i refl)
       (right_of_apex ns (i + 1) l r f flat h)
-
--- Where the way to a point that is not above the diagonal passes an edge of a funnel, it passes all edges before it: those to the place
--- from which the point is reached, and no others.
 
 -- ---- the test of one edge
 
@@ -145,8 +145,6 @@ module _ (ns : List Point) (a : ℕ) (l r : Point) (f : IsFunnel ns a l r) (y : 
     -- and none after it
     pub not_passed_from : (j : ℕ) → h < j → j < length ns → ¬ IsPassed ns a j y
     not_passed_from j after within passed = reached.not_passed (omega arith) (passed_each_before h j after within passed)
-
--- On which side of the way over a place of a funnel a point is that is reached from there, where the place is not the apex.
 
 module _ (ns : List Point) (a : ℕ) (l r : Point) (f : IsFunnel ns a l r) (h : ℕ) (y : Triple) (reached : IsReachedFrom ns a h y) where
   -- from a place of the left chain the point is left of the way over that place,

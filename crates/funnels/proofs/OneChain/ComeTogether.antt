@@ -1,4 +1,5 @@
 -- The last step of a chain with bends along a walk, over the last side that the walk crosses.
+-- In a ring that triangles fit, two chains with bends between two points come to the last one on one ray.
 use Rattle.std.proofs.Common.{◌≡◌, ◌⊎◌, inl, inr, sym, subst, ap, ◌∙◌, true, ℕ, ◌+◌, ◌-◌, ◌<◌, ◌≤◌, List, length, get_or, arith, refl, pos}
 use Rattle.std.proofs.lemmas.Bool.{cases_lt}
 use Rattle.std.specs.List.{range_with_len}
@@ -93,8 +94,6 @@ module _ (corners : List Point) (tris : List Tri) (fits : Fits corners tris) (wa
     end_is_right =
         let (third, corner) = corner_there in
         right_of_side corners tris fits (get_or walk (length walk - 1) 0) last_in_list i j third corner t ends.has off_side
-
--- In a ring that triangles fit, two chains with bends between two points come to the last one on one ray.
 
 module _ (corners : List Point) (tris : List Tri) (fits : Fits corners tris) (walk : List ℕ) (w : IsWalk tris walk) (t : Point)
     (ends : IsFirstWith corners tris walk (whole t) (length walk - 1)) where

@@ -1,4 +1,6 @@
 -- A bend read backward, and one where a point beside it is another one on the same ray.
+-- In a ring where two chains with bends that end at one point have come to it on one ray, such chains between two points are equal.
+-- The front of a chain with bends, and a chain with bends whose last step is shorter.
 use Rattle.std.proofs.Common.{inl, inr, true, List, ◌≡◌, sym, subst, ap, ◌∙◌, ◌+◌, ◌-◌, ◌<◌, ◌≤◌, [], ◌∷◌, ◌++◌, length, take, arith, ◌⊎◌}
 use Rattle.std.proofs.Common.{ℕ, zero, suc}
 use Rattle.std.proofs.lemmas.Bool.{cases_lt}
@@ -65,8 +67,6 @@ bend_back ring p v q bend = record {
 -- and one from a point of a ray is one from another
 pub bend_from_ray : (ring : List Point) (p r v q : Point) → AreOnRay (whole v) (whole p) (whole r) → IsBend ring p v q → IsBend ring r v q
 bend_from_ray ring p r v q ray bend = bend_back ring q v r (bend_on_ray ring q v p r ray (bend_back ring p v q bend))
-
--- The front of a chain with bends, and a chain with bends whose last step is shorter.
 
 -- the last point of a chain, and the one before it
 abbrev pub last_of : List Point → Point
@@ -144,8 +144,6 @@ module _ (ring : List Point) (one : List Point) (bent : IsBentChain ring one) (l
   shorter_step some inside =
       chain_more (front one) p q (front_last one long) ring (front_bent one (length one - 1) (omega arith) ring (omega arith) bent) sees_between differ
       inside bend_there
-
--- In a ring where two chains with bends that end at one point have come to it on one ray, such chains between two points are equal.
 
 -- two chains of two points or more between the same points come to the last one on one ray
 abbrev pub ComeOnOneRay : List Point → Type 0

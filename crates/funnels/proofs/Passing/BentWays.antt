@@ -1,4 +1,6 @@
 -- How far two ways open, where one of them bends: over plain integers, and for the ways.
+-- What is ahead of a way, along a segment: which of its ends is, where a point of it is on the way, and what is farther along another way.
+-- Two ways that pass a diagonal do so in the mirror image, in the other order.
 use Rattle.std.proofs.Common.{◌≡◌, Bool, true, false, not, [], ◌∷◌, refl, ap, ℕ, ◌+◌, ◌*◌, ℤ, pos, ◌+ℤ◌, ◌-ℤ◌, ◌*ℤ◌, ◌<ℤ◌, ◌≤ℤ◌, arith, sym}
 use Rattle.std.proofs.Common.{subst, List, ◌∙◌, neg_ℤ}
 use Rattle.std.proofs.lemmas.Int.{ints}
@@ -70,8 +72,6 @@ module _ (p h y q g f : Point) where
       → pos 0 <ℤ turning (not side) q (whole g) (whole h) → turning (not side) q (whole g) (whole f) ≤ℤ pos 0 → pos 0 <ℤ opening side h y q g
   opens side = opens_still _ _ _ _ _ _ _ (related side)
 
--- Two ways that pass a diagonal do so in the mirror image, in the other order.
-
 -- from the other side, in the other order, two ways open as before
 pub opening_not : (side : Bool) (p h q g : Point) → opening (not side) q g p h ≡ opening side p h q g
 opening_not true p h q g =
@@ -102,8 +102,6 @@ pub flipped_back : (side : Bool) {corners : List Point} {far own : ℕ} {p h : P
     → ArePassing (not side) corners own far q g J z p h I x → ArePassing side corners far own p h I x q g J z
 flipped_back true passing = flipped {side = false} passing
 flipped_back false passing = flipped {side = true} passing
-
--- What is ahead of a way, along a segment: which of its ends is, where a point of it is on the way, and what is farther along another way.
 
 -- ---- a mean of two numbers
 

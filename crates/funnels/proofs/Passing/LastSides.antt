@@ -1,4 +1,6 @@
 -- At a bend of a way that has come to a corner over a shared side, and goes on within the triangle beyond, it turns away from the side.
+-- Two ways to a point of a triangle over a side of it, the one to the right of the other, pass that side each ahead of the other; neighbours of
+-- a corner behind such a way are behind the side.
 use Rattle.std.proofs.Common.{◌≡◌, ◌⊎◌, inl, inr, sym, subst, Bool, true, false, not, ℕ, ◌+◌, ◌-◌, ◌<◌, pos, ◌<ℤ◌, ◌≤ℤ◌, List, length}
 use Rattle.integer_algebra.proofs.SignSteps.{not_both_positive, positive_of_not_zero, turned_negative, turned_not_negative, turned_positive}
 use Rattle.integer_algebra.proofs.SignSteps.{turned_zero, weak, zero_of_both, opposite_positive}
@@ -165,9 +167,6 @@ module _ (corners : List Point) (tris : List Tri) (fits : Fits corners tris) (si
     | is_zero h ↦ absurd (bend.turns (turning_straight side (vertex corners own) (whole y) (whole p) h))
     | is_positive h ↦ absurd (no_bend h)
   ]
-
--- Two ways to a point of a triangle over a side of it, the one to the right of the other, pass that side each ahead of the other; neighbours of
--- a corner behind such a way are behind the side.
 
 module _ (corners : List Point) (tris : List Tri) (fits : Fits corners tris) (side : Bool) (k third own far : ℕ)
     (in_list : k < length tris) (corner : HasCornerOn side (tri_at tris k) third own far) (shared : IsSharedSide tris own far) where

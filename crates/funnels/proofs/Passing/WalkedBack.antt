@@ -1,4 +1,6 @@
 -- Two ways that pass a diagonal and part still do so where one of them has a bend at its end of the diagonal.
+-- Two chains that pass a side that a walk crosses, each ahead of the other: what is known of them there, and how it stays so where one
+-- of them has a bend.
 use Rattle.std.proofs.Common.{◌≡◌, ◌∙◌, Bool, not, sym, subst, ℕ, ◌<◌, pos, ◌<ℤ◌, ◌≤ℤ◌, List, length, ◌⊎◌, inl, inr, ap, true, false, zero}
 use Rattle.std.proofs.Common.{suc, ◌+◌, ◌-◌, ◌≤◌, get_or, arith}
 use Rattle.std.proofs.lemmas.Bool.{cases_lt}
@@ -105,9 +107,6 @@ module _ (corners : List Point) (tris : List Tri) (fits : Fits corners tris) (si
         (whole_is_point (vertex corners own)) (whole_is_point (vertex corners far)) passing.other.on_way passing.other.on_side
         passing.other.far_ahead);
   }
-
--- Two chains that pass a side that a walk crosses, each ahead of the other: what is known of them there, and how it stays so where one
--- of them has a bend.
 
 -- a side in the mirror image
 side_flipped : (side : Bool) (t : Tri) (far own : ℕ) → HasSideOn side t far own → HasSideOn (not side) t own far

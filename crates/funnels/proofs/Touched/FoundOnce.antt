@@ -1,4 +1,5 @@
 -- Whether a point is ahead on the way to the next point of a chain; parts of a segment between whole points.
+-- A chain with bends in a simple ring comes to no point twice, so a search finds no vertex twice.
 use Rattle.std.proofs.Common.{◌≡◌, ◌⊎◌, inl, inr, ℕ, ◌+◌, List, length, arith, refl, sym, subst, ap, ◌∙◌, ◌-◌, ◌<◌, ◌≤◌, [], ◌∷◌, ◌++◌}
 use Rattle.std.proofs.Common.{take}
 use Rattle.std.proofs.lemmas.Bool.{cases_lt}
@@ -54,8 +55,6 @@ module _ (a b p q : Point) where
 -- only a point is between it and itself
 pub only_point : (a p : Point) → On (whole p) (whole a) (whole a) → p ≡ a
 only_point a p on = nearer_each a p a on (on_first_end (whole a) (whole p))
-
--- A chain with bends in a simple ring comes to no point twice, so a search finds no vertex twice.
 
 -- u is on the step of the chain from place m on, and not where it begins
 pub record IsOnStep (chain : List Point) (m : ℕ) (u : Point) : Type 0 where

@@ -1,4 +1,6 @@
 -- Left of an edge of a ring that runs clockwise: not all points near the middle of the edge, toward a point on its left, are in the ring.
+-- Right of an edge, near an end of it, nothing is in a ring where no edge at that end is right of this one; so at a vertex that is not reflex
+-- the ring is in the half-planes of both edges.
 use Rattle.std.proofs.Common.{◌≡◌, ◌⊎◌, inl, inr, sym, subst, ℕ, ◌+◌, ◌<◌, ℤ, pos, negsuc, ◌+ℤ◌, List, ◌∷◌, ◌++◌, length, arith, ◌≤ℤ◌, refl}
 use Rattle.std.proofs.Common.{le_refl, ◌-◌, ◌≤◌}
 use Rattle.std.proofs.lemmas.Int.{ints}
@@ -74,9 +76,6 @@ not_clockwise ring apart some e has c left inside winds =
     left_is_out ring winds rest.before rest.after e rest.are (toward m (whole c) n) (toward m q n) (toward_is_point m (whole c) at_m at_c n)
     (toward_is_point m q at_m at_q n) (between.from_start n (omega arith)) (across.from_start n (omega arith))
     (inside.from_start n (omega arith))
-
--- Right of an edge, near an end of it, nothing is in a ring where no edge at that end is right of this one; so at a vertex that is not reflex
--- the ring is in the half-planes of both edges.
 
 -- ---- right of an edge, near an end of it
 

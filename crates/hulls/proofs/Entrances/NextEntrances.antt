@@ -1,4 +1,6 @@
 -- From a triangle that is entered over a side, its neighbours at the two other sides are entered with the next funnel.
+-- From the last triangle of a trail over a shared side to a neighbour: back to the triangle before, or on to one more. The points of the side
+-- have the same gates there.
 use Rattle.std.proofs.Common.{◌≡◌, inl, inr, refl, sym, subst, ap, ◌∙◌, List, [], ◌∷◌, ◌++◌, length, drop, take, min, ℕ, ◌+◌, ◌-◌, ◌<◌, pos}
 use Rattle.std.proofs.Common.{◌<ℤ◌, arith}
 use Rattle.std.proofs.lemmas.Bool.{cases_lt}
@@ -137,9 +139,6 @@ module _ (corners : List Point) (tris : List Tri) (fits : Fits corners tris) (b 
             between.rational between.on between.not_first j from_z in
             (i, next, same ∙ is);
       }
-
--- From the last triangle of a trail over a shared side to a neighbour: back to the triangle before, or on to one more. The points of the side
--- have the same gates there.
 
 module _ (corners : List Point) (tris : List Tri) (b : Point) (home : ℕ) where
   -- each point has a gate in the last triangle of a trail

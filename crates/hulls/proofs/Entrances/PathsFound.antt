@@ -1,4 +1,7 @@
 -- Along each walk over the triangles of a mesh from one with a point b goes a trail, so there is one to each triangle.
+-- A simple ring and the ring that is kept of it, counterclockwise, have the same paths; so in a simple ring there is a path between each two
+-- points.
+-- The gate of a point comes before it on the path from b, where it is another point; so there is a path to each point of the ring.
 use Rattle.std.proofs.Common.{◌≡◌, sym, subst, ◌∙◌, List, [], length, get_or, ℕ, zero, suc, ◌+◌, ◌-◌, ◌<◌, add-one, arith, inl, inr, ◌∷◌}
 use Rattle.std.proofs.Common.{◌++◌, ◌⊎◌}
 use Rattle.std.specs.List.{range_with_len}
@@ -59,8 +62,6 @@ trail_to corners tris fits b home within in_b k below =
     let (trail, is, leads) = trail_along corners tris fits one.walk one.between.is_walk b home in_b one.between.first (length one.walk - 1)
     (omega (arith, some)) in
     (trail, is, leads ∙ one.between.last)
-
--- The gate of a point comes before it on the path from b, where it is another point; so there is a path to each point of the ring.
 
 module _ (corners : List Point) (tris : List Tri) (fits : Fits corners tris) (b : Point) (home : ℕ) (within : home < length tris)
     (in_b : IsInTri corners (tri_at tris home) (whole b)) where
@@ -128,9 +129,6 @@ path_between corners tris fits b y inside_b inside_y =
     let (k, below, in_y) = some_triangle corners tris fits (whole y) (whole_is_point y) inside_y in
     let (trail, is, leads) = trail_to corners tris fits b home within in_b k below in
     path_on corners tris fits b home within in_b trail is y (subst (λ n. IsInTri corners (tri_at tris n) (whole y)) (sym leads) in_y) inside_y
-
--- A simple ring and the ring that is kept of it, counterclockwise, have the same paths; so in a simple ring there is a path between each two
--- points.
 
 -- what is said of the ring that is kept holds of the ring, if it goes from a ring turned round to the ring
 pub of_kept : (ring kept : List Point) → (kept ≡ ring) ⊎ (kept ≡ turned_round ring) → (P : List Point → Type 0)

@@ -1,5 +1,6 @@
 -- Trails of triangles from one that has a point b: each is entered over a side, where b has a funnel, and the gate of a point beyond the side
 -- is the point of the funnel from which it is reached.
+-- The funnel of a point at a side of the triangle that has it: from which place a point of the side is reached.
 use Rattle.std.proofs.Common.{◌≡◌, ◌⊎◌, ℕ, ◌<◌, List, [], ◌∷◌, ◌++◌, length, inl, inr, refl, ◌∙◌, zero, suc, arith}
 use Rattle.std.proofs.lemmas.Int.{ints}
 use Rattle.integer_algebra.proofs.SignSteps.{at_least_unless, not_both, not_both_positive, zero_not_negative, zero_not_positive}
@@ -107,8 +108,6 @@ pub record HasEntrance (corners : List Point) (tris : List Tri) (b : Point) (hom
   pub right : entrance.right ≡ r
   pub entered : IsEntered corners tris b (last_of home trail) entrance
   pub keeps : KeepsGates corners b trail entrance
-
--- The funnel of a point at a side of the triangle that has it: from which place a point of the side is reached.
 
 -- ---- names
 

@@ -1,4 +1,5 @@
 -- Each point past a diagonal is reached from one place of its funnel.
+-- Two points past a diagonal, reached from two places of its funnel: the places from the one to the other are right of the way between them.
 use Rattle.std.proofs.Common.{◌≡◌, ◌⊎◌, inl, inr, List, length, ℕ, zero, suc, ◌+◌, ◌-◌, ◌<◌, pos, ◌≤ℤ◌, arith, sym, subst, ◌≤◌, ℤ, ◌<ℤ◌}
 use Rattle.std.proofs.lemmas.Bool.{cases_lt}
 use Rattle.std.proofs.lemmas.Int.{ints}
@@ -70,8 +71,6 @@ module _ (ns : List Point) (a : ℕ) (l r : Point) (f : IsFunnel ns a l r) (z : 
 pub one_gate : (ns : List Point) (a : ℕ) (l r : Point) → IsFunnel ns a l r → (z : Triple) → IsPoint z → IsPastDiagonal l r z → (j k : ℕ)
     → IsReachedFrom ns a j z → IsReachedFrom ns a k z → j ≡ k
 one_gate ns a l r f z at_z past = one_gate_low ns a l r f z at_z (past_not_above l r z at_z past)
-
--- Two points past a diagonal, reached from two places of its funnel: the places from the one to the other are right of the way between them.
 
 -- and what is not positive is below a positive number, and what is negative below one that is not
 apart_left : {d e : ℤ} → pos 0 <ℤ d → ¬ (pos 0 <ℤ e) → e <ℤ d

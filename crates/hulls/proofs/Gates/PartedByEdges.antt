@@ -1,5 +1,8 @@
 -- Edges of a funnel on the line of its diagonal, off the apex: the way to a point that is not above the diagonal passes those on the left, and
 -- none on the right.
+-- The signs behind the gates of two points past a diagonal that a falling edge tells apart: on which side of the way between them its ends are.
+-- Two points that are not above a diagonal, one not right of an edge that falls to it and one not left of it: the ends of the edge are right of
+-- the way from the one to the other.
 use Rattle.std.proofs.Common.{◌≡◌, inl, inr, sym, List, length, ℕ, ◌+◌, ◌<◌, ◌≤◌, pos, ◌*ℤ◌, ◌<ℤ◌, ◌≤ℤ◌, arith, ℤ, ◌+ℤ◌, ◌-ℤ◌, ap, neg_ℤ}
 use Rattle.std.proofs.lemmas.Int.{ints}
 use Rattle.integer_algebra.proofs.Certificate.{product_zero}
@@ -73,8 +76,6 @@ module _ (ns : List Point) (a : ℕ) (l r : Point) (f : IsFunnel ns a l r) (i : 
         (turn_right ns a l r f i h k) right.1
   ]
 
--- The signs behind the gates of two points past a diagonal that a falling edge tells apart: on which side of the way between them its ends are.
-
 -- an edge from p to q: A and C are areas at p and q with the two points, D and E those of the points with the edge, P, Q, Y and Z the heights of
 -- p, q and the points, v and w the weights of the points
 module _ (A C D E P Q Y Z v w : ℤ) (heights : C *ℤ P -ℤ A *ℤ Q +ℤ E *ℤ Y -ℤ D *ℤ Z ≡ pos 0) (weights : C -ℤ A +ℤ E *ℤ v -ℤ D *ℤ w ≡ pos 0)
@@ -138,9 +139,6 @@ module _ (A C D E P Q Y Z v w : ℤ) (heights : C *ℤ P -ℤ A *ℤ Q +ℤ E *�
     -- and the first is, where the second is right of the edge
     pub first_level : P ≡ pos 0 → Q ≡ pos 0 → E <ℤ pos 0 → Y ≡ pos 0
     first_level hp hq right = factor_zero E Y (negative_not_zero right) (no_products hp hq).0
-
--- Two points that are not above a diagonal, one not right of an edge that falls to it and one not left of it: the ends of the edge are right of
--- the way from the one to the other.
 
 -- ---- numbers
 

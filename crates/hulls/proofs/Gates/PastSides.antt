@@ -1,4 +1,6 @@
 -- Points past a diagonal: beyond it, or on it.
+-- The points of a triangle are past each of its sides, walked over from the other side of it.
+-- A segment from a point e to a point m, where a line has m strictly on one side and e not on the other: all of the segment but e is on that side.
 use Rattle.std.proofs.Common.{◌≡◌, ◌⊎◌, inl, inr, pos, ◌≤ℤ◌, ℕ, List}
 use Rattle.integer_algebra.proofs.SignSteps.{negative_not_zero, weak_order, zero_not_positive, turned_negative, at_least_unless}
 use Rattle.integer_algebra.proofs.SignSteps.{mean_last_positive, positive_of_not_zero, turned_positive}
@@ -32,8 +34,6 @@ pub past_on_line : (l r : Point) (z : Triple) → IsPastDiagonal l r z → heigh
 past_on_line l r z (inl beyond) level = absurd (negative_not_zero beyond level)
 past_on_line l r z (inr on) level = on
 
--- The points of a triangle are past each of its sides, walked over from the other side of it.
-
 module _ (corners : List Point) (t : Tri)
     (left : IsLeft (whole (vertex corners t.a)) (whole (vertex corners t.b)) (whole (vertex corners t.c)))
     (i j : ℕ) (has : HasSide t i j) where
@@ -46,8 +46,6 @@ module _ (corners : List Point) (t : Tri)
         | is_zero h ↦ inr (on_first_side (vertex corners i) (vertex corners j) (vertex corners m) (turns_left corners t left i j m has next) y at_y closed h)
         | is_positive h ↦ inl (turned_negative (determinant_swap_first (whole (vertex corners i)) (whole (vertex corners j)) y) h)
       ]
-
--- A segment from a point e to a point m, where a line has m strictly on one side and e not on the other: all of the segment but e is on that side.
 
 module _ (p q z e m : Triple) (at_z : IsPoint z) (at_e : IsPoint e) (at_m : IsPoint m) (on : On z e m) (other : ¬ IsSame z e) where
   -- where e is not right of a line, and m left of it, all of the segment but e is left of it,

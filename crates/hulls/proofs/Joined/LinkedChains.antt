@@ -1,4 +1,5 @@
 -- A chain with bends that goes on to another.
+-- Two chains with bends from one point that have the same point at a place are one up to it.
 use Rattle.std.proofs.Common.{◌≡◌, inl, inr, subst, ap, ◌∙◌, ℕ, ◌+◌, ◌-◌, ◌<◌, ◌≤◌, List, ◌++◌, length, arith, refl, sym, take}
 use Rattle.std.proofs.lemmas.Bool.{cases_lt}
 use Rattle.std.proofs.lemmas.List.{get_or-append_right, get_or_append_left, length-append, get_or-take, length-take-le}
@@ -122,8 +123,6 @@ linked_bent ring one other bent bent_too link =
       };
       bends = inner_of_both one other some some_too (IsBend ring) bent.bends bent_too.bends link.bend_last link.bend_first;
     }
-
--- Two chains with bends from one point that have the same point at a place are one up to it.
 
 module _ (ring : List Point) (chain : List Point) (bent : IsBentChain ring chain) (n : ℕ) (some : 0 < n) (within : n ≤ length chain) where
   count : length (take n chain) ≡ n

@@ -1,5 +1,7 @@
 -- Paths from one point that are joined over it are a path together; and where the path from a point on a chain goes first.
 -- A point is on the path from a to b exactly if the paths from it to a and to b are joined over it.
+-- A path read backward is the path back; and a point on a path is on one step of it, that with the number of the last step of the path to
+-- the point.
 use Rattle.std.proofs.Common.{◌≡◌, ◌≢◌, inl, inr, refl, sym, subst, ap, ◌∙◌, ℕ, ◌+◌, ◌-◌, ◌<◌, ◌≤◌, List, [], ◌∷◌, length, drop, arith, ◌↔◌}
 use Rattle.std.proofs.Common.{reverse}
 use Rattle.std.proofs.lemmas.Bool.{cases_lt}
@@ -207,9 +209,6 @@ module _ (ring : List Point) (some : 3 ≤ length ring) (simple : IsSimple ring)
   -- and nowhere else
   pub on_path_iff_joined : AreJoined ring v p q ↔ IsOnPath ring a b v
   on_path_iff_joined = (on_path_of_joined ring some simple v a b p q step step_too, joined_of_on_path)
-
--- A path read backward is the path back; and a point on a path is on one step of it, that with the number of the last step of the path to
--- the point.
 
 module _ (ring : List Point) (some : 3 ≤ length ring) (simple : IsSimple ring) where
   -- ---- the step of a point on a path

@@ -1,4 +1,7 @@
 -- Ways on from one point, of which one is to the left of the other where they part.
+-- Three ways on from one point, each to the left of the one before: the last is to the left of the first.
+-- Two bends over one point, with one way to it: the ways on are to one side of that.
+-- Three ways on from one point, with their next points ahead of a line: to be to the left goes on from one to the next.
 use Rattle.std.proofs.Common.{◌≡◌, ◌≢◌, ◌⊎◌, refl, List, [], ◌∷◌, inr, ◌≤◌, length, inl, sym, ap, subst, ◌∙◌, true, ℤ, pos, ◌+ℤ◌, ◌-ℤ◌}
 use Rattle.std.proofs.Common.{◌*ℤ◌, ◌<ℤ◌, arith, neg_ℤ}
 use Rattle.std.proofs.lemmas.Int.{ints}
@@ -47,9 +50,6 @@ pub first_of_other : (v : Point) (one other : List Point) → IsLeftOf v one oth
 first_of_other v [] other h = absurd h
 first_of_other v (p ∷ first) [] h = absurd h
 first_of_other v (p ∷ first) (q ∷ second) h = record { r = q; rest = second; is = refl }
-
--- Two bends over one point, with one way to it: the ways on are to one side of that.
--- Three ways on from one point, with their next points ahead of a line: to be to the left goes on from one to the next.
 
 module _ (ring : List Point) (some : 3 ≤ length ring) (simple : IsSimple ring) (v q r s : Point) (bend : IsBend ring v q r)
     (bend_too : IsBend ring v q s) where
@@ -170,8 +170,6 @@ module _ (ring : List Point) (some : 3 ≤ length ring) (simple : IsSimple ring)
         (λ e. differ_too (nearer_each v q r (subst (λ x. On (whole q) (whole v) (whole x)) e on) on_too)),
         second_nearer t last (nearer_on v r q p on_too on) is_too left_too,
       )
-
--- Three ways on from one point, each to the left of the one before: the last is to the left of the first.
 
 -- ---- a side of a line through p
 

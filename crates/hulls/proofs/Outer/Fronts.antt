@@ -1,4 +1,5 @@
 -- Ways on from one point that go no farther than another.
+-- Ways on from one point of which one goes no farther than another, and that parts from a third, or a third from it, to the left.
 use Rattle.std.proofs.Common.{◌≡◌, ◌⊎◌, inl, inr, refl, sym, ap, subst, ◌∙◌, List, [], ◌∷◌, length, arith, ◌≢◌, true, ◌≤◌}
 use Rattle.integer_algebra.proofs.SignSteps.{positive_not_zero}
 use Rattle.plane.proofs.Order.{point_or_other}
@@ -78,8 +79,6 @@ ends_or_goes_on v p q (x ∷ xs) (y ∷ ys) (inl h) = inr (
 -- no way has a first point where there is none
 pub no_first : (ps : List Point) → ps ≡ [] → ¬ HasFirst ps
 no_first ps e h = let n = ap length (sym e ∙ h.is) in omega arith
-
--- Ways on from one point of which one goes no farther than another, and that parts from a third, or a third from it, to the left.
 
 -- ---- points on one ray
 

@@ -1,4 +1,7 @@
 -- The least of the vertices of a ring and of some points in it.
+-- A point that is not between points of a list, and from which the paths to them start on one side of a line: one of them is the last
+-- seen.
+-- From the least point all paths go forward, and it is on no path between others: it is a base.
 use Rattle.std.proofs.Common.{◌≡◌, inl, inr, refl, sym, subst, ap, ◌∙◌, ℕ, ◌+◌, ◌-◌, ◌<◌, ◌≤◌, List, ◌++◌, length, arith, ◌≢◌, ◌⊎◌, [], ◌∷◌}
 use Rattle.std.proofs.Common.{pos, ◌+ℤ◌, ◌-ℤ◌}
 use Rattle.std.proofs.lemmas.Bool.{cases_eq, cases_lt}
@@ -91,10 +94,6 @@ module _ (ring : List Point) (some : 3 ≤ length ring) (points : List Point) (a
           no_point = λ i h. subst (λ p. ¬ IsBefore p w) (at_point i) (none (length ring + i) (omega (arith, size, h)));
         },
       )
-
--- A point that is not between points of a list, and from which the paths to them start on one side of a line: one of them is the last
--- seen.
--- From the least point all paths go forward, and it is on no path between others: it is a base.
 
 -- ---- points of a list
 

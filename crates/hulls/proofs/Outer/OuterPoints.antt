@@ -1,4 +1,5 @@
 -- Points are inner or not; and of three that aren't, one is to the left of another, to the same side seen from each.
+-- The last point seen from the least point, and the last one seen from that, are an outer pair.
 use Rattle.std.proofs.Common.{◌≢◌, ◌⊎◌, inl, inr, sym, ℕ, ◌<◌, ◌≤◌, List, length, ◌∙◌, arith}
 use Rattle.std.proofs.lemmas.Bool.{cases_eq}
 use Rattle.plane.proofs.Order.{point_or_other}
@@ -160,8 +161,6 @@ module _ (ring : List Point) (some : 3 ≤ length ring) (simple : IsSimple ring)
       → IsToLeft ring (point_at points t) (point_at points u) (point_at points s)
   left_from_next s t u three left =
       left_from_last u s t (last_first ring points s t u three) (left_from_last s t u three left)
-
--- The last point seen from the least point, and the last one seen from that, are an outer pair.
 
 -- of two different points one is another than x
 one_differs : (points : List Point) → 2 ≤ length points → AreDistinct points → (x : Point) → (u : ℕ) × IsOther points x u

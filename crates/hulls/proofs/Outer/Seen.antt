@@ -1,4 +1,5 @@
 -- The order of points as seen from one: a point comes after those that it is to the left of, and after those on the path to it.
+-- Where paths from b go first, beside the first step to one point x: those to points left of x, seen from b, and to points on the path there.
 use Rattle.std.proofs.Common.{◌≢◌, ◌⊎◌, inl, inr, sym, subst, ap, ◌∙◌, ℕ, ◌+◌, ◌-◌, ◌<◌, ◌≤◌, List, ◌∷◌, length, drop, arith, ◌≡◌, true}
 use Rattle.plane.proofs.Points.{whole_is_point, same_whole}
 use Rattle.plane.proofs.Segments.{on_or_not, on_antisym, on_is_straight, on_last_end, on_reversed}
@@ -132,8 +133,6 @@ module _ (ring : List Point) (some : 3 ≤ length ring) (simple : IsSimple ring)
                     inr (by_front (front_follows t to_u.way to_v.way to_w.way front front_too))
               ]
         ]
-
--- Where paths from b go first, beside the first step to one point x: those to points left of x, seen from b, and to points on the path there.
 
 module _ (b e f : Point) where
   -- a point beyond e on its ray has b not between,

@@ -1,4 +1,5 @@
 -- From a start the sides close to a round.
+-- A closed chain has every side, so it is a round.
 use Rattle.std.proofs.Common.{◌≡◌, ◌≢◌, inl, inr, refl, sym, subst, ◌∙◌, ℕ, zero, suc, ◌+◌, ◌-◌, ◌<◌, List, [], ◌∷◌, ◌++◌, length}
 use Rattle.std.proofs.Common.{slice_index, arith, ◌==◌, if◌then◌else◌}
 use Rattle.std.proofs.lemmas.Bool.{cases_eq, cases_lt, cond-false, cond-true, eq-eqb, ne_eqb}
@@ -77,8 +78,6 @@ module _ (n : ℕ) (Left : ℕ → ℕ → ℕ → Type 0) (turning : AreTurning
     steps = λ i within. absurd (omega arith);
     last = side;
   })
-
--- A closed chain has every side, so it is a round.
 
 -- the place after one in a list that is read round
 abbrev pub place_after : List ℕ → ℕ → ℕ

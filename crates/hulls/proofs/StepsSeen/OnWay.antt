@@ -2,6 +2,7 @@
 -- or both are strictly on one side of the step; or the end itself is the gate.
 -- A step past no vertex in the triangles of a trail: its inner points there have gates that are one point, or all strictly on one side of
 -- the step, and so is what comes before its ends.
+-- How a step past no vertex is seen from a point, by what comes before its ends.
 use Rattle.std.proofs.Common.{◌≡◌, ◌⊎◌, inl, inr, sym, subst, List, ℕ, ◌<◌, length, ap, ◌∙◌, ◌+◌, ◌-◌, arith}
 use Rattle.integer_algebra.proofs.SignSteps.{turned_negative, turned_positive}
 use Rattle.integer_algebra.proofs.Signs.{is_negative, is_positive, is_zero, sign}
@@ -197,8 +198,6 @@ module _ (corners : List Point) (tris : List Tri) (fits : Fits corners tris) (b 
         last = comes_first corners tris fits b home within in_b y x back.clear back.off trail is in_y z
             (between_back x y z come.between) come.inside come.gate come.is_gate;
       }
-
--- How a step past no vertex is seen from a point, by what comes before its ends.
 
 -- a point between an end of a path and what comes before that is on the path
 on_last_part : (ring : List Point) (b t n v : Point) → IsPredecessor ring b t n → On (whole v) (whole n) (whole t) → IsOnPath ring b t v

@@ -1,4 +1,6 @@
 -- The gates of two points of a step in one triangle are one point, or strictly on one side of the step.
+-- Where a point other than b is its own gate in a triangle, it is the gate of all points there: it is the end of the side over which the triangle
+-- is entered, and the apex of the funnel, which has no points but the two ends.
 use Rattle.std.proofs.Common.{◌≡◌, inl, inr, sym, subst, ap, ◌∙◌, List, [], ◌∷◌, ℕ, arith, ◌⊎◌, length, ◌+◌, ◌-◌, ◌<◌, pos}
 use Rattle.std.proofs.lemmas.Bool.{cases_lt}
 use Rattle.std.specs.List.{range_with_len}
@@ -77,9 +79,6 @@ module _ (corners : List Point) (tris : List Tri) (fits : Fits corners tris) (b 
       subst (λ n. IsAlike x y n h) is_g (subst (IsAlike x y (point_at e.points j)) is_h
       (at_places (last_of home trail) e is.0 in_p in_q j k from_p from_q
       (λ on. off_g (subst (λ (n : Point). On (whole n) p q) is_g on)) (λ on. off_h (subst (λ (n : Point). On (whole n) p q) is_h on))))
-
--- Where a point other than b is its own gate in a triangle, it is the gate of all points there: it is the end of the side over which the triangle
--- is entered, and the apex of the funnel, which has no points but the two ends.
 
 -- a point of the funnel that is reached from itself is the apex
 own_place : (ns : List Point) (a h : ℕ) (y : Point) → a < length ns → IsReachedFrom ns a h (whole y) → point_at ns h ≡ y → h ≡ a

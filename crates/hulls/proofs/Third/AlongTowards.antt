@@ -1,6 +1,7 @@
 -- Along a way of steps, from one with a side on: there follow such of that side, and then steps away.
 -- Along a way of steps from one of three free points to another, seen from the third: first come steps towards that, and then one with a
 -- side.
+-- Of three free points, where c is to a side of b, seen from a, b is to that side of a, seen from c.
 use Rattle.std.proofs.Common.{subst, ◌≤◌, List, [], ◌∷◌, length, ◌≡◌, ◌⊎◌, inl, inr, refl, sym, ◌∙◌, ◌-◌, arith}
 use Rattle.std.proofs.lemmas.Bool.{cases_lt}
 use Rattle.plane.specs.Point.{Point, Triple, whole}
@@ -175,8 +176,6 @@ faces ring some simple a b c sees free n step y rest way =
     faces_on ring some simple a b c sees free.not_c a y rest way (reach_end ring some simple y a (step_back ring a y first.clear))
     (λ on. free.not_a (on_path_ahead ring some simple b c a y first.clear reach n step (first_other ring b a y first) on))
     (record { left = λ to. to; right = λ to. to })
-
--- Of three free points, where c is to a side of b, seen from a, b is to that side of a, seen from c.
 
 module _ (ring : List Point) (some : 3 ≤ length ring) (simple : IsSimple ring) (a b c : Point) (free : AreFree ring a b c)
     (ab ac : List Point) (to_b : IsPath ring a b ab) (to_c : IsPath ring a c ac) where

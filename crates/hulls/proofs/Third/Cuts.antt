@@ -1,4 +1,5 @@
 -- A path with a point before it, from which the way over its first point is straight or has a bend there.
+-- Paths read backward, as lists that begin with their first step, and from a point on them to their end.
 use Rattle.std.proofs.Common.{◌≡◌, inl, inr, refl, sym, ◌∙◌, ◌-◌, ◌≤◌, List, [], ◌∷◌, length, arith, ◌≢◌, subst, ap, ◌+◌, ◌<◌, reverse}
 use Rattle.std.proofs.Common.{drop}
 use Rattle.std.proofs.lemmas.Bool.{cases_lt}
@@ -74,8 +75,6 @@ module _ (ring : List Point) (some : 3 ≤ length ring) (simple : IsSimple ring)
   pub prolonged : AreJoined ring y x p → IsProlonged ring x y a p rest
   prolonged (inl between) = straight between (past_first between)
   prolonged (inr bend) = bent bend (with_bend bend)
-
--- Paths read backward, as lists that begin with their first step, and from a point on them to their end.
 
 -- ---- first steps
 

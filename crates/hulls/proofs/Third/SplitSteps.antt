@@ -1,4 +1,5 @@
 -- Steps split at the vertices on them, one vertex after the other.
+-- A path between two points, with a third not on it, is a way of steps past no vertex.
 use Rattle.std.proofs.Common.{◌≡◌, ◌≢◌, ◌⊎◌, inl, inr, refl, sym, subst, ℕ, suc, ◌<◌, List, [], ◌∷◌, arith, ◌∙◌, zero, ◌+◌, ◌-◌, length}
 use Rattle.std.proofs.lemmas.Bool.{cases_lt}
 use Rattle.plane.proofs.Order.{point_or_other}
@@ -153,8 +154,6 @@ module _ (ring : List Point) (b : Point) (n : ℕ) (c : Point) where
           differ = λ e. way.0.differ (sym e);
         }
       ]
-
--- A path between two points, with a third not on it, is a way of steps past no vertex.
 
 module _ (ring : List Point) (b c : Point) where
   -- b is on no step of the chain

@@ -1,4 +1,6 @@
 -- A step, one of whose ends is on the path from a point to the other: where the paths from both ends to that point go first.
+-- Two steps that follow each other, as they are seen from a point.
+-- Ways of steps past no vertex, with a point on none of them, and the paths along them.
 use Rattle.std.proofs.Common.{◌≢◌, refl, sym, subst, ◌≤◌, List, [], ◌∷◌, length, arith, ◌≡◌}
 use Rattle.plane.proofs.Points.{whole_is_point}
 use Rattle.plane.proofs.Segments.{on_last_end, on_reversed, on_is_straight, on_first_end}
@@ -87,9 +89,6 @@ module _ (ring : List Point) (some : 3 ≤ length ring) (simple : IsSimple ring)
         let beyond = step_beyond in
         let reach = reach_next b beyond.0 beyond.1 (joined_back ring y beyond.0 x (joined_first sight_back beyond.0 beyond.1)) in
         subst (λ z. On (whole y) (whole x) (whole z)) (same_step ring x b reach.p n reach.step step) reach.on
-
--- Two steps that follow each other, as they are seen from a point.
--- Ways of steps past no vertex, with a point on none of them, and the paths along them.
 
 -- the paths to b from both ends of the step go first to one side of it
 pub record IsStrict (Side : Triple → Triple → Triple → Type 0) (ring : List Point) (b x y : Point) : Type 0 where

@@ -1,4 +1,6 @@
 -- Where two paths from one point change places, the second is to the other side of the first.
+-- Where two lists from one point part, and that they do so once.
+-- Of two paths from one point the second is not to both sides of the first.
 use Rattle.std.proofs.Common.{sym, List, ◌≡◌, ◌≢◌, inl, inr, refl, subst, ap, ◌∙◌, ◌<◌, [], ◌∷◌, ◌++◌, length, drop, arith}
 use Rattle.integer_algebra.proofs.SignSteps.{turned_negative, turned_positive, negative_not_zero, positive_not_negative, positive_not_zero}
 use Rattle.plane.proofs.Order.{point_or_other}
@@ -50,8 +52,6 @@ exchanged ring a b c to = paths_exchanged IsLeft IsRight right_of_left ring a b 
 -- and the other way round
 pub exchanged_back : (ring : List Point) (a b c : Point) → IsToRight ring a b c → IsToLeft ring a c b
 exchanged_back ring a b c to = paths_exchanged IsRight IsLeft left_of_right ring a b c to
-
--- Where two lists from one point part, and that they do so once.
 
 -- ---- where they part
 
@@ -120,8 +120,6 @@ module _ (v p : Point) (first : List Point) (q : Point) (second : List Point) (w
   one_fork (u ∷ front) [] e f =
       absurd (differ_too (sym (ap (λ xs. point_at xs 1) e) ∙ begin_alike front v (p ∷ first) (q ∷ second) ∙ ap (λ xs. point_at xs 1) f))
   one_fork (u ∷ front) (z ∷ other) e f = one_fork front other (ap (drop 1) e) (ap (drop 1) f)
-
--- Of two paths from one point the second is not to both sides of the first.
 
 -- the ends of a segment and a point of it are on one line
 straight_of_on : (v p q : Point) → On (whole p) (whole v) (whole q) → IsStraight (whole v) (whole q) (whole p)

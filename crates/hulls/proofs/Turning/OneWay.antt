@@ -1,6 +1,8 @@
 -- Chains that part at a point: the points there, the bends, and which of three points on a line is between the others.
 -- Where paths from one point part, they do not go on to the two ends of a segment through the point, unless it is on the path between
 -- their ends.
+-- Where two paths from one point go on along one ray, the one whose next point is nearer turns to a side there.
+-- Of three free points the third is to the left of the second, seen from the first, or to the right.
 use Rattle.std.proofs.Common.{◌≡◌, ◌⊎◌, inl, inr, subst, ◌+◌, ◌-◌, ◌<◌, List, ◌∷◌, ◌++◌, length, arith, refl, ◌∙◌, ◌≤◌, [], ◌≢◌, sym, ap}
 use Rattle.integer_algebra.proofs.SignSteps.{negative_not_zero, positive_not_zero}
 use Rattle.integer_algebra.proofs.Signs.{is_negative, is_positive, is_zero, sign}
@@ -168,9 +170,6 @@ module _ (ring : List Point) (some : 3 ≤ length ring) (simple : IsSimple ring)
       let taut_too = path_is_taut ring a c ((u ∷ front) ++ v ∷ q ∷ second) is_second in
       not_between_later v (point_at (u ∷ front) (length (u ∷ front) - 1)) p q (bend_here ring (u ∷ front) v p first taut.bent (omega arith))
       (bend_here ring (u ∷ front) v q second taut_too.bent (omega arith)) on
-
--- Where two paths from one point go on along one ray, the one whose next point is nearer turns to a side there.
--- Of three free points the third is to the left of the second, seen from the first, or to the right.
 
 -- where the path to b goes on to c, b is on the path to c
 pub ends_on : (ring : List Point) (a b c x : Point) (path rest : List Point) → IsPath ring a b path → IsPath ring a c (path ++ x ∷ rest)

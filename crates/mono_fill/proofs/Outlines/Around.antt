@@ -1,5 +1,6 @@
 -- A monotone piece, read from its least vertex on along both of its chains.
 -- A simple piece, read along both of its chains: its vertices by their places, and its edges.
+-- The vertices of both chains, one after another by rank: the edges that run where the next one is.
 use Rattle.std.proofs.Common.{◌≡◌, sym, subst, ℕ, zero, suc, ◌+◌, ◌-◌, ◌<◌, ◌≤◌, ℤ, pos, ◌+ℤ◌, ◌<ℤ◌, List, length, take, arith, inl, inr}
 use Rattle.std.proofs.Common.{ap, ap₂, ◌∙◌, ◌∷◌}
 use Rattle.std.proofs.lemmas.Int.{ints}
@@ -183,8 +184,6 @@ module _ (s : ℕ) (rest : List ℕ) where
               (whole (point_at corners ring Lower 1)))) h.0
           | inr h ↦ let a = h.1.area in let b = polygon.counterclockwise.area in absurd (omega (arith, ints))
         ]
-
--- The vertices of both chains, one after another by rank: the edges that run where the next one is.
 
 -- so many edges of each chain are passed; the next ones run at one place
 pub record IsMerge {corners : List Point} {ranks piece ring : List ℕ} (o : IsOutline corners ranks piece ring) (side facing : Side)

@@ -1,4 +1,5 @@
 -- Sums over the edges of a ring, each with a sign: where the signs agree, and where all are 1 or -1.
+-- The signs of the edges of a ring before and after an event: just those of the edges that begin there are new.
 use Rattle.std.proofs.Common.{◌≡◌, inl, inr, refl, sym, ap, ◌∙◌, ℕ, zero, suc, ◌+◌, ◌-◌, ◌<◌, ◌≤◌, ℤ, pos, negsuc, ◌+ℤ◌, ◌-ℤ◌, ◌*ℤ◌, neg_ℤ}
 use Rattle.std.proofs.Common.{if◌then◌else◌, nat_lt, length, get_or, arith, ◌⊎◌, nat_eq, List}
 use Rattle.std.proofs.lemmas.Bool.{cases_lt, cases_eq}
@@ -137,8 +138,6 @@ module _ (n : ℕ) (signs : ℕ → ℤ) (m : ℕ) (inside : m + 1 < n) where
       let rise : growth_at m k (next n k) ≡ pos 1 = omega (arith, ints, to, step_beyond m k (omega (arith, inside, end))) in
       let top = ap (λ z. signs k *ℤ z) rise in
       omega (arith, ints, all, top, beyond_step k (omega (arith, inside, end)) (omega (arith, end)))
-
--- The signs of the edges of a ring before and after an event: just those of the edges that begin there are new.
 
 -- ---- one sign put in the place of another
 

@@ -1,5 +1,6 @@
 -- The triangles that fill closed regions have the sums of these.
 -- What an event does to the regions of a gap, by their sums.
+-- Each event keeps the balance.
 use Rattle.std.proofs.Common.{◌≡◌, sym, ap, ◌∙◌, ℕ, suc, ◌-◌, ◌≤◌, ℤ, pos, ◌+ℤ◌, ◌-ℤ◌, List, [], ◌∷◌, ◌++◌, length, take, drop, get_or}
 use Rattle.std.proofs.Common.{reverse, arith, negsuc, ◌*ℤ◌, Bool, true, false, if◌then◌else◌, nat_lt, Option, Some, None, ◌⊎◌, inl, inr}
 use Rattle.std.proofs.Common.{refl, ◌+◌, ◌<◌, set}
@@ -181,8 +182,6 @@ module _ (φ : ℕ → ℕ → ℤ) where
       let below = along_push_two φ low.upper v a (omega (arith, two_low)) in
       let above = along_push_two φ high.lower v b (omega (arith, two_high)) in
       omega (arith, ints, below, above, ap (λ m. φ m v) merge)
-
--- Each event keeps the balance.
 
 -- the sum over two lists of regions
 regions-append : (φ : ℕ → ℕ → ℤ) (cs ds : List Chains) → sum_regions φ (cs ++ ds) ≡ sum_regions φ cs +ℤ sum_regions φ ds

@@ -1,4 +1,6 @@
 -- Sums over lists of triangles and of gaps, after an edit.
+-- After the last event: the triangles fit the ring.
+-- The balance before the next event, from that before this one, by what the sums gain.
 use Rattle.std.proofs.Common.{◌≡◌, sym, ap, ◌∙◌, ℕ, suc, ◌+◌, ◌<◌, ℤ, ◌+ℤ◌, ◌-ℤ◌, List, [], ◌∷◌, ◌++◌, length, take, drop, set, arith, inl}
 use Rattle.std.proofs.Common.{inr, refl, subst, ◌≤◌, pos, negsuc, ◌*ℤ◌, neg_ℤ, ◌-◌}
 use Rattle.std.proofs.lemmas.Int.{ints}
@@ -56,8 +58,6 @@ module _ (φ : ℕ → ℕ → ℤ) where
         let with_other = gaps-append (take j gaps) (g ∷ drop (suc j) gaps) in
         let without = gaps-append (take j gaps) (drop (suc j) gaps) in
         omega (arith, ints, cut, with_other, without, gaps_removed within)
-
--- The balance before the next event, from that before this one, by what the sums gain.
 
 -- the sum over the triangles and the open regions
 abbrev pub total : (ℕ → ℕ → ℤ) → List Gap → List Tri → ℤ
@@ -201,8 +201,6 @@ module _ (corners : List Point) (order ranks : List ℕ) (are : AreEvents corner
       let later_b : k < slice_index ranks b = omega (arith, later_w, ap (slice_index ranks) is_after) in
       two_edges later_a later_b (pos 1) (inl refl)
       (λ φ odd. omega (arith, ints, gains φ odd, ap (φ v) is_before, ap (φ v) is_after, odd v a))
-
--- After the last event: the triangles fit the ring.
 
 -- the sides of triangles do not grow
 sides_growth : (m : ℕ) (tris : List Tri) → sum_sides (growth_at m) tris ≡ pos 0

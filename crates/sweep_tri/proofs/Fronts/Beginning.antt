@@ -1,4 +1,5 @@
 -- The two edges that begin at a vertex of a simple ring turn to one side.
+-- The edges that begin at the vertex of an event, one below the other.
 use Rattle.std.proofs.Common.{◌≡◌, ◌⊎◌, inl, inr, sym, ap, ◌∙◌, ℕ, ◌+◌, ◌-◌, ◌<◌, ◌≤◌, List, length, arith, refl, zero, suc, [], ◌∷◌}
 use Rattle.std.proofs.Math.Nat.{add-mod_right}
 use Rattle.std.proofs.lemmas.Bool.{cases_lt}
@@ -87,8 +88,6 @@ module _ (corners : List Point) (order ranks : List ℕ) (are : AreEvents corner
     | is_zero h ↦ absurd (not_straight h)
     | is_positive h ↦ inl h
   ]
-
--- The edges that begin at the vertex of an event, one below the other.
 
 -- just the edges of the ring that begin at v, each below those after it; v is the vertex of event k
 pub record AreBegun (corners : List Point) (ranks : List ℕ) (k v : ℕ) (new : List Front) : Type 0 where

@@ -1,5 +1,7 @@
 -- The edges that the sweep line meets, parted by the vertex of an event: first those under the vertex, then those that end there,
 -- and then those above it.
+-- How many of the edges that the sweep line meets end at the vertex of an event: as many as it has neighbours before it.
+-- The edges below and above one gap: where the vertex of an event is to them, and whether they end there.
 use Rattle.std.proofs.Common.{◌≡◌, ◌⊎◌, inl, inr, refl, sym, subst, ℕ, zero, suc, ◌+◌, ◌-◌, ◌<◌, ◌≤◌, List, length, arith, ap, ◌∙◌, ◌*◌}
 use Rattle.std.proofs.lemmas.Bool.{cases_eq, cases_lt, cases_order}
 use Rattle.std.specs.Prelude.{slice_index}
@@ -124,9 +126,6 @@ module _ (corners : List Point) (order ranks : List ℕ) (are : AreEvents corner
         absurd (not_itself (front_at fs j) (subst (λ (f : Front). IsBelow (front_edge corners (front_at fs j)) (front_edge corners f)) same
         (frontier.ordered j i less hi)))
   ]
-
--- How many of the edges that the sweep line meets end at the vertex of an event: as many as it has neighbours before it.
--- The edges below and above one gap: where the vertex of an event is to them, and whether they end there.
 
 module _ (corners : List Point) (order ranks : List ℕ) (are : AreEvents corners order ranks) (three : 3 ≤ length corners) (simple : IsSimple corners)
     (k v : ℕ) (hv : v < length ranks) (rank_v : slice_index ranks v ≡ k) (fs : List Front) (frontier : IsFrontier corners ranks k fs) where

@@ -1,4 +1,7 @@
 -- An edge that the sweep line meets, and one that begins at the vertex of an event beside it.
+-- Before the first event the sweep line meets no edge, and after the last one none is left.
+-- The edges that the sweep line meets after an event: those that end at its vertex give way to those that begin there.
+-- A list of edges in which some, one after another, give way to others.
 use Rattle.std.proofs.Common.{◌≡◌, inl, inr, sym, ap, subst, ℕ, ◌+◌, ◌<◌, ◌≤◌, List, length, arith, ◌∙◌, ◌++◌, refl, ◌-◌, [], ◌∷◌}
 use Rattle.std.proofs.lemmas.Bool.{cases_lt}
 use Rattle.std.specs.Prelude.{slice_index}
@@ -105,8 +108,6 @@ module _ (corners : List Point) (order ranks : List ℕ) (are : AreEvents corner
     entered Upper above =
         enters_above (front_edge corners f) (front_edge corners g) forward_g meets begun_f runs_f (subst (IsAbove corners f) (sym from) above)
 
--- A list of edges in which some, one after another, give way to others.
-
 -- from place `first` on the new edges stand for `count` of the old ones
 pub record IsSpliced (old new : List Front) (first count : ℕ) (put : List Front) : Type 0 where
   pub inside : first + count ≤ length old
@@ -135,8 +136,6 @@ spliced A Z N B =
       at_place = λ i h. get_or-append-add A (N ++ B) i _ ∙ get_or_append_left N B _ i h;
       moved = λ i h. after_two A N B i ∙ sym (after_two A Z B i);
     }
-
--- The edges that the sweep line meets after an event: those that end at its vertex give way to those that begin there.
 
 module _ (corners : List Point) (order ranks : List ℕ) (are : AreEvents corners order ranks) (three : 3 ≤ length corners) (simple : IsSimple corners)
     (k v : ℕ) (hv : v < length ranks) (rank_v : slice_index ranks v ≡ k) where
@@ -254,8 +253,6 @@ module _ (corners : List Point) (order ranks : List ℕ) (are : AreEvents corner
       all = all;
       ordered = λ i j less h. in_order i j less (origin i (omega (arith, less, h))) (origin j h);
     }
-
--- Before the first event the sweep line meets no edge, and after the last one none is left.
 
 -- none has begun before the first event
 pub frontier_first : (corners : List Point) (ranks : List ℕ) → IsFrontier corners ranks 0 []

@@ -1,4 +1,5 @@
 -- One region on both sides of a diagonal to the vertex of a split.
+-- What the events make of gaps.
 use Rattle.std.proofs.Common.{◌≡◌, inl, inr, refl, sym, ap, subst, ℕ, ◌+◌, ◌-◌, ◌<◌, ◌≤◌, List, [], ◌∷◌, ◌++◌, length, get_or, append_assoc}
 use Rattle.std.proofs.Common.{arith, ◌∙◌, Option, Some, None, cond, if◌then◌else◌, nat_lt}
 use Rattle.std.proofs.lemmas.Bool.{cases_eq, cases_lt, le-ltb, lt-ltb}
@@ -115,8 +116,6 @@ module _ (corners : List Point) (order ranks : List ℕ) (are : AreEvents corner
     | inl less ↦ from_later less
     | inr not ↦ from_first (omega arith)
   ]
-
--- What the events make of gaps.
 
 -- v is the vertex of event k
 module _ (corners : List Point) (order ranks : List ℕ) (are : AreEvents corners order ranks) (three : 3 ≤ length corners)

@@ -1,4 +1,7 @@
 -- What comes to an end at an event: the ranks of the vertices of a chain.
+-- An open region whose near chain ends at the vertex of an event, after that.
+-- A region with one more vertex at the end of a chain.
+-- Of two regions that meet at a merge vertex, one with its inner chain led to the vertex of an event.
 use Rattle.std.proofs.Common.{◌≡◌, ◌⊎◌, inl, inr, sym, ap, ◌∙◌, ℕ, ◌+◌, ◌-◌, ◌<◌, ◌≤◌, List, [], ◌∷◌, ◌++◌, length, get_or, arith, subst}
 use Rattle.std.proofs.lemmas.Bool.{cases_eq, cases_lt}
 use Rattle.std.specs.List.{All}
@@ -62,9 +65,6 @@ module _ (corners : List Point) (order ranks : List ℕ) (are : AreEvents corner
     | inl is ↦ absurd (other (same_rank (last path) h is))
     | inr not ↦ omega (arith, not)
   ]
-
--- A region with one more vertex at the end of a chain.
--- Of two regions that meet at a merge vertex, one with its inner chain led to the vertex of an event.
 
 -- x follows the last vertex of the near chain
 module _ (corners : List Point) (ranks : List ℕ) (side : Side) (near far : List ℕ) (x : ℕ) where
@@ -206,8 +206,6 @@ module _ (corners : List Point) (ranks : List ℕ) (k v : ℕ) (v_within : v < l
     near_to_come = ends_grown ranks k inner v (omega (arith, v_rank));
     far_to_come = half.outer_to_come;
   }
-
--- An open region whose near chain ends at the vertex of an event, after that.
 
 module _ (corners : List Point) (order ranks : List ℕ) (are : AreEvents corners order ranks) (three : 3 ≤ length corners)
     (k v : ℕ) (v_within : v < length corners) (v_rank : slice_index ranks v ≡ k)

@@ -1,4 +1,6 @@
 -- What holds at an event: the state before it, and the place of its vertex.
+-- The state before the first event, and after the last one.
+-- What is read of the state: the order of the gaps by a vertex, and the regions of each.
 use Rattle.std.proofs.Common.{◌≡◌, ◌⊎◌, ap, ◌∙◌, sym, subst, ℕ, ◌<◌, ◌≤◌, List, length, arith, Option, Some, None, []}
 use Rattle.std.specs.Prelude.{slice_index}
 use Rattle.plane.specs.Point.{Point, whole}
@@ -67,8 +69,6 @@ module _ (corners : List Point) (order ranks : List ℕ) (k v : ℕ) (gaps : Lis
       turns_left corners order ranks at.are at.three at.simple v (event_below at).0 a b beside
       (omega (arith, event_rank at, later_a)) (omega (arith, event_rank at, later_b))
 
--- What is read of the state: the order of the gaps by a vertex, and the regions of each.
-
 -- the regions of an open gap
 module _ (corners : List Point) (ranks : List ℕ) (k : ℕ) where
   pub low_region : (low : Chains) (high : Option Chains) → IsOpen corners ranks k low high → IsRegion corners ranks low
@@ -94,8 +94,6 @@ module _ (corners : List Point) (order ranks : List ℕ) (k : ℕ) (gaps : List 
 
   pub gap_high_region : (i : ℕ) → i < length gaps → IsRegion corners ranks (let g = gap_at gaps i in highest g.low g.high)
   gap_high_region i h = let g = gap_at gaps i in high_region corners ranks k g.low g.high (swept.gaps_open i h)
-
--- The state before the first event, and after the last one.
 
 -- nothing is there before the first event
 pub swept_at_start : (corners : List Point) (ranks : List ℕ) → IsSwept corners ranks 0 [] []

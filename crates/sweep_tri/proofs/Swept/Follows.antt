@@ -1,4 +1,5 @@
 -- One edge ends at the event, and one goes on from there.
+-- Two edges end at the event: both edges of a gap, or those between two gaps, so that they are one.
 use Rattle.std.proofs.Common.{◌≡◌, refl, ap, subst, ◌∙◌, ℕ, ◌+◌, ◌-◌, ◌<◌, ◌≤◌, List, [], ◌∷◌, ◌++◌, length, arith, inl, inr, Some}
 use Rattle.std.proofs.lemmas.List.{length-set}
 use Rattle.std.specs.List.{All, remove}
@@ -86,8 +87,6 @@ module _ (corners : List Point) (order ranks : List ℕ) (k v : ℕ) (gaps : Lis
               (λ b end fill. balanced_goes_on corners order ranks at.are at.three k at.within gaps tris at.swept.balanced w u b later not_later
               side i next.inside open_g end new fill) (beside_swapped (length ranks) v u w beside) next.ends_here (follow_closes, filled);
         }
-
--- Two edges end at the event: both edges of a gap, or those between two gaps, so that they are one.
 
 module _ (corners : List Point) (order ranks : List ℕ) (k v : ℕ) (gaps : List Gap) (tris : List Tri) (j : ℕ)
     (at : IsAtEvent corners order ranks k v gaps tris j) (s t : ℕ) (beside : AreBeside (length ranks) v s t)

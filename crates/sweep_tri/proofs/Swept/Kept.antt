@@ -1,5 +1,7 @@
 -- What is kept at an event: gaps neither of whose edges ends there are open after it, and triangles that fit closed regions are triangles of
 -- the ring.
+-- The edges below and above the gaps that an event leaves.
+-- What holds of the gaps of a list holds of those after an edit.
 use Rattle.std.proofs.Common.{ℕ, ◌+◌, ◌<◌, List, length, ◌≡◌, inl, inr, ap, sym, ◌∙◌, subst, ◌-◌, ◌≤◌, [], ◌∷◌, ◌++◌, arith, ◌⊎◌, refl}
 use Rattle.std.proofs.Common.{Bool, true, false, if◌then◌else◌, nat_lt, Option, Some, None, take, append_assoc}
 use Rattle.std.proofs.lemmas.Bool.{cases_lt, cases_eq, cases_order}
@@ -83,8 +85,6 @@ module _ (corners : List Point) (order ranks : List ℕ) (are : AreEvents corner
       of_ring-all_filled cs (All-tail (IsClosedRegion corners ranks) c cs closed) between new others
       (of_ring-filled c (All-head (IsClosedRegion corners ranks) c cs closed) old between fills first)
 
--- What holds of the gaps of a list holds of those after an edit.
-
 module _ (P : Gap → Type 0) (gaps : List Gap) where
   -- of all gaps, or of all but some
   abbrev pub OfAll : Type 0
@@ -143,8 +143,6 @@ module _ (P : Gap → Type 0) (gaps : List Gap) (j : ℕ) where
               (λ e. elim e [ inl is ↦ omega (arith, after, some, is) | inr is ↦ omega (arith, after, is) ]))
         ])
   ]
-
--- The edges below and above the gaps that an event leaves.
 
 -- ---- one chain
 
