@@ -67,7 +67,7 @@ module _ (takes : ℕ → Bool) where
       rw same at more
 
   -- so many more triangles are at most so many more that are taken, and at least none
-  pub some_taken : (m n : ℕ) → (taken_before takes n ≤ taken_before takes (n + m)) × (taken_before takes (n + m) ≤ taken_before takes n + m)
+  some_taken : (m n : ℕ) → (taken_before takes n ≤ taken_before takes (n + m)) × (taken_before takes (n + m) ≤ taken_before takes n + m)
   some_taken zero n = simp add-zero (omega arith, omega arith)
   some_taken (suc m) n =
       let before = some_taken m n in
@@ -79,12 +79,13 @@ module _ (takes : ℕ → Bool) where
       at_next true e h = let one = one_taken (n + m) e in (omega (arith, one, h.0), omega (arith, one, h.1))
       at_next false e h = let one = one_left (n + m) e in (omega (arith, one, h.0), omega (arith, one, h.1))
 
-  -- so they grow
-  pub growing : (from to : ℕ) → from ≤ to → taken_before takes from ≤ taken_before takes to
-  growing from to order =
+  -- so are those from one number to another
+  pub some_between : (from to : ℕ) → from ≤ to
+      → (taken_before takes from ≤ taken_before takes to) × (taken_before takes to ≤ taken_before takes from + (to - from))
+  some_between from to order =
       let some = some_taken (to - from) from in
       let same : from + (to - from) ≡ to = omega arith in
-      rw same at some.0
+      rw same at some
 
 -- what is not chosen by the one is by the other
 pub by_one : (one other : Bool) → other ≡ not one → IsTrue one ⊎ IsTrue other
@@ -92,7 +93,7 @@ by_one true other e = inl refl
 by_one false other e = inr (rw e refl)
 
 -- two choices of which one takes what the other does not take all triangles together
-pub both_take : (one other : ℕ → Bool) → ((run : ℕ) → other run ≡ not (one run)) → (m n : ℕ)
+both_take : (one other : ℕ → Bool) → ((run : ℕ) → other run ≡ not (one run)) → (m n : ℕ)
     → taken_before one (n + m) + taken_before other (n + m) ≡ taken_before one n + taken_before other n + m
 both_take one other against zero n = simp add-zero
 both_take one other against (suc m) n =
@@ -111,3 +112,10 @@ both_take one other against (suc m) n =
         let first = one_left one k e in
         let second = one_taken other k (rw (against (k / 256), e) refl) in
         omega (arith, first, second, h)
+
+pub both_between : (one other : ℕ → Bool) → ((run : ℕ) → other run ≡ not (one run)) → (from to : ℕ) → from ≤ to
+    → taken_before one to + taken_before other to ≡ taken_before one from + taken_before other from + (to - from)
+both_between one other against from to order =
+    let both = both_take one other against (to - from) from in
+    let same : from + (to - from) ≡ to = omega arith in
+    rw same at both

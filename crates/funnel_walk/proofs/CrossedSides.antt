@@ -21,10 +21,9 @@ use Rattle.exact_plane.specs.Spot.{IsNamed, point_named}
 use Rattle.exact_plane.specs.declared.turns.Spot.{Spot}
 use Rattle.exact_plane.specs.declared.turns.Spot.TheVariants.{Corner, Start}
 use Rattle.funnel_walk.proofs.Closed.{left_named, more_named, one_named, right_named}
-use Rattle.funnel_walk.proofs.Opened.{next_diagonal, shared}
+use Rattle.funnel_walk.proofs.Opened.{next_diagonal, shared, diagonal_below}
 use Rattle.funnel_walk.proofs.PathNames.{apex_below, front_named, left_points, name_behind, name_in_front, named_drop, named_push}
 use Rattle.funnel_walk.proofs.PathNames.{named_take, rest_named, right_points}
-use Rattle.funnel_walk.proofs.SideCorners.{diagonal_below}
 use Rattle.funnel_walk.specs.Names.{left_names, right_names}
 use Rattle.funnel_walk.specs.Walked.{IsWalked}
 

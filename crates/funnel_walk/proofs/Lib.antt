@@ -2,11 +2,9 @@ mod Appended
 mod Closed
 mod CrossedSides
 mod FirstNamed
-mod GoalReached
+mod ShortWalks
 mod KeptNames
 mod PathNames
 mod NarrowedLeft
 mod NarrowedRight
 mod Opened
-mod ShortWalks
-mod SideCorners

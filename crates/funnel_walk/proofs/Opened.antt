@@ -1,12 +1,13 @@
+-- The corners of a diagonal are vertices, so their names stand for points.
 -- Two diagonals of a sleeve that follow each other, in the triangle between them; and each diagonal is shared by two triangles.
 -- The names of the first funnel: of the start between the ends of the first diagonal, or at one of them.
-use Rattle.std.proofs.Common.{◌≡◌, ◌≢◌, ◌⊎◌, sym, ◌∙◌, subst, ℕ, ◌+◌, ◌-◌, ◌<◌, inl, inr, List, length, get_or, arith, refl, [], ◌∷◌}
+use Rattle.std.proofs.Common.{ℕ, ◌<◌, List, length, get_or, arith, ◌≡◌, ◌≢◌, ◌⊎◌, sym, ◌∙◌, subst, ◌+◌, ◌-◌, inl, inr, refl, [], ◌∷◌}
 use Rattle.std.proofs.lemmas.List.Elements.{All-nil}
 use Rattle.plane.specs.Point.{Point, whole}
 use Rattle.plane.specs.Turn.{IsLeft}
 use Rattle.rings.proofs.Vertices.{vertex_in_range}
 use Rattle.rings.specs.Ring.{vertex, origin}
-use Rattle.meshes.proofs.Sides.{fitting_sides}
+use Rattle.meshes.proofs.Sides.{ends_below, fitting_sides}
 use Rattle.meshes.proofs.TreeLeaves.{next_corner, side_is_one}
 use Rattle.meshes.specs.Fits.{Fits, IsInTri}
 use Rattle.meshes.specs.Side.{HasSidesOnce, HasSide, tri_at}
@@ -21,8 +22,15 @@ use Rattle.exact_plane.specs.Spot.{IsNamed, point_named}
 use Rattle.exact_plane.specs.declared.turns.Spot.{Spot}
 use Rattle.exact_plane.specs.declared.turns.Spot.TheVariants.{Corner, Start}
 use Rattle.funnel_walk.proofs.Closed.{more_named, one_named}
-use Rattle.funnel_walk.proofs.SideCorners.{diagonal_below}
 use Rattle.funnel_walk.specs.Walked.{IsWalked}
+
+pub diagonal_below : (corners : List Point) (tris : List Tri) → Fits corners tris → (sleeve : Sleeve) → IsOneOf tris sleeve
+    → (i : ℕ) → i < length sleeve.diagonals
+    → ((diagonal_at sleeve i).left < length corners) × ((diagonal_at sleeve i).right < length corners)
+diagonal_below corners tris fits sleeve of_mesh i below =
+    let ends = ends_below corners tris fits (get_or sleeve.walk i 0) (diagonal_at sleeve i).right (diagonal_at sleeve i).left
+    (of_mesh.walk.in_list i (omega (arith, of_mesh.count))) (of_mesh.diagonals i below).of_first in
+    (ends.1, ends.0)
 
 -- a triangle that is entered over the side from l to r is left over the side from p to q: its left end stays or its right end does
 abbrev pub IsNextSide : Tri → ℕ → ℕ → ℕ → ℕ → Type 0

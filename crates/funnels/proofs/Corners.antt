@@ -4,25 +4,17 @@
 mod TurningSigns
 pub use Rattle.funnels.proofs.Corners.TurningSigns.{left_of_line, left_of_second, not_right_of_first}
 -- The edges of a piece as edges of its points, and a vertex on a side of a triangle.
-mod PieceEdges
-pub use Rattle.funnels.proofs.Corners.PieceEdges.{end_of_its_side}
 -- The edges of a ring by the numbers of their ends, and the neighbours of a vertex on one ray.
-mod RingSteps
-pub use Rattle.funnels.proofs.Corners.RingSteps.{IsRingStep}
 -- The turn of a ring at a vertex from which one of its edges is known.
 mod RingTurns
-pub use Rattle.funnels.proofs.Corners.RingTurns.{step_turn}
+pub use Rattle.funnels.proofs.Corners.RingTurns.{end_of_its_side, IsRingStep, step_turn}
 -- The corners of a triangle of a mesh beside one of them.
-mod CornerSides
-pub use Rattle.funnels.proofs.Corners.CornerSides.{corner_after, corner_before}
--- Within the angle of a triangle of a mesh at a corner: a ring neighbour of the corner there is the end of a side, along which the ring goes
--- as the triangle does, and so there is no bend between two rays.
-mod NoBendInTriangle
-pub use Rattle.funnels.proofs.Corners.NoBendInTriangle.{neighbour_within, no_bend}
 -- A vertex of the ring in a closed triangle of a mesh is a corner of it.
 mod CornerPoints
-pub use Rattle.funnels.proofs.Corners.CornerPoints.{IsCorner, at_corner, begin_is_corner, corner_of, end_is_corner}
-mod WithinCones
+pub use Rattle.funnels.proofs.Corners.CornerPoints.{corner_after, corner_before, IsCorner, at_corner, begin_is_corner, corner_of}
+pub use Rattle.funnels.proofs.Corners.CornerPoints.{end_is_corner}
+-- Within the angle of a triangle of a mesh at a corner: a ring neighbour of the corner there is the end of a side, along which the ring goes
+-- as the triangle does, and so there is no bend between two rays.
 -- A point that a corner of a triangle of a mesh sees across the opposite side is within the angle of the triangle there.
-mod SeenWithin
-pub use Rattle.funnels.proofs.Corners.SeenWithin.{side_at_corner, within_of_seen, within_on_ray}
+mod NoBendInTriangle
+pub use Rattle.funnels.proofs.Corners.NoBendInTriangle.{neighbour_within, no_bend, side_at_corner, within_of_seen, within_on_ray}

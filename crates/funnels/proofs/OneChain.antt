@@ -4,13 +4,9 @@
 mod SubChains
 pub use Rattle.funnels.proofs.OneChain.SubChains.{front_and_last, front_at, front_bent, front_length}
 -- A bend read backward, and one where a point beside it is another one on the same ray.
-mod RayBends
-pub use Rattle.funnels.proofs.OneChain.RayBends.{bend_back, bend_from_ray, bend_on_ray}
 -- The front of a chain with bends, and a chain with bends whose last step is shorter.
-mod ShorterSteps
-pub use Rattle.funnels.proofs.OneChain.ShorterSteps.{before_last, front, last_of, shorter_step}
 mod SameChains
-mod LastSteps
+pub use Rattle.funnels.proofs.OneChain.SameChains.{bend_back, bend_from_ray, bend_on_ray, before_last, front, last_of, shorter_step}
 mod ComeTogether
 -- In a simple ring there is one chain with bends between two points, and none that ends where it begins.
 mod OneChains

@@ -8,7 +8,6 @@ pub use Rattle.funnels.proofs.Vertices.ConvexVertices.{convex_vertex}
 -- a side that two triangles share.
 mod CornerTriangles
 pub use Rattle.funnels.proofs.Vertices.CornerTriangles.{IsSharedSide, neighbour_not_inside, off_shared, shared_side_back}
-mod LeftOfEdges
 -- A ring that triangles fit is simple, has three vertices or more, and runs counterclockwise: the points of a triangle beside its first edge are in it, and they are on the left.
 mod FittedRings
 pub use Rattle.funnels.proofs.Vertices.FittedRings.{fitted_counterclockwise, fitted_long, fitted_simple}

@@ -2,12 +2,11 @@ mod Behind
 mod Counting
 mod Crossed
 mod Filling
-mod Handles
+mod Values
 mod Pairs
 mod Paths
 mod Places
 mod Putting
 mod Together
 mod Twos
-mod Values
 mod Words

@@ -1,7 +1,5 @@
 -- The sides of a hull of points, in the list that the ring was made of.
-use Rattle.std.proofs.Common.{inl, inr, refl, ℕ, zero, suc, ◌+◌, ◌*◌, ◌-◌, ◌<◌, ◌≤◌, ◌^◌, List, length, arith}
-use Rattle.std.proofs.lemmas.Bool.{cases_lt}
-use Rattle.std.proofs.lemmas.List.{length-map}
+use Rattle.std.proofs.Common.{refl, ℕ, ◌<◌, ◌^◌, List, length, arith}
 use Rattle.std.specs.Prelude.{map}
 use Rattle.plane.specs.Pairs.{pair_at}
 use Rattle.plane.specs.Point.{Point}
@@ -13,6 +11,7 @@ use Rattle.geo_reply.specs.declared.reply.Reply.TheVariants as reply
 use Rattle.geo_reply.specs.declared.reply.Side.{Side}
 use Rattle.ring_check.specs.Oriented.{Oriented, given_of}
 use Rattle.rel_hull.specs.Table.{AreSides, table_points}
+use Rattle.pair_cut.proofs.PairOrder.{sorted_few}
 use Rattle.geo_session.proofs.GivenFull.{shown_given}
 use Rattle.geo_session.proofs.GivenSides.{sides_given}
 use Rattle.geo_session.proofs.HullTable.{short_chain, side_numbered, sides_numbered}
@@ -25,29 +24,6 @@ use Rattle.geo_session.specs.declared.hull.Span.{Span}
 
 -- ---- the sides
 
-module _ (ring points : List Point) (sides : List (ℕ × ℕ)) (are : AreSides ring points sides) (few : length points ≤ 64) where
-  -- the sides rise in an order of at most 64 * 64 pairs
-  rank_below : (k : ℕ) → k < length sides → k ≤ 64 * (pair_at sides k).0 + (pair_at sides k).1
-  rank_below zero below = omega arith
-  rank_below (suc k) below =
-      let before : k < length sides = omega (arith, below) in
-      let t_in = (are.sides k before).t_in_list in
-      let rank = rank_below k before in
-      elim (are.sorted k (suc k) (omega arith) below) [
-        | inl less ↦ omega arith
-        | inr h ↦ let same = h.0 in let less = h.1 in omega arith
-      ]
-
-  sides_few : length sides < 2 ^ 32
-  sides_few = elim (cases_lt 0 (length sides)) [
-    | inl some ↦
-        let last : length sides - 1 < length sides = omega arith in
-        let rank = rank_below (length sides - 1) last in
-        let side = are.sides (length sides - 1) last in
-        omega (arith, rank, side.s_in_list, side.t_in_list, few)
-    | inr none ↦ omega arith
-  ]
-
 module _ (ring : Oriented) (tris : List Tri) (points : List Point) (span : Span) (is : IsSpan ring.corners tris points span) (pairs : List (ℕ × ℕ))
     (are : AreSides ring.corners (table_points span.chains) pairs) where
   numbered_sides : AreSides ring.corners (map (point_at points) span.numbers.items) pairs
@@ -59,9 +35,7 @@ module _ (ring : Oriented) (tris : List Tri) (points : List Point) (span : Span)
   ends_numbered k below = side_numbered ring.corners points span.numbers.items pairs numbered_sides k below
 
   pub pairs_few : length pairs < 2 ^ 32
-  pairs_few =
-      sides_few ring.corners (map (point_at points) span.numbers.items) pairs numbered_sides
-      (omega (arith, length-map span.numbers.items (point_at points), is.few))
+  pairs_few = sorted_few pairs (λ k below. let at = ends_numbered k below in (omega (arith, at.0, is.few), omega (arith, at.1, is.few))) are.sorted
 
   -- and what is told of the sides are the sides of the points
   module _ (version : Version) (told : List Side) (all : AreSidesTold version ring.corners span pairs (length pairs) told) where

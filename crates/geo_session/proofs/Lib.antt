@@ -21,7 +21,6 @@ mod Befores
 mod PairPaths
 mod SortedPairs
 mod TurnedPairs
-mod FewSights
 mod Spanned
 mod HullSteps
 mod HullTable

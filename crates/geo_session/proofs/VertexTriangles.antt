@@ -8,7 +8,7 @@ use Rattle.meshes.specs.Side.{IsWalkBetween, tri_at}
 use Rattle.meshes.specs.Sleeve.{IsOneOf, Sleeve}
 use Rattle.meshes.specs.declared.tri.Tri.{Tri}
 use Rattle.tri_mesh.specs.Corner.{HasCorner}
-use Rattle.shared_funnel.proofs.TriCorners.{corner_in}
+use Rattle.shared_funnel.proofs.Doors.{corner_in}
 use Rattle.geo_session.specs.Sleeves.{IsPathAlong}
 
 module _ (corners : List Point) (tris : List Tri) (fits : Fits corners tris) where

@@ -1,6 +1,5 @@
 mod CappedNumber
 mod Commands
-mod Counts
 mod Faults
 mod FieldAt
 mod Fuel

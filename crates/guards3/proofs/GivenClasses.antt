@@ -45,12 +45,12 @@ across_below count t corners (suc (suc zero)) below = corners.b
 across_below count t corners (suc (suc (suc n))) below = absurd (omega arith)
 
 -- the corners of the triangles of a mesh are vertices
-pub corners_below : (corners : List Point) (tris : List Tri) → Fits corners tris → (k : ℕ) → k < length tris
-    → HasCorners (length corners) (tri_at tris k)
-corners_below corners tris fits k below =
+pub corners_below : (corners : List Point) (tris : List Tri) → Fits corners tris → (n : ℕ) → n ≡ length corners → (k : ℕ) → k < length tris
+    → HasCorners n (tri_at tris k)
+corners_below corners tris fits n is k below =
     let tri = fits.triangles k below in
     let vertices = below_of_member (length corners) in
-    record { a = vertices _ tri.has_a; b = vertices _ tri.has_b; c = vertices _ tri.has_c }
+    subst (λ m. HasCorners m (tri_at tris k)) (sym is) (record { a = vertices _ tri.has_a; b = vertices _ tri.has_b; c = vertices _ tri.has_c })
 
 -- ---- triangle 0
 

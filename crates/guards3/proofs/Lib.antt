@@ -2,8 +2,7 @@ mod ThreeClasses
 mod OneParting
 mod SomeParting
 mod GivenClasses
-mod Choice
+pub mod OneGuards
 mod ClassMembers
 pub mod GivenNumbers
 mod Watched
-pub mod OneGuards

@@ -14,7 +14,7 @@ use Rattle.meshes.specs.Fits.{Fits, IsInTri}
 use Rattle.meshes.specs.Side.{HasSide, tri_at}
 use Rattle.meshes.specs.declared.tri.Tri.{Tri}
 use Rattle.ring_check.specs.Oriented.{Oriented, given_index, given_of}
-use Rattle.guards3.proofs.Choice.{corner_of_class, member_of_vertex}
+use Rattle.guards3.proofs.OneGuards.{corner_of_class, member_of_vertex}
 use Rattle.guards3.proofs.GivenNumbers.{given_vertex, in_ring, sees_given}
 use Rattle.guards3.specs.Guards.{IsParting, SeeAll, class_of, members}
 

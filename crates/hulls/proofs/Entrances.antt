@@ -4,19 +4,13 @@
 -- is the point of the funnel from which it is reached.
 mod Trails
 pub use Rattle.hulls.proofs.Entrances.Trails.{Entrance, IsBetween, IsEntered, IsGate, IsNamed, IsTrail, between_back, last_of}
-mod FirstEntrances
-mod NextEntrances
 -- From the last triangle of a trail over a shared side to a neighbour: back to the triangle before, or on to one more. The points of the side
 -- have the same gates there.
-mod Crossings
-pub use Rattle.hulls.proofs.Entrances.Crossings.{GoesTo, crosses, has_gate}
+mod NextEntrances
+pub use Rattle.hulls.proofs.Entrances.NextEntrances.{GoesTo, crosses, has_gate}
 -- Along each walk over the triangles of a mesh from one with a point b goes a trail, so there is one to each triangle.
-mod TrailsFound
-pub use Rattle.hulls.proofs.Entrances.TrailsFound.{side_crossed, trail_to}
 -- The gate of a point comes before it on the path from b, where it is another point; so there is a path to each point of the ring.
-mod PathsFound
-pub use Rattle.hulls.proofs.Entrances.PathsFound.{before_gate}
 -- A simple ring and the ring that is kept of it, counterclockwise, have the same paths; so in a simple ring there is a path between each two
 -- points.
-mod KeptPaths
-pub use Rattle.hulls.proofs.Entrances.KeptPaths.{in_kept, of_kept, path_turned, paths}
+mod PathsFound
+pub use Rattle.hulls.proofs.Entrances.PathsFound.{side_crossed, trail_to, before_gate, in_kept, of_kept, path_turned, paths}

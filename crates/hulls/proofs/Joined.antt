@@ -6,16 +6,12 @@ mod ChainsOver
 pub use Rattle.hulls.proofs.Joined.ChainsOver.{GoesOnTo, back_at, back_bent, goes_on_beyond, goes_on_step, on_path_over, over_begins}
 pub use Rattle.hulls.proofs.Joined.ChainsOver.{over_bent, over_ends, rest_at, rest_bent, sees_back}
 -- A chain with bends that goes on to another.
+-- Two chains with bends from one point that have the same point at a place are one up to it.
 mod LinkedChains
-pub use Rattle.hulls.proofs.Joined.LinkedChains.{at_first, at_second, both_length}
+pub use Rattle.hulls.proofs.Joined.LinkedChains.{at_first, at_second, both_length, one_front}
 -- Paths from one point that are joined over it are a path together; and where the path from a point on a chain goes first.
 -- A point is on the path from a to b exactly if the paths from it to a and to b are joined over it.
+-- A path read backward is the path back; and a point on a path is on the step with the number of the last step of the path to it.
 mod OnPaths
 pub use Rattle.hulls.proofs.Joined.OnPaths.{joined_of_on_path, on_path_iff_joined, on_path_of_bent, on_path_of_joined, path_is_taut}
-pub use Rattle.hulls.proofs.Joined.OnPaths.{step_along, step_differs}
--- A path read backward is the path back; and a point on a path is on the step with the number of the last step of the path to it.
-mod PassedSteps
-pub use Rattle.hulls.proofs.Joined.PassedSteps.{on_step_to, path_steps}
--- Two chains with bends from one point that have the same point at a place are one up to it.
-mod OneFront
-pub use Rattle.hulls.proofs.Joined.OneFront.{one_front}
+pub use Rattle.hulls.proofs.Joined.OnPaths.{step_along, step_differs, on_step_to, path_steps}

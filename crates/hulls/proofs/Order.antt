@@ -2,14 +2,11 @@
 
 -- Two bends over one point, with one way to it: the ways on are to one side of that.
 -- Three ways on from one point, with their next points ahead of a line: to be to the left goes on from one to the next.
-mod Partings
-pub use Rattle.hulls.proofs.Order.Partings.{same_first}
--- Ways on from one point, of which one is to the left of the other where they part.
-mod Ways
-pub use Rattle.hulls.proofs.Order.Ways.{HasFirst, IsLeftOf, TurnsLeft, first_of_one, first_of_other}
 -- Three ways on from one point, each to the left of the one before: the last is to the left of the first.
+-- Ways on from one point, of which one is to the left of the other where they part.
 mod Followed
-pub use Rattle.hulls.proofs.Order.Followed.{AreAhead, left_follows, left_of_alike, right_of_alike}
+pub use Rattle.hulls.proofs.Order.Followed.{same_first, AreAhead, left_follows, left_of_alike, right_of_alike, HasFirst, IsLeftOf}
+pub use Rattle.hulls.proofs.Order.Followed.{TurnsLeft, first_of_one, first_of_other}
 -- Points on the ray from t through e, or to the right of it, or to the left of it: all are ahead of one line through t.
 mod Starts
 pub use Rattle.hulls.proofs.Order.Starts.{IsLeftOn, IsOnRay, IsRightOn, ahead_of_left, ahead_of_ray}

@@ -4,7 +4,6 @@ mod Sides
 -- Where a number is in a list, how many numbers below a bound a list has, and a list with one more.
 mod Places
 pub use Rattle.hulls.proofs.Round.Places.{HasNoneTwice, IsIn, at_most, is_in_or_not}
-mod Chains
 -- A closed chain has every side, so it is a round.
 mod AllSides
 pub use Rattle.hulls.proofs.Round.AllSides.{after_inner, after_last, place_after}

@@ -3,10 +3,8 @@
 mod LineSides
 mod InnerPoints
 mod OwnGates
-mod Pairs
 mod OnWay
 -- A step past no vertex along a walk of triangles: it comes from one to the next over the side between them, and so to its end.
 -- In a simple ring each step past no vertex that a point of the ring is not on is seen from that point in one of four ways.
 mod KeptSteps
 pub use Rattle.hulls.proofs.StepsSeen.KeptSteps.{steps}
-mod Seen

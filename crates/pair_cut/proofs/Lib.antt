@@ -1,10 +1,8 @@
 pub mod Climbs
 pub mod DoorFunnels
 pub mod FunnelPaths
-pub mod NumberedRows
+pub mod TableRows
 pub mod PairOrder
-pub mod RowGrowth
 pub mod SightLists
 pub mod SightPaths
-pub mod TableRows
 pub mod WayBack

@@ -1,5 +1,3 @@
-pub mod EnteredFunnels
-pub mod GoneBack
 pub mod GrownOver
 pub mod GrownPaths
 pub mod TreeFunnels

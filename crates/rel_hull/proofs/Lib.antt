@@ -1,13 +1,10 @@
 pub mod Closing
 pub mod Costs
-mod Exchanged
+pub mod Turned
 mod OnLine
 mod OnSteps
 pub mod Outer
 mod Paths
 mod PathTurns
-mod SideEnds
-mod SideLists
 mod TableSides
 mod TableReads
-pub mod Turned

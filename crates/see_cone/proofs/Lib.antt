@@ -1,7 +1,6 @@
 mod EdgesMore
 mod EdgesTold
 mod FirstParts
-mod ReachedAll
 mod ReachedMore
 mod SidesBeyond
 mod TurnTests

@@ -22,6 +22,13 @@ pub(crate) struct Reached {
     pub cone: Option<Cone>,
 }
 
+// Side 0, 1 or 2 of the triangle that was reached at a place.
+#[derive(Clone, Copy)]
+struct SideAt {
+    place: usize,
+    number: u32,
+}
+
 // The triangles of which `q` sees something and those beside them, outward from `home`, which has `q`. It takes at most 5 steps
 // for each of them.
 pub(crate) fn reach_seen<L: Ledger>(
@@ -79,38 +86,48 @@ fn reach_around<L: Ledger>(
         return Ok(());
     }
     for side in 0..3 {
-        reach_over(reached, ring, mesh, place, side, q, steps)?;
+        reach_over(
+            reached,
+            ring,
+            mesh,
+            SideAt {
+                place,
+                number: side,
+            },
+            q,
+            steps,
+        )?;
     }
     Ok(())
 }
 
-// Reaches the triangle beyond a side of the one at a place, if there is one and that was not reached from it. It takes at most 5
-// steps, and none where nothing is new.
+// Reaches the triangle beyond a side, if there is one and this one was not reached from it. It takes at most 5 steps, and none where
+// nothing is new.
 fn reach_over<L: Ledger>(
     reached: &mut Vec<Reached>,
     ring: &Ring,
     mesh: &Mesh,
-    place: usize,
-    side: u32,
+    side: SideAt,
     q: &Pt,
     steps: &mut Steps<L>,
 ) -> Result<(), Memory>
     requires fits { Fits ring.now.corners mesh.now }
-    requires place { place < length reached.old.items }
-    requires side { side < 3 }
-    requires reached { AreReached ring.now.corners mesh.now q.now reached.old.items (place + 1) }
-    requires new { AreNewBeyond mesh.now reached.old.items place side }
-    ensures grown { OnOk result (IsReachGrown reached.old.items reached.new.items (IsAcrossSide mesh.now (tri_there reached.old.items place) side)) }
-    ensures reached { OnOk result (AreReached ring.now.corners mesh.now q.now reached.new.items (place + 1)) }
-    ensures done { OnOk result (IsSideReached mesh.now reached.new.items (tri_there reached.old.items place) side) }
+    requires place { side.place < length reached.old.items }
+    requires side { side.number < 3 }
+    requires reached { AreReached ring.now.corners mesh.now q.now reached.old.items (side.place + 1) }
+    requires new { AreNewBeyond mesh.now reached.old.items side.place side.number }
+    ensures grown { OnOk result (IsReachGrown reached.old.items reached.new.items
+        (IsAcrossSide mesh.now (tri_there reached.old.items side.place) side.number)) }
+    ensures reached { OnOk result (AreReached ring.now.corners mesh.now q.now reached.new.items (side.place + 1)) }
+    ensures done { OnOk result (IsSideReached mesh.now reached.new.items (tri_there reached.old.items side.place) side.number) }
     ensures each { OnOk result (steps.new + 5 * length reached.old.items ≤ steps.old + 5 * length reached.new.items) }
     ensures steps { steps.new ≤ steps.old + 5 }
 {
-    let here = *at(reached, place);
-    match mesh.across(here.tri, side) {
+    let here = *at(reached, side.place);
+    match mesh.across(here.tri, side.number) {
         Some(tri) => {
             if tri != here.from {
-                let (begin, end) = side_ends(&mesh.tri(here.tri), side);
+                let (begin, end) = side_ends(&mesh.tri(here.tri), side.number);
                 let cone = narrowed(q, &here.cone, &ring.corner(end), &ring.corner(begin), steps);
                 reached.push(Reached {
                     tri,

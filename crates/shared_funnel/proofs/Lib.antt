@@ -1,12 +1,7 @@
 pub mod Doors
-pub mod Entrances
-pub mod FirstFunnels
+pub mod NextFunnels
+pub mod FunnelNumbers
 pub mod Halving
 pub mod Lists
-pub mod NextFunnels
-pub mod Numbers
 pub mod ReachedBefore
-pub mod SourceNumber
 pub mod StepCounts
-pub mod Steps
-pub mod TriCorners

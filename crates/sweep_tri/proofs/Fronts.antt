@@ -8,26 +8,20 @@ pub use Rattle.sweep_tri.proofs.Fronts.Sides.{above_no_end, above_not_under, und
 mod Beside
 pub use Rattle.sweep_tri.proofs.Fronts.Beside.{AreBeside, beside_below, beside_differ, beside_rank_differs, beside_swapped, event_vertex, front}
 -- The edges that the sweep line meets, parted by a vertex: those that it is above, those that end there, and those that it is under.
-mod Parted
-pub use Rattle.sweep_tri.proofs.Fronts.Parted.{IsParted}
 -- How many of the edges that the sweep line meets end at the vertex of an event: as many as it has neighbours before it.
 -- The edges below and above one gap: where the vertex of an event is to them, and whether they end there.
-mod GapPlaces
-pub use Rattle.sweep_tri.proofs.Fronts.GapPlaces.{GoesOn, low_is_front, sorted, up_is_front}
+mod Parted
+pub use Rattle.sweep_tri.proofs.Fronts.Parted.{IsParted, GoesOn, low_is_front, sorted, up_is_front}
 -- The two edges that begin at a vertex turn to one side.
-mod Turning
-pub use Rattle.sweep_tri.proofs.Fronts.Turning.{not_straight, turns_left}
 -- The edges that begin at the vertex of an event.
 mod Beginning
+pub use Rattle.sweep_tri.proofs.Fronts.Beginning.{not_straight, turns_left}
 -- A list of edges in which some give way to others.
-mod Spliced
--- An edge that the sweep line meets, and one that begins beside it.
-mod Entered
 -- The edges that the sweep line meets after an event.
-mod Passed
 -- Before the first event and after the last one there are none.
-mod Bounds
-pub use Rattle.sweep_tri.proofs.Fronts.Bounds.{frontier_first, frontier_last}
+-- An edge that the sweep line meets, and one that begins beside it.
+mod Passed
+pub use Rattle.sweep_tri.proofs.Fronts.Passed.{frontier_first, frontier_last}
 -- The edges below and above some gaps, as one list.
 mod Gaps
 -- The edges of the gaps after one is put in, replaced, divided, taken out or joined with another.

@@ -20,6 +20,5 @@ pub mod Closing
 pub mod Work
 -- The steps that the events take, by the entries of the gaps before and after them.
 -- What the turn of three corners says of a vertex and an edge.
-pub mod Corners
 -- An event that the sweep passes: what it needs of the state, and what it takes.
 pub mod Passes

@@ -6,13 +6,11 @@ pub use Rattle.sweep_tri.proofs.Regions.Paths.{before_last_grown, last_grown, le
 -- A region and a gap seen from one of their sides, so that what holds at the one is shown at the other too.
 mod Sides
 pub use Rattle.sweep_tri.proofs.Regions.Sides.{IsNearer, IsShort, far_chain, far_front, near_chain, near_front}
+-- What comes to an end at an event: the ranks of the vertices of a chain.
+-- An open region whose near chain ends at the vertex of an event, after that.
 mod Halves
 -- An edge on the near side of another one, by where its ends are.
 mod Edges
--- What comes to an end at an event: the ranks of the vertices of a chain.
-mod Ranks
--- An open region whose near chain ends at the vertex of an event, after that.
-mod Continued
 -- Two edges from one vertex, and the region between them.
 mod Starts
 -- A region without the last edge of its near chain.
@@ -23,7 +21,6 @@ mod Latest
 mod Parts
 pub use Rattle.sweep_tri.proofs.Regions.Parts.{closes, left_ends, left_far}
 -- What the events make of gaps.
+-- One region on both sides of a diagonal to the vertex of a split.
 mod Events
 pub use Rattle.sweep_tri.proofs.Regions.Events.{begins, ends, goes_on, merges, splits_above, splits_below, stays}
--- One region on both sides of a diagonal to the vertex of a split.
-mod Diagonals

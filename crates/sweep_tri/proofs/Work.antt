@@ -148,16 +148,29 @@ module _ (gaps : List Gap) (j : ℕ) (s0 : ℕ) where
             entries_split ranks v a b g.low g.high,
           )
 
-    -- ---- an edge of the gap ends, so that some regions are closed and one is left; the gap is taken away in some steps more
+    -- ---- an edge of the gap ends, so that some regions are closed and one is left
 
-    module _ (side : Side) (v : ℕ) (more s1 s2 work : ℕ) (enough : more + 16 ≤ work) (first : s1 ≤ s0 + more)
-        (met : let g = gap_at gaps j in s2 ≤ s1 + 8 * entries_of_all (closed_at side g.low g.high v)) where
-      cost : let g = gap_at gaps j in entries_of_all (closed_at side g.low g.high v) + entries (left_at side g.low g.high v) ≤ gap_entries g + 2
-      cost = let g = gap_at gaps j in entries_met side g.low g.high v
+    module _ (side : Side) (v : ℕ) (g : Gap) (is_gap : g ≡ gap_at gaps j) (s1 s2 : ℕ)
+        (met : s2 ≤ s1 + 8 * entries_of_all (closed_at side g.low g.high v)) where
+      all_met : entries_of_all (closed_at side g.low g.high v) + entries (left_at side g.low g.high v) ≤ gap_entries (gap_at gaps j) + 2
+      all_met = omega (arith, entries_met side g.low g.high v, ap gap_entries is_gap)
 
-      pub meets_work : IsWithinAccount gaps work s0 s2
-      meets_work = omega (arith, enough, first, met, cost, entries_within gaps j within)
+      -- the gap is removed
+      module _ (first : s1 ≤ s0 + (40 * (binary_digits (length gaps) + 1) + 2 * binary_digits (length gaps) + 1)) where
+        pub removed_work : IsWithinAccount gaps (42 * binary_digits (length gaps) + 57) s0 s2
+        removed_work = omega (arith, first, met, all_met, entries_within gaps j within)
 
-      pub meets_paid : (new : List Gap) → status_entries new + gap_entries (gap_at gaps j) ≡ status_entries gaps
-          → (region : Chains) → (let g = gap_at gaps j in region ≡ left_at side g.low g.high v) → IsPaid gaps new work s0 (s2 + 8 * entries region)
-      meets_paid new gone region is = omega (arith, enough, first, met, cost, gone, ap entries is)
+        pub removed_paid : (new : List Gap) → new ≡ remove gaps j → (left : Chains) → left ≡ left_at side g.low g.high v
+            → IsPaid gaps new (42 * binary_digits (length gaps) + 57) s0 (s2 + 8 * entries left)
+        removed_paid new is left left_is =
+            omega (arith, first, met, all_met, entries_removed gaps j within, ap status_entries is, ap entries left_is)
+
+      -- nothing is left in it
+      module _ (first : s1 ≤ s0 + 2 * binary_digits (length gaps) + 1) where
+        pub emptied_work : IsWithinAccount gaps (2 * binary_digits (length gaps) + 17) s0 s2
+        emptied_work = omega (arith, first, met, all_met, entries_within gaps j within)
+
+        pub emptied_paid : (none : Gap) → none ≡ no_gap → (new : List Gap) → new ≡ set gaps j none → (left : Chains)
+            → left ≡ left_at side g.low g.high v → IsPaid gaps new (2 * binary_digits (length gaps) + 17) s0 (s2 + 8 * entries left)
+        emptied_paid none none_is new is left left_is =
+            omega (arith, first, met, all_met, entries_replaced gaps j none within, ap gap_entries none_is, ap status_entries is, ap entries left_is)

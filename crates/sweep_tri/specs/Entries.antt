@@ -31,13 +31,6 @@ status_entries (g ∷ gs) = gap_entries g + status_entries gs
 abbrev pub event_work : List Gap → ℕ
 event_work gaps = 46 * binary_digits (length gaps + 1) + 100
 
--- those to meet at a gap, and with its removal
-abbrev pub meet_work : List Gap → ℕ
-meet_work gaps = 2 * binary_digits (length gaps) + 17
-
-abbrev pub meet_last_work : List Gap → ℕ
-meet_last_work gaps = 42 * binary_digits (length gaps) + 57
-
 -- the steps s after an event that began at s_old are paid for by the entries of the gaps that were there, eight for each, and some more
 abbrev pub IsWithinAccount : List Gap → ℕ → ℕ → ℕ → Type 0
 IsWithinAccount old more s_old s = s ≤ s_old + 8 * status_entries old + more

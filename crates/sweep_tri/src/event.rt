@@ -10,7 +10,6 @@ ghost use Rattle.sweep_tri.specs.Passing.{Begins, Finishes, IsNextEvent, placed_
 ghost use Rattle.sweep_tri.specs.Swept.{IsSwept};
 
 mod end;
-mod meeting;
 mod merge;
 mod regular;
 mod split;

@@ -1,24 +1,148 @@
+-- At an end of a shared side, and a point of the triangle beyond it: a bend from the end to the other one goes on to the point, and turns
+-- the same way; and a fan from a point round to the side makes a bend, where the way over the end turns off past the side.
+-- At the corner of a triangle beyond the diagonal fans begin with the way back to the point of the funnel that it is reached from.
 -- The ends of the next funnel, on the side from the corner beyond the diagonal to its right end, or to its left end.
-use Rattle.std.proofs.Common.{◌≡◌, inl, inr, sym, ap, subst, ◌∙◌, true, false, List, [], ◌∷◌, ◌++◌, length, drop, take, ℕ, ◌+◌, ◌-◌, ◌<◌, min, pos}
-use Rattle.std.proofs.Common.{◌<ℤ◌, arith}
+use Rattle.std.proofs.Common.{◌≡◌, Bool, refl, sym, ℕ, ◌<◌, pos, ◌<ℤ◌, ◌≤ℤ◌, List, length, true, false, subst, inl, inr, ap, ◌∙◌, [], ◌∷◌}
+use Rattle.std.proofs.Common.{◌++◌, drop, take, ◌+◌, ◌-◌, min, arith}
 use Rattle.std.proofs.lemmas.Bool.{cases_lt}
-use Rattle.integer_algebra.proofs.SignSteps.{positive_not_negative}
-use Rattle.plane.specs.Point.{Point, whole}
+use Rattle.integer_algebra.proofs.SignSteps.{not_both, turned_positive, zero_not_positive, at_least_unless, at_most_unless, turned_negative}
+use Rattle.integer_algebra.proofs.SignSteps.{turned_not_negative, positive_not_negative}
+use Rattle.integer_algebra.proofs.Signs.{is_negative, is_positive, is_zero, sign}
+use Rattle.plane.proofs.Points.{same_whole, whole_is_point}
+use Rattle.plane.proofs.Segments.{on_reversed}
+use Rattle.plane.proofs.Turns.{determinant_shift, determinant_swap_first}
+use Rattle.plane.specs.Point.{IsSame, Point, whole}
 use Rattle.plane.specs.Turn.{IsLeft, IsRight}
+use Rattle.rings.specs.Bend.{IsBend}
 use Rattle.rings.specs.Chain.{point_at}
 use Rattle.rings.specs.Ring.{vertex}
 use Rattle.rings.specs.Sees.{Sees}
-use Rattle.meshes.specs.Fits.{Fits}
-use Rattle.meshes.specs.Side.{HasSide, tri_at}
+use Rattle.meshes.proofs.TreeLeaves.{turns_left}
+use Rattle.meshes.specs.Fits.{Fits, IsInTri}
+use Rattle.meshes.specs.Side.{tri_at, HasSide}
 use Rattle.meshes.specs.declared.tri.Tri.{Tri}
-use Rattle.funnels.proofs.Bends.{fan_goes_on}
-use Rattle.funnels.proofs.Chains.EndFans.{corner_beyond, corner_left, fan_to_left, fan_to_right}
+use Rattle.funnels.proofs.Bends.{AreOnRay, bend_of_fan, corner_in_ring, corner_turns, grown_bend, grown_turning, in_angle, last_step}
+use Rattle.funnels.proofs.Bends.{on_after, on_ray_back, turning_differs_first, turning_swap, turning_to_ray, wider_bend, fan_begins}
+use Rattle.funnels.proofs.Bends.{within_back, fan_goes_on}
 use Rattle.funnels.proofs.Chains.WaysBefore.{before_apex_left, before_apex_right, before_last_left, before_last_right}
-use Rattle.funnels.proofs.Funnels.{left_place, next_left_length, next_right_length, next_right_old}
-use Rattle.funnels.proofs.Vertices.{IsSharedSide, shared_side_back}
-use Rattle.funnels.specs.Fanned.{IsFanned}
-use Rattle.funnels.specs.Funnel.{IsFunnel, IsPassed, IsReachedFrom, height}
+use Rattle.funnels.proofs.Funnels.{not_negative, reaches_new, left_place, next_left_length, next_right_length, next_right_old}
+use Rattle.funnels.proofs.Vertices.{IsSharedSide, fitted_counterclockwise, fitted_long, fitted_simple, shared_side_back}
+use Rattle.funnels.specs.Corner.{HasCornerOn, IsInAngle}
+use Rattle.funnels.specs.Fanned.{IsFanned, turning, IsOpenToward}
+use Rattle.funnels.specs.Funnel.{IsFunnel, IsReachedFrom, height, IsPassed}
 use Rattle.funnels.specs.OpenFunnel.{HasOpenEnds, IsBeforeFirst, IsBeforeLast, left_behind, right_behind}
+
+module _ (corners : List Point) (tris : List Tri) (fits : Fits corners tris) (k : ℕ) (within : k < length tris)
+    (side : Bool) (before v after : ℕ) (corner : HasCornerOn side (tri_at tris k) before v after)
+    (y : Point) (inside : IsInTri corners (tri_at tris k) (whole y)) where
+  -- the end, and the other one
+  abbrev V : Point
+  V = vertex corners v
+
+  abbrev A : Point
+  A = vertex corners after
+
+  -- y is within the angle at the end
+  angle : IsInAngle side corners before v after (whole y)
+  angle = in_angle corners tris fits k within side before v after corner (whole y) inside
+
+  -- in line with the side, it is on the ray along it
+  on_ray : ¬ IsSame (whole y) (whole V) → turning side V (whole A) (whole y) ≡ pos 0 → AreOnRay (whole V) (whole A) (whole y)
+  on_ray differs level = on_ray_back (record {
+    first_rational = whole_is_point y;
+    last_rational = whole_is_point A;
+    first_differs = differs;
+    last_differs = turning_differs_first side V (whole A) (whole (vertex corners before))
+        (corner_turns corners tris fits k within side before v after corner);
+    on_ray = on_after corners tris fits k within side before v after corner (whole y) (whole_is_point y) differs level angle.to_before;
+  })
+
+  -- a bend at the end goes on to y,
+  pub bend_goes_on : IsSharedSide tris v after → ¬ (V ≡ y) → (q : Point) → IsBend corners q V A
+      → turning side V (whole q) (whole A) <ℤ pos 0 → (turning side V (whole q) (whole y) <ℤ pos 0) × IsBend corners q V y
+  bend_goes_on shared other q bend wide = elim (sign (turning side V (whole A) (whole y))) [
+    | is_negative h ↦ absurd (not_both h angle.from_after)
+    | is_zero h ↦
+        let ray = on_ray (λ same. other (sym (same_whole y V same))) h in
+        let turns = (turning_to_ray V side (whole A) (whole y) (whole q) ray).negative wide in
+        (turns, wider_bend side corners q V A y bend wide turns (zero_not_positive h))
+    | is_positive h ↦ (
+      grown_turning corners tris fits k within side before v after corner shared q y bend wide inside h,
+      grown_bend corners tris fits k within side before v after corner shared q y bend wide inside h,
+    )
+  ]
+
+  module _ (x : Point) (behind : turning side V (whole x) (whole y) <ℤ pos 0) (reach : pos 0 ≤ℤ turning side V (whole x) (whole A)) where
+    -- where the way from x over the end to y turns off past the side, y is beyond that,
+    past_side : pos 0 <ℤ turning side V (whole A) (whole y)
+    past_side = elim (sign (turning side V (whole A) (whole y))) [
+      | is_negative h ↦ absurd (not_both h angle.from_after)
+      | is_zero h ↦
+          let differs = turning_differs_first side V (whole y) (whole x)
+          (turned_positive (turning_swap side V (whole x) (whole y)) behind) in
+          absurd (not_both behind ((turning_to_ray V side (whole A) (whole y) (whole x) (on_ray differs h)).not_negative reach))
+      | is_positive h ↦ h
+    ]
+
+    -- so a fan from x makes a bend there
+    pub bend_from_fan : IsFanned side corners V (whole x) (whole A) → ¬ (x ≡ V) → Sees corners (whole V) (whole y) → IsBend corners x V y
+    bend_from_fan fanned differ seen =
+        bend_of_fan corners (fitted_simple corners tris fits) (fitted_long corners tris fits) (fitted_counterclockwise corners tris fits) v
+        (corner_in_ring corners tris fits k within side before v after corner) side V refl x y (whole A) fanned
+        (last_step corners tris fits k within side before v after corner (whole y) inside past_side) (whole_is_point y, seen) differ behind
+
+module _ (corners : List Point) (tris : List Tri) (fits : Fits corners tris) (k i j m : ℕ) (within : k < length tris)
+    (first : HasSide (tri_at tris k) i j) (second : HasSide (tri_at tris k) j m) (third : HasSide (tri_at tris k) m i) where
+  -- its corner m is left of the side from i to j,
+  pub corner_left : IsLeft (whole (vertex corners i)) (whole (vertex corners j)) (whole (vertex corners m))
+  corner_left = turns_left corners (tri_at tris k) (fits.triangles k within).counterclockwise i j m first second
+
+  -- and so beyond it
+  pub corner_beyond : height (vertex corners i) (vertex corners j) (whole (vertex corners m)) <ℤ pos 0
+  corner_beyond =
+      turned_negative
+      (determinant_swap_first (whole (vertex corners i)) (whole (vertex corners j)) (whole (vertex corners m))) corner_left
+
+  module _ (ns : List Point) (a : ℕ) (f : IsFunnel ns a (vertex corners i) (vertex corners j)) (h : ℕ)
+      (reached : IsReachedFrom ns a h (whole (vertex corners m))) where
+    -- the point that it is reached from is another point,
+    pub corner_differs : ¬ (point_at ns h ≡ vertex corners m)
+    corner_differs same =
+        let l = vertex corners i in
+        let r = vertex corners j in
+        not_both corner_beyond (subst (λ (p : Point). pos 0 ≤ℤ height l r (whole p)) same (not_negative ns a l r f h reached.within))
+
+    -- and the way from there meets the diagonal, so seen from m it is between i and j
+    within_corner : IsInAngle true corners j m i (whole (point_at ns h))
+    within_corner =
+        let M = whole (vertex corners m) in
+        let P = whole (point_at ns h) in
+        let meets = reaches_new ns a (vertex corners i) (vertex corners j) f h (vertex corners m) corner_beyond reached in
+        record {
+          from_after = subst (λ d. pos 0 ≤ℤ d) (sym (determinant_shift P M (whole (vertex corners i)))) (at_least_unless meets.not_right);
+          to_before = turned_not_negative (determinant_swap_first P M (whole (vertex corners j))) (at_most_unless meets.not_left);
+        }
+
+    module _ (sees : Sees corners (whole (point_at ns h)) (whole (vertex corners m))) where
+      -- the ring is open to it,
+      open_back : IsOpenToward corners (vertex corners m) (whole (point_at ns h))
+      open_back = (
+        whole_is_point (point_at ns h),
+        λ x at_x on. sees x at_x (on_reversed x (whole (vertex corners m)) (whole (point_at ns h)) on),
+      )
+
+      -- so a fan begins there on to j, where the side to j is shared,
+      pub fan_to_right : IsSharedSide tris m j → IsFanned true corners (vertex corners m) (whole (point_at ns h)) (whole (vertex corners j))
+      fan_to_right shared =
+          fan_begins corners tris fits k within true j m i (second, third) shared (whole (point_at ns h)) open_back
+          (λ same. corner_differs (same_whole (point_at ns h) (vertex corners m) same)) within_corner
+
+      -- and a clockwise one to i, where the side to i is
+      pub fan_to_left : IsSharedSide tris m i → IsFanned false corners (vertex corners m) (whole (point_at ns h)) (whole (vertex corners i))
+      fan_to_left shared =
+          fan_begins corners tris fits k within false i m j (third, second) shared (whole (point_at ns h)) open_back
+          (λ same. corner_differs (same_whole (point_at ns h) (vertex corners m) same))
+          (within_back true corners j m i (whole (point_at ns h)) within_corner)
 
 -- ---- the points beside the ends of the next funnel on the left
 

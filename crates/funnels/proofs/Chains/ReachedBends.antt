@@ -1,8 +1,11 @@
+-- The bend on the way to a point that is reached from a place of a funnel off its apex, where the place is no end.
 -- The way to a point beyond the diagonal bends at the point of the funnel from which it is reached, be that the apex or not.
-use Rattle.std.proofs.Common.{◌≡◌, ◌⊎◌, inl, inr, Bool, true, false, refl, sym, subst, List, length, ℕ, ◌+◌, ◌-◌, ◌<◌, pos, ◌<ℤ◌, arith, ap}
-use Rattle.std.proofs.Common.{◌≤ℤ◌}
+-- The step from an open funnel to the next, over one of the two sides from the corner beyond the diagonal: the point of the funnel that
+-- the corner is reached from sees it, and the way there bends at that point.
+use Rattle.std.proofs.Common.{◌≡◌, inl, inr, true, false, refl, ap, List, length, ℕ, ◌+◌, ◌-◌, ◌<◌, arith, ◌⊎◌, Bool, sym, subst, pos, ◌<ℤ◌}
+use Rattle.std.proofs.Common.{◌≤ℤ◌, [], ◌∷◌, ◌++◌, drop, take, min}
 use Rattle.std.proofs.lemmas.Bool.{cases_lt}
-use Rattle.integer_algebra.proofs.SignSteps.{opposite_not_positive, at_least_unless, at_most_unless, turned_not_negative}
+use Rattle.integer_algebra.proofs.SignSteps.{at_least_unless, at_most_unless, opposite_not_positive, turned_not_negative}
 use Rattle.plane.proofs.Points.{whole_is_point}
 use Rattle.plane.proofs.Turns.{determinant_swap_first}
 use Rattle.plane.specs.Point.{Point, whole}
@@ -11,21 +14,49 @@ use Rattle.rings.specs.Bend.{IsBend}
 use Rattle.rings.specs.Chain.{point_at}
 use Rattle.rings.specs.Ring.{vertex}
 use Rattle.rings.specs.Sees.{Sees}
+use Rattle.meshes.proofs.Sight.{triangle_in_ring}
 use Rattle.meshes.specs.Fits.{Fits, IsInTri}
 use Rattle.meshes.specs.Side.{HasSide, tri_at}
 use Rattle.meshes.specs.declared.tri.Tri.{Tri}
-use Rattle.funnels.proofs.Bends.{wider_bend}
-use Rattle.funnels.proofs.Chains.ApexEdges.{behind_left, behind_right, not_ahead_of_left, not_behind_right}
-use Rattle.funnels.proofs.Chains.ApexSides.{back_of_left, back_of_right}
-use Rattle.funnels.proofs.Chains.BeyondSide.{is_behind}
-use Rattle.funnels.proofs.Chains.DiagonalEnds.{bend_goes_on, bend_from_fan}
-use Rattle.funnels.proofs.Chains.ReachedSides.{bend_on_left, bend_on_right}
+use Rattle.funnels.proofs.Bends.{wider_bend, last_end_in}
+use Rattle.funnels.proofs.Chains.ApexTurns.{back_of_left, back_of_right, behind_left, behind_right, not_ahead_of_left, not_behind_right}
+use Rattle.funnels.proofs.Chains.ApexTurns.{TurnsBack}
+use Rattle.funnels.proofs.Chains.BentLeft.{bent_left}
+use Rattle.funnels.proofs.Chains.BentRight.{bent_right}
+use Rattle.funnels.proofs.Chains.WindowSight.{is_behind, sees_reached, sight_left, sight_right}
+use Rattle.funnels.proofs.Chains.Ends.{bend_goes_on, bend_from_fan, corner_beyond, corner_differs, ends_left, ends_right}
 use Rattle.funnels.proofs.Chains.WaysBefore.{IsWayBefore}
-use Rattle.funnels.proofs.Funnels.{by_points, left_of_way, right_of_way, turns_left, turns_right}
+use Rattle.funnels.proofs.Funnels.{window_of_reached, left_of_way, right_of_way, by_points, turns_left, turns_right, funnel_left}
+use Rattle.funnels.proofs.Funnels.{funnel_right}
 use Rattle.funnels.proofs.Vertices.{IsSharedSide, shared_side_back}
 use Rattle.funnels.specs.Fanned.{turning}
 use Rattle.funnels.specs.Funnel.{IsFunnel, IsReachedFrom, height, Reaches}
-use Rattle.funnels.specs.OpenFunnel.{HasOpenEnds, IsApexSide, IsBentFunnel, IsLastOf}
+use Rattle.funnels.specs.OpenFunnel.{IsBentFunnel, HasOpenEnds, IsApexSide, IsLastOf, IsOpenFunnel, left_behind, right_behind}
+
+module _ (ring before ns : List Point) (a : ℕ) (l r : Point) (f : IsFunnel ns a l r) (bent : IsBentFunnel ring before ns a) (h : ℕ)
+    (y : Point) (reached : IsReachedFrom ns a h (whole y)) where
+  -- there is a bend, on the left chain,
+  pub bend_on_left : h < a → 0 < h → IsBend ring (point_at ns (h + 1)) (point_at ns h) y
+  bend_on_left on_left some =
+      let x = point_at ns (h + 1) in
+      let v = point_at ns h in
+      let z = point_at ns (h - 1) in
+      wider_bend true ring x v z y (bent.left_bends h some on_left)
+      (back_of_left x v z (f.left_turns h some on_left)) (back_of_left x v y (left_of_way ns a l r f h (whole y) reached on_left))
+      (at_most_unless ((window_of_reached ns a h (whole y) reached).not_left v z some (inl (omega arith, refl, refl))))
+
+  -- and on the right one
+  pub bend_on_right : a < h → h + 1 < length ns → IsBend ring (point_at ns (h - 1)) (point_at ns h) y
+  bend_on_right on_right more =
+      let x = point_at ns (h - 1) in
+      let v = point_at ns h in
+      let z = point_at ns (h + 1) in
+      let e : h ≡ h + 1 - 1 = omega arith in
+      wider_bend false ring x v z y (bent.right_bends h on_right more)
+      (back_of_right x v z (f.right_turns h on_right more))
+      (back_of_right x v y (right_of_way ns a l r f h (whole y) reached on_right))
+      (opposite_not_positive (at_least_unless ((window_of_reached ns a h (whole y) reached).not_right v z more
+      (inr (omega arith, ap (point_at ns) e, refl)))))
 
 -- the way from q over v bends at v on the way to y, and turns there on this side
 abbrev pub BendsTo : Bool → List Point → Point → Point → Point → Type 0
@@ -185,3 +216,67 @@ module _ (corners : List Point) (tris : List Tri) (fits : Fits corners tris) (k 
         let (side, is, bends) =
         apex_bends corners tris fits k i j m within first next last shared before ns a f bent ends y inside at_apex not_apex x comes in
         subst (λ n. IsBend corners x (point_at ns n) y) (sym same) bends.1
+
+module _ (corners : List Point) (tris : List Tri) (fits : Fits corners tris) (k i j m : ℕ) (within : k < length tris)
+    (first : HasSide (tri_at tris k) i j) (second : HasSide (tri_at tris k) j m) (third : HasSide (tri_at tris k) m i)
+    (diagonal : IsSharedSide tris i j) (before ns : List Point) (a : ℕ) (o : IsOpenFunnel corners before ns a i j)
+    (h : ℕ) (reached : IsReachedFrom ns a h (whole (vertex corners m))) where
+  -- the ends of the diagonal, and the corner
+  abbrev l : Point
+  l = vertex corners i
+
+  abbrev r : Point
+  r = vertex corners j
+
+  abbrev p : Point
+  p = vertex corners m
+
+  -- ---- the corner
+
+  in_triangle : IsInTri corners (tri_at tris k) (whole p)
+  in_triangle = last_end_in corners tris fits k within j m second
+
+  -- it is seen,
+  seen : Sees corners (whole (point_at ns h)) (whole p)
+  seen =
+      sees_reached corners corners (tri_at tris k) (triangle_in_ring corners tris fits k within) (fits.triangles k within).counterclockwise
+      i j first l r refl refl ns a o.funnel o.sight h (whole p) (whole_is_point p) in_triangle reached
+
+  -- it is no point of the funnel,
+  differs : ¬ (point_at ns h ≡ p)
+  differs = corner_differs corners tris fits k i j m within first second third ns a o.funnel h reached
+
+  -- the way there bends after the point before,
+  bends : (x : Point) → IsWayBefore before ns a h x → IsBend corners x (point_at ns h) p
+  bends =
+      reached_bends corners tris fits k i j m within first second third diagonal before ns a o.funnel o.bent o.ends h p in_triangle reached
+      seen differs
+
+  -- and at the apex it turns as the ways to the funnel do
+  turns : h ≡ a → (q : Point) → IsLastOf before q → (side : Bool) × IsApexSide ns a q side × TurnsBack side q (point_at ns a) p
+  turns same =
+      apex_turns corners tris fits k i j m within first second third diagonal before ns a o.funnel o.bent o.ends h p in_triangle reached
+      (subst (λ n. ¬ (point_at ns n ≡ p)) same differs) same
+
+  -- ---- the steps
+
+  -- over the side to the right end: the corner, and the points from the one on that it is reached from,
+  pub step_left : IsSharedSide tris m j → IsOpenFunnel corners (before ++ right_behind ns a (h - a)) (p ∷ drop h ns) (a - h + 1) m j
+  step_left shared = record {
+    funnel = funnel_left ns a l r o.funnel h p (corner_beyond corners tris fits k i j m within first second third) reached;
+    sight = sight_left corners corners (tri_at tris k) (triangle_in_ring corners tris fits k within)
+        (fits.triangles k within).counterclockwise i j first l r refl refl ns a o.funnel o.sight p in_triangle h reached;
+    bent = bent_left corners before ns a l r o.funnel o.sight o.bent h p reached bends turns;
+    ends = ends_left corners tris fits k i j m within first second third before ns a o.funnel o.ends h reached seen shared;
+  }
+
+  -- or to the left end: the points to the one that the corner is reached from, and the corner
+  pub step_right : IsSharedSide tris i m
+      → IsOpenFunnel corners (before ++ left_behind ns a (a - h)) (take (h + 1) ns ++ p ∷ []) (min a h) i m
+  step_right shared = record {
+    funnel = funnel_right ns a l r o.funnel h p (corner_beyond corners tris fits k i j m within first second third) reached;
+    sight = sight_right corners corners (tri_at tris k) (triangle_in_ring corners tris fits k within)
+        (fits.triangles k within).counterclockwise i j first l r refl refl ns a o.funnel o.sight p in_triangle h reached;
+    bent = bent_right corners before ns a l r o.funnel o.sight o.bent h p reached bends turns;
+    ends = ends_right corners tris fits k i j m within first second third before ns a o.funnel o.ends h reached seen shared;
+  }

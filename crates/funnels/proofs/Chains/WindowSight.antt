@@ -1,12 +1,14 @@
+-- A counterclockwise triangle at its side from l to r: its points are on the side, or right of the way from r to l.
 -- What the points of a funnel see: beyond the diagonal what is in their windows, in the triangle behind it too, and so the points of the next
 -- funnel what is in their windows on the two other sides of the triangle.
-use Rattle.std.proofs.Common.{◌≡◌, inl, inr, List, ℕ, pos, ◌<ℤ◌, sym, subst, length, ◌+◌, ◌<◌, arith, ap, ◌∙◌, [], ◌∷◌, ◌++◌, take, drop}
-use Rattle.std.proofs.Common.{◌-◌, min}
+use Rattle.std.proofs.Common.{◌≡◌, ◌⊎◌, inl, inr, subst, List, ℕ, pos, ◌<ℤ◌, sym, length, ◌+◌, ◌<◌, arith, ap, ◌∙◌, [], ◌∷◌, ◌++◌, take}
+use Rattle.std.proofs.Common.{drop, ◌-◌, min}
 use Rattle.std.proofs.lemmas.Bool.{cases_eq, cases_lt}
-use Rattle.integer_algebra.proofs.SignSteps.{not_both}
+use Rattle.integer_algebra.proofs.SignSteps.{turned_negative, not_both}
 use Rattle.integer_algebra.proofs.Signs.{is_negative, is_positive, is_zero, sign}
 use Rattle.plane.proofs.Points.{whole_is_point}
 use Rattle.plane.proofs.Segments.{on_first_end, on_last_end, on_reversed}
+use Rattle.plane.proofs.Turns.{determinant_swap_first}
 use Rattle.plane.specs.Point.{IsPoint, Point, Triple, whole}
 use Rattle.plane.specs.Segment.{On}
 use Rattle.plane.specs.Turn.{IsLeft, IsRight, determinant}
@@ -14,18 +16,47 @@ use Rattle.rings.specs.Chain.{point_at}
 use Rattle.rings.specs.Inside.{IsIn}
 use Rattle.rings.specs.Ring.{vertex}
 use Rattle.rings.specs.Sees.{Sees}
-use Rattle.ring_laws.proofs.Triangles.{between_in_triangle}
+use Rattle.ring_laws.proofs.Triangles.{on_first_side, between_in_triangle}
+use Rattle.meshes.proofs.Parts.{opposite}
 use Rattle.meshes.proofs.Sight.{sees_on, sees_within}
+use Rattle.meshes.proofs.TreeLeaves.{closed_of_sides, next_corner, turns_left}
 use Rattle.meshes.specs.Fits.{IsInTri}
 use Rattle.meshes.specs.Side.{HasSide}
 use Rattle.meshes.specs.declared.tri.Tri.{Tri}
-use Rattle.funnels.proofs.Chains.BeyondSide.{is_behind}
 use Rattle.funnels.proofs.Funnels.{crossing_in_window, IsEnd, flat_apex, IsFlat, IsOnDiagonal, flat_off_apex, on_at_first, on_at_last}
 use Rattle.funnels.proofs.Funnels.{edge_after, edge_before, in_window_of, window_of_reached, not_negative, left_place, new_edge_left}
 use Rattle.funnels.proofs.Funnels.{new_edge_right, old_edge_left, old_edge_right, next_left_length, next_right_last, next_right_length}
 use Rattle.funnels.proofs.Funnels.{next_right_old, old_window_left, old_window_right}
 use Rattle.funnels.specs.Funnel.{Reaches, IsFunnel, IsInWindow, IsReachedFrom, height, IsFunnelEdge}
 use Rattle.funnels.specs.OpenFunnel.{IsOpenSight}
+
+-- the triangle has the points of the side, and all others of it are beyond the side
+pub record IsBehind (corners : List Point) (t : Tri) (l r : Point) : Type 0 where
+  pub side : (y : Triple) → IsPoint y → On y (whole l) (whole r) → IsInTri corners t y
+  pub beyond : (y : Triple) → IsPoint y → IsInTri corners t y → On y (whole l) (whole r) ⊎ IsRight (whole r) (whole l) y
+
+module _ (corners : List Point) (t : Tri)
+    (left : IsLeft (whole (vertex corners t.a)) (whole (vertex corners t.b)) (whole (vertex corners t.c)))
+    (i j : ℕ) (has : HasSide t i j) where
+  -- so it is with a triangle at each of its sides, by the numbers of the side's ends
+  at_side : IsBehind corners t (vertex corners i) (vertex corners j)
+  at_side = record {
+    side = λ y at_y on. (opposite corners t left i j has).1.side y at_y on;
+    beyond = λ y at_y in_y.
+        let L = vertex corners i in
+        let R = vertex corners j in
+        let (m, next, last) = next_corner t i j has in
+        let closed = closed_of_sides corners t left i j m has next y in_y in
+        elim (sign (determinant (whole L) (whole R) y)) [
+          | is_negative h ↦ absurd (closed.not_right_of_first h)
+          | is_zero h ↦ inl (on_first_side L R (vertex corners m) (turns_left corners t left i j m has next) y at_y closed h)
+          | is_positive h ↦ inr (turned_negative (determinant_swap_first (whole L) (whole R) y) h)
+        ];
+  }
+
+  -- and by its ends
+  pub is_behind : (l r : Point) → vertex corners i ≡ l → vertex corners j ≡ r → IsBehind corners t l r
+  is_behind l r e f = subst (λ p. IsBehind corners t p r) e (subst (λ q. IsBehind corners t (vertex corners i) q) f at_side)
 
 -- a triangle that is in the ring has a side from l to r
 module _ (corners ring : List Point) (t : Tri) (inside : (z : Triple) → IsPoint z → IsInTri corners t z → IsIn ring z)

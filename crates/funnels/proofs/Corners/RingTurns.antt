@@ -1,18 +1,109 @@
+-- The edges of a piece as edges of its points, and a vertex on a side of a triangle.
+-- The edges of a ring by the numbers of their ends, and the neighbours of a vertex on one ray.
 -- The turn of a ring at a vertex from which one of its edges is known.
-use Rattle.std.proofs.Common.{◌≡◌, inl, inr, sym, subst, ap, ◌∙◌, Bool, true, false, not, ℕ, ◌+◌, ◌-◌, ◌<◌, ◌≤◌, pos, ◌≤ℤ◌, List, length}
+use Rattle.std.proofs.Common.{◌≡◌, ◌⊎◌, inl, inr, ap, subst, sym, ◌∙◌, ℕ, ◌+◌, ◌%◌, ◌<◌, List, length, get_or, arith, refl, Bool, true}
+use Rattle.std.proofs.Common.{false, ◌≤◌, not, ◌-◌, pos, ◌≤ℤ◌}
+use Rattle.std.proofs.Math.Nat.{mod-lt, mod-eq_of_lt}
+use Rattle.std.proofs.lemmas.List.{get_or-map}
+use Rattle.std.specs.List.{Contains, range_with_len}
+use Rattle.std.specs.Prelude.{slice_index_or}
 use Rattle.plane.proofs.Turns.{determinant_shift, determinant_swap_first}
 use Rattle.plane.specs.Point.{Point, whole}
+use Rattle.plane.specs.Segment.{On}
 use Rattle.rings.proofs.Simple.{apart_of_simple}
 use Rattle.rings.proofs.Vertices.{has_edge_at}
 use Rattle.rings.specs.Bend.{AreNeighbours}
-use Rattle.rings.specs.Edge.{Edge}
+use Rattle.rings.specs.Edge.{HasEdge, edge, edges_of, Edge}
 use Rattle.rings.specs.Orientation.{turn_at}
-use Rattle.rings.specs.Ring.{vertex}
+use Rattle.rings.specs.Ring.{origin, vertex}
 use Rattle.rings.specs.Simple.{IsSimple}
-use Rattle.funnels.proofs.Corners.RingSteps.{IsRingStep, step_vertex}
-use Rattle.ring_laws.proofs.Vertices.{beside_differs, beside_next, edges_at, vertex_beside}
-use Rattle.meshes.proofs.Sides.{ring_edge_is}
+use Rattle.ring_laws.proofs.Vertices.{neighbour_is, neighbours_not_on_ray, beside_differs, beside_next, edges_at, vertex_beside}
+use Rattle.meshes.proofs.Parts.{one_vertex, shared_of, vertex_is_end, end_of_side, parted, side_numbers, paved}
+use Rattle.meshes.proofs.Sides.{edge_or_not, length_points, vertex_of_piece, ring_edge_is}
+use Rattle.meshes.specs.Fits.{FitsPiece, IsPieceEdge, piece_points}
+use Rattle.meshes.specs.Side.{HasSide, tri_at}
+use Rattle.meshes.specs.declared.tri.Tri.{Tri}
 use Rattle.funnels.specs.Fanned.{turning}
+
+-- an edge of a piece is an edge of its points
+pub edge_of_piece : (corners : List Point) (piece : List ℕ) (i j : ℕ) → IsPieceEdge piece i j
+    → HasEdge (edges_of (piece_points corners piece)) (edge (vertex corners i) (vertex corners j))
+edge_of_piece corners piece i j e =
+    let ring = piece_points corners piece in
+    let p : ℕ = e.place in
+    let long = length_points corners piece in
+    let q : ℕ = (p + 1) % length piece in
+    let in_q : q < length piece = mod-lt (p + 1) (omega (arith, e.in_piece)) in
+    let from : vertex ring p ≡ vertex corners i = vertex_of_piece corners piece p e.in_piece ∙ ap (vertex corners) e.from in
+    let to : vertex ring (p + 1) ≡ vertex corners j =
+    ap (λ n. get_or ring ((p + 1) % n) origin) long ∙ get_or-map (λ k. vertex corners k) piece q 0 origin in_q ∙ ap (vertex corners) e.to in
+    subst (HasEdge (edges_of ring)) (λ k. edge (from k) (to k)) (has_edge_at ring p (omega (arith, e.in_piece, long)))
+
+module _ (corners : List Point) (piece : List ℕ) (tris : List Tri) (fits : FitsPiece corners piece tris) where
+  -- a vertex on a side of a triangle is an end of the side
+  pub end_of_its_side : (k i j x : ℕ) → k < length tris → HasSide (tri_at tris k) i j → Contains piece x
+      → On (whole (vertex corners x)) (whole (vertex corners i)) (whole (vertex corners j)) → (x ≡ i) ⊎ (x ≡ j)
+  end_of_its_side k i j x within has contains on =
+      let ends = side_numbers corners piece tris (paved fits) k i j within (inl has) in
+      elim (edge_or_not piece i j) [
+        | inl outer ↦
+            let e = edge (vertex corners i) (vertex corners j) in
+            elim (vertex_is_end corners piece tris (paved fits) x contains e (edge_of_piece corners piece i j outer) on) [
+              | inl same ↦ inl (one_vertex corners piece tris (paved fits) x i contains ends.0 (sym same))
+              | inr same ↦ inr (one_vertex corners piece tris (paved fits) x j contains ends.1 (sym same))
+            ]
+        | inr inner ↦
+            let (l, two) = fits.inner_sides i j k within has inner in
+            let s = shared_of corners piece tris (paved fits) i j k l two two.in_list two.other_in_list in
+            let p = parted corners piece tris (paved fits) i j k l s in
+            end_of_side corners piece tris (paved fits) i j k l s p.first p.second p.covered x contains on
+      ]
+
+-- the ring goes from corner i to corner j; or, on the other side, in the other direction
+abbrev pub IsRingStep : Bool → List Point → ℕ → ℕ → Type 0
+IsRingStep true corners i j = IsPieceEdge (range_with_len 0 (length corners)) i j
+IsRingStep false corners i j = IsPieceEdge (range_with_len 0 (length corners)) j i
+
+-- ---- edges
+
+-- where an edge goes from number i to number j, vertex j is the one after vertex i,
+pub step_vertex : (ring : List Point) (i j : ℕ) → IsPieceEdge (range_with_len 0 (length ring)) i j → vertex ring (i + 1) ≡ vertex ring j
+step_vertex ring i j e =
+    let (within, is) = ring_edge_is (length ring) i j e in
+    let next : (i + 1) % length ring < length ring = mod-lt (i + 1) (omega (arith, within)) in
+    ap (λ k. slice_index_or ring k origin) (sym (ap (λ k. k % length ring) is ∙ mod-eq_of_lt next))
+
+-- and they are neighbours
+pub step_neighbours : (ring : List Point) (i j : ℕ) → IsPieceEdge (range_with_len 0 (length ring)) i j
+    → AreNeighbours ring (vertex ring i) (vertex ring j) × AreNeighbours ring (vertex ring j) (vertex ring i)
+step_neighbours ring i j e =
+    let within = (ring_edge_is (length ring) i j e).0 in
+    let next = step_vertex ring i j e in (
+      record { i = i; in_ring = within; ends = inl (refl, next) },
+      record { i = i; in_ring = within; ends = inr (refl, next) },
+    )
+
+-- ---- neighbours on one ray
+
+-- two neighbours of a vertex on one ray are one
+pub one_on_ray : (ring : List Point) → IsSimple ring → 3 ≤ length ring → (r : ℕ) → r < length ring → (u w : Point)
+    → AreNeighbours ring (vertex ring r) u → AreNeighbours ring (vertex ring r) w
+    → On (whole u) (whole (vertex ring r)) (whole w) ⊎ On (whole w) (whole (vertex ring r)) (whole u) → u ≡ w
+one_on_ray ring simple three r h u w n m ray =
+    let v = vertex ring r in
+    let ray_of = λ (x y : Point). On (whole x) (whole v) (whole y) ⊎ On (whole y) (whole v) (whole x) in
+    elim (neighbour_is ring simple three r h u n) [
+      | inl e ↦ elim (neighbour_is ring simple three r h w m) [
+        | inl f ↦ e ∙ sym f
+        | inr f ↦ absurd (neighbours_not_on_ray ring simple three r h (subst (λ x. ray_of x (vertex ring (r + 1))) e (subst (ray_of u) f ray)))
+      ]
+      | inr e ↦ elim (neighbour_is ring simple three r h w m) [
+        | inl f ↦
+            let back = subst (λ x. ray_of x (vertex ring (r + 1))) f (subst (ray_of w) e (elim ray [ inl on ↦ inr on | inr on ↦ inl on ])) in
+            absurd (neighbours_not_on_ray ring simple three r h back)
+        | inr f ↦ e ∙ sym f
+      ]
+    ]
 
 module _ (ring : List Point) (simple : IsSimple ring) (three : 3 ≤ length ring) (r : ℕ) (h : r < length ring) where
   -- the vertex to which the ring goes from this one, on either side, is the one beside it,

@@ -1,22 +1,118 @@
+-- The first points of a chain along a walk of triangles, and one more.
+-- A chain with bends in a ring that triangles fit does not end where it begins, unless it is a single point.
 -- A chain with bends follows each walk of triangles from a triangle with its first point to one with its last: it enters no dead end.
-use Rattle.std.proofs.Common.{◌≡◌, inl, inr, sym, subst, ap, ◌∙◌, ℕ, zero, suc, ◌+◌, ◌-◌, ◌<◌, ◌≤◌, List, length, get_or, take, arith}
+use Rattle.std.proofs.Common.{◌≡◌, ◌⊎◌, inl, inr, refl, sym, subst, ap, ◌∙◌, ℕ, suc, ◌+◌, ◌-◌, ◌<◌, ◌≤◌, List, length, arith, zero, get_or}
+use Rattle.std.proofs.Common.{take, [], ◌∷◌}
 use Rattle.std.proofs.lemmas.Bool.{cases_lt}
 use Rattle.std.proofs.lemmas.List.{get_or-take, length-take-le}
 use Rattle.plane.proofs.Points.{whole_is_point}
 use Rattle.plane.specs.Point.{Point, whole}
-use Rattle.rings.specs.Chain.{IsBentChain, point_at}
+use Rattle.rings.specs.Chain.{point_at, IsBentChain}
 use Rattle.rings.specs.Ring.{vertex}
 use Rattle.meshes.specs.Fits.{Fits, IsInTri}
-use Rattle.meshes.specs.Laws.{walk_tri}
+use Rattle.meshes.specs.Laws.{CrossesSide, walk_tri}
 use Rattle.meshes.specs.Side.{HasSideBetween, IsWalk, tri_at}
 use Rattle.meshes.specs.declared.tri.Tri.{Tri}
 use Rattle.funnels.proofs.Corners.{IsCorner, begin_is_corner, end_is_corner}
-use Rattle.funnels.proofs.DeadEnds.ChainBends.{IsBentAt, IsFrontTo, bent_at, front_to}
-use Rattle.funnels.proofs.DeadEnds.ChainPlaces.{FollowsTo, one_more}
-use Rattle.funnels.proofs.DeadEnds.PassedCorners.{GoesOnAt, passes}
-use Rattle.funnels.proofs.DeadEnds.WalkParts.{first_with, one_first, walk_front}
-use Rattle.funnels.specs.Corner.{FollowsWalk, IsFirstWith}
+use Rattle.funnels.proofs.DeadEnds.ChainBends.{IsBentAt, IsFrontTo, bent_at, front_to, some_triangle}
+use Rattle.funnels.proofs.DeadEnds.CornersReached.{GoesOnAt, passes}
+use Rattle.funnels.proofs.DeadEnds.WalkParts.{alike_crossed, alike_first, first_with, one_first, walk_front}
+use Rattle.funnels.specs.Corner.{IsFirstWith, FollowsWalk}
 use Rattle.funnels.specs.OneChain.{DeadEndLaw, IsCornerOf}
+
+-- ---- one more place
+
+-- the one or the other, by the order of a and n
+choose : (a n x y : ℕ) → (a < n) ⊎ (n ≤ a) → ℕ
+choose a n x y (inl h) = x
+choose a n x y (inr h) = y
+
+-- it is the one where a is less,
+choose_one : (a n x y : ℕ) (c : (a < n) ⊎ (n ≤ a)) → a < n → choose a n x y c ≡ x
+unfolding choose
+choose_one a n x y (inl h) less = refl
+choose_one a n x y (inr h) less = absurd (omega arith)
+
+-- and the other where it is not
+choose_other : (a n x y : ℕ) (c : (a < n) ⊎ (n ≤ a)) → n ≤ a → choose a n x y c ≡ y
+unfolding choose
+choose_other a n x y (inl h) more = absurd (omega arith)
+choose_other a n x y (inr h) more = refl
+
+-- as f below n, and x from there on
+continued : (ℕ → ℕ) → ℕ → ℕ → ℕ → ℕ
+continued f n x a = choose a n (f a) x (cases_lt a n)
+
+-- as f below n
+as_before : (f : ℕ → ℕ) (n x a : ℕ) → a < n → continued f n x a ≡ f a
+unfolding continued
+as_before f n x a h = choose_one a n (f a) x (cases_lt a n) h
+
+-- and x at n
+as_next : (f : ℕ → ℕ) (n x a : ℕ) → n ≡ a → continued f n x a ≡ x
+unfolding continued
+as_next f n x a e = choose_other a n (f a) x (cases_lt a n) (omega arith)
+
+-- ---- a chain along a walk
+
+-- the first `count` points of the chain go along the walk in order
+pub record FollowsTo (corners : List Point) (tris : List Tri) (walk : List ℕ) (chain : List Point) (count : ℕ) : Type 0 where
+  pub place : ℕ → ℕ
+  pub first : (a : ℕ) → 0 < a → a < count → IsFirstWith corners tris walk (whole (point_at chain a)) (place a)
+  pub rises : (a : ℕ) → 0 < a → a + 1 < count → place a < place (a + 1)
+  pub leaves : (a : ℕ) → 0 < a → a + 1 < count → (i : ℕ) × (j : ℕ) × CrossesSide tris walk (place a) i j × (point_at chain a ≡ vertex corners i)
+
+module _ (corners : List Point) (tris : List Tri) (chain : List Point) (walk front : List ℕ) (n i : ℕ) (t : FollowsTo corners tris front chain (suc (suc n)))
+    (on : GoesOnAt tris front walk i) (is : point_at chain (suc n) ≡ vertex corners i) (at_end : t.place (suc n) ≡ length front - 1) (m : ℕ)
+    (f : IsFirstWith corners tris walk (whole (point_at chain (suc (suc n)))) m) (past : length front - 1 < m) where
+  -- the places with one more are first,
+  more_first : (a : ℕ) → 0 < a → a < suc (suc (suc n)) → IsFirstWith corners tris walk (whole (point_at chain a)) (continued t.place (suc (suc n)) m a)
+  more_first a some h = elim (cases_lt a (suc (suc n))) [
+    | inl less ↦
+        subst (IsFirstWith corners tris walk (whole (point_at chain a))) (sym (as_before t.place (suc (suc n)) m a less))
+        (alike_first corners tris front walk (omega (arith, on.longer)) on.alike (whole (point_at chain a)) (t.place a) (t.first a some less))
+    | inr more ↦
+        let last : suc (suc n) ≡ a = omega arith in
+        subst (IsFirstWith corners tris walk (whole (point_at chain a))) (sym (as_next t.place (suc (suc n)) m a last))
+        (subst (λ b. IsFirstWith corners tris walk (whole (point_at chain b)) m) last f)
+  ]
+
+  -- rise,
+  more_rises : (a : ℕ) → 0 < a → a + 1 < suc (suc (suc n)) → continued t.place (suc (suc n)) m a < continued t.place (suc (suc n)) m (a + 1)
+  more_rises a some h =
+      let here = as_before t.place (suc (suc n)) m a (omega arith) in
+      elim (cases_lt (a + 1) (suc (suc n))) [
+        | inl less ↦ let next = as_before t.place (suc (suc n)) m (a + 1) less in omega (arith, t.rises a some less)
+        | inr more ↦
+            let next = as_next t.place (suc (suc n)) m (a + 1) (omega arith) in
+            let last : suc n ≡ a = omega arith in
+            let place : t.place (suc n) ≡ t.place a = ap t.place last in
+            omega arith
+      ]
+
+  -- and the walk leaves over a side at each inner point,
+  more_leaves : (a : ℕ) → 0 < a → a + 1 < suc (suc (suc n))
+      → (x : ℕ) × (y : ℕ) × CrossesSide tris walk (continued t.place (suc (suc n)) m a) x y × (point_at chain a ≡ vertex corners x)
+  more_leaves a some h =
+      let here = as_before t.place (suc (suc n)) m a (omega arith) in
+      elim (cases_lt (a + 1) (suc (suc n))) [
+        | inl less ↦
+            let (x, y, c, e) = t.leaves a some less in (
+              x,
+              y,
+              subst (λ l. CrossesSide tris walk l x y) (sym here)
+                  (alike_crossed corners tris front walk (omega (arith, on.longer)) on.alike (t.place a) x y c),
+              e,
+            )
+        | inr more ↦
+            let last : suc n ≡ a = omega arith in
+            let place : length front - 1 ≡ continued t.place (suc (suc n)) m a = sym at_end ∙ ap t.place last ∙ sym here in
+            (i, on.over, subst (λ l. CrossesSide tris walk l i on.over) place on.crosses, subst (λ b. point_at chain b ≡ vertex corners i) last is)
+      ]
+
+  -- so one more point goes along
+  pub one_more : FollowsTo corners tris walk chain (suc (suc (suc n)))
+  one_more = record { place = continued t.place (suc (suc n)) m; first = more_first; rises = more_rises; leaves = more_leaves }
 
 module _ (corners : List Point) (tris : List Tri) (fits : Fits corners tris) (chain : List Point) (bent : IsBentChain corners chain) where
   -- the last point of two on a walk
@@ -134,3 +230,46 @@ dead_ends corners tris fits walk w chain bent in_first in_last k inner =
       omega (arith, c.has_next),
       corner_by_number corners (walk_tri tris walk (t.place k)) i (point_at chain k) is (corner_between (walk_tri tris walk (t.place k)) i j c.of_this),
     )
+
+-- one triangle is a walk
+single_walk : (tris : List Tri) (k : ℕ) → k < length tris → IsWalk tris (k ∷ [])
+single_walk tris k h = record {
+  some = omega arith;
+  in_list = λ i less. let first : 0 ≡ i = omega arith in subst (λ l. get_or (k ∷ []) l 0 < length tris) first h;
+  once = λ i j less more same. omega arith;
+  sharing = λ i less. absurd (omega arith);
+}
+
+-- a chain of three points or more has no place for them in one triangle
+too_long : (corners : List Point) (tris : List Tri) (k : ℕ) (chain : List Point) → FollowsWalk corners tris (k ∷ []) chain → ¬ (2 < length chain)
+too_long corners tris k chain t long =
+    let n : ℕ = length chain - 2 in
+    let rise = t.rises n (omega arith) (omega arith) in
+    let last = (t.first (n + 1) (omega arith) (omega arith)).within in
+    omega arith
+
+module _ (corners : List Point) (tris : List Tri) (fits : Fits corners tris) (chain : List Point) (bent : IsBentChain corners chain)
+    (closed : point_at chain 0 ≡ point_at chain (length chain - 1)) where
+  -- a closed chain has at most two points,
+  not_long : 2 ≤ length chain → ¬ (2 < length chain)
+  not_long two =
+      let s = point_at chain 0 in
+      let (k, within, inside) = some_triangle corners tris fits (whole s) (whole_is_point s) (bent.chain.inside 0 bent.chain.some) in
+      let last = subst (λ (x : Point). IsInTri corners (tri_at tris k) (whole x)) closed inside in
+      too_long corners tris k chain (follows corners tris fits (k ∷ []) (single_walk tris k within) chain bent two inside last)
+
+  -- and not two
+  not_two : ¬ (2 ≡ length chain)
+  not_two is =
+      let place : length chain - 1 ≡ 1 = omega arith in
+      bent.chain.distinct 0 (omega arith) (closed ∙ ap (point_at chain) place)
+
+  -- so it is one point
+  pub closed_chain : length chain ≡ 1
+  closed_chain = elim (cases_lt 1 (length chain)) [
+    | inl two ↦ elim (cases_lt 2 (length chain)) [
+      | inl long ↦ absurd (not_long two long)
+      | inr short ↦ absurd (not_two (omega arith))
+    ]
+    | inr short ↦ omega (arith, bent.chain.some)
+  ]

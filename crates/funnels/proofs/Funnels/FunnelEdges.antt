@@ -5,7 +5,7 @@ use Rattle.integer_algebra.proofs.SignSteps.{positive_not_negative}
 use Rattle.plane.specs.Point.{Point, Triple, whole}
 use Rattle.plane.specs.Turn.{IsLeft, IsRight}
 use Rattle.rings.specs.Chain.{point_at}
-use Rattle.funnels.proofs.Funnels.EdgeLine.{IsEnd}
+use Rattle.funnels.proofs.Funnels.CrossingDiagonal.{IsEnd}
 use Rattle.funnels.specs.Funnel.{IsFunnel, IsFunnelEdge, IsInWindow, IsPassed, IsReachedFrom, Reaches}
 
 -- ---- the edges at a place

@@ -1,13 +1,25 @@
+-- Between two points that are not left of a line no point is left of it; and none is right of it between two that are not.
 -- A way from a point left of a line to one right of it crosses the line; weights of the points of a line.
 use Rattle.std.proofs.Common.{◌≡◌, sym, ap, ◌∙◌, ℤ, pos, ◌+ℤ◌, ◌-ℤ◌, ◌*ℤ◌, neg_ℤ}
-use Rattle.integer_algebra.proofs.SignSteps.{weak, weak_order}
+use Rattle.integer_algebra.proofs.SignSteps.{at_least_unless, at_most_unless, not_both, not_both_positive, weak, weak_order}
 use Rattle.plane.proofs.Meetings.{no_value, weights_apart, zero_combination, zero_point}
-use Rattle.plane.proofs.Turns.{determinant_swap_first, four_triples, four_triples_in_W, linear, determinant_along}
-use Rattle.plane.proofs.Turns.{determinant_is_linear, on_of_combination}
+use Rattle.plane.proofs.Turns.{determinant_swap_first, four_triples, four_triples_in_W, linear, determinant_along, determinant_is_linear}
+use Rattle.plane.proofs.Turns.{on_of_combination}
 use Rattle.plane.specs.Point.{IsPoint, Triple}
 use Rattle.plane.specs.Segment.{On}
 use Rattle.plane.specs.Turn.{IsLeft, IsRight, IsStraight, determinant}
-use Rattle.ring_laws.proofs.Triangles.{of_side}
+use Rattle.ring_laws.proofs.Triangles.{not_right_between, of_side}
+use Rattle.meshes.proofs.Cones.{not_left_between}
+
+module _ (s t x a b : Triple) (at_x : IsPoint x) (at_a : IsPoint a) (at_b : IsPoint b) (on : On x a b) where
+  -- where the ends of a segment are not left of a line, no point of it is
+  pub not_left_along : ¬ IsLeft s t a → ¬ IsLeft s t b → ¬ IsLeft s t x
+  not_left_along ha hb left =
+      not_both_positive left (not_left_between s t x a b at_x at_a at_b (at_most_unless ha) (at_most_unless hb) on)
+
+  -- and where they are not right of it, none is
+  pub not_right_along : ¬ IsRight s t a → ¬ IsRight s t b → ¬ IsRight s t x
+  not_right_along ha hb right = not_both right (not_right_between s t x a b at_x at_a at_b (at_least_unless ha) (at_least_unless hb) on)
 
 -- ---- where the way crosses the line
 

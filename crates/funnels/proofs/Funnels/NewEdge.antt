@@ -13,8 +13,7 @@ use Rattle.plane.specs.Segment.{On}
 use Rattle.plane.specs.Turn.{IsStraight, determinant}
 use Rattle.rings.specs.Chain.{point_at}
 use Rattle.funnels.proofs.Funnels.CrossingDiagonal.{crossing_in_window}
-use Rattle.funnels.proofs.Funnels.FlatApex.{flat_apex}
-use Rattle.funnels.proofs.Funnels.FlatFunnels.{at_last, flat_off_apex}
+use Rattle.funnels.proofs.Funnels.FlatFunnels.{flat_apex, at_last, flat_off_apex}
 use Rattle.funnels.proofs.Funnels.FunnelEdges.{edge_after, edge_before, window_of_reached}
 use Rattle.funnels.proofs.Funnels.Heights.{not_negative}
 use Rattle.funnels.specs.Funnel.{IsFunnel, IsReachedFrom, Reaches, height}

@@ -1,24 +1,26 @@
 -- The two next funnels, of the diagonals from a point beyond to the right end and from the left end to it: the point, and the points from the
 -- place that it is reached from, or those to that place.
+-- On the side from an end of the diagonal to m the window of an old point in the next funnel is within its old window.
 use Rattle.std.proofs.Common.{◌≡◌, refl, inl, inr, sym, subst, ◌∙◌, List, ◌∷◌, length, drop, ℕ, ◌+◌, ◌-◌, ◌<◌, ◌≤◌, pos, ◌<ℤ◌, arith, ◌++◌}
 use Rattle.std.proofs.Common.{take, min, []}
 use Rattle.std.proofs.lemmas.Bool.{cases_lt}
 use Rattle.integer_algebra.proofs.SignSteps.{negative_not_zero, not_both, turned_negative, weak_order, positive_not_zero}
 use Rattle.plane.proofs.Points.{whole_is_point}
 use Rattle.plane.proofs.Turns.{determinant_same_ends, determinant_same_last, determinant_swap_last}
-use Rattle.plane.specs.Point.{Point, whole}
+use Rattle.plane.specs.Point.{Point, whole, IsPoint, Triple}
+use Rattle.plane.specs.Segment.{On}
 use Rattle.rings.specs.Chain.{point_at}
-use Rattle.funnels.proofs.Funnels.FunnelEdges.{not_passed_not_right, passed_not_left}
+use Rattle.funnels.proofs.Funnels.FunnelEdges.{not_passed_not_right, passed_not_left, window_of_reached}
 use Rattle.funnels.proofs.Funnels.Heights.{not_negative}
 use Rattle.funnels.proofs.Funnels.NewEdge.{reaches_new}
-use Rattle.funnels.proofs.Funnels.NextEdges.{new_edge_left, old_edge_left, new_edge_right, old_edge_right}
+use Rattle.funnels.proofs.Funnels.NextEdges.{new_edge_left, old_edge_left, new_edge_right, old_edge_right, edge_left, edge_right}
 use Rattle.funnels.proofs.Funnels.NextPoints.{left_ends_at, left_keeps, left_old_at, left_on_left, left_on_right, next_left_length}
 use Rattle.funnels.proofs.Funnels.NextPoints.{next_left_old, next_right_last, next_right_length, next_right_old, right_ends_at, right_keeps}
 use Rattle.funnels.proofs.Funnels.NextPoints.{right_new_at, right_on_left, right_on_right}
-use Rattle.funnels.proofs.Funnels.PassedEdges.{not_passed_from, passed_to}
-use Rattle.funnels.proofs.Funnels.ReachedWays.{left_of_way, right_of_way}
+use Rattle.funnels.proofs.Funnels.PassedEdges.{not_passed_from, passed_to, left_of_way, right_of_way}
+use Rattle.funnels.proofs.Funnels.LineCrossed.{not_left_along, not_right_along}
 use Rattle.funnels.proofs.Funnels.ThreePoints.{by_points, turns_left, turns_not_left, turns_right}
-use Rattle.funnels.specs.Funnel.{IsFunnel, IsFunnelEdge, IsReachedFrom, Reaches, height}
+use Rattle.funnels.specs.Funnel.{IsFunnel, IsFunnelEdge, IsReachedFrom, Reaches, height, IsInWindow}
 
 module _ (ns : List Point) (a : ℕ) (l r : Point) (f : IsFunnel ns a l r) (h : ℕ) (m : Point) (beyond : height l r (whole m) <ℤ pos 0)
     (reached : IsReachedFrom ns a h (whole m)) where
@@ -206,4 +208,45 @@ module _ (ns : List Point) (a : ℕ) (l r : Point) (f : IsFunnel ns a l r) (h : 
         right_turns = right_on_right ns h m ks old new turns_right a count top f.right_turns (right_of_way ns a l r f h (whole m) reached);
         opening = λ some _. opening_right ks count old new some;
         reaches = reaches_next_right;
+      }
+
+module _ (ns : List Point) (a : ℕ) (l r : Point) (f : IsFunnel ns a l r)
+    (m : Point) (h : ℕ) (reached : IsReachedFrom ns a h (whole m)) where
+  -- of the points to place h, and then m, the window of each old point is within its old window
+  pub old_window_right : (x : Triple) → IsPoint x → On x (whole l) (whole m) → (g : ℕ) → g ≤ h
+      → IsInWindow (take (h + 1) ns ++ m ∷ []) (min a h) g x → IsInWindow ns a g x
+  old_window_right x at_x on g le window =
+      let within = reached.within in
+      let so_many = next_right_length ns m h within in
+      record {
+        not_left = λ u w some e. window.not_left u w some (edge_right ns a h m u w within g le e);
+        not_right = λ u w more e. elim (cases_lt g h) [
+          | inl before ↦ window.not_right u w (omega (arith, so_many)) (edge_right ns a h m u w within (g + 1) (omega arith) e)
+          | inr last ↦
+              let same : h ≡ g = omega arith in
+              not_right_along (whole u) (whole w) x (whole l) (whole m) at_x (whole_is_point l) (whole_is_point m) on
+              (f.reaches (g + 1) u w (omega arith) more e).not_right
+              ((window_of_reached ns a g (whole m) (subst (λ n. IsReachedFrom ns a n (whole m)) same reached)).not_right u w more e)
+        ];
+      }
+
+  -- and so it is with m, and then the points from place h on
+  pub old_window_left : (x : Triple) → IsPoint x → On x (whole m) (whole r) → (g : ℕ) → 0 < g → g < length (m ∷ drop h ns)
+      → IsInWindow (m ∷ drop h ns) (a - h + 1) g x
+      → IsInWindow ns a (h + g - 1) x
+  old_window_left x at_x on g some less window =
+      let so_many = next_left_length ns m h reached.within in
+      let place : h + g - 1 + 1 ≡ h + (g + 1) - 1 = omega arith in
+      record {
+        not_left = λ u w above e. elim (cases_lt 1 g) [
+          | inl later ↦ window.not_left u w some (edge_left ns a h m u w g later e)
+          | inr first ↦
+              let same : h ≡ h + g - 1 = omega arith in
+              not_left_along (whole u) (whole w) x (whole m) (whole r) at_x (whole_is_point m) (whole_is_point r) on
+              ((window_of_reached ns a (h + g - 1) (whole m) (subst (λ n. IsReachedFrom ns a n (whole m)) same reached)).not_left
+              u w above e) (f.reaches (h + g - 1) u w above (omega (arith, reached.within)) e).not_left
+        ];
+        not_right = λ u w more e.
+            window.not_right u w (omega (arith, so_many))
+            (edge_left ns a h m u w (g + 1) (omega arith) (subst (λ n. IsFunnelEdge ns a n u w) place e));
       }

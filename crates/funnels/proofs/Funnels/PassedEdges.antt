@@ -1,18 +1,53 @@
+-- The two edges at the apex of a funnel: no point that is not above the diagonal is left of the left one and right of the right one.
 -- Where the way to a point that is not above the diagonal passes an edge of a funnel, it passes all edges before it: those to the place
 -- from which the point is reached, and no others.
-use Rattle.std.proofs.Common.{◌≡◌, ◌⊎◌, inl, inr, sym, subst, List, length, ℕ, zero, suc, ◌+◌, ◌-◌, ◌<◌, ◌≤◌, pos, ◌≤ℤ◌, arith}
+-- On which side of the way over a place of a funnel a point is that is reached from there, where the place is not the apex.
+use Rattle.std.proofs.Common.{◌≡◌, refl, sym, subst, List, length, ℕ, ◌+◌, ◌-◌, ◌<◌, pos, ◌≤ℤ◌, arith, ◌⊎◌, inl, inr, zero, suc, ◌≤◌}
 use Rattle.std.proofs.lemmas.Bool.{cases_lt}
-use Rattle.integer_algebra.proofs.SignSteps.{negative_not_zero, positive_not_zero}
+use Rattle.integer_algebra.proofs.SignSteps.{negative_not_zero, positive_not_zero, not_both_positive}
 use Rattle.integer_algebra.proofs.Signs.{lt_or_le}
+use Rattle.plane.proofs.Turns.{determinant_same_ends}
 use Rattle.plane.specs.Point.{IsPoint, Point, Triple, whole}
 use Rattle.plane.specs.Turn.{IsLeft, IsRight, IsStraight, determinant}
 use Rattle.rings.specs.Chain.{point_at}
-use Rattle.funnels.proofs.Funnels.EdgesAtApex.{not_between_edges}
-use Rattle.funnels.proofs.Funnels.FlatFunnels.{IsFlat, flat_left, flat_right, turn_left, turn_right}
-use Rattle.funnels.proofs.Funnels.Heights.{lower_left, lower_right, not_negative}
-use Rattle.funnels.proofs.Funnels.LineOfDiagonal.{straight_on_line}
-use Rattle.funnels.proofs.Funnels.TwoEdges.{outer_left, outer_right}
-use Rattle.funnels.specs.Funnel.{IsFunnel, IsPassed, IsReachedFrom, height}
+use Rattle.funnels.proofs.Funnels.CrossingDiagonal.{straight_on_line}
+use Rattle.funnels.proofs.Funnels.FlatFunnels.{left_of_apex, right_of_apex, IsFlat, flat_left, flat_right, turn_left, turn_right}
+use Rattle.funnels.proofs.Funnels.Heights.{level, lower_left, lower_right, not_negative, reaches_left}
+use Rattle.funnels.proofs.Funnels.TwoEdges.{level_between, not_ends, outer_left, outer_right}
+use Rattle.funnels.specs.Funnel.{IsFunnel, height, IsPassed, IsReachedFrom}
+
+module _ (ns : List Point) (i : ℕ) (l r : Point) (f : IsFunnel ns (i + 1) l r) where
+  -- where the apex is as high as the point before it, it is on the line of the diagonal
+  flat_where_level : height l r (whole (point_at ns (i + 1))) ≡ height l r (whole (point_at ns i)) → IsFlat ns l r (i + 1)
+  flat_where_level same =
+      let o = point_at ns (i + 1) in
+      let p = point_at ns i in
+      let ends = level o p l r (reaches_left ns (i + 1) l r f i (omega arith)) same in
+      straight_on_line o p (λ s. f.differ i f.apex_within (sym s)) (whole r) (whole l) (whole o) ends.1 ends.0
+      (determinant_same_ends (whole o) (whole p))
+
+  -- the way from the apex to the left end, over it to the right end, does not turn left
+  opening_by_points : i + 1 + 1 < length ns
+      → ¬ IsLeft (whole (point_at ns (i + 1))) (whole (point_at ns i)) (whole (point_at ns (i + 1 + 1)))
+  opening_by_points h =
+      let e : i + 1 - 1 ≡ i = omega arith in
+      subst (λ n. ¬ IsLeft (whole (point_at ns (i + 1))) (whole (point_at ns n)) (whole (point_at ns (i + 1 + 1)))) e
+      (f.opening (omega arith) h)
+
+  -- no point that is not above the diagonal is left of the left edge and right of the right one
+  pub not_between_edges : (y : Triple) → IsPoint y → height l r y ≤ℤ pos 0 → i + 1 + 1 < length ns
+      → IsRight (whole (point_at ns (i + 1))) (whole (point_at ns (i + 1 + 1))) y
+      → ¬ IsLeft (whole (point_at ns (i + 1))) (whole (point_at ns i)) y
+  not_between_edges y at_y low h right left =
+      let o = point_at ns (i + 1) in
+      let p = point_at ns i in
+      let q = point_at ns (i + 1 + 1) in
+      let above = not_negative ns (i + 1) l r f (i + 1) f.apex_within in
+      let same = level_between p o q l r y at_y above low (opening_by_points h) left right (lower_left ns (i + 1) l r f i (omega arith))
+      (lower_right ns (i + 1) l r f (i + 1) (omega arith) h) in
+      let flat = flat_where_level same in
+      not_ends p o q l r y at_y above low (opening_by_points h) left right (left_of_apex ns (i + 1) l r f flat i refl)
+      (right_of_apex ns (i + 1) l r f flat h)
 
 -- ---- the test of one edge
 
@@ -110,3 +145,17 @@ module _ (ns : List Point) (a : ℕ) (l r : Point) (f : IsFunnel ns a l r) (y : 
     -- and none after it
     pub not_passed_from : (j : ℕ) → h < j → j < length ns → ¬ IsPassed ns a j y
     not_passed_from j after within passed = reached.not_passed (omega arith) (passed_each_before h j after within passed)
+
+module _ (ns : List Point) (a : ℕ) (l r : Point) (f : IsFunnel ns a l r) (h : ℕ) (y : Triple) (reached : IsReachedFrom ns a h y) where
+  -- from a place of the left chain the point is left of the way over that place,
+  pub left_of_way : h < a → IsLeft (whole (point_at ns (h + 1))) (whole (point_at ns h)) y
+  left_of_way on_left = elim (lt_or_le (pos 0) (determinant (whole (point_at ns (h + 1))) (whole (point_at ns h)) y)) [
+    | inl is ↦ is
+    | inr none ↦
+        let top = f.apex_within in
+        absurd (reached.not_passed (omega arith) (passed_of ns a y h (inl (on_left, λ left. not_both_positive left none))))
+  ]
+
+  -- and from one of the right chain right of it
+  pub right_of_way : a < h → IsRight (whole (point_at ns (h - 1))) (whole (point_at ns h)) y
+  right_of_way on_right = elim (reached.passed (omega arith)) [ inr is ↦ is.1 | inl is ↦ absurd (omega (arith, is.0)) ]

@@ -5,7 +5,7 @@ use Rattle.plane.proofs.Regions.{four_beside}
 use Rattle.plane.proofs.Turns.{determinant_swap_first}
 use Rattle.plane.specs.Point.{IsPoint, Point, Triple, whole}
 use Rattle.plane.specs.Turn.{IsLeft, IsRight, determinant}
-use Rattle.funnels.proofs.Funnels.LineOfDiagonal.{areas_with}
+use Rattle.funnels.proofs.Funnels.CrossingDiagonal.{areas_with}
 use Rattle.funnels.proofs.Funnels.TestSigns.{level_at_apex, level_left, level_right, not_beside_all}
 use Rattle.funnels.specs.Funnel.{height}
 

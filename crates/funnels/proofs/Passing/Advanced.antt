@@ -13,8 +13,7 @@ use Rattle.meshes.specs.Side.{tri_at}
 use Rattle.meshes.specs.declared.tri.Tri.{Tri}
 use Rattle.funnels.proofs.Bends.{corner_back, negative_unless, not_swept, turning_not, turning_swap}
 use Rattle.funnels.proofs.Corners.{corner_after, corner_before}
-use Rattle.funnels.proofs.Passing.AlongWays.{other_end_ahead, other_end_not_ahead, rest_ahead}
-use Rattle.funnels.proofs.Passing.Flipped.{flipped, flipped_back, opening_not}
+use Rattle.funnels.proofs.Passing.BentWays.{other_end_ahead, other_end_not_ahead, rest_ahead, flipped, flipped_back, opening_not}
 use Rattle.funnels.proofs.Passing.LastSides.{swept_behind}
 use Rattle.funnels.proofs.Vertices.{IsSharedSide, shared_side_back}
 use Rattle.funnels.specs.Corner.{HasCornerOn, IsInAngle}

@@ -17,7 +17,7 @@ use Rattle.meshes.specs.declared.tri.Tri.{Tri}
 use Rattle.funnels.proofs.Bends.{not_ahead_of_itself}
 use Rattle.funnels.proofs.DeadEnds.{HasSideOn, corner_at_side, crossed_back, crossed_before, crossed_shared, meets_on_part}
 use Rattle.funnels.proofs.Passing.Advanced.{advanced, advanced_other}
-use Rattle.funnels.proofs.Passing.AlongWays.{head_ahead}
+use Rattle.funnels.proofs.Passing.BentWays.{head_ahead}
 use Rattle.funnels.proofs.Passing.WalkedBack.{AreAt, ComeTo, IsAlong, IsBefore, after_bend, at_flipped, before_place}
 use Rattle.funnels.proofs.Vertices.{shared_side_back}
 use Rattle.funnels.specs.Corner.{HasCornerOn}

@@ -17,7 +17,7 @@ use Rattle.meshes.specs.Fits.{Fits, IsInTri}
 use Rattle.meshes.specs.Laws.{CrossesSide, walk_tri}
 use Rattle.meshes.specs.Side.{IsWalk}
 use Rattle.meshes.specs.declared.tri.Tri.{Tri}
-use Rattle.funnels.proofs.Touched.AheadCases.{ahead_cases, before_last_part, beyond, on_last_part, only_point}
+use Rattle.funnels.proofs.Touched.FoundOnce.{ahead_cases, before_last_part, beyond, on_last_part, only_point}
 use Rattle.funnels.proofs.Touched.TouchedCorners.{end_between, side_in_triangle}
 use Rattle.funnels.specs.Touched.{HasCome, IsAhead, IsEndAt, IsLookedAt, IsSearchOpen, IsVertexAhead}
 

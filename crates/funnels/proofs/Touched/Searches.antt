@@ -14,7 +14,7 @@ use Rattle.meshes.specs.Fits.{Fits, IsInTri}
 use Rattle.meshes.specs.Laws.{CrossesSide, walk_tri}
 use Rattle.meshes.specs.Side.{HasSide, IsWalk}
 use Rattle.meshes.specs.declared.tri.Tri.{Tri}
-use Rattle.funnels.proofs.Touched.AheadCases.{only_point}
+use Rattle.funnels.proofs.Touched.FoundOnce.{only_point}
 use Rattle.funnels.proofs.Touched.Entered.{number_below}
 use Rattle.funnels.proofs.Touched.LookedAt.{IsEntered, looked_at, none_between}
 use Rattle.funnels.specs.Touched.{HasCome, IsAhead, IsLookedAt, IsVertexAhead}

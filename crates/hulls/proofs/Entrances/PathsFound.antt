@@ -1,24 +1,67 @@
+-- Along each walk over the triangles of a mesh from one with a point b goes a trail, so there is one to each triangle.
+-- A simple ring and the ring that is kept of it, counterclockwise, have the same paths; so in a simple ring there is a path between each two
+-- points.
 -- The gate of a point comes before it on the path from b, where it is another point; so there is a path to each point of the ring.
-use Rattle.std.proofs.Common.{◌≡◌, inl, inr, sym, subst, ◌∙◌, List, [], ◌∷◌, ◌++◌, length, ◌-◌, ℕ, ◌<◌, arith}
+use Rattle.std.proofs.Common.{◌≡◌, sym, subst, ◌∙◌, List, [], length, get_or, ℕ, zero, suc, ◌+◌, ◌-◌, ◌<◌, add-one, arith, inl, inr, ◌∷◌}
+use Rattle.std.proofs.Common.{◌++◌, ◌⊎◌}
+use Rattle.std.specs.List.{range_with_len}
 use Rattle.std.proofs.lemmas.List.{get_or_push, length-append}
 use Rattle.plane.proofs.Order.{point_or_other}
 use Rattle.plane.proofs.Points.{whole_is_point}
-use Rattle.plane.specs.Point.{Point, whole}
+use Rattle.plane.specs.Point.{Point, whole, Triple}
+use Rattle.rings.proofs.Inside.{in_turned_iff}
 use Rattle.rings.specs.Chain.{IsPath, point_at}
 use Rattle.rings.specs.From.{IsPredecessor}
 use Rattle.rings.specs.Inside.{IsIn}
+use Rattle.rings.specs.Orientation.{turned_round}
 use Rattle.rings.specs.Ring.{origin, vertex}
-use Rattle.meshes.specs.Fits.{Fits, IsInTri}
-use Rattle.meshes.specs.Side.{tri_at}
+use Rattle.ring_laws.proofs.Simple.{kept_ring, taut_turned_iff}
+use Rattle.meshes.proofs.Sight.{shared_from}
+use Rattle.meshes.proofs.Triangulations.{triangulation}
+use Rattle.meshes.specs.Fits.{Fits, IsInTri, IsSideOfTwo}
+use Rattle.meshes.specs.Side.{IsWalk, tri_at}
 use Rattle.meshes.specs.declared.tri.Tri.{Tri}
 use Rattle.funnels.proofs.Chains.{chain_to}
 use Rattle.funnels.proofs.DeadEnds.{some_triangle}
 use Rattle.funnels.proofs.OneChain.{bent_is_path}
 use Rattle.funnels.proofs.Trees.{before_at_home, before_reached, path_of_one, way_begins, way_to}
 use Rattle.funnels.proofs.Vertices.{fitted_long, fitted_simple}
-use Rattle.hulls.proofs.Entrances.Crossings.{has_gate}
-use Rattle.hulls.proofs.Entrances.Trails.{Entrance, IsEntered, IsGate, IsTrail, last_of}
-use Rattle.hulls.proofs.Entrances.TrailsFound.{trail_to}
+use Rattle.hulls.proofs.Entrances.NextEntrances.{crosses, has_gate}
+use Rattle.hulls.proofs.Entrances.Trails.{Entrance, IsTrail, last_of, IsEntered, IsGate}
+use Rattle.hulls.specs.Laws.{PathsLaw}
+
+module _ (corners : List Point) (tris : List Tri) (fits : Fits corners tris) (walk : List ℕ) (w : IsWalk tris walk) where
+  -- a walk goes on over a shared side
+  pub side_crossed : (m : ℕ) → m + 1 < length walk → (i : ℕ) × (j : ℕ) × IsSideOfTwo tris i j (get_or walk m 0) (get_or walk (m + 1) 0)
+  side_crossed m more =
+      let share = w.sharing m more in (
+        share.i,
+        share.j,
+        shared_from corners (range_with_len 0 (length corners)) tris fits share.i share.j (get_or walk m 0) (get_or walk (m + 1) 0)
+            (w.in_list m (omega (arith, more))) (w.in_list (m + 1) more) (w.once m (m + 1) (omega arith) more) share.of_first share.of_second,
+      )
+
+  module _ (b : Point) (home : ℕ) (in_b : IsInTri corners (tri_at tris home) (whole b)) (starts : get_or walk 0 0 ≡ home) where
+    -- so a trail goes along it
+    pub trail_along : (m : ℕ) → m < length walk → (trail : List Entrance) × IsTrail corners tris b home trail × (last_of home trail ≡ get_or walk m 0)
+    trail_along zero within = ([], tt, sym starts)
+    trail_along (suc m) within =
+        let (trail, is, leads) = trail_along m (omega (arith, within)) in
+        let (i, j, shared) = side_crossed m (omega (arith, within)) in
+        let goes = crosses corners tris fits b home in_b trail is i j (get_or walk (m + 1) 0)
+        (subst (λ k. IsSideOfTwo tris i j k (get_or walk (m + 1) 0)) (sym leads) shared) in
+        (goes.next, goes.is_trail, goes.leads ∙ (λ t. get_or walk (add-one m t) 0))
+
+-- there is a trail to each triangle
+pub trail_to : (corners : List Point) (tris : List Tri) (fits : Fits corners tris) (b : Point) (home : ℕ) → home < length tris
+    → IsInTri corners (tri_at tris home) (whole b) → (k : ℕ) → k < length tris
+    → (trail : List Entrance) × IsTrail corners tris b home trail × (last_of home trail ≡ k)
+trail_to corners tris fits b home within in_b k below =
+    let one = fits.tree home k within below in
+    let some = one.between.is_walk.some in
+    let (trail, is, leads) = trail_along corners tris fits one.walk one.between.is_walk b home in_b one.between.first (length one.walk - 1)
+    (omega (arith, some)) in
+    (trail, is, leads ∙ one.between.last)
 
 module _ (corners : List Point) (tris : List Tri) (fits : Fits corners tris) (b : Point) (home : ℕ) (within : home < length tris)
     (in_b : IsInTri corners (tri_at tris home) (whole b)) where
@@ -86,3 +129,31 @@ path_between corners tris fits b y inside_b inside_y =
     let (k, below, in_y) = some_triangle corners tris fits (whole y) (whole_is_point y) inside_y in
     let (trail, is, leads) = trail_to corners tris fits b home within in_b k below in
     path_on corners tris fits b home within in_b trail is y (subst (λ n. IsInTri corners (tri_at tris n) (whole y)) (sym leads) in_y) inside_y
+
+-- what is said of the ring that is kept holds of the ring, if it goes from a ring turned round to the ring
+pub of_kept : (ring kept : List Point) → (kept ≡ ring) ⊎ (kept ≡ turned_round ring) → (P : List Point → Type 0)
+    → (P (turned_round ring) → P ring) → P kept → P ring
+of_kept ring kept one_of P turned p = elim one_of [
+  | inl e ↦ subst P e p
+  | inr e ↦ turned (subst P e p)
+]
+
+-- so a path there is one in the ring
+pub path_turned : (ring : List Point) (s t : Point) (path : List Point) → IsPath (turned_round ring) s t path → IsPath ring s t path
+path_turned ring s t path is =
+    λ chain. let same = taut_turned_iff ring s t chain in (λ h. (is chain).0 (same.1 h), λ e. same.0 ((is chain).1 e))
+
+-- and a point of the ring is in it
+pub in_kept : (ring kept : List Point) → (kept ≡ ring) ⊎ (kept ≡ turned_round ring) → (x : Triple) → IsIn ring x → IsIn kept x
+in_kept ring kept one_of x inside = elim one_of [
+  | inl e ↦ subst (λ (vs : List Point). IsIn vs x) (sym e) inside
+  | inr e ↦ subst (λ (vs : List Point). IsIn vs x) (sym e) ((in_turned_iff x ring).1 inside)
+]
+
+-- there are paths
+pub paths : PathsLaw
+paths ring some simple s t in_s in_t =
+    let (kept, is) = kept_ring ring some simple in
+    let (tris, fits) = triangulation kept is.some is.simple is.counterclockwise in
+    let (path, is_path) = path_between kept tris fits s t (in_kept ring kept is.one_of (whole s) in_s) (in_kept ring kept is.one_of (whole t) in_t) in
+    (path, of_kept ring kept is.one_of (λ vs. IsPath vs s t path) (path_turned ring s t path) is_path)

@@ -18,7 +18,7 @@ use Rattle.meshes.proofs.Cones.{not_left_between}
 use Rattle.funnels.proofs.Funnels.{left_old_at, next_left_length, next_left_old, not_passed_from, passed_from, passed_of, passed_same}
 use Rattle.funnels.proofs.Funnels.{reaches_left, reaches_new, reaches_right, next_right_last, next_right_length, next_right_old, passed_to}
 use Rattle.funnels.specs.Funnel.{IsFunnel, IsPassed, IsReachedFrom, height}
-use Rattle.hulls.proofs.Gates.Towards.{right_towards, left_towards}
+use Rattle.hulls.proofs.Gates.PastSides.{right_towards, left_towards}
 
 module _ (ns : List Point) (a : ℕ) (l r : Point) (f : IsFunnel ns a l r) (h : ℕ) (m : Point) (beyond : height l r (whole m) <ℤ pos 0)
     (reached : IsReachedFrom ns a h (whole m)) (z : Triple) (at_z : IsPoint z) (j : ℕ) (from_z : IsReachedFrom ns a j z) where

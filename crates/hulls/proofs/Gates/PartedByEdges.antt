@@ -1,19 +1,144 @@
+-- Edges of a funnel on the line of its diagonal, off the apex: the way to a point that is not above the diagonal passes those on the left, and
+-- none on the right.
+-- The signs behind the gates of two points past a diagonal that a falling edge tells apart: on which side of the way between them its ends are.
 -- Two points that are not above a diagonal, one not right of an edge that falls to it and one not left of it: the ends of the edge are right of
 -- the way from the one to the other.
-use Rattle.std.proofs.Common.{◌≡◌, ap, ℤ, pos, ◌-ℤ◌, ◌+ℤ◌, ◌*ℤ◌, neg_ℤ, ◌<ℤ◌, ◌≤ℤ◌, arith}
+use Rattle.std.proofs.Common.{◌≡◌, inl, inr, sym, List, length, ℕ, ◌+◌, ◌<◌, ◌≤◌, pos, ◌*ℤ◌, ◌<ℤ◌, ◌≤ℤ◌, arith, ℤ, ◌+ℤ◌, ◌-ℤ◌, ap, neg_ℤ}
 use Rattle.std.proofs.lemmas.Int.{ints}
-use Rattle.integer_algebra.proofs.Laws.{neg-mul, zero-mul}
-use Rattle.integer_algebra.proofs.SignSteps.{at_least_unless, at_most_unless, mean_not_positive, negative_of_not_zero, opposite_not_negative}
-use Rattle.integer_algebra.proofs.SignSteps.{opposite_positive, zero_not_positive}
+use Rattle.integer_algebra.proofs.Certificate.{product_zero}
+use Rattle.integer_algebra.proofs.Laws.{mul_comm, neg-mul, zero-mul}
+use Rattle.integer_algebra.proofs.SignSteps.{negative_not_zero, not_both, not_both_positive, positive_not_zero, positive_of_not_zero, weak}
+use Rattle.integer_algebra.proofs.SignSteps.{weak_order, at_least_unless, at_most_unless, mean_not_positive, negative_of_not_zero}
+use Rattle.integer_algebra.proofs.SignSteps.{opposite_not_negative, opposite_positive, zero_not_positive}
+use Rattle.integer_algebra.proofs.Signs.{factor_nonnegative, factor_nonpositive, mul_nonpositive, mul_nonpositives, factor_zero, lt_or_le}
+use Rattle.integer_algebra.proofs.Signs.{mul_negative, mul_nonnegative, mul_order, mul_positive, mul_strict}
 use Rattle.plane.proofs.Points.{whole_is_point}
 use Rattle.plane.proofs.Regions.{four_beside}
-use Rattle.plane.proofs.Turns.{combination_of_ends, determinant_along, determinant_same_ends, determinant_same_last, determinant_shift}
+use Rattle.plane.proofs.Turns.{determinant_shift, combination_of_ends, determinant_along, determinant_same_ends, determinant_same_last}
 use Rattle.plane.proofs.Turns.{determinant_shift_back, four_triples_in_W, four_triples_in_X, four_triples_in_Y, on_of_combination}
-use Rattle.plane.specs.Point.{IsPoint, Point, Triple, whole}
+use Rattle.plane.specs.Point.{Point, Triple, whole, IsPoint}
 use Rattle.plane.specs.Segment.{On}
-use Rattle.plane.specs.Turn.{IsLeft, IsRight, determinant}
-use Rattle.funnels.specs.Funnel.{height}
-use Rattle.hulls.proofs.Gates.GateSigns.{first_level, grows, not_left_of_way, second_level}
+use Rattle.plane.specs.Turn.{IsLeft, IsRight, IsStraight, determinant}
+use Rattle.rings.specs.Chain.{point_at}
+use Rattle.funnels.proofs.Funnels.{IsFlat, flat_left, in_proportion, not_negative, passed_from, passed_of, straight_on_line, turn_left}
+use Rattle.funnels.proofs.Funnels.{turn_right, flat_right}
+use Rattle.funnels.specs.Funnel.{IsFunnel, IsPassed, height}
+
+module _ (l r p o q : Point) (y : Triple) (differ : ¬ (l ≡ r)) (low : height l r y ≤ℤ pos 0) (high : pos 0 ≤ℤ height l r (whole p))
+    (at_o : height l r (whole o) ≡ pos 0) (at_q : height l r (whole q) ≡ pos 0) where
+  -- where an edge comes down to the line of the diagonal and the next one goes along it,
+  -- a point is as far from that as it is from the line, times one factor
+  along_line : height l r (whole p) *ℤ determinant (whole o) (whole q) y ≡ determinant (whole p) (whole o) (whole q) *ℤ height l r y
+  along_line =
+      rw (mul_comm (height l r (whole p)) (determinant (whole o) (whole q) y), ← determinant_shift (whole p) (whole o) (whole q))
+      (in_proportion (whole r) (whole l) (whole o) (whole q) (whole p) y at_o at_q)
+
+  -- the edge comes from above
+  from_above : ¬ IsStraight (whole p) (whole o) (whole q) → pos 0 <ℤ height l r (whole p)
+  from_above turn =
+      positive_of_not_zero high (λ e. turn (straight_on_line r l (λ s. differ (sym s)) (whole p) (whole o) (whole q) e at_o at_q))
+
+  -- so where it turns left, no point that is not above the line is left of the next edge,
+  not_left_along : IsLeft (whole p) (whole o) (whole q) → ¬ IsLeft (whole o) (whole q) y
+  not_left_along turn left =
+      not_both_positive left
+      (factor_nonpositive (height l r (whole p)) (determinant (whole o) (whole q) y) (from_above (positive_not_zero turn))
+      (rw along_line (mul_nonpositive (determinant (whole p) (whole o) (whole q)) (height l r y) (weak turn) low)))
+
+  -- and where it turns right, none is right of it
+  not_right_along : IsRight (whole p) (whole o) (whole q) → ¬ IsRight (whole o) (whole q) y
+  not_right_along turn right =
+      not_both right
+      (factor_nonnegative (height l r (whole p)) (determinant (whole o) (whole q) y) (from_above (negative_not_zero turn))
+      (rw along_line (mul_nonpositives (determinant (whole p) (whole o) (whole q)) (height l r y) (weak_order turn) low)))
+
+-- ---- the edges of a funnel
+
+module _ (ns : List Point) (a : ℕ) (l r : Point) (f : IsFunnel ns a l r) (i : ℕ) (y : Triple) (low : height l r y ≤ℤ pos 0) where
+  -- from a place on the line of the diagonal an edge goes along it; on the left it is passed, where its place is not the apex,
+  pub passed_along : i + 1 < a → IsFlat ns l r (i + 1) → IsPassed ns a (i + 1) y
+  passed_along h flat =
+      let within = f.apex_within in
+      passed_of ns a y i (inl (
+        omega (arith, h),
+        not_left_along l r (point_at ns (i + 1 + 1)) (point_at ns (i + 1)) (point_at ns i) y f.ends_differ low
+            (not_negative ns a l r f (i + 1 + 1) (omega arith)) flat (flat_left ns a l r f i (omega arith) flat) (turn_left ns a l r f i h),
+      ))
+
+  -- and not on the right
+  pub not_passed_along : a ≤ i → i + 1 + 1 < length ns → IsFlat ns l r (i + 1) → ¬ IsPassed ns a (i + 1 + 1) y
+  not_passed_along h k flat passed = elim (passed_from ns a y (i + 1) passed) [
+    | inl left ↦ omega (arith, left.0, h)
+    | inr right ↦
+        not_right_along l r (point_at ns i) (point_at ns (i + 1)) (point_at ns (i + 1 + 1)) y f.ends_differ low
+        (not_negative ns a l r f i (omega arith)) flat
+        (flat_right ns a l r f (i + 1) (omega (arith, h)) k flat)
+        (turn_right ns a l r f i h k) right.1
+  ]
+
+-- an edge from p to q: A and C are areas at p and q with the two points, D and E those of the points with the edge, P, Q, Y and Z the heights of
+-- p, q and the points, v and w the weights of the points
+module _ (A C D E P Q Y Z v w : ℤ) (heights : C *ℤ P -ℤ A *ℤ Q +ℤ E *ℤ Y -ℤ D *ℤ Z ≡ pos 0) (weights : C -ℤ A +ℤ E *ℤ v -ℤ D *ℤ w ≡ pos 0)
+    (some_v : pos 0 <ℤ v) (some_w : pos 0 <ℤ w) (not_right : pos 0 ≤ℤ D) (not_left : E ≤ℤ pos 0) where
+  -- where the edge tells the points apart, the area grows along it,
+  pub grows : E <ℤ D → A <ℤ C
+  grows apart = elim (lt_or_le (pos 0) D) [
+    | inl left ↦
+        omega (arith, ints, weights, mul_positive D w left some_w, mul_nonpositive v E (omega (arith, ints)) not_left, mul_comm v E)
+    | inr none ↦
+        omega (
+          arith,
+          ints,
+          weights,
+          mul_nonnegative D w not_right (omega (arith, ints)),
+          mul_negative v E some_v (omega (arith, ints)),
+          mul_comm v E,
+        )
+  ]
+
+  module _ (below : Y ≤ℤ pos 0) (also_below : Z ≤ℤ pos 0) where
+    -- the products of areas and heights do not
+    products : (C *ℤ P) ≤ℤ (A *ℤ Q)
+    products = omega (arith, ints, heights, mul_nonpositives E Y not_left below, mul_nonpositive D Z not_right also_below)
+
+    -- so where the edge falls from above the diagonal, the area at its end is not positive
+    pub not_left_of_way : E <ℤ D → pos 0 <ℤ P → pos 0 ≤ℤ Q → Q ≤ℤ P → C ≤ℤ pos 0
+    not_left_of_way apart above hq falls = elim (lt_or_le (pos 0) C) [
+      | inr none ↦ none
+      | inl some ↦
+          let more = grows apart in
+          elim (lt_or_le (pos 0) A) [
+            | inl also ↦
+                absurd (omega (
+                  arith,
+                  ints,
+                  products,
+                  mul_strict A C P above more,
+                  mul_order Q P A (omega (arith, ints)) falls,
+                  mul_comm P A,
+                  mul_comm P C,
+                ))
+            | inr not ↦
+                absurd (omega (arith, ints, products, mul_positive C P some above, mul_nonpositive Q A hq not, mul_comm Q A))
+          ]
+    ]
+
+    -- where it stays on the line of the diagonal, both products with the other heights are 0:
+    no_products : P ≡ pos 0 → Q ≡ pos 0 → (E *ℤ Y ≡ pos 0) × (D *ℤ Z ≡ pos 0)
+    no_products hp hq =
+        let first = product_zero C hp in
+        let second = product_zero A hq in
+        let third = mul_nonpositives E Y not_left below in
+        let fourth = mul_nonpositive D Z not_right also_below in
+        (omega (arith, ints, heights, first, second, third, fourth), omega (arith, ints, heights, first, second, third, fourth))
+
+    -- so the second point is on that line, where the first is left of the edge,
+    pub second_level : P ≡ pos 0 → Q ≡ pos 0 → pos 0 <ℤ D → Z ≡ pos 0
+    second_level hp hq left = factor_zero D Z (positive_not_zero left) (no_products hp hq).1
+
+    -- and the first is, where the second is right of the edge
+    pub first_level : P ≡ pos 0 → Q ≡ pos 0 → E <ℤ pos 0 → Y ≡ pos 0
+    first_level hp hq right = factor_zero E Y (negative_not_zero right) (no_products hp hq).0
 
 -- ---- numbers
 

@@ -4,9 +4,8 @@ use Rattle.plane.specs.Point.{Point}
 use Rattle.rings.specs.Chain.{IsBentChain, IsPath, point_at}
 use Rattle.rings.specs.Simple.{IsSimple}
 use Rattle.hulls.proofs.Joined.{path_is_taut, rest_at}
-use Rattle.hulls.proofs.Order.Followed.{AreAhead, left_follows}
+use Rattle.hulls.proofs.Order.Followed.{AreAhead, left_follows, IsLeftOf, TurnsLeft}
 use Rattle.hulls.proofs.Order.Starts.{IsRightOn, ahead_of_ray}
-use Rattle.hulls.proofs.Order.Ways.{IsLeftOf, TurnsLeft}
 use Rattle.hulls.specs.Turning.{IsToLeft, StartsRight}
 
 -- ---- two lists that part

@@ -6,10 +6,9 @@ use Rattle.rings.specs.Chain.{point_at}
 use Rattle.rings.specs.Simple.{IsSimple}
 use Rattle.hulls.proofs.Order.{AreAhead, IsLeftOn, IsRightOn, ahead_of_left, ahead_of_ray, ordered_ahead}
 use Rattle.hulls.proofs.Outer.LeastBases.{step_of_way}
-use Rattle.hulls.proofs.Outer.FirstSteps.{first_differs, starts_left, starts_right, starts_there}
+use Rattle.hulls.proofs.Outer.Seen.{first_differs, starts_left, starts_right, starts_there, HasWay}
 use Rattle.hulls.proofs.Outer.OuterPoints.{AreOuter, IsOuter}
 use Rattle.hulls.proofs.Outer.OuterPoints as outer
-use Rattle.hulls.proofs.Outer.Seen.{HasWay}
 use Rattle.hulls.specs.Inner.{AreAllIn, AreDistinct, IsOuterPair}
 use Rattle.hulls.specs.Joined.{IsFirstStep}
 use Rattle.hulls.specs.Turning.{IsToLeft}

@@ -9,8 +9,8 @@ use Rattle.hulls.proofs.Entrances.{paths}
 use Rattle.hulls.proofs.Joined.{joined_of_on_path, on_path_of_joined}
 use Rattle.hulls.proofs.Order.{IsLeftOn, ahead_of_left}
 use Rattle.hulls.proofs.Outer.LeastBases.{IsBase, IsLastSeen, IsOther, points_differ, step_of_way, way_to}
-use Rattle.hulls.proofs.Outer.FirstSteps.{first_differs, one_joined_with_first, starts_along, starts_left, starts_there}
-use Rattle.hulls.proofs.Outer.Seen.{HasWay, not_on_path_before, on_path_or_not, way_of}
+use Rattle.hulls.proofs.Outer.Seen.{first_differs, one_joined_with_first, starts_along, starts_left, starts_there, HasWay}
+use Rattle.hulls.proofs.Outer.Seen.{not_on_path_before, on_path_or_not, way_of}
 use Rattle.hulls.proofs.Third.{from_third, on_path_back}
 use Rattle.hulls.specs.Inner.{AreAllIn, AreDistinct, IsInnerPoint}
 use Rattle.hulls.specs.Joined.{AreJoined, IsFirstStep, IsOnPath}

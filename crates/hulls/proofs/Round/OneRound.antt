@@ -2,8 +2,7 @@
 use Rattle.std.proofs.Common.{◌≡◌, ◌≢◌, ◌↔◌, inl, inr, refl, sym, ◌∙◌, ℕ, zero, suc, ◌+◌, ◌-◌, ◌<◌, List, length, slice_index, arith, ap}
 use Rattle.std.proofs.lemmas.Bool.{cases_order}
 use Rattle.std.proofs.lemmas.List.{ext_get_or}
-use Rattle.hulls.proofs.Round.AllSides.{after_inner, after_last, closed_is_round, place_after}
-use Rattle.hulls.proofs.Round.Chains.{closes_from}
+use Rattle.hulls.proofs.Round.AllSides.{after_inner, after_last, closed_is_round, place_after, closes_from}
 use Rattle.hulls.proofs.Round.Places.{one_place}
 use Rattle.hulls.specs.Round.{AreTurning, Follows, IsRoundOf, IsSideOf}
 

@@ -27,8 +27,7 @@ use Rattle.meshes.specs.declared.tri.Tri.{Tri}
 use Rattle.funnels.proofs.DeadEnds.{some_triangle}
 use Rattle.hulls.proofs.Entrances.{Entrance, IsBetween, IsTrail, crosses, last_of, side_crossed, in_kept, of_kept, path_turned, trail_to}
 use Rattle.hulls.proofs.StepsSeen.InnerPoints.{not_named}
-use Rattle.hulls.proofs.StepsSeen.OnWay.{ComesToBoth, IsClear, IsOnWay, at_last, goes_on}
-use Rattle.hulls.proofs.StepsSeen.Seen.{seen}
+use Rattle.hulls.proofs.StepsSeen.OnWay.{ComesToBoth, IsClear, IsOnWay, at_last, goes_on, seen}
 use Rattle.hulls.specs.Joined.{IsOnPath}
 use Rattle.hulls.specs.Laws.{StepsLaw}
 use Rattle.hulls.specs.Steps.{IsOpenStep, IsSeenFrom, away, from_left, from_right, towards}

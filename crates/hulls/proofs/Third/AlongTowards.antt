@@ -1,17 +1,25 @@
 -- Along a way of steps, from one with a side on: there follow such of that side, and then steps away.
 -- Along a way of steps from one of three free points to another, seen from the third: first come steps towards that, and then one with a
 -- side.
-use Rattle.std.proofs.Common.{subst, ◌≤◌, List, [], ◌∷◌, length, ◌≡◌, ◌⊎◌, inl, inr}
+-- Of three free points, where c is to a side of b, seen from a, b is to that side of a, seen from c.
+use Rattle.std.proofs.Common.{subst, ◌≤◌, List, [], ◌∷◌, length, ◌≡◌, ◌⊎◌, inl, inr, refl, sym, ◌∙◌, ◌-◌, arith}
+use Rattle.std.proofs.lemmas.Bool.{cases_lt}
 use Rattle.plane.specs.Point.{Point, Triple, whole}
 use Rattle.plane.specs.Turn.{IsLeft, IsRight}
+use Rattle.rings.specs.Chain.{IsPath, point_at}
+use Rattle.rings.specs.Inside.{IsIn}
 use Rattle.rings.specs.Simple.{IsSimple}
 use Rattle.hulls.proofs.Cones.{joined_back}
+use Rattle.hulls.proofs.Joined.{path_is_taut}
+use Rattle.hulls.proofs.StepsSeen.{steps}
 use Rattle.hulls.proofs.Third.Cuts.{on_path_back}
+use Rattle.hulls.proofs.Third.Ways.{Reaches, joined_first, reach_next, reach_over, sight_step, step_back, step_beyond, IsStepPast, IsStrict}
+use Rattle.hulls.proofs.Third.Ways.{IsWay, Sorts, away_goes_on, first_other, goes_away, goes_towards, joined_ahead, last_other, not_towards}
+use Rattle.hulls.proofs.Third.Ways.{on_other, on_side, parts_here, side_goes_on, towards_before, way_begins, on_path_ahead, reach_end}
+use Rattle.hulls.proofs.Third.Ways.{sorts_left, sorts_right, towards_then_away, way_reaches}
 use Rattle.hulls.proofs.Third.TurnsOver.{AreSides, left_and_right, right_and_left, sides_back, turns_over}
-use Rattle.hulls.proofs.Third.StepFacts.{Reaches, joined_first, reach_next, reach_over, sight_step, step_back, step_beyond}
-use Rattle.hulls.proofs.Third.Ways.{IsStepPast, IsStrict, IsWay, Sorts, away_goes_on, first_other, goes_away, goes_towards, joined_ahead}
-use Rattle.hulls.proofs.Third.Ways.{last_other, not_towards, on_other, on_side, parts_here, side_goes_on, towards_before, way_begins}
-use Rattle.hulls.proofs.Third.Ways.{on_path_ahead, reach_end, sorts_left, sorts_right, towards_then_away, way_reaches}
+use Rattle.hulls.proofs.Third.SplitSteps.{way_of_path}
+use Rattle.hulls.proofs.Turning.{exchanged, exchanged_back, not_both}
 use Rattle.hulls.specs.Joined.{AreJoined, IsFirstStep, IsOnPath}
 use Rattle.hulls.specs.Steps.{SeesSteps}
 use Rattle.hulls.specs.Turning.{IsTo, AreFree, IsToLeft, IsToRight}
@@ -168,3 +176,49 @@ faces ring some simple a b c sees free n step y rest way =
     faces_on ring some simple a b c sees free.not_c a y rest way (reach_end ring some simple y a (step_back ring a y first.clear))
     (λ on. free.not_a (on_path_ahead ring some simple b c a y first.clear reach n step (first_other ring b a y first) on))
     (record { left = λ to. to; right = λ to. to })
+
+module _ (ring : List Point) (some : 3 ≤ length ring) (simple : IsSimple ring) (a b c : Point) (free : AreFree ring a b c)
+    (ab ac : List Point) (to_b : IsPath ring a b ab) (to_c : IsPath ring a c ac) where
+  -- the path between different points has a step
+  first_of_path : IsFirstStep ring a b (point_at ab 1)
+  first_of_path =
+      let taut = path_is_taut ring a b ab to_b in
+      record {
+        path = ab;
+        is_path = to_b;
+        more = elim (cases_lt 1 (length ab)) [
+          | inl more ↦ more
+          | inr none ↦
+              let alone : 0 ≡ length ab - 1 = omega arith in
+              absurd (free.a_b (sym taut.first ∙ (λ i. point_at ab (alone i)) ∙ taut.last))
+        ];
+        is_next = refl;
+      }
+
+  -- each step past no vertex is seen from b, which is in the ring,
+  sees : SeesSteps ring b
+  sees =
+      let taut = path_is_taut ring a b ab to_b in
+      let some_points = taut.bent.chain.some in
+      steps ring some simple b
+      (subst (λ (p : Point). IsIn ring (whole p)) taut.last (taut.bent.chain.inside (length ab - 1) (omega arith)))
+
+  -- so b is seen from a and from c on one side of the path between them
+  facing : AreFacing ring a b c
+  facing =
+      let found = way_of_path ring b c a ac to_c free.a_c free.not_b in
+      faces ring some simple a b c sees free (point_at ab 1) first_of_path found.0 found.1 found.2
+
+  -- so where c is to the left of b, seen from a, b is to the left of a, seen from c,
+  pub from_third : IsToLeft ring a b c → IsToLeft ring c a b
+  from_third left = elim facing [
+    | inl both ↦ absurd (not_both ring a c b both.0 (exchanged ring a b c left))
+    | inr both ↦ both.1
+  ]
+
+  -- and to the right where it is to the right
+  pub from_third_right : IsToRight ring a b c → IsToRight ring c a b
+  from_third_right right = elim facing [
+    | inl both ↦ both.1
+    | inr both ↦ absurd (not_both ring a c b (exchanged_back ring a b c right) both.0)
+  ]

@@ -13,8 +13,7 @@ use Rattle.rings.specs.Simple.{IsSimple}
 use Rattle.funnels.proofs.Bends.{AreOnRay, on_ray_back, turning_from_ray, turning_to_ray}
 use Rattle.hulls.proofs.Cones.{IsBetween}
 use Rattle.hulls.proofs.Joined.{path_is_taut}
-use Rattle.hulls.proofs.Third.Cuts.{step_of_list}
-use Rattle.hulls.proofs.Third.Prolonged.{IsProlonged, bent, past_first, prolonged, straight, with_bend}
+use Rattle.hulls.proofs.Third.Cuts.{step_of_list, IsProlonged, bent, past_first, prolonged, straight, with_bend}
 use Rattle.hulls.proofs.Third.Rays.{ray_of_on, line_of_between}
 use Rattle.hulls.proofs.Turning.{part_to}
 use Rattle.hulls.specs.Joined.{AreJoined, IsFirstStep}

@@ -1,18 +1,63 @@
+-- Sums over lists of triangles and of gaps, after an edit.
+-- After the last event: the triangles fit the ring.
 -- The balance before the next event, from that before this one, by what the sums gain.
-use Rattle.std.proofs.Common.{◌≡◌, inl, inr, refl, sym, ap, subst, ◌∙◌, ℕ, ◌+◌, ◌<◌, ◌≤◌, ℤ, pos, negsuc, ◌+ℤ◌, ◌-ℤ◌, ◌*ℤ◌, neg_ℤ, List, [], length}
-use Rattle.std.proofs.Common.{arith}
+use Rattle.std.proofs.Common.{◌≡◌, sym, ap, ◌∙◌, ℕ, suc, ◌+◌, ◌<◌, ℤ, ◌+ℤ◌, ◌-ℤ◌, List, [], ◌∷◌, ◌++◌, length, take, drop, set, arith, inl}
+use Rattle.std.proofs.Common.{inr, refl, subst, ◌≤◌, pos, negsuc, ◌*ℤ◌, neg_ℤ, ◌-◌}
 use Rattle.std.proofs.lemmas.Int.{ints}
+use Rattle.std.proofs.lemmas.List.{drop_more, set_split, take-append-drop}
+use Rattle.std.specs.List.{insert, remove, range_with_len}
 use Rattle.std.specs.Prelude.{slice_index}
+use Rattle.std.proofs.lemmas.Bool.{cases_lt}
 use Rattle.integer_algebra.proofs.Laws.{mul-neg, neg-mul}
 use Rattle.plane.specs.Point.{Point}
-use Rattle.rings.specs.Events.{AreEvents, first_rank, next}
-use Rattle.meshes.specs.Boundary.{IsOdd, sum_sides}
+use Rattle.rings.proofs.Sweeps.{next_below, rank_below, ranks_are}
+use Rattle.rings.specs.Events.{AreEvents, first_rank, next, last_rank}
+use Rattle.rings.specs.Orientation.{IsCounterclockwise, doubled_area}
+use Rattle.rings.specs.Simple.{IsSimple}
+use Rattle.meshes.proofs.Boundaries.{fits_bounded}
+use Rattle.meshes.proofs.Sides.{piece_points_all}
+use Rattle.meshes.proofs.Triangulations.{ring_is_piece}
+use Rattle.meshes.specs.Boundary.{IsOdd, sum_sides, HaveBoundary, sum_round}
+use Rattle.meshes.specs.Fits.{Fits, IsTriOf}
+use Rattle.meshes.specs.Side.{tri_at}
 use Rattle.meshes.specs.declared.tri.Tri.{Tri}
-use Rattle.sweep_tri.proofs.Balance.EdgeSums.{sums_none}
-use Rattle.sweep_tri.proofs.Balance.Signs.{AreBeside, IsUnit, after, before, before_differs, before_is_edge, begins_at, edge_before, event}
-use Rattle.sweep_tri.proofs.Balance.Signs.{event_below, next_begins, placed, placed_other, placed_same, previous_begins, signs_after, sums_placed}
-use Rattle.sweep_tri.specs.Sums.{AreBalanced, sum_gaps}
+use Rattle.sweep_tri.proofs.Balance.Area.{area_by, area_odd, area_round, triangles_not_negative}
+use Rattle.sweep_tri.proofs.Balance.EdgeSums.{sums_none, around_step, edges_round, growth_at, growth_odd, sums_agree, sums_opposite}
+use Rattle.sweep_tri.proofs.Balance.EdgeSums.{AreBeside, IsUnit, after, before, before_differs, before_is_edge, begins_at, edge_before}
+use Rattle.sweep_tri.proofs.Balance.EdgeSums.{event, event_below, next_begins, placed, placed_other, placed_same, previous_begins}
+use Rattle.sweep_tri.proofs.Balance.EdgeSums.{signs_after, sums_placed}
+use Rattle.sweep_tri.specs.Gaps.{gap_at, no_gap}
+use Rattle.sweep_tri.specs.Sums.{sum_gap, sum_gaps, AreBalanced, sum_edges}
 use Rattle.sweep_tri.specs.declared.gap.Gap.{Gap}
+
+module _ (φ : ℕ → ℕ → ℤ) where
+  gaps-append : (gs hs : List Gap) → sum_gaps φ (gs ++ hs) ≡ sum_gaps φ gs +ℤ sum_gaps φ hs
+  gaps-append [] hs = omega (arith, ints)
+  gaps-append (g ∷ gs) hs = omega (arith, ints, gaps-append gs hs)
+
+  module _ (gaps : List Gap) (j : ℕ) where
+    -- with one more
+    pub gaps_inserted : (g : Gap) → sum_gaps φ (insert gaps j g) ≡ sum_gaps φ gaps +ℤ sum_gap φ g
+    gaps_inserted g =
+        let all : sum_gaps φ (take j gaps ++ drop j gaps) ≡ sum_gaps φ gaps = ap (sum_gaps φ) (take-append-drop j gaps) in
+        omega (arith, ints, gaps-append (take j gaps) (g ∷ drop j gaps), gaps-append (take j gaps) (drop j gaps), all)
+
+    -- without one
+    pub gaps_removed : j < length gaps → sum_gaps φ (remove gaps j) ≡ sum_gaps φ gaps -ℤ sum_gap φ (gap_at gaps j)
+    gaps_removed within =
+        let all : sum_gaps φ (take j gaps ++ drop j gaps) ≡ sum_gaps φ gaps = ap (sum_gaps φ) (take-append-drop j gaps) in
+        let after : suc j ≡ j + 1 = omega arith in
+        let rest : drop j gaps ≡ gap_at gaps j ∷ drop (suc j) gaps =
+        drop_more gaps j no_gap within ∙ ap (λ n. gap_at gaps j ∷ drop n gaps) (sym after) in
+        omega (arith, ints, gaps-append (take j gaps) (drop (suc j) gaps), gaps-append (take j gaps) (drop j gaps), all, ap (sum_gaps φ) rest)
+
+    -- with another in its place
+    pub gaps_replaced : (g : Gap) → j < length gaps → sum_gaps φ (set gaps j g) ≡ (sum_gaps φ gaps -ℤ sum_gap φ (gap_at gaps j)) +ℤ sum_gap φ g
+    gaps_replaced g within =
+        let cut : sum_gaps φ (set gaps j g) ≡ sum_gaps φ (take j gaps ++ g ∷ drop (suc j) gaps) = ap (sum_gaps φ) (set_split gaps j g within) in
+        let with_other = gaps-append (take j gaps) (g ∷ drop (suc j) gaps) in
+        let without = gaps-append (take j gaps) (drop (suc j) gaps) in
+        omega (arith, ints, cut, with_other, without, gaps_removed within)
 
 -- the sum over the triangles and the open regions
 abbrev pub total : (ℕ → ℕ → ℤ) → List Gap → List Tri → ℤ
@@ -156,3 +201,68 @@ module _ (corners : List Point) (order ranks : List ℕ) (are : AreEvents corner
       let later_b : k < slice_index ranks b = omega (arith, later_w, ap (slice_index ranks) is_after) in
       two_edges later_a later_b (pos 1) (inl refl)
       (λ φ odd. omega (arith, ints, gains φ odd, ap (φ v) is_before, ap (φ v) is_after, odd v a))
+
+-- the sides of triangles do not grow
+sides_growth : (m : ℕ) (tris : List Tri) → sum_sides (growth_at m) tris ≡ pos 0
+sides_growth m [] = omega (arith, ints)
+sides_growth m (t ∷ ts) = omega (arith, ints, sides_growth m ts)
+
+module _ (corners : List Point) (order ranks : List ℕ) (are : AreEvents corners order ranks) (three : 3 ≤ length corners) where
+  -- the ends of an edge come before the end
+  ends_below : (e : ℕ) → e < length ranks → (first_rank ranks e < length corners) × (last_rank ranks e < length corners)
+  ends_below e h =
+      let here = rank_below corners order ranks are three e h in
+      let there = rank_below corners order ranks are three (next (length ranks) e) (next_below (length ranks) e h) in
+      elim (ranks_are corners order ranks are three e h) [
+        | inl k ↦ (omega (arith, here, k.0), omega (arith, there, k.1))
+        | inr k ↦ (omega (arith, there, k.0), omega (arith, here, k.1))
+      ]
+
+  module _ (tris : List Tri) (balanced : AreBalanced ranks (length corners) [] tris) where
+    -- each edge has the sign of the last one
+    one_sign : (e : ℕ) → e < length ranks → balanced.signs e ≡ balanced.signs (length ranks - 1)
+    one_sign e h = elim (cases_lt (e + 1) (length ranks)) [
+      | inl inside ↦
+          let end : (length ranks - 1) + 1 ≡ length ranks = omega (arith, h) in
+          let around = around_step (length ranks) balanced.signs e inside (length ranks - 1) end in
+          let balance = balanced.balance (growth_at e) (growth_odd e) in
+          omega (arith, ints, around, balance, sides_growth e tris)
+      | inr last ↦ ap balanced.signs (let is : e ≡ length ranks - 1 = omega (arith, h, last) in is)
+    ]
+
+    abbrev all : List ℕ
+    all = range_with_len 0 (length corners)
+
+    -- the sum over all edges is that round the ring
+    round_ring : (φ : ℕ → ℕ → ℤ) → sum_edges φ (λ e. pos 1) (length ranks) (length ranks) ≡ sum_round φ all
+    round_ring φ =
+        let size = are.all_ranks in
+        edges_round φ (length ranks) (omega (arith, three, size)) ∙ ap (λ k. sum_round φ (range_with_len 0 k)) size
+
+    -- where the sign is 1, the sides cancel to the boundary
+    boundary_left : balanced.signs (length ranks - 1) ≡ pos 1 → HaveBoundary all tris
+    boundary_left one φ odd =
+        let same = sums_agree φ (length ranks) (λ e. pos 1) balanced.signs (length ranks) (λ e h. one_sign e h ∙ one) in
+        omega (arith, ints, balanced.balance φ odd, same, round_ring φ)
+
+    -- and it is not -1, since counterclockwise triangles have areas that are not negative
+    not_opposite : IsCounterclockwise corners → ((t : ℕ) → t < length tris → IsTriOf corners all (tri_at tris t))
+        → ¬ (balanced.signs (length ranks - 1) ≡ negsuc 0)
+    not_opposite way triangles minus =
+        let φ = area_by corners in
+        let opposite = sums_opposite φ (length ranks) (λ e. pos 1) balanced.signs (length ranks) (λ e h. one_sign e h ∙ minus) in
+        let area : sum_round φ all ≡ doubled_area corners = area_round corners all ∙ ap doubled_area (piece_points_all corners) in
+        let areas = triangles_not_negative corners tris (λ t h. (triangles t h).counterclockwise) in
+        omega (arith, ints, balanced.balance φ (area_odd corners), opposite, round_ring φ, area, areas, way)
+
+    -- so the triangles fit the ring
+    pub balanced_at_end : IsSimple corners → IsCounterclockwise corners → ((t : ℕ) → t < length tris → IsTriOf corners all (tri_at tris t))
+        → Fits corners tris
+    balanced_at_end simple way triangles =
+        let size = are.all_ranks in
+        let e = length ranks - 1 in
+        let is_edge : e < length ranks = omega (arith, three, size) in
+        elim (balanced.are_signs.begun e is_edge (ends_below e is_edge).0) [
+          | inl one ↦ fits_bounded corners all tris (ring_is_piece corners three simple way) triangles (boundary_left one)
+          | inr minus ↦ absurd (not_opposite way triangles minus)
+        ]

@@ -5,7 +5,7 @@ use Rattle.std.specs.List.{insert, remove}
 use Rattle.std.specs.Prelude.{slice_set}
 use Rattle.sweep_tri.proofs.Fronts.Gaps.{fronts-append, fronts_divided, fronts_inserted, fronts_joined, fronts_next, fronts_parts, fronts_removed}
 use Rattle.sweep_tri.proofs.Fronts.Gaps.{fronts_round, fronts_set, length_before}
-use Rattle.sweep_tri.proofs.Fronts.Spliced.{IsSpliced, spliced}
+use Rattle.sweep_tri.proofs.Fronts.Passed.{IsSpliced, spliced}
 use Rattle.sweep_tri.specs.Gaps.{Front, fronts, gap_at, low_front, up_front}
 use Rattle.sweep_tri.specs.declared.gap.Gap.{Gap}
 

@@ -14,14 +14,11 @@ use Rattle.mono_fill.specs.declared.side.Side.TheVariants.{Lower, Upper}
 use Rattle.sweep_tri.proofs.Fronts.Beginning.{begun_to, two_begin, one_begins, none_begin}
 use Rattle.sweep_tri.proofs.Fronts.Beside.{AreBeside, beside_swapped, front}
 use Rattle.sweep_tri.proofs.Fronts.Edits.{spliced_divided, spliced_inserted, spliced_low, spliced_up, spliced_joined, spliced_removed}
-use Rattle.sweep_tri.proofs.Fronts.Entered.{entered}
-use Rattle.sweep_tri.proofs.Fronts.GapPlaces.{GoesOn, goes_on_outside, low_below_later, low_ends, low_is_front, up_ends, up_is_front}
-use Rattle.sweep_tri.proofs.Fronts.GapPlaces.{up_under}
+use Rattle.sweep_tri.proofs.Fronts.Passed.{entered, passed, IsSpliced}
+use Rattle.sweep_tri.proofs.Fronts.Parted.{GoesOn, goes_on_outside, low_below_later, low_ends, low_is_front, up_ends, up_is_front, up_under}
+use Rattle.sweep_tri.proofs.Fronts.Parted.{IsParted}
 use Rattle.sweep_tri.proofs.Fronts.Kinds.{between_gaps, in_gap, at_low, at_up, at_both, at_gap, gap_here}
 use Rattle.sweep_tri.proofs.Fronts.Sides.{IsFront, above_no_end, short_no_end, under_no_end}
-use Rattle.sweep_tri.proofs.Fronts.Parted.{IsParted}
-use Rattle.sweep_tri.proofs.Fronts.Passed.{passed}
-use Rattle.sweep_tri.proofs.Fronts.Spliced.{IsSpliced}
 use Rattle.sweep_tri.proofs.Regions.{IsNearer, IsShort, far_front, near_front}
 use Rattle.sweep_tri.specs.Frontier.{IsAbove, IsFrontier, IsGapPlace, IsUnder}
 use Rattle.sweep_tri.specs.Gaps.{Front, front_edge, fronts, gap_at, low_front, up_front}

@@ -6,10 +6,9 @@ use Rattle.plane.specs.Point.{Point}
 use Rattle.rings.specs.Events.{AreEvents}
 use Rattle.rings.specs.Simple.{IsSimple}
 use Rattle.sweep_tri.proofs.Fronts.Beside.{AreBeside}
-use Rattle.sweep_tri.proofs.Fronts.GapPlaces.{low_above, low_ends, low_in_middle, none_ends, one_ends, two_end, up_ends, up_in_middle}
-use Rattle.sweep_tri.proofs.Fronts.GapPlaces.{up_under}
+use Rattle.sweep_tri.proofs.Fronts.Parted.{low_above, low_ends, low_in_middle, none_ends, one_ends, two_end, up_ends, up_in_middle}
+use Rattle.sweep_tri.proofs.Fronts.Parted.{up_under, IsParted, parted}
 use Rattle.sweep_tri.proofs.Fronts.Gaps.{length-fronts, low_at, up_at}
-use Rattle.sweep_tri.proofs.Fronts.Parted.{IsParted, parted}
 use Rattle.sweep_tri.proofs.Fronts.Sides.{above_no_end, above_not_under}
 use Rattle.sweep_tri.specs.Frontier.{IsAbove, IsFrontier, IsGapPlace, IsUnder, front_at}
 use Rattle.sweep_tri.specs.Gaps.{fronts, gap_at, low_front, up_front}

@@ -1,21 +1,70 @@
+-- What comes to an end at an event: the ranks of the vertices of a chain.
+-- An open region whose near chain ends at the vertex of an event, after that.
 -- A region with one more vertex at the end of a chain.
 -- Of two regions that meet at a merge vertex, one with its inner chain led to the vertex of an event.
-use Rattle.std.proofs.Common.{◌≡◌, inl, inr, sym, subst, ap, ◌∙◌, ℕ, ◌+◌, ◌-◌, ◌<◌, ◌≤◌, List, [], ◌∷◌, ◌++◌, length, get_or, arith, ◌⊎◌}
-use Rattle.std.proofs.lemmas.Bool.{cases_lt}
-use Rattle.std.proofs.lemmas.List.{get_or_default}
+use Rattle.std.proofs.Common.{◌≡◌, ◌⊎◌, inl, inr, sym, ap, ◌∙◌, ℕ, ◌+◌, ◌-◌, ◌<◌, ◌≤◌, List, [], ◌∷◌, ◌++◌, length, get_or, arith, subst}
+use Rattle.std.proofs.lemmas.Bool.{cases_eq, cases_lt}
 use Rattle.std.specs.List.{All}
 use Rattle.std.specs.Prelude.{slice_index}
+use Rattle.std.proofs.lemmas.List.{get_or_default}
 use Rattle.plane.specs.Point.{Point}
+use Rattle.rings.proofs.Sweeps.{event_of}
 use Rattle.rings.specs.Edge.{Edge, edge}
+use Rattle.rings.specs.Events.{AreEvents}
 use Rattle.rings.specs.Ring.{vertex}
 use Rattle.mono_fill.specs.declared.side.Side.{Side}
-use Rattle.sweep_tri.proofs.Regions.Edges.{nearer_short, nearer_to_end}
-use Rattle.sweep_tri.proofs.Regions.Paths.{item_cases, last_step, length_grown, old_item, step_cases, last_grown}
-use Rattle.sweep_tri.proofs.Regions.Ranks.{before_of_rise, ends_grown, last_or_before}
+use Rattle.sweep_tri.proofs.Regions.Edges.{nearer_short, nearer_to_end, short_not_last}
+use Rattle.sweep_tri.proofs.Regions.Paths.{item_cases, last_grown, length_grown, rises_to_last, last_step, old_item, step_cases}
 use Rattle.sweep_tri.proofs.Regions.Sides.{AreNearer, ArePair, IsNearer, AreOpen, IsShort, chains, closed_of}
-use Rattle.sweep_tri.specs.Gaps.{before_last, front_edge, front_of, last}
+use Rattle.sweep_tri.specs.Gaps.{last, before_last, front_edge, front_of}
 use Rattle.sweep_tri.specs.Open.{ComeBefore, EndsFrom}
-use Rattle.sweep_tri.specs.Region.{IsStep, RisesBy, ShareEnds, IsClosedRegion}
+use Rattle.sweep_tri.specs.Region.{RisesBy, IsStep, ShareEnds, IsClosedRegion}
+
+-- an item is the last one or before it
+pub last_or_before : (path : List ℕ) (j : ℕ) → j < length path → (j + 1 < length path) ⊎ (last path ≡ get_or path j 0)
+last_or_before path j h = elim (cases_lt (j + 1) (length path)) [
+  | inl less ↦ inl less
+  | inr not ↦ let is : length path - 1 ≡ j = omega arith in inr (ap (λ i. get_or path i 0) is)
+]
+
+-- the last item is a vertex
+pub last_is_vertex : (corners : List Point) (path : List ℕ) → 1 ≤ length path → All (λ v. v < length corners) path → last path < length corners
+last_is_vertex corners path some all = all (length path - 1) 0 (omega arith)
+
+-- what comes before an event comes before the next
+pub before_next : (ranks : List ℕ) (k : ℕ) (path : List ℕ) → ComeBefore ranks k path → ComeBefore ranks (k + 1) path
+before_next ranks k path h i within = let less = h i within in omega arith
+
+-- a path that has passed its last vertex comes before whatever follows that
+pub before_of_rise : (ranks : List ℕ) (k : ℕ) (path : List ℕ) (x : ℕ) → RisesBy ranks path → slice_index ranks (last path) < k
+    → ComeBefore ranks k (path ++ x ∷ [])
+before_of_rise ranks k path x rises passed i within = elim (item_cases path x i (omega arith)) [
+  | inl old ↦
+      elim (last_or_before path i old.0) [
+        | inl earlier ↦ omega (arith, rises_to_last ranks path rises i earlier, passed, ap (slice_index ranks) old.1)
+        | inr is ↦ omega (arith, passed, ap (slice_index ranks) old.1, ap (slice_index ranks) is)
+      ]
+  | inr new ↦ absurd (omega (arith, new.0, length_grown path x))
+]
+
+pub ends_grown : (ranks : List ℕ) (k : ℕ) (path : List ℕ) (x : ℕ) → k ≤ slice_index ranks x → EndsFrom ranks k (path ++ x ∷ [])
+ends_grown ranks k path x h = omega (arith, ap (slice_index ranks) (last_grown path x))
+
+module _ (corners : List Point) (order ranks : List ℕ) (are : AreEvents corners order ranks) (three : 3 ≤ length corners)
+    (k v : ℕ) (v_within : v < length corners) (v_rank : slice_index ranks v ≡ k) where
+  -- one vertex has the rank
+  pub same_rank : (u : ℕ) → u < length corners → slice_index ranks u ≡ k → u ≡ v
+  same_rank u h is =
+      let size = are.all_ranks in
+      sym (event_of corners order ranks are three u (omega arith)) ∙ ap (slice_index order) (is ∙ sym v_rank)
+      ∙ event_of corners order ranks are three v (omega arith)
+
+  -- so a path to come that does not end there ends later
+  pub ends_later : (path : List ℕ) → last path < length corners → ¬ (last path ≡ v) → EndsFrom ranks k path → EndsFrom ranks (k + 1) path
+  ends_later path h other to_come = elim (cases_eq (slice_index ranks (last path)) k) [
+    | inl is ↦ absurd (other (same_rank (last path) h is))
+    | inr not ↦ omega (arith, not)
+  ]
 
 -- x follows the last vertex of the near chain
 module _ (corners : List Point) (ranks : List ℕ) (side : Side) (near far : List ℕ) (x : ℕ) where
@@ -157,3 +206,60 @@ module _ (corners : List Point) (ranks : List ℕ) (k v : ℕ) (v_within : v < l
     near_to_come = ends_grown ranks k inner v (omega (arith, v_rank));
     far_to_come = half.outer_to_come;
   }
+
+module _ (corners : List Point) (order ranks : List ℕ) (are : AreEvents corners order ranks) (three : 3 ≤ length corners)
+    (k v : ℕ) (v_within : v < length corners) (v_rank : slice_index ranks v ≡ k)
+    (side : Side) (near far : List ℕ) (open_before : AreOpen corners ranks k side near far) where
+  far_last : last far < length corners
+  far_last = let two = open_before.pair.far_some in last_is_vertex corners far (omega arith) open_before.pair.far_numbers
+
+  -- the near chain ends at v, from where an edge goes on to w, and v is short of the edge at the end of the far one
+  module _ (at_v : last near ≡ v) (short : IsShort side (front_edge corners (front_of far)) (vertex corners v))
+      (w : ℕ) (w_within : w < length corners) (w_later : k < slice_index ranks w)
+      (nearer : IsNearer side (edge (vertex corners v) (vertex corners w)) (front_edge corners (front_of far))) where
+    other : ¬ (last far ≡ v)
+    other is =
+        short_not_last side (front_edge corners (front_of far))
+        (subst (λ u. IsShort side (front_edge corners (front_of far)) (vertex corners u)) (sym is) short)
+
+    last_rank : slice_index ranks (last near) ≡ k
+    last_rank = ap (slice_index ranks) at_v ∙ v_rank
+
+    can : CanGrow corners ranks side near far w
+    can = record {
+      is_vertex = w_within;
+      later = omega (arith, w_later, last_rank);
+      fresh = λ j some within e. elim (last_or_before far j within) [
+        | inl earlier ↦ omega (arith, open_before.far_before j earlier, last_rank, ap (slice_index ranks) e)
+        | inr is ↦ other (is ∙ sym e ∙ at_v)
+      ];
+      new = λ j some within e. elim (cases_lt (j + 1) (length far)) [
+        | inl earlier ↦ absurd (omega (arith, open_before.far_before j earlier, w_later, ap (slice_index ranks) e))
+        | inr not ↦ omega arith
+      ];
+      past = λ j h. let less = open_before.far_before j h in omega (arith, last_rank);
+      nearer = λ h l. subst (λ u. IsNearer side (edge (vertex corners u) (vertex corners w)) (front_edge corners (front_of far))) (sym at_v) nearer;
+    }
+
+    pub continued : AreOpen corners ranks (k + 1) side (near ++ w ∷ []) far
+    continued = record {
+      pair = grown corners ranks side near far w open_before.pair can;
+      near_before = before_of_rise ranks (k + 1) near w open_before.pair.near_rises (omega (arith, last_rank));
+      far_before = before_next ranks k far open_before.far_before;
+      near_to_come = ends_grown ranks (k + 1) near w (omega arith);
+      far_to_come = ends_later corners order ranks are three k v v_within v_rank far far_last other open_before.far_to_come;
+    }
+
+  -- v is on neither chain: it stays open
+  pub stays_open : ¬ (last near ≡ v) → ¬ (last far ≡ v) → AreOpen corners ranks (k + 1) side near far
+  stays_open near_other far_other =
+      let two = open_before.pair.near_some in
+      record {
+        pair = open_before.pair;
+        near_before = before_next ranks k near open_before.near_before;
+        far_before = before_next ranks k far open_before.far_before;
+        near_to_come =
+            ends_later corners order ranks are three k v v_within v_rank near
+            (last_is_vertex corners near (omega arith) open_before.pair.near_numbers) near_other open_before.near_to_come;
+        far_to_come = ends_later corners order ranks are three k v v_within v_rank far far_last far_other open_before.far_to_come;
+      }

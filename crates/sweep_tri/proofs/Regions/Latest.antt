@@ -13,10 +13,9 @@ use Rattle.rings.proofs.Sweeps.{Spans, side as side_of, stays_below}
 use Rattle.rings.specs.Edge.{Edge, HasEnd}
 use Rattle.rings.specs.Events.{AreEvents}
 use Rattle.rings.specs.Ring.{vertex}
-use Rattle.sweep_tri.proofs.Regions.Halves.{IsHalf}
+use Rattle.sweep_tri.proofs.Regions.Halves.{IsHalf, last_is_vertex}
 use Rattle.sweep_tri.proofs.Regions.Paths.{final_step, last_shortened, rises_to, shortened}
 use Rattle.sweep_tri.proofs.RankOrder.{not_after_by_rank, precedes_by_rank}
-use Rattle.sweep_tri.proofs.Regions.Ranks.{last_is_vertex}
 use Rattle.sweep_tri.proofs.Regions.Shortened.{without_last}
 use Rattle.sweep_tri.proofs.Regions.Sides.{AreOpen, IsNearer, IsShort}
 use Rattle.mono_fill.specs.declared.side.Side.{Side}

@@ -12,9 +12,8 @@ use Rattle.sweep_tri.proofs.Balance.{balanced_begins, balanced_splits}
 use Rattle.sweep_tri.proofs.Fronts.{AreBeside, beside_differ, starts, splits}
 use Rattle.sweep_tri.proofs.Regions.{begins, splits_above, splits_below}
 use Rattle.sweep_tri.proofs.Swept.AtEvent.{IsAtEvent, event_below, event_rank, neighbours_below}
-use Rattle.sweep_tri.proofs.Swept.Edges.{split_above_low, split_above_up, split_below_low, split_below_up}
-use Rattle.sweep_tri.proofs.Swept.Kept.{gap_kept}
-use Rattle.sweep_tri.proofs.Swept.Lists.{all_inserted, all_replaced}
+use Rattle.sweep_tri.proofs.Swept.Kept.{split_above_low, split_above_up, split_below_low, split_below_up, gap_kept, all_inserted}
+use Rattle.sweep_tri.proofs.Swept.Kept.{all_replaced}
 use Rattle.sweep_tri.specs.Frontier.{IsUnder}
 use Rattle.sweep_tri.specs.Gaps.{gap_at, up_front}
 use Rattle.sweep_tri.specs.Meeting.{gap_of, region_from, split_above, split_below}

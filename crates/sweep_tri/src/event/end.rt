@@ -35,7 +35,8 @@ impl Sweep {
         ensures work { IsWithinAccount self.old.status (event_work self.old.status) steps.old steps.new }
         ensures paid { OnOk result (IsPaid self.old.status self.new.status (event_work self.old.status) steps.old steps.new) }
     {
-        let region = self.meet_last(alloc, board, rank, Side::Upper, j, v, steps)?;
+        let gap = self.status.remove(alloc, j, steps)?;
+        let region = gap.meet(alloc, board, rank, Side::Upper, v, &mut self.tris, steps)?;
         region.close(alloc, board, rank, &mut self.tris, steps)
     }
 }

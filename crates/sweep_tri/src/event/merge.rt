@@ -38,8 +38,10 @@ impl Sweep {
         ensures work { IsWithinAccount self.old.status (event_work self.old.status) steps.old steps.new }
         ensures paid { OnOk result (IsPaid self.old.status self.new.status (event_work self.old.status) steps.old steps.new) }
     {
-        let high = self.meet_last(alloc, board, rank, Side::Lower, j, v, steps)?;
-        let low = self.meet(alloc, board, rank, Side::Upper, j - 1, v, steps)?;
+        let above = self.status.remove(alloc, j, steps)?;
+        let high = above.meet(alloc, board, rank, Side::Lower, v, &mut self.tris, steps)?;
+        let below = self.status.replace(j - 1, Gap::none(alloc), steps);
+        let low = below.meet(alloc, board, rank, Side::Upper, v, &mut self.tris, steps)?;
         self.status.replace(j - 1, Gap::of_two(low, high), steps);
         Ok(())
     }

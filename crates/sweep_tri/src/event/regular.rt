@@ -75,7 +75,8 @@ impl Sweep {
         ensures work { IsWithinAccount self.old.status (event_work self.old.status) steps.old steps.new }
         ensures paid { OnOk result (IsPaid self.old.status self.new.status (event_work self.old.status) steps.old steps.new) }
     {
-        let mut region = self.meet(alloc, board, rank, side, j, v, steps)?;
+        let gap = self.status.replace(j, Gap::none(alloc), steps);
+        let mut region = gap.meet(alloc, board, rank, side, v, &mut self.tris, steps)?;
         region.extend(side, w)?;
         self.status.replace(j, Gap::of(region), steps);
         Ok(())

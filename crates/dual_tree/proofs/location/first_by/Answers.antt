@@ -1,9 +1,9 @@
-use Rattle.std.proofs.Common.{◌≡◌, inl, inr, ◌+◌, ◌-◌, ◌/◌, ◌<◌, length, refl, arith}
+use Rattle.std.proofs.Common.{◌≡◌, inl, inr, ◌-◌, ◌/◌, ◌<◌, length, refl, arith}
 use Rattle.std.proofs.lemmas.Bool.{cases_lt}
 use Rattle.std.proofs.lemmas.Int.{ints}
 use Rattle.plane.specs.Point.{whole}
 use Rattle.dual_tree.specs.Runs.{takes_run}
-use Rattle.dual_tree.proofs.Choices.{both_take, by_one, some_taken}
+use Rattle.dual_tree.proofs.Choices.{both_between, by_one, some_between}
 use Rattle.dual_tree.proofs.CornerHits.{corner_in, corner_within, held_corner}
 use Rattle.dual_tree.proofs.StrictHits.{strictly_one}
 use Rattle.dual_tree.proofs.location.first_by.Goals as goal
@@ -22,15 +22,11 @@ returns-then-is_strictly_in-clause-first g c =
 
 pub returns-then-is_strictly_in-clause-steps : goal.returns-then-is_strictly_in-clause-steps
 returns-then-is_strictly_in-clause-steps g c =
-    let first = c.early-first.result.0 in
     let found = c.first_chosen-found.result in
-    let N = takes_run c.near-near.result in
-    let some = some_taken N (found - first) first in
-    let same : first + (found - first) ≡ found = omega (arith, c.first_chosen-found.ensures.after) in
-    let some_here = rw same at some.1 in
+    let some = some_between (takes_run c.near-near.result) _ found c.first_chosen-found.ensures.after in
     let is_there = c.if-is_strictly_in.ensures.is_there refl in
     elim (c.early-first.ensures.spared (cc)) [
-      | inl spared ↦ omega (arith, some_here, spared, c.first_chosen-found.ensures.steps)
+      | inl spared ↦ omega (arith, some.1, spared, c.first_chosen-found.ensures.steps)
       | inr all ↦ absurd (omega (arith, all.0))
     ]
 
@@ -59,19 +55,10 @@ returns-clause-first g c =
 
 pub returns-clause-steps : goal.returns-clause-steps
 returns-clause-steps g c =
-    let first = c.early-first.result.0 in
-    let found = c.first_chosen-found.result in
-    let last = c.first_chosen.result in
-    let N = takes_run c.near-near.result in
-    let F = takes_run c.others.result in
-    let both = both_take N F c.others.ensures (found - first) first in
-    let some = some_taken F (found - last) last in
-    let same : first + (found - first) ≡ found = omega (arith, c.first_chosen-found.ensures.after) in
-    let same_last : last + (found - last) ≡ found = omega (arith, c.first_chosen.ensures.within) in
-    let both_here = rw same at both in
-    let some_here = rw same_last at some.0 in
+    let both = both_between _ _ c.others.ensures _ _ c.first_chosen-found.ensures.after in
+    let some = some_between (takes_run c.others.result) _ _ c.first_chosen.ensures.within in
     elim (c.early-first.ensures.spared (cc)) [
-      | inl spared ↦ omega (arith, both_here, some_here, spared, c.first_chosen-found.ensures.steps, c.first_chosen.ensures.steps)
+      | inl spared ↦ omega (arith, both, some.0, spared, c.first_chosen-found.ensures.steps, c.first_chosen.ensures.steps)
       | inr all ↦ absurd (omega (arith, all.0))
     ]
 
@@ -100,14 +87,10 @@ returns-in-Some-clause-first g c =
 
 pub returns-in-Some-clause-steps : goal.returns-in-Some-clause-steps
 returns-in-Some-clause-steps g c =
-    let first = c.early-first.result.0 in
     let found = c.first_chosen-found.result in
-    let N = takes_run c.near-near.result in
-    let some = some_taken N (found - first) first in
-    let same : first + (found - first) ≡ found = omega (arith, c.first_chosen-found.ensures.after) in
-    let some_here = rw same at some.1 in
+    let some = some_between (takes_run c.near-near.result) _ found c.first_chosen-found.ensures.after in
     let is_there : found < length c.args.mesh.now = c.in-Some.ensures.is_there refl in
     elim (c.early-first.ensures.spared (cc)) [
-      | inl spared ↦ omega (arith, some_here, spared, c.first_chosen-found.ensures.steps, c.in-Some.ensures.steps)
+      | inl spared ↦ omega (arith, some.1, spared, c.first_chosen-found.ensures.steps, c.in-Some.ensures.steps)
       | inr all ↦ absurd (omega (arith, all.0))
     ]

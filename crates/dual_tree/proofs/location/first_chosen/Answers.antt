@@ -1,7 +1,7 @@
 use Rattle.std.proofs.Common.{◌≡◌, ◌∙◌, ap, sym, false, inl, inr, ◌/◌, ◌≤◌, arith}
 use Rattle.std.proofs.lemmas.Bool.{cases_lt, false≢true}
 use Rattle.dual_tree.specs.Runs.{takes_run}
-use Rattle.dual_tree.proofs.Choices.{between_taken, growing}
+use Rattle.dual_tree.proofs.Choices.{between_taken, some_between}
 use Rattle.dual_tree.proofs.location.first_chosen.Goals as goal
 use Rattle.dual_tree.proofs.location.first_chosen.Goals.{else-takes, then-takes+else-found-to}
 
@@ -27,7 +27,7 @@ pub loop-run-init : goal.loop-run-init
 loop-run-init g c = record {
   none = λ k low below within taken. absurd (omega (arith, low, within));
   steps = λ n low high reached.
-      let grown = growing (takes_run c.args.choice.now) c.args.range.0 n low in
+      let grown = (some_between (takes_run c.args.choice.now) c.args.range.0 n low).0 in
       omega (arith, grown);
 }
 
@@ -51,7 +51,7 @@ loop-run-preserved g c =
             ];
             steps = λ n low high reached.
                 let past : to ≤ n = elim reached [ inl h ↦ omega (arith, h, w.min-to.ensures) | inr h ↦ omega (arith, h, w.min-to.ensures) ] in
-                let grown = growing T to n past in
+                let grown = (some_between T to n past).0 in
                 omega (arith, w.steps-is, before, more, order, grown, w.first_from-found.ensures.steps, c.takes.ensures.steps);
           }
       | else-takes w ↦

@@ -3,10 +3,8 @@ use Rattle.std.proofs.lemmas.List.{length-append}
 use Rattle.plane.proofs.Order.{point_or_other}
 use Rattle.plane.specs.Point.{Point}
 use Rattle.rings.specs.Chain.{point_at}
-use Rattle.rings.specs.Ring.{vertex}
-use Rattle.funnels.specs.Touched.{IsLookedAt}
-use Rattle.dual_tree.proofs.Searched.{IsSearched, half_few, half_within, index_is, left_below, lefts, right_below, rights, searched_all, searched_few}
-use Rattle.dual_tree.proofs.Searched.{searched_first, searched_next, searched_rest}
+use Rattle.dual_tree.proofs.Searched.{IsSearched, half_few, half_within, index_is, left_below, right_below, searched_all, searched_few, searched_first}
+use Rattle.dual_tree.proofs.Searched.{searched_next, searched_rest}
 use Rattle.dual_tree.proofs.SleeveRoom.{sleeve_few}
 use Rattle.dual_tree.specs.Touched.{AppendsFull}
 use Rattle.dual_tree.proofs.touching.touched.Goals as goal
@@ -46,20 +44,14 @@ pub look-reached-requires-clause-place : goal.look-reached-requires-clause-place
 look-reached-requires-clause-place g c =
     let inv = c.loop-i.invariant in
     let within : c.loop-i.i < length c.args.sleeve.now.diagonals = omega (arith, c.loop-i-test.true, c.len-i-end.ensures.number) in
-    let left : c.corner-left.result ≡ vertex c.args.ring.now.corners (lefts c.args.sleeve.now c.loop-i.i) =
-    c.corner-left.ensures ∙ ap (vertex c.args.ring.now.corners) c.left.ensures in
-    let first = subst (λ v. IsLookedAt c.args.chain.now v c.loop-i.reached.place c.loop-i.reached.last c.loop-i.out.items c.look-nearer.result.place
-    c.look-nearer.result.last c.look-nearer.new.out.items) left c.look-nearer.ensures.looked in
+    let first = rw (c.corner-left.ensures, c.left.ensures) at c.look-nearer.ensures.looked in
     half_within c.requires.fits c.requires.of_mesh c.args.chain.now c.requires.path inv.searched within first
 
 pub look-reached-requires-clause-room : goal.look-reached-requires-clause-room
 look-reached-requires-clause-room g c =
     let inv = c.loop-i.invariant in
     let within : c.loop-i.i < length c.args.sleeve.now.diagonals = omega (arith, c.loop-i-test.true, c.len-i-end.ensures.number) in
-    let left : c.corner-left.result ≡ vertex c.args.ring.now.corners (lefts c.args.sleeve.now c.loop-i.i) =
-    c.corner-left.ensures ∙ ap (vertex c.args.ring.now.corners) c.left.ensures in
-    let first = subst (λ v. IsLookedAt c.args.chain.now v c.loop-i.reached.place c.loop-i.reached.last c.loop-i.out.items c.look-nearer.result.place
-    c.look-nearer.result.last c.look-nearer.new.out.items) left c.look-nearer.ensures.looked in
+    let first = rw (c.corner-left.ensures, c.left.ensures) at c.look-nearer.ensures.looked in
     let few = half_few c.requires.fits c.requires.of_mesh c.args.chain.now c.requires.path inv.searched within first in
     omega (arith, few, c.requires.room, inv.same_out, c.look-nearer.ensures.same_out)
 
@@ -67,14 +59,8 @@ pub loop-i-preserved : goal.loop-i-preserved
 loop-i-preserved g c =
     let inv = c.loop-i.invariant in
     let within : c.loop-i.i < length c.args.sleeve.now.diagonals = omega (arith, c.loop-i-test.true, c.len-i-end.ensures.number) in
-    let left : c.corner-left.result ≡ vertex c.args.ring.now.corners (lefts c.args.sleeve.now c.loop-i.i) =
-    c.corner-left.ensures ∙ ap (vertex c.args.ring.now.corners) c.left.ensures in
-    let first = subst (λ v. IsLookedAt c.args.chain.now v c.loop-i.reached.place c.loop-i.reached.last c.loop-i.out.items c.look-nearer.result.place
-    c.look-nearer.result.last c.look-nearer.new.out.items) left c.look-nearer.ensures.looked in
-    let right : c.corner-right.result ≡ vertex c.args.ring.now.corners (rights c.args.sleeve.now c.loop-i.i) =
-    c.corner-right.ensures ∙ ap (vertex c.args.ring.now.corners) c.right.ensures in
-    let second = subst (λ v. IsLookedAt c.args.chain.now v c.look-nearer.result.place c.look-nearer.result.last c.look-nearer.new.out.items
-    c.look-reached.result.place c.look-reached.result.last c.look-reached.new.out.items) right c.look-reached.ensures.looked in
+    let first = rw (c.corner-left.ensures, c.left.ensures) at c.look-nearer.ensures.looked in
+    let second = rw (c.corner-right.ensures, c.right.ensures) at c.look-reached.ensures.looked in
     record {
       searched = searched_next c.requires.fits c.requires.of_mesh c.args.chain.now c.requires.path inv.searched within first second;
       same_out = c.look-reached.ensures.same_out ∙ c.look-nearer.ensures.same_out ∙ inv.same_out;

@@ -5,7 +5,7 @@ use Rattle.exact_plane.specs.declared.turns.Spot.TheVariants.{Corner}
 use Rattle.funnel_walk.proofs.CrossedSides.{goes_left, goes_right}
 use Rattle.funnel_walk.proofs.FirstNamed.{one_before, one_behind}
 use Rattle.funnel_walk.proofs.PathNames.{apex_below, count_right, no_more}
-use Rattle.funnel_walk.proofs.SideCorners.{diagonal_below}
+use Rattle.funnel_walk.proofs.Opened.{diagonal_below}
 use Rattle.funnel_walk.proofs.chain.cross.Goals as goal
 
 pub narrow_right-apex-requires-clause-y_named : goal.narrow_right-apex-requires-clause-y_named

@@ -1,8 +1,7 @@
 use Rattle.std.proofs.Common.{sym, ap, ◌∙◌, arith}
 use Rattle.std.proofs.lemmas.Bool.{false≢true}
 use Rattle.funnel_walk.proofs.FirstNamed.{left_first, right_last, start_between, starts_alone}
-use Rattle.funnel_walk.proofs.Opened.{not_at_both, opens_at_left, opens_at_right, opens_between}
-use Rattle.funnel_walk.proofs.SideCorners.{diagonal_below}
+use Rattle.funnel_walk.proofs.Opened.{not_at_both, opens_at_left, opens_at_right, opens_between, diagonal_below}
 use Rattle.funnel_walk.proofs.chain.open.Goals as goal
 use Rattle.funnel_walk.proofs.chain.open.Goals.{else-not-same, then-not-same}
 

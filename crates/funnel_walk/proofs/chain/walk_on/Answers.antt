@@ -7,7 +7,7 @@ use Rattle.exact_plane.specs.Names.{AreNamed, name_at}
 use Rattle.exact_plane.specs.Spot.{point_named}
 use Rattle.funnel_walk.proofs.Appended.{two_appended, way_appended}
 use Rattle.funnel_walk.proofs.Closed.{names_on_way}
-use Rattle.funnel_walk.proofs.GoalReached.{taut_on, taut_there}
+use Rattle.funnel_walk.proofs.ShortWalks.{taut_on, taut_there}
 use Rattle.funnel_walk.proofs.PathNames.{apex_below, front_named, name_in_front, no_more}
 use Rattle.funnel_walk.proofs.chain.walk_on.Goals as goal
 use Rattle.funnel_walk.specs.Walked.{IsWalked}

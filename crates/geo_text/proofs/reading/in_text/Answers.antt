@@ -1,7 +1,6 @@
 use Rattle.std.proofs.Common.{◌≡◌, ◌∙◌, ap, arith, length, sym}
 use Rattle.std.proofs.lemmas.List.{length-map}
-use Rattle.geo_text.proofs.Commands.{read_in_text, refused_count, refused_field}
-use Rattle.geo_text.proofs.Counts.{count_is, length-after_word}
+use Rattle.geo_text.proofs.Commands.{read_in_text, refused_count, refused_field, count_is, length-after_word}
 use Rattle.geo_text.proofs.reading.in_text.Goals as goal
 use Rattle.geo_text.specs.Capped.{after_word, read_of}
 

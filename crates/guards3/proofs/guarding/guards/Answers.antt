@@ -1,7 +1,7 @@
 use Rattle.std.proofs.Common.{sym, subst, ◌≤◌, ◌/◌, length}
 use Rattle.std.proofs.lemmas.Result.{IfOk-weaker}
 use Rattle.ring_check.specs.Oriented.{given_of}
-use Rattle.guards3.proofs.Choice.{fewest_guard, fewest_third}
+use Rattle.guards3.proofs.OneGuards.{fewest_guard, fewest_third}
 use Rattle.guards3.proofs.Watched.{see_all}
 use Rattle.guards3.proofs.guarding.guards.Goals as goal
 use Rattle.guards3.specs.Guards.{AreGuards, SeeAll}

@@ -17,10 +17,8 @@ bounds-before-at g c =
 
 pub bends-requires-clause-a : goal.bends-requires-clause-a
 bends-requires-clause-a g c =
-    let corners = g.T.Turns.corners c.args.board.now in
     let (points, count, climb) = c.requires.climb in
-    (next_above corners c.args.before.now c.args.end c.args.apex points count climb (vertex corners c.args.third) c.args.side
-    c.args.steps.now c.loop-at.at c.loop-at.steps (c.loop-at.invariant points count climb) c.loop-at-test.true).0
+    (next_above _ _ _ _ points count climb _ _ _ _ _ (c.loop-at.invariant points count climb) c.loop-at-test.true).0
 
 pub bends-requires-clause-b : goal.bends-requires-clause-b
 bends-requires-clause-b g c =
@@ -28,41 +26,29 @@ bends-requires-clause-b g c =
 
 pub returns-then-bends-clause-found : goal.returns-then-bends-clause-found
 returns-then-bends-clause-found g c = λ points count climb.
-    let corners = g.T.Turns.corners c.args.board.now in
-    let y = vertex corners c.args.third in
-    let up = c.loop-at.invariant points count climb in
-    found_here corners c.args.before.now c.args.end c.args.apex points count climb y c.args.side c.args.steps.now c.loop-at.at c.loop-at.steps
-    up c.loop-at-test.true (c.bends.ensures.bends.0 c.if-bends.true)
+    found_here _ _ _ _ points count climb _ _ _ _ _ (c.loop-at.invariant points count climb) c.loop-at-test.true
+    (c.bends.ensures.bends.0 c.if-bends.true)
 
 pub returns-then-bends-clause-steps : goal.returns-then-bends-clause-steps
 returns-then-bends-clause-steps g c = λ points count climb.
-    let corners = g.T.Turns.corners c.args.board.now in
     let up = c.loop-at.invariant points count climb in
-    let more = more_above corners c.args.before.now c.args.end c.args.apex points count climb (vertex corners c.args.third) c.args.side
-    c.args.steps.now c.loop-at.at c.loop-at.steps up c.loop-at-test.true in
-    omega (arith, more, up.paid, c.bends.ensures.steps)
+    omega (arith, more_above _ _ _ _ points count climb _ _ _ _ _ up c.loop-at-test.true, up.paid, c.bends.ensures.steps)
 
 pub loop-at-smaller : goal.loop-at-smaller
 loop-at-smaller g c =
-    let corners = g.T.Turns.corners c.args.board.now in
     let (points, count, climb) = c.requires.climb in
     let up = c.loop-at.invariant points count climb in
     omega (arith, up.below, up.paid, climb.few, climb.vertices, c.bends.ensures.steps)
 
 pub loop-at-preserved : goal.loop-at-preserved
 loop-at-preserved g c = λ points count climb.
-    let corners = g.T.Turns.corners c.args.board.now in
-    let y = vertex corners c.args.third in
-    let up = c.loop-at.invariant points count climb in
     rw c.bends.ensures.steps
-    (up_on corners c.args.before.now c.args.end c.args.apex points count climb y c.args.side c.args.steps.now c.loop-at.at c.loop-at.steps
-    up c.loop-at-test.true (λ turns. let yes = c.bends.ensures.bends.1 turns in let no = c.if-bends.false in cc))
+    (up_on _ _ _ _ points count climb _ _ _ _ _ (c.loop-at.invariant points count climb) c.loop-at-test.true
+    (λ turns. let yes = c.bends.ensures.bends.1 turns in let no = c.if-bends.false in cc))
 
 pub returns-clause-found : goal.returns-clause-found
 returns-clause-found g c = λ points count climb.
-    let corners = g.T.Turns.corners c.args.board.now in
-    none_found corners c.args.before.now c.args.end c.args.apex points count climb (vertex corners c.args.third) c.args.side
-    c.args.steps.now c.loop-at.at c.loop-at.steps (c.loop-at.invariant points count climb) c.loop-at-test.false
+    none_found _ _ _ _ points count climb _ _ _ _ _ (c.loop-at.invariant points count climb) c.loop-at-test.false
 
 pub returns-clause-steps : goal.returns-clause-steps
 returns-clause-steps g c = λ points count climb.

@@ -1,6 +1,6 @@
 use Rattle.std.proofs.Common.{◌≡◌, ◌↔◌, IsTrue, rules}
 use Rattle.exact_plane.specs.declared.direction.Direction.TheVariants.{Left}
-use Rattle.rel_hull.proofs.Exchanged.{turns_exactly}
+use Rattle.rel_hull.proofs.Turned.{turns_exactly}
 use Rattle.rel_hull.proofs.hull.is_left.Goals as goal
 
 pub returns-clause-left : goal.returns-clause-left

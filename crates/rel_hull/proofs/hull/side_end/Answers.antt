@@ -3,7 +3,7 @@ use Rattle.std.proofs.lemmas.Bool.{cases_eq}
 use Rattle.std.proofs.lemmas.List.Elements.{Contains-get_or}
 use Rattle.rel_hull.proofs.Costs.{one_more}
 use Rattle.rel_hull.proofs.Outer.{contained_at}
-use Rattle.rel_hull.proofs.SideEnds.{end_kept, end_taken}
+use Rattle.rel_hull.proofs.TableSides.{end_kept, end_taken}
 use Rattle.rel_hull.proofs.hull.side_end.Goals as goal
 use Rattle.rel_hull.proofs.hull.side_end.Goals.{else-comes_first, then-comes_first}
 use Rattle.rel_hull.specs.Table.{HasChainsBelow}

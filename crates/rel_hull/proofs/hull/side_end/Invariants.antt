@@ -1,6 +1,6 @@
 use Rattle.std.proofs.Common.{◌≢◌, ℕ, ◌+◌, ◌*◌, ◌≤◌}
 use Rattle.std.specs.List.{Contains}
-use Rattle.rel_hull.proofs.SideEnds.{IsEndOfFirst}
+use Rattle.rel_hull.proofs.TableSides.{IsEndOfFirst}
 use Rattle.rel_hull.proofs.hull.side_end.Given as goal
 use Rattle.rel_hull.specs.Table.{HasChainsBelow}
 

@@ -1,7 +1,7 @@
 use Rattle.std.proofs.Common.{ℕ, ◌+◌, arith, length, slice_index}
 use Rattle.std.proofs.lemmas.List.{get_or_default, get_or_past, length_push}
 use Rattle.rel_hull.proofs.Costs.{one_more, within_rounds}
-use Rattle.rel_hull.proofs.SideLists.{next_row, no_sides, sides_more, sides_rebound, sides_same}
+use Rattle.rel_hull.proofs.TableSides.{next_row, no_sides, sides_more, sides_rebound, sides_same}
 use Rattle.rel_hull.proofs.hull.sides_among.Goals as goal
 use Rattle.rel_hull.proofs.hull.sides_among.Goals.{in-Some+in_ok-push, in_default}
 use Rattle.rel_hull.specs.Table.{HasChainsBelow}

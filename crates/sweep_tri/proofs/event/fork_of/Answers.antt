@@ -1,6 +1,6 @@
 use Rattle.std.proofs.Common.{◌≡◌, inl, inr, refl, rules}
 use Rattle.exact_plane.specs.declared.direction.Direction.TheVariants.{Left}
-use Rattle.sweep_tri.proofs.Corners.{left_by_turn}
+use Rattle.sweep_tri.proofs.Search.{left_by_turn}
 use Rattle.sweep_tri.proofs.event.fork_of.Goals as goal
 
 pub returns-then-eq-clause-fork : goal.returns-then-eq-clause-fork

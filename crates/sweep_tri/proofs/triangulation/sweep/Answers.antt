@@ -1,4 +1,4 @@
-use Rattle.std.proofs.Common.{◌≡◌, sym, ap, subst, List, ℕ, ◌+◌, ◌<◌, length, arith}
+use Rattle.std.proofs.Common.{◌≡◌, sym, ap, subst, List, ℕ, ◌+◌, length, arith}
 use Rattle.std.specs.Prelude.{slice_index}
 use Rattle.rings.specs.Events.{AreEvents}
 use Rattle.sweep_tri.proofs.Passes.{event_passed, next_event, swept_of_none}
@@ -16,28 +16,22 @@ loop-v-init g c = record {
 
 pub pass-requires : goal.pass-requires
 pass-requires g c =
-    let corners = g.T.Turns.corners c.args.board.now in
-    let order = c.args.order.now in
-    let k : ℕ = c.loop-v.v-index in
-    let are : AreEvents corners order c.in_ok-rank.rank.items = c.in_ok-rank.ensures corners c.requires.order in
-    let within : k < length corners = omega (arith, c.loop-v-test.true, c.requires.order.all) in
+    let k : ℕ = slice_index c.args.order.now c.loop-v.v-index in
     record {
-      next = subst (λ (ranks : List ℕ). IsNextEvent corners ranks c.loop-v.state.status c.loop-v.state.tris.items (slice_index order k))
+      next = subst (λ (ranks : List ℕ). IsNextEvent (g.T.Turns.corners c.args.board.now) ranks c.loop-v.state.status c.loop-v.state.tris.items k)
           (sym c.deref.ensures.value)
-          (next_event corners order c.in_ok-rank.rank.items are k within c.loop-v.state.status c.loop-v.state.tris.items c.requires.some c.requires.simple
-          c.requires.few c.loop-v.invariant.swept);
+          (next_event _ _ _ (c.in_ok-rank.ensures _ c.requires.order) c.loop-v.v-index (omega (arith, c.loop-v-test.true, c.requires.order.all))
+          c.loop-v.state.status c.loop-v.state.tris.items c.requires.some c.requires.simple c.requires.few c.loop-v.invariant.swept);
     }
 
 pub loop-v-preserved : goal.loop-v-preserved
 loop-v-preserved g c =
     let corners = g.T.Turns.corners c.args.board.now in
-    let order = c.args.order.now in
-    let k : ℕ = c.loop-v.v-index in
-    let are : AreEvents corners order c.in_ok-rank.rank.items = c.in_ok-rank.ensures corners c.requires.order in
-    let within : k < length corners = omega (arith, c.loop-v-test.true, c.requires.order.all) in
+    let k : ℕ = slice_index c.args.order.now c.loop-v.v-index in
     record {
-      swept = event_passed corners order c.in_ok-rank.rank.items are k within c.pass.new.self.status c.pass.new.self.tris.items
-          (subst (λ (ranks : List ℕ). IsSwept corners ranks (slice_index ranks (slice_index order k) + 1) c.pass.new.self.status c.pass.new.self.tris.items)
+      swept = event_passed _ _ _ (c.in_ok-rank.ensures _ c.requires.order) c.loop-v.v-index (omega (arith, c.loop-v-test.true, c.requires.order.all))
+          c.pass.new.self.status c.pass.new.self.tris.items
+          (subst (λ (ranks : List ℕ). IsSwept corners ranks (slice_index ranks k + 1) c.pass.new.self.status c.pass.new.self.tris.items)
           c.deref.ensures.value c.in_ok-pass.ensures.swept);
       steps = omega (arith, c.in_ok-pass.ensures.paid, c.loop-v.invariant.steps);
     }

@@ -20,8 +20,7 @@ use denote.Triple.Walked.{Stays, stay_dropped, walk_of, Goes-dropped}
 use Rattle.core.proofs.cell.Inside.{one}
 use Rattle.std.specs.Prelude.{None}
 use Rattle.std.proofs.raw_atomic.Walks.{proved_at, leaves}
-use Rattle.geo_c.proofs.Handles.{Z, LZ, handle_good, handle_in}
-use Rattle.geo_c.proofs.Values.{both}
+use Rattle.geo_c.proofs.Values.{Z, LZ, handle_good, handle_in, both}
 use Rattle.geo_c.specs.contracts.handle.GeoSession.empty as f
 use Rattle.geo_c.proofs.handle.GeoSession.empty.Statement.{statement}
 use Rattle.geo_c.proofs.handle.GeoSession.empty.Code as code

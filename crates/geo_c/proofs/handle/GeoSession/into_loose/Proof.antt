@@ -26,8 +26,7 @@ use Rattle.std.specs.Prelude.{None, Some}
 use Rattle.std.specs.contracts.impls.GlobalAllocator.TheImpl.{ghosts}
 use Rattle.std.proofs.raw_atomic.Walks.{proved_at, leaves}
 use Rattle.std_alloc.proofs.ResultValues.{and_tt}
-use Rattle.geo_c.proofs.Handles.{R, Z, LZ, Handle, handle_good, handle_out, either_held}
-use Rattle.geo_c.proofs.Values.{both, Loose, loose_good, loose_in}
+use Rattle.geo_c.proofs.Values.{R, Z, LZ, Handle, handle_good, handle_out, either_held, both, Loose, loose_good, loose_in}
 use Rattle.geo_c.specs.contracts.handle.GeoSession.into_loose as f
 use Rattle.geo_c.proofs.handle.GeoSession.into_loose.Statement.{statement}
 use Rattle.geo_c.proofs.handle.GeoSession.into_loose.Code as code

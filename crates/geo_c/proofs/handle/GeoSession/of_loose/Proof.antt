@@ -19,8 +19,7 @@ use denote.Triple.Walked.{Stays, stay_dropped, walk_of, Goes-dropped}
 use Rattle.std.specs.Prelude.{Some}
 use Rattle.std.specs.contracts.impls.GlobalAllocator.TheImpl.{ghosts}
 use Rattle.std.proofs.raw_atomic.Walks.{proved_at, leaves}
-use Rattle.geo_c.proofs.Handles.{R, Z, LZ, handle_good, handle_in}
-use Rattle.geo_c.proofs.Values.{both, Loose, loose_good, loose_out}
+use Rattle.geo_c.proofs.Values.{R, Z, LZ, handle_good, handle_in, both, Loose, loose_good, loose_out}
 use Rattle.geo_c.specs.contracts.handle.GeoSession.of_loose as f
 use Rattle.geo_c.proofs.handle.GeoSession.of_loose.Statement.{statement}
 use Rattle.geo_c.proofs.handle.GeoSession.of_loose.Code as code

@@ -1,8 +1,8 @@
 use Rattle.std.proofs.Common.{◌≤◌, arith, length}
 use Rattle.plane.specs.declared.limits.TheConstants.{MAX_CORNERS}
 use Rattle.ring_check.specs.Oriented.{given_of}
+use Rattle.pair_cut.proofs.PairOrder.{sights_few}
 use Rattle.geo_session.proofs.AskedVertices.{length_given}
-use Rattle.geo_session.proofs.FewSights.{sights_few}
 use Rattle.geo_session.proofs.held.Held.seeing.Goals as goal
 
 pub of-requires : goal.of-requires

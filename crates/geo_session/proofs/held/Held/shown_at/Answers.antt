@@ -1,4 +1,4 @@
-use Rattle.pair_cut.proofs.NumberedRows.{corner_of_some}
+use Rattle.pair_cut.proofs.TableRows.{corner_of_some}
 use Rattle.geo_session.proofs.VertexTriangles.{path_at}
 use Rattle.geo_session.proofs.held.Held.shown_at.Goals as goal
 

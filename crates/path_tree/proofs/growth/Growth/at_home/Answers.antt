@@ -3,7 +3,7 @@ use Rattle.std.proofs.lemmas.List.{get_or-replicate, length-replicate, length-se
 use Rattle.meshes.proofs.Sides.{two_fewer}
 use Rattle.tri_mesh.specs.Corner.{HasCorner}
 use Rattle.tri_mesh.specs.Outward.{outward_at}
-use Rattle.shared_funnel.proofs.TriCorners.{corner_place, corner_read, corners_of, read_below}
+use Rattle.shared_funnel.proofs.Doors.{corner_place, corner_read, corners_of, read_below}
 use Rattle.path_tree.proofs.GrownOver.{HasParent, grown_at_home, home_parent, parents_more, thirds_at_home}
 use Rattle.path_tree.proofs.growth.Growth.at_home.Goals as goal
 use Rattle.path_tree.specs.Grown.{NamedTree, funnel_at}
@@ -13,23 +13,20 @@ tri-tri-requires g c = c.requires.outward.in_list 0 c.requires.some
 
 pub loop-corner-init : goal.loop-corner-init
 loop-corner-init g c =
-    let count = two_fewer (g.T.Turns.corners c.args.board.now) c.args.mesh.now c.requires.fits in
     record {
       vertices = ap length c.in_ok-before.ensures ∙ length-replicate (c.count-count.result + 2) None
-          ∙ omega (arith, count, c.count-count.ensures.number);
+          ∙ omega (arith, two_fewer _ _ c.requires.fits, c.count-count.ensures.number);
       parents = λ k less. absurd (omega (arith, less));
       steps = omega arith;
     }
 
 pub straight-requires : goal.straight-requires
 straight-requires g c =
-    read_below (g.T.Turns.corners c.args.board.now) c.args.mesh.now c.requires.fits (outward_at c.args.order.now 0).tri
-    (c.requires.outward.in_list 0 c.requires.some) c.tri-tri.result c.tri-tri.ensures c.loop-corner.corner-index c.loop-corner-test.true
+    read_below _ _ c.requires.fits _ (c.requires.outward.in_list 0 c.requires.some) _ c.tri-tri.ensures _ c.loop-corner-test.true
 
 pub index_mut-requires : goal.index_mut-requires
 index_mut-requires g c =
-    let below = read_below (g.T.Turns.corners c.args.board.now) c.args.mesh.now c.requires.fits (outward_at c.args.order.now 0).tri
-    (c.requires.outward.in_list 0 c.requires.some) c.tri-tri.result c.tri-tri.ensures c.loop-corner.corner-index c.loop-corner-test.true in
+    let below = read_below _ _ c.requires.fits _ (c.requires.outward.in_list 0 c.requires.some) _ c.tri-tri.ensures _ c.loop-corner-test.true in
     omega (arith, below, c.loop-corner.invariant.vertices, c.loop-corner.before.ok.0)
 
 pub loop-corner-preserved : goal.loop-corner-preserved
@@ -40,10 +37,8 @@ loop-corner-preserved g c =
     let home = (outward_at c.args.order.now 0).tri in
     let in_list = c.requires.outward.in_list 0 c.requires.some in
     let i = slice_index (corners_of c.tri-tri.result) c.loop-corner.corner-index in
-    let has = corner_read corners tris c.requires.fits home in_list c.tri-tri.result c.tri-tri.ensures c.loop-corner.corner-index
-    c.loop-corner-test.true in
-    let below = read_below corners tris c.requires.fits home in_list c.tri-tri.result c.tri-tri.ensures c.loop-corner.corner-index
-    c.loop-corner-test.true in
+    let has = corner_read _ _ c.requires.fits home in_list _ c.tri-tri.ensures _ c.loop-corner-test.true in
+    let below = read_below _ _ c.requires.fits home in_list _ c.tri-tri.ensures _ c.loop-corner-test.true in
     record {
       vertices = length-set c.loop-corner.before.items i c.straight.result ∙ c.loop-corner.invariant.vertices;
       parents = parents_more corners start c.loop-corner.before.items (corners_of c.tri-tri.result) c.loop-corner.corner-index c.straight.result

@@ -2,13 +2,9 @@ use Rattle.std.proofs.Common.{◌≡◌, sym, ap, subst, ◌∙◌, ◌+◌, Som
 use Rattle.std.proofs.lemmas.List.{length-map}
 use Rattle.rings.specs.Ring.{vertex}
 use Rattle.meshes.proofs.Sides.{two_fewer}
-use Rattle.shared_seq.specs.Digits.{binary_digits}
-use Rattle.shared_funnel.proofs.Entrances.{beyond_at, third_below}
-use Rattle.shared_funnel.proofs.NextFunnels.{few_digits, later_digits}
-use Rattle.shared_funnel.specs.Entered.{at_place, left_of, right_of, third_of}
+use Rattle.shared_funnel.proofs.NextFunnels.{beyond_at, third_below, few_digits, later_digits}
 use Rattle.shared_funnel.specs.Listed.{point_of}
-use Rattle.path_tree.proofs.GrownOver.{grown_more, thirds_more}
-use Rattle.path_tree.proofs.EnteredFunnels.{third_named}
+use Rattle.path_tree.proofs.GrownOver.{grown_more, thirds_more, third_named}
 use Rattle.path_tree.proofs.TreeSteps.{triangle_steps}
 use Rattle.path_tree.proofs.growth.Growth.go_on.Goals as goal
 use Rattle.path_tree.specs.Grown.{IsFromNamed}
@@ -16,16 +12,12 @@ use Rattle.path_tree.specs.Growing.{tree_so_far}
 
 pub returns-in_err-funnel-clause-steps : goal.returns-in_err-funnel-clause-steps
 returns-in_err-funnel-clause-steps g c =
-    let corners = g.T.Turns.corners c.args.board.now in
-    let three = later_digits corners (g.T.Turns.start c.args.board.now) c.args.mesh.now c.args.order.now c.requires.from c.args.p
-    c.requires.later c.requires.within in
-    omega (arith, c.next_funnel.ensures.steps, triangle_steps (binary_digits (length corners)) three)
+    let three = later_digits _ _ _ _ c.requires.from c.args.p c.requires.later c.requires.within in
+    omega (arith, c.next_funnel.ensures.steps, triangle_steps _ three)
 
 pub index_mut-requires : goal.index_mut-requires
 index_mut-requires g c =
-    let corners = g.T.Turns.corners c.args.board.now in
-    let below = third_below corners (g.T.Turns.start c.args.board.now) c.args.mesh.now c.args.order.now c.requires.from c.args.p
-    c.requires.later c.requires.within in
+    let below = third_below _ _ _ _ c.requires.from c.args.p c.requires.later c.requires.within in
     omega (arith, below, c.door_of.ensures.third, c.requires.grown.over.vertices, c.args.self.now.before.ok.0)
 
 pub index_mut-requires-2 : goal.index_mut-requires-2
@@ -51,11 +43,9 @@ returns-clause-grown g c =
     let count : c.count.result + 2 ≡ length corners = omega (arith, two_fewer corners tris from.fits, c.count.ensures.number) in
     let number : c.number.result ≡ slice_index f.list c.place_of_third-place.result =
     c.number.ensures.number ∙ ap (slice_index f.list) (omega arith) in
-    let named = third_named corners start tris (left_of tris order p) (right_of tris order p) p from.fits f w c.place_of_third-place.result
-    (omega (arith, reached.within, length-map f.list (point_of corners start)))
-    (c.count.result + 2) c.number.result c.spot-near.result count number c.spot-near.ensures.corner
-    c.spot-near.ensures.start (at_place order p) (third_of tris order p)
-    (beyond_at corners start tris order from p c.requires.later c.requires.within) reached in
+    let named = third_named corners start tris _ _ p from.fits f w _ (omega (arith, reached.within, length-map f.list (point_of corners start)))
+    (c.count.result + 2) c.number.result c.spot-near.result count number c.spot-near.ensures.corner c.spot-near.ensures.start _ _
+    (beyond_at _ _ _ _ from p c.requires.later c.requires.within) reached in
     let grown = c.requires.grown in
     record {
       over = grown_more corners start tris order from p c.requires.later c.requires.within (tree_so_far c.args.self.now) grown.over c.door_of.result.third
@@ -69,17 +59,13 @@ returns-clause-grown g c =
 
 pub returns-clause-steps : goal.returns-clause-steps
 returns-clause-steps g c =
-    let corners = g.T.Turns.corners c.args.board.now in
-    let f = c.in_ok-funnel.funnel in
-    let three = later_digits corners (g.T.Turns.start c.args.board.now) c.args.mesh.now c.args.order.now c.requires.from c.args.p
-    c.requires.later c.requires.within in
-    let few = few_digits corners (g.T.Turns.start c.args.board.now) c.args.mesh.now c.args.order.now c.requires.from c.args.p f
-    c.requires.within c.in_ok-funnel.ensures.funnel in
+    let three = later_digits _ _ _ _ c.requires.from c.args.p c.requires.later c.requires.within in
+    let few = few_digits _ _ _ _ c.requires.from c.args.p _ c.requires.within c.in_ok-funnel.ensures.funnel in
     omega (
       arith,
       c.next_funnel.ensures.steps,
       c.place_of_third-place.ensures.steps,
       c.number.ensures.steps,
-      triangle_steps (binary_digits (length corners)) three,
+      triangle_steps _ three,
       few.0,
     )

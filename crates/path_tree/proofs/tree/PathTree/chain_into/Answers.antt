@@ -1,7 +1,7 @@
-use Rattle.std.proofs.Common.{refl, sym, ap, subst, ◌∙◌, [], ◌∷◌, ◌++◌, length, arith}
+use Rattle.std.proofs.Common.{refl, sym, ap, subst, ◌∙◌, [], ◌∷◌, length, arith}
 use Rattle.std.proofs.lemmas.List.{length-append}
 use Rattle.exact_plane.specs.declared.turns.Spot.TheVariants.{Start}
-use Rattle.path_tree.proofs.GoneBack.{IsGoneBack, back_begins, back_ends, back_goes_on, back_longer, back_no_goal, back_on, back_room}
+use Rattle.path_tree.proofs.GrownPaths.{IsGoneBack, back_begins, back_ends, back_goes_on, back_longer, back_no_goal, back_on, back_room}
 use Rattle.path_tree.specs.Grown.{IsGrownTree}
 use Rattle.path_tree.proofs.tree.PathTree.chain_into.Goals as goal
 
@@ -10,64 +10,49 @@ loop-before-init c = (back_begins c.args.self.now c.args.last c.args.out.now.ite
 
 pub push_reserved-requires : goal.push_reserved-requires
 push_reserved-requires c =
-    let back = c.loop-before.invariant.0 in
     let g = subst IsGrownTree c.self.view_is c.self.invariant in
-    omega (arith, c.requires.room, back_room c.args.self.now c.args.last c.loop-before.at c.args.out.now.items c.loop-before.out.items back g)
+    omega (arith, c.requires.room, back_room _ _ _ _ _ c.loop-before.invariant.0 g)
 
 pub loop-before-smaller : goal.loop-before-smaller
 loop-before-smaller c =
-    let tree = c.args.self.now in
     let g = subst IsGrownTree c.self.view_is c.self.invariant in
-    let next = back_on tree g c.args.last c.args.out.now.items c.loop-before.out.items c.loop-before.at c.in-Some.before
-    c.loop-before.invariant.0 c.in-Some.ensures.before in
-    omega (
-      arith,
-      ap length c.push_reserved.ensures.items,
-      back_room tree c.args.last c.in-Some.before c.args.out.now.items (c.loop-before.out.items ++ c.loop-before.at ∷ []) next g,
-    )
+    let next = back_on _ g _ _ _ _ _ c.loop-before.invariant.0 c.in-Some.ensures.before in
+    omega (arith, ap length c.push_reserved.ensures.items, back_room _ _ _ _ _ next g)
 
 pub loop-before-preserved : goal.loop-before-preserved
 loop-before-preserved c =
-    let tree = c.args.self.now in
     let g = subst IsGrownTree c.self.view_is c.self.invariant in
-    let next = back_on tree g c.args.last c.args.out.now.items c.loop-before.out.items c.loop-before.at c.in-Some.before
-    c.loop-before.invariant.0 c.in-Some.ensures.before in (
-      subst (IsGoneBack tree c.args.last c.in-Some.before c.args.out.now.items) (sym c.push_reserved.ensures.items) next,
+    let next = back_on _ g _ _ _ _ _ c.loop-before.invariant.0 c.in-Some.ensures.before in (
+      subst (IsGoneBack c.args.self.now c.args.last c.in-Some.before c.args.out.now.items) (sym c.push_reserved.ensures.items) next,
       c.loop-before.invariant.1,
       c.push_reserved.ensures.capacity ∙ c.loop-before.invariant.2,
     )
 
 pub push_reserved-requires-2 : goal.push_reserved-requires-2
 push_reserved-requires-2 c =
-    let back = c.loop-before.invariant.0 in
     let g = subst IsGrownTree c.self.view_is c.self.invariant in
-    omega (arith, c.requires.room, back_room c.args.self.now c.args.last c.loop-before.at c.args.out.now.items c.loop-before.out.items back g)
+    omega (arith, c.requires.room, back_room _ _ _ _ _ c.loop-before.invariant.0 g)
 
 pub turn_round-requires : goal.turn_round-requires
 turn_round-requires c =
-    let back = c.loop-before.invariant.0 in
     omega (
       arith,
       ap length c.push_reserved-2.ensures.items,
       length-append c.loop-before.out.items (Start ∷ []),
-      back_longer c.args.self.now c.args.last c.loop-before.at c.args.out.now.items c.loop-before.out.items back,
+      back_longer _ _ _ _ _ c.loop-before.invariant.0,
       c.loop-before.invariant.1,
     )
 
 pub returns-clause-path : goal.returns-clause-path
 returns-clause-path c =
-    back_ends c.args.self.now c.args.last c.loop-before.at c.args.out.now.items c.loop-before.out.items c.loop-before.invariant.0
-    c.len-given.result c.loop-before.invariant.1 c.push_reserved-2.new.self.items c.turn_round.new.names.items
-    c.push_reserved-2.ensures.items c.turn_round.ensures.turned c.in_default.ensures.before
+    back_ends _ _ _ _ _ c.loop-before.invariant.0 _ c.loop-before.invariant.1 _ _ c.push_reserved-2.ensures.items c.turn_round.ensures.turned
+    c.in_default.ensures.before
 
 pub returns-clause-on : goal.returns-clause-on
 returns-clause-on c =
-    back_goes_on c.args.self.now c.args.last c.loop-before.at c.args.out.now.items c.loop-before.out.items c.loop-before.invariant.0
-    c.len-given.result c.loop-before.invariant.1 c.push_reserved-2.new.self.items c.turn_round.new.names.items
-    c.push_reserved-2.ensures.items c.turn_round.ensures.turned c.in_default.ensures.before
+    back_goes_on _ _ _ _ _ c.loop-before.invariant.0 _ c.loop-before.invariant.1 _ _ c.push_reserved-2.ensures.items c.turn_round.ensures.turned
+    c.in_default.ensures.before
 
 pub returns-clause-no_goal : goal.returns-clause-no_goal
 returns-clause-no_goal c =
-    back_no_goal c.args.self.now c.args.last c.loop-before.at c.args.out.now.items c.loop-before.out.items c.loop-before.invariant.0
-    c.len-given.result c.loop-before.invariant.1 c.push_reserved-2.new.self.items c.turn_round.new.names.items
-    c.push_reserved-2.ensures.items c.turn_round.ensures.turned
+    back_no_goal _ _ _ _ _ c.loop-before.invariant.0 _ c.loop-before.invariant.1 _ _ c.push_reserved-2.ensures.items c.turn_round.ensures.turned

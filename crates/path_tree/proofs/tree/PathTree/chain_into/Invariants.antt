@@ -1,5 +1,5 @@
 use Rattle.std.proofs.Common.{◌≡◌, ◌+◌, ◌-◌, length, vec_capacity}
-use Rattle.path_tree.proofs.GoneBack.{IsGoneBack}
+use Rattle.path_tree.proofs.GrownPaths.{IsGoneBack}
 use Rattle.path_tree.proofs.tree.PathTree.chain_into.Given as goal
 
 abbrev pub invariant-loop-before : goal.invariant-loop-before

@@ -1,7 +1,7 @@
 use Rattle.std.proofs.Common.{◌<◌, sym, ap, subst, ◌∙◌, length, arith}
 use Rattle.std.proofs.lemmas.Bool.{false≢true}
 use Rattle.meshes.proofs.Sides.{two_fewer}
-use Rattle.path_tree.proofs.EnteredFunnels.{entered_of_read}
+use Rattle.path_tree.proofs.GrownOver.{entered_of_read}
 use Rattle.path_tree.proofs.TreeSteps.{reach_paid}
 use Rattle.path_tree.proofs.GrownPaths.{kept_goal, kept_of_names}
 use Rattle.path_tree.specs.Grown.{IsFromNamed}

@@ -1,5 +1,5 @@
 use Rattle.std.proofs.Common.{◌≡◌, sym, ap, subst, ◌∙◌, ◌+◌, ◌-◌, ◌∷◌, drop, arith}
-use Rattle.shared_funnel.proofs.Steps.{funnel_to_left}
+use Rattle.shared_funnel.proofs.FunnelNumbers.{funnel_to_left}
 use Rattle.shared_funnel.proofs.funnel.Funnel.to_left.Goals as goal
 use Rattle.shared_funnel.specs.Listed.{IsFunnelAt}
 

@@ -1,5 +1,5 @@
 use Rattle.std.proofs.Common.{◌≡◌, sym, ap, subst, ◌∙◌, ◌+◌, [], ◌∷◌, ◌++◌, min, take}
-use Rattle.shared_funnel.proofs.Steps.{funnel_to_right}
+use Rattle.shared_funnel.proofs.FunnelNumbers.{funnel_to_right}
 use Rattle.shared_funnel.proofs.funnel.Funnel.to_right.Goals as goal
 use Rattle.shared_funnel.specs.Listed.{IsFunnelAt}
 

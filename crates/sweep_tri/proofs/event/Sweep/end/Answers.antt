@@ -3,26 +3,34 @@ use Rattle.std.proofs.lemmas.Result.{on_ok_weaker}
 use Rattle.mono_fill.specs.Filled.{IsFilled}
 use Rattle.mono_fill.specs.declared.side.Side.TheVariants.{Upper}
 use Rattle.sweep_tri.proofs.Closing.{all_but_last, filled_last, of_last}
-use Rattle.sweep_tri.proofs.Work.{more_digits}
+use Rattle.sweep_tri.proofs.Work.{more_digits, removed_paid, removed_work}
 use Rattle.sweep_tri.specs.Entries.{IsPaid, event_work}
 use Rattle.sweep_tri.specs.Gaps.{gap_at}
 use Rattle.sweep_tri.specs.Meeting.{AreFilled, closed_at, left_at}
 use Rattle.sweep_tri.specs.Region.{IsClosedRegion, boundary}
 use Rattle.sweep_tri.proofs.event.Sweep.end.Goals as goal
 
-pub meet_last-requires-clause-closed : goal.meet_last-requires-clause-closed
-meet_last-requires-clause-closed g c =
+pub returns-in_err-gap-clause-work : goal.returns-in_err-gap-clause-work
+returns-in_err-gap-clause-work g c = omega (arith, c.remove.ensures.steps, more_digits c.args.self.now.status)
+
+pub meet-requires-clause-closed : goal.meet-requires-clause-closed
+meet-requires-clause-closed g c =
     let gap = gap_at c.args.self.now.status c.args.j in
-    all_but_last (IsClosedRegion (g.T.Turns.corners c.args.board.now) c.args.rank.now) (closed_at Upper gap.low gap.high c.args.v)
-    (left_at Upper gap.low gap.high c.args.v) c.requires.closed
+    rw c.in_ok-gap.ensures.gap
+    (all_but_last (IsClosedRegion (g.T.Turns.corners c.args.board.now) c.args.rank.now) (closed_at Upper gap.low gap.high c.args.v)
+    (left_at Upper gap.low gap.high c.args.v) c.requires.closed)
 
 pub returns-in_err-region-clause-work : goal.returns-in_err-region-clause-work
-returns-in_err-region-clause-work g c = omega (arith, c.meet_last.ensures.work, more_digits c.args.self.now.status)
+returns-in_err-region-clause-work g c =
+    let gaps = c.args.self.now.status in
+    let met = removed_work gaps c.args.j c.args.steps.now c.requires.place Upper c.args.v _ c.in_ok-gap.ensures.gap _ _ c.meet.ensures.steps
+    c.remove.ensures.steps in
+    omega (arith, met, more_digits gaps)
 
 pub close-requires-clause-closed : goal.close-requires-clause-closed
 close-requires-clause-closed g c =
     let gap = gap_at c.args.self.now.status c.args.j in
-    rw c.in_ok-region.ensures.left
+    rw (c.in_ok-region.ensures.left, c.in_ok-gap.ensures.gap)
     (of_last (IsClosedRegion (g.T.Turns.corners c.args.board.now) c.args.rank.now) (closed_at Upper gap.low gap.high c.args.v)
     (left_at Upper gap.low gap.high c.args.v) c.requires.closed)
 
@@ -33,17 +41,24 @@ returns-clause-filled g c =
     let closed = closed_at Upper gap.low gap.high c.args.v in
     let region = left_at Upper gap.low gap.high c.args.v in
     let old = c.args.self.now.tris.items in
-    let between = c.meet_last.new.self.tris.items in
+    let between = c.meet.new.tris.items in
     let new = c.close.new.tris.items in
     on_ok_weaker {P = IsFilled corners (boundary region) between new} {Q = AreFilled corners (closed ++ region ∷ []) old new} c.close.result
-    (λ last. filled_last corners closed region old between new c.in_ok-region.ensures.filled last) (rw c.in_ok-region.ensures.left at c.close.ensures.filled)
+    (λ last. filled_last corners closed region old between new (rw c.in_ok-gap.ensures.gap at c.in_ok-region.ensures.filled) last)
+    (rw (c.in_ok-region.ensures.left, c.in_ok-gap.ensures.gap) at c.close.ensures.filled)
 
 pub returns-clause-work : goal.returns-clause-work
-returns-clause-work g c = omega (arith, c.in_ok-region.ensures.paid, c.close.ensures.steps, more_digits c.args.self.now.status)
+returns-clause-work g c =
+    let gaps = c.args.self.now.status in
+    let met = removed_paid gaps c.args.j c.args.steps.now c.requires.place Upper c.args.v _ c.in_ok-gap.ensures.gap _ _ c.meet.ensures.steps
+    c.remove.ensures.steps _ c.in_ok-gap.ensures.gaps _ c.in_ok-region.ensures.left in
+    omega (arith, met, c.close.ensures.steps, more_digits gaps)
 
 pub returns-clause-paid : goal.returns-clause-paid
 returns-clause-paid g c =
     let gaps = c.args.self.now.status in
-    let paid : IsPaid gaps c.meet_last.new.self.status (event_work gaps) c.args.steps.now c.close.new.steps
-    = omega (arith, c.in_ok-region.ensures.paid, c.close.ensures.steps, more_digits gaps) in
+    let met = removed_paid gaps c.args.j c.args.steps.now c.requires.place Upper c.args.v _ c.in_ok-gap.ensures.gap _ _ c.meet.ensures.steps
+    c.remove.ensures.steps _ c.in_ok-gap.ensures.gaps _ c.in_ok-region.ensures.left in
+    let paid : IsPaid gaps c.remove.new.self (event_work gaps) c.args.steps.now c.close.new.steps
+    = omega (arith, met, c.close.ensures.steps, more_digits gaps) in
     on_ok_weaker c.close.result (λ _. paid) c.close.ensures.filled

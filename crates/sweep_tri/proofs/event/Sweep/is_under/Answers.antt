@@ -1,6 +1,6 @@
 use Rattle.std.proofs.Common.{◌≡◌, ◌↔◌, ap, ◌∙◌, IsTrue, rules}
 use Rattle.exact_plane.specs.declared.direction.Direction.TheVariants.{Right}
-use Rattle.sweep_tri.proofs.Corners.{under_by_turn}
+use Rattle.sweep_tri.proofs.Search.{under_by_turn}
 use Rattle.sweep_tri.specs.Gaps.{gap_at, up_front}
 use Rattle.sweep_tri.specs.declared.gap.Gap.{Gap}
 use Rattle.sweep_tri.proofs.event.Sweep.is_under.Goals as goal

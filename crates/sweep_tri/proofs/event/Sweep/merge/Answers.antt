@@ -4,26 +4,45 @@ use Rattle.std.specs.List.{remove}
 use Rattle.shared_seq.specs.Digits.{binary_digits}
 use Rattle.mono_fill.specs.declared.side.Side.TheVariants.{Lower, Upper}
 use Rattle.sweep_tri.proofs.Balance.{filled-append}
-use Rattle.sweep_tri.proofs.Work.{as_many, fewer_digits, more_digits, put_entries, replaced_twice, still_there}
+use Rattle.sweep_tri.proofs.Work.{as_many, emptied_paid, emptied_work, fewer_digits, more_digits, put_entries, removed_paid, removed_work}
+use Rattle.sweep_tri.proofs.Work.{replaced_twice, still_there}
 use Rattle.sweep_tri.specs.Entries.{gap_entries}
-use Rattle.sweep_tri.specs.Gaps.{gap_at, no_gap}
+use Rattle.sweep_tri.specs.Gaps.{gap_at}
 use Rattle.sweep_tri.specs.Meeting.{closed_at, left_at}
 use Rattle.sweep_tri.specs.declared.gap.Gap.{Gap}
 use Rattle.sweep_tri.proofs.event.Sweep.merge.Goals as goal
 
-pub returns-in_err-high-clause-work : goal.returns-in_err-high-clause-work
-returns-in_err-high-clause-work g c = omega (arith, c.meet_last.ensures.work, more_digits c.args.self.now.status)
+pub returns-in_err-above-clause-work : goal.returns-in_err-above-clause-work
+returns-in_err-above-clause-work g c = omega (arith, c.remove.ensures.steps, more_digits c.args.self.now.status)
 
-pub meet-requires-clause-closed : goal.meet-requires-clause-closed
-meet-requires-clause-closed g c =
-    rw (c.in_ok-high.ensures.gaps, still_there c.args.self.now.status (c.args.j - 1) c.args.j (omega (arith, c.requires.first)) c.requires.place)
+pub returns-in_err-high-clause-work : goal.returns-in_err-high-clause-work
+returns-in_err-high-clause-work g c =
+    let gaps = c.args.self.now.status in
+    let met = removed_work gaps c.args.j c.args.steps.now c.requires.place Lower c.args.v _ c.in_ok-above.ensures.gap _ _ c.meet.ensures.steps
+    c.remove.ensures.steps in
+    omega (arith, met, more_digits gaps)
+
+pub meet-requires-2-clause-closed : goal.meet-requires-2-clause-closed
+meet-requires-2-clause-closed g c =
+    rw (
+      c.replace-below.ensures.gap,
+      c.in_ok-above.ensures.gaps,
+      still_there c.args.self.now.status (c.args.j - 1) c.args.j (omega (arith, c.requires.first)) c.requires.place,
+    )
     c.requires.closed_above
 
 pub returns-in_err-low-clause-work : goal.returns-in_err-low-clause-work
 returns-in_err-low-clause-work g c =
     let gaps = c.args.self.now.status in
-    let fewer = ap (λ gs. binary_digits (length gs)) c.in_ok-high.ensures.gaps in
-    omega (arith, c.in_ok-high.ensures.paid, c.meet.ensures.work, fewer, fewer_digits gaps c.args.j c.requires.place, more_digits gaps)
+    let i = c.args.j - 1 in
+    let fewer = ap (λ gs. binary_digits (length gs)) c.in_ok-above.ensures.gaps in
+    let rest = ap length c.in_ok-above.ensures.gaps in
+    let within : i < length c.remove.new.self = omega (arith, rest, length-remove gaps c.args.j c.requires.place, c.requires.place, c.requires.first) in
+    let met = removed_paid gaps c.args.j c.args.steps.now c.requires.place Lower c.args.v _ c.in_ok-above.ensures.gap _ _ c.meet.ensures.steps
+    c.remove.ensures.steps _ c.in_ok-above.ensures.gaps _ c.in_ok-high.ensures.left in
+    let met_below = emptied_work c.remove.new.self i _ within Upper c.args.v _ c.replace-below.ensures.gap _ _ c.meet-2.ensures.steps
+    c.replace-below.ensures.steps in
+    omega (arith, met, met_below, fewer, fewer_digits gaps c.args.j c.requires.place, more_digits gaps)
 
 pub returns-clause-gaps : goal.returns-clause-gaps
 returns-clause-gaps g c =
@@ -32,11 +51,14 @@ returns-clause-gaps g c =
     let f = gap_at gaps i in
     let h = gap_at gaps c.args.j in
     let both : Gap = record { low = left_at Upper f.low f.high c.args.v; high = Some (left_at Lower h.low h.high c.args.v) } in
-    let f_is = ap (λ gs. gap_at gs i) c.in_ok-high.ensures.gaps ∙ still_there gaps i c.args.j (omega (arith, c.requires.first)) c.requires.place in
+    let f_is = c.replace-below.ensures.gap ∙ ap (λ gs. gap_at gs i) c.in_ok-above.ensures.gaps
+    ∙ still_there gaps i c.args.j (omega (arith, c.requires.first)) c.requires.place in
     let low_is : c.in_ok-low.low ≡ left_at Upper f.low f.high c.args.v = rw f_is at c.in_ok-low.ensures.left in
-    let both_is : c.of_two.result ≡ both = rw (low_is, c.in_ok-high.ensures.left) at c.of_two.ensures in
-    replaced_twice c.meet_last.new.self.status c.meet.new.self.status c.replace.new.self i no_gap c.of_two.result c.meet.ensures.gaps c.replace.ensures.gaps
-    ∙ ap (λ gs. set gs i c.of_two.result) c.in_ok-high.ensures.gaps ∙ ap (set (remove gaps c.args.j) i) both_is
+    let high_is : c.in_ok-high.high ≡ left_at Lower h.low h.high c.args.v = rw c.in_ok-above.ensures.gap at c.in_ok-high.ensures.left in
+    let both_is : c.of_two.result ≡ both = rw (low_is, high_is) at c.of_two.ensures in
+    replaced_twice c.remove.new.self c.replace-below.new.self c.replace.new.self i c.none.result c.of_two.result c.replace-below.ensures.gaps
+    c.replace.ensures.gaps
+    ∙ ap (λ gs. set gs i c.of_two.result) c.in_ok-above.ensures.gaps ∙ ap (set (remove gaps c.args.j) i) both_is
 
 pub returns-clause-filled : goal.returns-clause-filled
 returns-clause-filled g c =
@@ -44,30 +66,29 @@ returns-clause-filled g c =
     let i = c.args.j - 1 in
     let f = gap_at gaps i in
     let h = gap_at gaps c.args.j in
-    let f_is = ap (λ gs. gap_at gs i) c.in_ok-high.ensures.gaps ∙ still_there gaps i c.args.j (omega (arith, c.requires.first)) c.requires.place in
+    let f_is = c.replace-below.ensures.gap ∙ ap (λ gs. gap_at gs i) c.in_ok-above.ensures.gaps
+    ∙ still_there gaps i c.args.j (omega (arith, c.requires.first)) c.requires.place in
     filled-append (g.T.Turns.corners c.args.board.now) (closed_at Lower h.low h.high c.args.v) (closed_at Upper f.low f.high c.args.v)
-    c.args.self.now.tris.items c.meet_last.new.self.tris.items c.meet.new.self.tris.items c.in_ok-high.ensures.filled (rw f_is at c.in_ok-low.ensures.filled)
-
-pub returns-clause-work : goal.returns-clause-work
-returns-clause-work g c =
-    let gaps = c.args.self.now.status in
-    let fewer = ap (λ gs. binary_digits (length gs)) c.in_ok-high.ensures.gaps in
-    let same = as_many c.meet_last.new.self.status c.meet.new.self.status (c.args.j - 1) no_gap c.meet.ensures.gaps in
-    omega (arith, c.in_ok-high.ensures.paid, c.meet.ensures.work, c.replace.ensures.steps, fewer, ap binary_digits same, fewer_digits gaps c.args.j c.requires.place, more_digits gaps)
+    c.args.self.now.tris.items c.meet.new.tris.items c.meet-2.new.tris.items (rw c.in_ok-above.ensures.gap at c.in_ok-high.ensures.filled)
+    (rw f_is at c.in_ok-low.ensures.filled)
 
 pub returns-clause-paid : goal.returns-clause-paid
 returns-clause-paid g c =
     let gaps = c.args.self.now.status in
     let i = c.args.j - 1 in
-    let fewer = ap (λ gs. binary_digits (length gs)) c.in_ok-high.ensures.gaps in
-    let same = as_many c.meet_last.new.self.status c.meet.new.self.status i no_gap c.meet.ensures.gaps in
-    let rest = ap length c.in_ok-high.ensures.gaps in
-    let within : i < length c.meet.new.self.status = omega (arith, same, rest, length-remove gaps c.args.j c.requires.place, c.requires.place, c.requires.first) in
-    let put = put_entries c.meet.new.self.status c.replace.new.self i c.of_two.result within c.replace.ensures.gaps in
+    let fewer = ap (λ gs. binary_digits (length gs)) c.in_ok-above.ensures.gaps in
+    let rest = ap length c.in_ok-above.ensures.gaps in
+    let within : i < length c.remove.new.self = omega (arith, rest, length-remove gaps c.args.j c.requires.place, c.requires.place, c.requires.first) in
+    let same = as_many c.remove.new.self c.replace-below.new.self i c.none.result c.replace-below.ensures.gaps in
+    let put = put_entries c.replace-below.new.self c.replace.new.self i c.of_two.result (omega (arith, within, same)) c.replace.ensures.gaps in
+    let met = removed_paid gaps c.args.j c.args.steps.now c.requires.place Lower c.args.v _ c.in_ok-above.ensures.gap _ _ c.meet.ensures.steps
+    c.remove.ensures.steps _ c.in_ok-above.ensures.gaps _ c.in_ok-high.ensures.left in
+    let met_below = emptied_paid c.remove.new.self i _ within Upper c.args.v _ c.replace-below.ensures.gap _ _ c.meet-2.ensures.steps
+    c.replace-below.ensures.steps _ c.none.ensures _ c.replace-below.ensures.gaps _ c.in_ok-low.ensures.left in
     omega (
       arith,
-      c.in_ok-high.ensures.paid,
-      c.in_ok-low.ensures.paid,
+      met,
+      met_below,
       c.replace.ensures.steps,
       fewer,
       ap binary_digits same,
@@ -76,3 +97,6 @@ returns-clause-paid g c =
       put,
       ap gap_entries c.of_two.ensures,
     )
+
+pub returns-clause-work : goal.returns-clause-work
+returns-clause-work g c = omega (arith, returns-clause-paid g c)

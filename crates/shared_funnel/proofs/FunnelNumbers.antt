@@ -1,24 +1,73 @@
+-- Numbers of corners and of the source: the points that they stand for, their names, and the places of a list.
+-- The numbers of the first funnel: of the source between the ends of a side of its triangle, or at one of them.
 -- The numbers of the next funnel: on the left that of the third corner, and those from the place on from which it is reached; on the right those
 -- to that place, and that corner's.
-use Rattle.std.proofs.Common.{◌≡◌, inl, inr, sym, ap, subst, ◌∙◌, List, [], ◌∷◌, ◌++◌, length, drop, ℕ, ◌+◌, ◌-◌, ◌<◌, ◌≤◌, slice_index}
-use Rattle.std.proofs.Common.{add-one, arith, take, min}
-use Rattle.std.proofs.lemmas.List.{drop-map, get_or-drop, length-append, length-drop, get_or-take, get_or_append_left, length-take-le}
-use Rattle.std.proofs.lemmas.List.{map-append, take-map}
+use Rattle.std.proofs.Common.{◌≡◌, ◌≢◌, inl, inr, refl, sym, ap, subst, ◌∙◌, ℕ, ◌%◌, ◌<◌, ◌≤◌, List, [], ◌∷◌, length, get_or, slice_index}
+use Rattle.std.proofs.Common.{arith, ◌++◌, drop, ◌+◌, ◌-◌, add-one, take, min}
+use Rattle.std.proofs.Math.Nat.{mod-eq_of_lt}
+use Rattle.std.proofs.lemmas.Bool.{cases_lt}
+use Rattle.std.proofs.lemmas.List.{get_or-map, get_or_append_left, get_or_push, length-map, drop-map, get_or-drop, length-append}
+use Rattle.std.proofs.lemmas.List.{length-drop, get_or-take, length-take-le, map-append, take-map}
 use Rattle.std.proofs.lemmas.List.Elements.{All-drop, All-append, All-take}
-use Rattle.plane.specs.Point.{Point, whole}
+use Rattle.plane.specs.Point.{Point, Triple, whole}
 use Rattle.rings.specs.Chain.{point_at}
 use Rattle.rings.specs.Ring.{origin, vertex}
 use Rattle.meshes.proofs.Sides.{ends_below}
-use Rattle.meshes.specs.Fits.{Fits, IsSideOfTwo}
+use Rattle.meshes.proofs.TreeLeaves.{next_corner}
+use Rattle.meshes.specs.Fits.{Fits, IsSideOfTwo, IsInTri}
+use Rattle.meshes.specs.Side.{HasSide, tri_at}
 use Rattle.meshes.specs.declared.tri.Tri.{Tri}
-use Rattle.funnels.proofs.Chains.{step_left, step_right}
+use Rattle.funnels.proofs.Chains.{step_left, step_right, start_at_left, start_at_right, start_between}
 use Rattle.funnels.proofs.Funnels.{next_left_old, next_right_old}
 use Rattle.funnels.proofs.Trees.{first_right, length_rightward, first_left, length_leftward}
 use Rattle.funnels.specs.Funnel.{IsReachedFrom}
 use Rattle.funnels.specs.OpenFunnel.{IsOpenFunnel, right_behind, left_behind}
+use Rattle.exact_plane.specs.Spot.{IsNamed, point_named}
+use Rattle.exact_plane.specs.declared.turns.Spot.{Spot}
+use Rattle.exact_plane.specs.declared.turns.Spot.TheVariants.{Corner, Start}
 use Rattle.shared_funnel.proofs.Lists.{more_numbers, none_of_both, one_number}
-use Rattle.shared_funnel.proofs.Numbers.{apex_in_list, corner_point, place_within}
-use Rattle.shared_funnel.specs.Listed.{IsTriangleBeyond, IsFunnelAt, Listed, point_of, listed_points}
+use Rattle.shared_funnel.specs.Listed.{AreNumbers, IsFunnelAt, Listed, point_of, listed_points, IsTriangleBeyond}
+
+module _ (corners : List Point) (start : Point) where
+  -- a corner's number stands for the vertex,
+  pub corner_point : (i : ℕ) → i < length corners → point_of corners start i ≡ vertex corners i
+  corner_point i below =
+      let same : i % length corners ≡ i = mod-eq_of_lt below in
+      get_or_append_left corners (start ∷ []) origin i below ∙ sym (ap (λ k. get_or corners k origin) same)
+
+  -- and the count of the corners for the source
+  pub source_point : point_of corners start (length corners) ≡ start
+  source_point = get_or_push corners start origin (length corners) refl
+
+  -- the point at a place is that of the number there
+  pub point_there : (list : List ℕ) (h : ℕ) → h < length list
+      → point_at (listed_points corners start list) h ≡ point_of corners start (slice_index list h)
+  point_there list h below = get_or-map (point_of corners start) list h 0 origin below
+
+  -- a number's name stands for its point
+  named : (goal : Point) (n i : ℕ) (s : Spot) → n ≡ length corners → i ≤ n → (i ≢ n → s ≡ Corner i) → (i ≡ n → s ≡ Start)
+      → IsNamed corners s × (point_named corners start goal s ≡ point_of corners start i)
+  named goal n i s count le corner source = elim (cases_lt i n) [
+    | inl less ↦
+        let is = corner (λ e. absurd (omega (arith, less, e))) in (
+          subst (IsNamed corners) (sym is) (omega (arith, less, count)),
+          ap (point_named corners start goal) is ∙ sym (get_or_append_left corners (start ∷ []) origin i (omega (arith, less, count))),
+        )
+    | inr more ↦
+        let e : i ≡ n = omega (arith, le, more) in
+        let is = source e in (
+          subst (IsNamed corners) (sym is) tt,
+          ap (point_named corners start goal) is ∙ sym source_point ∙ ap (point_of corners start) (sym (e ∙ count)),
+        )
+  ]
+
+  -- a place from which a point is reached is one of the list
+  pub place_within : (list : List ℕ) (a h : ℕ) (y : Triple) → IsReachedFrom (listed_points corners start list) a h y → h < length list
+  place_within list a h y reached = omega (arith, reached.within, length-map list (point_of corners start))
+
+  -- and so is the place of an apex
+  pub apex_in_list : (i j d : ℕ) (f : Listed) → IsFunnelAt corners start i j d f → f.apex < length f.list
+  apex_in_list i j d f w = omega (arith, w.funnel.funnel.apex_within, length-map f.list (point_of corners start))
 
 module _ (corners : List Point) (start : Point) (tris : List Tri) (k i j m next d : ℕ) (fits : Fits corners tris)
     (beyond : IsTriangleBeyond tris k i j m) (f : Listed) (w : IsFunnelAt corners start i j d f) (h : ℕ)
@@ -144,3 +193,68 @@ module _ (corners : List Point) (start : Point) (tris : List Tri) (k i j m next 
         length-take-le (h + 1) f.list (omega (arith, place_within corners start f.list f.apex h (whole (vertex corners m)) reached)),
       );
     }
+
+module _ (corners : List Point) (start : Point) (tris : List Tri) (home next l r : ℕ) (fits : Fits corners tris)
+    (in_start : IsInTri corners (tri_at tris home) (whole start)) (shared : IsSideOfTwo tris r l home next) where
+  -- both ends are corners,
+  ends : (r < length corners) × (l < length corners)
+  ends = ends_below corners tris fits home r l shared.in_list shared.has
+
+  -- there is a third corner,
+  third : (m : ℕ) × HasSide (tri_at tris home) l m × HasSide (tri_at tris home) m r
+  third = next_corner (tri_at tris home) r l shared.has
+
+  -- and the numbers stand for the points
+  left_is : point_of corners start l ≡ vertex corners l
+  left_is = corner_point corners start l ends.1
+
+  right_is : point_of corners start r ≡ vertex corners r
+  right_is = corner_point corners start r ends.0
+
+  module _ (n : ℕ) (count : n ≡ length corners) where
+    source_is : point_of corners start n ≡ start
+    source_is = subst (λ k. point_of corners start k ≡ start) (sym count) (source_point corners start)
+
+    -- such numbers are a first funnel, with the source at the apex and nothing before it:
+    first_of : (list : List ℕ) (a : ℕ) → IsOpenFunnel corners [] (listed_points corners start list) a l r
+        → point_at (listed_points corners start list) a ≡ start → slice_index list a ≡ n → AreNumbers (length corners) list → length list ≤ 3
+        → IsFunnelAt corners start l r 1 (record { list = list; apex = a })
+    first_of list a funnel begins source numbers few = record {
+      before = [];
+      funnel = funnel;
+      begins = begins;
+      source = λ _. source ∙ count;
+      numbers = numbers;
+      few = omega (arith, few);
+    }
+
+    -- the source and the right end are in the bound
+    to_right : AreNumbers (length corners) (n ∷ r ∷ [])
+    to_right = more_numbers (length corners) n (r ∷ []) (omega (arith, count)) (one_number (length corners) r (omega (arith, ends.0)))
+
+    -- between the ends,
+    pub first_between : ¬ (start ≡ vertex corners l) → ¬ (start ≡ vertex corners r)
+        → IsFunnelAt corners start l r 1 (record { list = l ∷ n ∷ r ∷ []; apex = 1 })
+    first_between not_left not_right = first_of (l ∷ n ∷ r ∷ []) 1
+        (subst (λ ps. IsOpenFunnel corners [] ps 1 l r) (λ t. sym left_is t ∷ sym source_is t ∷ sym right_is t ∷ [])
+        (start_between corners tris fits home l r third.0 shared.in_list shared.has third.1 third.2 (home, next, inr shared) start
+        in_start not_left not_right))
+        source_is refl (more_numbers (length corners) l (n ∷ r ∷ []) (omega (arith, ends.1)) to_right) (omega arith)
+
+    -- at the left one,
+    pub first_at_left : start ≡ vertex corners l → IsFunnelAt corners start l r 1 (record { list = n ∷ r ∷ []; apex = 0 })
+    first_at_left same = first_of (n ∷ r ∷ []) 0
+        (subst (λ ps. IsOpenFunnel corners [] ps 0 l r) (λ t. sym source_is t ∷ sym right_is t ∷ [])
+        (start_at_left corners tris fits home l r third.0 shared.in_list shared.has third.1 third.2 (home, next, inr shared) start
+        in_start same))
+        source_is refl to_right (omega arith)
+
+    -- and at the right one
+    pub first_at_right : start ≡ vertex corners r → IsFunnelAt corners start l r 1 (record { list = l ∷ n ∷ []; apex = 1 })
+    first_at_right same = first_of (l ∷ n ∷ []) 1
+        (subst (λ ps. IsOpenFunnel corners [] ps 1 l r) (λ t. sym left_is t ∷ sym source_is t ∷ [])
+        (start_at_right corners tris fits home l r third.0 shared.in_list shared.has third.1 third.2 (home, next, inr shared) start
+        in_start same))
+        source_is refl
+        (more_numbers (length corners) l (n ∷ []) (omega (arith, ends.1)) (one_number (length corners) n (omega (arith, count))))
+        (omega arith)
