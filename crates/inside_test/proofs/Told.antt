@@ -9,7 +9,7 @@ use Rattle.plane.specs.Point.{IsPoint, Point, Triple}
 use Rattle.rings.specs.Ring.{vertex}
 use Rattle.ring_check.specs.Boxes.{EnclosesEdge}
 use Rattle.inside_test.proofs.Blocks.{IsPassed, is_between_ends, passed_above, passed_below, passed_left, passed_right}
-use Rattle.inside_test.proofs.Odd.{over_both, over_more, over_none}
+use Rattle.inside_test.proofs.Odd.{differ_assoc, over_both, over_more, over_none}
 use Rattle.inside_test.specs.Block.{IsBoxMissed}
 use Rattle.inside_test.specs.Bundle.{CrossesAll, IsBundleOf, IsBundleOfBoth, IsTold, IsWider}
 use Rattle.inside_test.specs.Odd.{IsOddOver}
@@ -262,3 +262,166 @@ module _ (ring : List Point) (run : Run) (e : ℕ) (within : e < length ring) (f
   run_southward is east north west = run_of_bundle run.southward is (λ h. inr (inr (inr h))) (λ p odd t.
       subst (IsTold run.southward p) (sym (t.all ∙ alone_last t.east t.north t.west t.south
       (even_told run.eastward p t.east east t.eastward) (even_told run.northward p t.north north t.northward) (even_told run.westward p t.west west t.westward))) t.southward)
+
+-- ---- a run and one edge more
+
+-- two flags, one after the other
+swap_last : (a b c : Bool) → differ (differ a c) b ≡ differ (differ a b) c
+swap_last true true true = refl
+swap_last true true false = refl
+swap_last true false true = refl
+swap_last true false false = refl
+swap_last false true true = refl
+swap_last false true false = refl
+swap_last false false true = refl
+swap_last false false false = refl
+
+-- four flags and one more, beside each of them
+with_first : (a b c d e : Bool) → differ_all (differ a e) b c d ≡ differ (differ_all a b c d) e
+with_first a b c d e = ap (λ x. differ x (differ c d)) (swap_last a b e) ∙ swap_last (differ a b) (differ c d) e
+
+with_second : (a b c d e : Bool) → differ_all a (differ b e) c d ≡ differ (differ_all a b c d) e
+with_second a b c d e = ap (λ x. differ x (differ c d)) (sym (differ_assoc a b e)) ∙ swap_last (differ a b) (differ c d) e
+
+with_third : (a b c d e : Bool) → differ_all a b (differ c e) d ≡ differ (differ_all a b c d) e
+with_third a b c d e = ap (λ x. differ (differ a b) x) (swap_last c d e) ∙ sym (differ_assoc (differ a b) (differ c d) e)
+
+with_last : (a b c d e : Bool) → differ_all a b c (differ d e) ≡ differ (differ_all a b c d) e
+with_last a b c d e = ap (λ x. differ (differ a b) x) (sym (differ_assoc c d e)) ∙ sym (differ_assoc (differ a b) (differ c d) e)
+
+-- what the bundles of a run tell, and that of the edge
+record AreToldWith (a : Run) (b : Bundle) (p : Triple) (odd : Bool) : Type 0 where
+  others : Bool
+  edge : Bool
+  others_told : AllTell a p others
+  told : IsTold b p edge
+  both : odd ≡ differ others edge
+
+-- a bundle is in one that has more
+wider_same : (a : Bundle) → IsWider a a
+wider_same a = record { box = λ v within. within; low = omega (arith, ints); high = omega (arith, ints) }
+
+module _ (ring : List Point) (a c : Run) (e : ℕ) (b : Bundle) (in_a : IsRunOf ring a) (next : e ≡ a.end) (within : e < length ring)
+    (first : c.first ≡ a.first) (end : c.end ≡ e + 1) (is : IsBundleOf b (vertex ring e) (vertex ring (e + 1))) where
+  -- a run and the next edge make a run
+  run_with_bundle : ((k : ℕ) → IsBoxed ring a k → IsBoxed ring c k) → (EnclosesEdge ring b.around e → IsBoxed ring c e)
+      → ((p : Triple) (odd : Bool) → AllTell c p odd → AreToldWith a b p odd) → IsRunOf ring c
+  run_with_bundle wider boxed told = record {
+    some = omega (arith, in_a.some, next, first, end);
+    within = omega (arith, within, end);
+    boxed = λ k from below. elim (cases_lt k a.end) [
+      | inl earlier ↦ wider k (in_a.boxed k (omega (arith, from, first)) earlier)
+      | inr later ↦ subst (IsBoxed ring c) (omega (arith, later, next, below, end))
+          (boxed (record { from_bounds = is.first_bounds; to_bounds = is.last_bounds; from = is.first; to = is.last }))
+    ];
+    told = λ p odd at_p all.
+        let t = told p odd all in
+        let passed = edge_told b (vertex ring e) (vertex ring (e + 1)) is p at_p t.edge t.told in
+        let before = subst (λ k. IsOddOver ring a.first k p t.others) (sym next) (in_a.told p t.others at_p t.others_told) in
+        rw (first, end) (over_more ring p a.first e t.others t.edge odd within before passed.off passed.is t.both);
+  }
+
+  -- so it is with each of the four bundles
+  pub with_eastward : IsBundleOfBoth a.eastward b c.eastward → c.northward ≡ a.northward → c.westward ≡ a.westward → c.southward ≡ a.southward
+      → IsRunOf ring c
+  with_eastward both north west south = run_with_bundle
+      (λ k. boxed_wider ring a c k both.first (subst (IsWider a.northward) (sym north) (wider_same a.northward))
+      (subst (IsWider a.westward) (sym west) (wider_same a.westward)) (subst (IsWider a.southward) (sym south) (wider_same a.southward)))
+      (λ h. inl (edge_wider ring e b c.eastward both.second h))
+      (λ p odd t.
+      let x = both_told a.eastward b c.eastward both p t.east t.eastward in
+      record {
+        others = differ_all x.first t.north t.west t.south;
+        edge = x.second;
+        others_told = record {
+          east = x.first;
+          north = t.north;
+          west = t.west;
+          south = t.south;
+          eastward = x.first_told;
+          northward = subst (λ d. IsTold d p t.north) north t.northward;
+          westward = subst (λ d. IsTold d p t.west) west t.westward;
+          southward = subst (λ d. IsTold d p t.south) south t.southward;
+          all = refl;
+        };
+        told = x.second_told;
+        both = t.all ∙ ap (λ z. differ_all z t.north t.west t.south) x.both ∙ with_first x.first t.north t.west t.south x.second;
+      })
+
+  pub with_northward : IsBundleOfBoth a.northward b c.northward → c.eastward ≡ a.eastward → c.westward ≡ a.westward → c.southward ≡ a.southward
+      → IsRunOf ring c
+  with_northward both east west south = run_with_bundle
+      (λ k. boxed_wider ring a c k (subst (IsWider a.eastward) (sym east) (wider_same a.eastward)) both.first
+      (subst (IsWider a.westward) (sym west) (wider_same a.westward)) (subst (IsWider a.southward) (sym south) (wider_same a.southward)))
+      (λ h. inr (inl (edge_wider ring e b c.northward both.second h)))
+      (λ p odd t.
+      let x = both_told a.northward b c.northward both p t.north t.northward in
+      record {
+        others = differ_all t.east x.first t.west t.south;
+        edge = x.second;
+        others_told = record {
+          east = t.east;
+          north = x.first;
+          west = t.west;
+          south = t.south;
+          eastward = subst (λ d. IsTold d p t.east) east t.eastward;
+          northward = x.first_told;
+          westward = subst (λ d. IsTold d p t.west) west t.westward;
+          southward = subst (λ d. IsTold d p t.south) south t.southward;
+          all = refl;
+        };
+        told = x.second_told;
+        both = t.all ∙ ap (λ z. differ_all t.east z t.west t.south) x.both ∙ with_second t.east x.first t.west t.south x.second;
+      })
+
+  pub with_westward : IsBundleOfBoth a.westward b c.westward → c.eastward ≡ a.eastward → c.northward ≡ a.northward → c.southward ≡ a.southward
+      → IsRunOf ring c
+  with_westward both east north south = run_with_bundle
+      (λ k. boxed_wider ring a c k (subst (IsWider a.eastward) (sym east) (wider_same a.eastward))
+      (subst (IsWider a.northward) (sym north) (wider_same a.northward)) both.first (subst (IsWider a.southward) (sym south) (wider_same a.southward)))
+      (λ h. inr (inr (inl (edge_wider ring e b c.westward both.second h))))
+      (λ p odd t.
+      let x = both_told a.westward b c.westward both p t.west t.westward in
+      record {
+        others = differ_all t.east t.north x.first t.south;
+        edge = x.second;
+        others_told = record {
+          east = t.east;
+          north = t.north;
+          west = x.first;
+          south = t.south;
+          eastward = subst (λ d. IsTold d p t.east) east t.eastward;
+          northward = subst (λ d. IsTold d p t.north) north t.northward;
+          westward = x.first_told;
+          southward = subst (λ d. IsTold d p t.south) south t.southward;
+          all = refl;
+        };
+        told = x.second_told;
+        both = t.all ∙ ap (λ z. differ_all t.east t.north z t.south) x.both ∙ with_third t.east t.north x.first t.south x.second;
+      })
+
+  pub with_southward : IsBundleOfBoth a.southward b c.southward → c.eastward ≡ a.eastward → c.northward ≡ a.northward → c.westward ≡ a.westward
+      → IsRunOf ring c
+  with_southward both east north west = run_with_bundle
+      (λ k. boxed_wider ring a c k (subst (IsWider a.eastward) (sym east) (wider_same a.eastward))
+      (subst (IsWider a.northward) (sym north) (wider_same a.northward)) (subst (IsWider a.westward) (sym west) (wider_same a.westward)) both.first)
+      (λ h. inr (inr (inr (edge_wider ring e b c.southward both.second h))))
+      (λ p odd t.
+      let x = both_told a.southward b c.southward both p t.south t.southward in
+      record {
+        others = differ_all t.east t.north t.west x.first;
+        edge = x.second;
+        others_told = record {
+          east = t.east;
+          north = t.north;
+          west = t.west;
+          south = x.first;
+          eastward = subst (λ d. IsTold d p t.east) east t.eastward;
+          northward = subst (λ d. IsTold d p t.north) north t.northward;
+          westward = subst (λ d. IsTold d p t.west) west t.westward;
+          southward = x.first_told;
+          all = refl;
+        };
+        told = x.second_told;
+        both = t.all ∙ ap (λ z. differ_all t.east t.north t.west z) x.both ∙ with_last t.east t.north t.west x.first x.second;
+      })

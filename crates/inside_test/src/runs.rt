@@ -41,6 +41,7 @@ impl Run {
     fn of_edge<L: Ledger>(ring: &Ring, e: u32, steps: &mut Steps<L>) -> Run
         requires { e < length ring.now.corners }
         ensures run { IsRunOf ring.now.corners result }
+        ensures end { result.end ≡ e + 1 }
         ensures steps { steps.new ≡ steps.old + 384 }
     {
         let _length = ring.len();
@@ -74,6 +75,42 @@ impl Run {
         }
     }
 
+    // Its edges and edge `e`, the next.
+    fn with_edge<L: Ledger>(&self, ring: &Ring, e: u32, steps: &mut Steps<L>) -> Run
+        requires run { IsRunOf ring.now.corners self.now }
+        requires next { e ≡ self.now.end }
+        requires edge { e < length ring.now.corners }
+        ensures run { IsRunOf ring.now.corners result }
+        ensures end { result.end ≡ e + 1 }
+        ensures steps { steps.new ≡ steps.old + 384 }
+    {
+        let _length = ring.len();
+        let (a, b) = (ring.corner(e), ring.next(e));
+        let edge = Bundle::of(&a, &b, steps);
+        let run = Run {
+            end: e + 1,
+            ..*self
+        };
+        match way_of(&a, &b, steps) {
+            Way::East => Run {
+                eastward: run.eastward.joined(&edge),
+                ..run
+            },
+            Way::North => Run {
+                northward: run.northward.joined(&edge),
+                ..run
+            },
+            Way::West => Run {
+                westward: run.westward.joined(&edge),
+                ..run
+            },
+            Way::South => Run {
+                southward: run.southward.joined(&edge),
+                ..run
+            },
+        }
+    }
+
     // The edges from `first` to before `end`.
     fn over<L: Ledger>(ring: &Ring, first: u32, end: u32, steps: &mut Steps<L>) -> Run
         requires some { first < end }
@@ -83,7 +120,7 @@ impl Run {
     {
         let mut run = Run::of_edge(ring, first, steps);
         for e in first + 1..end {
-            run = run.joined(&Run::of_edge(ring, e, steps));
+            run = run.with_edge(ring, e, steps);
         }
         run
     }
