@@ -1,5 +1,5 @@
 -- What bundles of edges tell of a point: an edge that passes its height, right of it, is crossed, and so many are of two bundles together.
-use Rattle.std.proofs.Common.{◌≡◌, inl, inr, refl, sym, ap, subst, ◌∙◌, ℕ, ◌+◌, ◌<◌, ℤ, ◌*ℤ◌, ◌<ℤ◌, Bool, true, false, List, length, arith}
+use Rattle.std.proofs.Common.{◌≤◌, ◌≡◌, inl, inr, refl, sym, ap, subst, ◌∙◌, ℕ, ◌+◌, ◌<◌, ℤ, ◌*ℤ◌, ◌<ℤ◌, Bool, true, false, List, length, arith}
 use Rattle.std.proofs.lemmas.Bool.{cases_lt}
 use Rattle.std.proofs.lemmas.Int.{ints}
 use Rattle.std.specs.Bool.{beq}
@@ -194,7 +194,6 @@ module _ (ring : List Point) (a b c : Run) (in_a : IsRunOf ring a) (in_b : IsRun
   -- so two runs make one
   pub run_of_both : IsRunOf ring c
   run_of_both = record {
-    some = omega (arith, in_a.some, in_b.some, next, first, end);
     within = omega (arith, in_b.within, end);
     boxed = λ e from below. elim (cases_lt e a.end) [
       | inl earlier ↦ boxed_wider ring a c e east.first north.first west.first south.first (in_a.boxed e (omega (arith, from, first)) earlier)
@@ -203,65 +202,25 @@ module _ (ring : List Point) (a b c : Run) (in_a : IsRunOf ring a) (in_b : IsRun
     told = told_of_both;
   }
 
--- one flag, where the others are not set
-alone_first : (a b c d : Bool) → b ≡ false → c ≡ false → d ≡ false → differ_all a b c d ≡ a
-alone_first true b c d h k l = rw (h, k, l) refl
-alone_first false b c d h k l = rw (h, k, l) refl
+module _ (ring : List Point) (run : Run) (within : run.first ≤ length ring) (end : run.end ≡ run.first) where
+  -- four even bundles tell that no edge is crossed
+  none_told : run.eastward.is_odd ≡ false → run.northward.is_odd ≡ false → run.westward.is_odd ≡ false → run.southward.is_odd ≡ false
+      → (p : Triple) (odd : Bool) → AllTell run p odd → odd ≡ false
+  none_told east north west south p odd t =
+      t.all ∙ ap (λ x. differ_all x t.north t.west t.south) (even_told run.eastward p t.east east t.eastward)
+      ∙ ap (λ x. differ_all false x t.west t.south) (even_told run.northward p t.north north t.northward)
+      ∙ ap (λ x. differ_all false false x t.south) (even_told run.westward p t.west west t.westward)
+      ∙ ap (λ x. differ_all false false false x) (even_told run.southward p t.south south t.southward)
 
-alone_second : (a b c d : Bool) → a ≡ false → c ≡ false → d ≡ false → differ_all a b c d ≡ b
-alone_second a true c d h k l = rw (h, k, l) refl
-alone_second a false c d h k l = rw (h, k, l) refl
-
-alone_third : (a b c d : Bool) → a ≡ false → b ≡ false → d ≡ false → differ_all a b c d ≡ c
-alone_third a b true d h k l = rw (h, k, l) refl
-alone_third a b false d h k l = rw (h, k, l) refl
-
-alone_last : (a b c d : Bool) → a ≡ false → b ≡ false → c ≡ false → differ_all a b c d ≡ d
-alone_last a b c true h k l = rw (h, k, l) refl
-alone_last a b c false h k l = rw (h, k, l) refl
-
-not_unset : (odd : Bool) → not (beq false odd) ≡ odd
-not_unset true = refl
-not_unset false = refl
-
-module _ (ring : List Point) (run : Run) (e : ℕ) (within : e < length ring) (first : run.first ≡ e) (end : run.end ≡ e + 1) where
-  -- a run of one edge, which a bundle has that tells all
-  run_of_bundle : (b : Bundle) → IsBundleOf b (vertex ring e) (vertex ring (e + 1)) → (EnclosesEdge ring b.around e → IsBoxed ring run e)
-      → ((p : Triple) (odd : Bool) → AllTell run p odd → IsTold b p odd) → IsRunOf ring run
-  run_of_bundle b is boxed told = record {
-    some = omega (arith, first, end);
+  -- so with them a run has no edge
+  pub run_of_none : run.eastward.is_odd ≡ false → run.northward.is_odd ≡ false → run.westward.is_odd ≡ false → run.southward.is_odd ≡ false
+      → IsRunOf ring run
+  run_of_none east north west south = record {
     within = omega (arith, within, end);
-    boxed = λ k from below. subst (IsBoxed ring run) (omega (arith, first, end, from, below))
-        (boxed (record { from_bounds = is.first_bounds; to_bounds = is.last_bounds; from = is.first; to = is.last }));
-    told = λ p odd at_p all.
-        let passed = edge_told b (vertex ring e) (vertex ring (e + 1)) is p at_p odd (told p odd all) in
-        rw (first, end) (over_more ring p e e false odd odd within (over_none ring p e) passed.off passed.is (sym (not_unset odd)));
+    boxed = λ e from below. absurd (omega (arith, from, below, end));
+    told = λ p odd at_p t.
+        rw end (subst (IsOddOver ring run.first run.first p) (sym (none_told east north west south p odd t)) (over_none ring p run.first));
   }
-
-  -- so it is with each of the four bundles
-  pub run_eastward : IsBundleOf run.eastward (vertex ring e) (vertex ring (e + 1))
-      → run.northward.is_odd ≡ false → run.westward.is_odd ≡ false → run.southward.is_odd ≡ false → IsRunOf ring run
-  run_eastward is north west south = run_of_bundle run.eastward is (λ h. inl h) (λ p odd t.
-      subst (IsTold run.eastward p) (sym (t.all ∙ alone_first t.east t.north t.west t.south
-      (even_told run.northward p t.north north t.northward) (even_told run.westward p t.west west t.westward) (even_told run.southward p t.south south t.southward))) t.eastward)
-
-  pub run_northward : IsBundleOf run.northward (vertex ring e) (vertex ring (e + 1))
-      → run.eastward.is_odd ≡ false → run.westward.is_odd ≡ false → run.southward.is_odd ≡ false → IsRunOf ring run
-  run_northward is east west south = run_of_bundle run.northward is (λ h. inr (inl h)) (λ p odd t.
-      subst (IsTold run.northward p) (sym (t.all ∙ alone_second t.east t.north t.west t.south
-      (even_told run.eastward p t.east east t.eastward) (even_told run.westward p t.west west t.westward) (even_told run.southward p t.south south t.southward))) t.northward)
-
-  pub run_westward : IsBundleOf run.westward (vertex ring e) (vertex ring (e + 1))
-      → run.eastward.is_odd ≡ false → run.northward.is_odd ≡ false → run.southward.is_odd ≡ false → IsRunOf ring run
-  run_westward is east north south = run_of_bundle run.westward is (λ h. inr (inr (inl h))) (λ p odd t.
-      subst (IsTold run.westward p) (sym (t.all ∙ alone_third t.east t.north t.west t.south
-      (even_told run.eastward p t.east east t.eastward) (even_told run.northward p t.north north t.northward) (even_told run.southward p t.south south t.southward))) t.westward)
-
-  pub run_southward : IsBundleOf run.southward (vertex ring e) (vertex ring (e + 1))
-      → run.eastward.is_odd ≡ false → run.northward.is_odd ≡ false → run.westward.is_odd ≡ false → IsRunOf ring run
-  run_southward is east north west = run_of_bundle run.southward is (λ h. inr (inr (inr h))) (λ p odd t.
-      subst (IsTold run.southward p) (sym (t.all ∙ alone_last t.east t.north t.west t.south
-      (even_told run.eastward p t.east east t.eastward) (even_told run.northward p t.north north t.northward) (even_told run.westward p t.west west t.westward))) t.southward)
 
 -- ---- a run and one edge more
 
@@ -307,7 +266,6 @@ module _ (ring : List Point) (a c : Run) (e : ℕ) (b : Bundle) (in_a : IsRunOf 
   run_with_bundle : ((k : ℕ) → IsBoxed ring a k → IsBoxed ring c k) → (EnclosesEdge ring b.around e → IsBoxed ring c e)
       → ((p : Triple) (odd : Bool) → AllTell c p odd → AreToldWith a b p odd) → IsRunOf ring c
   run_with_bundle wider boxed told = record {
-    some = omega (arith, in_a.some, next, first, end);
     within = omega (arith, within, end);
     boxed = λ k from below. elim (cases_lt k a.end) [
       | inl earlier ↦ wider k (in_a.boxed k (omega (arith, from, first)) earlier)

@@ -37,41 +37,18 @@ enum Way {
 }
 
 impl Run {
-    // Edge `e`.
-    fn of_edge<L: Ledger>(ring: &Ring, e: u32, steps: &mut Steps<L>) -> Run
-        requires { e < length ring.now.corners }
-        ensures run { IsRunOf ring.now.corners result }
-        ensures end { result.end ≡ e + 1 }
-        ensures steps { steps.new ≡ steps.old + 384 }
+    // No edge, before edge `first`.
+    fn none(first: u32) -> Run
+        ensures run { (ring : List Point) → first ≤ length ring → IsRunOf ring result }
+        ensures end { result.end ≡ first }
     {
-        let _length = ring.len();
-        let (a, b) = (ring.corner(e), ring.next(e));
-        let edge = Bundle::of(&a, &b, steps);
-        let none = Run {
-            first: e,
-            end: e + 1,
+        Run {
+            first,
+            end: first,
             eastward: Bundle::empty(),
             northward: Bundle::empty(),
             westward: Bundle::empty(),
             southward: Bundle::empty(),
-        };
-        match way_of(&a, &b, steps) {
-            Way::East => Run {
-                eastward: edge,
-                ..none
-            },
-            Way::North => Run {
-                northward: edge,
-                ..none
-            },
-            Way::West => Run {
-                westward: edge,
-                ..none
-            },
-            Way::South => Run {
-                southward: edge,
-                ..none
-            },
         }
     }
 
@@ -113,13 +90,13 @@ impl Run {
 
     // The edges from `first` to before `end`.
     fn over<L: Ledger>(ring: &Ring, first: u32, end: u32, steps: &mut Steps<L>) -> Run
-        requires some { first < end }
+        requires some { first ≤ end }
         requires within { end ≤ length ring.now.corners }
         ensures run { IsRunOf ring.now.corners result }
         ensures steps { steps.new ≤ steps.old + 384 * (end - first) }
     {
-        let mut run = Run::of_edge(ring, first, steps);
-        for e in first + 1..end {
+        let mut run = Run::none(first);
+        for e in first..end {
             run = run.with_edge(ring, e, steps);
         }
         run
