@@ -30,7 +30,7 @@ not_other true = refl
 not_other false = refl
 
 -- and with two, one after the other
-differ_assoc : (a b c : Bool) → not (beq (not (beq a b)) c) ≡ not (beq a (not (beq b c)))
+pub differ_assoc : (a b c : Bool) → not (beq (not (beq a b)) c) ≡ not (beq a (not (beq b c)))
 differ_assoc true true true = refl
 differ_assoc true true false = refl
 differ_assoc true false true = refl

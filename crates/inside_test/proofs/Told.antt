@@ -1,5 +1,5 @@
 -- What bundles of edges tell of a point: an edge that passes its height, right of it, is crossed, and so many are of two bundles together.
-use Rattle.std.proofs.Common.{◌≡◌, inl, inr, refl, sym, ap, subst, ◌∙◌, ℕ, ◌+◌, ◌<◌, ℤ, ◌*ℤ◌, ◌<ℤ◌, Bool, true, false, List, length, arith}
+use Rattle.std.proofs.Common.{◌≤◌, ◌≡◌, inl, inr, refl, sym, ap, subst, ◌∙◌, ℕ, ◌+◌, ◌<◌, ℤ, ◌*ℤ◌, ◌<ℤ◌, Bool, true, false, List, length, arith}
 use Rattle.std.proofs.lemmas.Bool.{cases_lt}
 use Rattle.std.proofs.lemmas.Int.{ints}
 use Rattle.std.specs.Bool.{beq}
@@ -9,7 +9,7 @@ use Rattle.plane.specs.Point.{IsPoint, Point, Triple}
 use Rattle.rings.specs.Ring.{vertex}
 use Rattle.ring_check.specs.Boxes.{EnclosesEdge}
 use Rattle.inside_test.proofs.Blocks.{IsPassed, is_between_ends, passed_above, passed_below, passed_left, passed_right}
-use Rattle.inside_test.proofs.Odd.{over_both, over_more, over_none}
+use Rattle.inside_test.proofs.Odd.{differ_assoc, over_both, over_more, over_none}
 use Rattle.inside_test.specs.Block.{IsBoxMissed}
 use Rattle.inside_test.specs.Bundle.{CrossesAll, IsBundleOf, IsBundleOfBoth, IsTold, IsWider}
 use Rattle.inside_test.specs.Odd.{IsOddOver}
@@ -194,7 +194,6 @@ module _ (ring : List Point) (a b c : Run) (in_a : IsRunOf ring a) (in_b : IsRun
   -- so two runs make one
   pub run_of_both : IsRunOf ring c
   run_of_both = record {
-    some = omega (arith, in_a.some, in_b.some, next, first, end);
     within = omega (arith, in_b.within, end);
     boxed = λ e from below. elim (cases_lt e a.end) [
       | inl earlier ↦ boxed_wider ring a c e east.first north.first west.first south.first (in_a.boxed e (omega (arith, from, first)) earlier)
@@ -203,62 +202,184 @@ module _ (ring : List Point) (a b c : Run) (in_a : IsRunOf ring a) (in_b : IsRun
     told = told_of_both;
   }
 
--- one flag, where the others are not set
-alone_first : (a b c d : Bool) → b ≡ false → c ≡ false → d ≡ false → differ_all a b c d ≡ a
-alone_first true b c d h k l = rw (h, k, l) refl
-alone_first false b c d h k l = rw (h, k, l) refl
+module _ (ring : List Point) (run : Run) (within : run.first ≤ length ring) (end : run.end ≡ run.first) where
+  -- four even bundles tell that no edge is crossed
+  none_told : run.eastward.is_odd ≡ false → run.northward.is_odd ≡ false → run.westward.is_odd ≡ false → run.southward.is_odd ≡ false
+      → (p : Triple) (odd : Bool) → AllTell run p odd → odd ≡ false
+  none_told east north west south p odd t =
+      t.all ∙ ap (λ x. differ_all x t.north t.west t.south) (even_told run.eastward p t.east east t.eastward)
+      ∙ ap (λ x. differ_all false x t.west t.south) (even_told run.northward p t.north north t.northward)
+      ∙ ap (λ x. differ_all false false x t.south) (even_told run.westward p t.west west t.westward)
+      ∙ ap (λ x. differ_all false false false x) (even_told run.southward p t.south south t.southward)
 
-alone_second : (a b c d : Bool) → a ≡ false → c ≡ false → d ≡ false → differ_all a b c d ≡ b
-alone_second a true c d h k l = rw (h, k, l) refl
-alone_second a false c d h k l = rw (h, k, l) refl
-
-alone_third : (a b c d : Bool) → a ≡ false → b ≡ false → d ≡ false → differ_all a b c d ≡ c
-alone_third a b true d h k l = rw (h, k, l) refl
-alone_third a b false d h k l = rw (h, k, l) refl
-
-alone_last : (a b c d : Bool) → a ≡ false → b ≡ false → c ≡ false → differ_all a b c d ≡ d
-alone_last a b c true h k l = rw (h, k, l) refl
-alone_last a b c false h k l = rw (h, k, l) refl
-
-not_unset : (odd : Bool) → not (beq false odd) ≡ odd
-not_unset true = refl
-not_unset false = refl
-
-module _ (ring : List Point) (run : Run) (e : ℕ) (within : e < length ring) (first : run.first ≡ e) (end : run.end ≡ e + 1) where
-  -- a run of one edge, which a bundle has that tells all
-  run_of_bundle : (b : Bundle) → IsBundleOf b (vertex ring e) (vertex ring (e + 1)) → (EnclosesEdge ring b.around e → IsBoxed ring run e)
-      → ((p : Triple) (odd : Bool) → AllTell run p odd → IsTold b p odd) → IsRunOf ring run
-  run_of_bundle b is boxed told = record {
-    some = omega (arith, first, end);
+  -- so with them a run has no edge
+  pub run_of_none : run.eastward.is_odd ≡ false → run.northward.is_odd ≡ false → run.westward.is_odd ≡ false → run.southward.is_odd ≡ false
+      → IsRunOf ring run
+  run_of_none east north west south = record {
     within = omega (arith, within, end);
-    boxed = λ k from below. subst (IsBoxed ring run) (omega (arith, first, end, from, below))
-        (boxed (record { from_bounds = is.first_bounds; to_bounds = is.last_bounds; from = is.first; to = is.last }));
+    boxed = λ e from below. absurd (omega (arith, from, below, end));
+    told = λ p odd at_p t.
+        rw end (subst (IsOddOver ring run.first run.first p) (sym (none_told east north west south p odd t)) (over_none ring p run.first));
+  }
+
+-- ---- a run and one edge more
+
+-- two flags, one after the other
+swap_last : (a b c : Bool) → differ (differ a c) b ≡ differ (differ a b) c
+swap_last true true true = refl
+swap_last true true false = refl
+swap_last true false true = refl
+swap_last true false false = refl
+swap_last false true true = refl
+swap_last false true false = refl
+swap_last false false true = refl
+swap_last false false false = refl
+
+-- four flags and one more, beside each of them
+with_first : (a b c d e : Bool) → differ_all (differ a e) b c d ≡ differ (differ_all a b c d) e
+with_first a b c d e = ap (λ x. differ x (differ c d)) (swap_last a b e) ∙ swap_last (differ a b) (differ c d) e
+
+with_second : (a b c d e : Bool) → differ_all a (differ b e) c d ≡ differ (differ_all a b c d) e
+with_second a b c d e = ap (λ x. differ x (differ c d)) (sym (differ_assoc a b e)) ∙ swap_last (differ a b) (differ c d) e
+
+with_third : (a b c d e : Bool) → differ_all a b (differ c e) d ≡ differ (differ_all a b c d) e
+with_third a b c d e = ap (λ x. differ (differ a b) x) (swap_last c d e) ∙ sym (differ_assoc (differ a b) (differ c d) e)
+
+with_last : (a b c d e : Bool) → differ_all a b c (differ d e) ≡ differ (differ_all a b c d) e
+with_last a b c d e = ap (λ x. differ (differ a b) x) (sym (differ_assoc c d e)) ∙ sym (differ_assoc (differ a b) (differ c d) e)
+
+-- what the bundles of a run tell, and that of the edge
+record AreToldWith (a : Run) (b : Bundle) (p : Triple) (odd : Bool) : Type 0 where
+  others : Bool
+  edge : Bool
+  others_told : AllTell a p others
+  told : IsTold b p edge
+  both : odd ≡ differ others edge
+
+-- a bundle is in one that has more
+wider_same : (a : Bundle) → IsWider a a
+wider_same a = record { box = λ v within. within; low = omega (arith, ints); high = omega (arith, ints) }
+
+module _ (ring : List Point) (a c : Run) (e : ℕ) (b : Bundle) (in_a : IsRunOf ring a) (next : e ≡ a.end) (within : e < length ring)
+    (first : c.first ≡ a.first) (end : c.end ≡ e + 1) (is : IsBundleOf b (vertex ring e) (vertex ring (e + 1))) where
+  -- a run and the next edge make a run
+  run_with_bundle : ((k : ℕ) → IsBoxed ring a k → IsBoxed ring c k) → (EnclosesEdge ring b.around e → IsBoxed ring c e)
+      → ((p : Triple) (odd : Bool) → AllTell c p odd → AreToldWith a b p odd) → IsRunOf ring c
+  run_with_bundle wider boxed told = record {
+    within = omega (arith, within, end);
+    boxed = λ k from below. elim (cases_lt k a.end) [
+      | inl earlier ↦ wider k (in_a.boxed k (omega (arith, from, first)) earlier)
+      | inr later ↦ subst (IsBoxed ring c) (omega (arith, later, next, below, end))
+          (boxed (record { from_bounds = is.first_bounds; to_bounds = is.last_bounds; from = is.first; to = is.last }))
+    ];
     told = λ p odd at_p all.
-        let passed = edge_told b (vertex ring e) (vertex ring (e + 1)) is p at_p odd (told p odd all) in
-        rw (first, end) (over_more ring p e e false odd odd within (over_none ring p e) passed.off passed.is (sym (not_unset odd)));
+        let t = told p odd all in
+        let passed = edge_told b (vertex ring e) (vertex ring (e + 1)) is p at_p t.edge t.told in
+        let before = subst (λ k. IsOddOver ring a.first k p t.others) (sym next) (in_a.told p t.others at_p t.others_told) in
+        rw (first, end) (over_more ring p a.first e t.others t.edge odd within before passed.off passed.is t.both);
   }
 
   -- so it is with each of the four bundles
-  pub run_eastward : IsBundleOf run.eastward (vertex ring e) (vertex ring (e + 1))
-      → run.northward.is_odd ≡ false → run.westward.is_odd ≡ false → run.southward.is_odd ≡ false → IsRunOf ring run
-  run_eastward is north west south = run_of_bundle run.eastward is (λ h. inl h) (λ p odd t.
-      subst (IsTold run.eastward p) (sym (t.all ∙ alone_first t.east t.north t.west t.south
-      (even_told run.northward p t.north north t.northward) (even_told run.westward p t.west west t.westward) (even_told run.southward p t.south south t.southward))) t.eastward)
+  pub with_eastward : IsBundleOfBoth a.eastward b c.eastward → c.northward ≡ a.northward → c.westward ≡ a.westward → c.southward ≡ a.southward
+      → IsRunOf ring c
+  with_eastward both north west south = run_with_bundle
+      (λ k. boxed_wider ring a c k both.first (subst (IsWider a.northward) (sym north) (wider_same a.northward))
+      (subst (IsWider a.westward) (sym west) (wider_same a.westward)) (subst (IsWider a.southward) (sym south) (wider_same a.southward)))
+      (λ h. inl (edge_wider ring e b c.eastward both.second h))
+      (λ p odd t.
+      let x = both_told a.eastward b c.eastward both p t.east t.eastward in
+      record {
+        others = differ_all x.first t.north t.west t.south;
+        edge = x.second;
+        others_told = record {
+          east = x.first;
+          north = t.north;
+          west = t.west;
+          south = t.south;
+          eastward = x.first_told;
+          northward = subst (λ d. IsTold d p t.north) north t.northward;
+          westward = subst (λ d. IsTold d p t.west) west t.westward;
+          southward = subst (λ d. IsTold d p t.south) south t.southward;
+          all = refl;
+        };
+        told = x.second_told;
+        both = t.all ∙ ap (λ z. differ_all z t.north t.west t.south) x.both ∙ with_first x.first t.north t.west t.south x.second;
+      })
 
-  pub run_northward : IsBundleOf run.northward (vertex ring e) (vertex ring (e + 1))
-      → run.eastward.is_odd ≡ false → run.westward.is_odd ≡ false → run.southward.is_odd ≡ false → IsRunOf ring run
-  run_northward is east west south = run_of_bundle run.northward is (λ h. inr (inl h)) (λ p odd t.
-      subst (IsTold run.northward p) (sym (t.all ∙ alone_second t.east t.north t.west t.south
-      (even_told run.eastward p t.east east t.eastward) (even_told run.westward p t.west west t.westward) (even_told run.southward p t.south south t.southward))) t.northward)
+  pub with_northward : IsBundleOfBoth a.northward b c.northward → c.eastward ≡ a.eastward → c.westward ≡ a.westward → c.southward ≡ a.southward
+      → IsRunOf ring c
+  with_northward both east west south = run_with_bundle
+      (λ k. boxed_wider ring a c k (subst (IsWider a.eastward) (sym east) (wider_same a.eastward)) both.first
+      (subst (IsWider a.westward) (sym west) (wider_same a.westward)) (subst (IsWider a.southward) (sym south) (wider_same a.southward)))
+      (λ h. inr (inl (edge_wider ring e b c.northward both.second h)))
+      (λ p odd t.
+      let x = both_told a.northward b c.northward both p t.north t.northward in
+      record {
+        others = differ_all t.east x.first t.west t.south;
+        edge = x.second;
+        others_told = record {
+          east = t.east;
+          north = x.first;
+          west = t.west;
+          south = t.south;
+          eastward = subst (λ d. IsTold d p t.east) east t.eastward;
+          northward = x.first_told;
+          westward = subst (λ d. IsTold d p t.west) west t.westward;
+          southward = subst (λ d. IsTold d p t.south) south t.southward;
+          all = refl;
+        };
+        told = x.second_told;
+        both = t.all ∙ ap (λ z. differ_all t.east z t.west t.south) x.both ∙ with_second t.east x.first t.west t.south x.second;
+      })
 
-  pub run_westward : IsBundleOf run.westward (vertex ring e) (vertex ring (e + 1))
-      → run.eastward.is_odd ≡ false → run.northward.is_odd ≡ false → run.southward.is_odd ≡ false → IsRunOf ring run
-  run_westward is east north south = run_of_bundle run.westward is (λ h. inr (inr (inl h))) (λ p odd t.
-      subst (IsTold run.westward p) (sym (t.all ∙ alone_third t.east t.north t.west t.south
-      (even_told run.eastward p t.east east t.eastward) (even_told run.northward p t.north north t.northward) (even_told run.southward p t.south south t.southward))) t.westward)
+  pub with_westward : IsBundleOfBoth a.westward b c.westward → c.eastward ≡ a.eastward → c.northward ≡ a.northward → c.southward ≡ a.southward
+      → IsRunOf ring c
+  with_westward both east north south = run_with_bundle
+      (λ k. boxed_wider ring a c k (subst (IsWider a.eastward) (sym east) (wider_same a.eastward))
+      (subst (IsWider a.northward) (sym north) (wider_same a.northward)) both.first (subst (IsWider a.southward) (sym south) (wider_same a.southward)))
+      (λ h. inr (inr (inl (edge_wider ring e b c.westward both.second h))))
+      (λ p odd t.
+      let x = both_told a.westward b c.westward both p t.west t.westward in
+      record {
+        others = differ_all t.east t.north x.first t.south;
+        edge = x.second;
+        others_told = record {
+          east = t.east;
+          north = t.north;
+          west = x.first;
+          south = t.south;
+          eastward = subst (λ d. IsTold d p t.east) east t.eastward;
+          northward = subst (λ d. IsTold d p t.north) north t.northward;
+          westward = x.first_told;
+          southward = subst (λ d. IsTold d p t.south) south t.southward;
+          all = refl;
+        };
+        told = x.second_told;
+        both = t.all ∙ ap (λ z. differ_all t.east t.north z t.south) x.both ∙ with_third t.east t.north x.first t.south x.second;
+      })
 
-  pub run_southward : IsBundleOf run.southward (vertex ring e) (vertex ring (e + 1))
-      → run.eastward.is_odd ≡ false → run.northward.is_odd ≡ false → run.westward.is_odd ≡ false → IsRunOf ring run
-  run_southward is east north west = run_of_bundle run.southward is (λ h. inr (inr (inr h))) (λ p odd t.
-      subst (IsTold run.southward p) (sym (t.all ∙ alone_last t.east t.north t.west t.south
-      (even_told run.eastward p t.east east t.eastward) (even_told run.northward p t.north north t.northward) (even_told run.westward p t.west west t.westward))) t.southward)
+  pub with_southward : IsBundleOfBoth a.southward b c.southward → c.eastward ≡ a.eastward → c.northward ≡ a.northward → c.westward ≡ a.westward
+      → IsRunOf ring c
+  with_southward both east north west = run_with_bundle
+      (λ k. boxed_wider ring a c k (subst (IsWider a.eastward) (sym east) (wider_same a.eastward))
+      (subst (IsWider a.northward) (sym north) (wider_same a.northward)) (subst (IsWider a.westward) (sym west) (wider_same a.westward)) both.first)
+      (λ h. inr (inr (inr (edge_wider ring e b c.southward both.second h))))
+      (λ p odd t.
+      let x = both_told a.southward b c.southward both p t.south t.southward in
+      record {
+        others = differ_all t.east t.north t.west x.first;
+        edge = x.second;
+        others_told = record {
+          east = t.east;
+          north = t.north;
+          west = t.west;
+          south = x.first;
+          eastward = subst (λ d. IsTold d p t.east) east t.eastward;
+          northward = subst (λ d. IsTold d p t.north) north t.northward;
+          westward = subst (λ d. IsTold d p t.west) west t.westward;
+          southward = x.first_told;
+          all = refl;
+        };
+        told = x.second_told;
+        both = t.all ∙ ap (λ z. differ_all t.east t.north t.west z) x.both ∙ with_last t.east t.north t.west x.first x.second;
+      })

@@ -35,7 +35,6 @@ pub record AllTell (run : Run) (p : Triple) (odd : Bool) : Type 0 where
 
 -- it has edges of the ring, each in one of the boxes, and what the bundles tell is so
 pub record IsRunOf (ring : List Point) (run : Run) : Type 0 where
-  pub some : run.first < run.end
   pub within : run.end ≤ length ring
   pub boxed : (e : ℕ) → run.first ≤ e → e < run.end → IsBoxed ring run e
   pub told : (p : Triple) (odd : Bool) → IsPoint p → AllTell run p odd → IsOddOver ring run.first run.end p odd

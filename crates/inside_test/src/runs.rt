@@ -37,53 +37,67 @@ enum Way {
 }
 
 impl Run {
-    // Edge `e`.
-    fn of_edge<L: Ledger>(ring: &Ring, e: u32, steps: &mut Steps<L>) -> Run
-        requires { e < length ring.now.corners }
+    // No edge, before edge `first`.
+    fn none(first: u32) -> Run
+        ensures run { (ring : List Point) → first ≤ length ring → IsRunOf ring result }
+        ensures end { result.end ≡ first }
+    {
+        Run {
+            first,
+            end: first,
+            eastward: Bundle::empty(),
+            northward: Bundle::empty(),
+            westward: Bundle::empty(),
+            southward: Bundle::empty(),
+        }
+    }
+
+    // Its edges and edge `e`, the next.
+    fn with_edge<L: Ledger>(&self, ring: &Ring, e: u32, steps: &mut Steps<L>) -> Run
+        requires run { IsRunOf ring.now.corners self.now }
+        requires next { e ≡ self.now.end }
+        requires edge { e < length ring.now.corners }
         ensures run { IsRunOf ring.now.corners result }
+        ensures end { result.end ≡ e + 1 }
         ensures steps { steps.new ≡ steps.old + 384 }
     {
         let _length = ring.len();
         let (a, b) = (ring.corner(e), ring.next(e));
         let edge = Bundle::of(&a, &b, steps);
-        let none = Run {
-            first: e,
+        let run = Run {
             end: e + 1,
-            eastward: Bundle::empty(),
-            northward: Bundle::empty(),
-            westward: Bundle::empty(),
-            southward: Bundle::empty(),
+            ..*self
         };
         match way_of(&a, &b, steps) {
             Way::East => Run {
-                eastward: edge,
-                ..none
+                eastward: run.eastward.joined(&edge),
+                ..run
             },
             Way::North => Run {
-                northward: edge,
-                ..none
+                northward: run.northward.joined(&edge),
+                ..run
             },
             Way::West => Run {
-                westward: edge,
-                ..none
+                westward: run.westward.joined(&edge),
+                ..run
             },
             Way::South => Run {
-                southward: edge,
-                ..none
+                southward: run.southward.joined(&edge),
+                ..run
             },
         }
     }
 
     // The edges from `first` to before `end`.
     fn over<L: Ledger>(ring: &Ring, first: u32, end: u32, steps: &mut Steps<L>) -> Run
-        requires some { first < end }
+        requires some { first ≤ end }
         requires within { end ≤ length ring.now.corners }
         ensures run { IsRunOf ring.now.corners result }
         ensures steps { steps.new ≤ steps.old + 384 * (end - first) }
     {
-        let mut run = Run::of_edge(ring, first, steps);
-        for e in first + 1..end {
-            run = run.joined(&Run::of_edge(ring, e, steps));
+        let mut run = Run::none(first);
+        for e in first..end {
+            run = run.with_edge(ring, e, steps);
         }
         run
     }

@@ -193,7 +193,7 @@ fn odd_over<L: Ledger>(
     ensures steps { steps.new ≤ steps.old + 128 }
     ensures steps_of_none { IfNone result (steps.new ≡ steps.old) }
 {
-    if run.first != first {
+    if run.first != first || run.end <= first {
         return None;
     }
     if let Some(odd) = levels.odd_of_all(run) {

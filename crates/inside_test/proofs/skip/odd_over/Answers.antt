@@ -1,4 +1,4 @@
-use Rattle.std.proofs.Common.{◌≡◌, ◌+◌, ◌-◌, subst, arith}
+use Rattle.std.proofs.Common.{◌≡◌, ◌+◌, ◌-◌, ◌<◌, subst, arith}
 use Rattle.inside_test.proofs.Blocks.{each_passed, is_between_ends, over_passed}
 use Rattle.inside_test.proofs.skip.odd_over.Goals as goal
 use Rattle.inside_test.specs.Odd.{IsOddOver}
@@ -8,11 +8,13 @@ returns-in-Some-clause-ahead g c =
     let ring = c.args.ring.now.corners in
     let run = c.args.run.now in
     let begins : run.first ≡ c.args.first = c.if-run-first.false in
+    let later : c.args.first < run.end = c.if-run-first-2.false in
     let told = rw c.in-Some.is at c.odd_of_all.ensures in
     record {
-      later = omega (arith, begins, c.requires.run.some);
+      later = later;
       within = c.requires.run.within;
-      over = λ p levels rational. subst (λ n. IsOddOver ring n run.end p c.in-Some.odd) begins (c.requires.run.told p c.in-Some.odd rational (told p levels));
+      over = λ p levels rational. subst (λ n. IsOddOver ring n run.end p c.in-Some.odd) begins
+          (c.requires.run.told p c.in-Some.odd rational (told p levels));
     }
 
 pub returns-then-passes_all-clause-ahead : goal.returns-then-passes_all-clause-ahead
@@ -20,14 +22,16 @@ returns-then-passes_all-clause-ahead g c =
     let ring = c.args.ring.now.corners in
     let run = c.args.run.now in
     let begins : run.first ≡ c.args.first = c.if-run-first.false in
-    let ends : run.end - 1 + 1 ≡ run.end = omega (arith, c.requires.run.some) in
+    let later : c.args.first < run.end = c.if-run-first-2.false in
+    let some : run.first < run.end = omega (arith, begins, later) in
+    let ends : run.end - 1 + 1 ≡ run.end = omega (arith, later) in
     let first_above = c.is_below-begins_above.result in
     let last_above = c.is_below-ends_above.result in
     record {
-      later = omega (arith, begins, c.requires.run.some);
+      later = later;
       within = c.requires.run.within;
       over = λ p levels rational. subst (λ n. IsOddOver ring n run.end p (is_between_ends first_above last_above)) begins
-          (over_passed ring p rational run.first run.end c.requires.run.some c.requires.run.within
+          (over_passed ring p rational run.first run.end some c.requires.run.within
           (each_passed ring run c.requires.run.boxed p rational (c.passes_all.ensures c.if-passes_all.true p levels)) first_above last_above
           (rw (c.corner.ensures, ← begins) at (c.is_below-begins_above.ensures.below p levels))
           (rw (c.next.ensures, ends) at (c.is_below-ends_above.ensures.below p levels)));
