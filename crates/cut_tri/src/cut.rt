@@ -2,7 +2,8 @@
 ghost use Rattle.std.specs.Prelude.{◌≡◌, ◌+◌, ◌*◌, ◌<◌, ◌≤◌, IfOk, IfSome, ◌++◌, drop, length, take};
 ghost use Rattle.cut_tri.specs.Clusters.{AreClusters};
 ghost use Rattle.cut_tri.specs.Cutting.{IsCutOf};
-ghost use Rattle.cut_tri.specs.Ordered.{AreOrdered, AreLexicalRanks, EndsWithVertex, IsFarthestNumber, IsLeastPlace, IsPieceInOrder, IsOrderedFromLeast};
+ghost use Rattle.cut_tri.specs.Ordered.{AreLexicalRanks, AreOrdered, EndsWithVertex, IsFarthestNumber, IsLeastPlace};
+ghost use Rattle.cut_tri.specs.Ordered.{IsPieceInOrder, IsOrderedFromLeast};
 ghost use Rattle.cut_tri.specs.Piece.{IsPiece, tri_at_first};
 
 use crate::clusters::Clusters;

@@ -63,7 +63,8 @@ pub(crate) fn take_out(
     requires different { AllPairs (λ i j. ¬ (i ≡ j)) boundary.now.items }
     requires all { (i : ℕ) → Contains boundary.now.items i → Contains order.old.items i }
     requires once { (j k : ℕ) → j < length order.old.items → k < length order.old.items
-        → slice_index_or order.old.items j 0 ≡ slice_index_or order.old.items k 0 → slice_index_or order.old.items j 0 < length ranks.now → j ≡ k }
+        → slice_index_or order.old.items j 0 ≡ slice_index_or order.old.items k 0 → slice_index_or order.old.items j 0 < length ranks.now
+        → j ≡ k }
     ensures { IsThinned (length ranks.now) boundary.now.items from to order.old.items order.new.items }
 {
     let mut near = order.len();

@@ -5,8 +5,8 @@ ghost use Rattle.std.specs.Prelude.{◌≡◌, ◌<◌, IfOk, [], ◌∷◌, ◌
 use exact_plane::Memory;
 use std::collections::VecDeque;
 
-// A piece: its vertices along its boundary, counterclockwise, in two bytes each, since they are moved often, and the same vertices in falling lexicographic order, among which
-// there may be numbers of no vertices.
+// A piece: its vertices along its boundary, counterclockwise, in two bytes each, since they are moved often; and the same vertices in
+// falling lexicographic order, among which there may be numbers of no vertices.
 #[derive(Drop)]
 pub(crate) struct Piece {
     pub boundary: VecDeque<u16>,
