@@ -34,7 +34,7 @@ pub enum Verdict {
 }
 
 // In a ring of more vertices than `LONG`, runs of edges pay for themselves for more points than `MANY`.
-const MANY: usize = 8;
+const MANY: usize = 16;
 
 const LONG: u32 = 256;
 
