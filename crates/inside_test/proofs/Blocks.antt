@@ -20,13 +20,16 @@ use Rattle.ring_check.specs.Boxes.{EnclosesEdge}
 use Rattle.inside_test.proofs.ApartEdges.{not_on_above, not_on_below}
 use Rattle.inside_test.proofs.CrossedEdges.{crossed_backward, crossed_from_left, crossed_from_right, not_crossed_unpassed}
 use Rattle.inside_test.proofs.Odd.{odd_step}
+use Rattle.inside_test.proofs.Tilted.{overlap_of_tilted}
 use Rattle.inside_test.proofs.Passed.{left_of_rise, not_falling, right_of_rise, test_fails_high, test_fails_low}
 use Rattle.inside_test.proofs.Touched.{follows_right, precedes_left}
 use Rattle.inside_test.specs.Apart.{MissesEdges}
 use Rattle.inside_test.specs.Block.{IsBoxMissed, IsBoxPassed, IsBoxRight, OfAllEnclosed}
 use Rattle.inside_test.specs.Meeting.{rises}
 use Rattle.inside_test.specs.Odd.{IsOddOver, OddSoFar}
-use Rattle.inside_test.specs.Runs.{IsBoxed, IsEachBox}
+use Rattle.inside_test.specs.Runs.{IsBundled, IsBoxed, IsEachBundle}
+use Rattle.inside_test.specs.Tilted.{AreEnclosed}
+use Rattle.inside_test.specs.declared.bundle.Bundle.{Bundle}
 use Rattle.inside_test.specs.declared.runs.Run.{Run}
 
 -- whether one of two numbers is above a third, and the other is not
@@ -218,30 +221,38 @@ module _ (ring : List Point) (p : Triple) (at_p : IsPoint p) where
 
 -- ---- edges in four boxes
 
--- what an edge has in each box that it may be in, where each box has a property
-in_some_box : (ring : List Point) (run : Run) (P : BoundingBox → Type 0) (Q : Type 0) (e : ℕ) → IsEachBox run P
-    → ((b : BoundingBox) → EnclosesEdge ring b e → P b → Q) → IsBoxed ring run e → Q
-in_some_box ring run P Q e each of boxed = elim boxed [
-  | inl h ↦ of run.eastward.around h each.eastward
-  | inr (inl h) ↦ of run.northward.around h each.northward
-  | inr (inr (inl h)) ↦ of run.westward.around h each.westward
-  | inr (inr (inr h)) ↦ of run.southward.around h each.southward
+-- what an edge has in each bundle that it may be in, where each bundle has a property
+in_some_bundle : (ring : List Point) (run : Run) (P : Bundle → Type 0) (Q : Type 0) (e : ℕ) → IsEachBundle run P
+    → ((b : Bundle) → IsBundled ring b e → P b → Q) → IsBoxed ring run e → Q
+in_some_bundle ring run P Q e each of boxed = elim boxed [
+  | inl h ↦ of run.eastward h each.eastward
+  | inr (inl h) ↦ of run.northward h each.northward
+  | inr (inr (inl h)) ↦ of run.westward h each.westward
+  | inr (inr (inr h)) ↦ of run.southward h each.southward
 ]
+
+-- a bundle has a box that shares no point with one of two
+abbrev pub IsApartBundle : BoundingBox → BoundingBox → Bundle → Type 0
+IsApartBundle around tilt b = (¬ (Overlap around b.around)) ⊎ (¬ (Overlap tilt b.tilted))
 
 module _ (ring : List Point) (run : Run) (boxed : (e : ℕ) → run.first ≤ e → e < run.end → IsBoxed ring run e) where
   -- their ends tell whether they are crossed where each box is above the point, below it or right of it
-  pub each_passed : (p : Triple) (at_p : IsPoint p) → IsEachBox run (λ b. IsBoxPassed b p)
+  pub each_passed : (p : Triple) (at_p : IsPoint p) → IsEachBundle run (λ b. IsBoxPassed b.around p)
       → (k : ℕ) → run.first ≤ k → k < run.end
       → IsPassed (vertex ring k) (vertex ring (k + 1)) p (is_between_ends (is_above ring p at_p k) (is_above ring p at_p (k + 1)))
   each_passed p at_p passed k from below =
-      in_some_box ring run (λ b. IsBoxPassed b p) _ k passed (λ b h by. passed_in_passed ring p at_p b k h by) (boxed k from below)
+      in_some_bundle ring run (λ b. IsBoxPassed b.around p) _ k passed (λ b h by. passed_in_passed ring p at_p b.around k h.box by) (boxed k from below)
 
-  -- a segment in a box that shares no point with theirs meets none of them
-  pub each_apart : (p q : Point) (around : BoundingBox) → Encloses around p → Encloses around q
-      → IsEachBox run (λ b. ¬ (Overlap around b)) → MissesEdges ring run.first run.end p q
-  each_apart p q around at_p at_q apart k from below meet =
-      in_some_box ring run (λ b. ¬ (Overlap around b)) _ k apart
-      (λ b h none. none (overlap_of_meeting around b p q (vertex ring k) (vertex ring (k + 1)) at_p at_q h.from h.to meet)) (boxed k from below)
+  -- a segment in two boxes of which one shares no point with theirs meets none of them
+  pub each_apart : (p q : Point) (around tilt : BoundingBox) → AreEnclosed around tilt p q
+      → IsEachBundle run (IsApartBundle around tilt) → MissesEdges ring run.first run.end p q
+  each_apart p q around tilt at apart k from below meet =
+      in_some_bundle ring run (IsApartBundle around tilt) _ k apart
+      (λ b h none. elim none [
+        | inl level ↦ level (overlap_of_meeting around b.around p q (vertex ring k) (vertex ring (k + 1)) at.first at.last h.box.from h.box.to meet)
+        | inr slanted ↦
+            slanted (overlap_of_tilted tilt b.tilted p q (vertex ring k) (vertex ring (k + 1)) at.first_tilted at.last_tilted h.from_tilted h.to_tilted meet)
+      ]) (boxed k from below)
 
 -- ---- a block of edges whose ends are in a box
 

@@ -1,10 +1,19 @@
--- Heights as a function computes them: through a register of 64 bits.
-use Rattle.std.proofs.Common.{◌≡◌, ◌<◌, ◌^◌, ℤ, arith}
+-- Heights, sums and differences as a function computes them: through registers.
+use Rattle.std.proofs.Common.{◌≡◌, ◌<◌, ◌^◌, ℤ, ◌+ℤ◌, ◌-ℤ◌, arith}
 use Rattle.std.proofs.lemmas.Int.{ints, to_z-of_z}
 use Rattle.std.specs.Prelude.{unsigned_abs}
 use mir.Syntax.{w64}
-use Rattle.exact_plane.proofs.Registers.{read}
+use Rattle.plane.specs.Point.{IsInLimit}
+use Rattle.exact_plane.proofs.Registers.{read, read_is, short, short_is}
 
 -- a height is read as it is
 pub height_read : (z : ℤ) → unsigned_abs z < 2 ^ 40 → read z ≡ z
 height_read z fits = to_z-of_z w64 z (omega (arith, ints))
+
+-- so is the sum of two coordinates,
+pub sum_read : (x y : ℤ) → IsInLimit x → IsInLimit y → short (read (read x +ℤ read y)) ≡ x +ℤ y
+sum_read x y h k = rw (read_is x h, read_is y k, height_read (x +ℤ y) (omega (arith, ints))) (short_is (x +ℤ y) (omega (arith, ints)))
+
+-- and their difference
+pub difference_read : (x y : ℤ) → IsInLimit x → IsInLimit y → short (read (read x -ℤ read y)) ≡ x -ℤ y
+difference_read x y h k = rw (read_is x h, read_is y k, height_read (x -ℤ y) (omega (arith, ints))) (short_is (x -ℤ y) (omega (arith, ints)))

@@ -12,5 +12,6 @@ pub mod Passing
 mod PointLists
 mod Sizes
 mod Sorting
+mod Tilted
 mod Told
 mod Touched

@@ -7,13 +7,12 @@ use Rattle.std.specs.Int.Signed.{lt_z}
 use Rattle.std.specs.Prelude.{◌≤ℤ◌, not}
 use Rattle.plane.specs.Point.{IsPoint, Point, Triple}
 use Rattle.rings.specs.Ring.{vertex}
-use Rattle.ring_check.specs.Boxes.{EnclosesEdge}
 use Rattle.inside_test.proofs.Blocks.{IsPassed, is_between_ends, passed_above, passed_below, passed_left, passed_right}
 use Rattle.inside_test.proofs.Odd.{differ_assoc, over_both, over_more, over_none}
 use Rattle.inside_test.specs.Block.{IsBoxMissed}
 use Rattle.inside_test.specs.Bundle.{CrossesAll, IsBundleOf, IsBundleOfBoth, IsTold, IsWider}
 use Rattle.inside_test.specs.Odd.{IsOddOver}
-use Rattle.inside_test.specs.Runs.{AllTell, IsBoxed, IsRunOf}
+use Rattle.inside_test.specs.Runs.{AllTell, IsBundled, IsBoxed, IsRunOf}
 use Rattle.inside_test.specs.declared.bundle.Bundle.{Bundle}
 use Rattle.inside_test.specs.declared.runs.Run.{Run}
 
@@ -130,13 +129,17 @@ four_and_four a b c d e f g h =
     ∙ ap (λ x. differ (differ (differ a b) (differ e f)) x) (interchange c g d h)
     ∙ interchange (differ a b) (differ e f) (differ c d) (differ g h)
 
--- an edge in a box is in a wider one,
-edge_wider : (ring : List Point) (e : ℕ) (x y : Bundle) → IsWider x y → EnclosesEdge ring x.around e → EnclosesEdge ring y.around e
+-- an edge in both boxes of a bundle is in those of a wider one,
+edge_wider : (ring : List Point) (e : ℕ) (x y : Bundle) → IsWider x y → IsBundled ring x e → IsBundled ring y e
 edge_wider ring e x y wider h = record {
-  from_bounds = h.from_bounds;
-  to_bounds = h.to_bounds;
-  from = wider.box _ h.from;
-  to = wider.box _ h.to;
+  box = record {
+    from_bounds = h.box.from_bounds;
+    to_bounds = h.box.to_bounds;
+    from = wider.box _ h.box.from;
+    to = wider.box _ h.box.to;
+  };
+  from_tilted = wider.tilted _ h.from_tilted;
+  to_tilted = wider.tilted _ h.to_tilted;
 }
 
 -- and in one of four boxes where each is wider
@@ -258,19 +261,23 @@ record AreToldWith (a : Run) (b : Bundle) (p : Triple) (odd : Bool) : Type 0 whe
 
 -- a bundle is in one that has more
 wider_same : (a : Bundle) → IsWider a a
-wider_same a = record { box = λ v within. within; low = omega (arith, ints); high = omega (arith, ints) }
+wider_same a = record { box = λ v within. within; tilted = λ v within. within; low = omega (arith, ints); high = omega (arith, ints) }
 
 module _ (ring : List Point) (a c : Run) (e : ℕ) (b : Bundle) (in_a : IsRunOf ring a) (next : e ≡ a.end) (within : e < length ring)
     (first : c.first ≡ a.first) (end : c.end ≡ e + 1) (is : IsBundleOf b (vertex ring e) (vertex ring (e + 1))) where
   -- a run and the next edge make a run
-  run_with_bundle : ((k : ℕ) → IsBoxed ring a k → IsBoxed ring c k) → (EnclosesEdge ring b.around e → IsBoxed ring c e)
+  run_with_bundle : ((k : ℕ) → IsBoxed ring a k → IsBoxed ring c k) → (IsBundled ring b e → IsBoxed ring c e)
       → ((p : Triple) (odd : Bool) → AllTell c p odd → AreToldWith a b p odd) → IsRunOf ring c
   run_with_bundle wider boxed told = record {
     within = omega (arith, within, end);
     boxed = λ k from below. elim (cases_lt k a.end) [
       | inl earlier ↦ wider k (in_a.boxed k (omega (arith, from, first)) earlier)
       | inr later ↦ subst (IsBoxed ring c) (omega (arith, later, next, below, end))
-          (boxed (record { from_bounds = is.first_bounds; to_bounds = is.last_bounds; from = is.first; to = is.last }))
+          (boxed (record {
+            box = record { from_bounds = is.first_bounds; to_bounds = is.last_bounds; from = is.first; to = is.last };
+            from_tilted = is.first_tilted;
+            to_tilted = is.last_tilted;
+          }))
     ];
     told = λ p odd at_p all.
         let t = told p odd all in

@@ -4,6 +4,7 @@ use Rattle.std.specs.Prelude.{◌≡◌, ◌⊎◌, ◌*ℤ◌, ◌<ℤ◌, ◌�
 use Rattle.plane.specs.Point.{IsInBounds, IsInLimit, Point, Triple}
 use Rattle.exact_plane.specs.Boxes.{Encloses}
 use Rattle.inside_test.specs.Block.{IsBoxMissed, IsBoxRight}
+use Rattle.inside_test.specs.Tilted.{tilted}
 use Rattle.inside_test.specs.declared.bundle.Bundle.{Bundle}
 
 -- the bundle has the edge from u to v, and no other
@@ -12,12 +13,15 @@ pub record IsBundleOf (b : Bundle) (u v : Point) : Type 0 where
   pub last_bounds : IsInBounds v
   pub first : Encloses b.around u
   pub last : Encloses b.around v
+  pub first_tilted : Encloses b.tilted (tilted u)
+  pub last_tilted : Encloses b.tilted (tilted v)
   pub heights : ((u.y ≤ℤ b.low) × (b.high ≤ℤ v.y)) ⊎ ((v.y ≤ℤ b.low) × (b.high ≤ℤ u.y))
   pub odd : b.is_odd ≡ true
 
 -- what the first bundle has in it, the second has too
 pub record IsWider (a c : Bundle) : Type 0 where
   pub box : (v : Point) → Encloses a.around v → Encloses c.around v
+  pub tilted : (v : Point) → Encloses a.tilted v → Encloses c.tilted v
   pub low : a.low ≤ℤ c.low
   pub high : c.high ≤ℤ a.high
 

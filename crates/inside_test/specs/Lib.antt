@@ -6,3 +6,4 @@ pub mod Level
 pub mod Meeting
 pub mod Odd
 pub mod Runs
+pub mod Tilted

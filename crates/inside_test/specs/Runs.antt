@@ -1,25 +1,32 @@
 -- Runs of consecutive edges of a ring. This project's own. No public clause cites this module.
 use Rattle.std.specs.Bool.{beq}
-use Rattle.std.specs.Prelude.{◌≡◌, ◌⊎◌, ◌<◌, ◌≤◌, ℕ, Bool, not, List, length}
+use Rattle.std.specs.Prelude.{◌≡◌, ◌⊎◌, ◌+◌, ◌<◌, ◌≤◌, ℕ, Bool, not, List, length}
 use Rattle.plane.specs.Point.{IsPoint, Point, Triple}
-use Rattle.exact_plane.specs.declared.bounding_box.BoundingBox.{BoundingBox}
+use Rattle.rings.specs.Ring.{vertex}
+use Rattle.exact_plane.specs.Boxes.{Encloses}
 use Rattle.ring_check.specs.Boxes.{EnclosesEdge}
 use Rattle.inside_test.specs.Bundle.{IsTold}
 use Rattle.inside_test.specs.Odd.{IsOddOver}
+use Rattle.inside_test.specs.Tilted.{tilted}
+use Rattle.inside_test.specs.declared.bundle.Bundle.{Bundle}
 use Rattle.inside_test.specs.declared.runs.Run.{Run}
 
--- edge e is in one of the boxes
-abbrev pub IsBoxed : List Point → Run → ℕ → Type 0
-IsBoxed ring run e =
-    EnclosesEdge ring run.eastward.around e ⊎ EnclosesEdge ring run.northward.around e
-    ⊎ EnclosesEdge ring run.westward.around e ⊎ EnclosesEdge ring run.southward.around e
+-- edge e is in both boxes
+pub record IsBundled (ring : List Point) (b : Bundle) (e : ℕ) : Type 0 where
+  pub box : EnclosesEdge ring b.around e
+  pub from_tilted : Encloses b.tilted (tilted (vertex ring e))
+  pub to_tilted : Encloses b.tilted (tilted (vertex ring (e + 1)))
 
--- each of the four boxes has a property
-pub record IsEachBox (run : Run) (P : BoundingBox → Type 0) : Type 0 where
-  pub eastward : P run.eastward.around
-  pub northward : P run.northward.around
-  pub westward : P run.westward.around
-  pub southward : P run.southward.around
+-- edge e is in both boxes of one of the bundles
+abbrev pub IsBoxed : List Point → Run → ℕ → Type 0
+IsBoxed ring run e = IsBundled ring run.eastward e ⊎ IsBundled ring run.northward e ⊎ IsBundled ring run.westward e ⊎ IsBundled ring run.southward e
+
+-- each of the four bundles has a property
+pub record IsEachBundle (run : Run) (P : Bundle → Type 0) : Type 0 where
+  pub eastward : P run.eastward
+  pub northward : P run.northward
+  pub westward : P run.westward
+  pub southward : P run.southward
 
 -- each of the four bundles tells of the point, and all together whether an odd number of edges is crossed
 pub record AllTell (run : Run) (p : Triple) (odd : Bool) : Type 0 where

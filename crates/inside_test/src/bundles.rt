@@ -1,6 +1,8 @@
 // Bundles of edges that go one way, and what is known of all of these.
-ghost use Rattle.std.specs.Prelude.{◌≡◌, ◌⊎◌, ◌+◌, ◌<◌, ◌^◌, ◌≤ℤ◌, false, unsigned_abs};
+ghost use Rattle.std.specs.Prelude.{◌≡◌, ◌⊎◌, ◌+◌, ◌<◌, ◌^◌, ◌≤ℤ◌, IsTrue, false, unsigned_abs};
+ghost use Rattle.exact_plane.specs.Boxes.{Encloses, Overlap};
 ghost use Rattle.inside_test.specs.Bundle.{IsBundleOf, IsBundleOfBoth};
+ghost use Rattle.inside_test.specs.Tilted.{tilted};
 
 use crate::bundle::Bundle;
 use exact_plane::{BoundingBox, Pt, Steps};
@@ -16,6 +18,7 @@ impl Bundle {
     {
         Bundle {
             around: BoundingBox::empty(),
+            tilted: BoundingBox::empty(),
             low: -BEYOND,
             high: BEYOND,
             is_odd: false,
@@ -25,13 +28,14 @@ impl Bundle {
     // The edge from `a` to `b`.
     pub fn of<L: Ledger>(a: &Pt, b: &Pt, steps: &mut Steps<L>) -> Bundle
         ensures edge { IsBundleOf result a.now b.now }
-        ensures steps { steps.new ≡ steps.old + 256 }
+        ensures steps { steps.new ≡ steps.old + 384 }
     {
         let around = BoundingBox::of(&[*a, *b], steps);
         let (first, last) = (a.parts(steps).1, b.parts(steps).1);
         let (low, high) = in_order(first, last);
         Bundle {
             around,
+            tilted: tilted_box(a, b, steps),
             low,
             high,
             is_odd: true,
@@ -44,10 +48,42 @@ impl Bundle {
     {
         Bundle {
             around: self.around.joined(&other.around),
+            tilted: self.tilted.joined(&other.tilted),
             low: greater(self.low, other.low),
             high: lesser(self.high, other.high),
             is_odd: self.is_odd != other.is_odd,
         }
+    }
+
+    // Whether one of its boxes shares no point with one of these, of which the second is tilted.
+    pub fn is_apart(&self, around: &BoundingBox, tilted: &BoundingBox) -> bool
+        ensures { IsTrue result → (¬ Overlap around.now self.now.around) ⊎ (¬ Overlap tilted.now self.now.tilted) }
+    {
+        !around.overlaps(&self.around) || !tilted.overlaps(&self.tilted)
+    }
+}
+
+// The box round two points in axes that are turned by an eighth: by the sums and the differences of their coordinates.
+pub(crate) fn tilted_box<L: Ledger>(a: &Pt, b: &Pt, steps: &mut Steps<L>) -> BoundingBox
+    ensures first { Encloses result (tilted a.now) }
+    ensures second { Encloses result (tilted b.now) }
+    ensures steps { steps.new ≡ steps.old + 128 }
+{
+    tilted_point(a, steps).joined(&tilted_point(b, steps))
+}
+
+// The same of one point.
+fn tilted_point<L: Ledger>(p: &Pt, steps: &mut Steps<L>) -> BoundingBox
+    ensures point { Encloses result (tilted p.now) }
+    ensures steps { steps.new ≡ steps.old + 64 }
+{
+    let (x, y) = p.parts(steps);
+    let (sum, difference) = ((x + y) as i32, (x - y) as i32);
+    BoundingBox {
+        west: sum,
+        east: sum,
+        south: difference,
+        north: difference,
     }
 }
 

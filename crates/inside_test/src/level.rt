@@ -5,7 +5,7 @@ ghost use Rattle.plane.specs.Point.{IsInLimit, IsPoint, IsSame, Triple, whole};
 ghost use Rattle.inside_test.specs.Block.{IsBoxMissed, IsBoxOffHeight, IsBoxPassed, IsBoxRight};
 ghost use Rattle.inside_test.specs.Bundle.{IsTold};
 ghost use Rattle.inside_test.specs.Level.{AreLevels, IsLevel};
-ghost use Rattle.inside_test.specs.Runs.{AllTell, IsEachBox};
+ghost use Rattle.inside_test.specs.Runs.{AllTell, IsEachBundle};
 
 use crate::bundle::Bundle;
 use crate::runs::Run;
@@ -217,7 +217,7 @@ impl Levels {
 
     // Whether it passes each of them.
     pub(crate) fn passes_all(&self, run: &Run) -> bool
-        ensures { IsTrue result → (p : Triple) → AreLevels self.now p → IsEachBox run.now (λ b. IsBoxPassed b p) }
+        ensures { IsTrue result → (p : Triple) → AreLevels self.now p → IsEachBundle run.now (λ b. IsBoxPassed b.around p) }
     {
         if !self.passes(&run.eastward.around) {
             return false;

@@ -1,12 +1,14 @@
 // Runs of a ring's edges, by which a question about all of them passes over many at a time.
 ghost use Rattle.std.specs.List.{All};
-ghost use Rattle.std.specs.Prelude.{◌≡◌, ◌+◌, ◌*◌, ◌-◌, ◌<◌, ◌≤◌, IfOk, IsTrue, List, length};
+ghost use Rattle.std.specs.Prelude.{◌≡◌, ◌+◌, ◌*◌, ◌-◌, ◌<◌, ◌≤◌, ◌⊎◌, IfOk, IsTrue, List, length};
 ghost use Rattle.plane.specs.Point.{Point};
 ghost use Rattle.exact_plane.specs.Boxes.{Encloses, Overlap};
 ghost use Rattle.inside_test.specs.Apart.{MissesEdges};
-ghost use Rattle.inside_test.specs.Runs.{IsEachBox, IsRunOf};
+ghost use Rattle.inside_test.specs.Runs.{IsEachBundle, IsRunOf};
+ghost use Rattle.inside_test.specs.Tilted.{AreEnclosed};
 
 use crate::bundle::Bundle;
+use crate::bundles::tilted_box;
 use exact_plane::{BoundingBox, Memory, Pt, Steps};
 use ring_check::{RUN, Ring, greatest_run_from, lesser_run};
 use std::alloc::Global;
@@ -59,7 +61,7 @@ impl Run {
         requires edge { e < length ring.now.corners }
         ensures run { IsRunOf ring.now.corners result }
         ensures end { result.end ≡ e + 1 }
-        ensures steps { steps.new ≡ steps.old + 384 }
+        ensures steps { steps.new ≡ steps.old + 512 }
     {
         let _length = ring.len();
         let (a, b) = (ring.corner(e), ring.next(e));
@@ -93,7 +95,7 @@ impl Run {
         requires some { first ≤ end }
         requires within { end ≤ length ring.now.corners }
         ensures run { IsRunOf ring.now.corners result }
-        ensures steps { steps.new ≤ steps.old + 384 * (end - first) }
+        ensures steps { steps.new ≤ steps.old + 512 * (end - first) }
     {
         let mut run = Run::none(first);
         for e in first..end {
@@ -119,17 +121,17 @@ impl Run {
         }
     }
 
-    // Whether none of the boxes shares a point with this one.
-    fn is_apart(&self, around: &BoundingBox) -> bool
-        ensures { IsTrue result → IsEachBox self.now (λ b. ¬ Overlap around.now b) }
+    // Whether each bundle has a box that shares no point with one of these, round a segment, of which the second is tilted.
+    fn is_apart(&self, around: &BoundingBox, tilted: &BoundingBox) -> bool
+        ensures { IsTrue result → IsEachBundle self.now (λ b. (¬ Overlap around.now b.around) ⊎ (¬ Overlap tilted.now b.tilted)) }
     {
-        if around.overlaps(&self.eastward.around) {
+        if !self.eastward.is_apart(around, tilted) {
             return false;
         }
-        if around.overlaps(&self.northward.around) {
+        if !self.northward.is_apart(around, tilted) {
             return false;
         }
-        !around.overlaps(&self.westward.around) && !around.overlaps(&self.southward.around)
+        self.westward.is_apart(around, tilted) && self.southward.is_apart(around, tilted)
     }
 }
 
@@ -170,14 +172,14 @@ impl<'a> Model for Runs<'a> {
 }
 
 impl<'a> Runs<'a> {
-    /// The runs of this ring's edges. It takes at most 384 steps an edge.
+    /// The runs of this ring's edges. It takes at most 512 steps an edge.
     pub fn of<L: Ledger>(
         alloc: Global,
         ring: &'a Ring,
         steps: &mut Steps<L>,
     ) -> Result<Runs<'a>, Memory>
         ensures runs { IfOk result (λ runs. runs ≡ ring.now.corners) }
-        ensures steps { steps.new ≤ steps.old + 384 * length ring.now.corners }
+        ensures steps { steps.new ≤ steps.old + 512 * length ring.now.corners }
     {
         Ok(Runs {
             ring,
@@ -187,12 +189,23 @@ impl<'a> Runs<'a> {
 
     /// The edge behind the greatest run from edge `first` on whose boxes share no point with this one. Where there is no such run, that is
     /// `first`.
-    pub fn apart_to(&self, first: u32, around: &BoundingBox) -> u32
-        requires { first ≤ length self.now }
+    pub fn apart_to<L: Ledger>(
+        &self,
+        first: u32,
+        p: &Pt,
+        q: &Pt,
+        around: &BoundingBox,
+        steps: &mut Steps<L>,
+    ) -> u32
+        requires first { first ≤ length self.now }
+        requires has_first { Encloses around.now p.now }
+        requires has_last { Encloses around.now q.now }
         ensures within { result ≤ length self.now }
-        ensures apart { (p q : Point) → Encloses around.now p → Encloses around.now q → MissesEdges self.now first result p q }
+        ensures apart { MissesEdges self.now first result p.now q.now }
+        ensures steps { steps.new ≡ steps.old + 128 }
     {
-        apart_to(self.ring, &self.runs, first, around)
+        let tilted = tilted_box(p, q, steps);
+        apart_to(self.ring, &self.runs, first, around, &tilted)
     }
 
     // Each of them.
@@ -206,7 +219,7 @@ impl<'a> Runs<'a> {
 // Runs from each 15th edge on, and after them runs that join two, so that they make a tree.
 fn runs_of<L: Ledger>(alloc: Global, ring: &Ring, steps: &mut Steps<L>) -> Result<Vec<Run>, Memory>
     ensures runs { IfOk result (λ runs. All (IsRunOf ring.now.corners) runs.items) }
-    ensures steps { steps.new ≤ steps.old + 384 * length ring.now.corners }
+    ensures steps { steps.new ≤ steps.old + 512 * length ring.now.corners }
 {
     let mut runs = short_runs(alloc, ring, steps)?;
     let count = runs.len();
@@ -225,7 +238,7 @@ fn short_runs<L: Ledger>(
 ) -> Result<Vec<Run>, Memory>
     ensures runs { IfOk result (λ runs. All (IsRunOf ring.now.corners) runs.items) }
     ensures few { IfOk result (λ runs. length runs.items ≤ length ring.now.corners) }
-    ensures steps { steps.new ≤ steps.old + 384 * length ring.now.corners }
+    ensures steps { steps.new ≤ steps.old + 512 * length ring.now.corners }
 {
     let n = ring.len();
     let mut runs = Vec::with_capacity(alloc, (n / SHORT * 2 + 2) as usize)?;
@@ -238,18 +251,24 @@ fn short_runs<L: Ledger>(
     Ok(runs)
 }
 
-// The edge behind the greatest of these runs from edge `first` on that is apart from a box; or `first`.
-fn apart_to(ring: &Ring, runs: &[Run], first: u32, around: &BoundingBox) -> u32
+// The edge behind the greatest of these runs from edge `first` on that is apart from the two boxes round a segment; or `first`.
+fn apart_to(
+    ring: &Ring,
+    runs: &[Run],
+    first: u32,
+    around: &BoundingBox,
+    tilted: &BoundingBox,
+) -> u32
     requires runs { All (IsRunOf ring.now.corners) runs.now }
     requires within { first ≤ length ring.now.corners }
     ensures within { result ≤ length ring.now.corners }
-    ensures apart { (p q : Point) → Encloses around.now p → Encloses around.now q → MissesEdges ring.now.corners first result p q }
+    ensures apart { (p q : Point) → AreEnclosed around.now tilted.now p q → MissesEdges ring.now.corners first result p q }
 {
     let mut next = greatest_run_from(runs.len(), first as usize);
     while let Some(k) = next {
         if k < runs.len() {
             let run = &runs[k];
-            if run.first == first && run.is_apart(around) {
+            if run.first == first && run.is_apart(around, tilted) {
                 return run.end;
             }
         }

@@ -80,7 +80,7 @@ fn runs_for<'a, L: Ledger>(
     steps: &mut Steps<L>,
 ) -> Result<Option<Runs<'a>>, Memory>
     ensures runs { IfOk result (λ made. IfSome made (λ runs. runs ≡ ring.now.corners)) }
-    ensures steps { steps.new ≤ steps.old + 384 * length ring.now.corners }
+    ensures steps { steps.new ≤ steps.old + 512 * length ring.now.corners }
 {
     if runs.is_some() || count <= MANY {
         return Ok(None);

@@ -126,7 +126,7 @@ fn are_apart<L: Ledger>(
 impl<'a> Skip for Runs<'a> {
     ghost is_of = { λ runs ring. runs ≡ ring };
 
-    ghost asks = { λ _ _. Unit {0} };
+    ghost asks = { λ _ most. 128 ≤ most };
 
     fn apart_to<L: Ledger>(
         &self,
@@ -137,7 +137,7 @@ impl<'a> Skip for Runs<'a> {
         around: &BoundingBox,
         steps: &mut Steps<L>,
     ) -> u32 {
-        self.apart_to(first, around)
+        self.apart_to(first, a, b, around, steps)
     }
 
     fn odd_to<L: Ledger>(

@@ -24,7 +24,7 @@ pub fn is_inner(points: &[Pt], k: usize) -> bool
     0 < k && k < points.len() - 1
 }
 
-// The number of the reflex vertex that is this point, if there is one. It takes at most 66 steps a vertex.
+// The number of the reflex vertex that is this point, if there is one. It takes at most 194 steps a vertex.
 pub fn reflex_vertex<L: Ledger>(
     ring: &Ring,
     runs: Option<&Runs>,
@@ -36,7 +36,7 @@ pub fn reflex_vertex<L: Ledger>(
     ensures vertex { IfSome result (λ i. vertex ring.now.corners i ≡ p.now) }
     ensures reflex { IfSome result (λ i. IsReflex ring.now.corners i) }
     ensures none { IfNone result (¬ IsReflexVertex ring.now.corners p.now) }
-    ensures steps { steps.new ≤ steps.old + 66 * length ring.now.corners }
+    ensures steps { steps.new ≤ steps.old + 194 * length ring.now.corners }
 {
     let n = ring.len();
     let mut first = 0;
@@ -63,14 +63,14 @@ fn passed_to<L: Ledger>(
     ensures later { first < result.0 }
     ensures within { result.0 ≤ length ring.now.corners }
     ensures apart { IsTrue result.1 → IsNoReflexFrom ring.now.corners first result.0 p.now }
-    ensures steps { steps.new ≤ steps.old + 64 }
+    ensures steps { steps.new ≤ steps.old + 192 }
 {
     let n = ring.len();
     let Some(runs) = runs else {
         return (n, false);
     };
     let around = BoundingBox::of(&[*p], steps);
-    let apart = runs.apart_to(first, &around);
+    let apart = runs.apart_to(first, p, p, &around, steps);
     if first < apart {
         (apart, true)
     } else {

@@ -34,7 +34,7 @@ pub enum Verdict {
 }
 
 // In a ring of more vertices than `LONG`, runs of edges pay for themselves for more points than `MANY`.
-const MANY: usize = 8;
+const MANY: usize = 16;
 
 const LONG: u32 = 256;
 
@@ -69,7 +69,7 @@ fn verdict_on<L: Ledger>(
     ensures verdict { IfOk result (IsVerdict ring.now.corners chain.now) }
     ensures bent { IfOk result (λ verdict. (verdict ≡ Verdict.Taut) ↔ IsBentChain ring.now.corners chain.now) }
     ensures steps { (d : ℕ) → let n = length ring.now.corners in n < 2 ^ d
-        → steps.new ≤ steps.old + ((2560 * (n * n) + 3000 * (n * d) + 6066 * n + 73) * length chain.now + 800 * (n * (d + 4))) }
+        → steps.new ≤ steps.old + ((2560 * (n * n) + 3000 * (n * d) + 6194 * n + 73) * length chain.now + 800 * (n * (d + 4))) }
 {
     if chain.is_empty() {
         return Ok(Verdict::Empty);
@@ -92,7 +92,7 @@ fn runs_for<'a, L: Ledger>(
     steps: &mut Steps<L>,
 ) -> Result<Option<Runs<'a>>, Memory>
     ensures runs { IfOk result (λ made. IfSome made (λ runs. runs ≡ ring.now.corners)) }
-    ensures steps { steps.new ≤ steps.old + 384 * length ring.now.corners }
+    ensures steps { steps.new ≤ steps.old + 512 * length ring.now.corners }
 {
     if chain.len() <= MANY || ring.len() <= LONG {
         return Ok(None);
@@ -115,7 +115,7 @@ fn verdict_at<L: Ledger>(
     requires seen { IsSeenAt ring.now.corners chain.now k }
     ensures found { IfOk result (IsFoundAt ring.now.corners chain.now k) }
     ensures steps { (d : ℕ) → let n = length ring.now.corners in n < 2 ^ d
-        → steps.new ≤ steps.old + (2560 * (n * n) + 3000 * (n * d) + 6066 * n + 73) }
+        → steps.new ≤ steps.old + (2560 * (n * n) + 3000 * (n * d) + 6194 * n + 73) }
 {
     let place = k as u32;
     if is_repeat(chain, k, steps) {

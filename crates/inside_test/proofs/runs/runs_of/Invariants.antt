@@ -8,5 +8,5 @@ invariant-loop-k g l = record {
   are : All (IsRunOf l.ring.corners) l.runs.items;
   count : length l.runs.items + 1 ≡ l.count + l.k;
   few : l.count ≤ length l.ring.corners;
-  steps : l.steps ≤ l.fn.steps + 384 * length l.ring.corners;
+  steps : l.steps ≤ l.fn.steps + 512 * length l.ring.corners;
 }

@@ -8,7 +8,7 @@ invariant-loop-first g l = record {
   are : All (IsRunOf l.ring.corners) l.runs.items;
   few : length l.runs.items ≤ l.first;
   within : l.first ≤ length l.ring.corners;
-  steps : l.steps ≤ l.fn.steps + 384 * l.first;
+  steps : l.steps ≤ l.fn.steps + 512 * l.first;
 }
 
 abbrev pub decreases-loop-first : goal.decreases-loop-first

@@ -15,7 +15,7 @@ pub push_with-requires-in-None-clause-has_last : goal.push_with-requires-in-None
 push_with-requires-in-None-clause-has_last g c = c.of-around.ensures.within 1 (omega arith) origin
 
 pub returns-in-Some-clause-steps : goal.returns-in-Some-clause-steps
-returns-in-Some-clause-steps g c = omega (arith, c.of-around.ensures.steps, c.push_with.ensures.steps 0 tt)
+returns-in-Some-clause-steps g c = omega (arith, c.of-around.ensures.steps, c.push_with.ensures.steps 128 (omega arith))
 
 pub returns-in-None-clause-steps : goal.returns-in-None-clause-steps
 returns-in-None-clause-steps g c = omega (arith, c.of-around.ensures.steps, c.push_with-in-None.ensures.steps 1024 (omega arith))

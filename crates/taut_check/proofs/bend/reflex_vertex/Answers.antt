@@ -16,7 +16,7 @@ loop-first-preserved g c =
         to_end.steps,
         c.reflex_vertex_among.ensures.steps,
         to_end.later,
-        passed_more 64 2 c.loop-first.first c.passed_to-end.result.0 to_end.later,
+        passed_more 192 2 c.loop-first.first c.passed_to-end.result.0 to_end.later,
       );
     }
 
@@ -29,8 +29,8 @@ returns-in-Some-clause-steps g c =
       to_end.steps,
       c.reflex_vertex_among.ensures.steps,
       to_end.later,
-      passed_more 64 2 c.loop-first.first c.passed_to-end.result.0 to_end.later,
-      passed_fewer 66 c.passed_to-end.result.0 (length c.args.ring.now.corners) to_end.within,
+      passed_more 192 2 c.loop-first.first c.passed_to-end.result.0 to_end.later,
+      passed_fewer 194 c.passed_to-end.result.0 (length c.args.ring.now.corners) to_end.within,
     )
 
 pub returns-clause-none : goal.returns-clause-none
@@ -41,5 +41,5 @@ returns-clause-steps g c =
     omega (
       arith,
       c.loop-first.invariant.steps,
-      passed_fewer 66 c.loop-first.first (length c.args.ring.now.corners) c.loop-first.invariant.within,
+      passed_fewer 194 c.loop-first.first (length c.args.ring.now.corners) c.loop-first.invariant.within,
     )

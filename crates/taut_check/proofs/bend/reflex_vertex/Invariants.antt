@@ -6,7 +6,7 @@ abbrev pub invariant-loop-first : goal.invariant-loop-first
 invariant-loop-first g l = record {
   none : IsNoReflexFrom l.ring.corners 0 l.first l.p;
   within : l.first ≤ length l.ring.corners;
-  steps : l.steps ≤ l.fn.steps + 66 * l.first;
+  steps : l.steps ≤ l.fn.steps + 194 * l.first;
 }
 
 abbrev pub decreases-loop-first : goal.decreases-loop-first

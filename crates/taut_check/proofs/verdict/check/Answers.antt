@@ -12,7 +12,7 @@ pub returns-clause-steps : goal.returns-clause-steps
 returns-clause-steps g c = λ d below.
     let n = length c.args.ring.now.corners in
     let m = length c.args.chain.now in
-    let each = 2560 * (n * n) + 3000 * (n * d) + 6066 * n + 73 in
+    let each = 2560 * (n * n) + 3000 * (n * d) + 6194 * n + 73 in
     let most = 2560 * (n * n) + 5100 * (n * (d + 2)) in
     let fewer : each ≤ most = omega (arith, c.len-length.ensures.size.0) in
     omega (arith, c.verdict_on.ensures.steps d below, passed_fewer m each most fewer)

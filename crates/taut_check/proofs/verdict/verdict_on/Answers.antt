@@ -30,7 +30,7 @@ loop-k-preserved g c =
 pub returns-in-Some-clause-steps : goal.returns-in-Some-clause-steps
 returns-in-Some-clause-steps g c = λ d below.
     let n = length c.args.ring.now.corners in
-    let each = 2560 * (n * n) + 3000 * (n * d) + 6066 * n + 73 in
+    let each = 2560 * (n * n) + 3000 * (n * d) + 6194 * n + 73 in
     omega (
       arith,
       c.loop-k.invariant.steps d below,
@@ -41,7 +41,7 @@ returns-in-Some-clause-steps g c = λ d below.
 pub returns-in_err-verdict-clause-steps : goal.returns-in_err-verdict-clause-steps
 returns-in_err-verdict-clause-steps g c = λ d below.
     let n = length c.args.ring.now.corners in
-    let each = 2560 * (n * n) + 3000 * (n * d) + 6066 * n + 73 in
+    let each = 2560 * (n * n) + 3000 * (n * d) + 6194 * n + 73 in
     omega (
       arith,
       c.loop-k.invariant.steps d below,
@@ -52,7 +52,7 @@ returns-in_err-verdict-clause-steps g c = λ d below.
 pub returns-clause-steps : goal.returns-clause-steps
 returns-clause-steps g c = λ d below.
     let n = length c.args.ring.now.corners in
-    let each = 2560 * (n * n) + 3000 * (n * d) + 6066 * n + 73 in
+    let each = 2560 * (n * n) + 3000 * (n * d) + 6194 * n + 73 in
     omega (arith, c.loop-k.invariant.steps d below, passed_fewer each c.loop-k.k (length c.args.chain.now) (omega (arith, c.loop-k.auto.k-end)))
 
 pub returns-clause-verdict : goal.returns-clause-verdict

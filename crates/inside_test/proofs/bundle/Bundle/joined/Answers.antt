@@ -16,11 +16,13 @@ returns c =
     record {
       first = record {
         box = c.joined.ensures.first;
+        tilted = c.joined-2.ensures.first;
         low = omega (arith, ints, low, one_low, c.greater.ensures.first);
         high = omega (arith, ints, high, one_high, c.lesser.ensures.first);
       };
       second = record {
         box = c.joined.ensures.second;
+        tilted = c.joined-2.ensures.second;
         low = omega (arith, ints, low, other_low, c.greater.ensures.second);
         high = omega (arith, ints, high, other_high, c.lesser.ensures.second);
       };

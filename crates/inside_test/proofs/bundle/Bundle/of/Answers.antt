@@ -18,6 +18,8 @@ returns-clause-edge g c =
       last_bounds = last.bounds;
       first = c.of-around.ensures.within 0 (omega arith) origin;
       last = c.of-around.ensures.within 1 (omega arith) origin;
+      first_tilted = c.tilted_box.ensures.first;
+      last_tilted = c.tilted_box.ensures.second;
       heights = rw (low, high) (elim (rw (first.y, last.y, a, b) at c.in_order-low.ensures.those) [
         | inl up ↦ inl (omega (arith, ints, up.0), omega (arith, ints, up.1))
         | inr down ↦ inr (omega (arith, ints, down.0), omega (arith, ints, down.1))

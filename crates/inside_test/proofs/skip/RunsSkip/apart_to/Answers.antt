@@ -1,4 +1,4 @@
 use Rattle.inside_test.proofs.skip.RunsSkip.apart_to.Goals as goal
 
 pub returns-clause-apart : goal.returns-clause-apart
-returns-clause-apart g c = rw c.requires.of at (c.apart_to.ensures.apart c.args.a.now c.args.b.now c.requires.has_first c.requires.has_last)
+returns-clause-apart g c = rw c.requires.of at c.apart_to.ensures.apart
