@@ -87,6 +87,18 @@ module _ (corners : List Point) (tris : List Tri) (fits : Fits corners tris) (b 
 
 -- ---- a step
 
+-- where no vertex is between two points, none is in the other order either
+pub none_between_back : (corners : List Point) (x y : Point) → ((v : Point) → ¬ IsVertexBetween corners x y v) → (v : Point)
+    → ¬ IsVertexBetween corners y x v
+none_between_back corners x y none v between = none v (record {
+  i = between.i;
+  in_ring = between.in_ring;
+  is_vertex = between.is_vertex;
+  on = on_reversed (whole v) (whole y) (whole x) between.on;
+  not_first = between.not_last;
+  not_last = between.not_first;
+})
+
 -- from x to y, past no vertex, with b not on it
 pub record IsClear (corners : List Point) (b x y : Point) : Type 0 where
   pub differ : ¬ (x ≡ y)
@@ -97,14 +109,7 @@ pub record IsClear (corners : List Point) (b x y : Point) : Type 0 where
 pub clear_back : (corners : List Point) (b x y : Point) → IsClear corners b x y → IsClear corners b y x
 clear_back corners b x y step = record {
   differ = λ same. step.differ (sym same);
-  clear = λ v between. step.clear v (record {
-    i = between.i;
-    in_ring = between.in_ring;
-    is_vertex = between.is_vertex;
-    on = on_reversed (whole v) (whole y) (whole x) between.on;
-    not_first = between.not_last;
-    not_last = between.not_first;
-  });
+  clear = none_between_back corners x y step.clear;
   off = λ on. step.off (on_reversed (whole b) (whole y) (whole x) on);
 }
 

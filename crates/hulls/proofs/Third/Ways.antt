@@ -3,7 +3,7 @@
 -- Ways of steps past no vertex, with a point on none of them, and the paths along them.
 use Rattle.std.proofs.Common.{◌≢◌, refl, sym, subst, ◌≤◌, List, [], ◌∷◌, length, arith, ◌≡◌}
 use Rattle.plane.proofs.Points.{whole_is_point}
-use Rattle.plane.proofs.Segments.{on_last_end, on_reversed, on_is_straight, on_first_end}
+use Rattle.plane.proofs.Segments.{on_last_end, on_is_straight, on_first_end}
 use Rattle.plane.proofs.Turns.{straight_swap_first, straight_swap_last}
 use Rattle.plane.specs.Point.{Point, whole, Triple}
 use Rattle.plane.specs.Segment.{On}
@@ -14,6 +14,7 @@ use Rattle.funnels.proofs.Chains.{one_bent}
 use Rattle.funnels.proofs.OneChain.{bent_is_path}
 use Rattle.hulls.proofs.Cones.{joined_back, no_three_joined, same_side_of_joined}
 use Rattle.hulls.proofs.Joined.{GoesOnTo, joined_of_on_path, sees_back, on_path_of_joined}
+use Rattle.hulls.proofs.StepsSeen.{none_between_back}
 use Rattle.hulls.proofs.Third.Cuts.{cut, list_of_step, on_path_back, same_step, step_of_list, IsProlonged, bent, prolonged, straight}
 use Rattle.hulls.proofs.Third.Cuts.{with_point, with_point_ends, step_of_before}
 use Rattle.hulls.proofs.Third.Rays.{joined_on_ray, ray_of_on}
@@ -36,14 +37,7 @@ step_back ring x y step = record {
   y_in = step.x_in;
   differ = λ e. step.differ (sym e);
   sees = sees_back ring x y step.sees;
-  clear = λ v between. step.clear v (record {
-    i = between.i;
-    in_ring = between.in_ring;
-    is_vertex = between.is_vertex;
-    on = on_reversed (whole v) (whole y) (whole x) between.on;
-    not_first = between.not_last;
-    not_last = between.not_first;
-  });
+  clear = none_between_back ring x y step.clear;
 }
 
 -- a prolonged path goes first along the ray over the point that it was prolonged at
