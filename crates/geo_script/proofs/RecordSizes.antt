@@ -23,22 +23,18 @@ use Rattle.geo_text.specs.declared.word.Word.{Word}
 use Rattle.geo_text.specs.declared.word.Word.TheVariants as word
 use Rattle.geo_script.specs.Progress.{bytes_of_record}
 
--- the record of a command takes so many bytes at least: its word, and two for each number
+-- the record of a command takes so many bytes at least: each word has three, and one that ends it; the rest is counted where the steps of
+-- the command ask for it
 abbrev pub least_bytes : Command → ℕ
 least_bytes command.Two = 0
 least_bytes (command.Polygon points) = 8 + 4 * length points
-least_bytes (command.Inside p) = 11
 least_bytes (command.Check points) = 6 + 4 * length points
-least_bytes (command.Path s t) = 13
 least_bytes (command.Tree s) = 9
-least_bytes (command.Reach t) = 10
-least_bytes (command.See q) = 8
-least_bytes command.Kernel = 7
 least_bytes (command.Hull points) = 5 + 4 * length points
 least_bytes (command.Round points) = 6 + 4 * length points
-least_bytes command.Guards = 7
 least_bytes (command.Pair i j) = 9
 least_bytes command.Sights = 7
+least_bytes other = 4
 
 -- ---- numbers
 
@@ -93,19 +89,12 @@ exactly wanted count e = by_test (count == wanted) refl e
 with_has_bytes : (limits : Limits) (asked : Word) (numbers : List ℤ) → count_fault (takes_of limits asked) (length numbers) ≡ None
     → least_bytes (command_with asked numbers) ≤ length (text_of asked) + 1 + 2 * length numbers
 with_has_bytes limits word.Polygon numbers e = omega (arith, pairs_are_half numbers)
-with_has_bytes limits word.Inside numbers e = let count = exactly 2 (length numbers) e in omega (arith, count)
 with_has_bytes limits word.Check numbers e = omega (arith, pairs_are_half numbers)
-with_has_bytes limits word.Path numbers e = let count = exactly 4 (length numbers) e in omega (arith, count)
 with_has_bytes limits word.Tree numbers e = let count = exactly 2 (length numbers) e in omega (arith, count)
-with_has_bytes limits word.Reach numbers e = let count = exactly 2 (length numbers) e in omega (arith, count)
-with_has_bytes limits word.See numbers e = let count = exactly 2 (length numbers) e in omega (arith, count)
-with_has_bytes limits word.Kernel numbers e = omega arith
 with_has_bytes limits word.Hull numbers e = omega (arith, pairs_are_half numbers)
-with_has_bytes limits word.Two numbers e = omega arith
 with_has_bytes limits word.Round numbers e = omega (arith, pairs_are_half numbers)
-with_has_bytes limits word.Guards numbers e = omega arith
 with_has_bytes limits word.Pair numbers e = let count = exactly 2 (length numbers) e in omega (arith, count)
-with_has_bytes limits word.Sights numbers e = omega arith
+with_has_bytes limits _ numbers e = omega arith
 
 -- so has its record
 text_has_bytes : (limits : Limits) (asked : Word) (name : List ℕ) (fields : List (List ℕ)) → length name ≡ length (text_of asked)
