@@ -344,7 +344,7 @@ KINDS = [
     Kind('check', ['arch'], check_way(inputs.way_along_arch), 'each tip', hostile=True),
     Kind('hull', ['comb'], hull, f'{MOST_PEGS} points', hostile=True),
     Kind('round', ['comb'], closed_round, f'{MOST_PEGS} points', hostile=True),
-    Kind('guards', ['spiral', 'moon'], guards, hostile=True),
+    Kind('guards', ['star', 'maze'], guards, hostile=True),
     Kind('pair', ['spiral'], pair_far, hostile=True),
     Kind('sights', ['convex'], sights_again, hostile=True),
 ]
