@@ -204,6 +204,12 @@ def way_past_teeth(n: int) -> Ring:
     return [begin, *((x, 1) for x in range(1, n - 4, 2)), end]
 
 
+def way_across_convex(n: int) -> Ring:
+    """The straight way from the vertex farthest to the right to that farthest to the left."""
+    ring = convex(n)
+    return [ring[n // 4], ring[3 * n // 4]]
+
+
 def way_along_arch(n: int) -> Ring:
     """The taut chain past the tips of the teeth of the arch. An even number of teeth."""
     up = short_vectors((n - 4) // 4)
@@ -249,7 +255,7 @@ Shape = Callable[[int], Ring]
 SHAPES: Dict[str, Shape] = {shape.__name__: shape for shape in (comb, star, maze, spiral)}
 SIX_SHAPES: Dict[str, Shape] = SHAPES | {shape.__name__: shape for shape in (convex, moon)}
 MORE_SHAPES: Dict[str, Shape] = SIX_SHAPES | {shape.__name__: shape for shape in (skyline, saw, arch, zigzag)}
-WAYS: Dict[str, Shape] = {'comb': way_along_comb, 'saw': way_past_teeth}
+WAYS: Dict[str, Shape] = {'comb': way_along_comb, 'convex': way_across_convex, 'saw': way_past_teeth}
 
 
 @functools.cache
