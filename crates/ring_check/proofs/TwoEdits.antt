@@ -1,7 +1,7 @@
 -- Two edges put into a list of edges at one place, or taken out there: the pairs at the place are enough.
-use Rattle.std.proofs.Common.{◌≡◌, ◌∙◌, sym, ap, refl, inl, inr, ℕ, zero, suc, ◌+◌, ◌-◌, ◌<◌, ◌≤◌, List, [], ◌∷◌, ◌++◌, get_or, length, set, take, drop, arith}
+use Rattle.std.proofs.Common.{◌≡◌, ◌∙◌, ap, refl, inl, inr, ℕ, suc, ◌+◌, ◌-◌, ◌<◌, ◌≤◌, List, get_or, length, take, drop, arith}
 use Rattle.std.proofs.lemmas.Bool.{cases_eq, cases_lt}
-use Rattle.std.proofs.lemmas.List.{append_assoc, append-nil, drop_all, drop_more, drop-set-lt, get_or_default, take_all, take_more_set}
+use Rattle.std.proofs.lemmas.List.{get_or_default}
 use Rattle.std.proofs.lemmas.List.Edits.{get_or-insert_above, get_or-insert_below, get_or-remove_above, get_or-remove_below, length-insert}
 use Rattle.std.proofs.lemmas.List.Edits.{length-remove}
 use Rattle.std.proofs.lemmas.List.Elements.{All-append, All-drop, All-take}
@@ -11,63 +11,6 @@ use Rattle.std.specs.Prelude.{slice_index}
 use Rattle.plane.specs.Point.{Point}
 use Rattle.ring_check.proofs.StatusEdits.{edges_inserted, times_inserted}
 use Rattle.rings.specs.Status.{FitsAt, IsEdgeBelow, IsStacked, one, times}
-
--- ---- one move for both
-
--- the parts before and after them
-pub parts_inserted : (xs : List ℕ) (i x y : ℕ) → i ≤ length xs → insert (insert xs i y) i x ≡ take i xs ++ x ∷ y ∷ drop i xs
-parts_inserted xs zero x y within = refl
-parts_inserted [] (suc i) x y within = absurd (omega (arith, within))
-parts_inserted (z ∷ xs) (suc i) x y within = ap (λ ys. z ∷ ys) (parts_inserted xs i x y (omega (arith, within)))
-
-parts_left : (xs : List ℕ) (i : ℕ) → remove (remove xs i) i ≡ take i xs ++ drop (suc (suc i)) xs
-parts_left [] zero = refl
-parts_left (a ∷ []) zero = refl
-parts_left (a ∷ b ∷ xs) zero = refl
-parts_left [] (suc i) = refl
-parts_left (z ∷ xs) (suc i) = ap (λ ys. z ∷ ys) (parts_left xs i)
-
-parts_removed : (xs : List ℕ) (i : ℕ) → remove (remove xs i) i ≡ take i xs ++ drop (i + 2) xs
-parts_removed xs i = let on : suc (suc i) ≡ i + 2 = omega arith in parts_left xs i ∙ ap (λ n. take i xs ++ drop n xs) on
-
--- what is left once the last two are cut off
-pub parts_cut : (xs row new : List ℕ) (i n : ℕ) → n ≡ length xs → take (length xs - 2) row ≡ take i xs ++ drop (i + 2) xs → new ≡ take (n - 2) row
-    → new ≡ remove (remove xs i) i
-parts_cut xs row new i n size rest cut = cut ∙ ap (λ m. take (m - 2) row) size ∙ rest ∙ sym (parts_removed xs i)
-
-module _ (row : List ℕ) (i : ℕ) where
-  -- an item that is written where the next one is read leaves the parts, with the next two, as they were,
-  pub moved_up : (a b c : ℕ) → i < length row → c ≡ get_or row i c
-      → take (i + 1) (set row i a) ++ b ∷ c ∷ drop (i + 1) (set row i a) ≡ take i row ++ a ∷ b ∷ drop i row
-  moved_up a b c within read =
-      let rest : drop (i + 1) (set row i a) ≡ drop (i + 1) row = drop-set-lt (i + 1) row i a (omega arith) in
-      let next : drop i row ≡ c ∷ drop (i + 1) row
-      = drop_more row i c within ∙ ap (λ d. d ∷ drop (i + 1) row) (sym read) in
-      ap (λ front. front ++ b ∷ c ∷ drop (i + 1) (set row i a)) (take_more_set row i a within)
-      ∙ append_assoc (take i row) (a ∷ []) (b ∷ c ∷ drop (i + 1) (set row i a))
-      ∙ ap (λ back. take i row ++ a ∷ b ∷ c ∷ back) rest ∙ ap (λ back. take i row ++ a ∷ b ∷ back) (sym next)
-
-  -- and so does one that is read two places on
-  pub moved_down : (c : ℕ) → i + 2 < length row → c ≡ get_or row (i + 2) c
-      → take (i + 1) (set row i c) ++ drop (i + 1 + 2) (set row i c) ≡ take i row ++ drop (i + 2) row
-  moved_down c within read =
-      let on : i + 1 + 2 ≡ i + 2 + 1 = omega arith in
-      let rest : drop (i + 1 + 2) (set row i c) ≡ drop (i + 2 + 1) row
-      = drop-set-lt (i + 1 + 2) row i c (omega arith) ∙ ap (λ n. drop n row) on in
-      let next : drop (i + 2) row ≡ c ∷ drop (i + 2 + 1) row
-      = drop_more row (i + 2) c within ∙ ap (λ d. d ∷ drop (i + 2 + 1) row) (sym read) in
-      ap (λ front. front ++ drop (i + 1 + 2) (set row i c)) (take_more_set row i c (omega (arith, within)))
-      ∙ append_assoc (take i row) (c ∷ []) (drop (i + 1 + 2) (set row i c))
-      ∙ ap (λ back. take i row ++ c ∷ back) rest ∙ ap (λ back. take i row ++ back) (sym next)
-
--- all were moved
-pub all_up : (row : List ℕ) (i a b : ℕ) → i ≡ length row → take i row ++ a ∷ b ∷ drop i row ≡ row ++ a ∷ b ∷ []
-all_up row i a b end =
-    ap (λ front. front ++ a ∷ b ∷ drop i row) (take_all i row (omega (arith, end)))
-    ∙ ap (λ back. row ++ a ∷ b ∷ back) (drop_all i row (omega (arith, end)))
-
-pub all_down : (row : List ℕ) (i : ℕ) → i + 2 ≡ length row → take i row ++ drop (i + 2) row ≡ take i row
-all_down row i end = ap (λ back. take i row ++ back) (drop_all (i + 2) row (omega (arith, end))) ∙ append-nil (take i row)
 
 -- ---- how often a number is there
 
@@ -111,7 +54,7 @@ module _ (ring : List Point) (ranks xs : List ℕ) (i : ℕ) (stacked : IsStacke
     abbrev left : List ℕ
     left = remove (remove xs i) i
 
-    size_left : length left + 2 ≡ length xs
+    pub size_left : length left + 2 ≡ length xs
     size_left = let one_less = length-remove xs i (omega (arith, within)) in
         omega (arith, one_less, length-remove (remove xs i) i (omega (arith, within, one_less)))
 

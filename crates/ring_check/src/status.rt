@@ -1,6 +1,6 @@
 // The status of a sweep: the edges that the sweep line meets, each below the next.
 ghost use Rattle.std.specs.List.{All, insert, remove};
-ghost use Rattle.std.specs.Prelude.{◌≡◌, ◌+◌, ◌-◌, ◌*◌, ◌<◌, ◌≤◌, ◌^◌, IsTrue, ℕ, [], ◌∷◌, ◌++◌, drop, length, slice_index, take};
+ghost use Rattle.std.specs.Prelude.{◌≡◌, ◌+◌, ◌-◌, ◌*◌, ◌<◌, ◌≤◌, ◌^◌, IsTrue, ℕ, length, slice_index};
 ghost use Rattle.plane.specs.Point.{whole};
 ghost use Rattle.rings.specs.Below.{EndsBelow, StartsBelow};
 ghost use Rattle.rings.specs.Events.{first_end, last_end, next};
@@ -12,13 +12,14 @@ ghost use Rattle.ring_check.specs.Ends.{AreVertices, edge_between};
 use crate::clash::corner;
 use crate::events::Events;
 use exact_plane::{Direction, Pt, Steps, turn};
+use std::collections::VecDeque;
 use std::sync::ledger::Ledger;
 
 // Removes edges `u` and `v`, which end at vertex `v`, the first of them from vertex `u`. It answers false where they are not found
 // or those beside them do not fit; nothing is known then. It takes at most 2 d + 4 steps, where there are fewer than 2 to the power d.
 pub(crate) fn remove_both<L: Ledger>(
     events: &Events,
-    status: &mut Vec<u16>,
+    status: &mut VecDeque<u16>,
     u: u32,
     v: u32,
     steps: &mut Steps<L>,
@@ -39,11 +40,11 @@ pub(crate) fn remove_both<L: Ledger>(
 }
 
 // Whether edge `e` is at a place and edge `f` at the next.
-fn are_at(status: &[u16], place: usize, e: u32, f: u32) -> bool
-    requires { place ≤ length status.now }
-    ensures inside { IsTrue result → place + 1 < length status.now }
-    ensures first { IsTrue result → slice_index status.now place ≡ e }
-    ensures second { IsTrue result → slice_index status.now (place + 1) ≡ f }
+fn are_at(status: &VecDeque<u16>, place: usize, e: u32, f: u32) -> bool
+    requires { place ≤ length status.now.items }
+    ensures inside { IsTrue result → place + 1 < length status.now.items }
+    ensures first { IsTrue result → slice_index status.now.items place ≡ e }
+    ensures second { IsTrue result → slice_index status.now.items (place + 1) ≡ f }
 {
     status.len() - place > 1 && status[place] as u32 == e && status[place + 1] as u32 == f
 }
@@ -52,7 +53,7 @@ fn are_at(status: &[u16], place: usize, e: u32, f: u32) -> bool
 // most 2 steps.
 fn remove_two<L: Ledger>(
     events: &Events,
-    status: &mut Vec<u16>,
+    status: &mut VecDeque<u16>,
     place: usize,
     steps: &mut Steps<L>,
 ) -> bool
@@ -67,31 +68,19 @@ fn remove_two<L: Ledger>(
 }
 
 // Removes the items at a place and at the next.
-fn take_two(status: &mut Vec<u16>, place: usize)
+fn take_two(status: &mut VecDeque<u16>, place: usize)
     requires { place + 1 < length status.old.items }
     ensures { status.new.items ≡ remove (remove status.old.items place) place }
 {
-    let left = status.len() - 2;
-    move_down(status, place);
-    status.truncate(left);
-}
-
-// Moves all items down by two places that come after those at a place and the next. The last two places keep what they have.
-fn move_down(row: &mut [u16], place: usize)
-    requires { place + 1 < length row.old }
-    ensures rest { take (length row.old - 2) row.new ≡ take place row.old ++ drop (place + 2) row.old }
-    ensures length { length row.new ≡ length row.old }
-{
-    for i in place..row.len() - 2 {
-        row[i] = row[i + 2];
-    }
+    let _ = status.remove(place);
+    let _ = status.remove(place);
 }
 
 // Puts edge `f`, which begins at vertex `v`, in the place of edge `e`, which goes from `w` to `v`. It takes at most 2 d + 4 steps, where
 // there are fewer edges than 2 to the power d.
 pub(crate) fn replace<L: Ledger>(
     events: &Events,
-    status: &mut Vec<u16>,
+    status: &mut VecDeque<u16>,
     e: u32,
     f: u32,
     v: u32,
@@ -119,7 +108,7 @@ pub(crate) fn replace<L: Ledger>(
 // not fit or memory is refused; nothing is known then. It takes at most 2 d + 10 steps, where there are fewer than 2 to the power d.
 pub(crate) fn insert_both<L: Ledger>(
     events: &Events,
-    status: &mut Vec<u16>,
+    status: &mut VecDeque<u16>,
     u: u32,
     v: u32,
     w: u32,
@@ -146,7 +135,7 @@ pub(crate) fn insert_both<L: Ledger>(
 // nothing is known then. It takes at most 6 steps.
 fn insert_two<L: Ledger>(
     events: &Events,
-    status: &mut Vec<u16>,
+    status: &mut VecDeque<u16>,
     place: usize,
     e: u32,
     f: u32,
@@ -170,43 +159,27 @@ fn insert_two<L: Ledger>(
 }
 
 // Inserts two items at a place. It answers false where memory is refused; nothing is known then.
-fn put_two(status: &mut Vec<u16>, place: usize, first: u16, second: u16) -> bool
+fn put_two(status: &mut VecDeque<u16>, place: usize, first: u16, second: u16) -> bool
     requires { place ≤ length status.old.items }
     ensures { IsTrue result → status.new.items ≡ insert (insert status.old.items place second) place first }
 {
-    let (last, over) = move_up(status, place, first, second);
-    status.push(last).is_ok() && status.push(over).is_ok()
-}
-
-// Puts two items at a place, moves those from there on up by two places, and answers the last two, for which there is none.
-fn move_up(row: &mut [u16], place: usize, first: u16, second: u16) -> (u16, u16)
-    requires { place ≤ length row.old }
-    ensures items { row.new ++ result.0 ∷ result.1 ∷ [] ≡ take place row.old ++ first ∷ second ∷ drop place row.old }
-{
-    let (mut next, mut after) = (first, second);
-    for i in place..row.len() {
-        let here = row[i];
-        row[i] = next;
-        next = after;
-        after = here;
-    }
-    (next, after)
+    status.insert(place, second).is_ok() && status.insert(place, first).is_ok()
 }
 
 // The place for the edge between vertices `v` and `w`, which begins or ends at `v`, by binary search. Only a place is
 // promised: what is found there is tested. It takes at most 2 d steps, where there are fewer edges than 2 to the power d.
 fn place_of<L: Ledger>(
     events: &Events,
-    status: &[u16],
+    status: &VecDeque<u16>,
     v: u32,
     w: u32,
     steps: &mut Steps<L>,
 ) -> usize
-    requires edges { All (λ e. e < length events.now.points.now) status.now }
+    requires edges { All (λ e. e < length events.now.points.now) status.now.items }
     requires v { v < length events.now.points.now }
     requires w { w < length events.now.points.now }
-    ensures place { result ≤ length status.now }
-    ensures steps { (d : ℕ) → length status.now < 2 ^ d → steps.new ≤ steps.old + 2 * d }
+    ensures place { result ≤ length status.now.items }
+    ensures steps { (d : ℕ) → length status.now.items < 2 ^ d → steps.new ≤ steps.old + 2 * d }
 {
     let (mut low, mut high) = (0, status.len());
     while low < high {
@@ -236,9 +209,14 @@ fn goes_below<L: Ledger>(events: &Events, e: u32, v: u32, w: u32, steps: &mut St
 }
 
 // Whether the edge at a place is above the one before it, where there are both. It takes at most 2 steps.
-fn fits<L: Ledger>(events: &Events, status: &[u16], place: usize, steps: &mut Steps<L>) -> bool
-    requires { All (λ e. e < length events.now.points.now) status.now }
-    ensures fits { IsTrue result → FitsAt events.now.points.now events.now.ranks.now status.now place }
+fn fits<L: Ledger>(
+    events: &Events,
+    status: &VecDeque<u16>,
+    place: usize,
+    steps: &mut Steps<L>,
+) -> bool
+    requires { All (λ e. e < length events.now.points.now) status.now.items }
+    ensures fits { IsTrue result → FitsAt events.now.points.now events.now.ranks.now status.now.items place }
     ensures steps { steps.new ≤ steps.old + 2 }
 {
     if place == 0 || place >= status.len() {

@@ -10,7 +10,7 @@ pub fits-requires : goal.fits-requires
 fits-requires g c =
     let e = c.args.events.now in
     let size = e.are.all_ranks in
-    rw (c.deref.ensures.value ∙ c.if-not-put_two.ensures refl)
+    rw (c.if-not-put_two.ensures refl)
     (edges_as size _ (edges_two_inserted e.points.now e.ranks.now c.args.status.now.items c.args.place c.requires.stacked c.requires.place
     c.args.e c.args.f (omega (arith, size, c.requires.e)) (omega (arith, size, c.requires.f))))
 
@@ -18,7 +18,7 @@ pub fits-requires-then-fits : goal.fits-requires-then-fits
 fits-requires-then-fits g c =
     let e = c.args.events.now in
     let size = e.are.all_ranks in
-    rw (c.deref-then-fits.ensures.value ∙ c.if-not-put_two.ensures refl)
+    rw (c.if-not-put_two.ensures refl)
     (edges_as size _ (edges_two_inserted e.points.now e.ranks.now c.args.status.now.items c.args.place c.requires.stacked c.requires.place
     c.args.e c.args.f (omega (arith, size, c.requires.e)) (omega (arith, size, c.requires.f))))
 
@@ -26,7 +26,7 @@ pub fits-requires-then-fits-2 : goal.fits-requires-then-fits-2
 fits-requires-then-fits-2 g c =
     let e = c.args.events.now in
     let size = e.are.all_ranks in
-    rw (c.deref-then-fits-2.ensures.value ∙ c.if-not-put_two.ensures refl)
+    rw (c.if-not-put_two.ensures refl)
     (edges_as size _ (edges_two_inserted e.points.now e.ranks.now c.args.status.now.items c.args.place c.requires.stacked c.requires.place
     c.args.e c.args.f (omega (arith, size, c.requires.e)) (omega (arith, size, c.requires.f))))
 
@@ -41,8 +41,8 @@ returns-then-fits-2-clause-stacked g c = λ h.
           rw items
           (two_inserted e.points.now e.ranks.now c.args.status.now.items c.args.place c.requires.stacked c.requires.place
           c.args.e c.args.f (omega (arith, size, c.requires.e)) (omega (arith, size, c.requires.f))
-          (rw (c.deref.ensures.value, items) at (w.if-fits.ensures.fits refl))
-          (rw (w.deref-then-fits.ensures.value, items) at (w.fits-then-fits.ensures.fits (sym w.value-is ∙ c.if-fits-2.true)))
-          (rw (c.deref-then-fits-2.ensures.value, items) at (c.fits-then-fits-2.ensures.fits h)))
+          (rw items at (w.if-fits.ensures.fits refl))
+          (rw items at (w.fits-then-fits.ensures.fits (sym w.value-is ∙ c.if-fits-2.true)))
+          (rw items at (c.fits-then-fits-2.ensures.fits h)))
       | else-fits w ↦ absurd (false≢true (sym w.if-fits.false ∙ sym w.value-is ∙ c.if-fits-2.true))
     ]
