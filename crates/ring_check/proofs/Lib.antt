@@ -13,4 +13,5 @@ mod SharedPoints
 mod SlabSides
 mod StatusEdits
 mod SweptArea
+mod TwoEdits
 pub mod Walks

@@ -18,7 +18,7 @@ pub(crate) struct Events<'a> {
     pub order: &'a [u32],
     pub ranks: &'a [u32],
     ghost three: { 3 ≤ length points.now },
-    ghost small: { length points.now < 2 ^ 32 },
+    ghost small: { length points.now < 2 ^ 16 },
     ghost are: { AreEvents points.now order.now ranks.now } by { events_are_one points.now order.now ranks.now },
 }
 
@@ -31,7 +31,7 @@ impl<'a> Events<'a> {
         steps: &mut Steps<L>,
     ) -> Option<Events<'a>>
         requires three { 3 ≤ length points.now }
-        requires small { length points.now < 2 ^ 32 }
+        requires small { length points.now < 2 ^ 16 }
         ensures points { IfSome result (λ events. events.points.now ≡ points.now) }
         ensures steps { steps.new ≤ steps.old + length points.now }
     {

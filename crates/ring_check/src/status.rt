@@ -1,6 +1,6 @@
 // The status of a sweep: the edges that the sweep line meets, each below the next.
-ghost use Rattle.std.specs.List.{All};
-ghost use Rattle.std.specs.Prelude.{◌≡◌, ◌+◌, ◌*◌, ◌<◌, ◌≤◌, ◌^◌, IsTrue, ℕ, length};
+ghost use Rattle.std.specs.List.{All, insert, remove};
+ghost use Rattle.std.specs.Prelude.{◌≡◌, ◌+◌, ◌-◌, ◌*◌, ◌<◌, ◌≤◌, ◌^◌, IsTrue, ℕ, length, slice_index};
 ghost use Rattle.plane.specs.Point.{whole};
 ghost use Rattle.rings.specs.Below.{EndsBelow, StartsBelow};
 ghost use Rattle.rings.specs.Events.{first_end, last_end, next};
@@ -12,13 +12,14 @@ ghost use Rattle.ring_check.specs.Ends.{AreVertices, edge_between};
 use crate::clash::corner;
 use crate::events::Events;
 use exact_plane::{Direction, Pt, Steps, turn};
+use std::collections::VecDeque;
 use std::sync::ledger::Ledger;
 
 // Removes edges `u` and `v`, which end at vertex `v`, the first of them from vertex `u`. It answers false where they are not found
 // or those beside them do not fit; nothing is known then. It takes at most 2 d + 4 steps, where there are fewer than 2 to the power d.
 pub(crate) fn remove_both<L: Ledger>(
     events: &Events,
-    status: &mut Vec<u32>,
+    status: &mut VecDeque<u16>,
     u: u32,
     v: u32,
     steps: &mut Steps<L>,
@@ -32,46 +33,54 @@ pub(crate) fn remove_both<L: Ledger>(
     ensures steps { (d : ℕ) → length status.old.items < 2 ^ d → steps.new ≤ steps.old + (2 * d + 4) }
 {
     let place = place_of(events, status, v, u, steps);
-    remove(events, status, u, place, steps)
-        && remove(events, status, v, place_beside(status, place, v), steps)
-}
-
-// The place of edge `e`, which was beside the edge that was at a place and is removed. Only a place is promised.
-fn place_beside(status: &[u32], place: usize, e: u32) -> usize {
-    if place < status.len() && status[place] == e {
-        place
-    } else {
-        place.saturating_sub(1)
+    if are_at(status, place, u, v) {
+        return remove_two(events, status, place, steps);
     }
+    place > 0 && are_at(status, place - 1, v, u) && remove_two(events, status, place - 1, steps)
 }
 
-// Removes edge `e`. It answers false where it is not at this place or those beside it do not fit; nothing is known then. It takes at
+// Whether edge `e` is at a place and edge `f` at the next.
+fn are_at(status: &VecDeque<u16>, place: usize, e: u32, f: u32) -> bool
+    requires { place ≤ length status.now.items }
+    ensures inside { IsTrue result → place + 1 < length status.now.items }
+    ensures first { IsTrue result → slice_index status.now.items place ≡ e }
+    ensures second { IsTrue result → slice_index status.now.items (place + 1) ≡ f }
+{
+    status.len() - place > 1 && status[place] as u32 == e && status[place + 1] as u32 == f
+}
+
+// Removes the edges at a place and at the next. It answers false where those beside them do not fit; nothing is known then. It takes at
 // most 2 steps.
-fn remove<L: Ledger>(
+fn remove_two<L: Ledger>(
     events: &Events,
-    status: &mut Vec<u32>,
-    e: u32,
+    status: &mut VecDeque<u16>,
     place: usize,
     steps: &mut Steps<L>,
 ) -> bool
     requires stacked { IsStacked events.now.points.now events.now.ranks.now status.old.items }
+    requires place { place + 1 < length status.old.items }
     ensures stacked { IsTrue result → IsStacked events.now.points.now events.now.ranks.now status.new.items }
-    ensures times { IsTrue result → (x : ℕ) → times x status.new.items + one x e ≡ times x status.old.items }
-    ensures length { length status.new.items ≤ length status.old.items }
+    ensures items { status.new.items ≡ remove (remove status.old.items place) place }
     ensures steps { steps.new ≤ steps.old + 2 }
 {
-    if place >= status.len() || status[place] != e {
-        return false;
-    }
-    status.remove(place);
+    take_two(status, place);
     fits(events, status, place, steps)
+}
+
+// Removes the items at a place and at the next.
+fn take_two(status: &mut VecDeque<u16>, place: usize)
+    requires { place + 1 < length status.old.items }
+    ensures { status.new.items ≡ remove (remove status.old.items place) place }
+{
+    let _ = status.remove(place);
+    let _ = status.remove(place);
 }
 
 // Puts edge `f`, which begins at vertex `v`, in the place of edge `e`, which goes from `w` to `v`. It takes at most 2 d + 4 steps, where
 // there are fewer edges than 2 to the power d.
 pub(crate) fn replace<L: Ledger>(
     events: &Events,
-    status: &mut Vec<u32>,
+    status: &mut VecDeque<u16>,
     e: u32,
     f: u32,
     v: u32,
@@ -88,10 +97,10 @@ pub(crate) fn replace<L: Ledger>(
     ensures steps { (d : ℕ) → length status.old.items < 2 ^ d → steps.new ≤ steps.old + (2 * d + 4) }
 {
     let place = place_of(events, status, v, w, steps);
-    if place == status.len() || status[place] != e {
+    if place == status.len() || status[place] as u32 != e {
         return false;
     }
-    status[place] = f;
+    status[place] = f as u16;
     fits(events, status, place, steps) && fits(events, status, place + 1, steps)
 }
 
@@ -99,7 +108,7 @@ pub(crate) fn replace<L: Ledger>(
 // not fit or memory is refused; nothing is known then. It takes at most 2 d + 10 steps, where there are fewer than 2 to the power d.
 pub(crate) fn insert_both<L: Ledger>(
     events: &Events,
-    status: &mut Vec<u32>,
+    status: &mut VecDeque<u16>,
     u: u32,
     v: u32,
     w: u32,
@@ -115,55 +124,67 @@ pub(crate) fn insert_both<L: Ledger>(
     ensures steps { (d : ℕ) → length status.old.items < 2 ^ d → steps.new ≤ steps.old + (2 * d + 10) }
 {
     let place = place_of(events, status, v, u, steps);
-    let place_of_next = if goes_below(events, u, v, w, steps) {
-        place + 1
+    if goes_below(events, u, v, w, steps) {
+        insert_two(events, status, place, u, v, steps)
     } else {
-        place
-    };
-    insert(events, status, u, place, steps) && insert(events, status, v, place_of_next, steps)
+        insert_two(events, status, place, v, u, steps)
+    }
 }
 
-// Inserts edge `e` at this place. It answers false where there is none, those beside it do not fit or memory is refused; nothing is
-// known then. It takes at most 4 steps.
-fn insert<L: Ledger>(
+// Inserts edge `e` at this place, and edge `f` above it. It answers false where those beside them do not fit or memory is refused;
+// nothing is known then. It takes at most 6 steps.
+fn insert_two<L: Ledger>(
     events: &Events,
-    status: &mut Vec<u32>,
-    e: u32,
+    status: &mut VecDeque<u16>,
     place: usize,
+    e: u32,
+    f: u32,
     steps: &mut Steps<L>,
 ) -> bool
     requires stacked { IsStacked events.now.points.now events.now.ranks.now status.old.items }
+    requires place { place ≤ length status.old.items }
     requires e { e < length events.now.points.now }
+    requires f { f < length events.now.points.now }
     ensures stacked { IsTrue result → IsStacked events.now.points.now events.now.ranks.now status.new.items }
-    ensures times { IsTrue result → (x : ℕ) → times x status.new.items ≡ times x status.old.items + one x e }
-    ensures length { IsTrue result → length status.new.items ≤ length status.old.items + 1 }
-    ensures steps { steps.new ≤ steps.old + 4 }
+    ensures times { IsTrue result → (x : ℕ) → times x status.new.items ≡ times x status.old.items + one x e + one x f }
+    ensures length { IsTrue result → length status.new.items ≤ length status.old.items + 2 }
+    ensures steps { steps.new ≤ steps.old + 6 }
 {
-    if place > status.len() || status.insert(place, e).is_err() {
+    if !put_two(status, place, e as u16, f as u16) {
         return false;
     }
-    fits(events, status, place, steps) && fits(events, status, place + 1, steps)
+    fits(events, status, place, steps)
+        && fits(events, status, place + 1, steps)
+        && fits(events, status, place + 2, steps)
+}
+
+// Inserts two items at a place. It answers false where memory is refused; nothing is known then.
+fn put_two(status: &mut VecDeque<u16>, place: usize, first: u16, second: u16) -> bool
+    requires { place ≤ length status.old.items }
+    ensures { IsTrue result → status.new.items ≡ insert (insert status.old.items place second) place first }
+{
+    status.insert(place, second).is_ok() && status.insert(place, first).is_ok()
 }
 
 // The place for the edge between vertices `v` and `w`, which begins or ends at `v`, by binary search. Only a place is
 // promised: what is found there is tested. It takes at most 2 d steps, where there are fewer edges than 2 to the power d.
 fn place_of<L: Ledger>(
     events: &Events,
-    status: &[u32],
+    status: &VecDeque<u16>,
     v: u32,
     w: u32,
     steps: &mut Steps<L>,
 ) -> usize
-    requires edges { All (λ e. e < length events.now.points.now) status.now }
+    requires edges { All (λ e. e < length events.now.points.now) status.now.items }
     requires v { v < length events.now.points.now }
     requires w { w < length events.now.points.now }
-    ensures place { result ≤ length status.now }
-    ensures steps { (d : ℕ) → length status.now < 2 ^ d → steps.new ≤ steps.old + 2 * d }
+    ensures place { result ≤ length status.now.items }
+    ensures steps { (d : ℕ) → length status.now.items < 2 ^ d → steps.new ≤ steps.old + 2 * d }
 {
     let (mut low, mut high) = (0, status.len());
     while low < high {
         let middle = low + (high - low) / 2;
-        if goes_below(events, status[middle], v, w, steps) {
+        if goes_below(events, status[middle] as u32, v, w, steps) {
             low = middle + 1;
         } else {
             high = middle;
@@ -188,15 +209,25 @@ fn goes_below<L: Ledger>(events: &Events, e: u32, v: u32, w: u32, steps: &mut St
 }
 
 // Whether the edge at a place is above the one before it, where there are both. It takes at most 2 steps.
-fn fits<L: Ledger>(events: &Events, status: &[u32], place: usize, steps: &mut Steps<L>) -> bool
-    requires { All (λ e. e < length events.now.points.now) status.now }
-    ensures fits { IsTrue result → FitsAt events.now.points.now events.now.ranks.now status.now place }
+fn fits<L: Ledger>(
+    events: &Events,
+    status: &VecDeque<u16>,
+    place: usize,
+    steps: &mut Steps<L>,
+) -> bool
+    requires { All (λ e. e < length events.now.points.now) status.now.items }
+    ensures fits { IsTrue result → FitsAt events.now.points.now events.now.ranks.now status.now.items place }
     ensures steps { steps.new ≤ steps.old + 2 }
 {
     if place == 0 || place >= status.len() {
         return true;
     }
-    is_below(events, status[place - 1], status[place], steps)
+    is_below(
+        events,
+        status[place - 1] as u32,
+        status[place] as u32,
+        steps,
+    )
 }
 
 // Whether edge `e` is below edge `f`. It takes at most 2 steps.

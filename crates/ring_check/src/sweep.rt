@@ -11,6 +11,7 @@ use crate::status::{insert_both, next, remove_both, replace};
 use exact_plane::{Memory, Pt, Steps};
 use plane::MAX_CORNERS;
 use std::alloc::Global;
+use std::collections::VecDeque;
 use std::sync::ledger::Ledger;
 
 /// Whether a sweep has shown that no two edges of the list clash. Where it answers false, as for want of memory, nothing is
@@ -63,7 +64,7 @@ fn sweep<L: Ledger>(
     }
     let order = lexical_order(alloc, points, steps)?;
     let ranks = ranks_of(alloc, &order)?;
-    let status = Vec::with_capacity(alloc, points.len())?;
+    let status = VecDeque::with_capacity(alloc, points.len())?;
     if shows_simple(points, &order, &ranks, status, steps) {
         Ok(Some(order))
     } else {
@@ -77,11 +78,11 @@ fn shows_simple<L: Ledger>(
     points: &[Pt],
     order: &[u32],
     ranks: &[u32],
-    status: Vec<u32>,
+    status: VecDeque<u16>,
     steps: &mut Steps<L>,
 ) -> bool
     requires three { 3 ≤ length points.now }
-    requires small { length points.now < 2 ^ 32 }
+    requires small { length points.now < 2 ^ 16 }
     requires empty { length status.items ≡ 0 }
     ensures simple { IsTrue result → IsSimple points.now }
     ensures steps { (d : ℕ) → length points.now < 2 ^ d → steps.new ≤ steps.old + length points.now * (2 * d + 13) }
@@ -94,7 +95,7 @@ fn shows_simple<L: Ledger>(
 
 // Whether the sweep passes all events, from an empty status. It takes at most 2 d + 12 steps an event, where there are fewer events than
 // 2 to the power d.
-fn passes_all<L: Ledger>(events: &Events, mut status: Vec<u32>, steps: &mut Steps<L>) -> bool
+fn passes_all<L: Ledger>(events: &Events, mut status: VecDeque<u16>, steps: &mut Steps<L>) -> bool
     requires { length status.items ≡ 0 }
     ensures simple { IsTrue result → IsSimple events.now.points.now }
     ensures steps { (d : ℕ) → length events.now.points.now < 2 ^ d → steps.new ≤ steps.old + length events.now.points.now * (2 * d + 12) }
@@ -109,7 +110,12 @@ fn passes_all<L: Ledger>(events: &Events, mut status: Vec<u32>, steps: &mut Step
 
 // Passes event `k`: the edges that end there leave the status, and those that begin there enter it. It takes at most 2 d + 10 steps,
 // where the status has fewer edges than 2 to the power d.
-fn passes<L: Ledger>(events: &Events, status: &mut Vec<u32>, k: u32, steps: &mut Steps<L>) -> bool
+fn passes<L: Ledger>(
+    events: &Events,
+    status: &mut VecDeque<u16>,
+    k: u32,
+    steps: &mut Steps<L>,
+) -> bool
     requires event { k < length events.now.points.now }
     requires status { IsStatus events.now.points.now events.now.ranks.now k status.old.items }
     ensures status { IsTrue result → IsStatus events.now.points.now events.now.ranks.now (k + 1) status.new.items }

@@ -23,7 +23,8 @@ use Rattle.sweep_tri.specs.Forks.{IsForkAt, TurnsLeft}
 use Rattle.sweep_tri.specs.Frontier.{IsGapPlace, IsUnder}
 use Rattle.sweep_tri.specs.Gaps.{before_last, gap_at, highest, up_front, low_front}
 use Rattle.sweep_tri.specs.Meeting.{gap_of, region_from, split_above, split_below, AreFilled, closed_at, left_at, with_vertex}
-use Rattle.sweep_tri.specs.Passing.{IsNextEvent, placed_work, AreBeside, Begins, IsRegularVertex, Finishes}
+use Rattle.sweep_tri.specs.Entries.{event_work}
+use Rattle.sweep_tri.specs.Passing.{IsNextEvent, AreBeside, Begins, IsRegularVertex, Finishes}
 use Rattle.sweep_tri.specs.Region.{IsRegion, IsClosedRegion}
 use Rattle.sweep_tri.specs.Slots.{AreSortedBy}
 use Rattle.sweep_tri.specs.Swept.{IsSwept}
@@ -147,15 +148,14 @@ digits_at_least n some = omega (arith, two_digits, binary_digits_mono 3 n some)
 
 -- the search for the place, the turn of a fork, and what comes then, with n vertices and m gaps
 all_digits : (n m : ℕ) → 3 ≤ n → m + 1 ≤ n
-    → 4 * binary_digits m + 1 + (46 * binary_digits (m + 1) + 100 + 2 * binary_digits m + 2) ≤ 200 * binary_digits n
-all_digits n m some more =
-    omega (arith, binary_digits_mono m n (omega (arith, more)), binary_digits_mono (m + 1) n more, digits_at_least n some)
+    → binary_digits m + 1 + event_work ≤ 200 * binary_digits n
+all_digits n m some more = omega (arith, binary_digits_mono m n (omega (arith, more)), digits_at_least n some)
 
 -- so the steps after an event, whether or not with those for the entries of the gaps that are left, are within the bound
 pub pass_within : {corners : List Point} {ranks : List ℕ} {gaps : List Gap} {tris : List Tri} {v : ℕ} → IsNextEvent corners ranks gaps tris v
     → (start placed entries s : ℕ)
-    → placed ≤ start + 4 * binary_digits (length gaps) + 1
-    → s ≤ placed + 8 * entries + placed_work gaps
+    → placed ≤ start + binary_digits (length gaps) + 1
+    → s ≤ placed + 8 * entries + event_work
     → s ≤ start + 8 * entries + 200 * binary_digits (length corners)
 pass_within {corners} {ranks} {gaps} is start placed entries s first last =
     omega (arith, first, last, all_digits (length corners) (length gaps) is.ranked.some (gaps_few is))

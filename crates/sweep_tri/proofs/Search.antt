@@ -1,8 +1,8 @@
 -- A search by halves for the place of a vertex among the gaps: the places that are left, and its test.
 -- What the turn of three corners says of a vertex and an edge.
-use Rattle.std.proofs.Common.{◌≡◌, ◌↔◌, sym, ap, subst, ◌∙◌, ℕ, ◌+◌, ◌<◌, ◌≤◌, List, length, inl, inr, arith, refl}
+use Rattle.std.proofs.Common.{◌≡◌, ◌↔◌, sym, ap, subst, ◌∙◌, ℕ, zero, suc, ◌+◌, ◌*◌, ◌^◌, ◌<◌, ◌≤◌, List, length, inl, inr, arith, refl}
 use Rattle.std.proofs.lemmas.Bool.{cases_eq}
-use Rattle.std.proofs.lemmas.List.{get_or_read}
+use Rattle.std.proofs.lemmas.Nat.{pow-add}
 use Rattle.std.specs.Prelude.{slice_index_or}
 use Rattle.plane.specs.Point.{Point, whole}
 use Rattle.plane.specs.Turn.{determinant}
@@ -14,13 +14,10 @@ use Rattle.exact_plane.specs.Spot.{point_named}
 use Rattle.exact_plane.specs.declared.direction.Direction.{Direction}
 use Rattle.exact_plane.specs.declared.direction.Direction.TheVariants.{Left, Right}
 use Rattle.exact_plane.specs.declared.turns.Spot.TheVariants.{Corner}
-use Rattle.shared_seq.proofs.Searches.{IsPartOf, after_end, halves_length, middle_is, middle_within}
-use Rattle.shared_seq.specs.Search.{AreHalves, ListPart}
-use Rattle.sweep_tri.proofs.Slots.{gap_is, gaps_count}
 use Rattle.sweep_tri.specs.Forks.{TurnsLeft}
 use Rattle.sweep_tri.specs.Frontier.{IsAbove, IsUnder}
-use Rattle.sweep_tri.specs.Gaps.{gap_at, low_front, no_gap, Front}
-use Rattle.sweep_tri.specs.Slots.{AreSlotNumbers, AreSortedBy, HasLowFront, HaveLowFronts, gaps_of}
+use Rattle.sweep_tri.specs.Gaps.{gap_at, low_front, Front}
+use Rattle.sweep_tri.specs.Slots.{AreSortedBy, HasLowFront}
 use Rattle.sweep_tri.specs.declared.gap.Gap.{Gap}
 
 -- ---- the places
@@ -60,53 +57,18 @@ module _ (corners : List Point) (gaps : List Gap) (v : ℕ) (sorted : AreSortedB
     ];
   }
 
--- ---- the part of the numbers that is left
+-- ---- the steps
 
--- the numbers of the slots are halved at one of them
-module _ (slots : List Gap) (numbers : List ℕ) (gaps : List Gap) (are : gaps_of slots numbers ≡ gaps) (taken : AreSlotNumbers slots numbers)
-    (part before after : ListPart) (value : ℕ) (halves : AreHalves part before value after) (in_list : IsPartOf numbers part) where
-  abbrev middle : ℕ
-  middle = part.low + length before.items
+-- some places are left, fewer than 2 to a power, which is that of the steps to come
+abbrev pub IsPaid : ℕ → ℕ → ℕ → Type 0
+IsPaid left steps most = (e : ℕ) × (left < 2 ^ e) × (steps + e ≤ most)
 
-  between_halves : middle < length numbers
-  between_halves = middle_within part before after value halves numbers in_list
-
-  -- it is that of a slot,
-  pub is_slot : value < length slots
-  is_slot = subst (λ n. n < length slots) (middle_is part before after value halves numbers in_list) (taken.below middle 0 between_halves)
-
-  -- and the gap that is read there
-  module _ (seen : Gap) (read : seen ≡ slice_index_or slots value seen) where
-    -- is the one at the place between the halves,
-    is_between : seen ≡ gap_at gaps middle
-    is_between = get_or_read slots value seen is_slot read no_gap
-        ∙ ap (gap_at slots) (sym (middle_is part before after value halves numbers in_list))
-        ∙ sym (gap_is slots numbers middle between_halves) ∙ ap (λ gs. gap_at gs middle) are
-
-    pub seen_has_low_front : (corners : List Point) → HaveLowFronts corners gaps → HasLowFront corners seen
-    seen_has_low_front corners fronts = subst (HasLowFront corners) (sym is_between)
-        (fronts middle (omega (arith, between_halves, gaps_count slots numbers, ap length are)))
-
-    -- so the place of vertex v is in the half that its lower edge tells
-    module _ (corners : List Point) (v : ℕ) (sorted : AreSortedBy corners gaps v)
-        (is : IsBetween corners gaps v part.low (part.low + length part.items)) where
-      abbrev high : ℕ
-      high = part.low + length part.items
-
-      below : middle < high
-      below = omega (arith, halves_length part before after value halves)
-
-      pub is_in_after : IsAbove corners (low_front seen) v → IsBetween corners gaps v after.low (after.low + length after.items)
-      is_in_after above =
-          subst (λ l. IsBetween corners gaps v l (after.low + length after.items)) (sym halves.after_low)
-          (subst (IsBetween corners gaps v (middle + 1)) (after_end part before after value halves)
-          (low_moves corners gaps v sorted part.low high is middle below (subst (λ g. IsAbove corners (low_front g) v) is_between above)))
-
-      pub is_in_before : ¬ IsAbove corners (low_front seen) v → IsBetween corners gaps v before.low (before.low + length before.items)
-      is_in_before not =
-          subst (λ l. IsBetween corners gaps v l (l + length before.items)) (sym halves.low)
-          (high_moves corners gaps v sorted part.low high is middle (omega arith) below
-          (λ above. not (subst (λ g. IsAbove corners (low_front g) v) (sym is_between) above)))
+-- at most half of them are left after one step more
+pub half_paid : (left half before after most : ℕ) → 0 < left → 2 * half ≤ left → after ≤ before + 1 → IsPaid left before most → IsPaid half after most
+half_paid left half before after most some less took (zero, below, paid) = absurd (omega (arith, some, below))
+half_paid left half before after most some less took (suc e, below, paid) =
+    let twice : 2 ^ (e + 1) ≡ 2 ^ e * 2 = pow-add 2 e 1 in
+    (e, omega (arith, below, less, twice), omega (arith, took, paid))
 
 -- ---- the test
 

@@ -3,11 +3,9 @@
 use Rattle.std.proofs.Common.{◌≡◌, sym, ap, ◌∙◌, ℕ, suc, ◌+◌, ◌-◌, ◌<◌, ◌≤◌, Bool, true, false, nat_lt, Option, Some, None, List, [], ◌∷◌}
 use Rattle.std.proofs.Common.{◌++◌, length, take, drop, set, arith, ◌*◌}
 use Rattle.std.proofs.lemmas.List.{drop_more, length-append, length-take-le, set_split, take-append-drop, length-set, set-set}
-use Rattle.std.proofs.lemmas.List.Edits.{get_or-remove_below, length-remove}
+use Rattle.std.proofs.lemmas.List.Edits.{get_or-remove_below}
 use Rattle.std.specs.List.{insert, remove}
 use Rattle.std.specs.Prelude.{if◌then◌else◌, slice_index}
-use Rattle.shared_seq.proofs.Digits.{binary_digits_mono}
-use Rattle.shared_seq.specs.Digits.{binary_digits}
 use Rattle.mono_fill.specs.declared.side.Side.{Side}
 use Rattle.mono_fill.specs.declared.side.Side.TheVariants.{Lower, Upper}
 use Rattle.sweep_tri.specs.Entries.{entries, entries_of_all, gap_entries, status_entries, IsPaid, IsWithinAccount, event_work}
@@ -90,10 +88,6 @@ entries_split ranks v a b low None =
     omega (arith, entries_latest v a b low less)
 entries_split ranks v a b low (Some high) = omega (arith, length-append low.upper (v ∷ a ∷ []), length-append high.lower (v ∷ b ∷ []))
 
--- the digits of one gap more
-pub more_digits : (gaps : List Gap) → binary_digits (length gaps) ≤ binary_digits (length gaps + 1)
-more_digits gaps = binary_digits_mono (length gaps) (length gaps + 1) (omega arith)
-
 -- two gaps put at one place: the second one is there
 pub replaced_twice : (gaps gaps' gaps'' : List Gap) (j : ℕ) (g g' : Gap) → gaps' ≡ set gaps j g → gaps'' ≡ set gaps' j g' → gaps'' ≡ set gaps j g'
 replaced_twice gaps gaps' gaps'' j g g' first second = second ∙ ap (λ gs. set gs j g') first ∙ set-set gaps j g g'
@@ -102,13 +96,9 @@ replaced_twice gaps gaps' gaps'' j g g' first second = second ∙ ap (λ gs. set
 pub as_many : (gaps gaps' : List Gap) (j : ℕ) (g : Gap) → gaps' ≡ set gaps j g → length gaps' ≡ length gaps
 as_many gaps gaps' j g is = ap length is ∙ length-set gaps j g
 
--- a gap below one that is removed is there,
+-- a gap below one that is removed is there
 pub still_there : (gaps : List Gap) (i j : ℕ) → i < j → j < length gaps → gap_at (remove gaps j) i ≡ gap_at gaps i
 still_there gaps i j less within = get_or-remove_below gaps j no_gap i less within
-
--- and there are no more digits
-pub fewer_digits : (gaps : List Gap) (j : ℕ) → j < length gaps → binary_digits (length (remove gaps j)) ≤ binary_digits (length gaps)
-fewer_digits gaps j within = binary_digits_mono (length (remove gaps j)) (length gaps) (omega (arith, length-remove gaps j within))
 
 -- a gap put at a place brings no more entries than it has
 pub put_entries : (gaps gaps' : List Gap) (j : ℕ) (g : Gap) → j < length gaps → gaps' ≡ set gaps j g
@@ -118,59 +108,46 @@ put_entries gaps gaps' j g within is = omega (arith, ap status_entries is, entri
 module _ (gaps : List Gap) (j : ℕ) (s0 : ℕ) where
   -- ---- a gap begins
 
-  pub starts_paid : (v a b s : ℕ) → s ≤ s0 + 24 * (binary_digits (length gaps + 1) + 1)
-      → IsPaid gaps (insert gaps j (gap_of (region_from v a b))) (event_work gaps) s0 s
-  starts_paid v a b s most = omega (arith, most, entries_inserted gaps j (gap_of (region_from v a b)))
+  pub starts_paid : (v a b s : ℕ) → s ≤ s0 + 1 → (new : List Gap) → new ≡ insert gaps j (gap_of (region_from v a b))
+      → IsPaid gaps new event_work s0 s
+  starts_paid v a b s most new is = omega (arith, most, ap status_entries is, entries_inserted gaps j (gap_of (region_from v a b)))
 
   module _ (within : j < length gaps) where
     -- ---- a gap is split
 
-    module _ (ranks : List ℕ) (v a b : ℕ) (s1 s2 s3 : ℕ) (first : s1 ≤ s0 + 2 * binary_digits (length gaps) + 1)
-        (second : s2 ≤ s1 + 2 * binary_digits (length gaps) + 1) (third : s3 ≤ s2 + 24 * (binary_digits (length gaps + 1) + 1)) where
-      pub splits_work : s3 ≤ s0 + event_work gaps
-      splits_work = omega (arith, first, second, third, more_digits gaps)
-
-      pub splits_paid : let g = gap_at gaps j in IsPaid gaps
-          (insert (set gaps j (gap_of (split_below ranks g.low g.high v a))) (j + 1) (gap_of (split_above ranks g.low g.high v b))) (event_work gaps) s0 s3
-      splits_paid =
-          let g = gap_at gaps j in
-          let below = gap_of (split_below ranks g.low g.high v a) in
-          let above = gap_of (split_above ranks g.low g.high v b) in
-          omega (
-            arith,
-            splits_work,
-            first,
-            second,
-            third,
-            more_digits gaps,
-            entries_inserted (set gaps j below) (j + 1) above,
-            entries_replaced gaps j below within,
-            entries_split ranks v a b g.low g.high,
-          )
+    pub splits_paid : (ranks : List ℕ) (v a b s : ℕ) → s ≤ s0 + 1 → (new : List Gap)
+        → (let g = gap_at gaps j in new
+        ≡ insert (set gaps j (gap_of (split_below ranks g.low g.high v a))) (j + 1) (gap_of (split_above ranks g.low g.high v b)))
+        → IsPaid gaps new event_work s0 s
+    splits_paid ranks v a b s most new is =
+        let g = gap_at gaps j in
+        let below = gap_of (split_below ranks g.low g.high v a) in
+        let above = gap_of (split_above ranks g.low g.high v b) in
+        omega (
+          arith,
+          most,
+          ap status_entries is,
+          entries_inserted (set gaps j below) (j + 1) above,
+          entries_replaced gaps j below within,
+          entries_split ranks v a b g.low g.high,
+        )
 
     -- ---- an edge of the gap ends, so that some regions are closed and one is left
 
-    module _ (side : Side) (v : ℕ) (g : Gap) (is_gap : g ≡ gap_at gaps j) (s1 s2 : ℕ)
-        (met : s2 ≤ s1 + 8 * entries_of_all (closed_at side g.low g.high v)) where
+    module _ (side : Side) (v : ℕ) (g : Gap) (is_gap : g ≡ gap_at gaps j) (s : ℕ)
+        (met : s ≤ s0 + 8 * entries_of_all (closed_at side g.low g.high v)) where
       all_met : entries_of_all (closed_at side g.low g.high v) + entries (left_at side g.low g.high v) ≤ gap_entries (gap_at gaps j) + 2
       all_met = omega (arith, entries_met side g.low g.high v, ap gap_entries is_gap)
 
-      -- the gap is removed
-      module _ (first : s1 ≤ s0 + (40 * (binary_digits (length gaps) + 1) + 2 * binary_digits (length gaps) + 1)) where
-        pub removed_work : IsWithinAccount gaps (42 * binary_digits (length gaps) + 57) s0 s2
-        removed_work = omega (arith, first, met, all_met, entries_within gaps j within)
+      pub met_work : IsWithinAccount gaps 16 s0 s
+      met_work = omega (arith, met, all_met, entries_within gaps j within)
 
-        pub removed_paid : (new : List Gap) → new ≡ remove gaps j → (left : Chains) → left ≡ left_at side g.low g.high v
-            → IsPaid gaps new (42 * binary_digits (length gaps) + 57) s0 (s2 + 8 * entries left)
-        removed_paid new is left left_is =
-            omega (arith, first, met, all_met, entries_removed gaps j within, ap status_entries is, ap entries left_is)
+      module _ (new : List Gap) (left : Chains) (left_is : left ≡ left_at side g.low g.high v) where
+        -- the gap is removed
+        pub removed_paid : new ≡ remove gaps j → IsPaid gaps new 16 s0 (s + 8 * entries left)
+        removed_paid is = omega (arith, met, all_met, entries_removed gaps j within, ap status_entries is, ap entries left_is)
 
-      -- nothing is left in it
-      module _ (first : s1 ≤ s0 + 2 * binary_digits (length gaps) + 1) where
-        pub emptied_work : IsWithinAccount gaps (2 * binary_digits (length gaps) + 17) s0 s2
-        emptied_work = omega (arith, first, met, all_met, entries_within gaps j within)
-
-        pub emptied_paid : (none : Gap) → none ≡ no_gap → (new : List Gap) → new ≡ set gaps j none → (left : Chains)
-            → left ≡ left_at side g.low g.high v → IsPaid gaps new (2 * binary_digits (length gaps) + 17) s0 (s2 + 8 * entries left)
-        emptied_paid none none_is new is left left_is =
-            omega (arith, first, met, all_met, entries_replaced gaps j none within, ap gap_entries none_is, ap status_entries is, ap entries left_is)
+        -- nothing is left in it
+        pub emptied_paid : (none : Gap) → none ≡ no_gap → new ≡ set gaps j none → IsPaid gaps new 16 s0 (s + 8 * entries left)
+        emptied_paid none none_is is =
+            omega (arith, met, all_met, entries_replaced gaps j none within, ap gap_entries none_is, ap status_entries is, ap entries left_is)

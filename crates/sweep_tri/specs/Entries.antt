@@ -1,6 +1,5 @@
 -- How many entries the chains of regions have in all: what bounds the work to close them. No public clause cites this module.
 use Rattle.std.specs.Prelude.{ℕ, ◌+◌, ◌*◌, ◌≤◌, Option, Some, None, List, [], ◌∷◌, length}
-use Rattle.shared_seq.specs.Digits.{binary_digits}
 use Rattle.sweep_tri.specs.Region.{Chains}
 use Rattle.sweep_tri.specs.declared.gap.Gap.{Gap}
 
@@ -28,8 +27,8 @@ status_entries [] = 0
 status_entries (g ∷ gs) = gap_entries g + status_entries gs
 
 -- the steps that one event takes at most, but for the place of its vertex and for the entries of the regions that it closes
-abbrev pub event_work : List Gap → ℕ
-event_work gaps = 46 * binary_digits (length gaps + 1) + 100
+abbrev pub event_work : ℕ
+event_work = 57
 
 -- the steps s after an event that began at s_old are paid for by the entries of the gaps that were there, eight for each, and some more
 abbrev pub IsWithinAccount : List Gap → ℕ → ℕ → ℕ → Type 0

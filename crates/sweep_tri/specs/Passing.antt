@@ -1,11 +1,9 @@
 -- An event that the sweep passes: the state before it, and the edges that begin at its vertex. No public clause cites this module.
-use Rattle.std.specs.Prelude.{◌≡◌, ◌⊎◌, ℕ, ◌+◌, ◌*◌, ◌^◌, ◌<◌, ◌≤◌, List, length, slice_index}
+use Rattle.std.specs.Prelude.{◌≡◌, ◌⊎◌, ℕ, ◌^◌, ◌<◌, ◌≤◌, List, length, slice_index}
 use Rattle.plane.specs.Point.{Point}
 use Rattle.meshes.specs.declared.tri.Tri.{Tri}
 use Rattle.rings.specs.Events.{next, previous}
 use Rattle.rings.specs.Simple.{IsSimple}
-use Rattle.shared_seq.specs.Digits.{binary_digits}
-use Rattle.sweep_tri.specs.Entries.{event_work}
 use Rattle.sweep_tri.specs.Forks.{TurnsLeft}
 use Rattle.sweep_tri.specs.Ranked.{IsRanked}
 use Rattle.sweep_tri.specs.Swept.{IsSwept}
@@ -42,7 +40,3 @@ pub record IsRegularVertex (ranks : List ℕ) (v w : ℕ) : Type 0 where
 pub record Finishes (ranks : List ℕ) (v : ℕ) : Type 0 where
   pub previous_not_later : slice_index ranks (previous (length ranks) v) ≤ slice_index ranks v
   pub next_not_later : slice_index ranks (next (length ranks) v) ≤ slice_index ranks v
-
--- the steps that an event takes where the place of its vertex is known, but for the entries of the regions that it closes
-abbrev pub placed_work : List Gap → ℕ
-placed_work gaps = event_work gaps + 2 * binary_digits (length gaps) + 2

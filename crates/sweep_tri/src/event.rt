@@ -2,11 +2,11 @@
 ghost use Rattle.std.specs.Prelude.{◌≡◌, ◌+◌, ◌*◌, ◌≤◌, ◌<◌, ◌↔◌, OnOk, IsTrue, [], length, slice_index};
 ghost use Rattle.rings.specs.Events.{next, previous};
 ghost use Rattle.shared_seq.specs.Digits.{binary_digits};
-ghost use Rattle.sweep_tri.specs.Entries.{IsPaid, IsWithinAccount};
+ghost use Rattle.sweep_tri.specs.Entries.{IsPaid, IsWithinAccount, event_work};
 ghost use Rattle.sweep_tri.specs.Forks.{IsForkAt};
 ghost use Rattle.sweep_tri.specs.Frontier.{IsGapPlace, IsUnder};
 ghost use Rattle.sweep_tri.specs.Gaps.{gap_at, highest, up_front};
-ghost use Rattle.sweep_tri.specs.Passing.{Begins, Finishes, IsNextEvent, placed_work};
+ghost use Rattle.sweep_tri.specs.Passing.{Begins, Finishes, IsNextEvent};
 ghost use Rattle.sweep_tri.specs.Swept.{IsSwept};
 
 mod end;
@@ -84,13 +84,13 @@ impl Sweep {
         requires place { IsGapPlace (T.corners board.now) self.old.status fork.vertex j }
         requires begins { Begins (T.corners board.now) rank.now fork }
         ensures swept { OnOk result (IsSwept (T.corners board.now) rank.now (slice_index rank.now fork.vertex + 1) self.new.status self.new.tris.items) }
-        ensures work { IsWithinAccount self.old.status (placed_work self.old.status) steps.old steps.new }
-        ensures paid { OnOk result (IsPaid self.old.status self.new.status (placed_work self.old.status) steps.old steps.new) }
+        ensures work { IsWithinAccount self.old.status event_work steps.old steps.new }
+        ensures paid { OnOk result (IsPaid self.old.status self.new.status event_work steps.old steps.new) }
     {
         if 0 < j && self.is_under(board, j - 1, fork.vertex, steps) {
-            self.split(alloc, rank, j - 1, fork, steps)
+            self.split(alloc, rank, j - 1, fork)
         } else {
-            self.start(alloc, j, fork, steps)
+            self.start(alloc, j, fork)
         }
     }
 
@@ -108,10 +108,10 @@ impl Sweep {
         requires place { IsGapPlace (T.corners board.now) self.old.status v j }
         requires finishes { Finishes rank.now v }
         ensures swept { OnOk result (IsSwept (T.corners board.now) rank.now (slice_index rank.now v + 1) self.new.status self.new.tris.items) }
-        ensures work { IsWithinAccount self.old.status (placed_work self.old.status) steps.old steps.new }
-        ensures paid { OnOk result (IsPaid self.old.status self.new.status (placed_work self.old.status) steps.old steps.new) }
+        ensures work { IsWithinAccount self.old.status event_work steps.old steps.new }
+        ensures paid { OnOk result (IsPaid self.old.status self.new.status event_work steps.old steps.new) }
     {
-        if self.status.get(j, steps).up_front().1 == v {
+        if self.status.get(j).up_front().1 == v {
             self.end(alloc, board, rank, j, v, steps)
         } else {
             self.merge(alloc, board, rank, j, v, steps)
@@ -132,9 +132,9 @@ impl Sweep {
         requires from { (up_front (gap_at self.now.status j)).from < length (T.corners board.now) }
         requires to { (up_front (gap_at self.now.status j)).to < length (T.corners board.now) }
         ensures under { IsTrue result ↔ IsUnder (T.corners board.now) (up_front (gap_at self.now.status j)) v }
-        ensures steps { steps.new ≤ steps.old + 2 * binary_digits (length self.now.status) + 2 }
+        ensures steps { steps.new ≤ steps.old + 1 }
     {
-        let (from, to) = self.status.get(j, steps).up_front();
+        let (from, to) = self.status.get(j).up_front();
         let turn = board.turn(Spot::Corner(from), Spot::Corner(to), Spot::Corner(v), steps);
         turn == Direction::Right
     }

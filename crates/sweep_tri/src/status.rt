@@ -1,6 +1,6 @@
 // The gaps that the sweep line meets, upward.
 ghost use Rattle.std.specs.List.{insert, remove};
-ghost use Rattle.std.specs.Prelude.{◌≡◌, ◌+◌, ◌*◌, ◌^◌, ◌<◌, ◌≤◌, ◌↔◌, IfOk, IsTrue, OnOk, [], length, slice_set};
+ghost use Rattle.std.specs.Prelude.{◌≡◌, ◌+◌, ◌^◌, ◌<◌, ◌≤◌, ◌↔◌, IfOk, IsTrue, OnOk, [], length, slice_set};
 ghost use Rattle.shared_seq.specs.Digits.{binary_digits};
 ghost use Rattle.sweep_tri.specs.Frontier.{IsAbove, IsGapPlace};
 ghost use Rattle.sweep_tri.specs.Gaps.{gap_at, low_front};
@@ -8,18 +8,18 @@ ghost use Rattle.sweep_tri.specs.Slots.{AreSortedBy, HasLowFront, HaveLowFronts}
 
 use crate::gap::Gap;
 use exact_plane::{Direction, Memory, Spot, Steps, Turns};
-use shared_seq::SharedSeq;
 use std::alloc::Global;
 use std::marker::Model;
 use std::mem;
 use std::sync::ledger::Ledger;
 
-// The gaps, each in a slot of its own, and the numbers of the slots of those that are open, in order. A slot that is left is free
-// for a later gap, so there are never more slots than there were open gaps at one time.
+// The gaps, each in a slot of its own, and the numbers of the slots of those that are open, in order: so only numbers move where a gap
+// comes between others. A slot that is left is free for a later gap, so there are never more slots than there were open gaps at one
+// time.
 #[derive(Drop)]
 pub(crate) struct Status {
     slots: Vec<Gap>,
-    numbers: SharedSeq,
+    numbers: Vec<u32>,
     free: Vec<u32>,
 }
 
@@ -30,9 +30,9 @@ impl Model for Status {
 
     ghost Value = { List Gap };
 
-    ghost view = { λ status. gaps_of status.slots.items status.numbers };
+    ghost view = { λ status. gaps_of status.slots.items status.numbers.items };
 
-    ghost invariant = { λ status. AreSlots status.slots.items status.numbers status.free.items };
+    ghost invariant = { λ status. AreSlots status.slots.items status.numbers.items status.free.items };
 }
 
 impl Status {
@@ -42,7 +42,7 @@ impl Status {
     {
         Status {
             slots: Vec::new(alloc),
-            numbers: SharedSeq::empty(),
+            numbers: Vec::new(alloc),
             free: Vec::new(alloc),
         }
     }
@@ -55,74 +55,57 @@ impl Status {
     }
 
     // The gap at a place.
-    pub(crate) fn get<L: Ledger>(&self, j: usize, steps: &mut Steps<L>) -> &Gap
+    pub(crate) fn get(&self, j: usize) -> &Gap
         requires { j < length self.now }
         ensures gap { result.now ≡ gap_at self.now j }
-        ensures steps { steps.new ≤ steps.old + 2 * binary_digits (length self.now) + 1 }
     {
-        &self.slots[self.numbers.get(j, steps) as usize]
+        &self.slots[self.numbers[j] as usize]
     }
 
     // Puts a gap in the place of the one at `j`, which it answers.
-    pub(crate) fn replace<L: Ledger>(&mut self, j: usize, gap: Gap, steps: &mut Steps<L>) -> Gap
+    pub(crate) fn replace(&mut self, j: usize, gap: Gap) -> Gap
         requires { j < length self.old }
         ensures gap { result ≡ gap_at self.old j }
         ensures gaps { self.new ≡ slice_set self.old j gap }
-        ensures steps { steps.new ≤ steps.old + 2 * binary_digits (length self.old) + 1 }
     {
-        let number = self.numbers.get(j, steps) as usize;
+        let number = self.numbers[j] as usize;
         mem::replace(&mut self.slots[number], gap)
     }
 
     // Inserts a gap before the one at `j`, or after all.
-    pub(crate) fn insert<L: Ledger>(
-        &mut self,
-        alloc: Global,
-        j: usize,
-        gap: Gap,
-        steps: &mut Steps<L>,
-    ) -> Result<(), Memory>
+    pub(crate) fn insert(&mut self, j: usize, gap: Gap) -> Result<(), Memory>
         requires place { j ≤ length self.old }
         requires few { length self.old + 1 < 2 ^ 31 }
         ensures gaps { OnOk result (self.new ≡ insert self.old j gap) }
-        ensures steps { steps.new ≤ steps.old + 24 * (binary_digits (length self.old + 1) + 1) }
     {
         let left = self.free.len();
         if left > 0 {
             let number = self.free[left - 1];
-            let numbers = self.numbers.insert_at(alloc, j, number, steps)?;
+            self.numbers.insert(j, number)?;
             self.slots[number as usize] = gap;
             self.free.pop();
-            self.numbers = numbers;
             return Ok(());
         }
         let number = self.slots.len() as u32;
-        let numbers = self.numbers.insert_at(alloc, j, number, steps)?;
+        self.numbers.reserve(1)?;
         self.slots.push(gap)?;
-        self.numbers = numbers;
+        self.numbers.insert(j, number)?;
         Ok(())
     }
 
     // Removes the gap at `j`, and answers it.
-    pub(crate) fn remove<L: Ledger>(
-        &mut self,
-        alloc: Global,
-        j: usize,
-        steps: &mut Steps<L>,
-    ) -> Result<Gap, Memory>
+    pub(crate) fn remove(&mut self, alloc: Global, j: usize) -> Result<Gap, Memory>
         requires { j < length self.old }
         ensures gap { IfOk result (λ gap. gap ≡ gap_at self.old j) }
         ensures gaps { OnOk result (self.new ≡ remove self.old j) }
-        ensures steps { let b = binary_digits (length self.old) in steps.new ≤ steps.old + (40 * (b + 1) + 2 * b + 1) }
     {
-        let number = self.numbers.get(j, steps);
-        let numbers = self.numbers.remove_at(alloc, j, steps)?;
+        let number = self.numbers[j];
         self.free.push(number)?;
-        self.numbers = numbers;
+        self.numbers.remove(j);
         Ok(mem::replace(&mut self.slots[number as usize], Gap::none(alloc)))
     }
 
-    // The place of vertex `v`: the number of gaps whose lower edges it is above. It takes at most 4 b steps, b the number of binary
+    // The place of vertex `v`: the number of gaps whose lower edges it is above. It takes at most b steps, b the number of binary
     // digits of that of the gaps.
     pub(crate) fn place<T: Turns, L: Ledger>(
         &self,
@@ -134,18 +117,18 @@ impl Status {
         requires fronts { HaveLowFronts (T.corners board.now) self.now }
         requires sorted { AreSortedBy (T.corners board.now) self.now v }
         ensures place { IsGapPlace (T.corners board.now) self.now v result }
-        ensures steps { steps.new ≤ steps.old + 4 * binary_digits (length self.now) }
+        ensures steps { steps.new ≤ steps.old + binary_digits (length self.now) }
     {
-        let mut search = self.numbers.search();
-        while let Some(halves) = search.halves(steps) {
-            let gap = &self.slots[halves.value as usize];
-            search = if is_over(board, gap, v, steps) {
-                halves.after
+        let (mut low, mut high) = (0, self.numbers.len());
+        while low < high {
+            let middle = low + (high - low) / 2;
+            if is_over(board, self.get(middle), v, steps) {
+                low = middle + 1;
             } else {
-                halves.before
-            };
+                high = middle;
+            }
         }
-        search.low()
+        low
     }
 }
 

@@ -32,10 +32,10 @@ impl Sweep {
         ensures gaps { OnOk result (self.new.status ≡ remove self.old.status j) }
         ensures filled { OnOk result (let g = gap_at self.old.status j in
             AreFilled (T.corners board.now) (closed_at Side.Upper g.low g.high v ++ left_at Side.Upper g.low g.high v ∷ []) self.old.tris.items self.new.tris.items) }
-        ensures work { IsWithinAccount self.old.status (event_work self.old.status) steps.old steps.new }
-        ensures paid { OnOk result (IsPaid self.old.status self.new.status (event_work self.old.status) steps.old steps.new) }
+        ensures work { IsWithinAccount self.old.status event_work steps.old steps.new }
+        ensures paid { OnOk result (IsPaid self.old.status self.new.status event_work steps.old steps.new) }
     {
-        let gap = self.status.remove(alloc, j, steps)?;
+        let gap = self.status.remove(alloc, j)?;
         let region = gap.meet(alloc, board, rank, Side::Upper, v, &mut self.tris, steps)?;
         region.close(alloc, board, rank, &mut self.tris, steps)
     }

@@ -35,14 +35,14 @@ impl Sweep {
             (record { low = left_at Side.Upper g.low g.high v; high = Some (left_at Side.Lower h.low h.high v) })) }
         ensures filled { OnOk result (let g = gap_at self.old.status (j - 1) in let h = gap_at self.old.status j in
             AreFilled (T.corners board.now) (closed_at Side.Lower h.low h.high v ++ closed_at Side.Upper g.low g.high v) self.old.tris.items self.new.tris.items) }
-        ensures work { IsWithinAccount self.old.status (event_work self.old.status) steps.old steps.new }
-        ensures paid { OnOk result (IsPaid self.old.status self.new.status (event_work self.old.status) steps.old steps.new) }
+        ensures work { IsWithinAccount self.old.status event_work steps.old steps.new }
+        ensures paid { OnOk result (IsPaid self.old.status self.new.status event_work steps.old steps.new) }
     {
-        let above = self.status.remove(alloc, j, steps)?;
+        let above = self.status.remove(alloc, j)?;
         let high = above.meet(alloc, board, rank, Side::Lower, v, &mut self.tris, steps)?;
-        let below = self.status.replace(j - 1, Gap::none(alloc), steps);
+        let below = self.status.replace(j - 1, Gap::none(alloc));
         let low = below.meet(alloc, board, rank, Side::Upper, v, &mut self.tris, steps)?;
-        self.status.replace(j - 1, Gap::of_two(low, high), steps);
+        self.status.replace(j - 1, Gap::of_two(low, high));
         Ok(())
     }
 }

@@ -1,12 +1,11 @@
 // A regular vertex: one edge ends, and one goes on.
 ghost use Rattle.std.specs.List.{All};
 ghost use Rattle.std.specs.Prelude.{◌≡◌, ◌+◌, ◌*◌, ◌≤◌, ◌<◌, ◌↔◌, OnOk, IsTrue, length, slice_index, slice_set};
-ghost use Rattle.shared_seq.specs.Digits.{binary_digits};
 ghost use Rattle.sweep_tri.specs.Entries.{IsPaid, IsWithinAccount, event_work};
 ghost use Rattle.sweep_tri.specs.Frontier.{IsGapPlace};
 ghost use Rattle.sweep_tri.specs.Gaps.{gap_at, low_front};
 ghost use Rattle.sweep_tri.specs.Meeting.{AreFilled, closed_at, gap_of, left_at, with_vertex};
-ghost use Rattle.sweep_tri.specs.Passing.{IsRegularVertex, IsNextEvent, placed_work};
+ghost use Rattle.sweep_tri.specs.Passing.{IsRegularVertex, IsNextEvent};
 ghost use Rattle.sweep_tri.specs.Ranked.{IsRanked};
 ghost use Rattle.sweep_tri.specs.Region.{IsClosedRegion};
 ghost use Rattle.sweep_tri.specs.Swept.{IsSwept};
@@ -34,10 +33,10 @@ impl Sweep {
         requires place { IsGapPlace (T.corners board.now) self.old.status v j }
         requires goes_on { IsRegularVertex rank.now v w }
         ensures swept { OnOk result (IsSwept (T.corners board.now) rank.now (slice_index rank.now v + 1) self.new.status self.new.tris.items) }
-        ensures work { IsWithinAccount self.old.status (placed_work self.old.status) steps.old steps.new }
-        ensures paid { OnOk result (IsPaid self.old.status self.new.status (placed_work self.old.status) steps.old steps.new) }
+        ensures work { IsWithinAccount self.old.status event_work steps.old steps.new }
+        ensures paid { OnOk result (IsPaid self.old.status self.new.status event_work steps.old steps.new) }
     {
-        if self.low_ends(j, v, steps) {
+        if self.low_ends(j, v) {
             self.go_on_at(alloc, board, rank, Side::Lower, j, v, w, steps)
         } else {
             self.go_on_at(alloc, board, rank, Side::Upper, j - 1, v, w, steps)
@@ -45,12 +44,11 @@ impl Sweep {
     }
 
     // Whether there is a gap j, and the edge below it ends at v.
-    fn low_ends<L: Ledger>(&self, j: usize, v: u32, steps: &mut Steps<L>) -> bool
+    fn low_ends(&self, j: usize, v: u32) -> bool
         requires some { j < length self.now.status → 2 ≤ length (gap_at self.now.status j).low.lower }
         ensures ends { IsTrue result ↔ ((j < length self.now.status) × ((low_front (gap_at self.now.status j)).to ≡ v)) }
-        ensures steps { steps.new ≤ steps.old + 2 * binary_digits (length self.now.status) + 1 }
     {
-        j < self.status.len() && self.status.get(j, steps).low_front().1 == v
+        j < self.status.len() && self.status.get(j).low_front().1 == v
     }
 
     // The edge of gap j on this side ends at v, and one goes on from there to w.
@@ -72,13 +70,13 @@ impl Sweep {
             self.new.status ≡ slice_set self.old.status j (gap_of (with_vertex side (left_at side g.low g.high v) w))) }
         ensures filled { OnOk result (let g = gap_at self.old.status j in
             AreFilled (T.corners board.now) (closed_at side g.low g.high v) self.old.tris.items self.new.tris.items) }
-        ensures work { IsWithinAccount self.old.status (event_work self.old.status) steps.old steps.new }
-        ensures paid { OnOk result (IsPaid self.old.status self.new.status (event_work self.old.status) steps.old steps.new) }
+        ensures work { IsWithinAccount self.old.status event_work steps.old steps.new }
+        ensures paid { OnOk result (IsPaid self.old.status self.new.status event_work steps.old steps.new) }
     {
-        let gap = self.status.replace(j, Gap::none(alloc), steps);
+        let gap = self.status.replace(j, Gap::none(alloc));
         let mut region = gap.meet(alloc, board, rank, side, v, &mut self.tris, steps)?;
         region.extend(side, w)?;
-        self.status.replace(j, Gap::of(region), steps);
+        self.status.replace(j, Gap::of(region));
         Ok(())
     }
 }

@@ -1,4 +1,4 @@
-use Rattle.std.proofs.Common.{◌<◌, ap, length, arith, refl}
+use Rattle.std.proofs.Common.{◌<◌, length, arith, refl}
 use Rattle.rings.proofs.Sweeps.{replaced}
 use Rattle.ring_check.proofs.StatusEdits.{edges_as, edges_replaced, times_replaced}
 use Rattle.ring_check.proofs.status.replace.Goals as goal
@@ -8,19 +8,19 @@ returns-then-fits-clause-stacked g c = λ h.
     let e = c.args.events.now in
     let size = e.are.all_ranks in
     replaced e.points.now e.ranks.now c.args.status.now.items c.place_of-place.result c.requires.stacked c.args.f (omega (arith, size, c.requires.f))
-    (rw c.deref-2.ensures.value at (c.if-fits.ensures.fits refl))
-    (rw c.deref-then-fits.ensures.value at (c.fits-then-fits.ensures.fits h))
+    (c.if-fits.ensures.fits refl)
+    (c.fits-then-fits.ensures.fits h)
 
 pub returns-then-fits-clause-times : goal.returns-then-fits-clause-times
 returns-then-fits-clause-times g c = λ _ x.
-    let within : c.place_of-place.result < length c.args.status.now.items = omega (arith, c.place_of-place.ensures.place, c.if-place-len.false, c.len.ensures, c.deref.ensures.len, ap length c.deref.ensures.value) in
+    let within : c.place_of-place.result < length c.args.status.now.items = omega (arith, c.place_of-place.ensures.place, c.if-place-len.false, c.len.ensures) in
     times_replaced c.args.status.now.items c.place_of-place.result c.args.e c.args.f c.index.result.now x within c.index.ensures c.if-index-e.false
 
 pub place_of-place-requires-clause-edges : goal.place_of-place-requires-clause-edges
-place_of-place-requires-clause-edges g c = rw c.deref.ensures.value (edges_as c.args.events.now.are.all_ranks c.args.status.now.items c.requires.stacked.edges)
+place_of-place-requires-clause-edges g c = edges_as c.args.events.now.are.all_ranks c.args.status.now.items c.requires.stacked.edges
 
 pub fits-requires : goal.fits-requires
-fits-requires g c = rw c.deref-2.ensures.value (edges_replaced c.args.events.now.are.all_ranks c.args.status.now.items c.requires.stacked.edges c.place_of-place.result c.args.f c.requires.f)
+fits-requires g c = edges_replaced c.args.events.now.are.all_ranks c.args.status.now.items c.requires.stacked.edges c.place_of-place.result c.args.f c.requires.f
 
 pub fits-requires-then-fits : goal.fits-requires-then-fits
-fits-requires-then-fits g c = rw c.deref-then-fits.ensures.value (edges_replaced c.args.events.now.are.all_ranks c.args.status.now.items c.requires.stacked.edges c.place_of-place.result c.args.f c.requires.f)
+fits-requires-then-fits g c = edges_replaced c.args.events.now.are.all_ranks c.args.status.now.items c.requires.stacked.edges c.place_of-place.result c.args.f c.requires.f

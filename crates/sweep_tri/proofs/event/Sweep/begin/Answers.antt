@@ -1,9 +1,10 @@
-use Rattle.std.proofs.Common.{sym, ◌∙◌, ◌+◌, ◌-◌, arith}
+use Rattle.std.proofs.Common.{sym, ◌∙◌, ◌+◌, ◌-◌, ◌≤◌, arith}
 use Rattle.std.proofs.lemmas.Bool.{false≢true}
 use Rattle.std.proofs.lemmas.Result.{on_ok_weaker}
 use Rattle.std.specs.Prelude.{slice_index}
 use Rattle.sweep_tri.proofs.Passes.{low_from, low_some, low_upper_from, low_upper_some, swept_of_split, swept_of_start, swept_same}
 use Rattle.sweep_tri.proofs.Passes.{up_from, up_some, up_to}
+use Rattle.sweep_tri.proofs.Work.{splits_paid, starts_paid}
 use Rattle.sweep_tri.proofs.event.Sweep.begin.Goals as goal
 use Rattle.sweep_tri.proofs.event.Sweep.begin.Goals.{else-j-gt0-via-then-j-gt0+else-is_under, else-j-gt0-via-else-j-gt0}
 
@@ -44,4 +45,23 @@ returns-else-j-gt0-clause-swept g c =
       | else-j-gt0-via-then-j-gt0+else-is_under w ↦ false≢true (sym w.if-is_under.false ∙ w.is_under.ensures.under.1 under)
       | else-j-gt0-via-else-j-gt0 w ↦ absurd (omega (arith, some, w.if-j-gt0.false))
     ])))
+    c.start.ensures.gaps
+
+pub returns-then-is_under-clause-paid : goal.returns-then-is_under-clause-paid
+returns-then-is_under-clause-paid g c =
+    let fork = c.args.fork in
+    on_ok_weaker c.split.result
+    (splits_paid c.args.self.now.status (c.args.j - 1) c.args.steps.now (omega (arith, c.if-j-gt0.true, c.requires.place.inside)) c.args.rank.now
+    fork.vertex fork.below fork.above c.is_under.new.steps c.is_under.ensures.steps c.split.new.self.status)
+    c.split.ensures.gaps
+
+pub returns-else-j-gt0-clause-paid : goal.returns-else-j-gt0-clause-paid
+returns-else-j-gt0-clause-paid g c =
+    let fork = c.args.fork in
+    let most : c.else-j-gt0.steps ≤ c.args.steps.now + 1 = elim c.else-j-gt0.branch [
+      | else-j-gt0-via-then-j-gt0+else-is_under w ↦ omega (arith, w.steps-is, w.is_under.ensures.steps)
+      | else-j-gt0-via-else-j-gt0 w ↦ omega (arith, w.steps-is)
+    ] in
+    on_ok_weaker c.start.result
+    (starts_paid c.args.self.now.status c.args.j c.args.steps.now fork.vertex fork.below fork.above c.else-j-gt0.steps most c.start.new.self.status)
     c.start.ensures.gaps

@@ -3,15 +3,12 @@ use Rattle.std.proofs.lemmas.Result.{on_ok_weaker}
 use Rattle.mono_fill.specs.Filled.{IsFilled}
 use Rattle.mono_fill.specs.declared.side.Side.TheVariants.{Upper}
 use Rattle.sweep_tri.proofs.Closing.{all_but_last, filled_last, of_last}
-use Rattle.sweep_tri.proofs.Work.{more_digits, removed_paid, removed_work}
+use Rattle.sweep_tri.proofs.Work.{met_work, removed_paid}
 use Rattle.sweep_tri.specs.Entries.{IsPaid, event_work}
 use Rattle.sweep_tri.specs.Gaps.{gap_at}
 use Rattle.sweep_tri.specs.Meeting.{AreFilled, closed_at, left_at}
 use Rattle.sweep_tri.specs.Region.{IsClosedRegion, boundary}
 use Rattle.sweep_tri.proofs.event.Sweep.end.Goals as goal
-
-pub returns-in_err-gap-clause-work : goal.returns-in_err-gap-clause-work
-returns-in_err-gap-clause-work g c = omega (arith, c.remove.ensures.steps, more_digits c.args.self.now.status)
 
 pub meet-requires-clause-closed : goal.meet-requires-clause-closed
 meet-requires-clause-closed g c =
@@ -22,10 +19,8 @@ meet-requires-clause-closed g c =
 
 pub returns-in_err-region-clause-work : goal.returns-in_err-region-clause-work
 returns-in_err-region-clause-work g c =
-    let gaps = c.args.self.now.status in
-    let met = removed_work gaps c.args.j c.args.steps.now c.requires.place Upper c.args.v _ c.in_ok-gap.ensures.gap _ _ c.meet.ensures.steps
-    c.remove.ensures.steps in
-    omega (arith, met, more_digits gaps)
+    let met = met_work c.args.self.now.status c.args.j c.args.steps.now c.requires.place Upper c.args.v _ c.in_ok-gap.ensures.gap _ c.meet.ensures.steps in
+    omega (arith, met)
 
 pub close-requires-clause-closed : goal.close-requires-clause-closed
 close-requires-clause-closed g c =
@@ -49,16 +44,14 @@ returns-clause-filled g c =
 
 pub returns-clause-work : goal.returns-clause-work
 returns-clause-work g c =
-    let gaps = c.args.self.now.status in
-    let met = removed_paid gaps c.args.j c.args.steps.now c.requires.place Upper c.args.v _ c.in_ok-gap.ensures.gap _ _ c.meet.ensures.steps
-    c.remove.ensures.steps _ c.in_ok-gap.ensures.gaps _ c.in_ok-region.ensures.left in
-    omega (arith, met, c.close.ensures.steps, more_digits gaps)
+    let met = removed_paid c.args.self.now.status c.args.j c.args.steps.now c.requires.place Upper c.args.v _ c.in_ok-gap.ensures.gap _ c.meet.ensures.steps
+    _ _ c.in_ok-region.ensures.left c.in_ok-gap.ensures.gaps in
+    omega (arith, met, c.close.ensures.steps)
 
 pub returns-clause-paid : goal.returns-clause-paid
 returns-clause-paid g c =
     let gaps = c.args.self.now.status in
-    let met = removed_paid gaps c.args.j c.args.steps.now c.requires.place Upper c.args.v _ c.in_ok-gap.ensures.gap _ _ c.meet.ensures.steps
-    c.remove.ensures.steps _ c.in_ok-gap.ensures.gaps _ c.in_ok-region.ensures.left in
-    let paid : IsPaid gaps c.remove.new.self (event_work gaps) c.args.steps.now c.close.new.steps
-    = omega (arith, met, c.close.ensures.steps, more_digits gaps) in
+    let met = removed_paid gaps c.args.j c.args.steps.now c.requires.place Upper c.args.v _ c.in_ok-gap.ensures.gap _ c.meet.ensures.steps
+    _ _ c.in_ok-region.ensures.left c.in_ok-gap.ensures.gaps in
+    let paid : IsPaid gaps c.remove.new.self event_work c.args.steps.now c.close.new.steps = omega (arith, met, c.close.ensures.steps) in
     on_ok_weaker c.close.result (λ _. paid) c.close.ensures.filled

@@ -1,6 +1,5 @@
 use Rattle.std.proofs.Common.{◌≡◌, ap, ◌∙◌, ◌<◌, length, set, arith}
-use Rattle.shared_seq.specs.Digits.{binary_digits}
-use Rattle.sweep_tri.proofs.Work.{as_many, emptied_paid, emptied_work, entries_with, more_digits, put_entries, replaced_twice}
+use Rattle.sweep_tri.proofs.Work.{as_many, emptied_paid, entries_with, met_work, put_entries, replaced_twice}
 use Rattle.sweep_tri.specs.Entries.{entries, gap_entries}
 use Rattle.sweep_tri.specs.Gaps.{gap_at}
 use Rattle.sweep_tri.specs.Meeting.{gap_of, left_at, with_vertex}
@@ -8,17 +7,15 @@ use Rattle.sweep_tri.proofs.event.Sweep.go_on_at.Goals as goal
 
 pub returns-in_err-region-clause-work : goal.returns-in_err-region-clause-work
 returns-in_err-region-clause-work g c =
-    let gaps = c.args.self.now.status in
-    let met = emptied_work gaps c.args.j c.args.steps.now c.requires.place c.args.side c.args.v _ c.replace-gap.ensures.gap _ _ c.meet.ensures.steps
-    c.replace-gap.ensures.steps in
-    omega (arith, met, more_digits gaps)
+    let met = met_work c.args.self.now.status c.args.j c.args.steps.now c.requires.place c.args.side c.args.v _ c.replace-gap.ensures.gap _
+    c.meet.ensures.steps in
+    omega (arith, met)
 
 pub returns-in_err-extend-clause-work : goal.returns-in_err-extend-clause-work
 returns-in_err-extend-clause-work g c =
-    let gaps = c.args.self.now.status in
-    let met = emptied_work gaps c.args.j c.args.steps.now c.requires.place c.args.side c.args.v _ c.replace-gap.ensures.gap _ _ c.meet.ensures.steps
-    c.replace-gap.ensures.steps in
-    omega (arith, met, more_digits gaps)
+    let met = met_work c.args.self.now.status c.args.j c.args.steps.now c.requires.place c.args.side c.args.v _ c.replace-gap.ensures.gap _
+    c.meet.ensures.steps in
+    omega (arith, met)
 
 pub returns-clause-gaps : goal.returns-clause-gaps
 returns-clause-gaps g c =
@@ -32,13 +29,13 @@ returns-clause-gaps g c =
 pub returns-clause-paid : goal.returns-clause-paid
 returns-clause-paid g c =
     let gaps = c.args.self.now.status in
-    let met = emptied_paid gaps c.args.j c.args.steps.now c.requires.place c.args.side c.args.v _ c.replace-gap.ensures.gap _ _ c.meet.ensures.steps
-    c.replace-gap.ensures.steps _ c.none.ensures _ c.replace-gap.ensures.gaps _ c.in_ok-region.ensures.left in
+    let met = emptied_paid gaps c.args.j c.args.steps.now c.requires.place c.args.side c.args.v _ c.replace-gap.ensures.gap _ c.meet.ensures.steps
+    _ _ c.in_ok-region.ensures.left _ c.none.ensures c.replace-gap.ensures.gaps in
     let same = as_many gaps c.replace-gap.new.self c.args.j c.none.result c.replace-gap.ensures.gaps in
     let within : c.args.j < length c.replace-gap.new.self = omega (arith, same, c.requires.place) in
     let put = put_entries c.replace-gap.new.self c.replace.new.self c.args.j c.of.result within c.replace.ensures.gaps in
     let one = ap entries c.in_ok-extend.ensures ∙ entries_with c.args.side c.in_ok-region.region c.args.w in
-    omega (arith, met, c.replace.ensures.steps, ap binary_digits same, more_digits gaps, put, ap gap_entries c.of.ensures, one)
+    omega (arith, met, put, ap gap_entries c.of.ensures, one)
 
 pub returns-clause-work : goal.returns-clause-work
 returns-clause-work g c = omega (arith, returns-clause-paid g c)

@@ -1,10 +1,9 @@
 use Rattle.std.proofs.Common.{◌≡◌, ◌-◌, ◌<◌, length, ap, ◌∙◌, Some, set, arith}
 use Rattle.std.proofs.lemmas.List.Edits.{length-remove}
 use Rattle.std.specs.List.{remove}
-use Rattle.shared_seq.specs.Digits.{binary_digits}
 use Rattle.mono_fill.specs.declared.side.Side.TheVariants.{Lower, Upper}
 use Rattle.sweep_tri.proofs.Balance.{filled-append}
-use Rattle.sweep_tri.proofs.Work.{as_many, emptied_paid, emptied_work, fewer_digits, more_digits, put_entries, removed_paid, removed_work}
+use Rattle.sweep_tri.proofs.Work.{as_many, emptied_paid, met_work, put_entries, removed_paid}
 use Rattle.sweep_tri.proofs.Work.{replaced_twice, still_there}
 use Rattle.sweep_tri.specs.Entries.{gap_entries}
 use Rattle.sweep_tri.specs.Gaps.{gap_at}
@@ -12,15 +11,10 @@ use Rattle.sweep_tri.specs.Meeting.{closed_at, left_at}
 use Rattle.sweep_tri.specs.declared.gap.Gap.{Gap}
 use Rattle.sweep_tri.proofs.event.Sweep.merge.Goals as goal
 
-pub returns-in_err-above-clause-work : goal.returns-in_err-above-clause-work
-returns-in_err-above-clause-work g c = omega (arith, c.remove.ensures.steps, more_digits c.args.self.now.status)
-
 pub returns-in_err-high-clause-work : goal.returns-in_err-high-clause-work
 returns-in_err-high-clause-work g c =
-    let gaps = c.args.self.now.status in
-    let met = removed_work gaps c.args.j c.args.steps.now c.requires.place Lower c.args.v _ c.in_ok-above.ensures.gap _ _ c.meet.ensures.steps
-    c.remove.ensures.steps in
-    omega (arith, met, more_digits gaps)
+    let met = met_work c.args.self.now.status c.args.j c.args.steps.now c.requires.place Lower c.args.v _ c.in_ok-above.ensures.gap _ c.meet.ensures.steps in
+    omega (arith, met)
 
 pub meet-requires-2-clause-closed : goal.meet-requires-2-clause-closed
 meet-requires-2-clause-closed g c =
@@ -35,14 +29,12 @@ pub returns-in_err-low-clause-work : goal.returns-in_err-low-clause-work
 returns-in_err-low-clause-work g c =
     let gaps = c.args.self.now.status in
     let i = c.args.j - 1 in
-    let fewer = ap (λ gs. binary_digits (length gs)) c.in_ok-above.ensures.gaps in
     let rest = ap length c.in_ok-above.ensures.gaps in
     let within : i < length c.remove.new.self = omega (arith, rest, length-remove gaps c.args.j c.requires.place, c.requires.place, c.requires.first) in
-    let met = removed_paid gaps c.args.j c.args.steps.now c.requires.place Lower c.args.v _ c.in_ok-above.ensures.gap _ _ c.meet.ensures.steps
-    c.remove.ensures.steps _ c.in_ok-above.ensures.gaps _ c.in_ok-high.ensures.left in
-    let met_below = emptied_work c.remove.new.self i _ within Upper c.args.v _ c.replace-below.ensures.gap _ _ c.meet-2.ensures.steps
-    c.replace-below.ensures.steps in
-    omega (arith, met, met_below, fewer, fewer_digits gaps c.args.j c.requires.place, more_digits gaps)
+    let met = removed_paid gaps c.args.j c.args.steps.now c.requires.place Lower c.args.v _ c.in_ok-above.ensures.gap _ c.meet.ensures.steps
+    _ _ c.in_ok-high.ensures.left c.in_ok-above.ensures.gaps in
+    let met_below = met_work c.remove.new.self i _ within Upper c.args.v _ c.replace-below.ensures.gap _ c.meet-2.ensures.steps in
+    omega (arith, met, met_below)
 
 pub returns-clause-gaps : goal.returns-clause-gaps
 returns-clause-gaps g c =
@@ -76,27 +68,15 @@ pub returns-clause-paid : goal.returns-clause-paid
 returns-clause-paid g c =
     let gaps = c.args.self.now.status in
     let i = c.args.j - 1 in
-    let fewer = ap (λ gs. binary_digits (length gs)) c.in_ok-above.ensures.gaps in
     let rest = ap length c.in_ok-above.ensures.gaps in
     let within : i < length c.remove.new.self = omega (arith, rest, length-remove gaps c.args.j c.requires.place, c.requires.place, c.requires.first) in
     let same = as_many c.remove.new.self c.replace-below.new.self i c.none.result c.replace-below.ensures.gaps in
     let put = put_entries c.replace-below.new.self c.replace.new.self i c.of_two.result (omega (arith, within, same)) c.replace.ensures.gaps in
-    let met = removed_paid gaps c.args.j c.args.steps.now c.requires.place Lower c.args.v _ c.in_ok-above.ensures.gap _ _ c.meet.ensures.steps
-    c.remove.ensures.steps _ c.in_ok-above.ensures.gaps _ c.in_ok-high.ensures.left in
-    let met_below = emptied_paid c.remove.new.self i _ within Upper c.args.v _ c.replace-below.ensures.gap _ _ c.meet-2.ensures.steps
-    c.replace-below.ensures.steps _ c.none.ensures _ c.replace-below.ensures.gaps _ c.in_ok-low.ensures.left in
-    omega (
-      arith,
-      met,
-      met_below,
-      c.replace.ensures.steps,
-      fewer,
-      ap binary_digits same,
-      fewer_digits gaps c.args.j c.requires.place,
-      more_digits gaps,
-      put,
-      ap gap_entries c.of_two.ensures,
-    )
+    let met = removed_paid gaps c.args.j c.args.steps.now c.requires.place Lower c.args.v _ c.in_ok-above.ensures.gap _ c.meet.ensures.steps
+    _ _ c.in_ok-high.ensures.left c.in_ok-above.ensures.gaps in
+    let met_below = emptied_paid c.remove.new.self i _ within Upper c.args.v _ c.replace-below.ensures.gap _ c.meet-2.ensures.steps
+    _ _ c.in_ok-low.ensures.left _ c.none.ensures c.replace-below.ensures.gaps in
+    omega (arith, met, met_below, put, ap gap_entries c.of_two.ensures)
 
 pub returns-clause-work : goal.returns-clause-work
 returns-clause-work g c = omega (arith, returns-clause-paid g c)

@@ -1,38 +1,47 @@
-use Rattle.std.proofs.Common.{sym, ◌∙◌, ◌<◌, length, arith}
+use Rattle.std.proofs.Common.{◌∙◌, ◌≡◌, length, sym, subst, ap, arith}
 use Rattle.std.proofs.lemmas.Bool.{false≢true}
-use Rattle.shared_seq.proofs.Searches.{after_is_part, before_is_part}
-use Rattle.sweep_tri.proofs.Search.{is_in_after, is_in_before, is_slot, seen_has_low_front}
+use Rattle.shared_seq.proofs.Digits.{binary_digits_enough}
+use Rattle.shared_seq.specs.Digits.{binary_digits}
+use Rattle.sweep_tri.proofs.Search.{half_paid, high_moves, low_moves}
+use Rattle.sweep_tri.proofs.Slots.{gaps_count}
+use Rattle.sweep_tri.specs.Frontier.{IsAbove}
+use Rattle.sweep_tri.specs.Gaps.{low_front}
+use Rattle.sweep_tri.specs.declared.gap.Gap.{Gap}
 use Rattle.sweep_tri.proofs.status.Status.place.Goals as goal
 
-pub index-gap-requires : goal.index-gap-requires
-index-gap-requires g c =
-    let below : c.in-Some.halves.value < length c.self.inside.slots.items =
-    is_slot _ _ _ c.self.view_is c.self.invariant.taken _ _ _ _ c.in-Some.ensures.halves c.loop-halves.invariant.part in
-    omega (arith, below, c.self.inside.slots.ok)
-
-pub is_over-requires-clause-front : goal.is_over-requires-clause-front
-is_over-requires-clause-front g c =
-    seen_has_low_front _ _ _ c.self.view_is c.self.invariant.taken _ _ _ _ c.in-Some.ensures.halves c.loop-halves.invariant.part
-    _ c.index-gap.ensures _ c.requires.fronts
-
-pub loop-halves-preserved-then-is_over : goal.loop-halves-preserved-then-is_over
-loop-halves-preserved-then-is_over g c =
-    let halves = c.in-Some.ensures.halves in
-    let loop = c.loop-halves.invariant in
+pub loop-low-init : goal.loop-low-init
+loop-low-init g c =
+    let gaps = c.args.self.now in
+    let count : c.len-high.result ≡ length gaps = omega (arith, c.len-high.ensures, gaps_count c.self.inside.slots.items c.self.inside.numbers.items, ap length c.self.view_is, c.self.inside.numbers.ok) in
     record {
-      between = is_in_after _ _ _ c.self.view_is c.self.invariant.taken _ _ _ _ halves loop.part _ c.index-gap.ensures _ _ c.requires.sorted
-          loop.between (c.is_over.ensures.above.0 c.if-is_over.true);
-      part = after_is_part _ _ _ _ halves _ loop.part;
-      steps = omega (arith, c.is_over.ensures.steps, c.halves.ensures.steps, halves.after_levels, loop.steps);
+      between = record {
+        ordered = omega arith;
+        inside = omega (arith, count);
+        above = λ j below. absurd (omega (arith, below));
+        not_above = λ j from within. absurd (omega (arith, from, within, count));
+      };
+      steps = (binary_digits (length gaps), omega (arith, count, binary_digits_enough (length gaps)), omega arith);
     }
 
-pub loop-halves-preserved : goal.loop-halves-preserved
-loop-halves-preserved g c =
-    let halves = c.in-Some.ensures.halves in
-    let loop = c.loop-halves.invariant in
+pub loop-low-preserved-then-is_over : goal.loop-low-preserved-then-is_over
+loop-low-preserved-then-is_over g c =
+    let corners = g.T.Turns.corners c.args.board.now in
+    let had = c.loop-low.invariant in
+    let less = c.loop-low-test.true in
+    let above = subst (λ (gap : Gap). IsAbove corners (low_front gap) c.args.v) c.get.ensures.gap (c.is_over.ensures.above.0 c.if-is_over.true) in
     record {
-      between = is_in_before _ _ _ c.self.view_is c.self.invariant.taken _ _ _ _ halves loop.part _ c.index-gap.ensures _ _ c.requires.sorted
-          loop.between (λ above. false≢true (sym c.if-is_over.false ∙ c.is_over.ensures.above.1 above));
-      part = before_is_part _ _ _ _ halves _ loop.part;
-      steps = omega (arith, c.is_over.ensures.steps, c.halves.ensures.steps, halves.before_levels, loop.steps);
+      between = low_moves corners c.args.self.now c.args.v c.requires.sorted _ _ had.between _ (omega (arith, less)) above;
+      steps = half_paid _ _ _ _ _ (omega (arith, less)) (omega (arith, less)) c.is_over.ensures.steps had.steps;
+    }
+
+pub loop-low-preserved : goal.loop-low-preserved
+loop-low-preserved g c =
+    let corners = g.T.Turns.corners c.args.board.now in
+    let had = c.loop-low.invariant in
+    let less = c.loop-low-test.true in
+    record {
+      between = high_moves corners c.args.self.now c.args.v c.requires.sorted _ _ had.between _ (omega arith) (omega (arith, less))
+          (λ above. false≢true (sym c.if-is_over.false ∙ c.is_over.ensures.above.1
+          (subst (λ (gap : Gap). IsAbove corners (low_front gap) c.args.v) (sym c.get.ensures.gap) above)));
+      steps = half_paid _ _ _ _ _ (omega (arith, less)) (omega (arith, less)) c.is_over.ensures.steps had.steps;
     }
