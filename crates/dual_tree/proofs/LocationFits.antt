@@ -2,6 +2,7 @@
 use Rattle.std.proofs.Common.{refl, Some, None, subst, ℕ, ◌<◌, ◌≤◌, ◌↔◌, List, length, arith}
 use Rattle.std.proofs.lemmas.Int.{ints}
 use Rattle.plane.specs.Point.{IsPoint, Point, Triple, whole}
+use Rattle.plane.specs.Triangle.{IsInTriangle}
 use Rattle.rings.specs.Inside.{IsIn}
 use Rattle.meshes.proofs.Sides.{piece_points_all, below_of_member, two_fewer}
 use Rattle.meshes.specs.Fits.{Fits, IsInTri}
@@ -47,3 +48,18 @@ module _ (corners : List Point) (tris : List Tri) (fits : Fits corners tris) whe
 
 -- all as rules
 pub ruleset places = (cornered, in_ring_if_held, two_fewer)
+
+-- what is in a triangle is in it with the corners in turn: from the second one on,
+pub in_from_second : (a b c : Point) (p : Triple) → IsInTriangle a b c p → IsInTriangle b c a p
+in_from_second a b c p i = record {
+  not_right_of_first = i.not_right_of_second;
+  not_right_of_second = i.not_right_of_third;
+  not_right_of_third = i.not_right_of_first;
+}
+
+-- and from the third one on
+pub in_from_third : (a b c : Point) (p : Triple) → IsInTriangle a b c p → IsInTriangle c a b p
+in_from_third a b c p i = in_from_second b c a p (in_from_second a b c p i)
+
+-- as rules
+pub ruleset turned_triangles = (in_from_second, in_from_third)

@@ -259,10 +259,18 @@ fn early<L: Ledger>(
         ⊎ ((result.0 ≡ length mesh.now) × (steps.new ≤ steps.old + 3 * result.0)) }
 {
     let mut spared = 0;
+    // The side to be asked first of each fourth triangle: the one that the point was right of at the last of these. In strips and
+    // fans that is mostly so at the next one too.
+    let mut sides = [1; 4];
     let mut i = 0;
     while i < mesh.count() && spared < enough {
-        match spared_by(ring, &mesh.tri(i), p, steps) {
-            Some(left) => spared += left,
+        let place = (i % 4) as usize;
+        let first = sides[place] % 3;
+        match spared_by(ring, &mesh.tri(i), first, p, steps) {
+            Some(left) => {
+                spared += left;
+                sides[place] = first + 2 - left;
+            }
             None => return (i, true),
         }
         i += 1;
@@ -270,8 +278,16 @@ fn early<L: Ledger>(
     (i, false)
 }
 
-// How many of 3 steps are left over where the point is found not to be in the triangle; none where it is in it.
-fn spared_by<L: Ledger>(ring: &Ring, tri: &Tri, p: &Pt, steps: &mut Steps<L>) -> Option<u32>
+// How many of 3 steps are left over where the point is found not to be in the triangle, by its sides from number `first` on; none
+// where it is in it.
+#[tactic(auto, using(crate::proofs::LocationFits::turned_triangles))]
+fn spared_by<L: Ledger>(
+    ring: &Ring,
+    tri: &Tri,
+    first: u32,
+    p: &Pt,
+    steps: &mut Steps<L>,
+) -> Option<u32>
     requires { IsCornered ring.now.corners tri.now }
     ensures few { IfSome result (λ left. left ≤ 2) }
     ensures out { IsSome result → ¬ IsInTri ring.now.corners tri.now (whole p.now) }
@@ -280,7 +296,11 @@ fn spared_by<L: Ledger>(ring: &Ring, tri: &Tri, p: &Pt, steps: &mut Steps<L>) ->
     ensures steps { steps.new ≤ steps.old + 3 }
 {
     let (a, b, c) = corners_of(ring, tri);
-    spared_at(a, b, c, p, steps)
+    match first {
+        0 => spared_at(a, b, c, p, steps),
+        1 => spared_at(b, c, a, p, steps),
+        _ => spared_at(c, a, b, p, steps),
+    }
 }
 
 // The same by the corners of the triangle.
@@ -291,11 +311,11 @@ fn spared_at<L: Ledger>(a: &Pt, b: &Pt, c: &Pt, p: &Pt, steps: &mut Steps<L>) ->
     ensures left { IfSome result (λ left. steps.new + left ≤ steps.old + 3) }
     ensures steps { steps.new ≤ steps.old + 3 }
 {
-    if is_right(b, c, p, steps) {
+    if is_right(a, b, p, steps) {
         Some(2)
-    } else if is_right(c, a, p, steps) {
+    } else if is_right(b, c, p, steps) {
         Some(1)
-    } else if is_right(a, b, p, steps) {
+    } else if is_right(c, a, p, steps) {
         Some(0)
     } else {
         None
