@@ -30,11 +30,7 @@ pub fn locate<L: Ledger>(mesh: &Mesh, ring: &Ring, p: &Pt, steps: &mut Steps<L>)
     ensures steps { steps.new ≤ steps.old + 3 * (length ring.now.corners - 2) }
 {
     let found = first_held(mesh, ring, p, steps);
-    if found < mesh.count() {
-        Some(found)
-    } else {
-        None
-    }
+    answer(mesh, ring, p, found)
 }
 
 /// The least triangle that holds `s`, or none where `s` is not in the ring, and the same of `t`. It takes at most 6 steps a
@@ -54,12 +50,27 @@ pub fn locate_both<L: Ledger>(
     ensures no_second { IsNone result.1 ↔ ¬ (IsIn ring.now.corners (whole t.now)) }
     ensures steps { steps.new ≤ steps.old + 6 * (length ring.now.corners - 2) }
 {
-    if mesh.extremes().is_empty() {
+    let extremes = mesh.extremes();
+    if extremes.is_empty() {
         return locate_together(mesh, ring, s, t, steps);
     }
-    let from = locate(mesh, ring, s, steps);
-    let to = locate(mesh, ring, t, steps);
-    (from, to)
+    let (from, left) = first_by(mesh, ring, s, extremes, 0, steps);
+    let (to, _) = first_by(mesh, ring, t, extremes, left, steps);
+    (answer(mesh, ring, s, from), answer(mesh, ring, t, to))
+}
+
+// The first triangle that holds the point as the answer for it.
+#[tactic(auto, using(crate::proofs::LocationFits::places))]
+fn answer(mesh: &Mesh, ring: &Ring, p: &Pt, found: u32) -> Option<u32>
+    requires fits { Fits ring.now.corners mesh.now }
+    requires first { IsFirstHolding ring.now.corners mesh.now (whole p.now) 0 (length mesh.now) found }
+    ensures { IsLeastOrNone ring.now.corners mesh.now (whole p.now) result }
+{
+    if found < mesh.count() {
+        Some(found)
+    } else {
+        None
+    }
 }
 
 // The same in one pass over the triangles.
@@ -125,38 +136,43 @@ fn first_held<L: Ledger>(mesh: &Mesh, ring: &Ring, p: &Pt, steps: &mut Steps<L>)
     if extremes.is_empty() {
         first_from(mesh, ring, p, 0, mesh.count(), steps)
     } else {
-        first_by(mesh, ring, p, extremes, steps)
+        first_by(mesh, ring, p, extremes, 0, steps).0
     }
 }
 
-// The same by vertices that may be extreme or not. The first triangles are looked at one by one, the others by runs.
+// The same by vertices that may be extreme or not, and how many steps are left over of 3 for each triangle and of those that were left
+// before. Triangles are looked at one by one until the steps that are left pay for questions about runs; then the others are.
 #[tactic(auto, using(crate::proofs::LocationFits::places))]
 fn first_by<L: Ledger>(
     mesh: &Mesh,
     ring: &Ring,
     p: &Pt,
     extremes: &[Extremes],
+    left: u32,
     steps: &mut Steps<L>,
-) -> u32
+) -> (u32, u32)
     requires { Fits ring.now.corners mesh.now }
-    ensures first { IsFirstHolding ring.now.corners mesh.now (whole p.now) 0 (length mesh.now) result }
-    ensures steps { steps.new ≤ steps.old + 3 * length mesh.now }
+    ensures first { IsFirstHolding ring.now.corners mesh.now (whole p.now) 0 (length mesh.now) result.0 }
+    ensures steps { steps.new + result.1 ≤ steps.old + 3 * length mesh.now + left }
 {
     // The coordinates take 64 steps, each choice 4 a run, and each of four triangles 3.
     let enough = 64 + 8 * runs_of(mesh.count()) + 12;
-    let (first, is_held) = early(mesh, ring, p, enough, steps);
-    if is_held || first == mesh.count() {
-        return first;
+    let (first, is_held) = early(mesh, ring, p, enough.saturating_sub(left), steps);
+    if is_held {
+        return (first, 3 * (mesh.count() - first - 1));
     }
-    let found = any_by(mesh, ring, p, extremes, first, steps);
+    if first == mesh.count() {
+        return (first, 0);
+    }
+    let (found, left) = any_by(mesh, ring, p, extremes, first, steps);
     if found == mesh.count() {
-        return found;
+        return (found, 0);
     }
-    least_beside(mesh, ring, found, p, steps)
+    (least_beside(mesh, ring, found, p, steps), left)
 }
 
 // A triangle from number `first` on that holds the point, or the number behind the last one where none does: first of the runs
-// that the point is not beside, then of the others.
+// that the point is not beside, then of the others. The triangles behind it, if it is of the former, leave 3 steps over for each.
 #[tactic(auto, using(crate::proofs::LocationFits::places))]
 fn any_by<L: Ledger>(
     mesh: &Mesh,
@@ -165,22 +181,25 @@ fn any_by<L: Ledger>(
     extremes: &[Extremes],
     first: u32,
     steps: &mut Steps<L>,
-) -> u32
+) -> (u32, u32)
     requires fits { Fits ring.now.corners mesh.now }
     requires within { first ≤ length mesh.now }
-    ensures within { result ≤ length mesh.now }
-    ensures holds { result < length mesh.now → IsInTri ring.now.corners (tri_at mesh.now result) (whole p.now) }
-    ensures none { length mesh.now ≤ result → (k : ℕ) → first ≤ k → k < length mesh.now
+    ensures within { result.0 ≤ length mesh.now }
+    ensures holds { result.0 < length mesh.now → IsInTri ring.now.corners (tri_at mesh.now result.0) (whole p.now) }
+    ensures none { length mesh.now ≤ result.0 → (k : ℕ) → first ≤ k → k < length mesh.now
         → ¬ IsInTri ring.now.corners (tri_at mesh.now k) (whole p.now) }
-    ensures steps { steps.new ≤ steps.old + 64 + 3 * (length mesh.now - first) + 8 * ((length mesh.now + 255) / 256) + 6 }
+    ensures steps { steps.new + result.1 ≤ steps.old + 64 + 3 * (length mesh.now - first) + 8 * ((length mesh.now + 255) / 256) + 6 }
 {
     let count = mesh.count();
     let near = Choice::near(extremes, ring.corners(), p, steps);
     let found = first_chosen(mesh, ring, p, &near, (first, count), steps);
     if found < count {
-        return found;
+        return (found, 3 * (count - found));
     }
-    first_chosen(mesh, ring, p, &near.others(), (first, count), steps)
+    (
+        first_chosen(mesh, ring, p, &near.others(), (first, count), steps),
+        0,
+    )
 }
 
 // The least triangle that holds the point, by one that does. Where the point is a corner of this one, it is the least with the
