@@ -5,6 +5,7 @@ mod KnownLists
 pub mod LocationFits
 pub mod NoPointTwice
 pub mod Searched
+pub mod SideHits
 pub mod SightLines
 pub mod SleeveRoom
 pub mod TreeWalks

@@ -1,14 +1,16 @@
-ghost use Rattle.std.specs.Prelude.{◌≡◌, ◌⊎◌, ◌+◌, ◌-◌, ◌*◌, ◌/◌, ◌<◌, ◌≤◌, ◌^◌, ◌↔◌, ℕ, IfSome, IsNone, IsSome, IsTrue, false, length};
+ghost use Rattle.std.specs.Prelude.{◌≡◌, min, ◌⊎◌, ◌+◌, ◌-◌, ◌*◌, ◌/◌, ◌<◌, ◌≤◌, ◌^◌, ◌↔◌, ℕ, IfSome, IsNone, IsSome, IsTrue, false, length};
 ghost use Rattle.plane.specs.Point.{whole};
+ghost use Rattle.plane.specs.Segment.{On};
 ghost use Rattle.plane.specs.Triangle.{IsInTriangle};
 ghost use Rattle.plane.specs.Turn.{IsLeft, IsRight};
 ghost use Rattle.rings.specs.Inside.{IsIn};
 ghost use Rattle.rings.specs.Ring.{vertex};
 ghost use Rattle.meshes.specs.Fits.{Fits, IsInTri, IsStrictlyInTri};
+ghost use Rattle.meshes.specs.Mesh.{side_begin, side_end};
 ghost use Rattle.meshes.specs.Side.{tri_at};
 ghost use Rattle.dual_tree.specs.Runs.{taken_before, takes_run};
 ghost use Rattle.tri_mesh.specs.Corner.{HasCorner};
-ghost use Rattle.dual_tree.specs.Location.{IsCornered, IsFirstHolding, IsLeastHolding};
+ghost use Rattle.dual_tree.specs.Location.{IsCornered, IsFirstHolding, IsLeastHolding, IsLeastOrNone};
 
 use crate::runs::{Choice, RUN, runs_of};
 use exact_plane::{Direction, Pt, Steps, each_in_triangle, in_triangle, order, turn};
@@ -16,7 +18,7 @@ use meshes::Tri;
 use ring_check::Ring;
 use std::cmp::Ordering;
 use std::sync::ledger::Ledger;
-use tri_mesh::{Extremes, Mesh};
+use tri_mesh::{Extremes, Mesh, triangle_at};
 
 /// The least triangle that holds `p`, its sides included, or none where `p` is not in the ring. It takes at most 3 steps a
 /// triangle.
@@ -28,11 +30,7 @@ pub fn locate<L: Ledger>(mesh: &Mesh, ring: &Ring, p: &Pt, steps: &mut Steps<L>)
     ensures steps { steps.new ≤ steps.old + 3 * (length ring.now.corners - 2) }
 {
     let found = first_held(mesh, ring, p, steps);
-    if found < mesh.count() {
-        Some(found)
-    } else {
-        None
-    }
+    answer(mesh, ring, p, found)
 }
 
 /// The least triangle that holds `s`, or none where `s` is not in the ring, and the same of `t`. It takes at most 6 steps a
@@ -52,12 +50,27 @@ pub fn locate_both<L: Ledger>(
     ensures no_second { IsNone result.1 ↔ ¬ (IsIn ring.now.corners (whole t.now)) }
     ensures steps { steps.new ≤ steps.old + 6 * (length ring.now.corners - 2) }
 {
-    if mesh.extremes().is_empty() {
+    let extremes = mesh.extremes();
+    if extremes.is_empty() {
         return locate_together(mesh, ring, s, t, steps);
     }
-    let from = locate(mesh, ring, s, steps);
-    let to = locate(mesh, ring, t, steps);
-    (from, to)
+    let (from, left) = first_by(mesh, ring, s, extremes, 0, steps);
+    let (to, _) = first_by(mesh, ring, t, extremes, left, steps);
+    (answer(mesh, ring, s, from), answer(mesh, ring, t, to))
+}
+
+// The first triangle that holds the point as the answer for it.
+#[tactic(auto, using(crate::proofs::LocationFits::places))]
+fn answer(mesh: &Mesh, ring: &Ring, p: &Pt, found: u32) -> Option<u32>
+    requires fits { Fits ring.now.corners mesh.now }
+    requires first { IsFirstHolding ring.now.corners mesh.now (whole p.now) 0 (length mesh.now) found }
+    ensures { IsLeastOrNone ring.now.corners mesh.now (whole p.now) result }
+{
+    if found < mesh.count() {
+        Some(found)
+    } else {
+        None
+    }
 }
 
 // The same in one pass over the triangles.
@@ -70,10 +83,8 @@ fn locate_together<L: Ledger>(
     steps: &mut Steps<L>,
 ) -> (Option<u32>, Option<u32>)
     requires { Fits ring.now.corners mesh.now }
-    ensures least_of_first { IfSome result.0 (IsLeastHolding ring.now.corners mesh.now (whole s.now)) }
-    ensures no_first { IsNone result.0 ↔ ¬ (IsIn ring.now.corners (whole s.now)) }
-    ensures least_of_second { IfSome result.1 (IsLeastHolding ring.now.corners mesh.now (whole t.now)) }
-    ensures no_second { IsNone result.1 ↔ ¬ (IsIn ring.now.corners (whole t.now)) }
+    ensures first { IsLeastOrNone ring.now.corners mesh.now (whole s.now) result.0 }
+    ensures second { IsLeastOrNone ring.now.corners mesh.now (whole t.now) result.1 }
     ensures steps { steps.new ≤ steps.old + 6 * (length ring.now.corners - 2) }
 {
     for i in 0..mesh.count() {
@@ -102,8 +113,7 @@ fn locate_at<L: Ledger>(
     requires within { i < length mesh.now }
     requires held { IsTrue is_held ↔ IsInTri ring.now.corners (tri_at mesh.now i) (whole p.now) }
     requires before { (k : ℕ) → k < i → ¬ IsInTri ring.now.corners (tri_at mesh.now k) (whole p.now) }
-    ensures least { IfSome result (IsLeastHolding ring.now.corners mesh.now (whole p.now)) }
-    ensures none { IsNone result ↔ ¬ (IsIn ring.now.corners (whole p.now)) }
+    ensures located { IsLeastOrNone ring.now.corners mesh.now (whole p.now) result }
     ensures steps { steps.new ≤ steps.old + 3 * (length mesh.now - (i + 1)) }
 {
     // The prover learns from this call how many triangles there can be.
@@ -126,44 +136,100 @@ fn first_held<L: Ledger>(mesh: &Mesh, ring: &Ring, p: &Pt, steps: &mut Steps<L>)
     if extremes.is_empty() {
         first_from(mesh, ring, p, 0, mesh.count(), steps)
     } else {
-        first_by(mesh, ring, p, extremes, steps)
+        first_by(mesh, ring, p, extremes, 0, steps).0
     }
 }
 
-// The same by vertices that may be extreme or not: first the runs that the point is not beside by them. What is found there is the
-// least where the point is strictly inside, and where it is a corner, no other triangles than those with this corner hold it.
-// Else the other runs are gone over too.
+// The same by vertices that may be extreme or not, and how many steps are left over of 3 for each triangle and of those that were left
+// before. Triangles are looked at one by one until the steps that are left pay for questions about runs; then the others are.
 #[tactic(auto, using(crate::proofs::LocationFits::places))]
 fn first_by<L: Ledger>(
     mesh: &Mesh,
     ring: &Ring,
     p: &Pt,
     extremes: &[Extremes],
+    left: u32,
     steps: &mut Steps<L>,
-) -> u32
+) -> (u32, u32)
     requires { Fits ring.now.corners mesh.now }
-    ensures first { IsFirstHolding ring.now.corners mesh.now (whole p.now) 0 (length mesh.now) result }
-    ensures steps { steps.new ≤ steps.old + 3 * length mesh.now }
+    ensures first { IsFirstHolding ring.now.corners mesh.now (whole p.now) 0 (length mesh.now) result.0 }
+    ensures steps { steps.new + result.1 ≤ steps.old + 3 * length mesh.now + left }
 {
     // The coordinates take 64 steps, each choice 4 a run, and each of four triangles 3.
     let enough = 64 + 8 * runs_of(mesh.count()) + 12;
-    let (first, is_held) = early(mesh, ring, p, enough, steps);
-    if is_held || first == mesh.count() {
-        return first;
+    let (first, is_held) = early(mesh, ring, p, enough.saturating_sub(left), steps);
+    if is_held {
+        return (first, 3 * (mesh.count() - first - 1));
     }
-    let near = Choice::near(extremes, ring.corners(), p, steps);
-    let found = first_chosen(mesh, ring, p, &near, (first, mesh.count()), steps);
-    if let Some(v) = corner_at(mesh, ring, found, p, steps) {
-        return first_with(mesh, v, found);
+    if first == mesh.count() {
+        return (first, 0);
     }
-    if is_strictly_in(mesh, ring, found, p, steps) {
-        return found;
+    let (found, left) = any_by(mesh, ring, p, extremes, first, steps);
+    if found == mesh.count() {
+        return (found, 0);
     }
-    first_chosen(mesh, ring, p, &near.others(), (first, found), steps)
+    (least_beside(mesh, ring, found, p, steps), left)
 }
 
-// The corner of a triangle that the point is; none where it is none of them, or there is no triangle with this number. It takes
-// at most 3 steps.
+// A triangle from number `first` on that holds the point, or the number behind the last one where none does: first of the runs
+// that the point is not beside, then of the others. The triangles behind it, if it is of the former, leave 3 steps over for each.
+#[tactic(auto, using(crate::proofs::LocationFits::places))]
+fn any_by<L: Ledger>(
+    mesh: &Mesh,
+    ring: &Ring,
+    p: &Pt,
+    extremes: &[Extremes],
+    first: u32,
+    steps: &mut Steps<L>,
+) -> (u32, u32)
+    requires fits { Fits ring.now.corners mesh.now }
+    requires within { first ≤ length mesh.now }
+    ensures within { result.0 ≤ length mesh.now }
+    ensures holds { result.0 < length mesh.now → IsInTri ring.now.corners (tri_at mesh.now result.0) (whole p.now) }
+    ensures none { length mesh.now ≤ result.0 → (k : ℕ) → first ≤ k → k < length mesh.now
+        → ¬ IsInTri ring.now.corners (tri_at mesh.now k) (whole p.now) }
+    ensures steps { steps.new + result.1 ≤ steps.old + 64 + 3 * (length mesh.now - first) + 8 * ((length mesh.now + 255) / 256) + 6 }
+{
+    let count = mesh.count();
+    let near = Choice::near(extremes, ring.corners(), p, steps);
+    let found = first_chosen(mesh, ring, p, &near, (first, count), steps);
+    if found < count {
+        return (found, 3 * (count - found));
+    }
+    (
+        first_chosen(mesh, ring, p, &near.others(), (first, count), steps),
+        0,
+    )
+}
+
+// The least triangle that holds the point, by one that does. Where the point is a corner of this one, it is the least with the
+// corner, and where it is on a side, this one or the one across the side. It takes at most 6 steps.
+#[tactic(auto, using(crate::proofs::LocationFits::places))]
+fn least_beside<L: Ledger>(mesh: &Mesh, ring: &Ring, k: u32, p: &Pt, steps: &mut Steps<L>) -> u32
+    requires fits { Fits ring.now.corners mesh.now }
+    requires within { k < length mesh.now }
+    requires held { IsInTri ring.now.corners (tri_at mesh.now k) (whole p.now) }
+    ensures least { IsLeastHolding ring.now.corners mesh.now (whole p.now) result }
+    ensures steps { steps.new ≤ steps.old + 6 }
+{
+    if let Some(v) = corner_at(mesh, ring, k, p, steps) {
+        return triangle_at(mesh, v);
+    }
+    match side_at(mesh, ring, k, p, steps) {
+        Some(side) => lesser(k, mesh.across(k, side)),
+        None => k,
+    }
+}
+
+// The lesser of a number and another one, if there is one.
+fn lesser(k: u32, other: Option<u32>) -> u32
+    ensures alone { IsNone other → result ≡ k }
+    ensures both { IfSome other (λ l. result ≡ min k l) }
+{
+    other.map_or(k, |l| l.min(k))
+}
+
+// The corner of a triangle that the point is, if it is one. It takes at most 3 steps.
 #[tactic(auto, using(crate::proofs::LocationFits::places))]
 fn corner_at<L: Ledger>(
     mesh: &Mesh,
@@ -172,15 +238,13 @@ fn corner_at<L: Ledger>(
     p: &Pt,
     steps: &mut Steps<L>,
 ) -> Option<u32>
-    requires { Fits ring.now.corners mesh.now }
-    ensures is_there { IsSome result → k < length mesh.now }
+    requires fits { Fits ring.now.corners mesh.now }
+    requires within { k < length mesh.now }
     ensures corner { IfSome result (HasCorner (tri_at mesh.now k)) }
     ensures point { IfSome result (λ v. p.now ≡ vertex ring.now.corners v) }
+    ensures none { IsNone result → (v : ℕ) → HasCorner (tri_at mesh.now k) v → ¬ (p.now ≡ vertex ring.now.corners v) }
     ensures steps { steps.new ≤ steps.old + 3 }
 {
-    if k >= mesh.count() {
-        return None;
-    }
     let tri = mesh.tri(k);
     let (a, b, c) = corners_of(ring, &tri);
     if order(p, a, steps) == Ordering::Equal {
@@ -192,22 +256,6 @@ fn corner_at<L: Ledger>(
     } else {
         None
     }
-}
-
-// The first triangle with corner `v` before number `end`; `end` where there is none.
-fn first_with(mesh: &Mesh, v: u32, end: u32) -> u32
-    requires { end ≤ length mesh.now }
-    ensures within { result ≤ end }
-    ensures corner { result < end → HasCorner (tri_at mesh.now result) v }
-    ensures none { (k : ℕ) → k < result → ¬ HasCorner (tri_at mesh.now k) v }
-{
-    for k in 0..end {
-        let tri = mesh.tri(k);
-        if tri.a == v || tri.b == v || tri.c == v {
-            return k;
-        }
-    }
-    end
 }
 
 // The first triangles, until enough steps are left over of 3 for each: the first that holds the point, and that it does; or the
@@ -230,10 +278,18 @@ fn early<L: Ledger>(
         ⊎ ((result.0 ≡ length mesh.now) × (steps.new ≤ steps.old + 3 * result.0)) }
 {
     let mut spared = 0;
+    // The side to be asked first of each fourth triangle: the one that the point was right of at the last of these. In strips and
+    // fans that is mostly so at the next one too.
+    let mut sides = [1; 4];
     let mut i = 0;
     while i < mesh.count() && spared < enough {
-        match spared_by(ring, &mesh.tri(i), p, steps) {
-            Some(left) => spared += left,
+        let place = (i % 4) as usize;
+        let first = sides[place] % 3;
+        match spared_by(ring, &mesh.tri(i), first, p, steps) {
+            Some(left) => {
+                spared += left;
+                sides[place] = first + 2 - left;
+            }
             None => return (i, true),
         }
         i += 1;
@@ -241,8 +297,16 @@ fn early<L: Ledger>(
     (i, false)
 }
 
-// How many of 3 steps are left over where the point is found not to be in the triangle; none where it is in it.
-fn spared_by<L: Ledger>(ring: &Ring, tri: &Tri, p: &Pt, steps: &mut Steps<L>) -> Option<u32>
+// How many of 3 steps are left over where the point is found not to be in the triangle, by its sides from number `first` on; none
+// where it is in it.
+#[tactic(auto, using(crate::proofs::LocationFits::turned_triangles))]
+fn spared_by<L: Ledger>(
+    ring: &Ring,
+    tri: &Tri,
+    first: u32,
+    p: &Pt,
+    steps: &mut Steps<L>,
+) -> Option<u32>
     requires { IsCornered ring.now.corners tri.now }
     ensures few { IfSome result (λ left. left ≤ 2) }
     ensures out { IsSome result → ¬ IsInTri ring.now.corners tri.now (whole p.now) }
@@ -251,7 +315,11 @@ fn spared_by<L: Ledger>(ring: &Ring, tri: &Tri, p: &Pt, steps: &mut Steps<L>) ->
     ensures steps { steps.new ≤ steps.old + 3 }
 {
     let (a, b, c) = corners_of(ring, tri);
-    spared_at(a, b, c, p, steps)
+    match first {
+        0 => spared_at(a, b, c, p, steps),
+        1 => spared_at(b, c, a, p, steps),
+        _ => spared_at(c, a, b, p, steps),
+    }
 }
 
 // The same by the corners of the triangle.
@@ -262,11 +330,11 @@ fn spared_at<L: Ledger>(a: &Pt, b: &Pt, c: &Pt, p: &Pt, steps: &mut Steps<L>) ->
     ensures left { IfSome result (λ left. steps.new + left ≤ steps.old + 3) }
     ensures steps { steps.new ≤ steps.old + 3 }
 {
-    if is_right(b, c, p, steps) {
+    if is_right(a, b, p, steps) {
         Some(2)
-    } else if is_right(c, a, p, steps) {
+    } else if is_right(b, c, p, steps) {
         Some(1)
-    } else if is_right(a, b, p, steps) {
+    } else if is_right(c, a, p, steps) {
         Some(0)
     } else {
         None
@@ -373,25 +441,35 @@ fn holds_each<L: Ledger>(
     each_in_triangle(a, b, c, s, t, steps)
 }
 
-// Whether there is a triangle with this number, and the point is left of all its sides. It takes at most 3 steps.
+// The side of a triangle on which the point is, which the triangle holds; none where it is left of all sides. It takes at most
+// 3 steps.
 #[tactic(auto, using(crate::proofs::LocationFits::places))]
-fn is_strictly_in<L: Ledger>(mesh: &Mesh, ring: &Ring, k: u32, p: &Pt, steps: &mut Steps<L>) -> bool
-    requires { Fits ring.now.corners mesh.now }
-    ensures is_there { IsTrue result → k < length mesh.now }
-    ensures strictly { IsTrue result → IsStrictlyInTri ring.now.corners (tri_at mesh.now k) (whole p.now) }
+fn side_at<L: Ledger>(mesh: &Mesh, ring: &Ring, k: u32, p: &Pt, steps: &mut Steps<L>) -> Option<u32>
+    requires fits { Fits ring.now.corners mesh.now }
+    requires within { k < length mesh.now }
+    requires held { IsInTri ring.now.corners (tri_at mesh.now k) (whole p.now) }
+    ensures number { IfSome result (λ side. side < 3) }
+    ensures on { let t = tri_at mesh.now k in IfSome result (λ side.
+        On (whole p.now) (whole (vertex ring.now.corners (side_begin t side))) (whole (vertex ring.now.corners (side_end t side)))) }
+    ensures strictly { IsNone result → IsStrictlyInTri ring.now.corners (tri_at mesh.now k) (whole p.now) }
     ensures steps { steps.new ≤ steps.old + 3 }
 {
-    if k >= mesh.count() {
-        return false;
-    }
     let (a, b, c) = corners_of(ring, &mesh.tri(k));
-    is_left(a, b, p, steps) && is_left(b, c, p, steps) && is_left(c, a, p, steps)
+    if !is_left(a, b, p, steps) {
+        Some(0)
+    } else if !is_left(b, c, p, steps) {
+        Some(1)
+    } else if !is_left(c, a, p, steps) {
+        Some(2)
+    } else {
+        None
+    }
 }
 
 // Whether the point is left of the line from `a` to `b`. It takes one step.
-#[tactic(auto, using(exact_plane::proofs::Directions::positive_of_left))]
+#[tactic(auto, using(crate::proofs::SideHits::left_turns))]
 fn is_left<L: Ledger>(a: &Pt, b: &Pt, p: &Pt, steps: &mut Steps<L>) -> bool
-    ensures left { IsTrue result → IsLeft (whole a.now) (whole b.now) (whole p.now) }
+    ensures left { IsTrue result ↔ IsLeft (whole a.now) (whole b.now) (whole p.now) }
     ensures steps { steps.new ≡ steps.old + 1 }
 {
     turn(a, b, p, steps) == Direction::Left

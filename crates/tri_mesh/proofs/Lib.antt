@@ -1,4 +1,5 @@
 mod AllReached
+mod Firsts
 pub mod Neighbours
 pub mod Numbers
 mod RowPairs

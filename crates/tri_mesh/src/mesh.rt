@@ -4,9 +4,11 @@ ghost use Rattle.plane.specs.Point.{Point};
 ghost use Rattle.meshes.specs.Fits.{Fits, IsPieceEdge, IsSideOfOne, IsSideOfTwo};
 ghost use Rattle.meshes.specs.Mesh.{IsMesh, side_begin, side_end};
 ghost use Rattle.meshes.specs.Side.{HasSidesOnce, IsTree, tri_at};
+ghost use Rattle.tri_mesh.specs.Corner.{HasCorner};
 ghost use Rattle.tri_mesh.specs.Neighbours.{HasCornersBelow};
 ghost use Rattle.tri_mesh.specs.Outward.{IsOutward, IsRooted};
 
+use crate::corner::firsts_of;
 use crate::extremes::Extremes;
 use crate::outward::{Outward, Rooted};
 use crate::search::Search;
@@ -16,12 +18,13 @@ use meshes::Tri;
 use std::alloc::Global;
 use std::marker::Model;
 
-/// Triangles that fit some polygon, for each side the triangle on its other side, and an order outward from triangle 0. It may
-/// keep the extreme vertices of runs of triangles, by which a search can choose where to look first.
+/// Triangles that fit some polygon, for each side the triangle on its other side, for each corner the first triangle that has it,
+/// and an order outward from triangle 0. It may keep the extreme vertices of runs of triangles, by which a search can choose where to look first.
 #[derive(Drop)]
 pub struct Mesh {
     tris: Vec<Tri>,
     neighbours: Vec<[Option<u32>; 3]>,
+    firsts: Vec<u32>,
     root: Search,
     extremes: Vec<Extremes>,
 }
@@ -29,6 +32,7 @@ pub struct Mesh {
 impl Model for Mesh {
     ghost use Rattle.std.specs.Prelude.{List};
     ghost use Rattle.meshes.specs.declared.tri.Tri.{Tri};
+    ghost use Rattle.tri_mesh.specs.Corner.{KeepsFirsts};
     ghost use Rattle.tri_mesh.specs.Neighbours.{KeepsNeighbours};
     ghost use Rattle.tri_mesh.specs.Outward.{IsRooted};
 
@@ -37,6 +41,7 @@ impl Model for Mesh {
     ghost view = { λ mesh. mesh.tris.items };
 
     ghost invariant = { λ mesh. KeepsNeighbours mesh.tris.items mesh.neighbours.items
+        × KeepsFirsts mesh.tris.items mesh.firsts.items
         × IsRooted mesh.tris.items 0 mesh.root.order.items mesh.root.places.items };
 }
 
@@ -73,10 +78,12 @@ impl Mesh {
         ensures { IfOk result (λ mesh. mesh ≡ tris.items) }
     {
         let neighbours = neighbours(alloc, &tris)?;
+        let firsts = firsts_of(alloc, &tris)?;
         let root = Search::from(alloc, &tris, &neighbours, 0)?;
         Ok(Mesh {
             tris,
             neighbours,
+            firsts,
             root,
             extremes,
         })
@@ -116,6 +123,16 @@ impl Mesh {
             IsNone result ↔ IsPieceEdge (range_with_len 0 (length corners)) (side_begin t side) (side_end t side) }
     {
         self.neighbours[i as usize][side as usize]
+    }
+
+    // The first triangle with corner `i`, which some triangle has.
+    pub(crate) fn first_at(&self, i: u32) -> u32
+        requires { (k : ℕ) × (k < length self.now) × HasCorner (tri_at self.now k) i }
+        ensures in_list { result < length self.now }
+        ensures corner { HasCorner (tri_at self.now result) i }
+        ensures first { (k : ℕ) → k < result → ¬ HasCorner (tri_at self.now k) i }
+    {
+        self.firsts[i as usize]
     }
 
     /// The extreme vertices that it was made with.

@@ -1,9 +1,9 @@
 use borrow.Author.Count.{below_more}
-use Rattle.std.proofs.Common.{ℕ, refl, arith}
+use Rattle.std.proofs.Common.{ℕ, arith}
 use Rattle.plane.specs.Point.{whole}
 use Rattle.meshes.specs.Fits.{IsInTri}
 use Rattle.meshes.specs.Side.{tri_at}
-use Rattle.dual_tree.proofs.LocationFits.{not_in_ring_unless_held}
+use Rattle.dual_tree.proofs.LocationFits.{located_none}
 use Rattle.dual_tree.proofs.location.locate_together.Goals as goal
 
 pub loop-i-preserved : goal.loop-i-preserved
@@ -18,16 +18,10 @@ loop-i-preserved g c =
       steps = omega (arith, c.holds_each.ensures.steps);
     }
 
-pub returns-clause-no_first : goal.returns-clause-no_first
-returns-clause-no_first g c = (
-  λ _. not_in_ring_unless_held c.args.ring.now.corners c.args.mesh.now c.requires c.args.s.now c.loop-i.i (omega arith)
-      c.loop-i.invariant.no_first,
-  λ _. refl,
-)
+pub returns-clause-first : goal.returns-clause-first
+returns-clause-first g c =
+    located_none c.args.ring.now.corners c.args.mesh.now c.requires c.args.s.now c.loop-i.i (omega arith) c.loop-i.invariant.no_first
 
-pub returns-clause-no_second : goal.returns-clause-no_second
-returns-clause-no_second g c = (
-  λ _. not_in_ring_unless_held c.args.ring.now.corners c.args.mesh.now c.requires c.args.t.now c.loop-i.i (omega arith)
-      c.loop-i.invariant.no_second,
-  λ _. refl,
-)
+pub returns-clause-second : goal.returns-clause-second
+returns-clause-second g c =
+    located_none c.args.ring.now.corners c.args.mesh.now c.requires c.args.t.now c.loop-i.i (omega arith) c.loop-i.invariant.no_second

@@ -1,0 +1,8 @@
+use Rattle.std.proofs.Common.{arith}
+use Rattle.dual_tree.proofs.LocationFits.{located_none}
+use Rattle.dual_tree.proofs.location.answer.Goals as goal
+
+pub returns-else-found-count : goal.returns-else-found-count
+returns-else-found-count c =
+    located_none c.args.ring.now.corners c.args.mesh.now c.requires.fits c.args.p.now c.args.found (omega arith)
+    (λ k below. c.requires.first.none k (omega arith) below)
