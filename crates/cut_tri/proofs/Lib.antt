@@ -1,7 +1,6 @@
 mod AllowedSteps
 mod Candidates
 mod ClusterPlaces
-mod ClusterSteps
 mod Completion
 mod CornerPlaces
 mod DiagonalCuts
@@ -20,6 +19,7 @@ mod Readings
 mod RotatedCuts
 mod SeenVertices
 mod Shapes
+mod SideProducts
 mod Thinned
 mod TriangleBoxes
 mod WholePiece

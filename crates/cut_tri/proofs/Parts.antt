@@ -17,9 +17,10 @@ use Rattle.cut_tri.proofs.PartPlaces.{first_left, first_rest, second_left, secon
 use Rattle.cut_tri.proofs.Thinned.{ranked_order, thinned_order}
 use Rattle.cut_tri.specs.Cut.{IsFarthest}
 use Rattle.cut_tri.specs.Cutting.{AreDiagonalPieces}
-use Rattle.cut_tri.specs.Ordered.{AreLexicalRanks, IsFarthestNumber, IsLeastPlace, IsOrderOf}
+use Rattle.cut_tri.specs.Ordered.{AreLexicalRanks, IsFarthestNumber, IsLeastPlace, IsOrderOf, IsOrderedFromLeast}
 use Rattle.cut_tri.specs.Piece.{IsPiece}
 use Rattle.cut_tri.specs.Thinned.{IsThinned}
+use Rattle.cut_tri.specs.declared.piece.Piece.{Piece}
 
 module _ (corners : List Point) (xs : List ℕ) (piece : IsPiece corners xs) where
   -- its boundary has numbers of vertices,
@@ -71,42 +72,45 @@ module _ (corners : List Point) (xs os : List ℕ) (piece : IsPiece corners xs) 
       (order_without corners v (drop 1 xs) (take n os) (subst (HasDistinctCorners corners) boundary_is (piece_distinct corners xs piece))
       (subst (λ zs. IsOrderOf corners zs (take n os ++ v ∷ [])) boundary_is (subst (IsOrderOf corners xs) order_is is))))
 
-  module _ (least : IsLeastPlace xs os 0) (number : ℕ) (far : IsFarthestNumber corners xs number) (place : ℕ) (within : place < length xs)
-      (at : get_or xs place 0 ≡ number) where
-    -- the farthest vertex is at its place,
-    place_is : place ≡ far.place
-    place_is =
-        boundary_once corners xs piece place far.place within (let high = far.farthest.in_corner.before_last in omega (arith, high)) (at ∙ sym far.is)
+-- the farthest vertex of such a piece
+module _ (corners : List Point) (piece : Piece) (ordered : IsOrderedFromLeast corners piece) (number : ℕ)
+    (far : IsFarthestNumber corners piece.boundary number) (place : ℕ) (within : place < length piece.boundary)
+    (at : get_or piece.boundary place 0 ≡ number) where
+  -- is at its place,
+  place_is : place ≡ far.place
+  place_is =
+      boundary_once corners piece.boundary ordered.ordered.0 place far.place within (let high = far.farthest.in_corner.before_last in omega (arith, high)) (at ∙ sym far.is)
 
-    -- which is after the second and before the last,
-    pub place_inner : 2 ≤ place × place + 1 < length xs
-    place_inner =
-        let in_corner = far.farthest.in_corner in
-        (omega (arith, in_corner.after_second, place_is), omega (arith, in_corner.before_last, place_is))
+  -- which is after the second and before the last,
+  pub place_inner : 2 ≤ place × place + 1 < length piece.boundary
+  place_inner =
+      let in_corner = far.farthest.in_corner in
+      (omega (arith, in_corner.after_second, place_is), omega (arith, in_corner.before_last, place_is))
 
-    -- so what the code makes of the piece is its parts
-    module _ (first second : List ℕ) (first_is : first ≡ take place xs ++ number ∷ []) (second_is : second ≡ get_or xs 0 0 ∷ drop place xs) where
-      first_taken : first ≡ take (place + 1) xs
-      first_taken = first_is ∙ ap (λ i. take place xs ++ i ∷ []) (sym at) ∙ sym (take_more xs place 0 within)
+  -- so what the code makes of the piece is its parts
+  module _ (first second : List ℕ) (first_is : first ≡ take place piece.boundary ++ number ∷ []) (second_is : second ≡ get_or piece.boundary 0 0 ∷ drop place piece.boundary) where
+    first_taken : first ≡ take (place + 1) piece.boundary
+    first_taken = first_is ∙ ap (λ i. take place piece.boundary ++ i ∷ []) (sym at) ∙ sym (take_more piece.boundary place 0 within)
 
-      pub are_parts : AreDiagonalPieces corners xs first second
-      are_parts =
-          subst (λ ys. AreDiagonalPieces corners xs ys second) (sym first_taken)
-          (subst (AreDiagonalPieces corners xs (take (place + 1) xs)) (sym second_is)
-          (parts_cut corners xs place piece (least_below corners xs os is piece.numbers 0 least) (subst (IsFarthest corners xs) (sym place_is) far.farthest)))
+    pub are_parts : AreDiagonalPieces corners piece.boundary first second
+    are_parts =
+        subst (λ ys. AreDiagonalPieces corners piece.boundary ys second) (sym first_taken)
+        (subst (AreDiagonalPieces corners piece.boundary (take (place + 1) piece.boundary)) (sym second_is)
+        (parts_cut corners piece.boundary place ordered.ordered.0
+        (least_below corners piece.boundary piece.order.items ordered.ordered.1 ordered.ordered.0.numbers 0 ordered.least) (subst (IsFarthest corners piece.boundary) (sym place_is) far.farthest)))
 
-      -- and what is left of the order where one is taken out is that of the other
-      pub first_ordered : (n : ℕ) → n ≡ length corners → (after : List ℕ) → IsThinned n xs (place + 1) (length xs) os after → IsOrderOf corners first after
-      first_ordered n size after thin =
-          subst (λ ys. IsOrderOf corners ys after) (sym first_taken)
-          (thinned_order corners xs os after (place + 1) (length xs) is
-          (subst (λ m. IsThinned m xs (place + 1) (length xs) os after) size thin) (take (place + 1) xs)
-          (first_left xs (boundary_once corners xs piece) place (omega (arith, place_inner.0)) within)
-          (first_rest xs (boundary_once corners xs piece) place (omega (arith, place_inner.0)) within))
+    -- and what is left of the order where one is taken out is that of the other
+    pub first_ordered : (n : ℕ) → n ≡ length corners → (after : List ℕ) → IsThinned n piece.boundary (place + 1) (length piece.boundary) piece.order.items after → IsOrderOf corners first after
+    first_ordered n size after thin =
+        subst (λ ys. IsOrderOf corners ys after) (sym first_taken)
+        (thinned_order corners piece.boundary piece.order.items after (place + 1) (length piece.boundary) ordered.ordered.1
+        (subst (λ m. IsThinned m piece.boundary (place + 1) (length piece.boundary) piece.order.items after) size thin) (take (place + 1) piece.boundary)
+        (first_left piece.boundary (boundary_once corners piece.boundary ordered.ordered.0) place (omega (arith, place_inner.0)) within)
+        (first_rest piece.boundary (boundary_once corners piece.boundary ordered.ordered.0) place (omega (arith, place_inner.0)) within))
 
-      pub second_ordered : (n : ℕ) → n ≡ length corners → (after : List ℕ) → IsThinned n xs 1 place os after → IsOrderOf corners second after
-      second_ordered n size after thin =
-          subst (λ ys. IsOrderOf corners ys after) (sym second_is)
-          (thinned_order corners xs os after 1 place is (subst (λ m. IsThinned m xs 1 place os after) size thin) (get_or xs 0 0 ∷ drop place xs)
-          (second_left xs (boundary_once corners xs piece) place (omega (arith, place_inner.0)) within)
-          (second_rest xs (boundary_once corners xs piece) place (omega (arith, place_inner.0)) within))
+    pub second_ordered : (n : ℕ) → n ≡ length corners → (after : List ℕ) → IsThinned n piece.boundary 1 place piece.order.items after → IsOrderOf corners second after
+    second_ordered n size after thin =
+        subst (λ ys. IsOrderOf corners ys after) (sym second_is)
+        (thinned_order corners piece.boundary piece.order.items after 1 place ordered.ordered.1 (subst (λ m. IsThinned m piece.boundary 1 place piece.order.items after) size thin) (get_or piece.boundary 0 0 ∷ drop place piece.boundary)
+        (second_left piece.boundary (boundary_once corners piece.boundary ordered.ordered.0) place (omega (arith, place_inner.0)) within)
+        (second_rest piece.boundary (boundary_once corners piece.boundary ordered.ordered.0) place (omega (arith, place_inner.0)) within))

@@ -1,18 +1,37 @@
 -- Clusters of the vertices of a ring and triangles, with boxes round them. No public clause cites this module.
 use Rattle.std.specs.List.{All, range_with_len}
-use Rattle.std.specs.Prelude.{ℕ, ◌<◌, ◌≤◌, IsPermutation, List, length, slice_index_or}
+use Rattle.std.specs.Prelude.{◌≡◌, ℕ, ◌-ℤ◌, ◌<◌, ◌≤◌, ◌^◌, IsPermutation, List, length, slice_index_or, unsigned_abs}
 use Rattle.plane.specs.Point.{Point}
 use Rattle.rings.specs.Ring.{vertex}
 use Rattle.exact_plane.specs.Boxes.{Encloses}
 use Rattle.cut_tri.specs.declared.clusters.Cluster.{Cluster}
 use Rattle.cut_tri.specs.declared.clusters.Clusters.{Clusters}
+use Rattle.cut_tri.specs.declared.triangle.Side.{Side}
 use Rattle.cut_tri.specs.declared.triangle.Triangle.{Triangle}
 
--- its corners are in its box
+-- its numbers are small
+pub record HasSmallNumbers (side : Side) : Type 0 where
+  pub from_x : unsigned_abs side.from_x < 2 ^ 24
+  pub from_y : unsigned_abs side.from_y < 2 ^ 24
+  pub x : unsigned_abs side.x < 2 ^ 24
+  pub y : unsigned_abs side.y < 2 ^ 24
+
+-- the side begins at the first point, and goes to the second
+pub record IsSideBetween (a b : Point) (side : Side) : Type 0 where
+  pub from_x : side.from_x ≡ a.x
+  pub from_y : side.from_y ≡ a.y
+  pub x : side.x ≡ b.x -ℤ a.x
+  pub y : side.y ≡ b.y -ℤ a.y
+  pub small : HasSmallNumbers side
+
+-- its corners are in its box, and its sides go from one to the next
 pub record IsBounded (triangle : Triangle) : Type 0 where
-  pub first : Encloses triangle.bounds triangle.u
-  pub second : Encloses triangle.bounds triangle.v
-  pub third : Encloses triangle.bounds triangle.w
+  pub u_boxed : Encloses triangle.bounds triangle.u
+  pub v_boxed : Encloses triangle.bounds triangle.v
+  pub w_boxed : Encloses triangle.bounds triangle.w
+  pub across : IsSideBetween triangle.w triangle.u triangle.across
+  pub first : IsSideBetween triangle.u triangle.v triangle.first
+  pub second : IsSideBetween triangle.v triangle.w triangle.second
 
 -- its vertices are in its box, and it ends within the list
 pub record IsCluster (corners : List Point) (numbers : List ℕ) (cluster : Cluster) : Type 0 where

@@ -22,7 +22,7 @@ pub record IsOrderOf (corners : List Point) (boundary order : List ℕ) : Type 0
 
 -- the boundary of a piece, and its order
 abbrev pub IsPieceInOrder : List Point → Piece → Type 0
-IsPieceInOrder corners piece = IsPiece corners piece.boundary.items × IsOrderOf corners piece.boundary.items piece.order.items
+IsPieceInOrder corners piece = IsPiece corners piece.boundary × IsOrderOf corners piece.boundary piece.order.items
 
 -- the place on the boundary of the least vertex, which is the last of the order
 pub record IsLeastPlace (boundary order : List ℕ) (place : ℕ) : Type 0 where
@@ -32,14 +32,14 @@ pub record IsLeastPlace (boundary order : List ℕ) (place : ℕ) : Type 0 where
 -- a piece that begins with its least vertex
 pub record IsOrderedFromLeast (corners : List Point) (piece : Piece) : Type 0 where
   pub ordered : IsPieceInOrder corners piece
-  pub least : IsLeastPlace piece.boundary.items piece.order.items 0
+  pub least : IsLeastPlace piece.boundary piece.order.items 0
 
 -- the pieces that remain have their orders
 abbrev pub AreOrdered : List Point → Remains → Type 0
 AreOrdered corners (Triangle tri) = Unit {0}
-AreOrdered corners (Ear tri rest) = IsOrderOf corners rest.boundary.items rest.order.items
+AreOrdered corners (Ear tri rest) = IsOrderOf corners rest.boundary rest.order.items
 AreOrdered corners (Parts first second) =
-    IsOrderOf corners first.boundary.items first.order.items × IsOrderOf corners second.boundary.items second.order.items
+    IsOrderOf corners first.boundary first.order.items × IsOrderOf corners second.boundary second.order.items
 
 -- the last number of its order is of a vertex
 abbrev pub EndsWithVertex : List Point → Piece → Type 0

@@ -55,23 +55,14 @@ impl Clusters {
     }
 
     // The place behind the greatest cluster from a place on whose box the triangle misses. Where there is no such cluster, that
-    // is the place. A cluster that adds fewer vertices than one that joins none has is not asked, so the steps are at most 120 for
-    // each vertex that is passed, and 960 where clusters begin.
-    pub(crate) fn clear_to<L: Ledger>(
-        &self,
-        triangle: &Triangle,
-        place: usize,
-        steps: &mut Steps<L>,
-    ) -> usize
+    // is the place. A cluster that adds fewer vertices than one that joins none has is not asked.
+    pub(crate) fn clear_to(&self, triangle: &Triangle, place: usize) -> usize
         requires counterclockwise { IsLeft (whole triangle.now.u) (whole triangle.now.v) (whole triangle.now.w) }
         requires bounded { IsBounded triangle.now }
         ensures apart { (corners : List Point) → AreClusters corners self.now → (k : ℕ) → place ≤ k → k < result
             → ¬ (IsInTriangle triangle.now.u triangle.now.v triangle.now.w (whole (vertex corners (slice_index_or self.now.numbers.items k 0)))) }
-        ensures later { place ≤ result }
         ensures within { (corners : List Point) → AreClusters corners self.now → place ≤ length self.now.numbers.items
             → result ≤ length self.now.numbers.items }
-        ensures between { ¬ (place % 8 ≡ 0) → (result ≡ place) × (steps.new ≡ steps.old) }
-        ensures steps { steps.new ≤ steps.old + (120 * (result - place) + 960) }
     {
         if place % LEAST != 0 {
             return place;
@@ -83,7 +74,7 @@ impl Clusters {
             if cluster.first != place || cluster.end.saturating_sub(end) < LEAST {
                 return end;
             }
-            if !triangle.misses(&cluster.bounds, steps) {
+            if !triangle.misses(&cluster.bounds) {
                 return end;
             }
             end = cluster.end;

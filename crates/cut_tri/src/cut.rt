@@ -1,5 +1,5 @@
 // One cut of a piece.
-ghost use Rattle.std.specs.Prelude.{◌≡◌, ◌+◌, ◌*◌, ◌<◌, ◌≤◌, IfOk, IfSome, ◌++◌, drop, length, take};
+ghost use Rattle.std.specs.Prelude.{◌≡◌, ◌+◌, ◌*◌, ◌<◌, ◌≤◌, IfOk, IfSome, length};
 ghost use Rattle.cut_tri.specs.Clusters.{AreClusters};
 ghost use Rattle.cut_tri.specs.Cutting.{IsCutOf};
 ghost use Rattle.cut_tri.specs.Ordered.{AreLexicalRanks, AreOrdered, EndsWithVertex, IsFarthestNumber, IsLeastPlace};
@@ -9,12 +9,11 @@ ghost use Rattle.cut_tri.specs.Piece.{IsPiece, tri_at_first};
 use crate::clusters::Clusters;
 use crate::farthest::farthest;
 use crate::order::{drop_others, order_of, take_out, vertices_of};
-use crate::piece::{Piece, part_boundary, place_of};
+use crate::piece::{Boundary, Piece};
 use exact_plane::{Memory, Steps};
 use meshes::Tri;
 use ring_check::Ring;
 use std::alloc::Global;
-use std::collections::VecDeque;
 use std::sync::ledger::Ledger;
 
 // What remains of a piece.
@@ -42,26 +41,16 @@ pub(crate) fn cut<L: Ledger>(
     requires ordered { IsPieceInOrder ring.now.corners piece }
     requires ranks { AreLexicalRanks ring.now.corners ranks.now }
     requires clusters { IfSome clusters.old (AreClusters ring.now.corners) }
-    ensures cut { IfOk result (IsCutOf ring.now.corners piece.boundary.items) }
+    ensures cut { IfOk result (IsCutOf ring.now.corners piece.boundary) }
     ensures ordered { IfOk result (AreOrdered ring.now.corners) }
     ensures clusters { IfSome clusters.new (AreClusters ring.now.corners) }
-    ensures triangle { length piece.boundary.items ≡ 3 → steps.new ≡ steps.old }
-    ensures steps { steps.new ≤ steps.old + (515 * length piece.boundary.items + 371 * length ring.now.corners + 910) }
+    ensures triangle { length piece.boundary ≡ 3 → steps.new ≡ steps.old }
+    ensures steps { steps.new ≤ steps.old + (515 * length piece.boundary + 371 * length ring.now.corners + 910) }
 {
     let mut piece = cleaned(alloc, ring, piece)?;
     let least = least_place(ring, &piece);
-    turn(&mut piece.boundary, least);
+    piece.boundary.turn(least)?;
     cut_at_first(alloc, ring, piece, ranks, clusters, steps)
-}
-
-// Turns a boundary so that it begins with the vertex at this place.
-fn turn(boundary: &mut VecDeque<u16>, place: usize)
-    requires { place ≤ length boundary.old.items }
-    ensures { boundary.new.items ≡ drop place boundary.old.items ++ take place boundary.old.items }
-{
-    if 0 < place {
-        boundary.rotate_left(place);
-    }
 }
 
 // The piece without the numbers of no vertices at the end of its order, and without all where they are more than a quarter.
@@ -83,9 +72,9 @@ fn cleaned(alloc: Global, ring: &Ring, mut piece: Piece) -> Result<Piece, Memory
 fn least_place(ring: &Ring, piece: &Piece) -> usize
     requires ordered { IsPieceInOrder ring.now.corners piece.now }
     requires last { EndsWithVertex ring.now.corners piece.now }
-    ensures { IsLeastPlace piece.now.boundary.items piece.now.order.items result }
+    ensures { IsLeastPlace piece.now.boundary piece.now.order.items result }
 {
-    place_of(&piece.boundary, piece.order[piece.order.len() - 1])
+    piece.boundary.place_of(piece.order[piece.order.len() - 1])
 }
 
 // Cuts a piece at its first vertex.
@@ -100,11 +89,11 @@ fn cut_at_first<L: Ledger>(
     requires ordered { IsOrderedFromLeast ring.now.corners piece }
     requires ranks { AreLexicalRanks ring.now.corners ranks.now }
     requires clusters { IfSome clusters.old (AreClusters ring.now.corners) }
-    ensures cut { IfOk result (IsCutOf ring.now.corners piece.boundary.items) }
+    ensures cut { IfOk result (IsCutOf ring.now.corners piece.boundary) }
     ensures ordered { IfOk result (AreOrdered ring.now.corners) }
     ensures clusters { IfSome clusters.new (AreClusters ring.now.corners) }
-    ensures triangle { length piece.boundary.items ≡ 3 → steps.new ≡ steps.old }
-    ensures steps { steps.new ≤ steps.old + (515 * length piece.boundary.items + 371 * length ring.now.corners + 910) }
+    ensures triangle { length piece.boundary ≡ 3 → steps.new ≡ steps.old }
+    ensures steps { steps.new ≤ steps.old + (515 * length piece.boundary + 371 * length ring.now.corners + 910) }
 {
     let tri = corner_of(&piece.boundary);
     if piece.boundary.len() == 3 {
@@ -112,7 +101,7 @@ fn cut_at_first<L: Ledger>(
     }
     match farthest(alloc, ring, &piece, clusters, steps) {
         None => {
-            let _ = piece.boundary.pop_front();
+            piece.boundary.drop_first();
             let _ = piece.order.pop();
             Ok(Remains::Ear(tri, piece))
         }
@@ -124,14 +113,14 @@ fn cut_at_first<L: Ledger>(
 }
 
 // The triangle at the first vertex.
-pub(crate) fn corner_of(boundary: &VecDeque<u16>) -> Tri
-    requires { 2 ≤ length boundary.now.items }
-    ensures { result ≡ tri_at_first boundary.now.items }
+pub(crate) fn corner_of(boundary: &Boundary) -> Tri
+    requires { 2 ≤ length boundary.now }
+    ensures { result ≡ tri_at_first boundary.now }
 {
     Tri {
-        a: boundary[boundary.len() - 1] as u32,
-        b: boundary[0] as u32,
-        c: boundary[1] as u32,
+        a: boundary.at(boundary.len() - 1),
+        b: boundary.at(0),
+        c: boundary.at(1),
     }
 }
 
@@ -145,16 +134,16 @@ fn parts(
     ranks: &[u32],
 ) -> Result<(Piece, Piece), Memory>
     requires ordered { IsOrderedFromLeast ring.now.corners piece }
-    requires farthest { IsFarthestNumber ring.now.corners piece.boundary.items number }
+    requires farthest { IsFarthestNumber ring.now.corners piece.boundary number }
     requires ranks { AreLexicalRanks ring.now.corners ranks.now }
-    ensures parts { IfOk result (λ parts. IsCutOf ring.now.corners piece.boundary.items (Remains.Parts parts.0 parts.1)) }
+    ensures parts { IfOk result (λ parts. IsCutOf ring.now.corners piece.boundary (Remains.Parts parts.0 parts.1)) }
     ensures ordered { IfOk result (λ parts. AreOrdered ring.now.corners (Remains.Parts parts.0 parts.1)) }
 {
-    let place = place_of(&piece.boundary, number);
+    let place = piece.boundary.place_of(number);
     let count = piece.boundary.len();
     if place < count - place {
         take_out(&mut piece.order, &piece.boundary, 1, place, ranks);
-        let (first, second) = part_boundary(piece.boundary, place, number)?;
+        let (first, second) = piece.boundary.parted(alloc, place, number)?;
         let order = order_of(alloc, &first, ranks)?;
         return Ok((
             Piece {
@@ -168,7 +157,7 @@ fn parts(
         ));
     }
     take_out(&mut piece.order, &piece.boundary, place + 1, count, ranks);
-    let (first, second) = part_boundary(piece.boundary, place, number)?;
+    let (first, second) = piece.boundary.parted(alloc, place, number)?;
     let order = order_of(alloc, &second, ranks)?;
     Ok((
         Piece {

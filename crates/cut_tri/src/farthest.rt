@@ -4,7 +4,7 @@ ghost use Rattle.plane.specs.Point.{Point, whole};
 ghost use Rattle.plane.specs.Triangle.{IsInTriangle, height_over};
 ghost use Rattle.plane.specs.Turn.{IsLeft};
 ghost use Rattle.rings.specs.Ring.{vertex};
-ghost use Rattle.cut_tri.specs.Clusters.{AreClusters};
+ghost use Rattle.cut_tri.specs.Clusters.{AreClusters, IsBounded};
 ghost use Rattle.cut_tri.specs.Cut.{IsPlaceInCorner};
 ghost use Rattle.cut_tri.specs.Corner.{IsBest, IsCandidate, IsCornerAt, IsFarther, IsFartherOf, IsMeasured, best_height};
 ghost use Rattle.cut_tri.specs.Ordered.{IsFarthestNumber, IsOrderedFromLeast};
@@ -13,14 +13,13 @@ ghost use Rattle.cut_tri.specs.Piece.{IsPiece};
 use crate::clusters::Clusters;
 use crate::cut::corner_of;
 use crate::measure::{doubled_area, is_less_share, way};
-use crate::piece::Piece;
+use crate::piece::{Boundary, Piece};
 use crate::triangle::Triangle;
-use exact_plane::{Pt, Steps, in_triangle, order};
+use exact_plane::{BoundingBox, Pt, Steps, in_triangle, order};
 use meshes::Tri;
 use ring_check::Ring;
 use std::alloc::Global;
 use std::cmp::Ordering;
-use std::collections::VecDeque;
 use std::sync::ledger::Ledger;
 
 // How many vertices are looked at before the clusters are asked.
@@ -67,9 +66,9 @@ pub(crate) fn farthest<L: Ledger>(
     requires ordered { IsOrderedFromLeast ring.now.corners piece.now }
     requires clusters { IfSome clusters.old (AreClusters ring.now.corners) }
     ensures clusters { IfSome clusters.new (AreClusters ring.now.corners) }
-    ensures farthest { IfSome result (IsFarthestNumber ring.now.corners piece.now.boundary.items) }
-    ensures none { IfNone result ((k : ℕ) → ¬ (IsPlaceInCorner ring.now.corners piece.now.boundary.items k)) }
-    ensures steps { steps.new ≤ steps.old + (515 * length piece.now.boundary.items + 371 * length ring.now.corners + 910) }
+    ensures farthest { IfSome result (IsFarthestNumber ring.now.corners piece.now.boundary) }
+    ensures none { IfNone result ((k : ℕ) → ¬ (IsPlaceInCorner ring.now.corners piece.now.boundary k)) }
+    ensures steps { steps.new ≤ steps.old + (515 * length piece.now.boundary + 371 * length ring.now.corners + 910) }
 {
     let corner = Corner::of(ring, &piece.boundary, steps);
     Some(best_in(alloc, &corner, ring, piece, clusters, steps)?.number)
@@ -87,12 +86,12 @@ fn best_in<L: Ledger>(
     steps: &mut Steps<L>,
 ) -> Option<Candidate>
     requires ordered { IsOrderedFromLeast ring.now.corners piece.now }
-    requires corner { IsCornerAt ring.now.corners piece.now.boundary.items corner.now }
+    requires corner { IsCornerAt ring.now.corners piece.now.boundary corner.now }
     requires measured { IsMeasured corner.now }
     requires clusters { IfSome clusters.old (AreClusters ring.now.corners) }
-    ensures best { IsBest ring.now.corners piece.now.boundary.items result }
+    ensures best { IsBest ring.now.corners piece.now.boundary result }
     ensures clusters { IfSome clusters.new (AreClusters ring.now.corners) }
-    ensures steps { steps.new ≤ steps.old + (515 * (length piece.now.boundary.items - 1) + 371 * length ring.now.corners + 1168) }
+    ensures steps { steps.new ≤ steps.old + (515 * (length piece.now.boundary - 1) + 371 * length ring.now.corners + 1168) }
 {
     let count = ring.len();
     let last = piece.order.len() - 1;
@@ -167,9 +166,9 @@ fn farther(best: Option<Candidate>, candidate: Candidate) -> Candidate
 
 impl Corner {
     // The triangle at the first vertex of this boundary. It takes 257 steps.
-    fn of<L: Ledger>(ring: &Ring, boundary: &VecDeque<u16>, steps: &mut Steps<L>) -> Corner
-        requires { IsPiece ring.now.corners boundary.now.items }
-        ensures corner { IsCornerAt ring.now.corners boundary.now.items result }
+    fn of<L: Ledger>(ring: &Ring, boundary: &Boundary, steps: &mut Steps<L>) -> Corner
+        requires { IsPiece ring.now.corners boundary.now }
+        ensures corner { IsCornerAt ring.now.corners boundary.now result }
         ensures measured { IsMeasured result }
         ensures steps { steps.new ≡ steps.old + 257 }
     {
@@ -233,8 +232,7 @@ impl Corner {
         }
     }
 
-    // Whether none is, by these clusters. A vertex takes at most 3 steps where it is looked at and 120 where it is passed, and each
-    // place at which clusters begin 960.
+    // Whether none is, by these clusters. A vertex takes at most 67 steps, where it is looked at.
     fn is_empty_among<L: Ledger>(
         &self,
         ring: &Ring,
@@ -250,10 +248,10 @@ impl Corner {
         let triangle = Triangle::of(&self.u, &self.v, &self.w, steps);
         let mut place = 0;
         while place < clusters.numbers.len() {
-            let end = clusters.clear_to(&triangle, place, steps);
+            let end = clusters.clear_to(&triangle, place);
             if place < end {
                 place = end;
-            } else if self.has(ring, clusters.numbers[place], steps) {
+            } else if self.has(&triangle, ring, clusters.numbers[place], steps) {
                 return false;
             } else {
                 place += 1;
@@ -262,19 +260,33 @@ impl Corner {
         true
     }
 
-    // Whether the vertex with this number is in the triangle, and none of the three. It takes at most 259 steps, and 3 where it is
+    // Whether the vertex with this number is in the triangle, and none of the three. It takes at most 323 steps, and 67 where it is
     // not.
-    fn has<L: Ledger>(&self, ring: &Ring, number: u32, steps: &mut Steps<L>) -> bool
+    fn has<L: Ledger>(
+        &self,
+        triangle: &Triangle,
+        ring: &Ring,
+        number: u32,
+        steps: &mut Steps<L>,
+    ) -> bool
         requires counterclockwise { IsLeft (whole self.now.u) (whole self.now.v) (whole self.now.w) }
+        requires u { triangle.now.u ≡ self.now.u }
+        requires v { triangle.now.v ≡ self.now.v }
+        requires w { triangle.now.w ≡ self.now.w }
+        requires bounded { IsBounded triangle.now }
         requires number { number < length ring.now.corners }
         ensures out { IsFalse result → ¬ (number ≡ self.now.tri.b) → ¬ (IsCandidate self.now number (vertex ring.now.corners number)) }
-        ensures few { IsFalse result → steps.new ≤ steps.old + 3 }
-        ensures steps { steps.new ≤ steps.old + 259 }
+        ensures few { IsFalse result → steps.new ≤ steps.old + 67 }
+        ensures steps { steps.new ≤ steps.old + 323 }
     {
-        number != self.tri.b
-            && self
-                .candidate(number, &ring.corner(number), steps)
-                .is_some()
+        if number == self.tri.b {
+            return false;
+        }
+        let p = ring.corner(number);
+        if triangle.misses(&BoundingBox::of(&[p], steps)) {
+            return false;
+        }
+        self.candidate(number, &p, steps).is_some()
     }
 
     // The vertex with this number and at this point, if it is in the closed triangle and neither of u and w. It takes at most 259

@@ -3,20 +3,20 @@ ghost use Rattle.std.specs.List.{All, AllPairs, Contains, filter};
 ghost use Rattle.std.specs.Prelude.{◌≡◌, ◌-◌, ◌<◌, ◌≤◌, ℕ, IfOk, IsPermutation, length, map, nat_lt, slice_index_or, take};
 ghost use Rattle.cut_tri.specs.Thinned.{IsTakenOut, IsThinned, rank_key, number_of_key};
 
+use crate::piece::Boundary;
 use exact_plane::Memory;
 use std::alloc::Global;
-use std::collections::VecDeque;
 
 // The vertices of a boundary, those of greater rank first.
 pub(crate) fn order_of(
     alloc: Global,
-    boundary: &VecDeque<u16>,
+    boundary: &Boundary,
     ranks: &[u32],
 ) -> Result<Vec<u32>, Memory>
-    requires numbers { All (λ i. i < length ranks.now) boundary.now.items }
+    requires numbers { All (λ i. i < length ranks.now) boundary.now }
     requires ranks { All (λ r. r < length ranks.now) ranks.now }
     requires few { length ranks.now ≤ 65536 }
-    ensures all { IfOk result (λ order. IsPermutation boundary.now.items order.items) }
+    ensures all { IfOk result (λ order. IsPermutation boundary.now order.items) }
     ensures falls { IfOk result (λ order. AllPairs (λ i j. slice_index_or ranks.now j 0 ≤ slice_index_or ranks.now i 0) order.items) }
 {
     let mut keys = keys_of(alloc, boundary, ranks)?;
@@ -26,15 +26,15 @@ pub(crate) fn order_of(
 }
 
 // The keys of vertices: their ranks and their numbers in one, which are in order where ranks fall.
-fn keys_of(alloc: Global, boundary: &VecDeque<u16>, ranks: &[u32]) -> Result<Vec<u32>, Memory>
-    requires numbers { All (λ i. i < length ranks.now) boundary.now.items }
+fn keys_of(alloc: Global, boundary: &Boundary, ranks: &[u32]) -> Result<Vec<u32>, Memory>
+    requires numbers { All (λ i. i < length ranks.now) boundary.now }
     requires ranks { All (λ r. r < length ranks.now) ranks.now }
     requires few { length ranks.now ≤ 65536 }
-    ensures { IfOk result (λ keys. keys.items ≡ map (rank_key ranks.now) boundary.now.items) }
+    ensures { IfOk result (λ keys. keys.items ≡ map (rank_key ranks.now) boundary.now) }
 {
     let mut keys = Vec::with_capacity(alloc, boundary.len())?;
     for k in 0..boundary.len() {
-        let number = boundary[k] as u32;
+        let number = boundary.at(k);
         keys.push((65_535 - ranks[number as usize]) * 65_536 + number)?;
     }
     Ok(keys)
@@ -52,24 +52,24 @@ fn write_numbers(keys: &mut Vec<u32>)
 // Takes the vertices at the places from `from` to before `to` of the boundary out of an order.
 pub(crate) fn take_out(
     order: &mut Vec<u32>,
-    boundary: &VecDeque<u16>,
+    boundary: &Boundary,
     from: usize,
     to: usize,
     ranks: &[u32],
 )
-    requires range { (from ≤ to) × (to ≤ length boundary.now.items) }
-    requires numbers { All (λ i. i < length ranks.now) boundary.now.items }
+    requires range { (from ≤ to) × (to ≤ length boundary.now) }
+    requires numbers { All (λ i. i < length ranks.now) boundary.now }
     requires few { length ranks.now ≤ 65536 }
-    requires different { AllPairs (λ i j. ¬ (i ≡ j)) boundary.now.items }
-    requires all { (i : ℕ) → Contains boundary.now.items i → Contains order.old.items i }
+    requires different { AllPairs (λ i j. ¬ (i ≡ j)) boundary.now }
+    requires all { (i : ℕ) → Contains boundary.now i → Contains order.old.items i }
     requires once { (j k : ℕ) → j < length order.old.items → k < length order.old.items
         → slice_index_or order.old.items j 0 ≡ slice_index_or order.old.items k 0 → slice_index_or order.old.items j 0 < length ranks.now
         → j ≡ k }
-    ensures { IsThinned (length ranks.now) boundary.now.items from to order.old.items order.new.items }
+    ensures { IsThinned (length ranks.now) boundary.now from to order.old.items order.new.items }
 {
     let mut near = order.len();
     for k in from..to {
-        near = take_one_out(order, boundary[k] as u32, ranks, near);
+        near = take_one_out(order, boundary.at(k), ranks, near);
     }
 }
 

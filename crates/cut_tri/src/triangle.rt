@@ -4,9 +4,9 @@ ghost use Rattle.exact_plane.specs.Boxes.{Encloses};
 ghost use Rattle.plane.specs.Point.{Point, whole};
 ghost use Rattle.plane.specs.Triangle.{IsInTriangle};
 ghost use Rattle.plane.specs.Turn.{IsLeft, IsRight};
-ghost use Rattle.cut_tri.specs.Clusters.{IsBounded};
+ghost use Rattle.cut_tri.specs.Clusters.{IsBounded, IsSideBetween, HasSmallNumbers};
 
-use crate::measure::{is_less_share, way};
+use crate::measure::way;
 use exact_plane::{BoundingBox, Pt, Steps};
 use std::sync::ledger::Ledger;
 
@@ -17,68 +17,98 @@ pub(crate) struct Triangle {
     pub v: Pt,
     pub w: Pt,
     bounds: BoundingBox,
+    across: Side,
+    first: Side,
+    second: Side,
+}
+
+// A side: where it begins, and the way along it.
+#[derive(Clone, Copy)]
+pub(crate) struct Side {
+    from_x: i32,
+    from_y: i32,
+    x: i32,
+    y: i32,
 }
 
 impl Triangle {
-    // The triangle with these corners. It takes 192 steps.
+    // The triangle with these corners. It takes 768 steps.
     pub(crate) fn of<L: Ledger>(u: &Pt, v: &Pt, w: &Pt, steps: &mut Steps<L>) -> Triangle
         ensures u { result.u ≡ u.now }
         ensures v { result.v ≡ v.now }
         ensures w { result.w ≡ w.now }
         ensures bounded { IsBounded result }
-        ensures steps { steps.new ≡ steps.old + 192 }
+        ensures steps { steps.new ≡ steps.old + 768 }
     {
         let bounds = BoundingBox::of(&[*u, *v, *w], steps);
+        let across = Side::of(w, u, steps);
+        let first = Side::of(u, v, steps);
+        let second = Side::of(v, w, steps);
         Triangle {
             u: *u,
             v: *v,
             w: *w,
             bounds,
+            across,
+            first,
+            second,
         }
     }
 
-    // Whether its box is apart from another, or one of its sides has that on its right. It takes at most 960 steps.
-    pub(crate) fn misses<L: Ledger>(&self, other: &BoundingBox, steps: &mut Steps<L>) -> bool
+    // Whether its box is apart from another, or one of its sides has that on its right.
+    pub(crate) fn misses(&self, other: &BoundingBox) -> bool
         requires counterclockwise { IsLeft (whole self.now.u) (whole self.now.v) (whole self.now.w) }
         requires bounded { IsBounded self.now }
         ensures apart { IsTrue result → (p : Point) → Encloses other.now p → ¬ (IsInTriangle self.now.u self.now.v self.now.w (whole p)) }
-        ensures steps { steps.new ≤ steps.old + 960 }
     {
         if !self.bounds.overlaps(other) {
             return true;
         }
-        if is_right(&self.w, &self.u, other, steps) {
+        if self.across.is_left_of(other) {
             return true;
         }
-        is_right(&self.u, &self.v, other, steps) || is_right(&self.v, &self.w, other, steps)
+        self.first.is_left_of(other) || self.second.is_left_of(other)
     }
 }
 
-// Whether a box is right of the line from `a` to `b`. Its corner that is farthest left tells that. It takes 320 steps.
-fn is_right<L: Ledger>(a: &Pt, b: &Pt, bounds: &BoundingBox, steps: &mut Steps<L>) -> bool
-    ensures right { IsTrue result → (p : Point) → Encloses bounds.now p → IsRight (whole a.now) (whole b.now) (whole p) }
-    ensures steps { steps.new ≡ steps.old + 320 }
-{
-    let (a_x, a_y) = a.parts(steps);
-    let (x, y) = way(a, b, steps);
-    let (_, back) = way(b, a, steps);
-    let left_x = way_to_end(a_x, back, bounds.west, bounds.east);
-    let left_y = way_to_end(a_y, x, bounds.south, bounds.north);
-    is_less_share(x, left_x, y, left_y)
+impl Side {
+    // The side from `a` to `b`. It takes 192 steps.
+    fn of<L: Ledger>(a: &Pt, b: &Pt, steps: &mut Steps<L>) -> Side
+        ensures side { IsSideBetween a.now b.now result }
+        ensures steps { steps.new ≡ steps.old + 192 }
+    {
+        let (from_x, from_y) = a.parts(steps);
+        let (x, y) = way(a, b, steps);
+        Side {
+            from_x: from_x as i32,
+            from_y: from_y as i32,
+            x: x as i32,
+            y: y as i32,
+        }
+    }
+
+    // Whether a box is right of its line. The corner of the box that is farthest left tells that.
+    fn is_left_of(&self, bounds: &BoundingBox) -> bool
+        requires { HasSmallNumbers self.now }
+        ensures right { IsTrue result → (a b : Point) → IsSideBetween a b self.now → (p : Point) → Encloses bounds.now p
+            → IsRight (whole a) (whole b) (whole p) }
+    {
+        let (x, y) = (self.x as i64, self.y as i64);
+        let left_x = way_to_end(self.from_x, -y, bounds.west, bounds.east);
+        let left_y = way_to_end(self.from_y, x, bounds.south, bounds.north);
+        x * left_y < y * left_x
+    }
 }
 
 // The way from a coordinate to the end of an interval in the direction of a number.
-fn way_to_end(from: i64, direction: i64, low: i32, high: i32) -> i64
-    requires from { unsigned_abs from < 2 ^ 24 }
-    requires low { unsigned_abs low < 2 ^ 31 }
-    requires high { unsigned_abs high < 2 ^ 31 }
+fn way_to_end(from: i32, direction: i64, low: i32, high: i32) -> i64
     ensures high { pos 0 <ℤ direction → result ≡ high -ℤ from }
     ensures low { direction ≤ℤ pos 0 → result ≡ low -ℤ from }
     ensures small { unsigned_abs result < 2 ^ 32 }
 {
     if 0 < direction {
-        high as i64 - from
+        high as i64 - from as i64
     } else {
-        low as i64 - from
+        low as i64 - from as i64
     }
 }

@@ -8,7 +8,7 @@ ghost use Rattle.cut_tri.specs.Ordered.{AreOrdered, IsPieceInOrder};
 ghost use Rattle.cut_tri.specs.WorkList.{HaveOrders, IsTakenOver, last_first};
 
 use crate::cut::{Remains, cut};
-use crate::piece::Piece;
+use crate::piece::{Boundary, Piece};
 use exact_plane::{Memory, Steps};
 use meshes::Tri;
 use ring_check::{Ring, lexical_order, ranks_of};
@@ -65,7 +65,7 @@ fn take_over(left: Remains, tris: &mut Vec<Tri>, work: &mut Vec<Piece>) -> Resul
 // The piece of all vertices, of which this is the lexicographic order.
 fn whole_piece(alloc: Global, ring: &Ring, mut order: Vec<u32>) -> Result<Piece, Memory>
     requires { IsInOrder ring.now.corners order.items }
-    ensures all { IfOk result (λ piece. piece.boundary.items ≡ range_with_len 0 (length ring.now.corners)) }
+    ensures all { IfOk result (λ piece. piece.boundary ≡ range_with_len 0 (length ring.now.corners)) }
     ensures ordered { IfOk result (IsPieceInOrder ring.now.corners) }
 {
     let n = ring.len();
@@ -75,7 +75,7 @@ fn whole_piece(alloc: Global, ring: &Ring, mut order: Vec<u32>) -> Result<Piece,
         boundary.push_reserved(i as u16);
     }
     Ok(Piece {
-        boundary: VecDeque::from_vec(boundary),
+        boundary: Boundary::of(alloc, VecDeque::from_vec(boundary)),
         order,
     })
 }

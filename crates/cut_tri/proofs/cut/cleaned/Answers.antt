@@ -10,7 +10,7 @@ use Rattle.cut_tri.specs.declared.piece.Piece.{Piece}
 pub returns-clause-ordered : goal.returns-clause-ordered
 returns-clause-ordered c =
     let corners = c.args.ring.now.corners in
-    let xs = c.args.piece.boundary.items in
+    let xs = c.args.piece.boundary in
     let os = c.args.piece.order.items in
     let mid : IsPieceInOrder corners c.if-size-len.piece = elim c.if-size-len.branch [
       | then-size-len+in_ok-piece w ↦
@@ -24,7 +24,7 @@ returns-clause-ordered c =
       | else-size-len w ↦ subst (λ (p : Piece). IsPieceInOrder corners p) (sym w.piece-is) c.requires
     ] in (
       mid.0,
-      order_taken corners c.if-size-len.piece.boundary.items c.if-size-len.piece.order.items mid.1 mid.0.numbers c.len-2.result c.len-2.ensures.number
+      order_taken corners c.if-size-len.piece.boundary c.if-size-len.piece.order.items mid.1 mid.0.numbers c.len-2.result c.len-2.ensures.number
           (length c.drop_others.new.order.items) c.drop_others.new.order.items refl c.drop_others.ensures.kept c.drop_others.ensures.others,
     )
 
@@ -32,6 +32,6 @@ pub returns-clause-last : goal.returns-clause-last
 returns-clause-last c =
     let both = returns-clause-ordered c in
     let three = both.0.polygon.some in
-    let some = order_some c.args.ring.now.corners c.if-size-len.piece.boundary.items c.drop_others.new.order.items both.1 (omega (arith, three)) in
+    let some = order_some c.args.ring.now.corners c.if-size-len.piece.boundary c.drop_others.new.order.items both.1 (omega (arith, three)) in
     let os = c.drop_others.new.order.items in
     (some, subst (λ n. get_or os (length os - 1) 0 < n) c.len-2.ensures.number (c.drop_others.ensures.last some))

@@ -8,20 +8,20 @@ use Rattle.cut_tri.proofs.cut.least_place.Goals as goal
 pub overflow_sub-len : goal.overflow_sub-len
 overflow_sub-len c =
     let some = c.requires.ordered.0.polygon.some in
-    let has = order_some c.args.ring.now.corners c.args.piece.now.boundary.items c.args.piece.now.order.items c.requires.ordered.1 (omega (arith, some)) in
+    let has = order_some c.args.ring.now.corners c.args.piece.now.boundary c.args.piece.now.order.items c.requires.ordered.1 (omega (arith, some)) in
     let size = c.args.piece.now.order.ok.0 in
     omega (arith, has, size, c.len.ensures)
 
 pub index-requires : goal.index-requires
 index-requires c =
     let some = c.requires.ordered.0.polygon.some in
-    let has = order_some c.args.ring.now.corners c.args.piece.now.boundary.items c.args.piece.now.order.items c.requires.ordered.1 (omega (arith, some)) in
+    let has = order_some c.args.ring.now.corners c.args.piece.now.boundary c.args.piece.now.order.items c.requires.ordered.1 (omega (arith, some)) in
     let size = c.args.piece.now.order.ok.0 in
     omega (arith, has, size, c.len.ensures)
 
 pub place_of-requires : goal.place_of-requires
 place_of-requires c =
-    let xs = c.args.piece.now.boundary.items in
+    let xs = c.args.piece.now.boundary in
     let os = c.args.piece.now.order.items in
     let some = c.requires.ordered.0.polygon.some in
     let has = order_some c.args.ring.now.corners xs os c.requires.ordered.1 (omega (arith, some)) in
@@ -37,7 +37,7 @@ pub returns : goal.returns
 returns c =
     let os = c.args.piece.now.order.items in
     let some = c.requires.ordered.0.polygon.some in
-    let has = order_some c.args.ring.now.corners c.args.piece.now.boundary.items os c.requires.ordered.1 (omega (arith, some)) in
+    let has = order_some c.args.ring.now.corners c.args.piece.now.boundary os c.requires.ordered.1 (omega (arith, some)) in
     let size = c.args.piece.now.order.ok.0 in
     let k : ℕ = c.len.result - 1 in
     let within : k < length os = omega (arith, has, size, c.len.ensures) in

@@ -21,7 +21,7 @@ use Rattle.cut_tri.proofs.farthest.best_in.Goals.{else-rank-eq-NEAR-via-then-ran
 pub overflow_sub-last : goal.overflow_sub-last
 overflow_sub-last g c =
     let some = c.requires.ordered.ordered.0.polygon.some in
-    let has = order_some c.args.ring.now.corners c.args.piece.now.boundary.items c.args.piece.now.order.items c.requires.ordered.ordered.1 (omega (arith, some)) in
+    let has = order_some c.args.ring.now.corners c.args.piece.now.boundary c.args.piece.now.order.items c.requires.ordered.ordered.1 (omega (arith, some)) in
     let size = c.args.piece.now.order.ok.0 in
     omega (arith, has, size, c.len-last.ensures)
 
@@ -31,7 +31,7 @@ corner-p-requires g c = omega (arith, c.if-count-number.false, c.len-count.ensur
 pub loop-rank-init : goal.loop-rank-init
 loop-rank-init g c =
     let corners = c.args.ring.now.corners in
-    let xs = c.args.piece.now.boundary.items in
+    let xs = c.args.piece.now.boundary in
     let os = c.args.piece.now.order.items in
     let least = c.requires.ordered.least in
     let within = least.within in
@@ -47,24 +47,24 @@ loop-rank-init g c =
 
 pub is_nearer_from-requires-clause-counterclockwise : goal.is_nearer_from-requires-clause-counterclockwise
 is_nearer_from-requires-clause-counterclockwise g c =
-    let least = least_below c.args.ring.now.corners c.args.piece.now.boundary.items c.args.piece.now.order.items c.requires.ordered.ordered.1 c.requires.ordered.ordered.0.numbers 0 c.requires.ordered.least in
-    left_at_corner c.args.ring.now.corners c.args.piece.now.boundary.items c.args.corner.now c.requires.corner c.requires.ordered.ordered.0 least
+    let least = least_below c.args.ring.now.corners c.args.piece.now.boundary c.args.piece.now.order.items c.requires.ordered.ordered.1 c.requires.ordered.ordered.0.numbers 0 c.requires.ordered.least in
+    left_at_corner c.args.ring.now.corners c.args.piece.now.boundary c.args.corner.now c.requires.corner c.requires.ordered.ordered.0 least
 
 pub is_nearer_from-requires-clause-first : goal.is_nearer_from-requires-clause-first
 is_nearer_from-requires-clause-first g c =
-    let least = least_below c.args.ring.now.corners c.args.piece.now.boundary.items c.args.piece.now.order.items c.requires.ordered.ordered.1 c.requires.ordered.ordered.0.numbers 0 c.requires.ordered.least in
+    let least = least_below c.args.ring.now.corners c.args.piece.now.boundary c.args.piece.now.order.items c.requires.ordered.ordered.1 c.requires.ordered.ordered.0.numbers 0 c.requires.ordered.least in
     let some = c.requires.ordered.ordered.0.polygon.some in
-    first_not_right c.args.ring.now.corners c.args.piece.now.boundary.items c.args.corner.now c.requires.corner (omega (arith, some)) least
+    first_not_right c.args.ring.now.corners c.args.piece.now.boundary c.args.corner.now c.requires.corner (omega (arith, some)) least
 
 pub candidate-requires : goal.candidate-requires
 candidate-requires g c =
-    let least = least_below c.args.ring.now.corners c.args.piece.now.boundary.items c.args.piece.now.order.items c.requires.ordered.ordered.1 c.requires.ordered.ordered.0.numbers 0 c.requires.ordered.least in
-    record { counterclockwise = left_at_corner c.args.ring.now.corners c.args.piece.now.boundary.items c.args.corner.now c.requires.corner c.requires.ordered.ordered.0 least }
+    let least = least_below c.args.ring.now.corners c.args.piece.now.boundary c.args.piece.now.order.items c.requires.ordered.ordered.1 c.requires.ordered.ordered.0.numbers 0 c.requires.ordered.least in
+    record { counterclockwise = left_at_corner c.args.ring.now.corners c.args.piece.now.boundary c.args.corner.now c.requires.corner c.requires.ordered.ordered.0 least }
 
 pub loop-rank-preserved : goal.loop-rank-preserved
 loop-rank-preserved g c =
     let corners = c.args.ring.now.corners in
-    let xs = c.args.piece.now.boundary.items in
+    let xs = c.args.piece.now.boundary in
     let os = c.args.piece.now.order.items in
     let ordered = c.requires.ordered.ordered.1 in
     let n : ℕ = c.loop-rank.rank in
@@ -124,7 +124,7 @@ loop-rank-preserved g c =
 pub loop-rank-preserved-then-count-number : goal.loop-rank-preserved-then-count-number
 loop-rank-preserved-then-count-number g c =
     let corners = c.args.ring.now.corners in
-    let xs = c.args.piece.now.boundary.items in
+    let xs = c.args.piece.now.boundary in
     let os = c.args.piece.now.order.items in
     let n : ℕ = c.loop-rank.rank in
     let k : ℕ = c.len-last.result - 1 - n in
@@ -168,7 +168,7 @@ loop-rank-preserved-then-count-number g c =
 pub returns-after-loop-rank-clause-best : goal.returns-after-loop-rank-clause-best
 returns-after-loop-rank-clause-best g c =
     let corners = c.args.ring.now.corners in
-    let xs = c.args.piece.now.boundary.items in
+    let xs = c.args.piece.now.boundary in
     let os = c.args.piece.now.order.items in
     let n : ℕ = c.loop-rank.rank in
     let size = c.args.piece.now.order.ok.0 in
@@ -179,7 +179,7 @@ returns-after-loop-rank-clause-best g c =
 pub returns-then-is_nearer_from-clause-best : goal.returns-then-is_nearer_from-clause-best
 returns-then-is_nearer_from-clause-best g c =
     let corners = c.args.ring.now.corners in
-    let xs = c.args.piece.now.boundary.items in
+    let xs = c.args.piece.now.boundary in
     let os = c.args.piece.now.order.items in
     let n : ℕ = c.loop-rank.rank in
     let size = c.args.piece.now.order.ok.0 in
@@ -200,17 +200,17 @@ returns-then-is_nearer_from-clause-best g c =
 
 pub is_empty-requires-clause-counterclockwise : goal.is_empty-requires-clause-counterclockwise
 is_empty-requires-clause-counterclockwise g c =
-    let least = least_below c.args.ring.now.corners c.args.piece.now.boundary.items c.args.piece.now.order.items c.requires.ordered.ordered.1 c.requires.ordered.ordered.0.numbers 0 c.requires.ordered.least in
-    left_at_corner c.args.ring.now.corners c.args.piece.now.boundary.items c.args.corner.now c.requires.corner c.requires.ordered.ordered.0 least
+    let least = least_below c.args.ring.now.corners c.args.piece.now.boundary c.args.piece.now.order.items c.requires.ordered.ordered.1 c.requires.ordered.ordered.0.numbers 0 c.requires.ordered.least in
+    left_at_corner c.args.ring.now.corners c.args.piece.now.boundary c.args.corner.now c.requires.corner c.requires.ordered.ordered.0 least
 
 pub returns-then-is_empty-clause-best : goal.returns-then-is_empty-clause-best
 returns-then-is_empty-clause-best g c =
-    none_is_best c.args.ring.now.corners c.args.piece.now.boundary.items c.args.corner.now c.requires.corner c.requires.ordered.ordered.0.numbers
+    none_is_best c.args.ring.now.corners c.args.piece.now.boundary c.args.corner.now c.requires.corner c.requires.ordered.ordered.0.numbers
     (λ i below other. c.is_empty.ensures.empty c.if-is_empty.true i below other)
 
 pub returns-then-is_empty-clause-steps : goal.returns-then-is_empty-clause-steps
 returns-then-is_empty-clause-steps g c =
-    let most = seen_few c.args.ring.now.corners c.args.piece.now.boundary.items c.args.piece.now.order.items c.requires.ordered.ordered.1 c.loop-rank.rank in
+    let most = seen_few c.args.ring.now.corners c.args.piece.now.boundary c.args.piece.now.order.items c.requires.ordered.ordered.1 c.loop-rank.rank in
     omega (
       arith,
       most,
@@ -245,10 +245,10 @@ returns-then-is_nearer_from-clause-steps g c =
     c.index-number.ensures ∙ get_or_default os k c.index-number.result.now 0 (omega (arith, within, same)) ∙ ap (λ j. get_or os j 0) same in
     let low : of_rank os rank < n = subst (λ j. j < n) is (omega (arith, c.if-count-number.false, c.len-count.ensures.number)) in
     let more = seen_more n os rank within low in
-    let most = seen_few c.args.ring.now.corners c.args.piece.now.boundary.items os c.requires.ordered.ordered.1 (rank + 1) in
+    let most = seen_few c.args.ring.now.corners c.args.piece.now.boundary os c.requires.ordered.ordered.1 (rank + 1) in
     omega (arith, so_far.1, more, most, c.loop-rank.invariant.some, c.is_nearer_from.ensures.steps)
 
 pub returns-after-loop-rank-clause-steps : goal.returns-after-loop-rank-clause-steps
 returns-after-loop-rank-clause-steps g c =
-    let most = seen_few c.args.ring.now.corners c.args.piece.now.boundary.items c.args.piece.now.order.items c.requires.ordered.ordered.1 c.loop-rank.rank in
+    let most = seen_few c.args.ring.now.corners c.args.piece.now.boundary c.args.piece.now.order.items c.requires.ordered.ordered.1 c.loop-rank.rank in
     omega (arith, most, c.loop-rank.invariant.some, c.loop-rank.invariant.steps)

@@ -7,7 +7,7 @@ use Rattle.cut_tri.proofs.farthest.best_in.Given as goal
 
 abbrev pub invariant-loop-rank : goal.invariant-loop-rank
 invariant-loop-rank g l = record {
-  best : IsBestBelow l.ring.corners l.piece.boundary.items l.piece.order.items l.rank l.best;
+  best : IsBestBelow l.ring.corners l.piece.boundary l.piece.order.items l.rank l.best;
   clusters : IfSome l.clusters (AreClusters l.ring.corners);
   some : 0 < seen (length l.ring.corners) l.piece.order.items l.rank;
   few : l.rank ≤ 32 → l.steps ≤ l.fn.steps + 515 * (seen (length l.ring.corners) l.piece.order.items l.rank - 1);

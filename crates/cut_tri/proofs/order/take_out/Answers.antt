@@ -1,5 +1,4 @@
-use Rattle.std.proofs.Common.{◌≡◌, ◌<◌, ◌∙◌, sym, subst, length, get_or, arith}
-use Rattle.std.proofs.lemmas.List.{get_or_default}
+use Rattle.std.proofs.Common.{◌≡◌, ◌<◌, sym, subst, length, get_or, arith}
 use Rattle.std.proofs.lemmas.List.Elements.{All-get_or, Contains-get_or}
 use Rattle.std.specs.List.{Contains}
 use Rattle.cut_tri.proofs.Thinned.{still_has, thinned_more}
@@ -9,10 +8,10 @@ use Rattle.cut_tri.proofs.order.take_out.Goals as goal
 pub take_one_out-near-requires-clause-has : goal.take_one_out-near-requires-clause-has
 take_one_out-near-requires-clause-has c =
     let n = length c.args.ranks.now in
-    let xs = c.args.boundary.now.items in
+    let xs = c.args.boundary.now in
     let k = c.loop-k.k in
     let within : k < length xs = omega (arith, c.loop-k-test.true, c.requires.range.1) in
-    let at : c.index.result.now ≡ get_or xs k 0 = c.index.ensures ∙ get_or_default xs k c.index.result.now 0 within in
+    let at : c.at.result ≡ get_or xs k 0 = c.at.ensures in
     subst (Contains c.loop-k.order.items) (sym at)
     (still_has n xs c.args.from k c.args.order.now.items c.loop-k.order.items c.loop-k.invariant
     (All-get_or (λ i. i < n) xs k 0 within c.requires.numbers)
@@ -22,10 +21,10 @@ take_one_out-near-requires-clause-has c =
 pub loop-k-preserved : goal.loop-k-preserved
 loop-k-preserved c =
     let n = length c.args.ranks.now in
-    let xs = c.args.boundary.now.items in
+    let xs = c.args.boundary.now in
     let k = c.loop-k.k in
     let within : k < length xs = omega (arith, c.loop-k-test.true, c.requires.range.1) in
-    let at : c.index.result.now ≡ get_or xs k 0 = c.index.ensures ∙ get_or_default xs k c.index.result.now 0 within in
+    let at : c.at.result ≡ get_or xs k 0 = c.at.ensures in
     thinned_more n xs c.args.from k c.args.order.now.items c.loop-k.order.items c.loop-k.invariant
     (All-get_or (λ i. i < n) xs k 0 within c.requires.numbers) c.take_one_out-near.new.order.items c.loop-k.auto.k
     (subst (λ i. IsTakenOut n i c.loop-k.order.items c.take_one_out-near.new.order.items) at c.take_one_out-near.ensures)

@@ -3,4 +3,4 @@ use Rattle.std.proofs.Common.{length}
 use Rattle.cut_tri.specs.Thinned.{IsThinned}
 
 abbrev pub invariant-loop-k : goal.invariant-loop-k
-invariant-loop-k l = IsThinned (length l.ranks) l.boundary.items l.from l.k l.initial.order.items l.order.items
+invariant-loop-k l = IsThinned (length l.ranks) l.boundary l.from l.k l.initial.order.items l.order.items

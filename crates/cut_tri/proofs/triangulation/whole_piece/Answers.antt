@@ -31,7 +31,7 @@ returns-clause-ordered c =
     let corners = c.args.ring.now.corners in
     let ring = c.len-n.ensures in
     let end : c.loop-i.i ≡ length corners = omega (arith, c.loop-i.auto.i-end, c.loop-i-test.false, c.len-n.ensures.number) in
-    let items : c.from_vec.result.items ≡ range_with_len 0 (length corners) = c.from_vec.ensures.items ∙ c.loop-i.invariant.numbers ∙ ap (range_with_len 0) end in (
+    let items : c.of.result ≡ range_with_len 0 (length corners) = c.of.ensures ∙ c.from_vec.ensures.items ∙ c.loop-i.invariant.numbers ∙ ap (range_with_len 0) end in (
       subst (IsPiece corners) (sym items) (all_is_piece corners ring.size.0 ring.simple ring.counterclockwise),
       subst (λ xs. IsOrderOf corners xs c.reverse.new.self.items) (sym items)
           (all_ordered corners c.args.order.items c.requires c.reverse.new.self.items c.reverse.ensures.items),

@@ -5,7 +5,7 @@ use Rattle.cut_tri.specs.Clusters.{AreClusters, IsCluster}
 use Rattle.cut_tri.proofs.clusters.Clusters.clear_to.Goals as goal
 
 pub loop-k-preserved : goal.loop-k-preserved
-loop-k-preserved g c =
+loop-k-preserved c =
     let numbers = c.args.self.now.numbers.items in
     let cluster = c.index-cluster.result.now in
     let is_cluster : (corners : List Point) → AreClusters corners c.args.self.now → IsCluster corners numbers cluster =
@@ -16,5 +16,4 @@ loop-k-preserved g c =
           ((is_cluster corners are).boxed m (omega (arith, low, c.if-cluster-place.false)) high) inside;
       later = omega (arith, c.loop-k.invariant.later, c.saturating_sub.ensures);
       within = λ corners are place. (is_cluster corners are).within;
-      steps = omega (arith, c.loop-k.invariant.steps, c.loop-k.invariant.later, c.saturating_sub.ensures, c.misses.ensures.steps);
     }

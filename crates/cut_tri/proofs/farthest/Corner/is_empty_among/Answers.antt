@@ -3,7 +3,6 @@ use Rattle.std.proofs.lemmas.Bool.{cases_lt}
 use Rattle.std.proofs.lemmas.List.{get_or_default}
 use Rattle.rings.specs.Ring.{vertex}
 use Rattle.cut_tri.proofs.ClusterPlaces.{all_below, all_there, has_place}
-use Rattle.cut_tri.proofs.ClusterSteps.{asked_all, asked_last, asked_one, asked_past}
 use Rattle.cut_tri.proofs.TriangleBoxes.{same_corners}
 use Rattle.cut_tri.specs.Corner.{IsCandidate}
 use Rattle.cut_tri.proofs.farthest.Corner.is_empty_among.Goals as goal
@@ -19,8 +18,7 @@ loop-place-preserved-then-place-end g c =
             (same_corners c.of-triangle.ensures.u c.of-triangle.ensures.v c.of-triangle.ensures.w candidate.in_triangle)
       ];
       within = asked.within c.args.ring.now.corners c.requires.clusters c.loop-place.invariant.within;
-      steps = asked_past c.args.steps.now c.loop-place.steps c.clear_to-end.new.steps c.loop-place.place c.clear_to-end.result c.loop-place.invariant.steps
-          asked.between asked.steps c.if-place-end.true;
+      steps = omega (arith, c.loop-place.invariant.steps, c.if-place-end.true);
     }
 
 pub has-requires-clause-number : goal.has-requires-clause-number
@@ -46,17 +44,13 @@ loop-place-preserved g c =
             (subst (λ i. IsCandidate c.args.self.now i (vertex c.args.ring.now.corners i)) (sym is) candidate)
       ];
       within = omega (arith, c.loop-place-test.true, c.len.ensures);
-      steps = asked_one c.args.steps.now c.loop-place.steps c.clear_to-end.new.steps c.loop-place.place c.clear_to-end.result c.loop-place.invariant.steps
-          asked.between asked.steps c.has.new.steps (omega (arith, c.if-place-end.false)) (c.has.ensures.few c.if-has.false);
+      steps = omega (arith, c.loop-place.invariant.steps, c.has.ensures.few c.if-has.false);
     }
 
 pub returns-then-has-clause-steps : goal.returns-then-has-clause-steps
 returns-then-has-clause-steps g c =
-    let asked = c.clear_to-end.ensures in
     let all = all_there (length c.args.ring.now.corners) c.args.clusters.now.numbers.items c.requires.clusters.all in
-    asked_last c.args.steps.now c.loop-place.steps c.clear_to-end.new.steps c.loop-place.place c.clear_to-end.result c.loop-place.invariant.steps
-    asked.between asked.steps (length c.args.ring.now.corners) c.has.new.steps (omega (arith, all, c.loop-place-test.true, c.len.ensures))
-    (omega (arith, c.if-place-end.false)) c.has.ensures.steps
+    omega (arith, all, c.loop-place.invariant.steps, c.loop-place-test.true, c.len.ensures, c.has.ensures.steps)
 
 pub returns-clause-empty : goal.returns-clause-empty
 returns-clause-empty g c t i below other candidate =
@@ -68,5 +62,4 @@ returns-clause-empty g c t i below other candidate =
 pub returns-clause-steps : goal.returns-clause-steps
 returns-clause-steps g c =
     let all = all_there (length c.args.ring.now.corners) c.args.clusters.now.numbers.items c.requires.clusters.all in
-    asked_all c.args.steps.now c.loop-place.steps c.loop-place.place (length c.args.ring.now.corners) c.loop-place.invariant.steps
-    (omega (arith, all, c.loop-place.invariant.within))
+    omega (arith, all, c.loop-place.invariant.steps, c.loop-place.invariant.within)

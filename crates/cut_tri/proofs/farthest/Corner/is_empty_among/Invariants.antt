@@ -1,6 +1,5 @@
-use Rattle.std.proofs.Common.{◌≡◌, ℕ, ◌+◌, ◌-◌, ◌<◌, ◌≤◌, length, get_or}
+use Rattle.std.proofs.Common.{◌≡◌, ℕ, ◌+◌, ◌-◌, ◌*◌, ◌<◌, ◌≤◌, length, get_or}
 use Rattle.rings.specs.Ring.{vertex}
-use Rattle.cut_tri.proofs.ClusterSteps.{asked_before}
 use Rattle.cut_tri.specs.Corner.{IsCandidate}
 use Rattle.cut_tri.proofs.farthest.Corner.is_empty_among.Given as goal
 
@@ -9,7 +8,7 @@ invariant-loop-place g l = record {
   empty : (k : ℕ) → k < l.place → ¬ (get_or l.clusters.numbers.items k 0 ≡ l.self.tri.b)
       → ¬ (IsCandidate l.self (get_or l.clusters.numbers.items k 0) (vertex l.ring.corners (get_or l.clusters.numbers.items k 0)));
   within : l.place ≤ length l.clusters.numbers.items;
-  steps : l.steps ≤ l.fn.steps + asked_before l.place;
+  steps : l.steps ≤ l.fn.steps + (768 + 67 * l.place);
 }
 
 abbrev pub decreases-loop-place : goal.decreases-loop-place
