@@ -134,6 +134,21 @@ sum_of_both : (odd x y z w a b c d e f g h : Bool) → odd ≡ differ_all x y z 
     → odd ≡ differ (differ_all a b c d) (differ_all e f g h)
 sum_of_both odd x y z w a b c d e f g h all at_x at_y at_z at_w = all ∙ rw (at_x, at_y, at_z, at_w) (four_and_four a b c d e f g h)
 
+-- what the four bundles of a run tell
+all_told : (run : Run) (p : Triple) (east north west south : Bool) → IsTold run.eastward p east → IsTold run.northward p north
+    → IsTold run.westward p west → IsTold run.southward p south → AllTell run p (differ_all east north west south)
+all_told run p east north west south is_east is_north is_west is_south = record {
+  east = east;
+  north = north;
+  west = west;
+  south = south;
+  eastward = is_east;
+  northward = is_north;
+  westward = is_west;
+  southward = is_south;
+  all = refl;
+}
+
 -- an edge in both boxes of a bundle is in those of a wider one,
 edge_wider : (ring : List Point) (e : ℕ) (x y : Bundle) → IsWider x y → IsBundled ring x e → IsBundled ring y e
 edge_wider ring e x y wider h = record {
@@ -167,28 +182,8 @@ module _ (ring : List Point) (a b c : Run) (in_a : IsRunOf ring a) (in_b : IsRun
       let n = both_told a.northward b.northward c.northward north p told.north told.northward in
       let w = both_told a.westward b.westward c.westward west p told.west told.westward in
       let s = both_told a.southward b.southward c.southward south p told.south told.southward in
-      let one : AllTell a p (differ_all e.first n.first w.first s.first) = record {
-        east = e.first;
-        north = n.first;
-        west = w.first;
-        south = s.first;
-        eastward = e.first_told;
-        northward = n.first_told;
-        westward = w.first_told;
-        southward = s.first_told;
-        all = refl;
-      } in
-      let other : AllTell b p (differ_all e.second n.second w.second s.second) = record {
-        east = e.second;
-        north = n.second;
-        west = w.second;
-        south = s.second;
-        eastward = e.second_told;
-        northward = n.second_told;
-        westward = w.second_told;
-        southward = s.second_told;
-        all = refl;
-      } in
+      let one = all_told a p e.first n.first w.first s.first e.first_told n.first_told w.first_told s.first_told in
+      let other = all_told b p e.second n.second w.second s.second e.second_told n.second_told w.second_told s.second_told in
       let sum = sum_of_both odd told.east told.north told.west told.south e.first n.first w.first s.first e.second n.second w.second s.second
       told.all e.both n.both w.both s.both in
       let after : IsOddOver ring a.end b.end p (differ_all e.second n.second w.second s.second) =
@@ -311,17 +306,7 @@ module _ (ring : List Point) (a c : Run) (e : ℕ) (b : Bundle) (in_a : IsRunOf 
         let z = grown_told to_west a.westward b c.westward west p t.west t.westward in
         let w = grown_told to_south a.southward b c.southward south p t.south t.southward in
         let rest = differ_all x.others y.others z.others w.others in
-        let others : AllTell a p rest = record {
-          east = x.others;
-          north = y.others;
-          west = z.others;
-          south = w.others;
-          eastward = x.others_told;
-          northward = y.others_told;
-          westward = z.others_told;
-          southward = w.others_told;
-          all = refl;
-        } in
+        let others = all_told a p x.others y.others z.others w.others x.others_told y.others_told z.others_told w.others_told in
         let sum = sum_of_both odd t.east t.north t.west t.south x.others y.others z.others w.others x.edge y.edge z.edge w.edge
         t.all x.both y.both z.both w.both in
         let passed = edge_told b (vertex ring e) (vertex ring (e + 1)) is p at_p _
