@@ -9,7 +9,6 @@ mod SideViews
 mod Held
 pub use Rattle.meshes.proofs.Cones.Held.{not_left_between}
 mod NarrowedViews
-mod Fronts
 mod BeyondSides
 mod PartEnds
 -- The cones of sight along a walk over the triangles of a mesh: at its start, beyond a side, and on the edges of the ring.

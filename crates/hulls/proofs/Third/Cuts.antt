@@ -157,7 +157,9 @@ module _ (ring : List Point) (some : 3 ≤ length ring) (simple : IsSimple ring)
         let there = rest_bent ring on.path taut.bent (k + 1) within in
         let end = rest_at on.path (k + 1) (length rest - 1) (length on.path - 1) (omega arith) in
         elim (point_or_other v (point_at on.path (k + 1))) [
-          | inl same ↦ (point_at on.path (k + 1 + 1), record {
+          | inl same ↦ (
+            point_at on.path (k + 1 + 1),
+            record {
               path = rest;
               is_path = bent_is_path ring some simple rest there v b (rest_at on.path (k + 1) 0 (k + 1) (omega arith) ∙ sym same) (end ∙ taut.last);
               more = elim (cases_lt (k + 1 + 1) (length on.path)) [
@@ -167,15 +169,18 @@ module _ (ring : List Point) (some : 3 ≤ length ring) (simple : IsSimple ring)
                     absurd (other (same ∙ ap (point_at on.path) last ∙ taut.last))
               ];
               is_next = rest_at on.path (k + 1) 1 (k + 1 + 1) (omega arith);
-            })
+            },
+          )
           | inr differ ↦
               let on_to = goes_on_step ring on.path taut.bent v k within on.on differ in
-              let v_in = taut.bent.chain.sees k within (whole v) (whole_is_point v) on.on in
-              (point_at on.path (k + 1), record {
-                path = v ∷ rest;
-                is_path = bent_is_path ring some simple (v ∷ rest) (with_point ring v rest there v_in on_to) v b refl
-                    (with_point_ends ring v rest there v_in on_to ∙ end ∙ taut.last);
-                more = omega arith;
-                is_next = rest_at on.path (k + 1) 0 (k + 1) (omega arith);
-              })
+              let v_in = taut.bent.chain.sees k within (whole v) (whole_is_point v) on.on in (
+                point_at on.path (k + 1),
+                record {
+                  path = v ∷ rest;
+                  is_path = bent_is_path ring some simple (v ∷ rest) (with_point ring v rest there v_in on_to) v b refl
+                      (with_point_ends ring v rest there v_in on_to ∙ end ∙ taut.last);
+                  more = omega arith;
+                  is_next = rest_at on.path (k + 1) 0 (k + 1) (omega arith);
+                },
+              )
         ]

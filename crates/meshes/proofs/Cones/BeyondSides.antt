@@ -21,10 +21,9 @@ use Rattle.plane.specs.Turn.{IsLeft, IsRight, IsStraight, determinant}
 use Rattle.rings.specs.Ring.{vertex}
 use Rattle.rings.specs.Sees.{Sees}
 use Rattle.ring_laws.proofs.Triangles.{in_or_not}
-use Rattle.meshes.proofs.Cones.Fronts.{triangle_in_front, ahead, ahead_turn, in_front}
+use Rattle.meshes.proofs.Cones.RaySigns.{triangle_in_front, ahead, ahead_turn, in_front, in_line, in_line_ahead, in_line_too, beyond_side}
+use Rattle.meshes.proofs.Cones.RaySigns.{not_left_ahead, not_past_left, not_past_right, not_right_ahead}
 use Rattle.meshes.proofs.Cones.Held.{end_on_side, held, held_between}
-use Rattle.meshes.proofs.Cones.RaySigns.{in_line, in_line_ahead, in_line_too, beyond_side, not_left_ahead, not_past_left, not_past_right}
-use Rattle.meshes.proofs.Cones.RaySigns.{not_right_ahead}
 use Rattle.meshes.proofs.Cones.SideReach.{IsBeyondSide}
 use Rattle.meshes.proofs.Cones.SideViews.{IsWindow, ReachesSide}
 use Rattle.meshes.proofs.Sight.{sees_before, sees_on}
