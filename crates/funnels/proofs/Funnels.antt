@@ -49,8 +49,6 @@ pub use Rattle.funnels.proofs.Funnels.NextPoints.{right_on_left, right_on_right}
 -- The way to a point beyond the diagonal, from the place of the funnel that it is reached from, goes over the diagonal.
 mod NewEdge
 pub use Rattle.funnels.proofs.Funnels.NewEdge.{reaches_new}
--- Two edges of a funnel at a common point, and a point beyond the diagonal: to which sides of them it is.
-mod TwoEdges
 -- The edges of a funnel at its places, and the window of the place from which a point is reached.
 mod FunnelEdges
 pub use Rattle.funnels.proofs.Funnels.FunnelEdges.{edge_after, edge_before, in_window_of, window_of_reached}

@@ -8,9 +8,6 @@ pub use Rattle.funnels.proofs.OneChain.SubChains.{front_and_last, front_at, fron
 mod SameChains
 pub use Rattle.funnels.proofs.OneChain.SameChains.{bend_back, bend_from_ray, bend_on_ray, before_last, front, last_of, shorter_step}
 mod ComeTogether
--- In a simple ring there is one chain with bends between two points, and none that ends where it begins.
-mod OneChains
-pub use Rattle.funnels.proofs.OneChain.OneChains.{no_closed_chain, one_bent_chain}
+pub use Rattle.funnels.proofs.OneChain.Paths.{no_closed_chain, one_bent_chain, bent_is_path, one_before, one_taut_chain, taut_iff_bent}
 -- In a simple ring a taut chain is the path between its ends, and a chain with bends is taut.
 mod Paths
-pub use Rattle.funnels.proofs.OneChain.Paths.{bent_is_path, one_before, one_taut_chain, taut_iff_bent}

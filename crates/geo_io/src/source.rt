@@ -87,7 +87,15 @@ pub fn read_all<S: Source>(alloc: Global, source: &mut S, limit: usize) -> Resul
         GivesAtMost (limit + 2 ^ 16) (S.left source.old) (S.left source.new) }
 {
     let mut piece = zeros(alloc, PIECE)?;
-    read_pieces(alloc, source, &mut piece, limit)
+    let mut bytes = Vec::new(alloc);
+    while bytes.len() <= limit {
+        let count = source.read_some(&mut piece)?;
+        if count == 0 {
+            return Ok(bytes);
+        }
+        bytes.extend_from_slice(&piece[..count])?;
+    }
+    Err(ReadEnd::TooLong)
 }
 
 // Its clause says the length alone, so that no proof writes out the list.
@@ -95,40 +103,4 @@ fn zeros(alloc: Global, count: usize) -> Result<Vec<u8>, AllocError>
     ensures { IfOk result (λ zeros. vec_len zeros ≡ count) }
 {
     vec![in alloc; 0u8; count]
-}
-
-// Reads a piece at a time, until the source ends or has given more than `limit`.
-fn read_pieces<S: Source>(
-    alloc: Global,
-    source: &mut S,
-    piece: &mut [u8],
-    limit: usize,
-) -> Result<Vec<u8>, ReadEnd>
-    requires room { 0 < length piece.old }
-    requires limit { limit ≤ MAX_SCRIPT }
-
-    ensures all { IfOk result (λ bytes. Consumes (S.left source.old) (S.left source.new) bytes.items) }
-    ensures end { OnOk result (IsAtEnd (S.left source.new)) }
-    ensures within { IfOk result (λ bytes. vec_len bytes ≤ limit) }
-    ensures counts { OnOk result (S.faults source.new ≡ S.faults source.old) }
-
-    ensures front { OnErr result (GivesFront (S.left source.old) (S.left source.new)) }
-    ensures fault { result ≡ Err ReadEnd.Fault → Rose (S.faults source.old) (S.faults source.new) }
-    ensures fault_within { result ≡ Err ReadEnd.Fault → GivesAtMost limit (S.left source.old) (S.left source.new) }
-    ensures memory { result ≡ Err ReadEnd.Memory → S.faults source.new ≡ S.faults source.old }
-    ensures too_long { result ≡ Err ReadEnd.TooLong →
-        GivesMoreThan limit (S.left source.old) (S.left source.new) }
-    ensures no_fault { result ≡ Err ReadEnd.TooLong → S.faults source.new ≡ S.faults source.old }
-    ensures stops { result ≡ Err ReadEnd.TooLong →
-        GivesAtMost (limit + length piece.old) (S.left source.old) (S.left source.new) }
-{
-    let mut bytes = Vec::new(alloc);
-    while bytes.len() <= limit {
-        let count = source.read_some(piece)?;
-        if count == 0 {
-            return Ok(bytes);
-        }
-        bytes.extend_from_slice(&piece[..count])?;
-    }
-    Err(ReadEnd::TooLong)
 }

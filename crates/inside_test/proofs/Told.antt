@@ -8,7 +8,7 @@ use Rattle.std.specs.Prelude.{◌≤ℤ◌, not}
 use Rattle.plane.specs.Point.{IsPoint, Point, Triple}
 use Rattle.rings.specs.Ring.{vertex}
 use Rattle.inside_test.proofs.Blocks.{IsPassed, is_between_ends, passed_above, passed_below, passed_left, passed_right}
-use Rattle.inside_test.proofs.Odd.{differ_assoc, over_both, over_more, over_none}
+use Rattle.inside_test.proofs.Odd.{not_other, over_both, over_more, over_none}
 use Rattle.inside_test.specs.Block.{IsBoxMissed}
 use Rattle.inside_test.specs.Bundle.{CrossesAll, IsBundleOf, IsBundleOfBoth, IsTold, IsWider}
 use Rattle.inside_test.specs.Odd.{IsOddOver}
@@ -129,6 +129,26 @@ four_and_four a b c d e f g h =
     ∙ ap (λ x. differ (differ (differ a b) (differ e f)) x) (interchange c g d h)
     ∙ interchange (differ a b) (differ e f) (differ c d) (differ g h)
 
+-- so what four flags tell together, where each is one of the first four and one of the second
+sum_of_both : (odd x y z w a b c d e f g h : Bool) → odd ≡ differ_all x y z w → x ≡ differ a e → y ≡ differ b f → z ≡ differ c g → w ≡ differ d h
+    → odd ≡ differ (differ_all a b c d) (differ_all e f g h)
+sum_of_both odd x y z w a b c d e f g h all at_x at_y at_z at_w = all ∙ rw (at_x, at_y, at_z, at_w) (four_and_four a b c d e f g h)
+
+-- what the four bundles of a run tell
+all_told : (run : Run) (p : Triple) (east north west south : Bool) → IsTold run.eastward p east → IsTold run.northward p north
+    → IsTold run.westward p west → IsTold run.southward p south → AllTell run p (differ_all east north west south)
+all_told run p east north west south is_east is_north is_west is_south = record {
+  east = east;
+  north = north;
+  west = west;
+  south = south;
+  eastward = is_east;
+  northward = is_north;
+  westward = is_west;
+  southward = is_south;
+  all = refl;
+}
+
 -- an edge in both boxes of a bundle is in those of a wider one,
 edge_wider : (ring : List Point) (e : ℕ) (x y : Bundle) → IsWider x y → IsBundled ring x e → IsBundled ring y e
 edge_wider ring e x y wider h = record {
@@ -162,34 +182,10 @@ module _ (ring : List Point) (a b c : Run) (in_a : IsRunOf ring a) (in_b : IsRun
       let n = both_told a.northward b.northward c.northward north p told.north told.northward in
       let w = both_told a.westward b.westward c.westward west p told.west told.westward in
       let s = both_told a.southward b.southward c.southward south p told.south told.southward in
-      let one : AllTell a p (differ_all e.first n.first w.first s.first) = record {
-        east = e.first;
-        north = n.first;
-        west = w.first;
-        south = s.first;
-        eastward = e.first_told;
-        northward = n.first_told;
-        westward = w.first_told;
-        southward = s.first_told;
-        all = refl;
-      } in
-      let other : AllTell b p (differ_all e.second n.second w.second s.second) = record {
-        east = e.second;
-        north = n.second;
-        west = w.second;
-        south = s.second;
-        eastward = e.second_told;
-        northward = n.second_told;
-        westward = w.second_told;
-        southward = s.second_told;
-        all = refl;
-      } in
-      let sum : odd ≡ differ (differ_all e.first n.first w.first s.first) (differ_all e.second n.second w.second s.second) =
-      told.all ∙ ap (λ x. differ_all x told.north told.west told.south) e.both
-      ∙ ap (λ x. differ_all (differ e.first e.second) x told.west told.south) n.both
-      ∙ ap (λ x. differ_all (differ e.first e.second) (differ n.first n.second) x told.south) w.both
-      ∙ ap (λ x. differ_all (differ e.first e.second) (differ n.first n.second) (differ w.first w.second) x) s.both
-      ∙ four_and_four e.first n.first w.first s.first e.second n.second w.second s.second in
+      let one = all_told a p e.first n.first w.first s.first e.first_told n.first_told w.first_told s.first_told in
+      let other = all_told b p e.second n.second w.second s.second e.second_told n.second_told w.second_told s.second_told in
+      let sum = sum_of_both odd told.east told.north told.west told.south e.first n.first w.first s.first e.second n.second w.second s.second
+      told.all e.both n.both w.both s.both in
       let after : IsOddOver ring a.end b.end p (differ_all e.second n.second w.second s.second) =
       subst (λ k. IsOddOver ring k b.end p (differ_all e.second n.second w.second s.second)) next (in_b.told p _ at_p other) in
       rw (first, end) (subst (IsOddOver ring a.first b.end p) (sym sum) (over_both ring p a.first a.end b.end _ _ (in_a.told p _ at_p one) after))
@@ -227,51 +223,76 @@ module _ (ring : List Point) (run : Run) (within : run.first ≤ length ring) (e
 
 -- ---- a run and one edge more
 
--- two flags, one after the other
-swap_last : (a b c : Bool) → differ (differ a c) b ≡ differ (differ a b) c
-swap_last true true true = refl
-swap_last true true false = refl
-swap_last true false true = refl
-swap_last true false false = refl
-swap_last false true true = refl
-swap_last false true false = refl
-swap_last false false true = refl
-swap_last false false false = refl
+-- one flag of four
+first_alone : (a : Bool) → a ≡ differ_all a false false false
+first_alone true = refl
+first_alone false = refl
 
--- four flags and one more, beside each of them
-with_first : (a b c d e : Bool) → differ_all (differ a e) b c d ≡ differ (differ_all a b c d) e
-with_first a b c d e = ap (λ x. differ x (differ c d)) (swap_last a b e) ∙ swap_last (differ a b) (differ c d) e
+second_alone : (a : Bool) → a ≡ differ_all false a false false
+second_alone true = refl
+second_alone false = refl
 
-with_second : (a b c d e : Bool) → differ_all a (differ b e) c d ≡ differ (differ_all a b c d) e
-with_second a b c d e = ap (λ x. differ x (differ c d)) (sym (differ_assoc a b e)) ∙ swap_last (differ a b) (differ c d) e
+third_alone : (a : Bool) → a ≡ differ_all false false a false
+third_alone true = refl
+third_alone false = refl
 
-with_third : (a b c d e : Bool) → differ_all a b (differ c e) d ≡ differ (differ_all a b c d) e
-with_third a b c d e = ap (λ x. differ (differ a b) x) (swap_last c d e) ∙ sym (differ_assoc (differ a b) (differ c d) e)
-
-with_last : (a b c d e : Bool) → differ_all a b c (differ d e) ≡ differ (differ_all a b c d) e
-with_last a b c d e = ap (λ x. differ (differ a b) x) (sym (differ_assoc c d e)) ∙ sym (differ_assoc (differ a b) (differ c d) e)
-
--- what the bundles of a run tell, and that of the edge
-record AreToldWith (a : Run) (b : Bundle) (p : Triple) (odd : Bool) : Type 0 where
-  others : Bool
-  edge : Bool
-  others_told : AllTell a p others
-  told : IsTold b p edge
-  both : odd ≡ differ others edge
+last_alone : (a : Bool) → a ≡ differ_all false false false a
+last_alone true = refl
+last_alone false = refl
 
 -- a bundle is in one that has more
 wider_same : (a : Bundle) → IsWider a a
 wider_same a = record { box = λ v within. within; tilted = λ v within. within; low = omega (arith, ints); high = omega (arith, ints) }
 
+-- the third bundle has those edges of the first two that it should: of the second only where the flag says so
+abbrev IsGrown : Bool → Bundle → Bundle → Bundle → Type 0
+IsGrown true a b c = IsBundleOfBoth a b c
+IsGrown false a b c = c ≡ a
+
+-- what the second tells, or else nothing
+abbrev IsAdded : Bool → Bundle → Triple → Bool → Type 0
+IsAdded true b p odd = IsTold b p odd
+IsAdded false b p odd = odd ≡ false
+
+-- what the first tells, and what the second adds
+record IsToldWith (grows : Bool) (a b : Bundle) (p : Triple) (odd : Bool) : Type 0 where
+  others : Bool
+  edge : Bool
+  others_told : IsTold a p others
+  added : IsAdded grows b p edge
+  both : odd ≡ differ others edge
+
+grown_wider : (grows : Bool) (a b c : Bundle) → IsGrown grows a b c → IsWider a c
+grown_wider true a b c both = both.first
+grown_wider false a b c same = subst (IsWider a) (sym same) (wider_same a)
+
+grown_told : (grows : Bool) (a b c : Bundle) → IsGrown grows a b c → (p : Triple) (odd : Bool) → IsTold c p odd → IsToldWith grows a b p odd
+grown_told true a b c both p odd told =
+    let t = both_told a b c both p odd told in
+    record { others = t.first; edge = t.second; others_told = t.first_told; added = t.second_told; both = t.both }
+grown_told false a b c same p odd told = record {
+  others = odd;
+  edge = false;
+  others_told = subst (λ d. IsTold d p odd) same told;
+  added = refl;
+  both = sym (not_other odd);
+}
+
 module _ (ring : List Point) (a c : Run) (e : ℕ) (b : Bundle) (in_a : IsRunOf ring a) (next : e ≡ a.end) (within : e < length ring)
     (first : c.first ≡ a.first) (end : c.end ≡ e + 1) (is : IsBundleOf b (vertex ring e) (vertex ring (e + 1))) where
-  -- a run and the next edge make a run
-  run_with_bundle : ((k : ℕ) → IsBoxed ring a k → IsBoxed ring c k) → (IsBundled ring b e → IsBoxed ring c e)
-      → ((p : Triple) (odd : Bool) → AllTell c p odd → AreToldWith a b p odd) → IsRunOf ring c
-  run_with_bundle wider boxed told = record {
+  -- a run and the next edge, in that of the bundles that grows, make a run
+  run_with_bundle : (to_east to_north to_west to_south : Bool) → IsGrown to_east a.eastward b c.eastward
+      → IsGrown to_north a.northward b c.northward → IsGrown to_west a.westward b c.westward → IsGrown to_south a.southward b c.southward
+      → (IsBundled ring b e → IsBoxed ring c e)
+      → ((p : Triple) (east north west south : Bool) → IsAdded to_east b p east → IsAdded to_north b p north → IsAdded to_west b p west
+      → IsAdded to_south b p south → IsTold b p (differ_all east north west south))
+      → IsRunOf ring c
+  run_with_bundle to_east to_north to_west to_south east north west south boxed one = record {
     within = omega (arith, within, end);
     boxed = λ k from below. elim (cases_lt k a.end) [
-      | inl earlier ↦ wider k (in_a.boxed k (omega (arith, from, first)) earlier)
+      | inl earlier ↦ boxed_wider ring a c k (grown_wider to_east a.eastward b c.eastward east) (grown_wider to_north a.northward b c.northward north)
+          (grown_wider to_west a.westward b c.westward west) (grown_wider to_south a.southward b c.southward south)
+          (in_a.boxed k (omega (arith, from, first)) earlier)
       | inr later ↦ subst (IsBoxed ring c) (omega (arith, later, next, below, end))
           (boxed (record {
             box = record { from_bounds = is.first_bounds; to_bounds = is.last_bounds; from = is.first; to = is.last };
@@ -279,114 +300,42 @@ module _ (ring : List Point) (a c : Run) (e : ℕ) (b : Bundle) (in_a : IsRunOf 
             to_tilted = is.last_tilted;
           }))
     ];
-    told = λ p odd at_p all.
-        let t = told p odd all in
-        let passed = edge_told b (vertex ring e) (vertex ring (e + 1)) is p at_p t.edge t.told in
-        let before = subst (λ k. IsOddOver ring a.first k p t.others) (sym next) (in_a.told p t.others at_p t.others_told) in
-        rw (first, end) (over_more ring p a.first e t.others t.edge odd within before passed.off passed.is t.both);
+    told = λ p odd at_p t.
+        let x = grown_told to_east a.eastward b c.eastward east p t.east t.eastward in
+        let y = grown_told to_north a.northward b c.northward north p t.north t.northward in
+        let z = grown_told to_west a.westward b c.westward west p t.west t.westward in
+        let w = grown_told to_south a.southward b c.southward south p t.south t.southward in
+        let rest = differ_all x.others y.others z.others w.others in
+        let others = all_told a p x.others y.others z.others w.others x.others_told y.others_told z.others_told w.others_told in
+        let sum = sum_of_both odd t.east t.north t.west t.south x.others y.others z.others w.others x.edge y.edge z.edge w.edge
+        t.all x.both y.both z.both w.both in
+        let passed = edge_told b (vertex ring e) (vertex ring (e + 1)) is p at_p _
+        (one p x.edge y.edge z.edge w.edge x.added y.added z.added w.added) in
+        let before = subst (λ k. IsOddOver ring a.first k p rest) (sym next) (in_a.told p rest at_p others) in
+        rw (first, end) (over_more ring p a.first e rest _ odd within before passed.off passed.is sum);
   }
 
   -- so it is with each of the four bundles
   pub with_eastward : IsBundleOfBoth a.eastward b c.eastward → c.northward ≡ a.northward → c.westward ≡ a.westward → c.southward ≡ a.southward
       → IsRunOf ring c
-  with_eastward both north west south = run_with_bundle
-      (λ k. boxed_wider ring a c k both.first (subst (IsWider a.northward) (sym north) (wider_same a.northward))
-      (subst (IsWider a.westward) (sym west) (wider_same a.westward)) (subst (IsWider a.southward) (sym south) (wider_same a.southward)))
+  with_eastward both north west south = run_with_bundle true false false false both north west south
       (λ h. inl (edge_wider ring e b c.eastward both.second h))
-      (λ p odd t.
-      let x = both_told a.eastward b c.eastward both p t.east t.eastward in
-      record {
-        others = differ_all x.first t.north t.west t.south;
-        edge = x.second;
-        others_told = record {
-          east = x.first;
-          north = t.north;
-          west = t.west;
-          south = t.south;
-          eastward = x.first_told;
-          northward = subst (λ d. IsTold d p t.north) north t.northward;
-          westward = subst (λ d. IsTold d p t.west) west t.westward;
-          southward = subst (λ d. IsTold d p t.south) south t.southward;
-          all = refl;
-        };
-        told = x.second_told;
-        both = t.all ∙ ap (λ z. differ_all z t.north t.west t.south) x.both ∙ with_first x.first t.north t.west t.south x.second;
-      })
+      (λ p x y z w told n t s. rw (n, t, s) (subst (IsTold b p) (first_alone x) told))
 
   pub with_northward : IsBundleOfBoth a.northward b c.northward → c.eastward ≡ a.eastward → c.westward ≡ a.westward → c.southward ≡ a.southward
       → IsRunOf ring c
-  with_northward both east west south = run_with_bundle
-      (λ k. boxed_wider ring a c k (subst (IsWider a.eastward) (sym east) (wider_same a.eastward)) both.first
-      (subst (IsWider a.westward) (sym west) (wider_same a.westward)) (subst (IsWider a.southward) (sym south) (wider_same a.southward)))
+  with_northward both east west south = run_with_bundle false true false false east both west south
       (λ h. inr (inl (edge_wider ring e b c.northward both.second h)))
-      (λ p odd t.
-      let x = both_told a.northward b c.northward both p t.north t.northward in
-      record {
-        others = differ_all t.east x.first t.west t.south;
-        edge = x.second;
-        others_told = record {
-          east = t.east;
-          north = x.first;
-          west = t.west;
-          south = t.south;
-          eastward = subst (λ d. IsTold d p t.east) east t.eastward;
-          northward = x.first_told;
-          westward = subst (λ d. IsTold d p t.west) west t.westward;
-          southward = subst (λ d. IsTold d p t.south) south t.southward;
-          all = refl;
-        };
-        told = x.second_told;
-        both = t.all ∙ ap (λ z. differ_all t.east z t.west t.south) x.both ∙ with_second t.east x.first t.west t.south x.second;
-      })
+      (λ p x y z w f told t s. rw (f, t, s) (subst (IsTold b p) (second_alone y) told))
 
   pub with_westward : IsBundleOfBoth a.westward b c.westward → c.eastward ≡ a.eastward → c.northward ≡ a.northward → c.southward ≡ a.southward
       → IsRunOf ring c
-  with_westward both east north south = run_with_bundle
-      (λ k. boxed_wider ring a c k (subst (IsWider a.eastward) (sym east) (wider_same a.eastward))
-      (subst (IsWider a.northward) (sym north) (wider_same a.northward)) both.first (subst (IsWider a.southward) (sym south) (wider_same a.southward)))
+  with_westward both east north south = run_with_bundle false false true false east north both south
       (λ h. inr (inr (inl (edge_wider ring e b c.westward both.second h))))
-      (λ p odd t.
-      let x = both_told a.westward b c.westward both p t.west t.westward in
-      record {
-        others = differ_all t.east t.north x.first t.south;
-        edge = x.second;
-        others_told = record {
-          east = t.east;
-          north = t.north;
-          west = x.first;
-          south = t.south;
-          eastward = subst (λ d. IsTold d p t.east) east t.eastward;
-          northward = subst (λ d. IsTold d p t.north) north t.northward;
-          westward = x.first_told;
-          southward = subst (λ d. IsTold d p t.south) south t.southward;
-          all = refl;
-        };
-        told = x.second_told;
-        both = t.all ∙ ap (λ z. differ_all t.east t.north z t.south) x.both ∙ with_third t.east t.north x.first t.south x.second;
-      })
+      (λ p x y z w f n told s. rw (f, n, s) (subst (IsTold b p) (third_alone z) told))
 
   pub with_southward : IsBundleOfBoth a.southward b c.southward → c.eastward ≡ a.eastward → c.northward ≡ a.northward → c.westward ≡ a.westward
       → IsRunOf ring c
-  with_southward both east north west = run_with_bundle
-      (λ k. boxed_wider ring a c k (subst (IsWider a.eastward) (sym east) (wider_same a.eastward))
-      (subst (IsWider a.northward) (sym north) (wider_same a.northward)) (subst (IsWider a.westward) (sym west) (wider_same a.westward)) both.first)
+  with_southward both east north west = run_with_bundle false false false true east north west both
       (λ h. inr (inr (inr (edge_wider ring e b c.southward both.second h))))
-      (λ p odd t.
-      let x = both_told a.southward b c.southward both p t.south t.southward in
-      record {
-        others = differ_all t.east t.north t.west x.first;
-        edge = x.second;
-        others_told = record {
-          east = t.east;
-          north = t.north;
-          west = t.west;
-          south = x.first;
-          eastward = subst (λ d. IsTold d p t.east) east t.eastward;
-          northward = subst (λ d. IsTold d p t.north) north t.northward;
-          westward = subst (λ d. IsTold d p t.west) west t.westward;
-          southward = x.first_told;
-          all = refl;
-        };
-        told = x.second_told;
-        both = t.all ∙ ap (λ z. differ_all t.east t.north t.west z) x.both ∙ with_last t.east t.north t.west x.first x.second;
-      })
+      (λ p x y z w f n t told. rw (f, n, t) (subst (IsTold b p) (last_alone w) told))

@@ -49,8 +49,8 @@ impl Bundle {
         Bundle {
             around: self.around.joined(&other.around),
             tilted: self.tilted.joined(&other.tilted),
-            low: greater(self.low, other.low),
-            high: lesser(self.high, other.high),
+            low: in_order(self.low, other.low).1,
+            high: in_order(self.high, other.high).0,
             is_odd: self.is_odd != other.is_odd,
         }
     }
@@ -93,29 +93,11 @@ fn in_order(a: i64, b: i64) -> (i64, i64)
     requires b_fits { unsigned_abs b < 2 ^ 40 }
     ensures low_fits { unsigned_abs result.0 < 2 ^ 40 }
     ensures high_fits { unsigned_abs result.1 < 2 ^ 40 }
+    ensures low_first { result.0 ≤ℤ a }
+    ensures low_second { result.0 ≤ℤ b }
+    ensures high_first { a ≤ℤ result.1 }
+    ensures high_second { b ≤ℤ result.1 }
     ensures those { ((result.0 ≡ a) × (result.1 ≡ b)) ⊎ ((result.0 ≡ b) × (result.1 ≡ a)) }
 {
     if a < b { (a, b) } else { (b, a) }
-}
-
-// The lesser of two heights.
-fn lesser(a: i64, b: i64) -> i64
-    requires a_fits { unsigned_abs a < 2 ^ 40 }
-    requires b_fits { unsigned_abs b < 2 ^ 40 }
-    ensures fits { unsigned_abs result < 2 ^ 40 }
-    ensures first { result ≤ℤ a }
-    ensures second { result ≤ℤ b }
-{
-    if a < b { a } else { b }
-}
-
-// The greater of two heights.
-fn greater(a: i64, b: i64) -> i64
-    requires a_fits { unsigned_abs a < 2 ^ 40 }
-    requires b_fits { unsigned_abs b < 2 ^ 40 }
-    ensures fits { unsigned_abs result < 2 ^ 40 }
-    ensures first { a ≤ℤ result }
-    ensures second { b ≤ℤ result }
-{
-    if a < b { b } else { a }
 }

@@ -8,12 +8,8 @@ mod SideViews
 -- What a cone holds, by signs, and so between two points; and the ends of a side.
 mod Held
 pub use Rattle.meshes.proofs.Cones.Held.{not_left_between}
-mod NarrowedRays
 mod NarrowedViews
-mod Fronts
-mod OneRay
-mod WindowCones
-mod SideMeetings
+mod BeyondSides
 mod PartEnds
 -- The cones of sight along a walk over the triangles of a mesh: at its start, beyond a side, and on the edges of the ring.
 mod ConesOfSight

@@ -2,7 +2,7 @@
 
 -- A piece read from another vertex on: the same triangles fit it.
 mod Rotated
-pub use Rattle.meshes.proofs.Joins.Rotated.{edge_rotated, fits_rotated, same_rotated, tri_of_same}
+pub use Rattle.meshes.proofs.Joins.Rotated.{edge_rotated, fits_rotated, same_rotated, tri_of_same, fits_ear}
 mod TwoLists
 -- One of two meshes that are joined along a diagonal: the sides of its triangles in the joined list.
 mod Halves
@@ -13,18 +13,12 @@ mod Joined
 pub use Rattle.meshes.proofs.Joins.Joined.{fits_joined}
 -- A piece that is cut in two by a diagonal: its vertices and edges, and those of the two parts.
 mod Cuts
-pub use Rattle.meshes.proofs.Joins.Cuts.{IsCut, both_parts, contains_cases, contains_first, contains_first_part, contains_rest, contains_second_part}
-pub use Rattle.meshes.proofs.Joins.Cuts.{first_diagonal, first_part, first_part_cases, part_of_edge, place_of, second_diagonal, second_part}
-pub use Rattle.meshes.proofs.Joins.Cuts.{second_part_cases}
+pub use Rattle.meshes.proofs.Joins.Cuts.{IsCut, both_parts, contains_cases, contains_first, contains_first_part, contains_rest}
+pub use Rattle.meshes.proofs.Joins.Cuts.{contains_second_part, first_diagonal, first_part, first_part_cases, part_of_edge, place_of}
+pub use Rattle.meshes.proofs.Joins.Cuts.{second_diagonal, second_part, second_part_cases, edge_places, next_place, next_within}
 -- Two trees that one edge joins are one tree.
 mod JoinedTrees
 pub use Rattle.meshes.proofs.Joins.JoinedTrees.{Both, IsBridge, joined_tree}
 -- Points strictly inside triangles: those near them are so too, and some of them are off a given line.
 mod OffDiagonal
 pub use Rattle.meshes.proofs.Joins.OffDiagonal.{in_tri}
--- A mesh with one more triangle: an ear at a vertex of the piece.
-mod Ears
-pub use Rattle.meshes.proofs.Joins.Ears.{fits_ear}
--- The places that an edge of a piece goes from and to; the diagonal that cuts a piece in two is not an edge of it.
-mod Diagonals
-pub use Rattle.meshes.proofs.Joins.Diagonals.{edge_places, next_place, next_within}

@@ -3,12 +3,11 @@
 -- One triangle fits the piece of its three corners.
 mod BaseTriangle
 pub use Rattle.meshes.proofs.Sides.BaseTriangle.{fits_triangle}
--- In a list of triangles that fits a polygon each side belongs to one triangle in each direction, and to none in both.
-mod MeshSides
-pub use Rattle.meshes.proofs.Sides.MeshSides.{corners_differ, fitting_sides, left_apart, one_direction}
+pub use Rattle.meshes.proofs.Sides.PieceSteps.{corners_differ, fitting_sides, left_apart, one_direction, IsStep, edge_of_step, edge_or_not}
+pub use Rattle.meshes.proofs.Sides.PieceSteps.{has_side_or_not, step_after, step_before, step_cases, step_of_edge, edge_of_one, one_at_edge}
+pub use Rattle.meshes.proofs.Sides.PieceSteps.{ring_edge_from, ring_edge_is}
 -- The edges of a piece, as the steps along its numbers and back to the first.
 mod PieceSteps
-pub use Rattle.meshes.proofs.Sides.PieceSteps.{IsStep, edge_of_step, edge_or_not, has_side_or_not, step_after, step_before, step_cases, step_of_edge}
 -- The vertices of a piece: they are different where it is simple.
 mod PieceVertices
 pub use Rattle.meshes.proofs.Sides.PieceVertices.{length_points, one_number, one_place, piece_points_all, vertex_of_piece}
@@ -18,6 +17,3 @@ pub use Rattle.meshes.proofs.Sides.RingNumbers.{below_of_member, ends_below, two
 -- The side that two triangles of a mesh share, as a diagonal on the way from the one to the other.
 mod SharedSides
 pub use Rattle.meshes.proofs.Sides.SharedSides.{LieAlong, lies_across, lies_last, one_more_along}
--- The edges of a ring, as those of the piece of all its vertices: each goes from a number to the next, and is a side of one triangle of a mesh.
-mod RingEdges
-pub use Rattle.meshes.proofs.Sides.RingEdges.{edge_of_one, one_at_edge, ring_edge_from, ring_edge_is}

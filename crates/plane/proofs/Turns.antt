@@ -10,10 +10,8 @@ pub use Rattle.plane.proofs.Turns.Determinants.{determinant_shift, determinant_s
 pub use Rattle.plane.proofs.Turns.Determinants.{determinant_swap_last, five_triples, four_triples, four_triples_in_W, four_triples_in_X}
 pub use Rattle.plane.proofs.Turns.Determinants.{four_triples_in_Y, linear, parts, straight_shift, straight_shift_back, straight_swap_first}
 pub use Rattle.plane.proofs.Turns.Determinants.{straight_swap_last}
--- Linear functionals and turns do not tell two triples of one rational point apart.
-mod SameTurns
-pub use Rattle.plane.proofs.Turns.SameTurns.{determinant_same}
+pub use Rattle.plane.proofs.Turns.Vectors.{determinant_same, IsCombination, combination_of, combination_of_ends, determinant_along}
+pub use Rattle.plane.proofs.Turns.Vectors.{determinant_along_first, determinant_is_linear, linear_along, on_of_combination}
+pub use Rattle.plane.proofs.Turns.Vectors.{weights_positive}
 -- Points on a segment, as vectors: a positive multiple of the point is a sum of multiples of the ends.
 mod Vectors
-pub use Rattle.plane.proofs.Turns.Vectors.{IsCombination, combination_of, combination_of_ends, determinant_along, determinant_along_first}
-pub use Rattle.plane.proofs.Turns.Vectors.{determinant_is_linear, linear_along, on_of_combination, weights_positive}

@@ -11,8 +11,7 @@ mod meetings;
 mod points;
 #[cfg(test)]
 mod rationals;
-#[cfg(test)]
-mod reading;
+pub mod reading;
 pub mod rows;
 #[cfg(test)]
 mod sequences;

@@ -6,8 +6,8 @@ pub(crate) fn yes_or_no(answer: bool) -> &'static str {
     if answer { "yes" } else { "no" }
 }
 
-// Whether the numbers are X, Y and W of a rational point, or multiples of them.
-pub(crate) fn is_same<L: Ledger>(p: &Hom, numbers: &str, steps: &mut Steps<L>) -> Option<bool> {
+/// Whether the numbers are X, Y and W of a rational point, or multiples of them.
+pub fn is_same<L: Ledger>(p: &Hom, numbers: &str, steps: &mut Steps<L>) -> Option<bool> {
     let (x, y, w) = parts_of(numbers)?;
     let (px, py, pw) = p.parts(steps);
     let (same_x, same_y) = (is_equal((px, pw), (x, w)), is_equal((py, pw), (y, w)));

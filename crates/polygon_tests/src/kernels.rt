@@ -3,6 +3,7 @@ ghost use Rattle.std.specs.Prelude.{◌≡◌, ◌<◌};
 
 use crate::reading::ring_of;
 use exact_plane::{Hom, Steps};
+use plane_tests::reading::is_same;
 use plane_tests::rows::row_of;
 use star_kernel::kernel;
 use std::alloc::Global;
@@ -62,16 +63,4 @@ fn are_same<L: Ledger>(corners: &[Hom], want: &str, steps: &mut Steps<L>) -> Opt
         count += 1;
     }
     Some(count == corners.len())
-}
-
-fn is_same<L: Ledger>(p: &Hom, numbers: &str, steps: &mut Steps<L>) -> Option<bool> {
-    let (x, rest) = numbers.split_once(',')?;
-    let (y, w) = rest.split_once(',')?;
-    let (x, y, w) = (number_of(x)?, number_of(y)?, number_of(w)?);
-    let (px, py, pw) = p.parts(steps);
-    Some(px.wrapping_mul(w) == x.wrapping_mul(pw) && py.wrapping_mul(w) == y.wrapping_mul(pw))
-}
-
-fn number_of(word: &str) -> Option<i128> {
-    word.parse().ok()
 }

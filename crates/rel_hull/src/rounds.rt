@@ -1,8 +1,7 @@
-ghost use Rattle.std.specs.List.{Contains};
-ghost use Rattle.std.specs.Prelude.{◌≡◌, ◌≢◌, ◌+◌, ◌*◌, ◌<◌, ◌≤◌, ◌↔◌, IfOk, IsTrue, MatchOption, ℕ, length};
+ghost use Rattle.std.specs.Prelude.{◌+◌, ◌*◌, ◌<◌, ◌≤◌, IfOk, MatchOption, ℕ, length};
 ghost use Rattle.rel_hull.specs.Round.{IsRound};
 ghost use Rattle.rel_hull.specs.Table.{HasChainsBelow, IsTableOf, table_points};
-ghost use Rattle.rel_hull.specs.Told.{AreOuterBelow, ComesFirst, IsFirstStart, IsToldSide, StartsTold};
+ghost use Rattle.rel_hull.specs.Told.{AreOuterBelow, IsFirstStart, StartsTold};
 
 use crate::hull::{outer_points, side_end, side_from};
 use crate::table::ChainTable;

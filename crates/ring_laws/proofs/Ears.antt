@@ -23,4 +23,3 @@ pub use Rattle.ring_laws.proofs.Ears.EarStep.{apart_without, ear_counterclockwis
 mod LeastVertex
 pub use Rattle.ring_laws.proofs.Ears.LeastVertex.{NoneBefore, least_vertex, none_before_least}
 mod BaseEnds
-mod Ears

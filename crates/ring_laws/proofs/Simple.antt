@@ -1,13 +1,10 @@
 -- The theorem of simple rings: they wind once.
 
--- The vertex in the triangle at the first vertex of a ring that is farthest from the triangle's base.
-mod FarthestEnd
-pub use Rattle.ring_laws.proofs.Simple.FarthestEnd.{InTriangle, height}
+pub use Rattle.ring_laws.proofs.Simple.SimpleRings.{InTriangle, height, apart_regrouped, farthest_cut, first_runs, left_turn_law}
+pub use Rattle.ring_laws.proofs.Simple.SimpleRings.{ring_regrouped, runs_round, second_runs, simple_ring_law, triangle_law, winds_once}
 -- The cut of a ring from its first vertex v to the farthest vertex in the triangle there, and the two pieces.
 -- The theorem of simple rings: a ring runs round once, as it turns at its least vertex.
 mod SimpleRings
-pub use Rattle.ring_laws.proofs.Simple.SimpleRings.{apart_regrouped, farthest_cut, first_runs, left_turn_law, ring_regrouped, runs_round}
-pub use Rattle.ring_laws.proofs.Simple.SimpleRings.{second_runs, simple_ring_law, triangle_law, winds_once}
 -- A simple ring runs one way or the other; turned round it is simple, runs the other way, and has the same chains with bends.
 mod TwoWays
 pub use Rattle.ring_laws.proofs.Simple.TwoWays.{bent_kept, bent_turned_iff, kept_ring, taut_turned_iff, two_ways}

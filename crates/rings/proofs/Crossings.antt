@@ -17,10 +17,9 @@ pub use Rattle.rings.proofs.Crossings.Parity.{crossings_even, crossings_odd, oth
 mod SignedCrossing
 -- What it says that the ray from a point to the right crosses an edge, upward or downward.
 mod Crossings
-pub use Rattle.rings.proofs.Crossings.Crossings.{CrossedDown, CrossedUp, CrossingCase, crossed_down_facts, crossed_down_from, crossed_up_facts}
-pub use Rattle.rings.proofs.Crossings.Crossings.{crossed_up_from, crossing_cases, crossing_reversed, downward, uncrossed, upward}
--- Crossings and winding numbers of lists of edges: appended lists, and edges read backward.
-mod CrossingSums
-pub use Rattle.rings.proofs.Crossings.CrossingSums.{crossings-append, crossings-backward, crossings-cons, winding-append, winding-backward}
+pub use Rattle.rings.proofs.Crossings.Crossings.{CrossedDown, CrossedUp, CrossingCase, crossed_down_facts, crossed_down_from}
+pub use Rattle.rings.proofs.Crossings.Crossings.{crossed_up_facts, crossed_up_from, crossing_cases, crossing_reversed, downward, uncrossed}
+pub use Rattle.rings.proofs.Crossings.Crossings.{upward, crossings-append, crossings-backward, crossings-cons, winding-append}
+pub use Rattle.rings.proofs.Crossings.Crossings.{winding-backward}
 -- The signed crossings of an edge from the two ends of a segment that it does not meet, over plain integers. The names of the integers are those of `EdgeSigns`.
 mod EdgeCases

@@ -9,7 +9,6 @@ pub use Rattle.rings.proofs.Inside.Rotated.{winding_rotated, winding_swapped}
 -- A point that is farthest in some direction is wound round by no closed list of edges.
 mod ExtremePoints
 pub use Rattle.rings.proofs.Inside.ExtremePoints.{below_abs, extreme_point, none_crossed_above}
-mod Rising
 -- What the laws of crossings say of the points in a ring.
 -- The law of breakpoints: a segment lies in a ring exactly if the mediants of its neighbouring breakpoints do.
 mod BreakpointLaw
@@ -19,15 +18,13 @@ mod SamePoint
 -- Points in order on a segment, so close that each edge that meets the segment ends at two of them: its breakpoints.
 mod Breakpoints
 pub use Rattle.rings.proofs.Inside.Breakpoints.{AreBreakpoints}
--- The inside of a ring is that of the ring read the other way round.
-mod TurnedInside
-pub use Rattle.rings.proofs.Inside.TurnedInside.{in_either, in_turned_iff, on_some_either, on_some_turned_iff}
+pub use Rattle.rings.proofs.Inside.TurnedBends.{in_either, in_turned_iff, on_some_either, on_some_turned_iff, neighbours_turned_iff}
+pub use Rattle.rings.proofs.Inside.TurnedBends.{reflex_turned_iff, sees_turned_iff}
 -- A ring read the other way round from its first vertex: apart as before, with the opposite winding numbers.
 mod Mirrored
 pub use Rattle.rings.proofs.Inside.Mirrored.{apart_turned, turned_corner, winding_turned}
 -- Sight, neighbours and reflex vertices of a ring that is read the other way round.
 mod TurnedBends
-pub use Rattle.rings.proofs.Inside.TurnedBends.{neighbours_turned_iff, reflex_turned_iff, sees_turned_iff}
 -- A rational point that is farther in some direction than all vertices of a ring is not in it; and from each point there is such a point in each direction.
 mod FarPoints
 pub use Rattle.rings.proofs.Inside.FarPoints.{IsLessFar, Outside, not_in_extreme, outside}

@@ -5,9 +5,7 @@ mod Slabs
 -- That vertices are the events is a proposition: it holds in one way at most, so a struct can keep it.
 mod OneWay
 pub use Rattle.rings.proofs.Sweeps.OneWay.{events_are_one}
--- A list of edges, each below the next, after one is removed, inserted or put in the place of another.
-mod StackEdits
-pub use Rattle.rings.proofs.Sweeps.StackEdits.{edges_removed, inserted, removed, replaced}
+pub use Rattle.rings.proofs.Sweeps.Neighbours.{edges_removed, inserted, removed, replaced}
 -- A ring is simple where a sweep has passed all its events.
 mod Swept
 pub use Rattle.rings.proofs.Sweeps.Swept.{at_rank, empty_status, simple_of_swept}
@@ -16,7 +14,6 @@ mod Chords
 pub use Rattle.rings.proofs.Sweeps.Chords.{same_of, way, written_rise, written_run}
 mod Neighbours
 mod Stacks
-mod Counts
 -- Points in lexicographic order, by their ranks, and where a point of an edge comes among them.
 mod Ascending
 pub use Rattle.rings.proofs.Sweeps.Ascending.{ascends, at_one_place, not_after_last, not_before_first, precedes_later, precedes_whole}

@@ -3,31 +3,24 @@
 -- The edges of a ring by their numbers: edge i goes from vertex i to the next.
 mod Indexing
 pub use Rattle.rings.proofs.Vertices.Indexing.{crossings_more, edge_at, on_some_edge, on_some_from, on_some_more, take_all_edges}
+pub use Rattle.rings.proofs.Vertices.Indexing.{edge_number, edge_with, has_edge_at, has_edge_backward, on_each, on_some_among, on_some_of}
+pub use Rattle.rings.proofs.Vertices.Indexing.{vertex_in_range, vertex_mod, vertex_round}
 -- The items of a list, of appended lists and of a list in the other order, and their numbers.
 mod Items
 pub use Rattle.rings.proofs.Vertices.Items.{has_cases, has_in_order, has_left, has_number, has_reversed, has_right, has_swapped, number_of}
 pub use Rattle.rings.proofs.Vertices.Items.{next_round, one_to_one, parts_at, reverse-cons}
--- The edges along some points: points on them, and their ends.
-mod PointLists
-pub use Rattle.rings.proofs.Vertices.PointLists.{all_ends_along, edges_along_append, first_on_along, last_on_along, member_on_along}
+pub use Rattle.rings.proofs.Vertices.DistinctPoints.{all_ends_along, edges_along_append, first_on_along, last_on_along, member_on_along}
+pub use Rattle.rings.proofs.Vertices.DistinctPoints.{AreDistinct, HasPoint, distinct_between, distinct_left, distinct_right}
+pub use Rattle.rings.proofs.Vertices.DistinctPoints.{distinct_swapped, distinct_vertices, edge_from, end_of_ring, ends_along}
+pub use Rattle.rings.proofs.Vertices.DistinctPoints.{vertices_differ}
 -- Laws of lists of edges: appended lists, edges read backward, closed lists.
 mod Edges
-pub use Rattle.rings.proofs.Vertices.Edges.{AllEnds, all_ends_from, all_ends_map, backward, closed_edges_of, growth-append, growth-edges_along, on_some_backward}
-pub use Rattle.rings.proofs.Vertices.Edges.{on_none_with, on_some_cases, on_some_left, on_some_right, on_some_same, reversed, sum_regrouped}
--- The vertices of a ring by their numbers.
-mod Vertices
-pub use Rattle.rings.proofs.Vertices.Vertices.{vertex_in_range, vertex_mod, vertex_round}
--- The edges of a list, the points on them, and the edges of a ring by their numbers.
-mod Members
-pub use Rattle.rings.proofs.Vertices.Members.{edge_number, edge_with, has_edge_at, has_edge_backward, on_each, on_some_among, on_some_of}
+pub use Rattle.rings.proofs.Vertices.Edges.{AllEnds, all_ends_from, all_ends_map, backward, closed_edges_of, growth-append}
+pub use Rattle.rings.proofs.Vertices.Edges.{growth-edges_along, on_some_backward, on_none_with, on_some_cases, on_some_left, on_some_right}
+pub use Rattle.rings.proofs.Vertices.Edges.{on_some_same, reversed, sum_regrouped, apart_among, apart_more, common_end_swapped}
+pub use Rattle.rings.proofs.Vertices.Edges.{end_of_first, end_of_second, meet_reversed, meet_swapped}
 -- Lists of different points, by recursion on the list and by numbers.
 mod DistinctPoints
-pub use Rattle.rings.proofs.Vertices.DistinctPoints.{AreDistinct, HasPoint, distinct_between, distinct_left, distinct_right, distinct_swapped}
-pub use Rattle.rings.proofs.Vertices.DistinctPoints.{distinct_vertices, edge_from, end_of_ring, ends_along, vertices_differ}
--- Edges that meet at common ends only: in the other order, read backward, and with one more edge.
-mod CommonEnds
-pub use Rattle.rings.proofs.Vertices.CommonEnds.{apart_among, apart_more, common_end_swapped, end_of_first, end_of_second, meet_reversed}
-pub use Rattle.rings.proofs.Vertices.CommonEnds.{meet_swapped}
 -- Near a rational point: the way from it to another point misses all edges that it is not on.
 mod NearEdges
 pub use Rattle.rings.proofs.Vertices.NearEdges.{each_eventually, misses_between, misses_eventually, shrink}

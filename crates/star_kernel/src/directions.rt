@@ -1,6 +1,6 @@
 // The edges of a ring in the order of their directions.
 ghost use Rattle.std.specs.Prelude.{◌≡◌, ◌+◌, ◌-◌, ◌*◌, ◌≤◌, IfOk, length};
-ghost use Rattle.star_kernel.specs.HalfPlanes.{AreAllEdges, AreEdges};
+ghost use Rattle.star_kernel.specs.HalfPlanes.{AreAllEdges};
 
 use exact_plane::{Memory, Pt, Steps};
 use ring_check::Ring;
@@ -28,22 +28,6 @@ pub(crate) fn by_direction<L: Ledger>(
     ensures edges { IfOk result (λ edges. AreAllEdges first (length ring.now.corners) edges.items) }
     ensures steps { steps.new ≤ steps.old + 128 * (length ring.now.corners - first) }
 {
-    let mut edges = edges_from(alloc, ring, first, steps)?;
-    edges.sort_unstable();
-    Ok(edges)
-}
-
-// The same, by their numbers.
-fn edges_from<L: Ledger>(
-    alloc: Global,
-    ring: &Ring,
-    first: u32,
-    steps: &mut Steps<L>,
-) -> Result<Vec<Edge>, Memory>
-    requires { first ≤ length ring.now.corners }
-    ensures edges { IfOk result (λ edges. AreEdges first (length ring.now.corners) edges.items) }
-    ensures steps { steps.new ≤ steps.old + 128 * (length ring.now.corners - first) }
-{
     let n = ring.len();
     let mut edges = Vec::with_capacity(alloc, (n - first) as usize)?;
     for number in first..n {
@@ -54,6 +38,7 @@ fn edges_from<L: Ledger>(
             number,
         })?;
     }
+    edges.sort_unstable();
     Ok(edges)
 }
 

@@ -4,17 +4,65 @@
 -- On which side of the way over a place of a funnel a point is that is reached from there, where the place is not the apex.
 use Rattle.std.proofs.Common.{◌≡◌, refl, sym, subst, List, length, ℕ, ◌+◌, ◌-◌, ◌<◌, pos, ◌≤ℤ◌, arith, ◌⊎◌, inl, inr, zero, suc, ◌≤◌}
 use Rattle.std.proofs.lemmas.Bool.{cases_lt}
-use Rattle.integer_algebra.proofs.SignSteps.{negative_not_zero, positive_not_zero, not_both_positive}
+use Rattle.integer_algebra.proofs.SignSteps.{negative_not_zero, positive_not_zero, not_both_positive, at_most_unless, turned_negative}
+use Rattle.integer_algebra.proofs.SignSteps.{turned_not_negative, weak, weak_order}
 use Rattle.integer_algebra.proofs.Signs.{lt_or_le}
-use Rattle.plane.proofs.Turns.{determinant_same_ends}
+use Rattle.plane.proofs.Regions.{four_beside}
+use Rattle.plane.proofs.Turns.{determinant_same_ends, determinant_swap_first}
 use Rattle.plane.specs.Point.{IsPoint, Point, Triple, whole}
 use Rattle.plane.specs.Turn.{IsLeft, IsRight, IsStraight, determinant}
 use Rattle.rings.specs.Chain.{point_at}
-use Rattle.funnels.proofs.Funnels.CrossingDiagonal.{straight_on_line}
+use Rattle.funnels.proofs.Funnels.CrossingDiagonal.{straight_on_line, areas_with}
 use Rattle.funnels.proofs.Funnels.FlatFunnels.{left_of_apex, right_of_apex, IsFlat, flat_left, flat_right, turn_left, turn_right}
 use Rattle.funnels.proofs.Funnels.Heights.{level, lower_left, lower_right, not_negative, reaches_left}
-use Rattle.funnels.proofs.Funnels.TwoEdges.{level_between, not_ends, outer_left, outer_right}
+use Rattle.funnels.proofs.Funnels.TestSigns.{level_at_apex, level_left, level_right, not_beside_all}
 use Rattle.funnels.specs.Funnel.{IsFunnel, height, IsPassed, IsReachedFrom}
+
+-- ---- two edges at a common point, and a point that is not above the diagonal: where it is left of the outer one alone, or right of it
+
+module _ (p o q l r : Point) (y : Triple) (at_y : IsPoint y) (above : pos 0 ≤ℤ height l r (whole o)) (low : height l r y ≤ℤ pos 0) where
+  -- of two left edges y is left of the outer alone only on the line of the diagonal,
+  pub outer_left : IsLeft (whole p) (whole o) (whole q) → height l r (whole o) ≤ℤ height l r (whole p)
+      → height l r (whole q) ≤ℤ height l r (whole o) → ¬ IsLeft (whole p) (whole o) y → IsLeft (whole o) (whole q) y
+      → (height l r (whole o) ≡ pos 0) × (height l r y ≡ pos 0)
+  outer_left turn first second not_left left =
+      level_left (determinant (whole o) (whole q) y) (determinant (whole p) (whole q) y) (determinant (whole p) (whole o) y)
+      (determinant (whole p) (whole o) (whole q)) y.W (height l r (whole p)) (height l r (whole o)) (height l r (whole q)) (height l r y)
+      (four_beside (whole p) (whole o) (whole q) y (whole r) (whole l)) (areas_with p o q y) at_y above low
+      (weak left) (at_most_unless not_left) turn first second
+
+  -- of two right edges it is right of the outer alone only there,
+  pub outer_right : IsRight (whole p) (whole o) (whole q) → height l r (whole o) ≤ℤ height l r (whole p)
+      → height l r (whole q) ≤ℤ height l r (whole o) → pos 0 ≤ℤ determinant (whole p) (whole o) y → IsRight (whole o) (whole q) y
+      → (height l r (whole o) ≡ pos 0) × (height l r y ≡ pos 0)
+  outer_right turn first second not_right right =
+      level_right (determinant (whole o) (whole q) y) (determinant (whole p) (whole q) y) (determinant (whole p) (whole o) y)
+      (determinant (whole p) (whole o) (whole q)) y.W (height l r (whole p)) (height l r (whole o)) (height l r (whole q)) (height l r y)
+      (four_beside (whole p) (whole o) (whole q) y (whole r) (whole l)) (areas_with p o q y) at_y above low
+      (weak_order right) not_right turn first second
+
+  module _ (opening : ¬ IsLeft (whole o) (whole p) (whole q)) (left : IsLeft (whole o) (whole p) y) (right : IsRight (whole o) (whole q) y) where
+    -- and where it is left of the left edge at the apex, and right of the right one, the left one does not fall,
+    pub level_between : height l r (whole p) ≤ℤ height l r (whole o) → height l r (whole q) ≤ℤ height l r (whole o)
+        → height l r (whole o) ≡ height l r (whole p)
+    level_between first second =
+        level_at_apex (determinant (whole o) (whole q) y) (determinant (whole p) (whole q) y) (determinant (whole p) (whole o) y)
+        (determinant (whole p) (whole o) (whole q)) y.W (height l r (whole p)) (height l r (whole o)) (height l r (whole q)) (height l r y)
+        (four_beside (whole p) (whole o) (whole q) y (whole r) (whole l)) (areas_with p o q y) at_y above low right
+        (weak_order (turned_negative (determinant_swap_first (whole o) (whole p) y) left))
+        (turned_not_negative (determinant_swap_first (whole o) (whole p) (whole q)) (at_most_unless opening)) first second
+
+    -- and their ends are not those of the diagonal
+    pub not_ends : p ≡ l → q ≡ r → ⊥
+    not_ends is_l is_r =
+        not_beside_all (determinant (whole o) (whole q) y) (determinant (whole p) (whole q) y) (determinant (whole p) (whole o) y)
+        (determinant (whole p) (whole o) (whole q)) y.W (height l r (whole p)) (height l r (whole o)) (height l r (whole q)) (height l r y)
+        (four_beside (whole p) (whole o) (whole q) y (whole r) (whole l)) (areas_with p o q y) at_y right
+        (weak_order (turned_negative (determinant_swap_first (whole o) (whole p) y) left))
+        (turned_not_negative (determinant_swap_first (whole o) (whole p) (whole q)) (at_most_unless opening))
+        (rw (is_l, is_r) (turned_not_negative (determinant_swap_first (whole r) (whole l) y) low))
+
+-- ---- the two edges at the apex of a funnel: no point that is not above the diagonal is left of the left one and right of the right one. Where the way to a point that is not above the diagonal passes an edge of a funnel, it passes all edges before it: those to the place from which the point is reached, and no others. On which side of the way over a place of a funnel a point is that is reached from there, where the place is not the apex
 
 module _ (ns : List Point) (i : ℕ) (l r : Point) (f : IsFunnel ns (i + 1) l r) where
   -- where the apex is as high as the point before it, it is on the line of the diagonal

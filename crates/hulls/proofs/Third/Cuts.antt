@@ -146,51 +146,41 @@ module _ (ring : List Point) (some : 3 ≤ length ring) (simple : IsSimple ring)
   -- ---- from a point on a path
 
   module _ (a b v : Point) (on : IsOnPath ring a b v) (other : v ≢ b) where
-    -- within a step the path on goes to where the step ends,
-    cut_within : v ≢ point_at on.path (on.place + 1) → IsFirstStep ring v b (point_at on.path (on.place + 1))
-    cut_within differ =
-        let taut = path_is_taut ring a b on.path on.is_path in
-        let k = on.place in
-        let within = on.within in
-        let rest = drop (k + 1) on.path in
-        let count = length-drop (k + 1) on.path in
-        let there = rest_bent ring on.path taut.bent (k + 1) within in
-        let on_to = goes_on_step ring on.path taut.bent v k within on.on differ in
-        let v_in = taut.bent.chain.sees k within (whole v) (whole_is_point v) on.on in
-        let end = rest_at on.path (k + 1) (length rest - 1) (length on.path - 1) (omega arith) in
-        record {
-          path = v ∷ rest;
-          is_path = bent_is_path ring some simple (v ∷ rest) (with_point ring v rest there v_in on_to) v b refl
-              (with_point_ends ring v rest there v_in on_to ∙ end ∙ taut.last);
-          more = omega arith;
-          is_next = rest_at on.path (k + 1) 0 (k + 1) (omega arith);
-        }
-
-    -- and at its end to the next point,
-    cut_at : v ≡ point_at on.path (on.place + 1) → IsFirstStep ring v b (point_at on.path (on.place + 1 + 1))
-    cut_at same =
-        let taut = path_is_taut ring a b on.path on.is_path in
-        let k = on.place in
-        let within = on.within in
-        let rest = drop (k + 1) on.path in
-        let count = length-drop (k + 1) on.path in
-        let there = rest_bent ring on.path taut.bent (k + 1) within in
-        let end = rest_at on.path (k + 1) (length rest - 1) (length on.path - 1) (omega arith) in
-        record {
-          path = rest;
-          is_path = bent_is_path ring some simple rest there v b (rest_at on.path (k + 1) 0 (k + 1) (omega arith) ∙ sym same) (end ∙ taut.last);
-          more = elim (cases_lt (k + 1 + 1) (length on.path)) [
-            | inl less ↦ omega arith
-            | inr none ↦
-                let last : k + 1 ≡ length on.path - 1 = omega arith in
-                absurd (other (same ∙ ap (point_at on.path) last ∙ taut.last))
-          ];
-          is_next = rest_at on.path (k + 1) 1 (k + 1 + 1) (omega arith);
-        }
-
-    -- so there is a path on to the end
+    -- there is a path on to the end: within a step it goes to where the step ends, and at its end to the next point
     pub cut : (n : Point) × IsFirstStep ring v b n
-    cut = elim (point_or_other v (point_at on.path (on.place + 1))) [
-      | inl same ↦ (point_at on.path (on.place + 1 + 1), cut_at same)
-      | inr differ ↦ (point_at on.path (on.place + 1), cut_within differ)
-    ]
+    cut =
+        let taut = path_is_taut ring a b on.path on.is_path in
+        let k = on.place in
+        let within = on.within in
+        let rest = drop (k + 1) on.path in
+        let count = length-drop (k + 1) on.path in
+        let there = rest_bent ring on.path taut.bent (k + 1) within in
+        let end = rest_at on.path (k + 1) (length rest - 1) (length on.path - 1) (omega arith) in
+        elim (point_or_other v (point_at on.path (k + 1))) [
+          | inl same ↦ (
+            point_at on.path (k + 1 + 1),
+            record {
+              path = rest;
+              is_path = bent_is_path ring some simple rest there v b (rest_at on.path (k + 1) 0 (k + 1) (omega arith) ∙ sym same) (end ∙ taut.last);
+              more = elim (cases_lt (k + 1 + 1) (length on.path)) [
+                | inl less ↦ omega arith
+                | inr none ↦
+                    let last : k + 1 ≡ length on.path - 1 = omega arith in
+                    absurd (other (same ∙ ap (point_at on.path) last ∙ taut.last))
+              ];
+              is_next = rest_at on.path (k + 1) 1 (k + 1 + 1) (omega arith);
+            },
+          )
+          | inr differ ↦
+              let on_to = goes_on_step ring on.path taut.bent v k within on.on differ in
+              let v_in = taut.bent.chain.sees k within (whole v) (whole_is_point v) on.on in (
+                point_at on.path (k + 1),
+                record {
+                  path = v ∷ rest;
+                  is_path = bent_is_path ring some simple (v ∷ rest) (with_point ring v rest there v_in on_to) v b refl
+                      (with_point_ends ring v rest there v_in on_to ∙ end ∙ taut.last);
+                  more = omega arith;
+                  is_next = rest_at on.path (k + 1) 0 (k + 1) (omega arith);
+                },
+              )
+        ]

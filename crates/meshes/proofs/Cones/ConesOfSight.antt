@@ -13,13 +13,12 @@ use Rattle.rings.proofs.Vertices.{vertex_mod}
 use Rattle.rings.specs.Ring.{vertex}
 use Rattle.rings.specs.Sees.{Sees}
 use Rattle.rings.specs.Visible.{IsPart, IsUnseen}
+use Rattle.meshes.proofs.Cones.BeyondSides.{end_cone, side_cone, window_cone}
 use Rattle.meshes.proofs.Cones.Held.{held}
 use Rattle.meshes.proofs.Cones.NarrowedViews.{side_view}
-use Rattle.meshes.proofs.Cones.OneRay.{end_cone, side_cone}
 use Rattle.meshes.proofs.Cones.PartEnds.{none_seen, part_seen}
 use Rattle.meshes.proofs.Cones.SideReach.{IsBeyondSide, end_below, is_beyond_side, sees_one_end}
 use Rattle.meshes.proofs.Cones.SideViews.{SideView, hidden, one_end, through_window, whole_side}
-use Rattle.meshes.proofs.Cones.WindowCones.{window_cone}
 use Rattle.meshes.proofs.Parts.{side_in, paved}
 use Rattle.meshes.proofs.Sides.{edge_of_one}
 use Rattle.meshes.proofs.Sight.{sees_in_triangle, shared_from}

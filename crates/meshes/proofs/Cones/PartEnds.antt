@@ -1,35 +1,36 @@
 -- What a point sees of a side lies between the ends that the narrowed cone tells.
-use Rattle.std.proofs.Common.{◌≡◌, ◌⊎◌, ◌↔◌, inl, inr, sym, subst, List, ℤ, pos, ◌-ℤ◌, neg_ℤ, ◌<ℤ◌, ◌≤ℤ◌, arith, Some, None}
+use Rattle.std.proofs.Common.{◌≡◌, inl, inr, ℤ, pos, ◌+ℤ◌, ◌-ℤ◌, ◌*ℤ◌, neg_ℤ, ◌<ℤ◌, ◌≤ℤ◌, arith, ◌⊎◌, ◌↔◌, sym, subst, List, Some, None}
 use Rattle.std.proofs.lemmas.Int.{ints}
 use Rattle.std.specs.Prelude.{Option}
 use Rattle.integer_algebra.proofs.SameSigns.{same_nonpositive}
-use Rattle.integer_algebra.proofs.SignSteps.{at_least_unless, at_most_unless, zero_not_negative, zero_not_positive, zero_of_neither}
-use Rattle.plane.proofs.Points.{same_sym, same_trans, whole_is_point}
-use Rattle.plane.proofs.Segments.{as_far, combination_of_same, later_between, on_first_end, on_is_straight, on_last_end, on_nested}
-use Rattle.plane.proofs.Segments.{on_one_side, on_same_point, one_meeting}
-use Rattle.plane.proofs.Turns.{combination_of, determinant_same, determinant_same_last, determinant_swap_last, five_triples, straight_swap_last}
+use Rattle.integer_algebra.proofs.SignSteps.{zero_not_negative, zero_of_neither, at_least_unless, at_most_unless, zero_not_positive}
+use Rattle.plane.proofs.Meetings.{no_value, values_apart, zero_combination, zero_point}
+use Rattle.plane.proofs.Points.{same_sym, whole_is_point, same_trans}
+use Rattle.plane.proofs.Segments.{as_far, on_is_straight, on_last_end, on_one_side, on_reversed, on_same_point, one_meeting}
+use Rattle.plane.proofs.Segments.{combination_of_same, later_between, on_first_end, on_nested}
+use Rattle.plane.proofs.Turns.{IsCombination, determinant_along, on_of_combination, combination_of, determinant_same, determinant_same_last}
+use Rattle.plane.proofs.Turns.{determinant_swap_last, five_triples, straight_swap_last}
 use Rattle.plane.specs.Line.{cross_product}
 use Rattle.plane.specs.Point.{IsPoint, IsSame, Point, Triple, whole}
 use Rattle.plane.specs.Segment.{On}
-use Rattle.plane.specs.Turn.{IsRight, IsStraight, determinant}
+use Rattle.plane.specs.Turn.{IsStraight, determinant, IsRight}
 use Rattle.rings.specs.Sees.{Sees}
 use Rattle.ring_laws.proofs.Triangles.{not_right_between}
 use Rattle.meshes.proofs.Cones.Held.{end_on_side, held_between, not_left_between}
 use Rattle.meshes.proofs.Cones.RaySigns.{bound_side}
-use Rattle.meshes.proofs.Cones.SideMeetings.{at_meeting, at_weights, before_meeting, meeting, meeting_on, meeting_on_ray, only_meeting, same_meeting}
-use Rattle.meshes.proofs.Cones.SideViews.{IsWindow, SideView, hidden, one_end, through_window, whole_side}
-use Rattle.meshes.specs.Cone.{Cone, IsPartEnd}
+use Rattle.meshes.proofs.Cones.SideViews.{ReachesSide, IsWindow, SideView, hidden, one_end, through_window, whole_side}
+use Rattle.meshes.specs.Cone.{IsPartEnd, Cone}
 
 -- the points of the side from r to l that q sees are those from a to b, and it goes from a to b
 pub record IsPartOfSide (ring : List Point) (q l r : Point) (a b : Triple) : Type 0 where
   pub in_order : On a (whole r) b
   pub seen : (x : Triple) → IsPoint x → (On x (whole r) (whole l) × Sees ring (whole q) x) ↔ On x a b
 
--- ---- through a window
+-- a difference of two numbers that are apart is not 0
+apart_not_zero : (c f g : ℤ) → f -ℤ g ≡ c → g <ℤ f → ¬ (c ≡ pos 0)
+apart_not_zero c f g e h none = omega (arith, ints)
 
--- between the meetings of its rays and the side
-module _ (ring : List Point) (q l r : Point) (cone : Cone) (w : IsWindow ring q l r cone) (a b : Triple)
-    (first : IsPartEnd q cone.right r l r a) (last : IsPartEnd q cone.left r l l b) where
+module _ (q l r : Point) where
   abbrev Q : Triple
   Q = whole q
 
@@ -39,69 +40,137 @@ module _ (ring : List Point) (q l r : Point) (cone : Cone) (w : IsWindow ring q 
   abbrev R : Triple
   R = whole r
 
-  -- the line of the left ray, and that of the right one
-  abbrev A : Triple
-  A = whole cone.left
+  -- ---- where a ray meets a side that it reaches, and which points of the side are before the meeting
 
-  abbrev B : Triple
-  B = whole cone.right
+  module _ (c e : Point) (reach : ReachesSide q l r c) (m : Triple) (end : IsPartEnd q c r l e m) where
+    abbrev C : Triple
+    C = whole c
 
-  first_on_ray : IsStraight Q B a
-  first_on_ray = meeting_on_ray q l r cone.right r w.right_ray a first
+    -- the ray and the side are not parallel,
+    crossing : ¬ (cross_product q c r l ≡ pos 0)
+    crossing = apart_not_zero _ _ _ (as_far q c r l) reach.apart
 
-  last_on_ray : IsStraight Q A b
-  last_on_ray = meeting_on_ray q l r cone.left l w.left_ray b last
+    -- so m is on the ray
+    meeting_on_ray : IsStraight Q C m
+    meeting_on_ray = end.on_ray crossing
 
-  first_on : On a R L
-  first_on = meeting_on q l r cone.right r w.right_ray a first
+    -- the meeting by its weights,
+    meeting : Triple
+    meeting = zero_point (determinant Q C L) (determinant Q C R) L R
 
-  last_on : On b R L
-  last_on = meeting_on q l r cone.left l w.left_ray b last
+    at_meeting : IsPoint meeting
+    unfolding meeting
+    at_meeting = values_apart _ _ reach.apart
 
-  -- the first is not left of the left ray,
-  first_not_left : determinant Q A a ≤ℤ pos 0
-  first_not_left =
-      let m = meeting q l r cone.right r w.right_ray a first in
-      let value = bound_side _ _ _ (determinant Q A R) (determinant Q A L) (determinant Q B R) (determinant Q B L) (five_triples Q B A R L)
-      (at_weights q l r cone.right r w.right_ray a first cone.left) (at_least_unless w.in_order) w.before in
-      same_nonpositive _ _ m.W a.W (at_meeting q l r cone.right r w.right_ray a first) first.rational
-      (determinant_same Q A m a (same_sym (same_meeting q l r cone.right r w.right_ray a first))) value
+    weights : IsCombination meeting L R
+    unfolding meeting
+    weights = zero_combination (determinant Q C L) (determinant Q C R) L R reach.not_past_left reach.not_past_right
 
-  first_before_last : On a R b
-  first_before_last = before_meeting q l r cone.left l w.left_ray b last a first.rational first_on first_not_left
+    -- what another ray says of it
+    at_weights : (a : Point) → pos 1 *ℤ determinant Q (whole a) meeting
+        ≡ neg_ℤ (determinant Q C R) *ℤ determinant Q (whole a) L +ℤ determinant Q C L *ℤ determinant Q (whole a) R
+    unfolding weights zero_combination
+    at_weights a = determinant_along meeting L R weights Q (whole a)
 
-  -- so the last is not right of the right one
-  last_not_right : pos 0 ≤ℤ determinant Q B b
-  last_not_right =
-      not_right_between Q B b a L last.rational first.rational (whole_is_point l) (zero_not_negative first_on_ray)
-      w.right_ray.not_past_left
-      (later_between a R b L first.rational (whole_is_point r) last.rational (whole_is_point l) first_before_last last_on)
+    -- it is m
+    same_meeting : IsSame m meeting
+    same_meeting =
+        let on = on_of_combination meeting L R at_meeting (whole_is_point l) (whole_is_point r) weights in
+        one_meeting q c r l m meeting crossing meeting_on_ray (no_value _ (determinant Q C L) (determinant Q C R) (at_weights c))
+        (end.on_line crossing)
+        (on_is_straight meeting R L at_meeting (whole_is_point r) (whole_is_point l) (on_reversed meeting L R on))
 
-  module _ (x : Triple) (at_x : IsPoint x) where
-    seen_between : On x R L → Sees ring Q x → On x a b
-    seen_between on sees =
-        let holds = (w.seen x at_x on).0 sees in
-        let before = before_meeting q l r cone.left l w.left_ray b last x at_x on (at_most_unless holds.not_left) in
-        elim (on_one_side x a R b at_x first.rational (whole_is_point r) last.rational before first_before_last) [
-          | inr after ↦ after
-          | inl near ↦
-              let down = not_left_between Q B x R a at_x (whole_is_point r) first.rational w.right_ray.not_past_right
-              (zero_not_positive first_on_ray) near in
-              let straight = zero_of_neither down (at_least_unless holds.not_right) in
-              on_same_point first.rational (same_sym (only_meeting q l r cone.right r w.right_ray a first x at_x on straight))
-              (on_first_end a b)
-        ]
+    -- so m is on the side,
+    meeting_on : On m R L
+    meeting_on =
+        let on = on_of_combination meeting L R at_meeting (whole_is_point l) (whole_is_point r) weights in
+        on_same_point at_meeting (same_sym same_meeting) (on_reversed meeting L R on)
 
-    between_seen : On x a b → On x R L × Sees ring Q x
-    between_seen on =
-        let on_side = on_nested x a b R L at_x first.rational last.rational (whole_is_point r) (whole_is_point l) first_on last_on on in (
-          on_side,
-          (w.seen x at_x on_side).1 (held_between q cone x a b at_x first.rational last.rational first_not_left
-              (zero_not_positive last_on_ray) (zero_not_negative first_on_ray) last_not_right on),
-        )
+    -- and no other point of the side is in line with the ray
+    only_meeting : (y : Triple) → IsPoint y → On y R L → IsStraight Q C y → IsSame y m
+    only_meeting y at_y on straight =
+        one_meeting q c r l y m crossing straight meeting_on_ray (on_is_straight y R L at_y (whole_is_point r) (whole_is_point l) on)
+        (end.on_line crossing)
 
-  window_part : IsPartOfSide ring q l r a b
-  window_part = record { in_order = first_before_last; seen = λ x at_x. (λ h. seen_between x at_x h.0 h.1, between_seen x at_x) }
+    module _ (y : Triple) (at_y : IsPoint y) (on : On y R L) where
+      -- a point of the side that is not left of the ray is between the right end and the meeting
+      before_meeting : determinant Q C y ≤ℤ pos 0 → On y R m
+      before_meeting h = elim (on_one_side y m R L at_y end.rational (whole_is_point r) (whole_is_point l) on meeting_on) [
+        | inl before ↦ before
+        | inr after ↦
+            let up = not_right_between Q C y m L at_y end.rational (whole_is_point l) (zero_not_negative meeting_on_ray)
+            reach.not_past_left after in
+            on_same_point end.rational (same_sym (only_meeting y at_y on (zero_of_neither h up))) (on_last_end R m)
+      ]
+
+  -- ---- through a window
+
+  -- between the meetings of its rays and the side
+  module _ (ring : List Point) (cone : Cone) (w : IsWindow ring q l r cone) (a b : Triple)
+      (first : IsPartEnd q cone.right r l r a) (last : IsPartEnd q cone.left r l l b) where
+    -- the line of the left ray, and that of the right one
+    abbrev A : Triple
+    A = whole cone.left
+
+    abbrev B : Triple
+    B = whole cone.right
+
+    first_on_ray : IsStraight Q B a
+    first_on_ray = meeting_on_ray cone.right r w.right_ray a first
+
+    last_on_ray : IsStraight Q A b
+    last_on_ray = meeting_on_ray cone.left l w.left_ray b last
+
+    first_on : On a R L
+    first_on = meeting_on cone.right r w.right_ray a first
+
+    last_on : On b R L
+    last_on = meeting_on cone.left l w.left_ray b last
+
+    -- the first is not left of the left ray,
+    first_not_left : determinant Q A a ≤ℤ pos 0
+    first_not_left =
+        let m = meeting cone.right r w.right_ray a first in
+        let value = bound_side _ _ _ (determinant Q A R) (determinant Q A L) (determinant Q B R) (determinant Q B L) (five_triples Q B A R L)
+        (at_weights cone.right r w.right_ray a first cone.left) (at_least_unless w.in_order) w.before in
+        same_nonpositive _ _ m.W a.W (at_meeting cone.right r w.right_ray a first) first.rational
+        (determinant_same Q A m a (same_sym (same_meeting cone.right r w.right_ray a first))) value
+
+    first_before_last : On a R b
+    first_before_last = before_meeting cone.left l w.left_ray b last a first.rational first_on first_not_left
+
+    -- so the last is not right of the right one
+    last_not_right : pos 0 ≤ℤ determinant Q B b
+    last_not_right =
+        not_right_between Q B b a L last.rational first.rational (whole_is_point l) (zero_not_negative first_on_ray)
+        w.right_ray.not_past_left
+        (later_between a R b L first.rational (whole_is_point r) last.rational (whole_is_point l) first_before_last last_on)
+
+    module _ (x : Triple) (at_x : IsPoint x) where
+      seen_between : On x R L → Sees ring Q x → On x a b
+      seen_between on sees =
+          let holds = (w.seen x at_x on).0 sees in
+          let before = before_meeting cone.left l w.left_ray b last x at_x on (at_most_unless holds.not_left) in
+          elim (on_one_side x a R b at_x first.rational (whole_is_point r) last.rational before first_before_last) [
+            | inr after ↦ after
+            | inl near ↦
+                let down = not_left_between Q B x R a at_x (whole_is_point r) first.rational w.right_ray.not_past_right
+                (zero_not_positive first_on_ray) near in
+                let straight = zero_of_neither down (at_least_unless holds.not_right) in
+                on_same_point first.rational (same_sym (only_meeting cone.right r w.right_ray a first x at_x on straight))
+                (on_first_end a b)
+          ]
+
+      between_seen : On x a b → On x R L × Sees ring Q x
+      between_seen on =
+          let on_side = on_nested x a b R L at_x first.rational last.rational (whole_is_point r) (whole_is_point l) first_on last_on on in (
+            on_side,
+            (w.seen x at_x on_side).1 (held_between q cone x a b at_x first.rational last.rational first_not_left
+                (zero_not_positive last_on_ray) (zero_not_negative first_on_ray) last_not_right on),
+          )
+
+    window_part : IsPartOfSide ring q l r a b
+    window_part = record { in_order = first_before_last; seen = λ x at_x. (λ h. seen_between x at_x h.0 h.1, between_seen x at_x) }
 
 -- ---- in line with the side
 
@@ -189,7 +258,7 @@ pub part_seen : (ring : List Point) (q l r : Point) (sight : Option Cone) → Si
 part_seen ring q l r sight (hidden e unseen) cone some a b first last = absurd (cc)
 part_seen ring q l r sight (through_window other e w) cone some a b first last =
     let same : other ≡ cone = cc in
-    window_part ring q l r cone (subst (IsWindow ring q l r) same w) a b first last
+    window_part q l r ring cone (subst (IsWindow ring q l r) same w) a b first last
 part_seen ring q l r sight (whole_side e flat seen) cone some a b first last =
     let same : cone ≡ record { left = l; right = r } = cc in
     side_part ring q l r flat seen a b (subst (λ c. IsPartEnd q c.right r l r a) same first)

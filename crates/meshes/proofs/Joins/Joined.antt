@@ -9,8 +9,7 @@ use Rattle.plane.specs.Point.{Point, IsPoint, Triple, whole}
 use Rattle.rings.specs.Inside.{IsIn}
 use Rattle.rings.specs.Ring.{vertex}
 use Rattle.meshes.proofs.Joins.Cuts.{IsCut, both_parts, common_ends, contains_first_part, contains_second_part, first_diagonal, first_part}
-use Rattle.meshes.proofs.Joins.Cuts.{first_part_cases, part_of_edge, second_diagonal, second_part, second_part_cases, ends_differ}
-use Rattle.meshes.proofs.Joins.Diagonals.{not_edge}
+use Rattle.meshes.proofs.Joins.Cuts.{first_part_cases, part_of_edge, second_diagonal, second_part, second_part_cases, ends_differ, not_edge}
 use Rattle.meshes.proofs.Joins.Halves.{IsHalf, half_edges, half_inner_sides, between_back, common_side, between_at}
 use Rattle.meshes.proofs.Joins.OffDiagonal.{not_in_both}
 use Rattle.meshes.proofs.Joins.TwoLists.{are_parts, as_first, as_second, at_first, at_second, parts_back, IsPlaceOf, tree_joined}

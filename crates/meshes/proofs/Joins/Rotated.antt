@@ -4,13 +4,16 @@ use Rattle.std.proofs.lemmas.List.{append-nil, length-append, map-append}
 use Rattle.std.proofs.lemmas.List.Elements.{Contains-append_cases, Contains-append_left, Contains-append_right}
 use Rattle.std.specs.List.{Contains}
 use Rattle.std.specs.Prelude.{◌↔◌}
-use Rattle.plane.specs.Point.{IsPoint, Point, Triple}
+use Rattle.plane.specs.Point.{IsPoint, Point, Triple, whole}
+use Rattle.plane.specs.Turn.{IsLeft}
 use Rattle.rings.proofs.Inside.{apart_rotated, in_rotated}
 use Rattle.rings.proofs.Simple.{apart_of_simple, simple_of_apart}
 use Rattle.rings.specs.Inside.{IsIn}
 use Rattle.rings.specs.Ring.{vertex}
 use Rattle.rings.specs.Simple.{IsSimple}
-use Rattle.meshes.proofs.Sides.{edge_of_step, step_after, step_before, step_cases, step_of_edge}
+use Rattle.meshes.proofs.Joins.Cuts.{IsCut}
+use Rattle.meshes.proofs.Joins.Joined.{fits_joined}
+use Rattle.meshes.proofs.Sides.{edge_of_step, step_after, step_before, step_cases, step_of_edge, fits_triangle}
 use Rattle.meshes.specs.Fits.{FitsPiece, IsPieceEdge, IsTriOf, piece_points}
 use Rattle.meshes.specs.Side.{tri_at}
 use Rattle.meshes.specs.declared.tri.Tri.{Tri}
@@ -100,3 +103,20 @@ same_rotated corners xs ys simple = record {
 -- so the triangles that fit a piece fit the rotated one
 pub fits_rotated : (corners : List Point) (xs ys : List ℕ) (ts : List Tri) → FitsPiece corners (xs ++ ys) ts → FitsPiece corners (ys ++ xs) ts
 fits_rotated corners xs ys ts f = fits_same corners (xs ++ ys) (ys ++ xs) (same_rotated corners xs ys f.simple) ts f
+
+-- ---- a mesh with one more triangle: an ear at a vertex of the piece
+
+module _ (corners : List Point) (u v w : ℕ) (ms : List ℕ) (ts : List Tri)
+    (left : IsLeft (whole (vertex corners u)) (whole (vertex corners v)) (whole (vertex corners w)))
+    (cut : IsCut corners u (v ∷ []) w ms) where
+  -- where the side from u to w cuts the piece u v w .. in the triangle and the rest, a mesh that fits the rest fits the piece
+  -- with the triangle before it
+  fits_ear_from : FitsPiece corners (u ∷ w ∷ ms) ts → FitsPiece corners (u ∷ v ∷ w ∷ ms) (record { a = u; b = v; c = w } ∷ ts)
+  fits_ear_from rest = fits_joined corners u (v ∷ []) w ms (record { a = u; b = v; c = w } ∷ []) ts cut (fits_triangle corners u v w left) rest
+
+  -- so it is with the piece read from the tip on, and the rest from the vertex after it
+  pub fits_ear : FitsPiece corners (w ∷ (ms ++ u ∷ [])) ts
+      → FitsPiece corners (v ∷ w ∷ (ms ++ u ∷ [])) (record { a = u; b = v; c = w } ∷ ts)
+  fits_ear rest =
+      fits_rotated corners (u ∷ []) (v ∷ w ∷ ms) (record { a = u; b = v; c = w } ∷ ts)
+      (fits_ear_from (fits_rotated corners (w ∷ ms) (u ∷ []) ts rest))

@@ -9,7 +9,7 @@ use Rattle.integer_algebra.proofs.Weights.{some_weight}
 use Rattle.plane.proofs.Points.{whole_is_point}
 use Rattle.plane.proofs.Turns.Determinants.{determinant_shift, linear, parts}
 use Rattle.plane.proofs.Turns.Written.{determinant as det}
-use Rattle.plane.specs.Point.{IsPoint, Point, Triple, whole}
+use Rattle.plane.specs.Point.{IsPoint, Point, Triple, whole, IsSame}
 use Rattle.plane.specs.Segment.{On}
 use Rattle.plane.specs.Turn.{determinant}
 
@@ -151,3 +151,20 @@ module _ (p a b : Triple) (c : IsCombination p a b) where
   -- the weights of a point's ends are not both 0
   pub weights_positive : IsPoint p → pos 0 <ℤ (c.l +ℤ c.m)
   weights_positive at_p = some_weight c.k c.l c.m p.W a.W b.W c.k_positive at_p c.l_nonnegative c.m_nonnegative c.in_W
+
+-- ---- linear functionals and turns do not tell two triples of one rational point apart
+
+-- a linear functional of a point, times the weight of the other triple
+linear_same : (p q : Triple) (α β γ : ℤ) → IsSame p q → linear α β γ p *ℤ q.W ≡ linear α β γ q *ℤ p.W
+linear_same p q α β γ s =
+    same_value ((var 0 ⊗ var 3 ⊕ var 1 ⊗ var 4 ⊕ var 2 ⊗ var 5) ⊗ var 6)
+    (var 0 ⊗ (var 3 ⊗ var 6) ⊕ var 1 ⊗ (var 4 ⊗ var 6) ⊕ var 2 ⊗ (var 6 ⊗ var 5))
+    (α ∷ β ∷ γ ∷ p.X ∷ p.Y ∷ p.W ∷ q.W ∷ []) refl
+    ∙ (λ i. α *ℤ s.same_x i +ℤ β *ℤ s.same_y i +ℤ γ *ℤ (q.W *ℤ p.W))
+    ∙ same_value (var 0 ⊗ (var 3 ⊗ var 6) ⊕ var 1 ⊗ (var 4 ⊗ var 6) ⊕ var 2 ⊗ (var 5 ⊗ var 6))
+    ((var 0 ⊗ var 3 ⊕ var 1 ⊗ var 4 ⊕ var 2 ⊗ var 5) ⊗ var 6)
+    (α ∷ β ∷ γ ∷ q.X ∷ q.Y ∷ q.W ∷ p.W ∷ []) refl
+
+-- so it is with a determinant
+pub determinant_same : (a b p q : Triple) → IsSame p q → determinant a b p *ℤ q.W ≡ determinant a b q *ℤ p.W
+determinant_same a b p q s = simp determinant_is_linear (linear_same p q _ _ _ s)

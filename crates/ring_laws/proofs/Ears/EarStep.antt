@@ -2,18 +2,51 @@
 use Rattle.std.proofs.Common.{ℤ, pos, negsuc, ◌≤ℤ◌, List, [], ◌∷◌, ◌++◌, ◌≡◌, ◌⊎◌, inl, inr, refl, sym, subst, arith}
 use Rattle.std.proofs.lemmas.Int.{ints}
 use Rattle.plane.proofs.Order.{x_at_most}
-use Rattle.plane.specs.Point.{IsPoint, Point, Triple, whole}
+use Rattle.plane.specs.Point.{IsPoint, Point, Triple, whole, IsSame}
 use Rattle.plane.specs.Triangle.{IsInTriangle}
 use Rattle.plane.specs.Turn.{IsLeft}
-use Rattle.rings.proofs.Vertices.{end_of_second, HasPoint, end_of_ring, ends_along, AllEnds, all_ends_from, has_cases, has_left}
+use Rattle.rings.proofs.Vertices.{end_of_second, HasPoint, end_of_ring, ends_along, AllEnds, all_ends_from, has_cases, has_left, on_each}
 use Rattle.rings.specs.Apart.{IsApartRing, IsCommonEnd, MeetAtEnds}
-use Rattle.rings.specs.Edge.{Edge, HasEdge, HasEnd, IsOn, edge, edges_along, edges_of}
+use Rattle.rings.specs.Edge.{Edge, HasEdge, HasEnd, IsOn, edge, edges_along, edges_of, IsClosed, IsOnSome}
+use Rattle.rings.specs.Inside.{winding}
 use Rattle.rings.specs.Winding.{RunsClockwise, RunsCounterclockwise, WindsUpTo}
-use Rattle.ring_laws.proofs.Ears.Corner.{apart_rest, area_ear, closed_rest, edges_at_corner, has_edge_of_corner, no_edge_across, not_at_corner}
-use Rattle.ring_laws.proofs.Ears.Corner.{on_some_corner, on_some_rest, winding_corner, winding_rest}
-use Rattle.ring_laws.proofs.Ears.Ears.{ear_sign, ring_with_ear}
+use Rattle.ring_laws.proofs.Ears.BaseEnds.{base_ends}
+use Rattle.ring_laws.proofs.Ears.Corner.{apart_rest, area_ear, closed_rest, edges_at_corner, has_edge_of_corner, no_edge_across}
+use Rattle.ring_laws.proofs.Ears.Corner.{not_at_corner, on_some_corner, on_some_rest, winding_corner, winding_rest}
+use Rattle.ring_laws.proofs.Ears.EarBase.{base_differs}
+use Rattle.ring_laws.proofs.Ears.EarWinding.{ear_values, sign_is_one}
 use Rattle.ring_laws.proofs.Ears.LeastVertex.{NoneBefore}
+use Rattle.ring_laws.proofs.Ears.UpToOne.{IsZeroOrOne}
 use Rattle.ring_laws.proofs.Triangles.{IsCorner, corner_base_meets, corner_not_entered}
+
+-- ---- the theorem of the ear: a ring winds round each point not at all or once, where it does so without an ear at its least vertex
+
+-- the edges es close the base from u to w of the ear with the tip v; all their ends are as far to the right as v; none of them
+-- enters the triangle of the ear, but at the ends of the base; without the ear the winding number is 0 or s off the edges
+module _ (u v w : Point) (es : List Edge) (left : IsLeft (whole u) (whole v) (whole w)) (closed : IsClosed (edge u w ∷ es))
+    (least : AllEnds (λ a. v.x ≤ℤ a.x) es)
+    (enters_not : (e : Edge) → HasEdge es e → (x : Triple) → IsPoint x → IsOn e x → IsInTriangle u v w x
+    → IsSame x (whole u) ⊎ IsSame x (whole w))
+    (s : ℤ) (values : (p : Triple) → IsPoint p → ¬ (IsOnSome (edge u w ∷ es) p)
+    → (winding (edge u w ∷ es) p ≡ pos 0) ⊎ (winding (edge u w ∷ es) p ≡ s)) where
+  -- the ends of the base are as far to the right
+  least_with_base : AllEnds (λ a. v.x ≤ℤ a.x) (edge u w ∷ es)
+  least_with_base = let ends = base_ends u w v.x es closed least (base_differs u v w left) in (ends.0, ends.1, least)
+
+  -- no point of the edges is in the triangle
+  enters_nowhere : (x : Triple) → IsPoint x → IsOnSome es x → IsInTriangle u v w x → IsSame x (whole u) ⊎ IsSame x (whole w)
+  enters_nowhere = on_each (λ x. IsInTriangle u v w x → IsSame x (whole u) ⊎ IsSame x (whole w)) es enters_not
+
+  -- then s is 1,
+  pub ear_sign : s ≡ pos 1
+  ear_sign = sign_is_one u v w es left closed least_with_base enters_nowhere s values
+
+  -- and with the ear the winding number is 0 or 1 off the edges
+  pub ring_with_ear : (p : Triple) → IsPoint p → ¬ (IsOnSome (edge u v ∷ edge v w ∷ es) p)
+      → IsZeroOrOne (winding (edge u v ∷ edge v w ∷ es) p)
+  ring_with_ear = ear_values u v w es left closed least_with_base enters_nowhere s values
+
+-- ---- a ring with an ear at its least vertex runs counterclockwise, where the ring without the ear runs round once
 
 module _ (v w : Point) (ms : List Point) (u : Point) (apart : IsApartRing (v ∷ w ∷ (ms ++ u ∷ []))) (left : IsLeft (whole u) (whole v) (whole w)) where
   -- the edges of the ring have a corner at v

@@ -4,7 +4,7 @@ use Rattle.std.proofs.lemmas.Int.{ints}
 use Rattle.integer_algebra.proofs.Signs.{lt_or_le}
 use Rattle.plane.proofs.Segments.{on_first_end, on_reversed}
 use Rattle.plane.specs.Point.{IsPoint, Point, Triple}
-use Rattle.rings.proofs.Crossings.CrossingSums.{winding-append}
+use Rattle.rings.proofs.Crossings.Crossings.{winding-append}
 use Rattle.rings.proofs.Crossings.EdgeLaw.{edge_law, edge_law_left, edge_law_right, right_between}
 use Rattle.rings.proofs.Crossings.Parity.{same_parity}
 use Rattle.rings.proofs.Vertices.{closed_edges_of, growth-append}

@@ -3,8 +3,7 @@ use Rattle.std.proofs.Common.{◌≡◌, Bool, ℕ, ◌+◌, ◌*◌, ◌/◌, �
 use Rattle.std.proofs.lemmas.Int.{ints}
 use Rattle.std.specs.Prelude.{cond}
 use Rattle.plane.specs.Point.{Triple}
-use Rattle.rings.proofs.Crossings.CrossingSums.{crossings-cons}
-use Rattle.rings.proofs.Crossings.Crossings.{CrossingCase, crossing_cases, downward, uncrossed, upward}
+use Rattle.rings.proofs.Crossings.Crossings.{crossings-cons, CrossingCase, crossing_cases, downward, uncrossed, upward}
 use Rattle.rings.specs.Edge.{Edge}
 use Rattle.rings.specs.Inside.{crossings, is_crossed, winding}
 

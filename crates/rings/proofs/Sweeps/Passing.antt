@@ -3,7 +3,7 @@ use Rattle.std.proofs.Common.{◌≡◌, ◌⊎◌, inl, inr, sym, ap, ◌∙◌
 use Rattle.std.proofs.lemmas.Bool.{cases_eq}
 use Rattle.std.specs.Prelude.{slice_index}
 use Rattle.plane.specs.Point.{Point}
-use Rattle.rings.proofs.Sweeps.Counts.{one_other, one_self}
+use Rattle.rings.proofs.Sweeps.Swept.{one_other, one_self}
 use Rattle.rings.proofs.Sweeps.Events.{event_of, forward, next_below, next_differs, next_of_previous, previous_below, previous_of_next, ranks_are}
 use Rattle.rings.specs.Events.{AreEvents, first_rank, last_rank, next, previous}
 use Rattle.rings.specs.Status.{IsCounted, IsStacked, IsStatus, one, times}

@@ -1,6 +1,8 @@
 -- A ring is simple where a sweep has passed all its events.
-use Rattle.std.proofs.Common.{◌≡◌, ◌⊎◌, inl, inr, refl, sym, subst, ap, ◌∙◌, ℕ, ◌+◌, ◌<◌, ◌≤◌, List, [], ◌∷◌, length, get_or, arith}
+use Rattle.std.proofs.Common.{◌≡◌, ◌⊎◌, inl, inr, refl, sym, subst, ap, ◌∙◌, ℕ, ◌+◌, ◌<◌, ◌≤◌, List, [], ◌∷◌, length, get_or, arith, suc}
 use Rattle.std.proofs.lemmas.Bool.{cases_eq, cases_lt, cases_order}
+use Rattle.std.proofs.lemmas.List.Sums.{get_or-le-sum_by, sum_by-cons}
+use Rattle.std.specs.List.{Contains}
 use Rattle.std.specs.Prelude.{slice_index}
 use Rattle.plane.proofs.Order.{precedes_differs}
 use Rattle.plane.proofs.Points.{same_refl}
@@ -8,7 +10,6 @@ use Rattle.plane.specs.Order.{IsBefore}
 use Rattle.plane.specs.Point.{Point, whole}
 use Rattle.rings.proofs.Simple.{simple_of_apart}
 use Rattle.rings.proofs.Sweeps.Ascending.{precedes_later}
-use Rattle.rings.proofs.Sweeps.Counts.{contains_counted, counted_item}
 use Rattle.rings.proofs.Sweeps.Events.{edge_is, ends_below, event_of, forward, rank_below}
 use Rattle.rings.proofs.Sweeps.Slabs.{Runs, Slab, common_end}
 use Rattle.rings.proofs.Vertices.{meet_reversed, meet_swapped, reversed, edge_at, edge_number}
@@ -17,7 +18,34 @@ use Rattle.rings.specs.Edge.{Edge}
 use Rattle.rings.specs.Events.{AreEvents, edge_upward, first_end, first_rank, last_end, last_rank}
 use Rattle.rings.specs.Ring.{vertex}
 use Rattle.rings.specs.Simple.{IsSimple}
-use Rattle.rings.specs.Status.{IsStatus}
+use Rattle.rings.specs.Status.{IsStatus, one, times}
+
+-- ---- how often an item is in a list
+
+-- an item counts once for itself
+pub one_self : (e : ℕ) → one e e ≡ 1
+one_self e = grind arith
+
+-- and not for another
+pub one_other : (e x : ℕ) → ¬ (x ≡ e) → one e x ≡ 0
+one_other e x n = grind arith
+
+-- what is there some times is in the list
+pub contains_counted : (e : ℕ) (xs : List ℕ) → 0 < times e xs → Contains xs e
+contains_counted e [] h = absurd (omega arith)
+contains_counted e (x ∷ xs) h = elim (cases_eq x e) [
+  | inl same ↦ (0, omega arith, same)
+  | inr other ↦
+      let more : times e (x ∷ xs) ≡ one e x + times e xs = sum_by-cons (one e) x xs in
+      let (k, within, is) = contains_counted e xs (omega (arith, h, more, one_other e x other)) in
+      (suc k, omega arith, is)
+]
+
+-- and an item of it is there at least once
+pub counted_item : (xs : List ℕ) (k d : ℕ) → k < length xs → 1 ≤ times (get_or xs k d) xs
+counted_item xs k d within = omega (arith, one_self (get_or xs k d), get_or-le-sum_by (one (get_or xs k d)) xs k d within)
+
+-- ---- a ring is simple where a sweep has passed all its events
 
 -- nothing is in an empty list
 pub empty_status : (ring : List Point) (ranks status : List ℕ) → length status ≡ 0 → IsStatus ring ranks 0 status

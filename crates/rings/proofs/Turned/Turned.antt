@@ -1,14 +1,18 @@
 -- A ring read the other way round: its edges are those of the ring, the last one first, each read backward.
-use Rattle.std.proofs.Common.{◌≡◌, ℕ, suc, ◌+◌, ◌-◌, ◌<◌, ◌≤◌, List, [], ◌∷◌, ◌++◌, length, reverse, inl, inr, zero, refl, ap, sym, ◌∙◌, arith, ◌%◌}
+use Rattle.std.proofs.Common.{◌≡◌, ℕ, suc, ◌+◌, ◌-◌, ◌<◌, ◌≤◌, List, [], ◌∷◌, ◌++◌, length, reverse, inl, inr, zero, refl, ap, sym, ◌∙◌}
+use Rattle.std.proofs.Common.{arith, ◌%◌, ◌+ℤ◌, neg_ℤ, subst}
 use Rattle.std.proofs.lemmas.Bool.{cases_lt}
+use Rattle.std.proofs.lemmas.Int.{ints}
 use Rattle.std.proofs.lemmas.List.{get_or-reverse, length-reverse, reverse-reverse}
 use Rattle.std.specs.Prelude.{slice_index_or}
-use Rattle.plane.specs.Point.{Point}
+use Rattle.plane.proofs.Segments.{on_reversed}
+use Rattle.plane.specs.Point.{Point, IsSame, Triple, whole}
 use Rattle.rings.proofs.Vertices.{backward, edges_along_append, reverse-cons, vertex_in_range, vertex_mod, vertex_round}
 use Rattle.rings.specs.Edge.{Edge, edges_along, edges_of}
 use Rattle.rings.specs.Full.{IsVertexBetween}
-use Rattle.rings.specs.Orientation.{turned_round}
-use Rattle.rings.specs.Ring.{origin, vertex}
+use Rattle.rings.specs.Orientation.{turned_round, doubled_area, swept}
+use Rattle.rings.specs.Ring.{origin, vertex, IsOnEdge}
+use Rattle.rings.specs.Simple.{Clash, HasEqualEnds, IsSimple, SharesPoint}
 
 -- ---- the list of vertices
 
@@ -108,3 +112,67 @@ between_turned ring a b v between = record {
   not_first = between.not_first;
   not_last = between.not_last;
 }
+
+-- ---- the area of a ring that is read the other way round has the opposite sign
+
+-- areas add up
+pub swept-append : (es fs : List Edge) → swept (es ++ fs) ≡ swept es +ℤ swept fs
+swept-append [] fs = omega (arith, ints)
+swept-append (e ∷ es) fs = omega (arith, ints, swept-append es fs)
+
+-- in any order
+swept-reverse : (es : List Edge) → swept (reverse es) ≡ swept es
+swept-reverse [] = refl
+swept-reverse (e ∷ es) = ap swept (reverse-cons e es) ∙ omega (arith, ints, swept-append (reverse es) (e ∷ []), swept-reverse es)
+
+-- read backward, the edges sweep out the opposite area
+swept-backward : (es : List Edge) → swept (backward es) ≡ neg_ℤ (swept es)
+swept-backward [] = refl
+swept-backward (e ∷ es) = omega (arith, ints, swept-backward es)
+
+-- the area of a turned ring
+pub doubled_area-turned_round : (ring : List Point) → doubled_area (turned_round ring) ≡ neg_ℤ (doubled_area ring)
+doubled_area-turned_round ring = ap swept (edges_of-turned_round ring) ∙ swept-reverse (backward (edges_of ring)) ∙ swept-backward (edges_of ring)
+
+-- ---- a ring that is read the other way round is simple where the ring is
+
+module _ (ring : List Point) (i : ℕ) (h : i < length ring) where
+  -- an edge with equal ends has them also backward
+  equal_ends_back : HasEqualEnds (turned_round ring) i → HasEqualEnds ring (length ring - 1 - i)
+  equal_ends_back e = sym (sym (turned_from ring i h) ∙ e ∙ turned_to ring i h)
+
+  -- a point on an edge is on it read backward
+  on_edge_back : (p : Triple) → IsOnEdge (turned_round ring) i p → IsOnEdge ring (length ring - 1 - i) p
+  on_edge_back p on =
+      let on_turned = rw (turned_from ring i h, turned_to ring i h) at on in
+      on_reversed p (whole (vertex ring (length ring - 1 - i + 1))) (whole (vertex ring (length ring - 1 - i))) on_turned
+
+module _ (ring : List Point) (i j : ℕ) (less : i < j) (h : j < length ring) where
+  -- edges that share a point share it backward, where their order is the other one
+  shared_back : SharesPoint (turned_round ring) i j → SharesPoint ring (length ring - 1 - j) (length ring - 1 - i)
+  shared_back shared =
+      let is_at = λ (v : Point). IsSame shared.point (whole v) in
+      record {
+        point = shared.point;
+        rational = shared.rational;
+        on_first = on_edge_back ring j h shared.point shared.on_second;
+        on_second = on_edge_back ring i (omega arith) shared.point shared.on_first;
+        not_between = λ next same.
+            shared.not_between (omega arith)
+            (subst is_at (ap (vertex ring) (omega arith) ∙ sym (vertex-turned_round ring j (omega arith))) same);
+        not_round = λ first last same.
+            shared.not_round (omega arith) (omega (arith, length-turned_round ring))
+            (subst is_at (sym (vertex-turned_round-zero ring)) same);
+      }
+
+  -- so edges that clash do
+  clash_back : Clash (turned_round ring) i j → Clash ring (length ring - 1 - j) (length ring - 1 - i)
+  clash_back (inl e) = inr (inl (equal_ends_back ring i (omega arith) e))
+  clash_back (inr (inl e)) = inl (equal_ends_back ring j h e)
+  clash_back (inr (inr shared)) = inr (inr (shared_back shared))
+
+-- a simple ring is simple turned round
+pub simple_turned : (ring : List Point) → IsSimple ring → IsSimple (turned_round ring)
+simple_turned ring simple i j less h clash =
+    let below : j < length ring = omega (arith, length-turned_round ring) in
+    simple (length ring - 1 - j) (length ring - 1 - i) (omega arith) (omega arith) (clash_back ring i j less below clash)

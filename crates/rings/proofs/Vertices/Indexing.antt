@@ -1,17 +1,36 @@
 -- The edges of a ring by their numbers: edge i goes from vertex i to the next.
-use Rattle.std.proofs.Common.{◌≡◌, ◌⊎◌, inl, inr, refl, sym, subst, ap, ◌∙◌, ℕ, zero, suc, ◌+◌, ◌<◌, arith, cond, List, [], ◌∷◌}
-use Rattle.std.proofs.Common.{◌++◌, length, get_or, take}
-use Rattle.std.proofs.lemmas.List.{take_all, take_more}
+use Rattle.std.proofs.Common.{◌≡◌, ◌⊎◌, inl, inr, refl, sym, subst, ap, ◌∙◌, ℕ, zero, suc, ◌+◌, ◌<◌, arith, cond, List, [], ◌∷◌, ◌++◌}
+use Rattle.std.proofs.Common.{length, get_or, take, ◌%◌}
+use Rattle.std.proofs.Math.Nat.{mod-eq_of_lt, mod-mod, mod_self}
+use Rattle.std.proofs.lemmas.List.{take_all, take_more, get_or_default}
 use Rattle.std.proofs.lemmas.List.Sums.{sum_by_push}
-use Rattle.std.specs.Prelude.{◌↔◌}
-use Rattle.plane.specs.Point.{Point, Triple, whole}
+use Rattle.std.specs.Prelude.{◌↔◌, slice_index_or}
+use Rattle.plane.specs.Point.{Point, Triple, whole, IsPoint}
 use Rattle.plane.specs.Segment.{On}
-use Rattle.rings.proofs.Vertices.Edges.{on_some_cases, on_some_left, on_some_right}
-use Rattle.rings.proofs.Vertices.Vertices.{vertex_in_range}
-use Rattle.rings.specs.Edge.{Edge, IsOnSome, edges_along, edges_of}
+use Rattle.rings.proofs.Vertices.Edges.{on_some_cases, on_some_left, on_some_right, backward, reversed}
+use Rattle.rings.proofs.Vertices.Items.{next_round, has_number, number_of}
+use Rattle.rings.specs.Edge.{Edge, IsOnSome, edges_along, edges_of, HasEdge, IsOn}
 use Rattle.rings.specs.Inside.{crossings, is_crossed}
 use Rattle.rings.specs.Ring.{IsOnEdge, origin, vertex}
-use Rattle.rings.proofs.Vertices.Items.{next_round}
+
+-- ---- the vertices of a ring by their numbers
+
+-- the vertex with a number below the length is that item of the list
+pub vertex_in_range : (ring : List Point) (i : ℕ) (d : Point) → i < length ring → vertex ring i ≡ slice_index_or ring i d
+vertex_in_range ring i d h = ap (λ k. slice_index_or ring k origin) (mod-eq_of_lt h) ∙ get_or_default ring i origin d h
+
+-- after the last vertex comes the first
+pub vertex_round : (ring : List Point) → 0 < length ring → vertex ring (length ring) ≡ vertex ring 0
+vertex_round ring some =
+    let first : length ring % length ring ≡ 0 = mod_self (length ring) in
+    let same : 0 % length ring ≡ 0 = mod-eq_of_lt some in
+    ap (λ k. slice_index_or ring k origin) (first ∙ sym same)
+
+-- vertices are counted round
+pub vertex_mod : (ring : List Point) (i : ℕ) → vertex ring (i % length ring) ≡ vertex ring i
+vertex_mod ring i = ap (λ k. slice_index_or ring k origin) (mod-mod i (length ring))
+
+-- ---- the edges of a ring by their numbers: edge i goes from vertex i to the next
 
 -- edge i, counted round
 abbrev pub edge_at : List Point → ℕ → Edge
@@ -113,3 +132,54 @@ module _ (ring : List Point) (i : ℕ) (within : i < length ring) where
 -- after as many steps as there are vertices, these are all edges
 pub take_all_edges : (ring : List Point) → take (length ring) (edges_of ring) ≡ edges_of ring
 take_all_edges ring = take_all (length ring) (edges_of ring) (omega (arith, length-edges_of ring))
+
+-- ---- the edges of a list, the points on them, and the edges of a ring by their numbers
+
+-- ---- edges read backward
+
+module _ (e : Edge) where
+  -- an edge read backward is one of the edges read backward
+  pub has_edge_backward : (es : List Edge) → HasEdge es e → HasEdge (backward es) (reversed e)
+  has_edge_backward (f ∷ es) (inl h) = inl (λ i. reversed (h i))
+  has_edge_backward (f ∷ es) (inr h) = inr (has_edge_backward es h)
+  has_edge_backward [] h = absurd h
+
+-- ---- points on the edges
+
+module _ (x : Triple) where
+  -- a point on one of the edges is on some of them,
+  pub on_some_of : (e : Edge) (es : List Edge) → HasEdge es e → IsOn e x → IsOnSome es x
+  on_some_of e (f ∷ es) (inl h) on = inl (subst (λ (g : Edge). IsOn g x) (sym h) on)
+  on_some_of e (f ∷ es) (inr h) on = inr (on_some_of e es h on)
+  on_some_of e [] h on = absurd h
+
+  -- and one on some of them is on one of them
+  pub edge_with : (es : List Edge) → IsOnSome es x → (e : Edge) × HasEdge es e × IsOn e x
+  edge_with (f ∷ es) (inl on) = (f, inl refl, on)
+  edge_with (f ∷ es) (inr h) = let (e, has, on) = edge_with es h in (e, inr has, on)
+  edge_with [] h = absurd h
+
+  -- a point on some edge of a list is so on each list with the same edges
+  pub on_some_among : (es fs : List Edge) → ((e : Edge) → HasEdge es e → HasEdge fs e) → IsOnSome es x → IsOnSome fs x
+  on_some_among es fs among h = let (e, has, on) = edge_with es h in on_some_of e fs (among e has) on
+
+-- what holds of the rational points of each edge holds of those on some edge
+pub on_each : (P : Triple → Type 0) (es : List Edge) → ((e : Edge) → HasEdge es e → (x : Triple) → IsPoint x → IsOn e x → P x)
+    → (x : Triple) → IsPoint x → IsOnSome es x → P x
+on_each P es holds x at h = let (e, has, on) = edge_with x es h in holds e has x at on
+
+-- ---- by their numbers
+
+-- edge i of a ring is one of its edges
+pub has_edge_at : (ring : List Point) (i : ℕ) → i < length ring → HasEdge (edges_of ring) (edge_at ring i)
+has_edge_at ring i h =
+    let d = edge_at ring i in
+    subst (HasEdge (edges_of ring)) (get_or-edges_of ring i d h)
+    (has_number (edges_of ring) i d (omega (arith, length-edges_of ring)))
+
+-- and each of its edges is edge i for some i
+pub edge_number : (ring : List Point) (e : Edge) → HasEdge (edges_of ring) e → (i : ℕ) × (i < length ring) × (edge_at ring i ≡ e)
+edge_number ring e h =
+    let (i, within, is) = number_of (edges_of ring) e h in
+    let below : i < length ring = omega (arith, length-edges_of ring) in
+    (i, below, sym (get_or-edges_of ring i e below) ∙ is e)

@@ -1,4 +1,4 @@
-use Rattle.std.proofs.Common.{◌≡◌, ◌+◌, ◌*◌, ◌<◌, arith, below_more, length, Bor, Option, None, Some}
+use Rattle.std.proofs.Common.{ℕ, ◌≡◌, ◌+◌, ◌*◌, ◌<◌, ◌≤◌, arith, below_more, length, Bor, Option, None, Some}
 use Rattle.std.specs.Prelude.{IfSome, option_copied}
 use Rattle.std.proofs.lemmas.Bool.Decides.{nat_tests}
 use Rattle.inside_test.proofs.Passing.{passed_fewer}
@@ -27,27 +27,18 @@ loop-k-preserved g c =
       steps = λ d below. omega (arith, before.steps d below, c.verdict_at.ensures.steps d below);
     }
 
+-- one point more is within what all points take
+within_all : (each rest k count old now new : ℕ) → now ≤ old + (each * k + rest) → new ≤ now + each → k < count → new ≤ old + (each * count + rest)
+within_all each rest k count old now new before more below =
+    omega (arith, before, more, passed_fewer each (k + 1) count (omega (arith, below)))
+
 pub returns-in-Some-clause-steps : goal.returns-in-Some-clause-steps
 returns-in-Some-clause-steps g c = λ d below.
-    let n = length c.args.ring.now.corners in
-    let each = 2560 * (n * n) + 3000 * (n * d) + 6194 * n + 73 in
-    omega (
-      arith,
-      c.loop-k.invariant.steps d below,
-      c.verdict_at.ensures.steps d below,
-      passed_fewer each (c.loop-k.k + 1) (length c.args.chain.now) (omega (arith, c.loop-k-test.true)),
-    )
+    within_all _ _ _ _ _ _ _ (c.loop-k.invariant.steps d below) (c.verdict_at.ensures.steps d below) c.loop-k-test.true
 
 pub returns-in_err-verdict-clause-steps : goal.returns-in_err-verdict-clause-steps
 returns-in_err-verdict-clause-steps g c = λ d below.
-    let n = length c.args.ring.now.corners in
-    let each = 2560 * (n * n) + 3000 * (n * d) + 6194 * n + 73 in
-    omega (
-      arith,
-      c.loop-k.invariant.steps d below,
-      c.verdict_at.ensures.steps d below,
-      passed_fewer each (c.loop-k.k + 1) (length c.args.chain.now) (omega (arith, c.loop-k-test.true)),
-    )
+    within_all _ _ _ _ _ _ _ (c.loop-k.invariant.steps d below) (c.verdict_at.ensures.steps d below) c.loop-k-test.true
 
 pub returns-clause-steps : goal.returns-clause-steps
 returns-clause-steps g c = λ d below.

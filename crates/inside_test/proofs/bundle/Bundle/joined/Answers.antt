@@ -7,8 +7,8 @@ pub returns : goal.returns
 returns c =
     let one = c.args.self.now in
     let other = c.args.other.now in
-    let low = height_read c.greater.result c.greater.ensures.fits in
-    let high = height_read c.lesser.result c.lesser.ensures.fits in
+    let low = height_read c.in_order.result.1 c.in_order.ensures.high_fits in
+    let high = height_read c.in_order-2.result.0 c.in_order-2.ensures.low_fits in
     let one_low = height_read one.low one.low_fits in
     let one_high = height_read one.high one.high_fits in
     let other_low = height_read other.low other.low_fits in
@@ -17,14 +17,14 @@ returns c =
       first = record {
         box = c.joined.ensures.first;
         tilted = c.joined-2.ensures.first;
-        low = omega (arith, ints, low, one_low, c.greater.ensures.first);
-        high = omega (arith, ints, high, one_high, c.lesser.ensures.first);
+        low = omega (arith, ints, low, one_low, c.in_order.ensures.high_first);
+        high = omega (arith, ints, high, one_high, c.in_order-2.ensures.low_first);
       };
       second = record {
         box = c.joined.ensures.second;
         tilted = c.joined-2.ensures.second;
-        low = omega (arith, ints, low, other_low, c.greater.ensures.second);
-        high = omega (arith, ints, high, other_high, c.lesser.ensures.second);
+        low = omega (arith, ints, low, other_low, c.in_order.ensures.high_second);
+        high = omega (arith, ints, high, other_high, c.in_order-2.ensures.low_second);
       };
       odd = refl;
     }

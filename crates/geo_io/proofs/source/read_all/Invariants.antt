@@ -1,11 +1,12 @@
-use Rattle.std.proofs.Common.{◌≡◌, ◌+◌, ◌-◌, ◌≤◌, length, vec_len}
+use Rattle.std.proofs.Common.{◌≡◌, ◌+◌, ◌-◌, ◌≤◌, vec_len}
 use Rattle.std.specs.Io.KnownBytes.{Consumes}
-use Rattle.geo_io.proofs.source.read_pieces.Given as goal
+use Rattle.geo_io.proofs.source.read_all.Given as goal
 
 abbrev pub invariant-loop-source : goal.invariant-loop-source
 invariant-loop-source g l = record {
   given : Consumes (g.S.Source.left l.fn.source) (g.S.Source.left l.source) l.bytes.items;
-  few : vec_len l.bytes ≤ l.limit + length l.piece;
+  room : vec_len l.piece ≡ 65536;
+  few : vec_len l.bytes ≤ l.limit + 65536;
   counts : g.S.Source.faults l.source ≡ g.S.Source.faults l.fn.source;
 }
 

@@ -1,6 +1,6 @@
 use Rattle.std.proofs.Common.{◌+◌, ◌-◌, ◌*◌, ◌≤◌}
 use Rattle.star_kernel.specs.HalfPlanes.{AreEdges}
-use Rattle.star_kernel.proofs.directions.edges_from.Given as goal
+use Rattle.star_kernel.proofs.directions.by_direction.Given as goal
 
 abbrev pub invariant-loop-number : goal.invariant-loop-number
 invariant-loop-number g l = record {
