@@ -3,6 +3,7 @@
 
 mod command;
 mod coordinates;
+mod ending;
 mod fields;
 mod laws;
 mod limits;
@@ -16,6 +17,7 @@ mod version;
 mod word;
 
 pub use command::{Bad, Command};
+pub use ending::{Ending, ROOM};
 pub use laws::one_reading;
 pub use limits::Limits;
 pub use points::Points;
