@@ -17,6 +17,9 @@ impl Frac {
         ensures value { result.num *ℤ den ≡ num *ℤ result.den }
         ensures zero { num ≡ pos 0 → (result.num ≡ pos 0) × (result.den ≡ pos 1) }
     {
+        if den == 1 {
+            return Frac { num, den };
+        }
         let divisor = common_divisor(num.unsigned_abs(), den.unsigned_abs()) as i128;
         Frac {
             num: num / divisor,
@@ -32,8 +35,25 @@ impl Frac {
     }
 }
 
-// The greatest common divisor, by Euclid's algorithm.
+// The greatest common divisor, by Euclid's algorithm. As soon as a remainder fits 64 bits, so do all later ones.
 fn common_divisor(a: u128, b: u128) -> u128
+    ensures { IsGcd a b result }
+{
+    let (mut divisor, mut rest) = (a, b);
+    while rest > u64::MAX as u128 {
+        let next = divisor % rest;
+        divisor = rest;
+        rest = next;
+    }
+    if rest == 0 {
+        divisor
+    } else {
+        short_divisor(rest as u64, (divisor % rest) as u64) as u128
+    }
+}
+
+// The same of numbers of 64 bits.
+fn short_divisor(a: u64, b: u64) -> u64
     ensures { IsGcd a b result }
 {
     let (mut divisor, mut rest) = (a, b);

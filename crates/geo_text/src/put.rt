@@ -27,16 +27,6 @@ pub fn put_index(out: &mut Vec<u8>, index: u32) -> Result<(), Memory>
     text.append_to(out)
 }
 
-/// Appends a comma and a number of 64 bits.
-pub fn put_wide(out: &mut Vec<u8>, number: u64) -> Result<(), Memory>
-    ensures ok { OnOk result (out.new.items ≡ out.old.items ++ index_text number) }
-    ensures err { OnErr result (out.new.items ≡ out.old.items) }
-{
-    let mut text = Ending::new();
-    text.put_wide(number);
-    text.append_to(out)
-}
-
 /// Appends a comma, x, a comma and y. It takes 64 steps.
 pub fn put_pt<L: Ledger>(out: &mut Vec<u8>, p: &Pt, steps: &mut Steps<L>) -> Result<(), Memory>
     ensures ok { OnOk result (out.new.items ≡ out.old.items ++ pt_text p.now) }

@@ -4,7 +4,7 @@ use Rattle.std.proofs.lemmas.Int.{ints, quot_fits, quot_is, to_z-of_z}
 use Rattle.std.proofs.lemmas.Nat.Gcd.{le_of_dvd}
 use Rattle.std.specs.Int.{IsGcd, w128}
 use Rattle.std.specs.Prelude.{int_div, unsigned_abs}
-use Rattle.exact_frac.proofs.LowestTerms.{positive_number, positive_size, reduced, zero_lowest}
+use Rattle.exact_frac.proofs.LowestTerms.{positive_number, positive_size, reduced, whole_lowest, zero_lowest}
 use Rattle.exact_frac.proofs.frac.Frac.lowest.Goals as goal
 use Rattle.exact_frac.specs.Lowest.{IsLowest}
 
@@ -67,7 +67,10 @@ nonzero_div-result-2 c =
     (h.some, h.den_fits)
 
 pub invariant_of-result : goal.invariant_of-result
-invariant_of-result c =
+invariant_of-result c = record { in_lowest_terms = rw c.if-den-eq1.true (whole_lowest _) }
+
+pub invariant_of-result-2 : goal.invariant_of-result-2
+invariant_of-result-2 c =
     let h = divides _ _ _ _ _ c.requires c.ranges.num c.ranges.den c.unsigned_abs.ensures.value
     c.unsigned_abs-2.ensures.value c.common_divisor-divisor.ensures in
     record { in_lowest_terms = h.lowest }
