@@ -1,8 +1,7 @@
 -- Fractions in lowest terms: each value has one.
 use Rattle.std.proofs.Common.{◌≡◌, ◌<◌, ◌*◌, ◌/◌, ℕ, zero, suc, ℤ, pos, negsuc, neg_ℤ, ◌+ℤ◌, ◌*ℤ◌, ◌<ℤ◌, [], ◌∷◌, refl, sym, ◌∙◌, ap, arith}
 use Rattle.std.proofs.lemmas.Int.{ints, quot-rem, unsigned_abs-mul}
-use Rattle.std.proofs.Math.Nat.{mod-one}
-use Rattle.std.proofs.lemmas.Nat.Gcd.{dvd_of_mod-eq-zero, dvd_refl, mod-eq-zero_of_dvd}
+use Rattle.std.proofs.lemmas.Nat.Gcd.{dvd-zero, dvd_refl, mod-eq-zero_of_dvd}
 use Rattle.std.specs.Int.{◌∣◌, IsGcd}
 use Rattle.std.specs.Prelude.{int_div, int_rem, unsigned_abs}
 use Rattle.exact_frac.proofs.Divisors.{divided, greatest_is_gcd, same_second}
@@ -80,19 +79,12 @@ one_lowest a d b e h k same =
     let products : d *ℤ a ≡ d *ℤ b = mul_comm d a ∙ ap (λ z. a *ℤ z) same_den ∙ same ∙ mul_comm b d in
     (cancel_equal a b d h.positive products, same_den)
 
--- a whole number is in lowest terms over 1
-pub whole_lowest : (num : ℤ) → IsLowest num (pos 1)
-whole_lowest num = record {
-  positive = omega (arith, ints);
-  lowest = (dvd_of_mod-eq-zero 1 (mod-one (unsigned_abs num)), dvd_refl 1, λ k p q. q);
-}
-
 -- zero is 0 / 1
 pub zero_lowest : (num den a d : ℤ) → pos 0 <ℤ den → IsLowest a d → a *ℤ den ≡ num *ℤ d → num ≡ pos 0 → (a ≡ pos 0) × (d ≡ pos 1)
 zero_lowest num den a d positive h same nothing =
     let one : pos 0 <ℤ pos 1 = omega (arith, ints) in
     let whole : num *ℤ pos 1 ≡ pos 0 *ℤ den = rw (nothing, zero-mul, zero-mul) refl in
-    one_lowest a d (pos 0) (pos 1) h ((whole_lowest (pos 0)))
+    one_lowest a d (pos 0) (pos 1) h (record { positive = one; lowest = (dvd-zero 1, dvd_refl 1, λ k p q. q) })
     (fraction_eq_trans a d num den (pos 0) (pos 1) h.positive positive one same whole)
 
 -- so a fraction in lowest terms has the parts in lowest terms of its value,

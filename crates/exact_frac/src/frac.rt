@@ -17,13 +17,9 @@ impl Frac {
         ensures value { result.num *ℤ den ≡ num *ℤ result.den }
         ensures zero { num ≡ pos 0 → (result.num ≡ pos 0) × (result.den ≡ pos 1) }
     {
-        if den == 1 {
-            return Frac { num, den };
-        }
-        let divisor = common_divisor(num.unsigned_abs(), den.unsigned_abs()) as i128;
-        Frac {
-            num: num / divisor,
-            den: den / divisor,
+        match (i64::try_from(num), i64::try_from(den)) {
+            (Ok(num), Ok(den)) => lowest_of_short(num, den),
+            _ => lowest_of_long(num, den),
         }
     }
 
@@ -32,6 +28,32 @@ impl Frac {
         ensures { IsTrue result ↔ (self.now.den ≡ pos 1) }
     {
         self.den == 1
+    }
+}
+
+// The same of parts of 64 bits, which a processor divides in one step.
+fn lowest_of_short(num: i64, den: i64) -> Frac
+    requires { pos 0 <ℤ den }
+    ensures value { result.num *ℤ den ≡ num *ℤ result.den }
+    ensures zero { num ≡ pos 0 → (result.num ≡ pos 0) × (result.den ≡ pos 1) }
+{
+    let divisor = short_divisor(num.unsigned_abs(), den.unsigned_abs()) as i64;
+    Frac {
+        num: (num / divisor) as i128,
+        den: (den / divisor) as i128,
+    }
+}
+
+// The same of any parts.
+fn lowest_of_long(num: i128, den: i128) -> Frac
+    requires { pos 0 <ℤ den }
+    ensures value { result.num *ℤ den ≡ num *ℤ result.den }
+    ensures zero { num ≡ pos 0 → (result.num ≡ pos 0) × (result.den ≡ pos 1) }
+{
+    let divisor = common_divisor(num.unsigned_abs(), den.unsigned_abs()) as i128;
+    Frac {
+        num: num / divisor,
+        den: den / divisor,
     }
 }
 
