@@ -1,7 +1,6 @@
 // What is written to an answer. After want of memory the answer is as it was.
 ghost use Rattle.std.specs.Prelude.{◌≡◌, ◌+◌, ◌≤◌, ◌++◌, codes, length, OnOk, OnErr};
-ghost use Rattle.geo_text.specs.declared.ending.TheConstants.{ROOM};
-ghost use Rattle.geo_text.specs.Texts.{bad_text, fault_text, hom_text, index_text, pt_text};
+ghost use Rattle.geo_text.specs.Texts.{bad_text, hom_text, index_text, pt_text};
 
 use crate::command::Bad;
 use crate::ending::Ending;
@@ -63,45 +62,44 @@ pub fn put_bad(out: &mut Vec<u8>, bad: &Bad) -> Result<(), Memory>
     ensures ok { OnOk result (out.new.items ≡ out.old.items ++ bad_text bad.now) }
     ensures err { OnErr result (out.new.items ≡ out.old.items) }
 {
-    let mut line = Ending::new();
-    line.put_word("\n");
-    put_fault(&mut line, bad);
-    line.put_word("bad,");
-    line.append_to(out)
-}
-
-// Puts what is between `bad,` and the end of the line before that.
-fn put_fault(line: &mut Ending, bad: &Bad)
-    requires { 32 + length line.old ≤ ROOM }
-    ensures text { line.new ≡ fault_text bad.now ++ line.old }
-    ensures longer { length line.new ≤ 27 + length line.old }
-{
     match bad {
-        Bad::Word => line.put_word("word"),
-        Bad::Fields => line.put_word("fields"),
-        Bad::Few => line.put_word("few"),
-        Bad::Many => line.put_word("many"),
-        Bad::Number(place) => put_with(line, "number", *place),
-        Bad::Range(place) => put_with(line, "range", *place),
-        Bad::Clash(i, j) => {
-            line.put_index(*j);
-            put_with(line, "clash", *i);
-        }
-        Bad::NoPolygon => line.put_word("no_polygon"),
-        Bad::Outside(point) => put_with(line, "outside", *point),
-        Bad::NoTree => line.put_word("no_tree"),
-        Bad::Index(place) => put_with(line, "index", *place),
-        Bad::Large => line.put_word("large"),
+        Bad::Word => put_word(out, "bad,word\n"),
+        Bad::Fields => put_word(out, "bad,fields\n"),
+        Bad::Few => put_word(out, "bad,few\n"),
+        Bad::Many => put_word(out, "bad,many\n"),
+        Bad::Number(place) => put_with(out, "bad,number", *place),
+        Bad::Range(place) => put_with(out, "bad,range", *place),
+        Bad::Clash(i, j) => put_clash(out, *i, *j),
+        Bad::NoPolygon => put_word(out, "bad,no_polygon\n"),
+        Bad::Outside(point) => put_with(out, "bad,outside", *point),
+        Bad::NoTree => put_word(out, "bad,no_tree\n"),
+        Bad::Index(place) => put_with(out, "bad,index", *place),
+        Bad::Large => put_word(out, "bad,large\n"),
     }
 }
 
-// Puts a word, a comma and a number before a line's end.
-fn put_with(line: &mut Ending, word: &str, index: u32)
-    requires word { length word.now ≤ 10 }
-    requires room { 21 + length line.old ≤ ROOM }
-    ensures text { line.new ≡ word.now ++ index_text index ++ line.old }
-    ensures longer { length line.new ≤ length word.now + 11 + length line.old }
+// Appends the line of a word and a number.
+fn put_with(out: &mut Vec<u8>, word: &str, index: u32) -> Result<(), Memory>
+    requires { length word.now ≤ 16 }
+    ensures ok { OnOk result (out.new.items ≡ out.old.items ++ (word.now ++ index_text index ++ codes "\n")) }
+    ensures err { OnErr result (out.new.items ≡ out.old.items) }
 {
+    let mut line = Ending::new();
+    line.put_word("\n");
     line.put_index(index);
     line.put_word(word);
+    line.append_to(out)
+}
+
+// Appends the line of two edges that clash.
+fn put_clash(out: &mut Vec<u8>, i: u32, j: u32) -> Result<(), Memory>
+    ensures ok { OnOk result (out.new.items ≡ out.old.items ++ (codes "bad,clash" ++ index_text i ++ index_text j ++ codes "\n")) }
+    ensures err { OnErr result (out.new.items ≡ out.old.items) }
+{
+    let mut line = Ending::new();
+    line.put_word("\n");
+    line.put_index(j);
+    line.put_index(i);
+    line.put_word("bad,clash");
+    line.append_to(out)
 }
