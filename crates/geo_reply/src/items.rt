@@ -31,6 +31,7 @@ pub(crate) fn put_items<T: Item, L: Ledger>(
     items: &[T],
     steps: &mut Steps<L>,
 ) -> Result<(), Memory>
+    requires { length word.now ≤ 16 }
     ensures ok { OnOk result (out.new.items ≡ out.old.items ++ lines_text word.now T.line items.now) }
     ensures front { OnErr result (take (length out.old.items) out.new.items ≡ out.old.items) }
     ensures steps { steps.new ≤ steps.old + sum_by T.line_steps items.now }

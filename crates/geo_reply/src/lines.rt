@@ -1,14 +1,15 @@
 // The lines of replies. Want of memory may leave the front of a line, which `put_reply` takes away.
 ghost use Rattle.std.specs.Prelude.{◌≡◌, ◌+◌, ◌*◌, ◌≤◌, ◌<◌, ◌^◌, ◌++◌, codes, flat_map, length, take, OnOk, OnErr};
 ghost use Rattle.geo_text.specs.Texts.{index_text, pt_text};
-ghost use Rattle.geo_reply.specs.ReplyText.{broken_text, corner_text, count_text, from_text, froms_text, lines_text, numbers_text};
+ghost use Rattle.geo_text.specs.declared.ending.TheConstants.{ROOM};
+ghost use Rattle.geo_reply.specs.ReplyText.{before_text, broken_text, corner_text, count_text, from_text, froms_text, lines_text, numbers_text};
 ghost use Rattle.geo_reply.specs.ReplyText.{part_text, place_text, points_text, reply_text, side_text, sight_text, verdict_text};
 ghost use Rattle.geo_reply.specs.Written.{WritesSteps, corner_steps, part_steps, side_steps};
 
 use crate::items::put_items;
 use crate::reply::{Before, Reply, Side};
 use exact_plane::{Hom, Memory, Pt, Steps};
-use geo_text::{put_bad, put_hom, put_index, put_line_end, put_pt, put_wide, put_word};
+use geo_text::{Ending, put_bad, put_index, put_line_end, put_pt, put_word};
 use inside_test::Position;
 use see_cone::Part;
 use std::sync::ledger::Ledger;
@@ -89,23 +90,29 @@ fn put_verdict(out: &mut Vec<u8>, verdict: Verdict) -> Result<(), Memory>
 
 // Appends the line that names a broken rule and the place of the point.
 fn put_broken(out: &mut Vec<u8>, rule: &str, place: u32) -> Result<(), Memory>
+    requires { length rule.now ≤ 16 }
     ensures ok { OnOk result (out.new.items ≡ out.old.items ++ broken_text rule.now place) }
     ensures front { OnErr result (take (length out.old.items) out.new.items ≡ out.old.items) }
 {
-    put_word(out, "not,")?;
-    put_word(out, rule)?;
-    put_index(out, place)?;
-    put_line_end(out)
+    let mut line = Ending::new();
+    line.put_word("\n");
+    line.put_index(place);
+    line.put_word(rule);
+    line.put_word("not,");
+    line.append_to(out)
 }
 
 // Appends the line of a word and a number.
 pub(crate) fn put_count(out: &mut Vec<u8>, word: &str, count: u64) -> Result<(), Memory>
+    requires { length word.now ≤ 16 }
     ensures ok { OnOk result (out.new.items ≡ out.old.items ++ count_text word.now count) }
     ensures front { OnErr result (take (length out.old.items) out.new.items ≡ out.old.items) }
 {
-    put_word(out, word)?;
-    put_wide(out, count)?;
-    put_line_end(out)
+    let mut line = Ending::new();
+    line.put_word("\n");
+    line.put_wide(count);
+    line.put_word(word);
+    line.append_to(out)
 }
 
 // Appends the line of a word and some numbers.
@@ -170,14 +177,25 @@ fn put_from(out: &mut Vec<u8>, i: u32, before: Before) -> Result<(), Memory>
     ensures ok { OnOk result (out.new.items ≡ out.old.items ++ from_text i before) }
     ensures front { OnErr result (take (length out.old.items) out.new.items ≡ out.old.items) }
 {
-    put_word(out, "from")?;
-    put_index(out, i)?;
+    let mut line = Ending::new();
+    line.put_word("\n");
+    put_before(&mut line, before);
+    line.put_index(i);
+    line.put_word("from");
+    line.append_to(out)
+}
+
+// Puts what comes before a vertex before the end of the line.
+fn put_before(line: &mut Ending, before: Before)
+    requires { 11 + length line.old ≤ ROOM }
+    ensures text { line.new ≡ before_text before ++ line.old }
+    ensures longer { length line.new ≤ 11 + length line.old }
+{
     match before {
-        Before::Nothing => put_word(out, ",-")?,
-        Before::Source => put_word(out, ",s")?,
-        Before::Vertex(j) => put_index(out, j)?,
+        Before::Nothing => line.put_word(",-"),
+        Before::Source => line.put_word(",s"),
+        Before::Vertex(j) => line.put_index(j),
     }
-    put_line_end(out)
 }
 
 // Appends the line of a part. It takes 128 steps.
@@ -190,11 +208,15 @@ pub(crate) fn put_part<L: Ledger>(
     ensures front { OnErr result (take (length out.old.items) out.new.items ≡ out.old.items) }
     ensures steps { steps.new ≤ steps.old + part_steps part.now }
 {
-    put_word(out, "part")?;
-    put_index(out, part.edge)?;
-    put_hom(out, &part.first, steps)?;
-    put_hom(out, &part.last, steps)?;
-    put_line_end(out)
+    let mut front = Ending::new();
+    front.put_hom(&part.first, steps);
+    front.put_index(part.edge);
+    front.put_word("part");
+    front.append_to(out)?;
+    let mut line = Ending::new();
+    line.put_word("\n");
+    line.put_hom(&part.last, steps);
+    line.append_to(out)
 }
 
 // Appends the line of a corner. It takes 64 steps.
@@ -207,9 +229,11 @@ pub(crate) fn put_corner<L: Ledger>(
     ensures front { OnErr result (take (length out.old.items) out.new.items ≡ out.old.items) }
     ensures steps { steps.new ≤ steps.old + corner_steps corner.now }
 {
-    put_word(out, "corner")?;
-    put_hom(out, corner, steps)?;
-    put_line_end(out)
+    let mut line = Ending::new();
+    line.put_word("\n");
+    line.put_hom(corner, steps);
+    line.put_word("corner");
+    line.append_to(out)
 }
 
 // Appends the line of a side. It takes at most 64 steps for each point of its path.
@@ -222,9 +246,11 @@ pub(crate) fn put_side<L: Ledger>(
     ensures front { OnErr result (take (length out.old.items) out.new.items ≡ out.old.items) }
     ensures steps { steps.new ≤ steps.old + side_steps side.now }
 {
-    put_word(out, "side")?;
-    put_index(out, side.start)?;
-    put_index(out, side.end)?;
+    let mut front = Ending::new();
+    front.put_index(side.end);
+    front.put_index(side.start);
+    front.put_word("side");
+    front.append_to(out)?;
     put_points(out, side.path.as_slice(), steps)
 }
 
@@ -246,8 +272,10 @@ fn put_sight(out: &mut Vec<u8>, pair: (u32, u32)) -> Result<(), Memory>
     ensures ok { OnOk result (out.new.items ≡ out.old.items ++ sight_text pair) }
     ensures front { OnErr result (take (length out.old.items) out.new.items ≡ out.old.items) }
 {
-    put_word(out, "sight")?;
-    put_index(out, pair.0)?;
-    put_index(out, pair.1)?;
-    put_line_end(out)
+    let mut line = Ending::new();
+    line.put_word("\n");
+    line.put_index(pair.1);
+    line.put_index(pair.0);
+    line.put_word("sight");
+    line.append_to(out)
 }

@@ -1,5 +1,6 @@
 mod CappedNumber
 mod Commands
+mod DigitCounts
 mod Faults
 mod FieldAt
 mod Fuel

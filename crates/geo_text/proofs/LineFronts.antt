@@ -4,12 +4,7 @@ use Rattle.std.specs.Prelude.{OnErr}
 use Rattle.std.proofs.Math.Seq.{take-append_seam}
 use Rattle.std.proofs.lemmas.List.{length-append, take-append-drop, take-append-le}
 
--- where the fault left the text as it was after something was appended
-pub front_same : {T E : Type 0} (r : Result T E) (old more mid out : List ℕ) → mid ≡ old ++ more → out ≡ mid → OnErr r (take (length old) out ≡ old)
-front_same (Ok x) old more mid out appended same = tt
-front_same (Err e) old more mid out appended same = ap (take (length old)) (same ∙ appended) ∙ take-append_seam old more
-
--- where it left the front of that text
+-- where a fault left the front of a text to which something was appended
 pub front_of : (old more mid out : List ℕ) → mid ≡ old ++ more → take (length mid) out ≡ mid → take (length old) out ≡ old
 front_of old more mid out appended front =
     let rest = drop (length mid) out in

@@ -3,6 +3,7 @@
 
 mod command;
 mod coordinates;
+mod ending;
 mod fields;
 mod laws;
 mod limits;
@@ -16,10 +17,11 @@ mod version;
 mod word;
 
 pub use command::{Bad, Command};
+pub use ending::{Ending, ROOM};
 pub use laws::one_reading;
 pub use limits::Limits;
 pub use points::Points;
-pub use put::{put_bad, put_hom, put_index, put_line_end, put_pt, put_wide, put_word};
+pub use put::{put_bad, put_hom, put_index, put_line_end, put_pt, put_word};
 pub use reading::command_in_numbers;
 pub use script::Script;
 pub use takes::Takes;

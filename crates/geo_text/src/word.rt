@@ -1,6 +1,6 @@
 // The words of records.
 ghost use Rattle.std.specs.List.{All};
-ghost use Rattle.std.specs.Prelude.{◌≡◌, ◌≢◌, IfOk, IfSome, Some, length};
+ghost use Rattle.std.specs.Prelude.{◌≡◌, ◌≢◌, ◌≤◌, IfOk, IfSome, Some, length};
 ghost use Rattle.plane.specs.Point.{IsInLimit};
 ghost use Rattle.geo_text.specs.Reading.{command_with};
 ghost use Rattle.geo_text.specs.Words.{IsCountOf, takes_of, text_of, word_named, word_of};
@@ -83,6 +83,7 @@ impl Word {
     pub fn text(self) -> &'static str
         ensures text { result.now ≡ text_of self }
         ensures named { self ≢ Word.Two → word_named result.now ≡ Some self }
+        ensures short { length result.now ≤ 16 }
     {
         match self {
             Word::Polygon => "polygon",
