@@ -1,5 +1,5 @@
 // One cut of a piece.
-ghost use Rattle.std.specs.Prelude.{◌≡◌, ◌+◌, ◌*◌, ◌<◌, ◌≤◌, IfOk, IfSome, length};
+ghost use Rattle.std.specs.Prelude.{◌≡◌, ◌+◌, ◌*◌, ◌<◌, ◌≤◌, IfOk, IfSome, OnOk, length};
 ghost use Rattle.cut_tri.specs.Clusters.{AreClusters};
 ghost use Rattle.cut_tri.specs.Cutting.{IsCutOf};
 ghost use Rattle.cut_tri.specs.Ordered.{AreLexicalRanks, AreOrdered, EndsWithVertex, IsFarthestNumber, IsLeastPlace};
@@ -33,7 +33,7 @@ pub(crate) enum Remains {
 pub(crate) fn cut<L: Ledger>(
     alloc: Global,
     ring: &Ring,
-    piece: Piece,
+    mut piece: Piece,
     ranks: &[u32],
     clusters: &mut Option<Clusters>,
     steps: &mut Steps<L>,
@@ -47,25 +47,26 @@ pub(crate) fn cut<L: Ledger>(
     ensures triangle { length piece.boundary ≡ 3 → steps.new ≡ steps.old }
     ensures steps { steps.new ≤ steps.old + (515 * length piece.boundary + 371 * length ring.now.corners + 910) }
 {
-    let mut piece = cleaned(alloc, ring, piece)?;
+    clean(alloc, ring, &mut piece)?;
     let least = least_place(ring, &piece);
     piece.boundary.turn(least)?;
     cut_at_first(alloc, ring, piece, ranks, clusters, steps)
 }
 
-// The piece without the numbers of no vertices at the end of its order, and without all where they are more than a quarter.
-fn cleaned(alloc: Global, ring: &Ring, mut piece: Piece) -> Result<Piece, Memory>
-    requires { IsPieceInOrder ring.now.corners piece }
-    ensures boundary { IfOk result (λ cleaned. cleaned.boundary ≡ piece.boundary) }
-    ensures ordered { IfOk result (IsPieceInOrder ring.now.corners) }
-    ensures last { IfOk result (EndsWithVertex ring.now.corners) }
+// Takes the numbers of no vertices at the end of a piece's order away, and all where they are more than a quarter.
+#[inline]
+fn clean(alloc: Global, ring: &Ring, piece: &mut Piece) -> Result<(), Memory>
+    requires { IsPieceInOrder ring.now.corners piece.old }
+    ensures boundary { piece.new.boundary ≡ piece.old.boundary }
+    ensures ordered { OnOk result (IsPieceInOrder ring.now.corners piece.new) }
+    ensures last { OnOk result (EndsWithVertex ring.now.corners piece.new) }
 {
     let size = piece.boundary.len();
-    if size + size / 4 < piece.order.len() {
+    if size.saturating_add(size / 4) < piece.order.len() {
         piece.order = vertices_of(alloc, &piece.order, ring.len())?;
     }
     drop_others(&mut piece.order, ring.len());
-    Ok(piece)
+    Ok(())
 }
 
 // The place of the lexicographically least vertex, which is the last of the order.
@@ -99,7 +100,7 @@ fn cut_at_first<L: Ledger>(
     if piece.boundary.len() == 3 {
         return Ok(Remains::Triangle(tri));
     }
-    match farthest(alloc, ring, &piece, clusters, steps) {
+    match farthest(alloc, ring, &piece, tri, clusters, steps) {
         None => {
             piece.boundary.drop_first();
             let _ = piece.order.pop();
@@ -113,7 +114,8 @@ fn cut_at_first<L: Ledger>(
 }
 
 // The triangle at the first vertex.
-pub(crate) fn corner_of(boundary: &Boundary) -> Tri
+#[inline]
+fn corner_of(boundary: &Boundary) -> Tri
     requires { 2 ≤ length boundary.now }
     ensures { result ≡ tri_at_first boundary.now }
 {
@@ -139,7 +141,7 @@ fn parts(
     ensures parts { IfOk result (λ parts. IsCutOf ring.now.corners piece.boundary (Remains.Parts parts.0 parts.1)) }
     ensures ordered { IfOk result (λ parts. AreOrdered ring.now.corners (Remains.Parts parts.0 parts.1)) }
 {
-    let place = piece.boundary.place_of(number);
+    let place = piece.boundary.inner_place(number);
     let count = piece.boundary.len();
     if place < count - place {
         take_out(&mut piece.order, &piece.boundary, 1, place, ranks);

@@ -8,12 +8,11 @@ ghost use Rattle.cut_tri.specs.Clusters.{AreClusters, IsBounded};
 ghost use Rattle.cut_tri.specs.Cut.{IsPlaceInCorner};
 ghost use Rattle.cut_tri.specs.Corner.{IsBest, IsCandidate, IsCornerAt, IsFarther, IsFartherOf, IsMeasured, best_height};
 ghost use Rattle.cut_tri.specs.Ordered.{IsFarthestNumber, IsOrderedFromLeast};
-ghost use Rattle.cut_tri.specs.Piece.{IsPiece};
+ghost use Rattle.cut_tri.specs.Piece.{tri_at_first};
 
 use crate::clusters::Clusters;
-use crate::cut::corner_of;
 use crate::measure::{doubled_area, is_less_share, way};
-use crate::piece::{Boundary, Piece};
+use crate::piece::Piece;
 use crate::triangle::Triangle;
 use exact_plane::{BoundingBox, Pt, Steps, in_triangle, order};
 use meshes::Tri;
@@ -53,24 +52,26 @@ impl Candidate {
     }
 }
 
-// The vertex in the closed triangle of the first vertex and the two beside it that is farthest from the line through those
+// The vertex in the closed triangle of the first vertex and the two beside it, `tri`, that is farthest from the line through those
 // two, and none of the three; of several the one with the least number. It takes at most 515 steps for each vertex of the piece,
 // 371 for each of the ring, and 910.
 pub(crate) fn farthest<L: Ledger>(
     alloc: Global,
     ring: &Ring,
     piece: &Piece,
+    tri: Tri,
     clusters: &mut Option<Clusters>,
     steps: &mut Steps<L>,
 ) -> Option<u32>
     requires ordered { IsOrderedFromLeast ring.now.corners piece.now }
+    requires tri { tri ≡ tri_at_first piece.now.boundary }
     requires clusters { IfSome clusters.old (AreClusters ring.now.corners) }
     ensures clusters { IfSome clusters.new (AreClusters ring.now.corners) }
     ensures farthest { IfSome result (IsFarthestNumber ring.now.corners piece.now.boundary) }
     ensures none { IfNone result ((k : ℕ) → ¬ (IsPlaceInCorner ring.now.corners piece.now.boundary k)) }
     ensures steps { steps.new ≤ steps.old + (515 * length piece.now.boundary + 371 * length ring.now.corners + 910) }
 {
-    let corner = Corner::of(ring, &piece.boundary, steps);
+    let corner = Corner::of(ring, tri, steps);
     Some(best_in(alloc, &corner, ring, piece, clusters, steps)?.number)
 }
 
@@ -165,14 +166,18 @@ fn farther(best: Option<Candidate>, candidate: Candidate) -> Candidate
 }
 
 impl Corner {
-    // The triangle at the first vertex of this boundary. It takes 257 steps.
-    fn of<L: Ledger>(ring: &Ring, boundary: &Boundary, steps: &mut Steps<L>) -> Corner
-        requires { IsPiece ring.now.corners boundary.now }
-        ensures corner { IsCornerAt ring.now.corners boundary.now result }
+    // The triangle with these corners. It takes 257 steps.
+    fn of<L: Ledger>(ring: &Ring, tri: Tri, steps: &mut Steps<L>) -> Corner
+        requires first { tri.a < length ring.now.corners }
+        requires second { tri.b < length ring.now.corners }
+        requires third { tri.c < length ring.now.corners }
+        ensures tri { result.tri ≡ tri }
+        ensures u { result.u ≡ vertex ring.now.corners tri.a }
+        ensures v { result.v ≡ vertex ring.now.corners tri.b }
+        ensures w { result.w ≡ vertex ring.now.corners tri.c }
         ensures measured { IsMeasured result }
         ensures steps { steps.new ≡ steps.old + 257 }
     {
-        let tri = corner_of(boundary);
         let (u, v, w) = (ring.corner(tri.a), ring.corner(tri.b), ring.corner(tri.c));
         let end = later(&u, &w, steps);
         let height = doubled_area(&u, &v, &w, steps);
@@ -302,9 +307,9 @@ impl Corner {
         ensures few { IfNone result (steps.new ≤ steps.old + 3) }
         ensures steps { steps.new ≤ steps.old + 259 }
     {
-        if !in_triangle(&self.u, &self.v, &self.w, p, steps)
-            || number == self.tri.a
+        if number == self.tri.a
             || number == self.tri.c
+            || !in_triangle(&self.u, &self.v, &self.w, p, steps)
         {
             return None;
         }

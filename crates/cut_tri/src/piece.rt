@@ -54,11 +54,14 @@ impl Boundary {
             mut first,
             mut second,
         } = self;
-        first.append(&mut second)?;
+        if !second.is_empty() {
+            first.append(&mut second)?;
+        }
         Ok(first)
     }
 
     // How many vertices there are.
+    #[inline]
     pub(crate) fn len(&self) -> usize
         ensures { result ≡ length self.now }
     {
@@ -66,6 +69,7 @@ impl Boundary {
     }
 
     // The number of the vertex at a place.
+    #[inline]
     pub(crate) fn at(&self, place: usize) -> u32
         requires { place < length self.now }
         ensures { result ≡ slice_index_or self.now place 0 }
@@ -131,10 +135,27 @@ impl Boundary {
         Ok((Boundary::of(alloc, first), Boundary::of(alloc, second)))
     }
 
-    // The place of a number, most often at an end of an arc. Numbers rise along a boundary, but where it comes round to those that
-    // are less than its first, so the place is found by halves. That they rise is not proved: where it is not found so, all are
-    // looked at.
+    // The place of a number, most often at an end.
+    #[inline]
     pub(crate) fn place_of(&self, number: u32) -> usize
+        requires { Contains self.now number }
+        ensures place { result < length self.now }
+        ensures is { slice_index_or self.now result 0 ≡ number }
+    {
+        if self.at(0) == number {
+            return 0;
+        }
+        let last = self.len() - 1;
+        if self.at(last) == number {
+            return last;
+        }
+        self.inner_place(number)
+    }
+
+    // The place of a number anywhere. Numbers rise along a boundary, but where it comes round to those that are less than its first,
+    // so the place is found by halves, if it is not where the arcs meet. That they rise is not proved: where it is not found so, all
+    // are looked at.
+    pub(crate) fn inner_place(&self, number: u32) -> usize
         requires { Contains self.now number }
         ensures place { result < length self.now }
         ensures is { slice_index_or self.now result 0 ≡ number }
@@ -152,22 +173,16 @@ impl Boundary {
         last
     }
 
-    // The place where a number is if it is at an end of an arc, or numbers rise.
+    // The place where a number is if it is where the arcs meet, or numbers rise.
     fn likely_place(&self, number: u32) -> usize
         requires { 0 < length self.now }
         ensures { result < length self.now }
     {
-        let (before, last) = (self.first.len(), self.len() - 1);
-        if self.at(0) == number {
-            return 0;
-        }
-        if self.at(last) == number {
-            return last;
-        }
-        if before <= last && self.at(before) == number {
+        let before = self.first.len();
+        if before < self.len() && self.at(before) == number {
             return before;
         }
-        if 0 < before && self.at(before - 1) == number {
+        if before < self.len() && 0 < before && self.at(before - 1) == number {
             return before - 1;
         }
         self.risen_place(number)

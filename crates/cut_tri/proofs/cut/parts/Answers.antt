@@ -6,8 +6,8 @@ use Rattle.cut_tri.proofs.cut.parts.Goals as goal
 pub take_out-requires-clause-range : goal.take_out-requires-clause-range
 take_out-requires-clause-range c =
     let corners = c.args.ring.now.corners in
-    let inner = place_inner corners c.args.piece c.requires.ordered c.args.number c.requires.farthest c.place_of-place.result c.place_of-place.ensures.place
-    c.place_of-place.ensures.is in
+    let inner = place_inner corners c.args.piece c.requires.ordered c.args.number c.requires.farthest c.inner_place-place.result c.inner_place-place.ensures.place
+    c.inner_place-place.ensures.is in
     (omega (arith, inner.0), omega (arith, inner.1))
 
 pub take_out-requires-clause-numbers : goal.take_out-requires-clause-numbers
@@ -34,8 +34,8 @@ take_out-requires-clause-once c =
 pub order_of-requires-clause-numbers : goal.order_of-requires-clause-numbers
 order_of-requires-clause-numbers c =
     let corners = c.args.ring.now.corners in
-    let are = are_parts corners c.args.piece c.requires.ordered c.args.number c.requires.farthest c.place_of-place.result c.place_of-place.ensures.place
-    c.place_of-place.ensures.is c.in_ok-first.first c.in_ok-first.second c.in_ok-first.ensures.first c.in_ok-first.ensures.second in
+    let are = are_parts corners c.args.piece c.requires.ordered c.args.number c.requires.farthest c.inner_place-place.result c.inner_place-place.ensures.place
+    c.inner_place-place.ensures.is c.in_ok-first.first c.in_ok-first.second c.in_ok-first.ensures.first c.in_ok-first.ensures.second in
     numbers_below corners c.in_ok-first.first are.first_is_piece (length c.args.ranks.now) c.requires.ranks.size
 
 pub order_of-requires-clause-few : goal.order_of-requires-clause-few
@@ -45,17 +45,17 @@ order_of-requires-clause-few c =
 pub returns-then-place-count-clause-parts : goal.returns-then-place-count-clause-parts
 returns-then-place-count-clause-parts c =
     let corners = c.args.ring.now.corners in
-    are_parts corners c.args.piece c.requires.ordered c.args.number c.requires.farthest c.place_of-place.result c.place_of-place.ensures.place
-    c.place_of-place.ensures.is c.in_ok-first.first c.in_ok-first.second c.in_ok-first.ensures.first c.in_ok-first.ensures.second
+    are_parts corners c.args.piece c.requires.ordered c.args.number c.requires.farthest c.inner_place-place.result c.inner_place-place.ensures.place
+    c.inner_place-place.ensures.is c.in_ok-first.first c.in_ok-first.second c.in_ok-first.ensures.first c.in_ok-first.ensures.second
 
 pub returns-then-place-count-clause-ordered : goal.returns-then-place-count-clause-ordered
 returns-then-place-count-clause-ordered c =
     let corners = c.args.ring.now.corners in
-    let are = are_parts corners c.args.piece c.requires.ordered c.args.number c.requires.farthest c.place_of-place.result c.place_of-place.ensures.place
-    c.place_of-place.ensures.is c.in_ok-first.first c.in_ok-first.second c.in_ok-first.ensures.first c.in_ok-first.ensures.second in (
+    let are = are_parts corners c.args.piece c.requires.ordered c.args.number c.requires.farthest c.inner_place-place.result c.inner_place-place.ensures.place
+    c.inner_place-place.ensures.is c.in_ok-first.first c.in_ok-first.second c.in_ok-first.ensures.first c.in_ok-first.ensures.second in (
       own_ordered corners c.in_ok-first.first are.first_is_piece c.args.ranks.now c.in_ok-order.order.items c.requires.ranks c.in_ok-order.ensures.all c.in_ok-order.ensures.falls,
-      second_ordered corners c.args.piece c.requires.ordered c.args.number c.requires.farthest c.place_of-place.result c.place_of-place.ensures.place
-          c.place_of-place.ensures.is c.in_ok-first.first c.in_ok-first.second c.in_ok-first.ensures.first c.in_ok-first.ensures.second (length c.args.ranks.now) c.requires.ranks.size c.take_out.new.order.items c.take_out.ensures,
+      second_ordered corners c.args.piece c.requires.ordered c.args.number c.requires.farthest c.inner_place-place.result c.inner_place-place.ensures.place
+          c.inner_place-place.ensures.is c.in_ok-first.first c.in_ok-first.second c.in_ok-first.ensures.first c.in_ok-first.ensures.second (length c.args.ranks.now) c.requires.ranks.size c.take_out.new.order.items c.take_out.ensures,
     )
 
 pub take_out-requires-2-clause-numbers : goal.take_out-requires-2-clause-numbers
@@ -82,8 +82,8 @@ take_out-requires-2-clause-once c =
 pub order_of-requires-2-clause-numbers : goal.order_of-requires-2-clause-numbers
 order_of-requires-2-clause-numbers c =
     let corners = c.args.ring.now.corners in
-    let are = are_parts corners c.args.piece c.requires.ordered c.args.number c.requires.farthest c.place_of-place.result c.place_of-place.ensures.place
-    c.place_of-place.ensures.is c.in_ok-first-2.first c.in_ok-first-2.second c.in_ok-first-2.ensures.first c.in_ok-first-2.ensures.second in
+    let are = are_parts corners c.args.piece c.requires.ordered c.args.number c.requires.farthest c.inner_place-place.result c.inner_place-place.ensures.place
+    c.inner_place-place.ensures.is c.in_ok-first-2.first c.in_ok-first-2.second c.in_ok-first-2.ensures.first c.in_ok-first-2.ensures.second in
     numbers_below corners c.in_ok-first-2.second are.second_is_piece (length c.args.ranks.now) c.requires.ranks.size
 
 pub order_of-requires-2-clause-few : goal.order_of-requires-2-clause-few
@@ -93,18 +93,18 @@ order_of-requires-2-clause-few c =
 pub returns-clause-parts : goal.returns-clause-parts
 returns-clause-parts c =
     let corners = c.args.ring.now.corners in
-    are_parts corners c.args.piece c.requires.ordered c.args.number c.requires.farthest c.place_of-place.result c.place_of-place.ensures.place
-    c.place_of-place.ensures.is c.in_ok-first-2.first c.in_ok-first-2.second c.in_ok-first-2.ensures.first c.in_ok-first-2.ensures.second
+    are_parts corners c.args.piece c.requires.ordered c.args.number c.requires.farthest c.inner_place-place.result c.inner_place-place.ensures.place
+    c.inner_place-place.ensures.is c.in_ok-first-2.first c.in_ok-first-2.second c.in_ok-first-2.ensures.first c.in_ok-first-2.ensures.second
 
 pub returns-clause-ordered : goal.returns-clause-ordered
 returns-clause-ordered c =
     let corners = c.args.ring.now.corners in
     let xs = c.args.piece.boundary in
     let os = c.args.piece.order.items in
-    let are = are_parts corners c.args.piece c.requires.ordered c.args.number c.requires.farthest c.place_of-place.result c.place_of-place.ensures.place
-    c.place_of-place.ensures.is c.in_ok-first-2.first c.in_ok-first-2.second c.in_ok-first-2.ensures.first c.in_ok-first-2.ensures.second in
-    let thin = subst (λ to. IsThinned (length c.args.ranks.now) xs (c.place_of-place.result + 1) to os c.take_out-2.new.order.items) c.len-count.ensures c.take_out-2.ensures in (
-      first_ordered corners c.args.piece c.requires.ordered c.args.number c.requires.farthest c.place_of-place.result c.place_of-place.ensures.place
-          c.place_of-place.ensures.is c.in_ok-first-2.first c.in_ok-first-2.second c.in_ok-first-2.ensures.first c.in_ok-first-2.ensures.second (length c.args.ranks.now) c.requires.ranks.size c.take_out-2.new.order.items thin,
+    let are = are_parts corners c.args.piece c.requires.ordered c.args.number c.requires.farthest c.inner_place-place.result c.inner_place-place.ensures.place
+    c.inner_place-place.ensures.is c.in_ok-first-2.first c.in_ok-first-2.second c.in_ok-first-2.ensures.first c.in_ok-first-2.ensures.second in
+    let thin = subst (λ to. IsThinned (length c.args.ranks.now) xs (c.inner_place-place.result + 1) to os c.take_out-2.new.order.items) c.len-count.ensures c.take_out-2.ensures in (
+      first_ordered corners c.args.piece c.requires.ordered c.args.number c.requires.farthest c.inner_place-place.result c.inner_place-place.ensures.place
+          c.inner_place-place.ensures.is c.in_ok-first-2.first c.in_ok-first-2.second c.in_ok-first-2.ensures.first c.in_ok-first-2.ensures.second (length c.args.ranks.now) c.requires.ranks.size c.take_out-2.new.order.items thin,
       own_ordered corners c.in_ok-first-2.second are.second_is_piece c.args.ranks.now c.in_ok-order-2.order.items c.requires.ranks c.in_ok-order-2.ensures.all c.in_ok-order-2.ensures.falls,
     )
