@@ -3,6 +3,7 @@ mod Below
 pub mod Bounds
 mod EdgeEnds
 mod EdgeRuns
+mod GapMoves
 mod Halves
 mod Orders
 pub mod Oriented

@@ -1,8 +1,9 @@
 -- The numbers of edges in a list after one is put in, or takes the place of another.
-use Rattle.std.proofs.Common.{◌≡◌, ◌∙◌, sym, ap, ℕ, ◌+◌, ◌<◌, List, ◌∷◌, get_or, length, set, take, drop, arith}
+use Rattle.std.proofs.Common.{◌≡◌, ap, ℕ, ◌+◌, ◌<◌, List, ◌∷◌, length, set, take, drop, arith}
 use Rattle.std.proofs.lemmas.List.Elements.{All-append, All-cons, All-drop, All-set, All-take}
 use Rattle.std.proofs.lemmas.List.Sums.{sum_by-insert, sum_by-set}
 use Rattle.std.specs.List.{All, insert}
+use Rattle.std.specs.Prelude.{slice_index}
 use Rattle.rings.specs.Status.{one, times}
 
 -- the items are below a number
@@ -25,5 +26,5 @@ module _ {n m : ℕ} (size : n ≡ m) (xs : List ℕ) (edges : AreBelow n xs) wh
 pub times_inserted : (xs : List ℕ) (i e x : ℕ) → times x (insert xs i e) ≡ times x xs + one x e
 times_inserted xs i e x = sum_by-insert (one x) xs i e
 
-pub times_replaced : (xs : List ℕ) (i e f d x : ℕ) → i < length xs → d ≡ get_or xs i d → d ≡ e → times x (set xs i f) + one x e ≡ times x xs + one x f
-times_replaced xs i e f d x within at is = omega (arith, sum_by-set (one x) xs i f d within, ap (one x) (sym at ∙ is))
+pub times_replaced : (xs : List ℕ) (i e f x : ℕ) → i < length xs → slice_index xs i ≡ e → times x (set xs i f) + one x e ≡ times x xs + one x f
+times_replaced xs i e f x within is = omega (arith, sum_by-set (one x) xs i f 0 within, ap (one x) is)

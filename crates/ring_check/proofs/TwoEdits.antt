@@ -97,7 +97,7 @@ module _ (ring : List Point) (ranks xs : List ℕ) (i : ℕ) (stacked : IsStacke
     size_more : length (insert xs i f) ≡ length xs + 1
     size_more = length-insert xs i f at
 
-    size_new : length new ≡ length xs + 2
+    pub size_new : length new ≡ length xs + 2
     size_new = omega (arith, size_more, length-insert (insert xs i f) i e (omega (arith, size_more, at)))
 
     below_new : (k d : ℕ) → k < i → get_or new k d ≡ get_or xs k d

@@ -5,6 +5,7 @@ mod boxes;
 mod clash;
 mod cover;
 mod events;
+mod gap_list;
 mod laws;
 mod order;
 mod orientation;

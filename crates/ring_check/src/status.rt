@@ -1,5 +1,5 @@
 // The status of a sweep: the edges that the sweep line meets, each below the next.
-ghost use Rattle.std.specs.List.{All, insert, remove};
+ghost use Rattle.std.specs.List.{All, remove};
 ghost use Rattle.std.specs.Prelude.{◌≡◌, ◌+◌, ◌-◌, ◌*◌, ◌<◌, ◌≤◌, ◌^◌, IsTrue, ℕ, length, slice_index};
 ghost use Rattle.plane.specs.Point.{whole};
 ghost use Rattle.rings.specs.Below.{EndsBelow, StartsBelow};
@@ -11,26 +11,26 @@ ghost use Rattle.ring_check.specs.Ends.{AreVertices, edge_between};
 
 use crate::clash::corner;
 use crate::events::Events;
+use crate::gap_list::GapList;
 use exact_plane::{Direction, Pt, Steps, turn};
-use std::collections::VecDeque;
 use std::sync::ledger::Ledger;
 
 // Removes edges `u` and `v`, which end at vertex `v`, the first of them from vertex `u`. It answers false where they are not found
 // or those beside them do not fit; nothing is known then. It takes at most 2 d + 4 steps, where there are fewer than 2 to the power d.
 pub(crate) fn remove_both<L: Ledger>(
     events: &Events,
-    status: &mut VecDeque<u16>,
+    status: &mut GapList,
     u: u32,
     v: u32,
     steps: &mut Steps<L>,
 ) -> bool
-    requires stacked { IsStacked events.now.points.now events.now.ranks.now status.old.items }
+    requires stacked { IsStacked events.now.points.now events.now.ranks.now status.old }
     requires u { u < length events.now.points.now }
     requires v { v < length events.now.points.now }
-    ensures stacked { IsTrue result → IsStacked events.now.points.now events.now.ranks.now status.new.items }
-    ensures times { IsTrue result → (x : ℕ) → times x status.new.items + one x u + one x v ≡ times x status.old.items }
-    ensures length { IsTrue result → length status.new.items ≤ length status.old.items }
-    ensures steps { (d : ℕ) → length status.old.items < 2 ^ d → steps.new ≤ steps.old + (2 * d + 4) }
+    ensures stacked { IsTrue result → IsStacked events.now.points.now events.now.ranks.now status.new }
+    ensures times { IsTrue result → (x : ℕ) → times x status.new + one x u + one x v ≡ times x status.old }
+    ensures length { IsTrue result → length status.new ≤ length status.old }
+    ensures steps { (d : ℕ) → length status.old < 2 ^ d → steps.new ≤ steps.old + (2 * d + 4) }
 {
     let place = place_of(events, status, v, u, steps);
     if are_at(status, place, u, v) {
@@ -40,67 +40,58 @@ pub(crate) fn remove_both<L: Ledger>(
 }
 
 // Whether edge `e` is at a place and edge `f` at the next.
-fn are_at(status: &VecDeque<u16>, place: usize, e: u32, f: u32) -> bool
-    requires { place ≤ length status.now.items }
-    ensures inside { IsTrue result → place + 1 < length status.now.items }
-    ensures first { IsTrue result → slice_index status.now.items place ≡ e }
-    ensures second { IsTrue result → slice_index status.now.items (place + 1) ≡ f }
+fn are_at(status: &GapList, place: usize, e: u32, f: u32) -> bool
+    requires { place ≤ length status.now }
+    ensures inside { IsTrue result → place + 1 < length status.now }
+    ensures first { IsTrue result → slice_index status.now place ≡ e }
+    ensures second { IsTrue result → slice_index status.now (place + 1) ≡ f }
 {
-    status.len() - place > 1 && status[place] as u32 == e && status[place + 1] as u32 == f
+    status.len() - place > 1 && status.at(place) == e && status.at(place + 1) == f
 }
 
 // Removes the edges at a place and at the next. It answers false where those beside them do not fit; nothing is known then. It takes at
 // most 2 steps.
 fn remove_two<L: Ledger>(
     events: &Events,
-    status: &mut VecDeque<u16>,
+    status: &mut GapList,
     place: usize,
     steps: &mut Steps<L>,
 ) -> bool
-    requires stacked { IsStacked events.now.points.now events.now.ranks.now status.old.items }
-    requires place { place + 1 < length status.old.items }
-    ensures stacked { IsTrue result → IsStacked events.now.points.now events.now.ranks.now status.new.items }
-    ensures items { status.new.items ≡ remove (remove status.old.items place) place }
+    requires stacked { IsStacked events.now.points.now events.now.ranks.now status.old }
+    requires place { place + 1 < length status.old }
+    ensures stacked { IsTrue result → IsStacked events.now.points.now events.now.ranks.now status.new }
+    ensures items { status.new ≡ remove (remove status.old place) place }
     ensures steps { steps.new ≤ steps.old + 2 }
 {
-    take_two(status, place);
+    status.remove_two(place);
     fits(events, status, place, steps)
-}
-
-// Removes the items at a place and at the next.
-fn take_two(status: &mut VecDeque<u16>, place: usize)
-    requires { place + 1 < length status.old.items }
-    ensures { status.new.items ≡ remove (remove status.old.items place) place }
-{
-    let _ = status.remove(place);
-    let _ = status.remove(place);
 }
 
 // Puts edge `f`, which begins at vertex `v`, in the place of edge `e`, which goes from `w` to `v`. It takes at most 2 d + 4 steps, where
 // there are fewer edges than 2 to the power d.
 pub(crate) fn replace<L: Ledger>(
     events: &Events,
-    status: &mut VecDeque<u16>,
+    status: &mut GapList,
     e: u32,
     f: u32,
     v: u32,
     w: u32,
     steps: &mut Steps<L>,
 ) -> bool
-    requires stacked { IsStacked events.now.points.now events.now.ranks.now status.old.items }
+    requires stacked { IsStacked events.now.points.now events.now.ranks.now status.old }
     requires f { f < length events.now.points.now }
     requires v { v < length events.now.points.now }
     requires w { w < length events.now.points.now }
-    ensures stacked { IsTrue result → IsStacked events.now.points.now events.now.ranks.now status.new.items }
-    ensures times { IsTrue result → (x : ℕ) → times x status.new.items + one x e ≡ times x status.old.items + one x f }
-    ensures length { length status.new.items ≤ length status.old.items }
-    ensures steps { (d : ℕ) → length status.old.items < 2 ^ d → steps.new ≤ steps.old + (2 * d + 4) }
+    ensures stacked { IsTrue result → IsStacked events.now.points.now events.now.ranks.now status.new }
+    ensures times { IsTrue result → (x : ℕ) → times x status.new + one x e ≡ times x status.old + one x f }
+    ensures length { length status.new ≤ length status.old }
+    ensures steps { (d : ℕ) → length status.old < 2 ^ d → steps.new ≤ steps.old + (2 * d + 4) }
 {
     let place = place_of(events, status, v, w, steps);
-    if place == status.len() || status[place] as u32 != e {
+    if place == status.len() || status.at(place) != e {
         return false;
     }
-    status[place] = f as u16;
+    status.set(place, f as u16);
     fits(events, status, place, steps) && fits(events, status, place + 1, steps)
 }
 
@@ -108,20 +99,20 @@ pub(crate) fn replace<L: Ledger>(
 // not fit or memory is refused; nothing is known then. It takes at most 2 d + 10 steps, where there are fewer than 2 to the power d.
 pub(crate) fn insert_both<L: Ledger>(
     events: &Events,
-    status: &mut VecDeque<u16>,
+    status: &mut GapList,
     u: u32,
     v: u32,
     w: u32,
     steps: &mut Steps<L>,
 ) -> bool
-    requires stacked { IsStacked events.now.points.now events.now.ranks.now status.old.items }
+    requires stacked { IsStacked events.now.points.now events.now.ranks.now status.old }
     requires u { u < length events.now.points.now }
     requires v { v < length events.now.points.now }
     requires w { w < length events.now.points.now }
-    ensures stacked { IsTrue result → IsStacked events.now.points.now events.now.ranks.now status.new.items }
-    ensures times { IsTrue result → (x : ℕ) → times x status.new.items ≡ times x status.old.items + one x u + one x v }
-    ensures length { IsTrue result → length status.new.items ≤ length status.old.items + 2 }
-    ensures steps { (d : ℕ) → length status.old.items < 2 ^ d → steps.new ≤ steps.old + (2 * d + 10) }
+    ensures stacked { IsTrue result → IsStacked events.now.points.now events.now.ranks.now status.new }
+    ensures times { IsTrue result → (x : ℕ) → times x status.new ≡ times x status.old + one x u + one x v }
+    ensures length { IsTrue result → length status.new ≤ length status.old + 2 }
+    ensures steps { (d : ℕ) → length status.old < 2 ^ d → steps.new ≤ steps.old + (2 * d + 10) }
 {
     let place = place_of(events, status, v, u, steps);
     if goes_below(events, u, v, w, steps) {
@@ -135,22 +126,22 @@ pub(crate) fn insert_both<L: Ledger>(
 // nothing is known then. It takes at most 6 steps.
 fn insert_two<L: Ledger>(
     events: &Events,
-    status: &mut VecDeque<u16>,
+    status: &mut GapList,
     place: usize,
     e: u32,
     f: u32,
     steps: &mut Steps<L>,
 ) -> bool
-    requires stacked { IsStacked events.now.points.now events.now.ranks.now status.old.items }
-    requires place { place ≤ length status.old.items }
+    requires stacked { IsStacked events.now.points.now events.now.ranks.now status.old }
+    requires place { place ≤ length status.old }
     requires e { e < length events.now.points.now }
     requires f { f < length events.now.points.now }
-    ensures stacked { IsTrue result → IsStacked events.now.points.now events.now.ranks.now status.new.items }
-    ensures times { IsTrue result → (x : ℕ) → times x status.new.items ≡ times x status.old.items + one x e + one x f }
-    ensures length { IsTrue result → length status.new.items ≤ length status.old.items + 2 }
+    ensures stacked { IsTrue result → IsStacked events.now.points.now events.now.ranks.now status.new }
+    ensures times { IsTrue result → (x : ℕ) → times x status.new ≡ times x status.old + one x e + one x f }
+    ensures length { IsTrue result → length status.new ≤ length status.old + 2 }
     ensures steps { steps.new ≤ steps.old + 6 }
 {
-    if !put_two(status, place, e as u16, f as u16) {
+    if !status.insert_two(place, e as u16, f as u16) {
         return false;
     }
     fits(events, status, place, steps)
@@ -158,33 +149,25 @@ fn insert_two<L: Ledger>(
         && fits(events, status, place + 2, steps)
 }
 
-// Inserts two items at a place. It answers false where memory is refused; nothing is known then.
-fn put_two(status: &mut VecDeque<u16>, place: usize, first: u16, second: u16) -> bool
-    requires { place ≤ length status.old.items }
-    ensures { IsTrue result → status.new.items ≡ insert (insert status.old.items place second) place first }
-{
-    status.insert(place, second).is_ok() && status.insert(place, first).is_ok()
-}
-
 // The place for the edge between vertices `v` and `w`, which begins or ends at `v`, by binary search. Only a place is
 // promised: what is found there is tested. It takes at most 2 d steps, where there are fewer edges than 2 to the power d.
 fn place_of<L: Ledger>(
     events: &Events,
-    status: &VecDeque<u16>,
+    status: &GapList,
     v: u32,
     w: u32,
     steps: &mut Steps<L>,
 ) -> usize
-    requires edges { All (λ e. e < length events.now.points.now) status.now.items }
+    requires edges { All (λ e. e < length events.now.points.now) status.now }
     requires v { v < length events.now.points.now }
     requires w { w < length events.now.points.now }
-    ensures place { result ≤ length status.now.items }
-    ensures steps { (d : ℕ) → length status.now.items < 2 ^ d → steps.new ≤ steps.old + 2 * d }
+    ensures place { result ≤ length status.now }
+    ensures steps { (d : ℕ) → length status.now < 2 ^ d → steps.new ≤ steps.old + 2 * d }
 {
     let (mut low, mut high) = (0, status.len());
     while low < high {
         let middle = low + (high - low) / 2;
-        if goes_below(events, status[middle] as u32, v, w, steps) {
+        if goes_below(events, status.at(middle), v, w, steps) {
             low = middle + 1;
         } else {
             high = middle;
@@ -209,25 +192,15 @@ fn goes_below<L: Ledger>(events: &Events, e: u32, v: u32, w: u32, steps: &mut St
 }
 
 // Whether the edge at a place is above the one before it, where there are both. It takes at most 2 steps.
-fn fits<L: Ledger>(
-    events: &Events,
-    status: &VecDeque<u16>,
-    place: usize,
-    steps: &mut Steps<L>,
-) -> bool
-    requires { All (λ e. e < length events.now.points.now) status.now.items }
-    ensures fits { IsTrue result → FitsAt events.now.points.now events.now.ranks.now status.now.items place }
+fn fits<L: Ledger>(events: &Events, status: &GapList, place: usize, steps: &mut Steps<L>) -> bool
+    requires { All (λ e. e < length events.now.points.now) status.now }
+    ensures fits { IsTrue result → FitsAt events.now.points.now events.now.ranks.now status.now place }
     ensures steps { steps.new ≤ steps.old + 2 }
 {
     if place == 0 || place >= status.len() {
         return true;
     }
-    is_below(
-        events,
-        status[place - 1] as u32,
-        status[place] as u32,
-        steps,
-    )
+    is_below(events, status.at(place - 1), status.at(place), steps)
 }
 
 // Whether edge `e` is below edge `f`. It takes at most 2 steps.

@@ -6,12 +6,12 @@ ghost use Rattle.rings.specs.Status.{IsStatus};
 ghost use Rattle.ring_check.specs.Order.{IsInOrder};
 
 use crate::events::Events;
+use crate::gap_list::GapList;
 use crate::order::{lexical_order, ranks_of};
 use crate::status::{insert_both, next, remove_both, replace};
 use exact_plane::{Memory, Pt, Steps};
 use plane::MAX_CORNERS;
 use std::alloc::Global;
-use std::collections::VecDeque;
 use std::sync::ledger::Ledger;
 
 /// Whether a sweep has shown that no two edges of the list clash. Where it answers false, as for want of memory, nothing is
@@ -64,7 +64,7 @@ fn sweep<L: Ledger>(
     }
     let order = lexical_order(alloc, points, steps)?;
     let ranks = ranks_of(alloc, &order)?;
-    let status = VecDeque::with_capacity(alloc, points.len())?;
+    let status = GapList::with_room(alloc, points.len())?;
     if shows_simple(points, &order, &ranks, status, steps) {
         Ok(Some(order))
     } else {
@@ -78,12 +78,12 @@ fn shows_simple<L: Ledger>(
     points: &[Pt],
     order: &[u32],
     ranks: &[u32],
-    status: VecDeque<u16>,
+    status: GapList,
     steps: &mut Steps<L>,
 ) -> bool
     requires three { 3 ≤ length points.now }
     requires small { length points.now < 2 ^ 16 }
-    requires empty { length status.items ≡ 0 }
+    requires empty { length status ≡ 0 }
     ensures simple { IsTrue result → IsSimple points.now }
     ensures steps { (d : ℕ) → length points.now < 2 ^ d → steps.new ≤ steps.old + length points.now * (2 * d + 13) }
 {
@@ -95,8 +95,8 @@ fn shows_simple<L: Ledger>(
 
 // Whether the sweep passes all events, from an empty status. It takes at most 2 d + 12 steps an event, where there are fewer events than
 // 2 to the power d.
-fn passes_all<L: Ledger>(events: &Events, mut status: VecDeque<u16>, steps: &mut Steps<L>) -> bool
-    requires { length status.items ≡ 0 }
+fn passes_all<L: Ledger>(events: &Events, mut status: GapList, steps: &mut Steps<L>) -> bool
+    requires { length status ≡ 0 }
     ensures simple { IsTrue result → IsSimple events.now.points.now }
     ensures steps { (d : ℕ) → length events.now.points.now < 2 ^ d → steps.new ≤ steps.old + length events.now.points.now * (2 * d + 12) }
 {
@@ -110,17 +110,12 @@ fn passes_all<L: Ledger>(events: &Events, mut status: VecDeque<u16>, steps: &mut
 
 // Passes event `k`: the edges that end there leave the status, and those that begin there enter it. It takes at most 2 d + 10 steps,
 // where the status has fewer edges than 2 to the power d.
-fn passes<L: Ledger>(
-    events: &Events,
-    status: &mut VecDeque<u16>,
-    k: u32,
-    steps: &mut Steps<L>,
-) -> bool
+fn passes<L: Ledger>(events: &Events, status: &mut GapList, k: u32, steps: &mut Steps<L>) -> bool
     requires event { k < length events.now.points.now }
-    requires status { IsStatus events.now.points.now events.now.ranks.now k status.old.items }
-    ensures status { IsTrue result → IsStatus events.now.points.now events.now.ranks.now (k + 1) status.new.items }
-    ensures length { IsTrue result → length status.new.items ≤ length status.old.items + 2 }
-    ensures steps { (d : ℕ) → length status.old.items < 2 ^ d → steps.new ≤ steps.old + (2 * d + 10) }
+    requires status { IsStatus events.now.points.now events.now.ranks.now k status.old }
+    ensures status { IsTrue result → IsStatus events.now.points.now events.now.ranks.now (k + 1) status.new }
+    ensures length { IsTrue result → length status.new ≤ length status.old + 2 }
+    ensures steps { (d : ℕ) → length status.old < 2 ^ d → steps.new ≤ steps.old + (2 * d + 10) }
 {
     let v = events.order[k as usize];
     let (u, w) = (previous(events, v), next(events, v));

@@ -5,12 +5,12 @@ use Rattle.ring_check.proofs.status.remove_two.Goals as goal
 pub fits-requires : goal.fits-requires
 fits-requires g c =
     let e = c.args.events.now in
-    rw c.take_two.ensures
-    (edges_as e.are.all_ranks _ (edges_two_removed e.points.now e.ranks.now c.args.status.now.items c.args.place c.requires.stacked c.requires.place))
+    rw c.remove_two.ensures
+    (edges_as e.are.all_ranks _ (edges_two_removed e.points.now e.ranks.now c.args.status.now c.args.place c.requires.stacked c.requires.place))
 
 pub returns-clause-stacked : goal.returns-clause-stacked
 returns-clause-stacked g c = λ h.
     let e = c.args.events.now in
-    rw c.take_two.ensures
-    (two_removed e.points.now e.ranks.now c.args.status.now.items c.args.place c.requires.stacked c.requires.place
-    (rw c.take_two.ensures at (c.fits.ensures.fits h)))
+    rw c.remove_two.ensures
+    (two_removed e.points.now e.ranks.now c.args.status.now c.args.place c.requires.stacked c.requires.place
+    (rw c.remove_two.ensures at (c.fits.ensures.fits h)))

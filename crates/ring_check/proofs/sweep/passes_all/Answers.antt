@@ -9,7 +9,7 @@ pub loop-k-init : goal.loop-k-init
 loop-k-init g c =
     let e = c.args.events.now in
     record {
-      status = empty_status e.points.now e.ranks.now c.args.status.items c.requires;
+      status = empty_status e.points.now e.ranks.now c.args.status c.requires;
       passed = λ k below. absurd (omega (arith, below));
       few = omega (arith, c.requires);
       steps = λ d below. omega arith;
@@ -22,7 +22,7 @@ loop-k-preserved g c =
     let held = c.if-not-passes.ensures.status refl in
     record {
       status = held;
-      passed = below_more (λ (k : ℕ). (status : List ℕ) × IsStatus e.points.now e.ranks.now (k + 1) status) c.loop-k.k had.passed (c.passes.new.status.items, held);
+      passed = below_more (λ (k : ℕ). (status : List ℕ) × IsStatus e.points.now e.ranks.now (k + 1) status) c.loop-k.k had.passed (c.passes.new.status, held);
       few = omega (arith, had.few, c.if-not-passes.ensures.length refl);
       steps = λ d below.
           let twice : 2 ^ (d + 1) ≡ 2 ^ d * 2 = pow-add 2 d 1 in
