@@ -5,7 +5,7 @@ use Rattle.std.proofs.Math.ListN.{set, length-map, length-replicate, length-set}
 use Rattle.std.proofs.lemmas.Bool.{cases_eq}
 use Rattle.std.proofs.lemmas.List.{get_or-map, get_or-replicate, get_or-set_other, get_or-set_same}
 use Rattle.std.proofs.lemmas.List.{get_or_append_left, get_or_push, get_or_read}
-use Rattle.std.specs.Prelude.{OnOk, Ok, Err, Option, Result, slice_index, slice_index_or}
+use Rattle.std.specs.Prelude.{Option, slice_index, slice_index_or}
 use Rattle.meshes.specs.Mesh.{side_begin, side_end}
 use Rattle.meshes.specs.Side.{HasSide, HasSidesOnce, tri_at}
 use Rattle.meshes.specs.declared.tri.Tri.{Tri}
@@ -141,6 +141,10 @@ module _ (tris : List Tri) (order : List Outward) (places : List ℕ) (s : IsSea
     joined = more_joined;
   }
 
+  -- so fewer were reached than there are
+  pub fewer_reached : length order < length tris
+  fewer_reached = omega (arith, length_more, search_more.count)
+
 -- the search that has reached one triangle
 pub search_one : (tris : List Tri) (home : ℕ) → length tris < 2 ^ 30 → home < length tris
     → IsSearch tris (record { tri = home; toward = 0; side = 0 } ∷ []) (replicate (length tris) 0)
@@ -199,14 +203,3 @@ done_more tris a b grown n below done last p order in_list l l_below share = eli
       let in_a : p < length a = omega arith in
       stays_reached a b grown l (done p earlier in_a l l_below (rw (grown.kept p in_a) at share))
 ]
-
--- ---- results
-
--- what follows from what holds where a call succeeds
-pub on_ok_map : {T E : Type 0} (r : Result T E) (P Q : Type 0) → OnOk r P → (P → Q) → OnOk r Q
-on_ok_map (Ok x) P Q p f = f p
-on_ok_map (Err e) P Q p f = tt
-
-pub on_ok_both : {T E : Type 0} (r : Result T E) (P Q R : Type 0) → OnOk r P → OnOk r Q → (P → Q → R) → OnOk r R
-on_ok_both (Ok x) P Q R p q f = f p q
-on_ok_both (Err e) P Q R p q f = tt

@@ -1,14 +1,15 @@
 -- The sides at a corner are seen one after another, the last one first.
 use Rattle.std.proofs.Common.{◌≡◌, refl, sym, ◌∙◌, ℕ, ◌+◌, ◌<◌, ◌≤◌, ◌⊎◌, inl, inr, List, length, arith, Some, None}
 use Rattle.std.proofs.lemmas.Bool.{cases_eq, cases_lt}
-use Rattle.std.proofs.lemmas.List.{get_or-set_other, get_or-set_same, length-set}
+use Rattle.std.proofs.lemmas.List.{length-set}
 use Rattle.std.specs.Prelude.{Option, slice_set}
 use Rattle.tri_mesh.proofs.RowPairs.{first_has, linked_after, more_after}
+use Rattle.tri_mesh.proofs.SideLists.{mark_here, mark_there}
 use Rattle.tri_mesh.specs.Neighbours.{AreKept, AreLinkedRows, ArePaired, AreSeen, AreShared, HasOwner, IsLastAt, mark_at, rows_linked, side_at}
 use Rattle.tri_mesh.specs.declared.sides.Side.{Side}
 
 -- none at first
-pub none_seen : (sides : List Side) (v m n : ℕ) (rows : List (List (Option ℕ))) (marks : List (Option ℕ)) → AreLinkedRows m sides rows → length marks ≡ n
+pub none_seen : (sides : List Side) (v m n : ℕ) (rows : List (List (Option ℕ))) (marks : List ℕ) → AreLinkedRows m sides rows → length marks ≡ n
     → ((i p : ℕ) → mark_at marks i ≡ Some p → p < length sides) → AreSeen sides v (length sides) m n rows marks
 none_seen sides v m n rows marks linked count in_list = record {
   linked = linked;
@@ -17,7 +18,7 @@ none_seen sides v m n rows marks linked count in_list = record {
   seen = λ p from below high. absurd (omega (arith, from, below));
 }
 
-module _ (m n : ℕ) (sides : List Side) (paired : ArePaired m n sides) (rows : List (List (Option ℕ))) (marks : List (Option ℕ)) where
+module _ (m n : ℕ) (sides : List Side) (paired : ArePaired m n sides) (rows : List (List (Option ℕ))) (marks : List ℕ) where
   -- down to the last one that is left
   pub seen_down : (v count p : ℕ) → IsLastAt sides v count (Some p) → AreSeen sides v count m n rows marks → AreSeen sides v (p + 1) m n rows marks
   seen_down v count p last seen = record {
@@ -76,27 +77,24 @@ module _ (m n : ℕ) (sides : List Side) (paired : ArePaired m n sides) (rows : 
         }
 
     -- else it is marked there
-    abbrev after : List (Option ℕ)
-    after = slice_set marks s.low (Some p)
+    abbrev after : List ℕ
+    after = slice_set marks s.low (p + 1)
 
     low_below : s.low < length marks
     low_below = omega (arith, paired.order p p_below, paired.corner p p_below, seen.count)
 
-    mark_here : mark_at after s.low ≡ Some p
-    mark_here = get_or-set_same marks s.low (Some p) None low_below
-
-    mark_there : (i : ℕ) → ¬ (i ≡ s.low) → mark_at after i ≡ mark_at marks i
-    mark_there i differ = get_or-set_other marks s.low i (Some p) None differ
+    mark_now : mark_at after s.low ≡ Some p
+    mark_now = mark_here marks s.low p low_below
 
     -- above the higher corner, nothing changes
     pub kept_above : AreKept s.high marks after
-    kept_above i above = mark_there i (omega (arith, above, paired.order p p_below))
+    kept_above i above = mark_there marks s.low p i (omega (arith, above, paired.order p p_below))
 
     module _ (apart : (q : ℕ) → mark_at marks s.low ≡ Some q → ¬ AreShared s (side_at sides q)) where
       marked_in_list : (i x : ℕ) → mark_at after i ≡ Some x → x < length sides
       marked_in_list i x mark = elim (cases_eq i s.low) [
-        | inl same ↦ let is : Some p ≡ Some x = sym mark_here ∙ rw same at mark in let one : p ≡ x = cc in rw (← one) p_below
-        | inr differ ↦ seen.in_list i x (sym (mark_there i differ) ∙ mark)
+        | inl same ↦ let is : Some p ≡ Some x = sym mark_now ∙ rw same at mark in let one : p ≡ x = cc in rw (← one) p_below
+        | inr differ ↦ seen.in_list i x (sym (mark_there marks s.low p i differ) ∙ mark)
       ]
 
       still_seen : (x : ℕ) → ¬ (x ≡ p) → p ≤ x → x < length sides → (side_at sides x).high ≡ s.high
@@ -109,17 +107,17 @@ module _ (m n : ℕ) (sides : List Side) (paired : ArePaired m n sides) (rows : 
             high = sym high;
             differ = λ tri. other (paired.alone x p below p_below low high (sym tri));
           }))
-          | inr differ ↦ inr (mark_there (side_at sides x).low differ ∙ mark)
+          | inr differ ↦ inr (mark_there marks s.low p (side_at sides x).low differ ∙ mark)
         ]
       ]
 
       pub seen_apart : AreSeen sides s.high p m n rows after
       seen_apart = record {
         linked = seen.linked;
-        count = length-set marks s.low (Some p) ∙ seen.count;
+        count = length-set marks s.low (p + 1) ∙ seen.count;
         in_list = marked_in_list;
         seen = λ x from below high. elim (cases_eq x p) [
-          | inl same ↦ rw same (inr mark_here)
+          | inl same ↦ rw same (inr mark_now)
           | inr other ↦ still_seen x other from below high
         ];
       }

@@ -1,6 +1,6 @@
 -- The table of neighbours of a mesh, and the sides from which it is made. This project's own.
 use Rattle.std.specs.List.{All}
-use Rattle.std.specs.Prelude.{◌≡◌, ◌⊎◌, ℕ, ◌+◌, ◌*◌, ◌<◌, ◌≤◌, ◌^◌, List, [], ◌∷◌, length, max, min, slice_index_or, slice_set}
+use Rattle.std.specs.Prelude.{◌≡◌, ◌⊎◌, ℕ, zero, suc, ◌+◌, ◌*◌, ◌/◌, ◌%◌, ◌<◌, ◌≤◌, ◌^◌, List, [], ◌∷◌, length, max, min, slice_index_or, slice_set}
 use Rattle.std.specs.Prelude.{Option, Some, None}
 use Rattle.meshes.specs.Mesh.{side_begin, side_end}
 use Rattle.meshes.specs.Side.{HasSide, HasSidesOnce, IsTree, tri_at}
@@ -31,7 +31,31 @@ pub record KeepsNeighbours (tris : List Tri) (table : List (List (Option ℕ))) 
 abbrev pub side_at : List Side → ℕ → Side
 side_at sides p = slice_index_or sides p (record { low = 0; high = 0; tri = 0; number = 0; before = None })
 
--- its corners are below n
+-- the last one of so many sides, if there is one
+abbrev pub last_up_to : ℕ → Option ℕ
+last_up_to zero = None
+last_up_to (suc p) = Some p
+
+-- side p % 3 of triangle p / 3, with the last one before it
+abbrev pub side_in : List Tri → ℕ → ℕ → Side
+side_in tris p before = record {
+  low = min (side_begin (tri_at tris (p / 3)) (p % 3)) (side_end (tri_at tris (p / 3)) (p % 3));
+  high = max (side_begin (tri_at tris (p / 3)) (p % 3)) (side_end (tri_at tris (p / 3)) (p % 3));
+  tri = p / 3;
+  number = p % 3;
+  before = last_up_to before;
+}
+
+-- the sides from a place on, by how many sides there are up to the last one before each
+abbrev pub sides_from : List Tri → ℕ → List ℕ → List Side
+sides_from tris p [] = []
+sides_from tris p (before ∷ befores) = side_in tris p before ∷ sides_from tris (p + 1) befores
+
+-- the sides of the triangles
+abbrev pub sides_of : List Tri → List ℕ → List Side
+sides_of tris befores = sides_from tris 0 befores
+
+-- the corners of the triangle are below n
 pub record HasCornersBelow (n : ℕ) (t : Tri) : Type 0 where
   pub a : t.a < n
   pub b : t.b < n
@@ -68,17 +92,13 @@ pub record IsLastAt (sides : List Side) (v count : ℕ) (last : Option ℕ) : Ty
   pub later : (p : ℕ) → up_to last ≤ p → p < count → ¬ ((side_at sides p).high ≡ v)
 
 -- the side that a corner has
-abbrev pub mark_at : List (Option ℕ) → ℕ → Option ℕ
-mark_at marks v = slice_index_or marks v None
+abbrev pub mark_at : List ℕ → ℕ → Option ℕ
+mark_at marks v = last_up_to (slice_index_or marks v 0)
 
 -- each side has the last one before it, and each corner the last one of all
-pub record AreChained (sides : List Side) (marks : List (Option ℕ)) : Type 0 where
+pub record AreChained (sides : List Side) (marks : List ℕ) : Type 0 where
   pub befores : (p : ℕ) → p < length sides → IsLastAt sides (side_at sides p).high p (side_at sides p).before
   pub lasts : (v : ℕ) → v < length marks → IsLastAt sides v (length sides) (mark_at marks v)
-
--- the side between two corners, with the last one before it, which the higher corner had
-abbrev pub chained_side : List (Option ℕ) → ℕ → ℕ → ℕ → ℕ → Side
-chained_side marks from to tri number = record { low = min from to; high = max from to; tri = tri; number = number; before = mark_at marks (max from to) }
 
 -- the sides of m triangles with corners below n: each in its place, no two of one triangle between the same corners, and no three of any
 pub record ArePaired (m n : ℕ) (sides : List Side) : Type 0 where
@@ -140,7 +160,7 @@ abbrev pub HasMore : List (List (Option ℕ)) → List (List (Option ℕ)) → T
 HasMore rows after = (s : Side) → HasOwner rows s → HasOwner after s
 
 -- the sides whose higher corner is v were seen, from a place on: each has a triangle, or is marked at its lower corner
-pub record AreSeen (sides : List Side) (v from m n : ℕ) (rows : List (List (Option ℕ))) (marks : List (Option ℕ)) : Type 0 where
+pub record AreSeen (sides : List Side) (v from m n : ℕ) (rows : List (List (Option ℕ))) (marks : List ℕ) : Type 0 where
   pub linked : AreLinkedRows m sides rows
   pub count : length marks ≡ n
   pub in_list : (i p : ℕ) → mark_at marks i ≡ Some p → p < length sides
@@ -148,7 +168,7 @@ pub record AreSeen (sides : List Side) (v from m n : ℕ) (rows : List (List (Op
       → HasOwner rows (side_at sides p) ⊎ (mark_at marks (side_at sides p).low ≡ Some p)
 
 -- the marks of the corners above v are as before
-abbrev pub AreKept : ℕ → List (Option ℕ) → List (Option ℕ) → Type 0
+abbrev pub AreKept : ℕ → List ℕ → List ℕ → Type 0
 AreKept v marks after = (i : ℕ) → v < i → mark_at after i ≡ mark_at marks i
 
 -- all pairs of sides whose higher corner is below v are linked

@@ -1,4 +1,4 @@
-ghost use Rattle.std.specs.Prelude.{◌≡◌, ◌<◌, ◌^◌, ◌↔◌, IfOk, IsTrue, OnOk, length};
+ghost use Rattle.std.specs.Prelude.{◌≡◌, ◌<◌, ◌≤◌, ◌^◌, ◌↔◌, IfOk, IsTrue, length, vec_capacity};
 ghost use Rattle.meshes.specs.Mesh.{side_begin, side_end};
 ghost use Rattle.meshes.specs.Side.{HasSide, HasSidesOnce, tri_at};
 ghost use Rattle.tri_mesh.specs.Neighbours.{IsOwner, KeepsNeighbours};
@@ -32,7 +32,7 @@ impl Search {
         let mut search = Search::start(alloc, tris, home)?;
         let mut place = 0u32;
         while (place as usize) < search.order.len() {
-            search.expand(tris, rows, place)?;
+            search.expand(tris, rows, place);
             place += 1;
         }
         Ok(search)
@@ -44,80 +44,78 @@ impl Search {
         requires home { home < length tris.now }
         ensures search { IfOk result (λ search. IsSearch tris.now search.order.items search.places.items) }
         ensures first { IfOk result (λ search. (outward_at search.order.items 0).tri ≡ home) }
+        ensures room { IfOk result (λ search. length tris.now ≤ vec_capacity search.order) }
     {
         let places = vec![in alloc; 0; tris.len()]?;
         let mut order = Vec::with_capacity(alloc, tris.len())?;
-        order.push(Outward {
+        order.push_reserved(Outward {
             tri: home,
             toward: 0,
             side: 0,
-        })?;
+        });
         Ok(Search { order, places })
     }
 
     // Reaches the triangles that share a side with the one at a place.
-    fn expand(&mut self, tris: &[Tri], rows: &[[Option<u32>; 3]], place: u32) -> Result<(), Memory>
+    fn expand(&mut self, tris: &[Tri], rows: &[[Option<u32>; 3]], place: u32)
         requires keeps { KeepsNeighbours tris.now rows.now }
         requires search { IsSearch tris.now self.old.order.items self.old.places.items }
         requires place { place < length self.old.order.items }
-        ensures search { OnOk result (IsSearch tris.now self.new.order.items self.new.places.items) }
-        ensures grown { OnOk result (IsGrown self.old.order.items self.new.order.items) }
-        ensures done { OnOk result (IsDone tris.now self.new.order.items (outward_at self.old.order.items place).tri) }
+        requires room { length tris.now ≤ vec_capacity self.old.order }
+        ensures search { IsSearch tris.now self.new.order.items self.new.places.items }
+        ensures grown { IsGrown self.old.order.items self.new.order.items }
+        ensures same_room { vec_capacity self.new.order ≡ vec_capacity self.old.order }
+        ensures done { IsDone tris.now self.new.order.items (outward_at self.old.order.items place).tri }
     {
         let k = self.order[place as usize].tri;
         let tri = tris[k as usize];
         let row = rows[k as usize];
-        self.reach(tris, place, row[0], tri.b, tri.a)?;
-        self.reach(tris, place, row[1], tri.c, tri.b)?;
-        self.reach(tris, place, row[2], tri.a, tri.c)
+        self.reach(tris, place, row[0], tri.b, tri.a);
+        self.reach(tris, place, row[1], tri.c, tri.b);
+        self.reach(tris, place, row[2], tri.a, tri.c);
     }
 
     // Reaches the triangle with the side from one corner to another, if there is one, from the triangle at a place, which
     // has this side in the other direction.
-    fn reach(
-        &mut self,
-        tris: &[Tri],
-        place: u32,
-        owner: Option<u32>,
-        from: u32,
-        to: u32,
-    ) -> Result<(), Memory>
+    fn reach(&mut self, tris: &[Tri], place: u32, owner: Option<u32>, from: u32, to: u32)
         requires sides { HasSidesOnce tris.now }
         requires search { IsSearch tris.now self.old.order.items self.old.places.items }
         requires place { place < length self.old.order.items }
+        requires room { length tris.now ≤ vec_capacity self.old.order }
         requires owner { IsOwner tris.now from to owner }
         requires back { HasSide (tri_at tris.now (outward_at self.old.order.items place).tri) to from }
-        ensures search { OnOk result (IsSearch tris.now self.new.order.items self.new.places.items) }
-        ensures grown { OnOk result (IsGrown self.old.order.items self.new.order.items) }
-        ensures done { OnOk result (IsSideDone tris.now self.new.order.items from to) }
+        ensures search { IsSearch tris.now self.new.order.items self.new.places.items }
+        ensures grown { IsGrown self.old.order.items self.new.order.items }
+        ensures same_room { vec_capacity self.new.order ≡ vec_capacity self.old.order }
+        ensures done { IsSideDone tris.now self.new.order.items from to }
     {
-        match owner {
-            Some(k) => self.add(tris, place, k, from, to),
-            None => Ok(()),
+        if let Some(k) = owner {
+            self.add(tris, place, k, from, to);
         }
     }
 
     // Reaches a triangle with this side, where it is new.
-    fn add(&mut self, tris: &[Tri], place: u32, k: u32, from: u32, to: u32) -> Result<(), Memory>
+    fn add(&mut self, tris: &[Tri], place: u32, k: u32, from: u32, to: u32)
         requires search { IsSearch tris.now self.old.order.items self.old.places.items }
         requires place { place < length self.old.order.items }
+        requires room { length tris.now ≤ vec_capacity self.old.order }
         requires in_list { k < length tris.now }
         requires has { HasSide (tri_at tris.now k) from to }
         requires back { HasSide (tri_at tris.now (outward_at self.old.order.items place).tri) to from }
-        ensures search { OnOk result (IsSearch tris.now self.new.order.items self.new.places.items) }
-        ensures grown { OnOk result (IsGrown self.old.order.items self.new.order.items) }
-        ensures reached { OnOk result (IsReached self.new.order.items k) }
+        ensures search { IsSearch tris.now self.new.order.items self.new.places.items }
+        ensures grown { IsGrown self.old.order.items self.new.order.items }
+        ensures same_room { vec_capacity self.new.order ≡ vec_capacity self.old.order }
+        ensures reached { IsReached self.new.order.items k }
     {
         if !self.has(tris, k) {
             let side = side_from(&tris[k as usize], from, to);
             self.places[k as usize] = self.order.len() as u32;
-            self.order.push(Outward {
+            self.order.push_reserved(Outward {
                 tri: k,
                 toward: place,
                 side,
-            })?;
+            });
         }
-        Ok(())
     }
 
     // Whether a triangle was reached: then it is at its place.

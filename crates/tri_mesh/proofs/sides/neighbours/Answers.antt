@@ -2,15 +2,15 @@ use Rattle.std.proofs.Common.{◌≡◌, ap, ◌∙◌, ◌+◌, inl, inr, lengt
 use Rattle.std.proofs.lemmas.Bool.{cases_eq}
 use Rattle.std.proofs.lemmas.List.{with_items_is}
 use Rattle.tri_mesh.proofs.RowsFilled.{are_paired, rows_right}
+use Rattle.tri_mesh.proofs.SideLists.{are_listed, length-sides}
 use Rattle.tri_mesh.proofs.sides.neighbours.Goals as goal
-use Rattle.tri_mesh.specs.Neighbours.{ArePaired, AreListedSides, HaveOwners, side_at}
+use Rattle.tri_mesh.specs.Neighbours.{ArePaired, AreListedSides, HaveOwners, side_at, sides_of}
 
 pub link_at-requires-clause-paired : goal.link_at-requires-clause-paired
 link_at-requires-clause-paired c =
     let tris = c.args.tris.now in
-    let sides = c.in_ok-sides.sides.items in
-    let n : length c.deref_mut.result.now ≡ length tris + 2 = omega (arith, c.deref_mut.ensures.len, c.in_ok-marks.ensures.len) in
-    let are : AreListedSides tris (length tris + 2) sides = rw n at c.in_ok-sides.ensures.sides in
+    let sides = sides_of tris c.in_ok-befores.befores.items in
+    let are : AreListedSides tris (length tris + 2) sides = are_listed tris (length tris + 2) c.requires.corners c.in_ok-befores.befores.items c.in_ok-befores.ensures.number in
     let paired : ArePaired (length tris) (length tris + 2) sides = are_paired tris c.requires.once (length tris + 2) sides are in
     let marks : length c.deref_mut-in-loop-v.result.now ≡ length tris + 2 =
     ap length c.deref_mut-in-loop-v.ensures.value ∙ c.loop-v.invariant.count in
@@ -18,7 +18,7 @@ link_at-requires-clause-paired c =
 
 pub loop-v-preserved : goal.loop-v-preserved
 loop-v-preserved c =
-    let sides = c.in_ok-sides.sides.items in
+    let sides = sides_of c.args.tris.now c.in_ok-befores.befores.items in
     let marks = c.loop-v.marks.items in
     let after = c.link_at.new.marks in
     let v = c.loop-v.v in
@@ -42,10 +42,9 @@ loop-v-preserved c =
 pub returns-clause-rows : goal.returns-clause-rows
 returns-clause-rows c =
     let tris = c.args.tris.now in
-    let sides = c.in_ok-sides.sides.items in
-    let n : length c.deref_mut.result.now ≡ length tris + 2 = omega (arith, c.deref_mut.ensures.len, c.in_ok-marks.ensures.len) in
-    let are : AreListedSides tris (length tris + 2) sides = rw n at c.in_ok-sides.ensures.sides in
+    let sides = sides_of tris c.in_ok-befores.befores.items in
+    let are : AreListedSides tris (length tris + 2) sides = are_listed tris (length tris + 2) c.requires.corners c.in_ok-befores.befores.items c.in_ok-befores.ensures.number in
     let last : c.loop-v.v ≡ length tris + 2 =
     omega (arith, c.loop-v-test.false, c.loop-v.auto.v-end, c.len-v-end.ensures, c.in_ok-marks.ensures.len) in
     let owners : HaveOwners sides (length tris + 2) c.loop-v.rows.items = rw (← last) c.loop-v.invariant.owners in
-    rows_right tris c.requires.once (length tris + 2) sides are c.in_ok-sides.ensures.number c.loop-v.rows.items c.loop-v.invariant.linked owners
+    rows_right tris c.requires.once (length tris + 2) sides are (length-sides tris c.in_ok-befores.befores.items ∙ c.in_ok-befores.ensures.number) c.loop-v.rows.items c.loop-v.invariant.linked owners

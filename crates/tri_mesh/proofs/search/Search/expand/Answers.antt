@@ -1,9 +1,8 @@
 use Rattle.std.proofs.Common.{◌≡◌, refl, arith}
 use Rattle.std.proofs.lemmas.List.{get_or_read}
-use Rattle.tri_mesh.proofs.SearchSteps.{done_of_sides, grown_twice, on_ok_both, read_owner, stays_reached}
+use Rattle.tri_mesh.proofs.SearchSteps.{done_of_sides, grown_twice, read_owner, stays_reached}
 use Rattle.tri_mesh.proofs.search.Search.expand.Goals as goal
 use Rattle.tri_mesh.specs.Outward.{outward_at}
-use Rattle.tri_mesh.specs.Search.{IsDone, IsGrown, IsSideDone}
 
 pub reach-requires-clause-owner : goal.reach-requires-clause-owner
 reach-requires-clause-owner c =
@@ -30,16 +29,12 @@ returns-clause-done c =
     let is : c.index.result.now ≡ outward_at order c.args.place =
     get_or_read order c.args.place c.index.result.now c.requires.place c.index.ensures (record { tri = 0; toward = 0; side = 0 }) in
     let k = (outward_at order c.args.place).tri in
-    let first = c.in_ok-reach.ensures in
-    let second = c.in_ok-reach-2.ensures in
-    let done_1 = rw is at first.done in
-    let done_2 = rw is at second.done in
-    on_ok_both c.reach-3.result (IsGrown order_2 order_3) (IsSideDone tris order_3 _ _) (IsDone tris order_3 k)
-    c.reach-3.ensures.grown (rw is at c.reach-3.ensures.done)
-    (λ third done_3.
-    let grown = grown_twice order_1 order_2 order_3 second.grown third in
+    let first = c.reach.ensures in
+    let second = c.reach-2.ensures in
+    let third = c.reach-3.ensures in
+    let grown = grown_twice order_1 order_2 order_3 second.grown third.grown in
     done_of_sides tris order_3 k c.requires.keeps.sides (c.requires.search.in_list c.args.place c.requires.place)
     (stays_reached order order_3 (grown_twice order order_1 order_3 first.grown grown) k (c.args.place, c.requires.place, refl))
-    (λ l below has. stays_reached order_1 order_3 grown l (done_1 l below has))
-    (λ l below has. stays_reached order_2 order_3 third l (done_2 l below has))
-    done_3)
+    (λ l below has. stays_reached order_1 order_3 grown l ((rw is at first.done) l below has))
+    (λ l below has. stays_reached order_2 order_3 third.grown l ((rw is at second.done) l below has))
+    (rw is at third.done)

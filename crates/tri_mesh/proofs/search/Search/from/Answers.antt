@@ -8,13 +8,14 @@ use Rattle.tri_mesh.specs.Search.{IsDone, IsReached}
 pub loop-place-preserved : goal.loop-place-preserved
 loop-place-preserved c =
     let before = c.loop-place.invariant in
-    let e = c.in_ok-expand.ensures in
+    let e = c.expand.ensures in
     let order = c.loop-place.search.order.items in
     let within : c.loop-place.place < length order = omega (arith, c.len.ensures, c.loop-place.search.order.ok.0) in
     record {
       search = e.search;
       first = ap (λ o. o.tri) (e.grown.kept 0 (omega arith)) ∙ before.first;
       done = done_more c.args.tris.now order c.expand.new.self.order.items e.grown c.loop-place.place within before.done e.done;
+      room = omega (arith, e.same_room, before.room);
     }
 
 pub returns : goal.returns
