@@ -3,7 +3,7 @@ mod Below
 pub mod Bounds
 mod EdgeEnds
 mod EdgeRuns
-mod Halves
+pub mod Halves
 mod Orders
 pub mod Oriented
 mod Reflex
