@@ -11,7 +11,7 @@ use crate::cut::{Remains, cut};
 use crate::piece::{Boundary, Piece};
 use exact_plane::{Memory, Steps};
 use meshes::Tri;
-use ring_check::{Ring, lexical_order, ranks_of};
+use ring_check::{Ring, ranks_of};
 use std::alloc::Global;
 use std::collections::VecDeque;
 use std::sync::ledger::Ledger;
@@ -29,7 +29,7 @@ pub fn triangulate<L: Ledger>(
     ensures steps { let n = length ring.now.corners in steps.new ≤ steps.old + (629 * (n * n) + 119 * n) }
 {
     let mut tris = Vec::with_capacity(alloc, ring.len() as usize - 2)?;
-    let order = lexical(alloc, ring, steps)?;
+    let order = ring.lexical(alloc, steps)?;
     let ranks = ranks_of(alloc, &order)?;
     let mut clusters = None;
     let mut work = Vec::new(alloc);
@@ -78,16 +78,4 @@ fn whole_piece(alloc: Global, ring: &Ring, mut order: Vec<u32>) -> Result<Piece,
         boundary: Boundary::of(alloc, VecDeque::from_vec(boundary)),
         order,
     })
-}
-
-// All vertices in lexicographic order: as the ring keeps it, or sorted. It takes at most 64 steps a vertex.
-fn lexical<L: Ledger>(alloc: Global, ring: &Ring, steps: &mut Steps<L>) -> Result<Vec<u32>, Memory>
-    ensures order { IfOk result (λ order. IsInOrder ring.now.corners order.items) }
-    ensures steps { steps.new ≤ steps.old + 64 * length ring.now.corners }
-{
-    let _is_simple = ring.len();
-    match ring.order() {
-        Some(order) => Ok(order.to_vec(alloc)?),
-        None => lexical_order(alloc, ring.corners(), steps),
-    }
 }

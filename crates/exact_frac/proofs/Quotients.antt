@@ -5,7 +5,7 @@ use Rattle.std.proofs.lemmas.Int.{ints, quot_fits, quot_is, to_z-of_z}
 use Rattle.std.proofs.lemmas.Nat.Gcd.{le_of_dvd}
 use Rattle.std.specs.Int.{IsGcd, Width}
 use Rattle.std.specs.Prelude.{int_div, unsigned_abs}
-use Rattle.exact_frac.proofs.LowestTerms.{positive_number, positive_size, reduced}
+use Rattle.exact_frac.proofs.LowestTerms.{positive_number, positive_size, reduced, zero_lowest}
 use Rattle.exact_frac.specs.Lowest.{IsLowest}
 
 -- a number as it passes through the code, and a part over the divisor
@@ -23,6 +23,7 @@ pub record Divides (w : Width) (num den : ℤ) (g : ℕ) : Type 0 where
   pub den_fits : FitsSigned w (quotient w den g)
   pub lowest : IsLowest (kept w (quotient w num g)) (kept w (quotient w den g))
   pub value : kept w (quotient w num g) *ℤ den ≡ num *ℤ kept w (quotient w den g)
+  pub zero : num ≡ pos 0 → (kept w (quotient w num g) ≡ pos 0) × (kept w (quotient w den g) ≡ pos 1)
 
 fits_below : (w : Width) (den : ℤ) (g : ℕ) → pos 0 <ℤ den → FitsSigned w den → g ≤ unsigned_abs den → FitsSigned w (pos g)
 fits_below w (pos n) g positive fits small = record { sfits = lt_of_le_of_lt small fits.sfits }
@@ -46,4 +47,5 @@ divides w num den u v g positive num_fits den_fits e f h =
       den_fits = fit_kept den den_fits;
       lowest = rw (same num num_fits, same den den_fits) lowest;
       value = rw (same num num_fits, same den den_fits) value;
+      zero = rw (same num num_fits, same den den_fits) (zero_lowest num den _ _ positive lowest value);
     }

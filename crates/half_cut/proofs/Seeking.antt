@@ -3,6 +3,7 @@ use Rattle.std.proofs.Common.{◌*◌, ◌≡◌, ◌≢◌, inl, inr, [], ◌�
 use Rattle.std.proofs.Math.Nat.{add-mod_left, mod-eq_of_lt, mod-lt}
 use Rattle.std.proofs.lemmas.Bool.{cases_eq}
 use Rattle.std.proofs.lemmas.Int.{ints}
+use Rattle.integer_algebra.proofs.Certificate.{◌⊞◌, ◌⊠◌}
 use Rattle.integer_algebra.proofs.Polynomial.{var, lit, ◌⊕◌, ◌⊖◌, ◌⊗◌, same_value}
 use Rattle.integer_algebra.proofs.SignSteps.{at_least_unless, at_most_unless, not_both, weak}
 use Rattle.integer_algebra.proofs.Signs.{factor_nonnegative, mul_nonnegative}
@@ -72,11 +73,7 @@ left_of_both p q r t a b c z at_c at_z on_in on_out left_in left_out turned ahea
     left_of_farther a b c z at_c at_z left
     (factor_nonnegative (cross_product p q r t) (farther a b c z) turned
     (subst (λ w. pos 0 ≤ℤ w) (sym (three_lines p q r t a b c z))
-    (sum _ _ (mul_nonnegative _ _ ahead (farther_from_line p q c z at_c on_in left_in))
-    (mul_nonnegative _ _ back (farther_from_line r t c z at_c on_out left_out)))))
-  where
-    sum : (x y : ℤ) → pos 0 ≤ℤ x → pos 0 ≤ℤ y → pos 0 ≤ℤ (x +ℤ y)
-    sum x y hx hy = omega (arith, ints)
+    (ahead ⊠ farther_from_line p q c z at_c on_in left_in ⊞ back ⊠ farther_from_line r t c z at_c on_out left_out)))
 
 -- ---- the way of a line between those of two sides
 

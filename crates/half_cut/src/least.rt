@@ -1,5 +1,5 @@
 // The corner from which a region's corners are read.
-ghost use Rattle.std.specs.Prelude.{◌≡◌, ◌+◌, ◌<◌, ◌≤◌, ◌↔◌, ℕ, IsTrue, length};
+ghost use Rattle.std.specs.Prelude.{◌≡◌, ◌+◌, ◌<◌, ◌≤◌, ◌↔◌, IsTrue, length};
 ghost use Rattle.plane.specs.Convex.{AreConvex, corner};
 ghost use Rattle.plane.specs.Order.{Precedes};
 ghost use Rattle.half_cut.specs.Outline.{IsLeast};

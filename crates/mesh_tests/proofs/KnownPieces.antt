@@ -1,11 +1,11 @@
--- Monotone pieces that anyone can draw. That their points rise is computed.
+-- Rows of monotone pieces. That their points rise is computed.
 use Rattle.std.proofs.Common.{◌≡◌, ◌∙◌, ◌⊎◌, inl, inr, refl, sym, ap, ℕ, zero, suc, ◌+◌, ◌<◌, Bool, true, false, List, [], ◌∷◌, ◌++◌, length, ltb, arith}
 use Rattle.std.proofs.lemmas.Bool.{cases_order, false≢true, ltb-true, true_from_ne_false}
 use Rattle.std.proofs.lemmas.Int.{ints}
 use Rattle.std.proofs.lemmas.List.FromFn.{get_or-range_with_len, length-range_with_len}
 use Rattle.std.proofs.lemmas.List.Folds.{list_all_at}
 use Rattle.std.specs.List.{All, list_all, range_with_len}
-use Rattle.std.specs.Prelude.{◌&&◌, ◌||◌, not, ℤ, int_lt, map, pos, negsuc, reverse, slice_index, slice_index_or}
+use Rattle.std.specs.Prelude.{◌&&◌, ◌||◌, not, ℤ, int_lt, map, reverse, slice_index, slice_index_or}
 use Rattle.plane.proofs.Order.{before_asym, before_differs, before_of_precedes}
 use Rattle.plane.specs.Order.{IsBefore}
 use Rattle.plane.specs.Point.{Point}
@@ -97,14 +97,14 @@ all_below n numbers all k d h =
 
 -- ---- rows: where a piece is read from its least vertex on, that vertex, the lower chain, the greatest vertex and the upper chain
 
-row : (points : List (ℤ × ℤ)) (piece before from_least : List ℕ) (least : ℕ) (lower : List ℕ) (greatest : ℕ) (upper : List ℕ)
+pub piece_row : (points : List (ℤ × ℤ)) (piece before from_least : List ℕ) (least : ℕ) (lower : List ℕ) (greatest : ℕ) (upper : List ℕ)
     → rises (map point_with points) (range_with_len 0 (length (map point_with points))) ≡ true
     → ltb 2 (length piece) ≡ true → list_all (λ i. ltb i (length (map point_with points))) piece ≡ true
     → piece ≡ before ++ from_least → from_least ++ before ≡ least ∷ (lower ++ greatest ∷ upper)
     → rises (map point_with points) (least ∷ (lower ++ greatest ∷ [])) ≡ true
     → rises (map point_with points) (least ∷ (reverse upper ++ greatest ∷ [])) ≡ true
     → IsPieceRow points piece
-row points piece before from_least least lower greatest upper ordered some inside parts read low high = record {
+piece_row points piece before from_least least lower greatest upper ordered some inside parts read low high = record {
   ranks = own_ranks (map point_with points) ordered;
   some = omega (arith, ltb-true 2 (length piece) some);
   numbers = all_below (length (map point_with points)) piece inside;
@@ -121,63 +121,3 @@ row points piece before from_least least lower greatest upper ordered some insid
     upper_rises = path_rises (map point_with points) (least ∷ (reverse upper ++ greatest ∷ [])) high;
   };
 }
-
--- a triangle
-pub triangle : IsPieceRow
-    ((pos 0, pos 0) ∷ (pos 2, negsuc 0) ∷ (pos 4, pos 3) ∷ [])
-    (0 ∷ 1 ∷ 2 ∷ [])
-triangle = row _ _ [] (0 ∷ 1 ∷ 2 ∷ []) 0 (1 ∷ []) 2 [] refl refl refl refl refl refl refl
-
--- a flat lower chain
-pub flat_below : IsPieceRow
-    ((pos 0, pos 0) ∷ (pos 1, pos 0) ∷ (pos 2, pos 0) ∷ (pos 3, pos 4) ∷ (pos 4, pos 0) ∷ [])
-    (0 ∷ 1 ∷ 2 ∷ 4 ∷ 3 ∷ [])
-flat_below = row _ _ [] (0 ∷ 1 ∷ 2 ∷ 4 ∷ 3 ∷ []) 0 (1 ∷ 2 ∷ []) 4 (3 ∷ []) refl refl refl refl refl refl refl
-
--- a flat upper chain
-pub flat_above : IsPieceRow
-    ((pos 0, pos 0) ∷ (pos 1, negsuc 3) ∷ (pos 2, pos 0) ∷ (pos 3, pos 0) ∷ (pos 4, pos 0) ∷ [])
-    (0 ∷ 1 ∷ 4 ∷ 3 ∷ 2 ∷ [])
-flat_above = row _ _ [] (0 ∷ 1 ∷ 4 ∷ 3 ∷ 2 ∷ []) 0 (1 ∷ []) 4 (3 ∷ 2 ∷ []) refl refl refl refl refl refl refl
-
--- all turns inward below
-pub inward_below : IsPieceRow
-    ((pos 0, pos 0) ∷ (pos 1, negsuc 2) ∷ (pos 2, negsuc 3) ∷ (pos 3, negsuc 2) ∷ (pos 4, pos 0) ∷ [])
-    (0 ∷ 1 ∷ 2 ∷ 3 ∷ 4 ∷ [])
-inward_below = row _ _ [] (0 ∷ 1 ∷ 2 ∷ 3 ∷ 4 ∷ []) 0 (1 ∷ 2 ∷ 3 ∷ []) 4 [] refl refl refl refl refl refl refl
-
--- all turns inward above
-pub inward_above : IsPieceRow
-    ((pos 0, pos 0) ∷ (pos 1, pos 3) ∷ (pos 2, pos 4) ∷ (pos 3, pos 3) ∷ (pos 4, pos 0) ∷ [])
-    (4 ∷ 3 ∷ 2 ∷ 1 ∷ 0 ∷ [])
-inward_above = row _ _ (4 ∷ 3 ∷ 2 ∷ 1 ∷ []) (0 ∷ []) 0 [] 4 (3 ∷ 2 ∷ 1 ∷ []) refl refl refl refl refl refl refl
-
--- all turns outward below
-pub outward_below : IsPieceRow
-    ((pos 0, pos 0) ∷ (pos 1, pos 3) ∷ (pos 2, pos 4) ∷ (pos 3, pos 3) ∷ (pos 4, pos 0) ∷ (pos 5, pos 30) ∷ [])
-    (0 ∷ 1 ∷ 2 ∷ 3 ∷ 4 ∷ 5 ∷ [])
-outward_below = row _ _ [] (0 ∷ 1 ∷ 2 ∷ 3 ∷ 4 ∷ 5 ∷ []) 0 (1 ∷ 2 ∷ 3 ∷ 4 ∷ []) 5 [] refl refl refl refl refl refl refl
-
--- from side to side
-pub side_to_side : IsPieceRow
-    ((pos 0, pos 0) ∷ (pos 1, negsuc 0) ∷ (pos 2, pos 2) ∷ (pos 3, pos 0) ∷ (pos 4, pos 1) ∷ (pos 5, negsuc 1) ∷ (pos 6, pos 0) ∷ [])
-    (0 ∷ 1 ∷ 3 ∷ 5 ∷ 6 ∷ 4 ∷ 2 ∷ [])
-side_to_side = row _ _ [] (0 ∷ 1 ∷ 3 ∷ 5 ∷ 6 ∷ 4 ∷ 2 ∷ []) 0 (1 ∷ 3 ∷ 5 ∷ []) 6 (4 ∷ 2 ∷ []) refl refl refl refl refl refl refl
-
--- the same, read from another vertex on
-pub read_from_another : IsPieceRow
-    ((pos 0, pos 0) ∷ (pos 1, negsuc 0) ∷ (pos 2, pos 2) ∷ (pos 3, pos 0) ∷ (pos 4, pos 1) ∷ (pos 5, negsuc 1) ∷ (pos 6, pos 0) ∷ [])
-    (5 ∷ 6 ∷ 4 ∷ 2 ∷ 0 ∷ 1 ∷ 3 ∷ [])
-read_from_another = row _ _ (5 ∷ 6 ∷ 4 ∷ 2 ∷ []) (0 ∷ 1 ∷ 3 ∷ []) 0 (1 ∷ 3 ∷ 5 ∷ []) 6 (4 ∷ 2 ∷ []) refl refl refl refl refl refl refl
-
--- flat sides all round
-pub flat_all_round : IsPieceRow
-    ((pos 0, pos 0) ∷ (pos 0, pos 1) ∷ (pos 0, pos 2) ∷ (pos 1, pos 0) ∷ (pos 1, pos 2) ∷ (pos 2, pos 0) ∷ (pos 2, pos 1) ∷ (pos 2, pos 2) ∷ [])
-    (0 ∷ 3 ∷ 5 ∷ 6 ∷ 7 ∷ 4 ∷ 2 ∷ 1 ∷ [])
-flat_all_round = row _ _ [] (0 ∷ 3 ∷ 5 ∷ 6 ∷ 7 ∷ 4 ∷ 2 ∷ 1 ∷ []) 0 (3 ∷ 5 ∷ 6 ∷ []) 7 (4 ∷ 2 ∷ 1 ∷ []) refl refl refl refl refl refl refl
-
--- some corners of many
-pub some_of_many : IsPieceRow
-    ((negsuc 8, pos 5) ∷ (pos 0, pos 0) ∷ (pos 0, pos 3) ∷ (pos 1, pos 9) ∷ (pos 3, pos 1) ∷ (pos 4, pos 4) ∷ (pos 5, pos 0) ∷ (pos 7, pos 7) ∷ [])
-    (5 ∷ 2 ∷ 4 ∷ [])
-some_of_many = row _ _ (5 ∷ []) (2 ∷ 4 ∷ []) 2 (4 ∷ []) 5 [] refl refl refl refl refl refl refl

@@ -10,7 +10,7 @@ use meshes::Tri;
 use ring_check::Ring;
 use std::alloc::Global;
 use std::sync::ledger::Ledger;
-use sweep_tri::{lexical, sweep};
+use sweep_tri::sweep;
 use tri_mesh::Mesh;
 
 /// The coordinates of a point.
@@ -80,7 +80,7 @@ pub fn swept_mesh<L: Ledger>(
     ensures { IfOk result (Fits ring.now.corners) }
 {
     let _ring_is_simple = ring.len();
-    let order = lexical(alloc, ring, steps)?;
+    let order = ring.lexical(alloc, steps)?;
     let board = Board::without_ends(ring);
     let tris = sweep(alloc, &board, &order, steps)?;
     Mesh::build(alloc, tris)

@@ -1,11 +1,11 @@
 // Rows of a table of pairs: what comes before each vertex on its path from one of them.
-ghost use Rattle.std.specs.Prelude.{◌≡◌, ℕ, ◌^◌, ◌*◌, ◌+◌, ◌<◌, ◌≤◌, IfOk, List, length, replicate};
+ghost use Rattle.std.specs.Prelude.{◌≡◌, ◌^◌, ◌*◌, ◌+◌, ◌<◌, ◌≤◌, IfOk, List, length, replicate};
 ghost use Rattle.plane.specs.Point.{Point};
 ghost use Rattle.rings.specs.Ring.{vertex};
 ghost use Rattle.meshes.specs.Fits.{Fits};
 ghost use Rattle.meshes.specs.Side.{tri_at};
 ghost use Rattle.tri_mesh.specs.Corner.{HasCorner};
-ghost use Rattle.tri_mesh.specs.Outward.{IsOutward, outward_at};
+ghost use Rattle.tri_mesh.specs.Outward.{IsOutward};
 ghost use Rattle.shared_seq.specs.Digits.{binary_digits};
 ghost use Rattle.shared_funnel.specs.Entered.{IsFromStart, at_place};
 ghost use Rattle.pair_cut.specs.Doors.{IsApex, IsGrownTo};

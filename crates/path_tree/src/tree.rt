@@ -1,5 +1,5 @@
 ghost use Rattle.std.specs.List.{All};
-ghost use Rattle.std.specs.Prelude.{◌≡◌, ◌≢◌, ℕ, ◌+◌, ◌*◌, ◌<◌, ◌≤◌, ◌++◌, ◌∷◌, [], List, IfOk, drop, length, reverse, take, vec_capacity};
+ghost use Rattle.std.specs.Prelude.{◌≡◌, ◌≢◌, ◌+◌, ◌*◌, ◌<◌, ◌≤◌, ◌++◌, ◌∷◌, [], List, IfOk, drop, length, reverse, take, vec_capacity};
 ghost use Rattle.plane.specs.Point.{Point, whole};
 ghost use Rattle.rings.specs.Chain.{IsPath};
 ghost use Rattle.rings.specs.From.{IsPredecessor};

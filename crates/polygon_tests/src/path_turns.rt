@@ -1,5 +1,5 @@
 // How two lists of points turn against each other.
-ghost use Rattle.std.specs.Prelude.{◌≡◌, ◌<◌, IsTrue, length};
+ghost use Rattle.std.specs.Prelude.{◌≡◌, ◌<◌};
 
 use exact_plane::{Direction, Pt, Steps, order};
 use plane_tests::rows::{points_of, row_of};

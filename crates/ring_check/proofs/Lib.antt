@@ -4,7 +4,7 @@ pub mod Bounds
 mod EdgeEnds
 mod EdgeRuns
 mod GapMoves
-mod Halves
+pub mod Halves
 mod Orders
 pub mod Oriented
 mod Reflex

@@ -9,10 +9,12 @@ ghost use Rattle.ring_check.specs.Order.{IsInOrder};
 ghost use Rattle.ring_check.specs.Oriented.{given_edge, given_index, given_of, oriented};
 
 use crate::clash::find_clash;
+use crate::order::lexical_order;
 use crate::orientation::{turn_back, turn_counterclockwise};
 use crate::sweep::simple_order;
-use exact_plane::{Direction, Pt, Steps, turn};
+use exact_plane::{Direction, Memory, Pt, Steps, turn};
 use plane::MAX_CORNERS;
+use std::alloc::Global;
 use std::marker::Model;
 use std::sync::ledger::Ledger;
 
@@ -117,6 +119,23 @@ impl Ring {
         ensures { IfSome result (λ order. IsInOrder self.now.corners order.now) }
     {
         self.order.as_deref()
+    }
+
+    /// All vertices by their numbers in lexicographic order: by x, then by y, as the ring keeps them or sorted. It takes at most
+    /// 64 steps for each vertex.
+    pub fn lexical<L: Ledger>(
+        &self,
+        alloc: Global,
+        steps: &mut Steps<L>,
+    ) -> Result<Vec<u32>, Memory>
+        ensures order { IfOk result (λ order. IsInOrder self.now.corners order.items) }
+        ensures steps { steps.new ≤ steps.old + 64 * length self.now.corners }
+    {
+        let _is_simple = self.len();
+        match self.order() {
+            Some(order) => Ok(order.to_vec(alloc)?),
+            None => lexical_order(alloc, self.corners(), steps),
+        }
     }
 
     /// How many vertices there are.

@@ -1,6 +1,6 @@
 // Walks over the edges of a list, on which whole runs are left out.
 ghost use Rattle.std.specs.List.{All};
-ghost use Rattle.std.specs.Prelude.{◌≡◌, ◌+◌, ◌*◌, ◌-◌, ◌<◌, ◌≤◌, ◌^◌, ℕ, IfSome, List, length};
+ghost use Rattle.std.specs.Prelude.{◌+◌, ◌*◌, ◌-◌, ◌<◌, ◌≤◌, ◌^◌, ℕ, IfSome, List, length};
 ghost use Rattle.plane.specs.Point.{Point};
 ghost use Rattle.exact_plane.specs.Boxes.{Encloses};
 ghost use Rattle.ring_check.specs.Boxes.{IsApartOver};

@@ -1,4 +1,4 @@
-ghost use Rattle.std.specs.Prelude.{◌≡◌, ◌+◌, ◌<◌, IfOk, OnOk, length};
+ghost use Rattle.std.specs.Prelude.{◌+◌, ◌<◌, IfOk, OnOk, length};
 ghost use Rattle.meshes.specs.Mesh.{IsMesh};
 ghost use Rattle.see_cone.specs.Reached.{AreDifferent, AreBoundaryEdges, AreSorted};
 

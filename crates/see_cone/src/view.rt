@@ -1,4 +1,4 @@
-ghost use Rattle.std.specs.Prelude.{◌≡◌, ◌+◌, ◌*◌, ◌<◌, ◌≤◌, ◌↔◌, IfOk, length};
+ghost use Rattle.std.specs.Prelude.{◌+◌, ◌*◌, ◌<◌, ◌≤◌, ◌↔◌, IfOk, length};
 ghost use Rattle.plane.specs.Point.{IsPoint, Triple, whole};
 ghost use Rattle.rings.specs.Inside.{IsIn};
 ghost use Rattle.rings.specs.Sees.{Sees};

@@ -5,6 +5,7 @@
 -- The events of a sweep, one after the other.
 use Rattle.std.proofs.Common.{◌≡◌, Result, Ok, Err, sym, subst, ℕ, ◌+◌, ◌-◌, ◌<◌, ◌≤◌, List, length, arith, ◌^◌, [], refl, ◌*◌, inl, inr}
 use Rattle.std.proofs.Common.{Some, ◌∷◌, ◌++◌}
+use Rattle.std.proofs.lemmas.Result.{on_ok_weaker}
 use Rattle.std.specs.Prelude.{OnOk, slice_index, slice_set}
 use Rattle.std.specs.List.{insert, All, remove}
 use Rattle.plane.specs.Point.{Point}
@@ -23,7 +24,7 @@ use Rattle.sweep_tri.specs.Forks.{IsForkAt, TurnsLeft}
 use Rattle.sweep_tri.specs.Frontier.{IsGapPlace, IsUnder}
 use Rattle.sweep_tri.specs.Gaps.{before_last, gap_at, highest, up_front, low_front}
 use Rattle.sweep_tri.specs.Meeting.{gap_of, region_from, split_above, split_below, AreFilled, closed_at, left_at, with_vertex}
-use Rattle.sweep_tri.specs.Entries.{event_work}
+use Rattle.sweep_tri.specs.Entries.{IsAccounted, IsPaid, event_work}
 use Rattle.sweep_tri.specs.Passing.{IsNextEvent, AreBeside, Begins, IsRegularVertex, Finishes}
 use Rattle.sweep_tri.specs.Region.{IsRegion, IsClosedRegion}
 use Rattle.sweep_tri.specs.Slots.{AreSortedBy}
@@ -151,14 +152,15 @@ all_digits : (n m : ℕ) → 3 ≤ n → m + 1 ≤ n
     → binary_digits m + 1 + event_work ≤ 200 * binary_digits n
 all_digits n m some more = omega (arith, binary_digits_mono m n (omega (arith, more)), digits_at_least n some)
 
--- so the steps after an event, whether or not with those for the entries of the gaps that are left, are within the bound
-pub pass_within : {corners : List Point} {ranks : List ℕ} {gaps : List Gap} {tris : List Tri} {v : ℕ} → IsNextEvent corners ranks gaps tris v
-    → (start placed entries s : ℕ)
-    → placed ≤ start + binary_digits (length gaps) + 1
-    → s ≤ placed + 8 * entries + event_work
-    → s ≤ start + 8 * entries + 200 * binary_digits (length corners)
-pass_within {corners} {ranks} {gaps} is start placed entries s first last =
-    omega (arith, first, last, all_digits (length corners) (length gaps) is.ranked.some (gaps_few is))
+-- so the account of an event holds with the search for its place, too
+pub pass_accounted : {corners : List Point} {ranks : List ℕ} {gaps : List Gap} {tris : List Tri} {v : ℕ} {A E : Type 0} → IsNextEvent corners ranks gaps tris v
+    → (result : Result A E) (new : List Gap) (start placed s : ℕ) → placed ≤ start + binary_digits (length gaps) + 1
+    → IsAccounted result gaps new event_work placed s → IsAccounted result gaps new (200 * binary_digits (length corners)) start s
+pass_accounted {corners} {ranks} {gaps} is result new start placed s first (work, paid) =
+    let digits = all_digits (length corners) (length gaps) is.ranked.some (gaps_few is) in (
+      omega (arith, first, work, digits),
+      on_ok_weaker result (λ (paid : IsPaid gaps new event_work placed s). omega (arith, first, paid, digits)) paid,
+    )
 
 module _ {corners : List Point} {ranks : List ℕ} {gaps : List Gap} {tris : List Tri} where
   -- the fork at the vertex has one neighbour below and the other one above

@@ -1,8 +1,7 @@
 -- A search by halves for the place of a vertex among the gaps: the places that are left, and its test.
 -- What the turn of three corners says of a vertex and an edge.
-use Rattle.std.proofs.Common.{◌≡◌, ◌↔◌, sym, ap, subst, ◌∙◌, ℕ, zero, suc, ◌+◌, ◌*◌, ◌^◌, ◌<◌, ◌≤◌, List, length, inl, inr, arith, refl}
+use Rattle.std.proofs.Common.{◌≡◌, ◌↔◌, sym, ap, subst, ◌∙◌, ℕ, ◌+◌, ◌<◌, ◌≤◌, List, length, inl, inr, arith, refl}
 use Rattle.std.proofs.lemmas.Bool.{cases_eq}
-use Rattle.std.proofs.lemmas.Nat.{pow-add}
 use Rattle.std.specs.Prelude.{slice_index_or}
 use Rattle.plane.specs.Point.{Point, whole}
 use Rattle.plane.specs.Turn.{determinant}
@@ -56,19 +55,6 @@ module _ (corners : List Point) (gaps : List Gap) (v : ℕ) (sorted : AreSortedB
       | inr other ↦ not_above (sorted middle j (omega (arith, from, other)) within above)
     ];
   }
-
--- ---- the steps
-
--- some places are left, fewer than 2 to a power, which is that of the steps to come
-abbrev pub IsPaid : ℕ → ℕ → ℕ → Type 0
-IsPaid left steps most = (e : ℕ) × (left < 2 ^ e) × (steps + e ≤ most)
-
--- at most half of them are left after one step more
-pub half_paid : (left half before after most : ℕ) → 0 < left → 2 * half ≤ left → after ≤ before + 1 → IsPaid left before most → IsPaid half after most
-half_paid left half before after most some less took (zero, below, paid) = absurd (omega (arith, some, below))
-half_paid left half before after most some less took (suc e, below, paid) =
-    let twice : 2 ^ (e + 1) ≡ 2 ^ e * 2 = pow-add 2 e 1 in
-    (e, omega (arith, below, less, twice), omega (arith, took, paid))
 
 -- ---- the test
 

@@ -1,14 +1,14 @@
 -- How many entries the gaps have in all, after each event.
 -- The steps that the events take, by the entries of the gaps before and after them.
 use Rattle.std.proofs.Common.{◌≡◌, sym, ap, ◌∙◌, ℕ, suc, ◌+◌, ◌-◌, ◌<◌, ◌≤◌, Bool, true, false, nat_lt, Option, Some, None, List, [], ◌∷◌}
-use Rattle.std.proofs.Common.{◌++◌, length, take, drop, set, arith, ◌*◌}
+use Rattle.std.proofs.Common.{◌++◌, length, take, drop, set, arith, ◌*◌, Result, Ok, Err}
 use Rattle.std.proofs.lemmas.List.{drop_more, length-append, length-take-le, set_split, take-append-drop, length-set, set-set}
 use Rattle.std.proofs.lemmas.List.Edits.{get_or-remove_below}
 use Rattle.std.specs.List.{insert, remove}
 use Rattle.std.specs.Prelude.{if◌then◌else◌, slice_index}
 use Rattle.mono_fill.specs.declared.side.Side.{Side}
 use Rattle.mono_fill.specs.declared.side.Side.TheVariants.{Lower, Upper}
-use Rattle.sweep_tri.specs.Entries.{entries, entries_of_all, gap_entries, status_entries, IsPaid, IsWithinAccount, event_work}
+use Rattle.sweep_tri.specs.Entries.{entries, entries_of_all, gap_entries, status_entries, IsAccounted, IsPaid, IsWithinAccount, event_work}
 use Rattle.sweep_tri.specs.Gaps.{before_last, gap_at, no_gap}
 use Rattle.sweep_tri.specs.Meeting.{beside_front, closed_at, left_at, past_diagonal, split_above, split_below, with_vertex, gap_of}
 use Rattle.sweep_tri.specs.Meeting.{region_from}
@@ -104,6 +104,11 @@ still_there gaps i j less within = get_or-remove_below gaps j no_gap i less with
 pub put_entries : (gaps gaps' : List Gap) (j : ℕ) (g : Gap) → j < length gaps → gaps' ≡ set gaps j g
     → status_entries gaps' ≤ status_entries gaps + gap_entries g
 put_entries gaps gaps' j g within is = omega (arith, ap status_entries is, entries_replaced gaps j g within)
+
+-- what is paid for is accounted for
+pub accounted : {A E : Type 0} (result : Result A E) (old new : List Gap) (more s0 s : ℕ) → IsPaid old new more s0 s → IsAccounted result old new more s0 s
+accounted (Ok x) old new more s0 s paid = (omega (arith, paid), paid)
+accounted (Err e) old new more s0 s paid = (omega (arith, paid), tt)
 
 module _ (gaps : List Gap) (j : ℕ) (s0 : ℕ) where
   -- ---- a gap begins

@@ -1,5 +1,5 @@
 -- How many entries the chains of regions have in all: what bounds the work to close them. No public clause cites this module.
-use Rattle.std.specs.Prelude.{ℕ, ◌+◌, ◌*◌, ◌≤◌, Option, Some, None, List, [], ◌∷◌, length}
+use Rattle.std.specs.Prelude.{ℕ, ◌+◌, ◌*◌, ◌≤◌, OnOk, Option, Some, None, Result, List, [], ◌∷◌, length}
 use Rattle.sweep_tri.specs.Region.{Chains}
 use Rattle.sweep_tri.specs.declared.gap.Gap.{Gap}
 
@@ -37,3 +37,7 @@ IsWithinAccount old more s_old s = s ≤ s_old + 8 * status_entries old + more
 -- and by those that are gone
 abbrev pub IsPaid : List Gap → List Gap → ℕ → ℕ → ℕ → Type 0
 IsPaid old new more s_old s = s + 8 * status_entries new ≤ s_old + 8 * status_entries old + more
+
+-- by the former in any case, and where it was not refused by the latter
+abbrev pub IsAccounted : {A E : Type 0} → Result A E → List Gap → List Gap → ℕ → ℕ → ℕ → Type 0
+IsAccounted result old new more s_old s = IsWithinAccount old more s_old s × OnOk result (IsPaid old new more s_old s)

@@ -2,7 +2,7 @@
 ghost use Rattle.std.specs.Prelude.{◌≡◌, ◌+◌, ◌*◌, ◌≤◌, ◌<◌, ◌↔◌, OnOk, IsTrue, [], length, slice_index};
 ghost use Rattle.rings.specs.Events.{next, previous};
 ghost use Rattle.shared_seq.specs.Digits.{binary_digits};
-ghost use Rattle.sweep_tri.specs.Entries.{IsPaid, IsWithinAccount, event_work};
+ghost use Rattle.sweep_tri.specs.Entries.{IsAccounted, event_work};
 ghost use Rattle.sweep_tri.specs.Forks.{IsForkAt};
 ghost use Rattle.sweep_tri.specs.Frontier.{IsGapPlace, IsUnder};
 ghost use Rattle.sweep_tri.specs.Gaps.{gap_at, highest, up_front};
@@ -52,8 +52,7 @@ impl Sweep {
     ) -> Result<(), Memory>
         requires next { IsNextEvent (T.corners board.now) rank.now self.old.status self.old.tris.items v }
         ensures swept { OnOk result (IsSwept (T.corners board.now) rank.now (slice_index rank.now v + 1) self.new.status self.new.tris.items) }
-        ensures work { IsWithinAccount self.old.status (200 * binary_digits (length (T.corners board.now))) steps.old steps.new }
-        ensures paid { OnOk result (IsPaid self.old.status self.new.status (200 * binary_digits (length (T.corners board.now))) steps.old steps.new) }
+        ensures work { IsAccounted result self.old.status self.new.status (200 * binary_digits (length (T.corners board.now))) steps.old steps.new }
     {
         let j = self.status.place(board, v, steps);
         let (a, b) = neighbours(rank.len() as u32, v);
@@ -84,8 +83,7 @@ impl Sweep {
         requires place { IsGapPlace (T.corners board.now) self.old.status fork.vertex j }
         requires begins { Begins (T.corners board.now) rank.now fork }
         ensures swept { OnOk result (IsSwept (T.corners board.now) rank.now (slice_index rank.now fork.vertex + 1) self.new.status self.new.tris.items) }
-        ensures work { IsWithinAccount self.old.status event_work steps.old steps.new }
-        ensures paid { OnOk result (IsPaid self.old.status self.new.status event_work steps.old steps.new) }
+        ensures work { IsAccounted result self.old.status self.new.status event_work steps.old steps.new }
     {
         if 0 < j && self.is_under(board, j - 1, fork.vertex, steps) {
             self.split(alloc, rank, j - 1, fork)
@@ -108,8 +106,7 @@ impl Sweep {
         requires place { IsGapPlace (T.corners board.now) self.old.status v j }
         requires finishes { Finishes rank.now v }
         ensures swept { OnOk result (IsSwept (T.corners board.now) rank.now (slice_index rank.now v + 1) self.new.status self.new.tris.items) }
-        ensures work { IsWithinAccount self.old.status event_work steps.old steps.new }
-        ensures paid { OnOk result (IsPaid self.old.status self.new.status event_work steps.old steps.new) }
+        ensures work { IsAccounted result self.old.status self.new.status event_work steps.old steps.new }
     {
         if self.status.get(j).up_front().1 == v {
             self.end(alloc, board, rank, j, v, steps)

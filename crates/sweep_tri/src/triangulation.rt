@@ -7,7 +7,6 @@ ghost use Rattle.shared_seq.specs.Digits.{binary_digits};
 ghost use Rattle.ring_check.specs.Order.{IsInOrder};
 
 use crate::event::Sweep;
-use crate::order::lexical;
 use exact_plane::{Memory, Steps, Turns};
 use meshes::Tri;
 use ring_check::{Ring, ranks_of};
@@ -30,7 +29,7 @@ pub fn sweep_ring<T: Turns, L: Ledger>(
     match ring.order() {
         Some(order) => sweep(alloc, board, order, steps),
         None => {
-            let order = lexical(alloc, ring, steps)?;
+            let order = ring.lexical(alloc, steps)?;
             sweep(alloc, board, &order, steps)
         }
     }

@@ -2,7 +2,7 @@
 -- Two chains with bends from one point that have the same point at a place are one up to it.
 use Rattle.std.proofs.Common.{◌≡◌, inl, inr, subst, ap, ◌∙◌, ℕ, ◌+◌, ◌-◌, ◌<◌, ◌≤◌, List, ◌++◌, length, arith, refl, sym, take}
 use Rattle.std.proofs.lemmas.Bool.{cases_lt}
-use Rattle.std.proofs.lemmas.List.{get_or-append_right, get_or_append_left, length-append, get_or-take, length-take-le}
+use Rattle.std.proofs.lemmas.List.{get_or-append_right, get_or_append_left, length-append}
 use Rattle.plane.specs.Point.{Point, whole}
 use Rattle.rings.specs.Bend.{IsBend}
 use Rattle.rings.specs.Chain.{IsBentChain, IsInner, point_at}
@@ -10,7 +10,7 @@ use Rattle.rings.specs.Inside.{IsIn}
 use Rattle.rings.specs.Ring.{origin}
 use Rattle.rings.specs.Sees.{Sees}
 use Rattle.rings.specs.Simple.{IsSimple}
-use Rattle.funnels.proofs.OneChain.{before_last, last_of, one_bent_chain}
+use Rattle.funnels.proofs.OneChain.{before_last, front_at, front_bent, front_length, last_of, one_bent_chain}
 
 -- the last point of one list sees the first of the other, and the way over each of them has a bend there
 pub record IsLinked (ring one other : List Point) : Type 0 where
@@ -124,39 +124,13 @@ linked_bent ring one other bent bent_too link =
       bends = inner_of_both one other some some_too (IsBend ring) bent.bends bent_too.bends link.bend_last link.bend_first;
     }
 
-module _ (ring : List Point) (chain : List Point) (bent : IsBentChain ring chain) (n : ℕ) (some : 0 < n) (within : n ≤ length chain) where
-  count : length (take n chain) ≡ n
-  count = length-take-le n chain within
+-- the first n points of a list end with its n-th
+front_ends : (chain : List Point) (n : ℕ) → n ≤ length chain → (k : ℕ) → k + 1 ≡ n → last_of (take n chain) ≡ point_at chain k
+front_ends chain n within k e =
+    let last : length (take n chain) - 1 ≡ k = omega (arith, front_length chain n within, e) in
+    ap (point_at (take n chain)) last ∙ front_at chain n within k (omega (arith, e))
 
-  front_at : (k : ℕ) → k < n → point_at (take n chain) k ≡ point_at chain k
-  front_at k h = get_or-take n chain k origin h
-
-  -- the first n points of a chain with bends are one,
-  front_bent : IsBentChain ring (take n chain)
-  front_bent = record {
-    chain = record {
-      some = omega (arith, count, some);
-      inside = λ k h. rw (front_at k (omega (arith, count, h))) (bent.chain.inside k (omega (arith, count, h, within)));
-      distinct = λ k h.
-          rw (front_at k (omega (arith, count, h)), front_at (k + 1) (omega (arith, count, h)))
-          (bent.chain.distinct k (omega (arith, count, h, within)));
-      sees = λ k h.
-          rw (front_at k (omega (arith, count, h)), front_at (k + 1) (omega (arith, count, h)))
-          (bent.chain.sees k (omega (arith, count, h, within)));
-    };
-    bends = λ k inner.
-        let last = inner.not_last in
-        rw (front_at (k - 1) (omega (arith, count, last)), front_at k (omega (arith, count, last)), front_at (k + 1) (omega (arith, count, last)))
-        (bent.bends k (record { not_first = inner.not_first; not_last = omega (arith, count, last, within) }));
-  }
-
-  -- and end with its n-th
-  front_ends : (k : ℕ) → k + 1 ≡ n → last_of (take n chain) ≡ point_at chain k
-  front_ends k e =
-      let last : length (take n chain) - 1 ≡ k = omega (arith, count, e) in
-      ap (point_at (take n chain)) last ∙ front_at k (omega (arith, e))
-
--- so two of them from one point to one are one
+-- so two chains with bends from one point to one are one
 pub one_front : (ring : List Point) → 3 ≤ length ring → IsSimple ring → (first second : List Point) → IsBentChain ring first
     → IsBentChain ring second → point_at first 0 ≡ point_at second 0 → (k : ℕ) → k < length first → k < length second
     → point_at first k ≡ point_at second k → take (k + 1) first ≡ take (k + 1) second
@@ -165,7 +139,7 @@ one_front ring some simple first second bent bent_too begins k within within_too
     let positive : 0 < n = omega arith in
     let fits : n ≤ length first = omega (arith, within) in
     let fits_too : n ≤ length second = omega (arith, within_too) in
-    one_bent_chain ring some simple (take n first) (take n second) (front_bent ring first bent n positive fits)
-    (front_bent ring second bent_too n positive fits_too)
-    (front_at ring first bent n positive fits 0 positive ∙ begins ∙ sym (front_at ring second bent_too n positive fits_too 0 positive))
-    (front_ends ring first bent n positive fits k refl ∙ same ∙ sym (front_ends ring second bent_too n positive fits_too k refl))
+    one_bent_chain ring some simple (take n first) (take n second) (front_bent first n fits ring positive bent)
+    (front_bent second n fits_too ring positive bent_too)
+    (front_at first n fits 0 positive ∙ begins ∙ sym (front_at second n fits_too 0 positive))
+    (front_ends first n fits k refl ∙ same ∙ sym (front_ends second n fits_too k refl))

@@ -1,7 +1,7 @@
 // An end vertex: the two edges of a gap end.
 ghost use Rattle.std.specs.List.{All, remove};
 ghost use Rattle.std.specs.Prelude.{◌≡◌, ◌<◌, OnOk, [], ◌∷◌, ◌++◌, length};
-ghost use Rattle.sweep_tri.specs.Entries.{IsPaid, IsWithinAccount, event_work};
+ghost use Rattle.sweep_tri.specs.Entries.{IsAccounted, event_work};
 ghost use Rattle.sweep_tri.specs.Gaps.{gap_at};
 ghost use Rattle.sweep_tri.specs.Meeting.{AreFilled, closed_at, left_at};
 ghost use Rattle.sweep_tri.specs.Ranked.{IsRanked};
@@ -32,8 +32,7 @@ impl Sweep {
         ensures gaps { OnOk result (self.new.status ≡ remove self.old.status j) }
         ensures filled { OnOk result (let g = gap_at self.old.status j in
             AreFilled (T.corners board.now) (closed_at Side.Upper g.low g.high v ++ left_at Side.Upper g.low g.high v ∷ []) self.old.tris.items self.new.tris.items) }
-        ensures work { IsWithinAccount self.old.status event_work steps.old steps.new }
-        ensures paid { OnOk result (IsPaid self.old.status self.new.status event_work steps.old steps.new) }
+        ensures work { IsAccounted result self.old.status self.new.status event_work steps.old steps.new }
     {
         let gap = self.status.remove(alloc, j)?;
         let region = gap.meet(alloc, board, rank, Side::Upper, v, &mut self.tris, steps)?;

@@ -1,7 +1,7 @@
 // A merge vertex: two gaps meet where the edges between them end.
 ghost use Rattle.std.specs.List.{All, remove};
 ghost use Rattle.std.specs.Prelude.{◌≡◌, ◌-◌, ◌<◌, OnOk, Some, ◌++◌, length, slice_set};
-ghost use Rattle.sweep_tri.specs.Entries.{IsPaid, IsWithinAccount, event_work};
+ghost use Rattle.sweep_tri.specs.Entries.{IsAccounted, event_work};
 ghost use Rattle.sweep_tri.specs.Gaps.{gap_at};
 ghost use Rattle.sweep_tri.specs.Meeting.{AreFilled, closed_at, left_at};
 ghost use Rattle.sweep_tri.specs.Ranked.{IsRanked};
@@ -35,8 +35,7 @@ impl Sweep {
             (record { low = left_at Side.Upper g.low g.high v; high = Some (left_at Side.Lower h.low h.high v) })) }
         ensures filled { OnOk result (let g = gap_at self.old.status (j - 1) in let h = gap_at self.old.status j in
             AreFilled (T.corners board.now) (closed_at Side.Lower h.low h.high v ++ closed_at Side.Upper g.low g.high v) self.old.tris.items self.new.tris.items) }
-        ensures work { IsWithinAccount self.old.status event_work steps.old steps.new }
-        ensures paid { OnOk result (IsPaid self.old.status self.new.status event_work steps.old steps.new) }
+        ensures work { IsAccounted result self.old.status self.new.status event_work steps.old steps.new }
     {
         let above = self.status.remove(alloc, j)?;
         let high = above.meet(alloc, board, rank, Side::Lower, v, &mut self.tris, steps)?;

@@ -1,7 +1,7 @@
 // A regular vertex: one edge ends, and one goes on.
 ghost use Rattle.std.specs.List.{All};
-ghost use Rattle.std.specs.Prelude.{◌≡◌, ◌+◌, ◌*◌, ◌≤◌, ◌<◌, ◌↔◌, OnOk, IsTrue, length, slice_index, slice_set};
-ghost use Rattle.sweep_tri.specs.Entries.{IsPaid, IsWithinAccount, event_work};
+ghost use Rattle.std.specs.Prelude.{◌≡◌, ◌+◌, ◌≤◌, ◌<◌, ◌↔◌, OnOk, IsTrue, length, slice_index, slice_set};
+ghost use Rattle.sweep_tri.specs.Entries.{IsAccounted, event_work};
 ghost use Rattle.sweep_tri.specs.Frontier.{IsGapPlace};
 ghost use Rattle.sweep_tri.specs.Gaps.{gap_at, low_front};
 ghost use Rattle.sweep_tri.specs.Meeting.{AreFilled, closed_at, gap_of, left_at, with_vertex};
@@ -33,8 +33,7 @@ impl Sweep {
         requires place { IsGapPlace (T.corners board.now) self.old.status v j }
         requires goes_on { IsRegularVertex rank.now v w }
         ensures swept { OnOk result (IsSwept (T.corners board.now) rank.now (slice_index rank.now v + 1) self.new.status self.new.tris.items) }
-        ensures work { IsWithinAccount self.old.status event_work steps.old steps.new }
-        ensures paid { OnOk result (IsPaid self.old.status self.new.status event_work steps.old steps.new) }
+        ensures work { IsAccounted result self.old.status self.new.status event_work steps.old steps.new }
     {
         if self.low_ends(j, v) {
             self.go_on_at(alloc, board, rank, Side::Lower, j, v, w, steps)
@@ -70,8 +69,7 @@ impl Sweep {
             self.new.status ≡ slice_set self.old.status j (gap_of (with_vertex side (left_at side g.low g.high v) w))) }
         ensures filled { OnOk result (let g = gap_at self.old.status j in
             AreFilled (T.corners board.now) (closed_at side g.low g.high v) self.old.tris.items self.new.tris.items) }
-        ensures work { IsWithinAccount self.old.status event_work steps.old steps.new }
-        ensures paid { OnOk result (IsPaid self.old.status self.new.status event_work steps.old steps.new) }
+        ensures work { IsAccounted result self.old.status self.new.status event_work steps.old steps.new }
     {
         let gap = self.status.replace(j, Gap::none(alloc));
         let mut region = gap.meet(alloc, board, rank, side, v, &mut self.tris, steps)?;

@@ -1,5 +1,4 @@
 use Rattle.std.specs.Int.{w128}
-use Rattle.exact_frac.proofs.LowestTerms.{zero_lowest}
 use Rattle.exact_frac.proofs.Quotients.{divides}
 use Rattle.exact_frac.proofs.frac.lowest_of_long.Goals as goal
 
@@ -31,4 +30,4 @@ pub returns : goal.returns
 returns c =
     let h = divides w128 _ _ _ _ _ c.requires c.ranges.num c.ranges.den c.unsigned_abs.ensures.value
     c.unsigned_abs-2.ensures.value c.common_divisor-divisor.ensures in
-    record { value = h.value; zero = zero_lowest c.args.num c.args.den _ _ c.requires h.lowest h.value }
+    record { value = h.value; zero = h.zero }

@@ -1,7 +1,6 @@
 use Rattle.std.proofs.Common.{◌≡◌, ℤ, pos, negsuc, FitsSigned, to_z, of_z, arith}
 use Rattle.std.proofs.lemmas.Int.{to_z-of_z}
 use Rattle.std.specs.Int.{w64, w128}
-use Rattle.exact_frac.proofs.LowestTerms.{zero_lowest}
 use Rattle.exact_frac.proofs.Quotients.{divides}
 use Rattle.exact_frac.proofs.frac.lowest_of_short.Goals as goal
 
@@ -37,14 +36,8 @@ invariant_of-result c =
     c.unsigned_abs-2.ensures.value c.short_divisor-divisor.ensures in
     record { in_lowest_terms = rw (widened _ h.num_fits, widened _ h.den_fits) h.lowest }
 
-pub returns-clause-value : goal.returns-clause-value
-returns-clause-value c =
+pub returns : goal.returns
+returns c =
     let h = divides w64 _ _ _ _ _ c.requires c.ranges.num c.ranges.den c.unsigned_abs.ensures.value
     c.unsigned_abs-2.ensures.value c.short_divisor-divisor.ensures in
-    rw (widened _ h.num_fits, widened _ h.den_fits) h.value
-
-pub returns-clause-zero : goal.returns-clause-zero
-returns-clause-zero c =
-    let h = divides w64 _ _ _ _ _ c.requires c.ranges.num c.ranges.den c.unsigned_abs.ensures.value
-    c.unsigned_abs-2.ensures.value c.short_divisor-divisor.ensures in
-    rw (widened _ h.num_fits, widened _ h.den_fits) (zero_lowest c.args.num c.args.den _ _ c.requires h.lowest h.value)
+    rw (widened _ h.num_fits, widened _ h.den_fits) record { value = h.value; zero = h.zero }

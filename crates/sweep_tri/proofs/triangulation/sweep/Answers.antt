@@ -33,7 +33,7 @@ loop-v-preserved g c =
           c.pass.new.self.status c.pass.new.self.tris.items
           (subst (λ (ranks : List ℕ). IsSwept corners ranks (slice_index ranks k + 1) c.pass.new.self.status c.pass.new.self.tris.items)
           c.deref.ensures.value c.in_ok-pass.ensures.swept);
-      steps = omega (arith, c.in_ok-pass.ensures.paid, c.loop-v.invariant.steps);
+      steps = omega (arith, c.in_ok-pass.ensures.work.1, c.loop-v.invariant.steps);
     }
 
 pub returns-clause-fits : goal.returns-clause-fits

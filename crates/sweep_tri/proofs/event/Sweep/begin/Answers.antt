@@ -47,21 +47,25 @@ returns-else-j-gt0-clause-swept g c =
     ])))
     c.start.ensures.gaps
 
-pub returns-then-is_under-clause-paid : goal.returns-then-is_under-clause-paid
-returns-then-is_under-clause-paid g c =
-    let fork = c.args.fork in
-    on_ok_weaker c.split.result
-    (splits_paid c.args.self.now.status (c.args.j - 1) c.args.steps.now (omega (arith, c.if-j-gt0.true, c.requires.place.inside)) c.args.rank.now
-    fork.vertex fork.below fork.above c.is_under.new.steps c.is_under.ensures.steps c.split.new.self.status)
-    c.split.ensures.gaps
+pub returns-then-is_under-clause-work : goal.returns-then-is_under-clause-work
+returns-then-is_under-clause-work g c =
+    let fork = c.args.fork in (
+      omega (arith, c.is_under.ensures.steps),
+      on_ok_weaker c.split.result
+          (splits_paid c.args.self.now.status (c.args.j - 1) c.args.steps.now (omega (arith, c.if-j-gt0.true, c.requires.place.inside)) c.args.rank.now
+          fork.vertex fork.below fork.above c.is_under.new.steps c.is_under.ensures.steps c.split.new.self.status)
+          c.split.ensures.gaps,
+    )
 
-pub returns-else-j-gt0-clause-paid : goal.returns-else-j-gt0-clause-paid
-returns-else-j-gt0-clause-paid g c =
+pub returns-else-j-gt0-clause-work : goal.returns-else-j-gt0-clause-work
+returns-else-j-gt0-clause-work g c =
     let fork = c.args.fork in
     let most : c.else-j-gt0.steps ≤ c.args.steps.now + 1 = elim c.else-j-gt0.branch [
       | else-j-gt0-via-then-j-gt0+else-is_under w ↦ omega (arith, w.steps-is, w.is_under.ensures.steps)
       | else-j-gt0-via-else-j-gt0 w ↦ omega (arith, w.steps-is)
-    ] in
-    on_ok_weaker c.start.result
-    (starts_paid c.args.self.now.status c.args.j c.args.steps.now fork.vertex fork.below fork.above c.else-j-gt0.steps most c.start.new.self.status)
-    c.start.ensures.gaps
+    ] in (
+      omega (arith, most),
+      on_ok_weaker c.start.result
+          (starts_paid c.args.self.now.status c.args.j c.args.steps.now fork.vertex fork.below fork.above c.else-j-gt0.steps most c.start.new.self.status)
+          c.start.ensures.gaps,
+    )

@@ -1,10 +1,10 @@
-use Rattle.std.proofs.Common.{◌∷◌, [], ◌++◌, arith}
+use Rattle.std.proofs.Common.{◌∷◌, [], ◌++◌, rules, arith}
 use Rattle.std.proofs.lemmas.Result.{on_ok_weaker}
 use Rattle.mono_fill.specs.Filled.{IsFilled}
 use Rattle.mono_fill.specs.declared.side.Side.TheVariants.{Upper}
 use Rattle.sweep_tri.proofs.Closing.{all_but_last, filled_last, of_last}
-use Rattle.sweep_tri.proofs.Work.{met_work, removed_paid}
-use Rattle.sweep_tri.specs.Entries.{IsPaid, event_work}
+use Rattle.sweep_tri.proofs.Work.{accounted, met_work, removed_paid}
+use Rattle.sweep_tri.specs.Entries.{event_work}
 use Rattle.sweep_tri.specs.Gaps.{gap_at}
 use Rattle.sweep_tri.specs.Meeting.{AreFilled, closed_at, left_at}
 use Rattle.sweep_tri.specs.Region.{IsClosedRegion, boundary}
@@ -20,7 +20,7 @@ meet-requires-clause-closed g c =
 pub returns-in_err-region-clause-work : goal.returns-in_err-region-clause-work
 returns-in_err-region-clause-work g c =
     let met = met_work c.args.self.now.status c.args.j c.args.steps.now c.requires.place Upper c.args.v _ c.in_ok-gap.ensures.gap _ c.meet.ensures.steps in
-    omega (arith, met)
+    (omega (arith, met), search rules)
 
 pub close-requires-clause-closed : goal.close-requires-clause-closed
 close-requires-clause-closed g c =
@@ -46,12 +46,4 @@ pub returns-clause-work : goal.returns-clause-work
 returns-clause-work g c =
     let met = removed_paid c.args.self.now.status c.args.j c.args.steps.now c.requires.place Upper c.args.v _ c.in_ok-gap.ensures.gap _ c.meet.ensures.steps
     _ _ c.in_ok-region.ensures.left c.in_ok-gap.ensures.gaps in
-    omega (arith, met, c.close.ensures.steps)
-
-pub returns-clause-paid : goal.returns-clause-paid
-returns-clause-paid g c =
-    let gaps = c.args.self.now.status in
-    let met = removed_paid gaps c.args.j c.args.steps.now c.requires.place Upper c.args.v _ c.in_ok-gap.ensures.gap _ c.meet.ensures.steps
-    _ _ c.in_ok-region.ensures.left c.in_ok-gap.ensures.gaps in
-    let paid : IsPaid gaps c.remove.new.self event_work c.args.steps.now c.close.new.steps = omega (arith, met, c.close.ensures.steps) in
-    on_ok_weaker c.close.result (λ _. paid) c.close.ensures.filled
+    accounted c.close.result c.args.self.now.status c.remove.new.self event_work c.args.steps.now c.close.new.steps (omega (arith, met, c.close.ensures.steps))

@@ -1,11 +1,11 @@
-use Rattle.std.proofs.Common.{◌≡◌, ◌-◌, ◌<◌, length, ap, ◌∙◌, Some, set, arith}
+use Rattle.std.proofs.Common.{◌≡◌, ◌-◌, ◌<◌, length, ap, ◌∙◌, Some, set, rules, arith}
 use Rattle.std.proofs.lemmas.List.Edits.{length-remove}
 use Rattle.std.specs.List.{remove}
 use Rattle.mono_fill.specs.declared.side.Side.TheVariants.{Lower, Upper}
 use Rattle.sweep_tri.proofs.Balance.{filled-append}
 use Rattle.sweep_tri.proofs.Work.{as_many, emptied_paid, met_work, put_entries, removed_paid}
 use Rattle.sweep_tri.proofs.Work.{replaced_twice, still_there}
-use Rattle.sweep_tri.specs.Entries.{gap_entries}
+use Rattle.sweep_tri.specs.Entries.{IsPaid, event_work, gap_entries}
 use Rattle.sweep_tri.specs.Gaps.{gap_at}
 use Rattle.sweep_tri.specs.Meeting.{closed_at, left_at}
 use Rattle.sweep_tri.specs.declared.gap.Gap.{Gap}
@@ -14,7 +14,7 @@ use Rattle.sweep_tri.proofs.event.Sweep.merge.Goals as goal
 pub returns-in_err-high-clause-work : goal.returns-in_err-high-clause-work
 returns-in_err-high-clause-work g c =
     let met = met_work c.args.self.now.status c.args.j c.args.steps.now c.requires.place Lower c.args.v _ c.in_ok-above.ensures.gap _ c.meet.ensures.steps in
-    omega (arith, met)
+    (omega (arith, met), search rules)
 
 pub meet-requires-2-clause-closed : goal.meet-requires-2-clause-closed
 meet-requires-2-clause-closed g c =
@@ -34,7 +34,7 @@ returns-in_err-low-clause-work g c =
     let met = removed_paid gaps c.args.j c.args.steps.now c.requires.place Lower c.args.v _ c.in_ok-above.ensures.gap _ c.meet.ensures.steps
     _ _ c.in_ok-high.ensures.left c.in_ok-above.ensures.gaps in
     let met_below = met_work c.remove.new.self i _ within Upper c.args.v _ c.replace-below.ensures.gap _ c.meet-2.ensures.steps in
-    omega (arith, met, met_below)
+    (omega (arith, met, met_below), search rules)
 
 pub returns-clause-gaps : goal.returns-clause-gaps
 returns-clause-gaps g c =
@@ -64,8 +64,8 @@ returns-clause-filled g c =
     c.args.self.now.tris.items c.meet.new.tris.items c.meet-2.new.tris.items (rw c.in_ok-above.ensures.gap at c.in_ok-high.ensures.filled)
     (rw f_is at c.in_ok-low.ensures.filled)
 
-pub returns-clause-paid : goal.returns-clause-paid
-returns-clause-paid g c =
+pub returns-clause-work : goal.returns-clause-work
+returns-clause-work g c =
     let gaps = c.args.self.now.status in
     let i = c.args.j - 1 in
     let rest = ap length c.in_ok-above.ensures.gaps in
@@ -76,7 +76,5 @@ returns-clause-paid g c =
     _ _ c.in_ok-high.ensures.left c.in_ok-above.ensures.gaps in
     let met_below = emptied_paid c.remove.new.self i _ within Upper c.args.v _ c.replace-below.ensures.gap _ c.meet-2.ensures.steps
     _ _ c.in_ok-low.ensures.left _ c.none.ensures c.replace-below.ensures.gaps in
-    omega (arith, met, met_below, put, ap gap_entries c.of_two.ensures)
-
-pub returns-clause-work : goal.returns-clause-work
-returns-clause-work g c = omega (arith, returns-clause-paid g c)
+    let paid : IsPaid gaps c.replace.new.self event_work c.args.steps.now c.meet-2.new.steps = omega (arith, met, met_below, put, ap gap_entries c.of_two.ensures) in
+    (omega (arith, paid), paid)

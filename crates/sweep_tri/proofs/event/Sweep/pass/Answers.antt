@@ -1,10 +1,8 @@
-use Rattle.std.proofs.Common.{inl, sym, ◌∙◌, ◌+◌, ◌*◌, ◌<◌, arith}
+use Rattle.std.proofs.Common.{inl, sym, ◌∙◌, ◌<◌, arith}
 use Rattle.std.proofs.lemmas.Bool.{false≢true}
-use Rattle.std.proofs.lemmas.Result.{on_ok_weaker}
 use Rattle.std.specs.Prelude.{slice_index}
-use Rattle.sweep_tri.proofs.Passes.{begins_of_fork, is_sorted, pass_within}
+use Rattle.sweep_tri.proofs.Passes.{begins_of_fork, is_sorted, pass_accounted}
 use Rattle.sweep_tri.proofs.event.Sweep.pass.Goals as goal
-use Rattle.sweep_tri.specs.Entries.{status_entries}
 
 pub place-j-requires-clause-sorted : goal.place-j-requires-clause-sorted
 place-j-requires-clause-sorted g c = is_sorted c.requires.next
@@ -29,48 +27,20 @@ go_on-requires-then-b_begins-2-clause-goes_on g c =
 
 pub returns-then-b_begins-clause-work : goal.returns-then-b_begins-clause-work
 returns-then-b_begins-clause-work g c =
-    pass_within c.requires.next c.args.steps.now c.fork_of-fork.new.steps (status_entries c.args.self.now.status) c.begin.new.steps
+    pass_accounted c.requires.next c.begin.result c.begin.new.self.status c.args.steps.now c.fork_of-fork.new.steps c.begin.new.steps
     (omega (arith, c.place-j.ensures.steps, c.fork_of-fork.ensures.steps)) c.begin.ensures.work
-
-pub returns-then-b_begins-clause-paid : goal.returns-then-b_begins-clause-paid
-returns-then-b_begins-clause-paid g c =
-    on_ok_weaker c.begin.result
-    (pass_within c.requires.next c.args.steps.now c.fork_of-fork.new.steps (status_entries c.args.self.now.status)
-    (c.begin.new.steps + 8 * status_entries c.begin.new.self.status) (omega (arith, c.place-j.ensures.steps, c.fork_of-fork.ensures.steps)))
-    c.begin.ensures.paid
 
 pub returns-then-a_begins-2-clause-work : goal.returns-then-a_begins-2-clause-work
 returns-then-a_begins-2-clause-work g c =
-    pass_within c.requires.next c.args.steps.now c.place-j.new.steps (status_entries c.args.self.now.status) c.go_on.new.steps
+    pass_accounted c.requires.next c.go_on.result c.go_on.new.self.status c.args.steps.now c.place-j.new.steps c.go_on.new.steps
     (omega (arith, c.place-j.ensures.steps)) c.go_on.ensures.work
-
-pub returns-then-a_begins-2-clause-paid : goal.returns-then-a_begins-2-clause-paid
-returns-then-a_begins-2-clause-paid g c =
-    on_ok_weaker c.go_on.result
-    (pass_within c.requires.next c.args.steps.now c.place-j.new.steps (status_entries c.args.self.now.status)
-    (c.go_on.new.steps + 8 * status_entries c.go_on.new.self.status) (omega (arith, c.place-j.ensures.steps)))
-    c.go_on.ensures.paid
 
 pub returns-then-b_begins-2-clause-work : goal.returns-then-b_begins-2-clause-work
 returns-then-b_begins-2-clause-work g c =
-    pass_within c.requires.next c.args.steps.now c.place-j.new.steps (status_entries c.args.self.now.status) c.go_on-then-b_begins-2.new.steps
+    pass_accounted c.requires.next c.go_on-then-b_begins-2.result c.go_on-then-b_begins-2.new.self.status c.args.steps.now c.place-j.new.steps c.go_on-then-b_begins-2.new.steps
     (omega (arith, c.place-j.ensures.steps)) c.go_on-then-b_begins-2.ensures.work
-
-pub returns-then-b_begins-2-clause-paid : goal.returns-then-b_begins-2-clause-paid
-returns-then-b_begins-2-clause-paid g c =
-    on_ok_weaker c.go_on-then-b_begins-2.result
-    (pass_within c.requires.next c.args.steps.now c.place-j.new.steps (status_entries c.args.self.now.status)
-    (c.go_on-then-b_begins-2.new.steps + 8 * status_entries c.go_on-then-b_begins-2.new.self.status) (omega (arith, c.place-j.ensures.steps)))
-    c.go_on-then-b_begins-2.ensures.paid
 
 pub returns-else-b_begins-2-clause-work : goal.returns-else-b_begins-2-clause-work
 returns-else-b_begins-2-clause-work g c =
-    pass_within c.requires.next c.args.steps.now c.place-j.new.steps (status_entries c.args.self.now.status) c.finish.new.steps
+    pass_accounted c.requires.next c.finish.result c.finish.new.self.status c.args.steps.now c.place-j.new.steps c.finish.new.steps
     (omega (arith, c.place-j.ensures.steps)) c.finish.ensures.work
-
-pub returns-else-b_begins-2-clause-paid : goal.returns-else-b_begins-2-clause-paid
-returns-else-b_begins-2-clause-paid g c =
-    on_ok_weaker c.finish.result
-    (pass_within c.requires.next c.args.steps.now c.place-j.new.steps (status_entries c.args.self.now.status)
-    (c.finish.new.steps + 8 * status_entries c.finish.new.self.status) (omega (arith, c.place-j.ensures.steps)))
-    c.finish.ensures.paid

@@ -2,7 +2,8 @@ use Rattle.std.proofs.Common.{◌∙◌, ◌≡◌, length, sym, subst, ap, arit
 use Rattle.std.proofs.lemmas.Bool.{false≢true}
 use Rattle.shared_seq.proofs.Digits.{binary_digits_enough}
 use Rattle.shared_seq.specs.Digits.{binary_digits}
-use Rattle.sweep_tri.proofs.Search.{half_paid, high_moves, low_moves}
+use Rattle.ring_check.proofs.Halves.{half_paid}
+use Rattle.sweep_tri.proofs.Search.{high_moves, low_moves}
 use Rattle.sweep_tri.proofs.Slots.{gaps_count}
 use Rattle.sweep_tri.specs.Frontier.{IsAbove}
 use Rattle.sweep_tri.specs.Gaps.{low_front}
@@ -31,7 +32,7 @@ loop-low-preserved-then-is_over g c =
     let above = subst (λ (gap : Gap). IsAbove corners (low_front gap) c.args.v) c.get.ensures.gap (c.is_over.ensures.above.0 c.if-is_over.true) in
     record {
       between = low_moves corners c.args.self.now c.args.v c.requires.sorted _ _ had.between _ (omega (arith, less)) above;
-      steps = half_paid _ _ _ _ _ (omega (arith, less)) (omega (arith, less)) c.is_over.ensures.steps had.steps;
+      steps = half_paid _ _ _ _ _ (omega (arith, less)) (omega (arith, less)) (omega (arith, c.is_over.ensures.steps)) had.steps;
     }
 
 pub loop-low-preserved : goal.loop-low-preserved
@@ -43,5 +44,5 @@ loop-low-preserved g c =
       between = high_moves corners c.args.self.now c.args.v c.requires.sorted _ _ had.between _ (omega arith) (omega (arith, less))
           (λ above. false≢true (sym c.if-is_over.false ∙ c.is_over.ensures.above.1
           (subst (λ (gap : Gap). IsAbove corners (low_front gap) c.args.v) (sym c.get.ensures.gap) above)));
-      steps = half_paid _ _ _ _ _ (omega (arith, less)) (omega (arith, less)) c.is_over.ensures.steps had.steps;
+      steps = half_paid _ _ _ _ _ (omega (arith, less)) (omega (arith, less)) (omega (arith, c.is_over.ensures.steps)) had.steps;
     }
