@@ -99,7 +99,7 @@ fn best_in<L: Ledger>(
     let last = piece.order.len() - 1;
     let mut best: Option<Candidate> = None;
     for rank in 1..piece.order.len() {
-        if rank == NEAR && best.is_none() && corner.is_empty(alloc, ring, clusters, steps) {
+        if corner.is_told_empty(alloc, ring, rank, best, clusters, steps) {
             return None;
         }
         let number = piece.order[last - rank];
@@ -213,6 +213,33 @@ impl Corner {
         }
         let (whole, _) = way(&self.v, &self.end, steps);
         is_less_share(rest, whole, height_of(best), self.height)
+    }
+
+    // Whether the clusters tell that no vertex of the ring but the three is in the triangle. They are asked at one rank alone, where
+    // none was found before.
+    fn is_told_empty<L: Ledger>(
+        &self,
+        alloc: Global,
+        ring: &Ring,
+        rank: usize,
+        best: Option<Candidate>,
+        clusters: &mut Option<Clusters>,
+        steps: &mut Steps<L>,
+    ) -> bool
+        requires counterclockwise { IsLeft (whole self.now.u) (whole self.now.v) (whole self.now.w) }
+        requires clusters { IfSome clusters.old (AreClusters ring.now.corners) }
+        ensures empty { IsTrue result → (i : ℕ) → i < length ring.now.corners → ¬ (i ≡ self.now.tri.b)
+            → ¬ (IsCandidate self.now i (vertex ring.now.corners i)) }
+        ensures clusters { IfSome clusters.new (AreClusters ring.now.corners) }
+        ensures near { IsTrue result → rank ≡ 32 }
+        ensures before { rank < 32 → steps.new ≡ steps.old }
+        ensures behind { 32 < rank → steps.new ≡ steps.old }
+        ensures steps { steps.new ≤ steps.old + (371 * length ring.now.corners + 1168) }
+    {
+        if rank != NEAR || best.is_some() {
+            return false;
+        }
+        self.is_empty(alloc, ring, clusters, steps)
     }
 
     // Whether no vertex of the ring but the three is in the triangle, by clusters that are made here where there are none. Without

@@ -1,4 +1,4 @@
-use Rattle.std.proofs.Common.{ℕ, ◌+◌, ◌-◌, ◌*◌, ◌<◌, ◌≤◌, length}
+use Rattle.std.proofs.Common.{ℕ, ◌+◌, ◌*◌, ◌<◌, ◌≤◌, length}
 use Rattle.cut_tri.specs.Corner.{HasNoCandidateAt}
 use Rattle.cut_tri.proofs.farthest.Corner.is_empty_among.Given as goal
 
