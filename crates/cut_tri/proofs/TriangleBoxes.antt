@@ -11,6 +11,8 @@ use Rattle.plane.specs.Turn.{IsLeft, IsRight}
 use Rattle.exact_plane.specs.Boxes.{Encloses}
 use Rattle.exact_plane.specs.declared.bounding_box.BoundingBox.{BoundingBox}
 use Rattle.cut_tri.proofs.Heights.{way_at_most}
+use Rattle.cut_tri.specs.Clusters.{IsSideBetween}
+use Rattle.cut_tri.specs.declared.triangle.Side.{Side}
 
 -- weights s, -t and r that are not negative, with the positive sum d
 module _ (s t r d : ℤ) (hs : pos 0 ≤ℤ s) (ht : pos 0 ≤ℤ (pos 0 -ℤ t)) (hr : pos 0 ≤ℤ r) (hd : pos 0 <ℤ d) (sum : s -ℤ t +ℤ r -ℤ d ≡ pos 0) where
@@ -63,45 +65,58 @@ in_box box u v w p left has_u has_v has_w is =
 
 -- ---- boxes on the right of a line
 
--- a product is at most another where its second factor is not less on the side of the first
-product_at_most : (x high low y : ℤ) → low ≤ℤ y → y ≤ℤ high → (far : ℤ) → (pos 0 <ℤ x → far ≡ high) → (x ≤ℤ pos 0 → far ≡ low) → (x *ℤ y) ≤ℤ (x *ℤ far)
-product_at_most x high low y from to far right left = elim (lt_or_le (pos 0) x) [
-  | inl positive ↦ let e = right positive in later (mul_nonnegative x (far -ℤ y) (omega (arith, ints)) (omega (arith, ints, e))) (expanded far)
-  | inr other ↦ let e = left other in later (mul_nonpositives x (far -ℤ y) other (omega (arith, ints, e))) (expanded far)
+-- a product grows with its second factor where the first is not negative, and falls where it is
+pub product_at_most : (x m n : ℤ) → (pos 0 ≤ℤ x → m ≤ℤ n) → (x <ℤ pos 0 → n ≤ℤ m) → (x *ℤ m) ≤ℤ (x *ℤ n)
+product_at_most x m n rises falls = elim (lt_or_le x (pos 0)) [
+  | inl negative ↦
+      let h = falls negative in
+      later (mul_nonpositives x (n -ℤ m) (omega (arith, ints)) (omega (arith, ints, h))) expanded
+  | inr other ↦
+      let h = rises other in
+      later (mul_nonnegative x (n -ℤ m) other (omega (arith, ints, h))) expanded
 ]
   where
-    expanded : (far : ℤ) → x *ℤ (far -ℤ y) ≡ x *ℤ far -ℤ x *ℤ y
-    expanded far = same_value (var 0 ⊗ (var 1 ⊖ var 2)) (var 0 ⊗ var 1 ⊖ var 0 ⊗ var 2) (x ∷ far ∷ y ∷ []) refl
+    expanded : x *ℤ (n -ℤ m) ≡ x *ℤ n -ℤ x *ℤ m
+    expanded = same_value (var 0 ⊗ (var 1 ⊖ var 2)) (var 0 ⊗ var 1 ⊖ var 0 ⊗ var 2) (x ∷ n ∷ m ∷ []) refl
 
     later : {a b c : ℤ} → pos 0 ≤ℤ a → a ≡ b -ℤ c → c ≤ℤ b
     later h e = omega (arith, ints)
 
--- a box whose corner farthest to the left is right of a line has all its points right of it
-pub right_of : (a b p : Point) (box : BoundingBox) (x y back left_x left_y : ℤ) → x ≡ b.x -ℤ a.x → y ≡ b.y -ℤ a.y → back ≡ a.y -ℤ b.y
-    → (pos 0 <ℤ back → left_x ≡ box.east -ℤ a.x) → (back ≤ℤ pos 0 → left_x ≡ box.west -ℤ a.x)
-    → (pos 0 <ℤ x → left_y ≡ box.north -ℤ a.y) → (x ≤ℤ pos 0 → left_y ≡ box.south -ℤ a.y)
-    → (x *ℤ left_y) <ℤ (y *ℤ left_x) → Encloses box p → IsRight (whole a) (whole b) (whole p)
-right_of a b p box x y back left_x left_y x_is y_is back_is to_east to_west to_north to_south less is =
-    subst (λ d. d <ℤ pos 0) (sym (determinant_of_whole a b p ∙ (λ k. (sym x_is k *ℤ (p.y -ℤ a.y)) -ℤ (sym y_is k *ℤ (p.x -ℤ a.x)))))
-    (less_than
-    (product_at_most x (box.north -ℤ a.y) (box.south -ℤ a.y) (p.y -ℤ a.y) (less_way a.y is.south) (less_way a.y is.north) left_y to_north to_south)
-    (product_at_most back (box.east -ℤ a.x) (box.west -ℤ a.x) (p.x -ℤ a.x) (less_way a.x is.west) (less_way a.x is.east) left_x to_east to_west)
-    (expanded x y back (p.x -ℤ a.x) (p.y -ℤ a.y) left_x left_y (omega (arith, ints, y_is, back_is))) less)
+-- a point is right of the line of a side where its cross product with the way along it is less than that of where this begins
+pub right_of_side : (a b p : Point) (side : Side) → IsSideBetween a b side → ((side.x *ℤ p.y) -ℤ (side.y *ℤ p.x)) <ℤ side.begin
+    → IsRight (whole a) (whole b) (whole p)
+right_of_side a b p side is less =
+    subst (λ d. d <ℤ pos 0) (sym (determinant_of_whole a b p ∙ (λ k. (sym is.x k *ℤ (p.y -ℤ a.y)) -ℤ (sym is.y k *ℤ (p.x -ℤ a.x)))))
+    (less_than (expanded side.x side.y p.x p.y a.x a.y) is.begin less)
   where
-    less_way : {m n : ℤ} (k : ℤ) → m ≤ℤ n → (m -ℤ k) ≤ℤ (n -ℤ k)
-    less_way k h = omega (arith, ints)
+    less_than : {d e f g : ℤ} → d ≡ e -ℤ f → g ≡ f → e <ℤ g → d <ℤ pos 0
+    less_than h k l = omega (arith, ints)
 
-    less_than : {d m n e f g h : ℤ} → e ≤ℤ f → g ≤ℤ h → d -ℤ (m -ℤ n) ≡ e -ℤ f +ℤ (g -ℤ h) → m <ℤ n → d <ℤ pos 0
-    less_than h k is l = omega (arith, ints)
-
-    expanded : (x y back p q left_x left_y : ℤ) → back ≡ pos 0 -ℤ y
-        → (x *ℤ q -ℤ y *ℤ p) -ℤ (x *ℤ left_y -ℤ y *ℤ left_x) ≡ x *ℤ q -ℤ x *ℤ left_y +ℤ (back *ℤ p -ℤ back *ℤ left_x)
-    expanded x y back p q left_x left_y e =
+    expanded : (x y p q m n : ℤ) → (x *ℤ (q -ℤ n)) -ℤ (y *ℤ (p -ℤ m)) ≡ (x *ℤ q -ℤ y *ℤ p) -ℤ (x *ℤ n -ℤ y *ℤ m)
+    expanded x y p q m n =
         same_value
+        ((var 0 ⊗ (var 3 ⊖ var 5)) ⊖ (var 1 ⊗ (var 2 ⊖ var 4)))
         ((var 0 ⊗ var 3 ⊖ var 1 ⊗ var 2) ⊖ (var 0 ⊗ var 5 ⊖ var 1 ⊗ var 4))
-        (var 0 ⊗ var 3 ⊖ var 0 ⊗ var 5 ⊕ ((lit (pos 0) ⊖ var 1) ⊗ var 2 ⊖ (lit (pos 0) ⊖ var 1) ⊗ var 4))
-        (x ∷ y ∷ p ∷ q ∷ left_x ∷ left_y ∷ []) refl
-        ∙ (λ k. x *ℤ q -ℤ x *ℤ left_y +ℤ (sym e k *ℤ p -ℤ sym e k *ℤ left_x))
+        (x ∷ y ∷ p ∷ q ∷ m ∷ n ∷ []) refl
+
+-- a box has all its points right of a side where the corner farthest to the left is
+pub box_right_of_side : (a b p : Point) (box : BoundingBox) (side : Side) (x y : ℤ) → IsSideBetween a b side
+    → (side.y <ℤ pos 0 → x ≡ box.east) → (pos 0 ≤ℤ side.y → x ≡ box.west)
+    → (side.x <ℤ pos 0 → y ≡ box.south) → (pos 0 ≤ℤ side.x → y ≡ box.north)
+    → ((side.x *ℤ y) -ℤ (side.y *ℤ x)) <ℤ side.begin → Encloses box p → IsRight (whole a) (whole b) (whole p)
+box_right_of_side a b p box side x y side_is to_east to_west to_south to_north less is =
+    right_of_side a b p side side_is
+    (between (product_at_most side.x p.y y (λ h. up is.north (to_north h)) (λ h. down is.south (to_south h)))
+    (product_at_most side.y x p.x (λ h. down is.west (to_west h)) (λ h. up is.east (to_east h))) less)
+  where
+    up : {m n far : ℤ} → m ≤ℤ n → far ≡ n → m ≤ℤ far
+    up h e = omega (arith, ints)
+
+    down : {m n far : ℤ} → n ≤ℤ m → far ≡ n → far ≤ℤ m
+    down h e = omega (arith, ints)
+
+    between : {d e f g begin : ℤ} → d ≤ℤ e → f ≤ℤ g → (e -ℤ f) <ℤ begin → (d -ℤ g) <ℤ begin
+    between h k l = omega (arith, ints)
 
 -- ---- triangles with the same corners
 pub same_corners : {u v w a b c : Point} {x : Triple} → a ≡ u → b ≡ v → c ≡ w → IsInTriangle u v w x → IsInTriangle a b c x

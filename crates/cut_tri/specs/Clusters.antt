@@ -1,6 +1,6 @@
 -- Clusters of the vertices of a ring and triangles, with boxes round them. No public clause cites this module.
 use Rattle.std.specs.List.{All, range_with_len}
-use Rattle.std.specs.Prelude.{◌≡◌, ℕ, ◌-ℤ◌, ◌<◌, ◌≤◌, ◌^◌, IsPermutation, List, length, slice_index_or, unsigned_abs}
+use Rattle.std.specs.Prelude.{◌≡◌, ℕ, ◌*ℤ◌, ◌-ℤ◌, ◌<◌, ◌≤◌, ◌^◌, IsPermutation, List, length, slice_index_or, unsigned_abs}
 use Rattle.plane.specs.Point.{Point}
 use Rattle.rings.specs.Ring.{vertex}
 use Rattle.exact_plane.specs.Boxes.{Encloses}
@@ -11,17 +11,15 @@ use Rattle.cut_tri.specs.declared.triangle.Triangle.{Triangle}
 
 -- its numbers are small
 pub record HasSmallNumbers (side : Side) : Type 0 where
-  pub from_x : unsigned_abs side.from_x < 2 ^ 24
-  pub from_y : unsigned_abs side.from_y < 2 ^ 24
   pub x : unsigned_abs side.x < 2 ^ 24
   pub y : unsigned_abs side.y < 2 ^ 24
+  pub begin : unsigned_abs side.begin < 2 ^ 50
 
 -- the side begins at the first point, and goes to the second
 pub record IsSideBetween (a b : Point) (side : Side) : Type 0 where
-  pub from_x : side.from_x ≡ a.x
-  pub from_y : side.from_y ≡ a.y
   pub x : side.x ≡ b.x -ℤ a.x
   pub y : side.y ≡ b.y -ℤ a.y
+  pub begin : side.begin ≡ (side.x *ℤ a.y) -ℤ (side.y *ℤ a.x)
   pub small : HasSmallNumbers side
 
 -- its corners are in its box, and its sides go from one to the next
@@ -33,9 +31,10 @@ pub record IsBounded (triangle : Triangle) : Type 0 where
   pub first : IsSideBetween triangle.u triangle.v triangle.first
   pub second : IsSideBetween triangle.v triangle.w triangle.second
 
--- its vertices are in its box, and it ends within the list
+-- its vertices are in its box, and its places are of the list
 pub record IsCluster (corners : List Point) (numbers : List ℕ) (cluster : Cluster) : Type 0 where
   pub boxed : (k : ℕ) → cluster.first ≤ k → k < cluster.end → Encloses cluster.bounds (vertex corners (slice_index_or numbers k 0))
+  pub ordered : cluster.first ≤ cluster.end
   pub within : cluster.end ≤ length numbers
 
 -- all vertices are there, and each cluster has its vertices in its box

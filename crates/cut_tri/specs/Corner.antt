@@ -38,6 +38,11 @@ pub record IsCandidate (corner : Corner) (number : ℕ) (p : Point) : Type 0 whe
   pub not_first : ¬ (number ≡ corner.tri.a)
   pub not_last : ¬ (number ≡ corner.tri.c)
 
+-- the vertex with the number at a place is no candidate, or the one at the corner
+abbrev pub HasNoCandidateAt : Corner → List Point → List ℕ → ℕ → Type 0
+HasNoCandidateAt corner corners numbers k =
+    ¬ (slice_index_or numbers k 0 ≡ corner.tri.b) → ¬ (IsCandidate corner (slice_index_or numbers k 0) (vertex corners (slice_index_or numbers k 0)))
+
 -- the first is higher, or as high with a lesser number
 abbrev pub IsFarther : Candidate → Candidate → Type 0
 IsFarther c d = (d.height <ℤ c.height) ⊎ ((c.height ≡ d.height) × (c.number < d.number))

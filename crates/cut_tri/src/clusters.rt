@@ -1,37 +1,35 @@
 // Clusters of vertices with boxes round them, by which whole clusters are left out of the search for a vertex in a triangle.
 ghost use Rattle.std.specs.List.{All};
-ghost use Rattle.std.specs.Prelude.{◌≡◌, ◌+◌, ◌*◌, ◌-◌, ◌%◌, ◌<◌, ◌≤◌, ℕ, IfOk, List, length, slice_index_or};
-ghost use Rattle.plane.specs.Point.{Point, whole};
-ghost use Rattle.plane.specs.Triangle.{IsInTriangle};
-ghost use Rattle.plane.specs.Turn.{IsLeft};
+ghost use Rattle.std.specs.Prelude.{◌≡◌, ◌+◌, ◌*◌, ◌-◌, ◌<◌, ◌≤◌, ℕ, IfOk, IfSome, List, OnOk, length};
+ghost use Rattle.plane.specs.Point.{Point};
 ghost use Rattle.exact_plane.specs.Boxes.{Encloses};
-ghost use Rattle.rings.specs.Ring.{vertex};
-ghost use Rattle.cut_tri.specs.Clusters.{AreClusters, IsBounded, IsCluster};
+ghost use Rattle.cut_tri.specs.Clusters.{AreClusters, IsCluster};
 
-use crate::triangle::Triangle;
-use crate::z_order::z_order;
+use crate::z_order::{Key, numbers_of, z_order};
 use exact_plane::{BoundingBox, Memory, Steps};
 use ring_check::Ring;
 use std::alloc::Global;
 use std::sync::ledger::Ledger;
 
-// How many vertices a cluster has at most that joins no others.
-const LEAST: usize = 8;
+// How many vertices a cluster has at most that has no parts.
+const LEAST: usize = 12;
 
-// The vertices at the places from `first` to before `end` of a list, which are all in the box.
+// The vertices at the places from `first` to before `end` of a list, which are all in the box. Its parts are the clusters from the
+// place `start` to before its own.
 #[derive(Clone, Copy)]
 pub(crate) struct Cluster {
-    first: usize,
-    end: usize,
-    bounds: BoundingBox,
+    pub first: usize,
+    pub end: usize,
+    pub start: usize,
+    pub bounds: BoundingBox,
 }
 
-// All vertices, in Z-order, and clusters of them. Where m join none, cluster m + k joins clusters 2 k and 2 k + 1, so that they
-// make a tree.
+// All vertices in Z-order, and clusters of them that make a tree. Each has the vertices in a cell: those whose codes begin with the
+// same bits, so that it is a square or two side by side.
 #[derive(Drop)]
 pub(crate) struct Clusters {
     pub numbers: Vec<u32>,
-    clusters: Vec<Cluster>,
+    pub clusters: Vec<Cluster>,
 }
 
 impl Clusters {
@@ -44,64 +42,129 @@ impl Clusters {
         ensures clusters { IfOk result (AreClusters ring.now.corners) }
         ensures steps { steps.new ≤ steps.old + 128 * length ring.now.corners }
     {
-        let numbers = z_order(alloc, ring, steps)?;
-        let mut clusters = least_clusters(alloc, ring, &numbers, steps)?;
-        let count = clusters.len();
-        for k in 1..count {
-            let cluster = clusters[2 * k - 2].joined(&clusters[2 * k - 1]);
-            clusters.push(cluster)?;
-        }
+        let keys = z_order(alloc, ring, steps)?;
+        let numbers = numbers_of(alloc, &keys)?;
+        let clusters = clusters_of(alloc, ring, &keys, &numbers, steps)?;
         Ok(Clusters { numbers, clusters })
-    }
-
-    // The place behind the greatest cluster from a place on whose box the triangle misses. Where there is no such cluster, that
-    // is the place. A cluster that adds fewer vertices than one that joins none has is not asked.
-    pub(crate) fn clear_to(&self, triangle: &Triangle, place: usize) -> usize
-        requires counterclockwise { IsLeft (whole triangle.now.u) (whole triangle.now.v) (whole triangle.now.w) }
-        requires bounded { IsBounded triangle.now }
-        ensures apart { (corners : List Point) → AreClusters corners self.now → (k : ℕ) → place ≤ k → k < result
-            → ¬ (IsInTriangle triangle.now.u triangle.now.v triangle.now.w (whole (vertex corners (slice_index_or self.now.numbers.items k 0)))) }
-        ensures within { (corners : List Point) → AreClusters corners self.now → place ≤ length self.now.numbers.items
-            → result ≤ length self.now.numbers.items }
-    {
-        if place % LEAST != 0 {
-            return place;
-        }
-        let mut end = place;
-        let mut k = place / LEAST;
-        while k < self.clusters.len() {
-            let cluster = &self.clusters[k];
-            if cluster.first != place || cluster.end.saturating_sub(end) < LEAST {
-                return end;
-            }
-            if !triangle.misses(&cluster.bounds) {
-                return end;
-            }
-            end = cluster.end;
-            // The cluster that joins this one and the next, or the one before.
-            k = self.clusters.len() / 2 + 1 + k / 2;
-        }
-        end
     }
 }
 
+// The clusters of the vertices with these keys. It takes at most 64 steps a vertex.
+fn clusters_of<L: Ledger>(
+    alloc: Global,
+    ring: &Ring,
+    keys: &[Key],
+    numbers: &[u32],
+    steps: &mut Steps<L>,
+) -> Result<Vec<Cluster>, Memory>
+    requires numbers { All (λ i. i < length ring.now.corners) numbers.now }
+    requires keys { length keys.now ≡ length numbers.now }
+    ensures clusters { IfOk result (λ clusters. All (IsCluster ring.now.corners numbers.now) clusters.items) }
+    ensures steps { steps.new ≤ steps.old + 64 * length numbers.now }
+{
+    let mut clusters = Vec::with_capacity(alloc, numbers.len() / 2 + 2)?;
+    let mut first = 0;
+    while first < numbers.len() {
+        let end = end_of_cell(keys, first);
+        let start = clusters.len();
+        clusters.push(Cluster::of(ring, numbers, first, end, start, steps))?;
+        join_last(&mut clusters, keys)?;
+        first = end;
+    }
+    Ok(clusters)
+}
+
+// The place behind the vertices of the greatest cell that begins at a place and has no more than a cluster without parts.
+fn end_of_cell(keys: &[Key], first: usize) -> usize
+    requires { first < length keys.now }
+    ensures some { first < result }
+    ensures within { result ≤ length keys.now }
+{
+    let code = keys[first].code;
+    let limit = change(keys, first.wrapping_sub(1), first).min(change(keys, first, first + LEAST));
+    let mut end = first + 1;
+    while end < keys.len() {
+        let change = code ^ keys[end].code;
+        if limit & !change <= change {
+            return end;
+        }
+        end += 1;
+    }
+    end
+}
+
+// The bits in which the codes at two places differ, or all where there is none at one. The higher the highest of them, the greater
+// is the least cell with both.
+fn change(keys: &[Key], place: usize, other: usize) -> u64 {
+    match (keys.get(place), keys.get(other)) {
+        (Some(a), Some(b)) => a.code ^ b.code,
+        _ => u64::MAX,
+    }
+}
+
+// Joins the last clusters as long as there is a cell that has both alone: at most once for each bit of a code.
+fn join_last(clusters: &mut Vec<Cluster>, keys: &[Key]) -> Result<(), Memory>
+    ensures { OnOk result ((corners : List Point) (numbers : List ℕ) → All (IsCluster corners numbers) clusters.old.items
+        → All (IsCluster corners numbers) clusters.new.items) }
+{
+    for _ in 0..48 {
+        match last_joined(clusters, keys) {
+            Some(cluster) => clusters.push(cluster)?,
+            None => return Ok(()),
+        }
+    }
+    Ok(())
+}
+
+// The last cluster joined with the one before its parts, if there is a cell that has both alone.
+fn last_joined(clusters: &[Cluster], keys: &[Key]) -> Option<Cluster>
+    ensures { (corners : List Point) (numbers : List ℕ) → All (IsCluster corners numbers) clusters.now
+        → IfSome result (IsCluster corners numbers) }
+{
+    let count = clusters.len();
+    if count == 0 {
+        return None;
+    }
+    let last = &clusters[count - 1];
+    let before = change(keys, last.first.wrapping_sub(1), last.first);
+    if change(keys, last.end.wrapping_sub(1), last.end) <= before {
+        return None;
+    }
+    let place = last.start.wrapping_sub(1);
+    if count <= place {
+        return None;
+    }
+    let other = &clusters[place];
+    Some(other.joined(last))
+}
+
 impl Cluster {
-    // The vertices at the places from `first` on, as many as a cluster has that joins no others, or all. It takes 64 steps a
-    // vertex.
-    fn of<L: Ledger>(ring: &Ring, numbers: &[u32], first: usize, steps: &mut Steps<L>) -> Cluster
+    // The vertices at the places from `first` to before `end`. It takes 64 steps a vertex.
+    fn of<L: Ledger>(
+        ring: &Ring,
+        numbers: &[u32],
+        first: usize,
+        end: usize,
+        start: usize,
+        steps: &mut Steps<L>,
+    ) -> Cluster
         requires numbers { All (λ i. i < length ring.now.corners) numbers.now }
-        requires first { first < length numbers.now }
+        requires some { first < end }
+        requires within { end ≤ length numbers.now }
         ensures cluster { IsCluster ring.now.corners numbers.now result }
-        ensures steps { steps.new ≤ steps.old + 64 * (length numbers.now - first) }
-        ensures few { steps.new ≤ steps.old + 512 }
+        ensures steps { steps.new ≤ steps.old + 64 * (end - first) }
     {
-        let end = numbers.len().min(first + LEAST);
         let mut bounds = BoundingBox::empty();
         for place in first..end {
             let point = BoundingBox::of(&[ring.corner(numbers[place])], steps);
             bounds = bounds.joined(&point);
         }
-        Cluster { first, end, bounds }
+        Cluster {
+            first,
+            end,
+            start,
+            bounds,
+        }
     }
 
     // This cluster and the next, or this one alone where the other does not follow it.
@@ -115,27 +178,8 @@ impl Cluster {
         Cluster {
             first: self.first,
             end: next.end,
+            start: self.start,
             bounds: self.bounds.joined(&next.bounds),
         }
     }
-}
-
-// The clusters that join none. It takes at most 64 steps a vertex.
-fn least_clusters<L: Ledger>(
-    alloc: Global,
-    ring: &Ring,
-    numbers: &[u32],
-    steps: &mut Steps<L>,
-) -> Result<Vec<Cluster>, Memory>
-    requires { All (λ i. i < length ring.now.corners) numbers.now }
-    ensures clusters { IfOk result (λ clusters. All (IsCluster ring.now.corners numbers.now) clusters.items) }
-    ensures steps { steps.new ≤ steps.old + 64 * length numbers.now }
-{
-    let mut clusters = Vec::with_capacity(alloc, numbers.len() / LEAST * 2 + 2)?;
-    let mut first = 0;
-    while first < numbers.len() {
-        clusters.push(Cluster::of(ring, numbers, first, steps))?;
-        first += LEAST;
-    }
-    Ok(clusters)
 }

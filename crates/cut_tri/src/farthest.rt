@@ -1,20 +1,21 @@
 // The vertex of a piece that a diagonal from its first vertex goes to.
+ghost use Rattle.std.specs.List.{All};
 ghost use Rattle.std.specs.Prelude.{◌≡◌, ◌+◌, ◌*◌, ◌-◌, ◌<◌, ◌≤◌, ◌↔◌, ◌<ℤ◌, ◌≤ℤ◌, ℕ, IsFalse, IsTrue, IfSome, IfNone, OnSome, length};
 ghost use Rattle.plane.specs.Point.{Point, whole};
 ghost use Rattle.plane.specs.Triangle.{IsInTriangle, height_over};
 ghost use Rattle.plane.specs.Turn.{IsLeft};
 ghost use Rattle.rings.specs.Ring.{vertex};
-ghost use Rattle.cut_tri.specs.Clusters.{AreClusters, IsBounded};
+ghost use Rattle.cut_tri.specs.Clusters.{AreClusters, IsBounded, IsCluster};
 ghost use Rattle.cut_tri.specs.Cut.{IsPlaceInCorner};
-ghost use Rattle.cut_tri.specs.Corner.{IsBest, IsCandidate, IsCornerAt, IsFarther, IsFartherOf, IsMeasured, best_height};
+ghost use Rattle.cut_tri.specs.Corner.{HasNoCandidateAt, IsBest, IsCandidate, IsCornerAt, IsFarther, IsFartherOf, IsMeasured, best_height};
 ghost use Rattle.cut_tri.specs.Ordered.{IsFarthestNumber, IsOrderedFromLeast};
 ghost use Rattle.cut_tri.specs.Piece.{tri_at_first};
 
-use crate::clusters::Clusters;
+use crate::clusters::{Cluster, Clusters};
 use crate::measure::{doubled_area, is_less_share, way};
 use crate::piece::Piece;
 use crate::triangle::Triangle;
-use exact_plane::{BoundingBox, Pt, Steps, in_triangle, order};
+use exact_plane::{Pt, Steps, in_triangle, order};
 use meshes::Tri;
 use ring_check::Ring;
 use std::alloc::Global;
@@ -98,7 +99,7 @@ fn best_in<L: Ledger>(
     let last = piece.order.len() - 1;
     let mut best: Option<Candidate> = None;
     for rank in 1..piece.order.len() {
-        if rank == NEAR && best.is_none() && corner.is_empty(alloc, ring, clusters, steps) {
+        if corner.is_told_empty(alloc, ring, rank, best, clusters, steps) {
             return None;
         }
         let number = piece.order[last - rank];
@@ -214,6 +215,33 @@ impl Corner {
         is_less_share(rest, whole, height_of(best), self.height)
     }
 
+    // Whether the clusters tell that no vertex of the ring but the three is in the triangle. They are asked at one rank alone, where
+    // none was found before.
+    fn is_told_empty<L: Ledger>(
+        &self,
+        alloc: Global,
+        ring: &Ring,
+        rank: usize,
+        best: Option<Candidate>,
+        clusters: &mut Option<Clusters>,
+        steps: &mut Steps<L>,
+    ) -> bool
+        requires counterclockwise { IsLeft (whole self.now.u) (whole self.now.v) (whole self.now.w) }
+        requires clusters { IfSome clusters.old (AreClusters ring.now.corners) }
+        ensures empty { IsTrue result → (i : ℕ) → i < length ring.now.corners → ¬ (i ≡ self.now.tri.b)
+            → ¬ (IsCandidate self.now i (vertex ring.now.corners i)) }
+        ensures clusters { IfSome clusters.new (AreClusters ring.now.corners) }
+        ensures near { IsTrue result → rank ≡ 32 }
+        ensures before { rank < 32 → steps.new ≡ steps.old }
+        ensures behind { 32 < rank → steps.new ≡ steps.old }
+        ensures steps { steps.new ≤ steps.old + (371 * length ring.now.corners + 1168) }
+    {
+        if rank != NEAR || best.is_some() {
+            return false;
+        }
+        self.is_empty(alloc, ring, clusters, steps)
+    }
+
     // Whether no vertex of the ring but the three is in the triangle, by clusters that are made here where there are none. Without
     // memory for them it is taken for not empty. It takes at most 371 steps a vertex of the ring, and 1168.
     fn is_empty<L: Ledger>(
@@ -237,7 +265,8 @@ impl Corner {
         }
     }
 
-    // Whether none is, by these clusters. A vertex takes at most 67 steps, where it is looked at.
+    // Whether none is, by these clusters. They are asked from the last on, so that each comes before its parts: those are passed
+    // over where the triangle misses its box. That so all vertices are cleared is seen here. A vertex takes at most 64 steps.
     fn is_empty_among<L: Ledger>(
         &self,
         ring: &Ring,
@@ -248,25 +277,58 @@ impl Corner {
         requires clusters { AreClusters ring.now.corners clusters.now }
         ensures empty { IsTrue result → (i : ℕ) → i < length ring.now.corners → ¬ (i ≡ self.now.tri.b)
             → ¬ (IsCandidate self.now i (vertex ring.now.corners i)) }
-        ensures steps { steps.new ≤ steps.old + (243 * length ring.now.corners + 1168) }
+        ensures steps { steps.new ≤ steps.old + (64 * length ring.now.corners + 768) }
     {
         let triangle = Triangle::of(&self.u, &self.v, &self.w, steps);
-        let mut place = 0;
-        while place < clusters.numbers.len() {
-            let end = clusters.clear_to(&triangle, place);
-            if place < end {
-                place = end;
-            } else if self.has(&triangle, ring, clusters.numbers[place], steps) {
-                return false;
-            } else {
-                place += 1;
+        let mut place = clusters.numbers.len();
+        let mut k = clusters.clusters.len();
+        while 0 < k {
+            k -= 1;
+            let cluster = &clusters.clusters[k];
+            let misses = triangle.misses(&cluster.bounds);
+            if !misses && cluster.start != k {
+                continue;
             }
+            if cluster.end != place {
+                return false;
+            }
+            if !misses && self.has_any(&triangle, ring, &clusters.numbers, cluster, steps) {
+                return false;
+            }
+            place = cluster.first;
+            k = cluster.start.min(k);
         }
-        true
+        place == 0
     }
 
-    // Whether the vertex with this number is in the triangle, and none of the three. It takes at most 323 steps, and 67 where it is
-    // not.
+    // Whether a vertex of this cluster is in the triangle, and none of the three. A vertex takes at most 64 steps.
+    fn has_any<L: Ledger>(
+        &self,
+        triangle: &Triangle,
+        ring: &Ring,
+        numbers: &[u32],
+        cluster: &Cluster,
+        steps: &mut Steps<L>,
+    ) -> bool
+        requires u { triangle.now.u ≡ self.now.u }
+        requires v { triangle.now.v ≡ self.now.v }
+        requires w { triangle.now.w ≡ self.now.w }
+        requires bounded { IsBounded triangle.now }
+        requires numbers { All (λ i. i < length ring.now.corners) numbers.now }
+        requires cluster { IsCluster ring.now.corners numbers.now cluster.now }
+        ensures out { IsFalse result → (k : ℕ) → cluster.now.first ≤ k → k < cluster.now.end
+            → HasNoCandidateAt self.now ring.now.corners numbers.now k }
+        ensures steps { steps.new ≤ steps.old + 64 * (cluster.now.end - cluster.now.first) }
+    {
+        for place in cluster.first..cluster.end {
+            if self.has(triangle, ring, numbers[place], steps) {
+                return true;
+            }
+        }
+        false
+    }
+
+    // Whether the vertex with this number is in the triangle, and none of the three. It takes 64 steps.
     fn has<L: Ledger>(
         &self,
         triangle: &Triangle,
@@ -274,24 +336,19 @@ impl Corner {
         number: u32,
         steps: &mut Steps<L>,
     ) -> bool
-        requires counterclockwise { IsLeft (whole self.now.u) (whole self.now.v) (whole self.now.w) }
         requires u { triangle.now.u ≡ self.now.u }
         requires v { triangle.now.v ≡ self.now.v }
         requires w { triangle.now.w ≡ self.now.w }
         requires bounded { IsBounded triangle.now }
         requires number { number < length ring.now.corners }
         ensures out { IsFalse result → ¬ (number ≡ self.now.tri.b) → ¬ (IsCandidate self.now number (vertex ring.now.corners number)) }
-        ensures few { IsFalse result → steps.new ≤ steps.old + 67 }
-        ensures steps { steps.new ≤ steps.old + 323 }
+        ensures steps { steps.new ≡ steps.old + 64 }
     {
-        if number == self.tri.b {
+        let (x, y) = ring.corner(number).parts(steps);
+        if triangle.misses_point(x, y) {
             return false;
         }
-        let p = ring.corner(number);
-        if triangle.misses(&BoundingBox::of(&[p], steps)) {
-            return false;
-        }
-        self.candidate(number, &p, steps).is_some()
+        number != self.tri.a && number != self.tri.b && number != self.tri.c
     }
 
     // The vertex with this number and at this point, if it is in the closed triangle and neither of u and w. It takes at most 259

@@ -32,7 +32,7 @@ pub(crate) fn way<L: Ledger>(a: &Pt, b: &Pt, steps: &mut Steps<L>) -> (i64, i64)
 
 // The cross product of two ways.
 #[tactic(auto, using(exact_plane::proofs::CrossProduct::cross_product))]
-fn cross_product(p: (i64, i64), q: (i64, i64)) -> i64
+pub(crate) fn cross_product(p: (i64, i64), q: (i64, i64)) -> i64
     requires first_x { unsigned_abs p.0 < 2 ^ 24 }
     requires first_y { unsigned_abs p.1 < 2 ^ 24 }
     requires second_x { unsigned_abs q.0 < 2 ^ 24 }

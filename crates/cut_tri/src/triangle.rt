@@ -1,12 +1,12 @@
 // A triangle with the box round it, to tell which other boxes have none of its points.
-ghost use Rattle.std.specs.Prelude.{◌≡◌, ◌+◌, ◌<◌, ◌≤◌, ◌^◌, ◌-ℤ◌, ◌<ℤ◌, ◌≤ℤ◌, IsTrue, pos, unsigned_abs};
+ghost use Rattle.std.specs.Prelude.{◌≡◌, ◌+◌, ◌<◌, ◌^◌, ◌*ℤ◌, ◌-ℤ◌, ◌<ℤ◌, ◌≤ℤ◌, IsTrue, pos, unsigned_abs};
 ghost use Rattle.exact_plane.specs.Boxes.{Encloses};
 ghost use Rattle.plane.specs.Point.{Point, whole};
 ghost use Rattle.plane.specs.Triangle.{IsInTriangle};
 ghost use Rattle.plane.specs.Turn.{IsLeft, IsRight};
 ghost use Rattle.cut_tri.specs.Clusters.{IsBounded, IsSideBetween, HasSmallNumbers};
 
-use crate::measure::way;
+use crate::measure::{cross_product, way};
 use exact_plane::{BoundingBox, Pt, Steps};
 use std::sync::ledger::Ledger;
 
@@ -22,13 +22,12 @@ pub(crate) struct Triangle {
     second: Side,
 }
 
-// A side: where it begins, and the way along it.
+// A side: the way along it, and the cross product of that and the point where it begins.
 #[derive(Clone, Copy)]
 pub(crate) struct Side {
-    from_x: i32,
-    from_y: i32,
-    x: i32,
-    y: i32,
+    x: i64,
+    y: i64,
+    begin: i64,
 }
 
 impl Triangle {
@@ -69,6 +68,23 @@ impl Triangle {
         }
         self.first.is_left_of(other) || self.second.is_left_of(other)
     }
+
+    // Whether one of its sides has a point on its right.
+    pub(crate) fn misses_point(&self, x: i64, y: i64) -> bool
+        requires bounded { IsBounded self.now }
+        requires x { unsigned_abs x < 2 ^ 32 }
+        requires y { unsigned_abs y < 2 ^ 32 }
+        ensures apart { IsTrue result → (p : Point) → p.x ≡ x → p.y ≡ y
+            → ¬ (IsInTriangle self.now.u self.now.v self.now.w (whole p)) }
+    {
+        if self.across.has_on_right(x, y) {
+            return true;
+        }
+        if self.first.has_on_right(x, y) {
+            return true;
+        }
+        self.second.has_on_right(x, y)
+    }
 }
 
 impl Side {
@@ -77,13 +93,12 @@ impl Side {
         ensures side { IsSideBetween a.now b.now result }
         ensures steps { steps.new ≡ steps.old + 192 }
     {
-        let (from_x, from_y) = a.parts(steps);
+        let from = a.parts(steps);
         let (x, y) = way(a, b, steps);
         Side {
-            from_x: from_x as i32,
-            from_y: from_y as i32,
-            x: x as i32,
-            y: y as i32,
+            x,
+            y,
+            begin: cross_product((x, y), from),
         }
     }
 
@@ -93,22 +108,23 @@ impl Side {
         ensures right { IsTrue result → (a b : Point) → IsSideBetween a b self.now → (p : Point) → Encloses bounds.now p
             → IsRight (whole a) (whole b) (whole p) }
     {
-        let (x, y) = (self.x as i64, self.y as i64);
-        let left_x = way_to_end(self.from_x, -y, bounds.west, bounds.east);
-        let left_y = way_to_end(self.from_y, x, bounds.south, bounds.north);
-        x * left_y < y * left_x
+        let x = if self.y < 0 { bounds.east } else { bounds.west };
+        let y = if self.x < 0 {
+            bounds.south
+        } else {
+            bounds.north
+        };
+        self.has_on_right(x as i64, y as i64)
     }
-}
 
-// The way from a coordinate to the end of an interval in the direction of a number.
-fn way_to_end(from: i32, direction: i64, low: i32, high: i32) -> i64
-    ensures high { pos 0 <ℤ direction → result ≡ high -ℤ from }
-    ensures low { direction ≤ℤ pos 0 → result ≡ low -ℤ from }
-    ensures small { unsigned_abs result < 2 ^ 32 }
-{
-    if 0 < direction {
-        high as i64 - from as i64
-    } else {
-        low as i64 - from as i64
+    // Whether a point is right of its line.
+    #[tactic(auto, using(crate::proofs::SideProducts::side_products))]
+    fn has_on_right(&self, x: i64, y: i64) -> bool
+        requires small { HasSmallNumbers self.now }
+        requires x { unsigned_abs x < 2 ^ 32 }
+        requires y { unsigned_abs y < 2 ^ 32 }
+        ensures { IsTrue result → ((self.now.x *ℤ y) -ℤ (self.now.y *ℤ x)) <ℤ self.now.begin }
+    {
+        self.x * y - self.y * x < self.begin
     }
 }

@@ -10,22 +10,22 @@ use std::sync::ledger::Ledger;
 // A vertex by its place on the curve, then its number.
 #[derive(Clone, Copy, PartialEq, Eq, PartialOrd, Ord)]
 pub(crate) struct Key {
-    code: u64,
+    pub code: u64,
     number: u32,
 }
 
-// All vertices, by their numbers. Only the time rests on their order. It takes at most 64 steps a vertex.
+// The keys of all vertices, in order. Only the time rests on that. It takes at most 64 steps a vertex.
 pub(crate) fn z_order<L: Ledger>(
     alloc: Global,
     ring: &Ring,
     steps: &mut Steps<L>,
-) -> Result<Vec<u32>, Memory>
-    ensures all { IfOk result (λ numbers. IsPermutation (range_with_len 0 (length ring.now.corners)) numbers.items) }
+) -> Result<Vec<Key>, Memory>
+    ensures all { IfOk result (λ keys. IsPermutation (range_with_len 0 (length ring.now.corners)) (map (λ k. k.number) keys.items)) }
     ensures steps { steps.new ≤ steps.old + 64 * length ring.now.corners }
 {
     let mut keys = keys_of(alloc, ring, steps)?;
     keys.sort_unstable();
-    numbers_of(alloc, &keys)
+    Ok(keys)
 }
 
 // The keys of all vertices.
@@ -56,7 +56,7 @@ fn spread(z: i64) -> u64
 }
 
 // The numbers of the vertices with these keys.
-fn numbers_of(alloc: Global, keys: &[Key]) -> Result<Vec<u32>, Memory>
+pub(crate) fn numbers_of(alloc: Global, keys: &[Key]) -> Result<Vec<u32>, Memory>
     ensures { IfOk result (λ numbers. numbers.items ≡ map (λ k. k.number) keys.now) }
 {
     let mut numbers = Vec::with_capacity(alloc, keys.len())?;

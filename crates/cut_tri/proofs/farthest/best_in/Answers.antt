@@ -1,4 +1,5 @@
-use Rattle.std.proofs.Common.{Option, ◌≡◌, inl, inr, sym, ap, subst, ◌∙◌, ℕ, ◌+◌, ◌-◌, ◌*◌, ◌<◌, ◌≤◌, ◌≤ℤ◌, length, get_or, arith}
+use Rattle.std.proofs.Common.{◌≡◌, inl, inr, sym, ap, subst, ◌∙◌, ℕ, ◌+◌, ◌-◌, ◌*◌, ◌<◌, ◌≤◌, ◌≤ℤ◌, List, length, get_or, arith}
+use Rattle.std.proofs.lemmas.Bool.{cases_lt}
 use Rattle.std.proofs.lemmas.List.{get_or_default}
 use Rattle.std.proofs.lemmas.List.Elements.{Contains-get_or}
 use Rattle.std.specs.List.{Contains}
@@ -11,12 +12,24 @@ use Rattle.cut_tri.proofs.Members.{members_of_numbers}
 use Rattle.cut_tri.proofs.Orders.{least_below}
 use Rattle.cut_tri.proofs.SeenVertices.{seen, seen_few, seen_first, seen_more, seen_no_more}
 use Rattle.cut_tri.specs.Corner.{IsFartherOf, IsInCornerOf, best_height, candidate_of}
-use Rattle.cut_tri.specs.Clusters.{AreClusters}
-use Rattle.cut_tri.specs.declared.clusters.Clusters.{Clusters}
-use Rattle.std.specs.Prelude.{IfSome}
 use Rattle.cut_tri.proofs.farthest.best_in.Goals as goal
-use Rattle.cut_tri.proofs.farthest.best_in.Goals.{in-Some, in_default, else-rank-eq-NEAR-via-then-rank-eq-NEAR+then-is_none+else-is_empty}
-use Rattle.cut_tri.proofs.farthest.best_in.Goals.{else-rank-eq-NEAR-via-then-rank-eq-NEAR+else-is_none, else-rank-eq-NEAR-via-else-rank-eq-NEAR}
+use Rattle.cut_tri.proofs.farthest.best_in.Goals.{in-Some, in_default}
+
+-- the steps so far, where the clusters are asked at one rank alone
+steps_so_far : (rank few most old new : ℕ) → (rank ≤ 32 → old ≤ few) → old ≤ few + most → (rank < 32 → new ≡ old) → (32 < rank → new ≡ old)
+    → new ≤ old + most → (rank + 1 ≤ 32 → new ≤ few) × (new ≤ few + most)
+steps_so_far rank few most old new is_few is_most before behind after = (
+  λ below. omega (arith, is_few (omega (arith, below)), before (omega (arith, below))),
+  elim (cases_lt 32 rank) [
+    | inl less ↦ omega (arith, behind less, is_most)
+    | inr near ↦ omega (arith, is_few near, after)
+  ],
+)
+
+-- the number at a place from the end of an order is that of its rank
+number_at : (os : List ℕ) (last n i : ℕ) → n < length os → last ≡ length os - 1 → i ≡ get_or os (last - n) i → i ≡ of_rank os n
+number_at os last n i within is at =
+    at ∙ get_or_default os (last - n) i 0 (omega (arith, within, is)) ∙ ap (λ j. get_or os j 0) (omega (arith, is))
 
 pub overflow_sub-last : goal.overflow_sub-last
 overflow_sub-last g c =
@@ -68,14 +81,11 @@ loop-rank-preserved g c =
     let os = c.args.piece.now.order.items in
     let ordered = c.requires.ordered.ordered.1 in
     let n : ℕ = c.loop-rank.rank in
-    let k : ℕ = c.len-last.result - 1 - n in
     let size = c.args.piece.now.order.ok.0 in
     let within : n < length os = omega (arith, size, c.len-rank-end.ensures, c.loop-rank-test.true) in
     let some : 0 < n = omega (arith, c.loop-rank.auto.rank) in
-    let same : k ≡ length os - 1 - n = omega (arith, size, c.len-last.ensures) in
     let i : ℕ = c.index-number.result.now in
-    let is : i ≡ of_rank os n =
-    c.index-number.ensures ∙ get_or_default os k i 0 (omega (arith, within, same)) ∙ ap (λ j. get_or os j 0) same in
+    let is : i ≡ of_rank os n = number_at os (c.len-last.result - 1) n i within (omega (arith, size, c.len-last.ensures)) c.index-number.ensures in
     let low : of_rank os n < length corners = subst (λ j. j < length corners) is (omega (arith, c.if-count-number.false, c.len-count.ensures.number)) in
     let more = seen_more (length corners) os n within low in
     let at = c.requires.corner in
@@ -94,28 +104,13 @@ loop-rank-preserved g c =
           (best_past corners xs os n c.loop-rank.best c.loop-rank.invariant.best
           (λ h. w.in_default.ensures.outside (is_candidate corners xs c.args.corner.now at i c.corner-p.result c.corner-p.ensures (subst (IsInCornerOf corners xs) (sym is) h))))
     ] in
-    let made = λ (o : Option Clusters). IfSome o (AreClusters corners) in
-    let clusters : made c.else-rank-eq-NEAR.clusters = elim c.else-rank-eq-NEAR.branch [
-      | else-rank-eq-NEAR-via-then-rank-eq-NEAR+then-is_none+else-is_empty w ↦ subst made (sym w.clusters-is) w.is_empty.ensures.clusters
-      | else-rank-eq-NEAR-via-then-rank-eq-NEAR+else-is_none w ↦ subst made (sym w.clusters-is) c.loop-rank.invariant.clusters
-      | else-rank-eq-NEAR-via-else-rank-eq-NEAR w ↦ subst made (sym w.clusters-is) c.loop-rank.invariant.clusters
-    ] in
-    let start : ℕ = 515 * (seen (length c.args.ring.now.corners) c.args.piece.now.order.items c.loop-rank.rank - 1) in
-    let all : ℕ = length c.args.ring.now.corners in
-    let so_far : (c.loop-rank.rank + 1 ≤ 32 → c.else-rank-eq-NEAR.steps ≤ c.args.steps.now + start)
-    × (c.else-rank-eq-NEAR.steps ≤ c.args.steps.now + (start + 371 * all + 1168)) = elim c.else-rank-eq-NEAR.branch [
-      | else-rank-eq-NEAR-via-then-rank-eq-NEAR+then-is_none+else-is_empty w ↦ (
-        λ below. absurd (omega (arith, below, w.if-rank-eq-NEAR.true)),
-        omega (arith, w.steps-is, w.is_empty.ensures.steps, c.loop-rank.invariant.few (omega (arith, w.if-rank-eq-NEAR.true))),
-      )
-      | else-rank-eq-NEAR-via-then-rank-eq-NEAR+else-is_none w ↦
-          (λ below. omega (arith, w.steps-is, c.loop-rank.invariant.few (omega (arith, below))), omega (arith, w.steps-is, c.loop-rank.invariant.steps))
-      | else-rank-eq-NEAR-via-else-rank-eq-NEAR w ↦
-          (λ below. omega (arith, w.steps-is, c.loop-rank.invariant.few (omega (arith, below))), omega (arith, w.steps-is, c.loop-rank.invariant.steps))
-    ] in
+    let so_far =
+    steps_so_far n (c.args.steps.now + 515 * (seen (length corners) os n - 1)) (371 * length corners + 1168) c.loop-rank.steps c.is_told_empty.new.steps
+    c.loop-rank.invariant.few (omega (arith, c.loop-rank.invariant.steps)) c.is_told_empty.ensures.before c.is_told_empty.ensures.behind
+    c.is_told_empty.ensures.steps in
     record {
       best = best;
-      clusters = clusters;
+      clusters = c.is_told_empty.ensures.clusters;
       some = omega (arith, more);
       few = λ below. omega (arith, so_far.0 below, more, c.loop-rank.invariant.some, c.is_nearer_from.ensures.steps, c.candidate.ensures.steps);
       steps = omega (arith, so_far.1, more, c.loop-rank.invariant.some, c.is_nearer_from.ensures.steps, c.candidate.ensures.steps);
@@ -127,39 +122,21 @@ loop-rank-preserved-then-count-number g c =
     let xs = c.args.piece.now.boundary in
     let os = c.args.piece.now.order.items in
     let n : ℕ = c.loop-rank.rank in
-    let k : ℕ = c.len-last.result - 1 - n in
     let size = c.args.piece.now.order.ok.0 in
     let within : n < length os = omega (arith, size, c.len-rank-end.ensures, c.loop-rank-test.true) in
-    let same : k ≡ length os - 1 - n = omega (arith, size, c.len-last.ensures) in
     let i : ℕ = c.index-number.result.now in
-    let is : i ≡ of_rank os n =
-    c.index-number.ensures ∙ get_or_default os k i 0 (omega (arith, within, same)) ∙ ap (λ j. get_or os j 0) same in
+    let is : i ≡ of_rank os n = number_at os (c.len-last.result - 1) n i within (omega (arith, size, c.len-last.ensures)) c.index-number.ensures in
     let high : length corners ≤ of_rank os n = subst (λ j. length corners ≤ j) is (omega (arith, c.if-count-number.true, c.len-count.ensures.number)) in
     let more = seen_no_more (length corners) os n within high in
     let numbers = c.requires.ordered.ordered.0.numbers in
-    let made = λ (o : Option Clusters). IfSome o (AreClusters corners) in
-    let clusters : made c.else-rank-eq-NEAR.clusters = elim c.else-rank-eq-NEAR.branch [
-      | else-rank-eq-NEAR-via-then-rank-eq-NEAR+then-is_none+else-is_empty w ↦ subst made (sym w.clusters-is) w.is_empty.ensures.clusters
-      | else-rank-eq-NEAR-via-then-rank-eq-NEAR+else-is_none w ↦ subst made (sym w.clusters-is) c.loop-rank.invariant.clusters
-      | else-rank-eq-NEAR-via-else-rank-eq-NEAR w ↦ subst made (sym w.clusters-is) c.loop-rank.invariant.clusters
-    ] in
-    let start : ℕ = 515 * (seen (length c.args.ring.now.corners) c.args.piece.now.order.items c.loop-rank.rank - 1) in
-    let all : ℕ = length c.args.ring.now.corners in
-    let so_far : (c.loop-rank.rank + 1 ≤ 32 → c.else-rank-eq-NEAR.steps ≤ c.args.steps.now + start)
-    × (c.else-rank-eq-NEAR.steps ≤ c.args.steps.now + (start + 371 * all + 1168)) = elim c.else-rank-eq-NEAR.branch [
-      | else-rank-eq-NEAR-via-then-rank-eq-NEAR+then-is_none+else-is_empty w ↦ (
-        λ below. absurd (omega (arith, below, w.if-rank-eq-NEAR.true)),
-        omega (arith, w.steps-is, w.is_empty.ensures.steps, c.loop-rank.invariant.few (omega (arith, w.if-rank-eq-NEAR.true))),
-      )
-      | else-rank-eq-NEAR-via-then-rank-eq-NEAR+else-is_none w ↦
-          (λ below. omega (arith, w.steps-is, c.loop-rank.invariant.few (omega (arith, below))), omega (arith, w.steps-is, c.loop-rank.invariant.steps))
-      | else-rank-eq-NEAR-via-else-rank-eq-NEAR w ↦
-          (λ below. omega (arith, w.steps-is, c.loop-rank.invariant.few (omega (arith, below))), omega (arith, w.steps-is, c.loop-rank.invariant.steps))
-    ] in
+    let so_far =
+    steps_so_far n (c.args.steps.now + 515 * (seen (length corners) os n - 1)) (371 * length corners + 1168) c.loop-rank.steps c.is_told_empty.new.steps
+    c.loop-rank.invariant.few (omega (arith, c.loop-rank.invariant.steps)) c.is_told_empty.ensures.before c.is_told_empty.ensures.behind
+    c.is_told_empty.ensures.steps in
     record {
       best = best_past corners xs os n c.loop-rank.best c.loop-rank.invariant.best
           (λ in_n. let low = members_of_numbers (length corners) xs numbers (of_rank os n) in_n.member in omega (arith, low, high));
-      clusters = clusters;
+      clusters = c.is_told_empty.ensures.clusters;
       some = omega (arith, more, c.loop-rank.invariant.some);
       few = λ below. omega (arith, so_far.0 below, more);
       steps = omega (arith, so_far.1, more);
@@ -183,11 +160,8 @@ returns-then-is_nearer_from-clause-best g c =
     let os = c.args.piece.now.order.items in
     let n : ℕ = c.loop-rank.rank in
     let size = c.args.piece.now.order.ok.0 in
-    let k : ℕ = c.len-last.result - 1 - n in
     let within : n < length os = omega (arith, size, c.len-rank-end.ensures, c.loop-rank-test.true) in
-    let same : k ≡ length os - 1 - n = omega (arith, size, c.len-last.ensures) in
-    let is : c.index-number.result.now ≡ of_rank os n =
-    c.index-number.ensures ∙ get_or_default os k c.index-number.result.now 0 (omega (arith, within, same)) ∙ ap (λ j. get_or os j 0) same in
+    let is : c.index-number.result.now ≡ of_rank os n = number_at os (c.len-last.result - 1) n _ within (omega (arith, size, c.len-last.ensures)) c.index-number.ensures in
     let low : of_rank os n < length corners = subst (λ j. j < length corners) is (omega (arith, c.if-count-number.false, c.len-count.ensures.number)) in
     best_of_all corners xs os n c.loop-rank.best c.loop-rank.invariant.best
     (λ i in_i.
@@ -198,54 +172,37 @@ returns-then-is_nearer_from-clause-best g c =
           (subst (λ (p : Point). p.x ≤ℤ (vertex corners i).x) (sym (c.corner-p.ensures ∙ ap (vertex corners) is)) right)) in_i)
     ])
 
-pub is_empty-requires-clause-counterclockwise : goal.is_empty-requires-clause-counterclockwise
-is_empty-requires-clause-counterclockwise g c =
+pub is_told_empty-requires-clause-counterclockwise : goal.is_told_empty-requires-clause-counterclockwise
+is_told_empty-requires-clause-counterclockwise g c =
     let least = least_below c.args.ring.now.corners c.args.piece.now.boundary c.args.piece.now.order.items c.requires.ordered.ordered.1 c.requires.ordered.ordered.0.numbers 0 c.requires.ordered.least in
     left_at_corner c.args.ring.now.corners c.args.piece.now.boundary c.args.corner.now c.requires.corner c.requires.ordered.ordered.0 least
 
-pub returns-then-is_empty-clause-best : goal.returns-then-is_empty-clause-best
-returns-then-is_empty-clause-best g c =
+pub returns-then-is_told_empty-clause-best : goal.returns-then-is_told_empty-clause-best
+returns-then-is_told_empty-clause-best g c =
     none_is_best c.args.ring.now.corners c.args.piece.now.boundary c.args.corner.now c.requires.corner c.requires.ordered.ordered.0.numbers
-    (λ i below other. c.is_empty.ensures.empty c.if-is_empty.true i below other)
+    (λ i below other. c.is_told_empty.ensures.empty c.if-is_told_empty.true i below other)
 
-pub returns-then-is_empty-clause-steps : goal.returns-then-is_empty-clause-steps
-returns-then-is_empty-clause-steps g c =
+pub returns-then-is_told_empty-clause-steps : goal.returns-then-is_told_empty-clause-steps
+returns-then-is_told_empty-clause-steps g c =
     let most = seen_few c.args.ring.now.corners c.args.piece.now.boundary c.args.piece.now.order.items c.requires.ordered.ordered.1 c.loop-rank.rank in
-    omega (
-      arith,
-      most,
-      c.loop-rank.invariant.some,
-      c.if-rank-eq-NEAR.true,
-      c.is_empty.ensures.steps,
-      c.loop-rank.invariant.few (omega (arith, c.if-rank-eq-NEAR.true)),
-    )
+    let near = c.is_told_empty.ensures.near c.if-is_told_empty.true in
+    omega (arith, most, near, c.loop-rank.invariant.some, c.is_told_empty.ensures.steps, c.loop-rank.invariant.few (omega (arith, near)))
 
 pub returns-then-is_nearer_from-clause-steps : goal.returns-then-is_nearer_from-clause-steps
 returns-then-is_nearer_from-clause-steps g c =
-    let size = c.args.piece.now.order.ok.0 in
-    let start : ℕ = 515 * (seen (length c.args.ring.now.corners) c.args.piece.now.order.items c.loop-rank.rank - 1) in
-    let n : ℕ = length c.args.ring.now.corners in
-    let so_far : (c.loop-rank.rank + 1 ≤ 32 → c.else-rank-eq-NEAR.steps ≤ c.args.steps.now + start)
-    × (c.else-rank-eq-NEAR.steps ≤ c.args.steps.now + (start + 371 * n + 1168)) = elim c.else-rank-eq-NEAR.branch [
-      | else-rank-eq-NEAR-via-then-rank-eq-NEAR+then-is_none+else-is_empty w ↦ (
-        λ below. absurd (omega (arith, below, w.if-rank-eq-NEAR.true)),
-        omega (arith, w.steps-is, w.is_empty.ensures.steps, c.loop-rank.invariant.few (omega (arith, w.if-rank-eq-NEAR.true))),
-      )
-      | else-rank-eq-NEAR-via-then-rank-eq-NEAR+else-is_none w ↦
-          (λ below. omega (arith, w.steps-is, c.loop-rank.invariant.few (omega (arith, below))), omega (arith, w.steps-is, c.loop-rank.invariant.steps))
-      | else-rank-eq-NEAR-via-else-rank-eq-NEAR w ↦
-          (λ below. omega (arith, w.steps-is, c.loop-rank.invariant.few (omega (arith, below))), omega (arith, w.steps-is, c.loop-rank.invariant.steps))
-    ] in
+    let corners = c.args.ring.now.corners in
     let os = c.args.piece.now.order.items in
-    let rank : ℕ = c.loop-rank.rank in
-    let k : ℕ = c.len-last.result - 1 - rank in
-    let within : rank < length os = omega (arith, size, c.len-rank-end.ensures, c.loop-rank-test.true) in
-    let same : k ≡ length os - 1 - rank = omega (arith, size, c.len-last.ensures) in
-    let is : c.index-number.result.now ≡ of_rank os rank =
-    c.index-number.ensures ∙ get_or_default os k c.index-number.result.now 0 (omega (arith, within, same)) ∙ ap (λ j. get_or os j 0) same in
-    let low : of_rank os rank < n = subst (λ j. j < n) is (omega (arith, c.if-count-number.false, c.len-count.ensures.number)) in
-    let more = seen_more n os rank within low in
-    let most = seen_few c.args.ring.now.corners c.args.piece.now.boundary os c.requires.ordered.ordered.1 (rank + 1) in
+    let n : ℕ = c.loop-rank.rank in
+    let size = c.args.piece.now.order.ok.0 in
+    let within : n < length os = omega (arith, size, c.len-rank-end.ensures, c.loop-rank-test.true) in
+    let is : c.index-number.result.now ≡ of_rank os n = number_at os (c.len-last.result - 1) n _ within (omega (arith, size, c.len-last.ensures)) c.index-number.ensures in
+    let low : of_rank os n < length corners = subst (λ j. j < length corners) is (omega (arith, c.if-count-number.false, c.len-count.ensures.number)) in
+    let so_far =
+    steps_so_far n (c.args.steps.now + 515 * (seen (length corners) os n - 1)) (371 * length corners + 1168) c.loop-rank.steps c.is_told_empty.new.steps
+    c.loop-rank.invariant.few (omega (arith, c.loop-rank.invariant.steps)) c.is_told_empty.ensures.before c.is_told_empty.ensures.behind
+    c.is_told_empty.ensures.steps in
+    let more = seen_more (length corners) os n within low in
+    let most = seen_few corners c.args.piece.now.boundary os c.requires.ordered.ordered.1 (n + 1) in
     omega (arith, so_far.1, more, most, c.loop-rank.invariant.some, c.is_nearer_from.ensures.steps)
 
 pub returns-after-loop-rank-clause-steps : goal.returns-after-loop-rank-clause-steps

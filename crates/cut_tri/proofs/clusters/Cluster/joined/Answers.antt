@@ -8,5 +8,6 @@ returns c corners numbers first second = record {
     | inl before ↦ c.joined.ensures.first _ (first.boxed k low before)
     | inr behind ↦ c.joined.ensures.second _ (second.boxed k (omega (arith, behind, c.if-next-self.false)) high)
   ];
+  ordered = omega (arith, first.ordered, second.ordered, c.if-next-self.false);
   within = second.within;
 }

@@ -1,43 +1,55 @@
-use Rattle.std.proofs.Common.{◌≡◌, sym, ap, subst, ◌∙◌, ℤ, pos, ◌-ℤ◌, ◌*ℤ◌, ◌<ℤ◌, ◌≤ℤ◌, IsTrue, arith, w32, w64}
+use Rattle.std.proofs.Common.{◌≡◌, sym, subst, ◌∙◌, ◌<◌, ◌^◌, ℤ, pos, ◌-ℤ◌, ◌*ℤ◌, ◌<ℤ◌, ◌≤ℤ◌, true, false, to_z, arith, w32, w64}
 use lib.Signed.{lt_z}
 use Rattle.std.proofs.lemmas.Int.{ints, to_z-of_z}
-use Rattle.exact_plane.proofs.Registers.{read, short, short_is}
-use Rattle.cut_tri.proofs.SideProducts.{product_fits, product_is, way_is}
-use Rattle.cut_tri.proofs.TriangleBoxes.{right_of}
+use Rattle.std.specs.Prelude.{unsigned_abs}
+use Rattle.exact_plane.proofs.Registers.{read, short}
+use Rattle.cut_tri.proofs.TriangleBoxes.{box_right_of_side}
+use Rattle.cut_tri.proofs.triangle.Side.is_left_of.Goals.{then-self-lt0, else-self-lt0, then-self-lt0-2, else-self-lt0-2}
 use Rattle.cut_tri.proofs.triangle.Side.is_left_of.Goals as goal
 
-pub overflow_mul-result : goal.overflow_mul-result
-overflow_mul-result c = product_fits c.args.self.now.x c.way_to_end-left_y.result c.requires.x c.way_to_end-left_y.ensures.small
+-- the first of two numbers is chosen where a third is negative,
+first_of : {k z x first second : ℤ} → k ≡ z → lt_z k (pos 0) ≡ true → x ≡ first → (z <ℤ pos 0 → x ≡ first) × (pos 0 ≤ℤ z → x ≡ second)
+first_of {k} {z} same less is = (λ h. is, λ h. let negative : z <ℤ pos 0 = omega (arith, ints) in absurd (omega (arith, ints)))
 
-pub overflow_mul-result-2 : goal.overflow_mul-result-2
-overflow_mul-result-2 c = product_fits c.args.self.now.y c.way_to_end-left_x.result c.requires.y c.way_to_end-left_x.ensures.small
+-- else the second
+second_of : {k z x first second : ℤ} → k ≡ z → lt_z k (pos 0) ≡ false → x ≡ second → (z <ℤ pos 0 → x ≡ first) × (pos 0 ≤ℤ z → x ≡ second)
+second_of {k} {z} same less is = (λ h. let other : pos 0 ≤ℤ z = omega (arith, ints) in absurd (omega (arith, ints)), λ h. is)
 
 pub returns : goal.returns
 returns c = record {
   right = λ less a b side p is.
+      let s = c.args.self.now in
       let box = c.args.bounds.now in
-      let x : ℤ = c.args.self.now.x in
-      let y : ℤ = c.args.self.now.y in
-      let left_x : ℤ = c.way_to_end-left_x.result in
-      let left_y : ℤ = c.way_to_end-left_y.result in
-      let share : (x *ℤ left_y) <ℤ (y *ℤ left_x) =
-      less_of (product_is x left_y side.small.x c.way_to_end-left_y.ensures.small) (product_is y left_x side.small.y c.way_to_end-left_x.ensures.small) less in
+      let x : ℤ = to_z w32 c.if-self-lt0.x-bits in
+      let y : ℤ = to_z w32 c.if-self-lt0-2.y-bits in
       let east : short box.east ≡ box.east = to_z-of_z w32 _ (omega (arith, ints, box.east_fits)) in
       let west : short box.west ≡ box.west = to_z-of_z w32 _ (omega (arith, ints, box.west_fits)) in
       let north : short box.north ≡ box.north = to_z-of_z w32 _ (omega (arith, ints, box.north_fits)) in
       let south : short box.south ≡ box.south = to_z-of_z w32 _ (omega (arith, ints, box.south_fits)) in
-      let from_x : short c.args.self.now.from_x ≡ a.x = short_is _ (omega (arith, side.small.from_x)) ∙ side.from_x in
-      let from_y : short c.args.self.now.from_y ≡ a.y = short_is _ (omega (arith, side.small.from_y)) ∙ side.from_y in
-      let x_is = way_is x side.small.x in
-      let y_is = way_is y side.small.y in
-      let back_is : read (pos 0 -ℤ read (short y)) ≡ pos 0 -ℤ y = ap (λ z. read (pos 0 -ℤ z)) y_is ∙ to_z-of_z w64 _ (omega (arith, ints, side.small.y)) in
-      right_of a b p box x y (pos 0 -ℤ y) left_x left_y side.x side.y (omega (arith, ints, side.y))
-      (λ h. c.way_to_end-left_x.ensures.high (subst (λ z. pos 0 <ℤ z) (sym back_is) h) ∙ (λ k. east k -ℤ from_x k))
-      (λ h. c.way_to_end-left_x.ensures.low (subst (λ z. z ≤ℤ pos 0) (sym back_is) h) ∙ (λ k. west k -ℤ from_x k))
-      (λ h. c.way_to_end-left_y.ensures.high (subst (λ z. pos 0 <ℤ z) (sym x_is) h) ∙ (λ k. north k -ℤ from_y k))
-      (λ h. c.way_to_end-left_y.ensures.low (subst (λ z. z ≤ℤ pos 0) (sym x_is) h) ∙ (λ k. south k -ℤ from_y k))
-      share is;
+      let x_way : read s.x ≡ s.x = to_z-of_z w64 _ (omega (arith, ints, side.small.x)) in
+      let y_way : read s.y ≡ s.y = to_z-of_z w64 _ (omega (arith, ints, side.small.y)) in
+      let x_small : unsigned_abs x < 2 ^ 31 =
+      elim c.if-self-lt0.branch [
+        | then-self-lt0 w ↦ subst (λ z. unsigned_abs z < 2 ^ 31) (sym (w.x-is ∙ east)) box.east_fits
+        | else-self-lt0 w ↦ subst (λ z. unsigned_abs z < 2 ^ 31) (sym (w.x-is ∙ west)) box.west_fits
+      ] in
+      let y_small : unsigned_abs y < 2 ^ 31 =
+      elim c.if-self-lt0-2.branch [
+        | then-self-lt0-2 w ↦ subst (λ z. unsigned_abs z < 2 ^ 31) (sym (w.y-is ∙ south)) box.south_fits
+        | else-self-lt0-2 w ↦ subst (λ z. unsigned_abs z < 2 ^ 31) (sym (w.y-is ∙ north)) box.north_fits
+      ] in
+      let x_far : (s.y <ℤ pos 0 → x ≡ box.east) × (pos 0 ≤ℤ s.y → x ≡ box.west) =
+      elim c.if-self-lt0.branch [
+        | then-self-lt0 w ↦ first_of y_way w.if-self-lt0.true (w.x-is ∙ east)
+        | else-self-lt0 w ↦ second_of y_way w.if-self-lt0.false (w.x-is ∙ west)
+      ] in
+      let y_far : (s.x <ℤ pos 0 → y ≡ box.south) × (pos 0 ≤ℤ s.x → y ≡ box.north) =
+      elim c.if-self-lt0-2.branch [
+        | then-self-lt0-2 w ↦ first_of x_way w.if-self-lt0-2.true (w.y-is ∙ south)
+        | else-self-lt0-2 w ↦ second_of x_way w.if-self-lt0-2.false (w.y-is ∙ north)
+      ] in
+      let x_read : read x ≡ x = to_z-of_z w64 _ (omega (arith, ints, x_small)) in
+      let y_read : read y ≡ y = to_z-of_z w64 _ (omega (arith, ints, y_small)) in
+      box_right_of_side a b p box s x y side x_far.0 x_far.1 y_far.0 y_far.1
+      (subst (λ z. z <ℤ s.begin) (λ k. (s.x *ℤ y_read k) -ℤ (s.y *ℤ x_read k)) (c.has_on_right.ensures less)) is;
 }
-  where
-    less_of : {a b m n : ℤ} → a ≡ m → b ≡ n → IsTrue (lt_z a b) → m <ℤ n
-    less_of h k t = omega (arith, ints)
