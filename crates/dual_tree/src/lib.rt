@@ -12,6 +12,6 @@ mod walk;
 pub use board::Board;
 pub use laws::{full_without_straight, no_point_twice};
 pub use location::{locate, locate_both};
-pub use runs::extremes_of;
+pub use runs::boxes_of;
 pub use sleeves::sleeve;
 pub use touching::touched;

@@ -13,12 +13,15 @@ ghost use Rattle.tri_mesh.specs.Corner.{HasCorner};
 ghost use Rattle.dual_tree.specs.Location.{IsCornered, IsFirstHolding, IsLeastHolding, IsLeastOrNone};
 
 use crate::runs::{Choice, RUN, runs_of};
-use exact_plane::{Direction, Pt, Steps, each_in_triangle, in_triangle, order, turn};
+use exact_plane::{BoundingBox, Direction, Pt, Steps, each_in_triangle, in_triangle, order, turn};
 use meshes::Tri;
 use ring_check::Ring;
 use std::cmp::Ordering;
 use std::sync::ledger::Ledger;
-use tri_mesh::{Extremes, Mesh, triangle_at};
+use tri_mesh::{Mesh, triangle_at};
+
+// So many steps pay for the coordinates of a point, and for 3 at each of four triangles.
+const ENOUGH: u32 = 64 + 12;
 
 /// The least triangle that holds `p`, its sides included, or none where `p` is not in the ring. It takes at most 3 steps a
 /// triangle.
@@ -50,12 +53,12 @@ pub fn locate_both<L: Ledger>(
     ensures no_second { IsNone result.1 ↔ ¬ (IsIn ring.now.corners (whole t.now)) }
     ensures steps { steps.new ≤ steps.old + 6 * (length ring.now.corners - 2) }
 {
-    let extremes = mesh.extremes();
-    if extremes.is_empty() {
+    let boxes = mesh.boxes();
+    if boxes.is_empty() {
         return locate_together(mesh, ring, s, t, steps);
     }
-    let (from, left) = first_by(mesh, ring, s, extremes, 0, steps);
-    let (to, _) = first_by(mesh, ring, t, extremes, left, steps);
+    let (from, left) = first_by(mesh, ring, s, boxes, 0, steps);
+    let (to, _) = first_by(mesh, ring, t, boxes, left, steps);
     (answer(mesh, ring, s, from), answer(mesh, ring, t, to))
 }
 
@@ -132,22 +135,22 @@ fn first_held<L: Ledger>(mesh: &Mesh, ring: &Ring, p: &Pt, steps: &mut Steps<L>)
     ensures first { IsFirstHolding ring.now.corners mesh.now (whole p.now) 0 (length mesh.now) result }
     ensures steps { steps.new ≤ steps.old + 3 * length mesh.now }
 {
-    let extremes = mesh.extremes();
-    if extremes.is_empty() {
+    let boxes = mesh.boxes();
+    if boxes.is_empty() {
         first_from(mesh, ring, p, 0, mesh.count(), steps)
     } else {
-        first_by(mesh, ring, p, extremes, 0, steps).0
+        first_by(mesh, ring, p, boxes, 0, steps).0
     }
 }
 
-// The same by vertices that may be extreme or not, and how many steps are left over of 3 for each triangle and of those that were left
-// before. Triangles are looked at one by one until the steps that are left pay for questions about runs; then the others are.
+// The same by boxes of runs that may hold them or not, and how many steps are left over of 3 for each triangle and of those that were left
+// before. Triangles are looked at one by one until the steps that are left pay for the coordinates of the point.
 #[tactic(auto, using(crate::proofs::LocationFits::places))]
 fn first_by<L: Ledger>(
     mesh: &Mesh,
     ring: &Ring,
     p: &Pt,
-    extremes: &[Extremes],
+    boxes: &[BoundingBox],
     left: u32,
     steps: &mut Steps<L>,
 ) -> (u32, u32)
@@ -155,16 +158,14 @@ fn first_by<L: Ledger>(
     ensures first { IsFirstHolding ring.now.corners mesh.now (whole p.now) 0 (length mesh.now) result.0 }
     ensures steps { steps.new + result.1 ≤ steps.old + 3 * length mesh.now + left }
 {
-    // The coordinates take 64 steps, each choice 4 a run, and each of four triangles 3.
-    let enough = 64 + 8 * runs_of(mesh.count()) + 12;
-    let (first, is_held) = early(mesh, ring, p, enough.saturating_sub(left), steps);
+    let (first, is_held) = early(mesh, ring, p, ENOUGH.saturating_sub(left), steps);
     if is_held {
         return (first, 3 * (mesh.count() - first - 1));
     }
     if first == mesh.count() {
         return (first, 0);
     }
-    let (found, left) = any_by(mesh, ring, p, extremes, first, steps);
+    let (found, left) = any_by(mesh, ring, p, boxes, first, steps);
     if found == mesh.count() {
         return (found, 0);
     }
@@ -172,13 +173,13 @@ fn first_by<L: Ledger>(
 }
 
 // A triangle from number `first` on that holds the point, or the number behind the last one where none does: first of the runs
-// that the point is not beside, then of the others. The triangles behind it, if it is of the former, leave 3 steps over for each.
+// that the point is near, then of the others. The triangles behind it, if it is of the former, leave 3 steps over for each.
 #[tactic(auto, using(crate::proofs::LocationFits::places))]
 fn any_by<L: Ledger>(
     mesh: &Mesh,
     ring: &Ring,
     p: &Pt,
-    extremes: &[Extremes],
+    boxes: &[BoundingBox],
     first: u32,
     steps: &mut Steps<L>,
 ) -> (u32, u32)
@@ -188,10 +189,10 @@ fn any_by<L: Ledger>(
     ensures holds { result.0 < length mesh.now → IsInTri ring.now.corners (tri_at mesh.now result.0) (whole p.now) }
     ensures none { length mesh.now ≤ result.0 → (k : ℕ) → first ≤ k → k < length mesh.now
         → ¬ IsInTri ring.now.corners (tri_at mesh.now k) (whole p.now) }
-    ensures steps { steps.new + result.1 ≤ steps.old + 64 + 3 * (length mesh.now - first) + 8 * ((length mesh.now + 255) / 256) + 6 }
+    ensures steps { steps.new + result.1 ≤ steps.old + 64 + 3 * (length mesh.now - first) + 6 }
 {
     let count = mesh.count();
-    let near = Choice::near(extremes, ring.corners(), p, steps);
+    let near = Choice::near(boxes, mesh.count(), p, steps);
     let found = first_chosen(mesh, ring, p, &near, (first, count), steps);
     if found < count {
         return (found, 3 * (count - found));
@@ -366,22 +367,23 @@ fn first_chosen<L: Ledger>(
     ensures after { range.0 ≤ result }
     ensures within { result ≤ range.1 }
     ensures holds { result < range.1 → IsInTri ring.now.corners (tri_at mesh.now result) (whole p.now) }
-    ensures none { (k : ℕ) → range.0 ≤ k → k < result → IsTrue (takes_run choice.now (k / 256))
+    ensures none { (k : ℕ) → range.0 ≤ k → k < result → IsTrue (takes_run choice.now (k / 4))
         → ¬ IsInTri ring.now.corners (tri_at mesh.now k) (whole p.now) }
     ensures steps { steps.new + 3 * taken_before (takes_run choice.now) range.0
-        ≤ steps.old + 3 * taken_before (takes_run choice.now) result + 4 * ((range.1 + 255) / 256) + 3 }
+        ≤ steps.old + 3 * taken_before (takes_run choice.now) result + 3 }
 {
     // The prover learns from this call how many triangles there can be.
     let _count = mesh.count();
-    for run in range.0 / RUN..runs_of(range.1) {
-        if choice.takes(run, steps) {
-            let from = range.0.max(RUN * run);
-            let to = range.1.min(RUN * run + RUN);
-            let found = first_from(mesh, ring, p, from, to, steps);
-            if found < to {
-                return found;
-            }
+    let end = runs_of(range.1);
+    let mut run = choice.next(range.0 / RUN, end);
+    while run < end {
+        let from = range.0.max(RUN * run);
+        let to = range.1.min(RUN * run + RUN);
+        let found = first_from(mesh, ring, p, from, to, steps);
+        if found < to {
+            return found;
         }
+        run = choice.next(run + 1, end);
     }
     range.1
 }

@@ -16,7 +16,7 @@ ghost use Rattle.geo_session.specs.Told.{Tells};
 use crate::grown::Grown;
 use crate::parts::given_parts;
 use cut_tri::triangulate;
-use dual_tree::{Board, extremes_of, locate};
+use dual_tree::{Board, boxes_of, locate};
 use exact_plane::{Memory, Pt, Steps};
 use geo_reply::{Reply, Row};
 use geo_text::Bad;
@@ -187,6 +187,6 @@ pub(crate) fn mesh_of<L: Ledger>(
 {
     let _ring_is_simple = ring.len();
     let tris = sweep_ring(alloc, ring, &Board::without_ends(ring), steps)?;
-    let extremes = extremes_of(alloc, ring, &tris, steps)?;
-    Mesh::with_extremes(alloc, tris, extremes)
+    let boxes = boxes_of(alloc, ring, &tris, steps)?;
+    Mesh::with_boxes(alloc, tris, boxes)
 }

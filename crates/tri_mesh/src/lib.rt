@@ -2,7 +2,6 @@
 #![tactic(auto)]
 
 mod corner;
-mod extremes;
 mod mesh;
 mod outward;
 mod search;
@@ -10,7 +9,6 @@ mod sides;
 mod sleeve;
 
 pub use corner::triangle_at;
-pub use extremes::Extremes;
 pub use mesh::Mesh;
 pub use outward::{Outward, Rooted};
 pub use sleeve::Sleeve;

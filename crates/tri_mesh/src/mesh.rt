@@ -9,24 +9,24 @@ ghost use Rattle.tri_mesh.specs.Neighbours.{HasCornersBelow};
 ghost use Rattle.tri_mesh.specs.Outward.{IsOutward, IsRooted};
 
 use crate::corner::firsts_of;
-use crate::extremes::Extremes;
 use crate::outward::{Outward, Rooted};
 use crate::search::Search;
 use crate::sides::neighbours;
-use exact_plane::Memory;
+use exact_plane::{BoundingBox, Memory};
 use meshes::Tri;
 use std::alloc::Global;
 use std::marker::Model;
 
 /// Triangles that fit some polygon, for each side the triangle on its other side, for each corner the first triangle that has it,
-/// and an order outward from triangle 0. It may keep the extreme vertices of runs of triangles, by which a search can choose where to look first.
+/// and an order outward from triangle 0. It may keep boxes round runs of triangles, by which a search can choose where to look first. No
+/// clause says that these hold their triangles.
 #[derive(Drop)]
 pub struct Mesh {
     tris: Vec<Tri>,
     neighbours: Vec<[Option<u32>; 3]>,
     firsts: Vec<u32>,
     root: Search,
-    extremes: Vec<Extremes>,
+    boxes: Vec<BoundingBox>,
 }
 
 impl Model for Mesh {
@@ -46,30 +46,30 @@ impl Model for Mesh {
 }
 
 impl Mesh {
-    /// The mesh of these triangles, without extreme vertices. The list is dropped where memory is refused.
+    /// The mesh of these triangles, without boxes. The list is dropped where memory is refused.
     pub fn build(alloc: Global, tris: Vec<Tri>) -> Result<Mesh, Memory>
         requires fits { IsMesh tris.items }
         requires few { vec_len tris < 2 ^ 30 }
         ensures { IfOk result (λ mesh. mesh ≡ tris.items) }
     {
-        Mesh::with_extremes(alloc, tris, Vec::new(alloc))
+        Mesh::with_boxes(alloc, tris, Vec::new(alloc))
     }
 
-    /// The mesh of these triangles, which keeps these extreme vertices. Both lists are dropped where memory is refused.
-    pub fn with_extremes(
+    /// The mesh of these triangles, which keeps these boxes. Both lists are dropped where memory is refused.
+    pub fn with_boxes(
         alloc: Global,
         tris: Vec<Tri>,
-        extremes: Vec<Extremes>,
+        boxes: Vec<BoundingBox>,
     ) -> Result<Mesh, Memory>
         requires fits { IsMesh tris.items }
         requires few { vec_len tris < 2 ^ 30 }
         ensures { IfOk result (λ mesh. mesh ≡ tris.items) }
     {
-        Mesh::of_tree(alloc, tris, extremes)
+        Mesh::of_tree(alloc, tris, boxes)
     }
 
     // The mesh of triangles that are a tree and have their sides once.
-    fn of_tree(alloc: Global, tris: Vec<Tri>, extremes: Vec<Extremes>) -> Result<Mesh, Memory>
+    fn of_tree(alloc: Global, tris: Vec<Tri>, boxes: Vec<BoundingBox>) -> Result<Mesh, Memory>
         requires some { 0 < vec_len tris }
         requires tree { IsTree tris.items }
         requires sides { HasSidesOnce tris.items }
@@ -85,7 +85,7 @@ impl Mesh {
             neighbours,
             firsts,
             root,
-            extremes,
+            boxes,
         })
     }
 
@@ -135,9 +135,9 @@ impl Mesh {
         self.firsts[i as usize]
     }
 
-    /// The extreme vertices that it was made with.
-    pub fn extremes(&self) -> &[Extremes] {
-        &self.extremes
+    /// The boxes that it was made with.
+    pub fn boxes(&self) -> &[BoundingBox] {
+        &self.boxes
     }
 
     /// The triangles outward from `home`: each shares a side with one before it. All sides are looked at once.

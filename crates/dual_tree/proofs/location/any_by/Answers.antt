@@ -9,7 +9,7 @@ returns-then-found-count-clause-steps g c =
     omega (arith, some.1, c.first_chosen-found.ensures.steps, c.first_chosen-found.ensures.within)
 
 pub returns-clause-none : goal.returns-clause-none
-returns-clause-none g c = λ all l from below. elim (by_one (takes_run c.near-near.result (l / 256)) (takes_run c.others.result (l / 256)) (c.others.ensures (l / 256))) [
+returns-clause-none g c = λ all l from below. elim (by_one (takes_run c.near-near.result (l / 4)) (takes_run c.others.result (l / 4)) (c.others.ensures (l / 4))) [
   | inl near ↦ c.first_chosen-found.ensures.none l from (omega arith) near
   | inr far ↦ c.first_chosen.ensures.none l from (omega arith) far
 ]

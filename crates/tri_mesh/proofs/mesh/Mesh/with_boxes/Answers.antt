@@ -4,7 +4,7 @@ use Rattle.std.specs.List.{Contains, range_with_len}
 use Rattle.std.specs.Prelude.{◌%◌, slice_index_or}
 use Rattle.meshes.proofs.Sides.{fitting_sides}
 use Rattle.meshes.specs.Fits.{IsPieceEdge}
-use Rattle.tri_mesh.proofs.mesh.Mesh.with_extremes.Goals as goal
+use Rattle.tri_mesh.proofs.mesh.Mesh.with_boxes.Goals as goal
 
 pub of_tree-requires-clause-some : goal.of_tree-requires-clause-some
 of_tree-requires-clause-some c =
