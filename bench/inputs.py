@@ -251,10 +251,15 @@ def numbers(line: str) -> Ring:
     return list(zip(found[::2], found[1::2]))
 
 
+def turned(n: int) -> Ring:
+    """The spiral, turned by an eighth."""
+    return [(x + y, x - y) for x, y in spiral(n)]
+
+
 Shape = Callable[[int], Ring]
 SHAPES: Dict[str, Shape] = {shape.__name__: shape for shape in (comb, star, maze, spiral)}
 SIX_SHAPES: Dict[str, Shape] = SHAPES | {shape.__name__: shape for shape in (convex, moon)}
-MORE_SHAPES: Dict[str, Shape] = SIX_SHAPES | {shape.__name__: shape for shape in (skyline, saw, arch, zigzag)}
+MORE_SHAPES: Dict[str, Shape] = SIX_SHAPES | {shape.__name__: shape for shape in (skyline, saw, arch, zigzag, turned)}
 WAYS: Dict[str, Shape] = {'comb': way_along_comb, 'convex': way_across_convex, 'saw': way_past_teeth}
 
 

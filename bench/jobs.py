@@ -233,6 +233,12 @@ def check_way(way: Callable[[int], Ring]) -> Fill:
     return fill
 
 
+def check_far(job: Job, ask: Ask) -> None:
+    """The path between the ends of the spiral, as a list."""
+    line = ask(job.before + record('path', [job.ring[job.size // 2], job.ring[0]])).lines[-1]
+    repeat(job, record('check', inputs.bends(inputs.numbers(line))), ask, 'taut\n')
+
+
 def hull(job: Job, ask: Ask) -> None:
     """Its sides are to be the paths between their ends."""
     one = record('hull', pegs(job))
@@ -342,6 +348,7 @@ KINDS = [
     Kind('path', ['spiral'], path_far, hostile=True),
     Kind('check', ['saw'], check_way(inputs.way_through_saw), 'two points', hostile=True),
     Kind('check', ['arch'], check_way(inputs.way_along_arch), 'each tip', hostile=True),
+    Kind('check', ['turned'], check_far, 'end to end', hostile=True),
     Kind('hull', ['comb'], hull, f'{MOST_PEGS} points', hostile=True),
     Kind('round', ['comb'], closed_round, f'{MOST_PEGS} points', hostile=True),
     Kind('guards', ['star', 'maze'], guards, hostile=True),

@@ -1,14 +1,17 @@
 -- Edges to one side of a point: it is on none of them, and whether they are crossed is told by their ends.
-use Rattle.std.proofs.Common.{◌≡◌, ◌⊎◌, inl, inr, refl, sym, ap, subst, ◌∙◌, ℕ, ◌+◌, ◌-◌, ◌<◌, ◌≤◌, ◌↔◌, IsTrue, zero, suc, ℤ, ◌*ℤ◌, ◌<ℤ◌, Bool, true, false, List, length, take, drop, get_or, arith}
+use Rattle.std.proofs.Common.{◌≡◌, ◌⊎◌, inl, inr, refl, sym, ap, subst, ◌∙◌, ℕ, ◌+◌, ◌-◌, ◌<◌, ◌≤◌, ◌↔◌, IsTrue, zero, suc, [], ◌∷◌, ℤ, pos, negsuc, ◌+ℤ◌, ◌-ℤ◌, ◌*ℤ◌, ◌<ℤ◌, Bool, true, false, List, length, take, drop, get_or, arith}
 use Rattle.std.proofs.lemmas.Int.{ints}
 use Rattle.std.proofs.lemmas.List.{get_or-drop, get_or-take, length-drop, length-take-le}
 use Rattle.std.specs.Bool.{beq}
 use Rattle.std.specs.Int.Signed.{le_z, lt_z}
-use Rattle.std.specs.Prelude.{◌&&◌, not}
+use Rattle.std.specs.Prelude.{◌≤ℤ◌, ◌&&◌, not}
+use Rattle.integer_algebra.proofs.Polynomial.{var, lit, ◌⊕◌, ◌⊖◌, ◌⊗◌, same_value}
+use Rattle.plane.proofs.Nearness.{no_meet_across}
 use Rattle.plane.proofs.Points.{whole_is_point}
-use Rattle.plane.proofs.Segments.{not_after_both, not_before_both}
+use Rattle.plane.proofs.Segments.{on_first_end}
+use Rattle.plane.proofs.Turns.{linear}
 use Rattle.plane.specs.Point.{IsInBounds, IsPoint, Point, Triple, whole}
-use Rattle.plane.specs.Segment.{On}
+use Rattle.plane.specs.Segment.{Meet, On}
 use Rattle.rings.proofs.Vertices.{vertex_in_range}
 use Rattle.rings.specs.Edge.{edge, edges_of}
 use Rattle.rings.specs.Inside.{is_crossed}
@@ -21,8 +24,8 @@ use Rattle.inside_test.proofs.ApartEdges.{not_on_above, not_on_below}
 use Rattle.inside_test.proofs.CrossedEdges.{crossed_backward, crossed_from_left, crossed_from_right, not_crossed_unpassed}
 use Rattle.inside_test.proofs.Odd.{odd_step}
 use Rattle.inside_test.proofs.Tilted.{overlap_of_tilted}
-use Rattle.inside_test.proofs.Passed.{left_of_rise, not_falling, right_of_rise, test_fails_high, test_fails_low}
-use Rattle.inside_test.proofs.Touched.{follows_right, precedes_left}
+use Rattle.inside_test.proofs.Passed.{left_of_sides, left_side, less_difference, less_sum, more_difference, more_sum, not_falling, right_of_sides, right_side, side}
+use Rattle.inside_test.proofs.Passed.{test_fails_high, test_fails_low}
 use Rattle.inside_test.specs.Apart.{MissesEdges}
 use Rattle.inside_test.specs.Block.{IsBoxMissed, IsBoxPassed, IsBoxRight, OfAllEnclosed}
 use Rattle.inside_test.specs.Meeting.{rises}
@@ -74,36 +77,93 @@ module _ (a b : Point) (p : Triple) (at_p : IsPoint p) where
         (test_fails_high (b.y *ℤ p.W) (a.y *ℤ p.W) p.Y (omega (arith, ints, first)));
   }
 
+  module _ (c : ℤ) where
+    -- a functional that is more at the vertices to one side of a point than at the point, which it is 0 at,
+    past_is : (v : Point) → linear (pos 0 -ℤ p.W) (pos 0 -ℤ c *ℤ p.W) (p.X +ℤ c *ℤ p.Y) (whole v) ≡ pos 0 -ℤ side c v p
+    past_is v =
+        same_value ((lit (pos 0) ⊖ var 4) ⊗ var 0 ⊕ (lit (pos 0) ⊖ var 5 ⊗ var 4) ⊗ var 1 ⊕ (var 2 ⊕ var 5 ⊗ var 3) ⊗ lit (pos 1))
+        (lit (pos 0) ⊖ ((var 0 ⊕ var 5 ⊗ var 1) ⊗ var 4 ⊖ (var 2 ⊕ var 5 ⊗ var 3)))
+        (v.x ∷ v.y ∷ p.X ∷ p.Y ∷ p.W ∷ c ∷ []) refl
+
+    past_here : linear (pos 0 -ℤ p.W) (pos 0 -ℤ c *ℤ p.W) (p.X +ℤ c *ℤ p.Y) p ≡ pos 0
+    past_here =
+        same_value ((lit (pos 0) ⊖ var 2) ⊗ var 0 ⊕ (lit (pos 0) ⊖ var 3 ⊗ var 2) ⊗ var 1 ⊕ (var 0 ⊕ var 3 ⊗ var 1) ⊗ var 2) (lit (pos 0))
+        (p.X ∷ p.Y ∷ p.W ∷ c ∷ []) refl
+
+    -- and one that is more at those to the other
+    before_is : (v : Point) → linear p.W (c *ℤ p.W) (pos 0 -ℤ (p.X +ℤ c *ℤ p.Y)) (whole v) ≡ side c v p
+    before_is v =
+        same_value (var 4 ⊗ var 0 ⊕ (var 5 ⊗ var 4) ⊗ var 1 ⊕ (lit (pos 0) ⊖ (var 2 ⊕ var 5 ⊗ var 3)) ⊗ lit (pos 1))
+        ((var 0 ⊕ var 5 ⊗ var 1) ⊗ var 4 ⊖ (var 2 ⊕ var 5 ⊗ var 3))
+        (v.x ∷ v.y ∷ p.X ∷ p.Y ∷ p.W ∷ c ∷ []) refl
+
+    before_here : linear p.W (c *ℤ p.W) (pos 0 -ℤ (p.X +ℤ c *ℤ p.Y)) p ≡ pos 0
+    before_here =
+        same_value (var 2 ⊗ var 0 ⊕ (var 3 ⊗ var 2) ⊗ var 1 ⊕ (lit (pos 0) ⊖ (var 0 ⊕ var 3 ⊗ var 1)) ⊗ var 2) (lit (pos 0))
+        (p.X ∷ p.Y ∷ p.W ∷ c ∷ []) refl
+
+    -- so the point is on no edge where one is more at both ends
+    off_edge : (α β γ : ℤ) → linear α β γ p ≡ pos 0 → pos 0 <ℤ linear α β γ (whole a) → pos 0 <ℤ linear α β γ (whole b)
+        → ¬ (On p (whole a) (whole b))
+    off_edge α β γ here first last on =
+        no_meet_across (whole a) (whole b) p p (whole_is_point a) (whole_is_point b) at_p at_p α β γ first last (omega (arith, ints, here)) (omega (arith, ints, here))
+        (record { point = p; rational = at_p; on_first = on; on_second = on_first_end p p })
+
+    -- left of it along an axis,
+    pub passed_past : side c a p <ℤ pos 0 → side c b p <ℤ pos 0 → IsPassed a b p false
+    passed_past first last = record {
+      off = off_edge _ _ _ past_here (omega (arith, ints, past_is a, first)) (omega (arith, ints, past_is b, last));
+      is = elim (is_or_not (rises a b p)) [
+        | inl up ↦ crossed_from_right (edge a b) p (sym (right_of_sides a b p at_p up c first last)) ∙ not_falling (a.y *ℤ p.W) (b.y *ℤ p.W) p.Y up
+        | inr not_up ↦ elim (is_or_not (rises b a p)) [
+          | inl down ↦
+              sym (crossed_backward a b p) ∙ crossed_from_right (edge b a) p (sym (right_of_sides b a p at_p down c last first)) ∙ not_falling (b.y *ℤ p.W) (a.y *ℤ p.W) p.Y down
+          | inr not_down ↦ not_crossed_unpassed (edge a b) p not_up not_down
+        ]
+      ];
+    }
+
+    -- and right of it
+    pub passed_before : pos 0 <ℤ side c a p → pos 0 <ℤ side c b p
+        → IsPassed a b p (is_between_ends (lt_z p.Y (a.y *ℤ p.W)) (lt_z p.Y (b.y *ℤ p.W)))
+    passed_before first last = record {
+      off = off_edge _ _ _ before_here (omega (arith, ints, before_is a, first)) (omega (arith, ints, before_is b, last));
+      is = elim (is_or_not (rises a b p)) [
+        | inl up ↦
+            crossed_from_left (edge a b) p (sym (left_of_sides a b p at_p up c first last)) ∙ up ∙ sym (ends_of_rise (a.y *ℤ p.W) (b.y *ℤ p.W) p.Y up)
+        | inr not_up ↦ elim (is_or_not (rises b a p)) [
+          | inl down ↦
+              sym (crossed_backward a b p) ∙ crossed_from_left (edge b a) p (sym (left_of_sides b a p at_p down c last first)) ∙ down
+              ∙ sym (ends_of_fall (b.y *ℤ p.W) (a.y *ℤ p.W) p.Y down)
+          | inr not_down ↦ not_crossed_unpassed (edge a b) p not_up not_down ∙ sym (ends_beside (a.y *ℤ p.W) (b.y *ℤ p.W) p.Y not_up not_down)
+        ]
+      ];
+    }
+
   -- left of it,
   pub passed_left : (a.x *ℤ p.W) <ℤ p.X → (b.x *ℤ p.W) <ℤ p.X → IsPassed a b p false
-  passed_left first last = record {
-    off = λ on. not_after_both p (whole a) (whole b) at_p (whole_is_point a) (whole_is_point b) on (precedes_left a p first, precedes_left b p last);
-    is = elim (is_or_not (rises a b p)) [
-      | inl up ↦ crossed_from_right (edge a b) p (sym (right_of_rise a b p at_p up first last)) ∙ not_falling (a.y *ℤ p.W) (b.y *ℤ p.W) p.Y up
-      | inr not_up ↦ elim (is_or_not (rises b a p)) [
-        | inl down ↦
-            sym (crossed_backward a b p) ∙ crossed_from_right (edge b a) p (sym (right_of_rise b a p at_p down last first)) ∙ not_falling (b.y *ℤ p.W) (a.y *ℤ p.W) p.Y down
-        | inr not_down ↦ not_crossed_unpassed (edge a b) p not_up not_down
-      ]
-    ];
-  }
+  passed_left first last = passed_past (pos 0) (left_side a p first) (left_side b p last)
 
   -- and right of it
   pub passed_right : p.X <ℤ (a.x *ℤ p.W) → p.X <ℤ (b.x *ℤ p.W)
       → IsPassed a b p (is_between_ends (lt_z p.Y (a.y *ℤ p.W)) (lt_z p.Y (b.y *ℤ p.W)))
-  passed_right first last = record {
-    off = λ on. not_before_both p (whole a) (whole b) at_p (whole_is_point a) (whole_is_point b) on (follows_right a p first, follows_right b p last);
-    is = elim (is_or_not (rises a b p)) [
-      | inl up ↦
-          crossed_from_left (edge a b) p (sym (left_of_rise a b p at_p up first last)) ∙ up ∙ sym (ends_of_rise (a.y *ℤ p.W) (b.y *ℤ p.W) p.Y up)
-      | inr not_up ↦ elim (is_or_not (rises b a p)) [
-        | inl down ↦
-            sym (crossed_backward a b p) ∙ crossed_from_left (edge b a) p (sym (left_of_rise b a p at_p down last first)) ∙ down
-            ∙ sym (ends_of_fall (b.y *ℤ p.W) (a.y *ℤ p.W) p.Y down)
-        | inr not_down ↦ not_crossed_unpassed (edge a b) p not_up not_down ∙ sym (ends_beside (a.y *ℤ p.W) (b.y *ℤ p.W) p.Y not_up not_down)
-      ]
-    ];
-  }
+  passed_right first last = passed_before (pos 0) (right_side a p first) (right_side b p last)
+
+  -- so it is where the sums of coordinates are less, or the differences,
+  pub passed_past_sums : ((a.x +ℤ a.y) *ℤ p.W) <ℤ (p.X +ℤ p.Y) → ((b.x +ℤ b.y) *ℤ p.W) <ℤ (p.X +ℤ p.Y) → IsPassed a b p false
+  passed_past_sums first last = passed_past (pos 1) (less_sum a p first) (less_sum b p last)
+
+  pub passed_past_differences : ((a.x -ℤ a.y) *ℤ p.W) <ℤ (p.X -ℤ p.Y) → ((b.x -ℤ b.y) *ℤ p.W) <ℤ (p.X -ℤ p.Y) → IsPassed a b p false
+  passed_past_differences first last = passed_past (negsuc 0) (less_difference a p first) (less_difference b p last)
+
+  -- and greater
+  pub passed_before_sums : (p.X +ℤ p.Y) <ℤ ((a.x +ℤ a.y) *ℤ p.W) → (p.X +ℤ p.Y) <ℤ ((b.x +ℤ b.y) *ℤ p.W)
+      → IsPassed a b p (is_between_ends (lt_z p.Y (a.y *ℤ p.W)) (lt_z p.Y (b.y *ℤ p.W)))
+  passed_before_sums first last = passed_before (pos 1) (more_sum a p first) (more_sum b p last)
+
+  pub passed_before_differences : (p.X -ℤ p.Y) <ℤ ((a.x -ℤ a.y) *ℤ p.W) → (p.X -ℤ p.Y) <ℤ ((b.x -ℤ b.y) *ℤ p.W)
+      → IsPassed a b p (is_between_ends (lt_z p.Y (a.y *ℤ p.W)) (lt_z p.Y (b.y *ℤ p.W)))
+  passed_before_differences first last = passed_before (negsuc 0) (more_difference a p first) (more_difference b p last)
 
 -- ---- edges of a ring that follow one another
 
@@ -159,6 +219,10 @@ module _ (ring : List Point) (p : Triple) (above : ℕ → Bool) (first : ℕ) (
 sum_is : (first end : ℕ) → first < end → first + (end - first) ≡ end
 sum_is first end h = omega arith
 
+-- what is less is at most
+at_most_of_less : {x y : ℤ} → x <ℤ y → x ≤ℤ y
+at_most_of_less h = omega (arith, ints)
+
 -- a flag that says whether a number is above another is the test of it
 test_is : (flag : Bool) (x y : ℤ) → IsTrue flag ↔ (x <ℤ y) → lt_z x y ≡ flag
 test_is true x y h = let k = h.0 refl in grind (arith, ints)
@@ -168,8 +232,8 @@ test_is false x y h = grind (arith, ints)
 ends_above : (a b y : ℤ) → y <ℤ a → y <ℤ b → is_between_ends (lt_z y a) (lt_z y b) ≡ false
 ends_above a b y h k = ends_beside a b y (test_fails_low a b y h) (test_fails_low b a y k)
 
-ends_below : (a b y : ℤ) → a <ℤ y → b <ℤ y → is_between_ends (lt_z y a) (lt_z y b) ≡ false
-ends_below a b y h k = ends_beside a b y (test_fails_high a b y (omega (arith, ints, k))) (test_fails_high b a y (omega (arith, ints, h)))
+pub ends_below : (a b y : ℤ) → a ≤ℤ y → b ≤ℤ y → is_between_ends (lt_z y a) (lt_z y b) ≡ false
+ends_below a b y h k = ends_beside a b y (test_fails_high a b y k) (test_fails_high b a y h)
 
 module _ (ring : List Point) (p : Triple) (at_p : IsPoint p) where
   -- whether vertex k is above the point
@@ -191,7 +255,7 @@ module _ (ring : List Point) (p : Triple) (at_p : IsPoint p) where
         (passed_above (vertex ring k) (vertex ring (k + 1)) p at_p (above _ h.from_bounds h.from) (above _ h.to_bounds h.to))
     passed_in_passed (inl (inr below)) =
         subst (IsPassed (vertex ring k) (vertex ring (k + 1)) p)
-        (sym (ends_below _ _ p.Y (below _ h.from_bounds h.from) (below _ h.to_bounds h.to)))
+        (sym (ends_below _ _ p.Y (at_most_of_less (below _ h.from_bounds h.from)) (at_most_of_less (below _ h.to_bounds h.to))))
         (passed_below (vertex ring k) (vertex ring (k + 1)) p at_p (below _ h.from_bounds h.from) (below _ h.to_bounds h.to))
     passed_in_passed (inr right) = passed_right (vertex ring k) (vertex ring (k + 1)) p at_p (right _ h.from_bounds h.from) (right _ h.to_bounds h.to)
 

@@ -5,6 +5,18 @@ use Rattle.std.specs.Prelude.{unsigned_abs}
 use mir.Syntax.{w64}
 use Rattle.plane.specs.Point.{IsInLimit}
 use Rattle.exact_plane.proofs.Registers.{read, read_is, short, short_is}
+use Rattle.inside_test.specs.Level.{IsNear}
+
+-- what is within the limit is near,
+pub near : (z : ℤ) → IsInLimit z → IsNear z
+near z h = omega (arith, ints, h)
+
+-- and so are a sum and a difference of such
+pub near_sum : (x y : ℤ) → IsInLimit x → IsInLimit y → IsNear (x +ℤ y)
+near_sum x y h k = omega (arith, ints, h, k)
+
+pub near_difference : (x y : ℤ) → IsInLimit x → IsInLimit y → IsNear (x -ℤ y)
+near_difference x y h k = omega (arith, ints, h, k)
 
 -- a height is read as it is
 pub height_read : (z : ℤ) → unsigned_abs z < 2 ^ 40 → read z ≡ z

@@ -1,5 +1,5 @@
 -- What bundles of edges tell of a point: an edge that passes its height, right of it, is crossed, and so many are of two bundles together.
-use Rattle.std.proofs.Common.{◌≤◌, ◌≡◌, inl, inr, refl, sym, ap, subst, ◌∙◌, ℕ, ◌+◌, ◌<◌, ℤ, ◌*ℤ◌, ◌<ℤ◌, Bool, true, false, List, length, arith}
+use Rattle.std.proofs.Common.{◌≤◌, ◌≡◌, ◌⊎◌, inl, inr, refl, sym, ap, subst, ◌∙◌, ℕ, ◌+◌, ◌<◌, ℤ, ◌+ℤ◌, ◌-ℤ◌, ◌*ℤ◌, ◌<ℤ◌, Bool, true, false, List, length, arith}
 use Rattle.std.proofs.lemmas.Bool.{cases_lt}
 use Rattle.std.proofs.lemmas.Int.{ints}
 use Rattle.std.specs.Bool.{beq}
@@ -7,12 +7,14 @@ use Rattle.std.specs.Int.Signed.{lt_z}
 use Rattle.std.specs.Prelude.{◌≤ℤ◌, not}
 use Rattle.plane.specs.Point.{IsPoint, Point, Triple}
 use Rattle.rings.specs.Ring.{vertex}
-use Rattle.inside_test.proofs.Blocks.{IsPassed, is_between_ends, passed_above, passed_below, passed_left, passed_right}
+use Rattle.inside_test.proofs.Blocks.{IsPassed, ends_below, is_between_ends, passed_above, passed_before_differences, passed_before_sums}
+use Rattle.inside_test.proofs.Blocks.{passed_below, passed_left, passed_past_differences, passed_past_sums, passed_right}
+use Rattle.inside_test.proofs.Heights.{near}
 use Rattle.inside_test.proofs.Odd.{not_other, over_both, over_more, over_none}
-use Rattle.inside_test.specs.Block.{IsBoxMissed}
-use Rattle.inside_test.specs.Bundle.{CrossesAll, IsBundleOf, IsBundleOfBoth, IsTold, IsWider}
+use Rattle.inside_test.specs.Bundle.{CrossesAll, CrossesNone, IsBundleMissed, IsBundleOf, IsBundleOfBoth, IsBundleRight, IsTold, IsWider}
 use Rattle.inside_test.specs.Odd.{IsOddOver}
 use Rattle.inside_test.specs.Runs.{AllTell, IsBundled, IsBoxed, IsRunOf}
+use Rattle.inside_test.specs.Tilted.{tilted}
 use Rattle.inside_test.specs.declared.bundle.Bundle.{Bundle}
 use Rattle.inside_test.specs.declared.runs.Run.{Run}
 
@@ -31,24 +33,40 @@ passes_down a b y h k = grind (arith, ints)
 
 module _ (b : Bundle) (u v : Point) (is : IsBundleOf b u v) (p : Triple) (at_p : IsPoint p) where
   -- an edge in a box that the ray misses is not crossed,
-  edge_missed : IsBoxMissed b.around p → IsPassed u v p false
-  edge_missed (inl (inl above)) = passed_above u v p at_p (above u is.first_bounds is.first) (above v is.last_bounds is.last)
-  edge_missed (inl (inr below)) = passed_below u v p at_p (below u is.first_bounds is.first) (below v is.last_bounds is.last)
-  edge_missed (inr left) = passed_left u v p at_p (left u is.first_bounds is.first) (left v is.last_bounds is.last)
+  edge_missed : IsBundleMissed b p → IsPassed u v p false
+  edge_missed (inl (inl (inl above))) = passed_above u v p at_p (above u is.first_bounds is.first) (above v is.last_bounds is.last)
+  edge_missed (inl (inl (inr below))) = passed_below u v p at_p (below u is.first_bounds is.first) (below v is.last_bounds is.last)
+  edge_missed (inl (inr left)) = passed_left u v p at_p (left u is.first_bounds is.first) (left v is.last_bounds is.last)
+  edge_missed (inr (inl less)) = passed_past_sums u v p at_p (less u is.first_bounds is.first_tilted) (less v is.last_bounds is.last_tilted)
+  edge_missed (inr (inr less)) = passed_past_differences u v p at_p (less u is.first_bounds is.first_tilted) (less v is.last_bounds is.last_tilted)
 
-  -- and one that passes the height of a point, right of it, is
+  -- one right of a point is where its ends are on both sides of the height:
+  edge_right : IsBundleRight b p → IsPassed u v p (is_between_ends (lt_z p.Y (u.y *ℤ p.W)) (lt_z p.Y (v.y *ℤ p.W)))
+  edge_right (inl right) = passed_right u v p at_p (right u is.first_bounds is.first) (right v is.last_bounds is.last)
+  edge_right (inr (inl more)) = passed_before_sums u v p at_p (more u is.first_bounds is.first_tilted) (more v is.last_bounds is.last_tilted)
+  edge_right (inr (inr more)) = passed_before_differences u v p at_p (more u is.first_bounds is.first_tilted) (more v is.last_bounds is.last_tilted)
+
+  -- not, where both are at most at it,
+  edge_below : CrossesNone b p → IsPassed u v p false
+  edge_below none =
+      subst (IsPassed u v p)
+      (ends_below (u.y *ℤ p.W) (v.y *ℤ p.W) p.Y (none.above u is.first_bounds is.first) (none.above v is.last_bounds is.last))
+      (edge_right none.right)
+
+  -- and so where it passes the height
   edge_beside : CrossesAll b p → IsPassed u v p true
   edge_beside beside =
       subst (IsPassed u v p)
       (elim is.heights [
-        | inl up ↦ passes_up (u.y *ℤ p.W) (v.y *ℤ p.W) p.Y (beside.low u.y is.first_bounds.y_in_limit up.0) (beside.high v.y is.last_bounds.y_in_limit up.1)
-        | inr down ↦ passes_down (u.y *ℤ p.W) (v.y *ℤ p.W) p.Y (beside.low v.y is.last_bounds.y_in_limit down.0) (beside.high u.y is.first_bounds.y_in_limit down.1)
+        | inl up ↦ passes_up (u.y *ℤ p.W) (v.y *ℤ p.W) p.Y (beside.low u.y (near u.y is.first_bounds.y_in_limit) up.0) (beside.high v.y (near v.y is.last_bounds.y_in_limit) up.1)
+        | inr down ↦ passes_down (u.y *ℤ p.W) (v.y *ℤ p.W) p.Y (beside.low v.y (near v.y is.last_bounds.y_in_limit) down.0) (beside.high u.y (near u.y is.first_bounds.y_in_limit) down.1)
       ])
-      (passed_right u v p at_p (beside.right u is.first_bounds is.first) (beside.right v is.last_bounds is.last))
+      (edge_right beside.right)
 
   -- so the bundle of an edge tells whether it is crossed
   pub edge_told : (odd : Bool) → IsTold b p odd → IsPassed u v p odd
-  edge_told odd (inl missed) = subst (IsPassed u v p) (sym missed.1) (edge_missed missed.0)
+  edge_told odd (inl (inl missed, even)) = subst (IsPassed u v p) (sym even) (edge_missed missed)
+  edge_told odd (inl (inr none, even)) = subst (IsPassed u v p) (sym even) (edge_below none)
   edge_told odd (inr beside) = subst (IsPassed u v p) (sym (beside.1 ∙ is.odd)) (edge_beside beside.0)
 
 -- a bundle of an even number of edges tells that an even number is crossed
@@ -68,15 +86,28 @@ pub record AreBothTold (a b : Bundle) (p : Triple) (odd : Bool) : Type 0 where
 
 module _ (a c : Bundle) (wider : IsWider a c) (p : Triple) where
   -- the ray misses a box in another that it misses,
-  missed_within : IsBoxMissed c.around p → IsBoxMissed a.around p
-  missed_within (inl (inl above)) = inl (inl (λ v limits within. above v limits (wider.box v within)))
-  missed_within (inl (inr below)) = inl (inr (λ v limits within. below v limits (wider.box v within)))
-  missed_within (inr left) = inr (λ v limits within. left v limits (wider.box v within))
+  missed_within : IsBundleMissed c p → IsBundleMissed a p
+  missed_within (inl (inl (inl above))) = inl (inl (inl (λ v limits within. above v limits (wider.box v within))))
+  missed_within (inl (inl (inr below))) = inl (inl (inr (λ v limits within. below v limits (wider.box v within))))
+  missed_within (inl (inr left)) = inl (inr (λ v limits within. left v limits (wider.box v within)))
+  missed_within (inr (inl less)) = inr (inl (λ v limits within. less v limits (wider.tilted (tilted v) within)))
+  missed_within (inr (inr less)) = inr (inr (λ v limits within. less v limits (wider.tilted (tilted v) within)))
+
+  -- one in another that is right of the point is right of it,
+  right_within : IsBundleRight c p → IsBundleRight a p
+  right_within (inl right) = inl (λ v limits within. right v limits (wider.box v within))
+  right_within (inr (inl more)) = inr (inl (λ v limits within. more v limits (wider.tilted (tilted v) within)))
+  right_within (inr (inr more)) = inr (inr (λ v limits within. more v limits (wider.tilted (tilted v) within)))
+
+  -- so that none of its edges is crossed where none of more is,
+  none_within : IsBundleMissed c p ⊎ CrossesNone c p → IsBundleMissed a p ⊎ CrossesNone a p
+  none_within (inl missed) = inl (missed_within missed)
+  none_within (inr none) = inr (record { right = right_within none.right; above = λ v limits within. none.above v limits (wider.box v within) })
 
   -- and edges pass the heights that more of them pass
   beside_within : CrossesAll c p → CrossesAll a p
   beside_within beside = record {
-    right = λ v limits within. beside.right v limits (wider.box v within);
+    right = right_within beside.right;
     low = λ y limit below. beside.low y limit (omega (arith, ints, below, wider.low));
     high = λ y limit above. beside.high y limit (omega (arith, ints, above, wider.high));
   }
@@ -85,8 +116,8 @@ pub both_told : (a b c : Bundle) → IsBundleOfBoth a b c → (p : Triple) (odd 
 both_told a b c is p odd (inl missed) = record {
   first = false;
   second = false;
-  first_told = inl (missed_within a c is.first p missed.0, refl);
-  second_told = inl (missed_within b c is.second p missed.0, refl);
+  first_told = inl (none_within a c is.first p missed.0, refl);
+  second_told = inl (none_within b c is.second p missed.0, refl);
   both = missed.1;
 }
 both_told a b c is p odd (inr beside) = record {

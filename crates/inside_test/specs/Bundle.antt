@@ -1,9 +1,10 @@
 -- Edges of a ring in bundles, by the way that they go, and what a bundle tells of a point. This project's own. No public clause cites this module.
 use Rattle.std.specs.Bool.{beq}
 use Rattle.std.specs.Prelude.{◌≡◌, ◌⊎◌, ◌*ℤ◌, ◌<ℤ◌, ◌≤ℤ◌, ℤ, Bool, true, false, not}
-use Rattle.plane.specs.Point.{IsInBounds, IsInLimit, Point, Triple}
+use Rattle.plane.specs.Point.{IsInBounds, Point, Triple}
 use Rattle.exact_plane.specs.Boxes.{Encloses}
-use Rattle.inside_test.specs.Block.{IsBoxMissed, IsBoxRight}
+use Rattle.inside_test.specs.Block.{IsBoxMissed, IsBoxRight, IsTiltBefore, IsTiltPast, OfAllEnclosed}
+use Rattle.inside_test.specs.Level.{IsNear}
 use Rattle.inside_test.specs.Tilted.{tilted}
 use Rattle.inside_test.specs.declared.bundle.Bundle.{Bundle}
 
@@ -31,12 +32,25 @@ pub record IsBundleOfBoth (a b c : Bundle) : Type 0 where
   pub second : IsWider b c
   pub odd : c.is_odd ≡ not (beq a.is_odd b.is_odd)
 
--- the ray from the point to the right crosses each edge: the box is right of the point, which is at a height that all of them pass
+-- the ray from the point to the right misses both boxes,
+abbrev pub IsBundleMissed : Bundle → Triple → Type 0
+IsBundleMissed b p = IsBoxMissed b.around p ⊎ IsTiltPast b.tilted p
+
+-- one of them is right of it, so that an edge is crossed where it passes the height of the point
+abbrev pub IsBundleRight : Bundle → Triple → Type 0
+IsBundleRight b p = IsBoxRight b.around p ⊎ IsTiltBefore b.tilted p
+
+-- and the ray crosses each edge: the point is at a height that all of them pass
 pub record CrossesAll (b : Bundle) (p : Triple) : Type 0 where
-  pub right : IsBoxRight b.around p
-  pub low : (y : ℤ) → IsInLimit y → y ≤ℤ b.low → (y *ℤ p.W) ≤ℤ p.Y
-  pub high : (y : ℤ) → IsInLimit y → b.high ≤ℤ y → p.Y <ℤ (y *ℤ p.W)
+  pub right : IsBundleRight b p
+  pub low : (y : ℤ) → IsNear y → y ≤ℤ b.low → (y *ℤ p.W) ≤ℤ p.Y
+  pub high : (y : ℤ) → IsNear y → b.high ≤ℤ y → p.Y <ℤ (y *ℤ p.W)
+
+-- or none: the point is where they end, or above that
+pub record CrossesNone (b : Bundle) (p : Triple) : Type 0 where
+  pub right : IsBundleRight b p
+  pub above : OfAllEnclosed b.around (λ v. (v.y *ℤ p.W) ≤ℤ p.Y)
 
 -- whether an odd number of the edges is crossed by the ray from the point to the right, where the bundle tells: none is, or all are
 abbrev pub IsTold : Bundle → Triple → Bool → Type 0
-IsTold b p odd = (IsBoxMissed b.around p × (odd ≡ false)) ⊎ (CrossesAll b p × (odd ≡ b.is_odd))
+IsTold b p odd = ((IsBundleMissed b p ⊎ CrossesNone b p) × (odd ≡ false)) ⊎ (CrossesAll b p × (odd ≡ b.is_odd))

@@ -13,4 +13,5 @@ returns-clause-levels g c =
     record {
       across = rw (parts.x, parts.w, to_z-of_z w128 c.args.p.now.X fits_x, to_z-of_z w128 c.args.p.now.W fits_w) at c.of.ensures;
       height = rw (parts.y, parts.w, to_z-of_z w128 c.args.p.now.Y fits_y, to_z-of_z w128 c.args.p.now.W fits_w) at c.of-2.ensures;
+      tilted = tt;
     }
