@@ -12,7 +12,7 @@ use std::alloc::Global;
 use std::sync::ledger::Ledger;
 
 // How many vertices a cluster has at most that has no parts.
-const LEAST: usize = 12;
+const LEAST: usize = 8;
 
 // The vertices at the places from `first` to before `end` of a list, which are all in the box. Its parts are the clusters from the
 // place `start` to before its own.

@@ -286,7 +286,7 @@ impl Corner {
             k -= 1;
             let cluster = &clusters.clusters[k];
             let misses = triangle.misses(&cluster.bounds);
-            if !misses && cluster.start != k {
+            if !misses && cluster.start < k {
                 continue;
             }
             if cluster.end != place {
