@@ -3,7 +3,9 @@
 
 mod event;
 mod gap;
+mod order;
 mod status;
 mod triangulation;
 
+pub use order::lexical;
 pub use triangulation::{sweep, sweep_ring};

@@ -7,6 +7,7 @@ ghost use Rattle.shared_seq.specs.Digits.{binary_digits};
 ghost use Rattle.ring_check.specs.Order.{IsInOrder};
 
 use crate::event::Sweep;
+use crate::order::lexical;
 use exact_plane::{Memory, Steps, Turns};
 use meshes::Tri;
 use ring_check::{Ring, ranks_of};
@@ -29,7 +30,7 @@ pub fn sweep_ring<T: Turns, L: Ledger>(
     match ring.order() {
         Some(order) => sweep(alloc, board, order, steps),
         None => {
-            let order = ring.lexical(alloc, steps)?;
+            let order = lexical(alloc, ring, steps)?;
             sweep(alloc, board, &order, steps)
         }
     }
