@@ -8,3 +8,4 @@ mod RowsFilled
 mod SearchSteps
 mod SideLists
 mod SidesSeen
+mod Waiting

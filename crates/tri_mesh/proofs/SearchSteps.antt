@@ -191,15 +191,3 @@ done_of_sides tris order k sides k_below is first second third l below share = e
     ]
   ]
 ]
-
--- the triangles at one place more are done
-pub done_more : (tris : List Tri) (a b : List Outward) → IsGrown a b
-    → (n : ℕ) → n < length a → ((p : ℕ) → p < n → p < length a → IsDone tris a (outward_at a p).tri) → IsDone tris b (outward_at a n).tri
-    → (p : ℕ) → p < n + 1 → p < length b → IsDone tris b (outward_at b p).tri
-done_more tris a b grown n below done last p order in_list l l_below share = elim (cases_eq p n) [
-  | inl here ↦ last l l_below (rw (here, grown.kept n below) at share)
-  | inr other ↦
-      let earlier : p < n = omega arith in
-      let in_a : p < length a = omega arith in
-      stays_reached a b grown l (done p earlier in_a l l_below (rw (grown.kept p in_a) at share))
-]

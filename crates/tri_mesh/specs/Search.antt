@@ -1,5 +1,5 @@
 -- What a search over the triangles of a mesh keeps, from one of them outward. No public clause cites this module. This project's own.
-use Rattle.std.specs.Prelude.{◌≡◌, ℕ, ◌<◌, ◌≤◌, ◌^◌, List, length, slice_index}
+use Rattle.std.specs.Prelude.{◌≡◌, ℕ, ◌<◌, ◌≤◌, ◌^◌, List, [], ◌∷◌, ◌++◌, Option, Some, None, length, slice_index}
 use Rattle.meshes.specs.Side.{HasSide, ShareSide, tri_at}
 use Rattle.meshes.specs.declared.tri.Tri.{Tri}
 use Rattle.tri_mesh.specs.Outward.{IsJoined, outward_at}
@@ -31,3 +31,8 @@ IsSideDone tris order i j = (l : ℕ) → l < length tris → HasSide (tri_at tr
 -- the triangles that share a side with triangle k were
 abbrev pub IsDone : List Tri → List Outward → ℕ → Type 0
 IsDone tris order k = (l : ℕ) → l < length tris → ShareSide (tri_at tris k) (tri_at tris l) → IsReached order l
+
+-- the places that were reached and not gone on from, of which one is the next; none is left where there is no next one
+abbrev pub waiting : Option ℕ → List ℕ → List ℕ
+waiting None later = []
+waiting (Some next) later = later ++ next ∷ []

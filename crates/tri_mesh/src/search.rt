@@ -1,9 +1,10 @@
-ghost use Rattle.std.specs.Prelude.{◌≡◌, ◌<◌, ◌≤◌, ◌^◌, ◌↔◌, IfOk, IsTrue, length, vec_capacity};
+ghost use Rattle.std.specs.Prelude.{◌≡◌, ◌+◌, ◌-◌, ◌<◌, ◌≤◌, ◌^◌, ◌↔◌, ◌++◌, IfOk, IsTrue, length, vec_capacity};
+ghost use Rattle.std.specs.List.{range_with_len};
 ghost use Rattle.meshes.specs.Mesh.{side_begin, side_end};
 ghost use Rattle.meshes.specs.Side.{HasSide, HasSidesOnce, tri_at};
 ghost use Rattle.tri_mesh.specs.Neighbours.{IsOwner, KeepsNeighbours};
 ghost use Rattle.tri_mesh.specs.Outward.{IsRooted, outward_at};
-ghost use Rattle.tri_mesh.specs.Search.{IsDone, IsGrown, IsReached, IsSearch, IsSideDone};
+ghost use Rattle.tri_mesh.specs.Search.{IsDone, IsGrown, IsReached, IsSearch, IsSideDone, waiting};
 
 use crate::outward::Outward;
 use exact_plane::Memory;
@@ -18,7 +19,7 @@ pub(crate) struct Search {
 }
 
 impl Search {
-    // The search from one triangle that has reached all.
+    // The search from one triangle that has reached all. It goes on from the triangle that it reached last.
     pub(crate) fn from(
         alloc: Global,
         tris: &[Tri],
@@ -30,10 +31,12 @@ impl Search {
         ensures { IfOk result (λ search. IsRooted tris.now home search.order.items search.places.items) }
     {
         let mut search = Search::start(alloc, tris, home)?;
-        let mut place = 0u32;
-        while (place as usize) < search.order.len() {
+        let mut later = Vec::with_capacity(alloc, tris.len())?;
+        let mut next = Some(0u32);
+        while let Some(place) = next {
+            let first = search.order.len() as u32;
             search.expand(tris, rows, place);
-            place += 1;
+            next = newest(&mut later, first, search.order.len() as u32);
         }
         Ok(search)
     }
@@ -43,6 +46,7 @@ impl Search {
         requires few { length tris.now < 2 ^ 30 }
         requires home { home < length tris.now }
         ensures search { IfOk result (λ search. IsSearch tris.now search.order.items search.places.items) }
+        ensures one { IfOk result (λ search. length search.order.items ≡ 1) }
         ensures first { IfOk result (λ search. (outward_at search.order.items 0).tri ≡ home) }
         ensures room { IfOk result (λ search. length tris.now ≤ vec_capacity search.order) }
     {
@@ -144,4 +148,20 @@ fn side_from(tri: &Tri, from: u32, to: u32) -> u32
     } else {
         2
     }
+}
+
+// The place to go on from: the last one from `first` to `end`, of which the others wait, or else the last that waits.
+fn newest(later: &mut Vec<u32>, first: u32, end: u32) -> Option<u32>
+    requires order { first ≤ end }
+    requires room { length later.old.items + (end - first) ≤ vec_capacity later.old }
+    ensures waiting { waiting result later.new.items ≡ later.old.items ++ range_with_len first (end - first) }
+    ensures same_room { vec_capacity later.new ≡ vec_capacity later.old }
+{
+    if first == end {
+        return later.pop();
+    }
+    for place in first..end - 1 {
+        later.push_reserved(place);
+    }
+    Some(end - 1)
 }
