@@ -8,4 +8,4 @@ mod PairOrder
 pub use Rattle.plane.proofs.Lists.PairOrder.{before_through, not_before_itself}
 -- The numbers below one.
 mod Ranges
-pub use Rattle.plane.proofs.Lists.Ranges.{in_range, range_more}
+pub use Rattle.plane.proofs.Lists.Ranges.{in_range, in_range_from, range_grown, range_more}

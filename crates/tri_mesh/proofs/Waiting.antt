@@ -1,29 +1,15 @@
 -- The places that wait in a search: each that was reached waits, or was gone on from.
 use Rattle.std.proofs.Common.{◌≡◌, sym, ap, subst, ◌∙◌, ℕ, zero, ◌+◌, ◌-◌, ◌<◌, ◌≤◌, ◌⊎◌, inl, inr, List, [], ◌∷◌, ◌++◌, length, length-append, arith}
-use Rattle.std.proofs.Common.{get_or}
 use Rattle.std.proofs.lemmas.Bool.{cases_lt}
-use Rattle.std.proofs.lemmas.List.{map-id}
 use Rattle.std.proofs.lemmas.List.Elements.{Contains-append_cases, Contains-append_left, Contains-append_right, Contains-push, Contains-push_cases}
-use Rattle.std.proofs.lemmas.List.FromFn.{get_or-range_with_len, length-range_with_len, map-range_with_len_more}
+use Rattle.std.proofs.lemmas.List.FromFn.{get_or-range_with_len, length-range_with_len}
 use Rattle.std.specs.List.{Contains, range_with_len}
+use Rattle.plane.proofs.Lists.{in_range_from}
 use Rattle.meshes.specs.declared.tri.Tri.{Tri}
 use Rattle.tri_mesh.proofs.SearchSteps.{stays_reached}
 use Rattle.tri_mesh.specs.Outward.{outward_at}
 use Rattle.tri_mesh.specs.Search.{IsDone, IsGrown, IsReached}
 use Rattle.tri_mesh.specs.declared.outward.Outward.{Outward}
-
--- one more number at the end
-pub range_grown : (a n : ℕ) → range_with_len a (n + 1) ≡ range_with_len a n ++ (a + n) ∷ []
-range_grown a n =
-    sym (map-id (range_with_len a (n + 1)))
-    ∙ map-range_with_len_more (λ k. k) a n (a + n) (omega arith)
-    ∙ ap (λ xs. xs ++ (a + n) ∷ []) (map-id (range_with_len a n))
-
--- each number from a on, below the end, is among them
-in_range : (a n x : ℕ) → a ≤ x → x < a + n → Contains (range_with_len a n) x
-in_range a n x low high =
-    let is : get_or (range_with_len a n) (x - a) x ≡ x = omega (arith, get_or-range_with_len a n (x - a) x (omega (arith, low, high)), low) in
-    (x - a, omega (arith, length-range_with_len a n, low, high), is)
 
 -- the same numbers, from and below others that are equal
 pub waiting_new : (all later : List ℕ) (a b first end : ℕ) → a ≡ first → b ≡ end → all ≡ later ++ range_with_len a (b - a)
@@ -40,7 +26,7 @@ module _ (tris : List Tri) (before after : List Outward) (grown : IsGrown before
   -- the place that was last is done, and the new ones wait
   pub waits_more : (p : ℕ) → p < length after → Contains (kept ++ new) p ⊎ IsDone tris after (outward_at after p).tri
   waits_more p h = elim (cases_lt p (length before)) [
-    | inr later ↦ inl (Contains-append_right kept new p (in_range (length before) (length after - length before) p later (omega (arith, h, later))))
+    | inr later ↦ inl (Contains-append_right kept new p (in_range_from (length before) (length after - length before) p later (omega (arith, h, later))))
     | inl early ↦ elim (inner p early) [
       | inr was ↦ inr (subst (λ (o : Outward). IsDone tris after o.tri) (sym (grown.kept p early))
           (λ l below has. stays_reached before after grown l (was l below has)))

@@ -2,7 +2,7 @@ use Rattle.std.proofs.Common.{◌≡◌, sym, ap, ◌∙◌, ◌+◌, ◌-◌, �
 use Rattle.std.proofs.Common.{length-append}
 use Rattle.std.proofs.lemmas.List.FromFn.{length-range_with_len}
 use Rattle.std.specs.List.{range_with_len}
-use Rattle.tri_mesh.proofs.Waiting.{range_grown}
+use Rattle.plane.proofs.Lists.{range_grown}
 use Rattle.tri_mesh.proofs.search.newest.Goals as goal
 
 pub push_reserved-requires : goal.push_reserved-requires
