@@ -1,12 +1,12 @@
 -- The choice of runs by boxes, and how many triangles it takes.
 use mathlib.Core.Bool.{beq}
 use Rattle.std.proofs.Common.{inl, inr, ◌⊎◌, add-zero, ◌≡◌, ◌↔◌, refl, sym, ℕ, zero, suc, ◌+◌, ◌-◌, ◌*◌, ◌/◌, ◌≤◌, Bool, true, false, cond, not, IsTrue, arith}
-use Rattle.std.proofs.lemmas.Bool.{and_from, and_parts}
+use Rattle.std.proofs.lemmas.Bool.{and_from, and_parts, cases_lt}
 use Rattle.std.proofs.lemmas.Int.{ints}
 use Rattle.std.specs.Prelude.{ℤ, int_le, ◌≤ℤ◌}
 use Rattle.exact_plane.specs.Boxes.{Overlap}
 use Rattle.exact_plane.specs.declared.bounding_box.BoundingBox.{BoundingBox}
-use Rattle.dual_tree.specs.Runs.{Chosen, is_near, is_near_group, overlap, takes_run, taken_before}
+use Rattle.dual_tree.specs.Runs.{Chosen, IsFirstChosen, IsNoneChosen, is_near, is_near_group, overlap, takes_run, taken_before}
 
 -- that two boxes share a point is decided by their sides
 pub overlap_decided : (b c : BoundingBox) (r : Bool) → (IsTrue r ↔ Overlap b c) → r ≡ overlap b c
@@ -66,6 +66,29 @@ pub none_of_group : (by : Chosen) (group : ℕ) → by.far ≡ false → is_near
     → takes_run by run ≡ false
 unfolding takes_run
 none_of_group by group near apart run same = rw (near, same, apart) refl
+
+module _ (by : Chosen) (run end : ℕ) where
+  -- none is chosen where none has been looked at,
+  pub none_yet : run ≤ end → IsNoneChosen by run end run
+  none_yet order = record { after = omega arith; within = order; none = λ k low below. absurd (omega arith) }
+
+  -- nor where more are looked at and are not
+  pub more_not : (at stop next : ℕ) → IsNoneChosen by run end at → IsNoneChosen by at stop next → stop ≤ end → IsNoneChosen by run end next
+  more_not at stop next so_far more within = record {
+    after = omega (arith, so_far.after, more.after);
+    within = omega (arith, more.within, within);
+    none = λ k low under. elim (cases_lt k at) [
+      | inl before ↦ so_far.none k low before
+      | inr later ↦ more.none k later under
+    ];
+  }
+
+  -- and where near ones are wanted, none is of a group that is not near
+  pub none_in_group : run ≤ end → end ≤ run / 16 * 16 + 16 → by.far ≡ false → is_near_group by (run / 16) ≡ false → IsFirstChosen by run end end
+  none_in_group order few near apart = record {
+    before = record { after = order; within = omega arith; none = λ k low below. none_of_group by (run / 16) near apart k (omega arith) };
+    takes = λ less. absurd (omega arith);
+  }
 
 module _ (takes : ℕ → Bool) where
   -- one more triangle, of a run that is taken

@@ -11,7 +11,6 @@ use Rattle.plane.specs.Segment.{On}
 use Rattle.plane.specs.Turn.{IsLeft, determinant}
 use Rattle.rings.specs.Ring.{vertex}
 use Rattle.ring_laws.proofs.Triangles.{on_first_side, on_second_side, on_third_side}
-use Rattle.exact_plane.proofs.Directions.{left_of_positive, positive_of_left}
 use Rattle.meshes.proofs.Parts.{opposite}
 use Rattle.meshes.proofs.Sides.{fitting_sides}
 use Rattle.meshes.proofs.Sight.{separation_law}
@@ -209,6 +208,3 @@ module _ (corners : List Point) (t : Tri) (left : IsLeft (whole (vertex corners 
   on_third not_left =
       on_third_side (vertex corners t.a) (vertex corners t.b) (vertex corners t.c) left (whole p) (whole_is_point p) held
       (zero_of_held _ held.not_right_of_third not_left)
-
--- a turn to the left and its sign, as rules
-pub ruleset left_turns = (positive_of_left, left_of_positive)

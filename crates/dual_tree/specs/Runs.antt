@@ -1,6 +1,6 @@
 -- Which triangles of a list are looked at first, by boxes round runs of them. This project's own.
 use Rattle.std.specs.List.{slice_get}
-use Rattle.std.specs.Prelude.{ℕ, zero, suc, ◌/◌, Bool, false, cond, List, Option, Some, None, ◌&&◌, not, int_le}
+use Rattle.std.specs.Prelude.{◌≡◌, ℕ, zero, suc, ◌/◌, ◌<◌, ◌≤◌, Bool, false, cond, List, Option, Some, None, ◌&&◌, not, int_le, IsTrue}
 use Rattle.exact_plane.specs.declared.bounding_box.BoundingBox.{BoundingBox}
 
 -- two boxes share a point
@@ -31,6 +31,17 @@ is_near by run = is_near_group by (run / 16) && overlaps_some by.point (slice_ge
 -- whether a run is chosen
 unfoldable pub takes_run : Chosen → ℕ → Bool
 takes_run by run = cond by.far (not (is_near by run)) (is_near by run)
+
+-- no run from number `run` to before `at` is chosen, and `at` is at most `end`
+pub record IsNoneChosen (by : Chosen) (run end at : ℕ) : Type 0 where
+  pub after : run ≤ at
+  pub within : at ≤ end
+  pub none : (k : ℕ) → run ≤ k → k < at → takes_run by k ≡ false
+
+-- `at` is the first run from number `run` to before `end` that is chosen, or `end` where none is
+pub record IsFirstChosen (by : Chosen) (run end at : ℕ) : Type 0 where
+  pub before : IsNoneChosen by run end at
+  pub takes : at < end → IsTrue (takes_run by at)
 
 -- how many triangles before triangle n are in runs that are taken; a run has 4 triangles
 unfoldable pub taken_before : (ℕ → Bool) → ℕ → ℕ

@@ -25,7 +25,6 @@ const ENOUGH: u32 = 64 + 12;
 
 /// The least triangle that holds `p`, its sides included, or none where `p` is not in the ring. It takes at most 3 steps a
 /// triangle.
-#[tactic(auto, using(crate::proofs::LocationFits::places))]
 pub fn locate<L: Ledger>(mesh: &Mesh, ring: &Ring, p: &Pt, steps: &mut Steps<L>) -> Option<u32>
     requires { Fits ring.now.corners mesh.now }
     ensures least { IfSome result (IsLeastHolding ring.now.corners mesh.now (whole p.now)) }
@@ -63,7 +62,6 @@ pub fn locate_both<L: Ledger>(
 }
 
 // The first triangle that holds the point as the answer for it.
-#[tactic(auto, using(crate::proofs::LocationFits::places))]
 fn answer(mesh: &Mesh, ring: &Ring, p: &Pt, found: u32) -> Option<u32>
     requires fits { Fits ring.now.corners mesh.now }
     requires first { IsFirstHolding ring.now.corners mesh.now (whole p.now) 0 (length mesh.now) found }
@@ -77,7 +75,6 @@ fn answer(mesh: &Mesh, ring: &Ring, p: &Pt, found: u32) -> Option<u32>
 }
 
 // The same in one pass over the triangles.
-#[tactic(auto, using(crate::proofs::LocationFits::places))]
 fn locate_together<L: Ledger>(
     mesh: &Mesh,
     ring: &Ring,
@@ -343,12 +340,14 @@ fn spared_at<L: Ledger>(a: &Pt, b: &Pt, c: &Pt, p: &Pt, steps: &mut Steps<L>) ->
 }
 
 // Whether the point is right of the line from `a` to `b`. It takes one step.
-#[tactic(auto, using(exact_plane::proofs::Directions::right_turns))]
 fn is_right<L: Ledger>(a: &Pt, b: &Pt, p: &Pt, steps: &mut Steps<L>) -> bool
     ensures right { IsTrue result ↔ IsRight (whole a.now) (whole b.now) (whole p.now) }
     ensures steps { steps.new ≡ steps.old + 1 }
 {
-    turn(a, b, p, steps) == Direction::Right
+    match turn(a, b, p, steps) {
+        Direction::Right => true,
+        _ => false,
+    }
 }
 
 // The first triangle of the chosen runs, from number `range.0` to before `range.1`, that holds the point; `range.1` where none does.
@@ -469,16 +468,17 @@ fn side_at<L: Ledger>(mesh: &Mesh, ring: &Ring, k: u32, p: &Pt, steps: &mut Step
 }
 
 // Whether the point is left of the line from `a` to `b`. It takes one step.
-#[tactic(auto, using(crate::proofs::SideHits::left_turns))]
 fn is_left<L: Ledger>(a: &Pt, b: &Pt, p: &Pt, steps: &mut Steps<L>) -> bool
     ensures left { IsTrue result ↔ IsLeft (whole a.now) (whole b.now) (whole p.now) }
     ensures steps { steps.new ≡ steps.old + 1 }
 {
-    turn(a, b, p, steps) == Direction::Left
+    match turn(a, b, p, steps) {
+        Direction::Left => true,
+        _ => false,
+    }
 }
 
 // The corners of the triangle.
-#[tactic(auto, using(rings::proofs::Vertices::vertex_in_range))]
 pub(crate) fn corners_of<'a>(ring: &'a Ring, tri: &Tri) -> (&'a Pt, &'a Pt, &'a Pt)
     requires { IsCornered ring.now.corners tri.now }
     ensures counterclockwise { IsLeft (whole result.0.now) (whole result.1.now) (whole result.2.now) }

@@ -3,7 +3,7 @@ ghost use Rattle.std.specs.List.{slice_get};
 ghost use Rattle.std.specs.Prelude.{◌≡◌, ℕ, ◌+◌, ◌-◌, ◌*◌, ◌/◌, ◌<◌, ◌≤◌, ◌^◌, not, false, IsTrue, length};
 ghost use Rattle.meshes.specs.Fits.{Fits};
 ghost use Rattle.dual_tree.specs.Location.{IsCornered};
-ghost use Rattle.dual_tree.specs.Runs.{is_near, is_near_group, overlap, overlaps_some, takes_run};
+ghost use Rattle.dual_tree.specs.Runs.{IsFirstChosen, is_near, is_near_group, overlap, overlaps_some, takes_run};
 
 use crate::location::corners_of;
 use exact_plane::{BoundingBox, Memory, Pt, Steps};
@@ -238,10 +238,7 @@ impl<'a> Choice<'a> {
     pub(crate) fn next(&self, run: u32, end: u32) -> u32
         requires order { run ≤ end }
         requires few { end < 2 ^ 30 }
-        ensures after { run ≤ result }
-        ensures within { result ≤ end }
-        ensures takes { result < end → IsTrue (takes_run self.now result) }
-        ensures none { (k : ℕ) → run ≤ k → k < result → takes_run self.now k ≡ false }
+        ensures { IsFirstChosen self.now run end result }
     {
         let mut at = run;
         while at < end {
@@ -259,10 +256,7 @@ impl<'a> Choice<'a> {
         requires order { run ≤ end }
         requires group { end ≤ run / 16 * 16 + 16 }
         requires few { end < 2 ^ 30 }
-        ensures after { run ≤ result }
-        ensures within { result ≤ end }
-        ensures takes { result < end → IsTrue (takes_run self.now result) }
-        ensures none { (k : ℕ) → run ≤ k → k < result → takes_run self.now k ≡ false }
+        ensures { IsFirstChosen self.now run end result }
     {
         let is_near = self.is_group_near(run / GROUP);
         if self.leaves(is_near) {

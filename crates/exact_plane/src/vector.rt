@@ -11,7 +11,6 @@ pub(crate) struct Vector {
 
 impl Vector {
     // Twice the signed area between the two, positive where `other` is to the left.
-    #[tactic(auto, using(crate::proofs::CrossProduct::cross_product))]
     pub fn cross(self, other: Vector) -> i64
         ensures value { result ≡ (self.x *ℤ other.y) -ℤ (self.y *ℤ other.x) }
         ensures small { unsigned_abs result < 2 ^ 49 }

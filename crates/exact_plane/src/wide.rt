@@ -6,7 +6,6 @@ use crate::vector::Vector;
 use std::cmp::Ordering;
 
 // The sum of a coordinate and a difference of coordinates by their weights.
-#[tactic(auto, using(crate::proofs::WideProducts::weighted_sum))]
 pub fn weighted_sum(coordinate: i128, weight: i128, difference: i128, share: i128) -> i128
     requires coordinate { unsigned_abs coordinate < 2 ^ 23 }
     requires weight { unsigned_abs weight < 2 ^ 49 }
@@ -19,7 +18,6 @@ pub fn weighted_sum(coordinate: i128, weight: i128, difference: i128, share: i12
 }
 
 // How far a part of a rational point with this weight is past a coordinate, times the weight.
-#[tactic(auto, using(crate::proofs::WideProducts::offset))]
 pub fn offset(part: i128, coordinate: i128, weight: i128) -> i128
     requires part { unsigned_abs part < 2 ^ 75 }
     requires coordinate { unsigned_abs coordinate < 2 ^ 23 }
@@ -31,7 +29,6 @@ pub fn offset(part: i128, coordinate: i128, weight: i128) -> i128
 }
 
 // The cross product of a way and such offsets.
-#[tactic(auto, using(crate::proofs::WideProducts::cross_offsets))]
 pub fn cross_offsets(way: Vector, x: i128, y: i128) -> i128
     requires x { unsigned_abs x < 2 ^ 76 }
     requires y { unsigned_abs y < 2 ^ 76 }

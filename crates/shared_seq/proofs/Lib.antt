@@ -2,3 +2,4 @@ pub mod Digits
 pub mod Heights
 pub mod Places
 pub mod Searches
+pub mod Turns

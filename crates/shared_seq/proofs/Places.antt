@@ -1,10 +1,11 @@
 -- A list of two parts with a value between, where one of them is cut or changed at a place.
 use Rattle.std.proofs.Common.{◌≡◌, ◌≢◌, ℕ, suc, ◌+◌, ◌-◌, ◌<◌, ◌≤◌, List, [], ◌∷◌, ◌++◌, length, take, drop, sym, ◌∙◌, ap, append_assoc, length-append, refl, arith}
-use Rattle.std.proofs.Math.Seq.{drop-append-add, take-append-add}
-use Rattle.std.proofs.lemmas.List.{drop-append-le, take-append-le}
+use Rattle.std.proofs.Math.Seq.{drop-append-add, set-append_seam, take-append-add}
+use Rattle.std.proofs.lemmas.List.{drop-append-le, set-append_left, set-append_right, take-append-le}
 use Rattle.std.proofs.lemmas.List.Edits.{remove-append_left, remove-append_right}
 use Rattle.std.specs.List.{insert, remove}
-use Rattle.shared_seq.specs.Tree.{IsGapInPart, IsJoinedTree, IsKeptPart, IsWay, Tree, around}
+use Rattle.std.specs.Prelude.{slice_set}
+use Rattle.shared_seq.specs.Tree.{IsFork, IsGapInPart, IsJoinedTree, IsKeptPart, IsWay, Tree, around, other_tree_side}
 use Rattle.shared_seq.specs.declared.side.Side.{Side}
 use Rattle.shared_seq.specs.declared.side.Side.TheVariants.{Left, Right}
 
@@ -30,6 +31,19 @@ module _ (part other : List ℕ) (value i at : ℕ) where
   insert_in Left place v = rw (take_before place, drop_before place) (sym (append_assoc (take at part) (v ∷ drop at part) (value ∷ other)))
   insert_in Right place v = rw (take_after place, drop_after place) (append_assoc other (value ∷ take at part) (v ∷ drop at part))
 
+  set_in : (s : Side) → IsGapInPart s part other i at → at < length part → (v : ℕ) → slice_set (around s part value other) i v ≡ around s (slice_set part at v) value other
+  set_in Left place within v = rw (← place.0) (set-append_left part (value ∷ other) at v within)
+  set_in Right place within v =
+      let less : i - length other ≡ suc at = omega (arith, place) in
+      set-append_right other (value ∷ part) (length other) i v refl (omega (arith, place)) ∙ ap (λ k. other ++ slice_set (value ∷ part) k v) less
+
+  set_between : (s : Side) → IsGapInPart s part other i at → i < length part + length other + 1 → length part ≤ at
+      → (v : ℕ) → slice_set (around s part value other) i v ≡ around s part v other
+  set_between Left place within past v =
+      let here : i ≡ length part = omega (arith, place.0, place.1, past) in
+      rw here (set-append_seam part value other v)
+  set_between Right place within past v = absurd (omega (arith, place, within, past))
+
   remove_in : (s : Side) → IsGapInPart s part other i at → at < length part → remove (around s part value other) i ≡ around s (remove part at) value other
   remove_in Left place within = rw (← place.0) (remove-append_left part (value ∷ other) at within)
   remove_in Right place within =
@@ -43,6 +57,11 @@ module _ (part other : List ℕ) (value i at : ℕ) where
       remove-append_right part (value ∷ other) (length part) i refl (omega (arith, place.0, past)) ∙ ap (λ k. part ++ remove (value ∷ other) k) less
   remove_between Right place within past = absurd (omega (arith, place, within, past))
 
+-- two lists with a value between, given on the other side
+turned : (s : Side) (xs ys : List ℕ) (v : ℕ) → around (other_tree_side s) xs v ys ≡ around s ys v xs
+turned Left xs ys v = refl
+turned Right xs ys v = refl
+
 -- the same of trees: a value inserted in one part or removed from it, t being what it is then joined to
 module _ (s : Side) (tree part other : Tree) (value i at : ℕ) (way : IsWay tree i s part value other at) where
   module _ (new t : Tree) (joined : IsJoinedTree s new value other t) where
@@ -51,6 +70,16 @@ module _ (s : Side) (tree part other : Tree) (value i at : ℕ) (way : IsWay tre
 
     pub removed : new.items ≡ remove part.items at → at < length part.items → t.items ≡ remove tree.items i
     removed changed within = joined.items ∙ rw (changed, way.fork.items) (sym (remove_in part.items other.items value i at s way.place within))
+
+  -- a value changed in one part, or between them, t being a fork then
+  pub changed : (new t : Tree) (v : ℕ) → IsFork (other_tree_side s) other value new t → new.items ≡ slice_set part.items at v → at < length part.items
+      → t.items ≡ slice_set tree.items i v
+  changed new t v fork is within = fork.items ∙ turned s other.items new.items value
+      ∙ rw (is, way.fork.items) (sym (set_in part.items other.items value i at s way.place within v))
+
+  pub changed_between : (t : Tree) (v : ℕ) → IsFork s part v other t → i < length tree.items → length part.items ≤ at → t.items ≡ slice_set tree.items i v
+  changed_between t v fork within past =
+      fork.items ∙ rw way.fork.items (sym (set_between part.items other.items value i at s way.place (omega (arith, within, way.fork.long)) past v))
 
   -- the value between removed
   pub removed_between : i < length tree.items → length part.items ≤ at → part.items ++ other.items ≡ remove tree.items i

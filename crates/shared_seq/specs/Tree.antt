@@ -71,6 +71,11 @@ pub record IsJoinedTree (side : Side) (one : Tree) (value : ℕ) (other tree : T
   pub at_most_one_higher : tree.height ≤ max one.height other.height + 1
   pub as_fork : DifferByAtMost 1 one.height other.height → tree.height ≡ max one.height other.height + 1
 
+-- a tree with the values of three and one between each two, the first one given on this side, one higher than the one in the middle
+pub record IsTurnedTree (side : Side) (outer : Tree) (middle : ℕ) (inner : Tree) (value : ℕ) (low tree : Tree) : Type 0 where
+  pub items : tree.items ≡ around side outer.items middle (around side inner.items value low.items)
+  pub height : tree.height ≡ inner.height + 1
+
 -- the first i values of a list and then this one, where the left side is kept, or this one and then the rest; and how many they are
 abbrev pub kept_items : Side → ℕ → ℕ → List ℕ → List ℕ
 kept_items Left i value items = take i items ++ value ∷ []

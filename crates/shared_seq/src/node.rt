@@ -90,6 +90,23 @@ impl Node {
         }
     }
 
+    // The same where the first tree is lent.
+    pub(crate) fn beside<L: Ledger>(
+        alloc: Global,
+        side: Side,
+        one: Option<&Rc<Node>>,
+        value: u32,
+        other: Subtree,
+        steps: &mut Steps<L>,
+    ) -> Result<Rc<Node>, Memory>
+        requires short { length (lent_at one).items + length (tree_at other).items + 1 < 2 ^ 31 }
+        requires near { DifferByAtMost 1 (lent_at one).height (tree_at other).height }
+        ensures fork { IfOk result (λ node. IsFork side (lent_at one.entry) value (tree_at other) node.value) }
+        ensures steps { steps.new ≤ steps.old + 1 }
+    {
+        Node::fork(alloc, side, shared(one)?, value, other, steps)
+    }
+
     // A node with this value between a left and a right tree.
     fn between<L: Ledger>(
         alloc: Global,

@@ -1,7 +1,7 @@
 // Lists as height-balanced trees of nodes. Each call makes the nodes that are new and shares the others.
 ghost use Rattle.std.specs.Prelude.{◌≡◌, ◌+◌, ◌-◌, ◌*◌, ◌^◌, ◌<◌, ◌≤◌, ◌∷◌, ◌++◌, max, IfOk, length, OnErr, slice_index, slice_set};
 ghost use Rattle.std.specs.List.{insert, remove};
-ghost use Rattle.shared_seq.specs.Tree.{DifferByAtMost, IsGrownHeight, IsJoinedTree, IsKeptPart, kept_length, lent_at, tree_at};
+ghost use Rattle.shared_seq.specs.Tree.{DifferByAtMost, IsGrownHeight, IsJoinedTree, IsKeptPart, IsTurnedTree, kept_length, lent_at, tree_at};
 
 use crate::node::{Node, Parts, Subtree, Way, count, height, shared};
 use crate::side::Side;
@@ -52,6 +52,42 @@ fn balance<L: Ledger>(
     }
 }
 
+// The same where the first tree is lent.
+fn balance_beside<L: Ledger>(
+    alloc: Global,
+    side: Side,
+    one: Option<&Rc<Node>>,
+    value: u32,
+    other: Subtree,
+    steps: &mut Steps<L>,
+) -> Result<Rc<Node>, Memory>
+    requires short { length (lent_at one).items + length (tree_at other).items + 1 < 2 ^ 31 }
+    requires near { DifferByAtMost 2 (lent_at one).height (tree_at other).height }
+    ensures joined { IfOk result (λ tree. IsJoinedTree side (lent_at one.entry) value (tree_at other) tree.value) }
+    ensures steps { steps.new ≤ steps.old + 5 }
+{
+    let one = shared(one)?;
+    balance(alloc, side, one, value, other, steps)
+}
+
+// And where the second one is.
+fn balance_with<L: Ledger>(
+    alloc: Global,
+    side: Side,
+    one: Subtree,
+    value: u32,
+    other: Option<&Rc<Node>>,
+    steps: &mut Steps<L>,
+) -> Result<Rc<Node>, Memory>
+    requires short { length (tree_at one).items + length (lent_at other).items + 1 < 2 ^ 31 }
+    requires near { DifferByAtMost 2 (tree_at one).height (lent_at other).height }
+    ensures joined { IfOk result (λ tree. IsJoinedTree side (tree_at one) value (lent_at other.entry) tree.value) }
+    ensures steps { steps.new ≤ steps.old + 5 }
+{
+    let other = shared(other)?;
+    balance(alloc, side, one, value, other, steps)
+}
+
 // The tree on this side is two higher: a part of it goes to the other one.
 fn turn<L: Ledger>(
     alloc: Global,
@@ -73,18 +109,38 @@ fn turn<L: Ledger>(
         other: inner,
     } = high.parts(side, steps);
     if height(outer) >= height(inner) {
-        let inner = Node::fork(alloc, side, shared(inner)?, value, low, steps)?;
-        return Node::fork(alloc, side, shared(outer)?, middle, Some(inner), steps);
+        let inner = Node::beside(alloc, side, inner, value, low, steps)?;
+        return Node::beside(alloc, side, outer, middle, Some(inner), steps);
     }
     let Some(inner) = inner else { unreachable!() };
+    turn_inner(alloc, side, (outer, middle), inner, value, low, steps)
+}
+
+// The higher node between two trees, each with a value beside it, becomes the one above both; the first tree is on this side.
+fn turn_inner<L: Ledger>(
+    alloc: Global,
+    side: Side,
+    outer: (Option<&Rc<Node>>, u32),
+    inner: &Rc<Node>,
+    value: u32,
+    low: Subtree,
+    steps: &mut Steps<L>,
+) -> Result<Rc<Node>, Memory>
+    requires short { length (lent_at outer.0).items + length inner.now.value.items + length (tree_at low).items + 2 < 2 ^ 31 }
+    requires outer { inner.now.value.height ≡ (lent_at outer.0).height + 1 }
+    requires low { inner.now.value.height ≡ (tree_at low).height + 1 }
+    ensures turned { IfOk result (λ tree. IsTurnedTree side (lent_at outer.entry.0) outer.entry.1 inner.now.value value (tree_at low) tree.value) }
+    ensures steps { steps.new ≤ steps.old + 4 }
+{
     let Parts {
         one: first,
         value: top,
         other: second,
     } = inner.parts(side, steps);
-    let outer = Node::fork(alloc, side, shared(outer)?, middle, shared(first)?, steps)?;
-    let inner = Node::fork(alloc, side, shared(second)?, value, low, steps)?;
-    Node::fork(alloc, side, Some(outer), top, Some(inner), steps)
+    let first = shared(first)?;
+    let one = Node::beside(alloc, side, outer.0, outer.1, first, steps)?;
+    let other = Node::beside(alloc, side, second, value, low, steps)?;
+    Node::fork(alloc, side, Some(one), top, Some(other), steps)
 }
 
 // A value between two trees of any heights, the first one on this side.
@@ -125,7 +181,7 @@ fn hang<L: Ledger>(
     ensures steps { steps.new ≤ steps.old + 6 * ((lent_at high.entry).height - (tree_at low).height) + 1 }
 {
     if height(high) <= height(low.as_ref()) + 1 {
-        return Node::fork(alloc, side, shared(high)?, value, low, steps);
+        return Node::beside(alloc, side, high, value, low, steps);
     }
     let Some(high) = high else { unreachable!() };
     let Parts {
@@ -134,7 +190,7 @@ fn hang<L: Ledger>(
         other: inner,
     } = high.parts(side, steps);
     let inner = hang(alloc, side, inner, value, low, steps)?;
-    balance(alloc, side, shared(outer)?, middle, Some(inner), steps)
+    balance_beside(alloc, side, outer, middle, Some(inner), steps)
 }
 
 // The first i values and then this one, where the left side is kept, or else this one and then the rest. What is not kept is not
@@ -164,10 +220,11 @@ pub(crate) fn piece<L: Ledger>(
         at,
     } = tree.way(i, steps);
     let inner = piece(alloc, kept, part, at, value, steps)?;
-    if kept == side {
+    if kept.is(side) {
         return Ok(inner);
     }
-    join(alloc, side, Some(inner), here, shared(other)?, steps)
+    let other = shared(other)?;
+    join(alloc, side, Some(inner), here, other, steps)
 }
 
 // The same values but for the one at i.
@@ -190,13 +247,13 @@ pub(crate) fn set<L: Ledger>(
         other,
         at,
     } = tree.way(i, steps);
-    match part {
-        Some(part) if at < count(Some(part)) => {
-            let part = set(alloc, part, at, value, steps)?;
-            Node::fork(alloc, side, Some(part), here, shared(other)?, steps)
-        }
-        _ => Node::fork(alloc, side, shared(part)?, value, shared(other)?, steps),
+    if at >= count(part) {
+        let other = shared(other)?;
+        return Node::beside(alloc, side, part, value, other, steps);
     }
+    let Some(part) = part else { unreachable!() };
+    let part = set(alloc, part, at, value, steps)?;
+    Node::beside(alloc, side.opposite(), other, here, Some(part), steps)
 }
 
 // The same values and one more at i.
@@ -224,7 +281,7 @@ pub(crate) fn insert<L: Ledger>(
         at,
     } = tree.way(i, steps);
     let part = insert(alloc, part, at, value, steps)?;
-    balance(alloc, side, Some(part), here, shared(other)?, steps)
+    balance_with(alloc, side, Some(part), here, other, steps)
 }
 
 // The same values without the one at i.
@@ -251,7 +308,8 @@ pub(crate) fn remove<L: Ledger>(
     }
     let Some(part) = part else { unreachable!() };
     let part = remove(alloc, part, at, steps)?;
-    Ok(Some(balance(alloc, side, part, value, shared(other)?, steps)?))
+    let joined = balance_with(alloc, side, part, value, other, steps)?;
+    Ok(Some(joined))
 }
 
 // The values of two trees whose heights differ by at most one, those of the left one first.
@@ -271,7 +329,8 @@ fn both<L: Ledger>(
         return shared(left);
     };
     let (first, rest) = without_first(alloc, right, steps)?;
-    Ok(Some(balance(alloc, Side::Left, shared(left)?, first, rest, steps)?))
+    let joined = balance_beside(alloc, Side::Left, left, first, rest, steps)?;
+    Ok(Some(joined))
 }
 
 // The first value, and the others.
@@ -293,6 +352,6 @@ pub(crate) fn without_first<L: Ledger>(
         return Ok((value, shared(right)?));
     };
     let (first, left) = without_first(alloc, left, steps)?;
-    let rest = balance(alloc, Side::Left, left, value, shared(right)?, steps)?;
+    let rest = balance_with(alloc, Side::Left, left, value, right, steps)?;
     Ok((first, Some(rest)))
 }

@@ -27,10 +27,10 @@ first_from-found-requires-clause-order g c = omega (arith, c.max-from.ensures, c
 
 pub loop-run-init : goal.loop-run-init
 loop-run-init g c = record {
-  after = c.next-run.ensures.after;
-  within = c.next-run.ensures.within;
+  after = c.next-run.ensures.before.after;
+  within = c.next-run.ensures.before.within;
   taken = c.next-run.ensures.takes;
-  none = λ k low below within taken. absurd (both_ways _ (c.next-run.ensures.none (k / 4) (omega (arith, low)) within) taken);
+  none = λ k low below within taken. absurd (both_ways _ (c.next-run.ensures.before.none (k / 4) (omega (arith, low)) within) taken);
   steps = λ n low high reached.
       let grown = (some_between (takes_run c.args.choice.now) c.args.range.0 n low).0 in
       omega (arith, grown);
@@ -48,18 +48,18 @@ loop-run-preserved g c =
     let more = between_taken T run from to (c.loop-run.invariant.taken (omega arith)) (omega (arith, c.max-from.ensures)) order
     (omega (arith, c.min-to.ensures)) in
     record {
-      after = omega (arith, c.loop-run.invariant.after, c.next-run-in-loop-run.ensures.after);
-      within = c.next-run-in-loop-run.ensures.within;
+      after = omega (arith, c.loop-run.invariant.after, c.next-run-in-loop-run.ensures.before.after);
+      within = c.next-run-in-loop-run.ensures.before.within;
       taken = c.next-run-in-loop-run.ensures.takes;
       none = λ k low below within taken. elim (cases_lt (k / 4) run) [
         | inl earlier ↦ c.loop-run.invariant.none k low below earlier taken
         | inr here ↦ elim (cases_lt (k / 4) (run + 1)) [
           | inl same ↦ c.first_from-found.ensures.first.none k (omega (arith, c.max-from.ensures)) (omega (arith, c.min-to.ensures, c.if-found-to.false))
-          | inr later ↦ absurd (both_ways _ (c.next-run-in-loop-run.ensures.none (k / 4) later within) taken)
+          | inr later ↦ absurd (both_ways _ (c.next-run-in-loop-run.ensures.before.none (k / 4) later within) taken)
         ]
       ];
       steps = λ n low high reached.
-          let past : to ≤ n = elim reached [ inl h ↦ omega (arith, h, c.min-to.ensures, c.next-run-in-loop-run.ensures.after) | inr h ↦ omega (arith, h, c.min-to.ensures) ] in
+          let past : to ≤ n = elim reached [ inl h ↦ omega (arith, h, c.min-to.ensures, c.next-run-in-loop-run.ensures.before.after) | inr h ↦ omega (arith, h, c.min-to.ensures) ] in
           let grown = (some_between T to n past).0 in
           omega (arith, before, more, order, grown, c.first_from-found.ensures.steps);
     }

@@ -1,13 +1,12 @@
-use Rattle.std.proofs.Common.{rules}
 use Rattle.std.proofs.lemmas.Result.{IfOk-weaker}
-use Rattle.shared_seq.specs.Tree.{IsWay, lent_at}
+use Rattle.shared_seq.specs.Tree.{lent_at}
 use Rattle.shared_seq.proofs.Places.{inserted}
 use Rattle.shared_seq.proofs.tree.+insert.Goals as goal
 
 pub returns-clause-items : goal.returns-clause-items
 returns-clause-items g t c =
     let it = c.way-side.result in
-    let way : IsWay (lent_at c.args.tree) c.args.i it.side (lent_at it.part) it.value (lent_at it.other) it.at = search rules in
-    IfOk-weaker c.balance.result _ _
-    (λ new joined. inserted it.side _ _ _ it.value _ _ way c.in_ok-part.part.value new.value (rw c.in_ok-shared.ensures at joined) c.args.value c.in_ok-part.ensures.items)
-    c.balance.ensures.joined
+    rw c.in-Some.is (IfOk-weaker c.balance_with.result _ _
+    (λ new joined. inserted it.side c.in-Some.tree.now.value (lent_at it.part) (lent_at it.other) it.value c.args.i it.at (rw c.deref.ensures at c.way-side.ensures.way)
+    c.in_ok-part.part.value new.value joined c.args.value c.in_ok-part.ensures.items)
+    c.balance_with.ensures.joined)

@@ -4,8 +4,8 @@ use Rattle.shared_seq.specs.Tree.{IsWay, lent_at}
 use Rattle.shared_seq.proofs.Places.{kept_alone, kept_joined}
 use Rattle.shared_seq.proofs.tree.+piece.Goals as goal
 
-pub returns-then-eq-clause-piece : goal.returns-then-eq-clause-piece
-returns-then-eq-clause-piece g t c =
+pub returns-then-is-clause-piece : goal.returns-then-is-clause-piece
+returns-then-is-clause-piece g t c =
     let it = c.way-side.result in
     let same : it.side ≡ c.args.kept = search rules in
     let way : IsWay (lent_at c.args.tree) c.args.i it.side (lent_at it.part) it.value (lent_at it.other) it.at = search rules in
@@ -17,5 +17,5 @@ returns-clause-piece g t c =
     let apart : c.args.kept ≢ it.side = search rules in
     let way : IsWay (lent_at c.args.tree) c.args.i it.side (lent_at it.part) it.value (lent_at it.other) it.at = search rules in
     IfOk-weaker c.join.result _ _
-    (λ new joined. kept_joined _ _ _ _ it.value c.args.i it.at c.args.value c.args.kept it.side new.value apart way c.in_ok-inner.ensures.piece (rw c.in_ok-shared.ensures at joined))
+    (λ new joined. kept_joined _ _ _ _ it.value c.args.i it.at c.args.value c.args.kept it.side new.value apart way c.in_ok-inner.ensures.piece (rw c.in_ok-other.ensures at joined))
     c.join.ensures.joined

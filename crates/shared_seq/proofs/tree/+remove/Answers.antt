@@ -18,4 +18,4 @@ returns-clause-items g t c =
     let way : IsWay c.args.tree.now.value c.args.i it.side (lent_at it.part) it.value (lent_at it.other) it.at = search rules in
     let changed : (tree_at c.in_ok-part.part).items ≡ remove (lent_at it.part).items it.at = search rules in
     let within : it.at < length (lent_at it.part).items = search rules in
-    removed it.side _ _ _ it.value c.args.i it.at way (tree_at c.in_ok-part.part) _ (rw c.in_ok-shared.ensures at c.in_ok-balance.ensures.joined) changed within
+    removed it.side _ _ _ it.value c.args.i it.at way (tree_at c.in_ok-part.part) _ c.in_ok-joined.ensures.joined changed within

@@ -1,13 +1,10 @@
-use Rattle.std.proofs.Common.{inl, inr, arith}
-use Rattle.std.proofs.lemmas.Bool.{cases_lt}
+use Rattle.std.proofs.Common.{arith}
+use Rattle.dual_tree.proofs.Choices.{more_not, none_yet}
 use Rattle.dual_tree.proofs.runs.Choice.next.Goals as goal
 
+pub loop-at-init : goal.loop-at-init
+loop-at-init c = none_yet c.args.self.now c.args.run c.args.end c.requires.order
+
 pub loop-at-preserved : goal.loop-at-preserved
-loop-at-preserved c = record {
-  after = omega (arith, c.next_of_group-at.ensures.after);
-  within = omega (arith, c.next_of_group-at.ensures.within, c.min-stop.ensures);
-  none = λ k low below. elim (cases_lt k c.loop-at.at) [
-    | inl before ↦ c.loop-at.invariant.none k low before
-    | inr later ↦ c.next_of_group-at.ensures.none k later below
-  ];
-}
+loop-at-preserved c =
+    more_not c.args.self.now c.args.run c.args.end c.loop-at.at c.min-stop.result _ c.loop-at.invariant c.next_of_group-at.ensures.before (omega (arith, c.min-stop.ensures))
