@@ -2,7 +2,6 @@
 ghost use Rattle.std.specs.List.{All};
 ghost use Rattle.std.specs.Prelude.{◌≡◌, ◌+◌, ◌*◌, ◌-◌, ◌<◌, ◌≤◌, ℕ, IfOk, IfSome, List, OnOk, length};
 ghost use Rattle.plane.specs.Point.{Point};
-ghost use Rattle.exact_plane.specs.Boxes.{Encloses};
 ghost use Rattle.cut_tri.specs.Clusters.{AreClusters, IsCluster};
 
 use crate::z_order::{Key, numbers_of, z_order};

@@ -1,10 +1,10 @@
 // One cut of a piece.
-ghost use Rattle.std.specs.Prelude.{◌≡◌, ◌+◌, ◌*◌, ◌<◌, ◌≤◌, IfOk, IfSome, OnOk, length};
+ghost use Rattle.std.specs.Prelude.{◌≡◌, ◌+◌, ◌*◌, ◌≤◌, IfOk, IfSome, OnOk, length};
 ghost use Rattle.cut_tri.specs.Clusters.{AreClusters};
 ghost use Rattle.cut_tri.specs.Cutting.{IsCutOf};
 ghost use Rattle.cut_tri.specs.Ordered.{AreLexicalRanks, AreOrdered, EndsWithVertex, IsFarthestNumber, IsLeastPlace};
 ghost use Rattle.cut_tri.specs.Ordered.{IsPieceInOrder, IsOrderedFromLeast};
-ghost use Rattle.cut_tri.specs.Piece.{IsPiece, tri_at_first};
+ghost use Rattle.cut_tri.specs.Piece.{tri_at_first};
 
 use crate::clusters::Clusters;
 use crate::farthest::farthest;

@@ -1,5 +1,5 @@
 // A triangle with the box round it, to tell which other boxes have none of its points.
-ghost use Rattle.std.specs.Prelude.{◌≡◌, ◌+◌, ◌<◌, ◌^◌, ◌*ℤ◌, ◌-ℤ◌, ◌<ℤ◌, ◌≤ℤ◌, IsTrue, pos, unsigned_abs};
+ghost use Rattle.std.specs.Prelude.{◌≡◌, ◌+◌, ◌<◌, ◌^◌, ◌*ℤ◌, ◌-ℤ◌, ◌<ℤ◌, IsTrue, unsigned_abs};
 ghost use Rattle.exact_plane.specs.Boxes.{Encloses};
 ghost use Rattle.plane.specs.Point.{Point, whole};
 ghost use Rattle.plane.specs.Triangle.{IsInTriangle};

@@ -5,7 +5,7 @@ use Rattle.meshes.proofs.Sides.{two_fewer}
 use Rattle.meshes.specs.Fits.{Fits}
 use Rattle.meshes.specs.Sleeve.{IsOneOf, Sleeve}
 use Rattle.meshes.specs.declared.tri.Tri.{Tri}
-use Rattle.tri_mesh.proofs.Numbers.{few_numbers}
+use Rattle.plane.proofs.Lists.{few_numbers}
 
 -- it has fewer than the ring has vertices, by 3 or more: no triangle is twice in its walk
 pub sleeve_few : (corners : List Point) (tris : List Tri) (sleeve : Sleeve) → Fits corners tris → IsOneOf tris sleeve

@@ -1,4 +1,4 @@
-ghost use Rattle.std.specs.Prelude.{◌≡◌, ◌<◌, length};
+ghost use Rattle.std.specs.Prelude.{◌≡◌};
 ghost use Rattle.exact_plane.specs.Spot.{IsNamed, point_named};
 
 use exact_plane::{Direction, Pt, Spot, Steps, Turns, order, turn};

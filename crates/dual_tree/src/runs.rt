@@ -189,7 +189,6 @@ pub(crate) struct Choice<'a> {
 }
 
 impl<'a> Model for Choice<'a> {
-    ghost use Rattle.dual_tree.specs.Location.{IsCornered};
     ghost use Rattle.dual_tree.specs.Runs.{Chosen};
 
     ghost Value = { Chosen };

@@ -1,4 +1,4 @@
-ghost use Rattle.std.specs.Prelude.{◌≡◌, ◌+◌, ◌<◌, ◌++◌, ◌∷◌, [], IfOk, OnOk, length, reverse};
+ghost use Rattle.std.specs.Prelude.{◌≡◌, ◌<◌, ◌++◌, ◌∷◌, [], IfOk, OnOk, length, reverse};
 ghost use Rattle.meshes.specs.Side.{IsWalkBetween};
 ghost use Rattle.tri_mesh.specs.Outward.{outward_at};
 ghost use Rattle.dual_tree.specs.Ways.{HasGoneOn, IsApproachStep};

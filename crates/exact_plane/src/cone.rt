@@ -1,4 +1,4 @@
-ghost use Rattle.std.specs.Prelude.{◌≡◌, ◌+◌, ◌≤◌, ◌↔◌, IsTrue};
+ghost use Rattle.std.specs.Prelude.{◌+◌, ◌≤◌, ◌↔◌, IsTrue};
 ghost use Rattle.plane.specs.Cone.{IsInCone};
 ghost use Rattle.plane.specs.Point.{whole};
 ghost use Rattle.plane.specs.Turn.{IsStraight};

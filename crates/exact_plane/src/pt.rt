@@ -1,5 +1,5 @@
 ghost use Rattle.std.specs.Int.{int_max, int_min};
-ghost use Rattle.std.specs.Prelude.{◌≡◌, ◌+◌, ◌<◌, ◌^◌, ◌-ℤ◌, ◌<ℤ◌, ◌≤ℤ◌, ◌↔◌, IsNone, IsSome, IsTrue, IfSome, unsigned_abs};
+ghost use Rattle.std.specs.Prelude.{◌≡◌, ◌+◌, ◌<◌, ◌^◌, ◌-ℤ◌, ◌<ℤ◌, ◌≤ℤ◌, ◌↔◌, IsSome, IsTrue, IfSome, unsigned_abs};
 ghost use Rattle.plane.specs.Box.{BoxesMeet, IntervalsMeet};
 ghost use Rattle.plane.specs.Order.{IsBefore};
 ghost use Rattle.plane.specs.Point.{IsInBounds, IsInLimit};
@@ -21,7 +21,6 @@ pub struct Pt {
 }
 
 impl Model for Pt {
-    ghost use Rattle.std.specs.Prelude.{ℤ};
     ghost use Rattle.plane.specs.Point.{Point, IsInBounds};
 
     ghost Value = { Point };

@@ -1,10 +1,9 @@
-ghost use Rattle.std.specs.Prelude.{◌≡◌, ◌+◌, ◌≤◌, ◌↔◌, ◌⊎◌, IsTrue, false};
+ghost use Rattle.std.specs.Prelude.{◌≡◌, ◌+◌, ◌≤◌, ◌↔◌, IsTrue, false};
 ghost use Rattle.plane.specs.Beside.{IsBeside};
 ghost use Rattle.plane.specs.Box.{BoxesMeet};
 ghost use Rattle.plane.specs.Order.{IsBetween, IsBeyond};
 ghost use Rattle.plane.specs.Point.{whole};
 ghost use Rattle.plane.specs.Segment.{Meet, MeetElsewhere, MeetOnlyAt, On};
-ghost use Rattle.exact_plane.specs.Direction.{turn_of};
 
 use crate::direction::{Direction, turn, turns};
 use crate::pt::{Pt, order};

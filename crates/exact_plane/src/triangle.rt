@@ -1,4 +1,4 @@
-ghost use Rattle.std.specs.Prelude.{◌≡◌, ◌+◌, ◌≤◌, ◌↔◌, IfSome, IsNone, IsTrue};
+ghost use Rattle.std.specs.Prelude.{◌+◌, ◌≤◌, ◌↔◌, IfSome, IsNone, IsTrue};
 ghost use Rattle.plane.specs.Point.{whole};
 ghost use Rattle.plane.specs.Triangle.{IsInTriangle};
 ghost use Rattle.plane.specs.Turn.{IsLeft, IsRight};

@@ -1,5 +1,5 @@
 //! The numbers of a reply, copied into a buffer of the caller.
-ghost use Rattle.std.specs.Prelude.{◌≡◌, ℕ, List, ◌++◌, [], ◌∷◌, flat_map, map};
+ghost use Rattle.std.specs.Prelude.{◌≡◌, ℕ, List, ◌++◌, flat_map, map};
 ghost use Rattle.geo_c.specs.Contents.{before_number, edge_of, numbers_of, side_numbers, sight_numbers};
 ghost use Rattle.geo_c.specs.Filled.{filled_by};
 ghost use Rattle.geo_c.specs.Put.{IsPut};

@@ -1,5 +1,5 @@
 ghost use Rattle.std.specs.Io.KnownBytes.{Appends};
-ghost use Rattle.std.specs.Prelude.{◌≡◌, ◌-◌, ◌≤◌, ◌<◌, ◌↔◌, ◌⊎◌, [], Ok, Some, length, take, min, Contains, IfOk, IsErr, OnOk, OnErr};
+ghost use Rattle.std.specs.Prelude.{◌≡◌, ◌-◌, ◌≤◌, ◌<◌, ◌↔◌, ◌⊎◌, [], Some, length, take, min, Contains, IfOk, IsErr, OnOk, OnErr};
 ghost use Rattle.geo_io.specs.Counts.{Rose, next_count};
 ghost use Rattle.geo_io.specs.Transfers.{AppendsFront};
 

@@ -1,5 +1,4 @@
-ghost use Rattle.std.specs.Io.KnownBytes.{Keeps};
-ghost use Rattle.std.specs.Prelude.{◌≡◌, ◌<◌, ◌≤◌, ◌⊎◌, ℕ, ◌+◌, ◌*◌, List, Ok, Err, IsOk, IfOk, IfSome, OnOk, OnErr, length, map, string_bytes};
+ghost use Rattle.std.specs.Prelude.{◌≡◌, ◌<◌, ◌≤◌, ◌⊎◌, ℕ, ◌+◌, ◌*◌, List, Err, IsOk, IfSome, OnOk, OnErr, length, map, string_bytes};
 ghost use Rattle.plane.specs.declared.limits.TheConstants.{MAX_SCRIPT};
 ghost use Rattle.geo_io.specs.Counts.{Rose};
 ghost use Rattle.geo_io.specs.Transfers.{GivesAtMost, GivesMoreThan};

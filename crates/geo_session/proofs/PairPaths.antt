@@ -8,7 +8,7 @@ use Rattle.meshes.specs.Fits.{Fits}
 use Rattle.meshes.specs.declared.tri.Tri.{Tri}
 use Rattle.funnels.proofs.Trees.{path_differs}
 use Rattle.funnels.proofs.Vertices.{fitted_long, fitted_simple}
-use Rattle.tri_mesh.proofs.Numbers.{few_numbers}
+use Rattle.plane.proofs.Lists.{few_numbers}
 use Rattle.geo_text.specs.declared.version.Version.{Version}
 use Rattle.ring_check.specs.Oriented.{Oriented, given_index, given_of}
 use Rattle.pair_cut.specs.Pairs.{IsPairPath}

@@ -1,6 +1,5 @@
 // The triangulated polygon.
 ghost use Rattle.std.specs.Prelude.{◌≡◌, ◌+◌, ◌-◌, ◌*◌, ◌≤◌, false, true, IfOk, None, Some, length};
-ghost use Rattle.plane.specs.Point.{whole};
 ghost use Rattle.plane.specs.declared.limits.TheConstants.{MAX_CHAIN};
 ghost use Rattle.rings.specs.Kernel.{IsKernel};
 ghost use Rattle.meshes.specs.Fits.{Fits};

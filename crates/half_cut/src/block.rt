@@ -1,5 +1,5 @@
 // Which corners a cut leaves: those that are not right of the line, which follow one another.
-ghost use Rattle.std.specs.Prelude.{◌≡◌, ◌+◌, ◌-◌, ◌<◌, ◌≤◌, ◌↔◌, ℕ, IfNone, IfSome, IsTrue, length};
+ghost use Rattle.std.specs.Prelude.{◌≡◌, ◌+◌, ◌<◌, ◌≤◌, ◌↔◌, ℕ, IfNone, IfSome, IsTrue, length};
 ghost use Rattle.plane.specs.Convex.{corner};
 ghost use Rattle.half_cut.specs.Block.{IsBlock, IsRightRun};
 ghost use Rattle.half_cut.specs.Outline.{IsRightOf};

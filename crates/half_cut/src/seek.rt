@@ -1,5 +1,5 @@
 // A corner that a cut takes away, if there is one.
-ghost use Rattle.std.specs.Prelude.{◌≡◌, ◌≢◌, ◌+◌, ◌-◌, ◌*◌, ◌^◌, ◌<◌, ◌≤◌, ◌↔◌, ℕ, IfNone, IfSome, IsTrue, length};
+ghost use Rattle.std.specs.Prelude.{◌≡◌, ◌≢◌, ◌+◌, ◌*◌, ◌^◌, ◌<◌, ◌≤◌, ◌↔◌, ℕ, IfNone, IfSome, IsTrue, length};
 ghost use Rattle.plane.specs.Convex.{corner};
 ghost use Rattle.half_cut.specs.Outline.{IsRegionKept, IsRightOf};
 ghost use Rattle.half_cut.specs.Seek.{AreEarlierSides, ComesBefore, IsFacing, IsUpward, TurnsLeftTo};

@@ -3,7 +3,7 @@
 mod Sides
 -- Where a number is in a list, how many numbers below a bound a list has, and a list with one more.
 mod Places
-pub use Rattle.hulls.proofs.Round.Places.{HasNoneTwice, IsIn, at_most, is_in_or_not}
+pub use Rattle.hulls.proofs.Round.Places.{HasNoneTwice, IsIn, is_in_or_not}
 -- A closed chain has every side, so it is a round.
 mod AllSides
 pub use Rattle.hulls.proofs.Round.AllSides.{after_inner, after_last, place_after}

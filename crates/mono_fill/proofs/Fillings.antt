@@ -3,10 +3,10 @@
 -- The steps of the loop, as the code tells them: the values before and after by equations.
 use Rattle.std.specs.List.{Contains, All}
 use Rattle.std.proofs.Common.{◌≡◌, refl, sym, ap, ◌∙◌, ℕ, ◌+◌, ◌<◌, ◌≤◌, ℤ, pos, List, [], ◌∷◌, ◌++◌, length, take, append_assoc}
-use Rattle.std.proofs.Common.{append-nil, arith, Bool, true, false, Ok, Err, subst, drop}
+use Rattle.std.proofs.Common.{append-nil, arith, Bool, true, false, subst, drop}
 use Rattle.std.proofs.lemmas.Int.{ints}
 use Rattle.std.proofs.lemmas.List.Elements.{All-cons, All-get_or, All-nil, All-push, All-same, All-take}
-use Rattle.std.specs.Prelude.{slice_index, OnOk, Result}
+use Rattle.std.specs.Prelude.{slice_index}
 use Rattle.std.proofs.lemmas.List.{length-append, length-drop, length-take, take_at}
 use Rattle.plane.specs.Point.{Point}
 use Rattle.meshes.proofs.Boundaries.{fits_bounded}
@@ -208,11 +208,6 @@ told_other Lower Lower is e h = cc
 told_other Lower Upper is e h = λ k. cc
 told_other Upper Lower is e h = λ k. cc
 told_other Upper Upper is e h = cc
-
--- what follows where there is a value
-pub on_ok : {A E : Type 0} {P Q : Type 0} (r : Result A E) → OnOk r P → (P → Q) → OnOk r Q
-on_ok (Ok v) h f = f h
-on_ok (Err e) h f = h
 
 -- the opposite of the opposite chain
 twice : (a : Side) → other_chain_side (other_chain_side a) ≡ a

@@ -1,7 +1,7 @@
 // The vertices of a monotone piece in lexicographic order.
 ghost use Rattle.std.specs.List.{All};
 ghost use Rattle.std.specs.Prelude.{◌≡◌, ℕ, ◌+◌, ◌<◌, ◌≤◌, length, slice_index};
-ghost use Rattle.mono_fill.specs.Cursors.{ahead, at_least, one_more, read_from, taken};
+ghost use Rattle.mono_fill.specs.Cursors.{ahead, at_least, one_more, read_from};
 ghost use Rattle.mono_fill.specs.Sides.{other_chain_side};
 
 use crate::side::Side;

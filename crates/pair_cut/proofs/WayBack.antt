@@ -11,7 +11,7 @@ use Rattle.rings.specs.Chain.{IsPath}
 use Rattle.rings.specs.Ring.{origin, vertex}
 use Rattle.funnels.proofs.OneChain.{front_and_last}
 use Rattle.funnels.proofs.Trees.{path_differs, path_goes_on, path_of_one}
-use Rattle.tri_mesh.proofs.Numbers.{few_numbers}
+use Rattle.plane.proofs.Lists.{few_numbers}
 use Rattle.pair_cut.specs.Pairs.{IsMadeFor, IsPairPath, pair_before}
 use Rattle.pair_cut.specs.Rows.{IsTable}
 

@@ -25,7 +25,7 @@ use Rattle.exact_plane.specs.Names.{AppendsNames, named_points}
 use Rattle.exact_plane.specs.Spot.{IsNamed, point_named}
 use Rattle.exact_plane.specs.declared.turns.Spot.{Spot}
 use Rattle.exact_plane.specs.declared.turns.Spot.TheVariants.{Corner, Goal, Start}
-use Rattle.tri_mesh.proofs.Numbers.{few_numbers}
+use Rattle.plane.proofs.Lists.{few_numbers}
 use Rattle.shared_funnel.specs.Listed.{Listed}
 use Rattle.path_tree.specs.Grown.{IsGrownFrom, IsKept, Names, NamedTree, kept_point, IsFromNamed, KeepsFunnel, before_at, funnel_at}
 use Rattle.path_tree.specs.Grown.{IsGrownTree}

@@ -1,5 +1,8 @@
 -- Lists of numbers and of pairs.
 
+-- How many numbers below a bound a list has.
+mod FewNumbers
+pub use Rattle.plane.proofs.Lists.FewNumbers.{few_numbers}
 -- Lists in order: one more at the end, and that a list in a strict order is the only one with its members.
 mod OneOrder
 pub use Rattle.plane.proofs.Lists.OneOrder.{one_ordered, ordered_push}

@@ -11,5 +11,4 @@ pub use Rattle.plane.proofs.Order.Order.{Comparison, after, before, before_asym,
 pub use Rattle.plane.proofs.Order.Order.{before_trans, between_equal, between_reversed, compare_points, equal, not_after_last, not_before_first}
 pub use Rattle.plane.proofs.Order.Order.{point_or_other, same_coordinates, x_at_most, y_at_most}
 mod Rises
-unfoldable pub use Rattle.plane.proofs.Order.Rises.{written_rise}
-pub use Rattle.plane.proofs.Order.Rises.{by_rises, rise, rises, run}
+pub use Rattle.plane.proofs.Order.Rises.{by_rises, rise, rises, run, written_rise, written_run}

@@ -22,7 +22,3 @@ Precedes p q = ((p.X *ℤ q.W) <ℤ (q.X *ℤ p.W)) ⊎ ((p.X *ℤ q.W ≡ q.X *
 pub record LiesBetween (a p b : Triple) : Type 0 where
   pub not_after : ¬ (Precedes a p × Precedes b p)
   pub not_before : ¬ (Precedes p a × Precedes p b)
-
--- p comes strictly after both of a and b, or strictly before both
-abbrev pub LiesBeyond : Triple → Triple → Triple → Type 0
-LiesBeyond a p b = (Precedes a p × Precedes b p) ⊎ (Precedes p a × Precedes p b)

@@ -1,4 +1,4 @@
-ghost use Rattle.std.specs.Prelude.{◌+◌, ◌*◌, ◌<◌, ◌≤◌, IfOk, MatchOption, ℕ, length};
+ghost use Rattle.std.specs.Prelude.{◌+◌, ◌*◌, ◌≤◌, IfOk, MatchOption, ℕ, length};
 ghost use Rattle.rel_hull.specs.Round.{IsRound};
 ghost use Rattle.rel_hull.specs.Table.{HasChainsBelow, IsTableOf, table_points};
 ghost use Rattle.rel_hull.specs.Told.{AreOuterBelow, IsFirstStart, StartsTold};

@@ -1,5 +1,5 @@
 // Slabs round points, which show that a segment is apart from others.
-ghost use Rattle.std.specs.Prelude.{◌≡◌, ◌+◌, ◌<◌, ◌≤◌, ◌≤ℤ◌, ◌^◌, IsTrue, unsigned_abs};
+ghost use Rattle.std.specs.Prelude.{◌≡◌, ◌+◌, ◌<◌, ◌≤ℤ◌, ◌^◌, IsTrue, unsigned_abs};
 ghost use Rattle.plane.specs.Point.{Point, whole};
 ghost use Rattle.plane.specs.Segment.{Meet};
 ghost use Rattle.ring_check.specs.Slabs.{IsInSlab, slab_height};

@@ -1,6 +1,6 @@
 // The status of a sweep: the edges that the sweep line meets, each below the next.
 ghost use Rattle.std.specs.List.{All, remove};
-ghost use Rattle.std.specs.Prelude.{◌≡◌, ◌+◌, ◌-◌, ◌*◌, ◌<◌, ◌≤◌, ◌^◌, IsTrue, ℕ, length, slice_index};
+ghost use Rattle.std.specs.Prelude.{◌≡◌, ◌+◌, ◌*◌, ◌<◌, ◌≤◌, ◌^◌, IsTrue, ℕ, length, slice_index};
 ghost use Rattle.plane.specs.Point.{whole};
 ghost use Rattle.rings.specs.Below.{EndsBelow, StartsBelow};
 ghost use Rattle.rings.specs.Events.{first_end, last_end, next};

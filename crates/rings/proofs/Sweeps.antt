@@ -5,13 +5,13 @@ mod Slabs
 -- That vertices are the events is a proposition: it holds in one way at most, so a struct can keep it.
 mod OneWay
 pub use Rattle.rings.proofs.Sweeps.OneWay.{events_are_one}
-pub use Rattle.rings.proofs.Sweeps.Neighbours.{edges_removed, inserted, removed, replaced}
+pub use Rattle.rings.proofs.Sweeps.Neighbours.{replaced}
 -- A ring is simple where a sweep has passed all its events.
 mod Swept
 pub use Rattle.rings.proofs.Sweeps.Swept.{at_rank, empty_status, simple_of_swept}
 -- A chord from s to t with a point x between them, and the line ab on one side of all three.
 mod Chords
-pub use Rattle.rings.proofs.Sweeps.Chords.{same_of, way, written_rise, written_run}
+pub use Rattle.rings.proofs.Sweeps.Chords.{same_of, way}
 mod Neighbours
 mod Stacks
 -- Points in lexicographic order, by their ranks, and where a point of an edge comes among them.

@@ -1,5 +1,5 @@
 -- Which point comes before the last one on the path between two points. Guibas, Hershberger, Leven, Sharir and Tarjan 1987.
-use Rattle.std.specs.Prelude.{◌≡◌, ◌-◌, ◌<◌, List, length, Option, Some, None}
+use Rattle.std.specs.Prelude.{◌≡◌, ◌-◌, ◌<◌, List, length}
 use Rattle.plane.specs.Point.{Point}
 use Rattle.rings.specs.Chain.{IsPath, point_at}
 
@@ -9,8 +9,3 @@ pub record IsPredecessor (ring : List Point) (s t x : Point) : Type 0 where
   pub is_path : IsPath ring s t path
   pub more : 1 < length path
   pub is : point_at path (length path - 2) ≡ x
-
--- what comes before t on the path from s: a point, or none where t is s
-abbrev pub IsPredecessorOrNone : List Point → Point → Point → Option Point → Type 0
-IsPredecessorOrNone ring s t None = t ≡ s
-IsPredecessorOrNone ring s t (Some x) = IsPredecessor ring s t x

@@ -16,10 +16,10 @@ use Rattle.meshes.specs.Fits.{Fits, IsSideOfOne}
 use Rattle.meshes.specs.Mesh.{side_begin, side_end}
 use Rattle.meshes.specs.Side.{tri_at}
 use Rattle.meshes.specs.declared.tri.Tri.{Tri}
-use Rattle.tri_mesh.proofs.Neighbours.{has_side_numbered}
+use Rattle.tri_mesh.proofs.Neighbours.{has_side_numbered, numbered_side}
 use Rattle.see_cone.proofs.FirstParts.{first_gap, first_none, parts_of_all}
 use Rattle.see_cone.proofs.ReachedMore.{home_below}
-use Rattle.see_cone.proofs.SidesBeyond.{beyond_touch, numbered_side}
+use Rattle.see_cone.proofs.SidesBeyond.{beyond_touch}
 use Rattle.see_cone.proofs.WaysHome.{forth}
 use Rattle.see_cone.specs.Reached.{AreAllReached, IsAcrossSide, IsTriReached, cone_there, tri_there, AreSorted, placed_at}
 use Rattle.see_cone.specs.Told.{IsConeTold, AreFirstParts, AreTold, edge_or}

@@ -15,7 +15,7 @@ use Rattle.meshes.specs.Mesh.{side_begin, side_end}
 use Rattle.meshes.specs.Side.{tri_at}
 use Rattle.meshes.specs.declared.tri.Tri.{Tri}
 use Rattle.tri_mesh.proofs.Neighbours.{has_side_numbered}
-use Rattle.tri_mesh.proofs.Numbers.{few_numbers}
+use Rattle.plane.proofs.Lists.{few_numbers}
 use Rattle.see_cone.proofs.SidesBeyond.{differs_beyond, not_beyond_two, one_beyond, touch_beyond}
 use Rattle.see_cone.proofs.WaysHome.{forth_of, home_from, one_from, reached_beside}
 use Rattle.see_cone.specs.Reached.{AreDone, AreNewBeyond, AreReached, IsAcrossSide, IsBeyondFirst, IsReachGrown, IsTriReached, IsReachedAt, IsNextHomeward}

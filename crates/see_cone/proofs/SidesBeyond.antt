@@ -10,14 +10,8 @@ use Rattle.meshes.specs.Fits.{Fits}
 use Rattle.meshes.specs.Mesh.{side_begin, side_end}
 use Rattle.meshes.specs.Side.{HasSide, tri_at}
 use Rattle.meshes.specs.declared.tri.Tri.{Tri}
-use Rattle.tri_mesh.proofs.Neighbours.{has_side_numbered}
+use Rattle.tri_mesh.proofs.Neighbours.{has_side_numbered, numbered_side}
 use Rattle.see_cone.specs.Reached.{IsAcrossSide}
-
--- a side has a number
-pub numbered_side : (t : Tri) (i j : ℕ) → HasSide t i j → (side : ℕ) × (side < 3) × (side_begin t side ≡ i) × (side_end t side ≡ j)
-numbered_side t i j (inl h) = (0, omega arith, h.0, h.1)
-numbered_side t i j (inr (inl h)) = (1, omega arith, h.0, h.1)
-numbered_side t i j (inr (inr h)) = (2, omega arith, h.0, h.1)
 
 -- two triangles do not share two sides,
 not_both : (corners : List Point) (t u : Tri)

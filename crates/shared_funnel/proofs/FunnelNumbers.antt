@@ -2,10 +2,9 @@
 -- The numbers of the first funnel: of the source between the ends of a side of its triangle, or at one of them.
 -- The numbers of the next funnel: on the left that of the third corner, and those from the place on from which it is reached; on the right those
 -- to that place, and that corner's.
-use Rattle.std.proofs.Common.{◌≡◌, ◌≢◌, inl, inr, refl, sym, ap, subst, ◌∙◌, ℕ, ◌%◌, ◌<◌, ◌≤◌, List, [], ◌∷◌, length, get_or, slice_index}
+use Rattle.std.proofs.Common.{◌≡◌, inl, inr, refl, sym, ap, subst, ◌∙◌, ℕ, ◌%◌, ◌<◌, ◌≤◌, List, [], ◌∷◌, length, get_or, slice_index}
 use Rattle.std.proofs.Common.{arith, ◌++◌, drop, ◌+◌, ◌-◌, add-one, take, min}
 use Rattle.std.proofs.Math.Nat.{mod-eq_of_lt}
-use Rattle.std.proofs.lemmas.Bool.{cases_lt}
 use Rattle.std.proofs.lemmas.List.{get_or-map, get_or_append_left, get_or_push, length-map, drop-map, get_or-drop, length-append}
 use Rattle.std.proofs.lemmas.List.{length-drop, get_or-take, length-take-le, map-append, take-map}
 use Rattle.std.proofs.lemmas.List.Elements.{All-drop, All-append, All-take}
@@ -22,9 +21,6 @@ use Rattle.funnels.proofs.Funnels.{next_left_old, next_right_old}
 use Rattle.funnels.proofs.Trees.{first_right, length_rightward, first_left, length_leftward}
 use Rattle.funnels.specs.Funnel.{IsReachedFrom}
 use Rattle.funnels.specs.OpenFunnel.{IsOpenFunnel, right_behind, left_behind}
-use Rattle.exact_plane.specs.Spot.{IsNamed, point_named}
-use Rattle.exact_plane.specs.declared.turns.Spot.{Spot}
-use Rattle.exact_plane.specs.declared.turns.Spot.TheVariants.{Corner, Start}
 use Rattle.shared_funnel.proofs.Lists.{more_numbers, none_of_both, one_number}
 use Rattle.shared_funnel.specs.Listed.{AreNumbers, IsFunnelAt, Listed, point_of, listed_points, IsTriangleBeyond}
 
@@ -43,23 +39,6 @@ module _ (corners : List Point) (start : Point) where
   pub point_there : (list : List ℕ) (h : ℕ) → h < length list
       → point_at (listed_points corners start list) h ≡ point_of corners start (slice_index list h)
   point_there list h below = get_or-map (point_of corners start) list h 0 origin below
-
-  -- a number's name stands for its point
-  named : (goal : Point) (n i : ℕ) (s : Spot) → n ≡ length corners → i ≤ n → (i ≢ n → s ≡ Corner i) → (i ≡ n → s ≡ Start)
-      → IsNamed corners s × (point_named corners start goal s ≡ point_of corners start i)
-  named goal n i s count le corner source = elim (cases_lt i n) [
-    | inl less ↦
-        let is = corner (λ e. absurd (omega (arith, less, e))) in (
-          subst (IsNamed corners) (sym is) (omega (arith, less, count)),
-          ap (point_named corners start goal) is ∙ sym (get_or_append_left corners (start ∷ []) origin i (omega (arith, less, count))),
-        )
-    | inr more ↦
-        let e : i ≡ n = omega (arith, le, more) in
-        let is = source e in (
-          subst (IsNamed corners) (sym is) tt,
-          ap (point_named corners start goal) is ∙ sym source_point ∙ ap (point_of corners start) (sym (e ∙ count)),
-        )
-  ]
 
   -- a place from which a point is reached is one of the list
   pub place_within : (list : List ℕ) (a h : ℕ) (y : Triple) → IsReachedFrom (listed_points corners start list) a h y → h < length list

@@ -16,6 +16,5 @@ pub use Rattle.sweep_tri.proofs.Balance.Edits.{balanced_begins, balanced_ends, b
 -- Sums over the edges of a ring, each with a sign: where the signs agree, and where all are 1 or -1.
 -- The signs of the edges of a ring before and after an event: just those of the edges that begin there are new.
 mod EdgeSums
-pub use Rattle.sweep_tri.proofs.Balance.EdgeSums.{AreBeside}
 -- Twice the areas that edges sweep out round the origin: of triangles, and of a ring.
 mod Area

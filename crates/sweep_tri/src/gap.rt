@@ -1,5 +1,5 @@
 // The open regions between two edges that the sweep line meets.
-ghost use Rattle.std.specs.Prelude.{◌≡◌, ◌+◌, ◌*◌, ◌-◌, ◌≤◌, ◌<◌, IfOk, OnOk, None, Some, [], ◌∷◌, ◌++◌, length, take};
+ghost use Rattle.std.specs.Prelude.{◌≡◌, ◌+◌, ◌*◌, ◌-◌, ◌≤◌, ◌<◌, IfOk, OnOk, Some, [], ◌∷◌, ◌++◌, length, take};
 ghost use Rattle.std.specs.List.{All};
 ghost use Rattle.mono_fill.specs.Filled.{IsFilled};
 ghost use Rattle.mono_fill.specs.Sides.{other_chain_side};

@@ -1,20 +1,11 @@
 -- The first triangle with each corner, found from the last triangle on.
-use Rattle.std.proofs.Common.{◌≡◌, ◌⊎◌, inl, inr, sym, subst, ◌∙◌, ℕ, ◌+◌, ◌<◌, List, length, get_or, set, length-set, replicate, arith}
+use Rattle.std.proofs.Common.{◌≡◌, ◌⊎◌, inl, inr, sym, subst, ◌∙◌, ℕ, ◌+◌, ◌<◌, List, length, get_or, set, length-set, arith}
 use Rattle.std.proofs.lemmas.Bool.{cases_eq}
-use Rattle.std.proofs.lemmas.List.{get_or-replicate, get_or-set_other, get_or-set_same, get_or_read, length-replicate}
+use Rattle.std.proofs.lemmas.List.{get_or-set_other, get_or-set_same, get_or_read}
 use Rattle.meshes.specs.Side.{tri_at}
 use Rattle.meshes.specs.declared.tri.Tri.{Tri}
 use Rattle.tri_mesh.specs.Corner.{KeepsFirsts, AreFirstsFrom, HasCorner, IsFirstAt}
 use Rattle.tri_mesh.specs.Neighbours.{HasCornersBelow}
-
--- before any triangle is put to its corners
-pub none_put : (tris : List Tri) (m : ℕ) → AreFirstsFrom tris (length tris) (replicate m (length tris))
-none_put tris m i within =
-    let value = get_or-replicate m i (length tris) 0 (below within) in
-    record { has = λ less. absurd (omega (arith, value)); least = λ l low high. absurd (omega arith) }
-  where
-    below : i < length (replicate m (length tris)) → i < m
-    below h = simp length-replicate at h
 
 -- where triangle k is put to its corners
 module _ (tris : List Tri) (firsts : List ℕ) (k : ℕ) (within : k < length tris) (corners : HasCornersBelow (length firsts) (tri_at tris k))

@@ -1,7 +1,6 @@
 mod AllReached
 mod Firsts
 pub mod Neighbours
-pub mod Numbers
 mod RowPairs
 mod RowSteps
 mod RowsFilled

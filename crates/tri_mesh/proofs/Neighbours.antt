@@ -18,6 +18,12 @@ has_side_numbered t (suc zero) h = inr (inl (refl, refl))
 has_side_numbered t (suc (suc zero)) h = inr (inr (refl, refl))
 has_side_numbered t (suc (suc (suc n))) h = absurd (omega arith)
 
+-- a side has a number
+pub numbered_side : (t : Tri) (i j : ℕ) → HasSide t i j → (side : ℕ) × (side < 3) × (side_begin t side ≡ i) × (side_end t side ≡ j)
+numbered_side t i j (inl h) = (0, omega arith, h.0, h.1)
+numbered_side t i j (inr (inl h)) = (1, omega arith, h.0, h.1)
+numbered_side t i j (inr (inr h)) = (2, omega arith, h.0, h.1)
+
 module _ (tris : List Tri) (i j k : ℕ) (sides : HasSidesOnce tris) (in_list : k < length tris) (has : HasSide (tri_at tris k) i j) where
   -- no triangle has the side in the other direction: triangle k is alone with it
   alone : ((l : ℕ) → l < length tris → ¬ HasSide (tri_at tris l) j i) → IsSideOfOne tris i j k

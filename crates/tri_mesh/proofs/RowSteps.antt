@@ -1,37 +1,13 @@
--- The rows of the table: at first, and with a triangle at a side.
-use Rattle.std.proofs.Common.{◌≡◌, refl, sym, ◌∙◌, ℕ, zero, suc, ◌<◌, ◌⊎◌, inl, inr, List, [], length, arith, Some, None, replicate}
-use Rattle.std.proofs.Math.ListN.{length-replicate, length-set}
-use Rattle.std.proofs.lemmas.Bool.{cases_eq, cases_lt}
-use Rattle.std.proofs.lemmas.List.{get_or-replicate, get_or-set_other, get_or-set_same, get_or_past}
+-- The rows of the table with a triangle at a side.
+use Rattle.std.proofs.Common.{◌≡◌, refl, sym, ◌∙◌, ℕ, ◌<◌, ◌⊎◌, inl, inr, List, [], length, arith, Some, None}
+use Rattle.std.proofs.Math.ListN.{length-set}
+use Rattle.std.proofs.lemmas.Bool.{cases_eq}
+use Rattle.std.proofs.lemmas.List.{get_or-set_other, get_or-set_same}
 use Rattle.std.proofs.lemmas.List.Elements.{All-set}
 use Rattle.std.specs.List.{All}
 use Rattle.std.specs.Prelude.{Option, slice_index_or, slice_set}
-use Rattle.tri_mesh.specs.Neighbours.{AreLinkedRows, HasOwner, empty_row, owner_at, rows_with, side_at}
+use Rattle.tri_mesh.specs.Neighbours.{HasOwner, owner_at, rows_with}
 use Rattle.tri_mesh.specs.declared.sides.Side.{Side}
-
--- no row has a triangle yet
-empty_at : (number : ℕ) → slice_index_or empty_row number None ≡ None
-empty_at zero = refl
-empty_at (suc zero) = refl
-empty_at (suc (suc zero)) = refl
-empty_at (suc (suc (suc n))) = refl
-
-none_at : (n k number : ℕ) → owner_at (replicate n empty_row) k number ≡ None
-none_at n k number = elim (cases_lt k n) [
-  | inl below ↦ rw (get_or-replicate n k empty_row [] below) (empty_at number)
-  | inr past ↦ rw (get_or_past (replicate n empty_row) k [] (omega (arith, length-replicate n empty_row))) refl
-]
-
--- at first
-pub not_linked : (m : ℕ) (sides : List Side) → AreLinkedRows m sides (replicate m empty_row)
-not_linked m sides = record {
-  count = length-replicate m empty_row;
-  three = λ k d below. rw (get_or-replicate m k empty_row d (omega (arith, length-replicate m empty_row))) refl;
-  right = λ p other below is. absurd (let none = none_at m (side_at sides p).tri (side_at sides p).number in cc);
-  both = λ p q p_below q_below shared had. absurd (had (none_at m (side_at sides p).tri (side_at sides p).number));
-}
-
--- ---- with a triangle at a side
 
 module _ (rows : List (List (Option ℕ))) (s : Side) (other : ℕ) (in_list : s.tri < length rows) (in_row : s.number < 3)
     (three : All (λ row. length row ≡ 3) rows) where

@@ -5,7 +5,7 @@ use Rattle.std.specs.Prelude.{Option, max, min}
 use Rattle.meshes.specs.Mesh.{side_begin, side_end}
 use Rattle.meshes.specs.Side.{HasSide, HasSidesOnce, tri_at}
 use Rattle.meshes.specs.declared.tri.Tri.{Tri}
-use Rattle.tri_mesh.proofs.Neighbours.{has_side_numbered}
+use Rattle.tri_mesh.proofs.Neighbours.{has_side_numbered, numbered_side}
 use Rattle.tri_mesh.specs.Neighbours.{AreLinkedRows, ArePaired, AreRowsOf, AreShared, AreListedSides, HaveOwners, IsAcross, IsListedSide, owner_at, side_at}
 use Rattle.tri_mesh.specs.declared.sides.Side.{Side}
 
@@ -15,12 +15,6 @@ same_ends a b c d low high = elim (cases_eq a c) [
   | inl same ↦ inl (same, omega arith)
   | inr differ ↦ inr (omega arith, omega arith)
 ]
-
--- the number of a side
-numbered : (t : Tri) (i j : ℕ) → HasSide t i j → (number : ℕ) × (number < 3) × (side_begin t number ≡ i) × (side_end t number ≡ j)
-numbered t i j (inl e) = (0, omega arith, e.0, e.1)
-numbered t i j (inr (inl e)) = (1, omega arith, e.0, e.1)
-numbered t i j (inr (inr e)) = (2, omega arith, e.0, e.1)
 
 -- a triangle with three corners has one side between two of them
 one_number : (t : Tri) → ¬ (t.a ≡ t.b) → ¬ (t.b ≡ t.c) → ¬ (t.c ≡ t.a) → (m n : ℕ) → m < 3 → n < 3
@@ -143,7 +137,7 @@ module _ (tris : List Tri) (once : HasSidesOnce tris) where
               → ¬ (owner_at rows k number ≡ None)
           found_back l l_below back none =
               let t = tri_at tris k in
-              let m = numbered (tri_at tris l) (side_end t number) (side_begin t number) back in
+              let m = numbered_side (tri_at tris l) (side_end t number) (side_begin t number) back in
               let apart : ¬ (k ≡ l) = λ same. once.one_way _ _ k in_list (has_side_numbered t number in_row) (rw (← same) at back) in
               let shared : AreShared (side_at sides (3 * k + number)) (side_at sides (3 * l + m.0)) = record {
                 low = low_is k number in_list in_row ∙ (omega (arith, m.2, m.3)) ∙ sym (low_is l m.0 l_below m.1);

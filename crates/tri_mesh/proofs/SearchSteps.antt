@@ -9,7 +9,7 @@ use Rattle.std.specs.Prelude.{Option, slice_index, slice_index_or}
 use Rattle.meshes.specs.Mesh.{side_begin, side_end}
 use Rattle.meshes.specs.Side.{HasSide, HasSidesOnce, tri_at}
 use Rattle.meshes.specs.declared.tri.Tri.{Tri}
-use Rattle.tri_mesh.proofs.Numbers.{few_numbers}
+use Rattle.plane.proofs.Lists.{few_numbers}
 use Rattle.tri_mesh.specs.Neighbours.{IsOwner, KeepsNeighbours}
 use Rattle.tri_mesh.specs.Outward.{IsJoined, outward_at}
 use Rattle.tri_mesh.specs.Search.{IsDone, IsGrown, IsReached, IsSearch, IsSideDone}

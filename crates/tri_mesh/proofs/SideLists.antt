@@ -1,8 +1,8 @@
 -- The list of the sides of triangles with one more side, and the last ones at the corners.
-use Rattle.std.proofs.Common.{◌≡◌, refl, sym, ap, subst, ◌∙◌, ℕ, zero, suc, ◌+◌, ◌*◌, ◌/◌, ◌%◌, ◌<◌, ◌≤◌, inl, inr, List, [], ◌∷◌, ◌++◌, length, arith, Some, None, add-one}
+use Rattle.std.proofs.Common.{◌≡◌, refl, sym, ap, subst, ◌∙◌, ℕ, zero, suc, ◌+◌, ◌*◌, ◌/◌, ◌%◌, ◌<◌, ◌≤◌, inl, inr, List, [], ◌∷◌, ◌++◌, length, arith, Some, add-one}
 use Rattle.std.proofs.Math.Seq.{get_or-append_seam}
 use Rattle.std.proofs.lemmas.Bool.{cases_eq, cases_lt}
-use Rattle.std.proofs.lemmas.List.{get_or-set_other, get_or-set_same, get_or_append_left, get_or_past, length-append, length-set}
+use Rattle.std.proofs.lemmas.List.{get_or-set_other, get_or-set_same, get_or_append_left, length-append, length-set}
 use Rattle.std.specs.Prelude.{Option, max, slice_index, slice_set}
 use Rattle.meshes.specs.Mesh.{side_begin, side_end}
 use Rattle.meshes.specs.Side.{tri_at}
@@ -159,20 +159,6 @@ module _ (xs : List Side) (s : Side) where
       befores = before_after;
       lasts = λ v below. rw length-more (last_after v (omega (arith, below, length-set marks s.high (length xs + 1))));
     }
-
--- where there are none, no corner has one
-pub none_chained : (marks : List ℕ) → ((v : ℕ) → mark_at marks v ≡ None) → AreChained [] marks
-none_chained marks none = record {
-  befores = λ p below. absurd (omega (arith, below));
-  lasts = λ v below. rw (none v) (record { within = omega arith; higher = λ p named. absurd cc; later = λ p from within. absurd (omega (arith, within)) });
-}
-
--- the marks are sides of the list
-pub marks_in_list : (sides : List Side) (marks : List ℕ) → AreChained sides marks → (v p : ℕ) → mark_at marks v ≡ Some p → p < length sides
-marks_in_list sides marks chained v p mark = elim (cases_lt v (length marks)) [
-  | inl inside ↦ omega (arith, subst (λ m. up_to m ≤ length sides) mark (chained.lasts v inside).within)
-  | inr past ↦ let none : mark_at marks v ≡ None = ap last_up_to (get_or_past marks v 0 past) in let same : None ≡ Some p = sym none ∙ mark in absurd cc
-]
 
 -- with one side more of triangle k
 pub one_more : (tris : List Tri) (k number : ℕ) → (xs ys : List ℕ) (marks after : List ℕ) → HasCornersBelow (length marks) (tri_at tris k) → number < 3

@@ -19,9 +19,6 @@ use Rattle.hulls.specs.Turning.{IsToLeft}
 module _ (ring : List Point) (some : 3 ≤ length ring) (simple : IsSimple ring) (points : List Point)
     (distinct : AreDistinct points) (all_in : AreAllIn ring points) (x : Point) (base : IsBase ring points x) (b : ℕ)
     (last : IsLastSeen ring points x b) where
-  abbrev at : ℕ → Point
-  at = point_at points
-
   abbrev z : Point
   z = point_at points b
 

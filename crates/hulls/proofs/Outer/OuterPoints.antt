@@ -175,9 +175,6 @@ module _ (ring : List Point) (some : 3 ≤ length ring) (simple : IsSimple ring)
     (distinct : AreDistinct points) (all_in : AreAllIn ring points) (b : ℕ) (in_list : b < length points)
     (outer : ¬ IsInnerPoint ring points b) (base : IsBase ring points (point_at points b)) (t : ℕ)
     (last : IsLastSeen ring points (point_at points b) t) where
-  abbrev at : ℕ → Point
-  at = point_at points
-
   -- on a path between two points, one of them not inner, another one that isn't inner is not
   not_on_path : (a c u : ℕ) → a < length points → c < length points → a ≢ c → a ≢ u → c ≢ u → ¬ IsInnerPoint ring points u
       → ¬ IsOnPath ring (point_at points a) (point_at points c) (point_at points u)

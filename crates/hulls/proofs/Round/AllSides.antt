@@ -4,7 +4,8 @@ use Rattle.std.proofs.Common.{◌≡◌, ◌≢◌, inl, inr, refl, sym, subst, 
 use Rattle.std.proofs.Common.{slice_index, arith, ◌==◌, if◌then◌else◌}
 use Rattle.std.proofs.lemmas.Bool.{cases_eq, cases_lt, cond-false, cond-true, eq-eqb, ne_eqb}
 use Rattle.std.proofs.lemmas.List.{length_push}
-use Rattle.hulls.proofs.Round.Places.{HasNoneTwice, IsIn, at_most, is_in_or_not, more_at, more_last, more_once}
+use Rattle.plane.proofs.Lists.{few_numbers}
+use Rattle.hulls.proofs.Round.Places.{HasNoneTwice, IsIn, is_in_or_not, more_at, more_last, more_once}
 use Rattle.hulls.proofs.Round.Sides.{end_starts, one_start, apart_back, one_end, turned_three}
 use Rattle.hulls.specs.Round.{AreTurning, IsSideOf, AreThree, Follows, IsRoundOf}
 
@@ -60,7 +61,7 @@ module _ (n : ℕ) (Left : ℕ → ℕ → ℕ → Type 0) (turning : AreTurning
   -- a chain goes on until it closes
   closed_chain : (k : ℕ) (chain : List ℕ) (t : ℕ) → n < k + length chain → IsChain n Left chain t
       → (round : List ℕ) × IsChain n Left round (slice_index round 0) × (slice_index round 0 ≡ slice_index chain 0)
-  closed_chain zero chain t long is = absurd (omega (arith, at_most chain n (chain_below chain t is) is.distinct))
+  closed_chain zero chain t long is = absurd (omega (arith, few_numbers chain n (chain_below chain t is) is.distinct))
   closed_chain (suc k) chain t long is = elim (is_in_or_not chain t) [
     | inl found ↦ (chain, subst (IsChain n Left chain) (sym (ends_at_first chain t is found)) is, refl)
     | inr new ↦

@@ -1,16 +1,10 @@
 -- Where a number is in a list, how many numbers below a bound a list has, and a list with one more.
-use Rattle.std.proofs.Common.{◌≡◌, ◌≢◌, ◌⊎◌, inl, inr, true, false, sym, ◌∙◌, ℕ, zero, suc, ◌<◌, ◌≤◌, List, [], ◌∷◌, ◌++◌, length, get_or}
+use Rattle.std.proofs.Common.{◌≡◌, ◌≢◌, ◌⊎◌, inl, inr, sym, ◌∙◌, ℕ, zero, suc, ◌<◌, ◌≤◌, List, [], ◌∷◌, ◌++◌, length}
 use Rattle.std.proofs.Common.{slice_index, arith}
-use Rattle.std.proofs.Math.Dec.{eqb}
 use Rattle.std.proofs.Math.ListN.{get_or-append}
 use Rattle.std.proofs.Math.Seq.{get_or-append_seam}
-use Rattle.std.proofs.lemmas.Bool.{cases_eq, cases_lt, ne_eqb, true≢false, cases_order}
-use Rattle.std.proofs.lemmas.List.{get_or_default, length_push}
-use Rattle.std.proofs.lemmas.List.Elements.{All-from_get_or}
-use Rattle.std.proofs.lemmas.List.Folds.{list_any_none}
-use Rattle.std.proofs.lemmas.Map.Keys.{IsDistinct-from_apart}
-use Rattle.std.proofs.lemmas.Map.Steps.{length-le_from_distinct_below}
-use Rattle.std.specs.List.{list_any}
+use Rattle.std.proofs.lemmas.Bool.{cases_eq, cases_lt, cases_order}
+use Rattle.std.proofs.lemmas.List.{length_push}
 
 -- the list has no number twice
 abbrev pub HasNoneTwice : List ℕ → Type 0
@@ -51,24 +45,6 @@ module _ (list : List ℕ) (x : ℕ) where
   -- a number is in a list, or it is not
   pub is_in_or_not : IsIn list x ⊎ ((i : ℕ) → i < length list → slice_index list i ≢ x)
   is_in_or_not = in_first (length list) (omega arith)
-
-module _ (list : List ℕ) (n : ℕ) (below : (i : ℕ) → i < length list → slice_index list i < n) where
-  -- a number that is among numbers below n is below n
-  below_of_any : (x : ℕ) → list_any (eqb x) list ≡ true → x < n
-  below_of_any x among = elim (cases_lt x n) [
-    | inl less ↦ less
-    | inr more ↦
-        let apart = λ (i : ℕ) (within : i < length list). ne_eqb x (slice_index list i) (λ same. omega (arith, below i within)) in
-        absurd (true≢false (sym among ∙ list_any_none (eqb x) list (All-from_get_or (λ y. eqb x y ≡ false) list 0 apart)))
-  ]
-
-  -- numbers below n with none twice are n at most
-  pub at_most : HasNoneTwice list → length list ≤ n
-  at_most once =
-      let differ = λ (i j d : ℕ) (before : i < j) (within : j < length list).
-      ne_eqb (get_or list i d) (get_or list j d) (λ same. once i j before within
-      (get_or_default list i 0 d (omega arith) ∙ same ∙ get_or_default list j d 0 within)) in
-      length-le_from_distinct_below list n (IsDistinct-from_apart eqb list differ) below_of_any
 
 module _ (list : List ℕ) (x : ℕ) where
   -- has what it had,

@@ -4,7 +4,7 @@ use Rattle.std.proofs.lemmas.Int.{ints}
 use Rattle.integer_algebra.proofs.Laws.{zero-mul}
 use Rattle.integer_algebra.proofs.Polynomial.{Polynomial, lit, var, ◌⊕◌, ◌⊖◌, ◌⊗◌, same_value, zero_value}
 use Rattle.integer_algebra.proofs.Signs.{is_negative, is_positive, is_zero, sign, square_nonnegative, square_positive}
-use Rattle.plane.proofs.Order.{rise, run}
+use Rattle.plane.proofs.Order.{rise, run, written_rise, written_run}
 use Rattle.plane.proofs.Turns.{linear, parts, IsCombination, determinant as det}
 use Rattle.plane.specs.Point.{IsSame, Triple}
 use Rattle.plane.specs.Turn.{IsStraight, determinant}
@@ -17,23 +17,14 @@ along a b v = run v a *ℤ run b a +ℤ rise v a *ℤ rise b a
 abbrev pub square : Triple → Triple → ℤ
 square a b = run b a *ℤ run b a +ℤ rise b a *ℤ rise b a
 
--- those two as polynomials, of triples by their numbers
-written_run : ℕ → ℕ → Polynomial
-written_run v p = var (3 * v) ⊗ var (3 * p + 2) ⊖ var (3 * p) ⊗ var (3 * v + 2)
-
--- the height
-written_rise : ℕ → ℕ → Polynomial
-written_rise v p = var (3 * v + 1) ⊗ var (3 * p + 2) ⊖ var (3 * p + 1) ⊗ var (3 * v + 2)
-
--- and the way along a segment
+-- the way along a segment as a polynomial, of triples by their numbers
 written_along : ℕ → ℕ → ℕ → Polynomial
-unfolding written_run written_rise
 written_along a b v = written_run v a ⊗ written_run b a ⊕ written_rise v a ⊗ written_rise b a
 
 -- it is a linear functional
 pub along_is_linear : (a b v : Triple) →
     along a b v ≡ linear (a.W *ℤ run b a) (a.W *ℤ rise b a) (pos 0 -ℤ (a.X *ℤ run b a +ℤ a.Y *ℤ rise b a)) v
-unfolding written_run written_rise written_along
+unfolding written_along
 along_is_linear a b v =
     same_value (written_along 0 1 2)
     ((var 2 ⊗ written_run 1 0) ⊗ var 6 ⊕ (var 2 ⊗ written_rise 1 0) ⊗ var 7
@@ -53,7 +44,7 @@ none_more s d r e = omega (arith, ints, ap (λ z. z *ℤ r) e, zero-mul r)
 module _ (a b x : Triple) where
   -- the ends so weighed make a multiple of each point, and a part for how far it is beside the line
   weighed_X : square a b *ℤ x.X ≡ (along b a x *ℤ a.X +ℤ along a b x *ℤ b.X) -ℤ determinant a b x *ℤ rise b a
-  unfolding written_run written_rise written_along
+  unfolding written_along
   weighed_X =
       same_value (written_along 0 1 1 ⊗ var 6)
       ((written_along 1 0 2 ⊗ var 0 ⊕ written_along 0 1 2 ⊗ var 3) ⊖ det 0 1 2 ⊗ written_rise 1 0)
@@ -61,7 +52,7 @@ module _ (a b x : Triple) where
 
   -- in height,
   weighed_Y : square a b *ℤ x.Y ≡ (along b a x *ℤ a.Y +ℤ along a b x *ℤ b.Y) +ℤ determinant a b x *ℤ run b a
-  unfolding written_run written_rise written_along
+  unfolding written_along
   weighed_Y =
       same_value (written_along 0 1 1 ⊗ var 7)
       ((written_along 1 0 2 ⊗ var 1 ⊕ written_along 0 1 2 ⊗ var 4) ⊕ det 0 1 2 ⊗ written_run 1 0)
@@ -69,7 +60,7 @@ module _ (a b x : Triple) where
 
   -- and in weight, where there is no such part
   pub weighed_W : square a b *ℤ x.W ≡ along b a x *ℤ a.W +ℤ along a b x *ℤ b.W
-  unfolding written_run written_rise written_along
+  unfolding written_along
   weighed_W =
       same_value (written_along 0 1 1 ⊗ var 8) (written_along 1 0 2 ⊗ var 2 ⊕ written_along 0 1 2 ⊗ var 5)
       (parts (a ∷ b ∷ x ∷ []) []) refl
@@ -99,7 +90,7 @@ module _ (a b x : Triple) where
 
 -- a point is not away from itself
 pub along_itself : (a b : Triple) → along a b a ≡ pos 0
-unfolding written_run written_rise written_along
+unfolding written_along
 along_itself a b = zero_value (written_along 0 1 0) (parts (a ∷ b ∷ []) []) refl
 
 -- ---- squares
@@ -130,7 +121,7 @@ square_not_negative a b = squares_not_negative (run b a) (rise b a)
 
 -- the way back is as long
 pub square_swapped : (a b : Triple) → square b a ≡ square a b
-unfolding written_run written_rise written_along
+unfolding written_along
 square_swapped a b = same_value (written_along 1 0 0) (written_along 0 1 1) (parts (a ∷ b ∷ []) []) refl
 
 -- a point whose way from a is nothing is a

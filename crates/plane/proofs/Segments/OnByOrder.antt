@@ -6,7 +6,7 @@ use Rattle.integer_algebra.proofs.Polynomial.{var, ◌⊕◌, ◌⊖◌, ◌⊗�
 use Rattle.integer_algebra.proofs.SignSteps.{difference_positive, without_less}
 use Rattle.integer_algebra.proofs.Weights.{Forward, no_balance}
 use Rattle.plane.proofs.Order.{NotAfter, follows, not_after_antisym, not_after_facts, not_after_of_same, not_after_or_precedes, not_after_trans}
-use Rattle.plane.proofs.Order.{precedence, precedes, same}
+use Rattle.plane.proofs.Order.{precedence, precedes, rise, run, same}
 use Rattle.plane.proofs.Points.{same_sym}
 use Rattle.plane.proofs.Segments.Segments.{combination_is_straight, on_first_end, on_same_point, zero_of}
 use Rattle.plane.proofs.Turns.{determinant_same_ends, parts, straight_shift, straight_swap_last, IsCombination, combination_of, determinant_along}
@@ -16,18 +16,10 @@ use Rattle.plane.specs.Point.{IsPoint, Triple}
 use Rattle.plane.specs.Segment.{On}
 use Rattle.plane.specs.Turn.{IsStraight}
 
--- how far v is to the right of p, times a positive number where both are points
-abbrev across : Triple → Triple → ℤ
-across v p = v.X *ℤ p.W -ℤ p.X *ℤ v.W
-
--- how far it is above p
-abbrev upward : Triple → Triple → ℤ
-upward v p = v.Y *ℤ p.W -ℤ p.Y *ℤ v.W
-
 -- ---- a point on the segment is between the ends
 
 -- the way from a point to a later one is forward
-forward : (p q : Triple) → Precedes p q → Forward (across q p) (upward q p)
+forward : (p q : Triple) → Precedes p q → Forward (run q p) (rise q p)
 forward p q (inl h) = inl (omega (arith, ints))
 forward p q (inr h) = let e = h.0 in let k = h.1 in inr (omega (arith, ints), omega (arith, ints))
 
@@ -103,26 +95,26 @@ without : (x y d : ℤ) → x ≡ y +ℤ d → d ≡ pos 0 → x ≡ y
 without x y d e h = omega (arith, ints)
 
 -- what is not after another is not to its right
-at_most : (p q : Triple) → NotAfter p q → pos 0 ≤ℤ across q p
+at_most : (p q : Triple) → NotAfter p q → pos 0 ≤ℤ run q p
 at_most p q (inl h) = omega (arith, ints)
 at_most p q (inr h) = let e = h.0 in omega (arith, ints)
 
 -- and above it only farther left
-at_most_upward : (p q : Triple) → ¬ ((p.X *ℤ q.W) <ℤ (q.X *ℤ p.W)) → NotAfter p q → pos 0 ≤ℤ upward q p
+at_most_upward : (p q : Triple) → ¬ ((p.X *ℤ q.W) <ℤ (q.X *ℤ p.W)) → NotAfter p q → pos 0 ≤ℤ rise q p
 at_most_upward p q n (inl h) = absurd (n h)
 at_most_upward p q n (inr h) = let e = h.1 in omega (arith, ints)
 
 module _ (p a b : Triple) (straight : IsStraight a b p) where
-  -- the other coordinate, where the way across weighs
-  other_Y : across b a *ℤ p.Y ≡ across b p *ℤ a.Y +ℤ across p a *ℤ b.Y
+  -- the other coordinate, where the run weighs
+  other_Y : run b a *ℤ p.Y ≡ run b p *ℤ a.Y +ℤ run p a *ℤ b.Y
   other_Y =
       without _ _ _
       (same_value ((var 3 ⊗ var 2 ⊖ var 0 ⊗ var 5) ⊗ var 7)
       ((var 3 ⊗ var 8 ⊖ var 6 ⊗ var 5) ⊗ var 1 ⊕ (var 6 ⊗ var 2 ⊖ var 0 ⊗ var 8) ⊗ var 4 ⊕ det 0 1 2)
       (parts (a ∷ b ∷ p ∷ []) []) refl) straight
 
-  -- and where the way upward does
-  other_X : upward b a *ℤ p.X ≡ upward b p *ℤ a.X +ℤ upward p a *ℤ b.X
+  -- and where the rise does
+  other_X : rise b a *ℤ p.X ≡ rise b p *ℤ a.X +ℤ rise p a *ℤ b.X
   other_X =
       without_less
       (same_value ((var 4 ⊗ var 2 ⊖ var 1 ⊗ var 5) ⊗ var 6)
@@ -133,9 +125,9 @@ module _ (p a b : Triple) (straight : IsStraight a b p) where
     -- where the last end is farther right
     by_X : (a.X *ℤ b.W) <ℤ (b.X *ℤ a.W) → IsCombination p a b
     by_X h = record {
-      k = across b a;
-      l = across b p;
-      m = across p a;
+      k = run b a;
+      l = run b p;
+      m = run p a;
       k_positive = difference_positive h;
       l_nonnegative = at_most p b last;
       m_nonnegative = at_most a p first;
@@ -161,9 +153,9 @@ module _ (p a b : Triple) (straight : IsStraight a b p) where
     -- where they are, and the last end is above
     by_Y : a.X *ℤ b.W ≡ b.X *ℤ a.W → (a.Y *ℤ b.W) <ℤ (b.Y *ℤ a.W) → IsCombination p a b
     by_Y e h = record {
-      k = upward b a;
-      l = upward b p;
-      m = upward p a;
+      k = rise b a;
+      l = rise b p;
+      m = rise p a;
       k_positive = difference_positive h;
       l_nonnegative = at_most_upward p b (not_left e) last;
       m_nonnegative = at_most_upward a p (not_right e) first;

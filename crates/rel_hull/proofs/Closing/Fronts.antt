@@ -6,7 +6,8 @@ use Rattle.std.proofs.Math.Seq.{take-length}
 use Rattle.std.proofs.lemmas.Bool.{cases_lt}
 use Rattle.std.proofs.lemmas.List.{get_or-map, length-map, length_push, take_more}
 use Rattle.plane.specs.Point.{Point}
-use Rattle.hulls.proofs.Round.{after_inner, after_last, place_after, at_most}
+use Rattle.plane.proofs.Lists.{few_numbers}
+use Rattle.hulls.proofs.Round.{after_inner, after_last, place_after}
 use Rattle.hulls.specs.Round.{Follows}
 use Rattle.rel_hull.proofs.Closing.Least.{IsFromLeast, side_from}
 use Rattle.rel_hull.proofs.Closing.Turning.{AreOuterNumbers, IsLeftAt, IsSideAt, apart_at, pair_at_places, places_of_pair}
@@ -157,7 +158,7 @@ module _ (ring points : List Point) where
     pub front_fits : next ≢ first → length list < length points
     front_fits apart =
         let more = more_in_round apart in
-        let few = at_most round (length points) (λ i within. (side_in round front.closed i within).s_in_list) front.closed.distinct in
+        let few = few_numbers round (length points) (λ i within. (side_in round front.closed i within).s_in_list) front.closed.distinct in
         omega arith
 
     -- and next is one of them

@@ -31,7 +31,6 @@ module _ (p q a b : Triple) where
   -- the relation of four triples at the heights over p and over q
   pub relations : Relations (determinant p q a) (determinant p q b) (determinant a b p) (determinant a b q)
       (rise a p) (rise b p) (rise a q) (rise b q) (rise q p)
-  unfolding written_rise
   relations =
       let xs = parts (a ∷ b ∷ p ∷ q ∷ []) [] in
       let sum = λ (v : ℕ). det 2 3 1 ⊗ written_rise 0 v ⊖ det 2 3 0 ⊗ written_rise 1 v in

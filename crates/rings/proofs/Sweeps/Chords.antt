@@ -1,21 +1,13 @@
 -- A chord from s to t with a point x between them, and the line ab on one side of all three.
-use Rattle.std.proofs.Common.{◌≡◌, ◌⊎◌, inl, inr, [], ◌∷◌, refl, ℕ, ◌+◌, ◌*◌, ℤ, pos, ◌+ℤ◌, ◌*ℤ◌, neg_ℤ, ◌≤ℤ◌, arith}
+use Rattle.std.proofs.Common.{◌≡◌, ◌⊎◌, inl, inr, [], ◌∷◌, refl, ◌+◌, ◌*◌, ℤ, pos, ◌+ℤ◌, ◌*ℤ◌, neg_ℤ, ◌≤ℤ◌, arith}
 use Rattle.std.proofs.lemmas.Int.{ints}
-use Rattle.integer_algebra.proofs.Polynomial.{Polynomial, var, neg, ◌⊕◌, ◌⊖◌, ◌⊗◌, zero_value}
+use Rattle.integer_algebra.proofs.Polynomial.{neg, ◌⊕◌, ◌⊗◌, zero_value}
 use Rattle.integer_algebra.proofs.SignSteps.{opposite_not_negative, zero_of_opposite}
-use Rattle.plane.proofs.Order.{NotAfter, rise, run}
+use Rattle.plane.proofs.Order.{NotAfter, rise, run, written_rise, written_run}
 use Rattle.plane.proofs.Turns.{parts, determinant as det}
 use Rattle.plane.specs.Point.{IsSame, Triple}
 use Rattle.plane.specs.Turn.{determinant}
 use Rattle.rings.proofs.Sweeps.ForwardSums.{Part, none_gains}
-
--- a run as a polynomial, of two triples by their numbers
-abbrev pub written_run : ℕ → ℕ → Polynomial
-written_run v p = var (3 * v) ⊗ var (3 * p + 2) ⊖ var (3 * p) ⊗ var (3 * v + 2)
-
--- a rise
-abbrev pub written_rise : ℕ → ℕ → Polynomial
-written_rise v p = var (3 * v + 1) ⊗ var (3 * p + 2) ⊖ var (3 * p + 1) ⊗ var (3 * v + 2)
 
 -- the way from a point to one that it is not after, with a weight
 abbrev pub way : (w : ℤ) → pos 0 ≤ℤ w → (p q : Triple) → NotAfter p q → Part

@@ -1,11 +1,9 @@
--- Lists in which each item is related to the next, after an edit: the pairs at the place are enough.
-use Rattle.std.proofs.Common.{◌≡◌, inl, inr, ap, ◌∙◌, ℕ, ◌+◌, ◌-◌, ◌<◌, ◌≤◌, List, length, get_or, set, arith, suc, ◌∷◌, take, drop}
-use Rattle.std.proofs.lemmas.Bool.{cases_eq, cases_order}
+-- Lists in which each item is related to the next, after one is put in the place of another: the pairs at the place are enough.
+use Rattle.std.proofs.Common.{◌≡◌, inl, inr, ℕ, ◌+◌, ◌-◌, ◌<◌, List, length, get_or, set, arith}
+use Rattle.std.proofs.lemmas.Bool.{cases_eq}
 use Rattle.std.proofs.lemmas.List.{get_or-set_other, length-set, get_or_default}
-use Rattle.std.proofs.lemmas.List.Edits.{get_or-insert_above, get_or-insert_below, get_or-remove_above, get_or-remove_below, length-insert}
-use Rattle.std.proofs.lemmas.List.Edits.{length-remove}
-use Rattle.std.proofs.lemmas.List.Elements.{All-append, All-cons, All-drop, All-set, All-take}
-use Rattle.std.specs.List.{AllAdjacentBelow, insert, remove, All}
+use Rattle.std.proofs.lemmas.List.Elements.{All-set}
+use Rattle.std.specs.List.{AllAdjacentBelow}
 use Rattle.std.specs.Prelude.{slice_index}
 use Rattle.plane.specs.Point.{Point}
 use Rattle.rings.specs.Status.{FitsAt, IsEdgeBelow, IsStacked}
@@ -21,37 +19,6 @@ module _ {X : Type 0} (R : X → X → Type 0) where
         → R (get_or ys k d) (get_or ys (k + 1) d)
     moved ys j k d within e f = rw (e, f) (ordered j d within)
 
-    -- after an item is taken out
-    pub adjacent_removed : i < length xs → IsFitting (remove xs i) i → AllAdjacentBelow R (remove xs i) (length (remove xs i))
-    adjacent_removed at fit k d within = let size = length-remove xs i at in elim (cases_order (k + 1) i) [
-      | inl here ↦ fit k d here within
-      | inr (inl below) ↦
-          moved (remove xs i) k k d (omega (arith, size, within))
-          (get_or-remove_below xs i d k (omega arith) at) (get_or-remove_below xs i d (k + 1) below at)
-      | inr (inr above) ↦
-          moved (remove xs i) (k + 1) k d (omega (arith, size, within))
-          (get_or-remove_above xs i d k (omega arith) at) (get_or-remove_above xs i d (k + 1) (omega arith) at)
-    ]
-
-    -- after one is put in
-    pub adjacent_inserted : (y : X) → i ≤ length xs → IsFitting (insert xs i y) i → IsFitting (insert xs i y) (i + 1)
-        → AllAdjacentBelow R (insert xs i y) (length (insert xs i y))
-    adjacent_inserted y at fit fit_next k d within = let size = length-insert xs i y at in elim (cases_order (k + 1) i) [
-      | inl here ↦ fit k d here within
-      | inr (inl below) ↦
-          moved (insert xs i y) k k d (omega (arith, below, at))
-          (get_or-insert_below xs i y d k (omega arith) at) (get_or-insert_below xs i y d (k + 1) below at)
-      | inr (inr above) ↦ elim (cases_eq k i) [
-        | inl here ↦ fit_next k d (omega (arith, here)) within
-        | inr not ↦
-            let j : ℕ = k - 1 in
-            let is : k ≡ j + 1 = omega (arith, above, not) in
-            moved (insert xs i y) j k d (omega (arith, size, within, is))
-            (ap (λ l. get_or (insert xs i y) l d) is ∙ get_or-insert_above xs i y d j (omega (arith, above, not)) at)
-            (get_or-insert_above xs i y d k (omega (arith, above)) at ∙ ap (λ l. get_or xs l d) is)
-      ]
-    ]
-
     -- after one takes the place of another
     pub adjacent_set : (y : X) → IsFitting (set xs i y) i → IsFitting (set xs i y) (i + 1) → AllAdjacentBelow R (set xs i y) (length (set xs i y))
     adjacent_set y fit fit_next k d within = let size = length-set xs i y in elim (cases_eq k i) [
@@ -62,7 +29,7 @@ module _ {X : Type 0} (R : X → X → Type 0) where
       ]
     ]
 
--- ---- a list of edges, each below the next, after one is removed, inserted or put in the place of another
+-- ---- a list of edges, each below the next, after one takes the place of another
 
 -- an item that is related to the one before it is so with each default
 fitting : (R : ℕ → ℕ → Type 0) (ys : List ℕ) (i : ℕ) → (0 < i → i < length ys → R (slice_index ys (i - 1)) (slice_index ys i)) → IsFitting R ys i
@@ -76,27 +43,6 @@ module _ (ring : List Point) (ranks : List ℕ) where
   IsEdge e = e < length ranks
 
   module _ (xs : List ℕ) (i : ℕ) (stacked : IsStacked ring ranks xs) where
-    -- the items of the list without one
-    pub edges_removed : All IsEdge (remove xs i)
-    edges_removed = All-append IsEdge (take i xs) (drop (suc i) xs) (All-take IsEdge i xs stacked.edges) (All-drop IsEdge (suc i) xs stacked.edges)
-
-    pub removed : i < length xs → FitsAt ring ranks (remove xs i) i → IsStacked ring ranks (remove xs i)
-    removed at fits = record {
-      edges = edges_removed;
-      ordered = adjacent_removed (IsEdgeBelow ring ranks) xs i stacked.ordered at (fitting (IsEdgeBelow ring ranks) (remove xs i) i fits);
-    }
-
-    pub inserted : (e : ℕ) → IsEdge e → i ≤ length xs → FitsAt ring ranks (insert xs i e) i → FitsAt ring ranks (insert xs i e) (i + 1)
-        → IsStacked ring ranks (insert xs i e)
-    inserted e edge at fits fits_next = record {
-      edges =
-          All-append IsEdge (take i xs) (e ∷ drop i xs) (All-take IsEdge i xs stacked.edges)
-          (All-cons IsEdge e (drop i xs) edge (All-drop IsEdge i xs stacked.edges));
-      ordered =
-          adjacent_inserted (IsEdgeBelow ring ranks) xs i stacked.ordered e at
-          (fitting (IsEdgeBelow ring ranks) (insert xs i e) i fits) (fitting (IsEdgeBelow ring ranks) (insert xs i e) (i + 1) fits_next);
-    }
-
     pub replaced : (e : ℕ) → IsEdge e → FitsAt ring ranks (set xs i e) i → FitsAt ring ranks (set xs i e) (i + 1) → IsStacked ring ranks (set xs i e)
     replaced e edge fits fits_next = record {
       edges = All-set IsEdge xs i e edge stacked.edges;

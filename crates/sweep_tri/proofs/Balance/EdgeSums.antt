@@ -13,6 +13,7 @@ use Rattle.plane.specs.Point.{Point}
 use Rattle.rings.proofs.Sweeps.{event_of, forward, next_below, next_differs, next_of_previous, previous_below, previous_of_next, ranks_are}
 use Rattle.rings.specs.Events.{next, AreEvents, first_rank, previous}
 use Rattle.meshes.specs.Boundary.{IsOdd, sum_along, sum_round}
+use Rattle.ring_laws.proofs.Ears.{IsUnit}
 use Rattle.sweep_tri.proofs.Balance.Along.{along_push}
 use Rattle.sweep_tri.specs.Gaps.{last}
 use Rattle.sweep_tri.specs.Sums.{sum_edges, AreSigns}
@@ -141,10 +142,7 @@ module _ (n : ℕ) (signs : ℕ → ℤ) (m : ℕ) (inside : m + 1 < n) where
 
 -- ---- one sign put in the place of another
 
--- 1 or -1
-abbrev pub IsUnit : ℤ → Type 0
-IsUnit s = (s ≡ pos 1) ⊎ (s ≡ negsuc 0)
-
+-- the sign of each edge, that of one being s
 abbrev pub placed : (ℕ → ℤ) → ℕ → ℤ → ℕ → ℤ
 placed signs e s i = if nat_eq i e then s else signs i
 
@@ -170,10 +168,6 @@ module _ (φ : ℕ → ℕ → ℤ) (n : ℕ) (signs : ℕ → ℤ) (e : ℕ) (s
   ]
 
 -- ---- the edges that begin at an event
-
--- the vertices beside vertex v of n, in either order
-abbrev pub AreBeside : ℕ → ℕ → ℕ → ℕ → Type 0
-AreBeside n v w u = ((w ≡ previous n v) × (u ≡ next n v)) ⊎ ((w ≡ next n v) × (u ≡ previous n v))
 
 module _ (corners : List Point) (order ranks : List ℕ) (are : AreEvents corners order ranks) (three : 3 ≤ length corners)
     (k : ℕ) (within : k < length corners) where

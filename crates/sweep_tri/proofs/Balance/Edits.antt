@@ -19,13 +19,13 @@ use Rattle.mono_fill.specs.Filled.{IsFilled}
 use Rattle.mono_fill.specs.declared.side.Side.{Side}
 use Rattle.mono_fill.specs.declared.side.Side.TheVariants.{Lower, Upper}
 use Rattle.sweep_tri.proofs.Balance.Along.{along_reverse, with_last, along_front, along_push, along_push_two, along_turned}
-use Rattle.sweep_tri.proofs.Balance.EdgeSums.{AreBeside}
 use Rattle.sweep_tri.proofs.Balance.Steps.{gaps_inserted, gaps_removed, gaps_replaced, none_begins, one_begins, two_begin}
 use Rattle.sweep_tri.proofs.Regions.{left_ends, near_chain}
 use Rattle.sweep_tri.specs.Gaps.{last, before_last, gap_at, no_gap}
 use Rattle.sweep_tri.specs.Meeting.{AreFilled, beside_front, closed_at, left_at, past_diagonal, region_from, split_above, split_below}
 use Rattle.sweep_tri.specs.Meeting.{with_vertex, gap_of}
 use Rattle.sweep_tri.specs.Open.{IsOpen, IsOpenGap}
+use Rattle.sweep_tri.specs.Passing.{AreBeside}
 use Rattle.sweep_tri.specs.Region.{Chains, IsClosedRegion, boundary, seen_from}
 use Rattle.sweep_tri.specs.Sums.{sum_region, sum_high, AreBalanced, sum_gap}
 use Rattle.sweep_tri.specs.declared.gap.Gap.{Gap}

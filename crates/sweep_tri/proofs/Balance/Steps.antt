@@ -21,12 +21,14 @@ use Rattle.meshes.specs.Boundary.{IsOdd, sum_sides, HaveBoundary, sum_round}
 use Rattle.meshes.specs.Fits.{Fits, IsTriOf}
 use Rattle.meshes.specs.Side.{tri_at}
 use Rattle.meshes.specs.declared.tri.Tri.{Tri}
+use Rattle.ring_laws.proofs.Ears.{IsUnit}
 use Rattle.sweep_tri.proofs.Balance.Area.{area_by, area_odd, area_round, triangles_not_negative}
 use Rattle.sweep_tri.proofs.Balance.EdgeSums.{sums_none, around_step, edges_round, growth_at, growth_odd, sums_agree, sums_opposite}
-use Rattle.sweep_tri.proofs.Balance.EdgeSums.{AreBeside, IsUnit, after, before, before_differs, before_is_edge, begins_at, edge_before}
+use Rattle.sweep_tri.proofs.Balance.EdgeSums.{after, before, before_differs, before_is_edge, begins_at, edge_before}
 use Rattle.sweep_tri.proofs.Balance.EdgeSums.{event, event_below, next_begins, placed, placed_other, placed_same, previous_begins}
 use Rattle.sweep_tri.proofs.Balance.EdgeSums.{signs_after, sums_placed}
 use Rattle.sweep_tri.specs.Gaps.{gap_at, no_gap}
+use Rattle.sweep_tri.specs.Passing.{AreBeside}
 use Rattle.sweep_tri.specs.Sums.{sum_gap, sum_gaps, AreBalanced, sum_edges}
 use Rattle.sweep_tri.specs.declared.gap.Gap.{Gap}
 

@@ -1,7 +1,8 @@
 use Rattle.std.proofs.Common.{◌≡◌, ◌<◌, ◌+◌, ◌-◌, ◌∙◌, Vec, Global, ap, sym, [], ◌++◌, ◌∷◌, length, append-nil, arith}
 use Rattle.std.proofs.lemmas.List.{length_push}
+use Rattle.std.proofs.lemmas.Result.{on_ok_weaker}
 use Rattle.std.proofs.lemmas.List.Elements.{All-cons, All-nil, All-same, All-get_or}
-use Rattle.mono_fill.proofs.Fillings.{begun, crossed, extends_on, filling_ends, gone_on, kept_all, length_read, on_ok, one_more_ranks, one_more_ring, one_more_taken, told_other, told_same}
+use Rattle.mono_fill.proofs.Fillings.{begun, crossed, extends_on, filling_ends, gone_on, kept_all, length_read, one_more_ranks, one_more_ring, one_more_taken, told_other, told_same}
 use Rattle.mono_fill.proofs.Outlines.{fillable_polygon}
 use Rattle.meshes.specs.declared.tri.Tri.{Tri}
 use Rattle.mono_fill.specs.Cursors.{Cursors}
@@ -94,9 +95,10 @@ loop-preserved g c =
 
 pub returns-clause-fits : goal.returns-clause-fits
 returns-clause-fits g c f =
-    on_ok c.fan.result c.fan.ensures.fan (λ e.
+    on_ok_weaker c.fan.result (λ e.
     filling_ends
     (g.T.Turns.corners c.args.board.now) c.args.rank.now c.args.piece.now c.args.out.now.items c.loop.out.items _ c.loop.chains c.loop.stack.side
     c.loop.stack.vertices.items (fillable_polygon (g.T.Turns.corners c.args.board.now) c.args.rank.now c.args.piece.now f)
     (c.loop.invariant.filling f)
     (omega (arith, c.requires.some)) (e ∙ ap (λ x. c.loop.out.items ++ fan c.loop.stack.side x c.loop.stack.vertices.items) c.ahead.ensures.vertex))
+    c.fan.ensures.fan
