@@ -1,6 +1,7 @@
 -- A buffer that is filled item by item.
 use Rattle.std.proofs.Common.{◌≡◌, refl, ap, ℕ, ◌+◌, List, [], ◌∷◌, ◌++◌, length, ◌<◌, ◌≤◌, slice_set, slice_index_or, arith, inl, inr}
 use Prim.Native.Nat.{zero, suc}
+use Rattle.std.proofs.lemmas.List.{drop_all, take_all}
 use Rattle.std.specs.Prelude.{take, drop, ◌⊎◌}
 use native.Mathlib.Numerals.{unary_clauses}
 use Rattle.std.specs.Ordering.{ord_min, nat_cmp}
@@ -19,15 +20,12 @@ one_more {X = X} (q ∷ ps) (o ∷ os) (suc i) p few fits is =
 
 -- where one of the two is at its end, all is filled
 pub all_of : {X : Type 0} (ps os : List X) (n : ℕ) → n ≤ length ps → n ≤ length os → (length ps ≤ n) ⊎ (length os ≤ n) → take n ps ++ drop n os ≡ filled_by ps os
-all_of [] [] zero few fits end = refl
-all_of [] (o ∷ os) zero few fits end = refl
-all_of [] os (suc n) few fits end = let no : ⊥ = omega (arith, few) in absurd no
-all_of (p ∷ ps) [] zero few fits end = refl
-all_of (p ∷ ps) [] (suc n) few fits end = let no : ⊥ = omega (arith, fits) in absurd no
-all_of (p ∷ ps) (o ∷ os) zero few fits (inl short) = let no : ⊥ = omega (arith, short) in absurd no
-all_of (p ∷ ps) (o ∷ os) zero few fits (inr short) = let no : ⊥ = omega (arith, short) in absurd no
-all_of {X = X} (p ∷ ps) (o ∷ os) (suc n) few fits (inl short) = ap (λ (xs : List X). p ∷ xs) (all_of ps os n (omega (arith, few)) (omega (arith, fits)) (inl (omega (arith, short))))
-all_of {X = X} (p ∷ ps) (o ∷ os) (suc n) few fits (inr short) = ap (λ (xs : List X). p ∷ xs) (all_of ps os n (omega (arith, few)) (omega (arith, fits)) (inr (omega (arith, short))))
+all_of ps os n few fits (inl short) =
+    let is : n ≡ length ps = omega (arith, few, short) in
+    rw (is, take_all (length ps) ps (omega arith), take_all (length os) ps (omega (arith, fits, is))) refl
+all_of ps os n few fits (inr short) =
+    let is : n ≡ length os = omega (arith, fits, short) in
+    rw (is, drop_all (length os) os (omega arith), drop_all (length ps) os (omega (arith, few, is))) refl
 
 -- the lesser of two numbers is at most each, and at least one
 pub least_of : (a b n : ℕ) → n ≡ ord_min nat_cmp a b → (n ≤ a) × (n ≤ b)

@@ -46,11 +46,6 @@ ok_of_err P (Err e) fault = tt
 pub no_more : (n more : ℕ) → n ≤ n + more
 no_more n more = omega arith
 
--- what follows from a fact about an Ok follows under the Ok
-pub under_ok : {T E : Type 0} {P Q : Type 0} (r : Result T E) → (P → Q) → OnOk r P → OnOk r Q
-under_ok (Ok x) f h = f h
-under_ok (Err e) f h = tt
-
 -- a fault further on left a front of an appended text
 pub front_through : {T E : Type 0} (r : Result T E) (old more out new : List ℕ) → out ≡ old ++ more → OnErr r (take (length out) new ≡ out)
     → OnErr r (take (length old) new ≡ old)

@@ -1,22 +1,14 @@
 -- The answers to some first records are the front of those to all of them.
-use Rattle.std.proofs.Common.{◌≡◌, ◌∙◌, ◌+◌, ℕ, List, [], ◌∷◌, ◌++◌, length, Result, Ok, Err, ap, append_assoc, arith, refl, subst, sym}
+use Rattle.std.proofs.Common.{◌≡◌, ◌∙◌, ◌+◌, ℕ, List, [], ◌∷◌, ◌++◌, length, ap, append_assoc, arith, refl, subst, sym}
 use Rattle.geo_text.specs.Reading.{reading_of}
-use Rattle.geo_text.specs.declared.command.Bad.{Bad}
-use Rattle.geo_text.specs.declared.command.Command.{Command}
 use Rattle.geo_text.specs.declared.version.Version.{Version}
-use Rattle.geo_session.specs.Answer.{IsReadingAnswer}
+use Rattle.geo_session.proofs.OneAnswer.{one_reading}
 use Rattle.geo_session.specs.Laws.{OneAnswerLaw}
 use Rattle.geo_session.specs.Output.{AreAnswers}
 use Rattle.geo_session.specs.State.{State}
 
 module _ (law : OneAnswerLaw) where
-  -- two answers to a record are one
-  one_answered : (before : State) (reading : Result Command Bad) (one other : List ℕ) (after after' : State) → IsReadingAnswer before reading one after
-      → IsReadingAnswer before reading other after' → (one ≡ other) × (after ≡ after')
-  one_answered before (Ok asked) one other after after' is is_too = law before asked one other after after' is is_too
-  one_answered before (Err fault) one other after after' is is_too = (is.0 ∙ sym is_too.0, is.1 ∙ sym is_too.1)
-
-  -- so what is left of a whole is the answers to the rest
+  -- what is left of a whole is the answers to the rest
   pub record AreRest (version : Version) (j : ℕ) (between after : State) (left : List (List (List ℕ))) (text whole : List ℕ) : Type 0 where
     pub more : List ℕ
     pub answers : AreAnswers version j between left more after
@@ -28,7 +20,7 @@ module _ (law : OneAnswerLaw) where
       let same : j ≡ k = omega (arith, at) in
       rw (told.0, told.1, same) (record { more = whole; answers = all; joined = refl })
   rest_of version k j before between after (fields ∷ first) left text whole at told all =
-      let one = one_answered before (reading_of version k fields) all.first told.first all.between told.between all.answer told.answer in
+      let one = one_reading law before (reading_of version k fields) all.first told.first all.between told.between all.answer told.answer in
       let others : AreAnswers version (k + 1) told.between (first ++ left) all.rest after =
       subst (λ (s : State). AreAnswers version (k + 1) s (first ++ left) all.rest after) one.1 all.others in
       let rest = rest_of version (k + 1) j told.between between after first left told.rest all.rest (omega (arith, at)) told.others others in

@@ -32,6 +32,6 @@ mod OneView
 mod OneHull
 mod OneNumbers
 mod OneReply
-mod OneAnswer
+pub mod OneAnswer
 mod Asks
 mod Paces

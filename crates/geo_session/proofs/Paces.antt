@@ -2,6 +2,7 @@
 use Rattle.std.proofs.Common.{◌≡◌, ◌∙◌, inl, inr, refl, sym, ap, subst, true, false, ℕ, ℤ, suc, ◌+◌, ◌-◌, ◌*◌, ◌^◌, ◌<◌, ◌≤◌, List, [], ◌∷◌, ◌++◌, length, Result, arith}
 use Rattle.std.proofs.Math.Nat.{pow-suc}
 use Rattle.std.specs.Prelude.{OnOk, Option, Some, None}
+use Rattle.std.proofs.lemmas.Result.{on_ok_weaker}
 use Rattle.plane.specs.Point.{Point}
 use Rattle.ring_check.proofs.Oriented.{length-oriented}
 use Rattle.ring_check.specs.Oriented.{Oriented, oriented}
@@ -13,7 +14,7 @@ use Rattle.geo_text.specs.declared.command.Bad.TheVariants as bad
 use Rattle.geo_text.specs.declared.command.Command.{Command}
 use Rattle.geo_text.specs.declared.command.Command.TheVariants as command
 use Rattle.geo_text.specs.declared.version.Version.{Version}
-use Rattle.geo_reply.proofs.Fronts.{no_more, ok_since, under_ok}
+use Rattle.geo_reply.proofs.Fronts.{no_more, ok_since}
 use Rattle.geo_reply.specs.ReplyText.{reply_text}
 use Rattle.geo_reply.specs.Written.{WritesSteps, points_of_path}
 use Rattle.geo_reply.specs.declared.reply.Reply.{Reply}
@@ -137,7 +138,7 @@ module _ {E : Type 0} (before : State) (asked : Command) (most : ℕ) (put : Res
       → WritesSteps answered told done → OnOk put (out' ≡ out ++ reply_text answered) → TakesBoth before asked most put out out' steps done
   takes_both answered (path points is) single more written =
       let wrote : done ≤ told + 64 * length points = subst (λ (r : Reply). WritesSteps r told done) is more in (
-        under_ok put (λ line. record { points = points; printed = inl (line ∙ ap (λ (r : Reply). out ++ reply_text r) is); bound = omega (arith, few, wrote) }) written,
+        on_ok_weaker put (λ line. record { points = points; printed = inl (line ∙ ap (λ (r : Reply). out ++ reply_text r) is); bound = omega (arith, few, wrote) }) written,
         λ other h. subst (λ (r : Reply). done ≤ steps + most + 64 * length (points_of_path r)) (sym is ∙ single other h) (omega (arith, few, wrote)),
       )
   takes_both answered (refusal fault is) single more written =
@@ -149,7 +150,7 @@ module _ {E : Type 0} (before : State) (asked : Command) (most : ℕ) (put : Res
   -- and where there are none they take none
   pub takes_none : done ≡ told → (put_fails : OnOk put ⊥) → TakesBoth before asked most put out out' steps done
   takes_none same fails = (
-    under_ok put (λ none. absurd none) fails,
+    on_ok_weaker put (λ none. absurd none) fails,
     λ other h. omega (arith, few, same),
   )
 

@@ -1,15 +1,10 @@
 -- The round of points: its places, the list that the ring was made of, and its line.
-use Rattle.std.proofs.Common.{◌≡◌, ◌≢◌, ◌∙◌, inl, inr, refl, sym, ap, subst, true, false, ℕ, ◌+◌, ◌<◌, ◌≤◌}
-use Rattle.std.proofs.Common.{◌==◌, if◌then◌else◌, List, [], length, get_or, arith}
-use Rattle.std.proofs.Math.Dec.{eqb}
-use Rattle.std.proofs.lemmas.Bool.{cases_eq, cases_lt, ne_eqb, true≢false}
-use Rattle.std.proofs.lemmas.List.{get_or_default, length-map}
-use Rattle.std.proofs.lemmas.List.Elements.{All-from_get_or}
-use Rattle.std.proofs.lemmas.List.Folds.{list_any_none}
-use Rattle.std.proofs.lemmas.Map.Keys.{IsDistinct-from_apart}
-use Rattle.std.proofs.lemmas.Map.Steps.{length-le_from_distinct_below}
-use Rattle.std.specs.List.{list_any}
+use Rattle.std.proofs.Common.{◌≡◌, ◌∙◌, inl, inr, refl, ap, subst, ℕ, ◌+◌, ◌<◌, ◌≤◌}
+use Rattle.std.proofs.Common.{◌==◌, if◌then◌else◌, List, [], length, arith}
+use Rattle.std.proofs.lemmas.Bool.{cases_eq}
+use Rattle.std.proofs.lemmas.List.{length-map}
 use Rattle.std.specs.Prelude.{map, slice_index}
+use Rattle.plane.proofs.Lists.{few_numbers}
 use Rattle.plane.specs.Point.{Point}
 use Rattle.rings.specs.Chain.{point_at}
 use Rattle.meshes.specs.Fits.{Fits}
@@ -30,21 +25,6 @@ use Rattle.geo_session.specs.Told.{RepliesWithin, Tells, within}
 use Rattle.geo_session.specs.declared.hull.Span.{Span}
 
 -- ---- its places
-
--- numbers below n with none twice are n at most
-at_most : (list : List ℕ) (n : ℕ) → ((i : ℕ) → i < length list → slice_index list i < n)
-    → ((i j : ℕ) → i < j → j < length list → slice_index list i ≢ slice_index list j) → length list ≤ n
-at_most list n below once =
-    let differ = λ (i j d : ℕ) (before : i < j) (within : j < length list).
-    ne_eqb (get_or list i d) (get_or list j d) (λ same. once i j before within
-    (get_or_default list i 0 d (omega arith) ∙ same ∙ get_or_default list j d 0 within)) in
-    let each = λ (x : ℕ) (among : list_any (eqb x) list ≡ true). elim (cases_lt x n) as (λ _. x < n) [
-      | inl less ↦ less
-      | inr more ↦
-          let apart = λ (i : ℕ) (within : i < length list). ne_eqb x (slice_index list i) (λ same. omega (arith, below i within)) in
-          absurd (true≢false (sym among ∙ list_any_none (eqb x) list (All-from_get_or (λ y. eqb x y ≡ false) list 0 apart)))
-    ] in
-    length-le_from_distinct_below list n (IsDistinct-from_apart eqb list differ) each
 
 module _ (ring points : List Point) (numbers : List ℕ) (firsts : AreFirsts points numbers) (some : 1 ≤ length points) (places : List ℕ)
     (is : IsRound ring (map (point_at points) numbers) places) where
@@ -69,7 +49,7 @@ module _ (ring points : List Point) (numbers : List ℕ) (firsts : AreFirsts poi
       let some_too = some_numbers points numbers firsts some in
       elim (cases_eq (length numbers) 1) [
         | inl alone ↦ let none : places ≡ [] = is.alone (long ∙ alone) in let short = ap length none in omega (arith, short)
-        | inr more ↦ at_most places (length numbers) place_below (is.closed (omega (arith, long, some_too, more))).distinct
+        | inr more ↦ few_numbers places (length numbers) place_below (is.closed (omega (arith, long, some_too, more))).distinct
       ]
 
 -- the round of a table of numbered points is that of the points

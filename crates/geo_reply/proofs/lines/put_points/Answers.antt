@@ -1,7 +1,8 @@
 use Rattle.std.proofs.Common.{◌∙◌, arith, length}
+use Rattle.std.proofs.lemmas.Result.{on_ok_weaker}
 use Rattle.geo_text.specs.Texts.{index_text, pt_text}
 use Rattle.std.specs.Prelude.{codes}
-use Rattle.geo_reply.proofs.Fronts.{front_fault, front_kept, front_same, then_written, under_ok}
+use Rattle.geo_reply.proofs.Fronts.{front_fault, front_kept, front_same, then_written}
 use Rattle.geo_reply.proofs.MapFront.{flat_none, flat_pushed, flat_whole}
 use Rattle.geo_reply.proofs.lines.put_points.Goals as goal
 
@@ -35,7 +36,7 @@ pub returns-clause-ok : goal.returns-clause-ok
 returns-clause-ok g c =
     let all = flat_whole pt_text c.args.points.now c.args.out.now.items (index_text (length c.args.points.now)) c.loop-point.point-index
     c.loop-point.out.items c.loop-point.invariant.put (omega (arith, c.loop-point-test.false)) in
-    under_ok c.put_line_end.result
+    on_ok_weaker c.put_line_end.result
     (λ written. then_written c.args.out.now.items _ c.loop-point.out.items (codes "\n") c.put_line_end.new.out.items all written) c.put_line_end.ensures.ok
 
 pub returns-clause-steps : goal.returns-clause-steps
