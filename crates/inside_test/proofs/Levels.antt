@@ -7,9 +7,9 @@ use mir.Syntax.{w128}
 use Rattle.integer_algebra.proofs.Laws.{neg-mul}
 use Rattle.integer_algebra.proofs.Polynomial.{var, lit, ◌⊖◌, ◌⊗◌, same_value}
 use Rattle.integer_algebra.proofs.Signs.{comparison, is_above, is_below, is_equal, mul_nonnegative}
-use Rattle.plane.specs.Point.{IsSame, Point, Triple, whole}
+use Rattle.plane.specs.Point.{IsInLimit, IsSame, Point, Triple, whole}
 use Rattle.exact_plane.proofs.Registers.{read, wide}
-use Rattle.inside_test.specs.Level.{IsLevel, IsNear}
+use Rattle.inside_test.specs.Level.{IsLevel}
 
 -- q is the quotient of a number by w, rounded down, and r the remainder
 pub record IsQuotient (part w q r : ℤ) : Type 0 where
@@ -41,7 +41,7 @@ product_below z q w h positive =
 abbrev pub kept : ℤ → ℤ
 kept q = int_max (negsuc 4294967295) (int_min q (pos 4294967296))
 
-module _ (part w q r : ℤ) (h : IsQuotient part w q r) (z : ℤ) (small : IsNear z) where
+module _ (part w q r : ℤ) (h : IsQuotient part w q r) (z : ℤ) (small : IsInLimit z) where
   -- it is below the same coordinates as the number
   pub below_is : (kept q <ℤ z) ↔ (part <ℤ (z *ℤ w))
   below_is = elim (comparison z q) [
@@ -57,17 +57,17 @@ module _ (part w q r : ℤ) (h : IsQuotient part w q r) (z : ℤ) (small : IsNea
   ]
 
 -- what is below the same coordinates as the opposite of a number has an opposite that is above the same ones as the number
-above_is : (part w f : ℤ) → ((z : ℤ) → IsNear z → (f <ℤ z) ↔ ((pos 0 -ℤ part) <ℤ (z *ℤ w)))
-    → (z : ℤ) → IsNear z → (z <ℤ (pos 0 -ℤ f)) ↔ ((z *ℤ w) <ℤ part)
+above_is : (part w f : ℤ) → ((z : ℤ) → IsInLimit z → (f <ℤ z) ↔ ((pos 0 -ℤ part) <ℤ (z *ℤ w)))
+    → (z : ℤ) → IsInLimit z → (z <ℤ (pos 0 -ℤ f)) ↔ ((z *ℤ w) <ℤ part)
 above_is part w f h z small =
     let (from, back) = h (neg_ℤ z) (omega (arith, ints, small)) in
     let product = neg-mul z w in
     (λ l. let k = from (omega (arith, ints, l)) in omega (arith, ints, k, product), λ l. let k = back (omega (arith, ints, l, product)) in omega (arith, ints, k))
 
 -- so the two make a level
-pub level_is : (part w f g : ℤ) → unsigned_abs part < 2 ^ 76 → unsigned_abs w < 2 ^ 50 → unsigned_abs f ≤ 2 ^ 32 → unsigned_abs g ≤ 2 ^ 32
-    → ((z : ℤ) → IsNear z → (f <ℤ z) ↔ (wide part <ℤ (z *ℤ wide w)))
-    → ((z : ℤ) → IsNear z → (g <ℤ z) ↔ (wide (pos 0 -ℤ wide part) <ℤ (z *ℤ wide w)))
+pub level_is : (part w f g : ℤ) → unsigned_abs part < 2 ^ 75 → unsigned_abs w < 2 ^ 50 → unsigned_abs f ≤ 2 ^ 32 → unsigned_abs g ≤ 2 ^ 32
+    → ((z : ℤ) → IsInLimit z → (f <ℤ z) ↔ (wide part <ℤ (z *ℤ wide w)))
+    → ((z : ℤ) → IsInLimit z → (g <ℤ z) ↔ (wide (pos 0 -ℤ wide part) <ℤ (z *ℤ wide w)))
     → IsLevel (record { floor = read f; ceiling = read (pos 0 -ℤ read g) }) part w
 level_is part w f g small_part small_w small_f small_g below opposite =
     let fits_part : FitsSigned w128 part = omega (arith, ints, small_part) in

@@ -9,7 +9,6 @@ use Rattle.plane.specs.Point.{IsPoint, Point, Triple}
 use Rattle.rings.specs.Ring.{vertex}
 use Rattle.inside_test.proofs.Blocks.{IsPassed, ends_below, is_between_ends, passed_above, passed_before_differences, passed_before_sums}
 use Rattle.inside_test.proofs.Blocks.{passed_below, passed_left, passed_past_differences, passed_past_sums, passed_right}
-use Rattle.inside_test.proofs.Heights.{near}
 use Rattle.inside_test.proofs.Odd.{not_other, over_both, over_more, over_none}
 use Rattle.inside_test.specs.Bundle.{CrossesAll, CrossesNone, IsBundleMissed, IsBundleOf, IsBundleOfBoth, IsBundleRight, IsTold, IsWider}
 use Rattle.inside_test.specs.Odd.{IsOddOver}
@@ -58,8 +57,8 @@ module _ (b : Bundle) (u v : Point) (is : IsBundleOf b u v) (p : Triple) (at_p :
   edge_beside beside =
       subst (IsPassed u v p)
       (elim is.heights [
-        | inl up ↦ passes_up (u.y *ℤ p.W) (v.y *ℤ p.W) p.Y (beside.low u.y (near u.y is.first_bounds.y_in_limit) up.0) (beside.high v.y (near v.y is.last_bounds.y_in_limit) up.1)
-        | inr down ↦ passes_down (u.y *ℤ p.W) (v.y *ℤ p.W) p.Y (beside.low v.y (near v.y is.last_bounds.y_in_limit) down.0) (beside.high u.y (near u.y is.first_bounds.y_in_limit) down.1)
+        | inl up ↦ passes_up (u.y *ℤ p.W) (v.y *ℤ p.W) p.Y (beside.low u.y is.first_bounds.y_in_limit up.0) (beside.high v.y is.last_bounds.y_in_limit up.1)
+        | inr down ↦ passes_down (u.y *ℤ p.W) (v.y *ℤ p.W) p.Y (beside.low v.y is.last_bounds.y_in_limit down.0) (beside.high u.y is.first_bounds.y_in_limit down.1)
       ])
       (edge_right beside.right)
 

@@ -1,10 +1,9 @@
 -- Edges of a ring in bundles, by the way that they go, and what a bundle tells of a point. This project's own. No public clause cites this module.
 use Rattle.std.specs.Bool.{beq}
 use Rattle.std.specs.Prelude.{◌≡◌, ◌⊎◌, ◌*ℤ◌, ◌<ℤ◌, ◌≤ℤ◌, ℤ, Bool, true, false, not}
-use Rattle.plane.specs.Point.{IsInBounds, Point, Triple}
+use Rattle.plane.specs.Point.{IsInBounds, IsInLimit, Point, Triple}
 use Rattle.exact_plane.specs.Boxes.{Encloses}
 use Rattle.inside_test.specs.Block.{IsBoxMissed, IsBoxRight, IsTiltBefore, IsTiltPast, OfAllEnclosed}
-use Rattle.inside_test.specs.Level.{IsNear}
 use Rattle.inside_test.specs.Tilted.{tilted}
 use Rattle.inside_test.specs.declared.bundle.Bundle.{Bundle}
 
@@ -43,8 +42,8 @@ IsBundleRight b p = IsBoxRight b.around p ⊎ IsTiltBefore b.tilted p
 -- and the ray crosses each edge: the point is at a height that all of them pass
 pub record CrossesAll (b : Bundle) (p : Triple) : Type 0 where
   pub right : IsBundleRight b p
-  pub low : (y : ℤ) → IsNear y → y ≤ℤ b.low → (y *ℤ p.W) ≤ℤ p.Y
-  pub high : (y : ℤ) → IsNear y → b.high ≤ℤ y → p.Y <ℤ (y *ℤ p.W)
+  pub low : (y : ℤ) → IsInLimit y → y ≤ℤ b.low → (y *ℤ p.W) ≤ℤ p.Y
+  pub high : (y : ℤ) → IsInLimit y → b.high ≤ℤ y → p.Y <ℤ (y *ℤ p.W)
 
 -- or none: the point is where they end, or above that
 pub record CrossesNone (b : Bundle) (p : Triple) : Type 0 where

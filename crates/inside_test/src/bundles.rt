@@ -22,6 +22,7 @@ impl Bundle {
             low: -BEYOND,
             high: BEYOND,
             is_odd: false,
+            is_thin: false,
         }
     }
 
@@ -39,20 +40,28 @@ impl Bundle {
             low,
             high,
             is_odd: true,
+            is_thin: false,
         }
     }
 
-    // Its edges and those of another.
-    pub fn joined(&self, other: &Bundle) -> Bundle
+    // Its edges and those of another. Where they are of edges that wind, it is told whether the box in turned axes is thin.
+    pub fn joined(&self, other: &Bundle, winds: bool) -> Bundle
         ensures { IsBundleOfBoth self.now other.now result }
     {
+        let tilted = self.tilted.joined(&other.tilted);
         Bundle {
             around: self.around.joined(&other.around),
-            tilted: self.tilted.joined(&other.tilted),
+            tilted,
             low: in_order(self.low, other.low).1,
             high: in_order(self.high, other.high).0,
             is_odd: self.is_odd != other.is_odd,
+            is_thin: winds && is_thin(&tilted),
         }
+    }
+
+    // Whether it has no edge. Only the time rests on it.
+    pub fn is_empty(&self) -> bool {
+        self.around.east < self.around.west
     }
 
     // Whether one of its boxes shares no point with one of these, of which the second is tilted.
@@ -61,6 +70,15 @@ impl Bundle {
     {
         !around.overlaps(&self.around) || !tilted.overlaps(&self.tilted)
     }
+}
+
+// Whether one side of a box is more than half as long again as the other. Only the time rests on it.
+fn is_thin(b: &BoundingBox) -> bool {
+    let (width, height) = (
+        b.east as i64 - b.west as i64,
+        b.north as i64 - b.south as i64,
+    );
+    width.wrapping_mul(3) < height.wrapping_mul(2) || height.wrapping_mul(3) < width.wrapping_mul(2)
 }
 
 // The box round two points in axes that are turned by an eighth: by the sums and the differences of their coordinates.

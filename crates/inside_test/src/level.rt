@@ -1,10 +1,10 @@
 // A rational number among the whole numbers, and a rational point among the vertices.
 ghost use Rattle.std.specs.Int.{int_div_euclid};
-ghost use Rattle.std.specs.Prelude.{◌≡◌, ◌↔◌, ◌+◌, ◌<◌, ◌≤◌, ◌^◌, ◌<ℤ◌, ◌≤ℤ◌, ◌*ℤ◌, ℤ, IfSome, IsTrue, pos, unsigned_abs};
-ghost use Rattle.plane.specs.Point.{IsPoint, IsSame, Triple, whole};
+ghost use Rattle.std.specs.Prelude.{◌≡◌, ◌↔◌, ◌+◌, ◌<◌, ◌≤◌, ◌^◌, ◌<ℤ◌, ◌≤ℤ◌, ◌+ℤ◌, ◌-ℤ◌, ◌*ℤ◌, ℤ, IfSome, IsTrue, pos, unsigned_abs};
+ghost use Rattle.plane.specs.Point.{IsInLimit, IsPoint, IsSame, Triple, whole};
 ghost use Rattle.inside_test.specs.Block.{IsBoxMissed, IsBoxOffHeight, IsBoxPassed, IsBoxRight, IsTiltBefore, IsTiltPast};
-ghost use Rattle.inside_test.specs.Bundle.{IsBundleMissed, IsBundleRight, IsTold};
-ghost use Rattle.inside_test.specs.Level.{AreLevels, IsLevel, IsNear, IsTilt};
+ghost use Rattle.inside_test.specs.Bundle.{IsBundleRight, IsTold};
+ghost use Rattle.inside_test.specs.Level.{AreLevels, IsLevel, IsTilt};
 ghost use Rattle.inside_test.specs.Runs.{AllTell, IsEachBundle};
 
 use crate::bundle::Bundle;
@@ -23,7 +23,7 @@ pub(crate) struct Level {
 impl Level {
     // The level of part / weight.
     fn of(part: i128, weight: i128) -> Level
-        requires part { unsigned_abs part < 2 ^ 76 }
+        requires part { unsigned_abs part < 2 ^ 75 }
         requires weight { unsigned_abs weight < 2 ^ 50 }
         requires positive { pos 0 <ℤ weight }
         ensures { IsLevel result part weight }
@@ -36,7 +36,7 @@ impl Level {
 
     // Whether it is below a coordinate.
     fn is_below(&self, z: i64) -> bool
-        requires { IsNear z }
+        requires { IsInLimit z }
         ensures { (part weight : ℤ) → IsLevel self.now part weight → IsTrue result ↔ (part <ℤ (z *ℤ weight)) }
     {
         self.floor < z
@@ -44,7 +44,7 @@ impl Level {
 
     // Whether it is above one.
     fn is_above(&self, z: i64) -> bool
-        requires { IsNear z }
+        requires { IsInLimit z }
         ensures { (part weight : ℤ) → IsLevel self.now part weight → IsTrue result ↔ ((z *ℤ weight) <ℤ part) }
     {
         z < self.ceiling
@@ -52,29 +52,29 @@ impl Level {
 
     // Whether it is below all coordinates from this number on.
     fn is_below_from(&self, z: i32) -> bool
-        ensures { IsTrue result → (part weight y : ℤ) → IsLevel self.now part weight → IsNear y → z ≤ℤ y → part <ℤ (y *ℤ weight) }
+        ensures { IsTrue result → (part weight y : ℤ) → IsLevel self.now part weight → IsInLimit y → z ≤ℤ y → part <ℤ (y *ℤ weight) }
     {
         self.floor < z as i64
     }
 
     // Whether it is at the first of two numbers or above it, and below the second.
     fn is_between(&self, low: i64, high: i64) -> bool
-        ensures from { IsTrue result → (part weight y : ℤ) → IsLevel self.now part weight → IsNear y → y ≤ℤ low → (y *ℤ weight) ≤ℤ part }
-        ensures below { IsTrue result → (part weight y : ℤ) → IsLevel self.now part weight → IsNear y → high ≤ℤ y → part <ℤ (y *ℤ weight) }
+        ensures from { IsTrue result → (part weight y : ℤ) → IsLevel self.now part weight → IsInLimit y → y ≤ℤ low → (y *ℤ weight) ≤ℤ part }
+        ensures below { IsTrue result → (part weight y : ℤ) → IsLevel self.now part weight → IsInLimit y → high ≤ℤ y → part <ℤ (y *ℤ weight) }
     {
         low <= self.floor && self.floor < high
     }
 
     // Whether it is at this number or above it, so not below any coordinate up to it.
     fn is_from(&self, z: i32) -> bool
-        ensures { IsTrue result → (part weight y : ℤ) → IsLevel self.now part weight → IsNear y → y ≤ℤ z → (y *ℤ weight) ≤ℤ part }
+        ensures { IsTrue result → (part weight y : ℤ) → IsLevel self.now part weight → IsInLimit y → y ≤ℤ z → (y *ℤ weight) ≤ℤ part }
     {
         z as i64 <= self.floor
     }
 
     // Whether it is above all coordinates up to this number.
     fn is_above_to(&self, z: i32) -> bool
-        ensures { IsTrue result → (part weight y : ℤ) → IsLevel self.now part weight → IsNear y → y ≤ℤ z → (y *ℤ weight) <ℤ part }
+        ensures { IsTrue result → (part weight y : ℤ) → IsLevel self.now part weight → IsInLimit y → y ≤ℤ z → (y *ℤ weight) <ℤ part }
     {
         (z as i64) < self.ceiling
     }
@@ -82,10 +82,10 @@ impl Level {
 
 // The greatest whole number that is not above part / weight, but no farther from 0 than a limit beyond all coordinates.
 fn floor(part: i128, weight: i128) -> i64
-    requires part { unsigned_abs part < 2 ^ 76 }
+    requires part { unsigned_abs part < 2 ^ 75 }
     requires weight { unsigned_abs weight < 2 ^ 50 }
     requires positive { pos 0 <ℤ weight }
-    ensures below { (z : ℤ) → IsNear z → (result <ℤ z) ↔ (part <ℤ (z *ℤ weight)) }
+    ensures below { (z : ℤ) → IsInLimit z → (result <ℤ z) ↔ (part <ℤ (z *ℤ weight)) }
     ensures limit { unsigned_abs result ≤ 2 ^ 32 }
 {
     const LIMIT: i128 = 1 << 32;
@@ -94,7 +94,7 @@ fn floor(part: i128, weight: i128) -> i64
 
 // The greatest whole number that is not above part / weight. Short numbers are divided faster.
 fn quotient(part: i128, weight: i128) -> i128
-    requires part { unsigned_abs part < 2 ^ 76 }
+    requires part { unsigned_abs part < 2 ^ 75 }
     requires weight { unsigned_abs weight < 2 ^ 50 }
     requires positive { pos 0 <ℤ weight }
     ensures { result ≡ int_div_euclid part weight }
@@ -107,35 +107,60 @@ fn quotient(part: i128, weight: i128) -> i128
     }
 }
 
-// The levels of a point in axes that are turned by an eighth: of the sum of its coordinates, and of their difference.
+// A rational point in axes that are turned by an eighth: the sum of its first two parts, their difference, and the weight.
 #[derive(Clone, Copy)]
 pub(crate) struct Tilt {
-    pub sum: Level,
-    pub difference: Level,
+    pub sum: i128,
+    pub difference: i128,
+    pub weight: i64,
 }
 
 impl Tilt {
+    // That of a point with these parts.
+    fn of(x: i128, y: i128, w: i128) -> Tilt
+        requires x { unsigned_abs x < 2 ^ 75 }
+        requires y { unsigned_abs y < 2 ^ 75 }
+        requires w { unsigned_abs w < 2 ^ 50 }
+        ensures sum { result.sum ≡ x +ℤ y }
+        ensures difference { result.difference ≡ x -ℤ y }
+        ensures weight { result.weight ≡ w }
+    {
+        Tilt {
+            sum: x + y,
+            difference: x - y,
+            weight: w as i64,
+        }
+    }
+
     // Whether the sum or the difference is greater than all in this box.
     fn is_past(&self, tilted: &BoundingBox) -> bool
         ensures { IsTrue result → (p : Triple) → IsTilt self.now p → IsTiltPast tilted.now p }
     {
-        self.sum.is_above_to(tilted.east) || self.difference.is_above_to(tilted.north)
+        self.weighed(tilted.east) < self.sum || self.weighed(tilted.north) < self.difference
     }
 
     // Whether it is less than all.
     fn is_before(&self, tilted: &BoundingBox) -> bool
         ensures { IsTrue result → (p : Triple) → IsTilt self.now p → IsTiltBefore tilted.now p }
     {
-        self.sum.is_below_from(tilted.west) || self.difference.is_below_from(tilted.south)
+        self.sum < self.weighed(tilted.west) || self.difference < self.weighed(tilted.south)
+    }
+
+    // A number with the weight.
+    fn weighed(&self, z: i32) -> i128
+        requires { unsigned_abs z < 2 ^ 31 }
+        ensures { result ≡ z *ℤ self.now.weight }
+    {
+        z as i128 * self.weight as i128
     }
 }
 
-// The levels of a rational point: of x, and of its height; and, where bundles are asked, in turned axes.
+// The levels of a rational point: of x, and of its height; and the point in turned axes.
 #[derive(Clone, Copy)]
 pub(crate) struct Levels {
     pub across: Level,
     pub height: Level,
-    pub tilted: Option<Tilt>,
+    pub tilt: Tilt,
 }
 
 impl Levels {
@@ -150,25 +175,7 @@ impl Levels {
         Levels {
             across: Level::of(x, w),
             height: Level::of(y, w),
-            tilted: None,
-        }
-    }
-
-    // Those in turned axes too.
-    #[tactic(auto, using(crate::proofs::CrossedEdges::registers))]
-    pub(crate) fn tilted_of<L: Ledger>(p: &Hom, steps: &mut Steps<L>) -> Levels
-        ensures levels { AreLevels result p.now }
-        ensures rational { IsPoint p.now }
-        ensures steps { steps.new ≡ steps.old + 64 }
-    {
-        let (x, y, w) = p.parts(steps);
-        Levels {
-            across: Level::of(x, w),
-            height: Level::of(y, w),
-            tilted: Some(Tilt {
-                sum: Level::of(x + y, w),
-                difference: Level::of(x - y, w),
-            }),
+            tilt: Tilt::of(x, y, w),
         }
     }
 
@@ -233,50 +240,40 @@ impl Levels {
         self.is_off_height(around) || self.is_left_of_all(around)
     }
 
-    // Whether all of this box in turned axes is left of the point.
-    fn is_past(&self, tilted: &BoundingBox) -> bool
-        ensures { IsTrue result → (p : Triple) → AreLevels self.now p → IsTiltPast tilted.now p }
-    {
-        match &self.tilted {
-            Some(tilt) => tilt.is_past(tilted),
-            None => false,
-        }
-    }
-
-    // Whether all of it is right of the point.
-    fn is_before(&self, tilted: &BoundingBox) -> bool
-        ensures { IsTrue result → (p : Triple) → AreLevels self.now p → IsTiltBefore tilted.now p }
-    {
-        match &self.tilted {
-            Some(tilt) => tilt.is_before(tilted),
-            None => false,
-        }
-    }
-
-    // Whether one of a bundle's boxes tells that none of its edges is crossed.
-    fn misses_all(&self, bundle: &Bundle) -> bool
-        ensures { IsTrue result → (p : Triple) → AreLevels self.now p → IsBundleMissed bundle.now p }
-    {
-        self.misses(&bundle.around) || self.is_past(&bundle.tilted)
-    }
-
-    // Whether one of them tells that all edges are right of the point.
-    fn is_left_of_edges(&self, bundle: &Bundle) -> bool
-        ensures { IsTrue result → (p : Triple) → AreLevels self.now p → IsBundleRight bundle.now p }
-    {
-        self.is_left_of_all(&bundle.around) || self.is_before(&bundle.tilted)
-    }
-
-    // Whether an odd number of a bundle's edges is crossed, where its box and its heights tell.
+    // Whether an odd number of a bundle's edges is crossed, where its boxes and its heights tell.
     fn odd_of(&self, bundle: &Bundle) -> Option<bool>
         ensures { IfSome result (λ odd. (p : Triple) → AreLevels self.now p → IsTold bundle.now p odd) }
     {
-        if self.misses_all(bundle) {
+        if self.misses(&bundle.around) {
             return Some(false);
         }
-        if !self.is_left_of_edges(bundle) {
-            return None;
+        if self.is_left_of_all(&bundle.around) {
+            return self.odd_at_height(bundle);
         }
+        if bundle.is_thin {
+            return self.odd_by_tilt(bundle);
+        }
+        None
+    }
+
+    // The same by the box in turned axes.
+    fn odd_by_tilt(&self, bundle: &Bundle) -> Option<bool>
+        ensures { IfSome result (λ odd. (p : Triple) → AreLevels self.now p → IsTold bundle.now p odd) }
+    {
+        if self.tilt.is_past(&bundle.tilted) {
+            return Some(false);
+        }
+        if self.tilt.is_before(&bundle.tilted) {
+            return self.odd_at_height(bundle);
+        }
+        None
+    }
+
+    // The same by the heights, where one of the boxes is right of the point.
+    fn odd_at_height(&self, bundle: &Bundle) -> Option<bool>
+        requires { (p : Triple) → AreLevels self.now p → IsBundleRight bundle.now p }
+        ensures { IfSome result (λ odd. (p : Triple) → AreLevels self.now p → IsTold bundle.now p odd) }
+    {
         if self.height.is_between(bundle.low, bundle.high) {
             return Some(bundle.is_odd);
         }

@@ -62,35 +62,27 @@ pub(crate) fn place_by<L: Ledger>(
     ensures steps { steps.new ≤ steps.old + 1280 * length ring.now.corners + 64 }
 {
     match runs {
-        Some(runs) => place_with(ring, runs, p, &Levels::tilted_of(p, steps), steps),
-        None => place_with(ring, &ByBlocks, p, &Levels::of(p, steps), steps),
+        Some(runs) => place_with(ring, runs, p, steps),
+        None => place_with(ring, &ByBlocks, p, steps),
     }
 }
 
 // The same by what knows of edges beforehand.
-fn place_with<S: Skip, L: Ledger>(
-    ring: &Ring,
-    skip: &S,
-    p: &Hom,
-    levels: &Levels,
-    steps: &mut Steps<L>,
-) -> Position
-    requires of { S.is_of skip.now ring.now.corners }
-    requires levels { AreLevels levels.now p.now }
-    requires rational { IsPoint p.now }
+fn place_with<S: Skip, L: Ledger>(ring: &Ring, skip: &S, p: &Hom, steps: &mut Steps<L>) -> Position
+    requires { S.is_of skip.now ring.now.corners }
     ensures edge { (result ≡ Position.Edge) ↔ IsOnSome (edges_of ring.now.corners) p.now }
     ensures inside { (result ≡ Position.Inside) ↔ (IsIn ring.now.corners p.now × ¬ (IsOnSome (edges_of ring.now.corners) p.now)) }
     ensures outside { (result ≡ Position.Outside) ↔ ¬ (IsIn ring.now.corners p.now) }
-    ensures steps { steps.new ≤ steps.old + 1280 * length ring.now.corners }
+    ensures steps { steps.new ≤ steps.old + 1280 * length ring.now.corners + 64 }
 {
-    let n = ring.len();
+    let (n, levels) = (ring.len(), Levels::of(p, steps));
     let mut is_odd = false;
     let mut first = 0;
     while first < n {
-        let (end, odd) = skip.odd_to(ring, first, levels, steps);
+        let (end, odd) = skip.odd_to(ring, first, &levels, steps);
         let odd = match odd {
             Some(odd) => odd,
-            None => match odd_by_edges(ring, first, end, p, levels, steps) {
+            None => match odd_by_edges(ring, first, end, p, &levels, steps) {
                 Some(odd) => odd,
                 None => return Position::Edge,
             },

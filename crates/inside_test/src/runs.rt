@@ -72,19 +72,19 @@ impl Run {
         };
         match way_of(&a, &b, steps) {
             Way::East => Run {
-                eastward: run.eastward.joined(&edge),
+                eastward: run.eastward.joined(&edge, false),
                 ..run
             },
             Way::North => Run {
-                northward: run.northward.joined(&edge),
+                northward: run.northward.joined(&edge, false),
                 ..run
             },
             Way::West => Run {
-                westward: run.westward.joined(&edge),
+                westward: run.westward.joined(&edge, false),
                 ..run
             },
             Way::South => Run {
-                southward: run.southward.joined(&edge),
+                southward: run.southward.joined(&edge, false),
                 ..run
             },
         }
@@ -111,14 +111,23 @@ impl Run {
         if next.first != self.end {
             return *self;
         }
+        let winds = self.winds();
         Run {
             first: self.first,
             end: next.end,
-            eastward: self.eastward.joined(&next.eastward),
-            northward: self.northward.joined(&next.northward),
-            westward: self.westward.joined(&next.westward),
-            southward: self.southward.joined(&next.southward),
+            eastward: self.eastward.joined(&next.eastward, winds),
+            northward: self.northward.joined(&next.northward, winds),
+            westward: self.westward.joined(&next.westward, winds),
+            southward: self.southward.joined(&next.southward, winds),
         }
+    }
+
+    // Whether it has edges that go each way, as where a list winds round. Only the time rests on it.
+    fn winds(&self) -> bool {
+        if self.eastward.is_empty() || self.northward.is_empty() {
+            return false;
+        }
+        !self.westward.is_empty() && !self.southward.is_empty()
     }
 
     // Whether each bundle has a box that shares no point with one of these, round a segment, of which the second is tilted.

@@ -3,15 +3,11 @@ use Rattle.std.proofs.Common.{◌≡◌, inl, inr, ℕ, ◌+◌, ◌<◌, ◌≤
 use Rattle.std.specs.Prelude.{not}
 use Rattle.plane.specs.Point.{Point, whole}
 use Rattle.plane.specs.Segment.{Meet, MeetElsewhere, MeetOnlyAt, On}
-use Rattle.rings.proofs.Vertices.{vertex_round}
+use Rattle.rings.proofs.Vertices.{vertex_after_last}
 use Rattle.rings.specs.Ring.{vertex}
 use Rattle.rings.specs.Simple.{Clash, IsLeastClash, SharesPoint}
 
 module _ (ring : List Point) (three : 3 ≤ length ring) where
-  -- the vertex after edge j is the first, where edge j is the last
-  vertex_after_last : (j : ℕ) → j + 1 ≡ length ring → vertex ring (j + 1) ≡ vertex ring 0
-  vertex_after_last j last = rw last (vertex_round ring (omega arith))
-
   -- edges that follow one another
   pub shared_after : (i : ℕ) → MeetElsewhere (whole (vertex ring i)) (whole (vertex ring (i + 1))) (whole (vertex ring (i + 1 + 1))) → SharesPoint ring i (i + 1)
   shared_after i meet = record {
@@ -32,14 +28,14 @@ module _ (ring : List Point) (three : 3 ≤ length ring) where
     point = meet.point;
     rational = meet.rational;
     on_first = meet.on_second;
-    on_second = subst (λ (v : Point). On meet.point (whole (vertex ring j)) (whole v)) (sym (vertex_after_last j last)) meet.on_first;
+    on_second = subst (λ (v : Point). On meet.point (whole (vertex ring j)) (whole v)) (sym (vertex_after_last ring j last)) meet.on_first;
     not_between = λ next _. omega arith;
     not_round = λ _ _. meet.elsewhere;
   }
 
   pub apart_round : (j : ℕ) → j + 1 ≡ length ring → MeetOnlyAt (whole (vertex ring j)) (whole (vertex ring 0)) (whole (vertex ring 1)) → ¬ (SharesPoint ring 0 j)
   apart_round j last only shared =
-      let on_last = subst (λ (v : Point). On shared.point (whole (vertex ring j)) (whole v)) (vertex_after_last j last) shared.on_second in
+      let on_last = subst (λ (v : Point). On shared.point (whole (vertex ring j)) (whole v)) (vertex_after_last ring j last) shared.on_second in
       shared.not_round (omega arith) last (only shared.point shared.rational on_last shared.on_first)
 
 pub meet_of_shared : (ring : List Point) (i j : ℕ) → SharesPoint ring i j

@@ -144,9 +144,7 @@ fn insert_two<L: Ledger>(
     if !status.insert_two(place, e as u16, f as u16) {
         return false;
     }
-    fits(events, status, place, steps)
-        && fits(events, status, place + 1, steps)
-        && fits(events, status, place + 2, steps)
+    fit_three(events, status, place, steps)
 }
 
 // The place for the edge between vertices `v` and `w`, which begins or ends at `v`, by binary search. Only a place is
@@ -201,6 +199,29 @@ fn fits<L: Ledger>(events: &Events, status: &GapList, place: usize, steps: &mut 
         return true;
     }
     is_below(events, status.at(place - 1), status.at(place), steps)
+}
+
+// The same at a place and at the two behind it. It takes at most 6 steps.
+fn fit_three<L: Ledger>(
+    events: &Events,
+    status: &GapList,
+    place: usize,
+    steps: &mut Steps<L>,
+) -> bool
+    requires edges { All (λ e. e < length events.now.points.now) status.now }
+    requires place { place + 2 < 2 ^ 64 }
+    ensures first { IsTrue result → FitsAt events.now.points.now events.now.ranks.now status.now place }
+    ensures second { IsTrue result → FitsAt events.now.points.now events.now.ranks.now status.now (place + 1) }
+    ensures third { IsTrue result → FitsAt events.now.points.now events.now.ranks.now status.now (place + 2) }
+    ensures steps { steps.new ≤ steps.old + 6 }
+{
+    if !fits(events, status, place, steps) {
+        return false;
+    }
+    if !fits(events, status, place + 1, steps) {
+        return false;
+    }
+    fits(events, status, place + 2, steps)
 }
 
 // Whether edge `e` is below edge `f`. It takes at most 2 steps.

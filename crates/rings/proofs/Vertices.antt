@@ -4,7 +4,7 @@
 mod Indexing
 pub use Rattle.rings.proofs.Vertices.Indexing.{crossings_more, edge_at, on_some_edge, on_some_from, on_some_more, take_all_edges}
 pub use Rattle.rings.proofs.Vertices.Indexing.{edge_number, edge_with, has_edge_at, has_edge_backward, on_each, on_some_among, on_some_of}
-pub use Rattle.rings.proofs.Vertices.Indexing.{vertex_in_range, vertex_mod, vertex_round}
+pub use Rattle.rings.proofs.Vertices.Indexing.{vertex_after_last, vertex_in_range, vertex_mod, vertex_round}
 -- The items of a list, of appended lists and of a list in the other order, and their numbers.
 mod Items
 pub use Rattle.rings.proofs.Vertices.Items.{has_cases, has_in_order, has_left, has_number, has_reversed, has_right, has_swapped, number_of}

@@ -5,7 +5,7 @@ use Rattle.integer_algebra.proofs.Decisions.{both_or_not, equal_or_not}
 use Rattle.plane.proofs.Points.{whole_is_point}
 use Rattle.plane.proofs.Segments.{on_first_end}
 use Rattle.plane.specs.Point.{IsSame, Point, Triple, whole}
-use Rattle.rings.proofs.Vertices.{meet_swapped, edge_at, edge_number, has_edge_at, vertex_round}
+use Rattle.rings.proofs.Vertices.{meet_swapped, edge_at, edge_number, has_edge_at, vertex_after_last}
 use Rattle.rings.specs.Apart.{IsApartRing, IsCommonEnd, MeetAtEnds}
 use Rattle.rings.specs.Edge.{Edge, HasEdge, HasEnd, edges_of}
 use Rattle.rings.specs.Ring.{IsOnEdge, vertex}
@@ -23,10 +23,6 @@ same_or_not p q =
 
 -- ---- from simple to apart
 
--- after the last vertex of a ring comes the first
-round : (ring : List Point) (j : ℕ) → j + 1 ≡ length ring → vertex ring (j + 1) ≡ vertex ring 0
-round ring j last = ap (vertex ring) last ∙ vertex_round ring (omega arith)
-
 -- x is where edge j follows edge i
 abbrev Between : List Point → ℕ → ℕ → Triple → Type 0
 Between ring i j x = (j ≡ i + 1) × IsSame x (whole (vertex ring j))
@@ -43,7 +39,7 @@ module _ (ring : List Point) (simple : IsSimple ring) (i j : ℕ) (less : i < j)
       go : (j ≡ i + 1) ⊎ (¬ (j ≡ i + 1)) → ((i ≡ 0) × (j + 1 ≡ length ring)) ⊎ (¬ ((i ≡ 0) × (j + 1 ≡ length ring))) → ⊥
       go (inl next) k = simple i j less within (inl (e ∙ ap (vertex ring) next))
       go (inr far) (inl (first, last)) =
-          simple i j less within (inr (inl (sym e ∙ ap (vertex ring) first ∙ sym (round ring j last))))
+          simple i j less within (inr (inl (sym e ∙ ap (vertex ring) first ∙ sym (vertex_after_last ring j last))))
       go (inr far) (inr not) =
           simple i j less within (inr (inr (record {
             point = whole (vertex ring i);
@@ -67,7 +63,7 @@ module _ (ring : List Point) (simple : IsSimple ring) (i j : ℕ) (less : i < j)
       go (inl (next, same)) k =
           record { end = vertex ring j; of_first = inr (ap (vertex ring) (sym next)); of_second = inl refl; same = same }
       go (inr n) (inl ((first, last), same)) =
-          record { end = vertex ring 0; of_first = inl (ap (vertex ring) first); of_second = inr (round ring j last); same = same }
+          record { end = vertex ring 0; of_first = inl (ap (vertex ring) first); of_second = inr (vertex_after_last ring j last); same = same }
       go (inr n) (inr m) = absurd (simple i j less within (inr (inr (record {
         point = x;
         rational = at;
@@ -98,7 +94,7 @@ module _ (ring : List Point) (apart : IsApartRing ring) where
   -- the vertex after a vertex is another
   next_differs : (k : ℕ) → 1 < length ring → k < length ring → ¬ (vertex ring k ≡ vertex ring (k + 1))
   next_differs k some within e = elim (cases_eq (k + 1) (length ring)) [
-    | inl last ↦ apart.distinct 0 k (omega arith) within (sym (e ∙ round ring k last))
+    | inl last ↦ apart.distinct 0 k (omega arith) within (sym (e ∙ vertex_after_last ring k last))
     | inr not ↦ apart.distinct k (k + 1) (omega arith) (omega arith) e
   ]
 
@@ -116,12 +112,12 @@ module _ (ring : List Point) (apart : IsApartRing ring) where
       go (inr e) (inl f) (inl next) first last = inl (next, at (sym f))
       go (inr e) (inl f) (inr not) first last = absurd (apart.distinct (i + 1) j (omega arith) within (e ∙ sym f))
       go (inl e) (inr f) next first (inr not) = absurd (apart.distinct i (j + 1) (omega arith) (omega arith) (e ∙ sym f))
-      go (inl e) (inr f) next (inl first) (inl last) = inr ((first, last), at (sym f ∙ round ring j last))
+      go (inl e) (inr f) next (inl first) (inl last) = inr ((first, last), at (sym f ∙ vertex_after_last ring j last))
       go (inl e) (inr f) next (inr not) (inl last) =
-          absurd (apart.distinct 0 i (omega arith) (omega arith) (sym (e ∙ sym f ∙ round ring j last)))
+          absurd (apart.distinct 0 i (omega arith) (omega arith) (sym (e ∙ sym f ∙ vertex_after_last ring j last)))
       go (inr e) (inr f) next first (inr not) = absurd (apart.distinct (i + 1) (j + 1) (omega arith) (omega arith) (e ∙ sym f))
       go (inr e) (inr f) next first (inl last) =
-          absurd (apart.distinct 0 (i + 1) (omega arith) (omega arith) (sym (e ∙ sym f ∙ round ring j last)))
+          absurd (apart.distinct 0 (i + 1) (omega arith) (omega arith) (sym (e ∙ sym f ∙ vertex_after_last ring j last)))
 
   -- so no edge has equal ends
   pub proper_edges : 1 < length ring → (e : Edge) → HasEdge (edges_of ring) e → ¬ (e.from ≡ e.to)

@@ -26,6 +26,10 @@ vertex_round ring some =
     let same : 0 % length ring ≡ 0 = mod-eq_of_lt some in
     ap (λ k. slice_index_or ring k origin) (first ∙ sym same)
 
+-- and so is the one after the last vertex
+pub vertex_after_last : (ring : List Point) (j : ℕ) → j + 1 ≡ length ring → vertex ring (j + 1) ≡ vertex ring 0
+vertex_after_last ring j last = ap (vertex ring) last ∙ vertex_round ring (omega arith)
+
 -- vertices are counted round
 pub vertex_mod : (ring : List Point) (i : ℕ) → vertex ring (i % length ring) ≡ vertex ring i
 vertex_mod ring i = ap (λ k. slice_index_or ring k origin) (mod-mod i (length ring))

@@ -9,11 +9,12 @@ loop-first-init g c = (odd_start c.args.ring.now.corners c.args.p.now, omega ari
 pub loop-first-preserved : goal.loop-first-preserved
 loop-first-preserved g c =
     let (before, _, steps) = c.loop-first.invariant in
+    let levels = c.of-levels.ensures in
     let to_end = c.odd_to-end.ensures in
     elim c.match-odd.branch [
       | in-Some w ↦
           let over = rw w.in-Some.is at to_end.odd in (
-            rw w.odd-is (over c.args.p.now c.requires.levels c.requires.rational c.loop-first.is_odd before),
+            rw w.odd-is (over c.args.p.now levels.levels levels.rational c.loop-first.is_odd before),
             to_end.within,
             omega (arith, steps, w.steps-is, to_end.later, to_end.steps),
           )

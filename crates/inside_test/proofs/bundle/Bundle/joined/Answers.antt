@@ -16,13 +16,13 @@ returns c =
     record {
       first = record {
         box = c.joined.ensures.first;
-        tilted = c.joined-2.ensures.first;
+        tilted = c.joined-tilted.ensures.first;
         low = omega (arith, ints, low, one_low, c.in_order.ensures.high_first);
         high = omega (arith, ints, high, one_high, c.in_order-2.ensures.low_first);
       };
       second = record {
         box = c.joined.ensures.second;
-        tilted = c.joined-2.ensures.second;
+        tilted = c.joined-tilted.ensures.second;
         low = omega (arith, ints, low, other_low, c.in_order.ensures.high_second);
         high = omega (arith, ints, high, other_high, c.in_order-2.ensures.low_second);
       };

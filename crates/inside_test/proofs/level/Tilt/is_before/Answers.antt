@@ -1,17 +1,24 @@
-use Rattle.std.proofs.Common.{inl, inr, ◌+ℤ◌, ◌-ℤ◌}
+use Rattle.std.proofs.Common.{◌≡◌, inl, inr, ◌+ℤ◌, ◌-ℤ◌, ◌*ℤ◌, ◌<ℤ◌, rules}
+use Rattle.std.specs.Prelude.{FitsSigned}
+use mir.Syntax.{w128}
 use Rattle.exact_plane.proofs.Registers.{short_is}
-use Rattle.inside_test.proofs.Heights.{near_difference, near_sum}
+use Rattle.inside_test.proofs.Heights.{less_read, long_fits, weighed_above}
 use Rattle.inside_test.proofs.level.Tilt.is_before.Goals as goal
 
-pub returns-then-is_below_from : goal.returns-then-is_below_from
-returns-then-is_below_from c = λ all p tilt.
+pub returns-then-self-weighed : goal.returns-then-self-weighed
+returns-then-self-weighed c = λ all p tilt.
+    let s = c.args.self.now in
     let t = c.args.tilted.now in
-    inl (λ v limits within.
-    c.is_below_from.ensures all (p.X +ℤ p.Y) p.W (v.x +ℤ v.y) tilt.sum (near_sum v.x v.y limits.x_in_limit limits.y_in_limit) (rw (short_is t.west t.west_fits) within.west))
+    let fits : FitsSigned w128 c.weighed.result = search rules in
+    let is : c.weighed.result ≡ t.west *ℤ p.W = rw (short_is t.west t.west_fits, tilt.weight) at c.weighed.ensures in
+    let less : (p.X +ℤ p.Y) <ℤ (t.west *ℤ p.W) = rw (is, tilt.sum) at (less_read s.sum c.weighed.result (long_fits s.sum tilt.sum_small) fits all) in
+    inl (λ v limits within. weighed_above (v.x +ℤ v.y) t.west p.W (p.X +ℤ p.Y) tilt.positive within.west less)
 
-pub returns-else-is_below_from : goal.returns-else-is_below_from
-returns-else-is_below_from c = λ all p tilt.
+pub returns-else-self-weighed : goal.returns-else-self-weighed
+returns-else-self-weighed c = λ all p tilt.
+    let s = c.args.self.now in
     let t = c.args.tilted.now in
-    inr (λ v limits within.
-    c.is_below_from-else-is_below_from.ensures all (p.X -ℤ p.Y) p.W (v.x -ℤ v.y) tilt.difference (near_difference v.x v.y limits.x_in_limit limits.y_in_limit)
-    (rw (short_is t.south t.south_fits) within.south))
+    let fits : FitsSigned w128 c.weighed-else-self-weighed.result = search rules in
+    let is : c.weighed-else-self-weighed.result ≡ t.south *ℤ p.W = rw (short_is t.south t.south_fits, tilt.weight) at c.weighed-else-self-weighed.ensures in
+    let less : (p.X -ℤ p.Y) <ℤ (t.south *ℤ p.W) = rw (is, tilt.difference) at (less_read s.difference c.weighed-else-self-weighed.result (long_fits s.difference tilt.difference_small) fits all) in
+    inr (λ v limits within. weighed_above (v.x -ℤ v.y) t.south p.W (p.X -ℤ p.Y) tilt.positive within.south less)

@@ -1,17 +1,24 @@
-use Rattle.std.proofs.Common.{inl, inr, ◌+ℤ◌, ◌-ℤ◌}
+use Rattle.std.proofs.Common.{◌≡◌, inl, inr, ◌+ℤ◌, ◌-ℤ◌, ◌*ℤ◌, ◌<ℤ◌, rules}
+use Rattle.std.specs.Prelude.{FitsSigned}
+use mir.Syntax.{w128}
 use Rattle.exact_plane.proofs.Registers.{short_is}
-use Rattle.inside_test.proofs.Heights.{near_difference, near_sum}
+use Rattle.inside_test.proofs.Heights.{less_read, long_fits, weighed_below}
 use Rattle.inside_test.proofs.level.Tilt.is_past.Goals as goal
 
-pub returns-then-is_above_to : goal.returns-then-is_above_to
-returns-then-is_above_to c = λ all p tilt.
+pub returns-then-weighed-self : goal.returns-then-weighed-self
+returns-then-weighed-self c = λ all p tilt.
+    let s = c.args.self.now in
     let t = c.args.tilted.now in
-    inl (λ v limits within.
-    c.is_above_to.ensures all (p.X +ℤ p.Y) p.W (v.x +ℤ v.y) tilt.sum (near_sum v.x v.y limits.x_in_limit limits.y_in_limit) (rw (short_is t.east t.east_fits) within.east))
+    let fits : FitsSigned w128 c.weighed.result = search rules in
+    let is : c.weighed.result ≡ t.east *ℤ p.W = rw (short_is t.east t.east_fits, tilt.weight) at c.weighed.ensures in
+    let less : (t.east *ℤ p.W) <ℤ (p.X +ℤ p.Y) = rw (is, tilt.sum) at (less_read c.weighed.result s.sum fits (long_fits s.sum tilt.sum_small) all) in
+    inl (λ v limits within. weighed_below (v.x +ℤ v.y) t.east p.W (p.X +ℤ p.Y) tilt.positive within.east less)
 
-pub returns-else-is_above_to : goal.returns-else-is_above_to
-returns-else-is_above_to c = λ all p tilt.
+pub returns-else-weighed-self : goal.returns-else-weighed-self
+returns-else-weighed-self c = λ all p tilt.
+    let s = c.args.self.now in
     let t = c.args.tilted.now in
-    inr (λ v limits within.
-    c.is_above_to-else-is_above_to.ensures all (p.X -ℤ p.Y) p.W (v.x -ℤ v.y) tilt.difference (near_difference v.x v.y limits.x_in_limit limits.y_in_limit)
-    (rw (short_is t.north t.north_fits) within.north))
+    let fits : FitsSigned w128 c.weighed-else-weighed-self.result = search rules in
+    let is : c.weighed-else-weighed-self.result ≡ t.north *ℤ p.W = rw (short_is t.north t.north_fits, tilt.weight) at c.weighed-else-weighed-self.ensures in
+    let less : (t.north *ℤ p.W) <ℤ (p.X -ℤ p.Y) = rw (is, tilt.difference) at (less_read c.weighed-else-weighed-self.result s.difference fits (long_fits s.difference tilt.difference_small) all) in
+    inr (λ v limits within. weighed_below (v.x -ℤ v.y) t.north p.W (p.X -ℤ p.Y) tilt.positive within.north less)
