@@ -43,6 +43,10 @@ abbrev pub HasNoCandidateAt : Corner → List Point → List ℕ → ℕ → Typ
 HasNoCandidateAt corner corners numbers k =
     ¬ (slice_index_or numbers k 0 ≡ corner.tri.b) → ¬ (IsCandidate corner (slice_index_or numbers k 0) (vertex corners (slice_index_or numbers k 0)))
 
+-- no vertex is a candidate but the one at the corner, if that is
+abbrev pub HasNoCandidate : Corner → List Point → Type 0
+HasNoCandidate corner corners = (i : ℕ) → i < length corners → ¬ (i ≡ corner.tri.b) → ¬ (IsCandidate corner i (vertex corners i))
+
 -- the first is higher, or as high with a lesser number
 abbrev pub IsFarther : Candidate → Candidate → Type 0
 IsFarther c d = (d.height <ℤ c.height) ⊎ ((c.height ≡ d.height) × (c.number < d.number))

@@ -14,17 +14,18 @@ use std::sync::ledger::Ledger;
 const LEAST: usize = 8;
 
 // The vertices at the places from `first` to before `end` of a list, which are all in the box. Its parts are the clusters from the
-// place `start` to before its own.
+// place `start` to before `own`, which is its own.
 #[derive(Clone, Copy)]
 pub(crate) struct Cluster {
     pub first: usize,
     pub end: usize,
     pub start: usize,
+    pub own: usize,
     pub bounds: BoundingBox,
 }
 
-// All vertices in Z-order, and clusters of them that make a tree. Each has the vertices in a cell: those whose codes begin with the
-// same bits, so that it is a square or two side by side.
+// All vertices in Z-order, and clusters of them that make a tree. Each has the vertices in a square, and its parts those in the
+// quarters; one without parts has those in a square or in half of one.
 #[derive(Drop)]
 pub(crate) struct Clusters {
     pub numbers: Vec<u32>,
@@ -101,12 +102,17 @@ fn change(keys: &[Key], place: usize, other: usize) -> u64 {
     }
 }
 
-// Joins the last clusters as long as there is a cell that has both alone: at most once for each bit of a code.
+// How small the least square is that has both the vertex at a place and the one before, or 0 where there is none.
+fn smallness(keys: &[Key], place: usize) -> u32 {
+    change(keys, place.wrapping_sub(1), place).leading_zeros() / 2
+}
+
+// Joins the last clusters as long as there is a square that has just them: at most once for each two bits of a code.
 fn join_last(clusters: &mut Vec<Cluster>, keys: &[Key]) -> Result<(), Memory>
     ensures { OnOk result ((corners : List Point) (numbers : List ℕ) → All (IsCluster corners numbers) clusters.old.items
         → All (IsCluster corners numbers) clusters.new.items) }
 {
-    for _ in 0..48 {
+    for _ in 0..24 {
         match last_joined(clusters, keys) {
             Some(cluster) => clusters.push(cluster)?,
             None => return Ok(()),
@@ -115,7 +121,7 @@ fn join_last(clusters: &mut Vec<Cluster>, keys: &[Key]) -> Result<(), Memory>
     Ok(())
 }
 
-// The last cluster joined with the one before its parts, if there is a cell that has both alone.
+// The last cluster joined with those before its parts that are in the least greater square, if it is the last there.
 fn last_joined(clusters: &[Cluster], keys: &[Key]) -> Option<Cluster>
     ensures { (corners : List Point) (numbers : List ℕ) → All (IsCluster corners numbers) clusters.now
         → IfSome result (IsCluster corners numbers) }
@@ -124,17 +130,23 @@ fn last_joined(clusters: &[Cluster], keys: &[Key]) -> Option<Cluster>
     if count == 0 {
         return None;
     }
-    let last = &clusters[count - 1];
-    let before = change(keys, last.first.wrapping_sub(1), last.first);
-    if change(keys, last.end.wrapping_sub(1), last.end) <= before {
+    let mut joined = clusters[count - 1];
+    let square = smallness(keys, joined.first);
+    if square <= smallness(keys, joined.end) {
         return None;
     }
-    let place = last.start.wrapping_sub(1);
-    if count <= place {
-        return None;
+    joined.own = count;
+    for _ in 0..3 {
+        let place = joined.start.wrapping_sub(1);
+        if count <= place {
+            return None;
+        }
+        joined = clusters[place].joined(&joined);
+        if smallness(keys, joined.first) < square {
+            break;
+        }
     }
-    let other = &clusters[place];
-    Some(other.joined(last))
+    Some(joined)
 }
 
 impl Cluster {
@@ -162,11 +174,12 @@ impl Cluster {
             first,
             end,
             start,
+            own: start,
             bounds,
         }
     }
 
-    // This cluster and the next, or this one alone where the other does not follow it.
+    // This cluster and the next in the place of that, or this one alone where the other does not follow it.
     fn joined(&self, next: &Cluster) -> Cluster
         ensures { (corners : List Point) (numbers : List ℕ) → IsCluster corners numbers self.now → IsCluster corners numbers next.now
             → IsCluster corners numbers result }
@@ -178,6 +191,7 @@ impl Cluster {
             first: self.first,
             end: next.end,
             start: self.start,
+            own: next.own,
             bounds: self.bounds.joined(&next.bounds),
         }
     }

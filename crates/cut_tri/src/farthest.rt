@@ -7,7 +7,7 @@ ghost use Rattle.plane.specs.Turn.{IsLeft};
 ghost use Rattle.rings.specs.Ring.{vertex};
 ghost use Rattle.cut_tri.specs.Clusters.{AreClusters, IsBounded, IsCluster};
 ghost use Rattle.cut_tri.specs.Cut.{IsPlaceInCorner};
-ghost use Rattle.cut_tri.specs.Corner.{HasNoCandidateAt, IsBest, IsCandidate, IsCornerAt, IsFarther, IsFartherOf, IsMeasured, best_height};
+ghost use Rattle.cut_tri.specs.Corner.{HasNoCandidate, HasNoCandidateAt, IsBest, IsCandidate, IsCornerAt, IsFarther, IsFartherOf, IsMeasured, best_height};
 ghost use Rattle.cut_tri.specs.Ordered.{IsFarthestNumber, IsOrderedFromLeast};
 ghost use Rattle.cut_tri.specs.Piece.{tri_at_first};
 
@@ -228,8 +228,7 @@ impl Corner {
     ) -> bool
         requires counterclockwise { IsLeft (whole self.now.u) (whole self.now.v) (whole self.now.w) }
         requires clusters { IfSome clusters.old (AreClusters ring.now.corners) }
-        ensures empty { IsTrue result → (i : ℕ) → i < length ring.now.corners → ¬ (i ≡ self.now.tri.b)
-            → ¬ (IsCandidate self.now i (vertex ring.now.corners i)) }
+        ensures empty { IsTrue result → HasNoCandidate self.now ring.now.corners }
         ensures clusters { IfSome clusters.new (AreClusters ring.now.corners) }
         ensures near { IsTrue result → rank ≡ 32 }
         ensures before { rank < 32 → steps.new ≡ steps.old }
@@ -253,8 +252,7 @@ impl Corner {
     ) -> bool
         requires counterclockwise { IsLeft (whole self.now.u) (whole self.now.v) (whole self.now.w) }
         requires clusters { IfSome clusters.old (AreClusters ring.now.corners) }
-        ensures empty { IsTrue result → (i : ℕ) → i < length ring.now.corners → ¬ (i ≡ self.now.tri.b)
-            → ¬ (IsCandidate self.now i (vertex ring.now.corners i)) }
+        ensures empty { IsTrue result → HasNoCandidate self.now ring.now.corners }
         ensures clusters { IfSome clusters.new (AreClusters ring.now.corners) }
         ensures steps { steps.new ≤ steps.old + (371 * length ring.now.corners + 1168) }
     {
@@ -275,8 +273,7 @@ impl Corner {
     ) -> bool
         requires counterclockwise { IsLeft (whole self.now.u) (whole self.now.v) (whole self.now.w) }
         requires clusters { AreClusters ring.now.corners clusters.now }
-        ensures empty { IsTrue result → (i : ℕ) → i < length ring.now.corners → ¬ (i ≡ self.now.tri.b)
-            → ¬ (IsCandidate self.now i (vertex ring.now.corners i)) }
+        ensures empty { IsTrue result → HasNoCandidate self.now ring.now.corners }
         ensures steps { steps.new ≤ steps.old + (64 * length ring.now.corners + 768) }
     {
         let triangle = Triangle::of(&self.u, &self.v, &self.w, steps);
@@ -286,7 +283,8 @@ impl Corner {
             k -= 1;
             let cluster = &clusters.clusters[k];
             let misses = triangle.misses(&cluster.bounds);
-            if !misses && cluster.start < k {
+            if !misses && cluster.start < cluster.own {
+                k = cluster.own.min(k);
                 continue;
             }
             if cluster.end != place {

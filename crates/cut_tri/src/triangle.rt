@@ -54,16 +54,13 @@ impl Triangle {
         }
     }
 
-    // Whether its box is apart from another, or one of its sides has that on its right.
+    // Whether its box is apart from another, or one of its sides at v has that on its right. The third side would tell hardly more.
     pub(crate) fn misses(&self, other: &BoundingBox) -> bool
         requires counterclockwise { IsLeft (whole self.now.u) (whole self.now.v) (whole self.now.w) }
         requires bounded { IsBounded self.now }
         ensures apart { IsTrue result → (p : Point) → Encloses other.now p → ¬ (IsInTriangle self.now.u self.now.v self.now.w (whole p)) }
     {
         if !self.bounds.overlaps(other) {
-            return true;
-        }
-        if self.across.is_left_of(other) {
             return true;
         }
         self.first.is_left_of(other) || self.second.is_left_of(other)
