@@ -1,11 +1,10 @@
 // Lists of points in an L, and whether they are taut.
 ghost use Rattle.std.specs.Prelude.{◌≡◌, ◌<◌};
 
-use crate::reading::ring_of;
+use crate::reading::{points_of, ring_of, row_of};
 use exact_plane::{Pt, Steps};
 use geo_gen::{comb, comb_goal, comb_start};
 use plane::MAX_CHAIN;
-use plane_tests::rows::{points_of, row_of};
 use ring_check::Ring;
 use std::alloc::Global;
 use std::marker::Brand;

@@ -1,9 +1,9 @@
 // The vertices of combs, and the ends of the path that is asked for.
 ghost use Rattle.std.specs.Prelude.{◌≡◌, ◌<◌};
 
+use crate::reading::{point_of, points_of, row_of};
 use exact_plane::Steps;
 use geo_gen::{MAX_TEETH, comb, comb_goal, comb_start};
-use plane_tests::rows::{point_of, points_of, row_of};
 use std::alloc::Global;
 use std::marker::Brand;
 use std::process::Abort;

@@ -1,10 +1,8 @@
 // The kernels of polygons.
 ghost use Rattle.std.specs.Prelude.{◌≡◌, ◌<◌};
 
-use crate::reading::ring_of;
+use crate::reading::{is_same, ring_of, row_of};
 use exact_plane::{Hom, Steps};
-use plane_tests::reading::is_same;
-use plane_tests::rows::row_of;
 use star_kernel::kernel;
 use std::alloc::Global;
 use std::marker::Brand;

@@ -1,10 +1,9 @@
 // Lists of points, accepted as a ring or refused.
 ghost use Rattle.std.specs.Prelude.{◌≡◌, ◌<◌};
 
-use crate::reading::ring_of;
+use crate::reading::{point_of, points_of, ring_of, row_of};
 use exact_plane::{Pt, Steps};
 use plane::MAX_CORNERS;
-use plane_tests::rows::{point_of, points_of, row_of};
 use ring_check::{Ring, RingFault, sweep_finds_none};
 use std::alloc::Global;
 use std::marker::Brand;

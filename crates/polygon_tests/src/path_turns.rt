@@ -1,8 +1,8 @@
 // How two lists of points turn against each other.
 ghost use Rattle.std.specs.Prelude.{◌≡◌, ◌<◌};
 
+use crate::reading::{points_of, row_of};
 use exact_plane::{Direction, Pt, Steps, order};
-use plane_tests::rows::{points_of, row_of};
 use rel_hull::path_turn;
 use std::alloc::Global;
 use std::cmp::Ordering;

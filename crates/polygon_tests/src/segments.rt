@@ -1,10 +1,9 @@
 // Whether a ring holds a segment.
 ghost use Rattle.std.specs.Prelude.{◌≡◌, ◌<◌};
 
-use crate::reading::ring_of;
+use crate::reading::{point_of, ring_of, row_of};
 use exact_plane::Steps;
 use inside_test::holds_segment;
-use plane_tests::rows::{point_of, row_of};
 use ring_check::Ring;
 use std::alloc::Global;
 use std::marker::Brand;

@@ -1,9 +1,14 @@
 // Runs over scripts in memory, and how a table of scripts with their answers is asked.
+ghost use Rattle.std.specs.Prelude.{◌≤◌};
+
 use exact_plane::Memory;
 use geo_io::{MemorySink, MemorySource};
 use geo_run::{RunFault, geo_main};
 use std::alloc::Global;
 use std::process::Abort;
+
+// The number of a call that fails (none does at 0), and how many bytes a call moves at most.
+pub(crate) type Tear = (u64, usize);
 
 // What a run answered, what the sink took, and how much the source has left.
 #[derive(Drop)]
@@ -13,16 +18,32 @@ pub(crate) struct Outcome {
     pub(crate) left: usize,
 }
 
-// A run over the script, in pieces of a few bytes, with a sink of some room.
-pub(crate) fn run(alloc: Global, script: &[u8], room: usize) -> Result<Outcome, Memory> {
-    let mut source = MemorySource::new(Vec::from_slice(alloc, script)?, 7, Vec::new(alloc));
-    let mut sink = MemorySink::with_room(alloc, room, 5, Vec::new(alloc))?;
+// A run over the script, with a sink of some room.
+pub(crate) fn torn(
+    alloc: Global,
+    script: &[u8],
+    read: Tear,
+    room: usize,
+    write: Tear,
+) -> Result<Outcome, Memory>
+    requires read { 1 ≤ read.1 }
+    requires write { 1 ≤ write.1 }
+{
+    let failing = Vec::from_slice(alloc, &[read.0])?;
+    let mut source = MemorySource::new(Vec::from_slice(alloc, script)?, read.1, failing);
+    let failing = Vec::from_slice(alloc, &[write.0])?;
+    let mut sink = MemorySink::with_room(alloc, room, write.1, failing)?;
     let answer = geo_main(alloc, &[], &mut source, &mut sink);
     Ok(Outcome {
         answer,
         taken: Vec::from_slice(alloc, sink.taken())?,
         left: source.left().len(),
     })
+}
+
+// A run over the script in which no call fails, in pieces of a few bytes, with a sink of some room.
+pub(crate) fn run(alloc: Global, script: &[u8], room: usize) -> Result<Outcome, Memory> {
+    torn(alloc, script, (0, 7), room, (0, 5))
 }
 
 // Whether the run over the script meets no fault, reads all and writes these answers.

@@ -1,2 +1,0 @@
-mod KnownPieces
-pub mod KnownRows

@@ -1,8 +1,0 @@
-use Rattle.mesh_tests.proofs.KnownRows.{l_in_a_row, triangle}
-use Rattle.mesh_tests.proofs.triangles.all_meshes.Goals as goal
-
-pub mesh_of-requires-clause-suit : goal.mesh_of-requires-clause-suit
-mesh_of-requires-clause-suit g c = triangle
-
-pub mesh_of-requires-2-clause-suit : goal.mesh_of-requires-2-clause-suit
-mesh_of-requires-2-clause-suit g c = l_in_a_row

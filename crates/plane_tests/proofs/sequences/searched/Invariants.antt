@@ -1,4 +1,0 @@
-use Rattle.plane_tests.proofs.sequences.searched.Given as goal
-
-abbrev pub decreases-loop-halves : goal.decreases-loop-halves
-decreases-loop-halves g l = l.search.levels

@@ -1,4 +1,0 @@
-use Rattle.run_tests.proofs.faults.asked_again.Given as goal
-
-abbrev pub ghosts-ask_all : goal.ghosts-ask_all
-ghosts-ask_all g a = record { name = a.blank.name; parts = a.blank.parts }

@@ -1,0 +1,292 @@
+// Whole runs over torn streams: each call of the source and of the sink fails in turn, and each room is too small in turn.
+ghost use Rattle.std.specs.Prelude.{◌≡◌, ◌<◌, ◌≤◌};
+
+use crate::runs::{Tear, torn};
+use exact_plane::{Memory, Steps};
+use geo_io::{SureSink, SureSource};
+use geo_run::{RunFault, geo_main, sure_sink_main, sure_source_main};
+use geo_script::answer_next;
+use geo_session::Session;
+use geo_text::Script;
+use std::alloc::{AllocError, Global};
+use std::marker::Brand;
+use std::process::Abort;
+use std::sync::ledger::{Blank, Ledger};
+use std::test::Fail;
+
+const SCRIPT: &[u8] = b"polygon,0,0,4,0,4,2,2,2,2,4,0,4\npath,4,1,1,4\n";
+
+const ANSWERS: &[u8] = b"polygon,6\npath,3,4,1,2,2,1,4\n";
+
+// How a run over the script ends: the answer, how many bytes of the output were written, and how many were not read.
+type Ends = (Result<(), RunFault>, usize, usize);
+
+// Whether a run over the script, with a sink of some room, ends so.
+fn ends(alloc: Global, read: Tear, room: usize, write: Tear, want: Ends) -> Result<bool, Memory>
+    requires read { 1 ≤ read.1 }
+    requires write { 1 ≤ write.1 }
+{
+    let ended = torn(alloc, SCRIPT, read, room, write)?;
+    Ok(
+        ended.answer == want.0
+            && ended.left == want.2
+            && Some(ended.taken.as_slice()) == ANSWERS.get(..want.1),
+    )
+}
+
+// The second read fails, and the third write of another script.
+#[test]
+fn a_read_and_a_write_fail(rt: HostRuntime) -> Result<(), Fail> {
+    let ended = torn(rt.alloc(), b"polygon,0,0", (2, 11), 100, (0, 10))?;
+    assert!(rt; ended.answer == Err(RunFault::ReadFault) && ended.left == 0);
+    assert!(rt; ended.taken.is_empty());
+    let script = b"polygon,0,0,4,0,4,2,2,2,2,4,0,4\npath,4,1,1,4\n";
+    let ended = torn(rt.alloc(), script, (0, 11), 100, (3, 10))?;
+    assert!(rt; ended.answer == Err(RunFault::WriteFault) && ended.left == 0);
+    assert!(rt; ended.taken.as_slice() == b"polygon,6\npath,3,4,1".as_slice());
+    Ok(())
+}
+
+#[test]
+fn each_read_fails_in_turn(rt: HostRuntime) -> Result<(), Fail> {
+    for call in 1..47 {
+        let want = (Err(RunFault::ReadFault), 0, 46 - call as usize);
+        assert!(rt;
+            ends(rt.alloc(), (call, 1), 100, (0, 10), want)?,
+            "read {call}"
+        );
+    }
+    Ok(())
+}
+
+#[test]
+fn each_write_fails_in_turn(rt: HostRuntime) -> Result<(), Fail> {
+    for call in 1..30 {
+        let want = (Err(RunFault::WriteFault), call as usize - 1, 0);
+        assert!(rt;
+            ends(rt.alloc(), (0, 10), 100, (call, 1), want)?,
+            "write {call}"
+        );
+    }
+    Ok(())
+}
+
+#[test]
+fn each_room_is_too_small_in_turn(rt: HostRuntime) -> Result<(), Fail> {
+    for room in 0..29 {
+        let want = (Err(RunFault::WriteFault), room, 0);
+        assert!(rt;
+            ends(rt.alloc(), (0, 10), room, (0, 10), want)?,
+            "room {room}"
+        );
+    }
+    Ok(())
+}
+
+#[test]
+fn faults_that_do_not_come(rt: HostRuntime) -> Result<(), Fail> {
+    let whole = (Ok(()), 29, 0);
+    assert!(rt;
+        ends(rt.alloc(), (0, 1), 100, (0, 10), whole)?,
+        "no read fails"
+    );
+    assert!(rt;
+        ends(rt.alloc(), (47, 1), 100, (0, 10), whole)?,
+        "a read after the last"
+    );
+    assert!(rt;
+        ends(rt.alloc(), (0, 10), 29, (0, 10), whole)?,
+        "just room enough"
+    );
+    assert!(rt;
+        ends(rt.alloc(), (0, 10), 100, (30, 1), whole)?,
+        "a write after the last"
+    );
+    Ok(())
+}
+
+#[test]
+fn the_limit_of_a_script(rt: HostRuntime) -> Result<(), Fail> {
+    let rows = [
+        (8_388_608, (0, 1 << 20), Ok(()), 0),
+        (8_388_609, (0, 1 << 20), Err(RunFault::TooLong), 0),
+        (
+            8_388_609,
+            (1, 8_388_609),
+            Err(RunFault::ReadFault),
+            8_388_609,
+        ),
+    ];
+    for (count, read, answer, left) in rows {
+        let script = vec![in rt.alloc(); b'\n'; count]?;
+        assert!(rt; read.1 >= 1);
+        let ended = torn(rt.alloc(), &script, read, 8, (0, 8))?;
+        assert!(rt;
+            ended.answer == answer && ended.taken.is_empty() && ended.left == left,
+            "{count} line feeds"
+        );
+    }
+    Ok(())
+}
+
+#[test]
+fn no_fault_over_a_sure_source_and_sink(rt: HostRuntime) -> Result<(), Fail> {
+    let alloc = rt.alloc();
+    assert!(rt; geo_main(alloc, &[], &mut sure(alloc)?, &mut SureSink::new()).is_ok());
+    assert!(rt; sure_source_main(alloc, &[], &mut sure(alloc)?, &mut SureSink::new()).is_ok());
+    assert!(rt; sure_sink_main(alloc, &[], &mut sure(alloc)?, &mut SureSink::new()).is_ok());
+    Ok(())
+}
+
+fn sure(alloc: Global) -> Result<SureSource, AllocError> {
+    Ok(SureSource::new(Vec::from_slice(alloc, SCRIPT)?))
+}
+
+// Records, each with its answer: a line `# RECORD`, the answer, and an empty line before the next.
+#[rattlefmt::skip]
+const ASKED: &str = "
+# polygon,0,0,9000,0,9000,4000,5000,4000,5000,4200,9000,4200,9000,8000,0,8000,0,4200,3000,4200,3000,4000,0,4000
+polygon,12
+
+# path,8000,1000,8000,7000
+path,4,8000,1000,5000,4000,5000,4200,8000,7000
+
+# check,8000,1000,5000,4000,5000,4200,8000,7000
+taut
+
+# inside,7000,4100
+outside
+
+# polygon,0,0,4,4,4,0,0,4
+bad,clash,0,2
+
+# kernel
+kernel,0
+
+# guards
+guards,3,1,4,7
+
+# polygon,0,0,5,0,5,2,3,2,3,5,0,5
+polygon,6
+
+# see,5,1
+see,5
+part,0,0,0,5,0
+part,1,5,0,5,2
+part,2,5,2,3,2
+part,3,3,2,3,2
+part,5,0,7/2,0,0
+
+# frob,1
+bad,word
+
+# hull,1,1,4,1,1,4
+hull,3
+side,0,1,2,1,1,4,1
+side,1,2,2,4,1,1,4
+side,2,0,2,1,4,1,1
+
+# round,1,1,4,1,1,4
+round,3,0,1,2
+
+# polygon,0,0,4,0,4,2,2,2,2,4,0,4
+polygon,6
+
+# tree,4,1
+tree,6
+from,0,s
+from,1,s
+from,2,s
+from,3,s
+from,4,3
+from,5,3
+
+# tree,3,3
+bad,outside,1
+
+# reach,1,4
+path,3,4,1,2,2,1,4
+
+# polygon,0,0,4,0,4,2,2,2,2,4,0,4
+polygon,6
+
+# reach,1,4
+bad,no_tree
+
+# pair,2,4
+path,3,4,2,2,2,2,4
+
+# sights
+sights,12
+sight,0,1
+sight,0,2
+sight,0,3
+sight,0,4
+sight,0,5
+sight,1,2
+sight,1,3
+sight,1,5
+sight,2,3
+sight,3,4
+sight,3,5
+sight,4,5
+
+# polygon,0,0,0,4,4,0
+polygon,3
+
+# sights
+sights,3
+sight,0,1
+sight,0,2
+sight,1,2
+";
+
+// Where memory is refused, a session can be asked again. None is refused here: `checks/memory` refuses each allocation of
+// this test in turn.
+#[test]
+fn asked_again(rt: HostRuntime) -> Result<(), Fail> {
+    assert!(rt; ASKED.split("\n# ").skip(1).count() == 22);
+    ask_all::<Brand>(&rt, rt.alloc(), Blank::new(1))?;
+    Ok(())
+}
+
+// With a counter over a ledger that nobody else counts in.
+fn ask_all<N: Ledger>(rt: &impl Abort, alloc: Global, blank: Blank) -> Result<(), Memory>
+    requires name { blank.name ≡ N.name }
+    requires parts { blank.parts ≡ N.parts }
+    requires countable { 0 < blank.parts }
+{
+    let mut steps = Steps::<N>::new(blank);
+    let mut session = Session::new();
+    ask_each(rt, alloc, &mut session, &mut steps)
+}
+
+fn ask_each<N: Ledger>(
+    rt: &impl Abort,
+    alloc: Global,
+    session: &mut Session,
+    steps: &mut Steps<N>,
+) -> Result<(), Memory> {
+    for row in ASKED.split("\n# ").skip(1) {
+        let (record, want) = row.split_once("\n").unwrap_or((row, "no answer"));
+        let mut out = Vec::new(alloc);
+        if ask(alloc, session, record, &mut out, steps).is_err() {
+            assert!(rt; out.is_empty(), "{record}");
+            ask(alloc, session, record, &mut out, steps)?;
+        }
+        assert!(rt; out.as_slice() == want.as_bytes(), "{record}");
+    }
+    Ok(())
+}
+
+fn ask<N: Ledger>(
+    alloc: Global,
+    session: &mut Session,
+    record: &str,
+    out: &mut Vec<u8>,
+    steps: &mut Steps<N>,
+) -> Result<(), Memory> {
+    let mut script = Script::open(alloc, record.as_bytes());
+    answer_next(alloc, &mut script, session, out, steps)?;
+    Ok(())
+}
