@@ -1,7 +1,7 @@
 -- The numbers of edges in a list after one is put in, or takes the place of another.
 use Rattle.std.proofs.Common.{◌≡◌, ap, ℕ, ◌+◌, ◌<◌, List, ◌∷◌, length, set, take, drop, arith}
 use Rattle.std.proofs.lemmas.List.Elements.{All-append, All-cons, All-drop, All-set, All-take}
-use Rattle.std.proofs.lemmas.List.Sums.{sum_by-insert, sum_by-set}
+use Rattle.std.proofs.lemmas.List.Sums.{sum_by-set}
 use Rattle.std.specs.List.{All, insert}
 use Rattle.std.specs.Prelude.{slice_index}
 use Rattle.rings.specs.Status.{one, times}
@@ -23,8 +23,5 @@ module _ {n m : ℕ} (size : n ≡ m) (xs : List ℕ) (edges : AreBelow n xs) wh
   edges_replaced i e edge = All-set (λ k. k < m) xs i e edge edges_as
 
 -- how often a number is there
-pub times_inserted : (xs : List ℕ) (i e x : ℕ) → times x (insert xs i e) ≡ times x xs + one x e
-times_inserted xs i e x = sum_by-insert (one x) xs i e
-
 pub times_replaced : (xs : List ℕ) (i e f x : ℕ) → i < length xs → slice_index xs i ≡ e → times x (set xs i f) + one x e ≡ times x xs + one x f
 times_replaced xs i e f x within is = omega (arith, sum_by-set (one x) xs i f 0 within, ap (one x) is)

@@ -9,13 +9,10 @@ use Rattle.std.proofs.lemmas.List.Sums.{sum_by-remove}
 use Rattle.std.specs.List.{All, insert, remove}
 use Rattle.std.specs.Prelude.{slice_index}
 use Rattle.plane.specs.Point.{Point}
-use Rattle.ring_check.proofs.StatusEdits.{edges_inserted, times_inserted}
+use Rattle.ring_check.proofs.StatusEdits.{edges_inserted}
 use Rattle.rings.specs.Status.{FitsAt, IsEdgeBelow, IsStacked, one, times}
 
 -- ---- how often a number is there
-
-pub times_two_inserted : (xs : List ℕ) (i e f x : ℕ) → times x (insert (insert xs i f) i e) ≡ times x xs + one x e + one x f
-times_two_inserted xs i e f x = omega (arith, times_inserted (insert xs i f) i e x, times_inserted xs i f x)
 
 pub times_two_removed : (xs : List ℕ) (i e f x : ℕ) → i + 1 < length xs → slice_index xs i ≡ e → slice_index xs (i + 1) ≡ f
     → times x (remove (remove xs i) i) + one x e + one x f ≡ times x xs

@@ -20,16 +20,6 @@ whole_is_part list part first all = record {
   place = sym first;
 }
 
--- and they end where the list ends, or before
-pub part_within : (list : List ℕ) (part : ListPart) → IsPartOf list part → part.low + length part.items ≤ length list
-part_within list part in_list = omega (
-  arith,
-  ap length in_list.is,
-  length-append in_list.front (part.items ++ in_list.back),
-  length-append part.items in_list.back,
-  in_list.place,
-)
-
 -- each at its place
 pub part_at : (list : List ℕ) (part : ListPart) (i : ℕ) → IsPartOf list part → i < length part.items
     → slice_index list (part.low + i) ≡ slice_index part.items i
@@ -50,9 +40,6 @@ module _ (part before after : ListPart) (value : ℕ) (halves : AreHalves part b
 
   module _ (list : List ℕ) (in_list : IsPartOf list part) where
     -- the value is the one of the list at the place between the halves,
-    pub middle_within : part.low + length before.items < length list
-    middle_within = omega (arith, part_within list part in_list, halves_length)
-
     in_two : list ≡ in_list.front ++ (before.items ++ value ∷ (after.items ++ in_list.back))
     in_two = in_list.is ∙ ap (λ items. in_list.front ++ (items ++ in_list.back)) halves.items
         ∙ ap (λ items. in_list.front ++ items) (append_assoc before.items (value ∷ after.items) in_list.back)
