@@ -1,5 +1,5 @@
 -- The places that wait in a search: each that was reached waits, or was gone on from.
-use Rattle.std.proofs.Common.{◌≡◌, sym, ap, subst, ◌∙◌, ℕ, zero, ◌+◌, ◌-◌, ◌<◌, ◌≤◌, ◌⊎◌, inl, inr, List, [], ◌∷◌, ◌++◌, length, length-append, arith}
+use Rattle.std.proofs.Common.{◌≡◌, sym, ap, subst, ◌∙◌, ℕ, ◌+◌, ◌-◌, ◌<◌, ◌≤◌, ◌⊎◌, inl, inr, List, [], ◌∷◌, ◌++◌, length, length-append, arith}
 use Rattle.std.proofs.lemmas.Bool.{cases_lt}
 use Rattle.std.proofs.lemmas.List.Elements.{Contains-append_cases, Contains-append_left, Contains-append_right, Contains-push, Contains-push_cases}
 use Rattle.std.proofs.lemmas.List.FromFn.{get_or-range_with_len, length-range_with_len}
@@ -51,10 +51,6 @@ module _ (tris : List Tri) (before after : List Outward) (grown : IsGrown before
         omega (arith, at.2, get_or-range_with_len (length before) (length after - length before) at.0 p below, below)
   ]
 
-  -- there are no more of them than there were places
-  pub waits_few : length (kept ++ place ∷ []) ≤ length before → length (kept ++ new) ≤ length after
-  waits_few few = omega (arith, length_waits, length-append kept (place ∷ []), few, grown.longer)
-
   -- and the search ends
   pub waits_smaller : (n : ℕ) → length before ≤ n → length after ≤ n
       → n + n + length (kept ++ new) - (length after + length after) < n + n + length (kept ++ place ∷ []) - (length before + length before)
@@ -80,6 +76,3 @@ module _ (tris : List Tri) (order : List Outward) (one : length order ≡ 1) whe
   first_waits p h =
       let is : 0 ≡ p = omega (arith, h, one) in
       inl (subst (Contains ([] ++ 0 ∷ [])) is (Contains-push [] 0))
-
-  pub first_few : length ([] ++ (zero ∷ [])) ≤ length order
-  first_few = omega (arith, one)

@@ -1,4 +1,4 @@
-ghost use Rattle.std.specs.Prelude.{◌≡◌, ◌+◌, ◌-◌, ◌<◌, ◌≤◌, ◌^◌, ◌↔◌, ◌++◌, IfOk, IsTrue, length, vec_capacity};
+ghost use Rattle.std.specs.Prelude.{◌≡◌, ◌-◌, ◌<◌, ◌≤◌, ◌^◌, ◌↔◌, ◌++◌, IfOk, IsTrue, length, vec_capacity};
 ghost use Rattle.std.specs.List.{range_with_len};
 ghost use Rattle.meshes.specs.Mesh.{side_begin, side_end};
 ghost use Rattle.meshes.specs.Side.{HasSide, HasSidesOnce, tri_at};
@@ -31,12 +31,12 @@ impl Search {
         ensures { IfOk result (λ search. IsRooted tris.now home search.order.items search.places.items) }
     {
         let mut search = Search::start(alloc, tris, home)?;
-        let mut later = Vec::with_capacity(alloc, tris.len())?;
+        let mut later = Vec::new(alloc);
         let mut next = Some(0u32);
         while let Some(place) = next {
             let first = search.order.len() as u32;
             search.expand(tris, rows, place);
-            next = newest(&mut later, first, search.order.len() as u32);
+            next = newest(&mut later, first, search.order.len() as u32)?;
         }
         Ok(search)
     }
@@ -151,17 +151,15 @@ fn side_from(tri: &Tri, from: u32, to: u32) -> u32
 }
 
 // The place to go on from: the last one from `first` to `end`, of which the others wait, or else the last that waits.
-fn newest(later: &mut Vec<u32>, first: u32, end: u32) -> Option<u32>
+fn newest(later: &mut Vec<u32>, first: u32, end: u32) -> Result<Option<u32>, Memory>
     requires order { first ≤ end }
-    requires room { length later.old.items + (end - first) ≤ vec_capacity later.old }
-    ensures waiting { waiting result later.new.items ≡ later.old.items ++ range_with_len first (end - first) }
-    ensures same_room { vec_capacity later.new ≡ vec_capacity later.old }
+    ensures waiting { IfOk result (λ next. waiting next later.new.items ≡ later.old.items ++ range_with_len first (end - first)) }
 {
     if first == end {
-        return later.pop();
+        return Ok(later.pop());
     }
     for place in first..end - 1 {
-        later.push_reserved(place);
+        later.push(place)?;
     }
-    Some(end - 1)
+    Ok(Some(end - 1))
 }

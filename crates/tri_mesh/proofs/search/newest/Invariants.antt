@@ -1,11 +1,9 @@
 use Rattle.std.proofs.Common.{◌≡◌, ◌-◌, ◌≤◌, ◌++◌}
 use Rattle.std.specs.List.{range_with_len}
-use Rattle.std.specs.Prelude.{vec_capacity}
 use Rattle.tri_mesh.proofs.search.newest.Given as goal
 
 abbrev pub invariant-loop-place : goal.invariant-loop-place
 invariant-loop-place l = record {
   low : l.first ≤ l.place;
   items : l.later.items ≡ l.initial.later.items ++ range_with_len l.first (l.place - l.first);
-  room : vec_capacity l.later ≡ vec_capacity l.initial.later;
 }

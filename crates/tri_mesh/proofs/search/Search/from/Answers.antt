@@ -1,8 +1,8 @@
-use Rattle.std.proofs.Common.{◌≡◌, sym, ap, subst, ◌∙◌, ℕ, ◌<◌, ◌≤◌, ◌⊎◌, [], ◌∷◌, ◌++◌, length, arith}
+use Rattle.std.proofs.Common.{◌≡◌, sym, ap, subst, ◌∙◌, ℕ, ◌<◌, ◌⊎◌, [], ◌∷◌, ◌++◌, length, arith}
 use Rattle.std.proofs.lemmas.List.Elements.{Contains-push}
 use Rattle.std.specs.List.{Contains}
 use Rattle.tri_mesh.proofs.AllReached.{all_reached, rooted_all}
-use Rattle.tri_mesh.proofs.Waiting.{first_few, first_inner, first_waits, none_waits, waiting_new, waits_few, waits_inner, waits_more, waits_smaller}
+use Rattle.tri_mesh.proofs.Waiting.{first_inner, first_waits, none_waits, waiting_new, waits_inner, waits_more, waits_smaller}
 use Rattle.tri_mesh.proofs.search.Search.from.Goals as goal
 use Rattle.tri_mesh.specs.Outward.{outward_at}
 use Rattle.tri_mesh.specs.Search.{IsDone, IsReached}
@@ -12,7 +12,7 @@ loop-next-init c =
     let tris = c.args.tris.now in
     let order = c.in_ok-search.search.order.items in
     let s = c.in_ok-search.ensures in
-    let none = sym c.in_ok-later.ensures.items in
+    let none = sym c.new-later.ensures.items in
     record {
       search = s.search;
       some = omega (arith, s.one);
@@ -20,9 +20,7 @@ loop-next-init c =
       inner = subst (λ xs. (p : ℕ) → Contains (xs ++ 0 ∷ []) p → p < length order) none (first_inner tris order s.one);
       left = subst (λ xs. (p : ℕ) → p < length order → Contains (xs ++ 0 ∷ []) p ⊎ IsDone tris order (outward_at order p).tri) none
           (first_waits tris order s.one);
-      few = subst (λ xs. length (xs ++ 0 ∷ []) ≤ length order) none (first_few tris order s.one);
       room = s.room;
-      later_room = c.in_ok-later.ensures.capacity;
     }
 
 pub expand-requires-clause-place : goal.expand-requires-clause-place
@@ -39,7 +37,7 @@ loop-next-smaller c =
     let later = c.loop-next.later.items in
     let first : c.len-first.result ≡ length order = omega (arith, c.len-first.ensures, c.loop-next.search.order.ok.0) in
     let end : c.len.result ≡ length after = omega (arith, c.len.ensures, c.expand.new.self.order.ok.0) in
-    let new = waiting_new _ later _ _ (length order) (length after) first end c.newest-next.ensures.waiting in
+    let new = waiting_new _ later _ _ (length order) (length after) first end c.in_ok-next.ensures.waiting in
     rw (new, c.in-Some.is)
     (waits_smaller tris order after e.grown later c.in-Some.place (rw c.in-Some.is at c.loop-next.invariant.left) e.done
     (length tris) c.loop-next.invariant.search.count e.search.count)
@@ -55,7 +53,7 @@ loop-next-preserved c =
     let place = c.in-Some.place in
     let first : c.len-first.result ≡ length order = omega (arith, c.len-first.ensures, c.loop-next.search.order.ok.0) in
     let end : c.len.result ≡ length after = omega (arith, c.len.ensures, c.expand.new.self.order.ok.0) in
-    let new = waiting_new _ later _ _ (length order) (length after) first end c.newest-next.ensures.waiting in
+    let new = waiting_new _ later _ _ (length order) (length after) first end c.in_ok-next.ensures.waiting in
     let left = rw c.in-Some.is at inv.left in
     record {
       search = e.search;
@@ -63,9 +61,7 @@ loop-next-preserved c =
       first = ap (λ o. o.tri) (e.grown.kept 0 inv.some) ∙ inv.first;
       inner = rw new (waits_inner tris order after e.grown later place left e.done (rw c.in-Some.is at inv.inner));
       left = rw new (waits_more tris order after e.grown later place left e.done);
-      few = rw new (waits_few tris order after e.grown later place left e.done (rw c.in-Some.is at inv.few));
       room = omega (arith, e.same_room, inv.room);
-      later_room = omega (arith, c.newest-next.ensures.same_room, inv.later_room);
     }
 
 pub returns : goal.returns

@@ -13,9 +13,7 @@ invariant-loop-next l = record {
   inner : (p : ℕ) → Contains (waiting l.next l.later.items) p → p < length l.search.order.items;
   left : (p : ℕ) → p < length l.search.order.items
       → Contains (waiting l.next l.later.items) p ⊎ IsDone l.tris l.search.order.items (outward_at l.search.order.items p).tri;
-  few : length (waiting l.next l.later.items) ≤ length l.search.order.items;
   room : length l.tris ≤ vec_capacity l.search.order;
-  later_room : length l.tris ≤ vec_capacity l.later;
 }
 
 abbrev pub decreases-loop-next : goal.decreases-loop-next
