@@ -1,6 +1,6 @@
 // A node of a height-balanced tree. Making a node and opening one are steps; its height and its count are told without one. No
 // node is changed.
-ghost use Rattle.std.specs.Prelude.{◌≡◌, ◌+◌, ◌^◌, ◌<◌, IfOk, length};
+ghost use Rattle.std.specs.Prelude.{◌≡◌, ◌+◌, ◌^◌, ◌<◌, ◌≤◌, IfOk, length};
 ghost use Rattle.shared_seq.specs.Tree.{DifferByAtMost, IsBalancedTree, IsFork, IsWay, forked, lent_at, tree_at};
 ghost use Rattle.shared_seq.specs.Node.{tree_after, tree_before};
 
