@@ -3,7 +3,7 @@ scripts of up to 8 MiB."""
 from __future__ import annotations
 
 import random
-from dataclasses import dataclass, field
+from dataclasses import dataclass, field, replace
 from typing import Callable, Iterable, Iterator, List, Optional
 
 import inputs
@@ -29,6 +29,11 @@ class Ran:
     @property
     def lines(self) -> List[str]:
         return self.text.splitlines()
+
+    @property
+    def times(self) -> Ran:
+        """The same without what it wrote."""
+        return replace(self, text='')
 
 
 @dataclass

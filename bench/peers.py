@@ -146,8 +146,8 @@ class Folder:
         peers = PEERS.get(job.command, []) if job.ring and job.note != 'refused' else []
         return [peer for peer in peers if peer.program in self.programs and (peer.name, job.name) not in self.slow]
 
-    def tell(self, peer: Peer, what: str) -> None:
-        self.told.append(f'{peer.name}: more than {LONGEST} seconds; {what}, here and at greater sizes')
+    def tell(self, peer: Peer, job: Job, what: str) -> None:
+        self.told.append(f'{peer.name}, {job.name} {job.size:,}: more than {LONGEST} seconds; {what}, there and at greater sizes')
 
     def notes(self) -> List[str]:
         """What is to be told since this was asked before."""
@@ -188,7 +188,7 @@ class Folder:
             told, _ = self.ask(peer, job)
         except TooLong:
             self.slow.add((peer.name, job.name))
-            self.tell(peer, 'left out')
+            self.tell(peer, job, 'left out')
             raise
         part, whole = (sum(float(told[step]) for step in steps) for steps in (peer.part, peer.whole))
         return part, whole
@@ -203,7 +203,7 @@ class Folder:
             return str(fault)
         except TooLong:
             self.silent.add((peer.name, job.name))
-            self.tell(peer, 'its answers are not compared')
+            self.tell(peer, job, 'its answers are not compared')
             return None
         if peer.job == 'load' and told['size'] != '1':
             return f'{peer.name}: not simple'
