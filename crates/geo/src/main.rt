@@ -3,6 +3,7 @@
 
 use geo_io::{StdSink, StdSource};
 use geo_run::geo_main;
+use std::alloc::Global;
 use std::env;
 use std::io::ErrorKind;
 use std::process::ExitCode;
@@ -16,6 +17,7 @@ fn main(rt: HostRuntime) -> ExitCode {
 }
 
 fn execute(rt: &HostRuntime, args: env::Args) -> ExitCode {
+    keep_pages(rt.alloc());
     let words = match args.skip(1).collect::<Vec<String>>(rt.alloc()) {
         Ok(words) => words,
         Err(_) => return ExitCode::from(5),
@@ -26,4 +28,14 @@ fn execute(rt: &HostRuntime, args: env::Args) -> ExitCode {
         Ok(()) => ExitCode::SUCCESS,
         Err(fault) => ExitCode::from(fault.status()),
     }
+}
+
+// How many bytes the C library may keep for the next record.
+const KEPT: usize = 8 << 20;
+
+// Takes a block that nobody touches, and gives it back. From then on glibc keeps what is freed, where it holds no more than that, and
+// a record finds the pages of the one before; else it would have them from the system anew. Nothing else depends on it, nor on whether
+// the block is there.
+fn keep_pages(alloc: Global) {
+    let _ = Vec::<u8>::with_capacity(alloc, KEPT);
 }
