@@ -11,7 +11,7 @@ use Rattle.cut_tri.proofs.WorkList.{allowed_at_start, allowed_before, allowed_on
 use Rattle.cut_tri.specs.Ordered.{AreLexicalRanks, IsOrderOf}
 use Rattle.cut_tri.specs.WorkList.{last_first}
 use Rattle.cut_tri.specs.declared.piece.Piece.{Piece}
-use Rattle.cut_tri.proofs.triangulation.triangulate.Goals as goal
+use Rattle.cut_tri.proofs.triangulation.triangles.Goals as goal
 
 pub loop-piece-init : goal.loop-piece-init
 loop-piece-init g c =
@@ -73,18 +73,15 @@ loop-piece-preserved g c =
       );
     }
 
-pub build-requires-clause-few : goal.build-requires-clause-few
-build-requires-clause-few g c =
+pub returns-clause-fits : goal.returns-clause-fits
+returns-clause-fits g c =
     let none : length c.loop-piece.work.items ≡ 0 = sym c.loop-piece.work.ok.0 ∙ c.in_default.ensures.cases.0 in
-    let fits = at_end c.args.ring.now.corners c.loop-piece.work.items c.loop-piece.tris.items none c.loop-piece.invariant.pieces.1 in
-    let size = c.loop-piece.tris.ok.0 in
-    omega (arith, fits.1, c.len.ensures.size)
+    (at_end c.args.ring.now.corners c.loop-piece.work.items c.loop-piece.tris.items none c.loop-piece.invariant.pieces.1).0
 
 pub returns-clause-cut : goal.returns-clause-cut
 returns-clause-cut g c =
     let none : length c.loop-piece.work.items ≡ 0 = sym c.loop-piece.work.ok.0 ∙ c.in_default.ensures.cases.0 in
-    let is_cut = (at_end c.args.ring.now.corners c.loop-piece.work.items c.loop-piece.tris.items none c.loop-piece.invariant.pieces.1).2 in
-    grind (arith, is_cut, c.build.ensures)
+    (at_end c.args.ring.now.corners c.loop-piece.work.items c.loop-piece.tris.items none c.loop-piece.invariant.pieces.1).2
 
 pub returns-in_err-whole_piece-clause-steps : goal.returns-in_err-whole_piece-clause-steps
 returns-in_err-whole_piece-clause-steps g c =
