@@ -40,7 +40,7 @@ module _ (corners : List Point) (xs : List ℕ) (piece : IsPiece corners xs) whe
   -- and so has an order by rank
   pub own_ordered : (ranks own : List ℕ) → AreLexicalRanks corners ranks → IsPermutation xs own
       → AllPairs (λ i j. get_or ranks j 0 ≤ get_or ranks i 0) own → IsOrderOf corners xs own
-  own_ordered ranks own are moved falls = ranked_order corners ranks are xs own (numbers_below (length ranks) are.size) different moved falls
+  own_ordered ranks own are moved falls = ranked_order corners ranks are xs own different moved falls
 
 module _ (corners : List Point) (xs os : List ℕ) (piece : IsPiece corners xs) (is : IsOrderOf corners xs os) where
   -- its order has each vertex once

@@ -130,7 +130,7 @@ pub same : (i j : ℕ) → Decides (nat_eq i j) (i ≡ j)
 same i j = (eqb-true i j, eq-eqb i j)
 
 module _ (corners : List Point) (ranks : List ℕ) (are : AreLexicalRanks corners ranks) (ys order : List ℕ)
-    (numbers : All (λ i. i < length ranks) ys) (different : AllPairs (λ i j. ¬ (i ≡ j)) ys) (moved : IsPermutation ys order)
+    (different : AllPairs (λ i j. ¬ (i ≡ j)) ys) (moved : IsPermutation ys order)
     (falls : AllPairs (λ i j. get_or ranks j 0 ≤ get_or ranks i 0) order) where
   still_different : AllPairs (λ i j. ¬ (i ≡ j)) order
   still_different =

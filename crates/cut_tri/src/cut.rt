@@ -16,6 +16,9 @@ use ring_check::Ring;
 use std::alloc::Global;
 use std::sync::ledger::Ledger;
 
+// How many vertices a piece is taken to have more when its order is cleaned, since in a small one little is won.
+const SPARED: usize = 16;
+
 // What remains of a piece.
 #[derive(Drop)]
 pub(crate) enum Remains {
@@ -53,7 +56,7 @@ pub(crate) fn cut<L: Ledger>(
     cut_at_first(alloc, ring, piece, ranks, clusters, steps)
 }
 
-// Takes the numbers of no vertices at the end of a piece's order away, and all where they are more than a quarter.
+// Takes the numbers of no vertices at the end of a piece's order away, and all where they are many and more than a quarter.
 #[inline]
 fn clean(alloc: Global, ring: &Ring, piece: &mut Piece) -> Result<(), Memory>
     requires { IsPieceInOrder ring.now.corners piece.old }
@@ -61,7 +64,7 @@ fn clean(alloc: Global, ring: &Ring, piece: &mut Piece) -> Result<(), Memory>
     ensures ordered { OnOk result (IsPieceInOrder ring.now.corners piece.new) }
     ensures last { OnOk result (EndsWithVertex ring.now.corners piece.new) }
 {
-    let size = piece.boundary.len();
+    let size = piece.boundary.len().saturating_add(SPARED);
     if size.saturating_add(size / 4) < piece.order.len() {
         piece.order = vertices_of(alloc, &piece.order, ring.len())?;
     }

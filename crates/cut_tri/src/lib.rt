@@ -13,4 +13,4 @@ mod triangulation;
 mod z_order;
 
 pub use laws::one_cut;
-pub use triangulation::triangulate;
+pub use triangulation::{triangles, triangulate};

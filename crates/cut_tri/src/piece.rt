@@ -225,6 +225,12 @@ fn turn_arc(arc: &mut VecDeque<u16>, second: &mut VecDeque<u16>, place: usize) -
     requires empty { second.old.items ≡ [] }
     ensures { OnOk result (arc.new.items ++ second.new.items ≡ drop place arc.old.items ++ take place arc.old.items) }
 {
+    if place + 1 == arc.len() {
+        if let Some(number) = arc.pop_back() {
+            arc.push_front(number)?;
+        }
+        return Ok(());
+    }
     let moved = place.min(arc.len() - place);
     if moved <= FEW + arc.len() / 4 {
         arc.rotate_left(place);

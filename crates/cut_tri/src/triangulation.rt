@@ -28,6 +28,21 @@ pub fn triangulate<L: Ledger>(
     ensures cut { IfOk result (IsCutTriangulation ring.now.corners) }
     ensures steps { let n = length ring.now.corners in steps.new ≤ steps.old + (629 * (n * n) + 119 * n) }
 {
+    let _few_vertices = ring.len();
+    let tris = triangles(alloc, ring, steps)?;
+    Mesh::build(alloc, tris)
+}
+
+/// Its triangles, for those who need no neighbours.
+pub fn triangles<L: Ledger>(
+    alloc: Global,
+    ring: &Ring,
+    steps: &mut Steps<L>,
+) -> Result<Vec<Tri>, Memory>
+    ensures fits { IfOk result (λ tris. Fits ring.now.corners tris.items) }
+    ensures cut { IfOk result (λ tris. IsCutTriangulation ring.now.corners tris.items) }
+    ensures steps { let n = length ring.now.corners in steps.new ≤ steps.old + (629 * (n * n) + 119 * n) }
+{
     let mut tris = Vec::with_capacity(alloc, ring.len() as usize - 2)?;
     let order = ring.lexical(alloc, steps)?;
     let ranks = ranks_of(alloc, &order)?;
@@ -38,7 +53,7 @@ pub fn triangulate<L: Ledger>(
         let left = cut(alloc, ring, piece, &ranks, &mut clusters, steps)?;
         take_over(left, &mut tris, &mut work)?;
     }
-    Mesh::build(alloc, tris)
+    Ok(tris)
 }
 
 // Takes over what a cut leaves: a triangle to those that are done, and pieces to those that are still to be cut, the first

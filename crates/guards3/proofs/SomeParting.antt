@@ -45,7 +45,7 @@ module _ (f : ℕ → ℕ) (t : Tri) where
   by_sides u v w (inr (inr s)) (inr (inr r)) three = absurd (three.x_y (ap f (sym s.0 ∙ r.0)))
 
 -- the ends of a side are corners
-ends_in_piece : (corners : List Point) (piece : List ℕ) (t : Tri) → IsTriOf corners piece t → (i j : ℕ) → HasSide t i j
+pub ends_in_piece : (corners : List Point) (piece : List ℕ) (t : Tri) → IsTriOf corners piece t → (i j : ℕ) → HasSide t i j
     → Contains piece i × Contains piece j
 ends_in_piece corners piece t tri i j side = let in_piece = Contains piece in elim side [
   | inl s ↦ (subst in_piece s.0 tri.has_a, subst in_piece s.1 tri.has_b)
@@ -67,7 +67,7 @@ with_class_other f v class i not = grind arith
 
 module _ (corners : List Point) where
   -- the tip is not in the rest of the piece
-  tip_is_new : (before after : List ℕ) (v : ℕ) → IsSimple (piece_points corners (before ++ v ∷ after)) → ¬ Contains (before ++ after) v
+  pub tip_is_new : (before after : List ℕ) (v : ℕ) → IsSimple (piece_points corners (before ++ v ∷ after)) → ¬ Contains (before ++ after) v
   tip_is_new before after v simple h =
       let piece = before ++ v ∷ after in
       let long = length-append before (v ∷ after) in

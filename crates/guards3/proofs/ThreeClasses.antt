@@ -19,6 +19,17 @@ three_turned x y z three = record {
   z_x = three.x_y;
 }
 
+-- the other way round
+pub three_back : (x y z : ℕ) → AreThreeClasses x y z → AreThreeClasses z y x
+three_back x y z three = record {
+  first = three.third;
+  second = three.second;
+  third = three.first;
+  x_y = λ e. three.y_z (sym e);
+  y_z = λ e. three.x_y (sym e);
+  z_x = λ e. three.z_x (sym e);
+}
+
 -- each class is one of them
 pub one_of_three : (x y z class : ℕ) → AreThreeClasses x y z → class < 3 → (x ≡ class) ⊎ (y ≡ class) ⊎ (z ≡ class)
 one_of_three x y z class three below = elim (cases_eq x class) [

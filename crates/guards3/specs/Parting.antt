@@ -1,11 +1,8 @@
--- Partings as functions of the vertices, and classes that are given along an order of the triangles. No public clause cites this
--- module. This project's own.
-use Rattle.std.specs.Prelude.{◌≡◌, ◌≢◌, ℕ, ◌<◌, ◌-◌, List, [], ◌∷◌, length, slice_index_or}
-use Rattle.meshes.specs.Mesh.{side_begin, side_end}
+-- Partings as functions of the vertices, and classes that are given round the ring. No public clause cites this module. This project's
+-- own.
+use Rattle.std.specs.Prelude.{◌≡◌, ◌≢◌, ℕ, zero, suc, ◌+◌, ◌-◌, ◌<◌, ◌==◌, if◌then◌else◌, List, length, slice_index_or}
 use Rattle.meshes.specs.Side.{tri_at}
 use Rattle.meshes.specs.declared.tri.Tri.{Tri}
-use Rattle.tri_mesh.specs.Outward.{outward_at}
-use Rattle.tri_mesh.specs.declared.outward.Outward.{Outward}
 use Rattle.guards3.specs.Guards.{class_of}
 
 -- the classes 0, 1 and 2, each once
@@ -39,15 +36,38 @@ pub record HasCorners (count : ℕ) (t : Tri) : Type 0 where
   pub b : t.b < count
   pub c : t.c < count
 
--- the corner across from side 0, 1 or 2
-abbrev pub corner_across : Tri → ℕ → ℕ
-corner_across t side = slice_index_or (t.c ∷ t.a ∷ t.b ∷ []) side 0
+-- ---- how many triangles meet at a vertex
 
--- the class that neither end of a side has
-abbrev pub class_across : List ℕ → Tri → ℕ → ℕ
-class_across classes t side = 3 - class_of classes (side_begin t side) - class_of classes (side_end t side)
+-- 1 where the two are one, and else 0
+abbrev pub one_if : ℕ → ℕ → ℕ
+one_if i j = if i == j then 1 else 0
 
--- the corners of the first triangles of an order have the classes of the parting with 0, 1 and 2 at triangle 0
-abbrev pub AreGivenTo : List Tri → List Outward → ℕ → List ℕ → Type 0
-AreGivenTo tris order p classes = (f : ℕ → ℕ) → PartsInThree tris f → IsFrom012 tris f
-    → (q : ℕ) → q < p → AgreeAt (class_of classes) f (tri_at tris (outward_at order q).tri)
+-- how many corners of the first triangles, k of them, vertex i is
+abbrev pub corner_count : List Tri → ℕ → ℕ → ℕ
+corner_count tris zero i = 0
+corner_count tris (suc k) i = corner_count tris k i + one_if (tri_at tris k).a i + one_if (tri_at tris k).b i + one_if (tri_at tris k).c i
+
+-- 0 for an even number, 1 for an odd one
+abbrev pub parity : ℕ → ℕ
+parity zero = 0
+parity (suc n) = 1 - parity n
+
+-- each vertex is marked by 1 exactly where its number is odd, and else by 0
+abbrev pub AreMarks : List ℕ → (ℕ → ℕ) → Type 0
+AreMarks marks count = (i : ℕ) → i < length marks → slice_index_or marks i 0 ≡ parity (count i)
+
+-- ---- the class after two others
+
+-- where the mark of the vertex between is 0, that of the first of the two, and else the one that they leave
+abbrev pub class_after : ℕ → ℕ → ℕ → ℕ
+class_after before here mark = if mark == 0 then before else 3 - before - here
+
+-- f gives vertices 0 and 1 the classes 0 and 1, and each later one the class after those of the two before it
+pub record IsByMarks (marks : List ℕ) (f : ℕ → ℕ) : Type 0 where
+  pub first : f 0 ≡ 0
+  pub second : f 1 ≡ 1
+  pub later : (i : ℕ) → i + 2 < length marks → f (i + 2) ≡ class_after (f i) (f (i + 1)) (slice_index_or marks (i + 1) 0)
+
+-- the classes are those that any f gives that is by the marks
+abbrev pub AreGivenBy : List ℕ → List ℕ → Type 0
+AreGivenBy marks classes = (f : ℕ → ℕ) → IsByMarks marks f → (i : ℕ) → i < length marks → class_of classes i ≡ f i

@@ -7,5 +7,5 @@ mod members;
 mod parting;
 mod tally;
 
-pub use guarding::guards;
+pub use guarding::{guards, guards_of};
 pub use laws::{one_guards, one_parting};

@@ -1,63 +1,65 @@
 // The parting of the vertices into three classes, of which each triangle has one corner each.
-ghost use Rattle.std.specs.Prelude.{◌≡◌, ◌+◌, ◌<◌, ◌≤◌, IfOk, length, slice_set};
+ghost use Rattle.std.specs.Prelude.{◌≡◌, ◌-◌, ◌<◌, ℕ, IfOk, length, slice_index_or, slice_set};
 ghost use Rattle.meshes.specs.Fits.{Fits};
-ghost use Rattle.meshes.specs.Mesh.{side_begin, side_end};
-ghost use Rattle.guards3.specs.Guards.{IsParting, class_of};
-ghost use Rattle.guards3.specs.Parting.{HasCorners, class_across, corner_across};
+ghost use Rattle.meshes.specs.Side.{tri_at};
+ghost use Rattle.guards3.specs.Guards.{IsParting};
+ghost use Rattle.guards3.specs.Parting.{AreGivenBy, AreMarks, HasCorners, corner_count};
 
 use exact_plane::Memory;
 use meshes::Tri;
 use ring_check::Ring;
 use std::alloc::Global;
-use tri_mesh::Mesh;
 
-// The class of each vertex. The corners of triangle 0 have 0, 1 and 2, and each later triangle is reached over a side whose
-// ends have classes already: the third corner gets the one that is left.
-pub(crate) fn classes_of(alloc: Global, ring: &Ring, mesh: &Mesh) -> Result<Vec<u8>, Memory>
-    requires { Fits ring.now.corners mesh.now }
-    ensures { IfOk result (λ classes. IsParting (length ring.now.corners) mesh.now classes.items) }
+// The class of each vertex. Vertices 0 and 1 have 0 and 1, and round the ring each later one has that of the vertex before the one
+// before it, where an even number of triangles meets between them, and else the one that those two leave.
+pub(crate) fn classes_of(alloc: Global, ring: &Ring, tris: &[Tri]) -> Result<Vec<u8>, Memory>
+    requires { Fits ring.now.corners tris.now }
+    ensures { IfOk result (λ classes. IsParting (length ring.now.corners) tris.now classes.items) }
 {
     let mut classes = vec![in alloc; 0; ring.len() as usize]?;
-    give_first(&mut classes, &mesh.tri(0));
-    let order = mesh.rooted().order;
-    for p in 1..order.len() {
-        let here = order[p];
-        give_third(&mut classes, &mesh.tri(here.tri), here.side);
-    }
+    mark_corners(&mut classes, tris);
+    give_classes(&mut classes);
     Ok(classes)
 }
 
-// Gives the corners of a triangle the classes 0, 1 and 2.
-fn give_first(classes: &mut [u8], tri: &Tri)
-    requires { HasCorners (length classes.old) tri.now }
-    ensures { classes.new ≡ slice_set (slice_set (slice_set classes.old tri.now.a 0) tri.now.b 1) tri.now.c 2 }
+// Marks the vertices at which an odd number of triangles meets.
+fn mark_corners(marks: &mut [u8], tris: &[Tri])
+    requires none { (i : ℕ) → slice_index_or marks.old i 0 ≡ 0 }
+    requires corners { (k : ℕ) → k < length tris.now → HasCorners (length marks.old) (tri_at tris.now k) }
+    ensures count { length marks.new ≡ length marks.old }
+    ensures marks { AreMarks marks.new (corner_count tris.now (length tris.now)) }
 {
-    classes[tri.a as usize] = 0;
-    classes[tri.b as usize] = 1;
-    classes[tri.c as usize] = 2;
+    for tri in tris {
+        change(marks, tri.a);
+        change(marks, tri.b);
+        change(marks, tri.c);
+    }
 }
 
-// Gives the corner across from a side the class that neither of the side's ends has.
-fn give_third(classes: &mut [u8], tri: &Tri, side: u32)
-    requires side { side < 3 }
-    requires corners { HasCorners (length classes.old) tri.now }
-    requires ends { class_of classes.old (side_begin tri.now side) + class_of classes.old (side_end tri.now side) ≤ 3 }
-    ensures { classes.new ≡ slice_set classes.old (corner_across tri.now side) (class_across classes.old tri.now side) }
+// Marks a vertex that is not marked, and the other way round.
+fn change(marks: &mut [u8], i: u32)
+    requires vertex { i < length marks.old }
+    requires mark { slice_index_or marks.old i 0 < 2 }
+    ensures { marks.new ≡ slice_set marks.old i (1 - slice_index_or marks.old i 0) }
 {
-    let (begin, end, third) = corners_from(tri, side);
-    classes[third as usize] = 3 - classes[begin as usize] - classes[end as usize];
+    marks[i as usize] = 1 - marks[i as usize];
 }
 
-// Where side 0, 1 or 2 of a triangle begins and ends, and the third corner.
-fn corners_from(tri: &Tri, side: u32) -> (u32, u32, u32)
-    requires { side < 3 }
-    ensures begin { result.0 ≡ side_begin tri.now side }
-    ensures end { result.1 ≡ side_end tri.now side }
-    ensures third { result.2 ≡ corner_across tri.now side }
+// Gives each vertex its class in place of its mark.
+fn give_classes(classes: &mut [u8])
+    requires { 2 < length classes.old }
+    ensures count { length classes.new ≡ length classes.old }
+    ensures given { AreGivenBy classes.old classes.new }
 {
-    match side {
-        0 => (tri.a, tri.b, tri.c),
-        1 => (tri.b, tri.c, tri.a),
-        _ => (tri.c, tri.a, tri.b),
+    let mut mark = classes[1];
+    let (mut before, mut here) = (0, 1);
+    classes[0] = before;
+    classes[1] = here;
+    for k in 0..classes.len() - 2 {
+        let next = if mark == 0 { before } else { 3 - before - here };
+        mark = classes[k + 2];
+        classes[k + 2] = next;
+        before = here;
+        here = next;
     }
 }

@@ -19,29 +19,43 @@ impl Tally {
         requires { length classes.now ≡ length ring.now.corners }
         ensures { IsFewest ring.now classes.now result }
     {
-        let first = Tally::of(ring, classes, 0);
-        let second = Tally::of(ring, classes, 1);
-        let third = Tally::of(ring, classes, 2);
+        let (first, second, third) = Tally::of_three(ring, classes);
         first.or_less(second).or_less(third)
     }
 
-    // That of a class.
-    fn of(ring: &Ring, classes: &[u8], class: u8) -> Tally
+    // Those of the classes 0, 1 and 2.
+    fn of_three(ring: &Ring, classes: &[u8]) -> (Tally, Tally, Tally)
         requires { length classes.now ≡ length ring.now.corners }
-        ensures class { result.class ≡ class }
-        ensures tally { IsTally ring.now classes.now result }
+        ensures classes { (result.0.class ≡ 0) × (result.1.class ≡ 1) × (result.2.class ≡ 2) }
+        ensures first { IsTally ring.now classes.now result.0 }
+        ensures second { IsTally ring.now classes.now result.1 }
+        ensures third { IsTally ring.now classes.now result.2 }
     {
-        let mut tally = Tally {
+        let mut first = Tally::none(0);
+        let mut second = Tally::none(1);
+        let mut third = Tally::none(2);
+        for number in 0..ring.len() {
+            let class = class_at(ring, classes, number);
+            if class == 0 {
+                first = first.with(number);
+            } else if class == 1 {
+                second = second.with(number);
+            } else if class == 2 {
+                third = third.with(number);
+            }
+        }
+        (first, second, third)
+    }
+
+    // That of a class without vertices.
+    fn none(class: u8) -> Tally
+        ensures { result ≡ record { class = class; count = 0; least = 0 } }
+    {
+        Tally {
             class,
             count: 0,
             least: 0,
-        };
-        for number in 0..ring.len() {
-            if class_at(ring, classes, number) == class {
-                tally = tally.with(number);
-            }
         }
-        tally
     }
 
     // With one vertex more, which has a greater number.

@@ -24,7 +24,7 @@ returns-clause-ordered c =
       | else-saturating_add-len w ↦ subst (λ (p : Piece). IsPieceInOrder corners p) (sym w.piece-is) c.requires
     ] in (
       mid.0,
-      order_taken corners c.if-saturating_add-len.piece.boundary c.if-saturating_add-len.piece.order.items mid.1 mid.0.numbers c.len-2.result c.len-2.ensures.number
+      order_taken corners c.if-saturating_add-len.piece.boundary c.if-saturating_add-len.piece.order.items mid.1 mid.0.numbers c.len-3.result c.len-3.ensures.number
           (length c.drop_others.new.order.items) c.drop_others.new.order.items refl c.drop_others.ensures.kept c.drop_others.ensures.others,
     )
 
@@ -34,4 +34,4 @@ returns-clause-last c =
     let three = both.0.polygon.some in
     let some = order_some c.args.ring.now.corners c.if-saturating_add-len.piece.boundary c.drop_others.new.order.items both.1 (omega (arith, three)) in
     let os = c.drop_others.new.order.items in
-    (some, subst (λ n. get_or os (length os - 1) 0 < n) c.len-2.ensures.number (c.drop_others.ensures.last some))
+    (some, subst (λ n. get_or os (length os - 1) 0 < n) c.len-3.ensures.number (c.drop_others.ensures.last some))

@@ -27,4 +27,4 @@ pub returns-in-None-clause-ordered : goal.returns-in-None-clause-ordered
 returns-in-None-clause-ordered g c =
     let os = c.args.piece.order.items in
     rest_ordered c.args.ring.now.corners c.args.piece.boundary os c.requires.ordered.ordered.0 c.requires.ordered.ordered.1 c.requires.ordered.least
-    c.drop_first.new.self c.pop.new.self.items c.drop_first.ensures (c.pop.ensures.rest ∙ ap (λ n. take (n - 1) os) c.args.piece.order.ok.0)
+    c.drop_first.new.self c.pop.new.self.items c.drop_first.ensures (◌∙◌ {A = List ℕ} c.pop.ensures.rest (ap (λ n. take (n - 1) os) c.args.piece.order.ok.0))

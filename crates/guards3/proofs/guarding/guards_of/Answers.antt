@@ -3,14 +3,14 @@ use Rattle.std.proofs.lemmas.Result.{IfOk-weaker}
 use Rattle.ring_check.specs.Oriented.{given_of}
 use Rattle.guards3.proofs.OneGuards.{fewest_guard, fewest_third}
 use Rattle.guards3.proofs.Watched.{see_all}
-use Rattle.guards3.proofs.guarding.guards.Goals as goal
+use Rattle.guards3.proofs.guarding.guards_of.Goals as goal
 use Rattle.guards3.specs.Guards.{AreGuards, SeeAll}
 use Rattle.guards3.specs.Tally.{IsFewest}
 
 pub returns-clause-guards : goal.returns-clause-guards
 returns-clause-guards c =
     let ring = c.args.ring.now in
-    let tris = c.args.mesh.now in
+    let tris = c.args.tris.now in
     let classes = c.in_ok-classes.classes.items in
     let chosen = c.fewest-fewest.result in
     let fewest : IsFewest ring classes chosen = rw c.deref.ensures.value at c.fewest-fewest.ensures in
@@ -23,7 +23,7 @@ returns-clause-few c =
     let classes = c.in_ok-classes.classes.items in
     let chosen = c.fewest-fewest.result in
     let fewest : IsFewest ring classes chosen = rw c.deref.ensures.value at c.fewest-fewest.ensures in
-    let third = fewest_third ring c.args.mesh.now c.requires classes c.in_ok-classes.ensures chosen.class fewest.of_three fewest.fewest in
+    let third = fewest_third ring c.args.tris.now c.requires classes c.in_ok-classes.ensures chosen.class fewest.of_three fewest.fewest in
     IfOk-weaker c.members.result _ _ (λ found is. subst (λ gs. length gs ≤ length ring.corners / 3) (sym is) third)
     (rw c.deref-2.ensures.value at c.members.ensures)
 
@@ -33,5 +33,5 @@ returns-clause-seen c =
     let classes = c.in_ok-classes.classes.items in
     let chosen = c.fewest-fewest.result in
     let fewest : IsFewest ring classes chosen = rw c.deref.ensures.value at c.fewest-fewest.ensures in
-    let seen = see_all ring c.args.mesh.now c.requires classes c.in_ok-classes.ensures chosen.class fewest.of_three in
+    let seen = see_all ring c.args.tris.now c.requires classes c.in_ok-classes.ensures chosen.class fewest.of_three in
     IfOk-weaker c.members.result _ _ (λ found is. subst (SeeAll (given_of ring)) (sym is) seen) (rw c.deref-2.ensures.value at c.members.ensures)

@@ -2,7 +2,7 @@ use Rattle.std.proofs.Common.{◌+◌, ◌-◌, ◌*◌, ◌≤◌, length}
 use Rattle.std.specs.Prelude.{IfSome}
 use Rattle.cut_tri.proofs.AllowedSteps.{allowed, allowed_for}
 use Rattle.cut_tri.proofs.Completion.{ArePieces, Completes, effort}
-use Rattle.cut_tri.proofs.triangulation.triangulate.Given as goal
+use Rattle.cut_tri.proofs.triangulation.triangles.Given as goal
 use Rattle.cut_tri.specs.Clusters.{AreClusters}
 use Rattle.cut_tri.specs.WorkList.{HaveOrders, last_first}
 
