@@ -22,7 +22,7 @@ fn long_records(rt: HostRuntime) -> Result<(), Fail> {
     for (front, part, count, rest, answers) in rows {
         let script = repeated(rt.alloc(), front, part, count, rest)?;
         assert!(rt;
-            is_answered(rt.alloc(), script.as_bytes(), answers.as_bytes())?,
+            is_answered(rt.alloc(), script.as_bytes(), answers)?,
             "{front}{part}{rest}"
         );
     }
@@ -60,7 +60,7 @@ fn long_polygons(rt: HostRuntime) -> Result<(), Fail> {
     for (front, rest, answers) in rows {
         let script = with_comb(rt.alloc(), front, 2048, rest)?;
         assert!(rt;
-            is_answered(rt.alloc(), &script, answers.as_bytes())?,
+            is_answered(rt.alloc(), &script, answers)?,
             "{front}"
         );
     }
@@ -107,7 +107,7 @@ fn are_told(
     assert!(rt; has_first(alloc, &script, first)?, "1,024 vertices");
     let script = with_comb(alloc, front, 511, ",0,1\npair,0,1\nsights\n")?;
     assert!(rt;
-        is_answered(alloc, &script, refused.as_bytes())?,
+        is_answered(alloc, &script, refused)?,
         "1,025 vertices"
     );
     Ok(())

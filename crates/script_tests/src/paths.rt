@@ -173,19 +173,7 @@ polygon,0,0,4,0,4,2,2,2,2,4,0,4
 sights
 =
 polygon,6
-sights,12
-sight,0,1
-sight,0,2
-sight,0,3
-sight,0,4
-sight,0,5
-sight,1,2
-sight,1,3
-sight,1,5
-sight,2,3
-sight,3,4
-sight,3,5
-sight,4,5
+[sights of an L]
 
 # paths between vertices of an L and of a U
 polygon,0,0,4,0,4,2,2,2,2,4,0,4
@@ -237,19 +225,7 @@ polygon,0,0,4,0,4,2,2,2,2,4,0,4
 pair,2,4
 =
 polygon,6
-sights,12
-sight,0,1
-sight,0,2
-sight,0,3
-sight,0,4
-sight,0,5
-sight,1,2
-sight,1,3
-sight,1,5
-sight,2,3
-sight,3,4
-sight,3,5
-sight,4,5
+[sights of an L]
 polygon,3
 path,2,0,0,4,0
 sights,3

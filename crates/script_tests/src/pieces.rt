@@ -1,6 +1,7 @@
 // Pieces with their answers.
 ghost use Rattle.std.specs.Prelude.{◌≡◌, ◌<◌};
 
+use crate::runs::parts;
 use exact_plane::{Memory, Steps};
 use geo_script::{Dialog, Stop};
 use std::alloc::Global;
@@ -258,13 +259,6 @@ fn each_answered<N: Ledger>(
         assert!(rt; dialog.text() == want.as_bytes(), "{piece}");
     }
     Ok(())
-}
-
-// The name, the piece and the answers of a row.
-fn parts(row: &str) -> Option<(&str, &str, &str)> {
-    let (name, rest) = row.split_once("\n")?;
-    let (piece, answers) = rest.split_once("=\n")?;
-    Some((name, piece, answers))
 }
 
 // The piece is answered to its end.

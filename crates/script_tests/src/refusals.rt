@@ -261,7 +261,7 @@ edge
 fn refusals(rt: HostRuntime) -> Result<(), Fail> {
     all_answered(&rt, rt.alloc(), REFUSALS, 17)?;
     assert!(rt;
-        is_answered(rt.alloc(), b"\xff", b"bad,word\n")?,
+        is_answered(rt.alloc(), b"\xff", "bad,word\n")?,
         "a byte that begins no character"
     );
     Ok(())

@@ -47,9 +47,41 @@ pub(crate) fn run(alloc: Global, script: &[u8], room: usize) -> Result<Outcome, 
 }
 
 // Whether the run over the script meets no fault, reads all and writes these answers.
-pub(crate) fn is_answered(alloc: Global, script: &[u8], answers: &[u8]) -> Result<bool, Memory> {
+pub(crate) fn is_answered(alloc: Global, script: &[u8], answers: &str) -> Result<bool, Memory> {
     let ended = run(alloc, script, 4096)?;
-    Ok(ended.answer.is_ok() && ended.left == 0 && ended.taken.as_slice() == answers)
+    Ok(ended.answer.is_ok() && ended.left == 0 && are_answers(&ended.taken, answers))
+}
+
+// What `sights` answers in an L that is given counterclockwise from its corner.
+#[rattlefmt::skip]
+const SIGHTS: &str = "\
+sights,12
+sight,0,1
+sight,0,2
+sight,0,3
+sight,0,4
+sight,0,5
+sight,1,2
+sight,1,3
+sight,1,5
+sight,2,3
+sight,3,4
+sight,3,5
+sight,4,5
+";
+
+// Whether these are the answers of a row, in which a line `[sights of an L]` stands for what `sights` answers there.
+pub(crate) fn are_answers(taken: &[u8], answers: &str) -> bool {
+    match answers.split_once("[sights of an L]\n") {
+        Some((front, rest)) => are_around_sights(taken, front, rest) == Some(true),
+        None => taken == answers.as_bytes(),
+    }
+}
+
+fn are_around_sights(taken: &[u8], front: &str, rest: &str) -> Option<bool> {
+    let taken = taken.strip_prefix(front.as_bytes())?;
+    let taken = taken.strip_prefix(SIGHTS.as_bytes())?;
+    Some(taken == rest.as_bytes())
 }
 
 // Each script of the table is answered so. A row is a line `# NAME`, the script up to a `=`, and after a line feed the
@@ -63,14 +95,14 @@ pub(crate) fn all_answered(
     assert!(rt; table.split("\n# ").skip(1).count() == count);
     for row in table.split("\n# ").skip(1) {
         let (name, script, answers) = parts(row).unwrap_or((row, "", "no answers"));
-        let answered = is_answered(alloc, script.as_bytes(), answers.as_bytes())?;
+        let answered = is_answered(alloc, script.as_bytes(), answers)?;
         assert!(rt; answered, "{name}");
     }
     Ok(())
 }
 
-// The name, the script and the answers of a row.
-fn parts(row: &str) -> Option<(&str, &str, &str)> {
+// The name, the script or the piece, and the answers of a row.
+pub(crate) fn parts(row: &str) -> Option<(&str, &str, &str)> {
     let (name, rest) = row.split_once("\n")?;
     let (script, answers) = rest.split_once("=\n")?;
     Some((name, script, answers))

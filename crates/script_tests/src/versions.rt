@@ -186,19 +186,7 @@ geo,2
 polygon,6
 round,3,0,1,2
 guards,1,3
-sights,12
-sight,0,1
-sight,0,2
-sight,0,3
-sight,0,4
-sight,0,5
-sight,1,2
-sight,1,3
-sight,1,5
-sight,2,3
-sight,3,4
-sight,3,5
-sight,4,5
+[sights of an L]
 ";
 
 #[test]
