@@ -24,7 +24,7 @@ mod LineCrossed
 -- Which edges of a funnel the way to a point beyond the diagonal passes: those from the left end to one place, and no others.
 -- On which side of the way over a place of a funnel a point is that is reached from there, where the place is not the apex.
 mod PassedEdges
-pub use Rattle.funnels.proofs.Funnels.PassedEdges.{IsPassedFrom, not_passed_from, passed_from, passed_of, passed_to, left_of_way}
+pub use Rattle.funnels.proofs.Funnels.PassedEdges.{not_passed_from, passed_from, passed_of, passed_to, left_of_way}
 pub use Rattle.funnels.proofs.Funnels.PassedEdges.{right_of_way}
 -- On the side from an end of the diagonal to m the window of an old point in the next funnel is within its old window.
 -- The two next funnels, of the diagonals from a point beyond to the right end and from the left end to it: the point, and the points from the

@@ -1,7 +1,7 @@
 -- Funnels: two convex chains from an apex to the ends of a diagonal. Lee and Preparata 1984.
-use Rattle.std.specs.Prelude.{◌≡◌, ◌⊎◌, List, length, ℕ, ◌+◌, ◌-◌, ◌<◌, ◌≤◌, ℤ}
+use Rattle.std.specs.Prelude.{◌≡◌, ◌⊎◌, List, length, ℕ, ◌+◌, ◌-◌, ◌<◌, ◌≤◌}
 use Rattle.plane.specs.Point.{Point, Triple, whole}
-use Rattle.plane.specs.Turn.{IsLeft, IsRight, determinant}
+use Rattle.plane.specs.Turn.{IsLeft, IsRight}
 use Rattle.rings.specs.Chain.{point_at}
 
 -- the extension of the edge from u to w meets the diagonal from l, on the left, to r
@@ -26,10 +26,6 @@ pub record IsFunnel (ns : List Point) (a : ℕ) (l r : Point) : Type 0 where
       → IsRight (whole (point_at ns (i - 1))) (whole (point_at ns i)) (whole (point_at ns (i + 1)))
   pub opening : 0 < a → a + 1 < length ns → ¬ IsLeft (whole (point_at ns a)) (whole (point_at ns (a - 1))) (whole (point_at ns (a + 1)))
   pub reaches : (j : ℕ) (u w : Point) → 0 < j → j < length ns → IsFunnelEdge ns a j u w → Reaches u w l r
-
--- how high x is over the diagonal, on the side walked from: positive there, negative beyond
-abbrev pub height : Point → Point → Triple → ℤ
-height l r x = determinant (whole r) (whole l) x
 
 -- x is in the window of the point at place i: not left of edge i, not right of edge i + 1, where there are such edges
 pub record IsInWindow (ns : List Point) (a i : ℕ) (x : Triple) : Type 0 where

@@ -17,7 +17,6 @@ mod SideCounts
 -- Triangles whose sides cancel to the boundary of a simple piece: the points of the piece are those of the triangles.
 -- Counterclockwise triangles whose sides cancel to the boundary of a simple piece tile it.
 mod Covered
-pub use Rattle.meshes.proofs.Boundaries.Covered.{tiling}
 mod Counts
 mod PartTilings
 -- The parts of a piece that a diagonal cuts in two, and the triangles that lie in them.
@@ -29,7 +28,6 @@ mod TwoParts
 mod OneTriangle
 -- Triangles that tile a piece are a tree, two fewer than it has vertices.
 mod TiledTrees
-pub use Rattle.meshes.proofs.Boundaries.TiledTrees.{fits_tiled}
 -- Sums round a piece: read from another vertex on, and without one of the vertices.
 mod Rounds
 pub use Rattle.meshes.proofs.Boundaries.Rounds.{sum_parted, sum_rotated}

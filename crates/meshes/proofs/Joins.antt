@@ -6,7 +6,7 @@ pub use Rattle.meshes.proofs.Joins.Rotated.{edge_rotated, fits_rotated, same_rot
 mod TwoLists
 -- One of two meshes that are joined along a diagonal: the sides of its triangles in the joined list.
 mod Halves
-pub use Rattle.meshes.proofs.Joins.Halves.{AreEnds, between_at, between_back, between_ends, ends_back}
+pub use Rattle.meshes.proofs.Joins.Halves.{between_at, between_back, between_ends, ends_back}
 -- The triangles and sides of two meshes that fit the parts of a piece cut by a diagonal.
 -- Two meshes that fit the parts of a piece cut by a diagonal fit the piece together.
 mod Joined

@@ -8,7 +8,7 @@ mod OpenRegions
 pub use Rattle.meshes.proofs.Parts.OpenRegions.{IsLeftOfAll, left_of_all_eventually}
 -- A triangle of a list at one of its sides: the corner opposite to the side, and the points near the side.
 mod Opposite
-pub use Rattle.meshes.proofs.Parts.Opposite.{IsOpposite, left_of_next, left_of_previous, mean, mean_inside, mean_is_point, near_side, opposite}
+pub use Rattle.meshes.proofs.Parts.Opposite.{left_of_next, left_of_previous, mean, mean_inside, mean_is_point, near_side, opposite}
 pub use Rattle.meshes.proofs.Parts.Opposite.{sides, toward_inside}
 -- The vertices of a piece, by their numbers: their places, and the edges that begin there.
 -- The side that two triangles of a mesh, or of a part of one, share is a diagonal of the ring.

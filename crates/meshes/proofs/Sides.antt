@@ -5,7 +5,7 @@ mod BaseTriangle
 pub use Rattle.meshes.proofs.Sides.BaseTriangle.{fits_triangle}
 pub use Rattle.meshes.proofs.Sides.PieceSteps.{corners_differ, fitting_sides, left_apart, one_direction, IsStep, edge_of_step, edge_or_not}
 pub use Rattle.meshes.proofs.Sides.PieceSteps.{has_side_or_not, step_after, step_before, step_cases, step_of_edge, edge_of_one, one_at_edge}
-pub use Rattle.meshes.proofs.Sides.PieceSteps.{ring_edge_from, ring_edge_is}
+pub use Rattle.meshes.proofs.Sides.PieceSteps.{ring_edge_is}
 -- The edges of a piece, as the steps along its numbers and back to the first.
 mod PieceSteps
 -- The vertices of a piece: they are different where it is simple.

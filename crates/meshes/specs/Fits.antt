@@ -25,7 +25,11 @@ pub record IsPieceEdge (piece : List ℕ) (i j : ℕ) : Type 0 where
 abbrev pub IsInTri : List Point → Tri → Triple → Type 0
 IsInTri corners t p = IsInTriangle (vertex corners t.a) (vertex corners t.b) (vertex corners t.c) p
 
--- it is left of all its sides
+-- the corners of the triangle run counterclockwise
+abbrev pub IsCounterclockwiseTri : List Point → Tri → Type 0
+IsCounterclockwiseTri corners t = IsLeft (whole (vertex corners t.a)) (whole (vertex corners t.b)) (whole (vertex corners t.c))
+
+-- the point is left of all its sides
 pub record IsStrictlyInTri (corners : List Point) (t : Tri) (p : Triple) : Type 0 where
   pub left_of_first : IsLeft (whole (vertex corners t.a)) (whole (vertex corners t.b)) p
   pub left_of_second : IsLeft (whole (vertex corners t.b)) (whole (vertex corners t.c)) p
@@ -36,7 +40,7 @@ pub record IsTriOf (corners : List Point) (piece : List ℕ) (t : Tri) : Type 0 
   pub has_a : Contains piece t.a
   pub has_b : Contains piece t.b
   pub has_c : Contains piece t.c
-  pub counterclockwise : IsLeft (whole (vertex corners t.a)) (whole (vertex corners t.b)) (whole (vertex corners t.c))
+  pub counterclockwise : IsCounterclockwiseTri corners t
 
 -- triangle k alone has a side between i and j, and it goes from i to j
 pub record IsSideOfOne (tris : List Tri) (i j k : ℕ) : Type 0 where

@@ -8,9 +8,9 @@ use Rattle.std.proofs.Math.Numerals.{add-one}
 use Rattle.std.proofs.lemmas.List.{get_or-reverse, length-reverse, get_or-take, get_or_default, reverse-append, take_all, take_more}
 use Rattle.std.proofs.lemmas.List.Elements.{All-cons, All-nil, All-push}
 use Rattle.plane.specs.Point.{Point}
-use Rattle.meshes.specs.Fits.{IsTriOf}
+use Rattle.meshes.specs.Fits.{IsTriOf, IsCounterclockwiseTri}
 use Rattle.meshes.specs.declared.tri.Tri.{Tri}
-use Rattle.mono_fill.specs.Sides.{IsCounterclockwiseTri, fan, triangle, fan_from}
+use Rattle.mono_fill.specs.Sides.{fan, triangle, fan_from}
 use Rattle.mono_fill.specs.Stacks.{Extends, ArePopped, last_of}
 use Rattle.mono_fill.specs.declared.side.Side.{Side}
 use Rattle.mono_fill.specs.declared.side.Side.TheVariants.{Lower, Upper}

@@ -5,12 +5,12 @@ use Rattle.plane.specs.Point.{Point, whole}
 use Rattle.plane.specs.Turn.{determinant}
 use Rattle.rings.proofs.Vertices.{vertex_in_range}
 use Rattle.rings.specs.Ring.{origin, vertex}
+use Rattle.meshes.specs.Fits.{IsCounterclockwiseTri}
 use Rattle.meshes.specs.declared.tri.Tri.{Tri}
 use Rattle.exact_plane.proofs.Directions.{left_of_positive, positive_of_left}
 use Rattle.exact_plane.specs.Direction.{turn_of}
 use Rattle.exact_plane.specs.declared.direction.Direction.{Direction}
 use Rattle.exact_plane.specs.declared.direction.Direction.TheVariants.{Left}
-use Rattle.mono_fill.specs.Sides.{IsCounterclockwiseTri}
 
 module _ (corners : List Point) (t : Tri) (a : t.a < length corners) (b : t.b < length corners) (c : t.c < length corners) where
   abbrev at : ℕ → Point

@@ -1,8 +1,5 @@
 -- The two chains of a monotone piece, and triangles along one of them. This project's own.
 use Rattle.std.specs.Prelude.{ℕ, List, [], ◌∷◌}
-use Rattle.plane.specs.Point.{Point, whole}
-use Rattle.plane.specs.Turn.{IsLeft}
-use Rattle.rings.specs.Ring.{vertex}
 use Rattle.meshes.specs.declared.tri.Tri.{Tri}
 use Rattle.mono_fill.specs.declared.side.Side.{Side}
 use Rattle.mono_fill.specs.declared.side.Side.TheVariants.{Lower, Upper}
@@ -25,7 +22,3 @@ fan_from side x p (q ∷ qs) = triangle side p q x ∷ fan_from side x q qs
 abbrev pub fan : Side → ℕ → List ℕ → List Tri
 fan side x [] = []
 fan side x (p ∷ ps) = fan_from side x p ps
-
--- the corners of the triangle run counterclockwise
-abbrev pub IsCounterclockwiseTri : List Point → Tri → Type 0
-IsCounterclockwiseTri corners t = IsLeft (whole (vertex corners t.a)) (whole (vertex corners t.b)) (whole (vertex corners t.c))

@@ -2,8 +2,9 @@
 use Rattle.std.specs.List.{All}
 use Rattle.std.specs.Prelude.{◌≡◌, ℕ, ◌+◌, ◌-◌, ◌<◌, List, ◌++◌, length, reverse, slice_index}
 use Rattle.plane.specs.Point.{Point}
+use Rattle.meshes.specs.Fits.{IsCounterclockwiseTri}
 use Rattle.meshes.specs.declared.tri.Tri.{Tri}
-use Rattle.mono_fill.specs.Sides.{IsCounterclockwiseTri, fan_from, triangle}
+use Rattle.mono_fill.specs.Sides.{fan_from, triangle}
 use Rattle.mono_fill.specs.declared.side.Side.{Side}
 
 -- the old items, with new ones behind them

@@ -1,8 +1,9 @@
 // The vertices that are taken and still have triangles to come.
 ghost use Rattle.std.specs.List.{All};
 ghost use Rattle.std.specs.Prelude.{◌≡◌, ◌+◌, ◌<◌, ◌≤◌, ◌↔◌, ℕ, [], ◌∷◌, ◌++◌, IfOk, IsTrue, List, OnOk, length};
+ghost use Rattle.meshes.specs.Fits.{IsCounterclockwiseTri};
 ghost use Rattle.meshes.specs.declared.tri.Tri.{Tri};
-ghost use Rattle.mono_fill.specs.Sides.{IsCounterclockwiseTri, fan, other_chain_side};
+ghost use Rattle.mono_fill.specs.Sides.{fan, other_chain_side};
 ghost use Rattle.mono_fill.specs.Stacks.{ArePopped, Extends, IsSettled, last_of};
 
 use crate::side::Side;

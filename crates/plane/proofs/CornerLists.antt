@@ -6,4 +6,4 @@ mod PolygonCorners
 pub use Rattle.plane.proofs.CornerLists.PolygonCorners.{IsNext, not_second_next}
 -- Two corner lists of one set have the same corners in the same order.
 mod OneList
-pub use Rattle.plane.proofs.CornerLists.OneList.{AreSameCorners, corner_in, corners_are_one}
+pub use Rattle.plane.proofs.CornerLists.OneList.{corners_are_one}

@@ -10,7 +10,7 @@ mod Turned
 pub use Rattle.plane.proofs.Regions.Turned.{convex_turned, region_turned}
 -- A point of a region is a mean of corners: in three corners or more, of the first and two neighbours.
 mod Fans
-pub use Rattle.plane.proofs.Regions.Fans.{four_beside, region_not_right, region_right}
+pub use Rattle.plane.proofs.Regions.Fans.{four_beside, region_not_right}
 -- Where a line through whole points meets another between two points of it, of which one is left of that and one right.
 mod LineMeetings
 pub use Rattle.plane.proofs.Regions.LineMeetings.{Ends, at_corner, at_meeting, meeting, not_parallel}

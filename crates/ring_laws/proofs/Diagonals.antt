@@ -12,7 +12,9 @@ pub use Rattle.ring_laws.proofs.Diagonals.BesideDiagonal.{same_direction}
 -- The cut rule at a least vertex with a right turn, from the ring read the other way round.
 mod CutRule
 pub use Rattle.ring_laws.proofs.Diagonals.CutRule.{base_diagonal, farthest_diagonal}
+-- The vertices in the triangle at a corner of a ring, by their numbers and as points.
 mod CornerNumbers
+pub use Rattle.ring_laws.proofs.Diagonals.CornerNumbers.{AreBoth}
 -- The cut rule at any vertex of a ring: the cut at its least vertex is a diagonal.
 mod CutAtVertex
 pub use Rattle.ring_laws.proofs.Diagonals.CutAtVertex.{cut_is_diagonal_at, some_cut}

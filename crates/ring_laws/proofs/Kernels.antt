@@ -2,10 +2,8 @@
 
 -- A point out of a ring that runs counterclockwise, from which the way to a point strictly inside an edge meets the edges there alone: it is right of that edge.
 mod InnerHits
-pub use Rattle.ring_laws.proofs.Kernels.InnerHits.{MeetsOnlyAt}
 -- The same where the way ends at a vertex: the point is right of an edge at the vertex.
 mod VertexHits
-pub use Rattle.ring_laws.proofs.Kernels.VertexHits.{RightOfEdgeAt, alone_at_hit}
 -- The kernel law: a rational point sees all of a simple ring that runs counterclockwise exactly if it is right of no edge.
 -- A point that is right of no edge of a ring whose vertices are within the limit is in the square of the limit.
 mod RightOfNone

@@ -7,4 +7,4 @@ pub use Rattle.ring_laws.proofs.Simple.SimpleRings.{ring_regrouped, runs_round, 
 mod SimpleRings
 -- A simple ring runs one way or the other; turned round it is simple, runs the other way, and has the same chains with bends.
 mod TwoWays
-pub use Rattle.ring_laws.proofs.Simple.TwoWays.{bent_kept, bent_turned_iff, kept_ring, taut_turned_iff, two_ways}
+pub use Rattle.ring_laws.proofs.Simple.TwoWays.{bent_kept, kept_ring, taut_turned_iff, two_ways}

@@ -2,7 +2,7 @@
 
 -- A chain with all vertices that it touches is one list: points in order along a segment are known by which they are.
 mod OneFull
-pub use Rattle.rings.proofs.Full.OneFull.{farther, not_both_nearer, one_full, one_order, one_touched}
+pub use Rattle.rings.proofs.Full.OneFull.{one_full}
 -- Points in order with one more, and a chain with what it touches that goes on by one point.
 mod LongerLists
 pub use Rattle.rings.proofs.Full.LongerLists.{full_more, in_order_more}

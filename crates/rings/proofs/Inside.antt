@@ -27,4 +27,4 @@ pub use Rattle.rings.proofs.Inside.Mirrored.{apart_turned, turned_corner, windin
 mod TurnedBends
 -- A rational point that is farther in some direction than all vertices of a ring is not in it; and from each point there is such a point in each direction.
 mod FarPoints
-pub use Rattle.rings.proofs.Inside.FarPoints.{IsLessFar, Outside, not_in_extreme, outside}
+pub use Rattle.rings.proofs.Inside.FarPoints.{IsLessFar, not_in_extreme, outside}

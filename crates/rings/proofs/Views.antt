@@ -5,9 +5,9 @@ mod SeenInParts
 pub use Rattle.rings.proofs.Views.SeenInParts.{view_law}
 -- The parts of the edges that a point sees are the only ones: two lists of them have the same edges and ends.
 mod OneView
-pub use Rattle.rings.proofs.Views.OneView.{AreSameParts, parts_are_one}
+pub use Rattle.rings.proofs.Views.OneView.{parts_are_one}
 -- Rising numbers of which two lists have the same: the lists are one.
 mod Rising
 -- The parts of the edges that a point sees, where the ring is read the other way round.
 mod TurnedParts
-pub use Rattle.rings.proofs.Views.TurnedParts.{parts_either, parts_turned, view_turned}
+pub use Rattle.rings.proofs.Views.TurnedParts.{parts_either, view_turned}

@@ -32,6 +32,11 @@ pub record IsBalancedTree (tree : Tree) : Type 0 where
 abbrev pub DifferByAtMost : ℕ → ℕ → ℕ → Type 0
 DifferByAtMost by l r = (l ≤ r + by) × (r ≤ l + by)
 
+-- there is room for a value between two trees, and neither is more than this above the other
+pub record HaveRoomBetween (by : ℕ) (one other : Tree) : Type 0 where
+  pub short : length one.items + length other.items + 1 < 2 ^ 31
+  pub near : DifferByAtMost by one.height other.height
+
 -- a fork over two trees, with a value between
 abbrev pub forked : Tree → ℕ → Tree → Tree
 forked l v r = record { items = l.items ++ v ∷ r.items; height = max l.height r.height + 1 }

@@ -1,7 +1,7 @@
 // A node of a height-balanced tree. Making a node and opening one are steps; its height and its count are told without one. No
 // node is changed.
-ghost use Rattle.std.specs.Prelude.{◌≡◌, ◌+◌, ◌^◌, ◌<◌, ◌≤◌, IfOk, length};
-ghost use Rattle.shared_seq.specs.Tree.{DifferByAtMost, IsBalancedTree, IsFork, IsWay, forked, lent_at, tree_at};
+ghost use Rattle.std.specs.Prelude.{◌≡◌, ◌+◌, ◌≤◌, IfOk, length};
+ghost use Rattle.shared_seq.specs.Tree.{HaveRoomBetween, IsBalancedTree, IsFork, IsWay, forked, lent_at, tree_at};
 ghost use Rattle.shared_seq.specs.Node.{tree_after, tree_before};
 
 use crate::side::Side;
@@ -79,8 +79,7 @@ impl Node {
         other: Subtree,
         steps: &mut Steps<L>,
     ) -> Result<Rc<Node>, Memory>
-        requires short { length (tree_at one).items + length (tree_at other).items + 1 < 2 ^ 31 }
-        requires near { DifferByAtMost 1 (tree_at one).height (tree_at other).height }
+        requires { HaveRoomBetween 1 (tree_at one) (tree_at other) }
         ensures fork { IfOk result (λ node. IsFork side (tree_at one) value (tree_at other) node.value) }
         ensures steps { steps.new ≡ steps.old + 1 }
     {
@@ -99,8 +98,7 @@ impl Node {
         other: Subtree,
         steps: &mut Steps<L>,
     ) -> Result<Rc<Node>, Memory>
-        requires short { length (lent_at one).items + length (tree_at other).items + 1 < 2 ^ 31 }
-        requires near { DifferByAtMost 1 (lent_at one).height (tree_at other).height }
+        requires { HaveRoomBetween 1 (lent_at one) (tree_at other) }
         ensures fork { IfOk result (λ node. IsFork side (lent_at one.entry) value (tree_at other) node.value) }
         ensures steps { steps.new ≤ steps.old + 1 }
     {
@@ -115,8 +113,7 @@ impl Node {
         right: Subtree,
         steps: &mut Steps<L>,
     ) -> Result<Rc<Node>, Memory>
-        requires short { length (tree_at left).items + length (tree_at right).items + 1 < 2 ^ 31 }
-        requires near { DifferByAtMost 1 (tree_at left).height (tree_at right).height }
+        requires { HaveRoomBetween 1 (tree_at left) (tree_at right) }
         ensures tree { IfOk result (λ node. node.value ≡ forked (tree_at left) value (tree_at right)) }
         ensures steps { steps.new ≡ steps.old + 1 }
     {

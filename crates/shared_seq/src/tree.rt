@@ -1,7 +1,7 @@
 // Lists as height-balanced trees of nodes. Each call makes the nodes that are new and shares the others.
 ghost use Rattle.std.specs.Prelude.{◌≡◌, ◌+◌, ◌-◌, ◌*◌, ◌^◌, ◌<◌, ◌≤◌, ◌∷◌, ◌++◌, max, IfOk, length, OnErr, slice_index, slice_set};
 ghost use Rattle.std.specs.List.{insert, remove};
-ghost use Rattle.shared_seq.specs.Tree.{DifferByAtMost, IsGrownHeight, IsJoinedTree, IsKeptPart, IsTurnedTree, kept_length, lent_at, tree_at};
+ghost use Rattle.shared_seq.specs.Tree.{DifferByAtMost, HaveRoomBetween, IsGrownHeight, IsJoinedTree, IsKeptPart, IsTurnedTree, kept_length, lent_at, tree_at};
 
 use crate::node::{Node, Parts, Subtree, Way, count, height, shared};
 use crate::side::Side;
@@ -38,8 +38,7 @@ fn balance<L: Ledger>(
     other: Subtree,
     steps: &mut Steps<L>,
 ) -> Result<Rc<Node>, Memory>
-    requires short { length (tree_at one).items + length (tree_at other).items + 1 < 2 ^ 31 }
-    requires near { DifferByAtMost 2 (tree_at one).height (tree_at other).height }
+    requires { HaveRoomBetween 2 (tree_at one) (tree_at other) }
     ensures joined { IfOk result (λ tree. IsJoinedTree side (tree_at one) value (tree_at other) tree.value) }
     ensures steps { steps.new ≤ steps.old + 5 }
 {
@@ -61,8 +60,7 @@ fn balance_beside<L: Ledger>(
     other: Subtree,
     steps: &mut Steps<L>,
 ) -> Result<Rc<Node>, Memory>
-    requires short { length (lent_at one).items + length (tree_at other).items + 1 < 2 ^ 31 }
-    requires near { DifferByAtMost 2 (lent_at one).height (tree_at other).height }
+    requires { HaveRoomBetween 2 (lent_at one) (tree_at other) }
     ensures joined { IfOk result (λ tree. IsJoinedTree side (lent_at one.entry) value (tree_at other) tree.value) }
     ensures steps { steps.new ≤ steps.old + 5 }
 {
@@ -79,8 +77,7 @@ fn balance_with<L: Ledger>(
     other: Option<&Rc<Node>>,
     steps: &mut Steps<L>,
 ) -> Result<Rc<Node>, Memory>
-    requires short { length (tree_at one).items + length (lent_at other).items + 1 < 2 ^ 31 }
-    requires near { DifferByAtMost 2 (tree_at one).height (lent_at other).height }
+    requires { HaveRoomBetween 2 (tree_at one) (lent_at other) }
     ensures joined { IfOk result (λ tree. IsJoinedTree side (tree_at one) value (lent_at other.entry) tree.value) }
     ensures steps { steps.new ≤ steps.old + 5 }
 {

@@ -20,12 +20,13 @@ use Rattle.plane.proofs.Turns.{determinant_swap_first, areas_add, combination_of
 use Rattle.plane.proofs.Turns.{straight_swap_first, weights_positive}
 use Rattle.plane.specs.Point.{Point, whole}
 use Rattle.plane.specs.Segment.{On}
+use Rattle.plane.specs.Triangle.{height_over}
 use Rattle.plane.specs.Turn.{IsLeft, IsRight, IsStraight, determinant}
 use Rattle.rings.specs.Chain.{point_at}
 use Rattle.funnels.proofs.Bends.{turning_along, turning_four, turning_straight}
 use Rattle.funnels.proofs.Funnels.{level, lower, straight_on_line, left_of_apex, right_of_apex, window_of_reached, not_negative}
 use Rattle.funnels.specs.Fanned.{turning}
-use Rattle.funnels.specs.Funnel.{Reaches, height, IsFunnel, IsReachedFrom}
+use Rattle.funnels.specs.Funnel.{Reaches, IsFunnel, IsReachedFrom}
 use Rattle.funnels.specs.OpenFunnel.{IsApexSide}
 
 -- on the way from q over o to n the chain turns to the right, or on the other side to the left
@@ -135,23 +136,23 @@ both_at_most h k = omega (arith, ints)
 
 module _ (l r o p y : Point) (straight : IsStraight (whole o) (whole p) (whole y)) where
   -- how two points on one line with o are seen from o, by their heights below it
-  as_they_fall : (q : Point) → determinant (whole o) (whole q) (whole p) *ℤ (height l r (whole o) -ℤ height l r (whole y))
-      ≡ determinant (whole o) (whole q) (whole y) *ℤ (height l r (whole o) -ℤ height l r (whole p))
+  as_they_fall : (q : Point) → determinant (whole o) (whole q) (whole p) *ℤ (height_over l r (whole o) -ℤ height_over l r (whole y))
+      ≡ determinant (whole o) (whole q) (whole y) *ℤ (height_over l r (whole o) -ℤ height_over l r (whole p))
   as_they_fall q =
       from_relations _ _ _ _ _ _ _ _ _ _ (four_beside (whole o) (whole p) (whole y) (whole q) (whole r) (whole l)) (areas_add o p y q)
       (determinant_swap_last (whole o) (whole q) (whole y)) (determinant_swap_last (whole o) (whole q) (whole p)) straight
 
   -- so they are on one side of each way from o, where they are both lower than o
-  same_turn : (side : Bool) (q : Point) → height l r (whole p) <ℤ height l r (whole o) → height l r (whole y) <ℤ height l r (whole o)
+  same_turn : (side : Bool) (q : Point) → height_over l r (whole p) <ℤ height_over l r (whole o) → height_over l r (whole y) <ℤ height_over l r (whole o)
       → turning side o (whole q) (whole p) <ℤ pos 0 → turning side o (whole q) (whole y) <ℤ pos 0
   same_turn true q = same_sign _ _ _ _ _ (as_they_fall q)
   same_turn false q = same_sign_opposite _ _ _ _ _ (as_they_fall q)
 
 -- ---- between the two edges
 
-module _ (side : Bool) (l r o q y : Point) (beyond : On (whole y) (whole l) (whole r) ⊎ (height l r (whole y) <ℤ pos 0)) where
+module _ (side : Bool) (l r o q y : Point) (beyond : On (whole y) (whole l) (whole r) ⊎ (height_over l r (whole y) <ℤ pos 0)) where
   -- a point beyond the diagonal, or on it, is not above it
-  not_above : height l r (whole y) ≤ℤ pos 0
+  not_above : height_over l r (whole y) ≤ℤ pos 0
   not_above = elim beyond [
     | inr below ↦ weak_order below
     | inl on ↦
@@ -168,14 +169,14 @@ module _ (side : Bool) (l r o q y : Point) (beyond : On (whole y) (whole l) (who
       (turning_along side (whole y) (whole l) (whole r) c o (whole q))
       (weights_positive (whole y) (whole l) (whole r) c (whole_is_point y)) at_l at_r
 
-  module _ (p s : Point) (reach : Reaches o p l r) (differ : ¬ (o ≡ p)) (up : pos 0 ≤ℤ height l r (whole p))
-      (flat : height l r (whole o) ≡ pos 0 → (turning side o (whole q) (whole l) <ℤ pos 0) × (turning side o (whole q) (whole r) <ℤ pos 0))
+  module _ (p s : Point) (reach : Reaches o p l r) (differ : ¬ (o ≡ p)) (up : pos 0 ≤ℤ height_over l r (whole p))
+      (flat : height_over l r (whole o) ≡ pos 0 → (turning side o (whole q) (whole l) <ℤ pos 0) × (turning side o (whole q) (whole r) <ℤ pos 0))
       (at_p : turning side o (whole q) (whole p) <ℤ pos 0) where
     -- where y is in line with the edge to p, it is behind q with p,
     behind_on_edge : turning side o (whole p) (whole y) ≡ pos 0 → turning side o (whole q) (whole y) <ℤ pos 0
     behind_on_edge e =
         let straight = turning_straight side o (whole p) (whole y) e in
-        elim (lt_or_le (height l r (whole p)) (height l r (whole o))) [
+        elim (lt_or_le (height_over l r (whole p)) (height_over l r (whole o))) [
           | inl falls ↦ same_turn l r o p y straight side q falls (far_below not_above up falls) at_p
           | inr stays ↦
               let ends = level o p l r reach (both_at_most (lower o p l r reach) stays) in
@@ -200,7 +201,7 @@ module _ (side : Bool) (l r o q y : Point) (beyond : On (whole y) (whole l) (who
     ]
 
 module _ (ns : List Point) (a : ℕ) (l r : Point) (f : IsFunnel ns a l r) (q y : Point)
-    (beyond : On (whole y) (whole l) (whole r) ⊎ (height l r (whole y) <ℤ pos 0)) (reached : IsReachedFrom ns a a (whole y)) where
+    (beyond : On (whole y) (whole l) (whole r) ⊎ (height_over l r (whole y) <ℤ pos 0)) (reached : IsReachedFrom ns a a (whole y)) where
   -- such a point is not ahead of the left edge,
   pub not_ahead_of_left : 0 < a → determinant (whole (point_at ns a)) (whole (point_at ns (a - 1))) (whole y) ≤ℤ pos 0
   not_ahead_of_left some =

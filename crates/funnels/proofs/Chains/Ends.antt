@@ -12,6 +12,7 @@ use Rattle.plane.proofs.Points.{same_whole, whole_is_point}
 use Rattle.plane.proofs.Segments.{on_reversed}
 use Rattle.plane.proofs.Turns.{determinant_shift, determinant_swap_first}
 use Rattle.plane.specs.Point.{IsSame, Point, whole}
+use Rattle.plane.specs.Triangle.{height_over}
 use Rattle.plane.specs.Turn.{IsLeft, IsRight}
 use Rattle.rings.specs.Bend.{IsBend}
 use Rattle.rings.specs.Chain.{point_at}
@@ -29,7 +30,7 @@ use Rattle.funnels.proofs.Funnels.{not_negative, reaches_new, left_place, next_l
 use Rattle.funnels.proofs.Vertices.{IsSharedSide, fitted_counterclockwise, fitted_long, fitted_simple, shared_side_back}
 use Rattle.funnels.specs.Corner.{HasCornerOn, IsInAngle}
 use Rattle.funnels.specs.Fanned.{IsFanned, turning, IsOpenToward}
-use Rattle.funnels.specs.Funnel.{IsFunnel, IsReachedFrom, height, IsPassed}
+use Rattle.funnels.specs.Funnel.{IsFunnel, IsReachedFrom, IsPassed}
 use Rattle.funnels.specs.OpenFunnel.{HasOpenEnds, IsBeforeFirst, IsBeforeLast, left_behind, right_behind}
 
 module _ (corners : List Point) (tris : List Tri) (fits : Fits corners tris) (k : ℕ) (within : k < length tris)
@@ -98,7 +99,7 @@ module _ (corners : List Point) (tris : List Tri) (fits : Fits corners tris) (k 
   corner_left = turns_left corners (tri_at tris k) (fits.triangles k within).counterclockwise i j m first second
 
   -- and so beyond it
-  pub corner_beyond : height (vertex corners i) (vertex corners j) (whole (vertex corners m)) <ℤ pos 0
+  pub corner_beyond : height_over (vertex corners i) (vertex corners j) (whole (vertex corners m)) <ℤ pos 0
   corner_beyond =
       turned_negative
       (determinant_swap_first (whole (vertex corners i)) (whole (vertex corners j)) (whole (vertex corners m))) corner_left
@@ -110,7 +111,7 @@ module _ (corners : List Point) (tris : List Tri) (fits : Fits corners tris) (k 
     corner_differs same =
         let l = vertex corners i in
         let r = vertex corners j in
-        not_both corner_beyond (subst (λ (p : Point). pos 0 ≤ℤ height l r (whole p)) same (not_negative ns a l r f h reached.within))
+        not_both corner_beyond (subst (λ (p : Point). pos 0 ≤ℤ height_over l r (whole p)) same (not_negative ns a l r f h reached.within))
 
     -- and the way from there meets the diagonal, so seen from m it is between i and j
     within_corner : IsInAngle true corners j m i (whole (point_at ns h))
@@ -172,7 +173,7 @@ module _ (before ns : List Point) (a h : ℕ) (m x : Point) (apex : a < length n
 
 -- an only edge on the left is passed by the way to each point beyond
 passed_only : (ns : List Point) (a : ℕ) (l r m : Point) → IsFunnel ns a l r → a ≡ 1 → length ns ≡ 2
-    → height l r (whole m) <ℤ pos 0 → IsPassed ns a 1 (whole m)
+    → height_over l r (whole m) <ℤ pos 0 → IsPassed ns a 1 (whole m)
 passed_only ns a l r m f one two beyond =
     let end : length ns - 1 ≡ 1 = omega arith in
     let last : point_at ns 1 ≡ r = ap (point_at ns) (sym end) ∙ f.last in

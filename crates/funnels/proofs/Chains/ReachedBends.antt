@@ -10,6 +10,7 @@ use Rattle.plane.proofs.Points.{whole_is_point}
 use Rattle.plane.proofs.Turns.{determinant_swap_first}
 use Rattle.plane.specs.Point.{Point, whole}
 use Rattle.plane.specs.Segment.{On}
+use Rattle.plane.specs.Triangle.{height_over}
 use Rattle.rings.specs.Bend.{IsBend}
 use Rattle.rings.specs.Chain.{point_at}
 use Rattle.rings.specs.Ring.{vertex}
@@ -30,7 +31,7 @@ use Rattle.funnels.proofs.Funnels.{window_of_reached, left_of_way, right_of_way,
 use Rattle.funnels.proofs.Funnels.{funnel_right}
 use Rattle.funnels.proofs.Vertices.{IsSharedSide, shared_side_back}
 use Rattle.funnels.specs.Fanned.{turning}
-use Rattle.funnels.specs.Funnel.{IsFunnel, IsReachedFrom, height, Reaches}
+use Rattle.funnels.specs.Funnel.{IsFunnel, IsReachedFrom, Reaches}
 use Rattle.funnels.specs.OpenFunnel.{IsBentFunnel, HasOpenEnds, IsApexSide, IsLastOf, IsOpenFunnel, left_behind, right_behind}
 
 module _ (ring before ns : List Point) (a : ℕ) (l r : Point) (f : IsFunnel ns a l r) (bent : IsBentFunnel ring before ns a) (h : ℕ)
@@ -70,7 +71,7 @@ module _ (corners : List Point) (tris : List Tri) (fits : Fits corners tris) (k 
     (q : Point) (comes : IsLastOf before q) where
   -- y is on the diagonal, or beyond it
   beyond : On (whole y) (whole (vertex corners i)) (whole (vertex corners j))
-      ⊎ (height (vertex corners i) (vertex corners j) (whole y) <ℤ pos 0)
+      ⊎ (height_over (vertex corners i) (vertex corners j) (whole y) <ℤ pos 0)
   beyond =
       (is_behind corners (tri_at tris k) (fits.triangles k within).counterclockwise i j first (vertex corners i) (vertex corners j) refl
       refl).beyond (whole y) (whole_is_point y) inside

@@ -11,6 +11,7 @@ use Rattle.plane.proofs.Segments.{on_first_end, on_last_end, on_reversed}
 use Rattle.plane.proofs.Turns.{determinant_swap_first}
 use Rattle.plane.specs.Point.{IsPoint, Point, Triple, whole}
 use Rattle.plane.specs.Segment.{On}
+use Rattle.plane.specs.Triangle.{height_over}
 use Rattle.plane.specs.Turn.{IsLeft, IsRight, determinant}
 use Rattle.rings.specs.Chain.{point_at}
 use Rattle.rings.specs.Inside.{IsIn}
@@ -27,7 +28,7 @@ use Rattle.funnels.proofs.Funnels.{crossing_in_window, IsEnd, flat_apex, IsFlat,
 use Rattle.funnels.proofs.Funnels.{edge_after, edge_before, in_window_of, window_of_reached, not_negative, left_place, new_edge_left}
 use Rattle.funnels.proofs.Funnels.{new_edge_right, old_edge_left, old_edge_right, next_left_length, next_right_last, next_right_length}
 use Rattle.funnels.proofs.Funnels.{next_right_old, old_window_left, old_window_right}
-use Rattle.funnels.specs.Funnel.{Reaches, IsFunnel, IsInWindow, IsReachedFrom, height, IsFunnelEdge}
+use Rattle.funnels.specs.Funnel.{Reaches, IsFunnel, IsInWindow, IsReachedFrom, IsFunnelEdge}
 use Rattle.funnels.specs.OpenFunnel.{IsOpenSight}
 
 -- the triangle has the points of the side, and all others of it are beyond the side
@@ -102,7 +103,7 @@ module _ (corners ring : List Point) (t : Tri) (inside : (z : Triple) → IsPoin
   module _ (h : ℕ) (some : 0 < h) (more : h + 1 < length ns) (y : Triple) (at_y : IsPoint y) (in_y : IsInTri corners t y)
       (window : IsInWindow ns a h y) where
     -- one above it what is in its window,
-    sees_from_above : pos 0 <ℤ height l r (whole (point_at ns h)) → Sees ring (whole (point_at ns h)) y
+    sees_from_above : pos 0 <ℤ height_over l r (whole (point_at ns h)) → Sees ring (whole (point_at ns h)) y
     sees_from_above up =
         let n = point_at ns h in
         let d = edge_before ns a l r f h some (omega arith) in
@@ -113,7 +114,7 @@ module _ (corners ring : List Point) (t : Tri) (inside : (z : Triple) → IsPoin
         y at_y in_y (window.not_left d.from d.to some d.is) (window.not_right e.from e.to more e.is)
 
     -- and so does one that is on the line of the diagonal,
-    sees_from_level : height l r y <ℤ pos 0 → height l r (whole (point_at ns h)) ≡ pos 0 → Sees ring (whole (point_at ns h)) y
+    sees_from_level : height_over l r y <ℤ pos 0 → height_over l r (whole (point_at ns h)) ≡ pos 0 → Sees ring (whole (point_at ns h)) y
     sees_from_level beyond flat = elim (cases_eq h a) [
       | inr other ↦ sees_from_place h (flat_off_apex ns a l r f h (omega arith) other flat) y at_y in_y
       | inl apex ↦ elim (flat_apex ns a l r f (subst (IsFlat ns l r) apex flat)) [
@@ -123,8 +124,8 @@ module _ (corners ring : List Point) (t : Tri) (inside : (z : Triple) → IsPoin
     ]
 
     -- an inner one sees what is in its window beyond the diagonal
-    sees_from_inner : height l r y <ℤ pos 0 → Sees ring (whole (point_at ns h)) y
-    sees_from_inner beyond = elim (sign (height l r (whole (point_at ns h)))) [
+    sees_from_inner : height_over l r y <ℤ pos 0 → Sees ring (whole (point_at ns h)) y
+    sees_from_inner beyond = elim (sign (height_over l r (whole (point_at ns h)))) [
       | is_negative n ↦ absurd (not_both n (not_negative ns a l r f h (omega arith)))
       | is_zero flat ↦ sees_from_level beyond flat
       | is_positive up ↦ sees_from_above up

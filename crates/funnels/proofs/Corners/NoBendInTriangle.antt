@@ -20,8 +20,8 @@ use Rattle.plane.specs.Turn.{IsLeft}
 use Rattle.rings.specs.Bend.{AreNeighbours, IsBend}
 use Rattle.rings.specs.Orientation.{IsReflex, turn_at}
 use Rattle.rings.specs.Ring.{vertex}
+use Rattle.ring_laws.proofs.Diagonals.{AreBoth}
 use Rattle.ring_laws.proofs.Vertices.{neighbour_is}
-use Rattle.meshes.proofs.Joins.{AreEnds}
 use Rattle.meshes.proofs.Parts.{side_in, paved, one_vertex, side_numbers}
 use Rattle.meshes.proofs.Sides.{edge_or_not, ends_below}
 use Rattle.meshes.proofs.TreeLeaves.{side_is_one, turns_left}
@@ -50,7 +50,7 @@ within_on_ray side corners before v after x y ray within =
 module _ (corners : List Point) (tris : List Tri) (fits : Fits corners tris) (k before v after : ℕ) (within : k < length tris)
     (corner : HasCornerOn true (tri_at tris k) before v after) where
   -- each side is at v or opposite
-  pub side_at_corner : (i j : ℕ) → HasSideBetween (tri_at tris k) i j → (i ≡ v) ⊎ (j ≡ v) ⊎ AreEnds after before i j
+  pub side_at_corner : (i j : ℕ) → HasSideBetween (tri_at tris k) i j → (i ≡ v) ⊎ (j ≡ v) ⊎ AreBoth after before i j
   side_at_corner i j between =
       let one = side_is_one corners (tri_at tris k) (fits.triangles k within).counterclockwise before v after corner.0 corner.1 in
       elim between [
@@ -92,7 +92,7 @@ module _ (corners : List Point) (tris : List Tri) (fits : Fits corners tris) (k 
 
   -- whichever of its ends is the first
   pub within_of_seen : (y : Point) → ¬ (y ≡ vertex corners v) → (z : Triple) → IsPoint z → On z (whole (vertex corners v)) (whole y)
-      → (i j : ℕ) → AreEnds after before i j → On z (whole (vertex corners i)) (whole (vertex corners j)) → IsInAngle true corners before v after (whole y)
+      → (i j : ℕ) → AreBoth after before i j → On z (whole (vertex corners i)) (whole (vertex corners j)) → IsInAngle true corners before v after (whole y)
   within_of_seen y differs z at_z on i j (inl e) side =
       let on_side = subst (λ m. On z (whole (vertex corners m)) (whole (vertex corners j))) e.0 side in
       seen_across y differs z at_z on (subst (λ n. On z (whole (vertex corners after)) (whole (vertex corners n))) e.1 on_side)

@@ -14,7 +14,8 @@ use Rattle.plane.specs.Point.{Point, Triple, whole}
 use Rattle.rings.specs.Bend.{IsBend}
 use Rattle.rings.specs.Ring.{vertex}
 use Rattle.rings.specs.Sees.{Sees}
-use Rattle.meshes.proofs.Joins.{AreEnds, between_back}
+use Rattle.ring_laws.proofs.Diagonals.{AreBoth}
+use Rattle.meshes.proofs.Joins.{between_back}
 use Rattle.meshes.proofs.Parts.{side_in, paved}
 use Rattle.meshes.proofs.Sight.{sleeve_law}
 use Rattle.meshes.specs.Fits.{Fits, IsInTri}
@@ -104,7 +105,7 @@ module _ (corners : List Point) (tris : List Tri) (fits : Fits corners tris) whe
   module _ (walk : List ℕ) (w : IsWalk tris walk) (before v after : ℕ) (y : Point) (differs : ¬ (y ≡ vertex corners v)) where
     -- over the side opposite to corner v of the first triangle, a point that v sees is within the angle there,
     departs_over : HasCornerOn true (walk_tri tris walk 0) before v after → Sees corners (whole (vertex corners v)) (whole y)
-        → IsInTri corners (walk_tri tris walk (length walk - 1)) (whole y) → (i j : ℕ) → CrossesSide tris walk 0 i j → AreEnds after before i j
+        → IsInTri corners (walk_tri tris walk (length walk - 1)) (whole y) → (i j : ℕ) → CrossesSide tris walk 0 i j → AreBoth after before i j
         → IsInAngle true corners before v after (whole y)
     departs_over corner sees last i j c ends =
         let V = vertex corners v in
@@ -138,7 +139,7 @@ module _ (corners : List Point) (tris : List Tri) (fits : Fits corners tris) whe
     module _ (corner : HasCornerOn true (walk_tri tris walk (length walk - 1)) before v after) (sees : Sees corners (whole y) (whole (vertex corners v))) where
       -- over the side opposite to corner v of the last triangle, a point that sees v is within the angle there
       arrives_over : (m : ℕ) → m + 1 < length walk → IsInTri corners (walk_tri tris walk m) (whole y) → (l i j : ℕ) → l + 2 ≡ length walk
-          → CrossesSide tris walk l i j → AreEnds after before i j → IsInAngle true corners before v after (whole y)
+          → CrossesSide tris walk l i j → AreBoth after before i j → IsInAngle true corners before v after (whole y)
       arrives_over m within inside l i j place c ends =
           let V = vertex corners v in
           let e : ℕ = get_or walk (length walk - 1) 0 in
@@ -159,7 +160,7 @@ module _ (corners : List Point) (tris : List Tri) (fits : Fits corners tris) whe
 
       module _ (new : (l : ℕ) → l + 1 < length walk → ¬ IsInTri corners (walk_tri tris walk l) (whole (vertex corners v))) where
         -- the walk comes to its last triangle over the side opposite to v, where no earlier triangle has v,
-        comes_opposite : (l i j : ℕ) → l + 2 ≡ length walk → CrossesSide tris walk l i j → AreEnds after before i j
+        comes_opposite : (l i j : ℕ) → l + 2 ≡ length walk → CrossesSide tris walk l i j → AreBoth after before i j
         comes_opposite l i j place c =
             let e : ℕ = get_or walk (length walk - 1) 0 in
             let last : l + 1 ≡ length walk - 1 = omega arith in

@@ -20,10 +20,11 @@ use Rattle.plane.proofs.Turns.{four_triples_in_Y, straight_swap_first, determina
 use Rattle.plane.proofs.Turns.{determinant_swap_first, straight_shift_back, straight_swap_last}
 use Rattle.plane.specs.Point.{Point, whole, Triple, IsPoint}
 use Rattle.plane.specs.Segment.{On}
+use Rattle.plane.specs.Triangle.{height_over}
 use Rattle.plane.specs.Turn.{IsLeft, IsStraight, determinant, IsRight}
 use Rattle.ring_laws.proofs.Triangles.{left_of, left_of_is_left, on_first_side, in_triangle}
 use Rattle.funnels.proofs.Funnels.LineCrossed.{determinant_on_line, on_line_between, weight_on_line, not_left_along, not_right_along}
-use Rattle.funnels.specs.Funnel.{height, Reaches}
+use Rattle.funnels.specs.Funnel.{Reaches}
 
 -- an end n of an edge from u to w
 abbrev pub IsEnd : Point → Point → Point → Type 0
@@ -139,28 +140,28 @@ also_negative h k D E nh nk e some = elim (lt_or_le E (pos 0)) [
   | inr more ↦ absurd (omega (arith, ints, mul_negatives h D nh some, mul_comm k E, mul_nonpositive E k more (omega (arith, ints))))
 ]
 
-module _ (l r n : Point) (flat : height l r (whole n) ≡ pos 0) where
+module _ (l r n : Point) (flat : height_over l r (whole n) ≡ pos 0) where
   -- the ends of the diagonal are on one line with it
   on_line : IsStraight (whole n) (whole l) (whole r)
   on_line = straight_swap_last (whole n) (whole r) (whole l) (straight_shift_back (whole r) (whole l) (whole n) flat)
 
-  module _ (z y : Triple) (beyond_z : height l r z <ℤ pos 0) (beyond_y : height l r y <ℤ pos 0) where
+  module _ (z y : Triple) (beyond_z : height_over l r z <ℤ pos 0) (beyond_y : height_over l r y <ℤ pos 0) where
     -- where a point beyond is to the left of the way to l, all are,
     left_of_all : IsLeft (whole n) (whole l) z → IsLeft (whole n) (whole l) y
     left_of_all =
-        also_positive (height l r y) (height l r z) (determinant (whole n) (whole l) z) (determinant (whole n) (whole l) y)
+        also_positive (height_over l r y) (height_over l r z) (determinant (whole n) (whole l) z) (determinant (whole n) (whole l) y)
         beyond_y beyond_z (in_proportion (whole n) (whole l) (whole r) (whole l) z y on_line (determinant_same_last (whole n) (whole l)))
 
     -- and where one is to the right of the way to r, all are
     right_of_all : IsRight (whole n) (whole r) z → IsRight (whole n) (whole r) y
     right_of_all =
-        also_negative (height l r y) (height l r z) (determinant (whole n) (whole r) z) (determinant (whole n) (whole r) y)
+        also_negative (height_over l r y) (height_over l r z) (determinant (whole n) (whole r) z) (determinant (whole n) (whole r) y)
         beyond_y beyond_z (in_proportion (whole n) (whole r) (whole r) (whole l) z y (determinant_same_last (whole n) (whole r))
         (straight_swap_last (whole n) (whole l) (whole r) on_line))
 
   -- the point is on the diagonal, or what is beyond is to the left of the way to l, or to the right of the way to r
   pub on_or_beside : ¬ (l ≡ r) → On (whole n) (whole l) (whole r)
-      ⊎ ((y : Triple) → height l r y <ℤ pos 0 → IsLeft (whole n) (whole l) y ⊎ IsRight (whole n) (whole r) y)
+      ⊎ ((y : Triple) → height_over l r y <ℤ pos 0 → IsLeft (whole n) (whole l) y ⊎ IsRight (whole n) (whole r) y)
   on_or_beside differ =
       let t = left_of l r in
       let z = whole t in

@@ -9,11 +9,12 @@ use Rattle.integer_algebra.proofs.Signs.{is_negative, is_positive, is_zero, sign
 use Rattle.plane.proofs.Segments.{on_first_end, on_last_end}
 use Rattle.plane.specs.Point.{Point, whole, Triple}
 use Rattle.plane.specs.Segment.{On}
+use Rattle.plane.specs.Triangle.{height_over}
 use Rattle.plane.specs.Turn.{IsLeft, IsRight, IsStraight}
 use Rattle.rings.specs.Chain.{point_at}
 use Rattle.funnels.proofs.Funnels.CrossingDiagonal.{on_by_sides, straight_on_line, on_or_beside}
 use Rattle.funnels.proofs.Funnels.Heights.{lower, lower_left, lower_right, not_negative, reaches_left, reaches_right}
-use Rattle.funnels.specs.Funnel.{IsFunnel, Reaches, height, IsInWindow}
+use Rattle.funnels.specs.Funnel.{IsFunnel, Reaches, IsInWindow}
 
 -- ---- points without height
 
@@ -26,9 +27,9 @@ not_less : {h k : ℤ} → k ≤ℤ h → k ≡ pos 0 → ¬ (h <ℤ pos 0)
 not_less m e n = omega (arith, ints)
 
 -- where an edge leads to a point without height, and the turn to the next such point is not straight, the point is on the diagonal
-on_diagonal : (l r o p q : Point) → ¬ (l ≡ r) → Reaches o p l r → height l r (whole p) ≡ pos 0 → height l r (whole q) ≡ pos 0
+on_diagonal : (l r o p q : Point) → ¬ (l ≡ r) → Reaches o p l r → height_over l r (whole p) ≡ pos 0 → height_over l r (whole q) ≡ pos 0
     → ¬ IsStraight (whole o) (whole p) (whole q) → On (whole p) (whole l) (whole r)
-on_diagonal l r o p q differ h at_p at_q turn = elim (sign (height l r (whole o))) [
+on_diagonal l r o p q differ h at_p at_q turn = elim (sign (height_over l r (whole o))) [
   | is_negative n ↦ absurd (not_less (lower o p l r h) at_p n)
   | is_zero e ↦ absurd (turn (straight_on_line r l (λ s. differ (sym s)) (whole o) (whole p) (whole q) e at_p at_q))
   | is_positive above ↦ on_by_sides p l r o at_p above h.not_right h.not_left
@@ -38,7 +39,7 @@ on_diagonal l r o p q differ h at_p at_q turn = elim (sign (height l r (whole o)
 
 -- the point at place i of a list has no height
 abbrev pub IsFlat : List Point → Point → Point → ℕ → Type 0
-IsFlat ns l r i = height l r (whole (point_at ns i)) ≡ pos 0
+IsFlat ns l r i = height_over l r (whole (point_at ns i)) ≡ pos 0
 
 -- it is on the diagonal
 abbrev pub IsOnDiagonal : List Point → Point → Point → ℕ → Type 0
@@ -108,7 +109,7 @@ module _ (ns : List Point) (a : ℕ) (l r : Point) (f : IsFunnel ns a l r) where
   ]
 
   -- a point without height other than the apex is on the diagonal
-  pub flat_off_apex : (i : ℕ) → i < length ns → ¬ (i ≡ a) → height l r (whole (point_at ns i)) ≡ pos 0
+  pub flat_off_apex : (i : ℕ) → i < length ns → ¬ (i ≡ a) → height_over l r (whole (point_at ns i)) ≡ pos 0
       → On (whole (point_at ns i)) (whole l) (whole r)
   flat_off_apex i h other e = elim (cases_lt i a) [
     | inl before ↦ on_at_left i before e
@@ -117,7 +118,7 @@ module _ (ns : List Point) (a : ℕ) (l r : Point) (f : IsFunnel ns a l r) where
         subst (IsOnDiagonal ns l r) same (on_at_right (i - 1) (omega arith) (omega arith) (subst (IsFlat ns l r) (sym same) e))
   ]
 
-module _ (ns : List Point) (a : ℕ) (l r : Point) (f : IsFunnel ns a l r) (flat : height l r (whole (point_at ns a)) ≡ pos 0) where
+module _ (ns : List Point) (a : ℕ) (l r : Point) (f : IsFunnel ns a l r) (flat : height_over l r (whole (point_at ns a)) ≡ pos 0) where
   -- beside the apex is the left end of the diagonal,
   pub left_of_apex : (i : ℕ) → i + 1 ≡ a → point_at ns i ≡ l
   left_of_apex zero e = f.first
@@ -141,7 +142,7 @@ module _ (ns : List Point) (a : ℕ) (l r : Point) (f : IsFunnel ns a l r) (flat
   ]
 
   -- so the apex is on the diagonal, or nothing beyond it is in its window
-  pub flat_apex : On (whole (point_at ns a)) (whole l) (whole r) ⊎ ((y : Triple) → height l r y <ℤ pos 0 → ¬ IsInWindow ns a a y)
+  pub flat_apex : On (whole (point_at ns a)) (whole l) (whole r) ⊎ ((y : Triple) → height_over l r y <ℤ pos 0 → ¬ IsInWindow ns a a y)
   flat_apex = elim (cases_lt 0 a) [
     | inr none ↦ let same : 0 ≡ a = omega arith in inl (subst (IsOnDiagonal ns l r) same (on_at_first ns a l r f))
     | inl some ↦ elim (cases_lt (a + 1) (length ns)) [

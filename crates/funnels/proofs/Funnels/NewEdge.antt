@@ -10,13 +10,14 @@ use Rattle.plane.proofs.Turns.{areas_add, determinant_same_ends, determinant_sam
 use Rattle.plane.proofs.Turns.{weights_positive}
 use Rattle.plane.specs.Point.{IsPoint, Point, Triple, whole}
 use Rattle.plane.specs.Segment.{On}
+use Rattle.plane.specs.Triangle.{height_over}
 use Rattle.plane.specs.Turn.{IsStraight, determinant}
 use Rattle.rings.specs.Chain.{point_at}
 use Rattle.funnels.proofs.Funnels.CrossingDiagonal.{crossing_in_window}
 use Rattle.funnels.proofs.Funnels.FlatFunnels.{flat_apex, at_last, flat_off_apex}
 use Rattle.funnels.proofs.Funnels.FunnelEdges.{edge_after, edge_before, window_of_reached}
 use Rattle.funnels.proofs.Funnels.Heights.{not_negative}
-use Rattle.funnels.specs.Funnel.{IsFunnel, IsReachedFrom, Reaches, height}
+use Rattle.funnels.specs.Funnel.{IsFunnel, IsReachedFrom, Reaches}
 
 -- ---- numbers
 
@@ -39,7 +40,7 @@ more_by_fall A B C D h k e f g m n = omega (arith, ints)
 -- ---- the way over the diagonal
 
 -- a way from n over a point of the diagonal from l to r to a point beyond it has l on its left and r on its right
-reaches_over : (n m l r : Point) → pos 0 ≤ℤ height l r (whole n) → height l r (whole m) <ℤ pos 0 → (x : Triple) → IsPoint x
+reaches_over : (n m l r : Point) → pos 0 ≤ℤ height_over l r (whole n) → height_over l r (whole m) <ℤ pos 0 → (x : Triple) → IsPoint x
     → On x (whole l) (whole r) → IsStraight (whole n) (whole m) x → Reaches n m l r
 reaches_over n m l r above beyond x at_x on straight =
     let c = combination_of x (whole l) (whole r) at_x (whole_is_point l) (whole_is_point r) on in
@@ -47,7 +48,7 @@ reaches_over n m l r above beyond x at_x on straight =
     let sum = determinant_along x (whole l) (whole r) c (whole n) (whole m) in
     let some = weights_positive x (whole l) (whole r) c at_x in
     let less = more_by_fall (determinant (whole m) (whole l) (whole r)) (determinant (whole n) (whole l) (whole r)) (at (whole r))
-    (at (whole l)) (height l r (whole n)) (height l r (whole m)) (areas_add n m l r)
+    (at (whole l)) (height_over l r (whole n)) (height_over l r (whole m)) (areas_add n m l r)
     (determinant_swap_ends (whole n) (whole l) (whole r)) (determinant_swap_ends (whole m) (whole l) (whole r)) above beyond in
     record {
       not_right =
@@ -58,7 +59,7 @@ reaches_over n m l r above beyond x at_x on straight =
           straight less;
     }
 
-module _ (ns : List Point) (a : ℕ) (l r : Point) (f : IsFunnel ns a l r) (h : ℕ) (m : Point) (beyond : height l r (whole m) <ℤ pos 0)
+module _ (ns : List Point) (a : ℕ) (l r : Point) (f : IsFunnel ns a l r) (h : ℕ) (m : Point) (beyond : height_over l r (whole m) <ℤ pos 0)
     (reached : IsReachedFrom ns a h (whole m)) where
   -- from a point of the diagonal,
   from_diagonal : On (whole (point_at ns h)) (whole l) (whole r) → Reaches (point_at ns h) m l r
@@ -68,11 +69,11 @@ module _ (ns : List Point) (a : ℕ) (l r : Point) (f : IsFunnel ns a l r) (h : 
       (determinant_same_ends (whole n) (whole m))
 
   -- or of its line,
-  from_line : height l r (whole (point_at ns h)) ≡ pos 0 → Reaches (point_at ns h) m l r
+  from_line : height_over l r (whole (point_at ns h)) ≡ pos 0 → Reaches (point_at ns h) m l r
   from_line flat = elim (cases_eq h a) [
     | inr off ↦ from_diagonal (flat_off_apex ns a l r f h reached.within off flat)
     | inl same ↦
-        elim (flat_apex ns a l r f (subst (λ n. height l r (whole (point_at ns n)) ≡ pos 0) same flat)) [
+        elim (flat_apex ns a l r f (subst (λ n. height_over l r (whole (point_at ns n)) ≡ pos 0) same flat)) [
           | inl on ↦ from_diagonal (subst (λ n. On (whole (point_at ns n)) (whole l) (whole r)) (sym same) on)
           | inr none ↦
               let here = subst (λ n. IsReachedFrom ns a n (whole m)) same reached in
@@ -81,29 +82,29 @@ module _ (ns : List Point) (a : ℕ) (l r : Point) (f : IsFunnel ns a l r) (h : 
   ]
 
   -- a point above it is not the first,
-  not_first : pos 0 <ℤ height l r (whole (point_at ns h)) → 0 < h
+  not_first : pos 0 <ℤ height_over l r (whole (point_at ns h)) → 0 < h
   not_first above = elim (cases_lt 0 h) [
     | inl some ↦ some
     | inr none ↦
         let e : h ≡ 0 = omega arith in
-        let first = subst (λ n. pos 0 <ℤ height l r (whole (point_at ns n))) e above in
-        absurd (positive_not_zero (subst (λ (p : Point). pos 0 <ℤ height l r (whole p)) f.first first)
+        let first = subst (λ n. pos 0 <ℤ height_over l r (whole (point_at ns n))) e above in
+        absurd (positive_not_zero (subst (λ (p : Point). pos 0 <ℤ height_over l r (whole p)) f.first first)
         (determinant_same_last (whole r) (whole l)))
   ]
 
   -- nor the last,
-  not_last : pos 0 <ℤ height l r (whole (point_at ns h)) → h + 1 < length ns
+  not_last : pos 0 <ℤ height_over l r (whole (point_at ns h)) → h + 1 < length ns
   not_last above = elim (cases_lt (h + 1) (length ns)) [
     | inl more ↦ more
     | inr none ↦
         let within = reached.within in
         let e = at_last ns a l r f h (omega arith) in
-        absurd (positive_not_zero (subst (λ (p : Point). pos 0 <ℤ height l r (whole p)) e above)
+        absurd (positive_not_zero (subst (λ (p : Point). pos 0 <ℤ height_over l r (whole p)) e above)
         (determinant_same_ends (whole r) (whole l)))
   ]
 
   -- so the way goes between its edges
-  from_above : pos 0 <ℤ height l r (whole (point_at ns h)) → Reaches (point_at ns h) m l r
+  from_above : pos 0 <ℤ height_over l r (whole (point_at ns h)) → Reaches (point_at ns h) m l r
   from_above above =
       let n = point_at ns h in
       let some = not_first above in
@@ -120,7 +121,7 @@ module _ (ns : List Point) (a : ℕ) (l r : Point) (f : IsFunnel ns a l r) (h : 
 
   -- the way from the place that a point beyond the diagonal is reached from meets the diagonal
   pub reaches_new : Reaches (point_at ns h) m l r
-  reaches_new = elim (sign (height l r (whole (point_at ns h)))) [
+  reaches_new = elim (sign (height_over l r (whole (point_at ns h)))) [
     | is_negative n ↦ absurd (not_both n (not_negative ns a l r f h reached.within))
     | is_zero flat ↦ from_line flat
     | is_positive above ↦ from_above above

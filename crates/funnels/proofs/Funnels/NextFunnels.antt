@@ -9,6 +9,7 @@ use Rattle.plane.proofs.Points.{whole_is_point}
 use Rattle.plane.proofs.Turns.{determinant_same_ends, determinant_same_last, determinant_swap_last}
 use Rattle.plane.specs.Point.{Point, whole, IsPoint, Triple}
 use Rattle.plane.specs.Segment.{On}
+use Rattle.plane.specs.Triangle.{height_over}
 use Rattle.rings.specs.Chain.{point_at}
 use Rattle.funnels.proofs.Funnels.FunnelEdges.{not_passed_not_right, passed_not_left, window_of_reached}
 use Rattle.funnels.proofs.Funnels.Heights.{not_negative}
@@ -20,18 +21,18 @@ use Rattle.funnels.proofs.Funnels.NextPoints.{right_new_at, right_on_left, right
 use Rattle.funnels.proofs.Funnels.PassedEdges.{not_passed_from, passed_to, left_of_way, right_of_way}
 use Rattle.funnels.proofs.Funnels.LineCrossed.{not_left_along, not_right_along}
 use Rattle.funnels.proofs.Funnels.ThreePoints.{by_points, turns_left, turns_not_left, turns_right}
-use Rattle.funnels.specs.Funnel.{IsFunnel, IsFunnelEdge, IsReachedFrom, Reaches, height, IsInWindow}
+use Rattle.funnels.specs.Funnel.{IsFunnel, IsFunnelEdge, IsReachedFrom, Reaches, IsInWindow}
 
-module _ (ns : List Point) (a : ℕ) (l r : Point) (f : IsFunnel ns a l r) (h : ℕ) (m : Point) (beyond : height l r (whole m) <ℤ pos 0)
+module _ (ns : List Point) (a : ℕ) (l r : Point) (f : IsFunnel ns a l r) (h : ℕ) (m : Point) (beyond : height_over l r (whole m) <ℤ pos 0)
     (reached : IsReachedFrom ns a h (whole m)) where
   -- m is no end of the old diagonal, and no point of the old funnel
   not_right_end : ¬ (m ≡ r)
   not_right_end e =
-      negative_not_zero (subst (λ (p : Point). height l r (whole p) <ℤ pos 0) e beyond) (determinant_same_ends (whole r) (whole l))
+      negative_not_zero (subst (λ (p : Point). height_over l r (whole p) <ℤ pos 0) e beyond) (determinant_same_ends (whole r) (whole l))
 
   not_old_left : (i : ℕ) → i < length ns → ¬ (m ≡ point_at ns i)
   not_old_left i within e =
-      not_both (subst (λ (p : Point). height l r (whole p) <ℤ pos 0) e beyond) (not_negative ns a l r f i within)
+      not_both (subst (λ (p : Point). height_over l r (whole p) <ℤ pos 0) e beyond) (not_negative ns a l r f i within)
 
   -- where the edge after h is on the right, the way to m does not turn to the left along it
   opens_from_new : a ≤ h → h + 1 < length ns → turns_not_left (point_at ns h) m (point_at ns (h + 1))
@@ -121,16 +122,16 @@ module _ (ns : List Point) (a : ℕ) (l r : Point) (f : IsFunnel ns a l r) (h : 
 -- ---- the funnel of the diagonal from the left end to a point beyond: the points to the place that the point is reached from, and the
 -- point
 
-module _ (ns : List Point) (a : ℕ) (l r : Point) (f : IsFunnel ns a l r) (h : ℕ) (m : Point) (beyond : height l r (whole m) <ℤ pos 0)
+module _ (ns : List Point) (a : ℕ) (l r : Point) (f : IsFunnel ns a l r) (h : ℕ) (m : Point) (beyond : height_over l r (whole m) <ℤ pos 0)
     (reached : IsReachedFrom ns a h (whole m)) where
   -- m is no end of the old diagonal, and no point of the old funnel
   not_left_end : ¬ (l ≡ m)
   not_left_end e =
-      negative_not_zero (subst (λ (p : Point). height l r (whole p) <ℤ pos 0) (sym e) beyond) (determinant_same_last (whole r) (whole l))
+      negative_not_zero (subst (λ (p : Point). height_over l r (whole p) <ℤ pos 0) (sym e) beyond) (determinant_same_last (whole r) (whole l))
 
   not_old_right : (i : ℕ) → i < length ns → ¬ (point_at ns i ≡ m)
   not_old_right i within e =
-      not_both (subst (λ (p : Point). height l r (whole p) <ℤ pos 0) (sym e) beyond) (not_negative ns a l r f i within)
+      not_both (subst (λ (p : Point). height_over l r (whole p) <ℤ pos 0) (sym e) beyond) (not_negative ns a l r f i within)
 
   module _ (ks : List Point) (count : length ks ≡ h + 2)
       (old : (i : ℕ) → i ≤ h → point_at ks i ≡ point_at ns i) (new : point_at ks (h + 1) ≡ m) where

@@ -10,44 +10,45 @@ use Rattle.integer_algebra.proofs.Signs.{lt_or_le}
 use Rattle.plane.proofs.Regions.{four_beside}
 use Rattle.plane.proofs.Turns.{determinant_same_ends, determinant_swap_first}
 use Rattle.plane.specs.Point.{IsPoint, Point, Triple, whole}
+use Rattle.plane.specs.Triangle.{height_over}
 use Rattle.plane.specs.Turn.{IsLeft, IsRight, IsStraight, determinant}
 use Rattle.rings.specs.Chain.{point_at}
 use Rattle.funnels.proofs.Funnels.CrossingDiagonal.{straight_on_line, areas_with}
 use Rattle.funnels.proofs.Funnels.FlatFunnels.{left_of_apex, right_of_apex, IsFlat, flat_left, flat_right, turn_left, turn_right}
 use Rattle.funnels.proofs.Funnels.Heights.{level, lower_left, lower_right, not_negative, reaches_left}
 use Rattle.funnels.proofs.Funnels.TestSigns.{level_at_apex, level_left, level_right, not_beside_all}
-use Rattle.funnels.specs.Funnel.{IsFunnel, height, IsPassed, IsReachedFrom}
+use Rattle.funnels.specs.Funnel.{IsFunnel, IsPassed, IsReachedFrom}
 
 -- ---- two edges at a common point, and a point that is not above the diagonal: where it is left of the outer one alone, or right of it
 
-module _ (p o q l r : Point) (y : Triple) (at_y : IsPoint y) (above : pos 0 ≤ℤ height l r (whole o)) (low : height l r y ≤ℤ pos 0) where
+module _ (p o q l r : Point) (y : Triple) (at_y : IsPoint y) (above : pos 0 ≤ℤ height_over l r (whole o)) (low : height_over l r y ≤ℤ pos 0) where
   -- of two left edges y is left of the outer alone only on the line of the diagonal,
-  pub outer_left : IsLeft (whole p) (whole o) (whole q) → height l r (whole o) ≤ℤ height l r (whole p)
-      → height l r (whole q) ≤ℤ height l r (whole o) → ¬ IsLeft (whole p) (whole o) y → IsLeft (whole o) (whole q) y
-      → (height l r (whole o) ≡ pos 0) × (height l r y ≡ pos 0)
+  pub outer_left : IsLeft (whole p) (whole o) (whole q) → height_over l r (whole o) ≤ℤ height_over l r (whole p)
+      → height_over l r (whole q) ≤ℤ height_over l r (whole o) → ¬ IsLeft (whole p) (whole o) y → IsLeft (whole o) (whole q) y
+      → (height_over l r (whole o) ≡ pos 0) × (height_over l r y ≡ pos 0)
   outer_left turn first second not_left left =
       level_left (determinant (whole o) (whole q) y) (determinant (whole p) (whole q) y) (determinant (whole p) (whole o) y)
-      (determinant (whole p) (whole o) (whole q)) y.W (height l r (whole p)) (height l r (whole o)) (height l r (whole q)) (height l r y)
+      (determinant (whole p) (whole o) (whole q)) y.W (height_over l r (whole p)) (height_over l r (whole o)) (height_over l r (whole q)) (height_over l r y)
       (four_beside (whole p) (whole o) (whole q) y (whole r) (whole l)) (areas_with p o q y) at_y above low
       (weak left) (at_most_unless not_left) turn first second
 
   -- of two right edges it is right of the outer alone only there,
-  pub outer_right : IsRight (whole p) (whole o) (whole q) → height l r (whole o) ≤ℤ height l r (whole p)
-      → height l r (whole q) ≤ℤ height l r (whole o) → pos 0 ≤ℤ determinant (whole p) (whole o) y → IsRight (whole o) (whole q) y
-      → (height l r (whole o) ≡ pos 0) × (height l r y ≡ pos 0)
+  pub outer_right : IsRight (whole p) (whole o) (whole q) → height_over l r (whole o) ≤ℤ height_over l r (whole p)
+      → height_over l r (whole q) ≤ℤ height_over l r (whole o) → pos 0 ≤ℤ determinant (whole p) (whole o) y → IsRight (whole o) (whole q) y
+      → (height_over l r (whole o) ≡ pos 0) × (height_over l r y ≡ pos 0)
   outer_right turn first second not_right right =
       level_right (determinant (whole o) (whole q) y) (determinant (whole p) (whole q) y) (determinant (whole p) (whole o) y)
-      (determinant (whole p) (whole o) (whole q)) y.W (height l r (whole p)) (height l r (whole o)) (height l r (whole q)) (height l r y)
+      (determinant (whole p) (whole o) (whole q)) y.W (height_over l r (whole p)) (height_over l r (whole o)) (height_over l r (whole q)) (height_over l r y)
       (four_beside (whole p) (whole o) (whole q) y (whole r) (whole l)) (areas_with p o q y) at_y above low
       (weak_order right) not_right turn first second
 
   module _ (opening : ¬ IsLeft (whole o) (whole p) (whole q)) (left : IsLeft (whole o) (whole p) y) (right : IsRight (whole o) (whole q) y) where
     -- and where it is left of the left edge at the apex, and right of the right one, the left one does not fall,
-    pub level_between : height l r (whole p) ≤ℤ height l r (whole o) → height l r (whole q) ≤ℤ height l r (whole o)
-        → height l r (whole o) ≡ height l r (whole p)
+    pub level_between : height_over l r (whole p) ≤ℤ height_over l r (whole o) → height_over l r (whole q) ≤ℤ height_over l r (whole o)
+        → height_over l r (whole o) ≡ height_over l r (whole p)
     level_between first second =
         level_at_apex (determinant (whole o) (whole q) y) (determinant (whole p) (whole q) y) (determinant (whole p) (whole o) y)
-        (determinant (whole p) (whole o) (whole q)) y.W (height l r (whole p)) (height l r (whole o)) (height l r (whole q)) (height l r y)
+        (determinant (whole p) (whole o) (whole q)) y.W (height_over l r (whole p)) (height_over l r (whole o)) (height_over l r (whole q)) (height_over l r y)
         (four_beside (whole p) (whole o) (whole q) y (whole r) (whole l)) (areas_with p o q y) at_y above low right
         (weak_order (turned_negative (determinant_swap_first (whole o) (whole p) y) left))
         (turned_not_negative (determinant_swap_first (whole o) (whole p) (whole q)) (at_most_unless opening)) first second
@@ -56,7 +57,7 @@ module _ (p o q l r : Point) (y : Triple) (at_y : IsPoint y) (above : pos 0 ≤�
     pub not_ends : p ≡ l → q ≡ r → ⊥
     not_ends is_l is_r =
         not_beside_all (determinant (whole o) (whole q) y) (determinant (whole p) (whole q) y) (determinant (whole p) (whole o) y)
-        (determinant (whole p) (whole o) (whole q)) y.W (height l r (whole p)) (height l r (whole o)) (height l r (whole q)) (height l r y)
+        (determinant (whole p) (whole o) (whole q)) y.W (height_over l r (whole p)) (height_over l r (whole o)) (height_over l r (whole q)) (height_over l r y)
         (four_beside (whole p) (whole o) (whole q) y (whole r) (whole l)) (areas_with p o q y) at_y right
         (weak_order (turned_negative (determinant_swap_first (whole o) (whole p) y) left))
         (turned_not_negative (determinant_swap_first (whole o) (whole p) (whole q)) (at_most_unless opening))
@@ -66,7 +67,7 @@ module _ (p o q l r : Point) (y : Triple) (at_y : IsPoint y) (above : pos 0 ≤�
 
 module _ (ns : List Point) (i : ℕ) (l r : Point) (f : IsFunnel ns (i + 1) l r) where
   -- where the apex is as high as the point before it, it is on the line of the diagonal
-  flat_where_level : height l r (whole (point_at ns (i + 1))) ≡ height l r (whole (point_at ns i)) → IsFlat ns l r (i + 1)
+  flat_where_level : height_over l r (whole (point_at ns (i + 1))) ≡ height_over l r (whole (point_at ns i)) → IsFlat ns l r (i + 1)
   flat_where_level same =
       let o = point_at ns (i + 1) in
       let p = point_at ns i in
@@ -83,7 +84,7 @@ module _ (ns : List Point) (i : ℕ) (l r : Point) (f : IsFunnel ns (i + 1) l r)
       (f.opening (omega arith) h)
 
   -- no point that is not above the diagonal is left of the left edge and right of the right one
-  pub not_between_edges : (y : Triple) → IsPoint y → height l r y ≤ℤ pos 0 → i + 1 + 1 < length ns
+  pub not_between_edges : (y : Triple) → IsPoint y → height_over l r y ≤ℤ pos 0 → i + 1 + 1 < length ns
       → IsRight (whole (point_at ns (i + 1))) (whole (point_at ns (i + 1 + 1))) y
       → ¬ IsLeft (whole (point_at ns (i + 1))) (whole (point_at ns i)) y
   not_between_edges y at_y low h right left =
@@ -126,9 +127,9 @@ module _ (ns : List Point) (a : ℕ) (y : Triple) where
 
 -- ---- the tests of two edges
 
-module _ (ns : List Point) (a : ℕ) (l r : Point) (f : IsFunnel ns a l r) (y : Triple) (at_y : IsPoint y) (low : height l r y ≤ℤ pos 0) where
+module _ (ns : List Point) (a : ℕ) (l r : Point) (f : IsFunnel ns a l r) (y : Triple) (at_y : IsPoint y) (low : height_over l r y ≤ℤ pos 0) where
   -- points of the funnel on the line of the diagonal are in line with y, where it is there too
-  on_line : (i j : ℕ) → IsFlat ns l r i → IsFlat ns l r j → height l r y ≡ pos 0
+  on_line : (i j : ℕ) → IsFlat ns l r i → IsFlat ns l r j → height_over l r y ≡ pos 0
       → IsStraight (whole (point_at ns i)) (whole (point_at ns j)) y
   on_line i j = straight_on_line r l (λ s. f.ends_differ (sym s)) (whole (point_at ns i)) (whole (point_at ns j)) y
 

@@ -8,6 +8,7 @@ use Rattle.std.proofs.lemmas.List.{get_or-drop, length-drop}
 use Rattle.integer_algebra.proofs.SignSteps.{turned_negative}
 use Rattle.plane.proofs.Turns.{determinant_swap_first}
 use Rattle.plane.specs.Point.{Point, whole, Triple}
+use Rattle.plane.specs.Triangle.{height_over}
 use Rattle.rings.specs.Chain.{point_at}
 use Rattle.rings.specs.Ring.{origin, vertex}
 use Rattle.meshes.proofs.Sides.{ends_below}
@@ -19,7 +20,7 @@ use Rattle.funnels.proofs.Chains.{step_left, step_right}
 use Rattle.funnels.proofs.Funnels.{next_left_old, next_right_last, next_right_length, next_right_old}
 use Rattle.funnels.proofs.Trees.{first_left, first_right}
 use Rattle.funnels.proofs.Vertices.{IsSharedSide}
-use Rattle.funnels.specs.Funnel.{IsReachedFrom, height}
+use Rattle.funnels.specs.Funnel.{IsReachedFrom}
 use Rattle.funnels.specs.OpenFunnel.{left_behind, right_behind}
 use Rattle.hulls.proofs.Entrances.Trails.{more_named, first_entrance, AreNamed, Entrance, HasEntrance, IsEntered, IsNamed, last_of}
 use Rattle.hulls.proofs.Entrances.Trails.{IsBetween, IsGate, IsTrail, between_back}
@@ -66,7 +67,7 @@ module _ (corners : List Point) (tris : List Tri) (fits : Fits corners tris) (b 
   diagonal = (last_of home trail, e.triangle, inr w.shared)
 
   -- the third corner is beyond it,
-  beyond : height (vertex corners e.left) (vertex corners e.right) (whole (vertex corners e.third)) <ℤ pos 0
+  beyond : height_over (vertex corners e.left) (vertex corners e.right) (whole (vertex corners e.third)) <ℤ pos 0
   beyond =
       turned_negative (determinant_swap_first (whole (vertex corners e.left)) (whole (vertex corners e.right)) (whole (vertex corners e.third)))
       (turns_left corners (tri_at tris e.triangle) (fits.triangles e.triangle w.shared.other_in_list).counterclockwise e.left e.right e.third

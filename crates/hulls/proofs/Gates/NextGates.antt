@@ -11,19 +11,20 @@ use Rattle.plane.proofs.Segments.{on_reversed}
 use Rattle.plane.proofs.Turns.{determinant_same_ends, determinant_same_last}
 use Rattle.plane.specs.Point.{IsPoint, IsSame, Point, Triple, whole}
 use Rattle.plane.specs.Segment.{On}
+use Rattle.plane.specs.Triangle.{height_over}
 use Rattle.plane.specs.Turn.{determinant}
 use Rattle.rings.specs.Chain.{point_at}
 use Rattle.ring_laws.proofs.Triangles.{not_right_between}
 use Rattle.meshes.proofs.Cones.{not_left_between}
 use Rattle.funnels.proofs.Funnels.{left_old_at, next_left_length, next_left_old, not_passed_from, passed_from, passed_of, passed_same}
 use Rattle.funnels.proofs.Funnels.{reaches_left, reaches_new, reaches_right, next_right_last, next_right_length, next_right_old, passed_to}
-use Rattle.funnels.specs.Funnel.{IsFunnel, IsPassed, IsReachedFrom, height}
+use Rattle.funnels.specs.Funnel.{IsFunnel, IsPassed, IsReachedFrom}
 use Rattle.hulls.proofs.Gates.PastSides.{right_towards, left_towards}
 
-module _ (ns : List Point) (a : ℕ) (l r : Point) (f : IsFunnel ns a l r) (h : ℕ) (m : Point) (beyond : height l r (whole m) <ℤ pos 0)
+module _ (ns : List Point) (a : ℕ) (l r : Point) (f : IsFunnel ns a l r) (h : ℕ) (m : Point) (beyond : height_over l r (whole m) <ℤ pos 0)
     (reached : IsReachedFrom ns a h (whole m)) (z : Triple) (at_z : IsPoint z) (j : ℕ) (from_z : IsReachedFrom ns a j z) where
   module _ (on : On z (whole m) (whole r)) (other : ¬ IsSame z (whole r)) where
-    low_left : height l r z ≤ℤ pos 0
+    low_left : height_over l r z ≤ℤ pos 0
     low_left =
         not_left_between (whole r) (whole l) z (whole m) (whole r) at_z (whole_is_point m) (whole_is_point r)
         (weak_order beyond) (zero_not_positive (determinant_same_ends (whole r) (whole l))) on
@@ -101,7 +102,7 @@ module _ (ns : List Point) (a : ℕ) (l r : Point) (f : IsFunnel ns a l r) (h : 
         }
 
 -- a point of the segment from m to r, not r, is reached from one point in both funnels
-pub next_gate_left : (ns : List Point) (a : ℕ) (l r : Point) → IsFunnel ns a l r → (h : ℕ) (m : Point) → height l r (whole m) <ℤ pos 0
+pub next_gate_left : (ns : List Point) (a : ℕ) (l r : Point) → IsFunnel ns a l r → (h : ℕ) (m : Point) → height_over l r (whole m) <ℤ pos 0
     → IsReachedFrom ns a h (whole m) → (z : Triple) → IsPoint z → On z (whole m) (whole r) → ¬ IsSame z (whole r) → (j : ℕ)
     → IsReachedFrom ns a j z
     → (i : ℕ) × IsReachedFrom (m ∷ drop h ns) (a - h + 1) i z × (point_at (m ∷ drop h ns) i ≡ point_at ns j)
@@ -115,10 +116,10 @@ next_gate_left ns a l r f h m beyond reached z at_z on other j from_z =
 -- ---- A point of the side beyond a diagonal, from its left end to m: in the funnel of the points to place h, and m, it is reached from
 -- the same place
 
-module _ (ns : List Point) (a : ℕ) (l r : Point) (f : IsFunnel ns a l r) (h : ℕ) (m : Point) (beyond : height l r (whole m) <ℤ pos 0)
+module _ (ns : List Point) (a : ℕ) (l r : Point) (f : IsFunnel ns a l r) (h : ℕ) (m : Point) (beyond : height_over l r (whole m) <ℤ pos 0)
     (reached : IsReachedFrom ns a h (whole m)) (z : Triple) (at_z : IsPoint z) (j : ℕ) (from_z : IsReachedFrom ns a j z) where
   module _ (on : On z (whole l) (whole m)) (other : ¬ IsSame z (whole l)) where
-    low_right : height l r z ≤ℤ pos 0
+    low_right : height_over l r z ≤ℤ pos 0
     low_right =
         not_left_between (whole r) (whole l) z (whole l) (whole m) at_z (whole_is_point l) (whole_is_point m)
         (zero_not_positive (determinant_same_last (whole r) (whole l))) (weak_order beyond) on
@@ -186,7 +187,7 @@ module _ (ns : List Point) (a : ℕ) (l r : Point) (f : IsFunnel ns a l r) (h : 
         }
 
 -- a point of the segment from l to m, not l, is reached from one point in both funnels
-pub next_gate_right : (ns : List Point) (a : ℕ) (l r : Point) → IsFunnel ns a l r → (h : ℕ) (m : Point) → height l r (whole m) <ℤ pos 0
+pub next_gate_right : (ns : List Point) (a : ℕ) (l r : Point) → IsFunnel ns a l r → (h : ℕ) (m : Point) → height_over l r (whole m) <ℤ pos 0
     → IsReachedFrom ns a h (whole m) → (z : Triple) → IsPoint z → On z (whole l) (whole m) → ¬ IsSame z (whole l) → (j : ℕ)
     → IsReachedFrom ns a j z
     → (i : ℕ) × IsReachedFrom (take (h + 1) ns ++ m ∷ []) (min a h) i z × (point_at (take (h + 1) ns ++ m ∷ []) i ≡ point_at ns j)

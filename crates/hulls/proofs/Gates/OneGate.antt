@@ -8,12 +8,13 @@ use Rattle.integer_algebra.proofs.Signs.{lt_or_le}
 use Rattle.plane.proofs.Points.{whole_is_point}
 use Rattle.plane.specs.Point.{IsPoint, Point, Triple, whole}
 use Rattle.plane.specs.Segment.{On}
+use Rattle.plane.specs.Triangle.{height_over}
 use Rattle.plane.specs.Turn.{determinant, IsLeft, IsRight}
 use Rattle.rings.specs.Chain.{point_at}
 use Rattle.meshes.proofs.Cones.{not_left_between}
 use Rattle.funnels.proofs.Funnels.{not_passed_from, passed_to, IsFlat, flat_left, flat_right, left_of_apex, lower_left, lower_right}
 use Rattle.funnels.proofs.Funnels.{not_negative, passed_from, passed_of, right_of_apex}
-use Rattle.funnels.specs.Funnel.{IsFunnel, IsPassed, IsReachedFrom, height}
+use Rattle.funnels.specs.Funnel.{IsFunnel, IsPassed, IsReachedFrom}
 use Rattle.hulls.proofs.Gates.PartedByEdges.{not_passed_along, passed_along, end_not_left, ends_right, first_on_line, left_end_not_left}
 use Rattle.hulls.proofs.Gates.PartedByEdges.{right_end_not_left, second_on_line}
 use Rattle.hulls.proofs.Gates.PastSides.{IsPastDiagonal, past_not_above, past_on_line}
@@ -49,7 +50,7 @@ some_gate ns a l r f z =
 
 -- ---- one place
 
-module _ (ns : List Point) (a : ℕ) (l r : Point) (f : IsFunnel ns a l r) (z : Triple) (at_z : IsPoint z) (low : height l r z ≤ℤ pos 0) where
+module _ (ns : List Point) (a : ℕ) (l r : Point) (f : IsFunnel ns a l r) (z : Triple) (at_z : IsPoint z) (low : height_over l r z ≤ℤ pos 0) where
   -- no point that is not above the diagonal is reached from a place and from one after it
   not_twice : (j k : ℕ) → IsReachedFrom ns a j z → IsReachedFrom ns a k z → ¬ (j < k)
   not_twice j k first second less =
@@ -83,10 +84,10 @@ module _ (ns : List Point) (a : ℕ) (l r : Point) (f : IsFunnel ns a l r) (x y 
     (past_x : IsPastDiagonal l r x) (past_y : IsPastDiagonal l r y) (j k : ℕ) (from_x : IsReachedFrom ns a j x)
     (from_y : IsReachedFrom ns a k y) where
   -- neither point is above the diagonal
-  low_x : height l r x ≤ℤ pos 0
+  low_x : height_over l r x ≤ℤ pos 0
   low_x = past_not_above l r x at_x past_x
 
-  low_y : height l r y ≤ℤ pos 0
+  low_y : height_over l r y ≤ℤ pos 0
   low_y = past_not_above l r y at_y past_y
 
   -- the way to y passes each edge before place k,
@@ -127,7 +128,7 @@ module _ (ns : List Point) (a : ℕ) (l r : Point) (f : IsFunnel ns a l r) (x y 
           let within = f.apex_within in
           let p = point_at ns (i + 1) in
           let q = point_at ns i in
-          elim (lt_or_le (pos 0) (height l r (whole p))) [
+          elim (lt_or_le (pos 0) (height_over l r (whole p))) [
             | inl above ↦
                 end_not_left p q l r x y at_x at_y (positive_not_negative x_left) y_not_left low_x low_y (apart_left x_left y_not_left) above
                 (not_negative ns a l r f i (omega arith)) (lower_left ns a l r f i on_left)
@@ -181,7 +182,7 @@ module _ (ns : List Point) (a : ℕ) (l r : Point) (f : IsFunnel ns a l r) (x y 
           let within = from_y.within in
           let p = point_at ns i in
           let q = point_at ns (i + 1) in
-          elim (lt_or_le (pos 0) (height l r (whole p))) [
+          elim (lt_or_le (pos 0) (height_over l r (whole p))) [
             | inl above ↦
                 end_not_left p q l r x y at_x at_y x_not_right (λ h. positive_not_negative h y_right) low_x low_y
                 (apart_right x_not_right y_right) above (not_negative ns a l r f (i + 1) (omega arith))

@@ -18,23 +18,24 @@ use Rattle.plane.proofs.Turns.{determinant_shift, combination_of_ends, determina
 use Rattle.plane.proofs.Turns.{determinant_shift_back, four_triples_in_W, four_triples_in_X, four_triples_in_Y, on_of_combination}
 use Rattle.plane.specs.Point.{Point, Triple, whole, IsPoint}
 use Rattle.plane.specs.Segment.{On}
+use Rattle.plane.specs.Triangle.{height_over}
 use Rattle.plane.specs.Turn.{IsLeft, IsRight, IsStraight, determinant}
 use Rattle.rings.specs.Chain.{point_at}
 use Rattle.funnels.proofs.Funnels.{IsFlat, flat_left, in_proportion, not_negative, passed_from, passed_of, straight_on_line, turn_left}
 use Rattle.funnels.proofs.Funnels.{turn_right, flat_right}
-use Rattle.funnels.specs.Funnel.{IsFunnel, IsPassed, height}
+use Rattle.funnels.specs.Funnel.{IsFunnel, IsPassed}
 
-module _ (l r p o q : Point) (y : Triple) (differ : ¬ (l ≡ r)) (low : height l r y ≤ℤ pos 0) (high : pos 0 ≤ℤ height l r (whole p))
-    (at_o : height l r (whole o) ≡ pos 0) (at_q : height l r (whole q) ≡ pos 0) where
+module _ (l r p o q : Point) (y : Triple) (differ : ¬ (l ≡ r)) (low : height_over l r y ≤ℤ pos 0) (high : pos 0 ≤ℤ height_over l r (whole p))
+    (at_o : height_over l r (whole o) ≡ pos 0) (at_q : height_over l r (whole q) ≡ pos 0) where
   -- where an edge comes down to the line of the diagonal and the next one goes along it,
   -- a point is as far from that as it is from the line, times one factor
-  along_line : height l r (whole p) *ℤ determinant (whole o) (whole q) y ≡ determinant (whole p) (whole o) (whole q) *ℤ height l r y
+  along_line : height_over l r (whole p) *ℤ determinant (whole o) (whole q) y ≡ determinant (whole p) (whole o) (whole q) *ℤ height_over l r y
   along_line =
-      rw (mul_comm (height l r (whole p)) (determinant (whole o) (whole q) y), ← determinant_shift (whole p) (whole o) (whole q))
+      rw (mul_comm (height_over l r (whole p)) (determinant (whole o) (whole q) y), ← determinant_shift (whole p) (whole o) (whole q))
       (in_proportion (whole r) (whole l) (whole o) (whole q) (whole p) y at_o at_q)
 
   -- the edge comes from above
-  from_above : ¬ IsStraight (whole p) (whole o) (whole q) → pos 0 <ℤ height l r (whole p)
+  from_above : ¬ IsStraight (whole p) (whole o) (whole q) → pos 0 <ℤ height_over l r (whole p)
   from_above turn =
       positive_of_not_zero high (λ e. turn (straight_on_line r l (λ s. differ (sym s)) (whole p) (whole o) (whole q) e at_o at_q))
 
@@ -42,19 +43,19 @@ module _ (l r p o q : Point) (y : Triple) (differ : ¬ (l ≡ r)) (low : height 
   not_left_along : IsLeft (whole p) (whole o) (whole q) → ¬ IsLeft (whole o) (whole q) y
   not_left_along turn left =
       not_both_positive left
-      (factor_nonpositive (height l r (whole p)) (determinant (whole o) (whole q) y) (from_above (positive_not_zero turn))
-      (rw along_line (mul_nonpositive (determinant (whole p) (whole o) (whole q)) (height l r y) (weak turn) low)))
+      (factor_nonpositive (height_over l r (whole p)) (determinant (whole o) (whole q) y) (from_above (positive_not_zero turn))
+      (rw along_line (mul_nonpositive (determinant (whole p) (whole o) (whole q)) (height_over l r y) (weak turn) low)))
 
   -- and where it turns right, none is right of it
   not_right_along : IsRight (whole p) (whole o) (whole q) → ¬ IsRight (whole o) (whole q) y
   not_right_along turn right =
       not_both right
-      (factor_nonnegative (height l r (whole p)) (determinant (whole o) (whole q) y) (from_above (negative_not_zero turn))
-      (rw along_line (mul_nonpositives (determinant (whole p) (whole o) (whole q)) (height l r y) (weak_order turn) low)))
+      (factor_nonnegative (height_over l r (whole p)) (determinant (whole o) (whole q) y) (from_above (negative_not_zero turn))
+      (rw along_line (mul_nonpositives (determinant (whole p) (whole o) (whole q)) (height_over l r y) (weak_order turn) low)))
 
 -- ---- the edges of a funnel
 
-module _ (ns : List Point) (a : ℕ) (l r : Point) (f : IsFunnel ns a l r) (i : ℕ) (y : Triple) (low : height l r y ≤ℤ pos 0) where
+module _ (ns : List Point) (a : ℕ) (l r : Point) (f : IsFunnel ns a l r) (i : ℕ) (y : Triple) (low : height_over l r y ≤ℤ pos 0) where
   -- from a place on the line of the diagonal an edge goes along it; on the left it is passed, where its place is not the apex,
   pub passed_along : i + 1 < a → IsFlat ns l r (i + 1) → IsPassed ns a (i + 1) y
   passed_along h flat =
@@ -184,30 +185,30 @@ module _ (p q l r : Point) (x y : Triple) (at_x : IsPoint x) (at_y : IsPoint y) 
         in_W = combined A C D E (pos 1) (pos 1) x.W y.W none (four_triples_in_W (whole p) (whole q) x y);
       })
 
-  module _ (low_x : height l r x ≤ℤ pos 0) (low_y : height l r y ≤ℤ pos 0) where
+  module _ (low_x : height_over l r x ≤ℤ pos 0) (low_y : height_over l r y ≤ℤ pos 0) where
     -- where the edge falls from above the diagonal, q is not left of the way from x to y,
-    pub end_not_left : determinant (whole p) (whole q) y <ℤ determinant (whole p) (whole q) x → pos 0 <ℤ height l r (whole p)
-        → pos 0 ≤ℤ height l r (whole q) → height l r (whole q) ≤ℤ height l r (whole p) → determinant (whole q) x y ≤ℤ pos 0
+    pub end_not_left : determinant (whole p) (whole q) y <ℤ determinant (whole p) (whole q) x → pos 0 <ℤ height_over l r (whole p)
+        → pos 0 ≤ℤ height_over l r (whole q) → height_over l r (whole q) ≤ℤ height_over l r (whole p) → determinant (whole q) x y ≤ℤ pos 0
     end_not_left =
         not_left_of_way (determinant (whole p) x y) (determinant (whole q) x y) (determinant (whole p) (whole q) x)
-        (determinant (whole p) (whole q) y) (height l r (whole p)) (height l r (whole q)) (height l r x) (height l r y) x.W y.W
+        (determinant (whole p) (whole q) y) (height_over l r (whole p)) (height_over l r (whole q)) (height_over l r x) (height_over l r y) x.W y.W
         (four_beside (whole p) (whole q) x y (whole r) (whole l)) areas at_x at_y (at_least_unless not_right) (at_most_unless not_left)
         low_x low_y
 
-    module _ (at_p : height l r (whole p) ≡ pos 0) (at_q : height l r (whole q) ≡ pos 0) where
+    module _ (at_p : height_over l r (whole p) ≡ pos 0) (at_q : height_over l r (whole q) ≡ pos 0) where
       -- where it goes along the line of the diagonal, y is on that, if x is left of the edge,
-      pub second_on_line : IsLeft (whole p) (whole q) x → height l r y ≡ pos 0
+      pub second_on_line : IsLeft (whole p) (whole q) x → height_over l r y ≡ pos 0
       second_on_line =
           second_level (determinant (whole p) x y) (determinant (whole q) x y) (determinant (whole p) (whole q) x)
-          (determinant (whole p) (whole q) y) (height l r (whole p)) (height l r (whole q)) (height l r x) (height l r y) x.W y.W
+          (determinant (whole p) (whole q) y) (height_over l r (whole p)) (height_over l r (whole q)) (height_over l r x) (height_over l r y) x.W y.W
           (four_beside (whole p) (whole q) x y (whole r) (whole l)) areas at_x at_y (at_least_unless not_right) (at_most_unless not_left)
           low_x low_y at_p at_q
 
       -- and x is, if y is right of it
-      pub first_on_line : IsRight (whole p) (whole q) y → height l r x ≡ pos 0
+      pub first_on_line : IsRight (whole p) (whole q) y → height_over l r x ≡ pos 0
       first_on_line =
           first_level (determinant (whole p) x y) (determinant (whole q) x y) (determinant (whole p) (whole q) x)
-          (determinant (whole p) (whole q) y) (height l r (whole p)) (height l r (whole q)) (height l r x) (height l r y) x.W y.W
+          (determinant (whole p) (whole q) y) (height_over l r (whole p)) (height_over l r (whole q)) (height_over l r x) (height_over l r y) x.W y.W
           (four_beside (whole p) (whole q) x y (whole r) (whole l)) areas at_x at_y (at_least_unless not_right) (at_most_unless not_left)
           low_x low_y at_p at_q
 
@@ -216,7 +217,7 @@ module _ (p q l r : Point) (x y : Triple) (at_x : IsPoint x) (at_y : IsPoint y) 
         → ¬ On (whole q) x y → IsRight x y (whole p) × IsRight x y (whole q)
     ends_right apart low not_on =
         let more = grows (determinant (whole p) x y) (determinant (whole q) x y) (determinant (whole p) (whole q) x)
-        (determinant (whole p) (whole q) y) (height l r (whole p)) (height l r (whole q)) (height l r x) (height l r y) x.W y.W
+        (determinant (whole p) (whole q) y) (height_over l r (whole p)) (height_over l r (whole q)) (height_over l r x) (height_over l r y) x.W y.W
         (four_beside (whole p) (whole q) x y (whole r) (whole l)) areas at_x at_y (at_least_unless not_right) (at_most_unless not_left)
         apart in
         let right : IsRight x y (whole p) = rw (determinant_shift (whole p) x y) (below_low more low) in
@@ -226,7 +227,7 @@ module _ (p q l r : Point) (x y : Triple) (at_x : IsPoint x) (at_y : IsPoint y) 
 
 module _ (l r : Point) (x y : Triple) where
   -- l is not left of a way to a point of the diagonal,
-  pub left_end_not_left : IsPoint y → On y (whole l) (whole r) → height l r x ≤ℤ pos 0 → determinant (whole l) x y ≤ℤ pos 0
+  pub left_end_not_left : IsPoint y → On y (whole l) (whole r) → height_over l r x ≤ℤ pos 0 → determinant (whole l) x y ≤ℤ pos 0
   left_end_not_left at_y on low =
       let c = combination_of_ends y l r at_y on in
       mean_not_positive c.k c.l c.m (determinant (whole l) x y) (determinant (whole l) x (whole l)) (determinant (whole l) x (whole r))
@@ -234,7 +235,7 @@ module _ (l r : Point) (x y : Triple) where
       (zero_not_positive (determinant_same_ends (whole l) x)) (rw (← determinant_shift_back (whole l) x (whole r)) low)
 
   -- and r is not left of a way from one
-  pub right_end_not_left : IsPoint x → On x (whole l) (whole r) → height l r y ≤ℤ pos 0 → determinant (whole r) x y ≤ℤ pos 0
+  pub right_end_not_left : IsPoint x → On x (whole l) (whole r) → height_over l r y ≤ℤ pos 0 → determinant (whole r) x y ≤ℤ pos 0
   right_end_not_left at_x on low =
       let c = combination_of_ends x l r at_x on in
       rw (← determinant_shift_back (whole r) x y)

@@ -10,6 +10,7 @@ use Rattle.plane.proofs.Segments.{on_is_straight, same_without_last}
 use Rattle.plane.proofs.Turns.{straight_swap_first, determinant_swap_first, combination_of, determinant_along}
 use Rattle.plane.specs.Point.{IsPoint, Point, Triple, whole, IsSame}
 use Rattle.plane.specs.Segment.{On}
+use Rattle.plane.specs.Triangle.{height_over}
 use Rattle.plane.specs.Turn.{IsRight, IsLeft, determinant}
 use Rattle.rings.specs.Ring.{vertex}
 use Rattle.ring_laws.proofs.Triangles.{on_first_side}
@@ -17,20 +18,19 @@ use Rattle.meshes.proofs.TreeLeaves.{closed_of_sides, next_corner, turns_left}
 use Rattle.meshes.specs.Fits.{IsInTri}
 use Rattle.meshes.specs.Side.{HasSide}
 use Rattle.meshes.specs.declared.tri.Tri.{Tri}
-use Rattle.funnels.specs.Funnel.{height}
 
 -- z is past the diagonal from l to r: right of the way from r to l, or on the segment between them
 abbrev pub IsPastDiagonal : Point → Point → Triple → Type 0
 IsPastDiagonal l r z = IsRight (whole r) (whole l) z ⊎ On z (whole l) (whole r)
 
 -- no such point is above the diagonal,
-pub past_not_above : (l r : Point) (z : Triple) → IsPoint z → IsPastDiagonal l r z → height l r z ≤ℤ pos 0
+pub past_not_above : (l r : Point) (z : Triple) → IsPoint z → IsPastDiagonal l r z → height_over l r z ≤ℤ pos 0
 past_not_above l r z at_z (inl beyond) = weak_order beyond
 past_not_above l r z at_z (inr on) =
     zero_not_positive (straight_swap_first (whole l) (whole r) z (on_is_straight z (whole l) (whole r) at_z (whole_is_point l) (whole_is_point r) on))
 
 -- and one on its line is on it
-pub past_on_line : (l r : Point) (z : Triple) → IsPastDiagonal l r z → height l r z ≡ pos 0 → On z (whole l) (whole r)
+pub past_on_line : (l r : Point) (z : Triple) → IsPastDiagonal l r z → height_over l r z ≡ pos 0 → On z (whole l) (whole r)
 past_on_line l r z (inl beyond) level = absurd (negative_not_zero beyond level)
 past_on_line l r z (inr on) level = on
 

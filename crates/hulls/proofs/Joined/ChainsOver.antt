@@ -173,7 +173,7 @@ module _ (ring one other : List Point) (bent : IsBentChain ring one) (bent_too :
   over_bent = linked_bent ring (reverse one) other (back_bent ring one bent) bent_too link
 
   -- which goes from the end of the one
-  pub over_begins : point_at over 0 ≡ last_of one
+  over_begins : point_at over 0 ≡ last_of one
   over_begins =
       let n = length-reverse one in
       let some = bent.chain.some in

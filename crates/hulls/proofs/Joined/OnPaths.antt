@@ -27,7 +27,7 @@ pub path_is_taut : (ring : List Point) (s t : Point) (path : List Point) → IsP
 path_is_taut ring s t path is = (is path).1 refl
 
 -- the path from v goes first to another point only where it leads to another point
-pub step_differs : (ring : List Point) (v a p : Point) → IsFirstStep ring v a p → v ≢ a
+step_differs : (ring : List Point) (v a p : Point) → IsFirstStep ring v a p → v ≢ a
 step_differs ring v a p step same = omega (arith, step.more, (path_is_taut ring v a step.path step.is_path).single same)
 
 module _ (ring one other : List Point) (some : 3 ≤ length ring) (simple : IsSimple ring) (bent : IsBentChain ring one)
@@ -90,7 +90,7 @@ module _ (ring one other : List Point) (some : 3 ≤ length ring) (simple : IsSi
         some simple a b v (rest_ends one long ∙ end) (rest_ends other long_too ∙ end_too) on_rests
 
     -- so it is on the path between their ends
-    pub on_path_of_bent : AreJoined ring v p q → IsOnPath ring a b v
+    on_path_of_bent : AreJoined ring v p q → IsOnPath ring a b v
     on_path_of_bent joined = elim joined [ inl between ↦ on_between between.2 | inr bend ↦ on_with_bend bend ]
 
 -- ---- paths from one point
@@ -132,7 +132,7 @@ module _ (ring : List Point) (some : 3 ≤ length ring) (simple : IsSimple ring)
 
   module _ (v b q : Point) (step : IsFirstStep ring v b q) where
     -- so from such a point the path to the end goes first to where the step ends
-    pub step_along : (chain : List Point) → IsBentChain ring chain → last_of chain ≡ b → (k : ℕ) → k + 1 < length chain
+    step_along : (chain : List Point) → IsBentChain ring chain → last_of chain ≡ b → (k : ℕ) → k + 1 < length chain
         → On (whole v) (whole (point_at chain k)) (whole (point_at chain (k + 1))) → ¬ (v ≡ point_at chain (k + 1)) → point_at chain (k + 1) ≡ q
     step_along chain bent ends k h on differ =
         let taut = path_is_taut ring v b step.path step.is_path in

@@ -41,7 +41,7 @@ pub record HasFirst (points : List Point) : Type 0 where
   pub is : points ≡ r ∷ rest
 
 -- such ways have one
-pub first_of_one : (v : Point) (one other : List Point) → IsLeftOf v one other → HasFirst one
+first_of_one : (v : Point) (one other : List Point) → IsLeftOf v one other → HasFirst one
 first_of_one v [] other h = absurd h
 first_of_one v (p ∷ first) other h = record { r = p; rest = first; is = refl }
 

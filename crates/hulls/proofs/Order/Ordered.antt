@@ -81,11 +81,11 @@ module _ (ring : List Point) (t u : Point) (path : List Point) (is : IsPath ring
       first_and_rest path taut.bent.chain.some ∙ ap (λ x. x ∷ drop 1 path) taut.first
 
   -- and has bends
-  pub path_bent : IsBentChain ring (t ∷ drop 1 path)
+  path_bent : IsBentChain ring (t ∷ drop 1 path)
   path_bent = subst (IsBentChain ring) path_begins (path_is_taut ring t u path is).bent
 
   -- it is the only one
-  pub only_path : (other : List Point) → IsPath ring t u other → other ≡ path
+  only_path : (other : List Point) → IsPath ring t u other → other ≡ path
   only_path other is_too = (is other).0 (path_is_taut ring t u other is_too)
 
 -- the path begins where it starts to the right

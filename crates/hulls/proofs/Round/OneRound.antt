@@ -13,7 +13,7 @@ pub record IsRoundBy (Side : ℕ → ℕ → Type 0) (round : List ℕ) : Type 0
 
 module _ (Side : ℕ → ℕ → Type 0) where
   -- a side goes from each number of a round to the one that follows
-  pub side_after : (round : List ℕ) → IsRoundBy Side round → (i : ℕ) → i < length round
+  side_after : (round : List ℕ) → IsRoundBy Side round → (i : ℕ) → i < length round
       → Side (slice_index round i) (slice_index round (place_after round i))
   side_after round is i within = (is.sides _ _).1 (record { i = i; in_list = within; at = refl; next = refl })
 
@@ -44,7 +44,7 @@ module _ (Side : ℕ → ℕ → Type 0) where
           is_too.distinct 0 (m + 1) (omega arith) (omega arith) (sym first ∙ again)
 
   -- the round of a start is not empty
-  pub some_in_round : (round : List ℕ) (s t : ℕ) → IsRoundBy Side round → Side s t → 0 < length round
+  some_in_round : (round : List ℕ) (s t : ℕ) → IsRoundBy Side round → Side s t → 0 < length round
   some_in_round round s t is side = let follows : Follows round s t = (is.sides s t).0 side in omega (arith, follows.in_list)
 
   -- two rounds from one start are equal

@@ -11,6 +11,7 @@ use Rattle.plane.proofs.Segments.{on_reversed}
 use Rattle.plane.proofs.Turns.{determinant_same_ends, determinant_same_last, determinant_swap_first}
 use Rattle.plane.specs.Point.{IsPoint, Point, Triple, whole}
 use Rattle.plane.specs.Segment.{On}
+use Rattle.plane.specs.Triangle.{height_over}
 use Rattle.plane.specs.Turn.{IsLeft, IsRight}
 use Rattle.rings.specs.Chain.{point_at}
 use Rattle.rings.specs.Ring.{vertex}
@@ -20,7 +21,7 @@ use Rattle.meshes.specs.Side.{tri_at}
 use Rattle.meshes.specs.declared.tri.Tri.{Tri}
 use Rattle.funnels.proofs.Corners.{end_of_its_side}
 use Rattle.funnels.proofs.Funnels.{left_of_apex, not_negative, right_of_apex}
-use Rattle.funnels.specs.Funnel.{IsReachedFrom, IsFunnel, height}
+use Rattle.funnels.specs.Funnel.{IsReachedFrom, IsFunnel}
 use Rattle.hulls.proofs.Entrances.{Entrance, IsEntered, IsGate, IsNamed, IsTrail, last_of}
 use Rattle.hulls.proofs.Gates.{IsPastDiagonal, gates_beside, past_of_triangle}
 use Rattle.hulls.proofs.StepsSeen.LineSides.{IsAlike, beside_by}
@@ -110,7 +111,7 @@ module _ (ns : List Point) (a : ℕ) (l r : Point) (f : IsFunnel ns a l r) (z : 
   -- the left end,
   from_left_end : (a ≡ 0 → length ns ≡ 2) → point_at ns a ≡ l → k ≡ a
   from_left_end short is =
-      let flat = subst (λ (p : Point). height l r (whole p) ≡ pos 0) (sym is) (determinant_same_last (whole r) (whole l)) in
+      let flat = subst (λ (p : Point). height_over l r (whole p) ≡ pos 0) (sym is) (determinant_same_last (whole r) (whole l)) in
       let none : a ≡ 0 = elim (cases_lt 0 a) [
         | inr none ↦ omega (arith, none)
         | inl some ↦
@@ -135,7 +136,7 @@ module _ (ns : List Point) (a : ℕ) (l r : Point) (f : IsFunnel ns a l r) (z : 
   -- or the right one
   from_right_end : (a + 1 ≡ length ns → length ns ≡ 2) → point_at ns a ≡ r → k ≡ a
   from_right_end short is =
-      let flat = subst (λ (p : Point). height l r (whole p) ≡ pos 0) (sym is) (determinant_same_ends (whole r) (whole l)) in
+      let flat = subst (λ (p : Point). height_over l r (whole p) ≡ pos 0) (sym is) (determinant_same_ends (whole r) (whole l)) in
       let last : a + 1 ≡ length ns = elim (cases_lt (a + 1) (length ns)) [
         | inr none ↦ omega (arith, none, f.apex_within)
         | inl some ↦ absurd (f.differ a some (is ∙ sym (right_of_apex ns a l r f flat some)))

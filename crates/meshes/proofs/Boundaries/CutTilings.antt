@@ -13,10 +13,11 @@ use Rattle.rings.specs.Inside.{IsIn}
 use Rattle.rings.specs.Ring.{vertex}
 use Rattle.rings.specs.Simple.{IsSimple}
 use Rattle.ring_laws.proofs.Cuts.{cut_from_first}
+use Rattle.ring_laws.proofs.Diagonals.{AreBoth}
 use Rattle.ring_laws.specs.Diagonal.{IsDiagonal}
 use Rattle.ring_laws.specs.Pieces.{IsCutInTwo}
 use Rattle.meshes.proofs.Boundaries.PartTilings.{IsEdgeBetween, IsPartTiling}
-use Rattle.meshes.proofs.Joins.{AreEnds, both_parts, contains_cases, contains_first, contains_rest, first_diagonal, first_part}
+use Rattle.meshes.proofs.Joins.{both_parts, contains_cases, contains_first, contains_rest, first_diagonal, first_part}
 use Rattle.meshes.proofs.Joins.{first_part_cases, part_of_edge, second_diagonal, second_part, second_part_cases}
 use Rattle.meshes.proofs.Parts.{IsCovered, LiesIn, IsShared, last_edge, lies_in_one, not_in_one, ring_apart, shared_is_diagonal}
 use Rattle.meshes.proofs.Sides.{length_points}
@@ -33,7 +34,7 @@ pub record IsPartOf (corners : List Point) (piece part other : List ℕ) (a b : 
   pub has_last : Contains part b
   pub member_cases : (i : ℕ) → Contains piece i → Contains part i ⊎ Contains other i
   pub diagonal : IsEdgeBetween part a b
-  pub edge_cases : (i j : ℕ) → IsPieceEdge part i j → IsPieceEdge piece i j ⊎ AreEnds a b i j
+  pub edge_cases : (i j : ℕ) → IsPieceEdge part i j → IsPieceEdge piece i j ⊎ AreBoth a b i j
   pub part_of_edge : (i j : ℕ) → IsPieceEdge piece i j → IsPieceEdge part i j ⊎ IsPieceEdge other i j
 
 -- two parts cover the piece and share only points of the diagonal

@@ -18,7 +18,7 @@ use Rattle.meshes.proofs.Boundaries.Sums.{AddsAtLeast, sum_with_two}
 use Rattle.meshes.proofs.Boundaries.Windings.{AreBounded, crossing_at, sum_inside, sum_off_sides, winding_is_sum}
 use Rattle.meshes.proofs.Parts.{IsLeftOfAll, inside_sides, left_of_next, left_of_previous, left_of_sides, near_side, opposite, sides}
 use Rattle.meshes.proofs.Sides.{length_points, left_apart, one_direction, corners_differ}
-use Rattle.meshes.specs.Fits.{IsStrictlyInTri, piece_points}
+use Rattle.meshes.specs.Fits.{IsCounterclockwiseTri, IsStrictlyInTri, piece_points}
 use Rattle.meshes.specs.Side.{HasSide, tri_at}
 use Rattle.meshes.specs.declared.tri.Tri.{Tri}
 
@@ -28,10 +28,6 @@ use Rattle.meshes.specs.declared.tri.Tri.{Tri}
 abbrev pub all_sides : List Point → List Tri → List Edge
 all_sides corners [] = []
 all_sides corners (t ∷ ts) = sides corners t ++ all_sides corners ts
-
--- the turn over the corners of a triangle is left
-abbrev pub TurnsLeft : List Point → Tri → Type 0
-TurnsLeft corners t = IsLeft (whole (vertex corners t.a)) (whole (vertex corners t.b)) (whole (vertex corners t.c))
 
 module _ (corners : List Point) where
   -- what is off all sides is off those of each triangle
@@ -43,7 +39,7 @@ module _ (corners : List Point) where
       off_sides ts k x (omega (arith, below)) (λ on. off (on_some_right x (sides corners t) (all_sides corners ts) on))
 
   -- the sides of a counterclockwise triangle have different ends,
-  proper_sides : (t : Tri) → TurnsLeft corners t → AreProper (sides corners t)
+  proper_sides : (t : Tri) → IsCounterclockwiseTri corners t → AreProper (sides corners t)
   proper_sides t left e has same =
       let apart = left_apart _ _ _ left in
       elim has [
@@ -57,7 +53,7 @@ module _ (corners : List Point) where
       ends {f} is same = (λ i. (is i).from) ∙ same ∙ sym (λ i. (is i).to)
 
   -- and so it is with all of them
-  pub all_proper : (tris : List Tri) → ((k : ℕ) → k < length tris → TurnsLeft corners (tri_at tris k)) → AreProper (all_sides corners tris)
+  pub all_proper : (tris : List Tri) → ((k : ℕ) → k < length tris → IsCounterclockwiseTri corners (tri_at tris k)) → AreProper (all_sides corners tris)
   all_proper [] left e has = absurd has
   all_proper (t ∷ ts) left e has = elim (has_cases e (sides corners t) (all_sides corners ts) has) [
     | inl here ↦ proper_sides t (left 0 (omega arith)) e here
@@ -73,7 +69,7 @@ not_two w (inr e) h = omega (arith, ints)
 
 module _ (corners : List Point) (piece : List ℕ) (tris : List Tri) (b : AreBounded corners piece tris) where
   -- the triangles turn left,
-  pub turns_left_at : (k : ℕ) → k < length tris → TurnsLeft corners (tri_at tris k)
+  pub turns_left_at : (k : ℕ) → k < length tris → IsCounterclockwiseTri corners (tri_at tris k)
   turns_left_at k below = (b.triangles k below).counterclockwise
 
   -- and no edge of the piece has equal ends

@@ -4,11 +4,12 @@ use Rattle.std.specs.List.{Contains}
 use Rattle.plane.proofs.Points.{whole_is_point}
 use Rattle.plane.specs.Point.{Point, whole}
 use Rattle.rings.specs.Ring.{vertex}
+use Rattle.ring_laws.proofs.Diagonals.{AreBoth}
 use Rattle.ring_laws.proofs.Triangles.{first_in_triangle, last_in_triangle, middle_in_triangle}
 use Rattle.meshes.proofs.Boundaries.PartTilings.{IsEdgeBetween, IsPartTiling, IsSideOfOneIn}
 use Rattle.meshes.proofs.Boundaries.CutTilings.{CoverPiece, IsBeside, IsPartOf, LiesInPart}
 use Rattle.meshes.proofs.Ears.{edge_ends}
-use Rattle.meshes.proofs.Joins.{AreEnds, between_at, ends_back}
+use Rattle.meshes.proofs.Joins.{between_at, ends_back}
 use Rattle.meshes.proofs.Parts.{IsPaved, IsShared, LiesIn, covered_swapped, end_of_side, ends_in, ends_of_both, lies_in_both, lies_in_one}
 use Rattle.meshes.proofs.Parts.{shared_is_this, side_in, side_numbers, vertex_in_piece}
 use Rattle.meshes.specs.Fits.{IsInTri, IsPieceEdge, IsSideOfTwo, IsTriOf, piece_points}
@@ -18,7 +19,7 @@ use Rattle.meshes.specs.declared.tri.Tri.{Tri}
 module _ (corners : List Point) (piece : List ℕ) (tris : List Tri) (P : ℕ → Type 0) (tiling : IsPartTiling corners piece tris P)
     (a b k l : ℕ) (s : IsShared corners piece tris P a b k l) (inner : ¬ IsEdgeBetween piece a b) where
   -- an edge of the piece is not the diagonal
-  no_diagonal : (x y : ℕ) → IsPieceEdge piece x y → ¬ AreEnds a b x y
+  no_diagonal : (x y : ℕ) → IsPieceEdge piece x y → ¬ AreBoth a b x y
   no_diagonal x y e (inl h) = inner (inl (subst (λ z. IsPieceEdge piece z b) h.0 (subst (λ z. IsPieceEdge piece x z) h.1 e)))
   no_diagonal x y e (inr h) = inner (inr (subst (λ z. IsPieceEdge piece z a) h.0 (subst (λ z. IsPieceEdge piece x z) h.1 e)))
 
@@ -150,7 +151,7 @@ module _ (corners : List Point) (piece : List ℕ) (tris : List Tri) (P : ℕ �
               absurd (not (edge_at_ends x y ends))
         ]
       where
-        edge_at_ends : (x y : ℕ) → AreEnds a b x y → IsEdgeBetween part x y
+        edge_at_ends : (x y : ℕ) → AreBoth a b x y → IsEdgeBetween part x y
         edge_at_ends x y (inl e) = subst (λ z. IsEdgeBetween part z y) (sym e.0) (subst (λ z. IsEdgeBetween part a z) (sym e.1) h.diagonal)
         edge_at_ends x y (inr e) =
             subst (λ z. IsEdgeBetween part z y) (sym e.0) (subst (λ z. IsEdgeBetween part b z) (sym e.1)

@@ -2,11 +2,12 @@
 -- those of the piece.
 use Rattle.std.proofs.Common.{◌≡◌, ◌⊎◌, inl, inr, refl, sym, subst, ℕ, ◌+◌, List, length, arith}
 use Rattle.plane.specs.Point.{Point}
+use Rattle.ring_laws.proofs.Diagonals.{AreBoth}
 use Rattle.meshes.proofs.Boundaries.Counts.{HoldsOf, same_count, sum_count}
 use Rattle.meshes.proofs.Boundaries.PartTilings.{IsEdgeBetween, IsPartTiling}
 use Rattle.meshes.proofs.Boundaries.CutTilings.{CoverPiece, IsBeside, IsPartOf, LiesInPart}
 use Rattle.meshes.proofs.Boundaries.TiledParts.{lies_cases, lies_once}
-use Rattle.meshes.proofs.Joins.{AreEnds, Both, IsBridge, between_at, between_back, joined_tree}
+use Rattle.meshes.proofs.Joins.{Both, IsBridge, between_at, between_back, joined_tree}
 use Rattle.meshes.proofs.Parts.{IsShared, shared_is_this}
 use Rattle.meshes.proofs.Walks.{IsTreeOn, Renames, Touch, share_back, tree_renamed}
 use Rattle.meshes.specs.Fits.{piece_points}
@@ -37,7 +38,7 @@ module _ (corners : List Point) (piece : List ℕ) (tris : List Tri) (P : ℕ �
   apart = lies_once corners piece tris P tiling a b k l s inner part other c h m n here there only
 
   -- a side of triangles of both parts is the diagonal,
-  across : (x y : ℕ) → Here x → There y → (t : ShareSide (tri_at tris x) (tri_at tris y)) → AreEnds a b t.i t.j
+  across : (x y : ℕ) → Here x → There y → (t : ShareSide (tri_at tris x) (tri_at tris y)) → AreBoth a b t.i t.j
   across x y in_x in_y t =
       shared_is_this corners piece tris tiling.cover a b k l s (piece_points corners part) (piece_points corners other) c x y t.i t.j
       in_x.0 in_y.0 (inl t.of_first) t.of_second in_x.1 in_y.1

@@ -12,7 +12,7 @@ use Rattle.plane.specs.Segment.{On}
 use Rattle.rings.specs.Inside.{IsIn}
 use Rattle.rings.specs.Ring.{vertex}
 use Rattle.rings.specs.Simple.{IsSimple}
-use Rattle.meshes.proofs.Joins.Halves.{AreEnds}
+use Rattle.ring_laws.proofs.Diagonals.{AreBoth}
 use Rattle.meshes.proofs.Sides.{edge_of_step, step_after, step_before, step_cases, step_of_edge, one_number, one_place}
 use Rattle.meshes.specs.Fits.{IsPieceEdge, piece_points}
 
@@ -195,7 +195,7 @@ module _ (corners : List Point) (v : ℕ) (ps : List ℕ) (z : ℕ) (qs : List �
       ]
 
   -- so the diagonal is no edge of the piece
-  pub not_edge : (i j : ℕ) → IsPieceEdge (both_parts v ps z qs) i j → ¬ AreEnds v z i j
+  pub not_edge : (i j : ℕ) → IsPieceEdge (both_parts v ps z qs) i j → ¬ AreBoth v z i j
   not_edge i j e (inl h) =
       not_from_first (subst (λ x. IsPieceEdge (both_parts v ps z qs) x z) h.0 (subst (λ y. IsPieceEdge (both_parts v ps z qs) i y) h.1 e))
   not_edge i j e (inr h) =

@@ -2,15 +2,12 @@
 use Rattle.std.proofs.Common.{◌≡◌, ◌⊎◌, inl, inr, sym, ap, subst, ◌∙◌, ℕ, ◌<◌, List, length}
 use Rattle.std.specs.List.{Contains}
 use Rattle.plane.specs.Point.{Point}
+use Rattle.ring_laws.proofs.Diagonals.{AreBoth}
 use Rattle.meshes.proofs.Joins.TwoLists.{AreParts, IsPlaceOf}
 use Rattle.meshes.proofs.Sides.{edge_or_not, corners_differ}
 use Rattle.meshes.specs.Fits.{FitsPiece, IsPieceEdge, IsSideOfOne, IsSideOfTwo, IsTriOf}
 use Rattle.meshes.specs.Side.{HasSide, HasSideBetween, tri_at}
 use Rattle.meshes.specs.declared.tri.Tri.{Tri}
-
--- i and j are the ends of the diagonal between a and b
-abbrev pub AreEnds : ℕ → ℕ → ℕ → ℕ → Type 0
-AreEnds a b i j = ((i ≡ a) × (j ≡ b)) ⊎ ((i ≡ b) × (j ≡ a))
 
 -- ---- sides of one triangle
 
@@ -20,12 +17,12 @@ between_back (inl h) = inr h
 between_back (inr h) = inl h
 
 -- the ends of one pair are those of the other
-pub ends_back : {a b i j : ℕ} → AreEnds a b i j → AreEnds i j a b
+pub ends_back : {a b i j : ℕ} → AreBoth a b i j → AreBoth i j a b
 ends_back (inl h) = inl (sym h.0, sym h.1)
 ends_back (inr h) = inr (sym h.1, sym h.0)
 
 -- a side between two numbers that are the ends of the diagonal is one between its ends
-pub between_at : {t : Tri} {a b i j : ℕ} → AreEnds a b i j → HasSideBetween t i j → HasSideBetween t a b
+pub between_at : {t : Tri} {a b i j : ℕ} → AreBoth a b i j → HasSideBetween t i j → HasSideBetween t a b
 between_at {t} {a} {b} {i} {j} (inl h) s = subst (λ x. HasSideBetween t x b) h.0 (subst (λ y. HasSideBetween t i y) h.1 s)
 between_at {t} {a} {b} {i} {j} (inr h) s = between_back (subst (λ x. HasSideBetween t x a) h.0 (subst (λ y. HasSideBetween t i y) h.1 s))
 
@@ -59,10 +56,10 @@ pub record IsHalf (corners : List Point) (piece half other : List ℕ) (ts us : 
   pub other_diagonal : IsPieceEdge other b a
   pub common : (i : ℕ) → Contains half i → Contains other i → (i ≡ a) ⊎ (i ≡ b)
   pub edge_cases : (i j : ℕ) → IsPieceEdge half i j → IsPieceEdge piece i j ⊎ ((i ≡ a) × (j ≡ b))
-  pub not_edge : (i j : ℕ) → IsPieceEdge piece i j → ¬ AreEnds a b i j
+  pub not_edge : (i j : ℕ) → IsPieceEdge piece i j → ¬ AreBoth a b i j
 
 -- two of two numbers that differ are both of them
-both_ends : (a b i j : ℕ) → (i ≡ a) ⊎ (i ≡ b) → (j ≡ a) ⊎ (j ≡ b) → ¬ (i ≡ j) → AreEnds a b i j
+both_ends : (a b i j : ℕ) → (i ≡ a) ⊎ (i ≡ b) → (j ≡ a) ⊎ (j ≡ b) → ¬ (i ≡ j) → AreBoth a b i j
 both_ends a b i j (inl e) (inl f) n = absurd (n (e ∙ sym f))
 both_ends a b i j (inl e) (inr f) n = inl (e, f)
 both_ends a b i j (inr e) (inl f) n = inr (e, f)
@@ -71,7 +68,7 @@ both_ends a b i j (inr e) (inr f) n = absurd (n (e ∙ sym f))
 module _ (corners : List Point) (piece half other : List ℕ) (ts us : List Tri) (a b : ℕ) (h : IsHalf corners piece half other ts us a b) where
   -- a side of triangles of both halves is the diagonal
   pub common_side : (m n i j : ℕ) → m < length ts → n < length us → HasSideBetween (tri_at ts m) i j → HasSideBetween (tri_at us n) i j
-      → AreEnds a b i j
+      → AreBoth a b i j
   common_side m n i j in_ts in_us s t =
       let here = between_ends corners half (tri_at ts m) (h.fits.triangles m in_ts) i j s in
       let there = between_ends corners other (tri_at us n) (h.other_fits.triangles n in_us) i j t in
@@ -137,7 +134,7 @@ module _ (corners : List Point) (piece half other : List ℕ) (ts us : List Tri)
 
     -- two triangles of this half do not both have the diagonal
     not_twice : (k l i j : ℕ) → k < length ts → l < length ts → ¬ (k ≡ l) → HasSideBetween (tri_at ts k) i j
-        → HasSideBetween (tri_at ts l) i j → ¬ AreEnds a b i j
+        → HasSideBetween (tri_at ts l) i j → ¬ AreBoth a b i j
     not_twice k l i j in_k in_l differ s t ends =
         let (m, one) = h.fits.edges a b h.diagonal in
         elim ends [

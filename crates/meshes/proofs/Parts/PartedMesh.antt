@@ -10,8 +10,9 @@ use Rattle.rings.specs.Apart.{IsApartRing}
 use Rattle.rings.specs.Edge.{Edge, HasEdge, IsOn, edge, edges_of}
 use Rattle.rings.specs.Inside.{IsIn}
 use Rattle.rings.specs.Ring.{vertex}
+use Rattle.ring_laws.proofs.Diagonals.{AreBoth}
 use Rattle.ring_laws.specs.Diagonal.{IsDiagonal}
-use Rattle.meshes.proofs.Joins.{AreEnds, between_ends}
+use Rattle.meshes.proofs.Joins.{between_ends}
 use Rattle.meshes.proofs.Parts.PieceOfTriangle.{IsCovered, LiesIn, covered_swapped, lies_in_one}
 use Rattle.meshes.proofs.Parts.MeshDiagonals.{IsShared, edge_at_vertex, in_one, left_of_outer, on_from, one_vertex, outer_sides, ring_apart}
 use Rattle.meshes.proofs.Parts.MeshDiagonals.{shared_is_diagonal, vertex_place}
@@ -125,12 +126,12 @@ module _ (corners : List Point) (piece : List ℕ) (tris : List Tri) {P : ℕ �
       -- two vertices in both pieces are its ends
       pub ends_of_both : (x y : ℕ) → Contains piece x → Contains piece y → ¬ (x ≡ y)
           → IsIn first (whole (vertex corners x)) → IsIn second (whole (vertex corners x))
-          → IsIn first (whole (vertex corners y)) → IsIn second (whole (vertex corners y)) → AreEnds i j x y
+          → IsIn first (whole (vertex corners y)) → IsIn second (whole (vertex corners y)) → AreBoth i j x y
       ends_of_both x y has_x has_y differ first_x second_x first_y second_y =
           both_of (end_of_side x has_x (c.common (whole (vertex corners x)) (whole_is_point (vertex corners x)) first_x second_x))
           (end_of_side y has_y (c.common (whole (vertex corners y)) (whole_is_point (vertex corners y)) first_y second_y)) differ
         where
-          both_of : (x ≡ i) ⊎ (x ≡ j) → (y ≡ i) ⊎ (y ≡ j) → ¬ (x ≡ y) → AreEnds i j x y
+          both_of : (x ≡ i) ⊎ (x ≡ j) → (y ≡ i) ⊎ (y ≡ j) → ¬ (x ≡ y) → AreBoth i j x y
           both_of (inl e) (inl f) n = absurd (n (e ∙ sym f))
           both_of (inl e) (inr f) n = inl (e, f)
           both_of (inr e) (inl f) n = inr (e, f)
@@ -138,7 +139,7 @@ module _ (corners : List Point) (piece : List ℕ) (tris : List Tri) {P : ℕ �
 
       -- so two triangles in different pieces share no other side
       pub shared_is_this : (m n x y : ℕ) → P m → P n → HasSideBetween (tri_at tris m) x y → HasSideBetween (tri_at tris n) x y
-          → LiesIn corners tris first m → LiesIn corners tris second n → AreEnds i j x y
+          → LiesIn corners tris first m → LiesIn corners tris second n → AreBoth i j x y
       shared_is_this m n x y in_m in_n has_m has_n lies_m lies_n =
           let numbers = side_numbers m x y in_m has_m in
           let in_first = ends_in first m x y in_m has_m lies_m in

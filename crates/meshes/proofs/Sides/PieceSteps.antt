@@ -159,7 +159,7 @@ module _ (n : ℕ) where
   next_at p i e = λ t. (e t + 1) % length-range_with_len 0 n t
 
   -- from each number to the next there is an edge,
-  pub ring_edge_from : (i : ℕ) → i < n → IsPieceEdge (range_with_len 0 n) i ((i + 1) % n)
+  ring_edge_from : (i : ℕ) → i < n → IsPieceEdge (range_with_len 0 n) i ((i + 1) % n)
   ring_edge_from i h = record {
     place = i;
     in_piece = omega (arith, length-range_with_len 0 n);

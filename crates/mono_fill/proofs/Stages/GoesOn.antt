@@ -1,7 +1,8 @@
 -- The stack of a filling while the chains are merged, and the triangles so far.
 -- The stack goes on to the next vertex of its own chain.
-use Rattle.std.proofs.Common.{◌≡◌, sym, ap, subst, ◌∙◌, ℕ, zero, suc, ◌+◌, ◌-◌, ◌<◌, ◌≤◌, ℤ, ◌+ℤ◌, List, length, arith, ◌⊎◌, inl, inr, refl}
+use Rattle.std.proofs.Common.{◌≡◌, sym, ap, subst, ◌∙◌, ℕ, zero, suc, ◌+◌, ◌-◌, ◌<◌, ◌≤◌, ℤ, ◌+ℤ◌, List, length, arith, inl, inr, refl}
 use Rattle.std.proofs.Common.{[], ◌∷◌, ◌++◌, take, drop}
+use Rattle.std.proofs.Math.Nat.{eq-or-lt_of_le}
 use Rattle.std.proofs.lemmas.Int.{ints}
 use Rattle.std.proofs.lemmas.List.{drop_at, take_at, get_or-take, get_or_append_left, get_or_at, length-append, length-take-le, length_push}
 use Rattle.std.proofs.lemmas.List.{take_more}
@@ -11,13 +12,13 @@ use Rattle.std.specs.Prelude.{slice_index}
 use Rattle.plane.specs.Point.{Point}
 use Rattle.meshes.proofs.Boundaries.{sides_append}
 use Rattle.meshes.specs.Boundary.{IsOdd, sum_along, sum_sides}
-use Rattle.meshes.specs.Fits.{IsTriOf}
+use Rattle.meshes.specs.Fits.{IsTriOf, IsCounterclockwiseTri}
 use Rattle.meshes.specs.declared.tri.Tri.{Tri}
 use Rattle.mono_fill.proofs.Fans.{all_reversed, corners_in, fan_each, HasCornersIn, tri_of}
 use Rattle.mono_fill.proofs.Outlines.{at, IsInward, IsOutline, sum_up_to}
 use Rattle.mono_fill.proofs.Sums.{met, along_append, along_push, fan_sum, last_append, last_push, odd_met, sides_reversed}
 use Rattle.mono_fill.specs.Cursors.{along_chain}
-use Rattle.mono_fill.specs.Sides.{IsCounterclockwiseTri, fan_from, triangle}
+use Rattle.mono_fill.specs.Sides.{fan_from, triangle}
 use Rattle.mono_fill.specs.Stacks.{last_of, ArePopped, IsSettled}
 use Rattle.mono_fill.specs.declared.side.Side.{Side}
 use Rattle.mono_fill.specs.declared.side.Side.TheVariants.{Lower, Upper}
@@ -72,10 +73,6 @@ bends_at corners side {p} {p'} {q} {q'} {x} {x'} e f g h =
     subst (λ i. IsInward corners side p' q' i) g
     (subst (λ i. IsInward corners side p' i x) f
     (subst (λ i. IsInward corners side i q x) e h))
-
--- a number below one more is below, or that number
-at_or_below : (k n : ℕ) → k < n + 1 → (k < n) ⊎ (k ≡ n)
-at_or_below k n h = grind arith
 
 -- the sum along a chain, one vertex further
 pub sum_more : (φ : ℕ → ℕ → ℤ) (ring : List ℕ) (side : Side) (k : ℕ) → k + 1 < length (along_chain side ring)
@@ -164,36 +161,36 @@ module _ {corners : List Point} {ranks piece ring : List ℕ} (o : IsOutline cor
       (under : IsInward corners side (at ring facing other) (at ring side (own + 1)) (at ring facing (other + 1))) where
     new_rises : (k : ℕ) → k + 1 < length new → slice_index ranks (slice_index new k) < slice_index ranks (slice_index new (k + 1))
     unfolding x
-    new_rises k h = elim (at_or_below (k + 1) (length kept) (omega (arith, length_new))) [
-      | inl l ↦
-          let a = ap (slice_index ranks) (kept_item k (omega arith)) in
-          let b = ap (slice_index ranks) (kept_item (k + 1) l) in
-          omega (arith, s.rises k (omega (arith, kept_within)))
-      | inr e ↦
+    new_rises k h = elim (eq-or-lt_of_le {n = k + 1} {m = length kept} (omega (arith, length_new))) [
+      | inl e ↦
           let a = ap (slice_index ranks) (kept_item k (omega arith)) in
           let b = ap (slice_index ranks) (last_item (k + 1) e) in
           omega (arith, below_top s k (omega (arith, kept_within)), later)
+      | inr l ↦
+          let a = ap (slice_index ranks) (kept_item k (omega arith)) in
+          let b = ap (slice_index ranks) (kept_item (k + 1) l) in
+          omega (arith, s.rises k (omega (arith, kept_within)))
     ]
 
     new_flat : (k : ℕ) → k + 2 < length new
         → ¬ (IsInward corners side (slice_index new k) (slice_index new (k + 1)) (slice_index new (k + 2)))
     unfolding x
-    new_flat k h turns = elim (at_or_below (k + 2) (length kept) (omega (arith, length_new))) [
-      | inl l ↦
-          s.flat k (omega (arith, kept_within))
-          (bends_at corners side (sym (kept_item k (omega arith))) (sym (kept_item (k + 1) (omega arith))) (sym (kept_item (k + 2) l)) turns)
-      | inr e ↦
+    new_flat k h turns = elim (eq-or-lt_of_le {n = k + 2} {m = length kept} (omega (arith, length_new))) [
+      | inl e ↦
           settled k (sym e) (bend_of_triangle corners side _ _ _
           (bends_at corners side (sym (kept_item k (omega arith)) ∙ old_item k (omega arith))
           (sym (kept_item (k + 1) (omega arith)) ∙ old_item (k + 1) (omega arith)) (last_item (k + 2) e) turns))
+      | inr l ↦
+          s.flat k (omega (arith, kept_within))
+          (bends_at corners side (sym (kept_item k (omega arith))) (sym (kept_item (k + 1) (omega arith))) (sym (kept_item (k + 2) l)) turns)
     ]
 
     new_inward : (k : ℕ) → 0 < k → k < length new
         → IsInward corners side (slice_index new 0) (slice_index new k) (at ring facing (other + 1))
     unfolding x
-    new_inward k some h = elim (at_or_below k (length kept) (omega (arith, length_new))) [
-      | inl l ↦ bends_at corners side (kept_item 0 popped.some) (kept_item k l) refl (s.inward k some (omega (arith, kept_within)))
-      | inr e ↦ bends_at corners side (sym s.bottom ∙ kept_item 0 popped.some) (sym (last_item k e)) refl under
+    new_inward k some h = elim (eq-or-lt_of_le {n = k} {m = length kept} (omega (arith, length_new))) [
+      | inl e ↦ bends_at corners side (sym s.bottom ∙ kept_item 0 popped.some) (sym (last_item k e)) refl under
+      | inr l ↦ bends_at corners side (kept_item 0 popped.some) (kept_item k l) refl (s.inward k some (omega (arith, kept_within)))
     ]
 
     pub stage_goes_on : IsStage o side facing (own + 1) other (kept ++ at ring side (own + 1) ∷ []) (tris ++ more)

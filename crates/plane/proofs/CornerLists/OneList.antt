@@ -32,7 +32,7 @@ in_region (a ∷ b ∷ e ∷ c) are i h = corner_right_of_none (a ∷ b ∷ e �
 
 module _ (set : Triple → Type 0) (c : List Triple) (list : IsCornerList set c) where
   -- so it is in the set
-  pub corner_in : (i : ℕ) → i < length c → set (corner_at c i)
+  corner_in : (i : ℕ) → i < length c → set (corner_at c i)
   corner_in i h = (list.exact (corner_at c i) (list.are_corners.rational i h)).0 (in_region c list.are_corners i h)
 
 -- three corners of a polygon are not on one line

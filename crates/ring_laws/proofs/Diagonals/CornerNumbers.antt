@@ -10,7 +10,7 @@ use Rattle.ring_laws.proofs.Simple.{InTriangle, height}
 use Rattle.ring_laws.specs.CutRule.{IsFarthestInCorner, IsInCorner}
 
 -- p and q are u and w, in some order
-abbrev pub AreBoth : Point → Point → Point → Point → Type 0
+abbrev pub AreBoth : {A : Type 0} → A → A → A → A → Type 0
 AreBoth u w p q = ((p ≡ u) × (q ≡ w)) ⊎ ((p ≡ w) × (q ≡ u))
 
 -- so what is neither u nor w is neither p nor q,

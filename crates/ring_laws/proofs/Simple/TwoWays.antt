@@ -68,7 +68,7 @@ module _ (ring : List Point) where
   bent_chain_turned c h = record { chain = chain_turned c h.chain; bends = λ k inner. bend_turned _ _ _ (h.bends k inner) }
 
 -- and no others
-pub bent_turned_iff : (ring c : List Point) → IsBentChain (turned_round ring) c ↔ IsBentChain ring c
+bent_turned_iff : (ring c : List Point) → IsBentChain (turned_round ring) c ↔ IsBentChain ring c
 bent_turned_iff ring c = (
   λ h. subst (λ (vs : List Point). IsBentChain vs c) (turned_round-turned_round ring) (bent_chain_turned (turned_round ring) c h),
   bent_chain_turned ring c,

@@ -10,18 +10,18 @@ use Rattle.rings.specs.Full.{AreFarther, AreInOrder, AreTouched, IsNearer, OneFu
 
 module _ (a : Point) where
   -- of two points each is not nearer than the other
-  pub not_both_nearer : (p q : Point) → IsNearer a p q → IsNearer a q p → ⊥
+  not_both_nearer : (p q : Point) → IsNearer a p q → IsNearer a q p → ⊥
   not_both_nearer p q near far = near.differ (same_whole p q
       (on_antisym (whole p) (whole q) (whole a) (whole_is_point p) (whole_is_point q) (whole_is_point a) near.on far.on))
 
   -- those that are farther are so one by one
-  pub farther : (p : Point) (qs : List Point) → AreFarther a p qs → (q : Point) → Has qs q → IsNearer a p q
+  farther : (p : Point) (qs : List Point) → AreFarther a p qs → (q : Point) → Has qs q → IsNearer a p q
   farther p [] all q has = absurd has
   farther p (r ∷ qs) all q (inl e) = subst (IsNearer a p) e all.0
   farther p (r ∷ qs) all q (inr has) = farther p qs all.1 q has
 
   -- two lists in order with the same points are equal
-  pub one_order : (ps qs : List Point) → AreInOrder a ps → AreInOrder a qs → ((v : Point) → Has ps v → Has qs v)
+  one_order : (ps qs : List Point) → AreInOrder a ps → AreInOrder a qs → ((v : Point) → Has ps v → Has qs v)
       → ((v : Point) → Has qs v → Has ps v) → ps ≡ qs
   one_order [] [] in_order other to from = refl
   one_order [] (q ∷ qs) in_order other to from = absurd (from q (inl refl))
@@ -47,7 +47,7 @@ module _ (a : Point) where
 -- ---- the vertices that a segment and a chain touch
 
 -- what a segment touches is one list,
-pub one_touched : (ring : List Point) (a b : Point) (points others : List Point) → AreTouched ring a b points → AreTouched ring a b others
+one_touched : (ring : List Point) (a b : Point) (points others : List Point) → AreTouched ring a b points → AreTouched ring a b others
     → points ≡ others
 one_touched ring a b points others first second =
     one_order a points others first.ordered second.ordered

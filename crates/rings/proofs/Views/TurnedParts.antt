@@ -109,7 +109,7 @@ module _ (ring : List Point) (q : Triple) (parts : List Part) (are : AreParts ri
       ]
 
   -- they are the parts that are seen
-  pub parts_turned : AreParts (turned_round ring) q turned
+  parts_turned : AreParts (turned_round ring) q turned
   parts_turned =
       let n = length ring in
       let long = length_turned n parts in

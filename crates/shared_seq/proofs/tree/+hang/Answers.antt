@@ -9,30 +9,26 @@ returns-then-height-clause-joined g t c =
     IfOk-weaker c.beside.result _ _
     (λ new fork. fork_joined c.args.side (lent_at c.args.high) (tree_at c.args.low) new.value c.args.value fork) c.beside.ensures.fork
 
-pub balance_beside-requires-clause-short : goal.balance_beside-requires-clause-short
-balance_beside-requires-clause-short g t c =
+pub balance_beside-requires : goal.balance_beside-requires
+balance_beside-requires g t c =
     let it = c.parts-middle.result in
     let fork = rw c.deref.ensures at c.parts-middle.ensures.fork in
     let short = rw c.in-Some.is at c.requires.short in
-    omega (
-      arith,
-      short,
-      fork.long,
-      ap length c.in_ok-inner.ensures.joined.items,
-      around_length c.args.side (lent_at it.other).items (tree_at c.args.low).items c.args.value,
-    )
-
-pub balance_beside-requires-clause-near : goal.balance_beside-requires-clause-near
-balance_beside-requires-clause-near g t c =
-    let fork = rw c.deref.ensures at c.parts-middle.ensures.fork in
     let joined = c.in_ok-inner.ensures.joined in
     let low : lent_at c.as_ref.result ≡ tree_at c.args.low = ap tree_at c.as_ref.ensures.value in
     let high = rw c.in-Some.is at c.height.ensures.number in
     let lower : (tree_at c.args.low).height + 1 < c.in-Some.high.now.value.height =
-    omega (arith, ap (λ (t : Tree). t.height) low, high, c.height-2.ensures.number, c.if-height.false) in (
-      omega (arith, fork.near.0, joined.not_lower),
-      omega (arith, lower, fork.height, fork.near.1, joined.at_most_one_higher),
-    )
+    omega (arith, ap (λ (t : Tree). t.height) low, high, c.height-2.ensures.number, c.if-height.false) in
+    record {
+      short = omega (
+        arith,
+        short,
+        fork.long,
+        ap length joined.items,
+        around_length c.args.side (lent_at it.other).items (tree_at c.args.low).items c.args.value,
+      );
+      near = (omega (arith, fork.near.0, joined.not_lower), omega (arith, lower, fork.height, fork.near.1, joined.at_most_one_higher));
+    }
 
 pub returns-clause-joined : goal.returns-clause-joined
 returns-clause-joined g t c =

@@ -3,16 +3,14 @@ use Rattle.shared_seq.specs.Tree.{lent_at, tree_at}
 use Rattle.shared_seq.proofs.Turns.{without_first, without_first_height}
 use Rattle.shared_seq.proofs.tree.+without_first.Goals as goal
 
-pub balance_with-requires-clause-short : goal.balance_with-requires-clause-short
-balance_with-requires-clause-short g t c =
-    let fork = rw (c.deref.ensures, c.in-Some.is) at c.parts-value.ensures.fork in
-    omega (arith, fork.long, fork.short, ap length c.in_ok-first.ensures.items)
-
-pub balance_with-requires-clause-near : goal.balance_with-requires-clause-near
-balance_with-requires-clause-near g t c =
+pub balance_with-requires : goal.balance_with-requires
+balance_with-requires g t c =
     let fork = rw (c.deref.ensures, c.in-Some.is) at c.parts-value.ensures.fork in
     let grown = c.in_ok-first.ensures.height in
-    (omega (arith, fork.near.0, grown.0), omega (arith, fork.near.1, grown.1))
+    record {
+      short = omega (arith, fork.long, fork.short, ap length c.in_ok-first.ensures.items);
+      near = (omega (arith, fork.near.0, grown.0), omega (arith, fork.near.1, grown.1));
+    }
 
 pub returns-clause-items : goal.returns-clause-items
 returns-clause-items g t c =

@@ -3,16 +3,15 @@ use Rattle.shared_seq.specs.Tree.{lent_at, tree_at}
 use Rattle.shared_seq.proofs.Turns.{joined_height, joined_items}
 use Rattle.shared_seq.proofs.tree.both.Goals as goal
 
-pub balance_beside-requires-clause-short : goal.balance_beside-requires-clause-short
-balance_beside-requires-clause-short g c =
+pub balance_beside-requires : goal.balance_beside-requires
+balance_beside-requires g c =
     let short = rw c.in-Some.is at c.requires.short in
-    omega (arith, short, ap length c.in_ok-first.ensures.items)
-
-pub balance_beside-requires-clause-near : goal.balance_beside-requires-clause-near
-balance_beside-requires-clause-near g c =
     let near = rw c.in-Some.is at c.requires.near in
     let grown = c.in_ok-first.ensures.height in
-    (omega (arith, near.0, grown.1), omega (arith, near.1, grown.0))
+    record {
+      short = omega (arith, short, ap length c.in_ok-first.ensures.items);
+      near = (omega (arith, near.0, grown.1), omega (arith, near.1, grown.0));
+    }
 
 pub returns-clause-items : goal.returns-clause-items
 returns-clause-items g c =

@@ -4,40 +4,34 @@ use Rattle.shared_seq.specs.Tree.{lent_at, tree_at}
 use Rattle.shared_seq.proofs.Turns.{turned_inner}
 use Rattle.shared_seq.proofs.tree.turn_inner.Goals as goal
 
-pub beside-requires-clause-short : goal.beside-requires-clause-short
-beside-requires-clause-short g c =
+pub beside-requires : goal.beside-requires
+beside-requires g c =
     let fork = rw c.deref.ensures at c.parts-top.ensures.fork in
-    rw c.in_ok-first.ensures (omega (arith, c.requires.short, fork.long))
+    rw c.in_ok-first.ensures (record {
+      short = omega (arith, c.requires.short, fork.long);
+      near = (omega (arith, fork.height, fork.near.0, c.requires.outer), omega (arith, fork.height, c.requires.outer));
+    })
 
-pub beside-requires-clause-near : goal.beside-requires-clause-near
-beside-requires-clause-near g c =
+pub beside-requires-2 : goal.beside-requires-2
+beside-requires-2 g c =
     let fork = rw c.deref.ensures at c.parts-top.ensures.fork in
-    rw c.in_ok-first.ensures (omega (arith, fork.height, fork.near.0, c.requires.outer), omega (arith, fork.height, c.requires.outer))
+    record {
+      short = omega (arith, c.requires.short, fork.long);
+      near = (omega (arith, fork.height, c.requires.low), omega (arith, fork.height, fork.near.1, fork.near.0, c.requires.low));
+    }
 
-pub beside-requires-2-clause-short : goal.beside-requires-2-clause-short
-beside-requires-2-clause-short g c =
-    let fork = rw c.deref.ensures at c.parts-top.ensures.fork in
-    omega (arith, c.requires.short, fork.long)
-
-pub beside-requires-2-clause-near : goal.beside-requires-2-clause-near
-beside-requires-2-clause-near g c =
-    let fork = rw c.deref.ensures at c.parts-top.ensures.fork in
-    (omega (arith, fork.height, c.requires.low), omega (arith, fork.height, fork.near.1, fork.near.0, c.requires.low))
-
-pub fork-requires-clause-short : goal.fork-requires-clause-short
-fork-requires-clause-short g c =
+pub fork-requires : goal.fork-requires
+fork-requires g c =
     let fork = rw c.deref.ensures at c.parts-top.ensures.fork in
     let one = rw c.in_ok-first.ensures at c.in_ok-one.ensures.fork in
-    omega (arith, c.requires.short, fork.long, one.long, c.in_ok-other.ensures.fork.long)
-
-pub fork-requires-clause-near : goal.fork-requires-clause-near
-fork-requires-clause-near g c =
-    let fork = rw c.deref.ensures at c.parts-top.ensures.fork in
-    let one = rw c.in_ok-first.ensures at c.in_ok-one.ensures.fork in
-    let other = c.in_ok-other.ensures.fork in (
-      omega (arith, fork.height, one.height, other.height, c.requires.outer, c.requires.low),
-      omega (arith, fork.height, one.height, other.height, c.requires.outer, c.requires.low),
-    )
+    let other = c.in_ok-other.ensures.fork in
+    record {
+      short = omega (arith, c.requires.short, fork.long, one.long, other.long);
+      near = (
+        omega (arith, fork.height, one.height, other.height, c.requires.outer, c.requires.low),
+        omega (arith, fork.height, one.height, other.height, c.requires.outer, c.requires.low),
+      );
+    }
 
 pub returns-clause-turned : goal.returns-clause-turned
 returns-clause-turned g c =
