@@ -1,9 +1,10 @@
 -- The farthest of several candidates, one after another in lexicographic order.
-use Rattle.std.proofs.Common.{◌≡◌, ◌⊎◌, inl, inr, refl, sym, ap, subst, ◌∙◌, ℕ, ◌+◌, ◌-◌, ◌<◌, ◌≤◌, Option, Some, None, ℤ, ◌<ℤ◌, ◌≤ℤ◌, List}
+use Rattle.std.proofs.Common.{◌≡◌, ◌⊎◌, inl, inr, refl, sym, ap, subst, ◌∙◌, ℕ, ◌+◌, ◌-◌, ◌<◌, ◌≤◌, Option, Some, None, ℤ, ◌<ℤ◌, List}
 use Rattle.std.proofs.Common.{length, get_or, arith}
 use Rattle.std.proofs.lemmas.Bool.{cases_lt}
 use Rattle.std.proofs.lemmas.Int.{ints}
 use Rattle.std.proofs.lemmas.List.Elements.{Contains-get_or}
+use Rattle.integer_algebra.proofs.Signs.{le_unless}
 use Rattle.plane.specs.Point.{Point, whole}
 use Rattle.plane.specs.Triangle.{IsInTriangle}
 use Rattle.rings.specs.Ring.{vertex}
@@ -127,10 +128,6 @@ module _ (corners : List Point) (piece order : List ℕ) where
 
 -- ---- numbers and places
 
--- what is not less is at most
-at_most : (a b : ℤ) → ¬ (b <ℤ a) → a ≤ℤ b
-at_most a b h = grind (arith, ints)
-
 module _ (corners : List Point) (piece : List ℕ) (three : 3 ≤ length piece) (distinct : HasDistinctCorners corners piece) where
   -- a vertex at a place in the corner is in the corner
   number_in_corner : (k : ℕ) → IsPlaceInCorner corners piece k → IsInCornerOf corners piece (get_or piece k 0)
@@ -181,7 +178,7 @@ module _ (corners : List Point) (piece : List ℕ) (three : 3 ≤ length piece) 
           is = at;
           farthest = record {
             in_corner = in_corner;
-            farthest = λ k in_k. at_most _ _ (λ higher. not_farther k in_k (inl higher));
+            farthest = λ k in_k. le_unless _ _ (λ higher. not_farther k in_k (inl higher));
             least = λ k in_k same. elim (cases_lt (get_or piece k 0) (get_or piece place 0)) [
               | inl less ↦ absurd (not_farther k in_k (inr (same, less)))
               | inr not_less ↦ not_less

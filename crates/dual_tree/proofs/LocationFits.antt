@@ -8,6 +8,7 @@ use Rattle.meshes.proofs.Sides.{piece_points_all, below_of_member, two_fewer}
 use Rattle.meshes.specs.Fits.{Fits, IsInTri}
 use Rattle.meshes.specs.Side.{tri_at}
 use Rattle.meshes.specs.declared.tri.Tri.{Tri}
+use Rattle.funnels.proofs.Chains.{source_in}
 use Rattle.dual_tree.specs.Location.{IsCornered, IsLeastHolding, IsLeastOrNone}
 
 module _ (corners : List Point) (tris : List Tri) (fits : Fits corners tris) where
@@ -26,11 +27,7 @@ module _ (corners : List Point) (tris : List Tri) (fits : Fits corners tris) whe
   pub covered : (p : Triple) → IsPoint p → IsIn corners p ↔ ((k : ℕ) × (k < length tris) × IsInTri corners (tri_at tris k) p)
   covered p at_p = subst (λ ring. IsIn ring p ↔ ((k : ℕ) × (k < length tris) × IsInTri corners (tri_at tris k) p)) (piece_points_all corners) (fits.covers p at_p)
 
-  -- so it is where a triangle holds it,
-  pub in_ring_if_held : (p : Point) (k : ℕ) → k < length tris → IsInTri corners (tri_at tris k) (whole p) → IsIn corners (whole p)
-  in_ring_if_held p k below held = (covered (whole p) (omega (arith, ints))).1 (k, below, held)
-
-  -- and is not where none does
+  -- so it is not where none holds it
   pub not_in_ring_unless_held : (p : Point) (n : ℕ) → length tris ≤ n → ((k : ℕ) → k < n → ¬ IsInTri corners (tri_at tris k) (whole p))
       → ¬ IsIn corners (whole p)
   not_in_ring_unless_held p n all none inside =
@@ -39,7 +36,7 @@ module _ (corners : List Point) (tris : List Tri) (fits : Fits corners tris) whe
 
   -- so the least triangle that holds it is the answer for the point,
   pub located_some : (p : Point) (k : ℕ) → IsLeastHolding corners tris (whole p) k → IsLeastOrNone corners tris (whole p) (Some k)
-  located_some p k h = record { least = h; none = (λ e. absurd cc, λ out. absurd (out (in_ring_if_held p k h.in_list h.holds))) }
+  located_some p k h = record { least = h; none = (λ e. absurd cc, λ out. absurd (out (source_in corners tris fits k h.in_list p h.holds))) }
 
   -- and none is where no triangle holds it
   pub located_none : (p : Point) (n : ℕ) → length tris ≤ n → ((k : ℕ) → k < n → ¬ IsInTri corners (tri_at tris k) (whole p))
@@ -47,7 +44,7 @@ module _ (corners : List Point) (tris : List Tri) (fits : Fits corners tris) whe
   located_none p n all none = record { least = tt; none = (λ _. not_in_ring_unless_held p n all none, λ _. refl) }
 
 -- all as rules
-pub ruleset places = (cornered, in_ring_if_held, two_fewer)
+pub ruleset places = (cornered, source_in, two_fewer)
 
 -- what is in a triangle is in it with the corners in turn: from the second one on,
 pub in_from_second : (a b c : Point) (p : Triple) → IsInTriangle a b c p → IsInTriangle b c a p

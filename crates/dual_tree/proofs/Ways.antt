@@ -4,17 +4,13 @@ use Rattle.std.proofs.lemmas.Grind.{reverse_onto}
 use Rattle.std.proofs.lemmas.List.{append_assoc, reverse-append, reverse-reverse}
 use Rattle.meshes.proofs.Walks.{IsNew, IsPath, IsPlace, Touch, between_of_path, share_back}
 use Rattle.meshes.specs.Mesh.{side_begin, side_end}
-use Rattle.meshes.specs.Side.{IsTree, IsWalkBetween, tri_at}
+use Rattle.meshes.specs.Side.{IsWalkBetween, tri_at}
 use Rattle.meshes.specs.declared.tri.Tri.{Tri}
 use Rattle.tri_mesh.proofs.Neighbours.{has_side_numbered}
-use Rattle.tri_mesh.specs.Outward.{IsOutward, outward_at}
+use Rattle.tri_mesh.specs.Outward.{IsOutward, at_place, outward_at}
 use Rattle.tri_mesh.specs.declared.outward.Outward.{Outward}
 use Rattle.dual_tree.specs.Ways.{IsApproachStep}
 use Rattle.dual_tree.specs.declared.walk.Way.{Way}
-
--- the triangle at a place
-abbrev pub at_place : List Outward → ℕ → ℕ
-at_place order p = (outward_at order p).tri
 
 -- the triangles are at places after p
 abbrev pub AreBehind : List Outward → ℕ → List ℕ → Type 0
@@ -53,7 +49,7 @@ behind_nearer order p q (k ∷ ks) before behind =
 
 -- ---- paths that meet
 
-module _ (tris : List Tri) (tree : IsTree tris) (from to : ℕ) (from_below : from < length tris) (to_below : to < length tris) where
+module _ (tris : List Tri) (from to : ℕ) (from_below : from < length tris) where
   -- two paths from one triangle that are apart are a walk, the first read backward
   pub walk_over : (front : List ℕ) (k : ℕ) (back : List ℕ) → k < length tris → IsPath (IsPlace tris) (Touch tris) k front from
       → IsPath (IsPlace tris) (Touch tris) k back to → AreApart front back → IsWalkBetween tris from to (reverse front ++ k ∷ back)
@@ -146,10 +142,10 @@ module _ (tris : List Tri) (home : ℕ) (order : List Outward) (o : IsOutward tr
         (back_goes_on front.place (reverse front.left.items) back.place (reverse back.left.items) nearer.0 ways)
 
     -- where they meet they are a walk
-    pub ways_meet : IsTree tris → from < length tris → to < length tris → (p q : ℕ) (front back : List ℕ) → p ≡ q
+    pub ways_meet : from < length tris → (p q : ℕ) (front back : List ℕ) → p ≡ q
         → AreWays tris order from to p (reverse front) q back → IsWalkBetween tris from to (front ++ at_place order p ∷ back)
-    ways_meet tree from_below to_below p q front back met ways =
+    ways_meet from_below p q front back met ways =
         let second : IsPath (IsPlace tris) (Touch tris) (at_place order p) back to = rw met ways.second.path in
         subst (λ xs. IsWalkBetween tris from to (xs ++ at_place order p ∷ back)) (reverse-reverse front)
-        (walk_over tris tree from to from_below to_below (reverse front) (at_place order p) back
+        (walk_over tris from to from_below (reverse front) (at_place order p) back
         (o.in_list p ways.first.below) ways.first.path second ways.apart)

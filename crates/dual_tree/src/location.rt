@@ -7,9 +7,8 @@ ghost use Rattle.rings.specs.Inside.{IsIn};
 ghost use Rattle.rings.specs.Ring.{vertex};
 ghost use Rattle.meshes.specs.Fits.{Fits, IsInTri, IsStrictlyInTri};
 ghost use Rattle.meshes.specs.Mesh.{side_begin, side_end};
-ghost use Rattle.meshes.specs.Side.{tri_at};
+ghost use Rattle.meshes.specs.Side.{tri_at, HasCorner};
 ghost use Rattle.dual_tree.specs.Runs.{taken_before, takes_run};
-ghost use Rattle.tri_mesh.specs.Corner.{HasCorner};
 ghost use Rattle.dual_tree.specs.Location.{IsCornered, IsFirstHolding, IsLeastHolding, IsLeastOrNone};
 
 use crate::runs::{Choice, RUN, runs_of};

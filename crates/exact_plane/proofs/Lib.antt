@@ -3,6 +3,7 @@ mod Cones
 pub mod CrossProduct
 pub mod Directions
 mod Fields
+pub mod Halves
 mod Intervals
 mod Mediants
 mod Meetings

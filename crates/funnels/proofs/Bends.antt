@@ -15,7 +15,7 @@ mod Fans
 -- A triangle of a mesh at one of its corners, seen from either side: its mirror image, how its sides turn, and which ways no ring neighbour goes.
 mod TriangleFans
 pub use Rattle.funnels.proofs.Bends.TriangleFans.{fan_begins, fan_begins_in, fan_goes_on, first_end_in, in_angle, last_end_in, last_step}
-pub use Rattle.funnels.proofs.Bends.TriangleFans.{corner_back, corner_in_ring, corner_turns, in_piece, neighbour_differs, not_inside}
+pub use Rattle.funnels.proofs.Bends.TriangleFans.{corner_back, corner_in, corner_in_ring, corner_turns, in_piece, neighbour_differs, not_inside}
 pub use Rattle.funnels.proofs.Bends.TriangleFans.{not_swept, on_after, on_before, within_back}
 -- The two neighbours of a vertex in a simple ring are on two rays from it.
 -- Points on one ray from a vertex: what is left of the one is left of the other.

@@ -10,7 +10,7 @@ pub use Rattle.funnels.proofs.Chains.WaysBefore.{chain_on, chain_to}
 -- A walk begins in a triangle of a mesh: its points see each other and its sides, and with no points before the apex nothing bends.
 -- A walk begins in a triangle with a source s: the open funnel of s at a side of the triangle that is shared.
 mod FirstFunnels
-pub use Rattle.funnels.proofs.Chains.FirstFunnels.{bent_from_apex, one_bent, start_at_left, start_at_right, start_between}
+pub use Rattle.funnels.proofs.Chains.FirstFunnels.{bent_from_apex, one_bent, source_in, start_at_left, start_at_right, start_between}
 mod BentLeft
 -- At an end of a shared side: a bend to the other end goes on to each point of the triangle beyond, and turns the same way; and a fan round to the side makes a bend to a point past it.
 -- At the corner of a triangle beyond the diagonal fans begin with the way back to the point of the funnel that it is reached from.

@@ -11,8 +11,7 @@ pub use Rattle.funnels.proofs.Corners.RingTurns.{end_of_its_side, IsRingStep, st
 -- The corners of a triangle of a mesh beside one of them.
 -- A vertex of the ring in a closed triangle of a mesh is a corner of it.
 mod CornerPoints
-pub use Rattle.funnels.proofs.Corners.CornerPoints.{corner_after, corner_before, IsCorner, at_corner, begin_is_corner, corner_of}
-pub use Rattle.funnels.proofs.Corners.CornerPoints.{end_is_corner}
+pub use Rattle.funnels.proofs.Corners.CornerPoints.{corner_after, corner_before, at_corner, corner_of, side_corners}
 -- Within the angle of a triangle of a mesh at a corner: a ring neighbour of the corner there is the end of a side, along which the ring goes
 -- as the triangle does, and so there is no bend between two rays.
 -- A point that a corner of a triangle of a mesh sees across the opposite side is within the angle of the triangle there.

@@ -4,11 +4,10 @@ use Rattle.plane.specs.Point.{Point}
 use Rattle.rings.specs.Chain.{IsPath}
 use Rattle.rings.specs.Ring.{vertex}
 use Rattle.meshes.specs.Fits.{Fits}
-use Rattle.meshes.specs.Side.{IsWalkBetween, tri_at}
+use Rattle.meshes.specs.Side.{IsWalkBetween, tri_at, HasCorner}
 use Rattle.meshes.specs.Sleeve.{IsOneOf, Sleeve}
 use Rattle.meshes.specs.declared.tri.Tri.{Tri}
-use Rattle.tri_mesh.specs.Corner.{HasCorner}
-use Rattle.shared_funnel.proofs.Doors.{corner_in}
+use Rattle.funnels.proofs.Bends.{corner_in}
 use Rattle.geo_session.specs.Sleeves.{IsPathAlong}
 
 module _ (corners : List Point) (tris : List Tri) (fits : Fits corners tris) where

@@ -1,5 +1,5 @@
 -- A corner from which no other is farther to the right of a line, by the ways of its two sides.
-use Rattle.std.proofs.Common.{◌*◌, ◌≡◌, ◌≢◌, inl, inr, [], ◌∷◌, refl, sym, subst, ap, ◌∙◌, ℕ, ◌+◌, ◌-◌, ◌/◌, ◌%◌, ◌^◌, ◌<◌, ◌≤◌, zero, suc, List, length, ℤ, pos, ◌+ℤ◌, ◌-ℤ◌, ◌*ℤ◌, ◌<ℤ◌, ◌≤ℤ◌, arith}
+use Rattle.std.proofs.Common.{◌≡◌, ◌≢◌, inl, inr, [], ◌∷◌, refl, sym, subst, ap, ◌∙◌, ℕ, ◌+◌, ◌-◌, ◌%◌, ◌<◌, ◌≤◌, List, length, ℤ, pos, ◌+ℤ◌, ◌-ℤ◌, ◌*ℤ◌, ◌<ℤ◌, ◌≤ℤ◌, arith}
 use Rattle.std.proofs.Math.Nat.{add-mod_left, mod-eq_of_lt, mod-lt}
 use Rattle.std.proofs.lemmas.Bool.{cases_eq}
 use Rattle.std.proofs.lemmas.Int.{ints}
@@ -353,11 +353,3 @@ module _ {cs : List Triple} {ls : List Line} {from : ℕ} (kept : IsRegionKept c
               ]
         ]),
       )
-
--- ---- halves
-
--- half of what is below a power of two is below the one before, and so two steps are paid
-pub half_paid : (w v old new total : ℕ) → 0 < w → v ≤ w / 2 → new ≤ old + 2 → ((e : ℕ) × ((w < 2 ^ e) × (old + 2 * e ≤ total)))
-    → (f : ℕ) × ((v < 2 ^ f) × (new + 2 * f ≤ total))
-half_paid w v old new total some half few (zero, (below, paid)) = absurd (omega (arith, some, below))
-half_paid w v old new total some half few (suc e, (below, paid)) = (e, (omega (arith, some, below, half), omega (arith, few, paid)))

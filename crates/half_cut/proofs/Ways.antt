@@ -1,10 +1,11 @@
 -- Ways of lines, and of sides from corner to corner: which go up, and how they turn.
-use Rattle.std.proofs.Common.{◌≡◌, ◌≢◌, ◌⊎◌, inl, inr, [], ◌∷◌, refl, sym, subst, ap, ◌∙◌, ℤ, pos, ◌+ℤ◌, ◌-ℤ◌, ◌*ℤ◌, ◌<ℤ◌, ◌≤ℤ◌, arith}
+use Rattle.std.proofs.Common.{◌≡◌, ◌≢◌, inl, inr, [], ◌∷◌, refl, sym, subst, ap, ◌∙◌, ℤ, pos, ◌+ℤ◌, ◌-ℤ◌, ◌*ℤ◌, ◌<ℤ◌, ◌≤ℤ◌, arith}
 use Rattle.std.proofs.lemmas.Int.{ints}
 use Rattle.integer_algebra.proofs.Laws.{mul-zero, zero-mul}
 use Rattle.integer_algebra.proofs.Polynomial.{Polynomial, var, lit, ◌⊕◌, ◌⊖◌, ◌⊗◌, same_value}
 use Rattle.integer_algebra.proofs.SignSteps.{not_both, positive_not_zero, positive_of_not_zero, weak, zero_not_negative}
 use Rattle.integer_algebra.proofs.Signs.{factor_positive, factor_zero, is_negative, is_positive, is_zero, mul_negative, mul_nonnegative, mul_positive, sign}
+use Rattle.integer_algebra.proofs.Weights.{Forward}
 use Rattle.plane.proofs.Order.{same_coordinates}
 use Rattle.plane.proofs.Turns.{written_determinant}
 use Rattle.plane.specs.Line.{cross_product}
@@ -12,30 +13,26 @@ use Rattle.plane.specs.Order.{IsBefore, Precedes}
 use Rattle.plane.specs.Point.{IsPoint, Point, Triple, whole}
 use Rattle.plane.specs.Turn.{IsRight, IsStraight, determinant}
 
--- ---- up
+-- ---- up: to the right, or straight upward
 
--- a way goes up: to the right, or straight upward
-abbrev pub GoesUp : (x y : ℤ) → Type 0
-GoesUp x y = (pos 0 <ℤ x) ⊎ ((x ≡ pos 0) × (pos 0 <ℤ y))
-
--- then it does not go to the left
-up_right : (x y : ℤ) → GoesUp x y → pos 0 ≤ℤ x
+-- a way up does not go to the left
+up_right : (x y : ℤ) → Forward x y → pos 0 ≤ℤ x
 up_right x y (inl h) = weak h
 up_right x y (inr h) = zero_not_negative h.0
 
 -- nor does it go up turned round
-pub not_both_up : (x y u v : ℤ) → GoesUp x y → GoesUp u v → x +ℤ u ≡ pos 0 → y +ℤ v ≡ pos 0 → ⊥
+pub not_both_up : (x y u v : ℤ) → Forward x y → Forward u v → x +ℤ u ≡ pos 0 → y +ℤ v ≡ pos 0 → ⊥
 not_both_up x y u v (inl h) (inl k) e f = omega (arith, ints, h, k, e)
 not_both_up x y u v (inl h) (inr k) e f = let k0 = k.0 in omega (arith, ints, h, k0, e)
 not_both_up x y u v (inr h) (inl k) e f = let h0 = h.0 in omega (arith, ints, h0, k, e)
 not_both_up x y u v (inr h) (inr k) e f = let h1 = h.1 in let k1 = k.1 in omega (arith, ints, h1, k1, f)
 
 -- with equal parts it does too
-same_up : {x y u v : ℤ} → x ≡ u → y ≡ v → GoesUp x y → GoesUp u v
-same_up e f h = subst (λ t. t) (λ i. GoesUp (e i) (f i)) h
+same_up : {x y u v : ℤ} → x ≡ u → y ≡ v → Forward x y → Forward u v
+same_up e f h = subst (λ t. t) (λ i. Forward (e i) (f i)) h
 
 -- a sum of multiples of two such ways
-up_sum : (k l x y u v : ℤ) → pos 0 <ℤ k → pos 0 ≤ℤ l → GoesUp x y → GoesUp u v → GoesUp (k *ℤ x +ℤ l *ℤ u) (k *ℤ y +ℤ l *ℤ v)
+up_sum : (k l x y u v : ℤ) → pos 0 <ℤ k → pos 0 ≤ℤ l → Forward x y → Forward u v → Forward (k *ℤ x +ℤ l *ℤ u) (k *ℤ y +ℤ l *ℤ v)
 up_sum k l x y u v hk hl (inl h) g =
     inl (let some = mul_positive k x hk h in let more = mul_nonnegative l u hl (up_right u v g) in omega (arith, ints, some, more))
 up_sum k l x y u v hk hl (inr h) g =
@@ -57,7 +54,7 @@ up_sum k l x y u v hk hl (inr h) g =
     ]
 
 -- a way of which a multiple does
-up_factor : (k x y : ℤ) → pos 0 ≤ℤ k → GoesUp (k *ℤ x) (k *ℤ y) → GoesUp x y
+up_factor : (k x y : ℤ) → pos 0 ≤ℤ k → Forward (k *ℤ x) (k *ℤ y) → Forward x y
 up_factor k x y hk h = elim (sign k) [
   | is_negative n ↦ absurd (not_both n hk)
   | is_zero e ↦
@@ -106,20 +103,20 @@ on_one_side k f g x y a b w e =
     zero_of_equal u v e = omega (arith, ints, e)
 
 -- where a multiple is a sum of multiples
-up_mean : (k m n x y u v s t : ℤ) → pos 0 <ℤ k → pos 0 <ℤ m → pos 0 ≤ℤ n → GoesUp u v → GoesUp s t → k *ℤ x ≡ m *ℤ u +ℤ n *ℤ s
-    → k *ℤ y ≡ m *ℤ v +ℤ n *ℤ t → GoesUp x y
+up_mean : (k m n x y u v s t : ℤ) → pos 0 <ℤ k → pos 0 <ℤ m → pos 0 ≤ℤ n → Forward u v → Forward s t → k *ℤ x ≡ m *ℤ u +ℤ n *ℤ s
+    → k *ℤ y ≡ m *ℤ v +ℤ n *ℤ t → Forward x y
 up_mean k m n x y u v s t hk hm hn up too ex ey =
     up_factor k x y (weak hk) (same_up (sym ex) (sym ey) (up_sum m n u v s t hm hn up too))
 
 -- and the other way round, where one weight is negative
-pub up_other : (k m n x y u v s t : ℤ) → pos 0 <ℤ k → m <ℤ pos 0 → pos 0 ≤ℤ n → GoesUp x y → GoesUp u v → k *ℤ x ≡ m *ℤ u +ℤ n *ℤ s
-    → k *ℤ y ≡ m *ℤ v +ℤ n *ℤ t → GoesUp s t
+pub up_other : (k m n x y u v s t : ℤ) → pos 0 <ℤ k → m <ℤ pos 0 → pos 0 ≤ℤ n → Forward x y → Forward u v → k *ℤ x ≡ m *ℤ u +ℤ n *ℤ s
+    → k *ℤ y ≡ m *ℤ v +ℤ n *ℤ t → Forward s t
 up_other k m n x y u v s t hk hm hn up too ex ey =
     let minus : pos 0 ≤ℤ (pos 0 -ℤ m) = omega (arith, ints, hm) in
     up_factor n s t hn (same_up (moved_over k m n x u s ex) (moved_over k m n y v t ey) (up_sum k (pos 0 -ℤ m) x y u v hk minus up too))
 
 -- no three of them balance
-no_balance : (k m n x y u v s t : ℤ) → pos 0 <ℤ k → pos 0 ≤ℤ m → pos 0 ≤ℤ n → GoesUp x y → GoesUp u v → GoesUp s t
+no_balance : (k m n x y u v s t : ℤ) → pos 0 <ℤ k → pos 0 ≤ℤ m → pos 0 ≤ℤ n → Forward x y → Forward u v → Forward s t
     → k *ℤ x +ℤ m *ℤ u +ℤ n *ℤ s ≡ pos 0 → k *ℤ y +ℤ m *ℤ v +ℤ n *ℤ t ≡ pos 0 → ⊥
 no_balance k m n x y u v s t hk hm hn one two three ex ey =
     let sum = up_sum (pos 1) n (k *ℤ x +ℤ m *ℤ u) (k *ℤ y +ℤ m *ℤ v) s t (omega (arith, ints)) hn (up_sum k m x y u v hk hm one two) three in
@@ -147,15 +144,15 @@ module _ (ux uy ox oy dx dy : ℤ) where
 
 -- ---- ways of points
 
-pub up_of_before : (p q : Point) → IsBefore p q → GoesUp (q.x -ℤ p.x) (q.y -ℤ p.y)
+pub up_of_before : (p q : Point) → IsBefore p q → Forward (q.x -ℤ p.x) (q.y -ℤ p.y)
 up_of_before p q (inl h) = inl (omega (arith, ints, h))
 up_of_before p q (inr h) = let e = h.0 in let k = h.1 in inr (omega (arith, ints, e), omega (arith, ints, k))
 
-pub up_of_precedes : (c z : Triple) → Precedes c z → GoesUp (z.X *ℤ c.W -ℤ c.X *ℤ z.W) (z.Y *ℤ c.W -ℤ c.Y *ℤ z.W)
+pub up_of_precedes : (c z : Triple) → Precedes c z → Forward (z.X *ℤ c.W -ℤ c.X *ℤ z.W) (z.Y *ℤ c.W -ℤ c.Y *ℤ z.W)
 up_of_precedes c z (inl h) = inl (omega (arith, ints, h))
 up_of_precedes c z (inr h) = let e = h.0 in let k = h.1 in inr (omega (arith, ints, e), omega (arith, ints, k))
 
-pub precedes_of_up : (c z : Triple) → GoesUp (z.X *ℤ c.W -ℤ c.X *ℤ z.W) (z.Y *ℤ c.W -ℤ c.Y *ℤ z.W) → Precedes c z
+pub precedes_of_up : (c z : Triple) → Forward (z.X *ℤ c.W -ℤ c.X *ℤ z.W) (z.Y *ℤ c.W -ℤ c.Y *ℤ z.W) → Precedes c z
 precedes_of_up c z (inl h) = inl (omega (arith, ints, h))
 precedes_of_up c z (inr h) = let e = h.0 in let k = h.1 in inr (omega (arith, ints, e), omega (arith, ints, k))
 
@@ -255,7 +252,7 @@ without : (x y d w : ℤ) → d ≡ pos 0 → x ≡ y +ℤ d *ℤ w → x ≡ y
 without x y d w none e = let gone : d *ℤ w ≡ pos 0 = ap (λ t. t *ℤ w) none ∙ zero-mul w in omega (arith, ints, e, gone)
 
 -- a multiple of a way that goes up does
-up_multiple : (k x y : ℤ) → pos 0 <ℤ k → GoesUp x y → GoesUp (k *ℤ x) (k *ℤ y)
+up_multiple : (k x y : ℤ) → pos 0 <ℤ k → Forward x y → Forward (k *ℤ x) (k *ℤ y)
 up_multiple k x y some (inl h) = inl (mul_positive k x some h)
 up_multiple k x y some (inr h) = inr (ap (λ t. k *ℤ t) h.0 ∙ mul-zero k, mul_positive k y some h.1)
 

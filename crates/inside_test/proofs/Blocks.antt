@@ -11,7 +11,7 @@ use Rattle.plane.proofs.Points.{whole_is_point}
 use Rattle.plane.proofs.Segments.{on_first_end}
 use Rattle.plane.proofs.Turns.{linear}
 use Rattle.plane.specs.Point.{IsInBounds, IsPoint, Point, Triple, whole}
-use Rattle.plane.specs.Segment.{Meet, On}
+use Rattle.plane.specs.Segment.{On}
 use Rattle.rings.proofs.Vertices.{vertex_in_range}
 use Rattle.rings.specs.Edge.{edge, edges_of}
 use Rattle.rings.specs.Inside.{is_crossed}

@@ -6,7 +6,7 @@ use Rattle.std.specs.Prelude.{◌&&◌}
 use Rattle.integer_algebra.proofs.Laws.{mul_comm, zero-mul}
 use Rattle.integer_algebra.proofs.Polynomial.{var, lit, ◌⊕◌, ◌⊖◌, ◌⊗◌, same_value}
 use Rattle.integer_algebra.proofs.SignSteps.{weak, without_less}
-use Rattle.integer_algebra.proofs.Signs.{cancel_equal, factor_negative, factor_positive, mul_nonpositive, mul_nonpositives, mul_positive}
+use Rattle.integer_algebra.proofs.Signs.{cancel_equal, factor_negative, factor_positive, le_unless, mul_nonpositive, mul_nonpositives, mul_positive}
 use Rattle.plane.proofs.Points.{whole_is_point}
 use Rattle.plane.proofs.Segments.{on_is_straight, on_reversed}
 use Rattle.plane.proofs.Turns.{on_of_combination, written_determinant}
@@ -221,10 +221,6 @@ meeting_backward m a b p h = record {
 
 -- ---- whether an edge rises, by what its ends say
 
--- what is not below is at most
-at_most : (x y : ℤ) → ¬ (y <ℤ x) → x ≤ℤ y
-at_most x y h = grind (arith, ints)
-
 -- the test of a rise, where its first part holds and the second,
 test_passes : (low high y : ℤ) → low ≤ℤ y → y <ℤ high → (le_z low y && lt_z y high) ≡ true
 test_passes low high y h k = grind (arith, ints)
@@ -243,7 +239,7 @@ module _ (v : Vertex) (p : Triple) (beside : IsVertexBeside v p) where
 
   -- and one that does not is not
   pub not_above_of_false : v.is_above ≡ false → (v.at.y *ℤ p.W) ≤ℤ p.Y
-  not_above_of_false e = at_most (v.at.y *ℤ p.W) p.Y (λ k. cc (beside.1 k, e))
+  not_above_of_false e = le_unless (v.at.y *ℤ p.W) p.Y (λ k. cc (beside.1 k, e))
 
 module _ (low high : Vertex) (p : Triple) (first : IsVertexBeside low p) (last : IsVertexBeside high p) where
   pub rise_of : low.is_above ≡ false → high.is_above ≡ true → rises low.at high.at p ≡ true

@@ -18,11 +18,6 @@ pub one_of : {A E : Type 0} (r : Result A E) (P Q : Type 0) → OnOk r P → OnE
 one_of (Ok v) P Q h k = inl h
 one_of (Err e) P Q h k = inr k
 
--- what follows on success from what holds there
-pub on_ok : {A E : Type 0} (r : Result A E) (P Q : Type 0) → (P → Q) → OnOk r P → OnOk r Q
-on_ok (Ok v) P Q f h = f h
-on_ok (Err e) P Q f h = tt
-
 module _ (a b : Triple) where
   -- a list that stays
   pub extends_same : (old new : List Triple) → new ≡ old → ExtendsOnSegment a b old new

@@ -29,6 +29,10 @@ comparison a b = elim (sign (a -ℤ b)) [ is_negative h ↦ is_below (omega (ari
 pub lt_or_le : (a b : ℤ) → (a <ℤ b) ⊎ (b ≤ℤ a)
 lt_or_le a b = grind (arith, ints)
 
+-- what is not below is at most
+pub le_unless : (a b : ℤ) → ¬ (b <ℤ a) → a ≤ℤ b
+le_unless a b h = grind (arith, ints)
+
 -- ---- the sign of a product, from the signs of its factors
 
 -- two positive factors

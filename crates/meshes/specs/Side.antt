@@ -1,10 +1,14 @@
--- Lists of triangles, their sides, and walks over triangles that share sides. This project's own.
+-- Lists of triangles, their corners and sides, and walks over triangles that share sides. This project's own.
 use Rattle.std.specs.Prelude.{◌≡◌, ◌⊎◌, ℕ, ◌+◌, ◌-◌, ◌<◌, List, length, slice_index_or}
 use Rattle.meshes.specs.declared.tri.Tri.{Tri}
 
 -- triangle k of a list
 abbrev pub tri_at : List Tri → ℕ → Tri
 tri_at tris k = slice_index_or tris k (record { a = 0; b = 0; c = 0 })
+
+-- i is a corner of the triangle
+abbrev pub HasCorner : Tri → ℕ → Type 0
+HasCorner t i = (t.a ≡ i) ⊎ (t.b ≡ i) ⊎ (t.c ≡ i)
 
 -- the triangle has a side from corner i to corner j
 abbrev pub HasSide : Tri → ℕ → ℕ → Type 0

@@ -11,10 +11,11 @@ use Rattle.rings.proofs.Vertices.{one_to_one}
 use Rattle.rings.specs.Chain.{point_at}
 use Rattle.rings.specs.From.{IsPredecessor}
 use Rattle.rings.specs.Ring.{vertex}
-use Rattle.meshes.specs.Side.{tri_at}
+use Rattle.meshes.specs.Side.{tri_at, HasCorner}
 use Rattle.meshes.specs.declared.tri.Tri.{Tri}
+use Rattle.funnels.proofs.Corners.{side_corners}
 use Rattle.funnels.proofs.OneChain.{one_before}
-use Rattle.tri_mesh.specs.Corner.{HasCorner}
+use Rattle.tri_mesh.specs.Outward.{at_place}
 use Rattle.tri_mesh.specs.declared.outward.Outward.{Outward}
 use Rattle.funnels.proofs.Trees.{before_differs}
 use Rattle.funnels.proofs.Vertices.{fitted_simple}
@@ -22,8 +23,8 @@ use Rattle.shared_funnel.proofs.NextFunnels.{beyond_at, earlier, ends_at, toward
 use Rattle.shared_funnel.proofs.NextFunnels.{funnel_on_right}
 use Rattle.shared_funnel.proofs.FunnelNumbers.{first_at_left, first_at_right, first_between, funnel_to_left, funnel_to_right, corner_point}
 use Rattle.shared_funnel.proofs.FunnelNumbers.{point_there, source_point}
-use Rattle.shared_funnel.proofs.Doors.{corner_below, side_corners}
-use Rattle.shared_funnel.specs.Entered.{IsFromStart, IsFunnelTo, at_place, left_of, right_of, third_of, toward}
+use Rattle.shared_funnel.proofs.Doors.{corner_below}
+use Rattle.shared_funnel.specs.Entered.{IsFromStart, IsFunnelTo, left_of, right_of, third_of, toward}
 use Rattle.shared_funnel.specs.Listed.{Listed, point_of, listed_points}
 use Rattle.pair_cut.proofs.FunnelPaths.{apex_alone, before_on_left, before_on_right}
 use Rattle.pair_cut.specs.Climbs.{AreClimbs, IsClimb, IsVertexAt, from_left, from_right}

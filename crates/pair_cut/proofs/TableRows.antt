@@ -15,20 +15,21 @@ use Rattle.rings.specs.Ring.{vertex}
 use Rattle.rings.specs.Simple.{IsSimple}
 use Rattle.meshes.proofs.Sides.{one_at_edge}
 use Rattle.meshes.specs.Fits.{Fits}
-use Rattle.meshes.specs.Side.{tri_at}
+use Rattle.meshes.specs.Side.{tri_at, HasCorner}
 use Rattle.meshes.specs.declared.tri.Tri.{Tri}
+use Rattle.funnels.proofs.Bends.{corner_in}
+use Rattle.funnels.proofs.Corners.{side_corners}
 use Rattle.funnels.proofs.Trees.{before_differs, before_at_home}
 use Rattle.funnels.proofs.Vertices.{fitted_long, fitted_simple}
-use Rattle.tri_mesh.specs.Corner.{HasCorner}
-use Rattle.tri_mesh.specs.Outward.{IsOutward, outward_at}
+use Rattle.tri_mesh.specs.Outward.{IsOutward, outward_at, at_place}
 use Rattle.tri_mesh.specs.declared.outward.Outward.{Outward}
 use Rattle.shared_seq.specs.Digits.{binary_digits}
 use Rattle.shared_funnel.proofs.NextFunnels.{beyond_at, from_start, third_below}
 use Rattle.shared_funnel.proofs.FunnelNumbers.{point_there}
 use Rattle.shared_funnel.proofs.ReachedBefore.{before_third}
 use Rattle.shared_funnel.proofs.StepCounts.{home_steps, three_digits}
-use Rattle.shared_funnel.proofs.Doors.{side_corners, corner_below, corner_cases, corner_in}
-use Rattle.shared_funnel.specs.Entered.{IsFromStart, at_place, left_of, right_of, third_of, toward}
+use Rattle.shared_funnel.proofs.Doors.{corner_below, corner_cases}
+use Rattle.shared_funnel.specs.Entered.{IsFromStart, left_of, right_of, third_of, toward}
 use Rattle.shared_funnel.specs.Listed.{point_of}
 use Rattle.pair_cut.specs.Doors.{IsGrownTo, IsOnWay, IsTangentTo, tangent_at}
 use Rattle.pair_cut.specs.Pairs.{IsBeforeVertex, IsMadeFor, pair_before}

@@ -5,11 +5,11 @@ use Rattle.std.specs.Prelude.{◌≡◌, ◌⊎◌, ℕ, ◌<◌, List, length, 
 use Rattle.plane.specs.Point.{Point}
 use Rattle.rings.specs.Chain.{point_at}
 use Rattle.rings.specs.Ring.{vertex}
-use Rattle.meshes.specs.Side.{tri_at}
+use Rattle.meshes.specs.Side.{tri_at, HasCorner}
 use Rattle.meshes.specs.declared.tri.Tri.{Tri}
-use Rattle.tri_mesh.specs.Corner.{HasCorner}
+use Rattle.tri_mesh.specs.Outward.{at_place}
 use Rattle.tri_mesh.specs.declared.outward.Outward.{Outward}
-use Rattle.shared_funnel.specs.Entered.{IsFunnelTo, at_place, third_of}
+use Rattle.shared_funnel.specs.Entered.{IsFunnelTo, third_of}
 use Rattle.shared_funnel.specs.Listed.{Listed, listed_points}
 use Rattle.pair_cut.specs.Climbs.{IsTangent, IsVertexAt}
 use Rattle.pair_cut.specs.Rows.{IsNumberBefore}

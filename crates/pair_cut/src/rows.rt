@@ -3,11 +3,10 @@ ghost use Rattle.std.specs.Prelude.{◌≡◌, ◌^◌, ◌*◌, ◌+◌, ◌<�
 ghost use Rattle.plane.specs.Point.{Point};
 ghost use Rattle.rings.specs.Ring.{vertex};
 ghost use Rattle.meshes.specs.Fits.{Fits};
-ghost use Rattle.meshes.specs.Side.{tri_at};
-ghost use Rattle.tri_mesh.specs.Corner.{HasCorner};
-ghost use Rattle.tri_mesh.specs.Outward.{IsOutward};
+ghost use Rattle.meshes.specs.Side.{tri_at, HasCorner};
+ghost use Rattle.tri_mesh.specs.Outward.{IsOutward, at_place};
 ghost use Rattle.shared_seq.specs.Digits.{binary_digits};
-ghost use Rattle.shared_funnel.specs.Entered.{IsFromStart, at_place};
+ghost use Rattle.shared_funnel.specs.Entered.{IsFromStart};
 ghost use Rattle.pair_cut.specs.Doors.{IsApex, IsGrownTo};
 ghost use Rattle.pair_cut.specs.Rows.{IsRow};
 ghost use Rattle.pair_cut.specs.declared.table.TheConstants.{MAX_PAIRED};

@@ -13,20 +13,21 @@ use Rattle.rings.specs.From.{IsPredecessor}
 use Rattle.rings.specs.Ring.{vertex, origin}
 use Rattle.meshes.proofs.Sides.{two_fewer, one_at_edge}
 use Rattle.meshes.specs.Fits.{Fits, IsInTri}
-use Rattle.meshes.specs.Side.{tri_at}
+use Rattle.meshes.specs.Side.{tri_at, HasCorner}
 use Rattle.meshes.specs.declared.tri.Tri.{Tri}
+use Rattle.funnels.proofs.Bends.{corner_in}
+use Rattle.funnels.proofs.Corners.{side_corners}
 use Rattle.funnels.specs.Funnel.{IsReachedFrom}
 use Rattle.exact_plane.specs.Spot.{point_named}
 use Rattle.exact_plane.specs.declared.turns.Spot.{Spot}
 use Rattle.exact_plane.specs.declared.turns.Spot.TheVariants.{Corner, Start}
-use Rattle.tri_mesh.specs.Corner.{HasCorner}
-use Rattle.tri_mesh.specs.Outward.{IsOutward, outward_at}
+use Rattle.tri_mesh.specs.Outward.{IsOutward, outward_at, at_place}
 use Rattle.tri_mesh.specs.declared.outward.Outward.{Outward}
 use Rattle.shared_funnel.proofs.NextFunnels.{apart, beyond_at, from_start, third_below}
 use Rattle.shared_funnel.proofs.FunnelNumbers.{corner_point, source_point}
 use Rattle.shared_funnel.proofs.ReachedBefore.{before_third, before_point, number_of_source}
-use Rattle.shared_funnel.proofs.Doors.{corner_below, corner_in, corner_cases, side_corners}
-use Rattle.shared_funnel.specs.Entered.{IsFromStart, IsFunnelTo, at_place, left_of, right_of, third_of, toward}
+use Rattle.shared_funnel.proofs.Doors.{corner_below, corner_cases}
+use Rattle.shared_funnel.specs.Entered.{IsFromStart, IsFunnelTo, left_of, right_of, third_of, toward}
 use Rattle.shared_funnel.specs.Listed.{IsTriangleBeyond, IsFunnelAt, Listed, point_of, listed_points}
 use Rattle.path_tree.specs.Growing.{AreThirdPlaces, IsGrownOver, IsThirdFrom, KeepsFunnelTo}
 use Rattle.path_tree.specs.Grown.{IsFromNamed, Names, IsEntered, IsGrownFrom, KeepsFunnel, NamedTree, funnel_at, before_at}

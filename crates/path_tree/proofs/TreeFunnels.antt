@@ -3,9 +3,10 @@ use Rattle.std.proofs.Common.{◌≡◌, sym, subst, ◌∙◌, List, length, �
 use Rattle.std.proofs.lemmas.List.{get_or_read}
 use Rattle.plane.specs.Point.{Point}
 use Rattle.meshes.specs.declared.tri.Tri.{Tri}
+use Rattle.tri_mesh.specs.Outward.{at_place}
 use Rattle.tri_mesh.specs.declared.outward.Outward.{Outward}
 use Rattle.shared_funnel.proofs.NextFunnels.{earlier, toward_below}
-use Rattle.shared_funnel.specs.Entered.{IsFromStart, IsFunnelTo, at_place, toward}
+use Rattle.shared_funnel.specs.Entered.{IsFromStart, IsFunnelTo, toward}
 use Rattle.shared_funnel.specs.Listed.{Listed}
 use Rattle.path_tree.specs.Grown.{NamedTree}
 use Rattle.path_tree.specs.Growing.{AreThirdPlaces, IsGrownOver, IsThirdFrom, KeepsFunnelTo}

@@ -2,12 +2,12 @@
 use Rattle.std.specs.Prelude.{◌≡◌, ℕ, ◌<◌, ◌≤◌, List, length, slice_index, vec_capacity, Option, Some, None}
 use Rattle.plane.specs.Point.{Point, whole}
 use Rattle.rings.specs.Ring.{vertex}
-use Rattle.meshes.specs.Side.{tri_at}
+use Rattle.meshes.specs.Side.{tri_at, HasCorner}
 use Rattle.meshes.specs.declared.tri.Tri.{Tri}
-use Rattle.tri_mesh.specs.Corner.{HasCorner}
+use Rattle.tri_mesh.specs.Outward.{at_place}
 use Rattle.tri_mesh.specs.declared.outward.Outward.{Outward}
 use Rattle.funnels.specs.Funnel.{IsReachedFrom}
-use Rattle.shared_funnel.specs.Entered.{IsFromStart, IsFunnelTo, at_place, third_of}
+use Rattle.shared_funnel.specs.Entered.{IsFromStart, IsFunnelTo, third_of}
 use Rattle.shared_funnel.specs.Listed.{Listed, listed_points}
 use Rattle.path_tree.specs.Grown.{IsFromNamed, NamedTree, before_at, funnel_at}
 use Rattle.path_tree.specs.declared.growth.Growth.{Growth}

@@ -4,29 +4,26 @@ use Rattle.std.proofs.lemmas.Int.{ints, to_z-of_z}
 use Rattle.std.proofs.lemmas.List.{drop_all, drop_more, get_or_read}
 use Rattle.std.specs.Prelude.{slice_index_or, unsigned_abs}
 use Rattle.plane.specs.Point.{Point}
+use Rattle.rings.specs.Chain.{point_at}
 use Rattle.rings.specs.Edge.{edges_along}
 use Rattle.rings.specs.Orientation.{doubled_area, swept}
 use Rattle.rings.specs.Ring.{origin}
 use mir.Val.{of_z, to_z}
 
--- vertex i, where it is below the length
-abbrev pub item : List Point → ℕ → Point
-item ring i = slice_index_or ring i origin
-
 -- what the edges from vertex i - 1 on sweep out
 abbrev pub rest : List Point → ℕ → ℤ
-rest ring i = swept (edges_along (item ring (i - 1)) (drop i ring) (item ring 0))
+rest ring i = swept (edges_along (point_at ring (i - 1)) (drop i ring) (point_at ring 0))
 
 -- what one edge does
 abbrev pub swept_between : Point → Point → ℤ
 swept_between p q = p.x *ℤ q.y -ℤ q.x *ℤ p.y
 
 -- the edge from vertex i - 1 to vertex i, and then what is left from there
-rest_more : (ring : List Point) (i : ℕ) → i < length ring → rest ring i ≡ swept_between (item ring (i - 1)) (item ring i) +ℤ rest ring (i + 1)
+rest_more : (ring : List Point) (i : ℕ) → i < length ring → rest ring i ≡ swept_between (point_at ring (i - 1)) (point_at ring i) +ℤ rest ring (i + 1)
 rest_more ring i within =
     let here : i ≡ i + 1 - 1 = omega arith in
-    ap (λ ps. swept (edges_along (item ring (i - 1)) ps (item ring 0))) (drop_more ring i origin within)
-    ∙ ap (λ j. swept_between (item ring (i - 1)) (item ring i) +ℤ swept (edges_along (item ring j) (drop (i + 1) ring) (item ring 0))) here
+    ap (λ ps. swept (edges_along (point_at ring (i - 1)) ps (point_at ring 0))) (drop_more ring i origin within)
+    ∙ ap (λ j. swept_between (point_at ring (i - 1)) (point_at ring i) +ℤ swept (edges_along (point_at ring j) (drop (i + 1) ring) (point_at ring 0))) here
 
 -- with it the area goes on
 pub area_more : (ring : List Point) (i : ℕ) (area edge : ℤ) (p q : Point) → 0 < i → i < length ring
@@ -35,13 +32,13 @@ pub area_more : (ring : List Point) (i : ℕ) (area edge : ℤ) (p q : Point) �
 area_more ring i area edge p q some within at_p at_q is_edge so_far =
     let first = get_or_read ring (i - 1) p (omega arith) at_p origin in
     let second = get_or_read ring i q within at_q origin in
-    let is : edge ≡ swept_between (item ring (i - 1)) (item ring i) = is_edge ∙ (λ k. swept_between (first k) (second k)) in
+    let is : edge ≡ swept_between (point_at ring (i - 1)) (point_at ring i) = is_edge ∙ (λ k. swept_between (first k) (second k)) in
     omega (arith, ints, is, rest_more ring i within, so_far)
 
 -- at last the edge back to the first vertex is left
-pub rest_last : (ring : List Point) → rest ring (length ring) ≡ swept_between (item ring (length ring - 1)) (item ring 0)
+pub rest_last : (ring : List Point) → rest ring (length ring) ≡ swept_between (point_at ring (length ring - 1)) (point_at ring 0)
 rest_last ring =
-    ap (λ ps. swept (edges_along (item ring (length ring - 1)) ps (item ring 0))) (drop_all (length ring) ring (omega arith))
+    ap (λ ps. swept (edges_along (point_at ring (length ring - 1)) ps (point_at ring 0))) (drop_all (length ring) ring (omega arith))
     ∙ omega (arith, ints)
 
 -- with it the area is whole

@@ -4,7 +4,6 @@ pub mod Bounds
 mod EdgeEnds
 mod EdgeRuns
 mod GapMoves
-pub mod Halves
 mod Orders
 pub mod Oriented
 mod Reflex

@@ -85,9 +85,9 @@ module _ (tris : List Tri) where
     pub forth : (k l : ℕ) (rest : List ℕ) → k < length tris → l < length tris → IsTriPath l (k ∷ rest) home → IsForth k l
     forth k l rest k_below l_below p = record {
       walk = reverse rest ++ k ∷ [];
-      near = walk_over tris tree home k home_below k_below rest k [] k_below p.3 refl (apart_none rest);
+      near = walk_over tris home k home_below rest k [] k_below p.3 refl (apart_none rest);
       far = subst (λ xs. IsWalkBetween tris home l (xs ++ l ∷ [])) (reverse_onto rest k [])
-          (walk_over tris tree home l home_below l_below (k ∷ rest) l [] l_below p refl (apart_none (k ∷ rest)));
+          (walk_over tris home l home_below (k ∷ rest) l [] l_below p refl (apart_none (k ∷ rest)));
     }
 
     pub forth_of : (k l : ℕ) → k < length tris → l < length tris → ¬ (l ≡ k) → IsNextHomeward tris home k l → IsForth k l

@@ -1,16 +1,13 @@
 -- How a triangle of a mesh is entered from one with which it shares a side: the ends of the diagonal, and the third corner.
 -- The corners of a triangle, and the ends of its sides.
 use Rattle.std.proofs.Common.{◌≡◌, ◌⊎◌, inl, inr, refl, subst, List, length, ℕ, zero, suc, ◌<◌, ◌≤◌, arith, [], ◌∷◌, slice_index}
-use Rattle.plane.specs.Point.{Point, whole}
-use Rattle.rings.specs.Ring.{vertex}
+use Rattle.plane.specs.Point.{Point}
 use Rattle.meshes.proofs.Sides.{fitting_sides, ends_below}
 use Rattle.meshes.proofs.TreeLeaves.{side_is_one}
-use Rattle.meshes.specs.Fits.{Fits, IsSideOfTwo, IsInTri}
+use Rattle.meshes.specs.Fits.{Fits, IsSideOfTwo}
 use Rattle.meshes.specs.Mesh.{side_begin, side_end}
-use Rattle.meshes.specs.Side.{HasSide, tri_at}
+use Rattle.meshes.specs.Side.{HasSide, tri_at, HasCorner}
 use Rattle.meshes.specs.declared.tri.Tri.{Tri}
-use Rattle.funnels.proofs.Bends.{first_end_in}
-use Rattle.tri_mesh.specs.Corner.{HasCorner}
 use Rattle.shared_funnel.specs.Listed.{IsTriangleBeyond, IsFunnelAt, Listed}
 use Rattle.shared_funnel.specs.Third.{IsThird, side_third}
 
@@ -86,12 +83,6 @@ corner_place t i (inl e) = (0, omega arith, e)
 corner_place t i (inr (inl e)) = (1, omega arith, e)
 corner_place t i (inr (inr e)) = (2, omega arith, e)
 
--- the ends of a side are corners,
-pub side_corners : (t : Tri) (i j : ℕ) → HasSide t i j → HasCorner t i × HasCorner t j
-side_corners t i j (inl e) = (inl e.0, inr (inl e.1))
-side_corners t i j (inr (inl e)) = (inr (inl e.0), inr (inr e.1))
-side_corners t i j (inr (inr e)) = (inr (inr e.0), inl e.1)
-
 -- a side begins at each corner,
 side_from : (t : Tri) (i : ℕ) → HasCorner t i → (j : ℕ) × HasSide t i j
 side_from t i (inl e) = (t.b, inl (e, refl))
@@ -108,12 +99,9 @@ corner_cases t (suc (suc (suc n))) i below has = absurd (omega (arith, below))
 
 module _ (corners : List Point) (tris : List Tri) (fits : Fits corners tris) (k : ℕ) (within : k < length tris) (i : ℕ)
     (has : HasCorner (tri_at tris k) i) where
-  -- in a mesh it is a vertex, and in the triangle
+  -- in a mesh it is a vertex
   pub corner_below : i < length corners
   corner_below = let (j, side) = side_from (tri_at tris k) i has in (ends_below corners tris fits k i j within side).0
-
-  pub corner_in : IsInTri corners (tri_at tris k) (whole (vertex corners i))
-  corner_in = let (j, side) = side_from (tri_at tris k) i has in first_end_in corners tris fits k within i j side
 
 module _ (corners : List Point) (tris : List Tri) (fits : Fits corners tris) (home : ℕ) (within : home < length tris) (t : Tri)
     (is : t ≡ tri_at tris home) (k : ℕ) (below : k < 3) where

@@ -11,13 +11,13 @@ use Rattle.meshes.specs.Side.{tri_at, HasSide}
 use Rattle.meshes.specs.declared.tri.Tri.{Tri}
 use Rattle.funnels.specs.Funnel.{IsReachedFrom}
 use Rattle.tri_mesh.proofs.Neighbours.{has_side_numbered}
-use Rattle.tri_mesh.specs.Outward.{IsOutward, outward_at}
+use Rattle.tri_mesh.specs.Outward.{IsOutward, outward_at, at_place}
 use Rattle.tri_mesh.specs.declared.outward.Outward.{Outward}
 use Rattle.shared_seq.proofs.Digits.{binary_digits_mono}
 use Rattle.shared_seq.specs.Digits.{binary_digits}
 use Rattle.shared_funnel.proofs.Doors.{beyond_of, side_of_both, third_numbered, funnel_later, goes_on}
 use Rattle.shared_funnel.proofs.StepCounts.{three_digits}
-use Rattle.shared_funnel.specs.Entered.{IsFromStart, at_place, left_of, right_of, third_of, toward, IsFunnelTo}
+use Rattle.shared_funnel.specs.Entered.{IsFromStart, left_of, right_of, third_of, toward, IsFunnelTo}
 use Rattle.shared_funnel.specs.Listed.{IsTriangleBeyond, IsFunnelAt, Listed, point_of, listed_points}
 
 -- an order outward from a triangle with the start in it

@@ -5,15 +5,12 @@ use Rattle.meshes.specs.Fits.{Fits, IsInTri}
 use Rattle.meshes.specs.Mesh.{side_begin, side_end}
 use Rattle.meshes.specs.Side.{tri_at}
 use Rattle.meshes.specs.declared.tri.Tri.{Tri}
-use Rattle.tri_mesh.specs.Outward.{IsOutward, outward_at}
+use Rattle.tri_mesh.specs.Outward.{IsOutward, at_place, outward_at}
 use Rattle.tri_mesh.specs.declared.outward.Outward.{Outward}
 use Rattle.shared_funnel.specs.Listed.{IsFunnelAt, Listed}
 use Rattle.shared_funnel.specs.Third.{side_third}
 
--- the triangle at a place, and the place of the one from which it is reached
-abbrev pub at_place : List Outward → ℕ → ℕ
-at_place order p = (outward_at order p).tri
-
+-- the place of the triangle from which the one at a place is reached
 abbrev pub toward : List Outward → ℕ → ℕ
 toward order p = (outward_at order p).toward
 

@@ -2,9 +2,9 @@
 use Rattle.std.proofs.Common.{◌≡◌, ◌⊎◌, inl, inr, sym, subst, ◌∙◌, ℕ, ◌+◌, ◌<◌, List, length, get_or, set, length-set, arith}
 use Rattle.std.proofs.lemmas.Bool.{cases_eq}
 use Rattle.std.proofs.lemmas.List.{get_or-set_other, get_or-set_same, get_or_read}
-use Rattle.meshes.specs.Side.{tri_at}
+use Rattle.meshes.specs.Side.{tri_at, HasCorner}
 use Rattle.meshes.specs.declared.tri.Tri.{Tri}
-use Rattle.tri_mesh.specs.Corner.{KeepsFirsts, AreFirstsFrom, HasCorner, IsFirstAt}
+use Rattle.tri_mesh.specs.Corner.{KeepsFirsts, AreFirstsFrom, IsFirstAt}
 use Rattle.tri_mesh.specs.Neighbours.{HasCornersBelow}
 
 -- where triangle k is put to its corners

@@ -1,11 +1,7 @@
--- The corners of a triangle, as in the textbooks, and the first triangle with a corner.
-use Rattle.std.specs.Prelude.{◌≡◌, ◌⊎◌, ℕ, ◌<◌, ◌≤◌, List, length, slice_index_or}
-use Rattle.meshes.specs.Side.{tri_at}
+-- The first triangle of a list with a corner. This project's own.
+use Rattle.std.specs.Prelude.{ℕ, ◌<◌, ◌≤◌, List, length, slice_index_or}
+use Rattle.meshes.specs.Side.{HasCorner, tri_at}
 use Rattle.meshes.specs.declared.tri.Tri.{Tri}
-
--- i is a corner of the triangle
-abbrev pub HasCorner : Tri → ℕ → Type 0
-HasCorner t i = (t.a ≡ i) ⊎ (t.b ≡ i) ⊎ (t.c ≡ i)
 
 -- of the triangles from triangle n on none before triangle k has corner i, and that one has it if it is in the list
 pub record IsFirstAt (tris : List Tri) (n i k : ℕ) : Type 0 where

@@ -9,6 +9,10 @@ use Rattle.tri_mesh.specs.declared.outward.Outward.{Outward}
 abbrev pub outward_at : List Outward → ℕ → Outward
 outward_at order p = slice_index_or order p (record { tri = 0; toward = 0; side = 0 })
 
+-- the triangle there
+abbrev pub at_place : List Outward → ℕ → ℕ
+at_place order p = (outward_at order p).tri
+
 -- the triangle at a place is reached from one at an earlier place, across a side that both have, in opposite directions
 pub record IsJoined (tris : List Tri) (order : List Outward) (p : ℕ) : Type 0 where
   pub earlier : (outward_at order p).toward < p

@@ -1,6 +1,6 @@
 ghost use Rattle.std.specs.Prelude.{◌≡◌, ◌+◌, ◌<◌, ◌^◌, ℕ, IfOk, length};
-ghost use Rattle.meshes.specs.Side.{tri_at};
-ghost use Rattle.tri_mesh.specs.Corner.{KeepsFirsts, AreFirstsFrom, HasCorner};
+ghost use Rattle.meshes.specs.Side.{tri_at, HasCorner};
+ghost use Rattle.tri_mesh.specs.Corner.{KeepsFirsts, AreFirstsFrom};
 ghost use Rattle.tri_mesh.specs.Neighbours.{HasCornersBelow};
 
 use crate::mesh::Mesh;

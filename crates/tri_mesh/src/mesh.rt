@@ -3,8 +3,7 @@ ghost use Rattle.std.specs.Prelude.{◌≡◌, ◌+◌, ◌<◌, ◌^◌, ◌↔
 ghost use Rattle.plane.specs.Point.{Point};
 ghost use Rattle.meshes.specs.Fits.{Fits, IsPieceEdge, IsSideOfOne, IsSideOfTwo};
 ghost use Rattle.meshes.specs.Mesh.{IsMesh, side_begin, side_end};
-ghost use Rattle.meshes.specs.Side.{HasSidesOnce, IsTree, tri_at};
-ghost use Rattle.tri_mesh.specs.Corner.{HasCorner};
+ghost use Rattle.meshes.specs.Side.{HasSidesOnce, IsTree, tri_at, HasCorner};
 ghost use Rattle.tri_mesh.specs.Neighbours.{HasCornersBelow};
 ghost use Rattle.tri_mesh.specs.Outward.{IsOutward, IsRooted};
 

@@ -2,7 +2,7 @@
 -- neighbour goes.
 -- A triangle of a mesh at one of its corners, which sees its points in the angle there, and fans of such triangles, on either side: one begins
 -- in a triangle, goes on over one, and has a last step in one.
-use Rattle.std.proofs.Common.{◌≡◌, ◌⊎◌, sym, subst, Bool, true, false, not, ℕ, ◌<◌, pos, ◌<ℤ◌, ◌≤ℤ◌, List, length, arith}
+use Rattle.std.proofs.Common.{◌≡◌, ◌⊎◌, inl, inr, refl, sym, subst, Bool, true, false, not, ℕ, ◌<◌, pos, ◌<ℤ◌, ◌≤ℤ◌, List, length, arith}
 use Rattle.std.specs.List.{range_with_len}
 use Rattle.integer_algebra.proofs.SignSteps.{not_both, positive_of_not_zero, turned_negative, turned_zero, at_least_unless}
 use Rattle.integer_algebra.proofs.SignSteps.{turned_not_negative, turned_positive}
@@ -23,7 +23,7 @@ use Rattle.meshes.proofs.Sides.{ends_below, piece_points_all}
 use Rattle.meshes.proofs.Sight.{not_right_of_side, sees_in_triangle}
 use Rattle.meshes.proofs.TreeLeaves.{turns_left}
 use Rattle.meshes.specs.Fits.{Fits, piece_points, IsInTri}
-use Rattle.meshes.specs.Side.{HasSide, tri_at}
+use Rattle.meshes.specs.Side.{HasCorner, HasSide, tri_at}
 use Rattle.meshes.specs.declared.tri.Tri.{Tri}
 use Rattle.funnels.proofs.Bends.Fans.{fanned_more, fanned_within, last_step_to_within}
 use Rattle.funnels.proofs.Bends.SameRays.{level_is_vertex, ray_ahead, ray_behind}
@@ -154,11 +154,17 @@ module _ (corners : List Point) (tris : List Tri) (fits : Fits corners tris) (k 
       (opposite corners (tri_at tris k) (fits.triangles k within).counterclockwise a b side).1.side (whole (vertex corners b))
       (whole_is_point (vertex corners b)) (on_last_end (whole (vertex corners a)) (whole (vertex corners b)))
 
-  -- the corners of it on either side too: one,
-  corner_in : (side : Bool) (before v after : ℕ) → HasCornerOn side (tri_at tris k) before v after
+  -- and so each corner is,
+  pub corner_in : (v : ℕ) → HasCorner (tri_at tris k) v → IsInTri corners (tri_at tris k) (whole (vertex corners v))
+  corner_in v (inl e) = first_end_in v _ (inl (e, refl))
+  corner_in v (inr (inl e)) = first_end_in v _ (inr (inl (e, refl)))
+  corner_in v (inr (inr e)) = first_end_in v _ (inr (inr (e, refl)))
+
+  -- on either side too: one,
+  middle_in : (side : Bool) (before v after : ℕ) → HasCornerOn side (tri_at tris k) before v after
       → IsInTri corners (tri_at tris k) (whole (vertex corners v))
-  corner_in true before v after c = first_end_in v after c.1
-  corner_in false before v after c = last_end_in after v c.1
+  middle_in true before v after c = first_end_in v after c.1
+  middle_in false before v after c = last_end_in after v c.1
 
   -- and the one before it
   pub before_in : (side : Bool) (before v after : ℕ) → HasCornerOn side (tri_at tris k) before v after
@@ -172,7 +178,7 @@ module _ (corners : List Point) (tris : List Tri) (fits : Fits corners tris) (k 
   open_toward side before v after c y at_y inside = (
     at_y,
     sees_in_triangle corners tris fits k within (whole (vertex corners v)) y (whole_is_point (vertex corners v)) at_y
-        (corner_in side before v after c) inside,
+        (middle_in side before v after c) inside,
   )
 
   -- which is in the angle there: counterclockwise,

@@ -13,16 +13,12 @@ use Rattle.ring_laws.proofs.Triangles.{on_first_side, on_second_side, on_third_s
 use Rattle.meshes.proofs.Parts.{inside_off_edges, vertex_on_ring, paved}
 use Rattle.meshes.proofs.Sides.{corners_differ}
 use Rattle.meshes.specs.Fits.{FitsPiece, IsInTri, IsStrictlyInTri, Fits}
-use Rattle.meshes.specs.Side.{HasSide, tri_at}
+use Rattle.meshes.specs.Side.{HasCorner, HasSide, tri_at}
 use Rattle.meshes.specs.declared.tri.Tri.{Tri}
 use Rattle.funnels.proofs.Corners.RingTurns.{end_of_its_side}
 use Rattle.funnels.specs.Corner.{HasCornerOn}
 
 -- ---- a triangle by the numbers of its corners
-
--- the number of a corner
-abbrev pub IsCorner : Tri → ℕ → Type 0
-IsCorner t x = (t.a ≡ x) ⊎ (t.b ≡ x) ⊎ (t.c ≡ x)
 
 -- a triangle at one of its corners, between two others
 pub record IsAt (t : Tri) (x : ℕ) : Type 0 where
@@ -31,22 +27,16 @@ pub record IsAt (t : Tri) (x : ℕ) : Type 0 where
   pub sides : HasCornerOn true t before x after
 
 -- it has a side to each corner and one from there
-pub at_corner : (t : Tri) (x : ℕ) → IsCorner t x → IsAt t x
+pub at_corner : (t : Tri) (x : ℕ) → HasCorner t x → IsAt t x
 at_corner t x (inl e) = record { before = t.c; after = t.b; sides = (inr (inr (refl, e)), inl (e, refl)) }
 at_corner t x (inr (inl e)) = record { before = t.a; after = t.c; sides = (inl (refl, e), inr (inl (e, refl))) }
 at_corner t x (inr (inr e)) = record { before = t.b; after = t.a; sides = (inr (inl (refl, e)), inr (inr (e, refl))) }
 
--- the ends of its sides are corners of it: the first,
-pub begin_is_corner : (t : Tri) (i j : ℕ) → HasSide t i j → IsCorner t i
-begin_is_corner t i j (inl s) = inl s.0
-begin_is_corner t i j (inr (inl s)) = inr (inl s.0)
-begin_is_corner t i j (inr (inr s)) = inr (inr s.0)
-
--- and the last
-pub end_is_corner : (t : Tri) (i j : ℕ) → HasSide t i j → IsCorner t j
-end_is_corner t i j (inl s) = inr (inl s.1)
-end_is_corner t i j (inr (inl s)) = inr (inr s.1)
-end_is_corner t i j (inr (inr s)) = inl s.1
+-- the ends of its sides are corners of it
+pub side_corners : (t : Tri) (i j : ℕ) → HasSide t i j → HasCorner t i × HasCorner t j
+side_corners t i j (inl e) = (inl e.0, inr (inl e.1))
+side_corners t i j (inr (inl e)) = (inr (inl e.0), inr (inr e.1))
+side_corners t i j (inr (inr e)) = (inr (inr e.0), inl e.1)
 
 -- what is 0 or more on one side of a line, and not more, is on the line
 zero_of : (z : ℤ) → ¬ (z <ℤ pos 0) → z ≤ℤ pos 0 → z ≡ pos 0
@@ -57,12 +47,12 @@ zero_of z h k = let l = at_least_unless h in omega (arith, ints)
 module _ (corners : List Point) (piece : List ℕ) (tris : List Tri) (fits : FitsPiece corners piece tris) (k x : ℕ)
     (within : k < length tris) (has : Contains piece x) (inside : IsInTri corners (tri_at tris k) (whole (vertex corners x))) where
   -- an end of a side is a corner
-  corner_of_end : (i j : ℕ) → HasSide (tri_at tris k) i j → (x ≡ i) ⊎ (x ≡ j) → IsCorner (tri_at tris k) x
-  corner_of_end i j s (inl e) = subst (IsCorner (tri_at tris k)) (sym e) (begin_is_corner (tri_at tris k) i j s)
-  corner_of_end i j s (inr e) = subst (IsCorner (tri_at tris k)) (sym e) (end_is_corner (tri_at tris k) i j s)
+  corner_of_end : (i j : ℕ) → HasSide (tri_at tris k) i j → (x ≡ i) ⊎ (x ≡ j) → HasCorner (tri_at tris k) x
+  corner_of_end i j s (inl e) = subst (HasCorner (tri_at tris k)) (sym e) (side_corners (tri_at tris k) i j s).0
+  corner_of_end i j s (inr e) = subst (HasCorner (tri_at tris k)) (sym e) (side_corners (tri_at tris k) i j s).1
 
   -- a vertex in the triangle is a corner of it
-  pub corner_of : IsCorner (tri_at tris k) x
+  pub corner_of : HasCorner (tri_at tris k) x
   corner_of =
       let t = tri_at tris k in
       let left = (fits.triangles k within).counterclockwise in

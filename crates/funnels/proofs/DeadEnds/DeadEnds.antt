@@ -11,9 +11,9 @@ use Rattle.rings.specs.Chain.{point_at, IsBentChain}
 use Rattle.rings.specs.Ring.{vertex}
 use Rattle.meshes.specs.Fits.{Fits, IsInTri}
 use Rattle.meshes.specs.Laws.{CrossesSide, walk_tri}
-use Rattle.meshes.specs.Side.{HasSideBetween, IsWalk, tri_at}
+use Rattle.meshes.specs.Side.{HasSideBetween, IsWalk, tri_at, HasCorner}
 use Rattle.meshes.specs.declared.tri.Tri.{Tri}
-use Rattle.funnels.proofs.Corners.{IsCorner, begin_is_corner, end_is_corner}
+use Rattle.funnels.proofs.Corners.{side_corners}
 use Rattle.funnels.proofs.DeadEnds.ChainBends.{IsBentAt, IsFrontTo, bent_at, front_to, some_triangle}
 use Rattle.funnels.proofs.DeadEnds.CornersReached.{GoesOnAt, passes}
 use Rattle.funnels.proofs.DeadEnds.WalkParts.{alike_crossed, alike_first, first_with, one_first, walk_front}
@@ -211,15 +211,15 @@ follows corners tris fits walk w chain bent long in_first in_last =
     }
 
 -- a corner by its number is one by its point
-corner_by_number : (corners : List Point) (t : Tri) (i : ℕ) (v : Point) → v ≡ vertex corners i → IsCorner t i → IsCornerOf corners t v
+corner_by_number : (corners : List Point) (t : Tri) (i : ℕ) (v : Point) → v ≡ vertex corners i → HasCorner t i → IsCornerOf corners t v
 corner_by_number corners t i v is (inl e) = inl (ap (vertex corners) e ∙ sym is)
 corner_by_number corners t i v is (inr (inl e)) = inr (inl (ap (vertex corners) e ∙ sym is))
 corner_by_number corners t i v is (inr (inr e)) = inr (inr (ap (vertex corners) e ∙ sym is))
 
 -- the first end of a side is a corner
-corner_between : (t : Tri) (i j : ℕ) → HasSideBetween t i j → IsCorner t i
-corner_between t i j (inl s) = begin_is_corner t i j s
-corner_between t i j (inr s) = end_is_corner t j i s
+corner_between : (t : Tri) (i j : ℕ) → HasSideBetween t i j → HasCorner t i
+corner_between t i j (inl s) = (side_corners t i j s).0
+corner_between t i j (inr s) = (side_corners t j i s).1
 
 -- so its inner points are corners of triangles of the walk
 pub dead_ends : DeadEndLaw

@@ -18,10 +18,10 @@ use Rattle.ring_laws.proofs.Triangles.{between_in_triangle}
 use Rattle.meshes.proofs.Parts.{opposite}
 use Rattle.meshes.specs.Fits.{Fits, IsInTri}
 use Rattle.meshes.specs.Laws.{CrossesSide, walk_tri}
-use Rattle.meshes.specs.Side.{HasSideBetween, IsWalk, tri_at}
+use Rattle.meshes.specs.Side.{HasSideBetween, IsWalk, tri_at, HasCorner}
 use Rattle.meshes.specs.declared.tri.Tri.{Tri}
 use Rattle.funnels.proofs.Bends.{corner_turns, in_angle, level_is_vertex}
-use Rattle.funnels.proofs.Corners.{IsCorner, at_corner, corner_of, end_of_its_side}
+use Rattle.funnels.proofs.Corners.{at_corner, corner_of, end_of_its_side}
 use Rattle.funnels.proofs.DeadEnds.{meets_on_part}
 
 -- where a mean of numbers that are not negative is 0, one that weighs is 0
@@ -46,7 +46,7 @@ module _ (corners : List Point) (tris : List Tri) (fits : Fits corners tris) whe
         (on_reversed z (whole (vertex corners i)) (whole (vertex corners j)) on)
 
     -- a corner is not strictly between two points of the triangle
-    pub corner_not_between : (x : ℕ) → IsCorner (tri_at tris k) x → (p q : Triple) → IsPoint p → IsPoint q → IsInTri corners (tri_at tris k) p
+    corner_not_between : (x : ℕ) → HasCorner (tri_at tris k) x → (p q : Triple) → IsPoint p → IsPoint q → IsInTri corners (tri_at tris k) p
         → IsInTri corners (tri_at tris k) q → On (whole (vertex corners x)) p q → ¬ IsSame (whole (vertex corners x)) p
         → ¬ IsSame (whole (vertex corners x)) q → ⊥
     corner_not_between x corner p q at_p at_q in_p in_q on not_p not_q =

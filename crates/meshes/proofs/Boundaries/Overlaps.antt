@@ -7,7 +7,6 @@ use Rattle.plane.proofs.Nearness.{left_eventually, left_toward, toward, toward_i
 use Rattle.plane.proofs.Points.{whole_is_point}
 use Rattle.plane.proofs.Segments.{middle, middle_first, middle_is_point, middle_last, middle_on, on_is_straight}
 use Rattle.plane.specs.Point.{IsPoint, IsSame, Point, Triple, whole}
-use Rattle.plane.specs.Turn.{IsLeft}
 use Rattle.rings.proofs.Simple.{apart_of_simple, proper_edges}
 use Rattle.rings.proofs.Vertices.{has_cases, on_some_left, on_some_right}
 use Rattle.rings.specs.Edge.{Edge, IsOnSome, edges_of}

@@ -4,12 +4,12 @@ use Rattle.std.proofs.lemmas.Int.{ints}
 use Rattle.integer_algebra.proofs.Laws.{mul_comm}
 use Rattle.integer_algebra.proofs.Polynomial.{var, lit, ◌⊕◌, ◌⊖◌, ◌⊗◌, same_value}
 use Rattle.plane.specs.Point.{Point, whole}
-use Rattle.plane.specs.Turn.{IsLeft, determinant}
+use Rattle.plane.specs.Turn.{determinant}
 use Rattle.rings.specs.Edge.{edges_along}
 use Rattle.rings.specs.Orientation.{doubled_area, swept}
 use Rattle.rings.specs.Ring.{vertex}
 use Rattle.meshes.specs.Boundary.{IsOdd, sum_from, sum_round, sum_sides}
-use Rattle.meshes.specs.Fits.{piece_points}
+use Rattle.meshes.specs.Fits.{IsCounterclockwiseTri, piece_points}
 use Rattle.meshes.specs.Side.{tri_at}
 use Rattle.meshes.specs.declared.tri.Tri.{Tri}
 
@@ -39,12 +39,8 @@ module _ (corners : List Point) where
   pub area_odd : IsOdd area_by
   area_odd i j = swept_back (vertex corners i) (vertex corners j)
 
-  -- the triangle runs counterclockwise
-  abbrev pub TurnsLeft : Tri → Type 0
-  TurnsLeft t = IsLeft (whole (vertex corners t.a)) (whole (vertex corners t.b)) (whole (vertex corners t.c))
-
-  -- such triangles have an area that is not negative
-  pub triangles_not_negative : (tris : List Tri) → ((t : ℕ) → t < length tris → TurnsLeft (tri_at tris t))
+  -- triangles that run counterclockwise have an area that is not negative
+  pub triangles_not_negative : (tris : List Tri) → ((t : ℕ) → t < length tris → IsCounterclockwiseTri corners (tri_at tris t))
       → pos 0 ≤ℤ sum_sides area_by tris
   triangles_not_negative [] left = omega (arith, ints)
   triangles_not_negative (t ∷ ts) left =

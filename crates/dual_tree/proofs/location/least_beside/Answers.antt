@@ -3,10 +3,11 @@ use Rattle.plane.specs.Point.{whole}
 use Rattle.plane.proofs.Points.{whole_is_point}
 use Rattle.meshes.specs.Mesh.{side_begin, side_end}
 use Rattle.meshes.specs.Side.{tri_at}
+use Rattle.funnels.proofs.Bends.{corner_in}
+use Rattle.funnels.proofs.Corners.{side_corners}
 use Rattle.tri_mesh.proofs.Neighbours.{has_side_numbered}
-use Rattle.dual_tree.proofs.CornerHits.{corner_in, corner_within, held_corner}
+use Rattle.dual_tree.proofs.CornerHits.{corner_within, held_corner}
 use Rattle.dual_tree.proofs.SideHits.{least_of_side}
-use Rattle.funnels.proofs.Corners.{begin_is_corner, end_is_corner}
 use Rattle.dual_tree.proofs.StrictHits.{strictly_one}
 use Rattle.dual_tree.proofs.location.least_beside.Goals as goal
 
@@ -22,7 +23,7 @@ returns-in-Some-clause-least g c =
     let within = corner_within corners tris fits c.args.k v c.requires.within c.in-Some.ensures.corner in
     record {
       in_list = in_list;
-      holds = rw is_point (corner_in corners tris fits least v in_list c.triangle_at.ensures.corner);
+      holds = rw is_point (corner_in corners tris fits least in_list v c.triangle_at.ensures.corner);
       least = λ l below held. c.triangle_at.ensures.first l below
           (held_corner corners tris fits l v (omega (arith, in_list)) within (rw is_point at held));
     }
@@ -36,8 +37,8 @@ returns-in-Some-side_at-clause-least g c =
     least_of_side c.args.ring.now.corners c.args.mesh.now c.requires.fits c.args.p.now (side_begin t side) (side_end t side)
     (record {
       on = c.in-Some-side_at.ensures.on;
-      not_first = none _ (begin_is_corner t _ _ has);
-      not_last = none _ (end_is_corner t _ _ has);
+      not_first = none _ (side_corners t _ _ has).0;
+      not_last = none _ (side_corners t _ _ has).1;
     })
     c.args.k c.requires.within has c.requires.held c.across.result c.across.ensures.none c.across.ensures.some c.lesser.result
     c.lesser.ensures.alone c.lesser.ensures.both

@@ -1,5 +1,5 @@
 use Rattle.std.proofs.Common.{◌≡◌, ◌∙◌, ap, subst, ◌+◌, ◌%◌, length, arith}
-use Rattle.half_cut.proofs.Seeking.{half_paid}
+use Rattle.exact_plane.proofs.Halves.{half_paid}
 use Rattle.half_cut.proofs.seek.sides_before.Goals as goal
 use Rattle.half_cut.specs.Outline.{Line, line_at}
 use Rattle.half_cut.specs.Seek.{ComesBefore}

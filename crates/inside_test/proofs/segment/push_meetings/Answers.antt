@@ -1,10 +1,11 @@
 use Rattle.std.proofs.Common.{◌≢◌, pos, refl, arith}
+use Rattle.std.proofs.lemmas.Result.{on_ok_weaker}
 use Rattle.plane.specs.Line.{cross_product}
 use Rattle.plane.specs.Point.{whole}
 use Rattle.inside_test.proofs.Meetings.{encloses_crossing, encloses_parallel, meeting_on_first}
-use Rattle.inside_test.proofs.PointLists.{extends_listed, extends_trans, on_ok}
+use Rattle.inside_test.proofs.PointLists.{extends_listed, extends_trans}
 use Rattle.inside_test.proofs.segment.push_meetings.Goals as goal
-use Rattle.inside_test.specs.Breakpoints.{EnclosesAll, Lists, breakpoint_points}
+use Rattle.inside_test.specs.Breakpoints.{breakpoint_points}
 
 pub returns-in-Some : goal.returns-in-Some
 returns-in-Some g c =
@@ -21,7 +22,7 @@ returns-in-Some g c =
     let on = meeting_on_first a b c.args.c.now c.args.d.now m at_m crossing first second meet in
     record {
       extends = extends_listed (whole a) (whole b) c.push_unlisted.result old new m (at_m, on) c.push_unlisted.ensures.ok c.push_unlisted.ensures.err;
-      enclosed = on_ok c.push_unlisted.result (Lists m old new) (EnclosesAll new (whole a) (whole b) (whole c.args.c.now) (whole c.args.d.now))
+      enclosed = on_ok_weaker c.push_unlisted.result
           (encloses_crossing a b c.args.c.now c.args.d.now m at_m crossing first second old new) c.push_unlisted.ensures.ok;
       few = omega (arith, c.push_unlisted.ensures.few);
       steps = omega (arith, c.segments_meet.ensures.steps_most, c.meets_one_end.ensures.steps, c.push_unlisted.ensures.steps);
@@ -41,7 +42,7 @@ returns-in_ok-push_if_on-in-None g c =
     let second_few = c.push_if_on-in-None.ensures.few in
     record {
       extends = extends_trans (whole a) (whole b) old between new first second;
-      enclosed = on_ok c.push_if_on-in-None.result _ (EnclosesAll new (whole a) (whole b) (whole c.args.c.now) (whole c.args.d.now))
+      enclosed = on_ok_weaker c.push_if_on-in-None.result
           (λ has_d. encloses_parallel a b c.args.c.now c.args.d.now new parallel
           (second.kept (whole a) (first.kept (whole a) c.requires.has_first)) (second.kept (whole b) (first.kept (whole b) c.requires.has_last))
           (λ on. second.kept (whole c.args.c.now) (c.in_ok-push_if_on-in-None.ensures.listed on)) has_d)

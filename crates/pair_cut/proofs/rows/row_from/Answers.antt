@@ -1,7 +1,6 @@
 use Rattle.std.proofs.Common.{◌≡◌, sym, subst, ◌+◌, ◌≤◌, length, arith}
 use Rattle.meshes.proofs.Sides.{two_fewer}
-use Rattle.meshes.specs.Side.{tri_at}
-use Rattle.tri_mesh.specs.Corner.{HasCorner}
+use Rattle.meshes.specs.Side.{tri_at, HasCorner}
 use Rattle.pair_cut.proofs.TableRows.{corner_of_some, from_vertex, grown_at_home, places_paid, row_of_grown}
 use Rattle.pair_cut.proofs.rows.row_from.Goals as goal
 

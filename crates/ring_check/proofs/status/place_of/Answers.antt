@@ -1,5 +1,5 @@
 use Rattle.std.proofs.Common.{arith}
-use Rattle.ring_check.proofs.Halves.{half_paid}
+use Rattle.exact_plane.proofs.Halves.{half_paid}
 use Rattle.ring_check.proofs.status.place_of.Goals as goal
 
 pub loop-low-init : goal.loop-low-init

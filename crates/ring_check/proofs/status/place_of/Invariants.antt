@@ -1,5 +1,5 @@
 use Rattle.std.proofs.Common.{ℕ, ◌+◌, ◌-◌, ◌*◌, ◌^◌, ◌<◌, ◌≤◌, length}
-use Rattle.ring_check.proofs.Halves.{IsPaid}
+use Rattle.exact_plane.proofs.Halves.{IsPaid}
 use Rattle.ring_check.proofs.status.place_of.Given as goal
 
 abbrev pub invariant-loop-low : goal.invariant-loop-low

@@ -1,12 +1,9 @@
-use Rattle.std.proofs.Common.{◌≡◌, ◌⊎◌, ◌+◌, ◌<◌, ℕ, inl, inr, sym, subst, get_or, arith}
+use Rattle.std.proofs.Common.{◌≡◌, ℕ, inl, inr, sym, subst, get_or, arith}
+use Rattle.std.proofs.Math.Nat.{eq-or-lt_of_le}
 use Rattle.std.proofs.lemmas.List.{get_or_read}
 use Rattle.plane.specs.Point.{IsInBounds, Point}
 use Rattle.exact_plane.specs.Boxes.{Encloses}
 use Rattle.exact_plane.proofs.bounding_box.BoundingBox.of.Goals as goal
-
--- a number below another one and one more is below it or it
-at_or_below : (k n : ℕ) → k < n + 1 → (k < n) ⊎ (k ≡ n)
-at_or_below k n h = grind arith
 
 pub loop-k-preserved : goal.loop-k-preserved
 loop-k-preserved g c = (
@@ -15,11 +12,11 @@ loop-k-preserved g c = (
       let new = c.with-around.result in
       let more = c.with-around.ensures in
       let at : c.index-points-k.result ≡ get_or points c.loop-k.k other = get_or_read points c.loop-k.k _ c.loop-k-test.true c.index-points-k.is other in
-      elim (at_or_below j c.loop-k.k below) [
-        | inl earlier ↦ let (old, limits) = c.loop-k.invariant.0 j earlier other in (more.old _ old, limits)
-        | inr last ↦
+      elim (eq-or-lt_of_le {n = j} {m = c.loop-k.k} (omega (arith, below))) [
+        | inl last ↦
             subst (λ (i : ℕ). Encloses new (get_or points i other) × IsInBounds (get_or points i other)) (sym last)
             (subst (λ (p : Point). Encloses new p × IsInBounds p) at (more.new, more.limits))
+        | inr earlier ↦ let (old, limits) = c.loop-k.invariant.0 j earlier other in (more.old _ old, limits)
       ],
   omega (arith, c.loop-k.invariant.1, c.add.ensures),
 )

@@ -1,7 +1,7 @@
 use Rattle.std.proofs.Common.{sym, ap, subst, ◌∙◌, ◌≡◌, ◌+◌, ◌++◌, ◌∷◌, [], None, length, slice_index, slice_index_or, arith}
 use Rattle.std.proofs.lemmas.List.{get_or-replicate, length-replicate, length-set}
 use Rattle.meshes.proofs.Sides.{two_fewer}
-use Rattle.tri_mesh.specs.Corner.{HasCorner}
+use Rattle.meshes.specs.Side.{HasCorner}
 use Rattle.tri_mesh.specs.Outward.{outward_at}
 use Rattle.shared_funnel.proofs.Doors.{corner_place, corner_read, corners_of, read_below}
 use Rattle.path_tree.proofs.GrownOver.{HasParent, grown_at_home, home_parent, parents_more, thirds_at_home}

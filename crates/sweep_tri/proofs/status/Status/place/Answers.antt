@@ -1,8 +1,8 @@
 use Rattle.std.proofs.Common.{◌∙◌, ◌≡◌, length, sym, subst, ap, arith}
 use Rattle.std.proofs.lemmas.Bool.{false≢true}
+use Rattle.exact_plane.proofs.Halves.{half_paid}
 use Rattle.shared_seq.proofs.Digits.{binary_digits_enough}
 use Rattle.shared_seq.specs.Digits.{binary_digits}
-use Rattle.ring_check.proofs.Halves.{half_paid}
 use Rattle.sweep_tri.proofs.Search.{high_moves, low_moves}
 use Rattle.sweep_tri.proofs.Slots.{gaps_count}
 use Rattle.sweep_tri.specs.Frontier.{IsAbove}

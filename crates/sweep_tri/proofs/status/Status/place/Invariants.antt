@@ -1,5 +1,5 @@
 use Rattle.std.proofs.Common.{◌+◌, ◌-◌, ◌*◌, length}
-use Rattle.ring_check.proofs.Halves.{IsPaid}
+use Rattle.exact_plane.proofs.Halves.{IsPaid}
 use Rattle.sweep_tri.proofs.Search.{IsBetween}
 use Rattle.shared_seq.specs.Digits.{binary_digits}
 use Rattle.sweep_tri.proofs.status.Status.place.Given as goal
