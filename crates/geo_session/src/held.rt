@@ -14,12 +14,12 @@ ghost use Rattle.geo_session.specs.Told.{Tells};
 
 use crate::grown::Grown;
 use crate::parts::given_parts;
-use cut_tri::triangulate;
+use cut_tri::triangles;
 use dual_tree::{Board, boxes_of, locate};
 use exact_plane::{Memory, Pt, Steps};
 use geo_reply::{Reply, Row};
 use geo_text::Bad;
-use guards3::guards;
+use guards3::guards_of;
 use inside_test::{Position, place};
 use pair_cut::PairTable;
 use ring_check::Ring;
@@ -169,8 +169,8 @@ impl Held {
         ensures steps { steps.new ≤ steps.old + guards_steps (length self.now.ring.corners) }
     {
         let _is_counterclockwise = self.ring.len();
-        let mesh = triangulate(alloc, &self.ring, steps)?;
-        let numbers = guards(alloc, &self.ring, &mesh)?;
+        let tris = triangles(alloc, &self.ring, steps)?;
+        let numbers = guards_of(alloc, &self.ring, &tris)?;
         Ok(Reply::Guards(Row::of(numbers)))
     }
 }
