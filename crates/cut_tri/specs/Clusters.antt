@@ -1,6 +1,6 @@
 -- Clusters of the vertices of a ring and triangles, with boxes round them. No public clause cites this module.
 use Rattle.std.specs.List.{All, range_with_len}
-use Rattle.std.specs.Prelude.{◌≡◌, ℕ, ◌*ℤ◌, ◌-ℤ◌, ◌<◌, ◌≤◌, ◌^◌, IsPermutation, List, length, slice_index_or, unsigned_abs}
+use Rattle.std.specs.Prelude.{◌≡◌, ℕ, ◌*ℤ◌, ◌-ℤ◌, ◌<◌, ◌≤◌, ◌^◌, IsPermutation, List, length, map, slice_index_or, unsigned_abs}
 use Rattle.plane.specs.Point.{Point}
 use Rattle.rings.specs.Ring.{vertex}
 use Rattle.exact_plane.specs.Boxes.{Encloses}
@@ -37,7 +37,8 @@ pub record IsCluster (corners : List Point) (numbers : List ℕ) (cluster : Clus
   pub ordered : cluster.first ≤ cluster.end
   pub within : cluster.end ≤ length numbers
 
--- all vertices are there, and each cluster has its vertices in its box
+-- all vertices are there, each with its point, and each cluster has its vertices in its box
 pub record AreClusters (corners : List Point) (clusters : Clusters) : Type 0 where
   pub all : IsPermutation (range_with_len 0 (length corners)) clusters.numbers.items
+  pub placed : clusters.points.items ≡ map (vertex corners) clusters.numbers.items
   pub each : All (IsCluster corners clusters.numbers.items) clusters.clusters.items

@@ -1,11 +1,12 @@
 // Clusters of vertices with boxes round them, by which whole clusters are left out of the search for a vertex in a triangle.
 ghost use Rattle.std.specs.List.{All};
-ghost use Rattle.std.specs.Prelude.{◌≡◌, ◌+◌, ◌*◌, ◌-◌, ◌<◌, ◌≤◌, ℕ, IfOk, IfSome, List, OnOk, length};
+ghost use Rattle.std.specs.Prelude.{◌≡◌, ◌+◌, ◌*◌, ◌-◌, ◌<◌, ◌≤◌, ℕ, IfOk, IfSome, List, OnOk, length, map};
 ghost use Rattle.plane.specs.Point.{Point};
+ghost use Rattle.rings.specs.Ring.{vertex};
 ghost use Rattle.cut_tri.specs.Clusters.{AreClusters, IsCluster};
 
 use crate::z_order::{Key, numbers_of, z_order};
-use exact_plane::{BoundingBox, Memory, Steps};
+use exact_plane::{BoundingBox, Memory, Pt, Steps};
 use ring_check::Ring;
 use std::alloc::Global;
 use std::sync::ledger::Ledger;
@@ -24,11 +25,12 @@ pub(crate) struct Cluster {
     pub bounds: BoundingBox,
 }
 
-// All vertices in Z-order, and clusters of them that make a tree. Each has the vertices in a square, and its parts those in the
-// quarters; one without parts has those in a square or in half of one.
+// All vertices in Z-order, where they are, and clusters of them that make a tree. Each has the vertices in a square, and its parts those
+// in the quarters; one without parts has those in a square or in half of one.
 #[derive(Drop)]
 pub(crate) struct Clusters {
     pub numbers: Vec<u32>,
+    pub points: Vec<Pt>,
     pub clusters: Vec<Cluster>,
 }
 
@@ -44,9 +46,26 @@ impl Clusters {
     {
         let keys = z_order(alloc, ring, steps)?;
         let numbers = numbers_of(alloc, &keys)?;
+        let points = points_of(alloc, ring, &numbers)?;
         let clusters = clusters_of(alloc, ring, &keys, &numbers, steps)?;
-        Ok(Clusters { numbers, clusters })
+        Ok(Clusters {
+            numbers,
+            points,
+            clusters,
+        })
     }
+}
+
+// The vertices with these numbers.
+fn points_of(alloc: Global, ring: &Ring, numbers: &[u32]) -> Result<Vec<Pt>, Memory>
+    requires { All (λ i. i < length ring.now.corners) numbers.now }
+    ensures { IfOk result (λ points. points.items ≡ map (vertex ring.now.corners) numbers.now) }
+{
+    let mut points = Vec::with_capacity(alloc, numbers.len())?;
+    for number in numbers {
+        points.push(ring.corner(*number))?;
+    }
+    Ok(points)
 }
 
 // The clusters of the vertices with these keys. It takes at most 64 steps a vertex.

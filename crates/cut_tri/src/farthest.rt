@@ -1,11 +1,10 @@
 // The vertex of a piece that a diagonal from its first vertex goes to.
-ghost use Rattle.std.specs.List.{All};
-ghost use Rattle.std.specs.Prelude.{◌≡◌, ◌+◌, ◌*◌, ◌-◌, ◌<◌, ◌≤◌, ◌↔◌, ◌<ℤ◌, ◌≤ℤ◌, ℕ, IsFalse, IsTrue, IfSome, IfNone, OnSome, length};
+ghost use Rattle.std.specs.Prelude.{◌≡◌, ◌+◌, ◌*◌, ◌-◌, ◌<◌, ◌≤◌, ◌↔◌, ◌<ℤ◌, ◌≤ℤ◌, ℕ, IsFalse, IsTrue, IfSome, IfNone, List, OnSome, length, map};
 ghost use Rattle.plane.specs.Point.{Point, whole};
 ghost use Rattle.plane.specs.Triangle.{IsInTriangle, height_over};
 ghost use Rattle.plane.specs.Turn.{IsLeft};
 ghost use Rattle.rings.specs.Ring.{vertex};
-ghost use Rattle.cut_tri.specs.Clusters.{AreClusters, IsBounded, IsCluster};
+ghost use Rattle.cut_tri.specs.Clusters.{AreClusters, IsBounded};
 ghost use Rattle.cut_tri.specs.Cut.{IsPlaceInCorner};
 ghost use Rattle.cut_tri.specs.Corner.{HasNoCandidate, HasNoCandidateAt, IsBest, IsCandidate, IsCornerAt, IsFarther, IsFartherOf, IsMeasured, best_height};
 ghost use Rattle.cut_tri.specs.Ordered.{IsFarthestNumber, IsOrderedFromLeast};
@@ -23,7 +22,7 @@ use std::cmp::Ordering;
 use std::sync::ledger::Ledger;
 
 // How many vertices are looked at before the clusters are asked.
-const NEAR: usize = 32;
+const NEAR: usize = 16;
 
 // The triangle at the first vertex v of a piece, counterclockwise: the later of u and w, and how far v is from the line
 // through them.
@@ -230,9 +229,9 @@ impl Corner {
         requires clusters { IfSome clusters.old (AreClusters ring.now.corners) }
         ensures empty { IsTrue result → HasNoCandidate self.now ring.now.corners }
         ensures clusters { IfSome clusters.new (AreClusters ring.now.corners) }
-        ensures near { IsTrue result → rank ≡ 32 }
-        ensures before { rank < 32 → steps.new ≡ steps.old }
-        ensures behind { 32 < rank → steps.new ≡ steps.old }
+        ensures near { IsTrue result → rank ≡ 16 }
+        ensures before { rank < 16 → steps.new ≡ steps.old }
+        ensures behind { 16 < rank → steps.new ≡ steps.old }
         ensures steps { steps.new ≤ steps.old + (371 * length ring.now.corners + 1168) }
     {
         if rank != NEAR || best.is_some() {
@@ -290,7 +289,7 @@ impl Corner {
             if cluster.end != place {
                 return false;
             }
-            if !misses && self.has_any(&triangle, ring, &clusters.numbers, cluster, steps) {
+            if !misses && self.has_any(&triangle, clusters, cluster, steps) {
                 return false;
             }
             place = cluster.first;
@@ -303,8 +302,7 @@ impl Corner {
     fn has_any<L: Ledger>(
         &self,
         triangle: &Triangle,
-        ring: &Ring,
-        numbers: &[u32],
+        clusters: &Clusters,
         cluster: &Cluster,
         steps: &mut Steps<L>,
     ) -> bool
@@ -312,37 +310,32 @@ impl Corner {
         requires v { triangle.now.v ≡ self.now.v }
         requires w { triangle.now.w ≡ self.now.w }
         requires bounded { IsBounded triangle.now }
-        requires numbers { All (λ i. i < length ring.now.corners) numbers.now }
-        requires cluster { IsCluster ring.now.corners numbers.now cluster.now }
-        ensures out { IsFalse result → (k : ℕ) → cluster.now.first ≤ k → k < cluster.now.end
-            → HasNoCandidateAt self.now ring.now.corners numbers.now k }
+        requires ordered { cluster.now.first ≤ cluster.now.end }
+        requires within { cluster.now.end ≤ length clusters.now.numbers.items }
+        requires points { length clusters.now.points.items ≡ length clusters.now.numbers.items }
+        ensures out { IsFalse result → (corners : List Point) → clusters.now.points.items ≡ map (vertex corners) clusters.now.numbers.items
+            → (k : ℕ) → cluster.now.first ≤ k → k < cluster.now.end → HasNoCandidateAt self.now corners clusters.now.numbers.items k }
         ensures steps { steps.new ≤ steps.old + 64 * (cluster.now.end - cluster.now.first) }
     {
         for place in cluster.first..cluster.end {
-            if self.has(triangle, ring, numbers[place], steps) {
+            let number = clusters.numbers[place];
+            if self.has(triangle, number, &clusters.points[place], steps) {
                 return true;
             }
         }
         false
     }
 
-    // Whether the vertex with this number is in the triangle, and none of the three. It takes 64 steps.
-    fn has<L: Ledger>(
-        &self,
-        triangle: &Triangle,
-        ring: &Ring,
-        number: u32,
-        steps: &mut Steps<L>,
-    ) -> bool
+    // Whether the vertex with this number, which is at this point, is in the triangle, and none of the three. It takes 64 steps.
+    fn has<L: Ledger>(&self, triangle: &Triangle, number: u32, p: &Pt, steps: &mut Steps<L>) -> bool
         requires u { triangle.now.u ≡ self.now.u }
         requires v { triangle.now.v ≡ self.now.v }
         requires w { triangle.now.w ≡ self.now.w }
         requires bounded { IsBounded triangle.now }
-        requires number { number < length ring.now.corners }
-        ensures out { IsFalse result → ¬ (number ≡ self.now.tri.b) → ¬ (IsCandidate self.now number (vertex ring.now.corners number)) }
+        ensures out { IsFalse result → ¬ (number ≡ self.now.tri.b) → ¬ (IsCandidate self.now number p.now) }
         ensures steps { steps.new ≡ steps.old + 64 }
     {
-        let (x, y) = ring.corner(number).parts(steps);
+        let (x, y) = p.parts(steps);
         if triangle.misses_point(x, y) {
             return false;
         }

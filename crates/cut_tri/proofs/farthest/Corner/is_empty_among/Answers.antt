@@ -1,7 +1,7 @@
-use Rattle.std.proofs.Common.{◌≡◌, ◌∙◌, sym, subst, ◌<◌, length, eqb-true, arith}
+use Rattle.std.proofs.Common.{◌≡◌, ◌∙◌, ap, sym, subst, length, eqb-true, arith}
+use Rattle.std.proofs.lemmas.List.{length-map}
 use Rattle.rings.specs.Ring.{vertex}
-use Rattle.std.specs.List.{All}
-use Rattle.cut_tri.proofs.ClusterPlaces.{all_below, all_there, has_place}
+use Rattle.cut_tri.proofs.ClusterPlaces.{all_there, has_place}
 use Rattle.cut_tri.specs.Corner.{IsCandidate}
 use Rattle.cut_tri.proofs.farthest.Corner.is_empty_among.Goals as goal
 
@@ -10,10 +10,10 @@ returns-then-cluster-place-clause-steps g c =
     let all = all_there (length c.args.ring.now.corners) c.args.clusters.now.numbers.items c.requires.clusters.all in
     omega (arith, all, c.loop-k.invariant.steps)
 
-pub has_any-requires-clause-numbers : goal.has_any-requires-clause-numbers
-has_any-requires-clause-numbers g c =
-    let n = length c.args.ring.now.corners in
-    subst (All (λ i. i < n)) (sym c.deref.ensures.value) (all_below n c.args.clusters.now.numbers.items c.requires.clusters.all)
+pub has_any-requires-clause-points : goal.has_any-requires-clause-points
+has_any-requires-clause-points g c =
+    let numbers = c.args.clusters.now.numbers.items in
+    ap length c.requires.clusters.placed ∙ length-map numbers (vertex c.args.ring.now.corners)
 
 pub returns-then-has_any-clause-steps : goal.returns-then-has_any-clause-steps
 returns-then-has_any-clause-steps g c =
