@@ -1,26 +1,22 @@
 // Lists of points in an L, and whether they are taut.
-ghost use Rattle.std.specs.Prelude.{◌≡◌, ◌<◌};
-
 use crate::reading::{points_of, ring_of, row_of};
 use exact_plane::{Pt, Steps};
 use geo_gen::{comb, comb_goal, comb_start};
 use plane::MAX_CHAIN;
 use ring_check::Ring;
 use std::alloc::Global;
-use std::marker::Brand;
-use std::process::Abort;
-use std::sync::ledger::{Blank, Ledger};
+use std::sync::ledger::Ledger;
 use taut_check::{Verdict, check};
 
-const L_SHAPE: &str = "0,0 4,0 4,2 2,2 2,4 0,4";
+pub(crate) const L_SHAPE: &str = "0,0 4,0 4,2 2,2 2,4 0,4";
 
-const L_BACKWARD: &str = "0,4 2,4 2,2 4,2 4,0 0,0";
+pub(crate) const L_BACKWARD: &str = "0,4 2,4 2,2 4,2 4,0 0,0";
 
 // The teeth of a comb in which a check of its path leaves out runs of edges.
 const TEETH: u32 = 600;
 
 // A list, and what it is in the L: taut, or the first rule that it breaks, with a place in the list.
-const CHAINS: &str = "\
+pub(crate) const CHAINS: &str = "\
 round the corner | 4,1 2,2 1,4 | taut
 along the walls of the corner | 4,2 2,2 2,4 | taut
 one point | 1,1 | taut
@@ -38,54 +34,54 @@ to the corner and back | 1,1 2,2 1,1 | straight 1
 a turn away from the corner | 4,2 2,2 0,0 | wrong_side 1
 a turn away from both walls | 1,0 2,2 0,1 | wrong_side 1";
 
-#[test]
-fn chains_are_taut_or_break_a_rule(rt: HostRuntime) {
-    all_chains::<Brand, _>(&rt, rt.alloc(), Blank::new(1));
-}
-
-// With a counter over a ledger that nobody else counts in.
-fn all_chains<L: Ledger, R: Abort>(rt: &R, alloc: Global, blank: Blank)
-    requires name { blank.name ≡ L.name }
-    requires parts { blank.parts ≡ L.parts }
-    requires countable { 0 < blank.parts }
-{
-    let mut steps = Steps::<L>::new(blank);
-    for list in [L_SHAPE, L_BACKWARD] {
-        let ring = ring_of(alloc, list, &mut steps).expect(rt, "a ring");
-        for row in CHAINS.split('\n') {
-            assert!(rt;
-                is_judged(alloc, &ring, row, &mut steps) == Some(true),
-                "{row}"
-            );
-        }
-        assert!(rt; is_longest_judged(alloc, &ring, &mut steps) == Some(true));
-    }
-    assert!(rt; is_way_of_comb_judged(alloc, &mut steps) == Some(true));
-}
-
-fn is_judged<L: Ledger>(
+// Whether the list of a row is in the ring of another what the row says.
+pub(crate) fn is_judged<L: Ledger>(
     alloc: Global,
-    ring: &Ring,
+    ring: &str,
     row: &str,
     steps: &mut Steps<L>,
-) -> Option<bool> {
-    let (_, list, want) = row_of(row)?;
-    let points = points_of(alloc, list)?;
-    Some(judged(alloc, ring, &points, steps)? == verdict_of(want)?)
+) -> bool {
+    if let Some((_, list, want)) = row_of(row)
+        && let Some(want) = verdict_of(want)
+        && let Some(ring) = ring_of(alloc, ring, steps)
+        && let Some(points) = points_of(alloc, list)
+    {
+        judged(alloc, &ring, &points, steps) == Some(want)
+    } else {
+        false
+    }
 }
 
 // To the corner and back, as often as a list may have it.
-fn is_longest_judged<L: Ledger>(alloc: Global, ring: &Ring, steps: &mut Steps<L>) -> Option<bool> {
+pub(crate) fn is_longest_judged<L: Ledger>(
+    alloc: Global,
+    ring: &str,
+    steps: &mut Steps<L>,
+) -> bool {
+    if let Some(ring) = ring_of(alloc, ring, steps)
+        && let Some(points) = there_and_back(alloc)
+    {
+        points.len() == MAX_CHAIN
+            && judged(alloc, &ring, &points, steps) == Some(Verdict::Straight(1))
+    } else {
+        false
+    }
+}
+
+fn there_and_back(alloc: Global) -> Option<Vec<Pt>> {
     let there_and_back = points_of(alloc, "4,1 2,2")?;
     let mut points = Vec::new(alloc);
     for _ in 0..8_192 {
         points.extend_from_slice(&there_and_back).ok()?;
     }
-    Some(points.len() == MAX_CHAIN && judged(alloc, ring, &points, steps)? == Verdict::Straight(1))
+    Some(points)
 }
 
 // The path through a comb, and the same without one of its points.
-fn is_way_of_comb_judged<L: Ledger>(alloc: Global, steps: &mut Steps<L>) -> Option<bool> {
+pub(crate) fn is_way_of_comb_judged<L: Ledger>(
+    alloc: Global,
+    steps: &mut Steps<L>,
+) -> Option<bool> {
     let vertices = comb(alloc, TEETH).ok()?;
     let mut path = Vec::new(alloc);
     path.push(comb_start()).ok()?;
@@ -129,14 +125,18 @@ fn verdict_of(want: &str) -> Option<Verdict> {
 }
 
 fn fault_of(want: &str) -> Option<Verdict> {
-    let (word, place) = want.split_once(' ')?;
-    let place = place.parse().ok()?;
-    match word {
-        "repeat" => Some(Verdict::Repeat(place)),
-        "leaves" => Some(Verdict::Leaves(place)),
-        "not_reflex" => Some(Verdict::NotReflex(place)),
-        "straight" => Some(Verdict::Straight(place)),
-        "wrong_side" => Some(Verdict::WrongSide(place)),
-        _ => None,
+    if let Some((word, place)) = want.split_once(' ')
+        && let Ok(place) = place.parse()
+    {
+        match word {
+            "repeat" => Some(Verdict::Repeat(place)),
+            "leaves" => Some(Verdict::Leaves(place)),
+            "not_reflex" => Some(Verdict::NotReflex(place)),
+            "straight" => Some(Verdict::Straight(place)),
+            "wrong_side" => Some(Verdict::WrongSide(place)),
+            _ => None,
+        }
+    } else {
+        None
     }
 }

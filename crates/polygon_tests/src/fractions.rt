@@ -3,7 +3,7 @@ use crate::reading::{number_of, row_of};
 use exact_frac::Frac;
 
 // A numerator and a denominator, and what they are in lowest terms, up to the greatest and the least 128-bit numbers.
-const FRACTIONS: &str = "\
+pub(crate) const FRACTIONS: &str = "\
 a common factor | 6/4 | 3/2
 a negative number | -6/4 | -3/2
 no common factor | 7/2 | 7/2
@@ -19,29 +19,29 @@ the greatest | 170141183460469231731687303715884105727/1701411834604692317316873
 the least | -170141183460469231731687303715884105728/6 | -85070591730234615865843651857942052864/3
 the least and the greatest | -170141183460469231731687303715884105728/170141183460469231731687303715884105727 | -170141183460469231731687303715884105728/170141183460469231731687303715884105727";
 
-#[test]
-fn fractions_come_in_lowest_terms(rt: HostRuntime) {
-    for row in FRACTIONS.split('\n') {
-        assert!(rt; is_lowest(row) == Some(true), "{row}");
-    }
-}
-
-fn is_lowest(row: &str) -> Option<bool> {
-    let (_, given, want) = row_of(row)?;
-    let (num, den) = numbers_of(given)?;
-    let (want_num, want_den) = numbers_of(want)?;
-    if den < 1 || want_den < 1 {
-        return None;
-    }
-    let found = Frac::lowest(num, den);
-    Some(
+pub(crate) fn is_lowest(row: &str) -> bool {
+    if let Some((_, given, want)) = row_of(row)
+        && let Some((num, den)) = numbers_of(given)
+        && let Some((want_num, want_den)) = numbers_of(want)
+        && 1 <= den
+        && 1 <= want_den
+    {
+        let found = Frac::lowest(num, den);
         (found.num, found.den) == (want_num, want_den)
             && found.is_whole() == (want_den == 1)
-            && found == Frac::lowest(want_num, want_den),
-    )
+            && found == Frac::lowest(want_num, want_den)
+    } else {
+        false
+    }
 }
 
 fn numbers_of(fraction: &str) -> Option<(i128, i128)> {
-    let (num, den) = fraction.split_once('/')?;
-    Some((number_of(num)?, number_of(den)?))
+    if let Some((num, den)) = fraction.split_once('/')
+        && let Some(num) = number_of(num)
+        && let Some(den) = number_of(den)
+    {
+        Some((num, den))
+    } else {
+        None
+    }
 }

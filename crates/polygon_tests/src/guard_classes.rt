@@ -1,31 +1,16 @@
 // Guards of polygons with triangles that are written down.
-ghost use Rattle.std.specs.Prelude.{◌≡◌, ◌<◌, ◌^◌, length};
+ghost use Rattle.std.specs.Prelude.{◌<◌, ◌^◌, length};
 ghost use Rattle.polygon_tests.specs.Rows.{SuitRow};
 
 use crate::ring_lists::{At, Corners, mesh_with, ring_of};
 use exact_plane::{Memory, Steps};
 use guards3::guards;
 use std::alloc::Global;
-use std::marker::Brand;
 use std::process::Abort;
-use std::sync::ledger::{Blank, Ledger};
-use std::test::Fail;
+use std::sync::ledger::Ledger;
 
-#[test]
-fn meshes_have_guards(rt: HostRuntime) -> Result<(), Fail> {
-    rows_have_guards::<Brand, _>(&rt, rt.alloc(), Blank::new(1))?;
-    Ok(())
-}
-
-// With a counter over a ledger that nobody else counts in.
 #[rattlefmt::skip]
-fn rows_have_guards<L: Ledger, R: Abort>(rt: &R, alloc: Global, blank: Blank) -> Result<(), Memory>
-    requires name { blank.name ≡ L.name }
-    requires parts { blank.parts ≡ L.parts }
-    requires countable { 0 < blank.parts }
-{
-    let mut steps = Steps::<L>::new(blank);
-    let steps = &mut steps;
+pub(crate) fn meshes_have_guards<L: Ledger, R: Abort>(rt: &R, alloc: Global, steps: &mut Steps<L>) -> Result<(), Memory> {
     has_guards(rt, alloc, "a triangle", &[(0, 0), (4, 0), (0, 4)], &[(0, 1, 2)], &[0], steps)?;
     has_guards(rt, alloc, "a tie", &[(0, 0), (4, 0), (4, 4), (0, 4)], &[(0, 1, 3), (1, 2, 3)], &[1], steps)?;
     has_guards(rt, alloc, "an L", &[(0, 0), (4, 0), (4, 2), (2, 2), (2, 4), (0, 4)], &[(0, 1, 3), (1, 2, 3), (0, 3, 5), (3, 4, 5)], &[3], steps)?;

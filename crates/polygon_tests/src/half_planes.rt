@@ -1,17 +1,13 @@
 // Regions that are cut along the edges of a list of points, one after another: what is left of the square of the limit.
-ghost use Rattle.std.specs.Prelude.{◌≡◌, ◌<◌};
-
 use crate::reading::{is_same, points_of, row_of};
 use exact_plane::{Pt, Steps, order};
 use half_cut::Region;
 use std::alloc::Global;
 use std::cmp::Ordering;
-use std::marker::Brand;
-use std::process::Abort;
-use std::sync::ledger::{Blank, Ledger};
+use std::sync::ledger::Ledger;
 
 // The points, and the corners that are left: X, Y and W of each, or multiples of them.
-const CUTS: &str = "\
+pub(crate) const CUTS: &str = "\
 no edge |  | -8388607,-8388607,1 8388607,-8388607,1 8388607,8388607,1 -8388607,8388607,1
 a triangle | 0,0 4,0 0,4 | 0,0,1 4,0,1 0,4,1
 the same clockwise | 0,0 0,4 4,0 | 
@@ -31,28 +27,15 @@ the diagonal of the limit | -8388607,-8388607 8388607,8388607 -8388607,8388607 |
 a dart at the limit | -8388607,-8388607 8388607,-8388607 0,-1 -8388607,8388607 | -8388607,-8388607,1 70368719011842,-70368735789056,8388608 0,-1,1 -8388607,8388605,1
 along the longest lines | -8388607,8388607 8388607,-8388607 8388607,8388607 -8388606,-8388607 8388607,-8388606 | 8388607,-8388607,33554427 140737438023685,-140737438023685,16777214 8388607,-8388606,1 281474901213189,8388607,562949785649165";
 
-#[test]
-fn regions_are_cut_by_half_planes(rt: HostRuntime) {
-    all_cuts::<Brand, _>(&rt, rt.alloc(), Blank::new(1));
-}
-
-// With a counter over a ledger that nobody else counts in.
-fn all_cuts<L: Ledger, R: Abort>(rt: &R, alloc: Global, blank: Blank)
-    requires name { blank.name ≡ L.name }
-    requires parts { blank.parts ≡ L.parts }
-    requires countable { 0 < blank.parts }
-{
-    let mut steps = Steps::<L>::new(blank);
-    for row in CUTS.split('\n') {
-        assert!(rt; is_left(alloc, row, &mut steps) == Some(true), "{row}");
+pub(crate) fn is_left<L: Ledger>(alloc: Global, row: &str, steps: &mut Steps<L>) -> bool {
+    if let Some((_, list, want)) = row_of(row)
+        && let Some(points) = points_of(alloc, list)
+        && let Some(left) = cut_along(alloc, &points, steps)
+    {
+        has_corners(&left, want, steps)
+    } else {
+        false
     }
-}
-
-fn is_left<L: Ledger>(alloc: Global, row: &str, steps: &mut Steps<L>) -> Option<bool> {
-    let (_, list, want) = row_of(row)?;
-    let points = points_of(alloc, list)?;
-    let left = cut_along(alloc, &points, steps)?;
-    has_corners(&left, want, steps)
 }
 
 // What is left of the square.
@@ -84,16 +67,13 @@ fn cut<L: Ledger>(
     }
 }
 
-fn has_corners<L: Ledger>(region: &Region, want: &str, steps: &mut Steps<L>) -> Option<bool> {
+fn has_corners<L: Ledger>(region: &Region, want: &str, steps: &mut Steps<L>) -> bool {
     let mut count = 0;
     for numbers in want.split_whitespace() {
-        if count >= region.count() {
-            return None;
-        }
-        if !is_same(&region.corner(count), numbers, steps)? {
-            return None;
+        if count >= region.count() || !is_same(&region.corner(count), numbers, steps) {
+            return false;
         }
         count += 1;
     }
-    Some(count == region.count())
+    count == region.count()
 }

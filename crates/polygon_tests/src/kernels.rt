@@ -1,16 +1,12 @@
 // The kernels of polygons.
-ghost use Rattle.std.specs.Prelude.{◌≡◌, ◌<◌};
-
 use crate::reading::{is_same, ring_of, row_of};
 use exact_plane::{Hom, Steps};
 use star_kernel::kernel;
 use std::alloc::Global;
-use std::marker::Brand;
-use std::process::Abort;
-use std::sync::ledger::{Blank, Ledger};
+use std::sync::ledger::Ledger;
 
 // A polygon, and the corners of its kernel: X, Y and W of each, or multiples of them.
-const KERNELS: &str = "\
+pub(crate) const KERNELS: &str = "\
 an L | 0,0 4,0 4,2 2,2 2,4 0,4 | 0,0,1 2,0,1 2,2,1 0,2,1
 a U | 0,0 6,0 6,4 4,4 4,2 2,2 2,4 0,4 | 
 a Z, a segment | 0,0 2,0 2,1 4,1 4,2 1,2 1,1 0,1 | 1,1,1 2,1,1
@@ -28,37 +24,24 @@ half of it, clockwise | -8388607,-8388607 -8388607,8388607 8388607,8388607 | -83
 a dart in it | -8388607,-8388607 8388607,-8388607 0,-1 -8388607,8388607 | -8388607,-8388607,1 70368719011842,-70368735789056,8388608 0,-1,1 -8388607,8388605,1
 a square with flat vertices | 0,0 1,0 2,0 2,2 1,2 0,2 | 0,0,1 2,0,1 2,2,1 0,2,1";
 
-#[test]
-fn kernels_have_their_corners(rt: HostRuntime) {
-    all_kernels::<Brand, _>(&rt, rt.alloc(), Blank::new(1));
-}
-
-// With a counter over a ledger that nobody else counts in.
-fn all_kernels<L: Ledger, R: Abort>(rt: &R, alloc: Global, blank: Blank)
-    requires name { blank.name ≡ L.name }
-    requires parts { blank.parts ≡ L.parts }
-    requires countable { 0 < blank.parts }
-{
-    let mut steps = Steps::<L>::new(blank);
-    for row in KERNELS.split('\n') {
-        assert!(rt; is_kernel(alloc, row, &mut steps) == Some(true), "{row}");
+pub(crate) fn is_kernel<L: Ledger>(alloc: Global, row: &str, steps: &mut Steps<L>) -> bool {
+    if let Some((_, list, want)) = row_of(row)
+        && let Some(ring) = ring_of(alloc, list, steps)
+        && let Ok(corners) = kernel(alloc, &ring, steps)
+    {
+        are_same(corners.as_slice(), want, steps)
+    } else {
+        false
     }
 }
 
-fn is_kernel<L: Ledger>(alloc: Global, row: &str, steps: &mut Steps<L>) -> Option<bool> {
-    let (_, list, want) = row_of(row)?;
-    let ring = ring_of(alloc, list, steps)?;
-    let corners = kernel(alloc, &ring, steps).ok()?;
-    are_same(corners.as_slice(), want, steps)
-}
-
-fn are_same<L: Ledger>(corners: &[Hom], want: &str, steps: &mut Steps<L>) -> Option<bool> {
+fn are_same<L: Ledger>(corners: &[Hom], want: &str, steps: &mut Steps<L>) -> bool {
     let mut count = 0;
     for numbers in want.split_whitespace() {
-        if !is_same(corners.get(count)?, numbers, steps)? {
-            return None;
+        if count >= corners.len() || !is_same(&corners[count], numbers, steps) {
+            return false;
         }
         count += 1;
     }
-    Some(count == corners.len())
+    count == corners.len()
 }

@@ -19,6 +19,8 @@ mod lists;
 #[cfg(test)]
 mod meetings;
 #[cfg(test)]
+mod meshed;
+#[cfg(test)]
 mod monotone_pieces;
 #[cfg(test)]
 mod named;
@@ -42,6 +44,8 @@ mod ring_lists;
 mod segments;
 #[cfg(test)]
 mod sequences;
+#[cfg(test)]
+mod tables;
 #[cfg(test)]
 mod triangles;
 #[cfg(test)]

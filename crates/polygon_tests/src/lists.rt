@@ -1,17 +1,14 @@
 // Lists of points, accepted as a ring or refused.
-ghost use Rattle.std.specs.Prelude.{◌≡◌, ◌<◌};
-
 use crate::reading::{point_of, points_of, ring_of, row_of};
 use exact_plane::{Pt, Steps};
 use plane::MAX_CORNERS;
 use ring_check::{Ring, RingFault, sweep_finds_none};
 use std::alloc::Global;
-use std::marker::Brand;
-use std::process::Abort;
-use std::sync::ledger::{Blank, Ledger};
+use std::sync::ledger::Ledger;
 
-// A list, and what becomes of it: a ring as it is given, or backward, since it ran clockwise, or a refusal.
-const LISTS: &str = "\
+// A list, and what becomes of it: a ring as it is given, or backward, since it ran clockwise, or a refusal. In place of a list
+// stands `comb` with its number of points.
+pub(crate) const LISTS: &str = "\
 an L | 0,0 4,0 4,2 2,2 2,4 0,4 | as given
 an L, backward | 0,4 2,4 2,2 4,2 4,0 0,0 | backward
 a flat vertex | 0,0 2,0 4,0 0,4 | as given
@@ -36,50 +33,34 @@ the longest sliver | -8388607,-8388607 8388607,8388607 8388607,8388606 | backwar
 a vertex beside the longest edge | -8388607,-8388607 8388607,8388606 -8388606,-8388606 -8388607,8388607 | as given
 a vertex on the longest edge | -8388607,-8388607 8388607,8388607 -8388607,8388607 0,0 | clash 0,2
 a vertex beyond the longest edge | -8388607,-8388607 8388607,8388606 -8388607,8388607 8388606,8388605 | clash 0,2
-the longest diagonals | -8388607,-8388607 8388607,8388607 8388607,-8388607 -8388607,8388607 | clash 0,2";
+the longest diagonals | -8388607,-8388607 8388607,8388607 8388607,-8388607 -8388607,8388607 | clash 0,2
+the most points | comb 16384 | as given
+one point more | comb 16385 | many";
 
-// The vertices as they are kept, each with the numbers of the vertex and of the edge in the list.
-const L_SHAPE: &str = "0,0 4,0 4,2 2,2 2,4 0,4";
+// The number of the reflex vertex of an L, its list, and the vertices as they are kept, each with the numbers of the vertex and of
+// the edge in the list.
+pub(crate) const KEPT: &str = "\
+3 | 0,0 4,0 4,2 2,2 2,4 0,4 | 0,0/0/0 4,0/1/1 4,2/2/2 2,2/3/3 2,4/4/4 0,4/5/5
+4 | 0,4 2,4 2,2 4,2 4,0 0,0 | 0,4/0/5 0,0/5/4 4,0/4/3 4,2/3/2 2,2/2/1 2,4/1/0";
 
-const L_KEPT: &str = "0,0/0/0 4,0/1/1 4,2/2/2 2,2/3/3 2,4/4/4 0,4/5/5";
-
-const L_BACKWARD: &str = "0,4 2,4 2,2 4,2 4,0 0,0";
-
-const L_TURNED: &str = "0,4/0/5 0,0/5/4 4,0/4/3 4,2/3/2 2,2/2/1 2,4/1/0";
-
-#[test]
-fn lists_are_rings_or_refused(rt: HostRuntime) {
-    all_lists::<Brand, _>(&rt, rt.alloc(), Blank::new(1));
-}
-
-// With a counter over a ledger that nobody else counts in.
-fn all_lists<L: Ledger, R: Abort>(rt: &R, alloc: Global, blank: Blank)
-    requires name { blank.name ≡ L.name }
-    requires parts { blank.parts ≡ L.parts }
-    requires countable { 0 < blank.parts }
-{
-    let mut steps = Steps::<L>::new(blank);
-    for row in LISTS.split('\n') {
-        assert!(rt; is_judged(alloc, row, &mut steps) == Some(true), "{row}");
-    }
-    for (count, want) in [(16_384, "as given"), (16_385, "many")] {
-        assert!(rt;
-            is_judged_comb(alloc, count, want, &mut steps) == Some(true),
-            "{count} points"
-        );
-    }
-    for (list, want, reflex) in [(L_SHAPE, L_KEPT, 3), (L_BACKWARD, L_TURNED, 4)] {
-        assert!(rt;
-            is_kept(alloc, list, want, reflex, &mut steps) == Some(true),
-            "{want}"
-        );
+pub(crate) fn is_judged<L: Ledger>(alloc: Global, row: &str, steps: &mut Steps<L>) -> bool {
+    if let Some((_, list, want)) = row_of(row)
+        && let Some(points) = listed(alloc, list)
+    {
+        is_known(alloc, &points, want, steps) && is_wanted(points, want, steps)
+    } else {
+        false
     }
 }
 
-fn is_judged<L: Ledger>(alloc: Global, row: &str, steps: &mut Steps<L>) -> Option<bool> {
-    let (_, list, want) = row_of(row)?;
-    let points = points_of(alloc, list)?;
-    Some(is_known(alloc, &points, want, steps) && is_wanted(points, want, steps))
+fn listed(alloc: Global, list: &str) -> Option<Vec<Pt>> {
+    if let Some(count) = list.strip_prefix("comb ")
+        && let Ok(count) = count.parse()
+    {
+        comb(alloc, count)
+    } else {
+        points_of(alloc, list)
+    }
 }
 
 // Whether the sweep accepts the list exactly if it is a ring, which no contract says.
@@ -88,15 +69,6 @@ fn is_known<L: Ledger>(alloc: Global, points: &[Pt], want: &str, steps: &mut Ste
     points.len() < 3
         || points.len() > MAX_CORNERS
         || sweep_finds_none(alloc, points, steps) == is_ring
-}
-
-fn is_judged_comb<L: Ledger>(
-    alloc: Global,
-    count: u32,
-    want: &str,
-    steps: &mut Steps<L>,
-) -> Option<bool> {
-    Some(is_wanted(comb(alloc, count)?, want, steps))
 }
 
 fn is_wanted<L: Ledger>(points: Vec<Pt>, want: &str, steps: &mut Steps<L>) -> bool {
@@ -114,8 +86,15 @@ fn is_wanted<L: Ledger>(points: Vec<Pt>, want: &str, steps: &mut Steps<L>) -> bo
 }
 
 fn clash_of(want: &str) -> Option<(u32, u32)> {
-    let (first, second) = want.strip_prefix("clash ")?.split_once(',')?;
-    Some((first.parse().ok()?, second.parse().ok()?))
+    if let Some(places) = want.strip_prefix("clash ")
+        && let Some((first, second)) = places.split_once(',')
+        && let Ok(first) = first.parse()
+        && let Ok(second) = second.parse()
+    {
+        Some((first, second))
+    } else {
+        None
+    }
 }
 
 // The list of `count` points that goes along the upper side of the square of the limit and back by teeth, from its lower
@@ -130,36 +109,48 @@ fn comb(alloc: Global, count: u32) -> Option<Vec<Pt>> {
     Some(points)
 }
 
-fn is_kept<L: Ledger>(
-    alloc: Global,
-    list: &str,
-    want: &str,
-    reflex: u32,
-    steps: &mut Steps<L>,
-) -> Option<bool> {
-    let ring = ring_of(alloc, list, steps)?;
+pub(crate) fn is_kept<L: Ledger>(alloc: Global, row: &str, steps: &mut Steps<L>) -> bool {
+    if let Some((reflex, list, want)) = row_of(row)
+        && let Ok(reflex) = reflex.parse()
+        && let Some(ring) = ring_of(alloc, list, steps)
+    {
+        has_vertices(&ring, want, steps) && has_reflex(&ring, reflex, steps)
+    } else {
+        false
+    }
+}
+
+fn has_vertices<L: Ledger>(ring: &Ring, want: &str, steps: &mut Steps<L>) -> bool {
     let mut i = 0;
     for word in want.split(' ') {
-        if i >= ring.len() || !is_vertex(&ring, i, word, steps)? {
-            return None;
-        }
-        if ring.is_reflex(i, steps) != (i == reflex) {
-            return None;
+        if i >= ring.len() || !is_vertex(ring, i, word, steps) {
+            return false;
         }
         i += 1;
     }
-    Some(i == 6 && ring.len() == 6)
+    i == 6 && ring.len() == 6
 }
 
-fn is_vertex<L: Ledger>(ring: &Ring, i: u32, want: &str, steps: &mut Steps<L>) -> Option<bool> {
-    if i >= ring.len() {
-        return None;
+// Whether this vertex is reflex, and no other.
+fn has_reflex<L: Ledger>(ring: &Ring, reflex: u32, steps: &mut Steps<L>) -> bool {
+    for i in 0..ring.len() {
+        if ring.is_reflex(i, steps) != (i == reflex) {
+            return false;
+        }
     }
-    let (point, numbers) = want.split_once('/')?;
-    let (vertex, edge) = numbers.split_once('/')?;
-    Some(
-        ring.corner(i).parts(steps) == point_of(point)?.parts(steps)
+    true
+}
+
+fn is_vertex<L: Ledger>(ring: &Ring, i: u32, want: &str, steps: &mut Steps<L>) -> bool {
+    if let Some((point, numbers)) = want.split_once('/')
+        && let Some((vertex, edge)) = numbers.split_once('/')
+        && let Some(point) = point_of(point)
+        && i < ring.len()
+    {
+        ring.corner(i).parts(steps) == point.parts(steps)
             && vertex.parse() == Ok(ring.given_index(i))
-            && edge.parse() == Ok(ring.given_edge(i)),
-    )
+            && edge.parse() == Ok(ring.given_edge(i))
+    } else {
+        false
+    }
 }

@@ -13,10 +13,8 @@ use mono_fill::fill;
 use ring_check::Ring;
 use std::alloc::Global;
 use std::cmp::Ordering;
-use std::marker::Brand;
 use std::process::Abort;
-use std::sync::ledger::{Blank, Ledger};
-use std::test::Fail;
+use std::sync::ledger::Ledger;
 
 // Corners to be asked about, and a point that is the start and the goal.
 #[derive(Drop)]
@@ -53,21 +51,8 @@ impl<'a> Turns for Corners<'a> {
     }
 }
 
-#[test]
-fn monotone_pieces_are_filled(rt: HostRuntime) -> Result<(), Fail> {
-    all_pieces::<Brand, _>(&rt, rt.alloc(), Blank::new(1))?;
-    Ok(())
-}
-
-// With a counter over a ledger that nobody else counts in.
 #[rattlefmt::skip]
-fn all_pieces<L: Ledger, R: Abort>(rt: &R, alloc: Global, blank: Blank) -> Result<(), Memory>
-    requires name { blank.name ≡ L.name }
-    requires parts { blank.parts ≡ L.parts }
-    requires countable { 0 < blank.parts }
-{
-    let mut steps = Steps::<L>::new(blank);
-    let steps = &mut steps;
+pub(crate) fn monotone_pieces_are_filled<L: Ledger, R: Abort>(rt: &R, alloc: Global, steps: &mut Steps<L>) -> Result<(), Memory> {
     has_triangles(rt, alloc, "a triangle", &[(0, 0), (2, -1), (4, 3)], &[0, 1, 2], 10, steps)?;
     has_triangles(rt, alloc, "a flat lower chain", &[(0, 0), (1, 0), (2, 0), (3, 4), (4, 0)], &[0, 1, 2, 4, 3], 16, steps)?;
     has_triangles(rt, alloc, "a flat upper chain", &[(0, 0), (1, -4), (2, 0), (3, 0), (4, 0)], &[0, 1, 4, 3, 2], 16, steps)?;

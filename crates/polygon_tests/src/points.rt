@@ -1,20 +1,15 @@
 // Questions about points, with answers that were worked out by hand or with exact fractions.
-ghost use Rattle.std.specs.Prelude.{◌≡◌, ◌<◌};
-
-use crate::reading::{points_of, row_of, yes_or_no};
+use crate::reading::{direction, ordering, points_of, row_of, yes_or_no};
 use exact_plane::{
     Direction, Hom, Pt, Steps, in_cone, in_triangle, meet_only_at, on_segment, order,
     segments_meet, turn,
 };
 use std::alloc::Global;
-use std::cmp::Ordering;
-use std::marker::Brand;
-use std::process::Abort;
-use std::sync::ledger::{Blank, Ledger};
+use std::sync::ledger::Ledger;
 
 // A question, its name, the points that it is asked of, and the answer. The limit of coordinates is 8,388,607; a lower
 // limit, that of version 1 of the script, is 1,000,000.
-const QUESTIONS: &str = "\
+pub(crate) const QUESTIONS: &str = "\
 turn | upward | 0,0 2,0 2,1 | left
 turn | downward | 0,0 2,0 2,-1 | right
 turn | back | 0,0 2,2 1,1 | straight
@@ -97,10 +92,13 @@ in triangle | over the box | 0,0 4,0 0,4 0,5 | no
 in triangle | in the narrowest | -8388607,-8388607 8388607,8388606 8388607,8388607 0,0 | yes";
 
 // Two coordinates, and whether they are within the limit, 8,388,607.
-const LIMITS: &str = "\
+pub(crate) const LIMITS: &str = "\
 the origin | 0,0 | yes
 a corner at the limit | 8388607,8388607 | yes
 the opposite corner | -8388607,-8388607 | yes
+a corner beside it | 8388607,-8388607 | yes
+the corner opposite to that | -8388607,8388607 | yes
+within the limit | 3,-4 | yes
 x one past the limit | 8388608,0 | no
 x one before the limit | -8388608,0 | no
 y one past the limit | 0,8388608 | no
@@ -109,50 +107,36 @@ the greatest numbers | 9223372036854775807,9223372036854775807 | no
 the least x | -9223372036854775808,0 | no
 the least y | 0,-9223372036854775808 | no";
 
-#[test]
-fn points_keep_their_limits(rt: HostRuntime) {
-    for row in LIMITS.split('\n') {
-        assert!(rt; is_limit(row) == Some(true), "{row}");
+// Coordinates within the limit come out of a point as they went in.
+pub(crate) fn is_limit<L: Ledger>(row: &str, steps: &mut Steps<L>) -> bool {
+    if let Some((_, numbers, want)) = row_of(row)
+        && let Some((x, y)) = numbers.split_once(',')
+        && let Ok(x) = x.parse()
+        && let Ok(y) = y.parse()
+    {
+        let is_point = is_kept(x, y, steps);
+        Hom::of_whole(x, y).is_some() == is_point && want == yes_or_no(is_point)
+    } else {
+        false
     }
 }
 
-fn is_limit(row: &str) -> Option<bool> {
-    let (_, numbers, want) = row_of(row)?;
-    let (x, y) = numbers.split_once(',')?;
-    let (x, y) = (x.parse().ok()?, y.parse().ok()?);
-    let (point, rational) = (Pt::of(x, y).is_some(), Hom::of_whole(x, y).is_some());
-    Some(point == rational && want == yes_or_no(point))
-}
-
-// Coordinates that come out of a point as they went in.
-const COORDINATES: [(i64, i64); 3] = [(3, -4), (8_388_607, -8_388_607), (-8_388_607, 8_388_607)];
-
-#[test]
-fn points_turn_and_come_in_order(rt: HostRuntime) {
-    all_questions::<Brand, _>(&rt, rt.alloc(), Blank::new(1));
-}
-
-// With a counter over a ledger that nobody else counts in.
-fn all_questions<L: Ledger, R: Abort>(rt: &R, alloc: Global, blank: Blank)
-    requires name { blank.name ≡ L.name }
-    requires parts { blank.parts ≡ L.parts }
-    requires countable { 0 < blank.parts }
-{
-    let mut steps = Steps::<L>::new(blank);
-    for (x, y) in COORDINATES {
-        let point = Pt::of(x, y).expect(rt, "within the limit");
-        assert!(rt; point.parts(&mut steps) == (x, y));
-    }
-    for row in QUESTIONS.split('\n') {
-        assert!(rt; is_answered(alloc, row, &mut steps) == Some(true), "{row}");
+fn is_kept<L: Ledger>(x: i64, y: i64, steps: &mut Steps<L>) -> bool {
+    match Pt::of(x, y) {
+        Some(point) => point.parts(steps) == (x, y),
+        None => false,
     }
 }
 
-fn is_answered<L: Ledger>(alloc: Global, row: &str, steps: &mut Steps<L>) -> Option<bool> {
-    let (question, rest) = row.split_once(" | ")?;
-    let (_, list, want) = row_of(rest)?;
-    let points = points_of(alloc, list)?;
-    Some(answer(question, &points, steps)? == want)
+pub(crate) fn is_answered<L: Ledger>(alloc: Global, row: &str, steps: &mut Steps<L>) -> bool {
+    if let Some((question, rest)) = row.split_once(" | ")
+        && let Some((_, list, want)) = row_of(rest)
+        && let Some(points) = points_of(alloc, list)
+    {
+        answer(question, &points, steps) == Some(want)
+    } else {
+        false
+    }
 }
 
 fn answer<L: Ledger>(question: &str, points: &[Pt], steps: &mut Steps<L>) -> Option<&'static str> {
@@ -197,21 +181,5 @@ fn of_four<L: Ledger>(
             Some(yes_or_no(in_triangle(a, b, c, d, steps)))
         }
         _ => None,
-    }
-}
-
-fn direction(direction: Direction) -> &'static str {
-    match direction {
-        Direction::Left => "left",
-        Direction::Right => "right",
-        Direction::Straight => "straight",
-    }
-}
-
-fn ordering(ordering: Ordering) -> &'static str {
-    match ordering {
-        Ordering::Less => "less",
-        Ordering::Equal => "equal",
-        Ordering::Greater => "greater",
     }
 }

@@ -1,19 +1,14 @@
 // Whether a ring holds a segment.
-ghost use Rattle.std.specs.Prelude.{◌≡◌, ◌<◌};
-
-use crate::reading::{point_of, ring_of, row_of};
+use crate::reading::{point_of, ring_of, row_of, yes_or_no};
 use exact_plane::Steps;
 use inside_test::holds_segment;
-use ring_check::Ring;
 use std::alloc::Global;
-use std::marker::Brand;
-use std::process::Abort;
-use std::sync::ledger::{Blank, Ledger};
+use std::sync::ledger::Ledger;
 
 // A U, and segments of which it holds some.
-const U_SHAPE: &str = "0,0 6,0 6,4 4,4 4,2 2,2 2,4 0,4";
+pub(crate) const U_SHAPE: &str = "0,0 6,0 6,4 4,4 4,2 2,2 2,4 0,4";
 
-const IN_U: &str = "\
+pub(crate) const IN_U: &str = "\
 across the notch | 0,3 6,3 | no
 along the bottom of the notch | 0,2 6,2 | yes
 along two tops, and out between | 0,4 6,4 | no
@@ -37,9 +32,9 @@ from inside to the boundary | 1,1 6,1 | yes
 from inside to the boundary, and beyond | 1,1 7,1 | no";
 
 // Three teeth over a base with a flat vertex.
-const TEETH: &str = "0,0 4,0 8,0 8,4 6,2 4,4 2,2 0,4";
+pub(crate) const TEETH: &str = "0,0 4,0 8,0 8,4 6,2 4,4 2,2 0,4";
 
-const IN_TEETH: &str = "\
+pub(crate) const IN_TEETH: &str = "\
 touching two vertices from inside | 0,2 8,2 | yes
 touching a vertex from inside, and out | 0,2 9,2 | no
 touching a top from outside | 0,4 8,4 | no
@@ -52,9 +47,10 @@ to a flat vertex | 4,4 4,0 | yes
 from top to top | 4,4 8,4 | no";
 
 // A notch from above that comes within 1 of the base, in the square of the limit.
-const WIDE: &str = "-8388607,-8388607 8388607,-8388607 8388607,8388607 0,-8388606 -8388607,8388607";
+pub(crate) const WIDE: &str =
+    "-8388607,-8388607 8388607,-8388607 8388607,8388607 0,-8388606 -8388607,8388607";
 
-const IN_WIDE: &str = "\
+pub(crate) const IN_WIDE: &str = "\
 under a narrow gap | -8388607,-8388607 8388607,-8388607 | yes
 through a narrow gap | -8388607,-8388606 8388607,-8388606 | yes
 over a narrow gap | -8388607,-8388605 8388607,-8388605 | no
@@ -63,36 +59,22 @@ aslant over a narrow gap | -8388607,-8388604 8388607,-8388607 | no
 beside the notch | -8388607,8388607 0,-8388607 | yes
 through the notch beside its edge | -8388607,8388607 1,-8388607 | no";
 
-#[test]
-fn segments_are_held_or_not(rt: HostRuntime) {
-    all_segments::<Brand, _>(&rt, rt.alloc(), Blank::new(1));
-}
-
-// With a counter over a ledger that nobody else counts in.
-fn all_segments<L: Ledger, R: Abort>(rt: &R, alloc: Global, blank: Blank)
-    requires name { blank.name ≡ L.name }
-    requires parts { blank.parts ≡ L.parts }
-    requires countable { 0 < blank.parts }
-{
-    let mut steps = Steps::<L>::new(blank);
-    for (list, rows) in [(U_SHAPE, IN_U), (TEETH, IN_TEETH), (WIDE, IN_WIDE)] {
-        let ring = ring_of(alloc, list, &mut steps).expect(rt, "a ring");
-        for row in rows.split('\n') {
-            assert!(rt;
-                is_held(alloc, &ring, row, &mut steps) == Some(true),
-                "{row}"
-            );
-        }
-    }
-}
-
-fn is_held<L: Ledger>(alloc: Global, ring: &Ring, row: &str, steps: &mut Steps<L>) -> Option<bool> {
-    let (_, ends, want) = row_of(row)?;
-    let (a, b) = ends.split_once(' ')?;
-    let (a, b) = (point_of(a)?, point_of(b)?);
-    match holds_segment(alloc, ring, &a, &b, steps) {
-        Ok(true) => Some(want == "yes"),
-        Ok(false) => Some(want == "no"),
-        Err(_) => None,
+// Whether the ring of a list holds the segment of a row or not, as the row says.
+pub(crate) fn is_held<L: Ledger>(
+    alloc: Global,
+    list: &str,
+    row: &str,
+    steps: &mut Steps<L>,
+) -> bool {
+    if let Some((_, ends, want)) = row_of(row)
+        && let Some((a, b)) = ends.split_once(' ')
+        && let Some(a) = point_of(a)
+        && let Some(b) = point_of(b)
+        && let Some(ring) = ring_of(alloc, list, steps)
+        && let Ok(is_held) = holds_segment(alloc, &ring, &a, &b, steps)
+    {
+        want == yes_or_no(is_held)
+    } else {
+        false
     }
 }

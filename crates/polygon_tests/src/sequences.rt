@@ -1,16 +1,12 @@
 // Lists that share their nodes: each call makes a new list and leaves its arguments as they were.
-ghost use Rattle.std.specs.Prelude.{◌≡◌, ◌<◌};
-
 use crate::reading::row_of;
 use exact_plane::Steps;
 use shared_seq::SharedSeq;
 use std::alloc::Global;
-use std::marker::Brand;
-use std::process::Abort;
-use std::sync::ledger::{Blank, Ledger};
+use std::sync::ledger::Ledger;
 
 // A call with a place and a value, the list that it is made on, which a plus joins of two, and the list that it makes.
-const CALLS: &str = "\
+pub(crate) const CALLS: &str = "\
 share 0 0 | 1 2 3 | 1 2 3
 share 0 0 | 1 2 3 + 4 5 | 1 2 3 4 5
 front 2 0 | 1 2 3 + 4 5 | 1 2
@@ -26,38 +22,29 @@ search 0 3 | 1 2 3 + 4 5 | 2 5
 search 0 0 | 1 2 3 + 4 5 | 0 5
 search 0 9 | 1 2 3 + 4 5 | 5 5";
 
-#[test]
-fn shared_lists_are_joined_split_and_changed(rt: HostRuntime) {
-    all_lists::<Brand, _>(&rt, rt.alloc(), Blank::new(1));
-}
-
-// With a counter over a ledger that nobody else counts in.
-fn all_lists<L: Ledger, R: Abort>(rt: &R, alloc: Global, blank: Blank)
-    requires name { blank.name ≡ L.name }
-    requires parts { blank.parts ≡ L.parts }
-    requires countable { 0 < blank.parts }
-{
-    let mut steps = Steps::<L>::new(blank);
-    for row in CALLS.split('\n') {
-        assert!(rt; is_made(alloc, row, &mut steps) == Some(true), "{row}");
-    }
-    assert!(rt; is_joined_again(alloc, &mut steps) == Some(true));
-}
-
 // Whether the call makes the list, and leaves the one that it was made on.
-fn is_made<L: Ledger>(alloc: Global, row: &str, steps: &mut Steps<L>) -> Option<bool> {
-    let (call, given, want) = row_of(row)?;
-    let (word, at, value) = call_of(call)?;
-    let list = list_of(alloc, given, steps)?;
-    let made = made_by(alloc, &list, word, at, value, steps)?;
-    let (has_made, has_kept) = (has(&made, want, steps)?, has(&list, given, steps)?);
-    Some(has_made && has_kept)
+pub(crate) fn is_made<L: Ledger>(alloc: Global, row: &str, steps: &mut Steps<L>) -> bool {
+    if let Some((call, given, want)) = row_of(row)
+        && let Some((word, at, value)) = call_of(call)
+        && let Some(list) = list_of(alloc, given, steps)
+        && let Some(made) = made_by(alloc, &list, word, at, value, steps)
+    {
+        has(&made, want, steps) && has(&list, given, steps)
+    } else {
+        false
+    }
 }
 
 fn call_of(call: &str) -> Option<(&str, usize, u32)> {
-    let (word, numbers) = call.split_once(' ')?;
-    let (at, value) = numbers.split_once(' ')?;
-    Some((word, at.parse().ok()?, value.parse().ok()?))
+    if let Some((word, numbers)) = call.split_once(' ')
+        && let Some((at, value)) = numbers.split_once(' ')
+        && let Ok(at) = at.parse()
+        && let Ok(value) = value.parse()
+    {
+        Some((word, at, value))
+    } else {
+        None
+    }
 }
 
 fn list_of<L: Ledger>(alloc: Global, text: &str, steps: &mut Steps<L>) -> Option<SharedSeq> {
@@ -74,10 +61,12 @@ fn joined_of<L: Ledger>(
     right: &str,
     steps: &mut Steps<L>,
 ) -> Option<SharedSeq> {
-    let (front, back) = (pushed(alloc, left, steps)?, pushed(alloc, right, steps)?);
-    let joined = join(alloc, &front, &back, steps)?;
-    let (has_front, has_back) = (has(&front, left, steps)?, has(&back, right, steps)?);
-    if has_front && has_back {
+    if let Some(front) = pushed(alloc, left, steps)
+        && let Some(back) = pushed(alloc, right, steps)
+        && let Some(joined) = join(alloc, &front, &back, steps)
+        && has(&front, left, steps)
+        && has(&back, right, steps)
+    {
         Some(joined)
     } else {
         None
@@ -166,26 +155,23 @@ fn searched<L: Ledger>(
 }
 
 // Whether the list has these numbers, with no plus between them.
-fn has<L: Ledger>(list: &SharedSeq, want: &str, steps: &mut Steps<L>) -> Option<bool> {
+fn has<L: Ledger>(list: &SharedSeq, want: &str, steps: &mut Steps<L>) -> bool {
     let mut count = 0;
     for word in want.split(' ') {
         if word != "+" {
-            if count >= list.len() {
-                return None;
-            }
-            if word.parse() != Ok(list.get(count, steps)) {
-                return None;
+            if count >= list.len() || word.parse() != Ok(list.get(count, steps)) {
+                return false;
             }
             count += 1;
         }
     }
-    Some(count == list.len())
+    count == list.len()
 }
 
 const LONG: usize = 10_000;
 
 // Ten thousand numbers, from 0 on, split at each multiple of a thousand and joined again.
-fn is_joined_again<L: Ledger>(alloc: Global, steps: &mut Steps<L>) -> Option<bool> {
+pub(crate) fn is_joined_again<L: Ledger>(alloc: Global, steps: &mut Steps<L>) -> Option<bool> {
     let mut list = SharedSeq::empty();
     for i in 0..LONG as u32 {
         list = push(alloc, &list, i, steps)?;

@@ -1,40 +1,25 @@
 // Meshes of triangles that are written down, with what is across their sides.
-ghost use Rattle.std.specs.Prelude.{◌≡◌, ◌<◌, ◌^◌, length};
+ghost use Rattle.std.specs.Prelude.{◌<◌, ◌^◌, length};
 ghost use Rattle.polygon_tests.specs.Rows.{SuitRow};
 
 use crate::ring_lists::{At, Corners, mesh_with, ring_of};
 use exact_plane::{Memory, Steps};
 use std::alloc::Global;
-use std::marker::Brand;
 use std::process::Abort;
-use std::sync::ledger::{Blank, Ledger};
-use std::test::Fail;
+use std::sync::ledger::Ledger;
 use tri_mesh::{Mesh, Outward};
 
-#[test]
-fn meshes_know_their_neighbours(rt: HostRuntime) -> Result<(), Fail> {
-    all_meshes::<Brand, _>(&rt, rt.alloc(), Blank::new(1))?;
-    Ok(())
-}
-
-// With a counter over a ledger that nobody else counts in. The L is cut by the diagonals from vertex 3.
-fn all_meshes<L: Ledger, R: Abort>(rt: &R, alloc: Global, blank: Blank) -> Result<(), Memory>
-    requires name { blank.name ≡ L.name }
-    requires parts { blank.parts ≡ L.parts }
-    requires countable { 0 < blank.parts }
-{
-    let mut steps = Steps::<L>::new(blank);
-    let mesh = mesh_of(
-        rt,
-        alloc,
-        &[(0, 0), (1, 0), (0, 1)],
-        &[(0, 1, 2)],
-        &mut steps,
-    )?;
+// The L is cut by the diagonals from vertex 3.
+pub(crate) fn meshes_know_their_neighbours<L: Ledger, R: Abort>(
+    rt: &R,
+    alloc: Global,
+    steps: &mut Steps<L>,
+) -> Result<(), Memory> {
+    let mesh = mesh_of(rt, alloc, &[(0, 0), (1, 0), (0, 1)], &[(0, 1, 2)], steps)?;
     has_rows(rt, &mesh, &[((0, 1, 2), [None, None, None])]);
     let l_shape = [(0, 0), (4, 0), (4, 2), (2, 2), (2, 4), (0, 4)];
     let tris = [(1, 2, 3), (0, 1, 3), (0, 3, 5), (3, 4, 5)];
-    let mesh = mesh_of(rt, alloc, &l_shape, &tris, &mut steps)?;
+    let mesh = mesh_of(rt, alloc, &l_shape, &tris, steps)?;
     let rows = [
         ((1, 2, 3), [None, None, Some(1)]),
         ((0, 1, 3), [None, Some(0), Some(2)]),

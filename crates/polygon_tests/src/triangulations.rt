@@ -1,6 +1,4 @@
 // Triangulations by diagonals, and by a sweep.
-ghost use Rattle.std.specs.Prelude.{◌≡◌, ◌<◌};
-
 use crate::polygons::{POLYGONS, are_flat_triangles, area_of, row_of, vertices_of};
 use crate::ring_lists::{ring_of, swept_mesh};
 use cut_tri::triangulate;
@@ -9,10 +7,8 @@ use geo_gen::comb;
 use meshes::Tri;
 use ring_check::Ring;
 use std::alloc::Global;
-use std::marker::Brand;
 use std::process::Abort;
-use std::sync::ledger::{Blank, Ledger};
-use std::test::Fail;
+use std::sync::ledger::Ledger;
 use tri_mesh::Mesh;
 
 #[derive(Clone, Copy)]
@@ -35,38 +31,27 @@ impl Method {
     }
 }
 
-#[test]
-fn diagonals_triangulate_each_polygon(rt: HostRuntime) -> Result<(), Fail> {
-    all_polygons::<Brand, _>(&rt, rt.alloc(), Method::Diagonals, Blank::new(1))?;
-    Ok(())
+// By diagonals, and by a sweep, which takes the greatest comb too.
+pub(crate) fn each_polygon_is_triangulated<L: Ledger, R: Abort>(
+    rt: &R,
+    alloc: Global,
+    steps: &mut Steps<L>,
+) -> Result<(), Memory> {
+    all_polygons(rt, alloc, Method::Diagonals, steps)?;
+    all_polygons(rt, alloc, Method::Sweep, steps)?;
+    greatest_comb(rt, alloc, steps)
 }
 
-#[test]
-fn sweep_triangulates_each_polygon_and_the_greatest_comb(rt: HostRuntime) -> Result<(), Fail> {
-    all_polygons::<Brand, _>(&rt, rt.alloc(), Method::Sweep, Blank::new(1))?;
-    Ok(())
-}
-
-// With a counter over a ledger that nobody else counts in.
 fn all_polygons<L: Ledger, R: Abort>(
     rt: &R,
     alloc: Global,
     method: Method,
-    blank: Blank,
-) -> Result<(), Memory>
-    requires name { blank.name ≡ L.name }
-    requires parts { blank.parts ≡ L.parts }
-    requires countable { 0 < blank.parts }
-{
-    let mut steps = Steps::<L>::new(blank);
+    steps: &mut Steps<L>,
+) -> Result<(), Memory> {
     for row in POLYGONS.split("\n\n") {
-        is_triangulated(rt, alloc, method, row, &mut steps)?;
+        is_triangulated(rt, alloc, method, row, steps)?;
     }
-    has_flat_triangles(rt, alloc, method, &mut steps)?;
-    match method {
-        Method::Diagonals => Ok(()),
-        Method::Sweep => greatest_comb(rt, alloc, &mut steps),
-    }
+    has_flat_triangles(rt, alloc, method, steps)
 }
 
 fn is_triangulated<L: Ledger, R: Abort>(

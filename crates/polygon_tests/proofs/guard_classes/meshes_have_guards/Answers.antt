@@ -1,5 +1,5 @@
 use Rattle.polygon_tests.proofs.ring_lists.KnownRows.{l_clockwise, l_other, l_shape, square, u_shape}
-use Rattle.polygon_tests.proofs.guard_classes.rows_have_guards.Goals as goal
+use Rattle.polygon_tests.proofs.guard_classes.meshes_have_guards.Goals as goal
 
 pub has_guards-requires-2-clause-suit : goal.has_guards-requires-2-clause-suit
 has_guards-requires-2-clause-suit g c = square

@@ -1,6 +1,6 @@
 use Rattle.std.proofs.Common.{[], ◌∷◌, refl}
 use Rattle.polygon_tests.proofs.monotone_pieces.KnownPieces.{piece_row}
-use Rattle.polygon_tests.proofs.monotone_pieces.all_pieces.Goals as goal
+use Rattle.polygon_tests.proofs.monotone_pieces.monotone_pieces_are_filled.Goals as goal
 
 pub has_triangles-requires : goal.has_triangles-requires
 has_triangles-requires g c = record { row = piece_row _ _ [] (0 ∷ 1 ∷ 2 ∷ []) 0 (1 ∷ []) 2 [] refl refl refl refl refl refl refl }
