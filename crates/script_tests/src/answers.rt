@@ -1,12 +1,11 @@
 // The texts of answers: refusals, points and rational points.
-ghost use Rattle.std.specs.Prelude.{◌≡◌, ◌<◌, ◌+◌};
+ghost use Rattle.std.specs.Prelude.{◌≡◌, ◌+◌};
 
 use exact_plane::{Hom, Memory, Pt, Steps};
 use geo_text::{Bad, Points, put_bad, put_hom, put_index, put_line_end, put_pt, put_word};
 use std::alloc::Global;
-use std::marker::Brand;
 use std::process::Abort;
-use std::sync::ledger::{Blank, Ledger};
+use std::sync::ledger::Ledger;
 
 const REFUSALS: [Bad; 12] = [
     Bad::Word,
@@ -80,45 +79,46 @@ long numbers | -1000000,-1000000 1000000,999999 -1000000,1000000 999999,-1000000
 the longest numbers | -8388607,-8388607 8388607,8388606 -8388607,8388607 8388606,-8388607 | at,-8388607/562949785649165,-281474901213189/562949785649165
 past the limits | -1000000,-1000000 1000000,999999 -1000000,-999999 999999,1000000 | at,-3000000,-2999999";
 
-#[test]
-fn points(rt: HostRuntime) {
-    all_points::<Brand, _>(&rt, rt.alloc(), Blank::new(1));
-}
-
-// With a counter over a ledger that nobody else counts in.
-fn all_points<L: Ledger, R: Abort>(rt: &R, alloc: Global, blank: Blank)
-    requires name { blank.name ≡ L.name }
-    requires parts { blank.parts ≡ L.parts }
-    requires countable { 0 < blank.parts }
-{
-    let mut steps = Steps::<L>::new(blank);
+pub(crate) fn points<L: Ledger, R: Abort>(rt: &R, alloc: Global, steps: &mut Steps<L>) {
     for row in POINTS.split('\n') {
-        assert!(rt;
-            is_point_text(alloc, row, &mut steps) == Some(true),
-            "{row}"
-        );
+        assert!(rt; is_point_text(alloc, row, steps), "{row}");
     }
 }
 
-fn is_point_text<L: Ledger>(alloc: Global, row: &str, steps: &mut Steps<L>) -> Option<bool> {
-    let (_, rest) = row.split_once(" | ")?;
-    let (list, want) = rest.split_once(" | ")?;
-    let points = points_of(alloc, list)?;
-    let mut out = Vec::new(alloc);
-    put_word(&mut out, "at").ok()?;
-    put_met(&mut out, &points, steps)?;
-    Some(out.as_slice() == want.as_bytes())
+fn is_point_text<L: Ledger>(alloc: Global, row: &str, steps: &mut Steps<L>) -> bool {
+    if let Some((_, rest)) = row.split_once(" | ")
+        && let Some((list, want)) = rest.split_once(" | ")
+        && let Some(points) = points_of(alloc, list)
+    {
+        let mut out = Vec::new(alloc);
+        put_word(&mut out, "at").is_ok()
+            && put_met(&mut out, &points, steps).is_some()
+            && out.as_slice() == want.as_bytes()
+    } else {
+        false
+    }
 }
 
 fn point_of(word: &str) -> Option<Pt> {
-    let (x, y) = word.split_once(',')?;
-    Pt::of(x.parse().ok()?, y.parse().ok()?)
+    if let Some((x, y)) = word.split_once(',')
+        && let Ok(x) = x.parse()
+        && let Ok(y) = y.parse()
+    {
+        Pt::of(x, y)
+    } else {
+        None
+    }
 }
 
 fn points_of(alloc: Global, list: &str) -> Option<Vec<Pt>> {
     let mut points = Vec::new(alloc);
     for word in list.split(' ') {
-        points.push(point_of(word)?).ok()?;
+        if let Some(point) = point_of(word)
+            && points.push(point).is_ok()
+        {
+            continue;
+        }
+        return None;
     }
     Some(points)
 }

@@ -1,6 +1,4 @@
 // Paths in polygons that a session holds, as each version tells them.
-ghost use Rattle.std.specs.Prelude.{◌≡◌, ◌<◌};
-
 use crate::full_chains::FULL_CHAINS;
 use crate::polygons::{At, at, ats_of, points_of, polygon};
 use exact_plane::{Memory, Pt, Steps};
@@ -8,10 +6,8 @@ use geo_session::Session;
 use geo_text::{Command, Points, Version};
 use plane::MAX_CORNERS;
 use std::alloc::Global;
-use std::marker::Brand;
 use std::process::Abort;
-use std::sync::ledger::{Blank, Ledger};
-use std::test::Fail;
+use std::sync::ledger::Ledger;
 
 // In each row a name, a polygon, and the path between the first point and the last.
 const CHAINS: &str = "round a corner: L: 4,1 2,2 1,4
@@ -23,21 +19,13 @@ in one triangle: L: 3,1 4,1
 along an edge: L: 0,0 4,0
 round two corners: U: 6,4 4,2 2,2 0,4";
 
-#[test]
-fn paths(rt: HostRuntime) -> Result<(), Fail> {
-    all_chains::<Brand, _>(&rt, rt.alloc(), Blank::new(1))?;
-    Ok(())
-}
-
-// With a counter over a ledger that nobody else counts in.
-fn all_chains<N: Ledger, R: Abort>(rt: &R, alloc: Global, blank: Blank) -> Result<(), Memory>
-    requires name { blank.name ≡ N.name }
-    requires parts { blank.parts ≡ N.parts }
-    requires countable { 0 < blank.parts }
-{
-    let mut steps = Steps::<N>::new(blank);
-    tells(rt, alloc, Version::One, CHAINS, &mut steps)?;
-    tells(rt, alloc, Version::Two, FULL_CHAINS, &mut steps)
+pub(crate) fn paths<N: Ledger, R: Abort>(
+    rt: &R,
+    alloc: Global,
+    steps: &mut Steps<N>,
+) -> Result<(), Memory> {
+    tells(rt, alloc, Version::One, CHAINS, steps)?;
+    tells(rt, alloc, Version::Two, FULL_CHAINS, steps)
 }
 
 // In this version of the script each row of a table is told.

@@ -1,7 +1,7 @@
 // Whole runs over torn streams: each call of the source and of the sink fails in turn, and each room is too small in turn.
-ghost use Rattle.std.specs.Prelude.{◌≡◌, ◌<◌, ◌≤◌};
+ghost use Rattle.std.specs.Prelude.{◌≡◌, ◌<◌};
 
-use crate::runs::{Tear, are_answers, torn};
+use crate::runs::{Outcome, are_answers, torn};
 use exact_plane::{Memory, Steps};
 use geo_io::{SureSink, SureSource};
 use geo_run::{RunFault, geo_main, sure_sink_main, sure_source_main};
@@ -18,20 +18,59 @@ const SCRIPT: &[u8] = b"polygon,0,0,4,0,4,2,2,2,2,4,0,4\npath,4,1,1,4\n";
 
 const ANSWERS: &[u8] = b"polygon,6\npath,3,4,1,2,2,1,4\n";
 
+// What fails: the read with a number, the write with a number, or the last write, for which there is too little room.
+#[derive(Clone, Copy)]
+enum Fails {
+    Read,
+    Write,
+    Room,
+}
+
 // How a run over the script ends: the answer, how many bytes of the output were written, and how many were not read.
 type Ends = (Result<(), RunFault>, usize, usize);
 
-// Whether a run over the script, with a sink of some room, ends so.
-fn ends(alloc: Global, read: Tear, room: usize, write: Tear, want: Ends) -> Result<bool, Memory>
-    requires read { 1 ≤ read.1 }
-    requires write { 1 ≤ write.1 }
-{
-    let ended = torn(alloc, SCRIPT, read, room, write)?;
+// A run over the script with this number: a byte a call where a call fails, or with so much room.
+fn run_with(alloc: Global, fails: Fails, n: usize) -> Result<Outcome, Memory> {
+    match fails {
+        Fails::Read => torn(alloc, SCRIPT, (n as u64, 1), 100, (0, 10)),
+        Fails::Write => torn(alloc, SCRIPT, (0, 10), 100, (n as u64, 1)),
+        Fails::Room => torn(alloc, SCRIPT, (0, 10), n, (0, 10)),
+    }
+}
+
+// How it ends. No read fails but one of the first 46, no write but one of the first 29, and 29 bytes are room enough.
+fn end_of(fails: Fails, n: usize) -> Ends {
+    match fails {
+        Fails::Read if 0 < n && n < 47 => (Err(RunFault::ReadFault), 0, 46 - n),
+        Fails::Write if 0 < n && n < 30 => (Err(RunFault::WriteFault), n - 1, 0),
+        Fails::Room if n < 29 => (Err(RunFault::WriteFault), n, 0),
+        _ => (Ok(()), 29, 0),
+    }
+}
+
+fn ends_so(alloc: Global, fails: Fails, n: usize) -> Result<bool, Memory> {
+    let (answer, taken, left) = end_of(fails, n);
+    let ended = run_with(alloc, fails, n)?;
     Ok(
-        ended.answer == want.0
-            && ended.left == want.2
-            && Some(ended.taken.as_slice()) == ANSWERS.get(..want.1),
+        ended.answer == answer
+            && ended.left == left
+            && Some(ended.taken.as_slice()) == ANSWERS.get(..taken),
     )
+}
+
+// Each read and each write fails in turn, none before the first and none after the last; and each room is too small in turn.
+#[test]
+fn each_call_fails_in_turn(rt: HostRuntime) -> Result<(), Fail> {
+    for (name, fails, count) in [
+        ("read", Fails::Read, 48),
+        ("write", Fails::Write, 31),
+        ("room", Fails::Room, 30),
+    ] {
+        for n in 0..count {
+            assert!(rt; ends_so(rt.alloc(), fails, n)?, "{name} {n}");
+        }
+    }
+    Ok(())
 }
 
 // The second read of another script fails, and the third write.
@@ -43,64 +82,6 @@ fn a_read_and_a_write_fail(rt: HostRuntime) -> Result<(), Fail> {
     let ended = torn(rt.alloc(), SCRIPT, (0, 11), 100, (3, 10))?;
     assert!(rt; ended.answer == Err(RunFault::WriteFault) && ended.left == 0);
     assert!(rt; ended.taken.as_slice() == b"polygon,6\npath,3,4,1".as_slice());
-    Ok(())
-}
-
-#[test]
-fn each_read_fails_in_turn(rt: HostRuntime) -> Result<(), Fail> {
-    for call in 1..47 {
-        let want = (Err(RunFault::ReadFault), 0, 46 - call as usize);
-        assert!(rt;
-            ends(rt.alloc(), (call, 1), 100, (0, 10), want)?,
-            "read {call}"
-        );
-    }
-    Ok(())
-}
-
-#[test]
-fn each_write_fails_in_turn(rt: HostRuntime) -> Result<(), Fail> {
-    for call in 1..30 {
-        let want = (Err(RunFault::WriteFault), call as usize - 1, 0);
-        assert!(rt;
-            ends(rt.alloc(), (0, 10), 100, (call, 1), want)?,
-            "write {call}"
-        );
-    }
-    Ok(())
-}
-
-#[test]
-fn each_room_is_too_small_in_turn(rt: HostRuntime) -> Result<(), Fail> {
-    for room in 0..29 {
-        let want = (Err(RunFault::WriteFault), room, 0);
-        assert!(rt;
-            ends(rt.alloc(), (0, 10), room, (0, 10), want)?,
-            "room {room}"
-        );
-    }
-    Ok(())
-}
-
-#[test]
-fn faults_that_do_not_come(rt: HostRuntime) -> Result<(), Fail> {
-    let whole = (Ok(()), 29, 0);
-    assert!(rt;
-        ends(rt.alloc(), (0, 1), 100, (0, 10), whole)?,
-        "no read fails"
-    );
-    assert!(rt;
-        ends(rt.alloc(), (47, 1), 100, (0, 10), whole)?,
-        "a read after the last"
-    );
-    assert!(rt;
-        ends(rt.alloc(), (0, 10), 29, (0, 10), whole)?,
-        "just room enough"
-    );
-    assert!(rt;
-        ends(rt.alloc(), (0, 10), 100, (30, 1), whole)?,
-        "a write after the last"
-    );
     Ok(())
 }
 

@@ -8,6 +8,8 @@ mod answers;
 #[cfg(test)]
 mod chains;
 #[cfg(test)]
+mod counted;
+#[cfg(test)]
 mod faults;
 #[cfg(test)]
 mod full_chains;

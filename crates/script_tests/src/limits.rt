@@ -59,10 +59,7 @@ fn long_polygons(rt: HostRuntime) -> Result<(), Fail> {
     ];
     for (front, rest, answers) in rows {
         let script = with_comb(rt.alloc(), front, 2048, rest)?;
-        assert!(rt;
-            is_answered(rt.alloc(), &script, answers)?,
-            "{front}"
-        );
+        assert!(rt; is_answered(rt.alloc(), &script, answers)?, "{front}");
     }
     Ok(())
 }
@@ -106,10 +103,7 @@ fn are_told(
     let script = with_comb(alloc, front, 511, "\npair,0,1023\npair,511,512\nsights\n")?;
     assert!(rt; has_first(alloc, &script, first)?, "1,024 vertices");
     let script = with_comb(alloc, front, 511, ",0,1\npair,0,1\nsights\n")?;
-    assert!(rt;
-        is_answered(alloc, &script, refused)?,
-        "1,025 vertices"
-    );
+    assert!(rt; is_answered(alloc, &script, refused)?, "1,025 vertices");
     Ok(())
 }
 

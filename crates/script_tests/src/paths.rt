@@ -1,9 +1,6 @@
 // Paths, trees of paths, and paths between vertices and the pairs of them that see each other.
-use crate::runs::all_answered;
-use std::test::Fail;
-
 #[rattlefmt::skip]
-const PATHS: &str = "
+pub(crate) const PATHS: &str = "
 # a path round the corner of an L
 polygon,0,0,4,0,4,2,2,2,2,4,0,4
 path,4,1,1,4
@@ -235,9 +232,3 @@ sight,1,2
 polygon,6
 path,3,4,2,2,2,2,4
 ";
-
-#[test]
-fn paths_and_trees(rt: HostRuntime) -> Result<(), Fail> {
-    all_answered(&rt, rt.alloc(), PATHS, 19)?;
-    Ok(())
-}

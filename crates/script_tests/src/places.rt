@@ -1,9 +1,6 @@
 // Which lists are polygons, where points are, and which lists of points are taut.
-use crate::runs::all_answered;
-use std::test::Fail;
-
 #[rattlefmt::skip]
-const PLACES: &str = "
+pub(crate) const PLACES: &str = "
 # an L is accepted
 polygon,0,0,4,0,4,2,2,2,2,4,0,4
 =
@@ -132,9 +129,3 @@ not,leaves,0
 not,not_reflex,1
 not,wrong_side,1
 ";
-
-#[test]
-fn places_and_verdicts(rt: HostRuntime) -> Result<(), Fail> {
-    all_answered(&rt, rt.alloc(), PLACES, 15)?;
-    Ok(())
-}

@@ -1,9 +1,6 @@
 // Records that are refused, each with its cause, and strange ones that are not.
-use crate::runs::{all_answered, is_answered};
-use std::test::Fail;
-
 #[rattlefmt::skip]
-const REFUSALS: &str = "
+pub(crate) const REFUSALS: &str = "
 # causes of refusals, in turn
 frob,1
 polygon,0,0,1
@@ -256,13 +253,3 @@ bad,number,1
 bad,number,1
 edge
 ";
-
-#[test]
-fn refusals(rt: HostRuntime) -> Result<(), Fail> {
-    all_answered(&rt, rt.alloc(), REFUSALS, 17)?;
-    assert!(rt;
-        is_answered(rt.alloc(), b"\xff", "bad,word\n")?,
-        "a byte that begins no character"
-    );
-    Ok(())
-}

@@ -1,11 +1,17 @@
 // Runs over scripts in memory, and how a table of scripts with their answers is asked.
 ghost use Rattle.std.specs.Prelude.{◌≤◌};
 
+use crate::paths::PATHS;
+use crate::places::PLACES;
+use crate::refusals::REFUSALS;
+use crate::versions::VERSIONS;
+use crate::views::VIEWS;
 use exact_plane::Memory;
 use geo_io::{MemorySink, MemorySource};
 use geo_run::{RunFault, geo_main};
 use std::alloc::Global;
 use std::process::Abort;
+use std::test::Fail;
 
 // The number of a call that fails (none does at 0), and how many bytes a call moves at most.
 pub(crate) type Tear = (u64, usize);
@@ -73,25 +79,43 @@ sight,4,5
 // Whether these are the answers of a row, in which a line `[sights of an L]` stands for what `sights` answers there.
 pub(crate) fn are_answers(taken: &[u8], answers: &str) -> bool {
     match answers.split_once("[sights of an L]\n") {
-        Some((front, rest)) => are_around_sights(taken, front, rest) == Some(true),
+        Some((front, rest)) => are_around_sights(taken, front, rest),
         None => taken == answers.as_bytes(),
     }
 }
 
-fn are_around_sights(taken: &[u8], front: &str, rest: &str) -> Option<bool> {
-    let taken = taken.strip_prefix(front.as_bytes())?;
-    let taken = taken.strip_prefix(SIGHTS.as_bytes())?;
-    Some(taken == rest.as_bytes())
+fn are_around_sights(taken: &[u8], front: &str, rest: &str) -> bool {
+    if let Some(taken) = taken.strip_prefix(front.as_bytes())
+        && let Some(taken) = taken.strip_prefix(SIGHTS.as_bytes())
+    {
+        taken == rest.as_bytes()
+    } else {
+        false
+    }
+}
+
+// Each table, with the number of its rows.
+#[test]
+fn each_script_is_answered(rt: HostRuntime) -> Result<(), Fail> {
+    for (table, count) in [
+        (PLACES, 15),
+        (PATHS, 19),
+        (VIEWS, 18),
+        (REFUSALS, 17),
+        (VERSIONS, 15),
+    ] {
+        all_answered(&rt, rt.alloc(), table, count)?;
+    }
+    assert!(rt;
+        is_answered(rt.alloc(), b"\xff", "bad,word\n")?,
+        "a byte that begins no character"
+    );
+    Ok(())
 }
 
 // Each script of the table is answered so. A row is a line `# NAME`, the script up to a `=`, and after a line feed the
 // answers; an empty line is before each next row. A script ends with a line feed where the `=` is a line of its own.
-pub(crate) fn all_answered(
-    rt: &impl Abort,
-    alloc: Global,
-    table: &str,
-    count: usize,
-) -> Result<(), Memory> {
+fn all_answered(rt: &impl Abort, alloc: Global, table: &str, count: usize) -> Result<(), Memory> {
     assert!(rt; table.split("\n# ").skip(1).count() == count);
     for row in table.split("\n# ").skip(1) {
         let (name, script, answers) = parts(row).unwrap_or((row, "", "no answers"));
@@ -103,7 +127,11 @@ pub(crate) fn all_answered(
 
 // The name, the script or the piece, and the answers of a row.
 pub(crate) fn parts(row: &str) -> Option<(&str, &str, &str)> {
-    let (name, rest) = row.split_once("\n")?;
-    let (script, answers) = rest.split_once("=\n")?;
-    Some((name, script, answers))
+    if let Some((name, rest)) = row.split_once("\n")
+        && let Some((script, answers)) = rest.split_once("=\n")
+    {
+        Some((name, script, answers))
+    } else {
+        None
+    }
 }

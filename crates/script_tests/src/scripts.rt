@@ -1,13 +1,10 @@
 // Scripts and what they read as: a line for each record, with the points of a command or the refusal. Each row is a name, a
 // script, a line with an equals sign, and the reading.
-ghost use Rattle.std.specs.Prelude.{◌≡◌, ◌<◌};
-
 use crate::readings::readings;
 use exact_plane::Steps;
-use std::alloc::Global;
-use std::marker::Brand;
+use std::alloc::{AllocError, Global};
 use std::process::Abort;
-use std::sync::ledger::{Blank, Ledger};
+use std::sync::ledger::Ledger;
 
 const OF_VERSION_1: &str = "\
 plain
@@ -674,60 +671,61 @@ const OTHERS: [(&str, &[u8], &[u8]); 6] = [
     ("empty lines in version 2", b"\n\r\ngeo,2\nkernel\n", b"two\nkernel\n"),
 ];
 
-#[test]
-fn scripts(rt: HostRuntime) {
-    all_scripts::<Brand, _>(&rt, rt.alloc(), Blank::new(1));
-}
-
-// With a counter over a ledger that nobody else counts in.
-fn all_scripts<L: Ledger, R: Abort>(rt: &R, alloc: Global, blank: Blank)
-    requires name { blank.name ≡ L.name }
-    requires parts { blank.parts ≡ L.parts }
-    requires countable { 0 < blank.parts }
-{
-    let mut steps = Steps::<L>::new(blank);
+pub(crate) fn scripts<L: Ledger, R: Abort>(rt: &R, alloc: Global, steps: &mut Steps<L>) {
     for table in [OF_VERSION_1, OF_VERSION_2, LONG] {
         for row in table.split("\n\n") {
-            assert!(rt; is_read(alloc, row, &mut steps) == Some(true), "{row}");
+            assert!(rt; is_read(alloc, row, steps), "{row}");
         }
     }
     for (name, script, want) in OTHERS {
-        assert!(rt;
-            reads_as(alloc, script, want, &mut steps) == Some(true),
-            "{name}"
-        );
+        assert!(rt; reads_as(alloc, script, want, steps), "{name}");
     }
 }
 
-fn is_read<L: Ledger>(alloc: Global, row: &str, steps: &mut Steps<L>) -> Option<bool> {
-    let (_, rest) = row.split_once('\n')?;
-    let (script, want) = rest.split_once("\n=\n")?;
-    let (script, want) = (expanded(alloc, script)?, expanded(alloc, want)?);
-    reads_as(alloc, &script, &want, steps)
+fn is_read<L: Ledger>(alloc: Global, row: &str, steps: &mut Steps<L>) -> bool {
+    if let Some((_, rest)) = row.split_once('\n')
+        && let Some((script, want)) = rest.split_once("\n=\n")
+        && let Some(script) = expanded(alloc, script)
+        && let Some(want) = expanded(alloc, want)
+    {
+        reads_as(alloc, &script, &want, steps)
+    } else {
+        false
+    }
 }
 
-fn reads_as<L: Ledger>(
-    alloc: Global,
-    script: &[u8],
-    want: &[u8],
-    steps: &mut Steps<L>,
-) -> Option<bool> {
-    let found = readings(alloc, script, steps).ok()?;
-    Some(found.as_slice() == want)
+fn reads_as<L: Ledger>(alloc: Global, script: &[u8], want: &[u8], steps: &mut Steps<L>) -> bool {
+    match readings(alloc, script, steps) {
+        Ok(found) => found.as_slice() == want,
+        Err(_) => false,
+    }
 }
 
 // A text and a last line feed, with the part in brackets, if there is one, as often as the text says.
 fn expanded(alloc: Global, text: &str) -> Option<Vec<u8>> {
     let (front, rest) = text.split_once('[').unwrap_or((text, "*0]"));
-    let (part, rest) = rest.split_once('*')?;
-    let (count, end) = rest.split_once(']')?;
-    let count: usize = count.parse().ok()?;
-    let mut all = Vec::new(alloc);
-    all.extend_from_slice(front.as_bytes()).ok()?;
-    for _ in 0..count {
-        all.extend_from_slice(part.as_bytes()).ok()?;
+    if let Some((part, rest)) = rest.split_once('*')
+        && let Some((count, end)) = rest.split_once(']')
+        && let Ok(count) = count.parse()
+    {
+        repeated(alloc, front, part, count, end).ok()
+    } else {
+        None
     }
-    all.extend_from_slice(end.as_bytes()).ok()?;
-    all.push(b'\n').ok()?;
-    Some(all)
+}
+
+fn repeated(
+    alloc: Global,
+    front: &str,
+    part: &str,
+    count: usize,
+    end: &str,
+) -> Result<Vec<u8>, AllocError> {
+    let mut all = Vec::from_slice(alloc, front.as_bytes())?;
+    for _ in 0..count {
+        all.extend_from_slice(part.as_bytes())?;
+    }
+    all.extend_from_slice(end.as_bytes())?;
+    all.push(b'\n')?;
+    Ok(all)
 }

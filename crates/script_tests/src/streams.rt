@@ -13,10 +13,7 @@ const TEXT: &str = "abcdefg";
 #[test]
 fn reads_all_bytes_within_the_limit(rt: HostRuntime) {
     for (piece, limit) in [(1, 7), (3, 7), (7, 8), (100, 7)] {
-        assert!(rt;
-            reads(rt.alloc(), piece, limit) == Some(true),
-            "in pieces of {piece}"
-        );
+        assert!(rt; reads(rt.alloc(), piece, limit), "in pieces of {piece}");
     }
 }
 
@@ -27,13 +24,16 @@ fn source(alloc: Global, piece: usize, failing: &[u64]) -> Option<MemorySource>
     Some(MemorySource::new(bytes, piece, Vec::from_slice(alloc, failing).ok()?))
 }
 
-fn reads(alloc: Global, piece: usize, limit: usize) -> Option<bool> {
-    if piece < 1 || 8 < limit {
-        return None;
+fn reads(alloc: Global, piece: usize, limit: usize) -> bool {
+    if 1 <= piece
+        && limit <= 8
+        && let Some(mut source) = source(alloc, piece, &[])
+        && let Ok(bytes) = read_all(alloc, &mut source, limit)
+    {
+        bytes.as_slice() == TEXT.as_bytes()
+    } else {
+        false
     }
-    let mut source = source(alloc, piece, &[])?;
-    let bytes = read_all(alloc, &mut source, limit).ok()?;
-    Some(bytes.as_slice() == TEXT.as_bytes())
 }
 
 // How many bytes a call gives at most, the call that fails, the limit, the refusal, and what the source has left.
@@ -48,7 +48,7 @@ fn stops_at_a_fault_and_past_the_limit(rt: HostRuntime) {
         (1, 9, 0, ReadEnd::TooLong, "bcdefg"),
     ] {
         assert!(rt;
-            stops(rt.alloc(), piece, failing, limit, end, left) == Some(true),
+            stops(rt.alloc(), piece, failing, limit, end, left),
             "at {left}"
         );
     }
@@ -61,13 +61,16 @@ fn stops(
     limit: usize,
     end: ReadEnd,
     left: &str,
-) -> Option<bool> {
-    if piece < 1 || 8 < limit {
-        return None;
+) -> bool {
+    if 1 <= piece
+        && limit <= 8
+        && let Some(mut source) = source(alloc, piece, &[failing])
+        && let Err(found) = read_all(alloc, &mut source, limit)
+    {
+        found == end && source.left() == left.as_bytes()
+    } else {
+        false
     }
-    let mut source = source(alloc, piece, &[failing])?;
-    let found = read_all(alloc, &mut source, limit).err()?;
-    Some(found == end && source.left() == left.as_bytes())
 }
 
 // The room, how many bytes a call takes at most, the call that fails, the answer, and what the sink took.
@@ -82,7 +85,7 @@ fn writes_all_bytes_or_their_front(rt: HostRuntime) {
         (7, 3, 2, Err(Failed), "abc"),
     ] {
         let is_written = writes(rt.alloc(), room, piece, failing, written, taken);
-        assert!(rt; is_written == Some(true), "with room {room}");
+        assert!(rt; is_written, "with room {room}");
     }
 }
 
@@ -93,14 +96,15 @@ fn writes(
     failing: u64,
     written: Result<(), Failed>,
     taken: &str,
-) -> Option<bool> {
-    if piece < 1 {
-        return None;
+) -> bool {
+    if 1 <= piece
+        && let Ok(failing) = Vec::from_slice(alloc, &[failing])
+        && let Ok(mut sink) = MemorySink::with_room(alloc, room, piece, failing)
+    {
+        write_all(&mut sink, TEXT.as_bytes()) == written && sink.taken() == taken.as_bytes()
+    } else {
+        false
     }
-    let failing = Vec::from_slice(alloc, &[failing]).ok()?;
-    let mut sink = MemorySink::with_room(alloc, room, piece, failing).ok()?;
-    let found = write_all(&mut sink, TEXT.as_bytes());
-    Some(found == written && sink.taken() == taken.as_bytes())
 }
 
 // The room of each call, what it gives, and what is left then.
@@ -113,7 +117,7 @@ fn a_sure_source_gives_all_that_fits(rt: HostRuntime) {
         (9, "efg", ""),
         (2, "", ""),
     ] {
-        assert!(rt; gives(&mut source, room, given) == Some(true), "at {given}");
+        assert!(rt; gives(&mut source, room, given), "at {given}");
         assert!(rt; source.left() == left.as_bytes(), "at {given}");
     }
 }
@@ -122,25 +126,30 @@ fn sure(alloc: Global) -> Option<SureSource> {
     Some(SureSource::new(Vec::from_slice(alloc, TEXT.as_bytes()).ok()?))
 }
 
-fn gives(source: &mut SureSource, room: usize, given: &str) -> Option<bool> {
+fn gives(source: &mut SureSource, room: usize, given: &str) -> bool {
     let mut bytes = [0u8; 9];
-    let into = bytes.get_mut(..room)?;
-    if into.is_empty() {
-        return None;
+    if let Some(into) = bytes.get_mut(..room)
+        && !into.is_empty()
+        && let Ok(count) = source.read_some(into)
+    {
+        count == given.len() && into.get(..count) == Some(given.as_bytes())
+    } else {
+        false
     }
-    let count = source.read_some(into).ok()?;
-    Some(count == given.len() && into.get(..count)? == given.as_bytes())
 }
 
 #[test]
 fn from_a_sure_source_to_a_sure_sink(rt: HostRuntime) {
-    assert!(rt; passes(rt.alloc()) == Some(true));
+    assert!(rt; passes(rt.alloc()));
     assert!(rt; SureSink::new().write_some(TEXT.as_bytes()) == Ok(7));
 }
 
-fn passes(alloc: Global) -> Option<bool> {
-    let mut source = sure(alloc)?;
-    let bytes = read_all(alloc, &mut source, 7).ok()?;
-    let written = write_all(&mut SureSink::new(), &bytes);
-    Some(bytes.as_slice() == TEXT.as_bytes() && written == Ok(()))
+fn passes(alloc: Global) -> bool {
+    if let Some(mut source) = sure(alloc)
+        && let Ok(bytes) = read_all(alloc, &mut source, 7)
+    {
+        bytes.as_slice() == TEXT.as_bytes() && write_all(&mut SureSink::new(), &bytes) == Ok(())
+    } else {
+        false
+    }
 }

@@ -1,9 +1,6 @@
 // Scripts of version 2, and others that begin almost like one.
-use crate::runs::all_answered;
-use std::test::Fail;
-
 #[rattlefmt::skip]
-const VERSIONS: &str = "
+pub(crate) const VERSIONS: &str = "
 # a path and the sides of a hull name what they touch
 geo,2
 polygon,0,0,4,0,4,2,2,2,2,4,0,4
@@ -188,9 +185,3 @@ round,3,0,1,2
 guards,1,3
 [sights of an L]
 ";
-
-#[test]
-fn versions(rt: HostRuntime) -> Result<(), Fail> {
-    all_answered(&rt, rt.alloc(), VERSIONS, 15)?;
-    Ok(())
-}

@@ -1,9 +1,6 @@
 // What a point sees, what all points see, hulls of points and the order round them, and guards.
-use crate::runs::all_answered;
-use std::test::Fail;
-
 #[rattlefmt::skip]
-const VIEWS: &str = "
+pub(crate) const VIEWS: &str = "
 # a view from a side of an L
 polygon,0,0,5,0,5,2,3,2,3,5,0,5
 see,5,1
@@ -235,9 +232,3 @@ guards
 polygon,6
 guards,1,2
 ";
-
-#[test]
-fn views_and_hulls(rt: HostRuntime) -> Result<(), Fail> {
-    all_answered(&rt, rt.alloc(), VIEWS, 18)?;
-    Ok(())
-}
