@@ -2,13 +2,14 @@
 -- after it have the same class exactly where the fan has an even number of triangles.
 use Rattle.std.proofs.Common.{◌≡◌, ◌≢◌, ◌⊎◌, inl, inr, refl, sym, ap, subst, ◌∙◌, ℕ, zero, suc, ◌+◌, ◌-◌, ◌%◌, ◌<◌, List, [], ◌∷◌, ◌++◌, length, get_or, arith}
 use Rattle.std.proofs.lemmas.Bool.{cases_eq}
+use Rattle.std.proofs.lemmas.List.FromFn.{get_or-range_with_len, length-range_with_len}
 use Rattle.std.proofs.Math.Nat.{mod-eq_of_lt}
 use Rattle.std.specs.List.{Contains, range_with_len}
 use Rattle.plane.specs.Point.{Point}
 use Rattle.rings.specs.Simple.{IsSimple}
 use Rattle.meshes.proofs.Ears.{ear_law, is_rest}
 use Rattle.meshes.proofs.Joins.{next_place}
-use Rattle.meshes.proofs.Sides.{corners_differ, edge_or_not, one_at_edge, one_number, ring_edge_from}
+use Rattle.meshes.proofs.Sides.{corners_differ, edge_or_not, one_at_edge, one_number}
 use Rattle.meshes.proofs.TreeLeaves.{leaves_law}
 use Rattle.meshes.specs.Fits.{Fits, FitsPiece, IsPieceEdge, IsSideOfOne, piece_points}
 use Rattle.meshes.specs.Laws.{IsEarOff, IsLeaf, without}
@@ -358,6 +359,17 @@ module _ (corners : List Point) where
       let fans = fans_of_some n (off.before ++ off.after) (without k tris) off.rest fewer f parts_of_rest in
       fans_with_ear piece tris fits k leaf off f parts fans
 
+-- from a vertex to the next there is an edge, unless it is the last
+edge_onward : (n i : ℕ) → i + 1 < n → IsPieceEdge (range_with_len 0 n) i (i + 1)
+edge_onward n i below =
+    let next : (i + 1) % length (range_with_len 0 n) ≡ i + 1 = mod-eq_of_lt (omega (arith, below, length-range_with_len 0 n)) in
+    record {
+      place = i;
+      in_piece = omega (arith, below, length-range_with_len 0 n);
+      from = get_or-range_with_len 0 n i 0 (omega (arith, below));
+      to = ap (λ p. get_or (range_with_len 0 n) p 0) next ∙ get_or-range_with_len 0 n (i + 1) 0 below;
+    }
+
 -- ---- a ring
 
 module _ (corners : List Point) (tris : List Tri) (fits : Fits corners tris) (f : ℕ → ℕ) (parts : PartsInThree tris f) where
@@ -382,9 +394,10 @@ module _ (corners : List Point) (tris : List Tri) (fits : Fits corners tris) (f 
       let some = some_triangle corners tris fits in
       let next : i + 1 < n = omega arith in
       let last : (i + 1) + 1 < n = omega arith in
-      let first_edge = subst (IsPieceEdge piece i) (mod-eq_of_lt next) (ring_edge_from n i (omega arith)) in
-      let second_edge = subst (IsPieceEdge piece (i + 1)) (mod-eq_of_lt last) (ring_edge_from n (i + 1) next) in
-      let fan = fans_of_some corners (length tris - 1) piece tris fits (omega (arith, some)) f parts i (i + 1) ((i + 1) + 1) first_edge second_edge in
+      let fan =
+      fans_of_some corners (length tris - 1) piece tris fits (omega (arith, some)) f parts i (i + 1) ((i + 1) + 1) (edge_onward n i next)
+      (edge_onward n (i + 1) last)
+      in
       let one = next_differs i next in
       let two = next_differs (i + 1) last in
       let is = after_fan (degree tris (i + 1)) (f i) (f (i + 1)) (f ((i + 1) + 1)) one.0 two.0 two.1 one.2 two.2 fan in
