@@ -362,12 +362,17 @@ module _ (corners : List Point) where
 -- from a vertex to the next there is an edge, unless it is the last
 edge_onward : (n i : ℕ) → i + 1 < n → IsPieceEdge (range_with_len 0 n) i (i + 1)
 edge_onward n i below =
-    let next : (i + 1) % length (range_with_len 0 n) ≡ i + 1 = mod-eq_of_lt (omega (arith, below, length-range_with_len 0 n)) in
+    let piece = range_with_len 0 n in
+    let next : (i + 1) % length piece ≡ i + 1 = mod-eq_of_lt (omega (arith, below, length-range_with_len 0 n)) in
+    let here : get_or piece i 0 ≡ 0 + i = get_or-range_with_len 0 n i 0 (omega (arith, below)) in
+    let there : get_or piece (i + 1) 0 ≡ 0 + (i + 1) = get_or-range_with_len 0 n (i + 1) 0 below in
+    let is : get_or piece (i + 1) 0 ≡ i + 1 = omega (arith, there) in
+    let at_next : get_or piece ((i + 1) % length piece) 0 ≡ get_or piece (i + 1) 0 = ap (λ p. get_or piece p 0) next in
     record {
       place = i;
       in_piece = omega (arith, below, length-range_with_len 0 n);
-      from = get_or-range_with_len 0 n i 0 (omega (arith, below));
-      to = ap (λ p. get_or (range_with_len 0 n) p 0) next ∙ get_or-range_with_len 0 n (i + 1) 0 below;
+      from = omega (arith, here);
+      to = at_next ∙ is;
     }
 
 -- ---- a ring
