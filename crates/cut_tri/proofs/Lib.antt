@@ -19,7 +19,6 @@ mod Readings
 mod RotatedCuts
 mod SeenVertices
 mod Shapes
-mod SideProducts
 mod Thinned
 mod TriangleBoxes
 mod WholePiece

@@ -115,7 +115,7 @@ impl Side {
     }
 
     // Whether a point is right of its line.
-    #[tactic(auto, using(crate::proofs::SideProducts::side_products))]
+    #[tactic(auto, using(exact_plane::proofs::CrossProduct::products))]
     fn has_on_right(&self, x: i64, y: i64) -> bool
         requires small { HasSmallNumbers self.now }
         requires x { unsigned_abs x < 2 ^ 32 }

@@ -52,8 +52,8 @@ module _ (v z : Point) (ms ns : List Point) (c : ArePieces v z ms ns) (a b : Poi
       (off_ring v z ms ns c m at_m on neither, winding_on_diagonal v z ms ns c a b left right m at_m on neither)
 
   module _ (p : Triple) (at_p : IsPoint p) (off : ¬ (IsOnSome (both_chains v z ms ns) p)) where
-    -- where both pieces wind once round it, and it is not on the diagonal, the way far away misses the edges and the diagonal
-    module _ (beside : ¬ (On p (whole v) (whole z))) (first : winding (edges_of (v ∷ z ∷ ms)) p ≡ pos 1)
+    -- where both pieces wind once round it, the way far away misses the edges and the diagonal
+    module _ (first : winding (edges_of (v ∷ z ∷ ms)) p ≡ pos 1)
         (second : winding (edges_of (z ∷ v ∷ ns)) p ≡ pos 1) where
       -- the edges and the diagonal
       abbrev all : List Edge
@@ -127,7 +127,7 @@ module _ (v z : Point) (ms ns : List Point) (c : ArePieces v z ms ns) (a b : Poi
           | inr k ↦ off (on_some_right p (edges_along z ms v) (edges_along v ns z) k)
         ] in
         sum_value _ _ _ (pieces_winding v z ms ns p) (c.first_values p at_p first_off) (c.second_values p at_p second_off)
-        (λ h. not_both_once beside h.0 h.1)
+        (λ h. not_both_once h.0 h.1)
 
     -- so it does everywhere
     pub two_pieces_values : IsZeroOrOne (winding (both_chains v z ms ns) p)

@@ -82,7 +82,7 @@ module _ (es : List Edge) (apart : AreApart es) (u v w : Point) (left : IsLeft (
       (less_than_area _ _ _ _ _ (areas_add u v w z) (determinant_swap_first (whole u) (whole w) (whole z)) first_piece_turns left_of_other)
 
   -- a point on the way from v to z, by its weights
-  module _ (x : Triple) (at_x : IsPoint x) (c : IsCombination x (whole v) (whole z)) where
+  module _ (x : Triple) (c : IsCombination x (whole v) (whole z)) where
     -- off v it is strictly left of the first side,
     way_left_of_first : pos 0 <ℤ c.m → IsLeft (whole u) (whole v) x
     way_left_of_first some =
@@ -127,10 +127,10 @@ module _ (es : List Edge) (apart : AreApart es) (u v w : Point) (left : IsLeft (
       not_beyond end some = elim (at_v e has end) [
         | inl same ↦
             let on = combination_of_ends x u v at_x (subst (λ (g : Edge). IsOn g x) same on_edge) in
-            positive_not_zero (way_left_of_first x at_x c some) (combination_is_straight x (whole u) (whole v) on)
+            positive_not_zero (way_left_of_first x c some) (combination_is_straight x (whole u) (whole v) on)
         | inr same ↦
             let on = combination_of_ends x v w at_x (subst (λ (g : Edge). IsOn g x) same on_edge) in
-            positive_not_zero (way_left_of_second x at_x c some) (combination_is_straight x (whole v) (whole w) on)
+            positive_not_zero (way_left_of_second x c some) (combination_is_straight x (whole v) (whole w) on)
       ]
 
       -- nor has an edge with an end that is higher than z
@@ -145,8 +145,8 @@ module _ (es : List Edge) (apart : AreApart es) (u v w : Point) (left : IsLeft (
               | inr (inr (inl same)) ↦ positive_not_zero (at w same) (height_of_last u v w)
               | inr (inr (inr low)) ↦ not_below low above
             ]
-            | inr outside ↦ elim (way_out es apart u v w first second e has left x at_x on_edge (way_left_of_first x at_x c some)
-                (way_left_of_second x at_x c some) (way_not_low x at_x c) a end outside (weak high)) [
+            | inr outside ↦ elim (way_out es apart u v w first second e has left x at_x on_edge (way_left_of_first x c some)
+                (way_left_of_second x c some) (way_not_low x c) a end outside (weak high)) [
                   | at_middle h ↦ not_beyond h some
                   | at_first h right flat ↦ flat high
                   | at_last h right flat ↦ flat high
