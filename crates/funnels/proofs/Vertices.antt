@@ -1,9 +1,7 @@
 -- A vertex of a ring, the triangles there, and its two edges.
 
--- Right of an edge, near an end of it, nothing is in a ring where no edge at that end is right of this one; so at a vertex that is not reflex
--- the ring is in the half-planes of both edges.
-mod ConvexVertices
-pub use Rattle.funnels.proofs.Vertices.ConvexVertices.{convex_vertex}
+-- Left of an edge of a ring that runs clockwise: not all points near the middle of the edge, toward a point on its left, are in the ring.
+mod ClockwiseEdges
 -- A triangle of a mesh at one of its corners: no neighbour of the corner in the ring is strictly inside the angle there, nor on the ray along
 -- a side that two triangles share.
 mod CornerTriangles

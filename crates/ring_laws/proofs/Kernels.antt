@@ -8,3 +8,7 @@ mod VertexHits
 -- A point that is right of no edge of a ring whose vertices are within the limit is in the square of the limit.
 mod RightOfNone
 pub use Rattle.ring_laws.proofs.Kernels.RightOfNone.{counterclockwise_winds, kernel_law, right_of_none_in_square}
+-- Right of an edge, near an end of it, nothing is in a ring where no edge at that end is right of this one; so at a vertex that is not reflex
+-- the ring is in the half-planes of both edges.
+mod ConvexVertices
+pub use Rattle.ring_laws.proofs.Kernels.ConvexVertices.{convex_vertex}

@@ -28,7 +28,7 @@ mod FarthestVertex
 -- A corner among edges that are apart, with a left turn: what meets the triangle there, and the farthest end in it.
 mod CornerLaws
 pub use Rattle.ring_laws.proofs.Triangles.CornerLaws.{IsCorner, IsFarthestEnd, corner_base_meets, corner_not_entered, farthest_between}
-pub use Rattle.ring_laws.proofs.Triangles.CornerLaws.{farthest_meets}
+pub use Rattle.ring_laws.proofs.Triangles.CornerLaws.{farthest_below, farthest_beside, farthest_meets}
 -- Closed triangles: their corners, the points on their sides, segments within them, and heights over a side.
 mod Triangles
 pub use Rattle.ring_laws.proofs.Triangles.Triangles.{between_in_triangle, first_in_triangle, in_or_not, in_triangle, last_in_triangle, left_at_first}

@@ -25,6 +25,7 @@ use Rattle.rings.specs.Ring.{vertex}
 use Rattle.rings.specs.Simple.{IsSimple}
 use Rattle.ring_laws.proofs.Triangles.{left_of, left_of_is_left}
 use Rattle.ring_laws.proofs.Vertices.{beside_differs, vertex_beside}
+use Rattle.ring_laws.proofs.Kernels.{convex_vertex}
 use Rattle.meshes.specs.Fits.{Fits, IsInTri}
 use Rattle.meshes.specs.Side.{tri_at}
 use Rattle.meshes.specs.declared.tri.Tri.{Tri}
@@ -35,7 +36,7 @@ use Rattle.funnels.proofs.Bends.SameRays.{AreOnRay, on_ray_back, turning_from_ra
 use Rattle.funnels.proofs.Bends.SameRays.{two_rays}
 use Rattle.funnels.proofs.Bends.TriangleFans.{corner_in_ring, in_piece, neighbour_differs, last_step}
 use Rattle.funnels.proofs.Bends.Turnings.{turning_four, turning_swap}
-use Rattle.funnels.proofs.Vertices.{convex_vertex, IsSharedSide, fitted_long, fitted_simple, off_shared}
+use Rattle.funnels.proofs.Vertices.{IsSharedSide, fitted_long, fitted_simple, off_shared}
 use Rattle.funnels.specs.Corner.{HasCornerOn}
 use Rattle.funnels.specs.Fan.{AllNotRight, IsTurning, IsLastStep}
 use Rattle.funnels.specs.Fanned.{IsOpenToward, turning, IsFanned, IsNextTo}

@@ -23,7 +23,7 @@ use Rattle.meshes.proofs.Sight.{triangle_in_ring}
 use Rattle.meshes.specs.Fits.{Fits, IsPieceEdge, IsSideOfOne}
 use Rattle.meshes.specs.Side.{tri_at}
 use Rattle.meshes.specs.declared.tri.Tri.{Tri}
-use Rattle.funnels.proofs.Vertices.ConvexVertices.{not_clockwise}
+use Rattle.funnels.proofs.Vertices.ClockwiseEdges.{not_clockwise}
 
 -- the first edge of a ring goes from vertex 0 to vertex 1
 first_edge : (n : ℕ) → 1 < n → IsPieceEdge (range_with_len 0 n) 0 1

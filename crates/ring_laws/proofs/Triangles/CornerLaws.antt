@@ -1,12 +1,12 @@
 -- A corner among edges that are apart, with a left turn: what meets the triangle there, and the farthest end in it.
-use Rattle.std.proofs.Common.{◌≡◌, ◌⊎◌, inl, inr, sym, ◌≤ℤ◌, List}
+use Rattle.std.proofs.Common.{◌≡◌, ◌⊎◌, inl, inr, sym, ◌<ℤ◌, ◌≤ℤ◌, List}
 use Rattle.plane.specs.Point.{IsPoint, Point, Triple, whole}
 use Rattle.plane.specs.Triangle.{IsInTriangle, height_over}
 use Rattle.plane.specs.Turn.{IsLeft}
 use Rattle.rings.specs.Apart.{AreApart, IsCommonEnd, MeetAtEnds}
 use Rattle.rings.specs.Edge.{Edge, HasEdge, HasEnd, IsOn, edge}
 use Rattle.ring_laws.proofs.Triangles.NoneEnters.{base_is_diagonal, none_enters}
-use Rattle.ring_laws.proofs.Triangles.FarthestVertex.{farthest_is_diagonal, first_piece_turns, second_piece_turns}
+use Rattle.ring_laws.proofs.Triangles.FarthestVertex.{below_middle, farthest_is_diagonal, first_piece_turns, none_higher_beside, second_piece_turns}
 
 -- edges that are apart, with a left turn at v from uv to vw, which are the only edges at v
 pub record IsCorner (es : List Edge) (u v w : Point) : Type 0 where
@@ -63,3 +63,16 @@ module _ (es : List Edge) (u v w : Point) (c : IsCorner es u v w) where
       second_piece_turns es c.apart u v w c.left c.has_first c.has_second z end.in_triangle end.not_u end.not_v end.not_w
           end.with_edge end.has_edge end.is_end,
     )
+
+    -- It is not as far as v,
+    pub farthest_below : height_over u w (whole z) <ℤ height_over u w (whole v)
+    farthest_below =
+        below_middle es c.apart u v w c.left c.has_first c.has_second z end.in_triangle end.not_u end.not_v end.not_w
+        end.with_edge end.has_edge end.is_end
+
+    -- and no end beside it is farther
+    pub farthest_beside : (e : Edge) → HasEdge es e → HasEnd e z → (a : Point) → HasEnd e a
+        → ¬ (height_over u w (whole z) <ℤ height_over u w (whole a))
+    farthest_beside =
+        none_higher_beside es c.apart u v w c.left c.has_first c.has_second z end.in_triangle end.not_u end.not_v end.not_w
+        end.with_edge end.has_edge end.is_end at_corner (λ e has y. end.farthest e y has)

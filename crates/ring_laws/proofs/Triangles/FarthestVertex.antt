@@ -5,8 +5,8 @@ use Rattle.integer_algebra.proofs.SignSteps.{at_least_unless, mean_last_positive
 use Rattle.integer_algebra.proofs.SignSteps.{not_both_positive, positive_not_zero, weak, zero_not_negative}
 use Rattle.integer_algebra.proofs.Signs.{factor_positive, is_negative, is_positive, is_zero, lt_or_le, mul_positive, sign}
 use Rattle.integer_algebra.proofs.Weights.{offset_along, offset_from_last}
-use Rattle.plane.proofs.Points.{whole_is_point}
-use Rattle.plane.proofs.Segments.{combination_is_straight, on_same_point, same_without_first, same_without_last}
+use Rattle.plane.proofs.Points.{same_whole, whole_is_point}
+use Rattle.plane.proofs.Segments.{combination_is_straight, on_last_end, on_same_point, same_without_first, same_without_last}
 use Rattle.plane.proofs.Turns.{areas_add, determinant_same_ends, determinant_same_last, determinant_shift, determinant_swap_first, IsCombination}
 use Rattle.plane.proofs.Turns.{combination_of_ends, determinant_along}
 use Rattle.plane.specs.Point.{IsPoint, IsSame, Point, Triple, whole}
@@ -14,7 +14,7 @@ use Rattle.plane.specs.Triangle.{IsInTriangle, height_over}
 use Rattle.plane.specs.Turn.{IsLeft}
 use Rattle.rings.specs.Apart.{AreApart, IsCommonEnd, MeetAtEnds}
 use Rattle.rings.specs.Edge.{Edge, HasEdge, HasEnd, IsOn}
-use Rattle.ring_laws.proofs.Triangles.SidesAtVertex.{at_first, at_last, at_middle, end_of_other, way_out}
+use Rattle.ring_laws.proofs.Triangles.SidesAtVertex.{end_is_on, at_first, at_last, at_middle, end_of_other, way_out}
 use Rattle.ring_laws.proofs.Triangles.Triangles.{height_of_first, height_of_last, height_of_middle, in_or_not, left_of_first, left_of_second}
 
 -- ---- numbers
@@ -76,7 +76,7 @@ module _ (es : List Edge) (apart : AreApart es) (u v w : Point) (left : IsLeft (
   second_piece_turns = rw (← determinant_shift (whole z) (whole v) (whole w)) left_of_other
 
   -- z is not as high as v
-  below_middle : height_over u w (whole z) <ℤ height_over u w (whole v)
+  pub below_middle : height_over u w (whole z) <ℤ height_over u w (whole v)
   below_middle =
       rw (height_of_middle u v w)
       (less_than_area _ _ _ _ _ (areas_add u v w z) (determinant_swap_first (whole u) (whole w) (whole z)) first_piece_turns left_of_other)
@@ -166,6 +166,17 @@ module _ (es : List Edge) (apart : AreApart es) (u v w : Point) (left : IsLeft (
             | inl h ↦ not_higher some e.from (inl refl) h
             | inr h ↦ not_higher some e.to (inr refl) h
           ]
+
+    -- no end beside z is higher
+    pub none_higher_beside : (e : Edge) → HasEdge es e → HasEnd e z → (a : Point) → HasEnd e a
+        → ¬ (height_over u w (whole z) <ℤ height_over u w (whole a))
+    none_higher_beside e has at a end =
+        let c = combination_of_ends (whole z) v z (whole_is_point z) (on_last_end (whole v) (whole z)) in
+        elim (sign c.m) [
+          | is_negative h ↦ absurd (not_both h c.m_nonnegative)
+          | is_zero none ↦ absurd (not_v (same_whole z v (same_without_last (whole z) (whole v) (whole z) c none)))
+          | is_positive some ↦ not_higher e has (whole z) (whole_is_point z) (end_is_on e z at) c some a end
+        ]
 
     -- the way from v to z meets each edge only at common ends
     pub farthest_is_diagonal : (e : Edge) → HasEdge es e → MeetAtEnds e (record { from = v; to = z })
