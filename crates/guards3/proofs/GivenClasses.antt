@@ -29,29 +29,39 @@ parity_below : (n : ℕ) → parity n < 2
 parity_below zero = omega arith
 parity_below (suc n) = omega arith
 
-module _ (marks : List ℕ) (count : ℕ → ℕ) (are : AreMarks marks count) where
-  pub mark_below : (i : ℕ) → i < length marks → get_or marks i 0 < 2
-  mark_below i below = subst (λ m. m < 2) (sym (are i below)) (parity_below (count i))
+-- marks of n vertices, by how many corners each is
+pub record IsMarked (n : ℕ) (marks : List ℕ) (count : ℕ → ℕ) : Type 0 where
+  pub long : length marks ≡ n
+  pub are : AreMarks marks count
+
+module _ (n : ℕ) (marks : List ℕ) (count : ℕ → ℕ) (marked : IsMarked n marks count) (i : ℕ) (below : i < n) where
+  -- each is 0 or 1
+  pub mark_below : get_or marks i 0 < 2
+  mark_below = subst (λ m. m < 2) (sym (marked.are i (omega (arith, below, marked.long)))) (parity_below (count i))
 
   -- with one corner more
-  module _ (i : ℕ) (below : i < length marks) (after : List ℕ) (is : after ≡ set marks i (1 - get_or marks i 0)) where
-    pub still_long : length after ≡ length marks
+  module _ (after : List ℕ) (is : after ≡ set marks i (1 - get_or marks i 0)) where
+    still_long : length after ≡ length marks
     still_long = ap length is ∙ length-set marks i (1 - get_or marks i 0)
 
-    pub marks_changed : AreMarks after (λ j. count j + one_if i j)
+    marks_changed : AreMarks after (λ j. count j + one_if i j)
     marks_changed j j_below =
+        let within : i < length marks = omega (arith, below, marked.long) in
         let read : get_or after j 0 ≡ get_or (set marks i (1 - get_or marks i 0)) j 0 = ap (λ ms. get_or ms j 0) is in
         elim (cases_eq i j) [
           | inl this ↦
               let more : count j + one_if i j ≡ suc (count j) = grind arith in
-              let old : get_or marks i 0 ≡ parity (count j) = are i below ∙ ap (λ m. parity (count m)) this in
-              read ∙ ap (λ m. get_or (set marks i (1 - get_or marks i 0)) m 0) (sym this) ∙ get_or-set_same marks i (1 - get_or marks i 0) 0 below
+              let old : get_or marks i 0 ≡ parity (count j) = marked.are i within ∙ ap (λ m. parity (count m)) this in
+              read ∙ ap (λ m. get_or (set marks i (1 - get_or marks i 0)) m 0) (sym this) ∙ get_or-set_same marks i (1 - get_or marks i 0) 0 within
               ∙ ap (λ m. 1 - m) old ∙ ap parity (sym more)
           | inr other ↦
               let same : count j + one_if i j ≡ count j = grind arith in
-              read ∙ get_or-set_other marks i j (1 - get_or marks i 0) 0 (λ e. other (sym e)) ∙ are j (omega (arith, j_below, still_long))
+              read ∙ get_or-set_other marks i j (1 - get_or marks i 0) 0 (λ e. other (sym e)) ∙ marked.are j (omega (arith, j_below, still_long))
               ∙ ap parity (sym same)
         ]
+
+    pub with_corner : IsMarked n after (λ j. count j + one_if i j)
+    with_corner = record { long = still_long ∙ marked.long; are = marks_changed }
 
 -- ---- classes
 
