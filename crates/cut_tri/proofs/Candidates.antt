@@ -1,5 +1,5 @@
 -- The farthest of several candidates, one after another in lexicographic order.
-use Rattle.std.proofs.Common.{◌≡◌, ◌⊎◌, inl, inr, refl, sym, ap, subst, ◌∙◌, ℕ, ◌+◌, ◌-◌, ◌<◌, ◌≤◌, Option, Some, None, ℤ, ◌<ℤ◌, List}
+use Rattle.std.proofs.Common.{◌≡◌, ◌⊎◌, inl, inr, refl, sym, ap, subst, ◌∙◌, ℕ, ◌+◌, ◌-◌, ◌<◌, ◌≤◌, Option, Some, None, ◌<ℤ◌, List}
 use Rattle.std.proofs.Common.{length, get_or, arith}
 use Rattle.std.proofs.lemmas.Bool.{cases_lt}
 use Rattle.std.proofs.lemmas.Int.{ints}
@@ -130,7 +130,7 @@ module _ (corners : List Point) (piece order : List ℕ) where
 
 module _ (corners : List Point) (piece : List ℕ) (three : 3 ≤ length piece) (distinct : HasDistinctCorners corners piece) where
   -- a vertex at a place in the corner is in the corner
-  number_in_corner : (k : ℕ) → IsPlaceInCorner corners piece k → IsInCornerOf corners piece (get_or piece k 0)
+  pub number_in_corner : (k : ℕ) → IsPlaceInCorner corners piece k → IsInCornerOf corners piece (get_or piece k 0)
   number_in_corner k in_corner =
       let low = in_corner.after_second in
       let high = in_corner.before_last in
@@ -145,7 +145,7 @@ module _ (corners : List Point) (piece : List ℕ) (three : 3 ≤ length piece) 
       }
 
   -- and the other way round
-  place_in_corner : (i : ℕ) → IsInCornerOf corners piece i → (k : ℕ) × (get_or piece k 0 ≡ i) × IsPlaceInCorner corners piece k
+  pub place_in_corner : (i : ℕ) → IsInCornerOf corners piece i → (k : ℕ) × (get_or piece k 0 ≡ i) × IsPlaceInCorner corners piece k
   place_in_corner i is =
       let (k, within, at) = place_of piece i is.member in
       let not_at : (j : ℕ) → ¬ (i ≡ get_or piece j 0) → ¬ (k ≡ j) = λ j other e. other (sym at ∙ ap (λ m. get_or piece m 0) e) in

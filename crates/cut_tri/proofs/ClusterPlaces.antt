@@ -1,34 +1,54 @@
--- Clusters of the vertices of a ring: each vertex has a place, and boxes with a common point overlap.
-use Rattle.std.proofs.Common.{◌≡◌, ◌∙◌, subst, ℕ, ◌<◌, ℤ, ◌≤ℤ◌, List, length, get_or, arith}
+-- Clusters of the vertices of a ring that are not convex: they are all there, and boxes with a common point overlap.
+use Rattle.std.proofs.Common.{◌≡◌, inl, inr, subst, ℕ, ◌+◌, ◌<◌, ℤ, ◌≤ℤ◌, List, [], ◌∷◌, ◌++◌, length, arith}
+use Rattle.std.proofs.lemmas.Bool.{cases_lt}
 use Rattle.std.proofs.lemmas.Int.{ints}
-use Rattle.std.proofs.lemmas.List.Elements.{All-from_get_or, Contains-get_or}
-use Rattle.std.proofs.lemmas.List.FromFn.{get_or-range_with_len, length-range_with_len}
+use Rattle.std.proofs.lemmas.List.{length-append}
+use Rattle.std.proofs.lemmas.List.Elements.{All-push, Contains-append_left, Contains-push}
 use Rattle.std.proofs.lemmas.List.Sorted.{All-permutation, Contains-permutation, length_permutation}
-use Rattle.std.specs.List.{All, Contains, range_with_len}
+use Rattle.std.specs.List.{Contains}
 use Rattle.std.specs.Prelude.{IsPermutation}
 use Rattle.plane.specs.Point.{Point}
-use Rattle.meshes.proofs.Joins.{place_of}
+use Rattle.rings.specs.Ring.{vertex}
 use Rattle.exact_plane.specs.Boxes.{Encloses, Overlap}
 use Rattle.exact_plane.specs.declared.bounding_box.BoundingBox.{BoundingBox}
+use Rattle.cut_tri.specs.Clusters.{HasReflexVertices}
+use Rattle.cut_tri.specs.Piece.{TurnsLeftAt}
 
-module _ (n : ℕ) (numbers : List ℕ) (all : IsPermutation (range_with_len 0 n) numbers) where
-  -- all are numbers below n,
-  pub all_below : All (λ i. i < n) numbers
-  all_below =
-      All-permutation (λ i. i < n) (range_with_len 0 n) numbers all
-      (All-from_get_or (λ i. i < n) (range_with_len 0 n) 0 (λ k h. omega (arith, h, length-range_with_len 0 n, get_or-range_with_len 0 n k 0)))
+module _ (corners : List Point) where
+  -- of the first 0 vertices none need be there
+  pub reflex_of_none : HasReflexVertices corners 0 []
+  reflex_of_none = record { few = omega arith; vertices = λ k d below. absurd (omega (arith, below)); each = λ i below. absurd (omega (arith, below)) }
 
-  -- as many as there are,
-  pub all_there : length numbers ≡ n
-  all_there = length_permutation (range_with_len 0 n) numbers all ∙ length-range_with_len 0 n
+  module _ (n : ℕ) (numbers : List ℕ) (is : HasReflexVertices corners n numbers) where
+    -- one more may be left out where the ring turns left,
+    pub reflex_past : TurnsLeftAt corners (vertex corners n) → HasReflexVertices corners (n + 1) numbers
+    reflex_past turns = record {
+      few = omega (arith, is.few);
+      vertices = is.vertices;
+      each = λ i below. elim (cases_lt i n) [
+        | inl less ↦ is.each i less
+        | inr not_less ↦ let at : n ≡ i = omega (arith, below, not_less) in inr (subst (λ j. TurnsLeftAt corners (vertex corners j)) at turns)
+      ];
+    }
 
-  -- and each of those has a place
-  pub has_place : (i : ℕ) → i < n → (k : ℕ) × (k < length numbers) × (get_or numbers k 0 ≡ i)
-  has_place i below =
-      let number = get_or-range_with_len 0 n i 0 in
-      place_of numbers i (Contains-permutation (range_with_len 0 n) numbers i all
-      (subst (Contains (range_with_len 0 n)) (omega (arith, number, below))
-      (Contains-get_or (range_with_len 0 n) i 0 (omega (arith, below, length-range_with_len 0 n)))))
+    -- and else comes to them,
+    pub reflex_more : n < length corners → HasReflexVertices corners (n + 1) (numbers ++ n ∷ [])
+    reflex_more within = record {
+      few = omega (arith, is.few, length-append numbers (n ∷ []));
+      vertices = All-push (λ i. i < length corners) numbers n is.vertices within;
+      each = λ i below. elim (cases_lt i n) [
+        | inl less ↦ elim (is.each i less) [ inl has ↦ inl (Contains-append_left numbers (n ∷ []) i has) | inr turns ↦ inr turns ]
+        | inr not_less ↦ let at : n ≡ i = omega (arith, below, not_less) in inl (subst (Contains (numbers ++ n ∷ [])) at (Contains-push numbers n))
+      ];
+    }
+
+    -- in any order
+    pub reflex_moved : (moved : List ℕ) → IsPermutation numbers moved → HasReflexVertices corners n moved
+    reflex_moved moved same = record {
+      few = omega (arith, is.few, length_permutation numbers moved same);
+      vertices = All-permutation (λ i. i < length corners) numbers moved same is.vertices;
+      each = λ i below. elim (is.each i below) [ inl has ↦ inl (Contains-permutation numbers moved i same has) | inr turns ↦ inr turns ];
+    }
 
 -- boxes with a common point overlap
 pub overlap_at : (b c : BoundingBox) (p : Point) → Encloses b p → Encloses c p → Overlap b c

@@ -6,8 +6,11 @@ mod CornerPlaces
 mod DiagonalCuts
 mod DistinctCorners
 mod EarCuts
+mod EmptyCorners
 mod Ends
+mod FarthestTurns
 mod Heights
+mod KeptTurns
 mod Looks
 mod Members
 pub mod OneCut
@@ -21,5 +24,6 @@ mod SeenVertices
 mod Shapes
 mod Thinned
 mod TriangleBoxes
+mod TurnsBesideDiagonals
 mod WholePiece
 mod WorkList

@@ -1,5 +1,5 @@
 -- The vertex that is looked at: whether it is in the corner at the least vertex of its piece.
-use Rattle.std.proofs.Common.{◌≡◌, refl, None, sym, ap, subst, ◌∙◌, ℕ, ◌-◌, ◌<◌, ◌≤◌, ℤ, ◌<ℤ◌, ◌≤ℤ◌, List, length, get_or, arith}
+use Rattle.std.proofs.Common.{◌≡◌, sym, ap, subst, ◌∙◌, ℕ, ◌-◌, ◌<◌, ◌≤◌, ℤ, ◌<ℤ◌, ◌≤ℤ◌, List, length, get_or, arith}
 use Rattle.std.proofs.lemmas.Int.{ints}
 use Rattle.std.proofs.lemmas.List.Elements.{Contains-get_or}
 use Rattle.std.specs.List.{Contains}
@@ -11,8 +11,7 @@ use Rattle.plane.specs.Turn.{IsLeft}
 use Rattle.rings.specs.Ring.{vertex}
 use Rattle.cut_tri.proofs.Candidates.{HasRankBelow, of_rank}
 use Rattle.cut_tri.proofs.Ends.{left_at_first}
-use Rattle.cut_tri.proofs.Members.{members_of_numbers}
-use Rattle.cut_tri.specs.Corner.{IsBest, IsCandidate, IsCornerAt, IsInCornerOf, candidate_of}
+use Rattle.cut_tri.specs.Corner.{IsCandidate, IsCornerAt, IsInCornerOf, candidate_of}
 use Rattle.cut_tri.specs.Ordered.{IsLeastPlace, IsOrderOf}
 use Rattle.cut_tri.specs.Piece.{HasNumbers, IsLeastBelow, IsPiece, piece_vertex}
 use Rattle.cut_tri.specs.declared.farthest.Candidate.{Candidate}
@@ -74,17 +73,6 @@ module _ (corners : List Point) (xs : List ℕ) (corner : Corner) (at : IsCorner
     -- its height is that of the vertex
     pub candidate_is : (c : Candidate) → c ≡ record { height = height_over corner.u corner.w (whole p); number = i } → c ≡ candidate_of corners xs i
     candidate_is c e = e ∙ (λ k. record { height = height_over (at.u k) (at.w k) (whole (is k)); number = i })
-
-  -- where no vertex but the first is a candidate, none is the best
-  pub none_is_best : HasNumbers corners xs
-      → ((i : ℕ) → i < length corners → ¬ (i ≡ corner.tri.b) → ¬ (IsCandidate corner i (vertex corners i))) → IsBest corners xs None
-  none_is_best numbers empty = record {
-    none = λ e i in_i. empty i (members_of_numbers (length corners) xs numbers i in_i.member) (λ e. in_i.not_first (e ∙ ap (λ t. t.b) at.tri))
-        (is_candidate i (vertex corners i) refl in_i);
-    is_candidate = λ b e. absurd (cc);
-    in_corner = λ b e. absurd (cc);
-    farthest = λ b e. absurd (cc);
-  }
 
 -- ---- numbers in the order
 

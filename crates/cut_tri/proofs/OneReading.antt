@@ -20,7 +20,7 @@ use Rattle.cut_tri.specs.Piece.{piece_vertex}
 
 module _ (corners : List Point) (piece : List ℕ) where
   -- the vertex at a place is a point of the piece
-  point_at : (k : ℕ) → k < length piece → HasPoint (piece_points corners piece) (piece_vertex corners piece k)
+  pub point_at : (k : ℕ) → k < length piece → HasPoint (piece_points corners piece) (piece_vertex corners piece k)
   point_at k within =
       subst (HasPoint (piece_points corners piece)) (get_or-map (λ i. vertex corners i) piece k 0 origin within)
       (has_number (piece_points corners piece) k origin (omega (arith, within, length_points corners piece)))

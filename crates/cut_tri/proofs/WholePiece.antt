@@ -16,15 +16,17 @@ use Rattle.rings.specs.Ring.{vertex}
 use Rattle.rings.specs.Simple.{IsSimple}
 use Rattle.meshes.proofs.Joins.{place_of}
 use Rattle.meshes.proofs.Triangulations.{ring_is_piece}
+use Rattle.meshes.proofs.Sides.{piece_points_all}
 use Rattle.ring_check.specs.Order.{IsInOrder}
 use Rattle.cut_tri.specs.Ordered.{AreLexicalRanks, IsOrderOf}
-use Rattle.cut_tri.specs.Piece.{IsPiece}
+use Rattle.cut_tri.specs.Piece.{IsPiece, TurnsLeftAt}
 
 -- all vertices of a simple ring with a positive area are a piece
 pub all_is_piece : (corners : List Point) → 3 ≤ length corners → IsSimple corners → IsCounterclockwise corners → IsPiece corners (range_with_len 0 (length corners))
 all_is_piece corners some simple way = record {
   polygon = ring_is_piece corners some simple way;
   numbers = λ k h. omega (arith, h, length-range_with_len 0 (length corners), get_or-range_with_len 0 (length corners) k 0);
+  keeps_left = λ v turns. subst (λ ps. TurnsLeftAt ps v) (sym (piece_points_all corners)) turns;
 }
 
 -- ---- its order

@@ -1,9 +1,10 @@
 -- Clusters of the vertices of a ring and triangles, with boxes round them. No public clause cites this module.
-use Rattle.std.specs.List.{All, range_with_len}
-use Rattle.std.specs.Prelude.{◌≡◌, ℕ, ◌*ℤ◌, ◌-ℤ◌, ◌<◌, ◌≤◌, ◌^◌, IsPermutation, List, length, map, slice_index_or, unsigned_abs}
+use Rattle.std.specs.List.{All, Contains}
+use Rattle.std.specs.Prelude.{◌≡◌, ◌⊎◌, ℕ, ◌*ℤ◌, ◌-ℤ◌, ◌<◌, ◌≤◌, ◌^◌, List, length, map, slice_index_or, unsigned_abs}
 use Rattle.plane.specs.Point.{Point}
 use Rattle.rings.specs.Ring.{vertex}
 use Rattle.exact_plane.specs.Boxes.{Encloses}
+use Rattle.cut_tri.specs.Piece.{TurnsLeftAt}
 use Rattle.cut_tri.specs.declared.clusters.Cluster.{Cluster}
 use Rattle.cut_tri.specs.declared.clusters.Clusters.{Clusters}
 use Rattle.cut_tri.specs.declared.triangle.Side.{Side}
@@ -37,8 +38,14 @@ pub record IsCluster (corners : List Point) (numbers : List ℕ) (cluster : Clus
   pub ordered : cluster.first ≤ cluster.end
   pub within : cluster.end ≤ length numbers
 
--- all vertices are there, each with its point, and each cluster has its vertices in its box
+-- numbers of vertices, at most n: all of the first n vertices but such at which the ring turns left
+pub record HasReflexVertices (corners : List Point) (n : ℕ) (numbers : List ℕ) : Type 0 where
+  pub few : length numbers ≤ n
+  pub vertices : All (λ i. i < length corners) numbers
+  pub each : (i : ℕ) → i < n → Contains numbers i ⊎ TurnsLeftAt corners (vertex corners i)
+
+-- all vertices are there but such at which the ring turns left, each with its point, and each cluster has its vertices in its box
 pub record AreClusters (corners : List Point) (clusters : Clusters) : Type 0 where
-  pub all : IsPermutation (range_with_len 0 (length corners)) clusters.numbers.items
+  pub all : HasReflexVertices corners (length corners) clusters.numbers.items
   pub placed : clusters.points.items ≡ map (vertex corners) clusters.numbers.items
   pub each : All (IsCluster corners clusters.numbers.items) clusters.clusters.items

@@ -5,7 +5,7 @@ use Rattle.plane.specs.Point.{Point, whole}
 use Rattle.plane.specs.Triangle.{IsInTriangle, height_over}
 use Rattle.plane.specs.Turn.{determinant}
 use Rattle.rings.specs.Ring.{vertex}
-use Rattle.cut_tri.specs.Piece.{piece_vertex, tri_at_first}
+use Rattle.cut_tri.specs.Piece.{TurnsLeftAt, piece_vertex, tri_at_first}
 use Rattle.cut_tri.specs.declared.farthest.Candidate.{Candidate}
 use Rattle.cut_tri.specs.declared.farthest.Corner.{Corner}
 
@@ -43,9 +43,10 @@ abbrev pub HasNoCandidateAt : Corner → List Point → List ℕ → ℕ → Typ
 HasNoCandidateAt corner corners numbers k =
     ¬ (slice_index_or numbers k 0 ≡ corner.tri.b) → ¬ (IsCandidate corner (slice_index_or numbers k 0) (vertex corners (slice_index_or numbers k 0)))
 
--- no vertex is a candidate but the one at the corner, if that is
-abbrev pub HasNoCandidate : Corner → List Point → Type 0
-HasNoCandidate corner corners = (i : ℕ) → i < length corners → ¬ (i ≡ corner.tri.b) → ¬ (IsCandidate corner i (vertex corners i))
+-- the ring turns left at each candidate but the vertex at the corner
+abbrev pub CandidatesTurnLeft : Corner → List Point → Type 0
+CandidatesTurnLeft corner corners =
+    (i : ℕ) → i < length corners → ¬ (i ≡ corner.tri.b) → IsCandidate corner i (vertex corners i) → TurnsLeftAt corners (vertex corners i)
 
 -- the first is higher, or as high with a lesser number
 abbrev pub IsFarther : Candidate → Candidate → Type 0

@@ -25,8 +25,8 @@ pub(crate) struct Cluster {
     pub bounds: BoundingBox,
 }
 
-// All vertices in Z-order, where they are, and clusters of them that make a tree. Each has the vertices in a square, and its parts those
-// in the quarters; one without parts has those in a square or in half of one.
+// All vertices that are not convex in Z-order, where they are, and clusters of them that make a tree. Each has the vertices in a square,
+// and its parts those in the quarters; one without parts has those in a square or in half of one.
 #[derive(Drop)]
 pub(crate) struct Clusters {
     pub numbers: Vec<u32>,
@@ -35,14 +35,14 @@ pub(crate) struct Clusters {
 }
 
 impl Clusters {
-    // The clusters of all vertices. It takes at most 128 steps a vertex.
+    // The clusters of all vertices that are not convex. It takes at most 129 steps a vertex.
     pub(crate) fn of<L: Ledger>(
         alloc: Global,
         ring: &Ring,
         steps: &mut Steps<L>,
     ) -> Result<Clusters, Memory>
         ensures clusters { IfOk result (AreClusters ring.now.corners) }
-        ensures steps { steps.new ≤ steps.old + 128 * length ring.now.corners }
+        ensures steps { steps.new ≤ steps.old + 129 * length ring.now.corners }
     {
         let keys = z_order(alloc, ring, steps)?;
         let numbers = numbers_of(alloc, &keys)?;

@@ -6,7 +6,7 @@ ghost use Rattle.plane.specs.Turn.{IsLeft};
 ghost use Rattle.rings.specs.Ring.{vertex};
 ghost use Rattle.cut_tri.specs.Clusters.{AreClusters, IsBounded};
 ghost use Rattle.cut_tri.specs.Cut.{IsPlaceInCorner};
-ghost use Rattle.cut_tri.specs.Corner.{HasNoCandidate, HasNoCandidateAt, IsBest, IsCandidate, IsCornerAt, IsFarther, IsFartherOf, IsMeasured, best_height};
+ghost use Rattle.cut_tri.specs.Corner.{CandidatesTurnLeft, HasNoCandidateAt, IsBest, IsCandidate, IsCornerAt, IsFarther, IsFartherOf, IsMeasured, best_height};
 ghost use Rattle.cut_tri.specs.Ordered.{IsFarthestNumber, IsOrderedFromLeast};
 ghost use Rattle.cut_tri.specs.Piece.{tri_at_first};
 
@@ -116,7 +116,7 @@ fn best_in<L: Ledger>(
     best
 }
 
-// Makes the clusters where there are none and memory suffices. It takes at most 128 steps a vertex.
+// Makes the clusters where there are none and memory suffices. It takes at most 129 steps a vertex.
 fn make_clusters<L: Ledger>(
     alloc: Global,
     ring: &Ring,
@@ -125,7 +125,7 @@ fn make_clusters<L: Ledger>(
 )
     requires { IfSome clusters.old (AreClusters ring.now.corners) }
     ensures clusters { IfSome clusters.new (AreClusters ring.now.corners) }
-    ensures steps { steps.new ≤ steps.old + 128 * length ring.now.corners }
+    ensures steps { steps.new ≤ steps.old + 129 * length ring.now.corners }
 {
     if clusters.is_none() {
         *clusters = Clusters::of(alloc, ring, steps).ok();
@@ -214,8 +214,8 @@ impl Corner {
         is_less_share(rest, whole, height_of(best), self.height)
     }
 
-    // Whether the clusters tell that no vertex of the ring but the three is in the triangle. They are asked at one rank alone, where
-    // none was found before.
+    // Whether the clusters tell that no vertex of the ring but the three is in the triangle, convex ones aside. They are asked at one
+    // rank alone, where none was found before.
     fn is_told_empty<L: Ledger>(
         &self,
         alloc: Global,
@@ -227,7 +227,7 @@ impl Corner {
     ) -> bool
         requires counterclockwise { IsLeft (whole self.now.u) (whole self.now.v) (whole self.now.w) }
         requires clusters { IfSome clusters.old (AreClusters ring.now.corners) }
-        ensures empty { IsTrue result → HasNoCandidate self.now ring.now.corners }
+        ensures empty { IsTrue result → CandidatesTurnLeft self.now ring.now.corners }
         ensures clusters { IfSome clusters.new (AreClusters ring.now.corners) }
         ensures near { IsTrue result → rank ≡ 16 }
         ensures before { rank < 16 → steps.new ≡ steps.old }
@@ -240,8 +240,8 @@ impl Corner {
         self.is_empty(alloc, ring, clusters, steps)
     }
 
-    // Whether no vertex of the ring but the three is in the triangle, by clusters that are made here where there are none. Without
-    // memory for them it is taken for not empty. It takes at most 371 steps a vertex of the ring, and 1168.
+    // Whether no vertex of the ring but the three is in the triangle, convex ones aside, by clusters that are made here where there are
+    // none. Without memory for them it is taken for not empty. It takes at most 371 steps a vertex of the ring, and 1168.
     fn is_empty<L: Ledger>(
         &self,
         alloc: Global,
@@ -251,7 +251,7 @@ impl Corner {
     ) -> bool
         requires counterclockwise { IsLeft (whole self.now.u) (whole self.now.v) (whole self.now.w) }
         requires clusters { IfSome clusters.old (AreClusters ring.now.corners) }
-        ensures empty { IsTrue result → HasNoCandidate self.now ring.now.corners }
+        ensures empty { IsTrue result → CandidatesTurnLeft self.now ring.now.corners }
         ensures clusters { IfSome clusters.new (AreClusters ring.now.corners) }
         ensures steps { steps.new ≤ steps.old + (371 * length ring.now.corners + 1168) }
     {
@@ -272,7 +272,7 @@ impl Corner {
     ) -> bool
         requires counterclockwise { IsLeft (whole self.now.u) (whole self.now.v) (whole self.now.w) }
         requires clusters { AreClusters ring.now.corners clusters.now }
-        ensures empty { IsTrue result → HasNoCandidate self.now ring.now.corners }
+        ensures empty { IsTrue result → CandidatesTurnLeft self.now ring.now.corners }
         ensures steps { steps.new ≤ steps.old + (64 * length ring.now.corners + 768) }
     {
         let triangle = Triangle::of(&self.u, &self.v, &self.w, steps);

@@ -1,8 +1,11 @@
-// The vertices of a ring along the curve of Morton 1966, the Z-order: of those that are near to one another most have near places.
-ghost use Rattle.std.specs.List.{range_with_len};
-ghost use Rattle.std.specs.Prelude.{◌≡◌, ◌+◌, ◌*◌, ◌<◌, ◌≤◌, ◌^◌, IfOk, IsPermutation, length, map, unsigned_abs};
+// The vertices of a ring that are not convex along the curve of Morton 1966, the Z-order: of those that are near to one another most
+// have near places.
+ghost use Rattle.std.specs.Prelude.{◌≡◌, ◌+◌, ◌*◌, ◌<◌, ◌≤◌, ◌↔◌, ◌^◌, IfOk, IsTrue, length, map, unsigned_abs};
+ghost use Rattle.rings.specs.Orientation.{turn_at};
+ghost use Rattle.exact_plane.specs.Direction.{direction_of};
+ghost use Rattle.cut_tri.specs.Clusters.{HasReflexVertices};
 
-use exact_plane::{Memory, Steps};
+use exact_plane::{Direction, Memory, Steps, turn};
 use ring_check::Ring;
 use std::alloc::Global;
 use std::sync::ledger::Ledger;
@@ -14,33 +17,46 @@ pub(crate) struct Key {
     number: u32,
 }
 
-// The keys of all vertices, in order. Only the time rests on that. It takes at most 64 steps a vertex.
+// The keys of all vertices that are not convex, in order. Only the time rests on that. It takes at most 65 steps a vertex.
 pub(crate) fn z_order<L: Ledger>(
     alloc: Global,
     ring: &Ring,
     steps: &mut Steps<L>,
 ) -> Result<Vec<Key>, Memory>
-    ensures all { IfOk result (λ keys. IsPermutation (range_with_len 0 (length ring.now.corners)) (map (λ k. k.number) keys.items)) }
-    ensures steps { steps.new ≤ steps.old + 64 * length ring.now.corners }
+    ensures all { IfOk result (λ keys. HasReflexVertices ring.now.corners (length ring.now.corners) (map (λ k. k.number) keys.items)) }
+    ensures steps { steps.new ≤ steps.old + 65 * length ring.now.corners }
 {
     let mut keys = keys_of(alloc, ring, steps)?;
     keys.sort_unstable();
     Ok(keys)
 }
 
-// The keys of all vertices.
+// The keys of all vertices that are not convex.
 fn keys_of<L: Ledger>(alloc: Global, ring: &Ring, steps: &mut Steps<L>) -> Result<Vec<Key>, Memory>
-    ensures all { IfOk result (λ keys. map (λ k. k.number) keys.items ≡ range_with_len 0 (length ring.now.corners)) }
-    ensures steps { steps.new ≤ steps.old + 64 * length ring.now.corners }
+    ensures all { IfOk result (λ keys. HasReflexVertices ring.now.corners (length ring.now.corners) (map (λ k. k.number) keys.items)) }
+    ensures steps { steps.new ≤ steps.old + 65 * length ring.now.corners }
 {
     let n = ring.len();
     let mut keys = Vec::with_capacity(alloc, n as usize)?;
     for number in 0..n {
+        if is_convex(ring, number, steps) {
+            continue;
+        }
         let (x, y) = ring.corner(number).parts(steps);
         let code = (spread(x) << 1) | spread(y);
         keys.push(Key { code, number })?;
     }
     Ok(keys)
+}
+
+// Whether the ring turns left at a vertex. It takes one step.
+fn is_convex<L: Ledger>(ring: &Ring, number: u32, steps: &mut Steps<L>) -> bool
+    requires { number < length ring.now.corners }
+    ensures left { IsTrue result ↔ (direction_of (turn_at ring.now.corners number) ≡ Direction.Left) }
+    ensures steps { steps.new ≡ steps.old + 1 }
+{
+    let (before, after) = (ring.previous(number), ring.next(number));
+    turn(&before, &ring.corner(number), &after, steps) == Direction::Left
 }
 
 // The bits of a coordinate, from the least possible one on, with one between each two for those of the other.

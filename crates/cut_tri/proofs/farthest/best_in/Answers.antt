@@ -6,8 +6,9 @@ use Rattle.std.specs.List.{Contains}
 use Rattle.plane.specs.Point.{Point}
 use Rattle.rings.specs.Ring.{vertex}
 use Rattle.cut_tri.proofs.Candidates.{IsBestBelow, best_more, best_of_all, best_past, none_below, of_rank}
+use Rattle.cut_tri.proofs.EmptyCorners.{none_is_best}
 use Rattle.cut_tri.proofs.Ends.{rank_in, rank_or_right}
-use Rattle.cut_tri.proofs.Looks.{candidate_is, first_not_right, in_corner, is_candidate, left_at_corner, nearer_at, none_is_best, not_least, order_some, rank_more}
+use Rattle.cut_tri.proofs.Looks.{candidate_is, first_not_right, in_corner, is_candidate, left_at_corner, nearer_at, not_least, order_some, rank_more}
 use Rattle.cut_tri.proofs.Members.{members_of_numbers}
 use Rattle.cut_tri.proofs.Orders.{least_below}
 use Rattle.cut_tri.proofs.SeenVertices.{seen, seen_few, seen_first, seen_more, seen_no_more}
@@ -179,8 +180,9 @@ is_told_empty-requires-clause-counterclockwise g c =
 
 pub returns-then-is_told_empty-clause-best : goal.returns-then-is_told_empty-clause-best
 returns-then-is_told_empty-clause-best g c =
-    none_is_best c.args.ring.now.corners c.args.piece.now.boundary c.args.corner.now c.requires.corner c.requires.ordered.ordered.0.numbers
-    (λ i below other. c.is_told_empty.ensures.empty c.if-is_told_empty.true i below other)
+    let least = least_below c.args.ring.now.corners c.args.piece.now.boundary c.args.piece.now.order.items c.requires.ordered.ordered.1 c.requires.ordered.ordered.0.numbers 0 c.requires.ordered.least in
+    none_is_best c.args.ring.now.corners c.args.piece.now.boundary c.args.corner.now c.requires.corner c.requires.ordered.ordered.0 least
+    (c.is_told_empty.ensures.empty c.if-is_told_empty.true)
 
 pub returns-then-is_told_empty-clause-steps : goal.returns-then-is_told_empty-clause-steps
 returns-then-is_told_empty-clause-steps g c =
