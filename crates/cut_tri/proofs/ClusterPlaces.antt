@@ -11,17 +11,17 @@ use Rattle.plane.specs.Point.{Point}
 use Rattle.rings.specs.Ring.{vertex}
 use Rattle.exact_plane.specs.Boxes.{Encloses, Overlap}
 use Rattle.exact_plane.specs.declared.bounding_box.BoundingBox.{BoundingBox}
-use Rattle.cut_tri.specs.Clusters.{HasReflexVertices}
+use Rattle.cut_tri.specs.Clusters.{LeavesOutConvex}
 use Rattle.cut_tri.specs.Piece.{TurnsLeftAt}
 
 module _ (corners : List Point) where
   -- of the first 0 vertices none need be there
-  pub reflex_of_none : HasReflexVertices corners 0 []
+  pub reflex_of_none : LeavesOutConvex corners 0 []
   reflex_of_none = record { few = omega arith; vertices = λ k d below. absurd (omega (arith, below)); each = λ i below. absurd (omega (arith, below)) }
 
-  module _ (n : ℕ) (numbers : List ℕ) (is : HasReflexVertices corners n numbers) where
+  module _ (n : ℕ) (numbers : List ℕ) (is : LeavesOutConvex corners n numbers) where
     -- one more may be left out where the ring turns left,
-    pub reflex_past : TurnsLeftAt corners (vertex corners n) → HasReflexVertices corners (n + 1) numbers
+    pub reflex_past : TurnsLeftAt corners (vertex corners n) → LeavesOutConvex corners (n + 1) numbers
     reflex_past turns = record {
       few = omega (arith, is.few);
       vertices = is.vertices;
@@ -32,7 +32,7 @@ module _ (corners : List Point) where
     }
 
     -- and else comes to them,
-    pub reflex_more : n < length corners → HasReflexVertices corners (n + 1) (numbers ++ n ∷ [])
+    pub reflex_more : n < length corners → LeavesOutConvex corners (n + 1) (numbers ++ n ∷ [])
     reflex_more within = record {
       few = omega (arith, is.few, length-append numbers (n ∷ []));
       vertices = All-push (λ i. i < length corners) numbers n is.vertices within;
@@ -43,7 +43,7 @@ module _ (corners : List Point) where
     }
 
     -- in any order
-    pub reflex_moved : (moved : List ℕ) → IsPermutation numbers moved → HasReflexVertices corners n moved
+    pub reflex_moved : (moved : List ℕ) → IsPermutation numbers moved → LeavesOutConvex corners n moved
     reflex_moved moved same = record {
       few = omega (arith, is.few, length_permutation numbers moved same);
       vertices = All-permutation (λ i. i < length corners) numbers moved same is.vertices;

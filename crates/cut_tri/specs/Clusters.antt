@@ -39,13 +39,13 @@ pub record IsCluster (corners : List Point) (numbers : List ℕ) (cluster : Clus
   pub within : cluster.end ≤ length numbers
 
 -- numbers of vertices, at most n: all of the first n vertices but such at which the ring turns left
-pub record HasReflexVertices (corners : List Point) (n : ℕ) (numbers : List ℕ) : Type 0 where
+pub record LeavesOutConvex (corners : List Point) (n : ℕ) (numbers : List ℕ) : Type 0 where
   pub few : length numbers ≤ n
   pub vertices : All (λ i. i < length corners) numbers
   pub each : (i : ℕ) → i < n → Contains numbers i ⊎ TurnsLeftAt corners (vertex corners i)
 
 -- all vertices are there but such at which the ring turns left, each with its point, and each cluster has its vertices in its box
 pub record AreClusters (corners : List Point) (clusters : Clusters) : Type 0 where
-  pub all : HasReflexVertices corners (length corners) clusters.numbers.items
+  pub all : LeavesOutConvex corners (length corners) clusters.numbers.items
   pub placed : clusters.points.items ≡ map (vertex corners) clusters.numbers.items
   pub each : All (IsCluster corners clusters.numbers.items) clusters.clusters.items

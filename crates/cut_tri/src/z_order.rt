@@ -3,7 +3,7 @@
 ghost use Rattle.std.specs.Prelude.{◌≡◌, ◌+◌, ◌*◌, ◌<◌, ◌≤◌, ◌↔◌, ◌^◌, IfOk, IsTrue, length, map, unsigned_abs};
 ghost use Rattle.rings.specs.Orientation.{turn_at};
 ghost use Rattle.exact_plane.specs.Direction.{direction_of};
-ghost use Rattle.cut_tri.specs.Clusters.{HasReflexVertices};
+ghost use Rattle.cut_tri.specs.Clusters.{LeavesOutConvex};
 
 use exact_plane::{Direction, Memory, Steps, turn};
 use ring_check::Ring;
@@ -23,7 +23,7 @@ pub(crate) fn z_order<L: Ledger>(
     ring: &Ring,
     steps: &mut Steps<L>,
 ) -> Result<Vec<Key>, Memory>
-    ensures all { IfOk result (λ keys. HasReflexVertices ring.now.corners (length ring.now.corners) (map (λ k. k.number) keys.items)) }
+    ensures all { IfOk result (λ keys. LeavesOutConvex ring.now.corners (length ring.now.corners) (map (λ k. k.number) keys.items)) }
     ensures steps { steps.new ≤ steps.old + 65 * length ring.now.corners }
 {
     let mut keys = keys_of(alloc, ring, steps)?;
@@ -33,7 +33,7 @@ pub(crate) fn z_order<L: Ledger>(
 
 // The keys of all vertices that are not convex.
 fn keys_of<L: Ledger>(alloc: Global, ring: &Ring, steps: &mut Steps<L>) -> Result<Vec<Key>, Memory>
-    ensures all { IfOk result (λ keys. HasReflexVertices ring.now.corners (length ring.now.corners) (map (λ k. k.number) keys.items)) }
+    ensures all { IfOk result (λ keys. LeavesOutConvex ring.now.corners (length ring.now.corners) (map (λ k. k.number) keys.items)) }
     ensures steps { steps.new ≤ steps.old + 65 * length ring.now.corners }
 {
     let n = ring.len();

@@ -4,7 +4,7 @@ use Rattle.exact_plane.proofs.Directions.{positive_of_left}
 use Rattle.rings.specs.Orientation.{turn_at}
 use Rattle.cut_tri.proofs.ClusterPlaces.{reflex_more, reflex_past}
 use Rattle.cut_tri.proofs.TurnsBesideDiagonals.{turns_left_from}
-use Rattle.cut_tri.specs.Clusters.{HasReflexVertices}
+use Rattle.cut_tri.specs.Clusters.{LeavesOutConvex}
 use Rattle.cut_tri.proofs.z_order.keys_of.Goals as goal
 
 pub loop-number-preserved-then-is_convex : goal.loop-number-preserved-then-is_convex
@@ -21,7 +21,7 @@ pub loop-number-preserved : goal.loop-number-preserved
 loop-number-preserved g c =
     let corners = c.args.ring.now.corners in
     record {
-      keys = subst (HasReflexVertices corners (c.loop-number.number + 1))
+      keys = subst (LeavesOutConvex corners (c.loop-number.number + 1))
           (sym (ap (map (λ k. k.number)) c.in_ok-push.ensures.items ∙ map-append (λ k. k.number) c.loop-number.keys.items (_ ∷ [])))
           (reflex_more corners c.loop-number.number _ c.loop-number.invariant.keys (omega (arith, c.loop-number-test.true, c.len-n.ensures.number)));
       steps = omega (arith, c.loop-number.invariant.steps, c.is_convex.ensures.steps, c.parts-x.ensures.steps);

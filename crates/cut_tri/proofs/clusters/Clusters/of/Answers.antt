@@ -1,14 +1,14 @@
 use Rattle.std.proofs.Common.{◌≡◌, ◌≤◌, ◌∙◌, ap, ℕ, ◌<◌, List, length, map, sym, subst, arith}
 use Rattle.std.specs.List.{All}
 use Rattle.plane.specs.Point.{Point}
-use Rattle.cut_tri.specs.Clusters.{HasReflexVertices}
+use Rattle.cut_tri.specs.Clusters.{LeavesOutConvex}
 use Rattle.cut_tri.specs.declared.z_order.Key.{Key}
 use Rattle.cut_tri.proofs.clusters.Clusters.of.Goals as goal
 
 -- the numbers of the keys are those of the vertices
-key_numbers : (corners : List Point) (keys read : List Key) (numbers : List ℕ) → HasReflexVertices corners (length corners) (map (λ k. k.number) keys)
-    → read ≡ keys → numbers ≡ map (λ k. k.number) read → HasReflexVertices corners (length corners) numbers
-key_numbers corners keys read numbers has same are = subst (HasReflexVertices corners (length corners)) (sym (are ∙ ap (map (λ k. k.number)) same)) has
+key_numbers : (corners : List Point) (keys read : List Key) (numbers : List ℕ) → LeavesOutConvex corners (length corners) (map (λ k. k.number) keys)
+    → read ≡ keys → numbers ≡ map (λ k. k.number) read → LeavesOutConvex corners (length corners) numbers
+key_numbers corners keys read numbers has same are = subst (LeavesOutConvex corners (length corners)) (sym (are ∙ ap (map (λ k. k.number)) same)) has
 
 pub points_of-requires : goal.points_of-requires
 points_of-requires g c =
